@@ -1,0 +1,113 @@
+//! The words in two vectors, for one thread.
+
+ghost use Rattle.std.specs.Prelude.{◌≡◌, ℕ, ◌+◌, ◌*◌, ◌^◌, ◌<◌, ◌≤◌, slice_set, replicate, IfOk};
+ghost use Rattle.lpm_bits.specs.Widths.{IsShape};
+ghost use Rattle.lpm_cells.specs.Table.{Words, IsWords, IsFirstWord, IsSecondWord, entry_at};
+ghost use Rattle.lpm_entry.specs.Words.{hop_in};
+
+use super::Cells;
+use lpm_bits::{Hop, Shape};
+use lpm_entry::Entry;
+use std::alloc::{AllocError, Global};
+use std::marker::Model;
+
+/// The words of a table in two vectors.
+///
+/// A first word may be that of any entry, where a group is one of the table's; a second word may be that
+/// of a miss or a hop.
+#[derive(Drop)]
+pub struct PlainCells<const FIRST: u32, const SECOND: u32> {
+    first_words: Vec<u64>,
+    second_words: Vec<u64>,
+    groups: usize,
+}
+
+impl<const FIRST: u32, const SECOND: u32> Model for PlainCells<FIRST, SECOND> {
+    ghost use Rattle.std.specs.Prelude.{ℕ};
+    ghost use Rattle.lpm_bits.specs.Widths.{IsShape};
+    ghost use Rattle.lpm_cells.specs.Table.{Words, IsWords};
+
+    ghost Value = { Words };
+
+    ghost view = { λ a. record { firsts = a.first_words.items; seconds = a.second_words.items; groups = a.groups } };
+
+    ghost invariant = { λ a. IsShape FIRST SECOND × IsWords FIRST SECOND (record { firsts = a.first_words.items; seconds = a.second_words.items; groups = a.groups }) };
+}
+
+impl<const FIRST: u32, const SECOND: u32> PlainCells<FIRST, SECOND> {
+    /// A table with room for `groups` groups, whose words are all misses.
+    pub fn new(alloc: Global, groups: usize) -> Result<Self, AllocError>
+        requires shape { IsShape FIRST SECOND }
+        requires groups { groups ≤ 65536 }
+        ensures ok { IfOk result (λ c. c ≡ record { firsts = replicate (2 ^ FIRST) 0; seconds = replicate (groups * 2 ^ SECOND) 0; groups = groups }) }
+    {
+        let first_words = vec![in alloc; 0u64; 1usize << FIRST]?;
+        let second_words = vec![in alloc; 0u64; groups << SECOND]?;
+        Ok(PlainCells {
+            first_words,
+            second_words,
+            groups,
+        })
+    }
+
+    /// How many groups the table has room for.
+    pub fn groups(&self) -> usize
+        ensures value { result ≡ self.now.groups }
+        ensures shape { IsShape FIRST SECOND }
+        ensures words { IsWords FIRST SECOND self.now }
+    {
+        self.groups
+    }
+
+    /// The next hop that the words have for an address, by one read or two; none at a miss.
+    #[inline]
+    pub fn read(&self, addr: u32) -> Option<Hop>
+        requires { addr < 2 ^ (FIRST + SECOND) }
+        ensures { result ≡ hop_in (entry_at SECOND self.now.firsts self.now.seconds addr) }
+    {
+        let first_words = &self.first_words;
+        let word = first_words[Shape::<FIRST, SECOND>::first_index(addr)];
+        match Entry::of_word(word) {
+            Entry::Group(group) => {
+                let base = (group as usize) << SECOND;
+                let word = self.second_words[base + Shape::<FIRST, SECOND>::second_index(addr)];
+                Entry::of_word(word).hop()
+            }
+            entry => entry.hop(),
+        }
+    }
+}
+
+impl<const FIRST: u32, const SECOND: u32> Cells for PlainCells<FIRST, SECOND> {
+    ghost firsts = { λ c. c.firsts };
+
+    ghost seconds = { λ c. c.seconds };
+
+    ghost may_set_first = { λ c i w. IsFirstWord (FIRST + SECOND) c.groups w };
+
+    ghost may_set_second = { λ c i w. IsSecondWord (FIRST + SECOND) w };
+
+    ghost sets_first = { λ c i w d. d ≡ record c { firsts = slice_set c.firsts i w } };
+
+    ghost sets_second = { λ c i w d. d ≡ record c { seconds = slice_set c.seconds i w } };
+
+    #[inline]
+    fn first(&mut self, i: usize) -> u64 {
+        self.first_words[i]
+    }
+
+    #[inline]
+    fn set_first(&mut self, i: usize, word: u64) {
+        self.first_words[i] = word;
+    }
+
+    #[inline]
+    fn second(&mut self, i: usize) -> u64 {
+        self.second_words[i]
+    }
+
+    #[inline]
+    fn set_second(&mut self, i: usize, word: u64) {
+        self.second_words[i] = word;
+    }
+}
