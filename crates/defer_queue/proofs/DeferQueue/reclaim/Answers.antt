@@ -1,0 +1,21 @@
+use Rattle.std.proofs.Common.{rules, ◌≡◌, ℕ, List, drop, ap, ◌∙◌, subst}
+use Rattle.std.proofs.lemmas.List.{drop-drop}
+use Rattle.defer_queue.proofs.Fronts.{FreesFront-more}
+use Rattle.defer_queue.proofs.DeferQueue.reclaim.Goals as goal
+
+pub loop-freed-preserved : goal.loop-freed-preserved
+loop-freed-preserved g c =
+    let items : List (ℕ × ℕ) = c.loop-freed.self.items in
+    let later : c.take_front.new.self.items ≡ drop 1 items = search rules in
+    let ready = subst (λ xs. g.G.Grace.ready c.loop-freed.grace xs) c.in-Some.ensures.rest c.loop-freed.invariant.ready in
+    let kept = c.free.ensures.kept c.in-Some.token (drop 1 items) (c.check.ensures.kept _ ready) in
+    record {
+      at_most = search rules;
+      front = FreesFront-more g.G.Grace.checks g.G.Grace.frees c.loop-freed.freed c.args.self.now.items items (drop 1 items) c.take_front.new.self.items
+          c.in-Some.group c.in-Some.token c.args.grace.now c.loop-freed.grace c.check.new.self c.free.new.self
+          c.loop-freed.invariant.front c.in-Some.ensures.rest later c.in_default-check.ensures.checks c.free.ensures.frees;
+      capacity = search rules;
+      left = later ∙ ap (drop 1) c.loop-freed.invariant.left ∙ drop-drop 1 c.loop-freed.freed c.args.self.now.items;
+      ready = rw later kept;
+      lent = c.free.ensures.lent ∙ c.check.ensures.lent ∙ c.loop-freed.invariant.lent;
+    }

@@ -1,0 +1,4 @@
+pub mod Limbo
+pub mod Reclaims
+pub mod Longest
+pub mod Retired

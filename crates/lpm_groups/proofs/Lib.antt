@@ -1,0 +1,4 @@
+pub mod Writes
+pub mod Tallies
+pub mod Marking
+pub mod Blocks

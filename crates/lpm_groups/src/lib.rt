@@ -1,0 +1,177 @@
+//! The states of the groups of a table of longest-prefix match.
+//!
+//! A group is a run of second words, lent to one block of the first table: the addresses that share
+//! a first index. A group that was unlinked waits in limbo until no reader can still be in it.
+#![tactic(auto)]
+
+ghost use Rattle.std.specs.Prelude.{◌≡◌, ℕ, ◌+◌, ◌<◌, ◌≤◌, ◌↔◌, length, replicate, slice_get, slice_set, IsTrue, IfOk, IfSome, IfNone, IsNone};
+ghost use Rattle.lpm_groups.specs.States.{linked_count, limbo_count, free_count, IsLeastFree, IsLinkedAt, IsLimboAt};
+
+use memchr::memchr;
+use std::alloc::{AllocError, Global};
+use std::marker::Model;
+
+/// What a group is used for.
+#[derive(Clone, Copy, Debug, PartialEq, Eq)]
+pub enum GroupState {
+    /// Not used: it may be taken.
+    Free,
+    /// Used by the block of this first index.
+    Linked(usize),
+    /// Unlinked, and perhaps still read: it may be taken only after its release.
+    Limbo,
+}
+
+/// How many groups there are in each state.
+#[derive(Clone, Copy, Debug, PartialEq, Eq)]
+pub struct Counts {
+    /// The linked groups.
+    pub in_use: usize,
+    /// The groups in limbo.
+    pub limbo: usize,
+    /// The free groups.
+    pub free: usize,
+}
+
+/// The mark of a free group.
+const FREE: u8 = 1;
+/// The mark of every other group.
+const USED: u8 = 0;
+
+/// The state of each group, in the order of the groups' numbers.
+///
+/// Only `new` takes memory.
+#[derive(Drop)]
+pub struct Groups {
+    states: Vec<GroupState>,
+    // a mark for each group, in which the next free one is searched
+    marks: Vec<u8>,
+    // no group below it is free
+    hint: usize,
+    in_use: usize,
+    limbo: usize,
+}
+
+impl Model for Groups {
+    ghost use Rattle.std.specs.Prelude.{List};
+    ghost use Rattle.lpm_groups.specs.declared.GroupState.{GroupState};
+    ghost use Rattle.lpm_groups.specs.Marks.{IsTallied};
+
+    ghost Value = { List GroupState };
+
+    ghost view = { λ a. a.states.items };
+
+    ghost invariant = { λ a. IsTallied a.states.items a.marks.items a.hint a.in_use a.limbo };
+}
+
+impl Groups {
+    ghost use Rattle.lpm_groups.specs.declared.GroupState.TheVariants.{Free, Linked, Limbo};
+
+    /// That many groups, at most 65,536, numbered from 0 and all free; the error only where memory is
+    /// short.
+    pub fn new(alloc: Global, groups: usize) -> Result<Self, AllocError>
+        requires { groups ≤ 65536 }
+        ensures { IfOk result (λ g. g ≡ replicate groups Free) }
+    {
+        let states = vec![in alloc; GroupState::Free; groups]?;
+        let marks = vec![in alloc; FREE; groups]?;
+        Ok(Groups {
+            states,
+            marks,
+            hint: 0,
+            in_use: 0,
+            limbo: 0,
+        })
+    }
+
+    /// The number of groups, in any state.
+    pub fn len(&self) -> usize
+        ensures value { result ≡ length self.now }
+        ensures bound { result ≤ 65536 }
+    {
+        self.states.len()
+    }
+
+    /// Whether there is no group at all.
+    pub fn is_empty(&self) -> bool
+        ensures { IsTrue result ↔ (length self.now ≡ 0) }
+    {
+        self.states.is_empty()
+    }
+
+    /// The state of a group, whose number is below `len`.
+    pub fn state(&self, group: u32) -> GroupState
+        requires { group < length self.now }
+        ensures { slice_get self.now group ≡ Some result }
+    {
+        self.states[group as usize]
+    }
+
+    /// Whether some group is free, so that `take_least` finds one.
+    pub fn is_any_free(&self) -> bool
+        ensures { IsTrue result ↔ (0 < free_count self.now) }
+    {
+        self.counts().free > 0
+    }
+
+    /// How many groups there are in each state.
+    pub fn counts(&self) -> Counts
+        ensures in_use { result.in_use ≡ linked_count self.now }
+        ensures limbo { result.limbo ≡ limbo_count self.now }
+        ensures free { result.free ≡ free_count self.now }
+        ensures all { result.in_use + result.limbo + result.free ≡ length self.now }
+    {
+        Counts {
+            in_use: self.in_use,
+            limbo: self.limbo,
+            free: self.states.len() - self.in_use - self.limbo,
+        }
+    }
+
+    /// Links the free group of the least number to the block of that first index, and answers its
+    /// number; none, with no change, exactly where no group is free.
+    pub fn take_least(&mut self, block: usize) -> Option<u32>
+        ensures least { IfSome result (IsLeastFree self.old) }
+        ensures linked { IfSome result (λ g. self.new ≡ slice_set self.old g (Linked block)) }
+        ensures none { IsNone result ↔ (free_count self.old ≡ 0) }
+        ensures unchanged { IfNone result (self.new ≡ self.old) }
+    {
+        let Some(skipped) = memchr(FREE, &self.marks[self.hint..]) else {
+            self.hint = self.marks.len();
+            return None;
+        };
+        let group = self.hint + skipped;
+        self.marks[group] = USED;
+        self.states[group] = GroupState::Linked(block);
+        self.hint = group + 1;
+        self.in_use += 1;
+        Some(group as u32)
+    }
+
+    /// Puts a group, which must be linked, into limbo: its block has let it go, but a reader may still
+    /// be in it.
+    pub fn retire(&mut self, group: u32)
+        requires { IsLinkedAt self.old group }
+        ensures { self.new ≡ slice_set self.old group Limbo }
+    {
+        let group = group as usize;
+        self.states[group] = GroupState::Limbo;
+        self.in_use -= 1;
+        self.limbo += 1;
+    }
+
+    /// Frees a group, which must be in limbo, once no reader can be in it any more.
+    pub fn release(&mut self, group: u32)
+        requires { IsLimboAt self.old group }
+        ensures { self.new ≡ slice_set self.old group Free }
+    {
+        let group = group as usize;
+        self.states[group] = GroupState::Free;
+        self.marks[group] = FREE;
+        self.hint = self.hint.min(group);
+        self.limbo -= 1;
+    }
+}
+
+#[cfg(test)]
+mod tests;

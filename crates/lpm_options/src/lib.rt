@@ -1,0 +1,178 @@
+//! The command line of `lpmtool`, read by `clap`.
+#![tactic(auto)]
+
+ghost use Rattle.std.specs.Prelude.{◌≡◌, IfOk, IfErr, IfSome, map, false, ℕ, ◌≤◌, Some};
+ghost use Rattle.clap.specs.Words.{app_of, rule_of, subcommand_of, fault_of, rows_of, found_of, Kinds, HasKind};
+ghost use Rattle.lpm_options.specs.Commands.{file_rule, number_rule, lookup_app, with_limits, the_app};
+ghost use Rattle.lpm_options.specs.Asked.{HasNumber, AreLimits, Asks, IsAskedBy, IsRefusalBy};
+
+use clap::builder::ValueParser;
+use clap::error::ErrorKind;
+use clap::{Arg, ArgMatches, Command, Error};
+use std::alloc::{AllocError, Global};
+use std::convert::AsStr;
+
+const ROUTES: &str = "The route file. Each line is a prefix and a next hop, as `10.0.0.0/8 5`";
+
+const ADDRESSES: &str = "The address file. Each line is an address, as `10.1.2.3`";
+
+const RULES: &str = "The greatest number of rules that the table holds, 1 to 16777216";
+
+/// What the words of a command line ask for.
+#[derive(Clone, Copy, Debug)]
+pub enum CommandLine<'a> {
+    /// `lookup`: the next hop of each address, by the routes.
+    Lookup {
+        /// The path of the route file.
+        routes: &'a str,
+        /// The path of the address file.
+        addresses: &'a str,
+        /// The sizes of the table.
+        limits: Limits,
+    },
+}
+
+/// The sizes of the table that a command makes.
+#[derive(Clone, Copy, Debug, PartialEq, Eq)]
+pub struct Limits {
+    /// The greatest number of rules: 1 to 16,777,216, by default 1,048,576.
+    pub rules: usize,
+}
+
+/// Why words are no command line.
+#[derive(Debug, Drop)]
+pub enum Refused {
+    /// The parser doesn't accept them, or they ask for help: its error has the text to show.
+    Usage(Error),
+    /// A growth was refused.
+    Memory,
+    /// The parser accepted them, and its matches lack a command, a file or a number in range.
+    NoCommand,
+}
+
+/// The command line of these words, of which the first is the program's name.
+///
+/// Where the words ask for help, that is a `Usage` whose error doesn't go to standard error.
+pub fn options<'a, S: AsStr>(alloc: Global, words: &'a [S]) -> Result<CommandLine<'a>, Refused>
+    ensures asked { IfOk result (IsAskedBy (subcommand_of the_app (map S.text words.entry.now))) }
+    ensures refused { IfErr result (IsRefusalBy (fault_of the_app (map S.text words.entry.now))) }
+{
+    let Ok(command) = whole_command(alloc) else {
+        return Err(Refused::Memory);
+    };
+    let matches = match command.try_get_matches_from(words) {
+        Ok(matches) => matches,
+        Err(error) => return Err(refusal(error)),
+    };
+    let Some((name, found)) = matches.subcommand() else {
+        return Err(Refused::NoCommand);
+    };
+    match command_line(name, found) {
+        Some(line) => Ok(line),
+        None => Err(Refused::NoCommand),
+    }
+}
+
+// The refusal of words at which the parser gives this error.
+fn refusal(error: Error) -> Refused
+    ensures { (faults : Kinds) → HasKind faults error → IsRefusalBy faults result }
+{
+    match error.kind() {
+        ErrorKind::OutOfMemory => Refused::Memory,
+        _ => Refused::Usage(error),
+    }
+}
+
+// The program with all its commands.
+fn whole_command<'a>(alloc: Global) -> Result<Command<'a>, AllocError>
+    ensures { IfOk result (λ c. app_of c ≡ the_app) }
+{
+    let command = Command::new(alloc, "lpmtool")
+        .about("Longest-prefix match of IPv4 addresses")
+        .subcommand_required(true);
+    command.subcommand(lookup_command(alloc)?)
+}
+
+fn lookup_command<'a>(alloc: Global) -> Result<Command<'a>, AllocError>
+    ensures { IfOk result (λ c. app_of c ≡ lookup_app) }
+{
+    let command = Command::new(alloc, "lookup").about(
+        "Prints for each address the next hop of its longest matching route, or `-`",
+    );
+    let command = command.arg(file(alloc, "ROUTES", ROUTES))?;
+    let command = command.arg(file(alloc, "ADDRESSES", ADDRESSES))?;
+    with_limits(alloc, command)
+}
+
+// The options of each command that makes a table.
+fn with_limits<'a>(alloc: Global, command: Command<'a>) -> Result<Command<'a>, AllocError>
+    ensures { IfOk result (λ c. app_of c ≡ with_limits (app_of command.entry)) }
+{
+    command.arg(number(alloc, "rules", "1048576", 1, 16_777_216, RULES))
+}
+
+// A file that the command wants, named by its place among the words.
+fn file<'a>(alloc: Global, id: &'a str, help: &'a str) -> Arg<'a>
+    ensures rule { rule_of result ≡ file_rule id.entry.now }
+    ensures plain { result.global ≡ false }
+{
+    Arg::new(alloc, id).required(true).help(help)
+}
+
+// An option that takes a number from low to high.
+fn number<'a>(
+    alloc: Global,
+    id: &'a str,
+    default: &'a str,
+    low: u64,
+    high: u64,
+    help: &'a str,
+) -> Arg<'a>
+    ensures rule { rule_of result ≡ number_rule id.entry.now default.entry.now low high }
+    ensures plain { result.global ≡ false }
+{
+    Arg::new(alloc, id)
+        .long(id)
+        .value_name("N")
+        .default_value(default)
+        .value_parser(ValueParser::unsigned(low, high))
+        .help(help)
+}
+
+// What the matches of the command of this name ask for.
+fn command_line<'a>(name: &'a str, found: &ArgMatches<'a>) -> Option<CommandLine<'a>>
+    ensures { IfSome result (Asks name.entry.now (rows_of (found_of found.now))) }
+{
+    if name == "lookup" {
+        let routes = found.get_str("ROUTES")?;
+        let addresses = found.get_str("ADDRESSES")?;
+        let limits = limits_of(found)?;
+        return Some(CommandLine::Lookup {
+            routes,
+            addresses,
+            limits,
+        });
+    }
+    None
+}
+
+fn limits_of(found: &ArgMatches<'_>) -> Option<Limits>
+    ensures { IfSome result (AreLimits (rows_of (found_of found.now))) }
+{
+    let rules = number_of(found, "rules", 1, 16_777_216)?;
+    Some(Limits { rules })
+}
+
+// The number of the option, where it is from low to high.
+fn number_of(found: &ArgMatches<'_>, id: &str, low: usize, high: usize) -> Option<usize>
+    ensures value { IfSome result (HasNumber (rows_of (found_of found.now)) id.now) }
+    ensures range { IfSome result (λ n. (low ≤ n) × (n ≤ high)) }
+{
+    match found.get_one::<usize>(id) {
+        Some(n) if low <= n && n <= high => Some(n),
+        _ => None,
+    }
+}
+
+#[cfg(test)]
+mod tests;

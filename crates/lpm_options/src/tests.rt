@@ -1,0 +1,102 @@
+use super::*;
+use std::test::Fail;
+
+// The error of words that are refused, whether it goes to standard error, and its text.
+fn refused_text(rt: &HostRuntime, words: &[&str]) -> Result<(ErrorKind, bool, String), Fail> {
+    match options(rt.alloc(), words) {
+        Err(Refused::Usage(error)) => {
+            let text = error.to_string(rt.alloc())?;
+            Ok((error.kind(), error.use_stderr(), text))
+        }
+        _ => Err("not refused by the parser".into()),
+    }
+}
+
+#[test]
+fn lookup_with_its_default_and_each_option(rt: HostRuntime) -> Result<(), Fail> {
+    let cases: [(&[&str], usize); 6] = [
+        (&["lpmtool", "lookup", "r", "a"], 1_048_576),
+        (&["lpmtool", "lookup", "--rules", "1", "r", "a"], 1),
+        (
+            &["lpmtool", "lookup", "r", "--rules=16777216", "a"],
+            16_777_216,
+        ),
+        (&["other", "lookup", "r", "a", "--rules", "7"], 7),
+        (&["lpmtool", "lookup", "--rules", "7", "--", "r", "a"], 7),
+        (&["lpmtool", "lookup", "--rules", "+7", "r", "a"], 7),
+    ];
+    for (words, rules) in cases {
+        let line = options(rt.alloc(), words).map_err(|_| "refused")?;
+        let CommandLine::Lookup {
+            routes,
+            addresses,
+            limits,
+        } = line;
+        assert_eq!(rt; (routes, addresses), ("r", "a"), "{words:?}");
+        assert_eq!(rt; limits, Limits { rules }, "{words:?}");
+    }
+    Ok(())
+}
+
+#[test]
+fn refused_words(rt: HostRuntime) -> Result<(), Fail> {
+    let cases: [(&[&str], ErrorKind); 9] = [
+        (&["lpmtool"], ErrorKind::MissingSubcommand),
+        (&["lpmtool", "find", "r", "a"], ErrorKind::InvalidSubcommand),
+        (
+            &["lpmtool", "lookup", "r"],
+            ErrorKind::MissingRequiredArgument,
+        ),
+        (
+            &["lpmtool", "lookup", "r", "a", "b"],
+            ErrorKind::UnknownArgument,
+        ),
+        (
+            &["lpmtool", "lookup", "r", "a", "--deep"],
+            ErrorKind::UnknownArgument,
+        ),
+        (
+            &["lpmtool", "lookup", "r", "a", "--rules", "0"],
+            ErrorKind::ValueValidation,
+        ),
+        (
+            &["lpmtool", "lookup", "r", "a", "--rules", "16777217"],
+            ErrorKind::ValueValidation,
+        ),
+        (
+            &["lpmtool", "lookup", "r", "a", "--rules", "x"],
+            ErrorKind::ValueValidation,
+        ),
+        (
+            &[
+                "lpmtool", "lookup", "r", "a", "--rules", "7", "--rules", "7",
+            ],
+            ErrorKind::ArgumentConflict,
+        ),
+    ];
+    for (words, kind) in cases {
+        let (found, to_stderr, text) = refused_text(&rt, words)?;
+        assert!(rt; found == kind && to_stderr, "{words:?} {found:?}");
+        assert!(rt; text.starts_with("error: "), "{text}");
+    }
+    Ok(())
+}
+
+#[test]
+fn help_teaches_the_command(rt: HostRuntime) -> Result<(), Fail> {
+    let (kind, to_stderr, text) = refused_text(&rt, &["lpmtool", "lookup", "--help"])?;
+    assert!(rt; kind == ErrorKind::DisplayHelp && !to_stderr);
+    for part in [
+        "Usage: lpmtool lookup [OPTIONS] <ROUTES> <ADDRESSES>",
+        ROUTES,
+        ADDRESSES,
+        RULES,
+        "[default: 1048576]",
+    ] {
+        assert!(rt; text.contains(part), "{part} in {text}");
+    }
+    let (kind, to_stderr, text) = refused_text(&rt, &["lpmtool", "-h"])?;
+    assert!(rt; kind == ErrorKind::DisplayHelp && !to_stderr);
+    assert!(rt; text.contains("lookup"), "{text}");
+    Ok(())
+}

@@ -1,0 +1,113 @@
+use Rattle.std.proofs.Common.{arith, ◌≡◌, ℕ, ◌+◌, ◌-◌, ◌*◌, ◌/◌, ◌%◌, ◌^◌, ◌<◌, ◌≤◌, ◌⊎◌, inl, inr, cond, refl, ap, sym, ◌∙◌, subst, Option, Some, None, true, false}
+use Rattle.std.specs.Prelude.{IsSome}
+use Rattle.std.specs.Ordering.{eq_by_cmp, is_eq}
+use Rattle.std.specs.declared.cmp.Ordering.{Ordering}
+use Rattle.std.specs.declared.cmp.Ordering.TheVariants.{Less, Equal, Greater}
+use Rattle.std.specs.FinMap.{get, insert, get-insert, empty, get-empty}
+use Rattle.std.proofs.lemmas.Bool.{cases_eq}
+use Rattle.std.proofs.lemmas.Nat.{shl-shr, shl_whole, shr_le}
+use Rattle.lpm_bits.specs.Network.{Network, Covers, IsNetwork, masked}
+use Rattle.lpm_rules.specs.RuleMap.{RuleMap, network_cmp, AllNetworks}
+use Rattle.lpm_rules.specs.Longest.{IsLongest, IsLongestHop, IsCover, IsCoverRule, HasOneLongestHop, HasOneCover}
+use Rattle.lpm_rules.proofs.Changes.{not_some}
+
+pair_eq : (a b c d : ℕ) → a ≡ c → b ≡ d → ◌≡◌ {A = ℕ × ℕ} (a, b) (c, d)
+pair_eq a b c d p q = cc
+
+-- the one prefix of a length that covers an address
+pub network_at : (width a : ℕ) (q : Network) → IsNetwork width q → Covers width q a → q ≡ record { bits = masked width q.len a; len = q.len }
+network_at width a q n c =
+    let bits : q.bits ≡ masked width q.len a = sym n.2 ∙ ap (λ x. x * 2 ^ (width - q.len)) (sym c) in
+    ap (λ (x : ℕ × ℕ). record { bits = x.0; len = x.1 }) (pair_eq q.bits q.len _ _ bits refl)
+
+-- the prefix of each length covers the address that it was made of
+pub covers_masked : (width len a : ℕ) → Covers width (record { bits = masked width len a; len = len }) a
+covers_masked width len a = sym (shl-shr (a / 2 ^ (width - len)) (width - len))
+
+-- two rules of one length that cover an address are one
+pub same_length : (width a : ℕ) (p q : Network) → IsNetwork width p → IsNetwork width q → Covers width p a → Covers width q a → p.len ≡ q.len → p ≡ q
+same_length width a p q np nq cp cq e =
+    network_at width a p np cp ∙ ap (λ n. record { bits = masked width n a; len = n }) e ∙ sym (network_at width a q nq cq)
+
+-- no rule of that length covers the address, so the rules that do are shorter
+pub shorter : (width a host : ℕ) (R : RuleMap) → AllNetworks width R → host ≤ width → get R (record { bits = masked width (width - host) a; len = width - host }) ≡ None
+    → ((q : Network) → IsSome (get R q) → Covers width q a → q.len + host ≤ width)
+    → (q : Network) → IsSome (get R q) → Covers width q a → q.len + (host + 1) ≤ width
+shorter width a host R nets l none old q some cov =
+    let z = old q some cov in
+    elim (cases_eq q.len (width - host)) [
+      | inl e ↦ absurd (not_some (ap (get R) (network_at width a q (nets q some) cov) ∙ ap (λ n. get R (record { bits = masked width n a; len = n })) e ∙ none) some)
+      | inr n ↦ omega (arith, z, n)
+    ]
+
+-- a rule of that length covers the address, and is the longest
+pub found : (width a host : ℕ) (R : RuleMap) (h : ℕ) → host ≤ width → get R (record { bits = masked width (width - host) a; len = width - host }) ≡ Some h
+    → ((q : Network) → IsSome (get R q) → Covers width q a → q.len + host ≤ width) → IsLongestHop width R a (Some h)
+found width a host R h l some old =
+    (record { bits = masked width (width - host) a; len = width - host }, some, record {
+      covers = covers_masked width (width - host) a;
+      longest = λ q s c. let z = old q s c in omega (arith, z);
+    })
+
+hop_of : (R : RuleMap) (p q : Network) (x y : ℕ) → p ≡ q → get R p ≡ Some x → get R q ≡ Some y → x ≡ y
+hop_of R p q x y e gx gy =
+    let s : Some x ≡ Some y = sym gx ∙ ap (get R) e ∙ gy in
+    cc
+
+is_some_of : (R : RuleMap) (p : Network) (x : ℕ) → get R p ≡ Some x → IsSome (get R p)
+is_some_of R p x e = subst IsSome (sym e) refl
+
+pub one_longest_hop : HasOneLongestHop
+one_longest_hop width R a None None nets lx ly = refl
+one_longest_hop width R a None (Some y) nets lx ly = absurd (lx ly.0 (is_some_of R ly.0 y ly.1) ly.2.covers)
+one_longest_hop width R a (Some x) None nets lx ly = absurd (ly lx.0 (is_some_of R lx.0 x lx.1) lx.2.covers)
+one_longest_hop width R a (Some x) (Some y) nets lx ly =
+    let sx = is_some_of R lx.0 x lx.1 in
+    let sy = is_some_of R ly.0 y ly.1 in
+    let up = lx.2.longest ly.0 sy ly.2.covers in
+    let down = ly.2.longest lx.0 sx lx.2.covers in
+    let same = same_length width a lx.0 ly.0 (nets lx.0 sx) (nets ly.0 sy) lx.2.covers ly.2.covers (omega (arith, up, down)) in
+    ap Some (hop_of R lx.0 ly.0 x y same lx.1 ly.1)
+
+pair_of : (p q : Network) (x y : ℕ) → p ≡ q → x ≡ y → ◌≡◌ {A = Network × ℕ} (p, x) (q, y)
+pair_of p q x y e f = cc
+
+pub one_cover_rule : (width : ℕ) (R : RuleMap) (p c d : Network) (x y : ℕ) → AllNetworks width R → IsCoverRule width R p c x → IsCoverRule width R p d y → (c ≡ d) × (x ≡ y)
+one_cover_rule width R p c d x y nets lx ly =
+    let sx = is_some_of R c x lx.rule in
+    let sy = is_some_of R d y ly.rule in
+    let up = lx.longest d sy ly.shorter ly.covers in
+    let down = ly.longest c sx lx.shorter lx.covers in
+    let same = same_length width p.bits c d (nets c sx) (nets d sy) lx.covers ly.covers (omega (arith, up, down)) in
+    (same, hop_of R c d x y same lx.rule ly.rule)
+
+pub one_cover : HasOneCover
+one_cover width R p None None nets lx ly = refl
+one_cover width R p None (Some y) nets lx ly = absurd (lx y.0 (is_some_of R y.0 y.1 ly.rule) ly.shorter ly.covers)
+one_cover width R p (Some x) None nets lx ly = absurd (ly x.0 (is_some_of R x.0 x.1 lx.rule) lx.shorter lx.covers)
+one_cover width R p (Some x) (Some y) nets lx ly =
+    let same = one_cover_rule width R p x.0 y.0 x.1 y.1 nets lx ly in
+    ap (λ (c : Network × ℕ). Some c) (pair_of x.0 y.0 x.1 y.1 same.0 same.1)
+
+-- no rule of this length covers p
+pub shorter_cover : (width len n : ℕ) (R : RuleMap) (p : Network) → AllNetworks width R → n ≤ len → len ≤ width → get R (record { bits = masked width (len - n) p.bits; len = len - n }) ≡ None
+    → ((q : Network) → IsSome (get R q) → q.len < len → Covers width q p.bits → q.len + n ≤ len)
+    → (q : Network) → IsSome (get R q) → q.len < len → Covers width q p.bits → q.len + (n + 1) ≤ len
+shorter_cover width len n R p nets l w none old q some short cov =
+    let z = old q some short cov in
+    elim (cases_eq q.len (len - n)) [
+      | inl e ↦ absurd (not_some (ap (get R) (network_at width p.bits q (nets q some) cov) ∙ ap (λ k. get R (record { bits = masked width k p.bits; len = k })) e ∙ none) some)
+      | inr k ↦ omega (arith, z, k)
+    ]
+
+-- the rule of this length that covers p is its cover
+pub found_cover : (width n : ℕ) (R : RuleMap) (p c : Network) (h : ℕ) → 1 ≤ n → n ≤ p.len → c ≡ record { bits = masked width (p.len - n) p.bits; len = p.len - n } → get R c ≡ Some h
+    → ((q : Network) → IsSome (get R q) → q.len < p.len → Covers width q p.bits → q.len + n ≤ p.len) → IsCoverRule width R p c h
+found_cover width n R p c h least most is rule old =
+    let long : c.len ≡ p.len - n = ap (λ q. q.len) is in
+    record {
+      rule = rule;
+      shorter = omega (arith, long);
+      covers = subst (λ q. Covers width q p.bits) (sym is) (covers_masked width (p.len - n) p.bits);
+      longest = λ q s k cov. let z = old q s k cov in omega (arith, z, long);
+    }

@@ -1,0 +1,221 @@
+use Rattle.std.proofs.Common.{arith, ◌≡◌, ◌≢◌, ℕ, suc, zero, ◌+◌, ◌<◌, ◌≤◌, ◌⊎◌, inl, inr, Bool, true, false, cond, length, get_or, refl, ap, sym, ◌∙◌, subst, List, [], ◌∷◌, ◌++◌, Option, Some, None}
+use Rattle.std.specs.Prelude.{map, slice_set, slice_index_or, nat_eq, ◌&&◌}
+use Rattle.std.specs.declared.cmp.Ordering.{Ordering}
+use Rattle.std.specs.declared.cmp.Ordering.TheVariants.{Less, Equal, Greater}
+use Rattle.std.specs.Ordering.{nat_cmp, ordering_then, eq_by_cmp, is_eq}
+use Rattle.std.specs.Cmp.{IsTotalOrder, unsigned_tied, eq_by_cmp_equiv}
+use Rattle.std.specs.Map.{lookup}
+use Rattle.std.specs.BTreeMap as tree
+use Rattle.std.specs.BTreeMap.{BTreeMap, is_at}
+use Rattle.std.specs.FinMap.{find, from_entries, get, insert, remove, empty, get-from_entries, get-insert, get-remove, same_map}
+use Rattle.std.proofs.lemmas.Cmp.{on_total, then_total, nat_cmp_total}
+use Rattle.std.proofs.lemmas.Map.Lookups.{CmpEqualImpliesEq, exact_pairs, exact_unsigned}
+use Rattle.std.proofs.lemmas.Bool.{cases_eq, cases_lt, eqb-true, eq-eqb}
+use Rattle.std.proofs.Math.ListN.{length-set}
+use Rattle.std.proofs.lemmas.List.{get_or-set_same, get_or-set_other}
+use Rattle.lpm_bits.specs.Network.{Network}
+use Rattle.lpm_rules.specs.RuleMap.{RuleMap, network_cmp}
+use Rattle.lpm_rules.specs.View.{of_length, rules_from, rules_of}
+
+pub networks_total : IsTotalOrder network_cmp
+networks_total = then_total (on_total (λ (p : Network). p.bits) nat_cmp_total) (on_total (λ (p : Network). p.len) nat_cmp_total)
+
+-- prefixes that compare alike are one
+pub exact_networks : CmpEqualImpliesEq network_cmp
+exact_networks a b h = ap (λ (p : ℕ × ℕ). record { bits = p.0; len = p.1 }) (exact_pairs nat_cmp nat_cmp exact_unsigned exact_unsigned (a.bits, a.len) (b.bits, b.len) h)
+
+both_equal : (o r : Ordering) → is_eq (ordering_then o r) ≡ (is_eq o && is_eq r)
+both_equal Less r = refl
+both_equal Equal r = refl
+both_equal Greater r = refl
+
+abbrev pub at_network : ℕ → ℕ → Network
+at_network b l = record { bits = b; len = l }
+
+-- whether two prefixes are one
+pub network_test : (p q : Network) → eq_by_cmp network_cmp p q ≡ (nat_eq p.bits q.bits && nat_eq p.len q.len)
+network_test p q =
+    both_equal (nat_cmp p.bits q.bits) (nat_cmp p.len q.len)
+    ∙ ap (λ b. b && is_eq (nat_cmp p.len q.len)) (unsigned_tied p.bits q.bits)
+    ∙ ap (λ b. nat_eq p.bits q.bits && b) (unsigned_tied p.len q.len)
+
+and_true : (b : Bool) → (b && true) ≡ b
+and_true true = refl
+and_true false = refl
+
+and_false : (b : Bool) → (b && false) ≡ false
+and_false true = refl
+and_false false = refl
+
+pub eqb_self : (n : ℕ) → nat_eq n n ≡ true
+eqb_self n = eq-eqb n n refl
+
+pub not_true : (b : Bool) → (b ≡ true → ⊥) → b ≡ false
+not_true true h = absurd (h refl)
+not_true false h = refl
+
+pub eqb_apart : (m n : ℕ) → m ≢ n → nat_eq m n ≡ false
+eqb_apart m n h = not_true (nat_eq m n) (λ e. h (eqb-true m n e))
+
+pub same_len : (b c l : ℕ) → eq_by_cmp network_cmp (at_network b l) (at_network c l) ≡ is_at (nat_cmp b) c
+same_len b c l = network_test (at_network b l) (at_network c l) ∙ ap (λ t. nat_eq b c && t) (eqb_self l) ∙ and_true (nat_eq b c) ∙ sym (unsigned_tied b c)
+
+pub other_len : (p : Network) (c l : ℕ) → p.len ≢ l → eq_by_cmp network_cmp p (at_network c l) ≡ false
+other_len p c l n = network_test p (at_network c l) ∙ ap (λ t. nat_eq p.bits c && t) (eqb_apart p.len l n) ∙ and_false (nat_eq p.bits c)
+
+abbrev or_else : Option ℕ → Option ℕ → Option ℕ
+or_else None y = y
+or_else (Some x) y = Some x
+
+cond_or : (b : Bool) (x : ℕ) (y z : Option ℕ) → cond b (Some x) (or_else y z) ≡ or_else (cond b (Some x) y) z
+cond_or true x y z = refl
+cond_or false x y z = refl
+
+find_append : (q : Network) (xs ys : List (Network × ℕ)) → find network_cmp q (xs ++ ys) ≡ or_else (find network_cmp q xs) (find network_cmp q ys)
+find_append q [] ys = refl
+find_append q (e ∷ xs) ys = ap (cond (eq_by_cmp network_cmp q e.0) (Some e.1)) (find_append q xs ys) ∙ cond_or (eq_by_cmp network_cmp q e.0) e.1 (find network_cmp q xs) (find network_cmp q ys)
+
+find_of_length : (b l : ℕ) (es : List (ℕ × ℕ)) → find network_cmp (at_network b l) (of_length l es) ≡ lookup (is_at (nat_cmp b)) es
+find_of_length b l [] = refl
+find_of_length b l (e ∷ es) =
+    ap (λ t. cond t (Some e.1) (find network_cmp (at_network b l) (of_length l es))) (same_len b e.0 l)
+    ∙ ap (cond (is_at (nat_cmp b) e.0) (Some e.1)) (find_of_length b l es)
+
+find_other_length : (p : Network) (l : ℕ) (es : List (ℕ × ℕ)) → p.len ≢ l → find network_cmp p (of_length l es) ≡ None
+find_other_length p l [] n = refl
+find_other_length p l (e ∷ es) n =
+    ap (λ t. cond t (Some e.1) (find network_cmp p (of_length l es))) (other_len p e.0 l n) ∙ find_other_length p l es n
+
+find_above : (p : Network) (l : ℕ) (ms : List (BTreeMap ℕ ℕ)) → p.len < l → find network_cmp p (rules_from l ms) ≡ None
+find_above p l [] h = refl
+find_above p l (m ∷ ms) h =
+    find_append p (of_length l m.entries) (rules_from (l + 1) ms)
+    ∙ ap (λ x. or_else x (find network_cmp p (rules_from (l + 1) ms))) (find_other_length p l m.entries (λ e. absurd (omega (arith, e, h))))
+    ∙ find_above p (l + 1) ms (omega arith)
+
+find_past : (p : Network) (l : ℕ) (ms : List (BTreeMap ℕ ℕ)) → l + length ms ≤ p.len → find network_cmp p (rules_from l ms) ≡ None
+find_past p l [] h = refl
+find_past p l (m ∷ ms) h =
+    find_append p (of_length l m.entries) (rules_from (l + 1) ms)
+    ∙ ap (λ x. or_else x (find network_cmp p (rules_from (l + 1) ms))) (find_other_length p l m.entries (λ e. absurd (omega (arith, e, h))))
+    ∙ find_past p (l + 1) ms (omega (arith, h))
+
+or_none : (x : Option ℕ) → or_else x None ≡ x
+or_none None = refl
+or_none (Some x) = refl
+
+find_rules : (b l k n : ℕ) (ms : List (BTreeMap ℕ ℕ)) (d : BTreeMap ℕ ℕ) → n ≡ l + k → k < length ms
+    → find network_cmp (at_network b n) (rules_from l ms) ≡ tree.get nat_cmp (get_or ms k d) b
+find_rules b l k n [] d e h = absurd (omega (arith, h))
+find_rules b l zero n (m ∷ ms) d e h =
+    let z : n ≡ l = omega (arith, e) in
+    subst (λ x. find network_cmp (at_network b x) (rules_from l (m ∷ ms)) ≡ tree.get nat_cmp m b) (sym z)
+    (find_append (at_network b l) (of_length l m.entries) (rules_from (l + 1) ms)
+    ∙ ap (or_else (find network_cmp (at_network b l) (of_length l m.entries))) (find_above (at_network b l) (l + 1) ms (omega arith))
+    ∙ or_none _
+    ∙ find_of_length b l m.entries)
+find_rules b l (suc k) n (m ∷ ms) d e h =
+    find_append (at_network b n) (of_length l m.entries) (rules_from (l + 1) ms)
+    ∙ ap (λ x. or_else x (find network_cmp (at_network b n) (rules_from (l + 1) ms))) (find_other_length (at_network b n) l m.entries (λ z. absurd (omega (arith, z, e))))
+    ∙ find_rules b (l + 1) k n ms d (omega (arith, e)) (omega (arith, h))
+
+-- what the rule list has at a prefix, by the map of its length
+pub get_rules : (ms : List (BTreeMap ℕ ℕ)) (p : Network) (d : BTreeMap ℕ ℕ) → p.len < length ms → get (rules_of ms) p ≡ tree.get nat_cmp (get_or ms p.len d) p.bits
+get_rules ms p d h = get-from_entries networks_total (rules_from 0 ms) p ∙ find_rules p.bits 0 p.len p.len ms d (omega arith) h
+
+pub get_past : (ms : List (BTreeMap ℕ ℕ)) (p : Network) → length ms ≤ p.len → get (rules_of ms) p ≡ None
+get_past ms p h = get-from_entries networks_total (rules_from 0 ms) p ∙ find_past p 0 ms (omega (arith, h))
+
+-- one map is written at one key
+pub set_rules : (ms : List (BTreeMap ℕ ℕ)) (p : Network) (v : ℕ) (m d : BTreeMap ℕ ℕ) → p.len < length ms
+    → ((q : ℕ) → tree.get nat_cmp m q ≡ cond (is_at (nat_cmp p.bits) q) (Some v) (tree.get nat_cmp (get_or ms p.len d) q))
+    → rules_of (slice_set ms p.len m) ≡ insert (rules_of ms) p v
+set_rules ms p v m d h is = same_map networks_total exact_networks _ _ (λ q.
+    let n : length (slice_set ms p.len m) ≡ length ms = length-set ms p.len m in
+    elim (cases_eq q.len p.len) [
+      | inl e ↦
+          let h2 : q.len < length ms = omega (arith, e, h) in
+          get_rules (slice_set ms p.len m) q d (omega (arith, n, h2))
+          ∙ ap (λ x. tree.get nat_cmp (get_or (slice_set ms p.len m) x d) q.bits) e
+          ∙ ap (λ x. tree.get nat_cmp x q.bits) (get_or-set_same ms p.len m d h)
+          ∙ is q.bits
+          ∙ ap (λ t. cond t (Some v) (tree.get nat_cmp (get_or ms p.len d) q.bits))
+              (sym (same_len p.bits q.bits p.len) ∙ ap (λ x. eq_by_cmp network_cmp p (at_network q.bits x)) (sym e) ∙ (eq_by_cmp_equiv networks_total).symm p q)
+          ∙ ap (λ x. cond (eq_by_cmp network_cmp q p) (Some v) (tree.get nat_cmp (get_or ms x d) q.bits)) (sym e)
+          ∙ ap (cond (eq_by_cmp network_cmp q p) (Some v)) (sym (get_rules ms q d h2))
+          ∙ sym (get-insert networks_total (rules_of ms) p v q)
+      | inr ne ↦
+          let apart = other_len q p.bits p.len ne in
+          let same : get (rules_of (slice_set ms p.len m)) q ≡ get (rules_of ms) q =
+            elim (cases_lt q.len (length ms)) [
+              | inl below ↦ get_rules (slice_set ms p.len m) q d (omega (arith, n, below)) ∙ ap (λ x. tree.get nat_cmp x q.bits) (get_or-set_other ms p.len q.len m d ne) ∙ sym (get_rules ms q d below)
+              | inr past ↦ get_past (slice_set ms p.len m) q (omega (arith, n, past)) ∙ sym (get_past ms q past)
+            ] in
+          same ∙ sym (ap (λ t. cond t (Some v) (get (rules_of ms) q)) apart) ∙ sym (get-insert networks_total (rules_of ms) p v q)
+    ])
+
+-- the same, where the code has the bits and the length as numbers
+pub get_at : (ms : List (BTreeMap ℕ ℕ)) (p : Network) (b l : ℕ) (d : BTreeMap ℕ ℕ) → b ≡ p.bits → l ≡ p.len → l < length ms → tree.get nat_cmp (get_or ms l d) b ≡ get (rules_of ms) p
+get_at ms p b l d eb el h =
+    ap (λ x. tree.get nat_cmp (get_or ms x d) b) el ∙ ap (λ x. tree.get nat_cmp (get_or ms p.len d) x) eb ∙ sym (get_rules ms p d (omega (arith, el, h)))
+
+pub set_at : (ms : List (BTreeMap ℕ ℕ)) (p : Network) (b l v : ℕ) (m d : BTreeMap ℕ ℕ) → b ≡ p.bits → l ≡ p.len → l < length ms
+    → ((q : ℕ) → tree.get nat_cmp m q ≡ cond (is_at (nat_cmp b) q) (Some v) (tree.get nat_cmp (get_or ms l d) q))
+    → rules_of (slice_set ms l m) ≡ insert (rules_of ms) p v
+set_at ms p b l v m d eb el h is =
+    ap (λ x. rules_of (slice_set ms x m)) el ∙ set_rules ms p v m d (omega (arith, el, h)) (λ q.
+      is q ∙ ap (λ x. cond (is_at (nat_cmp x) q) (Some v) (tree.get nat_cmp (get_or ms l d) q)) eb ∙ ap (λ x. cond (is_at (nat_cmp p.bits) q) (Some v) (tree.get nat_cmp (get_or ms x d) q)) el)
+
+-- one map loses one key
+pub unset_rules : (ms : List (BTreeMap ℕ ℕ)) (p : Network) (m d : BTreeMap ℕ ℕ) → p.len < length ms
+    → ((q : ℕ) → tree.get nat_cmp m q ≡ cond (is_at (nat_cmp p.bits) q) None (tree.get nat_cmp (get_or ms p.len d) q))
+    → rules_of (slice_set ms p.len m) ≡ remove (rules_of ms) p
+unset_rules ms p m d h is = same_map networks_total exact_networks _ _ (λ q.
+    let n : length (slice_set ms p.len m) ≡ length ms = length-set ms p.len m in
+    elim (cases_eq q.len p.len) [
+      | inl e ↦
+          let h2 : q.len < length ms = omega (arith, e, h) in
+          get_rules (slice_set ms p.len m) q d (omega (arith, n, h2))
+          ∙ ap (λ x. tree.get nat_cmp (get_or (slice_set ms p.len m) x d) q.bits) e
+          ∙ ap (λ x. tree.get nat_cmp x q.bits) (get_or-set_same ms p.len m d h)
+          ∙ is q.bits
+          ∙ ap (λ t. cond t None (tree.get nat_cmp (get_or ms p.len d) q.bits))
+              (sym (same_len p.bits q.bits p.len) ∙ ap (λ x. eq_by_cmp network_cmp p (at_network q.bits x)) (sym e) ∙ (eq_by_cmp_equiv networks_total).symm p q)
+          ∙ ap (λ x. cond (eq_by_cmp network_cmp q p) None (tree.get nat_cmp (get_or ms x d) q.bits)) (sym e)
+          ∙ ap (cond (eq_by_cmp network_cmp q p) None) (sym (get_rules ms q d h2))
+          ∙ sym (get-remove networks_total (rules_of ms) p q)
+      | inr ne ↦
+          let apart = other_len q p.bits p.len ne in
+          let same : get (rules_of (slice_set ms p.len m)) q ≡ get (rules_of ms) q =
+            elim (cases_lt q.len (length ms)) [
+              | inl below ↦ get_rules (slice_set ms p.len m) q d (omega (arith, n, below)) ∙ ap (λ x. tree.get nat_cmp x q.bits) (get_or-set_other ms p.len q.len m d ne) ∙ sym (get_rules ms q d below)
+              | inr past ↦ get_past (slice_set ms p.len m) q (omega (arith, n, past)) ∙ sym (get_past ms q past)
+            ] in
+          same ∙ sym (ap (λ t. cond t None (get (rules_of ms) q)) apart) ∙ sym (get-remove networks_total (rules_of ms) p q)
+    ])
+
+pub unset_at : (ms : List (BTreeMap ℕ ℕ)) (p : Network) (b l : ℕ) (m d : BTreeMap ℕ ℕ) → b ≡ p.bits → l ≡ p.len → l < length ms
+    → ((q : ℕ) → tree.get nat_cmp m q ≡ cond (is_at (nat_cmp b) q) None (tree.get nat_cmp (get_or ms l d) q))
+    → rules_of (slice_set ms l m) ≡ remove (rules_of ms) p
+unset_at ms p b l m d eb el h is =
+    ap (λ x. rules_of (slice_set ms x m)) el ∙ unset_rules ms p m d (omega (arith, el, h)) (λ q.
+      is q ∙ ap (λ x. cond (is_at (nat_cmp x) q) None (tree.get nat_cmp (get_or ms l d) q)) eb ∙ ap (λ x. cond (is_at (nat_cmp p.bits) q) None (tree.get nat_cmp (get_or ms x d) q)) el)
+
+-- a map with the same entries
+keep_from : (l k : ℕ) (ms : List (BTreeMap ℕ ℕ)) (m d : BTreeMap ℕ ℕ) → k < length ms → m.entries ≡ (get_or ms k d).entries → rules_from l (slice_set ms k m) ≡ rules_from l ms
+keep_from l k [] m d h e = absurd (omega (arith, h))
+keep_from l zero (x ∷ ms) m d h e = ap (λ es. of_length l es ++ rules_from (l + 1) ms) e
+keep_from l (suc k) (x ∷ ms) m d h e = ap (λ es. of_length l x.entries ++ es) (keep_from (l + 1) k ms m d (omega (arith, h)) e)
+
+pub keep_at : (ms : List (BTreeMap ℕ ℕ)) (k : ℕ) (m d : BTreeMap ℕ ℕ) → k < length ms → m.entries ≡ (get_or ms k d).entries → rules_of (slice_set ms k m) ≡ rules_of ms
+keep_at ms k m d h e = ap (λ es. from_entries {R = network_cmp} es) (keep_from 0 k ms m d h e)
+
+-- maps that are all empty
+none_from : (l : ℕ) (ms : List (BTreeMap ℕ ℕ)) → ((i : ℕ) (d : BTreeMap ℕ ℕ) → i < length ms → (get_or ms i d).entries ≡ []) → rules_from l ms ≡ []
+none_from l [] h = refl
+none_from l (m ∷ ms) h =
+    ap (λ es. of_length l es ++ rules_from (l + 1) ms) (h 0 m (omega arith))
+    ∙ none_from (l + 1) ms (λ i d p. h (suc i) d (omega (arith, p)))
+
+pub none_at : (ms : List (BTreeMap ℕ ℕ)) → ((i : ℕ) (d : BTreeMap ℕ ℕ) → i < length ms → (get_or ms i d).entries ≡ []) → rules_of ms ≡ empty
+none_at ms h = ap (λ es. from_entries {R = network_cmp} es) (none_from 0 ms h)

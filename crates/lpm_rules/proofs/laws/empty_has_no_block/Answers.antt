@@ -1,0 +1,5 @@
+use Rattle.lpm_rules.proofs.DeepChanges.{deep_blocks_empty as law}
+use Rattle.lpm_rules.proofs.laws.empty_has_no_block.Goals as goal
+
+pub returns : goal.returns
+returns c = law

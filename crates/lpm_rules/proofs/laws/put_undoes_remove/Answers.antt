@@ -1,0 +1,5 @@
+use Rattle.lpm_rules.proofs.Changes.{insert_remove as law}
+use Rattle.lpm_rules.proofs.laws.put_undoes_remove.Goals as goal
+
+pub returns : goal.returns
+returns c = law

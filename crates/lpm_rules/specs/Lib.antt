@@ -1,0 +1,4 @@
+pub mod RuleMap
+pub mod Longest
+pub mod Deep
+pub mod View

@@ -1,0 +1,386 @@
+//! The rule list of a table of longest-prefix match: a finite map from prefixes to next hops, with a
+//! greatest number of rules.
+#![tactic(auto)]
+
+ghost use Rattle.std.specs.Prelude.{◌≡◌, ◌≢◌, ℕ, ◌+◌, ◌*◌, ◌/◌, ◌^◌, ◌<◌, ◌≤◌, ◌↔◌, ◌⊎◌, IsTrue, IsSome, IsSomeAnd, OnOk, OnErr, IfOk, MatchOption, MatchResult, [], ◌&&◌, nat_eq, count_by};
+ghost use Rattle.std.specs.BTreeMap as tree;
+ghost use Rattle.std.specs.FinMap as map;
+ghost use Rattle.std.specs.FinSet as set;
+ghost use Rattle.std.specs.Ordering.{nat_cmp};
+ghost use Rattle.lpm_bits.specs.Widths.{IsShape};
+ghost use Rattle.lpm_bits.specs.Network.{Network, masked};
+ghost use Rattle.lpm_rules.specs.RuleMap.{AllNetworks};
+ghost use Rattle.lpm_rules.specs.Deep.{IsBlockOf, IsDeepBlock, IsLastBefore, block_of, deep_count, deep_blocks};
+ghost use Rattle.lpm_rules.specs.Longest.{IsLongestHop, IsUncovered, IsCoverRule};
+
+pub mod laws;
+
+use lpm_bits::{Hop, Prefix};
+use std::alloc::{AllocError, Global};
+use std::array;
+use std::collections::BTreeMap;
+use std::error::Error;
+use std::fmt;
+use std::marker::Model;
+
+/// A rule: the addresses of the prefix go to the next hop, unless a longer rule covers them.
+#[derive(Clone, Copy, Debug, PartialEq, Eq)]
+pub struct Rule<const FIRST: u32, const SECOND: u32> {
+    pub prefix: Prefix<FIRST, SECOND>,
+    pub hop: Hop,
+}
+
+/// What an accepted [`Rules::put`] did.
+#[derive(Clone, Copy, Debug, PartialEq, Eq)]
+pub enum Put {
+    /// The prefix had no rule.
+    Added,
+    /// The prefix had a rule with another next hop.
+    Replaced,
+    /// The prefix had this very rule.
+    Unchanged,
+}
+
+/// Why a [`Rules::put`] was refused.
+#[derive(Clone, Copy, Debug, PartialEq, Eq)]
+pub enum RuleFault {
+    /// The rule would be a new one, and the list holds its greatest number of rules.
+    TooManyRules,
+    /// The rule would be a new one, and no memory could be had for it.
+    Memory,
+}
+
+impl fmt::Display for RuleFault {
+    fn fmt<W: fmt::Write>(&self, f: &mut fmt::Formatter<W>) -> fmt::Result {
+        match self {
+            RuleFault::TooManyRules => f.write_str("too many rules"),
+            RuleFault::Memory => f.write_str("out of memory"),
+        }
+    }
+}
+
+impl Error for RuleFault {}
+
+/// The prefix has no rule.
+#[derive(Clone, Copy, Debug, PartialEq, Eq)]
+pub struct NoSuchRule;
+
+impl fmt::Display for NoSuchRule {
+    fn fmt<W: fmt::Write>(&self, f: &mut fmt::Formatter<W>) -> fmt::Result {
+        f.write_str("no such rule")
+    }
+}
+
+impl Error for NoSuchRule {}
+
+/// A change of the rule list, or of what waits to be reclaimed.
+#[derive(Clone, Copy, Debug, PartialEq, Eq)]
+pub enum Change<const FIRST: u32, const SECOND: u32> {
+    /// Gives the prefix this next hop.
+    Add(Prefix<FIRST, SECOND>, Hop),
+    /// Takes out the rule of the prefix.
+    Delete(Prefix<FIRST, SECOND>),
+    /// Takes out all rules.
+    Flush,
+    /// Frees at most so many groups that no reader can still hold.
+    Reclaim(usize),
+    /// Waits until each reader has left what was given up before.
+    Synchronize,
+}
+
+/// What a lookup answered, and when its answer stood.
+#[derive(Clone, Copy, Debug, PartialEq, Eq)]
+pub struct Answer {
+    /// The next hop, or none for a miss.
+    pub hop: Option<Hop>,
+    /// The updates that were done when the lookup began.
+    pub lo: u64,
+    /// The updates that had begun when the lookup ended.
+    pub hi: u64,
+}
+
+/// The rules, at most one for each prefix.
+#[derive(Drop)]
+pub struct Rules<const FIRST: u32, const SECOND: u32> {
+    // The rules of each length, by the bits of their prefixes. A method that begins with
+    // `let _ = &self.lengths;` rests on what the fields keep.
+    lengths: [BTreeMap<u32, Hop>; 33],
+    count: usize,
+    max: usize,
+}
+
+impl<const FIRST: u32, const SECOND: u32> Model for Rules<FIRST, SECOND> {
+    ghost use Rattle.lpm_rules.specs.RuleMap.{RuleList, coded_rule_list};
+    ghost use Rattle.lpm_rules.specs.View.{rules_of, IsSound};
+
+    ghost Value = { RuleList };
+
+    ghost coded = { coded_rule_list };
+
+    ghost view = { λ a. record { rules = rules_of a.lengths; max = a.max } };
+
+    ghost invariant = { λ a. IsSound FIRST SECOND a.lengths a.count };
+}
+
+impl<const FIRST: u32, const SECOND: u32> Rules<FIRST, SECOND> {
+    /// No rules, with room for `max`. It takes no memory; the list keeps the allocator, and takes
+    /// memory from it as rules are added.
+    pub fn new(alloc: Global, max: usize) -> Self
+        requires { IsShape FIRST SECOND }
+        ensures { result ≡ record { rules = map.empty; max = max } }
+    {
+        Rules {
+            lengths: array::from_fn(|_len: usize| -> BTreeMap<u32, Hop>
+                ensures { result.entries ≡ [] }
+            { BTreeMap::new(alloc) }),
+            count: 0,
+            max,
+        }
+    }
+
+    /// How many rules there are.
+    pub fn len(&self) -> usize
+        ensures value { result ≡ map.len self.now.rules }
+        ensures shape { IsShape FIRST SECOND }
+        ensures networks { AllNetworks (FIRST + SECOND) self.now.rules }
+    {
+        self.count
+    }
+
+    /// Whether there are no rules.
+    pub fn is_empty(&self) -> bool
+        ensures { IsTrue result ↔ (map.len self.now.rules ≡ 0) }
+    {
+        self.count == 0
+    }
+
+    /// Whether the list holds its greatest number of rules, so that no new rule can be added.
+    pub fn is_full(&self) -> bool
+        ensures { IsTrue result ↔ (self.now.max ≤ map.len self.now.rules) }
+    {
+        self.count >= self.max
+    }
+
+    /// The next hop of the rule of this very prefix.
+    pub fn get(&self, prefix: &Prefix<FIRST, SECOND>) -> Option<Hop>
+        ensures { result ≡ map.get self.now.rules prefix.now }
+    {
+        let length = &self.lengths[prefix.len() as usize];
+        length.get(&prefix.bits()).copied()
+    }
+
+    /// The rules of one length, by the bits of their prefixes.
+    pub fn of_length(&self, len: u32) -> &BTreeMap<u32, Hop>
+        requires { len ≤ 32 }
+        ensures { (bits : ℕ) → tree.get nat_cmp result.now bits
+            ≡ map.get self.now.rules (record { bits = bits; len = len }) }
+    {
+        &self.lengths[len as usize]
+    }
+
+    /// Gives the prefix this next hop, in place of the one that it may have.
+    ///
+    /// A refusal leaves the list as it was. Only a new rule takes memory.
+    pub fn put(&mut self, prefix: &Prefix<FIRST, SECOND>, hop: Hop) -> Result<Put, RuleFault>
+        ensures unchanged { (result ≡ Ok Put.Unchanged) ↔ (map.get self.old.rules prefix.now ≡ Some hop) }
+        ensures replaced { (result ≡ Ok Put.Replaced)
+            ↔ IsSomeAnd (map.get self.old.rules prefix.now) (λ old. old ≢ hop) }
+        ensures full { (result ≡ Err RuleFault.TooManyRules)
+            ↔ ((map.get self.old.rules prefix.now ≡ None) × (self.old.max ≤ map.len self.old.rules)) }
+
+        // A new rule that has room is added, unless memory is refused.
+        ensures new { ((result ≡ Ok Put.Added) ⊎ (result ≡ Err RuleFault.Memory))
+            ↔ ((map.get self.old.rules prefix.now ≡ None) × (map.len self.old.rules < self.old.max)) }
+
+        ensures ok { OnOk result (self.new ≡ record self.old { rules = map.insert self.old.rules prefix.now hop }) }
+        ensures same { result ≡ Ok Put.Unchanged → self.new ≡ self.old }
+        ensures err { OnErr result (self.new ≡ self.old) }
+    {
+        let old = self.get(prefix);
+        if old == Some(hop) {
+            return Ok(Put::Unchanged);
+        }
+        if old.is_none() && self.is_full() {
+            return Err(RuleFault::TooManyRules);
+        }
+        match self.store(prefix, hop) {
+            Ok(Some(_)) => Ok(Put::Replaced),
+            Ok(None) => Ok(Put::Added),
+            Err(_) => Err(RuleFault::Memory),
+        }
+    }
+
+    // Puts a rule into the map of its length, and answers the next hop that the prefix had.
+    fn store(&mut self, prefix: &Prefix<FIRST, SECOND>, hop: Hop) -> Result<Option<Hop>, AllocError>
+        requires room { map.get self.old.rules prefix.now ≡ None → map.len self.old.rules < self.old.max }
+        ensures old { IfOk result (λ old. old ≡ map.get self.old.rules prefix.now) }
+        ensures ok { OnOk result (self.new ≡ record self.old { rules = map.insert self.old.rules prefix.now hop }) }
+        ensures absent { OnErr result (map.get self.old.rules prefix.now ≡ None) }
+        ensures err { OnErr result (self.new ≡ self.old) }
+    {
+        let bits = prefix.bits();
+        let length = &mut self.lengths[prefix.len() as usize];
+        match length.insert(bits, hop) {
+            Ok(None) => {
+                self.count += 1;
+                return Ok(None);
+            }
+            Ok(Some(old)) => return Ok(Some(old)),
+            Err(_) => return Err(AllocError),
+        }
+    }
+
+    /// Takes out the rule of this very prefix, and answers its next hop. It takes no memory.
+    pub fn remove(&mut self, prefix: &Prefix<FIRST, SECOND>) -> Result<Hop, NoSuchRule>
+        ensures hop { MatchResult result (λ hop. map.get self.old.rules prefix.now ≡ Some hop)
+            (λ _. map.get self.old.rules prefix.now ≡ None) }
+        ensures ok { OnOk result (self.new ≡ record self.old { rules = map.remove self.old.rules prefix.now }) }
+        ensures err { OnErr result (self.new ≡ self.old) }
+    {
+        let bits = prefix.bits();
+        let length = &mut self.lengths[prefix.len() as usize];
+        match length.remove(&bits) {
+            Some(hop) => {
+                self.count -= 1;
+                return Ok(hop);
+            }
+            None => return Err(NoSuchRule),
+        }
+    }
+
+    /// Takes out all rules, and answers how many there were. It takes no memory.
+    pub fn clear(&mut self) -> usize
+        ensures count { result ≡ map.len self.old.rules }
+        ensures empty { self.new ≡ record self.old { rules = map.empty } }
+    {
+        let count = self.count;
+        self.count = 0;
+        for length in &mut self.lengths {
+            length.clear();
+        }
+        count
+    }
+
+    /// The longest of the rules that are shorter than the prefix and cover it: the rule that a
+    /// deleted prefix falls back to.
+    pub fn cover(&self, prefix: &Prefix<FIRST, SECOND>) -> Option<Rule<FIRST, SECOND>>
+        ensures { MatchOption result (IsUncovered (FIRST + SECOND) self.now.rules prefix.now)
+            (λ c. IsCoverRule (FIRST + SECOND) self.now.rules prefix.now c.prefix c.hop) }
+    {
+        let _ = &self.lengths;
+        let bits = prefix.bits();
+        let len = prefix.len();
+        for shorter in 1..=len {
+            if let Some(rule) = self.covering(bits, len - shorter) {
+                return Some(rule);
+            }
+        }
+        None
+    }
+
+    /// The next hop of the longest rule that covers an address.
+    pub fn longest(&self, addr: u32) -> Option<Hop>
+        requires { addr < 2 ^ (FIRST + SECOND) }
+        ensures { IsLongestHop (FIRST + SECOND) self.now.rules addr result }
+    {
+        let _ = &self.lengths;
+        let width = FIRST + SECOND;
+        for host in 0..=width {
+            if let Some(rule) = self.covering(addr, width - host) {
+                return Some(rule.hop);
+            }
+        }
+        None
+    }
+
+    /// How many rules longer than `FIRST` lie in a block: the addresses of this index of the first
+    /// table.
+    pub fn deep_in(&self, block: usize) -> usize
+        requires { block < 2 ^ FIRST }
+        ensures value { result ≡ deep_count FIRST SECOND self.now.rules block }
+        ensures some { (0 < result) ↔ IsDeepBlock FIRST SECOND self.now.rules block }
+        ensures none { (result ≡ 0) ↔ (¬ (IsDeepBlock FIRST SECOND self.now.rules block)) }
+    {
+        // No sum below passes the number of all rules.
+        let _count = self.count;
+        let mut count = 0;
+        for len in FIRST + 1..=FIRST + SECOND {
+            count += self.count_in(block, len);
+        }
+        count
+    }
+
+    // How many rules of this length lie in the block.
+    fn count_in(&self, block: usize, len: u32) -> usize
+        requires block { block < 2 ^ FIRST }
+        requires len { len ≤ 32 }
+        ensures { result ≡ count_by (λ p. nat_eq p.len len && nat_eq (block_of SECOND p) block)
+            (map.keys self.now.rules) }
+    {
+        let _ = &self.lengths;
+        let first = (block << SECOND) as u32;
+        let last = first + ((1 << SECOND) - 1);
+        let length = self.of_length(len);
+        length.range(first..=last).count()
+    }
+
+    /// How many blocks hold a rule longer than `FIRST`.
+    pub fn deep_blocks(&self) -> usize
+        ensures { result ≡ set.len (deep_blocks FIRST SECOND self.now.rules) }
+    {
+        let _ = &self.lengths;
+        let mut count = 0;
+        let mut end = 1 << FIRST;
+        while let Some(block) = self.last_deep_block(end) {
+            count += 1;
+            end = block;
+        }
+        count
+    }
+
+    // The last of the blocks before `end` that hold a rule longer than `FIRST`.
+    fn last_deep_block(&self, end: usize) -> Option<usize>
+        requires { end ≤ 2 ^ FIRST }
+        ensures { IsLastBefore (IsDeepBlock FIRST SECOND self.now.rules) end result }
+    {
+        let _ = &self.lengths;
+        let mut last = None;
+        for len in FIRST + 1..=FIRST + SECOND {
+            last = last.max(self.last_block(end, len));
+        }
+        last
+    }
+
+    // The last of the blocks before `end` that hold a rule of this length.
+    fn last_block(&self, end: usize, len: u32) -> Option<usize>
+        requires end { end ≤ 2 ^ FIRST }
+        requires len { len ≤ 32 }
+        ensures { IsLastBefore (IsBlockOf SECOND self.now.rules len) end result }
+    {
+        let _ = &self.lengths;
+        if end == 0 {
+            return None;
+        }
+        let last = (((end as u64) << SECOND) - 1) as u32;
+        let length = self.of_length(len);
+        let (bits, _) = length.range(..=last).next_back()?;
+        Some((*bits >> SECOND) as usize)
+    }
+
+    // The rule of this length that covers an address.
+    fn covering(&self, addr: u32, len: u32) -> Option<Rule<FIRST, SECOND>>
+        requires addr { addr < 2 ^ (FIRST + SECOND) }
+        requires len { len ≤ FIRST + SECOND }
+        ensures { let prefix : Network = record { bits = masked (FIRST + SECOND) len addr; len = len } in
+            MatchOption result (map.get self.now.rules prefix ≡ None)
+            (λ r. (r.prefix ≡ prefix) × (map.get self.now.rules r.prefix ≡ Some r.hop)) }
+    {
+        let _ = &self.lengths;
+        let prefix = Prefix::new(addr, len).ok()?;
+        let hop = self.get(&prefix)?;
+        Some(Rule { prefix, hop })
+    }
+}
+
+#[cfg(test)]
+mod tests;

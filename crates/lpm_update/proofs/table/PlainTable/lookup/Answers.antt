@@ -1,0 +1,14 @@
+use Rattle.std.proofs.Common.{ap, sym, subst, ◌∙◌, ◌+◌, ◌^◌}
+use Rattle.lpm_rules.specs.RuleMap.{RuleList}
+use Rattle.lpm_rules.specs.Longest.{IsLongestHop}
+use Rattle.lpm_update.specs.PlainTable.{TableState}
+use Rattle.lpm_update.proofs.Rules.{best_hop}
+use Rattle.lpm_update.proofs.table.PlainTable.lookup.Goals as goal
+
+pub returns : goal.returns
+returns g c =
+    let width = g.row.FIRST + g.row.SECOND in
+    let known = c.self.invariant in
+    let a = c.args.addr in
+    subst (λ (t : TableState). IsLongestHop width t.rules a c.read.result) c.self.view_is
+      (subst (IsLongestHop width c.self.inside.rules.rules a) (sym c.read.ensures) (best_hop width c.self.inside.rules.rules a _ (known.answering.best a c.requires)))

@@ -1,0 +1,18 @@
+-- A flush stores a miss in each first word that isn't one, upwards (DPDK Programmer's Guide, "LPM
+-- Library": all rules are deleted).
+use Rattle.std.specs.Prelude.{ℕ, ◌≡◌, ◌≢◌, ◌≤◌, ◌<◌, ◌^◌, List, slice_index}
+use Rattle.lpm_entry.specs.declared.Entry.TheVariants.{Miss}
+use Rattle.lpm_update.specs.declared.rewrite.Kind.TheVariants.{Flush}
+use Rattle.lpm_update.specs.declared.rewrite.Rewrite.{Rewrite}
+
+-- every entry becomes a miss
+abbrev pub flushed : Rewrite
+flushed = record { kind = Flush; depth = 0; entry = Miss }
+
+-- the next store from place `next` on is of a miss at place i of the first table
+pub record NextFlush (first next : ℕ) (firsts : List ℕ) (i w : ℕ) : Type 0 where
+  pub low : next ≤ i
+  pub high : i < 2 ^ first
+  pub full : slice_index firsts i ≢ 0
+  pub word : w ≡ 0
+  pub skipped : (k : ℕ) → next ≤ k → k < i → slice_index firsts k ≡ 0

@@ -1,0 +1,11 @@
+pub mod Rewrite
+pub mod Linked
+pub mod Sweep
+pub mod Best
+pub mod Fill
+pub mod Leads
+pub mod Collapse
+pub mod Flush
+pub mod Update
+pub mod Tied
+pub mod PlainTable

@@ -1,0 +1,4 @@
+pub mod Counters
+pub mod Registry
+pub mod Limits
+pub mod Laws

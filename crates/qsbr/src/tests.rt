@@ -1,0 +1,171 @@
+use super::*;
+use std::test::Fail;
+
+// The worker that holds the token, by the definition: of those that are online and behind it, the least.
+fn holder_plainly(counters: [u64; 3], token: u64) -> Option<usize> {
+    let mut holder = None;
+    for worker in (0..3).rev() {
+        if counters[worker] > 0 && counters[worker] < token {
+            holder = Some(worker);
+        }
+    }
+    holder
+}
+
+#[test]
+fn checks_by_the_definition(rt: HostRuntime) -> Result<(), Fail> {
+    for a in 0..5u64 {
+        for b in 0..5u64 {
+            for c in 0..5u64 {
+                let mut domain = Domain::new(rt.alloc(), 3, 4)?;
+                domain.set_counter(0, a);
+                domain.set_counter(1, b);
+                domain.set_counter(2, c);
+                for token in 0..6u64 {
+                    let holder = domain.check(token).err().map(|busy| busy.worker);
+                    let plainly = holder_plainly([a, b, c], token);
+                    assert_eq!(rt; holder, plainly, "{a} {b} {c} at {token}");
+                }
+            }
+        }
+    }
+    Ok(())
+}
+
+#[test]
+fn two_workers(rt: HostRuntime) -> Result<(), Fail> {
+    let mut domain = Domain::new(rt.alloc(), 2, 1)?;
+    assert_eq!(rt; (domain.workers(), domain.token()), (2, 1));
+    domain.online(0);
+    let first = domain.start();
+    domain.online(1);
+    let second = domain.start();
+    assert_eq!(rt; (first, second, domain.token()), (2, 3, 3));
+    assert_eq!(rt; (domain.counter(0), domain.counter(1)), (1, 2));
+
+    let zero_at_1 = Busy {
+        worker: 0,
+        counter: 1,
+    };
+    assert_eq!(rt; domain.check(first), Err(zero_at_1));
+    domain.quiescent(0);
+    assert_eq!(rt; domain.check(first), Ok(()));
+    let one_at_2 = Busy {
+        worker: 1,
+        counter: 2,
+    };
+    assert_eq!(rt; domain.check(second), Err(one_at_2));
+    domain.offline(1);
+    assert_eq!(rt; domain.check(second), Ok(()));
+    assert!(rt; domain.is_online(0) && !domain.is_online(1));
+    assert_eq!(rt; (domain.counter(0), domain.counter(1)), (3, 0));
+    Ok(())
+}
+
+#[test]
+fn no_workers_and_last_token(rt: HostRuntime) -> Result<(), Fail> {
+    let mut domain = Domain::new(rt.alloc(), 0, (1 << 62) - 1)?;
+    let token = domain.start();
+    assert_eq!(rt; token, 1 << 62);
+    assert_eq!(rt; domain.check(token), Ok(()));
+    older_tokens_pass();
+    none_holds_where_passed();
+    one_worker_is_first();
+    Ok(())
+}
+
+#[test]
+fn limits_of_a_config(rt: HostRuntime) {
+    let usual = Config::default();
+    let last = Config {
+        rules: 16_777_216,
+        groups: 65_536,
+        workers: 2_048,
+        threshold: 65_536,
+        reclaim_max: 65_536,
+        first_token: 1 << 62,
+    };
+    let first = Config {
+        rules: 1,
+        groups: 1,
+        workers: 0,
+        threshold: 0,
+        reclaim_max: 1,
+        first_token: 1,
+    };
+    for config in [usual, first, last] {
+        assert_eq!(rt; config.check(), Ok(()));
+    }
+    let outside = [
+        Config { rules: 0, ..usual },
+        Config {
+            rules: 16_777_217,
+            ..usual
+        },
+        Config { groups: 0, ..usual },
+        Config {
+            groups: 65_537,
+            ..usual
+        },
+        Config {
+            workers: 2_049,
+            ..usual
+        },
+        Config {
+            threshold: 65_537,
+            ..usual
+        },
+        Config {
+            reclaim_max: 0,
+            ..usual
+        },
+        Config {
+            reclaim_max: 65_537,
+            ..usual
+        },
+        Config {
+            first_token: 0,
+            ..usual
+        },
+        Config {
+            first_token: (1 << 62) + 1,
+            ..usual
+        },
+    ];
+    for config in outside {
+        assert_eq!(rt; config.check(), Err(BadConfig), "{config:?}");
+    }
+    assert_eq!(rt;
+        (usual.rules, usual.groups, usual.workers),
+        (1_048_576, 256, 1)
+    );
+    assert_eq!(rt;
+        (usual.threshold, usual.reclaim_max, usual.first_token),
+        (32, 16, 1)
+    );
+}
+
+#[test]
+fn texts_of_refusals(rt: HostRuntime) -> Result<(), Fail> {
+    let busy = Busy {
+        worker: 3,
+        counter: 17,
+    };
+    let held = Refusal::NoGroups { oldest: Some(busy) };
+    let none = Refusal::NoGroups { oldest: None };
+    let cases = [
+        (Refusal::TooManyRules, "too many rules"),
+        (Refusal::NoSuchRule, "no such rule"),
+        (Refusal::Exhausted, "tokens or versions are exhausted"),
+        (none, "no group is free"),
+        (held, "no group is free: worker 3 at counter 17"),
+        (Refusal::from(AllocError), "out of memory"),
+    ];
+    for (refusal, text) in cases {
+        let shown = format!(in rt.alloc(); "{refusal}")?;
+        assert_eq!(rt; shown.as_str(), text);
+    }
+    let shown = format!(in rt.alloc(); "{BadConfig}")?;
+    assert_eq!(rt; shown.as_str(), "a limit of the table is outside its range");
+    Ok(())
+}

@@ -1,0 +1,10 @@
+pub mod Runs
+pub mod LineEnds
+pub mod Digits
+pub mod Octets
+pub mod Cuts
+pub mod Items
+pub mod Plain
+pub mod Answering
+pub mod Unique
+pub mod Grammars

@@ -1,0 +1,6 @@
+pub mod Lines
+pub mod Fields
+pub mod Starts
+pub mod Files
+pub mod Says
+pub mod Texts

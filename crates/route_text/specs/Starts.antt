@@ -1,0 +1,23 @@
+-- What a text begins with (this project's file format): a number or an address up to the first byte
+-- that can't belong to it.
+use Rattle.std.specs.Prelude.{◌≡◌, ℕ, ◌≤◌, List, [], ◌∷◌, ◌++◌, decimal, ⊤}
+use Rattle.std.specs.Int.{IsInRange}
+use Rattle.route_text.specs.Fields.{IsAddress}
+
+-- no digit goes on here
+abbrev pub StartsNoDigit : List ℕ → Type 0
+StartsNoDigit [] = ⊤
+StartsNoDigit (b ∷ bs) = IsInRange 48 57 b → ⊥
+
+-- the text is the decimal of n, which is at most max, and then the rest
+pub record StartsNumber (max : ℕ) (text : List ℕ) (n : ℕ) (rest : List ℕ) : Type 0 where
+  pub small : n ≤ max
+  pub split : text ≡ decimal n ++ rest
+  pub ends : StartsNoDigit rest
+
+-- the text is an address, and then the rest
+pub record StartsAddress (text : List ℕ) (addr : ℕ) (rest : List ℕ) : Type 0 where
+  pub front : List ℕ
+  pub address : IsAddress front addr
+  pub split : text ≡ front ++ rest
+  pub ends : StartsNoDigit rest
