@@ -5,7 +5,7 @@ use Rattle.std.specs.Str.Parse.{IsNumeral, digits_value, without_leading_plus}
 use Rattle.clap.specs.Words.{Row, Text, Kinds, IsAmong, first_of, one_of, kind_of}
 use Rattle.lpm_options.specs.declared.CommandLine.{CommandLine}
 use Rattle.lpm_options.specs.declared.CommandLine.TheVariants.{Lookup}
-use Rattle.lpm_options.specs.declared.Limits.{Limits}
+use Rattle.lpm_options.specs.declared.limits.Limits.{Limits}
 use Rattle.lpm_options.specs.declared.Refused.{Refused}
 use Rattle.lpm_options.specs.declared.Refused.TheVariants.{Usage, Memory, NoCommand}
 
@@ -22,6 +22,8 @@ HasNumber rows id n = (text : Text) × (one_of id rows ≡ Some text)
 pub record AreLimits (rows : List Row) (limits : Limits) : Type 0 where
   pub rules : HasNumber rows (codes "rules") limits.rules
   pub rules_range : (1 ≤ limits.rules) × (limits.rules ≤ 16777216)
+  pub groups : HasNumber rows (codes "groups") limits.groups
+  pub groups_range : (1 ≤ limits.groups) × (limits.groups ≤ 65536)
 
 -- the matches of the command of this name ask for this
 abbrev pub Asks : Text → List Row → CommandLine → Type 0

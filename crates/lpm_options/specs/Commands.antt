@@ -19,7 +19,7 @@ number_rule id default low high = record (new_rule id) {
 
 -- the options of each command that makes a table
 abbrev pub with_limits : App → App
-with_limits app = with_rule app (number_rule (codes "rules") (codes "1048576") 1 16777216)
+with_limits app = with_rule (with_rule app (number_rule (codes "rules") (codes "1048576") 1 16777216)) (number_rule (codes "groups") (codes "256") 1 65536)
 
 abbrev pub lookup_app : App
 lookup_app = with_limits (with_rule (with_rule (new_app (codes "lookup")) (file_rule (codes "ROUTES"))) (file_rule (codes "ADDRESSES")))

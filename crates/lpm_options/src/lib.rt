@@ -6,6 +6,10 @@ ghost use Rattle.clap.specs.Words.{app_of, rule_of, subcommand_of, fault_of, row
 ghost use Rattle.lpm_options.specs.Commands.{file_rule, number_rule, lookup_app, with_limits, the_app};
 ghost use Rattle.lpm_options.specs.Asked.{HasNumber, AreLimits, Asks, IsAskedBy, IsRefusalBy};
 
+mod limits;
+
+pub use limits::Limits;
+
 use clap::builder::ValueParser;
 use clap::error::ErrorKind;
 use clap::{Arg, ArgMatches, Command, Error};
@@ -17,6 +21,8 @@ const ROUTES: &str = "The route file. Each line is a prefix and a next hop, as `
 const ADDRESSES: &str = "The address file. Each line is an address, as `10.1.2.3`";
 
 const RULES: &str = "The greatest number of rules that the table holds, 1 to 16777216";
+
+const GROUPS: &str = "The number of groups, one for each block of 256 addresses with a route longer than 24 bits, 1 to 65536";
 
 /// What the words of a command line ask for.
 #[derive(Clone, Copy, Debug)]
@@ -30,13 +36,6 @@ pub enum CommandLine<'a> {
         /// The sizes of the table.
         limits: Limits,
     },
-}
-
-/// The sizes of the table that a command makes.
-#[derive(Clone, Copy, Debug, PartialEq, Eq)]
-pub struct Limits {
-    /// The greatest number of rules: 1 to 16,777,216, by default 1,048,576.
-    pub rules: usize,
 }
 
 /// Why words are no command line.
@@ -108,7 +107,9 @@ fn lookup_command<'a>(alloc: Global) -> Result<Command<'a>, AllocError>
 fn with_limits<'a>(alloc: Global, command: Command<'a>) -> Result<Command<'a>, AllocError>
     ensures { IfOk result (λ c. app_of c ≡ with_limits (app_of command.entry)) }
 {
-    command.arg(number(alloc, "rules", "1048576", 1, 16_777_216, RULES))
+    let rules = number(alloc, "rules", "1048576", 1, 16_777_216, RULES);
+    let groups = number(alloc, "groups", "256", 1, 65_536, GROUPS);
+    command.arg(rules)?.arg(groups)
 }
 
 // A file that the command wants, named by its place among the words.
@@ -160,7 +161,8 @@ fn limits_of(found: &ArgMatches<'_>) -> Option<Limits>
     ensures { IfSome result (AreLimits (rows_of (found_of found.now))) }
 {
     let rules = number_of(found, "rules", 1, 16_777_216)?;
-    Some(Limits { rules })
+    let groups = number_of(found, "groups", 1, 65_536)?;
+    Some(Limits { rules, groups })
 }
 
 // The number of the option, where it is from low to high.

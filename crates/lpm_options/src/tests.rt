@@ -14,18 +14,20 @@ fn refused_text(rt: &HostRuntime, words: &[&str]) -> Result<(ErrorKind, bool, St
 
 #[test]
 fn lookup_with_its_default_and_each_option(rt: HostRuntime) -> Result<(), Fail> {
-    let cases: [(&[&str], usize); 6] = [
-        (&["lpmtool", "lookup", "r", "a"], 1_048_576),
-        (&["lpmtool", "lookup", "--rules", "1", "r", "a"], 1),
+    let cases: [(&[&str], usize, usize); 7] = [
+        (&["lpmtool", "lookup", "r", "a"], 1_048_576, 256),
+        (&["lpmtool", "lookup", "--rules", "1", "r", "a"], 1, 256),
         (
             &["lpmtool", "lookup", "r", "--rules=16777216", "a"],
             16_777_216,
+            256,
         ),
-        (&["other", "lookup", "r", "a", "--rules", "7"], 7),
-        (&["lpmtool", "lookup", "--rules", "7", "--", "r", "a"], 7),
-        (&["lpmtool", "lookup", "--rules", "+7", "r", "a"], 7),
+        (&["other", "lookup", "r", "a", "--rules", "7"], 7, 256),
+        (&["lpmtool", "lookup", "--rules", "7", "--", "r", "a"], 7, 256),
+        (&["lpmtool", "lookup", "--rules", "+7", "r", "a"], 7, 256),
+        (&["lpmtool", "lookup", "--groups", "65536", "r", "a"], 1_048_576, 65_536),
     ];
-    for (words, rules) in cases {
+    for (words, rules, groups) in cases {
         let line = options(rt.alloc(), words).map_err(|_| "refused")?;
         let CommandLine::Lookup {
             routes,
@@ -33,7 +35,7 @@ fn lookup_with_its_default_and_each_option(rt: HostRuntime) -> Result<(), Fail> 
             limits,
         } = line;
         assert_eq!(rt; (routes, addresses), ("r", "a"), "{words:?}");
-        assert_eq!(rt; limits, Limits { rules }, "{words:?}");
+        assert_eq!(rt; limits, Limits { rules, groups }, "{words:?}");
     }
     Ok(())
 }

@@ -1,7 +1,7 @@
 -- What a rule list has after a rule is put in or taken out, and how many rules that is.
-use Rattle.std.proofs.Common.{arith, ◌≡◌, ℕ, ◌+◌, ◌-◌, ◌⊎◌, inl, inr, cond, refl, ap, sym, ◌∙◌, subst, Option, Some, None, true, false}
+use Rattle.std.proofs.Common.{◌≡◌, ℕ, ◌+◌, ◌⊎◌, inl, inr, cond, refl, ap, sym, ◌∙◌, subst, Option, Some, None, true, false}
 use Rattle.std.specs.Prelude.{IsSome, is_some}
-use Rattle.std.specs.Ordering.{eq_by_cmp, is_eq}
+use Rattle.std.specs.Ordering.{is_eq}
 use Rattle.std.specs.Cmp.{tied_itself}
 use Rattle.std.specs.declared.cmp.Ordering.{Ordering}
 use Rattle.std.specs.declared.cmp.Ordering.TheVariants.{Less, Equal, Greater}
@@ -45,29 +45,29 @@ remove_here R p = get-remove networks_total R p p ∙ ap (λ o. cond (is_eq o) N
 -- to put in a rule that is there changes nothing
 pub insert_same : (R : RuleMap) (p : Network) (h : ℕ) → get R p ≡ Some h → insert R p h ≡ R
 insert_same R p h e = same_map networks_total exact_networks _ _ (λ q. elim (insert_cases R p h q) [
-    | inl k ↦ k.1 ∙ sym e ∙ ap (get R) (sym k.0)
-    | inr k ↦ k
-  ])
+  | inl k ↦ k.1 ∙ sym e ∙ ap (get R) (sym k.0)
+  | inr k ↦ k
+])
 
 -- to take out the new rule that was put in gives the list that was
 pub remove_insert : (R : RuleMap) (p : Network) (h : ℕ) → get R p ≡ None → remove (insert R p h) p ≡ R
 remove_insert R p h e = same_map networks_total exact_networks _ _ (λ q. elim (remove_cases (insert R p h) p q) [
-    | inl k ↦ k.1 ∙ sym e ∙ ap (get R) (sym k.0)
-    | inr k ↦ elim (insert_cases R p h q) [
-      | inl i ↦ ap (get (remove (insert R p h) p)) i.0 ∙ remove_here (insert R p h) p ∙ sym e ∙ ap (get R) (sym i.0)
-      | inr i ↦ k ∙ i
-    ]
-  ])
+  | inl k ↦ k.1 ∙ sym e ∙ ap (get R) (sym k.0)
+  | inr k ↦ elim (insert_cases R p h q) [
+    | inl i ↦ ap (get (remove (insert R p h) p)) i.0 ∙ remove_here (insert R p h) p ∙ sym e ∙ ap (get R) (sym i.0)
+    | inr i ↦ k ∙ i
+  ]
+])
 
 -- to put back the rule that was taken out gives the list that was
 pub insert_remove : (R : RuleMap) (p : Network) (h : ℕ) → get R p ≡ Some h → insert (remove R p) p h ≡ R
 insert_remove R p h e = same_map networks_total exact_networks _ _ (λ q. elim (insert_cases (remove R p) p h q) [
-    | inl k ↦ k.1 ∙ sym e ∙ ap (get R) (sym k.0)
-    | inr k ↦ elim (remove_cases R p q) [
-      | inl i ↦ ap (get (insert (remove R p) p h)) i.0 ∙ insert_here (remove R p) p h ∙ sym e ∙ ap (get R) (sym i.0)
-      | inr i ↦ k ∙ i
-    ]
-  ])
+  | inl k ↦ k.1 ∙ sym e ∙ ap (get R) (sym k.0)
+  | inr k ↦ elim (remove_cases R p q) [
+    | inl i ↦ ap (get (insert (remove R p) p h)) i.0 ∙ insert_here (remove R p) p h ∙ sym e ∙ ap (get R) (sym i.0)
+    | inr i ↦ k ∙ i
+  ]
+])
 
 -- how many rules
 pub size_added : (R : RuleMap) (p : Network) (h : ℕ) → get R p ≡ None → len (insert R p h) ≡ len R + 1
@@ -85,12 +85,12 @@ networks_empty width q some = absurd (not_some (get-empty network_cmp q) some)
 
 pub networks_insert : (width : ℕ) (R : RuleMap) (p : Network) (h : ℕ) → IsNetwork width p → AllNetworks width R → AllNetworks width (insert R p h)
 networks_insert width R p h n a q some = elim (insert_cases R p h q) [
-    | inl k ↦ subst (IsNetwork width) (sym k.0) n
-    | inr k ↦ a q (subst IsSome k some)
-  ]
+  | inl k ↦ subst (IsNetwork width) (sym k.0) n
+  | inr k ↦ a q (subst IsSome k some)
+]
 
 pub networks_remove : (width : ℕ) (R : RuleMap) (p : Network) → AllNetworks width R → AllNetworks width (remove R p)
 networks_remove width R p a q some = elim (remove_cases R p q) [
-    | inl k ↦ absurd (not_some k.1 some)
-    | inr k ↦ a q (subst IsSome k some)
-  ]
+  | inl k ↦ absurd (not_some k.1 some)
+  | inr k ↦ a q (subst IsSome k some)
+]

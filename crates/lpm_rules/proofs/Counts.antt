@@ -1,5 +1,5 @@
 -- How many of the rules pass a test.
-use Rattle.std.proofs.Common.{arith, zero-add, ◌≡◌, ◌≢◌, ℕ, suc, zero, ◌+◌, ◌<◌, ◌≤◌, ◌⊎◌, inl, inr, Bool, true, false, cond, length, refl, ap, sym, ◌∙◌, subst, List, [], ◌∷◌, Option, Some, None, nat_eq}
+use Rattle.std.proofs.Common.{arith, zero-add, ◌≡◌, ◌≢◌, ℕ, ◌+◌, ◌<◌, inl, inr, Bool, true, false, cond, length, refl, ap, sym, ◌∙◌, subst, List, [], ◌∷◌, Option, None, nat_eq}
 use Rattle.std.specs.Prelude.{map, filter, count_by, ◌&&◌, ◌||◌, is_some, T}
 use Rattle.std.specs.List.{list_any, IsDistinct, AllByRecursion}
 use Rattle.std.specs.declared.cmp.Ordering.{Ordering}
@@ -10,7 +10,7 @@ use Rattle.std.specs.Map.{keys_of, lookup}
 use Rattle.std.specs.Set.{is_member}
 use Rattle.std.specs.BTreeMap as tree
 use Rattle.std.specs.BTreeMap.{BTreeMap, is_at}
-use Rattle.std.specs.FinMap.{FinMap, get, entries, keys, len, entries_sorted, len-entries, contains_key-keys, is_sorted}
+use Rattle.std.specs.FinMap.{get, entries, keys, len, entries_sorted, len-entries, contains_key-keys, is_sorted}
 use Rattle.std.specs.FinMap.Entries.{below_all}
 use Rattle.std.proofs.lemmas.List.{length-map}
 use Rattle.std.proofs.lemmas.List.Sums.{sum_by-cons}
@@ -187,23 +187,23 @@ module _ (R : RuleMap) (m : BTreeMap ℕ ℕ) (len : ℕ) (u : ℕ → Bool) (or
 
   members : (q : Network) → is_member same (keys_of rules_passing) q ≡ is_member same (prefixes len entries_passing) q
   members q = elim (cases_eq q.len len) [
-      | inl e ↦
-          in_rules q
-          ∙ ap (λ l. (nat_eq l len && u q.bits) && is_some (get R (at_network q.bits l))) e
-          ∙ ap (λ t. (t && u q.bits) && is_some (get R (at_network q.bits len))) (eqb_self len)
-          ∙ sym (in_entries q.bits) ∙ sym (any_prefixes q.bits len entries_passing)
-          ∙ ap (λ l. list_any (same (at_network q.bits l)) (prefixes len entries_passing)) (sym e)
-      | inr n ↦
-          in_rules q ∙ ap (λ t. (t && u q.bits) && is_some (get R q)) (eqb_apart q.len len n)
-          ∙ sym (no_prefixes q len entries_passing n)
-    ]
+    | inl e ↦
+        in_rules q
+        ∙ ap (λ l. (nat_eq l len && u q.bits) && is_some (get R (at_network q.bits l))) e
+        ∙ ap (λ t. (t && u q.bits) && is_some (get R (at_network q.bits len))) (eqb_self len)
+        ∙ sym (in_entries q.bits) ∙ sym (any_prefixes q.bits len entries_passing)
+        ∙ ap (λ l. list_any (same (at_network q.bits l)) (prefixes len entries_passing)) (sym e)
+    | inr n ↦
+        in_rules q ∙ ap (λ t. (t && u q.bits) && is_some (get R q)) (eqb_apart q.len len n)
+        ∙ sym (no_prefixes q len entries_passing n)
+  ]
 
   pub count_of_length : length entries_passing ≡ count_by passes (keys R)
   count_of_length =
       sym (length-map entries_passing (λ (e : ℕ × ℕ). at_network e.0 len))
       ∙ sym (length-from_same_keys (eq_by_cmp_equiv networks_total) (keys_of rules_passing) (prefixes len entries_passing)
-          (IsDistinct-keys_filter same (λ (e : Network × ℕ). passes e.0) (entries R) (sorted_distinct (entries R) (entries_sorted R)))
-          (distinct_prefixes len entries_passing (IsDistinct-keys_filter (eq_by_cmp nat_cmp) (λ (e : ℕ × ℕ). u e.0) m.entries (IsDistinct-from_sorted nat_cmp (tree.keys m) ordered)))
-          members)
+      (IsDistinct-keys_filter same (λ (e : Network × ℕ). passes e.0) (entries R) (sorted_distinct (entries R) (entries_sorted R)))
+      (distinct_prefixes len entries_passing (IsDistinct-keys_filter (eq_by_cmp nat_cmp) (λ (e : ℕ × ℕ). u e.0) m.entries (IsDistinct-from_sorted nat_cmp (tree.keys m) ordered)))
+      members)
       ∙ length-keys_of rules_passing
       ∙ length_passing passes (entries R)

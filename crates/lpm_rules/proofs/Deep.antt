@@ -1,14 +1,14 @@
 -- The rules longer than the first table's index, counted length by length, and their blocks.
-use Rattle.std.proofs.Common.{arith, ◌≡◌, ◌≢◌, ℕ, ◌+◌, ◌-◌, ◌*◌, ◌/◌, ◌%◌, ◌^◌, ◌<◌, ◌≤◌, ◌↔◌, ◌⊎◌, inl, inr, Bool, true, false, cond, length, refl, ap, sym, ◌∙◌, subst, List, [], ◌∷◌, ◌++◌, Option, Some, None, nat_eq, nat_lt}
-use Rattle.std.specs.Prelude.{map, filter, count_by, ◌&&◌, ◌||◌, is_some, IsSome, IsTrue}
+use Rattle.std.proofs.Common.{arith, ◌≡◌, ℕ, ◌+◌, ◌-◌, ◌*◌, ◌/◌, ◌%◌, ◌^◌, ◌<◌, ◌≤◌, ◌↔◌, ◌⊎◌, inl, inr, Bool, true, false, cond, refl, ap, sym, ◌∙◌, subst, List, [], ◌∷◌, ◌++◌, Option, Some, None, nat_eq, nat_lt}
+use Rattle.std.specs.Prelude.{map, filter, count_by, ◌&&◌, ◌||◌, IsSome}
 use Rattle.std.specs.List.{list_any}
-use Rattle.std.specs.Ordering.{nat_cmp, eq_by_cmp, ord_max, is_lt, is_gt}
+use Rattle.std.specs.Ordering.{nat_cmp, eq_by_cmp, ord_max, is_gt}
 use Rattle.std.specs.Option.{option_cmp}
 use Rattle.std.specs.Cmp.{nat_cmp_total, unsigned_tied, nat_eq_equiv}
 use Rattle.std.specs.FinMap as rules
 use Rattle.std.specs.FinSet as set
 use Rattle.std.specs.FinSet.{FinSet, nat_cmp-IsAntisymmetric}
-use Rattle.std.proofs.lemmas.Bool.{cases_order, cases_eq, cases_lt, lt-ltb, le-ltb, ltb-true, eq-eqb, eqb-true, and_parts, and_from, and_left, or_cases, or_left, or_right, false_from_ne_true, cases_Bool}
+use Rattle.std.proofs.lemmas.Bool.{cases_order, cases_eq, cases_lt, lt-ltb, le-ltb, ltb-true, eq-eqb, eqb-true, and_parts, and_from, or_cases, or_left, or_right, false_from_ne_true, cases_Bool}
 use Rattle.std.proofs.lemmas.Map.Lookups.{exact_unsigned}
 use Rattle.std.proofs.lemmas.Nat.{pow_pos, pow-add, shr_below}
 use Rattle.std.proofs.Math.Nat.{div-lt_iff_lt-mul, mul-le-mul_right}
@@ -20,7 +20,7 @@ use Rattle.std.specs.BTreeMap.Range.{IsRangeOf}
 use Rattle.std.specs.declared.ops.Bound.TheVariants.{Included, Unbounded}
 use Rattle.lpm_rules.proofs.Blocks.{lt_cases, gt_cases}
 use Rattle.lpm_rules.proofs.Changes.{not_some}
-use Rattle.lpm_bits.specs.Network.{Network, IsNetwork}
+use Rattle.lpm_bits.specs.Network.{Network}
 use Rattle.lpm_rules.specs.RuleMap.{RuleMap, AllNetworks}
 use Rattle.lpm_rules.specs.Deep.{block_of, IsBlockOf, IsDeepBlock, IsLastBefore, deep_count, deep_blocks, HasDeepBlocks}
 use Rattle.lpm_rules.proofs.Views.{at_network, eqb_apart}
@@ -45,9 +45,9 @@ and_all false = refl
 
 none_yet : (first second block : ℕ) (p : Network) → is_deep_below first second block (first + 1) p ≡ false
 none_yet first second block p = elim (cases_lt first p.len) [
-    | inl deep ↦ ap (λ t. is_deep_in first second block p && t) (le-ltb p.len (first + 1) (omega arith)) ∙ and_none _
-    | inr short ↦ ap (λ t. (t && nat_eq (block_of second p) block) && nat_lt p.len (first + 1)) (le-ltb first p.len short)
-  ]
+  | inl deep ↦ ap (λ t. is_deep_in first second block p && t) (le-ltb p.len (first + 1) (omega arith)) ∙ and_none _
+  | inr short ↦ ap (λ t. (t && nat_eq (block_of second p) block) && nat_lt p.len (first + 1)) (le-ltb first p.len short)
+]
 
 zero_left : (n : ℕ) → 0 + n ≡ n
 zero_left n = omega arith
@@ -69,7 +69,7 @@ one_more first second block len p h =
           let k = eq-eqb p.len len e in
           ap (λ t. one_if (deep && t)) a ∙ ap one_if (and_all deep) ∙ ap (λ t. one_if (t && here)) d
           ∙ sym (ap (λ t. one_if (deep && t) + one_if (nat_eq p.len len && here)) b ∙ ap (λ t. one_if t + one_if (nat_eq p.len len && here)) (and_none deep)
-                 ∙ ap (λ t. 0 + one_if (t && here)) k ∙ zero_left (one_if here))
+          ∙ ap (λ t. 0 + one_if (t && here)) k ∙ zero_left (one_if here))
       | inr n ↦ elim n [
         | inl below ↦
             let a = lt-ltb p.len (len + 1) (omega arith) in
@@ -99,27 +99,27 @@ pub deep_all : (first second block len : ℕ) (R : RuleMap) → AllNetworks (fir
     → count_by (is_deep_below first second block len) (rules.keys R) ≡ deep_count first second R block
 deep_all first second block len R nets h =
     count_same (is_deep_below first second block len) (is_deep_in first second block) (rules.keys R) (λ p k.
-      let bound = (nets p (sym (key_of_rule R p) ∙ k)).0 in
-      ap (λ t. is_deep_in first second block p && t) (lt-ltb p.len len (omega (arith, bound, h))) ∙ and_all _)
+    let bound = (nets p (sym (key_of_rule R p) ∙ k)).0 in
+    ap (λ t. is_deep_in first second block p && t) (lt-ltb p.len len (omega (arith, bound, h))) ∙ and_all _)
 
 -- the count isn't 0 exactly where a rule is counted
 pub deep_some : (first second : ℕ) (R : RuleMap) (block : ℕ) → (0 < deep_count first second R block) ↔ IsDeepBlock first second R block
 deep_some first second R block = (
-    (λ h.
+  (λ h.
       let found = count_some (is_deep_in first second block) (rules.keys R) h in
       let parts = and_parts _ _ found.2 in
       (found.0, sym (key_of_rule R found.0) ∙ found.1, ltb-true _ _ parts.0, eqb-true _ _ parts.1)),
-    (λ d. some_count (is_deep_in first second block) (rules.keys R) d.0 (key_of_rule R d.0 ∙ d.1) (and_from _ _ (lt-ltb _ _ d.2) (eq-eqb _ _ d.3))),
-  )
+  (λ d. some_count (is_deep_in first second block) (rules.keys R) d.0 (key_of_rule R d.0 ∙ d.1) (and_from _ _ (lt-ltb _ _ d.2) (eq-eqb _ _ d.3))),
+)
 
 pub deep_none : (first second : ℕ) (R : RuleMap) (block n : ℕ) → n ≡ deep_count first second R block → (n ≡ 0) ↔ (¬ (IsDeepBlock first second R block))
 deep_none first second R block n is = (
-    (λ z d. let some = (deep_some first second R block).1 d in absurd (omega (arith, z, is, some))),
-    (λ no. elim (cases_lt 0 n) [
-      | inl some ↦ absurd (no ((deep_some first second R block).0 (omega (arith, is, some))))
-      | inr none ↦ omega (arith, none)
-    ]),
-  )
+  (λ z d. let some = (deep_some first second R block).1 d in absurd (omega (arith, z, is, some))),
+  (λ no. elim (cases_lt 0 n) [
+    | inl some ↦ absurd (no ((deep_some first second R block).0 (omega (arith, is, some))))
+    | inr none ↦ omega (arith, none)
+  ]),
+)
 
 -- ---- the set of blocks
 
@@ -131,7 +131,7 @@ any_block first second block (p ∷ ks) =
     let tied = unsigned_tied block (block_of second p) ∙ nat_eq_equiv.symm block (block_of second p) in
     let blocks = map (block_of second) (filter (λ q. nat_lt first q.len) ks) in
     elim (nat_lt first p.len) as (λ b. list_any (eq_by_cmp nat_cmp block) (map (block_of second) (cond b (p ∷ filter (λ q. nat_lt first q.len) ks) (filter (λ q. nat_lt first q.len) ks)))
-        ≡ ((b && nat_eq (block_of second p) block) || list_any (is_deep_in first second block) ks)) [
+    ≡ ((b && nat_eq (block_of second p) block) || list_any (is_deep_in first second block) ks)) [
       | true ↦ ap (λ t. t || list_any (eq_by_cmp nat_cmp block) blocks) tied ∙ ap (λ t. nat_eq (block_of second p) block || t) rest
       | false ↦ rest
     ]
@@ -139,26 +139,27 @@ any_block first second block (p ∷ ks) =
 any_key : (t : Network → Bool) (ks : List Network) → list_any t ks ≡ true → (p : Network) × (list_any (same p) ks ≡ true) × (t p ≡ true)
 any_key t [] h = cc
 any_key t (p ∷ ks) h = elim (or_cases (t p) (list_any t ks) h) [
-    | inl here ↦ (p, or_left (same p p) (list_any (same p) ks) (itself p), here)
-    | inr later ↦ let rest = any_key t ks later in (rest.0, or_right (same rest.0 p) (list_any (same rest.0) ks) rest.1, rest.2)
-  ]
+  | inl here ↦ (p, or_left (same p p) (list_any (same p) ks) (itself p), here)
+  | inr later ↦ let rest = any_key t ks later in (rest.0, or_right (same rest.0 p) (list_any (same rest.0) ks) rest.1, rest.2)
+]
 
 key_any : (t : Network → Bool) (ks : List Network) (p : Network) → list_any (same p) ks ≡ true → t p ≡ true → list_any t ks ≡ true
 key_any t [] p h e = cc
 key_any t (q ∷ ks) p h e = elim (or_cases (same p q) (list_any (same p) ks) h) [
-    | inl here ↦ or_left (t q) (list_any t ks) (ap t (sym (same_is p q here)) ∙ e)
-    | inr later ↦ or_right (t q) (list_any t ks) (key_any t ks p later e)
-  ]
+  | inl here ↦ or_left (t q) (list_any t ks) (ap t (sym (same_is p q here)) ∙ e)
+  | inr later ↦ or_right (t q) (list_any t ks) (key_any t ks p later e)
+]
 
 pub has_deep_blocks : HasDeepBlocks
 has_deep_blocks first second R block =
     let is : set.contains (deep_blocks first second R) block ≡ list_any (is_deep_in first second block) (rules.keys R) =
-        set.contains-from_list nat_cmp_total _ block ∙ any_block first second block (rules.keys R) in
-    ((λ h.
-       let found = any_key (is_deep_in first second block) (rules.keys R) (sym is ∙ h) in
-       let parts = and_parts _ _ found.2 in
-       (found.0, sym (key_of_rule R found.0) ∙ found.1, ltb-true _ _ parts.0, eqb-true _ _ parts.1)),
-     (λ d. is ∙ key_any (is_deep_in first second block) (rules.keys R) d.0 (key_of_rule R d.0 ∙ d.1) (and_from _ _ (lt-ltb _ _ d.2) (eq-eqb _ _ d.3))))
+    set.contains-from_list nat_cmp_total _ block ∙ any_block first second block (rules.keys R) in (
+      (λ h.
+          let found = any_key (is_deep_in first second block) (rules.keys R) (sym is ∙ h) in
+          let parts = and_parts _ _ found.2 in
+          (found.0, sym (key_of_rule R found.0) ∙ found.1, ltb-true _ _ parts.0, eqb-true _ _ parts.1)),
+      (λ d. is ∙ key_any (is_deep_in first second block) (rules.keys R) d.0 (key_of_rule R d.0 ∙ d.1) (and_from _ _ (lt-ltb _ _ d.2) (eq-eqb _ _ d.3))),
+    )
 
 -- ---- the blocks before an end
 
@@ -172,27 +173,27 @@ in_before s end i = set.contains-retain s (λ k. nat_lt k end) i (λ x e. ap (λ
 module _ (s : FinSet nat_cmp) (last end : ℕ) (has : set.contains s last ≡ true) (l : last < end) (greatest : (i : ℕ) → set.contains s i ≡ true → i < end → i ≤ last) where
   one_fewer : (i : ℕ) → (set.contains s i && nat_lt i end) ≡ (nat_eq i last || (set.contains s i && nat_lt i last))
   one_fewer i = elim (cases_order i last) [
-      | inl e ↦
-          ap (λ t. t && nat_lt i end) (ap (set.contains s) e ∙ has) ∙ lt-ltb i end (omega (arith, e, l))
-          ∙ sym (ap (λ t. t || (set.contains s i && nat_lt i last)) (eq-eqb i last e))
-      | inr n ↦ elim n [
-        | inl below ↦
-            ap (λ t. set.contains s i && t) (lt-ltb i end (omega (arith, below, l)))
-            ∙ sym (ap (λ t. t || (set.contains s i && nat_lt i last)) (eqb_apart i last (λ e. absurd (omega (arith, e, below)))) ∙ ap (λ t. set.contains s i && t) (lt-ltb i last below))
-        | inr above ↦
-            false_from_ne_true (set.contains s i && nat_lt i end) (λ both.
-              let parts = and_parts _ _ both in
-              let most = greatest i parts.0 (ltb-true _ _ parts.1) in
-              absurd (omega (arith, most, above)))
-            ∙ sym (ap (λ t. t || (set.contains s i && nat_lt i last)) (eqb_apart i last (λ e. absurd (omega (arith, e, above)))) ∙ ap (λ t. set.contains s i && t) (le-ltb i last (omega arith)) ∙ and_none _)
-      ]
+    | inl e ↦
+        ap (λ t. t && nat_lt i end) (ap (set.contains s) e ∙ has) ∙ lt-ltb i end (omega (arith, e, l))
+        ∙ sym (ap (λ t. t || (set.contains s i && nat_lt i last)) (eq-eqb i last e))
+    | inr n ↦ elim n [
+      | inl below ↦
+          ap (λ t. set.contains s i && t) (lt-ltb i end (omega (arith, below, l)))
+          ∙ sym (ap (λ t. t || (set.contains s i && nat_lt i last)) (eqb_apart i last (λ e. absurd (omega (arith, e, below)))) ∙ ap (λ t. set.contains s i && t) (lt-ltb i last below))
+      | inr above ↦
+          false_from_ne_true (set.contains s i && nat_lt i end) (λ both.
+          let parts = and_parts _ _ both in
+          let most = greatest i parts.0 (ltb-true _ _ parts.1) in
+          absurd (omega (arith, most, above)))
+          ∙ sym (ap (λ t. t || (set.contains s i && nat_lt i last)) (eqb_apart i last (λ e. absurd (omega (arith, e, above)))) ∙ ap (λ t. set.contains s i && t) (le-ltb i last (omega arith)) ∙ and_none _)
     ]
+  ]
 
   pub before_more : set.len (before s end) ≡ set.len (before s last) + 1
   before_more =
       ap set.len (set.same_set nat_cmp_total nat_cmp-IsAntisymmetric (before s end) (set.insert (before s last) last) (λ i.
-        in_before s end i ∙ one_fewer i
-        ∙ sym (set.contains-insert nat_cmp_total (before s last) last i ∙ ap (λ t. t || set.contains (before s last) i) (unsigned_tied i last) ∙ ap (λ t. nat_eq i last || t) (in_before s last i))))
+      in_before s end i ∙ one_fewer i
+      ∙ sym (set.contains-insert nat_cmp_total (before s last) last i ∙ ap (λ t. t || set.contains (before s last) i) (unsigned_tied i last) ∙ ap (λ t. nat_eq i last || t) (in_before s last i))))
       ∙ set.len-insert nat_cmp_total (before s last) last
       ∙ ap (λ t. cond t (set.len (before s last)) (set.len (before s last) + 1)) (in_before s last last ∙ ap (λ t. set.contains s last && t) (le-ltb last last (omega arith)) ∙ and_none _)
 
@@ -200,18 +201,18 @@ module _ (s : FinSet nat_cmp) (last end : ℕ) (has : set.contains s last ≡ tr
 pub before_none : (s : FinSet nat_cmp) (end : ℕ) → ((i : ℕ) → set.contains s i ≡ true → i < end → ⊥) → set.len (before s end) ≡ 0
 before_none s end none =
     ap set.len (set.same_set nat_cmp_total nat_cmp-IsAntisymmetric (before s end) set.empty (λ i.
-      in_before s end i ∙ false_from_ne_true (set.contains s i && nat_lt i end) (λ both. let parts = and_parts _ _ both in none i parts.0 (ltb-true _ _ parts.1))
-      ∙ sym (set.contains-empty nat_cmp i)))
+    in_before s end i ∙ false_from_ne_true (set.contains s i && nat_lt i end) (λ both. let parts = and_parts _ _ both in none i parts.0 (ltb-true _ _ parts.1))
+    ∙ sym (set.contains-empty nat_cmp i)))
     ∙ set.len-empty nat_cmp
 
 -- all stand before the end
 pub before_all : (s : FinSet nat_cmp) (end : ℕ) → ((i : ℕ) → set.contains s i ≡ true → i < end) → set.len (before s end) ≡ set.len s
 before_all s end all =
     ap set.len (set.same_set nat_cmp_total nat_cmp-IsAntisymmetric (before s end) s (λ i.
-      in_before s end i ∙ elim (cases_Bool (set.contains s i)) [
-        | inl has ↦ ap (λ t. t && nat_lt i end) has ∙ lt-ltb i end (all i has) ∙ sym has
-        | inr absent ↦ ap (λ t. t && nat_lt i end) absent ∙ sym absent
-      ]))
+    in_before s end i ∙ elim (cases_Bool (set.contains s i)) [
+      | inl has ↦ ap (λ t. t && nat_lt i end) has ∙ lt-ltb i end (all i has) ∙ sym has
+      | inr absent ↦ ap (λ t. t && nat_lt i end) absent ∙ sym absent
+    ]))
 
 -- each deep block is a block of the first table
 pub deep_below : (first second : ℕ) (R : RuleMap) (block : ℕ) → AllNetworks (first + second) R → IsDeepBlock first second R block → block < 2 ^ first
@@ -235,11 +236,11 @@ last_by P Q S end split left right None (Some y) lx ly =
 last_by P Q S end split left right (Some x) None lx ly =
     (left x lx.0, lx.1, λ k s l. elim (split k s) [ inl p ↦ lx.2 k p l | inr q ↦ absurd (ly k q l) ])
 last_by P Q S end split left right (Some x) (Some y) lx ly = elim (lt_cases y x (nat_cmp y x) refl) [
-    | inl less ↦ subst (λ b. IsLastBefore S end (cond b (Some x) (Some y))) (sym less.0)
-        (left x lx.0, lx.1, λ k s l. elim (split k s) [ inl p ↦ lx.2 k p l | inr q ↦ let z = ly.2 k q l in let w = less.1 in omega (arith, z, w) ])
-    | inr more ↦ subst (λ b. IsLastBefore S end (cond b (Some x) (Some y))) (sym more.0)
-        (right y ly.0, ly.1, λ k s l. elim (split k s) [ inl p ↦ let z = lx.2 k p l in let w = more.1 in omega (arith, z, w) | inr q ↦ ly.2 k q l ])
-  ]
+  | inl less ↦ subst (λ b. IsLastBefore S end (cond b (Some x) (Some y))) (sym less.0)
+      (left x lx.0, lx.1, λ k s l. elim (split k s) [ inl p ↦ lx.2 k p l | inr q ↦ let z = ly.2 k q l in let w = less.1 in omega (arith, z, w) ])
+  | inr more ↦ subst (λ b. IsLastBefore S end (cond b (Some x) (Some y))) (sym more.0)
+      (right y ly.0, ly.1, λ k s l. elim (split k s) [ inl p ↦ let z = lx.2 k p l in let w = more.1 in omega (arith, z, w) | inr q ↦ ly.2 k q l ])
+]
 
 pub last_init : (first second end : ℕ) (R : RuleMap) → IsLastBefore (IsDeepBlockBelow first second R (first + 1)) end None
 last_init first second end R k d l = let a = d.2 in let b = d.3 in absurd (omega (arith, a, b))
@@ -249,14 +250,14 @@ pub last_more : (first second end len : ℕ) (R : RuleMap) → first < len → (
     → IsLastBefore (IsDeepBlockBelow first second R (len + 1)) end later
 last_more first second end len R h x y later is lx ly =
     subst (IsLastBefore (IsDeepBlockBelow first second R (len + 1)) end) (sym is)
-      (last_by (IsDeepBlockBelow first second R len) (IsBlockOf second R len) (IsDeepBlockBelow first second R (len + 1)) end
-        (λ k d. elim (cases_eq d.0.len len) [
-          | inl e ↦ inr (d.0, d.1, e, d.4)
-          | inr n ↦ let a = d.3 in inl (d.0, d.1, d.2, omega (arith, a, n), d.4)
-        ])
-        (λ k d. let a = d.3 in (d.0, d.1, d.2, omega (arith, a), d.4))
-        (λ k d. let a = d.2 in (d.0, d.1, omega (arith, a, h), omega (arith, a), d.3))
-        x y lx ly)
+    (last_by (IsDeepBlockBelow first second R len) (IsBlockOf second R len) (IsDeepBlockBelow first second R (len + 1)) end
+    (λ k d. elim (cases_eq d.0.len len) [
+      | inl e ↦ inr (d.0, d.1, e, d.4)
+      | inr n ↦ let a = d.3 in inl (d.0, d.1, d.2, omega (arith, a, n), d.4)
+    ])
+    (λ k d. let a = d.3 in (d.0, d.1, d.2, omega (arith, a), d.4))
+    (λ k d. let a = d.2 in (d.0, d.1, omega (arith, a, h), omega (arith, a), d.3))
+    x y lx ly)
 
 -- the same numbers have the same last one
 last_same : (P Q : ℕ → Type 0) (end : ℕ) → ((k : ℕ) → P k → Q k) → ((k : ℕ) → Q k → P k) → (x : Option ℕ) → IsLastBefore P end x → IsLastBefore Q end x
@@ -292,14 +293,15 @@ module _ (R : RuleMap) (m : BTreeMap ℕ ℕ) (second end len last : ℕ) (r : L
   pub last_some : (t : List (ℕ × ℕ)) (b v : ℕ) → r ≡ t ++ (b, v) ∷ [] → IsLastBefore (IsBlockOf second R len) end (Some (b / 2 ^ second))
   last_some t b v e =
       let here = range.3 (b, v) t e in
-      let most = le_from_not_gt b last here.0.1 in
-      ((at_network b len, subst IsSome (sym here.1 ∙ has b) refl, refl, refl),
-       (div-lt_iff_lt-mul {x = b} {y = end} (pow_pos second)).1 (omega (arith, most, ends)),
-       λ k d l.
-         let up = ge_from_not_lt b d.0.bits (range.4 (b, v) t e d.0.bits (tt, not_gt d.0.bits last (in_range d.0 k d.3 l)) (key d.0 d.1 d.2)) in
-         let z = shr_mono second up in
-         let w = d.3 in
-         omega (arith, z, w))
+      let most = le_from_not_gt b last here.0.1 in (
+        (at_network b len, subst IsSome (sym here.1 ∙ has b) refl, refl, refl),
+        (div-lt_iff_lt-mul {x = b} {y = end} (pow_pos second)).1 (omega (arith, most, ends)),
+        λ k d l.
+            let up = ge_from_not_lt b d.0.bits (range.4 (b, v) t e d.0.bits (tt, not_gt d.0.bits last (in_range d.0 k d.3 l)) (key d.0 d.1 d.2)) in
+            let z = shr_mono second up in
+            let w = d.3 in
+            omega (arith, z, w),
+      )
 
 -- a block's end lies within the addresses
 pub end_fits : (first second end : ℕ) → first + second ≤ 32 → end ≤ 2 ^ first → end * 2 ^ second ≤ 2 ^ 32

@@ -1,12 +1,12 @@
 -- The deep blocks after a rule is put in or taken out.
-use Rattle.std.proofs.Common.{arith, ◌≡◌, ℕ, ◌<◌, ◌≤◌, ◌↔◌, ◌⊎◌, inl, inr, Bool, true, false, refl, ap, sym, ◌∙◌, subst, Some, nat_eq}
-use Rattle.std.specs.Prelude.{◌&&◌, ◌||◌, not, IsSome, IsTrue}
-use Rattle.std.specs.Ordering.{nat_cmp, eq_by_cmp}
+use Rattle.std.proofs.Common.{arith, ◌≡◌, ℕ, ◌<◌, ◌≤◌, ◌⊎◌, inl, inr, Bool, true, false, refl, ap, sym, ◌∙◌, subst, nat_eq}
+use Rattle.std.specs.Prelude.{◌&&◌, ◌||◌, not, IsSome}
+use Rattle.std.specs.Ordering.{nat_cmp}
 use Rattle.std.specs.Cmp.{nat_cmp_total, unsigned_tied}
 use Rattle.std.specs.FinMap as rules
 use Rattle.std.specs.FinSet as set
 use Rattle.std.specs.FinSet.{FinSet, nat_cmp-IsAntisymmetric}
-use Rattle.std.proofs.lemmas.Bool.{cases_eq, cases_lt, cases_Bool, or_cases, or_left, or_right, and_parts, and_from, eq-eqb, eqb-true, not-true, not_from_false, false_from_ne_true}
+use Rattle.std.proofs.lemmas.Bool.{or_cases, or_left, or_right, and_parts, and_from, eq-eqb, eqb-true, not-true, not_from_false, false_from_ne_true}
 use Rattle.lpm_bits.specs.Network.{Network}
 use Rattle.lpm_rules.specs.RuleMap.{RuleMap, network_cmp}
 use Rattle.lpm_rules.specs.Deep.{block_of, IsDeepBlock, deep_blocks, PutBringsBlock, RemoveDropsBlock}
@@ -18,30 +18,30 @@ use Rattle.lpm_rules.proofs.Deep.{has_deep_blocks}
 
 pub deep_insert_cases : (first second : ℕ) (R : RuleMap) (p : Network) (h block : ℕ) → IsDeepBlock first second (rules.insert R p h) block → IsDeepBlock first second R block ⊎ ((first < p.len) × (block_of second p ≡ block))
 deep_insert_cases first second R p h block d = elim (insert_cases R p h d.0) [
-    | inl same ↦ inr (subst (λ (q : Network). first < q.len) same.0 d.2, ap (block_of second) (sym same.0) ∙ d.3)
-    | inr old ↦ inl (d.0, subst IsSome old d.1, d.2, d.3)
-  ]
+  | inl same ↦ inr (subst (λ (q : Network). first < q.len) same.0 d.2, ap (block_of second) (sym same.0) ∙ d.3)
+  | inr old ↦ inl (d.0, subst IsSome old d.1, d.2, d.3)
+]
 
 pub deep_kept : (first second : ℕ) (R : RuleMap) (p : Network) (h block : ℕ) → IsDeepBlock first second R block → IsDeepBlock first second (rules.insert R p h) block
 deep_kept first second R p h block d = elim (insert_cases R p h d.0) [
-    | inl same ↦ (d.0, subst IsSome (sym same.1) refl, d.2, d.3)
-    | inr old ↦ (d.0, subst IsSome (sym old) d.1, d.2, d.3)
-  ]
+  | inl same ↦ (d.0, subst IsSome (sym same.1) refl, d.2, d.3)
+  | inr old ↦ (d.0, subst IsSome (sym old) d.1, d.2, d.3)
+]
 
 pub deep_inserted : (first second : ℕ) (R : RuleMap) (p : Network) (h : ℕ) → first < p.len → IsDeepBlock first second (rules.insert R p h) (block_of second p)
 deep_inserted first second R p h deep = (p, subst IsSome (sym (insert_here R p h)) refl, deep, refl)
 
 pub deep_remains : (first second : ℕ) (R : RuleMap) (p : Network) (block : ℕ) → IsDeepBlock first second (rules.remove R p) block → IsDeepBlock first second R block
 deep_remains first second R p block d = elim (remove_cases R p d.0) [
-    | inl same ↦ absurd (not_some same.1 d.1)
-    | inr old ↦ (d.0, subst IsSome old d.1, d.2, d.3)
-  ]
+  | inl same ↦ absurd (not_some same.1 d.1)
+  | inr old ↦ (d.0, subst IsSome old d.1, d.2, d.3)
+]
 
 pub deep_remove_cases : (first second : ℕ) (R : RuleMap) (p : Network) (block : ℕ) → IsDeepBlock first second R block → IsDeepBlock first second (rules.remove R p) block ⊎ ((first < p.len) × (block_of second p ≡ block))
 deep_remove_cases first second R p block d = elim (remove_cases R p d.0) [
-    | inl same ↦ inr (subst (λ (q : Network). first < q.len) same.0 d.2, ap (block_of second) (sym same.0) ∙ d.3)
-    | inr old ↦ inl (d.0, subst IsSome (sym old) d.1, d.2, d.3)
-  ]
+  | inl same ↦ inr (subst (λ (q : Network). first < q.len) same.0 d.2, ap (block_of second) (sym same.0) ∙ d.3)
+  | inr old ↦ inl (d.0, subst IsSome (sym old) d.1, d.2, d.3)
+]
 
 -- ---- the set
 
@@ -101,16 +101,16 @@ module _ (first second : ℕ) (R : RuleMap) (p : Network) where
   pub deep_blocks_remove_last : (¬ (IsDeepBlock first second (rules.remove R p) (block_of second p))) → deep_blocks first second (rules.remove R p) ≡ set.remove (deep_blocks first second R) (block_of second p)
   deep_blocks_remove_last gone = same_blocks _ _
       (λ i e.
-        let d = (has_deep_blocks first second (rules.remove R p) i).0 e in
-        in_remove (deep_blocks first second R) (block_of second p) i
-        ∙ and_from _ _ (not_from_false _ (eqb_apart i (block_of second p) (λ same. gone (subst (IsDeepBlock first second (rules.remove R p)) same d))))
-            ((has_deep_blocks first second R i).1 (deep_remains first second R p i d)))
+      let d = (has_deep_blocks first second (rules.remove R p) i).0 e in
+      in_remove (deep_blocks first second R) (block_of second p) i
+      ∙ and_from _ _ (not_from_false _ (eqb_apart i (block_of second p) (λ same. gone (subst (IsDeepBlock first second (rules.remove R p)) same d))))
+      ((has_deep_blocks first second R i).1 (deep_remains first second R p i d)))
       (λ i e.
-        let parts = and_parts _ _ (sym (in_remove (deep_blocks first second R) (block_of second p) i) ∙ e) in
-        (has_deep_blocks first second (rules.remove R p) i).1 (elim (deep_remove_cases first second R p i ((has_deep_blocks first second R i).0 parts.1)) [
-          | inl old ↦ old
-          | inr here ↦ let off = not-true (nat_eq i (block_of second p)) parts.0 in let on = eq-eqb i (block_of second p) (sym here.1) in cc
-        ]))
+      let parts = and_parts _ _ (sym (in_remove (deep_blocks first second R) (block_of second p) i) ∙ e) in
+      (has_deep_blocks first second (rules.remove R p) i).1 (elim (deep_remove_cases first second R p i ((has_deep_blocks first second R i).0 parts.1)) [
+        | inl old ↦ old
+        | inr here ↦ let off = not-true (nat_eq i (block_of second p)) parts.0 in let on = eq-eqb i (block_of second p) (sym here.1) in cc
+      ]))
 
 pub deep_blocks_empty : (first second : ℕ) → deep_blocks first second rules.empty ≡ set.empty
 deep_blocks_empty first second = same_blocks _ _

@@ -1,14 +1,11 @@
-use Rattle.std.proofs.Common.{arith, ◌≡◌, ℕ, ◌+◌, ◌-◌, ◌*◌, ◌/◌, ◌%◌, ◌^◌, ◌<◌, ◌≤◌, ◌⊎◌, inl, inr, cond, refl, ap, sym, ◌∙◌, subst, Option, Some, None, true, false}
+use Rattle.std.proofs.Common.{arith, ◌≡◌, ℕ, ◌+◌, ◌-◌, ◌*◌, ◌/◌, ◌^◌, ◌<◌, ◌≤◌, inl, inr, refl, ap, sym, ◌∙◌, subst, Some, None}
 use Rattle.std.specs.Prelude.{IsSome}
-use Rattle.std.specs.Ordering.{eq_by_cmp, is_eq}
-use Rattle.std.specs.declared.cmp.Ordering.{Ordering}
-use Rattle.std.specs.declared.cmp.Ordering.TheVariants.{Less, Equal, Greater}
-use Rattle.std.specs.FinMap.{get, insert, get-insert, empty, get-empty}
+use Rattle.std.specs.FinMap.{get}
 use Rattle.std.proofs.lemmas.Bool.{cases_eq}
-use Rattle.std.proofs.lemmas.Nat.{shl-shr, shl_whole, shr_le}
+use Rattle.std.proofs.lemmas.Nat.{shl-shr}
 use Rattle.lpm_bits.specs.Network.{Network, Covers, IsNetwork, masked}
-use Rattle.lpm_rules.specs.RuleMap.{RuleMap, network_cmp, AllNetworks}
-use Rattle.lpm_rules.specs.Longest.{IsLongest, IsLongestHop, IsCover, IsCoverRule, HasOneLongestHop, HasOneCover}
+use Rattle.lpm_rules.specs.RuleMap.{RuleMap, AllNetworks}
+use Rattle.lpm_rules.specs.Longest.{IsLongestHop, IsCoverRule, HasOneLongestHop, HasOneCover}
 use Rattle.lpm_rules.proofs.Changes.{not_some}
 
 pair_eq : (a b c d : ℕ) → a ≡ c → b ≡ d → ◌≡◌ {A = ℕ × ℕ} (a, b) (c, d)
@@ -43,11 +40,14 @@ shorter width a host R nets l none old q some cov =
 -- a rule of that length covers the address, and is the longest
 pub found : (width a host : ℕ) (R : RuleMap) (h : ℕ) → host ≤ width → get R (record { bits = masked width (width - host) a; len = width - host }) ≡ Some h
     → ((q : Network) → IsSome (get R q) → Covers width q a → q.len + host ≤ width) → IsLongestHop width R a (Some h)
-found width a host R h l some old =
-    (record { bits = masked width (width - host) a; len = width - host }, some, record {
-      covers = covers_masked width (width - host) a;
-      longest = λ q s c. let z = old q s c in omega (arith, z);
-    })
+found width a host R h l some old = (
+  record { bits = masked width (width - host) a; len = width - host },
+  some,
+  record {
+    covers = covers_masked width (width - host) a;
+    longest = λ q s c. let z = old q s c in omega (arith, z);
+  },
+)
 
 hop_of : (R : RuleMap) (p q : Network) (x y : ℕ) → p ≡ q → get R p ≡ Some x → get R q ≡ Some y → x ≡ y
 hop_of R p q x y e gx gy =

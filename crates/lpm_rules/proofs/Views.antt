@@ -1,5 +1,5 @@
-use Rattle.std.proofs.Common.{arith, ◌≡◌, ◌≢◌, ℕ, suc, zero, ◌+◌, ◌<◌, ◌≤◌, ◌⊎◌, inl, inr, Bool, true, false, cond, length, get_or, refl, ap, sym, ◌∙◌, subst, List, [], ◌∷◌, ◌++◌, Option, Some, None}
-use Rattle.std.specs.Prelude.{map, slice_set, slice_index_or, nat_eq, ◌&&◌}
+use Rattle.std.proofs.Common.{arith, ◌≡◌, ◌≢◌, ℕ, suc, zero, ◌+◌, ◌<◌, ◌≤◌, inl, inr, Bool, true, false, cond, length, get_or, refl, ap, sym, ◌∙◌, subst, List, [], ◌∷◌, ◌++◌, Option, Some, None}
+use Rattle.std.specs.Prelude.{slice_set, nat_eq, ◌&&◌}
 use Rattle.std.specs.declared.cmp.Ordering.{Ordering}
 use Rattle.std.specs.declared.cmp.Ordering.TheVariants.{Less, Equal, Greater}
 use Rattle.std.specs.Ordering.{nat_cmp, ordering_then, eq_by_cmp, is_eq}
@@ -14,7 +14,7 @@ use Rattle.std.proofs.lemmas.Bool.{cases_eq, cases_lt, eqb-true, eq-eqb}
 use Rattle.std.proofs.Math.ListN.{length-set}
 use Rattle.std.proofs.lemmas.List.{get_or-set_same, get_or-set_other}
 use Rattle.lpm_bits.specs.Network.{Network}
-use Rattle.lpm_rules.specs.RuleMap.{RuleMap, network_cmp}
+use Rattle.lpm_rules.specs.RuleMap.{network_cmp}
 use Rattle.lpm_rules.specs.View.{of_length, rules_from, rules_of}
 
 pub networks_total : IsTotalOrder network_cmp
@@ -140,17 +140,17 @@ set_rules ms p v m d h is = same_map networks_total exact_networks _ _ (λ q.
           ∙ ap (λ x. tree.get nat_cmp x q.bits) (get_or-set_same ms p.len m d h)
           ∙ is q.bits
           ∙ ap (λ t. cond t (Some v) (tree.get nat_cmp (get_or ms p.len d) q.bits))
-              (sym (same_len p.bits q.bits p.len) ∙ ap (λ x. eq_by_cmp network_cmp p (at_network q.bits x)) (sym e) ∙ (eq_by_cmp_equiv networks_total).symm p q)
+          (sym (same_len p.bits q.bits p.len) ∙ ap (λ x. eq_by_cmp network_cmp p (at_network q.bits x)) (sym e) ∙ (eq_by_cmp_equiv networks_total).symm p q)
           ∙ ap (λ x. cond (eq_by_cmp network_cmp q p) (Some v) (tree.get nat_cmp (get_or ms x d) q.bits)) (sym e)
           ∙ ap (cond (eq_by_cmp network_cmp q p) (Some v)) (sym (get_rules ms q d h2))
           ∙ sym (get-insert networks_total (rules_of ms) p v q)
       | inr ne ↦
           let apart = other_len q p.bits p.len ne in
           let same : get (rules_of (slice_set ms p.len m)) q ≡ get (rules_of ms) q =
-            elim (cases_lt q.len (length ms)) [
-              | inl below ↦ get_rules (slice_set ms p.len m) q d (omega (arith, n, below)) ∙ ap (λ x. tree.get nat_cmp x q.bits) (get_or-set_other ms p.len q.len m d ne) ∙ sym (get_rules ms q d below)
-              | inr past ↦ get_past (slice_set ms p.len m) q (omega (arith, n, past)) ∙ sym (get_past ms q past)
-            ] in
+          elim (cases_lt q.len (length ms)) [
+            | inl below ↦ get_rules (slice_set ms p.len m) q d (omega (arith, n, below)) ∙ ap (λ x. tree.get nat_cmp x q.bits) (get_or-set_other ms p.len q.len m d ne) ∙ sym (get_rules ms q d below)
+            | inr past ↦ get_past (slice_set ms p.len m) q (omega (arith, n, past)) ∙ sym (get_past ms q past)
+          ] in
           same ∙ sym (ap (λ t. cond t (Some v) (get (rules_of ms) q)) apart) ∙ sym (get-insert networks_total (rules_of ms) p v q)
     ])
 
@@ -164,7 +164,7 @@ pub set_at : (ms : List (BTreeMap ℕ ℕ)) (p : Network) (b l v : ℕ) (m d : B
     → rules_of (slice_set ms l m) ≡ insert (rules_of ms) p v
 set_at ms p b l v m d eb el h is =
     ap (λ x. rules_of (slice_set ms x m)) el ∙ set_rules ms p v m d (omega (arith, el, h)) (λ q.
-      is q ∙ ap (λ x. cond (is_at (nat_cmp x) q) (Some v) (tree.get nat_cmp (get_or ms l d) q)) eb ∙ ap (λ x. cond (is_at (nat_cmp p.bits) q) (Some v) (tree.get nat_cmp (get_or ms x d) q)) el)
+    is q ∙ ap (λ x. cond (is_at (nat_cmp x) q) (Some v) (tree.get nat_cmp (get_or ms l d) q)) eb ∙ ap (λ x. cond (is_at (nat_cmp p.bits) q) (Some v) (tree.get nat_cmp (get_or ms x d) q)) el)
 
 -- one map loses one key
 pub unset_rules : (ms : List (BTreeMap ℕ ℕ)) (p : Network) (m d : BTreeMap ℕ ℕ) → p.len < length ms
@@ -180,17 +180,17 @@ unset_rules ms p m d h is = same_map networks_total exact_networks _ _ (λ q.
           ∙ ap (λ x. tree.get nat_cmp x q.bits) (get_or-set_same ms p.len m d h)
           ∙ is q.bits
           ∙ ap (λ t. cond t None (tree.get nat_cmp (get_or ms p.len d) q.bits))
-              (sym (same_len p.bits q.bits p.len) ∙ ap (λ x. eq_by_cmp network_cmp p (at_network q.bits x)) (sym e) ∙ (eq_by_cmp_equiv networks_total).symm p q)
+          (sym (same_len p.bits q.bits p.len) ∙ ap (λ x. eq_by_cmp network_cmp p (at_network q.bits x)) (sym e) ∙ (eq_by_cmp_equiv networks_total).symm p q)
           ∙ ap (λ x. cond (eq_by_cmp network_cmp q p) None (tree.get nat_cmp (get_or ms x d) q.bits)) (sym e)
           ∙ ap (cond (eq_by_cmp network_cmp q p) None) (sym (get_rules ms q d h2))
           ∙ sym (get-remove networks_total (rules_of ms) p q)
       | inr ne ↦
           let apart = other_len q p.bits p.len ne in
           let same : get (rules_of (slice_set ms p.len m)) q ≡ get (rules_of ms) q =
-            elim (cases_lt q.len (length ms)) [
-              | inl below ↦ get_rules (slice_set ms p.len m) q d (omega (arith, n, below)) ∙ ap (λ x. tree.get nat_cmp x q.bits) (get_or-set_other ms p.len q.len m d ne) ∙ sym (get_rules ms q d below)
-              | inr past ↦ get_past (slice_set ms p.len m) q (omega (arith, n, past)) ∙ sym (get_past ms q past)
-            ] in
+          elim (cases_lt q.len (length ms)) [
+            | inl below ↦ get_rules (slice_set ms p.len m) q d (omega (arith, n, below)) ∙ ap (λ x. tree.get nat_cmp x q.bits) (get_or-set_other ms p.len q.len m d ne) ∙ sym (get_rules ms q d below)
+            | inr past ↦ get_past (slice_set ms p.len m) q (omega (arith, n, past)) ∙ sym (get_past ms q past)
+          ] in
           same ∙ sym (ap (λ t. cond t None (get (rules_of ms) q)) apart) ∙ sym (get-remove networks_total (rules_of ms) p q)
     ])
 
@@ -199,7 +199,7 @@ pub unset_at : (ms : List (BTreeMap ℕ ℕ)) (p : Network) (b l : ℕ) (m d : B
     → rules_of (slice_set ms l m) ≡ remove (rules_of ms) p
 unset_at ms p b l m d eb el h is =
     ap (λ x. rules_of (slice_set ms x m)) el ∙ unset_rules ms p m d (omega (arith, el, h)) (λ q.
-      is q ∙ ap (λ x. cond (is_at (nat_cmp x) q) None (tree.get nat_cmp (get_or ms l d) q)) eb ∙ ap (λ x. cond (is_at (nat_cmp p.bits) q) None (tree.get nat_cmp (get_or ms x d) q)) el)
+    is q ∙ ap (λ x. cond (is_at (nat_cmp x) q) None (tree.get nat_cmp (get_or ms l d) q)) eb ∙ ap (λ x. cond (is_at (nat_cmp p.bits) q) None (tree.get nat_cmp (get_or ms x d) q)) el)
 
 -- a map with the same entries
 keep_from : (l k : ℕ) (ms : List (BTreeMap ℕ ℕ)) (m d : BTreeMap ℕ ℕ) → k < length ms → m.entries ≡ (get_or ms k d).entries → rules_from l (slice_set ms k m) ≡ rules_from l ms

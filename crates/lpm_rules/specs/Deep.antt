@@ -1,7 +1,7 @@
 -- The blocks that need a group: those in which a rule longer than the first table's index lies
 -- (Gupta, Lin and McKeown, INFOCOM 1998, section 3: a group of second words stands behind each first
 -- word whose block has a prefix longer than 24 bits).
-use Rattle.std.specs.Prelude.{ℕ, ◌≡◌, ◌/◌, ◌^◌, ◌<◌, ◌≤◌, ◌↔◌, Option, Some, None, Bool, ◌&&◌, IsSome, IsTrue, nat_lt, nat_eq, map, filter, count_by}
+use Rattle.std.specs.Prelude.{ℕ, ◌≡◌, ◌/◌, ◌^◌, ◌<◌, ◌≤◌, ◌↔◌, Option, Some, None, ◌&&◌, IsSome, IsTrue, nat_lt, nat_eq, map, filter, count_by}
 use Rattle.std.specs.FinMap as rules
 use Rattle.std.specs.FinSet as set
 use Rattle.std.specs.Ordering.{nat_cmp}
@@ -35,19 +35,23 @@ deep_blocks first second R = set.from_list (map (block_of second) (filter (λ p.
 
 -- the set of deep blocks has exactly them
 abbrev pub HasDeepBlocks : Type 0
-HasDeepBlocks = (first second : ℕ) (R : RuleMap) (block : ℕ) → IsTrue (set.contains (deep_blocks first second R) block) ↔ IsDeepBlock first second R block
+HasDeepBlocks = (first second : ℕ) (R : RuleMap) (block : ℕ)
+    → IsTrue (set.contains (deep_blocks first second R) block) ↔ IsDeepBlock first second R block
 
 -- a new or replaced rule brings its block where it is longer than `first`, and else none
 abbrev pub PutBringsBlock : Type 0
 PutBringsBlock = (first second : ℕ) (R : RuleMap) (p : Network) (h : ℕ)
-    → (first < p.len → deep_blocks first second (rules.insert R p h) ≡ set.insert (deep_blocks first second R) (block_of second p))
+    → (first < p.len
+    → deep_blocks first second (rules.insert R p h) ≡ set.insert (deep_blocks first second R) (block_of second p))
     × (p.len ≤ first → deep_blocks first second (rules.insert R p h) ≡ deep_blocks first second R)
 
 -- a removed rule takes its block along where no other rule longer than `first` lies in it, and else none
 abbrev pub RemoveDropsBlock : Type 0
 RemoveDropsBlock = (first second : ℕ) (R : RuleMap) (p : Network)
-    → ((¬ (IsDeepBlock first second (rules.remove R p) (block_of second p))) → deep_blocks first second (rules.remove R p) ≡ set.remove (deep_blocks first second R) (block_of second p))
-    × (IsDeepBlock first second (rules.remove R p) (block_of second p) → deep_blocks first second (rules.remove R p) ≡ deep_blocks first second R)
+    → ((¬ (IsDeepBlock first second (rules.remove R p) (block_of second p)))
+    → deep_blocks first second (rules.remove R p) ≡ set.remove (deep_blocks first second R) (block_of second p))
+    × (IsDeepBlock first second (rules.remove R p) (block_of second p)
+    → deep_blocks first second (rules.remove R p) ≡ deep_blocks first second R)
     × (p.len ≤ first → deep_blocks first second (rules.remove R p) ≡ deep_blocks first second R)
 
 -- no rules, no deep blocks

@@ -34,8 +34,10 @@ IsCover width R p (Some c) = IsCoverRule width R p c.0 c.1
 
 -- an address has one longest hop in a rule list
 abbrev pub HasOneLongestHop : Type 0
-HasOneLongestHop = (width : ℕ) (R : RuleMap) (a : ℕ) (x y : Option ℕ) → AllNetworks width R → IsLongestHop width R a x → IsLongestHop width R a y → x ≡ y
+HasOneLongestHop = (width : ℕ) (R : RuleMap) (a : ℕ) (x y : Option ℕ)
+    → AllNetworks width R → IsLongestHop width R a x → IsLongestHop width R a y → x ≡ y
 
 -- a prefix has one cover in a rule list
 abbrev pub HasOneCover : Type 0
-HasOneCover = (width : ℕ) (R : RuleMap) (p : Network) (x y : Option (Network × ℕ)) → AllNetworks width R → IsCover width R p x → IsCover width R p y → x ≡ y
+HasOneCover = (width : ℕ) (R : RuleMap) (p : Network) (x y : Option (Network × ℕ))
+    → AllNetworks width R → IsCover width R p x → IsCover width R p y → x ≡ y

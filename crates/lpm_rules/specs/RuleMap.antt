@@ -1,6 +1,6 @@
 -- A rule list as a finite map from prefixes to next hops (DPDK Programmer's Guide, "LPM Library":
 -- a rule has an address, a depth and a next hop, and no two rules have the same address and depth).
-use Rattle.std.specs.Prelude.{ℕ, ◌≡◌, Option, Some, None, IsSome, refl}
+use Rattle.std.specs.Prelude.{ℕ, ◌≡◌, Some, None, IsSome, refl}
 use Rattle.std.specs.declared.cmp.Ordering.{Ordering}
 use Rattle.std.specs.Ordering.{nat_cmp, ordering_then}
 use Rattle.std.specs.FinMap.{FinMap, get, insert, remove}
@@ -13,7 +13,8 @@ abbrev pub network_cmp : Network → Network → Ordering
 network_cmp p q = ordering_then (nat_cmp p.bits q.bits) (nat_cmp p.len q.len)
 
 abbrev pub coded_network : Coded Network
-coded_network = code_by (ℕ × ℕ) (coded× coded_ℕ coded_ℕ) (λ p. (p.bits, p.len)) (λ p. record { bits = p.0; len = p.1 }) (λ _. refl)
+coded_network =
+    code_by (ℕ × ℕ) (coded× coded_ℕ coded_ℕ) (λ p. (p.bits, p.len)) (λ p. record { bits = p.0; len = p.1 }) (λ _. refl)
 
 -- the rules: a finite map from prefixes to next hops
 abbrev pub RuleMap : Type 0
@@ -25,7 +26,9 @@ pub record RuleList : Type 0 where
   pub max : ℕ
 
 abbrev pub coded_rule_list : Coded RuleList
-coded_rule_list = code_by (RuleMap × ℕ) (coded× (map.code coded_network coded_ℕ) coded_ℕ) (λ l. (l.rules, l.max)) (λ p. record { rules = p.0; max = p.1 }) (λ _. refl)
+coded_rule_list =
+    code_by (RuleMap × ℕ) (coded× (map.code coded_network coded_ℕ) coded_ℕ)
+    (λ l. (l.rules, l.max)) (λ p. record { rules = p.0; max = p.1 }) (λ _. refl)
 
 -- each prefix of the list is one of addresses of `width` bits, with its host bits cleared
 abbrev pub AllNetworks : ℕ → RuleMap → Type 0

@@ -7,47 +7,39 @@ ghost use Rattle.lpm_rules.specs.RuleMap.{PutUndoesRemove, RemoveUndoesPut};
 /// An address has one longest matching next hop.
 pub fn one_longest_hop()
     ensures { HasOneLongestHop }
-{
-}
+{}
 
 /// A prefix has one longest shorter rule that covers it.
 pub fn one_cover()
     ensures { HasOneCover }
-{
-}
+{}
 
 /// To remove a rule that was put in new gives the list that was.
 pub fn remove_undoes_put()
     ensures { RemoveUndoesPut }
-{
-}
+{}
 
 /// To put back a rule that was removed gives the list that was.
 pub fn put_undoes_remove()
     ensures { PutUndoesRemove }
-{
-}
+{}
 
 /// The set of deep blocks has exactly the blocks that hold a rule longer than `FIRST`.
 pub fn set_of_deep_blocks()
     ensures { HasDeepBlocks }
-{
-}
+{}
 
 /// Which blocks hold a rule longer than `FIRST` after a rule was put in.
 pub fn put_brings_block()
     ensures { PutBringsBlock }
-{
-}
+{}
 
 /// Which blocks hold a rule longer than `FIRST` after a rule was removed.
 pub fn remove_drops_block()
     ensures { RemoveDropsBlock }
-{
-}
+{}
 
 /// An empty list has no block with a rule longer than `FIRST`.
 pub fn empty_has_no_block()
     ensures { EmptyHasNoBlock }
-{
-}
+{}

@@ -17,11 +17,10 @@ pub mod laws;
 
 use lpm_bits::{Hop, Prefix};
 use std::alloc::{AllocError, Global};
-use std::array;
 use std::collections::BTreeMap;
 use std::error::Error;
-use std::fmt;
 use std::marker::Model;
+use std::{array, fmt};
 
 /// A rule: the addresses of the prefix go to the next hop, unless a longer rule covers them.
 #[derive(Clone, Copy, Debug, PartialEq, Eq)]
@@ -130,9 +129,11 @@ impl<const FIRST: u32, const SECOND: u32> Rules<FIRST, SECOND> {
         ensures { result ≡ record { rules = map.empty; max = max } }
     {
         Rules {
-            lengths: array::from_fn(|_len: usize| -> BTreeMap<u32, Hop>
-                ensures { result.entries ≡ [] }
-            { BTreeMap::new(alloc) }),
+            lengths: array::from_fn(
+                |_len: usize| -> BTreeMap<u32, Hop>
+                    ensures { result.entries ≡ [] }
+                { BTreeMap::new(alloc) },
+            ),
             count: 0,
             max,
         }

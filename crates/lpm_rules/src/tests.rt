@@ -6,6 +6,7 @@ use std::process::Abort;
 use std::test::Fail;
 
 type Small = Rules<4, 4>;
+
 type SmallPrefix = Prefix<4, 4>;
 
 // A rule of a small table as plain numbers.
@@ -78,7 +79,11 @@ fn assert_same(rt: &impl Abort, rules: &Small, plain: &[Plain]) -> Result<(), Ba
                 len: rule.prefix.len(),
                 hop: rule.hop.number(),
             });
-            assert_eq!(rt; cover, plain_longest(plain, len, prefix.bits()), "cover of {addr}/{len}");
+            assert_eq!(rt;
+                cover,
+                plain_longest(plain, len, prefix.bits()),
+                "cover of {addr}/{len}"
+            );
         }
     }
     let mut blocks = 0usize;
@@ -132,7 +137,11 @@ fn plain_search_agrees(rt: HostRuntime) -> Result<(), Fail> {
     for i in 0..40u32 {
         let prefix = some_prefix(i)?;
         let removed = rules.remove(&prefix).map(|hop| hop.number());
-        assert_eq!(rt; removed, plain_get(&plain, &prefix).ok_or(NoSuchRule), "remove {i}");
+        assert_eq!(rt;
+            removed,
+            plain_get(&plain, &prefix).ok_or(NoSuchRule),
+            "remove {i}"
+        );
         plain.retain(|rule| !is_of(rule, &prefix));
         if i % 6 == 5 {
             assert_same(&rt, &rules, &plain)?;
@@ -188,7 +197,11 @@ fn short_prefixes(rt: HostRuntime) -> Result<(), Fail> {
 #[test]
 fn top_bit(rt: HostRuntime) -> Result<(), Fail> {
     let rules = list_of(rt.alloc(), &[(0x8000_0000, 1, 7)])?;
-    let hops = [(0x7fff_ffff, None), (0x8000_0000, Some(7)), (0xffff_ffff, Some(7))];
+    let hops = [
+        (0x7fff_ffff, None),
+        (0x8000_0000, Some(7)),
+        (0xffff_ffff, Some(7)),
+    ];
     assert_hops(&rt, &rules, &hops);
     Ok(())
 }
@@ -204,7 +217,11 @@ fn default_route(rt: HostRuntime) -> Result<(), Fail> {
 #[test]
 fn last_address(rt: HostRuntime) -> Result<(), Fail> {
     let rules = list_of(rt.alloc(), &[(0xffff_ffff, 32, 16_777_215)])?;
-    assert_hops(&rt, &rules, &[(0xffff_fffe, None), (0xffff_ffff, Some(16_777_215))]);
+    assert_hops(
+        &rt,
+        &rules,
+        &[(0xffff_fffe, None), (0xffff_ffff, Some(16_777_215))],
+    );
     assert_eq!(rt; rules.of_length(32).len(), 1);
     assert_eq!(rt; rules.deep_in(0xff_ffff), 1);
     assert_eq!(rt; rules.deep_blocks(), 1);
@@ -231,8 +248,17 @@ fn one_rule(rt: HostRuntime) -> Result<(), Fail> {
 #[test]
 fn texts_of_the_faults(rt: HostRuntime) -> Result<(), Fail> {
     let alloc = rt.alloc();
-    assert_eq!(rt; format!(in alloc; "{}", RuleFault::TooManyRules)?.as_str(), "too many rules");
-    assert_eq!(rt; format!(in alloc; "{}", RuleFault::Memory)?.as_str(), "out of memory");
-    assert_eq!(rt; format!(in alloc; "{}", NoSuchRule)?.as_str(), "no such rule");
+    assert_eq!(rt;
+        format!(in alloc; "{}", RuleFault::TooManyRules)?.as_str(),
+        "too many rules"
+    );
+    assert_eq!(rt;
+        format!(in alloc; "{}", RuleFault::Memory)?.as_str(),
+        "out of memory"
+    );
+    assert_eq!(rt;
+        format!(in alloc; "{}", NoSuchRule)?.as_str(),
+        "no such rule"
+    );
     Ok(())
 }

@@ -1,12 +1,14 @@
 -- A change of the words, by what it does to the range of a rule, and how far it has come.
-use Rattle.std.specs.Prelude.{ℕ, Bool, true, false, ◌≡◌, ◌≢◌, ◌+◌, ◌-◌, ◌*◌, ◌^◌, ◌≤◌, ◌<◌, ◌==◌, ◌&&◌, nat_le, nat_lt, if◌then◌else◌, List, slice_index, Option, Some, None}
+use Rattle.std.specs.Prelude.{ℕ, Bool, true, false, ◌≡◌, ◌≢◌, ◌+◌, ◌-◌, ◌*◌, ◌/◌, ◌%◌, ◌⊎◌, ◌^◌, ◌≤◌, ◌<◌, ◌==◌, ◌&&◌, nat_le, nat_lt, if◌then◌else◌, List, slice_index, Option, Some, None}
 use Rattle.lpm_entry.specs.declared.Entry.{Entry}
+use Rattle.lpm_entry.specs.declared.Entry.TheVariants.{Group}
+use Rattle.lpm_entry.specs.Words.{entry_in}
 use Rattle.lpm_update.specs.declared.rewrite.Rewrite.{Rewrite}
 use Rattle.lpm_update.specs.declared.update.Update.{Update}
 use Rattle.lpm_update.specs.declared.update.Update.TheVariants.{Sweep, Fill, Collapse, Flush}
 use Rattle.lpm_update.specs.Rewrite.{Stands, Skips}
 use Rattle.lpm_update.specs.Linked.{group_at}
-use Rattle.lpm_update.specs.Sweep.{IsSweeping, NextFirst, NextSecond}
+use Rattle.lpm_update.specs.Sweep.{IsSweeping, IsFurther, NextFirst, NextSecond}
 use Rattle.lpm_update.specs.Fill.{IsFilling, IsFillStore, IsLinkStore, reached, final_entry}
 use Rattle.lpm_update.specs.Collapse.{IsCollapsing, IsUnlinkStore}
 use Rattle.lpm_update.specs.Flush.{flushed, NextFlush}
@@ -132,3 +134,25 @@ places_left first second (Sweep u) = u.end - u.at
 places_left first second (Fill u) = 2 ^ second + 1 - u.next
 places_left first second (Collapse u) = (u.sweep.end - u.sweep.at) + (if u.unlinked then 0 else 1)
 places_left first second (Flush u) = 2 ^ first - u.next
+
+-- v is u, further on: a change of the same kind, whose own order of words never turns back
+abbrev pub IsOnward : Update → Update → Type 0
+IsOnward (Sweep u) (Sweep v) = IsFurther u v
+IsOnward (Fill u) (Fill v) = (v ≡ record u { next = v.next }) × (u.next ≤ v.next)
+IsOnward (Collapse u) (Collapse v) = IsFurther u.sweep v.sweep × (v.block ≡ u.block) × (u.unlinked ≡ true → v.unlinked ≡ true)
+IsOnward (Flush u) (Flush v) = u.next ≤ v.next
+IsOnward u v = ⊥
+
+-- the change has passed place i of the first table, by its own order
+abbrev pub HasPassedFirst : ℕ → Update → ℕ → Type 0
+HasPassedFirst second (Sweep u) i = i * 2 ^ second < u.at
+HasPassedFirst second (Fill u) i = 2 ^ second < u.next
+HasPassedFirst second (Collapse u) i = (i * 2 ^ second < u.sweep.at) ⊎ (u.unlinked ≡ true)
+HasPassedFirst second (Flush u) i = i < u.next
+
+-- the change has passed place j of the second table, that of an address before where it has come
+abbrev pub HasPassedSecond : ℕ → Update → List ℕ → ℕ → Type 0
+HasPassedSecond second (Sweep u) firsts j = (g : ℕ) × (x : ℕ) × (x < u.at) × (entry_in (slice_index firsts (x / 2 ^ second)) ≡ Group g) × (j ≡ g * 2 ^ second + x % 2 ^ second)
+HasPassedSecond second (Fill u) firsts j = j < u.group * 2 ^ second + u.next
+HasPassedSecond second (Collapse u) firsts j = (g : ℕ) × (x : ℕ) × (x < u.sweep.at) × (entry_in (slice_index firsts (x / 2 ^ second)) ≡ Group g) × (j ≡ g * 2 ^ second + x % 2 ^ second)
+HasPassedSecond second (Flush u) firsts j = ⊥

@@ -8,6 +8,8 @@ mod rewrite;
 mod running;
 mod sweep;
 mod table;
+#[cfg(test)]
+mod tests;
 mod update;
 
 pub use collapse::Collapse;

@@ -30,7 +30,7 @@ impl Update {
     ghost use Rattle.lpm_update.specs.Leads.{IsAnswering, IsBegun, Leads, AddFits, LastFits, held_with};
     ghost use Rattle.lpm_update.specs.Linked.{IsTable, IsSetFirst, IsSetSecond, group_at};
     ghost use Rattle.lpm_update.specs.Sweep.{MatchDid};
-    ghost use Rattle.lpm_update.specs.Update.{IsUnderWay, StandsSoFar, HasGroups, IsSameChange, IsOver, IsNextFirst, IsNextSecond, IsNextUnlink, SameGroups, GivesUp, group_held, places_left};
+    ghost use Rattle.lpm_update.specs.Update.{IsUnderWay, StandsSoFar, HasGroups, IsSameChange, IsOver, IsNextFirst, IsNextSecond, IsNextUnlink, SameGroups, GivesUp, IsOnward, HasPassedFirst, HasPassedSecond, group_held, places_left};
 
     /// The addition of a rule, or its replacement, by a free group where the rule is longer than a first
     /// index and its block has none.
@@ -96,7 +96,15 @@ impl Update {
         requires allows_first { (i w : ℕ) → IsNextFirst FIRST SECOND self.old (C.firsts cells.old) (C.seconds cells.old) i w → C.may_set_first cells.old i w }
         requires allows_second { (j w : ℕ) → IsNextSecond SECOND self.old (C.firsts cells.old) (C.seconds cells.old) j w → C.may_set_second cells.old j w }
         requires allows_unlink { (b g w : ℕ) → IsNextUnlink FIRST SECOND self.old (C.firsts cells.old) (C.seconds cells.old) b g w → C.may_set_first cells.old b w }
-        // The change goes on.
+        // The change goes on, past the word that it stored, and never back: it stores no word twice.
+        ensures onward { IsOnward self.old self.new }
+        ensures passed {
+            MatchDid result
+              (λ i. HasPassedFirst SECOND self.new i)
+              (λ j. HasPassedSecond SECOND self.new (C.firsts cells.new) j)
+              (λ b g. HasPassedFirst SECOND self.new b)
+              (Unit {0})
+        }
         ensures same { IsSameChange (FIRST + SECOND) self.old self.new }
         ensures table { IsTable FIRST SECOND (C.firsts cells.new) (C.seconds cells.new) }
         ensures under_way { IsUnderWay FIRST SECOND self.new (C.firsts cells.new) (C.seconds cells.new) }

@@ -9,7 +9,7 @@ use lpm_bits::{Hop, Prefix};
 use memchr::memchr;
 
 /// The greatest length of a prefix in a route file; a longer one is a fault of kind `Length`.
-pub const LONGEST: u32 = 24;
+pub const LONGEST: u32 = 32;
 
 /// The greatest hop.
 pub(crate) const LAST_HOP: u32 = 16_777_215;

@@ -1,4 +1,4 @@
-use Rattle.std.proofs.Common.{arith, ap, ◌∙◌, length}
+use Rattle.std.proofs.Common.{arith, ap, ◌∙◌}
 use Rattle.std.proofs.Math.ListN.{length-set}
 use Rattle.std.specs.FinMap as map
 use Rattle.lpm_rules.specs.RuleMap.{RuleList}
@@ -11,15 +11,16 @@ loop-length-init g c = (c.self.invariant.lengths, λ i d h. absurd (omega (arith
 
 pub loop-length-preserved : goal.loop-length-preserved
 loop-length-preserved g c =
-    let long = c.loop-length.invariant.0 in
-    (length-set _ _ _ ∙ c.loop-length.invariant.0,
-     emptied_more c.loop-length.length-items c.loop-length.length-index c.clear.new.self (omega (arith, long)) c.clear.ensures.empty c.loop-length.invariant.1)
+    let long = c.loop-length.invariant.0 in (
+      length-set c.loop-length.length-items c.loop-length.length-index c.clear.new.self ∙ long,
+      emptied_more c.loop-length.length-items c.loop-length.length-index c.clear.new.self (omega (arith, long)) c.clear.ensures.empty c.loop-length.invariant.1,
+    )
 
 pub invariant_of-self : goal.invariant_of-self
 invariant_of-self g c =
     let long = c.loop-length.invariant.0 in
     sound_empty g.row.FIRST g.row.SECOND c.loop-length.length-items c.self.invariant.shape long
-      (λ i d h. c.loop-length.invariant.1 i d (omega (arith, h, long)))
+    (λ i d h. c.loop-length.invariant.1 i d (omega (arith, h, long)))
 
 pub returns-clause-empty : goal.returns-clause-empty
 returns-clause-empty g c =

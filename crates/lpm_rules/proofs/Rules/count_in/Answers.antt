@@ -5,7 +5,6 @@ use Rattle.std.specs.Ordering.{nat_cmp}
 use Rattle.std.specs.declared.ops.Bound.TheVariants.{Included}
 use Rattle.std.specs.BTreeMap.Range.{range_contains, entries_between}
 use Rattle.std.proofs.lemmas.Nat.{pow_pos, one_shl, shl_whole}
-use Rattle.lpm_bits.specs.Network.{Network}
 use Rattle.lpm_rules.proofs.Blocks.{block_end, range_of_block}
 use Rattle.lpm_rules.proofs.Counts.{count_of_length, count_same}
 use Rattle.lpm_rules.proofs.Rules.count_in.Goals as goal
@@ -38,6 +37,6 @@ returns g c =
     found
     ∙ count_of_length R m len (λ b. range_contains nat_cmp (Included first) (Included (first + (size - 1))) b) c.range.ensures.ordered c.of_length-length.ensures
     ∙ count_same (λ p. nat_eq p.len len && range_contains nat_cmp (Included first) (Included (first + (size - 1))) p.bits) _ (map.keys R) (λ p _.
-        ap (λ f. nat_eq p.len len && range_contains nat_cmp (Included f) (Included (f + (size - 1))) p.bits) start
-        ∙ ap (λ n. nat_eq p.len len && range_contains nat_cmp (Included (block * 2 ^ second)) (Included (block * 2 ^ second + (n - 1))) p.bits) whole
-        ∙ ap (λ t. nat_eq p.len len && t) (range_of_block (2 ^ second) block p.bits (pow_pos second)))
+    ap (λ f. nat_eq p.len len && range_contains nat_cmp (Included f) (Included (f + (size - 1))) p.bits) start
+    ∙ ap (λ n. nat_eq p.len len && range_contains nat_cmp (Included (block * 2 ^ second)) (Included (block * 2 ^ second + (n - 1))) p.bits) whole
+    ∙ ap (λ t. nat_eq p.len len && t) (range_of_block (2 ^ second) block p.bits (pow_pos second)))

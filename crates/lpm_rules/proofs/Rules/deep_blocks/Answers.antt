@@ -1,9 +1,8 @@
-use Rattle.std.proofs.Common.{arith, ◌≡◌, ◌+◌, ◌*◌, ◌%◌, ◌^◌, ap, subst, sym, ◌∙◌}
-use Rattle.std.specs.FinSet as set
+use Rattle.std.proofs.Common.{arith, ◌≡◌, ◌+◌, ◌*◌, ◌%◌, ◌^◌, ap, subst}
 use Rattle.std.proofs.lemmas.Nat.{one_shl}
 use Rattle.lpm_rules.specs.Deep.{deep_blocks}
 use Rattle.lpm_rules.specs.RuleMap.{RuleList, AllNetworks}
-use Rattle.lpm_rules.proofs.Deep.{before, before_all, before_more, before_none, deep_below, has_deep_blocks}
+use Rattle.lpm_rules.proofs.Deep.{before_all, before_more, before_none, deep_below, has_deep_blocks}
 use Rattle.lpm_rules.proofs.Rules.deep_blocks.Goals as goal
 
 pub loop-block-init : goal.loop-block-init
@@ -14,8 +13,8 @@ loop-block-init g c =
     let nets = subst (AllNetworks (first + second)) (ap (λ (m : RuleList). m.rules) c.self.view_is) c.self.invariant.networks in
     let end : 1 * 2 ^ first % 18446744073709551616 ≡ 2 ^ first = one_shl first 64 (omega arith) in
     let all = before_all (deep_blocks first second R) (1 * 2 ^ first % 18446744073709551616) (λ i has.
-        let below = deep_below first second R i nets ((has_deep_blocks first second R i).0 has) in
-        omega (arith, end, below)) in
+    let below = deep_below first second R i nets ((has_deep_blocks first second R i).0 has) in
+    omega (arith, end, below)) in
     (omega (arith, all), omega (arith, end))
 
 pub loop-block-preserved : goal.loop-block-preserved

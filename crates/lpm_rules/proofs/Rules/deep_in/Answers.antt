@@ -1,8 +1,7 @@
-use Rattle.std.proofs.Common.{arith, ◌≡◌, ◌+◌, ◌<◌, ◌≤◌, length, ap, sym, ◌∙◌, subst, ◌↔◌}
-use Rattle.std.specs.Prelude.{count_by}
+use Rattle.std.proofs.Common.{arith, ◌≡◌, ◌+◌, ◌<◌, length, ap, sym, ◌∙◌, subst, ◌↔◌}
 use Rattle.std.specs.FinMap as map
 use Rattle.std.proofs.lemmas.List.Sums.{count_by-le-length}
-use Rattle.lpm_rules.specs.Deep.{IsDeepBlock, deep_count}
+use Rattle.lpm_rules.specs.Deep.{IsDeepBlock}
 use Rattle.lpm_rules.specs.RuleMap.{RuleList, AllNetworks}
 use Rattle.lpm_rules.proofs.Counts.{size_of_keys}
 use Rattle.lpm_rules.proofs.Deep.{is_deep_below, deep_init, deep_more, deep_all, deep_some, deep_none}
@@ -19,7 +18,7 @@ overflow_add-count g c =
     let here = c.count_in-count.ensures in
     let most = count_by-le-length (is_deep_below g.row.FIRST g.row.SECOND c.args.block (c.loop-len.len + 1)) keys in
     let size : length keys ≡ c.self.inside.count =
-        size_of_keys c.args.self.now.rules ∙ ap (λ (m : RuleList). map.len m.rules) (sym c.self.view_is) ∙ sym c.self.invariant.counted in
+    size_of_keys c.args.self.now.rules ∙ ap (λ (m : RuleList). map.len m.rules) (sym c.self.view_is) ∙ sym c.self.invariant.counted in
     omega (arith, more, so_far, here, most, size)
 
 pub loop-len-preserved : goal.loop-len-preserved
@@ -41,7 +40,7 @@ returns-2-clause-value g c =
 pub returns-2-clause-some : goal.returns-2-clause-some
 returns-2-clause-some g c =
     subst (λ n. (0 < n) ↔ IsDeepBlock g.row.FIRST g.row.SECOND c.args.self.now.rules c.args.block) (sym (returns-2-clause-value g c))
-      (deep_some g.row.FIRST g.row.SECOND c.args.self.now.rules c.args.block)
+    (deep_some g.row.FIRST g.row.SECOND c.args.self.now.rules c.args.block)
 
 pub returns-2-clause-none : goal.returns-2-clause-none
 returns-2-clause-none g c =

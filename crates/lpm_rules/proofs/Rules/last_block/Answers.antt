@@ -15,7 +15,7 @@ returns-in_err-bits g c =
     let last : ℕ = end * 2 ^ second % 18446744073709551616 - 1 in
     let ends : last + 1 ≡ end * 2 ^ second = end_starts second end (omega arith) (end_fits g.row.FIRST second end (omega arith) c.requires.end) in
     subst (IsLastBefore (IsBlockOf second c.args.self.now.rules c.args.len) end) (sym c.from_residual.ensures)
-      (last_none c.args.self.now.rules c.of_length-length.result.now second end c.args.len last c.range.result c.of_length-length.ensures ends (c.range.ensures.in_range tt) c.in_err-bits.ensures.steps.0)
+    (last_none c.args.self.now.rules c.of_length-length.result.now second end c.args.len last c.range.result c.of_length-length.ensures ends (c.range.ensures.in_range tt) c.in_err-bits.ensures.steps.0)
 
 pub returns : goal.returns
 returns g c =
@@ -24,4 +24,4 @@ returns g c =
     let last : ℕ = end * 2 ^ second % 18446744073709551616 - 1 in
     let ends : last + 1 ≡ end * 2 ^ second = end_starts second end (omega arith) (end_fits g.row.FIRST second end (omega arith) c.requires.end) in
     last_some c.args.self.now.rules c.of_length-length.result.now second end c.args.len last c.range.result c.of_length-length.ensures ends (c.range.ensures.in_range tt)
-      c.next_back.new.self c.in_ok-bits.bits.now c.in_ok-bits.field-0-1.now c.in_ok-bits.ensures.steps
+    c.next_back.new.self c.in_ok-bits.bits.now c.in_ok-bits.field-0-1.now c.in_ok-bits.ensures.steps

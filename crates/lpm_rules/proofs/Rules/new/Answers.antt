@@ -7,12 +7,12 @@ pub returns : goal.returns
 returns g c =
     let long : length c.from_fn.result ≡ 33 = c.from_fn.ensures.items.long in
     ap (λ m. record { rules = m; max = c.args.max }) (none_at c.from_fn.result (λ i d h.
-      let z = c.from_fn.ensures.items.at i d (omega (arith, h, long)) in
-      assumption z))
+    let z = c.from_fn.ensures.items.at i d (omega (arith, h, long)) in
+    assumption z))
 
 pub invariant_of-result : goal.invariant_of-result
 invariant_of-result g c =
     let long : length c.from_fn.result ≡ 33 = c.from_fn.ensures.items.long in
     sound_empty g.row.FIRST g.row.SECOND c.from_fn.result c.requires long (λ i d h.
-      let z = c.from_fn.ensures.items.at i d (omega (arith, h, long)) in
-      assumption z)
+    let z = c.from_fn.ensures.items.at i d (omega (arith, h, long)) in
+    assumption z)

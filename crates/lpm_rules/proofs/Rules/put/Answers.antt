@@ -1,4 +1,4 @@
-use Rattle.std.proofs.Common.{rules, ◌≡◌, ap, sym, ◌∙◌, Some}
+use Rattle.std.proofs.Common.{rules, ◌≡◌, ap, sym, Some}
 use Rattle.std.specs.FinMap as map
 use Rattle.lpm_rules.proofs.Changes.{insert_same}
 use Rattle.lpm_rules.proofs.Rules.put.Goals as goal

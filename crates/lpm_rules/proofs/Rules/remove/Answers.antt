@@ -1,4 +1,4 @@
-use Rattle.std.proofs.Common.{arith, ◌≡◌, ℕ, ◌+◌, ap, sym, ◌∙◌, None, Some}
+use Rattle.std.proofs.Common.{arith, ap, sym, ◌∙◌}
 use Rattle.std.specs.FinMap as map
 use Rattle.lpm_rules.specs.RuleMap.{RuleList}
 use Rattle.lpm_rules.specs.View.{rules_of}
@@ -24,8 +24,8 @@ invariant_of-self g c =
     let shape = c.bits-bits.ensures.shape in
     let found = get_at c.self.inside.lengths c.args.prefix.now c.bits-bits.result c.len.result _ c.bits-bits.ensures.value c.len.ensures.value (omega arith) in
     sound_removed g.row.FIRST g.row.SECOND c.self.inside.lengths c.args.prefix.now c.bits-bits.result c.len.result c.self.inside.count c.remove.new.self _
-      c.self.invariant c.bits-bits.ensures.value c.len.ensures.value (omega arith) c.in-Some.hop
-      (sym found ∙ sym c.in-Some.ensures.value) c.in-Some.ensures.updates.0
+    c.self.invariant c.bits-bits.ensures.value c.len.ensures.value (omega arith) c.in-Some.hop
+    (sym found ∙ sym c.in-Some.ensures.value) c.in-Some.ensures.updates.0
 
 pub returns-in-Some-clause-hop : goal.returns-in-Some-clause-hop
 returns-in-Some-clause-hop g c =
@@ -41,7 +41,7 @@ returns-in-Some-clause-ok g c =
     let bound = c.len.ensures.bound in
     let shape = c.bits-bits.ensures.shape in
     ap (λ m. record { rules = m; max = c.self.inside.max })
-      (unset_at c.self.inside.lengths c.args.prefix.now c.bits-bits.result c.len.result c.remove.new.self _ c.bits-bits.ensures.value c.len.ensures.value (omega arith) c.in-Some.ensures.updates.0)
+    (unset_at c.self.inside.lengths c.args.prefix.now c.bits-bits.result c.len.result c.remove.new.self _ c.bits-bits.ensures.value c.len.ensures.value (omega arith) c.in-Some.ensures.updates.0)
     ∙ ap (λ (m : RuleList). record { rules = map.remove m.rules c.args.prefix.now; max = m.max }) c.self.view_is
 
 pub invariant_of-self-in-None : goal.invariant_of-self-in-None
@@ -50,7 +50,7 @@ invariant_of-self-in-None g c =
     let bound = c.len.ensures.bound in
     let shape = c.bits-bits.ensures.shape in
     sound_kept g.row.FIRST g.row.SECOND c.self.inside.lengths c.args.prefix.now c.bits-bits.result c.len.result c.self.inside.count c.remove.new.self _
-      c.self.invariant c.bits-bits.ensures.value c.len.ensures.value (omega arith) c.in-None.ensures.unchanged
+    c.self.invariant c.bits-bits.ensures.value c.len.ensures.value (omega arith) c.in-None.ensures.unchanged
 
 pub returns-in-None-clause-hop : goal.returns-in-None-clause-hop
 returns-in-None-clause-hop g c =
@@ -66,5 +66,5 @@ returns-in-None-clause-err g c =
     let bound = c.len.ensures.bound in
     let shape = c.bits-bits.ensures.shape in
     ap (λ m. record { rules = m; max = c.self.inside.max })
-      (keep_at c.self.inside.lengths c.len.result c.remove.new.self _ (omega arith) c.in-None.ensures.unchanged)
+    (keep_at c.self.inside.lengths c.len.result c.remove.new.self _ (omega arith) c.in-None.ensures.unchanged)
     ∙ c.self.view_is

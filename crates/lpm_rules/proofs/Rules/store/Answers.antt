@@ -1,7 +1,6 @@
-use Rattle.std.proofs.Common.{arith, ◌≡◌, ◌<◌, ap, sym, ◌∙◌, None, Some}
+use Rattle.std.proofs.Common.{arith, ◌≡◌, ◌<◌, ap, sym, ◌∙◌, None}
 use Rattle.std.specs.FinMap as map
 use Rattle.lpm_rules.specs.RuleMap.{RuleList}
-use Rattle.lpm_rules.specs.View.{rules_of}
 use Rattle.lpm_rules.proofs.Views.{get_at, set_at, keep_at}
 use Rattle.lpm_rules.proofs.Sound.{sound_added, sound_replaced, sound_kept}
 use Rattle.lpm_rules.proofs.Rules.store.Goals as goal
@@ -13,7 +12,7 @@ overflow_add-self g c =
     let shape = c.bits-bits.ensures.shape in
     let found = get_at c.self.inside.lengths c.args.prefix.now c.bits-bits.result c.len.result _ c.bits-bits.ensures.value c.len.ensures.value (omega arith) in
     let absent : map.get c.args.self.now.rules c.args.prefix.now ≡ None =
-        ap (λ (m : RuleList). map.get m.rules c.args.prefix.now) (sym c.self.view_is) ∙ sym found ∙ sym c.in-Ok-None.ensures.old ∙ c.in-Ok-None.field-0-is in
+    ap (λ (m : RuleList). map.get m.rules c.args.prefix.now) (sym c.self.view_is) ∙ sym found ∙ sym c.in-Ok-None.ensures.old ∙ c.in-Ok-None.field-0-is in
     let room : map.len c.args.self.now.rules < c.args.self.now.max = c.requires.room absent in
     let counted : c.self.inside.count ≡ map.len c.args.self.now.rules = c.self.invariant.counted ∙ ap (λ (m : RuleList). map.len m.rules) c.self.view_is in
     let max : c.self.inside.max ≡ c.args.self.now.max = ap (λ (m : RuleList). m.max) c.self.view_is in
@@ -26,8 +25,8 @@ invariant_of-self g c =
     let shape = c.bits-bits.ensures.shape in
     let found = get_at c.self.inside.lengths c.args.prefix.now c.bits-bits.result c.len.result _ c.bits-bits.ensures.value c.len.ensures.value (omega arith) in
     sound_added g.row.FIRST g.row.SECOND c.self.inside.lengths c.args.prefix.now c.bits-bits.result c.len.result c.self.inside.count c.insert.new.self _
-      c.self.invariant c.bits-bits.ensures.value c.len.ensures.value (omega arith) c.args.hop c.bits-bits.ensures.network
-      (sym found ∙ sym c.in-Ok-None.ensures.old ∙ c.in-Ok-None.field-0-is) c.in-Ok-None.ensures.updates.0
+    c.self.invariant c.bits-bits.ensures.value c.len.ensures.value (omega arith) c.args.hop c.bits-bits.ensures.network
+    (sym found ∙ sym c.in-Ok-None.ensures.old ∙ c.in-Ok-None.field-0-is) c.in-Ok-None.ensures.updates.0
 
 pub returns-in-Ok-None-clause-old : goal.returns-in-Ok-None-clause-old
 returns-in-Ok-None-clause-old g c =
@@ -44,7 +43,7 @@ returns-in-Ok-None-clause-ok g c =
     let bound = c.len.ensures.bound in
     let shape = c.bits-bits.ensures.shape in
     ap (λ m. record { rules = m; max = c.self.inside.max })
-      (set_at c.self.inside.lengths c.args.prefix.now c.bits-bits.result c.len.result c.args.hop c.insert.new.self _ c.bits-bits.ensures.value c.len.ensures.value (omega arith) c.in-Ok-None.ensures.updates.0)
+    (set_at c.self.inside.lengths c.args.prefix.now c.bits-bits.result c.len.result c.args.hop c.insert.new.self _ c.bits-bits.ensures.value c.len.ensures.value (omega arith) c.in-Ok-None.ensures.updates.0)
     ∙ ap (λ (m : RuleList). record { rules = map.insert m.rules c.args.prefix.now c.args.hop; max = m.max }) c.self.view_is
 
 pub invariant_of-self-in-Ok-Some : goal.invariant_of-self-in-Ok-Some
@@ -54,8 +53,8 @@ invariant_of-self-in-Ok-Some g c =
     let shape = c.bits-bits.ensures.shape in
     let found = get_at c.self.inside.lengths c.args.prefix.now c.bits-bits.result c.len.result _ c.bits-bits.ensures.value c.len.ensures.value (omega arith) in
     sound_replaced g.row.FIRST g.row.SECOND c.self.inside.lengths c.args.prefix.now c.bits-bits.result c.len.result c.self.inside.count c.insert.new.self _
-      c.self.invariant c.bits-bits.ensures.value c.len.ensures.value (omega arith) c.args.hop c.in-Ok-Some.old c.bits-bits.ensures.network
-      (sym found ∙ sym c.in-Ok-Some.ensures.old ∙ c.in-Ok-Some.field-0-is) c.in-Ok-Some.ensures.updates.0
+    c.self.invariant c.bits-bits.ensures.value c.len.ensures.value (omega arith) c.args.hop c.in-Ok-Some.old c.bits-bits.ensures.network
+    (sym found ∙ sym c.in-Ok-Some.ensures.old ∙ c.in-Ok-Some.field-0-is) c.in-Ok-Some.ensures.updates.0
 
 pub returns-in-Ok-Some-clause-old : goal.returns-in-Ok-Some-clause-old
 returns-in-Ok-Some-clause-old g c =
@@ -72,7 +71,7 @@ returns-in-Ok-Some-clause-ok g c =
     let bound = c.len.ensures.bound in
     let shape = c.bits-bits.ensures.shape in
     ap (λ m. record { rules = m; max = c.self.inside.max })
-      (set_at c.self.inside.lengths c.args.prefix.now c.bits-bits.result c.len.result c.args.hop c.insert.new.self _ c.bits-bits.ensures.value c.len.ensures.value (omega arith) c.in-Ok-Some.ensures.updates.0)
+    (set_at c.self.inside.lengths c.args.prefix.now c.bits-bits.result c.len.result c.args.hop c.insert.new.self _ c.bits-bits.ensures.value c.len.ensures.value (omega arith) c.in-Ok-Some.ensures.updates.0)
     ∙ ap (λ (m : RuleList). record { rules = map.insert m.rules c.args.prefix.now c.args.hop; max = m.max }) c.self.view_is
 
 pub invariant_of-self-in-Err : goal.invariant_of-self-in-Err
@@ -81,7 +80,7 @@ invariant_of-self-in-Err g c =
     let bound = c.len.ensures.bound in
     let shape = c.bits-bits.ensures.shape in
     sound_kept g.row.FIRST g.row.SECOND c.self.inside.lengths c.args.prefix.now c.bits-bits.result c.len.result c.self.inside.count c.insert.new.self _
-      c.self.invariant c.bits-bits.ensures.value c.len.ensures.value (omega arith) c.in-Err.ensures.err
+    c.self.invariant c.bits-bits.ensures.value c.len.ensures.value (omega arith) c.in-Err.ensures.err
 
 pub returns-in-Err-clause-absent : goal.returns-in-Err-clause-absent
 returns-in-Err-clause-absent g c =
@@ -97,5 +96,5 @@ returns-in-Err-clause-err g c =
     let bound = c.len.ensures.bound in
     let shape = c.bits-bits.ensures.shape in
     ap (λ m. record { rules = m; max = c.self.inside.max })
-      (keep_at c.self.inside.lengths c.len.result c.insert.new.self _ (omega arith) c.in-Err.ensures.err)
+    (keep_at c.self.inside.lengths c.len.result c.insert.new.self _ (omega arith) c.in-Err.ensures.err)
     ∙ c.self.view_is

@@ -1,4 +1,4 @@
-use Rattle.std.proofs.Common.{ap, sym, subst, ◌∙◌, ◌+◌, ◌/◌, ◌^◌, ◌≡◌, ℕ, lit<, refl, Ok, Err}
+use Rattle.std.proofs.Common.{ap, sym, subst, ◌∙◌, ◌+◌, ◌/◌, ◌^◌, ◌≡◌, ℕ, lit<, refl, Ok, Err, inl}
 use Rattle.std.specs.FinMap as map
 use Rattle.lpm_rules.specs.RuleMap.{RuleList}
 use Rattle.lpm_rules.proofs.Changes.{networks_insert}
@@ -67,7 +67,7 @@ returns-in-Ok-group_for g c =
       absurd cc in
     let groups = c.run.ensures.sizes.0 ∙ ap (λ (w : Words). w.groups) cells in
     record {
-      outcome = subst (λ (y : TableState). AddOutcome f s y p h (Ok c.in-Ok.put)) c.self.view_is (put_outcome f s t p h c.in-Ok.put put.unchanged.0 put.replaced.0 put.added group);
+      outcome = subst (λ (y : TableState). AddOutcome f s y p h (Ok c.in-Ok.put)) c.self.view_is (put_outcome f s t p h c.in-Ok.put put.unchanged.0 put.replaced.0 (λ e. put.new.0 (inl e)) group);
       ok = ap (λ (r : RuleList). record { rules = r.rules; max = r.max; groups = c.run.new.cells.groups }) put.ok
         ∙ ap (λ n. record { rules = map.insert x.rules.rules p h; max = x.rules.max; groups = n }) groups
         ∙ ap (λ (y : TableState). record { rules = map.insert y.rules p h; max = y.max; groups = y.groups }) c.self.view_is;
@@ -82,7 +82,7 @@ invariant_of-self-in-Err g c =
     let none = c.in-Err.ensures.err.0 refl in
     let known = c.self.invariant in
     let put = c.in-Ok.ensures in
-    let absent = put_absent x.rules.rules p h x.rules.max c.in-Ok.put put.unchanged.0 put.replaced.0 put.added
+    let absent = put_absent x.rules.rules p h x.rules.max c.in-Ok.put put.unchanged.0 put.replaced.0 (λ e. put.new.0 (inl e))
       (λ some. shallow g.row.FIRST g.row.SECOND x.rules.rules x.cells.firsts (p.bits / 2 ^ g.row.SECOND) known.answering.groups (shr_below p.bits g.row.FIRST g.row.SECOND c.bits-bits.ensures.network.1) none.1 (p, some, none.0, refl)) in
     let back = taken_back x.rules p h c.put.new.self c.remove.new.self c.remove.result put.ok absent.0 c.remove.ensures.hop c.remove.ensures.ok in
     resting_words g.row.FIRST g.row.SECOND _ _ _ _ _ _ known (ap (λ (r : RuleList). r.rules) back) c.group_for.ensures.cells c.in-Err.ensures.unchanged
@@ -99,7 +99,7 @@ returns-in-Err g c =
     let put = c.in-Ok.ensures in
     let t : TableState = record { rules = x.rules.rules; max = x.rules.max; groups = x.cells.groups } in
     let shallow_block = shallow f s x.rules.rules x.cells.firsts (p.bits / 2 ^ s) known.answering.groups (shr_below p.bits f s c.bits-bits.ensures.network.1) none.1 in
-    let absent = put_absent x.rules.rules p h x.rules.max c.in-Ok.put put.unchanged.0 put.replaced.0 put.added (λ some. shallow_block (p, some, none.0, refl)) in
+    let absent = put_absent x.rules.rules p h x.rules.max c.in-Ok.put put.unchanged.0 put.replaced.0 (λ e. put.new.0 (inl e)) (λ some. shallow_block (p, some, none.0, refl)) in
     let back = taken_back x.rules p h c.put.new.self c.remove.new.self c.remove.result put.ok absent.0 c.remove.ensures.hop c.remove.ensures.ok in
     let outcome : AddOutcome f s t p h (Err NoGroups) = (absent.0, absent.1, (none.0, shallow_block), all_used f s _ _ _ known none.2) in
     record {

@@ -1,0 +1,3 @@
+pub mod Written
+pub mod Loaded
+pub mod Answered

@@ -1,0 +1,11 @@
+-- The exit status of a failure (this project's program).
+use Rattle.std.specs.Prelude.{ℕ}
+use Rattle.lpmtool.specs.declared.failure.Failure.{Failure}
+use Rattle.lpmtool.specs.declared.failure.Failure.TheVariants.{CannotRead, CannotWrite, Bad, Memory, Refused}
+
+abbrev pub status_of : Failure → ℕ
+status_of (CannotRead path) = 3
+status_of CannotWrite = 3
+status_of (Bad path fault) = 4
+status_of Memory = 5
+status_of (Refused path line refusal) = 6

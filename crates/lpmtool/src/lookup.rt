@@ -1,0 +1,183 @@
+//! `lookup`: the next hops of addresses, by routes.
+ghost use Rattle.std.specs.Prelude.{◌≡◌, ◌≢◌, ℕ, ◌<◌, ◌≤◌, List, IfOk, IfErr, IfSome, OnOk, IsErrOf, ◌⊎◌};
+ghost use Rattle.std.specs.FinMap as map;
+ghost use Rattle.route_text.specs.Files.{AreRoutes, AreAddresses, IsRoutesFault, IsAddressesFault};
+ghost use Rattle.lpmtool.specs.Loading.{rules_of, TakesAll};
+ghost use Rattle.lpmtool.specs.Answers.{AreAnswers, IsAnswerText};
+ghost use Rattle.lpmtool.specs.Output.{Writes, WritesBeginning};
+ghost use Rattle.lpmtool.specs.Lookup.{IsTextOf, EndsLookup, EndsReading, EndsLoading};
+
+use crate::failure::{Failure, Refusal};
+use crate::files::{Files, ReadFailure, put_all, read_file};
+use lpm_bits::Hop;
+use lpm_options::Limits;
+use lpm_update::{AddFault, PlainTable};
+use route_text::{ReadError, Route, answers_text, read_addresses, read_routes};
+use std::alloc::{AllocError, Global};
+use std::io::Write;
+
+/// Writes a line for each address with the next hop of its longest matching route.
+///
+/// Each file is read and parsed before the next, and all before a route is loaded. The text is formed
+/// whole before it is written.
+pub fn lookup<'a, F: Files, W: Write>(
+    alloc: Global,
+    files: &F,
+    routes: &'a str,
+    addresses: &'a str,
+    limits: Limits,
+    out: &mut W,
+) -> Result<(), Failure<'a>>
+    ensures done { OnOk result (Writes
+        (IsTextOf limits
+        (F.bytes files.now routes.entry.now) (F.bytes files.now addresses.entry.now))
+        (W.contents out.old) (W.contents out.new)) }
+
+    // Only a failed write leaves something written, a beginning of that text.
+    ensures beginning { IsErrOf result Failure.CannotWrite → WritesBeginning
+        (IsTextOf limits
+        (F.bytes files.now routes.entry.now) (F.bytes files.now addresses.entry.now))
+        (W.contents out.old) (W.contents out.new) }
+    ensures untouched { IfErr result (λ e. e ≢ Failure.CannotWrite → out.new ≡ out.old) }
+    ensures failure { IfErr result
+        (EndsLookup limits routes.entry.now addresses.entry.now (F.bytes files.now)) }
+{
+    let text = lookup_text(alloc, files, routes, addresses, limits)?;
+    match put_all(out, &text) {
+        Ok(()) => Ok(()),
+        Err(_) => Err(Failure::CannotWrite),
+    }
+}
+
+// The whole text, before anything is written.
+fn lookup_text<'a, F: Files>(
+    alloc: Global,
+    files: &F,
+    routes: &'a str,
+    addresses: &'a str,
+    limits: Limits,
+) -> Result<Vec<u8>, Failure<'a>>
+    ensures text { IfOk result (λ v. IsTextOf limits
+        (F.bytes files.now routes.entry.now) (F.bytes files.now addresses.entry.now) v.items) }
+    ensures failure { IfErr result
+        (EndsLookup limits routes.entry.now addresses.entry.now (F.bytes files.now)) }
+    ensures unwritten { IfErr result (λ e. e ≢ Failure.CannotWrite) }
+{
+    let list = routes_of(alloc, files, routes)?;
+    let addrs = addresses_of(alloc, files, addresses)?;
+    let table = load(alloc, routes, &list, limits)?;
+    match text_of(alloc, &table, &addrs) {
+        Ok(text) => Ok(text),
+        Err(_) => Err(Failure::Memory),
+    }
+}
+
+fn routes_of<'a, F: Files>(
+    alloc: Global,
+    files: &F,
+    path: &'a str,
+) -> Result<Vec<Route>, Failure<'a>>
+    ensures routes { IfOk result (λ v.
+        IfSome (F.bytes files.now path.entry.now) (λ bytes. AreRoutes bytes v.items)) }
+    ensures failure { IfErr result
+        (EndsReading IsRoutesFault path.entry.now (F.bytes files.now path.entry.now)) }
+{
+    let bytes = match read_file(alloc, files, path) {
+        Ok(bytes) => bytes,
+        Err(e) => return Err(unread(path, e)),
+    };
+    match read_routes(alloc, &bytes) {
+        Ok(routes) => Ok(routes),
+        Err(ReadError::Fault(fault)) => Err(Failure::Bad { path, fault }),
+        Err(ReadError::Memory) => Err(Failure::Memory),
+    }
+}
+
+fn addresses_of<'a, F: Files>(
+    alloc: Global,
+    files: &F,
+    path: &'a str,
+) -> Result<Vec<u32>, Failure<'a>>
+    ensures addrs { IfOk result (λ v.
+        IfSome (F.bytes files.now path.entry.now) (λ bytes. AreAddresses bytes v.items)) }
+    ensures failure { IfErr result
+        (EndsReading IsAddressesFault path.entry.now (F.bytes files.now path.entry.now)) }
+{
+    let bytes = match read_file(alloc, files, path) {
+        Ok(bytes) => bytes,
+        Err(e) => return Err(unread(path, e)),
+    };
+    match read_addresses(alloc, &bytes) {
+        Ok(addrs) => Ok(addrs),
+        Err(ReadError::Fault(fault)) => Err(Failure::Bad { path, fault }),
+        Err(ReadError::Memory) => Err(Failure::Memory),
+    }
+}
+
+fn unread(path: &str, failure: ReadFailure) -> Failure<'_>
+    ensures { (result ≡ Failure.CannotRead path.entry) ⊎ (result ≡ Failure.Memory) }
+{
+    match failure {
+        ReadFailure::CannotRead => Failure::CannotRead { path },
+        ReadFailure::Memory => Failure::Memory,
+    }
+}
+
+// A table with the routes put in one after another, of which the first refused one ends the run.
+fn load<'a>(
+    alloc: Global,
+    path: &'a str,
+    routes: &[Route],
+    limits: Limits,
+) -> Result<PlainTable<24, 8>, Failure<'a>>
+    ensures rules { IfOk result (λ t. t.rules ≡ rules_of map.empty routes.now) }
+    ensures taken { OnOk result (TakesAll limits map.empty routes.now) }
+    ensures failure { IfErr result (EndsLoading limits path.entry.now routes.now) }
+{
+    let Ok(mut table) = PlainTable::open(alloc, limits.rules, limits.groups) else {
+        return Err(Failure::Memory);
+    };
+    for route in routes {
+        let line = route.line;
+        match table.add(&route.prefix, route.hop) {
+            Ok(_) => {}
+            Err(AddFault::TooManyRules) => return Err(refused(path, line, Refusal::TooManyRules)),
+            Err(AddFault::NoGroups) => return Err(refused(path, line, Refusal::NoGroups)),
+            Err(AddFault::Memory) => return Err(Failure::Memory),
+        }
+    }
+    Ok(table)
+}
+
+fn refused(path: &str, line: usize, refusal: Refusal) -> Failure<'_>
+    ensures { result ≡ Failure.Refused path.entry line refusal }
+{
+    Failure::Refused {
+        path,
+        line,
+        refusal,
+    }
+}
+
+// A line for each address with its answer.
+fn text_of(alloc: Global, table: &PlainTable<24, 8>, addrs: &[u32]) -> Result<Vec<u8>, AllocError>
+    ensures { IfOk result (λ v. IsAnswerText table.now.rules addrs.now v.items) }
+{
+    let hops = answers(alloc, table, addrs)?;
+    answers_text(alloc, addrs, &hops)
+}
+
+// The answer to each address, in order.
+fn answers(
+    alloc: Global,
+    table: &PlainTable<24, 8>,
+    addrs: &[u32],
+) -> Result<Vec<Option<Hop>>, AllocError>
+    ensures { IfOk result (λ v. AreAnswers table.now.rules addrs.now v.items) }
+{
+    let mut hops = Vec::with_capacity(alloc, addrs.len())?;
+    for addr in addrs {
+        hops.push(table.lookup(*addr))?;
+    }
+    Ok(hops)
+}

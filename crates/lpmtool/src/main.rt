@@ -1,0 +1,53 @@
+//! `lpmtool`: longest-prefix match of IPv4 addresses, from files.
+#![tactic(auto)]
+
+mod failure;
+mod files;
+mod lookup;
+mod run;
+#[cfg(test)]
+mod tests;
+
+ghost use Rattle.std.specs.Prelude.{None};
+
+use crate::files::Files;
+use std::fs::File;
+use std::process::ExitCode;
+use std::{env, fs, io};
+
+/// The files of the system.
+#[derive(Drop)]
+struct Disk<'a> {
+    rt: &'a HostRuntime,
+}
+
+impl Files for Disk<'_> {
+    type Reader = File;
+
+    ghost bytes = { λ _ _. None };
+
+    fn open(&self, path: &str) -> io::Result<File> {
+        fs::open(self.rt, path)
+    }
+}
+
+fn main(rt: HostRuntime) -> ExitCode {
+    let mut out = rt.stdout();
+    let mut err = rt.stderr();
+    let words = match command_words(&rt) {
+        Ok(words) => words,
+        Err(e) => return ExitCode::from(run::refuse_words(e.kind(), &mut err)),
+    };
+    let files = Disk { rt: &rt };
+    let status = run::run(rt.alloc(), words.as_slice(), &files, &mut out, &mut err);
+    ExitCode::from(status)
+}
+
+// The words of the command line, each of which has to be UTF-8.
+fn command_words(rt: &HostRuntime) -> io::Result<Vec<String>> {
+    let mut words = Vec::new(rt.alloc());
+    for word in env::args(rt)? {
+        words.push(word)?;
+    }
+    Ok(words)
+}
