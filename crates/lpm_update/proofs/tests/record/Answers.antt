@@ -1,4 +1,4 @@
-use Rattle.std.proofs.Common.{arith, refl, ap, sym, ◌∙◌, subst, ◌≡◌, ℕ, ◌+◌, ◌*◌, ◌^◌, ◌<◌, List, length}
+use Rattle.std.proofs.Common.{ap, sym, ◌∙◌, subst, ◌+◌, length}
 use Rattle.std.specs.Prelude.{slice_set}
 use Rattle.lpm_groups.specs.declared.GroupState.TheVariants.{Limbo, Free}
 use Rattle.lpm_groups.specs.States.{IsLimboAt, limbo_count}

@@ -1,4 +1,4 @@
-use Rattle.std.proofs.Common.{ap, sym, subst, ◌∙◌, ◌+◌, ◌*◌, ◌^◌}
+use Rattle.std.proofs.Common.{ap}
 use Rattle.lpm_rules.specs.RuleMap.{RuleList}
 use Rattle.lpm_update.proofs.Resting.{resting_open, resting_words}
 use Rattle.lpm_update.proofs.tests.Recorded.open.Goals as goal
