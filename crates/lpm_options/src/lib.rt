@@ -8,11 +8,10 @@ ghost use Rattle.lpm_options.specs.Asked.{HasNumber, AreLimits, Asks, IsAskedBy,
 
 mod limits;
 
-pub use limits::Limits;
-
 use clap::builder::ValueParser;
 use clap::error::ErrorKind;
 use clap::{Arg, ArgMatches, Command, Error};
+pub use limits::Limits;
 use std::alloc::{AllocError, Global};
 use std::convert::AsStr;
 
@@ -22,7 +21,8 @@ const ADDRESSES: &str = "The address file. Each line is an address, as `10.1.2.3
 
 const RULES: &str = "The greatest number of rules that the table holds, 1 to 16777216";
 
-const GROUPS: &str = "The number of groups, one for each block of 256 addresses with a route longer than 24 bits, 1 to 65536";
+const GROUPS: &str =
+    "The number of groups, one for each block of 256 addresses with a route longer than 24 bits, 1 to 65536";
 
 /// What the words of a command line ask for.
 #[derive(Clone, Copy, Debug)]

@@ -23,9 +23,17 @@ fn lookup_with_its_default_and_each_option(rt: HostRuntime) -> Result<(), Fail> 
             256,
         ),
         (&["other", "lookup", "r", "a", "--rules", "7"], 7, 256),
-        (&["lpmtool", "lookup", "--rules", "7", "--", "r", "a"], 7, 256),
+        (
+            &["lpmtool", "lookup", "--rules", "7", "--", "r", "a"],
+            7,
+            256,
+        ),
         (&["lpmtool", "lookup", "--rules", "+7", "r", "a"], 7, 256),
-        (&["lpmtool", "lookup", "--groups", "65536", "r", "a"], 1_048_576, 65_536),
+        (
+            &["lpmtool", "lookup", "--groups", "65536", "r", "a"],
+            1_048_576,
+            65_536,
+        ),
     ];
     for (words, rules, groups) in cases {
         let line = options(rt.alloc(), words).map_err(|_| "refused")?;

@@ -23,12 +23,12 @@ zero_first width groups w z = subst (IsFirstWord width groups) (sym z) (rw entry
 
 few_groups : (s g n m : ℕ) → g * 2 ^ s + 2 ^ s ≤ m → m ≡ n * 2 ^ s → g < n
 few_groups s g n m h e = elim (cases_lt g n) [
-    | inl below ↦ below
-    | inr above ↦
-        let z = mul-le-mul_right (2 ^ s) above in
-        let p = pow_pos s in
-        absurd (omega (arith, z, p, h, e))
-  ]
+  | inl below ↦ below
+  | inr above ↦
+      let z = mul-le-mul_right (2 ^ s) above in
+      let p = pow_pos s in
+      absurd (omega (arith, z, p, h, e))
+]
 
 link_first : (width groups g w : ℕ) → g < 2 ^ 24 → g < groups → w ≡ word_of (Group g) → IsFirstWord width groups w
 link_first width groups g w small few q =
@@ -47,7 +47,7 @@ may_second f s (Fill u) F S j w t under n =
     let old = under.old (omega (arith, more)) in
     let e = entry_in (slice_index F u.block) in
     plain_second (f + s) w _ (filled_has (IsEntry (f + s)) u e (u.block * 2 ^ s + u.next) under.entry (t.first_words u.block under.block).0)
-      (filled_has IsLast u e (u.block * 2 ^ s + u.next) under.last old) n.2
+    (filled_has IsLast u e (u.block * 2 ^ s + u.next) under.last old) n.2
 may_second f s (Collapse u) F S j w t under n = let k = (under.0 n.0).sweeping in plain_second (f + s) w u.sweep.rewrite.entry k.entry k.last n.1.2.word
 may_second f s (Flush u) F S j w t under n = absurd n
 

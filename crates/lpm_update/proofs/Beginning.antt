@@ -41,10 +41,10 @@ shallow_last f s R F b known low none = no_group_last (entry_in (slice_index F b
 -- nothing is changed yet
 pub stands_still : (s from : ℕ) (c : Rewrite) (F S : List ℕ) → Stands s from from c F S (entry_at s F S)
 stands_still s from c F S = record {
-    before = λ a p. refl;
-    done = λ a p q. absurd (omega (arith, p, q));
-    todo = λ a p. refl;
-  }
+  before = λ a p. refl;
+  done = λ a p q. absurd (omega (arith, p, q));
+  todo = λ a p. refl;
+}
 
 in_block : (f s a b : ℕ) → b < 2 ^ f → a / 2 ^ s ≡ b → a < 2 ^ (f + s)
 in_block f s a b low e =
@@ -59,8 +59,10 @@ pub uniform_block : (f s b : ℕ) (R : RuleMap) (X : ℕ → Entry) → AllNetwo
 uniform_block f s b R X nets best low none =
     let a0 = b * 2 ^ s + 0 in
     let here : a0 / 2 ^ s ≡ b = shr_high b s 0 (pow_pos s) in
-    let short = λ (a : ℕ) (e : a / 2 ^ s ≡ b). all_short f s a R nets (λ d. none (subst (IsDeepBlock f s R) e d)) in
-    (X a0, λ a e.
-      let first = best a0 (in_block f s a0 b low here) in
-      best_unique (f + s) R a (X a) (X a0) nets (best a (in_block f s a b low e))
-        (best_block f s a0 a R (X a0) (here ∙ sym e) (short a0 here) (short a e) first))
+    let short = λ (a : ℕ) (e : a / 2 ^ s ≡ b). all_short f s a R nets (λ d. none (subst (IsDeepBlock f s R) e d)) in (
+      X a0,
+      λ a e.
+          let first = best a0 (in_block f s a0 b low here) in
+          best_unique (f + s) R a (X a) (X a0) nets (best a (in_block f s a b low e))
+          (best_block f s a0 a R (X a0) (here ∙ sym e) (short a0 here) (short a e) first),
+    )

@@ -42,9 +42,9 @@ block_in f s p n = shr_below p.bits f s n.1
 pub sweeps_from : (f s : ℕ) (R : RuleMap) (p : Network) (u : SweepData) (F S : List ℕ) → IsNetwork (f + s) p → IsAnswering f s R F S → IsSweepOf f s p u
     → (f < p.len → IsDeepBlock f s R (p.bits / 2 ^ s)) → IsSweeping f s u.from u.at u.end u.rewrite F
 sweeps_from f s R p u F S n known made deep = elim (cases_lt f p.len) [
-    | inl long ↦ let g = deep_group f s R F (p.bits / 2 ^ s) known.groups (block_in f s p n) (deep long) in made.deep long F g.0 g.1
-    | inr short ↦ made.short short F
-  ]
+  | inl long ↦ let g = deep_group f s R F (p.bits / 2 ^ s) known.groups (block_in f s p n) (deep long) in made.deep long F g.0 g.1
+  | inr short ↦ made.short short F
+]
 
 sweep_stands : (f s : ℕ) (p : Network) (u : SweepData) (F S : List ℕ) → IsSweepOf f s p u → Stands s u.from u.at u.rewrite F S (entry_at s F S)
 sweep_stands f s p u F S made = subst (λ x. Stands s u.from x u.rewrite F S (entry_at s F S)) (made.from ∙ sym made.at) (stands_still s u.from u.rewrite F S)
@@ -52,10 +52,10 @@ sweep_stands f s p u F S made = subst (λ x. Stands s u.from x u.rewrite F S (en
 pub begun_sweep : (f s : ℕ) (R : RuleMap) (p : Network) (u : SweepData) (F S : List ℕ) → IsNetwork (f + s) p → IsAnswering f s R F S → IsSweepOf f s p u
     → (f < p.len → IsDeepBlock f s R (p.bits / 2 ^ s)) → IsBegun f s (Sweep u) F S
 begun_sweep f s R p u F S n known made deep = record {
-    under_way = sweeps_from f s R p u F S n known made deep;
-    stands = sweep_stands f s p u F S made;
-    groups = λ i low. refl;
-  }
+  under_way = sweeps_from f s R p u F S n known made deep;
+  stands = sweep_stands f s p u F S made;
+  groups = λ i low. refl;
+}
 
 same_range : (width a : ℕ) (u : SweepData) (from end : ℕ) (c : Rewrite) (e : Entry) → u.from ≡ from → u.end ≡ end → u.rewrite ≡ c → final_entry u.from u.end u.rewrite a e ≡ final_entry from end c a e
 same_range width a u from end c e p q r =
@@ -67,9 +67,9 @@ best_along width R X Y e best a low = subst (IsBest width R a) (sym (e a)) (best
 pub adds_sweep : (f s : ℕ) (R : RuleMap) (p : Network) (h : ℕ) (u : SweepData) → IsNetwork (f + s) p → IsSweepOf f s p u → u.rewrite ≡ record { kind = Add; depth = p.len; entry = Hop h p.len }
     → (f < p.len → IsDeepBlock f s R (p.bits / 2 ^ s)) → Leads f s (Sweep u) R (insert R p h)
 adds_sweep f s R p h u n made is deep = record {
-    best = λ E best. best_along (f + s) (insert R p h) _ _ (λ a. same_range (f + s) a u _ _ _ (E a) made.from made.end is) (add_best (f + s) R p h E n best);
-    groups = λ L known. add_groups f s R p h L deep known;
-  }
+  best = λ E best. best_along (f + s) (insert R p h) _ _ (λ a. same_range (f + s) a u _ _ _ (E a) made.from made.end is) (add_best (f + s) R p h E n best);
+  groups = λ L known. add_groups f s R p h L deep known;
+}
 
 -- ---- fills
 
@@ -109,17 +109,17 @@ deletes_best f s R p u nets n made k d cover E best =
 pub deletes_sweep : (f s : ℕ) (R : RuleMap) (p : Network) (u : SweepData) → AllNetworks (f + s) R → IsNetwork (f + s) p → IsSweepOf f s p u → u.rewrite.kind ≡ Delete → u.rewrite.depth ≡ p.len
     → IsCoverEntry (f + s) R p u.rewrite.entry → (f < p.len → IsDeepBlock f s (remove R p) (p.bits / 2 ^ s)) → Leads f s (Sweep u) R (remove R p)
 deletes_sweep f s R p u nets n made k d cover left = record {
-    best = deletes_best f s R p u nets n made k d cover;
-    groups = λ L known. delete_groups f s R p L left known;
-  }
+  best = deletes_best f s R p u nets n made k d cover;
+  groups = λ L known. delete_groups f s R p L left known;
+}
 
 pub deletes_collapse : (f s : ℕ) (R : RuleMap) (p : Network) (u : SweepData) (block : ℕ) → AllNetworks (f + s) R → IsNetwork (f + s) p → IsSweepOf f s p u → u.rewrite.kind ≡ Delete → u.rewrite.depth ≡ p.len
     → IsCoverEntry (f + s) R p u.rewrite.entry → block ≡ p.bits / 2 ^ s → (IsDeepBlock f s (remove R p) (p.bits / 2 ^ s) → ⊥)
     → Leads f s (Collapse (record { sweep = u; block = block; unlinked = false })) R (remove R p)
 deletes_collapse f s R p u block nets n made k d cover here none = record {
-    best = deletes_best f s R p u nets n made k d cover;
-    groups = λ L known. subst (λ x. HasDeepGroups f s (remove R p) (λ i. if i == x then None else L i)) (sym here) (collapse_groups f s R p L none known);
-  }
+  best = deletes_best f s R p u nets n made k d cover;
+  groups = λ L known. subst (λ x. HasDeepGroups f s (remove R p) (λ i. if i == x then None else L i)) (sym here) (collapse_groups f s R p L none known);
+}
 
 pub begun_collapse : (f s : ℕ) (R : RuleMap) (p : Network) (u : SweepData) (block : ℕ) (F S : List ℕ) → IsNetwork (f + s) p → IsAnswering f s R F S → IsSweepOf f s p u
     → u.rewrite.kind ≡ Delete → u.rewrite.depth ≡ p.len → IsCoverEntry (f + s) R p u.rewrite.entry → IsSome (get R p) → f < p.len
@@ -133,16 +133,22 @@ begun_collapse f s R p u block F S n known made k d cover there long here none =
     let end = made.end in
     let best = deletes_best f s R p u known.networks n made k d cover (entry_at s F S) known.best in
     record {
-      under_way = ((λ _. record {
-        sweeping = sweeps_from f s R p u F S n known made (λ _. deep);
-        in_table = subst (λ x. x < 2 ^ f) (sym here) within;
-        low = subst (λ x. x * 2 ^ s ≤ u.from) (sym here) (subst (λ x. p.bits / 2 ^ s * 2 ^ s ≤ x) (sym from) low);
-        high = subst (λ x. u.end ≤ x * 2 ^ s + 2 ^ s) (sym here) (subst (λ x. x ≤ p.bits / 2 ^ s * 2 ^ s + 2 ^ s) (sym end) high);
-        group = subst (λ x. (g : ℕ) × (entry_in (slice_index F x) ≡ Group g)) (sym here) (deep_group f s R F (p.bits / 2 ^ s) known.groups within deep);
-        uniform = (entry_at s F S, sweep_stands f s p u F S made,
-          uniform_block f s block (remove R p) (λ a. final_entry u.from u.end u.rewrite a (entry_at s F S a)) (networks_remove (f + s) R p known.networks) best
-            (subst (λ x. x < 2 ^ f) (sym here) within) (subst (λ x. IsDeepBlock f s (remove R p) x → ⊥) (sym here) none));
-      }), (λ e. absurd cc));
+      under_way = (
+        (λ _. record {
+          sweeping = sweeps_from f s R p u F S n known made (λ _. deep);
+          in_table = subst (λ x. x < 2 ^ f) (sym here) within;
+          low = subst (λ x. x * 2 ^ s ≤ u.from) (sym here) (subst (λ x. p.bits / 2 ^ s * 2 ^ s ≤ x) (sym from) low);
+          high = subst (λ x. u.end ≤ x * 2 ^ s + 2 ^ s) (sym here) (subst (λ x. x ≤ p.bits / 2 ^ s * 2 ^ s + 2 ^ s) (sym end) high);
+          group = subst (λ x. (g : ℕ) × (entry_in (slice_index F x) ≡ Group g)) (sym here) (deep_group f s R F (p.bits / 2 ^ s) known.groups within deep);
+          uniform = (
+            entry_at s F S,
+            sweep_stands f s p u F S made,
+            uniform_block f s block (remove R p) (λ a. final_entry u.from u.end u.rewrite a (entry_at s F S a)) (networks_remove (f + s) R p known.networks) best
+                (subst (λ x. x < 2 ^ f) (sym here) within) (subst (λ x. IsDeepBlock f s (remove R p) x → ⊥) (sym here) none),
+          );
+        }),
+        (λ e. absurd cc),
+      );
       stands = sweep_stands f s p u F S made;
       groups = λ i _. refl;
     }

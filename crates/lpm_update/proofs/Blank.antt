@@ -18,9 +18,9 @@ use Rattle.lpm_update.specs.Leads.{IsAnswering}
 
 zero_at : (n i : ℕ) → slice_index (replicate n 0) i ≡ 0
 zero_at n i = elim (cases_lt i n) [
-    | inl below ↦ get_or-replicate n i 0 0 below
-    | inr above ↦ get_or_past (replicate n 0) i 0 (omega (arith, above, length-replicate {A = ℕ} n 0))
-  ]
+  | inl below ↦ get_or-replicate n i 0 0 below
+  | inr above ↦ get_or_past (replicate n 0) i 0 (omega (arith, above, length-replicate {A = ℕ} n 0))
+]
 
 miss_at : (n i : ℕ) → entry_in (slice_index (replicate n 0) i) ≡ Miss
 miss_at n i = ap entry_in (zero_at n i) ∙ entry_in_zero
@@ -41,17 +41,17 @@ blank_miss s n m a = ap (followed s (replicate m 0) (a % 2 ^ s)) (miss_at n (a /
 
 pub blank : (f s m : ℕ) → IsAnswering f s (empty {R = network_cmp}) (replicate (2 ^ f) 0) (replicate m 0)
 blank f s m = record {
-    table = record {
-      firsts_len = length-replicate (2 ^ f) 0;
-      first_words = λ i h. zero_word (f + s) (2 ^ f) i;
-      room = λ i g h e. absurd (no_group (2 ^ f) i g e);
-      second_words = λ j h. zero_second (f + s) m j;
-      linked_once = λ i j g h k e d. absurd (no_group (2 ^ f) i g e);
-    };
-    networks = networks_empty (f + s);
-    groups = λ i low. ((λ some. absurd (not_some (ap group_in (miss_at (2 ^ f) i)) some)), (λ d. absurd (not_some (get-empty network_cmp d.0) d.1)));
-    best = λ a low. subst (IsBest (f + s) empty a) (sym (blank_miss s (2 ^ f) m a)) (λ q some cov. not_some (get-empty network_cmp q) some);
-  }
+  table = record {
+    firsts_len = length-replicate (2 ^ f) 0;
+    first_words = λ i h. zero_word (f + s) (2 ^ f) i;
+    room = λ i g h e. absurd (no_group (2 ^ f) i g e);
+    second_words = λ j h. zero_second (f + s) m j;
+    linked_once = λ i j g h k e d. absurd (no_group (2 ^ f) i g e);
+  };
+  networks = networks_empty (f + s);
+  groups = λ i low. ((λ some. absurd (not_some (ap group_in (miss_at (2 ^ f) i)) some)), (λ d. absurd (not_some (get-empty network_cmp d.0) d.1)));
+  best = λ a low. subst (IsBest (f + s) empty a) (sym (blank_miss s (2 ^ f) m a)) (λ q some cov. not_some (get-empty network_cmp q) some);
+}
 
 -- and no block of it has a group
 pub blank_groups : (n i : ℕ) → group_at (replicate n 0) i ≡ None

@@ -62,6 +62,6 @@ deep_covers f s a q long fits c =
 -- where no such rule lies in its block, each rule that covers the address is short
 pub all_short : (f s a : ℕ) (R : RuleMap) → AllNetworks (f + s) R → (IsDeepBlock f s R (a / 2 ^ s) → ⊥) → (q : Network) → IsSome (get R q) → Covers (f + s) q a → q.len ≤ f
 all_short f s a R nets none q some c = elim (cases_lt f q.len) [
-    | inl long ↦ absurd (none (q, some, long, deep_covers f s a q long (nets q some).0 c))
-    | inr short ↦ short
-  ]
+  | inl long ↦ absurd (none (q, some, long, deep_covers f s a q long (nets q some).0 c))
+  | inr short ↦ short
+]

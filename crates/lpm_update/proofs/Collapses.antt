@@ -16,12 +16,12 @@ use Rattle.lpm_update.proofs.Fills.{range_true, range_low, range_high}
 -- at the end each address has its final entry
 pub stands_final : (s from end : ℕ) (c : Rewrite) (F S : List ℕ) (E : ℕ → Entry) → Stands s from end c F S E → (a : ℕ) → entry_at s F S a ≡ final_entry from end c a (E a)
 stands_final s from end c F S E t a = elim (cases_lt a from) [
-    | inl below ↦ t.before a below ∙ sym (range_low from end a (changed c (E a)) (E a) below)
-    | inr above ↦ elim (cases_lt a end) [
-      | inl inside ↦ t.done a above inside ∙ sym (range_true from end a (changed c (E a)) (E a) above inside)
-      | inr past ↦ t.todo a past ∙ sym (range_high from end a (changed c (E a)) (E a) past)
-    ]
+  | inl below ↦ t.before a below ∙ sym (range_low from end a (changed c (E a)) (E a) below)
+  | inr above ↦ elim (cases_lt a end) [
+    | inl inside ↦ t.done a above inside ∙ sym (range_true from end a (changed c (E a)) (E a) above inside)
+    | inr past ↦ t.todo a past ∙ sym (range_high from end a (changed c (E a)) (E a) past)
   ]
+]
 
 -- the words of the block's group are then all one
 pub uniform_words : (s from end : ℕ) (c : Rewrite) (F S : List ℕ) (E : ℕ → Entry) (b g : ℕ) (x : Entry) → entry_in (slice_index F b) ≡ Group g → Stands s from end c F S E

@@ -45,18 +45,19 @@ deep_linked : (f s : ℕ) (R : RuleMap) (xs : List GroupState) (L : ℕ → Opti
     → deep_blocks f s R ≡ set.from_list (linked_blocks xs)
 deep_linked f s R xs L nets t deep =
     set.same_set nat_cmp_total nat_cmp-IsAntisymmetric (deep_blocks f s R) (set.from_list (linked_blocks xs)) (λ b.
-      same_from_decides {P = Contains (linked_blocks xs) b} (set.contains (deep_blocks f s R) b) (list_any (eq_by_cmp nat_cmp b) (linked_blocks xs))
-        ((λ h.
-           let d = (has_deep_blocks f s R b).0 h in
-           let low = deep_below f s R b nets d in
-           let g = some_value (L b) ((deep b low).1 d) in
-           Contains-linked_blocks xs g.0 b (t.linked b g.0 low g.1)),
-         (λ c.
-           let at = group_of_block xs b c in
-           let k = t.only b at.0 at.1 in
-           (has_deep_blocks f s R b).1 ((deep b k.0).0 (subst IsSome (sym k.1) refl))))
-        (Contains-from_any (tells_apart exact_unsigned) b (linked_blocks xs), list_any-from_Contains (eq_by_cmp_equiv nat_cmp_total) b (linked_blocks xs))
-      ∙ sym (set.contains-from_list nat_cmp_total (linked_blocks xs) b))
+    same_from_decides {P = Contains (linked_blocks xs) b} (set.contains (deep_blocks f s R) b) (list_any (eq_by_cmp nat_cmp b) (linked_blocks xs)) (
+      (λ h.
+          let d = (has_deep_blocks f s R b).0 h in
+          let low = deep_below f s R b nets d in
+          let g = some_value (L b) ((deep b low).1 d) in
+          Contains-linked_blocks xs g.0 b (t.linked b g.0 low g.1)),
+      (λ c.
+          let at = group_of_block xs b c in
+          let k = t.only b at.0 at.1 in
+          (has_deep_blocks f s R b).1 ((deep b k.0).0 (subst IsSome (sym k.1) refl))),
+    )
+    (Contains-from_any (tells_apart exact_unsigned) b (linked_blocks xs), list_any-from_Contains (eq_by_cmp_equiv nat_cmp_total) b (linked_blocks xs))
+    ∙ sym (set.contains-from_list nat_cmp_total (linked_blocks xs) b))
 
 -- as many groups are linked as there are deep blocks
 pub linked_deep : (f s : ℕ) (R : RuleMap) (xs : List GroupState) (L : ℕ → Option ℕ) → AllNetworks (f + s) R → IsTied f xs L → HasDeepGroups f s R L

@@ -21,15 +21,15 @@ none_some e s =
 
 pub removed_was : (R : RuleMap) (p q : Network) → IsSome (get (remove R p) q) → IsSome (get R q)
 removed_was R p q some = elim (remove_cases R p q) [
-    | inl k ↦ absurd (none_some k.1 some)
-    | inr k ↦ subst IsSome k some
-  ]
+  | inl k ↦ absurd (none_some k.1 some)
+  | inr k ↦ subst IsSome k some
+]
 
 stays : (R : RuleMap) (p q : Network) (h : ℕ) → q.len ≢ p.len → get R q ≡ Some h → get (remove R p) q ≡ Some h
 stays R p q h n e = elim (remove_cases R p q) [
-    | inl k ↦ absurd (n (ap (λ (x : Network). x.len) k.0))
-    | inr k ↦ k ∙ e
-  ]
+  | inl k ↦ absurd (n (ap (λ (x : Network). x.len) k.0))
+  | inr k ↦ k ∙ e
+]
 
 -- two prefixes of one length that cover one address are one
 pub same_net : (width a : ℕ) (p q : Network) → IsNetwork width p → IsNetwork width q → Covers width p a → Covers width q a → q.len ≡ p.len → q ≡ p
@@ -75,16 +75,19 @@ to_cover width R p a v Miss nets n c b k = λ q some cov.
     ]
 to_cover width R p a v (Hop h d) nets n c b k =
     let short = k.1.shorter in
-    let len = k.2 in
-    (k.0, stays R p k.0 h (λ e. absurd (omega (arith, e, short))) k.1.rule, len,
-     covers_up width a p k.0 n.0 (omega (arith, short)) c ∙ k.1.covers,
-     λ q some cov.
-       let was = removed_was R p q some in
-       let most = b.4 q was cov in
-       elim (cases_eq q.len p.len) [
-         | inl e ↦ absurd (none_some (ap (get (remove R p)) (same_net width a p q n (nets q was) c cov e) ∙ remove_here R p) some)
-         | inr ne ↦ subst (λ x. q.len ≤ x) len (k.1.longest q was (omega (arith, most, ne)) (sym (covers_up width a p q n.0 most c) ∙ cov))
-       ])
+    let len = k.2 in (
+      k.0,
+      stays R p k.0 h (λ e. absurd (omega (arith, e, short))) k.1.rule,
+      len,
+      covers_up width a p k.0 n.0 (omega (arith, short)) c ∙ k.1.covers,
+      λ q some cov.
+          let was = removed_was R p q some in
+          let most = b.4 q was cov in
+          elim (cases_eq q.len p.len) [
+            | inl e ↦ absurd (none_some (ap (get (remove R p)) (same_net width a p q n (nets q was) c cov e) ∙ remove_here R p) some)
+            | inr ne ↦ subst (λ x. q.len ≤ x) len (k.1.longest q was (omega (arith, most, ne)) (sym (covers_up width a p q n.0 most c) ∙ cov))
+          ],
+    )
 to_cover width R p a v (Group g) nets n c b k = absurd k
 
 del_hop : (width : ℕ) (R : RuleMap) (p : Network) (a v d : ℕ) (e : Entry) (t : Bool) → nat_eq d p.len ≡ t → AllNetworks width R → IsNetwork width p → Covers width p a → IsBest width R a (Hop v d)
@@ -100,9 +103,14 @@ del_covered width R p a (Group g) new nets n c k b = absurd b
 
 pub del_other : (width : ℕ) (R : RuleMap) (p : Network) (a : ℕ) (e : Entry) → (Covers width p a → ⊥) → IsBest width R a e → IsBest width (remove R p) a e
 del_other width R p a Miss n b = gone_miss width R p a b
-del_other width R p a (Hop v d) n b =
-    (b.0, elim (remove_cases R p b.0) [
-        | inl k ↦ absurd (n (subst (λ x. Covers width x a) k.0 b.3))
-        | inr k ↦ k ∙ b.1
-      ], b.2, b.3, λ q some cov. b.4 q (removed_was R p q some) cov)
+del_other width R p a (Hop v d) n b = (
+  b.0,
+  elim (remove_cases R p b.0) [
+    | inl k ↦ absurd (n (subst (λ x. Covers width x a) k.0 b.3))
+    | inr k ↦ k ∙ b.1
+  ],
+  b.2,
+  b.3,
+  λ q some cov. b.4 q (removed_was R p q some) cov,
+)
 del_other width R p a (Group g) n b = absurd b

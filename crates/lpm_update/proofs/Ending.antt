@@ -37,14 +37,14 @@ over_groups f s u v F L same over known i low = known i low ∙ over.groups L i 
 pub over_answers : (f s : ℕ) (u v : Update) (R R' : RuleMap) (F S F' S' : List ℕ) → IsAnswering f s R F S → AllNetworks (f + s) R' → Leads f s u R R' → IsSameChange (f + s) u v → IsOver f s v
     → IsTable f s F' S' → StandsSoFar s v F' S' (entry_at s F S) → HasGroups f s v F' (group_at F) → IsAnswering f s R' F' S'
 over_answers f s u v R R' F S F' S' known nets leads same over table stands groups = record {
-    table = table;
-    networks = nets;
-    best = λ a low. subst (IsBest (f + s) R' a) (sym (over_entries f s u v F' S' (entry_at s F S) same over stands a)) (leads.best (entry_at s F S) known.best a low);
-    groups = λ i low.
+  table = table;
+  networks = nets;
+  best = λ a low. subst (IsBest (f + s) R' a) (sym (over_entries f s u v F' S' (entry_at s F S) same over stands a)) (leads.best (entry_at s F S) known.best a low);
+  groups = λ i low.
       let e = over_groups f s u v F' (group_at F) same over groups i low in
       let k = leads.groups (group_at F) known.groups i low in
       ((λ some. k.0 (subst IsSome e some)), (λ deep. subst IsSome (sym e) (k.1 deep)));
-  }
+}
 
 if_true : {A : Type 0} (b : Bool) (x y : A) → b ≡ true → (if b then x else y) ≡ x
 if_true b x y e = ap (λ z. if z then x else y) e
@@ -56,11 +56,11 @@ if_false b x y e = ap (λ z. if z then x else y) e
 pub over_held : (f s : ℕ) (v : Update) (F : List ℕ) (L : ℕ → Option ℕ) → IsOver f s v → HasGroups f s v F L → SameGroups f (group_held v F) (group_at F)
 over_held f s (Sweep v) F L over known i low = refl
 over_held f s (Fill v) F L over known i low = elim (cases_eq i v.block) [
-    | inl q ↦
-        let t = if_true (i == v.block) (Some v.group) (group_at F i) (eq-eqb i v.block q) in
-        known i low ∙ over.groups L i low ∙ if_true (i == v.block) (Some v.group) (L i) (eq-eqb i v.block q) ∙ sym t
-    | inr q ↦ sym (if_false (i == v.block) (Some v.group) (group_at F i) (ne_eqb i v.block q))
-  ]
+  | inl q ↦
+      let t = if_true (i == v.block) (Some v.group) (group_at F i) (eq-eqb i v.block q) in
+      known i low ∙ over.groups L i low ∙ if_true (i == v.block) (Some v.group) (L i) (eq-eqb i v.block q) ∙ sym t
+  | inr q ↦ sym (if_false (i == v.block) (Some v.group) (group_at F i) (ne_eqb i v.block q))
+]
 over_held f s (Collapse v) F L over known i low = refl
 over_held f s (Flush v) F L over known i low = refl
 
@@ -68,11 +68,11 @@ over_held f s (Flush v) F L over known i low = refl
 
 pub same_change : (width : ℕ) (u v w : Update) → IsSameChange width u v → IsSameChange width v w → IsSameChange width u w
 same_change width u v w p q = record {
-    from = q.from ∙ p.from;
-    end = q.end ∙ p.end;
-    rewrite = q.rewrite ∙ p.rewrite;
-    groups = λ L i. q.groups L i ∙ p.groups L i;
-  }
+  from = q.from ∙ p.from;
+  end = q.end ∙ p.end;
+  rewrite = q.rewrite ∙ p.rewrite;
+  groups = λ L i. q.groups L i ∙ p.groups L i;
+}
 
 -- a step that unlinks nothing leaves each block the group that it holds
 pub kept_groups : (d : Did) (R : ℕ → ℕ → Type 0) (X : Type 0) → ((b g : ℕ) → d ≡ Unlinked b g → ⊥) → MatchDid d (λ i. X) (λ j. X) R X → X

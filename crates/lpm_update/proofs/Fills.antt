@@ -26,10 +26,10 @@ unseen s F S g r w a h free = second_other s F S (g * 2 ^ s + r) w a (λ f q z.
 pub stands_unseen : (s from at : ℕ) (c : Rewrite) (F S : List ℕ) (E : ℕ → Entry) (g r w : ℕ) → r < 2 ^ s → ((i : ℕ) → entry_in (slice_index F i) ≡ Group g → ⊥)
     → Stands s from at c F S E → Stands s from at c F (slice_set S (g * 2 ^ s + r) w) E
 stands_unseen s from at c F S E g r w h free t = record {
-    before = λ a p. unseen s F S g r w a h free ∙ t.before a p;
-    done = λ a p q. unseen s F S g r w a h free ∙ t.done a p q;
-    todo = λ a p. unseen s F S g r w a h free ∙ t.todo a p;
-  }
+  before = λ a p. unseen s F S g r w a h free ∙ t.before a p;
+  done = λ a p q. unseen s F S g r w a h free ∙ t.done a p q;
+  todo = λ a p. unseen s F S g r w a h free ∙ t.todo a p;
+}
 
 -- the link
 pub linked_in : (s : ℕ) (F S : List ℕ) (b g w a : ℕ) → b < length F → entry_in w ≡ Group g → a / 2 ^ s ≡ b
@@ -64,12 +64,12 @@ stands_link s from end c F S E b g w h e l low mid high fill t =
     let old : (a : ℕ) → entry_at s F S a ≡ E a = λ a. elim (cases_lt a from) [ inl p ↦ t.before a p | inr p ↦ t.todo a p ] in
     let out : (a : ℕ) → a / 2 ^ s ≢ b → entry_at s (slice_set F b w) S a ≡ E a = λ a n. first_other s F S b w a n ∙ old a in
     let was : (a : ℕ) → a / 2 ^ s ≡ b → E a ≡ entry_in (slice_index F b) = λ a p.
-        sym (old a) ∙ ap (λ x. followed s S (a % 2 ^ s) (entry_in (slice_index F x))) p ∙ followed_last s S (a % 2 ^ s) _ l in
+    sym (old a) ∙ ap (λ x. followed s S (a % 2 ^ s) (entry_in (slice_index F x))) p ∙ followed_last s S (a % 2 ^ s) _ l in
     let new : (a : ℕ) → a / 2 ^ s ≡ b → entry_at s (slice_set F b w) S a ≡ cond (in_range from end a) (changed c (E a)) (E a) = λ a p.
-        let place : b * 2 ^ s + a % 2 ^ s ≡ a = ap (λ x. x * 2 ^ s + a % 2 ^ s) (sym p) ∙ shr_split a s in
-        linked_in s F S b g w a h e p ∙ fill (a % 2 ^ s) (mod_below a (2 ^ s) (pow_pos s))
-        ∙ ap (λ x. cond (in_range from end x) (changed c (entry_in (slice_index F b))) (entry_in (slice_index F b))) place
-        ∙ ap (λ x. cond (in_range from end a) (changed c x) x) (sym (was a p)) in
+    let place : b * 2 ^ s + a % 2 ^ s ≡ a = ap (λ x. x * 2 ^ s + a % 2 ^ s) (sym p) ∙ shr_split a s in
+    linked_in s F S b g w a h e p ∙ fill (a % 2 ^ s) (mod_below a (2 ^ s) (pow_pos s))
+    ∙ ap (λ x. cond (in_range from end x) (changed c (entry_in (slice_index F b))) (entry_in (slice_index F b))) place
+    ∙ ap (λ x. cond (in_range from end a) (changed c x) x) (sym (was a p)) in
     record {
       before = λ a p. elim (cases_eq (a / 2 ^ s) b) [ inl q ↦ new a q ∙ range_low from end a (changed c (E a)) (E a) p | inr n ↦ out a n ];
       done = λ a p q. new a (block_of s a b (omega (arith, low, p)) (omega (arith, high, q))) ∙ range_true from end a (changed c (E a)) (E a) p q;
@@ -86,10 +86,10 @@ table_link f s F S b g w t h n room p free =
     let q : entry_in w ≡ Group g = word_entry (f + s) w (Group g) n p in
     let at : entry_in (slice_index (slice_set F b w) b) ≡ Group g = ap entry_in (get_or-set_same F b w 0 within) ∙ q in
     let cases : (k i : ℕ) → entry_in (slice_index (slice_set F b w) k) ≡ Group i → ((k ≡ b) × (i ≡ g)) ⊎ ((k ≢ b) × (entry_in (slice_index F k) ≡ Group i)) = λ k i z.
-        elim (cases_eq k b) [
-          | inl e ↦ inl (e, same_group i g (sym z ∙ ap (λ x. entry_in (slice_index (slice_set F b w) x)) e ∙ at))
-          | inr ne ↦ inr (ne, ap entry_in (sym (get_or-set_other F b k w 0 ne)) ∙ z)
-        ] in
+    elim (cases_eq k b) [
+      | inl e ↦ inl (e, same_group i g (sym z ∙ ap (λ x. entry_in (slice_index (slice_set F b w) x)) e ∙ at))
+      | inr ne ↦ inr (ne, ap entry_in (sym (get_or-set_other F b k w 0 ne)) ∙ z)
+    ] in
     record {
       firsts_len = length-set F b w ∙ t.firsts_len;
       first_words = λ k m. each_set (λ k x. IsWord (f + s) x) F b w within (word_is (f + s) w (Group g) n p) (λ k m. t.first_words k (subst (λ x. k < x) t.firsts_len m)) k (subst (λ x. k < x) (sym t.firsts_len) m);
@@ -146,7 +146,13 @@ after_fill f s u F S F' S' j w t k h p q eF eS =
     record {
       table = rw (eF, eS) (table_second f s F S j w e t within fit last q);
       filling = rw (eF, eS) (record {
-        block = k.block; low = k.low; range = k.range; high = k.high; entry = k.entry; last = k.last; group = k.group;
+        block = k.block;
+        low = k.low;
+        range = k.range;
+        high = k.high;
+        entry = k.entry;
+        last = k.last;
+        group = k.group;
         room = subst (λ x. u.group * 2 ^ s + 2 ^ s ≤ x) (sym (length-set S j w)) k.room;
         free = λ _. free;
         old = λ _. k.old below;
@@ -157,18 +163,19 @@ after_fill f s u F S F' S' j w t k h p q eF eS =
         ];
       });
       stands = λ E x. rw (eF, eS, reached_low s (next_fill u) (omega (arith, h)), p) (stands_unseen s u.from u.from u.rewrite F S E u.group u.next w h free
-        (subst (λ n. Stands s u.from n u.rewrite F S E) (reached_low s u below) x));
+          (subst (λ n. Stands s u.from n u.rewrite F S E) (reached_low s u below) x));
     }
 
 pub after_link : (f s : ℕ) (u : Fill) (F S F' S' : List ℕ) (w : ℕ) → IsTable f s F S → IsFilling f s u F S → u.next ≡ 2 ^ s → w ≡ word_of (Group u.group)
     → F' ≡ slice_set F u.block w → S' ≡ S → IsTable f s F' S' × ((E : ℕ → Entry) → Stands s u.from (reached s u) u.rewrite F S E → Stands s u.from (reached s (next_fill u)) u.rewrite F' S' E)
 after_link f s u F S F' S' w t k h q eF eS =
     let below : u.next ≤ 2 ^ s = omega (arith, h) in
-    let within : u.block < length F = subst (λ n. u.block < n) (sym t.firsts_len) k.block in
-    (rw (eF, eS) (table_link f s F S u.block u.group w t k.block k.group k.room q (k.free below)),
-    λ E x. rw (eF, eS, reached_high s (next_fill u) (omega (arith, h))) (stands_link s u.from u.end u.rewrite F S E u.block u.group w within (word_entry (f + s) w (Group u.group) k.group q) (k.old below)
-      k.low k.range k.high (λ r m. k.filled below r (omega (arith, m, h)))
-      (subst (λ n. Stands s u.from n u.rewrite F S E) (reached_low s u below) x)))
+    let within : u.block < length F = subst (λ n. u.block < n) (sym t.firsts_len) k.block in (
+      rw (eF, eS) (table_link f s F S u.block u.group w t k.block k.group k.room q (k.free below)),
+      λ E x. rw (eF, eS, reached_high s (next_fill u) (omega (arith, h))) (stands_link s u.from u.end u.rewrite F S E u.block u.group w within (word_entry (f + s) w (Group u.group) k.group q) (k.old below)
+          k.low k.range k.high (λ r m. k.filled below r (omega (arith, m, h)))
+          (subst (λ n. Stands s u.from n u.rewrite F S E) (reached_low s u below) x)),
+    )
 
 pub block_small : (f b : ℕ) → b < 2 ^ f → f ≤ 32 → b < 2 ^ 32
 block_small f b h l = let z : 2 ^ f ≤ 2 ^ 32 = pow_mono l in omega (arith, h, z)

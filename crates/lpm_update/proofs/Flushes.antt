@@ -24,18 +24,18 @@ zero_miss s F S a z = ap (followed s S (a % 2 ^ s)) (ap entry_in z ∙ entry_in_
 -- an address whose block is below m stands below the m-th block's first
 below_block : (s a m : ℕ) → a < m * 2 ^ s → a / 2 ^ s < m
 below_block s a m h = elim (cases_lt (a / 2 ^ s) m) [
-    | inl below ↦ below
-    | inr above ↦ let z = mul-le-mul_right (2 ^ s) above in absurd (omega (arith, z, h, block_low s a))
-  ]
+  | inl below ↦ below
+  | inr above ↦ let z = mul-le-mul_right (2 ^ s) above in absurd (omega (arith, z, h, block_low s a))
+]
 
 above_block : (s a m : ℕ) → m * 2 ^ s ≤ a → m ≤ a / 2 ^ s
 above_block s a m h = elim (cases_lt (a / 2 ^ s) m) [
-    | inl below ↦
-        let z = mul-le-mul_right (2 ^ s) below in
-        let one : suc (a / 2 ^ s) * 2 ^ s ≡ a / 2 ^ s * 2 ^ s + 2 ^ s = omega arith in
-        absurd (omega (arith, z, one, h, block_high s a))
-    | inr above ↦ above
-  ]
+  | inl below ↦
+      let z = mul-le-mul_right (2 ^ s) below in
+      let one : suc (a / 2 ^ s) * 2 ^ s ≡ a / 2 ^ s * 2 ^ s + 2 ^ s = omega arith in
+      absurd (omega (arith, z, one, h, block_high s a))
+  | inr above ↦ above
+]
 
 -- over words that are misses
 pub skip_zeros : (s n m : ℕ) (F S : List ℕ) (E : ℕ → Entry) → n ≤ m → ((k : ℕ) → n ≤ k → k < m → slice_index F k ≡ 0)

@@ -50,17 +50,17 @@ group_set_other F i k w n = ap (λ x. group_in (entry_in x)) (get_or-set_other F
 -- a store of an entry that is no group over one that is none
 keeps_groups : (F : List ℕ) (i k w : ℕ) → i < length F → IsLast (entry_in (slice_index F i)) → IsLast (entry_in w) → group_at (slice_set F i w) k ≡ group_at F k
 keeps_groups F i k w h l m = elim (cases_eq k i) [
-    | inl e ↦ ap (group_at (slice_set F i w)) e ∙ group_set_same F i w h ∙ last_none (entry_in w) m ∙ sym (last_none (entry_in (slice_index F i)) l) ∙ ap (group_at F) (sym e)
-    | inr n ↦ group_set_other F i k w n
-  ]
+  | inl e ↦ ap (group_at (slice_set F i w)) e ∙ group_set_same F i w h ∙ last_none (entry_in w) m ∙ sym (last_none (entry_in (slice_index F i)) l) ∙ ap (group_at F) (sym e)
+  | inr n ↦ group_set_other F i k w n
+]
 
 first_within : (f s i end : ℕ) → i * 2 ^ s < end → end ≤ 2 ^ (f + s) → i < 2 ^ f
 first_within f s i end h l = elim (cases_lt i (2 ^ f)) [
-    | inl below ↦ below
-    | inr above ↦
-        let z = mul-le-mul_right (2 ^ s) above in
-        absurd (omega (arith, z, h, l, pow-add 2 f s))
-  ]
+  | inl below ↦ below
+  | inr above ↦
+      let z = mul-le-mul_right (2 ^ s) above in
+      absurd (omega (arith, z, h, l, pow-add 2 f s))
+]
 
 -- a store of a sweep in the first table leaves each block its group
 pub sweep_groups : (f s from at end : ℕ) (c : Rewrite) (F S F' : List ℕ) (i w k : ℕ) → IsTable f s F S → IsSweeping f s from at end c F → NextFirst s at end c F S i w → F' ≡ slice_set F i w
@@ -127,12 +127,12 @@ none_at_zero F k z = ap (λ x. group_in (entry_in x)) z ∙ ap group_in entry_in
 pub zeros_groups : (n m k : ℕ) (F : List ℕ) (L : ℕ → Option ℕ) → n ≤ m → ((i : ℕ) → n ≤ i → i < m → slice_index F i ≡ 0)
     → group_at F k ≡ (if nat_lt k n then None else L k) → group_at F k ≡ (if nat_lt k m then None else L k)
 zeros_groups n m k F L l zeros known = elim (cases_lt k m) [
-    | inl below ↦ elim (cases_lt k n) [
-      | inl low ↦ known ∙ if_true (nat_lt k n) None (L k) (lt-ltb k n low) ∙ sym (if_true (nat_lt k m) None (L k) (lt-ltb k m below))
-      | inr from ↦ none_at_zero F k (zeros k from below) ∙ sym (if_true (nat_lt k m) None (L k) (lt-ltb k m below))
-    ]
-    | inr above ↦ known ∙ if_false (nat_lt k n) None (L k) (le-ltb k n (omega (arith, above, l))) ∙ sym (if_false (nat_lt k m) None (L k) (le-ltb k m above))
+  | inl below ↦ elim (cases_lt k n) [
+    | inl low ↦ known ∙ if_true (nat_lt k n) None (L k) (lt-ltb k n low) ∙ sym (if_true (nat_lt k m) None (L k) (lt-ltb k m below))
+    | inr from ↦ none_at_zero F k (zeros k from below) ∙ sym (if_true (nat_lt k m) None (L k) (lt-ltb k m below))
   ]
+  | inr above ↦ known ∙ if_false (nat_lt k n) None (L k) (le-ltb k n (omega (arith, above, l))) ∙ sym (if_false (nat_lt k m) None (L k) (le-ltb k m above))
+]
 
 pub flush_groups : (f s n i w m k : ℕ) (F S F' : List ℕ) (L : ℕ → Option ℕ) → IsTable f s F S → NextFlush f n F i w → F' ≡ slice_set F i w → m ≡ i + 1
     → group_at F k ≡ (if nat_lt k n then None else L k) → group_at F' k ≡ (if nat_lt k m then None else L k)
@@ -146,9 +146,9 @@ flush_groups f s n i w m k F S F' L t u e em known =
   where
     past : k ≢ i → (if nat_lt k i then None else L k) ≡ (if nat_lt k m then None else L k)
     past q = elim (cases_lt k i) [
-        | inl below ↦ if_true (nat_lt k i) None (L k) (lt-ltb k i below) ∙ sym (if_true (nat_lt k m) None (L k) (lt-ltb k m (omega (arith, below, em))))
-        | inr above ↦ if_false (nat_lt k i) None (L k) (le-ltb k i above) ∙ sym (if_false (nat_lt k m) None (L k) (le-ltb k m (omega (arith, above, q, em))))
-      ]
+      | inl below ↦ if_true (nat_lt k i) None (L k) (lt-ltb k i below) ∙ sym (if_true (nat_lt k m) None (L k) (lt-ltb k m (omega (arith, below, em))))
+      | inr above ↦ if_false (nat_lt k i) None (L k) (le-ltb k i above) ∙ sym (if_false (nat_lt k m) None (L k) (le-ltb k m (omega (arith, above, q, em))))
+    ]
 
 -- a block has a group or none
 pub group_cases : (o : Option ℕ) → (o ≡ None) ⊎ ((g : ℕ) × (o ≡ Some g))
@@ -219,9 +219,9 @@ flush_keeps f s n i w k F S F' t u none e =
 pub fill_holds : (u v : Fill) (F F' : List ℕ) (k : ℕ) → v.block ≡ u.block → v.group ≡ u.group → (k ≢ u.block → group_at F' k ≡ group_at F k)
     → (if k == v.block then Some v.group else group_at F' k) ≡ (if k == u.block then Some u.group else group_at F k)
 fill_holds u v F F' k b g same = ap (λ x. if k == x then Some v.group else group_at F' k) b ∙ ap (λ x. if k == u.block then Some x else group_at F' k) g ∙ elim (cases_eq k u.block) [
-    | inl q ↦ if_true (k == u.block) (Some u.group) (group_at F' k) (eq-eqb k u.block q) ∙ sym (if_true (k == u.block) (Some u.group) (group_at F k) (eq-eqb k u.block q))
-    | inr q ↦ if_false (k == u.block) (Some u.group) (group_at F' k) (ne_eqb k u.block q) ∙ same q ∙ sym (if_false (k == u.block) (Some u.group) (group_at F k) (ne_eqb k u.block q))
-  ]
+  | inl q ↦ if_true (k == u.block) (Some u.group) (group_at F' k) (eq-eqb k u.block q) ∙ sym (if_true (k == u.block) (Some u.group) (group_at F k) (eq-eqb k u.block q))
+  | inr q ↦ if_false (k == u.block) (Some u.group) (group_at F' k) (ne_eqb k u.block q) ∙ same q ∙ sym (if_false (k == u.block) (Some u.group) (group_at F k) (ne_eqb k u.block q))
+]
 
 pub link_others : (F F' : List ℕ) (i w block k : ℕ) → i ≡ block → F' ≡ slice_set F i w → k ≢ block → group_at F' k ≡ group_at F k
 link_others F F' i w block k here e apart = ap (λ x. group_at x k) e ∙ group_set_other F i k w (λ q. apart (q ∙ here))

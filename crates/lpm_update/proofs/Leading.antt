@@ -27,12 +27,12 @@ use Rattle.lpm_update.proofs.Flushes.{flushed_miss}
 by_range : (width : ℕ) (R' : RuleMap) (from end a : ℕ) (c : Rewrite) (e : Entry) → (from ≤ a → a < end → IsBest width R' a (changed c e)) → ((a < from) ⊎ (end ≤ a) → IsBest width R' a e)
     → IsBest width R' a (final_entry from end c a e)
 by_range width R' from end a c e inside outside = elim (cases_lt a from) [
-    | inl below ↦ subst (IsBest width R' a) (sym (range_low from end a (changed c e) e below)) (outside (inl below))
-    | inr above ↦ elim (cases_lt a end) [
-      | inl below ↦ subst (IsBest width R' a) (sym (range_true from end a (changed c e) e above below)) (inside above below)
-      | inr past ↦ subst (IsBest width R' a) (sym (range_high from end a (changed c e) e past)) (outside (inr past))
-    ]
+  | inl below ↦ subst (IsBest width R' a) (sym (range_low from end a (changed c e) e below)) (outside (inl below))
+  | inr above ↦ elim (cases_lt a end) [
+    | inl below ↦ subst (IsBest width R' a) (sym (range_true from end a (changed c e) e above below)) (inside above below)
+    | inr past ↦ subst (IsBest width R' a) (sym (range_high from end a (changed c e) e past)) (outside (inr past))
   ]
+]
 
 not_covered : (width : ℕ) (p : Network) (a : ℕ) → IsNetwork width p → (a < p.bits) ⊎ (p.bits + 2 ^ (width - p.len) ≤ a) → Covers width p a → ⊥
 not_covered width p a n (inl below) c = let z = (range_covers width p a n c).0 in absurd (omega (arith, z, below))
@@ -61,24 +61,25 @@ some_none e s = not_some e s
 
 insert_some : (R : RuleMap) (p q : Network) (h : ℕ) → IsSome (get R q) → IsSome (get (insert R p h) q)
 insert_some R p q h some = elim (insert_cases R p h q) [
-    | inl k ↦ subst IsSome (sym k.1) refl
-    | inr k ↦ subst IsSome (sym k) some
-  ]
+  | inl k ↦ subst IsSome (sym k.1) refl
+  | inr k ↦ subst IsSome (sym k) some
+]
 
 -- the deep blocks after an add: those before, and the one of the rule where it is deep
 insert_deep : (f s : ℕ) (R : RuleMap) (p : Network) (h i : ℕ) → IsDeepBlock f s (insert R p h) i → ((f < p.len) × (p.bits / 2 ^ s ≡ i)) ⊎ IsDeepBlock f s R i
 insert_deep f s R p h i d = elim (insert_cases R p h d.0) [
-    | inl k ↦ inl (subst (λ (x : Network). f < x.len) k.0 d.2, subst (λ (x : Network). x.bits / 2 ^ s ≡ i) k.0 d.3)
-    | inr k ↦ inr (d.0, subst IsSome k d.1, d.2, d.3)
-  ]
+  | inl k ↦ inl (subst (λ (x : Network). f < x.len) k.0 d.2, subst (λ (x : Network). x.bits / 2 ^ s ≡ i) k.0 d.3)
+  | inr k ↦ inr (d.0, subst IsSome k d.1, d.2, d.3)
+]
 
 pub add_groups : (f s : ℕ) (R : RuleMap) (p : Network) (h : ℕ) (L : ℕ → Option ℕ) → (f < p.len → IsDeepBlock f s R (p.bits / 2 ^ s)) → HasDeepGroups f s R L → HasDeepGroups f s (insert R p h) L
 add_groups f s R p h L deep known i low = (
-    (λ some. let d = (known i low).0 some in (d.0, insert_some R p d.0 h d.1, d.2, d.3)),
-    (λ d. (known i low).1 (elim (insert_deep f s R p h i d) [
-      | inl k ↦ subst (IsDeepBlock f s R) k.1 (deep k.0)
-      | inr k ↦ k
-    ])))
+  (λ some. let d = (known i low).0 some in (d.0, insert_some R p d.0 h d.1, d.2, d.3)),
+  (λ d. (known i low).1 (elim (insert_deep f s R p h i d) [
+    | inl k ↦ subst (IsDeepBlock f s R) k.1 (deep k.0)
+    | inr k ↦ k
+  ])),
+)
 
 if_true : {A : Type 0} (b : Bool) (x y : A) → b ≡ true → (if b then x else y) ≡ x
 if_true b x y e = ap (λ z. if z then x else y) e
@@ -88,23 +89,24 @@ if_false b x y e = ap (λ z. if z then x else y) e
 
 pub fill_deep : (f s : ℕ) (R : RuleMap) (p : Network) (h g : ℕ) (L : ℕ → Option ℕ) → f < p.len → HasDeepGroups f s R L → HasDeepGroups f s (insert R p h) (λ i. if i == p.bits / 2 ^ s then Some g else L i)
 fill_deep f s R p h g L long known i low = elim (cases_eq i (p.bits / 2 ^ s)) [
-    | inl here ↦
-        let e = if_true (i == p.bits / 2 ^ s) (Some g) (L i) (eq-eqb i (p.bits / 2 ^ s) here) in
-        ((λ _. (p, subst IsSome (sym (insert_here R p h)) refl, long, sym here)), (λ _. subst IsSome (sym e) refl))
-    | inr other ↦
-        let e = if_false (i == p.bits / 2 ^ s) (Some g) (L i) (ne_eqb i (p.bits / 2 ^ s) other) in
-        ((λ some. let d = (known i low).0 (subst IsSome e some) in (d.0, insert_some R p d.0 h d.1, d.2, d.3)),
-         (λ d. subst IsSome (sym e) ((known i low).1 (elim (insert_deep f s R p h i d) [
-           | inl k ↦ absurd (other (sym k.1))
-           | inr k ↦ k
-         ]))))
-  ]
+  | inl here ↦
+      let e = if_true (i == p.bits / 2 ^ s) (Some g) (L i) (eq-eqb i (p.bits / 2 ^ s) here) in
+      ((λ _. (p, subst IsSome (sym (insert_here R p h)) refl, long, sym here)), (λ _. subst IsSome (sym e) refl))
+  | inr other ↦
+      let e = if_false (i == p.bits / 2 ^ s) (Some g) (L i) (ne_eqb i (p.bits / 2 ^ s) other) in (
+        (λ some. let d = (known i low).0 (subst IsSome e some) in (d.0, insert_some R p d.0 h d.1, d.2, d.3)),
+        (λ d. subst IsSome (sym e) ((known i low).1 (elim (insert_deep f s R p h i d) [
+          | inl k ↦ absurd (other (sym k.1))
+          | inr k ↦ k
+        ]))),
+      )
+]
 
 remove_deep : (f s : ℕ) (R : RuleMap) (p : Network) (i : ℕ) → IsDeepBlock f s R i → ((f < p.len) × (p.bits / 2 ^ s ≡ i)) ⊎ IsDeepBlock f s (remove R p) i
 remove_deep f s R p i d = elim (remove_cases R p d.0) [
-    | inl k ↦ inl (subst (λ (x : Network). f < x.len) k.0 d.2, subst (λ (x : Network). x.bits / 2 ^ s ≡ i) k.0 d.3)
-    | inr k ↦ inr (d.0, subst IsSome (sym k) d.1, d.2, d.3)
-  ]
+  | inl k ↦ inl (subst (λ (x : Network). f < x.len) k.0 d.2, subst (λ (x : Network). x.bits / 2 ^ s ≡ i) k.0 d.3)
+  | inr k ↦ inr (d.0, subst IsSome (sym k) d.1, d.2, d.3)
+]
 
 was_deep : (f s : ℕ) (R : RuleMap) (p : Network) (i : ℕ) → IsDeepBlock f s (remove R p) i → IsDeepBlock f s R i
 was_deep f s R p i d = (d.0, removed_was R p d.0 d.1, d.2, d.3)
@@ -112,27 +114,29 @@ was_deep f s R p i d = (d.0, removed_was R p d.0 d.1, d.2, d.3)
 -- a rule goes that is short, or leaves another deep one in its block
 pub delete_groups : (f s : ℕ) (R : RuleMap) (p : Network) (L : ℕ → Option ℕ) → (f < p.len → IsDeepBlock f s (remove R p) (p.bits / 2 ^ s)) → HasDeepGroups f s R L → HasDeepGroups f s (remove R p) L
 delete_groups f s R p L deep known i low = (
-    (λ some. elim (remove_deep f s R p i ((known i low).0 some)) [
-      | inl k ↦ subst (IsDeepBlock f s (remove R p)) k.1 (deep k.0)
-      | inr k ↦ k
-    ]),
-    (λ d. (known i low).1 (was_deep f s R p i d)))
+  (λ some. elim (remove_deep f s R p i ((known i low).0 some)) [
+    | inl k ↦ subst (IsDeepBlock f s (remove R p)) k.1 (deep k.0)
+    | inr k ↦ k
+  ]),
+  (λ d. (known i low).1 (was_deep f s R p i d)),
+)
 
 -- the last deep rule of its block goes
 pub collapse_groups : (f s : ℕ) (R : RuleMap) (p : Network) (L : ℕ → Option ℕ) → (IsDeepBlock f s (remove R p) (p.bits / 2 ^ s) → ⊥) → HasDeepGroups f s R L
     → HasDeepGroups f s (remove R p) (λ i. if i == p.bits / 2 ^ s then None else L i)
 collapse_groups f s R p L none known i low = elim (cases_eq i (p.bits / 2 ^ s)) [
-    | inl here ↦
-        let e = if_true (i == p.bits / 2 ^ s) None (L i) (eq-eqb i (p.bits / 2 ^ s) here) in
-        ((λ some. absurd (some_none e some)), (λ d. absurd (none (subst (IsDeepBlock f s (remove R p)) here d))))
-    | inr other ↦
-        let e = if_false (i == p.bits / 2 ^ s) None (L i) (ne_eqb i (p.bits / 2 ^ s) other) in
-        ((λ some. elim (remove_deep f s R p i ((known i low).0 (subst IsSome e some))) [
-           | inl k ↦ absurd (other (sym k.1))
-           | inr k ↦ k
-         ]),
-         (λ d. subst IsSome (sym e) ((known i low).1 (was_deep f s R p i d))))
-  ]
+  | inl here ↦
+      let e = if_true (i == p.bits / 2 ^ s) None (L i) (eq-eqb i (p.bits / 2 ^ s) here) in
+      ((λ some. absurd (some_none e some)), (λ d. absurd (none (subst (IsDeepBlock f s (remove R p)) here d))))
+  | inr other ↦
+      let e = if_false (i == p.bits / 2 ^ s) None (L i) (ne_eqb i (p.bits / 2 ^ s) other) in (
+        (λ some. elim (remove_deep f s R p i ((known i low).0 (subst IsSome e some))) [
+          | inl k ↦ absurd (other (sym k.1))
+          | inr k ↦ k
+        ]),
+        (λ d. subst IsSome (sym e) ((known i low).1 (was_deep f s R p i d))),
+      )
+]
 
 pub flush_deep : (f s : ℕ) → HasDeepGroups f s (empty {R = network_cmp}) (λ i. None)
 flush_deep f s i low = ((λ some. absurd (some_none refl some)), (λ d. absurd (not_some (get-empty network_cmp d.0) d.1)))

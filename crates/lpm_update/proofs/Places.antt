@@ -74,13 +74,13 @@ changed_kept c e h = ap (λ b. cond b c.entry e) h
 -- over addresses that keep their entries
 pub stands_skip : (s from at next : ℕ) (c : Rewrite) (F S : List ℕ) (E : ℕ → Entry) → at ≤ next → Skips s c F S at next → Stands s from at c F S E → Stands s from next c F S E
 stands_skip s from at next c F S E l k t = record {
-    before = t.before;
-    done = λ a p q. elim (cases_lt a at) [
-      | inl h ↦ t.done a p h
-      | inr h ↦ t.todo a h ∙ sym (ap (changed c) (sym (t.todo a h)) ∙ changed_kept c _ (k a h q) ∙ t.todo a h)
-    ];
-    todo = λ a p. t.todo a (omega arith);
-  }
+  before = t.before;
+  done = λ a p q. elim (cases_lt a at) [
+    | inl h ↦ t.done a p h
+    | inr h ↦ t.todo a h ∙ sym (ap (changed c) (sym (t.todo a h)) ∙ changed_kept c _ (k a h q) ∙ t.todo a h)
+  ];
+  todo = λ a p. t.todo a (omega arith);
+}
 
 -- a store in the first table
 pub stands_first : (s from at : ℕ) (c : Rewrite) (F S : List ℕ) (E : ℕ → Entry) (i w : ℕ) → from ≤ at → at ≡ i * 2 ^ s → i < length F
@@ -88,18 +88,18 @@ pub stands_first : (s from at : ℕ) (c : Rewrite) (F S : List ℕ) (E : ℕ →
     → Stands s from at c F S E → Stands s from (i * 2 ^ s + 2 ^ s) c (slice_set F i w) S E
 stands_first s from at c F S E i w o e h l k r m t =
     let other : (a : ℕ) → (a < i * 2 ^ s) ⊎ (i * 2 ^ s + 2 ^ s ≤ a) → entry_at s (slice_set F i w) S a ≡ entry_at s F S a = λ a d.
-        first_other s F S i w a (λ q. elim d [
-          | inl below ↦ absurd (omega (arith, below, block_low s a, ap (λ x. x * 2 ^ s) q))
-          | inr above ↦ absurd (omega (arith, above, block_high s a, ap (λ x. x * 2 ^ s) q))
-        ]) in
+    first_other s F S i w a (λ q. elim d [
+      | inl below ↦ absurd (omega (arith, below, block_low s a, ap (λ x. x * 2 ^ s) q))
+      | inr above ↦ absurd (omega (arith, above, block_high s a, ap (λ x. x * 2 ^ s) q))
+    ]) in
     record {
       before = λ a p. other a (inl (omega arith)) ∙ t.before a p;
       done = λ a p q. elim (cases_lt a (i * 2 ^ s)) [
         | inl below ↦ other a (inl below) ∙ t.done a p (omega (arith, below, e))
         | inr above ↦
             let here = block_of s a i above q in
-            let was : entry_at s F S a ≡ entry_in (slice_index F i) = 
-                ap (λ x. followed s S (a % 2 ^ s) (entry_in (slice_index F x))) here ∙ followed_last s S (a % 2 ^ s) _ l in
+            let was : entry_at s F S a ≡ entry_in (slice_index F i) =
+            ap (λ x. followed s S (a % 2 ^ s) (entry_in (slice_index F x))) here ∙ followed_last s S (a % 2 ^ s) _ l in
             let is : E a ≡ entry_in (slice_index F i) = sym (t.todo a (omega (arith, e, above))) ∙ was in
             first_same s F S i w a h here (subst IsLast (sym r) m) ∙ r ∙ sym (changed_taken c (E a) (ap (takes c) is ∙ k))
       ];
@@ -114,10 +114,10 @@ pub stands_second : (s from at : ℕ) (c : Rewrite) (F S : List ℕ) (E : ℕ �
     → Stands s from at c F S E → Stands s from (at + 1) c F (slice_set S j w) E
 stands_second s from at c F S E g j w o e p h once k r t =
     let other : (a : ℕ) → a ≢ at → entry_at s F (slice_set S j w) a ≡ entry_at s F S a = λ a n.
-        second_other s F S j w a (λ f q z.
-          let both = same_from_place f (a % 2 ^ s) g (at % 2 ^ s) (2 ^ s) (mod_below a (2 ^ s) (pow_pos s)) (mod_below at (2 ^ s) (pow_pos s)) (z ∙ p) in
-          let same = once a (q ∙ ap Group both.0) in
-          n (sym (shr_split a s) ∙ ap (λ x. x * 2 ^ s + a % 2 ^ s) same ∙ ap (λ x. at / 2 ^ s * 2 ^ s + x) both.1 ∙ shr_split at s)) in
+    second_other s F S j w a (λ f q z.
+    let both = same_from_place f (a % 2 ^ s) g (at % 2 ^ s) (2 ^ s) (mod_below a (2 ^ s) (pow_pos s)) (mod_below at (2 ^ s) (pow_pos s)) (z ∙ p) in
+    let same = once a (q ∙ ap Group both.0) in
+    n (sym (shr_split a s) ∙ ap (λ x. x * 2 ^ s + a % 2 ^ s) same ∙ ap (λ x. at / 2 ^ s * 2 ^ s + x) both.1 ∙ shr_split at s)) in
     record {
       before = λ a q. other a (λ z. absurd (omega (arith, z, q, o))) ∙ t.before a q;
       done = λ a q l. elim (cases_lt a at) [
@@ -125,8 +125,8 @@ stands_second s from at c F S E g j w o e p h once k r t =
         | inr above ↦
             let z : a ≡ at = omega (arith, above, l) in
             subst (λ x. entry_at s F (slice_set S j w) x ≡ changed c (E x)) (sym z)
-              (second_same s F S g j w at e p h ∙ r
-              ∙ sym (changed_taken c (E at) (ap (takes c) (sym (t.todo at (omega arith)) ∙ in_group s F S g at e ∙ ap (λ x. entry_in (slice_index S x)) (sym p)) ∙ k)))
+            (second_same s F S g j w at e p h ∙ r
+            ∙ sym (changed_taken c (E at) (ap (takes c) (sym (t.todo at (omega arith)) ∙ in_group s F S g at e ∙ ap (λ x. entry_in (slice_index S x)) (sym p)) ∙ k)))
       ];
       todo = λ a q. other a (λ z. absurd (omega (arith, z, q))) ∙ t.todo a (omega arith);
     }
@@ -158,8 +158,8 @@ table_first f s F S i w e t h n l p =
     let within : i < length F = subst (λ k. i < k) (sym t.firsts_len) h in
     let q = word_entry (f + s) w e n p in
     let old : (k g : ℕ) → entry_in (slice_index (slice_set F i w) k) ≡ Group g → (k ≢ i) × (entry_in (slice_index F k) ≡ Group g) = λ k g z.
-        let other : k ≢ i = λ here. last_no_group e g l (sym q ∙ ap entry_in (sym (get_or-set_same F i w 0 within)) ∙ ap (λ x. entry_in (slice_index (slice_set F i w) x)) (sym here) ∙ z) in
-        (other, ap entry_in (sym (get_or-set_other F i k w 0 other)) ∙ z) in
+    let other : k ≢ i = λ here. last_no_group e g l (sym q ∙ ap entry_in (sym (get_or-set_same F i w 0 within)) ∙ ap (λ x. entry_in (slice_index (slice_set F i w) x)) (sym here) ∙ z) in
+    (other, ap entry_in (sym (get_or-set_other F i k w 0 other)) ∙ z) in
     record {
       firsts_len = length-set F i w ∙ t.firsts_len;
       first_words = λ k m. each_set (λ k x. IsWord (f + s) x) F i w within (word_is (f + s) w e n p) (λ k m. t.first_words k (subst (λ x. k < x) t.firsts_len m)) k (subst (λ x. k < x) (sym t.firsts_len) m);
@@ -192,7 +192,7 @@ whole_first s F i w x l h k m =
 pub whole_block : (s : ℕ) (F : List ℕ) (i : ℕ) → IsWhole s F (i * 2 ^ s + 2 ^ s)
 whole_block s F i k l h =
     elim (cases_lt i k) [
-      | inl above ↦ 
+      | inl above ↦
           let m = mul-le-mul_right (2 ^ s) above in
           absurd (omega (arith, h, m))
       | inr below ↦ let m = mul-le-mul_right (2 ^ s) below in omega (arith, m)

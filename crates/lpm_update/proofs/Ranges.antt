@@ -15,9 +15,9 @@ use Rattle.lpm_update.proofs.Places.{block_low, block_high}
 -- a product of two is above another of the same factor
 step_mul : (m n k : ℕ) → m * k < n * k → suc m * k ≤ n * k
 step_mul m n k h = elim (cases_lt m n) [
-    | inl below ↦ mul-le-mul_right k below
-    | inr above ↦ let z = mul-le-mul_right k above in absurd (omega (arith, z, h))
-  ]
+  | inl below ↦ mul-le-mul_right k below
+  | inr above ↦ let z = mul-le-mul_right k above in absurd (omega (arith, z, h))
+]
 
 suc_mul : (m k : ℕ) → suc m * k ≡ m * k + k
 suc_mul m k = omega arith
@@ -30,15 +30,15 @@ no_group e g l q = subst IsLast q l
 
 whole_inside : (s : ℕ) (F : List ℕ) (b g x : ℕ) → entry_in (slice_index F b) ≡ Group g → b * 2 ^ s ≤ x → x ≤ b * 2 ^ s + 2 ^ s → IsWhole s F x
 whole_inside s F b g x e low high i l h = elim (cases_eq i b) [
-    | inl q ↦ absurd (no_group (entry_in (slice_index F i)) g l (ap (λ k. entry_in (slice_index F k)) q ∙ e))
-    | inr n ↦ elim (cases_lt i b) [
-      | inl below ↦ let z = mul-le-mul_right (2 ^ s) below in omega (arith, z, low, suc_mul i (2 ^ s))
-      | inr above ↦
-          let k : suc b ≤ i = omega (arith, n, above) in
-          let z = mul-le-mul_right (2 ^ s) k in
-          absurd (omega (arith, z, h, high, suc_mul b (2 ^ s)))
-    ]
+  | inl q ↦ absurd (no_group (entry_in (slice_index F i)) g l (ap (λ k. entry_in (slice_index F k)) q ∙ e))
+  | inr n ↦ elim (cases_lt i b) [
+    | inl below ↦ let z = mul-le-mul_right (2 ^ s) below in omega (arith, z, low, suc_mul i (2 ^ s))
+    | inr above ↦
+        let k : suc b ≤ i = omega (arith, n, above) in
+        let z = mul-le-mul_right (2 ^ s) k in
+        absurd (omega (arith, z, h, high, suc_mul b (2 ^ s)))
   ]
+]
 
 -- the range of a prefix ends inside the addresses
 range_fits : (width len b : ℕ) → len ≤ width → b < 2 ^ width → b / 2 ^ (width - len) * 2 ^ (width - len) ≡ b → b + 2 ^ (width - len) ≤ 2 ^ width

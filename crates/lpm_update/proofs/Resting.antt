@@ -29,11 +29,11 @@ use Rattle.lpm_update.proofs.DeepCounts.{linked_deep, no_free}
 
 pub resting_open : (f s n : ℕ) → IsResting f s (empty {R = network_cmp}) (record { firsts = replicate (2 ^ f) 0; seconds = replicate (n * 2 ^ s) 0; groups = n }) (replicate n Free)
 resting_open f s n = record {
-    answering = blank f s (n * 2 ^ s);
-    tied = tied_none f n _ (blank_groups (2 ^ f));
-    sizes = length-replicate n Free;
-    limbo = limbo_count-replicate n;
-  }
+  answering = blank f s (n * 2 ^ s);
+  tied = tied_none f n _ (blank_groups (2 ^ f));
+  sizes = length-replicate n Free;
+  limbo = limbo_count-replicate n;
+}
 
 -- the same words, with another list that they answer
 pub resting_words : (f s : ℕ) (R R' : RuleMap) (t t' : Words) (xs xs' : List GroupState) → IsResting f s R t xs → R' ≡ R → t' ≡ t → xs' ≡ xs → IsResting f s R' t' xs'
@@ -43,11 +43,11 @@ resting_words f s R R' t t' xs xs' known r w g = subst (λ x. IsResting f s x t'
 pub resting_after : (f s : ℕ) (R R' : RuleMap) (t t' : Words) (xs xs' : List GroupState) → IsResting f s R t xs → IsAnswering f s R' t'.firsts t'.seconds → IsTied f xs' (group_at t'.firsts)
     → t'.groups ≡ t.groups → length xs' ≡ length xs → limbo_count xs' ≡ limbo_count xs → IsResting f s R' t' xs'
 resting_after f s R R' t t' xs xs' known answering tied groups states limbo = record {
-    answering = answering;
-    tied = tied;
-    sizes = states ∙ known.sizes ∙ sym groups;
-    limbo = limbo ∙ known.limbo;
-  }
+  answering = answering;
+  tied = tied;
+  sizes = states ∙ known.sizes ∙ sym groups;
+  limbo = limbo ∙ known.limbo;
+}
 
 -- what is held at the beginning of a change is what the blocks have, and what is taken
 pub tied_held : (f : ℕ) (xs : List GroupState) (u : Update) (F : List ℕ) (L : ℕ → Option ℕ) → ((i : ℕ) → group_held u F i ≡ L i) → IsTied f xs L → IsTied f xs (group_held u F)

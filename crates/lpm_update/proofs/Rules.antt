@@ -22,22 +22,27 @@ longest_with : (width : ℕ) (R : RuleMap) (p : Network) (h a d n : ℕ) → d �
     → ((q : Network) → IsSome (get R q) → Covers width q a → q.len ≤ d)
     → (q : Network) → IsSome (get (insert R p h) q) → Covers width q a → q.len ≤ n
 longest_with width R p h a d n l m old q some cov = elim (insert_cases R p h q) [
-    | inl k ↦ 
-        let z = m (subst (λ x. Covers width x a) k.0 cov) in
-        subst (λ x. x ≤ n) (ap (λ (x : Network). x.len) (sym k.0)) z
-    | inr k ↦ let z = old q (subst IsSome k some) cov in omega (arith, z, l)
-  ]
+  | inl k ↦
+      let z = m (subst (λ x. Covers width x a) k.0 cov) in
+      subst (λ x. x ≤ n) (ap (λ (x : Network). x.len) (sym k.0)) z
+  | inr k ↦ let z = old q (subst IsSome k some) cov in omega (arith, z, l)
+]
 
 kept_hop : (width : ℕ) (R : RuleMap) (p : Network) (h a v d : ℕ) → (Covers width p a → p.len < d) → IsBest width R a (Hop v d) → IsBest width (insert R p h) a (Hop v d)
-kept_hop width R p h a v d shorter b =
-    (b.0, elim (insert_cases R p h b.0) [
-        | inl k ↦
-            let z = shorter (subst (λ x. Covers width x a) k.0 b.3) in
-            let len = ap (λ (x : Network). x.len) k.0 in
-            let len2 = b.2 in
-            absurd (omega (arith, z, len, len2))
-        | inr k ↦ k ∙ b.1
-      ], b.2, b.3, longest_with width R p h a d d (omega arith) (λ c. let z = shorter c in omega (arith, z)) b.4)
+kept_hop width R p h a v d shorter b = (
+  b.0,
+  elim (insert_cases R p h b.0) [
+    | inl k ↦
+        let z = shorter (subst (λ x. Covers width x a) k.0 b.3) in
+        let len = ap (λ (x : Network). x.len) k.0 in
+        let len2 = b.2 in
+        absurd (omega (arith, z, len, len2))
+    | inr k ↦ k ∙ b.1
+  ],
+  b.2,
+  b.3,
+  longest_with width R p h a d d (omega arith) (λ c. let z = shorter c in omega (arith, z)) b.4,
+)
 
 new_hop : (width : ℕ) (R : RuleMap) (p : Network) (h a d : ℕ) → d ≤ p.len → Covers width p a → ((q : Network) → IsSome (get R q) → Covers width q a → q.len ≤ d)
     → IsBest width (insert R p h) a (Hop h p.len)
@@ -58,9 +63,9 @@ add_covered width R p h a (Group g) c b = absurd b
 -- an address that it doesn't cover
 pub add_other : (width : ℕ) (R : RuleMap) (p : Network) (h a : ℕ) (e : Entry) → (Covers width p a → ⊥) → IsBest width R a e → IsBest width (insert R p h) a e
 add_other width R p h a Miss n b = λ q some cov. elim (insert_cases R p h q) [
-    | inl k ↦ n (subst (λ x. Covers width x a) k.0 cov)
-    | inr k ↦ b q (subst IsSome k some) cov
-  ]
+  | inl k ↦ n (subst (λ x. Covers width x a) k.0 cov)
+  | inr k ↦ b q (subst IsSome k some) cov
+]
 add_other width R p h a (Hop v d) n b = kept_hop width R p h a v d (λ c. absurd (n c)) b
 add_other width R p h a (Group g) n b = absurd b
 
@@ -85,23 +90,24 @@ pub add_midway : (width s at : ℕ) (R : RuleMap) (p : Network) (h : ℕ) (F S :
     → Stands s p.bits at (record { kind = Add; depth = p.len; entry = Hop h p.len }) F S E → at ≤ p.bits + 2 ^ (width - p.len)
     → (a : ℕ) → a < 2 ^ width → (a < at → IsBest width (insert R p h) a (entry_at s F S a)) × (at ≤ a → IsBest width R a (entry_at s F S a))
 add_midway width s at R p h F S E n best t within a low = (
-    (λ behind. elim (cases_lt a p.bits) [
-      | inl before ↦ subst (IsBest width (insert R p h) a) (sym (t.before a before)) 
-          (add_other width R p h a (E a) (λ c. let z = (range_covers width p a n c).0 in absurd (omega (arith, z, before))) (best a low))
-      | inr from ↦ subst (IsBest width (insert R p h) a) (sym (t.done a from behind))
-          (add_covered width R p h a (E a) (covers_range width p a n from (omega (arith, behind, within))) (best a low))
-    ]),
-    (λ ahead. subst (IsBest width R a) (sym (t.todo a ahead)) (best a low)))
+  (λ behind. elim (cases_lt a p.bits) [
+    | inl before ↦ subst (IsBest width (insert R p h) a) (sym (t.before a before))
+        (add_other width R p h a (E a) (λ c. let z = (range_covers width p a n c).0 in absurd (omega (arith, z, before))) (best a low))
+    | inr from ↦ subst (IsBest width (insert R p h) a) (sym (t.done a from behind))
+        (add_covered width R p h a (E a) (covers_range width p a n from (omega (arith, behind, within))) (best a low))
+  ]),
+  (λ ahead. subst (IsBest width R a) (sym (t.todo a ahead)) (best a low)),
+)
 
 -- at its end, each address has the entry of its longest rule in the list with the new rule
 pub add_done : (width s : ℕ) (R : RuleMap) (p : Network) (h : ℕ) (F S : List ℕ) (E : ℕ → Entry) → IsNetwork width p → AllBest width R E
     → Stands s p.bits (p.bits + 2 ^ (width - p.len)) (record { kind = Add; depth = p.len; entry = Hop h p.len }) F S E
     → AllBest width (insert R p h) (entry_at s F S)
 add_done width s R p h F S E n best t a low = elim (cases_lt a (p.bits + 2 ^ (width - p.len))) [
-    | inl behind ↦ (add_midway width s _ R p h F S E n best t (omega arith) a low).0 behind
-    | inr ahead ↦ subst (IsBest width (insert R p h) a) (sym (t.todo a ahead))
-        (add_other width R p h a (E a) (λ c. let z = (range_covers width p a n c).1 in absurd (omega (arith, z, ahead))) (best a low))
-  ]
+  | inl behind ↦ (add_midway width s _ R p h F S E n best t (omega arith) a low).0 behind
+  | inr ahead ↦ subst (IsBest width (insert R p h) a) (sym (t.todo a ahead))
+      (add_other width R p h a (E a) (λ c. let z = (range_covers width p a n c).1 in absurd (omega (arith, z, ahead))) (best a low))
+]
 
 -- the next hop of the longest rule's entry
 pub best_hop : (width : ℕ) (R : RuleMap) (a : ℕ) (e : Entry) → IsBest width R a e → IsLongestHop width R a (hop_in e)

@@ -12,11 +12,11 @@ use Rattle.lpm_update.proofs.Places.{stands_skip}
 
 pub further_on : (u m v : Sweep) → IsFurther u m → IsFurther m v → IsFurther u v
 further_on u m v a b = record {
-    from = b.from ∙ a.from;
-    end = b.end ∙ a.end;
-    rewrite = b.rewrite ∙ a.rewrite;
-    at = let p = a.at in let q = b.at in omega (arith, p, q);
-  }
+  from = b.from ∙ a.from;
+  end = b.end ∙ a.end;
+  rewrite = b.rewrite ∙ a.rewrite;
+  at = let p = a.at in let q = b.at in omega (arith, p, q);
+}
 
 pub mid_stands : (s : ℕ) (u m : Sweep) (F S F1 S1 : List ℕ) (E : ℕ → Entry) → F1 ≡ F → S1 ≡ S → IsFurther u m → Skips s u.rewrite F S u.at m.at
     → Stands s u.from u.at u.rewrite F S E → Stands s m.from m.at m.rewrite F1 S1 E
@@ -34,8 +34,8 @@ mid_first s u m F S F1 S1 i w eF eS fu k n =
     let e1 = fu.end in
     let e2 = fu.rewrite in
     let h : NextFirst s m.at u.end u.rewrite F S i w =
-        subst (λ x. NextFirst s m.at u.end u.rewrite x S i w) eF (subst (λ x. NextFirst s m.at u.end u.rewrite F1 x i w) eS (
-        subst (λ x. NextFirst s m.at u.end x F1 S1 i w) e2 (subst (λ x. NextFirst s m.at x m.rewrite F1 S1 i w) e1 n))) in
+    subst (λ x. NextFirst s m.at u.end u.rewrite x S i w) eF (subst (λ x. NextFirst s m.at u.end u.rewrite F1 x i w) eS (
+    subst (λ x. NextFirst s m.at u.end x F1 S1 i w) e2 (subst (λ x. NextFirst s m.at x m.rewrite F1 S1 i w) e1 n))) in
     record {
       low = let p = fu.at in let q = h.low in omega (arith, p, q);
       high = h.high;
@@ -51,8 +51,8 @@ mid_second s u m F S F1 S1 g x j w eF eS fu k n =
     let e1 = fu.end in
     let e2 = fu.rewrite in
     let h : NextSecond s m.at u.end u.rewrite F S g x j w =
-        subst (λ y. NextSecond s m.at u.end u.rewrite y S g x j w) eF (subst (λ y. NextSecond s m.at u.end u.rewrite F1 y g x j w) eS (
-        subst (λ y. NextSecond s m.at u.end y F1 S1 g x j w) e2 (subst (λ y. NextSecond s m.at y m.rewrite F1 S1 g x j w) e1 n))) in
+    subst (λ y. NextSecond s m.at u.end u.rewrite y S g x j w) eF (subst (λ y. NextSecond s m.at u.end u.rewrite F1 y g x j w) eS (
+    subst (λ y. NextSecond s m.at u.end y F1 S1 g x j w) e2 (subst (λ y. NextSecond s m.at y m.rewrite F1 S1 g x j w) e1 n))) in
     record {
       low = let p = fu.at in let q = h.low in omega (arith, p, q);
       high = h.high;

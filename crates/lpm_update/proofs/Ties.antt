@@ -28,9 +28,9 @@ within xs g s e = slice_get_within xs g s e
 
 pub tied_same : (f : ℕ) (xs : List GroupState) (L M : ℕ → Option ℕ) → SameGroups f L M → IsTied f xs L → IsTied f xs M
 tied_same f xs L M same t = record {
-    linked = λ b g low e. t.linked b g low (sym (same b low) ∙ e);
-    only = λ b g at. let k = t.only b g at in (k.0, same b k.0 ∙ k.1);
-  }
+  linked = λ b g low e. t.linked b g low (sym (same b low) ∙ e);
+  only = λ b g at. let k = t.only b g at in (k.0, same b k.0 ∙ k.1);
+}
 
 -- a group that a block gives up is linked
 pub given_linked : (f : ℕ) (xs : List GroupState) (L M : ℕ → Option ℕ) (b g : ℕ) → IsTied f xs L → GivesUp f L M b g → IsLinkedTo xs g b
@@ -46,15 +46,15 @@ tied_given f xs L M b g s unlinked t gives =
     let here : slice_get (slice_set xs g s) g ≡ Some s = slice_get-set_same xs g s (within xs g (Linked b) was) in
     record {
       linked = λ c h low e.
-        let apart : c ≢ b = λ q. none_or_some (M c) h (ap M q ∙ gives.gone) e in
-        let old = t.linked c h low (sym (gives.others c low apart) ∙ e) in
-        let other : h ≢ g = λ q. apart (same_block (slice_get xs h) c b old (ap (slice_get xs) q ∙ was)) in
-        slice_get-set_other xs g h s other ∙ old;
+          let apart : c ≢ b = λ q. none_or_some (M c) h (ap M q ∙ gives.gone) e in
+          let old = t.linked c h low (sym (gives.others c low apart) ∙ e) in
+          let other : h ≢ g = λ q. apart (same_block (slice_get xs h) c b old (ap (slice_get xs) q ∙ was)) in
+          slice_get-set_other xs g h s other ∙ old;
       only = λ c h at.
-        let other : h ≢ g = λ q. unlinked c (same_state s (Linked c) (sym here ∙ ap (slice_get (slice_set xs g s)) (sym q) ∙ at)) in
-        let old = t.only c h (sym (slice_get-set_other xs g h s other) ∙ at) in
-        let apart : c ≢ b = λ q. other (same_number (L c) h g old.1 (ap L q ∙ gives.had)) in
-        (old.0, gives.others c old.0 apart ∙ old.1);
+          let other : h ≢ g = λ q. unlinked c (same_state s (Linked c) (sym here ∙ ap (slice_get (slice_set xs g s)) (sym q) ∙ at)) in
+          let old = t.only c h (sym (slice_get-set_other xs g h s other) ∙ at) in
+          let apart : c ≢ b = λ q. other (same_number (L c) h g old.1 (ap L q ∙ gives.had)) in
+          (old.0, gives.others c old.0 apart ∙ old.1);
     }
   where
     same_state : (x y : GroupState) → Some x ≡ Some y → x ≡ y
@@ -117,9 +117,9 @@ tied_once f xs L t g h b x y = same_number (L b) g h (t.only b g x).1 (t.only b 
 -- with no group linked, no block has one
 pub tied_none : (f n : ℕ) (L : ℕ → Option ℕ) → ((i : ℕ) → L i ≡ None) → IsTied f (replicate n Free) L
 tied_none f n L none = record {
-    linked = λ b g low e. absurd (none_or_some (L b) g (none b) e);
-    only = λ b g at. absurd (unlinked n g b at);
-  }
+  linked = λ b g low e. absurd (none_or_some (L b) g (none b) e);
+  only = λ b g at. absurd (unlinked n g b at);
+}
   where
     unlinked : (n g b : ℕ) → IsLinkedTo (replicate n Free) g b → ⊥
     unlinked zero g b at = cc

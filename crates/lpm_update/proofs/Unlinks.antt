@@ -18,9 +18,9 @@ pub unlink_unseen : (s : ℕ) (F S : List ℕ) (b g w a : ℕ) → b < length F 
     → ((r : ℕ) → r < 2 ^ s → entry_in (slice_index S (g * 2 ^ s + r)) ≡ entry_in w)
     → entry_at s (slice_set F b w) S a ≡ entry_at s F S a
 unlink_unseen s F S b g w a h e l all = elim (cases_eq (a / 2 ^ s) b) [
-    | inl q ↦ first_same s F S b w a h q l ∙ sym (in_group s F S g a (ap (λ k. entry_in (slice_index F k)) q ∙ e) ∙ all (a % 2 ^ s) (mod_below a (2 ^ s) (pow_pos s)))
-    | inr n ↦ first_other s F S b w a n
-  ]
+  | inl q ↦ first_same s F S b w a h q l ∙ sym (in_group s F S g a (ap (λ k. entry_in (slice_index F k)) q ∙ e) ∙ all (a % 2 ^ s) (mod_below a (2 ^ s) (pow_pos s)))
+  | inr n ↦ first_other s F S b w a n
+]
 
 place_in : (f s : ℕ) (F S : List ℕ) (b g r : ℕ) → IsTable f s F S → b < 2 ^ f → entry_in (slice_index F b) ≡ Group g → r < 2 ^ s → g * 2 ^ s + r < length S
 place_in f s F S b g r t h e l = let room = t.room b g h e in omega (arith, room, l)
@@ -29,13 +29,13 @@ place_in f s F S b g r t h e l = let room = t.room b g h e in omega (arith, room
 pub one_word : (f s : ℕ) (F S : List ℕ) (b g w : ℕ) (x : Entry) → IsTable f s F S → b < 2 ^ f → entry_in (slice_index F b) ≡ Group g
     → ((r : ℕ) → r < 2 ^ s → entry_in (slice_index S (g * 2 ^ s + r)) ≡ x) → w ≡ slice_index S (g * 2 ^ s) → IsUnlinkStore s F S b g w
 one_word f s F S b g w x t h e all q = record {
-    group = e;
-    word = λ r l.
+  group = e;
+  word = λ r l.
       let here = place_in f s F S b g r t h e l in
       let zero_here = place_in f s F S b g 0 t h e (pow_pos s) in
       let z : slice_index S (g * 2 ^ s) ≡ slice_index S (g * 2 ^ s + 0) = ap (slice_index S) (omega arith) in
       sym (t.second_words (g * 2 ^ s + r) here).0.1 ∙ ap word_of (all r l ∙ sym (all 0 (pow_pos s))) ∙ (t.second_words (g * 2 ^ s + 0) zero_here).0.1 ∙ sym (q ∙ z);
-  }
+}
 
 pub record AfterUnlink (f s : ℕ) (F S F' S' : List ℕ) : Type 0 where
   pub table : IsTable f s F' S'
@@ -68,7 +68,7 @@ unlinks f s F S b n w place t h k e p q =
 pub stands_along : (s from at : ℕ) (c : Rewrite) (F S F' S' : List ℕ) (E : ℕ → Entry) → ((a : ℕ) → entry_at s F' S' a ≡ entry_at s F S a)
     → Stands s from at c F S E → Stands s from at c F' S' E
 stands_along s from at c F S F' S' E same t = record {
-    before = λ a p. same a ∙ t.before a p;
-    done = λ a p q. same a ∙ t.done a p q;
-    todo = λ a p. same a ∙ t.todo a p;
-  }
+  before = λ a p. same a ∙ t.before a p;
+  done = λ a p q. same a ∙ t.done a p q;
+  todo = λ a p. same a ∙ t.todo a p;
+}

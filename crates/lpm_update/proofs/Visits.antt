@@ -18,7 +18,7 @@ use Rattle.lpm_entry.proofs.Reading.{entry_in_zero}
 
 -- past the end a list of words has misses
 past_group : (F : List ℕ) (i g : ℕ) → length F ≤ i → entry_in (slice_index F i) ≡ Group g → ⊥
-past_group F i g h e = 
+past_group F i g h e =
     let z : Miss ≡ Group g = sym entry_in_zero ∙ ap entry_in (sym (get_or_past F i 0 h)) ∙ e in
     cc
 
@@ -36,14 +36,14 @@ base_of f s F S i g p t h e = shl_whole g 24 s 64 (group_small f s F S i g t h e
 -- the bounds after a visit of the word of address `at` in a group
 pub on_second : (f s from at end : ℕ) (c : Rewrite) (F : List ℕ) (g : ℕ) → at < end → entry_in (slice_index F (at / 2 ^ s)) ≡ Group g → IsSweeping f s from at end c F → IsSweeping f s from (at + 1) end c F
 on_second f s from at end c F g m e u = record {
-    started = let h = u.started in omega (arith, h);
-    within = omega (arith, m);
-    fits = u.fits;
-    entry = u.entry;
-    last = u.last;
-    whole_at = whole_next s F g at e u.whole_at;
-    whole_end = u.whole_end;
-  }
+  started = let h = u.started in omega (arith, h);
+  within = omega (arith, m);
+  fits = u.fits;
+  entry = u.entry;
+  last = u.last;
+  whole_at = whole_next s F g at e u.whole_at;
+  whole_end = u.whole_end;
+}
 
 -- the bounds after a visit of the first word of a block with no group
 pub on_first : (f s from at end : ℕ) (c : Rewrite) (F : List ℕ) → at < end → IsLast (entry_in (slice_index F (at / 2 ^ s))) → IsSweeping f s from at end c F → IsSweeping f s from (at + 2 ^ s) end c F
@@ -61,14 +61,14 @@ on_first f s from at end c F m l u =
 
 pub on_first_set : (f s from at end : ℕ) (c : Rewrite) (F : List ℕ) (i w : ℕ) → IsLast (entry_in (slice_index F i)) → IsSweeping f s from at end c F → IsSweeping f s from at end c (slice_set F i w)
 on_first_set f s from at end c F i w l u = record {
-    started = u.started;
-    within = u.within;
-    fits = u.fits;
-    entry = u.entry;
-    last = u.last;
-    whole_at = whole_first s F i w at l u.whole_at;
-    whole_end = whole_first s F i w end l u.whole_end;
-  }
+  started = u.started;
+  within = u.within;
+  fits = u.fits;
+  entry = u.entry;
+  last = u.last;
+  whole_at = whole_first s F i w at l u.whole_at;
+  whole_end = whole_first s F i w end l u.whole_end;
+}
 
 -- nothing of a block with no group is changed
 pub skips_first : (s at : ℕ) (c : Rewrite) (F S : List ℕ) → IsLast (entry_in (slice_index F (at / 2 ^ s))) → at ≡ at / 2 ^ s * 2 ^ s
@@ -131,13 +131,15 @@ after_kept f s from at end n c F S F' S' i t u m p l k eF eS en =
     let l2 : IsLast (entry_in (slice_index F (at / 2 ^ s))) = subst (λ x. IsLast (entry_in (slice_index F x))) p l in
     let k2 : takes c (entry_in (slice_index F (at / 2 ^ s))) ≡ false = subst (λ x. takes c (entry_in (slice_index F x)) ≡ false) p k in
     let b = at_block s F at l2 u.whole_at in
-    let skip = skips_first s at c F S l2 b k2 in
-    (record {
-      more = let z = pow_pos s in omega (arith, z, en);
-      table = rw (eF, eS) t;
-      sweeping = rw (eF, en) (on_first f s from at end c F m l2 u);
-      stands = λ E x. rw (eF, eS, en) (stands_skip s from at (at + 2 ^ s) c F S E (omega arith) skip x);
-    }, subst (λ z. Skips s c F S at z) (sym en) skip)
+    let skip = skips_first s at c F S l2 b k2 in (
+      record {
+        more = let z = pow_pos s in omega (arith, z, en);
+        table = rw (eF, eS) t;
+        sweeping = rw (eF, en) (on_first f s from at end c F m l2 u);
+        stands = λ E x. rw (eF, eS, en) (stands_skip s from at (at + 2 ^ s) c F S E (omega arith) skip x);
+      },
+      subst (λ z. Skips s c F S at z) (sym en) skip,
+    )
 
 -- the state after a store in a group
 pub after_second : (f s from at end : ℕ) (c : Rewrite) (F S F' S' : List ℕ) (g j w : ℕ) → IsTable f s F S → IsSweeping f s from at end c F → at < end
@@ -156,9 +158,9 @@ after_second f s from at end c F S F' S' g j w t u m e p k q eF eS =
       table = rw (eF, eS) (table_second f s F S j w c.entry t within u.entry u.last q);
       sweeping = rw eF (on_second f s from at end c F g m e u);
       stands = λ E x. rw (eF, eS) (stands_second s from at c F S E g j w u.started e p within
-        (λ a z. elim (cases_lt (a / 2 ^ s) (2 ^ f)) [
-          | inl below ↦ t.linked_once (a / 2 ^ s) (at / 2 ^ s) g below here z e
-          | inr above ↦ absurd (past_group F (a / 2 ^ s) g (subst (λ n. n ≤ a / 2 ^ s) (sym t.firsts_len) above) z)
-        ])
-        k (word_entry (f + s) w c.entry u.entry q) x);
+          (λ a z. elim (cases_lt (a / 2 ^ s) (2 ^ f)) [
+            | inl below ↦ t.linked_once (a / 2 ^ s) (at / 2 ^ s) g below here z e
+            | inr above ↦ absurd (past_group F (a / 2 ^ s) g (subst (λ n. n ≤ a / 2 ^ s) (sym t.firsts_len) above) z)
+          ])
+          k (word_entry (f + s) w c.entry u.entry q) x);
     }

@@ -35,7 +35,7 @@ pub record IsFilling (first second : ℕ) (u : Fill) (firsts seconds : List ℕ)
   pub free : u.next ≤ 2 ^ second → (i : ℕ) → entry_in (slice_index firsts i) ≡ Group u.group → ⊥
   pub old : u.next ≤ 2 ^ second → IsLast (entry_in (slice_index firsts u.block))
   pub filled : u.next ≤ 2 ^ second → (r : ℕ) → r < u.next
-    → entry_in (slice_index seconds (u.group * 2 ^ second + r)) ≡ final_entry u.from u.end u.rewrite (u.block * 2 ^ second + r) (entry_in (slice_index firsts u.block))
+      → entry_in (slice_index seconds (u.group * 2 ^ second + r)) ≡ final_entry u.from u.end u.rewrite (u.block * 2 ^ second + r) (entry_in (slice_index firsts u.block))
 
 -- the next store is the next of the group's words, upwards
 abbrev pub IsFillStore : ℕ → Fill → List ℕ → ℕ → ℕ → Type 0

@@ -39,33 +39,23 @@ impl Collapse {
         requires table { IsTable FIRST SECOND (C.firsts cells.old) (C.seconds cells.old) }
         requires collapsing { self.old.unlinked ≡ false → IsCollapsing FIRST SECOND self.old.sweep self.old.block (C.firsts cells.old) (C.seconds cells.old) }
         requires over { self.old.unlinked ≡ true → self.old.sweep.at ≡ self.old.sweep.end }
-        requires allows_first {
-            (i w : ℕ) → self.old.unlinked ≡ false → NextFirst SECOND self.old.sweep.at self.old.sweep.end self.old.sweep.rewrite (C.firsts cells.old) (C.seconds cells.old) i w
-            → C.may_set_first cells.old i w
-        }
-        requires allows_unlink {
-            (g w : ℕ) → self.old.unlinked ≡ false → Skips SECOND self.old.sweep.rewrite (C.firsts cells.old) (C.seconds cells.old) self.old.sweep.at self.old.sweep.end
-            → IsUnlinkStore SECOND (C.firsts cells.old) (C.seconds cells.old) self.old.block g w → C.may_set_first cells.old self.old.block w
-        }
-        requires allows_second {
-            (g x j w : ℕ) → self.old.unlinked ≡ false → NextSecond SECOND self.old.sweep.at self.old.sweep.end self.old.sweep.rewrite (C.firsts cells.old) (C.seconds cells.old) g x j w
-            → C.may_set_second cells.old j w
-        }
+        requires allows_first { (i w : ℕ) → self.old.unlinked ≡ false → NextFirst SECOND self.old.sweep.at self.old.sweep.end self.old.sweep.rewrite (C.firsts cells.old) (C.seconds cells.old) i w
+            → C.may_set_first cells.old i w }
+        requires allows_unlink { (g w : ℕ) → self.old.unlinked ≡ false → Skips SECOND self.old.sweep.rewrite (C.firsts cells.old) (C.seconds cells.old) self.old.sweep.at self.old.sweep.end
+            → IsUnlinkStore SECOND (C.firsts cells.old) (C.seconds cells.old) self.old.block g w → C.may_set_first cells.old self.old.block w }
+        requires allows_second { (g x j w : ℕ) → self.old.unlinked ≡ false → NextSecond SECOND self.old.sweep.at self.old.sweep.end self.old.sweep.rewrite (C.firsts cells.old) (C.seconds cells.old) g x j w
+            → C.may_set_second cells.old j w }
         ensures further { IsFurther self.old.sweep self.new.sweep × (self.new.block ≡ self.old.block) }
         ensures table { IsTable FIRST SECOND (C.firsts cells.new) (C.seconds cells.new) }
         ensures collapsing { self.new.unlinked ≡ false → IsCollapsing FIRST SECOND self.new.sweep self.new.block (C.firsts cells.new) (C.seconds cells.new) }
         ensures over { self.new.unlinked ≡ true → self.new.sweep.at ≡ self.new.sweep.end }
-        ensures stands {
-            (E : ℕ → Entry) → Stands SECOND self.old.sweep.from self.old.sweep.at self.old.sweep.rewrite (C.firsts cells.old) (C.seconds cells.old) E
-            → Stands SECOND self.new.sweep.from self.new.sweep.at self.new.sweep.rewrite (C.firsts cells.new) (C.seconds cells.new) E
-        }
-        ensures store {
-            MatchDid result
-              (λ i. (w : ℕ) × NextFirst SECOND self.old.sweep.at self.old.sweep.end self.old.sweep.rewrite (C.firsts cells.old) (C.seconds cells.old) i w × C.sets_first cells.old i w cells.new × (i * 2 ^ SECOND < self.new.sweep.at) × IsSetFirst (C.firsts cells.old) (C.seconds cells.old) (C.firsts cells.new) (C.seconds cells.new) i w × (self.old.unlinked ≡ false) × (self.new.unlinked ≡ false))
-              (λ j. (g : ℕ) × (x : ℕ) × (w : ℕ) × NextSecond SECOND self.old.sweep.at self.old.sweep.end self.old.sweep.rewrite (C.firsts cells.old) (C.seconds cells.old) g x j w × C.sets_second cells.old j w cells.new × (x < self.new.sweep.at) × IsSetSecond (C.firsts cells.old) (C.seconds cells.old) (C.firsts cells.new) (C.seconds cells.new) j w × (self.old.unlinked ≡ false) × (self.new.unlinked ≡ false))
-              (λ b g. (w : ℕ) × (b ≡ self.old.block) × IsUnlinkStore SECOND (C.firsts cells.old) (C.seconds cells.old) b g w × C.sets_first cells.old b w cells.new × IsSetFirst (C.firsts cells.old) (C.seconds cells.old) (C.firsts cells.new) (C.seconds cells.new) b w × (self.old.unlinked ≡ false) × (self.new.unlinked ≡ true) × (self.new.sweep.at ≡ self.new.sweep.end) × Skips SECOND self.old.sweep.rewrite (C.firsts cells.old) (C.seconds cells.old) self.old.sweep.at self.old.sweep.end)
-              ((cells.new ≡ cells.old) × (self.new ≡ self.old) × (self.old.unlinked ≡ true))
-        }
+        ensures stands { (E : ℕ → Entry) → Stands SECOND self.old.sweep.from self.old.sweep.at self.old.sweep.rewrite (C.firsts cells.old) (C.seconds cells.old) E
+            → Stands SECOND self.new.sweep.from self.new.sweep.at self.new.sweep.rewrite (C.firsts cells.new) (C.seconds cells.new) E }
+        ensures store { MatchDid result
+            (λ i. (w : ℕ) × NextFirst SECOND self.old.sweep.at self.old.sweep.end self.old.sweep.rewrite (C.firsts cells.old) (C.seconds cells.old) i w × C.sets_first cells.old i w cells.new × (i * 2 ^ SECOND < self.new.sweep.at) × IsSetFirst (C.firsts cells.old) (C.seconds cells.old) (C.firsts cells.new) (C.seconds cells.new) i w × (self.old.unlinked ≡ false) × (self.new.unlinked ≡ false))
+            (λ j. (g : ℕ) × (x : ℕ) × (w : ℕ) × NextSecond SECOND self.old.sweep.at self.old.sweep.end self.old.sweep.rewrite (C.firsts cells.old) (C.seconds cells.old) g x j w × C.sets_second cells.old j w cells.new × (x < self.new.sweep.at) × IsSetSecond (C.firsts cells.old) (C.seconds cells.old) (C.firsts cells.new) (C.seconds cells.new) j w × (self.old.unlinked ≡ false) × (self.new.unlinked ≡ false))
+            (λ b g. (w : ℕ) × (b ≡ self.old.block) × IsUnlinkStore SECOND (C.firsts cells.old) (C.seconds cells.old) b g w × C.sets_first cells.old b w cells.new × IsSetFirst (C.firsts cells.old) (C.seconds cells.old) (C.firsts cells.new) (C.seconds cells.new) b w × (self.old.unlinked ≡ false) × (self.new.unlinked ≡ true) × (self.new.sweep.at ≡ self.new.sweep.end) × Skips SECOND self.old.sweep.rewrite (C.firsts cells.old) (C.seconds cells.old) self.old.sweep.at self.old.sweep.end)
+            ((cells.new ≡ cells.old) × (self.new ≡ self.old) × (self.old.unlinked ≡ true)) }
     {
         if self.unlinked {
             return Did::Done;
@@ -82,7 +72,10 @@ impl Collapse {
 }
 
 /// Stores the one word of a block's group over the link to it, and answers the group.
-pub(crate) fn unlink<const FIRST: u32, const SECOND: u32, C: Cells>(cells: &mut C, block: usize) -> u32
+pub(crate) fn unlink<const FIRST: u32, const SECOND: u32, C: Cells>(
+    cells: &mut C,
+    block: usize,
+) -> u32
     requires shape { IsShape FIRST SECOND }
     requires block { block < 2 ^ FIRST }
     requires table { IsTable FIRST SECOND (C.firsts cells.old) (C.seconds cells.old) }

@@ -35,22 +35,22 @@ impl Fill {
     ghost use Rattle.lpm_update.specs.Fill.{IsFilling, IsFillStore, IsLinkStore, reached, final_entry};
 
     /// The addition of this rule by this group, which no block has.
-    pub fn add<const FIRST: u32, const SECOND: u32>(prefix: &Prefix<FIRST, SECOND>, hop: Hop, group: u32) -> Fill
-        ensures value {
-            result ≡ record {
-              from = prefix.now.bits;
-              end = prefix.now.bits + 2 ^ (FIRST + SECOND - prefix.now.len);
-              rewrite = record { kind = Add; depth = prefix.now.len; entry = EntryHop hop prefix.now.len };
-              block = prefix.now.bits / 2 ^ SECOND;
-              group = group;
-              next = 0;
-            }
-        }
-        ensures filling {
-            FIRST < prefix.now.len → group < 2 ^ 24 → (F S : List ℕ) → group * 2 ^ SECOND + 2 ^ SECOND ≤ length S
+    pub fn add<const FIRST: u32, const SECOND: u32>(
+        prefix: &Prefix<FIRST, SECOND>,
+        hop: Hop,
+        group: u32,
+    ) -> Fill
+        ensures value { result ≡ record {
+          from = prefix.now.bits;
+          end = prefix.now.bits + 2 ^ (FIRST + SECOND - prefix.now.len);
+          rewrite = record { kind = Add; depth = prefix.now.len; entry = EntryHop hop prefix.now.len };
+          block = prefix.now.bits / 2 ^ SECOND;
+          group = group;
+          next = 0;
+        } }
+        ensures filling { FIRST < prefix.now.len → group < 2 ^ 24 → (F S : List ℕ) → group * 2 ^ SECOND + 2 ^ SECOND ≤ length S
             → IsLast (entry_in (slice_index F (prefix.now.bits / 2 ^ SECOND))) → ((i : ℕ) → entry_in (slice_index F i) ≡ Group group → ⊥)
-            → IsFilling FIRST SECOND result F S
-        }
+            → IsFilling FIRST SECOND result F S }
     {
         let bits = prefix.bits();
         let len = prefix.len();
@@ -90,17 +90,13 @@ impl Fill {
         requires allows_second { (j w : ℕ) → IsFillStore SECOND self.old (C.firsts cells.old) j w → C.may_set_second cells.old j w }
         ensures table { IsTable FIRST SECOND (C.firsts cells.new) (C.seconds cells.new) }
         ensures filling { IsFilling FIRST SECOND self.new (C.firsts cells.new) (C.seconds cells.new) }
-        ensures stands {
-            (E : ℕ → Entry) → Stands SECOND self.old.from (reached SECOND self.old) self.old.rewrite (C.firsts cells.old) (C.seconds cells.old) E
-            → Stands SECOND self.new.from (reached SECOND self.new) self.new.rewrite (C.firsts cells.new) (C.seconds cells.new) E
-        }
-        ensures store {
-            MatchDid result
-              (λ i. (w : ℕ) × IsLinkStore SECOND self.old i w × C.sets_first cells.old i w cells.new × IsSetFirst (C.firsts cells.old) (C.seconds cells.old) (C.firsts cells.new) (C.seconds cells.new) i w × (self.new ≡ record self.old { next = self.old.next + 1 }))
-              (λ j. (w : ℕ) × IsFillStore SECOND self.old (C.firsts cells.old) j w × C.sets_second cells.old j w cells.new × IsSetSecond (C.firsts cells.old) (C.seconds cells.old) (C.firsts cells.new) (C.seconds cells.new) j w × (self.new ≡ record self.old { next = self.old.next + 1 }))
-              (λ block group. ⊥)
-              ((cells.new ≡ cells.old) × (self.new ≡ self.old) × (2 ^ SECOND < self.old.next))
-        }
+        ensures stands { (E : ℕ → Entry) → Stands SECOND self.old.from (reached SECOND self.old) self.old.rewrite (C.firsts cells.old) (C.seconds cells.old) E
+            → Stands SECOND self.new.from (reached SECOND self.new) self.new.rewrite (C.firsts cells.new) (C.seconds cells.new) E }
+        ensures store { MatchDid result
+            (λ i. (w : ℕ) × IsLinkStore SECOND self.old i w × C.sets_first cells.old i w cells.new × IsSetFirst (C.firsts cells.old) (C.seconds cells.old) (C.firsts cells.new) (C.seconds cells.new) i w × (self.new ≡ record self.old { next = self.old.next + 1 }))
+            (λ j. (w : ℕ) × IsFillStore SECOND self.old (C.firsts cells.old) j w × C.sets_second cells.old j w cells.new × IsSetSecond (C.firsts cells.old) (C.seconds cells.old) (C.firsts cells.new) (C.seconds cells.new) j w × (self.new ≡ record self.old { next = self.old.next + 1 }))
+            (λ block group. ⊥)
+            ((cells.new ≡ cells.old) × (self.new ≡ self.old) × (2 ^ SECOND < self.old.next)) }
     {
         let size = 1u64 << SECOND;
         let next = self.next;

@@ -31,17 +31,13 @@ impl Flush {
         ensures further { self.old.next ≤ self.new.next }
         ensures within { self.new.next ≤ 2 ^ FIRST }
         ensures table { IsTable FIRST SECOND (C.firsts cells.new) (C.seconds cells.new) }
-        ensures stands {
-            (E : ℕ → Entry) → Stands SECOND 0 (self.old.next * 2 ^ SECOND) flushed (C.firsts cells.old) (C.seconds cells.old) E
-            → Stands SECOND 0 (self.new.next * 2 ^ SECOND) flushed (C.firsts cells.new) (C.seconds cells.new) E
-        }
-        ensures store {
-            MatchDid result
-              (λ i. (w : ℕ) × NextFlush FIRST self.old.next (C.firsts cells.old) i w × (group_at (C.firsts cells.old) i ≡ None) × C.sets_first cells.old i w cells.new × IsSetFirst (C.firsts cells.old) (C.seconds cells.old) (C.firsts cells.new) (C.seconds cells.new) i w × (self.new.next ≡ i + 1))
-              (λ j. ⊥)
-              (λ i group. (w : ℕ) × NextFlush FIRST self.old.next (C.firsts cells.old) i w × (group_at (C.firsts cells.old) i ≡ Some group) × C.sets_first cells.old i w cells.new × IsSetFirst (C.firsts cells.old) (C.seconds cells.old) (C.firsts cells.new) (C.seconds cells.new) i w × (self.new.next ≡ i + 1))
-              ((cells.new ≡ cells.old) × (self.new.next ≡ 2 ^ FIRST) × ((k : ℕ) → self.old.next ≤ k → k < 2 ^ FIRST → slice_index (C.firsts cells.old) k ≡ 0))
-        }
+        ensures stands { (E : ℕ → Entry) → Stands SECOND 0 (self.old.next * 2 ^ SECOND) flushed (C.firsts cells.old) (C.seconds cells.old) E
+            → Stands SECOND 0 (self.new.next * 2 ^ SECOND) flushed (C.firsts cells.new) (C.seconds cells.new) E }
+        ensures store { MatchDid result
+            (λ i. (w : ℕ) × NextFlush FIRST self.old.next (C.firsts cells.old) i w × (group_at (C.firsts cells.old) i ≡ None) × C.sets_first cells.old i w cells.new × IsSetFirst (C.firsts cells.old) (C.seconds cells.old) (C.firsts cells.new) (C.seconds cells.new) i w × (self.new.next ≡ i + 1))
+            (λ j. ⊥)
+            (λ i group. (w : ℕ) × NextFlush FIRST self.old.next (C.firsts cells.old) i w × (group_at (C.firsts cells.old) i ≡ Some group) × C.sets_first cells.old i w cells.new × IsSetFirst (C.firsts cells.old) (C.seconds cells.old) (C.firsts cells.new) (C.seconds cells.new) i w × (self.new.next ≡ i + 1))
+            ((cells.new ≡ cells.old) × (self.new.next ≡ 2 ^ FIRST) × ((k : ℕ) → self.old.next ≤ k → k < 2 ^ FIRST → slice_index (C.firsts cells.old) k ≡ 0)) }
     {
         while self.next < 1 << FIRST {
             let block = self.next;

@@ -24,10 +24,8 @@ pub(crate) fn run<const FIRST: u32, const SECOND: u32>(
     requires table { IsTable FIRST SECOND cells.old.firsts cells.old.seconds }
     requires begun { IsBegun FIRST SECOND update cells.old.firsts cells.old.seconds }
     requires tied { IsTied FIRST groups.old (group_held update cells.old.firsts) }
-    ensures answering {
-        (R R' : RuleMap) → IsAnswering FIRST SECOND R cells.old.firsts cells.old.seconds → AllNetworks (FIRST + SECOND) R'
-        → Leads FIRST SECOND update R R' → IsAnswering FIRST SECOND R' cells.new.firsts cells.new.seconds
-    }
+    ensures answering { (R R' : RuleMap) → IsAnswering FIRST SECOND R cells.old.firsts cells.old.seconds → AllNetworks (FIRST + SECOND) R'
+        → Leads FIRST SECOND update R R' → IsAnswering FIRST SECOND R' cells.new.firsts cells.new.seconds }
     ensures tied { IsTied FIRST groups.new (group_at cells.new.firsts) }
     ensures sizes { (cells.new.groups ≡ cells.old.groups) × (length groups.new ≡ length groups.old) }
     ensures limbo { limbo_count groups.new ≡ limbo_count groups.old }
@@ -60,10 +58,8 @@ pub(crate) fn group_for<const FIRST: u32, const SECOND: u32>(
     ensures err { IsErr result ↔ ((FIRST < prefix.now.len) × (group_at cells.old.firsts (prefix.now.bits / 2 ^ SECOND) ≡ None) × (free_count groups.old ≡ 0)) }
     ensures unchanged { OnErr result (groups.new ≡ groups.old) }
     ensures some { IfOk result (λ group. IsSome group → FIRST < prefix.now.len) }
-    ensures fits {
-        (R : RuleMap) → IsAnswering FIRST SECOND R cells.old.firsts cells.old.seconds
-        → IfOk result (AddFits FIRST SECOND R prefix.now cells.old.firsts cells.old.seconds)
-    }
+    ensures fits { (R : RuleMap) → IsAnswering FIRST SECOND R cells.old.firsts cells.old.seconds
+        → IfOk result (AddFits FIRST SECOND R prefix.now cells.old.firsts cells.old.seconds) }
     ensures tied { IfOk result (λ group. IsTied FIRST groups.new (held_with group (prefix.now.bits / 2 ^ SECOND) cells.old.firsts)) }
     ensures states { length groups.new ≡ length groups.old }
     ensures limbo { limbo_count groups.new ≡ limbo_count groups.old }

@@ -35,7 +35,10 @@ impl Sweep {
 
     /// The sweep that adds a rule whose block needs no new group: a rule no longer than a first index,
     /// or one whose block has a group.
-    pub fn add<const FIRST: u32, const SECOND: u32>(prefix: &Prefix<FIRST, SECOND>, hop: Hop) -> Sweep
+    pub fn add<const FIRST: u32, const SECOND: u32>(
+        prefix: &Prefix<FIRST, SECOND>,
+        hop: Hop,
+    ) -> Sweep
         ensures sweep { IsSweepOf FIRST SECOND prefix.now result }
         ensures rewrite { result.rewrite ≡ record { kind = Add; depth = prefix.now.len; entry = EntryHop hop prefix.now.len } }
     {
@@ -61,10 +64,8 @@ impl Sweep {
     ) -> Sweep
         ensures sweep { IsSweepOf FIRST SECOND prefix.now result }
         ensures rewrite { (result.rewrite.kind ≡ Delete) × (result.rewrite.depth ≡ prefix.now.len) }
-        ensures cover {
-            (R : RuleMap) → MatchOption cover.entry (IsUncovered (FIRST + SECOND) R prefix.now) (λ c. IsCoverRule (FIRST + SECOND) R prefix.now c.prefix c.hop)
-            → IsCoverEntry (FIRST + SECOND) R prefix.now result.rewrite.entry
-        }
+        ensures cover { (R : RuleMap) → MatchOption cover.entry (IsUncovered (FIRST + SECOND) R prefix.now) (λ c. IsCoverRule (FIRST + SECOND) R prefix.now c.prefix c.hop)
+            → IsCoverEntry (FIRST + SECOND) R prefix.now result.rewrite.entry }
     {
         let entry = cover_entry(cover);
         let _bits = prefix.bits();
@@ -80,7 +81,10 @@ impl Sweep {
     }
 
     /// The sweep over the addresses of a prefix.
-    fn over<const FIRST: u32, const SECOND: u32>(prefix: &Prefix<FIRST, SECOND>, rewrite: Rewrite) -> Sweep
+    fn over<const FIRST: u32, const SECOND: u32>(
+        prefix: &Prefix<FIRST, SECOND>,
+        rewrite: Rewrite,
+    ) -> Sweep
         requires fits { IsEntry (FIRST + SECOND) rewrite.entry }
         requires last { IsLast rewrite.entry }
         ensures sweep { IsSweepOf FIRST SECOND prefix.now result }
@@ -104,28 +108,20 @@ impl Sweep {
         requires table { IsTable FIRST SECOND (C.firsts cells.old) (C.seconds cells.old) }
         requires sweeping { IsSweeping FIRST SECOND self.old.from self.old.at self.old.end self.old.rewrite (C.firsts cells.old) }
         requires more { self.old.at < self.old.end }
-        requires allows_first {
-            (i w : ℕ) → NextFirst SECOND self.old.at self.old.end self.old.rewrite (C.firsts cells.old) (C.seconds cells.old) i w
-            → C.may_set_first cells.old i w
-        }
-        requires allows_second {
-            (g x j w : ℕ) → NextSecond SECOND self.old.at self.old.end self.old.rewrite (C.firsts cells.old) (C.seconds cells.old) g x j w
-            → C.may_set_second cells.old j w
-        }
+        requires allows_first { (i w : ℕ) → NextFirst SECOND self.old.at self.old.end self.old.rewrite (C.firsts cells.old) (C.seconds cells.old) i w
+            → C.may_set_first cells.old i w }
+        requires allows_second { (g x j w : ℕ) → NextSecond SECOND self.old.at self.old.end self.old.rewrite (C.firsts cells.old) (C.seconds cells.old) g x j w
+            → C.may_set_second cells.old j w }
         ensures further { IsFurther self.old self.new × (self.old.at < self.new.at) }
         ensures table { IsTable FIRST SECOND (C.firsts cells.new) (C.seconds cells.new) }
         ensures sweeping { IsSweeping FIRST SECOND self.new.from self.new.at self.new.end self.new.rewrite (C.firsts cells.new) }
-        ensures stands {
-            (E : ℕ → Entry) → Stands SECOND self.old.from self.old.at self.old.rewrite (C.firsts cells.old) (C.seconds cells.old) E
-            → Stands SECOND self.new.from self.new.at self.new.rewrite (C.firsts cells.new) (C.seconds cells.new) E
-        }
-        ensures store {
-            MatchDid result
-              (λ i. (w : ℕ) × NextFirst SECOND self.old.at self.old.end self.old.rewrite (C.firsts cells.old) (C.seconds cells.old) i w × C.sets_first cells.old i w cells.new × (i * 2 ^ SECOND < self.new.at) × IsSetFirst (C.firsts cells.old) (C.seconds cells.old) (C.firsts cells.new) (C.seconds cells.new) i w)
-              (λ j. (g : ℕ) × (x : ℕ) × (w : ℕ) × NextSecond SECOND self.old.at self.old.end self.old.rewrite (C.firsts cells.old) (C.seconds cells.old) g x j w × C.sets_second cells.old j w cells.new × (x < self.new.at) × IsSetSecond (C.firsts cells.old) (C.seconds cells.old) (C.firsts cells.new) (C.seconds cells.new) j w)
-              (λ block group. ⊥)
-              ((cells.new ≡ cells.old) × Skips SECOND self.old.rewrite (C.firsts cells.old) (C.seconds cells.old) self.old.at self.new.at)
-        }
+        ensures stands { (E : ℕ → Entry) → Stands SECOND self.old.from self.old.at self.old.rewrite (C.firsts cells.old) (C.seconds cells.old) E
+            → Stands SECOND self.new.from self.new.at self.new.rewrite (C.firsts cells.new) (C.seconds cells.new) E }
+        ensures store { MatchDid result
+            (λ i. (w : ℕ) × NextFirst SECOND self.old.at self.old.end self.old.rewrite (C.firsts cells.old) (C.seconds cells.old) i w × C.sets_first cells.old i w cells.new × (i * 2 ^ SECOND < self.new.at) × IsSetFirst (C.firsts cells.old) (C.seconds cells.old) (C.firsts cells.new) (C.seconds cells.new) i w)
+            (λ j. (g : ℕ) × (x : ℕ) × (w : ℕ) × NextSecond SECOND self.old.at self.old.end self.old.rewrite (C.firsts cells.old) (C.seconds cells.old) g x j w × C.sets_second cells.old j w cells.new × (x < self.new.at) × IsSetSecond (C.firsts cells.old) (C.seconds cells.old) (C.firsts cells.new) (C.seconds cells.new) j w)
+            (λ block group. ⊥)
+            ((cells.new ≡ cells.old) × Skips SECOND self.old.rewrite (C.firsts cells.old) (C.seconds cells.old) self.old.at self.new.at) }
     {
         let at = self.at;
         let rewrite = self.rewrite;
@@ -158,28 +154,20 @@ impl Sweep {
         requires shape { IsShape FIRST SECOND }
         requires table { IsTable FIRST SECOND (C.firsts cells.old) (C.seconds cells.old) }
         requires sweeping { IsSweeping FIRST SECOND self.old.from self.old.at self.old.end self.old.rewrite (C.firsts cells.old) }
-        requires allows_first {
-            (i w : ℕ) → NextFirst SECOND self.old.at self.old.end self.old.rewrite (C.firsts cells.old) (C.seconds cells.old) i w
-            → C.may_set_first cells.old i w
-        }
-        requires allows_second {
-            (g x j w : ℕ) → NextSecond SECOND self.old.at self.old.end self.old.rewrite (C.firsts cells.old) (C.seconds cells.old) g x j w
-            → C.may_set_second cells.old j w
-        }
+        requires allows_first { (i w : ℕ) → NextFirst SECOND self.old.at self.old.end self.old.rewrite (C.firsts cells.old) (C.seconds cells.old) i w
+            → C.may_set_first cells.old i w }
+        requires allows_second { (g x j w : ℕ) → NextSecond SECOND self.old.at self.old.end self.old.rewrite (C.firsts cells.old) (C.seconds cells.old) g x j w
+            → C.may_set_second cells.old j w }
         ensures further { IsFurther self.old self.new }
         ensures table { IsTable FIRST SECOND (C.firsts cells.new) (C.seconds cells.new) }
         ensures sweeping { IsSweeping FIRST SECOND self.new.from self.new.at self.new.end self.new.rewrite (C.firsts cells.new) }
-        ensures stands {
-            (E : ℕ → Entry) → Stands SECOND self.old.from self.old.at self.old.rewrite (C.firsts cells.old) (C.seconds cells.old) E
-            → Stands SECOND self.new.from self.new.at self.new.rewrite (C.firsts cells.new) (C.seconds cells.new) E
-        }
-        ensures store {
-            MatchDid result
-              (λ i. (w : ℕ) × NextFirst SECOND self.old.at self.old.end self.old.rewrite (C.firsts cells.old) (C.seconds cells.old) i w × C.sets_first cells.old i w cells.new × (i * 2 ^ SECOND < self.new.at) × IsSetFirst (C.firsts cells.old) (C.seconds cells.old) (C.firsts cells.new) (C.seconds cells.new) i w)
-              (λ j. (g : ℕ) × (x : ℕ) × (w : ℕ) × NextSecond SECOND self.old.at self.old.end self.old.rewrite (C.firsts cells.old) (C.seconds cells.old) g x j w × C.sets_second cells.old j w cells.new × (x < self.new.at) × IsSetSecond (C.firsts cells.old) (C.seconds cells.old) (C.firsts cells.new) (C.seconds cells.new) j w)
-              (λ block group. ⊥)
-              ((cells.new ≡ cells.old) × (self.new.at ≡ self.new.end) × Skips SECOND self.old.rewrite (C.firsts cells.old) (C.seconds cells.old) self.old.at self.old.end)
-        }
+        ensures stands { (E : ℕ → Entry) → Stands SECOND self.old.from self.old.at self.old.rewrite (C.firsts cells.old) (C.seconds cells.old) E
+            → Stands SECOND self.new.from self.new.at self.new.rewrite (C.firsts cells.new) (C.seconds cells.new) E }
+        ensures store { MatchDid result
+            (λ i. (w : ℕ) × NextFirst SECOND self.old.at self.old.end self.old.rewrite (C.firsts cells.old) (C.seconds cells.old) i w × C.sets_first cells.old i w cells.new × (i * 2 ^ SECOND < self.new.at) × IsSetFirst (C.firsts cells.old) (C.seconds cells.old) (C.firsts cells.new) (C.seconds cells.new) i w)
+            (λ j. (g : ℕ) × (x : ℕ) × (w : ℕ) × NextSecond SECOND self.old.at self.old.end self.old.rewrite (C.firsts cells.old) (C.seconds cells.old) g x j w × C.sets_second cells.old j w cells.new × (x < self.new.at) × IsSetSecond (C.firsts cells.old) (C.seconds cells.old) (C.firsts cells.new) (C.seconds cells.new) j w)
+            (λ block group. ⊥)
+            ((cells.new ≡ cells.old) × (self.new.at ≡ self.new.end) × Skips SECOND self.old.rewrite (C.firsts cells.old) (C.seconds cells.old) self.old.at self.old.end) }
     {
         while self.at < self.end {
             match self.visit::<FIRST, SECOND, C>(cells) {
@@ -203,10 +191,8 @@ ghost use Rattle.lpm_update.specs.Best.{IsCoverEntry};
 fn cover_entry<const FIRST: u32, const SECOND: u32>(cover: Option<Rule<FIRST, SECOND>>) -> Entry
     ensures fits { IsEntry (FIRST + SECOND) result }
     ensures last { IsLast result }
-    ensures cover {
-        (R : RuleMap) (p : Network) → MatchOption cover.entry (IsUncovered (FIRST + SECOND) R p) (λ c. IsCoverRule (FIRST + SECOND) R p c.prefix c.hop)
-        → IsCoverEntry (FIRST + SECOND) R p result
-    }
+    ensures cover { (R : RuleMap) (p : Network) → MatchOption cover.entry (IsUncovered (FIRST + SECOND) R p) (λ c. IsCoverRule (FIRST + SECOND) R p c.prefix c.hop)
+        → IsCoverEntry (FIRST + SECOND) R p result }
 {
     match cover {
         Some(rule) => {

@@ -34,13 +34,15 @@ impl Update {
 
     /// The addition of a rule, or its replacement, by a free group where the rule is longer than a first
     /// index and its block has none.
-    pub fn add<const FIRST: u32, const SECOND: u32>(prefix: &Prefix<FIRST, SECOND>, hop: Hop, group: Option<u32>) -> Update
+    pub fn add<const FIRST: u32, const SECOND: u32>(
+        prefix: &Prefix<FIRST, SECOND>,
+        hop: Hop,
+        group: Option<u32>,
+    ) -> Update
         requires { IsSome group → FIRST < prefix.now.len }
         ensures held { (F : List ℕ) (i : ℕ) → group_held result F i ≡ held_with group (prefix.now.bits / 2 ^ SECOND) F i }
-        ensures leads {
-            (R : RuleMap) (F S : List ℕ) → IsAnswering FIRST SECOND R F S → AddFits FIRST SECOND R prefix.now F S group
-            → IsBegun FIRST SECOND result F S × Leads FIRST SECOND result R (map.insert R prefix.now hop)
-        }
+        ensures leads { (R : RuleMap) (F S : List ℕ) → IsAnswering FIRST SECOND R F S → AddFits FIRST SECOND R prefix.now F S group
+            → IsBegun FIRST SECOND result F S × Leads FIRST SECOND result R (map.insert R prefix.now hop) }
     {
         let _bits = prefix.bits();
         match group {
@@ -57,12 +59,10 @@ impl Update {
         last: bool,
     ) -> Update
         ensures held { (F : List ℕ) (i : ℕ) → group_held result F i ≡ group_at F i }
-        ensures leads {
-            (R : RuleMap) (F S : List ℕ) → IsAnswering FIRST SECOND R F S → IsSome (map.get R prefix.now)
+        ensures leads { (R : RuleMap) (F S : List ℕ) → IsAnswering FIRST SECOND R F S → IsSome (map.get R prefix.now)
             → MatchOption cover.entry (IsUncovered (FIRST + SECOND) R prefix.now) (λ c. IsCoverRule (FIRST + SECOND) R prefix.now c.prefix c.hop)
             → LastFits FIRST SECOND (map.remove R prefix.now) prefix.now last
-            → IsBegun FIRST SECOND result F S × Leads FIRST SECOND result R (map.remove R prefix.now)
-        }
+            → IsBegun FIRST SECOND result F S × Leads FIRST SECOND result R (map.remove R prefix.now) }
     {
         let sweep = Sweep::delete(prefix, cover);
         if last {
@@ -79,10 +79,8 @@ impl Update {
     /// The removal of all rules.
     pub fn flush<const FIRST: u32, const SECOND: u32>() -> Update
         ensures held { (F : List ℕ) (i : ℕ) → group_held result F i ≡ group_at F i }
-        ensures leads {
-            (R : RuleMap) (F S : List ℕ) → IsAnswering FIRST SECOND R F S
-            → IsBegun FIRST SECOND result F S × Leads FIRST SECOND result R map.empty
-        }
+        ensures leads { (R : RuleMap) (F S : List ℕ) → IsAnswering FIRST SECOND R F S
+            → IsBegun FIRST SECOND result F S × Leads FIRST SECOND result R map.empty }
     {
         Update::Flush(Flush { next: 0 })
     }
@@ -98,49 +96,37 @@ impl Update {
         requires allows_unlink { (b g w : ℕ) → IsNextUnlink FIRST SECOND self.old (C.firsts cells.old) (C.seconds cells.old) b g w → C.may_set_first cells.old b w }
         // The change goes on, past the word that it stored, and never back: it stores no word twice.
         ensures onward { IsOnward self.old self.new }
-        ensures passed {
-            MatchDid result
-              (λ i. HasPassedFirst SECOND self.new i)
-              (λ j. HasPassedSecond SECOND self.new (C.firsts cells.new) j)
-              (λ b g. HasPassedFirst SECOND self.new b)
-              (Unit {0})
-        }
+        ensures passed { MatchDid result
+            (λ i. HasPassedFirst SECOND self.new i)
+            (λ j. HasPassedSecond SECOND self.new (C.firsts cells.new) j)
+            (λ b g. HasPassedFirst SECOND self.new b)
+            (Unit {0}) }
         ensures same { IsSameChange (FIRST + SECOND) self.old self.new }
         ensures table { IsTable FIRST SECOND (C.firsts cells.new) (C.seconds cells.new) }
         ensures under_way { IsUnderWay FIRST SECOND self.new (C.firsts cells.new) (C.seconds cells.new) }
         // Each address keeps its entry, or goes from the old to the new one.
-        ensures stands {
-            (E : ℕ → Entry) → StandsSoFar SECOND self.old (C.firsts cells.old) (C.seconds cells.old) E
-            → StandsSoFar SECOND self.new (C.firsts cells.new) (C.seconds cells.new) E
-        }
+        ensures stands { (E : ℕ → Entry) → StandsSoFar SECOND self.old (C.firsts cells.old) (C.seconds cells.old) E
+            → StandsSoFar SECOND self.new (C.firsts cells.new) (C.seconds cells.new) E }
         // So does the group of each block.
-        ensures groups {
-            (L : ℕ → Option ℕ) → HasGroups FIRST SECOND self.old (C.firsts cells.old) L
-            → HasGroups FIRST SECOND self.new (C.firsts cells.new) L
-        }
+        ensures groups { (L : ℕ → Option ℕ) → HasGroups FIRST SECOND self.old (C.firsts cells.old) L
+            → HasGroups FIRST SECOND self.new (C.firsts cells.new) L }
         // A group is given up just where the step says so.
-        ensures held {
-            MatchDid result
-              (λ i. SameGroups FIRST (group_held self.old (C.firsts cells.old)) (group_held self.new (C.firsts cells.new)))
-              (λ j. SameGroups FIRST (group_held self.old (C.firsts cells.old)) (group_held self.new (C.firsts cells.new)))
-              (λ b g. GivesUp FIRST (group_held self.old (C.firsts cells.old)) (group_held self.new (C.firsts cells.new)) b g)
-              (SameGroups FIRST (group_held self.old (C.firsts cells.old)) (group_held self.new (C.firsts cells.new)))
-        }
-        ensures left {
-            MatchDid result
-              (λ i. places_left FIRST SECOND self.new < places_left FIRST SECOND self.old)
-              (λ j. places_left FIRST SECOND self.new < places_left FIRST SECOND self.old)
-              (λ b g. places_left FIRST SECOND self.new < places_left FIRST SECOND self.old)
-              (Unit {0})
-        }
+        ensures held { MatchDid result
+            (λ i. SameGroups FIRST (group_held self.old (C.firsts cells.old)) (group_held self.new (C.firsts cells.new)))
+            (λ j. SameGroups FIRST (group_held self.old (C.firsts cells.old)) (group_held self.new (C.firsts cells.new)))
+            (λ b g. GivesUp FIRST (group_held self.old (C.firsts cells.old)) (group_held self.new (C.firsts cells.new)) b g)
+            (SameGroups FIRST (group_held self.old (C.firsts cells.old)) (group_held self.new (C.firsts cells.new))) }
+        ensures left { MatchDid result
+            (λ i. places_left FIRST SECOND self.new < places_left FIRST SECOND self.old)
+            (λ j. places_left FIRST SECOND self.new < places_left FIRST SECOND self.old)
+            (λ b g. places_left FIRST SECOND self.new < places_left FIRST SECOND self.old)
+            (Unit {0}) }
         // One store was made, or none where it is done.
-        ensures store {
-            MatchDid result
-              (λ i. (w : ℕ) × IsNextFirst FIRST SECOND self.old (C.firsts cells.old) (C.seconds cells.old) i w × C.sets_first cells.old i w cells.new × IsSetFirst (C.firsts cells.old) (C.seconds cells.old) (C.firsts cells.new) (C.seconds cells.new) i w)
-              (λ j. (w : ℕ) × IsNextSecond SECOND self.old (C.firsts cells.old) (C.seconds cells.old) j w × C.sets_second cells.old j w cells.new × IsSetSecond (C.firsts cells.old) (C.seconds cells.old) (C.firsts cells.new) (C.seconds cells.new) j w)
-              (λ b g. (w : ℕ) × IsNextUnlink FIRST SECOND self.old (C.firsts cells.old) (C.seconds cells.old) b g w × C.sets_first cells.old b w cells.new × IsSetFirst (C.firsts cells.old) (C.seconds cells.old) (C.firsts cells.new) (C.seconds cells.new) b w)
-              ((cells.new ≡ cells.old) × IsOver FIRST SECOND self.new)
-        }
+        ensures store { MatchDid result
+            (λ i. (w : ℕ) × IsNextFirst FIRST SECOND self.old (C.firsts cells.old) (C.seconds cells.old) i w × C.sets_first cells.old i w cells.new × IsSetFirst (C.firsts cells.old) (C.seconds cells.old) (C.firsts cells.new) (C.seconds cells.new) i w)
+            (λ j. (w : ℕ) × IsNextSecond SECOND self.old (C.firsts cells.old) (C.seconds cells.old) j w × C.sets_second cells.old j w cells.new × IsSetSecond (C.firsts cells.old) (C.seconds cells.old) (C.firsts cells.new) (C.seconds cells.new) j w)
+            (λ b g. (w : ℕ) × IsNextUnlink FIRST SECOND self.old (C.firsts cells.old) (C.seconds cells.old) b g w × C.sets_first cells.old b w cells.new × IsSetFirst (C.firsts cells.old) (C.seconds cells.old) (C.firsts cells.new) (C.seconds cells.new) b w)
+            ((cells.new ≡ cells.old) × IsOver FIRST SECOND self.new) }
     {
         match self {
             Update::Sweep(sweep) => sweep.step::<FIRST, SECOND, C>(cells),

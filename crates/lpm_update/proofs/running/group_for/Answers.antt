@@ -37,8 +37,11 @@ returns-in-Some g c =
       err = ((λ e. absurd cc), (λ k. absurd (still_free xs n least.free k.2)));
       unchanged = tt;
       some = λ _. omega arith;
-      fits = λ R answering. (omega arith, shallow f s R F b answering.groups low none,
-        fresh_group f s t xs n c.groups-groups.ensures.words c.requires.table c.requires.tied c.requires.sizes least.free);
+      fits = λ R answering. (
+        omega arith,
+        shallow f s R F b answering.groups low none,
+        fresh_group f s t xs n c.groups-groups.ensures.words c.requires.table c.requires.tied c.requires.sizes least.free,
+      );
       tied = subst (λ x. IsTied f x (held_with (Some n) b F)) (sym states) (tied_taken f xs (group_at F) b n c.requires.tied low none least.free);
       states = ap length states ∙ length-set xs n (Linked b);
       limbo = ap limbo_count states ∙ (Takes-set xs n b least.free).limbo;

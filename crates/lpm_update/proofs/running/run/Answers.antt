@@ -36,8 +36,8 @@ release-requires g c =
     let known = c.loop-group.invariant in
     let gives = c.in-Unlinked.ensures.held in
     subst (λ x. IsLimboAt x c.in-Unlinked.group) (sym c.retire.ensures)
-      (given_retired c.loop-group.groups c.in-Unlinked.block c.in-Unlinked.group
-        (given_linked g.row.FIRST c.loop-group.groups _ _ c.in-Unlinked.block c.in-Unlinked.group known.tied gives))
+    (given_retired c.loop-group.groups c.in-Unlinked.block c.in-Unlinked.group
+    (given_linked g.row.FIRST c.loop-group.groups _ _ c.in-Unlinked.block c.in-Unlinked.group known.tied gives))
 
 pub loop-group-preserved-in-Unlinked : goal.loop-group-preserved-in-Unlinked
 loop-group-preserved-in-Unlinked g c =
@@ -72,7 +72,7 @@ loop-group-preserved g c =
     let known = c.loop-group.invariant in
     let done = c.step.ensures in
     let room : HasRoom s c.loop-group.cells c.step.new.cells = match_elim c.step.result _ _ _ _ (HasRoom s c.loop-group.cells c.step.new.cells)
-          (λ i h. room_first s i h.0 _ _ known.room h.2) (λ j h. room_second s j h.0 _ _ known.room h.2) (λ b n h. room_first s b h.0 _ _ known.room h.2) (λ h. room_same s _ _ known.room h.0) done.store in
+    (λ i h. room_first s i h.0 _ _ known.room h.2) (λ j h. room_second s j h.0 _ _ known.room h.2) (λ b n h. room_first s b h.0 _ _ known.room h.2) (λ h. room_same s _ _ known.room h.0) done.store in
     record {
       same = same_change (f + s) c.args.update c.loop-group.update c.step.new.self known.same done.same;
       table = done.table;
@@ -95,8 +95,8 @@ returns-in-Done-clause-answering g c = λ R R' answering nets leads.
     let F = c.args.cells.now.firsts in
     let S = c.args.cells.now.seconds in
     over_answers f s c.args.update c.step.new.self R R' F S c.step.new.cells.firsts c.step.new.cells.seconds answering nets leads
-      (same_change (f + s) c.args.update c.loop-group.update c.step.new.self known.same done.same) c.in-Done.ensures.store.1 done.table
-      (done.stands (entry_at s F S) known.stands) (done.groups (group_at F) known.groups)
+    (same_change (f + s) c.args.update c.loop-group.update c.step.new.self known.same done.same) c.in-Done.ensures.store.1 done.table
+    (done.stands (entry_at s F S) known.stands) (done.groups (group_at F) known.groups)
 
 pub returns-in-Done-clause-tied : goal.returns-in-Done-clause-tied
 returns-in-Done-clause-tied g c =
@@ -105,4 +105,4 @@ returns-in-Done-clause-tied g c =
     let known = c.loop-group.invariant in
     let done = c.step.ensures in
     tied_same f c.loop-group.groups _ _ (over_held f s c.step.new.self c.step.new.cells.firsts _ c.in-Done.ensures.store.1 (done.groups (group_at c.args.cells.now.firsts) known.groups))
-      (tied_same f c.loop-group.groups _ _ c.in-Done.ensures.held known.tied)
+    (tied_same f c.loop-group.groups _ _ c.in-Done.ensures.held known.tied)

@@ -14,16 +14,16 @@ returns-clause-filling g c = λ h few F S room last free.
     let network = c.bits-bits.ensures.network in
     let low = block_low s p.bits in
     rw (c.first_index.ensures.value, c.from-from.ensures, c.bits-bits.ensures.value, c.len-len.ensures.value, one_shl (A - p.len) 64 (omega (arith, shape.2)))
-      (record {
-        block = shr_below p.bits f s network.1;
-        low = low;
-        range = omega arith;
-        high = deep_high f s p network h;
-        entry = ((let v = c.number-number.ensures.value in let b = c.number-number.ensures.bound in omega (arith, v, b)), network.0);
-        last = tt;
-        group = few;
-        room = room;
-        free = λ _. free;
-        old = λ _. last;
-        filled = λ _ r none. absurd (omega (arith, none));
-      })
+    (record {
+      block = shr_below p.bits f s network.1;
+      low = low;
+      range = omega arith;
+      high = deep_high f s p network h;
+      entry = ((let v = c.number-number.ensures.value in let b = c.number-number.ensures.bound in omega (arith, v, b)), network.0);
+      last = tt;
+      group = few;
+      room = room;
+      free = λ _. free;
+      old = λ _. last;
+      filled = λ _ r none. absurd (omega (arith, none));
+    })

@@ -27,8 +27,8 @@ returns-then-next-size g c =
     let w = c.to_word.result in
     let old : c.of_word-old.result ≡ entry_in (slice_index F u.block) = c.of_word-old.ensures ∙ ap entry_in c.first.ensures.value in
     let word : w ≡ word_of (final_entry u.from u.end u.rewrite (u.block * 2 ^ s + u.next) (entry_in (slice_index F u.block))) =
-        c.to_word.ensures.value ∙ ap word_of c.entry_for-entry.ensures ∙ ap (λ x. word_of (final_entry u.from u.end u.rewrite (u.block * 2 ^ s % 18446744073709551616 + u.next) x)) old
-        ∙ ap (λ x. word_of (final_entry u.from u.end u.rewrite (x + u.next) (entry_in (slice_index F u.block)))) start in
+    c.to_word.ensures.value ∙ ap word_of c.entry_for-entry.ensures ∙ ap (λ x. word_of (final_entry u.from u.end u.rewrite (u.block * 2 ^ s % 18446744073709551616 + u.next) x)) old
+    ∙ ap (λ x. word_of (final_entry u.from u.end u.rewrite (x + u.next) (entry_in (slice_index F u.block)))) start in
     let firsts = c.set_second.ensures.firsts ∙ ap (λ x. g.C.Cells.firsts x) c.first.ensures.same in
     let seconds = c.set_second.ensures.seconds ∙ ap (λ x. slice_set (g.C.Cells.seconds x) j w) c.first.ensures.same in
     let place = ap (λ x. x + u.next) base in
@@ -52,7 +52,7 @@ returns-then-next-size-2-clause-table g c =
     let test = c.if-next-size-2.true in
     let full : u.next ≡ 2 ^ s = test ∙ size in
     let after = after_link g.row.FIRST s u F S (g.C.Cells.firsts c.set_first.new.self) (g.C.Cells.seconds c.set_first.new.self) c.to_word-then-next-size-2.result c.requires.table fill full
-        c.to_word-then-next-size-2.ensures.value c.set_first.ensures.firsts c.set_first.ensures.seconds in
+    c.to_word-then-next-size-2.ensures.value c.set_first.ensures.firsts c.set_first.ensures.seconds in
     after.0
 
 pub returns-then-next-size-2-clause-stands : goal.returns-then-next-size-2-clause-stands
@@ -67,7 +67,7 @@ returns-then-next-size-2-clause-stands g c =
     let test = c.if-next-size-2.true in
     let full : u.next ≡ 2 ^ s = test ∙ size in
     let after = after_link g.row.FIRST s u F S (g.C.Cells.firsts c.set_first.new.self) (g.C.Cells.seconds c.set_first.new.self) c.to_word-then-next-size-2.result c.requires.table fill full
-        c.to_word-then-next-size-2.ensures.value c.set_first.ensures.firsts c.set_first.ensures.seconds in
+    c.to_word-then-next-size-2.ensures.value c.set_first.ensures.firsts c.set_first.ensures.seconds in
     after.1
 
 pub set_second-requires-clause-allowed : goal.set_second-requires-clause-allowed
@@ -89,6 +89,6 @@ set_second-requires-clause-allowed g c =
     let w = c.to_word.result in
     let old : c.of_word-old.result ≡ entry_in (slice_index F u.block) = c.of_word-old.ensures ∙ ap entry_in c.first.ensures.value in
     let word : w ≡ word_of (final_entry u.from u.end u.rewrite (u.block * 2 ^ s + u.next) (entry_in (slice_index F u.block))) =
-        c.to_word.ensures.value ∙ ap word_of c.entry_for-entry.ensures ∙ ap (λ x. word_of (final_entry u.from u.end u.rewrite (u.block * 2 ^ s % 18446744073709551616 + u.next) x)) old
-        ∙ ap (λ x. word_of (final_entry u.from u.end u.rewrite (x + u.next) (entry_in (slice_index F u.block)))) start in
+    c.to_word.ensures.value ∙ ap word_of c.entry_for-entry.ensures ∙ ap (λ x. word_of (final_entry u.from u.end u.rewrite (u.block * 2 ^ s % 18446744073709551616 + u.next) x)) old
+    ∙ ap (λ x. word_of (final_entry u.from u.end u.rewrite (x + u.next) (entry_in (slice_index F u.block)))) start in
     rw c.first.ensures.same (c.requires.allows_second j w (more, ap (λ x. x + u.next) base, word))

@@ -23,7 +23,7 @@ returns-in-Group g c =
     let more : i < 2 ^ f = subst (λ x. i < x) size c.loop-self-test.true in
     let word = c.first-word.ensures.value ∙ ap (λ x. slice_index (g.C.Cells.firsts x) i) known.same in
     let group : group_in (entry_in (slice_index F i)) ≡ Some c.in-Group.group =
-        ap (λ x. group_in (entry_in x)) (sym word) ∙ ap group_in (sym c.of_word.ensures ∙ c.in-Group.is) in
+    ap (λ x. group_in (entry_in x)) (sym word) ∙ ap group_in (sym c.of_word.ensures ∙ c.in-Group.is) in
     let firsts = c.set_first.ensures.firsts ∙ ap (λ x. slice_set (g.C.Cells.firsts x) i 0) same in
     let seconds = c.set_first.ensures.seconds ∙ ap (λ x. g.C.Cells.seconds x) same in
     let after = after_flush f s n i 0 F S _ _ c.requires.table known.low more known.skipped refl firsts seconds in
@@ -32,8 +32,14 @@ returns-in-Group g c =
       within = omega (arith, more);
       table = after.table;
       stands = after.stands;
-      store = (0, record { low = known.low; high = more; full = λ z. c.if-word-ne0.true (word ∙ z); word = refl; skipped = known.skipped }, group,
-        subst (λ x. g.C.Cells.sets_first x i 0 c.set_first.new.self) same c.set_first.ensures.set, (firsts, seconds), refl);
+      store = (
+        0,
+        record { low = known.low; high = more; full = λ z. c.if-word-ne0.true (word ∙ z); word = refl; skipped = known.skipped },
+        group,
+        subst (λ x. g.C.Cells.sets_first x i 0 c.set_first.new.self) same c.set_first.ensures.set,
+        (firsts, seconds),
+        refl,
+      );
     }
 
 pub returns-in_default : goal.returns-in_default
@@ -58,8 +64,14 @@ returns-in_default g c =
       within = omega (arith, more);
       table = after.table;
       stands = after.stands;
-      store = (0, record { low = known.low; high = more; full = λ z. c.if-word-ne0.true (word ∙ z); word = refl; skipped = known.skipped }, none,
-        subst (λ x. g.C.Cells.sets_first x i 0 c.set_first.new.self) same c.set_first.ensures.set, (firsts, seconds), refl);
+      store = (
+        0,
+        record { low = known.low; high = more; full = λ z. c.if-word-ne0.true (word ∙ z); word = refl; skipped = known.skipped },
+        none,
+        subst (λ x. g.C.Cells.sets_first x i 0 c.set_first.new.self) same c.set_first.ensures.set,
+        (firsts, seconds),
+        refl,
+      );
     }
 
 pub returns-clause-stands : goal.returns-clause-stands
@@ -69,4 +81,4 @@ returns-clause-stands g c = λ E x.
     let s = g.row.SECOND in
     let known = c.loop-self.invariant in
     subst (λ y. Stands s 0 (c.loop-self.self.next * 2 ^ s) flushed (g.C.Cells.firsts y) (g.C.Cells.seconds y) E) (sym known.same)
-      (skip_zeros s c.args.self.now.next c.loop-self.self.next F S E known.low known.skipped x)
+    (skip_zeros s c.args.self.now.next c.loop-self.self.next F S E known.low known.skipped x)

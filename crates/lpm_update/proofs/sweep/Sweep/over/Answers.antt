@@ -12,10 +12,10 @@ returns-clause-sweep g c =
     let p = c.args.prefix.now in
     let network = c.bits-bits.ensures.network in
     rw (c.from-from.ensures, c.bits-bits.ensures.value, c.len-len.ensures.value, one_shl (f + s - p.len) 64 (omega arith))
-      (record {
-        from = refl;
-        at = refl;
-        end = refl;
-        short = λ h F. short_range f s p _ F network h c.requires.fits c.requires.last;
-        deep = λ h F n e. deep_range f s p _ F n network h c.requires.fits c.requires.last e;
-      })
+    (record {
+      from = refl;
+      at = refl;
+      end = refl;
+      short = λ h F. short_range f s p _ F network h c.requires.fits c.requires.last;
+      deep = λ h F n e. deep_range f s p _ F n network h c.requires.fits c.requires.last e;
+    })

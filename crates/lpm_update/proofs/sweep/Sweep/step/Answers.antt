@@ -21,8 +21,8 @@ returns-in_default g c =
       sweeping = c.visit.ensures.sweeping;
       stands = λ E t. c.visit.ensures.stands E (mid_stands s u m F S (C.firsts c.loop-self.cells) (C.seconds c.loop-self.cells) E eF eS known.further known.skips t);
       store = match_lift c.visit.result _ _ _ _ _ _ _ _ c.in_default.not-Done
-        (λ i h. (h.0, mid_first s u m F S _ _ i h.0 eF eS known.further known.skips h.1, subst (λ x. C.sets_first x i h.0 c.visit.new.cells) known.same h.2, h.3, (h.4.0 ∙ ap (λ x. slice_set x i h.0) eF, h.4.1 ∙ eS)))
-        (λ j h. (h.0, h.1, h.2, mid_second s u m F S _ _ h.0 h.1 j h.2 eF eS known.further known.skips h.3, subst (λ x. C.sets_second x j h.2 c.visit.new.cells) known.same h.4, h.5, (h.6.0 ∙ eF, h.6.1 ∙ ap (λ x. slice_set x j h.2) eS)))
-        (λ b k h. h)
-        c.visit.ensures.store;
+          (λ i h. (h.0, mid_first s u m F S _ _ i h.0 eF eS known.further known.skips h.1, subst (λ x. C.sets_first x i h.0 c.visit.new.cells) known.same h.2, h.3, (h.4.0 ∙ ap (λ x. slice_set x i h.0) eF, h.4.1 ∙ eS)))
+          (λ j h. (h.0, h.1, h.2, mid_second s u m F S _ _ h.0 h.1 j h.2 eF eS known.further known.skips h.3, subst (λ x. C.sets_second x j h.2 c.visit.new.cells) known.same h.4, h.5, (h.6.0 ∙ eF, h.6.1 ∙ ap (λ x. slice_set x j h.2) eS)))
+          (λ b k h. h)
+          c.visit.ensures.store;
     }

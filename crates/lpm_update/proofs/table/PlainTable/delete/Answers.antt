@@ -34,6 +34,6 @@ invariant_of-self g c =
     let leads = c.delete-update.ensures.leads x.rules.rules x.cells.firsts x.cells.seconds known.answering there c.cover-cover.ensures last in
     let run = c.run.ensures in
     resting_after f s _ _ _ _ _ _ known
-      (subst (λ R. IsAnswering f s R c.run.new.cells.firsts c.run.new.cells.seconds) (sym gone)
-        (run.answering x.rules.rules (map.remove x.rules.rules p) known.answering (networks_remove (f + s) x.rules.rules p known.answering.networks) leads.1))
-      run.tied run.sizes.0 run.sizes.1 run.limbo
+    (subst (λ R. IsAnswering f s R c.run.new.cells.firsts c.run.new.cells.seconds) (sym gone)
+    (run.answering x.rules.rules (map.remove x.rules.rules p) known.answering (networks_remove (f + s) x.rules.rules p known.answering.networks) leads.1))
+    run.tied run.sizes.0 run.sizes.1 run.limbo

@@ -24,5 +24,5 @@ invariant_of-self g c =
     let empty = ap (λ (r : RuleList). r.rules) c.clear-count.ensures.empty in
     let run = c.run.ensures in
     resting_after f s _ _ _ _ _ _ known
-      (subst (λ R. IsAnswering f s R c.run.new.cells.firsts c.run.new.cells.seconds) (sym empty) (run.answering x.rules.rules map.empty known.answering (networks_empty (f + s)) leads.1))
-      run.tied run.sizes.0 run.sizes.1 run.limbo
+    (subst (λ R. IsAnswering f s R c.run.new.cells.firsts c.run.new.cells.seconds) (sym empty) (run.answering x.rules.rules map.empty known.answering (networks_empty (f + s)) leads.1))
+    run.tied run.sizes.0 run.sizes.1 run.limbo

@@ -11,4 +11,4 @@ returns g c =
     let known = c.self.invariant in
     let a = c.args.addr in
     subst (λ (t : TableState). IsLongestHop width t.rules a c.read.result) c.self.view_is
-      (subst (IsLongestHop width c.self.inside.rules.rules a) (sym c.read.ensures) (best_hop width c.self.inside.rules.rules a _ (known.answering.best a c.requires)))
+    (subst (IsLongestHop width c.self.inside.rules.rules a) (sym c.read.ensures) (best_hop width c.self.inside.rules.rules a _ (known.answering.best a c.requires)))

@@ -19,9 +19,10 @@ returns-in-None-clause-leads g c = λ R F S answering fits.
     let s = g.row.SECOND in
     let p = c.args.prefix.now in
     let deep = subst (AddFits f s R p F S) c.in-None.is fits in
-    let made = c.add-in-None.ensures in
-    (begun_sweep f s R p c.add-in-None.result F S c.bits-bits.ensures.network answering made.sweep deep,
-     adds_sweep f s R p c.args.hop c.add-in-None.result c.bits-bits.ensures.network made.sweep made.rewrite deep)
+    let made = c.add-in-None.ensures in (
+      begun_sweep f s R p c.add-in-None.result F S c.bits-bits.ensures.network answering made.sweep deep,
+      adds_sweep f s R p c.args.hop c.add-in-None.result c.bits-bits.ensures.network made.sweep made.rewrite deep,
+    )
 
 pub returns-in-Some-clause-leads : goal.returns-in-Some-clause-leads
 returns-in-Some-clause-leads g c = λ R F S answering fits.
@@ -29,6 +30,7 @@ returns-in-Some-clause-leads g c = λ R F S answering fits.
     let s = g.row.SECOND in
     let p = c.args.prefix.now in
     let fresh = subst (AddFits f s R p F S) c.in-Some.is fits in
-    let made = c.add.ensures in
-    (begun_fill f s R p c.args.hop c.in-Some.group c.add.result F S c.bits-bits.ensures.network answering made.value made.filling fresh,
-     adds_fill f s R p c.args.hop c.in-Some.group c.add.result c.bits-bits.ensures.network made.value fresh.0)
+    let made = c.add.ensures in (
+      begun_fill f s R p c.args.hop c.in-Some.group c.add.result F S c.bits-bits.ensures.network answering made.value made.filling fresh,
+      adds_fill f s R p c.args.hop c.in-Some.group c.add.result c.bits-bits.ensures.network made.value fresh.0,
+    )

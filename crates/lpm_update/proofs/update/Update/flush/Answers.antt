@@ -11,6 +11,7 @@ use Rattle.lpm_update.proofs.update.Update.flush.Goals as goal
 pub returns-clause-leads : goal.returns-clause-leads
 returns-clause-leads g c = λ R F S answering.
     let f = g.row.FIRST in
-    let s = g.row.SECOND in
-    (record { under_way = omega arith; stands = subst (λ x. Stands s 0 x flushed F S (entry_at s F S)) (omega arith) (stands_still s 0 flushed F S); groups = λ i low. begun_flush i (group_at F i) },
-     record { best = λ E best. flush_best (f + s) E; groups = λ L known. flush_deep f s })
+    let s = g.row.SECOND in (
+      record { under_way = omega arith; stands = subst (λ x. Stands s 0 x flushed F S (entry_at s F S)) (omega arith) (stands_still s 0 flushed F S); groups = λ i low. begun_flush i (group_at F i) },
+      record { best = λ E best. flush_best (f + s) E; groups = λ L known. flush_deep f s },
+    )
