@@ -476,3 +476,53 @@ fn help_and_usage(rt: HostRuntime) -> Result<(), Fail> {
     assert_eq!(rt; refuse_words(ErrorKind::OutOfMemory, &mut err), 5);
     Ok(())
 }
+
+#[test]
+fn routes_longer_than_24_bits(rt: HostRuntime) -> Result<(), Fail> {
+    let addresses = b"10.1.1.127\n10.1.1.128\n10.2.0.0\n11.0.0.0\n";
+    let answers = "10.1.1.127 2\n10.1.1.128 3\n10.2.0.0 1\n11.0.0.0 -\n";
+    let cases: [(&str, &'static [u8], &'static [u8], u8, &str, &str); 4] = [
+        (
+            "three-routes",
+            b"10.0.0.0/8 1\n10.1.0.0/16 2\n10.1.1.128/25 3\n",
+            addresses,
+            0,
+            answers,
+            "",
+        ),
+        (
+            "reverse-order",
+            b"10.1.1.128/25 3\n10.1.0.0/16 2\n10.0.0.0/8 1\n",
+            addresses,
+            0,
+            answers,
+            "",
+        ),
+        (
+            "last-address",
+            b"255.255.255.255/32 16777215\n",
+            b"255.255.255.254\n255.255.255.255\n",
+            0,
+            "255.255.255.254 -\n255.255.255.255 16777215\n",
+            "",
+        ),
+        (
+            "one-group",
+            b"10.0.0.0/25 1\n10.0.0.128/26 3\n10.0.1.0/25 2\n",
+            b"10.0.0.1\n",
+            6,
+            "",
+            "lpmtool: r:3: refused 7 NoGroups\n",
+        ),
+    ];
+    for (name, routes, addresses, status, text, fault) in cases {
+        let words = ["lpmtool", "lookup", "r", "a", "--groups", "1"];
+        let (got, out, err) = outcome(&rt, &words, &whole_files(routes, addresses))?;
+        assert_eq!(rt;
+            (got, out.as_str(), err.as_str()),
+            (status, text, fault),
+            "{name}"
+        );
+    }
+    Ok(())
+}
