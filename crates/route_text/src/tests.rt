@@ -111,13 +111,13 @@ fn files_of_one_byte(rt: HostRuntime) -> Result<(), Fail> {
 
 #[test]
 fn a_route_file_that_is_cut(rt: HostRuntime) -> Result<(), Fail> {
-    let file = b"10.0.0.0/8 1\n10.1.0.0/16 2\n";
-    let ends: [usize; 2] = [12, 26];
+    let file = b"10.0.0.0/8 1\n10.1.0.0/16 2\n10.1.1.128/25 3\n";
+    let ends: [usize; 3] = [12, 26, 42];
     for cut in 0..=file.len() {
         let begun = &file[..cut];
         let routes = ends.iter().filter(|end| **end <= cut).count();
         let line = begun.iter().filter(|byte| **byte == b'\n').count() as u64 + 1;
-        if [0, 12, 13, 26, 27].contains(&cut) {
+        if [0, 12, 13, 26, 27, 42, 43].contains(&cut) {
             assert_eq!(rt; read_routes(rt.alloc(), begun)?.len(), routes, "{cut}");
         } else {
             let fault = fault_of(read_routes(rt.alloc(), begun))?.ok_or("no fault")?;
