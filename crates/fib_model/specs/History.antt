@@ -1,0 +1,29 @@
+-- The versions of the rule list: the list after each accepted change that made a version, the newest first.
+use Rattle.std.specs.Prelude.{ℕ, zero, suc, ◌+◌, List, [], ◌∷◌, length}
+use Rattle.std.specs.FinMap.{insert, remove, empty}
+use Rattle.lpm_rules.specs.RuleMap.{RuleMap}
+use Rattle.lpm_rules.specs.declared.Put.TheVariants.{Added, Replaced, Unchanged}
+use Rattle.fib_model.specs.declared.command.Command.{Command}
+use Rattle.fib_model.specs.declared.command.Command.TheVariants as command
+use Rattle.fib_model.specs.declared.command.Outcome.{Outcome}
+use Rattle.fib_model.specs.declared.command.Outcome.TheVariants as outcome
+use Rattle.fib_model.specs.Outcomes.{Log}
+
+-- the last version; before the first change no rules stood
+abbrev pub last_of : List RuleMap → RuleMap
+last_of [] = empty
+last_of (R ∷ versions) = R
+
+-- the versions after a command: a replaced, added or deleted rule makes one, a flush of some rules one,
+-- and everything else none
+abbrev pub versions_after : {first second : ℕ} → List RuleMap → Command first second → Outcome → List RuleMap
+versions_after H (command.Add p h) (outcome.Put Added) = insert (last_of H) p h ∷ H
+versions_after H (command.Add p h) (outcome.Put Replaced) = insert (last_of H) p h ∷ H
+versions_after H (command.Delete p) (outcome.Deleted h) = remove (last_of H) p ∷ H
+versions_after H command.Flush (outcome.Flushed (suc n)) = empty ∷ H
+versions_after H other outcome = H
+
+-- the versions that a log made
+abbrev pub history : {first second : ℕ} → Log first second → List RuleMap
+history [] = []
+history (done ∷ log) = versions_after (history log) done.0 done.1

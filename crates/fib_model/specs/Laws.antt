@@ -1,0 +1,35 @@
+-- Laws of runs.
+use Rattle.std.specs.Prelude.{ℕ, ◌≡◌, ◌<◌, ◌↔◌, List, length, slice_index}
+use Rattle.qsbr.specs.declared.Busy.{Busy}
+use Rattle.qsbr.specs.declared.config.Config.{Config}
+use Rattle.qsbr.specs.Limits.{IsConfig}
+use Rattle.qsbr.specs.Registry.{Registry}
+use Rattle.fib_model.specs.declared.event.Event.{Event}
+use Rattle.fib_model.specs.State.{State, Keeping}
+use Rattle.fib_model.specs.Outcomes.{Log, Runs}
+use Rattle.fib_model.specs.Counting.{counting, opened}
+use Rattle.fib_model.specs.Textbook.{textbook, beginning}
+use Rattle.fib_model.specs.History.{history, last_of}
+
+-- the rules are the last version, and the updates begun are as many as the versions
+abbrev pub RulesAreLastVersion : Type 0
+RulesAreLastVersion = (first second : ℕ) (c : Config) (log : Log first second) (z : State (List Event))
+    → Runs (textbook c) first second c beginning log z
+    → (z.rules ≡ last_of (history log)) × (z.begun ≡ length (history log))
+
+-- what counters say and what reader intervals say is the same: of the rules, the versions, the token number,
+-- who is online, and, for each unlinking that waits, who holds it
+pub record Agrees (c : Config) (z : State Registry) (y : State (List Event)) : Type 0 where
+  pub rules : y.rules ≡ z.rules
+  pub begun : y.begun ≡ z.begun
+  pub token : (textbook c).token y.readers ≡ z.readers.token
+  pub online : (w : ℕ) → w < c.workers → counting.is_online z.readers w ↔ (textbook c).is_online y.readers w
+  pub waiting : length y.limbo ≡ length z.limbo
+  pub held : (place : ℕ) → place < length z.limbo → (busy : Busy)
+      → counting.is_held_by z.readers (slice_index z.limbo place) busy ↔ (textbook c).is_held_by y.readers (slice_index y.limbo place) busy
+
+-- a run by counters is one by reader intervals, with the same outcomes
+abbrev pub CountersTellIntervals : Type 0
+CountersTellIntervals = (first second : ℕ) (c : Config) (log : Log first second) (z : State Registry) → IsConfig c
+    → Runs counting first second c (opened c) log z
+    → (y : State (List Event)) × Runs (textbook c) first second c beginning log y × Agrees c z y

@@ -1,0 +1,64 @@
+//! Commands and their outcomes.
+
+ghost use Rattle.std.specs.Prelude.{◌≡◌};
+
+use defer_queue::Reclaimed;
+use lpm_bits::{Hop, Prefix};
+use lpm_rules::Put;
+use qsbr::Refusal;
+
+/// What a worker reports.
+#[derive(Clone, Copy, Debug, PartialEq, Eq)]
+pub enum Report {
+    /// It begins to look up.
+    Online,
+    /// It has ended all its lookups.
+    Offline,
+    /// It has ended its lookups so far.
+    Quiescent,
+}
+
+/// A command to a table of one thread.
+#[derive(Clone, Copy, Debug, PartialEq, Eq)]
+pub enum Command<const FIRST: u32, const SECOND: u32> {
+    /// Gives the prefix this next hop.
+    Add(Prefix<FIRST, SECOND>, Hop),
+    /// Takes out the rule of the prefix.
+    Delete(Prefix<FIRST, SECOND>),
+    /// Takes out all rules.
+    Flush,
+    /// Frees at most so many groups that no worker holds.
+    Reclaim(usize),
+    /// Tells what the worker of this number reports.
+    Report(Report, usize),
+}
+
+/// Why a report was not taken. It changed nothing.
+#[derive(Clone, Copy, Debug, PartialEq, Eq)]
+pub enum Misreport {
+    /// No worker has the number.
+    NoSuchWorker,
+    /// A worker that is online can't go online.
+    AlreadyOnline,
+    /// A worker that is offline can't go offline, and has no lookups to end.
+    NotOnline,
+}
+
+/// What came of a command.
+#[derive(Clone, Copy, Debug, PartialEq, Eq)]
+pub enum Outcome {
+    /// The rule is in the list.
+    Put(Put),
+    /// The rule is out of the list; it had this next hop.
+    Deleted(Hop),
+    /// All rules are out of the list; there were so many.
+    Flushed(usize),
+    /// So many groups are free again.
+    Reclaimed(Reclaimed),
+    /// The report was taken.
+    Told,
+    /// The change was refused.
+    Refused(Refusal),
+    /// The report was refused.
+    Misreported(Misreport),
+}

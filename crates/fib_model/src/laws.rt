@@ -1,0 +1,1 @@
+//! Laws of runs. Each function does nothing: its contract is the law.
