@@ -3,6 +3,7 @@
 
 mod keeper;
 mod pool;
+mod running;
 
 use keeper::Keeper;
 use pool::Pool;
