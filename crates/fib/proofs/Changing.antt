@@ -105,9 +105,11 @@ fresh_taken f s t xs ys g b w table tied sizes taken =
 -- one more unlinking after n
 pub unlinks_more : (c : Config) (n : ℕ) (x y : Registry) (limbo mid left : List ℕ) → Unlinks counting c n x limbo y mid → MakesRoom counting c (counting.unlinked y) mid left
     → Unlinks counting c (suc n) x limbo (counting.unlinked y) (left ++ counting.name y ∷ [])
-unlinks_more c zero x y limbo mid left u room =
-    (left, subst (λ r. MakesRoom counting c (counting.unlinked r) limbo left) u.0 (subst (λ l. MakesRoom counting c (counting.unlinked y) l left) u.1 room),
-    (ap counting.unlinked u.0, ap (λ r. left ++ counting.name r ∷ []) u.0))
+unlinks_more c zero x y limbo mid left u room = (
+  left,
+  subst (λ r. MakesRoom counting c (counting.unlinked r) limbo left) u.0 (subst (λ l. MakesRoom counting c (counting.unlinked y) l left) u.1 room),
+  (ap counting.unlinked u.0, ap (λ r. left ++ counting.name r ∷ []) u.0),
+)
 unlinks_more c (suc n) x y limbo mid left u room = (u.0, u.1, unlinks_more c n (counting.unlinked x) y _ mid left u.2 room)
 
 -- a linked group is counted

@@ -62,8 +62,8 @@ pub passed_unheld : (d : Registry) (token : ℕ) → Passes token d.counters →
 passed_unheld d token passes busy held =
     let holds = held.0.holds in
     elim (passes busy.worker holds.registered) [
-    | inl none ↦ omega (arith, none, holds.online)
-    | inr past ↦ omega (arith, past, holds.behind)
+      | inl none ↦ omega (arith, none, holds.online)
+      | inr past ↦ omega (arith, past, holds.behind)
     ]
 
 all_unheld : (d : Registry) (items : List (ℕ × ℕ)) → All (λ item. IsChecked item.1 d.counters (Ok tt)) items → All (λ item. IsUnheld counting d item.1) items

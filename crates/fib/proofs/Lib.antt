@@ -1,3 +1,5 @@
 pub mod Waiting
 pub mod Front
 pub mod Changing
+pub mod Standing
+pub mod Adding

@@ -1,9 +1,14 @@
-//! The table for one thread.
+//! The table for one thread: rules, the words that answer them, readers' reports, and the groups that wait
+//! in limbo until no reader can hold them.
 #![tactic(auto)]
 
+mod fib;
 mod keeper;
+mod open_error;
 mod pool;
 mod running;
 
+pub use fib::Fib;
 use keeper::Keeper;
+pub use open_error::OpenError;
 use pool::Pool;

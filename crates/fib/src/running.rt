@@ -66,13 +66,13 @@ pub(crate) fn group_for<const FIRST: u32, const SECOND: u32>(
     ensures cells { cells.new ≡ cells.old }
     ensures group { MatchResult result
         (λ group. MatchOption group
-            ((pool.new ≡ pool.old) × ((prefix.now.len ≤ FIRST) ⊎ IsSome (group_at cells.old.firsts (prefix.now.bits / 2 ^ SECOND))))
-            (λ g. (FIRST < prefix.now.len) × (group_at cells.old.firsts (prefix.now.bits / 2 ^ SECOND) ≡ None)
-                × (linked_count pool.new.keeper.groups ≡ linked_count pool.old.keeper.groups + 1)
-                × (0 < free_count pool.old.keeper.groups → tokens_of pool.new.queue.items ≡ tokens_of pool.old.queue.items)
-                × (free_count pool.old.keeper.groups ≡ 0 → (u : ℕ) × IsUnheld counting pool.old.keeper.domain u × (tokens_of pool.old.queue.items ≡ u ∷ tokens_of pool.new.queue.items))))
+        ((pool.new ≡ pool.old) × ((prefix.now.len ≤ FIRST) ⊎ IsSome (group_at cells.old.firsts (prefix.now.bits / 2 ^ SECOND))))
+        (λ g. (FIRST < prefix.now.len) × (group_at cells.old.firsts (prefix.now.bits / 2 ^ SECOND) ≡ None)
+        × (linked_count pool.new.keeper.groups ≡ linked_count pool.old.keeper.groups + 1)
+        × (0 < free_count pool.old.keeper.groups → tokens_of pool.new.queue.items ≡ tokens_of pool.old.queue.items)
+        × (free_count pool.old.keeper.groups ≡ 0 → (u : ℕ) × IsUnheld counting pool.old.keeper.domain u × (tokens_of pool.old.queue.items ≡ u ∷ tokens_of pool.new.queue.items))))
         (λ oldest. (pool.new ≡ pool.old) × (FIRST < prefix.now.len) × (group_at cells.old.firsts (prefix.now.bits / 2 ^ SECOND) ≡ None) × (free_count pool.old.keeper.groups ≡ 0)
-            × MatchOption oldest (tokens_of pool.old.queue.items ≡ []) (λ busy. IsSomeAnd (slice_get (tokens_of pool.old.queue.items) 0) (λ u. counting.is_held_by pool.old.keeper.domain u busy))) }
+        × MatchOption oldest (tokens_of pool.old.queue.items ≡ []) (λ busy. IsSomeAnd (slice_get (tokens_of pool.old.queue.items) 0) (λ u. counting.is_held_by pool.old.keeper.domain u busy))) }
     ensures fits { (R : RuleMap) → IsAnswering FIRST SECOND R cells.old.firsts cells.old.seconds
         → IfOk result (AddFits FIRST SECOND R prefix.now cells.old.firsts cells.old.seconds) }
     ensures some { IfOk result (λ group. IsSome group → FIRST < prefix.now.len) }
