@@ -1,5 +1,5 @@
 -- What plain cells allow, and what a change stores.
-use Rattle.std.proofs.Common.{arith, ◌≡◌, ◌≢◌, ℕ, ◌+◌, ◌*◌, ◌/◌, ◌%◌, ◌^◌, ◌<◌, ◌≤◌, ◌⊎◌, inl, inr, refl, ap, sym, ◌∙◌, subst, List, length, Bool, true, false, cond}
+use Rattle.std.proofs.Common.{arith, ◌≡◌, ℕ, ◌+◌, ◌*◌, ◌^◌, ◌<◌, ◌≤◌, inl, inr, refl, sym, subst, List, length}
 use Rattle.std.specs.Prelude.{slice_index}
 use Rattle.std.proofs.lemmas.Bool.{cases_lt}
 use Rattle.std.proofs.lemmas.Nat.{pow_pos}
@@ -8,7 +8,7 @@ use Rattle.lpm_entry.specs.declared.Entry.{Entry}
 use Rattle.lpm_entry.specs.declared.Entry.TheVariants.{Miss, Hop, Group}
 use Rattle.lpm_entry.specs.Words.{IsEntry, entry_in, word_of}
 use Rattle.lpm_entry.proofs.Reading.{entry_in_zero}
-use Rattle.lpm_cells.specs.Table.{IsLast, IsFirst, IsWord, IsFirstWord, IsSecondWord}
+use Rattle.lpm_cells.specs.Table.{IsLast, IsFirst, IsFirstWord, IsSecondWord}
 use Rattle.lpm_update.specs.declared.update.Update.{Update}
 use Rattle.lpm_update.specs.declared.update.Update.TheVariants.{Sweep, Fill, Collapse, Flush}
 use Rattle.lpm_update.specs.Linked.{IsTable}

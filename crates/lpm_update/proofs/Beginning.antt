@@ -1,10 +1,8 @@
 -- A change begins on words that answer the rule list.
-use Rattle.std.proofs.Common.{arith, ◌≡◌, ◌≢◌, ℕ, suc, ◌+◌, ◌*◌, ◌/◌, ◌%◌, ◌^◌, ◌<◌, ◌≤◌, ◌-◌, ◌⊎◌, inl, inr, refl, ap, sym, ◌∙◌, subst, Option, Some, None, Bool, true, false, List}
-use Rattle.std.specs.Prelude.{IsSome, ◌↔◌, slice_index}
-use Rattle.std.specs.FinMap.{get, remove}
-use Rattle.std.proofs.lemmas.Nat.{pow-add, pow_pos, shr_below, shr_high}
+use Rattle.std.proofs.Common.{arith, ◌≡◌, ℕ, suc, ◌+◌, ◌*◌, ◌/◌, ◌^◌, ◌<◌, refl, ap, sym, ◌∙◌, subst, List}
+use Rattle.std.specs.Prelude.{IsSome, slice_index}
+use Rattle.std.proofs.lemmas.Nat.{pow-add, pow_pos, shr_high}
 use Rattle.std.proofs.Math.Nat.{mul-le-mul_right}
-use Rattle.lpm_bits.specs.Network.{Network, IsNetwork}
 use Rattle.lpm_rules.specs.RuleMap.{RuleMap, AllNetworks}
 use Rattle.lpm_rules.specs.Deep.{IsDeepBlock}
 use Rattle.lpm_rules.proofs.Changes.{not_some}
@@ -15,10 +13,10 @@ use Rattle.lpm_cells.specs.Table.{IsLast, entry_at}
 use Rattle.lpm_update.specs.declared.rewrite.Rewrite.{Rewrite}
 use Rattle.lpm_update.specs.Rewrite.{Stands}
 use Rattle.lpm_update.specs.Linked.{group_in, group_at}
-use Rattle.lpm_update.specs.Best.{IsBest, AllBest}
+use Rattle.lpm_update.specs.Best.{AllBest}
 use Rattle.lpm_update.specs.Leads.{HasDeepGroups}
 use Rattle.lpm_update.proofs.Blocks.{best_unique, best_block, all_short}
-use Rattle.lpm_update.proofs.Places.{block_low, block_high}
+use Rattle.lpm_update.proofs.Places.{block_high}
 
 some_group : (e : Entry) → IsSome (group_in e) → (g : ℕ) × (e ≡ Group g)
 some_group Miss h = absurd (not_some refl h)

@@ -1,36 +1,33 @@
 -- Each kind of change, as it begins.
-use Rattle.std.proofs.Common.{arith, ◌≡◌, ◌≢◌, ℕ, ◌+◌, ◌*◌, ◌/◌, ◌%◌, ◌^◌, ◌<◌, ◌≤◌, ◌-◌, ◌⊎◌, inl, inr, refl, ap, sym, ◌∙◌, subst, Option, Some, None, Bool, true, false, List, length}
-use Rattle.std.specs.Prelude.{IsSome, ◌↔◌, slice_index, ◌==◌, if◌then◌else◌}
-use Rattle.std.specs.FinMap.{get, insert, remove, empty}
-use Rattle.std.proofs.lemmas.Nat.{shr_below, pow_pos}
+use Rattle.std.proofs.Common.{arith, ◌≡◌, ℕ, ◌+◌, ◌*◌, ◌/◌, ◌^◌, ◌<◌, ◌≤◌, ◌-◌, inl, inr, refl, ap, sym, ◌∙◌, subst, None, false, List, length}
+use Rattle.std.specs.Prelude.{IsSome, slice_index, ◌==◌, if◌then◌else◌}
+use Rattle.std.specs.FinMap.{get, insert, remove}
+use Rattle.std.proofs.lemmas.Nat.{shr_below}
 use Rattle.std.proofs.lemmas.Bool.{cases_lt}
 use Rattle.lpm_bits.specs.Network.{Network, IsNetwork}
-use Rattle.lpm_rules.specs.RuleMap.{RuleMap, AllNetworks, network_cmp}
+use Rattle.lpm_rules.specs.RuleMap.{RuleMap, AllNetworks}
 use Rattle.lpm_rules.specs.Deep.{IsDeepBlock}
 use Rattle.lpm_rules.proofs.Changes.{networks_remove}
 use Rattle.lpm_entry.specs.declared.Entry.{Entry}
-use Rattle.lpm_entry.specs.declared.Entry.TheVariants.{Miss, Hop, Group}
+use Rattle.lpm_entry.specs.declared.Entry.TheVariants.{Hop, Group}
 use Rattle.lpm_entry.specs.Words.{entry_in}
 use Rattle.lpm_cells.specs.Table.{IsLast, entry_at}
 use Rattle.lpm_update.specs.declared.rewrite.Kind.TheVariants.{Add, Delete}
 use Rattle.lpm_update.specs.declared.rewrite.Rewrite.{Rewrite}
 use Rattle.lpm_update.specs.declared.sweep.Sweep.{Sweep as SweepData}
 use Rattle.lpm_update.specs.declared.fill.Fill.{Fill as FillData}
-use Rattle.lpm_update.specs.declared.collapse.Collapse.{Collapse as CollapseData}
-use Rattle.lpm_update.specs.declared.update.Update.{Update}
-use Rattle.lpm_update.specs.declared.update.Update.TheVariants.{Sweep, Fill, Collapse, Flush}
+use Rattle.lpm_update.specs.declared.update.Update.TheVariants.{Sweep, Fill, Collapse}
 use Rattle.lpm_update.specs.Rewrite.{Stands}
 use Rattle.lpm_update.specs.Linked.{group_at}
 use Rattle.lpm_update.specs.Sweep.{IsSweepOf, IsSweeping}
-use Rattle.lpm_update.specs.Fill.{IsFilling, final_entry, reached}
-use Rattle.lpm_update.specs.Collapse.{IsCollapsing}
+use Rattle.lpm_update.specs.Fill.{IsFilling, final_entry}
 use Rattle.lpm_update.specs.Best.{IsBest, AllBest, IsCoverEntry}
-use Rattle.lpm_update.specs.Leads.{HasDeepGroups, IsAnswering, IsBegun, Leads, IsFreshGroup, LastFits}
+use Rattle.lpm_update.specs.Leads.{HasDeepGroups, IsAnswering, IsBegun, Leads, IsFreshGroup}
 use Rattle.lpm_update.proofs.Fills.{reached_low}
 use Rattle.lpm_update.proofs.Deletes.{removed_was}
 use Rattle.lpm_update.proofs.Ranges.{deep_high}
 use Rattle.lpm_update.proofs.Places.{block_low}
-use Rattle.lpm_update.proofs.Groups.{before_fill, not_unlinked}
+use Rattle.lpm_update.proofs.Groups.{before_fill}
 use Rattle.lpm_update.proofs.Beginning.{deep_group, shallow_last, stands_still, uniform_block}
 use Rattle.lpm_update.proofs.Leading.{add_best, add_groups, fill_deep, delete_best, delete_groups, collapse_groups}
 

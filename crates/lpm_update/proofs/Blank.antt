@@ -1,19 +1,17 @@
 -- A table whose words are all misses answers the empty rule list.
-use Rattle.std.proofs.Common.{arith, ◌≡◌, ℕ, ◌+◌, ◌*◌, ◌/◌, ◌%◌, ◌^◌, ◌<◌, ◌≤◌, ◌⊎◌, inl, inr, length, get_or, refl, ap, sym, ◌∙◌, subst, List, None}
+use Rattle.std.proofs.Common.{arith, ◌≡◌, ℕ, ◌+◌, ◌/◌, ◌%◌, ◌^◌, inl, inr, refl, ap, sym, ◌∙◌, subst, None}
 use Rattle.std.specs.Prelude.{replicate, slice_index}
-use Rattle.std.specs.FinMap.{get, empty, get-empty}
+use Rattle.std.specs.FinMap.{empty, get-empty}
 use Rattle.std.proofs.lemmas.List.{get_or-replicate, length-replicate, get_or_past}
 use Rattle.std.proofs.lemmas.Bool.{cases_lt}
-use Rattle.lpm_bits.specs.Network.{Network}
 use Rattle.lpm_rules.specs.RuleMap.{network_cmp}
 use Rattle.lpm_rules.proofs.Changes.{not_some, networks_empty}
-use Rattle.lpm_entry.specs.declared.Entry.{Entry}
-use Rattle.lpm_entry.specs.declared.Entry.TheVariants.{Miss, Hop, Group}
+use Rattle.lpm_entry.specs.declared.Entry.TheVariants.{Miss, Group}
 use Rattle.lpm_entry.specs.Words.{entry_in}
 use Rattle.lpm_entry.proofs.Reading.{entry_in_zero}
 use Rattle.lpm_cells.specs.Table.{entry_at, followed, IsWord, IsSecondWord}
 use Rattle.lpm_update.specs.Best.{IsBest}
-use Rattle.lpm_update.specs.Linked.{IsTable, group_in, group_at}
+use Rattle.lpm_update.specs.Linked.{group_in, group_at}
 use Rattle.lpm_update.specs.Leads.{IsAnswering}
 
 zero_at : (n i : ℕ) → slice_index (replicate n 0) i ≡ 0

@@ -1,17 +1,17 @@
-use Rattle.std.proofs.Common.{arith, ◌≡◌, ◌≢◌, ℕ, suc, ◌+◌, ◌-◌, ◌*◌, ◌/◌, ◌%◌, ◌^◌, ◌<◌, ◌≤◌, ◌⊎◌, inl, inr, refl, ap, sym, ◌∙◌, subst, List, Bool, true, false, cond, Option, Some, None}
+use Rattle.std.proofs.Common.{arith, ◌≡◌, ◌≢◌, ℕ, ◌+◌, ◌-◌, ◌/◌, ◌^◌, ◌≤◌, inl, inr, refl, ap, sym, ◌∙◌, subst, Bool, true, false, cond, Option, Some, None}
 use Rattle.std.specs.Prelude.{IsSome, nat_eq}
 use Rattle.std.specs.FinMap.{get, remove}
-use Rattle.std.proofs.lemmas.Bool.{cases_lt, cases_eq, eqb-true, eq-eqb}
+use Rattle.std.proofs.lemmas.Bool.{cases_eq, eqb-true, eq-eqb}
 use Rattle.std.proofs.lemmas.Nat.{shr-shr}
 use Rattle.lpm_bits.specs.Network.{Network, Covers, IsNetwork}
-use Rattle.lpm_rules.specs.RuleMap.{RuleMap, network_cmp, AllNetworks}
+use Rattle.lpm_rules.specs.RuleMap.{RuleMap, AllNetworks}
 use Rattle.lpm_rules.proofs.Longest.{same_length}
 use Rattle.lpm_rules.proofs.Changes.{remove_cases, remove_here}
 use Rattle.lpm_entry.specs.declared.Entry.{Entry}
 use Rattle.lpm_entry.specs.declared.Entry.TheVariants.{Miss, Hop, Group}
-use Rattle.lpm_update.specs.declared.rewrite.Kind.TheVariants.{Add, Delete, Flush}
-use Rattle.lpm_update.specs.Rewrite.{takes, changed}
-use Rattle.lpm_update.specs.Best.{IsBest, AllBest, IsCoverEntry}
+use Rattle.lpm_update.specs.declared.rewrite.Kind.TheVariants.{Delete}
+use Rattle.lpm_update.specs.Rewrite.{changed}
+use Rattle.lpm_update.specs.Best.{IsBest, IsCoverEntry}
 
 none_some : {x : Option ℕ} → x ≡ None → IsSome x → ⊥
 none_some e s =

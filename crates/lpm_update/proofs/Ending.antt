@@ -1,6 +1,6 @@
 -- A change that has ended.
-use Rattle.std.proofs.Common.{arith, ◌≡◌, ◌≢◌, ℕ, ◌+◌, ◌*◌, ◌^◌, ◌<◌, ◌≤◌, ◌⊎◌, inl, inr, refl, ap, sym, ◌∙◌, subst, List, Option, Some, None, Bool, true, false}
-use Rattle.std.specs.Prelude.{◌==◌, if◌then◌else◌, IsSome, ◌↔◌, slice_index, slice_set, length}
+use Rattle.std.proofs.Common.{◌≡◌, ℕ, ◌+◌, ◌*◌, ◌^◌, ◌<◌, inl, inr, refl, ap, sym, ◌∙◌, subst, List, Option, Some, Bool, true, false}
+use Rattle.std.specs.Prelude.{◌==◌, if◌then◌else◌, IsSome, slice_set, length}
 use Rattle.std.proofs.lemmas.Bool.{cases_eq, eq-eqb, ne_eqb}
 use Rattle.lpm_entry.specs.declared.Entry.{Entry}
 use Rattle.lpm_cells.specs.Table.{Words, entry_at}
@@ -9,15 +9,14 @@ use Rattle.lpm_update.specs.declared.Did.{Did}
 use Rattle.lpm_update.specs.declared.Did.TheVariants.{First, Second, Unlinked, Done}
 use Rattle.lpm_update.specs.Sweep.{MatchDid}
 use Rattle.lpm_rules.specs.RuleMap.{RuleMap, AllNetworks}
-use Rattle.lpm_update.specs.declared.rewrite.Rewrite.{Rewrite}
 use Rattle.lpm_update.specs.declared.update.Update.{Update}
 use Rattle.lpm_update.specs.declared.update.Update.TheVariants.{Sweep, Fill, Collapse, Flush}
 use Rattle.lpm_update.specs.Rewrite.{Stands}
 use Rattle.lpm_update.specs.Fill.{final_entry}
 use Rattle.lpm_update.specs.Linked.{IsTable, group_at}
-use Rattle.lpm_update.specs.Best.{IsBest, AllBest}
-use Rattle.lpm_update.specs.Update.{StandsSoFar, HasGroups, IsSameChange, IsOver, group_held, group_by_now, group_after, entry_after, from_of, end_of, reached_of, rewrite_of, SameGroups}
-use Rattle.lpm_update.specs.Leads.{IsAnswering, Leads, HasDeepGroups}
+use Rattle.lpm_update.specs.Best.{IsBest}
+use Rattle.lpm_update.specs.Update.{StandsSoFar, HasGroups, IsSameChange, IsOver, group_held, group_after, entry_after, from_of, end_of, rewrite_of, SameGroups}
+use Rattle.lpm_update.specs.Leads.{IsAnswering, Leads}
 use Rattle.lpm_update.proofs.Collapses.{stands_final}
 
 -- each address has the entry that it has after the change

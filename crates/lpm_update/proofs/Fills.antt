@@ -1,12 +1,12 @@
-use Rattle.std.proofs.Common.{arith, ◌≡◌, ◌≢◌, ℕ, suc, ◌+◌, ◌-◌, ◌*◌, ◌/◌, ◌%◌, ◌^◌, ◌<◌, ◌≤◌, ◌⊎◌, inl, inr, Bool, true, false, cond, length, refl, ap, sym, ◌∙◌, subst, List}
+use Rattle.std.proofs.Common.{arith, ◌≡◌, ◌≢◌, ℕ, ◌+◌, ◌*◌, ◌/◌, ◌%◌, ◌^◌, ◌<◌, ◌≤◌, ◌⊎◌, inl, inr, Bool, true, false, cond, length, refl, ap, sym, ◌∙◌, subst, List}
 use Rattle.std.specs.Prelude.{slice_index, slice_set, nat_le, nat_lt, ◌&&◌}
-use Rattle.std.proofs.lemmas.List.{get_or-set_same, get_or-set_other, get_or_past}
+use Rattle.std.proofs.lemmas.List.{get_or-set_same, get_or-set_other}
 use Rattle.std.proofs.Math.ListN.{length-set}
 use Rattle.std.proofs.Math.Pow.{pow_mono}
 use Rattle.std.proofs.lemmas.Nat.{pow_pos, mod_below, shr_split, same_from_place}
-use Rattle.std.proofs.lemmas.Bool.{cases_lt, cases_eq, leb-true, leb-false, le-leb, le-ltb, lt-ltb, lt-leb}
+use Rattle.std.proofs.lemmas.Bool.{cases_lt, cases_eq, le-leb, le-ltb, lt-ltb, lt-leb}
 use Rattle.lpm_entry.specs.declared.Entry.{Entry}
-use Rattle.lpm_entry.specs.declared.Entry.TheVariants.{Miss, Hop, Group}
+use Rattle.lpm_entry.specs.declared.Entry.TheVariants.{Group}
 use Rattle.lpm_entry.specs.Words.{IsEntry, word_of, entry_in}
 use Rattle.lpm_cells.specs.Table.{IsLast, IsWord, entry_at, followed}
 use Rattle.lpm_update.specs.Rewrite.{takes, changed, Stands}
@@ -14,7 +14,7 @@ use Rattle.lpm_update.specs.Linked.{IsTable}
 use Rattle.lpm_update.specs.declared.rewrite.Rewrite.{Rewrite}
 use Rattle.lpm_update.specs.declared.fill.Fill.{Fill}
 use Rattle.lpm_update.specs.Fill.{IsFilling, final_entry, in_range, reached}
-use Rattle.lpm_update.proofs.Places.{table_second, block_low, block_high, block_of, second_other, first_other, word_is, word_entry, each_set, followed_last}
+use Rattle.lpm_update.proofs.Places.{table_second, block_of, second_other, first_other, word_is, word_entry, each_set, followed_last}
 
 -- a store into a group that no block has is seen by no address
 pub unseen : (s : ℕ) (F S : List ℕ) (g r w a : ℕ) → r < 2 ^ s → ((i : ℕ) → entry_in (slice_index F i) ≡ Group g → ⊥)

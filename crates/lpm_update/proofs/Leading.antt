@@ -1,15 +1,15 @@
 -- Each kind of change leads to the rule list after it.
-use Rattle.std.proofs.Common.{arith, ◌≡◌, ◌≢◌, ℕ, ◌+◌, ◌*◌, ◌/◌, ◌%◌, ◌^◌, ◌<◌, ◌≤◌, ◌-◌, ◌⊎◌, inl, inr, refl, ap, sym, ◌∙◌, subst, Option, Some, None, Bool, true, false, List}
-use Rattle.std.specs.Prelude.{IsSome, ◌↔◌, ◌==◌, if◌then◌else◌}
+use Rattle.std.proofs.Common.{arith, ◌≡◌, ℕ, ◌+◌, ◌/◌, ◌^◌, ◌<◌, ◌≤◌, ◌-◌, ◌⊎◌, inl, inr, refl, ap, sym, ◌∙◌, subst, Option, Some, None, Bool, true, false}
+use Rattle.std.specs.Prelude.{IsSome, ◌==◌, if◌then◌else◌}
 use Rattle.std.specs.FinMap.{get, insert, remove, empty, get-empty}
 use Rattle.std.proofs.lemmas.Bool.{cases_lt, cases_eq, eq-eqb, ne_eqb}
 use Rattle.lpm_bits.specs.Network.{Network, Covers, IsNetwork}
 use Rattle.lpm_rules.specs.RuleMap.{RuleMap, AllNetworks, network_cmp}
 use Rattle.lpm_rules.specs.Deep.{IsDeepBlock}
-use Rattle.lpm_rules.proofs.Changes.{insert_cases, insert_here, remove_cases, remove_here, not_some}
+use Rattle.lpm_rules.proofs.Changes.{insert_cases, insert_here, remove_cases, not_some}
 use Rattle.lpm_entry.specs.declared.Entry.{Entry}
-use Rattle.lpm_entry.specs.declared.Entry.TheVariants.{Miss, Hop, Group}
-use Rattle.lpm_update.specs.declared.rewrite.Kind.TheVariants.{Add, Delete, Flush}
+use Rattle.lpm_entry.specs.declared.Entry.TheVariants.{Hop}
+use Rattle.lpm_update.specs.declared.rewrite.Kind.TheVariants.{Add, Delete}
 use Rattle.lpm_update.specs.declared.rewrite.Rewrite.{Rewrite}
 use Rattle.lpm_update.specs.Rewrite.{changed}
 use Rattle.lpm_update.specs.Fill.{final_entry}

@@ -1,14 +1,14 @@
-use Rattle.std.proofs.Common.{arith, rules, ◌≡◌, ◌≢◌, ℕ, ◌+◌, ◌-◌, ◌*◌, ◌/◌, ◌%◌, ◌^◌, ◌<◌, ◌≤◌, ◌⊎◌, inl, inr, Bool, true, false, cond, length, get_or, refl, ap, sym, ◌∙◌, subst, List}
+use Rattle.std.proofs.Common.{arith, ◌≡◌, ◌≢◌, ℕ, ◌+◌, ◌-◌, ◌*◌, ◌/◌, ◌%◌, ◌^◌, ◌<◌, ◌≤◌, ◌⊎◌, inl, inr, true, false, cond, length, refl, ap, sym, ◌∙◌, subst, List}
 use Rattle.std.specs.Prelude.{slice_index, slice_set}
 use Rattle.std.proofs.lemmas.List.{get_or-set_same, get_or-set_other}
-use Rattle.std.proofs.lemmas.Nat.{pow_pos, div-add-mod', mod_below, div_below, shr_high, shr_split, same_from_place}
+use Rattle.std.proofs.lemmas.Nat.{pow_pos, mod_below, shr_high, shr_split, same_from_place}
 use Rattle.std.proofs.lemmas.Bool.{cases_lt, cases_eq}
 use Rattle.lpm_entry.specs.declared.Entry.{Entry}
 use Rattle.lpm_entry.specs.declared.Entry.TheVariants.{Miss, Hop, Group}
 use Rattle.lpm_entry.specs.Words.{IsEntry, word_of, entry_in}
 use Rattle.lpm_cells.specs.Table.{IsLast, IsWord, IsSecondWord, entry_at, followed}
 use Rattle.lpm_update.specs.Rewrite.{takes, changed, Stands, Skips}
-use Rattle.lpm_update.specs.Sweep.{IsWhole, IsSweeping}
+use Rattle.lpm_update.specs.Sweep.{IsWhole}
 use Rattle.lpm_update.specs.Linked.{IsTable}
 use Rattle.std.proofs.Math.ListN.{length-set}
 use Rattle.lpm_entry.proofs.Reading.{entry_in-word_of}

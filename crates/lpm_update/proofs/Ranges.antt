@@ -1,15 +1,15 @@
-use Rattle.std.proofs.Common.{arith, ◌≡◌, ◌≢◌, ℕ, suc, ◌+◌, ◌-◌, ◌*◌, ◌/◌, ◌%◌, ◌^◌, ◌<◌, ◌≤◌, ◌⊎◌, inl, inr, refl, ap, sym, ◌∙◌, subst, List}
+use Rattle.std.proofs.Common.{arith, ◌≡◌, ℕ, suc, ◌+◌, ◌-◌, ◌*◌, ◌/◌, ◌^◌, ◌<◌, ◌≤◌, inl, inr, ap, sym, ◌∙◌, subst, List}
 use Rattle.std.specs.Prelude.{slice_index}
 use Rattle.std.proofs.lemmas.Bool.{cases_lt, cases_eq}
-use Rattle.std.proofs.lemmas.Nat.{pow_pos, pow-add, div_below, shr_below}
+use Rattle.std.proofs.lemmas.Nat.{pow-add}
 use Rattle.std.proofs.Math.Nat.{mul-le-mul_right, mul_assoc}
 use Rattle.lpm_entry.specs.declared.Entry.{Entry}
-use Rattle.lpm_entry.specs.declared.Entry.TheVariants.{Miss, Hop, Group}
+use Rattle.lpm_entry.specs.declared.Entry.TheVariants.{Group}
 use Rattle.lpm_entry.specs.Words.{IsEntry, entry_in}
 use Rattle.lpm_cells.specs.Table.{IsLast}
 use Rattle.lpm_update.specs.Sweep.{IsWhole, IsSweeping}
 use Rattle.lpm_update.specs.declared.rewrite.Rewrite.{Rewrite}
-use Rattle.lpm_bits.specs.Network.{Network, IsNetwork, masked}
+use Rattle.lpm_bits.specs.Network.{Network, IsNetwork}
 use Rattle.lpm_update.proofs.Places.{block_low, block_high}
 
 -- a product of two is above another of the same factor

@@ -1,5 +1,5 @@
 -- Tables at rest.
-use Rattle.std.proofs.Common.{arith, ◌≡◌, ◌≢◌, ℕ, ◌+◌, ◌*◌, ◌/◌, ◌^◌, ◌<◌, ◌≤◌, ◌⊎◌, inl, inr, refl, ap, sym, ◌∙◌, subst, List, length, Option, Some, None, Bool, true, false, replicate}
+use Rattle.std.proofs.Common.{arith, ◌≡◌, ◌≢◌, ℕ, ◌*◌, ◌^◌, ◌<◌, ◌≤◌, refl, ap, sym, ◌∙◌, subst, List, length, Option, Some, None, replicate}
 use Rattle.std.specs.Prelude.{IsSome, IsSomeAnd, Ok, Err, Result, MatchResult, OnOk}
 use Rattle.lpm_rules.specs.declared.Put.{Put}
 use Rattle.lpm_rules.specs.declared.Put.TheVariants.{Added, Replaced, Unchanged}
@@ -11,21 +11,20 @@ use Rattle.std.specs.FinSet as set
 use Rattle.std.proofs.lemmas.List.{length-replicate}
 use Rattle.lpm_bits.specs.Network.{Network}
 use Rattle.lpm_groups.specs.declared.GroupState.{GroupState}
-use Rattle.lpm_groups.specs.declared.GroupState.TheVariants.{Free, Linked, Limbo}
+use Rattle.lpm_groups.specs.declared.GroupState.TheVariants.{Free}
 use Rattle.lpm_groups.specs.States.{limbo_count, free_count}
 use Rattle.lpm_groups.proofs.Tallies.{limbo_count-replicate}
-use Rattle.lpm_rules.specs.RuleMap.{RuleMap, RuleList, AllNetworks, network_cmp}
-use Rattle.lpm_rules.specs.Deep.{IsDeepBlock, deep_blocks}
+use Rattle.lpm_rules.specs.RuleMap.{RuleMap, RuleList, network_cmp}
+use Rattle.lpm_rules.specs.Deep.{deep_blocks}
 use Rattle.lpm_cells.specs.Table.{Words}
 use Rattle.lpm_update.specs.declared.update.Update.{Update}
 use Rattle.lpm_update.specs.Linked.{group_at}
-use Rattle.lpm_update.specs.Leads.{IsAnswering, Leads, held_with}
+use Rattle.lpm_update.specs.Leads.{IsAnswering}
 use Rattle.lpm_update.specs.Update.{group_held}
 use Rattle.lpm_update.specs.Tied.{IsTied, IsResting}
-use Rattle.lpm_update.specs.PlainTable.{TableState, AddOutcome, NeedsGroup, IsWithoutFree}
 use Rattle.lpm_update.proofs.Blank.{blank, blank_groups}
 use Rattle.lpm_update.proofs.Ties.{tied_none, tied_same}
-use Rattle.lpm_update.proofs.DeepCounts.{linked_deep, no_free}
+use Rattle.lpm_update.proofs.DeepCounts.{no_free}
 
 pub resting_open : (f s n : ℕ) → IsResting f s (empty {R = network_cmp}) (record { firsts = replicate (2 ^ f) 0; seconds = replicate (n * 2 ^ s) 0; groups = n }) (replicate n Free)
 resting_open f s n = record {
@@ -62,13 +61,6 @@ none_used f s R t xs known full = let sum = no_free f s R xs (group_at t.firsts)
 
 abbrev Ok' : Put → Result Put RuleFault
 Ok' put = Ok put
-
--- the outcome of an add that was made, by what the rule list answered
-pub put_outcome : (f s : ℕ) (t : TableState) (p : Network) (h : ℕ) (put : Put) → (Ok' put ≡ Ok' Unchanged → get t.rules p ≡ Some h) → (Ok' put ≡ Ok' Replaced → IsSomeAnd (get t.rules p) (λ old. old ≢ h))
-    → (Ok' put ≡ Ok' Added → (get t.rules p ≡ None) × (len t.rules < t.max)) → (NeedsGroup f s t.rules p → IsWithoutFree f s t → ⊥) → AddOutcome f s t p h (Ok put)
-put_outcome f s t p h Unchanged u r a n = u refl
-put_outcome f s t p h Replaced u r a n = r refl
-put_outcome f s t p h Added u r a n = let k = a refl in (k.0, k.1, n)
 
 some_is : (x : Option ℕ) (h : ℕ) → x ≡ Some h → IsSome x
 some_is x h e = subst IsSome (sym e) refl

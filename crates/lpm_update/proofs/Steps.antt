@@ -1,8 +1,7 @@
-use Rattle.std.proofs.Common.{arith, rules, ◌≡◌, ◌≢◌, ℕ, ◌+◌, ◌*◌, ◌/◌, ◌%◌, ◌^◌, ◌<◌, ◌≤◌, ◌⊎◌, inl, inr, Bool, true, false, refl, ap, sym, ◌∙◌, subst, List}
+use Rattle.std.proofs.Common.{arith, ◌≡◌, ℕ, inl, inr, refl, ◌∙◌, subst, List}
 use Rattle.std.proofs.lemmas.Bool.{cases_lt}
 use Rattle.lpm_entry.specs.declared.Entry.{Entry}
-use Rattle.lpm_cells.specs.Table.{entry_at}
-use Rattle.lpm_update.specs.Rewrite.{takes, Stands, Skips}
+use Rattle.lpm_update.specs.Rewrite.{Stands, Skips}
 use Rattle.lpm_update.specs.Sweep.{NextFirst, NextSecond, MatchDid, IsFurther}
 use Rattle.lpm_update.specs.declared.rewrite.Rewrite.{Rewrite}
 use Rattle.lpm_update.specs.declared.sweep.Sweep.{Sweep}

@@ -1,13 +1,12 @@
 -- A group is taken for a block.
-use Rattle.std.proofs.Common.{arith, ◌≡◌, ◌≢◌, ℕ, suc, ◌+◌, ◌*◌, ◌/◌, ◌^◌, ◌<◌, ◌≤◌, ◌⊎◌, inl, inr, refl, ap, sym, ◌∙◌, subst, List, length, Option, Some, None, Bool, true, false}
-use Rattle.std.specs.Prelude.{slice_get, slice_index, IsSome, ◌↔◌}
+use Rattle.std.proofs.Common.{arith, ◌≡◌, ℕ, suc, ◌+◌, ◌*◌, ◌^◌, ◌<◌, ◌≤◌, inl, inr, refl, ap, sym, ◌∙◌, subst, List, length, Option, Some, None}
+use Rattle.std.specs.Prelude.{slice_get, slice_index, IsSome}
 use Rattle.std.proofs.lemmas.Bool.{cases_lt}
 use Rattle.std.proofs.lemmas.List.{get_or_past}
 use Rattle.std.proofs.lemmas.Option.{slice_get_within}
 use Rattle.std.proofs.Math.Nat.{mul-le-mul_right}
-use Rattle.lpm_bits.specs.Network.{Network}
 use Rattle.lpm_groups.specs.declared.GroupState.{GroupState}
-use Rattle.lpm_groups.specs.declared.GroupState.TheVariants.{Free, Linked, Limbo}
+use Rattle.lpm_groups.specs.declared.GroupState.TheVariants.{Free, Linked}
 use Rattle.lpm_groups.specs.States.{is_free, free_count}
 use Rattle.lpm_groups.proofs.Tallies.{count_by-some}
 use Rattle.lpm_rules.specs.RuleMap.{RuleMap}
@@ -19,7 +18,7 @@ use Rattle.lpm_entry.specs.Words.{entry_in}
 use Rattle.lpm_entry.proofs.Reading.{entry_in_zero}
 use Rattle.lpm_cells.specs.Table.{Words, IsWords}
 use Rattle.lpm_update.specs.Linked.{IsTable, group_in, group_at}
-use Rattle.lpm_update.specs.Leads.{IsAnswering, IsFreshGroup, HasDeepGroups}
+use Rattle.lpm_update.specs.Leads.{IsFreshGroup, HasDeepGroups}
 use Rattle.lpm_update.specs.Tied.{IsTied}
 
 free_linked : (x : Option GroupState) (b : ℕ) → x ≡ Some Free → x ≡ Some (Linked b) → ⊥

@@ -1,13 +1,13 @@
 -- The states of the groups go along with the groups of the blocks.
-use Rattle.std.proofs.Common.{arith, ◌≡◌, ◌≢◌, ℕ, ◌+◌, ◌*◌, ◌^◌, ◌<◌, ◌≤◌, ◌⊎◌, inl, inr, refl, ap, sym, ◌∙◌, subst, List, [], ◌∷◌, zero, suc, length, Option, Some, None, Bool, true, false}
+use Rattle.std.proofs.Common.{arith, ◌≡◌, ◌≢◌, ℕ, ◌^◌, ◌<◌, inl, inr, refl, ap, sym, ◌∙◌, subst, List, [], ◌∷◌, zero, suc, length, Option, Some, None, Bool, true, false}
 use Rattle.std.specs.Prelude.{slice_get, slice_set, ◌==◌, if◌then◌else◌, replicate}
 use Rattle.std.proofs.lemmas.Option.{slice_get_within}
 use Rattle.std.proofs.lemmas.Bool.{cases_eq, eq-eqb, ne_eqb}
 use Rattle.lpm_groups.specs.declared.GroupState.{GroupState}
 use Rattle.lpm_groups.specs.declared.GroupState.TheVariants.{Free, Linked, Limbo}
-use Rattle.lpm_groups.specs.States.{IsLinkedTo, IsLinkedAt, IsLimboAt, IsLinkedOnce, limbo_count}
-use Rattle.lpm_groups.proofs.Writes.{slice_get-set_same, slice_get-set_other, IsLinkedAt-from_block}
-use Rattle.lpm_groups.proofs.Tallies.{Takes-set, Retires-set, Releases-set}
+use Rattle.lpm_groups.specs.States.{IsLinkedTo, IsLimboAt, IsLinkedOnce, limbo_count}
+use Rattle.lpm_groups.proofs.Writes.{slice_get-set_same, slice_get-set_other}
+use Rattle.lpm_groups.proofs.Tallies.{Retires-set, Releases-set}
 use Rattle.lpm_update.specs.Update.{SameGroups, GivesUp}
 use Rattle.lpm_update.specs.Tied.{IsTied}
 

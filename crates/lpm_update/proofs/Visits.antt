@@ -1,17 +1,17 @@
-use Rattle.std.proofs.Common.{arith, rules, ◌≡◌, ◌≢◌, ℕ, ◌+◌, ◌-◌, ◌*◌, ◌/◌, ◌%◌, ◌^◌, ◌<◌, ◌≤◌, ◌⊎◌, inl, inr, Bool, true, false, cond, length, get_or, refl, ap, sym, ◌∙◌, subst, List}
+use Rattle.std.proofs.Common.{arith, ◌≡◌, ℕ, ◌+◌, ◌*◌, ◌/◌, ◌%◌, ◌^◌, ◌<◌, ◌≤◌, inl, inr, true, false, length, refl, ap, sym, ◌∙◌, subst, List}
 use Rattle.std.specs.Prelude.{slice_index, slice_set}
-use Rattle.std.proofs.lemmas.Nat.{pow_pos, shl_whole, one_shl, mod_below, shr_split}
+use Rattle.std.proofs.lemmas.Nat.{pow_pos, shl_whole, mod_below}
 use Rattle.lpm_entry.specs.declared.Entry.{Entry}
 use Rattle.lpm_entry.specs.declared.Entry.TheVariants.{Miss, Hop, Group}
 use Rattle.lpm_entry.specs.Words.{IsEntry, word_of, entry_in}
-use Rattle.lpm_cells.specs.Table.{IsLast, IsWord, IsSecondWord, entry_at, followed}
-use Rattle.lpm_update.specs.Rewrite.{takes, changed, Stands, Skips}
+use Rattle.lpm_cells.specs.Table.{IsLast, entry_at, followed}
+use Rattle.lpm_update.specs.Rewrite.{takes, Stands, Skips}
 use Rattle.lpm_update.specs.Sweep.{IsWhole, IsSweeping, NextFirst}
 use Rattle.lpm_update.specs.Linked.{IsTable}
 use Rattle.lpm_update.specs.declared.rewrite.Rewrite.{Rewrite}
-use Rattle.lpm_update.proofs.Places.{block_low, block_high, block_of, followed_last, in_group, stands_skip, stands_first, stands_second, table_first, table_second, whole_first, whole_block, whole_next, at_block, word_entry}
+use Rattle.lpm_update.proofs.Places.{block_of, followed_last, in_group, stands_skip, stands_first, stands_second, table_first, table_second, whole_first, whole_block, whole_next, at_block, word_entry}
 use Rattle.lpm_bits.specs.Widths.{IsShape}
-use Rattle.std.proofs.lemmas.Nat.{div_below, shr_below}
+use Rattle.std.proofs.lemmas.Nat.{shr_below}
 use Rattle.std.proofs.lemmas.List.{get_or_past}
 use Rattle.std.proofs.lemmas.Bool.{cases_lt}
 use Rattle.lpm_entry.proofs.Reading.{entry_in_zero}

@@ -1,7 +1,7 @@
 -- A group is given up when its block has no rule longer than a first index any more: its words are then
 -- all equal, and the first entry takes their value (DPDK Programmer's Guide, "LPM Library", "Deletion": a
 -- group whose entries are all alike is merged back into the first table).
-use Rattle.std.specs.Prelude.{ℕ, Bool, ◌≡◌, ◌+◌, ◌*◌, ◌/◌, ◌^◌, ◌≤◌, ◌<◌, IsTrue, true, false, List, slice_index}
+use Rattle.std.specs.Prelude.{ℕ, ◌≡◌, ◌+◌, ◌*◌, ◌/◌, ◌^◌, ◌≤◌, ◌<◌, List, slice_index}
 use Rattle.lpm_entry.specs.Words.{entry_in}
 use Rattle.lpm_entry.specs.declared.Entry.{Entry}
 use Rattle.lpm_entry.specs.declared.Entry.TheVariants.{Group}

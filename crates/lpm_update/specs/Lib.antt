@@ -8,4 +8,3 @@ pub mod Collapse
 pub mod Flush
 pub mod Update
 pub mod Tied
-pub mod PlainTable

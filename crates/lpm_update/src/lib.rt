@@ -5,9 +5,7 @@ mod collapse;
 mod fill;
 mod flush;
 mod rewrite;
-mod running;
 mod sweep;
-mod table;
 #[cfg(test)]
 mod tests;
 mod update;
@@ -17,7 +15,6 @@ pub use fill::Fill;
 pub use flush::Flush;
 pub use rewrite::{Kind, Rewrite};
 pub use sweep::Sweep;
-pub use table::{AddFault, PlainTable};
 pub use update::Update;
 
 /// What a step did.

@@ -1,14 +1,14 @@
 -- Routes that are put in one after another.
-use Rattle.std.proofs.Common.{◌≡◌, ◌∙◌, ap, sym, ℕ, suc, ◌+◌, ◌<◌, List, [], ◌∷◌, ◌++◌, Some, None, Option, Ok, Err, refl, arith, take, drop, length, get_or}
+use Rattle.std.proofs.Common.{◌≡◌, ◌∙◌, ap, sym, ℕ, suc, ◌+◌, ◌<◌, List, [], ◌∷◌, ◌++◌, Some, None, Option, Ok, refl, arith, take, drop, length, get_or}
 use Rattle.std.proofs.Math.Seq.{drop-cons}
 use Rattle.std.proofs.lemmas.List.{take_more, take-append-drop}
 use Rattle.std.specs.Prelude.{IsSomeAnd, ◌≢◌}
-use Rattle.std.specs.FinMap.{get, insert, empty}
+use Rattle.std.specs.FinMap.{insert, empty}
 use Rattle.lpm_rules.specs.RuleMap.{RuleMap}
 use Rattle.lpm_rules.specs.declared.Put.{Put}
 use Rattle.lpm_rules.specs.declared.Put.TheVariants.{Added, Replaced, Unchanged}
 use Rattle.lpm_options.specs.declared.limits.Limits.{Limits}
-use Rattle.lpm_update.specs.PlainTable.{TableState, AddOutcome}
+use Rattle.lpm_table.specs.PlainTable.{TableState, AddOutcome}
 use Rattle.route_text.specs.declared.routes.Route.{Route}
 use Rattle.lpmtool.specs.declared.failure.Refusal.{Refusal}
 use Rattle.lpmtool.specs.declared.failure.Refusal.TheVariants.{TooManyRules, NoGroups}

@@ -11,7 +11,7 @@ use crate::failure::{Failure, Refusal};
 use crate::files::{Files, ReadFailure, put_all, read_file};
 use lpm_bits::Hop;
 use lpm_options::Limits;
-use lpm_update::{AddFault, PlainTable};
+use lpm_table::{AddFault, PlainTable};
 use route_text::{ReadError, Route, answers_text, read_addresses, read_routes};
 use std::alloc::{AllocError, Global};
 use std::io::Write;

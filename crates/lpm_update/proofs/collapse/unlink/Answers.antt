@@ -1,8 +1,7 @@
-use Rattle.std.proofs.Common.{arith, ap, sym, ◌∙◌, subst, ◌≡◌, ℕ, ◌+◌, ◌*◌, ◌^◌, ◌%◌, ◌<◌, List}
+use Rattle.std.proofs.Common.{ap, sym, ◌∙◌, subst, ◌≡◌, ◌*◌, ◌^◌, ◌%◌}
 use Rattle.std.specs.Prelude.{slice_index, slice_set}
 use Rattle.lpm_entry.specs.declared.Entry.TheVariants.{Group}
 use Rattle.lpm_entry.specs.Words.{entry_in}
-use Rattle.lpm_update.specs.Collapse.{IsUnlinkStore}
 use Rattle.lpm_update.proofs.Visits.{base_of}
 use Rattle.lpm_update.proofs.Unlinks.{unlinks, after_unlink}
 use Rattle.lpm_update.proofs.collapse.unlink.Goals as goal

@@ -1,11 +1,10 @@
-use Rattle.std.proofs.Common.{◌≡◌, ◌∙◌, ap, arith, refl, subst, sym, take, ℕ, ◌<◌, length, Ok, Err}
+use Rattle.std.proofs.Common.{◌∙◌, ap, arith, refl, subst, sym, take, ◌<◌, length, Ok, Err}
 use Rattle.std.specs.FinMap.{insert, empty}
-use Rattle.lpm_rules.specs.RuleMap.{RuleMap}
-use Rattle.lpm_update.specs.PlainTable.{TableState, AddOutcome}
-use Rattle.lpmtool.specs.Loading.{rules_of, Refuses}
+use Rattle.lpm_table.specs.PlainTable.{TableState, AddOutcome}
+use Rattle.lpmtool.specs.Loading.{rules_of}
 use Rattle.lpmtool.proofs.Loaded.{state, rules_of-append, TakesAll-append, takes, take_read, first_refused}
 use Rattle.lpmtool.specs.declared.failure.Refusal.TheVariants.{TooManyRules, NoGroups}
-use Rattle.lpm_update.specs.declared.table.AddFault.{AddFault}
+use Rattle.lpm_table.specs.declared.table.AddFault.{AddFault}
 use Rattle.lpmtool.proofs.lookup.load.Goals as goal
 
 pub returns-in-Err-TooManyRules-clause-failure : goal.returns-in-Err-TooManyRules-clause-failure

@@ -1,4 +1,3 @@
-use Rattle.std.proofs.Common.{ap, ◌∙◌}
 use Rattle.lpmtool.proofs.Answered.{length-AreAnswers}
 use Rattle.lpmtool.proofs.lookup.text_of.Goals as goal
 

@@ -1,8 +1,7 @@
-use Rattle.std.proofs.Common.{arith, refl, ap, sym, ◌∙◌, subst, ◌≡◌, ℕ, ◌+◌, ◌*◌, ◌/◌, ◌^◌, ◌<◌, List}
-use Rattle.std.specs.Prelude.{slice_index, slice_set}
+use Rattle.std.proofs.Common.{ap, sym, ◌∙◌, subst}
+use Rattle.std.specs.Prelude.{slice_index}
 use Rattle.lpm_entry.specs.Words.{entry_in}
 use Rattle.lpm_update.specs.Rewrite.{Stands}
-use Rattle.lpm_update.specs.Fill.{final_entry}
 use Rattle.lpm_update.specs.Collapse.{IsUnlinkStore}
 use Rattle.lpm_update.proofs.Collapses.{uniform_words}
 use Rattle.lpm_update.proofs.Unlinks.{stands_along}

@@ -1,4 +1,4 @@
-use Rattle.std.proofs.Common.{arith, ap, sym, ◌∙◌, subst, ◌≡◌, ℕ, ◌+◌, ◌*◌, ◌-◌, ◌/◌, ◌^◌, ◌%◌, ◌≤◌, List}
+use Rattle.std.proofs.Common.{arith, ◌+◌, ◌-◌}
 use Rattle.std.proofs.lemmas.Nat.{one_shl, shr_below}
 use Rattle.lpm_update.proofs.Ranges.{deep_high}
 use Rattle.lpm_update.proofs.Places.{block_low}

@@ -1,8 +1,6 @@
-use Rattle.std.proofs.Common.{refl, arith, ap, sym, ◌∙◌, subst, ◌≡◌, ℕ, ◌+◌, ◌*◌, ◌-◌, ◌^◌, ◌%◌, ◌<◌, ◌≤◌, List}
+use Rattle.std.proofs.Common.{refl, arith, ap, ◌∙◌, subst, ◌≡◌, ◌+◌, ◌*◌, ◌^◌, ◌%◌, ◌<◌}
 use Rattle.std.specs.Prelude.{slice_index, slice_set}
 use Rattle.std.proofs.lemmas.Nat.{one_shl, shl_whole}
-use Rattle.std.proofs.Math.Pow.{pow_mono}
-use Rattle.lpm_entry.specs.declared.Entry.{Entry}
 use Rattle.lpm_entry.specs.Words.{entry_in, word_of}
 use Rattle.lpm_update.specs.Fill.{final_entry}
 use Rattle.lpm_update.proofs.Fills.{after_fill, after_link, block_small}

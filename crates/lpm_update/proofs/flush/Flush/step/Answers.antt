@@ -1,7 +1,6 @@
-use Rattle.std.proofs.Common.{arith, refl, ap, sym, ◌∙◌, subst, ◌≡◌, ℕ, ◌+◌, ◌*◌, ◌^◌, ◌%◌, ◌<◌, List}
+use Rattle.std.proofs.Common.{arith, refl, ap, sym, ◌∙◌, subst, ◌≡◌, ◌*◌, ◌^◌, ◌%◌, ◌<◌}
 use Rattle.std.specs.Prelude.{slice_index, slice_set, Some}
 use Rattle.std.proofs.lemmas.Nat.{one_shl}
-use Rattle.lpm_entry.specs.declared.Entry.TheVariants.{Group}
 use Rattle.lpm_entry.specs.Words.{entry_in}
 use Rattle.lpm_update.specs.Linked.{group_in}
 use Rattle.lpm_update.specs.Rewrite.{Stands}

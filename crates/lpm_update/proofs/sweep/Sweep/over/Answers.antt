@@ -1,6 +1,5 @@
-use Rattle.std.proofs.Common.{arith, refl, ap, sym, ◌∙◌, subst, ◌≡◌, ℕ, ◌+◌, ◌*◌, ◌-◌, ◌^◌, ◌%◌, List}
+use Rattle.std.proofs.Common.{arith, refl, ◌+◌, ◌-◌}
 use Rattle.std.proofs.lemmas.Nat.{one_shl}
-use Rattle.lpm_update.specs.Sweep.{IsSweeping, IsSweepOf}
 use Rattle.lpm_update.proofs.Ranges.{short_range, deep_range}
 use Rattle.lpm_update.proofs.sweep.Sweep.over.Goals as goal
 

@@ -1,6 +1,5 @@
-use Rattle.std.proofs.Common.{ap, subst, ◌≡◌, ◌∙◌, ℕ}
+use Rattle.std.proofs.Common.{ap, subst, ◌∙◌}
 use Rattle.std.specs.Prelude.{slice_set}
-use Rattle.lpm_update.specs.Sweep.{IsFurther}
 use Rattle.lpm_update.proofs.Steps.{further_on, mid_stands, mid_first, mid_second, match_lift}
 use Rattle.lpm_update.proofs.sweep.Sweep.step.Goals as goal
 

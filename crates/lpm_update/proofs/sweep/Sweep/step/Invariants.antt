@@ -1,4 +1,4 @@
-use Rattle.std.proofs.Common.{◌-◌, ◌≡◌, ℕ, ◌+◌, ◌*◌, ◌^◌, ◌<◌, ◌≤◌}
+use Rattle.std.proofs.Common.{◌-◌, ◌≡◌}
 use Rattle.lpm_update.specs.Rewrite.{Skips}
 use Rattle.lpm_update.specs.Linked.{IsTable}
 use Rattle.lpm_update.specs.Sweep.{IsSweeping, IsFurther}

@@ -1,14 +1,11 @@
-use Rattle.std.proofs.Common.{rules, ap, sym, ◌∙◌, subst, arith, ◌≡◌, ℕ, ◌+◌, ◌*◌, ◌^◌, ◌<◌, ◌≤◌, ◌-◌, length, ◌/◌, ◌%◌, Bool, true, false, refl}
+use Rattle.std.proofs.Common.{ap, sym, ◌∙◌, subst, arith, ◌≡◌, ◌+◌, ◌*◌, ◌^◌, ◌<◌, ◌/◌, ◌%◌, true, false, refl}
 use Rattle.std.specs.Prelude.{slice_index, slice_set}
 use Rattle.std.proofs.lemmas.Nat.{one_shl}
-use Rattle.lpm_entry.specs.declared.Entry.{Entry}
-use Rattle.lpm_entry.specs.declared.Entry.TheVariants.{Miss, Hop, Group}
-use Rattle.lpm_entry.specs.Words.{entry_in, word_of}
-use Rattle.lpm_update.specs.declared.sweep.Sweep.{Sweep}
+use Rattle.lpm_entry.specs.declared.Entry.TheVariants.{Group}
+use Rattle.lpm_entry.specs.Words.{entry_in}
 use Rattle.lpm_cells.specs.Table.{IsLast}
-use Rattle.lpm_update.specs.Rewrite.{takes, Stands, Skips}
-use Rattle.lpm_update.specs.Linked.{IsTable}
-use Rattle.lpm_update.specs.Sweep.{IsSweeping, NextFirst, NextSecond, MatchDid, IsFurther}
+use Rattle.lpm_update.specs.Rewrite.{takes, Stands}
+use Rattle.lpm_update.specs.Sweep.{IsSweeping}
 use Rattle.lpm_update.proofs.Visits.{not_group_last, base_of, next_first, after_first, after_kept, after_second, block_start, skips_second, on_second}
 use Rattle.lpm_update.proofs.Places.{stands_skip}
 use Rattle.lpm_update.proofs.sweep.Sweep.visit.Goals as goal

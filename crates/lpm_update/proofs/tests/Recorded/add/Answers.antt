@@ -17,17 +17,17 @@ record-requires g c =
     let x = c.self.inside in
     let p = c.args.prefix.now in
     let known = c.self.invariant in
-    let cells = sym c.group_for.ensures.cells in
-    let group = c.in-Ok-group_for.group in
-    let fits = c.in-Ok-group_for.ensures.fits x.rules.rules known.answering in
+    let cells = sym c.take_group-group.ensures.cells in
+    let group = c.take_group-group.result in
+    let fits = c.take_group-group.ensures.fits x.rules.rules known.answering in
     let leads = c.add-update.ensures.leads x.rules.rules x.cells.firsts x.cells.seconds known.answering fits in
-    let tied = tied_held f c.group_for.new.groups c.add-update.result x.cells.firsts (held_with group (p.bits / 2 ^ s) x.cells.firsts) (c.add-update.ensures.held x.cells.firsts) c.in-Ok-group_for.ensures.tied in (
+    let tied = tied_held f c.take_group-group.new.groups c.add-update.result x.cells.firsts (held_with group (p.bits / 2 ^ s) x.cells.firsts) (c.add-update.ensures.held x.cells.firsts) c.take_group-group.ensures.tied in (
       lit< tt,
       (
         subst (λ (t : Words). IsTable f s t.firsts t.seconds) cells known.answering.table,
         (
           subst (λ (t : Words). IsBegun f s c.add-update.result t.firsts t.seconds) cells leads.0,
-          (subst (λ (t : Words). IsTied f c.group_for.new.groups (group_held c.add-update.result t.firsts)) cells tied),
+          (subst (λ (t : Words). IsTied f c.take_group-group.new.groups (group_held c.add-update.result t.firsts)) cells tied),
         ),
       ),
     )
@@ -40,8 +40,8 @@ invariant_of-self g c =
     let p = c.args.prefix.now in
     let h = c.args.hop in
     let known = c.self.invariant in
-    let cells = c.group_for.ensures.cells in
-    let fits = c.in-Ok-group_for.ensures.fits x.rules.rules known.answering in
+    let cells = c.take_group-group.ensures.cells in
+    let fits = c.take_group-group.ensures.fits x.rules.rules known.answering in
     let leads = c.add-update.ensures.leads x.rules.rules x.cells.firsts x.cells.seconds known.answering fits in
     let made = ap (λ (r : RuleList). r.rules) c.in-Ok.ensures.ok in
     let run = c.record.ensures in
@@ -50,4 +50,4 @@ invariant_of-self g c =
     resting_after f s _ _ _ _ _ _ known
     (subst (λ R. IsAnswering f s R c.record.new.cells.firsts c.record.new.cells.seconds) (sym made)
     (run.answering x.rules.rules (map.insert x.rules.rules p h) answering (networks_insert (f + s) x.rules.rules p h network known.answering.networks) leads.1))
-    run.tied (run.sizes.0 ∙ ap (λ (t : Words). t.groups) cells) (run.sizes.1 ∙ c.group_for.ensures.states) (run.limbo ∙ c.group_for.ensures.limbo)
+    run.tied (run.sizes.0 ∙ ap (λ (t : Words). t.groups) cells) (run.sizes.1 ∙ c.take_group-group.ensures.states) (run.limbo ∙ c.take_group-group.ensures.limbo)

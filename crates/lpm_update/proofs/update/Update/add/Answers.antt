@@ -1,15 +1,5 @@
-use Rattle.std.proofs.Common.{arith, refl, ap, sym, ◌∙◌, subst, ◌≡◌, ◌⊎◌, inl, inr, ℕ, ◌+◌, ◌-◌, ◌*◌, ◌/◌, ◌^◌, ◌<◌, ◌≤◌, List, Option, Some, None}
-use Rattle.std.proofs.lemmas.Nat.{shr_below}
-use Rattle.std.proofs.lemmas.Bool.{cases_lt}
-use Rattle.lpm_bits.specs.Network.{Network}
-use Rattle.lpm_entry.specs.declared.Entry.{Entry}
-use Rattle.lpm_entry.specs.declared.Entry.TheVariants.{Hop}
-use Rattle.lpm_update.specs.declared.rewrite.Kind.TheVariants.{Add}
-use Rattle.lpm_update.specs.declared.rewrite.Rewrite.{Rewrite}
-use Rattle.lpm_update.specs.declared.fill.Fill.{Fill as FillData}
-use Rattle.lpm_update.specs.declared.update.Update.{Update}
-use Rattle.lpm_update.specs.declared.update.Update.TheVariants.{Sweep, Fill}
-use Rattle.lpm_update.specs.Leads.{AddFits, IsBegun, Leads}
+use Rattle.std.proofs.Common.{subst}
+use Rattle.lpm_update.specs.Leads.{AddFits}
 use Rattle.lpm_update.proofs.Begins.{begun_sweep, adds_sweep, begun_fill, adds_fill}
 use Rattle.lpm_update.proofs.update.Update.add.Goals as goal
 

@@ -1,4 +1,4 @@
-use Rattle.std.proofs.Common.{arith, refl, ap, sym, ◌∙◌, subst, ◌≡◌, ℕ, ◌+◌, ◌/◌, ◌^◌, ◌<◌, List}
+use Rattle.std.proofs.Common.{ap, ◌∙◌, subst, ◌/◌, ◌^◌}
 use Rattle.std.specs.FinMap.{remove}
 use Rattle.lpm_update.specs.Leads.{LastFits}
 use Rattle.lpm_update.proofs.Begins.{begun_sweep, deletes_sweep, begun_collapse, deletes_collapse, deep_before}

@@ -1,4 +1,4 @@
-use Rattle.std.proofs.Common.{arith, refl, ap, sym, ◌∙◌, subst, ◌≡◌, ℕ, ◌+◌, ◌*◌, ◌^◌, ◌<◌, List, inl, inr, true}
+use Rattle.std.proofs.Common.{refl, ap, sym, ◌∙◌, subst, ◌≡◌, ℕ, ◌*◌, ◌^◌, ◌<◌, inl, inr, true}
 use Rattle.std.proofs.lemmas.Nat.{pow-add}
 use Rattle.lpm_update.specs.declared.collapse.Collapse.{Collapse as CollapseData}
 use Rattle.lpm_update.specs.declared.update.Update.TheVariants.{Collapse}

@@ -1,19 +1,17 @@
-use Rattle.std.proofs.Common.{arith, refl, ap, sym, ◌∙◌, subst, ◌≡◌, ℕ, ◌+◌, ◌*◌, ◌/◌, ◌^◌, ◌<◌, List, length, Option, Some, None, true, false}
-use Rattle.std.specs.Prelude.{slice_set, slice_index, slice_get}
+use Rattle.std.proofs.Common.{arith, ap, sym, ◌∙◌, subst, ◌≡◌, ◌/◌, ◌^◌, length, Some, None}
+use Rattle.std.specs.Prelude.{slice_set, slice_index}
 use Rattle.std.proofs.lemmas.Nat.{shr_below}
 use Rattle.std.proofs.Math.ListN.{length-set}
-use Rattle.lpm_groups.specs.declared.GroupState.{GroupState}
-use Rattle.lpm_groups.specs.declared.GroupState.TheVariants.{Linked, Limbo}
-use Rattle.lpm_groups.specs.States.{limbo_count, free_count}
+use Rattle.lpm_groups.specs.declared.GroupState.TheVariants.{Linked}
+use Rattle.lpm_groups.specs.States.{limbo_count}
 use Rattle.lpm_groups.proofs.Tallies.{Takes-set}
-use Rattle.lpm_entry.specs.declared.Entry.TheVariants.{Group}
 use Rattle.lpm_entry.specs.Words.{entry_in}
 use Rattle.lpm_update.specs.Linked.{group_at}
 use Rattle.lpm_update.specs.Tied.{IsTied}
 use Rattle.lpm_update.specs.Leads.{held_with}
 use Rattle.lpm_update.proofs.Ties.{tied_taken}
 use Rattle.lpm_update.proofs.Taking.{fresh_group, shallow, no_group_at, still_free}
-use Rattle.lpm_update.proofs.running.group_for.Goals as goal
+use Rattle.lpm_table.proofs.running.group_for.Goals as goal
 
 pub returns-in-Some : goal.returns-in-Some
 returns-in-Some g c =

@@ -1,4 +1,4 @@
-use Rattle.std.proofs.Common.{ap, sym, subst, ◌∙◌, ◌+◌, ◌≡◌, ℕ, lit<, refl}
+use Rattle.std.proofs.Common.{ap, sym, subst, ◌+◌, lit<, refl}
 use Rattle.std.specs.Prelude.{IsSome}
 use Rattle.std.specs.FinMap as map
 use Rattle.lpm_rules.specs.RuleMap.{RuleList}
@@ -6,7 +6,7 @@ use Rattle.lpm_rules.proofs.Changes.{networks_remove}
 use Rattle.lpm_update.specs.Linked.{group_at}
 use Rattle.lpm_update.specs.Leads.{IsAnswering, LastFits}
 use Rattle.lpm_update.proofs.Resting.{resting_after, tied_held}
-use Rattle.lpm_update.proofs.table.PlainTable.delete.Goals as goal
+use Rattle.lpm_table.proofs.table.PlainTable.delete.Goals as goal
 
 pub run-requires : goal.run-requires
 run-requires g c =

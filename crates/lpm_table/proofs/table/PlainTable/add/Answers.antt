@@ -1,18 +1,19 @@
-use Rattle.std.proofs.Common.{ap, sym, subst, ◌∙◌, ◌+◌, ◌/◌, ◌^◌, ◌≡◌, ℕ, lit<, refl, Ok, Err, inl}
+use Rattle.std.proofs.Common.{ap, sym, subst, ◌∙◌, ◌+◌, ◌/◌, ◌^◌, lit<, refl, Ok, Err, inl}
 use Rattle.std.specs.FinMap as map
 use Rattle.lpm_rules.specs.RuleMap.{RuleList}
 use Rattle.lpm_rules.proofs.Changes.{networks_insert}
 use Rattle.lpm_cells.specs.Table.{Words}
-use Rattle.lpm_update.specs.Linked.{IsTable, group_at}
+use Rattle.lpm_update.specs.Linked.{IsTable}
 use Rattle.lpm_update.specs.Leads.{IsAnswering, IsBegun, held_with}
 use Rattle.lpm_update.specs.Update.{group_held}
 use Rattle.lpm_update.specs.Tied.{IsTied}
-use Rattle.lpm_update.specs.PlainTable.{TableState, AddOutcome, NeedsGroup, IsWithoutFree}
-use Rattle.lpm_update.specs.declared.table.AddFault.TheVariants.{NoGroups}
+use Rattle.lpm_table.specs.PlainTable.{TableState, AddOutcome, NeedsGroup, IsWithoutFree}
+use Rattle.lpm_table.specs.declared.table.AddFault.TheVariants.{NoGroups}
 use Rattle.std.proofs.lemmas.Nat.{shr_below}
 use Rattle.lpm_update.proofs.Taking.{shallow, shallow_none}
-use Rattle.lpm_update.proofs.Resting.{resting_after, resting_words, tied_held, none_used, all_used, put_outcome, put_absent, taken_back}
-use Rattle.lpm_update.proofs.table.PlainTable.add.Goals as goal
+use Rattle.lpm_update.proofs.Resting.{resting_after, resting_words, tied_held, none_used, all_used, put_absent, taken_back}
+use Rattle.lpm_table.proofs.Outcomes.{put_outcome}
+use Rattle.lpm_table.proofs.table.PlainTable.add.Goals as goal
 
 pub run-requires : goal.run-requires
 run-requires g c =

@@ -1,10 +1,10 @@
-use Rattle.std.proofs.Common.{◌≡◌, ℕ, ◌+◌, ◌*◌, ◌^◌, length}
+use Rattle.std.proofs.Common.{◌≡◌, ◌+◌, ◌*◌, ◌^◌, length}
 use Rattle.lpm_groups.specs.States.{limbo_count}
 use Rattle.lpm_cells.specs.Table.{entry_at}
 use Rattle.lpm_update.specs.Linked.{IsTable, group_at}
 use Rattle.lpm_update.specs.Update.{IsUnderWay, StandsSoFar, HasGroups, IsSameChange, group_held, places_left}
 use Rattle.lpm_update.specs.Tied.{IsTied}
-use Rattle.lpm_update.proofs.running.run.Given as goal
+use Rattle.lpm_table.proofs.running.run.Given as goal
 
 abbrev pub invariant-loop-group : goal.invariant-loop-group
 invariant-loop-group g l =

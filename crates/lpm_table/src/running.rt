@@ -9,11 +9,11 @@ ghost use Rattle.lpm_update.specs.Leads.{IsAnswering, IsBegun, Leads, AddFits, h
 ghost use Rattle.lpm_update.specs.Update.{group_held};
 ghost use Rattle.lpm_update.specs.Tied.{IsTied};
 
-use super::{Did, Update};
 use lpm_bits::{Prefix, Shape};
 use lpm_cells::{Cells, PlainCells};
 use lpm_entry::Entry;
 use lpm_groups::Groups;
+use lpm_update::{Did, Update};
 
 /// Makes all stores of a change, upwards; a group that it unlinks is free at once.
 pub(crate) fn run<const FIRST: u32, const SECOND: u32>(

@@ -1,4 +1,4 @@
-use Rattle.std.proofs.Common.{arith, refl, ap, sym, ◌∙◌, subst, ◌≡◌, ℕ, ◌+◌, ◌*◌, ◌^◌, ◌<◌, List, length}
+use Rattle.std.proofs.Common.{ap, sym, ◌∙◌, subst, ◌+◌, length}
 use Rattle.std.specs.Prelude.{slice_set}
 use Rattle.lpm_groups.specs.declared.GroupState.TheVariants.{Limbo, Free}
 use Rattle.lpm_groups.specs.States.{IsLimboAt, limbo_count}
@@ -11,7 +11,7 @@ use Rattle.lpm_update.proofs.Allowing.{may_first, may_second, may_unlink}
 use Rattle.lpm_update.proofs.Groups.{match_elim}
 use Rattle.lpm_update.proofs.Ties.{tied_same, given_linked, given_retired, tied_reused, reused_limbo}
 use Rattle.lpm_update.proofs.Ending.{HasRoom, same_change, kept_groups, room_first, room_second, room_same, over_answers, over_held}
-use Rattle.lpm_update.proofs.running.run.Goals as goal
+use Rattle.lpm_table.proofs.running.run.Goals as goal
 
 pub step-requires-clause-allows_first : goal.step-requires-clause-allows_first
 step-requires-clause-allows_first g c = λ i w n.

@@ -1,7 +1,7 @@
 -- A table for one thread, as its callers see it, and what comes of adding a rule (DPDK Programmer's Guide,
 -- "LPM Library", "Addition": the rule is stored, and a group is taken where the rule is longer than the
 -- first table's index and its block has none yet).
-use Rattle.std.specs.Prelude.{ℕ, ◌≡◌, ◌≢◌, ◌/◌, ◌^◌, ◌≤◌, ◌<◌, Option, Some, None, Ok, Err, Result, IsSomeAnd, refl}
+use Rattle.std.specs.Prelude.{ℕ, ◌≡◌, ◌≢◌, ◌/◌, ◌^◌, ◌≤◌, ◌<◌, Some, None, Ok, Err, Result, IsSomeAnd, refl}
 use Rattle.std.specs.FinMap.{get, len}
 use Rattle.std.specs.FinMap as map
 use Rattle.std.specs.FinSet as set
@@ -11,8 +11,8 @@ use Rattle.lpm_rules.specs.RuleMap.{RuleMap, coded_network}
 use Rattle.lpm_rules.specs.Deep.{IsDeepBlock, deep_blocks}
 use Rattle.lpm_rules.specs.declared.Put.{Put}
 use Rattle.lpm_rules.specs.declared.Put.TheVariants.{Added, Replaced, Unchanged}
-use Rattle.lpm_update.specs.declared.table.AddFault.{AddFault}
-use Rattle.lpm_update.specs.declared.table.AddFault.TheVariants.{TooManyRules, Memory, NoGroups}
+use Rattle.lpm_table.specs.declared.table.AddFault.{AddFault}
+use Rattle.lpm_table.specs.declared.table.AddFault.TheVariants.{TooManyRules, Memory, NoGroups}
 
 -- the rules, the greatest number of rules, and the number of groups
 pub record TableState : Type 0 where

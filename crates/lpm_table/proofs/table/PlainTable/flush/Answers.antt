@@ -1,11 +1,11 @@
-use Rattle.std.proofs.Common.{ap, sym, subst, ◌∙◌, ◌+◌, ◌≡◌, ℕ, lit<}
+use Rattle.std.proofs.Common.{ap, sym, subst, ◌+◌, lit<}
 use Rattle.std.specs.FinMap as map
 use Rattle.lpm_rules.specs.RuleMap.{RuleList}
 use Rattle.lpm_rules.proofs.Changes.{networks_empty}
 use Rattle.lpm_update.specs.Linked.{group_at}
 use Rattle.lpm_update.specs.Leads.{IsAnswering}
 use Rattle.lpm_update.proofs.Resting.{resting_after, tied_held}
-use Rattle.lpm_update.proofs.table.PlainTable.flush.Goals as goal
+use Rattle.lpm_table.proofs.table.PlainTable.flush.Goals as goal
 
 pub run-requires : goal.run-requires
 run-requires g c =

@@ -1,9 +1,8 @@
-use Rattle.std.proofs.Common.{ap, sym, subst, ◌∙◌, ◌+◌, ◌^◌}
-use Rattle.lpm_rules.specs.RuleMap.{RuleList}
+use Rattle.std.proofs.Common.{sym, subst, ◌+◌}
 use Rattle.lpm_rules.specs.Longest.{IsLongestHop}
-use Rattle.lpm_update.specs.PlainTable.{TableState}
+use Rattle.lpm_table.specs.PlainTable.{TableState}
 use Rattle.lpm_update.proofs.Rules.{best_hop}
-use Rattle.lpm_update.proofs.table.PlainTable.lookup.Goals as goal
+use Rattle.lpm_table.proofs.table.PlainTable.lookup.Goals as goal
 
 pub returns : goal.returns
 returns g c =

@@ -1,10 +1,10 @@
-use Rattle.std.proofs.Common.{ap, sym, subst, ◌∙◌, ◌+◌, ◌≡◌}
+use Rattle.std.proofs.Common.{ap, ◌∙◌}
 use Rattle.std.specs.FinSet as set
 use Rattle.lpm_rules.specs.Deep.{deep_blocks}
 use Rattle.lpm_update.specs.Linked.{group_at}
-use Rattle.lpm_update.specs.PlainTable.{TableState}
+use Rattle.lpm_table.specs.PlainTable.{TableState}
 use Rattle.lpm_update.proofs.DeepCounts.{linked_deep}
-use Rattle.lpm_update.proofs.table.PlainTable.counts.Goals as goal
+use Rattle.lpm_table.proofs.table.PlainTable.counts.Goals as goal
 
 pub returns-clause-in_use : goal.returns-clause-in_use
 returns-clause-in_use g c =

@@ -1,7 +1,7 @@
-use Rattle.std.proofs.Common.{ap, sym, subst, ◌∙◌, ◌+◌, ◌*◌, ◌^◌}
+use Rattle.std.proofs.Common.{ap}
 use Rattle.lpm_rules.specs.RuleMap.{RuleList}
 use Rattle.lpm_update.proofs.Resting.{resting_open, resting_words}
-use Rattle.lpm_update.proofs.table.PlainTable.open.Goals as goal
+use Rattle.lpm_table.proofs.table.PlainTable.open.Goals as goal
 
 pub invariant_of-result : goal.invariant_of-result
 invariant_of-result g c =

@@ -9,12 +9,12 @@ ghost use Rattle.lpm_rules.specs.Longest.{IsLongestHop};
 ghost use Rattle.lpm_rules.specs.Deep.{deep_blocks};
 ghost use Rattle.lpm_update.specs.Leads.{LastFits};
 
-use super::Update;
 use super::running::{group_for, run};
 use lpm_bits::{Hop, Prefix, Shape};
 use lpm_cells::PlainCells;
 use lpm_groups::{Counts, Groups};
 use lpm_rules::{NoSuchRule, Put, RuleFault, Rules};
+use lpm_update::Update;
 use std::alloc::{AllocError, Global};
 use std::error::Error;
 use std::fmt;
@@ -52,7 +52,7 @@ pub struct PlainTable<const FIRST: u32, const SECOND: u32> {
 }
 
 impl<const FIRST: u32, const SECOND: u32> Model for PlainTable<FIRST, SECOND> {
-    ghost use Rattle.lpm_update.specs.PlainTable.{TableState, coded_table_state};
+    ghost use Rattle.lpm_table.specs.PlainTable.{TableState, coded_table_state};
     ghost use Rattle.lpm_update.specs.Tied.{IsResting};
 
     ghost Value = { TableState };
@@ -65,7 +65,7 @@ impl<const FIRST: u32, const SECOND: u32> Model for PlainTable<FIRST, SECOND> {
 }
 
 impl<const FIRST: u32, const SECOND: u32> PlainTable<FIRST, SECOND> {
-    ghost use Rattle.lpm_update.specs.PlainTable.{AddOutcome};
+    ghost use Rattle.lpm_table.specs.PlainTable.{AddOutcome};
 
     /// A table without rules, for at most `rules` of them, with room for `groups` groups, at most 65,536.
     pub fn open(alloc: Global, rules: usize, groups: usize) -> Result<Self, AllocError>
