@@ -1,1 +1,3 @@
 pub mod Outcomes
+pub mod Lists
+pub mod Deciding

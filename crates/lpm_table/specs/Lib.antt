@@ -1,1 +1,3 @@
 pub mod PlainTable
+pub mod Changes
+pub mod Laws

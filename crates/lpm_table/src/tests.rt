@@ -3,7 +3,7 @@ ghost use Rattle.lpm_bits.specs.Widths.{IsShape};
 use super::*;
 use lpm_bits::{Hop, Prefix, Shape};
 use lpm_groups::Counts;
-use lpm_rules::Put;
+use lpm_rules::{Change as RuleChange, Put};
 use std::process::Abort;
 use std::test::Fail;
 
@@ -287,6 +287,122 @@ fn one_group_and_one_rule(rt: HostRuntime) -> Result<(), Fail> {
     Ok(())
 }
 
+fn to_make<const FIRST: u32, const SECOND: u32>(
+    rt: &impl Abort,
+    change: Change,
+) -> RuleChange<FIRST, SECOND>
+    requires { IsShape FIRST SECOND }
+{
+    match change {
+        Change::Add(bits, len, hop) => {
+            RuleChange::Add(prefix_of(rt, bits, len), hop_of(rt, hop))
+        }
+        Change::Delete(bits, len) => RuleChange::Delete(prefix_of(rt, bits, len)),
+        Change::Flush => RuleChange::Flush,
+    }
+}
+
+fn apply_plainly(
+    rt: &impl Abort,
+    plain: &mut Vec<Plain>,
+    changes: &[Change],
+) -> Result<(), Refused> {
+    for (index, change) in changes.iter().enumerate() {
+        let fault = match change_plainly(rt, plain, *change) {
+            Answer::Refused(fault) => ChangeFault::NotAdded(fault),
+            Answer::Absent => ChangeFault::NoSuchRule,
+            _ => continue,
+        };
+        return Err(Refused { index, fault });
+    }
+    Ok(())
+}
+
+#[test]
+fn plain_search_agrees_after_lists(rt: HostRuntime) -> Result<(), Fail> {
+    let alloc = rt.alloc();
+    let mut table = PlainTable::<4, 4>::open(alloc, RULES, GROUPS)?;
+    let mut plain: Vec<Plain> = Vec::new(alloc);
+    let mut seed = 2u32;
+    for i in 0..25u32 {
+        let mut drawn = Vec::new(alloc);
+        let mut changes = Vec::new(alloc);
+        for j in 0..5u32 {
+            let change = draw_change(&rt, &mut seed, 5 * i + j, &plain);
+            drawn.push(change)?;
+            changes.push(to_make(&rt, change))?;
+        }
+        let expected = apply_plainly(&rt, &mut plain, &drawn);
+        assert_eq!(rt; table.apply(&changes), expected, "{i} {drawn:?}");
+        assert_same(&rt, &table, &plain);
+    }
+    Ok(())
+}
+
+fn add_of(rt: &impl Abort, bits: u32, len: u32, hop: u32) -> RuleChange<4, 4> {
+    to_make(rt, Change::Add(bits, len, hop))
+}
+
+fn delete_of(rt: &impl Abort, bits: u32, len: u32) -> RuleChange<4, 4> {
+    to_make(rt, Change::Delete(bits, len))
+}
+
+#[test]
+fn list_ends_at_the_first_refused(rt: HostRuntime) -> Result<(), Fail> {
+    let mut table = PlainTable::<4, 4>::open(rt.alloc(), 3, 1)?;
+    let changes = [
+        add_of(&rt, 0x10, 5, 1),
+        RuleChange::Reclaim(1),
+        add_of(&rt, 0x20, 5, 3),
+        add_of(&rt, 0x10, 4, 2),
+    ];
+    let refused = Refused {
+        index: 2,
+        fault: ChangeFault::NotAdded(AddFault::NoGroups),
+    };
+    assert_eq!(rt; table.apply(&changes), Err(refused));
+    let hops = [(0x10, Some(1)), (0x18, None), (0x20, None)];
+    assert_hops(&rt, &table, &hops);
+    // the group that the deletion gives up is free for the next addition
+    let changes = [
+        add_of(&rt, 0x10, 4, 2),
+        delete_of(&rt, 0x10, 5),
+        RuleChange::Synchronize,
+        add_of(&rt, 0x20, 5, 3),
+        delete_of(&rt, 0x10, 5),
+        add_of(&rt, 0x10, 5, 1),
+    ];
+    let refused = Refused {
+        index: 4,
+        fault: ChangeFault::NoSuchRule,
+    };
+    let reading = Reading {
+        applied: Err(refused),
+        hop: Some(hop_of(&rt, 2)),
+        counts: Counts {
+            in_use: 1,
+            limbo: 0,
+            free: 0,
+        },
+    };
+    assert_eq!(rt; table.apply_and_read(&changes, 0x10), reading);
+    let hops = [(0x18, Some(2)), (0x20, Some(3)), (0x28, None)];
+    assert_hops(&rt, &table, &hops);
+    let reading = Reading {
+        applied: Ok(()),
+        hop: None,
+        counts: Counts {
+            in_use: 0,
+            limbo: 0,
+            free: 1,
+        },
+    };
+    assert_eq!(rt; table.apply_and_read(&[RuleChange::Flush], 0x20), reading);
+    assert_eq!(rt; table.apply(&[]), Ok(()));
+    assert!(rt; table.is_empty());
+    Ok(())
+}
+
 #[test]
 fn tables_of_32_bits(rt: HostRuntime) -> Result<(), Fail> {
     let mut table = PlainTable::<24, 8>::open(rt.alloc(), 1000, 256)?;
@@ -410,5 +526,15 @@ fn texts_of_the_faults(rt: HostRuntime) -> Result<(), Fail> {
         format!(in alloc; "{}", AddFault::NoGroups)?.as_str(),
         "no group is free"
     );
+    let refused = Refused {
+        index: 7,
+        fault: ChangeFault::NoSuchRule,
+    };
+    assert_eq!(rt;
+        format!(in alloc; "{refused}")?.as_str(),
+        "change 7: no such rule"
+    );
+    let fault = ChangeFault::NotAdded(AddFault::NoGroups);
+    assert_eq!(rt; format!(in alloc; "{fault}")?.as_str(), "no group is free");
     Ok(())
 }
