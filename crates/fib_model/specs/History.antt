@@ -1,8 +1,8 @@
 -- The versions of the rule list: the list after each accepted change that made a version, the newest first.
-use Rattle.std.specs.Prelude.{ℕ, zero, suc, ◌+◌, List, [], ◌∷◌, length}
+use Rattle.std.specs.Prelude.{ℕ, suc, List, [], ◌∷◌}
 use Rattle.std.specs.FinMap.{insert, remove, empty}
 use Rattle.lpm_rules.specs.RuleMap.{RuleMap}
-use Rattle.lpm_rules.specs.declared.Put.TheVariants.{Added, Replaced, Unchanged}
+use Rattle.lpm_rules.specs.declared.Put.TheVariants.{Added, Replaced}
 use Rattle.fib_model.specs.declared.command.Command.{Command}
 use Rattle.fib_model.specs.declared.command.Command.TheVariants as command
 use Rattle.fib_model.specs.declared.command.Outcome.{Outcome}

@@ -1,7 +1,7 @@
 -- Reader intervals and grace periods (DPDK Programmer's Guide, "RCU Library": a grace period lasts until
 -- each reader that may hold a reference has been in a quiescent state; the intervals between a reader's
 -- quiescent states are those in which it may hold one). No token or counter is looked at.
-use Rattle.std.specs.Prelude.{ℕ, ◌≡◌, ◌+◌, ◌<◌, ◌==◌, nat_lt, if◌then◌else◌, List, [], ◌∷◌, length, Option, Some, None, IsSomeAnd, MatchOption, Bool, true, false, ◌&&◌}
+use Rattle.std.specs.Prelude.{ℕ, ◌≡◌, ◌+◌, ◌<◌, ◌==◌, nat_lt, if◌then◌else◌, List, [], ◌∷◌, length, Option, Some, None, IsSomeAnd, MatchOption}
 use Rattle.fib_model.specs.declared.event.Event.{Event}
 use Rattle.fib_model.specs.declared.event.Event.TheVariants.{Online, Offline, Quiescent, Unlinking}
 

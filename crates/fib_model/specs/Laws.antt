@@ -5,7 +5,7 @@ use Rattle.qsbr.specs.declared.config.Config.{Config}
 use Rattle.qsbr.specs.Limits.{IsConfig}
 use Rattle.qsbr.specs.Registry.{Registry}
 use Rattle.fib_model.specs.declared.event.Event.{Event}
-use Rattle.fib_model.specs.State.{State, Keeping}
+use Rattle.fib_model.specs.State.{State}
 use Rattle.fib_model.specs.Outcomes.{Log, Runs}
 use Rattle.fib_model.specs.Counting.{counting, opened}
 use Rattle.fib_model.specs.Textbook.{textbook, beginning}

@@ -1,5 +1,5 @@
 -- What the outcome of a command depends on, for any way to keep the readers' reports.
-use Rattle.std.specs.Prelude.{ℕ, ◌≡◌, ◌+◌, ◌^◌, ◌<◌, ◌≤◌, ◌⊎◌, List}
+use Rattle.std.specs.Prelude.{ℕ, ◌+◌, ◌^◌, ◌<◌, ◌≤◌, ◌⊎◌, List}
 use Rattle.qsbr.specs.declared.Busy.{Busy}
 use Rattle.qsbr.specs.declared.config.Config.{Config}
 use Rattle.lpm_rules.specs.RuleMap.{RuleMap}

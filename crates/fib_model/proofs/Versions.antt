@@ -1,0 +1,66 @@
+-- The rules of a run are the last version that its log made.
+use Rattle.std.proofs.Common.{arith, ◌≡◌, ℕ, zero, suc, ◌+◌, refl, ap, ◌∙◌, List, [], ◌∷◌, length}
+use Rattle.std.specs.FinMap.{insert, remove}
+use Rattle.qsbr.specs.declared.config.Config.{Config}
+use Rattle.qsbr.specs.declared.refusal.Refusal.TheVariants.{TooManyRules, NoSuchRule, Exhausted, NoGroups, Memory}
+use Rattle.lpm_rules.specs.RuleMap.{RuleMap}
+use Rattle.lpm_rules.specs.declared.Put.TheVariants.{Added, Replaced, Unchanged}
+use Rattle.fib_model.specs.declared.command.Command.{Command}
+use Rattle.fib_model.specs.declared.command.Command.TheVariants as command
+use Rattle.fib_model.specs.declared.command.Misreport.TheVariants.{NoSuchWorker, AlreadyOnline, NotOnline}
+use Rattle.fib_model.specs.declared.command.Outcome.{Outcome}
+use Rattle.fib_model.specs.declared.command.Outcome.TheVariants as outcome
+use Rattle.fib_model.specs.State.{State, Keeping}
+use Rattle.fib_model.specs.Outcomes.{Does}
+use Rattle.fib_model.specs.Textbook.{textbook}
+use Rattle.fib_model.specs.History.{last_of, versions_after, history}
+use Rattle.fib_model.specs.Laws.{RulesAreLastVersion}
+
+-- the rules are the last version, and as many updates were begun as there are versions
+abbrev IsAt : {X : Type 0} → State X → List RuleMap → Type 0
+IsAt z H = (z.rules ≡ last_of H) × (z.begun ≡ length H)
+
+stays : {X : Type 0} (s z : State X) (H : List RuleMap) → IsAt s H → z ≡ s → IsAt z H
+stays s z H at e = (ap (λ x. x.rules) e ∙ at.0, ap (λ x. x.begun) e ∙ at.1)
+
+one_more : (n m l : ℕ) → n ≡ m + 1 → m ≡ l → n ≡ suc l
+one_more n m l e f = omega arith
+
+step : {X : Type 0} (k : Keeping X) (first second : ℕ) (c : Config) (s z : State X) (H : List RuleMap) (command : Command first second) (outcome : Outcome)
+    → IsAt s H → Does k first second c s command outcome z → IsAt z (versions_after H command outcome)
+step k f g c s z H (command.Add p h) (outcome.Put Added) at d =
+    (ap (λ x. x.rules) d.1.2 ∙ ap (λ R. insert R p h) at.0, one_more z.begun s.begun (length H) (ap (λ x. x.begun) d.1.2) at.1)
+step k f g c s z H (command.Add p h) (outcome.Put Replaced) at d =
+    (ap (λ x. x.rules) d.2 ∙ ap (λ R. insert R p h) at.0, one_more z.begun s.begun (length H) (ap (λ x. x.begun) d.2) at.1)
+step k f g c s z H (command.Add p h) (outcome.Put Unchanged) at d = stays s z H at d.1
+step k f g c s z H (command.Add p h) (outcome.Refused TooManyRules) at d = stays s z H at d.3
+step k f g c s z H (command.Add p h) (outcome.Refused NoSuchRule) at d = absurd d
+step k f g c s z H (command.Add p h) (outcome.Refused Exhausted) at d = stays s z H at d.2
+step k f g c s z H (command.Add p h) (outcome.Refused (NoGroups oldest)) at d = stays s z H at d.3
+step k f g c s z H (command.Add p h) (outcome.Refused Memory) at d = stays s z H at d.1
+step k f g c s z H (command.Add p h) other at d = absurd d
+step k f g c s z H (command.Delete p) (outcome.Deleted h) at d =
+    (d.1.2 ∙ ap (λ R. remove R p) at.0, one_more z.begun s.begun (length H) d.1.3 at.1)
+step k f g c s z H (command.Delete p) (outcome.Refused NoSuchRule) at d = stays s z H at d.1
+step k f g c s z H (command.Delete p) (outcome.Refused Exhausted) at d = stays s z H at d.2
+step k f g c s z H (command.Delete p) (outcome.Refused other) at d = absurd d
+step k f g c s z H (command.Delete p) other at d = absurd d
+step k f g c s z H command.Flush (outcome.Flushed zero) at d = stays s z H at (d.1 refl)
+step k f g c s z H command.Flush (outcome.Flushed (suc n)) at d =
+    let shrinks = d.2 (omega arith) in
+    (shrinks.2, one_more z.begun s.begun (length H) shrinks.3 at.1)
+step k f g c s z H command.Flush (outcome.Refused Exhausted) at d = stays s z H at d.2
+step k f g c s z H command.Flush (outcome.Refused other) at d = absurd d
+step k f g c s z H command.Flush other at d = absurd d
+step k f g c s z H (command.Reclaim max) (outcome.Reclaimed r) at d = (ap (λ x. x.rules) d.1 ∙ at.0, ap (λ x. x.begun) d.1 ∙ at.1)
+step k f g c s z H (command.Reclaim max) other at d = absurd d
+step k f g c s z H (command.Report report w) outcome.Told at d = (ap (λ x. x.rules) d.2 ∙ at.0, ap (λ x. x.begun) d.2 ∙ at.1)
+step k f g c s z H (command.Report report w) (outcome.Misreported NoSuchWorker) at d = stays s z H at d.1
+step k f g c s z H (command.Report report w) (outcome.Misreported AlreadyOnline) at d = stays s z H at d.3
+step k f g c s z H (command.Report report w) (outcome.Misreported NotOnline) at d = stays s z H at d.3
+step k f g c s z H (command.Report report w) other at d = absurd d
+
+pub rules_are_last_version : RulesAreLastVersion
+rules_are_last_version f g c [] z r = (ap (λ x. x.rules) r, ap (λ x. x.begun) r)
+rules_are_last_version f g c (done ∷ log) z r =
+    step (textbook c) f g c r.0 z (history log) done.0 done.1 (rules_are_last_version f g c log r.0 r.1) r.2
