@@ -1,2 +1,5 @@
 pub mod Versions
 pub mod Places
+pub mod Holders
+pub mod Names
+pub mod Followed
