@@ -1,6 +1,6 @@
 //! The table.
 
-ghost use Rattle.std.specs.Prelude.{◌≡◌, ℕ, ◌+◌, ◌*◌, ◌/◌, ◌^◌, ◌<◌, ◌≤◌, ◌↔◌, Some, None, IsTrue, MatchResult, length};
+ghost use Rattle.std.specs.Prelude.{◌≡◌, ℕ, ◌+◌, ◌*◌, ◌/◌, ◌^◌, ◌<◌, ◌≤◌, ◌↔◌, Some, None, IsTrue, MatchResult, length, slice_index};
 ghost use Rattle.std.specs.FinMap as map;
 ghost use Rattle.lpm_bits.specs.Widths.{IsShape};
 ghost use Rattle.lpm_rules.specs.Longest.{IsLongestHop};
@@ -9,6 +9,7 @@ ghost use Rattle.qsbr.specs.Limits.{IsConfig};
 ghost use Rattle.fib_model.specs.State.{IsExhausted};
 ghost use Rattle.fib_model.specs.Outcomes.{groups_in_use, Adds, Deletes, Flushes, Frees};
 ghost use Rattle.fib_model.specs.Counting.{counting, opened};
+ghost use Rattle.fib.specs.Lookups.{IsHopOrDefault};
 ghost use Rattle.fib_model.specs.declared.command.Report.TheVariants as report;
 
 use super::running::{group_for, run};
@@ -129,6 +130,33 @@ impl<const FIRST: u32, const SECOND: u32> Fib<FIRST, SECOND> {
         ensures { IsLongestHop (FIRST + SECOND) self.now.table.rules addr result }
     {
         self.cells.read(addr)
+    }
+
+    /// The next hops of four addresses, with `default` for an address that no rule covers.
+    #[inline]
+    pub fn lookup4(&self, addrs: [u32; 4], default: u32) -> [u32; 4]
+        requires { (i : ℕ) → i < 4 → slice_index addrs i < 2 ^ (FIRST + SECOND) }
+        ensures { (i : ℕ) → i < 4 → IsHopOrDefault (FIRST + SECOND) self.now.table.rules default (slice_index addrs i) (slice_index result i) }
+    {
+        let [a, b, c, d] = addrs;
+        [
+            self.hop_or(a, default),
+            self.hop_or(b, default),
+            self.hop_or(c, default),
+            self.hop_or(d, default),
+        ]
+    }
+
+    /// The next hop of an address, with `default` where no rule covers it.
+    #[inline]
+    fn hop_or(&self, addr: u32, default: u32) -> u32
+        requires { addr < 2 ^ (FIRST + SECOND) }
+        ensures { IsHopOrDefault (FIRST + SECOND) self.now.table.rules default addr result }
+    {
+        match self.lookup(addr) {
+            Some(hop) => hop.number(),
+            None => default,
+        }
     }
 
     /// Whether the tokens or the versions would pass their bound by one more change.

@@ -2,6 +2,7 @@
 //! in limbo until no reader can hold them.
 #![tactic(auto)]
 
+mod commands;
 mod fib;
 mod keeper;
 mod open_error;

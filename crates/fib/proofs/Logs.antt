@@ -1,0 +1,51 @@
+-- Logs that grow.
+use Rattle.std.proofs.Common.{arith, ◌≡◌, ℕ, zero, suc, ◌+◌, ◌<◌, refl, ap, sym, ◌∙◌, subst, List, [], ◌∷◌, ◌++◌, length, take, min, get_or}
+use Rattle.std.specs.Prelude.{slice_set}
+use Rattle.std.proofs.lemmas.List.{take_more, take_more_set, length-take}
+use Rattle.qsbr.specs.declared.config.Config.{Config}
+use Rattle.qsbr.specs.Limits.{IsConfig}
+use Rattle.qsbr.specs.Registry.{Registry}
+use Rattle.fib_model.specs.declared.command.Command.{Command}
+use Rattle.fib_model.specs.declared.command.Outcome.{Outcome}
+use Rattle.fib_model.specs.declared.event.Event.{Event}
+use Rattle.fib_model.specs.State.{State, Keeping}
+use Rattle.fib_model.specs.Outcomes.{Log, Runs, logged}
+use Rattle.fib_model.specs.Counting.{counting, opened}
+use Rattle.fib_model.specs.Textbook.{textbook, beginning}
+use Rattle.fib_model.specs.Laws.{Agrees}
+use Rattle.fib_model.proofs.Followed.{counters_tell_intervals}
+
+module _ (f s : ℕ) where
+  -- one more command and its outcome
+  pub logged_more : (log : Log f s) (cs : List (Command f s)) (os : List Outcome) (c : Command f s) (o : Outcome) → length cs ≡ length os
+      → logged log (cs ++ c ∷ []) (os ++ o ∷ []) ≡ (c, o) ∷ logged log cs os
+  logged_more log [] [] c o e = refl
+  logged_more log [] (x ∷ os) c o e = absurd (omega (arith, e))
+  logged_more log (y ∷ cs) [] c o e = absurd (omega (arith, e))
+  logged_more log (y ∷ cs) (x ∷ os) c o e = logged_more ((y, x) ∷ log) cs os c o (omega (arith, e))
+
+  -- what was logged before stays below
+  logged_on : (log older : Log f s) (cs : List (Command f s)) (os : List Outcome) → logged (log ++ older) cs os ≡ logged log cs os ++ older
+  logged_on log older [] os = refl
+  logged_on log older (c ∷ cs) [] = refl
+  logged_on log older (c ∷ cs) (o ∷ os) = logged_on ((c, o) ∷ log) older cs os
+
+  runs_on : (c : Config) (x y z : State Registry) (log older : Log f s) → Runs counting f s c x older y → Runs counting f s c y log z → Runs counting f s c x (log ++ older) z
+  runs_on c x y z [] older before r = subst (λ w. Runs counting f s c x older w) (sym r) before
+  runs_on c x y z (done ∷ log) older before r = (r.0, runs_on c x y r.0 log older before r.1, r.2)
+
+  -- a run after another, told by reader intervals
+  pub told : (c : Config) (y z : State Registry) (older : Log f s) (cs : List (Command f s)) (os : List Outcome) → IsConfig c → Runs counting f s c (opened c) older y → Runs counting f s c y (logged [] cs os) z
+      → (w : State (List Event)) × Runs (textbook c) f s c beginning (logged older cs os) w × Agrees c z w
+  told c y z older cs os limits before r =
+      counters_tell_intervals f s c (logged older cs os) z limits
+      (subst (λ l. Runs counting f s c (opened c) l z) (sym (logged_on [] older cs os)) (runs_on c (opened c) y z (logged [] cs os) older before r))
+
+  -- the log when one more command of a list is done
+  pub log_next : (cs : List (Command f s)) (os : List Outcome) (i : ℕ) (c : Command f s) (o : Outcome) → i < length cs → c ≡ get_or cs i c → length os ≡ length cs
+      → logged [] (take (i + 1) cs) (take (i + 1) (slice_set os i o)) ≡ (c, o) ∷ logged [] (take i cs) (take i os)
+  log_next cs os i c o low read room =
+      let here : i < length os = omega (arith, low, room) in
+      ap (λ xs. logged [] xs (take (i + 1) (slice_set os i o))) (take_more cs i c low ∙ ap (λ (x : Command f s). take i cs ++ x ∷ []) (sym read))
+      ∙ ap (λ ys. logged [] (take i cs ++ c ∷ []) ys) (take_more_set os i o here)
+      ∙ logged_more [] (take i cs) (take i os) c o (length-take i cs ∙ ap (min i) (sym room) ∙ sym (length-take i os))

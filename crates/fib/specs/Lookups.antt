@@ -1,0 +1,9 @@
+-- Lookups of several addresses at once (DPDK Programmer's Guide, "LPM Library": a lookup of four addresses
+-- answers a default value where there is no match).
+use Rattle.std.specs.Prelude.{ℕ, ◌≡◌, Option, Some, None, MatchOption}
+use Rattle.lpm_rules.specs.RuleMap.{RuleMap}
+use Rattle.lpm_rules.specs.Longest.{IsLongestHop}
+
+-- the next hop of the longest rule that covers the address; the default where no rule does
+abbrev pub IsHopOrDefault : ℕ → RuleMap → ℕ → ℕ → ℕ → Type 0
+IsHopOrDefault width R default a h = (x : Option ℕ) × IsLongestHop width R a x × MatchOption x (h ≡ default) (λ hop. h ≡ hop)
