@@ -175,7 +175,7 @@ may c s E ps kinds.Online w tells low =
 may c s E ps kinds.Offline w tells low = online c s.readers E w tells.0 low
 may c s E ps kinds.Quiescent w tells low = online c s.readers E w tells.0 low
 
-fresh : (c : Config) (s : State (List Event)) (report : Report) (w : ℕ) → MayReport (textbook c) s report w → report ≡ kinds.Online → (start : ℕ) → IsRunningSince s.readers w start → ⊥
+pub fresh : (c : Config) (s : State (List Event)) (report : Report) (w : ℕ) → MayReport (textbook c) s report w → report ≡ kinds.Online → (start : ℕ) → IsRunningSince s.readers w start → ⊥
 fresh c s kinds.Online w may is start r = may (start, r)
 fresh c s kinds.Offline w may is start r = cc
 fresh c s kinds.Quiescent w may is start r = cc

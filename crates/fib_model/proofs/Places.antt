@@ -81,13 +81,13 @@ since_cases e E w s r = elim (cases_eq s (length E)) [
 
 -- ---- unlinkings counted
 
-abbrev one_below : ℕ → ℕ → ℕ
+abbrev pub one_below : ℕ → ℕ → ℕ
 one_below l n = cond (nat_lt l n) 1 0
 
-below_yes : (l n : ℕ) → l < n → one_below l n ≡ 1
+pub below_yes : (l n : ℕ) → l < n → one_below l n ≡ 1
 below_yes l n h = ap (λ b. cond b 1 0) (lt-ltb l n h)
 
-below_no : (l n : ℕ) → n ≤ l → one_below l n ≡ 0
+pub below_no : (l n : ℕ) → n ≤ l → one_below l n ≡ 0
 below_no l n h = ap (λ b. cond b 1 0) (le-ltb l n h)
 
 below_mono : (l m n : ℕ) → m ≤ n → one_below l m ≤ one_below l n

@@ -4,7 +4,13 @@
 
 mod command;
 mod event;
+mod intervals;
 pub mod laws;
+mod outcomes;
+mod plain;
+mod waiting;
 
 pub use command::{Command, Misreport, Outcome, Report};
 pub use event::Event;
+pub use outcomes::expected;
+pub use plain::Account;
