@@ -14,3 +14,6 @@ pub use command::{Command, Misreport, Outcome, Report};
 pub use event::Event;
 pub use outcomes::expected;
 pub use plain::Account;
+
+#[cfg(test)]
+mod tests;
