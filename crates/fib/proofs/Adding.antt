@@ -1,10 +1,8 @@
 -- A rule is added.
-use Rattle.std.proofs.Common.{arith, ◌≡◌, ◌≢◌, ℕ, zero, suc, ◌+◌, ◌-◌, ◌*◌, ◌/◌, ◌^◌, ◌<◌, ◌≤◌, ◌⊎◌, inl, inr, refl, ap, sym, ◌∙◌, subst, List, [], ◌∷◌, length, Option, Some, None, Bool, true, false, cond}
-use Rattle.std.specs.Prelude.{IsSome, IsSomeAnd, IsTrue, MatchOption, Ok, Err, Result, slice_get, ◌↔◌}
+use Rattle.std.proofs.Common.{arith, ◌≡◌, ◌≢◌, ℕ, ◌+◌, ◌/◌, ◌^◌, ◌<◌, ◌≤◌, ◌⊎◌, inl, inr, refl, ap, sym, ◌∙◌, List, ◌∷◌, Option, Some, None, Bool, true, false, cond}
+use Rattle.std.specs.Prelude.{IsSome, IsSomeAnd, MatchOption, Ok, Result}
 use Rattle.std.specs.FinMap.{get, insert, len}
 use Rattle.std.specs.FinSet as set
-use Rattle.std.specs.FinSet.{FinSet}
-use Rattle.std.specs.Ordering.{nat_cmp}
 use Rattle.std.specs.Cmp.{nat_cmp_total}
 use Rattle.std.proofs.lemmas.Bool.{cases_eq, cases_lt}
 use Rattle.std.proofs.lemmas.List.{length-map}
@@ -20,7 +18,6 @@ use Rattle.lpm_rules.proofs.Changes.{not_some}
 use Rattle.lpm_rules.proofs.Deep.{has_deep_blocks}
 use Rattle.lpm_rules.proofs.DeepChanges.{put_brings_block}
 use Rattle.lpm_update.specs.Linked.{group_at}
-use Rattle.qsbr.specs.declared.Busy.{Busy}
 use Rattle.qsbr.specs.Registry.{Registry}
 use Rattle.qsbr.specs.declared.config.Config.{Config}
 use Rattle.fib_model.specs.State.{State, IsUnheld, HasTokens}

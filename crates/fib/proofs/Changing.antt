@@ -1,6 +1,6 @@
 -- The groups of the blocks, while groups are taken and retired.
-use Rattle.std.proofs.Common.{arith, ◌≡◌, ◌≢◌, ℕ, zero, suc, ◌+◌, ◌-◌, ◌*◌, ◌/◌, ◌^◌, ◌<◌, ◌≤◌, ◌⊎◌, inl, inr, refl, ap, sym, ◌∙◌, subst, List, [], ◌∷◌, ◌++◌, length, Option, Some, None, Bool, true, false}
-use Rattle.std.specs.Prelude.{slice_get, slice_index, slice_set, ◌↔◌, ◌==◌, if◌then◌else◌}
+use Rattle.std.proofs.Common.{arith, ◌≡◌, ◌≢◌, ℕ, zero, suc, ◌+◌, ◌*◌, ◌^◌, ◌<◌, ◌≤◌, inl, inr, refl, ap, sym, ◌∙◌, subst, List, [], ◌∷◌, ◌++◌, length, Option, Some, None, Bool, true, false}
+use Rattle.std.specs.Prelude.{slice_get, slice_index, ◌↔◌, ◌==◌, if◌then◌else◌}
 use Rattle.std.proofs.lemmas.Bool.{cases_eq, cases_lt, eq-eqb, ne_eqb}
 use Rattle.std.proofs.lemmas.List.{get_or_past}
 use Rattle.std.proofs.lemmas.Option.{slice_get_within}
@@ -10,7 +10,7 @@ use Rattle.lpm_entry.specs.Words.{entry_in}
 use Rattle.lpm_entry.proofs.Reading.{entry_in_zero}
 use Rattle.lpm_cells.specs.Table.{Words, IsWords}
 use Rattle.lpm_groups.specs.declared.GroupState.{GroupState}
-use Rattle.lpm_groups.specs.declared.GroupState.TheVariants.{Free, Linked, Limbo}
+use Rattle.lpm_groups.specs.declared.GroupState.TheVariants.{Linked}
 use Rattle.lpm_groups.specs.States.{IsLinkedTo, is_linked, linked_count}
 use Rattle.lpm_groups.proofs.Tallies.{counts-total, count_by-some}
 use Rattle.lpm_update.specs.Linked.{IsTable, group_in, group_at}

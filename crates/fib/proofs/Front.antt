@@ -1,12 +1,12 @@
 -- A reclaim of a queue, by what it does to the groups and to the tokens.
-use Rattle.std.proofs.Common.{arith, ◌≡◌, ◌≢◌, ℕ, zero, suc, ◌+◌, ◌<◌, ◌≤◌, ◌⊎◌, inl, inr, refl, ap, sym, ◌∙◌, subst, List, [], ◌∷◌, length, take, drop, map, ◌++◌, Option, Some, None}
-use Rattle.std.specs.Prelude.{slice_get, slice_set, slice_index, All, Result, Ok, Err, IsSomeAnd, MatchOption}
+use Rattle.std.proofs.Common.{arith, ◌≡◌, ◌≢◌, ℕ, zero, suc, ◌<◌, ◌≤◌, ◌⊎◌, inl, inr, refl, ap, sym, ◌∙◌, subst, List, [], ◌∷◌, length, take, drop, ◌++◌, Option, Some, None}
+use Rattle.std.specs.Prelude.{slice_get, slice_set, All, Result, Ok, Err, IsSomeAnd, MatchOption}
 use Rattle.std.proofs.lemmas.List.{take-map, drop-map, length-map}
 use Rattle.std.proofs.lemmas.List.Elements.{All-nil, All-cons, All-head, All-tail, All-map}
 use Rattle.lpm_groups.specs.declared.GroupState.TheVariants.{Free}
 use Rattle.qsbr.specs.declared.Busy.{Busy}
 use Rattle.qsbr.specs.Registry.{Registry}
-use Rattle.qsbr.specs.Counters.{IsChecked, Passes, IsPast, IsFirstHolding}
+use Rattle.qsbr.specs.Counters.{IsChecked, Passes}
 use Rattle.defer_queue.specs.Reclaims.{FreesFront, Ends, Reclaims as QueueReclaims}
 use Rattle.defer_queue.specs.Longest.{TakesLongest}
 use Rattle.defer_queue.proofs.Longest.{Reclaims-longest}

@@ -1,5 +1,5 @@
 -- Logs that grow.
-use Rattle.std.proofs.Common.{arith, ◌≡◌, ℕ, zero, suc, ◌+◌, ◌<◌, refl, ap, sym, ◌∙◌, subst, List, [], ◌∷◌, ◌++◌, length, take, min, get_or}
+use Rattle.std.proofs.Common.{arith, ◌≡◌, ℕ, ◌+◌, ◌<◌, refl, ap, sym, ◌∙◌, subst, List, [], ◌∷◌, ◌++◌, length, take, min, get_or}
 use Rattle.std.specs.Prelude.{slice_set}
 use Rattle.std.proofs.lemmas.List.{take_more, take_more_set, length-take}
 use Rattle.qsbr.specs.declared.config.Config.{Config}
@@ -8,7 +8,7 @@ use Rattle.qsbr.specs.Registry.{Registry}
 use Rattle.fib_model.specs.declared.command.Command.{Command}
 use Rattle.fib_model.specs.declared.command.Outcome.{Outcome}
 use Rattle.fib_model.specs.declared.event.Event.{Event}
-use Rattle.fib_model.specs.State.{State, Keeping}
+use Rattle.fib_model.specs.State.{State}
 use Rattle.fib_model.specs.Outcomes.{Log, Runs, logged}
 use Rattle.fib_model.specs.Counting.{counting, opened}
 use Rattle.fib_model.specs.Textbook.{textbook, beginning}

@@ -1,16 +1,15 @@
 -- What the parts of a table keep, before and after its calls.
-use Rattle.std.proofs.Common.{arith, ◌≡◌, ◌≢◌, ℕ, zero, suc, ◌+◌, ◌-◌, ◌*◌, ◌/◌, ◌^◌, ◌<◌, ◌≤◌, ◌⊎◌, inl, inr, refl, ap, sym, ◌∙◌, subst, List, [], ◌∷◌, length, replicate, drop, Option, Some, None, Bool, true, false}
-use Rattle.std.specs.Prelude.{IsSome, IsTrue, ◌↔◌}
+use Rattle.std.proofs.Common.{arith, ◌≡◌, ℕ, zero, suc, ◌+◌, ◌*◌, ◌^◌, ◌<◌, ◌≤◌, inl, inr, refl, ap, sym, ◌∙◌, subst, List, [], length, replicate, drop, Bool, false}
+use Rattle.std.specs.Prelude.{IsTrue, ◌↔◌}
 use Rattle.std.specs.FinMap.{empty}
 use Rattle.std.proofs.lemmas.Bool.{cases_lt}
-use Rattle.std.proofs.lemmas.List.{length-replicate, length-map}
-use Rattle.lpm_bits.specs.Network.{Network}
+use Rattle.std.proofs.lemmas.List.{length-replicate}
 use Rattle.lpm_cells.specs.Table.{Words}
 use Rattle.lpm_groups.specs.declared.GroupState.{GroupState}
 use Rattle.lpm_groups.specs.declared.GroupState.TheVariants.{Free}
-use Rattle.lpm_groups.specs.States.{IsLinkedTo, linked_count, limbo_count, free_count}
+use Rattle.lpm_groups.specs.States.{linked_count, free_count}
 use Rattle.lpm_groups.proofs.Tallies.{limbo_count-replicate}
-use Rattle.lpm_rules.specs.RuleMap.{RuleMap, RuleList, network_cmp}
+use Rattle.lpm_rules.specs.RuleMap.{RuleList, network_cmp}
 use Rattle.lpm_update.specs.Linked.{group_at}
 use Rattle.lpm_update.specs.Leads.{IsAnswering}
 use Rattle.lpm_update.specs.Tied.{IsTied}

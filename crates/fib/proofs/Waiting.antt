@@ -1,11 +1,11 @@
 -- Groups that wait in limbo, and are freed.
-use Rattle.std.proofs.Common.{arith, ◌≡◌, ◌≢◌, ℕ, zero, suc, ◌+◌, ◌<◌, ◌≤◌, ◌⊎◌, inl, inr, refl, ap, sym, ◌∙◌, subst, List, [], ◌∷◌, length, length-append, length-drop, drop, ◌++◌, Option, Some, None}
+use Rattle.std.proofs.Common.{arith, ◌≡◌, ◌≢◌, ℕ, zero, suc, ◌+◌, ◌<◌, ◌≤◌, inl, inr, refl, ap, sym, ◌∙◌, List, [], ◌∷◌, length, length-append, length-drop, drop, ◌++◌, Option, Some}
 use Rattle.std.specs.Prelude.{slice_get, slice_set, ◌↔◌}
 use Rattle.std.proofs.lemmas.Bool.{cases_eq}
 use Rattle.std.proofs.Math.ListN.{length-set}
 use Rattle.lpm_groups.specs.declared.GroupState.{GroupState}
 use Rattle.lpm_groups.specs.declared.GroupState.TheVariants.{Free, Linked, Limbo}
-use Rattle.lpm_groups.specs.States.{IsLinkedTo, IsLimboAt, IsFreeAt, is_free, is_linked, linked_count, limbo_count, free_count}
+use Rattle.lpm_groups.specs.States.{IsLinkedTo, IsLimboAt, IsFreeAt, is_free, is_linked, free_count}
 use Rattle.lpm_groups.proofs.Writes.{slice_get-set_same, slice_get-set_other}
 use Rattle.lpm_groups.proofs.Tallies.{Releases-set, Retires-set, Takes-set, counts-total, count_by-some}
 use Rattle.std.proofs.lemmas.Option.{slice_get_within}

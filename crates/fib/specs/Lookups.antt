@@ -1,6 +1,6 @@
 -- Lookups of several addresses at once (DPDK Programmer's Guide, "LPM Library": a lookup of four addresses
 -- answers a default value where there is no match).
-use Rattle.std.specs.Prelude.{ℕ, ◌≡◌, Option, Some, None, MatchOption}
+use Rattle.std.specs.Prelude.{ℕ, ◌≡◌, Option, MatchOption}
 use Rattle.lpm_rules.specs.RuleMap.{RuleMap}
 use Rattle.lpm_rules.specs.Longest.{IsLongestHop}
 

@@ -101,7 +101,8 @@ impl<const FIRST: u32, const SECOND: u32> Fib<FIRST, SECOND> {
 
     /// The token number: the first token and, for each unlinking, one more.
     pub fn token(&self) -> u64
-        ensures { result ≡ self.now.table.readers.token }
+        ensures value { result ≡ self.now.table.readers.token }
+        ensures within { result ≤ 2 ^ 62 }
     {
         self.pool.keeper.domain.token()
     }
@@ -164,7 +165,7 @@ impl<const FIRST: u32, const SECOND: u32> Fib<FIRST, SECOND> {
         ensures { IsTrue result ↔ IsExhausted counting self.now.config self.now.table }
     {
         let groups = self.pool.keeper.groups.len() as u64;
-        self.pool.keeper.domain.token() + groups > LAST_TOKEN || self.versions >= MOST_UPDATES
+        self.token() + groups > LAST_TOKEN || self.versions() >= MOST_UPDATES
     }
 
     /// Puts a rule in.

@@ -8,6 +8,8 @@ mod keeper;
 mod open_error;
 mod pool;
 mod running;
+#[cfg(test)]
+mod tests;
 
 pub use fib::Fib;
 use keeper::Keeper;

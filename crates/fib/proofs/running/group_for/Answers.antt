@@ -1,11 +1,8 @@
-use Rattle.std.proofs.Common.{arith, refl, ap, sym, ◌∙◌, subst, ◌≡◌, ℕ, ◌+◌, ◌*◌, ◌/◌, ◌^◌, ◌<◌, List, length, Option, Some, None, true, false, inr}
+use Rattle.std.proofs.Common.{arith, ap, ◌∙◌, subst, ◌≡◌, ◌/◌, ◌^◌, None}
 use Rattle.std.specs.Prelude.{slice_index}
 use Rattle.std.proofs.lemmas.Nat.{shr_below}
-use Rattle.lpm_entry.specs.declared.Entry.TheVariants.{Group}
 use Rattle.lpm_entry.specs.Words.{entry_in}
 use Rattle.lpm_update.specs.Linked.{group_at}
-use Rattle.lpm_update.specs.Tied.{IsTied}
-use Rattle.lpm_update.specs.Leads.{held_with}
 use Rattle.lpm_update.proofs.Taking.{shallow, no_group_at}
 use Rattle.fib.specs.Waiting.{IsTaken}
 use Rattle.fib.proofs.Changing.{tied_took, fresh_taken}

@@ -1,10 +1,7 @@
-use Rattle.std.proofs.Common.{arith, refl, ap, sym, ◌∙◌, subst, ◌≡◌, ℕ, suc, ◌+◌, ◌-◌, ◌*◌, ◌^◌, ◌<◌, ◌≤◌, List, length}
+use Rattle.std.proofs.Common.{arith, ap, sym, ◌∙◌, subst, ◌≡◌, suc, ◌+◌, ◌-◌}
 use Rattle.lpm_groups.specs.States.{linked_count}
-use Rattle.lpm_groups.proofs.Writes.{IsLinkedAt-from_block}
 use Rattle.lpm_cells.specs.Table.{entry_at}
 use Rattle.lpm_update.specs.Linked.{group_at}
-use Rattle.lpm_update.specs.Update.{group_held}
-use Rattle.lpm_update.specs.Tied.{IsTied}
 use Rattle.lpm_update.proofs.Allowing.{may_first, may_second, may_unlink}
 use Rattle.lpm_update.proofs.Groups.{match_elim}
 use Rattle.lpm_update.proofs.Ties.{tied_same, given_linked}

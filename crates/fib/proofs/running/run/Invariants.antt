@@ -1,4 +1,4 @@
-use Rattle.std.proofs.Common.{◌≡◌, ℕ, ◌+◌, ◌-◌, ◌*◌, ◌^◌, ◌≤◌, length}
+use Rattle.std.proofs.Common.{◌≡◌, ◌+◌, ◌-◌, ◌*◌, ◌^◌, ◌≤◌, length}
 use Rattle.lpm_groups.specs.States.{linked_count}
 use Rattle.lpm_cells.specs.Table.{entry_at}
 use Rattle.lpm_update.specs.Linked.{IsTable, group_at}

@@ -1,4 +1,4 @@
-use Rattle.std.proofs.Common.{arith, ap, sym, subst, ◌∙◌, ◌+◌, ◌-◌, ◌/◌, ◌^◌, ◌≡◌, ◌<◌, ◌≤◌, ℕ, lit<, refl, Ok, Err, Some, inl, inr}
+use Rattle.std.proofs.Common.{arith, ap, sym, subst, ◌∙◌, ◌+◌, ◌-◌, ◌/◌, ◌^◌, ◌≡◌, ◌<◌, lit<, refl, Ok, Err, inl}
 use Rattle.std.specs.FinMap as map
 use Rattle.std.proofs.lemmas.Nat.{shr_below}
 use Rattle.lpm_rules.specs.RuleMap.{RuleList}
@@ -16,7 +16,7 @@ use Rattle.qsbr.specs.declared.refusal.Refusal.TheVariants.{NoGroups}
 use Rattle.fib_model.specs.State.{State, HasTokens}
 use Rattle.fib_model.specs.Counting.{counting}
 use Rattle.fib_model.specs.Reclaiming.{Unlinks}
-use Rattle.fib_model.specs.Outcomes.{Adds, groups_in_use}
+use Rattle.fib_model.specs.Outcomes.{Adds}
 use Rattle.fib.specs.declared.pool.Pool.{Pool}
 use Rattle.fib.specs.Waiting.{tokens_of}
 use Rattle.fib.specs.Standing.{FibState, table_of}

@@ -1,15 +1,13 @@
-use Rattle.std.proofs.Common.{arith, ap, sym, subst, ◌∙◌, ◌+◌, ◌-◌, ◌/◌, ◌^◌, ◌≡◌, ◌<◌, ◌≤◌, ℕ, lit<, refl, Ok, Err, Some}
+use Rattle.std.proofs.Common.{arith, ap, sym, subst, ◌∙◌, ◌+◌, ◌-◌, ◌≡◌, lit<, refl, Ok}
 use Rattle.std.specs.Prelude.{IsSome}
 use Rattle.std.specs.FinMap as map
 use Rattle.lpm_rules.specs.RuleMap.{RuleList}
 use Rattle.lpm_rules.proofs.Changes.{networks_remove}
-use Rattle.lpm_cells.specs.Table.{Words}
 use Rattle.lpm_groups.specs.States.{linked_count}
 use Rattle.lpm_update.specs.Linked.{group_at}
 use Rattle.lpm_update.specs.Leads.{IsAnswering, LastFits}
 use Rattle.lpm_update.proofs.Resting.{tied_held}
-use Rattle.qsbr.specs.Registry.{Registry}
-use Rattle.fib_model.specs.State.{State, HasTokens}
+use Rattle.fib_model.specs.State.{HasTokens}
 use Rattle.fib_model.specs.Counting.{counting}
 use Rattle.fib_model.specs.Reclaiming.{Unlinks}
 use Rattle.fib_model.specs.Outcomes.{Deletes, groups_in_use}

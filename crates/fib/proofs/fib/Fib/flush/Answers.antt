@@ -1,4 +1,4 @@
-use Rattle.std.proofs.Common.{arith, ap, sym, subst, ◌∙◌, ◌+◌, ◌-◌, ◌/◌, ◌^◌, ◌≡◌, ◌<◌, ◌≤◌, ℕ, lit<, refl, Ok, Err, Some}
+use Rattle.std.proofs.Common.{arith, ap, sym, subst, ◌∙◌, ◌+◌, ◌-◌, ◌≡◌, ℕ, lit<, refl, Ok}
 use Rattle.std.specs.FinMap as map
 use Rattle.std.specs.FinMap.{empty, len}
 use Rattle.lpm_rules.specs.RuleMap.{RuleMap, RuleList}
@@ -7,7 +7,7 @@ use Rattle.lpm_groups.specs.States.{linked_count}
 use Rattle.lpm_update.specs.Linked.{group_at}
 use Rattle.lpm_update.specs.Leads.{IsAnswering}
 use Rattle.lpm_update.proofs.Resting.{tied_held}
-use Rattle.fib_model.specs.State.{State, HasTokens}
+use Rattle.fib_model.specs.State.{HasTokens}
 use Rattle.fib_model.specs.Counting.{counting}
 use Rattle.fib_model.specs.Reclaiming.{Unlinks}
 use Rattle.fib_model.specs.Outcomes.{Flushes, groups_in_use}

@@ -1,4 +1,3 @@
-use Rattle.std.proofs.Common.{sym, subst}
 use Rattle.fib.proofs.Front.{tokens_within}
 use Rattle.fib.proofs.Standing.{standing_reclaimed}
 use Rattle.fib.proofs.fib.Fib.reclaim.Goals as goal

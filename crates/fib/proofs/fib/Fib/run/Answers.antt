@@ -1,4 +1,4 @@
-use Rattle.std.proofs.Common.{arith, ap, sym, subst, ◌∙◌, ◌+◌, ◌++◌, ◌∷◌, [], take, length}
+use Rattle.std.proofs.Common.{arith, sym, subst, ◌∙◌, [], take}
 use Rattle.std.proofs.lemmas.List.{take_all}
 use Rattle.std.proofs.Math.ListN.{length-set}
 use Rattle.qsbr.specs.declared.config.Config.{Config}

@@ -1,4 +1,4 @@
-use Rattle.std.proofs.Common.{refl, sym, ap, subst, ◌∙◌, drop}
+use Rattle.std.proofs.Common.{refl, sym, subst}
 use Rattle.defer_queue.specs.Limbo.{Limbo}
 use Rattle.fib_model.specs.Reclaiming.{Reclaims}
 use Rattle.fib_model.specs.Counting.{counting}

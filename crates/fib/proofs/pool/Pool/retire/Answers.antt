@@ -1,5 +1,4 @@
-use Rattle.std.proofs.Common.{arith, refl, sym, ap, subst, ◌∙◌, ◌≡◌, ◌<◌, ◌+◌, ◌++◌, ◌∷◌, ℕ, [], List, drop, length, slice_set}
-use Rattle.lpm_groups.specs.declared.GroupState.{GroupState}
+use Rattle.std.proofs.Common.{arith, sym, ap, subst, ◌∙◌, ◌<◌, ◌++◌, ◌∷◌, [], length}
 use Rattle.lpm_groups.specs.declared.GroupState.TheVariants.{Limbo}
 use Rattle.lpm_groups.proofs.Tallies.{Retires-set}
 use Rattle.qsbr.specs.Registry.{Registry}

@@ -1,5 +1,4 @@
-use Rattle.std.proofs.Common.{arith, refl, sym, ap, subst, ◌∙◌, ◌≡◌, ◌≢◌, ◌+◌, ◌∷◌, ℕ, [], List, drop, length, slice_set}
-use Rattle.lpm_groups.specs.declared.GroupState.TheVariants.{Linked}
+use Rattle.std.proofs.Common.{arith, refl, sym, subst, ◌≢◌}
 use Rattle.defer_queue.specs.Limbo.{Limbo as Queue}
 use Rattle.fib.specs.Waiting.{AreWaiting, IsQueued, IsFreed, IsTaken, tokens_of}
 use Rattle.fib.proofs.Waiting.{taken_from, taken_queue, taken_after, freed_queue, still_free}
