@@ -1,0 +1,64 @@
+//! `fib_bench`: how fast the table looks up and changes, beside a plain loop over words of the same size.
+#![tactic(auto)]
+
+mod changes;
+mod lookups;
+mod report;
+mod routes;
+mod words;
+
+use anyhow::Result;
+use std::env;
+use std::process::ExitCode;
+
+const USAGE: &str = "usage: fib_bench run [ROUTES]
+
+Makes a table of ROUTES random routes, 1 to 1000000, by default 100000, and prints how long lookups and
+changes take.
+";
+
+/// How many routes the table has where the command line doesn't say.
+const ROUTES: usize = 100_000;
+/// The greatest number of routes, which needs fewer groups than there are.
+const MOST_ROUTES: usize = 1_000_000;
+
+/// The exit status for a command line that isn't accepted.
+const REFUSED: u8 = 2;
+
+fn main(rt: HostRuntime) -> Result<ExitCode> {
+    let mut words = Vec::new(rt.alloc());
+    for word in env::args(&rt)? {
+        words.push(word)?;
+    }
+    if words.len() <= 1 {
+        print!(rt; "{USAGE}")?;
+        return Ok(ExitCode::SUCCESS);
+    }
+    match asked(&words[1..]) {
+        Some(count) => {
+            report::run(&rt, count)?;
+            Ok(ExitCode::SUCCESS)
+        }
+        None => {
+            eprint!(rt; "{USAGE}")?;
+            Ok(ExitCode::from(REFUSED))
+        }
+    }
+}
+
+/// The number of routes that the words of the command line, after the program's name, ask for.
+fn asked(words: &[String]) -> Option<usize> {
+    let (command, rest) = words.split_first()?;
+    if command.as_str() != "run" {
+        return None;
+    }
+    match rest {
+        [] => Some(ROUTES),
+        [count] => count
+            .as_str()
+            .parse::<usize>()
+            .ok()
+            .filter(|count| (1..=MOST_ROUTES).contains(count)),
+        _ => None,
+    }
+}

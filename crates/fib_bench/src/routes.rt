@@ -1,0 +1,70 @@
+//! Random routes, the same in each run.
+
+ghost use Rattle.std.specs.Prelude.{◌≤◌};
+
+use anyhow::{Result, ensure};
+use fib::Fib;
+use lpm_bits::{Hop, Prefix};
+use lpm_rules::Put;
+use rand_core::Rng;
+use std::alloc::Global;
+
+/// A prefix and its next hop.
+#[derive(Clone, Copy)]
+pub(crate) struct Route {
+    pub(crate) prefix: Prefix<24, 8>,
+    pub(crate) hop: Hop,
+}
+
+/// How many routes are drawn for each one that is wanted, since a prefix may be drawn twice.
+const DRAWS: usize = 8;
+
+/// Adds that many routes to the table, and answers them in the order in which they were added.
+pub(crate) fn fill<R: Rng>(
+    alloc: Global,
+    table: &mut Fib<24, 8>,
+    random: &mut R,
+    count: usize,
+) -> Result<Vec<Route>> {
+    let mut routes = Vec::new(alloc);
+    for _ in 0..count.saturating_mul(DRAWS) {
+        if routes.len() >= count {
+            break;
+        }
+        let route = draw(random)?;
+        if let Put::Added = table.add(&route.prefix, route.hop)? {
+            routes.push(route)?;
+        }
+    }
+    ensure!(routes.len() == count, "too many prefixes were drawn twice");
+    Ok(routes)
+}
+
+/// A route with any bits and any next hop.
+fn draw<R: Rng>(random: &mut R) -> Result<Route> {
+    let bits = random.next_u32();
+    let len = length(random.next_u32() % 100, random.next_u32());
+    let hop = Hop::new(random.next_u32() % 0x100_0000)?;
+    let prefix = Prefix::new(bits, len)?;
+    Ok(Route { prefix, hop })
+}
+
+/// The length of a prefix that is one of a hundred. It is like that of the routes of the internet: more
+/// than half have 24 bits, few have less than 16, and two in a hundred have more than 24.
+fn length(of_hundred: u32, among: u32) -> u32
+    ensures { result ≤ 32 }
+{
+    match of_hundred {
+        0..=1 => 25 + among % 8,
+        2..=57 => 24,
+        58..=67 => 23,
+        68..=78 => 22,
+        79..=84 => 21,
+        85..=89 => 20,
+        90..=93 => 19,
+        94..=95 => 18,
+        96 => 17,
+        97..=98 => 16,
+        _ => 8 + among % 8,
+    }
+}
