@@ -5,9 +5,14 @@ mod changes;
 mod lookups;
 mod report;
 mod routes;
+#[cfg(test)]
+mod tests;
 mod words;
 
+ghost use Rattle.std.specs.Prelude.{◌≤◌, IfSome};
+
 use anyhow::Result;
+use std::convert::AsStr;
 use std::env;
 use std::process::ExitCode;
 
@@ -47,18 +52,21 @@ fn main(rt: HostRuntime) -> Result<ExitCode> {
 }
 
 /// The number of routes that the words of the command line, after the program's name, ask for.
-fn asked(words: &[String]) -> Option<usize> {
+fn asked<S: AsStr>(words: &[S]) -> Option<usize>
+    ensures least { IfSome result (λ count. 1 ≤ count) }
+    ensures most { IfSome result (λ count. count ≤ 1000000) }
+{
     let (command, rest) = words.split_first()?;
     if command.as_str() != "run" {
         return None;
     }
-    match rest {
-        [] => Some(ROUTES),
-        [count] => count
-            .as_str()
-            .parse::<usize>()
-            .ok()
-            .filter(|count| (1..=MOST_ROUTES).contains(count)),
-        _ => None,
+    let count = match rest {
+        [] => ROUTES,
+        [count] => count.as_str().parse::<usize>().ok()?,
+        _ => return None,
+    };
+    if count == 0 || count > MOST_ROUTES {
+        return None;
     }
+    Some(count)
 }

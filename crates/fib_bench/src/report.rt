@@ -1,5 +1,7 @@
 //! The whole run, and what it prints.
 
+ghost use Rattle.qsbr.specs.Limits.{IsConfig};
+
 use crate::changes::{add_all, delete_all};
 use crate::lookups::{Addresses, Compared, compare};
 use crate::routes::{Route, fill};
@@ -46,7 +48,10 @@ pub(crate) fn run<R: Clock + Print + AllocGlobal>(rt: &R, count: usize) -> Resul
     print_changes(rt, &mut table, routes.as_slice())
 }
 
-fn limits() -> Config {
+/// The limits of the table: as many rules and groups as there can be.
+fn limits() -> Config
+    ensures { IsConfig result }
+{
     Config {
         rules: 1 << 24,
         groups: 1 << 16,
@@ -57,6 +62,7 @@ fn limits() -> Config {
     }
 }
 
+/// Prints what the table took beside the plain words, each lookup in nanoseconds.
 fn print_lookups<R: Print>(
     rt: &R,
     order: &str,
@@ -102,7 +108,7 @@ fn print_changes<R: Clock + Print>(rt: &R, table: &mut Fib<24, 8>, routes: &[Rou
 
 /// A number of hundredths, which is printed with two decimals.
 #[derive(Clone, Copy)]
-struct Hundredths(u64);
+pub(crate) struct Hundredths(pub(crate) u64);
 
 impl fmt::Display for Hundredths {
     fn fmt<W: fmt::Write>(&self, f: &mut fmt::Formatter<W>) -> fmt::Result {
@@ -117,6 +123,7 @@ fn hundredths_of_nanos(time: Duration, count: usize) -> u64 {
     nanos(time).saturating_mul(100) / (count as u64).max(1)
 }
 
+/// The time's milliseconds, in hundredths.
 fn hundredths_of_millis(time: Duration) -> u64 {
     nanos(time) / 10_000
 }

@@ -1,6 +1,6 @@
 //! Random routes, the same in each run.
 
-ghost use Rattle.std.specs.Prelude.{◌≤◌};
+ghost use Rattle.std.specs.Prelude.{◌≡◌, ◌≤◌, IfOk, vec_len};
 
 use anyhow::{Result, ensure};
 use fib::Fib;
@@ -25,7 +25,9 @@ pub(crate) fn fill<R: Rng>(
     table: &mut Fib<24, 8>,
     random: &mut R,
     count: usize,
-) -> Result<Vec<Route>> {
+) -> Result<Vec<Route>>
+    ensures { IfOk result (λ routes. vec_len routes ≡ count) }
+{
     let mut routes = Vec::new(alloc);
     for _ in 0..count.saturating_mul(DRAWS) {
         if routes.len() >= count {
@@ -51,7 +53,7 @@ fn draw<R: Rng>(random: &mut R) -> Result<Route> {
 
 /// The length of a prefix that is one of a hundred. It is like that of the routes of the internet: more
 /// than half have 24 bits, few have less than 16, and two in a hundred have more than 24.
-fn length(of_hundred: u32, among: u32) -> u32
+pub(crate) fn length(of_hundred: u32, among: u32) -> u32
     ensures { result ≤ 32 }
 {
     match of_hundred {
