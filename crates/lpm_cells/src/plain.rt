@@ -1,13 +1,13 @@
 //! The words in two vectors, for one thread.
 
-ghost use Rattle.std.specs.Prelude.{◌≡◌, ℕ, ◌+◌, ◌*◌, ◌^◌, ◌<◌, ◌≤◌, slice_set, replicate, IfOk};
+ghost use Rattle.std.specs.Prelude.{◌≡◌, ℕ, ◌+◌, ◌*◌, ◌^◌, ◌<◌, ◌≤◌, slice_set, replicate, IfOk, MatchOption};
 ghost use Rattle.lpm_bits.specs.Widths.{IsShape};
-ghost use Rattle.lpm_cells.specs.Table.{Words, IsWords, IsFirstWord, IsSecondWord, entry_at};
-ghost use Rattle.lpm_entry.specs.Words.{hop_in};
+ghost use Rattle.lpm_cells.specs.Table.{Words, IsWords, IsFirstWord, IsSecondWord, IsWord, IsLast, entry_at};
+ghost use Rattle.lpm_entry.specs.Words.{entry_in, hop_in};
+ghost use Rattle.lpm_entry.specs.declared.Entry.TheVariants.{Group};
 
 use super::Cells;
 use lpm_bits::{Hop, Shape};
-use lpm_entry::Entry;
 use std::alloc::{AllocError, Global};
 use std::marker::Model;
 
@@ -59,23 +59,58 @@ impl<const FIRST: u32, const SECOND: u32> PlainCells<FIRST, SECOND> {
         self.groups
     }
 
+    /// The last word that a lookup of the address reads, of one or two.
+    #[inline]
+    fn last_word(&self, addr: u32) -> u64
+        requires { addr < 2 ^ (FIRST + SECOND) }
+        ensures entry { entry_in result ≡ entry_at SECOND self.now.firsts self.now.seconds addr }
+        ensures last { IsSecondWord (FIRST + SECOND) result }
+    {
+        let word = self.first_words[Shape::<FIRST, SECOND>::first_index(addr)];
+        match group_of::<FIRST, SECOND>(word) {
+            Some(group) => {
+                let base = (group as usize) << SECOND;
+                self.second_words[base + Shape::<FIRST, SECOND>::second_index(addr)]
+            }
+            None => word,
+        }
+    }
+
     /// The next hop that the words have for an address, by one read or two; none at a miss.
     #[inline]
     pub fn read(&self, addr: u32) -> Option<Hop>
         requires { addr < 2 ^ (FIRST + SECOND) }
         ensures { result ≡ hop_in (entry_at SECOND self.now.firsts self.now.seconds addr) }
     {
-        let first_words = &self.first_words;
-        let word = first_words[Shape::<FIRST, SECOND>::first_index(addr)];
-        match Entry::of_word(word) {
-            Entry::Group(group) => {
-                let base = (group as usize) << SECOND;
-                let word = self.second_words[base + Shape::<FIRST, SECOND>::second_index(addr)];
-                Entry::of_word(word).hop()
-            }
-            entry => entry.hop(),
-        }
+        hop_of_last::<FIRST, SECOND>(self.last_word(addr))
     }
+}
+
+/// The group of a word that is a group's. Of the words of entries only these have bit 25.
+#[tactic(auto, unfolding(lpm_entry::specs::Words::entry_in))]
+#[inline]
+fn group_of<const FIRST: u32, const SECOND: u32>(word: u64) -> Option<u32>
+    requires { IsWord (FIRST + SECOND) word }
+    ensures { MatchOption result (IsLast (entry_in word)) (λ g. entry_in word ≡ Group g) }
+{
+    if word / 0x200_0000 % 2 == 0 {
+        return None;
+    }
+    Some((word % 0x100_0000) as u32)
+}
+
+/// The next hop of a word at which a lookup ends. Only a miss has the word 0.
+#[tactic(auto, unfolding(lpm_entry::specs::Words::entry_in))]
+#[inline]
+fn hop_of_last<const FIRST: u32, const SECOND: u32>(word: u64) -> Option<Hop>
+    requires { IsSecondWord (FIRST + SECOND) word }
+    ensures { result ≡ hop_in (entry_in word) }
+{
+    if word == 0 {
+        return None;
+    }
+    let number = (word % 0x100_0000) as u32;
+    Some(Hop::new(number).unwrap())
 }
 
 impl<const FIRST: u32, const SECOND: u32> Cells for PlainCells<FIRST, SECOND> {
