@@ -38,6 +38,10 @@ fn report(report: Report, worker: usize) -> Command<24, 8> {
     Command::Report(report, worker)
 }
 
+fn busy(worker: usize, counter: u64) -> Busy {
+    Busy { worker, counter }
+}
+
 fn reclaimed(freed: usize, stopped: Option<Busy>) -> Outcome {
     Outcome::Reclaimed(Reclaimed { freed, stopped })
 }
@@ -147,15 +151,11 @@ fn held_group(rt: HostRuntime) -> Result<(), Fail> {
         report(Report::Quiescent, 0),
         add(&rt, 0x0a00_0100, 25, 2),
     ];
-    let busy = Busy {
-        worker: 0,
-        counter: 1,
-    };
     let outcomes = [
         Outcome::Told,
         ADDED,
         deleted(&rt, 1),
-        no_groups(Some(busy)),
+        no_groups(Some(busy(0, 1))),
         Outcome::Told,
         ADDED,
     ];
@@ -222,21 +222,9 @@ fn two_workers(rt: HostRuntime) -> Result<(), Fail> {
         deleted(&rt, 1),
         Outcome::Told,
         deleted(&rt, 2),
-        reclaimed(
-            0,
-            Some(Busy {
-                worker: 0,
-                counter: 1,
-            }),
-        ),
+        reclaimed(0, Some(busy(0, 1))),
         Outcome::Told,
-        reclaimed(
-            1,
-            Some(Busy {
-                worker: 1,
-                counter: 2,
-            }),
-        ),
+        reclaimed(1, Some(busy(1, 2))),
         Outcome::Told,
         reclaimed(1, None),
     ];
