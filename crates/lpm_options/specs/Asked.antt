@@ -24,6 +24,10 @@ pub record AreLimits (rows : List Row) (limits : Limits) : Type 0 where
   pub rules_range : (1 ≤ limits.rules) × (limits.rules ≤ 16777216)
   pub groups : HasNumber rows (codes "groups") limits.groups
   pub groups_range : (1 ≤ limits.groups) × (limits.groups ≤ 65536)
+  pub threshold : HasNumber rows (codes "threshold") limits.threshold
+  pub threshold_range : limits.threshold ≤ 65536
+  pub reclaim_max : HasNumber rows (codes "max") limits.reclaim_max
+  pub reclaim_max_range : (1 ≤ limits.reclaim_max) × (limits.reclaim_max ≤ 65536)
 
 -- the matches of the command of this name ask for this
 abbrev pub Asks : Text → List Row → CommandLine → Type 0

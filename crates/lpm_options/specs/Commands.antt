@@ -17,9 +17,13 @@ number_rule id default low high = record (new_rule id) {
   parser = Some (parsers.Unsigned low high);
 }
 
+-- the options that say when a change reclaims, and how much
+abbrev pub with_reclaiming : App → App
+with_reclaiming app = with_rule (with_rule app (number_rule (codes "threshold") (codes "32") 0 65536)) (number_rule (codes "max") (codes "16") 1 65536)
+
 -- the options of each command that makes a table
 abbrev pub with_limits : App → App
-with_limits app = with_rule (with_rule app (number_rule (codes "rules") (codes "1048576") 1 16777216)) (number_rule (codes "groups") (codes "256") 1 65536)
+with_limits app = with_reclaiming (with_rule (with_rule app (number_rule (codes "rules") (codes "1048576") 1 16777216)) (number_rule (codes "groups") (codes "256") 1 65536))
 
 abbrev pub lookup_app : App
 lookup_app = with_limits (with_rule (with_rule (new_app (codes "lookup")) (file_rule (codes "ROUTES"))) (file_rule (codes "ADDRESSES")))

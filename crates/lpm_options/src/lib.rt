@@ -3,7 +3,7 @@
 
 ghost use Rattle.std.specs.Prelude.{◌≡◌, IfOk, IfErr, IfSome, map, false, ℕ, ◌≤◌, Some};
 ghost use Rattle.clap.specs.Words.{app_of, rule_of, subcommand_of, fault_of, rows_of, found_of, Kinds, HasKind};
-ghost use Rattle.lpm_options.specs.Commands.{file_rule, number_rule, lookup_app, with_limits, the_app};
+ghost use Rattle.lpm_options.specs.Commands.{file_rule, number_rule, lookup_app, with_limits, with_reclaiming, the_app};
 ghost use Rattle.lpm_options.specs.Asked.{HasNumber, AreLimits, Asks, IsAskedBy, IsRefusalBy};
 
 mod limits;
@@ -23,6 +23,11 @@ const RULES: &str = "The greatest number of rules that the table holds, 1 to 167
 
 const GROUPS: &str =
     "The number of groups, one for each block of 256 addresses with a route longer than 24 bits, 1 to 65536";
+
+const THRESHOLD: &str =
+    "A group that was given up waits in limbo until no reader can hold it. Where more than N wait, a change that gives up one more first frees some of them, 0 to 65536";
+
+const MAX: &str = "The most groups that a change frees so, 1 to 65536";
 
 /// What the words of a command line ask for.
 #[derive(Clone, Copy, Debug)]
@@ -109,7 +114,17 @@ fn with_limits<'a>(alloc: Global, command: Command<'a>) -> Result<Command<'a>, A
 {
     let rules = number(alloc, "rules", "1048576", 1, 16_777_216, RULES);
     let groups = number(alloc, "groups", "256", 1, 65_536, GROUPS);
-    command.arg(rules)?.arg(groups)
+    let command = command.arg(rules)?.arg(groups)?;
+    with_reclaiming(alloc, command)
+}
+
+// The options that say when a change reclaims, and how much.
+fn with_reclaiming<'a>(alloc: Global, command: Command<'a>) -> Result<Command<'a>, AllocError>
+    ensures { IfOk result (λ c. app_of c ≡ with_reclaiming (app_of command.entry)) }
+{
+    let threshold = number(alloc, "threshold", "32", 0, 65_536, THRESHOLD);
+    let max = number(alloc, "max", "16", 1, 65_536, MAX);
+    command.arg(threshold)?.arg(max)
 }
 
 // A file that the command wants, named by its place among the words.
@@ -162,7 +177,14 @@ fn limits_of(found: &ArgMatches<'_>) -> Option<Limits>
 {
     let rules = number_of(found, "rules", 1, 16_777_216)?;
     let groups = number_of(found, "groups", 1, 65_536)?;
-    Some(Limits { rules, groups })
+    let threshold = number_of(found, "threshold", 0, 65_536)?;
+    let reclaim_max = number_of(found, "max", 1, 65_536)?;
+    Some(Limits {
+        rules,
+        groups,
+        threshold,
+        reclaim_max,
+    })
 }
 
 // The number of the option, where it is from low to high.

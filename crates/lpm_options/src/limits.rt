@@ -8,6 +8,13 @@ pub struct Limits {
     pub rules: usize,
     /// The number of groups: 1 to 65,536, by default 256.
     pub groups: usize,
+    /// Where more than so many groups wait in limbo, giving up one more reclaims first: 0 to 65,536, by
+    /// default 32.
+    pub threshold: usize,
+    /// The most groups that such a reclaim frees: 1 to 65,536, by default 16.
+    pub reclaim_max: usize,
     ghost rules_in_range: { (1 ≤ rules) × (rules ≤ 16777216) },
     ghost groups_in_range: { (1 ≤ groups) × (groups ≤ 65536) },
+    ghost threshold_in_range: { threshold ≤ 65536 },
+    ghost reclaim_max_in_range: { (1 ≤ reclaim_max) × (reclaim_max ≤ 65536) },
 }

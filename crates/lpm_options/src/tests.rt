@@ -14,28 +14,63 @@ fn refused_text(rt: &HostRuntime, words: &[&str]) -> Result<(ErrorKind, bool, St
 
 #[test]
 fn lookup_with_its_default_and_each_option(rt: HostRuntime) -> Result<(), Fail> {
-    let cases: [(&[&str], usize, usize); 7] = [
-        (&["lpmtool", "lookup", "r", "a"], 1_048_576, 256),
-        (&["lpmtool", "lookup", "--rules", "1", "r", "a"], 1, 256),
+    let cases: [(&[&str], [usize; 4]); 11] = [
+        (&["lpmtool", "lookup", "r", "a"], [1_048_576, 256, 32, 16]),
+        (
+            &["lpmtool", "lookup", "--rules", "1", "r", "a"],
+            [1, 256, 32, 16],
+        ),
         (
             &["lpmtool", "lookup", "r", "--rules=16777216", "a"],
-            16_777_216,
-            256,
+            [16_777_216, 256, 32, 16],
         ),
-        (&["other", "lookup", "r", "a", "--rules", "7"], 7, 256),
+        (
+            &["other", "lookup", "r", "a", "--rules", "7"],
+            [7, 256, 32, 16],
+        ),
         (
             &["lpmtool", "lookup", "--rules", "7", "--", "r", "a"],
-            7,
-            256,
+            [7, 256, 32, 16],
         ),
-        (&["lpmtool", "lookup", "--rules", "+7", "r", "a"], 7, 256),
+        (
+            &["lpmtool", "lookup", "--rules", "+7", "r", "a"],
+            [7, 256, 32, 16],
+        ),
         (
             &["lpmtool", "lookup", "--groups", "65536", "r", "a"],
-            1_048_576,
-            65_536,
+            [1_048_576, 65_536, 32, 16],
+        ),
+        (
+            &["lpmtool", "lookup", "--threshold", "0", "r", "a"],
+            [1_048_576, 256, 0, 16],
+        ),
+        (
+            &["lpmtool", "lookup", "r", "a", "--threshold=65536"],
+            [1_048_576, 256, 65_536, 16],
+        ),
+        (
+            &["lpmtool", "lookup", "r", "--max", "1", "a"],
+            [1_048_576, 256, 32, 1],
+        ),
+        (
+            &[
+                "lpmtool",
+                "lookup",
+                "--max",
+                "65536",
+                "--threshold",
+                "2",
+                "--groups",
+                "3",
+                "--rules",
+                "4",
+                "r",
+                "a",
+            ],
+            [4, 3, 2, 65_536],
         ),
     ];
-    for (words, rules, groups) in cases {
+    for (words, numbers) in cases {
         let line = options(rt.alloc(), words).map_err(|_| "refused")?;
         let CommandLine::Lookup {
             routes,
@@ -43,14 +78,20 @@ fn lookup_with_its_default_and_each_option(rt: HostRuntime) -> Result<(), Fail> 
             limits,
         } = line;
         assert_eq!(rt; (routes, addresses), ("r", "a"), "{words:?}");
-        assert_eq!(rt; limits, Limits { rules, groups }, "{words:?}");
+        let found = [
+            limits.rules,
+            limits.groups,
+            limits.threshold,
+            limits.reclaim_max,
+        ];
+        assert_eq!(rt; found, numbers, "{words:?}");
     }
     Ok(())
 }
 
 #[test]
 fn refused_words(rt: HostRuntime) -> Result<(), Fail> {
-    let cases: [(&[&str], ErrorKind); 9] = [
+    let cases: [(&[&str], ErrorKind); 12] = [
         (&["lpmtool"], ErrorKind::MissingSubcommand),
         (&["lpmtool", "find", "r", "a"], ErrorKind::InvalidSubcommand),
         (
@@ -78,6 +119,18 @@ fn refused_words(rt: HostRuntime) -> Result<(), Fail> {
             ErrorKind::ValueValidation,
         ),
         (
+            &["lpmtool", "lookup", "r", "a", "--threshold", "65537"],
+            ErrorKind::ValueValidation,
+        ),
+        (
+            &["lpmtool", "lookup", "r", "a", "--max", "0"],
+            ErrorKind::ValueValidation,
+        ),
+        (
+            &["lpmtool", "lookup", "r", "a", "--max", "65537"],
+            ErrorKind::ValueValidation,
+        ),
+        (
             &[
                 "lpmtool", "lookup", "r", "a", "--rules", "7", "--rules", "7",
             ],
@@ -102,6 +155,12 @@ fn help_teaches_the_command(rt: HostRuntime) -> Result<(), Fail> {
         ADDRESSES,
         RULES,
         "[default: 1048576]",
+        GROUPS,
+        "[default: 256]",
+        THRESHOLD,
+        "[default: 32]",
+        MAX,
+        "[default: 16]",
     ] {
         assert!(rt; text.contains(part), "{part} in {text}");
     }
