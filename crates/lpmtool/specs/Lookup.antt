@@ -2,22 +2,25 @@
 -- command line, before any route is loaded; the first fault wins).
 use Rattle.std.specs.Prelude.{ℕ, ◌≡◌, ◌⊎◌, ⊤, List, Option, IfSome}
 use Rattle.std.specs.FinMap.{empty}
+use Rattle.qsbr.specs.Registry.{Registry}
+use Rattle.fib_model.specs.State.{State}
 use Rattle.lpm_options.specs.declared.limits.Limits.{Limits}
 use Rattle.route_text.specs.declared.fault.Fault.{Fault}
 use Rattle.route_text.specs.declared.routes.Route.{Route}
 use Rattle.route_text.specs.Files.{AreRoutes, AreAddresses, IsRoutesFault, IsAddressesFault}
 use Rattle.lpmtool.specs.declared.failure.Failure.{Failure}
 use Rattle.lpmtool.specs.declared.failure.Failure.TheVariants.{CannotRead, CannotWrite, Bad, Memory, Refused}
-use Rattle.lpmtool.specs.Loading.{rules_of, TakesAll, IsFirstRefused}
+use Rattle.lpmtool.specs.Loading.{rules_of, IsLoaded, IsFirstRefused}
 use Rattle.lpmtool.specs.Answers.{IsAnswerText}
 
 -- the text answers the addresses of one file by the routes of the other, none of which is refused
 pub record IsLookupText (limits : Limits) (routes addresses text : List ℕ) : Type 0 where
   pub list : List Route
   pub addrs : List ℕ
+  pub table : State Registry
   pub are_routes : AreRoutes routes list
   pub are_addrs : AreAddresses addresses addrs
-  pub taken : TakesAll limits empty list
+  pub loaded : IsLoaded limits list table
   pub answered : IsAnswerText (rules_of empty list) addrs text
 
 -- the same of the files' bytes, where they are known

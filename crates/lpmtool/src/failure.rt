@@ -26,6 +26,8 @@ pub const REFUSED: u8 = 6;
 pub enum Refusal {
     /// The route's prefix is a new one, and the table holds its greatest number of rules.
     TooManyRules,
+    /// The table has made as many changes as it may.
+    Exhausted,
     /// The route's prefix is a new one that needs a group, and none is free.
     NoGroups,
 }
@@ -34,6 +36,7 @@ impl fmt::Display for Refusal {
     fn fmt<W: fmt::Write>(&self, f: &mut fmt::Formatter<W>) -> fmt::Result {
         f.write_str(match self {
             Refusal::TooManyRules => "3 TooManyRules",
+            Refusal::Exhausted => "6 Exhausted",
             Refusal::NoGroups => "7 NoGroups",
         })
     }

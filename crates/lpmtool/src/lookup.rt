@@ -1,17 +1,18 @@
 //! `lookup`: the next hops of addresses, by routes.
 ghost use Rattle.std.specs.Prelude.{◌≡◌, ◌≢◌, ℕ, ◌<◌, ◌≤◌, List, IfOk, IfErr, IfSome, OnOk, IsErrOf, ◌⊎◌};
-ghost use Rattle.std.specs.FinMap as map;
 ghost use Rattle.route_text.specs.Files.{AreRoutes, AreAddresses, IsRoutesFault, IsAddressesFault};
-ghost use Rattle.lpmtool.specs.Loading.{rules_of, TakesAll};
+ghost use Rattle.fib_model.specs.Counting.{opened};
+ghost use Rattle.lpmtool.specs.Loading.{config_of, IsLoaded};
 ghost use Rattle.lpmtool.specs.Answers.{AreAnswers, IsAnswerText};
 ghost use Rattle.lpmtool.specs.Output.{Writes, WritesBeginning};
 ghost use Rattle.lpmtool.specs.Lookup.{IsTextOf, EndsLookup, EndsReading, EndsLoading};
 
 use crate::failure::{Failure, Refusal};
 use crate::files::{Files, ReadFailure, put_all, read_file};
+use fib::{Fib, OpenError};
 use lpm_bits::Hop;
 use lpm_options::Limits;
-use lpm_table::{AddFault, PlainTable};
+use qsbr::{Config, Refusal as Reason};
 use route_text::{ReadError, Route, answers_text, read_addresses, read_routes};
 use std::alloc::{AllocError, Global};
 use std::io::Write;
@@ -129,24 +130,44 @@ fn load<'a>(
     path: &'a str,
     routes: &[Route],
     limits: Limits,
-) -> Result<PlainTable<24, 8>, Failure<'a>>
-    ensures rules { IfOk result (λ t. t.rules ≡ rules_of map.empty routes.now) }
-    ensures taken { OnOk result (TakesAll limits map.empty routes.now) }
+) -> Result<Fib<24, 8>, Failure<'a>>
+    ensures loaded { IfOk result (λ fib. IsLoaded limits routes.now fib.table) }
     ensures failure { IfErr result (EndsLoading limits path.entry.now routes.now) }
 {
-    let Ok(mut table) = PlainTable::open(alloc, limits.rules, limits.groups) else {
-        return Err(Failure::Memory);
-    };
+    let mut table = open(alloc, limits)?;
     for route in routes {
         let line = route.line;
         match table.add(&route.prefix, route.hop) {
             Ok(_) => {}
-            Err(AddFault::TooManyRules) => return Err(refused(path, line, Refusal::TooManyRules)),
-            Err(AddFault::NoGroups) => return Err(refused(path, line, Refusal::NoGroups)),
-            Err(AddFault::Memory) => return Err(Failure::Memory),
+            Err(Reason::TooManyRules) => return Err(refused(path, line, Refusal::TooManyRules)),
+            Err(Reason::Exhausted) => return Err(refused(path, line, Refusal::Exhausted)),
+            Err(Reason::NoGroups { .. }) => return Err(refused(path, line, Refusal::NoGroups)),
+            Err(Reason::Memory) => return Err(Failure::Memory),
+            Err(Reason::NoSuchRule) => unreachable!(),
         }
     }
     Ok(table)
+}
+
+// A table of these limits without rules.
+fn open<'a>(alloc: Global, limits: Limits) -> Result<Fib<24, 8>, Failure<'a>>
+    ensures opened { IfOk result (λ fib.
+        fib ≡ record { config = config_of limits; table = opened (config_of limits) }) }
+    ensures failure { IfErr result (λ e. e ≡ Failure.Memory) }
+{
+    let config = Config {
+        rules: limits.rules,
+        groups: limits.groups,
+        workers: 0,
+        threshold: limits.threshold,
+        reclaim_max: limits.reclaim_max,
+        first_token: 1,
+    };
+    match Fib::open(alloc, config) {
+        Ok(table) => Ok(table),
+        Err(OpenError::Memory) => Err(Failure::Memory),
+        Err(OpenError::BadConfig) => unreachable!(),
+    }
 }
 
 fn refused(path: &str, line: usize, refusal: Refusal) -> Failure<'_>
@@ -160,20 +181,16 @@ fn refused(path: &str, line: usize, refusal: Refusal) -> Failure<'_>
 }
 
 // A line for each address with its answer.
-fn text_of(alloc: Global, table: &PlainTable<24, 8>, addrs: &[u32]) -> Result<Vec<u8>, AllocError>
-    ensures { IfOk result (λ v. IsAnswerText table.now.rules addrs.now v.items) }
+fn text_of(alloc: Global, table: &Fib<24, 8>, addrs: &[u32]) -> Result<Vec<u8>, AllocError>
+    ensures { IfOk result (λ v. IsAnswerText table.now.table.rules addrs.now v.items) }
 {
     let hops = answers(alloc, table, addrs)?;
     answers_text(alloc, addrs, &hops)
 }
 
 // The answer to each address, in order.
-fn answers(
-    alloc: Global,
-    table: &PlainTable<24, 8>,
-    addrs: &[u32],
-) -> Result<Vec<Option<Hop>>, AllocError>
-    ensures { IfOk result (λ v. AreAnswers table.now.rules addrs.now v.items) }
+fn answers(alloc: Global, table: &Fib<24, 8>, addrs: &[u32]) -> Result<Vec<Option<Hop>>, AllocError>
+    ensures { IfOk result (λ v. AreAnswers table.now.table.rules addrs.now v.items) }
 {
     let mut hops = Vec::with_capacity(alloc, addrs.len())?;
     for addr in addrs {

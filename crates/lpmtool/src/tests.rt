@@ -1,5 +1,6 @@
 ghost use Rattle.std.specs.Prelude.{None, Some};
 
+use crate::failure::{Failure, Refusal};
 use crate::files::Files;
 use crate::run::{refuse_words, run};
 use std::alloc::Global;
@@ -516,13 +517,46 @@ fn routes_longer_than_24_bits(rt: HostRuntime) -> Result<(), Fail> {
         ),
     ];
     for (name, routes, addresses, status, text, fault) in cases {
-        let words = ["lpmtool", "lookup", "r", "a", "--groups", "1"];
+        let words = [
+            "lpmtool",
+            "lookup",
+            "r",
+            "a",
+            "--groups",
+            "1",
+            "--threshold",
+            "0",
+            "--max",
+            "1",
+        ];
         let (got, out, err) = outcome(&rt, &words, &whole_files(routes, addresses))?;
         assert_eq!(rt;
             (got, out.as_str(), err.as_str()),
             (status, text, fault),
             "{name}"
         );
+    }
+    Ok(())
+}
+
+#[test]
+fn texts_of_refusals(rt: HostRuntime) -> Result<(), Fail> {
+    let cases = [
+        (
+            Refusal::TooManyRules,
+            "lpmtool: r:9: refused 3 TooManyRules",
+        ),
+        (Refusal::Exhausted, "lpmtool: r:9: refused 6 Exhausted"),
+        (Refusal::NoGroups, "lpmtool: r:9: refused 7 NoGroups"),
+    ];
+    for (refusal, text) in cases {
+        let failure = Failure::Refused {
+            path: "r",
+            line: 9,
+            refusal,
+        };
+        let found = format!(in rt.alloc(); "{failure}")?;
+        assert_eq!(rt; (found.as_str(), failure.status()), (text, 6));
     }
     Ok(())
 }
