@@ -43,7 +43,7 @@ pub record IsLoaded (limits : Limits) (routes : List Route) (table : State Regis
   pub rules : table.rules ≡ rules_of empty routes
   pub limbo : table.limbo ≡ []
 
--- the refusal by the table; without workers none of them holds a group
+-- the refusal as the table names it; it has no workers, so none holds the oldest group
 abbrev pub reason_of : Refusal → Reason
 reason_of TooManyRules = reasons.TooManyRules
 reason_of Exhausted = reasons.Exhausted
