@@ -187,61 +187,64 @@ fn three_routes(rt: HostRuntime) -> Result<(), Fail> {
 }
 
 #[test]
-fn changes(rt: HostRuntime) -> Result<(), Fail> {
-    let cases = [
-        Case {
-            name: "outcomes",
-            config: LIMITS,
-            commands: &[
-                Plain::Add([10, 0, 0, 0], 8, 1),
-                Plain::Add([10, 0, 0, 0], 8, 1),
-                Plain::Add([10, 0, 0, 0], 8, 2),
-                Plain::Delete([10, 0, 0, 0], 8),
-                Plain::Delete([10, 0, 0, 0], 8),
-            ],
-            outcomes: &[
-                "added",
-                "unchanged",
-                "replaced",
-                "deleted 2",
-                "refused: no such rule",
-            ],
-            account: (0, 3, 0, 0, 256, 1),
-        },
-        Case {
-            name: "one-rule",
-            config: Config { rules: 1, ..LIMITS },
-            commands: &[
-                Plain::Add([10, 0, 0, 0], 8, 1),
-                Plain::Add([11, 0, 0, 0], 8, 1),
-                Plain::Add([10, 0, 0, 0], 8, 5),
-            ],
-            outcomes: &["added", "refused: too many rules", "replaced"],
-            account: (1, 2, 0, 0, 256, 1),
-        },
-        Case {
-            name: "flush-report",
-            config: LIMITS,
-            commands: &[
-                Plain::Add([10, 0, 0, 0], 8, 1),
-                Plain::Add([10, 1, 0, 0], 16, 2),
-                Plain::Add([10, 1, 1, 128], 25, 3),
-                Plain::Flush,
-            ],
-            outcomes: &["added", "added", "added", "flushed 3"],
-            account: (0, 4, 0, 1, 255, 2),
-        },
-    ];
-    for case in &cases {
-        let fib = run_case(&rt, rt.alloc(), case)?;
-        let none = case.account.0 == 0;
-        assert_eq!(rt;
-            number_at(&fib, [10, 1, 1, 128]).is_none(),
-            none,
-            "{}",
-            case.name
-        );
-    }
+fn outcomes(rt: HostRuntime) -> Result<(), Fail> {
+    let case = Case {
+        name: "outcomes",
+        config: LIMITS,
+        commands: &[
+            Plain::Add([10, 0, 0, 0], 8, 1),
+            Plain::Add([10, 0, 0, 0], 8, 1),
+            Plain::Add([10, 0, 0, 0], 8, 2),
+            Plain::Delete([10, 0, 0, 0], 8),
+            Plain::Delete([10, 0, 0, 0], 8),
+        ],
+        outcomes: &[
+            "added",
+            "unchanged",
+            "replaced",
+            "deleted 2",
+            "refused: no such rule",
+        ],
+        account: (0, 3, 0, 0, 256, 1),
+    };
+    run_case(&rt, rt.alloc(), &case)?;
+    Ok(())
+}
+
+#[test]
+fn one_rule(rt: HostRuntime) -> Result<(), Fail> {
+    let case = Case {
+        name: "one-rule",
+        config: Config { rules: 1, ..LIMITS },
+        commands: &[
+            Plain::Add([10, 0, 0, 0], 8, 1),
+            Plain::Add([11, 0, 0, 0], 8, 1),
+            Plain::Add([10, 0, 0, 0], 8, 5),
+        ],
+        outcomes: &["added", "refused: too many rules", "replaced"],
+        account: (1, 2, 0, 0, 256, 1),
+    };
+    let fib = run_case(&rt, rt.alloc(), &case)?;
+    assert_eq!(rt; number_at(&fib, [10, 1, 1, 128]), Some(5));
+    Ok(())
+}
+
+#[test]
+fn flush_report(rt: HostRuntime) -> Result<(), Fail> {
+    let case = Case {
+        name: "flush-report",
+        config: LIMITS,
+        commands: &[
+            Plain::Add([10, 0, 0, 0], 8, 1),
+            Plain::Add([10, 1, 0, 0], 16, 2),
+            Plain::Add([10, 1, 1, 128], 25, 3),
+            Plain::Flush,
+        ],
+        outcomes: &["added", "added", "added", "flushed 3"],
+        account: (0, 4, 0, 1, 255, 2),
+    };
+    let fib = run_case(&rt, rt.alloc(), &case)?;
+    assert_eq!(rt; number_at(&fib, [10, 1, 1, 128]), None);
     Ok(())
 }
 
@@ -278,107 +281,118 @@ fn full_block(rt: HostRuntime) -> Result<(), Fail> {
 }
 
 #[test]
-fn limbo(rt: HostRuntime) -> Result<(), Fail> {
-    let cases = [
-        Case {
-            name: "delete-then-reclaim",
-            config: LIMITS,
-            commands: &[
-                Plain::Add([10, 0, 0, 0], 8, 1),
-                Plain::Add([10, 1, 0, 0], 16, 2),
-                Plain::Add([10, 1, 1, 128], 25, 3),
-                Plain::Delete([10, 1, 1, 128], 25),
-            ],
-            outcomes: &["added", "added", "added", "deleted 3"],
-            account: (2, 4, 0, 1, 255, 2),
+fn delete_then_reclaim(rt: HostRuntime) -> Result<(), Fail> {
+    let case = Case {
+        name: "delete-then-reclaim",
+        config: LIMITS,
+        commands: &[
+            Plain::Add([10, 0, 0, 0], 8, 1),
+            Plain::Add([10, 1, 0, 0], 16, 2),
+            Plain::Add([10, 1, 1, 128], 25, 3),
+            Plain::Delete([10, 1, 1, 128], 25),
+        ],
+        outcomes: &["added", "added", "added", "deleted 3"],
+        account: (2, 4, 0, 1, 255, 2),
+    };
+    let mut fib = run_case(&rt, rt.alloc(), &case)?;
+    assert_eq!(rt; number_at(&fib, [10, 1, 1, 128]), Some(2));
+    let reclaimed = fib.execute(&Command::Reclaim(16));
+    assert_eq!(rt; words(rt.alloc(), &reclaimed)?.as_str(), "reclaimed 1");
+    assert_eq!(rt; account(&fib), (2, 4, 0, 0, 256, 2));
+    Ok(())
+}
+
+#[test]
+fn one_group(rt: HostRuntime) -> Result<(), Fail> {
+    let case = Case {
+        name: "one-group",
+        config: Config {
+            groups: 1,
+            ..LIMITS
         },
-        Case {
-            name: "delete-then-reclaim, reclaimed",
-            config: LIMITS,
-            commands: &[
-                Plain::Add([10, 0, 0, 0], 8, 1),
-                Plain::Add([10, 1, 0, 0], 16, 2),
-                Plain::Add([10, 1, 1, 128], 25, 3),
-                Plain::Delete([10, 1, 1, 128], 25),
-                Plain::Reclaim(16),
-            ],
-            outcomes: &["added", "added", "added", "deleted 3", "reclaimed 1"],
-            account: (2, 4, 0, 0, 256, 2),
+        commands: &[
+            Plain::Add([10, 0, 0, 0], 25, 1),
+            Plain::Add([10, 0, 1, 0], 25, 2),
+        ],
+        outcomes: &["added", "refused: no group is free"],
+        account: (1, 1, 1, 0, 0, 1),
+    };
+    run_case(&rt, rt.alloc(), &case)?;
+    Ok(())
+}
+
+#[test]
+fn held_group(rt: HostRuntime) -> Result<(), Fail> {
+    let case = Case {
+        name: "held-group",
+        config: Config {
+            groups: 1,
+            ..LIMITS
         },
-        Case {
-            name: "one-group",
-            config: Config {
-                groups: 1,
-                ..LIMITS
-            },
-            commands: &[
-                Plain::Add([10, 0, 0, 0], 25, 1),
-                Plain::Add([10, 0, 1, 0], 25, 2),
-            ],
-            outcomes: &["added", "refused: no group is free"],
-            account: (1, 1, 1, 0, 0, 1),
+        commands: &[
+            Plain::Online(0),
+            Plain::Add([10, 0, 0, 0], 25, 1),
+            Plain::Delete([10, 0, 0, 0], 25),
+            Plain::Add([10, 0, 1, 0], 25, 2),
+            Plain::Quiescent(0),
+            Plain::Add([10, 0, 1, 0], 25, 2),
+        ],
+        outcomes: &[
+            "ok",
+            "added",
+            "deleted 1",
+            "refused: no group is free: worker 0 at counter 1",
+            "ok",
+            "added",
+        ],
+        account: (1, 3, 1, 0, 0, 2),
+    };
+    run_case(&rt, rt.alloc(), &case)?;
+    Ok(())
+}
+
+#[test]
+fn threshold_zero(rt: HostRuntime) -> Result<(), Fail> {
+    let case = Case {
+        name: "threshold-zero",
+        config: Config {
+            groups: 4,
+            threshold: 0,
+            workers: 0,
+            ..LIMITS
         },
-        Case {
-            name: "held-group",
-            config: Config {
-                groups: 1,
-                ..LIMITS
-            },
-            commands: &[
-                Plain::Online(0),
-                Plain::Add([10, 0, 0, 0], 25, 1),
-                Plain::Delete([10, 0, 0, 0], 25),
-                Plain::Add([10, 0, 1, 0], 25, 2),
-                Plain::Quiescent(0),
-                Plain::Add([10, 0, 1, 0], 25, 2),
-            ],
-            outcomes: &[
-                "ok",
-                "added",
-                "deleted 1",
-                "refused: no group is free: worker 0 at counter 1",
-                "ok",
-                "added",
-            ],
-            account: (1, 3, 1, 0, 0, 2),
+        commands: &[
+            Plain::Add([10, 0, 0, 0], 25, 1),
+            Plain::Add([10, 0, 1, 0], 25, 2),
+            Plain::Delete([10, 0, 0, 0], 25),
+            Plain::Delete([10, 0, 1, 0], 25),
+        ],
+        outcomes: &["added", "added", "deleted 1", "deleted 2"],
+        account: (0, 4, 0, 1, 3, 3),
+    };
+    run_case(&rt, rt.alloc(), &case)?;
+    Ok(())
+}
+
+#[test]
+fn flush_three_groups(rt: HostRuntime) -> Result<(), Fail> {
+    let case = Case {
+        name: "flush-three-groups",
+        config: Config {
+            groups: 3,
+            threshold: 0,
+            ..LIMITS
         },
-        Case {
-            name: "threshold-zero",
-            config: Config {
-                groups: 4,
-                threshold: 0,
-                workers: 0,
-                ..LIMITS
-            },
-            commands: &[
-                Plain::Add([10, 0, 0, 0], 25, 1),
-                Plain::Add([10, 0, 1, 0], 25, 2),
-                Plain::Delete([10, 0, 0, 0], 25),
-                Plain::Delete([10, 0, 1, 0], 25),
-            ],
-            outcomes: &["added", "added", "deleted 1", "deleted 2"],
-            account: (0, 4, 0, 1, 3, 3),
-        },
-        Case {
-            name: "flush-three-groups",
-            config: Config {
-                groups: 3,
-                threshold: 0,
-                ..LIMITS
-            },
-            commands: &[
-                Plain::Add([10, 0, 0, 0], 25, 1),
-                Plain::Add([10, 0, 1, 0], 25, 2),
-                Plain::Add([10, 0, 2, 0], 25, 3),
-                Plain::Flush,
-            ],
-            outcomes: &["added", "added", "added", "flushed 3"],
-            account: (0, 4, 0, 1, 2, 4),
-        },
-    ];
-    for case in &cases {
-        run_case(&rt, rt.alloc(), case)?;
-    }
+        commands: &[
+            Plain::Add([10, 0, 0, 0], 25, 1),
+            Plain::Add([10, 0, 1, 0], 25, 2),
+            Plain::Add([10, 0, 2, 0], 25, 3),
+            Plain::Flush,
+        ],
+        outcomes: &["added", "added", "added", "flushed 3"],
+        account: (0, 4, 0, 1, 2, 4),
+    };
+    run_case(&rt, rt.alloc(), &case)?;
     Ok(())
 }
 
@@ -402,10 +416,6 @@ fn two_workers(rt: HostRuntime) -> Result<(), Fail> {
             Plain::Reclaim(16),
             Plain::Offline(1),
             Plain::Reclaim(16),
-            Plain::Online(2),
-            Plain::Online(0),
-            Plain::Quiescent(1),
-            Plain::Offline(1),
         ],
         outcomes: &[
             "added",
@@ -419,10 +429,6 @@ fn two_workers(rt: HostRuntime) -> Result<(), Fail> {
             "reclaimed 1 stopped worker 1 at counter 2",
             "ok",
             "reclaimed 1",
-            "no such worker",
-            "already online",
-            "not online",
-            "not online",
         ],
         account: (0, 4, 0, 0, 256, 3),
     };
@@ -433,50 +439,77 @@ fn two_workers(rt: HostRuntime) -> Result<(), Fail> {
 }
 
 #[test]
-fn last_tokens(rt: HostRuntime) -> Result<(), Fail> {
-    let cases = [
-        Case {
-            name: "exhausted-add",
-            config: Config {
-                groups: 1,
-                first_token: (1 << 62) - 1,
-                ..LIMITS
-            },
-            commands: &[
-                Plain::Add([10, 0, 0, 0], 25, 1),
-                Plain::Delete([10, 0, 0, 0], 25),
-                Plain::Add([10, 0, 0, 0], 8, 1),
-            ],
-            outcomes: &[
-                "added",
-                "deleted 1",
-                "refused: tokens or versions are exhausted",
-            ],
-            account: (0, 2, 0, 1, 0, 1 << 62),
+fn misreports(rt: HostRuntime) -> Result<(), Fail> {
+    let case = Case {
+        name: "misreports",
+        config: LIMITS,
+        commands: &[
+            Plain::Online(1),
+            Plain::Quiescent(0),
+            Plain::Offline(0),
+            Plain::Online(0),
+            Plain::Online(0),
+        ],
+        outcomes: &[
+            "no such worker",
+            "not online",
+            "not online",
+            "ok",
+            "already online",
+        ],
+        account: (0, 0, 0, 0, 256, 1),
+    };
+    run_case(&rt, rt.alloc(), &case)?;
+    Ok(())
+}
+
+#[test]
+fn exhausted_add(rt: HostRuntime) -> Result<(), Fail> {
+    let case = Case {
+        name: "exhausted-add",
+        config: Config {
+            groups: 1,
+            first_token: (1 << 62) - 1,
+            ..LIMITS
         },
-        Case {
-            name: "last-token",
-            config: Config {
-                groups: 1,
-                first_token: 1 << 62,
-                ..LIMITS
-            },
-            commands: &[
-                Plain::Add([10, 0, 0, 0], 8, 1),
-                Plain::Delete([10, 0, 0, 0], 8),
-                Plain::Flush,
-            ],
-            outcomes: &[
-                "refused: tokens or versions are exhausted",
-                "refused: no such rule",
-                "flushed 0",
-            ],
-            account: (0, 0, 0, 0, 1, 1 << 62),
+        commands: &[
+            Plain::Add([10, 0, 0, 0], 25, 1),
+            Plain::Delete([10, 0, 0, 0], 25),
+            Plain::Add([10, 0, 0, 0], 8, 1),
+        ],
+        outcomes: &[
+            "added",
+            "deleted 1",
+            "refused: tokens or versions are exhausted",
+        ],
+        account: (0, 2, 0, 1, 0, 1 << 62),
+    };
+    run_case(&rt, rt.alloc(), &case)?;
+    Ok(())
+}
+
+#[test]
+fn last_token(rt: HostRuntime) -> Result<(), Fail> {
+    let case = Case {
+        name: "last-token",
+        config: Config {
+            groups: 1,
+            first_token: 1 << 62,
+            ..LIMITS
         },
-    ];
-    for case in &cases {
-        run_case(&rt, rt.alloc(), case)?;
-    }
+        commands: &[
+            Plain::Add([10, 0, 0, 0], 8, 1),
+            Plain::Delete([10, 0, 0, 0], 8),
+            Plain::Flush,
+        ],
+        outcomes: &[
+            "refused: tokens or versions are exhausted",
+            "refused: no such rule",
+            "flushed 0",
+        ],
+        account: (0, 0, 0, 0, 1, 1 << 62),
+    };
+    run_case(&rt, rt.alloc(), &case)?;
     Ok(())
 }
 

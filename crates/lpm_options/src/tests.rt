@@ -12,65 +12,69 @@ fn refused_text(rt: &HostRuntime, words: &[&str]) -> Result<(ErrorKind, bool, St
     }
 }
 
+// The words, and the rules, the groups, the threshold and the greatest reclaim that they ask for.
+type Asked = (&'static [&'static str], [usize; 4]);
+
+const LOOKUPS: [Asked; 11] = [
+    (&["lpmtool", "lookup", "r", "a"], [1_048_576, 256, 32, 16]),
+    (
+        &["lpmtool", "lookup", "--rules", "1", "r", "a"],
+        [1, 256, 32, 16],
+    ),
+    (
+        &["lpmtool", "lookup", "r", "--rules=16777216", "a"],
+        [16_777_216, 256, 32, 16],
+    ),
+    (
+        &["other", "lookup", "r", "a", "--rules", "7"],
+        [7, 256, 32, 16],
+    ),
+    (
+        &["lpmtool", "lookup", "--rules", "7", "--", "r", "a"],
+        [7, 256, 32, 16],
+    ),
+    (
+        &["lpmtool", "lookup", "--rules", "+7", "r", "a"],
+        [7, 256, 32, 16],
+    ),
+    (
+        &["lpmtool", "lookup", "--groups", "65536", "r", "a"],
+        [1_048_576, 65_536, 32, 16],
+    ),
+    (
+        &["lpmtool", "lookup", "--threshold", "0", "r", "a"],
+        [1_048_576, 256, 0, 16],
+    ),
+    (
+        &["lpmtool", "lookup", "r", "a", "--threshold=65536"],
+        [1_048_576, 256, 65_536, 16],
+    ),
+    (
+        &["lpmtool", "lookup", "r", "--max", "1", "a"],
+        [1_048_576, 256, 32, 1],
+    ),
+    (
+        &[
+            "lpmtool",
+            "lookup",
+            "--max",
+            "65536",
+            "--threshold",
+            "2",
+            "--groups",
+            "3",
+            "--rules",
+            "4",
+            "r",
+            "a",
+        ],
+        [4, 3, 2, 65_536],
+    ),
+];
+
 #[test]
 fn lookup_with_its_default_and_each_option(rt: HostRuntime) -> Result<(), Fail> {
-    let cases: [(&[&str], [usize; 4]); 11] = [
-        (&["lpmtool", "lookup", "r", "a"], [1_048_576, 256, 32, 16]),
-        (
-            &["lpmtool", "lookup", "--rules", "1", "r", "a"],
-            [1, 256, 32, 16],
-        ),
-        (
-            &["lpmtool", "lookup", "r", "--rules=16777216", "a"],
-            [16_777_216, 256, 32, 16],
-        ),
-        (
-            &["other", "lookup", "r", "a", "--rules", "7"],
-            [7, 256, 32, 16],
-        ),
-        (
-            &["lpmtool", "lookup", "--rules", "7", "--", "r", "a"],
-            [7, 256, 32, 16],
-        ),
-        (
-            &["lpmtool", "lookup", "--rules", "+7", "r", "a"],
-            [7, 256, 32, 16],
-        ),
-        (
-            &["lpmtool", "lookup", "--groups", "65536", "r", "a"],
-            [1_048_576, 65_536, 32, 16],
-        ),
-        (
-            &["lpmtool", "lookup", "--threshold", "0", "r", "a"],
-            [1_048_576, 256, 0, 16],
-        ),
-        (
-            &["lpmtool", "lookup", "r", "a", "--threshold=65536"],
-            [1_048_576, 256, 65_536, 16],
-        ),
-        (
-            &["lpmtool", "lookup", "r", "--max", "1", "a"],
-            [1_048_576, 256, 32, 1],
-        ),
-        (
-            &[
-                "lpmtool",
-                "lookup",
-                "--max",
-                "65536",
-                "--threshold",
-                "2",
-                "--groups",
-                "3",
-                "--rules",
-                "4",
-                "r",
-                "a",
-            ],
-            [4, 3, 2, 65_536],
-        ),
-    ];
-    for (words, numbers) in cases {
+    for (words, numbers) in LOOKUPS {
         let line = options(rt.alloc(), words).map_err(|_| "refused")?;
         let CommandLine::Lookup {
             routes,
@@ -89,55 +93,59 @@ fn lookup_with_its_default_and_each_option(rt: HostRuntime) -> Result<(), Fail> 
     Ok(())
 }
 
+// The words, and why they are refused.
+type Refusal = (&'static [&'static str], ErrorKind);
+
+const REFUSED: [Refusal; 12] = [
+    (&["lpmtool"], ErrorKind::MissingSubcommand),
+    (&["lpmtool", "find", "r", "a"], ErrorKind::InvalidSubcommand),
+    (
+        &["lpmtool", "lookup", "r"],
+        ErrorKind::MissingRequiredArgument,
+    ),
+    (
+        &["lpmtool", "lookup", "r", "a", "b"],
+        ErrorKind::UnknownArgument,
+    ),
+    (
+        &["lpmtool", "lookup", "r", "a", "--deep"],
+        ErrorKind::UnknownArgument,
+    ),
+    (
+        &["lpmtool", "lookup", "r", "a", "--rules", "0"],
+        ErrorKind::ValueValidation,
+    ),
+    (
+        &["lpmtool", "lookup", "r", "a", "--rules", "16777217"],
+        ErrorKind::ValueValidation,
+    ),
+    (
+        &["lpmtool", "lookup", "r", "a", "--rules", "x"],
+        ErrorKind::ValueValidation,
+    ),
+    (
+        &["lpmtool", "lookup", "r", "a", "--threshold", "65537"],
+        ErrorKind::ValueValidation,
+    ),
+    (
+        &["lpmtool", "lookup", "r", "a", "--max", "0"],
+        ErrorKind::ValueValidation,
+    ),
+    (
+        &["lpmtool", "lookup", "r", "a", "--max", "65537"],
+        ErrorKind::ValueValidation,
+    ),
+    (
+        &[
+            "lpmtool", "lookup", "r", "a", "--rules", "7", "--rules", "7",
+        ],
+        ErrorKind::ArgumentConflict,
+    ),
+];
+
 #[test]
 fn refused_words(rt: HostRuntime) -> Result<(), Fail> {
-    let cases: [(&[&str], ErrorKind); 12] = [
-        (&["lpmtool"], ErrorKind::MissingSubcommand),
-        (&["lpmtool", "find", "r", "a"], ErrorKind::InvalidSubcommand),
-        (
-            &["lpmtool", "lookup", "r"],
-            ErrorKind::MissingRequiredArgument,
-        ),
-        (
-            &["lpmtool", "lookup", "r", "a", "b"],
-            ErrorKind::UnknownArgument,
-        ),
-        (
-            &["lpmtool", "lookup", "r", "a", "--deep"],
-            ErrorKind::UnknownArgument,
-        ),
-        (
-            &["lpmtool", "lookup", "r", "a", "--rules", "0"],
-            ErrorKind::ValueValidation,
-        ),
-        (
-            &["lpmtool", "lookup", "r", "a", "--rules", "16777217"],
-            ErrorKind::ValueValidation,
-        ),
-        (
-            &["lpmtool", "lookup", "r", "a", "--rules", "x"],
-            ErrorKind::ValueValidation,
-        ),
-        (
-            &["lpmtool", "lookup", "r", "a", "--threshold", "65537"],
-            ErrorKind::ValueValidation,
-        ),
-        (
-            &["lpmtool", "lookup", "r", "a", "--max", "0"],
-            ErrorKind::ValueValidation,
-        ),
-        (
-            &["lpmtool", "lookup", "r", "a", "--max", "65537"],
-            ErrorKind::ValueValidation,
-        ),
-        (
-            &[
-                "lpmtool", "lookup", "r", "a", "--rules", "7", "--rules", "7",
-            ],
-            ErrorKind::ArgumentConflict,
-        ),
-    ];
-    for (words, kind) in cases {
+    for (words, kind) in REFUSED {
         let (found, to_stderr, text) = refused_text(&rt, words)?;
         assert!(rt; found == kind && to_stderr, "{words:?} {found:?}");
         assert!(rt; text.starts_with("error: "), "{text}");

@@ -363,8 +363,23 @@ fn list_ends_at_the_first_refused(rt: HostRuntime) -> Result<(), Fail> {
     assert_eq!(rt; table.apply(&changes), Err(refused));
     let hops = [(0x10, Some(1)), (0x18, None), (0x20, None)];
     assert_hops(&rt, &table, &hops);
-    // the group that the deletion gives up is free for the next addition
+    let reading = Reading {
+        applied: Ok(()),
+        hop: None,
+        counts: counts_of(0, 1),
+    };
+    assert_eq!(rt; table.apply_and_read(&[RuleChange::Flush], 0x20), reading);
+    assert_eq!(rt; table.apply(&[]), Ok(()));
+    assert!(rt; table.is_empty());
+    Ok(())
+}
+
+// The group that a deletion gives up is free for the next addition.
+#[test]
+fn list_reuses_a_group(rt: HostRuntime) -> Result<(), Fail> {
+    let mut table = PlainTable::<4, 4>::open(rt.alloc(), 3, 1)?;
     let changes = [
+        add_of(&rt, 0x10, 5, 1),
         add_of(&rt, 0x10, 4, 2),
         delete_of(&rt, 0x10, 5),
         RuleChange::Synchronize,
@@ -373,76 +388,53 @@ fn list_ends_at_the_first_refused(rt: HostRuntime) -> Result<(), Fail> {
         add_of(&rt, 0x10, 5, 1),
     ];
     let refused = Refused {
-        index: 4,
+        index: 5,
         fault: ChangeFault::NoSuchRule,
     };
     let reading = Reading {
         applied: Err(refused),
         hop: Some(hop_of(&rt, 2)),
-        counts: Counts {
-            in_use: 1,
-            limbo: 0,
-            free: 0,
-        },
+        counts: counts_of(1, 0),
     };
     assert_eq!(rt; table.apply_and_read(&changes, 0x10), reading);
     let hops = [(0x18, Some(2)), (0x20, Some(3)), (0x28, None)];
     assert_hops(&rt, &table, &hops);
-    let reading = Reading {
-        applied: Ok(()),
-        hop: None,
-        counts: Counts {
-            in_use: 0,
-            limbo: 0,
-            free: 1,
-        },
-    };
-    assert_eq!(rt; table.apply_and_read(&[RuleChange::Flush], 0x20), reading);
-    assert_eq!(rt; table.apply(&[]), Ok(()));
-    assert!(rt; table.is_empty());
     Ok(())
 }
 
+fn counts_of(in_use: usize, free: usize) -> Counts {
+    Counts {
+        in_use,
+        limbo: 0,
+        free,
+    }
+}
+
 #[test]
-fn tables_of_32_bits(rt: HostRuntime) -> Result<(), Fail> {
+fn full_block(rt: HostRuntime) -> Result<(), Fail> {
     let mut table = PlainTable::<24, 8>::open(rt.alloc(), 1000, 256)?;
-    // 256 routes in one block
     for low in 0..256u32 {
         let change = Change::Add(0x0a00_0000 + low, 32, 9);
         assert_eq!(rt; change_table(&rt, &mut table, change), ADDED);
     }
-    assert_eq!(rt; table.len(), 256);
-    assert_eq!(rt;
-        table.counts(),
-        Counts {
-            in_use: 1,
-            limbo: 0,
-            free: 255
-        }
-    );
-    assert_hops(
-        &rt,
-        &table,
-        &[
-            (0x09ff_ffff, None),
-            (0x0a00_00ff, Some(9)),
-            (0x0a00_0100, None),
-        ],
-    );
+    assert_eq!(rt; (table.len(), table.counts()), (256, counts_of(1, 255)));
+    let hops = [
+        (0x09ff_ffff, None),
+        (0x0a00_00ff, Some(9)),
+        (0x0a00_0100, None),
+    ];
+    assert_hops(&rt, &table, &hops);
     for low in 0..256u32 {
         let change = Change::Delete(0x0a00_0000 + low, 32);
         assert_eq!(rt; change_table(&rt, &mut table, change), Answer::Deleted(9));
     }
-    assert!(rt; table.is_empty());
-    assert_eq!(rt;
-        table.counts(),
-        Counts {
-            in_use: 0,
-            limbo: 0,
-            free: 256
-        }
-    );
-    // routes in the reverse order of their lengths
+    assert_eq!(rt; (table.len(), table.counts()), (0, counts_of(0, 256)));
+    Ok(())
+}
+
+#[test]
+fn reverse_order(rt: HostRuntime) -> Result<(), Fail> {
+    let mut table = PlainTable::<24, 8>::open(rt.alloc(), 1000, 256)?;
     let reverse = [
         (Change::Add(0x0a01_0180, 25, 3), ADDED),
         (Change::Add(0x0a01_0000, 16, 2), ADDED),
@@ -456,56 +448,37 @@ fn tables_of_32_bits(rt: HostRuntime) -> Result<(), Fail> {
         (0x0b00_0000, None),
     ];
     assert_hops(&rt, &table, &hops);
-    assert_eq!(rt;
-        table.counts(),
-        Counts {
-            in_use: 1,
-            limbo: 0,
-            free: 255
-        }
-    );
-    // the last address
+    assert_eq!(rt; table.counts(), counts_of(1, 255));
+    Ok(())
+}
+
+#[test]
+fn last_address(rt: HostRuntime) -> Result<(), Fail> {
+    let mut table = PlainTable::<24, 8>::open(rt.alloc(), 1000, 256)?;
     let last = [(Change::Add(0xffff_ffff, 32, 16_777_215), ADDED)];
     assert_changes(&rt, &mut table, &last);
-    assert_hops(
-        &rt,
-        &table,
-        &[(0xffff_fffe, None), (0xffff_ffff, Some(16_777_215))],
-    );
-    assert_eq!(rt;
-        table.counts(),
-        Counts {
-            in_use: 2,
-            limbo: 0,
-            free: 254
-        }
-    );
-    assert_changes(&rt, &mut table, &[(Change::Flush, Answer::Flushed(4))]);
-    assert_eq!(rt;
-        table.counts(),
-        Counts {
-            in_use: 0,
-            limbo: 0,
-            free: 256
-        }
-    );
-    // a default route, which is then the cover of a deleted one
+    let hops = [(0xffff_fffe, None), (0xffff_ffff, Some(16_777_215))];
+    assert_hops(&rt, &table, &hops);
+    assert_eq!(rt; table.counts(), counts_of(1, 255));
+    assert_changes(&rt, &mut table, &[(Change::Flush, Answer::Flushed(1))]);
+    assert_eq!(rt; table.counts(), counts_of(0, 256));
+    Ok(())
+}
+
+#[test]
+fn default_route_updates(rt: HostRuntime) -> Result<(), Fail> {
+    let mut table = PlainTable::<24, 8>::open(rt.alloc(), 1000, 256)?;
     let default = [
         (Change::Add(0x0102_0304, 0, 1), ADDED),
         (Change::Add(0, 0, 1), Answer::Put(Put::Unchanged)),
         (Change::Add(0x0a00_0000, 8, 2), ADDED),
     ];
     assert_changes(&rt, &mut table, &default);
-    assert_hops(
-        &rt,
-        &table,
-        &[(0, Some(1)), (0x0a00_0000, Some(2)), (0xffff_ffff, Some(1))],
-    );
-    assert_changes(
-        &rt,
-        &mut table,
-        &[(Change::Delete(0x0a00_0000, 8), Answer::Deleted(2))],
-    );
+    let hops = [(0, Some(1)), (0x0a00_0000, Some(2)), (0xffff_ffff, Some(1))];
+    assert_hops(&rt, &table, &hops);
+    // the default route is the cover of the deleted one
+    let delete = [(Change::Delete(0x0a00_0000, 8), Answer::Deleted(2))];
+    assert_changes(&rt, &mut table, &delete);
     assert_hops(&rt, &table, &[(0x0a00_0000, Some(1))]);
     assert_eq!(rt; table.len(), 1);
     Ok(())

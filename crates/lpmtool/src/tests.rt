@@ -163,50 +163,54 @@ fn short_prefixes_in_any_order(rt: HostRuntime) -> Result<(), Fail> {
     Ok(())
 }
 
+// A name, the files of routes and addresses, and the answers.
+type Lookup = (&'static str, &'static [u8], &'static [u8], &'static str);
+
+const LOOKUPS: [Lookup; 9] = [
+    ("empty-table", b"", b"1.2.3.4\n", "1.2.3.4 -\n"),
+    ("no addresses", b"10.0.0.0/8 1\n", b"", ""),
+    (
+        "top-bit",
+        b"128.0.0.0/1 7\n",
+        b"127.255.255.255\n128.0.0.0\n255.255.255.255\n",
+        "127.255.255.255 -\n128.0.0.0 7\n255.255.255.255 7\n",
+    ),
+    (
+        "host-bits",
+        b"10.1.2.3/8 5\n",
+        b"10.9.9.9\n",
+        "10.9.9.9 5\n",
+    ),
+    (
+        "default-route",
+        b"0.0.0.0/0 1\n10.0.0.0/8 2\n",
+        b"0.0.0.0\n10.0.0.0\n255.255.255.255\n",
+        "0.0.0.0 1\n10.0.0.0 2\n255.255.255.255 1\n",
+    ),
+    (
+        "default-route-line",
+        b"0.0.0.0/0 1\n",
+        b"0.0.0.0\n10.0.0.0\n255.255.255.255\n",
+        "0.0.0.0 1\n10.0.0.0 1\n255.255.255.255 1\n",
+    ),
+    (
+        "line-ends",
+        b"# c\r\n10.0.0.0/8 1\r\n",
+        b"10.0.0.1\r\n",
+        "10.0.0.1 1\n",
+    ),
+    ("line-ends", b"10.0.0.0/8 1", b"10.0.0.1", "10.0.0.1 1\n"),
+    (
+        "a prefix that comes twice",
+        b"10.0.0.0/8 1\n10.0.0.0/8 2\n",
+        b"10.0.0.1\n10.0.0.1\n",
+        "10.0.0.1 2\n10.0.0.1 2\n",
+    ),
+];
+
 #[test]
 fn lookups_by_name(rt: HostRuntime) -> Result<(), Fail> {
-    let cases: [(&str, &'static [u8], &'static [u8], &str); 9] = [
-        ("empty-table", b"", b"1.2.3.4\n", "1.2.3.4 -\n"),
-        ("no addresses", b"10.0.0.0/8 1\n", b"", ""),
-        (
-            "top-bit",
-            b"128.0.0.0/1 7\n",
-            b"127.255.255.255\n128.0.0.0\n255.255.255.255\n",
-            "127.255.255.255 -\n128.0.0.0 7\n255.255.255.255 7\n",
-        ),
-        (
-            "host-bits",
-            b"10.1.2.3/8 5\n",
-            b"10.9.9.9\n",
-            "10.9.9.9 5\n",
-        ),
-        (
-            "default-route",
-            b"0.0.0.0/0 1\n10.0.0.0/8 2\n",
-            b"0.0.0.0\n10.0.0.0\n255.255.255.255\n",
-            "0.0.0.0 1\n10.0.0.0 2\n255.255.255.255 1\n",
-        ),
-        (
-            "default-route-line",
-            b"0.0.0.0/0 1\n",
-            b"0.0.0.0\n10.0.0.0\n255.255.255.255\n",
-            "0.0.0.0 1\n10.0.0.0 1\n255.255.255.255 1\n",
-        ),
-        (
-            "line-ends",
-            b"# c\r\n10.0.0.0/8 1\r\n",
-            b"10.0.0.1\r\n",
-            "10.0.0.1 1\n",
-        ),
-        ("line-ends", b"10.0.0.0/8 1", b"10.0.0.1", "10.0.0.1 1\n"),
-        (
-            "a prefix that comes twice",
-            b"10.0.0.0/8 1\n10.0.0.0/8 2\n",
-            b"10.0.0.1\n10.0.0.1\n",
-            "10.0.0.1 2\n10.0.0.1 2\n",
-        ),
-    ];
-    for (name, routes, addresses, text) in cases {
+    for (name, routes, addresses, text) in LOOKUPS {
         let words = ["lpmtool", "lookup", "r", "a", "--rules", "2"];
         let (status, out, err) = outcome(&rt, &words, &whole_files(routes, addresses))?;
         assert_eq!(rt;
@@ -218,95 +222,99 @@ fn lookups_by_name(rt: HostRuntime) -> Result<(), Fail> {
     Ok(())
 }
 
+// A name, the files of routes and addresses, the status, and the text on standard error.
+type Refused = (&'static str, &'static [u8], &'static [u8], u8, &'static str);
+
+const FAULTS: [Refused; 12] = [
+    (
+        "bad-route-lines",
+        b"10.0.0.0/8 16777216\n",
+        b"",
+        4,
+        "lpmtool: r:1: bad hop\n",
+    ),
+    (
+        "bad-route-lines",
+        b"10.0.0.0/33 1\n",
+        b"",
+        4,
+        "lpmtool: r:1: bad length\n",
+    ),
+    (
+        "bad-route-lines",
+        b"10.0.256.0/24 1\n",
+        b"",
+        4,
+        "lpmtool: r:1: bad address\n",
+    ),
+    (
+        "bad-route-lines",
+        b"10.01.0.0/16 1\n",
+        b"",
+        4,
+        "lpmtool: r:1: bad address\n",
+    ),
+    (
+        "default-route-faults",
+        b"0.0.0.0/00 1\n",
+        b"",
+        4,
+        "lpmtool: r:1: bad length\n",
+    ),
+    (
+        "default-route-faults",
+        b"0.0.0.0/33 1\n",
+        b"",
+        4,
+        "lpmtool: r:1: bad length\n",
+    ),
+    (
+        "line-ends",
+        b"10.0.0.0/8 1\n10.1.0.0/16",
+        b"",
+        4,
+        "lpmtool: r:2: bad fields\n",
+    ),
+    (
+        "one-rule-load",
+        b"10.0.0.0/8 1\n10.1.0.0/16 2\n",
+        b"10.0.0.1\n",
+        6,
+        "lpmtool: r:2: refused 3 TooManyRules\n",
+    ),
+    (
+        "a refusal after a comment",
+        b"# c\n\n10.0.0.0/8 1\n10.0.0.0/8 2\n10.1.0.0/16 2\n",
+        b"",
+        6,
+        "lpmtool: r:5: refused 3 TooManyRules\n",
+    ),
+    (
+        "routes before addresses",
+        b"x\n",
+        b"y\n",
+        4,
+        "lpmtool: r:1: bad fields\n",
+    ),
+    (
+        "addresses before a refusal",
+        b"10.0.0.0/8 1\n10.1.0.0/16 2\n",
+        b"1.2.3.4\n1.2.3\n",
+        4,
+        "lpmtool: a:2: bad address\n",
+    ),
+    (
+        "one address a line",
+        b"",
+        b"1.2.3.4 1.2.3.4\n",
+        4,
+        "lpmtool: a:1: bad fields\n",
+    ),
+];
+
 #[test]
 fn faults_and_refusals_by_name(rt: HostRuntime) -> Result<(), Fail> {
-    let cases: [(&str, &'static [u8], &'static [u8], u8, &str); 12] = [
-        (
-            "bad-route-lines",
-            b"10.0.0.0/8 16777216\n",
-            b"",
-            4,
-            "lpmtool: r:1: bad hop\n",
-        ),
-        (
-            "bad-route-lines",
-            b"10.0.0.0/33 1\n",
-            b"",
-            4,
-            "lpmtool: r:1: bad length\n",
-        ),
-        (
-            "bad-route-lines",
-            b"10.0.256.0/24 1\n",
-            b"",
-            4,
-            "lpmtool: r:1: bad address\n",
-        ),
-        (
-            "bad-route-lines",
-            b"10.01.0.0/16 1\n",
-            b"",
-            4,
-            "lpmtool: r:1: bad address\n",
-        ),
-        (
-            "default-route-faults",
-            b"0.0.0.0/00 1\n",
-            b"",
-            4,
-            "lpmtool: r:1: bad length\n",
-        ),
-        (
-            "default-route-faults",
-            b"0.0.0.0/33 1\n",
-            b"",
-            4,
-            "lpmtool: r:1: bad length\n",
-        ),
-        (
-            "line-ends",
-            b"10.0.0.0/8 1\n10.1.0.0/16",
-            b"",
-            4,
-            "lpmtool: r:2: bad fields\n",
-        ),
-        (
-            "one-rule-load",
-            b"10.0.0.0/8 1\n10.1.0.0/16 2\n",
-            b"10.0.0.1\n",
-            6,
-            "lpmtool: r:2: refused 3 TooManyRules\n",
-        ),
-        (
-            "a refusal after a comment",
-            b"# c\n\n10.0.0.0/8 1\n10.0.0.0/8 2\n10.1.0.0/16 2\n",
-            b"",
-            6,
-            "lpmtool: r:5: refused 3 TooManyRules\n",
-        ),
-        (
-            "routes before addresses",
-            b"x\n",
-            b"y\n",
-            4,
-            "lpmtool: r:1: bad fields\n",
-        ),
-        (
-            "addresses before a refusal",
-            b"10.0.0.0/8 1\n10.1.0.0/16 2\n",
-            b"1.2.3.4\n1.2.3\n",
-            4,
-            "lpmtool: a:2: bad address\n",
-        ),
-        (
-            "one address a line",
-            b"",
-            b"1.2.3.4 1.2.3.4\n",
-            4,
-            "lpmtool: a:1: bad fields\n",
-        ),
-    ];
-    for (name, routes, addresses, status, text) in cases {
+    for (name, routes, addresses, status, text) in FAULTS {
         let words = ["lpmtool", "lookup", "r", "a", "--rules", "1"];
         let (got, out, err) = outcome(&rt, &words, &whole_files(routes, addresses))?;
         assert_eq!(rt;
@@ -478,45 +486,58 @@ fn help_and_usage(rt: HostRuntime) -> Result<(), Fail> {
     Ok(())
 }
 
+const FOUR_ADDRESSES: &[u8] = b"10.1.1.127\n10.1.1.128\n10.2.0.0\n11.0.0.0\n";
+
+const FOUR_ANSWERS: &str = "10.1.1.127 2\n10.1.1.128 3\n10.2.0.0 1\n11.0.0.0 -\n";
+
+// A name, the files of routes and addresses, the status, and the texts on standard output and standard error.
+type Ended = (
+    &'static str,
+    &'static [u8],
+    &'static [u8],
+    u8,
+    &'static str,
+    &'static str,
+);
+
+const LONG_ROUTES: [Ended; 4] = [
+    (
+        "three-routes",
+        b"10.0.0.0/8 1\n10.1.0.0/16 2\n10.1.1.128/25 3\n",
+        FOUR_ADDRESSES,
+        0,
+        FOUR_ANSWERS,
+        "",
+    ),
+    (
+        "reverse-order",
+        b"10.1.1.128/25 3\n10.1.0.0/16 2\n10.0.0.0/8 1\n",
+        FOUR_ADDRESSES,
+        0,
+        FOUR_ANSWERS,
+        "",
+    ),
+    (
+        "last-address",
+        b"255.255.255.255/32 16777215\n",
+        b"255.255.255.254\n255.255.255.255\n",
+        0,
+        "255.255.255.254 -\n255.255.255.255 16777215\n",
+        "",
+    ),
+    (
+        "one-group",
+        b"10.0.0.0/25 1\n10.0.0.128/26 3\n10.0.1.0/25 2\n",
+        b"10.0.0.1\n",
+        6,
+        "",
+        "lpmtool: r:3: refused 7 NoGroups\n",
+    ),
+];
+
 #[test]
 fn routes_longer_than_24_bits(rt: HostRuntime) -> Result<(), Fail> {
-    let addresses = b"10.1.1.127\n10.1.1.128\n10.2.0.0\n11.0.0.0\n";
-    let answers = "10.1.1.127 2\n10.1.1.128 3\n10.2.0.0 1\n11.0.0.0 -\n";
-    let cases: [(&str, &'static [u8], &'static [u8], u8, &str, &str); 4] = [
-        (
-            "three-routes",
-            b"10.0.0.0/8 1\n10.1.0.0/16 2\n10.1.1.128/25 3\n",
-            addresses,
-            0,
-            answers,
-            "",
-        ),
-        (
-            "reverse-order",
-            b"10.1.1.128/25 3\n10.1.0.0/16 2\n10.0.0.0/8 1\n",
-            addresses,
-            0,
-            answers,
-            "",
-        ),
-        (
-            "last-address",
-            b"255.255.255.255/32 16777215\n",
-            b"255.255.255.254\n255.255.255.255\n",
-            0,
-            "255.255.255.254 -\n255.255.255.255 16777215\n",
-            "",
-        ),
-        (
-            "one-group",
-            b"10.0.0.0/25 1\n10.0.0.128/26 3\n10.0.1.0/25 2\n",
-            b"10.0.0.1\n",
-            6,
-            "",
-            "lpmtool: r:3: refused 7 NoGroups\n",
-        ),
-    ];
-    for (name, routes, addresses, status, text, fault) in cases {
+    for (name, routes, addresses, status, text, fault) in LONG_ROUTES {
         let words = [
             "lpmtool",
             "lookup",

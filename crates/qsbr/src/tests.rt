@@ -74,9 +74,56 @@ fn no_workers_and_last_token(rt: HostRuntime) -> Result<(), Fail> {
     Ok(())
 }
 
+const USUAL: Config = Config {
+    rules: 1_048_576,
+    groups: 256,
+    workers: 1,
+    threshold: 32,
+    reclaim_max: 16,
+    first_token: 1,
+};
+
+// A limit outside its range in each.
+const OUTSIDE: [Config; 10] = [
+    Config { rules: 0, ..USUAL },
+    Config {
+        rules: 16_777_217,
+        ..USUAL
+    },
+    Config { groups: 0, ..USUAL },
+    Config {
+        groups: 65_537,
+        ..USUAL
+    },
+    Config {
+        workers: 2_049,
+        ..USUAL
+    },
+    Config {
+        threshold: 65_537,
+        ..USUAL
+    },
+    Config {
+        reclaim_max: 0,
+        ..USUAL
+    },
+    Config {
+        reclaim_max: 65_537,
+        ..USUAL
+    },
+    Config {
+        first_token: 0,
+        ..USUAL
+    },
+    Config {
+        first_token: (1 << 62) + 1,
+        ..USUAL
+    },
+];
+
 #[test]
 fn limits_of_a_config(rt: HostRuntime) {
-    let usual = Config::default();
+    assert_eq!(rt; Config::default(), USUAL);
     let last = Config {
         rules: 16_777_216,
         groups: 65_536,
@@ -93,56 +140,12 @@ fn limits_of_a_config(rt: HostRuntime) {
         reclaim_max: 1,
         first_token: 1,
     };
-    for config in [usual, first, last] {
+    for config in [USUAL, first, last] {
         assert_eq!(rt; config.check(), Ok(()));
     }
-    let outside = [
-        Config { rules: 0, ..usual },
-        Config {
-            rules: 16_777_217,
-            ..usual
-        },
-        Config { groups: 0, ..usual },
-        Config {
-            groups: 65_537,
-            ..usual
-        },
-        Config {
-            workers: 2_049,
-            ..usual
-        },
-        Config {
-            threshold: 65_537,
-            ..usual
-        },
-        Config {
-            reclaim_max: 0,
-            ..usual
-        },
-        Config {
-            reclaim_max: 65_537,
-            ..usual
-        },
-        Config {
-            first_token: 0,
-            ..usual
-        },
-        Config {
-            first_token: (1 << 62) + 1,
-            ..usual
-        },
-    ];
-    for config in outside {
+    for config in OUTSIDE {
         assert_eq!(rt; config.check(), Err(BadConfig), "{config:?}");
     }
-    assert_eq!(rt;
-        (usual.rules, usual.groups, usual.workers),
-        (1_048_576, 256, 1)
-    );
-    assert_eq!(rt;
-        (usual.threshold, usual.reclaim_max, usual.first_token),
-        (32, 16, 1)
-    );
 }
 
 #[test]
