@@ -32,7 +32,7 @@ impl From<BadConfig> for OpenError {
     ghost from_gives = { λ _ error. error ≡ IsBadConfig };
 
     fn from(_error: BadConfig) -> Self {
-        OpenError::BadConfig
+        Self::BadConfig
     }
 }
 
@@ -40,6 +40,6 @@ impl From<AllocError> for OpenError {
     ghost from_gives = { λ _ error. error ≡ IsMemory };
 
     fn from(_error: AllocError) -> Self {
-        OpenError::Memory
+        Self::Memory
     }
 }

@@ -7,7 +7,7 @@ use lpm_bits::{Hop, Prefix, Shape};
 use lpm_groups::Counts;
 use lpm_rules::Put;
 use qsbr::{BadConfig, Busy, Config, Refusal};
-use std::alloc::Global;
+use std::alloc::{AllocError, Global};
 use std::process::Abort;
 use std::test::Fail;
 
@@ -180,9 +180,19 @@ fn three_routes(rt: HostRuntime) -> Result<(), Fail> {
     assert_eq!(rt; number_at(&fib, [11, 0, 0, 0]), None);
     let route = prefix(&rt, [10, 1, 0, 0], 16);
     assert_eq!(rt; fib.get(&route).map(|hop| hop.number()), Some(2));
+    assert_eq!(rt; fib.config(), LIMITS);
+    Ok(())
+}
+
+#[test]
+fn lookup4(rt: HostRuntime) -> Result<(), Fail> {
+    let mut fib = Fib::open(rt.alloc(), LIMITS)?;
+    for plain in THREE_ROUTES {
+        let outcome = fib.execute(&command(&rt, *plain));
+        assert_eq!(rt; outcome, Outcome::Put(Put::Added));
+    }
     let addrs = [0x0a01_0180, 0x0b00_0000, 0x0a01_017f, 0x0a02_0000];
     assert_eq!(rt; fib.lookup4(addrs, 99), [3, 99, 2, 1]);
-    assert_eq!(rt; fib.config(), LIMITS);
     Ok(())
 }
 
@@ -270,13 +280,25 @@ fn default_route_updates(rt: HostRuntime) -> Result<(), Fail> {
 
 #[test]
 fn full_block(rt: HostRuntime) -> Result<(), Fail> {
-    let mut fib = Fib::open(rt.alloc(), LIMITS)?;
+    let alloc = rt.alloc();
+    let mut fib = Fib::open(alloc, LIMITS)?;
+    let mut commands = Vec::with_capacity(alloc, 256)?;
     for last in 0..256 {
-        let route = prefix(&rt, [10, 0, 0, last], 32);
-        assert_eq!(rt; fib.add(&route, hop(&rt, 9)), Ok(Put::Added));
+        commands.push(command(&rt, Plain::Add([10, 0, 0, last], 32, 9)))?;
     }
+    let outcomes = fib.run(alloc, &commands)?;
+    assert!(rt;
+        outcomes
+            .iter()
+            .all(|outcome| *outcome == Outcome::Put(Put::Added))
+    );
     assert_eq!(rt; account(&fib), (256, 256, 1, 0, 255, 1));
+    assert!(rt; LIMITS.check().is_ok());
+    let plainly = expected(alloc, &LIMITS, &commands)?;
+    assert_eq!(rt; outcomes.as_slice(), plainly.outcomes.as_slice());
+    assert_eq!(rt; account(&fib), plain_account(&plainly));
     assert_eq!(rt; number_at(&fib, [10, 0, 0, 77]), Some(9));
+    assert_eq!(rt; number_at(&fib, [10, 0, 1, 0]), None);
     Ok(())
 }
 
@@ -294,11 +316,21 @@ fn delete_then_reclaim(rt: HostRuntime) -> Result<(), Fail> {
         outcomes: &["added", "added", "added", "deleted 3"],
         account: (2, 4, 0, 1, 255, 2),
     };
-    let mut fib = run_case(&rt, rt.alloc(), &case)?;
+    let fib = run_case(&rt, rt.alloc(), &case)?;
     assert_eq!(rt; number_at(&fib, [10, 1, 1, 128]), Some(2));
-    let reclaimed = fib.execute(&Command::Reclaim(16));
-    assert_eq!(rt; words(rt.alloc(), &reclaimed)?.as_str(), "reclaimed 1");
-    assert_eq!(rt; account(&fib), (2, 4, 0, 0, 256, 2));
+    let reclaimed = Case {
+        commands: &[
+            Plain::Add([10, 0, 0, 0], 8, 1),
+            Plain::Add([10, 1, 0, 0], 16, 2),
+            Plain::Add([10, 1, 1, 128], 25, 3),
+            Plain::Delete([10, 1, 1, 128], 25),
+            Plain::Reclaim(16),
+        ],
+        outcomes: &["added", "added", "added", "deleted 3", "reclaimed 1"],
+        account: (2, 4, 0, 0, 256, 2),
+        ..case
+    };
+    run_case(&rt, rt.alloc(), &reclaimed)?;
     Ok(())
 }
 
@@ -527,6 +559,7 @@ fn configs(rt: HostRuntime) -> Result<(), Fail> {
         "a limit of the table is outside its range, out of memory"
     );
     assert_eq!(rt; OpenError::from(BadConfig), OpenError::BadConfig);
+    assert_eq!(rt; OpenError::from(AllocError), OpenError::Memory);
     Ok(())
 }
 

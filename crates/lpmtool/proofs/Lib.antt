@@ -1,3 +1,4 @@
 pub mod Written
 pub mod Loaded
 pub mod Answered
+pub mod Ended

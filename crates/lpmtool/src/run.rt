@@ -1,8 +1,8 @@
 //! A run of the program, over any files and writers.
-ghost use Rattle.std.specs.Prelude.{◌≡◌, ◌≢◌, map, OnOk, IfErr};
+ghost use Rattle.std.specs.Prelude.{◌≡◌, ◌≢◌, ◌⊎◌, map, OnOk, IfErr, IsErrOf};
 ghost use Rattle.clap.specs.Words.{kind_of};
 ghost use Rattle.std.specs.declared.io.ErrorKind.TheVariants.{OutOfMemory};
-ghost use Rattle.lpmtool.specs.Run.{IsDone, WritesText};
+ghost use Rattle.lpmtool.specs.Run.{IsDone, IsBegun, WritesText, WritesPart};
 ghost use Rattle.lpmtool.specs.Status.{status_of};
 
 use crate::failure::{Failure, USAGE};
@@ -28,7 +28,9 @@ pub fn run<S: AsStr, F: Files, O: Write, E: Write>(
     ensures done { result ≡ 0 → IsDone (map S.text words.now) (F.bytes files.now)
         (O.contents out.old) (O.contents out.new) }
 
-    // Only help and a failed write leave something written where the command isn't done.
+    // Only a failed write leaves something written where the command isn't done: a beginning of its text.
+    ensures begun { result ≡ 3 → (out.new ≡ out.old)
+        ⊎ IsBegun (map S.text words.now) (F.bytes files.now) (O.contents out.old) (O.contents out.new) }
     ensures untouched { result ≢ 0 → result ≢ 3 → out.new ≡ out.old }
 {
     let line = match options(alloc, words) {
@@ -51,6 +53,8 @@ fn perform<'a, F: Files, O: Write>(
     out: &mut O,
 ) -> Result<(), Failure<'a>>
     ensures done { OnOk result (WritesText line.entry (F.bytes files.now) (O.contents out.old) (O.contents out.new)) }
+    ensures begun { IsErrOf result Failure.CannotWrite
+        → WritesPart line.entry (F.bytes files.now) (O.contents out.old) (O.contents out.new) }
     ensures untouched { IfErr result (λ e. e ≢ Failure.CannotWrite → out.new ≡ out.old) }
 {
     match line {
@@ -76,7 +80,7 @@ pub fn refuse_words<E: Write>(kind: io::ErrorKind, err: &mut E) -> u8
 
 // Shows the parser's text: help on `out`, else what is wrong with the words on `err`.
 fn show<O: Write, E: Write>(error: &Error, out: &mut O, err: &mut E) -> u8
-    ensures help { result ≡ 0 → kind_of error.now ≡ ErrorKind.DisplayHelp }
+    ensures help { result ≢ 2 → kind_of error.now ≡ ErrorKind.DisplayHelp }
     ensures untouched { result ≢ 0 → result ≢ 3 → out.new ≡ out.old }
 {
     match error.kind() {
