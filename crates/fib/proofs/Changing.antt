@@ -1,11 +1,12 @@
 -- The groups of the blocks, while groups are taken and retired.
 use Rattle.std.proofs.Common.{arith, ◌≡◌, ◌≢◌, ℕ, zero, suc, ◌+◌, ◌*◌, ◌^◌, ◌<◌, ◌≤◌, inl, inr, refl, ap, sym, ◌∙◌, subst, List, [], ◌∷◌, ◌++◌, length, Option, Some, None, Bool, true, false}
-use Rattle.std.specs.Prelude.{slice_get, slice_index, ◌↔◌, ◌==◌, if◌then◌else◌}
+use Rattle.std.specs.Prelude.{IsSome, IsTrue, slice_get, slice_index, ◌↔◌, ◌==◌, if◌then◌else◌}
 use Rattle.std.proofs.lemmas.Bool.{cases_eq, cases_lt, eq-eqb, ne_eqb}
 use Rattle.std.proofs.lemmas.List.{get_or_past}
 use Rattle.std.proofs.lemmas.Option.{slice_get_within}
 use Rattle.std.proofs.Math.Nat.{mul-le-mul_right}
-use Rattle.lpm_entry.specs.declared.Entry.TheVariants.{Miss, Group}
+use Rattle.lpm_entry.specs.declared.Entry.{Entry}
+use Rattle.lpm_entry.specs.declared.Entry.TheVariants.{Miss, Hop, Group}
 use Rattle.lpm_entry.specs.Words.{entry_in}
 use Rattle.lpm_entry.proofs.Reading.{entry_in_zero}
 use Rattle.lpm_cells.specs.Table.{Words, IsWords}
@@ -118,3 +119,26 @@ some_linked xs g b at = count_by-some is_linked xs g (Linked b) at refl
 
 pub few_linked : (xs : List GroupState) → linked_count xs ≤ length xs
 few_linked xs = omega (arith, counts-total xs)
+
+-- an entry that is a group's has a group
+pub group_some : (e : Entry) → ((g : ℕ) × (e ≡ Group g)) ↔ IsSome (group_in e)
+group_some Miss = ((λ k. absurd (not_group Miss k.0 k.1 (λ g. cc))), (λ k. absurd cc))
+  where
+    not_group : (e : Entry) (g : ℕ) → e ≡ Group g → ((h : ℕ) → e ≡ Group h → ⊥) → ⊥
+    not_group e g q n = n g q
+group_some (Hop hop depth) = ((λ k. absurd (hop_group hop depth k.0 k.1)), (λ k. absurd cc))
+  where
+    hop_group : (h d g : ℕ) → Hop h d ≡ Group g → ⊥
+    hop_group h d g q = cc
+group_some (Group g) = ((λ k. refl), (λ k. (g, refl)))
+
+-- a block that isn't linked has no group
+pub unlinked_none : (F : List ℕ) (i : ℕ) (b : Bool) → b ≡ false → IsTrue b ↔ IsSome (group_at F i) → group_at F i ≡ None
+unlinked_none F i b off k = none_of (group_at F i) (λ some. no_truth b off (k.1 some))
+  where
+    none_of : (x : Option ℕ) → (IsSome x → ⊥) → x ≡ None
+    none_of None h = refl
+    none_of (Some g) h = absurd (h refl)
+
+    no_truth : (b : Bool) → b ≡ false → IsTrue b → ⊥
+    no_truth b p q = cc

@@ -12,7 +12,7 @@ ghost use Rattle.fib_model.specs.Counting.{counting, opened};
 ghost use Rattle.fib.specs.Lookups.{IsHopOrDefault};
 ghost use Rattle.fib_model.specs.declared.command.Report.TheVariants as report;
 
-use super::running::{group_for, run};
+use super::running::{group_for, is_linked, run};
 use super::{Keeper, OpenError, Pool};
 use defer_queue::{DeferQueue, Reclaimed};
 use lpm_bits::{Hop, Prefix, Shape};
@@ -183,6 +183,8 @@ impl<const FIRST: u32, const SECOND: u32> Fib<FIRST, SECOND> {
                 _ => Err(Refusal::Exhausted),
             };
         }
+        // The word is loaded here, so that the wait for it and the search of the rules overlap.
+        let linked = is_linked(prefix, &self.cells);
         let put = match self.rules.put(prefix, hop) {
             Ok(put) => put,
             Err(RuleFault::TooManyRules) => return Err(Refusal::TooManyRules),
@@ -191,7 +193,7 @@ impl<const FIRST: u32, const SECOND: u32> Fib<FIRST, SECOND> {
         if let Put::Unchanged = put {
             return Ok(put);
         }
-        match group_for(prefix, &mut self.cells, &mut self.pool) {
+        match group_for(prefix, linked, &self.cells, &mut self.pool) {
             Ok(group) => {
                 let update = Update::add(prefix, hop, group);
                 run(update, &mut self.cells, &mut self.pool, &self.config);

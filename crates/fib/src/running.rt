@@ -1,6 +1,6 @@
 //! Whole changes of the words, with the groups that they take and give up.
 
-ghost use Rattle.std.specs.Prelude.{◌≡◌, ℕ, ◌+◌, ◌-◌, ◌*◌, ◌/◌, ◌^◌, ◌<◌, ◌≤◌, ◌⊎◌, Some, None, IfOk, IfErr, OnErr, IsSome, MatchOption, MatchResult, IsSomeAnd, List, [], ◌∷◌, length, slice_get};
+ghost use Rattle.std.specs.Prelude.{◌≡◌, ℕ, ◌+◌, ◌-◌, ◌*◌, ◌/◌, ◌^◌, ◌<◌, ◌≤◌, ◌⊎◌, Some, None, IfOk, IfErr, OnErr, IsSome, MatchOption, MatchResult, IsSomeAnd, IsTrue, ◌↔◌, List, [], ◌∷◌, length, slice_get};
 ghost use Rattle.lpm_groups.specs.States.{linked_count, free_count};
 ghost use Rattle.lpm_rules.specs.RuleMap.{RuleMap, AllNetworks};
 ghost use Rattle.lpm_update.specs.Linked.{IsTable, group_at};
@@ -14,8 +14,7 @@ ghost use Rattle.fib.specs.Waiting.{IsQueued, tokens_of};
 
 use super::Pool;
 use lpm_bits::{Prefix, Shape};
-use lpm_cells::{Cells, PlainCells};
-use lpm_entry::Entry;
+use lpm_cells::PlainCells;
 use lpm_update::{Did, Update};
 use qsbr::{Busy, Config};
 
@@ -51,32 +50,45 @@ pub(crate) fn run<const FIRST: u32, const SECOND: u32>(
     }
 }
 
+/// Whether the block of the prefix's first address has a group.
+#[inline]
+pub(crate) fn is_linked<const FIRST: u32, const SECOND: u32>(
+    prefix: &Prefix<FIRST, SECOND>,
+    cells: &PlainCells<FIRST, SECOND>,
+) -> bool
+    ensures { IsTrue result ↔ IsSome (group_at cells.now.firsts (prefix.now.bits / 2 ^ SECOND)) }
+{
+    let bits = prefix.bits();
+    cells.is_linked(Shape::<FIRST, SECOND>::first_index(bits))
+}
+
 /// The group by which a rule is added: none where it needs no new one, and else the one that is then
 /// linked to the rule's block. The error is that it needs one and none can be had, and the worker that
 /// holds the oldest group in limbo.
 pub(crate) fn group_for<const FIRST: u32, const SECOND: u32>(
     prefix: &Prefix<FIRST, SECOND>,
-    cells: &mut PlainCells<FIRST, SECOND>,
+    linked: bool,
+    cells: &PlainCells<FIRST, SECOND>,
     pool: &mut Pool,
 ) -> Result<Option<u32>, Option<Busy>>
-    requires table { IsTable FIRST SECOND cells.old.firsts cells.old.seconds }
-    requires tied { IsTied FIRST pool.old.keeper.groups (group_at cells.old.firsts) }
+    requires linked { IsTrue linked ↔ IsSome (group_at cells.now.firsts (prefix.now.bits / 2 ^ SECOND)) }
+    requires table { IsTable FIRST SECOND cells.now.firsts cells.now.seconds }
+    requires tied { IsTied FIRST pool.old.keeper.groups (group_at cells.now.firsts) }
     requires queued { IsQueued pool.old.keeper.groups pool.old.queue }
-    requires sizes { length pool.old.keeper.groups ≡ cells.old.groups }
-    ensures cells { cells.new ≡ cells.old }
+    requires sizes { length pool.old.keeper.groups ≡ cells.now.groups }
     ensures group { MatchResult result
         (λ group. MatchOption group
-        ((pool.new ≡ pool.old) × ((prefix.now.len ≤ FIRST) ⊎ IsSome (group_at cells.old.firsts (prefix.now.bits / 2 ^ SECOND))))
-        (λ g. (FIRST < prefix.now.len) × (group_at cells.old.firsts (prefix.now.bits / 2 ^ SECOND) ≡ None)
+        ((pool.new ≡ pool.old) × ((prefix.now.len ≤ FIRST) ⊎ IsSome (group_at cells.now.firsts (prefix.now.bits / 2 ^ SECOND))))
+        (λ g. (FIRST < prefix.now.len) × (group_at cells.now.firsts (prefix.now.bits / 2 ^ SECOND) ≡ None)
         × (linked_count pool.new.keeper.groups ≡ linked_count pool.old.keeper.groups + 1)
         × (0 < free_count pool.old.keeper.groups → tokens_of pool.new.queue.items ≡ tokens_of pool.old.queue.items)
         × (free_count pool.old.keeper.groups ≡ 0 → (u : ℕ) × IsUnheld counting pool.old.keeper.domain u × (tokens_of pool.old.queue.items ≡ u ∷ tokens_of pool.new.queue.items))))
-        (λ oldest. (pool.new ≡ pool.old) × (FIRST < prefix.now.len) × (group_at cells.old.firsts (prefix.now.bits / 2 ^ SECOND) ≡ None) × (free_count pool.old.keeper.groups ≡ 0)
+        (λ oldest. (pool.new ≡ pool.old) × (FIRST < prefix.now.len) × (group_at cells.now.firsts (prefix.now.bits / 2 ^ SECOND) ≡ None) × (free_count pool.old.keeper.groups ≡ 0)
         × MatchOption oldest (tokens_of pool.old.queue.items ≡ []) (λ busy. IsSomeAnd (slice_get (tokens_of pool.old.queue.items) 0) (λ u. counting.is_held_by pool.old.keeper.domain u busy))) }
-    ensures fits { (R : RuleMap) → IsAnswering FIRST SECOND R cells.old.firsts cells.old.seconds
-        → IfOk result (AddFits FIRST SECOND R prefix.now cells.old.firsts cells.old.seconds) }
+    ensures fits { (R : RuleMap) → IsAnswering FIRST SECOND R cells.now.firsts cells.now.seconds
+        → IfOk result (AddFits FIRST SECOND R prefix.now cells.now.firsts cells.now.seconds) }
     ensures some { IfOk result (λ group. IsSome group → FIRST < prefix.now.len) }
-    ensures tied { IfOk result (λ group. IsTied FIRST pool.new.keeper.groups (held_with group (prefix.now.bits / 2 ^ SECOND) cells.old.firsts)) }
+    ensures tied { IfOk result (λ group. IsTied FIRST pool.new.keeper.groups (held_with group (prefix.now.bits / 2 ^ SECOND) cells.now.firsts)) }
     ensures domain { pool.new.keeper.domain ≡ pool.old.keeper.domain }
     ensures queued { IsQueued pool.new.keeper.groups pool.new.queue }
     ensures states { length pool.new.keeper.groups ≡ length pool.old.keeper.groups }
@@ -86,10 +98,10 @@ pub(crate) fn group_for<const FIRST: u32, const SECOND: u32>(
     if prefix.len() <= FIRST {
         return Ok(None);
     }
-    let block = Shape::<FIRST, SECOND>::first_index(bits);
-    if let Entry::Group(_) = Entry::of_word(cells.first(block)) {
+    if linked {
         return Ok(None);
     }
+    let block = Shape::<FIRST, SECOND>::first_index(bits);
     match pool.take(block) {
         Ok(group) => return Ok(Some(group)),
         Err(oldest) => return Err(oldest),

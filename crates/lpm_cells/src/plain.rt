@@ -1,6 +1,6 @@
 //! The words in two vectors, for one thread.
 
-ghost use Rattle.std.specs.Prelude.{◌≡◌, ℕ, ◌+◌, ◌*◌, ◌^◌, ◌<◌, ◌≤◌, slice_set, replicate, IfOk, MatchOption};
+ghost use Rattle.std.specs.Prelude.{◌≡◌, ℕ, ◌+◌, ◌*◌, ◌^◌, ◌<◌, ◌≤◌, ◌↔◌, slice_index, slice_set, replicate, IfOk, IsTrue, MatchOption};
 ghost use Rattle.lpm_bits.specs.Widths.{IsShape};
 ghost use Rattle.lpm_cells.specs.Table.{Words, IsWords, IsFirstWord, IsSecondWord, IsWord, IsLast, entry_at};
 ghost use Rattle.lpm_entry.specs.Words.{entry_in, hop_in};
@@ -57,6 +57,18 @@ impl<const FIRST: u32, const SECOND: u32> PlainCells<FIRST, SECOND> {
         ensures words { IsWords FIRST SECOND self.now }
     {
         self.groups
+    }
+
+    /// Whether the first word at this place is a group's.
+    #[inline]
+    pub fn is_linked(&self, i: usize) -> bool
+        requires { i < 2 ^ FIRST }
+        ensures { IsTrue result ↔ ((g : ℕ) × (entry_in (slice_index self.now.firsts i) ≡ Group g)) }
+    {
+        match group_of::<FIRST, SECOND>(self.first_words[i]) {
+            Some(_) => return true,
+            None => return false,
+        }
     }
 
     /// The last word that a lookup of the address reads, of one or two.

@@ -5,7 +5,7 @@ use Rattle.lpm_entry.specs.Words.{entry_in}
 use Rattle.lpm_update.specs.Linked.{group_at}
 use Rattle.lpm_update.proofs.Taking.{shallow, no_group_at}
 use Rattle.fib.specs.Waiting.{IsTaken}
-use Rattle.fib.proofs.Changing.{tied_took, fresh_taken}
+use Rattle.fib.proofs.Changing.{tied_took, fresh_taken, unlinked_none}
 use Rattle.fib.proofs.running.group_for.Goals as goal
 
 pub returns-in-Ok : goal.returns-in-Ok
@@ -22,11 +22,10 @@ returns-in-Ok g c =
     let network = c.bits-bits.ensures.network in
     let low = shr_below p.bits f s network.1 in
     let block : c.first_index-block.result ≡ b = c.first_index-block.ensures.value ∙ ap (λ x. x / 2 ^ s) c.bits-bits.ensures.value in
-    let none : group_at F b ≡ None = no_group_at F b (λ k e. c.in_default.not-Group k (c.of_word.ensures ∙ ap entry_in (c.first.ensures.value ∙ ap (slice_index F) block) ∙ e)) in
+    let none : group_at F b ≡ None = unlinked_none F b c.args.linked c.if-linked.false c.requires.linked in
     let taken = subst (λ x. IsTaken xs n x ys) block c.in-Ok.ensures.linked in
     let long = c.if-len.false in
     record {
-      cells = c.first.ensures.same;
       group = (omega arith, none, taken.linked, c.in-Ok.ensures.taken.0, c.in-Ok.ensures.taken.1);
       fits = λ R answering. (
         omega arith,
@@ -39,3 +38,12 @@ returns-in-Ok g c =
       queued = c.take.ensures.queued;
       states = taken.as_many;
     }
+
+pub returns-then-linked-clause-fits : goal.returns-then-linked-clause-fits
+returns-then-linked-clause-fits g c = λ R answering long.
+    let f = g.row.FIRST in
+    let s = g.row.SECOND in
+    let p = c.args.prefix.now in
+    let b = p.bits / 2 ^ s in
+    let low = shr_below p.bits f s c.bits-bits.ensures.network.1 in
+    (answering.groups b low).0 (c.requires.linked.0 c.if-linked.true)

@@ -31,7 +31,6 @@ run-requires g c =
     let x = c.self.inside in
     let p = c.args.prefix.now in
     let known = c.self.invariant in
-    let cells = sym c.group_for.ensures.cells in
     let group = c.in-Ok-group_for.group in
     let fits = c.in-Ok-group_for.ensures.fits x.rules.rules known.answering in
     let leads = c.add-update.ensures.leads x.rules.rules x.cells.firsts x.cells.seconds known.answering fits in
@@ -41,11 +40,11 @@ run-requires g c =
     let token = ap (λ (r : Registry). r.token) c.group_for.ensures.domain in (
       lit< tt,
       (
-        subst (λ (t : Words). IsTable f s t.firsts t.seconds) cells known.answering.table,
+        known.answering.table,
         (
-          subst (λ (t : Words). IsBegun f s c.add-update.result t.firsts t.seconds) cells leads.0,
+          leads.0,
           (
-            subst (λ (t : Words). IsTied f c.group_for.new.pool.keeper.groups (group_held c.add-update.result t.firsts)) cells tied,
+            tied,
             (c.group_for.ensures.queued, omega (arith, tokens.0, known.states, c.group_for.ensures.states, token)),
           ),
         ),
@@ -60,12 +59,11 @@ invariant_of-self-in-Ok-group_for g c =
     let p = c.args.prefix.now in
     let h = c.args.hop in
     let known = c.self.invariant in
-    let cells = c.group_for.ensures.cells in
     let fits = c.in-Ok-group_for.ensures.fits x.rules.rules known.answering in
     let leads = c.add-update.ensures.leads x.rules.rules x.cells.firsts x.cells.seconds known.answering fits in
     let made = ap (λ (r : RuleList). r.rules) c.in-Ok.ensures.ok in
     let run = c.run.ensures in
-    let answering = subst (λ (t : Words). IsAnswering f s x.rules.rules t.firsts t.seconds) (sym cells) known.answering in
+    let answering = known.answering in
     let network = c.bits-bits.ensures.network in
     let before = not_exhausted c.args.self.now.config c.args.self.now.table (not_true c.is_exhausted.result _ c.if-is_exhausted.false c.is_exhausted.ensures) in
     let tokens = subst (λ (z : FibState). HasTokens counting z.config z.table) (sym c.self.view_is) before in
@@ -73,7 +71,7 @@ invariant_of-self-in-Ok-group_for g c =
     (ap (λ (r : RuleList). r.max) c.in-Ok.ensures.ok)
     (subst (λ R. IsAnswering f s R c.run.new.cells.firsts c.run.new.cells.seconds) (sym made)
     (run.answering x.rules.rules (map.insert x.rules.rules p h) answering (networks_insert (f + s) x.rules.rules p h network known.answering.networks) leads.1))
-    run.tied run.queued (run.sizes.0 ∙ ap (λ (t : Words). t.groups) cells) (run.sizes.1 ∙ c.group_for.ensures.states)
+    run.tied run.queued run.sizes.0 (run.sizes.1 ∙ c.group_for.ensures.states)
     (unlinks_counters x.config (linked_count c.group_for.new.pool.keeper.groups - linked_count c.run.new.pool.keeper.groups) c.group_for.new.pool.keeper.domain c.run.new.pool.keeper.domain
     (tokens_of c.group_for.new.pool.queue.items) (tokens_of c.run.new.pool.queue.items) run.unlinks ∙ ap (λ (r : Registry). r.counters) c.group_for.ensures.domain) tokens.1
 
@@ -86,7 +84,6 @@ returns-in-Ok-group_for g c =
     let h = c.args.hop in
     let known = c.self.invariant in
     let S : State Registry = table_of x.rules.rules x.pool.keeper.domain x.pool.queue.items x.versions in
-    let cells = c.group_for.ensures.cells in
     let put = c.in-Ok.ensures in
     let made = ap (λ (r : RuleList). r.rules) put.ok in
     let network = c.bits-bits.ensures.network in
@@ -98,7 +95,7 @@ returns-in-Ok-group_for g c =
     let tokens : HasTokens counting x.config S = subst (λ (z : FibState). HasTokens counting z.config z.table) (sym c.self.view_is) before in
     let fits = c.in-Ok-group_for.ensures.fits x.rules.rules known.answering in
     let leads = c.add-update.ensures.leads x.rules.rules x.cells.firsts x.cells.seconds known.answering fits in
-    let answering = subst (λ (t : Words). IsAnswering f s x.rules.rules t.firsts t.seconds) (sym cells) known.answering in
+    let answering = known.answering in
     let after = c.run.ensures.answering x.rules.rules (map.insert x.rules.rules p h) answering (networks_insert (f + s) x.rules.rules p h network known.answering.networks) leads.1 in
     let now = linked_deep f s (map.insert x.rules.rules p h) c.run.new.pool.keeper.groups (group_at c.run.new.cells.firsts) after.networks c.run.ensures.tied after.groups in
     let then = found_linked f s x.config x.rules x.cells x.pool x.versions known p low h group pool found in
@@ -129,8 +126,8 @@ invariant_of-self-in-Err g c =
     let put = c.in-Ok.ensures in
     let new = absent f s x.config x.rules x.cells x.pool x.versions known p low none.1 none.2 in
     let back = taken_back x.rules p h c.put.new.self c.remove.new.self c.remove.result put.ok new c.remove.ensures.hop c.remove.ensures.ok in
-    standing_same f s x.config x.rules c.remove.new.self x.cells c.group_for.new.cells x.pool.keeper.groups c.group_for.new.pool.keeper.groups x.pool.keeper.domain c.group_for.new.pool.keeper.domain
-    x.pool.queue c.group_for.new.pool.queue x.versions known back c.group_for.ensures.cells
+    standing_same f s x.config x.rules c.remove.new.self x.cells x.cells x.pool.keeper.groups c.group_for.new.pool.keeper.groups x.pool.keeper.domain c.group_for.new.pool.keeper.domain
+    x.pool.queue c.group_for.new.pool.queue x.versions known back refl
     (ap (λ (y : Pool). y.keeper.groups) none.0) (ap (λ (y : Pool). y.keeper.domain) none.0) (ap (λ (y : Pool). y.queue) none.0)
 
 pub returns-in-Err : goal.returns-in-Err
