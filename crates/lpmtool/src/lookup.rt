@@ -17,6 +17,9 @@ use route_text::{ReadError, Route, answers_text, read_addresses, read_routes};
 use std::alloc::{AllocError, Global};
 use std::io::Write;
 
+// How many routes are read ahead.
+const AHEAD: usize = 64;
+
 /// Writes a line for each address with the next hop of its longest matching route.
 ///
 /// Each file is read and parsed before the next, and all before a route is loaded. The text is formed
@@ -135,7 +138,11 @@ fn load<'a>(
     ensures failure { IfErr result (EndsLoading limits path.entry.now routes.now) }
 {
     let mut table = open(alloc, limits)?;
-    for route in routes {
+    let mut next = 0usize;
+    for (index, route) in routes.iter().enumerate() {
+        if index >= next {
+            next = index.saturating_add(read_ahead(&table, &routes[index..]));
+        }
         let line = route.line;
         match table.add(&route.prefix, route.hop) {
             Ok(_) => {}
@@ -147,6 +154,19 @@ fn load<'a>(
         }
     }
     Ok(table)
+}
+
+// Reads the words of the next routes, whose additions then find them near: the processor waits for all of
+// them together, and not for each alone. It answers after how many routes to read ahead again. That is
+// sooner where few of these routes were covered yet, since then more words are stored on the way.
+#[inline(never)]
+fn read_ahead(table: &Fib<24, 8>, routes: &[Route]) -> usize {
+    let mut covered = 0usize;
+    for route in routes.iter().take(AHEAD) {
+        let is_covered = table.lookup(route.prefix.bits()).is_some();
+        covered = covered.wrapping_add(usize::from(is_covered));
+    }
+    (AHEAD / 2).max(covered)
 }
 
 // A table of these limits without rules.

@@ -9,25 +9,25 @@ use Rattle.lpmtool.proofs.lookup.load.Goals as goal
 pub returns-in-Err-TooManyRules-clause-failure : goal.returns-in-Err-TooManyRules-clause-failure
 returns-in-Err-TooManyRules-clause-failure c =
     let reason = subst (IsReason TooManyRules) (sym c.in-Err-TooManyRules.field-0-is) tt in
-    rw c.refused.ensures (refl, first_refused c.args.limits c.args.routes.now c.loop-route.route-index c.route-item.result _ _ _ TooManyRules _ (omega arith) c.route-item.is c.loop-route.invariant.config c.loop-route.invariant.loaded reason c.in-Err-TooManyRules.ensures.adds)
+    rw c.refused.ensures (refl, first_refused c.args.limits c.args.routes.now c.loop-index.index c.index-routes-index.result _ _ _ TooManyRules _ (omega arith) c.index-routes-index.is c.loop-index.invariant.config c.loop-index.invariant.loaded reason c.in-Err-TooManyRules.ensures.adds)
 
 pub returns-in-Err-Exhausted-clause-failure : goal.returns-in-Err-Exhausted-clause-failure
 returns-in-Err-Exhausted-clause-failure c =
     let reason = subst (IsReason Exhausted) (sym c.in-Err-Exhausted.field-0-is) tt in
-    rw c.refused-in-Err-Exhausted.ensures (refl, first_refused c.args.limits c.args.routes.now c.loop-route.route-index c.route-item.result _ _ _ Exhausted _ (omega arith) c.route-item.is c.loop-route.invariant.config c.loop-route.invariant.loaded reason c.in-Err-Exhausted.ensures.adds)
+    rw c.refused-in-Err-Exhausted.ensures (refl, first_refused c.args.limits c.args.routes.now c.loop-index.index c.index-routes-index.result _ _ _ Exhausted _ (omega arith) c.index-routes-index.is c.loop-index.invariant.config c.loop-index.invariant.loaded reason c.in-Err-Exhausted.ensures.adds)
 
 pub returns-in-Err-NoGroups-clause-failure : goal.returns-in-Err-NoGroups-clause-failure
 returns-in-Err-NoGroups-clause-failure c =
     let reason = subst (IsReason NoGroups) (sym c.in-Err-NoGroups.field-0-is) tt in
-    rw c.refused-in-Err-NoGroups.ensures (refl, first_refused c.args.limits c.args.routes.now c.loop-route.route-index c.route-item.result _ _ _ NoGroups _ (omega arith) c.route-item.is c.loop-route.invariant.config c.loop-route.invariant.loaded reason c.in-Err-NoGroups.ensures.adds)
+    rw c.refused-in-Err-NoGroups.ensures (refl, first_refused c.args.limits c.args.routes.now c.loop-index.index c.index-routes-index.result _ _ _ NoGroups _ (omega arith) c.index-routes-index.is c.loop-index.invariant.config c.loop-index.invariant.loaded reason c.in-Err-NoGroups.ensures.adds)
 
-pub loop-route-preserved : goal.loop-route-preserved
-loop-route-preserved c =
-    let r = c.route-item.result in
-    let within : c.loop-route.route-index < length c.args.routes.now = omega arith in
-    let config = c.loop-route.invariant.config in
-    let adds = subst (λ (x : Config). Adds counting 24 8 x c.loop-route.table.table r.prefix r.hop (Ok c.in-Ok.field-0) c.add.new.self.table) config c.in-Ok.ensures.adds in
+pub loop-index-preserved : goal.loop-index-preserved
+loop-index-preserved c =
+    let r = c.index-routes-index.result in
+    let within : c.loop-index.index < length c.args.routes.now = omega arith in
+    let config = c.loop-index.invariant.config in
+    let adds = subst (λ (x : Config). Adds counting 24 8 x c.loop-index.table.table r.prefix r.hop (Ok c.in-Ok.field-0) c.add.new.self.table) config c.in-Ok.ensures.adds in
     record {
       config = c.in-Ok.ensures.config ∙ config;
-      loaded = rw (take_read c.args.routes.now c.loop-route.route-index r within c.route-item.is) (loaded_more c.args.limits _ _ _ r c.in-Ok.field-0 c.loop-route.invariant.loaded adds);
+      loaded = rw (take_read c.args.routes.now c.loop-index.index r within c.index-routes-index.is) (loaded_more c.args.limits _ _ _ r c.in-Ok.field-0 c.loop-index.invariant.loaded adds);
     }
