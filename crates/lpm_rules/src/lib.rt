@@ -197,17 +197,14 @@ impl<const FIRST: u32, const SECOND: u32> Rules<FIRST, SECOND> {
         ensures same { result ≡ Ok Put.Unchanged → self.new ≡ self.old }
         ensures err { OnErr result (self.new ≡ self.old) }
     {
-        let old = self.get(prefix);
-        if old == Some(hop) {
-            return Ok(Put::Unchanged);
-        }
-        if old.is_none() && self.is_full() {
+        if self.is_full() && self.get(prefix).is_none() {
             return Err(RuleFault::TooManyRules);
         }
         match self.store(prefix, hop) {
-            Ok(Some(_)) => Ok(Put::Replaced),
-            Ok(None) => Ok(Put::Added),
-            Err(_) => Err(RuleFault::Memory),
+            Ok(Some(old)) if old == hop => return Ok(Put::Unchanged),
+            Ok(Some(_)) => return Ok(Put::Replaced),
+            Ok(None) => return Ok(Put::Added),
+            Err(_) => return Err(RuleFault::Memory),
         }
     }
 
