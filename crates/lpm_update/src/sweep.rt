@@ -150,7 +150,7 @@ impl Sweep {
     }
 
     /// Makes the next store of the sweep, upwards; where none is left, it is done.
-    #[inline]
+    #[inline(always)]
     pub fn step<const FIRST: u32, const SECOND: u32, C: Cells>(&mut self, cells: &mut C) -> Did
         requires shape { IsShape FIRST SECOND }
         requires table { IsTable FIRST SECOND (C.firsts cells.old) (C.seconds cells.old) }
