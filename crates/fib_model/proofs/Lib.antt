@@ -7,3 +7,5 @@ pub mod Scans
 pub mod Fronts
 pub mod Tidied
 pub mod Logs
+pub mod TidyRuns
+pub mod Unheld

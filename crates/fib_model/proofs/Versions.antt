@@ -12,9 +12,10 @@ use Rattle.fib_model.specs.declared.command.Outcome.{Outcome}
 use Rattle.fib_model.specs.declared.command.Outcome.TheVariants as outcome
 use Rattle.fib_model.specs.State.{State, Keeping}
 use Rattle.fib_model.specs.Outcomes.{Does}
+use Rattle.fib_model.specs.Counting.{counting}
 use Rattle.fib_model.specs.Textbook.{textbook}
 use Rattle.fib_model.specs.History.{last_of, versions_after, history}
-use Rattle.fib_model.specs.Laws.{RulesAreLastVersion}
+use Rattle.fib_model.specs.Laws.{RulesAreLastVersion, RulesAreLastVersionByCounters}
 
 -- the rules are the last version, and as many updates were begun as there are versions
 abbrev IsAt : {X : Type 0} → State X → List RuleMap → Type 0
@@ -64,3 +65,8 @@ pub rules_are_last_version : RulesAreLastVersion
 rules_are_last_version f g c [] z r = (ap (λ x. x.rules) r, ap (λ x. x.begun) r)
 rules_are_last_version f g c (done ∷ log) z r =
     step (textbook c) f g c r.0 z (history log) done.0 done.1 (rules_are_last_version f g c log r.0 r.1) r.2
+
+pub rules_are_last_version_by_counters : RulesAreLastVersionByCounters
+rules_are_last_version_by_counters f g c [] z r = (ap (λ x. x.rules) r, ap (λ x. x.begun) r)
+rules_are_last_version_by_counters f g c (done ∷ log) z r =
+    step counting f g c r.0 z (history log) done.0 done.1 (rules_are_last_version_by_counters f g c log r.0 r.1) r.2

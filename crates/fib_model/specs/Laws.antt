@@ -5,7 +5,8 @@ use Rattle.qsbr.specs.declared.config.Config.{Config}
 use Rattle.qsbr.specs.Limits.{IsConfig}
 use Rattle.qsbr.specs.Registry.{Registry}
 use Rattle.fib_model.specs.declared.event.Event.{Event}
-use Rattle.fib_model.specs.State.{State}
+use Rattle.fib_model.specs.Intervals.{IsHeldByWorker}
+use Rattle.fib_model.specs.State.{State, IsUnheld}
 use Rattle.fib_model.specs.Outcomes.{Log, Runs}
 use Rattle.fib_model.specs.Counting.{counting, opened}
 use Rattle.fib_model.specs.Textbook.{textbook, beginning}
@@ -16,6 +17,19 @@ abbrev pub RulesAreLastVersion : Type 0
 RulesAreLastVersion = (first second : ℕ) (c : Config) (log : Log first second) (z : State (List Event))
     → Runs (textbook c) first second c beginning log z
     → (z.rules ≡ last_of (history log)) × (z.begun ≡ length (history log))
+
+-- the same of a run by counters
+abbrev pub RulesAreLastVersionByCounters : Type 0
+RulesAreLastVersionByCounters = (first second : ℕ) (c : Config) (log : Log first second) (z : State Registry)
+    → Runs counting first second c (opened c) log z
+    → (z.rules ≡ last_of (history log)) × (z.begun ≡ length (history log))
+
+-- after a run an unlinking has no first holder exactly where no worker's running interval holds it
+-- (DPDK Programmer's Guide, "RCU Library": memory may be freed once no reader can hold a reference to it)
+abbrev pub UnheldByNone : Type 0
+UnheldByNone = (first second : ℕ) (c : Config) (log : Log first second) (z : State (List Event))
+    → Runs (textbook c) first second c beginning log z
+    → (place : ℕ) → IsUnheld (textbook c) z.readers place ↔ ((w : ℕ) → ¬ IsHeldByWorker z.readers place w)
 
 -- what counters say and what reader intervals say is the same: of the rules, the versions, the token number,
 -- who is online, and, for each unlinking that waits, who holds it

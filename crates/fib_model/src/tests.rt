@@ -435,5 +435,7 @@ fn refused_reports(rt: HostRuntime) -> Result<(), Fail> {
 #[test]
 fn laws_are_called() {
     laws::rules_are_last_version();
+    laws::rules_are_last_version_by_counters();
+    laws::unheld_by_none();
     laws::counters_tell_intervals();
 }

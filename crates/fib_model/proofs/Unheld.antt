@@ -1,0 +1,33 @@
+-- Where no worker is the first that holds an unlinking, none holds it.
+use Rattle.std.proofs.Common.{ℕ, zero, suc, ◌+◌, ◌<◌, refl, arith, List, inl, inr}
+use Rattle.std.proofs.lemmas.Bool.{cases_lt}
+use Rattle.qsbr.specs.declared.Busy.{Busy}
+use Rattle.qsbr.specs.declared.config.Config.{Config}
+use Rattle.fib_model.specs.declared.event.Event.{Event}
+use Rattle.fib_model.specs.Intervals.{IsHeldByWorker, unlinkings_before}
+use Rattle.fib_model.specs.State.{IsUnheld}
+use Rattle.fib_model.specs.Textbook.{textbook}
+use Rattle.fib_model.specs.Tidy.{IsTidy}
+use Rattle.fib_model.specs.Laws.{UnheldByNone}
+use Rattle.fib_model.proofs.Fronts.{first_holder}
+use Rattle.fib_model.proofs.Holders.{held_start}
+use Rattle.fib_model.proofs.TidyRuns.{tidy_run}
+
+-- none of the first n workers holds it: the least that did would be its first holder
+none_of_first : (c : Config) (E : List Event) (place : ℕ) → IsTidy c.workers E → IsUnheld (textbook c) E place → (n : ℕ) → (w : ℕ) → w < n → IsHeldByWorker E place w → ⊥
+none_of_first c E place tidy unheld zero = λ w low held. absurd (omega (arith, low))
+none_of_first c E place tidy unheld (suc n) =
+    let before = none_of_first c E place tidy unheld n in
+    λ w low. elim (cases_lt w n) [
+      | inl below ↦ before w below
+      | inr above ↦ λ held.
+          let start = held_start E place w held in
+          let busy : Busy = record { worker = w; counter = c.first_token + unlinkings_before E start.0 } in
+          unheld busy (first_holder c E place w start.0 busy tidy refl held start.1 refl (λ v less. before v (omega (arith, low, above, less))))
+    ]
+
+pub unheld_by_none : UnheldByNone
+unheld_by_none f g c log z r place = (
+  (λ unheld w. none_of_first c z.readers place (tidy_run f g c log z r) unheld (suc w) w (omega arith)),
+  (λ none busy h. none busy.worker h.holds),
+)
