@@ -71,7 +71,7 @@ deep_or_not f g R block = elim (cases_Bool (set.contains (deep_blocks f g R) blo
   | inr lacking ↦ inr (λ deep. let is = (has_deep_blocks f g R block).1 deep in cc)
 ]
 
-lacks_or_not : {X : Type 0} (f g : ℕ) (c : Config) (s : State X) (p : Network) → get s.rules p ≡ None → LacksGroup f g c s p ⊎ (LacksGroup f g c s p → ⊥)
+pub lacks_or_not : {X : Type 0} (f g : ℕ) (c : Config) (s : State X) (p : Network) → get s.rules p ≡ None → LacksGroup f g c s p ⊎ (LacksGroup f g c s p → ⊥)
 lacks_or_not f g c s p absent = elim (cases_lt f p.len) [
   | inr short ↦ inr (λ h. let long = h.long in absurd (omega (arith, long, short)))
   | inl long ↦ elim (deep_or_not f g s.rules (block_of g p)) [

@@ -9,3 +9,5 @@ pub mod Tidied
 pub mod Logs
 pub mod TidyRuns
 pub mod Unheld
+pub mod Unique
+pub mod Same

@@ -1,9 +1,11 @@
 -- Laws of runs.
-use Rattle.std.specs.Prelude.{ℕ, ◌≡◌, ◌<◌, ◌↔◌, List, length, slice_index}
+use Rattle.std.specs.Prelude.{ℕ, ◌≡◌, ◌≢◌, ◌<◌, ◌↔◌, List, length, map, slice_index, All}
 use Rattle.qsbr.specs.declared.Busy.{Busy}
 use Rattle.qsbr.specs.declared.config.Config.{Config}
+use Rattle.qsbr.specs.declared.refusal.Refusal.TheVariants.{Memory}
 use Rattle.qsbr.specs.Limits.{IsConfig}
 use Rattle.qsbr.specs.Registry.{Registry}
+use Rattle.fib_model.specs.declared.command.Outcome.TheVariants.{Refused}
 use Rattle.fib_model.specs.declared.event.Event.{Event}
 use Rattle.fib_model.specs.Intervals.{IsHeldByWorker}
 use Rattle.fib_model.specs.State.{State, IsUnheld}
@@ -30,6 +32,15 @@ abbrev pub UnheldByNone : Type 0
 UnheldByNone = (first second : ℕ) (c : Config) (log : Log first second) (z : State (List Event))
     → Runs (textbook c) first second c beginning log z
     → (place : ℕ) → IsUnheld (textbook c) z.readers place ↔ ((w : ℕ) → ¬ IsHeldByWorker z.readers place w)
+
+-- two runs of the same commands, neither with memory refused, have the same outcomes and leave the same
+-- state
+abbrev pub OutcomesAreUnique : Type 0
+OutcomesAreUnique = (first second : ℕ) (c : Config) (log log' : Log first second) (z z' : State (List Event))
+    → map (λ done. done.0) log ≡ map (λ done. done.0) log'
+    → All (λ done. done.1 ≢ Refused Memory) log → All (λ done. done.1 ≢ Refused Memory) log'
+    → Runs (textbook c) first second c beginning log z → Runs (textbook c) first second c beginning log' z'
+    → (log ≡ log') × (z ≡ z')
 
 -- what counters say and what reader intervals say is the same: of the rules, the versions, the token number,
 -- who is online, and, for each unlinking that waits, who holds it

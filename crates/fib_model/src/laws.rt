@@ -1,6 +1,6 @@
 //! Laws of runs. Each function does nothing: its contract is the law.
 
-ghost use Rattle.fib_model.specs.Laws.{CountersTellIntervals, RulesAreLastVersion, RulesAreLastVersionByCounters, UnheldByNone};
+ghost use Rattle.fib_model.specs.Laws.{CountersTellIntervals, OutcomesAreUnique, RulesAreLastVersion, RulesAreLastVersionByCounters, UnheldByNone};
 
 /// The rules are the last version that the commands made, and as many updates were begun as there are versions.
 pub fn rules_are_last_version()
@@ -12,9 +12,14 @@ pub fn rules_are_last_version_by_counters()
     ensures { RulesAreLastVersionByCounters }
 {}
 
-/// That an unlinking is unheld, said by its first holder, leaves no worker that holds it.
+/// An unlinking without a first holder is held by no worker at all, and the other way round.
 pub fn unheld_by_none()
     ensures { UnheldByNone }
+{}
+
+/// Where memory isn't refused, the same commands come out in one way: the definitions leave nothing open.
+pub fn outcomes_are_unique()
+    ensures { OutcomesAreUnique }
 {}
 
 /// What a token and counters say of who holds what is what reader intervals say, in every run.

@@ -1,0 +1,120 @@
+-- There is one first holder, one reclaim, and one way in which unlinkings come out.
+use Rattle.std.proofs.Common.{arith, ◌≡◌, ℕ, zero, suc, ◌<◌, ◌⊎◌, inl, inr, refl, ap, sym, ◌∙◌, subst, List, [], ◌∷◌, ◌++◌, length, drop, slice_get, Option, Some, None, IsSomeAnd, MatchOption}
+use Rattle.std.proofs.lemmas.Bool.{cases_lt}
+use Rattle.std.proofs.lemmas.List.{length-take, get_or-take}
+use Rattle.std.proofs.lemmas.Option.{slice_get-get_or}
+use Rattle.qsbr.specs.declared.Busy.{Busy}
+use Rattle.qsbr.specs.declared.config.Config.{Config}
+use Rattle.fib_model.specs.declared.event.Event.{Event}
+use Rattle.fib_model.specs.declared.event.Event.TheVariants.{Unlinking}
+use Rattle.fib_model.specs.Intervals.{IsRunningSince}
+use Rattle.fib_model.specs.State.{IsUnheld}
+use Rattle.fib_model.specs.Reclaiming.{Reclaims, MakesRoom, Unlinks}
+use Rattle.fib_model.specs.Textbook.{textbook, IsFirstHolder}
+use Rattle.fib_model.proofs.Holders.{held_start}
+
+busy_of : (a b : Busy) → a.worker ≡ b.worker → a.counter ≡ b.counter → a ≡ b
+busy_of a b w n =
+    let first : a ≡ record { worker = b.worker; counter = a.counter } = ap (λ x. record { worker = x; counter = a.counter }) w in
+    first ∙ ap (λ x. record { worker = b.worker; counter = x }) n
+
+-- the first holder of an unlinking
+pub one_holder : (c : Config) (E : List Event) (place : ℕ) (a b : Busy) → IsFirstHolder c.first_token E place a → IsFirstHolder c.first_token E place b → a ≡ b
+one_holder c E place a b h k = elim (cases_lt a.worker b.worker) [
+  | inl low ↦ absurd (k.first a.worker low h.holds)
+  | inr high ↦ elim (cases_lt b.worker a.worker) [
+    | inl low ↦ absurd (h.first b.worker low k.holds)
+    | inr low ↦
+        let is : a.worker ≡ b.worker = omega (arith, high, low) in
+        let start = held_start E place a.worker h.holds in
+        busy_of a b is (h.counter start.0 start.1 ∙ sym (k.counter start.0 (subst (λ w. IsRunningSince E w start.0) is start.1)))
+  ]
+]
+
+holder_at : (c : Config) (E : List Event) (o : Option ℕ) (a b : Busy) → IsSomeAnd o (λ u. (textbook c).is_held_by E u a) → IsSomeAnd o (λ u. (textbook c).is_held_by E u b) → a ≡ b
+holder_at c E None a b h k = absurd h
+holder_at c E (Some u) a b h k = one_holder c E u a b h k
+
+get_within : (limbo : List ℕ) (i : ℕ) (P : ℕ → Type 0) → IsSomeAnd (slice_get limbo i) P → i < length limbo
+get_within [] i P some = absurd some
+get_within (u ∷ limbo) zero P some = omega arith
+get_within (u ∷ limbo) (suc i) P some = let low = get_within limbo i P some in omega (arith, low)
+
+-- the busy worker that holds the front, if one does
+pub one_front : (c : Config) (E : List Event) (limbo : List ℕ) (a b : Option Busy)
+    → MatchOption a (limbo ≡ []) (λ busy. IsSomeAnd (slice_get limbo 0) (λ u. (textbook c).is_held_by E u busy))
+    → MatchOption b (limbo ≡ []) (λ busy. IsSomeAnd (slice_get limbo 0) (λ u. (textbook c).is_held_by E u busy))
+    → a ≡ b
+one_front c E limbo None None h k = refl
+one_front c E limbo None (Some b) h k = let low = get_within limbo 0 _ k in let none = ap length h in absurd (omega (arith, low, none))
+one_front c E limbo (Some a) None h k = let low = get_within limbo 0 _ h in let none = ap length k in absurd (omega (arith, low, none))
+one_front c E limbo (Some a) (Some b) h k = ap Some (holder_at c E (slice_get limbo 0) a b h k)
+
+-- ---- reclaims
+
+-- a reclaim doesn't stop before what another took
+not_before : (c : Config) (E : List Event) (max : ℕ) (limbo : List ℕ) (m n : ℕ) (a b : Option Busy) (left left' : List ℕ)
+    → Reclaims (textbook c) E max limbo m a left → Reclaims (textbook c) E max limbo n b left' → m < n → ⊥
+not_before c E max limbo m n None b left left' h k low =
+    let most = k.at_most in
+    let within = k.within in
+    elim h.end [
+      | inl all ↦ absurd (omega (arith, most, all, low))
+      | inr all ↦ absurd (omega (arith, within, all, low))
+    ]
+not_before c E max limbo m n (Some busy) b left left' h k low =
+    let within = k.within in
+    let size = length-take n limbo in
+    let unheld = subst (IsUnheld (textbook c) E) (get_or-take n limbo m 0 low) (k.unheld m 0 (omega (arith, size, within, low))) in
+    unheld busy (subst (λ o. IsSomeAnd o (λ u. (textbook c).is_held_by E u busy)) (slice_get-get_or limbo m 0 (omega (arith, within, low))) h.end.1)
+
+pub one_length : (c : Config) (E : List Event) (max : ℕ) (limbo : List ℕ) (m n : ℕ) (a b : Option Busy) (left left' : List ℕ)
+    → Reclaims (textbook c) E max limbo m a left → Reclaims (textbook c) E max limbo n b left' → m ≡ n
+one_length c E max limbo m n a b left left' h k = elim (cases_lt m n) [
+  | inl low ↦ absurd (not_before c E max limbo m n a b left left' h k low)
+  | inr high ↦ elim (cases_lt n m) [
+    | inl low ↦ absurd (not_before c E max limbo n m b a left' left k h low)
+    | inr low ↦ omega (arith, high, low)
+  ]
+]
+
+-- all that may be taken was taken, and another reclaim was stopped there
+not_stopped : (max : ℕ) (limbo : List ℕ) (n : ℕ) (P : ℕ → Type 0) → (n ≡ max) ⊎ (n ≡ length limbo) → n < max → IsSomeAnd (slice_get limbo n) P → ⊥
+not_stopped max limbo n P (inl all) low some = absurd (omega (arith, all, low))
+not_stopped max limbo n P (inr all) low some = let within = get_within limbo n P some in absurd (omega (arith, all, within))
+
+one_end : (c : Config) (E : List Event) (max : ℕ) (limbo : List ℕ) (n : ℕ) (a b : Option Busy)
+    → MatchOption a ((n ≡ max) ⊎ (n ≡ length limbo)) (λ busy. (n < max) × IsSomeAnd (slice_get limbo n) (λ u. (textbook c).is_held_by E u busy))
+    → MatchOption b ((n ≡ max) ⊎ (n ≡ length limbo)) (λ busy. (n < max) × IsSomeAnd (slice_get limbo n) (λ u. (textbook c).is_held_by E u busy))
+    → a ≡ b
+one_end c E max limbo n None None h k = refl
+one_end c E max limbo n None (Some b) h k = absurd (not_stopped max limbo n (λ u. (textbook c).is_held_by E u b) h k.0 k.1)
+one_end c E max limbo n (Some a) None h k = absurd (not_stopped max limbo n (λ u. (textbook c).is_held_by E u a) k h.0 h.1)
+one_end c E max limbo n (Some a) (Some b) h k = ap Some (holder_at c E (slice_get limbo n) a b h.1 k.1)
+
+pub one_stop : (c : Config) (E : List Event) (max : ℕ) (limbo : List ℕ) (m n : ℕ) (a b : Option Busy) (left left' : List ℕ) → m ≡ n
+    → Reclaims (textbook c) E max limbo m a left → Reclaims (textbook c) E max limbo n b left' → a ≡ b
+one_stop c E max limbo m n a b left left' is h k =
+    one_end c E max limbo n a b
+    (subst (λ i. MatchOption a ((i ≡ max) ⊎ (i ≡ length limbo)) (λ busy. (i < max) × IsSomeAnd (slice_get limbo i) (λ u. (textbook c).is_held_by E u busy))) is h.end)
+    k.end
+
+pub one_rest : (c : Config) (E : List Event) (max : ℕ) (limbo : List ℕ) (m n : ℕ) (a b : Option Busy) (left left' : List ℕ)
+    → Reclaims (textbook c) E max limbo m a left → Reclaims (textbook c) E max limbo n b left' → left ≡ left'
+one_rest c E max limbo m n a b left left' h k = h.rest ∙ ap (λ i. drop i limbo) (one_length c E max limbo m n a b left left' h k) ∙ sym k.rest
+
+-- ---- unlinkings
+
+one_room : (c : Config) (E : List Event) (limbo left left' : List ℕ) → MakesRoom (textbook c) c E limbo left → MakesRoom (textbook c) c E limbo left' → left ≡ left'
+one_room c E limbo left left' h k = elim (cases_lt c.threshold (length limbo)) [
+  | inl over ↦ let a = h.0 over in let b = k.0 over in one_rest c E c.reclaim_max limbo a.0 b.0 a.1 b.1 left left' a.2 b.2
+  | inr within ↦ h.1 within ∙ sym (k.1 within)
+]
+
+pub one_unlinks : (c : Config) (n : ℕ) (E : List Event) (limbo : List ℕ) (E' : List Event) (limbo' : List ℕ) (E'' : List Event) (limbo'' : List ℕ)
+    → Unlinks (textbook c) c n E limbo E' limbo' → Unlinks (textbook c) c n E limbo E'' limbo'' → (E' ≡ E'') × (limbo' ≡ limbo'')
+one_unlinks c zero E limbo E' limbo' E'' limbo'' h k = (h.0 ∙ sym k.0, h.1 ∙ sym k.1)
+one_unlinks c (suc n) E limbo E' limbo' E'' limbo'' h k =
+    let same = one_room c (Unlinking ∷ E) limbo h.0 k.0 h.1 k.1 in
+    one_unlinks c n (Unlinking ∷ E) (k.0 ++ length E ∷ []) E' limbo' E'' limbo''
+    (subst (λ l. Unlinks (textbook c) c n (Unlinking ∷ E) (l ++ length E ∷ []) E' limbo') same h.2) k.2
