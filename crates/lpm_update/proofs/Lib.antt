@@ -21,3 +21,4 @@ pub mod Taking
 pub mod Blank
 pub mod DeepCounts
 pub mod Resting
+pub mod Once

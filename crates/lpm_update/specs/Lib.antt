@@ -8,3 +8,4 @@ pub mod Collapse
 pub mod Flush
 pub mod Update
 pub mod Tied
+pub mod Once

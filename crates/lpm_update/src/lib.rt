@@ -4,6 +4,7 @@
 mod collapse;
 mod fill;
 mod flush;
+pub mod laws;
 mod rewrite;
 mod sweep;
 #[cfg(test)]

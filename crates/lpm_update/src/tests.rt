@@ -407,3 +407,12 @@ fn last_address(rt: HostRuntime) -> Result<(), Fail> {
     assert_eq!(rt; table.second(&rt, 255), 0x81ff_ffff);
     Ok(())
 }
+
+#[test]
+fn laws_are_called() {
+    laws::onward_on();
+    laws::first_stored_once();
+    laws::second_stored_once();
+    laws::stored_is_no_link();
+    laws::unlinked_once();
+}

@@ -1,0 +1,48 @@
+-- No word is stored twice in one change, and no address turns back from its new answer (this project's:
+-- the DPDK Programmer's Guide, "LPM Library", leaves the order of the stores open). A run of steps goes from
+-- u to m by a step, and on to v by any number of further ones; step's contract says of each what is asked here.
+use Rattle.std.specs.Prelude.{ℕ, ◌≡◌, ◌⊎◌, ◌+◌, List, Option}
+use Rattle.lpm_entry.specs.declared.Entry.{Entry}
+use Rattle.lpm_cells.specs.Table.{entry_at}
+use Rattle.lpm_update.specs.declared.update.Update.{Update}
+use Rattle.lpm_update.specs.Linked.{IsTable}
+use Rattle.lpm_update.specs.Update.{IsUnderWay, StandsSoFar, HasGroups, GivesUp, IsOnward, IsNextFirst, IsNextSecond, IsNextUnlink, HasPassedFirst, HasPassedSecond, group_held, entry_after}
+
+-- a change is onward from itself, and what is onward from a change that is onward is so too
+abbrev pub OnwardOn : Type 0
+OnwardOn = ((u : Update) → IsOnward u u) × ((u v w : Update) → IsOnward u v → IsOnward v w → IsOnward u w)
+
+-- once the change has passed a place of the first table, it stores no word there but over a link
+abbrev pub FirstStoredOnce : Type 0
+FirstStoredOnce = (first second : ℕ) (m v : Update) (F S : List ℕ) (i w : ℕ)
+    → HasPassedFirst second m i → IsOnward m v → ¬ IsNextFirst first second v F S i w
+
+-- once the change has passed a place of the second table, it stores no word there, where L has the groups
+-- before the change
+abbrev pub SecondStoredOnce : Type 0
+SecondStoredOnce = (first second : ℕ) (m v : Update) (F S F' S' : List ℕ) (L : ℕ → Option ℕ) (j w : ℕ)
+    → IsUnderWay first second m F S → HasGroups first second m F L → HasPassedSecond second m F j → IsOnward m v
+    → IsTable first second F' S' → HasGroups first second v F' L → ¬ IsNextSecond second v F' S' j w
+
+-- a first word that a step stored is not the one over which a later step unlinks a group
+abbrev pub StoredIsNoLink : Type 0
+StoredIsNoLink = (first second : ℕ) (u m v : Update) (F S F' S' : List ℕ) (i w g w' : ℕ)
+    → IsUnderWay first second u F S → IsNextFirst first second u F S i w → IsOnward u m → HasPassedFirst second m i
+    → IsOnward m v → ¬ IsNextUnlink first second v F' S' i g w'
+
+-- a first word over which a step unlinked a group is not the one over which a later step does
+abbrev pub UnlinkedOnce : Type 0
+UnlinkedOnce = (first second : ℕ) (u m v : Update) (F S F1 S1 F' S' : List ℕ) (b g w g' w' : ℕ)
+    → IsNextUnlink first second u F S b g w → IsOnward u m → HasPassedFirst second m b
+    → GivesUp first (group_held u F) (group_held m F1) b g → IsUnderWay first second m F1 S1
+    → IsOnward m v → ¬ IsNextUnlink first second v F' S' b g' w'
+
+-- between two states of a run an address keeps its answer, or goes from the old one to the new one, where E
+-- has the entries before the change; and once it has the new one, it keeps that
+abbrev pub AnswersTurnOnce : Type 0
+AnswersTurnOnce = (first second : ℕ) (u v : Update) (F S F' S' : List ℕ) (E : ℕ → Entry) (a : ℕ)
+    → IsUnderWay first second u F S → IsUnderWay first second v F' S' → IsOnward u v
+    → StandsSoFar second u F S E → StandsSoFar second v F' S' E
+    → ((entry_at second F' S' a ≡ entry_at second F S a)
+    ⊎ ((entry_at second F S a ≡ E a) × (entry_at second F' S' a ≡ entry_after (first + second) u E a)))
+    × (entry_at second F S a ≡ entry_after (first + second) u E a → entry_at second F' S' a ≡ entry_after (first + second) u E a)
