@@ -22,3 +22,4 @@ pub mod Blank
 pub mod DeepCounts
 pub mod Resting
 pub mod Once
+pub mod Turns

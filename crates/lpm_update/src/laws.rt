@@ -1,6 +1,6 @@
-//! Laws of a run of steps: no word is stored twice. Each function does nothing: its contract is the law.
+//! Laws of a run of steps: no word is stored twice, and no address goes back to its old answer. Each function does nothing: its contract is the law.
 
-ghost use Rattle.lpm_update.specs.Once.{OnwardOn, FirstStoredOnce, SecondStoredOnce, StoredIsNoLink, UnlinkedOnce};
+ghost use Rattle.lpm_update.specs.Once.{OnwardOn, FirstStoredOnce, SecondStoredOnce, StoredIsNoLink, UnlinkedOnce, AnswersTurnOnce};
 
 /// What is later in a run of steps is onward.
 pub fn onward_on()
@@ -25,4 +25,9 @@ pub fn stored_is_no_link()
 /// No group is unlinked where the change has unlinked one.
 pub fn unlinked_once()
     ensures { UnlinkedOnce }
+{}
+
+/// An address keeps its answer, or goes from the old one to the new one, and then keeps that.
+pub fn answers_turn_once()
+    ensures { AnswersTurnOnce }
 {}

@@ -415,4 +415,5 @@ fn laws_are_called() {
     laws::second_stored_once();
     laws::stored_is_no_link();
     laws::unlinked_once();
+    laws::answers_turn_once();
 }
