@@ -1,5 +1,5 @@
 -- What has been passed is not stored again.
-use Rattle.std.proofs.Common.{arith, ◌≡◌, ℕ, ◌+◌, ◌*◌, ◌/◌, ◌%◌, ◌^◌, ◌<◌, ◌≤◌, inl, inr, refl, ap, sym, ◌∙◌, subst, List, Some, None, Bool, true, false}
+use Rattle.std.proofs.Common.{arith, ◌≡◌, ℕ, ◌+◌, ◌*◌, ◌/◌, ◌%◌, ◌^◌, ◌<◌, ◌≤◌, inl, inr, refl, ap, sym, ◌∙◌, subst, List, Option, Some, None, Bool, true, false}
 use Rattle.std.specs.Prelude.{slice_index}
 use Rattle.std.proofs.lemmas.Nat.{pow_pos, mod_below, shr_below, shr_split, same_from_place}
 use Rattle.lpm_entry.specs.declared.Entry.{Entry}
@@ -11,11 +11,13 @@ use Rattle.lpm_update.specs.declared.fill.Fill.{Fill as FillData}
 use Rattle.lpm_update.specs.declared.collapse.Collapse.{Collapse as CollapseData}
 use Rattle.lpm_update.specs.declared.flush.Flush.{Flush as FlushData}
 use Rattle.lpm_update.specs.declared.update.Update.{Update}
+use Rattle.lpm_update.specs.declared.Did.{Did}
+use Rattle.lpm_update.specs.declared.Did.TheVariants.{First, Second, Unlinked, Done}
 use Rattle.lpm_update.specs.declared.update.Update.TheVariants.{Sweep, Fill, Collapse, Flush}
 use Rattle.lpm_update.specs.Linked.{IsTable, group_in, group_at}
 use Rattle.lpm_update.specs.Sweep.{IsFurther}
 use Rattle.lpm_update.specs.Update.{IsUnderWay, HasGroups, IsOnward, IsNextFirst, IsNextSecond, IsNextUnlink, HasPassedFirst, HasPassedSecond, group_held}
-use Rattle.lpm_update.specs.Once.{OnwardOn, FirstStoredOnce, SecondStoredOnce, StoredIsNoLink, UnlinkedOnce}
+use Rattle.lpm_update.specs.Once.{OnwardOn, FirstStoredOnce, SecondStoredOnce, StoredIsNoLink, UnlinkedOnce, IsStep, IsSameWord, NoWordTwice}
 use Rattle.lpm_update.proofs.Steps.{further_on}
 use Rattle.lpm_update.proofs.Groups.{not_unlinked}
 
@@ -192,3 +194,29 @@ unlinked_once f s u m v F S F1 S1 F' S' b g w g' w' next to passed gives under o
     (λ x z o n a r. collapse_past f s m z F1 S1 b under gives.gone a r.1 r.0)
     (λ x z o n a r. flush_past s m z b passed a r.0.low)
     u v (onward_on.1 u m v to on) next on
+
+-- ---- two steps
+
+module _ (f s : ℕ) (u m v n : Update) (F S F1 S1 F' S' F2 S2 : List ℕ) (L : ℕ → Option ℕ) where
+  two_steps : (d e : Did) → HasGroups f s u F L → IsStep f s u F S m F1 S1 d → IsOnward m v → HasGroups f s v F' L → IsStep f s v F' S' n F2 S2 e → IsSameWord d e → ⊥
+  two_steps (First i) (First k) h a o h' b q = first_stored_once f s m v F' S' k b.stored.0.0 (subst (HasPassedFirst s m) q a.stored.1) o b.stored.0.1
+  two_steps (First i) (Unlinked k g) h a o h' b q =
+      stored_is_no_link f s u m v F S F' S' i a.stored.0.0 g b.stored.0.0 a.under_way a.stored.0.1 a.onward a.stored.1 o
+      (subst (λ x. IsNextUnlink f s v F' S' x g b.stored.0.0) (sym q) b.stored.0.1)
+  two_steps (First i) (Second k) h a o h' b q = absurd q
+  two_steps (First i) Done h a o h' b q = absurd q
+  two_steps (Second j) (Second k) h a o h' b q =
+      second_stored_once f s m v F1 S1 F' S' L k b.stored.0.0 a.goes_on (a.groups L h) (subst (HasPassedSecond s m F1) q a.stored.1) o b.table h' b.stored.0.1
+  two_steps (Second j) (First k) h a o h' b q = absurd q
+  two_steps (Second j) (Unlinked k g) h a o h' b q = absurd q
+  two_steps (Second j) Done h a o h' b q = absurd q
+  two_steps (Unlinked i g) (First k) h a o h' b q = first_stored_once f s m v F' S' k b.stored.0.0 (subst (HasPassedFirst s m) q a.stored.1) o b.stored.0.1
+  two_steps (Unlinked i g) (Unlinked k g') h a o h' b q =
+      unlinked_once f s u m v F S F1 S1 F' S' i g a.stored.0.0 g' b.stored.0.0 a.stored.0.1 a.onward a.stored.1 a.stored.2 a.goes_on o
+      (subst (λ x. IsNextUnlink f s v F' S' x g' b.stored.0.0) (sym q) b.stored.0.1)
+  two_steps (Unlinked i g) (Second k) h a o h' b q = absurd q
+  two_steps (Unlinked i g) Done h a o h' b q = absurd q
+  two_steps Done e h a o h' b q = absurd a.stored
+
+pub no_word_twice : NoWordTwice
+no_word_twice = two_steps

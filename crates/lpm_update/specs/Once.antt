@@ -5,6 +5,8 @@ use Rattle.std.specs.Prelude.{ℕ, ◌≡◌, ◌⊎◌, ◌+◌, List, Option}
 use Rattle.lpm_entry.specs.declared.Entry.{Entry}
 use Rattle.lpm_cells.specs.Table.{entry_at}
 use Rattle.lpm_update.specs.declared.update.Update.{Update}
+use Rattle.lpm_update.specs.declared.Did.{Did}
+use Rattle.lpm_update.specs.declared.Did.TheVariants.{First, Second, Unlinked, Done}
 use Rattle.lpm_update.specs.Linked.{IsTable}
 use Rattle.lpm_update.specs.Update.{IsUnderWay, StandsSoFar, HasGroups, GivesUp, IsOnward, IsNextFirst, IsNextSecond, IsNextUnlink, HasPassedFirst, HasPassedSecond, group_held, entry_after}
 
@@ -36,6 +38,38 @@ UnlinkedOnce = (first second : ℕ) (u m v : Update) (F S F1 S1 F' S' : List ℕ
     → IsNextUnlink first second u F S b g w → IsOnward u m → HasPassedFirst second m b
     → GivesUp first (group_held u F) (group_held m F1) b g → IsUnderWay first second m F1 S1
     → IsOnward m v → ¬ IsNextUnlink first second v F' S' b g' w'
+
+-- a step from u to m stored this word, where the words were F and S before it and F1 and S1 after it
+abbrev pub Stored : ℕ → ℕ → Update → List ℕ → List ℕ → Update → List ℕ → Did → Type 0
+Stored first second u F S m F1 (First i) = ((w : ℕ) × IsNextFirst first second u F S i w) × HasPassedFirst second m i
+Stored first second u F S m F1 (Second j) = ((w : ℕ) × IsNextSecond second u F S j w) × HasPassedSecond second m F1 j
+Stored first second u F S m F1 (Unlinked b g) = ((w : ℕ) × IsNextUnlink first second u F S b g w) × HasPassedFirst second m b × GivesUp first (group_held u F) (group_held m F1) b g
+Stored first second u F S m F1 Done = ⊥
+
+-- what step's contract says of a step that stored a word
+pub record IsStep (first second : ℕ) (u : Update) (F S : List ℕ) (m : Update) (F1 S1 : List ℕ) (did : Did) : Type 0 where
+  pub table : IsTable first second F S
+  pub under_way : IsUnderWay first second u F S
+  pub onward : IsOnward u m
+  pub goes_on : IsUnderWay first second m F1 S1
+  pub groups : (L : ℕ → Option ℕ) → HasGroups first second u F L → HasGroups first second m F1 L
+  pub stored : Stored first second u F S m F1 did
+
+-- both stored the same word of a table
+abbrev pub IsSameWord : Did → Did → Type 0
+IsSameWord (First i) (First k) = i ≡ k
+IsSameWord (First i) (Unlinked k group) = i ≡ k
+IsSameWord (Second j) (Second k) = j ≡ k
+IsSameWord (Unlinked i group) (First k) = i ≡ k
+IsSameWord (Unlinked i group) (Unlinked k group') = i ≡ k
+IsSameWord d e = ⊥
+
+-- no two steps of a run store the same word, where L has the groups before the change
+abbrev pub NoWordTwice : Type 0
+NoWordTwice = (first second : ℕ) (u m v n : Update) (F S F1 S1 F' S' F2 S2 : List ℕ) (L : ℕ → Option ℕ) (did did' : Did)
+    → HasGroups first second u F L → IsStep first second u F S m F1 S1 did
+    → IsOnward m v → HasGroups first second v F' L → IsStep first second v F' S' n F2 S2 did'
+    → ¬ IsSameWord did did'
 
 -- between two states of a run an address keeps its answer, or goes from the old one to the new one, where E
 -- has the entries before the change; and once it has the new one, it keeps that

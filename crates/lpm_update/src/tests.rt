@@ -415,5 +415,6 @@ fn laws_are_called() {
     laws::second_stored_once();
     laws::stored_is_no_link();
     laws::unlinked_once();
+    laws::no_word_twice();
     laws::answers_turn_once();
 }
