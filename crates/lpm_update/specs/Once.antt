@@ -1,6 +1,6 @@
--- No word is stored twice in one change, and no address turns back from its new answer (this project's:
--- the DPDK Programmer's Guide, "LPM Library", leaves the order of the stores open). A run of steps goes from
--- u to m by a step, and on to v by any number of further ones; step's contract says of each what is asked here.
+-- No word is stored twice in one change, and no address goes back to its old answer (this project's). A run
+-- goes from u to m by a step, and on to v by any number of further ones. What is asked of u, m and v is what
+-- the contract of `Update::step` says of them.
 use Rattle.std.specs.Prelude.{ℕ, ◌≡◌, ◌⊎◌, ◌+◌, List, Option}
 use Rattle.lpm_entry.specs.declared.Entry.{Entry}
 use Rattle.lpm_cells.specs.Table.{entry_at}
@@ -39,7 +39,7 @@ UnlinkedOnce = (first second : ℕ) (u m v : Update) (F S F1 S1 F' S' : List ℕ
     → GivesUp first (group_held u F) (group_held m F1) b g → IsUnderWay first second m F1 S1
     → IsOnward m v → ¬ IsNextUnlink first second v F' S' b g' w'
 
--- a step from u to m stored this word, where the words were F and S before it and F1 and S1 after it
+-- a step from u to m stored this word, where the words were F and S before it, and the first ones F1 after it
 abbrev pub Stored : ℕ → ℕ → Update → List ℕ → List ℕ → Update → List ℕ → Did → Type 0
 Stored first second u F S m F1 (First i) = ((w : ℕ) × IsNextFirst first second u F S i w) × HasPassedFirst second m i
 Stored first second u F S m F1 (Second j) = ((w : ℕ) × IsNextSecond second u F S j w) × HasPassedSecond second m F1 j

@@ -418,3 +418,19 @@ fn laws_are_called() {
     laws::no_word_twice();
     laws::answers_turn_once();
 }
+
+// The step of the laws, in the flush of a new table.
+fn step_of_a_flush<const FIRST: u32, const SECOND: u32>(alloc: Global) -> Result<Did, AllocError>
+    requires { IsShape FIRST SECOND }
+{
+    let mut cells = PlainCells::<FIRST, SECOND>::new(alloc, 1)?;
+    let mut update = Update::flush::<FIRST, SECOND>();
+    let did = laws::step::<FIRST, SECOND, PlainCells<FIRST, SECOND>>(&mut update, &mut cells);
+    Ok(did)
+}
+
+#[test]
+fn step_of_the_laws(rt: HostRuntime) -> Result<(), Fail> {
+    assert_eq!(rt; step_of_a_flush::<4, 4>(rt.alloc())?, Did::Done);
+    Ok(())
+}
