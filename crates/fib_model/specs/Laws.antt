@@ -1,4 +1,4 @@
--- Laws of runs.
+-- Laws of runs (this project's).
 use Rattle.std.specs.Prelude.{ℕ, ◌≡◌, ◌≢◌, ◌<◌, ◌↔◌, List, length, map, slice_index, All}
 use Rattle.qsbr.specs.declared.Busy.{Busy}
 use Rattle.qsbr.specs.declared.config.Config.{Config}

@@ -1,4 +1,5 @@
--- What the outcome of a command depends on, for any way to keep the readers' reports.
+-- What the outcome of a command depends on, for any way to keep the readers' reports (DPDK Programmer's Guide,
+-- "LPM Library" and "RCU Library").
 use Rattle.std.specs.Prelude.{ℕ, ◌+◌, ◌^◌, ◌<◌, ◌≤◌, ◌⊎◌, List}
 use Rattle.qsbr.specs.declared.Busy.{Busy}
 use Rattle.qsbr.specs.declared.config.Config.{Config}

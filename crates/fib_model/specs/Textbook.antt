@@ -1,4 +1,5 @@
--- Reports kept as what happened: the list of whole reports and unlinkings, the newest first.
+-- Reports kept as what happened: the list of whole reports and unlinkings, the newest first (DPDK Programmer's
+-- Guide, "RCU Library": grace periods and quiescent states).
 use Rattle.std.specs.Prelude.{ℕ, ◌≡◌, ◌+◌, ◌<◌, List, [], ◌∷◌, length}
 use Rattle.std.specs.FinMap.{empty}
 use Rattle.qsbr.specs.declared.Busy.{Busy}

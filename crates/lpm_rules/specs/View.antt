@@ -1,4 +1,4 @@
--- The rule list that is kept by length: for each length a map from the bits of the prefixes to their next hops.
+-- The rule list that is kept by length (this project's): for each length a map from the bits of the prefixes to their next hops.
 use Rattle.std.specs.Prelude.{ℕ, ◌≡◌, ◌+◌, List, [], ◌∷◌, ◌++◌, map, length}
 use Rattle.std.specs.BTreeMap.{BTreeMap}
 use Rattle.std.specs.FinMap.{from_entries, len}

@@ -1,4 +1,5 @@
--- A change of the words leads from one rule list to another.
+-- A change of the words leads from one rule list to another (DPDK Programmer's Guide, "LPM Library", "Addition"
+-- and "Deletion").
 use Rattle.std.specs.Prelude.{ℕ, Bool, true, false, ◌≡◌, ◌+◌, ◌*◌, ◌/◌, ◌^◌, ◌<◌, ◌≤◌, ◌↔◌, IsSome, List, length, slice_index, Option, Some, None, ◌==◌, if◌then◌else◌}
 use Rattle.lpm_bits.specs.Network.{Network}
 use Rattle.lpm_entry.specs.Words.{entry_in}

@@ -1,4 +1,5 @@
--- A sweep over a range of addresses, upwards, that rewrites the words of their entries.
+-- A sweep over a range of addresses, upwards, that rewrites the words of their entries (DPDK Programmer's Guide,
+-- "LPM Library", "Addition": the entries of the rule's range; the order is this project's).
 use Rattle.std.specs.Prelude.{ℕ, ◌≡◌, ◌+◌, ◌-◌, ◌*◌, ◌/◌, ◌%◌, ◌^◌, ◌≤◌, ◌<◌, true, List, slice_index}
 use Rattle.lpm_bits.specs.Network.{Network}
 use Rattle.lpm_entry.specs.Words.{IsEntry, word_of, entry_in}

@@ -88,7 +88,7 @@ fn faults_of_the_cases(rt: HostRuntime) -> Result<(), Fail> {
 }
 
 #[test]
-fn files_of_one_byte(rt: HostRuntime) -> Result<(), Fail> {
+fn one_byte_files(rt: HostRuntime) -> Result<(), Fail> {
     let alloc = rt.alloc();
     for byte in 0..=255u8 {
         let file = [byte];
@@ -110,7 +110,7 @@ fn files_of_one_byte(rt: HostRuntime) -> Result<(), Fail> {
 }
 
 #[test]
-fn a_route_file_that_is_cut(rt: HostRuntime) -> Result<(), Fail> {
+fn cut_route_file(rt: HostRuntime) -> Result<(), Fail> {
     let file = b"10.0.0.0/8 1\n10.1.0.0/16 2\n10.1.1.128/25 3\n";
     let ends: [usize; 3] = [12, 26, 42];
     for cut in 0..=file.len() {
