@@ -344,7 +344,7 @@ static BYTES: [u8; 256] = [
 ];
 
 #[test]
-fn files_of_one_byte(rt: HostRuntime) -> Result<(), Fail> {
+fn one_byte_files(rt: HostRuntime) -> Result<(), Fail> {
     for byte in &BYTES {
         let file = slice::from_ref(byte);
         let is_empty = matches!(*byte, b' ' | b'\t' | b'\n' | b'#');
