@@ -3,7 +3,6 @@ use Rattle.std.proofs.Common.{◌≡◌, ℕ, List, [], ◌∷◌, ◌⊎◌, in
 use Rattle.lpm_bits.specs.Network.{Network, masked}
 use Rattle.route_text.specs.declared.fault.FaultKind.{FaultKind}
 use Rattle.route_text.specs.declared.fault.FaultKind.TheVariants.{Word, Fields, Address, Length, Hop, Count, Worker, Header}
-use Rattle.route_text.specs.declared.prefixes.TheConstants.{LONGEST}
 use Rattle.route_text.specs.declared.routes.Route.{Route}
 use Rattle.route_text.specs.Fields.{IsNumber, IsPrefix, IsHop, HasBadAddress, HasBadLength}
 use Rattle.route_text.specs.Files.{SpellsRoute, HasRouteFault, SpellsAddress, HasAddressFault}
@@ -14,7 +13,7 @@ one_prefix : (text : List ℕ) (a b : Network) → IsPrefix text a → IsPrefix 
 one_prefix text a b p q =
     let addr = one_address p.addr q.addr _ p.address q.address in
     let back : p.back ≡ q.back = cc (p.slash, q.slash) in
-    let len = one_number LONGEST a.len b.len q.back (omega arith) (subst (λ t. IsNumber LONGEST t a.len) back p.length) q.length in
+    let len = one_number 32 a.len b.len q.back (omega arith) (subst (λ t. IsNumber 32 t a.len) back p.length) q.length in
     let bits : a.bits ≡ b.bits = p.bits ∙ (ap₂ (masked 32) len addr ∙ sym q.bits) in
     ap₂ (λ x y. made x y) bits len
   where

@@ -3,7 +3,7 @@ use Rattle.std.proofs.Common.{◌≡◌, ℕ, ◌+◌, ◌*◌, ◌<◌, List, [
 use Rattle.std.specs.Fmt.{decimal}
 use Rattle.std.proofs.lemmas.List.{append-nil}
 use Rattle.route_text.specs.Fields.{IsAddress, dotted}
-use Rattle.route_text.specs.Starts.{StartsNumber, StartsNoDigit, StartsAddress}
+use Rattle.route_text.specs.Starts.{StartsNumber, StartsNoDigit, StartsNextOctet, StartsNoNextOctet, StartsAddress}
 use Rattle.route_text.proofs.Digits.{one_start}
 
 -- a dot, an octet and what stands after it
@@ -40,20 +40,13 @@ address_from text rest a b c d is = record {
 starts_octet : (n : ℕ) (text rest : List ℕ) → n < 256 → text ≡ decimal n ++ rest → StartsNoDigit rest → StartsNumber 255 text n rest
 starts_octet n text rest fits e ends = record { small = omega arith; split = e; ends = ends }
 
--- an octet after a dot, as `next_octet` gives it
-abbrev pub NextOctet : List ℕ → ℕ → List ℕ → Type 0
-NextOctet text n rest = (front : List ℕ) × (text ≡ 46 ∷ front) × StartsNumber 255 front n rest
-
-abbrev pub HasNoOctet : List ℕ → Type 0
-HasNoOctet text = (front : List ℕ) (n : ℕ) (rest : List ℕ) → text ≡ 46 ∷ front → StartsNumber 255 front n rest → ⊥
-
-one_next : (text r s : List ℕ) (m n : ℕ) → NextOctet text m r → text ≡ after_dot n s → n < 256 → StartsNoDigit s → (m ≡ n) × (r ≡ s)
+one_next : (text r s : List ℕ) (m n : ℕ) → StartsNextOctet text m r → text ≡ after_dot n s → n < 256 → StartsNoDigit s → (m ≡ n) × (r ≡ s)
 one_next text r s m n p e fits ends =
-    let same : p.0 ≡ decimal n ++ s = cc (p.1, e) in
-    one_start 255 m n p.0 r s (omega arith) p.2 (starts_octet n p.0 s fits same ends)
+    let same : p.front ≡ decimal n ++ s = cc (p.dot, e) in
+    one_start 255 m n p.front r s (omega arith) p.octet (starts_octet n p.front s fits same ends)
 
-none_next : (text s : List ℕ) (n : ℕ) → HasNoOctet text → text ≡ after_dot n s → n < 256 → StartsNoDigit s → ⊥
-none_next text s n none_is e fits ends = none_is (decimal n ++ s) n s e (starts_octet n (decimal n ++ s) s fits refl ends)
+none_next : (text s : List ℕ) (n : ℕ) → StartsNoNextOctet text → text ≡ after_dot n s → n < 256 → StartsNoDigit s → ⊥
+none_next text s n none_is e fits ends = none_is n s (record { front = decimal n ++ s; dot = e; octet = starts_octet n (decimal n ++ s) s fits refl ends })
 
 module _ (text rest : List ℕ) (a b c d : ℕ) (is : Octets text rest a b c d) where
   pub first_octet : StartsNumber 255 text a (after_dot b (after_dot c (after_dot d rest)))
@@ -63,35 +56,35 @@ module _ (text rest : List ℕ) (a b c d : ℕ) (is : Octets text rest a b c d) 
     pub one_first : (w ≡ a) × (r ≡ after_dot b (after_dot c (after_dot d rest)))
     one_first = one_start 255 w a text r (after_dot b (after_dot c (after_dot d rest))) (omega arith) first first_octet
 
-    pub no_second : HasNoOctet r → ⊥
+    pub no_second : StartsNoNextOctet r → ⊥
     no_second none_is = none_next r (after_dot c (after_dot d rest)) b none_is one_first.1 is.fits.1 (dot_ends (decimal c ++ after_dot d rest))
 
-    module _ (x : ℕ) (s : List ℕ) (second : NextOctet r x s) where
+    module _ (x : ℕ) (s : List ℕ) (second : StartsNextOctet r x s) where
       pub one_second : (x ≡ b) × (s ≡ after_dot c (after_dot d rest))
       one_second = one_next r s (after_dot c (after_dot d rest)) x b second one_first.1 is.fits.1 (dot_ends (decimal c ++ after_dot d rest))
 
-      pub no_third : HasNoOctet s → ⊥
+      pub no_third : StartsNoNextOctet s → ⊥
       no_third none_is = none_next s (after_dot d rest) c none_is one_second.1 is.fits.2 (dot_ends (decimal d ++ rest))
 
-      module _ (y : ℕ) (t : List ℕ) (third : NextOctet s y t) where
+      module _ (y : ℕ) (t : List ℕ) (third : StartsNextOctet s y t) where
         pub one_third : (y ≡ c) × (t ≡ after_dot d rest)
         one_third = one_next s t (after_dot d rest) y c third one_second.1 is.fits.2 (dot_ends (decimal d ++ rest))
 
-        pub no_fourth : HasNoOctet t → ⊥
+        pub no_fourth : StartsNoNextOctet t → ⊥
         no_fourth none_is = none_next t rest d none_is one_third.1 is.fits.3 is.ends
 
-        pub one_fourth : (z : ℕ) (u : List ℕ) → NextOctet t z u → (z ≡ d) × (u ≡ rest)
+        pub one_fourth : (z : ℕ) (u : List ℕ) → StartsNextOctet t z u → (z ≡ d) × (u ≡ rest)
         one_fourth z u fourth = one_next t u rest z d fourth one_third.1 is.fits.3 is.ends
 
-pub made_octets : (text r s t rest : List ℕ) (a b c d : ℕ) → StartsNumber 255 text a r → NextOctet r b s → NextOctet s c t → NextOctet t d rest → Octets text rest a b c d
+pub made_octets : (text r s t rest : List ℕ) (a b c d : ℕ) → StartsNumber 255 text a r → StartsNextOctet r b s → StartsNextOctet s c t → StartsNextOctet t d rest → Octets text rest a b c d
 made_octets text r s t rest a b c d p q u v =
-    let third : t ≡ after_dot d rest = v.1 ∙ ap (λ x. 46 ∷ x) v.2.split in
-    let second : s ≡ after_dot c (after_dot d rest) = u.1 ∙ ap (λ x. 46 ∷ x) (u.2.split ∙ ap (λ x. decimal c ++ x) third) in
-    let first : r ≡ after_dot b (after_dot c (after_dot d rest)) = q.1 ∙ ap (λ x. 46 ∷ x) (q.2.split ∙ ap (λ x. decimal b ++ x) second) in
-    record { fits = (omega (arith, p.small), omega (arith, q.2.small), omega (arith, u.2.small), omega (arith, v.2.small)); split = p.split ∙ ap (λ x. decimal a ++ x) first; ends = v.2.ends }
+    let third : t ≡ after_dot d rest = v.dot ∙ ap (λ x. 46 ∷ x) v.octet.split in
+    let second : s ≡ after_dot c (after_dot d rest) = u.dot ∙ ap (λ x. 46 ∷ x) (u.octet.split ∙ ap (λ x. decimal c ++ x) third) in
+    let first : r ≡ after_dot b (after_dot c (after_dot d rest)) = q.dot ∙ ap (λ x. 46 ∷ x) (q.octet.split ∙ ap (λ x. decimal b ++ x) second) in
+    record { fits = (omega (arith, p.small), omega (arith, q.octet.small), omega (arith, u.octet.small), omega (arith, v.octet.small)); split = p.split ∙ ap (λ x. decimal a ++ x) first; ends = v.octet.ends }
 
-step : (n : ℕ) (rest : List ℕ) → n < 256 → StartsNoDigit rest → NextOctet (after_dot n rest) n rest
-step n rest fits ends = (decimal n ++ rest, refl, starts_octet n (decimal n ++ rest) rest fits refl ends)
+step : (n : ℕ) (rest : List ℕ) → n < 256 → StartsNoDigit rest → StartsNextOctet (after_dot n rest) n rest
+step n rest fits ends = record { front = decimal n ++ rest; dot = refl; octet = starts_octet n (decimal n ++ rest) rest fits refl ends }
 
 -- a text begins with one address
 pub one_address_start : (m n : ℕ) (text r s : List ℕ) → StartsAddress text m r → StartsAddress text n s → (m ≡ n) × (r ≡ s)
@@ -104,9 +97,9 @@ one_address_start m n text r s p q =
         let second = after_dot c third in
         let first = after_dot b second in
         let p = first_octet text r a b c d have in
-        let q : NextOctet first b second = step b second have.fits.1 (dot_ends (decimal c ++ third)) in
-        let u : NextOctet second c third = step c third have.fits.2 (dot_ends (decimal d ++ r)) in
-        let v : NextOctet third d r = step d r have.fits.3 have.ends in
+        let q : StartsNextOctet first b second = step b second have.fits.1 (dot_ends (decimal c ++ third)) in
+        let u : StartsNextOctet second c third = step c third have.fits.2 (dot_ends (decimal d ++ r)) in
+        let v : StartsNextOctet third d r = step d r have.fits.3 have.ends in
         let i = one_first text s e f g h is a first p in
         let j = one_second text s e f g h is a first p b second q in
         let k = one_third text s e f g h is a first p b second q c third u in

@@ -8,7 +8,6 @@ use Rattle.std.proofs.lemmas.List.{append-nil, length-append, get_or_append_left
 use Rattle.std.proofs.lemmas.Str.Parse.{digit_from_value, digit_at}
 use Rattle.route_text.specs.Lines.{is_blank, onto_first, lines, fields}
 use Rattle.lpm_bits.specs.Network.{Network, masked}
-use Rattle.route_text.specs.declared.prefixes.TheConstants.{LONGEST}
 use Rattle.route_text.specs.declared.grammar.Said.TheVariants as said
 use Rattle.route_text.specs.Fields.{IsNumber, IsAddress, IsPrefix}
 use Rattle.route_text.specs.Starts.{StartsNumber, StartsAddress}
@@ -140,18 +139,18 @@ address_unslashed text addr is =
     dot = (refl, tt)
 
 -- the prefix that an address, a slash and a length are
-prefix_of : (text after : List ℕ) (addr len : ℕ) (prefix : Network) → IsAddress text addr → IsNumber LONGEST after len → prefix ≡ record { bits = masked 32 len addr; len = len } → IsPrefix (text ++ 47 ∷ after) prefix
+prefix_of : (text after : List ℕ) (addr len : ℕ) (prefix : Network) → IsAddress text addr → IsNumber 32 after len → prefix ≡ record { bits = masked 32 len addr; len = len } → IsPrefix (text ++ 47 ∷ after) prefix
 prefix_of text after addr len prefix is number e = record {
   addr = addr;
   back = after;
   address = subst (λ t. IsAddress t addr) (sym (before_cut text after (address_unslashed text addr is))) is;
   slash = after_cut text after (address_unslashed text addr is);
-  length = subst (λ (p : Network). IsNumber LONGEST after p.len) (sym e) number;
+  length = subst (λ (p : Network). IsNumber 32 after p.len) (sym e) number;
   bits = rw e refl;
 }
 
 pub plain_route_line : (n addr len hop : ℕ) (prefix : Network) (bytes a b c d e rest : List ℕ)
-    → StartsAddress bytes addr a → a ≡ 47 ∷ b → StartsNumber LONGEST b len c → c ≡ 32 ∷ d → StartsNumber 16777215 d hop e → e ≡ 10 ∷ rest
+    → StartsAddress bytes addr a → a ≡ 47 ∷ b → StartsNumber 32 b len c → c ≡ 32 ∷ d → StartsNumber 16777215 d hop e → e ≡ 10 ∷ rest
     → prefix ≡ record { bits = masked 32 len addr; len = len }
     → SaysFirst SpellsRoute HasRouteFault n bytes (said.Item (record { line = n; prefix = prefix; hop = hop })) rest
 plain_route_line n addr len hop prefix bytes a b c d e rest address slash length_is blank hop_is feed same =

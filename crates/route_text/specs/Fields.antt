@@ -1,8 +1,8 @@
--- What a field spells (this project's file format: decimals without leading zeros, addresses of four
--- octets, prefixes as ADDRESS/LENGTH).
-use Rattle.std.specs.Prelude.{◌≡◌, ℕ, ◌+◌, ◌*◌, ◌≤◌, ◌<◌, ◌==◌, cond, List, [], ◌∷◌, ◌++◌, Option, Some, None, decimal}
+-- Meaning: what a field spells (this project's file format: decimals without leading zeros,
+-- addresses of four octets, prefixes as ADDRESS/LENGTH).
+use Rattle.std.specs.Prelude.{◌≡◌, ℕ, ◌+◌, ◌*◌, ◌≤◌, ◌<◌, ◌==◌, cond, decimal}
+use Rattle.std.specs.Prelude.{List, [], ◌∷◌, ◌++◌, Option, Some, None}
 use Rattle.lpm_bits.specs.Network.{Network, masked}
-use Rattle.route_text.specs.declared.prefixes.TheConstants.{LONGEST}
 
 -- the text is the decimal of n, which is at most max
 pub record IsNumber (max : ℕ) (text : List ℕ) (n : ℕ) : Type 0 where
@@ -33,13 +33,14 @@ abbrev pub after_slash : List ℕ → Option (List ℕ)
 after_slash [] = None
 after_slash (b ∷ bs) = cond (b == 47) (Some bs) (after_slash bs)
 
--- an address, a slash and a length; the prefix has the address with its host bits masked to zero
+-- an address, a slash and a length of at most 32, the bits of an IPv4 address; the prefix has the
+-- address with its host bits masked to zero
 pub record IsPrefix (text : List ℕ) (prefix : Network) : Type 0 where
   pub addr : ℕ
   pub back : List ℕ
   pub address : IsAddress (before_slash text) addr
   pub slash : after_slash text ≡ Some back
-  pub length : IsNumber LONGEST back prefix.len
+  pub length : IsNumber 32 back prefix.len
   pub bits : prefix.bits ≡ masked 32 prefix.len addr
 
 -- no address stands before the first slash
@@ -50,7 +51,11 @@ HasBadAddress text = (addr : ℕ) → IsAddress (before_slash text) addr → ⊥
 pub record HasBadLength (text : List ℕ) : Type 0 where
   pub addr : ℕ
   pub address : IsAddress (before_slash text) addr
-  pub bad : (back : List ℕ) (len : ℕ) → after_slash text ≡ Some back → IsNumber LONGEST back len → ⊥
+  pub bad : (back : List ℕ) (len : ℕ) → after_slash text ≡ Some back → IsNumber 32 back len → ⊥
 
 abbrev pub IsHop : List ℕ → ℕ → Type 0
 IsHop text hop = IsNumber 16777215 text hop
+
+-- the first text is a prefix, and the second no hop
+abbrev pub HasBadHop : List ℕ → List ℕ → Type 0
+HasBadHop p h = ((prefix : Network) × IsPrefix p prefix) × ((hop : ℕ) → IsHop h hop → ⊥)

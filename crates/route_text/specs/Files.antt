@@ -1,13 +1,13 @@
--- Route files and address files (this project's file format): a relation between a file's bytes and
--- its list, and one between its bytes and its first fault.
+-- Meaning: route files and address files (this project's file format), as a relation between a
+-- file's bytes and its list, and one between its bytes and its first fault.
 use Rattle.std.specs.Prelude.{◌≡◌, ℕ, ◌+◌, ⊤, List, [], ◌∷◌, ◌++◌, length, slice_index}
-use Rattle.lpm_bits.specs.Network.{Network}
 use Rattle.route_text.specs.declared.fault.Fault.{Fault}
 use Rattle.route_text.specs.declared.fault.FaultKind.{FaultKind}
 use Rattle.route_text.specs.declared.fault.FaultKind.TheVariants as kinds
 use Rattle.route_text.specs.declared.routes.Route.{Route}
 use Rattle.route_text.specs.Lines.{lines, fields}
-use Rattle.route_text.specs.Fields.{IsAddress, IsPrefix, HasBadAddress, HasBadLength, IsHop}
+use Rattle.route_text.specs.Fields.{IsAddress, IsPrefix, IsHop}
+use Rattle.route_text.specs.Fields.{HasBadAddress, HasBadLength, HasBadHop}
 
 -- a line without fields, or whose first field begins with `#`
 abbrev pub IsSkipped : List (List ℕ) → Type 0
@@ -28,9 +28,10 @@ module _ {Item : Type 0} (Spells : ℕ → List (List ℕ) → Item → Type 0) 
   AreItems n (line ∷ rest) items = (here : List Item) × (more : List Item)
       × StandsFor n (fields line) here × AreItems (n + 1) rest more × (items ≡ here ++ more)
 
-  -- the lines before it are items, and this one is neither skipped nor an item: `HasFault` says which
-  -- fault its fields have
-  pub record IsFirstFault (HasFault : List (List ℕ) → FaultKind → Type 0) (all : List (List ℕ)) (fault : Fault) : Type 0 where
+  -- the lines before it are items, and this one is neither skipped nor an item: `HasFault` says
+  -- which fault its fields have
+  pub record IsFirstFault (HasFault : List (List ℕ) → FaultKind → Type 0)
+      (all : List (List ℕ)) (fault : Fault) : Type 0 where
     pub before : List (List ℕ)
     pub line : List ℕ
     pub after : List (List ℕ)
@@ -50,7 +51,7 @@ SpellsRoute n _ route = ⊥
 abbrev pub HasRouteFault : List (List ℕ) → FaultKind → Type 0
 HasRouteFault (p ∷ h ∷ []) kinds.Address = HasBadAddress p
 HasRouteFault (p ∷ h ∷ []) kinds.Length = HasBadLength p
-HasRouteFault (p ∷ h ∷ []) kinds.Hop = ((prefix : Network) × IsPrefix p prefix) × ((hop : ℕ) → IsHop h hop → ⊥)
+HasRouteFault (p ∷ h ∷ []) kinds.Hop = HasBadHop p h
 HasRouteFault (p ∷ h ∷ []) _ = ⊥
 HasRouteFault _ kinds.Fields = ⊤
 HasRouteFault _ _ = ⊥

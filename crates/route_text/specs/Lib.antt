@@ -2,5 +2,6 @@ pub mod Lines
 pub mod Fields
 pub mod Starts
 pub mod Files
+pub mod Readings
 pub mod Says
 pub mod Texts

@@ -1,14 +1,12 @@
--- What the readers answer, in the words of this project's file format.
-use Rattle.std.specs.Prelude.{◌≡◌, ℕ, ◌<◌, ⊤, List, ◌∷◌, length}
+-- This layer's own: what one line says, and what is wrong with a text that isn't a prefix.
+use Rattle.std.specs.Prelude.{◌≡◌, ℕ, ◌<◌, List, ◌∷◌, length}
 use Rattle.route_text.specs.declared.fault.FaultKind.{FaultKind}
 use Rattle.route_text.specs.declared.fault.FaultKind.TheVariants as kinds
 use Rattle.route_text.specs.declared.grammar.Said.{Said}
 use Rattle.route_text.specs.declared.grammar.Said.TheVariants as said
-use Rattle.route_text.specs.declared.fault.ReadError.{ReadError}
-use Rattle.route_text.specs.declared.fault.ReadError.TheVariants as errors
 use Rattle.route_text.specs.Lines.{lines, fields}
 use Rattle.route_text.specs.Fields.{HasBadAddress, HasBadLength}
-use Rattle.route_text.specs.Files.{IsSkipped, IsFirstFault, SpellsRoute, HasRouteFault, SpellsAddress, HasAddressFault}
+use Rattle.route_text.specs.Files.{IsSkipped}
 
 -- what is wrong with a text that isn't a prefix
 abbrev pub HasPrefixFault : List ℕ → FaultKind → Type 0
@@ -16,7 +14,8 @@ HasPrefixFault text kinds.Address = HasBadAddress text
 HasPrefixFault text kinds.Length = HasBadLength text
 HasPrefixFault text _ = ⊥
 
-module _ {Item : Type 0} (Spells : ℕ → List (List ℕ) → Item → Type 0) (HasFault : List (List ℕ) → FaultKind → Type 0) where
+module _ {Item : Type 0} (Spells : ℕ → List (List ℕ) → Item → Type 0)
+    (HasFault : List (List ℕ) → FaultKind → Type 0) where
   -- the line is skipped, spells an item, or has a fault
   abbrev pub Says : ℕ → List (List ℕ) → Said Item → Type 0
   Says n fs said.Nothing = IsSkipped fs
@@ -29,16 +28,3 @@ module _ {Item : Type 0} (Spells : ℕ → List (List ℕ) → Item → Type 0) 
     pub split : lines bytes ≡ line ∷ lines rest
     pub says : Says n (fields line) this
     pub shorter : length rest < length bytes
-
-  -- an error of reading: the first fault of the lines, or want of memory
-  abbrev pub IsReadError : List (List ℕ) → ReadError → Type 0
-  IsReadError all (errors.Fault fault) = IsFirstFault Spells HasFault all fault
-  IsReadError all errors.Memory = ⊤
-
--- the first fault of a route file, or want of memory
-abbrev pub IsRoutesError : List ℕ → ReadError → Type 0
-IsRoutesError bytes error = IsReadError SpellsRoute HasRouteFault (lines bytes) error
-
--- the first fault of an address file, or want of memory
-abbrev pub IsAddressesError : List ℕ → ReadError → Type 0
-IsAddressesError bytes error = IsReadError SpellsAddress HasAddressFault (lines bytes) error

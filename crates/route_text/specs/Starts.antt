@@ -1,5 +1,5 @@
--- What a text begins with (this project's file format): a number or an address up to the first byte
--- that can't belong to it.
+-- This layer's own: what a text begins with, a number or an address up to the first byte that can't
+-- belong to it.
 use Rattle.std.specs.Prelude.{◌≡◌, ℕ, ◌≤◌, List, [], ◌∷◌, ◌++◌, decimal, ⊤}
 use Rattle.std.specs.Int.{IsInRange}
 use Rattle.route_text.specs.Fields.{IsAddress}
@@ -15,9 +15,24 @@ pub record StartsNumber (max : ℕ) (text : List ℕ) (n : ℕ) (rest : List ℕ
   pub split : text ≡ decimal n ++ rest
   pub ends : StartsNoDigit rest
 
+abbrev pub StartsNoNumber : ℕ → List ℕ → Type 0
+StartsNoNumber max text = (n : ℕ) (rest : List ℕ) → StartsNumber max text n rest → ⊥
+
+-- the text is a dot, an octet, and then the rest
+pub record StartsNextOctet (text : List ℕ) (n : ℕ) (rest : List ℕ) : Type 0 where
+  pub front : List ℕ
+  pub dot : text ≡ 46 ∷ front
+  pub octet : StartsNumber 255 front n rest
+
+abbrev pub StartsNoNextOctet : List ℕ → Type 0
+StartsNoNextOctet text = (n : ℕ) (rest : List ℕ) → StartsNextOctet text n rest → ⊥
+
 -- the text is an address, and then the rest
 pub record StartsAddress (text : List ℕ) (addr : ℕ) (rest : List ℕ) : Type 0 where
   pub front : List ℕ
   pub address : IsAddress front addr
   pub split : text ≡ front ++ rest
   pub ends : StartsNoDigit rest
+
+abbrev pub StartsNoAddress : List ℕ → Type 0
+StartsNoAddress text = (addr : ℕ) (rest : List ℕ) → StartsAddress text addr rest → ⊥

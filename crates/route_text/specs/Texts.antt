@@ -1,4 +1,5 @@
--- The text of answers (this project's file format: `ADDRESS HOP` or `ADDRESS -`, each line ended by LF).
+-- Meaning: the text of answers (this project's file format: `ADDRESS HOP` or `ADDRESS -`, each line
+-- ended by LF).
 use Rattle.std.specs.Prelude.{ℕ, ◌/◌, ◌%◌, ◌^◌, List, [], ◌∷◌, ◌++◌, Option, Some, None, decimal}
 use Rattle.route_text.specs.Fields.{dotted}
 

@@ -1,7 +1,7 @@
 //! The address file.
 ghost use Rattle.std.specs.Prelude.{IfOk, IfErr};
 ghost use Rattle.route_text.specs.Files.{AreAddresses, SpellsAddress, HasAddressFault};
-ghost use Rattle.route_text.specs.Says.{IsAddressesError};
+ghost use Rattle.route_text.specs.Readings.{IsAddressesError};
 
 use super::fault::{FaultKind, ReadError};
 use super::grammar::{Grammar, read_items};
@@ -38,8 +38,8 @@ impl Grammar for AddressLines {
 
 /// The addresses of the file, in the order of their lines.
 ///
-/// `Fault` gives the first faulty line where there is one, `Memory` comes where room for the addresses
-/// is refused.
+/// `Fault` gives the first faulty line where there is one. `Memory` comes where room for the
+/// addresses is refused.
 pub fn read_addresses(alloc: Global, bytes: &[u8]) -> Result<Vec<u32>, ReadError>
     ensures addrs { IfOk result (λ v. AreAddresses bytes.now v.items) }
     ensures error { IfErr result (IsAddressesError bytes.now) }

@@ -1,5 +1,6 @@
 //! The text of answers.
-ghost use Rattle.std.specs.Prelude.{◌≡◌, ◌+◌, ◌≤◌, ◌<◌, ◌∷◌, ◌++◌, OnOk, IfOk, length, drop, decimal};
+ghost use Rattle.std.specs.Prelude.{◌≡◌, ◌+◌, ◌≤◌, ◌<◌, ◌∷◌, ◌++◌, OnOk, IfOk};
+ghost use Rattle.std.specs.Prelude.{length, drop, decimal};
 ghost use Rattle.route_text.specs.Texts.{address_text, hop_text, answer_line, answer_lines};
 
 use itoa::write_digits;

@@ -1,10 +1,11 @@
 //! Reading a file line by line, for any grammar of lines.
-ghost use Rattle.std.specs.Prelude.{◌≡◌, ℕ, ◌<◌, List, ◌∷◌, MatchResult, IfSome, IfOk, IfErr, length};
+ghost use Rattle.std.specs.Prelude.{◌≡◌, ℕ, ◌<◌, List, ◌∷◌, IfSome, IfOk, IfErr, length};
 ghost use Rattle.route_text.specs.declared.fault.FaultKind.{FaultKind};
 ghost use Rattle.route_text.specs.declared.grammar.Said.TheVariants as Said;
 ghost use Rattle.route_text.specs.Lines.{lines, fields};
 ghost use Rattle.route_text.specs.Files.{AreItems};
-ghost use Rattle.route_text.specs.Says.{Says, SaysFirst, IsReadError};
+ghost use Rattle.route_text.specs.Readings.{IsReadError};
+ghost use Rattle.route_text.specs.Says.{Says, SaysFirst};
 
 use super::fault::{Fault, FaultKind, ReadError};
 use super::lines::{next_field, next_line};
@@ -32,12 +33,14 @@ pub(crate) trait Grammar {
 
     /// The item of a line, given its number, its first field and what stands after that field.
     fn item(number: usize, first: &[u8], rest: &[u8]) -> Result<Self::Item, FaultKind>
-        ensures { MatchResult result (Spells number (first.now ∷ fields rest.now)) (HasFault (first.now ∷ fields rest.now)) };
+        ensures item { IfOk result (Spells number (first.now ∷ fields rest.now)) }
+        ensures fault { IfErr result (HasFault (first.now ∷ fields rest.now)) };
 
-    /// The item of the first line and what stands after the line, where the line is written plainly:
-    /// its bytes are read once. `None` says nothing, and the line is then read by its fields.
+    /// The item of the first line and what stands after the line, where the line is written
+    /// plainly: its bytes are read once. After `None` the line is read by its fields.
     fn plain_line(number: usize, bytes: &[u8]) -> Option<(Self::Item, &[u8])>
-        ensures { IfSome result (λ p. SaysFirst Spells HasFault number bytes.now (Said.Item p.0) p.1.now) };
+        ensures { IfSome result
+            (λ p. SaysFirst Spells HasFault number bytes.now (Said.Item p.0) p.1.now) };
 }
 
 /// What a line says: nothing, an item, or what is wrong with it.

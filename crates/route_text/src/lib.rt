@@ -1,7 +1,7 @@
 //! The texts of routes, addresses and answers.
 //!
-//! A route file is read into its routes and an address file into its addresses; a file that isn't of
-//! its form has a first fault, with its line and kind. Answers are written one to a line.
+//! A route file is read into its routes and an address file into its addresses. A file that isn't
+//! of its form has a first fault, with its line and kind. Answers are written one to a line.
 #![tactic(auto)]
 
 mod addresses;
@@ -18,7 +18,6 @@ pub use addresses::read_addresses;
 pub use answers::answers_text;
 pub use fault::{Fault, FaultKind, ReadError};
 pub use laws::{address_file_has_one_reading, route_file_has_one_reading};
-pub use prefixes::LONGEST;
 pub use routes::{Route, read_routes};
 
 #[cfg(test)]

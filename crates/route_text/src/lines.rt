@@ -1,5 +1,6 @@
 //! Lines, and the fields of a line.
-ghost use Rattle.std.specs.Prelude.{◌≡◌, ◌<◌, ◌⊎◌, MatchOption, IfSome, [], ◌∷◌, length, slice_index, false};
+ghost use Rattle.std.specs.Prelude.{◌≡◌, ◌<◌, ◌⊎◌, IfSome, IfNone, [], ◌∷◌};
+ghost use Rattle.std.specs.Prelude.{length, slice_index, false};
 ghost use Rattle.route_text.specs.Lines.{lines, fields, is_blank};
 
 use memchr::memchr;
@@ -41,7 +42,8 @@ fn after_blanks(line: &[u8]) -> &[u8]
 
 /// The first field of the line and what stands after it.
 pub(crate) fn next_field(line: &[u8]) -> Option<(&[u8], &[u8])>
-    ensures split { MatchOption result (fields line.now ≡ []) (λ p. fields line.now ≡ p.0.now ∷ fields p.1.now) }
+    ensures end { IfNone result (fields line.now ≡ []) }
+    ensures split { IfSome result (λ p. fields line.now ≡ p.0.now ∷ fields p.1.now) }
     ensures whole { IfSome result (λ p. 0 < length p.0.now) }
 {
     let rest = after_blanks(line);

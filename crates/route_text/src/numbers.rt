@@ -1,12 +1,15 @@
 //! Decimals and addresses.
-ghost use Rattle.std.specs.Prelude.{◌≡◌, ℕ, List, ◌∷◌, MatchOption};
+ghost use Rattle.std.specs.Prelude.{◌≡◌, ℕ, List, ◌∷◌, IfSome, IfNone};
 ghost use Rattle.route_text.specs.Fields.{IsNumber, IsAddress};
-ghost use Rattle.route_text.specs.Starts.{StartsNumber, StartsAddress};
+ghost use Rattle.route_text.specs.Starts.{StartsNumber, StartsNoNumber};
+ghost use Rattle.route_text.specs.Starts.{StartsNextOctet, StartsNoNextOctet};
+ghost use Rattle.route_text.specs.Starts.{StartsAddress, StartsNoAddress};
 
 /// The number of at most `max` that the text begins with, and what stands after its digits.
 #[inline(always)]
 pub(crate) fn leading_number(text: &[u8], max: u32) -> Option<(u32, &[u8])>
-    ensures { MatchOption result ((n : ℕ) (rest : List ℕ) → StartsNumber max text.now n rest → ⊥) (λ p. StartsNumber max text.now p.0 p.1.now) }
+    ensures found { IfSome result (λ p. StartsNumber max text.now p.0 p.1.now) }
+    ensures missing { IfNone result (StartsNoNumber max text.now) }
 {
     let mut value: u32 = 0;
     let mut end = 0;
@@ -30,7 +33,8 @@ pub(crate) fn leading_number(text: &[u8], max: u32) -> Option<(u32, &[u8])>
 
 /// The number of at most `max` that the text is.
 pub(crate) fn number(text: &[u8], max: u32) -> Option<u32>
-    ensures { MatchOption result ((n : ℕ) → IsNumber max text.now n → ⊥) (IsNumber max text.now) }
+    ensures found { IfSome result (IsNumber max text.now) }
+    ensures missing { IfNone result ((n : ℕ) → IsNumber max text.now n → ⊥) }
 {
     let (value, rest) = leading_number(text, max)?;
     if rest.is_empty() { Some(value) } else { None }
@@ -39,7 +43,8 @@ pub(crate) fn number(text: &[u8], max: u32) -> Option<u32>
 /// What stands after the byte that the text begins with.
 #[inline(always)]
 pub(crate) fn after_byte(text: &[u8], byte: u8) -> Option<&[u8]>
-    ensures { MatchOption result ((rest : List ℕ) → text.now ≡ byte ∷ rest → ⊥) (λ rest. text.now ≡ byte ∷ rest.now) }
+    ensures found { IfSome result (λ rest. text.now ≡ byte ∷ rest.now) }
+    ensures missing { IfNone result ((rest : List ℕ) → text.now ≡ byte ∷ rest → ⊥) }
 {
     match text {
         [first, rest @ ..] if *first == byte => Some(rest),
@@ -50,8 +55,8 @@ pub(crate) fn after_byte(text: &[u8], byte: u8) -> Option<&[u8]>
 /// The octet that stands after a dot, and what stands after its digits.
 #[inline(always)]
 fn next_octet(text: &[u8]) -> Option<(u32, &[u8])>
-    ensures { MatchOption result ((front : List ℕ) (n : ℕ) (rest : List ℕ) → text.now ≡ 46 ∷ front → StartsNumber 255 front n rest → ⊥)
-        (λ p. (front : List ℕ) × (text.now ≡ 46 ∷ front) × StartsNumber 255 front p.0 p.1.now) }
+    ensures found { IfSome result (λ p. StartsNextOctet text.now p.0 p.1.now) }
+    ensures missing { IfNone result (StartsNoNextOctet text.now) }
 {
     leading_number(after_byte(text, b'.')?, 255)
 }
@@ -59,7 +64,8 @@ fn next_octet(text: &[u8]) -> Option<(u32, &[u8])>
 /// The address that the text begins with, and what stands after its digits.
 #[inline(always)]
 pub(crate) fn leading_address(text: &[u8]) -> Option<(u32, &[u8])>
-    ensures { MatchOption result ((addr : ℕ) (rest : List ℕ) → StartsAddress text.now addr rest → ⊥) (λ p. StartsAddress text.now p.0 p.1.now) }
+    ensures found { IfSome result (λ p. StartsAddress text.now p.0 p.1.now) }
+    ensures missing { IfNone result (StartsNoAddress text.now) }
 {
     let (a, rest) = leading_number(text, 255)?;
     let (b, rest) = next_octet(rest)?;
@@ -70,7 +76,8 @@ pub(crate) fn leading_address(text: &[u8]) -> Option<(u32, &[u8])>
 
 /// The address that the text is.
 pub(crate) fn address(text: &[u8]) -> Option<u32>
-    ensures { MatchOption result ((addr : ℕ) → IsAddress text.now addr → ⊥) (IsAddress text.now) }
+    ensures found { IfSome result (IsAddress text.now) }
+    ensures missing { IfNone result ((addr : ℕ) → IsAddress text.now addr → ⊥) }
 {
     let (addr, rest) = leading_address(text)?;
     if rest.is_empty() { Some(addr) } else { None }

@@ -1,5 +1,5 @@
 //! Prefixes and hops.
-ghost use Rattle.std.specs.Prelude.{◌≡◌, ℕ, MatchOption, MatchResult};
+ghost use Rattle.std.specs.Prelude.{◌≡◌, ℕ, IfSome, IfNone, IfOk, IfErr};
 ghost use Rattle.route_text.specs.Fields.{IsPrefix, IsHop, before_slash, after_slash};
 ghost use Rattle.route_text.specs.Says.{HasPrefixFault};
 
@@ -9,7 +9,7 @@ use lpm_bits::{Hop, Prefix};
 use memchr::memchr;
 
 /// The greatest length of a prefix in a route file; a longer one is a fault of kind `Length`.
-pub const LONGEST: u32 = 32;
+pub(crate) const LONGEST: u32 = 32;
 
 /// The greatest hop.
 pub(crate) const LAST_HOP: u32 = 16_777_215;
@@ -17,7 +17,8 @@ pub(crate) const LAST_HOP: u32 = 16_777_215;
 /// The text before the first slash, and the text after it.
 fn cut(text: &[u8]) -> (&[u8], Option<&[u8]>)
     ensures front { result.0.now ≡ before_slash text.now }
-    ensures back { MatchOption result.1 (after_slash text.now ≡ None) (λ back. after_slash text.now ≡ Some back.now) }
+    ensures back { IfSome result.1 (λ back. after_slash text.now ≡ Some back.now) }
+    ensures whole { IfNone result.1 (after_slash text.now ≡ None) }
 {
     match memchr(b'/', text) {
         Some(at) => (&text[..at], Some(&text[at + 1..])),
@@ -27,7 +28,8 @@ fn cut(text: &[u8]) -> (&[u8], Option<&[u8]>)
 
 /// The prefix that the text is, or what is wrong with it.
 pub(crate) fn prefix(text: &[u8]) -> Result<Prefix<24, 8>, FaultKind>
-    ensures { MatchResult result (IsPrefix text.now) (HasPrefixFault text.now) }
+    ensures prefix { IfOk result (IsPrefix text.now) }
+    ensures fault { IfErr result (HasPrefixFault text.now) }
 {
     let (front, back) = cut(text);
     let Some(addr) = address(front) else {
@@ -47,7 +49,8 @@ pub(crate) fn prefix(text: &[u8]) -> Result<Prefix<24, 8>, FaultKind>
 
 /// The hop that the text is.
 pub(crate) fn hop(text: &[u8]) -> Option<Hop>
-    ensures { MatchOption result ((hop : ℕ) → IsHop text.now hop → ⊥) (IsHop text.now) }
+    ensures found { IfSome result (IsHop text.now) }
+    ensures missing { IfNone result ((hop : ℕ) → IsHop text.now hop → ⊥) }
 {
     Hop::new(number(text, LAST_HOP)?).ok()
 }

@@ -1,7 +1,7 @@
 //! The route file.
 ghost use Rattle.std.specs.Prelude.{IfOk, IfErr};
 ghost use Rattle.route_text.specs.Files.{AreRoutes, SpellsRoute, HasRouteFault};
-ghost use Rattle.route_text.specs.Says.{IsRoutesError};
+ghost use Rattle.route_text.specs.Readings.{IsRoutesError};
 
 use super::fault::{FaultKind, ReadError};
 use super::grammar::{Grammar, read_items};
@@ -62,7 +62,7 @@ impl Grammar for RouteLines {
 /// The routes of the file, in the order of their lines.
 ///
 /// Host bits are masked to zero. A prefix that stands on two lines is two routes. `Fault` gives the
-/// first faulty line where there is one, `Memory` comes where room for the routes is refused.
+/// first faulty line where there is one. `Memory` comes where room for the routes is refused.
 pub fn read_routes(alloc: Global, bytes: &[u8]) -> Result<Vec<Route>, ReadError>
     ensures routes { IfOk result (λ v. AreRoutes bytes.now v.items) }
     ensures error { IfErr result (IsRoutesError bytes.now) }

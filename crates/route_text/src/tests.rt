@@ -156,7 +156,7 @@ fn slow_address(text: &str) -> Option<u32> {
 fn slow_prefix(text: &str) -> Result<(u32, u32), FaultKind> {
     let (front, back) = text.split_once('/').unwrap_or((text, ""));
     let addr = slow_address(front).ok_or(FaultKind::Address)?;
-    let len = slow_number(back, LONGEST).ok_or(FaultKind::Length)?;
+    let len = slow_number(back, 32).ok_or(FaultKind::Length)?;
     let host = u32::MAX.checked_shr(len).unwrap_or(0);
     Ok((addr & !host, len))
 }
