@@ -10,10 +10,10 @@ use Rattle.lpm_rules.specs.declared.Put.{Put}
 use Rattle.lpm_rules.specs.declared.Put.TheVariants.{Added, Replaced, Unchanged}
 use Rattle.lpm_rules.proofs.Deep.{has_deep_blocks}
 use Rattle.qsbr.specs.Registry.{Registry}
-use Rattle.qsbr.specs.declared.Busy.{Busy}
-use Rattle.qsbr.specs.declared.config.Config.{Config}
-use Rattle.qsbr.specs.declared.refusal.Refusal.{Refusal}
-use Rattle.qsbr.specs.declared.refusal.Refusal.TheVariants.{TooManyRules, NoSuchRule, Exhausted, NoGroups, Memory}
+use Rattle.lpm_limits.specs.declared.busy.Busy.{Busy}
+use Rattle.lpm_limits.specs.declared.config.Config.{Config}
+use Rattle.lpm_limits.specs.declared.refusal.Refusal.{Refusal}
+use Rattle.lpm_limits.specs.declared.refusal.Refusal.TheVariants.{TooManyRules, NoSuchRule, Exhausted, NoGroups, Memory}
 use Rattle.defer_queue.specs.declared.Reclaimed.{Reclaimed}
 use Rattle.fib_model.specs.declared.command.Command.{Command}
 use Rattle.fib_model.specs.declared.command.Command.TheVariants as command

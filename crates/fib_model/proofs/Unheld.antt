@@ -1,8 +1,8 @@
 -- Where no worker is the first that holds an unlinking, none holds it.
 use Rattle.std.proofs.Common.{ℕ, zero, suc, ◌+◌, ◌<◌, refl, arith, List, inl, inr}
 use Rattle.std.proofs.lemmas.Bool.{cases_lt}
-use Rattle.qsbr.specs.declared.Busy.{Busy}
-use Rattle.qsbr.specs.declared.config.Config.{Config}
+use Rattle.lpm_limits.specs.declared.busy.Busy.{Busy}
+use Rattle.lpm_limits.specs.declared.config.Config.{Config}
 use Rattle.fib_model.specs.declared.event.Event.{Event}
 use Rattle.fib_model.specs.Intervals.{IsHeldByWorker, unlinkings_before}
 use Rattle.fib_model.specs.State.{IsUnheld}

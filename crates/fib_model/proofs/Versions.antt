@@ -1,8 +1,8 @@
 -- The rules of a run are the last version that its log made.
 use Rattle.std.proofs.Common.{arith, ◌≡◌, ℕ, zero, suc, ◌+◌, refl, ap, ◌∙◌, List, [], ◌∷◌, length}
 use Rattle.std.specs.FinMap.{insert, remove}
-use Rattle.qsbr.specs.declared.config.Config.{Config}
-use Rattle.qsbr.specs.declared.refusal.Refusal.TheVariants.{TooManyRules, NoSuchRule, Exhausted, NoGroups, Memory}
+use Rattle.lpm_limits.specs.declared.config.Config.{Config}
+use Rattle.lpm_limits.specs.declared.refusal.Refusal.TheVariants.{TooManyRules, NoSuchRule, Exhausted, NoGroups, Memory}
 use Rattle.lpm_rules.specs.RuleMap.{RuleMap}
 use Rattle.lpm_rules.specs.declared.Put.TheVariants.{Added, Replaced, Unchanged}
 use Rattle.fib_model.specs.declared.command.Command.{Command}

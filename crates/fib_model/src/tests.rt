@@ -1,4 +1,4 @@
-ghost use Rattle.qsbr.specs.Limits.{IsConfig};
+ghost use Rattle.lpm_limits.specs.Limits.{IsConfig};
 
 use super::*;
 use defer_queue::Reclaimed;

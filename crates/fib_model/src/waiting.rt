@@ -1,7 +1,7 @@
 //! What readers and the writer did, and what waits for readers.
 
 ghost use Rattle.std.specs.Prelude.{◌≡◌, ℕ, ◌+◌, ◌^◌, ◌<◌, ◌≤◌, [], ◌∷◌, length, drop, MatchOption, MatchResult, OnOk, slice_index, IsSomeAnd, slice_get, IfOk, IfErr, OnErr, IsTrue, IsFalse};
-ghost use Rattle.qsbr.specs.Limits.{IsConfig};
+ghost use Rattle.lpm_limits.specs.Limits.{IsConfig};
 ghost use Rattle.fib_model.specs.Outcomes as outcomes;
 ghost use Rattle.fib_model.specs.Textbook as book;
 
