@@ -2,7 +2,8 @@ ghost use Rattle.lpm_bits.specs.Widths.{IsShape};
 
 use super::*;
 use defer_queue::Reclaimed;
-use fib_model::{Command, Misreport, Outcome, Report, expected};
+use fib_model::{Command, Misreport, Outcome, Report};
+use fib_reference::expected;
 use lpm_bits::{Hop, Prefix, Shape};
 use lpm_groups::Counts;
 use lpm_rules::Put;
@@ -90,7 +91,7 @@ fn account(fib: &Fib<24, 8>) -> Account {
 }
 
 // The same of a plain program's account.
-fn plain_account(plainly: &fib_model::Account) -> Account {
+fn plain_account(plainly: &fib_reference::Account) -> Account {
     (
         plainly.rules,
         plainly.versions,

@@ -3,8 +3,6 @@ pub mod Places
 pub mod Holders
 pub mod Names
 pub mod Followed
-pub mod Scans
-pub mod Fronts
 pub mod Tidied
 pub mod Logs
 pub mod TidyRuns

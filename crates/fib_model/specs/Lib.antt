@@ -7,4 +7,3 @@ pub mod Textbook
 pub mod History
 pub mod Laws
 pub mod Tidy
-pub mod Expected
