@@ -3,12 +3,11 @@ use Rattle.std.proofs.Common.{arith, ◌≡◌, ℕ, zero, suc, refl, ap, sym, s
 use Rattle.lpm_bits.specs.Network.{Network}
 use Rattle.lpm_rules.specs.declared.Put.{Put}
 use Rattle.lpm_rules.specs.declared.Put.TheVariants.{Added, Replaced, Unchanged}
-use Rattle.qsbr.specs.declared.config.Config.{Config}
-use Rattle.qsbr.specs.declared.refusal.Refusal.{Refusal}
-use Rattle.qsbr.specs.declared.refusal.Refusal.TheVariants.{TooManyRules, NoSuchRule, Exhausted, NoGroups, Memory}
+use Rattle.lpm_limits.specs.declared.config.Config.{Config}
+use Rattle.lpm_limits.specs.declared.refusal.Refusal.{Refusal}
+use Rattle.lpm_limits.specs.declared.refusal.Refusal.TheVariants.{TooManyRules, NoSuchRule, Exhausted, NoGroups, Memory, NoSuchWorker}
 use Rattle.fib_model.specs.declared.command.Command.{Command}
 use Rattle.fib_model.specs.declared.command.Command.TheVariants as command
-use Rattle.fib_model.specs.declared.command.Misreport.TheVariants.{NoSuchWorker, AlreadyOnline, NotOnline}
 use Rattle.fib_model.specs.declared.command.Outcome.{Outcome}
 use Rattle.fib_model.specs.declared.command.Outcome.TheVariants as outcome
 use Rattle.fib_model.specs.declared.command.Report.{Report}
@@ -42,7 +41,7 @@ adds f g c s z p h (Err Exhausted) d = ap (λ x. x.readers) d.2
 adds f g c s z p h (Err TooManyRules) d = ap (λ x. x.readers) d.3
 adds f g c s z p h (Err Memory) d = ap (λ x. x.readers) d.1
 adds f g c s z p h (Err (NoGroups oldest)) d = ap (λ x. x.readers) d.3
-adds f g c s z p h (Err NoSuchRule) d = absurd d
+adds f g c s z p h (Err other) d = absurd d
 
 deletes : (f g : ℕ) (c : Config) (s z : State (List Event)) (p : Network) (r : Result ℕ Refusal) → IsTidyState c s → Deletes (textbook c) f g c s p r z → IsTidyState c z
 deletes f g c s z p (Ok h) tidy d = unlinked c _ s.readers s.limbo z.readers z.limbo tidy d.1.1
@@ -59,9 +58,8 @@ flushes f g c s z (Err other) tidy d = absurd d
 reports : (c : Config) (s z : State (List Event)) (report : Report) (w : ℕ) (o : Outcome) → IsTidyState c s → Reports (textbook c) c s report w o z → IsTidyState c z
 reports c s z report w outcome.Told tidy d =
     subst (IsTidy by_reports c.workers) (sym (ap (λ x. x.readers) d.2)) (tidy_told c.workers s.readers report w tidy d.0 (fresh c s report w d.1))
-reports c s z report w (outcome.Misreported NoSuchWorker) tidy d = same c s z tidy (ap (λ x. x.readers) d.1)
-reports c s z report w (outcome.Misreported AlreadyOnline) tidy d = same c s z tidy (ap (λ x. x.readers) d.3)
-reports c s z report w (outcome.Misreported NotOnline) tidy d = same c s z tidy (ap (λ x. x.readers) d.3)
+reports c s z report w (outcome.Refused NoSuchWorker) tidy d = same c s z tidy (ap (λ x. x.readers) d.1)
+reports c s z report w (outcome.Refused refusal) tidy d = same c s z tidy (ap (λ x. x.readers) d.3)
 reports c s z report w other tidy d = absurd d
 
 step : (f g : ℕ) (c : Config) (s z : State (List Event)) (command : Command f g) (outcome : Outcome) → IsTidyState c s → Does (textbook c) f g c s command outcome z → IsTidyState c z

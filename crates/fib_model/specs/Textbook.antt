@@ -2,8 +2,8 @@
 -- Guide, "RCU Library": grace periods and quiescent states).
 use Rattle.std.specs.Prelude.{ℕ, ◌≡◌, ◌+◌, ◌<◌, List, [], ◌∷◌, length}
 use Rattle.std.specs.FinMap.{empty}
-use Rattle.qsbr.specs.declared.Busy.{Busy}
-use Rattle.qsbr.specs.declared.config.Config.{Config}
+use Rattle.lpm_limits.specs.declared.busy.Busy.{Busy}
+use Rattle.lpm_limits.specs.declared.config.Config.{Config}
 use Rattle.fib_model.specs.declared.command.Report.{Report}
 use Rattle.fib_model.specs.declared.command.Report.TheVariants as report
 use Rattle.fib_model.specs.declared.event.Event.{Event}

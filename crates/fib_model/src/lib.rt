@@ -7,7 +7,7 @@ mod command;
 mod event;
 pub mod laws;
 
-pub use command::{Command, Misreport, Outcome, Report};
+pub use command::{Command, Outcome, Report};
 pub use event::Event;
 
 #[cfg(test)]

@@ -3,7 +3,7 @@ use Rattle.std.proofs.Common.{arith, ◌≡◌, ℕ, suc, ◌<◌, ap, sym, ◌�
 use Rattle.std.proofs.lemmas.List.{reverse-append}
 use Rattle.fib_model.specs.declared.event.Event.{Event}
 use Rattle.fib_model.specs.declared.event.Event.TheVariants.{Unlinking}
-use Rattle.qsbr.specs.declared.config.Config.{Config}
+use Rattle.lpm_limits.specs.declared.config.Config.{Config}
 use Rattle.fib_model.specs.Reclaiming.{Unlinks}
 use Rattle.fib_model.specs.Textbook.{textbook}
 use Rattle.reader_intervals.specs.Intervals.{IsTidy}

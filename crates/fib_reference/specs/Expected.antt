@@ -2,7 +2,7 @@
 use Rattle.std.specs.Prelude.{ℕ, ◌≡◌, ◌-◌, List, [], length, reverse}
 use Rattle.std.specs.FinMap.{len}
 use Rattle.lpm_rules.specs.RuleMap.{RuleMap}
-use Rattle.qsbr.specs.declared.config.Config.{Config}
+use Rattle.lpm_limits.specs.declared.config.Config.{Config}
 use Rattle.fib_model.specs.declared.command.Command.{Command}
 use Rattle.fib_model.specs.declared.event.Event.{Event}
 use Rattle.fib_reference.specs.declared.plain.Account.{Account}

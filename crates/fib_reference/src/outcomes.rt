@@ -2,7 +2,7 @@
 
 ghost use Rattle.std.specs.Prelude.{◌≡◌, IfOk};
 ghost use Rattle.lpm_bits.specs.Widths.{IsShape};
-ghost use Rattle.qsbr.specs.Limits.{IsConfig};
+ghost use Rattle.lpm_limits.specs.Limits.{IsConfig};
 ghost use Rattle.fib_reference.specs.Expected.{IsAccount};
 
 use crate::plain::{Account, Plain};

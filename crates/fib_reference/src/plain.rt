@@ -3,7 +3,7 @@
 ghost use Rattle.std.specs.Prelude.{◌≡◌, ℕ, ◌+◌, ◌-◌, ◌^◌, ◌<◌, ◌≤◌, None, IfOk, OnOk, IsTrue, IsFalse, length};
 ghost use Rattle.std.specs.FinMap as map;
 ghost use Rattle.lpm_bits.specs.Widths.{IsShape};
-ghost use Rattle.qsbr.specs.Limits.{IsConfig};
+ghost use Rattle.lpm_limits.specs.Limits.{IsConfig};
 
 use crate::waiting::Waiting;
 use fib_model::{Command, Outcome};

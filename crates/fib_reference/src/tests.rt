@@ -1,8 +1,8 @@
-ghost use Rattle.qsbr.specs.Limits.{IsConfig};
+ghost use Rattle.lpm_limits.specs.Limits.{IsConfig};
 
 use super::*;
 use defer_queue::Reclaimed;
-use fib_model::{Command, Misreport, Outcome, Report};
+use fib_model::{Command, Outcome, Report};
 use lpm_bits::{Hop, Prefix};
 use lpm_rules::Put;
 use qsbr::{Busy, Config, Refusal};
@@ -415,11 +415,11 @@ fn refused_reports(rt: HostRuntime) -> Result<(), Fail> {
         report(Report::Offline, 0),
     ];
     let outcomes = [
-        Outcome::Misreported(Misreport::NoSuchWorker),
-        Outcome::Misreported(Misreport::NotOnline),
-        Outcome::Misreported(Misreport::NotOnline),
+        Outcome::Refused(Refusal::NoSuchWorker),
+        Outcome::Refused(Refusal::NotOnline),
+        Outcome::Refused(Refusal::NotOnline),
         Outcome::Told,
-        Outcome::Misreported(Misreport::AlreadyOnline),
+        Outcome::Refused(Refusal::AlreadyOnline),
         Outcome::Told,
     ];
     let counts = (0, 0, 0, 0, 256, 1);

@@ -1,14 +1,14 @@
 //! What readers and the writer did, and what waits for readers.
 
 ghost use Rattle.std.specs.Prelude.{◌≡◌, ℕ, ◌+◌, ◌^◌, ◌<◌, ◌≤◌, [], ◌∷◌, length, drop, MatchOption, MatchResult, OnOk, slice_index, IsSomeAnd, slice_get, IfOk, IfErr, OnErr, IsTrue, IsFalse};
-ghost use Rattle.qsbr.specs.Limits.{IsConfig};
+ghost use Rattle.lpm_limits.specs.Limits.{IsConfig};
 ghost use Rattle.fib_model.specs.Outcomes as outcomes;
 ghost use Rattle.fib_model.specs.Textbook as book;
 
 use crate::intervals::{running, token_at};
 use defer_queue::Reclaimed;
-use fib_model::{Event, Misreport, Outcome, Report};
-use qsbr::{Busy, Config};
+use fib_model::{Event, Outcome, Report};
+use qsbr::{Busy, Config, Refusal};
 use std::alloc::{AllocError, Global};
 
 /// The events, the oldest first, and the places of the unlinkings that wait.
@@ -210,10 +210,10 @@ impl Waiting {
         ensures tidy { OnOk result (IsTidy by_reports config.now.workers (events_of self.new)) }
     {
         if worker >= config.workers {
-            return Ok(Outcome::Misreported(Misreport::NoSuchWorker));
+            return Ok(Outcome::Refused(Refusal::NoSuchWorker));
         }
         if !self.may_report(config, report, worker) {
-            return Ok(Outcome::Misreported(misreport_of(report)));
+            return Ok(Outcome::Refused(refusal_of(report)));
         }
         self.events.push(event_of(report, worker))?;
         Ok(Outcome::Told)
@@ -221,12 +221,12 @@ impl Waiting {
 }
 
 /// How a report that may not be made is refused.
-fn misreport_of(report: Report) -> Misreport
-    ensures { result ≡ outcomes.misreport_of report }
+fn refusal_of(report: Report) -> Refusal
+    ensures { result ≡ outcomes.refusal_of report }
 {
     match report {
-        Report::Online => Misreport::AlreadyOnline,
-        Report::Offline | Report::Quiescent => Misreport::NotOnline,
+        Report::Online => Refusal::AlreadyOnline,
+        Report::Offline | Report::Quiescent => Refusal::NotOnline,
     }
 }
 
