@@ -1,6 +1,6 @@
--- The blocks that need a group: those in which a rule longer than FIRST bits lies. Such a rule, and such a
--- block, is called deep (Gupta, Lin and McKeown, INFOCOM 1998, section 3: a group of second words stands
--- behind each first word whose block has a prefix longer than 24 bits).
+-- The blocks that need a group: those in which a rule longer than FIRST bits lies. Such a rule and
+-- such a block are called deep (Gupta, Lin and McKeown, INFOCOM 1998, section 3: a group of second
+-- words stands behind each first word whose block has a prefix longer than 24 bits).
 use Rattle.std.specs.Prelude.{ℕ, ◌≡◌, ◌/◌, ◌^◌, ◌<◌, ◌≤◌, ◌↔◌, Option, Some, None, ◌&&◌, IsSome, IsTrue, nat_lt, nat_eq, map, filter, count_by}
 use Rattle.std.specs.FinMap as rules
 use Rattle.std.specs.FinSet as set
@@ -55,7 +55,9 @@ RemoveDropsBlock = (first second : ℕ) (R : RuleMap) (p : Network)
     → let old = deep_blocks first second R in
     let new = deep_blocks first second (rules.remove R p) in
     let stays = IsDeepBlock first second (rules.remove R p) (block_of second p) in
-    (¬ stays → new ≡ set.remove old (block_of second p)) × (stays → new ≡ old) × (p.len ≤ first → new ≡ old)
+    (¬ stays → new ≡ set.remove old (block_of second p))
+    × (stays → new ≡ old)
+    × (p.len ≤ first → new ≡ old)
 
 -- no rules, no deep blocks
 abbrev pub EmptyHasNoBlock : Type 0

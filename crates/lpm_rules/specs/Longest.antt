@@ -17,7 +17,7 @@ abbrev pub IsLongestHop : ℕ → RuleMap → ℕ → Option ℕ → Type 0
 IsLongestHop width R a None = (q : Network) → IsSome (get R q) → Covers width q a → ⊥
 IsLongestHop width R a (Some h) = (p : Network) × (get R p ≡ Some h) × IsLongest width R a p
 
--- each hop is that of the longest match of the address at its place; there are as many hops as addresses
+-- as many hops as addresses, and each is that of the longest match of the address at its place
 abbrev pub AreLongestHops : ℕ → RuleMap → List ℕ → List (Option ℕ) → Type 0
 AreLongestHops width R addrs hops = AllZip (IsLongestHop width R) addrs hops
 
@@ -33,7 +33,8 @@ pub record IsCoverRule (width : ℕ) (R : RuleMap) (p c : Network) (h : ℕ) : T
   pub longest : (q : Network) → IsSome (get R q)
       → q.len < p.len → Covers width q p.bits → q.len ≤ c.len
 
--- the longest of the rules that are shorter than p and cover it, with its next hop; none where none does
+-- the longest of the rules that are shorter than p and cover it, with its next hop; none where
+-- there is no such rule
 abbrev pub IsCover : ℕ → RuleMap → Network → Option (Network × ℕ) → Type 0
 IsCover width R p None = IsUncovered width R p
 IsCover width R p (Some c) = IsCoverRule width R p c.0 c.1

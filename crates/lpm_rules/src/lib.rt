@@ -1,5 +1,5 @@
-//! The rule list of a table for longest-prefix match: a finite map from prefixes to next hops, with a
-//! greatest number of rules.
+//! The rule list of a table for longest-prefix match: a finite map from prefixes to next hops, with
+//! a greatest number of rules.
 #![tactic(auto)]
 
 ghost use Rattle.std.specs.Prelude.{◌≡◌, ◌≢◌, ℕ, ◌+◌, ◌*◌, ◌/◌, ◌^◌, ◌<◌, ◌≤◌, ◌↔◌, ◌⊎◌, IsTrue, IsSome, IsSomeAnd, OnOk, OnErr, IfOk, MatchOption, MatchResult, [], ◌&&◌, nat_eq, count_by};
@@ -292,7 +292,7 @@ impl<const FIRST: u32, const SECOND: u32> Rules<FIRST, SECOND> {
     }
 
     /// Whether a rule longer than `FIRST` bits lies in a block: the addresses whose first `FIRST`
-    /// bits are this number. One look at each length longer than `FIRST` bits, up to the first find.
+    /// bits are this number. One look at each length longer than `FIRST`, up to the first find.
     pub fn is_deep(&self, block: usize) -> bool
         requires { block < 2 ^ FIRST }
         ensures { IsTrue result ↔ IsDeepBlock FIRST SECOND self.now.rules block }
@@ -306,8 +306,8 @@ impl<const FIRST: u32, const SECOND: u32> Rules<FIRST, SECOND> {
         false
     }
 
-    /// How many rules longer than `FIRST` bits lie in a block, by a walk over all of them. Where the
-    /// question is only whether there is one, [`Rules::is_deep`] is faster.
+    /// How many rules longer than `FIRST` bits lie in a block, by a walk over all of them. Where
+    /// the question is only whether there is one, [`Rules::is_deep`] is faster.
     pub fn deep_in(&self, block: usize) -> usize
         requires { block < 2 ^ FIRST }
         ensures value { result ≡ deep_count FIRST SECOND self.now.rules block }
