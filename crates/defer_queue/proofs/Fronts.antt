@@ -1,7 +1,7 @@
 -- The front of a list, and one more item freed from it.
 use Rattle.std.proofs.Common.{ℕ, zero, suc, ◌≡◌, ◌+◌, List, [], ◌∷◌, drop, refl, add-one}
 use Rattle.std.specs.Prelude.{slice_get, MatchOption, Result, Ok}
-use Rattle.qsbr.specs.declared.Busy.{Busy}
+use Rattle.lpm_limits.specs.declared.busy.Busy.{Busy}
 use Rattle.defer_queue.specs.Reclaims.{FreesFront}
 
 pub front_rest : (xs : List (ℕ × ℕ)) → MatchOption (slice_get xs 0) (xs ≡ []) (λ item. xs ≡ item ∷ drop 1 xs)

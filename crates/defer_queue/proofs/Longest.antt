@@ -2,7 +2,7 @@
 use Rattle.std.proofs.Common.{arith, ℕ, zero, suc, ◌≡◌, ◌-◌, ◌≤◌, ◌⊎◌, inl, inr, List, [], ◌∷◌, length, take, drop, ap, ◌∙◌, length-drop}
 use Rattle.std.specs.Prelude.{slice_get, All, Result, Ok, Err, Option, Some, None, IsSomeAnd}
 use Rattle.std.proofs.lemmas.List.Elements.{All-nil, All-cons}
-use Rattle.qsbr.specs.declared.Busy.{Busy}
+use Rattle.lpm_limits.specs.declared.busy.Busy.{Busy}
 use Rattle.defer_queue.specs.Reclaims.{FreesFront, Reclaims}
 use Rattle.defer_queue.specs.Longest.{TakesLongest}
 

@@ -1,7 +1,7 @@
 -- Which items a reclaim takes (DPDK Programmer's Guide, "RCU Library", the defer queue; Fraser,
 -- UCAM-CL-TR-579, 2004, epoch-based reclamation).
 use Rattle.std.specs.Prelude.{ℕ, ◌≡◌, ◌≤◌, ◌<◌, ◌⊎◌, List, length, take, slice_get, All, Result, Ok, Err, Option, MatchOption, IsSomeAnd}
-use Rattle.qsbr.specs.declared.Busy.{Busy}
+use Rattle.lpm_limits.specs.declared.busy.Busy.{Busy}
 
 -- where `answers token r` says what a check of the token answers while the reclaim runs: it took the
 -- longest front of the items that all pass, but at most `max`

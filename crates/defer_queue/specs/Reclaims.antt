@@ -1,7 +1,7 @@
 -- What a reclaim does (DPDK Programmer's Guide, "RCU Library", the defer queue: the oldest resources
 -- are reclaimed, in order, up to the first whose token some reader hasn't left behind).
 use Rattle.std.specs.Prelude.{ℕ, zero, suc, ◌≡◌, ◌≤◌, ◌<◌, ◌⊎◌, List, [], ◌∷◌, Result, Ok, Err, Option, Some, None}
-use Rattle.qsbr.specs.declared.Busy.{Busy}
+use Rattle.lpm_limits.specs.declared.busy.Busy.{Busy}
 
 -- `checks s token r z`: a check of the token, from the state s, gives r and leaves z
 -- `frees s group z`: to free the group, from s, leaves z

@@ -2,7 +2,7 @@
 #![tactic(auto)]
 
 ghost use Rattle.std.specs.Prelude.{◌≡◌, ℕ, ◌+◌, ◌<◌, ◌≤◌, ◌==◌, ◌↔◌, List, [], ◌∷◌, ◌++◌, length, drop, slice_get, IsTrue, IfOk, OnOk, MatchOption, Result};
-ghost use Rattle.qsbr.specs.declared.Busy.{Busy};
+ghost use Rattle.lpm_limits.specs.declared.busy.Busy.{Busy};
 ghost use Rattle.defer_queue.specs.Reclaims.{Reclaims};
 
 use circular_buffer::HeapCircularBuffer;

@@ -19,7 +19,7 @@ use Rattle.lpm_rules.proofs.Deep.{has_deep_blocks}
 use Rattle.lpm_rules.proofs.DeepChanges.{put_brings_block}
 use Rattle.lpm_update.specs.Linked.{group_at}
 use Rattle.qsbr.specs.Registry.{Registry}
-use Rattle.qsbr.specs.declared.config.Config.{Config}
+use Rattle.lpm_limits.specs.declared.config.Config.{Config}
 use Rattle.fib_model.specs.State.{State, IsUnheld, HasTokens}
 use Rattle.fib_model.specs.Counting.{counting}
 use Rattle.fib_model.specs.Outcomes.{groups_in_use, LacksGroup, TakesGroup, Adds}

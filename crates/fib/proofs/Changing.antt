@@ -19,7 +19,7 @@ use Rattle.lpm_update.specs.Leads.{IsFreshGroup}
 use Rattle.lpm_update.specs.Update.{GivesUp}
 use Rattle.lpm_update.specs.Tied.{IsTied}
 use Rattle.qsbr.specs.Registry.{Registry}
-use Rattle.qsbr.specs.declared.config.Config.{Config}
+use Rattle.lpm_limits.specs.declared.config.Config.{Config}
 use Rattle.fib_model.specs.Counting.{counting}
 use Rattle.fib_model.specs.Reclaiming.{MakesRoom, Unlinks}
 use Rattle.fib.specs.Waiting.{IsTaken}

@@ -4,7 +4,7 @@ use Rattle.std.specs.Prelude.{slice_get, slice_set, All, Result, Ok, Err, IsSome
 use Rattle.std.proofs.lemmas.List.{take-map, drop-map, length-map}
 use Rattle.std.proofs.lemmas.List.Elements.{All-nil, All-cons, All-head, All-tail, All-map}
 use Rattle.lpm_groups.specs.declared.GroupState.TheVariants.{Free}
-use Rattle.qsbr.specs.declared.Busy.{Busy}
+use Rattle.lpm_limits.specs.declared.busy.Busy.{Busy}
 use Rattle.qsbr.specs.Registry.{Registry}
 use Rattle.qsbr.specs.Counters.{IsChecked, Passes}
 use Rattle.defer_queue.specs.Reclaims.{FreesFront, Ends, Reclaims as QueueReclaims}

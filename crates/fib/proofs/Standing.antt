@@ -17,8 +17,8 @@ use Rattle.lpm_update.proofs.Blank.{blank, blank_groups}
 use Rattle.lpm_update.proofs.Ties.{tied_none}
 use Rattle.lpm_update.proofs.DeepCounts.{linked_deep, no_free}
 use Rattle.qsbr.specs.Registry.{Registry}
-use Rattle.qsbr.specs.Limits.{IsConfig}
-use Rattle.qsbr.specs.declared.config.Config.{Config}
+use Rattle.lpm_limits.specs.Limits.{IsConfig}
+use Rattle.lpm_limits.specs.declared.config.Config.{Config}
 use Rattle.defer_queue.specs.Limbo.{Limbo}
 use Rattle.fib_model.specs.State.{State, IsExhausted, HasTokens}
 use Rattle.fib_model.specs.Counting.{counting}

@@ -9,8 +9,8 @@ use Rattle.lpm_update.specs.Linked.{group_at}
 use Rattle.lpm_update.specs.Leads.{IsAnswering}
 use Rattle.lpm_update.specs.Tied.{IsTied}
 use Rattle.qsbr.specs.Registry.{Registry}
-use Rattle.qsbr.specs.Limits.{IsConfig}
-use Rattle.qsbr.specs.declared.config.Config.{Config}
+use Rattle.lpm_limits.specs.Limits.{IsConfig}
+use Rattle.lpm_limits.specs.declared.config.Config.{Config}
 use Rattle.defer_queue.specs.Limbo.{Limbo}
 use Rattle.fib_model.specs.State.{State}
 use Rattle.fib.specs.Waiting.{IsQueued, tokens_of}

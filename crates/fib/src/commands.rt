@@ -9,7 +9,8 @@ ghost use Rattle.fib_model.specs.Laws.{Agrees};
 ghost use Rattle.fib_model.specs.declared.event.Event.{Event};
 
 use super::Fib;
-use fib_model::{Command, Misreport, Outcome, Report};
+use fib_model::{Command, Outcome, Report};
+use qsbr::Refusal;
 use std::alloc::{AllocError, Global};
 
 impl<const FIRST: u32, const SECOND: u32> Fib<FIRST, SECOND> {
@@ -19,15 +20,15 @@ impl<const FIRST: u32, const SECOND: u32> Fib<FIRST, SECOND> {
         ensures config { self.new.config ≡ self.old.config }
     {
         if worker >= self.config().workers {
-            return Outcome::Misreported(Misreport::NoSuchWorker);
+            return Outcome::Refused(Refusal::NoSuchWorker);
         }
         match (report, self.is_online(worker)) {
             (Report::Online, false) => self.online(worker),
             (Report::Offline, true) => self.offline(worker),
             (Report::Quiescent, true) => self.quiescent(worker),
-            (Report::Online, true) => return Outcome::Misreported(Misreport::AlreadyOnline),
+            (Report::Online, true) => return Outcome::Refused(Refusal::AlreadyOnline),
             (Report::Offline | Report::Quiescent, false) => {
-                return Outcome::Misreported(Misreport::NotOnline);
+                return Outcome::Refused(Refusal::NotOnline);
             }
         }
         Outcome::Told

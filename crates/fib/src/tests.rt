@@ -2,7 +2,8 @@ ghost use Rattle.lpm_bits.specs.Widths.{IsShape};
 
 use super::*;
 use defer_queue::Reclaimed;
-use fib_model::{Command, Misreport, Outcome, Report, expected};
+use fib_model::{Command, Outcome, Report};
+use fib_reference::expected;
 use lpm_bits::{Hop, Prefix, Shape};
 use lpm_groups::Counts;
 use lpm_rules::Put;
@@ -90,7 +91,7 @@ fn account(fib: &Fib<24, 8>) -> Account {
 }
 
 // The same of a plain program's account.
-fn plain_account(plainly: &fib_model::Account) -> Account {
+fn plain_account(plainly: &fib_reference::Account) -> Account {
     (
         plainly.rules,
         plainly.versions,
@@ -122,10 +123,10 @@ fn words(alloc: Global, outcome: &Outcome) -> Result<String, Fail> {
             },
         ) => format!(in alloc; "reclaimed {freed} stopped {busy}")?,
         Outcome::Told => "ok".to_string(alloc)?,
+        Outcome::Refused(Refusal::NoSuchWorker) => "no such worker".to_string(alloc)?,
+        Outcome::Refused(Refusal::AlreadyOnline) => "already online".to_string(alloc)?,
+        Outcome::Refused(Refusal::NotOnline) => "not online".to_string(alloc)?,
         Outcome::Refused(refusal) => format!(in alloc; "refused: {refusal}")?,
-        Outcome::Misreported(Misreport::NoSuchWorker) => "no such worker".to_string(alloc)?,
-        Outcome::Misreported(Misreport::AlreadyOnline) => "already online".to_string(alloc)?,
-        Outcome::Misreported(Misreport::NotOnline) => "not online".to_string(alloc)?,
     })
 }
 

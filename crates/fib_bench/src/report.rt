@@ -1,6 +1,6 @@
 //! The whole run, and what it prints.
 
-ghost use Rattle.qsbr.specs.Limits.{IsConfig};
+ghost use Rattle.lpm_limits.specs.Limits.{IsConfig};
 
 use crate::changes::{add_all, delete_all};
 use crate::lookups::{Addresses, Compared, compare};

@@ -10,20 +10,20 @@ use Rattle.lpm_rules.specs.declared.Put.{Put}
 use Rattle.lpm_rules.specs.declared.Put.TheVariants.{Added, Replaced, Unchanged}
 use Rattle.lpm_rules.proofs.Deep.{has_deep_blocks}
 use Rattle.qsbr.specs.Registry.{Registry}
-use Rattle.qsbr.specs.declared.Busy.{Busy}
-use Rattle.qsbr.specs.declared.config.Config.{Config}
-use Rattle.qsbr.specs.declared.refusal.Refusal.{Refusal}
-use Rattle.qsbr.specs.declared.refusal.Refusal.TheVariants.{TooManyRules, NoSuchRule, Exhausted, NoGroups, Memory}
+use Rattle.lpm_limits.specs.declared.busy.Busy.{Busy}
+use Rattle.lpm_limits.specs.declared.config.Config.{Config}
+use Rattle.lpm_limits.specs.declared.refusal.Refusal.{Refusal}
+use Rattle.lpm_limits.specs.declared.refusal.Refusal.TheVariants.{TooManyRules, NoSuchRule, Exhausted, NoGroups, Memory, NoSuchWorker}
 use Rattle.defer_queue.specs.declared.Reclaimed.{Reclaimed}
 use Rattle.fib_model.specs.declared.command.Command.{Command}
 use Rattle.fib_model.specs.declared.command.Command.TheVariants as command
-use Rattle.fib_model.specs.declared.command.Misreport.TheVariants.{NoSuchWorker, AlreadyOnline, NotOnline}
 use Rattle.fib_model.specs.declared.command.Outcome.{Outcome}
 use Rattle.fib_model.specs.declared.command.Outcome.TheVariants as outcome
 use Rattle.fib_model.specs.declared.command.Report.{Report}
 use Rattle.fib_model.specs.declared.command.Report.TheVariants as kinds
 use Rattle.fib_model.specs.declared.event.Event.{Event}
-use Rattle.fib_model.specs.Intervals.{IsRunningSince}
+use Rattle.reader_intervals.specs.Intervals.{IsRunningSince}
+use Rattle.fib_model.specs.Intervals.{by_reports}
 use Rattle.fib_model.specs.State.{State, IsExhausted, HasTokens}
 use Rattle.fib_model.specs.Outcomes.{groups_in_use, LacksGroup, TakesGroup, IsNew, Adds, Shrinks, Deletes, Flushes, Frees, MayReport, Reports, Does, Log, Runs}
 use Rattle.fib_model.specs.Counting.{counting, opened}
@@ -132,7 +132,7 @@ adds f g c s z E ps p h (Err TooManyRules) tells d = (E, ps, (d.0, tokens c s E 
 adds f g c s z E ps p h (Err Memory) tells d = (E, ps, (is_new c s E ps p tells d.0, ap (λ x. by_events x E ps) d.1), keeps c s z E ps tells d.1)
 adds f g c s z E ps p h (Err (NoGroups oldest)) tells d =
     (E, ps, (is_new c s E ps p tells d.0, (lacks f g c s E ps p tells).0 d.1, oldest_held c s E ps oldest tells d.2, ap (λ x. by_events x E ps) d.3), keeps c s z E ps tells d.3)
-adds f g c s z E ps p h (Err NoSuchRule) tells d = absurd d
+adds f g c s z E ps p h (Err other) tells d = absurd d
 
 -- ---- deleting, flushing, reclaiming
 
@@ -175,7 +175,7 @@ may c s E ps kinds.Online w tells low =
 may c s E ps kinds.Offline w tells low = online c s.readers E w tells.0 low
 may c s E ps kinds.Quiescent w tells low = online c s.readers E w tells.0 low
 
-pub fresh : (c : Config) (s : State (List Event)) (report : Report) (w : ℕ) → MayReport (textbook c) s report w → report ≡ kinds.Online → (start : ℕ) → IsRunningSince s.readers w start → ⊥
+pub fresh : (c : Config) (s : State (List Event)) (report : Report) (w : ℕ) → MayReport (textbook c) s report w → report ≡ kinds.Online → (start : ℕ) → IsRunningSince by_reports s.readers w start → ⊥
 fresh c s kinds.Online w may is start r = may (start, r)
 fresh c s kinds.Offline w may is start r = cc
 fresh c s kinds.Quiescent w may is start r = cc
@@ -192,10 +192,8 @@ reports c s z E ps report w outcome.Told tells d =
         names_newer c.first_token (event_of report w) E s.limbo ps tells.1,
       ),
     )
-reports c s z E ps report w (outcome.Misreported NoSuchWorker) tells d = (E, ps, (d.0, ap (λ x. by_events x E ps) d.1), keeps c s z E ps tells d.1)
-reports c s z E ps report w (outcome.Misreported AlreadyOnline) tells d =
-    (E, ps, (d.0, (λ h. d.1 ((may c s E ps report w tells d.0).1 h)), d.2, ap (λ x. by_events x E ps) d.3), keeps c s z E ps tells d.3)
-reports c s z E ps report w (outcome.Misreported NotOnline) tells d =
+reports c s z E ps report w (outcome.Refused NoSuchWorker) tells d = (E, ps, (d.0, ap (λ x. by_events x E ps) d.1), keeps c s z E ps tells d.1)
+reports c s z E ps report w (outcome.Refused refusal) tells d =
     (E, ps, (d.0, (λ h. d.1 ((may c s E ps report w tells d.0).1 h)), d.2, ap (λ x. by_events x E ps) d.3), keeps c s z E ps tells d.3)
 reports c s z E ps report w other tells d = absurd d
 

@@ -1,10 +1,7 @@
 pub mod Versions
-pub mod Places
 pub mod Holders
 pub mod Names
 pub mod Followed
-pub mod Scans
-pub mod Fronts
 pub mod Tidied
 pub mod Logs
 pub mod TidyRuns

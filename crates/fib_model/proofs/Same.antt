@@ -6,20 +6,19 @@ use Rattle.lpm_bits.specs.Network.{Network}
 use Rattle.lpm_rules.specs.RuleMap.{RuleMap}
 use Rattle.lpm_rules.specs.declared.Put.{Put}
 use Rattle.lpm_rules.specs.declared.Put.TheVariants.{Added, Replaced, Unchanged}
-use Rattle.qsbr.specs.declared.Busy.{Busy}
-use Rattle.qsbr.specs.declared.config.Config.{Config}
-use Rattle.qsbr.specs.declared.refusal.Refusal.{Refusal}
-use Rattle.qsbr.specs.declared.refusal.Refusal.TheVariants.{TooManyRules, NoSuchRule, Exhausted, NoGroups, Memory}
+use Rattle.lpm_limits.specs.declared.busy.Busy.{Busy}
+use Rattle.lpm_limits.specs.declared.config.Config.{Config}
+use Rattle.lpm_limits.specs.declared.refusal.Refusal.{Refusal}
+use Rattle.lpm_limits.specs.declared.refusal.Refusal.TheVariants.{TooManyRules, NoSuchRule, Exhausted, NoGroups, Memory, NoSuchWorker}
 use Rattle.defer_queue.specs.declared.Reclaimed.{Reclaimed}
 use Rattle.fib_model.specs.declared.command.Command.{Command}
 use Rattle.fib_model.specs.declared.command.Command.TheVariants as command
-use Rattle.fib_model.specs.declared.command.Misreport.TheVariants.{NoSuchWorker, AlreadyOnline, NotOnline}
 use Rattle.fib_model.specs.declared.command.Outcome.{Outcome}
 use Rattle.fib_model.specs.declared.command.Outcome.TheVariants as outcome
 use Rattle.fib_model.specs.declared.command.Report.{Report}
 use Rattle.fib_model.specs.declared.event.Event.{Event}
 use Rattle.fib_model.specs.State.{State, IsUnheld, IsExhausted, HasTokens}
-use Rattle.fib_model.specs.Outcomes.{LacksGroup, TakesGroup, IsNew, Adds, Shrinks, Deletes, Flushes, Frees, MayReport, misreport_of, Reports, Does}
+use Rattle.fib_model.specs.Outcomes.{LacksGroup, TakesGroup, IsNew, Adds, Shrinks, Deletes, Flushes, Frees, MayReport, refusal_of, Reports, Does}
 use Rattle.fib_model.specs.Textbook.{textbook}
 use Rattle.fib_model.specs.Laws.{OutcomesAreUnique}
 use Rattle.fib_model.proofs.Followed.{lacks_or_not}
@@ -99,7 +98,7 @@ answer f g c s z p h (Err TooManyRules) m d =
 answer f g c s z p h (Err Memory) m d = absurd (m refl)
 answer f g c s z p h (Err (NoGroups oldest)) m d =
     subst (λ n. Answer f g c s p h n (Err (NoGroups oldest)) z) (sym (stage_room c s p h d.0)) (d.0.0, inr (oldest, refl, d.1, d.2, d.3))
-answer f g c s z p h (Err NoSuchRule) m d = absurd d
+answer f g c s z p h (Err other) m d = absurd d
 
 one_left : (f g : ℕ) (c : Config) (s : Book) (p : Network) (a b : List ℕ) → get s.rules p ≡ None → TakesGroup (textbook c) f g c s p a → TakesGroup (textbook c) f g c s p b → a ≡ b
 one_left f g c s p a b absent h k = elim (lacks_or_not f g c s p absent) [
@@ -198,14 +197,13 @@ one_reclaim c s z z' max r r' a b =
 -- taken, of no worker, or refused
 abbrev IsReported : Config → Book → Report → ℕ → Outcome → Book → Type 0
 IsReported c s report w o z = ((w < c.workers) × MayReport (textbook c) s report w × (o ≡ outcome.Told) × (z ≡ record s { readers = (textbook c).told report w s.readers }))
-    ⊎ ((c.workers ≤ w) × (o ≡ outcome.Misreported NoSuchWorker) × (z ≡ s))
-    ⊎ ((w < c.workers) × (MayReport (textbook c) s report w → ⊥) × (o ≡ outcome.Misreported (misreport_of report)) × (z ≡ s))
+    ⊎ ((c.workers ≤ w) × (o ≡ outcome.Refused NoSuchWorker) × (z ≡ s))
+    ⊎ ((w < c.workers) × (MayReport (textbook c) s report w → ⊥) × (o ≡ outcome.Refused (refusal_of report)) × (z ≡ s))
 
 reported : (c : Config) (s z : Book) (report : Report) (w : ℕ) (o : Outcome) → Reports (textbook c) c s report w o z → IsReported c s report w o z
 reported c s z report w outcome.Told d = inl (d.0, d.1, refl, d.2)
-reported c s z report w (outcome.Misreported NoSuchWorker) d = inr (inl (d.0, refl, d.1))
-reported c s z report w (outcome.Misreported AlreadyOnline) d = inr (inr (d.0, d.1, ap outcome.Misreported d.2, d.3))
-reported c s z report w (outcome.Misreported NotOnline) d = inr (inr (d.0, d.1, ap outcome.Misreported d.2, d.3))
+reported c s z report w (outcome.Refused NoSuchWorker) d = inr (inl (d.0, refl, d.1))
+reported c s z report w (outcome.Refused refusal) d = inr (inr (d.0, d.1, ap outcome.Refused d.2, d.3))
 reported c s z report w other d = absurd d
 
 one_report : (c : Config) (s z z' : Book) (report : Report) (w : ℕ) (o o' : Outcome) → IsReported c s report w o z → IsReported c s report w o' z' → (o ≡ o') × (z ≡ z')

@@ -1,13 +1,12 @@
 -- The rules of a run are the last version that its log made.
 use Rattle.std.proofs.Common.{arith, ◌≡◌, ℕ, zero, suc, ◌+◌, refl, ap, ◌∙◌, List, [], ◌∷◌, length}
 use Rattle.std.specs.FinMap.{insert, remove}
-use Rattle.qsbr.specs.declared.config.Config.{Config}
-use Rattle.qsbr.specs.declared.refusal.Refusal.TheVariants.{TooManyRules, NoSuchRule, Exhausted, NoGroups, Memory}
+use Rattle.lpm_limits.specs.declared.config.Config.{Config}
+use Rattle.lpm_limits.specs.declared.refusal.Refusal.TheVariants.{TooManyRules, NoSuchRule, Exhausted, NoGroups, Memory, NoSuchWorker}
 use Rattle.lpm_rules.specs.RuleMap.{RuleMap}
 use Rattle.lpm_rules.specs.declared.Put.TheVariants.{Added, Replaced, Unchanged}
 use Rattle.fib_model.specs.declared.command.Command.{Command}
 use Rattle.fib_model.specs.declared.command.Command.TheVariants as command
-use Rattle.fib_model.specs.declared.command.Misreport.TheVariants.{NoSuchWorker, AlreadyOnline, NotOnline}
 use Rattle.fib_model.specs.declared.command.Outcome.{Outcome}
 use Rattle.fib_model.specs.declared.command.Outcome.TheVariants as outcome
 use Rattle.fib_model.specs.State.{State, Keeping}
@@ -35,10 +34,10 @@ step k f g c s z H (command.Add p h) (outcome.Put Replaced) at d =
     (ap (λ x. x.rules) d.2 ∙ ap (λ R. insert R p h) at.0, one_more z.begun s.begun (length H) (ap (λ x. x.begun) d.2) at.1)
 step k f g c s z H (command.Add p h) (outcome.Put Unchanged) at d = stays s z H at d.1
 step k f g c s z H (command.Add p h) (outcome.Refused TooManyRules) at d = stays s z H at d.3
-step k f g c s z H (command.Add p h) (outcome.Refused NoSuchRule) at d = absurd d
 step k f g c s z H (command.Add p h) (outcome.Refused Exhausted) at d = stays s z H at d.2
 step k f g c s z H (command.Add p h) (outcome.Refused (NoGroups oldest)) at d = stays s z H at d.3
 step k f g c s z H (command.Add p h) (outcome.Refused Memory) at d = stays s z H at d.1
+step k f g c s z H (command.Add p h) (outcome.Refused other) at d = absurd d
 step k f g c s z H (command.Add p h) other at d = absurd d
 step k f g c s z H (command.Delete p) (outcome.Deleted h) at d =
     (d.1.2 ∙ ap (λ R. remove R p) at.0, one_more z.begun s.begun (length H) d.1.3 at.1)
@@ -56,9 +55,8 @@ step k f g c s z H command.Flush other at d = absurd d
 step k f g c s z H (command.Reclaim max) (outcome.Reclaimed r) at d = (ap (λ x. x.rules) d.1 ∙ at.0, ap (λ x. x.begun) d.1 ∙ at.1)
 step k f g c s z H (command.Reclaim max) other at d = absurd d
 step k f g c s z H (command.Report report w) outcome.Told at d = (ap (λ x. x.rules) d.2 ∙ at.0, ap (λ x. x.begun) d.2 ∙ at.1)
-step k f g c s z H (command.Report report w) (outcome.Misreported NoSuchWorker) at d = stays s z H at d.1
-step k f g c s z H (command.Report report w) (outcome.Misreported AlreadyOnline) at d = stays s z H at d.3
-step k f g c s z H (command.Report report w) (outcome.Misreported NotOnline) at d = stays s z H at d.3
+step k f g c s z H (command.Report report w) (outcome.Refused NoSuchWorker) at d = stays s z H at d.1
+step k f g c s z H (command.Report report w) (outcome.Refused refusal) at d = stays s z H at d.3
 step k f g c s z H (command.Report report w) other at d = absurd d
 
 pub rules_are_last_version : RulesAreLastVersion

@@ -5,7 +5,7 @@ use Rattle.std.specs.Prelude.{ℕ, ◌≡◌, ◌+◌, replicate, slice_index, s
 use Rattle.std.specs.FinMap.{empty}
 use Rattle.qsbr.specs.Counters.{IsOnline, IsFirstHolding}
 use Rattle.qsbr.specs.Registry.{Registry}
-use Rattle.qsbr.specs.declared.config.Config.{Config}
+use Rattle.lpm_limits.specs.declared.config.Config.{Config}
 use Rattle.fib_model.specs.declared.command.Report.{Report}
 use Rattle.fib_model.specs.declared.command.Report.TheVariants.{Online, Offline, Quiescent}
 use Rattle.fib_model.specs.State.{State, Keeping}

@@ -1,13 +1,14 @@
 -- Laws of runs (this project's).
 use Rattle.std.specs.Prelude.{ℕ, ◌≡◌, ◌≢◌, ◌<◌, ◌↔◌, List, length, map, slice_index, All}
-use Rattle.qsbr.specs.declared.Busy.{Busy}
-use Rattle.qsbr.specs.declared.config.Config.{Config}
-use Rattle.qsbr.specs.declared.refusal.Refusal.TheVariants.{Memory}
-use Rattle.qsbr.specs.Limits.{IsConfig}
+use Rattle.lpm_limits.specs.declared.busy.Busy.{Busy}
+use Rattle.lpm_limits.specs.declared.config.Config.{Config}
+use Rattle.lpm_limits.specs.declared.refusal.Refusal.TheVariants.{Memory}
+use Rattle.lpm_limits.specs.Limits.{IsConfig}
 use Rattle.qsbr.specs.Registry.{Registry}
 use Rattle.fib_model.specs.declared.command.Outcome.TheVariants.{Refused}
 use Rattle.fib_model.specs.declared.event.Event.{Event}
-use Rattle.fib_model.specs.Intervals.{IsHeldByWorker}
+use Rattle.reader_intervals.specs.Intervals.{IsHeldByWorker}
+use Rattle.fib_model.specs.Intervals.{by_reports}
 use Rattle.fib_model.specs.State.{State, IsUnheld}
 use Rattle.fib_model.specs.Outcomes.{Log, Runs}
 use Rattle.fib_model.specs.Counting.{counting, opened}
@@ -31,7 +32,7 @@ RulesAreLastVersionByCounters = (first second : ℕ) (c : Config) (log : Log fir
 abbrev pub UnheldByNone : Type 0
 UnheldByNone = (first second : ℕ) (c : Config) (log : Log first second) (z : State (List Event))
     → Runs (textbook c) first second c beginning log z
-    → (place : ℕ) → IsUnheld (textbook c) z.readers place ↔ ((w : ℕ) → ¬ IsHeldByWorker z.readers place w)
+    → (place : ℕ) → IsUnheld (textbook c) z.readers place ↔ ((w : ℕ) → ¬ IsHeldByWorker by_reports z.readers place w)
 
 -- two runs of the same commands, neither with memory refused, have the same outcomes and leave the same
 -- state

@@ -8,14 +8,13 @@ use Rattle.lpm_rules.specs.RuleMap.{RuleMap}
 use Rattle.lpm_rules.specs.Deep.{IsDeepBlock, block_of, deep_blocks}
 use Rattle.lpm_rules.specs.declared.Put.{Put}
 use Rattle.lpm_rules.specs.declared.Put.TheVariants.{Added, Replaced, Unchanged}
-use Rattle.qsbr.specs.declared.config.Config.{Config}
-use Rattle.qsbr.specs.declared.refusal.Refusal.{Refusal}
-use Rattle.qsbr.specs.declared.refusal.Refusal.TheVariants.{TooManyRules, NoSuchRule, Exhausted, NoGroups, Memory}
+use Rattle.lpm_limits.specs.declared.config.Config.{Config}
+use Rattle.lpm_limits.specs.declared.refusal.Refusal.{Refusal}
+use Rattle.lpm_limits.specs.declared.refusal.Refusal.TheVariants.{TooManyRules, NoSuchRule, Exhausted, NoGroups, Memory}
+use Rattle.lpm_limits.specs.declared.refusal.Refusal.TheVariants.{NoSuchWorker, AlreadyOnline, NotOnline}
 use Rattle.defer_queue.specs.declared.Reclaimed.{Reclaimed}
 use Rattle.fib_model.specs.declared.command.Command.{Command}
 use Rattle.fib_model.specs.declared.command.Command.TheVariants as command
-use Rattle.fib_model.specs.declared.command.Misreport.{Misreport}
-use Rattle.fib_model.specs.declared.command.Misreport.TheVariants.{NoSuchWorker, AlreadyOnline, NotOnline}
 use Rattle.fib_model.specs.declared.command.Outcome.{Outcome}
 use Rattle.fib_model.specs.declared.command.Outcome.TheVariants as outcome
 use Rattle.fib_model.specs.declared.command.Report.{Report}
@@ -55,7 +54,7 @@ Adds k first second c s p h (Err TooManyRules) z = (get s.rules p ≡ None) × H
 Adds k first second c s p h (Err Memory) z = IsNew k c s p × (z ≡ s)
 Adds k first second c s p h (Err (NoGroups oldest)) z = IsNew k c s p × LacksGroup first second c s p
     × MatchOption oldest (s.limbo ≡ []) (λ busy. IsSomeAnd (slice_get s.limbo 0) (λ u. k.is_held_by s.readers u busy)) × (z ≡ s)
-Adds k first second c s p h (Err NoSuchRule) z = ⊥
+Adds k first second c s p h (Err refusal) z = ⊥
 
 -- a change to fewer rules, R: each block that loses its last rule longer than a first index is unlinked
 abbrev pub Shrinks : {X : Type 0} → Keeping X → ℕ → ℕ → Config → State X → RuleMap → State X → Type 0
@@ -88,16 +87,16 @@ MayReport k s Offline w = k.is_online s.readers w
 MayReport k s Quiescent w = k.is_online s.readers w
 
 -- how a report that may not be made is refused
-abbrev pub misreport_of : Report → Misreport
-misreport_of Online = AlreadyOnline
-misreport_of Offline = NotOnline
-misreport_of Quiescent = NotOnline
+abbrev pub refusal_of : Report → Refusal
+refusal_of Online = AlreadyOnline
+refusal_of Offline = NotOnline
+refusal_of Quiescent = NotOnline
 
 -- a report, or its refusal; the number of the worker is tested first
 abbrev pub Reports : {X : Type 0} → Keeping X → Config → State X → Report → ℕ → Outcome → State X → Type 0
 Reports k c s report w outcome.Told z = (w < c.workers) × MayReport k s report w × (z ≡ record s { readers = k.told report w s.readers })
-Reports k c s report w (outcome.Misreported NoSuchWorker) z = (c.workers ≤ w) × (z ≡ s)
-Reports k c s report w (outcome.Misreported misreport) z = (w < c.workers) × ¬ MayReport k s report w × (misreport ≡ misreport_of report) × (z ≡ s)
+Reports k c s report w (outcome.Refused NoSuchWorker) z = (c.workers ≤ w) × (z ≡ s)
+Reports k c s report w (outcome.Refused refusal) z = (w < c.workers) × ¬ MayReport k s report w × (refusal ≡ refusal_of report) × (z ≡ s)
 Reports k c s report w other z = ⊥
 
 -- a command came out so, and left z

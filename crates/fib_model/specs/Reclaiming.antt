@@ -2,8 +2,8 @@
 -- no reader can hold it; DPDK Programmer's Guide, "RCU Library", the defer queue: the oldest is reclaimed
 -- first, up to the first that some reader holds, and a queue over its threshold is reclaimed on the way).
 use Rattle.std.specs.Prelude.{ℕ, zero, suc, ◌≡◌, ◌<◌, ◌≤◌, ◌⊎◌, List, [], ◌∷◌, ◌++◌, length, take, drop, slice_get, All, Option, MatchOption, IsSomeAnd}
-use Rattle.qsbr.specs.declared.Busy.{Busy}
-use Rattle.qsbr.specs.declared.config.Config.{Config}
+use Rattle.lpm_limits.specs.declared.busy.Busy.{Busy}
+use Rattle.lpm_limits.specs.declared.config.Config.{Config}
 use Rattle.fib_model.specs.State.{Keeping, IsUnheld}
 
 -- a reclaim of at most `max` took the longest front of the limbo list that no worker holds, and was stopped

@@ -1,8 +1,8 @@
 -- What the outcome of a command depends on, for any way to keep the readers' reports (DPDK Programmer's Guide,
 -- "LPM Library" and "RCU Library").
 use Rattle.std.specs.Prelude.{ℕ, ◌+◌, ◌^◌, ◌<◌, ◌≤◌, ◌⊎◌, List}
-use Rattle.qsbr.specs.declared.Busy.{Busy}
-use Rattle.qsbr.specs.declared.config.Config.{Config}
+use Rattle.lpm_limits.specs.declared.busy.Busy.{Busy}
+use Rattle.lpm_limits.specs.declared.config.Config.{Config}
 use Rattle.lpm_rules.specs.RuleMap.{RuleMap}
 use Rattle.fib_model.specs.declared.command.Report.{Report}
 

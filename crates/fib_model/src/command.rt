@@ -33,17 +33,6 @@ pub enum Command<const FIRST: u32, const SECOND: u32> {
     Report(Report, usize),
 }
 
-/// Why a report was not taken. It changed nothing.
-#[derive(Clone, Copy, Debug, PartialEq, Eq)]
-pub enum Misreport {
-    /// No worker has the number.
-    NoSuchWorker,
-    /// A worker that is online can't go online.
-    AlreadyOnline,
-    /// A worker that is offline can't go offline, and has no lookups to end.
-    NotOnline,
-}
-
 /// What came of a command.
 #[derive(Clone, Copy, Debug, PartialEq, Eq)]
 pub enum Outcome {
@@ -57,8 +46,6 @@ pub enum Outcome {
     Reclaimed(Reclaimed),
     /// The report was taken.
     Told,
-    /// The change was refused.
+    /// The change or the report was refused.
     Refused(Refusal),
-    /// The report was refused.
-    Misreported(Misreport),
 }

@@ -11,9 +11,9 @@ use Rattle.lpm_rules.proofs.Changes.{insert_same}
 use Rattle.lpm_bits.specs.Network.{Network}
 use Rattle.lpm_options.specs.declared.limits.Limits.{Limits}
 use Rattle.qsbr.specs.Registry.{Registry}
-use Rattle.qsbr.specs.declared.config.Config.{Config}
-use Rattle.qsbr.specs.declared.refusal.Refusal.{Refusal as Reason}
-use Rattle.qsbr.specs.declared.refusal.Refusal.TheVariants as reasons
+use Rattle.lpm_limits.specs.declared.config.Config.{Config}
+use Rattle.lpm_limits.specs.declared.refusal.Refusal.{Refusal as Reason}
+use Rattle.lpm_limits.specs.declared.refusal.Refusal.TheVariants as reasons
 use Rattle.fib_model.specs.State.{State}
 use Rattle.fib_model.specs.Outcomes.{Adds}
 use Rattle.fib_model.specs.Counting.{counting, opened}

@@ -2,7 +2,7 @@
 -- a reader's counter is 0 while it is offline, and else the token of its last quiescent state; the
 -- readers have left a token behind when each counter is 0 or at least that token).
 use Rattle.std.specs.Prelude.{ℕ, ◌≡◌, ◌≤◌, ◌<◌, ◌⊎◌, List, length, slice_index, EachIndex, Result, MatchResult}
-use Rattle.qsbr.specs.declared.Busy.{Busy}
+use Rattle.lpm_limits.specs.declared.busy.Busy.{Busy}
 
 -- the worker is online
 abbrev pub IsOnline : List ℕ → ℕ → Type 0

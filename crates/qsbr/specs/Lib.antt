@@ -1,4 +1,3 @@
 pub mod Counters
 pub mod Registry
-pub mod Limits
 pub mod Laws

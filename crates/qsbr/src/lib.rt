@@ -8,30 +8,9 @@
 ghost use Rattle.std.specs.Prelude.{◌≡◌, ℕ, ◌+◌, ◌^◌, ◌<◌, ◌≤◌, ◌↔◌, IsTrue, IfOk, length, replicate, slice_index, slice_set};
 ghost use Rattle.qsbr.specs.Laws.{OlderPasses, NoneHolds, OneIsFirst};
 
-mod config;
-mod refusal;
-
-pub use config::{BadConfig, Config};
-pub use refusal::Refusal;
+pub use lpm_limits::{BadConfig, Busy, Config, Range, Refusal};
 use std::alloc::{AllocError, Global};
-use std::error::Error;
-use std::fmt;
 use std::marker::Model;
-
-/// A worker that holds a token back, and the counter that it did so with: not 0, and below the token.
-#[derive(Clone, Copy, Debug, PartialEq, Eq)]
-pub struct Busy {
-    pub worker: usize,
-    pub counter: u64,
-}
-
-impl fmt::Display for Busy {
-    fn fmt<W: fmt::Write>(&self, f: &mut fmt::Formatter<W>) -> fmt::Result {
-        write!(f, "worker {} at counter {}", self.worker, self.counter)
-    }
-}
-
-impl Error for Busy {}
 
 /// The token and the counters of the workers, which are numbered from 0.
 ///

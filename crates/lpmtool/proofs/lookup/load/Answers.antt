@@ -1,5 +1,5 @@
 use Rattle.std.proofs.Common.{◌∙◌, arith, refl, subst, sym, ◌<◌, length, Ok}
-use Rattle.qsbr.specs.declared.config.Config.{Config}
+use Rattle.lpm_limits.specs.declared.config.Config.{Config}
 use Rattle.fib_model.specs.Outcomes.{Adds}
 use Rattle.fib_model.specs.Counting.{counting}
 use Rattle.lpmtool.specs.declared.failure.Refusal.TheVariants.{TooManyRules, Exhausted, NoGroups}

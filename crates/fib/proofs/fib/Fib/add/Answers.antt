@@ -12,7 +12,7 @@ use Rattle.lpm_update.specs.Tied.{IsTied}
 use Rattle.lpm_update.proofs.DeepCounts.{linked_deep}
 use Rattle.lpm_update.proofs.Resting.{tied_held, taken_back}
 use Rattle.qsbr.specs.Registry.{Registry}
-use Rattle.qsbr.specs.declared.refusal.Refusal.TheVariants.{NoGroups}
+use Rattle.lpm_limits.specs.declared.refusal.Refusal.TheVariants.{NoGroups}
 use Rattle.fib_model.specs.State.{State, HasTokens}
 use Rattle.fib_model.specs.Counting.{counting}
 use Rattle.fib_model.specs.Reclaiming.{Unlinks}

@@ -1,0 +1,14 @@
+//! A slow program that computes the outcomes of commands to a table of one thread. It keeps the list of all
+//! events, and goes over that list for each question. The tests of the table compare its outcomes with these.
+#![tactic(auto)]
+
+mod intervals;
+mod outcomes;
+mod plain;
+mod waiting;
+
+pub use outcomes::expected;
+pub use plain::Account;
+
+#[cfg(test)]
+mod tests;

@@ -1,0 +1,13 @@
+//! The limits of a table, and why a call of the table is refused.
+#![tactic(auto)]
+
+mod busy;
+mod config;
+mod refusal;
+
+pub use busy::Busy;
+pub use config::{BadConfig, Config, Range};
+pub use refusal::Refusal;
+
+#[cfg(test)]
+mod tests;
