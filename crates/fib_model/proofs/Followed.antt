@@ -22,7 +22,8 @@ use Rattle.fib_model.specs.declared.command.Outcome.TheVariants as outcome
 use Rattle.fib_model.specs.declared.command.Report.{Report}
 use Rattle.fib_model.specs.declared.command.Report.TheVariants as kinds
 use Rattle.fib_model.specs.declared.event.Event.{Event}
-use Rattle.fib_model.specs.Intervals.{IsRunningSince}
+use Rattle.reader_intervals.specs.Intervals.{IsRunningSince}
+use Rattle.fib_model.specs.Intervals.{by_reports}
 use Rattle.fib_model.specs.State.{State, IsExhausted, HasTokens}
 use Rattle.fib_model.specs.Outcomes.{groups_in_use, LacksGroup, TakesGroup, IsNew, Adds, Shrinks, Deletes, Flushes, Frees, MayReport, Reports, Does, Log, Runs}
 use Rattle.fib_model.specs.Counting.{counting, opened}
@@ -174,7 +175,7 @@ may c s E ps kinds.Online w tells low =
 may c s E ps kinds.Offline w tells low = online c s.readers E w tells.0 low
 may c s E ps kinds.Quiescent w tells low = online c s.readers E w tells.0 low
 
-pub fresh : (c : Config) (s : State (List Event)) (report : Report) (w : ℕ) → MayReport (textbook c) s report w → report ≡ kinds.Online → (start : ℕ) → IsRunningSince s.readers w start → ⊥
+pub fresh : (c : Config) (s : State (List Event)) (report : Report) (w : ℕ) → MayReport (textbook c) s report w → report ≡ kinds.Online → (start : ℕ) → IsRunningSince by_reports s.readers w start → ⊥
 fresh c s kinds.Online w may is start r = may (start, r)
 fresh c s kinds.Offline w may is start r = cc
 fresh c s kinds.Quiescent w may is start r = cc

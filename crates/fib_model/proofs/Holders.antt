@@ -1,7 +1,7 @@
 -- What counters show of events: each worker's counter is 0 where it has no running reader interval, and else
 -- the token number at the beginning of that interval. So both say the same of who holds an unlinking.
-use Rattle.std.proofs.Common.{arith, ◌≡◌, ◌≢◌, ℕ, suc, ◌+◌, ◌<◌, ◌≤◌, ◌↔◌, ◌⊎◌, inl, inr, refl, ap, sym, ◌∙◌, subst, List, [], ◌∷◌, length, Option, Some, None, IsSomeAnd, slice_index, slice_set}
-use Rattle.std.proofs.lemmas.Bool.{cases_eq, cases_lt}
+use Rattle.std.proofs.Common.{arith, ◌≡◌, ◌≢◌, ℕ, suc, ◌+◌, ◌<◌, ◌≤◌, ◌↔◌, ◌⊎◌, inl, inr, refl, ap, sym, ◌∙◌, subst, List, [], ◌∷◌, length, Some, IsSomeAnd, IsTrue, false, slice_index, slice_set}
+use Rattle.std.proofs.lemmas.Bool.{cases_eq, cases_lt, eq-eqb, eqb-true, false≢true}
 use Rattle.std.proofs.lemmas.List.{get_or-replicate, get_or-set_same, get_or-set_other, length-replicate, length-set}
 use Rattle.qsbr.specs.Counters.{IsOnline, IsPast, IsHolding}
 use Rattle.qsbr.specs.Registry.{Registry}
@@ -11,21 +11,24 @@ use Rattle.fib_model.specs.declared.command.Report.{Report}
 use Rattle.fib_model.specs.declared.command.Report.TheVariants as kinds
 use Rattle.fib_model.specs.declared.event.Event.{Event}
 use Rattle.fib_model.specs.declared.event.Event.TheVariants.{Online, Offline, Quiescent, Unlinking}
-use Rattle.fib_model.specs.Intervals.{event_at, IsBeginning, IsEnd, IsReaderInterval, IsRunningSince, IsHeldByWorker, unlinkings_before, unlinkings}
+use Rattle.reader_intervals.specs.Places.{event_at}
+use Rattle.reader_intervals.specs.Intervals.{IsRunningSince, IsHeldByWorker}
+use Rattle.fib_model.specs.Intervals.{begins, ends, by_reports, is_unlinking, unlinkings_before, unlinkings}
+use Rattle.reader_intervals.proofs.Places.{at_new, at_old, at_within, before_mono, before_old, before_next, count_more, count_same}
+use Rattle.reader_intervals.proofs.Running.{since_within, since_new, since_kept, since_cases, held_start, start_held}
 use Rattle.fib_model.specs.State.{IsUnheld}
 use Rattle.fib_model.specs.Counting.{counting, counter_of, opened}
 use Rattle.fib_model.specs.Textbook.{textbook, event_of}
-use Rattle.fib_model.proofs.Places.{at_new, at_old, at_within, since_within, since_new, since_kept, since_cases, before_mono, before_old, before_next, unlinkings_more, unlinkings_same, IsReport}
 
 -- the one running interval of worker w, and the token number at its beginning
 pub record IsOn (first : ℕ) (E : List Event) (w counter start : ℕ) : Type 0 where
-  pub since : IsRunningSince E w start
-  pub only : (s : ℕ) → IsRunningSince E w s → s ≡ start
+  pub since : IsRunningSince by_reports E w start
+  pub only : (s : ℕ) → IsRunningSince by_reports E w s → s ≡ start
   pub counter_is : counter ≡ first + unlinkings_before E start
 
 -- no interval of worker w runs
 pub record IsOff (E : List Event) (w counter : ℕ) : Type 0 where
-  pub none : (s : ℕ) → IsRunningSince E w s → ⊥
+  pub none : (s : ℕ) → IsRunningSince by_reports E w s → ⊥
   pub counter_is : counter ≡ 0
 
 abbrev pub IsKept : ℕ → List Event → ℕ → ℕ → Type 0
@@ -36,7 +39,7 @@ pub record Shows (c : Config) (r : Registry) (E : List Event) : Type 0 where
   pub token : c.first_token + unlinkings E ≡ r.token
   pub workers : length r.counters ≡ c.workers
   pub kept : (w : ℕ) → w < c.workers → IsKept c.first_token E w (slice_index r.counters w)
-  pub others : (w s : ℕ) → c.workers ≤ w → IsRunningSince E w s → ⊥
+  pub others : (w s : ℕ) → c.workers ≤ w → IsRunningSince by_reports E w s → ⊥
 
 -- the unlinking at this place started this token
 pub record IsName (first : ℕ) (E : List Event) (token place : ℕ) : Type 0 where
@@ -46,9 +49,9 @@ pub record IsName (first : ℕ) (E : List Event) (token place : ℕ) : Type 0 wh
 -- ---- one more event
 
 -- an event that isn't of worker w
-kept_other : (first : ℕ) (e : Event) (E : List Event) (w counter : ℕ) → (IsBeginning w e → ⊥) → (IsEnd w e → ⊥) → IsKept first E w counter → IsKept first (e ∷ E) w counter
+kept_other : (first : ℕ) (e : Event) (E : List Event) (w counter : ℕ) → (IsTrue (begins w e) → ⊥) → (IsTrue (ends w e) → ⊥) → IsKept first E w counter → IsKept first (e ∷ E) w counter
 kept_other first e E w counter begins ends (inl off) = inl record {
-  none = λ s r. elim (since_cases e E w s r) [
+  none = λ s r. elim (since_cases by_reports e E w s r) [
     | inl now ↦ begins now.1
     | inr before ↦ off.none s before.0
   ];
@@ -57,34 +60,34 @@ kept_other first e E w counter begins ends (inl off) = inl record {
 kept_other first e E w counter begins ends (inr on) = inr (
   on.0,
   record {
-    since = since_kept e E w on.0 ends on.1.since;
-    only = λ s r. elim (since_cases e E w s r) [
+    since = since_kept by_reports e E w on.0 ends on.1.since;
+    only = λ s r. elim (since_cases by_reports e E w s r) [
       | inl now ↦ absurd (begins now.1)
       | inr before ↦ on.1.only s before.0
     ];
-    counter_is = on.1.counter_is ∙ ap (λ n. first + n) (sym (before_old e E on.0 (let within = since_within E w on.0 on.1.since in omega (arith, within))));
+    counter_is = on.1.counter_is ∙ ap (λ n. first + n) (sym (before_old is_unlinking e E on.0 (let within = since_within by_reports E w on.0 on.1.since in omega (arith, within))));
   },
 )
 
 -- worker w begins an interval, and had none or ends its last
-kept_begins : (first token : ℕ) (e : Event) (E : List Event) (w counter : ℕ) → IsBeginning w e → IsReport e → first + unlinkings E ≡ token
-    → ((s : ℕ) → IsRunningSince E w s → (IsEnd w e → ⊥) → ⊥) → counter ≡ token → IsKept first (e ∷ E) w counter
+kept_begins : (first token : ℕ) (e : Event) (E : List Event) (w counter : ℕ) → IsTrue (begins w e) → is_unlinking e ≡ false → first + unlinkings E ≡ token
+    → ((s : ℕ) → IsRunningSince by_reports E w s → (IsTrue (ends w e) → ⊥) → ⊥) → counter ≡ token → IsKept first (e ∷ E) w counter
 kept_begins first token e E w counter begins report now last is = inr (
   length E,
   record {
-    since = since_new e E w begins;
-    only = λ s r. elim (since_cases e E w s r) [
+    since = since_new by_reports e E w begins;
+    only = λ s r. elim (since_cases by_reports e E w s r) [
       | inl here ↦ here.0
       | inr before ↦ absurd (last s before.0 before.1)
     ];
-    counter_is = is ∙ sym now ∙ ap (λ n. first + n) (sym (before_old e E (length E) (omega arith)));
+    counter_is = is ∙ sym now ∙ ap (λ n. first + n) (sym (before_old is_unlinking e E (length E) (omega arith)));
   },
 )
 
 -- worker w ends its interval
-kept_ends : (first : ℕ) (e : Event) (E : List Event) (w counter : ℕ) → (IsBeginning w e → ⊥) → IsEnd w e → counter ≡ 0 → IsKept first (e ∷ E) w counter
+kept_ends : (first : ℕ) (e : Event) (E : List Event) (w counter : ℕ) → (IsTrue (begins w e) → ⊥) → IsTrue (ends w e) → counter ≡ 0 → IsKept first (e ∷ E) w counter
 kept_ends first e E w counter begins ends is = inl record {
-  none = λ s r. elim (since_cases e E w s r) [
+  none = λ s r. elim (since_cases by_reports e E w s r) [
     | inl now ↦ begins now.1
     | inr before ↦ before.1 ends
   ];
@@ -93,7 +96,7 @@ kept_ends first e E w counter begins ends is = inl record {
 
 -- ---- who is online
 
-pub online : (c : Config) (r : Registry) (E : List Event) (w : ℕ) → Shows c r E → w < c.workers → IsOnline r.counters w ↔ ((start : ℕ) × IsRunningSince E w start)
+pub online : (c : Config) (r : Registry) (E : List Event) (w : ℕ) → Shows c r E → w < c.workers → IsOnline r.counters w ↔ ((start : ℕ) × IsRunningSince by_reports E w start)
 online c r E w shows low = elim (shows.kept w low) [
   | inl off ↦ ((λ on. let z = off.counter_is in absurd (omega (arith, on, z))), (λ k. absurd (off.none k.0 k.1)))
   | inr on ↦ ((λ _. (on.0, on.1.since)), (λ _. let z = on.1.counter_is in let f = shows.first in omega (arith, z, f)))
@@ -101,22 +104,11 @@ online c r E w shows low = elim (shows.kept w low) [
 
 -- ---- who holds an unlinking
 
-held_start_of : (E : List Event) (place w v start : ℕ) (end : Option ℕ) → v ≡ w → end ≡ None → IsReaderInterval E (record { worker = v; start = start; end = end }) → start < place
-    → (s : ℕ) × IsRunningSince E w s × (s < place)
-held_start_of E place w v start end ew ee r below =
-    (start, subst (λ o. IsReaderInterval E (record { worker = w; start = start; end = o })) ee (subst (λ u. IsReaderInterval E (record { worker = u; start = start; end = end })) ew r), below)
-
-pub held_start : (E : List Event) (place w : ℕ) → IsHeldByWorker E place w → (s : ℕ) × IsRunningSince E w s × (s < place)
-held_start E place w h = held_start_of E place w h.0.worker h.0.start h.0.end h.1 h.2 h.3 h.4.0
-
-pub start_held : (E : List Event) (place w s : ℕ) → IsRunningSince E w s → s < place → IsHeldByWorker E place w
-start_held E place w s r below = (record { worker = w; start = s; end = None }, refl, refl, r, (below, tt))
-
-begins_apart : (E : List Event) (w s place : ℕ) → IsRunningSince E w s → event_at E place ≡ Some Unlinking → s ≢ place
-begins_apart E w s place r at is = subst (λ o. IsSomeAnd o (IsBeginning w)) (ap (event_at E) is ∙ at) r.begins
+begins_apart : (E : List Event) (w s place : ℕ) → IsRunningSince by_reports E w s → event_at E place ≡ Some Unlinking → s ≢ place
+begins_apart E w s place r at is = false≢true (subst (λ o. IsSomeAnd o (λ e. IsTrue (begins w e))) (ap (event_at E) is ∙ at) r.begins)
 
 -- by the counter a worker holds the unlinking exactly where a running interval of it does
-pub holding : (c : Config) (r : Registry) (E : List Event) (token place w : ℕ) → Shows c r E → IsName c.first_token E token place → IsHolding token r.counters w ↔ IsHeldByWorker E place w
+pub holding : (c : Config) (r : Registry) (E : List Event) (token place w : ℕ) → Shows c r E → IsName c.first_token E token place → IsHolding token r.counters w ↔ IsHeldByWorker by_reports E place w
 holding c r E token place w shows name = (
   (λ h.
       let many = shows.workers in
@@ -129,14 +121,14 @@ holding c r E token place w shows name = (
             let t = name.token_is in
             let apart = begins_apart E w on.0 place on.1.since name.unlinking in
             elim (cases_lt on.0 place) [
-              | inl below ↦ start_held E place w on.0 on.1.since below
+              | inl below ↦ start_held by_reports E place w on.0 on.1.since below
               | inr above ↦
-                  let mono = before_mono E (suc place) on.0 (omega (arith, above, apart)) in
+                  let mono = before_mono is_unlinking E (suc place) on.0 (omega (arith, above, apart)) in
                   absurd (omega (arith, mono, z, behind, t))
             ]
       ]),
   (λ h.
-      let k = held_start E place w h in
+      let k = held_start by_reports E place w h in
       elim (cases_lt w c.workers) [
         | inr high ↦ absurd (shows.others w k.0 high k.1)
         | inl low ↦ elim (shows.kept w low) [
@@ -147,8 +139,8 @@ holding c r E token place w shows name = (
               let many = shows.workers in
               let same = on.1.only k.0 k.1 in
               let below = k.2 in
-              let mono = before_mono E on.0 place (omega (arith, same, below)) in
-              let next = before_next E place name.unlinking in
+              let mono = before_mono is_unlinking E on.0 place (omega (arith, same, below)) in
+              let next = before_next is_unlinking E place Unlinking name.unlinking refl in
               let t = name.token_is in
               record { registered = omega (arith, low, many); online = omega (arith, z, f); behind = omega (arith, z, mono, next, t) }
         ]
@@ -169,7 +161,7 @@ past_not token counter (inl z) some below = absurd (omega (arith, z, some))
 past_not token counter (inr h) some below = absurd (omega (arith, h, below))
 
 -- the counter of a worker with a running interval
-counter_at : (c : Config) (r : Registry) (E : List Event) (w start : ℕ) → Shows c r E → IsRunningSince E w start → slice_index r.counters w ≡ c.first_token + unlinkings_before E start
+counter_at : (c : Config) (r : Registry) (E : List Event) (w start : ℕ) → Shows c r E → IsRunningSince by_reports E w start → slice_index r.counters w ≡ c.first_token + unlinkings_before E start
 counter_at c r E w start shows runs = elim (cases_lt w c.workers) [
   | inr high ↦ absurd (shows.others w start high runs)
   | inl low ↦ elim (shows.kept w low) [
@@ -190,7 +182,7 @@ held c r E token place busy shows name = (
     counter = λ start runs. h.1 ∙ counter_at c r E busy.worker start shows runs;
   }),
   (λ h.
-      let k = held_start E place busy.worker h.holds in
+      let k = held_start by_reports E place busy.worker h.holds in
       let holds = (holding c r E token place busy.worker shows name).1 h.holds in (
         record {
           holds = holds;
@@ -223,45 +215,45 @@ shows_opened c first = record {
 pub shows_unlinked : (c : Config) (r : Registry) (E : List Event) → Shows c r E → Shows c (counting.unlinked r) (Unlinking ∷ E)
 shows_unlinked c r E shows = record {
   first = shows.first;
-  token = let more = unlinkings_more E in let is = shows.token in omega (arith, more, is);
+  token = let more = count_more is_unlinking Unlinking E refl in let is = shows.token in omega (arith, more, is);
   workers = shows.workers;
-  kept = λ w low. kept_other c.first_token Unlinking E w (slice_index r.counters w) (λ b. b) (λ b. b) (shows.kept w low);
-  others = λ w s high run. elim (since_cases Unlinking E w s run) [
-    | inl now ↦ now.1
+  kept = λ w low. kept_other c.first_token Unlinking E w (slice_index r.counters w) false≢true false≢true (shows.kept w low);
+  others = λ w s high run. elim (since_cases by_reports Unlinking E w s run) [
+    | inl now ↦ false≢true now.1
     | inr before ↦ shows.others w s high before.0
   ];
 }
 
 -- what a report does to each worker's counter
-told_itself : (c : Config) (r : Registry) (E : List Event) (report : Report) (w : ℕ) → Shows c r E → (report ≡ kinds.Online → (s : ℕ) → IsRunningSince E w s → ⊥)
+told_itself : (c : Config) (r : Registry) (E : List Event) (report : Report) (w : ℕ) → Shows c r E → (report ≡ kinds.Online → (s : ℕ) → IsRunningSince by_reports E w s → ⊥)
     → IsKept c.first_token (event_of report w ∷ E) w (counter_of report r.token)
-told_itself c r E kinds.Online w shows fresh = kept_begins c.first_token r.token (Online w) E w r.token refl tt shows.token (λ s run _. fresh refl s run) refl
-told_itself c r E kinds.Offline w shows fresh = kept_ends c.first_token (Offline w) E w 0 (λ b. b) refl refl
-told_itself c r E kinds.Quiescent w shows fresh = kept_begins c.first_token r.token (Quiescent w) E w r.token refl tt shows.token (λ s run lasts. lasts refl) refl
+told_itself c r E kinds.Online w shows fresh = kept_begins c.first_token r.token (Online w) E w r.token (eq-eqb w w refl) refl shows.token (λ s run _. fresh refl s run) refl
+told_itself c r E kinds.Offline w shows fresh = kept_ends c.first_token (Offline w) E w 0 false≢true (eq-eqb w w refl) refl
+told_itself c r E kinds.Quiescent w shows fresh = kept_begins c.first_token r.token (Quiescent w) E w r.token (eq-eqb w w refl) refl shows.token (λ s run lasts. lasts (eq-eqb w w refl)) refl
 
-no_beginning : (report : Report) (w v : ℕ) → v ≢ w → IsBeginning v (event_of report w) → ⊥
-no_beginning kinds.Online w v n is = n (sym is)
-no_beginning kinds.Offline w v n is = is
-no_beginning kinds.Quiescent w v n is = n (sym is)
+no_beginning : (report : Report) (w v : ℕ) → v ≢ w → IsTrue (begins v (event_of report w)) → ⊥
+no_beginning kinds.Online w v n is = n (sym (eqb-true w v is))
+no_beginning kinds.Offline w v n is = false≢true is
+no_beginning kinds.Quiescent w v n is = n (sym (eqb-true w v is))
 
-no_end : (report : Report) (w v : ℕ) → v ≢ w → IsEnd v (event_of report w) → ⊥
-no_end kinds.Online w v n is = is
-no_end kinds.Offline w v n is = n (sym is)
-no_end kinds.Quiescent w v n is = n (sym is)
+no_end : (report : Report) (w v : ℕ) → v ≢ w → IsTrue (ends v (event_of report w)) → ⊥
+no_end kinds.Online w v n is = false≢true is
+no_end kinds.Offline w v n is = n (sym (eqb-true w v is))
+no_end kinds.Quiescent w v n is = n (sym (eqb-true w v is))
 
-is_report : (report : Report) (w : ℕ) → IsReport (event_of report w)
-is_report kinds.Online w = tt
-is_report kinds.Offline w = tt
-is_report kinds.Quiescent w = tt
+is_report : (report : Report) (w : ℕ) → is_unlinking (event_of report w) ≡ false
+is_report kinds.Online w = refl
+is_report kinds.Offline w = refl
+is_report kinds.Quiescent w = refl
 
-pub shows_told : (c : Config) (r : Registry) (E : List Event) (report : Report) (w : ℕ) → Shows c r E → w < c.workers → (report ≡ kinds.Online → (s : ℕ) → IsRunningSince E w s → ⊥)
+pub shows_told : (c : Config) (r : Registry) (E : List Event) (report : Report) (w : ℕ) → Shows c r E → w < c.workers → (report ≡ kinds.Online → (s : ℕ) → IsRunningSince by_reports E w s → ⊥)
     → Shows c (counting.told report w r) (event_of report w ∷ E)
 shows_told c r E report w shows low fresh =
     let many = shows.workers in
     let in_range : w < length r.counters = omega (arith, many, low) in
     record {
       first = shows.first;
-      token = ap (λ n. c.first_token + n) (unlinkings_same (event_of report w) E (is_report report w)) ∙ shows.token;
+      token = ap (λ n. c.first_token + n) (count_same is_unlinking (event_of report w) E (is_report report w)) ∙ shows.token;
       workers = length-set r.counters w (counter_of report r.token) ∙ shows.workers;
       kept = λ v below. elim (cases_eq v w) [
         | inl is ↦
@@ -271,7 +263,7 @@ shows_told c r E report w shows low fresh =
             subst (IsKept c.first_token (event_of report w ∷ E) v) (sym (get_or-set_other r.counters w v (counter_of report r.token) 0 n))
             (kept_other c.first_token (event_of report w) E v (slice_index r.counters v) (no_beginning report w v n) (no_end report w v n) (shows.kept v below))
       ];
-      others = λ v s high run. elim (since_cases (event_of report w) E v s run) [
+      others = λ v s high run. elim (since_cases by_reports (event_of report w) E v s run) [
         | inl now ↦ no_beginning report w v (omega (arith, high, low)) now.1
         | inr before ↦ shows.others v s high before.0
       ];
@@ -282,7 +274,7 @@ shows_told c r E report w shows low fresh =
 pub name_new : (c : Config) (r : Registry) (E : List Event) → Shows c r E → IsName c.first_token (Unlinking ∷ E) (counting.name r) ((textbook c).name E)
 name_new c r E shows = record {
   unlinking = at_new Unlinking E;
-  token_is = let more = unlinkings_more E in let is = shows.token in omega (arith, more, is);
+  token_is = let more = count_more is_unlinking Unlinking E refl in let is = shows.token in omega (arith, more, is);
 }
 
 pub name_newer : (first : ℕ) (e : Event) (E : List Event) (token place : ℕ) → IsName first E token place → IsName first (e ∷ E) token place
@@ -290,5 +282,5 @@ name_newer first e E token place name =
     let within = at_within E place Unlinking name.unlinking in
     record {
       unlinking = at_old e E place (omega (arith, within)) ∙ name.unlinking;
-      token_is = name.token_is ∙ ap (λ n. first + n) (sym (before_old e E (suc place) (omega (arith, within))));
+      token_is = name.token_is ∙ ap (λ n. first + n) (sym (before_old is_unlinking e E (suc place) (omega (arith, within))));
     }

@@ -17,19 +17,20 @@ use Rattle.fib_model.specs.State.{State}
 use Rattle.fib_model.specs.Reclaiming.{Unlinks}
 use Rattle.fib_model.specs.Outcomes.{Adds, Deletes, Flushes, Reports, Does, Log, Runs}
 use Rattle.fib_model.specs.Textbook.{textbook, beginning}
-use Rattle.fib_model.specs.Tidy.{IsTidy}
+use Rattle.reader_intervals.specs.Intervals.{IsTidy}
+use Rattle.fib_model.specs.Intervals.{by_reports}
 use Rattle.fib_model.proofs.Tidied.{tidy_unlinked, tidy_told}
 use Rattle.fib_model.proofs.Followed.{fresh}
 
 -- the readers of a state are tidy
 abbrev pub IsTidyState : Config → State (List Event) → Type 0
-IsTidyState c s = IsTidy c.workers s.readers
+IsTidyState c s = IsTidy by_reports c.workers s.readers
 
 same : (c : Config) (s z : State (List Event)) → IsTidyState c s → z.readers ≡ s.readers → IsTidyState c z
-same c s z tidy is = subst (IsTidy c.workers) (sym is) tidy
+same c s z tidy is = subst (IsTidy by_reports c.workers) (sym is) tidy
 
-unlinked : (c : Config) (n : ℕ) (E : List Event) (limbo : List ℕ) (E' : List Event) (limbo' : List ℕ) → IsTidy c.workers E → Unlinks (textbook c) c n E limbo E' limbo' → IsTidy c.workers E'
-unlinked c zero E limbo E' limbo' tidy d = subst (IsTidy c.workers) (sym d.0) tidy
+unlinked : (c : Config) (n : ℕ) (E : List Event) (limbo : List ℕ) (E' : List Event) (limbo' : List ℕ) → IsTidy by_reports c.workers E → Unlinks (textbook c) c n E limbo E' limbo' → IsTidy by_reports c.workers E'
+unlinked c zero E limbo E' limbo' tidy d = subst (IsTidy by_reports c.workers) (sym d.0) tidy
 unlinked c (suc n) E limbo E' limbo' tidy d = unlinked c n (Unlinking ∷ E) _ E' limbo' (tidy_unlinked c.workers E tidy) d.2
 
 adds : (f g : ℕ) (c : Config) (s z : State (List Event)) (p : Network) (h : ℕ) (r : Result Put Refusal) → Adds (textbook c) f g c s p h r z → z.readers ≡ s.readers
@@ -56,7 +57,7 @@ flushes f g c s z (Err other) tidy d = absurd d
 
 reports : (c : Config) (s z : State (List Event)) (report : Report) (w : ℕ) (o : Outcome) → IsTidyState c s → Reports (textbook c) c s report w o z → IsTidyState c z
 reports c s z report w outcome.Told tidy d =
-    subst (IsTidy c.workers) (sym (ap (λ x. x.readers) d.2)) (tidy_told c.workers s.readers report w tidy d.0 (fresh c s report w d.1))
+    subst (IsTidy by_reports c.workers) (sym (ap (λ x. x.readers) d.2)) (tidy_told c.workers s.readers report w tidy d.0 (fresh c s report w d.1))
 reports c s z report w (outcome.Refused NoSuchWorker) tidy d = same c s z tidy (ap (λ x. x.readers) d.1)
 reports c s z report w (outcome.Refused refusal) tidy d = same c s z tidy (ap (λ x. x.readers) d.3)
 reports c s z report w other tidy d = absurd d
@@ -76,5 +77,5 @@ step f g c s z (command.Reclaim max) other tidy d = absurd d
 step f g c s z (command.Report report w) o tidy d = reports c s z report w o tidy d
 
 pub tidy_run : (f g : ℕ) (c : Config) (log : Log f g) (z : State (List Event)) → Runs (textbook c) f g c beginning log z → IsTidyState c z
-tidy_run f g c [] z r = subst (IsTidy c.workers) (sym (ap (λ x. x.readers) r)) record { one = λ w s t a b. absurd a.begins; others = λ w s high a. a.begins }
+tidy_run f g c [] z r = subst (IsTidy by_reports c.workers) (sym (ap (λ x. x.readers) r)) record { one = λ w s t a b. absurd a.begins; others = λ w s high a. a.begins }
 tidy_run f g c (done ∷ log) z r = step f g c r.0 z done.0 done.1 (tidy_run f g c log r.0 r.1) r.2

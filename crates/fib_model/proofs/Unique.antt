@@ -7,11 +7,12 @@ use Rattle.lpm_limits.specs.declared.busy.Busy.{Busy}
 use Rattle.lpm_limits.specs.declared.config.Config.{Config}
 use Rattle.fib_model.specs.declared.event.Event.{Event}
 use Rattle.fib_model.specs.declared.event.Event.TheVariants.{Unlinking}
-use Rattle.fib_model.specs.Intervals.{IsRunningSince}
+use Rattle.reader_intervals.specs.Intervals.{IsRunningSince}
+use Rattle.fib_model.specs.Intervals.{by_reports}
+use Rattle.reader_intervals.proofs.Running.{held_start}
 use Rattle.fib_model.specs.State.{IsUnheld}
 use Rattle.fib_model.specs.Reclaiming.{Reclaims, MakesRoom, Unlinks}
 use Rattle.fib_model.specs.Textbook.{textbook, IsFirstHolder}
-use Rattle.fib_model.proofs.Holders.{held_start}
 
 busy_of : (a b : Busy) → a.worker ≡ b.worker → a.counter ≡ b.counter → a ≡ b
 busy_of a b w n =
@@ -26,8 +27,8 @@ one_holder c E place a b h k = elim (cases_lt a.worker b.worker) [
     | inl low ↦ absurd (h.first b.worker low k.holds)
     | inr low ↦
         let is : a.worker ≡ b.worker = omega (arith, high, low) in
-        let start = held_start E place a.worker h.holds in
-        busy_of a b is (h.counter start.0 start.1 ∙ sym (k.counter start.0 (subst (λ w. IsRunningSince E w start.0) is start.1)))
+        let start = held_start by_reports E place a.worker h.holds in
+        busy_of a b is (h.counter start.0 start.1 ∙ sym (k.counter start.0 (subst (λ w. IsRunningSince by_reports E w start.0) is start.1)))
   ]
 ]
 

@@ -7,7 +7,8 @@ use Rattle.lpm_limits.specs.Limits.{IsConfig}
 use Rattle.qsbr.specs.Registry.{Registry}
 use Rattle.fib_model.specs.declared.command.Outcome.TheVariants.{Refused}
 use Rattle.fib_model.specs.declared.event.Event.{Event}
-use Rattle.fib_model.specs.Intervals.{IsHeldByWorker}
+use Rattle.reader_intervals.specs.Intervals.{IsHeldByWorker}
+use Rattle.fib_model.specs.Intervals.{by_reports}
 use Rattle.fib_model.specs.State.{State, IsUnheld}
 use Rattle.fib_model.specs.Outcomes.{Log, Runs}
 use Rattle.fib_model.specs.Counting.{counting, opened}
@@ -31,7 +32,7 @@ RulesAreLastVersionByCounters = (first second : ℕ) (c : Config) (log : Log fir
 abbrev pub UnheldByNone : Type 0
 UnheldByNone = (first second : ℕ) (c : Config) (log : Log first second) (z : State (List Event))
     → Runs (textbook c) first second c beginning log z
-    → (place : ℕ) → IsUnheld (textbook c) z.readers place ↔ ((w : ℕ) → ¬ IsHeldByWorker z.readers place w)
+    → (place : ℕ) → IsUnheld (textbook c) z.readers place ↔ ((w : ℕ) → ¬ IsHeldByWorker by_reports z.readers place w)
 
 -- two runs of the same commands, neither with memory refused, have the same outcomes and leave the same
 -- state

@@ -6,4 +6,3 @@ pub mod Intervals
 pub mod Textbook
 pub mod History
 pub mod Laws
-pub mod Tidy

@@ -8,15 +8,16 @@ use Rattle.fib_model.specs.declared.command.Report.{Report}
 use Rattle.fib_model.specs.declared.command.Report.TheVariants as report
 use Rattle.fib_model.specs.declared.event.Event.{Event}
 use Rattle.fib_model.specs.declared.event.Event.TheVariants.{Online, Offline, Quiescent, Unlinking}
-use Rattle.fib_model.specs.Intervals.{IsRunningSince, IsHeldByWorker, unlinkings, unlinkings_before}
+use Rattle.reader_intervals.specs.Intervals.{IsRunningSince, IsHeldByWorker}
+use Rattle.fib_model.specs.Intervals.{by_reports, unlinkings_before, unlinkings}
 use Rattle.fib_model.specs.State.{State, Keeping}
 
 -- the least worker whose running interval holds the unlinking at this place, with the token number at that
 -- interval's beginning; the first token is `token`
 pub record IsFirstHolder (token : ℕ) (events : List Event) (place : ℕ) (busy : Busy) : Type 0 where
-  pub holds : IsHeldByWorker events place busy.worker
-  pub first : (w : ℕ) → w < busy.worker → ¬ IsHeldByWorker events place w
-  pub counter : (start : ℕ) → IsRunningSince events busy.worker start → busy.counter ≡ token + unlinkings_before events start
+  pub holds : IsHeldByWorker by_reports events place busy.worker
+  pub first : (w : ℕ) → w < busy.worker → ¬ IsHeldByWorker by_reports events place w
+  pub counter : (start : ℕ) → IsRunningSince by_reports events busy.worker start → busy.counter ≡ token + unlinkings_before events start
 
 abbrev pub event_of : Report → ℕ → Event
 event_of report.Online w = Online w
@@ -30,7 +31,7 @@ textbook c = record {
   name = length;
   unlinked = λ events. Unlinking ∷ events;
   token = λ events. c.first_token + unlinkings events;
-  is_online = λ events w. (start : ℕ) × IsRunningSince events w start;
+  is_online = λ events w. (start : ℕ) × IsRunningSince by_reports events w start;
   told = λ report w events. event_of report w ∷ events;
 }
 

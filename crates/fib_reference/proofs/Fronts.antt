@@ -7,17 +7,17 @@ use Rattle.std.proofs.lemmas.Option.{slice_get-get_or}
 use Rattle.lpm_limits.specs.declared.busy.Busy.{Busy}
 use Rattle.lpm_limits.specs.declared.config.Config.{Config}
 use Rattle.fib_model.specs.declared.event.Event.{Event}
-use Rattle.fib_model.specs.Intervals.{IsHeldByWorker}
+use Rattle.reader_intervals.specs.Intervals.{IsHeldByWorker, IsTidy}
+use Rattle.fib_model.specs.Intervals.{by_reports}
+use Rattle.reader_intervals.proofs.Running.{held_start}
 use Rattle.fib_model.specs.State.{IsUnheld}
 use Rattle.fib_model.specs.Reclaiming.{Reclaims}
 use Rattle.fib_model.specs.Textbook.{textbook}
-use Rattle.fib_model.specs.Tidy.{IsTidy}
-use Rattle.fib_model.proofs.Holders.{held_start}
 
-pub none_hold : (c : Config) (E : List Event) (place : ℕ) → IsTidy c.workers E → ((w : ℕ) → w < c.workers → IsHeldByWorker E place w → ⊥) → IsUnheld (textbook c) E place
+pub none_hold : (c : Config) (E : List Event) (place : ℕ) → IsTidy by_reports c.workers E → ((w : ℕ) → w < c.workers → IsHeldByWorker by_reports E place w → ⊥) → IsUnheld (textbook c) E place
 none_hold c E place tidy none busy h = elim (cases_lt busy.worker c.workers) [
   | inl low ↦ none busy.worker low h.holds
-  | inr high ↦ let k = held_start E place busy.worker h.holds in tidy.others busy.worker k.0 high k.1
+  | inr high ↦ let k = held_start by_reports E place busy.worker h.holds in tidy.others busy.worker k.0 high k.1
 ]
 
 all_unheld : (c : Config) (E : List Event) (limbo : List ℕ) (freed : ℕ) → freed ≤ length limbo → ((k : ℕ) → k < freed → IsUnheld (textbook c) E (get_or limbo k 0)) → All (IsUnheld (textbook c) E) (take freed limbo)

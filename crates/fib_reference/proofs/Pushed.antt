@@ -6,13 +6,14 @@ use Rattle.fib_model.specs.declared.event.Event.TheVariants.{Unlinking}
 use Rattle.lpm_limits.specs.declared.config.Config.{Config}
 use Rattle.fib_model.specs.Reclaiming.{Unlinks}
 use Rattle.fib_model.specs.Textbook.{textbook}
-use Rattle.fib_model.specs.Tidy.{IsTidy}
+use Rattle.reader_intervals.specs.Intervals.{IsTidy}
+use Rattle.fib_model.specs.Intervals.{by_reports}
 
 pub newest : (xs : List Event) (e : Event) → reverse (xs ++ e ∷ []) ≡ e ∷ reverse xs
 newest xs e = reverse-append xs (e ∷ [])
 
-pub tidy_pushed : (workers : ℕ) (xs : List Event) (e : Event) (ys : List Event) → ys ≡ xs ++ e ∷ [] → IsTidy workers (e ∷ reverse xs) → IsTidy workers (reverse ys)
-tidy_pushed workers xs e ys is tidy = subst (IsTidy workers) (sym (ap reverse is ∙ newest xs e)) tidy
+pub tidy_pushed : (workers : ℕ) (xs : List Event) (e : Event) (ys : List Event) → ys ≡ xs ++ e ∷ [] → IsTidy by_reports workers (e ∷ reverse xs) → IsTidy by_reports workers (reverse ys)
+tidy_pushed workers xs e ys is tidy = subst (IsTidy by_reports workers) (sym (ap reverse is ∙ newest xs e)) tidy
 
 pub front_removed : (limbo : List ℕ) (u d : ℕ) → 0 < length limbo → u ≡ get_or limbo 0 d → limbo ≡ u ∷ remove limbo 0
 front_removed [] u d some is = absurd (omega (arith, some))

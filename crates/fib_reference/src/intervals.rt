@@ -1,16 +1,16 @@
 //! Reader intervals, found by going over the events from the oldest on.
 
-ghost use Rattle.std.specs.Prelude.{◌≡◌, ℕ, ◌+◌, ◌<◌, ◌≤◌, ◌^◌, ◌↔◌, length, reverse, Some, None, MatchOption, IsTrue};
-ghost use Rattle.fib_model.specs.declared.event.Event.TheVariants.{Unlinking};
-ghost use Rattle.fib_model.specs.Intervals.{IsBeginning, IsEnd, IsRunningSince, unlinkings_before};
+ghost use Rattle.std.specs.Prelude.{◌≡◌, ℕ, ◌+◌, ◌<◌, ◌≤◌, ◌^◌, ◌&&◌, nat_lt, length, reverse, Some, None, MatchOption, IsTrue, IsFalse};
+ghost use Rattle.reader_intervals.specs.Intervals.{IsRunningSince};
+ghost use Rattle.fib_model.specs.Intervals.{begins, ends, by_reports, is_unlinking, unlinkings_before};
 
 use fib_model::Event;
 
 /// Where the worker's running reader interval begins after an event at this place, if one runs then.
 fn since_after(event: Event, w: usize, place: usize, since: Option<usize>) -> Option<usize>
-    ensures begins { IsBeginning w event → result ≡ Some place }
-    ensures ends { (IsBeginning w event → ⊥) → IsEnd w event → result ≡ None }
-    ensures other { (IsBeginning w event → ⊥) → (IsEnd w event → ⊥) → result ≡ since }
+    ensures begins { IsTrue (begins w event) → result ≡ Some place }
+    ensures ends { IsFalse (begins w event) → IsTrue (ends w event) → result ≡ None }
+    ensures other { IsFalse (begins w event) → IsFalse (ends w event) → result ≡ since }
 {
     match event {
         Event::Online(v) | Event::Quiescent(v) if v == w => Some(place),
@@ -21,8 +21,8 @@ fn since_after(event: Event, w: usize, place: usize, since: Option<usize>) -> Op
 
 /// Where the worker's running reader interval began, if one runs.
 pub(crate) fn running(events: &[Event], w: usize) -> Option<usize>
-    ensures { MatchOption result ((s : ℕ) → IsRunningSince (reverse events.now) w s → ⊥)
-        (λ s. IsRunningSince (reverse events.now) w s) }
+    ensures { MatchOption result ((s : ℕ) → IsRunningSince by_reports (reverse events.now) w s → ⊥)
+        (λ s. IsRunningSince by_reports (reverse events.now) w s) }
 {
     let mut since = None;
     for (place, &event) in events.iter().enumerate() {
@@ -33,7 +33,7 @@ pub(crate) fn running(events: &[Event], w: usize) -> Option<usize>
 
 /// Whether the event, at its place, is an unlinking before another place.
 fn is_unlinking_before(event: Event, at: usize, place: usize) -> bool
-    ensures { IsTrue result ↔ ((at < place) × (event ≡ Unlinking)) }
+    ensures { result ≡ (is_unlinking event && nat_lt at place) }
 {
     match event {
         Event::Unlinking => at < place,

@@ -45,13 +45,14 @@ impl<const FIRST: u32, const SECOND: u32> Plain<FIRST, SECOND> {
     ghost use Rattle.fib_model.specs.Reclaiming.{Unlinks};
     ghost use Rattle.fib_model.specs.State.{HasTokens, IsExhausted};
     ghost use Rattle.fib_model.specs.Textbook.{textbook, beginning};
-    ghost use Rattle.fib_model.specs.Tidy.{IsTidy};
+    ghost use Rattle.reader_intervals.specs.Intervals.{IsTidy};
+    ghost use Rattle.fib_model.specs.Intervals.{by_reports};
 
     /// A table that was just opened.
     pub(crate) fn open(alloc: Global, config: &Config) -> Self
         requires { IsShape FIRST SECOND }
         ensures state { state_of result ≡ beginning }
-        ensures tidy { IsTidy config.now.workers (events_of result.waiting) }
+        ensures tidy { IsTidy by_reports config.now.workers (events_of result.waiting) }
     {
         Plain {
             rules: Rules::new(alloc, config.rules),
@@ -119,7 +120,7 @@ impl<const FIRST: u32, const SECOND: u32> Plain<FIRST, SECOND> {
         hop: Hop,
     ) -> Result<Result<Put, Refusal>, AllocError>
         requires config { IsConfig config.now }
-        requires tidy { IsTidy config.now.workers (events_of self.old.waiting) }
+        requires tidy { IsTidy by_reports config.now.workers (events_of self.old.waiting) }
         requires new { IsNew (textbook config.now) config.now (state_of self.old) prefix.now }
         ensures adds { IfOk result (λ r. Adds (textbook config.now) FIRST SECOND config.now (state_of self.old) prefix.now hop r
             (state_of self.new)) }
@@ -142,7 +143,7 @@ impl<const FIRST: u32, const SECOND: u32> Plain<FIRST, SECOND> {
         hop: Hop,
     ) -> Result<Result<Put, Refusal>, AllocError>
         requires config { IsConfig config.now }
-        requires tidy { IsTidy config.now.workers (events_of self.old.waiting) }
+        requires tidy { IsTidy by_reports config.now.workers (events_of self.old.waiting) }
         ensures adds { IfOk result (λ r. Adds (textbook config.now) FIRST SECOND config.now (state_of self.old) prefix.now hop r
             (state_of self.new)) }
         ensures events { self.new.waiting.events ≡ self.old.waiting.events }
@@ -168,11 +169,11 @@ impl<const FIRST: u32, const SECOND: u32> Plain<FIRST, SECOND> {
     fn shrink(&mut self, config: &Config, before: usize) -> Result<(), AllocError>
         requires config { IsConfig config.now }
         requires begun { self.old.begun < 2 ^ 61 }
-        requires tidy { IsTidy config.now.workers (events_of self.old.waiting) }
+        requires tidy { IsTidy by_reports config.now.workers (events_of self.old.waiting) }
         ensures unlinked { OnOk result (Unlinks (textbook config.now) config.now
             (before - groups_in_use FIRST SECOND self.old.rules.rules) (events_of self.old.waiting) self.old.waiting.limbo.items
             (events_of self.new.waiting) self.new.waiting.limbo.items) }
-        ensures tidy { OnOk result (IsTidy config.now.workers (events_of self.new.waiting)) }
+        ensures tidy { OnOk result (IsTidy by_reports config.now.workers (events_of self.new.waiting)) }
         ensures begun { self.new.begun ≡ self.old.begun + 1 }
         ensures rules { self.new.rules ≡ self.old.rules }
     {
@@ -188,10 +189,10 @@ impl<const FIRST: u32, const SECOND: u32> Plain<FIRST, SECOND> {
         prefix: &Prefix<FIRST, SECOND>,
     ) -> Result<Result<Hop, Refusal>, AllocError>
         requires config { IsConfig config.now }
-        requires tidy { IsTidy config.now.workers (events_of self.old.waiting) }
+        requires tidy { IsTidy by_reports config.now.workers (events_of self.old.waiting) }
         ensures deletes { IfOk result (λ r. Deletes (textbook config.now) FIRST SECOND config.now (state_of self.old) prefix.now r
             (state_of self.new)) }
-        ensures tidy { OnOk result (IsTidy config.now.workers (events_of self.new.waiting)) }
+        ensures tidy { OnOk result (IsTidy by_reports config.now.workers (events_of self.new.waiting)) }
     {
         let Some(hop) = self.rules.get(prefix) else {
             return Ok(Err(Refusal::NoSuchRule));
@@ -208,10 +209,10 @@ impl<const FIRST: u32, const SECOND: u32> Plain<FIRST, SECOND> {
     /// Takes out all rules.
     fn flush(&mut self, config: &Config) -> Result<Result<usize, Refusal>, AllocError>
         requires config { IsConfig config.now }
-        requires tidy { IsTidy config.now.workers (events_of self.old.waiting) }
+        requires tidy { IsTidy by_reports config.now.workers (events_of self.old.waiting) }
         ensures flushes { IfOk result (λ r. Flushes (textbook config.now) FIRST SECOND config.now (state_of self.old) r
             (state_of self.new)) }
-        ensures tidy { OnOk result (IsTidy config.now.workers (events_of self.new.waiting)) }
+        ensures tidy { OnOk result (IsTidy by_reports config.now.workers (events_of self.new.waiting)) }
     {
         if self.rules.is_empty() {
             return Ok(Ok(0));
@@ -232,10 +233,10 @@ impl<const FIRST: u32, const SECOND: u32> Plain<FIRST, SECOND> {
         command: &Command<FIRST, SECOND>,
     ) -> Result<Outcome, AllocError>
         requires config { IsConfig config.now }
-        requires tidy { IsTidy config.now.workers (events_of self.old.waiting) }
+        requires tidy { IsTidy by_reports config.now.workers (events_of self.old.waiting) }
         ensures does { IfOk result (λ outcome. Does (textbook config.now) FIRST SECOND config.now (state_of self.old) command.now outcome
             (state_of self.new)) }
-        ensures tidy { OnOk result (IsTidy config.now.workers (events_of self.new.waiting)) }
+        ensures tidy { OnOk result (IsTidy by_reports config.now.workers (events_of self.new.waiting)) }
     {
         match command {
             Command::Add(prefix, hop) => match self.add(config, prefix, *hop)? {

@@ -1,7 +1,7 @@
 -- Reader intervals that run, before and after one more event.
-use Rattle.std.proofs.Common.{arith, ◌≡◌, ◌≢◌, ℕ, ◌<◌, ◌⊎◌, inl, inr, refl, sym, subst, IsTrue, List, ◌∷◌, length, Option, None, IsSomeAnd}
+use Rattle.std.proofs.Common.{arith, ◌≡◌, ◌≢◌, ℕ, ◌<◌, ◌≤◌, ◌⊎◌, inl, inr, refl, sym, ◌∙◌, subst, IsTrue, List, ◌∷◌, length, Option, None, IsSomeAnd}
 use Rattle.std.proofs.lemmas.Bool.{cases_eq}
-use Rattle.reader_intervals.specs.Intervals.{Reporting, IsReaderInterval, IsRunningSince, IsHeldByWorker}
+use Rattle.reader_intervals.specs.Intervals.{Reporting, IsReaderInterval, IsRunningSince, IsHeldByWorker, IsTidy}
 use Rattle.reader_intervals.specs.Laws.{RunsAfterOneMore}
 use Rattle.reader_intervals.proofs.Places.{at_new, some_within, some_older, some_newer, some_newest}
 
@@ -49,6 +49,28 @@ since_from b e E w s (inr before) = since_kept b e E w s before.1 before.0
 
 pub runs_after_one_more : (T : Type 0) → RunsAfterOneMore T
 runs_after_one_more T b e E w s = (since_cases b e E w s, since_from b e E w s)
+
+-- ---- workers that take turns
+
+-- an event that begins no interval where one runs on, and none of a number past the workers
+pub tidy_more : {T : Type 0} (b : Reporting T) (workers : ℕ) (e : T) (E : List T) → IsTidy b workers E → ((w s : ℕ) → IsTrue (b.begins w e) → IsRunningSince b E w s → ¬ IsTrue (b.ends w e) → ⊥) → ((w : ℕ) → workers ≤ w → IsTrue (b.begins w e) → ⊥)
+    → IsTidy b workers (e ∷ E)
+tidy_more b workers e E tidy fresh others = record {
+  one = λ w s t r q. elim (since_cases b e E w s r) [
+    | inl a ↦ elim (since_cases b e E w t q) [
+      | inl n ↦ a.0 ∙ sym n.0
+      | inr o ↦ absurd (fresh w t a.1 o.0 o.1)
+    ]
+    | inr a ↦ elim (since_cases b e E w t q) [
+      | inl n ↦ absurd (fresh w s n.1 a.0 a.1)
+      | inr o ↦ tidy.one w s t a.0 o.0
+    ]
+  ];
+  others = λ w s high r. elim (since_cases b e E w s r) [
+    | inl a ↦ others w high a.1
+    | inr a ↦ tidy.others w s high a.0
+  ];
+}
 
 -- ---- who holds a place
 

@@ -1,18 +1,18 @@
-use Rattle.std.proofs.Common.{arith, refl}
-use Rattle.fib_reference.proofs.Scans.{counted_yes, counted_no}
+use Rattle.std.proofs.Common.{ℕ, arith, refl, ap, sym, ◌∙◌, ◌+◌, cond}
+use Rattle.fib_reference.proofs.Scans.{counted}
 use Rattle.fib_reference.proofs.intervals.unlinkings_up_to.Goals as goal
 use Rattle.fib_reference.proofs.intervals.unlinkings_up_to.Goals.{then-is_unlinking_before, else-is_unlinking_before}
 
 pub loop-at-preserved : goal.loop-at-preserved
 loop-at-preserved c =
+    let more = counted c.args.events.now c.loop-at.at c.args.place c.loop-at.count c.if-is_unlinking_before.count _ _ c.is_unlinking_before.result (omega arith) refl c.is_unlinking_before.ensures c.loop-at.invariant.counted in
     elim c.if-is_unlinking_before.branch [
       | then-is_unlinking_before w ↦ record {
-        counted = counted_yes c.args.events.now c.loop-at.at c.args.place c.loop-at.count c.if-is_unlinking_before.count _ _ (omega arith) refl (c.is_unlinking_before.ensures.0 w.if-is_unlinking_before.true) c.loop-at.invariant.counted w.count-is;
+        counted = more (w.count-is ∙ ap (λ b. c.loop-at.count + cond b 1 0) (sym w.if-is_unlinking_before.true));
         bound = omega arith;
       }
       | else-is_unlinking_before w ↦ record {
-        counted = counted_no c.args.events.now c.loop-at.at c.args.place c.loop-at.count c.if-is_unlinking_before.count _ _ (omega arith) refl
-            (λ h. let yes_is = c.is_unlinking_before.ensures.1 h in let no_is = w.if-is_unlinking_before.false in cc) c.loop-at.invariant.counted w.count-is;
+        counted = more (let none = ap {B = ℕ} (λ b. cond b 1 0) w.if-is_unlinking_before.false in let same = w.count-is in omega (arith, none, same));
         bound = omega arith;
       }
     ]

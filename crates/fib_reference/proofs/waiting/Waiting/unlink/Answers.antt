@@ -1,7 +1,8 @@
 use Rattle.std.proofs.Common.{reverse, subst, sym, ap, ◌∙◌, ◌≡◌}
 use Rattle.fib_reference.specs.declared.waiting.Waiting.{Waiting}
 use Rattle.fib_reference.specs.Expected.{events_of}
-use Rattle.fib_model.specs.Tidy.{IsTidy}
+use Rattle.reader_intervals.specs.Intervals.{IsTidy}
+use Rattle.fib_model.specs.Intervals.{by_reports}
 use Rattle.fib_model.proofs.Tidied.{tidy_unlinked}
 use Rattle.fib_reference.proofs.Pushed.{tidy_pushed}
 use Rattle.fib_reference.proofs.waiting.Waiting.unlink.Goals as goal
@@ -21,4 +22,4 @@ returns-clause-tidy c =
       | then-len-config w ↦ ap (λ (s : Waiting). s.events.items) w.self-is ∙ ap (λ v. v.items) w.reclaim.ensures.events
       | else-len-config w ↦ ap (λ (s : Waiting). s.events.items) w.self-is
     ] in
-    subst (λ l. IsTidy c.args.config.now.workers (reverse l)) (sym same) tidy
+    subst (λ l. IsTidy by_reports c.args.config.now.workers (reverse l)) (sym same) tidy
