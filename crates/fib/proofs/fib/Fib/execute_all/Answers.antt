@@ -6,7 +6,7 @@ use Rattle.qsbr.specs.Limits.{IsConfig}
 use Rattle.fib_model.specs.Counting.{counting}
 use Rattle.fib_model.specs.Outcomes.{Runs, Does, logged}
 use Rattle.fib.proofs.Logs.{log_next, told}
-use Rattle.fib.proofs.fib.Fib.run.Goals as goal
+use Rattle.fib.proofs.fib.Fib.execute_all.Goals as goal
 
 pub loop-index-preserved : goal.loop-index-preserved
 loop-index-preserved g c =

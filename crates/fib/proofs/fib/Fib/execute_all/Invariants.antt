@@ -1,7 +1,7 @@
 use Rattle.std.proofs.Common.{◌≡◌, [], take, length}
 use Rattle.fib_model.specs.Counting.{counting}
 use Rattle.fib_model.specs.Outcomes.{Runs, logged}
-use Rattle.fib.proofs.fib.Fib.run.Given as goal
+use Rattle.fib.proofs.fib.Fib.execute_all.Given as goal
 
 -- the commands up to here are done
 abbrev pub invariant-loop-index : goal.invariant-loop-index

@@ -25,13 +25,13 @@ use Rattle.fib_model.specs.Counting.{counting}
 use Rattle.fib_model.specs.Reclaiming.{Unlinks}
 use Rattle.fib_model.specs.Outcomes.{groups_in_use}
 use Rattle.fib.specs.Waiting.{AreWaiting, IsQueued, IsFreed}
-use Rattle.fib.specs.Standing.{IsStanding}
+use Rattle.fib.specs.Fib.{IsSound}
 use Rattle.fib.proofs.Waiting.{freed_queue}
 
-pub standing_open : (f s : ℕ) (c : Config) → IsConfig c
-    → IsStanding f s c (record { rules = empty {R = network_cmp}; max = c.rules }) (record { firsts = replicate (2 ^ f) 0; seconds = replicate (c.groups * 2 ^ s) 0; groups = c.groups })
+pub sound_open : (f s : ℕ) (c : Config) → IsConfig c
+    → IsSound f s c (record { rules = empty {R = network_cmp}; max = c.rules }) (record { firsts = replicate (2 ^ f) 0; seconds = replicate (c.groups * 2 ^ s) 0; groups = c.groups })
     (replicate c.groups Free) (record { token = c.first_token; counters = replicate c.workers 0 }) (record { items = []; capacity = c.groups }) 0
-standing_open f s c limits = record {
+sound_open f s c limits = record {
   limits = limits;
   answering = blank f s (c.groups * 2 ^ s);
   tied = tied_none f c.groups _ (blank_groups (2 ^ f));
@@ -44,17 +44,17 @@ standing_open f s c limits = record {
 }
 
 -- the same parts
-pub standing_same : (f s : ℕ) (c : Config) (rules rules' : RuleList) (t t' : Words) (xs xs' : List GroupState) (d d' : Registry) (q q' : Limbo) (n : ℕ) → IsStanding f s c rules t xs d q n
-    → rules' ≡ rules → t' ≡ t → xs' ≡ xs → d' ≡ d → q' ≡ q → IsStanding f s c rules' t' xs' d' q' n
-standing_same f s c rules rules' t t' xs xs' d d' q q' n known er et ex ed eq =
-    subst (λ r. IsStanding f s c r t' xs' d' q' n) (sym er) (subst (λ w. IsStanding f s c rules w xs' d' q' n) (sym et) (subst (λ x. IsStanding f s c rules t x d' q' n) (sym ex)
-    (subst (λ x. IsStanding f s c rules t xs x q' n) (sym ed) (subst (λ x. IsStanding f s c rules t xs d x n) (sym eq) known))))
+pub sound_same : (f s : ℕ) (c : Config) (rules rules' : RuleList) (t t' : Words) (xs xs' : List GroupState) (d d' : Registry) (q q' : Limbo) (n : ℕ) → IsSound f s c rules t xs d q n
+    → rules' ≡ rules → t' ≡ t → xs' ≡ xs → d' ≡ d → q' ≡ q → IsSound f s c rules' t' xs' d' q' n
+sound_same f s c rules rules' t t' xs xs' d d' q q' n known er et ex ed eq =
+    subst (λ r. IsSound f s c r t' xs' d' q' n) (sym er) (subst (λ w. IsSound f s c rules w xs' d' q' n) (sym et) (subst (λ x. IsSound f s c rules t x d' q' n) (sym ex)
+    (subst (λ x. IsSound f s c rules t xs x q' n) (sym ed) (subst (λ x. IsSound f s c rules t xs d x n) (sym eq) known))))
 
 -- a change that has run
-pub standing_after : (f s : ℕ) (c : Config) (rules rules' : RuleList) (t t' : Words) (xs xs' : List GroupState) (d d' : Registry) (q q' : Limbo) (n : ℕ) → IsStanding f s c rules t xs d q n
+pub sound_after : (f s : ℕ) (c : Config) (rules rules' : RuleList) (t t' : Words) (xs xs' : List GroupState) (d d' : Registry) (q q' : Limbo) (n : ℕ) → IsSound f s c rules t xs d q n
     → rules'.max ≡ rules.max → IsAnswering f s rules'.rules t'.firsts t'.seconds → IsTied f xs' (group_at t'.firsts) → IsQueued xs' q' → t'.groups ≡ t.groups → length xs' ≡ length xs → d'.counters ≡ d.counters → n < 2 ^ 61
-    → IsStanding f s c rules' t' xs' d' q' (n + 1)
-standing_after f s c rules rules' t t' xs xs' d d' q q' n known max answering tied queued groups states counters few = record {
+    → IsSound f s c rules' t' xs' d' q' (n + 1)
+sound_after f s c rules rules' t t' xs xs' d d' q q' n known max answering tied queued groups states counters few = record {
   limits = known.limits;
   answering = answering;
   tied = tied;
@@ -67,9 +67,9 @@ standing_after f s c rules rules' t t' xs xs' d d' q q' n known max answering ti
 }
 
 -- a reclaim frees groups that no block has
-pub standing_reclaimed : (f s : ℕ) (c : Config) (rules : RuleList) (t : Words) (xs ys : List GroupState) (d d' : Registry) (q q' : Limbo) (n freed : ℕ) → IsStanding f s c rules t xs d q n
-    → IsFreed xs q.items freed ys → freed ≤ length q.items → q' ≡ record q { items = drop freed q.items } → AreWaiting ys q'.items → d' ≡ d → IsStanding f s c rules t ys d' q' n
-standing_reclaimed f s c rules t xs ys d d' q q' n freed known gone few left waits same = record {
+pub sound_reclaimed : (f s : ℕ) (c : Config) (rules : RuleList) (t : Words) (xs ys : List GroupState) (d d' : Registry) (q q' : Limbo) (n freed : ℕ) → IsSound f s c rules t xs d q n
+    → IsFreed xs q.items freed ys → freed ≤ length q.items → q' ≡ record q { items = drop freed q.items } → AreWaiting ys q'.items → d' ≡ d → IsSound f s c rules t ys d' q' n
+sound_reclaimed f s c rules t xs ys d d' q q' n freed known gone few left waits same = record {
   limits = known.limits;
   answering = known.answering;
   tied = record {
@@ -85,13 +85,13 @@ standing_reclaimed f s c rules t xs ys d d' q q' n freed known gone few left wai
 }
 
 -- as many groups are linked as there are deep blocks
-pub standing_linked : (f s : ℕ) (c : Config) (rules : RuleList) (t : Words) (xs : List GroupState) (d : Registry) (q : Limbo) (n : ℕ) → IsStanding f s c rules t xs d q n → linked_count xs ≡ groups_in_use f s rules.rules
-standing_linked f s c rules t xs d q n known = linked_deep f s rules.rules xs (group_at t.firsts) known.answering.networks known.tied known.answering.groups
+pub sound_linked : (f s : ℕ) (c : Config) (rules : RuleList) (t : Words) (xs : List GroupState) (d : Registry) (q : Limbo) (n : ℕ) → IsSound f s c rules t xs d q n → linked_count xs ≡ groups_in_use f s rules.rules
+sound_linked f s c rules t xs d q n known = linked_deep f s rules.rules xs (group_at t.firsts) known.answering.networks known.tied known.answering.groups
 
 -- the free groups, those that wait and the deep blocks are as many as the groups
-pub standing_free : (f s : ℕ) (c : Config) (rules : RuleList) (t : Words) (xs : List GroupState) (d : Registry) (q : Limbo) (n : ℕ) → IsStanding f s c rules t xs d q n
+pub sound_free : (f s : ℕ) (c : Config) (rules : RuleList) (t : Words) (xs : List GroupState) (d : Registry) (q : Limbo) (n : ℕ) → IsSound f s c rules t xs d q n
     → free_count xs + length q.items + groups_in_use f s rules.rules ≡ c.groups
-standing_free f s c rules t xs d q n known = omega (arith, no_free f s rules.rules xs (group_at t.firsts) known.answering.networks known.tied known.answering.groups, known.queued.all, known.states)
+sound_free f s c rules t xs d q n known = omega (arith, no_free f s rules.rules xs (group_at t.firsts) known.answering.networks known.tied known.answering.groups, known.queued.all, known.states)
 
 pub not_exhausted : (c : Config) (S : State Registry) → ¬ IsExhausted counting c S → HasTokens counting c S
 not_exhausted c S h = (
