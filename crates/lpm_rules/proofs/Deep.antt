@@ -1,9 +1,9 @@
 -- The rules longer than the first table's index, counted length by length, and their blocks.
 use Rattle.std.proofs.Common.{arith, ◌≡◌, ℕ, ◌+◌, ◌-◌, ◌*◌, ◌/◌, ◌%◌, ◌^◌, ◌<◌, ◌≤◌, ◌↔◌, ◌⊎◌, inl, inr, Bool, true, false, cond, refl, ap, sym, ◌∙◌, subst, List, [], ◌∷◌, ◌++◌, Option, Some, None, nat_eq, nat_lt}
-use Rattle.std.specs.Prelude.{map, filter, count_by, ◌&&◌, ◌||◌, IsSome}
+use Rattle.std.specs.Prelude.{map, filter, count_by, ◌&&◌, ◌||◌, IsSome, IsTrue}
 use Rattle.std.specs.List.{list_any}
 use Rattle.std.specs.Ordering.{nat_cmp, eq_by_cmp, ord_max, is_gt}
-use Rattle.std.specs.Option.{option_cmp}
+use Rattle.std.specs.Option.{option_cmp, option_eq}
 use Rattle.std.specs.Cmp.{nat_cmp_total, unsigned_tied, nat_eq_equiv}
 use Rattle.std.specs.FinMap as rules
 use Rattle.std.specs.FinSet as set
@@ -227,6 +227,9 @@ deep_below first second R block nets d =
 abbrev pub IsDeepBlockBelow : ℕ → ℕ → RuleMap → ℕ → ℕ → Type 0
 IsDeepBlockBelow first second R len block = (p : Network) × IsSome (rules.get R p) × (first < p.len) × (p.len < len) × (block_of second p ≡ block)
 
+pub none_below : (first second block : ℕ) (R : RuleMap) → ¬ IsDeepBlockBelow first second R (first + 1) block
+none_below first second block R d = let a = d.2 in let b = d.3 in absurd (omega (arith, a, b))
+
 -- the later of the two is the last of those that either has
 last_by : (P Q S : ℕ → Type 0) (end : ℕ) → ((k : ℕ) → S k → P k ⊎ Q k) → ((k : ℕ) → P k → S k) → ((k : ℕ) → Q k → S k)
     → (x y : Option ℕ) → IsLastBefore P end x → IsLastBefore Q end y → IsLastBefore S end (ord_max (option_cmp nat_cmp) x y)
@@ -243,7 +246,7 @@ last_by P Q S end split left right (Some x) (Some y) lx ly = elim (lt_cases y x 
 ]
 
 pub last_init : (first second end : ℕ) (R : RuleMap) → IsLastBefore (IsDeepBlockBelow first second R (first + 1)) end None
-last_init first second end R k d l = let a = d.2 in let b = d.3 in absurd (omega (arith, a, b))
+last_init first second end R k d l = none_below first second k R d
 
 pub last_more : (first second end len : ℕ) (R : RuleMap) → first < len → (x y later : Option ℕ) → later ≡ ord_max (option_cmp nat_cmp) x y
     → IsLastBefore (IsDeepBlockBelow first second R len) end x → IsLastBefore (IsBlockOf second R len) end y
@@ -269,6 +272,27 @@ pub last_all : (first second end len : ℕ) (R : RuleMap) → AllNetworks (first
 last_all first second end len R nets h = last_same (IsDeepBlockBelow first second R len) (IsDeepBlock first second R) end
     (λ k d. (d.0, d.1, d.2, d.4))
     (λ k d. let bound = (nets d.0 d.1).0 in (d.0, d.1, d.2, omega (arith, bound, h), d.3))
+
+-- ---- whether a block is deep, by the last block up to it
+
+-- the last of the numbers up to `block` of which P holds is `block` exactly where P holds of it
+pub last_is_end : (P : ℕ → Type 0) (block : ℕ) (x : Option ℕ) → IsLastBefore P (block + 1) x → IsTrue (option_eq nat_eq x (Some block)) ↔ P block
+last_is_end P block None l = (λ e. cc, λ p. absurd (l block p (omega arith)))
+last_is_end P block (Some x) l = (
+  (λ e. subst P (eqb-true x block e) l.0),
+  (λ p. let low = l.1 in let most = l.2 block p (omega arith) in eq-eqb x block (omega (arith, low, most))),
+)
+
+pub none_below_more : (first second block len : ℕ) (R : RuleMap) → ¬ IsDeepBlockBelow first second R len block → ¬ IsBlockOf second R len block
+    → ¬ IsDeepBlockBelow first second R (len + 1) block
+none_below_more first second block len R before here d = elim (cases_eq d.0.len len) [
+  | inl e ↦ here (d.0, d.1, e, d.4)
+  | inr n ↦ let a = d.3 in before (d.0, d.1, d.2, omega (arith, a, n), d.4)
+]
+
+pub none_deep : (first second block len : ℕ) (R : RuleMap) → AllNetworks (first + second) R → first + second < len
+    → ¬ IsDeepBlockBelow first second R len block → ¬ IsDeepBlock first second R block
+none_deep first second block len R nets h none d = let bound = (nets d.0 d.1).0 in none (d.0, d.1, d.2, omega (arith, bound, h), d.3)
 
 -- ---- the last block of one length, by the last key of a range
 

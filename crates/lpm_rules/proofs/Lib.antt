@@ -1,5 +1,6 @@
 pub mod Views
 pub mod Changes
+pub mod LastChange
 pub mod Sound
 pub mod Longest
 pub mod Counts

@@ -1,11 +1,11 @@
-use Rattle.std.proofs.Common.{arith, ◌≡◌, ℕ, ◌+◌, ◌-◌, ◌*◌, ◌/◌, ◌^◌, ◌<◌, ◌≤◌, inl, inr, refl, ap, sym, ◌∙◌, subst, Some, None}
+use Rattle.std.proofs.Common.{arith, ◌≡◌, ℕ, ◌+◌, ◌-◌, ◌*◌, ◌/◌, ◌^◌, ◌<◌, ◌≤◌, inl, inr, refl, ap, sym, ◌∙◌, subst, List, [], ◌∷◌, ◌++◌, Option, Some, None, length, suc}
 use Rattle.std.specs.Prelude.{IsSome}
 use Rattle.std.specs.FinMap.{get}
 use Rattle.std.proofs.lemmas.Bool.{cases_eq}
 use Rattle.std.proofs.lemmas.Nat.{shl-shr}
 use Rattle.lpm_bits.specs.Network.{Network, Covers, IsNetwork, masked}
 use Rattle.lpm_rules.specs.RuleMap.{RuleMap, AllNetworks}
-use Rattle.lpm_rules.specs.Longest.{IsLongestHop, IsCoverRule, HasOneLongestHop, HasOneCover}
+use Rattle.lpm_rules.specs.Longest.{IsLongestHop, AreLongestHops, IsCoverRule, HasOneLongestHop, HasOneCover}
 use Rattle.lpm_rules.proofs.Changes.{not_some}
 
 pair_eq : (a b c d : ℕ) → a ≡ c → b ≡ d → ◌≡◌ {A = ℕ × ℕ} (a, b) (c, d)
@@ -111,3 +111,17 @@ found_cover width n R p c h least most is rule old =
       covers = subst (λ q. Covers width q p.bits) (sym is) (covers_masked width (p.len - n) p.bits);
       longest = λ q s k cov. let z = old q s k cov in omega (arith, z, long);
     }
+
+-- the answers to a list of addresses, one more at its end
+pub AreLongestHops-append : (width : ℕ) (R : RuleMap) (addrs : List ℕ) (hops : List (Option ℕ)) (addr : ℕ) (hop : Option ℕ)
+    → AreLongestHops width R addrs hops → IsLongestHop width R addr hop → AreLongestHops width R (addrs ++ addr ∷ []) (hops ++ hop ∷ [])
+AreLongestHops-append width R [] [] addr hop done this = (this, tt)
+AreLongestHops-append width R [] (h ∷ hops) addr hop done this = absurd done
+AreLongestHops-append width R (a ∷ addrs) [] addr hop done this = absurd done
+AreLongestHops-append width R (a ∷ addrs) (h ∷ hops) addr hop done this = (done.0, AreLongestHops-append width R addrs hops addr hop done.1 this)
+
+pub length-AreLongestHops : (width : ℕ) (R : RuleMap) (addrs : List ℕ) (hops : List (Option ℕ)) → AreLongestHops width R addrs hops → length hops ≡ length addrs
+length-AreLongestHops width R [] [] done = refl
+length-AreLongestHops width R [] (h ∷ hops) done = absurd done
+length-AreLongestHops width R (a ∷ addrs) [] done = absurd done
+length-AreLongestHops width R (a ∷ addrs) (h ∷ hops) done = ap (λ n. suc n) (length-AreLongestHops width R addrs hops done.1)

@@ -15,7 +15,7 @@ use Rattle.std.proofs.Math.ListN.{length-set}
 use Rattle.std.proofs.lemmas.List.{get_or-set_same, get_or-set_other}
 use Rattle.lpm_bits.specs.Network.{Network}
 use Rattle.lpm_rules.specs.RuleMap.{network_cmp}
-use Rattle.lpm_rules.specs.View.{of_length, rules_from, rules_of}
+use Rattle.lpm_rules.specs.View.{of_length, entries_from, rules_of_lengths}
 
 pub networks_total : IsTotalOrder network_cmp
 networks_total = then_total (on_total (λ (p : Network). p.bits) nat_cmp_total) (on_total (λ (p : Network). p.len) nat_cmp_total)
@@ -86,18 +86,18 @@ find_other_length p l [] n = refl
 find_other_length p l (e ∷ es) n =
     ap (λ t. cond t (Some e.1) (find network_cmp p (of_length l es))) (other_len p e.0 l n) ∙ find_other_length p l es n
 
-find_above : (p : Network) (l : ℕ) (ms : List (BTreeMap ℕ ℕ)) → p.len < l → find network_cmp p (rules_from l ms) ≡ None
+find_above : (p : Network) (l : ℕ) (ms : List (BTreeMap ℕ ℕ)) → p.len < l → find network_cmp p (entries_from l ms) ≡ None
 find_above p l [] h = refl
 find_above p l (m ∷ ms) h =
-    find_append p (of_length l m.entries) (rules_from (l + 1) ms)
-    ∙ ap (λ x. or_else x (find network_cmp p (rules_from (l + 1) ms))) (find_other_length p l m.entries (λ e. absurd (omega (arith, e, h))))
+    find_append p (of_length l m.entries) (entries_from (l + 1) ms)
+    ∙ ap (λ x. or_else x (find network_cmp p (entries_from (l + 1) ms))) (find_other_length p l m.entries (λ e. absurd (omega (arith, e, h))))
     ∙ find_above p (l + 1) ms (omega arith)
 
-find_past : (p : Network) (l : ℕ) (ms : List (BTreeMap ℕ ℕ)) → l + length ms ≤ p.len → find network_cmp p (rules_from l ms) ≡ None
+find_past : (p : Network) (l : ℕ) (ms : List (BTreeMap ℕ ℕ)) → l + length ms ≤ p.len → find network_cmp p (entries_from l ms) ≡ None
 find_past p l [] h = refl
 find_past p l (m ∷ ms) h =
-    find_append p (of_length l m.entries) (rules_from (l + 1) ms)
-    ∙ ap (λ x. or_else x (find network_cmp p (rules_from (l + 1) ms))) (find_other_length p l m.entries (λ e. absurd (omega (arith, e, h))))
+    find_append p (of_length l m.entries) (entries_from (l + 1) ms)
+    ∙ ap (λ x. or_else x (find network_cmp p (entries_from (l + 1) ms))) (find_other_length p l m.entries (λ e. absurd (omega (arith, e, h))))
     ∙ find_past p (l + 1) ms (omega (arith, h))
 
 or_none : (x : Option ℕ) → or_else x None ≡ x
@@ -105,31 +105,31 @@ or_none None = refl
 or_none (Some x) = refl
 
 find_rules : (b l k n : ℕ) (ms : List (BTreeMap ℕ ℕ)) (d : BTreeMap ℕ ℕ) → n ≡ l + k → k < length ms
-    → find network_cmp (at_network b n) (rules_from l ms) ≡ tree.get nat_cmp (get_or ms k d) b
+    → find network_cmp (at_network b n) (entries_from l ms) ≡ tree.get nat_cmp (get_or ms k d) b
 find_rules b l k n [] d e h = absurd (omega (arith, h))
 find_rules b l zero n (m ∷ ms) d e h =
     let z : n ≡ l = omega (arith, e) in
-    subst (λ x. find network_cmp (at_network b x) (rules_from l (m ∷ ms)) ≡ tree.get nat_cmp m b) (sym z)
-    (find_append (at_network b l) (of_length l m.entries) (rules_from (l + 1) ms)
+    subst (λ x. find network_cmp (at_network b x) (entries_from l (m ∷ ms)) ≡ tree.get nat_cmp m b) (sym z)
+    (find_append (at_network b l) (of_length l m.entries) (entries_from (l + 1) ms)
     ∙ ap (or_else (find network_cmp (at_network b l) (of_length l m.entries))) (find_above (at_network b l) (l + 1) ms (omega arith))
     ∙ or_none _
     ∙ find_of_length b l m.entries)
 find_rules b l (suc k) n (m ∷ ms) d e h =
-    find_append (at_network b n) (of_length l m.entries) (rules_from (l + 1) ms)
-    ∙ ap (λ x. or_else x (find network_cmp (at_network b n) (rules_from (l + 1) ms))) (find_other_length (at_network b n) l m.entries (λ z. absurd (omega (arith, z, e))))
+    find_append (at_network b n) (of_length l m.entries) (entries_from (l + 1) ms)
+    ∙ ap (λ x. or_else x (find network_cmp (at_network b n) (entries_from (l + 1) ms))) (find_other_length (at_network b n) l m.entries (λ z. absurd (omega (arith, z, e))))
     ∙ find_rules b (l + 1) k n ms d (omega (arith, e)) (omega (arith, h))
 
 -- what the rule list has at a prefix, by the map of its length
-pub get_rules : (ms : List (BTreeMap ℕ ℕ)) (p : Network) (d : BTreeMap ℕ ℕ) → p.len < length ms → get (rules_of ms) p ≡ tree.get nat_cmp (get_or ms p.len d) p.bits
-get_rules ms p d h = get-from_entries networks_total (rules_from 0 ms) p ∙ find_rules p.bits 0 p.len p.len ms d (omega arith) h
+pub get_rules : (ms : List (BTreeMap ℕ ℕ)) (p : Network) (d : BTreeMap ℕ ℕ) → p.len < length ms → get (rules_of_lengths ms) p ≡ tree.get nat_cmp (get_or ms p.len d) p.bits
+get_rules ms p d h = get-from_entries networks_total (entries_from 0 ms) p ∙ find_rules p.bits 0 p.len p.len ms d (omega arith) h
 
-pub get_past : (ms : List (BTreeMap ℕ ℕ)) (p : Network) → length ms ≤ p.len → get (rules_of ms) p ≡ None
-get_past ms p h = get-from_entries networks_total (rules_from 0 ms) p ∙ find_past p 0 ms (omega (arith, h))
+pub get_past : (ms : List (BTreeMap ℕ ℕ)) (p : Network) → length ms ≤ p.len → get (rules_of_lengths ms) p ≡ None
+get_past ms p h = get-from_entries networks_total (entries_from 0 ms) p ∙ find_past p 0 ms (omega (arith, h))
 
 -- one map is written at one key
 pub set_rules : (ms : List (BTreeMap ℕ ℕ)) (p : Network) (v : ℕ) (m d : BTreeMap ℕ ℕ) → p.len < length ms
     → ((q : ℕ) → tree.get nat_cmp m q ≡ cond (is_at (nat_cmp p.bits) q) (Some v) (tree.get nat_cmp (get_or ms p.len d) q))
-    → rules_of (slice_set ms p.len m) ≡ insert (rules_of ms) p v
+    → rules_of_lengths (slice_set ms p.len m) ≡ insert (rules_of_lengths ms) p v
 set_rules ms p v m d h is = same_map networks_total exact_networks _ _ (λ q.
     let n : length (slice_set ms p.len m) ≡ length ms = length-set ms p.len m in
     elim (cases_eq q.len p.len) [
@@ -143,33 +143,33 @@ set_rules ms p v m d h is = same_map networks_total exact_networks _ _ (λ q.
           (sym (same_len p.bits q.bits p.len) ∙ ap (λ x. eq_by_cmp network_cmp p (at_network q.bits x)) (sym e) ∙ (eq_by_cmp_equiv networks_total).symm p q)
           ∙ ap (λ x. cond (eq_by_cmp network_cmp q p) (Some v) (tree.get nat_cmp (get_or ms x d) q.bits)) (sym e)
           ∙ ap (cond (eq_by_cmp network_cmp q p) (Some v)) (sym (get_rules ms q d h2))
-          ∙ sym (get-insert networks_total (rules_of ms) p v q)
+          ∙ sym (get-insert networks_total (rules_of_lengths ms) p v q)
       | inr ne ↦
           let apart = other_len q p.bits p.len ne in
-          let same : get (rules_of (slice_set ms p.len m)) q ≡ get (rules_of ms) q =
+          let same : get (rules_of_lengths (slice_set ms p.len m)) q ≡ get (rules_of_lengths ms) q =
           elim (cases_lt q.len (length ms)) [
             | inl below ↦ get_rules (slice_set ms p.len m) q d (omega (arith, n, below)) ∙ ap (λ x. tree.get nat_cmp x q.bits) (get_or-set_other ms p.len q.len m d ne) ∙ sym (get_rules ms q d below)
             | inr past ↦ get_past (slice_set ms p.len m) q (omega (arith, n, past)) ∙ sym (get_past ms q past)
           ] in
-          same ∙ sym (ap (λ t. cond t (Some v) (get (rules_of ms) q)) apart) ∙ sym (get-insert networks_total (rules_of ms) p v q)
+          same ∙ sym (ap (λ t. cond t (Some v) (get (rules_of_lengths ms) q)) apart) ∙ sym (get-insert networks_total (rules_of_lengths ms) p v q)
     ])
 
 -- the same, where the code has the bits and the length as numbers
-pub get_at : (ms : List (BTreeMap ℕ ℕ)) (p : Network) (b l : ℕ) (d : BTreeMap ℕ ℕ) → b ≡ p.bits → l ≡ p.len → l < length ms → tree.get nat_cmp (get_or ms l d) b ≡ get (rules_of ms) p
+pub get_at : (ms : List (BTreeMap ℕ ℕ)) (p : Network) (b l : ℕ) (d : BTreeMap ℕ ℕ) → b ≡ p.bits → l ≡ p.len → l < length ms → tree.get nat_cmp (get_or ms l d) b ≡ get (rules_of_lengths ms) p
 get_at ms p b l d eb el h =
     ap (λ x. tree.get nat_cmp (get_or ms x d) b) el ∙ ap (λ x. tree.get nat_cmp (get_or ms p.len d) x) eb ∙ sym (get_rules ms p d (omega (arith, el, h)))
 
 pub set_at : (ms : List (BTreeMap ℕ ℕ)) (p : Network) (b l v : ℕ) (m d : BTreeMap ℕ ℕ) → b ≡ p.bits → l ≡ p.len → l < length ms
     → ((q : ℕ) → tree.get nat_cmp m q ≡ cond (is_at (nat_cmp b) q) (Some v) (tree.get nat_cmp (get_or ms l d) q))
-    → rules_of (slice_set ms l m) ≡ insert (rules_of ms) p v
+    → rules_of_lengths (slice_set ms l m) ≡ insert (rules_of_lengths ms) p v
 set_at ms p b l v m d eb el h is =
-    ap (λ x. rules_of (slice_set ms x m)) el ∙ set_rules ms p v m d (omega (arith, el, h)) (λ q.
+    ap (λ x. rules_of_lengths (slice_set ms x m)) el ∙ set_rules ms p v m d (omega (arith, el, h)) (λ q.
     is q ∙ ap (λ x. cond (is_at (nat_cmp x) q) (Some v) (tree.get nat_cmp (get_or ms l d) q)) eb ∙ ap (λ x. cond (is_at (nat_cmp p.bits) q) (Some v) (tree.get nat_cmp (get_or ms x d) q)) el)
 
 -- one map loses one key
 pub unset_rules : (ms : List (BTreeMap ℕ ℕ)) (p : Network) (m d : BTreeMap ℕ ℕ) → p.len < length ms
     → ((q : ℕ) → tree.get nat_cmp m q ≡ cond (is_at (nat_cmp p.bits) q) None (tree.get nat_cmp (get_or ms p.len d) q))
-    → rules_of (slice_set ms p.len m) ≡ remove (rules_of ms) p
+    → rules_of_lengths (slice_set ms p.len m) ≡ remove (rules_of_lengths ms) p
 unset_rules ms p m d h is = same_map networks_total exact_networks _ _ (λ q.
     let n : length (slice_set ms p.len m) ≡ length ms = length-set ms p.len m in
     elim (cases_eq q.len p.len) [
@@ -183,39 +183,39 @@ unset_rules ms p m d h is = same_map networks_total exact_networks _ _ (λ q.
           (sym (same_len p.bits q.bits p.len) ∙ ap (λ x. eq_by_cmp network_cmp p (at_network q.bits x)) (sym e) ∙ (eq_by_cmp_equiv networks_total).symm p q)
           ∙ ap (λ x. cond (eq_by_cmp network_cmp q p) None (tree.get nat_cmp (get_or ms x d) q.bits)) (sym e)
           ∙ ap (cond (eq_by_cmp network_cmp q p) None) (sym (get_rules ms q d h2))
-          ∙ sym (get-remove networks_total (rules_of ms) p q)
+          ∙ sym (get-remove networks_total (rules_of_lengths ms) p q)
       | inr ne ↦
           let apart = other_len q p.bits p.len ne in
-          let same : get (rules_of (slice_set ms p.len m)) q ≡ get (rules_of ms) q =
+          let same : get (rules_of_lengths (slice_set ms p.len m)) q ≡ get (rules_of_lengths ms) q =
           elim (cases_lt q.len (length ms)) [
             | inl below ↦ get_rules (slice_set ms p.len m) q d (omega (arith, n, below)) ∙ ap (λ x. tree.get nat_cmp x q.bits) (get_or-set_other ms p.len q.len m d ne) ∙ sym (get_rules ms q d below)
             | inr past ↦ get_past (slice_set ms p.len m) q (omega (arith, n, past)) ∙ sym (get_past ms q past)
           ] in
-          same ∙ sym (ap (λ t. cond t None (get (rules_of ms) q)) apart) ∙ sym (get-remove networks_total (rules_of ms) p q)
+          same ∙ sym (ap (λ t. cond t None (get (rules_of_lengths ms) q)) apart) ∙ sym (get-remove networks_total (rules_of_lengths ms) p q)
     ])
 
 pub unset_at : (ms : List (BTreeMap ℕ ℕ)) (p : Network) (b l : ℕ) (m d : BTreeMap ℕ ℕ) → b ≡ p.bits → l ≡ p.len → l < length ms
     → ((q : ℕ) → tree.get nat_cmp m q ≡ cond (is_at (nat_cmp b) q) None (tree.get nat_cmp (get_or ms l d) q))
-    → rules_of (slice_set ms l m) ≡ remove (rules_of ms) p
+    → rules_of_lengths (slice_set ms l m) ≡ remove (rules_of_lengths ms) p
 unset_at ms p b l m d eb el h is =
-    ap (λ x. rules_of (slice_set ms x m)) el ∙ unset_rules ms p m d (omega (arith, el, h)) (λ q.
+    ap (λ x. rules_of_lengths (slice_set ms x m)) el ∙ unset_rules ms p m d (omega (arith, el, h)) (λ q.
     is q ∙ ap (λ x. cond (is_at (nat_cmp x) q) None (tree.get nat_cmp (get_or ms l d) q)) eb ∙ ap (λ x. cond (is_at (nat_cmp p.bits) q) None (tree.get nat_cmp (get_or ms x d) q)) el)
 
 -- a map with the same entries
-keep_from : (l k : ℕ) (ms : List (BTreeMap ℕ ℕ)) (m d : BTreeMap ℕ ℕ) → k < length ms → m.entries ≡ (get_or ms k d).entries → rules_from l (slice_set ms k m) ≡ rules_from l ms
+keep_from : (l k : ℕ) (ms : List (BTreeMap ℕ ℕ)) (m d : BTreeMap ℕ ℕ) → k < length ms → m.entries ≡ (get_or ms k d).entries → entries_from l (slice_set ms k m) ≡ entries_from l ms
 keep_from l k [] m d h e = absurd (omega (arith, h))
-keep_from l zero (x ∷ ms) m d h e = ap (λ es. of_length l es ++ rules_from (l + 1) ms) e
+keep_from l zero (x ∷ ms) m d h e = ap (λ es. of_length l es ++ entries_from (l + 1) ms) e
 keep_from l (suc k) (x ∷ ms) m d h e = ap (λ es. of_length l x.entries ++ es) (keep_from (l + 1) k ms m d (omega (arith, h)) e)
 
-pub keep_at : (ms : List (BTreeMap ℕ ℕ)) (k : ℕ) (m d : BTreeMap ℕ ℕ) → k < length ms → m.entries ≡ (get_or ms k d).entries → rules_of (slice_set ms k m) ≡ rules_of ms
+pub keep_at : (ms : List (BTreeMap ℕ ℕ)) (k : ℕ) (m d : BTreeMap ℕ ℕ) → k < length ms → m.entries ≡ (get_or ms k d).entries → rules_of_lengths (slice_set ms k m) ≡ rules_of_lengths ms
 keep_at ms k m d h e = ap (λ es. from_entries {R = network_cmp} es) (keep_from 0 k ms m d h e)
 
 -- maps that are all empty
-none_from : (l : ℕ) (ms : List (BTreeMap ℕ ℕ)) → ((i : ℕ) (d : BTreeMap ℕ ℕ) → i < length ms → (get_or ms i d).entries ≡ []) → rules_from l ms ≡ []
+none_from : (l : ℕ) (ms : List (BTreeMap ℕ ℕ)) → ((i : ℕ) (d : BTreeMap ℕ ℕ) → i < length ms → (get_or ms i d).entries ≡ []) → entries_from l ms ≡ []
 none_from l [] h = refl
 none_from l (m ∷ ms) h =
-    ap (λ es. of_length l es ++ rules_from (l + 1) ms) (h 0 m (omega arith))
+    ap (λ es. of_length l es ++ entries_from (l + 1) ms) (h 0 m (omega arith))
     ∙ none_from (l + 1) ms (λ i d p. h (suc i) d (omega (arith, p)))
 
-pub none_at : (ms : List (BTreeMap ℕ ℕ)) → ((i : ℕ) (d : BTreeMap ℕ ℕ) → i < length ms → (get_or ms i d).entries ≡ []) → rules_of ms ≡ empty
+pub none_at : (ms : List (BTreeMap ℕ ℕ)) → ((i : ℕ) (d : BTreeMap ℕ ℕ) → i < length ms → (get_or ms i d).entries ≡ []) → rules_of_lengths ms ≡ empty
 none_at ms h = ap (λ es. from_entries {R = network_cmp} es) (none_from 0 ms h)

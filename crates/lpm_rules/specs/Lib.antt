@@ -1,4 +1,5 @@
 pub mod RuleMap
+pub mod Changes
 pub mod Longest
 pub mod Deep
 pub mod View

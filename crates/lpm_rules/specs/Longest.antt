@@ -1,7 +1,8 @@
 -- The longest matching rule, and the rule that a deleted one uncovers (Gupta, Lin and McKeown,
 -- INFOCOM 1998, section 1: the longest prefix that matches; DPDK Programmer's Guide, "LPM Library",
 -- "Deletion": the longest rule that is shorter and covers the deleted one takes its place).
-use Rattle.std.specs.Prelude.{ℕ, ◌≡◌, ◌≤◌, ◌<◌, Option, Some, None, IsSome}
+use Rattle.std.specs.Prelude.{ℕ, ◌≡◌, ◌≤◌, ◌<◌, List, Option, Some, None, IsSome}
+use Rattle.std.specs.List.{AllZip}
 use Rattle.std.specs.FinMap.{get}
 use Rattle.lpm_bits.specs.Network.{Network, Covers}
 use Rattle.lpm_rules.specs.RuleMap.{RuleMap, AllNetworks}
@@ -16,6 +17,10 @@ abbrev pub IsLongestHop : ℕ → RuleMap → ℕ → Option ℕ → Type 0
 IsLongestHop width R a None = (q : Network) → IsSome (get R q) → Covers width q a → ⊥
 IsLongestHop width R a (Some h) = (p : Network) × (get R p ≡ Some h) × IsLongest width R a p
 
+-- as many hops as addresses, and each is that of the longest match of the address at its place
+abbrev pub AreLongestHops : ℕ → RuleMap → List ℕ → List (Option ℕ) → Type 0
+AreLongestHops width R addrs hops = AllZip (IsLongestHop width R) addrs hops
+
 -- no rule that is shorter than p covers it
 abbrev pub IsUncovered : ℕ → RuleMap → Network → Type 0
 IsUncovered width R p = (q : Network) → IsSome (get R q) → q.len < p.len → Covers width q p.bits → ⊥
@@ -25,9 +30,11 @@ pub record IsCoverRule (width : ℕ) (R : RuleMap) (p c : Network) (h : ℕ) : T
   pub rule : get R c ≡ Some h
   pub shorter : c.len < p.len
   pub covers : Covers width c p.bits
-  pub longest : (q : Network) → IsSome (get R q) → q.len < p.len → Covers width q p.bits → q.len ≤ c.len
+  pub longest : (q : Network) → IsSome (get R q)
+      → q.len < p.len → Covers width q p.bits → q.len ≤ c.len
 
--- the longest of the rules that are shorter than p and cover it, with its next hop; none where no rule does
+-- the longest of the rules that are shorter than p and cover it, with its next hop; none where
+-- there is no such rule
 abbrev pub IsCover : ℕ → RuleMap → Network → Option (Network × ℕ) → Type 0
 IsCover width R p None = IsUncovered width R p
 IsCover width R p (Some c) = IsCoverRule width R p c.0 c.1

@@ -1,5 +1,6 @@
 //! Laws of rule lists. Each function does nothing: its contract is the law.
 
+ghost use Rattle.lpm_rules.specs.Changes.{LastAdditionDecides, LastDeletionDecides, LastFlushDecides, SparedIsKept};
 ghost use Rattle.lpm_rules.specs.Deep.{EmptyHasNoBlock, HasDeepBlocks, PutBringsBlock, RemoveDropsBlock};
 ghost use Rattle.lpm_rules.specs.Longest.{HasOneCover, HasOneLongestHop};
 ghost use Rattle.lpm_rules.specs.RuleMap.{PutUndoesRemove, RemoveUndoesPut};
@@ -24,22 +25,42 @@ pub fn put_undoes_remove()
     ensures { PutUndoesRemove }
 {}
 
-/// The set of deep blocks has exactly the blocks that hold a rule longer than `FIRST`.
+/// The set of deep blocks has exactly the blocks that hold a rule longer than `FIRST` bits.
 pub fn set_of_deep_blocks()
     ensures { HasDeepBlocks }
 {}
 
-/// Which blocks hold a rule longer than `FIRST` after a rule was put in.
+/// Which blocks hold a rule longer than `FIRST` bits after a rule was put in.
 pub fn put_brings_block()
     ensures { PutBringsBlock }
 {}
 
-/// Which blocks hold a rule longer than `FIRST` after a rule was removed.
+/// Which blocks hold a rule longer than `FIRST` bits after a rule was removed.
 pub fn remove_drops_block()
     ensures { RemoveDropsBlock }
 {}
 
-/// An empty list has no block with a rule longer than `FIRST`.
+/// An empty list has no block with a rule longer than `FIRST` bits.
 pub fn empty_has_no_block()
     ensures { EmptyHasNoBlock }
+{}
+
+/// A prefix that no change of a list is of keeps its rule.
+pub fn spared_prefix_keeps_its_rule()
+    ensures { SparedIsKept }
+{}
+
+/// The last addition of a prefix decides its next hop.
+pub fn last_addition_decides()
+    ensures { LastAdditionDecides }
+{}
+
+/// A prefix has no rule after its last deletion.
+pub fn last_deletion_decides()
+    ensures { LastDeletionDecides }
+{}
+
+/// After the last flush a prefix has no rule, unless a later change is of that prefix.
+pub fn last_flush_decides()
+    ensures { LastFlushDecides }
 {}

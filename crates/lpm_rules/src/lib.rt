@@ -1,5 +1,5 @@
-//! The rule list of a table of longest-prefix match: a finite map from prefixes to next hops, with a
-//! greatest number of rules.
+//! The rule list of a table for longest-prefix match: a finite map from prefixes to next hops, with
+//! a greatest number of rules.
 #![tactic(auto)]
 
 ghost use Rattle.std.specs.Prelude.{◌≡◌, ◌≢◌, ℕ, ◌+◌, ◌*◌, ◌/◌, ◌^◌, ◌<◌, ◌≤◌, ◌↔◌, ◌⊎◌, IsTrue, IsSome, IsSomeAnd, OnOk, OnErr, IfOk, MatchOption, MatchResult, [], ◌&&◌, nat_eq, count_by};
@@ -9,7 +9,7 @@ ghost use Rattle.std.specs.FinSet as set;
 ghost use Rattle.std.specs.Ordering.{nat_cmp};
 ghost use Rattle.lpm_bits.specs.Widths.{IsShape};
 ghost use Rattle.lpm_bits.specs.Network.{Network, masked};
-ghost use Rattle.lpm_rules.specs.RuleMap.{AllNetworks};
+ghost use Rattle.lpm_rules.specs.RuleMap.{AllNetworks, HasRoomFor, LacksRoomFor, with_rule, without_rule};
 ghost use Rattle.lpm_rules.specs.Deep.{IsBlockOf, IsDeepBlock, IsLastBefore, block_of, deep_count, deep_blocks};
 ghost use Rattle.lpm_rules.specs.Longest.{IsLongestHop, IsUncovered, IsCoverRule};
 
@@ -110,13 +110,13 @@ pub struct Rules<const FIRST: u32, const SECOND: u32> {
 
 impl<const FIRST: u32, const SECOND: u32> Model for Rules<FIRST, SECOND> {
     ghost use Rattle.lpm_rules.specs.RuleMap.{RuleList, coded_rule_list};
-    ghost use Rattle.lpm_rules.specs.View.{rules_of, IsSound};
+    ghost use Rattle.lpm_rules.specs.View.{rules_of_lengths, IsSound};
 
     ghost Value = { RuleList };
 
     ghost coded = { coded_rule_list };
 
-    ghost view = { λ a. record { rules = rules_of a.lengths; max = a.max } };
+    ghost view = { λ a. record { rules = rules_of_lengths a.lengths; max = a.max } };
 
     ghost invariant = { λ a. IsSound FIRST SECOND a.lengths a.count };
 }
@@ -183,17 +183,17 @@ impl<const FIRST: u32, const SECOND: u32> Rules<FIRST, SECOND> {
     ///
     /// A refusal leaves the list as it was. Only a new rule takes memory.
     pub fn put(&mut self, prefix: &Prefix<FIRST, SECOND>, hop: Hop) -> Result<Put, RuleFault>
-        ensures unchanged { (result ≡ Ok Put.Unchanged) ↔ (map.get self.old.rules prefix.now ≡ Some hop) }
+        ensures unchanged { (result ≡ Ok Put.Unchanged)
+            ↔ (map.get self.old.rules prefix.now ≡ Some hop) }
         ensures replaced { (result ≡ Ok Put.Replaced)
             ↔ IsSomeAnd (map.get self.old.rules prefix.now) (λ old. old ≢ hop) }
-        ensures full { (result ≡ Err RuleFault.TooManyRules)
-            ↔ ((map.get self.old.rules prefix.now ≡ None) × (self.old.max ≤ map.len self.old.rules)) }
+        ensures full { (result ≡ Err RuleFault.TooManyRules) ↔ LacksRoomFor self.old prefix.now }
 
         // A new rule that has room is added, unless memory is refused.
         ensures new { ((result ≡ Ok Put.Added) ⊎ (result ≡ Err RuleFault.Memory))
-            ↔ ((map.get self.old.rules prefix.now ≡ None) × (map.len self.old.rules < self.old.max)) }
+            ↔ HasRoomFor self.old prefix.now }
 
-        ensures ok { OnOk result (self.new ≡ record self.old { rules = map.insert self.old.rules prefix.now hop }) }
+        ensures ok { OnOk result (self.new ≡ with_rule self.old prefix.now hop) }
         ensures same { result ≡ Ok Put.Unchanged → self.new ≡ self.old }
         ensures err { OnErr result (self.new ≡ self.old) }
     {
@@ -210,9 +210,9 @@ impl<const FIRST: u32, const SECOND: u32> Rules<FIRST, SECOND> {
 
     // Puts a rule into the map of its length, and answers the next hop that the prefix had.
     fn store(&mut self, prefix: &Prefix<FIRST, SECOND>, hop: Hop) -> Result<Option<Hop>, AllocError>
-        requires room { map.get self.old.rules prefix.now ≡ None → map.len self.old.rules < self.old.max }
+        requires room { ¬ LacksRoomFor self.old prefix.now }
         ensures old { IfOk result (λ old. old ≡ map.get self.old.rules prefix.now) }
-        ensures ok { OnOk result (self.new ≡ record self.old { rules = map.insert self.old.rules prefix.now hop }) }
+        ensures ok { OnOk result (self.new ≡ with_rule self.old prefix.now hop) }
         ensures absent { OnErr result (map.get self.old.rules prefix.now ≡ None) }
         ensures err { OnErr result (self.new ≡ self.old) }
     {
@@ -232,7 +232,7 @@ impl<const FIRST: u32, const SECOND: u32> Rules<FIRST, SECOND> {
     pub fn remove(&mut self, prefix: &Prefix<FIRST, SECOND>) -> Result<Hop, NoSuchRule>
         ensures hop { MatchResult result (λ hop. map.get self.old.rules prefix.now ≡ Some hop)
             (λ _. map.get self.old.rules prefix.now ≡ None) }
-        ensures ok { OnOk result (self.new ≡ record self.old { rules = map.remove self.old.rules prefix.now }) }
+        ensures ok { OnOk result (self.new ≡ without_rule self.old prefix.now) }
         ensures err { OnErr result (self.new ≡ self.old) }
     {
         let bits = prefix.bits();
@@ -291,8 +291,23 @@ impl<const FIRST: u32, const SECOND: u32> Rules<FIRST, SECOND> {
         None
     }
 
-    /// How many rules longer than `FIRST` lie in a block: the addresses of this index of the first
-    /// table.
+    /// Whether a rule longer than `FIRST` bits lies in a block: the addresses whose first `FIRST`
+    /// bits are this number. One look at each length longer than `FIRST`, up to the first find.
+    pub fn is_deep(&self, block: usize) -> bool
+        requires { block < 2 ^ FIRST }
+        ensures { IsTrue result ↔ IsDeepBlock FIRST SECOND self.now.rules block }
+    {
+        let _ = &self.lengths;
+        for len in FIRST + 1..=FIRST + SECOND {
+            if self.last_block(block + 1, len) == Some(block) {
+                return true;
+            }
+        }
+        false
+    }
+
+    /// How many rules longer than `FIRST` bits lie in a block, by a walk over all of them. Where
+    /// the question is only whether there is one, [`Rules::is_deep`] is faster.
     pub fn deep_in(&self, block: usize) -> usize
         requires { block < 2 ^ FIRST }
         ensures value { result ≡ deep_count FIRST SECOND self.now.rules block }
@@ -322,7 +337,7 @@ impl<const FIRST: u32, const SECOND: u32> Rules<FIRST, SECOND> {
         length.range(first..=last).count()
     }
 
-    /// How many blocks hold a rule longer than `FIRST`.
+    /// How many blocks hold a rule longer than `FIRST` bits.
     pub fn deep_blocks(&self) -> usize
         ensures { result ≡ set.len (deep_blocks FIRST SECOND self.now.rules) }
     {
@@ -336,7 +351,7 @@ impl<const FIRST: u32, const SECOND: u32> Rules<FIRST, SECOND> {
         count
     }
 
-    // The last of the blocks before `end` that hold a rule longer than `FIRST`.
+    // The last of the blocks before `end` that hold a rule longer than `FIRST` bits.
     fn last_deep_block(&self, end: usize) -> Option<usize>
         requires { end ≤ 2 ^ FIRST }
         ensures { IsLastBefore (IsDeepBlock FIRST SECOND self.now.rules) end result }
@@ -369,7 +384,8 @@ impl<const FIRST: u32, const SECOND: u32> Rules<FIRST, SECOND> {
     fn covering(&self, addr: u32, len: u32) -> Option<Rule<FIRST, SECOND>>
         requires addr { addr < 2 ^ (FIRST + SECOND) }
         requires len { len ≤ FIRST + SECOND }
-        ensures { let prefix : Network = record { bits = masked (FIRST + SECOND) len addr; len = len } in
+        ensures { let bits = masked (FIRST + SECOND) len addr in
+            let prefix : Network = record { bits = bits; len = len } in
             MatchOption result (map.get self.now.rules prefix ≡ None)
             (λ r. (r.prefix ≡ prefix) × (map.get self.now.rules r.prefix ≡ Some r.hop)) }
     {

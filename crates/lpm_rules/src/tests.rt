@@ -90,6 +90,7 @@ fn assert_same(rt: &impl Abort, rules: &Small, plain: &[Plain]) -> Result<(), Ba
     for block in 0..16u32 {
         let deep = plain_deep(plain, block);
         assert_eq!(rt; rules.deep_in(block as usize), deep, "deep in {block}");
+        assert_eq!(rt; rules.is_deep(block as usize), deep > 0, "is {block} deep");
         if deep > 0 {
             blocks = blocks.saturating_add(1);
         }

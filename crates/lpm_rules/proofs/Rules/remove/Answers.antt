@@ -1,7 +1,7 @@
 use Rattle.std.proofs.Common.{arith, ap, sym, ◌∙◌}
 use Rattle.std.specs.FinMap as map
 use Rattle.lpm_rules.specs.RuleMap.{RuleList}
-use Rattle.lpm_rules.specs.View.{rules_of}
+use Rattle.lpm_rules.specs.View.{rules_of_lengths}
 use Rattle.lpm_rules.proofs.Changes.{size_removed}
 use Rattle.lpm_rules.proofs.Views.{get_at, unset_at, keep_at}
 use Rattle.lpm_rules.proofs.Sound.{sound_removed, sound_kept}
@@ -13,7 +13,7 @@ overflow_sub-self g c =
     let bound = c.len.ensures.bound in
     let shape = c.bits-bits.ensures.shape in
     let found = get_at c.self.inside.lengths c.args.prefix.now c.bits-bits.result c.len.result _ c.bits-bits.ensures.value c.len.ensures.value (omega arith) in
-    let size = size_removed (rules_of c.self.inside.lengths) c.args.prefix.now c.in-Some.hop (sym found ∙ sym c.in-Some.ensures.value) in
+    let size = size_removed (rules_of_lengths c.self.inside.lengths) c.args.prefix.now c.in-Some.hop (sym found ∙ sym c.in-Some.ensures.value) in
     let counted = c.self.invariant.counted in
     omega (arith, size, counted)
 

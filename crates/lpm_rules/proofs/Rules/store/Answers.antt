@@ -1,4 +1,4 @@
-use Rattle.std.proofs.Common.{arith, ◌≡◌, ◌<◌, ap, sym, ◌∙◌, None}
+use Rattle.std.proofs.Common.{arith, ◌≡◌, ◌≤◌, ap, sym, ◌∙◌, None}
 use Rattle.std.specs.FinMap as map
 use Rattle.lpm_rules.specs.RuleMap.{RuleList}
 use Rattle.lpm_rules.proofs.Views.{get_at, set_at, keep_at}
@@ -13,7 +13,7 @@ overflow_add-self g c =
     let found = get_at c.self.inside.lengths c.args.prefix.now c.bits-bits.result c.len.result _ c.bits-bits.ensures.value c.len.ensures.value (omega arith) in
     let absent : map.get c.args.self.now.rules c.args.prefix.now ≡ None =
     ap (λ (m : RuleList). map.get m.rules c.args.prefix.now) (sym c.self.view_is) ∙ sym found ∙ sym c.in-Ok-None.ensures.old ∙ c.in-Ok-None.field-0-is in
-    let room : map.len c.args.self.now.rules < c.args.self.now.max = c.requires.room absent in
+    let room : c.args.self.now.max ≤ map.len c.args.self.now.rules → ⊥ = λ full. c.requires.room (absent, full) in
     let counted : c.self.inside.count ≡ map.len c.args.self.now.rules = c.self.invariant.counted ∙ ap (λ (m : RuleList). map.len m.rules) c.self.view_is in
     let max : c.self.inside.max ≡ c.args.self.now.max = ap (λ (m : RuleList). m.max) c.self.view_is in
     omega (arith, room, counted, max)
