@@ -288,5 +288,5 @@ fn is_last<const FIRST: u32, const SECOND: u32>(
         return false;
     }
     let block = Shape::<FIRST, SECOND>::first_index(bits);
-    rules.deep_in(block) == 0
+    !rules.is_deep(block)
 }
