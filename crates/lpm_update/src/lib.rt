@@ -1,21 +1,19 @@
 //! Changes of a table, one store of one word a step.
 #![tactic(auto)]
 
-mod collapse;
-mod fill;
 mod flush;
 pub mod laws;
+mod link_group;
 mod rewrite;
-mod sweep;
-#[cfg(test)]
-mod tests;
+mod rewrite_range;
+mod unlink_group;
 mod update;
 
-pub use collapse::Collapse;
-pub use fill::Fill;
 pub use flush::Flush;
+pub use link_group::LinkGroup;
 pub use rewrite::{Kind, Rewrite};
-pub use sweep::Sweep;
+pub use rewrite_range::RewriteRange;
+pub use unlink_group::UnlinkGroup;
 pub use update::Update;
 
 /// What a step did.
