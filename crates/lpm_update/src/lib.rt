@@ -9,11 +9,11 @@ mod rewrite_range;
 mod unlink_group;
 mod update;
 
-pub use flush::Flush;
-pub use link_group::LinkGroup;
-pub use rewrite::{Kind, Rewrite};
-pub use rewrite_range::RewriteRange;
-pub use unlink_group::UnlinkGroup;
+use flush::Flush;
+use link_group::LinkGroup;
+use rewrite::{Kind, Rewrite};
+use rewrite_range::RewriteRange;
+use unlink_group::UnlinkGroup;
 pub use update::Update;
 
 /// What a step did.
