@@ -15,7 +15,7 @@ use Rattle.lpm_rules.specs.RuleMap.{RuleMap, network_cmp}
 use Rattle.lpm_rules.specs.Deep.{deep_blocks}
 use Rattle.lpm_rules.specs.Longest.{IsLongestHop}
 use Rattle.lpm_update.specs.declared.Did.{Did}
-use Rattle.lpm_update.specs.declared.update.Update.{Update}
+use Rattle.lpm_update.specs.declared.update.Plan.{Plan}
 use Rattle.lpm_update.specs.Linked.{IsTable, group_at}
 use Rattle.lpm_update.specs.Best.{IsBest}
 use Rattle.lpm_update.specs.Represents.{Represents, TurnsInto, IsBegun, IsFreshGroup}
@@ -28,36 +28,36 @@ use Rattle.lpm_update.specs.Tied.{IsTied, HasGroupRoom, SameLinksBut}
 
 -- a change that may begin has come as far as its beginning
 abbrev pub RunBegins : Type 0
-RunBegins = (first second : ℕ) (u : Update) (t : Words) → IsTable first second t → IsBegun first second u t → HasCome first second u t u t
+RunBegins = (first second : ℕ) (u : Plan) (t : Words) → IsTable first second t → IsBegun first second u t → HasCome first second u t u t
 
 -- each step takes it further
 abbrev pub RunGoesOn : Type 0
-RunGoesOn = (first second : ℕ) (u : Update) (t : Words) (did : Did) (v v' : Update) (z z' : Words)
+RunGoesOn = (first second : ℕ) (u : Plan) (t : Words) (did : Did) (v v' : Plan) (z z' : Words)
     → HasCome first second u t v z → Steps first second v z did v' z' → HasCome first second u t v' z'
 
 -- and where nothing is left to store, words that represented the old rule list represent the new one, and each
 -- block has the group that is held for it
 abbrev pub RunEnds : Type 0
-RunEnds = (first second : ℕ) (R R' : RuleMap) (u : Update) (t : Words) (v : Update) (z : Words)
+RunEnds = (first second : ℕ) (R R' : RuleMap) (u : Plan) (t : Words) (v : Plan) (z : Words)
     → Represents first second R t → TurnsInto first second u R R' → HasCome first second u t v z → IsOver first second v
     → Represents first second R' z × SameGroups first (group_held v z.firsts) (group_at z.firsts)
 
 -- no two steps of a run store the same word
 abbrev pub NoWordTwice : Type 0
-NoWordTwice = (first second : ℕ) (u : Update) (t : Words) (dids : List Did) (v : Update) (z : Words)
+NoWordTwice = (first second : ℕ) (u : Plan) (t : Words) (dids : List Did) (v : Plan) (z : Words)
     → IsTable first second t → IsBegun first second u t → Runs first second u t dids v z
     → AllPairs (λ late early. ¬ IsSameWord early late) dids
 
 -- ---- the next store
 
 -- each address keeps its entry, or goes from the old to the new one, where E has the entries before the change
-abbrev pub Moves : ℕ → ℕ → Update → (ℕ → Entry) → Words → Words → Type 0
+abbrev pub Moves : ℕ → ℕ → Plan → (ℕ → Entry) → Words → Words → Type 0
 Moves first second u E t z = (a : ℕ) → (entry_at second z a ≡ entry_at second t a)
     ⊎ ((entry_at second t a ≡ E a) × (entry_at second z a ≡ entry_after (first + second) u E a))
 
 -- the next store is of a word that a table may hold at its place, and moves addresses from old to new alone
 abbrev pub NextStore : Type 0
-NextStore = (first second : ℕ) (u : Update) (t : Words) → IsTable first second t → IsUnderWay first second u t
+NextStore = (first second : ℕ) (u : Plan) (t : Words) → IsTable first second t → IsUnderWay first second u t
     → AllowsNext first second u t
     (λ i w. IsFirstWord (first + second) second t.seconds w
         × ((E : ℕ → Entry) → StandsSoFar second u t E → Moves first second u E t (with_first t i w)))
@@ -67,7 +67,7 @@ NextStore = (first second : ℕ) (u : Update) (t : Words) → IsTable first seco
 -- between two states of a run an address keeps its entry, or goes from the old to the new one; and once it has
 -- the new one, it keeps that
 abbrev pub AnswersTurnOnce : Type 0
-AnswersTurnOnce = (first second : ℕ) (u v : Update) (t z : Words) (E : ℕ → Entry)
+AnswersTurnOnce = (first second : ℕ) (u v : Plan) (t z : Words) (E : ℕ → Entry)
     → IsUnderWay first second u t → IsUnderWay first second v z → IsOnward u v
     → StandsSoFar second u t E → StandsSoFar second v z E
     → Moves first second u E t z

@@ -6,7 +6,7 @@ use Rattle.lpm_entry.specs.declared.Entry.{Entry}
 use Rattle.lpm_cells.specs.Table.{Words, HasRoom, entry_at}
 use Rattle.lpm_rules.specs.RuleMap.{RuleMap, AllNetworks}
 use Rattle.lpm_rules.specs.Deep.{IsDeepBlock}
-use Rattle.lpm_update.specs.declared.update.Update.{Update}
+use Rattle.lpm_update.specs.declared.update.Plan.{Plan}
 use Rattle.lpm_update.specs.Linked.{IsLinkTo, IsTable, group_at}
 use Rattle.lpm_update.specs.Best.{AllBest}
 use Rattle.lpm_update.specs.Update.{IsUnderWay, StandsSoFar, HasGroups, entry_after, group_after}
@@ -24,13 +24,13 @@ pub record Represents (first second : ℕ) (R : RuleMap) (t : Words) : Type 0 wh
   pub groups : HasDeepGroups first second R (group_at t.firsts)
 
 -- the entries and groups that represent R become those that represent R', once the change is made
-pub record TurnsInto (first second : ℕ) (u : Update) (R R' : RuleMap) : Type 0 where
+pub record TurnsInto (first second : ℕ) (u : Plan) (R R' : RuleMap) : Type 0 where
   pub networks : AllNetworks (first + second) R → AllNetworks (first + second) R'
   pub best : (E : ℕ → Entry) → AllBest (first + second) R E → AllBest (first + second) R' (entry_after (first + second) u E)
   pub groups : (L : ℕ → Option ℕ) → HasDeepGroups first second R L → HasDeepGroups first second R' (group_after u L)
 
 -- the change may begin on these words, and has stored nothing yet
-pub record IsBegun (first second : ℕ) (u : Update) (t : Words) : Type 0 where
+pub record IsBegun (first second : ℕ) (u : Plan) (t : Words) : Type 0 where
   pub under_way : IsUnderWay first second u t
   pub stands : StandsSoFar second u t (entry_at second t)
   pub groups : HasGroups first second u t.firsts (group_at t.firsts)

@@ -4,19 +4,19 @@ use Rattle.lpm_entry.specs.declared.Entry.{Entry}
 use Rattle.lpm_cells.specs.Table.{Words, with_first, with_second}
 use Rattle.lpm_update.specs.declared.Did.{Did}
 use Rattle.lpm_update.specs.declared.Did.TheVariants.{First, Second, Unlinked, Done}
-use Rattle.lpm_update.specs.declared.update.Update.{Update}
+use Rattle.lpm_update.specs.declared.update.Plan.{Plan}
 use Rattle.lpm_update.specs.Linked.{IsTable}
 use Rattle.lpm_update.specs.Update.{IsUnderWay, StandsSoFar, HasGroups, IsOver, IsNextFirst, IsNextSecond, IsNextUnlink, SameGroups, GivesUp, IsOnward, HasPassedFirst, HasPassedSecond, group_held, places_left}
 
 -- the cells allow the change's next store
-pub record AllowsNext (first second : ℕ) (u : Update) (t : Words) (may_first may_second : ℕ → ℕ → Type 0) : Type 0 where
+pub record AllowsNext (first second : ℕ) (u : Plan) (t : Words) (may_first may_second : ℕ → ℕ → Type 0) : Type 0 where
   pub first_word : (i w : ℕ) → IsNextFirst first second u t i w → may_first i w
   pub second_word : (j w : ℕ) → IsNextSecond second u t j w → may_second j w
   pub unlink : (b g w : ℕ) → IsNextUnlink first second u t b g w → may_first b w
 
 -- the word that was stored is the next one, and each other word is as it was; where nothing was stored,
 -- nothing is left to store
-abbrev pub Stored : ℕ → ℕ → Did → Update → Words → Update → Words → Type 0
+abbrev pub Stored : ℕ → ℕ → Did → Plan → Words → Plan → Words → Type 0
 Stored first second (First i) u t v z =
     IsNextFirst first second u t i (slice_index z.firsts i) × (z ≡ with_first t i (slice_index z.firsts i))
 Stored first second (Second j) u t v z =
@@ -26,7 +26,7 @@ Stored first second (Unlinked b g) u t v z =
 Stored first second Done u t v z = (z ≡ t) × IsOver first second v
 
 -- the change has passed the word that was stored
-abbrev pub HasPassed : ℕ → Did → Update → List ℕ → Type 0
+abbrev pub HasPassed : ℕ → Did → Plan → List ℕ → Type 0
 HasPassed second (First i) v firsts = HasPassedFirst second v i
 HasPassed second (Second j) v firsts = HasPassedSecond second v firsts j
 HasPassed second (Unlinked b g) v firsts = HasPassedFirst second v b
@@ -40,7 +40,7 @@ HeldAlong first (Unlinked b g) old new = GivesUp first old new b g
 HeldAlong first Done old new = SameGroups first old new
 
 -- a step of the change u over the words t, after which the change is v and the words are z
-pub record Steps (first second : ℕ) (u : Update) (t : Words) (did : Did) (v : Update) (z : Words) : Type 0 where
+pub record Steps (first second : ℕ) (u : Plan) (t : Words) (did : Did) (v : Plan) (z : Words) : Type 0 where
   -- the change goes on past the word that it stored, and never back
   pub onward : IsOnward u v
   pub passed : HasPassed second did v z.firsts

@@ -9,20 +9,20 @@ use lpm_entry::Entry;
 /// The removal of all rules: each first word becomes a miss, upwards from place `next` on. No word of a
 /// group is stored.
 #[derive(Debug, Drop)]
-pub struct Flush {
-    pub next: usize,
+pub(crate) struct Flush {
+    pub(crate) next: usize,
 }
 
 impl Flush {
     ghost use Rattle.std.specs.Prelude.{◌≡◌, ℕ, ◌^◌, ◌<◌, ◌≤◌};
     ghost use Rattle.lpm_bits.specs.Widths.{IsShape};
-    ghost use Rattle.lpm_update.specs.declared.update.Update.TheVariants.{Flush as Flushing};
+    ghost use Rattle.lpm_update.specs.declared.update.Plan.TheVariants.{Flush as Flushing};
     ghost use Rattle.lpm_update.specs.Linked.{IsTable};
     ghost use Rattle.lpm_update.specs.Update.{IsUnderWay};
     ghost use Rattle.lpm_update.specs.Step.{AllowsNext, Steps, SetsWord};
 
     /// Makes the next store of the flush; where none is left, it is done.
-    pub fn step<const FIRST: u32, const SECOND: u32, C: Cells>(&mut self, cells: &mut C) -> Did
+    pub(crate) fn step<const FIRST: u32, const SECOND: u32, C: Cells>(&mut self, cells: &mut C) -> Did
         requires shape { IsShape FIRST SECOND }
         requires table { IsTable FIRST SECOND (C.words cells.old) }
         requires under_way { IsUnderWay FIRST SECOND (Flushing self.old) (C.words cells.old) }

@@ -11,11 +11,11 @@ use lpm_rules::Rule;
 /// The addresses from `from` up to, not including, `end`, whose entries become what `rewrite` makes of
 /// them; those below `at` have become so.
 #[derive(Debug, Drop)]
-pub struct RewriteRange {
-    pub from: u64,
-    pub at: u64,
-    pub end: u64,
-    pub rewrite: Rewrite,
+pub(crate) struct RewriteRange {
+    pub(crate) from: u64,
+    pub(crate) at: u64,
+    pub(crate) end: u64,
+    pub(crate) rewrite: Rewrite,
 }
 
 impl RewriteRange {
@@ -27,7 +27,7 @@ impl RewriteRange {
     ghost use Rattle.lpm_rules.specs.Longest.{IsUncovered, IsCoverRule};
     ghost use Rattle.lpm_update.specs.declared.Did.TheVariants.{Done};
     ghost use Rattle.lpm_update.specs.declared.rewrite.Kind.TheVariants.{Add, Delete};
-    ghost use Rattle.lpm_update.specs.declared.update.Update.TheVariants.{Range};
+    ghost use Rattle.lpm_update.specs.declared.update.Plan.TheVariants.{Range};
     ghost use Rattle.lpm_update.specs.Best.{IsCoverEntry};
     ghost use Rattle.lpm_update.specs.Rewrite.{Skips};
     ghost use Rattle.lpm_update.specs.Linked.{IsTable};
@@ -37,7 +37,7 @@ impl RewriteRange {
 
     /// The change that adds a rule whose block needs no new group: a rule no longer than `FIRST` bits,
     /// or one whose block has a group.
-    pub fn add<const FIRST: u32, const SECOND: u32>(
+    pub(crate) fn add<const FIRST: u32, const SECOND: u32>(
         prefix: &Prefix<FIRST, SECOND>,
         hop: Hop,
     ) -> RewriteRange
@@ -60,7 +60,7 @@ impl RewriteRange {
 
     /// The change that deletes a rule whose cover, the longest rule that is shorter and covers it, is
     /// this one.
-    pub fn delete<const FIRST: u32, const SECOND: u32>(
+    pub(crate) fn delete<const FIRST: u32, const SECOND: u32>(
         prefix: &Prefix<FIRST, SECOND>,
         cover: Option<Rule<FIRST, SECOND>>,
     ) -> RewriteRange
@@ -145,7 +145,7 @@ impl RewriteRange {
 
     /// Makes the next store of the change, upwards; where none is left, it is done.
     #[inline(always)]
-    pub fn step<const FIRST: u32, const SECOND: u32, C: Cells>(&mut self, cells: &mut C) -> Did
+    pub(crate) fn step<const FIRST: u32, const SECOND: u32, C: Cells>(&mut self, cells: &mut C) -> Did
         requires shape { IsShape FIRST SECOND }
         requires table { IsTable FIRST SECOND (C.words cells.old) }
         requires under_way { IsUnderWay FIRST SECOND (Range self.old) (C.words cells.old) }

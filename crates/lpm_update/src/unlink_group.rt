@@ -15,24 +15,24 @@ use lpm_entry::Entry;
 /// The deletion of the last rule of a block that is longer than `FIRST` bits: its range is rewritten, and
 /// then the block's group is unlinked.
 #[derive(Debug, Drop)]
-pub struct UnlinkGroup {
-    pub range: RewriteRange,
-    pub block: usize,
+pub(crate) struct UnlinkGroup {
+    pub(crate) range: RewriteRange,
+    pub(crate) block: usize,
     /// Whether the group is unlinked, which is the last store.
-    pub unlinked: bool,
+    pub(crate) unlinked: bool,
 }
 
 impl UnlinkGroup {
     ghost use Rattle.std.specs.Prelude.{◌≡◌};
     ghost use Rattle.lpm_bits.specs.Widths.{IsShape};
-    ghost use Rattle.lpm_update.specs.declared.update.Update.TheVariants.{Unlink};
+    ghost use Rattle.lpm_update.specs.declared.update.Plan.TheVariants.{Unlink};
     ghost use Rattle.lpm_update.specs.Linked.{IsTable};
     ghost use Rattle.lpm_update.specs.Update.{IsUnderWay};
     ghost use Rattle.lpm_update.specs.Step.{AllowsNext, Steps, SetsWord};
 
     /// Makes the next store: those of the range, upwards, and then the one that unlinks the group; where
     /// none is left, it is done.
-    pub fn step<const FIRST: u32, const SECOND: u32, C: Cells>(&mut self, cells: &mut C) -> Did
+    pub(crate) fn step<const FIRST: u32, const SECOND: u32, C: Cells>(&mut self, cells: &mut C) -> Did
         requires shape { IsShape FIRST SECOND }
         requires table { IsTable FIRST SECOND (C.words cells.old) }
         requires under_way { IsUnderWay FIRST SECOND (Unlink self.old) (C.words cells.old) }

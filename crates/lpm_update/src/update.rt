@@ -6,10 +6,11 @@ use super::{Did, Flush, LinkGroup, RewriteRange, UnlinkGroup};
 use lpm_bits::{Hop, Prefix, Shape};
 use lpm_cells::Cells;
 use lpm_rules::Rule;
+use std::marker::Model;
 
-/// A change of the words by a change of the rule list, one store of one word a step.
+/// What is left to store, by the kind of the change.
 #[derive(Debug, Drop)]
-pub enum Update {
+pub(crate) enum Plan {
     /// The words of a range are rewritten, upwards.
     Range(RewriteRange),
     /// The words of a free group are stored, and then it is linked.
@@ -18,6 +19,20 @@ pub enum Update {
     Unlink(UnlinkGroup),
     /// All first words become misses.
     Flush(Flush),
+}
+
+/// A change of the words by a change of the rule list, one store of one word a step.
+#[derive(Debug, Drop)]
+pub struct Update {
+    plan: Plan,
+}
+
+impl Model for Update {
+    ghost use Rattle.lpm_update.specs.declared.update.Plan.{Plan};
+
+    ghost Value = { Plan };
+
+    ghost view = { λ u. u.plan };
 }
 
 impl Update {
@@ -48,8 +63,16 @@ impl Update {
     {
         let _bits = prefix.bits();
         match group {
-            Some(group) => Update::Link(LinkGroup::add(prefix, hop, group)),
-            None => Update::Range(RewriteRange::add(prefix, hop)),
+            Some(group) => {
+                return Update {
+                    plan: Plan::Link(LinkGroup::add(prefix, hop, group)),
+                };
+            }
+            None => {
+                return Update {
+                    plan: Plan::Range(RewriteRange::add(prefix, hop)),
+                };
+            }
         }
     }
 
@@ -71,13 +94,17 @@ impl Update {
         let range = RewriteRange::delete(prefix, cover);
         if last {
             let block = Shape::<FIRST, SECOND>::first_index(prefix.bits());
-            return Update::Unlink(UnlinkGroup {
-                range,
-                block,
-                unlinked: false,
-            });
+            return Update {
+                plan: Plan::Unlink(UnlinkGroup {
+                    range,
+                    block,
+                    unlinked: false,
+                }),
+            };
         }
-        Update::Range(range)
+        Update {
+            plan: Plan::Range(range),
+        }
     }
 
     /// The removal of all rules.
@@ -86,7 +113,9 @@ impl Update {
         ensures begun { (R : RuleMap) (t : Words) → Represents FIRST SECOND R t
             → IsBegun FIRST SECOND result t × TurnsInto FIRST SECOND result R map.empty }
     {
-        Update::Flush(Flush { next: 0 })
+        Update {
+            plan: Plan::Flush(Flush { next: 0 }),
+        }
     }
 
     /// Makes the next store of the change, and tells which one it was; where none is left, it is done.
@@ -99,11 +128,11 @@ impl Update {
         ensures steps { Steps FIRST SECOND self.old (C.words cells.old) result self.new (C.words cells.new) }
         ensures sets { SetsWord C.words C.sets_first C.sets_second cells.old result cells.new }
     {
-        match self {
-            Update::Range(range) => range.step::<FIRST, SECOND, C>(cells),
-            Update::Link(link) => link.step::<FIRST, SECOND, C>(cells),
-            Update::Unlink(unlink) => unlink.step::<FIRST, SECOND, C>(cells),
-            Update::Flush(flush) => flush.step::<FIRST, SECOND, C>(cells),
+        match &mut self.plan {
+            Plan::Range(range) => range.step::<FIRST, SECOND, C>(cells),
+            Plan::Link(link) => link.step::<FIRST, SECOND, C>(cells),
+            Plan::Unlink(unlink) => unlink.step::<FIRST, SECOND, C>(cells),
+            Plan::Flush(flush) => flush.step::<FIRST, SECOND, C>(cells),
         }
     }
 }
