@@ -13,7 +13,7 @@ use Rattle.lpm_limits.specs.declared.config.Config.{Config}
 use Rattle.lpm_rules.specs.RuleMap.{RuleMap, RuleList, network_cmp}
 use Rattle.lpm_update.specs.declared.update.Plan.{Plan}
 use Rattle.lpm_update.specs.Laws.{blank_words}
-use Rattle.lpm_update.specs.Represents.{Represents, IsBegun, TurnsInto}
+use Rattle.lpm_update.specs.Represents.{IsBegun, TurnsInto}
 use Rattle.lpm_update.specs.Update.{group_held}
 use Rattle.lpm_update.specs.Linked.{group_at}
 use Rattle.lpm_update.proofs.Promises.{blank, linked_deep, tied_same}
@@ -122,7 +122,7 @@ pub made_shrinks : {f s : ℕ} {c : Config} {rules rules' : RuleList} {t : Words
     → Shrinks counting f s c (table_of rules.rules pool n) R (table_of rules'.rules new (n + 1))
 made_shrinks {f} {s} {c} {rules} {pool = pool} {new = new} R known made after left gone =
     let count : linked_count pool.keeper.groups - linked_count new.keeper.groups ≡ groups_in_use f s rules.rules - groups_in_use f s R =
-        omega (arith, sound_linked known, sound_linked after, ap (groups_in_use f s) gone) in
+    omega (arith, sound_linked known, sound_linked after, ap (groups_in_use f s) gone) in
     (left, subst (λ k. Unlinks counting c k pool.keeper.domain (tokens pool) new.keeper.domain (tokens new)) count made.unlinks, gone, refl)
 
 -- a reclaim frees groups that no block has

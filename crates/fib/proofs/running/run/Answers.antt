@@ -1,12 +1,12 @@
-use Rattle.std.proofs.Common.{arith, ap, sym, subst, ◌∙◌, ◌≡◌, suc, ◌+◌, ◌-◌}
+use Rattle.std.proofs.Common.{arith, ap, sym, subst, ◌∙◌, ◌≡◌, suc, ◌-◌}
 use Rattle.lpm_groups.specs.States.{linked_count}
 use Rattle.lpm_update.specs.Linked.{group_at}
 use Rattle.lpm_update.specs.Update.{group_held}
-use Rattle.lpm_update.proofs.Promises.{held_same, plain_allows, run_begins, run_ends, run_goes_on, tied_gone, tied_same}
+use Rattle.lpm_update.proofs.Promises.{held_same, plain_allows, run_ends, run_goes_on, tied_gone, tied_same}
 use Rattle.qsbr.specs.Registry.{Registry}
 use Rattle.fib_model.specs.Counting.{counting}
 use Rattle.fib_model.specs.Reclaiming.{Unlinks}
-use Rattle.fib.specs.Pool.{UnlinksSome, tokens}
+use Rattle.fib.specs.Pool.{tokens}
 use Rattle.fib.proofs.Changing.{unlinks_more, some_linked, few_linked}
 use Rattle.fib.proofs.running.run.Goals as goal
 

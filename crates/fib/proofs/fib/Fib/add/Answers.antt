@@ -1,4 +1,4 @@
-use Rattle.std.proofs.Common.{arith, ap, sym, subst, ◌∙◌, ◌+◌, ◌/◌, ◌^◌, ◌≡◌, ◌<◌, lit<, refl, Ok, Err, inl}
+use Rattle.std.proofs.Common.{arith, ap, sym, subst, ◌∙◌, ◌+◌, ◌/◌, ◌^◌, ◌≡◌, lit<, refl, Ok, Err, inl}
 use Rattle.std.proofs.lemmas.Nat.{shr_below}
 use Rattle.lpm_limits.specs.declared.refusal.Refusal.TheVariants.{NoGroups}
 use Rattle.lpm_rules.specs.RuleMap.{RuleList}
@@ -58,9 +58,9 @@ returns-in-Ok-group_for g c =
     let left = tokens_left _ c.args.self.now c.is_exhausted.result c.self.view_is c.if-is_exhausted.false c.is_exhausted.ensures in
     let z = table_of c.put.new.self.rules c.run.new.pool (x.versions + 1) in
     let adds : Adds counting f s x.config (table_of x.rules.rules x.pool x.versions) p h (Ok c.in-Ok.put) z =
-        found_adds f s x.config x.rules x.cells x.pool x.versions c.self.invariant p low h c.in-Ok.put c.in-Ok-group_for.group c.group_for.new.pool c.put.new.self c.run.new.cells c.run.new.pool
-        c.in-Ok-group_for.ensures.found c.group_for.ensures.domain c.run.ensures.unlinks (invariant_of-self-in-Ok-group_for g c) (ap (λ (r : RuleList). r.rules) put.ok)
-        c.in_default-put.not-Unchanged put.replaced.0 (λ e. put.new.0 (inl e)) left in
+    found_adds f s x.config x.rules x.cells x.pool x.versions c.self.invariant p low h c.in-Ok.put c.in-Ok-group_for.group c.group_for.new.pool c.put.new.self c.run.new.cells c.run.new.pool
+    c.in-Ok-group_for.ensures.found c.group_for.ensures.domain c.run.ensures.unlinks (invariant_of-self-in-Ok-group_for g c) (ap (λ (r : RuleList). r.rules) put.ok)
+    c.in_default-put.not-Unchanged put.replaced.0 (λ e. put.new.0 (inl e)) left in
     record {
       adds = subst (λ (y : FibState). Adds counting f s y.config y.table p h (Ok c.in-Ok.put) z) c.self.view_is adds;
       config = ap (λ (y : FibState). y.config) c.self.view_is;

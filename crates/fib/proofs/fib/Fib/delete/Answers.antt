@@ -1,4 +1,4 @@
-use Rattle.std.proofs.Common.{ap, sym, subst, ◌+◌, ◌≡◌, lit<, refl, Ok}
+use Rattle.std.proofs.Common.{ap, sym, subst, ◌+◌, lit<, refl, Ok}
 use Rattle.std.specs.Prelude.{IsSome}
 use Rattle.std.specs.FinMap as map
 use Rattle.lpm_rules.specs.RuleMap.{RuleList}
