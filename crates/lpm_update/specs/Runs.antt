@@ -11,7 +11,8 @@ use Rattle.lpm_update.specs.Step.{Steps}
 -- the steps from u and the words t, the last one first, lead to v and the words z
 abbrev pub Runs : ℕ → ℕ → Plan → Words → List Did → Plan → Words → Type 0
 Runs first second u t [] v z = (v ≡ u) × (z ≡ t)
-Runs first second u t (did ∷ before) v z = (m : Plan) × (y : Words) × Runs first second u t before m y × Steps first second m y did v z
+Runs first second u t (did ∷ before) v z =
+    (m : Plan) × (y : Words) × Runs first second u t before m y × Steps first second m y did v z
 
 -- a change that was u on the words t, and had stored nothing yet, has come to v and the words z
 pub record HasCome (first second : ℕ) (u : Plan) (t : Words) (v : Plan) (z : Words) : Type 0 where

@@ -1,5 +1,5 @@
--- A change of the words, by what it does to the range of a rule, and how far it has come (this project's; what a
--- change does is that of the DPDK Programmer's Guide, "LPM Library").
+-- A change of the words, by what it does to the range of a rule, and how far it has come (this
+-- project's; what a change does is that of the DPDK Programmer's Guide, "LPM Library").
 use Rattle.std.specs.Prelude.{ℕ, true, false, ◌≡◌, ◌≢◌, ◌+◌, ◌-◌, ◌*◌, ◌/◌, ◌%◌, ◌⊎◌, ◌^◌, ◌≤◌, ◌<◌, ◌==◌, ◌&&◌, nat_le, nat_lt, if◌then◌else◌, List, Option, Some, None}
 use Rattle.lpm_entry.specs.declared.Entry.{Entry}
 use Rattle.lpm_cells.specs.Table.{Words}
@@ -48,7 +48,8 @@ entry_after width u E a = final_entry (from_of u) (end_of width u) (rewrite_of u
 -- the group that a block has by now, where L has the groups before the change
 abbrev pub group_by_now : ℕ → Plan → (ℕ → Option ℕ) → ℕ → Option ℕ
 group_by_now second (Range u) L i = L i
-group_by_now second (Link u) L i = if nat_le u.next (2 ^ second) then L i else (if i == u.block then Some u.group else L i)
+group_by_now second (Link u) L i =
+    if nat_le u.next (2 ^ second) then L i else (if i == u.block then Some u.group else L i)
 group_by_now second (Unlink u) L i = if u.unlinked && i == u.block then None else L i
 group_by_now second (Flush u) L i = if nat_lt i u.next then None else L i
 
@@ -64,35 +65,43 @@ abbrev pub IsUnderWay : ℕ → ℕ → Plan → Words → Type 0
 IsUnderWay first second (Range u) t = IsRewriting first second u.from u.at u.end u.rewrite t.firsts
 IsUnderWay first second (Link u) t = IsLinking first second u t
 IsUnderWay first second (Unlink u) t =
-    (u.unlinked ≡ false → IsUnlinking first second u.range u.block t) × (u.unlinked ≡ true → u.range.at ≡ u.range.end)
+    (u.unlinked ≡ false → IsUnlinking first second u.range u.block t)
+    × (u.unlinked ≡ true → u.range.at ≡ u.range.end)
 IsUnderWay first second (Flush u) t = u.next ≤ 2 ^ first
 
--- by the words each address from the range's beginning to where the change has come has its new entry,
--- and each other one its old, where E has the entries before the change
+-- by the words each address from the range's beginning to where the change has come has its new
+-- entry, and each other one its old, where E has the entries before the change
 abbrev pub StandsSoFar : ℕ → Plan → Words → (ℕ → Entry) → Type 0
 StandsSoFar second u t E = Stands second (from_of u) (reached_of second u) (rewrite_of u) t E
 
 -- each block has the group that it should have by now, where L has the groups before the change
 abbrev pub HasGroups : ℕ → ℕ → Plan → List ℕ → (ℕ → Option ℕ) → Type 0
-HasGroups first second u firsts L = (i : ℕ) → i < 2 ^ first → group_at firsts i ≡ group_by_now second u L i
+HasGroups first second u firsts L =
+    (i : ℕ) → i < 2 ^ first → group_at firsts i ≡ group_by_now second u L i
 
 -- nothing is left to store: all addresses and blocks are as after the change
 pub record IsOver (first second : ℕ) (u : Plan) : Type 0 where
   pub reached : reached_of second u ≡ end_of (first + second) u
-  pub groups : (L : ℕ → Option ℕ) (i : ℕ) → i < 2 ^ first → group_by_now second u L i ≡ group_after u L i
+  pub groups : (L : ℕ → Option ℕ) (i : ℕ) → i < 2 ^ first
+      → group_by_now second u L i ≡ group_after u L i
 
 -- the next store is of word w at place i of the first table, and unlinks no group
 abbrev pub IsNextFirst : ℕ → ℕ → Plan → Words → ℕ → ℕ → Type 0
 IsNextFirst first second (Range u) t i w = IsFirstStore second u.at u.end u.rewrite t i w
 IsNextFirst first second (Link u) t i w = IsLinkStore second u i w
-IsNextFirst first second (Unlink u) t i w = (u.unlinked ≡ false) × IsFirstStore second u.range.at u.range.end u.range.rewrite t i w
-IsNextFirst first second (Flush u) t i w = IsFlushStore first u.next t.firsts i w × (group_at t.firsts i ≡ None)
+IsNextFirst first second (Unlink u) t i w =
+    (u.unlinked ≡ false) × IsFirstStore second u.range.at u.range.end u.range.rewrite t i w
+IsNextFirst first second (Flush u) t i w =
+    IsFlushStore first u.next t.firsts i w × (group_at t.firsts i ≡ None)
 
 -- the next store is of word w at place j of the second table
 abbrev pub IsNextSecond : ℕ → Plan → Words → ℕ → ℕ → Type 0
-IsNextSecond second (Range u) t j w = (g : ℕ) × (x : ℕ) × IsSecondStore second u.at u.end u.rewrite t g x j w
+IsNextSecond second (Range u) t j w =
+    (g : ℕ) × (x : ℕ) × IsSecondStore second u.at u.end u.rewrite t g x j w
 IsNextSecond second (Link u) t j w = IsFillStore second u t.firsts j w
-IsNextSecond second (Unlink u) t j w = (u.unlinked ≡ false) × ((g : ℕ) × (x : ℕ) × IsSecondStore second u.range.at u.range.end u.range.rewrite t g x j w)
+IsNextSecond second (Unlink u) t j w =
+    (u.unlinked ≡ false)
+    × ((g : ℕ) × (x : ℕ) × IsSecondStore second u.range.at u.range.end u.range.rewrite t g x j w)
 IsNextSecond second (Flush u) t j w = ⊥
 
 -- the next store is of word w over the link of a block to group g
@@ -102,7 +111,8 @@ IsNextUnlink first second (Link u) t block g w = ⊥
 IsNextUnlink first second (Unlink u) t block g w =
     (u.unlinked ≡ false) × (block ≡ u.block)
     × Skips second u.range.rewrite t u.range.at u.range.end × IsUnlinkStore second t block g w
-IsNextUnlink first second (Flush u) t block g w = IsFlushStore first u.next t.firsts block w × (group_at t.firsts block ≡ Some g)
+IsNextUnlink first second (Flush u) t block g w =
+    IsFlushStore first u.next t.firsts block w × (group_at t.firsts block ≡ Some g)
 
 -- the group that a block has, or that is being filled for it
 abbrev pub group_held : Plan → List ℕ → ℕ → Option ℕ
@@ -133,7 +143,8 @@ places_left first second (Flush u) = 2 ^ first - u.next
 abbrev pub IsOnward : Plan → Plan → Type 0
 IsOnward (Range u) (Range v) = IsFurther u v
 IsOnward (Link u) (Link v) = (v ≡ record u { next = v.next }) × (u.next ≤ v.next)
-IsOnward (Unlink u) (Unlink v) = IsFurther u.range v.range × (v.block ≡ u.block) × (u.unlinked ≡ true → v.unlinked ≡ true)
+IsOnward (Unlink u) (Unlink v) =
+    IsFurther u.range v.range × (v.block ≡ u.block) × (u.unlinked ≡ true → v.unlinked ≡ true)
 IsOnward (Flush u) (Flush v) = u.next ≤ v.next
 IsOnward u v = ⊥
 
@@ -141,17 +152,21 @@ IsOnward u v = ⊥
 abbrev pub HasPassedFirst : ℕ → Plan → ℕ → Type 0
 HasPassedFirst second (Range u) i = i * 2 ^ second < u.at
 HasPassedFirst second (Link u) i = 2 ^ second < u.next
-HasPassedFirst second (Unlink u) i = ((i * 2 ^ second < u.range.at) × (i ≢ u.block)) ⊎ (u.unlinked ≡ true)
+HasPassedFirst second (Unlink u) i =
+    ((i * 2 ^ second < u.range.at) × (i ≢ u.block)) ⊎ (u.unlinked ≡ true)
 HasPassedFirst second (Flush u) i = i < u.next
 
 -- place j of the second table is that of an address before `at`
 abbrev pub IsSecondBefore : ℕ → ℕ → List ℕ → ℕ → Type 0
 IsSecondBefore second at firsts j =
-    (g : ℕ) × (x : ℕ) × (x < at) × IsLinkTo firsts (x / 2 ^ second) g × (j ≡ g * 2 ^ second + x % 2 ^ second)
+    (g : ℕ) × (x : ℕ) × (x < at)
+    × IsLinkTo firsts (x / 2 ^ second) g × (j ≡ g * 2 ^ second + x % 2 ^ second)
 
--- the change has passed place j of the second table, by its own order: it stores no word there again
+-- the change has passed place j of the second table, by its own order: it stores no word there
+-- again
 abbrev pub HasPassedSecond : ℕ → Plan → List ℕ → ℕ → Type 0
 HasPassedSecond second (Range u) firsts j = IsSecondBefore second u.at firsts j
 HasPassedSecond second (Link u) firsts j = j < u.group * 2 ^ second + u.next
-HasPassedSecond second (Unlink u) firsts j = IsSecondBefore second u.range.at firsts j ⊎ (u.unlinked ≡ true)
+HasPassedSecond second (Unlink u) firsts j =
+    IsSecondBefore second u.range.at firsts j ⊎ (u.unlinked ≡ true)
 HasPassedSecond second (Flush u) firsts j = ⊥

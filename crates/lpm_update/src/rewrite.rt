@@ -14,8 +14,8 @@ pub(crate) enum Kind {
 
 /// What a change does to the entries of its range: those that it replaces become `entry`.
 ///
-/// An add replaces misses and the hops of rules no longer than `depth`, a delete the hops of rules of
-/// length `depth`, a flush all but misses.
+/// An add replaces misses and the hops of rules no longer than `depth`, a delete the hops of rules
+/// of length `depth`, a flush all but misses.
 #[derive(Clone, Copy, Debug)]
 pub(crate) struct Rewrite {
     pub(crate) kind: Kind,

@@ -17,7 +17,8 @@ use std::test::Fail;
 fn record(rt: &impl Abort, made: &mut Vec<Did>, update: Update, cells: &mut PlainCells<4, 4>)
     requires table { IsTable 4 4 cells.old }
     requires begun { IsBegun 4 4 update cells.old }
-    ensures represents { (R R' : RuleMap) → Represents 4 4 R cells.old → TurnsInto 4 4 update R R' → Represents 4 4 R' cells.new }
+    ensures represents { (R R' : RuleMap) → Represents 4 4 R cells.old → TurnsInto 4 4 update R R'
+        → Represents 4 4 R' cells.new }
 {
     let mut update = update;
     let _words = cells.seconds();
@@ -43,10 +44,11 @@ fn is_unlinked(cells: &PlainCells<4, 4>) -> bool
     true
 }
 
-// The group by which a rule is added: none where it needs no new one, and else group 0, the only one.
+// The group by which a rule is added: none where it needs no new one, or group 0, the only one.
 fn group_for(rt: &impl Abort, prefix: &Prefix<4, 4>, cells: &PlainCells<4, 4>) -> Option<u32>
     ensures some { IsSome result → 4 < prefix.now.len }
-    ensures fits { (R : RuleMap) → Represents 4 4 R cells.now → AddFits 4 4 R prefix.now cells.now result }
+    ensures fits { (R : RuleMap) → Represents 4 4 R cells.now
+        → AddFits 4 4 R prefix.now cells.now result }
 {
     let block = Shape::<4, 4>::first_index(prefix.bits());
     if prefix.len() <= 4 {
