@@ -18,7 +18,8 @@ pub enum Entry {
 }
 
 impl Entry {
-    ghost use Rattle.lpm_entry.specs.Words.{IsEntry, word_of, entry_in, hop_in};
+    ghost use Rattle.lpm_entry.specs.Words.{IsEntry, IsLast, IsLastWord, IsWord, word_of, entry_in, hop_in};
+    ghost use Rattle.lpm_entry.specs.declared.Entry.TheVariants.{Group};
     ghost use Rattle.lpm_entry.specs.declared.Entry.{Entry};
 
     /// The word of the entry: its number in bits 0 to 23, valid in bit 24, extended (a group) in bit 25,
@@ -79,6 +80,34 @@ impl Entry {
             },
             _ => Entry::Miss,
         }
+    }
+
+    /// The group of a table's word, where it is a group's: `of_word` for a caller that asks for no more. Of the
+    /// words of entries only those of groups have bit 25.
+    #[tactic(auto, unfolding(crate::specs::Words::entry_in))]
+    #[inline]
+    pub fn group_of_word<const FIRST: u32, const SECOND: u32>(word: u64) -> Option<u32>
+        requires { IsWord (FIRST + SECOND) word }
+        ensures { MatchOption result (IsLast (entry_in word)) (λ g. entry_in word ≡ Group g) }
+    {
+        if word / 0x200_0000 % 2 == 0 {
+            return None;
+        }
+        Some((word % 0x100_0000) as u32)
+    }
+
+    /// The next hop of a table's word at which a lookup ends: of these only a miss has the word 0.
+    #[tactic(auto, unfolding(crate::specs::Words::entry_in))]
+    #[inline]
+    pub fn hop_of_last_word<const FIRST: u32, const SECOND: u32>(word: u64) -> Option<Hop>
+        requires { IsLastWord (FIRST + SECOND) word }
+        ensures { result ≡ hop_in (entry_in word) }
+    {
+        if word == 0 {
+            return None;
+        }
+        let number = (word % 0x100_0000) as u32;
+        Some(Hop::new(number).unwrap())
     }
 
     /// Its next hop, where it has one.
