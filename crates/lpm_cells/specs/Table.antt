@@ -41,8 +41,8 @@ pub record IsWords (first second : ℕ) (t : Words) : Type 0 where
   pub second_words : (j : ℕ) → j < length t.seconds
       → IsLastWord (first + second) (slice_index t.seconds j)
 
--- the entry that a lookup ends at, where it read `e` in the first table and would go on to place `r`
--- of a group
+-- the entry that a lookup ends at, where it read `e` in the first table and would go on to place
+-- `r` of a group
 abbrev pub followed : ℕ → List ℕ → ℕ → Entry → Entry
 followed second seconds r Miss = Miss
 followed second seconds r (Hop hop depth) = Hop hop depth

@@ -29,8 +29,8 @@ impl Entry {
     ghost use Rattle.lpm_entry.specs.declared.Entry.TheVariants.{Group};
     ghost use Rattle.lpm_entry.specs.declared.Entry.{Entry};
 
-    /// The word of the entry: its number in bits 0 to 23, valid in bit 24, extended (a group) in bit
-    /// 25, its depth in bits 26 to 31. A miss is 0.
+    /// The word of the entry: its number in bits 0 to 23, valid in bit 24, extended (a group) in
+    /// bit 25, its depth in bits 26 to 31. A miss is 0.
     pub fn to_word(self) -> u64
         requires { IsEntry 32 self }
         ensures value { result ≡ word_of self }
@@ -69,8 +69,8 @@ impl Entry {
         }
     }
 
-    /// The entry of a word of a table, told by the valid and the extended bit alone: what `from_word`
-    /// returns, wherever that returns an entry.
+    /// The entry of a word of a table, told by the valid and the extended bit alone: what
+    /// `from_word` returns, wherever that returns an entry.
     #[tactic(auto, unfolding(crate::specs::Words::entry_in))]
     #[inline]
     pub fn of_word(word: u64) -> Entry
