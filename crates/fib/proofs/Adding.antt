@@ -1,6 +1,6 @@
 -- A rule is added.
-use Rattle.std.proofs.Common.{arith, ◌≡◌, ◌≢◌, ℕ, ◌+◌, ◌/◌, ◌^◌, ◌<◌, ◌≤◌, ◌⊎◌, inl, inr, refl, ap, sym, ◌∙◌, List, ◌∷◌, Option, Some, None, Bool, true, false, cond}
-use Rattle.std.specs.Prelude.{IsSome, IsSomeAnd, MatchOption, Ok, Result}
+use Rattle.std.proofs.Common.{arith, ◌≡◌, ◌≢◌, ℕ, ◌+◌, ◌/◌, ◌^◌, ◌<◌, ◌≤◌, ◌⊎◌, inl, inr, refl, ap, sym, ◌∙◌, List, Option, Some, None, Bool, true, false, cond}
+use Rattle.std.specs.Prelude.{IsSome, IsSomeAnd, Ok, Result}
 use Rattle.std.specs.FinMap.{get, insert, len}
 use Rattle.std.specs.FinSet as set
 use Rattle.std.specs.Cmp.{nat_cmp_total}
@@ -20,28 +20,21 @@ use Rattle.lpm_rules.proofs.DeepChanges.{put_brings_block}
 use Rattle.lpm_update.specs.Linked.{group_at}
 use Rattle.qsbr.specs.Registry.{Registry}
 use Rattle.lpm_limits.specs.declared.config.Config.{Config}
-use Rattle.fib_model.specs.State.{State, IsUnheld, HasTokens}
+use Rattle.fib_model.specs.State.{State, HasTokens}
 use Rattle.fib_model.specs.Counting.{counting}
 use Rattle.fib_model.specs.Outcomes.{groups_in_use, LacksGroup, TakesGroup, Adds}
 use Rattle.fib.specs.declared.pool.Pool.{Pool}
 use Rattle.fib.specs.Waiting.{tokens_of}
-use Rattle.fib.specs.Standing.{IsStanding, table_of}
-use Rattle.fib.proofs.Standing.{standing_linked, standing_free}
-
--- how a group was found for a rule, as `group_for` says it
-abbrev pub IsFound : ℕ → ℕ → List ℕ → Network → Pool → Option ℕ → Pool → Type 0
-IsFound f s F p pool group new = MatchOption group
-    ((new ≡ pool) × ((p.len ≤ f) ⊎ IsSome (group_at F (p.bits / 2 ^ s))))
-    (λ g. (f < p.len) × (group_at F (p.bits / 2 ^ s) ≡ None) × (linked_count new.keeper.groups ≡ linked_count pool.keeper.groups + 1)
-    × (0 < free_count pool.keeper.groups → tokens_of new.queue.items ≡ tokens_of pool.queue.items)
-    × (free_count pool.keeper.groups ≡ 0 → (u : ℕ) × IsUnheld counting pool.keeper.domain u × (tokens_of pool.queue.items ≡ u ∷ tokens_of new.queue.items)))
+use Rattle.fib.specs.Pool.{IsFound}
+use Rattle.fib.specs.Fib.{IsSound, table_of}
+use Rattle.fib.proofs.Sound.{sound_linked, sound_free}
 
 -- a table's state, by its parts
 abbrev table : RuleList → Pool → ℕ → State Registry
 table rules pool n = table_of rules.rules pool.keeper.domain pool.queue.items n
 
 module _ (f s : ℕ) (c : Config) (rules : RuleList) (t : Words) (pool : Pool) (n : ℕ)
-    (known : IsStanding f s c rules t pool.keeper.groups pool.keeper.domain pool.queue n)
+    (known : IsSound f s c rules t pool.keeper.groups pool.keeper.domain pool.queue n)
     (p : Network) (low : p.bits / 2 ^ s < 2 ^ f) where
   -- a block with a group is deep, and one without isn't
   deep : IsSome (group_at t.firsts (p.bits / 2 ^ s)) → IsDeepBlock f s rules.rules (block_of s p)
@@ -63,7 +56,7 @@ module _ (f s : ℕ) (c : Config) (rules : RuleList) (t : Words) (pool : Pool) (
     absent = absent long none;
     long = long;
     shallow = shallow none;
-    none_free = omega (arith, standing_free f s c rules t pool.keeper.groups pool.keeper.domain pool.queue n known, empty, length-map pool.queue.items (λ item. item.1));
+    none_free = omega (arith, sound_free f s c rules t pool.keeper.groups pool.keeper.domain pool.queue n known, empty, length-map pool.queue.items (λ item. item.1));
   }
 
   pub takes_group : (group : Option ℕ) (new : Pool) → IsFound f s t.firsts p pool group new → TakesGroup counting f s c (table rules pool n) p (tokens_of new.queue.items)
@@ -75,12 +68,12 @@ module _ (f s : ℕ) (c : Config) (rules : RuleList) (t : Words) (pool : Pool) (
     (λ _. ap (λ (x : Pool). tokens_of x.queue.items) found.0),
   )
   takes_group (Some g) new found =
-      let sum = standing_free f s c rules t pool.keeper.groups pool.keeper.domain pool.queue n known in
+      let sum = sound_free f s c rules t pool.keeper.groups pool.keeper.domain pool.queue n known in
       let m = length-map pool.queue.items (λ item. item.1) in (
-        (λ k. found.4 (omega (arith, sum, m, k.none_free))),
+        (λ k. found.2.1 (omega (arith, sum, m, k.none_free))),
         (λ enough. elim (cases_eq (free_count pool.keeper.groups) 0) [
-          | inl empty ↦ absurd (enough (lacks found.0 found.1 empty))
-          | inr some ↦ found.3 (omega (arith, some))
+          | inl empty ↦ absurd (enough (lacks found.0.0 found.0.1 empty))
+          | inr some ↦ found.2.0 (omega (arith, some))
         ]),
       )
 
@@ -95,7 +88,7 @@ module _ (f s : ℕ) (c : Config) (rules : RuleList) (t : Words) (pool : Pool) (
   pub found_linked : (h : ℕ) (group : Option ℕ) (new : Pool) → IsFound f s t.firsts p pool group new → linked_count new.keeper.groups ≡ groups_in_use f s (insert rules.rules p h)
   found_linked h None new found =
       let brings = put_brings_block f s rules.rules p h in
-      let was = ap (λ (x : Pool). linked_count x.keeper.groups) found.0 ∙ standing_linked f s c rules t pool.keeper.groups pool.keeper.domain pool.queue n known in
+      let was = ap (λ (x : Pool). linked_count x.keeper.groups) found.0 ∙ sound_linked f s c rules t pool.keeper.groups pool.keeper.domain pool.queue n known in
       elim (cases_long p.len f) [
         | inl short ↦ was ∙ sym (ap set.len (brings.1 short))
         | inr long ↦ elim found.1 [
@@ -114,9 +107,9 @@ module _ (f s : ℕ) (c : Config) (rules : RuleList) (t : Words) (pool : Pool) (
   found_linked h (Some g) new found =
       let brings = put_brings_block f s rules.rules p h in
       let size = set.len-insert nat_cmp_total (deep_blocks f s rules.rules) (block_of s p) in
-      let none = is_false (set.contains (deep_blocks f s rules.rules) (block_of s p)) (λ e. shallow found.1 ((has_deep_blocks f s rules.rules (block_of s p)).0 e)) in
-      found.2 ∙ ap (λ k. k + 1) (standing_linked f s c rules t pool.keeper.groups pool.keeper.domain pool.queue n known)
-      ∙ sym (ap set.len (brings.0 found.0) ∙ size ∙ ap (λ b. cond b (groups_in_use f s rules.rules) (groups_in_use f s rules.rules + 1)) none)
+      let none = is_false (set.contains (deep_blocks f s rules.rules) (block_of s p)) (λ e. shallow found.0.1 ((has_deep_blocks f s rules.rules (block_of s p)).0 e)) in
+      found.1 ∙ ap (λ k. k + 1) (sound_linked f s c rules t pool.keeper.groups pool.keeper.domain pool.queue n known)
+      ∙ sym (ap set.len (brings.0 found.0.0) ∙ size ∙ ap (λ b. cond b (groups_in_use f s rules.rules) (groups_in_use f s rules.rules + 1)) none)
 
 abbrev Ok' : Put → Result Put RuleFault
 Ok' put = Ok put

@@ -1,7 +1,9 @@
 pub mod Waiting
 pub mod Front
 pub mod Changing
-pub mod Standing
+pub mod Sound
 pub mod Adding
 pub mod Logs
 pub mod Fours
+pub mod LongestHops
+pub mod Replays

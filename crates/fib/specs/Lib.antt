@@ -1,3 +1,5 @@
 pub mod Waiting
-pub mod Standing
+pub mod Fib
 pub mod Lookups
+pub mod Replay
+pub mod Pool

@@ -1,5 +1,5 @@
--- The groups in limbo and the queue in which they wait (DPDK Programmer's Guide, "RCU Library", the defer
--- queue of "LPM Library", the reclaiming of tbl8 groups).
+-- The groups in limbo and the queue in which they wait (DPDK Programmer's Guide, "RCU Library", the
+-- defer queue of "LPM Library", the reclaiming of tbl8 groups).
 use Rattle.std.specs.Prelude.{ℕ, ◌≡◌, ◌≢◌, ◌+◌, ◌↔◌, List, [], ◌∷◌, length, map, slice_get}
 use Rattle.lpm_groups.specs.declared.GroupState.{GroupState}
 use Rattle.lpm_groups.specs.States.{IsLimboAt, IsLinkedTo, limbo_count, free_count, linked_count}
@@ -13,7 +13,8 @@ tokens_of items = map (λ item. item.1) items
 -- the items are of different groups, each in limbo
 abbrev pub AreWaiting : List GroupState → List (ℕ × ℕ) → Type 0
 AreWaiting states [] = Unit {0}
-AreWaiting states (item ∷ items) = IsLimboAt states item.0 × IsAbsent item.0 items × AreWaiting states items
+AreWaiting states (item ∷ items) =
+    IsLimboAt states item.0 × IsAbsent item.0 items × AreWaiting states items
 
 -- the groups in limbo are those of the queue, which has room for all groups
 pub record IsQueued (states : List GroupState) (queue : Limbo) : Type 0 where
@@ -22,7 +23,8 @@ pub record IsQueued (states : List GroupState) (queue : Limbo) : Type 0 where
   pub room : queue.capacity ≡ length states
 
 -- the groups of the first n items are free, and each other one is as it was
-pub record IsFreed (states : List GroupState) (items : List (ℕ × ℕ)) (n : ℕ) (new : List GroupState) : Type 0 where
+pub record IsFreed (states : List GroupState) (items : List (ℕ × ℕ)) (n : ℕ)
+    (new : List GroupState) : Type 0 where
   pub as_many : length new ≡ length states
   pub links : (g b : ℕ) → IsLinkedTo new g b ↔ IsLinkedTo states g b
   pub others : (g : ℕ) → IsAbsent g items → slice_get new g ≡ slice_get states g

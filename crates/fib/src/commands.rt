@@ -1,12 +1,9 @@
 //! Commands to a table, one and many.
 
 ghost use Rattle.std.specs.Prelude.{◌≡◌, ℕ, [], ◌∷◌, List, length, IfOk, OnErr};
-ghost use Rattle.fib_model.specs.State.{State};
-ghost use Rattle.fib_model.specs.Outcomes.{Log, Reports, Does, Runs, logged};
-ghost use Rattle.fib_model.specs.Counting.{counting, opened};
-ghost use Rattle.fib_model.specs.Textbook.{textbook, beginning};
-ghost use Rattle.fib_model.specs.Laws.{Agrees};
-ghost use Rattle.fib_model.specs.declared.event.Event.{Event};
+ghost use Rattle.fib_model.specs.Outcomes.{Does, Reports, Runs, logged};
+ghost use Rattle.fib_model.specs.Counting.{counting};
+ghost use Rattle.fib.specs.Replay.{GoesOn};
 
 use super::Fib;
 use fib_model::{Command, Outcome, Report};
@@ -16,7 +13,8 @@ use std::alloc::{AllocError, Global};
 impl<const FIRST: u32, const SECOND: u32> Fib<FIRST, SECOND> {
     /// Does what a worker's report asks for, where that worker may make it.
     fn report(&mut self, report: Report, worker: usize) -> Outcome
-        ensures reports { Reports counting self.old.config self.old.table report worker result self.new.table }
+        ensures reports { Reports counting self.old.config self.old.table report worker
+            result self.new.table }
         ensures config { self.new.config ≡ self.old.config }
     {
         if worker >= self.config().workers {
@@ -36,7 +34,8 @@ impl<const FIRST: u32, const SECOND: u32> Fib<FIRST, SECOND> {
 
     /// Does a command.
     pub fn execute(&mut self, command: &Command<FIRST, SECOND>) -> Outcome
-        ensures does { Does counting FIRST SECOND self.old.config self.old.table command.now result self.new.table }
+        ensures does { Does counting FIRST SECOND self.old.config self.old.table command.now
+            result self.new.table }
         ensures config { self.new.config ≡ self.old.config }
     {
         match command {
@@ -57,19 +56,18 @@ impl<const FIRST: u32, const SECOND: u32> Fib<FIRST, SECOND> {
         }
     }
 
-    /// Does commands one after another, and answers what came of each. The error is that there is no memory
-    /// for the answers; nothing was done then.
-    pub fn run(
+    /// Does commands one after another, and returns what came of each. The error is that there is
+    /// no memory for the outcomes; nothing was done then.
+    pub fn execute_all(
         &mut self,
         alloc: Global,
         commands: &[Command<FIRST, SECOND>],
     ) -> Result<Vec<Outcome>, AllocError>
         ensures as_many { IfOk result (λ v. length v.items ≡ length commands.now) }
-        ensures runs { IfOk result (λ v. Runs counting FIRST SECOND self.old.config self.old.table (logged [] commands.now v.items) self.new.table) }
-
-        // By reader intervals the commands since the table was opened came out so.
-        ensures textbook { IfOk result (λ v. (log : Log FIRST SECOND) → Runs counting FIRST SECOND self.old.config (opened self.old.config) log self.old.table
-            → (y : State (List Event)) × Runs (textbook self.old.config) FIRST SECOND self.old.config beginning (logged log commands.now v.items) y × Agrees self.old.config self.new.table y) }
+        ensures runs { IfOk result (λ v. Runs counting FIRST SECOND self.old.config self.old.table
+            (logged [] commands.now v.items) self.new.table) }
+        ensures textbook { IfOk result (λ v. GoesOn FIRST SECOND self.old.config self.old.table
+            commands.now v.items self.new.table) }
         ensures config { self.new.config ≡ self.old.config }
         ensures refused { OnErr result (self.new ≡ self.old) }
     {

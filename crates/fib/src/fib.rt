@@ -1,6 +1,6 @@
 //! The table.
 
-ghost use Rattle.std.specs.Prelude.{◌≡◌, ℕ, ◌+◌, ◌*◌, ◌/◌, ◌^◌, ◌<◌, ◌≤◌, ◌↔◌, Some, None, IsTrue, MatchResult, length, slice_index};
+ghost use Rattle.std.specs.Prelude.{◌≡◌, ℕ, ◌+◌, ◌*◌, ◌/◌, ◌^◌, ◌<◌, ◌≤◌, ◌↔◌, Some, None, IsTrue, IfOk, IfErr, length};
 ghost use Rattle.std.specs.FinMap as map;
 ghost use Rattle.lpm_bits.specs.Widths.{IsShape};
 ghost use Rattle.lpm_rules.specs.Longest.{IsLongestHop};
@@ -8,8 +8,8 @@ ghost use Rattle.lpm_update.specs.Leads.{LastFits};
 ghost use Rattle.lpm_limits.specs.Limits.{IsConfig};
 ghost use Rattle.fib_model.specs.State.{IsExhausted};
 ghost use Rattle.fib_model.specs.Outcomes.{groups_in_use, Adds, Deletes, Flushes, Frees};
-ghost use Rattle.fib_model.specs.Counting.{counting, opened};
-ghost use Rattle.fib.specs.Lookups.{IsHopOrDefault};
+ghost use Rattle.fib_model.specs.Counting.{counting};
+ghost use Rattle.fib.specs.Fib.{fresh, told};
 ghost use Rattle.fib_model.specs.declared.command.Report.TheVariants as report;
 
 use super::running::{group_for, is_linked, run};
@@ -42,23 +42,28 @@ pub struct Fib<const FIRST: u32, const SECOND: u32> {
 }
 
 impl<const FIRST: u32, const SECOND: u32> Model for Fib<FIRST, SECOND> {
-    ghost use Rattle.fib.specs.Standing.{FibState, coded_fib_state, table_of, IsStanding};
+    ghost use Rattle.fib.specs.Fib.{FibState, coded_fib_state, table_of, IsSound};
 
     ghost Value = { FibState };
 
     ghost coded = { coded_fib_state };
 
-    ghost view = { λ a. record { config = a.config; table = table_of a.rules.rules a.pool.keeper.domain a.pool.queue.items a.versions } };
+    ghost view = { λ a. record {
+      config = a.config;
+      table = table_of a.rules.rules a.pool.keeper.domain a.pool.queue.items a.versions;
+    } };
 
-    ghost invariant = { λ a. IsStanding FIRST SECOND a.config a.rules a.cells a.pool.keeper.groups a.pool.keeper.domain a.pool.queue a.versions };
+    ghost invariant = { λ a. IsSound FIRST SECOND a.config a.rules a.cells a.pool.keeper.groups
+        a.pool.keeper.domain a.pool.queue a.versions };
 }
 
 impl<const FIRST: u32, const SECOND: u32> Fib<FIRST, SECOND> {
     /// A table without rules, with all workers offline.
     pub fn open(alloc: Global, config: Config) -> Result<Self, OpenError>
         requires { IsShape FIRST SECOND }
-        ensures { MatchResult result
-            (λ fib. IsConfig config × (fib ≡ record { config = config; table = opened config }))
+        ensures opened { IfOk result (λ fib. fib ≡ fresh config) }
+        ensures limits { IfOk result (λ _. IsConfig config) }
+        ensures bad_config { IfErr result
             (λ error. (error ≡ OpenError.BadConfig) ↔ (¬ IsConfig config)) }
     {
         config.check()?;
@@ -133,33 +138,6 @@ impl<const FIRST: u32, const SECOND: u32> Fib<FIRST, SECOND> {
         self.cells.read(addr)
     }
 
-    /// The next hops of four addresses, with `default` for an address that no rule covers.
-    #[inline]
-    pub fn lookup4(&self, addrs: [u32; 4], default: u32) -> [u32; 4]
-        requires { (i : ℕ) → i < 4 → slice_index addrs i < 2 ^ (FIRST + SECOND) }
-        ensures { (i : ℕ) → i < 4 → IsHopOrDefault (FIRST + SECOND) self.now.table.rules default (slice_index addrs i) (slice_index result i) }
-    {
-        let [a, b, c, d] = addrs;
-        [
-            self.hop_or(a, default),
-            self.hop_or(b, default),
-            self.hop_or(c, default),
-            self.hop_or(d, default),
-        ]
-    }
-
-    /// The next hop of an address, with `default` where no rule covers it.
-    #[inline]
-    fn hop_or(&self, addr: u32, default: u32) -> u32
-        requires { addr < 2 ^ (FIRST + SECOND) }
-        ensures { IsHopOrDefault (FIRST + SECOND) self.now.table.rules default addr result }
-    {
-        match self.lookup(addr) {
-            Some(hop) => hop.number(),
-            None => default,
-        }
-    }
-
     /// Whether the tokens or the versions would pass their bound by one more change.
     fn is_exhausted(&self) -> bool
         ensures { IsTrue result ↔ IsExhausted counting self.now.config self.now.table }
@@ -170,10 +148,11 @@ impl<const FIRST: u32, const SECOND: u32> Fib<FIRST, SECOND> {
 
     /// Puts a rule in.
     ///
-    /// After a refusal the table is as it was. Where no group is free, the one that waits longest in limbo
-    /// is taken, unless a worker holds it.
+    /// After a refusal the table is as it was. Where no group is free, the one that waits longest
+    /// in limbo is taken, unless a worker holds it.
     pub fn add(&mut self, prefix: &Prefix<FIRST, SECOND>, hop: Hop) -> Result<Put, Refusal>
-        ensures adds { Adds counting FIRST SECOND self.old.config self.old.table prefix.now hop result self.new.table }
+        ensures adds { Adds counting FIRST SECOND self.old.config self.old.table
+            prefix.now hop result self.new.table }
         ensures config { self.new.config ≡ self.old.config }
     {
         let _bits = prefix.bits();
@@ -209,7 +188,8 @@ impl<const FIRST: u32, const SECOND: u32> Fib<FIRST, SECOND> {
 
     /// Takes a rule out, and answers the next hop that it had.
     pub fn delete(&mut self, prefix: &Prefix<FIRST, SECOND>) -> Result<Hop, Refusal>
-        ensures deletes { Deletes counting FIRST SECOND self.old.config self.old.table prefix.now result self.new.table }
+        ensures deletes { Deletes counting FIRST SECOND self.old.config self.old.table
+            prefix.now result self.new.table }
         ensures config { self.new.config ≡ self.old.config }
     {
         if self.is_exhausted() {
@@ -233,7 +213,8 @@ impl<const FIRST: u32, const SECOND: u32> Fib<FIRST, SECOND> {
 
     /// Takes all rules out, and answers how many there were. With none it makes no version.
     pub fn flush(&mut self) -> Result<usize, Refusal>
-        ensures flushes { Flushes counting FIRST SECOND self.old.config self.old.table result self.new.table }
+        ensures flushes { Flushes counting FIRST SECOND self.old.config self.old.table
+            result self.new.table }
         ensures config { self.new.config ≡ self.old.config }
     {
         if self.rules.is_empty() {
@@ -249,8 +230,8 @@ impl<const FIRST: u32, const SECOND: u32> Fib<FIRST, SECOND> {
         Ok(count)
     }
 
-    /// Frees groups from the one that waits longest in limbo on, at most `max`, up to the first that a
-    /// worker holds.
+    /// Frees groups from the one that waits longest in limbo on, at most `max`, up to the first
+    /// that a worker holds.
     pub fn reclaim(&mut self, max: usize) -> Reclaimed
         ensures frees { Frees counting self.old.table max result self.new.table }
         ensures config { self.new.config ≡ self.old.config }
@@ -270,7 +251,7 @@ impl<const FIRST: u32, const SECOND: u32> Fib<FIRST, SECOND> {
     pub fn online(&mut self, worker: usize)
         requires worker { worker < self.old.config.workers }
         requires offline { ¬ counting.is_online self.old.table.readers worker }
-        ensures { self.new ≡ record self.old { table = record self.old.table { readers = counting.told report.Online worker self.old.table.readers } } }
+        ensures { self.new ≡ told report.Online worker self.old }
     {
         self.pool.keeper.domain.online(worker);
     }
@@ -279,7 +260,7 @@ impl<const FIRST: u32, const SECOND: u32> Fib<FIRST, SECOND> {
     pub fn offline(&mut self, worker: usize)
         requires worker { worker < self.old.config.workers }
         requires online { counting.is_online self.old.table.readers worker }
-        ensures { self.new ≡ record self.old { table = record self.old.table { readers = counting.told report.Offline worker self.old.table.readers } } }
+        ensures { self.new ≡ told report.Offline worker self.old }
     {
         self.pool.keeper.domain.offline(worker);
     }
@@ -288,14 +269,14 @@ impl<const FIRST: u32, const SECOND: u32> Fib<FIRST, SECOND> {
     pub fn quiescent(&mut self, worker: usize)
         requires worker { worker < self.old.config.workers }
         requires online { counting.is_online self.old.table.readers worker }
-        ensures { self.new ≡ record self.old { table = record self.old.table { readers = counting.told report.Quiescent worker self.old.table.readers } } }
+        ensures { self.new ≡ told report.Quiescent worker self.old }
     {
         self.pool.keeper.domain.quiescent(worker);
     }
 }
 
-/// Whether a rule that the list has no more was longer than a first index, and has left no such rule in
-/// its block.
+/// Whether a rule that the list has no more was longer than `FIRST` bits, and has left no such rule
+/// in its block.
 fn is_last<const FIRST: u32, const SECOND: u32>(
     rules: &Rules<FIRST, SECOND>,
     prefix: &Prefix<FIRST, SECOND>,

@@ -26,7 +26,8 @@ impl Grace for Keeper {
 
     ghost checks = { λ k token r z. IsChecked token k.domain.counters r × (z ≡ k) };
 
-    ghost frees = { λ k group z. (z.domain ≡ k.domain) × (z.groups ≡ slice_set k.groups group Free) };
+    ghost frees = { λ k group z. (z.domain ≡ k.domain)
+        × (z.groups ≡ slice_set k.groups group Free) };
 
     fn check(&mut self, token: u64) -> Result<(), Busy> {
         self.domain.check(token)

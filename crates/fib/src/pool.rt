@@ -14,41 +14,45 @@ pub(crate) struct Pool {
 }
 
 impl Pool {
-    ghost use Rattle.std.specs.Prelude.{◌≡◌, ℕ, ◌+◌, ◌^◌, ◌<◌, ◌≤◌, ◌++◌, [], ◌∷◌, List, length, slice_get, slice_set, drop, Some, ◌≢◌, ◌↔◌, IfOk, MatchResult, MatchOption, IsSomeAnd};
-    ghost use Rattle.lpm_groups.specs.States.{free_count, linked_count, IsLinkedTo};
-    ghost use Rattle.lpm_groups.specs.declared.GroupState.{GroupState};
-    ghost use Rattle.lpm_groups.specs.declared.GroupState.TheVariants.{Linked};
-    ghost use Rattle.fib_model.specs.State.{IsUnheld};
+    ghost use Rattle.std.specs.Prelude.{◌≡◌, ℕ, ◌+◌, ◌^◌, ◌<◌, ◌≢◌, ◌↔◌, drop, length, IfOk, IfErr, OnErr};
+    ghost use Rattle.lpm_groups.specs.States.{linked_count, IsLinkedTo};
     ghost use Rattle.fib_model.specs.Counting.{counting};
     ghost use Rattle.fib_model.specs.Reclaiming.{Reclaims, MakesRoom};
-    ghost use Rattle.fib.specs.Waiting.{AreWaiting, IsQueued, tokens_of, IsFreed, IsTaken};
+    ghost use Rattle.fib.specs.Pool.{FreesSome, GoesLast, HasNone, TakesOldest, tokens};
+    ghost use Rattle.fib.specs.Waiting.{AreWaiting, IsQueued, IsFreed, IsTaken};
 
-    /// Frees groups from the oldest in limbo on, at most `max`, up to the first that a worker holds.
+    /// Frees groups from the oldest in limbo on, at most `max`, up to the first that a worker
+    /// holds.
     pub(crate) fn reclaim(&mut self, max: usize) -> Reclaimed
         requires { AreWaiting self.old.keeper.groups self.old.queue.items }
-        ensures reclaims { Reclaims counting self.old.keeper.domain max (tokens_of self.old.queue.items) result.freed result.stopped (tokens_of self.new.queue.items) }
+        ensures reclaims { Reclaims counting self.old.keeper.domain max (tokens self.old)
+            result.freed result.stopped (tokens self.new) }
         ensures domain { self.new.keeper.domain ≡ self.old.keeper.domain }
-        ensures queue { self.new.queue ≡ record self.old.queue { items = drop result.freed self.old.queue.items } }
+        ensures queue { self.new.queue ≡ record self.old.queue {
+          items = drop result.freed self.old.queue.items;
+        } }
         ensures waiting { AreWaiting self.new.keeper.groups self.new.queue.items }
-        ensures freed { IsFreed self.old.keeper.groups self.old.queue.items result.freed self.new.keeper.groups }
+        ensures freed { IsFreed self.old.keeper.groups self.old.queue.items result.freed
+            self.new.keeper.groups }
         ensures unchanged { result.freed ≡ 0 → self.new ≡ self.old }
     {
         self.queue.reclaim(max, &mut self.keeper)
     }
 
-    /// The group has lost its block: it waits in limbo from now on, under a token of its own. Where more
-    /// than `threshold` groups wait already, some are reclaimed first.
+    /// The group has lost its block: it waits in limbo from now on, under a token of its own. Where
+    /// more than `threshold` groups wait already, some are reclaimed first.
     pub(crate) fn retire(&mut self, group: u32, config: &Config)
         requires linked { (block : ℕ) × IsLinkedTo self.old.keeper.groups group block }
         requires queued { IsQueued self.old.keeper.groups self.old.queue }
         requires token { self.old.keeper.domain.token < 2 ^ 62 }
-        ensures domain { self.new.keeper.domain ≡ record self.old.keeper.domain { token = self.old.keeper.domain.token + 1 } }
-        ensures limbo { (left : List ℕ) × MakesRoom counting config.now (record self.old.keeper.domain { token = self.old.keeper.domain.token + 1 }) (tokens_of self.old.queue.items) left
-            × (tokens_of self.new.queue.items ≡ left ++ (self.old.keeper.domain.token + 1) ∷ []) }
+        ensures domain { self.new.keeper.domain ≡ counting.unlinked self.old.keeper.domain }
+        ensures limbo { GoesLast config.now self.old self.new }
         ensures queued { IsQueued self.new.keeper.groups self.new.queue }
         ensures states { length self.new.keeper.groups ≡ length self.old.keeper.groups }
-        ensures linked { linked_count self.new.keeper.groups + 1 ≡ linked_count self.old.keeper.groups }
-        ensures others { (g b : ℕ) → g ≢ group → (IsLinkedTo self.new.keeper.groups g b ↔ IsLinkedTo self.old.keeper.groups g b) }
+        ensures linked { linked_count self.new.keeper.groups + 1
+            ≡ linked_count self.old.keeper.groups }
+        ensures others { (g b : ℕ) → g ≢ group
+            → (IsLinkedTo self.new.keeper.groups g b ↔ IsLinkedTo self.old.keeper.groups g b) }
         ensures gone { (b : ℕ) → ¬ IsLinkedTo self.new.keeper.groups group b }
     {
         let token = self.keeper.domain.start();
@@ -60,10 +64,10 @@ impl Pool {
     /// Frees some groups where more than `threshold` of them wait.
     fn make_room(&mut self, config: &Config)
         requires { AreWaiting self.old.keeper.groups self.old.queue.items }
-        ensures room { MakesRoom counting config.now self.old.keeper.domain (tokens_of self.old.queue.items) (tokens_of self.new.queue.items) }
+        ensures room { MakesRoom counting config.now self.old.keeper.domain
+            (tokens self.old) (tokens self.new) }
         ensures domain { self.new.keeper.domain ≡ self.old.keeper.domain }
-        ensures freed { (n : ℕ) × (n ≤ length self.old.queue.items) × (self.new.queue ≡ record self.old.queue { items = drop n self.old.queue.items })
-            × IsFreed self.old.keeper.groups self.old.queue.items n self.new.keeper.groups }
+        ensures freed { FreesSome self.old self.new }
         ensures waiting { AreWaiting self.new.keeper.groups self.new.queue.items }
     {
         if self.queue.len() <= config.threshold {
@@ -72,16 +76,15 @@ impl Pool {
         self.reclaim(config.reclaim_max);
     }
 
-    /// Links the least free group to the block, and answers it. Where none is free, the oldest in limbo is
-    /// freed first; the error is the worker that holds it, none where no group waits.
+    /// Links the least free group to the block, and returns it. Where none is free, the oldest in
+    /// limbo is freed first; the error is the worker that holds it, none where no group waits.
     pub(crate) fn take(&mut self, block: usize) -> Result<u32, Option<Busy>>
         requires queued { IsQueued self.old.keeper.groups self.old.queue }
-        ensures taken { MatchResult result
-            (λ g. (0 < free_count self.old.keeper.groups → tokens_of self.new.queue.items ≡ tokens_of self.old.queue.items)
-            × (free_count self.old.keeper.groups ≡ 0 → (u : ℕ) × IsUnheld counting self.old.keeper.domain u × (tokens_of self.old.queue.items ≡ u ∷ tokens_of self.new.queue.items)))
-            (λ oldest. (self.new ≡ self.old) × (free_count self.old.keeper.groups ≡ 0)
-            × MatchOption oldest (tokens_of self.old.queue.items ≡ []) (λ busy. IsSomeAnd (slice_get (tokens_of self.old.queue.items) 0) (λ u. counting.is_held_by self.old.keeper.domain u busy))) }
-        ensures linked { IfOk result (λ g. IsTaken self.old.keeper.groups g block self.new.keeper.groups) }
+        ensures taken { IfOk result (λ _. TakesOldest self.old self.new) }
+        ensures none { IfErr result (HasNone self.old) }
+        ensures unchanged { OnErr result (self.new ≡ self.old) }
+        ensures linked { IfOk result
+            (λ g. IsTaken self.old.keeper.groups g block self.new.keeper.groups) }
         ensures domain { self.new.keeper.domain ≡ self.old.keeper.domain }
         ensures queued { IsQueued self.new.keeper.groups self.new.queue }
     {

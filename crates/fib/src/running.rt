@@ -1,16 +1,14 @@
 //! Whole changes of the words, with the groups that they take and give up.
 
-ghost use Rattle.std.specs.Prelude.{◌≡◌, ℕ, ◌+◌, ◌-◌, ◌*◌, ◌/◌, ◌^◌, ◌<◌, ◌≤◌, ◌⊎◌, Some, None, IfOk, IfErr, OnErr, IsSome, MatchOption, MatchResult, IsSomeAnd, IsTrue, ◌↔◌, List, [], ◌∷◌, length, slice_get};
-ghost use Rattle.lpm_groups.specs.States.{linked_count, free_count};
+ghost use Rattle.std.specs.Prelude.{◌≡◌, ◌+◌, ◌/◌, ◌^◌, ◌<◌, ◌≤◌, ◌↔◌, IfOk, IfErr, OnErr, IsSome, IsTrue, length};
+ghost use Rattle.lpm_groups.specs.States.{linked_count};
 ghost use Rattle.lpm_rules.specs.RuleMap.{RuleMap, AllNetworks};
 ghost use Rattle.lpm_update.specs.Linked.{IsTable, group_at};
 ghost use Rattle.lpm_update.specs.Leads.{IsAnswering, IsBegun, Leads, AddFits, held_with};
 ghost use Rattle.lpm_update.specs.Update.{group_held};
 ghost use Rattle.lpm_update.specs.Tied.{IsTied};
-ghost use Rattle.fib_model.specs.State.{IsUnheld};
-ghost use Rattle.fib_model.specs.Counting.{counting};
-ghost use Rattle.fib_model.specs.Reclaiming.{Unlinks};
-ghost use Rattle.fib.specs.Waiting.{IsQueued, tokens_of};
+ghost use Rattle.fib.specs.Pool.{HasNone, IsFound, NeedsGroup, UnlinksSome};
+ghost use Rattle.fib.specs.Waiting.{IsQueued};
 
 use super::Pool;
 use lpm_bits::{Prefix, Shape};
@@ -18,7 +16,8 @@ use lpm_cells::PlainCells;
 use lpm_update::{Did, Update};
 use qsbr::{Busy, Config};
 
-/// Makes all stores of a change, upwards; each group that it unlinks goes into limbo directly after.
+/// Makes all stores of a change, upwards; each group that it unlinks goes into limbo directly
+/// after.
 pub(crate) fn run<const FIRST: u32, const SECOND: u32>(
     update: Update,
     cells: &mut PlainCells<FIRST, SECOND>,
@@ -30,14 +29,16 @@ pub(crate) fn run<const FIRST: u32, const SECOND: u32>(
     requires tied { IsTied FIRST pool.old.keeper.groups (group_held update cells.old.firsts) }
     requires queued { IsQueued pool.old.keeper.groups pool.old.queue }
     requires tokens { pool.old.keeper.domain.token + length pool.old.keeper.groups ≤ 2 ^ 62 }
-    ensures answering { (R R' : RuleMap) → IsAnswering FIRST SECOND R cells.old.firsts cells.old.seconds → AllNetworks (FIRST + SECOND) R'
-        → Leads FIRST SECOND update R R' → IsAnswering FIRST SECOND R' cells.new.firsts cells.new.seconds }
+    ensures answering { (R R' : RuleMap)
+        → IsAnswering FIRST SECOND R cells.old.firsts cells.old.seconds
+        → AllNetworks (FIRST + SECOND) R' → Leads FIRST SECOND update R R'
+        → IsAnswering FIRST SECOND R' cells.new.firsts cells.new.seconds }
     ensures tied { IsTied FIRST pool.new.keeper.groups (group_at cells.new.firsts) }
-    ensures sizes { (cells.new.groups ≡ cells.old.groups) × (length pool.new.keeper.groups ≡ length pool.old.keeper.groups) }
+    ensures groups { cells.new.groups ≡ cells.old.groups }
+    ensures states { length pool.new.keeper.groups ≡ length pool.old.keeper.groups }
     ensures queued { IsQueued pool.new.keeper.groups pool.new.queue }
     ensures fewer { linked_count pool.new.keeper.groups ≤ linked_count pool.old.keeper.groups }
-    ensures unlinks { Unlinks counting config.now (linked_count pool.old.keeper.groups - linked_count pool.new.keeper.groups)
-        pool.old.keeper.domain (tokens_of pool.old.queue.items) pool.new.keeper.domain (tokens_of pool.new.queue.items) }
+    ensures unlinks { UnlinksSome config.now pool.old pool.new }
 {
     let mut update = update;
     let _groups = cells.groups();
@@ -56,39 +57,38 @@ pub(crate) fn is_linked<const FIRST: u32, const SECOND: u32>(
     prefix: &Prefix<FIRST, SECOND>,
     cells: &PlainCells<FIRST, SECOND>,
 ) -> bool
-    ensures { IsTrue result ↔ IsSome (group_at cells.now.firsts (prefix.now.bits / 2 ^ SECOND)) }
+    ensures { IsTrue result
+        ↔ IsSome (group_at cells.now.firsts (prefix.now.bits / 2 ^ SECOND)) }
 {
     let bits = prefix.bits();
     cells.is_linked(Shape::<FIRST, SECOND>::first_index(bits))
 }
 
-/// The group by which a rule is added: none where it needs no new one, and else the one that is then
-/// linked to the rule's block. The error is that it needs one and none can be had, and the worker that
-/// holds the oldest group in limbo.
+/// The group by which a rule is added: none where it needs no new one, and else the one that is
+/// then linked to the rule's block. The error is that it needs one and none can be had, and the
+/// worker that holds the oldest group in limbo.
 pub(crate) fn group_for<const FIRST: u32, const SECOND: u32>(
     prefix: &Prefix<FIRST, SECOND>,
     linked: bool,
     cells: &PlainCells<FIRST, SECOND>,
     pool: &mut Pool,
 ) -> Result<Option<u32>, Option<Busy>>
-    requires linked { IsTrue linked ↔ IsSome (group_at cells.now.firsts (prefix.now.bits / 2 ^ SECOND)) }
+    requires linked { IsTrue linked
+        ↔ IsSome (group_at cells.now.firsts (prefix.now.bits / 2 ^ SECOND)) }
     requires table { IsTable FIRST SECOND cells.now.firsts cells.now.seconds }
     requires tied { IsTied FIRST pool.old.keeper.groups (group_at cells.now.firsts) }
     requires queued { IsQueued pool.old.keeper.groups pool.old.queue }
     requires sizes { length pool.old.keeper.groups ≡ cells.now.groups }
-    ensures group { MatchResult result
-        (λ group. MatchOption group
-        ((pool.new ≡ pool.old) × ((prefix.now.len ≤ FIRST) ⊎ IsSome (group_at cells.now.firsts (prefix.now.bits / 2 ^ SECOND))))
-        (λ g. (FIRST < prefix.now.len) × (group_at cells.now.firsts (prefix.now.bits / 2 ^ SECOND) ≡ None)
-        × (linked_count pool.new.keeper.groups ≡ linked_count pool.old.keeper.groups + 1)
-        × (0 < free_count pool.old.keeper.groups → tokens_of pool.new.queue.items ≡ tokens_of pool.old.queue.items)
-        × (free_count pool.old.keeper.groups ≡ 0 → (u : ℕ) × IsUnheld counting pool.old.keeper.domain u × (tokens_of pool.old.queue.items ≡ u ∷ tokens_of pool.new.queue.items))))
-        (λ oldest. (pool.new ≡ pool.old) × (FIRST < prefix.now.len) × (group_at cells.now.firsts (prefix.now.bits / 2 ^ SECOND) ≡ None) × (free_count pool.old.keeper.groups ≡ 0)
-        × MatchOption oldest (tokens_of pool.old.queue.items ≡ []) (λ busy. IsSomeAnd (slice_get (tokens_of pool.old.queue.items) 0) (λ u. counting.is_held_by pool.old.keeper.domain u busy))) }
+    ensures found { IfOk result (λ group.
+        IsFound FIRST SECOND cells.now.firsts prefix.now pool.old group pool.new) }
+    ensures needs { OnErr result (NeedsGroup FIRST SECOND cells.now.firsts prefix.now) }
+    ensures none { IfErr result (HasNone pool.old) }
+    ensures unchanged { OnErr result (pool.new ≡ pool.old) }
     ensures fits { (R : RuleMap) → IsAnswering FIRST SECOND R cells.now.firsts cells.now.seconds
         → IfOk result (AddFits FIRST SECOND R prefix.now cells.now.firsts cells.now.seconds) }
     ensures some { IfOk result (λ group. IsSome group → FIRST < prefix.now.len) }
-    ensures tied { IfOk result (λ group. IsTied FIRST pool.new.keeper.groups (held_with group (prefix.now.bits / 2 ^ SECOND) cells.now.firsts)) }
+    ensures tied { IfOk result (λ group. IsTied FIRST pool.new.keeper.groups
+        (held_with group (prefix.now.bits / 2 ^ SECOND) cells.now.firsts)) }
     ensures domain { pool.new.keeper.domain ≡ pool.old.keeper.domain }
     ensures queued { IsQueued pool.new.keeper.groups pool.new.queue }
     ensures states { length pool.new.keeper.groups ≡ length pool.old.keeper.groups }

@@ -136,7 +136,7 @@ fn run_case(rt: &impl Abort, alloc: Global, case: &Case) -> Result<Fib<24, 8>, F
     for plain in case.commands {
         commands.push(command(rt, *plain))?;
     }
-    let outcomes = fib.run(alloc, &commands)?;
+    let outcomes = fib.execute_all(alloc, &commands)?;
     let name = case.name;
     assert_eq!(rt; outcomes.len(), case.outcomes.len(), "{name}");
     for (outcome, text) in outcomes.iter().zip(case.outcomes) {
@@ -287,7 +287,7 @@ fn full_block(rt: HostRuntime) -> Result<(), Fail> {
     for last in 0..256 {
         commands.push(command(&rt, Plain::Add([10, 0, 0, last], 32, 9)))?;
     }
-    let outcomes = fib.run(alloc, &commands)?;
+    let outcomes = fib.execute_all(alloc, &commands)?;
     assert!(rt;
         outcomes
             .iter()

@@ -1,11 +1,12 @@
 -- What the matches of a command line ask for (clap 4, "Builder reference": `ArgMatches`), and why
 -- there are none.
-use Rattle.std.specs.Prelude.{◌≡◌, ℕ, ◌≤◌, List, [], Option, Some, codes}
+use Rattle.std.specs.Prelude.{◌≡◌, ℕ, List, [], Option, Some, codes}
 use Rattle.std.specs.Str.Parse.{IsNumeral, digits_value, without_leading_plus}
 use Rattle.clap.specs.Words.{Row, Text, Kinds, IsAmong, first_of, one_of, kind_of}
+use Rattle.lpm_limits.specs.declared.config.Config.{Config}
+use Rattle.lpm_limits.specs.Limits.{IsConfig, default_config}
 use Rattle.lpm_options.specs.declared.CommandLine.{CommandLine}
 use Rattle.lpm_options.specs.declared.CommandLine.TheVariants.{Lookup}
-use Rattle.lpm_options.specs.declared.limits.Limits.{Limits}
 use Rattle.lpm_options.specs.declared.Refused.{Refused}
 use Rattle.lpm_options.specs.declared.Refused.TheVariants.{Usage, Memory, NoCommand}
 
@@ -18,23 +19,26 @@ abbrev pub HasNumber : List Row → Text → ℕ → Type 0
 HasNumber rows id n = (text : Text) × (one_of id rows ≡ Some text)
     × IsNumeral 10 (without_leading_plus text) × (digits_value 10 (without_leading_plus text) ≡ n)
 
--- each limit is the number of its option, in its range
-pub record AreLimits (rows : List Row) (limits : Limits) : Type 0 where
-  pub rules : HasNumber rows (codes "rules") limits.rules
-  pub rules_range : (1 ≤ limits.rules) × (limits.rules ≤ 16777216)
-  pub groups : HasNumber rows (codes "groups") limits.groups
-  pub groups_range : (1 ≤ limits.groups) × (limits.groups ≤ 65536)
-  pub threshold : HasNumber rows (codes "threshold") limits.threshold
-  pub threshold_range : limits.threshold ≤ 65536
-  pub reclaim_max : HasNumber rows (codes "max") limits.reclaim_max
-  pub reclaim_max_range : (1 ≤ limits.reclaim_max) × (limits.reclaim_max ≤ 65536)
+-- each limit is the number of its option, and no worker reads the table
+pub record AreLimits (rows : List Row) (config : Config) : Type 0 where
+  pub in_range : IsConfig config
+  pub rules : HasNumber rows (codes "rules") config.rules
+  pub groups : HasNumber rows (codes "groups") config.groups
+  pub workers : config.workers ≡ 0
+  pub threshold : HasNumber rows (codes "threshold") config.threshold
+  pub reclaim_max : HasNumber rows (codes "max") config.reclaim_max
+  pub first_token : config.first_token ≡ default_config.first_token
+
+-- the command's limits are in their ranges
+abbrev pub IsInRange : CommandLine → Type 0
+IsInRange (Lookup routes addresses config) = IsConfig config
 
 -- the matches of the command of this name ask for this
 abbrev pub Asks : Text → List Row → CommandLine → Type 0
-Asks name rows (Lookup routes addresses limits) = (name ≡ codes "lookup")
+Asks name rows (Lookup routes addresses config) = (name ≡ codes "lookup")
     × HasFile rows (codes "ROUTES") routes.now
     × HasFile rows (codes "ADDRESSES") addresses.now
-    × AreLimits rows limits
+    × AreLimits rows config
 
 -- the matches have a command, which asks for this
 abbrev pub IsAskedBy : Option (Text × List Row) → CommandLine → Type 0

@@ -1,17 +1,15 @@
 //! The command line of `lpmtool`, read by `clap`.
 #![tactic(auto)]
 
-ghost use Rattle.std.specs.Prelude.{◌≡◌, IfOk, IfErr, IfSome, map, false, ℕ, ◌≤◌, Some};
+ghost use Rattle.std.specs.Prelude.{◌≡◌, IfOk, IfErr, IfSome, map, false, ℕ, Some};
 ghost use Rattle.clap.specs.Words.{app_of, rule_of, subcommand_of, fault_of, rows_of, found_of, Kinds, HasKind};
 ghost use Rattle.lpm_options.specs.Commands.{file_rule, number_rule, lookup_app, with_limits, with_reclaiming, the_app};
-ghost use Rattle.lpm_options.specs.Asked.{HasNumber, AreLimits, Asks, IsAskedBy, IsRefusalBy};
-
-mod limits;
+ghost use Rattle.lpm_options.specs.Asked.{HasNumber, AreLimits, Asks, IsAskedBy, IsInRange, IsRefusalBy};
 
 use clap::builder::ValueParser;
 use clap::error::ErrorKind;
 use clap::{Arg, ArgMatches, Command, Error};
-pub use limits::Limits;
+use lpm_limits::{Config, Range};
 use std::alloc::{AllocError, Global};
 use std::convert::AsStr;
 
@@ -38,8 +36,8 @@ pub enum CommandLine<'a> {
         routes: &'a str,
         /// The path of the address file.
         addresses: &'a str,
-        /// The sizes of the table.
-        limits: Limits,
+        /// The limits of the table, which has no workers.
+        config: Config,
     },
 }
 
@@ -59,6 +57,7 @@ pub enum Refused {
 /// Where the words ask for help, that is a `Usage` whose error doesn't go to standard error.
 pub fn options<'a, S: AsStr>(alloc: Global, words: &'a [S]) -> Result<CommandLine<'a>, Refused>
     ensures asked { IfOk result (IsAskedBy (subcommand_of the_app (map S.text words.entry.now))) }
+    ensures in_range { IfOk result IsInRange }
     ensures refused { IfErr result (IsRefusalBy (fault_of the_app (map S.text words.entry.now))) }
 {
     let Ok(command) = whole_command(alloc) else {
@@ -112,8 +111,8 @@ fn lookup_command<'a>(alloc: Global) -> Result<Command<'a>, AllocError>
 fn with_limits<'a>(alloc: Global, command: Command<'a>) -> Result<Command<'a>, AllocError>
     ensures { IfOk result (λ c. app_of c ≡ with_limits (app_of command.entry)) }
 {
-    let rules = number(alloc, "rules", "1048576", 1, 16_777_216, RULES);
-    let groups = number(alloc, "groups", "256", 1, 65_536, GROUPS);
+    let rules = number(alloc, "rules", Config::RULES, "1048576", RULES);
+    let groups = number(alloc, "groups", Config::GROUPS, "256", GROUPS);
     let command = command.arg(rules)?.arg(groups)?;
     with_reclaiming(alloc, command)
 }
@@ -122,8 +121,8 @@ fn with_limits<'a>(alloc: Global, command: Command<'a>) -> Result<Command<'a>, A
 fn with_reclaiming<'a>(alloc: Global, command: Command<'a>) -> Result<Command<'a>, AllocError>
     ensures { IfOk result (λ c. app_of c ≡ with_reclaiming (app_of command.entry)) }
 {
-    let threshold = number(alloc, "threshold", "32", 0, 65_536, THRESHOLD);
-    let max = number(alloc, "max", "16", 1, 65_536, MAX);
+    let threshold = number(alloc, "threshold", Config::THRESHOLD, "32", THRESHOLD);
+    let max = number(alloc, "max", Config::RECLAIM_MAX, "16", MAX);
     command.arg(threshold)?.arg(max)
 }
 
@@ -135,67 +134,60 @@ fn file<'a>(alloc: Global, id: &'a str, help: &'a str) -> Arg<'a>
     Arg::new(alloc, id).required(true).help(help)
 }
 
-// An option that takes a number from low to high.
-fn number<'a>(
-    alloc: Global,
-    id: &'a str,
-    default: &'a str,
-    low: u64,
-    high: u64,
-    help: &'a str,
-) -> Arg<'a>
-    ensures rule { rule_of result ≡ number_rule id.entry.now default.entry.now low high }
+// An option that takes a number of the range.
+fn number<'a>(alloc: Global, id: &'a str, range: Range, default: &'a str, help: &'a str) -> Arg<'a>
+    ensures rule { rule_of result ≡ number_rule id.entry.now range default.entry.now }
     ensures plain { result.global ≡ false }
 {
     Arg::new(alloc, id)
         .long(id)
         .value_name("N")
         .default_value(default)
-        .value_parser(ValueParser::unsigned(low, high))
+        .value_parser(ValueParser::unsigned(range.first, range.last))
         .help(help)
 }
 
 // What the matches of the command of this name ask for.
 fn command_line<'a>(name: &'a str, found: &ArgMatches<'a>) -> Option<CommandLine<'a>>
-    ensures { IfSome result (Asks name.entry.now (rows_of (found_of found.now))) }
+    ensures asked { IfSome result (Asks name.entry.now (rows_of (found_of found.now))) }
+    ensures in_range { IfSome result IsInRange }
 {
     if name == "lookup" {
         let routes = found.get_str("ROUTES")?;
         let addresses = found.get_str("ADDRESSES")?;
-        let limits = limits_of(found)?;
+        let config = config_of(found)?;
         return Some(CommandLine::Lookup {
             routes,
             addresses,
-            limits,
+            config,
         });
     }
     None
 }
 
-fn limits_of(found: &ArgMatches<'_>) -> Option<Limits>
+// The limits of a table that no worker reads.
+fn config_of(found: &ArgMatches<'_>) -> Option<Config>
     ensures { IfSome result (AreLimits (rows_of (found_of found.now))) }
 {
-    let rules = number_of(found, "rules", 1, 16_777_216)?;
-    let groups = number_of(found, "groups", 1, 65_536)?;
-    let threshold = number_of(found, "threshold", 0, 65_536)?;
-    let reclaim_max = number_of(found, "max", 1, 65_536)?;
-    Some(Limits {
-        rules,
-        groups,
-        threshold,
-        reclaim_max,
-    })
+    let config = Config {
+        rules: number_of(found, "rules")?,
+        groups: number_of(found, "groups")?,
+        workers: 0,
+        threshold: number_of(found, "threshold")?,
+        reclaim_max: number_of(found, "max")?,
+        ..Config::default()
+    };
+    match config.check() {
+        Ok(()) => Some(config),
+        Err(_) => None,
+    }
 }
 
-// The number of the option, where it is from low to high.
-fn number_of(found: &ArgMatches<'_>, id: &str, low: usize, high: usize) -> Option<usize>
-    ensures value { IfSome result (HasNumber (rows_of (found_of found.now)) id.now) }
-    ensures range { IfSome result (λ n. (low ≤ n) × (n ≤ high)) }
+// The number of the option.
+fn number_of(found: &ArgMatches<'_>, id: &str) -> Option<usize>
+    ensures { IfSome result (HasNumber (rows_of (found_of found.now)) id.now) }
 {
-    match found.get_one::<usize>(id) {
-        Some(n) if low <= n && n <= high => Some(n),
-        _ => None,
-    }
+    found.get_one::<usize>(id)
 }
 
 #[cfg(test)]

@@ -79,14 +79,14 @@ fn lookup_with_its_default_and_each_option(rt: HostRuntime) -> Result<(), Fail> 
         let CommandLine::Lookup {
             routes,
             addresses,
-            limits,
+            config,
         } = line;
         assert_eq!(rt; (routes, addresses), ("r", "a"), "{words:?}");
         let found = [
-            limits.rules,
-            limits.groups,
-            limits.threshold,
-            limits.reclaim_max,
+            config.rules,
+            config.groups,
+            config.threshold,
+            config.reclaim_max,
         ];
         assert_eq!(rt; found, numbers, "{words:?}");
     }

@@ -1,9 +1,7 @@
 use Rattle.std.proofs.Common.{arith, ap, ◌∙◌, subst, ◌≡◌, ◌/◌, ◌^◌, None}
-use Rattle.std.specs.Prelude.{slice_index}
 use Rattle.std.proofs.lemmas.Nat.{shr_below}
-use Rattle.lpm_entry.specs.Words.{entry_in}
 use Rattle.lpm_update.specs.Linked.{group_at}
-use Rattle.lpm_update.proofs.Taking.{shallow, no_group_at}
+use Rattle.lpm_update.proofs.Taking.{shallow}
 use Rattle.fib.specs.Waiting.{IsTaken}
 use Rattle.fib.proofs.Changing.{tied_took, fresh_taken, unlinked_none}
 use Rattle.fib.proofs.running.group_for.Goals as goal
@@ -26,7 +24,10 @@ returns-in-Ok g c =
     let taken = subst (λ x. IsTaken xs n x ys) block c.in-Ok.ensures.linked in
     let long = c.if-len.false in
     record {
-      group = (omega arith, none, taken.linked, c.in-Ok.ensures.taken.0, c.in-Ok.ensures.taken.1);
+      found = ((omega arith, none), taken.linked, c.in-Ok.ensures.taken);
+      needs = tt;
+      none = tt;
+      unchanged = tt;
       fits = λ R answering. (
         omega arith,
         shallow f s R F b answering.groups low none,

@@ -3,12 +3,9 @@ use Rattle.std.specs.FinMap as map
 use Rattle.std.proofs.lemmas.Nat.{shr_below}
 use Rattle.lpm_rules.specs.RuleMap.{RuleList}
 use Rattle.lpm_rules.proofs.Changes.{networks_insert}
-use Rattle.lpm_cells.specs.Table.{Words}
 use Rattle.lpm_groups.specs.States.{linked_count}
-use Rattle.lpm_update.specs.Linked.{IsTable, group_at}
-use Rattle.lpm_update.specs.Leads.{IsAnswering, IsBegun, held_with}
-use Rattle.lpm_update.specs.Update.{group_held}
-use Rattle.lpm_update.specs.Tied.{IsTied}
+use Rattle.lpm_update.specs.Linked.{group_at}
+use Rattle.lpm_update.specs.Leads.{IsAnswering, held_with}
 use Rattle.lpm_update.proofs.DeepCounts.{linked_deep}
 use Rattle.lpm_update.proofs.Resting.{tied_held, taken_back}
 use Rattle.qsbr.specs.Registry.{Registry}
@@ -19,8 +16,8 @@ use Rattle.fib_model.specs.Reclaiming.{Unlinks}
 use Rattle.fib_model.specs.Outcomes.{Adds}
 use Rattle.fib.specs.declared.pool.Pool.{Pool}
 use Rattle.fib.specs.Waiting.{tokens_of}
-use Rattle.fib.specs.Standing.{FibState, table_of}
-use Rattle.fib.proofs.Standing.{not_exhausted, not_true, standing_after, standing_same, unlinks_counters}
+use Rattle.fib.specs.Fib.{FibState, table_of}
+use Rattle.fib.proofs.Sound.{not_exhausted, not_true, sound_after, sound_same, unlinks_counters}
 use Rattle.fib.proofs.Adding.{found_linked, takes_group, adds_made, lacks, absent, put_room}
 use Rattle.fib.proofs.fib.Fib.add.Goals as goal
 
@@ -67,11 +64,11 @@ invariant_of-self-in-Ok-group_for g c =
     let network = c.bits-bits.ensures.network in
     let before = not_exhausted c.args.self.now.config c.args.self.now.table (not_true c.is_exhausted.result _ c.if-is_exhausted.false c.is_exhausted.ensures) in
     let tokens = subst (λ (z : FibState). HasTokens counting z.config z.table) (sym c.self.view_is) before in
-    standing_after f s x.config x.rules c.put.new.self x.cells c.run.new.cells x.pool.keeper.groups c.run.new.pool.keeper.groups x.pool.keeper.domain c.run.new.pool.keeper.domain x.pool.queue c.run.new.pool.queue x.versions known
+    sound_after f s x.config x.rules c.put.new.self x.cells c.run.new.cells x.pool.keeper.groups c.run.new.pool.keeper.groups x.pool.keeper.domain c.run.new.pool.keeper.domain x.pool.queue c.run.new.pool.queue x.versions known
     (ap (λ (r : RuleList). r.max) c.in-Ok.ensures.ok)
     (subst (λ R. IsAnswering f s R c.run.new.cells.firsts c.run.new.cells.seconds) (sym made)
     (run.answering x.rules.rules (map.insert x.rules.rules p h) answering (networks_insert (f + s) x.rules.rules p h network known.answering.networks) leads.1))
-    run.tied run.queued run.sizes.0 (run.sizes.1 ∙ c.group_for.ensures.states)
+    run.tied run.queued run.groups (run.states ∙ c.group_for.ensures.states)
     (unlinks_counters x.config (linked_count c.group_for.new.pool.keeper.groups - linked_count c.run.new.pool.keeper.groups) c.group_for.new.pool.keeper.domain c.run.new.pool.keeper.domain
     (tokens_of c.group_for.new.pool.queue.items) (tokens_of c.run.new.pool.queue.items) run.unlinks ∙ ap (λ (r : Registry). r.counters) c.group_for.ensures.domain) tokens.1
 
@@ -90,7 +87,7 @@ returns-in-Ok-group_for g c =
     let low = shr_below p.bits f s network.1 in
     let group = c.in-Ok-group_for.group in
     let pool = c.group_for.new.pool in
-    let found = c.in-Ok-group_for.ensures.group in
+    let found = c.in-Ok-group_for.ensures.found in
     let before = not_exhausted c.args.self.now.config c.args.self.now.table (not_true c.is_exhausted.result _ c.if-is_exhausted.false c.is_exhausted.ensures) in
     let tokens : HasTokens counting x.config S = subst (λ (z : FibState). HasTokens counting z.config z.table) (sym c.self.view_is) before in
     let fits = c.in-Ok-group_for.ensures.fits x.rules.rules known.answering in
@@ -122,13 +119,14 @@ invariant_of-self-in-Err g c =
     let h = c.args.hop in
     let known = c.self.invariant in
     let low = shr_below p.bits f s c.bits-bits.ensures.network.1 in
-    let none = c.in-Err.ensures.group in
+    let refused = c.in-Err.ensures in
+    let needs = refused.needs in
     let put = c.in-Ok.ensures in
-    let new = absent f s x.config x.rules x.cells x.pool x.versions known p low none.1 none.2 in
+    let new = absent f s x.config x.rules x.cells x.pool x.versions known p low needs.0 needs.1 in
     let back = taken_back x.rules p h c.put.new.self c.remove.new.self c.remove.result put.ok new c.remove.ensures.hop c.remove.ensures.ok in
-    standing_same f s x.config x.rules c.remove.new.self x.cells x.cells x.pool.keeper.groups c.group_for.new.pool.keeper.groups x.pool.keeper.domain c.group_for.new.pool.keeper.domain
+    sound_same f s x.config x.rules c.remove.new.self x.cells x.cells x.pool.keeper.groups c.group_for.new.pool.keeper.groups x.pool.keeper.domain c.group_for.new.pool.keeper.domain
     x.pool.queue c.group_for.new.pool.queue x.versions known back refl
-    (ap (λ (y : Pool). y.keeper.groups) none.0) (ap (λ (y : Pool). y.keeper.domain) none.0) (ap (λ (y : Pool). y.queue) none.0)
+    (ap (λ (y : Pool). y.keeper.groups) refused.unchanged) (ap (λ (y : Pool). y.keeper.domain) refused.unchanged) (ap (λ (y : Pool). y.queue) refused.unchanged)
 
 pub returns-in-Err : goal.returns-in-Err
 returns-in-Err g c =
@@ -140,18 +138,19 @@ returns-in-Err g c =
     let known = c.self.invariant in
     let S : State Registry = table_of x.rules.rules x.pool.keeper.domain x.pool.queue.items x.versions in
     let low = shr_below p.bits f s c.bits-bits.ensures.network.1 in
-    let none = c.in-Err.ensures.group in
+    let refused = c.in-Err.ensures in
+    let needs = refused.needs in
     let put = c.in-Ok.ensures in
-    let new = absent f s x.config x.rules x.cells x.pool x.versions known p low none.1 none.2 in
+    let new = absent f s x.config x.rules x.cells x.pool x.versions known p low needs.0 needs.1 in
     let back = taken_back x.rules p h c.put.new.self c.remove.new.self c.remove.result put.ok new c.remove.ensures.hop c.remove.ensures.ok in
     let room = put_room x.rules.rules p h x.rules.max c.in-Ok.put put.unchanged.0 put.replaced.0 (λ e. put.new.0 (inl e)) new in
     let before = not_exhausted c.args.self.now.config c.args.self.now.table (not_true c.is_exhausted.result _ c.if-is_exhausted.false c.is_exhausted.ensures) in
     let tokens : HasTokens counting x.config S = subst (λ (z : FibState). HasTokens counting z.config z.table) (sym c.self.view_is) before in
     let state : table_of c.remove.new.self.rules c.group_for.new.pool.keeper.domain c.group_for.new.pool.queue.items x.versions ≡ S =
     ap (λ (r : RuleList). table_of r.rules c.group_for.new.pool.keeper.domain c.group_for.new.pool.queue.items x.versions) back
-    ∙ ap (λ (y : Pool). table_of x.rules.rules y.keeper.domain y.queue.items x.versions) none.0 in
+    ∙ ap (λ (y : Pool). table_of x.rules.rules y.keeper.domain y.queue.items x.versions) refused.unchanged in
     let adds : Adds counting f s x.config S p h (Err (NoGroups c.in-Err.oldest)) S =
-    ((new, tokens, subst (λ m. map.len x.rules.rules < m) known.max room), lacks f s x.config x.rules x.cells x.pool x.versions known p low none.1 none.2 none.3, none.4, refl) in
+    ((new, tokens, subst (λ m. map.len x.rules.rules < m) known.max room), lacks f s x.config x.rules x.cells x.pool x.versions known p low needs.0 needs.1 refused.none.0, refused.none.1, refl) in
     record {
       adds = subst (λ (z : FibState). Adds counting f s z.config z.table p h (Err (NoGroups c.in-Err.oldest)) (table_of c.remove.new.self.rules c.group_for.new.pool.keeper.domain c.group_for.new.pool.queue.items x.versions)) c.self.view_is
           (subst (λ z. Adds counting f s x.config S p h (Err (NoGroups c.in-Err.oldest)) z) (sym state) adds);

@@ -12,8 +12,8 @@ use Rattle.fib_model.specs.Counting.{counting}
 use Rattle.fib_model.specs.Reclaiming.{Unlinks}
 use Rattle.fib_model.specs.Outcomes.{Flushes, groups_in_use}
 use Rattle.fib.specs.Waiting.{tokens_of}
-use Rattle.fib.specs.Standing.{FibState, table_of, IsStanding}
-use Rattle.fib.proofs.Standing.{not_exhausted, not_true, standing_after, standing_linked, unlinks_counters}
+use Rattle.fib.specs.Fib.{FibState, table_of, IsSound}
+use Rattle.fib.proofs.Sound.{not_exhausted, not_true, sound_after, sound_linked, unlinks_counters}
 use Rattle.fib.proofs.fib.Fib.flush.Goals as goal
 
 pub run-requires : goal.run-requires
@@ -38,10 +38,10 @@ invariant_of-self g c =
     let before = not_exhausted c.args.self.now.config c.args.self.now.table (not_true c.is_exhausted.result _ c.if-is_exhausted.false c.is_exhausted.ensures) in
     let tokens = subst (λ (z : FibState). HasTokens counting z.config z.table) (sym c.self.view_is) before in
     let run = c.run.ensures in
-    standing_after f s x.config x.rules c.clear-count.new.self x.cells c.run.new.cells x.pool.keeper.groups c.run.new.pool.keeper.groups x.pool.keeper.domain c.run.new.pool.keeper.domain x.pool.queue c.run.new.pool.queue x.versions known
+    sound_after f s x.config x.rules c.clear-count.new.self x.cells c.run.new.cells x.pool.keeper.groups c.run.new.pool.keeper.groups x.pool.keeper.domain c.run.new.pool.keeper.domain x.pool.queue c.run.new.pool.queue x.versions known
     (ap (λ (r : RuleList). r.max) c.clear-count.ensures.empty)
     (subst (λ R. IsAnswering f s R c.run.new.cells.firsts c.run.new.cells.seconds) (sym gone) (run.answering x.rules.rules map.empty known.answering (networks_empty (f + s)) leads.1))
-    run.tied run.queued run.sizes.0 run.sizes.1
+    run.tied run.queued run.groups run.states
     (unlinks_counters x.config (linked_count x.pool.keeper.groups - linked_count c.run.new.pool.keeper.groups) x.pool.keeper.domain c.run.new.pool.keeper.domain (tokens_of x.pool.queue.items) (tokens_of c.run.new.pool.queue.items) run.unlinks)
     tokens.1
 
@@ -58,9 +58,9 @@ returns-clause-flushes g c =
     let gone = ap (λ (r : RuleList). r.rules) c.clear-count.ensures.empty in
     let before = not_exhausted c.args.self.now.config c.args.self.now.table (not_true c.is_exhausted.result _ c.if-is_exhausted.false c.is_exhausted.ensures) in
     let tokens = subst (λ (z : FibState). HasTokens counting z.config z.table) (sym c.self.view_is) before in
-    let after : IsStanding f s x.config c.clear-count.new.self c.run.new.cells c.run.new.pool.keeper.groups c.run.new.pool.keeper.domain c.run.new.pool.queue (x.versions + 1) = invariant_of-self g c in
-    let then = standing_linked f s x.config x.rules x.cells x.pool.keeper.groups x.pool.keeper.domain x.pool.queue x.versions known in
-    let now = standing_linked f s x.config c.clear-count.new.self c.run.new.cells c.run.new.pool.keeper.groups c.run.new.pool.keeper.domain c.run.new.pool.queue (x.versions + 1) after
+    let after : IsSound f s x.config c.clear-count.new.self c.run.new.cells c.run.new.pool.keeper.groups c.run.new.pool.keeper.domain c.run.new.pool.queue (x.versions + 1) = invariant_of-self g c in
+    let then = sound_linked f s x.config x.rules x.cells x.pool.keeper.groups x.pool.keeper.domain x.pool.queue x.versions known in
+    let now = sound_linked f s x.config c.clear-count.new.self c.run.new.cells c.run.new.pool.keeper.groups c.run.new.pool.keeper.domain c.run.new.pool.queue (x.versions + 1) after
     ∙ ap (groups_in_use f s) gone in
     let count : linked_count x.pool.keeper.groups - linked_count c.run.new.pool.keeper.groups ≡ groups_in_use f s x.rules.rules - groups_in_use f s R = omega (arith, then, now) in
     let unlinks = subst (λ n. Unlinks counting x.config n x.pool.keeper.domain (tokens_of x.pool.queue.items) c.run.new.pool.keeper.domain (tokens_of c.run.new.pool.queue.items)) count c.run.ensures.unlinks in

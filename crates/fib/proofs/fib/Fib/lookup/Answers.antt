@@ -1,7 +1,7 @@
 use Rattle.std.proofs.Common.{sym, subst, ◌+◌}
 use Rattle.lpm_rules.specs.Longest.{IsLongestHop}
 use Rattle.lpm_update.proofs.Rules.{best_hop}
-use Rattle.fib.specs.Standing.{FibState}
+use Rattle.fib.specs.Fib.{FibState}
 use Rattle.fib.proofs.fib.Fib.lookup.Goals as goal
 
 pub returns : goal.returns

@@ -1,0 +1,46 @@
+-- What a list of commands came to, told by reader intervals and versions.
+use Rattle.std.proofs.Common.{◌≡◌, ℕ, ◌+◌, ap, sym, ◌∙◌, subst, List, [], length}
+use Rattle.std.specs.FinMap.{len}
+use Rattle.qsbr.specs.Registry.{Registry}
+use Rattle.lpm_limits.specs.declared.config.Config.{Config}
+use Rattle.fib_model.specs.State.{State}
+use Rattle.fib_model.specs.Outcomes.{logged, groups_in_use}
+use Rattle.fib_model.specs.History.{history, last_of}
+use Rattle.fib_model.specs.Laws.{Agrees}
+use Rattle.fib_model.proofs.Versions.{rules_are_last_version}
+use Rattle.fib.specs.declared.replay.Replay.{Replay}
+use Rattle.fib.specs.Fib.{FibState, fresh}
+use Rattle.fib.specs.Lookups.{AreLongestHops}
+use Rattle.fib.specs.Replay.{GoesOn, IsReplay}
+
+-- what a table answers and counts itself
+pub record IsAsked (f s : ℕ) (c : Config) (z : State Registry) (addrs : List ℕ) (r : Replay) : Type 0 where
+  pub hops : AreLongestHops (f + s) z.rules addrs r.hops.items
+  pub rules : r.rules ≡ len z.rules
+  pub versions : r.versions ≡ z.begun
+  pub in_use : r.counts.in_use ≡ groups_in_use f s z.rules
+  pub limbo : r.counts.limbo ≡ length z.limbo
+  pub groups : r.counts.in_use + r.counts.limbo + r.counts.free ≡ c.groups
+  pub token : r.token ≡ z.readers.token
+
+pub is_replay : (f s : ℕ) (c : Config) (x : FibState) (z : State Registry) (commands : _) (addrs : List ℕ) (r : Replay) → x ≡ fresh c
+    → GoesOn f s x.config x.table commands r.outcomes.items z → IsAsked f s x.config z addrs r
+    → IsReplay f s c (logged [] commands r.outcomes.items) addrs r
+is_replay f s c x z commands addrs r new on asked =
+    let limits = ap (λ (y : FibState). y.config) new in
+    let table = ap (λ (y : FibState). y.table) new in
+    let told = subst (λ (k : Config). GoesOn f s k x.table commands r.outcomes.items z) limits on [] table in
+    let law = rules_are_last_version f s c (logged [] commands r.outcomes.items) told.0 told.1 in
+    let agrees : Agrees c z told.0 = told.2 in
+    let last : z.rules ≡ last_of (history (logged [] commands r.outcomes.items)) = sym agrees.rules ∙ law.0 in
+    record {
+      state = told.0;
+      runs = told.1;
+      hops = subst (λ R. AreLongestHops (f + s) R addrs r.hops.items) last asked.hops;
+      rules = asked.rules ∙ ap (λ R. len R) last;
+      versions = asked.versions ∙ sym agrees.begun ∙ law.1;
+      in_use = asked.in_use ∙ ap (groups_in_use f s) last;
+      limbo = asked.limbo ∙ sym agrees.waiting;
+      groups = asked.groups ∙ ap (λ (k : Config). k.groups) limits;
+      token = asked.token ∙ sym agrees.token;
+    }

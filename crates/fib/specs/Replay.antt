@@ -1,0 +1,41 @@
+-- Lists of commands on a table that was just opened, told without its tokens, counters and words:
+-- by reader intervals (DPDK Programmer's Guide, "RCU Library") and by the versions of the rule
+-- list.
+use Rattle.std.specs.Prelude.{ℕ, ◌≡◌, ◌+◌, List, length}
+use Rattle.std.specs.FinMap.{len}
+use Rattle.qsbr.specs.Registry.{Registry}
+use Rattle.lpm_limits.specs.declared.config.Config.{Config}
+use Rattle.fib_model.specs.declared.command.Command.{Command}
+use Rattle.fib_model.specs.declared.command.Outcome.{Outcome}
+use Rattle.fib_model.specs.declared.event.Event.{Event}
+use Rattle.fib_model.specs.State.{State}
+use Rattle.fib_model.specs.Outcomes.{Log, Runs, logged, groups_in_use}
+use Rattle.fib_model.specs.Counting.{counting, opened}
+use Rattle.fib_model.specs.Textbook.{textbook, beginning}
+use Rattle.fib_model.specs.History.{history, last_of}
+use Rattle.fib_model.specs.Laws.{Agrees}
+use Rattle.fib.specs.declared.replay.Replay.{Replay}
+use Rattle.fib.specs.Lookups.{AreLongestHops}
+
+-- a table that some log led to x goes on to z: by reader intervals the commands of that log and
+-- then these came out so, and what they lead to agrees with z
+abbrev pub GoesOn : (first second : ℕ) → Config → State Registry → List (Command first second)
+    → List Outcome → State Registry → Type 0
+GoesOn first second c x commands outcomes z =
+    (log : Log first second) → Runs counting first second c (opened c) log x
+    → (y : State (List Event))
+    × Runs (textbook c) first second c beginning (logged log commands outcomes) y × Agrees c z y
+
+-- the commands of the log came out so on a table of these limits, and after the last one the counts
+-- are these, and the addresses have these next hops, each of the longest match in the last version
+pub record IsReplay (first second : ℕ) (c : Config) (log : Log first second) (addrs : List ℕ)
+    (r : Replay) : Type 0 where
+  pub state : State (List Event)
+  pub runs : Runs (textbook c) first second c beginning log state
+  pub hops : AreLongestHops (first + second) (last_of (history log)) addrs r.hops.items
+  pub rules : r.rules ≡ len (last_of (history log))
+  pub versions : r.versions ≡ length (history log)
+  pub in_use : r.counts.in_use ≡ groups_in_use first second (last_of (history log))
+  pub limbo : r.counts.limbo ≡ length state.limbo
+  pub groups : r.counts.in_use + r.counts.limbo + r.counts.free ≡ c.groups
+  pub token : r.token ≡ (textbook c).token state.readers

@@ -1,0 +1,65 @@
+//! A list of commands on a table that is opened for them.
+
+ghost use Rattle.std.specs.Prelude.{◌≡◌, ◌+◌, ◌^◌, ◌<◌, ◌↔◌, [], All, IfErr, IfOk, length};
+ghost use Rattle.lpm_bits.specs.Widths.{IsShape};
+ghost use Rattle.lpm_limits.specs.Limits.{IsConfig};
+ghost use Rattle.fib_model.specs.Outcomes.{logged};
+ghost use Rattle.fib.specs.Replay.{IsReplay};
+
+use super::{Fib, OpenError};
+use fib_model::{Command, Outcome};
+use lpm_bits::Hop;
+use lpm_groups::Counts;
+use qsbr::Config;
+use std::alloc::Global;
+
+/// What came of a list of commands, and what the table answered and counted after the last.
+#[derive(Drop)]
+pub struct Replay {
+    /// What came of each command, in their order.
+    pub outcomes: Vec<Outcome>,
+    /// The next hop of each address, in their order.
+    pub hops: Vec<Option<Hop>>,
+    /// The number of rules.
+    pub rules: usize,
+    /// The number of changes that made a version of the rule list.
+    pub versions: u64,
+    /// How many groups are in use, in limbo and free.
+    pub counts: Counts,
+    /// The token number.
+    pub token: u64,
+}
+
+impl<const FIRST: u32, const SECOND: u32> Fib<FIRST, SECOND> {
+    /// Opens a table, does the commands one after another, and looks the addresses up after the
+    /// last.
+    ///
+    /// It ends with `Memory` also where there is no room for the outcomes or the next hops.
+    pub fn replay(
+        alloc: Global,
+        config: Config,
+        commands: &[Command<FIRST, SECOND>],
+        addrs: &[u32],
+    ) -> Result<Replay, OpenError>
+        requires shape { IsShape FIRST SECOND }
+        requires addrs { All (λ a. a < 2 ^ (FIRST + SECOND)) addrs.now }
+        ensures as_many { IfOk result (λ r. length r.outcomes.items ≡ length commands.now) }
+        ensures replay { IfOk result (λ r. IsReplay FIRST SECOND config
+            (logged [] commands.now r.outcomes.items) addrs.now r) }
+        ensures limits { IfOk result (λ _. IsConfig config) }
+        ensures bad_config { IfErr result
+            (λ error. (error ≡ OpenError.BadConfig) ↔ (¬ IsConfig config)) }
+    {
+        let mut fib = Fib::<FIRST, SECOND>::open(alloc, config)?;
+        let outcomes = fib.execute_all(alloc, commands)?;
+        let hops = fib.lookup_all(alloc, addrs)?;
+        Ok(Replay {
+            outcomes,
+            hops,
+            rules: fib.rules(),
+            versions: fib.versions(),
+            counts: fib.counts(),
+            token: fib.token(),
+        })
+    }
+}

@@ -1,0 +1,13 @@
+use Rattle.std.proofs.Common.{◌∙◌, ap, ap₂}
+use Rattle.std.proofs.lemmas.Result.{IfOk-weaker}
+use Rattle.std.specs.Fmt.{digits}
+use Rattle.clap.specs.Words.{with_rule}
+use Rattle.lpm_options.specs.Commands.{with_reclaiming}
+use Rattle.lpm_options.proofs.with_limits.Goals as goal
+
+pub returns : goal.returns
+unfolding digits
+returns c =
+    let first = c.in_ok-arg.ensures.shape c.number-rules.ensures.plain ∙ ap (with_rule _) c.number-rules.ensures.rule in
+    let second = c.in_ok-command.ensures.shape c.number-groups.ensures.plain ∙ ap₂ with_rule first c.number-groups.ensures.rule in
+    IfOk-weaker c.with_reclaiming.result _ _ (λ r h. h ∙ ap with_reclaiming second) c.with_reclaiming.ensures

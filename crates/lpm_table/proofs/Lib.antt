@@ -1,3 +1,0 @@
-pub mod Outcomes
-pub mod Lists
-pub mod Deciding

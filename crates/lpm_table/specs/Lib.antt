@@ -1,3 +1,0 @@
-pub mod PlainTable
-pub mod Changes
-pub mod Laws
