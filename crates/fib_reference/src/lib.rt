@@ -2,6 +2,7 @@
 //! events, and goes over that list for each question. The tests of the table compare its outcomes with these.
 #![tactic(auto)]
 
+pub mod cases;
 mod intervals;
 mod outcomes;
 mod plain;

@@ -13,7 +13,7 @@ use qsbr::{Config, Refusal};
 use std::alloc::{AllocError, Global};
 
 /// What commands came to: the outcome of each, and the counts at the end.
-#[derive(Drop)]
+#[derive(Debug, Drop, PartialEq, Eq)]
 pub struct Account {
     /// The outcomes, in the order of the commands.
     pub outcomes: Vec<Outcome>,
@@ -93,7 +93,7 @@ impl<const FIRST: u32, const SECOND: u32> Plain<FIRST, SECOND> {
             return false;
         }
         let block = Shape::<FIRST, SECOND>::first_index(bits);
-        self.rules.deep_in(block) == 0 && self.free(config) == 0
+        !self.rules.is_deep(block) && self.free(config) == 0
     }
 
     /// Stores a rule, as one more version.
