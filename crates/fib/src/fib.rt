@@ -4,7 +4,7 @@ ghost use Rattle.std.specs.Prelude.{◌≡◌, ℕ, ◌+◌, ◌*◌, ◌/◌, �
 ghost use Rattle.std.specs.FinMap as map;
 ghost use Rattle.lpm_bits.specs.Widths.{IsShape};
 ghost use Rattle.lpm_rules.specs.Longest.{IsLongestHop};
-ghost use Rattle.lpm_update.specs.Leads.{LastFits};
+ghost use Rattle.lpm_update.specs.Represents.{LastFits};
 ghost use Rattle.lpm_limits.specs.Limits.{IsConfig};
 ghost use Rattle.fib_model.specs.State.{IsExhausted};
 ghost use Rattle.fib_model.specs.Outcomes.{groups_in_use, Adds, Deletes, Flushes, Frees};
@@ -50,11 +50,10 @@ impl<const FIRST: u32, const SECOND: u32> Model for Fib<FIRST, SECOND> {
 
     ghost view = { λ a. record {
       config = a.config;
-      table = table_of a.rules.rules a.pool.keeper.domain a.pool.queue.items a.versions;
+      table = table_of a.rules.rules a.pool a.versions;
     } };
 
-    ghost invariant = { λ a. IsSound FIRST SECOND a.config a.rules a.cells a.pool.keeper.groups
-        a.pool.keeper.domain a.pool.queue a.versions };
+    ghost invariant = { λ a. IsSound FIRST SECOND a.config a.rules a.cells a.pool a.versions };
 }
 
 impl<const FIRST: u32, const SECOND: u32> Fib<FIRST, SECOND> {

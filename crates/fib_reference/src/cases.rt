@@ -51,21 +51,12 @@ impl Case {
         found: &[Found],
         counts: Counts,
     ) -> Result<Self, AllocError>
-        ensures { IfOk result (λ case. length case.commands.items ≡ length case.account.outcomes.items) }
+        ensures { IfOk result (λ case.
+            length case.commands.items ≡ length case.account.outcomes.items) }
     {
-        let mut commands = Vec::new(alloc);
-        let mut outcomes = Vec::new(alloc);
-        for (command, outcome) in steps.iter() {
-            commands.push(*command)?;
-            outcomes.push(*outcome)?;
-        }
-        let mut lookups = Vec::new(alloc);
-        for (octets, hop) in found.iter() {
-            lookups.push((u32::from_be_bytes(*octets), *hop))?;
-        }
         let (rules, versions, in_use, limbo, free, token) = counts;
         let account = Account {
-            outcomes,
+            outcomes: outcomes_of(alloc, steps)?,
             rules,
             versions,
             in_use,
@@ -76,11 +67,39 @@ impl Case {
         Ok(Case {
             name,
             config,
-            commands,
+            commands: commands_of(alloc, steps)?,
             account,
-            lookups,
+            lookups: lookups_of(alloc, found)?,
         })
     }
+}
+
+fn commands_of(alloc: Global, steps: &[Step]) -> Result<Vec<Command<24, 8>>, AllocError>
+    ensures { IfOk result (λ commands. length commands.items ≡ length steps.now) }
+{
+    let mut commands = Vec::new(alloc);
+    for step in steps {
+        commands.push(step.0)?;
+    }
+    Ok(commands)
+}
+
+fn outcomes_of(alloc: Global, steps: &[Step]) -> Result<Vec<Outcome>, AllocError>
+    ensures { IfOk result (λ outcomes. length outcomes.items ≡ length steps.now) }
+{
+    let mut outcomes = Vec::new(alloc);
+    for step in steps {
+        outcomes.push(step.1)?;
+    }
+    Ok(outcomes)
+}
+
+fn lookups_of(alloc: Global, found: &[Found]) -> Result<Vec<(u32, Option<u32>)>, AllocError> {
+    let mut lookups = Vec::new(alloc);
+    for (octets, number) in found {
+        lookups.push((u32::from_be_bytes(*octets), *number))?;
+    }
+    Ok(lookups)
 }
 
 fn prefix(octets: [u8; 4], len: u32) -> Prefix<24, 8>
@@ -143,7 +162,9 @@ fn busy(worker: usize, counter: u64) -> Option<Busy> {
 }
 
 /// The cases of lookups: every command adds a route.
-pub fn lookups(alloc: Global) -> Result<Vec<Case>, AllocError> {
+pub fn lookups(alloc: Global) -> Result<Vec<Case>, AllocError>
+    ensures { IfOk result (λ cases. length cases.items ≡ 9) }
+{
     let mut cases = Vec::new(alloc);
     cases.push(empty_table(alloc)?)?;
     cases.push(short_prefixes(alloc)?)?;
@@ -158,7 +179,9 @@ pub fn lookups(alloc: Global) -> Result<Vec<Case>, AllocError> {
 }
 
 /// The cases of updates, reports and reclaims.
-pub fn updates(alloc: Global) -> Result<Vec<Case>, AllocError> {
+pub fn updates(alloc: Global) -> Result<Vec<Case>, AllocError>
+    ensures { IfOk result (λ cases. length cases.items ≡ 14) }
+{
     let mut cases = Vec::new(alloc);
     cases.push(delete_then_reclaim(alloc)?)?;
     cases.push(reclaimed_after_delete(alloc)?)?;

@@ -1,6 +1,6 @@
--- The words of a table, and what they answer (Gupta, Lin and McKeown, INFOCOM 1998, section 3: a lookup
--- reads the first table at the address's first bits, and where it finds a group there, the group's
--- entry at the last bits).
+-- The words of a table, and what they answer (Gupta, Lin and McKeown, INFOCOM 1998, section 3: a
+-- lookup reads the first table at the address's first bits, and where it finds a group there, the
+-- group's entry at the last bits).
 use Rattle.std.specs.Prelude.{ℕ, ◌≡◌, ◌+◌, ◌*◌, ◌/◌, ◌%◌, ◌^◌, ◌≤◌, ◌<◌, List, length, slice_index, slice_set}
 use Rattle.lpm_entry.specs.Words.{IsWord, IsLastWord, entry_in}
 use Rattle.lpm_entry.specs.declared.Entry.{Entry}
@@ -36,10 +36,13 @@ IsFirstWord width second seconds w = IsWord width w × IsFirst second seconds (e
 -- the words of a table of these widths: a first word for each block, and each word an entry's
 pub record IsWords (first second : ℕ) (t : Words) : Type 0 where
   pub firsts_len : length t.firsts ≡ 2 ^ first
-  pub first_words : (i : ℕ) → i < length t.firsts → IsFirstWord (first + second) second t.seconds (slice_index t.firsts i)
-  pub second_words : (j : ℕ) → j < length t.seconds → IsLastWord (first + second) (slice_index t.seconds j)
+  pub first_words : (i : ℕ) → i < length t.firsts
+      → IsFirstWord (first + second) second t.seconds (slice_index t.firsts i)
+  pub second_words : (j : ℕ) → j < length t.seconds
+      → IsLastWord (first + second) (slice_index t.seconds j)
 
--- the entry that a lookup ends at, where it read `e` in the first table and goes on to place `r` of a group
+-- the entry that a lookup ends at, where it read `e` in the first table and would go on to place
+-- `r` of a group
 abbrev pub followed : ℕ → List ℕ → ℕ → Entry → Entry
 followed second seconds r Miss = Miss
 followed second seconds r (Hop hop depth) = Hop hop depth
@@ -47,4 +50,5 @@ followed second seconds r (Group group) = entry_in (slice_index seconds (group *
 
 -- the entry that the words have for an address
 abbrev pub entry_at : ℕ → Words → ℕ → Entry
-entry_at second t a = followed second t.seconds (a % 2 ^ second) (entry_in (slice_index t.firsts (a / 2 ^ second)))
+entry_at second t a =
+    followed second t.seconds (a % 2 ^ second) (entry_in (slice_index t.firsts (a / 2 ^ second)))

@@ -15,8 +15,8 @@ pub use plain::PlainCells;
 
 /// The words of a table. One writer loads and stores them, one word at a time.
 ///
-/// An implementation names which word it allows at which place (`may_set_first`, `may_set_second`), and
-/// the relation of old to new that a store makes beside the change of that word (`sets_first`,
+/// An implementation names which word it allows at which place (`may_set_first`, `may_set_second`),
+/// and the relation of old to new that a store makes beside the change of that word (`sets_first`,
 /// `sets_second`). A load leaves the cells as they were.
 pub trait Cells {
     ghost words: { Self → Words };

@@ -12,10 +12,11 @@ use lpm_entry::Entry;
 use std::alloc::{AllocError, Global};
 use std::marker::Model;
 
-/// The words of a table in two vectors. Of each word the low 32 bits are kept, since the others are 0.
+/// The words of a table in two vectors. Of each word the low 32 bits are kept, since the others are
+/// always 0.
 ///
-/// A first word may be that of any entry, where a group is one of the table's; a second word may be that
-/// of a miss or a hop.
+/// A first word may be that of a miss, of a hop, or of one of the table's groups; a second word may
+/// be that of a miss or a hop.
 #[derive(Drop)]
 pub struct PlainCells<const FIRST: u32, const SECOND: u32> {
     first_words: Vec<u32>,
@@ -31,7 +32,8 @@ impl<const FIRST: u32, const SECOND: u32> Model for PlainCells<FIRST, SECOND> {
     ghost view = { λ a. record { firsts = a.first_words.items; seconds = a.second_words.items } };
 
     ghost invariant = { λ a. IsShape FIRST SECOND
-        × IsWords FIRST SECOND (record { firsts = a.first_words.items; seconds = a.second_words.items }) };
+        × IsWords FIRST SECOND
+        (record { firsts = a.first_words.items; seconds = a.second_words.items }) };
 }
 
 impl<const FIRST: u32, const SECOND: u32> PlainCells<FIRST, SECOND> {
@@ -40,7 +42,8 @@ impl<const FIRST: u32, const SECOND: u32> PlainCells<FIRST, SECOND> {
         requires shape { IsShape FIRST SECOND }
         requires groups { groups ≤ 65536 }
         ensures firsts { IfOk result (λ c. c.firsts ≡ replicate (2 ^ FIRST) (word_of Miss)) }
-        ensures seconds { IfOk result (λ c. c.seconds ≡ replicate (groups * 2 ^ SECOND) (word_of Miss)) }
+        ensures seconds { IfOk result
+            (λ c. c.seconds ≡ replicate (groups * 2 ^ SECOND) (word_of Miss)) }
     {
         let miss = Entry::Miss.to_word() as u32;
         let first_words = vec![in alloc; miss; 1usize << FIRST]?;

@@ -16,7 +16,7 @@ use Rattle.lpm_update.specs.declared.rewrite.Kind.TheVariants.{Add, Delete}
 use Rattle.lpm_update.specs.declared.rewrite.Rewrite.{Rewrite}
 use Rattle.lpm_update.specs.declared.rewrite_range.RewriteRange.{RewriteRange}
 use Rattle.lpm_update.specs.declared.link_group.LinkGroup.{LinkGroup}
-use Rattle.lpm_update.specs.declared.update.Update.TheVariants.{Range, Link, Unlink}
+use Rattle.lpm_update.specs.declared.update.Plan.TheVariants.{Range, Link, Unlink}
 use Rattle.lpm_update.specs.Rewrite.{Stands}
 use Rattle.lpm_update.specs.Linked.{group_at}
 use Rattle.lpm_update.specs.RewriteRange.{IsRangeOf, IsRewriting}

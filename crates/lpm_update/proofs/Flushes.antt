@@ -10,7 +10,7 @@ use Rattle.lpm_entry.specs.Words.{entry_in, word_of, IsLast, IsLastWord}
 use Rattle.lpm_cells.specs.Table.{Words, entry_at, followed, with_first}
 use Rattle.lpm_update.specs.declared.Did.TheVariants.{First, Unlinked, Done}
 use Rattle.lpm_update.specs.declared.flush.Flush.{Flush as FlushData}
-use Rattle.lpm_update.specs.declared.update.Update.TheVariants.{Flush}
+use Rattle.lpm_update.specs.declared.update.Plan.TheVariants.{Flush}
 use Rattle.lpm_update.specs.Rewrite.{changed, Stands}
 use Rattle.lpm_update.specs.Linked.{IsTable, group_at}
 use Rattle.lpm_update.specs.Flush.{flushed, AllMiss, IsFlushStore}

@@ -13,7 +13,7 @@ use Rattle.lpm_cells.specs.Table.{Words, HasRoom, entry_at, followed, with_first
 use Rattle.lpm_update.specs.declared.Did.TheVariants.{First, Second, Done}
 use Rattle.lpm_update.specs.declared.rewrite.Rewrite.{Rewrite}
 use Rattle.lpm_update.specs.declared.link_group.LinkGroup.{LinkGroup}
-use Rattle.lpm_update.specs.declared.update.Update.TheVariants.{Link}
+use Rattle.lpm_update.specs.declared.update.Plan.TheVariants.{Link}
 use Rattle.lpm_update.specs.Rewrite.{replaces, changed, Stands}
 use Rattle.lpm_update.specs.Linked.{IsTable, IsLinkTo, group_at}
 use Rattle.lpm_update.specs.LinkGroup.{IsLinking, IsFillStore, IsLinkStore, filled_entry, in_range, reached}

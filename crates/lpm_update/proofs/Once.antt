@@ -10,8 +10,8 @@ use Rattle.lpm_update.specs.declared.Did.TheVariants.{First, Second, Unlinked, D
 use Rattle.lpm_update.specs.declared.rewrite_range.RewriteRange.{RewriteRange}
 use Rattle.lpm_update.specs.declared.link_group.LinkGroup.{LinkGroup}
 use Rattle.lpm_update.specs.declared.unlink_group.UnlinkGroup.{UnlinkGroup}
-use Rattle.lpm_update.specs.declared.update.Update.{Update}
-use Rattle.lpm_update.specs.declared.update.Update.TheVariants.{Range, Link, Unlink, Flush}
+use Rattle.lpm_update.specs.declared.update.Plan.{Plan}
+use Rattle.lpm_update.specs.declared.update.Plan.TheVariants.{Range, Link, Unlink, Flush}
 use Rattle.lpm_update.specs.Linked.{IsTable, IsLinkTo, group_at}
 use Rattle.lpm_update.specs.RewriteRange.{IsRewriting, IsSecondStore}
 use Rattle.lpm_update.specs.Update.{IsUnderWay, IsOnward, IsNextFirst, IsNextSecond, IsNextUnlink, HasPassedFirst, HasPassedSecond, IsSecondBefore, SameGroups}
@@ -23,7 +23,7 @@ use Rattle.lpm_update.proofs.Onward.{by_kind}
 
 -- ---- what is passed stays so
 
-first_stays : (s i : ℕ) (u v : Update) → IsOnward u v → HasPassedFirst s u i → HasPassedFirst s v i
+first_stays : (s i : ℕ) (u v : Plan) → IsOnward u v → HasPassedFirst s u i → HasPassedFirst s v i
 first_stays s i = by_kind (λ x y. HasPassedFirst s x i → HasPassedFirst s y i)
     (λ x y o p. let a = o.at in omega (arith, a, p))
     (λ x y o p. let a = o.1 in omega (arith, a, p))
@@ -67,7 +67,7 @@ module _ (f s : ℕ) (z z' : Words) (j : ℕ) where
   ]
   unlink_stays u v Done o k p h = inl (second_along f s u.range.at v.range.at j u.range.end z.firsts z'.firsts o.0.at k.rewriting.within k.rewriting.fits h.held p)
 
-  second_stays : (v v' : Update) (e : Did) → IsUnderWay f s v z → HasPassedSecond s v z.firsts j → Steps f s v z e v' z' → HasPassedSecond s v' z'.firsts j
+  second_stays : (v v' : Plan) (e : Did) → IsUnderWay f s v z → HasPassedSecond s v z.firsts j → Steps f s v z e v' z' → HasPassedSecond s v' z'.firsts j
   second_stays v v' e k p h = by_kind (λ x y. IsUnderWay f s x z → HasPassedSecond s x z.firsts j → Steps f s x z e y z' → HasPassedSecond s y z'.firsts j)
       (λ x y o k p h. range_stays x y e o k p h)
       (λ x y o k p h.
@@ -86,7 +86,7 @@ module _ (f s : ℕ) (z z' : Words) (j : ℕ) where
       v v' h.onward k p h
 
 -- what a step stored stays passed
-pub passed_stays : (f s : ℕ) (d e : Did) (v v' : Update) (z z' : Words) → IsUnderWay f s v z → HasPassed s d v z.firsts → Steps f s v z e v' z' → HasPassed s d v' z'.firsts
+pub passed_stays : (f s : ℕ) (d e : Did) (v v' : Plan) (z z' : Words) → IsUnderWay f s v z → HasPassed s d v z.firsts → Steps f s v z e v' z' → HasPassed s d v' z'.firsts
 passed_stays f s (First i) e v v' z z' k p h = first_stays s i v v' h.onward p
 passed_stays f s (Second j) e v v' z z' k p h = second_stays f s z z' j v v' e k p h
 passed_stays f s (Unlinked b g) e v v' z z' k p h = first_stays s b v v' h.onward p
@@ -94,7 +94,7 @@ passed_stays f s Done e v v' z z' k p h = tt
 
 -- ---- what is passed is not stored
 
-not_first : (f s : ℕ) (v : Update) (z : Words) (i w : ℕ) → HasPassedFirst s v i → IsNextFirst f s v z i w → ⊥
+not_first : (f s : ℕ) (v : Plan) (z : Words) (i w : ℕ) → HasPassedFirst s v i → IsNextFirst f s v z i w → ⊥
 not_first f s (Range u) z i w p n = let l = n.low in omega (arith, l, p)
 not_first f s (Link u) z i w p n = let e = n.0 in omega (arith, e, p)
 not_first f s (Unlink u) z i w p n = elim p [
@@ -103,7 +103,7 @@ not_first f s (Unlink u) z i w p n = elim p [
 ]
 not_first f s (Flush u) z i w p n = let l = n.0.low in omega (arith, l, p)
 
-not_unlink : (f s : ℕ) (v : Update) (z : Words) (b g w : ℕ) → HasPassedFirst s v b → IsNextUnlink f s v z b g w → ⊥
+not_unlink : (f s : ℕ) (v : Plan) (z : Words) (b g w : ℕ) → HasPassedFirst s v b → IsNextUnlink f s v z b g w → ⊥
 not_unlink f s (Range u) z b g w p n = n
 not_unlink f s (Link u) z b g w p n = n
 not_unlink f s (Unlink u) z b g w p n = elim p [
@@ -131,7 +131,7 @@ range_once f s u z g x j w t k p n =
     let one = one_address f s z p.0 p.1 g x j t (shr_below p.1 f s (omega (arith, before, within, fits))) (shr_below x f s (omega (arith, high, fits))) p.3 n.group p.4 n.place in
     omega (arith, one, before, low)
 
-not_second : (f s : ℕ) (v : Update) (z : Words) (j w : ℕ) → IsTable f s z → IsUnderWay f s v z → HasPassedSecond s v z.firsts j → IsNextSecond s v z j w → ⊥
+not_second : (f s : ℕ) (v : Plan) (z : Words) (j w : ℕ) → IsTable f s z → IsUnderWay f s v z → HasPassedSecond s v z.firsts j → IsNextSecond s v z j w → ⊥
 not_second f s (Range u) z j w t k p n = range_once f s u z n.0 n.1 j w t k p n.2
 not_second f s (Link u) z j w t k p n = let e = n.1 in omega (arith, e, p)
 not_second f s (Unlink u) z j w t k p n = elim p [
@@ -140,7 +140,7 @@ not_second f s (Unlink u) z j w t k p n = elim p [
 ]
 not_second f s (Flush u) z j w t k p n = n
 
-pub not_twice : (f s : ℕ) (d e : Did) (v v' : Update) (z z' : Words) → IsTable f s z → IsUnderWay f s v z → HasPassed s d v z.firsts → Stored f s e v z v' z' → IsSameWord d e → ⊥
+pub not_twice : (f s : ℕ) (d e : Did) (v v' : Plan) (z z' : Words) → IsTable f s z → IsUnderWay f s v z → HasPassed s d v z.firsts → Stored f s e v z v' z' → IsSameWord d e → ⊥
 not_twice f s (First i) (First k) v v' z z' t u p h q = not_first f s v z k _ (subst (HasPassedFirst s v) q p) h.0
 not_twice f s (First i) (Second k) v v' z z' t u p h q = absurd q
 not_twice f s (First i) (Unlinked k g) v v' z z' t u p h q = not_unlink f s v z k g _ (subst (HasPassedFirst s v) q p) h.0

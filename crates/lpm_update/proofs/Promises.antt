@@ -2,7 +2,7 @@
 use Rattle.std.proofs.Common.{ℕ, ◌+◌}
 use Rattle.lpm_entry.specs.Words.{IsLastWord}
 use Rattle.lpm_cells.specs.Table.{Words, IsFirstWord}
-use Rattle.lpm_update.specs.declared.update.Update.{Update}
+use Rattle.lpm_update.specs.declared.update.Plan.{Plan}
 use Rattle.lpm_update.specs.Linked.{IsTable}
 use Rattle.lpm_update.specs.Update.{IsUnderWay}
 use Rattle.lpm_update.specs.Step.{AllowsNext}
@@ -18,7 +18,7 @@ pub use Rattle.lpm_update.proofs.Groups.{no_group_at}
 pub use Rattle.lpm_update.proofs.Ties.{tied_same, tied_gone, tied_taken}
 
 -- cells that allow each word that a table may hold at its place allow the next store
-pub plain_allows : (f s : ℕ) (u : Update) (W : Words) → IsTable f s W → IsUnderWay f s u W
+pub plain_allows : (f s : ℕ) (u : Plan) (W : Words) → IsTable f s W → IsUnderWay f s u W
     → AllowsNext f s u W (λ i w. IsFirstWord (f + s) s W.seconds w) (λ j w. IsLastWord (f + s) w)
 plain_allows f s u W t k =
     let a = next f s u W t k in

@@ -9,7 +9,7 @@ use Rattle.lpm_update.specs.declared.Did.{Did}
 use Rattle.lpm_update.specs.declared.Did.TheVariants.{First, Second, Unlinked, Done}
 use Rattle.lpm_update.specs.declared.rewrite.Rewrite.{Rewrite}
 use Rattle.lpm_update.specs.declared.rewrite_range.RewriteRange.{RewriteRange}
-use Rattle.lpm_update.specs.declared.update.Update.TheVariants.{Range}
+use Rattle.lpm_update.specs.declared.update.Plan.TheVariants.{Range}
 use Rattle.lpm_update.specs.Rewrite.{Stands, Skips}
 use Rattle.lpm_update.specs.RewriteRange.{IsRewriting, IsFirstStore, IsSecondStore, IsFurther, Visits}
 use Rattle.lpm_update.specs.Linked.{IsTable, IsLinkTo, group_at}

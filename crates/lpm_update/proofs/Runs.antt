@@ -9,8 +9,8 @@ use Rattle.lpm_entry.specs.declared.Entry.{Entry}
 use Rattle.lpm_cells.specs.Table.{Words, entry_at}
 use Rattle.lpm_update.specs.declared.Did.{Did}
 use Rattle.lpm_update.specs.declared.Did.TheVariants.{First, Second, Unlinked, Done}
-use Rattle.lpm_update.specs.declared.update.Update.{Update}
-use Rattle.lpm_update.specs.declared.update.Update.TheVariants.{Range, Link, Unlink, Flush}
+use Rattle.lpm_update.specs.declared.update.Plan.{Plan}
+use Rattle.lpm_update.specs.declared.update.Plan.TheVariants.{Range, Link, Unlink, Flush}
 use Rattle.lpm_update.specs.Rewrite.{Stands}
 use Rattle.lpm_update.specs.LinkGroup.{final_entry}
 use Rattle.lpm_update.specs.Linked.{group_at}
@@ -30,7 +30,7 @@ use Rattle.lpm_update.proofs.Once.{passed_stays, not_twice}
 pub run_begins : RunBegins
 run_begins f s u W t b = record { onward = onward_same u; table = t; under_way = b.under_way; stands = b.stands; groups = b.groups; sizes = refl }
 
-same_size : (f s : ℕ) (did : Did) (u v : Update) (W W' : Words) → Stored f s did u W v W' → length W'.seconds ≡ length W.seconds
+same_size : (f s : ℕ) (did : Did) (u v : Plan) (W W' : Words) → Stored f s did u W v W' → length W'.seconds ≡ length W.seconds
 same_size f s (First i) u v W W' h = ap (λ (x : Words). length x.seconds) h.1
 same_size f s (Second j) u v W W' h = ap (λ (x : Words). length x.seconds) h.1 ∙ length-set W.seconds j _
 same_size f s (Unlinked b g) u v W W' h = ap (λ (x : Words). length x.seconds) h.1
@@ -49,7 +49,7 @@ run_goes_on f s u t did v v' z z' k h = record {
 -- ---- the end
 
 -- each address has the entry that it has after the change
-over_entries : (f s : ℕ) (u v : Update) (W : Words) (E : ℕ → Entry) → IsOnward u v → IsOver f s v → StandsSoFar s v W E → (a : ℕ) → entry_at s W a ≡ entry_after (f + s) u E a
+over_entries : (f s : ℕ) (u v : Plan) (W : Words) (E : ℕ → Entry) → IsOnward u v → IsOver f s v → StandsSoFar s v W E → (a : ℕ) → entry_at s W a ≡ entry_after (f + s) u E a
 over_entries f s u v W E on over t a =
     let whole : Stands s (from_of v) (end_of (f + s) v) (rewrite_of v) W E = subst (λ x. Stands s (from_of v) x (rewrite_of v) W E) over.reached t in
     stands_final s (from_of v) (end_of (f + s) v) (rewrite_of v) W E whole a
@@ -58,7 +58,7 @@ over_entries f s u v W E on over t a =
     ∙ ap (λ x. final_entry (from_of u) (end_of (f + s) u) x a (E a)) (rewrite_same u v on)
 
 -- the groups that are held are those that the blocks have
-over_held : (f s : ℕ) (v : Update) (F : List ℕ) (L : ℕ → Option ℕ) → IsOver f s v → HasGroups f s v F L → SameGroups f (group_held v F) (group_at F)
+over_held : (f s : ℕ) (v : Plan) (F : List ℕ) (L : ℕ → Option ℕ) → IsOver f s v → HasGroups f s v F L → SameGroups f (group_held v F) (group_at F)
 over_held f s (Range v) F L over known i low = refl
 over_held f s (Link v) F L over known i low =
     let now = known i low ∙ over.groups L i low in
@@ -82,12 +82,12 @@ run_ends f s R R' u t v z known turns k over = (
 
 -- ---- no word twice
 
-all_along : (f s : ℕ) (u : Update) (t : Words) (dids : List Did) (v : Update) (z : Words) → HasCome f s u t u t → Runs f s u t dids v z → HasCome f s u t v z
+all_along : (f s : ℕ) (u : Plan) (t : Words) (dids : List Did) (v : Plan) (z : Words) → HasCome f s u t u t → Runs f s u t dids v z → HasCome f s u t v z
 all_along f s u t [] v z k run = subst (λ x. HasCome f s u t x z) (sym run.0) (subst (HasCome f s u t u) (sym run.1) k)
 all_along f s u t (did ∷ before) v z k run = run_goes_on f s u t did run.0 v run.1 z (all_along f s u t before run.0 run.1 k run.2) run.3
 
 -- each word that was stored is passed
-all_passed : (f s : ℕ) (u : Update) (t : Words) (dids : List Did) (v : Update) (z : Words) → HasCome f s u t u t → Runs f s u t dids v z → All (λ d. HasPassed s d v z.firsts) dids
+all_passed : (f s : ℕ) (u : Plan) (t : Words) (dids : List Did) (v : Plan) (z : Words) → HasCome f s u t u t → Runs f s u t dids v z → All (λ d. HasPassed s d v z.firsts) dids
 all_passed f s u t [] v z k run = All-nil _
 all_passed f s u t (did ∷ before) v z k run =
     let here = all_along f s u t before run.0 run.1 k run.2 in
@@ -97,7 +97,7 @@ all_passed f s u t (did ∷ before) v z k run =
 pub no_word_twice : NoWordTwice
 no_word_twice f s u t dids v z table begun run = apart dids v z run
   where
-    apart : (dids : List Did) (v : Update) (z : Words) → Runs f s u t dids v z → AllPairs (λ late early. ¬ IsSameWord early late) dids
+    apart : (dids : List Did) (v : Plan) (z : Words) → Runs f s u t dids v z → AllPairs (λ late early. ¬ IsSameWord early late) dids
     apart [] v z run = λ i j d l m. absurd (omega (arith, m))
     apart (did ∷ before) v z run =
         let k = run_begins f s u t table begun in

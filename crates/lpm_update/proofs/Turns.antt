@@ -8,8 +8,8 @@ use Rattle.lpm_entry.specs.declared.Entry.{Entry}
 use Rattle.lpm_cells.specs.Table.{entry_at, Words}
 use Rattle.lpm_update.specs.declared.link_group.LinkGroup.{LinkGroup}
 use Rattle.lpm_update.specs.declared.rewrite.Rewrite.{Rewrite}
-use Rattle.lpm_update.specs.declared.update.Update.{Update}
-use Rattle.lpm_update.specs.declared.update.Update.TheVariants.{Range, Link, Unlink, Flush}
+use Rattle.lpm_update.specs.declared.update.Plan.{Plan}
+use Rattle.lpm_update.specs.declared.update.Plan.TheVariants.{Range, Link, Unlink, Flush}
 use Rattle.lpm_update.specs.Rewrite.{changed, Stands}
 use Rattle.lpm_update.specs.LinkGroup.{final_entry, reached}
 use Rattle.lpm_update.specs.Update.{IsUnderWay, IsOnward, from_of, end_of, reached_of, rewrite_of, group_after}
@@ -43,7 +43,7 @@ reached_link s u v r o =
           omega (arith, from, low, reached_low s u before)
     ]
 
-reached_on : (f s : ℕ) (u v : Update) (W : Words) → IsUnderWay f s u W → IsOnward u v → reached_of s u ≤ reached_of s v
+reached_on : (f s : ℕ) (u v : Plan) (W : Words) → IsUnderWay f s u W → IsOnward u v → reached_of s u ≤ reached_of s v
 reached_on f s u v W k o = by_kind (λ x y. IsUnderWay f s x W → reached_of s x ≤ reached_of s y)
     (λ x y o k. o.at)
     (λ x y o k. reached_link s x y k.range o)
@@ -55,7 +55,7 @@ cases_bool : (b : Bool) → (b ≡ true) ⊎ (b ≡ false)
 cases_bool true = inl refl
 cases_bool false = inr refl
 
-reached_within : (f s : ℕ) (u : Update) (W : Words) → IsUnderWay f s u W → reached_of s u ≤ end_of (f + s) u
+reached_within : (f s : ℕ) (u : Plan) (W : Words) → IsUnderWay f s u W → reached_of s u ≤ end_of (f + s) u
 reached_within f s (Range u) W k = k.within
 reached_within f s (Link u) W k = below_end s u k.range
 reached_within f s (Unlink u) W k = elim (cases_bool u.unlinked) [
@@ -66,16 +66,16 @@ reached_within f s (Flush u) W k = let m = mul-le-mul_right (2 ^ s) k in let e =
 
 -- ---- it is the same change
 
-pub from_same : (u v : Update) → IsOnward u v → from_of v ≡ from_of u
+pub from_same : (u v : Plan) → IsOnward u v → from_of v ≡ from_of u
 from_same = by_kind (λ x y. from_of y ≡ from_of x) (λ x y o. o.from) (λ x y o. ap (λ (z : LinkGroup). z.from) o.0) (λ x y o. o.0.from) (λ x y o. refl)
 
-pub end_same : (width : ℕ) (u v : Update) → IsOnward u v → end_of width v ≡ end_of width u
+pub end_same : (width : ℕ) (u v : Plan) → IsOnward u v → end_of width v ≡ end_of width u
 end_same width = by_kind (λ x y. end_of width y ≡ end_of width x) (λ x y o. o.end) (λ x y o. ap (λ (z : LinkGroup). z.end) o.0) (λ x y o. o.0.end) (λ x y o. refl)
 
-pub rewrite_same : (u v : Update) → IsOnward u v → rewrite_of v ≡ rewrite_of u
+pub rewrite_same : (u v : Plan) → IsOnward u v → rewrite_of v ≡ rewrite_of u
 rewrite_same = by_kind (λ x y. rewrite_of y ≡ rewrite_of x) (λ x y o. o.rewrite) (λ x y o. ap (λ (z : LinkGroup). z.rewrite) o.0) (λ x y o. o.0.rewrite) (λ x y o. refl)
 
-pub groups_same : (u v : Update) → IsOnward u v → (L : ℕ → Option ℕ) (i : ℕ) → group_after v L i ≡ group_after u L i
+pub groups_same : (u v : Plan) → IsOnward u v → (L : ℕ → Option ℕ) (i : ℕ) → group_after v L i ≡ group_after u L i
 groups_same = by_kind (λ x y. (L : ℕ → Option ℕ) (i : ℕ) → group_after y L i ≡ group_after x L i) (λ x y o L i. refl)
     (λ x y o L i. ap (λ (z : LinkGroup). if i == z.block then Some z.group else L i) o.0) (λ x y o L i. ap (λ z. if i == z then None else L i) o.1) (λ x y o L i. refl)
 

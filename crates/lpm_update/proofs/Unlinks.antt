@@ -12,7 +12,7 @@ use Rattle.lpm_update.specs.declared.Did.TheVariants.{First, Second, Unlinked, D
 use Rattle.lpm_update.specs.declared.rewrite.Rewrite.{Rewrite}
 use Rattle.lpm_update.specs.declared.rewrite_range.RewriteRange.{RewriteRange}
 use Rattle.lpm_update.specs.declared.unlink_group.UnlinkGroup.{UnlinkGroup}
-use Rattle.lpm_update.specs.declared.update.Update.TheVariants.{Range, Unlink}
+use Rattle.lpm_update.specs.declared.update.Plan.TheVariants.{Range, Unlink}
 use Rattle.lpm_update.specs.Rewrite.{Stands, Skips}
 use Rattle.lpm_update.specs.Linked.{IsTable, IsLinkTo, group_at}
 use Rattle.lpm_update.specs.RewriteRange.{IsFurther}

@@ -1,6 +1,6 @@
--- A free group's words are stored before it is linked (DPDK Programmer's Guide, "LPM Library", "Addition": a
--- new group's entries are set to those of the rule that covered the block, then the rule's own, and the
--- first entry is made to point at it last).
+-- A free group's words are stored before it is linked (DPDK Programmer's Guide, "LPM Library",
+-- "Addition": a new group's entries are set to those of the rule that covered the block, then the
+-- rule's own, and the first entry is made to point at it last).
 use Rattle.std.specs.Prelude.{ℕ, Bool, ◌≡◌, ◌+◌, ◌*◌, ◌^◌, ◌≤◌, ◌<◌, nat_le, nat_lt, ◌&&◌, if◌then◌else◌, List, slice_index}
 use Rattle.lpm_entry.specs.Words.{IsEntry, IsLast, word_of, entry_in}
 use Rattle.lpm_entry.specs.declared.Entry.{Entry}
@@ -19,7 +19,7 @@ in_range from end a = nat_le from a && nat_lt a end
 abbrev pub final_entry : ℕ → ℕ → Rewrite → ℕ → Entry → Entry
 final_entry from end c a e = if in_range from end a then changed c e else e
 
--- how far the change has come, as the readers of the words see it: the link is the one store that they see
+-- how far the change has come for readers of the words: the link is the one store that they see
 abbrev pub reached : ℕ → LinkGroup → ℕ
 reached second u = if nat_le u.next (2 ^ second) then u.from else u.end
 
@@ -40,7 +40,8 @@ pub record IsLinking (first second : ℕ) (u : LinkGroup) (t : Words) : Type 0 w
   pub free : u.next ≤ 2 ^ second → (i : ℕ) → IsLinkTo t.firsts i u.group → ⊥
   pub old : u.next ≤ 2 ^ second → IsLast (entry_in (slice_index t.firsts u.block))
   pub filled : u.next ≤ 2 ^ second → (r : ℕ) → r < u.next
-      → entry_in (slice_index t.seconds (u.group * 2 ^ second + r)) ≡ filled_entry second u r (entry_in (slice_index t.firsts u.block))
+      → entry_in (slice_index t.seconds (u.group * 2 ^ second + r))
+      ≡ filled_entry second u r (entry_in (slice_index t.firsts u.block))
 
 -- the next store is the next of the group's words, upwards
 abbrev pub IsFillStore : ℕ → LinkGroup → List ℕ → ℕ → ℕ → Type 0

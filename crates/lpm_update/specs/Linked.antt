@@ -12,7 +12,8 @@ IsLinkTo firsts i g = entry_in (slice_index firsts i) ≡ Group g
 -- words that a table may hold: each linked group belongs to one block
 pub record IsTable (first second : ℕ) (t : Words) : Type 0 where
   pub words : IsWords first second t
-  pub linked_once : (i j g : ℕ) → i < 2 ^ first → j < 2 ^ first → IsLinkTo t.firsts i g → IsLinkTo t.firsts j g → i ≡ j
+  pub linked_once : (i j g : ℕ) → i < 2 ^ first → j < 2 ^ first
+      → IsLinkTo t.firsts i g → IsLinkTo t.firsts j g → i ≡ j
 
 -- the group that a block has
 abbrev pub group_at : List ℕ → ℕ → Option ℕ

@@ -1,5 +1,6 @@
--- What a change does to the entries of its range (DPDK Programmer's Guide, "LPM Library": an added rule
--- takes the entries of shorter rules, a deleted rule's entries go to the longest rule that is shorter).
+-- What a change does to the entries of its range (DPDK Programmer's Guide, "LPM Library": an added
+-- rule takes the entries of shorter rules, a deleted rule's entries go to the longest rule that is
+-- shorter).
 use Rattle.std.specs.Prelude.{ℕ, Bool, true, false, ◌≡◌, ◌≤◌, ◌<◌, ◌==◌, nat_le, if◌then◌else◌}
 use Rattle.lpm_entry.specs.declared.Entry.{Entry}
 use Rattle.lpm_entry.specs.declared.Entry.TheVariants.{Miss, Hop, Group}
@@ -27,8 +28,8 @@ replaces c e = replaces_by c.kind c.depth e
 abbrev pub changed : Rewrite → Entry → Entry
 changed c e = if replaces c e then c.entry else e
 
--- each address from `from` to `at` has its new entry, each other one its old, where E has the entries
--- before the change
+-- each address from `from` to `at` has its new entry, each other one its old, where E has the
+-- entries before the change
 pub record Stands (second from at : ℕ) (c : Rewrite) (t : Words) (E : ℕ → Entry) : Type 0 where
   pub before : (a : ℕ) → a < from → entry_at second t a ≡ E a
   pub done : (a : ℕ) → from ≤ a → a < at → entry_at second t a ≡ changed c (E a)

@@ -1,11 +1,8 @@
 -- The states of the groups, and the groups that the blocks have (this project's).
 use Rattle.std.specs.Prelude.{ℕ, ◌≡◌, ◌≢◌, ◌↔◌, ◌*◌, ◌≤◌, ◌<◌, ◌^◌, List, length, Option, Some}
 use Rattle.lpm_groups.specs.declared.GroupState.{GroupState}
-use Rattle.lpm_groups.specs.States.{IsLinkedTo, limbo_count}
+use Rattle.lpm_groups.specs.States.{IsLinkedTo}
 use Rattle.lpm_cells.specs.Table.{Words}
-use Rattle.lpm_rules.specs.RuleMap.{RuleMap}
-use Rattle.lpm_update.specs.Linked.{group_at}
-use Rattle.lpm_update.specs.Represents.{Represents}
 
 -- a group is linked to a block just where that block has it, by L
 pub record IsTied (first : ℕ) (states : List GroupState) (L : ℕ → Option ℕ) : Type 0 where
@@ -20,10 +17,3 @@ SameLinksBut g old new = (h c : ℕ) → h ≢ g → IsLinkedTo new h c ↔ IsLi
 pub record HasGroupRoom (second : ℕ) (t : Words) (states : List GroupState) : Type 0 where
   pub few : length states ≤ 65536
   pub words : length t.seconds ≡ length states * 2 ^ second
-
--- a table at rest, whose groups are all linked or free
-pub record IsResting (first second : ℕ) (R : RuleMap) (t : Words) (states : List GroupState) : Type 0 where
-  pub represents : Represents first second R t
-  pub tied : IsTied first states (group_at t.firsts)
-  pub room : HasGroupRoom second t states
-  pub limbo : limbo_count states ≡ 0

@@ -1,5 +1,5 @@
-//! What an upper layer needs of a change. Each function does nothing: its contract is the law, whose statement is in
-//! `specs/Laws.antt`; an upper crate cites the proofs of `proofs/Promises.antt`.
+//! What an upper layer needs of a change. Each function does nothing: its contract is the law. The
+//! statement is in `specs/Laws.antt`, and an upper crate cites the proof in `proofs/Promises.antt`.
 
 ghost use Rattle.lpm_update.specs.Laws.{RunBegins, RunGoesOn, RunEnds, NoWordTwice, NextStore, AnswersTurnOnce, BestIsLongest, BlankRepresents, LinkedAreDeep, TiedSame, TiedGone, TiedTaken};
 
@@ -23,8 +23,8 @@ pub fn no_word_twice()
     ensures { NoWordTwice }
 {}
 
-/// The next store is of a word that a table may hold at its place. Each address keeps its entry in it, or goes from
-/// the old to the new one.
+/// The next store is of a word that a table may hold at its place. By it each address keeps its
+/// entry, or goes from the old to the new one.
 pub fn next_store()
     ensures { NextStore }
 {}
@@ -59,7 +59,8 @@ pub fn tied_gone()
     ensures { TiedGone }
 {}
 
-/// A group that is linked to no block is one that no block has, and may be linked to a block without one.
+/// A group that is linked to no block is one that no block has, and may be linked to a block
+/// without one.
 pub fn tied_taken()
     ensures { TiedTaken }
 {}

@@ -6,14 +6,16 @@ pub mod laws;
 mod link_group;
 mod rewrite;
 mod rewrite_range;
+#[cfg(test)]
+mod tests;
 mod unlink_group;
 mod update;
 
-pub use flush::Flush;
-pub use link_group::LinkGroup;
-pub use rewrite::{Kind, Rewrite};
-pub use rewrite_range::RewriteRange;
-pub use unlink_group::UnlinkGroup;
+use flush::Flush;
+use link_group::LinkGroup;
+use rewrite::{Kind, Rewrite};
+use rewrite_range::RewriteRange;
+use unlink_group::UnlinkGroup;
 pub use update::Update;
 
 /// What a step did.

@@ -7,17 +7,17 @@ use lpm_bits::{Hop, Prefix, Shape};
 use lpm_cells::Cells;
 use lpm_entry::Entry;
 
-/// The addition of a rule longer than `FIRST` bits to a block that has no group: the words of a group
-/// that no block has are stored, upwards, and then the group is linked to the block.
+/// The addition of a rule longer than `FIRST` bits to a block that has no group: the words of a
+/// free group are stored, upwards, and then the group is linked to the block.
 #[derive(Debug, Drop)]
-pub struct LinkGroup {
-    pub from: u64,
-    pub end: u64,
-    pub rewrite: Rewrite,
-    pub block: usize,
-    pub group: u32,
+pub(crate) struct LinkGroup {
+    pub(crate) from: u64,
+    pub(crate) end: u64,
+    pub(crate) rewrite: Rewrite,
+    pub(crate) block: usize,
+    pub(crate) group: u32,
     /// The place in the group of the next store; past the group's words the link, and then nothing.
-    pub next: u64,
+    pub(crate) next: u64,
 }
 
 impl LinkGroup {
@@ -27,7 +27,7 @@ impl LinkGroup {
     ghost use Rattle.lpm_entry.specs.declared.Entry.TheVariants.{Hop as EntryHop};
     ghost use Rattle.lpm_entry.specs.Words.{IsLast, entry_in};
     ghost use Rattle.lpm_update.specs.declared.rewrite.Kind.TheVariants.{Add};
-    ghost use Rattle.lpm_update.specs.declared.update.Update.TheVariants.{Link};
+    ghost use Rattle.lpm_update.specs.declared.update.Plan.TheVariants.{Link};
     ghost use Rattle.lpm_update.specs.Linked.{IsTable};
     ghost use Rattle.lpm_update.specs.LinkGroup.{IsLinking, final_entry};
     ghost use Rattle.lpm_update.specs.Represents.{IsFreshGroup};
@@ -35,7 +35,7 @@ impl LinkGroup {
     ghost use Rattle.lpm_update.specs.Step.{AllowsNext, Steps, SetsWord};
 
     /// The addition of this rule by this group, which no block has.
-    pub fn add<const FIRST: u32, const SECOND: u32>(
+    pub(crate) fn add<const FIRST: u32, const SECOND: u32>(
         prefix: &Prefix<FIRST, SECOND>,
         hop: Hop,
         group: u32,
@@ -43,7 +43,11 @@ impl LinkGroup {
         ensures value { result ≡ record {
           from = prefix.now.bits;
           end = prefix.now.bits + 2 ^ (FIRST + SECOND - prefix.now.len);
-          rewrite = record { kind = Add; depth = prefix.now.len; entry = EntryHop hop prefix.now.len };
+          rewrite = record {
+            kind = Add;
+            depth = prefix.now.len;
+            entry = EntryHop hop prefix.now.len;
+          };
           block = prefix.now.bits / 2 ^ SECOND;
           group = group;
           next = 0;
@@ -81,13 +85,18 @@ impl LinkGroup {
         old
     }
 
-    /// Makes the next store of the addition; where none is left, it is done.
-    pub fn step<const FIRST: u32, const SECOND: u32, C: Cells>(&mut self, cells: &mut C) -> Did
+    /// Makes the next store of the addition, or none where it is done.
+    pub(crate) fn step<const FIRST: u32, const SECOND: u32, C: Cells>(
+        &mut self,
+        cells: &mut C,
+    ) -> Did
         requires shape { IsShape FIRST SECOND }
         requires table { IsTable FIRST SECOND (C.words cells.old) }
         requires under_way { IsUnderWay FIRST SECOND (Link self.old) (C.words cells.old) }
-        requires allows { AllowsNext FIRST SECOND (Link self.old) (C.words cells.old) (C.may_set_first cells.old) (C.may_set_second cells.old) }
-        ensures steps { Steps FIRST SECOND (Link self.old) (C.words cells.old) result (Link self.new) (C.words cells.new) }
+        requires allows { AllowsNext FIRST SECOND (Link self.old) (C.words cells.old)
+            (C.may_set_first cells.old) (C.may_set_second cells.old) }
+        ensures steps { Steps FIRST SECOND (Link self.old) (C.words cells.old) result
+            (Link self.new) (C.words cells.new) }
         ensures sets { SetsWord C.words C.sets_first C.sets_second cells.old result cells.new }
     {
         let size = 1u64 << SECOND;

@@ -8,14 +8,14 @@ use lpm_cells::Cells;
 use lpm_entry::Entry;
 use lpm_rules::Rule;
 
-/// The addresses from `from` up to, not including, `end`, whose entries become what `rewrite` makes of
-/// them; those below `at` have become so.
+/// The addresses from `from` up to, not including, `end`, whose entries become what `rewrite` makes
+/// of them; those below `at` have become so.
 #[derive(Debug, Drop)]
-pub struct RewriteRange {
-    pub from: u64,
-    pub at: u64,
-    pub end: u64,
-    pub rewrite: Rewrite,
+pub(crate) struct RewriteRange {
+    pub(crate) from: u64,
+    pub(crate) at: u64,
+    pub(crate) end: u64,
+    pub(crate) rewrite: Rewrite,
 }
 
 impl RewriteRange {
@@ -27,7 +27,7 @@ impl RewriteRange {
     ghost use Rattle.lpm_rules.specs.Longest.{IsUncovered, IsCoverRule};
     ghost use Rattle.lpm_update.specs.declared.Did.TheVariants.{Done};
     ghost use Rattle.lpm_update.specs.declared.rewrite.Kind.TheVariants.{Add, Delete};
-    ghost use Rattle.lpm_update.specs.declared.update.Update.TheVariants.{Range};
+    ghost use Rattle.lpm_update.specs.declared.update.Plan.TheVariants.{Range};
     ghost use Rattle.lpm_update.specs.Best.{IsCoverEntry};
     ghost use Rattle.lpm_update.specs.Rewrite.{Skips};
     ghost use Rattle.lpm_update.specs.Linked.{IsTable};
@@ -35,14 +35,18 @@ impl RewriteRange {
     ghost use Rattle.lpm_update.specs.Update.{IsUnderWay};
     ghost use Rattle.lpm_update.specs.Step.{AllowsNext, Steps, SetsWord};
 
-    /// The change that adds a rule whose block needs no new group: a rule no longer than `FIRST` bits,
-    /// or one whose block has a group.
-    pub fn add<const FIRST: u32, const SECOND: u32>(
+    /// The change that adds a rule whose block needs no new group: a rule no longer than `FIRST`
+    /// bits, or one whose block has a group.
+    pub(crate) fn add<const FIRST: u32, const SECOND: u32>(
         prefix: &Prefix<FIRST, SECOND>,
         hop: Hop,
     ) -> RewriteRange
         ensures range { IsRangeOf FIRST SECOND prefix.now result }
-        ensures rewrite { result.rewrite ≡ record { kind = Add; depth = prefix.now.len; entry = EntryHop hop prefix.now.len } }
+        ensures rewrite { result.rewrite ≡ record {
+          kind = Add;
+          depth = prefix.now.len;
+          entry = EntryHop hop prefix.now.len;
+        } }
     {
         let _number = hop.number();
         let _bits = prefix.bits();
@@ -58,9 +62,9 @@ impl RewriteRange {
         )
     }
 
-    /// The change that deletes a rule whose cover, the longest rule that is shorter and covers it, is
-    /// this one.
-    pub fn delete<const FIRST: u32, const SECOND: u32>(
+    /// The change that deletes a rule whose cover, the longest rule that is shorter and covers it,
+    /// is this one.
+    pub(crate) fn delete<const FIRST: u32, const SECOND: u32>(
         prefix: &Prefix<FIRST, SECOND>,
         cover: Option<Rule<FIRST, SECOND>>,
     ) -> RewriteRange
@@ -113,8 +117,10 @@ impl RewriteRange {
         requires table { IsTable FIRST SECOND (C.words cells.old) }
         requires under_way { IsUnderWay FIRST SECOND (Range self.old) (C.words cells.old) }
         requires more { self.old.at < self.old.end }
-        requires allows { AllowsNext FIRST SECOND (Range self.old) (C.words cells.old) (C.may_set_first cells.old) (C.may_set_second cells.old) }
-        ensures visits { Visits FIRST SECOND self.old (C.words cells.old) result self.new (C.words cells.new) }
+        requires allows { AllowsNext FIRST SECOND (Range self.old) (C.words cells.old)
+            (C.may_set_first cells.old) (C.may_set_second cells.old) }
+        ensures visits { Visits FIRST SECOND self.old (C.words cells.old) result
+            self.new (C.words cells.new) }
         ensures sets { SetsWord C.words C.sets_first C.sets_second cells.old result cells.new }
     {
         let at = self.at;
@@ -143,17 +149,23 @@ impl RewriteRange {
         Did::Done
     }
 
-    /// Makes the next store of the change, upwards; where none is left, it is done.
+    /// Makes the next store of the change, upwards, or none where it is done.
     #[inline(always)]
-    pub fn step<const FIRST: u32, const SECOND: u32, C: Cells>(&mut self, cells: &mut C) -> Did
+    pub(crate) fn step<const FIRST: u32, const SECOND: u32, C: Cells>(
+        &mut self,
+        cells: &mut C,
+    ) -> Did
         requires shape { IsShape FIRST SECOND }
         requires table { IsTable FIRST SECOND (C.words cells.old) }
         requires under_way { IsUnderWay FIRST SECOND (Range self.old) (C.words cells.old) }
-        requires allows { AllowsNext FIRST SECOND (Range self.old) (C.words cells.old) (C.may_set_first cells.old) (C.may_set_second cells.old) }
-        ensures steps { Steps FIRST SECOND (Range self.old) (C.words cells.old) result (Range self.new) (C.words cells.new) }
+        requires allows { AllowsNext FIRST SECOND (Range self.old) (C.words cells.old)
+            (C.may_set_first cells.old) (C.may_set_second cells.old) }
+        ensures steps { Steps FIRST SECOND (Range self.old) (C.words cells.old) result
+            (Range self.new) (C.words cells.new) }
         ensures sets { SetsWord C.words C.sets_first C.sets_second cells.old result cells.new }
         // Where it is done, no entry was left to rewrite.
-        ensures skips { result ≡ Done → Skips SECOND self.old.rewrite (C.words cells.old) self.old.at self.old.end }
+        ensures skips { result ≡ Done
+            → Skips SECOND self.old.rewrite (C.words cells.old) self.old.at self.old.end }
     {
         while self.at < self.end {
             match self.visit::<FIRST, SECOND, C>(cells) {

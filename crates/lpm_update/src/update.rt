@@ -6,10 +6,11 @@ use super::{Did, Flush, LinkGroup, RewriteRange, UnlinkGroup};
 use lpm_bits::{Hop, Prefix, Shape};
 use lpm_cells::Cells;
 use lpm_rules::Rule;
+use std::marker::Model;
 
-/// A change of the words by a change of the rule list, one store of one word a step.
+/// What is left to store, by the kind of the change.
 #[derive(Debug, Drop)]
-pub enum Update {
+pub(crate) enum Plan {
     /// The words of a range are rewritten, upwards.
     Range(RewriteRange),
     /// The words of a free group are stored, and then it is linked.
@@ -18,6 +19,20 @@ pub enum Update {
     Unlink(UnlinkGroup),
     /// All first words become misses.
     Flush(Flush),
+}
+
+/// A change of the words by a change of the rule list, one store of one word a step.
+#[derive(Debug, Drop)]
+pub struct Update {
+    plan: Plan,
+}
+
+impl Model for Update {
+    ghost use Rattle.lpm_update.specs.declared.update.Plan.{Plan};
+
+    ghost Value = { Plan };
+
+    ghost view = { λ u. u.plan };
 }
 
 impl Update {
@@ -32,8 +47,8 @@ impl Update {
     ghost use Rattle.lpm_update.specs.Update.{IsUnderWay, group_held};
     ghost use Rattle.lpm_update.specs.Step.{AllowsNext, Steps, SetsWord};
 
-    /// The addition of a rule, or its replacement, by a free group where the rule is longer than `FIRST`
-    /// bits and its block has none.
+    /// The addition of a rule, or its replacement, by a free group where the rule is longer than
+    /// `FIRST` bits and its block has none.
     pub fn add<const FIRST: u32, const SECOND: u32>(
         prefix: &Prefix<FIRST, SECOND>,
         hop: Hop,
@@ -44,40 +59,55 @@ impl Update {
             → group_held result firsts i ≡ held_with group (prefix.now.bits / 2 ^ SECOND) firsts i }
         ensures begun { (R : RuleMap) (t : Words) → Represents FIRST SECOND R t
             → AddFits FIRST SECOND R prefix.now t group
-            → IsBegun FIRST SECOND result t × TurnsInto FIRST SECOND result R (map.insert R prefix.now hop) }
+            → IsBegun FIRST SECOND result t
+                × TurnsInto FIRST SECOND result R (map.insert R prefix.now hop) }
     {
         let _bits = prefix.bits();
         match group {
-            Some(group) => Update::Link(LinkGroup::add(prefix, hop, group)),
-            None => Update::Range(RewriteRange::add(prefix, hop)),
+            Some(group) => {
+                return Update {
+                    plan: Plan::Link(LinkGroup::add(prefix, hop, group)),
+                };
+            }
+            None => {
+                return Update {
+                    plan: Plan::Range(RewriteRange::add(prefix, hop)),
+                };
+            }
         }
     }
 
-    /// The deletion of a rule whose cover is this one, the longest rule that is shorter and covers it;
-    /// `last` tells that the rule is longer than `FIRST` bits, and that none longer is left in its block.
+    /// The deletion of a rule whose cover, the longest rule that is shorter and covers it, is this
+    /// one. `last` tells that the rule was the last of its block that is longer than `FIRST` bits.
     pub fn delete<const FIRST: u32, const SECOND: u32>(
         prefix: &Prefix<FIRST, SECOND>,
         cover: Option<Rule<FIRST, SECOND>>,
         last: bool,
     ) -> Update
         ensures held { (firsts : List ℕ) (i : ℕ) → group_held result firsts i ≡ group_at firsts i }
-        ensures begun { (R : RuleMap) (t : Words) → Represents FIRST SECOND R t → IsSome (map.get R prefix.now)
+        ensures begun { (R : RuleMap) (t : Words) → Represents FIRST SECOND R t
+            → IsSome (map.get R prefix.now)
             → MatchOption cover.entry
                 (IsUncovered (FIRST + SECOND) R prefix.now)
                 (λ c. IsCoverRule (FIRST + SECOND) R prefix.now c.prefix c.hop)
             → LastFits FIRST SECOND (map.remove R prefix.now) prefix.now last
-            → IsBegun FIRST SECOND result t × TurnsInto FIRST SECOND result R (map.remove R prefix.now) }
+            → IsBegun FIRST SECOND result t
+                × TurnsInto FIRST SECOND result R (map.remove R prefix.now) }
     {
         let range = RewriteRange::delete(prefix, cover);
         if last {
             let block = Shape::<FIRST, SECOND>::first_index(prefix.bits());
-            return Update::Unlink(UnlinkGroup {
-                range,
-                block,
-                unlinked: false,
-            });
+            return Update {
+                plan: Plan::Unlink(UnlinkGroup {
+                    range,
+                    block,
+                    unlinked: false,
+                }),
+            };
         }
-        Update::Range(range)
+        Update {
+            plan: Plan::Range(range),
+        }
     }
 
     /// The removal of all rules.
@@ -86,24 +116,29 @@ impl Update {
         ensures begun { (R : RuleMap) (t : Words) → Represents FIRST SECOND R t
             → IsBegun FIRST SECOND result t × TurnsInto FIRST SECOND result R map.empty }
     {
-        Update::Flush(Flush { next: 0 })
+        Update {
+            plan: Plan::Flush(Flush { next: 0 }),
+        }
     }
 
-    /// Makes the next store of the change, and tells which one it was; where none is left, it is done.
+    /// Makes the next store of the change and returns which one it was, or `Done` where none is
+    /// left.
     #[inline]
     pub fn step<const FIRST: u32, const SECOND: u32, C: Cells>(&mut self, cells: &mut C) -> Did
         requires shape { IsShape FIRST SECOND }
         requires table { IsTable FIRST SECOND (C.words cells.old) }
         requires under_way { IsUnderWay FIRST SECOND self.old (C.words cells.old) }
-        requires allows { AllowsNext FIRST SECOND self.old (C.words cells.old) (C.may_set_first cells.old) (C.may_set_second cells.old) }
-        ensures steps { Steps FIRST SECOND self.old (C.words cells.old) result self.new (C.words cells.new) }
+        requires allows { AllowsNext FIRST SECOND self.old (C.words cells.old)
+            (C.may_set_first cells.old) (C.may_set_second cells.old) }
+        ensures steps { Steps FIRST SECOND self.old (C.words cells.old) result
+            self.new (C.words cells.new) }
         ensures sets { SetsWord C.words C.sets_first C.sets_second cells.old result cells.new }
     {
-        match self {
-            Update::Range(range) => range.step::<FIRST, SECOND, C>(cells),
-            Update::Link(link) => link.step::<FIRST, SECOND, C>(cells),
-            Update::Unlink(unlink) => unlink.step::<FIRST, SECOND, C>(cells),
-            Update::Flush(flush) => flush.step::<FIRST, SECOND, C>(cells),
+        match &mut self.plan {
+            Plan::Range(range) => range.step::<FIRST, SECOND, C>(cells),
+            Plan::Link(link) => link.step::<FIRST, SECOND, C>(cells),
+            Plan::Unlink(unlink) => unlink.step::<FIRST, SECOND, C>(cells),
+            Plan::Flush(flush) => flush.step::<FIRST, SECOND, C>(cells),
         }
     }
 }

@@ -4,7 +4,7 @@ use Rattle.std.proofs.lemmas.Nat.{one_shl}
 use Rattle.lpm_entry.specs.Words.{entry_in, group_in}
 use Rattle.lpm_cells.specs.Table.{with_first}
 use Rattle.lpm_update.specs.declared.Did.TheVariants.{First, Unlinked, Done}
-use Rattle.lpm_update.specs.declared.update.Update.TheVariants.{Flush}
+use Rattle.lpm_update.specs.declared.update.Plan.TheVariants.{Flush}
 use Rattle.lpm_update.specs.Flush.{IsFlushStore}
 use Rattle.lpm_update.specs.Step.{Steps}
 use Rattle.lpm_update.proofs.Places.{sets_first}

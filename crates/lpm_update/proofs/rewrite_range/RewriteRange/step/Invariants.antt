@@ -1,5 +1,5 @@
 use Rattle.std.proofs.Common.{◌-◌, ◌≡◌}
-use Rattle.lpm_update.specs.declared.update.Update.TheVariants.{Range}
+use Rattle.lpm_update.specs.declared.update.Plan.TheVariants.{Range}
 use Rattle.lpm_update.specs.Rewrite.{Skips}
 use Rattle.lpm_update.specs.RewriteRange.{IsFurther}
 use Rattle.lpm_update.specs.Update.{IsUnderWay}
