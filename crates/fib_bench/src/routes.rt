@@ -7,7 +7,7 @@ use fib::Fib;
 use lpm_bits::{Hop, Prefix};
 use lpm_rules::Put;
 use rand_core::Rng;
-use std::alloc::Global;
+use std::alloc::{AllocError, Global};
 
 /// A prefix and its next hop.
 #[derive(Clone, Copy)]
@@ -39,6 +39,30 @@ pub(crate) fn fill<R: Rng>(
         }
     }
     ensure!(routes.len() == count, "too many prefixes were drawn twice");
+    Ok(routes)
+}
+
+/// The first address of each block that has one of these routes longer than 24 bits.
+///
+/// A block stands here once for each such route.
+pub(crate) fn deep_blocks(alloc: Global, routes: &[Route]) -> Result<Vec<u32>, AllocError> {
+    let mut blocks = Vec::new(alloc);
+    for route in routes {
+        if route.prefix.len() > 24 {
+            blocks.push(route.prefix.bits() & !0xff)?;
+        }
+    }
+    Ok(blocks)
+}
+
+/// A route of 32 bits for each address of the first block.
+pub(crate) fn full_block(alloc: Global) -> Result<Vec<Route>> {
+    let mut routes = Vec::new(alloc);
+    for addr in 0..256u32 {
+        let prefix = Prefix::new(addr, 32)?;
+        let hop = Hop::new(addr)?;
+        routes.push(Route { prefix, hop })?;
+    }
     Ok(routes)
 }
 
