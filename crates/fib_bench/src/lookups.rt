@@ -137,7 +137,7 @@ fn add_ascending<T: Table>(table: &T, sum: u64) -> u64 {
     sum
 }
 
-/// The least times that all lookups took, and the sum of the next hops that was the same for both tables.
+/// The least times that all lookups took, and the sum of the next hops, the same for both tables.
 #[derive(Clone, Copy)]
 pub(crate) struct Compared {
     pub(crate) first: Duration,

@@ -75,7 +75,7 @@ fn draw<R: Rng>(random: &mut R) -> Result<Route> {
     Ok(Route { prefix, hop })
 }
 
-/// The length of a prefix that is one of a hundred. It is like that of the routes of the internet: more
+/// The length of a prefix that is one of a hundred, like that of the routes of the internet: more
 /// than half have 24 bits, few have less than 16, and two in a hundred have more than 24.
 pub(crate) fn length(of_hundred: u32, among: u32) -> u32
     ensures { result ≤ 32 }

@@ -24,7 +24,7 @@ pub(crate) struct Words {
 }
 
 impl Words {
-    /// Words with the answers of the table, in which these are the first addresses of the deep blocks.
+    /// Words with the answers of the table, whose deep blocks have these first addresses.
     pub(crate) fn new(
         alloc: Global,
         table: &Fib<24, 8>,
