@@ -1,5 +1,7 @@
 //! Lookups at many addresses.
 
+ghost use Rattle.std.specs.Prelude.{◌<◌, length};
+
 use anyhow::{Result, ensure};
 use fib::Fib;
 use rand_core::Rng;
@@ -28,13 +30,13 @@ impl Table for Fib<24, 8> {
 #[derive(Drop)]
 pub(crate) enum Addresses {
     /// These.
-    Random(Vec<u32>),
+    Listed(Vec<u32>),
     /// One in each 251, upwards.
     Ascending,
 }
 
-/// How many random addresses there are.
-const RANDOM: usize = 1 << 22;
+/// How many addresses a list has.
+const LISTED: usize = 1 << 22;
 /// How many ascending addresses there are.
 const ASCENDING: u32 = 1 << 24;
 /// How far one ascending address is from the next.
@@ -43,27 +45,76 @@ const STRIDE: u32 = 251;
 const ROUNDS: usize = 5;
 
 impl Addresses {
+    /// Addresses with any bits.
     pub(crate) fn random<R: Rng>(alloc: Global, random: &mut R) -> Result<Addresses, AllocError> {
-        let mut addrs = Vec::with_capacity(alloc, RANDOM)?;
-        for _ in 0..RANDOM {
+        let mut addrs = Vec::with_capacity(alloc, LISTED)?;
+        for _ in 0..LISTED {
             addrs.push(random.next_u32())?;
         }
-        Ok(Addresses::Random(addrs))
+        Ok(Addresses::Listed(addrs))
+    }
+
+    /// Addresses in these blocks, each given by its first address.
+    pub(crate) fn deep<R: Rng>(
+        alloc: Global,
+        random: &mut R,
+        blocks: &[u32],
+    ) -> Result<Addresses, AllocError>
+        requires { 0 < length blocks.now }
+    {
+        let mut addrs = Vec::with_capacity(alloc, LISTED)?;
+        for _ in 0..LISTED {
+            addrs.push(draw_within(random, blocks))?;
+        }
+        Ok(Addresses::Listed(addrs))
+    }
+
+    /// Addresses of which each is in one of these blocks or has any bits, as a coin falls.
+    pub(crate) fn half_deep<R: Rng>(
+        alloc: Global,
+        random: &mut R,
+        blocks: &[u32],
+    ) -> Result<Addresses, AllocError>
+        requires { 0 < length blocks.now }
+    {
+        let mut addrs = Vec::with_capacity(alloc, LISTED)?;
+        for _ in 0..LISTED {
+            addrs.push(draw_half_within(random, blocks))?;
+        }
+        Ok(Addresses::Listed(addrs))
     }
 
     /// How many there are.
     pub(crate) fn count(&self) -> usize {
         match self {
-            Addresses::Random(addrs) => addrs.len(),
+            Addresses::Listed(addrs) => addrs.len(),
             Addresses::Ascending => ASCENDING as usize,
         }
     }
 }
 
+/// An address in one of these blocks, each given by its first address.
+pub(crate) fn draw_within<R: Rng>(random: &mut R, blocks: &[u32]) -> u32
+    requires { 0 < length blocks.now }
+{
+    let first = blocks[random.next_u32() as usize % blocks.len()];
+    first | (random.next_u32() % 256)
+}
+
+/// An address in one of these blocks, or any address.
+fn draw_half_within<R: Rng>(random: &mut R, blocks: &[u32]) -> u32
+    requires { 0 < length blocks.now }
+{
+    if random.next_u32() % 2 == 0 {
+        return random.next_u32();
+    }
+    draw_within(random, blocks)
+}
+
 /// Adds the number of each address's next hop to the sum.
 fn add_numbers<T: Table>(table: &T, addresses: &Addresses, sum: u64) -> u64 {
     match addresses {
-        Addresses::Random(addrs) => add_listed(table, addrs.as_slice(), sum),
+        Addresses::Listed(addrs) => add_listed(table, addrs.as_slice(), sum),
         Addresses::Ascending => add_ascending(table, sum),
     }
 }
@@ -86,7 +137,7 @@ fn add_ascending<T: Table>(table: &T, sum: u64) -> u64 {
     sum
 }
 
-/// The least times that all lookups took, and the sum of the next hops that was the same for both tables.
+/// The least times that all lookups took, and the sum of the next hops, the same for both tables.
 #[derive(Clone, Copy)]
 pub(crate) struct Compared {
     pub(crate) first: Duration,

@@ -1,4 +1,4 @@
-//! `fib_bench`: how fast the table looks up and changes, beside a plain loop over words of the same size.
+//! `fib_bench`: how fast the table looks up and changes, beside plain words of the same size.
 #![tactic(auto)]
 
 mod changes;
@@ -18,8 +18,8 @@ use std::process::ExitCode;
 
 const USAGE: &str = "usage: fib_bench run [ROUTES]
 
-Makes a table of ROUTES random routes, 1 to 1000000, by default 100000, and prints how long lookups and
-changes take.
+Makes a table of ROUTES random routes, 1 to 1000000, by default 100000, and prints how long
+lookups and changes take.
 ";
 
 /// How many routes the table has where the command line doesn't say.

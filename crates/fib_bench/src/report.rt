@@ -1,16 +1,17 @@
 //! The whole run, and what it prints.
 
+ghost use Rattle.std.specs.Prelude.{◌<◌, length};
 ghost use Rattle.lpm_limits.specs.Limits.{IsConfig};
 
 use crate::changes::{add_all, delete_all};
-use crate::lookups::{Addresses, Compared, compare};
-use crate::routes::{Route, fill};
+use crate::lookups::{Addresses, compare};
+use crate::routes::{Route, deep_blocks, fill, full_block};
 use crate::words::Words;
 use anyhow::Result;
 use fib::Fib;
 use lpm_bits::{Hop, Prefix};
 use qsbr::Config;
-use rand_core::SeedableRng;
+use rand_core::{Rng, SeedableRng};
 use rand_xoshiro::Xoshiro256PlusPlus;
 use std::fmt;
 use std::rt::Clock;
@@ -28,24 +29,10 @@ pub(crate) fn run<R: Clock + Print + AllocGlobal>(rt: &R, count: usize) -> Resul
     println!(rt; "routes: {rules}")?;
     let in_use = table.counts().in_use;
     println!(rt; "groups in use: {in_use}")?;
-    {
-        let words = Words::new(rt.alloc(), &table, routes.as_slice())?;
-        let addresses = Addresses::random(rt.alloc(), &mut random)?;
-        print_lookups(
-            rt,
-            "random",
-            &addresses,
-            &compare(rt, &table, &words, &addresses)?,
-        )?;
-        let addresses = Addresses::Ascending;
-        print_lookups(
-            rt,
-            "ascending",
-            &addresses,
-            &compare(rt, &table, &words, &addresses)?,
-        )?;
-    }
-    print_changes(rt, &mut table, routes.as_slice())
+    print_all_lookups(rt, &table, routes.as_slice(), &mut random)?;
+    print_changes(rt, &mut table, routes.as_slice())?;
+    print_default_route(rt, &mut table)?;
+    print_full_block(rt, &mut table)
 }
 
 /// The limits of the table: as many rules and groups as there can be.
@@ -62,26 +49,61 @@ fn limits() -> Config
     }
 }
 
-/// Prints what the table took beside the plain words, each lookup in nanoseconds.
-fn print_lookups<R: Print>(
+/// Prints what lookups take at addresses of each kind; deep ones only where a route is deep.
+fn print_all_lookups<R: Clock + Print + AllocGlobal, G: Rng>(
     rt: &R,
-    order: &str,
-    addresses: &Addresses,
-    compared: &Compared,
+    table: &Fib<24, 8>,
+    routes: &[Route],
+    random: &mut G,
 ) -> Result<()> {
+    let blocks = deep_blocks(rt.alloc(), routes)?;
+    let words = Words::new(rt.alloc(), table, blocks.as_slice())?;
+    let addresses = Addresses::random(rt.alloc(), random)?;
+    print_lookups(rt, "random", table, &words, &addresses)?;
+    print_lookups(rt, "ascending", table, &words, &Addresses::Ascending)?;
+    if blocks.is_empty() {
+        return Ok(());
+    }
+    print_deep_lookups(rt, table, &words, blocks.as_slice(), random)
+}
+
+/// Prints what lookups take in these blocks, each given by its first address.
+fn print_deep_lookups<R: Clock + Print + AllocGlobal, G: Rng>(
+    rt: &R,
+    table: &Fib<24, 8>,
+    words: &Words,
+    blocks: &[u32],
+    random: &mut G,
+) -> Result<()>
+    requires { 0 < length blocks.now }
+{
+    let addresses = Addresses::deep(rt.alloc(), random, blocks)?;
+    print_lookups(rt, "deep", table, words, &addresses)?;
+    let addresses = Addresses::half_deep(rt.alloc(), random, blocks)?;
+    print_lookups(rt, "half deep", table, words, &addresses)
+}
+
+/// Prints what the table takes beside the plain words, each lookup in nanoseconds.
+fn print_lookups<R: Clock + Print>(
+    rt: &R,
+    kind: &str,
+    table: &Fib<24, 8>,
+    words: &Words,
+    addresses: &Addresses,
+) -> Result<()> {
+    let compared = compare(rt, table, words, addresses)?;
     let count = addresses.count();
     let table = hundredths_of_nanos(compared.first, count);
     let words = hundredths_of_nanos(compared.second, count);
-    println!(rt; "lookups, {order}: {} ns each", Hundredths(table))?;
-    println!(rt; "plain words, {order}: {} ns each", Hundredths(words))?;
-    let ratio = table.saturating_mul(100) / words.max(1);
-    println!(rt; "ratio, {order}: {}", Hundredths(ratio))?;
+    println!(rt; "lookups, {kind}: {} ns each", Hundredths(table))?;
+    println!(rt; "plain words, {kind}: {} ns each", Hundredths(words))?;
+    println!(rt; "ratio, {kind}: {}", Hundredths(ratio(table, words)))?;
     let sum = compared.sum;
-    println!(rt; "checksum, {order}: {sum}")?;
+    println!(rt; "checksum, {kind}: {sum}")?;
     Ok(())
 }
 
-/// Deletes part of the routes and adds them again, and then does so with a default route.
+/// Deletes part of the routes and adds them again.
 fn print_changes<R: Clock + Print>(rt: &R, table: &mut Fib<24, 8>, routes: &[Route]) -> Result<()> {
     let count = routes.len().min(SAMPLE);
     let sample = &routes[..count];
@@ -89,19 +111,35 @@ fn print_changes<R: Clock + Print>(rt: &R, table: &mut Fib<24, 8>, routes: &[Rou
     println!(rt; "deletions: {} a second", each_second(deleting, count))?;
     let adding = add_all(rt, table, sample)?;
     println!(rt; "additions: {} a second", each_second(adding, count))?;
+    Ok(())
+}
+
+/// Adds a default route and deletes it again.
+fn print_default_route<R: Clock + Print>(rt: &R, table: &mut Fib<24, 8>) -> Result<()> {
     let default = [Route {
         prefix: Prefix::new(0, 0)?,
         hop: Hop::new(1)?,
     }];
-    let adding = add_all(rt, table, &default)?;
+    let adding = hundredths_of_millis(add_all(rt, table, &default)?);
+    println!(rt; "addition of a default route: {} ms", Hundredths(adding))?;
+    let deleting = hundredths_of_millis(delete_all(rt, table, &default)?);
+    println!(rt; "deletion of a default route: {} ms", Hundredths(deleting))?;
+    Ok(())
+}
+
+/// Adds a route of 32 bits for each address of a block, and deletes them again.
+fn print_full_block<R: Clock + Print + AllocGlobal>(rt: &R, table: &mut Fib<24, 8>) -> Result<()> {
+    let routes = full_block(rt.alloc())?;
+    let count = routes.len();
+    let adding = add_all(rt, table, routes.as_slice())?;
     println!(rt;
-        "addition of a default route: {} ms",
-        Hundredths(hundredths_of_millis(adding))
+        "additions, full block: {} a second",
+        each_second(adding, count)
     )?;
-    let deleting = delete_all(rt, table, &default)?;
+    let deleting = delete_all(rt, table, routes.as_slice())?;
     println!(rt;
-        "deletion of a default route: {} ms",
-        Hundredths(hundredths_of_millis(deleting))
+        "deletions, full block: {} a second",
+        each_second(deleting, count)
     )?;
     Ok(())
 }
@@ -121,6 +159,11 @@ impl fmt::Display for Hundredths {
 /// The nanoseconds that each of so many calls took, in hundredths.
 fn hundredths_of_nanos(time: Duration, count: usize) -> u64 {
     nanos(time).saturating_mul(100) / (count as u64).max(1)
+}
+
+/// How often the second goes into the first, in hundredths.
+fn ratio(first: u64, second: u64) -> u64 {
+    first.saturating_mul(100) / second.max(1)
 }
 
 /// The time's milliseconds, in hundredths.

@@ -7,7 +7,7 @@ use fib::Fib;
 use lpm_bits::{Hop, Prefix};
 use lpm_rules::Put;
 use rand_core::Rng;
-use std::alloc::Global;
+use std::alloc::{AllocError, Global};
 
 /// A prefix and its next hop.
 #[derive(Clone, Copy)]
@@ -42,6 +42,30 @@ pub(crate) fn fill<R: Rng>(
     Ok(routes)
 }
 
+/// The first address of each block that has one of these routes longer than 24 bits.
+///
+/// A block stands here once for each such route.
+pub(crate) fn deep_blocks(alloc: Global, routes: &[Route]) -> Result<Vec<u32>, AllocError> {
+    let mut blocks = Vec::new(alloc);
+    for route in routes {
+        if route.prefix.len() > 24 {
+            blocks.push(route.prefix.bits() & !0xff)?;
+        }
+    }
+    Ok(blocks)
+}
+
+/// A route of 32 bits for each address of the first block.
+pub(crate) fn full_block(alloc: Global) -> Result<Vec<Route>> {
+    let mut routes = Vec::new(alloc);
+    for addr in 0..256u32 {
+        let prefix = Prefix::new(addr, 32)?;
+        let hop = Hop::new(addr)?;
+        routes.push(Route { prefix, hop })?;
+    }
+    Ok(routes)
+}
+
 /// A route with any bits and any next hop.
 fn draw<R: Rng>(random: &mut R) -> Result<Route> {
     let bits = random.next_u32();
@@ -51,7 +75,7 @@ fn draw<R: Rng>(random: &mut R) -> Result<Route> {
     Ok(Route { prefix, hop })
 }
 
-/// The length of a prefix that is one of a hundred. It is like that of the routes of the internet: more
+/// The length of a prefix that is one of a hundred, like that of the routes of the internet: more
 /// than half have 24 bits, few have less than 16, and two in a hundred have more than 24.
 pub(crate) fn length(of_hundred: u32, among: u32) -> u32
     ensures { result ≤ 32 }

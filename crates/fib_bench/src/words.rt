@@ -1,42 +1,41 @@
-//! Plain words that answer as the table does: what a lookup costs at least.
+//! Plain words of 32 bits that answer as the table does: what a lookup costs at least.
 
 ghost use Rattle.std.specs.Prelude.{◌≡◌, ◌<◌, vec_len};
 
 use crate::lookups::Table;
-use crate::routes::Route;
 use fib::Fib;
-use lpm_bits::{Hop, Shape};
+use lpm_bits::Hop;
 use std::alloc::{AllocError, Global};
 
 /// The number of words of each of the two lists.
 const WORDS: usize = 1 << 24;
 /// In a word: it has a next hop, or a group.
-const VALID: u64 = 1 << 24;
+const VALID: u32 = 1 << 24;
 /// In a first word: the next hops stand in the group of this number.
-const GROUP: u64 = 3 << 24;
+const GROUP: u32 = 3 << 24;
 
 /// As many first words as the table has, and as many second ones.
 #[derive(Drop)]
 pub(crate) struct Words {
-    firsts: Vec<u64>,
-    seconds: Vec<u64>,
+    firsts: Vec<u32>,
+    seconds: Vec<u32>,
     ghost firsts_len: { vec_len firsts ≡ 16777216 },
     ghost seconds_len: { vec_len seconds ≡ 16777216 },
 }
 
 impl Words {
-    /// Words with the answers of the table, whose routes these are.
+    /// Words with the answers of the table, whose deep blocks have these first addresses.
     pub(crate) fn new(
         alloc: Global,
         table: &Fib<24, 8>,
-        routes: &[Route],
+        blocks: &[u32],
     ) -> Result<Words, AllocError> {
         let mut words = Words {
-            firsts: vec![in alloc; 0u64; WORDS]?,
-            seconds: vec![in alloc; 0u64; WORDS]?,
+            firsts: vec![in alloc; 0u32; WORDS]?,
+            seconds: vec![in alloc; 0u32; WORDS]?,
         };
         words.fill_firsts(table);
-        words.fill_groups(table, routes);
+        words.fill_groups(table, blocks);
         Ok(words)
     }
 
@@ -46,25 +45,23 @@ impl Words {
         }
     }
 
-    /// Gives each block with a route of more than 24 bits a group, as long as there are any.
-    fn fill_groups(&mut self, table: &Fib<24, 8>, routes: &[Route]) {
+    /// Gives each of these blocks a group, as long as there are any.
+    fn fill_groups(&mut self, table: &Fib<24, 8>, blocks: &[u32]) {
         let mut group = 0u32;
-        for route in routes {
-            let bits = route.prefix.bits();
-            let block = Shape::<24, 8>::first_index(bits);
-            if route.prefix.len() > 24 && self.firsts[block] < GROUP && group < 1 << 16 {
-                self.fill_group(table, bits, group);
-                self.firsts[block] = GROUP + u64::from(group);
+        for first in blocks {
+            let block = (*first >> 8) as usize;
+            if self.firsts[block] < GROUP && group < 1 << 16 {
+                self.fill_group(table, *first, group);
+                self.firsts[block] = GROUP + group;
                 group += 1;
             }
         }
     }
 
-    fn fill_group(&mut self, table: &Fib<24, 8>, addr: u32, group: u32)
+    fn fill_group(&mut self, table: &Fib<24, 8>, first: u32, group: u32)
         requires { group < 65536 }
     {
         let base = (group << 8) as usize;
-        let first = addr & !0xff;
         for last in 0..256u32 {
             self.seconds[base + last as usize] = word_of(table.lookup(first | last));
         }
@@ -72,9 +69,9 @@ impl Words {
 }
 
 /// The word of an answer.
-fn word_of(hop: Option<Hop>) -> u64 {
+fn word_of(hop: Option<Hop>) -> u32 {
     match hop {
-        Some(hop) => VALID | u64::from(hop.number()),
+        Some(hop) => VALID | hop.number(),
         None => 0,
     }
 }
@@ -84,9 +81,9 @@ impl Table for Words {
     fn number(&self, addr: u32) -> u64 {
         let word = self.firsts[(addr >> 8) as usize];
         if word < GROUP {
-            return word % VALID;
+            return u64::from(word % VALID);
         }
-        let place = ((word % 0x1_0000) << 8) + u64::from(addr % 256);
-        self.seconds[place as usize] % VALID
+        let place = ((word % 0x1_0000) << 8) + addr % 256;
+        u64::from(self.seconds[place as usize] % VALID)
     }
 }
