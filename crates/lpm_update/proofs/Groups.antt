@@ -32,11 +32,6 @@ not_group_none (Group group) h = absurd (h group refl)
 pub no_group_at : (F : List ℕ) (i : ℕ) → ((g : ℕ) → IsLinkTo F i g → ⊥) → group_at F i ≡ None
 no_group_at F i h = not_group_none (entry_in (slice_index F i)) h
 
--- a block has a group or none
-pub group_cases : (o : Option ℕ) → (o ≡ None) ⊎ ((g : ℕ) × (o ≡ Some g))
-group_cases None = inl refl
-group_cases (Some g) = inr (g, refl)
-
 pub first_within : (f s i end : ℕ) → i * 2 ^ s < end → end ≤ 2 ^ (f + s) → i < 2 ^ f
 first_within f s i end h l = elim (cases_lt i (2 ^ f)) [
   | inl below ↦ below
@@ -93,9 +88,6 @@ held_by i b x y z same = elim (cases_eq i b) [
 
 pub not_unlinked : (u : Bool) (k block : ℕ) (o : Option ℕ) → u ≡ false → o ≡ (if u && k == block then None else o)
 not_unlinked u k block o e = sym (ap (λ b. if b && k == block then None else o) e)
-
-pub is_unlinked : (u : Bool) (k block : ℕ) (o : Option ℕ) → u ≡ true → (if u && k == block then None else o) ≡ (if k == block then None else o)
-is_unlinked u k block o e = ap (λ b. if b && k == block then None else o) e
 
 pub flushed_by : (k m : ℕ) (o : Option ℕ) → k < m → (if nat_lt k m then None else o) ≡ None
 flushed_by k m o h = if_true (nat_lt k m) None o (lt-ltb k m h)

@@ -45,10 +45,6 @@ linked_in s W b g w a h e p =
     ∙ ap (λ x. followed s W.seconds (a % 2 ^ s) (entry_in x)) (get_or-set_same W.firsts b w 0 h)
     ∙ ap (followed s W.seconds (a % 2 ^ s)) e
 
-and_left : (a b : Bool) → (a && b) ≡ true → a ≡ true
-and_left true b e = refl
-and_left false b e = e
-
 pub range_true : (from end a : ℕ) (x y : Entry) → from ≤ a → a < end → cond (in_range from end a) x y ≡ x
 range_true from end a x y l h = ap (λ b. cond (b && nat_lt a end) x y) (le-leb from a l) ∙ ap (λ b. cond b x y) (lt-ltb a end h)
 
@@ -225,19 +221,6 @@ module _ (f s : ℕ) (u : LinkGroup) (W : Words) (t : IsTable f s W) (k : IsLink
         left = λ _. omega (arith, full);
         stored = stored_first (IsNextFirst f s (Link u) W i) W i w within n;
       }
-
-  pub link_done : 2 ^ s < u.next → Steps f s (Link u) W Done (Link u) W
-  link_done past = record {
-    onward = (refl, omega arith);
-    passed = tt;
-    table = t;
-    under_way = k;
-    stands = λ E st. st;
-    groups = λ L known. known;
-    held = λ b low. refl;
-    left = λ n. absurd (n refl);
-    stored = (refl, record { reached = reached_high s u past; groups = λ L b low. linked_now s u.next (L b) (if b == u.block then Some u.group else L b) past });
-  }
 
 pub block_small : (f b : ℕ) → b < 2 ^ f → f ≤ 32 → b < 2 ^ 32
 block_small f b h l = let z : 2 ^ f ≤ 2 ^ 32 = pow_mono l in omega (arith, h, z)

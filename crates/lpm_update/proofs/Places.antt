@@ -229,13 +229,6 @@ sets_first words P old mid new i w same h e p =
     let q = index_first (words old) (words new) i w h (e ∙ ap (λ x. with_first (words x) i w) same) in
     subst (λ x. P x i (slice_index (words new).firsts i) new) same (subst (λ x. P mid i x new) (sym q) p)
 
-pub sets_second : {A : Type 0} (words : A → Words) (P : A → ℕ → ℕ → A → Type 0) (old mid new : A) (j w : ℕ) → mid ≡ old → j < length (words old).seconds
-    → words new ≡ with_second (words mid) j w → P mid j w new → P old j (slice_index (words new).seconds j) new
-sets_second words P old mid new j w same h e p =
-    let q : slice_index (words new).seconds j ≡ w =
-    ap (λ (x : Words). slice_index x.seconds j) (e ∙ ap (λ x. with_second (words x) j w) same) ∙ get_or-set_same (words old).seconds j w 0 h in
-    subst (λ x. P x j (slice_index (words new).seconds j) new) same (subst (λ x. P mid j x new) (sym q) p)
-
 -- ---- what a change keeps
 
 -- the word at i is no group's before and after

@@ -129,9 +129,6 @@ skips_join : (s low mid high : ℕ) (c : Rewrite) (W : Words) → Skips s c W lo
 skips_join s low mid high c W p q = λ a l h. elim (cases_lt a mid) [ inl below ↦ p a l below | inr above ↦ q a above h ]
 
 module _ (s : ℕ) (u m : RewriteRange) (W : Words) (fu : IsFurther u m) (k : Skips s u.rewrite W u.at m.at) where
-  pub mid_skips : (high : ℕ) → Skips s m.rewrite W m.at high → Skips s u.rewrite W u.at high
-  mid_skips high n = skips_join s u.at m.at high u.rewrite W k (subst (λ c. Skips s c W m.at high) fu.rewrite n)
-
   mid_first : (i w : ℕ) → IsFirstStore s m.at m.end m.rewrite W i w → IsFirstStore s u.at u.end u.rewrite W i w
   mid_first i w n =
       let h : IsFirstStore s m.at u.end u.rewrite W i w = subst (λ x. IsFirstStore s m.at x u.rewrite W i w) fu.end (subst (λ x. IsFirstStore s m.at m.end x W i w) fu.rewrite n) in
@@ -156,13 +153,6 @@ module _ (s : ℕ) (u m : RewriteRange) (W : Words) (fu : IsFurther u m) (k : Sk
         word = h.word;
         skipped = skips_join s u.at m.at _ u.rewrite W k h.skipped;
       }
-
-  pub mid_allows : (f : ℕ) (P Q : ℕ → ℕ → Type 0) → AllowsNext f s (Range u) W P Q → AllowsNext f s (Range m) W P Q
-  mid_allows f P Q a = record {
-    first_word = λ i w n. a.first_word i w (mid_first i w n);
-    second_word = λ j w n. a.second_word j w (n.0, n.1, mid_second n.0 n.1 j w n.2);
-    unlink = λ b g w n. absurd n;
-  }
 
   pub mid_steps : (f : ℕ) (did : Did) (v : RewriteRange) (W' : Words) → IsTable f s W → IsRewriting f s u.from u.at u.end u.rewrite W.firsts → (did ≡ Done → ⊥) → Visits f s m W did v W'
       → Steps f s (Range u) W did (Range v) W'

@@ -83,30 +83,6 @@ range_covers width p a n c =
     let high = block_high k a in
     (omega (arith, same, low), omega (arith, same, high))
 
--- midway, each address has the entry of its longest rule before or after, and those behind have the new one
-pub add_midway : (width s at : ℕ) (R : RuleMap) (p : Network) (h : ℕ) (W : Words) (E : ℕ → Entry) → IsNetwork width p → AllBest width R E
-    → Stands s p.bits at (record { kind = Add; depth = p.len; entry = Hop h p.len }) W E → at ≤ p.bits + 2 ^ (width - p.len)
-    → (a : ℕ) → a < 2 ^ width → (a < at → IsBest width (insert R p h) a (entry_at s W a)) × (at ≤ a → IsBest width R a (entry_at s W a))
-add_midway width s at R p h W E n best t within a low = (
-  (λ behind. elim (cases_lt a p.bits) [
-    | inl before ↦ subst (IsBest width (insert R p h) a) (sym (t.before a before))
-        (add_other width R p h a (E a) (λ c. let z = (range_covers width p a n c).0 in absurd (omega (arith, z, before))) (best a low))
-    | inr from ↦ subst (IsBest width (insert R p h) a) (sym (t.done a from behind))
-        (add_covered width R p h a (E a) (covers_range width p a n from (omega (arith, behind, within))) (best a low))
-  ]),
-  (λ ahead. subst (IsBest width R a) (sym (t.todo a ahead)) (best a low)),
-)
-
--- at its end, each address has the entry of its longest rule in the list with the new rule
-pub add_done : (width s : ℕ) (R : RuleMap) (p : Network) (h : ℕ) (W : Words) (E : ℕ → Entry) → IsNetwork width p → AllBest width R E
-    → Stands s p.bits (p.bits + 2 ^ (width - p.len)) (record { kind = Add; depth = p.len; entry = Hop h p.len }) W E
-    → AllBest width (insert R p h) (entry_at s W)
-add_done width s R p h W E n best t a low = elim (cases_lt a (p.bits + 2 ^ (width - p.len))) [
-  | inl behind ↦ (add_midway width s _ R p h W E n best t (omega arith) a low).0 behind
-  | inr ahead ↦ subst (IsBest width (insert R p h) a) (sym (t.todo a ahead))
-      (add_other width R p h a (E a) (λ c. let z = (range_covers width p a n c).1 in absurd (omega (arith, z, ahead))) (best a low))
-]
-
 -- the next hop of the longest rule's entry
 pub best_hop : (width : ℕ) (R : RuleMap) (a : ℕ) (e : Entry) → IsBest width R a e → IsLongestHop width R a (hop_in e)
 best_hop width R a Miss b = b

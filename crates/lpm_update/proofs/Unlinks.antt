@@ -22,7 +22,7 @@ use Rattle.lpm_update.specs.Update.{IsUnderWay, IsNextUnlink, places_left}
 use Rattle.lpm_update.specs.Step.{AllowsNext, Steps}
 use Rattle.lpm_update.proofs.Places.{first_same, first_other, first_room, in_group, last_no_group, table_first, stored_first}
 use Rattle.lpm_update.proofs.Uniform.{uniform_words}
-use Rattle.lpm_update.proofs.Groups.{gives_up, group_set_same, group_set_other, last_none, not_unlinked, is_unlinked, here_is, there_is}
+use Rattle.lpm_update.proofs.Groups.{gives_up, group_set_same, group_set_other, last_none, not_unlinked, here_is, there_is}
 
 -- it is seen by no address
 unlink_unseen : (s : ℕ) (W : Words) (b g w a : ℕ) → b < length W.firsts → IsLinkTo W.firsts b g → IsLast (entry_in w)
@@ -100,13 +100,6 @@ unlinking_along f s u r block W W' k same now stands held = record {
 }
 
 module _ (f s : ℕ) (u : UnlinkGroup) (W : Words) (there : u.unlinked ≡ false) where
-  pub range_allows : (P Q : ℕ → ℕ → Type 0) → AllowsNext f s (Unlink u) W P Q → AllowsNext f s (Range u.range) W P Q
-  range_allows P Q a = record {
-    first_word = λ i w n. a.first_word i w (there, n);
-    second_word = λ j w n. a.second_word j w (there, n);
-    unlink = λ b g w n. absurd n;
-  }
-
   module _ (k : IsUnlinking f s u.range u.block W) (r : RewriteRange) (W' : Words) where
     -- a step of the range is one of the change
     pub unlink_range : (did : Did) → (did ≡ Done → ⊥) → Steps f s (Range u.range) W did (Range r) W' → Steps f s (Unlink u) W did (Unlink (record u { range = r })) W'
@@ -177,17 +170,3 @@ module _ (f s : ℕ) (u : UnlinkGroup) (W : Words) (there : u.unlinked ≡ false
         left = λ _. omega (arith, over, one);
         stored = stored_first (IsNextUnlink f s (Unlink u) W u.block g) W u.block w within (there, refl, skips, store);
       }
-
--- the group is unlinked
-pub unlink_done : (f s : ℕ) (u : UnlinkGroup) (W : Words) → IsTable f s W → IsUnderWay f s (Unlink u) W → u.unlinked ≡ true → Steps f s (Unlink u) W Done (Unlink u) W
-unlink_done f s u W t k gone = record {
-  onward = (record { from = refl; end = refl; rewrite = refl; at = omega arith }, refl, λ e. e);
-  passed = tt;
-  table = t;
-  under_way = k;
-  stands = λ E st. st;
-  groups = λ L known. known;
-  held = λ b low. refl;
-  left = λ n. absurd (n refl);
-  stored = (refl, record { reached = k.1 gone; groups = λ L b low. is_unlinked u.unlinked b u.block (L b) gone });
-}

@@ -30,18 +30,6 @@ not_group_last Miss h = tt
 not_group_last (Hop n d) h = tt
 not_group_last (Group g) h = h g refl
 
-pub first_below : (f s : ℕ) (W : Words) (i : ℕ) → IsShape f s → IsTable f s W → i < 2 ^ f → slice_index W.firsts i < 2 ^ 32
-first_below f s W i p t h = word_below (f + s) (slice_index W.firsts i) p.2 (first_word f s W i t h).0
-
-pub second_below : (f s : ℕ) (W : Words) (j : ℕ) → IsShape f s → IsTable f s W → j < length W.seconds → slice_index W.seconds j < 2 ^ 32
-second_below f s W j p t h = word_below (f + s) (slice_index W.seconds j) p.2 (t.words.second_words j h).0
-
--- an entry of these addresses is one of 32-bit addresses
-pub entry_32 : (width : ℕ) (e : Entry) → width ≤ 32 → IsEntry width e → IsEntry 32 e
-entry_32 width Miss l h = tt
-entry_32 width (Hop n d) l h = (h.0, let k = h.1 in omega (arith, k, l))
-entry_32 width (Group g) l h = h
-
 group_small : (f s : ℕ) (W : Words) (i g : ℕ) → IsTable f s W → i < 2 ^ f → IsLinkTo W.firsts i g → g < 2 ^ 24
 group_small f s W i g t h e = subst (IsEntry (f + s)) e (first_word f s W i t h).0.0
 
