@@ -85,7 +85,7 @@ module _ (f s : ℕ) (u : RewriteRange) (W : Words) (i : ℕ) (more : u.at < u.e
       record {
         low = omega (arith, b);
         high = omega (arith, b, more);
-        taken = taken;
+        replaced = taken;
         last = l;
         word = word;
         skipped = λ a low high. absurd (omega (arith, b, low, high));
@@ -127,7 +127,7 @@ module _ (f s : ℕ) (u : RewriteRange) (W : Words) (g j : ℕ) (more : u.at < u
     high = more;
     group = e;
     place = p;
-    taken = taken;
+    replaced = taken;
     word = word;
     skipped = λ a low high. absurd (omega (arith, low, high));
   }
