@@ -13,7 +13,7 @@ use Rattle.lpm_update.specs.declared.update.Plan.TheVariants.{Range}
 use Rattle.lpm_update.specs.Rewrite.{Stands, Skips}
 use Rattle.lpm_update.specs.RewriteRange.{IsRewriting, IsFirstStore, IsSecondStore, IsFurther, Visits}
 use Rattle.lpm_update.specs.Linked.{IsTable, IsLinkTo, group_at}
-use Rattle.lpm_update.specs.Step.{AllowsNext, Steps}
+use Rattle.lpm_update.specs.Step.{Steps}
 use Rattle.lpm_update.specs.Update.{IsNextFirst, IsNextSecond}
 use Rattle.lpm_update.proofs.Places.{last_word, word_entry, stands_skip, stands_first, stands_second, table_first, table_second, whole_first, stored_first, stored_second}
 use Rattle.lpm_update.proofs.Visits.{past_first, past_second, past_group, place_within}

@@ -19,7 +19,7 @@ use Rattle.lpm_update.specs.RewriteRange.{IsFurther}
 use Rattle.lpm_update.specs.LinkGroup.{final_entry}
 use Rattle.lpm_update.specs.UnlinkGroup.{IsUnlinking, IsUnlinkStore, IsOneEntry}
 use Rattle.lpm_update.specs.Update.{IsUnderWay, IsNextUnlink, places_left}
-use Rattle.lpm_update.specs.Step.{AllowsNext, Steps}
+use Rattle.lpm_update.specs.Step.{Steps}
 use Rattle.lpm_update.proofs.Places.{first_same, first_other, first_room, in_group, last_no_group, table_first, stored_first}
 use Rattle.lpm_update.proofs.Uniform.{uniform_words}
 use Rattle.lpm_update.proofs.Groups.{gives_up, group_set_same, group_set_other, last_none, not_unlinked, here_is, there_is}
