@@ -31,6 +31,7 @@ impl Entry {
 
     /// The word of the entry: its number in bits 0 to 23, valid in bit 24, extended (a group) in
     /// bit 25, its depth in bits 26 to 31. A miss is 0.
+    #[inline]
     pub fn to_word(self) -> u64
         requires { IsEntry 32 self }
         ensures value { result ≡ word_of self }

@@ -1,4 +1,4 @@
--- Addresses of one block, where no rule longer than a first index lies in it.
+-- Addresses of one block, where no rule longer than FIRST bits lies in it.
 use Rattle.std.proofs.Common.{arith, ◌≡◌, ℕ, ◌+◌, ◌/◌, ◌^◌, ◌<◌, ◌≤◌, ◌-◌, inl, inr, refl, ap, sym, ◌∙◌, subst, Option, Some}
 use Rattle.std.specs.Prelude.{IsSome}
 use Rattle.std.specs.FinMap.{get}
@@ -38,7 +38,7 @@ best_unique width R a (Hop v d) (Hop w k) n b c =
 best_unique width R a (Hop v d) (Group g) n b c = absurd c
 best_unique width R a (Group g) y n b c = absurd b
 
--- rules no longer than a first index cover whole blocks
+-- rules no longer than FIRST bits cover whole blocks
 pub covers_block : (f s a b : ℕ) (q : Network) → q.len ≤ f → a / 2 ^ s ≡ b / 2 ^ s → Covers (f + s) q a → Covers (f + s) q b
 covers_block f s a b q h e c =
     let k : f + s - q.len ≡ s + (f - q.len) = omega arith in
@@ -52,7 +52,7 @@ best_block f s a b R (Hop v d) p k l t =
     (t.0, t.1, t.2, covers_block f s a b t.0 (k t.0 (is_some _ _ t.1) t.3) p t.3, λ q some cov. t.4 q some (covers_block f s b a q (l q some cov) (sym p) cov))
 best_block f s a b R (Group g) p k l t = absurd t
 
--- a rule longer than a first index that covers an address lies in its block
+-- a rule longer than FIRST bits that covers an address lies in its block
 pub deep_covers : (f s a : ℕ) (q : Network) → f < q.len → q.len ≤ f + s → Covers (f + s) q a → q.bits / 2 ^ s ≡ a / 2 ^ s
 deep_covers f s a q long fits c =
     let k = f + s - q.len in

@@ -10,7 +10,7 @@ use Rattle.lpm_entry.specs.declared.Entry.{Entry}
 use Rattle.lpm_entry.specs.declared.Entry.TheVariants.{Group}
 use Rattle.lpm_entry.specs.Words.{IsEntry, IsLast, IsLastWord, word_of, entry_in, group_in}
 use Rattle.lpm_cells.specs.Table.{Words, HasRoom, entry_at, followed, with_first, with_second}
-use Rattle.lpm_update.specs.declared.Did.TheVariants.{First, Second, Done}
+use Rattle.lpm_update.specs.declared.Did.TheVariants.{First, Second}
 use Rattle.lpm_update.specs.declared.rewrite.Rewrite.{Rewrite}
 use Rattle.lpm_update.specs.declared.link_group.LinkGroup.{LinkGroup}
 use Rattle.lpm_update.specs.declared.update.Plan.TheVariants.{Link}

@@ -57,8 +57,10 @@ next_first f s (Link u) W i w t k n =
 next_first f s (Unlink u) W i w t k n =
     let d = k.0 n.0 in (
       first_place f s u.range W t d.rewriting i w n.1,
-      (Unlink (record u { range = moved_to u.range (i * 2 ^ s + 2 ^ s) }),
-      unlink_range f s u W n.0 d (moved_to u.range (i * 2 ^ s + 2 ^ s)) (with_first W i w) (First i) (λ e. absurd cc) (first_steps f s u.range W t d.rewriting i w n.1)),
+      (
+        Unlink (record u { range = moved_to u.range (i * 2 ^ s + 2 ^ s) }),
+        unlink_range f s u W n.0 d (moved_to u.range (i * 2 ^ s + 2 ^ s)) (with_first W i w) (First i) (λ e. absurd cc) (first_steps f s u.range W t d.rewriting i w n.1),
+      ),
     )
 next_first f s (Flush u) W i w t k n = (subst (λ x. i < x) (sym t.words.firsts_len) n.0.high, (Flush (come_to (i + 1)), flush_first f s u W t i w n.0 n.1))
 
@@ -72,8 +74,10 @@ next_second f s (Link u) W j w t k n =
 next_second f s (Unlink u) W j w t k n =
     let d = k.0 n.0 in (
       second_place f s u.range W t d.rewriting n.1.0 n.1.1 j w n.1.2,
-      (Unlink (record u { range = moved_to u.range (n.1.1 + 1) }),
-      unlink_range f s u W n.0 d (moved_to u.range (n.1.1 + 1)) (with_second W j w) (Second j) (λ e. absurd cc) (second_steps f s u.range W t d.rewriting n.1.0 n.1.1 j w n.1.2)),
+      (
+        Unlink (record u { range = moved_to u.range (n.1.1 + 1) }),
+        unlink_range f s u W n.0 d (moved_to u.range (n.1.1 + 1)) (with_second W j w) (Second j) (λ e. absurd cc) (second_steps f s u.range W t d.rewriting n.1.0 n.1.1 j w n.1.2),
+      ),
     )
 next_second f s (Flush u) W j w t k n = absurd n
 
@@ -95,9 +99,11 @@ next_unlink f s (Unlink u) W b g w t k n =
     } in
     let done = range_done f s u.range r W t d.rewriting (record { from = refl; end = refl; rewrite = refl; at = within }) now n.2 refl in (
       subst (λ x. b < x) (sym t.words.firsts_len) (subst (λ x. x < 2 ^ f) (sym n.1) d.in_table),
-      (Unlink (record u { range = r; unlinked = true }),
-      subst (λ x. Steps f s (Unlink u) W (Unlinked x g) (Unlink (record u { range = r; unlinked = true })) (with_first W x w)) (sym n.1)
-      (unlink_link f s u W n.0 r g w d done n.2 (subst (λ x. IsUnlinkStore s W x g w) n.1 n.3))),
+      (
+        Unlink (record u { range = r; unlinked = true }),
+        subst (λ x. Steps f s (Unlink u) W (Unlinked x g) (Unlink (record u { range = r; unlinked = true })) (with_first W x w)) (sym n.1)
+            (unlink_link f s u W n.0 r g w d done n.2 (subst (λ x. IsUnlinkStore s W x g w) n.1 n.3)),
+      ),
     )
 next_unlink f s (Flush u) W b g w t k n = (subst (λ x. b < x) (sym t.words.firsts_len) n.0.high, (Flush (come_to (b + 1)), flush_unlink f s u W t b w n.0 g n.1))
 

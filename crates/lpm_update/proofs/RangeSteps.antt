@@ -13,7 +13,7 @@ use Rattle.lpm_update.specs.declared.update.Plan.TheVariants.{Range}
 use Rattle.lpm_update.specs.Rewrite.{Stands, Skips}
 use Rattle.lpm_update.specs.RewriteRange.{IsRewriting, IsFirstStore, IsSecondStore, IsFurther, Visits}
 use Rattle.lpm_update.specs.Linked.{IsTable, IsLinkTo, group_at}
-use Rattle.lpm_update.specs.Step.{AllowsNext, Steps}
+use Rattle.lpm_update.specs.Step.{Steps}
 use Rattle.lpm_update.specs.Update.{IsNextFirst, IsNextSecond}
 use Rattle.lpm_update.proofs.Places.{last_word, word_entry, stands_skip, stands_first, stands_second, table_first, table_second, whole_first, stored_first, stored_second}
 use Rattle.lpm_update.proofs.Visits.{past_first, past_second, past_group, place_within}
@@ -74,7 +74,7 @@ module _ (f s : ℕ) (u v : RewriteRange) (W : Words) (t : IsTable f s W) (k : I
           whole_end = whole_first s W.firsts i w u.end n.last past.whole_end;
         }));
         stands = λ E st. moved_stands s u v (with_first W i w) fu E (subst (λ x. Stands s u.from x c (with_first W i w) E) (sym at)
-            (stands_first s u.from (i * 2 ^ s) c W E i w (omega (arith, low, started)) refl within n.last n.taken (word_entry (f + s) w c.entry k.entry n.word) k.last
+            (stands_first s u.from (i * 2 ^ s) c W E i w (omega (arith, low, started)) refl within n.last n.replaced (word_entry (f + s) w c.entry k.entry n.word) k.last
             (stands_skip s u.from u.at (i * 2 ^ s) c W E low n.skipped st)));
         groups = λ L known b below. same b ∙ known b below;
         held = λ b below. same b;
@@ -101,7 +101,7 @@ module _ (f s : ℕ) (u v : RewriteRange) (W : Words) (t : IsTable f s W) (k : I
         table = table_second f s W j w t within (last_word (f + s) w c.entry k.entry k.last n.word);
         under_way = moved f s u v W.firsts fu (subst (λ y. IsRewriting f s u.from y u.end c W.firsts) (sym at) (past_second f s u.from u.at u.end c W.firsts g x low high n.group k));
         stands = λ E st. moved_stands s u v (with_second W j w) fu E (subst (λ y. Stands s u.from y c (with_second W j w) E) (sym at)
-            (stands_second s u.from x c W E g j w (omega (arith, low, started)) n.group n.place within once n.taken (word_entry (f + s) w c.entry k.entry n.word)
+            (stands_second s u.from x c W E g j w (omega (arith, low, started)) n.group n.place within once n.replaced (word_entry (f + s) w c.entry k.entry n.word)
             (stands_skip s u.from u.at x c W E low n.skipped st)));
         groups = λ L known. known;
         held = λ b below. refl;
@@ -135,7 +135,7 @@ module _ (s : ℕ) (u m : RewriteRange) (W : Words) (fu : IsFurther u m) (k : Sk
       record {
         low = let p = fu.at in let q = h.low in omega (arith, p, q);
         high = h.high;
-        taken = h.taken;
+        replaced = h.replaced;
         last = h.last;
         word = h.word;
         skipped = skips_join s u.at m.at _ u.rewrite W k h.skipped;
@@ -149,7 +149,7 @@ module _ (s : ℕ) (u m : RewriteRange) (W : Words) (fu : IsFurther u m) (k : Sk
         high = h.high;
         group = h.group;
         place = h.place;
-        taken = h.taken;
+        replaced = h.replaced;
         word = h.word;
         skipped = skips_join s u.at m.at _ u.rewrite W k h.skipped;
       }

@@ -50,7 +50,7 @@ short_range f s p c F n h e l =
       whole_end = subst (IsWhole s F) high (whole_multiple s F (suc m * 2 ^ j));
     }
 
--- a prefix longer than a first index ends in the block that it begins in
+-- a prefix longer than FIRST bits ends in the block that it begins in
 pub deep_high : (f s : ℕ) (p : Network) → IsNetwork (f + s) p → f < p.len → p.bits + 2 ^ (f + s - p.len) ≤ p.bits / 2 ^ s * 2 ^ s + 2 ^ s
 deep_high f s p n h =
     let k = f + s - p.len in

@@ -1,16 +1,15 @@
 use Rattle.std.proofs.Common.{arith, ◌≡◌, ℕ, ◌+◌, ◌-◌, ◌*◌, ◌/◌, ◌^◌, ◌<◌, ◌≤◌, inl, inr, refl, ap, sym, ◌∙◌, subst, Bool, true, false, cond}
 use Rattle.std.specs.Prelude.{IsSome, nat_le}
 use Rattle.std.specs.FinMap.{get, insert}
-use Rattle.std.proofs.lemmas.Bool.{cases_lt, leb-true, leb-false}
+use Rattle.std.proofs.lemmas.Bool.{leb-true, leb-false}
 use Rattle.lpm_bits.specs.Network.{Network, Covers, IsNetwork}
 use Rattle.lpm_rules.specs.RuleMap.{RuleMap}
 use Rattle.lpm_rules.proofs.Changes.{insert_cases, insert_here}
 use Rattle.lpm_entry.specs.declared.Entry.{Entry}
 use Rattle.lpm_entry.specs.declared.Entry.TheVariants.{Miss, Hop, Group}
-use Rattle.lpm_cells.specs.Table.{entry_at, Words}
-use Rattle.lpm_update.specs.Rewrite.{changed, Stands}
+use Rattle.lpm_update.specs.Rewrite.{changed}
 use Rattle.lpm_update.specs.declared.rewrite.Kind.TheVariants.{Add}
-use Rattle.lpm_update.specs.Best.{IsBest, AllBest}
+use Rattle.lpm_update.specs.Best.{IsBest}
 use Rattle.lpm_rules.specs.Longest.{IsLongestHop}
 use Rattle.lpm_entry.specs.Words.{hop_in}
 use Rattle.lpm_update.proofs.Places.{block_low, block_high, block_of}

@@ -19,7 +19,7 @@ use Rattle.lpm_update.specs.RewriteRange.{IsFurther}
 use Rattle.lpm_update.specs.LinkGroup.{final_entry}
 use Rattle.lpm_update.specs.UnlinkGroup.{IsUnlinking, IsUnlinkStore, IsOneEntry}
 use Rattle.lpm_update.specs.Update.{IsUnderWay, IsNextUnlink, places_left}
-use Rattle.lpm_update.specs.Step.{AllowsNext, Steps}
+use Rattle.lpm_update.specs.Step.{Steps}
 use Rattle.lpm_update.proofs.Places.{first_same, first_other, first_room, in_group, last_no_group, table_first, stored_first}
 use Rattle.lpm_update.proofs.Uniform.{uniform_words}
 use Rattle.lpm_update.proofs.Groups.{gives_up, group_set_same, group_set_other, last_none, not_unlinked, here_is, there_is}
@@ -92,11 +92,18 @@ unlinking_along f s u r block W W' k same now stands held = record {
   low = let a = k.low in let b = same.from in omega (arith, a, b);
   high = let a = k.high in let b = same.end in omega (arith, a, b);
   group = (k.group.0, some_group (entry_in (slice_index W'.firsts block)) k.group.0 (held ∙ ap group_in k.group.1));
-  uniform = (k.uniform.0, stands k.uniform.0 k.uniform.1, (k.uniform.2.0, λ a here.
-      ap (λ y. final_entry y r.end r.rewrite a (k.uniform.0 a)) same.from
-      ∙ ap (λ y. final_entry u.from y r.rewrite a (k.uniform.0 a)) same.end
-      ∙ ap (λ y. final_entry u.from u.end y a (k.uniform.0 a)) same.rewrite
-      ∙ k.uniform.2.1 a here));
+  uniform = (
+    k.uniform.0,
+    stands k.uniform.0 k.uniform.1,
+    (
+      k.uniform.2.0,
+      λ a here.
+          ap (λ y. final_entry y r.end r.rewrite a (k.uniform.0 a)) same.from
+          ∙ ap (λ y. final_entry u.from y r.rewrite a (k.uniform.0 a)) same.end
+          ∙ ap (λ y. final_entry u.from u.end y a (k.uniform.0 a)) same.rewrite
+          ∙ k.uniform.2.1 a here,
+    ),
+  );
 }
 
 module _ (f s : ℕ) (u : UnlinkGroup) (W : Words) (there : u.unlinked ≡ false) where
@@ -138,12 +145,18 @@ module _ (f s : ℕ) (u : UnlinkGroup) (W : Words) (there : u.unlinked ≡ false
         let E = k.uniform.0 in
         let group = ap (λ (x : Words). entry_in (slice_index x.firsts u.block)) h.stored.0 ∙ k.group.1 in
         let over : r.at ≡ r.end = h.stored.1.reached in
-        let t : Stands s r.from r.end r.rewrite W' E = subst (λ x. Stands s r.from x r.rewrite W' E) over (h.stands E k.uniform.1) in
-        (k.group.0, group, (k.uniform.2.0, uniform_words s r.from r.end r.rewrite W' E u.block k.group.0 k.uniform.2.0 group t (λ a here.
-            ap (λ y. final_entry y r.end r.rewrite a (E a)) h.onward.from
-            ∙ ap (λ y. final_entry u.range.from y r.rewrite a (E a)) h.onward.end
-            ∙ ap (λ y. final_entry u.range.from u.range.end y a (E a)) h.onward.rewrite
-            ∙ k.uniform.2.1 a here)))
+        let t : Stands s r.from r.end r.rewrite W' E = subst (λ x. Stands s r.from x r.rewrite W' E) over (h.stands E k.uniform.1) in (
+          k.group.0,
+          group,
+          (
+            k.uniform.2.0,
+            uniform_words s r.from r.end r.rewrite W' E u.block k.group.0 k.uniform.2.0 group t (λ a here.
+                ap (λ y. final_entry y r.end r.rewrite a (E a)) h.onward.from
+                ∙ ap (λ y. final_entry u.range.from y r.rewrite a (E a)) h.onward.end
+                ∙ ap (λ y. final_entry u.range.from u.range.end y a (E a)) h.onward.rewrite
+                ∙ k.uniform.2.1 a here),
+          ),
+        )
 
   -- the store over the link
   pub unlink_link : (r : RewriteRange) (g w : ℕ) → IsUnlinking f s u.range u.block W → Steps f s (Range u.range) W Done (Range r) W → Skips s u.range.rewrite W u.range.at u.range.end

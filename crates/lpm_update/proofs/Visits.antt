@@ -7,7 +7,7 @@ use Rattle.lpm_bits.specs.Widths.{IsShape}
 use Rattle.lpm_entry.specs.declared.Entry.{Entry}
 use Rattle.lpm_entry.specs.declared.Entry.TheVariants.{Miss, Hop, Group}
 use Rattle.lpm_entry.specs.Words.{IsEntry, IsLast, word_of, entry_in}
-use Rattle.lpm_entry.proofs.Reading.{entry_in_zero, word_below}
+use Rattle.lpm_entry.proofs.Reading.{entry_in_zero}
 use Rattle.lpm_cells.specs.Table.{Words, entry_at, followed, with_first, with_second}
 use Rattle.lpm_update.specs.declared.Did.TheVariants.{First, Second, Done}
 use Rattle.lpm_update.specs.declared.rewrite.Rewrite.{Rewrite}
@@ -85,7 +85,7 @@ module _ (f s : ℕ) (u : RewriteRange) (W : Words) (i : ℕ) (more : u.at < u.e
       record {
         low = omega (arith, b);
         high = omega (arith, b, more);
-        taken = taken;
+        replaced = taken;
         last = l;
         word = word;
         skipped = λ a low high. absurd (omega (arith, b, low, high));
@@ -127,7 +127,7 @@ module _ (f s : ℕ) (u : RewriteRange) (W : Words) (g j : ℕ) (more : u.at < u
     high = more;
     group = e;
     place = p;
-    taken = taken;
+    replaced = taken;
     word = word;
     skipped = λ a low high. absurd (omega (arith, low, high));
   }

@@ -71,7 +71,7 @@ NextStore = (first second : ℕ) (u : Plan) (t : Words)
     → IsTable first second t → IsUnderWay first second u t
     → AllowsNext first second u t
     (λ i w. IsFirstWord (first + second) second t.seconds w
-        × StoreMoves first second u t (with_first t i w))
+    × StoreMoves first second u t (with_first t i w))
     (λ j w. IsLastWord (first + second) w × StoreMoves first second u t (with_second t j w))
 
 -- between two states of a run an address keeps its entry, or goes from the old to the new one; and
@@ -82,7 +82,7 @@ AnswersTurnOnce = (first second : ℕ) (u v : Plan) (t z : Words) (E : ℕ → E
     → StandsSoFar second u t E → StandsSoFar second v z E
     → Moves first second u E t z
     × ((a : ℕ) → entry_at second t a ≡ entry_after (first + second) u E a
-        → entry_at second z a ≡ entry_after (first + second) u E a)
+    → entry_at second z a ≡ entry_after (first + second) u E a)
 
 -- ---- rules
 
@@ -123,7 +123,7 @@ TiedGone = (first : ℕ) (old : List GroupState) (L M : ℕ → Option ℕ) (b g
     → IsTied first old L → GivesUp first L M b g
     → IsLinkedTo old g b
     × ((new : List GroupState)
-        → SameLinksBut g old new → ((c : ℕ) → ¬ IsLinkedTo new g c) → IsTied first new M)
+    → SameLinksBut g old new → ((c : ℕ) → ¬ IsLinkedTo new g c) → IsTied first new M)
 
 -- a group that is linked to no block is one that no block has, and may be linked to a block without
 -- one
@@ -133,5 +133,5 @@ TiedTaken = (first second : ℕ) (t : Words) (old : List GroupState) (g : ℕ)
     → g < length old → ((c : ℕ) → ¬ IsLinkedTo old g c)
     → IsFreshGroup second g t
     × ((new : List GroupState) (b : ℕ) → b < 2 ^ first → group_at t.firsts b ≡ None
-        → IsLinkedTo new g b → SameLinksBut g old new
-        → IsTied first new (λ i. if i == b then Some g else group_at t.firsts i))
+    → IsLinkedTo new g b → SameLinksBut g old new
+    → IsTied first new (λ i. if i == b then Some g else group_at t.firsts i))

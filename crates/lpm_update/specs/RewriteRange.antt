@@ -31,7 +31,7 @@ pub record IsRewriting (first second from at end : ℕ) (c : Rewrite) (firsts : 
 pub record IsFirstStore (second at end : ℕ) (c : Rewrite) (t : Words) (i w : ℕ) : Type 0 where
   pub low : at ≤ i * 2 ^ second
   pub high : i * 2 ^ second < end
-  pub taken : replaces c (entry_in (slice_index t.firsts i)) ≡ true
+  pub replaced : replaces c (entry_in (slice_index t.firsts i)) ≡ true
   pub last : IsLast (entry_in (slice_index t.firsts i))
   pub word : w ≡ word_of c.entry
   pub skipped : Skips second c t at (i * 2 ^ second)
@@ -43,7 +43,7 @@ pub record IsSecondStore (second at end : ℕ) (c : Rewrite) (t : Words) (g x j 
   pub high : x < end
   pub group : IsLinkTo t.firsts (x / 2 ^ second) g
   pub place : j ≡ g * 2 ^ second + x % 2 ^ second
-  pub taken : replaces c (entry_in (slice_index t.seconds j)) ≡ true
+  pub replaced : replaces c (entry_in (slice_index t.seconds j)) ≡ true
   pub word : w ≡ word_of c.entry
   pub skipped : Skips second c t at x
 

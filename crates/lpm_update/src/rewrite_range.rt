@@ -72,8 +72,8 @@ impl RewriteRange {
         ensures rewrite { (result.rewrite.kind ≡ Delete) × (result.rewrite.depth ≡ prefix.now.len) }
         ensures cover { (R : RuleMap)
             → MatchOption cover.entry
-                (IsUncovered (FIRST + SECOND) R prefix.now)
-                (λ c. IsCoverRule (FIRST + SECOND) R prefix.now c.prefix c.hop)
+            (IsUncovered (FIRST + SECOND) R prefix.now)
+            (λ c. IsCoverRule (FIRST + SECOND) R prefix.now c.prefix c.hop)
             → IsCoverEntry (FIRST + SECOND) R prefix.now result.rewrite.entry }
     {
         let entry = cover_entry(cover);
@@ -190,8 +190,8 @@ fn cover_entry<const FIRST: u32, const SECOND: u32>(cover: Option<Rule<FIRST, SE
     ensures last { IsLast result }
     ensures cover { (R : RuleMap) (p : Network)
         → MatchOption cover.entry
-            (IsUncovered (FIRST + SECOND) R p)
-            (λ c. IsCoverRule (FIRST + SECOND) R p c.prefix c.hop)
+        (IsUncovered (FIRST + SECOND) R p)
+        (λ c. IsCoverRule (FIRST + SECOND) R p c.prefix c.hop)
         → IsCoverEntry (FIRST + SECOND) R p result }
 {
     match cover {

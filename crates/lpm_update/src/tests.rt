@@ -184,8 +184,11 @@ const LINK: [Stores; 2] = [Stores::Seconds(0, 16), Stores::Firsts(1, 2)];
 
 // The words of a hop 5 of length 8, 7 of length 4 and 9 of length 0, and of group 0.
 const FIVE: u64 = 0x2100_0005;
+
 const SEVEN: u64 = 0x1100_0007;
+
 const NINE: u64 = 0x0100_0009;
+
 const GROUP: u64 = 0x0300_0000;
 
 #[test]
@@ -233,7 +236,11 @@ fn order_under_a_group(rt: HostRuntime) -> Result<(), Fail> {
     table.assert_second(&rt, 2, FIVE);
     table.assert_second(&rt, 3, NINE);
     table.flush(&rt);
-    let all = [Stores::Firsts(0, 1), Stores::Unlinked(1, 0), Stores::Firsts(2, 16)];
+    let all = [
+        Stores::Firsts(0, 1),
+        Stores::Unlinked(1, 0),
+        Stores::Firsts(2, 16),
+    ];
     table.assert_made(&rt, &all);
     table.flush(&rt);
     table.assert_made(&rt, &[]);

@@ -60,7 +60,7 @@ impl Update {
         ensures begun { (R : RuleMap) (t : Words) → Represents FIRST SECOND R t
             → AddFits FIRST SECOND R prefix.now t group
             → IsBegun FIRST SECOND result t
-                × TurnsInto FIRST SECOND result R (map.insert R prefix.now hop) }
+            × TurnsInto FIRST SECOND result R (map.insert R prefix.now hop) }
     {
         let _bits = prefix.bits();
         match group {
@@ -88,11 +88,11 @@ impl Update {
         ensures begun { (R : RuleMap) (t : Words) → Represents FIRST SECOND R t
             → IsSome (map.get R prefix.now)
             → MatchOption cover.entry
-                (IsUncovered (FIRST + SECOND) R prefix.now)
-                (λ c. IsCoverRule (FIRST + SECOND) R prefix.now c.prefix c.hop)
+            (IsUncovered (FIRST + SECOND) R prefix.now)
+            (λ c. IsCoverRule (FIRST + SECOND) R prefix.now c.prefix c.hop)
             → LastFits FIRST SECOND (map.remove R prefix.now) prefix.now last
             → IsBegun FIRST SECOND result t
-                × TurnsInto FIRST SECOND result R (map.remove R prefix.now) }
+            × TurnsInto FIRST SECOND result R (map.remove R prefix.now) }
     {
         let range = RewriteRange::delete(prefix, cover);
         if last {

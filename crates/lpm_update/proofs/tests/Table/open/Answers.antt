@@ -1,5 +1,4 @@
-use Rattle.std.proofs.Common.{sym, ap, ◌∙◌, subst, ◌≡◌, refl}
-use Rattle.lpm_cells.specs.Table.{Words}
+use Rattle.std.proofs.Common.{sym, ap, ◌∙◌, subst, ◌≡◌}
 use Rattle.lpm_update.specs.Represents.{Represents}
 use Rattle.lpm_rules.specs.RuleMap.{RuleList}
 use Rattle.lpm_update.specs.Laws.{blank_words}
