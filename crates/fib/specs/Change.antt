@@ -1,4 +1,4 @@
--- A whole change of the words, with the groups that it takes and gives up (this project's).
+-- A layer's own: a whole change of the words, with the groups that it takes and gives up.
 use Rattle.std.specs.Prelude.{ℕ, ◌≡◌, ◌+◌, ◌≤◌, ◌^◌, length}
 use Rattle.lpm_cells.specs.Table.{Words}
 use Rattle.lpm_groups.specs.States.{linked_count}

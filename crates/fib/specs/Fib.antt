@@ -1,4 +1,4 @@
--- A table as its callers see it, and what its parts keep (this project's).
+-- A layer's own: a table as its callers see it, and what its parts keep.
 use Rattle.std.specs.Prelude.{ℕ, ◌≡◌, ◌≤◌, ◌^◌, List, length, refl}
 use Rattle.std.specs.FinMap as map
 use Rattle.std.specs.Coded.{Coded, code_by, coded×, coded_ℕ, coded_list}

@@ -1,5 +1,5 @@
--- Lookups of several addresses at once (DPDK Programmer's Guide, "LPM Library": a lookup of four
--- addresses answers a default value where there is no match).
+-- Meaning: lookups of several addresses at once (DPDK Programmer's Guide, "LPM Library": a lookup
+-- of four addresses answers a default value where there is no match).
 use Rattle.std.specs.Prelude.{ℕ, ◌≡◌, Option, MatchOption, IsSome}
 use Rattle.std.specs.FinMap.{get}
 use Rattle.lpm_bits.specs.Network.{Network, Covers}

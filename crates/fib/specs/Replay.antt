@@ -1,6 +1,6 @@
--- Lists of commands on a table that was just opened, told without its tokens, counters and words:
--- by reader intervals (DPDK Programmer's Guide, "RCU Library") and by the versions of the rule
--- list.
+-- Meaning: lists of commands on a table that was just opened, told without its tokens, counters and
+-- words: by reader intervals (DPDK Programmer's Guide, "RCU Library") and by the versions of the
+-- rule list.
 use Rattle.std.specs.Prelude.{ℕ, ◌≡◌, ◌+◌, List, length}
 use Rattle.std.specs.FinMap.{len}
 use Rattle.lpm_rules.specs.Longest.{AreLongestHops}
