@@ -62,8 +62,7 @@ impl RewriteRange {
         )
     }
 
-    /// The change that deletes a rule whose cover, the longest rule that is shorter and covers it,
-    /// is this one.
+    /// The change that deletes a rule. `cover` is the longest rule that is shorter and covers it.
     pub(crate) fn delete<const FIRST: u32, const SECOND: u32>(
         prefix: &Prefix<FIRST, SECOND>,
         cover: Option<Rule<FIRST, SECOND>>,

@@ -77,8 +77,8 @@ impl Update {
         }
     }
 
-    /// The deletion of a rule whose cover, the longest rule that is shorter and covers it, is this
-    /// one. `last` tells that the rule was the last of its block that is longer than `FIRST` bits.
+    /// The deletion of a rule. `cover` is the longest rule that is shorter and covers it; `last`
+    /// tells whether it is the last rule of its block that is longer than `FIRST` bits.
     pub fn delete<const FIRST: u32, const SECOND: u32>(
         prefix: &Prefix<FIRST, SECOND>,
         cover: Option<Rule<FIRST, SECOND>>,
