@@ -1,7 +1,8 @@
--- The readers' counters, and the check of a token over them (DPDK Programmer's Guide, "RCU Library":
--- a reader's counter is 0 while it is offline, and else the token of its last quiescent state; the
--- readers have left a token behind when each counter is 0 or at least that token).
-use Rattle.std.specs.Prelude.{ℕ, ◌≡◌, ◌≤◌, ◌<◌, ◌⊎◌, List, length, slice_index, EachIndex, Result, MatchResult}
+-- The readers' counters, and the check of a token over them (DPDK Programmer's Guide, "RCU
+-- Library": a reader's counter is 0 while it is offline, and else the token of its last quiescent
+-- state; the readers have left a token behind when each counter is 0 or at least that token).
+use Rattle.std.specs.Prelude.{ℕ, ◌≡◌, ◌≤◌, ◌<◌, ◌⊎◌, List, length, slice_index, EachIndex}
+use Rattle.std.specs.Prelude.{Result, MatchResult}
 use Rattle.lpm_limits.specs.declared.busy.Busy.{Busy}
 
 -- the worker is online
@@ -31,4 +32,5 @@ pub record IsFirstHolding (token : ℕ) (counters : List ℕ) (w : ℕ) : Type 0
 -- that worker's counter
 abbrev pub IsChecked : ℕ → List ℕ → Result (Unit {0}) Busy → Type 0
 IsChecked token counters r = MatchResult r (λ _. Passes token counters)
-    (λ busy. IsFirstHolding token counters busy.worker × (busy.counter ≡ slice_index counters busy.worker))
+    (λ busy. IsFirstHolding token counters busy.worker
+    × (busy.counter ≡ slice_index counters busy.worker))

@@ -4,7 +4,8 @@ use Rattle.qsbr.specs.Counters.{Passes, IsHolding, IsFirstHolding}
 
 -- a token that passes lets each older one pass
 abbrev pub OlderPasses : Type 0
-OlderPasses = (counters : List ℕ) (token older : ℕ) → older ≤ token → Passes token counters → Passes older counters
+OlderPasses = (counters : List ℕ) (token older : ℕ)
+    → older ≤ token → Passes token counters → Passes older counters
 
 -- where a token passes, no worker holds it
 abbrev pub NoneHolds : Type 0
@@ -12,4 +13,5 @@ NoneHolds = (counters : List ℕ) (token w : ℕ) → Passes token counters → 
 
 -- at most one worker is the first that holds a token
 abbrev pub OneIsFirst : Type 0
-OneIsFirst = (counters : List ℕ) (token v w : ℕ) → IsFirstHolding token counters v → IsFirstHolding token counters w → v ≡ w
+OneIsFirst = (counters : List ℕ) (token v w : ℕ)
+    → IsFirstHolding token counters v → IsFirstHolding token counters w → v ≡ w

@@ -1,11 +1,13 @@
-//! Reclamation by quiescent states, for one thread: a domain of workers that report when they hold nothing.
+//! Reclamation by quiescent states, for one thread: a domain of workers that report when they hold
+//! nothing.
 //!
-//! A domain has a token, which only grows, and a counter for each worker. A worker that goes online or
-//! reports a quiescent state takes the token into its counter; one that goes offline takes 0. What was
-//! given up under a token may be used again once each counter is 0 or at least that token.
+//! A domain has a token, which only grows, and a counter for each worker. A worker that goes online
+//! or reports a quiescent state takes the token into its counter; a worker that goes offline takes 0.
+//! What was given up under a token may be used again once each counter is 0 or at least that token.
 #![tactic(auto)]
 
-ghost use Rattle.std.specs.Prelude.{◌≡◌, ℕ, ◌+◌, ◌^◌, ◌<◌, ◌≤◌, ◌↔◌, IsTrue, IfOk, length, replicate, slice_index, slice_set};
+ghost use Rattle.std.specs.Prelude.{◌≡◌, ℕ, ◌+◌, ◌^◌, ◌<◌, ◌≤◌, ◌↔◌, IsTrue, IfOk};
+ghost use Rattle.std.specs.Prelude.{length, replicate, slice_index};
 ghost use Rattle.qsbr.specs.Laws.{OlderPasses, NoneHolds, OneIsFirst};
 
 pub use lpm_limits::{BadConfig, Busy, Config, Range, Refusal};
@@ -34,12 +36,14 @@ impl Model for Domain {
 
 impl Domain {
     ghost use Rattle.qsbr.specs.Counters.{IsOnline, IsChecked};
+    ghost use Rattle.qsbr.specs.Registry.{with_counter};
 
     /// A domain of so many workers, all offline.
     pub fn new(alloc: Global, workers: usize, first_token: u64) -> Result<Self, AllocError>
         requires low { 1 ≤ first_token }
         requires high { first_token ≤ 2 ^ 62 }
-        ensures { IfOk result (λ d. d ≡ record { token = first_token; counters = replicate workers 0 }) }
+        ensures { IfOk result (λ d.
+            d ≡ record { token = first_token; counters = replicate workers 0 }) }
     {
         let counters = vec![in alloc; 0u64; workers]?;
         Ok(Domain {
@@ -79,7 +83,7 @@ impl Domain {
     #[inline]
     pub fn set_counter(&mut self, w: usize, counter: u64)
         requires { w < length self.old.counters }
-        ensures { self.new ≡ record self.old { counters = slice_set self.old.counters w counter } }
+        ensures { self.new ≡ with_counter self.old w counter }
     {
         self.counters[w] = counter;
     }
@@ -98,7 +102,7 @@ impl Domain {
     pub fn online(&mut self, w: usize)
         requires registered { w < length self.old.counters }
         requires offline { slice_index self.old.counters w ≡ 0 }
-        ensures stored { self.new ≡ record self.old { counters = slice_set self.old.counters w self.old.token } }
+        ensures stored { self.new ≡ with_counter self.old w self.old.token }
         ensures online { IsOnline self.new.counters w }
     {
         self.set_counter(w, self.token);
@@ -109,7 +113,7 @@ impl Domain {
     pub fn quiescent(&mut self, w: usize)
         requires registered { w < length self.old.counters }
         requires online { IsOnline self.old.counters w }
-        ensures stored { self.new ≡ record self.old { counters = slice_set self.old.counters w self.old.token } }
+        ensures stored { self.new ≡ with_counter self.old w self.old.token }
         ensures online { IsOnline self.new.counters w }
     {
         self.counters[w] = self.token;
@@ -120,12 +124,12 @@ impl Domain {
     pub fn offline(&mut self, w: usize)
         requires registered { w < length self.old.counters }
         requires online { IsOnline self.old.counters w }
-        ensures { self.new ≡ record self.old { counters = slice_set self.old.counters w 0 } }
+        ensures { self.new ≡ with_counter self.old w 0 }
     {
         self.set_counter(w, 0);
     }
 
-    /// Starts a token, which no worker has reported yet, and answers it.
+    /// Starts a token, which no worker has reported yet, and returns it.
     #[inline]
     pub fn start(&mut self) -> u64
         requires { self.old.token < 2 ^ 62 }
@@ -137,8 +141,8 @@ impl Domain {
         *token
     }
 
-    /// Whether every worker has left the token behind: each counter is 0 or at least the token. Else the
-    /// first worker for which that isn't so.
+    /// Whether every worker has left the token behind: each counter is 0 or at least the token. The
+    /// error is the first worker for which that isn't so.
     ///
     /// The counters are read once, from worker 0 on, up to that worker.
     pub fn check(&self, token: u64) -> Result<(), Busy>

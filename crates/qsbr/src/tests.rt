@@ -1,7 +1,8 @@
 use super::*;
 use std::test::Fail;
 
-// The worker that holds the token, by the definition: of those that are online and behind it, the least.
+// The worker that holds the token, by the definition: of those that are online and behind it, the
+// least.
 fn holder_plainly(counters: [u64; 3], token: u64) -> Option<usize> {
     let mut holder = None;
     for worker in (0..3).rev() {
