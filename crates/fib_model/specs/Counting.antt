@@ -1,6 +1,7 @@
--- Reports kept by a token and counters (DPDK Programmer's Guide, "RCU Library": a reader takes the token
--- into its counter when it goes online or reports a quiescent state, and 0 when it goes offline; a reader
--- holds what was given up under a token where its counter isn't 0 and is below that token).
+-- Reports kept by a token and counters (DPDK Programmer's Guide, "RCU Library": a reader takes the
+-- token into its counter when it goes online or reports a quiescent state, and 0 when it goes
+-- offline; a reader holds what was given up under a token where its counter isn't 0 and is below
+-- that token).
 use Rattle.std.specs.Prelude.{ℕ, ◌≡◌, ◌+◌, replicate, slice_index, slice_set, []}
 use Rattle.std.specs.FinMap.{empty}
 use Rattle.qsbr.specs.Counters.{IsOnline, IsFirstHolding}
@@ -19,7 +20,8 @@ counter_of Quiescent token = token
 -- an unlinking goes by the token that was started for it
 abbrev pub counting : Keeping Registry
 counting = record {
-  is_held_by = λ r token busy. IsFirstHolding token r.counters busy.worker × (busy.counter ≡ slice_index r.counters busy.worker);
+  is_held_by = λ r token busy. IsFirstHolding token r.counters busy.worker
+      × (busy.counter ≡ slice_index r.counters busy.worker);
   name = λ r. r.token + 1;
   unlinked = λ r. record r { token = r.token + 1 };
   token = λ r. r.token;
@@ -29,4 +31,9 @@ counting = record {
 
 -- a table that was just opened
 abbrev pub opened : Config → State Registry
-opened c = record { rules = empty; readers = record { token = c.first_token; counters = replicate c.workers 0 }; limbo = []; begun = 0 }
+opened c = record {
+  rules = empty;
+  readers = record { token = c.first_token; counters = replicate c.workers 0 };
+  limbo = [];
+  begun = 0;
+}

@@ -1,6 +1,6 @@
--- The versions of the rule list: the list after each accepted change that made a version, the newest first
--- (DPDK Programmer's Guide, "LPM Library", "Addition" and "Deletion"; that an unchanged rule makes no version
--- is this project's).
+-- The versions of the rule list: the list after each accepted change that made a version, the
+-- newest first (DPDK Programmer's Guide, "LPM Library", "Addition" and "Deletion"; that an unchanged rule
+-- makes no version is this project's).
 use Rattle.std.specs.Prelude.{ℕ, suc, List, [], ◌∷◌}
 use Rattle.std.specs.FinMap.{insert, remove, empty}
 use Rattle.lpm_rules.specs.RuleMap.{RuleMap}
@@ -16,9 +16,10 @@ abbrev pub last_of : List RuleMap → RuleMap
 last_of [] = empty
 last_of (R ∷ versions) = R
 
--- the versions after a command: a replaced, added or deleted rule makes one, a flush of some rules one,
--- and everything else none
-abbrev pub versions_after : {first second : ℕ} → List RuleMap → Command first second → Outcome → List RuleMap
+-- the versions after a command: a replaced, added or deleted rule makes one, a flush of some rules
+-- one, and everything else none
+abbrev pub versions_after : {first second : ℕ} → List RuleMap → Command first second → Outcome
+    → List RuleMap
 versions_after H (command.Add p h) (outcome.Put Added) = insert (last_of H) p h ∷ H
 versions_after H (command.Add p h) (outcome.Put Replaced) = insert (last_of H) p h ∷ H
 versions_after H (command.Delete p) (outcome.Deleted h) = remove (last_of H) p ∷ H

@@ -17,45 +17,52 @@ use Rattle.fib_model.specs.History.{history, last_of}
 
 -- the rules are the last version, and the updates begun are as many as the versions
 abbrev pub RulesAreLastVersion : Type 0
-RulesAreLastVersion = (first second : ℕ) (c : Config) (log : Log first second) (z : State (List Event))
-    → Runs (textbook c) first second c beginning log z
+RulesAreLastVersion = (first second : ℕ) (c : Config) (log : Log first second)
+    (z : State (List Event)) → Runs (textbook c) first second c beginning log z
     → (z.rules ≡ last_of (history log)) × (z.begun ≡ length (history log))
 
 -- the same of a run by counters
 abbrev pub RulesAreLastVersionByCounters : Type 0
-RulesAreLastVersionByCounters = (first second : ℕ) (c : Config) (log : Log first second) (z : State Registry)
-    → Runs counting first second c (opened c) log z
+RulesAreLastVersionByCounters = (first second : ℕ) (c : Config) (log : Log first second)
+    (z : State Registry) → Runs counting first second c (opened c) log z
     → (z.rules ≡ last_of (history log)) × (z.begun ≡ length (history log))
 
 -- after a run an unlinking has no first holder exactly where no worker's running interval holds it
--- (DPDK Programmer's Guide, "RCU Library": memory may be freed once no reader can hold a reference to it)
+-- (DPDK Programmer's Guide, "RCU Library": memory may be freed once no reader can hold a reference
+-- to it)
 abbrev pub UnheldByNone : Type 0
 UnheldByNone = (first second : ℕ) (c : Config) (log : Log first second) (z : State (List Event))
     → Runs (textbook c) first second c beginning log z
-    → (place : ℕ) → IsUnheld (textbook c) z.readers place ↔ ((w : ℕ) → ¬ IsHeldByWorker by_reports z.readers place w)
+    → (place : ℕ) → IsUnheld (textbook c) z.readers place
+    ↔ ((w : ℕ) → ¬ IsHeldByWorker by_reports z.readers place w)
 
--- two runs of the same commands, neither with memory refused, have the same outcomes and leave the same
--- state
+-- two runs of the same commands, neither with memory refused, have the same outcomes and leave the
+-- same state
 abbrev pub OutcomesAreUnique : Type 0
-OutcomesAreUnique = (first second : ℕ) (c : Config) (log log' : Log first second) (z z' : State (List Event))
+OutcomesAreUnique = (first second : ℕ) (c : Config) (log log' : Log first second)
+    (z z' : State (List Event))
     → map (λ done. done.0) log ≡ map (λ done. done.0) log'
     → All (λ done. done.1 ≢ Refused Memory) log → All (λ done. done.1 ≢ Refused Memory) log'
-    → Runs (textbook c) first second c beginning log z → Runs (textbook c) first second c beginning log' z'
+    → Runs (textbook c) first second c beginning log z
+    → Runs (textbook c) first second c beginning log' z'
     → (log ≡ log') × (z ≡ z')
 
--- what counters say and what reader intervals say is the same: of the rules, the versions, the token number,
--- who is online, and, for each unlinking that waits, who holds it
+-- what counters say and what reader intervals say is the same: of the rules, the versions, the
+-- token number, who is online, and, for each unlinking that waits, who holds it
 pub record Agrees (c : Config) (z : State Registry) (y : State (List Event)) : Type 0 where
   pub rules : y.rules ≡ z.rules
   pub begun : y.begun ≡ z.begun
   pub token : (textbook c).token y.readers ≡ z.readers.token
-  pub online : (w : ℕ) → w < c.workers → counting.is_online z.readers w ↔ (textbook c).is_online y.readers w
+  pub online : (w : ℕ) → w < c.workers
+      → counting.is_online z.readers w ↔ (textbook c).is_online y.readers w
   pub waiting : length y.limbo ≡ length z.limbo
   pub held : (place : ℕ) → place < length z.limbo → (busy : Busy)
-      → counting.is_held_by z.readers (slice_index z.limbo place) busy ↔ (textbook c).is_held_by y.readers (slice_index y.limbo place) busy
+      → counting.is_held_by z.readers (slice_index z.limbo place) busy
+      ↔ (textbook c).is_held_by y.readers (slice_index y.limbo place) busy
 
 -- a run by counters is one by reader intervals, with the same outcomes
 abbrev pub CountersTellIntervals : Type 0
-CountersTellIntervals = (first second : ℕ) (c : Config) (log : Log first second) (z : State Registry) → IsConfig c
+CountersTellIntervals = (first second : ℕ) (c : Config) (log : Log first second)
+    (z : State Registry) → IsConfig c
     → Runs counting first second c (opened c) log z
     → (y : State (List Event)) × Runs (textbook c) first second c beginning log y × Agrees c z y

@@ -1,6 +1,7 @@
--- What comes of each command, and what it leaves (DPDK Programmer's Guide, "LPM Library", "Addition",
--- "Deletion" and the reclaiming of tbl8 groups by RCU; the order of the checks is this project's).
-use Rattle.std.specs.Prelude.{ℕ, ◌≡◌, ◌≢◌, ◌+◌, ◌-◌, ◌<◌, ◌≤◌, List, [], ◌∷◌, length, slice_get, Some, None, Ok, Err, Result, IsSomeAnd, MatchOption}
+-- What comes of each command, and what it leaves (DPDK Programmer's Guide, "LPM Library",
+-- "Addition", "Deletion" and the reclaiming of tbl8 groups by RCU; the order of the checks is this
+-- project's).
+use Rattle.std.specs.Prelude.{ℕ, ◌≡◌, ◌≢◌, ◌+◌, ◌-◌, ◌<◌, ◌≤◌, List, [], ◌∷◌, length, slice_get, Option, Some, None, Ok, Err, Result, IsSomeAnd, MatchOption}
 use Rattle.std.specs.FinMap.{get, insert, remove, len, empty}
 use Rattle.std.specs.FinSet as set
 use Rattle.lpm_bits.specs.Network.{Network}
@@ -8,6 +9,7 @@ use Rattle.lpm_rules.specs.RuleMap.{RuleMap}
 use Rattle.lpm_rules.specs.Deep.{IsDeepBlock, block_of, deep_blocks}
 use Rattle.lpm_rules.specs.declared.Put.{Put}
 use Rattle.lpm_rules.specs.declared.Put.TheVariants.{Added, Replaced, Unchanged}
+use Rattle.lpm_limits.specs.declared.busy.Busy.{Busy}
 use Rattle.lpm_limits.specs.declared.config.Config.{Config}
 use Rattle.lpm_limits.specs.declared.refusal.Refusal.{Refusal}
 use Rattle.lpm_limits.specs.declared.refusal.Refusal.TheVariants.{TooManyRules, NoSuchRule, Exhausted, NoGroups, Memory}
@@ -26,51 +28,70 @@ use Rattle.fib_model.specs.Reclaiming.{Reclaims, Unlinks}
 abbrev pub groups_in_use : ℕ → ℕ → RuleMap → ℕ
 groups_in_use first second R = set.len (deep_blocks first second R)
 
--- the rule is new, longer than a first index, its block has no group, and no group is free
-pub record LacksGroup {X : Type 0} (first second : ℕ) (c : Config) (s : State X) (p : Network) : Type 0 where
+-- the rule is new, longer than FIRST bits, its block has no group, and no group is free
+pub record LacksGroup {X : Type 0} (first second : ℕ) (c : Config) (s : State X) (p : Network)
+    : Type 0 where
   pub absent : get s.rules p ≡ None
   pub long : first < p.len
   pub shallow : ¬ IsDeepBlock first second s.rules (block_of second p)
   pub none_free : c.groups ≤ groups_in_use first second s.rules + length s.limbo
 
 -- the limbo list after an add, which takes its front where no group is free
-abbrev pub TakesGroup : {X : Type 0} → Keeping X → ℕ → ℕ → Config → State X → Network → List ℕ → Type 0
-TakesGroup k first second c s p left = (LacksGroup first second c s p → (u : ℕ) × IsUnheld k s.readers u × (s.limbo ≡ u ∷ left))
+abbrev pub TakesGroup : {X : Type 0} → Keeping X → ℕ → ℕ → Config → State X → Network → List ℕ
+    → Type 0
+TakesGroup k first second c s p left =
+    (LacksGroup first second c s p → (u : ℕ) × IsUnheld k s.readers u × (s.limbo ≡ u ∷ left))
     × (¬ LacksGroup first second c s p → left ≡ s.limbo)
 
 -- the new rule passes the checks before that for a group
 abbrev pub IsNew : {X : Type 0} → Keeping X → Config → State X → Network → Type 0
 IsNew k c s p = (get s.rules p ≡ None) × HasTokens k c s × (len s.rules < c.rules)
 
+-- the first worker that holds the front of the limbo list; none where that is empty
+abbrev pub HoldsFront : {X : Type 0} → Keeping X → State X → Option Busy → Type 0
+HoldsFront k s oldest = MatchOption oldest (s.limbo ≡ [])
+    (λ busy. IsSomeAnd (slice_get s.limbo 0) (λ u. k.is_held_by s.readers u busy))
+
 -- adding rule p with next hop h
-abbrev pub Adds : {X : Type 0} → Keeping X → ℕ → ℕ → Config → State X → Network → ℕ → Result Put Refusal → State X → Type 0
+abbrev pub Adds : {X : Type 0} → Keeping X → ℕ → ℕ → Config → State X → Network → ℕ
+    → Result Put Refusal → State X → Type 0
 Adds k first second c s p h (Ok Unchanged) z = (get s.rules p ≡ Some h) × (z ≡ s)
-Adds k first second c s p h (Ok Replaced) z = IsSomeAnd (get s.rules p) (λ old. old ≢ h) × HasTokens k c s
-    × (z ≡ record s { rules = insert s.rules p h; begun = s.begun + 1 })
+Adds k first second c s p h (Ok Replaced) z = IsSomeAnd (get s.rules p) (λ old. old ≢ h)
+    × HasTokens k c s × (z ≡ record s { rules = insert s.rules p h; begun = s.begun + 1 })
 Adds k first second c s p h (Ok Added) z = IsNew k c s p
-    × ((left : List ℕ) × TakesGroup k first second c s p left × (z ≡ record s { rules = insert s.rules p h; begun = s.begun + 1; limbo = left }))
-Adds k first second c s p h (Err Exhausted) z = (get s.rules p ≢ Some h) × IsExhausted k c s × (z ≡ s)
-Adds k first second c s p h (Err TooManyRules) z = (get s.rules p ≡ None) × HasTokens k c s × (c.rules ≤ len s.rules) × (z ≡ s)
+    × ((left : List ℕ) × TakesGroup k first second c s p left
+    × (z ≡ record s { rules = insert s.rules p h; begun = s.begun + 1; limbo = left }))
+Adds k first second c s p h (Err Exhausted) z =
+    (get s.rules p ≢ Some h) × IsExhausted k c s × (z ≡ s)
+Adds k first second c s p h (Err TooManyRules) z =
+    (get s.rules p ≡ None) × HasTokens k c s × (c.rules ≤ len s.rules) × (z ≡ s)
 Adds k first second c s p h (Err Memory) z = IsNew k c s p × (z ≡ s)
-Adds k first second c s p h (Err (NoGroups oldest)) z = IsNew k c s p × LacksGroup first second c s p
-    × MatchOption oldest (s.limbo ≡ []) (λ busy. IsSomeAnd (slice_get s.limbo 0) (λ u. k.is_held_by s.readers u busy)) × (z ≡ s)
+Adds k first second c s p h (Err (NoGroups oldest)) z =
+    IsNew k c s p × LacksGroup first second c s p × HoldsFront k s oldest × (z ≡ s)
 Adds k first second c s p h (Err refusal) z = ⊥
 
--- a change to fewer rules, R: each block that loses its last rule longer than a first index is unlinked
-abbrev pub Shrinks : {X : Type 0} → Keeping X → ℕ → ℕ → Config → State X → RuleMap → State X → Type 0
+-- a change to fewer rules, R: each block that loses its last rule longer than FIRST bits is
+-- unlinked
+abbrev pub Shrinks : {X : Type 0} → Keeping X → ℕ → ℕ → Config → State X → RuleMap → State X
+    → Type 0
 Shrinks k first second c s R z = HasTokens k c s
-    × Unlinks k c (groups_in_use first second s.rules - groups_in_use first second R) s.readers s.limbo z.readers z.limbo
+    × Unlinks k c (groups_in_use first second s.rules - groups_in_use first second R)
+      s.readers s.limbo z.readers z.limbo
     × (z.rules ≡ R) × (z.begun ≡ s.begun + 1)
 
 -- deleting rule p
-abbrev pub Deletes : {X : Type 0} → Keeping X → ℕ → ℕ → Config → State X → Network → Result ℕ Refusal → State X → Type 0
-Deletes k first second c s p (Ok h) z = (get s.rules p ≡ Some h) × Shrinks k first second c s (remove s.rules p) z
+abbrev pub Deletes : {X : Type 0} → Keeping X → ℕ → ℕ → Config → State X → Network
+    → Result ℕ Refusal → State X → Type 0
+Deletes k first second c s p (Ok h) z =
+    (get s.rules p ≡ Some h) × Shrinks k first second c s (remove s.rules p) z
 Deletes k first second c s p (Err NoSuchRule) z = (get s.rules p ≡ None) × (z ≡ s)
-Deletes k first second c s p (Err Exhausted) z = (get s.rules p ≢ None) × IsExhausted k c s × (z ≡ s)
+Deletes k first second c s p (Err Exhausted) z =
+    (get s.rules p ≢ None) × IsExhausted k c s × (z ≡ s)
 Deletes k first second c s p (Err refusal) z = ⊥
 
 -- taking all rules out
-abbrev pub Flushes : {X : Type 0} → Keeping X → ℕ → ℕ → Config → State X → Result ℕ Refusal → State X → Type 0
+abbrev pub Flushes : {X : Type 0} → Keeping X → ℕ → ℕ → Config → State X → Result ℕ Refusal
+    → State X → Type 0
 Flushes k first second c s (Ok n) z = (n ≡ len s.rules)
     × (n ≡ 0 → z ≡ s) × (0 < n → Shrinks k first second c s empty z)
 Flushes k first second c s (Err Exhausted) z = (0 < len s.rules) × IsExhausted k c s × (z ≡ s)
@@ -78,7 +99,8 @@ Flushes k first second c s (Err refusal) z = ⊥
 
 -- a reclaim of at most `max`
 abbrev pub Frees : {X : Type 0} → Keeping X → State X → ℕ → Reclaimed → State X → Type 0
-Frees k s max r z = Reclaims k s.readers max s.limbo r.freed r.stopped z.limbo × (z ≡ record s { limbo = z.limbo })
+Frees k s max r z = Reclaims k s.readers max s.limbo r.freed r.stopped z.limbo
+    × (z ≡ record s { limbo = z.limbo })
 
 -- the report may be made by this worker
 abbrev pub MayReport : {X : Type 0} → Keeping X → State X → Report → ℕ → Type 0
@@ -93,35 +115,43 @@ refusal_of Offline = NotOnline
 refusal_of Quiescent = NotOnline
 
 -- a report, or its refusal; the number of the worker is tested first
-abbrev pub Reports : {X : Type 0} → Keeping X → Config → State X → Report → ℕ → Outcome → State X → Type 0
-Reports k c s report w outcome.Told z = (w < c.workers) × MayReport k s report w × (z ≡ record s { readers = k.told report w s.readers })
+abbrev pub Reports : {X : Type 0} → Keeping X → Config → State X → Report → ℕ → Outcome → State X
+    → Type 0
+Reports k c s report w outcome.Told z = (w < c.workers) × MayReport k s report w
+    × (z ≡ record s { readers = k.told report w s.readers })
 Reports k c s report w (outcome.Refused NoSuchWorker) z = (c.workers ≤ w) × (z ≡ s)
-Reports k c s report w (outcome.Refused refusal) z = (w < c.workers) × ¬ MayReport k s report w × (refusal ≡ refusal_of report) × (z ≡ s)
+Reports k c s report w (outcome.Refused refusal) z =
+    (w < c.workers) × ¬ MayReport k s report w × (refusal ≡ refusal_of report) × (z ≡ s)
 Reports k c s report w other z = ⊥
 
 -- a command came out so, and left z
-abbrev pub Does : {X : Type 0} → Keeping X → (first second : ℕ) → Config → State X → Command first second → Outcome → State X → Type 0
-Does k first second c s (command.Add p h) (outcome.Put put) z = Adds k first second c s p h (Ok put) z
-Does k first second c s (command.Add p h) (outcome.Refused refusal) z = Adds k first second c s p h (Err refusal) z
-Does k first second c s (command.Delete p) (outcome.Deleted h) z = Deletes k first second c s p (Ok h) z
-Does k first second c s (command.Delete p) (outcome.Refused refusal) z = Deletes k first second c s p (Err refusal) z
-Does k first second c s command.Flush (outcome.Flushed n) z = Flushes k first second c s (Ok n) z
-Does k first second c s command.Flush (outcome.Refused refusal) z = Flushes k first second c s (Err refusal) z
-Does k first second c s (command.Reclaim max) (outcome.Reclaimed r) z = Frees k s max r z
-Does k first second c s (command.Report report w) outcome z = Reports k c s report w outcome z
-Does k first second c s other outcome z = ⊥
+abbrev pub Does : {X : Type 0} → Keeping X → (first second : ℕ) → Config → State X
+    → Command first second → Outcome → State X → Type 0
+Does k f g c s (command.Add p h) (outcome.Put put) z = Adds k f g c s p h (Ok put) z
+Does k f g c s (command.Add p h) (outcome.Refused refusal) z = Adds k f g c s p h (Err refusal) z
+Does k f g c s (command.Delete p) (outcome.Deleted h) z = Deletes k f g c s p (Ok h) z
+Does k f g c s (command.Delete p) (outcome.Refused refusal) z = Deletes k f g c s p (Err refusal) z
+Does k f g c s command.Flush (outcome.Flushed n) z = Flushes k f g c s (Ok n) z
+Does k f g c s command.Flush (outcome.Refused refusal) z = Flushes k f g c s (Err refusal) z
+Does k f g c s (command.Reclaim max) (outcome.Reclaimed r) z = Frees k s max r z
+Does k f g c s (command.Report report w) outcome z = Reports k c s report w outcome z
+Does k f g c s other outcome z = ⊥
 
 -- what was done so far, the newest first, and how it came out
 abbrev pub Log : ℕ → ℕ → Type 0
 Log first second = List (Command first second × Outcome)
 
 -- from `opening` on, the commands of the log came out so one after another, and left z
-abbrev pub Runs : {X : Type 0} → Keeping X → (first second : ℕ) → Config → State X → Log first second → State X → Type 0
+abbrev pub Runs : {X : Type 0} → Keeping X → (first second : ℕ) → Config → State X
+    → Log first second → State X → Type 0
 Runs k first second c opening [] z = z ≡ opening
-Runs {X} k first second c opening (done ∷ log) z = (s : State X) × Runs k first second c opening log s × Does k first second c s done.0 done.1 z
+Runs {X} k first second c opening (done ∷ log) z = (s : State X)
+    × Runs k first second c opening log s × Does k first second c s done.0 done.1 z
 
 -- the log after these commands, in order, and their outcomes
-abbrev pub logged : {first second : ℕ} → Log first second → List (Command first second) → List Outcome → Log first second
+abbrev pub logged : {first second : ℕ} → Log first second → List (Command first second)
+    → List Outcome → Log first second
 logged log [] outcomes = log
 logged log (command ∷ commands) [] = log
-logged log (command ∷ commands) (outcome ∷ outcomes) = logged ((command, outcome) ∷ log) commands outcomes
+logged log (command ∷ commands) (outcome ∷ outcomes) =
+    logged ((command, outcome) ∷ log) commands outcomes

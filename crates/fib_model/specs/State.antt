@@ -1,13 +1,13 @@
--- What the outcome of a command depends on, for any way to keep the readers' reports (DPDK Programmer's Guide,
--- "LPM Library" and "RCU Library").
+-- What the outcome of a command depends on, for any way to keep the readers' reports (DPDK
+-- Programmer's Guide, "LPM Library" and "RCU Library").
 use Rattle.std.specs.Prelude.{ℕ, ◌+◌, ◌^◌, ◌<◌, ◌≤◌, ◌⊎◌, List}
 use Rattle.lpm_limits.specs.declared.busy.Busy.{Busy}
 use Rattle.lpm_limits.specs.declared.config.Config.{Config}
 use Rattle.lpm_rules.specs.RuleMap.{RuleMap}
 use Rattle.fib_model.specs.declared.command.Report.{Report}
 
--- the rules, what the readers reported (as an X), the unlinkings that wait, from the oldest to the newest,
--- each by its name, and the number of updates begun
+-- the rules, what the readers reported (as an X), the unlinkings that wait, from the oldest to the
+-- newest, each by its name, and the number of updates begun
 pub record State (X : Type 0) : Type 0 where
   pub rules : RuleMap
   pub readers : X

@@ -1,5 +1,5 @@
--- Reports kept as what happened: the list of whole reports and unlinkings, the newest first (DPDK Programmer's
--- Guide, "RCU Library": grace periods and quiescent states).
+-- Reports kept as what happened: the list of whole reports and unlinkings, the newest first (DPDK
+-- Programmer's Guide, "RCU Library": grace periods and quiescent states).
 use Rattle.std.specs.Prelude.{ℕ, ◌≡◌, ◌+◌, ◌<◌, List, [], ◌∷◌, length}
 use Rattle.std.specs.FinMap.{empty}
 use Rattle.lpm_limits.specs.declared.busy.Busy.{Busy}
@@ -12,12 +12,13 @@ use Rattle.reader_intervals.specs.Intervals.{IsRunningSince, IsHeldByWorker}
 use Rattle.fib_model.specs.Intervals.{by_reports, unlinkings_before, unlinkings}
 use Rattle.fib_model.specs.State.{State, Keeping}
 
--- the least worker whose running interval holds the unlinking at this place, with the token number at that
--- interval's beginning; the first token is `token`
+-- the least worker whose running interval holds the unlinking at this place, with the token number
+-- at that interval's beginning; the first token is `token`
 pub record IsFirstHolder (token : ℕ) (events : List Event) (place : ℕ) (busy : Busy) : Type 0 where
   pub holds : IsHeldByWorker by_reports events place busy.worker
   pub first : (w : ℕ) → w < busy.worker → ¬ IsHeldByWorker by_reports events place w
-  pub counter : (start : ℕ) → IsRunningSince by_reports events busy.worker start → busy.counter ≡ token + unlinkings_before events start
+  pub counter : (start : ℕ) → IsRunningSince by_reports events busy.worker start
+      → busy.counter ≡ token + unlinkings_before events start
 
 abbrev pub event_of : Report → ℕ → Event
 event_of report.Online w = Online w

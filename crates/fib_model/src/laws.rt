@@ -2,7 +2,8 @@
 
 ghost use Rattle.fib_model.specs.Laws.{CountersTellIntervals, OutcomesAreUnique, RulesAreLastVersion, RulesAreLastVersionByCounters, UnheldByNone};
 
-/// The rules are the last version that the commands made, and as many updates were begun as there are versions.
+/// The rules are the last version that the commands made, and as many updates were begun as there
+/// are versions.
 pub fn rules_are_last_version()
     ensures { RulesAreLastVersion }
 {}
@@ -17,7 +18,8 @@ pub fn unheld_by_none()
     ensures { UnheldByNone }
 {}
 
-/// Where memory isn't refused, the same commands come out in one way: the definitions leave nothing open.
+/// Where memory isn't refused, the same commands come out in one way: the definitions leave nothing
+/// open.
 pub fn outcomes_are_unique()
     ensures { OutcomesAreUnique }
 {}

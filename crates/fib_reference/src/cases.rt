@@ -1,5 +1,6 @@
-//! Worked cases of a table of one thread, each under its name: commands to a table that was just opened, what
-//! each of them comes to, what lookups find after the last, and the counts then. They were worked by hand.
+//! Worked cases of a table of one thread, each under its name: commands to a table that was just
+//! opened, what comes of each, and after the last command the counts and what lookups find. The
+//! expected values were worked out by hand.
 
 ghost use Rattle.std.specs.Prelude.{◌≡◌, ◌≤◌, ◌<◌, IfOk, length};
 
@@ -22,7 +23,8 @@ pub struct Case {
     pub commands: Vec<Command<24, 8>>,
     /// What each command comes to, and the counts after the last.
     pub account: Account,
-    /// Addresses, and the number of the next hop that a lookup of each finds after the last command.
+    /// Addresses, and the number of the next hop that a lookup of each finds after the last
+    /// command.
     pub lookups: Vec<(u32, Option<u32>)>,
 }
 

@@ -6,7 +6,7 @@ ghost use Rattle.fib_model.specs.Intervals.{begins, ends, by_reports, is_unlinki
 
 use fib_model::Event;
 
-/// Where the worker's running reader interval begins after an event at this place, if one runs then.
+/// Where the worker's running reader interval began, if one runs after an event at this place.
 fn since_after(event: Event, w: usize, place: usize, since: Option<usize>) -> Option<usize>
     ensures begins { IsTrue (begins w event) → result ≡ Some place }
     ensures ends { IsFalse (begins w event) → IsTrue (ends w event) → result ≡ None }

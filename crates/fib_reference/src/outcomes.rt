@@ -10,8 +10,9 @@ use fib_model::Command;
 use qsbr::Config;
 use std::alloc::{AllocError, Global};
 
-/// The outcomes of the commands, one after another on a table that was just opened, and the counts at the
-/// end. It keeps all that happened, and goes over it anew for each question.
+/// The outcomes of the commands, one after another on a table that was just opened, and the counts
+/// at the end. An error says that memory was refused to this program; the table computed here is
+/// never short of memory.
 pub fn expected<const FIRST: u32, const SECOND: u32>(
     alloc: Global,
     config: &Config,

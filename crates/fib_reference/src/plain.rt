@@ -40,7 +40,7 @@ pub(crate) struct Plain<const FIRST: u32, const SECOND: u32> {
 }
 
 impl<const FIRST: u32, const SECOND: u32> Plain<FIRST, SECOND> {
-    ghost use Rattle.fib_reference.specs.Expected.{events_of, state_of};
+    ghost use Rattle.fib_reference.specs.Expected.{IsSound, events_of, state_of};
     ghost use Rattle.fib_model.specs.Outcomes.{Adds, Deletes, Does, Flushes, IsNew, LacksGroup, groups_in_use};
     ghost use Rattle.fib_model.specs.Reclaiming.{Unlinks};
     ghost use Rattle.fib_model.specs.State.{HasTokens, IsExhausted};
@@ -52,7 +52,7 @@ impl<const FIRST: u32, const SECOND: u32> Plain<FIRST, SECOND> {
     pub(crate) fn open(alloc: Global, config: &Config) -> Self
         requires { IsShape FIRST SECOND }
         ensures state { state_of result ≡ beginning }
-        ensures tidy { IsTidy by_reports config.now.workers (events_of result.waiting) }
+        ensures sound { IsSound config.now result.waiting }
     {
         Plain {
             rules: Rules::new(alloc, config.rules),
@@ -75,8 +75,10 @@ impl<const FIRST: u32, const SECOND: u32> Plain<FIRST, SECOND> {
     /// Whether the tokens or the versions would pass their bound.
     fn is_exhausted(&self, config: &Config) -> bool
         requires { IsConfig config.now }
-        ensures yes { IsTrue result → IsExhausted (textbook config.now) config.now (state_of self.now) }
-        ensures no { IsFalse result → HasTokens (textbook config.now) config.now (state_of self.now) }
+        ensures yes { IsTrue result
+            → IsExhausted (textbook config.now) config.now (state_of self.now) }
+        ensures no { IsFalse result
+            → HasTokens (textbook config.now) config.now (state_of self.now) }
     {
         let last = self.waiting.token(config) + config.groups as u64;
         last > 1 << 62 || self.begun >= 1 << 61
@@ -85,8 +87,10 @@ impl<const FIRST: u32, const SECOND: u32> Plain<FIRST, SECOND> {
     /// Whether the new rule needs a group and none is free.
     fn lacks_group(&self, config: &Config, prefix: &Prefix<FIRST, SECOND>) -> bool
         requires { map.get self.now.rules.rules prefix.now ≡ None }
-        ensures yes { IsTrue result → LacksGroup FIRST SECOND config.now (state_of self.now) prefix.now }
-        ensures no { IsFalse result → LacksGroup FIRST SECOND config.now (state_of self.now) prefix.now → ⊥ }
+        ensures yes { IsTrue result
+            → LacksGroup FIRST SECOND config.now (state_of self.now) prefix.now }
+        ensures no { IsFalse result
+            → ¬ LacksGroup FIRST SECOND config.now (state_of self.now) prefix.now }
     {
         let bits = prefix.bits();
         if prefix.len() <= FIRST {
@@ -99,7 +103,8 @@ impl<const FIRST: u32, const SECOND: u32> Plain<FIRST, SECOND> {
     /// Stores a rule, as one more version.
     fn store(&mut self, prefix: &Prefix<FIRST, SECOND>, hop: Hop) -> Result<(), AllocError>
         requires { self.old.begun < 2 ^ 61 }
-        ensures rules { OnOk result (self.new.rules.rules ≡ map.insert self.old.rules.rules prefix.now hop) }
+        ensures rules { OnOk result
+            (self.new.rules.rules ≡ map.insert self.old.rules.rules prefix.now hop) }
         ensures begun { OnOk result (self.new.begun ≡ self.old.begun + 1) }
         ensures waiting { self.new.waiting ≡ self.old.waiting }
     {
@@ -120,10 +125,10 @@ impl<const FIRST: u32, const SECOND: u32> Plain<FIRST, SECOND> {
         hop: Hop,
     ) -> Result<Result<Put, Refusal>, AllocError>
         requires config { IsConfig config.now }
-        requires tidy { IsTidy by_reports config.now.workers (events_of self.old.waiting) }
+        requires sound { IsSound config.now self.old.waiting }
         requires new { IsNew (textbook config.now) config.now (state_of self.old) prefix.now }
-        ensures adds { IfOk result (λ r. Adds (textbook config.now) FIRST SECOND config.now (state_of self.old) prefix.now hop r
-            (state_of self.new)) }
+        ensures adds { IfOk result (λ r. Adds (textbook config.now) FIRST SECOND config.now
+            (state_of self.old) prefix.now hop r (state_of self.new)) }
         ensures events { self.new.waiting.events ≡ self.old.waiting.events }
     {
         if self.lacks_group(config, prefix) {
@@ -143,9 +148,9 @@ impl<const FIRST: u32, const SECOND: u32> Plain<FIRST, SECOND> {
         hop: Hop,
     ) -> Result<Result<Put, Refusal>, AllocError>
         requires config { IsConfig config.now }
-        requires tidy { IsTidy by_reports config.now.workers (events_of self.old.waiting) }
-        ensures adds { IfOk result (λ r. Adds (textbook config.now) FIRST SECOND config.now (state_of self.old) prefix.now hop r
-            (state_of self.new)) }
+        requires sound { IsSound config.now self.old.waiting }
+        ensures adds { IfOk result (λ r. Adds (textbook config.now) FIRST SECOND config.now
+            (state_of self.old) prefix.now hop r (state_of self.new)) }
         ensures events { self.new.waiting.events ≡ self.old.waiting.events }
     {
         let old = self.rules.get(prefix);
@@ -169,11 +174,12 @@ impl<const FIRST: u32, const SECOND: u32> Plain<FIRST, SECOND> {
     fn shrink(&mut self, config: &Config, before: usize) -> Result<(), AllocError>
         requires config { IsConfig config.now }
         requires begun { self.old.begun < 2 ^ 61 }
-        requires tidy { IsTidy by_reports config.now.workers (events_of self.old.waiting) }
+        requires sound { IsSound config.now self.old.waiting }
         ensures unlinked { OnOk result (Unlinks (textbook config.now) config.now
-            (before - groups_in_use FIRST SECOND self.old.rules.rules) (events_of self.old.waiting) self.old.waiting.limbo.items
+            (before - groups_in_use FIRST SECOND self.old.rules.rules)
+            (events_of self.old.waiting) self.old.waiting.limbo.items
             (events_of self.new.waiting) self.new.waiting.limbo.items) }
-        ensures tidy { OnOk result (IsTidy by_reports config.now.workers (events_of self.new.waiting)) }
+        ensures sound { OnOk result (IsSound config.now self.new.waiting) }
         ensures begun { self.new.begun ≡ self.old.begun + 1 }
         ensures rules { self.new.rules ≡ self.old.rules }
     {
@@ -189,10 +195,10 @@ impl<const FIRST: u32, const SECOND: u32> Plain<FIRST, SECOND> {
         prefix: &Prefix<FIRST, SECOND>,
     ) -> Result<Result<Hop, Refusal>, AllocError>
         requires config { IsConfig config.now }
-        requires tidy { IsTidy by_reports config.now.workers (events_of self.old.waiting) }
-        ensures deletes { IfOk result (λ r. Deletes (textbook config.now) FIRST SECOND config.now (state_of self.old) prefix.now r
-            (state_of self.new)) }
-        ensures tidy { OnOk result (IsTidy by_reports config.now.workers (events_of self.new.waiting)) }
+        requires sound { IsSound config.now self.old.waiting }
+        ensures deletes { IfOk result (λ r. Deletes (textbook config.now) FIRST SECOND config.now
+            (state_of self.old) prefix.now r (state_of self.new)) }
+        ensures sound { OnOk result (IsSound config.now self.new.waiting) }
     {
         let Some(hop) = self.rules.get(prefix) else {
             return Ok(Err(Refusal::NoSuchRule));
@@ -209,10 +215,10 @@ impl<const FIRST: u32, const SECOND: u32> Plain<FIRST, SECOND> {
     /// Takes out all rules.
     fn flush(&mut self, config: &Config) -> Result<Result<usize, Refusal>, AllocError>
         requires config { IsConfig config.now }
-        requires tidy { IsTidy by_reports config.now.workers (events_of self.old.waiting) }
-        ensures flushes { IfOk result (λ r. Flushes (textbook config.now) FIRST SECOND config.now (state_of self.old) r
-            (state_of self.new)) }
-        ensures tidy { OnOk result (IsTidy by_reports config.now.workers (events_of self.new.waiting)) }
+        requires sound { IsSound config.now self.old.waiting }
+        ensures flushes { IfOk result (λ r. Flushes (textbook config.now) FIRST SECOND config.now
+            (state_of self.old) r (state_of self.new)) }
+        ensures sound { OnOk result (IsSound config.now self.new.waiting) }
     {
         if self.rules.is_empty() {
             return Ok(Ok(0));
@@ -233,10 +239,10 @@ impl<const FIRST: u32, const SECOND: u32> Plain<FIRST, SECOND> {
         command: &Command<FIRST, SECOND>,
     ) -> Result<Outcome, AllocError>
         requires config { IsConfig config.now }
-        requires tidy { IsTidy by_reports config.now.workers (events_of self.old.waiting) }
-        ensures does { IfOk result (λ outcome. Does (textbook config.now) FIRST SECOND config.now (state_of self.old) command.now outcome
-            (state_of self.new)) }
-        ensures tidy { OnOk result (IsTidy by_reports config.now.workers (events_of self.new.waiting)) }
+        requires sound { IsSound config.now self.old.waiting }
+        ensures does { IfOk result (λ outcome. Does (textbook config.now) FIRST SECOND config.now
+            (state_of self.old) command.now outcome (state_of self.new)) }
+        ensures sound { OnOk result (IsSound config.now self.new.waiting) }
     {
         match command {
             Command::Add(prefix, hop) => match self.add(config, prefix, *hop)? {

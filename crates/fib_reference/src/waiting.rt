@@ -24,7 +24,7 @@ impl Waiting {
     ghost use Rattle.fib_model.specs.Reclaiming.{Reclaims, Unlinks};
     ghost use Rattle.fib_model.specs.State.{IsUnheld};
     ghost use Rattle.fib_model.specs.Textbook.{textbook};
-    ghost use Rattle.fib_reference.specs.Expected.{events_of, state_with};
+    ghost use Rattle.fib_reference.specs.Expected.{IsSound, events_of, state_with};
     ghost use Rattle.fib_model.specs.Outcomes.{MayReport, Reports};
     ghost use Rattle.lpm_rules.specs.RuleMap.{RuleMap};
 
@@ -48,15 +48,18 @@ impl Waiting {
         token_at(&self.events, config.first_token, self.events.len())
     }
 
-    /// The worker, if a running reader interval of it holds the unlinking at this place, with the token
-    /// number at the interval's beginning.
+    /// The worker, if a running reader interval of it holds the unlinking at this place, with the
+    /// token number at the interval's beginning.
     fn held_by(&self, config: &Config, place: usize, worker: usize) -> Option<Busy>
         requires config { IsConfig config.now }
-        requires tidy { IsTidy by_reports config.now.workers (events_of self.now) }
-        ensures { MatchOption result (IsHeldByWorker by_reports (events_of self.now) place worker → ⊥)
-            (λ busy. (busy.worker ≡ worker) × IsHeldByWorker by_reports (events_of self.now) place worker
+        requires sound { IsSound config.now self.now }
+        ensures { MatchOption result
+            (¬ IsHeldByWorker by_reports (events_of self.now) place worker)
+            (λ busy. (busy.worker ≡ worker)
+            × IsHeldByWorker by_reports (events_of self.now) place worker
             × ((start : ℕ) × IsRunningSince by_reports (events_of self.now) worker start
-            × (busy.counter ≡ config.now.first_token + unlinkings_before (events_of self.now) start))) }
+            × (busy.counter
+            ≡ config.now.first_token + unlinkings_before (events_of self.now) start))) }
     {
         let start = running(&self.events, worker)?;
         if start >= place {
@@ -71,7 +74,7 @@ impl Waiting {
     /// The first worker that holds the unlinking at this place, if one does.
     fn holder(&self, config: &Config, place: usize) -> Option<Busy>
         requires config { IsConfig config.now }
-        requires tidy { IsTidy by_reports config.now.workers (events_of self.now) }
+        requires sound { IsSound config.now self.now }
         ensures { MatchOption result (IsUnheld (textbook config.now) (events_of self.now) place)
             (λ busy. (textbook config.now).is_held_by (events_of self.now) place busy) }
     {
@@ -86,9 +89,9 @@ impl Waiting {
     /// What a reclaim of at most `max` would answer.
     fn front(&self, config: &Config, max: usize) -> Reclaimed
         requires config { IsConfig config.now }
-        requires tidy { IsTidy by_reports config.now.workers (events_of self.now) }
-        ensures { Reclaims (textbook config.now) (events_of self.now) max self.now.limbo.items result.freed result.stopped
-            (drop result.freed self.now.limbo.items) }
+        requires sound { IsSound config.now self.now }
+        ensures { Reclaims (textbook config.now) (events_of self.now) max self.now.limbo.items
+            result.freed result.stopped (drop result.freed self.now.limbo.items) }
     {
         let most = max.min(self.limbo.len());
         for freed in 0..most {
@@ -119,9 +122,9 @@ impl Waiting {
     /// Reclaims at most `max`.
     pub(crate) fn reclaim(&mut self, config: &Config, max: usize) -> Reclaimed
         requires config { IsConfig config.now }
-        requires tidy { IsTidy by_reports config.now.workers (events_of self.old) }
-        ensures limbo { Reclaims (textbook config.now) (events_of self.old) max self.old.limbo.items result.freed result.stopped
-            self.new.limbo.items }
+        requires sound { IsSound config.now self.old }
+        ensures limbo { Reclaims (textbook config.now) (events_of self.old) max
+            self.old.limbo.items result.freed result.stopped self.new.limbo.items }
         ensures events { self.new.events ≡ self.old.events }
     {
         let reclaimed = self.front(config, max);
@@ -132,7 +135,7 @@ impl Waiting {
     /// Takes the front, if no worker holds it; else answers the first worker that does.
     pub(crate) fn take_front(&mut self, config: &Config) -> Result<(), Option<Busy>>
         requires config { IsConfig config.now }
-        requires tidy { IsTidy by_reports config.now.workers (events_of self.old) }
+        requires sound { IsSound config.now self.old }
         ensures taken { OnOk result ((u : ℕ) × IsUnheld (textbook config.now) (events_of self.old) u
             × (self.old.limbo.items ≡ u ∷ self.new.limbo.items)) }
         ensures held { IfErr result (λ oldest. MatchOption oldest (self.old.limbo.items ≡ [])
@@ -154,10 +157,10 @@ impl Waiting {
     /// Unlinks a group: makes room where more wait than the threshold, and puts the unlinking last.
     fn unlink(&mut self, config: &Config) -> Result<(), AllocError>
         requires config { IsConfig config.now }
-        requires tidy { IsTidy by_reports config.now.workers (events_of self.old) }
-        ensures unlinked { OnOk result (Unlinks (textbook config.now) config.now 1 (events_of self.old) self.old.limbo.items
-            (events_of self.new) self.new.limbo.items) }
-        ensures tidy { OnOk result (IsTidy by_reports config.now.workers (events_of self.new)) }
+        requires sound { IsSound config.now self.old }
+        ensures unlinked { OnOk result (Unlinks (textbook config.now) config.now 1
+            (events_of self.old) self.old.limbo.items (events_of self.new) self.new.limbo.items) }
+        ensures sound { OnOk result (IsSound config.now self.new) }
     {
         let place = self.events.len();
         self.events.push(Event::Unlinking)?;
@@ -171,10 +174,10 @@ impl Waiting {
     /// Unlinks so many groups, one after another.
     pub(crate) fn unlink_all(&mut self, config: &Config, count: usize) -> Result<(), AllocError>
         requires config { IsConfig config.now }
-        requires tidy { IsTidy by_reports config.now.workers (events_of self.old) }
-        ensures unlinked { OnOk result (Unlinks (textbook config.now) config.now count (events_of self.old) self.old.limbo.items
-            (events_of self.new) self.new.limbo.items) }
-        ensures tidy { OnOk result (IsTidy by_reports config.now.workers (events_of self.new)) }
+        requires sound { IsSound config.now self.old }
+        ensures unlinked { OnOk result (Unlinks (textbook config.now) config.now count
+            (events_of self.old) self.old.limbo.items (events_of self.new) self.new.limbo.items) }
+        ensures sound { OnOk result (IsSound config.now self.new) }
     {
         for _unlinked in 0..count {
             self.unlink(config)?;
@@ -203,11 +206,11 @@ impl Waiting {
         report: Report,
         worker: usize,
     ) -> Result<Outcome, AllocError>
-        requires tidy { IsTidy by_reports config.now.workers (events_of self.old) }
+        requires sound { IsSound config.now self.old }
         ensures reported { IfOk result (λ outcome. (rules : RuleMap) (begun : ℕ)
-            → Reports (textbook config.now) config.now (state_with rules begun self.old) report worker outcome
-            (state_with rules begun self.new)) }
-        ensures tidy { OnOk result (IsTidy by_reports config.now.workers (events_of self.new)) }
+            → Reports (textbook config.now) config.now (state_with rules begun self.old) report worker
+            outcome (state_with rules begun self.new)) }
+        ensures sound { OnOk result (IsSound config.now self.new) }
     {
         if worker >= config.workers {
             return Ok(Outcome::Refused(Refusal::NoSuchWorker));

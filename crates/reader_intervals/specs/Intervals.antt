@@ -1,6 +1,6 @@
--- Reader intervals (DPDK Programmer's Guide, "RCU Library": a grace period lasts until each reader that may
--- hold a reference has been in a quiescent state; the intervals between a reader's quiescent states are those
--- in which it may hold one). No token or counter is looked at.
+-- Reader intervals (DPDK Programmer's Guide, "RCU Library": a grace period lasts until each reader
+-- that may hold a reference has been in a quiescent state; the intervals between a reader's
+-- quiescent states are those in which it may hold one). No token or counter is looked at.
 use Rattle.std.specs.Prelude.{ℕ, ◌≡◌, ◌<◌, ◌≤◌, Bool, IsTrue, List, Option, None, IsSomeAnd, MatchOption}
 use Rattle.reader_intervals.specs.Places.{event_at}
 
@@ -11,11 +11,13 @@ pub record Reporting (E : Type 0) : Type 0 where
 
 -- a reader interval of the worker begins at the place
 abbrev pub BeginsAt : {E : Type 0} → Reporting E → List E → ℕ → ℕ → Type 0
-BeginsAt r events worker place = IsSomeAnd (event_at events place) (λ event. IsTrue (r.begins worker event))
+BeginsAt r events worker place =
+    IsSomeAnd (event_at events place) (λ event. IsTrue (r.begins worker event))
 
 -- a reader interval of the worker ends at the place
 abbrev pub EndsAt : {E : Type 0} → Reporting E → List E → ℕ → ℕ → Type 0
-EndsAt r events worker place = IsSomeAnd (event_at events place) (λ event. IsTrue (r.ends worker event))
+EndsAt r events worker place =
+    IsSomeAnd (event_at events place) (λ event. IsTrue (r.ends worker event))
 
 -- from one place to another; to none while it runs
 pub record Interval : Type 0 where
@@ -24,7 +26,8 @@ pub record Interval : Type 0 where
   pub end : Option ℕ
 
 -- it begins at an event that begins one, and ends at the next event after it that ends one
-pub record IsReaderInterval {E : Type 0} (r : Reporting E) (events : List E) (i : Interval) : Type 0 where
+pub record IsReaderInterval {E : Type 0} (r : Reporting E) (events : List E) (i : Interval)
+    : Type 0 where
   pub begins : BeginsAt r events i.worker i.start
   pub ends : MatchOption i.end
       ((place : ℕ) → i.start < place → ¬ EndsAt r events i.worker place)
@@ -45,7 +48,8 @@ abbrev pub IsHeldByWorker : {E : Type 0} → Reporting E → List E → ℕ → 
 IsHeldByWorker r events place worker = (i : Interval) × (i.worker ≡ worker) × (i.end ≡ None)
     × IsReaderInterval r events i × Holds i place
 
--- workers take turns: each has at most one running reader interval, and a number past the workers has none
+-- workers take turns: each has at most one running reader interval, and a number past the workers
+-- has none
 pub record IsTidy {E : Type 0} (r : Reporting E) (workers : ℕ) (events : List E) : Type 0 where
   pub one : (w s t : ℕ) → IsRunningSince r events w s → IsRunningSince r events w t → s ≡ t
   pub others : (w s : ℕ) → workers ≤ w → ¬ IsRunningSince r events w s

@@ -9,8 +9,8 @@ RunsAfterOneMore E = (r : Reporting E) (event : E) (events : List E) (worker sta
     ↔ (((start ≡ length events) × IsTrue (r.begins worker event))
     ⊎ (IsRunningSince r events worker start × ¬ IsTrue (r.ends worker event)))
 
--- once no worker holds the event at a place, no reader interval, whatever comes, holds both that place and
--- one from now on
+-- once no worker holds the event at a place, no reader interval, whatever comes, holds both that
+-- place and one from now on
 abbrev pub GracePeriodIsOver : Type 0 → Type 0
 GracePeriodIsOver E = (r : Reporting E) (newer older : List E) (place later : ℕ) (i : Interval)
     → place < length older → ((worker : ℕ) → ¬ IsHeldByWorker r older place worker)

@@ -13,7 +13,7 @@ loop-command-preserved g c =
     let limits = c.args.config.now in
     let before = c.loop-command.invariant in
     record {
-      tidy = c.in_ok-outcome.ensures.tidy;
+      sound = c.in_ok-outcome.ensures.sound;
       each = search rules;
       runs = subst (λ log. Runs (textbook limits) f s limits beginning log (state_of c.run.new.self))
           (sym (logged_more f s c.args.commands.now c.loop-command.command-index c.loop-command.outcomes.items c.push.new.self.items c.command-item.result c.command-item.result c.in_ok-outcome.outcome (omega arith) before.each c.command-item.is c.in_ok-push.ensures.items))

@@ -9,6 +9,6 @@ pub returns-then-start-place : goal.returns-then-start-place
 returns-then-start-place c = λ h.
     let E = events_of c.args.self.now in
     let k = held_start by_reports E c.args.place c.args.worker h in
-    let same = c.requires.tidy.one c.args.worker k.0 c.in_ok-start.start k.1 (subst (λ l. IsRunningSince by_reports (reverse l) c.args.worker c.in_ok-start.start) c.deref.ensures.value c.in_ok-start.ensures) in
+    let same = c.requires.sound.one c.args.worker k.0 c.in_ok-start.start k.1 (subst (λ l. IsRunningSince by_reports (reverse l) c.args.worker c.in_ok-start.start) c.deref.ensures.value c.in_ok-start.ensures) in
     let below = k.2 in
     absurd (omega (arith, same, below))
