@@ -42,7 +42,8 @@ Asks name rows (Lookup routes addresses config) = (name ≡ codes "lookup")
 
 -- the matches have a command, which asks for this
 abbrev pub IsAskedBy : Option (Text × List Row) → CommandLine → Type 0
-IsAskedBy matches line = (name : Text) × ((rows : List Row) × (matches ≡ Some (name, rows)) × Asks name rows line)
+IsAskedBy matches line = (name : Text)
+    × ((rows : List Row) × (matches ≡ Some (name, rows)) × Asks name rows line)
 
 -- the parser's error is one of these faults of the words
 abbrev pub IsRefusalBy : Kinds → Refused → Type 0

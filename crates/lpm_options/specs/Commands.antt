@@ -3,7 +3,8 @@
 use Rattle.std.specs.Prelude.{[], ◌∷◌, true, Some, codes, decimal}
 use Rattle.clap.specs.Words.{App, Rule, Text, new_app, new_rule, with_rule, with_subcommand}
 use Rattle.lpm_limits.specs.declared.config.Range.{Range}
-use Rattle.lpm_limits.specs.Limits.{rules_range, groups_range, threshold_range, reclaim_range, default_config}
+use Rattle.lpm_limits.specs.Limits.{rules_range, groups_range, threshold_range, reclaim_range}
+use Rattle.lpm_limits.specs.Limits.{default_config}
 use Rattle.clap.specs.declared.builder.value_parser.ValueParser.TheVariants as parsers
 
 -- a file, named by its place
@@ -39,8 +40,13 @@ with_reclaiming app = with_rule (with_rule app threshold_rule) max_rule
 abbrev pub with_limits : App → App
 with_limits app = with_reclaiming (with_rule (with_rule app rules_rule) groups_rule)
 
+-- the command of this name for these two files
+abbrev pub with_files : Text → Text → Text → App
+with_files name first second =
+    with_rule (with_rule (new_app name) (file_rule first)) (file_rule second)
+
 abbrev pub lookup_app : App
-lookup_app = with_limits (with_rule (with_rule (new_app (codes "lookup")) (file_rule (codes "ROUTES"))) (file_rule (codes "ADDRESSES")))
+lookup_app = with_limits (with_files (codes "lookup") (codes "ROUTES") (codes "ADDRESSES"))
 
 abbrev pub wants_subcommand : App → App
 wants_subcommand app = record app { top = record app.top { subcommand_required = true } }

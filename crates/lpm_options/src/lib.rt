@@ -2,9 +2,12 @@
 #![tactic(auto)]
 
 ghost use Rattle.std.specs.Prelude.{◌≡◌, IfOk, IfErr, IfSome, map, false, ℕ, Some};
-ghost use Rattle.clap.specs.Words.{app_of, rule_of, subcommand_of, fault_of, rows_of, found_of, Kinds, HasKind};
-ghost use Rattle.lpm_options.specs.Commands.{file_rule, number_rule, lookup_app, with_limits, with_reclaiming, the_app};
-ghost use Rattle.lpm_options.specs.Asked.{HasNumber, AreLimits, Asks, IsAskedBy, IsInRange, IsRefusalBy};
+ghost use Rattle.clap.specs.Words.{app_of, rule_of, subcommand_of, fault_of, rows_of, found_of};
+ghost use Rattle.clap.specs.Words.{Kinds, HasKind};
+ghost use Rattle.lpm_options.specs.Commands.{file_rule, number_rule, lookup_app, the_app};
+ghost use Rattle.lpm_options.specs.Commands.{with_limits, with_reclaiming};
+ghost use Rattle.lpm_options.specs.Asked.{HasNumber, AreLimits, Asks, IsAskedBy};
+ghost use Rattle.lpm_options.specs.Asked.{IsInRange, IsRefusalBy};
 
 use clap::builder::ValueParser;
 use clap::error::ErrorKind;
@@ -19,11 +22,11 @@ const ADDRESSES: &str = "The address file. Each line is an address, as `10.1.2.3
 
 const RULES: &str = "The greatest number of rules that the table holds, 1 to 16777216";
 
-const GROUPS: &str =
-    "The number of groups, one for each block of 256 addresses with a route longer than 24 bits, 1 to 65536";
+const GROUPS: &str = "The number of groups, one for each block of 256 addresses with a route \
+    longer than 24 bits, 1 to 65536";
 
-const THRESHOLD: &str =
-    "A group that was given up waits in limbo until no reader can hold it. Where more than N wait, a change that gives up one more first frees some of them, 0 to 65536";
+const THRESHOLD: &str = "A group that was given up waits in limbo until no reader can hold it. \
+    Where more than N wait, a change that gives up one more first frees some of them, 0 to 65536";
 
 const MAX: &str = "The most groups that a change frees so, 1 to 65536";
 
