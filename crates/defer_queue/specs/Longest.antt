@@ -1,5 +1,5 @@
--- Which items a reclaim takes (DPDK Programmer's Guide, "RCU Library", the defer queue; Fraser,
--- UCAM-CL-TR-579, 2004, epoch-based reclamation).
+-- This layer's own: which items a reclaim takes (DPDK Programmer's Guide, "RCU Library", the
+-- defer queue; Fraser, UCAM-CL-TR-579, 2004, epoch-based reclamation).
 use Rattle.std.specs.Prelude.{ℕ, ◌≡◌, ◌≤◌, ◌<◌, ◌⊎◌, List, length, take, slice_get, All, Result, Ok, Err, Option, MatchOption, IsSomeAnd}
 use Rattle.lpm_limits.specs.declared.busy.Busy.{Busy}
 

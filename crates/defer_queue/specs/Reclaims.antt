@@ -1,5 +1,6 @@
--- What a reclaim does (DPDK Programmer's Guide, "RCU Library", the defer queue: the oldest
--- resources are reclaimed, in order, up to the first whose token some reader hasn't left behind).
+-- This layer's own: what a reclaim does (DPDK Programmer's Guide, "RCU Library", the defer queue:
+-- the oldest resources are reclaimed, in order, up to the first whose token some reader hasn't
+-- left behind).
 use Rattle.std.specs.Prelude.{ℕ, zero, suc, ◌≡◌, ◌≤◌, ◌<◌, ◌⊎◌, List, [], ◌∷◌, Result, Ok, Err, Option, Some, None}
 use Rattle.lpm_limits.specs.declared.busy.Busy.{Busy}
 

@@ -1,5 +1,5 @@
--- A worked caller of a reclaim keeps the token of each retired group, and 0 for each other group
--- (this project's).
+-- This layer's own: a worked caller of a reclaim keeps the token of each retired group, and 0 for
+-- each other group (this project's).
 use Rattle.std.specs.Prelude.{ℕ, ◌≡◌, ◌≢◌, ◌<◌, List, [], ◌∷◌, slice_index}
 
 -- none of the items has the group

@@ -114,7 +114,8 @@ fn hop_by_rules(rt: &impl Abort, fib: &Fib<4, 4>, addr: u32) -> Option<Hop> {
     None
 }
 
-// After each of many lists of commands the table agrees with the slow program, and each lookup with its rules.
+// After each of many lists of commands the table agrees with the slow program, and each lookup with
+// its rules.
 #[test]
 fn drawn_commands(rt: HostRuntime) -> Result<(), Fail> {
     let alloc = rt.alloc();

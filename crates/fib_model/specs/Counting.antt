@@ -1,7 +1,7 @@
--- Reports kept by a token and counters (DPDK Programmer's Guide, "RCU Library": a reader takes the
--- token into its counter when it goes online or reports a quiescent state, and 0 when it goes
--- offline; a reader holds what was given up under a token where its counter isn't 0 and is below
--- that token).
+-- Meaning: reports kept by a token and counters (DPDK Programmer's Guide, "RCU Library": a reader
+-- takes the token into its counter when it goes online or reports a quiescent state, and 0 when
+-- it goes offline; a reader holds what was given up under a token where its counter isn't 0 and
+-- is below that token).
 use Rattle.std.specs.Prelude.{ℕ, ◌≡◌, ◌+◌, replicate, slice_index, slice_set, []}
 use Rattle.std.specs.FinMap.{empty}
 use Rattle.qsbr.specs.Counters.{IsOnline, IsFirstHolding}

@@ -1,4 +1,5 @@
--- Which whole reports begin and end a reader interval, and how many unlinkings there were.
+-- Meaning: which whole reports begin and end a reader interval, and how many unlinkings there
+-- were.
 use Rattle.std.specs.Prelude.{ℕ, ◌==◌, Bool, true, false, List, length}
 use Rattle.reader_intervals.specs.Intervals.{Reporting}
 use Rattle.reader_intervals.specs.Places.{count_before}

@@ -1,6 +1,6 @@
--- What comes of each command, and what it leaves (DPDK Programmer's Guide, "LPM Library",
--- "Addition", "Deletion" and the reclaiming of tbl8 groups by RCU; the order of the checks is this
--- project's).
+-- Meaning: what comes of each command, and what it leaves (DPDK Programmer's Guide, "LPM
+-- Library", "Addition", "Deletion" and the reclaiming of tbl8 groups by RCU; the order of the
+-- checks is this project's).
 use Rattle.std.specs.Prelude.{ℕ, ◌≡◌, ◌≢◌, ◌+◌, ◌-◌, ◌<◌, ◌≤◌, List, [], ◌∷◌, length, slice_get, Option, Some, None, Ok, Err, Result, IsSomeAnd, MatchOption}
 use Rattle.std.specs.FinMap.{get, insert, remove, len, empty}
 use Rattle.std.specs.FinSet as set

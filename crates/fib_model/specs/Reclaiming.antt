@@ -1,7 +1,7 @@
--- Limbo lists (Fraser, UCAM-CL-TR-579, 2004, epoch-based reclamation: what was given up waits in
--- limbo until no reader can hold it; DPDK Programmer's Guide, "RCU Library", the defer queue: the
--- oldest is reclaimed first, up to the first that some reader holds, and a queue over its threshold
--- is reclaimed on the way).
+-- Meaning: limbo lists (Fraser, UCAM-CL-TR-579, 2004, epoch-based reclamation: what was given up
+-- waits in limbo until no reader can hold it; DPDK Programmer's Guide, "RCU Library", the defer
+-- queue: the oldest is reclaimed first, up to the first that some reader holds, and a queue over
+-- its threshold is reclaimed on the way).
 use Rattle.std.specs.Prelude.{ℕ, zero, suc, ◌≡◌, ◌<◌, ◌≤◌, ◌⊎◌, List, [], ◌∷◌, ◌++◌, length, take, drop, slice_get, All, Option, MatchOption, IsSomeAnd}
 use Rattle.lpm_limits.specs.declared.busy.Busy.{Busy}
 use Rattle.lpm_limits.specs.declared.config.Config.{Config}

@@ -1,5 +1,5 @@
--- What the outcome of a command depends on, for any way to keep the readers' reports (DPDK
--- Programmer's Guide, "LPM Library" and "RCU Library").
+-- Meaning: what the outcome of a command depends on, for any way to keep the readers' reports
+-- (DPDK Programmer's Guide, "LPM Library" and "RCU Library").
 use Rattle.std.specs.Prelude.{ℕ, ◌+◌, ◌^◌, ◌<◌, ◌≤◌, ◌⊎◌, List}
 use Rattle.lpm_limits.specs.declared.busy.Busy.{Busy}
 use Rattle.lpm_limits.specs.declared.config.Config.{Config}

@@ -1,5 +1,5 @@
--- Reports kept as what happened: the list of whole reports and unlinkings, the newest first (DPDK
--- Programmer's Guide, "RCU Library": grace periods and quiescent states).
+-- Meaning: reports kept as what happened: the list of whole reports and unlinkings, the newest
+-- first (DPDK Programmer's Guide, "RCU Library": grace periods and quiescent states).
 use Rattle.std.specs.Prelude.{ℕ, ◌≡◌, ◌+◌, ◌<◌, List, [], ◌∷◌, length}
 use Rattle.std.specs.FinMap.{empty}
 use Rattle.lpm_limits.specs.declared.busy.Busy.{Busy}

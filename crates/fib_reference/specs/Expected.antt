@@ -1,4 +1,4 @@
--- What the plain program keeps, and what it answers.
+-- This layer's own: what the plain program keeps, and what it answers.
 use Rattle.std.specs.Prelude.{ℕ, ◌≡◌, ◌-◌, List, [], length, reverse}
 use Rattle.std.specs.FinMap.{len}
 use Rattle.lpm_rules.specs.RuleMap.{RuleMap}

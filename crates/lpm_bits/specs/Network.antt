@@ -1,5 +1,6 @@
--- Prefixes as numbers, and the addresses that they cover (DPDK Programmer's Guide, "LPM Library":
--- a rule has an address and a depth, and matches the addresses that share its first `depth` bits).
+-- Meaning: prefixes as numbers, and the addresses that they cover (DPDK Programmer's Guide, "LPM
+-- Library": a rule has an address and a depth, and matches the addresses that share its first
+-- `depth` bits).
 use Rattle.std.specs.Prelude.{ℕ, ◌≡◌, ◌-◌, ◌*◌, ◌/◌, ◌^◌, ◌≤◌, ◌<◌}
 
 -- a prefix: the first `len` bits of `bits`

@@ -1,4 +1,5 @@
--- The two widths of a table (Gupta, Lin and McKeown, INFOCOM 1998, section 3: 24 and 8 bits).
+-- Meaning: the two widths of a table (Gupta, Lin and McKeown, INFOCOM 1998, section 3: 24 and 8
+-- bits).
 use Rattle.std.specs.Prelude.{ℕ, ◌+◌, ◌≤◌}
 
 -- each table is indexed by at least one bit, and an address has at most 32

@@ -1,6 +1,6 @@
--- The words of a table, and what they answer (Gupta, Lin and McKeown, INFOCOM 1998, section 3: a
--- lookup reads the first table at the address's first bits, and where it finds a group there, the
--- group's entry at the last bits).
+-- Meaning: the words of a table, and what they answer (Gupta, Lin and McKeown, INFOCOM 1998,
+-- section 3: a lookup reads the first table at the address's first bits, and where it finds a
+-- group there, the group's entry at the last bits).
 use Rattle.std.specs.Prelude.{ℕ, ◌≡◌, ◌+◌, ◌*◌, ◌/◌, ◌%◌, ◌^◌, ◌≤◌, ◌<◌, List, length, slice_index, slice_set}
 use Rattle.lpm_entry.specs.Words.{IsWord, IsLastWord, entry_in}
 use Rattle.lpm_entry.specs.declared.Entry.{Entry}

@@ -1,7 +1,7 @@
--- Entries and their words. An entry of either table is a miss, a next hop with the length of its
--- rule, or in the first table the group that goes on (Gupta, Lin and McKeown, INFOCOM 1998,
--- section 3; DPDK Programmer's Guide, "LPM Library": valid flag, extended flag, depth, next hop).
--- The bits are this project's.
+-- Meaning: entries and their words. An entry of either table is a miss, a next hop with the
+-- length of its rule, or in the first table the group that goes on (Gupta, Lin and McKeown,
+-- INFOCOM 1998, section 3; DPDK Programmer's Guide, "LPM Library": valid flag, extended flag,
+-- depth, next hop). The bits are this project's.
 use Rattle.std.specs.Prelude.{ℕ, ◌+◌, ◌*◌, ◌/◌, ◌%◌, ◌^◌, ◌≤◌, ◌<◌, ◌==◌, if◌then◌else◌, Option, Some, None, ◌≡◌}
 use Rattle.lpm_entry.specs.declared.Entry.{Entry}
 use Rattle.lpm_entry.specs.declared.Entry.TheVariants.{Miss, Hop, Group}

@@ -1,4 +1,4 @@
--- What `Groups` keeps beside the states (this project's).
+-- This layer's own: what `Groups` keeps beside the states (this project's).
 use Rattle.std.specs.Prelude.{ℕ, ◌≡◌, ◌<◌, ◌≤◌, ◌≢◌, List, length, map, slice_get, Some}
 use Rattle.lpm_groups.specs.declared.GroupState.{GroupState}
 use Rattle.lpm_groups.specs.declared.GroupState.TheVariants.{Free, Linked, Limbo}

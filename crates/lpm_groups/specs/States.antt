@@ -1,6 +1,7 @@
--- The states of a table's groups: free, linked to a block, or unlinked and not yet reclaimed (DPDK
--- Programmer's Guide, "LPM Library", the tables of type tbl8 and their reclaiming by RCU; Fraser,
--- UCAM-CL-TR-579, 2004, limbo lists). That the least number is taken is this project's.
+-- This layer's own: the states of a table's groups: free, linked to a block, or unlinked and not
+-- yet reclaimed (DPDK Programmer's Guide, "LPM Library", the tables of type tbl8 and their
+-- reclaiming by RCU; Fraser, UCAM-CL-TR-579, 2004, limbo lists). That the least number is taken
+-- is this project's.
 use Rattle.std.specs.Prelude.{ℕ, ◌≡◌, ◌<◌, ◌≢◌, Bool, true, false, List, [], ◌∷◌, count_by, slice_get, option_map, Some}
 use Rattle.lpm_groups.specs.declared.GroupState.{GroupState}
 use Rattle.lpm_groups.specs.declared.GroupState.TheVariants.{Free, Linked, Limbo}

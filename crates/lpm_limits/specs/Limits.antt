@@ -1,5 +1,5 @@
--- The limits of a table (this project's profile; next hops and group numbers have 24 and 16 bits,
--- and a token fits a word of 64 bits with room to spare).
+-- Meaning: the limits of a table (this project's profile; next hops and group numbers have 24 and
+-- 16 bits, and a token fits a word of 64 bits with room to spare).
 use Rattle.std.specs.Prelude.{ℕ, ◌≤◌, ◌^◌}
 use Rattle.lpm_limits.specs.declared.config.Config.{Config}
 use Rattle.lpm_limits.specs.declared.config.Range.{Range}

@@ -1,4 +1,4 @@
--- Each refusal's number and name (this project's profile).
+-- Meaning: each refusal's number and name (this project's profile).
 use Rattle.std.specs.Prelude.{ℕ, List, codes}
 use Rattle.lpm_limits.specs.declared.refusal.Refusal.{Refusal}
 use Rattle.lpm_limits.specs.declared.refusal.Refusal.TheVariants as refusals

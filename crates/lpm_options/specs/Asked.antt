@@ -1,5 +1,5 @@
--- What the matches of a command line ask for (clap 4, "Builder reference": `ArgMatches`), and why
--- there are none.
+-- Meaning: what the matches of a command line ask for (clap 4, "Builder reference":
+-- `ArgMatches`), and why there are none.
 use Rattle.std.specs.Prelude.{◌≡◌, ℕ, List, [], Option, Some, codes}
 use Rattle.std.specs.Str.Parse.{IsNumeral, digits_value, without_leading_plus}
 use Rattle.clap.specs.Words.{Row, Text, Kinds, IsAmong, first_of, one_of, kind_of}

@@ -1,5 +1,5 @@
--- The commands and options of `lpmtool`, as values that `clap` reads (clap 4, "Builder reference":
--- `Command`, `Arg`).
+-- Meaning: the commands and options of `lpmtool`, as values that `clap` reads (clap 4, "Builder
+-- reference": `Command`, `Arg`).
 use Rattle.std.specs.Prelude.{[], ◌∷◌, true, Some, codes, decimal}
 use Rattle.clap.specs.Words.{App, Rule, Text, new_app, new_rule, with_rule, with_subcommand}
 use Rattle.lpm_limits.specs.declared.config.Range.{Range}

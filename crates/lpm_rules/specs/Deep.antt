@@ -1,6 +1,7 @@
--- The blocks that need a group: those in which a rule longer than FIRST bits lies. Such a rule and
--- such a block are called deep (Gupta, Lin and McKeown, INFOCOM 1998, section 3: a group of second
--- words stands behind each first word whose block has a prefix longer than 24 bits).
+-- Meaning: the blocks that need a group: those in which a rule longer than FIRST bits lies. Such
+-- a rule and such a block are called deep (Gupta, Lin and McKeown, INFOCOM 1998, section 3: a
+-- group of second words stands behind each first word whose block has a prefix longer than 24
+-- bits).
 use Rattle.std.specs.Prelude.{ℕ, ◌≡◌, ◌/◌, ◌^◌, ◌<◌, ◌≤◌, ◌↔◌, Option, Some, None, ◌&&◌, IsSome, IsTrue, nat_lt, nat_eq, map, filter, count_by}
 use Rattle.std.specs.FinMap as rules
 use Rattle.std.specs.FinSet as set

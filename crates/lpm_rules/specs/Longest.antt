@@ -1,6 +1,7 @@
--- The longest matching rule, and the rule that a deleted one uncovers (Gupta, Lin and McKeown,
--- INFOCOM 1998, section 1: the longest prefix that matches; DPDK Programmer's Guide, "LPM Library",
--- "Deletion": the longest rule that is shorter and covers the deleted one takes its place).
+-- Meaning: the longest matching rule, and the rule that a deleted one uncovers (Gupta, Lin and
+-- McKeown, INFOCOM 1998, section 1: the longest prefix that matches; DPDK Programmer's Guide,
+-- "LPM Library", "Deletion": the longest rule that is shorter and covers the deleted one takes
+-- its place).
 use Rattle.std.specs.Prelude.{ℕ, ◌≡◌, ◌≤◌, ◌<◌, List, Option, Some, None, IsSome}
 use Rattle.std.specs.List.{AllZip}
 use Rattle.std.specs.FinMap.{get}

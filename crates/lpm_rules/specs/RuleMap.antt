@@ -1,5 +1,6 @@
--- A rule list as a finite map from prefixes to next hops (DPDK Programmer's Guide, "LPM Library":
--- a rule has an address, a depth and a next hop, and no two rules have the same address and depth).
+-- Meaning: a rule list as a finite map from prefixes to next hops (DPDK Programmer's Guide, "LPM
+-- Library": a rule has an address, a depth and a next hop, and no two rules have the same address
+-- and depth).
 use Rattle.std.specs.Prelude.{ℕ, ◌≡◌, ◌<◌, ◌≤◌, Some, None, IsSome, refl}
 use Rattle.std.specs.declared.cmp.Ordering.{Ordering}
 use Rattle.std.specs.Ordering.{nat_cmp, ordering_then}

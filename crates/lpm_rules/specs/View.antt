@@ -1,5 +1,5 @@
--- The rule list as it is kept (this project's): for each length a map from the bits of the prefixes
--- of that length to their next hops.
+-- This layer's own: the rule list as it is kept (this project's): for each length a map from the
+-- bits of the prefixes of that length to their next hops.
 use Rattle.std.specs.Prelude.{ℕ, ◌≡◌, ◌+◌, List, [], ◌∷◌, ◌++◌, map, length}
 use Rattle.std.specs.BTreeMap.{BTreeMap}
 use Rattle.std.specs.FinMap.{from_entries, len}

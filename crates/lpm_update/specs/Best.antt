@@ -1,5 +1,5 @@
--- The entry of the longest rule that covers an address (Gupta, Lin and McKeown, INFOCOM 1998,
--- section 1: the longest prefix that matches), with the length of that rule.
+-- Meaning: the entry of the longest rule that covers an address (Gupta, Lin and McKeown, INFOCOM
+-- 1998, section 1: the longest prefix that matches), with the length of that rule.
 use Rattle.std.specs.Prelude.{ℕ, ◌≡◌, ◌≤◌, ◌<◌, ◌^◌, Some, IsSome}
 use Rattle.std.specs.FinMap.{get}
 use Rattle.lpm_bits.specs.Network.{Network, Covers}

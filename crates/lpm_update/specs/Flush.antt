@@ -1,5 +1,5 @@
--- A flush stores a miss in each first word that isn't one, upwards (DPDK Programmer's Guide, "LPM
--- Library": all rules are deleted).
+-- This layer's own: a flush stores a miss in each first word that isn't one, upwards (DPDK
+-- Programmer's Guide, "LPM Library": all rules are deleted).
 use Rattle.std.specs.Prelude.{ℕ, ◌≡◌, ◌≢◌, ◌≤◌, ◌<◌, ◌^◌, List, slice_index}
 use Rattle.lpm_entry.specs.Words.{entry_in, word_of}
 use Rattle.lpm_entry.specs.declared.Entry.TheVariants.{Miss}

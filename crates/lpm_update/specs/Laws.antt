@@ -1,5 +1,5 @@
--- What an upper layer needs of a change: how it begins, goes on and ends, what its next store may
--- be, and what the words answer (this project's).
+-- Meaning: what an upper layer needs of a change: how it begins, goes on and ends, what its next
+-- store may be, and what the words answer (this project's).
 use Rattle.std.specs.Prelude.{ℕ, ◌≡◌, ◌⊎◌, ◌+◌, ◌^◌, ◌<◌, ◌==◌, if◌then◌else◌, List, length, replicate, Option, Some, None}
 use Rattle.std.specs.List.{AllPairs}
 use Rattle.std.specs.FinMap.{empty}

@@ -1,6 +1,6 @@
--- A free group's words are stored before it is linked (DPDK Programmer's Guide, "LPM Library",
--- "Addition": a new group's entries are set to those of the rule that covered the block, then the
--- rule's own, and the first entry is made to point at it last).
+-- This layer's own: a free group's words are stored before it is linked (DPDK Programmer's Guide,
+-- "LPM Library", "Addition": a new group's entries are set to those of the rule that covered the
+-- block, then the rule's own, and the first entry is made to point at it last).
 use Rattle.std.specs.Prelude.{ℕ, Bool, ◌≡◌, ◌+◌, ◌*◌, ◌^◌, ◌≤◌, ◌<◌, nat_le, nat_lt, ◌&&◌, if◌then◌else◌, List, slice_index}
 use Rattle.lpm_entry.specs.Words.{IsEntry, IsLast, word_of, entry_in}
 use Rattle.lpm_entry.specs.declared.Entry.{Entry}

@@ -1,5 +1,6 @@
--- The words of a table whose groups each belong to one block (Gupta, Lin and McKeown, INFOCOM 1998,
--- section 3: a first entry of a longer prefix holds the index of its own block of second entries).
+-- Meaning: the words of a table whose groups each belong to one block (Gupta, Lin and McKeown,
+-- INFOCOM 1998, section 3: a first entry of a longer prefix holds the index of its own block of
+-- second entries).
 use Rattle.std.specs.Prelude.{ℕ, ◌≡◌, ◌^◌, ◌<◌, List, slice_index, Option}
 use Rattle.lpm_entry.specs.Words.{entry_in, group_in}
 use Rattle.lpm_entry.specs.declared.Entry.TheVariants.{Group}

@@ -1,5 +1,5 @@
--- The words of a table represent a rule list, and a change of the words turns one list into another
--- (DPDK Programmer's Guide, "LPM Library", "Addition" and "Deletion").
+-- Meaning: the words of a table represent a rule list, and a change of the words turns one list
+-- into another (DPDK Programmer's Guide, "LPM Library", "Addition" and "Deletion").
 use Rattle.std.specs.Prelude.{ℕ, Bool, true, false, ◌+◌, ◌/◌, ◌^◌, ◌<◌, ◌↔◌, IsSome, List, Option, Some, None, ◌==◌, if◌then◌else◌}
 use Rattle.lpm_bits.specs.Network.{Network}
 use Rattle.lpm_entry.specs.declared.Entry.{Entry}

@@ -1,6 +1,6 @@
--- What a change does to the entries of its range (DPDK Programmer's Guide, "LPM Library": an added
--- rule takes the entries of shorter rules, a deleted rule's entries go to the longest rule that is
--- shorter).
+-- Meaning: what a change does to the entries of its range (DPDK Programmer's Guide, "LPM
+-- Library": an added rule takes the entries of shorter rules, a deleted rule's entries go to the
+-- longest rule that is shorter).
 use Rattle.std.specs.Prelude.{ℕ, Bool, true, false, ◌≡◌, ◌≤◌, ◌<◌, ◌==◌, nat_le, if◌then◌else◌}
 use Rattle.lpm_entry.specs.declared.Entry.{Entry}
 use Rattle.lpm_entry.specs.declared.Entry.TheVariants.{Miss, Hop, Group}

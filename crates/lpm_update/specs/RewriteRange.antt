@@ -1,5 +1,6 @@
--- A range of addresses whose entries are rewritten, upwards (DPDK Programmer's Guide, "LPM
--- Library", "Addition": the entries of the rule's range; the order is this project's).
+-- This layer's own: a range of addresses whose entries are rewritten, upwards (DPDK Programmer's
+-- Guide, "LPM Library", "Addition": the entries of the rule's range; the order is this
+-- project's).
 use Rattle.std.specs.Prelude.{ℕ, ◌≡◌, ◌+◌, ◌-◌, ◌*◌, ◌/◌, ◌%◌, ◌^◌, ◌≤◌, ◌<◌, true, List, slice_index}
 use Rattle.lpm_bits.specs.Network.{Network}
 use Rattle.lpm_entry.specs.Words.{IsEntry, IsLast, word_of, entry_in}

@@ -1,4 +1,4 @@
--- A run of steps of one change, each by the contract of `Update::step` (this project's).
+-- Meaning: a run of steps of one change, each by the contract of `Update::step` (this project's).
 use Rattle.std.specs.Prelude.{ℕ, ◌≡◌, List, [], ◌∷◌, length}
 use Rattle.lpm_cells.specs.Table.{Words, entry_at}
 use Rattle.lpm_update.specs.declared.Did.{Did}

@@ -1,4 +1,5 @@
--- One step of a change: the store of one word, or none where the change is done (this project's).
+-- Meaning: one step of a change: the store of one word, or none where the change is done (this
+-- project's).
 use Rattle.std.specs.Prelude.{ℕ, ◌≡◌, ◌≢◌, ◌<◌, List, slice_index, Option}
 use Rattle.lpm_entry.specs.declared.Entry.{Entry}
 use Rattle.lpm_cells.specs.Table.{Words, with_first, with_second}

@@ -1,4 +1,5 @@
--- The states of the groups, and the groups that the blocks have (this project's).
+-- This layer's own: the states of the groups, and the groups that the blocks have (this
+-- project's).
 use Rattle.std.specs.Prelude.{ℕ, ◌≡◌, ◌≢◌, ◌↔◌, ◌*◌, ◌≤◌, ◌<◌, ◌^◌, List, length, Option, Some}
 use Rattle.lpm_groups.specs.declared.GroupState.{GroupState}
 use Rattle.lpm_groups.specs.States.{IsLinkedTo}

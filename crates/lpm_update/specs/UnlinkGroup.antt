@@ -1,6 +1,7 @@
--- A group is unlinked when its block has no rule longer than FIRST bits any more: its words are
--- then all equal, and the first entry takes their value (DPDK Programmer's Guide, "LPM Library",
--- "Deletion": a group whose entries are all alike is merged back into the first table).
+-- This layer's own: a group is unlinked when its block has no rule longer than FIRST bits any
+-- more: its words are then all equal, and the first entry takes their value (DPDK Programmer's
+-- Guide, "LPM Library", "Deletion": a group whose entries are all alike is merged back into the
+-- first table).
 use Rattle.std.specs.Prelude.{ℕ, ◌≡◌, ◌+◌, ◌*◌, ◌/◌, ◌^◌, ◌≤◌, ◌<◌, slice_index}
 use Rattle.lpm_entry.specs.Words.{entry_in}
 use Rattle.lpm_entry.specs.declared.Entry.{Entry}

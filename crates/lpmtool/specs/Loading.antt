@@ -1,5 +1,5 @@
--- The table that a list of routes makes, and which route it refuses (DPDK Programmer's Guide,
--- "LPM Library", "Addition": a rule for a prefix that has one takes its place).
+-- Meaning: the table that a list of routes makes, and which route it refuses (DPDK Programmer's
+-- Guide, "LPM Library", "Addition": a rule for a prefix that has one takes its place).
 use Rattle.std.specs.Prelude.{ℕ, ◌≡◌, ◌≢◌, List, [], ◌∷◌, ◌++◌, Ok, Err, map}
 use Rattle.std.specs.FinMap.{empty}
 use Rattle.lpm_limits.specs.declared.config.Config.{Config}

@@ -1,5 +1,5 @@
--- The command `lookup` (this project's program: each file is read and then parsed, in the order of
--- the command line, before any route is loaded; the first fault wins).
+-- Meaning: the command `lookup` (this project's program: each file is read and then parsed, in
+-- the order of the command line, before any route is loaded; the first fault wins).
 use Rattle.std.specs.Prelude.{ℕ, ◌≡◌, ◌⊎◌, ⊤, List, Option, IfSome}
 use Rattle.lpm_limits.specs.declared.config.Config.{Config}
 use Rattle.lpm_rules.specs.RuleMap.{RuleMap}

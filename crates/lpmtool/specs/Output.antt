@@ -1,4 +1,4 @@
--- What a run writes (POSIX, "write": a call may take fewer bytes than it is given).
+-- Meaning: what a run writes (POSIX, "write": a call may take fewer bytes than it is given).
 use Rattle.std.specs.Prelude.{ℕ, List, Option, take}
 use Rattle.std.specs.Io.KnownBytes.{Appends}
 

@@ -1,4 +1,5 @@
--- A whole run (this project's program: help, or the output of the command that the words ask for).
+-- Meaning: a whole run (this project's program: help, or the output of the command that the words
+-- ask for).
 use Rattle.std.specs.Prelude.{ℕ, List, Option, ◌⊎◌}
 use Rattle.clap.specs.Words.{Text, IsAmong, subcommand_of, fault_of}
 use Rattle.clap.specs.declared.error.kind.ErrorKind.TheVariants.{DisplayHelp}

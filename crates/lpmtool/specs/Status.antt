@@ -1,4 +1,4 @@
--- The exit status of a failure (this project's program).
+-- Meaning: the exit status of a failure (this project's program).
 use Rattle.std.specs.Prelude.{ℕ}
 use Rattle.lpmtool.specs.declared.failure.Failure.{Failure}
 use Rattle.lpmtool.specs.declared.failure.Failure.TheVariants.{CannotRead, CannotWrite, Bad, Memory, Refused}

@@ -1,6 +1,7 @@
--- The readers' counters, and the check of a token over them (DPDK Programmer's Guide, "RCU
--- Library": a reader's counter is 0 while it is offline, and else the token of its last quiescent
--- state; the readers have left a token behind when each counter is 0 or at least that token).
+-- Meaning: the readers' counters, and the check of a token over them (DPDK Programmer's Guide,
+-- "RCU Library": a reader's counter is 0 while it is offline, and else the token of its last
+-- quiescent state; the readers have left a token behind when each counter is 0 or at least that
+-- token).
 use Rattle.std.specs.Prelude.{ℕ, ◌≡◌, ◌≤◌, ◌<◌, ◌⊎◌, List, length, slice_index, EachIndex}
 use Rattle.std.specs.Prelude.{Result, MatchResult}
 use Rattle.lpm_limits.specs.declared.busy.Busy.{Busy}

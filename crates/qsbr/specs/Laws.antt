@@ -1,4 +1,4 @@
--- Laws of the check of a token (DPDK Programmer's Guide, "RCU Library").
+-- This layer's own: laws of the check of a token (DPDK Programmer's Guide, "RCU Library").
 use Rattle.std.specs.Prelude.{ℕ, ◌≡◌, ◌≤◌, List}
 use Rattle.qsbr.specs.Counters.{Passes, IsHolding, IsFirstHolding}
 

@@ -1,4 +1,5 @@
--- What a contract sees of a domain (DPDK Programmer's Guide, "RCU Library": the QS variable).
+-- Meaning: what a contract sees of a domain (DPDK Programmer's Guide, "RCU Library": the QS
+-- variable).
 use Rattle.std.specs.Prelude.{ℕ, List, slice_set}
 
 -- the newest token, and the counter of each worker

@@ -1,6 +1,7 @@
--- Reader intervals (DPDK Programmer's Guide, "RCU Library": a grace period lasts until each reader
--- that may hold a reference has been in a quiescent state; the intervals between a reader's
--- quiescent states are those in which it may hold one). No token or counter is looked at.
+-- Meaning: reader intervals (DPDK Programmer's Guide, "RCU Library": a grace period lasts until
+-- each reader that may hold a reference has been in a quiescent state; the intervals between a
+-- reader's quiescent states are those in which it may hold one). No token or counter is looked
+-- at.
 use Rattle.std.specs.Prelude.{ℕ, ◌≡◌, ◌<◌, ◌≤◌, Bool, IsTrue, List, Option, None, IsSomeAnd, MatchOption}
 use Rattle.reader_intervals.specs.Places.{event_at}
 

@@ -1,4 +1,4 @@
--- Laws of reader intervals (this project's).
+-- Meaning: laws of reader intervals (this project's).
 use Rattle.std.specs.Prelude.{ℕ, ◌≡◌, ◌<◌, ◌≤◌, ◌↔◌, ◌⊎◌, IsTrue, List, ◌∷◌, ◌++◌, length}
 use Rattle.reader_intervals.specs.Intervals.{Reporting, Interval, IsReaderInterval, Holds, IsRunningSince, IsHeldByWorker}
 

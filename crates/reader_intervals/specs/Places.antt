@@ -1,4 +1,5 @@
--- Places in a list of events, of which the newest stands first and the oldest is at place 0.
+-- Meaning: places in a list of events, of which the newest stands first and the oldest is at
+-- place 0.
 use Rattle.std.specs.Prelude.{ℕ, ◌+◌, ◌==◌, ◌&&◌, nat_lt, if◌then◌else◌, Bool, List, [], ◌∷◌, length, Option, Some, None}
 
 -- the event at a place
