@@ -114,7 +114,8 @@ fn hop_by_rules(rt: &impl Abort, fib: &Fib<4, 4>, addr: u32) -> Option<Hop> {
     None
 }
 
-// After each of many lists of commands the table agrees with the slow program, and each lookup with its rules.
+// After each of many lists of commands the table agrees with the slow program, and each lookup with
+// the table's rules.
 #[test]
 fn drawn_commands(rt: HostRuntime) -> Result<(), Fail> {
     let alloc = rt.alloc();
@@ -232,8 +233,8 @@ fn a_refusal_changes_nothing(rt: HostRuntime) -> Result<(), Fail> {
     Ok(())
 }
 
-// A growth that is refused leaves everything as it was, and the same addition then succeeds. Memory runs
-// short here only where each allocation is made to fail in turn.
+// A growth that is refused leaves everything as it was, and the same addition then succeeds. Memory
+// runs short here only where each allocation is made to fail in turn.
 #[test]
 fn a_refused_growth(rt: HostRuntime) -> Result<(), Fail> {
     let config = Config {

@@ -1,6 +1,6 @@
 -- The versions of the rule list: the list after each accepted change that made a version, the
--- newest first (DPDK Programmer's Guide, "LPM Library", "Addition" and "Deletion"; that an unchanged rule
--- makes no version is this project's).
+-- newest first (DPDK Programmer's Guide, "LPM Library", "Addition" and "Deletion"; that an
+-- unchanged rule makes no version is this project's).
 use Rattle.std.specs.Prelude.{ℕ, suc, List, [], ◌∷◌}
 use Rattle.std.specs.FinMap.{insert, remove, empty}
 use Rattle.lpm_rules.specs.RuleMap.{RuleMap}
