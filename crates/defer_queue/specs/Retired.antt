@@ -1,5 +1,5 @@
--- A worked caller of a reclaim keeps the token of each retired group, and 0 for each other group (this
--- project's).
+-- A worked caller of a reclaim keeps the token of each retired group, and 0 for each other group
+-- (this project's).
 use Rattle.std.specs.Prelude.{ℕ, ◌≡◌, ◌≢◌, ◌<◌, List, [], ◌∷◌, slice_index}
 
 -- none of the items has the group
@@ -11,4 +11,5 @@ IsAbsent group (item ∷ rest) = (item.0 ≢ group) × IsAbsent group rest
 abbrev pub AreRetired : List ℕ → List (ℕ × ℕ) → Type 0
 AreRetired tokens [] = Unit {0}
 AreRetired tokens (item ∷ rest) =
-    (0 < item.1) × (slice_index tokens item.0 ≡ item.1) × IsAbsent item.0 rest × AreRetired tokens rest
+    (0 < item.1) × (slice_index tokens item.0 ≡ item.1)
+    × IsAbsent item.0 rest × AreRetired tokens rest

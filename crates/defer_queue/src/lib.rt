@@ -10,7 +10,8 @@ use qsbr::Busy;
 use std::alloc::{AllocError, Global};
 use std::marker::Model;
 
-/// What a reclaim asks of its caller: a check of tokens, and a place for groups that are free again.
+/// What a reclaim asks of its caller: a check of tokens, and a place for the groups that are free
+/// again.
 ///
 /// An implementation says by `ready` which items it can check and free, and in which order; by
 /// `may_free` when it takes a group back; and by `checks` and `frees` what its calls did.
@@ -57,11 +58,12 @@ pub trait Grace {
 pub struct Reclaimed {
     /// How many groups it freed.
     pub freed: usize,
-    /// The worker that holds the item at which it stopped; none where it freed as many as it may, or all.
+    /// The worker that holds the item at which it stopped; none where it freed as many as it may,
+    /// or all.
     pub stopped: Option<Busy>,
 }
 
-/// Groups with the tokens under which they were retired, in the order in which they were.
+/// Groups with the tokens under which they were retired, from the oldest to the newest.
 #[derive(Debug, Drop)]
 pub struct DeferQueue {
     items: HeapCircularBuffer<(u32, u64)>,
@@ -117,7 +119,8 @@ impl DeferQueue {
         self.items.is_full()
     }
 
-    /// Puts a group last, with the token that was started after it was given up. There has to be room.
+    /// Puts a group last, with the token that was started after it was given up. There has to be
+    /// room.
     pub fn retire(&mut self, group: u32, token: u64)
         requires { length self.old.items < self.old.capacity }
         ensures { self.new ≡ record self.old { items = self.old.items ++ (group, token) ∷ [] } }
@@ -142,8 +145,8 @@ impl DeferQueue {
         self.items.pop_front();
     }
 
-    /// Frees groups from the oldest on, at most `max`, each after its token has passed a check. It ends
-    /// at the first check that fails, whose group stays in the queue with all behind it.
+    /// Frees groups from the oldest on, at most `max`, each after its token has passed a check. It
+    /// ends at the first check that fails, whose group stays in the queue with all behind it.
     pub fn reclaim<G: Grace>(&mut self, max: usize, grace: &mut G) -> Reclaimed
         requires { G.ready grace.old self.old.items }
         ensures reclaims { Reclaims G.checks G.frees max self.old.items grace.old

@@ -7,7 +7,8 @@ use super::*;
 use qsbr::Domain;
 use std::test::Fail;
 
-// A table's part in a reclaim: its domain, and the token under which each group is retired, 0 for none.
+// A table's part in a reclaim: its domain, and the token under which each group is retired, 0 for
+// none.
 #[derive(Drop)]
 struct Plain<'a> {
     domain: &'a Domain,
@@ -25,10 +26,11 @@ impl Grace for Plain<'_> {
 
     ghost may_free = { λ s group. 0 < slice_index s.tokens.now.items group };
 
-    ghost checks = { λ s token r z. IsChecked token s.domain.now.counters r × (z.domain.now ≡ s.domain.now)
-        × (z.tokens.now.items ≡ s.tokens.now.items) };
+    ghost checks = { λ s token r z. IsChecked token s.domain.now.counters r
+        × (z.domain.now ≡ s.domain.now) × (z.tokens.now.items ≡ s.tokens.now.items) };
 
-    ghost frees = { λ s group z. (z.domain.now ≡ s.domain.now) × (z.tokens.now.items ≡ slice_set s.tokens.now.items group 0) };
+    ghost frees = { λ s group z. (z.domain.now ≡ s.domain.now)
+        × (z.tokens.now.items ≡ slice_set s.tokens.now.items group 0) };
 
     fn check(&mut self, token: u64) -> Result<(), Busy> {
         self.domain.check(token)
@@ -39,7 +41,8 @@ impl Grace for Plain<'_> {
     }
 }
 
-// The same, with the greatest token whose check has passed: no counter is read for one that isn't above it.
+// The same, with the greatest token whose check has passed: no counter is read for a token that
+// isn't above it.
 #[derive(Drop)]
 struct Remembering<'a> {
     domain: &'a Domain,
@@ -56,9 +59,11 @@ impl Grace for Remembering<'_> {
 
     ghost ready = { λ s items. AreRetired s.tokens.now.items items };
 
-    ghost may_free = { λ s group. (0 < slice_index s.tokens.now.items group) × (slice_index s.tokens.now.items group ≤ s.passed.now) };
+    ghost may_free = { λ s group. (0 < slice_index s.tokens.now.items group)
+        × (slice_index s.tokens.now.items group ≤ s.passed.now) };
 
-    ghost checks = { λ s token r z. (z.domain.now ≡ s.domain.now) × (z.tokens.now.items ≡ s.tokens.now.items)
+    ghost checks = { λ s token r z. (z.domain.now ≡ s.domain.now)
+        × (z.tokens.now.items ≡ s.tokens.now.items)
         × (token ≤ s.passed.now → (r ≡ Ok tt) × (z.passed.now ≡ s.passed.now))
         × (s.passed.now < token → IsChecked token s.domain.now.counters r
         × MatchResult r (λ _. z.passed.now ≡ token) (λ _. z.passed.now ≡ s.passed.now)) };
@@ -118,8 +123,8 @@ fn give_up_first(
 fn reclaim(domain: &Domain, queue: &mut DeferQueue, tokens: &mut Vec<u64>, max: usize) -> Reclaimed
     requires { AreRetired tokens.old.items queue.old.items }
     ensures retired { AreRetired tokens.new.items queue.new.items }
-    ensures longest { TakesLongest (λ token r. IsChecked token domain.now.counters r) max queue.old.items
-        result.freed result.stopped }
+    ensures longest { TakesLongest (λ token r. IsChecked token domain.now.counters r)
+        max queue.old.items result.freed result.stopped }
 {
     let mut grace = Plain { domain, tokens };
     queue.reclaim(max, &mut grace)

@@ -5,5 +5,4 @@ pub mod Sound
 pub mod Adding
 pub mod Logs
 pub mod Fours
-pub mod LongestHops
 pub mod Replays

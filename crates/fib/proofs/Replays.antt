@@ -1,6 +1,7 @@
 -- What a list of commands came to, told by reader intervals and versions.
 use Rattle.std.proofs.Common.{◌≡◌, ℕ, ◌+◌, ap, sym, ◌∙◌, subst, List, [], length}
 use Rattle.std.specs.FinMap.{len}
+use Rattle.lpm_rules.specs.Longest.{AreLongestHops}
 use Rattle.qsbr.specs.Registry.{Registry}
 use Rattle.lpm_limits.specs.declared.config.Config.{Config}
 use Rattle.fib_model.specs.State.{State}
@@ -10,7 +11,6 @@ use Rattle.fib_model.specs.Laws.{Agrees}
 use Rattle.fib_model.proofs.Versions.{rules_are_last_version}
 use Rattle.fib.specs.declared.replay.Replay.{Replay}
 use Rattle.fib.specs.Fib.{FibState, fresh}
-use Rattle.fib.specs.Lookups.{AreLongestHops}
 use Rattle.fib.specs.Replay.{GoesOn, IsReplay}
 
 -- what a table answers and counts itself

@@ -1,21 +1,21 @@
--- A table as its callers see it, and what its parts keep (this project's).
+-- A layer's own: a table as its callers see it, and what its parts keep.
 use Rattle.std.specs.Prelude.{ℕ, ◌≡◌, ◌≤◌, ◌^◌, List, length, refl}
 use Rattle.std.specs.FinMap as map
 use Rattle.std.specs.Coded.{Coded, code_by, coded×, coded_ℕ, coded_list}
 use Rattle.lpm_cells.specs.Table.{Words}
-use Rattle.lpm_groups.specs.declared.GroupState.{GroupState}
 use Rattle.lpm_rules.specs.RuleMap.{RuleMap, RuleList, coded_network}
 use Rattle.lpm_update.specs.Linked.{group_at}
-use Rattle.lpm_update.specs.Leads.{IsAnswering}
-use Rattle.lpm_update.specs.Tied.{IsTied}
+use Rattle.lpm_update.specs.Represents.{Represents}
+use Rattle.lpm_update.specs.Tied.{IsTied, HasGroupRoom}
 use Rattle.qsbr.specs.Registry.{Registry}
 use Rattle.lpm_limits.specs.Limits.{IsConfig}
 use Rattle.lpm_limits.specs.declared.config.Config.{Config}
-use Rattle.defer_queue.specs.Limbo.{Limbo}
 use Rattle.fib_model.specs.declared.command.Report.{Report}
 use Rattle.fib_model.specs.Counting.{counting, opened}
 use Rattle.fib_model.specs.State.{State}
-use Rattle.fib.specs.Waiting.{IsQueued, tokens_of}
+use Rattle.fib.specs.declared.pool.Pool.{Pool}
+use Rattle.fib.specs.Pool.{tokens}
+use Rattle.fib.specs.Waiting.{IsQueued}
 
 -- the limits, and what outcomes depend on; an unlinking that waits goes by its token
 pub record FibState : Type 0 where
@@ -33,21 +33,21 @@ told report worker f =
     record f { table = record f.table { readers = readers } }
 
 -- what outcomes depend on, by what a table keeps
-abbrev pub table_of : RuleMap → Registry → List (ℕ × ℕ) → ℕ → State Registry
-table_of R readers items begun =
-    record { rules = R; readers = readers; limbo = tokens_of items; begun = begun }
+abbrev pub table_of : RuleMap → Pool → ℕ → State Registry
+table_of R pool begun =
+    record { rules = R; readers = pool.keeper.domain; limbo = tokens pool; begun = begun }
 
--- the words answer the rules, each group has one state, and all sizes are those of the limits
-pub record IsSound (first second : ℕ) (config : Config) (rules : RuleList) (cells : Words)
-    (groups : List GroupState) (readers : Registry) (queue : Limbo) (begun : ℕ) : Type 0 where
+-- the words represent the rules, each group has one state, and all sizes are those of the limits
+pub record IsSound (first second : ℕ) (config : Config) (rules : RuleList) (words : Words)
+    (pool : Pool) (begun : ℕ) : Type 0 where
   pub limits : IsConfig config
-  pub answering : IsAnswering first second rules.rules cells.firsts cells.seconds
-  pub tied : IsTied first groups (group_at cells.firsts)
-  pub queued : IsQueued groups queue
+  pub represents : Represents first second rules.rules words
+  pub tied : IsTied first pool.keeper.groups (group_at words.firsts)
+  pub room : HasGroupRoom second words pool.keeper.groups
+  pub queued : IsQueued pool.keeper.groups pool.queue
   pub max : rules.max ≡ config.rules
-  pub states : length groups ≡ config.groups
-  pub words : cells.groups ≡ config.groups
-  pub workers : length readers.counters ≡ config.workers
+  pub states : length pool.keeper.groups ≡ config.groups
+  pub workers : length pool.keeper.domain.counters ≡ config.workers
   pub updates : begun ≤ 2 ^ 61
 
 -- ---- a state as pairs, which comparisons of tables go by

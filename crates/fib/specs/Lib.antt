@@ -3,3 +3,4 @@ pub mod Fib
 pub mod Lookups
 pub mod Replay
 pub mod Pool
+pub mod Change

@@ -1,6 +1,6 @@
--- Lookups of several addresses at once (DPDK Programmer's Guide, "LPM Library": a lookup of four
--- addresses answers a default value where there is no match).
-use Rattle.std.specs.Prelude.{ℕ, ◌≡◌, ⊤, List, [], ◌∷◌, Option, MatchOption, IsSome}
+-- Meaning: lookups of several addresses at once (DPDK Programmer's Guide, "LPM Library": a lookup
+-- of four addresses answers a default value where there is no match).
+use Rattle.std.specs.Prelude.{ℕ, ◌≡◌, Option, MatchOption, IsSome}
 use Rattle.std.specs.FinMap.{get}
 use Rattle.lpm_bits.specs.Network.{Network, Covers}
 use Rattle.lpm_rules.specs.RuleMap.{RuleMap}
@@ -14,10 +14,3 @@ IsHopOrDefault width R default a h =
 -- some rule covers the address
 abbrev pub IsCovered : ℕ → RuleMap → ℕ → Type 0
 IsCovered width R a = (q : Network) × IsSome (get R q) × Covers width q a
-
--- each hop is that of the longest rule that covers its address, in the order of the addresses
-abbrev pub AreLongestHops : ℕ → RuleMap → List ℕ → List (Option ℕ) → Type 0
-AreLongestHops width R [] [] = ⊤
-AreLongestHops width R (a ∷ addrs) (x ∷ hops) =
-    IsLongestHop width R a x × AreLongestHops width R addrs hops
-AreLongestHops width R addrs hops = ⊥

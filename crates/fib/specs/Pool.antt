@@ -1,5 +1,6 @@
--- What becomes of the groups when a change takes one or gives some up (DPDK Programmer's Guide,
--- "RCU Library", the defer queue of "LPM Library": the reclaiming of tbl8 groups).
+-- A layer's own: what becomes of the groups when a change takes one or gives some up (DPDK
+-- Programmer's Guide, "RCU Library", the defer queue of "LPM Library": the reclaiming of tbl8
+-- groups).
 use Rattle.std.specs.Prelude.{ℕ, ◌≡◌, ◌+◌, ◌-◌, ◌/◌, ◌^◌, ◌<◌, ◌≤◌, ◌⊎◌, List, [], ◌∷◌, ◌++◌, length, drop, slice_get, Option, None, IsSome, IsSomeAnd, MatchOption}
 use Rattle.lpm_bits.specs.Network.{Network}
 use Rattle.lpm_groups.specs.States.{linked_count, free_count}

@@ -1,8 +1,9 @@
--- Lists of commands on a table that was just opened, told without its tokens, counters and words:
--- by reader intervals (DPDK Programmer's Guide, "RCU Library") and by the versions of the rule
--- list.
+-- Meaning: lists of commands on a table that was just opened, told without its tokens, counters and
+-- words: by reader intervals (DPDK Programmer's Guide, "RCU Library") and by the versions of the
+-- rule list.
 use Rattle.std.specs.Prelude.{ℕ, ◌≡◌, ◌+◌, List, length}
 use Rattle.std.specs.FinMap.{len}
+use Rattle.lpm_rules.specs.Longest.{AreLongestHops}
 use Rattle.qsbr.specs.Registry.{Registry}
 use Rattle.lpm_limits.specs.declared.config.Config.{Config}
 use Rattle.fib_model.specs.declared.command.Command.{Command}
@@ -15,7 +16,6 @@ use Rattle.fib_model.specs.Textbook.{textbook, beginning}
 use Rattle.fib_model.specs.History.{history, last_of}
 use Rattle.fib_model.specs.Laws.{Agrees}
 use Rattle.fib.specs.declared.replay.Replay.{Replay}
-use Rattle.fib.specs.Lookups.{AreLongestHops}
 
 -- a table that some log led to x goes on to z: by reader intervals the commands of that log and
 -- then these came out so, and what they lead to agrees with z

@@ -1,8 +1,9 @@
--- The groups in limbo and the queue in which they wait (DPDK Programmer's Guide, "RCU Library", the
--- defer queue of "LPM Library", the reclaiming of tbl8 groups).
-use Rattle.std.specs.Prelude.{ℕ, ◌≡◌, ◌≢◌, ◌+◌, ◌↔◌, List, [], ◌∷◌, length, map, slice_get}
+-- A layer's own: the groups in limbo and the queue in which they wait (DPDK Programmer's Guide,
+-- "RCU Library", the defer queue of "LPM Library", the reclaiming of tbl8 groups).
+use Rattle.std.specs.Prelude.{ℕ, ◌≡◌, ◌+◌, ◌↔◌, List, [], ◌∷◌, length, map, slice_get}
 use Rattle.lpm_groups.specs.declared.GroupState.{GroupState}
 use Rattle.lpm_groups.specs.States.{IsLimboAt, IsLinkedTo, limbo_count, free_count, linked_count}
+use Rattle.lpm_update.specs.Tied.{SameLinksBut}
 use Rattle.defer_queue.specs.Limbo.{Limbo}
 use Rattle.defer_queue.specs.Retired.{IsAbsent}
 
@@ -36,6 +37,6 @@ pub record IsFreed (states : List GroupState) (items : List (ℕ × ℕ)) (n : �
 pub record IsTaken (states : List GroupState) (g block : ℕ) (new : List GroupState) : Type 0 where
   pub here : IsLinkedTo new g block
   pub unlinked : (b : ℕ) → ¬ IsLinkedTo states g b
-  pub others : (h b : ℕ) → h ≢ g → IsLinkedTo new h b ↔ IsLinkedTo states h b
+  pub others : SameLinksBut g states new
   pub as_many : length new ≡ length states
   pub linked : linked_count new ≡ linked_count states + 1

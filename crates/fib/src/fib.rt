@@ -4,7 +4,7 @@ ghost use Rattle.std.specs.Prelude.{◌≡◌, ℕ, ◌+◌, ◌*◌, ◌/◌, �
 ghost use Rattle.std.specs.FinMap as map;
 ghost use Rattle.lpm_bits.specs.Widths.{IsShape};
 ghost use Rattle.lpm_rules.specs.Longest.{IsLongestHop};
-ghost use Rattle.lpm_update.specs.Leads.{LastFits};
+ghost use Rattle.lpm_update.specs.Represents.{LastFits};
 ghost use Rattle.lpm_limits.specs.Limits.{IsConfig};
 ghost use Rattle.fib_model.specs.State.{IsExhausted};
 ghost use Rattle.fib_model.specs.Outcomes.{groups_in_use, Adds, Deletes, Flushes, Frees};
@@ -29,9 +29,11 @@ const MOST_UPDATES: u64 = 1 << 61;
 /// The greatest token.
 const LAST_TOKEN: u64 = 1 << 62;
 
-/// A rule list, the words that answer it, and the groups and reports that its changes need.
+/// A route table for one thread: rules, the words that represent them, and the groups and reports
+/// that changes need. IPv4 has `Fib<24, 8>`.
 ///
-/// Only `open`, and an `add` that grows the rule list, take memory.
+/// Of the changes only an `add` that grows the rule list takes memory. Each change is refused as
+/// `Exhausted` where fewer tokens than groups are left, or no version.
 #[derive(Drop)]
 pub struct Fib<const FIRST: u32, const SECOND: u32> {
     config: Config,
@@ -50,15 +52,15 @@ impl<const FIRST: u32, const SECOND: u32> Model for Fib<FIRST, SECOND> {
 
     ghost view = { λ a. record {
       config = a.config;
-      table = table_of a.rules.rules a.pool.keeper.domain a.pool.queue.items a.versions;
+      table = table_of a.rules.rules a.pool a.versions;
     } };
 
-    ghost invariant = { λ a. IsSound FIRST SECOND a.config a.rules a.cells a.pool.keeper.groups
-        a.pool.keeper.domain a.pool.queue a.versions };
+    ghost invariant = { λ a. IsSound FIRST SECOND a.config a.rules a.cells a.pool a.versions };
 }
 
 impl<const FIRST: u32, const SECOND: u32> Fib<FIRST, SECOND> {
-    /// A table without rules, with all workers offline.
+    /// Opens a table without rules, with all workers offline. It refuses limits out of range, and
+    /// ends with `Memory` where there is no room for the words, the groups or the workers.
     pub fn open(alloc: Global, config: Config) -> Result<Self, OpenError>
         requires { IsShape FIRST SECOND }
         ensures opened { IfOk result (λ fib. fib ≡ fresh config) }
@@ -83,7 +85,7 @@ impl<const FIRST: u32, const SECOND: u32> Fib<FIRST, SECOND> {
         })
     }
 
-    /// The next hop of this very rule.
+    /// The next hop of the rule of this very prefix; none where it has no rule.
     pub fn get(&self, prefix: &Prefix<FIRST, SECOND>) -> Option<Hop>
         ensures { result ≡ map.get self.now.table.rules prefix.now }
     {
@@ -112,7 +114,7 @@ impl<const FIRST: u32, const SECOND: u32> Fib<FIRST, SECOND> {
         self.pool.keeper.domain.token()
     }
 
-    /// The limits that it was opened with.
+    /// The limits that the table was opened with.
     pub fn config(&self) -> Config
         ensures value { result ≡ self.now.config }
         ensures limits { IsConfig result }
@@ -146,10 +148,13 @@ impl<const FIRST: u32, const SECOND: u32> Fib<FIRST, SECOND> {
         self.token() + groups > LAST_TOKEN || self.versions() >= MOST_UPDATES
     }
 
-    /// Puts a rule in.
+    /// Adds a rule, or gives the prefix's rule another next hop. A rule that is there already
+    /// stays, and is `Unchanged`, whatever else holds.
     ///
-    /// After a refusal the table is as it was. Where no group is free, the one that waits longest
-    /// in limbo is taken, unless a worker holds it.
+    /// The refusals, in the order of the checks: `Exhausted`; `TooManyRules` and `Memory`, where a
+    /// new rule has no room; and `NoGroups`, where a rule longer than `FIRST` bits is the first in
+    /// its block, no group is free, and the oldest in limbo is held or there is none. It names the
+    /// worker that holds that one. After a refusal the table is as it was.
     pub fn add(&mut self, prefix: &Prefix<FIRST, SECOND>, hop: Hop) -> Result<Put, Refusal>
         ensures adds { Adds counting FIRST SECOND self.old.config self.old.table
             prefix.now hop result self.new.table }
@@ -186,7 +191,10 @@ impl<const FIRST: u32, const SECOND: u32> Fib<FIRST, SECOND> {
         }
     }
 
-    /// Takes a rule out, and answers the next hop that it had.
+    /// Deletes the rule of this prefix, and returns its next hop. Its addresses go to the longest
+    /// rule that is shorter and covers it, where there is one.
+    ///
+    /// The refusals: `NoSuchRule`, where the prefix has no rule, and else `Exhausted`.
     pub fn delete(&mut self, prefix: &Prefix<FIRST, SECOND>) -> Result<Hop, Refusal>
         ensures deletes { Deletes counting FIRST SECOND self.old.config self.old.table
             prefix.now result self.new.table }
@@ -211,7 +219,8 @@ impl<const FIRST: u32, const SECOND: u32> Fib<FIRST, SECOND> {
         }
     }
 
-    /// Takes all rules out, and answers how many there were. With none it makes no version.
+    /// Deletes all rules, as one version, and returns how many there were. With none nothing
+    /// changes, and else `Exhausted` is the only refusal.
     pub fn flush(&mut self) -> Result<usize, Refusal>
         ensures flushes { Flushes counting FIRST SECOND self.old.config self.old.table
             result self.new.table }
@@ -230,8 +239,8 @@ impl<const FIRST: u32, const SECOND: u32> Fib<FIRST, SECOND> {
         Ok(count)
     }
 
-    /// Frees groups from the one that waits longest in limbo on, at most `max`, up to the first
-    /// that a worker holds.
+    /// Frees groups that wait in limbo, from the oldest on: at most `max`, up to the first that a
+    /// worker holds. It returns how many were freed, and the worker that stopped it.
     pub fn reclaim(&mut self, max: usize) -> Reclaimed
         ensures frees { Frees counting self.old.table max result self.new.table }
         ensures config { self.new.config ≡ self.old.config }
@@ -288,5 +297,5 @@ fn is_last<const FIRST: u32, const SECOND: u32>(
         return false;
     }
     let block = Shape::<FIRST, SECOND>::first_index(bits);
-    rules.deep_in(block) == 0
+    !rules.is_deep(block)
 }

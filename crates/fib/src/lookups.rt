@@ -1,7 +1,8 @@
 //! Lookups of several addresses, and words loaded ahead of changes.
 
 ghost use Rattle.std.specs.Prelude.{◌≡◌, ℕ, ◌+◌, ◌^◌, ◌<◌, ◌↔◌, All, IfOk, IsTrue, slice_index};
-ghost use Rattle.fib.specs.Lookups.{AreLongestHops, IsCovered, IsHopOrDefault};
+ghost use Rattle.lpm_rules.specs.Longest.{AreLongestHops};
+ghost use Rattle.fib.specs.Lookups.{IsCovered, IsHopOrDefault};
 
 use super::Fib;
 use lpm_bits::{Hop, Prefix};

@@ -14,8 +14,9 @@ pub(crate) struct Pool {
 }
 
 impl Pool {
-    ghost use Rattle.std.specs.Prelude.{◌≡◌, ℕ, ◌+◌, ◌^◌, ◌<◌, ◌≢◌, ◌↔◌, drop, length, IfOk, IfErr, OnErr};
+    ghost use Rattle.std.specs.Prelude.{◌≡◌, ℕ, ◌+◌, ◌^◌, ◌<◌, drop, length, IfOk, IfErr, OnErr};
     ghost use Rattle.lpm_groups.specs.States.{linked_count, IsLinkedTo};
+    ghost use Rattle.lpm_update.specs.Tied.{SameLinksBut};
     ghost use Rattle.fib_model.specs.Counting.{counting};
     ghost use Rattle.fib_model.specs.Reclaiming.{Reclaims, MakesRoom};
     ghost use Rattle.fib.specs.Pool.{FreesSome, GoesLast, HasNone, TakesOldest, tokens};
@@ -51,8 +52,7 @@ impl Pool {
         ensures states { length self.new.keeper.groups ≡ length self.old.keeper.groups }
         ensures linked { linked_count self.new.keeper.groups + 1
             ≡ linked_count self.old.keeper.groups }
-        ensures others { (g b : ℕ) → g ≢ group
-            → (IsLinkedTo self.new.keeper.groups g b ↔ IsLinkedTo self.old.keeper.groups g b) }
+        ensures others { SameLinksBut group self.old.keeper.groups self.new.keeper.groups }
         ensures gone { (b : ℕ) → ¬ IsLinkedTo self.new.keeper.groups group b }
     {
         let token = self.keeper.domain.start();

@@ -1,13 +1,12 @@
 //! Whole changes of the words, with the groups that they take and give up.
 
-ghost use Rattle.std.specs.Prelude.{◌≡◌, ◌+◌, ◌/◌, ◌^◌, ◌<◌, ◌≤◌, ◌↔◌, IfOk, IfErr, OnErr, IsSome, IsTrue, length};
-ghost use Rattle.lpm_groups.specs.States.{linked_count};
-ghost use Rattle.lpm_rules.specs.RuleMap.{RuleMap, AllNetworks};
+ghost use Rattle.std.specs.Prelude.{◌≡◌, ◌+◌, ◌/◌, ◌^◌, ◌<◌, ◌↔◌, IfOk, IfErr, OnErr, IsSome, IsTrue, length};
+ghost use Rattle.lpm_rules.specs.RuleMap.{RuleMap};
 ghost use Rattle.lpm_update.specs.Linked.{IsTable, group_at};
-ghost use Rattle.lpm_update.specs.Leads.{IsAnswering, IsBegun, Leads, AddFits, held_with};
-ghost use Rattle.lpm_update.specs.Update.{group_held};
-ghost use Rattle.lpm_update.specs.Tied.{IsTied};
-ghost use Rattle.fib.specs.Pool.{HasNone, IsFound, NeedsGroup, UnlinksSome};
+ghost use Rattle.lpm_update.specs.Represents.{Represents, AddFits, held_with};
+ghost use Rattle.lpm_update.specs.Tied.{IsTied, HasGroupRoom};
+ghost use Rattle.fib.specs.Change.{IsMade, MayBegin};
+ghost use Rattle.fib.specs.Pool.{HasNone, IsFound, NeedsGroup};
 ghost use Rattle.fib.specs.Waiting.{IsQueued};
 
 use super::Pool;
@@ -24,24 +23,11 @@ pub(crate) fn run<const FIRST: u32, const SECOND: u32>(
     pool: &mut Pool,
     config: &Config,
 )
-    requires table { IsTable FIRST SECOND cells.old.firsts cells.old.seconds }
-    requires begun { IsBegun FIRST SECOND update cells.old.firsts cells.old.seconds }
-    requires tied { IsTied FIRST pool.old.keeper.groups (group_held update cells.old.firsts) }
-    requires queued { IsQueued pool.old.keeper.groups pool.old.queue }
-    requires tokens { pool.old.keeper.domain.token + length pool.old.keeper.groups ≤ 2 ^ 62 }
-    ensures answering { (R R' : RuleMap)
-        → IsAnswering FIRST SECOND R cells.old.firsts cells.old.seconds
-        → AllNetworks (FIRST + SECOND) R' → Leads FIRST SECOND update R R'
-        → IsAnswering FIRST SECOND R' cells.new.firsts cells.new.seconds }
-    ensures tied { IsTied FIRST pool.new.keeper.groups (group_at cells.new.firsts) }
-    ensures groups { cells.new.groups ≡ cells.old.groups }
-    ensures states { length pool.new.keeper.groups ≡ length pool.old.keeper.groups }
-    ensures queued { IsQueued pool.new.keeper.groups pool.new.queue }
-    ensures fewer { linked_count pool.new.keeper.groups ≤ linked_count pool.old.keeper.groups }
-    ensures unlinks { UnlinksSome config.now pool.old pool.new }
+    requires { MayBegin FIRST SECOND update cells.old pool.old }
+    ensures { IsMade FIRST SECOND config.now update cells.old pool.old cells.new pool.new }
 {
     let mut update = update;
-    let _groups = cells.groups();
+    let _words = cells.seconds();
     loop {
         match update.step::<FIRST, SECOND, PlainCells<FIRST, SECOND>>(cells) {
             Did::Unlinked { group, .. } => pool.retire(group, config),
@@ -75,17 +61,17 @@ pub(crate) fn group_for<const FIRST: u32, const SECOND: u32>(
 ) -> Result<Option<u32>, Option<Busy>>
     requires linked { IsTrue linked
         ↔ IsSome (group_at cells.now.firsts (prefix.now.bits / 2 ^ SECOND)) }
-    requires table { IsTable FIRST SECOND cells.now.firsts cells.now.seconds }
+    requires table { IsTable FIRST SECOND cells.now }
+    requires room { HasGroupRoom SECOND cells.now pool.old.keeper.groups }
     requires tied { IsTied FIRST pool.old.keeper.groups (group_at cells.now.firsts) }
     requires queued { IsQueued pool.old.keeper.groups pool.old.queue }
-    requires sizes { length pool.old.keeper.groups ≡ cells.now.groups }
     ensures found { IfOk result (λ group.
         IsFound FIRST SECOND cells.now.firsts prefix.now pool.old group pool.new) }
     ensures needs { OnErr result (NeedsGroup FIRST SECOND cells.now.firsts prefix.now) }
     ensures none { IfErr result (HasNone pool.old) }
     ensures unchanged { OnErr result (pool.new ≡ pool.old) }
-    ensures fits { (R : RuleMap) → IsAnswering FIRST SECOND R cells.now.firsts cells.now.seconds
-        → IfOk result (AddFits FIRST SECOND R prefix.now cells.now.firsts cells.now.seconds) }
+    ensures fits { (R : RuleMap) → Represents FIRST SECOND R cells.now
+        → IfOk result (AddFits FIRST SECOND R prefix.now cells.now) }
     ensures some { IfOk result (λ group. IsSome group → FIRST < prefix.now.len) }
     ensures tied { IfOk result (λ group. IsTied FIRST pool.new.keeper.groups
         (held_with group (prefix.now.bits / 2 ^ SECOND) cells.now.firsts)) }
@@ -93,7 +79,6 @@ pub(crate) fn group_for<const FIRST: u32, const SECOND: u32>(
     ensures queued { IsQueued pool.new.keeper.groups pool.new.queue }
     ensures states { length pool.new.keeper.groups ≡ length pool.old.keeper.groups }
 {
-    let _groups = cells.groups();
     let bits = prefix.bits();
     if prefix.len() <= FIRST {
         return Ok(None);

@@ -1,4 +1,4 @@
-//! Addresses, prefixes and next hops of a table of longest-prefix match.
+//! Addresses, prefixes and next hops of a table for longest-prefix match.
 //!
 //! A table has two widths: `FIRST` bits of an address index its first table, and the `SECOND` bits
 //! below them index a group. An address has `FIRST + SECOND` bits, at most 32.
@@ -6,7 +6,7 @@
 
 ghost use Rattle.std.specs.Prelude.{◌≡◌, ℕ, ◌+◌, ◌-◌, ◌*◌, ◌/◌, ◌%◌, ◌^◌, ◌<◌, ◌≤◌, ◌↔◌, IsTrue, IfOk, IsErr};
 ghost use Rattle.lpm_bits.specs.Widths.{IsShape};
-ghost use Rattle.lpm_bits.specs.Network.{Network, masked, Covers, IsNetwork};
+ghost use Rattle.lpm_bits.specs.Network.{Covers, IsNetwork, prefix_of};
 
 use std::error::Error;
 use std::fmt;
@@ -76,7 +76,8 @@ impl<const FIRST: u32, const SECOND: u32> Model for Prefix<FIRST, SECOND> {
 
     ghost view = { λ a. record { bits = a.bits; len = a.len } };
 
-    ghost invariant = { λ a. IsShape FIRST SECOND × IsNetwork (FIRST + SECOND) (record { bits = a.bits; len = a.len }) };
+    ghost invariant = { λ a. IsShape FIRST SECOND
+        × IsNetwork (FIRST + SECOND) (record { bits = a.bits; len = a.len }) };
 
     ghost inverse = { λ p. record { bits = p.bits; len = p.len } };
 }
@@ -88,7 +89,7 @@ impl<const FIRST: u32, const SECOND: u32> Prefix<FIRST, SECOND> {
     pub fn new(bits: u32, len: u32) -> Result<Self, BadLength>
         requires shape { IsShape FIRST SECOND }
         requires addr { bits < 2 ^ (FIRST + SECOND) }
-        ensures ok { IfOk result (λ p. p ≡ record { bits = masked (FIRST + SECOND) len bits; len = len }) }
+        ensures ok { IfOk result (λ p. p ≡ prefix_of (FIRST + SECOND) len bits) }
         ensures err { IsErr result ↔ (FIRST + SECOND < len) }
     {
         if len > FIRST + SECOND {

@@ -51,3 +51,16 @@ fn indices_and_hops(rt: HostRuntime) -> Result<(), Fail> {
     assert!(rt; Hop::new(16_777_216).is_err());
     Ok(())
 }
+
+#[test]
+fn texts_of_the_faults(rt: HostRuntime) -> Result<(), Fail> {
+    let alloc = rt.alloc();
+    let length = format!(in alloc; "{}", BadLength)?;
+    assert_eq!(rt;
+        length.as_str(),
+        "prefix length past the bits of an address"
+    );
+    let hop = format!(in alloc; "{}", BadHop)?;
+    assert_eq!(rt; hop.as_str(), "next hop past 24 bits");
+    Ok(())
+}

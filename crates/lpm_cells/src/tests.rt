@@ -7,7 +7,7 @@ use std::test::Fail;
 
 // Stores and loads through the trait alone.
 fn link<C: Cells>(cells: &mut C, i: usize, word: u64) -> u64
-    requires in_range { i < length (C.firsts cells.old) }
+    requires in_range { i < length (C.words cells.old).firsts }
     requires allowed { C.may_set_first cells.old i word }
     ensures { C.sets_first cells.old i word cells.new }
 {
@@ -17,7 +17,7 @@ fn link<C: Cells>(cells: &mut C, i: usize, word: u64) -> u64
 }
 
 fn fill<C: Cells>(cells: &mut C, i: usize, word: u64) -> u64
-    requires in_range { i < length (C.seconds cells.old) }
+    requires in_range { i < length (C.words cells.old).seconds }
     requires allowed { C.may_set_second cells.old i word }
     ensures { C.sets_second cells.old i word cells.new }
 {
@@ -30,7 +30,7 @@ fn fill<C: Cells>(cells: &mut C, i: usize, word: u64) -> u64
 #[tactic(auto, unfolding(lpm_entry::specs::Words::entry_in))]
 fn reads_one_word_or_two(rt: HostRuntime) -> Result<(), Fail> {
     let mut cells = PlainCells::<4, 4>::new(rt.alloc(), 1)?;
-    assert_eq!(rt; cells.groups(), 1);
+    assert_eq!(rt; cells.seconds(), 16);
     for addr in 0..256u32 {
         assert_eq!(rt; cells.read(addr), None);
     }

@@ -1,5 +1,5 @@
-use Rattle.std.proofs.Common.{arith, ◌^◌, ◌≡◌, ℕ, ◌+◌, ◌*◌, ◌/◌, ◌%◌, ◌<◌, refl, ap, sym, ◌∙◌}
-use Rattle.lpm_entry.specs.Words.{IsEntry, word_of, entry_in}
+use Rattle.std.proofs.Common.{arith, ◌^◌, ◌≡◌, ℕ, ◌+◌, ◌*◌, ◌/◌, ◌%◌, ◌<◌, ◌≤◌, refl, ap, sym, ◌∙◌, subst}
+use Rattle.lpm_entry.specs.Words.{IsEntry, IsWord, word_of, entry_in}
 use Rattle.lpm_entry.specs.declared.Entry.{Entry}
 use Rattle.lpm_entry.specs.declared.Entry.TheVariants.{Miss, Hop, Group}
 use Rattle.std.proofs.lemmas.Nat.{div-mul-add, mod-mul-add}
@@ -37,3 +37,12 @@ entry_in-word_of w (Group g) h = entry_in_group g h
 
 pub read_back : (w : ℕ) (e : Entry) (word : ℕ) → IsEntry w e → word_of e ≡ word → e ≡ entry_in word
 read_back w e word h q = sym (entry_in-word_of w e h) ∙ ap entry_in q
+
+-- the word of an entry takes 32 bits
+word_of-below : (width : ℕ) (e : Entry) → width ≤ 32 → IsEntry width e → word_of e < 2 ^ 32
+word_of-below width Miss l h = omega arith
+word_of-below width (Hop n d) l h = let a = h.0 in let b = h.1 in omega (arith, a, b)
+word_of-below width (Group g) l h = omega arith
+
+pub word_below : (width w : ℕ) → width ≤ 32 → IsWord width w → w < 2 ^ 32
+word_below width w l h = subst (λ n. n < 2 ^ 32) h.1 (word_of-below width (entry_in w) l h.0)

@@ -6,6 +6,13 @@ ghost use Rattle.lpm_bits.specs.Widths.{IsShape};
 
 use lpm_bits::Hop;
 
+/// Set in the words of hops and groups. The bits below are the number of the hop or the group.
+const VALID: u64 = 1 << 24;
+/// Set in the words of groups alone.
+const EXTENDED: u64 = 1 << 25;
+/// The lowest of the bits of a hop's depth.
+const DEPTH: u64 = 1 << 26;
+
 /// What a word of a table says of the addresses that read it.
 #[derive(Clone, Copy, Debug, PartialEq, Eq)]
 pub enum Entry {
@@ -18,11 +25,12 @@ pub enum Entry {
 }
 
 impl Entry {
-    ghost use Rattle.lpm_entry.specs.Words.{IsEntry, word_of, entry_in, hop_in};
+    ghost use Rattle.lpm_entry.specs.Words.{IsEntry, IsLast, IsLastWord, IsWord, word_of, entry_in, hop_in};
+    ghost use Rattle.lpm_entry.specs.declared.Entry.TheVariants.{Group};
     ghost use Rattle.lpm_entry.specs.declared.Entry.{Entry};
 
-    /// The word of the entry: its number in bits 0 to 23, valid in bit 24, extended (a group) in bit 25,
-    /// its depth in bits 26 to 31. A miss is 0.
+    /// The word of the entry: its number in bits 0 to 23, valid in bit 24, extended (a group) in
+    /// bit 25, its depth in bits 26 to 31. A miss is 0.
     pub fn to_word(self) -> u64
         requires { IsEntry 32 self }
         ensures value { result ≡ word_of self }
@@ -31,14 +39,13 @@ impl Entry {
         match self {
             Entry::Miss => 0,
             Entry::Hop { hop, depth } => {
-                u64::from(hop.number()) + 0x100_0000 + u64::from(depth) * 0x400_0000
+                u64::from(hop.number()) + VALID + u64::from(depth) * DEPTH
             }
-            Entry::Group(group) => u64::from(group) + 0x300_0000,
+            Entry::Group(group) => u64::from(group) + VALID + EXTENDED,
         }
     }
 
-    /// The entry of a word, at widths of which the entry's depth is at most the sum; none where the
-    /// word is no entry's.
+    /// The entry of a word; none where the word is no entry's. A depth is at most `FIRST + SECOND`.
     pub fn from_word<const FIRST: u32, const SECOND: u32>(word: u64) -> Option<Entry>
         requires { IsShape FIRST SECOND }
         ensures value { MatchOption result
@@ -46,42 +53,70 @@ impl Entry {
             (λ e. IsEntry (FIRST + SECOND) e × (word_of e ≡ word)) }
         ensures reads { IfSome result (λ e. e ≡ entry_in word) }
     {
-        let number = (word % 0x100_0000) as u32;
-        let high = word / 0x100_0000;
-        match high % 4 {
+        let number = (word % VALID) as u32;
+        let depth = word / DEPTH;
+        match word / VALID % 4 {
             0 if word == 0 => Some(Entry::Miss),
-            1 if high / 4 <= u64::from(FIRST + SECOND) => {
+            1 if depth <= u64::from(FIRST + SECOND) => {
                 let hop = Hop::new(number).ok()?;
                 Some(Entry::Hop {
                     hop,
-                    depth: (high / 4) as u32,
+                    depth: depth as u32,
                 })
             }
-            3 if high == 3 => Some(Entry::Group(number)),
+            3 if depth == 0 => Some(Entry::Group(number)),
             _ => None,
         }
     }
 
-    /// The entry of a word of a table, with no test of the depth: what `from_word` answers, wherever it
-    /// answers one.
+    /// The entry of a word of a table, told by the valid and the extended bit alone: what
+    /// `from_word` returns, wherever that returns an entry.
     #[tactic(auto, unfolding(crate::specs::Words::entry_in))]
     #[inline]
     pub fn of_word(word: u64) -> Entry
         requires { word < 2 ^ 32 }
         ensures { result ≡ entry_in word }
     {
-        let number = (word % 0x100_0000) as u32;
-        match word / 0x100_0000 % 4 {
+        let number = (word % VALID) as u32;
+        match word / VALID % 4 {
             3 => Entry::Group(number),
             1 => Entry::Hop {
                 hop: Hop::new(number).unwrap(),
-                depth: (word / 0x400_0000) as u32,
+                depth: (word / DEPTH) as u32,
             },
             _ => Entry::Miss,
         }
     }
 
-    /// Its next hop, where it has one.
+    /// The group of a table's word; none for the word of a miss or a hop. Of the words of entries
+    /// only those of groups are extended.
+    #[tactic(auto, unfolding(crate::specs::Words::entry_in))]
+    #[inline]
+    pub fn group_of_word<const FIRST: u32, const SECOND: u32>(word: u64) -> Option<u32>
+        requires { IsWord (FIRST + SECOND) word }
+        ensures { MatchOption result (IsLast (entry_in word)) (λ g. entry_in word ≡ Group g) }
+    {
+        if word / EXTENDED % 2 == 0 {
+            return None;
+        }
+        Some((word % VALID) as u32)
+    }
+
+    /// The next hop of a table's word at which a lookup ends; none for a miss, whose word is 0.
+    #[tactic(auto, unfolding(crate::specs::Words::entry_in))]
+    #[inline]
+    pub fn hop_of_last_word<const FIRST: u32, const SECOND: u32>(word: u64) -> Option<Hop>
+        requires { IsLastWord (FIRST + SECOND) word }
+        ensures { result ≡ hop_in (entry_in word) }
+    {
+        if word == 0 {
+            return None;
+        }
+        let number = (word % VALID) as u32;
+        Some(Hop::new(number).unwrap())
+    }
+
+    /// The next hop of the entry; none for a miss and for a group.
     #[inline]
     pub fn hop(self) -> Option<Hop>
         ensures { result ≡ hop_in self }

@@ -1,4 +1,4 @@
--- `IsTallied` through each change of the groups.
+-- `IsSound` through each change of the groups.
 use Rattle.std.proofs.Common.{◌≡◌, ◌≢◌, ℕ, ◌+◌, ◌-◌, ◌<◌, ◌≤◌, List, [], ◌∷◌, length, get_or, set, map, replicate, take, drop, min, zero, suc, refl, sym, ap, ◌∙◌, arith, eq-eqb, length-set, length-drop}
 use Rattle.std.specs.Prelude.{slice_get, option_map, Some}
 use Rattle.std.proofs.lemmas.List.{map-set, take_all, length-map, get_or-drop}
@@ -9,7 +9,7 @@ use Rattle.memchr.specs.Find.{Nowhere, NoneBefore, Passes, is_byte}
 use Rattle.lpm_groups.specs.declared.GroupState.{GroupState}
 use Rattle.lpm_groups.specs.declared.GroupState.TheVariants.{Free, Linked, Limbo}
 use Rattle.lpm_groups.specs.States.{is_free, free_count, IsLinkedTo, IsLimboAt, IsLeastFree}
-use Rattle.lpm_groups.specs.Marks.{mark_of, IsTallied}
+use Rattle.lpm_groups.specs.Marks.{mark_of, IsSound}
 use Rattle.lpm_groups.proofs.Writes.{free_before_set, slice_get-set_same, slice_get-set_other}
 use Rattle.lpm_groups.proofs.Tallies.{count_by-cons, Takes-set, Retires-set, Releases-set, linked_count-replicate, limbo_count-replicate}
 
@@ -47,7 +47,7 @@ pub take_rest : (ms : List ℕ) (h : ℕ) → take (length ms - h) (drop h ms) �
 take_rest ms h = take_all _ (drop h ms) (omega (arith, length-drop h ms))
 
 -- no free group up to the end of a part of the marks where no 1 stands
-pub none_up_to : (xs : List GroupState) (ms : List ℕ) (h u l n : ℕ) → IsTallied xs ms h u l → Nowhere (Passes (is_byte 1) (drop h ms)) 0 n → (k : ℕ) → k < h + n → slice_get xs k ≢ Some Free
+pub none_up_to : (xs : List GroupState) (ms : List ℕ) (h u l n : ℕ) → IsSound xs ms h u l → Nowhere (Passes (is_byte 1) (drop h ms)) 0 n → (k : ℕ) → k < h + n → slice_get xs k ≢ Some Free
 none_up_to xs ms h u l n t nowhere k below free =
     let past : ¬ (k < h) = λ lt. t.none_below k lt free in
     let place : h + (k - h) ≡ k = omega arith in
@@ -56,21 +56,21 @@ none_up_to xs ms h u l n t nowhere k below free =
     nowhere (k - h) (omega arith) (omega arith) (eq-eqb _ _ mark)
 
 -- the place of the first 1 from the hint on is that of the least free group
-pub IsLeastFree-found : (xs : List GroupState) (ms : List ℕ) (h u l n k : ℕ) → IsTallied xs ms h u l → NoneBefore (Passes (is_byte 1) (drop h ms)) 0 n k → Passes (is_byte 1) (drop h ms) k → IsLeastFree xs (h + k)
+pub IsLeastFree-found : (xs : List GroupState) (ms : List ℕ) (h u l n k : ℕ) → IsSound xs ms h u l → NoneBefore (Passes (is_byte 1) (drop h ms)) 0 n k → Passes (is_byte 1) (drop h ms) k → IsLeastFree xs (h + k)
 IsLeastFree-found xs ms h u l n k t first passes = record {
   free = free_from_mark xs (h + k) (ap (λ m. get_or m (h + k) 0) (sym t.marked) ∙ sym (get_or-drop h ms k 0) ∙ eqb-true _ _ passes);
   least = none_up_to xs ms h u l k t first.before;
 }
 
 -- where no 1 stands from the hint on, no group is free
-pub free_count-not_found : (xs : List GroupState) (ms : List ℕ) (h u l : ℕ) → IsTallied xs ms h u l → Nowhere (Passes (is_byte 1) (drop h ms)) 0 (length (drop h ms)) → free_count xs ≡ 0
+pub free_count-not_found : (xs : List GroupState) (ms : List ℕ) (h u l : ℕ) → IsSound xs ms h u l → Nowhere (Passes (is_byte 1) (drop h ms)) 0 (length (drop h ms)) → free_count xs ≡ 0
 free_count-not_found xs ms h u l t nowhere =
     let len : length ms ≡ length xs = ap length t.marked ∙ length-map xs mark_of in
     none_free xs (λ k lt. none_up_to xs ms h u l _ t nowhere k (omega (arith, length-drop h ms)))
 
 -- the hint may then stand behind them all
-pub IsTallied-none : (xs : List GroupState) (ms : List ℕ) (h u l n : ℕ) → n ≡ length ms → IsTallied xs ms h u l → Nowhere (Passes (is_byte 1) (drop h ms)) 0 (length (drop h ms)) → IsTallied xs ms n u l
-IsTallied-none xs ms h u l n end t nowhere =
+pub IsSound-none : (xs : List GroupState) (ms : List ℕ) (h u l n : ℕ) → n ≡ length ms → IsSound xs ms h u l → Nowhere (Passes (is_byte 1) (drop h ms)) 0 (length (drop h ms)) → IsSound xs ms n u l
+IsSound-none xs ms h u l n end t nowhere =
     let len : length ms ≡ length xs = ap length t.marked ∙ length-map xs mark_of in record {
       few = t.few;
       marked = t.marked;
@@ -80,8 +80,8 @@ IsTallied-none xs ms h u l n end t nowhere =
       all_limbo = t.all_limbo;
     }
 
-pub IsTallied-new : (n : ℕ) → n ≤ 65536 → IsTallied (replicate n Free) (replicate n 1) 0 0 0
-IsTallied-new n few = record {
+pub IsSound-new : (n : ℕ) → n ≤ 65536 → IsSound (replicate n Free) (replicate n 1) 0 0 0
+IsSound-new n few = record {
   few = grind (arith, common_steps);
   marked = sym (map-mark_of-replicate n);
   within = omega arith;
@@ -90,8 +90,8 @@ IsTallied-new n few = record {
   all_limbo = sym (limbo_count-replicate n);
 }
 
-pub IsTallied-taken : (xs : List GroupState) (ms : List ℕ) (h u l g b : ℕ) → IsTallied xs ms h u l → IsLeastFree xs g → IsTallied (set xs g (Linked b)) (set ms g 0) (g + 1) (u + 1) l
-IsTallied-taken xs ms h u l g b t least =
+pub IsSound-taken : (xs : List GroupState) (ms : List ℕ) (h u l g b : ℕ) → IsSound xs ms h u l → IsLeastFree xs g → IsSound (set xs g (Linked b)) (set ms g 0) (g + 1) (u + 1) l
+IsSound-taken xs ms h u l g b t least =
     let takes = Takes-set xs g b least.free in
     let within = slice_get_within xs g Free least.free in record {
       few = omega (arith, length-set xs g (Linked b), t.few);
@@ -107,8 +107,8 @@ IsTallied-taken xs ms h u l g b t least =
       all_limbo = omega (arith, t.all_limbo, takes.limbo);
     }
 
-pub IsTallied-retired : (xs : List GroupState) (ms : List ℕ) (h u l g b : ℕ) → IsTallied xs ms h u l → IsLinkedTo xs g b → IsTallied (set xs g Limbo) ms h (u - 1) (l + 1)
-IsTallied-retired xs ms h u l g b t at =
+pub IsSound-retired : (xs : List GroupState) (ms : List ℕ) (h u l g b : ℕ) → IsSound xs ms h u l → IsLinkedTo xs g b → IsSound (set xs g Limbo) ms h (u - 1) (l + 1)
+IsSound-retired xs ms h u l g b t at =
     let retires = Retires-set xs g b at in record {
       few = omega (arith, length-set xs g Limbo, t.few);
       marked = t.marked ∙ sym (map-mark_of-set xs g (Linked b) Limbo at refl);
@@ -118,8 +118,8 @@ IsTallied-retired xs ms h u l g b t at =
       all_limbo = omega (arith, t.all_limbo, retires.limbo);
     }
 
-pub IsTallied-released : (xs : List GroupState) (ms : List ℕ) (h u l g : ℕ) → IsTallied xs ms h u l → IsLimboAt xs g → IsTallied (set xs g Free) (set ms g 1) (min h g) u (l - 1)
-IsTallied-released xs ms h u l g t at =
+pub IsSound-released : (xs : List GroupState) (ms : List ℕ) (h u l g : ℕ) → IsSound xs ms h u l → IsLimboAt xs g → IsSound (set xs g Free) (set ms g 1) (min h g) u (l - 1)
+IsSound-released xs ms h u l g t at =
     let releases = Releases-set xs g at in record {
       few = omega (arith, length-set xs g Free, t.few);
       marked = ap (λ m. set m g 1) t.marked ∙ sym (map-set mark_of xs g Free);

@@ -11,7 +11,8 @@ mark_of (Linked block) = 0
 mark_of Limbo = 0
 
 -- the marks and the counts are those of the states, and no group below the hint is free
-pub record IsTallied (states : List GroupState) (marks : List ℕ) (hint in_use limbo : ℕ) : Type 0 where
+pub record IsSound (states : List GroupState) (marks : List ℕ) (hint in_use limbo : ℕ)
+    : Type 0 where
   pub few : length states ≤ 65536
   pub marked : marks ≡ map mark_of states
   pub within : hint ≤ length states

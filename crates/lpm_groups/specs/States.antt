@@ -62,4 +62,5 @@ linked_blocks (Limbo ∷ states) = linked_blocks states
 
 -- no block has two groups
 abbrev pub IsLinkedOnce : List GroupState → Type 0
-IsLinkedOnce states = (g h block : ℕ) → IsLinkedTo states g block → IsLinkedTo states h block → g ≡ h
+IsLinkedOnce states = (g h block : ℕ)
+    → IsLinkedTo states g block → IsLinkedTo states h block → g ≡ h

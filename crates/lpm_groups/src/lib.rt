@@ -1,7 +1,7 @@
-//! The states of the groups of a table of longest-prefix match.
+//! The states of the groups of a table for longest-prefix match.
 //!
-//! A group is a run of second words, lent to one block of the first table: the addresses that share
-//! a first index. A group that was unlinked waits in limbo until no reader can still be in it.
+//! A group is a run of second words, lent to one block: the addresses that share their first
+//! `FIRST` bits. A group that was unlinked waits in limbo until no reader can still be in it.
 #![tactic(auto)]
 
 ghost use Rattle.std.specs.Prelude.{◌≡◌, ℕ, ◌+◌, ◌<◌, ◌≤◌, ◌↔◌, length, replicate, slice_get, slice_set, IsTrue, IfOk, IfSome, IfNone, IsNone};
@@ -16,7 +16,7 @@ use std::marker::Model;
 pub enum GroupState {
     /// Not used: it may be taken.
     Free,
-    /// Used by the block of this first index.
+    /// Used by the block of this number.
     Linked(usize),
     /// Unlinked, and perhaps still read: it may be taken only after its release.
     Limbo,
@@ -55,20 +55,20 @@ pub struct Groups {
 impl Model for Groups {
     ghost use Rattle.std.specs.Prelude.{List};
     ghost use Rattle.lpm_groups.specs.declared.GroupState.{GroupState};
-    ghost use Rattle.lpm_groups.specs.Marks.{IsTallied};
+    ghost use Rattle.lpm_groups.specs.Marks.{IsSound};
 
     ghost Value = { List GroupState };
 
     ghost view = { λ a. a.states.items };
 
-    ghost invariant = { λ a. IsTallied a.states.items a.marks.items a.hint a.in_use a.limbo };
+    ghost invariant = { λ a. IsSound a.states.items a.marks.items a.hint a.in_use a.limbo };
 }
 
 impl Groups {
     ghost use Rattle.lpm_groups.specs.declared.GroupState.TheVariants.{Free, Linked, Limbo};
 
-    /// That many groups, at most 65,536, numbered from 0 and all free; the error only where memory is
-    /// short.
+    /// That many groups, at most 65,536, numbered from 0 and all free; the error only where memory
+    /// is short.
     pub fn new(alloc: Global, groups: usize) -> Result<Self, AllocError>
         requires { groups ≤ 65536 }
         ensures { IfOk result (λ g. g ≡ replicate groups Free) }
@@ -128,8 +128,8 @@ impl Groups {
         }
     }
 
-    /// Links the free group of the least number to the block of that first index, and answers its
-    /// number; none, with no change, exactly where no group is free.
+    /// Links the free group of the least number to that block, and returns the group's number;
+    /// none, with no change, exactly where no group is free.
     pub fn take_least(&mut self, block: usize) -> Option<u32>
         ensures least { IfSome result (IsLeastFree self.old) }
         ensures linked { IfSome result (λ g. self.new ≡ slice_set self.old g (Linked block)) }
@@ -148,8 +148,8 @@ impl Groups {
         Some(group as u32)
     }
 
-    /// Puts a group, which must be linked, into limbo: its block has let it go, but a reader may still
-    /// be in it.
+    /// Puts a group, which must be linked, into limbo: its block has let it go, but a reader may
+    /// still be in it.
     pub fn retire(&mut self, group: u32)
         requires { IsLinkedAt self.old group }
         ensures { self.new ≡ slice_set self.old group Limbo }

@@ -1,6 +1,6 @@
 -- The rules after a change, and after a list of changes (DPDK Programmer's Guide, "LPM Library":
--- "Addition" gives a prefix its next hop, in place of the one that it may have; "Deletion" takes out
--- a rule that is there), and laws that follow: the last change of a prefix decides.
+-- "Addition" gives a prefix its next hop, in place of the one that it may have; "Deletion" takes
+-- out a rule that is there), and laws that follow: the last change of a prefix decides.
 use Rattle.std.specs.Prelude.{ℕ, ◌≡◌, ◌≢◌, ⊤, List, ◌∷◌, ◌++◌, All, Some, None, fold}
 use Rattle.std.specs.FinMap.{get, insert, remove, empty}
 use Rattle.lpm_bits.specs.Network.{Network}

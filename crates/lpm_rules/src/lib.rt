@@ -8,7 +8,7 @@ ghost use Rattle.std.specs.FinMap as map;
 ghost use Rattle.std.specs.FinSet as set;
 ghost use Rattle.std.specs.Ordering.{nat_cmp};
 ghost use Rattle.lpm_bits.specs.Widths.{IsShape};
-ghost use Rattle.lpm_bits.specs.Network.{Network, masked};
+ghost use Rattle.lpm_bits.specs.Network.{prefix_of};
 ghost use Rattle.lpm_rules.specs.RuleMap.{AllNetworks, HasRoomFor, LacksRoomFor, with_rule, without_rule};
 ghost use Rattle.lpm_rules.specs.Deep.{IsBlockOf, IsDeepBlock, IsLastBefore, block_of, deep_count, deep_blocks};
 ghost use Rattle.lpm_rules.specs.Longest.{IsLongestHop, IsUncovered, IsCoverRule};
@@ -384,8 +384,7 @@ impl<const FIRST: u32, const SECOND: u32> Rules<FIRST, SECOND> {
     fn covering(&self, addr: u32, len: u32) -> Option<Rule<FIRST, SECOND>>
         requires addr { addr < 2 ^ (FIRST + SECOND) }
         requires len { len ≤ FIRST + SECOND }
-        ensures { let bits = masked (FIRST + SECOND) len addr in
-            let prefix : Network = record { bits = bits; len = len } in
+        ensures { let prefix = prefix_of (FIRST + SECOND) len addr in
             MatchOption result (map.get self.now.rules prefix ≡ None)
             (λ r. (r.prefix ≡ prefix) × (map.get self.now.rules r.prefix ≡ Some r.hop)) }
     {

@@ -8,13 +8,13 @@ use Rattle.lpm_rules.specs.Deep.{IsDeepBlock}
 use Rattle.lpm_rules.proofs.Changes.{not_some}
 use Rattle.lpm_entry.specs.declared.Entry.{Entry}
 use Rattle.lpm_entry.specs.declared.Entry.TheVariants.{Miss, Hop, Group}
-use Rattle.lpm_entry.specs.Words.{entry_in}
-use Rattle.lpm_cells.specs.Table.{IsLast, entry_at}
+use Rattle.lpm_entry.specs.Words.{entry_in, IsLast, group_in}
+use Rattle.lpm_cells.specs.Table.{entry_at, Words}
 use Rattle.lpm_update.specs.declared.rewrite.Rewrite.{Rewrite}
 use Rattle.lpm_update.specs.Rewrite.{Stands}
-use Rattle.lpm_update.specs.Linked.{group_in, group_at}
+use Rattle.lpm_update.specs.Linked.{group_at}
 use Rattle.lpm_update.specs.Best.{AllBest}
-use Rattle.lpm_update.specs.Leads.{HasDeepGroups}
+use Rattle.lpm_update.specs.Represents.{HasDeepGroups}
 use Rattle.lpm_update.proofs.Blocks.{best_unique, best_block, all_short}
 use Rattle.lpm_update.proofs.Places.{block_high}
 
@@ -37,8 +37,8 @@ pub shallow_last : (f s : ℕ) (R : RuleMap) (F : List ℕ) (b : ℕ) → HasDee
 shallow_last f s R F b known low none = no_group_last (entry_in (slice_index F b)) (λ some. none ((known b low).0 some))
 
 -- nothing is changed yet
-pub stands_still : (s from : ℕ) (c : Rewrite) (F S : List ℕ) → Stands s from from c F S (entry_at s F S)
-stands_still s from c F S = record {
+pub stands_still : (s from : ℕ) (c : Rewrite) (W : Words) → Stands s from from c W (entry_at s W)
+stands_still s from c W = record {
   before = λ a p. refl;
   done = λ a p q. absurd (omega (arith, p, q));
   todo = λ a p. refl;

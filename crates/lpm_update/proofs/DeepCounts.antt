@@ -11,13 +11,14 @@ use Rattle.std.proofs.lemmas.Map.Keys.{IsDistinct-head, IsDistinct-tail}
 use Rattle.std.proofs.lemmas.Map.Lookups.{exact_unsigned}
 use Rattle.std.proofs.lemmas.Map.Views.{Contains-from_any, list_any-from_Contains, tells_apart}
 use Rattle.lpm_groups.specs.declared.GroupState.{GroupState}
-use Rattle.lpm_groups.specs.States.{linked_count, limbo_count, free_count, linked_blocks}
+use Rattle.lpm_groups.specs.States.{linked_blocks}
 use Rattle.lpm_groups.proofs.Blocks.{length-linked_blocks, Contains-linked_blocks, group_of_block, IsDistinct-linked_blocks}
-use Rattle.lpm_groups.proofs.Tallies.{counts-total}
 use Rattle.lpm_rules.specs.RuleMap.{RuleMap, AllNetworks}
 use Rattle.lpm_rules.specs.Deep.{deep_blocks}
 use Rattle.lpm_rules.proofs.Deep.{has_deep_blocks, deep_below}
-use Rattle.lpm_update.specs.Leads.{HasDeepGroups}
+use Rattle.lpm_update.specs.Represents.{HasDeepGroups}
+use Rattle.lpm_update.specs.Linked.{group_at}
+use Rattle.lpm_update.specs.Laws.{LinkedAreDeep}
 use Rattle.lpm_update.specs.Tied.{IsTied}
 use Rattle.lpm_update.proofs.Ties.{tied_once}
 
@@ -60,14 +61,8 @@ deep_linked f s R xs L nets t deep =
     ∙ sym (set.contains-from_list nat_cmp_total (linked_blocks xs) b))
 
 -- as many groups are linked as there are deep blocks
-pub linked_deep : (f s : ℕ) (R : RuleMap) (xs : List GroupState) (L : ℕ → Option ℕ) → AllNetworks (f + s) R → IsTied f xs L → HasDeepGroups f s R L
-    → linked_count xs ≡ set.len (deep_blocks f s R)
-linked_deep f s R xs L nets t deep =
+pub linked_deep : LinkedAreDeep
+linked_deep f s R t xs known tied =
     sym (length-linked_blocks xs)
-    ∙ sym (len_from_distinct (linked_blocks xs) (IsDistinct-linked_blocks xs (tied_once f xs L t)))
-    ∙ ap set.len (sym (deep_linked f s R xs L nets t deep))
-
--- the other groups are free or in limbo
-pub no_free : (f s : ℕ) (R : RuleMap) (xs : List GroupState) (L : ℕ → Option ℕ) → AllNetworks (f + s) R → IsTied f xs L → HasDeepGroups f s R L
-    → free_count xs + limbo_count xs + set.len (deep_blocks f s R) ≡ length xs
-no_free f s R xs L nets t deep = omega (arith, linked_deep f s R xs L nets t deep, counts-total xs)
+    ∙ sym (len_from_distinct (linked_blocks xs) (IsDistinct-linked_blocks xs (tied_once f xs (group_at t.firsts) tied)))
+    ∙ ap set.len (sym (deep_linked f s R xs (group_at t.firsts) known.networks tied known.groups))

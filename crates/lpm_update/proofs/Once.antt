@@ -1,222 +1,156 @@
--- What has been passed is not stored again.
-use Rattle.std.proofs.Common.{arith, ◌≡◌, ℕ, ◌+◌, ◌*◌, ◌/◌, ◌%◌, ◌^◌, ◌<◌, ◌≤◌, inl, inr, refl, ap, sym, ◌∙◌, subst, List, Option, Some, None, Bool, true, false}
+-- What has been passed stays passed, and is not stored again.
+use Rattle.std.proofs.Common.{arith, ◌≡◌, ℕ, ◌+◌, ◌*◌, ◌/◌, ◌%◌, ◌^◌, ◌<◌, ◌≤◌, ◌⊎◌, inl, inr, refl, ap, sym, ◌∙◌, subst, List, Option, Bool, true, false}
 use Rattle.std.specs.Prelude.{slice_index}
 use Rattle.std.proofs.lemmas.Nat.{pow_pos, mod_below, shr_below, shr_split, same_from_place}
-use Rattle.lpm_entry.specs.declared.Entry.{Entry}
-use Rattle.lpm_entry.specs.declared.Entry.TheVariants.{Miss, Hop, Group}
-use Rattle.lpm_entry.specs.Words.{entry_in}
-use Rattle.lpm_cells.specs.Table.{IsLast}
-use Rattle.lpm_update.specs.declared.sweep.Sweep.{Sweep as SweepData}
-use Rattle.lpm_update.specs.declared.fill.Fill.{Fill as FillData}
-use Rattle.lpm_update.specs.declared.collapse.Collapse.{Collapse as CollapseData}
-use Rattle.lpm_update.specs.declared.flush.Flush.{Flush as FlushData}
-use Rattle.lpm_update.specs.declared.update.Update.{Update}
+use Rattle.lpm_entry.specs.declared.Entry.TheVariants.{Group}
+use Rattle.lpm_entry.specs.Words.{entry_in, group_in}
+use Rattle.lpm_cells.specs.Table.{Words}
 use Rattle.lpm_update.specs.declared.Did.{Did}
 use Rattle.lpm_update.specs.declared.Did.TheVariants.{First, Second, Unlinked, Done}
-use Rattle.lpm_update.specs.declared.update.Update.TheVariants.{Sweep, Fill, Collapse, Flush}
-use Rattle.lpm_update.specs.Linked.{IsTable, group_in, group_at}
-use Rattle.lpm_update.specs.Sweep.{IsFurther}
-use Rattle.lpm_update.specs.Update.{IsUnderWay, HasGroups, IsOnward, IsNextFirst, IsNextSecond, IsNextUnlink, HasPassedFirst, HasPassedSecond, group_held}
-use Rattle.lpm_update.specs.Once.{OnwardOn, FirstStoredOnce, SecondStoredOnce, StoredIsNoLink, UnlinkedOnce, IsStep, IsSameWord, NoWordTwice}
-use Rattle.lpm_update.proofs.Steps.{further_on}
-use Rattle.lpm_update.proofs.Groups.{not_unlinked}
+use Rattle.lpm_update.specs.declared.rewrite_range.RewriteRange.{RewriteRange}
+use Rattle.lpm_update.specs.declared.link_group.LinkGroup.{LinkGroup}
+use Rattle.lpm_update.specs.declared.unlink_group.UnlinkGroup.{UnlinkGroup}
+use Rattle.lpm_update.specs.declared.update.Plan.{Plan}
+use Rattle.lpm_update.specs.declared.update.Plan.TheVariants.{Range, Link, Unlink, Flush}
+use Rattle.lpm_update.specs.Linked.{IsTable, IsLinkTo, group_at}
+use Rattle.lpm_update.specs.RewriteRange.{IsRewriting, IsSecondStore}
+use Rattle.lpm_update.specs.Update.{IsUnderWay, IsOnward, IsNextFirst, IsNextSecond, IsNextUnlink, HasPassedFirst, HasPassedSecond, IsSecondBefore, SameGroups}
+use Rattle.lpm_update.specs.UnlinkGroup.{IsUnlinking}
+use Rattle.lpm_update.specs.Step.{Steps, Stored, HasPassed, HeldAlong}
+use Rattle.lpm_update.specs.Runs.{IsSameWord}
+use Rattle.lpm_update.proofs.Unlinks.{some_group, both_ways}
+use Rattle.lpm_update.proofs.Onward.{by_kind}
 
--- ---- onward
+-- ---- what is passed stays so
 
-further_same : (u : SweepData) → IsFurther u u
-further_same u = record { from = refl; end = refl; rewrite = refl; at = omega arith }
-
-onward_same : (u : Update) → IsOnward u u
-onward_same (Sweep u) = further_same u
-onward_same (Fill u) = (refl, omega arith)
-onward_same (Collapse u) = (further_same u.sweep, refl, λ e. e)
-onward_same (Flush u) = omega arith
-
--- a change goes onward to one of its own kind
-pub by_kind : (P : Update → Update → Type 0) → ((u v : SweepData) → IsOnward (Sweep u) (Sweep v) → P (Sweep u) (Sweep v))
-    → ((u v : FillData) → IsOnward (Fill u) (Fill v) → P (Fill u) (Fill v)) → ((u v : CollapseData) → IsOnward (Collapse u) (Collapse v) → P (Collapse u) (Collapse v))
-    → ((u v : FlushData) → IsOnward (Flush u) (Flush v) → P (Flush u) (Flush v)) → (u v : Update) → IsOnward u v → P u v
-by_kind P s f c l (Sweep u) (Sweep v) o = s u v o
-by_kind P s f c l (Sweep u) (Fill v) o = absurd o
-by_kind P s f c l (Sweep u) (Collapse v) o = absurd o
-by_kind P s f c l (Sweep u) (Flush v) o = absurd o
-by_kind P s f c l (Fill u) (Sweep v) o = absurd o
-by_kind P s f c l (Fill u) (Fill v) o = f u v o
-by_kind P s f c l (Fill u) (Collapse v) o = absurd o
-by_kind P s f c l (Fill u) (Flush v) o = absurd o
-by_kind P s f c l (Collapse u) (Sweep v) o = absurd o
-by_kind P s f c l (Collapse u) (Fill v) o = absurd o
-by_kind P s f c l (Collapse u) (Collapse v) o = c u v o
-by_kind P s f c l (Collapse u) (Flush v) o = absurd o
-by_kind P s f c l (Flush u) (Sweep v) o = absurd o
-by_kind P s f c l (Flush u) (Fill v) o = absurd o
-by_kind P s f c l (Flush u) (Collapse v) o = absurd o
-by_kind P s f c l (Flush u) (Flush v) o = l u v o
-
-sweep_from : (u v : SweepData) → IsFurther u v → (w : Update) → IsOnward (Sweep v) w → IsOnward (Sweep u) w
-sweep_from u v a (Sweep w) b = further_on u v w a b
-sweep_from u v a (Fill w) b = absurd b
-sweep_from u v a (Collapse w) b = absurd b
-sweep_from u v a (Flush w) b = absurd b
-
-fill_from : (u v : FillData) → IsOnward (Fill u) (Fill v) → (w : Update) → IsOnward (Fill v) w → IsOnward (Fill u) w
-fill_from u v a (Sweep w) b = absurd b
-fill_from u v a (Fill w) b = (b.0 ∙ ap (λ (x : FillData). record x { next = w.next }) a.0, let p = a.1 in let q = b.1 in omega (arith, p, q))
-fill_from u v a (Collapse w) b = absurd b
-fill_from u v a (Flush w) b = absurd b
-
-collapse_from : (u v : CollapseData) → IsOnward (Collapse u) (Collapse v) → (w : Update) → IsOnward (Collapse v) w → IsOnward (Collapse u) w
-collapse_from u v a (Sweep w) b = absurd b
-collapse_from u v a (Fill w) b = absurd b
-collapse_from u v a (Collapse w) b = (further_on u.sweep v.sweep w.sweep a.0 b.0, b.1 ∙ a.1, λ e. b.2 (a.2 e))
-collapse_from u v a (Flush w) b = absurd b
-
-flush_from : (u v : FlushData) → u.next ≤ v.next → (w : Update) → IsOnward (Flush v) w → IsOnward (Flush u) w
-flush_from u v a (Sweep w) b = absurd b
-flush_from u v a (Fill w) b = absurd b
-flush_from u v a (Collapse w) b = absurd b
-flush_from u v a (Flush w) b = omega (arith, a, b)
-
-pub onward_on : OnwardOn
-onward_on = (onward_same, λ u v w a. by_kind (λ x y. (z : Update) → IsOnward y z → IsOnward x z) sweep_from fill_from collapse_from flush_from u v a w)
-
--- ---- the first table
-
-both_ways : (b : Bool) → b ≡ true → b ≡ false → ⊥
-both_ways true e n = cc
-both_ways false e n = cc
-
-pub first_stored_once : FirstStoredOnce
-first_stored_once f s m v F S i w passed on = by_kind (λ x y. HasPassedFirst s x i → IsNextFirst f s y F S i w → ⊥)
-    (λ x y o p n. let a = o.at in let l = n.low in omega (arith, a, l, p))
-    (λ x y o p n. let a = o.1 in let e = n.0 in omega (arith, a, e, p))
-    (λ x y o p n. elim p [
-      | inl before ↦ let a = o.0.at in let l = n.1.low in omega (arith, a, l, before)
-      | inr gone ↦ both_ways y.unlinked (o.2 gone) n.0
+first_stays : (s i : ℕ) (u v : Plan) → IsOnward u v → HasPassedFirst s u i → HasPassedFirst s v i
+first_stays s i = by_kind (λ x y. HasPassedFirst s x i → HasPassedFirst s y i)
+    (λ x y o p. let a = o.at in omega (arith, a, p))
+    (λ x y o p. let a = o.1 in omega (arith, a, p))
+    (λ x y o p. elim p [
+      | inl before ↦ let a = o.0.at in let l = before.0 in inl (omega (arith, a, l), λ q. before.1 (q ∙ o.1))
+      | inr gone ↦ inr (o.2 gone)
     ])
-    (λ x y o p n. let l = n.0.low in omega (arith, o, l, p))
-    m v on passed
+    (λ x y o p. omega (arith, o, p))
 
--- ---- the second table
+-- along a store that leaves each block its group
+second_along : (f s at next j end : ℕ) (F F' : List ℕ) → at ≤ next → at ≤ end → end ≤ 2 ^ (f + s) → ((b : ℕ) → b < 2 ^ f → group_at F' b ≡ group_at F b) → IsSecondBefore s at F j → IsSecondBefore s next F' j
+second_along f s at next j end F F' on within fits same p =
+    let before = p.2 in
+    let block = shr_below p.1 f s (omega (arith, before, within, fits)) in
+    (p.0, p.1, omega (arith, on, before), some_group (entry_in (slice_index F' (p.1 / 2 ^ s))) p.0 (same (p.1 / 2 ^ s) block ∙ ap group_in p.3), p.4)
 
-group_from : (e : Entry) (g : ℕ) → group_in e ≡ Some g → e ≡ Group g
-group_from Miss g q = cc
-group_from (Hop h d) g q = cc
-group_from (Group k) g q = cc
+-- a step that unlinks nothing leaves each block the group that it holds
+pub held_same : (f : ℕ) (did : Did) (L M : ℕ → Option ℕ) → ((b g : ℕ) → did ≡ Unlinked b g → ⊥) → HeldAlong f did L M → SameGroups f L M
+held_same f (First i) L M n h = h
+held_same f (Second j) L M n h = h
+held_same f (Unlinked b g) L M n h = absurd (n b g refl)
+held_same f Done L M n h = h
+
+cases_bool : (b : Bool) → (b ≡ true) ⊎ (b ≡ false)
+cases_bool true = inl refl
+cases_bool false = inr refl
+
+module _ (f s : ℕ) (z z' : Words) (j : ℕ) where
+  range_stays : (u v : RewriteRange) (e : Did) → IsOnward (Range u) (Range v) → IsUnderWay f s (Range u) z → HasPassedSecond s (Range u) z.firsts j → Steps f s (Range u) z e (Range v) z'
+      → HasPassedSecond s (Range v) z'.firsts j
+  range_stays u v e o k p h = second_along f s u.at v.at j u.end z.firsts z'.firsts o.at k.within k.fits
+      (held_same f e (group_at z.firsts) (group_at z'.firsts) (λ b g q. (subst (λ d. Stored f s d (Range u) z (Range v) z') q h.stored).0) h.held) p
+
+  unlink_stays : (u v : UnlinkGroup) (e : Did) → IsOnward (Unlink u) (Unlink v) → IsUnlinking f s u.range u.block z → IsSecondBefore s u.range.at z.firsts j → Steps f s (Unlink u) z e (Unlink v) z'
+      → HasPassedSecond s (Unlink v) z'.firsts j
+  unlink_stays u v (First i) o k p h = inl (second_along f s u.range.at v.range.at j u.range.end z.firsts z'.firsts o.0.at k.rewriting.within k.rewriting.fits h.held p)
+  unlink_stays u v (Second i) o k p h = inl (second_along f s u.range.at v.range.at j u.range.end z.firsts z'.firsts o.0.at k.rewriting.within k.rewriting.fits h.held p)
+  unlink_stays u v (Unlinked b g) o k p h = elim h.passed [
+    | inl apart ↦ absurd (apart.1 (h.stored.0.1 ∙ sym o.1))
+    | inr gone ↦ inr gone
+  ]
+  unlink_stays u v Done o k p h = inl (second_along f s u.range.at v.range.at j u.range.end z.firsts z'.firsts o.0.at k.rewriting.within k.rewriting.fits h.held p)
+
+  second_stays : (v v' : Plan) (e : Did) → IsUnderWay f s v z → HasPassedSecond s v z.firsts j → Steps f s v z e v' z' → HasPassedSecond s v' z'.firsts j
+  second_stays v v' e k p h = by_kind (λ x y. IsUnderWay f s x z → HasPassedSecond s x z.firsts j → Steps f s x z e y z' → HasPassedSecond s y z'.firsts j)
+      (λ x y o k p h. range_stays x y e o k p h)
+      (λ x y o k p h.
+      let a = o.1 in
+      let same : y.group ≡ x.group = ap (λ (w : LinkGroup). w.group) o.0 in
+      let base : y.group * 2 ^ s ≡ x.group * 2 ^ s = ap (λ w. w * 2 ^ s) same in
+      omega (arith, a, base, p))
+      (λ x y o k p h. elim p [
+        | inr gone ↦ inr (o.2 gone)
+        | inl before ↦ elim (cases_bool x.unlinked) [
+          | inl gone ↦ inr (o.2 gone)
+          | inr still ↦ unlink_stays x y e o (k.0 still) before h
+        ]
+      ])
+      (λ x y o k p h. absurd p)
+      v v' h.onward k p h
+
+-- what a step stored stays passed
+pub passed_stays : (f s : ℕ) (d e : Did) (v v' : Plan) (z z' : Words) → IsUnderWay f s v z → HasPassed s d v z.firsts → Steps f s v z e v' z' → HasPassed s d v' z'.firsts
+passed_stays f s (First i) e v v' z z' k p h = first_stays s i v v' h.onward p
+passed_stays f s (Second j) e v v' z z' k p h = second_stays f s z z' j v v' e k p h
+passed_stays f s (Unlinked b g) e v v' z z' k p h = first_stays s b v v' h.onward p
+passed_stays f s Done e v v' z z' k p h = tt
+
+-- ---- what is passed is not stored
+
+not_first : (f s : ℕ) (v : Plan) (z : Words) (i w : ℕ) → HasPassedFirst s v i → IsNextFirst f s v z i w → ⊥
+not_first f s (Range u) z i w p n = let l = n.low in omega (arith, l, p)
+not_first f s (Link u) z i w p n = let e = n.0 in omega (arith, e, p)
+not_first f s (Unlink u) z i w p n = elim p [
+  | inl before ↦ let l = n.1.low in let b = before.0 in omega (arith, l, b)
+  | inr gone ↦ both_ways u.unlinked gone n.0
+]
+not_first f s (Flush u) z i w p n = let l = n.0.low in omega (arith, l, p)
+
+not_unlink : (f s : ℕ) (v : Plan) (z : Words) (b g w : ℕ) → HasPassedFirst s v b → IsNextUnlink f s v z b g w → ⊥
+not_unlink f s (Range u) z b g w p n = n
+not_unlink f s (Link u) z b g w p n = n
+not_unlink f s (Unlink u) z b g w p n = elim p [
+  | inl before ↦ before.1 n.1
+  | inr gone ↦ both_ways u.unlinked gone n.0
+]
+not_unlink f s (Flush u) z b g w p n = let l = n.0.low in omega (arith, l, p)
 
 -- two addresses whose words are at one place of a group are one
-one_address : (f s : ℕ) (F S : List ℕ) (g x h y j : ℕ) → IsTable f s F S → x / 2 ^ s < 2 ^ f → y / 2 ^ s < 2 ^ f
-    → entry_in (slice_index F (x / 2 ^ s)) ≡ Group g → entry_in (slice_index F (y / 2 ^ s)) ≡ Group h → j ≡ g * 2 ^ s + x % 2 ^ s → j ≡ h * 2 ^ s + y % 2 ^ s → x ≡ y
-one_address f s F S g x h y j t lx ly ex ey px py =
+one_address : (f s : ℕ) (W : Words) (g x h y j : ℕ) → IsTable f s W → x / 2 ^ s < 2 ^ f → y / 2 ^ s < 2 ^ f → IsLinkTo W.firsts (x / 2 ^ s) g → IsLinkTo W.firsts (y / 2 ^ s) h
+    → j ≡ g * 2 ^ s + x % 2 ^ s → j ≡ h * 2 ^ s + y % 2 ^ s → x ≡ y
+one_address f s W g x h y j t lx ly ex ey px py =
     let both = same_from_place g (x % 2 ^ s) h (y % 2 ^ s) (2 ^ s) (mod_below x (2 ^ s) (pow_pos s)) (mod_below y (2 ^ s) (pow_pos s)) (sym px ∙ py) in
     let same = t.linked_once (x / 2 ^ s) (y / 2 ^ s) g lx ly ex (ey ∙ ap Group (sym both.0)) in
     sym (shr_split x s) ∙ ap (λ k. k * 2 ^ s + x % 2 ^ s) same ∙ ap (λ k. y / 2 ^ s * 2 ^ s + k) both.1 ∙ shr_split y s
 
-swept_once : (f s at end next : ℕ) (F F' S' : List ℕ) (g x h y j : ℕ) → at ≤ end → end ≤ 2 ^ (f + s) → at ≤ next → next ≤ y → y < end → IsTable f s F' S'
-    → ((i : ℕ) → i < 2 ^ f → group_at F' i ≡ group_at F i) → x < at → entry_in (slice_index F (x / 2 ^ s)) ≡ Group g → j ≡ g * 2 ^ s + x % 2 ^ s
-    → entry_in (slice_index F' (y / 2 ^ s)) ≡ Group h → j ≡ h * 2 ^ s + y % 2 ^ s → ⊥
-swept_once f s at end next F F' S' g x h y j within fits on low high t same before ex px ey py =
-    let lx = shr_below x f s (omega (arith, before, within, fits)) in
-    let ly = shr_below y f s (omega (arith, high, fits)) in
-    let kept = group_from (entry_in (slice_index F' (x / 2 ^ s))) g (same (x / 2 ^ s) lx ∙ ap group_in ex) in
-    let one = one_address f s F' S' g x h y j t lx ly kept ey px py in
-    omega (arith, one, before, on, low)
+range_once : (f s : ℕ) (u : RewriteRange) (z : Words) (g x j w : ℕ) → IsTable f s z → IsRewriting f s u.from u.at u.end u.rewrite z.firsts → IsSecondBefore s u.at z.firsts j
+    → IsSecondStore s u.at u.end u.rewrite z g x j w → ⊥
+range_once f s u z g x j w t k p n =
+    let before = p.2 in
+    let low = n.low in
+    let high = n.high in
+    let within = k.within in
+    let fits = k.fits in
+    let one = one_address f s z p.0 p.1 g x j t (shr_below p.1 f s (omega (arith, before, within, fits))) (shr_below x f s (omega (arith, high, fits))) p.3 n.group p.4 n.place in
+    omega (arith, one, before, low)
 
-not_gone : (b c : Bool) → (b ≡ true → c ≡ true) → c ≡ false → b ≡ false
-not_gone true c to e = absurd (both_ways c (to refl) e)
-not_gone false c to e = refl
+not_second : (f s : ℕ) (v : Plan) (z : Words) (j w : ℕ) → IsTable f s z → IsUnderWay f s v z → HasPassedSecond s v z.firsts j → IsNextSecond s v z j w → ⊥
+not_second f s (Range u) z j w t k p n = range_once f s u z n.0 n.1 j w t k p n.2
+not_second f s (Link u) z j w t k p n = let e = n.1 in omega (arith, e, p)
+not_second f s (Unlink u) z j w t k p n = elim p [
+  | inl before ↦ range_once f s u.range z n.1.0 n.1.1 j w t (k.0 n.0).rewriting before n.1.2
+  | inr gone ↦ both_ways u.unlinked gone n.0
+]
+not_second f s (Flush u) z j w t k p n = n
 
-pub second_stored_once : SecondStoredOnce
-second_stored_once f s m v F S F' S' L j w under had passed on t has = by_kind
-    (λ x y. IsUnderWay f s x F S → HasGroups f s x F L → HasPassedSecond s x F j → HasGroups f s y F' L → IsNextSecond s y F' S' j w → ⊥)
-    (λ x y o k l p h n.
-    let low = n.2.low in
-    let high = n.2.high in
-    let e = o.end in
-    swept_once f s x.at x.end y.at F F' S' p.0 p.1 n.0 n.1 j k.within k.fits o.at low (omega (arith, high, e)) t
-    (λ i r. h i r ∙ sym (l i r)) p.2 p.3 p.4 n.2.group n.2.place)
-    (λ x y o k l p h n.
-    let a = o.1 in
-    let same : y.group ≡ x.group = ap (λ (z : FillData). z.group) o.0 in
-    let place : j ≡ x.group * 2 ^ s + y.next = n.1 ∙ ap (λ z. z * 2 ^ s + y.next) same in
-    omega (arith, a, place, p))
-    (λ x y o k l p h n.
-    let there = not_gone x.unlinked y.unlinked o.2 n.0 in
-    let u = (k.0 there).sweeping in
-    let low = n.1.2.low in
-    let high = n.1.2.high in
-    let e = o.0.end in
-    swept_once f s x.sweep.at x.sweep.end y.sweep.at F F' S' p.0 p.1 n.1.0 n.1.1 j u.within u.fits o.0.at low (omega (arith, high, e)) t
-    (λ i r. h i r ∙ not_unlinked y.unlinked i y.block (L i) n.0 ∙ sym (l i r ∙ not_unlinked x.unlinked i x.block (L i) there)) p.2 p.3 p.4 n.1.2.group n.1.2.place)
-    (λ x y o k l p h n. absurd n)
-    m v on under had passed has
-
--- ---- the store over a link
-
-last_is_no_group : (e : Entry) (g : ℕ) → IsLast e → e ≡ Group g → ⊥
-last_is_no_group e g l q = subst IsLast q l
-
--- a flush is past each place that it has passed
-flush_past : (s : ℕ) (y : Update) (z : FlushData) (i : ℕ) → HasPassedFirst s y i → IsOnward y (Flush z) → z.next ≤ i → ⊥
-flush_past s (Sweep y) z i p o l = absurd o
-flush_past s (Fill y) z i p o l = absurd o
-flush_past s (Collapse y) z i p o l = absurd o
-flush_past s (Flush y) z i p o l = omega (arith, p, o, l)
-
-pub stored_is_no_link : StoredIsNoLink
-stored_is_no_link f s u m v F S F' S' i w g w' under next to passed on = by_kind
-    (λ x z. IsUnderWay f s x F S → IsNextFirst f s x F S i w → IsOnward m z → IsNextUnlink f s z F' S' i g w' → ⊥)
-    (λ x z o k n b r. absurd r)
-    (λ x z o k n b r. absurd r)
-    (λ x z o k n b r.
-    let c = (k.0 n.0).group in
-    last_is_no_group (entry_in (slice_index F i)) c.0 n.1.last (ap (λ q. entry_in (slice_index F q)) (r.1 ∙ o.1) ∙ c.1))
-    (λ x z o k n b r. flush_past s m z i passed b r.0.low)
-    u v (onward_on.1 u m v to on) under next on
-
--- a collapse that has given its group up unlinks none
-collapse_past : (f s : ℕ) (y : Update) (z : CollapseData) (F S : List ℕ) (b : ℕ) → IsUnderWay f s y F S → group_held y F b ≡ None → IsOnward y (Collapse z)
-    → b ≡ z.block → z.unlinked ≡ false → ⊥
-collapse_past f s (Sweep y) z F S b k n o e l = absurd o
-collapse_past f s (Fill y) z F S b k n o e l = absurd o
-collapse_past f s (Collapse y) z F S b k n o e l =
-    let c = (k.0 (not_gone y.unlinked z.unlinked o.2 l)).group in
-    let some : group_at F b ≡ Some c.0 = ap (group_at F) (e ∙ o.1) ∙ ap group_in c.1 in
-    let none = sym n ∙ some in
-    cc
-collapse_past f s (Flush y) z F S b k n o e l = absurd o
-
-pub unlinked_once : UnlinkedOnce
-unlinked_once f s u m v F S F1 S1 F' S' b g w g' w' next to passed gives under on = by_kind
-    (λ x z. IsNextUnlink f s x F S b g w → IsOnward m z → IsNextUnlink f s z F' S' b g' w' → ⊥)
-    (λ x z o n a r. absurd r)
-    (λ x z o n a r. absurd r)
-    (λ x z o n a r. collapse_past f s m z F1 S1 b under gives.gone a r.1 r.0)
-    (λ x z o n a r. flush_past s m z b passed a r.0.low)
-    u v (onward_on.1 u m v to on) next on
-
--- ---- two steps
-
-module _ (f s : ℕ) (u m v n : Update) (F S F1 S1 F' S' F2 S2 : List ℕ) (L : ℕ → Option ℕ) where
-  two_steps : (d e : Did) → HasGroups f s u F L → IsStep f s u F S m F1 S1 d → IsOnward m v → HasGroups f s v F' L → IsStep f s v F' S' n F2 S2 e → IsSameWord d e → ⊥
-  two_steps (First i) (First k) h a o h' b q = first_stored_once f s m v F' S' k b.stored.0.0 (subst (HasPassedFirst s m) q a.stored.1) o b.stored.0.1
-  two_steps (First i) (Unlinked k g) h a o h' b q =
-      stored_is_no_link f s u m v F S F' S' i a.stored.0.0 g b.stored.0.0 a.under_way a.stored.0.1 a.onward a.stored.1 o
-      (subst (λ x. IsNextUnlink f s v F' S' x g b.stored.0.0) (sym q) b.stored.0.1)
-  two_steps (First i) (Second k) h a o h' b q = absurd q
-  two_steps (First i) Done h a o h' b q = absurd q
-  two_steps (Second j) (Second k) h a o h' b q =
-      second_stored_once f s m v F1 S1 F' S' L k b.stored.0.0 a.goes_on (a.groups L h) (subst (HasPassedSecond s m F1) q a.stored.1) o b.table h' b.stored.0.1
-  two_steps (Second j) (First k) h a o h' b q = absurd q
-  two_steps (Second j) (Unlinked k g) h a o h' b q = absurd q
-  two_steps (Second j) Done h a o h' b q = absurd q
-  two_steps (Unlinked i g) (First k) h a o h' b q = first_stored_once f s m v F' S' k b.stored.0.0 (subst (HasPassedFirst s m) q a.stored.1) o b.stored.0.1
-  two_steps (Unlinked i g) (Unlinked k g') h a o h' b q =
-      unlinked_once f s u m v F S F1 S1 F' S' i g a.stored.0.0 g' b.stored.0.0 a.stored.0.1 a.onward a.stored.1 a.stored.2 a.goes_on o
-      (subst (λ x. IsNextUnlink f s v F' S' x g' b.stored.0.0) (sym q) b.stored.0.1)
-  two_steps (Unlinked i g) (Second k) h a o h' b q = absurd q
-  two_steps (Unlinked i g) Done h a o h' b q = absurd q
-  two_steps Done e h a o h' b q = absurd a.stored
-
-pub no_word_twice : NoWordTwice
-no_word_twice = two_steps
+pub not_twice : (f s : ℕ) (d e : Did) (v v' : Plan) (z z' : Words) → IsTable f s z → IsUnderWay f s v z → HasPassed s d v z.firsts → Stored f s e v z v' z' → IsSameWord d e → ⊥
+not_twice f s (First i) (First k) v v' z z' t u p h q = not_first f s v z k _ (subst (HasPassedFirst s v) q p) h.0
+not_twice f s (First i) (Second k) v v' z z' t u p h q = absurd q
+not_twice f s (First i) (Unlinked k g) v v' z z' t u p h q = not_unlink f s v z k g _ (subst (HasPassedFirst s v) q p) h.0
+not_twice f s (First i) Done v v' z z' t u p h q = absurd q
+not_twice f s (Second j) (First k) v v' z z' t u p h q = absurd q
+not_twice f s (Second j) (Second k) v v' z z' t u p h q = not_second f s v z k _ t u (subst (HasPassedSecond s v z.firsts) q p) h.0
+not_twice f s (Second j) (Unlinked k g) v v' z z' t u p h q = absurd q
+not_twice f s (Second j) Done v v' z z' t u p h q = absurd q
+not_twice f s (Unlinked i g) (First k) v v' z z' t u p h q = not_first f s v z k _ (subst (HasPassedFirst s v) q p) h.0
+not_twice f s (Unlinked i g) (Second k) v v' z z' t u p h q = absurd q
+not_twice f s (Unlinked i g) (Unlinked k g') v v' z z' t u p h q = not_unlink f s v z k g' _ (subst (HasPassedFirst s v) q p) h.0
+not_twice f s (Unlinked i g) Done v v' z z' t u p h q = absurd q
+not_twice f s Done e v v' z z' t u p h q = absurd q

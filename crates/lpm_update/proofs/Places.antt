@@ -1,15 +1,15 @@
-use Rattle.std.proofs.Common.{arith, ◌≡◌, ◌≢◌, ℕ, ◌+◌, ◌-◌, ◌*◌, ◌/◌, ◌%◌, ◌^◌, ◌<◌, ◌≤◌, ◌⊎◌, inl, inr, true, false, cond, length, refl, ap, sym, ◌∙◌, subst, List}
+use Rattle.std.proofs.Common.{arith, ◌≡◌, ◌≢◌, ℕ, ◌+◌, ◌-◌, ◌*◌, ◌/◌, ◌%◌, ◌^◌, ◌<◌, ◌≤◌, ◌⊎◌, inl, inr, true, false, cond, length, suc, refl, ap, sym, ◌∙◌, subst, List}
 use Rattle.std.specs.Prelude.{slice_index, slice_set}
 use Rattle.std.proofs.lemmas.List.{get_or-set_same, get_or-set_other}
 use Rattle.std.proofs.lemmas.Nat.{pow_pos, mod_below, shr_high, shr_split, same_from_place}
 use Rattle.std.proofs.lemmas.Bool.{cases_lt, cases_eq}
 use Rattle.lpm_entry.specs.declared.Entry.{Entry}
 use Rattle.lpm_entry.specs.declared.Entry.TheVariants.{Miss, Hop, Group}
-use Rattle.lpm_entry.specs.Words.{IsEntry, word_of, entry_in}
-use Rattle.lpm_cells.specs.Table.{IsLast, IsWord, IsSecondWord, entry_at, followed}
-use Rattle.lpm_update.specs.Rewrite.{takes, changed, Stands, Skips}
-use Rattle.lpm_update.specs.Sweep.{IsWhole}
-use Rattle.lpm_update.specs.Linked.{IsTable}
+use Rattle.lpm_entry.specs.Words.{IsEntry, word_of, entry_in, IsLast, IsLastWord, IsWord}
+use Rattle.lpm_cells.specs.Table.{Words, IsWords, IsFirst, IsFirstWord, HasRoom, entry_at, followed, with_first, with_second}
+use Rattle.lpm_update.specs.Rewrite.{replaces, changed, Stands, Skips}
+use Rattle.lpm_update.specs.RewriteRange.{IsWhole}
+use Rattle.lpm_update.specs.Linked.{IsTable, IsLinkTo}
 use Rattle.std.proofs.Math.ListN.{length-set}
 use Rattle.lpm_entry.proofs.Reading.{entry_in-word_of}
 use Rattle.std.proofs.Math.Nat.{mul-le-mul_right}
@@ -35,45 +35,45 @@ followed_last s S r Miss h = refl
 followed_last s S r (Hop n d) h = refl
 followed_last s S r (Group g) h = absurd h
 
-pub first_same : (s : ℕ) (F S : List ℕ) (i w a : ℕ) → i < length F → a / 2 ^ s ≡ i → IsLast (entry_in w) → entry_at s (slice_set F i w) S a ≡ entry_in w
-first_same s F S i w a h e l =
-    ap (λ k. followed s S (a % 2 ^ s) (entry_in (slice_index (slice_set F i w) k))) e
-    ∙ ap (λ x. followed s S (a % 2 ^ s) (entry_in x)) (get_or-set_same F i w 0 h)
-    ∙ followed_last s S (a % 2 ^ s) (entry_in w) l
+pub first_same : (s : ℕ) (W : Words) (i w a : ℕ) → i < length W.firsts → a / 2 ^ s ≡ i → IsLast (entry_in w) → entry_at s (with_first W i w) a ≡ entry_in w
+first_same s W i w a h e l =
+    ap (λ k. followed s W.seconds (a % 2 ^ s) (entry_in (slice_index (slice_set W.firsts i w) k))) e
+    ∙ ap (λ x. followed s W.seconds (a % 2 ^ s) (entry_in x)) (get_or-set_same W.firsts i w 0 h)
+    ∙ followed_last s W.seconds (a % 2 ^ s) (entry_in w) l
 
-pub first_other : (s : ℕ) (F S : List ℕ) (i w a : ℕ) → a / 2 ^ s ≢ i → entry_at s (slice_set F i w) S a ≡ entry_at s F S a
-first_other s F S i w a n = ap (λ x. followed s S (a % 2 ^ s) (entry_in x)) (get_or-set_other F i (a / 2 ^ s) w 0 n)
+pub first_other : (s : ℕ) (W : Words) (i w a : ℕ) → a / 2 ^ s ≢ i → entry_at s (with_first W i w) a ≡ entry_at s W a
+first_other s W i w a n = ap (λ x. followed s W.seconds (a % 2 ^ s) (entry_in x)) (get_or-set_other W.firsts i (a / 2 ^ s) w 0 n)
 
-pub second_same : (s : ℕ) (F S : List ℕ) (g j w a : ℕ) → entry_in (slice_index F (a / 2 ^ s)) ≡ Group g → j ≡ g * 2 ^ s + a % 2 ^ s → j < length S
-    → entry_at s F (slice_set S j w) a ≡ entry_in w
-second_same s F S g j w a e p h =
-    ap (followed s (slice_set S j w) (a % 2 ^ s)) e
-    ∙ ap (λ k. entry_in (slice_index (slice_set S j w) k)) (sym p)
-    ∙ ap entry_in (get_or-set_same S j w 0 h)
+pub second_same : (s : ℕ) (W : Words) (g j w a : ℕ) → entry_in (slice_index W.firsts (a / 2 ^ s)) ≡ Group g → j ≡ g * 2 ^ s + a % 2 ^ s → j < length W.seconds
+    → entry_at s (with_second W j w) a ≡ entry_in w
+second_same s W g j w a e p h =
+    ap (followed s (slice_set W.seconds j w) (a % 2 ^ s)) e
+    ∙ ap (λ k. entry_in (slice_index (slice_set W.seconds j w) k)) (sym p)
+    ∙ ap entry_in (get_or-set_same W.seconds j w 0 h)
 
-pub in_group : (s : ℕ) (F S : List ℕ) (g a : ℕ) → entry_in (slice_index F (a / 2 ^ s)) ≡ Group g → entry_at s F S a ≡ entry_in (slice_index S (g * 2 ^ s + a % 2 ^ s))
-in_group s F S g a e = ap (followed s S (a % 2 ^ s)) e
+pub in_group : (s : ℕ) (W : Words) (g a : ℕ) → entry_in (slice_index W.firsts (a / 2 ^ s)) ≡ Group g → entry_at s W a ≡ entry_in (slice_index W.seconds (g * 2 ^ s + a % 2 ^ s))
+in_group s W g a e = ap (followed s W.seconds (a % 2 ^ s)) e
 
 followed_other : (s : ℕ) (S : List ℕ) (r j w : ℕ) (e : Entry) → ((g : ℕ) → e ≡ Group g → g * 2 ^ s + r ≡ j → ⊥) → followed s (slice_set S j w) r e ≡ followed s S r e
 followed_other s S r j w Miss n = refl
 followed_other s S r j w (Hop m d) n = refl
 followed_other s S r j w (Group g) n = ap entry_in (get_or-set_other S j (g * 2 ^ s + r) w 0 (n g refl))
 
-pub second_other : (s : ℕ) (F S : List ℕ) (j w a : ℕ) → ((g : ℕ) → entry_in (slice_index F (a / 2 ^ s)) ≡ Group g → g * 2 ^ s + a % 2 ^ s ≡ j → ⊥)
-    → entry_at s F (slice_set S j w) a ≡ entry_at s F S a
-second_other s F S j w a n = followed_other s S (a % 2 ^ s) j w (entry_in (slice_index F (a / 2 ^ s))) n
+pub second_other : (s : ℕ) (W : Words) (j w a : ℕ) → ((g : ℕ) → entry_in (slice_index W.firsts (a / 2 ^ s)) ≡ Group g → g * 2 ^ s + a % 2 ^ s ≡ j → ⊥)
+    → entry_at s (with_second W j w) a ≡ entry_at s W a
+second_other s W j w a n = followed_other s W.seconds (a % 2 ^ s) j w (entry_in (slice_index W.firsts (a / 2 ^ s))) n
 
 -- ---- an update that goes on
 
-pub changed_taken : (c : Rewrite) (e : Entry) → takes c e ≡ true → changed c e ≡ c.entry
+pub changed_taken : (c : Rewrite) (e : Entry) → replaces c e ≡ true → changed c e ≡ c.entry
 changed_taken c e h = ap (λ b. cond b c.entry e) h
 
-pub changed_kept : (c : Rewrite) (e : Entry) → takes c e ≡ false → changed c e ≡ e
+pub changed_kept : (c : Rewrite) (e : Entry) → replaces c e ≡ false → changed c e ≡ e
 changed_kept c e h = ap (λ b. cond b c.entry e) h
 
 -- over addresses that keep their entries
-pub stands_skip : (s from at next : ℕ) (c : Rewrite) (F S : List ℕ) (E : ℕ → Entry) → at ≤ next → Skips s c F S at next → Stands s from at c F S E → Stands s from next c F S E
-stands_skip s from at next c F S E l k t = record {
+pub stands_skip : (s from at next : ℕ) (c : Rewrite) (W : Words) (E : ℕ → Entry) → at ≤ next → Skips s c W at next → Stands s from at c W E → Stands s from next c W E
+stands_skip s from at next c W E l k t = record {
   before = t.before;
   done = λ a p q. elim (cases_lt a at) [
     | inl h ↦ t.done a p h
@@ -83,12 +83,12 @@ stands_skip s from at next c F S E l k t = record {
 }
 
 -- a store in the first table
-pub stands_first : (s from at : ℕ) (c : Rewrite) (F S : List ℕ) (E : ℕ → Entry) (i w : ℕ) → from ≤ at → at ≡ i * 2 ^ s → i < length F
-    → IsLast (entry_in (slice_index F i)) → takes c (entry_in (slice_index F i)) ≡ true → entry_in w ≡ c.entry → IsLast c.entry
-    → Stands s from at c F S E → Stands s from (i * 2 ^ s + 2 ^ s) c (slice_set F i w) S E
-stands_first s from at c F S E i w o e h l k r m t =
-    let other : (a : ℕ) → (a < i * 2 ^ s) ⊎ (i * 2 ^ s + 2 ^ s ≤ a) → entry_at s (slice_set F i w) S a ≡ entry_at s F S a = λ a d.
-    first_other s F S i w a (λ q. elim d [
+pub stands_first : (s from at : ℕ) (c : Rewrite) (W : Words) (E : ℕ → Entry) (i w : ℕ) → from ≤ at → at ≡ i * 2 ^ s → i < length W.firsts
+    → IsLast (entry_in (slice_index W.firsts i)) → replaces c (entry_in (slice_index W.firsts i)) ≡ true → entry_in w ≡ c.entry → IsLast c.entry
+    → Stands s from at c W E → Stands s from (i * 2 ^ s + 2 ^ s) c (with_first W i w) E
+stands_first s from at c W E i w o e h l k r m t =
+    let other : (a : ℕ) → (a < i * 2 ^ s) ⊎ (i * 2 ^ s + 2 ^ s ≤ a) → entry_at s (with_first W i w) a ≡ entry_at s W a = λ a d.
+    first_other s W i w a (λ q. elim d [
       | inl below ↦ absurd (omega (arith, below, block_low s a, ap (λ x. x * 2 ^ s) q))
       | inr above ↦ absurd (omega (arith, above, block_high s a, ap (λ x. x * 2 ^ s) q))
     ]) in
@@ -98,23 +98,23 @@ stands_first s from at c F S E i w o e h l k r m t =
         | inl below ↦ other a (inl below) ∙ t.done a p (omega (arith, below, e))
         | inr above ↦
             let here = block_of s a i above q in
-            let was : entry_at s F S a ≡ entry_in (slice_index F i) =
-            ap (λ x. followed s S (a % 2 ^ s) (entry_in (slice_index F x))) here ∙ followed_last s S (a % 2 ^ s) _ l in
-            let is : E a ≡ entry_in (slice_index F i) = sym (t.todo a (omega (arith, e, above))) ∙ was in
-            first_same s F S i w a h here (subst IsLast (sym r) m) ∙ r ∙ sym (changed_taken c (E a) (ap (takes c) is ∙ k))
+            let was : entry_at s W a ≡ entry_in (slice_index W.firsts i) =
+            ap (λ x. followed s W.seconds (a % 2 ^ s) (entry_in (slice_index W.firsts x))) here ∙ followed_last s W.seconds (a % 2 ^ s) _ l in
+            let is : E a ≡ entry_in (slice_index W.firsts i) = sym (t.todo a (omega (arith, e, above))) ∙ was in
+            first_same s W i w a h here (subst IsLast (sym r) m) ∙ r ∙ sym (changed_taken c (E a) (ap (replaces c) is ∙ k))
       ];
       todo = λ a p. other a (inr p) ∙ t.todo a (omega (arith, e, p));
     }
 
 -- a store in a group that one block has
-pub stands_second : (s from at : ℕ) (c : Rewrite) (F S : List ℕ) (E : ℕ → Entry) (g j w : ℕ) → from ≤ at
-    → entry_in (slice_index F (at / 2 ^ s)) ≡ Group g → j ≡ g * 2 ^ s + at % 2 ^ s → j < length S
-    → ((a : ℕ) → entry_in (slice_index F (a / 2 ^ s)) ≡ Group g → a / 2 ^ s ≡ at / 2 ^ s)
-    → takes c (entry_in (slice_index S j)) ≡ true → entry_in w ≡ c.entry
-    → Stands s from at c F S E → Stands s from (at + 1) c F (slice_set S j w) E
-stands_second s from at c F S E g j w o e p h once k r t =
-    let other : (a : ℕ) → a ≢ at → entry_at s F (slice_set S j w) a ≡ entry_at s F S a = λ a n.
-    second_other s F S j w a (λ f q z.
+pub stands_second : (s from at : ℕ) (c : Rewrite) (W : Words) (E : ℕ → Entry) (g j w : ℕ) → from ≤ at
+    → entry_in (slice_index W.firsts (at / 2 ^ s)) ≡ Group g → j ≡ g * 2 ^ s + at % 2 ^ s → j < length W.seconds
+    → ((a : ℕ) → entry_in (slice_index W.firsts (a / 2 ^ s)) ≡ Group g → a / 2 ^ s ≡ at / 2 ^ s)
+    → replaces c (entry_in (slice_index W.seconds j)) ≡ true → entry_in w ≡ c.entry
+    → Stands s from at c W E → Stands s from (at + 1) c (with_second W j w) E
+stands_second s from at c W E g j w o e p h once k r t =
+    let other : (a : ℕ) → a ≢ at → entry_at s (with_second W j w) a ≡ entry_at s W a = λ a n.
+    second_other s W j w a (λ f q z.
     let both = same_from_place f (a % 2 ^ s) g (at % 2 ^ s) (2 ^ s) (mod_below a (2 ^ s) (pow_pos s)) (mod_below at (2 ^ s) (pow_pos s)) (z ∙ p) in
     let same = once a (q ∙ ap Group both.0) in
     n (sym (shr_split a s) ∙ ap (λ x. x * 2 ^ s + a % 2 ^ s) same ∙ ap (λ x. at / 2 ^ s * 2 ^ s + x) both.1 ∙ shr_split at s)) in
@@ -124,16 +124,16 @@ stands_second s from at c F S E g j w o e p h once k r t =
         | inl below ↦ other a (λ z. absurd (omega (arith, z, below))) ∙ t.done a q below
         | inr above ↦
             let z : a ≡ at = omega (arith, above, l) in
-            subst (λ x. entry_at s F (slice_set S j w) x ≡ changed c (E x)) (sym z)
-            (second_same s F S g j w at e p h ∙ r
-            ∙ sym (changed_taken c (E at) (ap (takes c) (sym (t.todo at (omega arith)) ∙ in_group s F S g at e ∙ ap (λ x. entry_in (slice_index S x)) (sym p)) ∙ k)))
+            subst (λ x. entry_at s (with_second W j w) x ≡ changed c (E x)) (sym z)
+            (second_same s W g j w at e p h ∙ r
+            ∙ sym (changed_taken c (E at) (ap (replaces c) (sym (t.todo at (omega arith)) ∙ in_group s W g at e ∙ ap (λ x. entry_in (slice_index W.seconds x)) (sym p)) ∙ k)))
       ];
       todo = λ a q. other a (λ z. absurd (omega (arith, z, q))) ∙ t.todo a (omega arith);
     }
 
 -- ---- what a table keeps
 
-last_no_group : (e : Entry) (g : ℕ) → IsLast e → e ≡ Group g → ⊥
+pub last_no_group : (e : Entry) (g : ℕ) → IsLast e → e ≡ Group g → ⊥
 last_no_group e g l q = subst IsLast q l
 
 -- what holds of the new word and of each old one holds of each word
@@ -153,32 +153,90 @@ word_is width w e h p =
     let q = word_entry width w e h p in
     (subst (IsEntry width) (sym q) h, ap word_of q ∙ sym p)
 
-pub table_first : (f s : ℕ) (F S : List ℕ) (i w : ℕ) (e : Entry) → IsTable f s F S → i < 2 ^ f → IsEntry (f + s) e → IsLast e → w ≡ word_of e → IsTable f s (slice_set F i w) S
-table_first f s F S i w e t h n l p =
-    let within : i < length F = subst (λ k. i < k) (sym t.firsts_len) h in
-    let q = word_entry (f + s) w e n p in
-    let old : (k g : ℕ) → entry_in (slice_index (slice_set F i w) k) ≡ Group g → (k ≢ i) × (entry_in (slice_index F k) ≡ Group g) = λ k g z.
-    let other : k ≢ i = λ here. last_no_group e g l (sym q ∙ ap entry_in (sym (get_or-set_same F i w 0 within)) ∙ ap (λ x. entry_in (slice_index (slice_set F i w) x)) (sym here) ∙ z) in
-    (other, ap entry_in (sym (get_or-set_other F i k w 0 other)) ∙ z) in
+pub last_word : (width w : ℕ) (e : Entry) → IsEntry width e → IsLast e → w ≡ word_of e → IsLastWord width w
+last_word width w e h l p = (word_is width w e h p, subst IsLast (sym (word_entry width w e h p)) l)
+
+last_first : (s : ℕ) (S : List ℕ) (e : Entry) → IsLast e → IsFirst s S e
+last_first s S Miss h = tt
+last_first s S (Hop n d) h = tt
+last_first s S (Group g) h = absurd h
+
+-- a word at which a lookup ends may stand in the first table too
+pub first_of_last : (width s : ℕ) (S : List ℕ) (w : ℕ) → IsLastWord width w → IsFirstWord width s S w
+first_of_last width s S w h = (h.0, last_first s S (entry_in w) h.1)
+
+-- so may a group's that has room
+pub first_of_group : (width s : ℕ) (S : List ℕ) (g w : ℕ) → g < 2 ^ 24 → HasRoom s S g → w ≡ word_of (Group g) → IsFirstWord width s S w
+first_of_group width s S g w small room p =
+    (word_is width w (Group g) small p, subst (IsFirst s S) (sym (word_entry width w (Group g) small p)) room)
+
+pub first_word : (f s : ℕ) (W : Words) (i : ℕ) → IsTable f s W → i < 2 ^ f → IsFirstWord (f + s) s W.seconds (slice_index W.firsts i)
+first_word f s W i t h = t.words.first_words i (subst (λ n. i < n) (sym t.words.firsts_len) h)
+
+pub first_room : (f s : ℕ) (W : Words) (i g : ℕ) → IsTable f s W → i < 2 ^ f → IsLinkTo W.firsts i g → HasRoom s W.seconds g
+first_room f s W i g t h e = subst (IsFirst s W.seconds) e (first_word f s W i t h).1
+
+room_along : (s : ℕ) (S S' : List ℕ) (e : Entry) → length S' ≡ length S → IsFirst s S e → IsFirst s S' e
+room_along s S S' Miss q h = tt
+room_along s S S' (Hop n d) q h = tt
+room_along s S S' (Group g) q h = subst (λ n. g * 2 ^ s + 2 ^ s ≤ n) (sym q) h
+
+pub words_first : (f s : ℕ) (W : Words) (i w : ℕ) → IsWords f s W → i < length W.firsts → IsFirstWord (f + s) s W.seconds w → IsWords f s (with_first W i w)
+words_first f s W i w t h n = record {
+  firsts_len = length-set W.firsts i w ∙ t.firsts_len;
+  first_words = λ k m. each_set (λ k x. IsFirstWord (f + s) s W.seconds x) W.firsts i w h n t.first_words k (subst (λ x. k < x) (length-set W.firsts i w) m);
+  second_words = t.second_words;
+}
+
+pub words_second : (f s : ℕ) (W : Words) (j w : ℕ) → IsWords f s W → j < length W.seconds → IsLastWord (f + s) w → IsWords f s (with_second W j w)
+words_second f s W j w t h n = record {
+  firsts_len = t.firsts_len;
+  first_words = λ k m. let old = t.first_words k m in (old.0, room_along s W.seconds (slice_set W.seconds j w) (entry_in (slice_index W.firsts k)) (length-set W.seconds j w) old.1);
+  second_words = λ k m. each_set (λ k x. IsLastWord (f + s) x) W.seconds j w h n t.second_words k (subst (λ x. k < x) (length-set W.seconds j w) m);
+}
+
+pub table_first : (f s : ℕ) (W : Words) (i w : ℕ) → IsTable f s W → i < 2 ^ f → IsLastWord (f + s) w → IsTable f s (with_first W i w)
+table_first f s W i w t h n =
+    let within : i < length W.firsts = subst (λ k. i < k) (sym t.words.firsts_len) h in
+    let old : (k g : ℕ) → IsLinkTo (slice_set W.firsts i w) k g → IsLinkTo W.firsts k g = λ k g z.
+    let other : k ≢ i = λ here. last_no_group (entry_in w) g n.1 (ap entry_in (sym (get_or-set_same W.firsts i w 0 within)) ∙ ap (λ x. entry_in (slice_index (slice_set W.firsts i w) x)) (sym here) ∙ z) in
+    ap entry_in (sym (get_or-set_other W.firsts i k w 0 other)) ∙ z in
     record {
-      firsts_len = length-set F i w ∙ t.firsts_len;
-      first_words = λ k m. each_set (λ k x. IsWord (f + s) x) F i w within (word_is (f + s) w e n p) (λ k m. t.first_words k (subst (λ x. k < x) t.firsts_len m)) k (subst (λ x. k < x) (sym t.firsts_len) m);
-      room = λ k g m z. t.room k g m (old k g z).1;
-      second_words = t.second_words;
-      linked_once = λ k j g m n y z. t.linked_once k j g m n (old k g y).1 (old j g z).1;
+      words = words_first f s W i w t.words within (first_of_last (f + s) s W.seconds w n);
+      linked_once = λ k j g m n y z. t.linked_once k j g m n (old k g y) (old j g z);
     }
 
-pub table_second : (f s : ℕ) (F S : List ℕ) (j w : ℕ) (e : Entry) → IsTable f s F S → j < length S → IsEntry (f + s) e → IsLast e → w ≡ word_of e → IsTable f s F (slice_set S j w)
-table_second f s F S j w e t h n l p =
-    record {
-      firsts_len = t.firsts_len;
-      first_words = t.first_words;
-      room = λ k g m z. subst (λ x. g * 2 ^ s + 2 ^ s ≤ x) (sym (length-set S j w)) (t.room k g m z);
-      second_words = λ k m. each_set (λ k x. IsSecondWord (f + s) x) S j w h (word_is (f + s) w e n p, subst IsLast (sym (word_entry (f + s) w e n p)) l) t.second_words k (subst (λ x. k < x) (length-set S j w) m);
-      linked_once = t.linked_once;
-    }
+pub table_second : (f s : ℕ) (W : Words) (j w : ℕ) → IsTable f s W → j < length W.seconds → IsLastWord (f + s) w → IsTable f s (with_second W j w)
+table_second f s W j w t h n = record { words = words_second f s W j w t.words h n; linked_once = t.linked_once }
 
--- ---- what an update keeps
+-- ---- the word that was stored
+
+pub stored_first : (P : ℕ → Type 0) (W : Words) (i w : ℕ) → i < length W.firsts → P w
+    → P (slice_index (slice_set W.firsts i w) i) × (with_first W i w ≡ with_first W i (slice_index (slice_set W.firsts i w) i))
+stored_first P W i w h p = let q = get_or-set_same W.firsts i w 0 h in (subst P (sym q) p, ap (with_first W i) (sym q))
+
+pub stored_second : (P : ℕ → Type 0) (W : Words) (j w : ℕ) → j < length W.seconds → P w
+    → P (slice_index (slice_set W.seconds j w) j) × (with_second W j w ≡ with_second W j (slice_index (slice_set W.seconds j w) j))
+stored_second P W j w h p = let q = get_or-set_same W.seconds j w 0 h in (subst P (sym q) p, ap (with_second W j) (sym q))
+
+pub index_first : (W W' : Words) (i w : ℕ) → i < length W.firsts → W' ≡ with_first W i w → slice_index W'.firsts i ≡ w
+index_first W W' i w h e = ap (λ (x : Words). slice_index x.firsts i) e ∙ get_or-set_same W.firsts i w 0 h
+
+-- a store after loads that left the cells as they were is one of the old cells
+pub sets_first : {A : Type 0} (words : A → Words) (P : A → ℕ → ℕ → A → Type 0) (old mid new : A) (i w : ℕ) → mid ≡ old → i < length (words old).firsts
+    → words new ≡ with_first (words mid) i w → P mid i w new → P old i (slice_index (words new).firsts i) new
+sets_first words P old mid new i w same h e p =
+    let q = index_first (words old) (words new) i w h (e ∙ ap (λ x. with_first (words x) i w) same) in
+    subst (λ x. P x i (slice_index (words new).firsts i) new) same (subst (λ x. P mid i x new) (sym q) p)
+
+pub sets_second : {A : Type 0} (words : A → Words) (P : A → ℕ → ℕ → A → Type 0) (old mid new : A) (j w : ℕ) → mid ≡ old → j < length (words old).seconds
+    → words new ≡ with_second (words mid) j w → P mid j w new → P old j (slice_index (words new).seconds j) new
+sets_second words P old mid new j w same h e p =
+    let q : slice_index (words new).seconds j ≡ w =
+    ap (λ (x : Words). slice_index x.seconds j) (e ∙ ap (λ x. with_second (words x) j w) same) ∙ get_or-set_same (words old).seconds j w 0 h in
+    subst (λ x. P x j (slice_index (words new).seconds j) new) same (subst (λ x. P mid j x new) (sym q) p)
+
+-- ---- what a change keeps
 
 -- the word at i is no group's before and after
 pub whole_first : (s : ℕ) (F : List ℕ) (i w x : ℕ) → IsLast (entry_in (slice_index F i)) → IsWhole s F x → IsWhole s (slice_set F i w) x
@@ -198,17 +256,23 @@ whole_block s F i k l h =
       | inr below ↦ let m = mul-le-mul_right (2 ^ s) below in omega (arith, m)
     ]
 
--- one place further in a group
-pub whole_next : (s : ℕ) (F : List ℕ) (g at : ℕ) → entry_in (slice_index F (at / 2 ^ s)) ≡ Group g → IsWhole s F at → IsWhole s F (at + 1)
-whole_next s F g at e h k l m =
-    elim (cases_lt (k * 2 ^ s) at) [
-      | inl below ↦ let z = h k l below in omega (arith, z)
-      | inr above ↦
-          let z : at / 2 ^ s ≡ k = block_of s at k (omega (arith, m, above)) (let p = pow_pos s in omega (arith, m, p)) in
-          absurd (last_no_group (entry_in (slice_index F k)) g l (ap (λ x. entry_in (slice_index F x)) (sym z) ∙ e))
-    ]
+suc_mul : (m k : ℕ) → suc m * k ≡ m * k + k
+suc_mul m k = omega arith
 
--- in a block with no group, an update stands at the block's beginning
+-- a bound inside a block that has a group
+pub whole_inside : (s : ℕ) (F : List ℕ) (b g x : ℕ) → IsLinkTo F b g → b * 2 ^ s ≤ x → x ≤ b * 2 ^ s + 2 ^ s → IsWhole s F x
+whole_inside s F b g x e low high i l h = elim (cases_eq i b) [
+  | inl q ↦ absurd (last_no_group (entry_in (slice_index F i)) g l (ap (λ k. entry_in (slice_index F k)) q ∙ e))
+  | inr n ↦ elim (cases_lt i b) [
+    | inl below ↦ let z = mul-le-mul_right (2 ^ s) below in omega (arith, z, low, suc_mul i (2 ^ s))
+    | inr above ↦
+        let k : suc b ≤ i = omega (arith, n, above) in
+        let z = mul-le-mul_right (2 ^ s) k in
+        absurd (omega (arith, z, h, high, suc_mul b (2 ^ s)))
+  ]
+]
+
+-- in a block with no group, a change stands at the block's beginning
 pub at_block : (s : ℕ) (F : List ℕ) (at : ℕ) → IsLast (entry_in (slice_index F (at / 2 ^ s))) → IsWhole s F at → at ≡ at / 2 ^ s * 2 ^ s
 at_block s F at l h =
     elim (cases_lt (at / 2 ^ s * 2 ^ s) at) [

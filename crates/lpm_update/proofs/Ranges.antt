@@ -1,16 +1,13 @@
 use Rattle.std.proofs.Common.{arith, ◌≡◌, ℕ, suc, ◌+◌, ◌-◌, ◌*◌, ◌/◌, ◌^◌, ◌<◌, ◌≤◌, inl, inr, ap, sym, ◌∙◌, subst, List}
-use Rattle.std.specs.Prelude.{slice_index}
-use Rattle.std.proofs.lemmas.Bool.{cases_lt, cases_eq}
+use Rattle.std.proofs.lemmas.Bool.{cases_lt}
 use Rattle.std.proofs.lemmas.Nat.{pow-add}
 use Rattle.std.proofs.Math.Nat.{mul-le-mul_right, mul_assoc}
-use Rattle.lpm_entry.specs.declared.Entry.{Entry}
-use Rattle.lpm_entry.specs.declared.Entry.TheVariants.{Group}
-use Rattle.lpm_entry.specs.Words.{IsEntry, entry_in}
-use Rattle.lpm_cells.specs.Table.{IsLast}
-use Rattle.lpm_update.specs.Sweep.{IsWhole, IsSweeping}
+use Rattle.lpm_entry.specs.Words.{IsEntry, IsLast}
+use Rattle.lpm_update.specs.Linked.{IsLinkTo}
+use Rattle.lpm_update.specs.RewriteRange.{IsWhole, IsRewriting}
 use Rattle.lpm_update.specs.declared.rewrite.Rewrite.{Rewrite}
 use Rattle.lpm_bits.specs.Network.{Network, IsNetwork}
-use Rattle.lpm_update.proofs.Places.{block_low, block_high}
+use Rattle.lpm_update.proofs.Places.{block_low, block_high, whole_inside}
 
 -- a product of two is above another of the same factor
 step_mul : (m n k : ℕ) → m * k < n * k → suc m * k ≤ n * k
@@ -25,21 +22,6 @@ suc_mul m k = omega arith
 whole_multiple : (s : ℕ) (F : List ℕ) (m : ℕ) → IsWhole s F (m * 2 ^ s)
 whole_multiple s F m i l h = let z = step_mul i m (2 ^ s) h in omega (arith, z, suc_mul i (2 ^ s))
 
-no_group : (e : Entry) (g : ℕ) → IsLast e → e ≡ Group g → ⊥
-no_group e g l q = subst IsLast q l
-
-whole_inside : (s : ℕ) (F : List ℕ) (b g x : ℕ) → entry_in (slice_index F b) ≡ Group g → b * 2 ^ s ≤ x → x ≤ b * 2 ^ s + 2 ^ s → IsWhole s F x
-whole_inside s F b g x e low high i l h = elim (cases_eq i b) [
-  | inl q ↦ absurd (no_group (entry_in (slice_index F i)) g l (ap (λ k. entry_in (slice_index F k)) q ∙ e))
-  | inr n ↦ elim (cases_lt i b) [
-    | inl below ↦ let z = mul-le-mul_right (2 ^ s) below in omega (arith, z, low, suc_mul i (2 ^ s))
-    | inr above ↦
-        let k : suc b ≤ i = omega (arith, n, above) in
-        let z = mul-le-mul_right (2 ^ s) k in
-        absurd (omega (arith, z, h, high, suc_mul b (2 ^ s)))
-  ]
-]
-
 -- the range of a prefix ends inside the addresses
 range_fits : (width len b : ℕ) → len ≤ width → b < 2 ^ width → b / 2 ^ (width - len) * 2 ^ (width - len) ≡ b → b + 2 ^ (width - len) ≤ 2 ^ width
 range_fits width len b h l e =
@@ -49,7 +31,7 @@ range_fits width len b h l e =
     omega (arith, z, split, e, suc_mul (b / 2 ^ k) (2 ^ k))
 
 pub short_range : (f s : ℕ) (p : Network) (c : Rewrite) (F : List ℕ) → IsNetwork (f + s) p → p.len ≤ f → IsEntry (f + s) c.entry → IsLast c.entry
-    → IsSweeping f s p.bits p.bits (p.bits + 2 ^ (f + s - p.len)) c F
+    → IsRewriting f s p.bits p.bits (p.bits + 2 ^ (f + s - p.len)) c F
 short_range f s p c F n h e l =
     let k = f + s - p.len in
     let m = p.bits / 2 ^ k in
@@ -82,8 +64,8 @@ deep_high f s p n h =
     omega (arith, z, top, net, suc_mul m (2 ^ k), suc_mul b (2 ^ s))
 
 pub deep_range : (f s : ℕ) (p : Network) (c : Rewrite) (F : List ℕ) (g : ℕ) → IsNetwork (f + s) p → f < p.len → IsEntry (f + s) c.entry → IsLast c.entry
-    → entry_in (slice_index F (p.bits / 2 ^ s)) ≡ Group g
-    → IsSweeping f s p.bits p.bits (p.bits + 2 ^ (f + s - p.len)) c F
+    → IsLinkTo F (p.bits / 2 ^ s) g
+    → IsRewriting f s p.bits p.bits (p.bits + 2 ^ (f + s - p.len)) c F
 deep_range f s p c F g n h e l q =
     let k = f + s - p.len in
     let b = p.bits / 2 ^ s in

@@ -1,4 +1,4 @@
-use Rattle.std.proofs.Common.{arith, ◌≡◌, ℕ, ◌+◌, ◌-◌, ◌*◌, ◌/◌, ◌^◌, ◌<◌, ◌≤◌, inl, inr, refl, ap, sym, ◌∙◌, subst, List, Bool, true, false, cond}
+use Rattle.std.proofs.Common.{arith, ◌≡◌, ℕ, ◌+◌, ◌-◌, ◌*◌, ◌/◌, ◌^◌, ◌<◌, ◌≤◌, inl, inr, refl, ap, sym, ◌∙◌, subst, Bool, true, false, cond}
 use Rattle.std.specs.Prelude.{IsSome, nat_le}
 use Rattle.std.specs.FinMap.{get, insert}
 use Rattle.std.proofs.lemmas.Bool.{cases_lt, leb-true, leb-false}
@@ -7,7 +7,7 @@ use Rattle.lpm_rules.specs.RuleMap.{RuleMap}
 use Rattle.lpm_rules.proofs.Changes.{insert_cases, insert_here}
 use Rattle.lpm_entry.specs.declared.Entry.{Entry}
 use Rattle.lpm_entry.specs.declared.Entry.TheVariants.{Miss, Hop, Group}
-use Rattle.lpm_cells.specs.Table.{entry_at}
+use Rattle.lpm_cells.specs.Table.{entry_at, Words}
 use Rattle.lpm_update.specs.Rewrite.{changed, Stands}
 use Rattle.lpm_update.specs.declared.rewrite.Kind.TheVariants.{Add}
 use Rattle.lpm_update.specs.Best.{IsBest, AllBest}
@@ -84,10 +84,10 @@ range_covers width p a n c =
     (omega (arith, same, low), omega (arith, same, high))
 
 -- midway, each address has the entry of its longest rule before or after, and those behind have the new one
-pub add_midway : (width s at : ℕ) (R : RuleMap) (p : Network) (h : ℕ) (F S : List ℕ) (E : ℕ → Entry) → IsNetwork width p → AllBest width R E
-    → Stands s p.bits at (record { kind = Add; depth = p.len; entry = Hop h p.len }) F S E → at ≤ p.bits + 2 ^ (width - p.len)
-    → (a : ℕ) → a < 2 ^ width → (a < at → IsBest width (insert R p h) a (entry_at s F S a)) × (at ≤ a → IsBest width R a (entry_at s F S a))
-add_midway width s at R p h F S E n best t within a low = (
+pub add_midway : (width s at : ℕ) (R : RuleMap) (p : Network) (h : ℕ) (W : Words) (E : ℕ → Entry) → IsNetwork width p → AllBest width R E
+    → Stands s p.bits at (record { kind = Add; depth = p.len; entry = Hop h p.len }) W E → at ≤ p.bits + 2 ^ (width - p.len)
+    → (a : ℕ) → a < 2 ^ width → (a < at → IsBest width (insert R p h) a (entry_at s W a)) × (at ≤ a → IsBest width R a (entry_at s W a))
+add_midway width s at R p h W E n best t within a low = (
   (λ behind. elim (cases_lt a p.bits) [
     | inl before ↦ subst (IsBest width (insert R p h) a) (sym (t.before a before))
         (add_other width R p h a (E a) (λ c. let z = (range_covers width p a n c).0 in absurd (omega (arith, z, before))) (best a low))
@@ -98,11 +98,11 @@ add_midway width s at R p h F S E n best t within a low = (
 )
 
 -- at its end, each address has the entry of its longest rule in the list with the new rule
-pub add_done : (width s : ℕ) (R : RuleMap) (p : Network) (h : ℕ) (F S : List ℕ) (E : ℕ → Entry) → IsNetwork width p → AllBest width R E
-    → Stands s p.bits (p.bits + 2 ^ (width - p.len)) (record { kind = Add; depth = p.len; entry = Hop h p.len }) F S E
-    → AllBest width (insert R p h) (entry_at s F S)
-add_done width s R p h F S E n best t a low = elim (cases_lt a (p.bits + 2 ^ (width - p.len))) [
-  | inl behind ↦ (add_midway width s _ R p h F S E n best t (omega arith) a low).0 behind
+pub add_done : (width s : ℕ) (R : RuleMap) (p : Network) (h : ℕ) (W : Words) (E : ℕ → Entry) → IsNetwork width p → AllBest width R E
+    → Stands s p.bits (p.bits + 2 ^ (width - p.len)) (record { kind = Add; depth = p.len; entry = Hop h p.len }) W E
+    → AllBest width (insert R p h) (entry_at s W)
+add_done width s R p h W E n best t a low = elim (cases_lt a (p.bits + 2 ^ (width - p.len))) [
+  | inl behind ↦ (add_midway width s _ R p h W E n best t (omega arith) a low).0 behind
   | inr ahead ↦ subst (IsBest width (insert R p h) a) (sym (t.todo a ahead))
       (add_other width R p h a (E a) (λ c. let z = (range_covers width p a n c).1 in absurd (omega (arith, z, ahead))) (best a low))
 ]

@@ -1,23 +1,26 @@
-use Rattle.std.proofs.Common.{arith, ◌≡◌, ℕ, ◌+◌, ◌*◌, ◌/◌, ◌%◌, ◌^◌, ◌<◌, ◌≤◌, inl, inr, true, false, length, refl, ap, sym, ◌∙◌, subst, List}
-use Rattle.std.specs.Prelude.{slice_index, slice_set}
+-- A look at the next place of a range.
+use Rattle.std.proofs.Common.{arith, ◌≡◌, ℕ, ◌+◌, ◌*◌, ◌/◌, ◌%◌, ◌^◌, ◌<◌, ◌≤◌, true, false, length, refl, ap, sym, ◌∙◌, subst, List}
+use Rattle.std.specs.Prelude.{slice_index}
 use Rattle.std.proofs.lemmas.Nat.{pow_pos, shl_whole, mod_below}
+use Rattle.std.proofs.lemmas.List.{get_or_past}
+use Rattle.lpm_bits.specs.Widths.{IsShape}
 use Rattle.lpm_entry.specs.declared.Entry.{Entry}
 use Rattle.lpm_entry.specs.declared.Entry.TheVariants.{Miss, Hop, Group}
-use Rattle.lpm_entry.specs.Words.{IsEntry, word_of, entry_in}
-use Rattle.lpm_cells.specs.Table.{IsLast, entry_at, followed}
-use Rattle.lpm_update.specs.Rewrite.{takes, Stands, Skips}
-use Rattle.lpm_update.specs.Sweep.{IsWhole, IsSweeping, NextFirst}
-use Rattle.lpm_update.specs.Linked.{IsTable}
+use Rattle.lpm_entry.specs.Words.{IsEntry, IsLast, word_of, entry_in}
+use Rattle.lpm_entry.proofs.Reading.{entry_in_zero, word_below}
+use Rattle.lpm_cells.specs.Table.{Words, entry_at, followed, with_first, with_second}
+use Rattle.lpm_update.specs.declared.Did.TheVariants.{First, Second, Done}
 use Rattle.lpm_update.specs.declared.rewrite.Rewrite.{Rewrite}
-use Rattle.lpm_update.proofs.Places.{block_of, followed_last, in_group, stands_skip, stands_first, stands_second, table_first, table_second, whole_first, whole_block, whole_next, at_block, word_entry}
-use Rattle.lpm_bits.specs.Widths.{IsShape}
-use Rattle.std.proofs.lemmas.Nat.{shr_below}
-use Rattle.std.proofs.lemmas.List.{get_or_past}
-use Rattle.std.proofs.lemmas.Bool.{cases_lt}
-use Rattle.lpm_entry.proofs.Reading.{entry_in_zero}
+use Rattle.lpm_update.specs.declared.rewrite_range.RewriteRange.{RewriteRange}
+use Rattle.lpm_update.specs.Rewrite.{replaces}
+use Rattle.lpm_update.specs.RewriteRange.{IsRewriting, IsFirstStore, IsSecondStore, Visits}
+use Rattle.lpm_update.specs.Linked.{IsTable, IsLinkTo}
+use Rattle.lpm_update.proofs.Places.{block_low, block_high, block_of, followed_last, in_group, whole_inside, whole_block, at_block, first_word, first_room, stored_first, stored_second}
+
+-- ---- words and places of a table
 
 -- past the end a list of words has misses
-past_group : (F : List ℕ) (i g : ℕ) → length F ≤ i → entry_in (slice_index F i) ≡ Group g → ⊥
+pub past_group : (F : List ℕ) (i g : ℕ) → length F ≤ i → IsLinkTo F i g → ⊥
 past_group F i g h e =
     let z : Miss ≡ Group g = sym entry_in_zero ∙ ap entry_in (sym (get_or_past F i 0 h)) ∙ e in
     cc
@@ -27,140 +30,139 @@ not_group_last Miss h = tt
 not_group_last (Hop n d) h = tt
 not_group_last (Group g) h = h g refl
 
-group_small : (f s : ℕ) (F S : List ℕ) (i g : ℕ) → IsTable f s F S → i < 2 ^ f → entry_in (slice_index F i) ≡ Group g → g < 2 ^ 24
-group_small f s F S i g t h e = subst (IsEntry (f + s)) e (t.first_words i h).0
+pub first_below : (f s : ℕ) (W : Words) (i : ℕ) → IsShape f s → IsTable f s W → i < 2 ^ f → slice_index W.firsts i < 2 ^ 32
+first_below f s W i p t h = word_below (f + s) (slice_index W.firsts i) p.2 (first_word f s W i t h).0
 
-pub base_of : (f s : ℕ) (F S : List ℕ) (i g : ℕ) → IsShape f s → IsTable f s F S → i < 2 ^ f → entry_in (slice_index F i) ≡ Group g → g * 2 ^ s % 18446744073709551616 ≡ g * 2 ^ s
-base_of f s F S i g p t h e = shl_whole g 24 s 64 (group_small f s F S i g t h e) (let q = p.2 in omega arith)
+pub second_below : (f s : ℕ) (W : Words) (j : ℕ) → IsShape f s → IsTable f s W → j < length W.seconds → slice_index W.seconds j < 2 ^ 32
+second_below f s W j p t h = word_below (f + s) (slice_index W.seconds j) p.2 (t.words.second_words j h).0
 
--- the bounds after a visit of the word of address `at` in a group
-pub on_second : (f s from at end : ℕ) (c : Rewrite) (F : List ℕ) (g : ℕ) → at < end → entry_in (slice_index F (at / 2 ^ s)) ≡ Group g → IsSweeping f s from at end c F → IsSweeping f s from (at + 1) end c F
-on_second f s from at end c F g m e u = record {
-  started = let h = u.started in omega (arith, h);
-  within = omega (arith, m);
+-- an entry of these addresses is one of 32-bit addresses
+pub entry_32 : (width : ℕ) (e : Entry) → width ≤ 32 → IsEntry width e → IsEntry 32 e
+entry_32 width Miss l h = tt
+entry_32 width (Hop n d) l h = (h.0, let k = h.1 in omega (arith, k, l))
+entry_32 width (Group g) l h = h
+
+group_small : (f s : ℕ) (W : Words) (i g : ℕ) → IsTable f s W → i < 2 ^ f → IsLinkTo W.firsts i g → g < 2 ^ 24
+group_small f s W i g t h e = subst (IsEntry (f + s)) e (first_word f s W i t h).0.0
+
+pub base_of : (f s : ℕ) (W : Words) (i g : ℕ) → IsShape f s → IsTable f s W → i < 2 ^ f → IsLinkTo W.firsts i g → g * 2 ^ s % 18446744073709551616 ≡ g * 2 ^ s
+base_of f s W i g p t h e = shl_whole g 24 s 64 (group_small f s W i g t h e) (let q = p.2 in omega arith)
+
+-- the place of an address in the group of its block is one of the second table
+pub place_within : (f s : ℕ) (W : Words) (g x : ℕ) → IsTable f s W → x / 2 ^ s < 2 ^ f → IsLinkTo W.firsts (x / 2 ^ s) g → g * 2 ^ s + x % 2 ^ s < length W.seconds
+place_within f s W g x t h e =
+    let r = mod_below x (2 ^ s) (pow_pos s) in
+    let room : g * 2 ^ s + 2 ^ s ≤ length W.seconds = first_room f s W (x / 2 ^ s) g t h e in
+    omega (arith, r, room)
+
+-- ---- the bounds of the range
+
+-- past block i, which has no group
+pub past_first : (f s from at end : ℕ) (c : Rewrite) (F : List ℕ) (i : ℕ) → at ≤ i * 2 ^ s → i * 2 ^ s < end → IsLast (entry_in (slice_index F i)) → IsRewriting f s from at end c F
+    → IsRewriting f s from (i * 2 ^ s + 2 ^ s) end c F
+past_first f s from at end c F i low high l u = record {
+  started = let h = u.started in omega (arith, h, low);
+  within = u.whole_end i l high;
   fits = u.fits;
   entry = u.entry;
   last = u.last;
-  whole_at = whole_next s F g at e u.whole_at;
+  whole_at = whole_block s F i;
   whole_end = u.whole_end;
 }
 
--- the bounds after a visit of the first word of a block with no group
-pub on_first : (f s from at end : ℕ) (c : Rewrite) (F : List ℕ) → at < end → IsLast (entry_in (slice_index F (at / 2 ^ s))) → IsSweeping f s from at end c F → IsSweeping f s from (at + 2 ^ s) end c F
-on_first f s from at end c F m l u =
-    let b = at_block s F at l u.whole_at in
-    record {
-      started = let h = u.started in omega (arith, h);
-      within = let z = u.whole_end (at / 2 ^ s) l (omega (arith, b, m)) in omega (arith, z, b);
-      fits = u.fits;
-      entry = u.entry;
-      last = u.last;
-      whole_at = subst (IsWhole s F) (ap (λ x. x + 2 ^ s) (sym b)) (whole_block s F (at / 2 ^ s));
-      whole_end = u.whole_end;
-    }
-
-pub on_first_set : (f s from at end : ℕ) (c : Rewrite) (F : List ℕ) (i w : ℕ) → IsLast (entry_in (slice_index F i)) → IsSweeping f s from at end c F → IsSweeping f s from at end c (slice_set F i w)
-on_first_set f s from at end c F i w l u = record {
-  started = u.started;
-  within = u.within;
+-- past address x, whose block has a group
+pub past_second : (f s from at end : ℕ) (c : Rewrite) (F : List ℕ) (g x : ℕ) → at ≤ x → x < end → IsLinkTo F (x / 2 ^ s) g → IsRewriting f s from at end c F
+    → IsRewriting f s from (x + 1) end c F
+past_second f s from at end c F g x low high e u = record {
+  started = let h = u.started in omega (arith, h, low);
+  within = omega (arith, high);
   fits = u.fits;
   entry = u.entry;
   last = u.last;
-  whole_at = whole_first s F i w at l u.whole_at;
-  whole_end = whole_first s F i w end l u.whole_end;
+  whole_at = whole_inside s F (x / 2 ^ s) g (x + 1) e (omega (arith, block_low s x)) (omega (arith, block_high s x));
+  whole_end = u.whole_end;
 }
 
--- nothing of a block with no group is changed
-pub skips_first : (s at : ℕ) (c : Rewrite) (F S : List ℕ) → IsLast (entry_in (slice_index F (at / 2 ^ s))) → at ≡ at / 2 ^ s * 2 ^ s
-    → takes c (entry_in (slice_index F (at / 2 ^ s))) ≡ false → Skips s c F S at (at + 2 ^ s)
-skips_first s at c F S l b k = λ a low high.
-    let here = block_of s a (at / 2 ^ s) (omega (arith, b, low)) (omega (arith, b, high)) in
-    ap (takes c) (ap (λ x. followed s S (a % 2 ^ s) (entry_in (slice_index F x))) here ∙ followed_last s S (a % 2 ^ s) _ l) ∙ k
+-- ---- the next place
 
-pub skips_second : (s at g : ℕ) (c : Rewrite) (F S : List ℕ) → entry_in (slice_index F (at / 2 ^ s)) ≡ Group g
-    → takes c (entry_in (slice_index S (g * 2 ^ s + at % 2 ^ s))) ≡ false → Skips s c F S at (at + 1)
-skips_second s at g c F S e k = λ a low high.
-    let z : a ≡ at = omega (arith, low, high) in
-    ap (λ x. takes c (entry_at s F S x)) z ∙ ap (takes c) (in_group s F S g at e) ∙ k
+module _ (f s : ℕ) (u : RewriteRange) (W : Words) (i : ℕ) (more : u.at < u.end) (k : IsRewriting f s u.from u.at u.end u.rewrite W.firsts) (p : i ≡ u.at / 2 ^ s)
+    (l : IsLast (entry_in (slice_index W.firsts i))) where
+  block_start : u.at ≡ i * 2 ^ s
+  block_start = at_block s W.firsts u.at (subst (λ x. IsLast (entry_in (slice_index W.firsts x))) p l) k.whole_at ∙ ap (λ x. x * 2 ^ s) (sym p)
 
-pub block_start : (s : ℕ) (F : List ℕ) (at i : ℕ) → i ≡ at / 2 ^ s → IsLast (entry_in (slice_index F i)) → IsWhole s F at → at ≡ i * 2 ^ s
-block_start s F at i p l h = at_block s F at (subst (λ x. IsLast (entry_in (slice_index F x))) p l) h ∙ ap (λ x. x * 2 ^ s) (sym p)
-
-pub next_first : (f s from at end : ℕ) (c : Rewrite) (F S : List ℕ) (i w : ℕ) → at < end → IsSweeping f s from at end c F → i ≡ at / 2 ^ s → IsLast (entry_in (slice_index F i))
-    → takes c (entry_in (slice_index F i)) ≡ true → w ≡ word_of c.entry → NextFirst s at end c F S i w
-next_first f s from at end c F S i w m u p l k q =
-    let l2 : IsLast (entry_in (slice_index F (at / 2 ^ s))) = subst (λ x. IsLast (entry_in (slice_index F x))) p l in
-    let b : at ≡ i * 2 ^ s = at_block s F at l2 u.whole_at ∙ ap (λ x. x * 2 ^ s) (sym p) in
-    record {
-      low = omega (arith, b);
-      high = omega (arith, b, m);
-      taken = k;
-      last = l;
-      word = q;
-      skipped = λ a low high. absurd (omega (arith, b, low, high));
-    }
-
--- the state after a store in the first table
-pub record AfterFirst (f s from at end n : ℕ) (c : Rewrite) (F S F' S' : List ℕ) : Type 0 where
-  pub more : at < n
-  pub table : IsTable f s F' S'
-  pub sweeping : IsSweeping f s from n end c F'
-  pub stands : (E : ℕ → Entry) → Stands s from at c F S E → Stands s from n c F' S' E
-
-pub after_first : (f s from at end n : ℕ) (c : Rewrite) (F S F' S' : List ℕ) (i w : ℕ) → IsTable f s F S → IsSweeping f s from at end c F → at < end → i ≡ at / 2 ^ s → i < 2 ^ f
-    → IsLast (entry_in (slice_index F i)) → takes c (entry_in (slice_index F i)) ≡ true → w ≡ word_of c.entry
-    → F' ≡ slice_set F i w → S' ≡ S → n ≡ at + 2 ^ s
-    → AfterFirst f s from at end n c F S F' S'
-after_first f s from at end n c F S F' S' i w t u m p h l k q eF eS en =
-    let l2 : IsLast (entry_in (slice_index F (at / 2 ^ s))) = subst (λ x. IsLast (entry_in (slice_index F x))) p l in
-    let b : at ≡ i * 2 ^ s = at_block s F at l2 u.whole_at ∙ ap (λ x. x * 2 ^ s) (sym p) in
-    let e2 : n ≡ i * 2 ^ s + 2 ^ s = en ∙ ap (λ x. x + 2 ^ s) b in
-    record {
-      more = let z = pow_pos s in omega (arith, z, en);
-      table = rw (eF, eS) (table_first f s F S i w c.entry t h u.entry u.last q);
-      sweeping = rw (eF, en) (on_first_set f s from (at + 2 ^ s) end c F i w l (on_first f s from at end c F m l2 u));
-      stands = λ E x. rw (eF, eS, e2) (stands_first s from at c F S E i w u.started b (subst (λ z. i < z) (sym t.firsts_len) h) l k (word_entry (f + s) w c.entry u.entry q) u.last x);
-    }
-
--- the state after a look at a first word that stays
-pub after_kept : (f s from at end n : ℕ) (c : Rewrite) (F S F' S' : List ℕ) (i : ℕ) → IsTable f s F S → IsSweeping f s from at end c F → at < end → i ≡ at / 2 ^ s
-    → IsLast (entry_in (slice_index F i)) → takes c (entry_in (slice_index F i)) ≡ false
-    → F' ≡ F → S' ≡ S → n ≡ at + 2 ^ s
-    → AfterFirst f s from at end n c F S F' S' × Skips s c F S at n
-after_kept f s from at end n c F S F' S' i t u m p l k eF eS en =
-    let l2 : IsLast (entry_in (slice_index F (at / 2 ^ s))) = subst (λ x. IsLast (entry_in (slice_index F x))) p l in
-    let k2 : takes c (entry_in (slice_index F (at / 2 ^ s))) ≡ false = subst (λ x. takes c (entry_in (slice_index F x)) ≡ false) p k in
-    let b = at_block s F at l2 u.whole_at in
-    let skip = skips_first s at c F S l2 b k2 in (
+  -- the first word of a block with no group is stored
+  pub visits_first : (w : ℕ) → replaces u.rewrite (entry_in (slice_index W.firsts i)) ≡ true → w ≡ word_of u.rewrite.entry → IsFirstStore s u.at u.end u.rewrite W i w
+  visits_first w taken word =
+      let b = block_start in
       record {
-        more = let z = pow_pos s in omega (arith, z, en);
-        table = rw (eF, eS) t;
-        sweeping = rw (eF, en) (on_first f s from at end c F m l2 u);
-        stands = λ E x. rw (eF, eS, en) (stands_skip s from at (at + 2 ^ s) c F S E (omega arith) skip x);
-      },
-      subst (λ z. Skips s c F S at z) (sym en) skip,
-    )
+        low = omega (arith, b);
+        high = omega (arith, b, more);
+        taken = taken;
+        last = l;
+        word = word;
+        skipped = λ a low high. absurd (omega (arith, b, low, high));
+      }
 
--- the state after a store in a group
-pub after_second : (f s from at end : ℕ) (c : Rewrite) (F S F' S' : List ℕ) (g j w : ℕ) → IsTable f s F S → IsSweeping f s from at end c F → at < end
-    → entry_in (slice_index F (at / 2 ^ s)) ≡ Group g → j ≡ g * 2 ^ s + at % 2 ^ s
-    → takes c (entry_in (slice_index S j)) ≡ true → w ≡ word_of c.entry
-    → F' ≡ F → S' ≡ slice_set S j w
-    → AfterFirst f s from at end (at + 1) c F S F' S'
-after_second f s from at end c F S F' S' g j w t u m e p k q eF eS =
-    let block : (a : ℕ) → a < 2 ^ (f + s) → a / 2 ^ s < 2 ^ f = λ a h. shr_below a f s h in
-    let here = block at (let z = u.fits in omega (arith, z, m)) in
-    let r = mod_below at (2 ^ s) (pow_pos s) in
-    let room = t.room (at / 2 ^ s) g here e in
-    let within : j < length S = omega (arith, p, r, room) in
-    record {
-      more = omega arith;
-      table = rw (eF, eS) (table_second f s F S j w c.entry t within u.entry u.last q);
-      sweeping = rw eF (on_second f s from at end c F g m e u);
-      stands = λ E x. rw (eF, eS) (stands_second s from at c F S E g j w u.started e p within
-          (λ a z. elim (cases_lt (a / 2 ^ s) (2 ^ f)) [
-            | inl below ↦ t.linked_once (a / 2 ^ s) (at / 2 ^ s) g below here z e
-            | inr above ↦ absurd (past_group F (a / 2 ^ s) g (subst (λ n. n ≤ a / 2 ^ s) (sym t.firsts_len) above) z)
-          ])
-          k (word_entry (f + s) w c.entry u.entry q) x);
-    }
+  pub visited_first : (W' : Words) (w v : ℕ) → i < length W.firsts → replaces u.rewrite (entry_in (slice_index W.firsts i)) ≡ true → w ≡ word_of u.rewrite.entry → v ≡ u.at + 2 ^ s
+      → W' ≡ with_first W i w → Visits f s u W (First i) (record u { at = v }) W'
+  visited_first W' w v within taken word e is =
+      let h = stored_first (IsFirstStore s u.at u.end u.rewrite W i) W i w within (visits_first w taken word) in
+      let p = pow_pos s in
+      subst (Visits f s u W (First i) (record u { at = v })) (sym is) (record {
+        further = record { from = refl; end = refl; rewrite = refl; at = omega (arith, e) };
+        more = omega (arith, e, p);
+        stored = (h.0, h.1, e ∙ ap (λ x. x + 2 ^ s) block_start);
+      })
+
+  -- or nothing of it is changed
+  pub kept_first : (W' : Words) (v : ℕ) → replaces u.rewrite (entry_in (slice_index W.firsts i)) ≡ false → v ≡ u.at + 2 ^ s → W' ≡ W → Visits f s u W Done (record u { at = v }) W'
+  kept_first W' v kept e is =
+      let b = block_start in
+      let p = pow_pos s in
+      subst (Visits f s u W Done (record u { at = v })) (sym is) (record {
+        further = record { from = refl; end = refl; rewrite = refl; at = omega (arith, e) };
+        more = omega (arith, e, p);
+        stored = (
+          subst (λ x. IsRewriting f s u.from x u.end u.rewrite W.firsts) (omega (arith, b, e)) (past_first f s u.from u.at u.end u.rewrite W.firsts i (omega (arith, b)) (omega (arith, b, more)) l k),
+          λ a low high.
+              let here = block_of s a i (omega (arith, b, low)) (omega (arith, b, e, high)) in
+              ap (replaces u.rewrite) (ap (λ x. followed s W.seconds (a % 2 ^ s) (entry_in (slice_index W.firsts x))) here ∙ followed_last s W.seconds (a % 2 ^ s) _ l) ∙ kept,
+        );
+      })
+
+module _ (f s : ℕ) (u : RewriteRange) (W : Words) (g j : ℕ) (more : u.at < u.end) (k : IsRewriting f s u.from u.at u.end u.rewrite W.firsts) (e : IsLinkTo W.firsts (u.at / 2 ^ s) g)
+    (p : j ≡ g * 2 ^ s + u.at % 2 ^ s) where
+  -- the word of the next address in a group is stored
+  pub visits_second : (w : ℕ) → replaces u.rewrite (entry_in (slice_index W.seconds j)) ≡ true → w ≡ word_of u.rewrite.entry → IsSecondStore s u.at u.end u.rewrite W g u.at j w
+  visits_second w taken word = record {
+    low = omega arith;
+    high = more;
+    group = e;
+    place = p;
+    taken = taken;
+    word = word;
+    skipped = λ a low high. absurd (omega (arith, low, high));
+  }
+
+  pub visited_second : (W' : Words) (w : ℕ) → j < length W.seconds → replaces u.rewrite (entry_in (slice_index W.seconds j)) ≡ true → w ≡ word_of u.rewrite.entry → W' ≡ with_second W j w
+      → Visits f s u W (Second j) (record u { at = u.at + 1 }) W'
+  visited_second W' w within taken word is =
+      let h = stored_second (IsSecondStore s u.at u.end u.rewrite W g u.at j) W j w within (visits_second w taken word) in
+      subst (Visits f s u W (Second j) (record u { at = u.at + 1 })) (sym is) (record {
+        further = record { from = refl; end = refl; rewrite = refl; at = omega arith };
+        more = omega arith;
+        stored = (g, u.at, h.0, h.1, refl);
+      })
+
+  -- or stays
+  pub kept_second : (W' : Words) → replaces u.rewrite (entry_in (slice_index W.seconds j)) ≡ false → W' ≡ W → Visits f s u W Done (record u { at = u.at + 1 }) W'
+  kept_second W' kept is = subst (Visits f s u W Done (record u { at = u.at + 1 })) (sym is) (record {
+    further = record { from = refl; end = refl; rewrite = refl; at = omega arith };
+    more = omega arith;
+    stored = (
+      past_second f s u.from u.at u.end u.rewrite W.firsts g u.at (omega arith) more e k,
+      λ a low high.
+          let z : a ≡ u.at = omega (arith, low, high) in
+          ap (λ x. replaces u.rewrite (entry_at s W x)) z ∙ ap (replaces u.rewrite) (in_group s W g u.at e ∙ ap (λ x. entry_in (slice_index W.seconds x)) (sym p)) ∙ kept,
+    );
+  })

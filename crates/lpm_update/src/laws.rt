@@ -1,39 +1,21 @@
-//! Laws of a run of steps: no word is stored twice, and no address goes back to its old answer. Each function but
-//! [`step`] does nothing: its contract is the law.
+//! What an upper layer needs of a change. Each function does nothing: its contract is the law. The
+//! statement is in `specs/Laws.antt`, and an upper crate cites the proof in `proofs/Promises.antt`.
 
-ghost use Rattle.std.specs.Prelude.{◌≢◌, ℕ};
-ghost use Rattle.lpm_bits.specs.Widths.{IsShape};
-ghost use Rattle.lpm_update.specs.declared.Did.TheVariants.{Done};
-ghost use Rattle.lpm_update.specs.Linked.{IsTable};
-ghost use Rattle.lpm_update.specs.Update.{IsUnderWay, IsNextFirst, IsNextSecond, IsNextUnlink};
-ghost use Rattle.lpm_update.specs.Once.{OnwardOn, FirstStoredOnce, SecondStoredOnce, StoredIsNoLink, UnlinkedOnce, NoWordTwice, AnswersTurnOnce, IsStep};
+ghost use Rattle.lpm_update.specs.Laws.{RunBegins, RunGoesOn, RunEnds, NoWordTwice, NextStore, AnswersTurnOnce, BestIsLongest, BlankRepresents, LinkedAreDeep, TiedSame, TiedGone, TiedTaken};
 
-use super::{Did, Update};
-use lpm_cells::Cells;
-
-/// What is later in a run of steps is onward.
-pub fn onward_on()
-    ensures { OnwardOn }
+/// A change that may begin has come as far as its beginning.
+pub fn run_begins()
+    ensures { RunBegins }
 {}
 
-/// A first word that the change has passed is not stored again, but over a link.
-pub fn first_stored_once()
-    ensures { FirstStoredOnce }
+/// Each step takes a change further.
+pub fn run_goes_on()
+    ensures { RunGoesOn }
 {}
 
-/// A second word that the change has passed is not stored again.
-pub fn second_stored_once()
-    ensures { SecondStoredOnce }
-{}
-
-/// No group is unlinked where the change has stored a first word.
-pub fn stored_is_no_link()
-    ensures { StoredIsNoLink }
-{}
-
-/// No group is unlinked where the change has unlinked one.
-pub fn unlinked_once()
-    ensures { UnlinkedOnce }
+/// Where nothing is left to store, words that represented the old rule list represent the new one.
+pub fn run_ends()
+    ensures { RunEnds }
 {}
 
 /// No two steps of a run store the same word.
@@ -41,23 +23,44 @@ pub fn no_word_twice()
     ensures { NoWordTwice }
 {}
 
-/// An address keeps its answer, or goes from the old one to the new one, and then keeps that.
+/// The next store is of a word that a table may hold at its place. By it each address keeps its
+/// entry, or goes from the old to the new one.
+pub fn next_store()
+    ensures { NextStore }
+{}
+
+/// An address keeps its entry, or goes from the old to the new one, and then keeps that.
 pub fn answers_turn_once()
     ensures { AnswersTurnOnce }
 {}
 
-/// [`Update::step`], which is a step as the laws have it where it stores a word.
-pub fn step<const FIRST: u32, const SECOND: u32, C: Cells>(
-    update: &mut Update,
-    cells: &mut C,
-) -> Did
-    requires shape { IsShape FIRST SECOND }
-    requires table { IsTable FIRST SECOND (C.firsts cells.old) (C.seconds cells.old) }
-    requires under_way { IsUnderWay FIRST SECOND update.old (C.firsts cells.old) (C.seconds cells.old) }
-    requires allows_first { (i w : ℕ) → IsNextFirst FIRST SECOND update.old (C.firsts cells.old) (C.seconds cells.old) i w → C.may_set_first cells.old i w }
-    requires allows_second { (j w : ℕ) → IsNextSecond SECOND update.old (C.firsts cells.old) (C.seconds cells.old) j w → C.may_set_second cells.old j w }
-    requires allows_unlink { (b g w : ℕ) → IsNextUnlink FIRST SECOND update.old (C.firsts cells.old) (C.seconds cells.old) b g w → C.may_set_first cells.old b w }
-    ensures { result ≢ Done → IsStep FIRST SECOND update.old (C.firsts cells.old) (C.seconds cells.old) update.new (C.firsts cells.new) (C.seconds cells.new) result }
-{
-    update.step::<FIRST, SECOND, C>(cells)
-}
+/// The next hop of the longest rule's entry is that of the longest match.
+pub fn best_is_longest()
+    ensures { BestIsLongest }
+{}
+
+/// Words that are all misses represent the empty list.
+pub fn blank_represents()
+    ensures { BlankRepresents }
+{}
+
+/// As many groups are linked as there are blocks with a rule longer than `FIRST` bits.
+pub fn linked_are_deep()
+    ensures { LinkedAreDeep }
+{}
+
+/// Where each block has the same group, the states of the groups stay.
+pub fn tied_same()
+    ensures { TiedSame }
+{}
+
+/// A group that a block gives up was linked to it, and may then be in any state but linked.
+pub fn tied_gone()
+    ensures { TiedGone }
+{}
+
+/// A group that is linked to no block is one that no block has, and may be linked to a block
+/// without one.
+pub fn tied_taken()
+    ensures { TiedTaken }
+{}

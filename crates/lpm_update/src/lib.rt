@@ -1,21 +1,21 @@
 //! Changes of a table, one store of one word a step.
 #![tactic(auto)]
 
-mod collapse;
-mod fill;
 mod flush;
 pub mod laws;
+mod link_group;
 mod rewrite;
-mod sweep;
+mod rewrite_range;
 #[cfg(test)]
 mod tests;
+mod unlink_group;
 mod update;
 
-pub use collapse::Collapse;
-pub use fill::Fill;
-pub use flush::Flush;
-pub use rewrite::{Kind, Rewrite};
-pub use sweep::Sweep;
+use flush::Flush;
+use link_group::LinkGroup;
+use rewrite::{Kind, Rewrite};
+use rewrite_range::RewriteRange;
+use unlink_group::UnlinkGroup;
 pub use update::Update;
 
 /// What a step did.

@@ -6,30 +6,30 @@ use lpm_entry::Entry;
 
 /// The changes of a rule list.
 #[derive(Clone, Copy, Debug, PartialEq, Eq)]
-pub enum Kind {
+pub(crate) enum Kind {
     Add,
     Delete,
     Flush,
 }
 
-/// What a change does to the entries of its range: those that it takes become `entry`.
+/// What a change does to the entries of its range: those that it replaces become `entry`.
 ///
-/// An add takes misses and the hops of rules no longer than `depth`, a delete the hops of rules of
-/// length `depth`, a flush all but misses.
+/// An add replaces misses and the hops of rules no longer than `depth`, a delete the hops of rules
+/// of length `depth`, a flush all but misses.
 #[derive(Clone, Copy, Debug)]
-pub struct Rewrite {
-    pub kind: Kind,
-    pub depth: u32,
-    pub entry: Entry,
+pub(crate) struct Rewrite {
+    pub(crate) kind: Kind,
+    pub(crate) depth: u32,
+    pub(crate) entry: Entry,
 }
 
 impl Rewrite {
     ghost use Rattle.std.specs.Prelude.{◌≡◌};
-    ghost use Rattle.lpm_update.specs.Rewrite.{takes};
+    ghost use Rattle.lpm_update.specs.Rewrite.{replaces};
 
     /// Whether the change replaces this entry.
-    pub fn takes(&self, entry: &Entry) -> bool
-        ensures { result ≡ takes self.now entry.now }
+    pub(crate) fn replaces(&self, entry: &Entry) -> bool
+        ensures { result ≡ replaces self.now entry.now }
     {
         match (self.kind, entry) {
             (Kind::Add, Entry::Miss) => true,

@@ -2,138 +2,143 @@
 
 ghost use Rattle.std.specs.Prelude.{◌≡◌};
 
-use super::{Collapse, Did, Fill, Flush, Sweep};
+use super::{Did, Flush, LinkGroup, RewriteRange, UnlinkGroup};
 use lpm_bits::{Hop, Prefix, Shape};
 use lpm_cells::Cells;
 use lpm_rules::Rule;
+use std::marker::Model;
 
-/// A change of the words by a change of the rule list, one store of one word a step.
+/// What is left to store, by the kind of the change.
 #[derive(Debug, Drop)]
-pub enum Update {
+pub(crate) enum Plan {
     /// The words of a range are rewritten, upwards.
-    Sweep(Sweep),
-    /// A fresh group is filled, and then linked.
-    Fill(Fill),
+    Range(RewriteRange),
+    /// The words of a free group are stored, and then it is linked.
+    Link(LinkGroup),
     /// The words of a block are rewritten, and then its group is unlinked.
-    Collapse(Collapse),
+    Unlink(UnlinkGroup),
     /// All first words become misses.
     Flush(Flush),
 }
 
+/// A change of the words by a change of the rule list, one store of one word a step.
+#[derive(Debug, Drop)]
+pub struct Update {
+    plan: Plan,
+}
+
+impl Model for Update {
+    ghost use Rattle.lpm_update.specs.declared.update.Plan.{Plan};
+
+    ghost Value = { Plan };
+
+    ghost view = { λ u. u.plan };
+}
+
 impl Update {
-    ghost use Rattle.std.specs.Prelude.{◌≡◌, ℕ, ◌+◌, ◌*◌, ◌/◌, ◌^◌, ◌<◌, ◌≤◌, Option, List, IsSome, MatchOption};
+    ghost use Rattle.std.specs.Prelude.{◌≡◌, ℕ, ◌+◌, ◌/◌, ◌^◌, ◌<◌, List, IsSome, MatchOption};
     ghost use Rattle.lpm_bits.specs.Widths.{IsShape};
-    ghost use Rattle.lpm_entry.specs.declared.Entry.{Entry};
     ghost use Rattle.std.specs.FinMap as map;
+    ghost use Rattle.lpm_cells.specs.Table.{Words};
     ghost use Rattle.lpm_rules.specs.RuleMap.{RuleMap};
     ghost use Rattle.lpm_rules.specs.Longest.{IsUncovered, IsCoverRule};
-    ghost use Rattle.lpm_update.specs.Leads.{IsAnswering, IsBegun, Leads, AddFits, LastFits, held_with};
-    ghost use Rattle.lpm_update.specs.Linked.{IsTable, IsSetFirst, IsSetSecond, group_at};
-    ghost use Rattle.lpm_update.specs.Sweep.{MatchDid};
-    ghost use Rattle.lpm_update.specs.Update.{IsUnderWay, StandsSoFar, HasGroups, IsSameChange, IsOver, IsNextFirst, IsNextSecond, IsNextUnlink, SameGroups, GivesUp, IsOnward, HasPassedFirst, HasPassedSecond, group_held, places_left};
+    ghost use Rattle.lpm_update.specs.Represents.{Represents, IsBegun, TurnsInto, AddFits, LastFits, held_with};
+    ghost use Rattle.lpm_update.specs.Linked.{IsTable, group_at};
+    ghost use Rattle.lpm_update.specs.Update.{IsUnderWay, group_held};
+    ghost use Rattle.lpm_update.specs.Step.{AllowsNext, Steps, SetsWord};
 
-    /// The addition of a rule, or its replacement, by a free group where the rule is longer than a first
-    /// index and its block has none.
+    /// The addition of a rule, or its replacement, by a free group where the rule is longer than
+    /// `FIRST` bits and its block has none.
     pub fn add<const FIRST: u32, const SECOND: u32>(
         prefix: &Prefix<FIRST, SECOND>,
         hop: Hop,
         group: Option<u32>,
     ) -> Update
         requires { IsSome group → FIRST < prefix.now.len }
-        ensures held { (F : List ℕ) (i : ℕ) → group_held result F i ≡ held_with group (prefix.now.bits / 2 ^ SECOND) F i }
-        ensures leads { (R : RuleMap) (F S : List ℕ) → IsAnswering FIRST SECOND R F S → AddFits FIRST SECOND R prefix.now F S group
-            → IsBegun FIRST SECOND result F S × Leads FIRST SECOND result R (map.insert R prefix.now hop) }
+        ensures held { (firsts : List ℕ) (i : ℕ)
+            → group_held result firsts i ≡ held_with group (prefix.now.bits / 2 ^ SECOND) firsts i }
+        ensures begun { (R : RuleMap) (t : Words) → Represents FIRST SECOND R t
+            → AddFits FIRST SECOND R prefix.now t group
+            → IsBegun FIRST SECOND result t
+                × TurnsInto FIRST SECOND result R (map.insert R prefix.now hop) }
     {
         let _bits = prefix.bits();
         match group {
-            Some(group) => Update::Fill(Fill::add(prefix, hop, group)),
-            None => Update::Sweep(Sweep::add(prefix, hop)),
+            Some(group) => {
+                return Update {
+                    plan: Plan::Link(LinkGroup::add(prefix, hop, group)),
+                };
+            }
+            None => {
+                return Update {
+                    plan: Plan::Range(RewriteRange::add(prefix, hop)),
+                };
+            }
         }
     }
 
-    /// The deletion of a rule whose cover is this one, the longest rule that is shorter and covers it;
-    /// `last` tells that the rule is longer than a first index, and none longer is left in its block.
+    /// The deletion of a rule whose cover, the longest rule that is shorter and covers it, is this
+    /// one. `last` tells that the rule was the last of its block that is longer than `FIRST` bits.
     pub fn delete<const FIRST: u32, const SECOND: u32>(
         prefix: &Prefix<FIRST, SECOND>,
         cover: Option<Rule<FIRST, SECOND>>,
         last: bool,
     ) -> Update
-        ensures held { (F : List ℕ) (i : ℕ) → group_held result F i ≡ group_at F i }
-        ensures leads { (R : RuleMap) (F S : List ℕ) → IsAnswering FIRST SECOND R F S → IsSome (map.get R prefix.now)
-            → MatchOption cover.entry (IsUncovered (FIRST + SECOND) R prefix.now) (λ c. IsCoverRule (FIRST + SECOND) R prefix.now c.prefix c.hop)
+        ensures held { (firsts : List ℕ) (i : ℕ) → group_held result firsts i ≡ group_at firsts i }
+        ensures begun { (R : RuleMap) (t : Words) → Represents FIRST SECOND R t
+            → IsSome (map.get R prefix.now)
+            → MatchOption cover.entry
+                (IsUncovered (FIRST + SECOND) R prefix.now)
+                (λ c. IsCoverRule (FIRST + SECOND) R prefix.now c.prefix c.hop)
             → LastFits FIRST SECOND (map.remove R prefix.now) prefix.now last
-            → IsBegun FIRST SECOND result F S × Leads FIRST SECOND result R (map.remove R prefix.now) }
+            → IsBegun FIRST SECOND result t
+                × TurnsInto FIRST SECOND result R (map.remove R prefix.now) }
     {
-        let sweep = Sweep::delete(prefix, cover);
+        let range = RewriteRange::delete(prefix, cover);
         if last {
             let block = Shape::<FIRST, SECOND>::first_index(prefix.bits());
-            return Update::Collapse(Collapse {
-                sweep,
-                block,
-                unlinked: false,
-            });
+            return Update {
+                plan: Plan::Unlink(UnlinkGroup {
+                    range,
+                    block,
+                    unlinked: false,
+                }),
+            };
         }
-        Update::Sweep(sweep)
+        Update {
+            plan: Plan::Range(range),
+        }
     }
 
     /// The removal of all rules.
     pub fn flush<const FIRST: u32, const SECOND: u32>() -> Update
-        ensures held { (F : List ℕ) (i : ℕ) → group_held result F i ≡ group_at F i }
-        ensures leads { (R : RuleMap) (F S : List ℕ) → IsAnswering FIRST SECOND R F S
-            → IsBegun FIRST SECOND result F S × Leads FIRST SECOND result R map.empty }
+        ensures held { (firsts : List ℕ) (i : ℕ) → group_held result firsts i ≡ group_at firsts i }
+        ensures begun { (R : RuleMap) (t : Words) → Represents FIRST SECOND R t
+            → IsBegun FIRST SECOND result t × TurnsInto FIRST SECOND result R map.empty }
     {
-        Update::Flush(Flush { next: 0 })
+        Update {
+            plan: Plan::Flush(Flush { next: 0 }),
+        }
     }
 
-    /// Makes the next store of the change, and tells which one it was; where none is left, it is done.
+    /// Makes the next store of the change and returns which one it was, or `Done` where none is
+    /// left.
     #[inline]
     pub fn step<const FIRST: u32, const SECOND: u32, C: Cells>(&mut self, cells: &mut C) -> Did
         requires shape { IsShape FIRST SECOND }
-        requires table { IsTable FIRST SECOND (C.firsts cells.old) (C.seconds cells.old) }
-        requires under_way { IsUnderWay FIRST SECOND self.old (C.firsts cells.old) (C.seconds cells.old) }
-        // The cells allow the store.
-        requires allows_first { (i w : ℕ) → IsNextFirst FIRST SECOND self.old (C.firsts cells.old) (C.seconds cells.old) i w → C.may_set_first cells.old i w }
-        requires allows_second { (j w : ℕ) → IsNextSecond SECOND self.old (C.firsts cells.old) (C.seconds cells.old) j w → C.may_set_second cells.old j w }
-        requires allows_unlink { (b g w : ℕ) → IsNextUnlink FIRST SECOND self.old (C.firsts cells.old) (C.seconds cells.old) b g w → C.may_set_first cells.old b w }
-        // The change goes on, past the word that it stored, and never back: it stores no word twice.
-        ensures onward { IsOnward self.old self.new }
-        ensures passed { MatchDid result
-            (λ i. HasPassedFirst SECOND self.new i)
-            (λ j. HasPassedSecond SECOND self.new (C.firsts cells.new) j)
-            (λ b g. HasPassedFirst SECOND self.new b)
-            (Unit {0}) }
-        ensures same { IsSameChange (FIRST + SECOND) self.old self.new }
-        ensures table { IsTable FIRST SECOND (C.firsts cells.new) (C.seconds cells.new) }
-        ensures under_way { IsUnderWay FIRST SECOND self.new (C.firsts cells.new) (C.seconds cells.new) }
-        // Each address keeps its entry, or goes from the old to the new one.
-        ensures stands { (E : ℕ → Entry) → StandsSoFar SECOND self.old (C.firsts cells.old) (C.seconds cells.old) E
-            → StandsSoFar SECOND self.new (C.firsts cells.new) (C.seconds cells.new) E }
-        // So does the group of each block.
-        ensures groups { (L : ℕ → Option ℕ) → HasGroups FIRST SECOND self.old (C.firsts cells.old) L
-            → HasGroups FIRST SECOND self.new (C.firsts cells.new) L }
-        // A group is given up just where the step says so.
-        ensures held { MatchDid result
-            (λ i. SameGroups FIRST (group_held self.old (C.firsts cells.old)) (group_held self.new (C.firsts cells.new)))
-            (λ j. SameGroups FIRST (group_held self.old (C.firsts cells.old)) (group_held self.new (C.firsts cells.new)))
-            (λ b g. GivesUp FIRST (group_held self.old (C.firsts cells.old)) (group_held self.new (C.firsts cells.new)) b g)
-            (SameGroups FIRST (group_held self.old (C.firsts cells.old)) (group_held self.new (C.firsts cells.new))) }
-        ensures left { MatchDid result
-            (λ i. places_left FIRST SECOND self.new < places_left FIRST SECOND self.old)
-            (λ j. places_left FIRST SECOND self.new < places_left FIRST SECOND self.old)
-            (λ b g. places_left FIRST SECOND self.new < places_left FIRST SECOND self.old)
-            (Unit {0}) }
-        // One store was made, or none where it is done.
-        ensures store { MatchDid result
-            (λ i. (w : ℕ) × IsNextFirst FIRST SECOND self.old (C.firsts cells.old) (C.seconds cells.old) i w × C.sets_first cells.old i w cells.new × IsSetFirst (C.firsts cells.old) (C.seconds cells.old) (C.firsts cells.new) (C.seconds cells.new) i w)
-            (λ j. (w : ℕ) × IsNextSecond SECOND self.old (C.firsts cells.old) (C.seconds cells.old) j w × C.sets_second cells.old j w cells.new × IsSetSecond (C.firsts cells.old) (C.seconds cells.old) (C.firsts cells.new) (C.seconds cells.new) j w)
-            (λ b g. (w : ℕ) × IsNextUnlink FIRST SECOND self.old (C.firsts cells.old) (C.seconds cells.old) b g w × C.sets_first cells.old b w cells.new × IsSetFirst (C.firsts cells.old) (C.seconds cells.old) (C.firsts cells.new) (C.seconds cells.new) b w)
-            ((cells.new ≡ cells.old) × IsOver FIRST SECOND self.new) }
+        requires table { IsTable FIRST SECOND (C.words cells.old) }
+        requires under_way { IsUnderWay FIRST SECOND self.old (C.words cells.old) }
+        requires allows { AllowsNext FIRST SECOND self.old (C.words cells.old)
+            (C.may_set_first cells.old) (C.may_set_second cells.old) }
+        ensures steps { Steps FIRST SECOND self.old (C.words cells.old) result
+            self.new (C.words cells.new) }
+        ensures sets { SetsWord C.words C.sets_first C.sets_second cells.old result cells.new }
     {
-        match self {
-            Update::Sweep(sweep) => sweep.step::<FIRST, SECOND, C>(cells),
-            Update::Fill(fill) => fill.step::<FIRST, SECOND, C>(cells),
-            Update::Collapse(collapse) => collapse.step::<FIRST, SECOND, C>(cells),
-            Update::Flush(flush) => flush.step::<FIRST, SECOND, C>(cells),
+        match &mut self.plan {
+            Plan::Range(range) => range.step::<FIRST, SECOND, C>(cells),
+            Plan::Link(link) => link.step::<FIRST, SECOND, C>(cells),
+            Plan::Unlink(unlink) => unlink.step::<FIRST, SECOND, C>(cells),
+            Plan::Flush(flush) => flush.step::<FIRST, SECOND, C>(cells),
         }
     }
 }

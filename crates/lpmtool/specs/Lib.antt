@@ -1,5 +1,4 @@
 pub mod Loading
-pub mod Answers
 pub mod Output
 pub mod Lookup
 pub mod Status

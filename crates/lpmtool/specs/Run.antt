@@ -9,20 +9,25 @@ use Rattle.lpm_options.specs.Asked.{IsAskedBy}
 use Rattle.lpmtool.specs.Output.{Writes, WritesBeginning}
 use Rattle.lpmtool.specs.Lookup.{IsTextOf}
 
--- the command's text was written, for files of these bytes
-abbrev pub WritesText : CommandLine → (List ℕ → Option (List ℕ)) → Option (List ℕ) → Option (List ℕ) → Type 0
-WritesText (commands.Lookup routes addresses limits) bytes old new = Writes (IsTextOf limits (bytes routes.now) (bytes addresses.now)) old new
+-- the text is the command's output, for files of these bytes
+abbrev pub IsOutput : CommandLine → (List ℕ → Option (List ℕ)) → List ℕ → Type 0
+IsOutput (commands.Lookup routes addresses config) bytes =
+    IsTextOf config (bytes routes.now) (bytes addresses.now)
 
--- the words ask for help, or for a command whose text was written
+-- the words ask for help
+abbrev pub AsksForHelp : List Text → Type 0
+AsksForHelp words = IsAmong DisplayHelp (fault_of the_app words)
+
+-- the words ask for this command
+abbrev pub AsksFor : List Text → CommandLine → Type 0
+AsksFor words line = IsAskedBy (subcommand_of the_app words) line
+
+-- the words ask for help, or for a command whose output was written
 abbrev pub IsDone : List Text → (List ℕ → Option (List ℕ)) → Option (List ℕ) → Option (List ℕ) → Type 0
-IsDone words bytes old new = IsAmong DisplayHelp (fault_of the_app words)
-    ⊎ ((line : CommandLine) × (IsAskedBy (subcommand_of the_app words) line × WritesText line bytes old new))
+IsDone words bytes old new = AsksForHelp words
+    ⊎ ((line : CommandLine) × (AsksFor words line × Writes (IsOutput line bytes) old new))
 
--- a beginning of the command's text was written, for files of these bytes
-abbrev pub WritesPart : CommandLine → (List ℕ → Option (List ℕ)) → Option (List ℕ) → Option (List ℕ) → Type 0
-WritesPart (commands.Lookup routes addresses limits) bytes old new = WritesBeginning (IsTextOf limits (bytes routes.now) (bytes addresses.now)) old new
-
--- the words ask for help, or for a command of whose text a beginning was written
+-- the words ask for help, or for a command of whose output a beginning was written
 abbrev pub IsBegun : List Text → (List ℕ → Option (List ℕ)) → Option (List ℕ) → Option (List ℕ) → Type 0
-IsBegun words bytes old new = IsAmong DisplayHelp (fault_of the_app words)
-    ⊎ ((line : CommandLine) × (IsAskedBy (subcommand_of the_app words) line × WritesPart line bytes old new))
+IsBegun words bytes old new = AsksForHelp words
+    ⊎ ((line : CommandLine) × (AsksFor words line × WritesBeginning (IsOutput line bytes) old new))

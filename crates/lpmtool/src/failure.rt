@@ -2,8 +2,8 @@
 ghost use Rattle.std.specs.Prelude.{◌≡◌};
 ghost use Rattle.lpmtool.specs.Status.{status_of};
 
+use qsbr::Refusal;
 use route_text::Fault;
-use std::fmt;
 use thiserror::Error;
 
 /// The exit status where the command line isn't accepted.
@@ -20,27 +20,6 @@ pub const MEMORY: u8 = 5;
 
 /// The exit status of another refusal.
 pub const REFUSED: u8 = 6;
-
-/// Why a table refuses a route. Its text is its number and its name.
-#[derive(Clone, Copy, Debug, PartialEq, Eq)]
-pub enum Refusal {
-    /// The route's prefix is a new one, and the table holds its greatest number of rules.
-    TooManyRules,
-    /// The table has made as many changes as it may.
-    Exhausted,
-    /// The route's prefix is a new one that needs a group, and none is free.
-    NoGroups,
-}
-
-impl fmt::Display for Refusal {
-    fn fmt<W: fmt::Write>(&self, f: &mut fmt::Formatter<W>) -> fmt::Result {
-        f.write_str(match self {
-            Refusal::TooManyRules => "3 TooManyRules",
-            Refusal::Exhausted => "6 Exhausted",
-            Refusal::NoGroups => "7 NoGroups",
-        })
-    }
-}
 
 /// What ends a run. Its text is the line that standard error gets.
 #[derive(Clone, Copy, Debug, PartialEq, Eq, Error)]
@@ -62,8 +41,8 @@ pub enum Failure<'a> {
     /// A growth was refused.
     #[error("lpmtool: out of memory")]
     Memory,
-    /// The table refused the route on this line of the route file.
-    #[error("lpmtool: {path}:{line}: refused {refusal}")]
+    /// The table refused the route on this line of the route file, for another reason than memory.
+    #[error("lpmtool: {path}:{line}: refused {} {}", .refusal.number(), .refusal.name())]
     Refused {
         path: &'a str,
         line: usize,

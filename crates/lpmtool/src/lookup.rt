@@ -1,23 +1,21 @@
 //! `lookup`: the next hops of addresses, by routes.
 ghost use Rattle.std.specs.Prelude.{◌≡◌, ◌≢◌, ℕ, ◌<◌, ◌≤◌, List, IfOk, IfErr, IfSome, OnOk, IsErrOf, ◌⊎◌};
+ghost use Rattle.lpm_limits.specs.Limits.{IsConfig};
 ghost use Rattle.route_text.specs.Files.{AreRoutes, AreAddresses, IsRoutesFault, IsAddressesFault};
 ghost use Rattle.fib_model.specs.Counting.{opened};
-ghost use Rattle.lpmtool.specs.Loading.{config_of, IsLoaded};
-ghost use Rattle.lpmtool.specs.Answers.{AreAnswers, IsAnswerText};
+ghost use Rattle.lpmtool.specs.Loading.{IsLoaded};
 ghost use Rattle.lpmtool.specs.Output.{Writes, WritesBeginning};
-ghost use Rattle.lpmtool.specs.Lookup.{IsTextOf, EndsLookup, EndsReading, EndsLoading};
+ghost use Rattle.lpmtool.specs.Lookup.{IsAnswerText, IsTextOf, EndsLookup, EndsReading, EndsLoading};
 
-use crate::failure::{Failure, Refusal};
+use crate::failure::Failure;
 use crate::files::{Files, ReadFailure, put_all, read_file};
 use fib::{Fib, OpenError};
-use lpm_bits::Hop;
-use lpm_options::Limits;
-use qsbr::{Config, Refusal as Reason};
+use qsbr::{Config, Refusal};
 use route_text::{ReadError, Route, answers_text, read_addresses, read_routes};
 use std::alloc::{AllocError, Global};
 use std::io::Write;
 
-// How many routes are read ahead.
+// For how many routes words are loaded ahead.
 const AHEAD: usize = 64;
 
 /// Writes a line for each address with the next hop of its longest matching route.
@@ -29,24 +27,25 @@ pub fn lookup<'a, F: Files, W: Write>(
     files: &F,
     routes: &'a str,
     addresses: &'a str,
-    limits: Limits,
+    config: Config,
     out: &mut W,
 ) -> Result<(), Failure<'a>>
+    requires { IsConfig config }
     ensures done { OnOk result (Writes
-        (IsTextOf limits
+        (IsTextOf config
         (F.bytes files.now routes.entry.now) (F.bytes files.now addresses.entry.now))
         (W.contents out.old) (W.contents out.new)) }
 
     // Only a failed write leaves something written, a beginning of that text.
     ensures beginning { IsErrOf result Failure.CannotWrite → WritesBeginning
-        (IsTextOf limits
+        (IsTextOf config
         (F.bytes files.now routes.entry.now) (F.bytes files.now addresses.entry.now))
         (W.contents out.old) (W.contents out.new) }
     ensures untouched { IfErr result (λ e. e ≢ Failure.CannotWrite → out.new ≡ out.old) }
     ensures failure { IfErr result
-        (EndsLookup limits routes.entry.now addresses.entry.now (F.bytes files.now)) }
+        (EndsLookup config routes.entry.now addresses.entry.now (F.bytes files.now)) }
 {
-    let text = lookup_text(alloc, files, routes, addresses, limits)?;
+    let text = lookup_text(alloc, files, routes, addresses, config)?;
     match put_all(out, &text) {
         Ok(()) => Ok(()),
         Err(_) => Err(Failure::CannotWrite),
@@ -59,17 +58,18 @@ fn lookup_text<'a, F: Files>(
     files: &F,
     routes: &'a str,
     addresses: &'a str,
-    limits: Limits,
+    config: Config,
 ) -> Result<Vec<u8>, Failure<'a>>
-    ensures text { IfOk result (λ v. IsTextOf limits
+    requires { IsConfig config }
+    ensures text { IfOk result (λ v. IsTextOf config
         (F.bytes files.now routes.entry.now) (F.bytes files.now addresses.entry.now) v.items) }
     ensures failure { IfErr result
-        (EndsLookup limits routes.entry.now addresses.entry.now (F.bytes files.now)) }
+        (EndsLookup config routes.entry.now addresses.entry.now (F.bytes files.now)) }
     ensures unwritten { IfErr result (λ e. e ≢ Failure.CannotWrite) }
 {
     let list = routes_of(alloc, files, routes)?;
     let addrs = addresses_of(alloc, files, addresses)?;
-    let table = load(alloc, routes, &list, limits)?;
+    let table = load(alloc, routes, &list, config)?;
     match text_of(alloc, &table, &addrs) {
         Ok(text) => Ok(text),
         Err(_) => Err(Failure::Memory),
@@ -132,67 +132,34 @@ fn load<'a>(
     alloc: Global,
     path: &'a str,
     routes: &[Route],
-    limits: Limits,
+    config: Config,
 ) -> Result<Fib<24, 8>, Failure<'a>>
-    ensures loaded { IfOk result (λ fib. IsLoaded limits routes.now fib.table) }
-    ensures failure { IfErr result (EndsLoading limits path.entry.now routes.now) }
+    requires { IsConfig config }
+    ensures loaded { IfOk result (λ fib. IsLoaded config routes.now fib.table) }
+    ensures failure { IfErr result (EndsLoading config path.entry.now routes.now) }
 {
-    let mut table = open(alloc, limits)?;
+    let mut table = open(alloc, config)?;
     let mut next = 0usize;
     for (index, route) in routes.iter().enumerate() {
         if index >= next {
-            next = index.saturating_add(read_ahead(&table, &routes[index..]));
+            next = index.saturating_add(prefetch(&table, &routes[index..]));
         }
-        let line = route.line;
         match table.add(&route.prefix, route.hop) {
             Ok(_) => {}
-            Err(Reason::TooManyRules) => return Err(refused(path, line, Refusal::TooManyRules)),
-            Err(Reason::Exhausted) => return Err(refused(path, line, Refusal::Exhausted)),
-            Err(Reason::NoGroups { .. }) => return Err(refused(path, line, Refusal::NoGroups)),
-            Err(Reason::Memory) => return Err(Failure::Memory),
-            Err(Reason::NoSuchRule) => unreachable!(),
+            Err(refusal) => return Err(refused(path, route.line, refusal)),
         }
     }
     Ok(table)
 }
 
-// Reads the words of the next routes, whose additions then find them near: the processor waits for all of
-// them together, and not for each alone. It answers after how many routes to read ahead again. That is
-// sooner where few of these routes were covered yet, since then more words are stored on the way.
-#[inline(never)]
-fn read_ahead(table: &Fib<24, 8>, routes: &[Route]) -> usize {
-    let mut covered = 0usize;
-    for route in routes.iter().take(AHEAD) {
-        let is_covered = table.lookup(route.prefix.bits()).is_some();
-        covered = covered.wrapping_add(usize::from(is_covered));
-    }
-    (AHEAD / 2).max(covered)
-}
-
-// A table of these limits without rules.
-fn open<'a>(alloc: Global, limits: Limits) -> Result<Fib<24, 8>, Failure<'a>>
-    ensures opened { IfOk result (λ fib.
-        fib ≡ record { config = config_of limits; table = opened (config_of limits) }) }
-    ensures failure { IfErr result (λ e. e ≡ Failure.Memory) }
-{
-    let config = Config {
-        rules: limits.rules,
-        groups: limits.groups,
-        workers: 0,
-        threshold: limits.threshold,
-        reclaim_max: limits.reclaim_max,
-        first_token: 1,
-    };
-    match Fib::open(alloc, config) {
-        Ok(table) => Ok(table),
-        Err(OpenError::Memory) => Err(Failure::Memory),
-        Err(OpenError::BadConfig) => unreachable!(),
-    }
-}
-
+// What a refusal of the route on this line ends the run with.
 fn refused(path: &str, line: usize, refusal: Refusal) -> Failure<'_>
-    ensures { result ≡ Failure.Refused path.entry line refusal }
+    ensures memory { refusal ≡ Refusal.Memory → result ≡ Failure.Memory }
+    ensures other { refusal ≢ Refusal.Memory → result ≡ Failure.Refused path.entry line refusal }
 {
+    if refusal == Refusal::Memory {
+        return Failure::Memory;
+    }
     Failure::Refused {
         path,
         line,
@@ -200,21 +167,34 @@ fn refused(path: &str, line: usize, refusal: Refusal) -> Failure<'_>
     }
 }
 
+// Prefetches for the next routes, and returns after how many of them to prefetch again. That is sooner
+// where few of them were covered yet, since then more words are stored on the way.
+#[inline(never)]
+fn prefetch(table: &Fib<24, 8>, routes: &[Route]) -> usize {
+    let mut covered = 0usize;
+    for route in routes.iter().take(AHEAD) {
+        covered = covered.wrapping_add(usize::from(table.prefetch(&route.prefix)));
+    }
+    (AHEAD / 2).max(covered)
+}
+
+// A table of these limits without rules.
+fn open<'a>(alloc: Global, config: Config) -> Result<Fib<24, 8>, Failure<'a>>
+    requires { IsConfig config }
+    ensures opened { IfOk result (λ fib. fib ≡ record { config = config; table = opened config }) }
+    ensures failure { IfErr result (λ e. e ≡ Failure.Memory) }
+{
+    match Fib::open(alloc, config) {
+        Ok(table) => Ok(table),
+        Err(OpenError::Memory) => Err(Failure::Memory),
+        Err(OpenError::BadConfig) => unreachable!(),
+    }
+}
+
 // A line for each address with its answer.
 fn text_of(alloc: Global, table: &Fib<24, 8>, addrs: &[u32]) -> Result<Vec<u8>, AllocError>
     ensures { IfOk result (λ v. IsAnswerText table.now.table.rules addrs.now v.items) }
 {
-    let hops = answers(alloc, table, addrs)?;
+    let hops = table.lookup_all(alloc, addrs)?;
     answers_text(alloc, addrs, &hops)
-}
-
-// The answer to each address, in order.
-fn answers(alloc: Global, table: &Fib<24, 8>, addrs: &[u32]) -> Result<Vec<Option<Hop>>, AllocError>
-    ensures { IfOk result (λ v. AreAnswers table.now.table.rules addrs.now v.items) }
-{
-    let mut hops = Vec::with_capacity(alloc, addrs.len())?;
-    for addr in addrs {
-        hops.push(table.lookup(*addr))?;
-    }
-    Ok(hops)
 }

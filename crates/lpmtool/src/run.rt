@@ -2,7 +2,9 @@
 ghost use Rattle.std.specs.Prelude.{◌≡◌, ◌≢◌, ◌⊎◌, map, OnOk, IfErr, IsErrOf};
 ghost use Rattle.clap.specs.Words.{kind_of};
 ghost use Rattle.std.specs.declared.io.ErrorKind.TheVariants.{OutOfMemory};
-ghost use Rattle.lpmtool.specs.Run.{IsDone, IsBegun, WritesText, WritesPart};
+ghost use Rattle.lpm_options.specs.Asked.{IsInRange};
+ghost use Rattle.lpmtool.specs.Output.{Writes, WritesBeginning};
+ghost use Rattle.lpmtool.specs.Run.{IsDone, IsBegun, IsOutput};
 ghost use Rattle.lpmtool.specs.Status.{status_of};
 
 use crate::failure::{Failure, USAGE};
@@ -52,17 +54,20 @@ fn perform<'a, F: Files, O: Write>(
     files: &F,
     out: &mut O,
 ) -> Result<(), Failure<'a>>
-    ensures done { OnOk result (WritesText line.entry (F.bytes files.now) (O.contents out.old) (O.contents out.new)) }
+    requires { IsInRange line }
+    ensures done { OnOk result (Writes (IsOutput line.entry (F.bytes files.now))
+        (O.contents out.old) (O.contents out.new)) }
     ensures begun { IsErrOf result Failure.CannotWrite
-        → WritesPart line.entry (F.bytes files.now) (O.contents out.old) (O.contents out.new) }
+        → WritesBeginning (IsOutput line.entry (F.bytes files.now))
+        (O.contents out.old) (O.contents out.new) }
     ensures untouched { IfErr result (λ e. e ≢ Failure.CannotWrite → out.new ≡ out.old) }
 {
     match line {
         CommandLine::Lookup {
             routes,
             addresses,
-            limits,
-        } => lookup(alloc, files, routes, addresses, limits, out),
+            config,
+        } => lookup(alloc, files, routes, addresses, config, out),
     }
 }
 

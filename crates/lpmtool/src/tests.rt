@@ -1,8 +1,9 @@
 ghost use Rattle.std.specs.Prelude.{None, Some};
 
-use crate::failure::{Failure, Refusal};
+use crate::failure::Failure;
 use crate::files::Files;
 use crate::run::{refuse_words, run};
+use qsbr::Refusal;
 use std::alloc::Global;
 use std::io::{ErrorKind, Read, Write};
 use std::test::Fail;
@@ -568,7 +569,10 @@ fn texts_of_refusals(rt: HostRuntime) -> Result<(), Fail> {
             "lpmtool: r:9: refused 3 TooManyRules",
         ),
         (Refusal::Exhausted, "lpmtool: r:9: refused 6 Exhausted"),
-        (Refusal::NoGroups, "lpmtool: r:9: refused 7 NoGroups"),
+        (
+            Refusal::NoGroups { oldest: None },
+            "lpmtool: r:9: refused 7 NoGroups",
+        ),
     ];
     for (refusal, text) in cases {
         let failure = Failure::Refused {

@@ -2,7 +2,7 @@ use Rattle.std.proofs.Common.{arith}
 use Rattle.lpm_groups.specs.States.{IsLinkedAt}
 use Rattle.lpm_groups.proofs.Writes.{linked_to}
 use Rattle.lpm_groups.proofs.Tallies.{Retires-set}
-use Rattle.lpm_groups.proofs.Marking.{IsTallied-retired}
+use Rattle.lpm_groups.proofs.Marking.{IsSound-retired}
 use Rattle.lpm_groups.proofs.Groups.retire.Goals as goal
 
 pub overflow_sub-self : goal.overflow_sub-self
@@ -17,4 +17,4 @@ invariant_of-self c =
     let states = c.self.inside.states.items in
     let was : IsLinkedAt states c.args.group = rw c.self.view_is c.requires in
     let at = linked_to states c.args.group was in
-    IsTallied-retired states _ _ _ _ c.args.group at.0 c.self.invariant at.1
+    IsSound-retired states _ _ _ _ c.args.group at.0 c.self.invariant at.1

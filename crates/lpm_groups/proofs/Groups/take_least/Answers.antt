@@ -1,12 +1,12 @@
 use Rattle.std.proofs.Common.{refl, arith}
-use Rattle.lpm_groups.proofs.Marking.{take_rest, IsLeastFree-found, free_count-not_found, IsTallied-none, IsTallied-taken}
+use Rattle.lpm_groups.proofs.Marking.{take_rest, IsLeastFree-found, free_count-not_found, IsSound-none, IsSound-taken}
 use Rattle.lpm_groups.proofs.Groups.take_least.Goals as goal
 
 pub invariant_of-self : goal.invariant_of-self
 invariant_of-self c =
     let marks = c.self.inside.marks.items in
     let nowhere = rw (c.deref.ensures.value, take_rest marks c.self.inside.hint) at c.in_default.ensures in
-    IsTallied-none _ marks _ _ _ _ (omega arith) c.self.invariant nowhere
+    IsSound-none _ marks _ _ _ _ (omega arith) c.self.invariant nowhere
 
 pub returns-in_default-clause-none : goal.returns-in_default-clause-none
 returns-in_default-clause-none c =
@@ -18,7 +18,7 @@ pub invariant_of-self-2 : goal.invariant_of-self-2
 invariant_of-self-2 c =
     let marks = c.self.inside.marks.items in
     let found = rw (c.deref.ensures.value, take_rest marks c.self.inside.hint) at c.in-Some.ensures in
-    IsTallied-taken _ marks _ _ _ _ c.args.block c.self.invariant (IsLeastFree-found _ marks _ _ _ _ _ c.self.invariant found.0 found.1)
+    IsSound-taken _ marks _ _ _ _ c.args.block c.self.invariant (IsLeastFree-found _ marks _ _ _ _ _ c.self.invariant found.0 found.1)
 
 pub returns-clause-least : goal.returns-clause-least
 returns-clause-least c =

@@ -1,29 +1,9 @@
-use Rattle.std.proofs.Common.{◌≡◌, ◌+◌, ◌*◌, ◌^◌, length}
-use Rattle.lpm_groups.specs.States.{limbo_count}
-use Rattle.lpm_cells.specs.Table.{entry_at}
-use Rattle.lpm_update.specs.Linked.{IsTable, group_at}
-use Rattle.lpm_update.specs.Update.{IsUnderWay, StandsSoFar, HasGroups, IsSameChange, group_held, places_left}
-use Rattle.lpm_update.specs.Tied.{IsTied}
+use Rattle.lpm_update.specs.Update.{places_left}
+use Rattle.lpm_update.specs.Runs.{HasCome}
 use Rattle.lpm_update.proofs.tests.record.Given as goal
 
-abbrev pub invariant-loop-block : goal.invariant-loop-block
-invariant-loop-block g l =
-    let f = g.row.FIRST in
-    let s = g.row.SECOND in
-    let F = l.fn.cells.firsts in
-    let S = l.fn.cells.seconds in
-    record {
-      same : IsSameChange (f + s) l.fn.update l.update;
-      table : IsTable f s l.cells.firsts l.cells.seconds;
-      under_way : IsUnderWay f s l.update l.cells.firsts l.cells.seconds;
-      stands : StandsSoFar s l.update l.cells.firsts l.cells.seconds (entry_at s F S);
-      groups : HasGroups f s l.update l.cells.firsts (group_at F);
-      tied : IsTied f l.groups (group_held l.update l.cells.firsts);
-      room : length l.cells.seconds ≡ l.cells.groups * 2 ^ s;
-      cells : l.cells.groups ≡ l.fn.cells.groups;
-      states : length l.groups ≡ length l.fn.groups;
-      limbo : limbo_count l.groups ≡ limbo_count l.fn.groups;
-    }
+abbrev pub invariant-loop-did : goal.invariant-loop-did
+invariant-loop-did g l = record { run : HasCome 4 4 l.fn.update l.fn.cells l.update l.cells }
 
-abbrev pub decreases-loop-block : goal.decreases-loop-block
-decreases-loop-block g l = places_left g.row.FIRST g.row.SECOND l.update
+abbrev pub decreases-loop-did : goal.decreases-loop-did
+decreases-loop-did g l = places_left 4 4 l.update

@@ -6,6 +6,4 @@ use Rattle.fib.proofs.fib.Fib.counts.Goals as goal
 
 pub returns-clause-in_use : goal.returns-clause-in_use
 returns-clause-in_use g c =
-    let x = c.self.inside in
-    c.counts.ensures.in_use ∙ sound_linked g.row.FIRST g.row.SECOND x.config x.rules x.cells x.pool.keeper.groups x.pool.keeper.domain x.pool.queue x.versions c.self.invariant
-    ∙ ap (λ (f : FibState). groups_in_use g.row.FIRST g.row.SECOND f.table.rules) c.self.view_is
+    c.counts.ensures.in_use ∙ sound_linked c.self.invariant ∙ ap (λ (y : FibState). groups_in_use g.row.FIRST g.row.SECOND y.table.rules) c.self.view_is

@@ -1,6 +1,6 @@
 use Rattle.std.proofs.Common.{arith}
 use Rattle.std.proofs.lemmas.List.{take_more}
-use Rattle.fib.proofs.LongestHops.{AreLongestHops-append}
+use Rattle.lpm_rules.proofs.Longest.{AreLongestHops-append}
 use Rattle.fib.proofs.fib.Fib.lookup_all.Goals as goal
 
 pub loop-addr-preserved : goal.loop-addr-preserved

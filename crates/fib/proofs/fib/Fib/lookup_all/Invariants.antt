@@ -1,5 +1,5 @@
 use Rattle.std.proofs.Common.{◌+◌, take}
-use Rattle.fib.specs.Lookups.{AreLongestHops}
+use Rattle.lpm_rules.specs.Longest.{AreLongestHops}
 use Rattle.fib.proofs.fib.Fib.lookup_all.Given as goal
 
 -- the addresses up to here have their next hops

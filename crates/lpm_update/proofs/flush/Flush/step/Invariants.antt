@@ -1,5 +1,5 @@
-use Rattle.std.proofs.Common.{◌-◌, ◌≡◌, ℕ, ◌^◌, ◌<◌, ◌≤◌}
-use Rattle.std.specs.Prelude.{slice_index}
+use Rattle.std.proofs.Common.{◌-◌, ◌≡◌, ◌^◌, ◌≤◌}
+use Rattle.lpm_update.specs.Flush.{AllMiss}
 use Rattle.lpm_update.proofs.flush.Flush.step.Given as goal
 
 -- so far all words are misses, and nothing was stored
@@ -8,7 +8,7 @@ invariant-loop-self g l = record {
   same : l.cells ≡ l.fn.cells;
   low : l.fn.self.next ≤ l.self.next;
   within : l.self.next ≤ 2 ^ g.row.FIRST;
-  skipped : (k : ℕ) → l.fn.self.next ≤ k → k < l.self.next → slice_index (g.C.Cells.firsts l.fn.cells) k ≡ 0;
+  misses : AllMiss (g.C.Cells.words l.fn.cells).firsts l.fn.self.next l.self.next;
 }
 
 abbrev pub decreases-loop-self : goal.decreases-loop-self

@@ -1,0 +1,8 @@
+use Rattle.std.proofs.Common.{arith, ◌+◌, ◌^◌, ◌<◌}
+use Rattle.lpm_entry.proofs.Reading.{word_below}
+use Rattle.lpm_cells.proofs.plain.PlainCellsCells.set_first.Goals as goal
+
+pub overflow_cast-word : goal.overflow_cast-word
+overflow_cast-word g c =
+    let below : c.args.word < 2 ^ 32 = word_below (g.row.FIRST + g.row.SECOND) c.args.word c.self.invariant.0.2 c.requires.allowed.0 in
+    omega arith

@@ -1,0 +1,121 @@
+//! A rule that brings a group into use.
+
+ghost use Rattle.std.specs.Prelude.{◌≡◌};
+
+use super::{Did, Kind, Rewrite};
+use lpm_bits::{Hop, Prefix, Shape};
+use lpm_cells::Cells;
+use lpm_entry::Entry;
+
+/// The addition of a rule longer than `FIRST` bits to a block that has no group: the words of a
+/// free group are stored, upwards, and then the group is linked to the block.
+#[derive(Debug, Drop)]
+pub(crate) struct LinkGroup {
+    pub(crate) from: u64,
+    pub(crate) end: u64,
+    pub(crate) rewrite: Rewrite,
+    pub(crate) block: usize,
+    pub(crate) group: u32,
+    /// The place in the group of the next store; past the group's words the link, and then nothing.
+    pub(crate) next: u64,
+}
+
+impl LinkGroup {
+    ghost use Rattle.std.specs.Prelude.{◌≡◌, ℕ, ◌+◌, ◌-◌, ◌/◌, ◌^◌, ◌<◌, slice_index};
+    ghost use Rattle.lpm_bits.specs.Widths.{IsShape};
+    ghost use Rattle.lpm_cells.specs.Table.{Words};
+    ghost use Rattle.lpm_entry.specs.declared.Entry.TheVariants.{Hop as EntryHop};
+    ghost use Rattle.lpm_entry.specs.Words.{IsLast, entry_in};
+    ghost use Rattle.lpm_update.specs.declared.rewrite.Kind.TheVariants.{Add};
+    ghost use Rattle.lpm_update.specs.declared.update.Plan.TheVariants.{Link};
+    ghost use Rattle.lpm_update.specs.Linked.{IsTable};
+    ghost use Rattle.lpm_update.specs.LinkGroup.{IsLinking, final_entry};
+    ghost use Rattle.lpm_update.specs.Represents.{IsFreshGroup};
+    ghost use Rattle.lpm_update.specs.Update.{IsUnderWay};
+    ghost use Rattle.lpm_update.specs.Step.{AllowsNext, Steps, SetsWord};
+
+    /// The addition of this rule by this group, which no block has.
+    pub(crate) fn add<const FIRST: u32, const SECOND: u32>(
+        prefix: &Prefix<FIRST, SECOND>,
+        hop: Hop,
+        group: u32,
+    ) -> LinkGroup
+        ensures value { result ≡ record {
+          from = prefix.now.bits;
+          end = prefix.now.bits + 2 ^ (FIRST + SECOND - prefix.now.len);
+          rewrite = record {
+            kind = Add;
+            depth = prefix.now.len;
+            entry = EntryHop hop prefix.now.len;
+          };
+          block = prefix.now.bits / 2 ^ SECOND;
+          group = group;
+          next = 0;
+        } }
+        ensures linking { FIRST < prefix.now.len → (t : Words)
+            → IsLast (entry_in (slice_index t.firsts (prefix.now.bits / 2 ^ SECOND)))
+            → IsFreshGroup SECOND group t → IsLinking FIRST SECOND result t }
+    {
+        let bits = prefix.bits();
+        let len = prefix.len();
+        let from = u64::from(bits);
+        let _number = hop.number();
+        LinkGroup {
+            from,
+            end: from + (1 << (FIRST + SECOND - len)),
+            rewrite: Rewrite {
+                kind: Kind::Add,
+                depth: len,
+                entry: Entry::Hop { hop, depth: len },
+            },
+            block: Shape::<FIRST, SECOND>::first_index(bits),
+            group,
+            next: 0,
+        }
+    }
+
+    /// The entry of an address of the block after the change.
+    fn entry_for(&self, old: Entry, address: u64) -> Entry
+        ensures { result ≡ final_entry self.now.from self.now.end self.now.rewrite address old }
+    {
+        let replaced = self.rewrite.replaces(&old);
+        if self.from <= address && address < self.end && replaced {
+            return self.rewrite.entry;
+        }
+        old
+    }
+
+    /// Makes the next store of the addition, or none where it is done.
+    pub(crate) fn step<const FIRST: u32, const SECOND: u32, C: Cells>(
+        &mut self,
+        cells: &mut C,
+    ) -> Did
+        requires shape { IsShape FIRST SECOND }
+        requires table { IsTable FIRST SECOND (C.words cells.old) }
+        requires under_way { IsUnderWay FIRST SECOND (Link self.old) (C.words cells.old) }
+        requires allows { AllowsNext FIRST SECOND (Link self.old) (C.words cells.old)
+            (C.may_set_first cells.old) (C.may_set_second cells.old) }
+        ensures steps { Steps FIRST SECOND (Link self.old) (C.words cells.old) result
+            (Link self.new) (C.words cells.new) }
+        ensures sets { SetsWord C.words C.sets_first C.sets_second cells.old result cells.new }
+    {
+        let size = 1u64 << SECOND;
+        let next = self.next;
+        if next < size {
+            let old = Entry::of_word(cells.first(self.block));
+            let address = ((self.block as u64) << SECOND) + next;
+            let entry = self.entry_for(old, address);
+            let place = ((self.group as usize) << SECOND) + next as usize;
+            self.next = next + 1;
+            cells.set_second(place, entry.to_word());
+            return Did::Second(place);
+        }
+        if next == size {
+            let block = self.block;
+            self.next = next + 1;
+            cells.set_first(block, Entry::Group(self.group).to_word());
+            return Did::First(block);
+        }
+        Did::Done
+    }
+}

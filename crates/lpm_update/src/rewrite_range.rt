@@ -1,0 +1,208 @@
+//! A range of addresses whose entries are rewritten.
+
+ghost use Rattle.std.specs.Prelude.{◌≡◌};
+
+use super::{Did, Kind, Rewrite};
+use lpm_bits::{Hop, Prefix, Shape};
+use lpm_cells::Cells;
+use lpm_entry::Entry;
+use lpm_rules::Rule;
+
+/// The addresses from `from` up to, not including, `end`, whose entries become what `rewrite` makes
+/// of them; those below `at` have become so.
+#[derive(Debug, Drop)]
+pub(crate) struct RewriteRange {
+    pub(crate) from: u64,
+    pub(crate) at: u64,
+    pub(crate) end: u64,
+    pub(crate) rewrite: Rewrite,
+}
+
+impl RewriteRange {
+    ghost use Rattle.std.specs.Prelude.{◌≡◌, ℕ, ◌+◌, ◌-◌, ◌*◌, ◌/◌, ◌%◌, ◌^◌, ◌<◌, ◌≤◌, MatchOption};
+    ghost use Rattle.lpm_bits.specs.Widths.{IsShape};
+    ghost use Rattle.lpm_entry.specs.declared.Entry.TheVariants.{Hop as EntryHop};
+    ghost use Rattle.lpm_entry.specs.Words.{IsEntry, IsLast};
+    ghost use Rattle.lpm_rules.specs.RuleMap.{RuleMap};
+    ghost use Rattle.lpm_rules.specs.Longest.{IsUncovered, IsCoverRule};
+    ghost use Rattle.lpm_update.specs.declared.Did.TheVariants.{Done};
+    ghost use Rattle.lpm_update.specs.declared.rewrite.Kind.TheVariants.{Add, Delete};
+    ghost use Rattle.lpm_update.specs.declared.update.Plan.TheVariants.{Range};
+    ghost use Rattle.lpm_update.specs.Best.{IsCoverEntry};
+    ghost use Rattle.lpm_update.specs.Rewrite.{Skips};
+    ghost use Rattle.lpm_update.specs.Linked.{IsTable};
+    ghost use Rattle.lpm_update.specs.RewriteRange.{IsRangeOf, Visits};
+    ghost use Rattle.lpm_update.specs.Update.{IsUnderWay};
+    ghost use Rattle.lpm_update.specs.Step.{AllowsNext, Steps, SetsWord};
+
+    /// The change that adds a rule whose block needs no new group: a rule no longer than `FIRST`
+    /// bits, or one whose block has a group.
+    pub(crate) fn add<const FIRST: u32, const SECOND: u32>(
+        prefix: &Prefix<FIRST, SECOND>,
+        hop: Hop,
+    ) -> RewriteRange
+        ensures range { IsRangeOf FIRST SECOND prefix.now result }
+        ensures rewrite { result.rewrite ≡ record {
+          kind = Add;
+          depth = prefix.now.len;
+          entry = EntryHop hop prefix.now.len;
+        } }
+    {
+        let _number = hop.number();
+        let _bits = prefix.bits();
+        let depth = prefix.len();
+        let entry = Entry::Hop { hop, depth };
+        RewriteRange::over(
+            prefix,
+            Rewrite {
+                kind: Kind::Add,
+                depth,
+                entry,
+            },
+        )
+    }
+
+    /// The change that deletes a rule whose cover, the longest rule that is shorter and covers it,
+    /// is this one.
+    pub(crate) fn delete<const FIRST: u32, const SECOND: u32>(
+        prefix: &Prefix<FIRST, SECOND>,
+        cover: Option<Rule<FIRST, SECOND>>,
+    ) -> RewriteRange
+        ensures range { IsRangeOf FIRST SECOND prefix.now result }
+        ensures rewrite { (result.rewrite.kind ≡ Delete) × (result.rewrite.depth ≡ prefix.now.len) }
+        ensures cover { (R : RuleMap)
+            → MatchOption cover.entry
+                (IsUncovered (FIRST + SECOND) R prefix.now)
+                (λ c. IsCoverRule (FIRST + SECOND) R prefix.now c.prefix c.hop)
+            → IsCoverEntry (FIRST + SECOND) R prefix.now result.rewrite.entry }
+    {
+        let entry = cover_entry(cover);
+        let _bits = prefix.bits();
+        let depth = prefix.len();
+        RewriteRange::over(
+            prefix,
+            Rewrite {
+                kind: Kind::Delete,
+                depth,
+                entry,
+            },
+        )
+    }
+
+    /// The change over the addresses of a prefix.
+    fn over<const FIRST: u32, const SECOND: u32>(
+        prefix: &Prefix<FIRST, SECOND>,
+        rewrite: Rewrite,
+    ) -> RewriteRange
+        requires fits { IsEntry (FIRST + SECOND) rewrite.entry }
+        requires last { IsLast rewrite.entry }
+        ensures range { IsRangeOf FIRST SECOND prefix.now result }
+        ensures rewrite { result.rewrite ≡ rewrite }
+    {
+        let bits = prefix.bits();
+        let len = prefix.len();
+        let from = u64::from(bits);
+        RewriteRange {
+            from,
+            at: from,
+            end: from + (1 << (FIRST + SECOND - len)),
+            rewrite,
+        }
+    }
+
+    /// Looks at the next place of the range, and makes the store there if it is to be made.
+    #[inline]
+    fn visit<const FIRST: u32, const SECOND: u32, C: Cells>(&mut self, cells: &mut C) -> Did
+        requires shape { IsShape FIRST SECOND }
+        requires table { IsTable FIRST SECOND (C.words cells.old) }
+        requires under_way { IsUnderWay FIRST SECOND (Range self.old) (C.words cells.old) }
+        requires more { self.old.at < self.old.end }
+        requires allows { AllowsNext FIRST SECOND (Range self.old) (C.words cells.old)
+            (C.may_set_first cells.old) (C.may_set_second cells.old) }
+        ensures visits { Visits FIRST SECOND self.old (C.words cells.old) result
+            self.new (C.words cells.new) }
+        ensures sets { SetsWord C.words C.sets_first C.sets_second cells.old result cells.new }
+    {
+        let at = self.at;
+        let rewrite = self.rewrite;
+        let block = Shape::<FIRST, SECOND>::first_index(at as u32);
+        let entry = Entry::of_word(cells.first(block));
+        match entry {
+            Entry::Group(group) => {
+                let base = (group as usize) << SECOND;
+                let place = base + Shape::<FIRST, SECOND>::second_index(at as u32);
+                let old = Entry::of_word(cells.second(place));
+                self.at = at + 1;
+                if rewrite.replaces(&old) {
+                    cells.set_second(place, rewrite.entry.to_word());
+                    return Did::Second(place);
+                }
+            }
+            entry => {
+                self.at = at + (1 << SECOND);
+                if rewrite.replaces(&entry) {
+                    cells.set_first(block, rewrite.entry.to_word());
+                    return Did::First(block);
+                }
+            }
+        }
+        Did::Done
+    }
+
+    /// Makes the next store of the change, upwards, or none where it is done.
+    #[inline(always)]
+    pub(crate) fn step<const FIRST: u32, const SECOND: u32, C: Cells>(
+        &mut self,
+        cells: &mut C,
+    ) -> Did
+        requires shape { IsShape FIRST SECOND }
+        requires table { IsTable FIRST SECOND (C.words cells.old) }
+        requires under_way { IsUnderWay FIRST SECOND (Range self.old) (C.words cells.old) }
+        requires allows { AllowsNext FIRST SECOND (Range self.old) (C.words cells.old)
+            (C.may_set_first cells.old) (C.may_set_second cells.old) }
+        ensures steps { Steps FIRST SECOND (Range self.old) (C.words cells.old) result
+            (Range self.new) (C.words cells.new) }
+        ensures sets { SetsWord C.words C.sets_first C.sets_second cells.old result cells.new }
+        // Where it is done, no entry was left to rewrite.
+        ensures skips { result ≡ Done
+            → Skips SECOND self.old.rewrite (C.words cells.old) self.old.at self.old.end }
+    {
+        while self.at < self.end {
+            match self.visit::<FIRST, SECOND, C>(cells) {
+                Did::Done => {}
+                did => return did,
+            }
+        }
+        Did::Done
+    }
+}
+
+ghost use Rattle.std.specs.Prelude.{ℕ, ◌+◌, MatchOption};
+ghost use Rattle.lpm_bits.specs.Network.{Network};
+ghost use Rattle.lpm_entry.specs.Words.{IsEntry, IsLast};
+ghost use Rattle.lpm_rules.specs.RuleMap.{RuleMap};
+ghost use Rattle.lpm_rules.specs.Longest.{IsUncovered, IsCoverRule};
+ghost use Rattle.lpm_update.specs.Best.{IsCoverEntry};
+
+/// The entry of the rule that takes a deleted one's place; a miss where there is none.
+fn cover_entry<const FIRST: u32, const SECOND: u32>(cover: Option<Rule<FIRST, SECOND>>) -> Entry
+    ensures fits { IsEntry (FIRST + SECOND) result }
+    ensures last { IsLast result }
+    ensures cover { (R : RuleMap) (p : Network)
+        → MatchOption cover.entry
+            (IsUncovered (FIRST + SECOND) R p)
+            (λ c. IsCoverRule (FIRST + SECOND) R p c.prefix c.hop)
+        → IsCoverEntry (FIRST + SECOND) R p result }
+{
+    match cover {
+        Some(rule) => {
+            let depth = rule.prefix.len();
+            let _number = rule.hop.number();
+            return Entry::Hop {
+                hop: rule.hop,
+                depth,
+            };
+        }
+        None => return Entry::Miss,
+    }
+}
