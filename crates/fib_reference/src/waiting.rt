@@ -208,8 +208,8 @@ impl Waiting {
     ) -> Result<Outcome, AllocError>
         requires sound { IsSound config.now self.old }
         ensures reported { IfOk result (λ outcome. (rules : RuleMap) (begun : ℕ)
-            → Reports (textbook config.now) config.now (state_with rules begun self.old) report worker
-            outcome (state_with rules begun self.new)) }
+            → Reports (textbook config.now) config.now (state_with rules begun self.old)
+            report worker outcome (state_with rules begun self.new)) }
         ensures sound { OnOk result (IsSound config.now self.new) }
     {
         if worker >= config.workers {
