@@ -39,7 +39,8 @@ pub record IsLoaded (c : Config) (routes : List Route) (table : State Registry) 
 
 -- the routes before the one on this line make a table, which refuses that one for another reason
 -- than want of memory, and stays as it was
-pub record IsFirstRefused (c : Config) (routes : List Route) (line : ℕ) (refusal : Refusal) : Type 0 where
+pub record IsFirstRefused (c : Config) (routes : List Route) (line : ℕ) (refusal : Refusal)
+    : Type 0 where
   pub before : List Route
   pub route : Route
   pub after : List Route

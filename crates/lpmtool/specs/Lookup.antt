@@ -11,7 +11,8 @@ use Rattle.route_text.specs.declared.routes.Route.{Route}
 use Rattle.route_text.specs.Files.{AreRoutes, AreAddresses, IsRoutesFault, IsAddressesFault}
 use Rattle.route_text.specs.Texts.{answer_lines}
 use Rattle.lpmtool.specs.declared.failure.Failure.{Failure}
-use Rattle.lpmtool.specs.declared.failure.Failure.TheVariants.{CannotRead, CannotWrite, Bad, Memory, Refused}
+use Rattle.lpmtool.specs.declared.failure.Failure.TheVariants.{CannotRead, CannotWrite, Bad}
+use Rattle.lpmtool.specs.declared.failure.Failure.TheVariants.{Memory, Refused}
 use Rattle.lpmtool.specs.Loading.{rules_of_routes, IsLoaded, IsFirstRefused}
 
 -- the text has a line for each address with its longest match
@@ -66,8 +67,8 @@ EndsThird c routes bytes address_bytes failure = IfSome address_bytes IsAddressF
     × IfSome bytes (λ a. (list : List Route) × AreRoutes a list × EndsLoading c routes list failure)
 
 -- a lookup of the files of these paths, whose bytes these are, ends so: by reading the route file,
--- else by reading the address file, else by loading the routes; or later for want of memory, or by a
--- write
+-- else by reading the address file, else by loading the routes; or later for want of memory, or by
+-- a write
 abbrev pub EndsLookup : Config → List ℕ → List ℕ → (List ℕ → Option (List ℕ)) → Failure → Type 0
 EndsLookup c routes addresses bytes failure =
     EndsReading IsRoutesFault routes (bytes routes) failure

@@ -24,11 +24,13 @@ abbrev pub AsksFor : List Text → CommandLine → Type 0
 AsksFor words line = IsAskedBy (subcommand_of the_app words) line
 
 -- the words ask for help, or for a command whose output was written
-abbrev pub IsDone : List Text → (List ℕ → Option (List ℕ)) → Option (List ℕ) → Option (List ℕ) → Type 0
+abbrev pub IsDone : List Text → (List ℕ → Option (List ℕ)) → Option (List ℕ) → Option (List ℕ)
+    → Type 0
 IsDone words bytes old new = AsksForHelp words
     ⊎ ((line : CommandLine) × (AsksFor words line × Writes (IsOutput line bytes) old new))
 
 -- the words ask for help, or for a command of whose output a beginning was written
-abbrev pub IsBegun : List Text → (List ℕ → Option (List ℕ)) → Option (List ℕ) → Option (List ℕ) → Type 0
+abbrev pub IsBegun : List Text → (List ℕ → Option (List ℕ)) → Option (List ℕ) → Option (List ℕ)
+    → Type 0
 IsBegun words bytes old new = AsksForHelp words
     ⊎ ((line : CommandLine) × (AsksFor words line × WritesBeginning (IsOutput line bytes) old new))

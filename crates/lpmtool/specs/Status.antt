@@ -1,7 +1,8 @@
 -- Meaning: the exit status of a failure (this project's program).
 use Rattle.std.specs.Prelude.{ℕ}
 use Rattle.lpmtool.specs.declared.failure.Failure.{Failure}
-use Rattle.lpmtool.specs.declared.failure.Failure.TheVariants.{CannotRead, CannotWrite, Bad, Memory, Refused}
+use Rattle.lpmtool.specs.declared.failure.Failure.TheVariants.{CannotRead, CannotWrite, Bad}
+use Rattle.lpmtool.specs.declared.failure.Failure.TheVariants.{Memory, Refused}
 
 abbrev pub status_of : Failure → ℕ
 status_of (CannotRead path) = 3

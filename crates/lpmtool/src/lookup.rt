@@ -1,11 +1,12 @@
 //! `lookup`: the next hops of addresses, by routes.
-ghost use Rattle.std.specs.Prelude.{◌≡◌, ◌≢◌, ℕ, ◌<◌, ◌≤◌, List, IfOk, IfErr, IfSome, OnOk, IsErrOf, ◌⊎◌};
+ghost use Rattle.std.specs.Prelude.{◌≡◌, ◌≢◌, ◌⊎◌, IfOk, IfErr, IfSome, OnOk, IsErrOf};
 ghost use Rattle.lpm_limits.specs.Limits.{IsConfig};
 ghost use Rattle.route_text.specs.Files.{AreRoutes, AreAddresses, IsRoutesFault, IsAddressesFault};
 ghost use Rattle.fib_model.specs.Counting.{opened};
 ghost use Rattle.lpmtool.specs.Loading.{IsLoaded};
 ghost use Rattle.lpmtool.specs.Output.{Writes, WritesBeginning};
-ghost use Rattle.lpmtool.specs.Lookup.{IsAnswerText, IsTextOf, EndsLookup, EndsReading, EndsLoading};
+ghost use Rattle.lpmtool.specs.Lookup.{IsAnswerText, IsTextOf};
+ghost use Rattle.lpmtool.specs.Lookup.{EndsLookup, EndsReading, EndsLoading};
 
 use crate::failure::Failure;
 use crate::files::{Files, ReadFailure, put_all, read_file};
@@ -20,8 +21,8 @@ const AHEAD: usize = 64;
 
 /// Writes a line for each address with the next hop of its longest matching route.
 ///
-/// Each file is read and parsed before the next, and all before a route is loaded. The text is formed
-/// whole before it is written.
+/// Each file is read and parsed before the next, and all before a route is loaded. The text is
+/// formed whole before it is written.
 pub fn lookup<'a, F: Files, W: Write>(
     alloc: Global,
     files: &F,
@@ -167,8 +168,8 @@ fn refused(path: &str, line: usize, refusal: Refusal) -> Failure<'_>
     }
 }
 
-// Prefetches for the next routes, and returns after how many of them to prefetch again. That is sooner
-// where few of them were covered yet, since then more words are stored on the way.
+// Prefetches for the next routes, and returns after how many of them to prefetch again. That is
+// sooner where few of them were covered yet, since then more words are stored on the way.
 #[inline(never)]
 fn prefetch(table: &Fib<24, 8>, routes: &[Route]) -> usize {
     let mut covered = 0usize;

@@ -18,7 +18,7 @@ use std::convert::AsStr;
 use std::io;
 use std::io::Write;
 
-/// Runs the command of these words, of which the first is the program's name, and answers the exit
+/// Runs the command of these words, of which the first is the program's name, and returns the exit
 /// status. Faults go to `err`, one line each.
 pub fn run<S: AsStr, F: Files, O: Write, E: Write>(
     alloc: Global,
@@ -30,9 +30,11 @@ pub fn run<S: AsStr, F: Files, O: Write, E: Write>(
     ensures done { result ≡ 0 → IsDone (map S.text words.now) (F.bytes files.now)
         (O.contents out.old) (O.contents out.new) }
 
-    // Only a failed write leaves something written where the command isn't done: a beginning of its text.
+    // Only a failed write leaves something written where the command isn't done: a beginning of its
+    // text.
     ensures begun { result ≡ 3 → (out.new ≡ out.old)
-        ⊎ IsBegun (map S.text words.now) (F.bytes files.now) (O.contents out.old) (O.contents out.new) }
+        ⊎ IsBegun (map S.text words.now) (F.bytes files.now)
+        (O.contents out.old) (O.contents out.new) }
     ensures untouched { result ≢ 0 → result ≢ 3 → out.new ≡ out.old }
 {
     let line = match options(alloc, words) {
@@ -71,7 +73,7 @@ fn perform<'a, F: Files, O: Write>(
     }
 }
 
-/// Refuses a command line whose words can't be had, and answers the exit status.
+/// Refuses a command line whose words can't be had, and returns the exit status.
 pub fn refuse_words<E: Write>(kind: io::ErrorKind, err: &mut E) -> u8
     ensures memory { kind ≡ OutOfMemory → result ≡ 5 }
     ensures usage { kind ≢ OutOfMemory → result ≡ 2 }
@@ -100,7 +102,7 @@ fn show<O: Write, E: Write>(error: &Error, out: &mut O, err: &mut E) -> u8
     }
 }
 
-// Shows the failure on `err`, and answers its exit status.
+// Shows the failure on `err`, and returns its exit status.
 fn fail<E: Write>(failure: Failure<'_>, err: &mut E) -> u8
     ensures { result ≡ status_of failure.entry }
 {

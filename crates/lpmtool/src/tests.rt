@@ -491,7 +491,8 @@ const FOUR_ADDRESSES: &[u8] = b"10.1.1.127\n10.1.1.128\n10.2.0.0\n11.0.0.0\n";
 
 const FOUR_ANSWERS: &str = "10.1.1.127 2\n10.1.1.128 3\n10.2.0.0 1\n11.0.0.0 -\n";
 
-// A name, the files of routes and addresses, the status, and the texts on standard output and standard error.
+// A name, the files of routes and addresses, the status, and the texts on standard output and
+// standard error.
 type Ended = (
     &'static str,
     &'static [u8],
