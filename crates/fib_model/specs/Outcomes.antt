@@ -76,7 +76,7 @@ abbrev pub Shrinks : {X : Type 0} → Keeping X → ℕ → ℕ → Config → S
     → Type 0
 Shrinks k first second c s R z = HasTokens k c s
     × Unlinks k c (groups_in_use first second s.rules - groups_in_use first second R)
-      s.readers s.limbo z.readers z.limbo
+    s.readers s.limbo z.readers z.limbo
     × (z.rules ≡ R) × (z.begun ≡ s.begun + 1)
 
 -- deleting rule p

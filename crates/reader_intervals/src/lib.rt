@@ -4,6 +4,5 @@
 #![tactic(auto)]
 
 pub mod laws;
-
 #[cfg(test)]
 mod tests;
