@@ -114,11 +114,44 @@ fn hop_by_rules(rt: &impl Abort, fib: &Fib<4, 4>, addr: u32) -> Option<Hop> {
     None
 }
 
-// After each of many lists of commands the table agrees with the slow program, and each lookup with
-// its rules.
+// Each lookup answers what the rules alone say.
+fn assert_lookups(rt: &impl Abort, fib: &Fib<4, 4>) {
+    for addr in 0..256u32 {
+        assert_eq!(rt; fib.lookup(addr), hop_by_rules(rt, fib, addr), "at {addr}");
+    }
+}
+
+// The table agrees with the slow program, and each lookup with the table's rules.
+fn assert_agrees(
+    rt: &impl Abort,
+    alloc: Global,
+    config: &Config,
+    commands: &[Command<4, 4>],
+) -> Result<(), Fail> {
+    assert!(rt; config.check().is_ok());
+    let computed = expected(alloc, config, commands)?;
+    let mut fib = Fib::<4, 4>::open(alloc, *config)?;
+    let outcomes = fib.execute_all(alloc, commands)?;
+    assert_eq!(rt; account(&fib, outcomes), computed);
+    assert_lookups(rt, &fib);
+    Ok(())
+}
+
+// Draws five more commands.
+fn draw_more(
+    rt: &impl Abort,
+    seed: &mut u32,
+    commands: &mut Vec<Command<4, 4>>,
+) -> Result<(), AllocError> {
+    for _ in 0..5 {
+        commands.push(draw_command(rt, seed))?;
+    }
+    Ok(())
+}
+
+// Each of many lists of commands, one longer than the other, comes out as the slow program says.
 #[test]
 fn drawn_commands(rt: HostRuntime) -> Result<(), Fail> {
-    let alloc = rt.alloc();
     let config = Config {
         rules: 9,
         groups: 3,
@@ -127,59 +160,68 @@ fn drawn_commands(rt: HostRuntime) -> Result<(), Fail> {
         reclaim_max: 1,
         first_token: 1,
     };
-    assert!(rt; config.check().is_ok());
     let mut seed = 1;
-    let mut commands = Vec::new(alloc);
-    for round in 0..40 {
-        for _ in 0..5 {
-            commands.push(draw_command(&rt, &mut seed))?;
-        }
-        let mut fib = Fib::<4, 4>::open(alloc, config)?;
-        let outcomes = fib.execute_all(alloc, &commands)?;
-        let computed = expected(alloc, &config, &commands)?;
-        assert_eq!(rt; account(&fib, outcomes), computed, "round {round}");
-        for addr in 0..256u32 {
-            assert_eq!(rt;
-                fib.lookup(addr),
-                hop_by_rules(&rt, &fib, addr),
-                "at {addr}"
-            );
-        }
+    let mut commands = Vec::new(rt.alloc());
+    for _ in 0..40 {
+        draw_more(&rt, &mut seed, &mut commands)?;
+        assert_agrees(&rt, rt.alloc(), &config, &commands)?;
     }
     Ok(())
 }
 
-#[test]
-fn lookups_of_three_routes(rt: HostRuntime) -> Result<(), Fail> {
-    let mut fib = Fib::<24, 8>::open(rt.alloc(), Config::default())?;
-    let mut commands = Vec::new(rt.alloc());
+// The additions of 10.0.0.0/8, 10.1.0.0/16 and 10.1.1.128/25.
+fn three_routes(rt: &impl Abort, alloc: Global) -> Result<Vec<Command<24, 8>>, AllocError> {
+    let mut commands = Vec::new(alloc);
     for (bits, len, number) in [
         (0x0a00_0000, 8, 1),
         (0x0a01_0000, 16, 2),
         (0x0a01_0180, 25, 3),
     ] {
-        commands.push(Command::Add(prefix(&rt, bits, len), hop(&rt, number)))?;
+        commands.push(Command::Add(prefix(rt, bits, len), hop(rt, number)))?;
     }
+    Ok(commands)
+}
+
+// 10.1.1.128, 11.0.0.0, 10.1.1.127 and 10.2.0.0, and their next hops by the three routes.
+const FOUR: [u32; 4] = [0x0a01_0180, 0x0b00_0000, 0x0a01_017f, 0x0a02_0000];
+
+fn assert_hops(rt: &impl Abort, hops: &[Option<Hop>]) {
+    let numbers = [Some(3), None, Some(2), Some(1)];
+    assert_eq!(rt; hops.len(), 4);
+    for (hop, number) in hops.iter().zip(numbers.iter()) {
+        assert_eq!(rt; hop.map(|hop| hop.number()), *number);
+    }
+}
+
+fn assert_reads(rt: &impl Abort, fib: &Fib<24, 8>) {
+    let route = prefix(rt, 0x0a01_0000, 16);
+    assert_eq!(rt; fib.get(&route), Some(hop(rt, 2)));
+    assert!(rt; fib.prefetch(&route));
+    assert!(rt; !fib.prefetch(&prefix(rt, 0x0b00_0000, 8)));
+    assert_eq!(rt; fib.lookup4(FOUR, 99), [3, 99, 2, 1]);
+}
+
+#[test]
+fn lookups_of_three_routes(rt: HostRuntime) -> Result<(), Fail> {
+    let commands = three_routes(&rt, rt.alloc())?;
+    let mut fib = Fib::<24, 8>::open(rt.alloc(), Config::default())?;
     for command in &commands {
         assert_eq!(rt; fib.execute(command), Outcome::Put(Put::Added));
     }
-    let addrs = [0x0a01_0180, 0x0b00_0000, 0x0a01_017f, 0x0a02_0000];
-    assert_eq!(rt; fib.lookup4(addrs, 99), [3, 99, 2, 1]);
-    let hops = [
-        Some(hop(&rt, 3)),
-        None,
-        Some(hop(&rt, 2)),
-        Some(hop(&rt, 1)),
-    ];
-    assert_eq!(rt; fib.lookup_all(rt.alloc(), &addrs)?.as_slice(), &hops[..]);
-    assert_eq!(rt; fib.get(&prefix(&rt, 0x0a01_0000, 16)), Some(hop(&rt, 2)));
-    assert!(rt; fib.prefetch(&prefix(&rt, 0x0a01_0000, 16)));
-    assert!(rt; !fib.prefetch(&prefix(&rt, 0x0b00_0000, 8)));
+    assert_reads(&rt, &fib);
+    assert_hops(&rt, &fib.lookup_all(rt.alloc(), &FOUR)?);
     assert_eq!(rt; fib.config(), Config::default());
-    let replay = Fib::<24, 8>::replay(rt.alloc(), Config::default(), &commands, &addrs)?;
-    assert_eq!(rt; replay.hops.as_slice(), &hops[..]);
+    Ok(())
+}
+
+#[test]
+fn replay_of_three_routes(rt: HostRuntime) -> Result<(), Fail> {
+    let commands = three_routes(&rt, rt.alloc())?;
+    let replay = Fib::<24, 8>::replay(rt.alloc(), Config::default(), &commands, &FOUR)?;
+    assert_hops(&rt, &replay.hops);
     assert_eq!(rt; (replay.rules, replay.versions, replay.token), (3, 3, 1));
-    assert_eq!(rt; replay.counts, fib.counts());
+    let counts = replay.counts;
+    assert_eq!(rt; (counts.in_use, counts.limbo, counts.free), (1, 0, 255));
     Ok(())
 }
 
