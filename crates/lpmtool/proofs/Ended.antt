@@ -1,7 +1,8 @@
 -- How a run ended.
 use Rattle.std.proofs.Common.{◌≡◌, ◌≢◌, ◌⊎◌, inl, inr, refl}
 use Rattle.lpmtool.specs.declared.failure.Failure.{Failure}
-use Rattle.lpmtool.specs.declared.failure.Failure.TheVariants.{CannotRead, CannotWrite, Bad, Memory, Refused}
+use Rattle.lpmtool.specs.declared.failure.Failure.TheVariants.{CannotRead, CannotWrite, Bad}
+use Rattle.lpmtool.specs.declared.failure.Failure.TheVariants.{Memory, RefusedRoute, Refused}
 
 -- a failure is a failed write, or another one
 pub cannot_write : (e : Failure) → (e ≡ CannotWrite) ⊎ (e ≢ CannotWrite)
@@ -9,4 +10,5 @@ cannot_write (CannotRead path) = inr (λ e. cc)
 cannot_write CannotWrite = inl refl
 cannot_write (Bad path fault) = inr (λ e. cc)
 cannot_write Memory = inr (λ e. cc)
-cannot_write (Refused path line refusal) = inr (λ e. cc)
+cannot_write (RefusedRoute path line refusal) = inr (λ e. cc)
+cannot_write (Refused refusal) = inr (λ e. cc)

@@ -1,4 +1,5 @@
 pub mod Written
 pub mod Loaded
-pub mod Answered
+pub mod Updated
+pub mod Texts
 pub mod Ended

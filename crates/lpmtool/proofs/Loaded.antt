@@ -19,7 +19,7 @@ use Rattle.fib_model.specs.Counting.{counting, opened}
 use Rattle.route_text.specs.declared.routes.Route.{Route}
 use Rattle.lpmtool.specs.declared.failure.Failure.{Failure}
 use Rattle.lpmtool.specs.declared.failure.Failure.TheVariants as failures
-use Rattle.lpmtool.specs.Lookup.{EndsLoading}
+use Rattle.lpmtool.specs.Loading.{EndsLoading}
 use Rattle.lpmtool.specs.Loading.{Loads, addition_of, IsLoaded, IsFirstRefused}
 
 -- the rules of one route more

@@ -1,9 +1,11 @@
 //! What ends a run before its output is written, and its exit status.
 ghost use Rattle.std.specs.Prelude.{◌≡◌};
 ghost use Rattle.lpmtool.specs.Status.{status_of};
+ghost use Rattle.lpmtool.specs.declared.failure.Failure.TheVariants.{Memory as IsMemory};
 
 use qsbr::Refusal;
 use route_text::Fault;
+use std::alloc::AllocError;
 use thiserror::Error;
 
 /// The exit status where the command line isn't accepted.
@@ -43,11 +45,24 @@ pub enum Failure<'a> {
     Memory,
     /// The table refused the route on this line of the route file, for another reason than memory.
     #[error("lpmtool: {path}:{line}: refused {} {}", .refusal.number(), .refusal.name())]
-    Refused {
+    RefusedRoute {
         path: &'a str,
         line: usize,
         refusal: Refusal,
     },
+    /// Another refusal, that of no line: `NoWorkers` where addresses are to be answered.
+    #[error("lpmtool: refused {} {}", .refusal.number(), .refusal.name())]
+    Refused {
+        refusal: Refusal,
+    },
+}
+
+impl From<AllocError> for Failure<'_> {
+    ghost from_gives = { λ _ failure. failure ≡ IsMemory };
+
+    fn from(_error: AllocError) -> Self {
+        Failure::Memory
+    }
 }
 
 impl Failure<'_> {
@@ -59,7 +74,7 @@ impl Failure<'_> {
             Failure::CannotRead { .. } | Failure::CannotWrite => INPUT_OUTPUT,
             Failure::Bad { .. } => BAD_FILE,
             Failure::Memory => MEMORY,
-            Failure::Refused { .. } => REFUSED,
+            Failure::RefusedRoute { .. } | Failure::Refused { .. } => REFUSED,
         }
     }
 }

@@ -1,9 +1,11 @@
 //! Files to read and a writer to write, of any kind.
 ghost use Rattle.std.specs.Prelude.{◌≡◌, ℕ, ◌≤◌, List, Option, length, take};
-ghost use Rattle.std.specs.Prelude.{IfOk, IfSome, OnOk, OnErr};
+ghost use Rattle.std.specs.Prelude.{◌↔◌, IfOk, IfErr, IfSome, OnOk, OnErr};
+ghost use Rattle.std.specs.declared.io.ErrorKind.TheVariants.{OutOfMemory};
 ghost use Rattle.std.specs.Io.KnownBytes.{Appends};
 ghost use Rattle.lpmtool.specs.Output.{Begins};
 
+use crate::failure::Failure;
 use std::alloc::Global;
 use std::io;
 use std::io::{ErrorKind, Read, Write};
@@ -44,10 +46,24 @@ pub fn read_file<F: Files>(alloc: Global, files: &F, path: &str) -> Result<Vec<u
     }
 }
 
-fn read_failure(e: io::Error) -> ReadFailure {
+fn read_failure(e: io::Error) -> ReadFailure
+    ensures { (result ≡ ReadFailure.Memory) ↔ (e.kind ≡ OutOfMemory) }
+{
     match e.kind() {
         ErrorKind::OutOfMemory => ReadFailure::Memory,
         _ => ReadFailure::CannotRead,
+    }
+}
+
+/// Writes all of the text, or ends the run with `CannotWrite`.
+pub fn put_text<'a, W: Write>(out: &mut W, text: &[u8]) -> Result<(), Failure<'a>>
+    ensures all { OnOk result (Appends (W.contents out.old) (W.contents out.new) text.now) }
+    ensures beginning { OnErr result (Begins (W.contents out.old) (W.contents out.new) text.now) }
+    ensures failure { IfErr result (λ e. e ≡ Failure.CannotWrite) }
+{
+    match put_all(out, text) {
+        Ok(()) => Ok(()),
+        Err(CannotWrite) => Err(Failure::CannotWrite),
     }
 }
 

@@ -1,10 +1,16 @@
 //! `lpmtool`: longest-prefix match of IPv4 addresses, from files.
 #![tactic(auto)]
 
+mod apply;
 mod failure;
 mod files;
+mod inputs;
+mod loading;
 mod lookup;
+mod migrate;
+mod report;
 mod run;
+mod updating;
 #[cfg(test)]
 mod tests;
 
@@ -12,22 +18,45 @@ ghost use Rattle.std.specs.Prelude.{None};
 
 use crate::files::Files;
 use std::fs::File;
+use std::io::{Read, Stdin};
 use std::process::ExitCode;
 use std::{env, fs, io};
 
-/// The files of the system.
+/// The path of standard input.
+const STANDARD_INPUT: &str = "-";
+
+/// A file of the system, or standard input.
+#[derive(Drop)]
+enum Source {
+    File(File),
+    Input(Stdin),
+}
+
+impl Read for Source {
+    fn read(&mut self, buf: &mut [u8]) -> io::Result<usize> {
+        match self {
+            Source::File(file) => file.read(buf),
+            Source::Input(input) => input.read(buf),
+        }
+    }
+}
+
+/// The files of the system, and standard input under the path `-`.
 #[derive(Drop)]
 struct Disk<'a> {
     rt: &'a HostRuntime,
 }
 
 impl Files for Disk<'_> {
-    type Reader = File;
+    type Reader = Source;
 
     ghost bytes = { λ _ _. None };
 
-    fn open(&self, path: &str) -> io::Result<File> {
-        fs::open(self.rt, path)
+    fn open(&self, path: &str) -> io::Result<Source> {
+        if path == STANDARD_INPUT {
+            return Ok(Source::Input(self.rt.stdin()));
+        }
+        Ok(Source::File(fs::open(self.rt, path)?))
     }
 }
 
@@ -39,7 +68,7 @@ fn main(rt: HostRuntime) -> ExitCode {
         Err(e) => return ExitCode::from(run::refuse_words(e.kind(), &mut err)),
     };
     let files = Disk { rt: &rt };
-    let status = run::run(rt.alloc(), words.as_slice(), &files, &mut out, &mut err);
+    let status = run::run(&rt, rt.alloc(), words.as_slice(), &files, &mut out, &mut err);
     ExitCode::from(status)
 }
 

@@ -4,23 +4,29 @@ ghost use Rattle.clap.specs.Words.{kind_of};
 ghost use Rattle.std.specs.declared.io.ErrorKind.TheVariants.{OutOfMemory};
 ghost use Rattle.lpm_options.specs.Asked.{IsInRange};
 ghost use Rattle.lpmtool.specs.Output.{Writes, WritesBeginning};
-ghost use Rattle.lpmtool.specs.Run.{IsDone, IsBegun, IsOutput};
+ghost use Rattle.lpmtool.specs.Run.{IsDone, IsBegun, IsCause, IsOutput, EndsCommand};
+ghost use Rattle.lpmtool.specs.Run.{IsShown, EndsRefused};
 ghost use Rattle.lpmtool.specs.Status.{status_of};
 
+use crate::apply::apply;
 use crate::failure::{Failure, USAGE};
 use crate::files::Files;
 use crate::lookup::lookup;
+use crate::migrate::migrate;
+use crate::report::report;
+use bulk::Open;
 use clap::Error;
-use clap::error::ErrorKind;
 use lpm_options::{CommandLine, Refused, options};
 use std::alloc::Global;
 use std::convert::AsStr;
 use std::io;
 use std::io::Write;
+use std::thread::Threads;
 
 /// Runs the command of these words, of which the first is the program's name, and returns the exit
 /// status. Faults go to `err`, one line each.
-pub fn run<S: AsStr, F: Files, O: Write, E: Write>(
+pub fn run<R: Threads + Sync, S: AsStr, F: Files, O: Write, E: Write>(
+    rt: &R,
     alloc: Global,
     words: &[S],
     files: &F,
@@ -36,21 +42,21 @@ pub fn run<S: AsStr, F: Files, O: Write, E: Write>(
         ⊎ IsBegun (map S.text words.now) (F.bytes files.now)
         (O.contents out.old) (O.contents out.new) }
     ensures untouched { result ≢ 0 → result ≢ 3 → out.new ≡ out.old }
+    ensures cause { result ≢ 0 → IsCause (map S.text words.now) (F.bytes files.now) result }
 {
     let line = match options(alloc, words) {
         Ok(line) => line,
-        Err(Refused::Usage(error)) => return show(&error, out, err),
-        Err(Refused::Memory) => return fail(Failure::Memory, err),
-        Err(Refused::NoCommand) => return USAGE,
+        Err(refused) => return refuse(&refused, out, err),
     };
-    match perform(alloc, line, files, out) {
+    match perform(rt, alloc, line, files, out) {
         Ok(()) => 0,
         Err(failure) => fail(failure, err),
     }
 }
 
 // Performs the command.
-fn perform<'a, F: Files, O: Write>(
+fn perform<'a, R: Threads + Sync, F: Files, O: Write>(
+    rt: &R,
     alloc: Global,
     line: CommandLine<'a>,
     files: &F,
@@ -63,13 +69,26 @@ fn perform<'a, F: Files, O: Write>(
         → WritesBeginning (IsOutput line.entry (F.bytes files.now))
         (O.contents out.old) (O.contents out.new) }
     ensures untouched { IfErr result (λ e. e ≢ Failure.CannotWrite → out.new ≡ out.old) }
+    ensures failure { IfErr result (EndsCommand line.entry (F.bytes files.now)) }
 {
     match line {
         CommandLine::Lookup {
             routes,
             addresses,
             config,
-        } => lookup(alloc, files, routes, addresses, config, out),
+        } => lookup(rt, alloc, files, routes, addresses, config, &Open, out),
+        CommandLine::Apply {
+            routes,
+            updates,
+            addresses,
+            config,
+        } => apply(rt, alloc, files, routes, updates, addresses, config, out),
+        CommandLine::Report {
+            routes,
+            updates,
+            config,
+        } => report(alloc, files, routes, updates, config, out),
+        CommandLine::Migrate { old } => migrate(alloc, files, old, out),
     }
 }
 
@@ -85,20 +104,37 @@ pub fn refuse_words<E: Write>(kind: io::ErrorKind, err: &mut E) -> u8
     USAGE
 }
 
-// Shows the parser's text: help on `out`, else what is wrong with the words on `err`.
-fn show<O: Write, E: Write>(error: &Error, out: &mut O, err: &mut E) -> u8
-    ensures help { result ≢ 2 → kind_of error.now ≡ ErrorKind.DisplayHelp }
+// Tells why the words are no command line, and returns the exit status.
+fn refuse<O: Write, E: Write>(refused: &Refused, out: &mut O, err: &mut E) -> u8
+    ensures cause { EndsRefused refused.now result }
     ensures untouched { result ≢ 0 → result ≢ 3 → out.new ≡ out.old }
 {
-    match error.kind() {
-        ErrorKind::DisplayHelp => match write!(out, "{error}") {
-            Ok(()) => 0,
-            Err(_) => fail(Failure::CannotWrite, err),
-        },
-        _ => {
-            let _ = write!(err, "{error}");
+    match refused {
+        Refused::Usage(error) => show(error, out, err),
+        Refused::Memory => fail(Failure::Memory, err),
+        Refused::TwoStandardInputs => {
+            let _ = writeln!(err, "lpmtool: only one file can be `-`, standard input");
             USAGE
         }
+        Refused::NoCommand => USAGE,
+    }
+}
+
+// Shows the parser's text: help or the version on `out`, else what is wrong with the words on
+// `err`.
+fn show<O: Write, E: Write>(error: &Error, out: &mut O, err: &mut E) -> u8
+    ensures shown { result ≢ 2 → IsShown (kind_of error.now) }
+    ensures usage { result ≡ 2 → ¬ IsShown (kind_of error.now) }
+    ensures status { (result ≡ 0) ⊎ (result ≡ 2) ⊎ (result ≡ 3) }
+    ensures untouched { result ≢ 0 → result ≢ 3 → out.new ≡ out.old }
+{
+    if error.use_stderr() {
+        let _ = write!(err, "{error}");
+        return USAGE;
+    }
+    match write!(out, "{error}") {
+        Ok(()) => 0,
+        Err(_) => fail(Failure::CannotWrite, err),
     }
 }
 

@@ -1,6 +1,6 @@
 use Rattle.std.proofs.Common.{◌≡◌, take}
 use Rattle.lpmtool.specs.Loading.{IsLoaded}
-use Rattle.lpmtool.proofs.lookup.load.Given as goal
+use Rattle.lpmtool.proofs.loading.load.Given as goal
 
 abbrev pub invariant-loop-index : goal.invariant-loop-index
 invariant-loop-index l = record {

@@ -1,0 +1,107 @@
+//! Files of one byte, and a route file that is cut.
+
+use super::cases::ending;
+use super::fakes::{Named, whole};
+use std::slice;
+use std::test::Fail;
+
+// Each byte.
+static BYTES: [u8; 256] = [
+    0, 1, 2, 3, 4, 5, 6, 7, 8, 9, 10, 11, 12, 13, 14, 15, 16, 17, 18, 19, 20, 21, 22, 23, 24, 25,
+    26, 27, 28, 29, 30, 31, 32, 33, 34, 35, 36, 37, 38, 39, 40, 41, 42, 43, 44, 45, 46, 47, 48, 49,
+    50, 51, 52, 53, 54, 55, 56, 57, 58, 59, 60, 61, 62, 63, 64, 65, 66, 67, 68, 69, 70, 71, 72, 73,
+    74, 75, 76, 77, 78, 79, 80, 81, 82, 83, 84, 85, 86, 87, 88, 89, 90, 91, 92, 93, 94, 95, 96, 97,
+    98, 99, 100, 101, 102, 103, 104, 105, 106, 107, 108, 109, 110, 111, 112, 113, 114, 115, 116,
+    117, 118, 119, 120, 121, 122, 123, 124, 125, 126, 127, 128, 129, 130, 131, 132, 133, 134, 135,
+    136, 137, 138, 139, 140, 141, 142, 143, 144, 145, 146, 147, 148, 149, 150, 151, 152, 153, 154,
+    155, 156, 157, 158, 159, 160, 161, 162, 163, 164, 165, 166, 167, 168, 169, 170, 171, 172, 173,
+    174, 175, 176, 177, 178, 179, 180, 181, 182, 183, 184, 185, 186, 187, 188, 189, 190, 191, 192,
+    193, 194, 195, 196, 197, 198, 199, 200, 201, 202, 203, 204, 205, 206, 207, 208, 209, 210, 211,
+    212, 213, 214, 215, 216, 217, 218, 219, 220, 221, 222, 223, 224, 225, 226, 227, 228, 229, 230,
+    231, 232, 233, 234, 235, 236, 237, 238, 239, 240, 241, 242, 243, 244, 245, 246, 247, 248, 249,
+    250, 251, 252, 253, 254, 255,
+];
+
+// The command on a file of this byte, and its first fault where the byte isn't blank.
+fn one_byte(
+    rt: &HostRuntime,
+    words: &[&str],
+    files: &[Named<'_>],
+    byte: u8,
+    fault: &str,
+) -> Result<(), Fail> {
+    let is_empty = matches!(byte, b' ' | b'\t' | b'\n' | b'#');
+    let (status, out, err) = ending(rt, words, &whole(files))?;
+    let wanted = if is_empty { (0, "", "") } else { (4, "", fault) };
+    assert_eq!(rt; (status, out.as_str(), err.as_str()), wanted, "{byte}");
+    Ok(())
+}
+
+#[test]
+fn route_files_of_one_byte(rt: HostRuntime) -> Result<(), Fail> {
+    for byte in &BYTES {
+        let files = [("r", slice::from_ref(byte)), ("a", [].as_slice())];
+        let words = ["lpmtool", "lookup", "r", "a"];
+        one_byte(&rt, &words, &files, *byte, "lpmtool: r:1: bad fields\n")?;
+    }
+    Ok(())
+}
+
+#[test]
+fn address_files_of_one_byte(rt: HostRuntime) -> Result<(), Fail> {
+    for byte in &BYTES {
+        let files = [("r", [].as_slice()), ("a", slice::from_ref(byte))];
+        let words = ["lpmtool", "lookup", "r", "a"];
+        one_byte(&rt, &words, &files, *byte, "lpmtool: a:1: bad address\n")?;
+    }
+    Ok(())
+}
+
+// What an update file is after its header's line.
+#[test]
+fn update_files_of_one_byte(rt: HostRuntime) -> Result<(), Fail> {
+    for byte in &BYTES {
+        let mut updates = *b"lpm-updates 2\n?";
+        updates[14] = *byte;
+        let files = [
+            ("r", [].as_slice()),
+            ("u", updates.as_slice()),
+            ("a", [].as_slice()),
+        ];
+        let words = ["lpmtool", "apply", "r", "u", "a"];
+        one_byte(&rt, &words, &files, *byte, "lpmtool: u:2: bad word\n")?;
+    }
+    Ok(())
+}
+
+const ROUTES: &[u8; 43] = b"10.0.0.0/8 1\n10.1.0.0/16 2\n10.1.1.128/25 3\n";
+
+const ADDRESSES: &[u8] = b"10.1.1.128\n";
+
+// How a lookup in the first bytes of the route file ends.
+fn cut_at(bytes: usize) -> (u8, &'static str, &'static str) {
+    match bytes {
+        0 => (0, "10.1.1.128 -\n", ""),
+        12 | 13 => (0, "10.1.1.128 1\n", ""),
+        26 | 27 => (0, "10.1.1.128 2\n", ""),
+        42 | 43 => (0, "10.1.1.128 3\n", ""),
+        1..12 => (4, "", "lpmtool: r:1: bad fields\n"),
+        14..26 => (4, "", "lpmtool: r:2: bad fields\n"),
+        _ => (4, "", "lpmtool: r:3: bad fields\n"),
+    }
+}
+
+#[test]
+fn a_route_file_that_is_cut(rt: HostRuntime) -> Result<(), Fail> {
+    for bytes in 0..=ROUTES.len() {
+        let files = [("r", &ROUTES[..bytes]), ("a", ADDRESSES)];
+        let words = ["lpmtool", "lookup", "r", "a"];
+        let (status, out, err) = ending(&rt, &words, &whole(&files))?;
+        assert_eq!(rt;
+            (status, out.as_str(), err.as_str()),
+            cut_at(bytes),
+            "{bytes}"
+        );
+    }
+    Ok(())
+}

@@ -1,0 +1,146 @@
+//! Files whose bytes are known, and a writer whose contents are: what each command promises there.
+ghost use Rattle.std.specs.Prelude.{Some, ◌≡◌, ◌++◌, true, ℕ, List, drop};
+ghost use Rattle.lpm_limits.specs.Limits.{IsConfig};
+ghost use Rattle.lpmtool.specs.Lookup.{IsLookupText};
+ghost use Rattle.lpmtool.specs.Apply.{IsApplyText};
+ghost use Rattle.lpmtool.specs.Report.{IsReportText};
+ghost use Rattle.lpmtool.specs.Migrate.{IsMigrateText};
+
+use crate::apply::apply;
+use crate::files::Files;
+use crate::lookup::lookup;
+use crate::migrate::migrate;
+use crate::report::report;
+use bulk::Open;
+use qsbr::Config;
+use std::alloc::Global;
+use std::io;
+use std::io::Read;
+use std::test::Fail;
+use std::thread::Threads;
+
+// Bytes, of which those from a place on are left to read.
+#[derive(Drop)]
+struct Known {
+    bytes: Vec<u8>,
+    at: usize,
+}
+
+impl Read for Known {
+    ghost remaining = { λ r. Some (drop r.at r.bytes.items) };
+
+    fn read(&mut self, buf: &mut [u8]) -> io::Result<usize> {
+        let at = self.at.min(self.bytes.len());
+        let left = &self.bytes[at..];
+        let n = left.len().min(buf.len());
+        buf[..n].copy_from_slice(&left[..n]);
+        self.at = at + n;
+        Ok(n)
+    }
+}
+
+// Files whose bytes are their paths.
+#[derive(Drop)]
+struct Paths {
+    alloc: Global,
+}
+
+impl Files for Paths {
+    type Reader = Known;
+
+    ghost bytes = { λ _ path. Some path };
+
+    fn open(&self, path: &str) -> io::Result<Known> {
+        let mut bytes = Vec::new(self.alloc);
+        bytes.extend_from_slice(path.as_bytes())?;
+        Ok(Known { bytes, at: 0 })
+    }
+}
+
+/// `lookup` where the bytes are known.
+fn known_lookup<R: Threads + Sync>(
+    rt: &R,
+    alloc: Global,
+    routes: &str,
+    addresses: &str,
+    config: Config,
+    out: &mut Vec<u8>,
+) -> bool
+    requires { IsConfig config }
+    ensures { result ≡ true → (text : List ℕ)
+        × IsLookupText config routes.now addresses.now text
+        × (out.new.items ≡ out.old.items ++ text) }
+{
+    let files = Paths { alloc };
+    lookup(rt, alloc, &files, routes, addresses, config, &Open, out).is_ok()
+}
+
+/// `apply` where the bytes are known.
+fn known_apply<R: Threads + Sync>(
+    rt: &R,
+    alloc: Global,
+    routes: &str,
+    updates: &str,
+    addresses: &str,
+    config: Config,
+    out: &mut Vec<u8>,
+) -> bool
+    requires { IsConfig config }
+    ensures { result ≡ true → (text : List ℕ)
+        × IsApplyText config routes.now updates.now addresses.now text
+        × (out.new.items ≡ out.old.items ++ text) }
+{
+    let files = Paths { alloc };
+    apply(rt, alloc, &files, routes, updates, addresses, config, out).is_ok()
+}
+
+/// `report` where the bytes are known.
+fn known_report(
+    alloc: Global,
+    routes: &str,
+    updates: &str,
+    config: Config,
+    out: &mut Vec<u8>,
+) -> bool
+    requires { IsConfig config }
+    ensures { result ≡ true → (text : List ℕ)
+        × IsReportText config routes.now updates.now text
+        × (out.new.items ≡ out.old.items ++ text) }
+{
+    let files = Paths { alloc };
+    report(alloc, &files, routes, updates, config, out).is_ok()
+}
+
+/// `migrate` where the bytes are known.
+fn known_migrate(alloc: Global, old: &str, out: &mut Vec<u8>) -> bool
+    ensures { result ≡ true → (text : List ℕ)
+        × IsMigrateText old.now text
+        × (out.new.items ≡ out.old.items ++ text) }
+{
+    let files = Paths { alloc };
+    migrate(alloc, &files, old, out).is_ok()
+}
+
+const ROUTES: &str = "10.0.0.0/8 1\n10.1.1.128/25 3\n";
+
+const UPDATES: &str = "lpm-updates 2\ndel 10.1.1.128/25\n";
+
+const ADDRESSES: &str = "10.1.1.128\n";
+
+const REPORT: &str = "rules 1\nversions 3\nin use 0\nlimbo 1\nfree 255\ntoken 2\n";
+
+#[test]
+fn known_bytes_in_and_out(rt: HostRuntime) -> Result<(), Fail> {
+    let config = Config::default();
+    let alloc = rt.alloc();
+    let mut out = Vec::new(alloc);
+    assert!(rt; known_lookup(&rt, alloc, ROUTES, ADDRESSES, config, &mut out));
+    assert!(rt; known_apply(&rt, alloc, ROUTES, UPDATES, ADDRESSES, config, &mut out));
+    assert!(rt; known_report(alloc, ROUTES, UPDATES, config, &mut out));
+    assert!(rt; known_migrate(alloc, "del 1.2.3.4/8\n", &mut out));
+    let text = String::from_utf8(out)?;
+    let text = text.strip_prefix("10.1.1.128 3\ndeleted 3\n10.1.1.128 1\n").ok_or("answers")?;
+    let text = text.strip_prefix(REPORT).ok_or("report")?;
+    assert_eq!(rt; text, "lpm-updates 2\ndel 1.0.0.0/8\n");
+    Ok(())
+}
