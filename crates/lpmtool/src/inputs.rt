@@ -96,6 +96,7 @@ pub fn read_list<'a, L: Form, F: Files>(
 ) -> Result<Vec<L::Item>, Failure<'a>>
     ensures items { IfOk result (λ v.
         IfSome (F.bytes files.now path.entry.now) (λ bytes. L.Lists bytes v.items)) }
+    ensures some { IfOk result (λ v. (bytes : List ℕ) × L.Lists bytes v.items) }
     ensures failure { IfErr result (EndsReading
         (input L.Lists L.IsFault path.entry.now (F.bytes files.now path.entry.now))) }
 {
