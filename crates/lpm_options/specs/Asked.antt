@@ -1,14 +1,16 @@
 -- Meaning: what the matches of a command line ask for (clap 4, "Builder reference":
 -- `ArgMatches`), and why there are none.
-use Rattle.std.specs.Prelude.{◌≡◌, ℕ, List, [], Option, Some, codes}
+use Rattle.std.specs.Prelude.{◌≡◌, ◌⊎◌, ⊤, ℕ, List, [], Option, Some, codes}
 use Rattle.std.specs.Str.Parse.{IsNumeral, digits_value, without_leading_plus}
 use Rattle.clap.specs.Words.{Row, Text, Kinds, IsAmong, first_of, one_of, kind_of}
 use Rattle.lpm_limits.specs.declared.config.Config.{Config}
-use Rattle.lpm_limits.specs.Limits.{IsConfig, default_config}
+use Rattle.lpm_limits.specs.Limits.{IsConfig, IsIn, default_config}
+use Rattle.lpm_options.specs.Commands.{program_workers}
 use Rattle.lpm_options.specs.declared.CommandLine.{CommandLine}
-use Rattle.lpm_options.specs.declared.CommandLine.TheVariants.{Lookup}
+use Rattle.lpm_options.specs.declared.CommandLine.TheVariants.{Lookup, Apply, Report, Migrate}
 use Rattle.lpm_options.specs.declared.Refused.{Refused}
 use Rattle.lpm_options.specs.declared.Refused.TheVariants.{Usage, Memory, NoCommand}
+use Rattle.lpm_options.specs.declared.Refused.TheVariants.{TwoStandardInputs}
 
 -- the file that the matches have under the id
 abbrev pub HasFile : List Row → Text → Text → Type 0
@@ -19,19 +21,23 @@ abbrev pub HasNumber : List Row → Text → ℕ → Type 0
 HasNumber rows id n = (text : Text) × (one_of id rows ≡ Some text)
     × IsNumeral 10 (without_leading_plus text) × (digits_value 10 (without_leading_plus text) ≡ n)
 
--- each limit is the number of its option, and no worker reads the table
+-- each limit is the number of its option
 pub record AreLimits (rows : List Row) (config : Config) : Type 0 where
   pub in_range : IsConfig config
+  pub few_workers : IsIn program_workers config.workers
   pub rules : HasNumber rows (codes "rules") config.rules
   pub groups : HasNumber rows (codes "groups") config.groups
-  pub workers : config.workers ≡ 0
+  pub workers : HasNumber rows (codes "workers") config.workers
   pub threshold : HasNumber rows (codes "threshold") config.threshold
   pub reclaim_max : HasNumber rows (codes "max") config.reclaim_max
   pub first_token : config.first_token ≡ default_config.first_token
 
--- the command's limits are in their ranges
+-- the limits of the command's table are in their ranges
 abbrev pub IsInRange : CommandLine → Type 0
 IsInRange (Lookup routes addresses config) = IsConfig config
+IsInRange (Apply routes updates addresses config) = IsConfig config
+IsInRange (Report routes updates config) = IsConfig config
+IsInRange (Migrate old) = ⊤
 
 -- the matches of the command of this name ask for this
 abbrev pub Asks : Text → List Row → CommandLine → Type 0
@@ -39,14 +45,47 @@ Asks name rows (Lookup routes addresses config) = (name ≡ codes "lookup")
     × HasFile rows (codes "ROUTES") routes.now
     × HasFile rows (codes "ADDRESSES") addresses.now
     × AreLimits rows config
+Asks name rows (Apply routes updates addresses config) = (name ≡ codes "apply")
+    × HasFile rows (codes "ROUTES") routes.now
+    × HasFile rows (codes "UPDATES") updates.now
+    × HasFile rows (codes "ADDRESSES") addresses.now
+    × AreLimits rows config
+Asks name rows (Report routes updates config) = (name ≡ codes "report")
+    × HasFile rows (codes "ROUTES") routes.now
+    × HasFile rows (codes "UPDATES") updates.now
+    × AreLimits rows config
+Asks name rows (Migrate old) = (name ≡ codes "migrate")
+    × HasFile rows (codes "OLD") old.now
 
 -- the matches have a command, which asks for this
 abbrev pub IsAskedBy : Option (Text × List Row) → CommandLine → Type 0
 IsAskedBy matches line = (name : Text)
     × ((rows : List Row) × (matches ≡ Some (name, rows)) × Asks name rows line)
 
--- the parser's error is one of these faults of the words
-abbrev pub IsRefusalBy : Kinds → Refused → Type 0
-IsRefusalBy faults (Usage error) = IsAmong (kind_of error) faults
-IsRefusalBy faults Memory = Unit {0}
-IsRefusalBy faults NoCommand = faults ≡ []
+-- the path stands for standard input
+abbrev pub IsStandardInput : Text → Type 0
+IsStandardInput path = path ≡ codes "-"
+
+-- two of the command's files are standard input
+abbrev pub HasTwoStandardInputs : CommandLine → Type 0
+HasTwoStandardInputs (Lookup routes addresses config) =
+    IsStandardInput routes.now × IsStandardInput addresses.now
+HasTwoStandardInputs (Apply routes updates addresses config) =
+    (IsStandardInput routes.now × IsStandardInput updates.now)
+    ⊎ (IsStandardInput routes.now × IsStandardInput addresses.now)
+    ⊎ (IsStandardInput updates.now × IsStandardInput addresses.now)
+HasTwoStandardInputs (Report routes updates config) =
+    IsStandardInput routes.now × IsStandardInput updates.now
+HasTwoStandardInputs (Migrate old) = ⊥
+
+-- what is asked for has two files that are standard input
+abbrev pub AsksForTwoStandardInputs : Option (Text × List Row) → Type 0
+AsksForTwoStandardInputs matches =
+    (line : CommandLine) × IsAskedBy matches line × HasTwoStandardInputs line
+
+-- words with these faults and these matches are refused so
+abbrev pub IsRefusalBy : Kinds → Option (Text × List Row) → Refused → Type 0
+IsRefusalBy faults matches (Usage error) = IsAmong (kind_of error) faults
+IsRefusalBy faults matches Memory = ⊤
+IsRefusalBy faults matches NoCommand = faults ≡ []
+IsRefusalBy faults matches TwoStandardInputs = (faults ≡ []) × AsksForTwoStandardInputs matches

@@ -3,8 +3,8 @@
 use Rattle.std.specs.Prelude.{[], ◌∷◌, true, Some, codes, decimal}
 use Rattle.clap.specs.Words.{App, Rule, Text, new_app, new_rule, with_rule, with_subcommand}
 use Rattle.lpm_limits.specs.declared.config.Range.{Range}
-use Rattle.lpm_limits.specs.Limits.{rules_range, groups_range, threshold_range, reclaim_range}
-use Rattle.lpm_limits.specs.Limits.{default_config}
+use Rattle.lpm_limits.specs.Limits.{range, rules_range, groups_range, threshold_range}
+use Rattle.lpm_limits.specs.Limits.{reclaim_range, default_config}
 use Rattle.clap.specs.declared.builder.value_parser.ValueParser.TheVariants as parsers
 
 -- a file, named by its place
@@ -20,11 +20,18 @@ number_rule id range default = record (new_rule id) {
   parser = Some (parsers.Unsigned range.first range.last);
 }
 
+-- as many workers as the program takes, which is less than a table takes
+abbrev pub program_workers : Range
+program_workers = range 0 1024
+
 abbrev pub rules_rule : Rule
 rules_rule = number_rule (codes "rules") rules_range (decimal default_config.rules)
 
 abbrev pub groups_rule : Rule
 groups_rule = number_rule (codes "groups") groups_range (decimal default_config.groups)
+
+abbrev pub workers_rule : Rule
+workers_rule = number_rule (codes "workers") program_workers (decimal default_config.workers)
 
 abbrev pub threshold_rule : Rule
 threshold_rule = number_rule (codes "threshold") threshold_range (decimal default_config.threshold)
@@ -32,25 +39,49 @@ threshold_rule = number_rule (codes "threshold") threshold_range (decimal defaul
 abbrev pub max_rule : Rule
 max_rule = number_rule (codes "max") reclaim_range (decimal default_config.reclaim_max)
 
+-- the options that say how much the table holds, and who reads it
+abbrev pub with_sizes : App → App
+with_sizes app = with_rule (with_rule (with_rule app rules_rule) groups_rule) workers_rule
+
 -- the options that say when a change reclaims, and how much
 abbrev pub with_reclaiming : App → App
 with_reclaiming app = with_rule (with_rule app threshold_rule) max_rule
 
 -- the options of each command that makes a table
 abbrev pub with_limits : App → App
-with_limits app = with_reclaiming (with_rule (with_rule app rules_rule) groups_rule)
+with_limits app = with_reclaiming (with_sizes app)
+
+-- the command with one file more
+abbrev pub with_file : App → Text → App
+with_file app id = with_rule app (file_rule id)
 
 -- the command of this name for these two files
 abbrev pub with_files : Text → Text → Text → App
-with_files name first second =
-    with_rule (with_rule (new_app name) (file_rule first)) (file_rule second)
+with_files name first second = with_file (with_file (new_app name) first) second
 
 abbrev pub lookup_app : App
 lookup_app = with_limits (with_files (codes "lookup") (codes "ROUTES") (codes "ADDRESSES"))
 
-abbrev pub wants_subcommand : App → App
-wants_subcommand app = record app { top = record app.top { subcommand_required = true } }
+abbrev pub apply_app : App
+apply_app = with_limits
+    (with_file (with_files (codes "apply") (codes "ROUTES") (codes "UPDATES")) (codes "ADDRESSES"))
 
--- the program: one of the commands is wanted
+abbrev pub report_app : App
+report_app = with_limits (with_files (codes "report") (codes "ROUTES") (codes "UPDATES"))
+
+abbrev pub migrate_app : App
+migrate_app = with_file (new_app (codes "migrate")) (codes "OLD")
+
+-- the program before its commands: one of them is wanted, and its version can be asked for
+abbrev pub program_app : App
+program_app = let app = new_app (codes "lpmtool") in
+    record app { top = record app.top { subcommand_required = true; has_version = true } }
+
+-- the program with one command more
+abbrev pub with_command : App → App → App
+with_command app command = with_subcommand app command.top
+
 unfoldable pub the_app : App
-the_app = with_subcommand (wants_subcommand (new_app (codes "lpmtool"))) lookup_app.top
+the_app = with_command
+    (with_command (with_command (with_command program_app lookup_app) apply_app) report_app)
+    migrate_app

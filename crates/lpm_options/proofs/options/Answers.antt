@@ -1,9 +1,11 @@
-use Rattle.std.proofs.Common.{◌≡◌, ◌∙◌, sym, ap, refl, true, subst, map, Some, None, Option, List}
-use Rattle.std.specs.Prelude.{option_map}
+use Rattle.std.proofs.Common.{◌≡◌, ◌∙◌, sym, ap, refl, true, subst, map, [], Option, List}
+use Rattle.std.specs.Prelude.{IfOk, IfErr}
 use Rattle.std.specs.Fmt.{digits}
-use Rattle.clap.specs.Words.{App, is_simple, is_simple_and_free, subcommand_of, fault_of, HasKind, Text, Row, rows_of, found_of}
+use Rattle.clap.specs.Words.{App, Row, Text, Kinds, HasKind, is_simple, is_simple_and_free}
+use Rattle.clap.specs.Words.{subcommand_of, fault_of}
 use Rattle.clap.proofs.OnLiterals.{clap_on_literals}
 use Rattle.lpm_options.specs.Commands.{the_app}
+use Rattle.lpm_options.specs.Asked.{IsAskedBy, IsRefusalBy}
 use Rattle.lpm_options.proofs.options.Goals as goal
 
 simple : is_simple the_app ≡ true
@@ -14,37 +16,32 @@ simple_and_free : is_simple_and_free the_app ≡ true
 unfolding the_app clap_on_literals digits
 simple_and_free = refl
 
-abbrev pair : {B : Type 0} → (B → Text) → (B → List Row) → B → Text × List Row
-pair f h b = (f b, h b)
+-- what the words ask for, and their faults, of equal commands
+same_ask : (a b : App) (words : List Text) → a ≡ b → subcommand_of a words ≡ subcommand_of b words
+same_ask a b words e = ap (λ (x : App). subcommand_of x words) e
 
--- a name and the rows of one subcommand
-both : {B : Type 0} (s : Option B) (f : B → Text) (h : B → List Row) (n : Text) (r : List Row) → Some n ≡ option_map f s → Some r ≡ option_map (λ (p : Text × List Row). p.1) (option_map (pair f h) s) → option_map (pair f h) s ≡ Some (n, r)
-both None f h n r d e = absurd cc
-both (Some b) f h n r d e = cc
+same_faults : (a b : App) (words : List Text) → a ≡ b → fault_of a words ≡ fault_of b words
+same_faults a b words e = ap (λ (x : App). fault_of x words) e
+
+pub returns-in-Ok-try_get_matches_from-clause-asked : goal.returns-in-Ok-try_get_matches_from-clause-asked
+returns-in-Ok-try_get_matches_from-clause-asked g c =
+    let app = c.in-Ok.ensures in
+    let words = map g.S.AsStr.text c.args.words.now in
+    let m = c.in-Ok-try_get_matches_from.ensures.matches (ap is_simple app ∙ simple) in
+    subst (λ (asked : Option (Text × List Row)). IfOk c.line_of.result (IsAskedBy asked)) (m.1 ∙ same_ask _ _ words app) c.line_of.ensures.asked
+
+pub returns-in-Ok-try_get_matches_from-clause-refused : goal.returns-in-Ok-try_get_matches_from-clause-refused
+returns-in-Ok-try_get_matches_from-clause-refused g c =
+    let app = c.in-Ok.ensures in
+    let words = map g.S.AsStr.text c.args.words.now in
+    let m = c.in-Ok-try_get_matches_from.ensures.matches (ap is_simple app ∙ simple) in
+    let none = sym (same_faults _ _ words app) ∙ c.in-Ok-try_get_matches_from.ensures.kinds (ap is_simple_and_free app ∙ simple_and_free) in
+    subst (λ (faults : Kinds). IfErr c.line_of.result (IsRefusalBy faults (subcommand_of the_app words))) (sym none)
+    (subst (λ (asked : Option (Text × List Row)). IfErr c.line_of.result (IsRefusalBy [] asked)) (m.1 ∙ same_ask _ _ words app) c.line_of.ensures.refused)
 
 pub returns-in-Err-clause-refused : goal.returns-in-Err-clause-refused
 returns-in-Err-clause-refused g c =
     let app = c.in-Ok.ensures in
     let words = map g.S.AsStr.text c.args.words.now in
     let kinds = c.in-Err.ensures.kinds (ap is_simple_and_free app ∙ simple_and_free) in
-    c.refusal.ensures _ (subst (λ (a : App). HasKind (fault_of a words) c.in-Err.error) app kinds)
-
-pub returns-in_default-subcommand-clause-refused : goal.returns-in_default-subcommand-clause-refused
-returns-in_default-subcommand-clause-refused g c =
-    let app = c.in-Ok.ensures in
-    let words = map g.S.AsStr.text c.args.words.now in
-    sym (ap (λ (a : App). fault_of a words) app) ∙ c.in-Ok-try_get_matches_from.ensures.kinds (ap is_simple_and_free app ∙ simple_and_free)
-
-pub returns-in-Some-command_line-clause-asked : goal.returns-in-Some-command_line-clause-asked
-returns-in-Some-command_line-clause-asked g c =
-    let app = c.in-Ok.ensures in
-    let m = c.in-Ok-try_get_matches_from.ensures.matches (ap is_simple app ∙ simple) in
-    let words = map g.S.AsStr.text c.args.words.now in
-    let one = both _ _ _ c.in-Some.name.now (rows_of (found_of c.in-Some.found.now)) c.in-Some.ensures.name c.in-Some.ensures.rows in
-    (c.in-Some.name.now, (rows_of (found_of c.in-Some.found.now), ap (λ (a : App). subcommand_of a words) (sym app) ∙ (sym m.1 ∙ one), c.in-Some-command_line.ensures.asked))
-
-pub returns-clause-refused : goal.returns-clause-refused
-returns-clause-refused g c =
-    let app = c.in-Ok.ensures in
-    let words = map g.S.AsStr.text c.args.words.now in
-    sym (ap (λ (a : App). fault_of a words) app) ∙ c.in-Ok-try_get_matches_from.ensures.kinds (ap is_simple_and_free app ∙ simple_and_free)
+    c.refusal.ensures _ _ (subst (λ (faults : Kinds). HasKind faults c.in-Err.error) (same_faults _ _ words app) kinds)

@@ -2,7 +2,7 @@ use Rattle.std.proofs.Common.{◌∙◌, ap, ap₂}
 use Rattle.std.proofs.lemmas.Result.{IfOk-weaker}
 use Rattle.std.specs.Fmt.{digits}
 use Rattle.clap.specs.Words.{with_rule}
-use Rattle.lpm_options.proofs.with_reclaiming.Goals as goal
+use Rattle.lpm_options.proofs.commands.with_reclaiming.Goals as goal
 
 pub returns : goal.returns
 unfolding digits

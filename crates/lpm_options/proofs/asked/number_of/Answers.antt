@@ -4,7 +4,7 @@ use Rattle.std.specs.Str.Parse.{ParsesUnsigned, ExplainsUnsignedError, HasUnsign
 use Rattle.std.specs.declared.num.ParseIntError.{ParseIntError}
 use Rattle.clap.specs.Words.{found_of, ReadsOne}
 use Rattle.clap.proofs.WalkLemmas.{one_text-rows}
-use Rattle.lpm_options.proofs.number_of.Goals as goal
+use Rattle.lpm_options.proofs.asked.number_of.Goals as goal
 
 -- a value has a text
 some : {A : Type 0} (o : Option (List ℕ)) (v : A) → (o ≡ None → Some v ≡ None) → (t : List ℕ) × (o ≡ Some t)

@@ -1,0 +1,14 @@
+use Rattle.std.proofs.Common.{◌≡◌, ◌∙◌, sym, Option, Some, None}
+use Rattle.std.specs.Prelude.{IfSome, option_map}
+use Rattle.std.specs.Borrow.{Bor}
+use Rattle.clap.specs.Words.{Text, found_of}
+use Rattle.clap.proofs.WalkLemmas.{first_value-rows}
+use Rattle.lpm_options.proofs.asked.path_of.Goals as goal
+
+-- where a text is read, it is the first value
+is_value : (path : Option (Bor Text)) (value : Option Text) → value ≡ option_map (λ s. s.now) path → IfSome path (λ p. value ≡ Some p.now)
+is_value None value e = tt
+is_value (Some p) value e = e
+
+pub returns : goal.returns
+returns c = is_value _ _ (sym (first_value-rows (found_of c.args.found.now) c.args.id.now) ∙ sym c.get_str.ensures)

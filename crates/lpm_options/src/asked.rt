@@ -1,0 +1,162 @@
+//! What the parser's matches ask for.
+ghost use Rattle.std.specs.Prelude.{◌↔◌, IsTrue, IfSome, codes};
+ghost use Rattle.clap.specs.Words.{rows_of, found_of};
+ghost use Rattle.lpm_limits.specs.Limits.{IsIn};
+ghost use Rattle.lpm_options.specs.Commands.{program_workers};
+ghost use Rattle.lpm_options.specs.Asked.{HasFile, HasNumber, AreLimits, Asks, IsInRange};
+ghost use Rattle.lpm_options.specs.Asked.{IsStandardInput, HasTwoStandardInputs};
+
+use crate::CommandLine;
+use crate::commands::WORKERS;
+use clap::ArgMatches;
+use lpm_limits::Config;
+
+/// What the matches of the command of this name ask for.
+pub(crate) fn command_line<'a>(name: &'a str, found: &ArgMatches<'a>) -> Option<CommandLine<'a>>
+    ensures asked { IfSome result (Asks name.entry.now (rows_of (found_of found.now))) }
+    ensures in_range { IfSome result IsInRange }
+{
+    if name == "lookup" {
+        return lookup_line(found);
+    }
+    if name == "apply" {
+        return apply_line(found);
+    }
+    if name == "report" {
+        return report_line(found);
+    }
+    if name == "migrate" {
+        return migrate_line(found);
+    }
+    None
+}
+
+fn lookup_line<'a>(found: &ArgMatches<'a>) -> Option<CommandLine<'a>>
+    ensures asked { IfSome result (Asks (codes "lookup") (rows_of (found_of found.now))) }
+    ensures in_range { IfSome result IsInRange }
+{
+    let routes = path_of(found, "ROUTES")?;
+    let addresses = path_of(found, "ADDRESSES")?;
+    let config = config_of(found)?;
+    Some(CommandLine::Lookup {
+        routes,
+        addresses,
+        config,
+    })
+}
+
+fn apply_line<'a>(found: &ArgMatches<'a>) -> Option<CommandLine<'a>>
+    ensures asked { IfSome result (Asks (codes "apply") (rows_of (found_of found.now))) }
+    ensures in_range { IfSome result IsInRange }
+{
+    let routes = path_of(found, "ROUTES")?;
+    let updates = path_of(found, "UPDATES")?;
+    let addresses = path_of(found, "ADDRESSES")?;
+    let config = config_of(found)?;
+    Some(CommandLine::Apply {
+        routes,
+        updates,
+        addresses,
+        config,
+    })
+}
+
+fn report_line<'a>(found: &ArgMatches<'a>) -> Option<CommandLine<'a>>
+    ensures asked { IfSome result (Asks (codes "report") (rows_of (found_of found.now))) }
+    ensures in_range { IfSome result IsInRange }
+{
+    let routes = path_of(found, "ROUTES")?;
+    let updates = path_of(found, "UPDATES")?;
+    let config = config_of(found)?;
+    Some(CommandLine::Report {
+        routes,
+        updates,
+        config,
+    })
+}
+
+fn migrate_line<'a>(found: &ArgMatches<'a>) -> Option<CommandLine<'a>>
+    ensures asked { IfSome result (Asks (codes "migrate") (rows_of (found_of found.now))) }
+    ensures in_range { IfSome result IsInRange }
+{
+    let old = path_of(found, "OLD")?;
+    Some(CommandLine::Migrate { old })
+}
+
+/// Whether two of the command's files are standard input.
+pub(crate) fn has_two_standard_inputs(line: CommandLine<'_>) -> bool
+    ensures { IsTrue result ↔ HasTwoStandardInputs line.entry }
+{
+    match line {
+        CommandLine::Lookup {
+            routes,
+            addresses,
+            ..
+        } => is_standard_input(routes) && is_standard_input(addresses),
+        CommandLine::Apply {
+            routes,
+            updates,
+            addresses,
+            ..
+        } => {
+            (is_standard_input(routes) && is_standard_input(updates))
+                || (is_standard_input(routes) && is_standard_input(addresses))
+                || (is_standard_input(updates) && is_standard_input(addresses))
+        }
+        CommandLine::Report {
+            routes,
+            updates,
+            ..
+        } => is_standard_input(routes) && is_standard_input(updates),
+        CommandLine::Migrate { .. } => false,
+    }
+}
+
+fn is_standard_input(path: &str) -> bool
+    ensures { IsTrue result ↔ IsStandardInput path.now }
+{
+    path == "-"
+}
+
+// The limits of a table.
+fn config_of(found: &ArgMatches<'_>) -> Option<Config>
+    ensures { IfSome result (AreLimits (rows_of (found_of found.now))) }
+{
+    let config = Config {
+        rules: number_of(found, "rules")?,
+        groups: number_of(found, "groups")?,
+        workers: workers_of(found)?,
+        threshold: number_of(found, "threshold")?,
+        reclaim_max: number_of(found, "max")?,
+        ..Config::default()
+    };
+    match config.check() {
+        Ok(()) => Some(config),
+        Err(_) => None,
+    }
+}
+
+fn workers_of(found: &ArgMatches<'_>) -> Option<usize>
+    ensures number { IfSome result (HasNumber (rows_of (found_of found.now)) (codes "workers")) }
+    ensures few { IfSome result (IsIn program_workers) }
+{
+    let workers = number_of(found, "workers")?;
+    if WORKERS.contains(workers as u64) {
+        return Some(workers);
+    }
+    None
+}
+
+// The number of the option.
+fn number_of(found: &ArgMatches<'_>, id: &str) -> Option<usize>
+    ensures { IfSome result (HasNumber (rows_of (found_of found.now)) id.now) }
+{
+    found.get_one::<usize>(id)
+}
+
+// The path of the file.
+fn path_of<'a>(found: &ArgMatches<'a>, id: &str) -> Option<&'a str>
+    ensures { IfSome result (λ path. HasFile (rows_of (found_of found.now)) id.now path.now) }
+{
+    found.get_str(id)
+}

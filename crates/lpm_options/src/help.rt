@@ -1,0 +1,166 @@
+//! The texts of help.
+
+pub(crate) const PROGRAM: &str = "Longest-prefix match of IPv4 addresses";
+
+pub(crate) const AFTER_PROGRAM: &str = "\
+Files:
+  A file is text with one item a line. Empty lines and lines that begin with `#`
+  are skipped. A file named `-` is standard input; only one file can be.
+
+  Route file, a prefix and a next hop (0 to 16777215). A prefix that stands twice
+  has the later next hop:
+    10.0.0.0/8 5
+
+  Address file, an address:
+    10.1.2.3
+
+  Update file, the first line as here, then an update on each line:
+    lpm-updates 2
+    add 10.0.0.0/8 5
+    del 10.0.0.0/8
+    flush
+    reclaim 16
+    online 0
+    quiescent 0
+    offline 0
+  `flush` deletes all routes. `reclaim` frees up to so many of the groups that were
+  given up. The last three are reports of a worker: it begins to read, it holds
+  nothing that it read before, it has ended.
+
+Memory:
+  64 MiB for the first table (2^24 words of 4 bytes), 1 KiB for each group, 15 to
+  22 bytes for each rule, and 24 bytes for each line of the route file. `migrate`
+  makes no table.
+
+Exit status:
+  0  done, or help or the version was asked for
+  2  the command line isn't accepted
+  3  a file can't be read, or the output can't be written
+  4  a file has a fault
+  5  out of memory
+  6  refused";
+
+pub(crate) const LOOKUP: &str =
+    "Prints for each address the next hop of its longest matching route, or `-`";
+
+pub(crate) const AFTER_LOOKUP: &str = "\
+Example:
+  lpmtool lookup routes.txt addresses.txt
+
+Output, a line for each address. The second is of an address that no route contains:
+  10.1.2.3 5
+  192.0.2.1 -
+
+A file named `-` is standard input; only one file can be. Where a route is refused,
+nothing is printed. Then raise:
+  --rules    at `refused 3 TooManyRules`
+  --groups   at `refused 7 NoGroups`
+  --workers  at `refused 8 NoWorkers`
+
+Memory: 64 MiB, 1 KiB for each group, and 15 to 22 bytes for each rule.
+Exit status: 0 done, 2 words, 3 can't read or write, 4 a faulty file, 5 out of memory,
+6 refused. More in `lpmtool --help`.";
+
+pub(crate) const APPLY: &str =
+    "Prints the outcome of each update of the routes, then the next hop of each address";
+
+pub(crate) const AFTER_APPLY: &str = "\
+Example:
+  lpmtool apply routes.txt updates.txt addresses.txt
+
+Output, first a line for each update:
+  added                  of `add 10.0.0.0/8 5`, or `replaced`, or `unchanged`
+  deleted 5              of `del 10.0.0.0/8`, with its next hop
+  flushed 2              of `flush`, with the number of routes that it deleted
+  reclaimed 1            of `reclaim 16`, with the number of groups that it freed
+  ok                     of `online 0`, `quiescent 0` and `offline 0`
+  refused 4 NoSuchRule   of an update that is refused: it changes nothing
+Then a line for each address, with its next hop, or `-` where no route contains it:
+  10.1.2.3 5
+  192.0.2.1 -
+
+A file named `-` is standard input; only one file can be. Where a route of the route
+file is refused, nothing is printed. Raise:
+  --rules    at `refused 3 TooManyRules`
+  --groups   at `refused 7 NoGroups`
+  --workers  at `refused 8 NoWorkers` and `refused 10 NoSuchWorker`
+
+Memory: 64 MiB, 1 KiB for each group, and 15 to 22 bytes for each rule.
+Exit status: 0 done, 2 words, 3 can't read or write, 4 a faulty file, 5 out of memory,
+6 refused. More in `lpmtool --help`.";
+
+pub(crate) const REPORT: &str = "Prints what the table holds after the updates of the routes";
+
+pub(crate) const AFTER_REPORT: &str = "\
+Example:
+  lpmtool report routes.txt updates.txt
+
+Output, these lines with the numbers of the table:
+  rules 3      the routes in the table
+  versions 5   the changes made, those of the route file too
+  in use 1     the groups in use
+  limbo 0      the groups that were given up, and that a worker may still read
+  free 255     the groups that are free
+  token 3      the token, which counts up as groups are given up
+
+A file named `-` is standard input; only one file can be. Where a route of the route
+file is refused, nothing is printed. Raise:
+  --rules    at `refused 3 TooManyRules`
+  --groups   at `refused 7 NoGroups`
+
+Memory: 64 MiB, 1 KiB for each group, and 15 to 22 bytes for each rule.
+Exit status: 0 done, 2 words, 3 can't read or write, 4 a faulty file, 5 out of memory,
+6 refused. More in `lpmtool --help`.";
+
+pub(crate) const MIGRATE: &str = "Prints an update file of version 1 as one of version 2";
+
+pub(crate) const AFTER_MIGRATE: &str = "\
+Example:
+  lpmtool migrate old.txt
+
+A file of version 1 has no first line of its own, as:
+  # nightly
+  add   10.1.2.3/8   5
+  flush
+
+Output, the same updates with one space between fields, prefixes without host bits, and
+no comments:
+  lpm-updates 2
+  add 10.0.0.0/8 5
+  flush
+
+A file named `-` is standard input.
+Exit status: 0 done, 2 words, 3 can't read or write, 4 a faulty file, 5 out of memory.
+More in `lpmtool --help`.";
+
+pub(crate) const ROUTES: &str = "\
+The route file. Each line is a prefix and a next hop, as `10.0.0.0/8 5`.
+A prefix that stands twice has the later next hop";
+
+pub(crate) const ADDRESSES: &str = "The address file. Each line is an address, as `10.1.2.3`";
+
+pub(crate) const UPDATES: &str = "\
+The update file. The first line is `lpm-updates 2`. Each line after it is an
+update: `add 10.0.0.0/8 5`, `del 10.0.0.0/8`, `flush`, `reclaim 16`, `online 0`,
+`quiescent 0`, `offline 0`";
+
+pub(crate) const OLD: &str = "\
+The update file of version 1. Each line is an update, as `add 10.0.0.0/8 5`";
+
+pub(crate) const RULES: &str = "\
+The greatest number of rules that the table holds, 1 to 16777216.
+Rules take memory as they come";
+
+pub(crate) const GROUPS: &str = "\
+The number of groups, 1 to 65536. Each block of 256 addresses with a route longer
+than 24 bits needs one";
+
+pub(crate) const WORKERS: &str = "\
+The number of workers, 0 to 1024. They answer the addresses together, which takes
+at least 1. An update file names them by the numbers from 0 to N - 1";
+
+pub(crate) const THRESHOLD: &str = "\
+A group that was given up waits in limbo until no reader can hold it. Where more
+than N wait, a change that gives up one more first frees some of them, 0 to 65536";
+
+pub(crate) const MAX: &str = "The most groups that a change frees so, 1 to 65536";
