@@ -55,8 +55,9 @@ fn lookup_command<'a>(alloc: Global) -> Result<Command<'a>, AllocError>
     let command = Command::new(alloc, "lookup")
         .about(help::LOOKUP)
         .after_long_help(help::AFTER_LOOKUP);
-    let command = command.arg(file(alloc, "ROUTES", help::ROUTES))?;
-    let command = command.arg(file(alloc, "ADDRESSES", help::ADDRESSES))?;
+    let routes = file(alloc, "ROUTES", help::ROUTES);
+    let addresses = file(alloc, "ADDRESSES", help::ADDRESSES);
+    let command = command.arg(routes)?.arg(addresses)?;
     with_limits(alloc, command)
 }
 
@@ -66,9 +67,10 @@ fn apply_command<'a>(alloc: Global) -> Result<Command<'a>, AllocError>
     let command = Command::new(alloc, "apply")
         .about(help::APPLY)
         .after_long_help(help::AFTER_APPLY);
-    let command = command.arg(file(alloc, "ROUTES", help::ROUTES))?;
-    let command = command.arg(file(alloc, "UPDATES", help::UPDATES))?;
-    let command = command.arg(file(alloc, "ADDRESSES", help::ADDRESSES))?;
+    let routes = file(alloc, "ROUTES", help::ROUTES);
+    let updates = file(alloc, "UPDATES", help::UPDATES);
+    let addresses = file(alloc, "ADDRESSES", help::ADDRESSES);
+    let command = command.arg(routes)?.arg(updates)?.arg(addresses)?;
     with_limits(alloc, command)
 }
 
@@ -78,8 +80,9 @@ fn report_command<'a>(alloc: Global) -> Result<Command<'a>, AllocError>
     let command = Command::new(alloc, "report")
         .about(help::REPORT)
         .after_long_help(help::AFTER_REPORT);
-    let command = command.arg(file(alloc, "ROUTES", help::ROUTES))?;
-    let command = command.arg(file(alloc, "UPDATES", help::UPDATES))?;
+    let routes = file(alloc, "ROUTES", help::ROUTES);
+    let updates = file(alloc, "UPDATES", help::UPDATES);
+    let command = command.arg(routes)?.arg(updates)?;
     with_limits(alloc, command)
 }
 

@@ -5,7 +5,7 @@ pub(crate) const PROGRAM: &str = "Longest-prefix match of IPv4 addresses";
 pub(crate) const AFTER_PROGRAM: &str = "\
 Files:
   A file is text with one item a line. Empty lines and lines that begin with `#`
-  are skipped. A file named `-` is standard input; only one file can be.
+  are skipped. The path `-` is standard input. Only one of the files can be.
 
   Route file, a prefix and a next hop (0 to 16777215). A prefix that stands twice
   has the later next hop:
@@ -23,9 +23,10 @@ Files:
     online 0
     quiescent 0
     offline 0
-  `flush` deletes all routes. `reclaim` frees up to so many of the groups that were
-  given up. The last three are reports of a worker: it begins to read, it holds
-  nothing that it read before, it has ended.
+  `flush` deletes all routes. `reclaim 16` frees at most 16 of the groups that were
+  given up. The last three are reports of worker 0: it begins to read, it holds
+  nothing that it read before, it has ended. A file of version 1 lacks the first
+  line: see `migrate`.
 
 Memory:
   64 MiB for the first table (2^24 words of 4 bytes), 1 KiB for each group, 15 to
@@ -36,9 +37,10 @@ Exit status:
   0  done, or help or the version was asked for
   2  the command line isn't accepted
   3  a file can't be read, or the output can't be written
-  4  a file has a fault
+  4  a file has a fault, as `routes.txt:12: bad length`
   5  out of memory
-  6  refused";
+  6  refused, as `refused 3 TooManyRules`, where `--rules` has to be greater, or
+     `refused 7 NoGroups`, where `--groups` has to be greater";
 
 pub(crate) const LOOKUP: &str =
     "Prints for each address the next hop of its longest matching route, or `-`";
@@ -47,12 +49,12 @@ pub(crate) const AFTER_LOOKUP: &str = "\
 Example:
   lpmtool lookup routes.txt addresses.txt
 
-Output, a line for each address. The second is of an address that no route contains:
+Output, a line for each address. No route contains the second one:
   10.1.2.3 5
   192.0.2.1 -
 
-A file named `-` is standard input; only one file can be. Where a route is refused,
-nothing is printed. Then raise:
+The path `-` is standard input. Only one of the files can be. Where a route is refused,
+nothing is printed. Give a greater number:
   --rules    at `refused 3 TooManyRules`
   --groups   at `refused 7 NoGroups`
   --workers  at `refused 8 NoWorkers`
@@ -72,15 +74,16 @@ Output, first a line for each update:
   added                  of `add 10.0.0.0/8 5`, or `replaced`, or `unchanged`
   deleted 5              of `del 10.0.0.0/8`, with its next hop
   flushed 2              of `flush`, with the number of routes that it deleted
-  reclaimed 1            of `reclaim 16`, with the number of groups that it freed
+  reclaimed 1            of `reclaim 16`, with the number of groups that it freed;
+                         `stopped worker 0 counter 1` follows where worker 0 holds more
   ok                     of `online 0`, `quiescent 0` and `offline 0`
   refused 4 NoSuchRule   of an update that is refused: it changes nothing
-Then a line for each address, with its next hop, or `-` where no route contains it:
+Then a line for each address. No route contains the second one:
   10.1.2.3 5
   192.0.2.1 -
 
-A file named `-` is standard input; only one file can be. Where a route of the route
-file is refused, nothing is printed. Raise:
+The path `-` is standard input. Only one of the files can be. Where a route of the route
+file is refused, nothing is printed. Give a greater number:
   --rules    at `refused 3 TooManyRules`
   --groups   at `refused 7 NoGroups`
   --workers  at `refused 8 NoWorkers` and `refused 10 NoSuchWorker`
@@ -103,10 +106,10 @@ Output, these lines with the numbers of the table:
   free 255     the groups that are free
   token 3      the token, which counts up as groups are given up
 
-A file named `-` is standard input; only one file can be. Where a route of the route
-file is refused, nothing is printed. Raise:
-  --rules    at `refused 3 TooManyRules`
-  --groups   at `refused 7 NoGroups`
+The path `-` is standard input. Only one of the files can be. Where a route of the route
+file is refused, nothing is printed. Give a greater number:
+  --rules   at `refused 3 TooManyRules`
+  --groups  at `refused 7 NoGroups`
 
 Memory: 64 MiB, 1 KiB for each group, and 15 to 22 bytes for each rule.
 Exit status: 0 done, 2 words, 3 can't read or write, 4 a faulty file, 5 out of memory,
@@ -118,7 +121,7 @@ pub(crate) const AFTER_MIGRATE: &str = "\
 Example:
   lpmtool migrate old.txt
 
-A file of version 1 has no first line of its own, as:
+A file of version 1 lacks the line `lpm-updates 2`:
   # nightly
   add   10.1.2.3/8   5
   flush
@@ -129,7 +132,7 @@ no comments:
   add 10.0.0.0/8 5
   flush
 
-A file named `-` is standard input.
+The path `-` is standard input.
 Exit status: 0 done, 2 words, 3 can't read or write, 4 a faulty file, 5 out of memory.
 More in `lpmtool --help`.";
 
@@ -144,23 +147,23 @@ The update file. The first line is `lpm-updates 2`. Each line after it is an
 update: `add 10.0.0.0/8 5`, `del 10.0.0.0/8`, `flush`, `reclaim 16`, `online 0`,
 `quiescent 0`, `offline 0`";
 
-pub(crate) const OLD: &str = "\
-The update file of version 1. Each line is an update, as `add 10.0.0.0/8 5`";
+pub(crate) const OLD: &str =
+    "The update file of version 1. Each line is an update, as `add 10.0.0.0/8 5`";
 
 pub(crate) const RULES: &str = "\
 The greatest number of rules that the table holds, 1 to 16777216.
 Rules take memory as they come";
 
 pub(crate) const GROUPS: &str = "\
-The number of groups, 1 to 65536. Each block of 256 addresses with a route longer
-than 24 bits needs one";
+The number of groups, 1 to 65536. Each block of 256 addresses with a route
+longer than 24 bits needs one";
 
 pub(crate) const WORKERS: &str = "\
-The number of workers, 0 to 1024. They answer the addresses together, which takes
-at least 1. An update file names them by the numbers from 0 to N - 1";
+The number of workers, 0 to 1024. They answer the addresses together, which
+takes at least 1. An update file names them by the numbers from 0 to N - 1";
 
 pub(crate) const THRESHOLD: &str = "\
-A group that was given up waits in limbo until no reader can hold it. Where more
-than N wait, a change that gives up one more first frees some of them, 0 to 65536";
+A group that was given up waits in limbo until no worker can hold it. Where
+more than N wait, 0 to 65536, a change that gives up one more first frees some";
 
 pub(crate) const MAX: &str = "The most groups that a change frees so, 1 to 65536";

@@ -18,6 +18,7 @@ use commands::whole_command;
 use lpm_limits::Config;
 use std::alloc::Global;
 use std::convert::AsStr;
+use std::fmt;
 
 /// What the words of a command line ask for. The path `-` is standard input.
 #[derive(Clone, Copy, Debug)]
@@ -70,6 +71,17 @@ pub enum Refused {
     NoCommand,
     /// The parser accepted them, and two of the files are `-`: standard input has one file.
     TwoStandardInputs,
+}
+
+impl fmt::Display for Refused {
+    fn fmt<W: fmt::Write>(&self, f: &mut fmt::Formatter<W>) -> fmt::Result {
+        match self {
+            Refused::Usage(error) => write!(f, "{error}"),
+            Refused::Memory => f.write_str("out of memory"),
+            Refused::NoCommand => f.write_str("no command"),
+            Refused::TwoStandardInputs => f.write_str("only one file can be standard input, `-`"),
+        }
+    }
 }
 
 /// The command line of these words, of which the first is the program's name.

@@ -1,0 +1,319 @@
+//! The texts of help, whole, as a user sees them.
+
+pub(crate) const PROGRAM_HELP: &str = "\
+Longest-prefix match of IPv4 addresses
+
+Usage: lpmtool <COMMAND>
+
+Commands:
+  lookup   Prints for each address the next hop of its longest matching route, or `-`
+  apply    Prints the outcome of each update of the routes, then the next hop of each address
+  report   Prints what the table holds after the updates of the routes
+  migrate  Prints an update file of version 1 as one of version 2
+  help     Print this message or the help of the given subcommand(s)
+
+Options:
+  -h, --help
+          Print help (see a summary with '-h')
+
+  -V, --version
+          Print version
+
+Files:
+  A file is text with one item a line. Empty lines and lines that begin with `#`
+  are skipped. The path `-` is standard input. Only one of the files can be.
+
+  Route file, a prefix and a next hop (0 to 16777215). A prefix that stands twice
+  has the later next hop:
+    10.0.0.0/8 5
+
+  Address file, an address:
+    10.1.2.3
+
+  Update file, the first line as here, then an update on each line:
+    lpm-updates 2
+    add 10.0.0.0/8 5
+    del 10.0.0.0/8
+    flush
+    reclaim 16
+    online 0
+    quiescent 0
+    offline 0
+  `flush` deletes all routes. `reclaim 16` frees at most 16 of the groups that were
+  given up. The last three are reports of worker 0: it begins to read, it holds
+  nothing that it read before, it has ended. A file of version 1 lacks the first
+  line: see `migrate`.
+
+Memory:
+  64 MiB for the first table (2^24 words of 4 bytes), 1 KiB for each group, 15 to
+  22 bytes for each rule, and 24 bytes for each line of the route file. `migrate`
+  makes no table.
+
+Exit status:
+  0  done, or help or the version was asked for
+  2  the command line isn't accepted
+  3  a file can't be read, or the output can't be written
+  4  a file has a fault, as `routes.txt:12: bad length`
+  5  out of memory
+  6  refused, as `refused 3 TooManyRules`, where `--rules` has to be greater, or
+     `refused 7 NoGroups`, where `--groups` has to be greater
+";
+
+pub(crate) const SHORT_HELP: &str = "\
+Longest-prefix match of IPv4 addresses
+
+Usage: lpmtool <COMMAND>
+
+Commands:
+  lookup   Prints for each address the next hop of its longest matching route, or `-`
+  apply    Prints the outcome of each update of the routes, then the next hop of each address
+  report   Prints what the table holds after the updates of the routes
+  migrate  Prints an update file of version 1 as one of version 2
+  help     Print this message or the help of the given subcommand(s)
+
+Options:
+  -h, --help     Print help (see more with '--help')
+  -V, --version  Print version
+";
+
+pub(crate) const LOOKUP_HELP: &str = "\
+Prints for each address the next hop of its longest matching route, or `-`
+
+Usage: lpmtool lookup [OPTIONS] <ROUTES> <ADDRESSES>
+
+Arguments:
+  <ROUTES>
+          The route file. Each line is a prefix and a next hop, as `10.0.0.0/8 5`.
+          A prefix that stands twice has the later next hop
+
+  <ADDRESSES>
+          The address file. Each line is an address, as `10.1.2.3`
+
+Options:
+      --rules <N>
+          The greatest number of rules that the table holds, 1 to 16777216.
+          Rules take memory as they come
+         \x20
+          [default: 1048576]
+
+      --groups <N>
+          The number of groups, 1 to 65536. Each block of 256 addresses with a route
+          longer than 24 bits needs one
+         \x20
+          [default: 256]
+
+      --workers <N>
+          The number of workers, 0 to 1024. They answer the addresses together, which
+          takes at least 1. An update file names them by the numbers from 0 to N - 1
+         \x20
+          [default: 1]
+
+      --threshold <N>
+          A group that was given up waits in limbo until no worker can hold it. Where
+          more than N wait, 0 to 65536, a change that gives up one more first frees some
+         \x20
+          [default: 32]
+
+      --max <N>
+          The most groups that a change frees so, 1 to 65536
+         \x20
+          [default: 16]
+
+  -h, --help
+          Print help (see a summary with '-h')
+
+Example:
+  lpmtool lookup routes.txt addresses.txt
+
+Output, a line for each address. No route contains the second one:
+  10.1.2.3 5
+  192.0.2.1 -
+
+The path `-` is standard input. Only one of the files can be. Where a route is refused,
+nothing is printed. Give a greater number:
+  --rules    at `refused 3 TooManyRules`
+  --groups   at `refused 7 NoGroups`
+  --workers  at `refused 8 NoWorkers`
+
+Memory: 64 MiB, 1 KiB for each group, and 15 to 22 bytes for each rule.
+Exit status: 0 done, 2 words, 3 can't read or write, 4 a faulty file, 5 out of memory,
+6 refused. More in `lpmtool --help`.
+";
+
+pub(crate) const APPLY_HELP: &str = "\
+Prints the outcome of each update of the routes, then the next hop of each address
+
+Usage: lpmtool apply [OPTIONS] <ROUTES> <UPDATES> <ADDRESSES>
+
+Arguments:
+  <ROUTES>
+          The route file. Each line is a prefix and a next hop, as `10.0.0.0/8 5`.
+          A prefix that stands twice has the later next hop
+
+  <UPDATES>
+          The update file. The first line is `lpm-updates 2`. Each line after it is an
+          update: `add 10.0.0.0/8 5`, `del 10.0.0.0/8`, `flush`, `reclaim 16`, `online 0`,
+          `quiescent 0`, `offline 0`
+
+  <ADDRESSES>
+          The address file. Each line is an address, as `10.1.2.3`
+
+Options:
+      --rules <N>
+          The greatest number of rules that the table holds, 1 to 16777216.
+          Rules take memory as they come
+         \x20
+          [default: 1048576]
+
+      --groups <N>
+          The number of groups, 1 to 65536. Each block of 256 addresses with a route
+          longer than 24 bits needs one
+         \x20
+          [default: 256]
+
+      --workers <N>
+          The number of workers, 0 to 1024. They answer the addresses together, which
+          takes at least 1. An update file names them by the numbers from 0 to N - 1
+         \x20
+          [default: 1]
+
+      --threshold <N>
+          A group that was given up waits in limbo until no worker can hold it. Where
+          more than N wait, 0 to 65536, a change that gives up one more first frees some
+         \x20
+          [default: 32]
+
+      --max <N>
+          The most groups that a change frees so, 1 to 65536
+         \x20
+          [default: 16]
+
+  -h, --help
+          Print help (see a summary with '-h')
+
+Example:
+  lpmtool apply routes.txt updates.txt addresses.txt
+
+Output, first a line for each update:
+  added                  of `add 10.0.0.0/8 5`, or `replaced`, or `unchanged`
+  deleted 5              of `del 10.0.0.0/8`, with its next hop
+  flushed 2              of `flush`, with the number of routes that it deleted
+  reclaimed 1            of `reclaim 16`, with the number of groups that it freed;
+                         `stopped worker 0 counter 1` follows where worker 0 holds more
+  ok                     of `online 0`, `quiescent 0` and `offline 0`
+  refused 4 NoSuchRule   of an update that is refused: it changes nothing
+Then a line for each address. No route contains the second one:
+  10.1.2.3 5
+  192.0.2.1 -
+
+The path `-` is standard input. Only one of the files can be. Where a route of the route
+file is refused, nothing is printed. Give a greater number:
+  --rules    at `refused 3 TooManyRules`
+  --groups   at `refused 7 NoGroups`
+  --workers  at `refused 8 NoWorkers` and `refused 10 NoSuchWorker`
+
+Memory: 64 MiB, 1 KiB for each group, and 15 to 22 bytes for each rule.
+Exit status: 0 done, 2 words, 3 can't read or write, 4 a faulty file, 5 out of memory,
+6 refused. More in `lpmtool --help`.
+";
+
+pub(crate) const REPORT_HELP: &str = "\
+Prints what the table holds after the updates of the routes
+
+Usage: lpmtool report [OPTIONS] <ROUTES> <UPDATES>
+
+Arguments:
+  <ROUTES>
+          The route file. Each line is a prefix and a next hop, as `10.0.0.0/8 5`.
+          A prefix that stands twice has the later next hop
+
+  <UPDATES>
+          The update file. The first line is `lpm-updates 2`. Each line after it is an
+          update: `add 10.0.0.0/8 5`, `del 10.0.0.0/8`, `flush`, `reclaim 16`, `online 0`,
+          `quiescent 0`, `offline 0`
+
+Options:
+      --rules <N>
+          The greatest number of rules that the table holds, 1 to 16777216.
+          Rules take memory as they come
+         \x20
+          [default: 1048576]
+
+      --groups <N>
+          The number of groups, 1 to 65536. Each block of 256 addresses with a route
+          longer than 24 bits needs one
+         \x20
+          [default: 256]
+
+      --workers <N>
+          The number of workers, 0 to 1024. They answer the addresses together, which
+          takes at least 1. An update file names them by the numbers from 0 to N - 1
+         \x20
+          [default: 1]
+
+      --threshold <N>
+          A group that was given up waits in limbo until no worker can hold it. Where
+          more than N wait, 0 to 65536, a change that gives up one more first frees some
+         \x20
+          [default: 32]
+
+      --max <N>
+          The most groups that a change frees so, 1 to 65536
+         \x20
+          [default: 16]
+
+  -h, --help
+          Print help (see a summary with '-h')
+
+Example:
+  lpmtool report routes.txt updates.txt
+
+Output, these lines with the numbers of the table:
+  rules 3      the routes in the table
+  versions 5   the changes made, those of the route file too
+  in use 1     the groups in use
+  limbo 0      the groups that were given up, and that a worker may still read
+  free 255     the groups that are free
+  token 3      the token, which counts up as groups are given up
+
+The path `-` is standard input. Only one of the files can be. Where a route of the route
+file is refused, nothing is printed. Give a greater number:
+  --rules   at `refused 3 TooManyRules`
+  --groups  at `refused 7 NoGroups`
+
+Memory: 64 MiB, 1 KiB for each group, and 15 to 22 bytes for each rule.
+Exit status: 0 done, 2 words, 3 can't read or write, 4 a faulty file, 5 out of memory,
+6 refused. More in `lpmtool --help`.
+";
+
+pub(crate) const MIGRATE_HELP: &str = "\
+Prints an update file of version 1 as one of version 2
+
+Usage: lpmtool migrate <OLD>
+
+Arguments:
+  <OLD>
+          The update file of version 1. Each line is an update, as `add 10.0.0.0/8 5`
+
+Options:
+  -h, --help
+          Print help (see a summary with '-h')
+
+Example:
+  lpmtool migrate old.txt
+
+A file of version 1 lacks the line `lpm-updates 2`:
+  # nightly
+  add   10.1.2.3/8   5
+  flush
+
+Output, the same updates with one space between fields, prefixes without host bits, and
+no comments:
+  lpm-updates 2
+  add 10.0.0.0/8 5
+  flush
+
+The path `-` is standard input.
+Exit status: 0 done, 2 words, 3 can't read or write, 4 a faulty file, 5 out of memory.
+More in `lpmtool --help`.
+";
