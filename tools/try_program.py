@@ -1,24 +1,21 @@
 #!/usr/bin/env python3
-"""Runs the built lpmtool on the cases of tools/cases.py, and some of them with each allocation refused in turn.
+"""Runs the built lpmtool on the cases of tools/cases.py, as they are and with each allocation refused in turn.
 
-usage: tools/try_program.py [--help] [--later] [--passed N] [CASE..]
+Of each run the exit status is compared, and the whole of standard output and standard error. A case runs once as it
+is. Then its first allocation is refused, then its second, until a run ends without a refusal. Each of these runs has
+to end as the case wants, or with status 5, nothing on standard output and `lpmtool: out of memory` on standard error.
+The last one has to end as the case wants, and at least one with status 5. The start of a thread is refused as an
+allocation is.
 
-CASE      only the cases of these names
---later   also the cases of commands that are to come
---passed  a number that the last line, `N passed, M failed`, counts as passed already
-
-Each case compares the exit status, and the whole of standard output and standard error. A case that refuses memory
-then runs again and again: its first allocation fails, then its second, until a run ends without a refusal. Each of
-these runs has to end as the case wants, or with status 5, nothing on standard output and `lpmtool: out of memory` on
-standard error; the last one has to end as the case wants, and at least one with status 5. The start of a thread is
-refused in the same way.
-
-What is run are the programs that `rt ci` leaves behind, by LLVM and by Rattle's own compiler: the very code that was
-proved, and nothing is built again. `rt try --fail-alloc N` would take a minute for each N, and builds other code.
+What runs are the programs that `rt ci` leaves behind, built by LLVM and by Rattle's own compiler from what it proved.
+They are the real ones, they run in hundredths of a second, and nothing is built again. `rt try --fail-alloc N` takes a
+minute for each N and runs a program built in another way.
 
 Not seen: which refusals a run has to survive, since status 5 is right after each; memory that isn't taken by malloc,
-calloc or realloc; and with several workers every order of their allocations, of which each run meets one.
+calloc or realloc, of which Rattle's programs take none; and with several workers every order of their allocations, of
+which each run meets one.
 """
+import argparse
 import os
 import pathlib
 import subprocess
@@ -33,81 +30,77 @@ HERE = pathlib.Path(__file__).resolve().parent
 PROGRAM = HERE.parent / "crates/lpmtool/out/lpmtool"
 BUILDS = {"LLVM": PROGRAM, "Rattle's compiler": PROGRAM.with_name("lpmtool.by-rattle")}
 OUT_OF_MEMORY = (5, "", "lpmtool: out of memory\n")
-SECONDS = 60  # for one run, which takes 0.1
+SECONDS = 60  # for one run
 MOST = 5000  # allocations of one case, which has about a hundred
 
 
-def run(program, case, shim=None, at=0):
-    """Runs the case in a new folder; returns status, output and error, and whether an allocation was refused."""
+def run(program, case, refuser=None, at=0):
+    """Runs the case in a new folder; returns (status, output, error), and whether an allocation was refused."""
     with tempfile.TemporaryDirectory(prefix="try-program-") as folder:
         for name, text in case.files.items():
             pathlib.Path(folder, name).write_bytes(text.encode())
         seen, told = os.pipe()
-        refusing = {"LD_PRELOAD": str(shim), "REFUSE_AT": str(at), "REFUSE_FD": str(told)} if shim else {}
-        full = open("/dev/full", "wb") if case.full else None
+        refusing = {"LD_PRELOAD": refuser, "REFUSE_AT": str(at), "REFUSE_FD": str(told)} if refuser else {}
         try:
-            ran = subprocess.run(["lpmtool", *case.words], executable=program, cwd=folder, env=refusing,
-                                 stdin=subprocess.DEVNULL, stdout=full or subprocess.PIPE, stderr=subprocess.PIPE,
-                                 pass_fds=[told], timeout=SECONDS)
+            with open("/dev/full", "wb") as full:
+                # (the program's name in the parser's texts is that of word 0)
+                ran = subprocess.run(["lpmtool", *case.words], executable=program, cwd=folder, env=refusing,
+                                     stdin=subprocess.DEVNULL, stdout=full if case.full else subprocess.PIPE,
+                                     stderr=subprocess.PIPE, pass_fds=[told], timeout=SECONDS)
         finally:
             os.close(told)
             was_refused = os.read(seen, 1) == b"x"
             os.close(seen)
-            if full:
-                full.close()
-    texts = [(it or b"").decode(errors="backslashreplace") for it in (ran.stdout, ran.stderr)]
-    return (ran.returncode, *texts), was_refused
+    out, err = ((it or b"").decode(errors="backslashreplace") for it in (ran.stdout, ran.stderr))
+    return (ran.returncode, out, err), was_refused
 
 
 def is_wanted(case, got):
+    """Whether status, output and error are those of the case."""
     texts = zip((case.out, case.err), got[1:])
     return got[0] == case.status and all(it in text if isinstance(it, Has) else it == text for it, text in texts)
 
 
-def compare(program, case):
-    """Returns whether a plain run of the case is as wanted, and what to say of it."""
+def try_case(program, case, refuser):
+    """Runs the case as it is, and with each allocation refused; returns whether all is well, and what to say."""
     got, _ = run(program, case)
-    if is_wanted(case, got):
-        return True, "as wanted"
-    return False, f"(status, output, error) is {got}, wanted {(case.status, case.out, case.err)}"
-
-
-def refuse_each(program, case, shim):
-    """Returns whether each run that refuses one allocation of the case ends as it may, and what to say of them."""
+    if not is_wanted(case, got):
+        return False, f"got {got}, wanted {(case.status, case.out, case.err)}"
     times_out = 0
     for at in range(1, MOST + 1):
-        got, was_refused = run(program, case, shim, at)
-        out_of_memory = was_refused and got == OUT_OF_MEMORY
-        times_out += out_of_memory
-        if not (out_of_memory or is_wanted(case, got)):
-            return False, f"allocation {at} {'refused' if was_refused else 'is no more'}: {got}"
+        got, was_refused = run(program, case, refuser, at)
+        is_out = was_refused and got == OUT_OF_MEMORY
+        times_out += is_out
+        if not (is_out or is_wanted(case, got)):
+            return False, f"with allocation {at} {'refused' if was_refused else 'reached no more'}: got {got}"
         if not was_refused:
-            return times_out > 0, f"{at - 1} allocations refused in turn, {times_out} of them with status 5"
+            return times_out > 0, f"as wanted; {at - 1} allocations refused in turn, {times_out} times status 5"
     return False, f"it makes over {MOST} allocations"
 
 
-def build_shim(folder):
-    shim = f"{folder}/refuse_memory.so"
-    compiler = os.environ.get("CC", "cc")
-    subprocess.run([compiler, "-O1", "-shared", "-fPIC", "-o", shim, HERE / "refuse_memory.c", "-ldl"], check=True)
-    return shim
+def build_refuser(folder):
+    """Compiles the library that refuses an allocation, and returns its path."""
+    made, compiler = f"{folder}/refuse_memory.so", os.environ.get("CC", "cc")
+    words = ["-O1", "-shared", "-fPIC", "-o", made, HERE / "refuse_memory.c", "-ldl"]
+    subprocess.run([compiler, *words], check=True)
+    return made
 
 
-def main(words):
-    if "--help" in words:
-        print(__doc__, end="")
-        return 0
-    passed = int(words.pop(words.index("--passed") + 1)) if "--passed" in words else 0
-    names = [it for it in words if not it.startswith("--")]
-    builds = {name: path for name, path in BUILDS.items() if path.exists() or path == PROGRAM}
-    cases = [it for it in CASES + LATER * ("--later" in words) if not names or it.name in names]
-    failed = 0
+def main():
+    asked = argparse.ArgumentParser(description=__doc__, formatter_class=argparse.RawDescriptionHelpFormatter)
+    asked.add_argument("names", nargs="*", metavar="CASE", help="only the cases of these names")
+    asked.add_argument("--later", action="store_true", help="also the cases of commands and options that are to come")
+    asked.add_argument("--passed", type=int, default=0, metavar="N",
+                       help="what the last line, `N passed, M failed`, counts as passed already")
+    asked = asked.parse_args()
+    passed, failed = asked.passed, 0
+    cases = [it for it in CASES + LATER * asked.later if not asked.names or it.name in asked.names]
+    # (rt ci builds by Rattle's own compiler where that can; the build by LLVM has to be there)
+    builds = {name: path for name, path in BUILDS.items() if path == PROGRAM or path.exists()}
     with tempfile.TemporaryDirectory(prefix="try-program-") as folder, ThreadPoolExecutor(os.cpu_count()) as pool:
-        shim = build_shim(folder)
-        tasks = [(f"{case.name}, by {name}", pool.submit(compare, path, case))
+        refuser = build_refuser(folder)
+        tasks = [(f"{case.name}, by {name}", pool.submit(try_case, path, case, refuser))
                  for name, path in builds.items() for case in cases]
-        tasks += [(f"{case.name}, refusing memory, by {name}", pool.submit(refuse_each, path, case, shim))
-                  for name, path in builds.items() for case in cases if case.refuse]
         for name, task in tasks:
             try:
                 is_well, text = task.result()
@@ -120,4 +113,4 @@ def main(words):
 
 
 if __name__ == "__main__":
-    sys.exit(main(sys.argv[1:]))
+    sys.exit(main())
