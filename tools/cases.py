@@ -1,0 +1,157 @@
+"""The runs of lpmtool that tools/try_program.py compares whole: status, standard output and standard error.
+
+A row is a name, the words, the files by name, and what is wanted: `status` (0), `out` and `err` (nothing). With
+`full=True` standard output is /dev/full, where each write fails. A text in `Has` need only occur. Wanted texts come
+from docs/FORMATS.md and from worked cases, never from a run.
+"""
+from collections import namedtuple
+
+
+class Has(str):
+    """A text that has to occur in what was written, where the rest is the parser's own."""
+
+
+Case = namedtuple("Case", "name words files status out err full")
+
+
+def case(name, words, files=None, status=0, out="", err="", full=False):
+    return Case(name, words if isinstance(words, list) else words.split(), files or {}, status, out, err, full)
+
+
+def fault(name, text, where):
+    """A `lookup` that a faulty route file ends."""
+    return case(name, "lookup r a", {"r": text, "a": ""}, 4, "", f"lpmtool: r:{where}\n")
+
+
+RT = "10.0.0.0/8 1\n10.1.0.0/16 2\n10.1.1.128/25 3\n"
+FIVE = "10.1.1.127\n10.1.1.128\n10.2.0.0\n11.0.0.0\n10.1.1.255\n"
+FIVE_ANSWERS = "10.1.1.127 2\n10.1.1.128 3\n10.2.0.0 1\n11.0.0.0 -\n10.1.1.255 3\n"
+TWO_SHORT = "10.0.0.0/8 1\n10.1.0.0/16 2\n"
+TWO_BLOCKS = "10.0.0.0/25 1\n10.0.1.0/25 2\n"
+NO_ADDRESSES = """error: the following required arguments were not provided:
+  <ADDRESSES>
+
+Usage: lpmtool lookup <ROUTES> <ADDRESSES>
+
+For more information, try '--help'.
+"""
+NO_SUCH_COMMAND = """error: unrecognized subcommand 'serve'
+
+Usage: lpmtool <COMMAND>
+
+For more information, try '--help'.
+"""
+ZERO_RULES = """error: invalid value '0' for '--rules <N>': 0 is not in 1..=16777216
+
+For more information, try '--help'.
+"""
+
+CASES = [
+    # Done, or help was asked for.
+    case("five-addresses", "lookup r a", {"r": RT, "a": FIVE}, out=FIVE_ANSWERS),
+    case("empty-table", "lookup r a", {"r": "", "a": "1.2.3.4"}, out="1.2.3.4 -\n"),
+    case("line-ends", "lookup r a", {"r": "# c\r\n10.0.0.0/8 1\r\n", "a": "10.0.0.0\r\n"}, out="10.0.0.0 1\n"),
+    case("no-line-end", "lookup r a", {"r": "10.0.0.0/8 1", "a": "10.0.0.0"}, out="10.0.0.0 1\n"),
+    case("help", "--help", out=Has("\nUsage: lpmtool <COMMAND>\n")),
+    case("lookup-help", "lookup --help", out=Has("\nUsage: lpmtool lookup [OPTIONS] <ROUTES> <ADDRESSES>\n")),
+    # The words aren't accepted.
+    case("no-command", "", status=2, err=Has("error: 'lpmtool' requires a subcommand but one was not provided\n")),
+    case("other-command", "serve r a", status=2, err=NO_SUCH_COMMAND),
+    case("one-file", "lookup r", status=2, err=NO_ADDRESSES),
+    case("three-files", "lookup r a b", status=2, err=Has("error: unexpected argument 'b' found\n")),
+    case("rules-0", "lookup --rules 0 r a", status=2, err=ZERO_RULES),
+    case("not-utf-8", ["lookup", b"\xff", "a"], status=2, err="lpmtool: a word of the command line isn't UTF-8\n"),
+    # A file can't be read, or the output can't be written.
+    case("no-route-file", "lookup r a", {"a": "1.2.3.4"}, 3, err="lpmtool: cannot read r\n"),
+    case("no-address-file", "lookup r a", {"r": RT}, 3, err="lpmtool: cannot read a\n"),
+    case("no-files", "lookup r a", status=3, err="lpmtool: cannot read r\n"),
+    case("folder", "lookup . a", {"a": "1.2.3.4"}, 3, err="lpmtool: cannot read .\n"),
+    case("full", "lookup r a", {"r": RT, "a": FIVE}, 3, err="lpmtool: cannot write\n", full=True),
+    case("help-full", "--help", status=3, err="lpmtool: cannot write\n", full=True),
+    # A file has a fault.
+    fault("bad-route-lines-hop", "10.0.0.0/8 16777216", "1: bad hop"),
+    fault("bad-route-lines-length", "10.0.0.0/33 1", "1: bad length"),
+    fault("bad-route-lines-octet", "10.0.256.0/24 1", "1: bad address"),
+    fault("bad-route-lines-zero", "10.01.0.0/16 1", "1: bad address"),
+    fault("default-route-faults-00", "0.0.0.0/00 1", "1: bad length"),
+    fault("default-route-faults-33", "0.0.0.0/33 1", "1: bad length"),
+    fault("cut-line", "10.0.0.0/8 1\n10.1.0.0/16", "2: bad fields"),
+    fault("skipped-lines-count", "# c\r\n\n10.0.0.0/8 x\n", "3: bad hop"),
+    case("bad-address", "lookup r a", {"r": RT, "a": "1.2.3.4\n1.2.3\n"}, 4, err="lpmtool: a:2: bad address\n"),
+    case("first-file-first", "lookup r a", {"r": "x", "a": "x"}, 4, err="lpmtool: r:1: bad fields\n"),
+    case("fault-before-refusal", "lookup --rules 1 r a", {"r": TWO_SHORT, "a": "x"}, 4,
+         err="lpmtool: a:1: bad address\n"),
+    # A route is refused.
+    case("one-rule-load", "lookup --rules 1 r a", {"r": TWO_SHORT, "a": "10.0.0.0"}, 6,
+         err="lpmtool: r:2: refused 3 TooManyRules\n"),
+    case("one-group-load", "lookup --groups 1 r a", {"r": TWO_BLOCKS, "a": "10.0.0.0"}, 6,
+         err="lpmtool: r:2: refused 7 NoGroups\n"),
+]
+
+# Rows of what is to come. `tools/try_program.py --later` runs them too; they move up with their command or option.
+
+
+def applied(name, words, lines, out, routes="", addresses=""):
+    """An `apply` of these update lines."""
+    files = {"r": routes, "u": "lpm-updates 2\n" + lines, "a": addresses}
+    return case(name, f"apply {words} r u a", files, out=out)
+
+
+def reported(name, words, lines, numbers, routes=""):
+    """A `report` after these update lines: rules, versions, groups in use, in limbo and free, and the token."""
+    labels = ("rules", "versions", "in use", "limbo", "free", "token")
+    out = "".join(f"{label} {number}\n" for label, number in zip(labels, numbers))
+    return case(name, f"report {words} r u", {"r": routes, "u": "lpm-updates 2\n" + lines}, out=out)
+
+
+def update_fault(name, text, where):
+    """An update file, whole, that ends `report` and `apply` alike."""
+    return case(name, "report r u", {"r": "", "u": text}, 4, err=f"lpmtool: u:{where}\n")
+
+
+def line_fault(name, line, kind):
+    return update_fault(name, f"lpm-updates 2\n{line}\n", f"2: bad {kind}")
+
+
+def migrated(name, old, out="", **more):
+    return case(name, "migrate old", {"old": old}, out=out, **more)
+
+
+HELD = "online 0\nadd 10.0.0.0/25 1\ndel 10.0.0.0/25\nadd 10.0.1.0/25 2\nquiescent 0\nadd 10.0.1.0/25 2\n"
+HELD_OUT = "ok\nadded\ndeleted 1\nrefused 7 NoGroups worker 0 counter 1\nok\nadded\n"
+OUTCOMES = "add 10.0.0.0/8 1\nadd 10.0.0.0/8 1\nadd 10.0.0.0/8 2\ndel 10.0.0.0/8\ndel 10.0.0.0/8\n"
+
+LATER = [
+    # Workers.
+    case("five-addresses-3", "lookup --workers 3 r a", {"r": RT, "a": FIVE}, out=FIVE_ANSWERS),
+    case("no-workers", "lookup --workers 0 r a", {"r": RT, "a": FIVE}, 6, err="lpmtool: refused 8 NoWorkers\n"),
+    case("no-workers-fault", "lookup --workers 0 r a", {"r": RT, "a": "x"}, 4, err="lpmtool: a:1: bad address\n"),
+    case("no-workers-refusal", "lookup --workers 0 --rules 1 r a", {"r": TWO_SHORT, "a": ""}, 6,
+         err="lpmtool: r:2: refused 3 TooManyRules\n"),
+    # Updates. A refused update stops nothing, and the status is 0.
+    applied("delete-then-reclaim", "", "del 10.1.1.128/25\n", "deleted 3\n10.1.1.128 2\n", RT, "10.1.1.128"),
+    applied("outcomes", "", OUTCOMES, "added\nunchanged\nreplaced\ndeleted 2\nrefused 4 NoSuchRule\n"),
+    applied("held-group-outcomes", "--groups 1", HELD, HELD_OUT),
+    reported("held-group", "--groups 1", HELD, (1, 3, 1, 0, 0, 2)),
+    reported("flush-report", "", "flush\n", (0, 4, 0, 1, 255, 2), RT),
+    case("no-update-file", "apply r u a", {"r": RT}, 3, err="lpmtool: cannot read u\n"),
+    # Faults of update files, whose lines are counted with the header.
+    line_fault("wrong-fields-add", "add 10.0.0.0/8", "fields"),
+    line_fault("wrong-fields-flush", "flush now", "fields"),
+    line_fault("wrong-word", "put 10.0.0.0/8 1", "word"),
+    line_fault("wrong-length-none", "add 10.0.0.0 1", "length"),
+    line_fault("wrong-length-two", "del 10.0.0.0/8/9", "length"),
+    line_fault("wrong-address", "add 10.0.0/8 70000000", "address"),
+    line_fault("wrong-count", "reclaim 65537", "count"),
+    line_fault("wrong-worker", "online 4294967296", "worker"),
+    update_fault("bad-headers-empty", "", "1: bad header"),
+    update_fault("bad-headers-blank-before", " lpm-updates 2", "1: bad header"),
+    update_fault("bad-headers-blank-after", "lpm-updates 2 ", "1: bad header"),
+    update_fault("bad-headers-comment", "# x\nlpm-updates 2", "1: bad header"),
+    update_fault("word-after-header", "lpm-updates 2\r\nput\n", "2: bad word"),
+    # Migration.
+    migrated("migrate", "# nightly\nadd   10.1.2.3/8   5\nflush\n", "lpm-updates 2\nadd 10.0.0.0/8 5\nflush\n"),
+    migrated("migrate-edges-empty", "", "lpm-updates 2\n"),
+    migrated("migrate-edges-header", "lpm-updates 2\n", status=4, err="lpmtool: old:1: bad word\n"),
+    case("migrate-no-file", "migrate old", status=3, err="lpmtool: cannot read old\n"),
+]

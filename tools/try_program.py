@@ -1,0 +1,116 @@
+#!/usr/bin/env python3
+"""Runs the built lpmtool on the cases of tools/cases.py, as they are and with each allocation refused in turn.
+
+Of each run the exit status is compared, and the whole of standard output and standard error. A case runs once as it
+is. Then its first allocation is refused, then its second, until a run ends without a refusal. Each of these runs has
+to end as the case wants, or with status 5, nothing on standard output and `lpmtool: out of memory` on standard error.
+The last one has to end as the case wants, and at least one with status 5. The start of a thread is refused as an
+allocation is.
+
+What runs are the programs that `rt ci` leaves behind, built by LLVM and by Rattle's own compiler from what it proved.
+They are the real ones, they run in hundredths of a second, and nothing is built again. `rt try --fail-alloc N` takes a
+minute for each N and runs a program built in another way.
+
+Not seen: which refusals a run has to survive, since status 5 is right after each; memory that isn't taken by malloc,
+calloc or realloc, of which Rattle's programs take none; and with several workers every order of their allocations, of
+which each run meets one.
+"""
+import argparse
+import os
+import pathlib
+import subprocess
+import sys
+import tempfile
+from concurrent.futures import ThreadPoolExecutor
+
+sys.dont_write_bytecode = True
+from cases import CASES, LATER, Has
+
+HERE = pathlib.Path(__file__).resolve().parent
+PROGRAM = HERE.parent / "crates/lpmtool/out/lpmtool"
+BUILDS = {"LLVM": PROGRAM, "Rattle's compiler": PROGRAM.with_name("lpmtool.by-rattle")}
+OUT_OF_MEMORY = (5, "", "lpmtool: out of memory\n")
+SECONDS = 60  # for one run
+MOST = 5000  # allocations of one case, which has about a hundred
+
+
+def run(program, case, refuser=None, at=0):
+    """Runs the case in a new folder; returns (status, output, error), and whether an allocation was refused."""
+    with tempfile.TemporaryDirectory(prefix="try-program-") as folder:
+        for name, text in case.files.items():
+            pathlib.Path(folder, name).write_bytes(text.encode())
+        seen, told = os.pipe()
+        refusing = {"LD_PRELOAD": refuser, "REFUSE_AT": str(at), "REFUSE_FD": str(told)} if refuser else {}
+        try:
+            with open("/dev/full", "wb") as full:
+                # (the program's name in the parser's texts is that of word 0)
+                ran = subprocess.run(["lpmtool", *case.words], executable=program, cwd=folder, env=refusing,
+                                     stdin=subprocess.DEVNULL, stdout=full if case.full else subprocess.PIPE,
+                                     stderr=subprocess.PIPE, pass_fds=[told], timeout=SECONDS)
+        finally:
+            os.close(told)
+            was_refused = os.read(seen, 1) == b"x"
+            os.close(seen)
+    out, err = ((it or b"").decode(errors="backslashreplace") for it in (ran.stdout, ran.stderr))
+    return (ran.returncode, out, err), was_refused
+
+
+def is_wanted(case, got):
+    """Whether status, output and error are those of the case."""
+    texts = zip((case.out, case.err), got[1:])
+    return got[0] == case.status and all(it in text if isinstance(it, Has) else it == text for it, text in texts)
+
+
+def try_case(program, case, refuser):
+    """Runs the case as it is, and with each allocation refused; returns whether all is well, and what to say."""
+    got, _ = run(program, case)
+    if not is_wanted(case, got):
+        return False, f"got {got}, wanted {(case.status, case.out, case.err)}"
+    times_out = 0
+    for at in range(1, MOST + 1):
+        got, was_refused = run(program, case, refuser, at)
+        is_out = was_refused and got == OUT_OF_MEMORY
+        times_out += is_out
+        if not (is_out or is_wanted(case, got)):
+            return False, f"with allocation {at} {'refused' if was_refused else 'reached no more'}: got {got}"
+        if not was_refused:
+            return times_out > 0, f"as wanted; {at - 1} allocations refused in turn, {times_out} times status 5"
+    return False, f"it makes over {MOST} allocations"
+
+
+def build_refuser(folder):
+    """Compiles the library that refuses an allocation, and returns its path."""
+    made, compiler = f"{folder}/refuse_memory.so", os.environ.get("CC", "cc")
+    words = ["-O1", "-shared", "-fPIC", "-o", made, HERE / "refuse_memory.c", "-ldl"]
+    subprocess.run([compiler, *words], check=True)
+    return made
+
+
+def main():
+    asked = argparse.ArgumentParser(description=__doc__, formatter_class=argparse.RawDescriptionHelpFormatter)
+    asked.add_argument("names", nargs="*", metavar="CASE", help="only the cases of these names")
+    asked.add_argument("--later", action="store_true", help="also the cases of commands and options that are to come")
+    asked.add_argument("--passed", type=int, default=0, metavar="N",
+                       help="what the last line, `N passed, M failed`, counts as passed already")
+    asked = asked.parse_args()
+    passed, failed = asked.passed, 0
+    cases = [it for it in CASES + LATER * asked.later if not asked.names or it.name in asked.names]
+    # (rt ci builds by Rattle's own compiler where that can; the build by LLVM has to be there)
+    builds = {name: path for name, path in BUILDS.items() if path == PROGRAM or path.exists()}
+    with tempfile.TemporaryDirectory(prefix="try-program-") as folder, ThreadPoolExecutor(os.cpu_count()) as pool:
+        refuser = build_refuser(folder)
+        tasks = [(f"{case.name}, by {name}", pool.submit(try_case, path, case, refuser))
+                 for name, path in builds.items() for case in cases]
+        for name, task in tasks:
+            try:
+                is_well, text = task.result()
+            except (OSError, subprocess.TimeoutExpired) as error:
+                is_well, text = False, str(error)
+            print(f"lpmtool, {name}: {'' if is_well else 'FAILED: '}{text}")
+            passed, failed = passed + is_well, failed + (not is_well)
+    print(f"{passed} passed, {failed} failed")
+    return 1 if failed or not tasks else 0
+
+
+if __name__ == "__main__":
+    sys.exit(main())
