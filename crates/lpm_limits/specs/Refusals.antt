@@ -1,5 +1,5 @@
 -- Meaning: each refusal's number and name (this project's profile).
-use Rattle.std.specs.Prelude.{ℕ, List, codes}
+use Rattle.std.specs.Prelude.{ℕ, ◌==◌, cond, List, [], ◌∷◌, Option, Some, None, codes}
 use Rattle.lpm_limits.specs.declared.refusal.Refusal.{Refusal}
 use Rattle.lpm_limits.specs.declared.refusal.Refusal.TheVariants as refusals
 
@@ -19,3 +19,19 @@ row_of refusals.Taken = (11, codes "Taken")
 row_of refusals.NoThread = (12, codes "NoThread")
 row_of refusals.NotOnline = (13, codes "NotOnline")
 row_of refusals.AlreadyOnline = (14, codes "AlreadyOnline")
+
+-- the refusals, each once
+abbrev pub all_refusals : List Refusal
+all_refusals = refusals.BadLength ∷ refusals.BadHop ∷ refusals.TooManyRules ∷ refusals.NoSuchRule
+    ∷ refusals.BadConfig ∷ refusals.Exhausted ∷ refusals.NoGroups None ∷ refusals.NoWorkers
+    ∷ refusals.Memory ∷ refusals.NoSuchWorker ∷ refusals.Taken ∷ refusals.NoThread
+    ∷ refusals.NotOnline ∷ refusals.AlreadyOnline ∷ []
+
+-- the name of the first of these refusals that has the number
+abbrev pub name_among : List Refusal → ℕ → Option (List ℕ)
+name_among [] number = None
+name_among (r ∷ rs) number = cond ((row_of r).0 == number) (Some (row_of r).1) (name_among rs number)
+
+-- the name that goes with the number
+abbrev pub name_of : ℕ → Option (List ℕ)
+name_of number = name_among all_refusals number

@@ -150,3 +150,16 @@ fn numbers_names_and_texts_of_refusals(rt: HostRuntime) -> Result<(), Fail> {
     }
     Ok(())
 }
+
+#[test]
+fn names_of_numbers(rt: HostRuntime) {
+    let names = [
+        (0, None),
+        (1, Some("BadLength")),
+        (14, Some("AlreadyOnline")),
+        (15, None),
+    ];
+    for (number, name) in names {
+        assert_eq!(rt; Refusal::name_of(number), name);
+    }
+}

@@ -20,7 +20,7 @@ taken all done rest more line e f = e ∙ (ap (λ (t : List (List ℕ)). done ++
 
 -- the lines so far are `items`, and with the next line they are `more`
 module _ {Item : Type 0} (Spells : ℕ → List (List ℕ) → Item → Type 0) where
-  pub grown : (done : List (List ℕ)) (line : List ℕ) (number : ℕ) (items here more : List Item) → length done ≡ number → AreItems Spells 1 done items → StandsFor Spells (number + 1) (fields line) here → more ≡ items ++ here → AreItems Spells 1 (done ++ line ∷ []) more
-  grown done line number items here more count good stands e =
-      let added = add Spells 1 done line items here good (subst (λ m. StandsFor Spells m (fields line) here) (omega arith) stands) in
-      subst (AreItems Spells 1 (done ++ line ∷ [])) (sym e) added
+  pub grown : (n : ℕ) (done : List (List ℕ)) (line : List ℕ) (number : ℕ) (items here more : List Item) → n + length done ≡ number → AreItems Spells n done items → StandsFor Spells number (fields line) here → more ≡ items ++ here → AreItems Spells n (done ++ line ∷ []) more
+  grown n done line number items here more count good stands e =
+      let added = add Spells n done line items here good (subst (λ m. StandsFor Spells m (fields line) here) (sym count) stands) in
+      subst (AreItems Spells n (done ++ line ∷ [])) (sym e) added

@@ -18,6 +18,10 @@ pub nil_lines : lines [] ≡ []
 unfolding lines
 nil_lines = refl
 
+pub no_lines : (bs : List ℕ) → length bs ≡ 0 → lines bs ≡ []
+no_lines [] none = nil_lines
+no_lines (b ∷ bs) none = absurd (omega arith)
+
 feed : (bs : List ℕ) → lines (10 ∷ bs) ≡ [] ∷ lines bs
 unfolding lines
 feed bs = refl

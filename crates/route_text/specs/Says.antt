@@ -1,18 +1,10 @@
--- This layer's own: what one line says, and what is wrong with a text that isn't a prefix.
+-- This layer's own: what one line says.
 use Rattle.std.specs.Prelude.{◌≡◌, ℕ, ◌<◌, List, ◌∷◌, length}
 use Rattle.route_text.specs.declared.fault.FaultKind.{FaultKind}
-use Rattle.route_text.specs.declared.fault.FaultKind.TheVariants as kinds
 use Rattle.route_text.specs.declared.grammar.Said.{Said}
 use Rattle.route_text.specs.declared.grammar.Said.TheVariants as said
 use Rattle.route_text.specs.Lines.{lines, fields}
-use Rattle.route_text.specs.Fields.{HasBadAddress, HasBadLength}
 use Rattle.route_text.specs.Files.{IsSkipped}
-
--- what is wrong with a text that isn't a prefix
-abbrev pub HasPrefixFault : List ℕ → FaultKind → Type 0
-HasPrefixFault text kinds.Address = HasBadAddress text
-HasPrefixFault text kinds.Length = HasBadLength text
-HasPrefixFault text _ = ⊥
 
 module _ {Item : Type 0} (Spells : ℕ → List (List ℕ) → Item → Type 0)
     (HasFault : List (List ℕ) → FaultKind → Type 0) where

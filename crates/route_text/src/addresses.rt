@@ -1,7 +1,8 @@
 //! The address file.
 ghost use Rattle.std.specs.Prelude.{IfOk, IfErr};
-ghost use Rattle.route_text.specs.Files.{AreAddresses, SpellsAddress, HasAddressFault};
-ghost use Rattle.route_text.specs.Readings.{IsAddressesError};
+ghost use Rattle.route_text.specs.Files.{AreAddresses, IsAddressesFault};
+ghost use Rattle.route_text.specs.Files.{SpellsAddress, HasAddressFault};
+ghost use Rattle.route_text.specs.Readings.{IsReadError};
 
 use super::fault::{FaultKind, ReadError};
 use super::grammar::{Grammar, read_items};
@@ -42,7 +43,7 @@ impl Grammar for AddressLines {
 /// addresses is refused.
 pub fn read_addresses(alloc: Global, bytes: &[u8]) -> Result<Vec<u32>, ReadError>
     ensures addrs { IfOk result (λ v. AreAddresses bytes.now v.items) }
-    ensures error { IfErr result (IsAddressesError bytes.now) }
+    ensures error { IfErr result (IsReadError (IsAddressesFault bytes.now)) }
 {
-    read_items::<AddressLines>(alloc, bytes)
+    read_items::<AddressLines>(alloc, 1, bytes)
 }

@@ -37,7 +37,7 @@ fn put_octet(octet: u32, line: &mut [u8], end: usize) -> usize
 
 /// Writes the address so that it ends at `end`, and returns where it starts.
 #[inline(always)]
-fn put_address(addr: u32, line: &mut [u8], end: usize) -> usize
+pub(crate) fn put_address(addr: u32, line: &mut [u8], end: usize) -> usize
     requires { (15 ≤ end) × (end ≤ length line.old) }
     ensures start { result ≤ end }
     ensures written { drop result line.new ≡ address_text addr ++ drop end line.old }

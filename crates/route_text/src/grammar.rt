@@ -1,9 +1,9 @@
 //! Reading a file line by line, for any grammar of lines.
-ghost use Rattle.std.specs.Prelude.{◌≡◌, ℕ, ◌<◌, List, ◌∷◌, IfSome, IfOk, IfErr, length};
+ghost use Rattle.std.specs.Prelude.{ℕ, ◌+◌, ◌^◌, ◌<◌, List, ◌∷◌, IfSome, IfOk, IfErr, length};
 ghost use Rattle.route_text.specs.declared.fault.FaultKind.{FaultKind};
 ghost use Rattle.route_text.specs.declared.grammar.Said.TheVariants as Said;
 ghost use Rattle.route_text.specs.Lines.{lines, fields};
-ghost use Rattle.route_text.specs.Files.{AreItems};
+ghost use Rattle.route_text.specs.Files.{AreItems, IsFirstFault};
 ghost use Rattle.route_text.specs.Readings.{IsReadError};
 ghost use Rattle.route_text.specs.Says.{Says, SaysFirst};
 
@@ -72,16 +72,23 @@ fn read_first<G: Grammar>(number: usize, bytes: &[u8]) -> (Said<G::Item>, &[u8])
     (read_line::<G>(number, line), rest)
 }
 
-/// The items of a file, or its first fault.
-pub(crate) fn read_items<G: Grammar>(alloc: Global, bytes: &[u8]) -> Result<Vec<G::Item>, ReadError>
-    ensures items { IfOk result (λ v. AreItems G.Spells 1 (lines bytes.now) v.items) }
-    ensures error { IfErr result (IsReadError G.Spells G.HasFault (lines bytes.now)) }
+/// The items of lines of which the first has the number `first`, or their first fault.
+pub(crate) fn read_items<G: Grammar>(
+    alloc: Global,
+    first: usize,
+    bytes: &[u8],
+) -> Result<Vec<G::Item>, ReadError>
+    requires { first + length bytes.now < 2 ^ 64 }
+    ensures items { IfOk result (λ v. AreItems G.Spells first (lines bytes.now) v.items) }
+    ensures error { IfErr result
+        (IsReadError (IsFirstFault G.Spells G.HasFault first (lines bytes.now))) }
 {
     let mut items = Vec::new(alloc);
-    let mut number = 0;
+    let mut read = 0;
     let mut rest = bytes;
     while !rest.is_empty() {
-        number += 1;
+        let number = first + read;
+        read += 1;
         let (said, after) = read_first::<G>(number, rest);
         match said {
             Said::Nothing => {}

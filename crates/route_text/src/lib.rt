@@ -11,14 +11,23 @@ mod grammar;
 mod laws;
 mod lines;
 mod numbers;
+mod orders;
+mod outcomes;
+mod pieces;
 mod prefixes;
 mod routes;
+mod update_text;
+mod updates;
 
 pub use addresses::read_addresses;
 pub use answers::answers_text;
 pub use fault::{Fault, FaultKind, ReadError};
 pub use laws::{address_file_has_one_reading, route_file_has_one_reading};
+pub use orders::Order;
+pub use outcomes::{Outcome, outcomes_text};
 pub use routes::{Route, read_routes};
+pub use update_text::updates_text;
+pub use updates::{read_updates, read_updates_v1};
 
 #[cfg(test)]
 mod tests;

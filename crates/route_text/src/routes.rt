@@ -1,7 +1,7 @@
 //! The route file.
 ghost use Rattle.std.specs.Prelude.{IfOk, IfErr};
-ghost use Rattle.route_text.specs.Files.{AreRoutes, SpellsRoute, HasRouteFault};
-ghost use Rattle.route_text.specs.Readings.{IsRoutesError};
+ghost use Rattle.route_text.specs.Files.{AreRoutes, IsRoutesFault, SpellsRoute, HasRouteFault};
+ghost use Rattle.route_text.specs.Readings.{IsReadError};
 
 use super::fault::{FaultKind, ReadError};
 use super::grammar::{Grammar, read_items};
@@ -20,7 +20,7 @@ pub struct Route {
 }
 
 /// The grammar of a route file: a prefix and a hop.
-struct RouteLines;
+pub(crate) struct RouteLines;
 
 impl Grammar for RouteLines {
     type Item = Route;
@@ -65,7 +65,7 @@ impl Grammar for RouteLines {
 /// first faulty line where there is one. `Memory` comes where room for the routes is refused.
 pub fn read_routes(alloc: Global, bytes: &[u8]) -> Result<Vec<Route>, ReadError>
     ensures routes { IfOk result (λ v. AreRoutes bytes.now v.items) }
-    ensures error { IfErr result (IsRoutesError bytes.now) }
+    ensures error { IfErr result (IsReadError (IsRoutesFault bytes.now)) }
 {
-    read_items::<RouteLines>(alloc, bytes)
+    read_items::<RouteLines>(alloc, 1, bytes)
 }

@@ -7,9 +7,9 @@ abbrev pub invariant-loop-rest : goal.invariant-loop-rest
 invariant-loop-rest g l = record {
   done : List (List ℕ);
   split : lines l.fn.bytes ≡ done ++ lines l.rest;
-  count : length done ≡ l.number;
-  room : l.number + length l.rest ≤ length l.fn.bytes;
-  good : AreItems g.G.Grammar.Spells 1 done l.items.items;
+  count : length done ≡ l.read;
+  room : l.read + length l.rest ≤ length l.fn.bytes;
+  good : AreItems g.G.Grammar.Spells l.fn.first done l.items.items;
 }
 
 abbrev pub decreases-loop-rest : goal.decreases-loop-rest
