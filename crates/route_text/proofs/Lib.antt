@@ -8,3 +8,4 @@ pub mod Plain
 pub mod Answering
 pub mod Unique
 pub mod Grammars
+pub mod Writing

@@ -139,7 +139,7 @@ address_unslashed text addr is =
     dot = (refl, tt)
 
 -- the prefix that an address, a slash and a length are
-prefix_of : (text after : List ℕ) (addr len : ℕ) (prefix : Network) → IsAddress text addr → IsNumber 32 after len → prefix ≡ record { bits = masked 32 len addr; len = len } → IsPrefix (text ++ 47 ∷ after) prefix
+pub prefix_of : (text after : List ℕ) (addr len : ℕ) (prefix : Network) → IsAddress text addr → IsNumber 32 after len → prefix ≡ record { bits = masked 32 len addr; len = len } → IsPrefix (text ++ 47 ∷ after) prefix
 prefix_of text after addr len prefix is number e = record {
   addr = addr;
   back = after;

@@ -1,6 +1,6 @@
 -- Meaning: update files (this project's file format): version 2, which begins with a header line, and
 -- version 1, which has none.
-use Rattle.std.specs.Prelude.{◌≡◌, ℕ, ◌⊎◌, ⊤, List, [], ◌∷◌, codes}
+use Rattle.std.specs.Prelude.{◌≡◌, ℕ, ◌⊎◌, List, [], ◌∷◌, codes}
 use Rattle.lpm_bits.specs.Network.{Network}
 use Rattle.route_text.specs.declared.fault.Fault.{Fault}
 use Rattle.route_text.specs.declared.fault.FaultKind.{FaultKind}

@@ -1,6 +1,6 @@
 //! Pieces of lines that are written.
 ghost use Rattle.std.specs.Prelude.{◌≡◌, ◌++◌, OnOk, decimal};
-ghost use Rattle.lpm_bits.specs.Network.{Network};
+ghost use Rattle.lpm_bits.specs.Network.{IsNetwork};
 ghost use Rattle.route_text.specs.Texts.{address_text, prefix_text, holder_text};
 
 use super::answers::put_address;
@@ -36,7 +36,8 @@ fn put_octets(text: &mut Vec<u8>, addr: u32) -> Result<(), AllocError>
 
 /// Adds the prefix as an address, a slash and a length.
 pub(crate) fn put_prefix(text: &mut Vec<u8>, prefix: Prefix<24, 8>) -> Result<(), AllocError>
-    ensures { OnOk result (text.new.items ≡ text.old.items ++ prefix_text prefix) }
+    ensures written { OnOk result (text.new.items ≡ text.old.items ++ prefix_text prefix) }
+    ensures network { OnOk result (IsNetwork 32 prefix) }
 {
     put_octets(text, prefix.bits())?;
     put_named(text, b"/", u64::from(prefix.len()))

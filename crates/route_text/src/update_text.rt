@@ -3,6 +3,8 @@ ghost use Rattle.std.specs.Prelude.{◌≡◌, ◌++◌, All, OnOk, IfOk};
 ghost use Rattle.route_text.specs.Texts.{update_text, update_line, update_lines, IsCountInRange};
 ghost use Rattle.route_text.specs.Texts.{addition_text, deletion_text};
 ghost use Rattle.route_text.specs.Updates.{AreUpdates};
+ghost use Rattle.route_text.specs.Says.{IsSound};
+ghost use Rattle.route_text.specs.declared.orders.Order.TheVariants as orders;
 
 use super::orders::Order;
 use super::pieces::{put_named, put_prefix};
@@ -11,7 +13,8 @@ use std::alloc::{AllocError, Global};
 
 /// Adds an addition.
 fn put_addition(text: &mut Vec<u8>, prefix: Prefix<24, 8>, hop: Hop) -> Result<(), AllocError>
-    ensures { OnOk result (text.new.items ≡ text.old.items ++ addition_text prefix hop) }
+    ensures written { OnOk result (text.new.items ≡ text.old.items ++ addition_text prefix hop) }
+    ensures sound { OnOk result (IsSound (orders.Add prefix hop)) }
 {
     text.extend_from_slice(b"add ")?;
     put_prefix(text, prefix)?;
@@ -20,7 +23,8 @@ fn put_addition(text: &mut Vec<u8>, prefix: Prefix<24, 8>, hop: Hop) -> Result<(
 
 /// Adds a deletion.
 fn put_deletion(text: &mut Vec<u8>, prefix: Prefix<24, 8>) -> Result<(), AllocError>
-    ensures { OnOk result (text.new.items ≡ text.old.items ++ deletion_text prefix) }
+    ensures written { OnOk result (text.new.items ≡ text.old.items ++ deletion_text prefix) }
+    ensures sound { OnOk result (IsSound (orders.Del prefix)) }
 {
     text.extend_from_slice(b"del ")?;
     put_prefix(text, prefix)
@@ -28,7 +32,8 @@ fn put_deletion(text: &mut Vec<u8>, prefix: Prefix<24, 8>) -> Result<(), AllocEr
 
 /// Adds an update.
 fn put_update(text: &mut Vec<u8>, order: Order) -> Result<(), AllocError>
-    ensures { OnOk result (text.new.items ≡ text.old.items ++ update_text order) }
+    ensures written { OnOk result (text.new.items ≡ text.old.items ++ update_text order) }
+    ensures sound { OnOk result (IsSound order) }
 {
     match order {
         Order::Add(prefix, hop) => put_addition(text, prefix, hop),
@@ -43,7 +48,8 @@ fn put_update(text: &mut Vec<u8>, order: Order) -> Result<(), AllocError>
 
 /// Adds the line of an update.
 fn put_line(text: &mut Vec<u8>, order: Order) -> Result<(), AllocError>
-    ensures { OnOk result (text.new.items ≡ text.old.items ++ update_line order) }
+    ensures written { OnOk result (text.new.items ≡ text.old.items ++ update_line order) }
+    ensures sound { OnOk result (IsSound order) }
 {
     put_update(text, order)?;
     text.push(b'\n')?;

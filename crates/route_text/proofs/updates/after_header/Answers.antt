@@ -1,4 +1,4 @@
-use Rattle.std.proofs.Common.{arith, subst, sym}
+use Rattle.std.proofs.Common.{arith, subst}
 use Rattle.std.proofs.lemmas.Bool.Decides.{nat_tests}
 use Rattle.route_text.specs.Updates.{StartsHeader}
 use Rattle.route_text.proofs.LineEnds.{no_lines}
