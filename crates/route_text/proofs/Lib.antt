@@ -8,4 +8,5 @@ pub mod Plain
 pub mod Answering
 pub mod Unique
 pub mod Grammars
+pub mod UpdateGrammar
 pub mod Writing
