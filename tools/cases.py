@@ -105,7 +105,7 @@ def reported(name, words, lines, numbers, routes=""):
 
 
 def update_fault(name, text, where):
-    """An update file, whole, that ends `report` and `apply` alike."""
+    """A `report` that an update file ends, which is given whole."""
     return case(name, "report r u", {"r": "", "u": text}, 4, err=f"lpmtool: u:{where}\n")
 
 
@@ -120,6 +120,8 @@ def migrated(name, old, out="", **more):
 HELD = "online 0\nadd 10.0.0.0/25 1\ndel 10.0.0.0/25\nadd 10.0.1.0/25 2\nquiescent 0\nadd 10.0.1.0/25 2\n"
 HELD_OUT = "ok\nadded\ndeleted 1\nrefused 7 NoGroups worker 0 counter 1\nok\nadded\n"
 OUTCOMES = "add 10.0.0.0/8 1\nadd 10.0.0.0/8 1\nadd 10.0.0.0/8 2\ndel 10.0.0.0/8\ndel 10.0.0.0/8\n"
+WORKERS = "online 1\nquiescent 0\nonline 0\nonline 0\noffline 0\n"
+WORKERS_OUT = "refused 10 NoSuchWorker\nrefused 13 NotOnline\nok\nrefused 14 AlreadyOnline\nok\n"
 
 LATER = [
     # Workers.
@@ -132,6 +134,7 @@ LATER = [
     applied("delete-then-reclaim", "", "del 10.1.1.128/25\n", "deleted 3\n10.1.1.128 2\n", RT, "10.1.1.128"),
     applied("outcomes", "", OUTCOMES, "added\nunchanged\nreplaced\ndeleted 2\nrefused 4 NoSuchRule\n"),
     applied("held-group-outcomes", "--groups 1", HELD, HELD_OUT),
+    applied("refused-reports", "", WORKERS, WORKERS_OUT),
     reported("held-group", "--groups 1", HELD, (1, 3, 1, 0, 0, 2)),
     reported("flush-report", "", "flush\n", (0, 4, 0, 1, 255, 2), RT),
     case("no-update-file", "apply r u a", {"r": RT}, 3, err="lpmtool: cannot read u\n"),
