@@ -71,7 +71,8 @@ IsMistake other = ⊤
 
 -- the words are refused
 abbrev pub AreRefused : List Text → Type 0
-AreRefused words = (why : Refused) × IsMistake why × IsRefusalBy (fault_of the_app words) why
+AreRefused words = (why : Refused) × IsMistake why
+    × IsRefusalBy (fault_of the_app words) (subcommand_of the_app words) why
 
 -- why a run that isn't done has this status: the words are refused; help can't be written; memory is
 -- wanted; or a command ends in a failure of this status

@@ -3,6 +3,7 @@ ghost use Rattle.std.specs.Prelude.{◌≡◌, ℕ, ◌≤◌, List, Option, len
 ghost use Rattle.std.specs.Prelude.{◌↔◌, IfOk, IfErr, IfSome, OnOk, OnErr};
 ghost use Rattle.std.specs.declared.io.ErrorKind.TheVariants.{OutOfMemory};
 ghost use Rattle.std.specs.Io.KnownBytes.{Appends};
+ghost use Rattle.std.specs.IoError.{error_kind};
 ghost use Rattle.lpmtool.specs.Output.{Begins};
 
 use crate::failure::Failure;
@@ -47,7 +48,7 @@ pub fn read_file<F: Files>(alloc: Global, files: &F, path: &str) -> Result<Vec<u
 }
 
 fn read_failure(e: io::Error) -> ReadFailure
-    ensures { (result ≡ ReadFailure.Memory) ↔ (e.kind ≡ OutOfMemory) }
+    ensures { (result ≡ ReadFailure.Memory) ↔ (error_kind e ≡ OutOfMemory) }
 {
     match e.kind() {
         ErrorKind::OutOfMemory => ReadFailure::Memory,

@@ -1,7 +1,9 @@
 //! Updates of a table, one after another, and what came of each.
-ghost use Rattle.std.specs.Prelude.{◌≡◌, ◌≢◌, map, IfOk, IfSome, All};
+ghost use Rattle.std.specs.Prelude.{◌≡◌, ◌≢◌, false, map, IfOk, All};
 ghost use Rattle.route_text.specs.Texts.{outcome_lines};
-ghost use Rattle.lpmtool.specs.Updating.{command_of, told_of, pair_of, ComesOut};
+ghost use Rattle.lpmtool.specs.Updating.{ComesOut, command_of, told_of};
+ghost use Rattle.lpmtool.specs.Updating.{holder_of, pair_of};
+ghost use Rattle.lpm_limits.specs.declared.refusal.Refusal.TheVariants.{Memory};
 
 use fib::Fib;
 use fib_model::{Command, Outcome, Report};
