@@ -1,5 +1,5 @@
 -- The texts of the commands, for files whose bytes may be known.
-use Rattle.std.proofs.Common.{◌≡◌, ◌<◌, ℕ, List, ◌++◌, Option, Some, None, subst, sym, map}
+use Rattle.std.proofs.Common.{◌≡◌, ℕ, List, Option, Some, None, subst}
 use Rattle.std.specs.Prelude.{IfSome}
 use Rattle.lpm_limits.specs.declared.config.Config.{Config}
 use Rattle.lpm_rules.specs.RuleMap.{RuleMap}
@@ -11,54 +11,55 @@ use Rattle.route_text.specs.declared.routes.Route.{Route}
 use Rattle.route_text.specs.declared.orders.Order.{Order}
 use Rattle.route_text.specs.Files.{AreRoutes, AreAddresses}
 use Rattle.route_text.specs.Updates.{AreUpdates}
-use Rattle.route_text.specs.Texts.{outcome_lines}
 use Rattle.audit.specs.declared.report.Report.{Report}
 use Rattle.audit.specs.Report.{report_lines}
 use Rattle.lpmtool.specs.Loading.{IsLoaded}
-use Rattle.lpmtool.specs.Updating.{ComesOut, told_of}
-use Rattle.lpmtool.specs.Lookup.{IsAnswerText, IsTextOf}
-use Rattle.lpmtool.specs.Apply.{IsApplied}
+use Rattle.lpmtool.specs.Updating.{ComesOut}
+use Rattle.lpmtool.specs.Lookup.{IsAnswered, IsTextOf}
+use Rattle.lpmtool.specs.Apply.{IsApplied, IsToldAfter}
 use Rattle.lpmtool.specs.Report.{IsReported, IsCountOf}
 use Rattle.lpmtool.proofs.Updated.{updated, last_rules, reported}
 
 -- the answers of the table that the routes make
-pub is_text : (c : Config) (routes addresses : Option (List ℕ)) (list : List Route) (addrs : List ℕ) (table : State Registry) (text : List ℕ) → IfSome routes (λ a. AreRoutes a list) → IfSome addresses (λ b. AreAddresses b addrs) → IsLoaded c list table → 0 < c.workers → IsAnswerText table.rules addrs text → IsTextOf c routes addresses text
-is_text c None addresses list addrs table text are_routes are_addrs loaded workers answered = tt
-is_text c (Some a) None list addrs table text are_routes are_addrs loaded workers answered = tt
-is_text c (Some a) (Some b) list addrs table text are_routes are_addrs loaded workers answered = record {
+pub is_text : (c : Config) (routes addresses : Option (List ℕ)) (list : List Route) (addrs : List ℕ) (table : State Registry) (text : List ℕ) → IfSome routes (λ a. AreRoutes a list) → IfSome addresses (λ b. AreAddresses b addrs) → IsLoaded c list table → IsAnswered c table.rules addrs text → IsTextOf c routes addresses text
+is_text c None addresses list addrs table text are_routes are_addrs loaded answered = tt
+is_text c (Some a) None list addrs table text are_routes are_addrs loaded answered = tt
+is_text c (Some a) (Some b) list addrs table text are_routes are_addrs loaded answered = record {
   list = list;
   addrs = addrs;
   table = table;
   are_routes = are_routes;
   are_addrs = are_addrs;
   loaded = loaded;
-  workers = workers;
-  answered = subst (λ (R : RuleMap). IsAnswerText R addrs text) loaded.rules answered;
+  answered = subst (λ (R : RuleMap). IsAnswered c R addrs text) loaded.rules answered;
 }
 
 -- what came of the updates, and the answers of the table after them
-pub is_applied : (c : Config) (routes updates addresses : Option (List ℕ)) (list : List Route) (orders : List Order) (addrs : List ℕ) (came : List Outcome) (x z : State Registry) (answers text : List ℕ) → IfSome routes (λ a. AreRoutes a list) → IfSome updates (λ b. AreUpdates b orders) → IfSome addresses (λ b. AreAddresses b addrs) → IsLoaded c list x → ComesOut c x orders came z → 0 < c.workers → IsAnswerText z.rules addrs answers → text ≡ outcome_lines (map told_of came) ++ answers → IsApplied c routes updates addresses text
-is_applied c None updates addresses list orders addrs came x z answers text are_routes are_updates are_addrs loaded comes workers answered written = tt
-is_applied c (Some r) None addresses list orders addrs came x z answers text are_routes are_updates are_addrs loaded comes workers answered written = tt
-is_applied c (Some r) (Some u) None list orders addrs came x z answers text are_routes are_updates are_addrs loaded comes workers answered written = tt
-is_applied c (Some r) (Some u) (Some a) list orders addrs came x z answers text are_routes are_updates are_addrs loaded comes workers answered written =
-    let done = updated c list orders came x z loaded comes in
+pub is_applied : (c : Config) (routes updates addresses : Option (List ℕ)) (list : List Route) (orders : List Order) (addrs : List ℕ) (x z : State Registry) (text : List ℕ) → IfSome routes (λ a. AreRoutes a list) → IfSome updates (λ b. AreUpdates b orders) → IfSome addresses (λ b. AreAddresses b addrs) → IsLoaded c list x → IsToldAfter c x orders addrs z text → IsApplied c routes updates addresses text
+is_applied c None updates addresses list orders addrs x z text are_routes are_updates are_addrs loaded told = tt
+is_applied c (Some r) None addresses list orders addrs x z text are_routes are_updates are_addrs loaded told = tt
+is_applied c (Some r) (Some u) None list orders addrs x z text are_routes are_updates are_addrs loaded told = tt
+is_applied c (Some r) (Some u) (Some a) list orders addrs x z text are_routes are_updates are_addrs loaded told =
+    let done = updated c list orders told.came x z loaded told.comes in
     record {
       list = list;
       orders = orders;
       addrs = addrs;
-      came = came;
+      came = told.came;
       log = done.0;
       state = done.1;
-      answers = answers;
+      answers = told.answers;
       are_routes = are_routes;
       are_updates = are_updates;
       are_addrs = are_addrs;
       updated = done.2;
-      workers = workers;
-      answered = subst (λ (R : RuleMap). IsAnswerText R addrs answers) (last_rules c list orders came done.0 z done.1 done.2 done.3) answered;
-      written = written;
+      answered = subst (λ (R : RuleMap). IsAnswered c R addrs told.answers) (last_rules c list orders told.came done.0 z done.1 done.2 done.3) told.answered;
+      written = told.written;
     }
+
+-- the same text under other names of the limits, the orders and the addresses
+pub told_as : (c d : Config) (x z : State Registry) (orders orders' : List Order) (addrs addrs' : List ℕ) (text : List ℕ) → d ≡ c → orders ≡ orders' → addrs ≡ addrs' → IsToldAfter d x orders addrs z text → IsToldAfter c x orders' addrs' z text
+told_as c d x z orders orders' addrs addrs' text limits same_orders same_addrs told = subst (λ (k : Config). IsToldAfter k x orders' addrs' z text) limits (subst (λ (l : List ℕ). IsToldAfter d x orders' l z text) same_addrs (subst (λ (l : List Order). IsToldAfter d x l addrs z text) same_orders told))
 
 -- what the table counts after the updates
 pub is_reported : (c : Config) (routes updates : Option (List ℕ)) (list : List Route) (orders : List Order) (came : List Outcome) (x : State Registry) (fib : FibState) (r : Report) (text : List ℕ) → IfSome routes (λ a. AreRoutes a list) → IfSome updates (λ b. AreUpdates b orders) → IsLoaded c list x → ComesOut c x orders came fib.table → fib.config ≡ c → IsCountOf fib r → text ≡ report_lines r → IsReported c routes updates text
@@ -79,3 +80,7 @@ is_reported c (Some a) (Some u) list orders came x fib r text are_routes are_upd
       reported = reported c list orders came done.0 fib done.1 r done.2 done.3 config counts;
       written = written;
     }
+
+-- the same answers under another name of the limits and the addresses
+pub answered_as : (c d : Config) (R : RuleMap) (addrs list text : List ℕ) → d ≡ c → addrs ≡ list → IsAnswered d R addrs text → IsAnswered c R list text
+answered_as c d R addrs list text limits same answered = subst (λ (k : Config). IsAnswered k R list text) limits (subst (λ (l : List ℕ). IsAnswered d R l text) same answered)

@@ -1,9 +1,10 @@
 -- Meaning: the command `apply` (this project's program: a line for what came of each update, then a
 -- line for each address; a refused update doesn't stop the file).
-use Rattle.std.specs.Prelude.{ℕ, ◌≡◌, ◌<◌, ◌⊎◌, List, [], ◌∷◌, ◌++◌, Option, IfSome, map}
+use Rattle.std.specs.Prelude.{ℕ, ◌≡◌, ◌⊎◌, List, [], ◌∷◌, ◌++◌, Option, IfSome, map}
 use Rattle.lpm_limits.specs.declared.config.Config.{Config}
 use Rattle.fib_model.specs.declared.command.Outcome.{Outcome}
 use Rattle.fib_model.specs.declared.event.Event.{Event}
+use Rattle.qsbr.specs.Registry.{Registry}
 use Rattle.fib_model.specs.State.{State}
 use Rattle.fib_model.specs.Outcomes.{Log}
 use Rattle.fib_model.specs.History.{history, last_of}
@@ -16,11 +17,11 @@ use Rattle.lpmtool.specs.declared.failure.Failure.{Failure}
 use Rattle.lpmtool.specs.declared.failure.Failure.TheVariants.{CannotWrite}
 use Rattle.lpmtool.specs.Inputs.{Input, route_file, update_file, address_file, AreRead, EndsAtOne}
 use Rattle.lpmtool.specs.Loading.{EndsTable, HasTable}
-use Rattle.lpmtool.specs.Updating.{IsUpdated, told_of}
-use Rattle.lpmtool.specs.Lookup.{IsAnswerText, EndsAnswering}
+use Rattle.lpmtool.specs.Updating.{IsUpdated, ComesOut, told_of}
+use Rattle.lpmtool.specs.Lookup.{IsAnswered, EndsAnswering}
 
 -- the text tells what came of each update, after the routes, and then answers the addresses by the
--- last version of the rules; there is a worker to answer them
+-- last version of the rules
 pub record IsApplyText (c : Config) (routes updates addresses text : List ℕ) : Type 0 where
   pub list : List Route
   pub orders : List Order
@@ -33,11 +34,20 @@ pub record IsApplyText (c : Config) (routes updates addresses text : List ℕ) :
   pub are_updates : AreUpdates updates orders
   pub are_addrs : AreAddresses addresses addrs
   pub updated : IsUpdated c list orders came log state
-  pub workers : 0 < c.workers
-  pub answered : IsAnswerText (last_of (history log)) addrs answers
+  pub answered : IsAnswered c (last_of (history log)) addrs answers
   pub written : text ≡ outcome_lines (map told_of came) ++ answers
 
--- the same of the files' bytes, where they are known
+-- on a table with these limits in the state x, the updates come out so and leave z, and then the
+-- addresses are answered; the text tells both
+pub record IsToldAfter (c : Config) (x : State Registry) (orders : List Order) (addrs : List ℕ)
+    (z : State Registry) (text : List ℕ) : Type 0 where
+  pub came : List Outcome
+  pub answers : List ℕ
+  pub comes : ComesOut c x orders came z
+  pub answered : IsAnswered c z.rules addrs answers
+  pub written : text ≡ outcome_lines (map told_of came) ++ answers
+
+-- the text of an apply of the files' bytes, where they are known
 abbrev pub IsApplied : Config → Option (List ℕ) → Option (List ℕ) → Option (List ℕ) → List ℕ
     → Type 0
 IsApplied c routes updates addresses text =

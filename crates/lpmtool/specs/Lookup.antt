@@ -20,8 +20,11 @@ abbrev pub IsAnswerText : RuleMap → List ℕ → List ℕ → Type 0
 IsAnswerText R addrs text = (hops : List (Option ℕ)) × AreLongestHops 32 R addrs hops
     × (text ≡ answer_lines addrs hops)
 
--- the text answers the addresses of one file by the routes of the other, none of which is refused;
--- there is a worker to answer them
+-- there is a worker to answer the addresses, and the text has their answers
+abbrev pub IsAnswered : Config → RuleMap → List ℕ → List ℕ → Type 0
+IsAnswered c R addrs text = (0 < c.workers) × IsAnswerText R addrs text
+
+-- the text answers the addresses of one file by the routes of the other, none of which is refused
 pub record IsLookupText (c : Config) (routes addresses text : List ℕ) : Type 0 where
   pub list : List Route
   pub addrs : List ℕ
@@ -29,8 +32,7 @@ pub record IsLookupText (c : Config) (routes addresses text : List ℕ) : Type 0
   pub are_routes : AreRoutes routes list
   pub are_addrs : AreAddresses addresses addrs
   pub loaded : IsLoaded c list table
-  pub workers : 0 < c.workers
-  pub answered : IsAnswerText (rules_of_routes list) addrs text
+  pub answered : IsAnswered c (rules_of_routes list) addrs text
 
 -- the same of the files' bytes, where they are known
 abbrev pub IsTextOf : Config → Option (List ℕ) → Option (List ℕ) → List ℕ → Type 0

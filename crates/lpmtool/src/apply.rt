@@ -2,7 +2,8 @@
 ghost use Rattle.std.specs.Prelude.{◌≡◌, ◌≢◌, IfOk, IfErr, OnOk, IsErrOf};
 ghost use Rattle.lpm_limits.specs.Limits.{IsConfig};
 ghost use Rattle.lpmtool.specs.Output.{Writes, WritesBeginning};
-ghost use Rattle.lpmtool.specs.Apply.{IsApplied, EndsApply};
+ghost use Rattle.lpmtool.specs.Apply.{IsApplied, IsToldAfter, EndsApply};
+ghost use Rattle.lpmtool.specs.Lookup.{EndsAnswering};
 
 use crate::failure::Failure;
 use crate::files::{Files, put_text};
@@ -11,7 +12,9 @@ use crate::loading::load;
 use crate::lookup::text_of_answers;
 use crate::updating::{text_of_outcomes, update};
 use bulk::Open;
+use fib::Fib;
 use qsbr::Config;
+use route_text::Order;
 use std::alloc::Global;
 use std::io::Write;
 use std::thread::Threads;
@@ -71,9 +74,24 @@ fn apply_text<'a, R: Threads + Sync, F: Files>(
     let orders = read_list::<Updates, F>(alloc, files, updates)?;
     let addrs = read_list::<Addresses, F>(alloc, files, addresses)?;
     let mut table = load(alloc, routes, &list, config)?;
-    let outcomes = update(alloc, &mut table, &orders)?;
+    text_after(rt, alloc, &mut table, &orders, &addrs)
+}
+
+// The lines of the updates, and then those of the addresses.
+fn text_after<'a, R: Threads + Sync>(
+    rt: &R,
+    alloc: Global,
+    table: &mut Fib<24, 8>,
+    orders: &[Order],
+    addrs: &[u32],
+) -> Result<Vec<u8>, Failure<'a>>
+    ensures text { IfOk result (λ v. IsToldAfter table.old.config table.old.table orders.now
+        addrs.now table.new.table v.items) }
+    ensures failure { IfErr result (EndsAnswering table.old.config) }
+{
+    let outcomes = update(alloc, table, orders)?;
     let mut text = text_of_outcomes(alloc, &outcomes)?;
-    let answers = text_of_answers(rt, alloc, &table, &addrs, &Open)?;
+    let answers = text_of_answers(rt, alloc, table, addrs, &Open)?;
     text.extend_from_slice(&answers)?;
     Ok(text)
 }

@@ -1,8 +1,8 @@
 //! `lookup`: the next hops of addresses, by routes.
-ghost use Rattle.std.specs.Prelude.{◌≡◌, ◌≢◌, ◌<◌, IfOk, IfErr, OnOk, IsErrOf};
+ghost use Rattle.std.specs.Prelude.{◌≡◌, ◌≢◌, IfOk, IfErr, OnOk, IsErrOf};
 ghost use Rattle.lpm_limits.specs.Limits.{IsConfig};
 ghost use Rattle.lpmtool.specs.Output.{Writes, WritesBeginning};
-ghost use Rattle.lpmtool.specs.Lookup.{IsAnswerText, IsTextOf, EndsAnswering, EndsLookup};
+ghost use Rattle.lpmtool.specs.Lookup.{IsAnswered, IsTextOf, EndsAnswering, EndsLookup};
 
 use crate::failure::Failure;
 use crate::files::{Files, put_text};
@@ -81,8 +81,8 @@ pub fn text_of_answers<'a, R: Threads + Sync, G: Gate>(
     addrs: &[u32],
     gate: &G,
 ) -> Result<Vec<u8>, Failure<'a>>
-    ensures text { IfOk result (λ v. IsAnswerText table.now.table.rules addrs.now v.items) }
-    ensures workers { IfOk result (λ _. 0 < table.now.config.workers) }
+    ensures text { IfOk result (λ v.
+        IsAnswered table.now.config table.now.table.rules addrs.now v.items) }
     ensures failure { IfErr result (EndsAnswering table.now.config) }
 {
     let workers = table.config().workers;

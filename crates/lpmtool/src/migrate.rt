@@ -44,5 +44,6 @@ fn migrate_text<'a, F: Files>(
     ensures unwritten { IfErr result (λ e. e ≢ Failure.CannotWrite) }
 {
     let orders = read_list::<OldUpdates, F>(alloc, files, old)?;
-    Ok(updates_text(alloc, &orders)?)
+    let text = updates_text(alloc, &orders)?;
+    Ok(text)
 }

@@ -64,8 +64,10 @@ fn whole_text<'a, F: Files>(
     let list = read_list::<Routes, F>(alloc, files, routes)?;
     let orders = read_list::<Updates, F>(alloc, files, updates)?;
     let mut table = load(alloc, routes, &list, config)?;
-    update(alloc, &mut table, &orders)?;
-    Ok(report_text(alloc, &report_of(&table))?)
+    let _outcomes = update(alloc, &mut table, &orders)?;
+    let report = report_of(&table);
+    let text = report_text(alloc, &report)?;
+    Ok(text)
 }
 
 // What the table counts.

@@ -5,6 +5,7 @@ ghost use Rattle.lpmtool.specs.Updating.{ComesOut, command_of, told_of};
 ghost use Rattle.lpmtool.specs.Updating.{holder_of, pair_of};
 ghost use Rattle.lpm_limits.specs.declared.refusal.Refusal.TheVariants.{Memory};
 
+use defer_queue::Reclaimed;
 use fib::Fib;
 use fib_model::{Command, Outcome, Report};
 use lpm_rules::Put;
@@ -37,22 +38,22 @@ fn commands_of(alloc: Global, orders: &[Order]) -> Result<Vec<Command<24, 8>>, A
 {
     let mut commands = Vec::with_capacity(alloc, orders.len())?;
     for order in orders {
-        commands.push(command_of(*order))?;
+        commands.push(command_of(order))?;
     }
     Ok(commands)
 }
 
-fn command_of(order: Order) -> Command<24, 8>
-    ensures { result ≡ command_of order }
+fn command_of(order: &Order) -> Command<24, 8>
+    ensures { result ≡ command_of order.now }
 {
     match order {
-        Order::Add(prefix, hop) => Command::Add(prefix, hop),
-        Order::Del(prefix) => Command::Delete(prefix),
-        Order::Flush => Command::Flush,
-        Order::Reclaim(max) => Command::Reclaim(max),
-        Order::Online(worker) => Command::Report(Report::Online, worker as usize),
-        Order::Offline(worker) => Command::Report(Report::Offline, worker as usize),
-        Order::Quiescent(worker) => Command::Report(Report::Quiescent, worker as usize),
+        Order::Add(prefix, hop) => return Command::Add(*prefix, *hop),
+        Order::Del(prefix) => return Command::Delete(*prefix),
+        Order::Flush => return Command::Flush,
+        Order::Reclaim(max) => return Command::Reclaim(*max),
+        Order::Online(worker) => return Command::Report(Report::Online, *worker as usize),
+        Order::Offline(worker) => return Command::Report(Report::Offline, *worker as usize),
+        Order::Quiescent(worker) => return Command::Report(Report::Quiescent, *worker as usize),
     }
 }
 
@@ -74,26 +75,40 @@ pub fn text_of_outcomes(alloc: Global, outcomes: &[Outcome]) -> Result<Vec<u8>, 
 {
     let mut told = Vec::with_capacity(alloc, outcomes.len())?;
     for outcome in outcomes {
-        told.push(told_of(*outcome))?;
+        told.push(told_of(outcome))?;
     }
     outcomes_text(alloc, &told)
 }
 
-fn told_of(outcome: Outcome) -> route_text::Outcome
-    ensures { result ≡ told_of outcome }
+fn told_of(outcome: &Outcome) -> route_text::Outcome
+    ensures { result ≡ told_of outcome.now }
 {
     match outcome {
-        Outcome::Put(Put::Added) => route_text::Outcome::Added,
-        Outcome::Put(Put::Replaced) => route_text::Outcome::Replaced,
-        Outcome::Put(Put::Unchanged) => route_text::Outcome::Unchanged,
-        Outcome::Deleted(hop) => route_text::Outcome::Deleted(hop),
-        Outcome::Flushed(count) => route_text::Outcome::Flushed(count),
-        Outcome::Reclaimed(reclaimed) => route_text::Outcome::Reclaimed {
-            freed: reclaimed.freed,
-            stopped: pair_of(reclaimed.stopped),
-        },
-        Outcome::Told => route_text::Outcome::Told,
-        Outcome::Refused(refusal) => told_refusal(refusal),
+        Outcome::Put(put) => return told_put(*put),
+        Outcome::Deleted(hop) => return route_text::Outcome::Deleted(*hop),
+        Outcome::Flushed(count) => return route_text::Outcome::Flushed(*count),
+        Outcome::Reclaimed(reclaimed) => return told_reclaimed(reclaimed),
+        Outcome::Told => return route_text::Outcome::Told,
+        Outcome::Refused(refusal) => return told_refusal(*refusal),
+    }
+}
+
+fn told_put(put: Put) -> route_text::Outcome
+    ensures { result ≡ told_of (Outcome.Put put) }
+{
+    match put {
+        Put::Added => route_text::Outcome::Added,
+        Put::Replaced => route_text::Outcome::Replaced,
+        Put::Unchanged => route_text::Outcome::Unchanged,
+    }
+}
+
+fn told_reclaimed(reclaimed: &Reclaimed) -> route_text::Outcome
+    ensures { result ≡ told_of (Outcome.Reclaimed reclaimed.now) }
+{
+    route_text::Outcome::Reclaimed {
+        freed: reclaimed.freed,
+        stopped: pair_of(reclaimed.stopped),
     }
 }
 

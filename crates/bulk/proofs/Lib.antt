@@ -1,2 +1,0 @@
-pub mod Borders
-pub mod Joined

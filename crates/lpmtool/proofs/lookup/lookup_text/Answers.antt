@@ -1,0 +1,23 @@
+use Rattle.std.proofs.Common.{List, subst}
+use Rattle.std.proofs.lemmas.Result.{IfOk-weaker, IfErr-weaker}
+use Rattle.route_text.specs.declared.routes.Route.{Route}
+use Rattle.lpmtool.specs.Loading.{IsLoaded}
+use Rattle.lpmtool.proofs.Texts.{is_text, answered_as}
+use Rattle.lpmtool.proofs.Ends.{ends_lookup}
+use Rattle.lpmtool.proofs.lookup.lookup_text.Goals as goal
+
+pub returns-clause-text : goal.returns-clause-text
+returns-clause-text g c =
+    let table = c.in_ok-table.table.table in
+    let loaded = subst (λ (list : List Route). IsLoaded c.args.config list table) c.deref.ensures.value c.in_ok-table.ensures.loaded in
+    IfOk-weaker c.text_of_answers.result _ _ (λ v answered.
+    is_text _ _ _ c.in_ok-list.list.items c.in_ok-addrs.addrs.items table _ c.in_ok-list.ensures.items c.in_ok-addrs.ensures.items loaded (answered_as _ _ _ _ _ _ c.in_ok-table.ensures.config c.deref-2.ensures.value answered))
+    c.text_of_answers.ensures.text
+
+pub returns-clause-failure : goal.returns-clause-failure
+returns-clause-failure g c =
+    let table = c.in_ok-table.table.table in
+    let loaded = subst (λ (list : List Route). IsLoaded c.args.config list table) c.deref.ensures.value c.in_ok-table.ensures.loaded in
+    IfErr-weaker c.text_of_answers.result _ _ (λ e ends.
+    ends_lookup _ _ _ _ _ c.in_ok-list.list.items c.in_ok-addrs.addrs.items table e c.in_ok-table.ensures.config c.in_ok-list.ensures.items c.in_ok-addrs.ensures.items loaded ends)
+    c.text_of_answers.ensures.failure
