@@ -15,8 +15,8 @@ use Rattle.route_text.specs.declared.outcomes.Outcome.{Outcome}
 use Rattle.route_text.specs.Lines.{lines, fields}
 use Rattle.route_text.specs.Fields.{IsAddress, IsNumber, IsPrefix}
 use Rattle.route_text.specs.Files.{StandsFor, AreItems}
-use Rattle.route_text.specs.Updates.{word_text, SpellsUpdate, AreUpdates, header, after_first, StartsHeader}
-use Rattle.route_text.specs.Texts.{address_text, prefix_text, addition_text, update_text, update_line, lines_of_updates, update_lines, IsCountInRange, outcome_line, outcome_lines}
+use Rattle.route_text.specs.Updates.{IsCountInRange, word_text, SpellsUpdate, AreUpdates, header, after_first, StartsHeader}
+use Rattle.route_text.specs.Texts.{address_text, prefix_text, addition_text, update_text, update_line, lines_of_updates, update_lines, outcome_line, outcome_lines}
 use Rattle.route_text.specs.Says.{IsSound}
 use Rattle.route_text.proofs.LineEnds.{nil_lines}
 use Rattle.route_text.proofs.Plain.{IsPlain, IsWritten, plain_append, plain_decimal, plain_address, written_plain, written_append, written_line, one_field, field_before, prefix_of}

@@ -22,8 +22,10 @@ mod updates;
 pub use addresses::read_addresses;
 pub use answers::answers_text;
 pub use fault::{Fault, FaultKind, ReadError};
-pub use laws::{address_file_has_one_reading, route_file_has_one_reading};
-pub use laws::{old_update_file_has_one_reading, update_file_has_one_reading};
+pub use laws::{
+    address_file_has_one_reading, old_update_file_has_one_reading, route_file_has_one_reading,
+    update_file_has_one_reading,
+};
 pub use orders::Order;
 pub use outcomes::{Outcome, outcomes_text};
 pub use routes::{Route, read_routes};
