@@ -144,7 +144,6 @@ fn flush(rest: &[u8]) -> Result<Order, FaultKind>
 /// What stands after the header line, if the file begins with it.
 fn after_header(bytes: &[u8]) -> Option<&[u8]>
     ensures found { IfSome result (λ rest. lines bytes.now ≡ header ∷ lines rest.now) }
-    ensures shorter { IfSome result (λ rest. length rest.now < length bytes.now) }
     ensures missing { IfNone result (¬ StartsHeader (lines bytes.now)) }
 {
     if bytes.is_empty() {
