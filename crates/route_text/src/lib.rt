@@ -1,7 +1,8 @@
-//! The texts of routes, addresses and answers.
+//! The texts of routes, addresses, updates, answers and outcomes.
 //!
-//! A route file is read into its routes and an address file into its addresses. A file that isn't
-//! of its form has a first fault, with its line and kind. Answers are written one to a line.
+//! A route file is read into its routes, an address file into its addresses and an update file into
+//! its updates. A file that isn't of its form has a first fault, with its line and kind. Answers,
+//! updates and outcomes are written one to a line.
 #![tactic(auto)]
 
 mod addresses;

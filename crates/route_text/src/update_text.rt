@@ -59,7 +59,8 @@ fn put_line(text: &mut Vec<u8>, order: Order) -> Result<(), AllocError>
 
 /// The update file of version 2 with these updates: the header, and then a line for each, in order.
 ///
-/// `AllocError` comes where room for the text is refused.
+/// It is asked for counts of at most 65,536, as they are read. `AllocError` comes where room for
+/// the text is refused.
 pub fn updates_text(alloc: Global, orders: &[Order]) -> Result<Vec<u8>, AllocError>
     requires { All IsCountInRange orders.now }
     ensures text { IfOk result (λ v. v.items ≡ update_lines orders.now) }
