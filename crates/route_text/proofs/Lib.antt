@@ -1,5 +1,5 @@
 pub mod Runs
-pub mod LineEnds
+pub mod FirstLine
 pub mod Digits
 pub mod Octets
 pub mod Cuts

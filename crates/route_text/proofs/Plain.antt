@@ -14,7 +14,7 @@ use Rattle.route_text.specs.Starts.{StartsNumber, StartsAddress}
 use Rattle.route_text.specs.Files.{SpellsAddress, HasAddressFault, SpellsRoute, HasRouteFault}
 use Rattle.route_text.specs.Says.{Says, SaysFirst}
 use Rattle.route_text.proofs.Cuts.{HasNoSlash, before_cut, after_cut}
-use Rattle.route_text.proofs.LineEnds.{HasNoFeed, ends_in_return, line_before_feed}
+use Rattle.route_text.proofs.FirstLine.{IsWritten, written_line}
 use Rattle.route_text.proofs.Runs.{last_one, goes_on, cons_blank, nil_fields}
 
 -- each byte is past the space
@@ -48,11 +48,6 @@ field_before [] rest p some = absurd (omega arith)
 field_before (b ∷ []) rest p some = last_one b (32 ∷ rest) (not_blank b p.0) refl ∙ ap (λ fs. (b ∷ []) ∷ fs) (cons_blank 32 rest refl)
 field_before (b ∷ c ∷ bs) rest p some = goes_on b (c ∷ (bs ++ 32 ∷ rest)) (not_blank b p.0) (not_blank c p.1.0) ∙ ap (onto_first b) (field_before (c ∷ bs) rest p.1 (omega arith))
 
--- a line of plain bytes and spaces is what stands before its line feed
-abbrev pub IsWritten : List ℕ → Type 0
-IsWritten [] = Unit {0}
-IsWritten (b ∷ bs) = (31 < b) × IsWritten bs
-
 pub written_plain : (bs : List ℕ) → IsPlain bs → IsWritten bs
 written_plain [] p = tt
 written_plain (b ∷ bs) p = (omega arith, written_plain bs p.1)
@@ -60,21 +55,6 @@ written_plain (b ∷ bs) p = (omega arith, written_plain bs p.1)
 pub written_append : (xs bs : List ℕ) → IsWritten xs → IsWritten bs → IsWritten (xs ++ bs)
 written_append [] bs p q = q
 written_append (a ∷ xs) bs p q = (p.0, written_append xs bs p.1 q)
-
-not_end : (b c : ℕ) → c < 32 → 31 < b → (b == c) ≡ false
-not_end b c low high = grind (arith, nat_tests)
-
-no_feed : (bs : List ℕ) → IsWritten bs → HasNoFeed bs
-no_feed [] p = tt
-no_feed (b ∷ bs) p = (not_end b 10 (omega arith) p.0, no_feed bs p.1)
-
-no_return : (bs : List ℕ) → IsWritten bs → ends_in_return bs ≡ false
-no_return [] p = refl
-no_return (b ∷ []) p = not_end b 13 (omega arith) p.0
-no_return (b ∷ c ∷ bs) p = no_return (c ∷ bs) p.1
-
-pub written_line : (bs rest : List ℕ) → IsWritten bs → lines (bs ++ 10 ∷ rest) ≡ bs ∷ lines rest
-written_line bs rest p = line_before_feed bs rest (no_feed bs p) (no_return bs p)
 
 octet_plain : (n : ℕ) → n < 256 → IsPlain (decimal n)
 octet_plain n fits = plain_decimal n (omega arith)
@@ -108,12 +88,11 @@ plain_address_line n addr bytes after rest is e =
     let split : bytes ≡ text ++ 10 ∷ rest = is.split ∙ ap (λ t. text ++ t) e in
     record {
       line = text;
-      split = ap lines split ∙ written_line text rest (written_plain text plain);
+      split = ap lines split ∙ written_line text (written_plain text plain) rest;
       says = subst (λ f. Says SpellsAddress HasAddressFault n f (said.Item addr)) (sym fs) (
         λ skipped. unskipped text [] addr is.address (ap (λ t. get_or t 0 0) (append-nil text) ∙ skipped),
         is.address,
       );
-      shorter = omega (arith, ap length split, length-append text (10 ∷ rest));
     }
 
 -- an address has no slash
@@ -169,12 +148,11 @@ plain_route_line n addr len hop prefix bytes a b c d e rest address slash length
     let written : IsWritten line = written_append first (32 ∷ second) (written_plain first plain_first) (omega arith, written_plain second plain_second) in
     record {
       line = line;
-      split = ap lines split ∙ written_line line rest written;
+      split = ap lines split ∙ written_line line written rest;
       says = subst (λ f. Says SpellsRoute HasRouteFault n f (said.Item (record { line = n; prefix = prefix; hop = hop }))) (sym fs) (
         unskipped text (47 ∷ decimal len) addr address.address,
         (refl, prefix_of text (decimal len) addr len prefix address.address (record { small = length_is.small; spelled = refl }) same, record { small = hop_is.small; spelled = refl }),
       );
-      shorter = omega (arith, ap length split, length-append line (10 ∷ rest));
     }
   where
     regroup : (t l h r : List ℕ) → t ++ 47 ∷ (l ++ 32 ∷ (h ++ 10 ∷ r)) ≡ t ++ 47 ∷ l ++ 32 ∷ h ++ 10 ∷ r

@@ -15,11 +15,11 @@ use Rattle.route_text.specs.declared.outcomes.Outcome.{Outcome}
 use Rattle.route_text.specs.Lines.{lines, fields}
 use Rattle.route_text.specs.Fields.{IsAddress, IsNumber, IsPrefix}
 use Rattle.route_text.specs.Files.{StandsFor, AreItems}
-use Rattle.route_text.specs.Updates.{word_text, SpellsUpdate, AreUpdates, header, after_first, StartsHeader}
-use Rattle.route_text.specs.Texts.{address_text, prefix_text, addition_text, update_text, update_line, lines_of_updates, update_lines, IsCountInRange, outcome_line, outcome_lines}
+use Rattle.route_text.specs.Updates.{IsCountInRange, word_text, SpellsUpdate, AreUpdates, header, after_first, StartsHeader}
+use Rattle.route_text.specs.Texts.{address_text, prefix_text, addition_text, update_text, update_line, lines_of_updates, update_lines, outcome_line, outcome_lines}
 use Rattle.route_text.specs.Says.{IsSound}
-use Rattle.route_text.proofs.LineEnds.{nil_lines}
-use Rattle.route_text.proofs.Plain.{IsPlain, IsWritten, plain_append, plain_decimal, plain_address, written_plain, written_append, written_line, one_field, field_before, prefix_of}
+use Rattle.route_text.proofs.FirstLine.{IsWritten, nil_lines, line_first}
+use Rattle.route_text.proofs.Plain.{IsPlain, plain_append, plain_decimal, plain_address, written_plain, written_append, one_field, field_before, prefix_of}
 
 -- one more line is written
 next_update : (o : Order) (os : List Order) → lines_of_updates (o ∷ os) ≡ update_line o ++ lines_of_updates os
@@ -187,17 +187,13 @@ line_of n (orders.Online worker) sound fine = number_line n worker sound keyword
 line_of n (orders.Offline worker) sound fine = number_line n worker sound keywords.Offline (orders.Offline worker) (λ skipped. absurd (omega (arith, skipped)), (refl, is_number n worker sound 4294967295 (omega (arith, sound))))
 line_of n (orders.Quiescent worker) sound fine = number_line n worker sound keywords.Quiescent (orders.Quiescent worker) (λ skipped. absurd (omega (arith, skipped)), (refl, is_number n worker sound 4294967295 (omega (arith, sound))))
 
--- a line, its line feed and what stands after it
-line_first : (text rest : List ℕ) → IsWritten text → lines (text ++ 10 ∷ [] ++ rest) ≡ text ∷ lines rest
-line_first text rest written = ap lines (append_assoc text (10 ∷ []) rest) ∙ written_line text rest written
-
 -- the lines of updates are items, one each
 items_of : (n : ℕ) (os : List Order) → All IsSound os → All IsCountInRange os → AreItems SpellsUpdate n (lines (lines_of_updates os)) os
 items_of n [] sound fine = subst (λ ls. AreItems SpellsUpdate n ls []) (sym (ap lines no_updates ∙ nil_lines)) refl
 items_of n (o ∷ os) sound fine =
     let line = line_of n o (sound 0 o (omega arith)) (fine 0 o (omega arith)) in
     let rest = items_of (n + 1) os (λ k d lt. sound (suc k) d (omega arith)) (λ k d lt. fine (suc k) d (omega arith)) in
-    let split : lines (lines_of_updates (o ∷ os)) ≡ update_text o ∷ lines (lines_of_updates os) = ap lines (next_update o os) ∙ line_first (update_text o) (lines_of_updates os) line.written in
+    let split : lines (lines_of_updates (o ∷ os)) ≡ update_text o ∷ lines (lines_of_updates os) = ap lines (next_update o os) ∙ line_first (update_text o) line.written (lines_of_updates os) in
     subst (λ ls. AreItems SpellsUpdate n ls (o ∷ os)) (sym split) (o ∷ [], os, line.stands, rest, refl)
 
 written_header : IsWritten header
@@ -206,5 +202,5 @@ written_header = no_lower header refl
 -- what is written is read back
 pub read_back : (os : List Order) → All IsSound os → All IsCountInRange os → AreUpdates (update_lines os) os
 read_back os sound fine =
-    let split : lines (update_lines os) ≡ header ∷ lines (lines_of_updates os) = line_first header (lines_of_updates os) written_header in
+    let split : lines (update_lines os) ≡ header ∷ lines (lines_of_updates os) = line_first header written_header (lines_of_updates os) in
     (subst StartsHeader (sym split) refl, subst (λ ls. AreItems SpellsUpdate 2 (after_first ls) os) (sym split) (items_of 2 os sound fine))

@@ -1,5 +1,5 @@
 -- This layer's own: what one line says, and the ranges of an update's values.
-use Rattle.std.specs.Prelude.{◌≡◌, ℕ, ◌<◌, ⊤, List, ◌∷◌, length}
+use Rattle.std.specs.Prelude.{◌≡◌, ℕ, ◌<◌, ⊤, List, ◌∷◌}
 use Rattle.lpm_bits.specs.Network.{IsNetwork}
 use Rattle.route_text.specs.declared.orders.Order.{Order}
 use Rattle.route_text.specs.declared.orders.Order.TheVariants as orders
@@ -32,4 +32,3 @@ module _ {Item : Type 0} (Spells : ℕ → List (List ℕ) → Item → Type 0)
     pub line : List ℕ
     pub split : lines bytes ≡ line ∷ lines rest
     pub says : Says n (fields line) this
-    pub shorter : length rest < length bytes

@@ -60,11 +60,6 @@ lines_of_updates (order ∷ more) = update_line order ++ lines_of_updates more
 abbrev pub update_lines : List Order → List ℕ
 update_lines updates = header ++ 10 ∷ [] ++ lines_of_updates updates
 
--- the count of a file's `reclaim` line
-abbrev pub IsCountInRange : Order → Type 0
-IsCountInRange (orders.Reclaim count) = count ≤ 65536
-IsCountInRange _ = ⊤
-
 -- a worker and the counter that was loaded
 abbrev pub holder_text : ℕ → ℕ → List ℕ
 holder_text worker counter = codes " worker " ++ decimal worker ++ codes " counter " ++ decimal counter

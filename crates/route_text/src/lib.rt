@@ -1,7 +1,8 @@
-//! The texts of routes, addresses and answers.
+//! The texts of routes, addresses, updates, answers and outcomes.
 //!
-//! A route file is read into its routes and an address file into its addresses. A file that isn't
-//! of its form has a first fault, with its line and kind. Answers are written one to a line.
+//! A route file is read into its routes, an address file into its addresses and an update file into
+//! its updates. A file that isn't of its form has a first fault, with its line and kind. Answers,
+//! updates and outcomes are written one to a line.
 #![tactic(auto)]
 
 mod addresses;
@@ -22,8 +23,10 @@ mod updates;
 pub use addresses::read_addresses;
 pub use answers::answers_text;
 pub use fault::{Fault, FaultKind, ReadError};
-pub use laws::{address_file_has_one_reading, route_file_has_one_reading};
-pub use laws::{old_update_file_has_one_reading, update_file_has_one_reading};
+pub use laws::{
+    address_file_has_one_reading, old_update_file_has_one_reading, route_file_has_one_reading,
+    update_file_has_one_reading,
+};
 pub use orders::Order;
 pub use outcomes::{Outcome, outcomes_text};
 pub use routes::{Route, read_routes};

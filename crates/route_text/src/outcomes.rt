@@ -110,7 +110,8 @@ fn put_line(text: &mut Vec<u8>, outcome: Outcome) -> Result<(), AllocError>
 
 /// The text of outcomes: a line for each, in order.
 ///
-/// `AllocError` comes where room for the text is refused.
+/// It is asked for numbers of refusals that there are, 1 to 14. `AllocError` comes where room for
+/// the text is refused.
 pub fn outcomes_text(alloc: Global, outcomes: &[Outcome]) -> Result<Vec<u8>, AllocError>
     requires { All HasKnownNumber outcomes.now }
     ensures { IfOk result (λ v. v.items ≡ outcome_lines outcomes.now) }

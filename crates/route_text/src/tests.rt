@@ -257,3 +257,190 @@ fn answers_of_three_routes(rt: HostRuntime) -> Result<(), Fail> {
     assert!(rt; answers_text(rt.alloc(), &[], &[])?.is_empty());
     Ok(())
 }
+
+/// The updates of this file, one of each kind, as they stand there.
+fn updates_of_each_kind() -> Result<[Order; 7], Fail> {
+    let prefix = Prefix::new(0x0a00_0000, 8)?;
+    Ok([
+        Order::Add(prefix, Hop::new(5)?),
+        Order::Del(prefix),
+        Order::Flush,
+        Order::Reclaim(65_536),
+        Order::Online(0),
+        Order::Offline(4_294_967_295),
+        Order::Quiescent(7),
+    ])
+}
+
+const EACH_KIND: &str =
+    "lpm-updates 2\nadd 10.0.0.0/8 5\ndel 10.0.0.0/8\nflush\nreclaim 65536\nonline 0\noffline 4294967295\nquiescent 7\n";
+
+#[test]
+fn updates_are_read(rt: HostRuntime) -> Result<(), Fail> {
+    let file =
+        "lpm-updates 2\r\n# c\n\nadd 10.1.2.3/8 5\r\n del\t10.255.0.0/8 \nflush\nreclaim 65536\nonline 0\n \noffline 4294967295\nquiescent 7";
+    let orders = read_updates(rt.alloc(), file.as_bytes())?;
+    let expected = updates_of_each_kind()?;
+    assert_eq!(rt; orders.as_slice(), expected.as_slice());
+    Ok(())
+}
+
+#[test]
+fn updates_are_written(rt: HostRuntime) -> Result<(), Fail> {
+    let orders = read_updates(rt.alloc(), EACH_KIND.as_bytes())?;
+    let text = updates_text(rt.alloc(), &orders)?;
+    assert_eq!(rt; orders.len(), 7);
+    assert_eq!(rt; text.as_slice(), EACH_KIND.as_bytes());
+    Ok(())
+}
+
+/// A file of version 1, written again as version 2.
+fn migrated(alloc: Global, old: &str) -> Result<Vec<u8>, ReadError> {
+    let orders = read_updates_v1(alloc, old.as_bytes())?;
+    Ok(updates_text(alloc, &orders)?)
+}
+
+#[test]
+fn migrate_example_and_edges(rt: HostRuntime) -> Result<(), Fail> {
+    let cases = [
+        (
+            "# nightly\nadd   10.1.2.3/8   5\nflush\n",
+            "lpm-updates 2\nadd 10.0.0.0/8 5\nflush\n",
+        ),
+        ("", "lpm-updates 2\n"),
+    ];
+    for (old, new) in cases {
+        let text = migrated(rt.alloc(), old)?;
+        assert_eq!(rt; text.as_slice(), new.as_bytes());
+    }
+    let begun = fault_of(read_updates_v1(rt.alloc(), EACH_KIND.as_bytes()))?;
+    let word = Fault {
+        line: 1,
+        kind: FaultKind::Word,
+    };
+    assert_eq!(rt; begun, Some(word));
+    Ok(())
+}
+
+#[test]
+fn faults_of_update_lines(rt: HostRuntime) -> Result<(), Fail> {
+    let cases: [(&str, FaultKind); 12] = [
+        ("lpm-updates 2\nadd 10.0.0.0/8", FaultKind::Fields),
+        ("lpm-updates 2\nflush now", FaultKind::Fields),
+        ("lpm-updates 2\noffline", FaultKind::Fields),
+        ("lpm-updates 2\nput 10.0.0.0/8 1", FaultKind::Word),
+        ("lpm-updates 2\r\nput\n", FaultKind::Word),
+        ("lpm-updates 2\nadd 10.0.0.0 1", FaultKind::Length),
+        ("lpm-updates 2\ndel 10.0.0.0/8/9", FaultKind::Length),
+        ("lpm-updates 2\nadd 10.0.0/8 70000000", FaultKind::Address),
+        ("lpm-updates 2\ndel 10.01.0.0/16", FaultKind::Address),
+        ("lpm-updates 2\nadd 10.0.0.0/8 16777216", FaultKind::Hop),
+        ("lpm-updates 2\nreclaim 65537", FaultKind::Count),
+        ("lpm-updates 2\nquiescent 4294967296", FaultKind::Worker),
+    ];
+    for (file, kind) in cases {
+        let fault = fault_of(read_updates(rt.alloc(), file.as_bytes()))?;
+        assert_eq!(rt; fault, Some(Fault { line: 2, kind }), "{file}");
+    }
+    Ok(())
+}
+
+#[test]
+fn bad_headers(rt: HostRuntime) -> Result<(), Fail> {
+    let files = [
+        "",
+        " lpm-updates 2",
+        "lpm-updates 2 ",
+        "# x\nlpm-updates 2",
+        "lpm-updates 1\n",
+        "lpm-updates 2\r",
+        "\nlpm-updates 2\n",
+    ];
+    let header = Fault {
+        line: 1,
+        kind: FaultKind::Header,
+    };
+    for file in files {
+        let fault = fault_of(read_updates(rt.alloc(), file.as_bytes()))?;
+        assert_eq!(rt; fault, Some(header), "{file}");
+    }
+    Ok(())
+}
+
+#[test]
+fn one_byte_after_the_header(rt: HostRuntime) -> Result<(), Fail> {
+    let word = Fault {
+        line: 2,
+        kind: FaultKind::Word,
+    };
+    for byte in 0..=255u8 {
+        let mut file = Vec::from_slice(rt.alloc(), b"lpm-updates 2\n")?;
+        file.push(byte)?;
+        let fault = fault_of(read_updates(rt.alloc(), &file))?;
+        let is_list = matches!(byte, b' ' | b'\t' | b'\n' | b'#');
+        assert_eq!(rt; fault, if is_list { None } else { Some(word) }, "{byte}");
+    }
+    Ok(())
+}
+
+const LINES_OF_OUTCOMES: &str =
+    "added\nreplaced\nunchanged\ndeleted 7\nflushed 3\nreclaimed 1\nreclaimed 0 stopped worker 0 counter 1\nok\nrefused 4 NoSuchRule\nrefused 7 NoGroups\nrefused 7 NoGroups worker 2 counter 17\n";
+
+#[test]
+fn outcomes_are_written(rt: HostRuntime) -> Result<(), Fail> {
+    let outcomes = [
+        Outcome::Added,
+        Outcome::Replaced,
+        Outcome::Unchanged,
+        Outcome::Deleted(Hop::new(7)?),
+        Outcome::Flushed(3),
+        Outcome::Reclaimed {
+            freed: 1,
+            stopped: None,
+        },
+        Outcome::Reclaimed {
+            freed: 0,
+            stopped: Some((0, 1)),
+        },
+        Outcome::Told,
+        Outcome::Refused {
+            number: 4,
+            busy: None,
+        },
+        Outcome::Refused {
+            number: 7,
+            busy: None,
+        },
+        Outcome::Refused {
+            number: 7,
+            busy: Some((2, 17)),
+        },
+    ];
+    let text = outcomes_text(rt.alloc(), &outcomes)?;
+    assert_eq!(rt; text.as_slice(), LINES_OF_OUTCOMES.as_bytes());
+    Ok(())
+}
+
+const REFUSED_WORKERS: &str =
+    "refused 10 NoSuchWorker\nrefused 13 NotOnline\nrefused 14 AlreadyOnline\n";
+
+#[test]
+fn refused_workers_are_written(rt: HostRuntime) -> Result<(), Fail> {
+    let outcomes = [
+        Outcome::Refused {
+            number: 10,
+            busy: None,
+        },
+        Outcome::Refused {
+            number: 13,
+            busy: None,
+        },
+        Outcome::Refused {
+            number: 14,
+            busy: None,
+        },
+    ];
+    let text = outcomes_text(rt.alloc(), &outcomes)?;
+    assert_eq!(rt; text.as_slice(), REFUSED_WORKERS.as_bytes());
+    Ok(())
+}

@@ -1,9 +1,10 @@
 //! The text of updates.
-ghost use Rattle.std.specs.Prelude.{◌≡◌, ◌++◌, All, OnOk, IfOk};
-ghost use Rattle.route_text.specs.Texts.{update_text, update_line, update_lines, IsCountInRange};
+ghost use Rattle.std.specs.Prelude.{◌≡◌, List, ◌++◌, All, OnOk, IfOk};
+ghost use Rattle.route_text.specs.Texts.{update_text, update_line, update_lines};
 ghost use Rattle.route_text.specs.Texts.{addition_text, deletion_text};
-ghost use Rattle.route_text.specs.Updates.{AreUpdates};
+ghost use Rattle.route_text.specs.Updates.{AreUpdates, IsCountInRange};
 ghost use Rattle.route_text.specs.Says.{IsSound};
+ghost use Rattle.route_text.specs.declared.orders.Order.{Order};
 ghost use Rattle.route_text.specs.declared.orders.Order.TheVariants as orders;
 
 use super::orders::Order;
@@ -58,11 +59,14 @@ fn put_line(text: &mut Vec<u8>, order: Order) -> Result<(), AllocError>
 
 /// The update file of version 2 with these updates: the header, and then a line for each, in order.
 ///
-/// `AllocError` comes where room for the text is refused.
+/// It is asked for counts of at most 65,536, as they are read. `AllocError` comes where room for
+/// the text is refused.
 pub fn updates_text(alloc: Global, orders: &[Order]) -> Result<Vec<u8>, AllocError>
     requires { All IsCountInRange orders.now }
     ensures text { IfOk result (λ v. v.items ≡ update_lines orders.now) }
     ensures reads_back { IfOk result (λ v. AreUpdates v.items orders.now) }
+    ensures alone { IfOk result (λ v.
+        (others : List Order) → AreUpdates v.items others → others ≡ orders.now) }
 {
     let mut text = Vec::from_slice(alloc, b"lpm-updates 2\n")?;
     for order in orders {

@@ -1,5 +1,5 @@
 //! The update file.
-ghost use Rattle.std.specs.Prelude.{◌≡◌, ℕ, ◌<◌, List, ◌∷◌, [], IfSome, IfNone, IfOk, IfErr, length};
+ghost use Rattle.std.specs.Prelude.{◌≡◌, ℕ, ◌<◌, List, ◌∷◌, [], IfSome, IfNone, IfOk, IfErr, All, length};
 ghost use Rattle.route_text.specs.declared.fault.FaultKind.TheVariants as kinds;
 ghost use Rattle.route_text.specs.declared.orders.Keyword.TheVariants as keywords;
 ghost use Rattle.route_text.specs.declared.orders.Order.TheVariants as orders;
@@ -10,7 +10,7 @@ ghost use Rattle.route_text.specs.Updates.{word_text, SpellsUpdate, SpellsPrefix
 ghost use Rattle.route_text.specs.Updates.{HasUpdateFault, HasFaultAfter, HasOnePrefixFault};
 ghost use Rattle.route_text.specs.Updates.{HasOneNumberFault, HasNoneFault, header, StartsHeader};
 ghost use Rattle.route_text.specs.Updates.{AreUpdates, IsUpdatesFault};
-ghost use Rattle.route_text.specs.Updates.{AreOldUpdates, IsOldUpdatesFault};
+ghost use Rattle.route_text.specs.Updates.{AreOldUpdates, IsOldUpdatesFault, IsCountInRange};
 
 use super::fault::{Fault, FaultKind, ReadError};
 use super::grammar::{Grammar, read_items};
@@ -144,7 +144,6 @@ fn flush(rest: &[u8]) -> Result<Order, FaultKind>
 /// What stands after the header line, if the file begins with it.
 fn after_header(bytes: &[u8]) -> Option<&[u8]>
     ensures found { IfSome result (λ rest. lines bytes.now ≡ header ∷ lines rest.now) }
-    ensures shorter { IfSome result (λ rest. length rest.now < length bytes.now) }
     ensures missing { IfNone result (¬ StartsHeader (lines bytes.now)) }
 {
     if bytes.is_empty() {
@@ -164,6 +163,7 @@ fn after_header(bytes: &[u8]) -> Option<&[u8]>
 /// counts as line 1. `Memory` comes where room for the updates is refused.
 pub fn read_updates(alloc: Global, bytes: &[u8]) -> Result<Vec<Order>, ReadError>
     ensures updates { IfOk result (λ v. AreUpdates bytes.now v.items) }
+    ensures counts { IfOk result (λ v. All IsCountInRange v.items) }
     ensures error { IfErr result (IsReadError (IsUpdatesFault bytes.now)) }
 {
     let Some(rest) = after_header(bytes) else {
@@ -180,6 +180,7 @@ pub fn read_updates(alloc: Global, bytes: &[u8]) -> Result<Vec<Order>, ReadError
 /// It is read like a file of version 2, but each line is an update line.
 pub fn read_updates_v1(alloc: Global, bytes: &[u8]) -> Result<Vec<Order>, ReadError>
     ensures updates { IfOk result (λ v. AreOldUpdates bytes.now v.items) }
+    ensures counts { IfOk result (λ v. All IsCountInRange v.items) }
     ensures error { IfErr result (IsReadError (IsOldUpdatesFault bytes.now)) }
 {
     read_items::<UpdateLines>(alloc, 1, bytes)

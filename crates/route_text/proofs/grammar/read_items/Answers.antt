@@ -1,12 +1,16 @@
-use Rattle.std.proofs.Common.{◌≡◌, ◌+◌, ◌∷◌, ◌++◌, [], length, sym, ap, subst, ◌∙◌, arith}
+use Rattle.std.proofs.Common.{◌≡◌, ◌+◌, ◌∷◌, ◌++◌, [], length, sym, ap, subst, ◌∙◌, arith, refl}
 use Rattle.std.proofs.lemmas.Bool.Decides.{nat_tests}
 use Rattle.std.proofs.lemmas.List.{append-nil, length-append, nil_from_length}
+use Rattle.bstr.proofs.lemmas.LengthLemmas.{length-lines}
 use Rattle.route_text.specs.Lines.{lines, fields}
 use Rattle.route_text.specs.Files.{AreItems}
 use Rattle.route_text.specs.Says.{Says}
-use Rattle.route_text.proofs.LineEnds.{nil_lines}
+use Rattle.route_text.proofs.FirstLine.{nil_lines}
 use Rattle.route_text.proofs.Items.{grown, taken}
 use Rattle.route_text.proofs.grammar.read_items.Goals as goal
+
+pub loop-rest-init : goal.loop-rest-init
+loop-rest-init g c = record { done = []; split = refl; count = refl; room = omega (arith, length-lines c.args.bytes.now); good = c.new-items.ensures.items }
 
 pub loop-rest-preserved-in-Nothing : goal.loop-rest-preserved-in-Nothing
 loop-rest-preserved-in-Nothing g c =
@@ -19,7 +23,7 @@ loop-rest-preserved-in-Nothing g c =
       done = i.done ++ line ∷ [];
       split = taken _ i.done _ _ line i.split said.split;
       count = omega (arith, i.count, length-append i.done (line ∷ []));
-      room = omega (arith, i.room, said.shorter);
+      room = omega (arith, i.room, ap length said.split);
       good = good;
     }
 
@@ -34,7 +38,7 @@ loop-rest-preserved g c =
       done = i.done ++ line ∷ [];
       split = taken _ i.done _ _ line i.split said.split;
       count = omega (arith, i.count, length-append i.done (line ∷ []));
-      room = omega (arith, i.room, said.shorter);
+      room = omega (arith, i.room, ap length said.split);
       good = good;
     }
 

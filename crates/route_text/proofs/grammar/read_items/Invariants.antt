@@ -8,9 +8,9 @@ invariant-loop-rest g l = record {
   done : List (List ℕ);
   split : lines l.fn.bytes ≡ done ++ lines l.rest;
   count : length done ≡ l.read;
-  room : l.read + length l.rest ≤ length l.fn.bytes;
+  room : l.read + length (lines l.rest) ≤ length l.fn.bytes;
   good : AreItems g.G.Grammar.Spells l.fn.first done l.items.items;
 }
 
 abbrev pub decreases-loop-rest : goal.decreases-loop-rest
-decreases-loop-rest g l = length l.rest
+decreases-loop-rest g l = length (lines l.rest)
