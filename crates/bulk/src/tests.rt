@@ -86,7 +86,8 @@ const MOST_LOADS: u32 = 1_000_000_000;
 // Two pieces of four addresses, each of which waits before each address for the other one.
 #[derive(Drop)]
 struct Meeting {
-    flags: [[AtomicBool; 4]; 2],
+    // those of the first piece, and then those of the second
+    flags: [AtomicBool; 8],
     is_missed: AtomicBool,
 }
 
@@ -112,17 +113,18 @@ impl Meeting {
 impl Gate for Meeting {
     fn at(&self, piece: usize, i: usize) {
         if piece < 2 && i < 4 {
-            self.meet(&self.flags[piece][i], &self.flags[1 - piece][i]);
+            let flags = &self.flags;
+            self.meet(&flags[4 * piece + i], &flags[4 * (1 - piece) + i]);
         } else {
             self.is_missed.store(true, Ordering::SeqCst);
         }
     }
 }
 
-fn meeting() -> Meeting {
+fn new_meeting() -> Meeting {
     let no = || AtomicBool::new(false);
     Meeting {
-        flags: [[no(), no(), no(), no()], [no(), no(), no(), no()]],
+        flags: [no(), no(), no(), no(), no(), no(), no(), no()],
         is_missed: AtomicBool::new(false),
     }
 }
@@ -130,17 +132,15 @@ fn meeting() -> Meeting {
 // Each call was made, and none of them missed the other piece.
 fn assert_met(rt: &impl Abort, gate: &Meeting) {
     assert!(rt; !gate.is_missed.load(Ordering::SeqCst));
-    for piece in &gate.flags {
-        for flag in piece {
-            assert!(rt; flag.load(Ordering::SeqCst));
-        }
+    for flag in &gate.flags {
+        assert!(rt; flag.load(Ordering::SeqCst));
     }
 }
 
 #[test]
 fn two_pieces_see_each_other(rt: HostRuntime) -> Result<(), Fail> {
     let fib = small(rt.alloc())?;
-    let gate = meeting();
+    let gate = new_meeting();
     let addrs = [1, 2, 3, 4, 5, 6, 7, 8];
     let hops = bulk_plain(&rt, rt.alloc(), &fib, 2, &addrs, &gate)?;
     assert_eq!(rt; hops.len(), 8);
