@@ -49,7 +49,6 @@ pub fn cut_all<'a>(
     addrs: &'a [u32],
     workers: usize,
 ) -> Result<Vec<Piece<'a>>, AllocError>
-    requires { 0 < workers }
     ensures { IfOk result (λ v.
         map (λ p. p.addrs.now) v.items ≡ first_pieces addrs.now workers workers) }
 {
