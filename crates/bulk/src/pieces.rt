@@ -1,0 +1,82 @@
+//! The pieces of a list of addresses.
+
+ghost use Rattle.std.specs.Prelude.{◌≡◌, ◌+◌, ◌^◌, ◌<◌, ◌≤◌, ◌++◌, All, IfOk, length, map, vec_len, vec_capacity};
+ghost use Rattle.std.specs.List.{flat_map};
+ghost use Rattle.bulk.specs.Pieces.{border_before, piece_of, first_pieces};
+
+use lpm_bits::Hop;
+use std::alloc::{AllocError, Global};
+
+/// A piece of the addresses, with room for the next hop of each.
+#[derive(Drop)]
+pub struct Piece<'a> {
+    pub addrs: &'a [u32],
+    pub hops: Vec<Option<Hop>>,
+    ghost room: { vec_len hops ≡ length addrs.now },
+}
+
+/// How many of `addrs` addresses stand before piece number `piece` of as many pieces as workers,
+/// counted from 0. Piece `k` goes from border `k` up to, and not including, border `k + 1`.
+pub fn border(piece: usize, addrs: usize, workers: usize) -> usize
+    requires workers { 0 < workers }
+    requires piece { piece ≤ workers }
+    ensures exact { result ≡ border_before piece addrs workers }
+    ensures within { result ≤ addrs }
+{
+    (piece as u128 * addrs as u128 / workers as u128) as usize
+}
+
+/// The piece of this number, with its room; the error where that is refused.
+fn cut_piece<'a>(
+    alloc: Global,
+    addrs: &'a [u32],
+    workers: usize,
+    number: usize,
+) -> Result<Piece<'a>, AllocError>
+    requires { number < workers }
+    ensures { IfOk result (λ p. p.addrs.now ≡ piece_of addrs.now workers number) }
+{
+    let from = border(number, addrs.len(), workers);
+    let to = border(number + 1, addrs.len(), workers);
+    let addrs = &addrs[from..to];
+    let hops = vec![in alloc; None; addrs.len()]?;
+    Ok(Piece { addrs, hops })
+}
+
+/// The pieces of the addresses, as many as workers, each with its room.
+pub fn cut_all<'a>(
+    alloc: Global,
+    addrs: &'a [u32],
+    workers: usize,
+) -> Result<Vec<Piece<'a>>, AllocError>
+    ensures { IfOk result (λ v.
+        map (λ p. p.addrs.now) v.items ≡ first_pieces addrs.now workers workers) }
+{
+    let mut pieces = Vec::with_capacity(alloc, workers)?;
+    for number in 0..workers {
+        pieces.push(cut_piece(alloc, addrs, workers, number)?)?;
+    }
+    Ok(pieces)
+}
+
+/// Appends hops where there is room for them.
+fn append(joined: &mut Vec<Option<Hop>>, hops: &[Option<Hop>])
+    requires { vec_len joined.old + length hops.now ≤ vec_capacity joined.old }
+    ensures items { joined.new.items ≡ joined.old.items ++ hops.now }
+    ensures capacity { vec_capacity joined.old ≤ vec_capacity joined.new }
+{
+    if joined.extend_from_slice(hops).is_err() {
+        unreachable!();
+    }
+}
+
+/// Appends the hops of the pieces, one piece after another, where there is room for all.
+pub fn join(pieces: &[Piece<'_>], joined: &mut Vec<Option<Hop>>)
+    requires { vec_len joined.old + length (flat_map (λ p. p.hops.items) pieces.now)
+        ≤ vec_capacity joined.old }
+    ensures { joined.new.items ≡ joined.old.items ++ flat_map (λ p. p.hops.items) pieces.now }
+{
+    for piece in pieces {
+        append(joined, &piece.hops);
+    }
+}
