@@ -83,9 +83,13 @@ abbrev pub AsksForTwoStandardInputs : Option (Text × List Row) → Type 0
 AsksForTwoStandardInputs matches =
     (line : CommandLine) × IsAskedBy matches line × HasTwoStandardInputs line
 
+-- nothing is asked for
+abbrev pub AsksForNothing : Option (Text × List Row) → Type 0
+AsksForNothing matches = (line : CommandLine) → IsAskedBy matches line → ⊥
+
 -- words with these faults and these matches are refused so
 abbrev pub IsRefusalBy : Kinds → Option (Text × List Row) → Refused → Type 0
 IsRefusalBy faults matches (Usage error) = IsAmong (kind_of error) faults
 IsRefusalBy faults matches Memory = ⊤
-IsRefusalBy faults matches NoCommand = faults ≡ []
+IsRefusalBy faults matches NoCommand = (faults ≡ []) × AsksForNothing matches
 IsRefusalBy faults matches TwoStandardInputs = (faults ≡ []) × AsksForTwoStandardInputs matches

@@ -1,6 +1,6 @@
 //! What the parser's matches ask for.
-ghost use Rattle.std.specs.Prelude.{◌↔◌, IsTrue, IfSome, codes};
-ghost use Rattle.clap.specs.Words.{rows_of, found_of};
+ghost use Rattle.std.specs.Prelude.{◌↔◌, ◌<◌, ◌^◌, ℕ, IsTrue, IfSome, IsNone, codes};
+ghost use Rattle.clap.specs.Words.{Text, rows_of, found_of};
 ghost use Rattle.lpm_limits.specs.Limits.{IsIn};
 ghost use Rattle.lpm_options.specs.Commands.{program_workers};
 ghost use Rattle.lpm_options.specs.Asked.{HasFile, HasNumber, AreLimits, Asks, IsInRange};
@@ -15,6 +15,8 @@ use lpm_limits::Config;
 pub(crate) fn command_line<'a>(name: &'a str, found: &ArgMatches<'a>) -> Option<CommandLine<'a>>
     ensures asked { IfSome result (Asks name.entry.now (rows_of (found_of found.now))) }
     ensures in_range { IfSome result IsInRange }
+    ensures none { IsNone result → (line : CommandLine)
+        → Asks name.entry.now (rows_of (found_of found.now)) line → ⊥ }
 {
     if name == "lookup" {
         return lookup_line(found);
@@ -34,6 +36,8 @@ pub(crate) fn command_line<'a>(name: &'a str, found: &ArgMatches<'a>) -> Option<
 fn lookup_line<'a>(found: &ArgMatches<'a>) -> Option<CommandLine<'a>>
     ensures asked { IfSome result (Asks (codes "lookup") (rows_of (found_of found.now))) }
     ensures in_range { IfSome result IsInRange }
+    ensures none { IsNone result → (line : CommandLine)
+        → Asks (codes "lookup") (rows_of (found_of found.now)) line → ⊥ }
 {
     let routes = path_of(found, "ROUTES")?;
     let addresses = path_of(found, "ADDRESSES")?;
@@ -48,6 +52,8 @@ fn lookup_line<'a>(found: &ArgMatches<'a>) -> Option<CommandLine<'a>>
 fn apply_line<'a>(found: &ArgMatches<'a>) -> Option<CommandLine<'a>>
     ensures asked { IfSome result (Asks (codes "apply") (rows_of (found_of found.now))) }
     ensures in_range { IfSome result IsInRange }
+    ensures none { IsNone result → (line : CommandLine)
+        → Asks (codes "apply") (rows_of (found_of found.now)) line → ⊥ }
 {
     let routes = path_of(found, "ROUTES")?;
     let updates = path_of(found, "UPDATES")?;
@@ -64,6 +70,8 @@ fn apply_line<'a>(found: &ArgMatches<'a>) -> Option<CommandLine<'a>>
 fn report_line<'a>(found: &ArgMatches<'a>) -> Option<CommandLine<'a>>
     ensures asked { IfSome result (Asks (codes "report") (rows_of (found_of found.now))) }
     ensures in_range { IfSome result IsInRange }
+    ensures none { IsNone result → (line : CommandLine)
+        → Asks (codes "report") (rows_of (found_of found.now)) line → ⊥ }
 {
     let routes = path_of(found, "ROUTES")?;
     let updates = path_of(found, "UPDATES")?;
@@ -78,6 +86,8 @@ fn report_line<'a>(found: &ArgMatches<'a>) -> Option<CommandLine<'a>>
 fn migrate_line<'a>(found: &ArgMatches<'a>) -> Option<CommandLine<'a>>
     ensures asked { IfSome result (Asks (codes "migrate") (rows_of (found_of found.now))) }
     ensures in_range { IfSome result IsInRange }
+    ensures none { IsNone result → (line : CommandLine)
+        → Asks (codes "migrate") (rows_of (found_of found.now)) line → ⊥ }
 {
     let old = path_of(found, "OLD")?;
     Some(CommandLine::Migrate { old })
@@ -120,7 +130,9 @@ fn is_standard_input(path: &str) -> bool
 
 // The limits of a table.
 fn config_of(found: &ArgMatches<'_>) -> Option<Config>
-    ensures { IfSome result (AreLimits (rows_of (found_of found.now))) }
+    ensures limits { IfSome result (AreLimits (rows_of (found_of found.now))) }
+    ensures none { IsNone result → (config : Config)
+        → AreLimits (rows_of (found_of found.now)) config → ⊥ }
 {
     let config = Config {
         rules: number_of(found, "rules")?,
@@ -139,6 +151,9 @@ fn config_of(found: &ArgMatches<'_>) -> Option<Config>
 fn workers_of(found: &ArgMatches<'_>) -> Option<usize>
     ensures number { IfSome result (HasNumber (rows_of (found_of found.now)) (codes "workers")) }
     ensures few { IfSome result (IsIn program_workers) }
+    ensures none { IsNone result → (n : ℕ)
+        → HasNumber (rows_of (found_of found.now)) (codes "workers") n
+        → IsIn program_workers n → ⊥ }
 {
     let workers = number_of(found, "workers")?;
     if WORKERS.contains(workers as u64) {
@@ -149,14 +164,18 @@ fn workers_of(found: &ArgMatches<'_>) -> Option<usize>
 
 // The number of the option.
 fn number_of(found: &ArgMatches<'_>, id: &str) -> Option<usize>
-    ensures { IfSome result (HasNumber (rows_of (found_of found.now)) id.now) }
+    ensures number { IfSome result (HasNumber (rows_of (found_of found.now)) id.now) }
+    ensures none { IsNone result → (n : ℕ)
+        → HasNumber (rows_of (found_of found.now)) id.now n → n < 2 ^ 64 → ⊥ }
 {
     found.get_one::<usize>(id)
 }
 
 // The path of the file.
 fn path_of<'a>(found: &ArgMatches<'a>, id: &str) -> Option<&'a str>
-    ensures { IfSome result (λ path. HasFile (rows_of (found_of found.now)) id.now path.now) }
+    ensures file { IfSome result (λ path. HasFile (rows_of (found_of found.now)) id.now path.now) }
+    ensures none { IsNone result → (path : Text)
+        → HasFile (rows_of (found_of found.now)) id.now path → ⊥ }
 {
     found.get_str(id)
 }
