@@ -1,6 +1,5 @@
--- The texts of the commands, for files whose bytes may be known.
-use Rattle.std.proofs.Common.{◌≡◌, ℕ, List, Option, Some, None, subst}
-use Rattle.std.specs.Prelude.{IfSome}
+-- The texts of the commands, by the files that they read.
+use Rattle.std.proofs.Common.{◌≡◌, ℕ, List, Option, subst}
 use Rattle.lpm_limits.specs.declared.config.Config.{Config}
 use Rattle.lpm_rules.specs.RuleMap.{RuleMap}
 use Rattle.qsbr.specs.Registry.{Registry}
@@ -13,18 +12,17 @@ use Rattle.route_text.specs.Files.{AreRoutes, AreAddresses}
 use Rattle.route_text.specs.Updates.{AreUpdates}
 use Rattle.audit.specs.declared.report.Report.{Report}
 use Rattle.audit.specs.Report.{report_lines}
+use Rattle.lpmtool.specs.Inputs.{Reads}
 use Rattle.lpmtool.specs.Loading.{IsLoaded}
 use Rattle.lpmtool.specs.Updating.{ComesOut}
-use Rattle.lpmtool.specs.Lookup.{IsAnswered, IsTextOf}
-use Rattle.lpmtool.specs.Apply.{IsApplied, IsToldAfter}
-use Rattle.lpmtool.specs.Report.{IsReported, IsCountOf}
+use Rattle.lpmtool.specs.Lookup.{IsAnswered, IsLookupText}
+use Rattle.lpmtool.specs.Apply.{IsToldAfter, IsApplyText}
+use Rattle.lpmtool.specs.Report.{IsCountOf, IsReportText}
 use Rattle.lpmtool.proofs.Updated.{updated, last_rules, reported}
 
 -- the answers of the table that the routes make
-pub is_text : (c : Config) (routes addresses : Option (List ℕ)) (list : List Route) (addrs : List ℕ) (table : State Registry) (text : List ℕ) → IfSome routes (λ a. AreRoutes a list) → IfSome addresses (λ b. AreAddresses b addrs) → IsLoaded c list table → IsAnswered c table.rules addrs text → IsTextOf c routes addresses text
-is_text c None addresses list addrs table text are_routes are_addrs loaded answered = tt
-is_text c (Some a) None list addrs table text are_routes are_addrs loaded answered = tt
-is_text c (Some a) (Some b) list addrs table text are_routes are_addrs loaded answered = record {
+pub is_lookup_text : (c : Config) (routes addresses : Option (List ℕ)) (list : List Route) (addrs : List ℕ) (table : State Registry) (text : List ℕ) → Reads AreRoutes routes list → Reads AreAddresses addresses addrs → IsLoaded c list table → IsAnswered c table.rules addrs text → IsLookupText c routes addresses text
+is_lookup_text c routes addresses list addrs table text are_routes are_addrs loaded answered = record {
   list = list;
   addrs = addrs;
   table = table;
@@ -35,11 +33,8 @@ is_text c (Some a) (Some b) list addrs table text are_routes are_addrs loaded an
 }
 
 -- what came of the updates, and the answers of the table after them
-pub is_applied : (c : Config) (routes updates addresses : Option (List ℕ)) (list : List Route) (orders : List Order) (addrs : List ℕ) (x z : State Registry) (text : List ℕ) → IfSome routes (λ a. AreRoutes a list) → IfSome updates (λ b. AreUpdates b orders) → IfSome addresses (λ b. AreAddresses b addrs) → IsLoaded c list x → IsToldAfter c x orders addrs z text → IsApplied c routes updates addresses text
-is_applied c None updates addresses list orders addrs x z text are_routes are_updates are_addrs loaded told = tt
-is_applied c (Some r) None addresses list orders addrs x z text are_routes are_updates are_addrs loaded told = tt
-is_applied c (Some r) (Some u) None list orders addrs x z text are_routes are_updates are_addrs loaded told = tt
-is_applied c (Some r) (Some u) (Some a) list orders addrs x z text are_routes are_updates are_addrs loaded told =
+pub is_apply_text : (c : Config) (routes updates addresses : Option (List ℕ)) (list : List Route) (orders : List Order) (addrs : List ℕ) (x z : State Registry) (text : List ℕ) → Reads AreRoutes routes list → Reads AreUpdates updates orders → Reads AreAddresses addresses addrs → IsLoaded c list x → IsToldAfter c x orders addrs z text → IsApplyText c routes updates addresses text
+is_apply_text c routes updates addresses list orders addrs x z text are_routes are_updates are_addrs loaded told =
     let done = updated c list orders told.came x z loaded told.comes in
     record {
       list = list;
@@ -57,15 +52,9 @@ is_applied c (Some r) (Some u) (Some a) list orders addrs x z text are_routes ar
       written = told.written;
     }
 
--- the same text under other names of the limits, the orders and the addresses
-pub told_as : (c d : Config) (x z : State Registry) (orders orders' : List Order) (addrs addrs' : List ℕ) (text : List ℕ) → d ≡ c → orders ≡ orders' → addrs ≡ addrs' → IsToldAfter d x orders addrs z text → IsToldAfter c x orders' addrs' z text
-told_as c d x z orders orders' addrs addrs' text limits same_orders same_addrs told = subst (λ (k : Config). IsToldAfter k x orders' addrs' z text) limits (subst (λ (l : List ℕ). IsToldAfter d x orders' l z text) same_addrs (subst (λ (l : List Order). IsToldAfter d x l addrs z text) same_orders told))
-
 -- what the table counts after the updates
-pub is_reported : (c : Config) (routes updates : Option (List ℕ)) (list : List Route) (orders : List Order) (came : List Outcome) (x : State Registry) (fib : FibState) (r : Report) (text : List ℕ) → IfSome routes (λ a. AreRoutes a list) → IfSome updates (λ b. AreUpdates b orders) → IsLoaded c list x → ComesOut c x orders came fib.table → fib.config ≡ c → IsCountOf fib r → text ≡ report_lines r → IsReported c routes updates text
-is_reported c None updates list orders came x fib r text are_routes are_updates loaded comes config counts written = tt
-is_reported c (Some a) None list orders came x fib r text are_routes are_updates loaded comes config counts written = tt
-is_reported c (Some a) (Some u) list orders came x fib r text are_routes are_updates loaded comes config counts written =
+pub is_report_text : (c : Config) (routes updates : Option (List ℕ)) (list : List Route) (orders : List Order) (came : List Outcome) (x : State Registry) (fib : FibState) (r : Report) (text : List ℕ) → Reads AreRoutes routes list → Reads AreUpdates updates orders → IsLoaded c list x → ComesOut c x orders came fib.table → fib.config ≡ c → IsCountOf fib r → text ≡ report_lines r → IsReportText c routes updates text
+is_report_text c routes updates list orders came x fib r text are_routes are_updates loaded comes config counts written =
     let done = updated c list orders came x fib.table loaded comes in
     record {
       list = list;
@@ -84,3 +73,7 @@ is_reported c (Some a) (Some u) list orders came x fib r text are_routes are_upd
 -- the same answers under another name of the limits and the addresses
 pub answered_as : (c d : Config) (R : RuleMap) (addrs list text : List ℕ) → d ≡ c → addrs ≡ list → IsAnswered d R addrs text → IsAnswered c R list text
 answered_as c d R addrs list text limits same answered = subst (λ (k : Config). IsAnswered k R list text) limits (subst (λ (l : List ℕ). IsAnswered d R l text) same answered)
+
+-- the same text under other names of the limits, the orders and the addresses
+pub told_as : (c d : Config) (x z : State Registry) (orders orders' : List Order) (addrs addrs' : List ℕ) (text : List ℕ) → d ≡ c → orders ≡ orders' → addrs ≡ addrs' → IsToldAfter d x orders addrs z text → IsToldAfter c x orders' addrs' z text
+told_as c d x z orders orders' addrs addrs' text limits same_orders same_addrs told = subst (λ (k : Config). IsToldAfter k x orders' addrs' z text) limits (subst (λ (l : List ℕ). IsToldAfter d x orders' l z text) same_addrs (subst (λ (l : List Order). IsToldAfter d x l addrs z text) same_orders told))

@@ -1,6 +1,6 @@
 -- Meaning: the command `apply` (this project's program: a line for what came of each update, then a
 -- line for each address; a refused update doesn't stop the file).
-use Rattle.std.specs.Prelude.{ℕ, ◌≡◌, ◌⊎◌, List, [], ◌∷◌, ◌++◌, Option, IfSome, map}
+use Rattle.std.specs.Prelude.{ℕ, ◌≡◌, ◌⊎◌, List, [], ◌∷◌, ◌++◌, Option, map}
 use Rattle.lpm_limits.specs.declared.config.Config.{Config}
 use Rattle.fib_model.specs.declared.command.Outcome.{Outcome}
 use Rattle.fib_model.specs.declared.event.Event.{Event}
@@ -15,14 +15,16 @@ use Rattle.route_text.specs.Updates.{AreUpdates}
 use Rattle.route_text.specs.Texts.{outcome_lines}
 use Rattle.lpmtool.specs.declared.failure.Failure.{Failure}
 use Rattle.lpmtool.specs.declared.failure.Failure.TheVariants.{CannotWrite}
-use Rattle.lpmtool.specs.Inputs.{Input, route_file, update_file, address_file, AreRead, EndsAtOne}
+use Rattle.lpmtool.specs.Inputs.{Input, Reads, route_file, update_file, address_file}
+use Rattle.lpmtool.specs.Inputs.{AreRead, EndsAtOne}
 use Rattle.lpmtool.specs.Loading.{EndsTable, HasTable}
 use Rattle.lpmtool.specs.Updating.{IsUpdated, ComesOut, told_of}
 use Rattle.lpmtool.specs.Lookup.{IsAnswered, EndsAnswering}
 
 -- the text tells what came of each update, after the routes, and then answers the addresses by the
--- last version of the rules
-pub record IsApplyText (c : Config) (routes updates addresses text : List ℕ) : Type 0 where
+-- last version of the rules; the files' bytes are known, or not
+pub record IsApplyText (c : Config) (routes updates addresses : Option (List ℕ)) (text : List ℕ)
+    : Type 0 where
   pub list : List Route
   pub orders : List Order
   pub addrs : List ℕ
@@ -30,9 +32,9 @@ pub record IsApplyText (c : Config) (routes updates addresses text : List ℕ) :
   pub log : Log 24 8
   pub state : State (List Event)
   pub answers : List ℕ
-  pub are_routes : AreRoutes routes list
-  pub are_updates : AreUpdates updates orders
-  pub are_addrs : AreAddresses addresses addrs
+  pub are_routes : Reads AreRoutes routes list
+  pub are_updates : Reads AreUpdates updates orders
+  pub are_addrs : Reads AreAddresses addresses addrs
   pub updated : IsUpdated c list orders came log state
   pub answered : IsAnswered c (last_of (history log)) addrs answers
   pub written : text ≡ outcome_lines (map told_of came) ++ answers
@@ -46,12 +48,6 @@ pub record IsToldAfter (c : Config) (x : State Registry) (orders : List Order) (
   pub comes : ComesOut c x orders came z
   pub answered : IsAnswered c z.rules addrs answers
   pub written : text ≡ outcome_lines (map told_of came) ++ answers
-
--- the text of an apply of the files' bytes, where they are known
-abbrev pub IsApplied : Config → Option (List ℕ) → Option (List ℕ) → Option (List ℕ) → List ℕ
-    → Type 0
-IsApplied c routes updates addresses text =
-    IfSome routes (λ r. IfSome updates (λ u. IfSome addresses (λ a. IsApplyText c r u a text)))
 
 -- the files of an apply, of these paths and bytes
 abbrev pub apply_files : List ℕ → List ℕ → List ℕ → (List ℕ → Option (List ℕ)) → List Input

@@ -37,6 +37,15 @@ update_file path bytes = input AreUpdates IsUpdatesFault path bytes
 abbrev pub old_update_file : List ℕ → Option (List ℕ) → Input
 old_update_file path bytes = input AreOldUpdates IsOldUpdatesFault path bytes
 
+-- the bytes are the known ones, where they are known
+abbrev pub IsKnownAs : Option (List ℕ) → List ℕ → Type 0
+IsKnownAs known bytes = IfSome known (λ b. bytes ≡ b)
+
+-- a file whose bytes may be known lists these items
+abbrev pub Reads : {Item : Type 0} → (List ℕ → List Item → Type 0) → Option (List ℕ) → List Item
+    → Type 0
+Reads Lists known items = (bytes : List ℕ) × IsKnownAs known bytes × Lists bytes items
+
 -- parsing these bytes of the file ends so: a fault of theirs, or want of memory
 abbrev pub EndsParsing : (List ℕ → Fault → Type 0) → List ℕ → List ℕ → Failure → Type 0
 EndsParsing IsFault file bytes (Bad path fault) = (path.now ≡ file) × IsFault bytes fault
@@ -47,13 +56,14 @@ EndsParsing IsFault file bytes _ = ⊥
 abbrev pub EndsReading : Input → Failure → Type 0
 EndsReading file (CannotRead path) = path.now ≡ file.path
 EndsReading file (Bad path fault) =
-    (path.now ≡ file.path) × IfSome file.bytes (λ b. file.IsFault b fault)
+    (path.now ≡ file.path)
+    × ((bytes : List ℕ) × IsKnownAs file.bytes bytes × file.IsFault bytes fault)
 EndsReading file Memory = ⊤
 EndsReading file _ = ⊥
 
--- the file's bytes are of its form, where they are known
+-- the file's bytes are of its form
 abbrev pub IsRead : Input → Type 0
-IsRead file = IfSome file.bytes file.IsFile
+IsRead file = (bytes : List ℕ) × IsKnownAs file.bytes bytes × file.IsFile bytes
 
 abbrev pub AreRead : List Input → Type 0
 AreRead [] = ⊤

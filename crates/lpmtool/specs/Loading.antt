@@ -1,6 +1,6 @@
 -- Meaning: the table that a list of routes makes, and which route it refuses (DPDK Programmer's
 -- Guide, "LPM Library", "Addition": a rule for a prefix that has one takes its place).
-use Rattle.std.specs.Prelude.{ℕ, ◌≡◌, ◌≢◌, ⊤, List, [], ◌∷◌, ◌++◌, Option, IfSome, Ok, Err, map}
+use Rattle.std.specs.Prelude.{ℕ, ◌≡◌, ◌≢◌, ⊤, List, [], ◌∷◌, ◌++◌, Option, Ok, Err, map}
 use Rattle.std.specs.FinMap.{empty}
 use Rattle.lpm_limits.specs.declared.config.Config.{Config}
 use Rattle.lpm_limits.specs.declared.refusal.Refusal.{Refusal}
@@ -18,6 +18,7 @@ use Rattle.route_text.specs.declared.routes.Route.{Route}
 use Rattle.route_text.specs.Files.{AreRoutes}
 use Rattle.lpmtool.specs.declared.failure.Failure.{Failure}
 use Rattle.lpmtool.specs.declared.failure.Failure.TheVariants as failures
+use Rattle.lpmtool.specs.Inputs.{Reads}
 
 -- the routes are added to s one after another, none is refused, and z is left
 abbrev pub Loads : Config → State Registry → List Route → State Registry → Type 0
@@ -63,10 +64,10 @@ EndsLoading c file routes _ = ⊥
 
 -- loading the routes of the file of this path and these bytes ends so
 abbrev pub EndsTable : Config → List ℕ → Option (List ℕ) → Failure → Type 0
-EndsTable c file bytes failure =
-    IfSome bytes (λ b. (list : List Route) × AreRoutes b list × EndsLoading c file list failure)
+EndsTable c file known failure =
+    (list : List Route) × Reads AreRoutes known list × EndsLoading c file list failure
 
 -- the routes of the file of these bytes make a table, none is refused
 abbrev pub HasTable : Config → Option (List ℕ) → Type 0
-HasTable c bytes = IfSome bytes (λ b. (list : List Route)
-    × ((table : State Registry) × AreRoutes b list × IsLoaded c list table))
+HasTable c known = (list : List Route)
+    × ((table : State Registry) × Reads AreRoutes known list × IsLoaded c list table)

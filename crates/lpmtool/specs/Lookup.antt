@@ -1,6 +1,6 @@
 -- Meaning: the command `lookup` (this project's program: each file is read and then parsed, in
 -- the order of the command line, before any route is loaded; the first fault wins).
-use Rattle.std.specs.Prelude.{ℕ, ◌≡◌, ◌<◌, ◌⊎◌, ⊤, List, [], ◌∷◌, Option, IfSome}
+use Rattle.std.specs.Prelude.{ℕ, ◌≡◌, ◌<◌, ◌⊎◌, ⊤, List, [], ◌∷◌, Option}
 use Rattle.lpm_limits.specs.declared.config.Config.{Config}
 use Rattle.lpm_limits.specs.declared.refusal.Refusal.TheVariants.{NoWorkers}
 use Rattle.lpm_rules.specs.RuleMap.{RuleMap}
@@ -12,7 +12,8 @@ use Rattle.route_text.specs.Files.{AreRoutes, AreAddresses}
 use Rattle.route_text.specs.Texts.{answer_lines}
 use Rattle.lpmtool.specs.declared.failure.Failure.{Failure}
 use Rattle.lpmtool.specs.declared.failure.Failure.TheVariants.{CannotWrite, Memory, Refused}
-use Rattle.lpmtool.specs.Inputs.{Input, route_file, address_file, AreRead, EndsAtOne}
+use Rattle.lpmtool.specs.Inputs.{Input, Reads, route_file, address_file}
+use Rattle.lpmtool.specs.Inputs.{AreRead, EndsAtOne}
 use Rattle.lpmtool.specs.Loading.{rules_of_routes, IsLoaded, EndsTable, HasTable}
 
 -- the text has a line for each address with its longest match
@@ -24,20 +25,17 @@ IsAnswerText R addrs text = (hops : List (Option ℕ)) × AreLongestHops 32 R ad
 abbrev pub IsAnswered : Config → RuleMap → List ℕ → List ℕ → Type 0
 IsAnswered c R addrs text = (0 < c.workers) × IsAnswerText R addrs text
 
--- the text answers the addresses of one file by the routes of the other, none of which is refused
-pub record IsLookupText (c : Config) (routes addresses text : List ℕ) : Type 0 where
+-- the text answers the addresses of one file by the routes of the other, none of which is refused;
+-- the files' bytes are known, or not
+pub record IsLookupText (c : Config) (routes addresses : Option (List ℕ)) (text : List ℕ)
+    : Type 0 where
   pub list : List Route
   pub addrs : List ℕ
   pub table : State Registry
-  pub are_routes : AreRoutes routes list
-  pub are_addrs : AreAddresses addresses addrs
+  pub are_routes : Reads AreRoutes routes list
+  pub are_addrs : Reads AreAddresses addresses addrs
   pub loaded : IsLoaded c list table
   pub answered : IsAnswered c (rules_of_routes list) addrs text
-
--- the same of the files' bytes, where they are known
-abbrev pub IsTextOf : Config → Option (List ℕ) → Option (List ℕ) → List ℕ → Type 0
-IsTextOf c routes addresses text =
-    IfSome routes (λ a. IfSome addresses (λ b. IsLookupText c a b text))
 
 -- answering addresses ends so: there is no worker to answer them, or no memory
 abbrev pub EndsAnswering : Config → Failure → Type 0

@@ -1,6 +1,6 @@
 -- Meaning: the command `report` (this project's program: the rules, the versions, the groups in use,
 -- in limbo and free, and the token after the updates).
-use Rattle.std.specs.Prelude.{ℕ, ◌≡◌, ◌+◌, ◌⊎◌, List, [], ◌∷◌, Option, IfSome, length}
+use Rattle.std.specs.Prelude.{ℕ, ◌≡◌, ◌+◌, ◌⊎◌, List, [], ◌∷◌, Option, length}
 use Rattle.std.specs.FinMap.{len}
 use Rattle.lpm_limits.specs.declared.config.Config.{Config}
 use Rattle.fib_model.specs.declared.command.Outcome.{Outcome}
@@ -18,7 +18,8 @@ use Rattle.audit.specs.declared.report.Report.{Report}
 use Rattle.audit.specs.Report.{report_lines}
 use Rattle.lpmtool.specs.declared.failure.Failure.{Failure}
 use Rattle.lpmtool.specs.declared.failure.Failure.TheVariants.{CannotWrite}
-use Rattle.lpmtool.specs.Inputs.{Input, route_file, update_file, AreRead, EndsAtOne}
+use Rattle.lpmtool.specs.Inputs.{Input, Reads, route_file, update_file}
+use Rattle.lpmtool.specs.Inputs.{AreRead, EndsAtOne}
 use Rattle.lpmtool.specs.Loading.{EndsTable}
 use Rattle.lpmtool.specs.Updating.{IsUpdated}
 
@@ -42,24 +43,20 @@ pub record IsReportOf (c : Config) (log : Log 24 8) (state : State (List Event))
   pub groups : r.in_use + r.limbo + r.free ≡ c.groups
   pub token : r.token ≡ (textbook c).token state.readers
 
--- the text is the report after the routes and the updates
-pub record IsReportText (c : Config) (routes updates text : List ℕ) : Type 0 where
+-- the text is the report after the routes and the updates; the files' bytes are known, or not
+pub record IsReportText (c : Config) (routes updates : Option (List ℕ)) (text : List ℕ)
+    : Type 0 where
   pub list : List Route
   pub orders : List Order
   pub came : List Outcome
   pub log : Log 24 8
   pub state : State (List Event)
   pub report : Report
-  pub are_routes : AreRoutes routes list
-  pub are_updates : AreUpdates updates orders
+  pub are_routes : Reads AreRoutes routes list
+  pub are_updates : Reads AreUpdates updates orders
   pub updated : IsUpdated c list orders came log state
   pub reported : IsReportOf c log state report
   pub written : text ≡ report_lines report
-
--- the same of the files' bytes, where they are known
-abbrev pub IsReported : Config → Option (List ℕ) → Option (List ℕ) → List ℕ → Type 0
-IsReported c routes updates text =
-    IfSome routes (λ r. IfSome updates (λ u. IsReportText c r u text))
 
 -- the files of a report, of these paths and bytes
 abbrev pub report_files : List ℕ → List ℕ → (List ℕ → Option (List ℕ)) → List Input

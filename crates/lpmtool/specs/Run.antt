@@ -12,21 +12,21 @@ use Rattle.lpm_options.specs.Commands.{the_app}
 use Rattle.lpm_options.specs.Asked.{IsAskedBy, IsRefusalBy}
 use Rattle.lpmtool.specs.declared.failure.Failure.{Failure}
 use Rattle.lpmtool.specs.Output.{Writes, WritesBeginning}
-use Rattle.lpmtool.specs.Lookup.{IsTextOf, EndsLookup}
-use Rattle.lpmtool.specs.Apply.{IsApplied, EndsApply}
-use Rattle.lpmtool.specs.Report.{IsReported, EndsReport}
-use Rattle.lpmtool.specs.Migrate.{IsMigrated, EndsMigrate}
+use Rattle.lpmtool.specs.Lookup.{IsLookupText, EndsLookup}
+use Rattle.lpmtool.specs.Apply.{IsApplyText, EndsApply}
+use Rattle.lpmtool.specs.Report.{IsReportText, EndsReport}
+use Rattle.lpmtool.specs.Migrate.{IsMigrateText, EndsMigrate}
 use Rattle.lpmtool.specs.Status.{status_of}
 
 -- the text is the command's output, for files of these bytes
 abbrev pub IsOutput : CommandLine → (List ℕ → Option (List ℕ)) → List ℕ → Type 0
 IsOutput (commands.Lookup routes addresses config) bytes =
-    IsTextOf config (bytes routes.now) (bytes addresses.now)
+    IsLookupText config (bytes routes.now) (bytes addresses.now)
 IsOutput (commands.Apply routes updates addresses config) bytes =
-    IsApplied config (bytes routes.now) (bytes updates.now) (bytes addresses.now)
+    IsApplyText config (bytes routes.now) (bytes updates.now) (bytes addresses.now)
 IsOutput (commands.Report routes updates config) bytes =
-    IsReported config (bytes routes.now) (bytes updates.now)
-IsOutput (commands.Migrate old) bytes = IsMigrated (bytes old.now)
+    IsReportText config (bytes routes.now) (bytes updates.now)
+IsOutput (commands.Migrate old) bytes = IsMigrateText (bytes old.now)
 
 -- the command ends in this failure, for files of these bytes
 abbrev pub EndsCommand : CommandLine → (List ℕ → Option (List ℕ)) → Failure → Type 0

@@ -2,7 +2,7 @@
 ghost use Rattle.std.specs.Prelude.{◌≡◌, ◌≢◌, IfOk, IfErr, OnOk, IsErrOf};
 ghost use Rattle.lpm_limits.specs.Limits.{IsConfig};
 ghost use Rattle.lpmtool.specs.Output.{Writes, WritesBeginning};
-ghost use Rattle.lpmtool.specs.Apply.{IsApplied, IsToldAfter, EndsApply};
+ghost use Rattle.lpmtool.specs.Apply.{IsApplyText, IsToldAfter, EndsApply};
 ghost use Rattle.lpmtool.specs.Lookup.{EndsAnswering};
 
 use crate::failure::Failure;
@@ -36,13 +36,13 @@ pub fn apply<'a, R: Threads + Sync, F: Files, W: Write>(
 ) -> Result<(), Failure<'a>>
     requires { IsConfig config }
     ensures done { OnOk result (Writes
-        (IsApplied config (F.bytes files.now routes.entry.now)
+        (IsApplyText config (F.bytes files.now routes.entry.now)
         (F.bytes files.now updates.entry.now) (F.bytes files.now addresses.entry.now))
         (W.contents out.old) (W.contents out.new)) }
 
     // Only a failed write leaves something written, a beginning of that text.
     ensures beginning { IsErrOf result Failure.CannotWrite → WritesBeginning
-        (IsApplied config (F.bytes files.now routes.entry.now)
+        (IsApplyText config (F.bytes files.now routes.entry.now)
         (F.bytes files.now updates.entry.now) (F.bytes files.now addresses.entry.now))
         (W.contents out.old) (W.contents out.new) }
     ensures untouched { IfErr result (λ e. e ≢ Failure.CannotWrite → out.new ≡ out.old) }
@@ -64,7 +64,7 @@ fn apply_text<'a, R: Threads + Sync, F: Files>(
     config: Config,
 ) -> Result<Vec<u8>, Failure<'a>>
     requires { IsConfig config }
-    ensures text { IfOk result (λ v. IsApplied config (F.bytes files.now routes.entry.now)
+    ensures text { IfOk result (λ v. IsApplyText config (F.bytes files.now routes.entry.now)
         (F.bytes files.now updates.entry.now) (F.bytes files.now addresses.entry.now) v.items) }
     ensures failure { IfErr result (EndsApply config
         routes.entry.now updates.entry.now addresses.entry.now (F.bytes files.now)) }

@@ -4,6 +4,7 @@ ghost use Rattle.std.specs.Prelude.{◌↔◌, IfOk, IfErr, IfSome, OnOk, OnErr}
 ghost use Rattle.std.specs.declared.io.ErrorKind.TheVariants.{OutOfMemory};
 ghost use Rattle.std.specs.Io.KnownBytes.{Appends};
 ghost use Rattle.std.specs.IoError.{error_kind};
+ghost use Rattle.lpmtool.specs.Inputs.{IsKnownAs};
 ghost use Rattle.lpmtool.specs.Output.{Begins};
 
 use crate::failure::Failure;
@@ -33,8 +34,7 @@ pub enum ReadFailure {
 
 /// The bytes of the file at the path.
 pub fn read_file<F: Files>(alloc: Global, files: &F, path: &str) -> Result<Vec<u8>, ReadFailure>
-    ensures { IfOk result (λ v.
-        IfSome (F.bytes files.now path.now) (λ bytes. v.items ≡ bytes)) }
+    ensures { IfOk result (λ v. IsKnownAs (F.bytes files.now path.now) v.items) }
 {
     let mut reader = match files.open(path) {
         Ok(reader) => reader,

@@ -1,11 +1,11 @@
 //! The files that a command reads, each of its form.
-ghost use Rattle.std.specs.Prelude.{◌≡◌, ◌⊎◌, ℕ, List, IfOk, IfErr, IfSome};
+ghost use Rattle.std.specs.Prelude.{◌≡◌, ◌⊎◌, ⊤, ℕ, List, All, IfOk, IfErr};
 ghost use Rattle.route_text.specs.declared.fault.Fault.{Fault};
 ghost use Rattle.route_text.specs.Files.{AreRoutes, IsRoutesFault, AreAddresses, IsAddressesFault};
 ghost use Rattle.route_text.specs.Updates.{AreUpdates, IsUpdatesFault};
-ghost use Rattle.route_text.specs.Updates.{AreOldUpdates, IsOldUpdatesFault};
+ghost use Rattle.route_text.specs.Updates.{AreOldUpdates, IsOldUpdatesFault, IsCountInRange};
 ghost use Rattle.route_text.specs.Readings.{IsReadError};
-ghost use Rattle.lpmtool.specs.Inputs.{input, EndsParsing, EndsReading};
+ghost use Rattle.lpmtool.specs.Inputs.{input, Reads, EndsParsing, EndsReading};
 
 use crate::failure::Failure;
 use crate::files::{Files, ReadFailure, read_file};
@@ -20,11 +20,15 @@ pub trait Form {
     // The bytes are a file of these items.
     ghost Lists: { List ℕ → List Self.Item → Type 0 };
 
+    // The item's numbers are in their ranges.
+    ghost IsInRange: { Self.Item → Type 0 };
+
     // The first fault of bytes that are no such file.
     ghost IsFault: { List ℕ → Fault → Type 0 };
 
     fn parse(alloc: Global, bytes: &[u8]) -> Result<Vec<Self::Item>, ReadError>
         ensures items { IfOk result (λ v. Lists bytes.now v.items) }
+        ensures in_range { IfOk result (λ v. All IsInRange v.items) }
         ensures error { IfErr result (IsReadError (IsFault bytes.now)) };
 }
 
@@ -35,6 +39,8 @@ impl Form for Routes {
     type Item = Route;
 
     ghost Lists = { AreRoutes };
+
+    ghost IsInRange = { λ _. ⊤ };
 
     ghost IsFault = { IsRoutesFault };
 
@@ -51,6 +57,8 @@ impl Form for Addresses {
 
     ghost Lists = { AreAddresses };
 
+    ghost IsInRange = { λ _. ⊤ };
+
     ghost IsFault = { IsAddressesFault };
 
     fn parse(alloc: Global, bytes: &[u8]) -> Result<Vec<u32>, ReadError> {
@@ -65,6 +73,8 @@ impl Form for Updates {
     type Item = Order;
 
     ghost Lists = { AreUpdates };
+
+    ghost IsInRange = { IsCountInRange };
 
     ghost IsFault = { IsUpdatesFault };
 
@@ -81,6 +91,8 @@ impl Form for OldUpdates {
 
     ghost Lists = { AreOldUpdates };
 
+    ghost IsInRange = { IsCountInRange };
+
     ghost IsFault = { IsOldUpdatesFault };
 
     fn parse(alloc: Global, bytes: &[u8]) -> Result<Vec<Order>, ReadError> {
@@ -95,8 +107,8 @@ pub fn read_list<'a, L: Form, F: Files>(
     path: &'a str,
 ) -> Result<Vec<L::Item>, Failure<'a>>
     ensures items { IfOk result (λ v.
-        IfSome (F.bytes files.now path.entry.now) (λ bytes. L.Lists bytes v.items)) }
-    ensures some { IfOk result (λ v. (bytes : List ℕ) × L.Lists bytes v.items) }
+        Reads L.Lists (F.bytes files.now path.entry.now) v.items) }
+    ensures in_range { IfOk result (λ v. All L.IsInRange v.items) }
     ensures failure { IfErr result (EndsReading
         (input L.Lists L.IsFault path.entry.now (F.bytes files.now path.entry.now))) }
 {
@@ -114,6 +126,7 @@ fn parsed<'a, L: Form>(
     bytes: &[u8],
 ) -> Result<Vec<L::Item>, Failure<'a>>
     ensures items { IfOk result (λ v. L.Lists bytes.now v.items) }
+    ensures in_range { IfOk result (λ v. All L.IsInRange v.items) }
     ensures failure { IfErr result (EndsParsing L.IsFault path.entry.now bytes.now) }
 {
     match L::parse(alloc, bytes) {

@@ -2,7 +2,7 @@
 ghost use Rattle.std.specs.Prelude.{◌≡◌, ◌≢◌, IfOk, IfErr, OnOk, IsErrOf};
 ghost use Rattle.lpm_limits.specs.Limits.{IsConfig};
 ghost use Rattle.lpmtool.specs.Output.{Writes, WritesBeginning};
-ghost use Rattle.lpmtool.specs.Lookup.{IsAnswered, IsTextOf, EndsAnswering, EndsLookup};
+ghost use Rattle.lpmtool.specs.Lookup.{IsAnswered, IsLookupText, EndsAnswering, EndsLookup};
 
 use crate::failure::Failure;
 use crate::files::{Files, put_text};
@@ -33,13 +33,13 @@ pub fn lookup<'a, R: Threads + Sync, F: Files, G: Gate, W: Write>(
 ) -> Result<(), Failure<'a>>
     requires { IsConfig config }
     ensures done { OnOk result (Writes
-        (IsTextOf config
+        (IsLookupText config
         (F.bytes files.now routes.entry.now) (F.bytes files.now addresses.entry.now))
         (W.contents out.old) (W.contents out.new)) }
 
     // Only a failed write leaves something written, a beginning of that text.
     ensures beginning { IsErrOf result Failure.CannotWrite → WritesBeginning
-        (IsTextOf config
+        (IsLookupText config
         (F.bytes files.now routes.entry.now) (F.bytes files.now addresses.entry.now))
         (W.contents out.old) (W.contents out.new) }
     ensures untouched { IfErr result (λ e. e ≢ Failure.CannotWrite → out.new ≡ out.old) }
@@ -61,7 +61,7 @@ fn lookup_text<'a, R: Threads + Sync, F: Files, G: Gate>(
     gate: &G,
 ) -> Result<Vec<u8>, Failure<'a>>
     requires { IsConfig config }
-    ensures text { IfOk result (λ v. IsTextOf config
+    ensures text { IfOk result (λ v. IsLookupText config
         (F.bytes files.now routes.entry.now) (F.bytes files.now addresses.entry.now) v.items) }
     ensures failure { IfErr result
         (EndsLookup config routes.entry.now addresses.entry.now (F.bytes files.now)) }

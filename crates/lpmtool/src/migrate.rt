@@ -1,7 +1,7 @@
 //! `migrate`: an update file of version 1 in version 2.
 ghost use Rattle.std.specs.Prelude.{◌≡◌, ◌≢◌, IfOk, IfErr, OnOk, IsErrOf};
 ghost use Rattle.lpmtool.specs.Output.{Writes, WritesBeginning};
-ghost use Rattle.lpmtool.specs.Migrate.{IsMigrated, EndsMigrate};
+ghost use Rattle.lpmtool.specs.Migrate.{IsMigrateText, EndsMigrate};
 
 use crate::failure::Failure;
 use crate::files::{Files, put_text};
@@ -19,12 +19,12 @@ pub fn migrate<'a, F: Files, W: Write>(
     old: &'a str,
     out: &mut W,
 ) -> Result<(), Failure<'a>>
-    ensures done { OnOk result (Writes (IsMigrated (F.bytes files.now old.entry.now))
+    ensures done { OnOk result (Writes (IsMigrateText (F.bytes files.now old.entry.now))
         (W.contents out.old) (W.contents out.new)) }
 
     // Only a failed write leaves something written, a beginning of that text.
     ensures beginning { IsErrOf result Failure.CannotWrite → WritesBeginning
-        (IsMigrated (F.bytes files.now old.entry.now))
+        (IsMigrateText (F.bytes files.now old.entry.now))
         (W.contents out.old) (W.contents out.new) }
     ensures untouched { IfErr result (λ e. e ≢ Failure.CannotWrite → out.new ≡ out.old) }
     ensures failure { IfErr result (EndsMigrate old.entry.now (F.bytes files.now)) }
@@ -39,7 +39,7 @@ fn migrate_text<'a, F: Files>(
     files: &F,
     old: &'a str,
 ) -> Result<Vec<u8>, Failure<'a>>
-    ensures text { IfOk result (λ v. IsMigrated (F.bytes files.now old.entry.now) v.items) }
+    ensures text { IfOk result (λ v. IsMigrateText (F.bytes files.now old.entry.now) v.items) }
     ensures failure { IfErr result (EndsMigrate old.entry.now (F.bytes files.now)) }
     ensures unwritten { IfErr result (λ e. e ≢ Failure.CannotWrite) }
 {

@@ -2,7 +2,7 @@
 ghost use Rattle.std.specs.Prelude.{◌≡◌, ◌≢◌, IfOk, IfErr, OnOk, IsErrOf};
 ghost use Rattle.lpm_limits.specs.Limits.{IsConfig};
 ghost use Rattle.lpmtool.specs.Output.{Writes, WritesBeginning};
-ghost use Rattle.lpmtool.specs.Report.{IsReported, IsCountOf, EndsReport};
+ghost use Rattle.lpmtool.specs.Report.{IsReportText, IsCountOf, EndsReport};
 
 use crate::failure::Failure;
 use crate::files::{Files, put_text};
@@ -29,13 +29,13 @@ pub fn report<'a, F: Files, W: Write>(
 ) -> Result<(), Failure<'a>>
     requires { IsConfig config }
     ensures done { OnOk result (Writes
-        (IsReported config
+        (IsReportText config
         (F.bytes files.now routes.entry.now) (F.bytes files.now updates.entry.now))
         (W.contents out.old) (W.contents out.new)) }
 
     // Only a failed write leaves something written, a beginning of that text.
     ensures beginning { IsErrOf result Failure.CannotWrite → WritesBeginning
-        (IsReported config
+        (IsReportText config
         (F.bytes files.now routes.entry.now) (F.bytes files.now updates.entry.now))
         (W.contents out.old) (W.contents out.new) }
     ensures untouched { IfErr result (λ e. e ≢ Failure.CannotWrite → out.new ≡ out.old) }
@@ -55,7 +55,7 @@ fn whole_text<'a, F: Files>(
     config: Config,
 ) -> Result<Vec<u8>, Failure<'a>>
     requires { IsConfig config }
-    ensures text { IfOk result (λ v. IsReported config
+    ensures text { IfOk result (λ v. IsReportText config
         (F.bytes files.now routes.entry.now) (F.bytes files.now updates.entry.now) v.items) }
     ensures failure { IfErr result
         (EndsReport config routes.entry.now updates.entry.now (F.bytes files.now)) }

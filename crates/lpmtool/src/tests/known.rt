@@ -68,7 +68,7 @@ fn known_lookup<R: Threads + Sync>(
 ) -> bool
     requires { IsConfig config }
     ensures { result ≡ true → (text : List ℕ)
-        × IsLookupText config routes.now addresses.now text
+        × IsLookupText config (Some routes.now) (Some addresses.now) text
         × (out.new.items ≡ out.old.items ++ text) }
 {
     let files = Paths { alloc };
@@ -87,7 +87,7 @@ fn known_apply<R: Threads + Sync>(
 ) -> bool
     requires { IsConfig config }
     ensures { result ≡ true → (text : List ℕ)
-        × IsApplyText config routes.now updates.now addresses.now text
+        × IsApplyText config (Some routes.now) (Some updates.now) (Some addresses.now) text
         × (out.new.items ≡ out.old.items ++ text) }
 {
     let files = Paths { alloc };
@@ -104,7 +104,7 @@ fn known_report(
 ) -> bool
     requires { IsConfig config }
     ensures { result ≡ true → (text : List ℕ)
-        × IsReportText config routes.now updates.now text
+        × IsReportText config (Some routes.now) (Some updates.now) text
         × (out.new.items ≡ out.old.items ++ text) }
 {
     let files = Paths { alloc };
@@ -114,7 +114,7 @@ fn known_report(
 /// `migrate` where the bytes are known.
 fn known_migrate(alloc: Global, old: &str, out: &mut Vec<u8>) -> bool
     ensures { result ≡ true → (text : List ℕ)
-        × IsMigrateText old.now text
+        × IsMigrateText (Some old.now) text
         × (out.new.items ≡ out.old.items ++ text) }
 {
     let files = Paths { alloc };

@@ -2,7 +2,7 @@ use Rattle.std.proofs.Common.{List, subst}
 use Rattle.std.proofs.lemmas.Result.{IfOk-weaker, IfErr-weaker}
 use Rattle.route_text.specs.declared.routes.Route.{Route}
 use Rattle.lpmtool.specs.Loading.{IsLoaded}
-use Rattle.lpmtool.proofs.Texts.{is_applied, told_as}
+use Rattle.lpmtool.proofs.Texts.{is_apply_text, told_as}
 use Rattle.lpmtool.proofs.Ends.{ends_apply}
 use Rattle.lpmtool.proofs.apply.apply_text.Goals as goal
 
@@ -11,7 +11,7 @@ returns-clause-text g c =
     let table = c.in_ok-table.table.table in
     let loaded = subst (λ (list : List Route). IsLoaded c.args.config list table) c.deref.ensures.value c.in_ok-table.ensures.loaded in
     IfOk-weaker c.text_after.result _ _ (λ v told.
-    is_applied _ _ _ _ c.in_ok-list.list.items c.in_ok-orders.orders.items c.in_ok-addrs.addrs.items table _ _ c.in_ok-list.ensures.items c.in_ok-orders.ensures.items c.in_ok-addrs.ensures.items loaded (told_as _ _ _ _ _ _ _ _ _ c.in_ok-table.ensures.config c.deref-2.ensures.value c.deref-3.ensures.value told))
+    is_apply_text _ _ _ _ c.in_ok-list.list.items c.in_ok-orders.orders.items c.in_ok-addrs.addrs.items table _ _ c.in_ok-list.ensures.items c.in_ok-orders.ensures.items c.in_ok-addrs.ensures.items loaded (told_as _ _ _ _ _ _ _ _ _ c.in_ok-table.ensures.config c.deref-2.ensures.value c.deref-3.ensures.value told))
     c.text_after.ensures.text
 
 pub returns-clause-failure : goal.returns-clause-failure

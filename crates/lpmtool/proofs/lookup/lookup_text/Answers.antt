@@ -2,7 +2,7 @@ use Rattle.std.proofs.Common.{List, subst}
 use Rattle.std.proofs.lemmas.Result.{IfOk-weaker, IfErr-weaker}
 use Rattle.route_text.specs.declared.routes.Route.{Route}
 use Rattle.lpmtool.specs.Loading.{IsLoaded}
-use Rattle.lpmtool.proofs.Texts.{is_text, answered_as}
+use Rattle.lpmtool.proofs.Texts.{is_lookup_text, answered_as}
 use Rattle.lpmtool.proofs.Ends.{ends_lookup}
 use Rattle.lpmtool.proofs.lookup.lookup_text.Goals as goal
 
@@ -11,7 +11,7 @@ returns-clause-text g c =
     let table = c.in_ok-table.table.table in
     let loaded = subst (λ (list : List Route). IsLoaded c.args.config list table) c.deref.ensures.value c.in_ok-table.ensures.loaded in
     IfOk-weaker c.text_of_answers.result _ _ (λ v answered.
-    is_text _ _ _ c.in_ok-list.list.items c.in_ok-addrs.addrs.items table _ c.in_ok-list.ensures.items c.in_ok-addrs.ensures.items loaded (answered_as _ _ _ _ _ _ c.in_ok-table.ensures.config c.deref-2.ensures.value answered))
+    is_lookup_text _ _ _ c.in_ok-list.list.items c.in_ok-addrs.addrs.items table _ c.in_ok-list.ensures.items c.in_ok-addrs.ensures.items loaded (answered_as _ _ _ _ _ _ c.in_ok-table.ensures.config c.deref-2.ensures.value answered))
     c.text_of_answers.ensures.text
 
 pub returns-clause-failure : goal.returns-clause-failure
