@@ -4,4 +4,5 @@ pub mod Updated
 pub mod Texts
 pub mod Ends
 pub mod Known
+pub mod Causes
 pub mod Ended

@@ -42,13 +42,13 @@ is_apply_text c routes updates addresses list orders addrs x z text are_routes a
       addrs = addrs;
       came = told.came;
       log = done.0;
-      state = done.1;
+      state = done.1.0;
       answers = told.answers;
       are_routes = are_routes;
       are_updates = are_updates;
       are_addrs = are_addrs;
-      updated = done.2;
-      answered = subst (λ (R : RuleMap). IsAnswered c R addrs told.answers) (last_rules c list orders told.came done.0 z done.1 done.2 done.3) told.answered;
+      updated = done.1.1;
+      answered = subst (λ (R : RuleMap). IsAnswered c R addrs told.answers) (last_rules c list orders told.came done.0 z done.1.0 done.1.1 done.1.2) told.answered;
       written = told.written;
     }
 
@@ -61,12 +61,12 @@ is_report_text c routes updates list orders came x fib r text are_routes are_upd
       orders = orders;
       came = came;
       log = done.0;
-      state = done.1;
+      state = done.1.0;
       report = r;
       are_routes = are_routes;
       are_updates = are_updates;
-      updated = done.2;
-      reported = reported c list orders came done.0 fib done.1 r done.2 done.3 config counts;
+      updated = done.1.1;
+      reported = reported c list orders came done.0 fib done.1.0 r done.1.1 done.1.2 config counts;
       written = written;
     }
 
