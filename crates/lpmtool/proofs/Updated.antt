@@ -33,15 +33,21 @@ pub updated : (c : Config) (routes : List Route) (list : List Order) (came : Lis
 updated c routes list came x z loaded comes =
     let first = loads_run c [] (opened c) x routes refl loaded.loads in
     let log = logged [] (map loading_of routes) (map outcomes.Put first.0) in
-    let told = comes.goes_on log first.2 in
-    (logged log (map command_of list) came, (told.0, record {
-      loaded = first.0;
-      all_routes = first.1;
-      all_orders = comes.all_orders;
-      had_memory = comes.had_memory;
-      logs = refl;
-      runs = told.1;
-    }, told.2))
+    let told = comes.goes_on log first.2 in (
+      logged log (map command_of list) came,
+      (
+        told.0,
+        record {
+          loaded = first.0;
+          all_routes = first.1;
+          all_orders = comes.all_orders;
+          had_memory = comes.had_memory;
+          logs = refl;
+          runs = told.1;
+        },
+        told.2,
+      ),
+    )
 
 -- the table's rules are the last version
 pub last_rules : (c : Config) (routes : List Route) (list : List Order) (came : List Outcome) (log : Log 24 8) (z : State Registry) (state : State (List Event)) → IsUpdated c routes list came log state → Agrees c z state → z.rules ≡ last_of (history log)

@@ -9,8 +9,9 @@ ghost use Rattle.lpmtool.specs.Inputs.{input, Reads, EndsParsing, EndsReading};
 
 use crate::failure::Failure;
 use crate::files::{Files, ReadFailure, read_file};
-use route_text::{Order, ReadError, Route};
-use route_text::{read_addresses, read_routes, read_updates, read_updates_v1};
+use route_text::{
+    Order, ReadError, Route, read_addresses, read_routes, read_updates, read_updates_v1,
+};
 use std::alloc::Global;
 
 /// A form of files, whose bytes list items.

@@ -77,4 +77,3 @@ fn open<'a>(alloc: Global, config: Config) -> Result<Fib<24, 8>, Failure<'a>>
         Err(OpenError::BadConfig) => unreachable!(),
     }
 }
-

@@ -10,9 +10,9 @@ mod lookup;
 mod migrate;
 mod report;
 mod run;
-mod updating;
 #[cfg(test)]
 mod tests;
+mod updating;
 
 ghost use Rattle.std.specs.Prelude.{None};
 
@@ -68,7 +68,14 @@ fn main(rt: HostRuntime) -> ExitCode {
         Err(e) => return ExitCode::from(run::refuse_words(e.kind(), &mut err)),
     };
     let files = Disk { rt: &rt };
-    let status = run::run(&rt, rt.alloc(), words.as_slice(), &files, &mut out, &mut err);
+    let status = run::run(
+        &rt,
+        rt.alloc(),
+        words.as_slice(),
+        &files,
+        &mut out,
+        &mut err,
+    );
     ExitCode::from(status)
 }
 

@@ -2,8 +2,8 @@
 
 mod bytes;
 mod cases;
-mod fakes;
 mod failing;
+mod fakes;
 mod known;
 mod lookups;
 mod meeting;

@@ -2,8 +2,10 @@
 
 use super::cases::ending;
 use super::fakes::{Named, whole};
+use std::process::Abort;
 use std::slice;
 use std::test::Fail;
+use std::thread::Threads;
 
 // Each byte.
 static BYTES: [u8; 256] = [
@@ -23,8 +25,8 @@ static BYTES: [u8; 256] = [
 ];
 
 // The command on a file of this byte, and its first fault where the byte isn't blank.
-fn one_byte(
-    rt: &HostRuntime,
+fn one_byte<R: Abort + AllocGlobal + Threads + Sync>(
+    rt: &R,
     words: &[&str],
     files: &[Named<'_>],
     byte: u8,
@@ -32,7 +34,11 @@ fn one_byte(
 ) -> Result<(), Fail> {
     let is_empty = matches!(byte, b' ' | b'\t' | b'\n' | b'#');
     let (status, out, err) = ending(rt, words, &whole(files))?;
-    let wanted = if is_empty { (0, "", "") } else { (4, "", fault) };
+    let wanted = if is_empty {
+        (0, "", "")
+    } else {
+        (4, "", fault)
+    };
     assert_eq!(rt; (status, out.as_str(), err.as_str()), wanted, "{byte}");
     Ok(())
 }

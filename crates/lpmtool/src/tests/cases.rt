@@ -2,7 +2,9 @@
 
 use super::fakes::{AtBad, BreakingFiles, Named, whole, writer};
 use crate::run::run;
+use std::process::Abort;
 use std::test::Fail;
+use std::thread::Threads;
 
 /// The words after the program's name, the files, the exit status, and the texts on standard output
 /// and standard error.
@@ -16,8 +18,8 @@ pub struct Case {
 }
 
 /// How a run of these words and files ends: its status and its two texts.
-pub fn ending(
-    rt: &HostRuntime,
+pub fn ending<R: Abort + AllocGlobal + Threads + Sync>(
+    rt: &R,
     words: &[&str],
     files: &BreakingFiles<'_>,
 ) -> Result<(u8, String, String), Fail> {
@@ -30,7 +32,10 @@ pub fn ending(
 }
 
 /// Runs each case.
-pub fn run_cases(rt: &HostRuntime, cases: &[Case]) -> Result<(), Fail> {
+pub fn run_cases<R: Abort + AllocGlobal + Threads + Sync>(
+    rt: &R,
+    cases: &[Case],
+) -> Result<(), Fail> {
     for case in cases {
         let (status, out, err) = ending(rt, case.words, &whole(case.files))?;
         assert_eq!(rt;

@@ -4,7 +4,9 @@ use super::cases::ending;
 use super::fakes::{AtBad, BreakingFiles, Named, whole, writer};
 use crate::run::run;
 use std::io::ErrorKind;
+use std::process::Abort;
 use std::test::Fail;
+use std::thread::Threads;
 
 const ROUTES: &[u8] = b"10.0.0.0/8 1\n";
 
@@ -34,8 +36,8 @@ const READS: [Reads; 4] = [
 ];
 
 // How a run ends at which a read fails.
-fn broken(
-    rt: &HostRuntime,
+fn broken<R: Abort + AllocGlobal + Threads + Sync>(
+    rt: &R,
     words: &[&str],
     breaks: &str,
     bad: usize,
@@ -51,8 +53,8 @@ fn broken(
 }
 
 // Each read of the file fails in turn.
-fn each_read_fails(
-    rt: &HostRuntime,
+fn each_read_fails<R: Abort + AllocGlobal + Threads + Sync>(
+    rt: &R,
     words: &[&str],
     breaks: &str,
     reads: usize,
@@ -70,7 +72,11 @@ fn each_read_fails(
 }
 
 // A read for which memory is wanted.
-fn a_read_wants_memory(rt: &HostRuntime, words: &[&str], breaks: &str) -> Result<(), Fail> {
+fn a_read_wants_memory<R: Abort + AllocGlobal + Threads + Sync>(
+    rt: &R,
+    words: &[&str],
+    breaks: &str,
+) -> Result<(), Fail> {
     let (status, out, err) = broken(rt, words, breaks, 3, ErrorKind::OutOfMemory)?;
     assert_eq!(rt;
         (status, out.as_str(), err.as_str()),
@@ -92,8 +98,8 @@ fn reads_that_fail(rt: HostRuntime) -> Result<(), Fail> {
 }
 
 // How a run ends with a writer that is bad at one of its calls.
-fn written(
-    rt: &HostRuntime,
+fn written<R: Abort + AllocGlobal + Threads + Sync>(
+    rt: &R,
     words: &[&str],
     bad: usize,
     at_bad: AtBad,
@@ -129,7 +135,11 @@ const WRITES: [Writes; 4] = [
 ];
 
 // A write fails or takes no byte: what the earlier ones took is a beginning of the text.
-fn each_write_fails(rt: &HostRuntime, case: &Writes, at_bad: AtBad) -> Result<(), Fail> {
+fn each_write_fails<R: Abort + AllocGlobal + Threads + Sync>(
+    rt: &R,
+    case: &Writes,
+    at_bad: AtBad,
+) -> Result<(), Fail> {
     let (words, text, writes) = case;
     for bad in 1..=*writes {
         let (status, out, err) = written(rt, words, bad, at_bad)?;
@@ -145,7 +155,10 @@ fn each_write_fails(rt: &HostRuntime, case: &Writes, at_bad: AtBad) -> Result<()
 }
 
 // A write that was interrupted is made again.
-fn each_write_is_interrupted(rt: &HostRuntime, case: &Writes) -> Result<(), Fail> {
+fn each_write_is_interrupted<R: Abort + AllocGlobal + Threads + Sync>(
+    rt: &R,
+    case: &Writes,
+) -> Result<(), Fail> {
     let (words, text, writes) = case;
     for bad in 1..=*writes {
         let (status, out, err) = written(rt, words, bad, AtBad::IsInterrupted)?;

@@ -139,7 +139,9 @@ fn known_bytes_in_and_out(rt: HostRuntime) -> Result<(), Fail> {
     assert!(rt; known_report(alloc, ROUTES, UPDATES, config, &mut out));
     assert!(rt; known_migrate(alloc, "del 1.2.3.4/8\n", &mut out));
     let text = String::from_utf8(out)?;
-    let text = text.strip_prefix("10.1.1.128 3\ndeleted 3\n10.1.1.128 1\n").ok_or("answers")?;
+    let text = text
+        .strip_prefix("10.1.1.128 3\ndeleted 3\n10.1.1.128 1\n")
+        .ok_or("answers")?;
     let text = text.strip_prefix(REPORT).ok_or("report")?;
     assert_eq!(rt; text, "lpm-updates 2\ndel 1.0.0.0/8\n");
     Ok(())

@@ -32,7 +32,10 @@ const MIGRATED: [Case; 6] = [
     Case {
         name: "each word",
         words: &["lpmtool", "migrate", "o"],
-        files: &[("o", b"\tdel 1.2.3.4/32\r\nreclaim 65536\n\nonline 4294967295\noffline 0\nquiescent 7")],
+        files: &[(
+            "o",
+            b"\tdel 1.2.3.4/32\r\nreclaim 65536\n\nonline 4294967295\noffline 0\nquiescent 7",
+        )],
         status: 0,
         out: "lpm-updates 2\ndel 1.2.3.4/32\nreclaim 65536\nonline 4294967295\noffline 0\nquiescent 7\n",
         err: "",

@@ -8,7 +8,11 @@ const APPLIED: [Case; 11] = [
     Case {
         name: "delete-then-reclaim",
         words: &["lpmtool", "apply", "r", "u", "a"],
-        files: &[("r", b"10.0.0.0/8 1\n10.1.0.0/16 2\n10.1.1.128/25 3\n"), ("u", b"lpm-updates 2\ndel 10.1.1.128/25\n"), ("a", b"10.1.1.128\n")],
+        files: &[
+            ("r", b"10.0.0.0/8 1\n10.1.0.0/16 2\n10.1.1.128/25 3\n"),
+            ("u", b"lpm-updates 2\ndel 10.1.1.128/25\n"),
+            ("a", b"10.1.1.128\n"),
+        ],
         status: 0,
         out: "deleted 3\n10.1.1.128 2\n",
         err: "",
@@ -16,7 +20,11 @@ const APPLIED: [Case; 11] = [
     Case {
         name: "delete-then-reclaim",
         words: &["lpmtool", "apply", "r", "u", "a"],
-        files: &[("r", b"10.0.0.0/8 1\n10.1.0.0/16 2\n10.1.1.128/25 3\n"), ("u", b"lpm-updates 2\ndel 10.1.1.128/25\nreclaim 16\n"), ("a", b"10.1.1.128\n")],
+        files: &[
+            ("r", b"10.0.0.0/8 1\n10.1.0.0/16 2\n10.1.1.128/25 3\n"),
+            ("u", b"lpm-updates 2\ndel 10.1.1.128/25\nreclaim 16\n"),
+            ("a", b"10.1.1.128\n"),
+        ],
         status: 0,
         out: "deleted 3\nreclaimed 1\n10.1.1.128 2\n",
         err: "",
@@ -24,7 +32,14 @@ const APPLIED: [Case; 11] = [
     Case {
         name: "one-group",
         words: &["lpmtool", "apply", "--groups", "1", "r", "u", "a"],
-        files: &[("r", b""), ("u", b"lpm-updates 2\nadd 10.0.0.0/25 1\nadd 10.0.1.0/25 2\n"), ("a", b"")],
+        files: &[
+            ("r", b""),
+            (
+                "u",
+                b"lpm-updates 2\nadd 10.0.0.0/25 1\nadd 10.0.1.0/25 2\n",
+            ),
+            ("a", b""),
+        ],
         status: 0,
         out: "added\nrefused 7 NoGroups\n",
         err: "",
@@ -32,7 +47,14 @@ const APPLIED: [Case; 11] = [
     Case {
         name: "held-group",
         words: &["lpmtool", "apply", "--groups", "1", "r", "u", "a"],
-        files: &[("r", b""), ("u", b"lpm-updates 2\nonline 0\nadd 10.0.0.0/25 1\ndel 10.0.0.0/25\nadd 10.0.1.0/25 2\nquiescent 0\nadd 10.0.1.0/25 2\n"), ("a", b"")],
+        files: &[
+            ("r", b""),
+            (
+                "u",
+                b"lpm-updates 2\nonline 0\nadd 10.0.0.0/25 1\ndel 10.0.0.0/25\nadd 10.0.1.0/25 2\nquiescent 0\nadd 10.0.1.0/25 2\n",
+            ),
+            ("a", b""),
+        ],
         status: 0,
         out: "ok\nadded\ndeleted 1\nrefused 7 NoGroups worker 0 counter 1\nok\nadded\n",
         err: "",
@@ -40,7 +62,14 @@ const APPLIED: [Case; 11] = [
     Case {
         name: "outcomes",
         words: &["lpmtool", "apply", "r", "u", "a"],
-        files: &[("r", b""), ("u", b"lpm-updates 2\nadd 10.0.0.0/8 1\nadd 10.0.0.0/8 1\nadd 10.0.0.0/8 2\ndel 10.0.0.0/8\ndel 10.0.0.0/8\n"), ("a", b"")],
+        files: &[
+            ("r", b""),
+            (
+                "u",
+                b"lpm-updates 2\nadd 10.0.0.0/8 1\nadd 10.0.0.0/8 1\nadd 10.0.0.0/8 2\ndel 10.0.0.0/8\ndel 10.0.0.0/8\n",
+            ),
+            ("a", b""),
+        ],
         status: 0,
         out: "added\nunchanged\nreplaced\ndeleted 2\nrefused 4 NoSuchRule\n",
         err: "",
@@ -48,7 +77,14 @@ const APPLIED: [Case; 11] = [
     Case {
         name: "two-workers",
         words: &["lpmtool", "apply", "--workers", "2", "r", "u", "a"],
-        files: &[("r", b""), ("u", b"lpm-updates 2\nadd 10.0.0.0/25 1\nadd 10.0.1.0/25 2\nonline 0\ndel 10.0.0.0/25\nonline 1\ndel 10.0.1.0/25\nreclaim 16\nquiescent 0\nreclaim 16\noffline 1\nreclaim 16\n"), ("a", b"")],
+        files: &[
+            ("r", b""),
+            (
+                "u",
+                b"lpm-updates 2\nadd 10.0.0.0/25 1\nadd 10.0.1.0/25 2\nonline 0\ndel 10.0.0.0/25\nonline 1\ndel 10.0.1.0/25\nreclaim 16\nquiescent 0\nreclaim 16\noffline 1\nreclaim 16\n",
+            ),
+            ("a", b""),
+        ],
         status: 0,
         out: "added\nadded\nok\ndeleted 1\nok\ndeleted 2\nreclaimed 0 stopped worker 0 counter 1\nok\nreclaimed 1 stopped worker 1 counter 2\nok\nreclaimed 1\n",
         err: "",
@@ -56,7 +92,14 @@ const APPLIED: [Case; 11] = [
     Case {
         name: "one-rule",
         words: &["lpmtool", "apply", "--rules", "1", "r", "u", "a"],
-        files: &[("r", b""), ("u", b"lpm-updates 2\nadd 10.0.0.0/8 1\nadd 11.0.0.0/8 1\nadd 10.0.0.0/8 5\n"), ("a", b"")],
+        files: &[
+            ("r", b""),
+            (
+                "u",
+                b"lpm-updates 2\nadd 10.0.0.0/8 1\nadd 11.0.0.0/8 1\nadd 10.0.0.0/8 5\n",
+            ),
+            ("a", b""),
+        ],
         status: 0,
         out: "added\nrefused 3 TooManyRules\nreplaced\n",
         err: "",
@@ -64,15 +107,36 @@ const APPLIED: [Case; 11] = [
     Case {
         name: "flush-report",
         words: &["lpmtool", "apply", "r", "u", "a"],
-        files: &[("r", b"10.0.0.0/8 1\n10.1.0.0/16 2\n10.1.1.128/25 3\n"), ("u", b"lpm-updates 2\nflush\n"), ("a", b"")],
+        files: &[
+            ("r", b"10.0.0.0/8 1\n10.1.0.0/16 2\n10.1.1.128/25 3\n"),
+            ("u", b"lpm-updates 2\nflush\n"),
+            ("a", b""),
+        ],
         status: 0,
         out: "flushed 3\n",
         err: "",
     },
     Case {
         name: "flush-three-groups",
-        words: &["lpmtool", "apply", "--groups", "3", "--threshold", "0", "r", "u", "a"],
-        files: &[("r", b""), ("u", b"lpm-updates 2\nadd 10.0.0.0/25 1\nadd 10.0.1.0/25 2\nadd 10.0.2.0/25 3\nflush\n"), ("a", b"")],
+        words: &[
+            "lpmtool",
+            "apply",
+            "--groups",
+            "3",
+            "--threshold",
+            "0",
+            "r",
+            "u",
+            "a",
+        ],
+        files: &[
+            ("r", b""),
+            (
+                "u",
+                b"lpm-updates 2\nadd 10.0.0.0/25 1\nadd 10.0.1.0/25 2\nadd 10.0.2.0/25 3\nflush\n",
+            ),
+            ("a", b""),
+        ],
         status: 0,
         out: "added\nadded\nadded\nflushed 3\n",
         err: "",
@@ -80,7 +144,14 @@ const APPLIED: [Case; 11] = [
     Case {
         name: "default-route-updates",
         words: &["lpmtool", "apply", "r", "u", "a"],
-        files: &[("r", b""), ("u", b"lpm-updates 2\nadd 1.2.3.4/0 1\nadd 0.0.0.0/0 1\nadd 10.0.0.0/8 2\ndel 10.0.0.0/8\n"), ("a", b"10.0.0.0\n")],
+        files: &[
+            ("r", b""),
+            (
+                "u",
+                b"lpm-updates 2\nadd 1.2.3.4/0 1\nadd 0.0.0.0/0 1\nadd 10.0.0.0/8 2\ndel 10.0.0.0/8\n",
+            ),
+            ("a", b"10.0.0.0\n"),
+        ],
         status: 0,
         out: "added\nunchanged\nadded\ndeleted 2\n10.0.0.0 1\n",
         err: "",
@@ -88,7 +159,14 @@ const APPLIED: [Case; 11] = [
     Case {
         name: "reports of workers",
         words: &["lpmtool", "apply", "r", "u", "a"],
-        files: &[("r", b""), ("u", b"lpm-updates 2\noffline 0\nquiescent 0\nonline 0\nonline 0\nonline 1\noffline 0\n"), ("a", b"")],
+        files: &[
+            ("r", b""),
+            (
+                "u",
+                b"lpm-updates 2\noffline 0\nquiescent 0\nonline 0\nonline 0\nonline 1\noffline 0\n",
+            ),
+            ("a", b""),
+        ],
         status: 0,
         out: "refused 13 NotOnline\nrefused 13 NotOnline\nok\nrefused 14 AlreadyOnline\nrefused 10 NoSuchWorker\nok\n",
         err: "",
@@ -100,7 +178,10 @@ const REPORTED: [Case; 9] = [
     Case {
         name: "delete-then-reclaim",
         words: &["lpmtool", "report", "r", "u"],
-        files: &[("r", b"10.0.0.0/8 1\n10.1.0.0/16 2\n10.1.1.128/25 3\n"), ("u", b"lpm-updates 2\ndel 10.1.1.128/25\n")],
+        files: &[
+            ("r", b"10.0.0.0/8 1\n10.1.0.0/16 2\n10.1.1.128/25 3\n"),
+            ("u", b"lpm-updates 2\ndel 10.1.1.128/25\n"),
+        ],
         status: 0,
         out: "rules 2\nversions 4\nin use 0\nlimbo 1\nfree 255\ntoken 2\n",
         err: "",
@@ -108,7 +189,10 @@ const REPORTED: [Case; 9] = [
     Case {
         name: "delete-then-reclaim",
         words: &["lpmtool", "report", "r", "u"],
-        files: &[("r", b"10.0.0.0/8 1\n10.1.0.0/16 2\n10.1.1.128/25 3\n"), ("u", b"lpm-updates 2\ndel 10.1.1.128/25\nreclaim 16\n")],
+        files: &[
+            ("r", b"10.0.0.0/8 1\n10.1.0.0/16 2\n10.1.1.128/25 3\n"),
+            ("u", b"lpm-updates 2\ndel 10.1.1.128/25\nreclaim 16\n"),
+        ],
         status: 0,
         out: "rules 2\nversions 4\nin use 0\nlimbo 0\nfree 256\ntoken 2\n",
         err: "",
@@ -116,7 +200,13 @@ const REPORTED: [Case; 9] = [
     Case {
         name: "one-group",
         words: &["lpmtool", "report", "--groups", "1", "r", "u"],
-        files: &[("r", b""), ("u", b"lpm-updates 2\nadd 10.0.0.0/25 1\nadd 10.0.1.0/25 2\n")],
+        files: &[
+            ("r", b""),
+            (
+                "u",
+                b"lpm-updates 2\nadd 10.0.0.0/25 1\nadd 10.0.1.0/25 2\n",
+            ),
+        ],
         status: 0,
         out: "rules 1\nversions 1\nin use 1\nlimbo 0\nfree 0\ntoken 1\n",
         err: "",
@@ -124,7 +214,13 @@ const REPORTED: [Case; 9] = [
     Case {
         name: "held-group",
         words: &["lpmtool", "report", "--groups", "1", "r", "u"],
-        files: &[("r", b""), ("u", b"lpm-updates 2\nonline 0\nadd 10.0.0.0/25 1\ndel 10.0.0.0/25\nadd 10.0.1.0/25 2\nquiescent 0\nadd 10.0.1.0/25 2\n")],
+        files: &[
+            ("r", b""),
+            (
+                "u",
+                b"lpm-updates 2\nonline 0\nadd 10.0.0.0/25 1\ndel 10.0.0.0/25\nadd 10.0.1.0/25 2\nquiescent 0\nadd 10.0.1.0/25 2\n",
+            ),
+        ],
         status: 0,
         out: "rules 1\nversions 3\nin use 1\nlimbo 0\nfree 0\ntoken 2\n",
         err: "",
@@ -132,15 +228,38 @@ const REPORTED: [Case; 9] = [
     Case {
         name: "outcomes",
         words: &["lpmtool", "report", "r", "u"],
-        files: &[("r", b""), ("u", b"lpm-updates 2\nadd 10.0.0.0/8 1\nadd 10.0.0.0/8 1\nadd 10.0.0.0/8 2\ndel 10.0.0.0/8\ndel 10.0.0.0/8\n")],
+        files: &[
+            ("r", b""),
+            (
+                "u",
+                b"lpm-updates 2\nadd 10.0.0.0/8 1\nadd 10.0.0.0/8 1\nadd 10.0.0.0/8 2\ndel 10.0.0.0/8\ndel 10.0.0.0/8\n",
+            ),
+        ],
         status: 0,
         out: "rules 0\nversions 3\nin use 0\nlimbo 0\nfree 256\ntoken 1\n",
         err: "",
     },
     Case {
         name: "threshold-zero",
-        words: &["lpmtool", "report", "--groups", "4", "--threshold", "0", "--workers", "0", "r", "u"],
-        files: &[("r", b""), ("u", b"lpm-updates 2\nadd 10.0.0.0/25 1\nadd 10.0.1.0/25 2\ndel 10.0.0.0/25\ndel 10.0.1.0/25\n")],
+        words: &[
+            "lpmtool",
+            "report",
+            "--groups",
+            "4",
+            "--threshold",
+            "0",
+            "--workers",
+            "0",
+            "r",
+            "u",
+        ],
+        files: &[
+            ("r", b""),
+            (
+                "u",
+                b"lpm-updates 2\nadd 10.0.0.0/25 1\nadd 10.0.1.0/25 2\ndel 10.0.0.0/25\ndel 10.0.1.0/25\n",
+            ),
+        ],
         status: 0,
         out: "rules 0\nversions 4\nin use 0\nlimbo 1\nfree 3\ntoken 3\n",
         err: "",
@@ -148,15 +267,33 @@ const REPORTED: [Case; 9] = [
     Case {
         name: "flush-report",
         words: &["lpmtool", "report", "r", "u"],
-        files: &[("r", b"10.0.0.0/8 1\n10.1.0.0/16 2\n10.1.1.128/25 3\n"), ("u", b"lpm-updates 2\nflush\n")],
+        files: &[
+            ("r", b"10.0.0.0/8 1\n10.1.0.0/16 2\n10.1.1.128/25 3\n"),
+            ("u", b"lpm-updates 2\nflush\n"),
+        ],
         status: 0,
         out: "rules 0\nversions 4\nin use 0\nlimbo 1\nfree 255\ntoken 2\n",
         err: "",
     },
     Case {
         name: "flush-three-groups",
-        words: &["lpmtool", "report", "--groups", "3", "--threshold", "0", "r", "u"],
-        files: &[("r", b""), ("u", b"lpm-updates 2\nadd 10.0.0.0/25 1\nadd 10.0.1.0/25 2\nadd 10.0.2.0/25 3\nflush\n")],
+        words: &[
+            "lpmtool",
+            "report",
+            "--groups",
+            "3",
+            "--threshold",
+            "0",
+            "r",
+            "u",
+        ],
+        files: &[
+            ("r", b""),
+            (
+                "u",
+                b"lpm-updates 2\nadd 10.0.0.0/25 1\nadd 10.0.1.0/25 2\nadd 10.0.2.0/25 3\nflush\n",
+            ),
+        ],
         status: 0,
         out: "rules 0\nversions 4\nin use 0\nlimbo 1\nfree 2\ntoken 4\n",
         err: "",
@@ -164,7 +301,10 @@ const REPORTED: [Case; 9] = [
     Case {
         name: "three-routes",
         words: &["lpmtool", "report", "r", "u"],
-        files: &[("r", b"10.0.0.0/8 1\n10.1.0.0/16 2\n10.1.1.128/25 3\n"), ("u", b"lpm-updates 2\n")],
+        files: &[
+            ("r", b"10.0.0.0/8 1\n10.1.0.0/16 2\n10.1.1.128/25 3\n"),
+            ("u", b"lpm-updates 2\n"),
+        ],
         status: 0,
         out: "rules 3\nversions 3\nin use 1\nlimbo 0\nfree 255\ntoken 1\n",
         err: "",
@@ -176,7 +316,11 @@ const FAULTY: [Case; 16] = [
     Case {
         name: "wrong-fields",
         words: &["lpmtool", "apply", "r", "u", "a"],
-        files: &[("r", b""), ("u", b"lpm-updates 2\nadd 10.0.0.0/8\n"), ("a", b"")],
+        files: &[
+            ("r", b""),
+            ("u", b"lpm-updates 2\nadd 10.0.0.0/8\n"),
+            ("a", b""),
+        ],
         status: 4,
         out: "",
         err: "lpmtool: u:2: bad fields\n",
@@ -192,7 +336,11 @@ const FAULTY: [Case; 16] = [
     Case {
         name: "wrong-word",
         words: &["lpmtool", "apply", "r", "u", "a"],
-        files: &[("r", b""), ("u", b"lpm-updates 2\nput 10.0.0.0/8 1\n"), ("a", b"")],
+        files: &[
+            ("r", b""),
+            ("u", b"lpm-updates 2\nput 10.0.0.0/8 1\n"),
+            ("a", b""),
+        ],
         status: 4,
         out: "",
         err: "lpmtool: u:2: bad word\n",
@@ -200,7 +348,11 @@ const FAULTY: [Case; 16] = [
     Case {
         name: "wrong-length",
         words: &["lpmtool", "apply", "r", "u", "a"],
-        files: &[("r", b""), ("u", b"lpm-updates 2\nadd 10.0.0.0 1\n"), ("a", b"")],
+        files: &[
+            ("r", b""),
+            ("u", b"lpm-updates 2\nadd 10.0.0.0 1\n"),
+            ("a", b""),
+        ],
         status: 4,
         out: "",
         err: "lpmtool: u:2: bad length\n",
@@ -208,7 +360,11 @@ const FAULTY: [Case; 16] = [
     Case {
         name: "wrong-length",
         words: &["lpmtool", "apply", "r", "u", "a"],
-        files: &[("r", b""), ("u", b"lpm-updates 2\ndel 10.0.0.0/8/9\n"), ("a", b"")],
+        files: &[
+            ("r", b""),
+            ("u", b"lpm-updates 2\ndel 10.0.0.0/8/9\n"),
+            ("a", b""),
+        ],
         status: 4,
         out: "",
         err: "lpmtool: u:2: bad length\n",
@@ -216,7 +372,11 @@ const FAULTY: [Case; 16] = [
     Case {
         name: "wrong-address",
         words: &["lpmtool", "apply", "r", "u", "a"],
-        files: &[("r", b""), ("u", b"lpm-updates 2\nadd 10.0.0/8 70000000\n"), ("a", b"")],
+        files: &[
+            ("r", b""),
+            ("u", b"lpm-updates 2\nadd 10.0.0/8 70000000\n"),
+            ("a", b""),
+        ],
         status: 4,
         out: "",
         err: "lpmtool: u:2: bad address\n",
@@ -280,7 +440,11 @@ const FAULTY: [Case; 16] = [
     Case {
         name: "addresses before a refusal",
         words: &["lpmtool", "apply", "--rules", "1", "r", "u", "a"],
-        files: &[("r", b"10.0.0.0/8 1\n10.1.0.0/16 2\n"), ("u", b"lpm-updates 2\n"), ("a", b"y\n")],
+        files: &[
+            ("r", b"10.0.0.0/8 1\n10.1.0.0/16 2\n"),
+            ("u", b"lpm-updates 2\n"),
+            ("a", b"y\n"),
+        ],
         status: 4,
         out: "",
         err: "lpmtool: a:1: bad address\n",
@@ -288,7 +452,11 @@ const FAULTY: [Case; 16] = [
     Case {
         name: "a refused route",
         words: &["lpmtool", "apply", "--rules", "1", "r", "u", "a"],
-        files: &[("r", b"10.0.0.0/8 1\n10.1.0.0/16 2\n"), ("u", b"lpm-updates 2\n"), ("a", b"")],
+        files: &[
+            ("r", b"10.0.0.0/8 1\n10.1.0.0/16 2\n"),
+            ("u", b"lpm-updates 2\n"),
+            ("a", b""),
+        ],
         status: 6,
         out: "",
         err: "lpmtool: r:2: refused 3 TooManyRules\n",
