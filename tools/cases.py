@@ -1,8 +1,9 @@
 """The runs of lpmtool that tools/try_program.py compares whole: status, standard output and standard error.
 
-A row is a name, the words, the files by name, and what is wanted: `status` (0), `out` and `err` (nothing). With
-`full=True` standard output is /dev/full, where each write fails. A text in `Has` need only occur. Wanted texts come
-from docs/FORMATS.md and from worked cases, never from a run.
+A row is a name, the words, the files by name, and what is wanted: `status` (0), `out` and `err` (nothing). `stdin` is
+what stands on standard input (nothing). With `full=True` standard output is /dev/full, where each write fails. With
+`refusing=False` the case runs only as it is: another row takes memory in the same way. A text in `Has` need only
+occur. Wanted texts come from docs/FORMATS.md and from worked cases, never from a run.
 """
 from collections import namedtuple
 
@@ -11,16 +12,44 @@ class Has(str):
     """A text that has to occur in what was written, where the rest is the parser's own."""
 
 
-Case = namedtuple("Case", "name words files status out err full")
+Case = namedtuple("Case", "name words files status out err stdin full refusing")
 
 
-def case(name, words, files=None, status=0, out="", err="", full=False):
-    return Case(name, words if isinstance(words, list) else words.split(), files or {}, status, out, err, full)
+def case(name, words, files=None, status=0, out="", err="", stdin="", full=False, refusing=True):
+    words = words if isinstance(words, list) else words.split()
+    return Case(name, words, files or {}, status, out, err, stdin, full, refusing)
 
 
-def fault(name, text, where):
+def fault(name, text, where, **more):
     """A `lookup` that a faulty route file ends."""
-    return case(name, "lookup r a", {"r": text, "a": ""}, 4, "", f"lpmtool: r:{where}\n")
+    return case(name, "lookup r a", {"r": text, "a": ""}, 4, "", f"lpmtool: r:{where}\n", **more)
+
+
+def applied(name, words, lines, out, routes="", addresses=""):
+    """An `apply` of these update lines."""
+    files = {"r": routes, "u": UPDATES + lines, "a": addresses}
+    return case(name, f"apply {words} r u a", files, out=out)
+
+
+def reported(name, words, lines, numbers, routes=""):
+    """A `report` after these update lines: rules, versions, groups in use, in limbo and free, and the token."""
+    labels = ("rules", "versions", "in use", "limbo", "free", "token")
+    out = "".join(f"{label} {number}\n" for label, number in zip(labels, numbers))
+    return case(name, f"report {words} r u", {"r": routes, "u": UPDATES + lines}, out=out)
+
+
+def update_fault(name, text, where, **more):
+    """A `report` that an update file ends, which is given whole."""
+    return case(name, "report r u", {"r": "", "u": text}, 4, err=f"lpmtool: u:{where}\n", **more)
+
+
+def line_fault(name, line, kind):
+    """A `report` that the first line after the header ends."""
+    return update_fault(name, f"{UPDATES}{line}\n", f"2: bad {kind}", refusing=False)
+
+
+def migrated(name, old, out="", **more):
+    return case(name, "migrate old", {"old": old}, out=out, **more)
 
 
 RT = "10.0.0.0/8 1\n10.1.0.0/16 2\n10.1.1.128/25 3\n"
@@ -28,6 +57,16 @@ FIVE = "10.1.1.127\n10.1.1.128\n10.2.0.0\n11.0.0.0\n10.1.1.255\n"
 FIVE_ANSWERS = "10.1.1.127 2\n10.1.1.128 3\n10.2.0.0 1\n11.0.0.0 -\n10.1.1.255 3\n"
 TWO_SHORT = "10.0.0.0/8 1\n10.1.0.0/16 2\n"
 TWO_BLOCKS = "10.0.0.0/25 1\n10.0.1.0/25 2\n"
+UPDATES = "lpm-updates 2\n"
+HELD = "online 0\nadd 10.0.0.0/25 1\ndel 10.0.0.0/25\nadd 10.0.1.0/25 2\nquiescent 0\nadd 10.0.1.0/25 2\n"
+HELD_OUT = "ok\nadded\ndeleted 1\nrefused 7 NoGroups worker 0 counter 1\nok\nadded\n"
+OUTCOMES = "add 10.0.0.0/8 1\nadd 10.0.0.0/8 1\nadd 10.0.0.0/8 2\ndel 10.0.0.0/8\ndel 10.0.0.0/8\n"
+WORKERS = "online 1\nquiescent 0\nonline 0\nonline 0\noffline 0\n"
+WORKERS_OUT = "refused 10 NoSuchWorker\nrefused 13 NotOnline\nok\nrefused 14 AlreadyOnline\nok\n"
+PIECES = "online 2\ndel 10.1.1.128/25\nreclaim 16\n"
+PIECES_OUT = "ok\ndeleted 3\nreclaimed 0 stopped worker 2 counter 1\n"
+FOUR_CHANGES = "add 10.0.0.0/25 1\nadd 10.0.1.0/25 2\ndel 10.0.0.0/25\ndel 10.0.1.0/25\n"
+TWO_INPUTS = "lpmtool: only one file can be `-`, standard input\n"
 NO_ADDRESSES = """error: the following required arguments were not provided:
   <ADDRESSES>
 
@@ -47,13 +86,31 @@ For more information, try '--help'.
 """
 
 CASES = [
-    # Done, or help was asked for.
+    # Done, or help or the version was asked for.
     case("five-addresses", "lookup r a", {"r": RT, "a": FIVE}, out=FIVE_ANSWERS),
+    case("five-addresses-3", "lookup --workers 3 r a", {"r": RT, "a": FIVE}, out=FIVE_ANSWERS),
     case("empty-table", "lookup r a", {"r": "", "a": "1.2.3.4"}, out="1.2.3.4 -\n"),
     case("line-ends", "lookup r a", {"r": "# c\r\n10.0.0.0/8 1\r\n", "a": "10.0.0.0\r\n"}, out="10.0.0.0 1\n"),
     case("no-line-end", "lookup r a", {"r": "10.0.0.0/8 1", "a": "10.0.0.0"}, out="10.0.0.0 1\n"),
+    case("standard-input", "lookup - a", {"a": FIVE}, out=FIVE_ANSWERS, stdin=RT),
+    case("file-named-dash", "lookup ./- a", {"-": RT, "a": FIVE}, out=FIVE_ANSWERS, stdin="x", refusing=False),
     case("help", "--help", out=Has("\nUsage: lpmtool <COMMAND>\n")),
     case("lookup-help", "lookup --help", out=Has("\nUsage: lpmtool lookup [OPTIONS] <ROUTES> <ADDRESSES>\n")),
+    case("version", "--version", out="lpmtool 2.0.0\n"),
+    # Updates. A refused update stops nothing, and the status is 0.
+    applied("delete-then-reclaim", "", "del 10.1.1.128/25\n", "deleted 3\n10.1.1.128 2\n", RT, "10.1.1.128"),
+    applied("outcomes", "", OUTCOMES, "added\nunchanged\nreplaced\ndeleted 2\nrefused 4 NoSuchRule\n"),
+    applied("held-group-outcomes", "--groups 1", HELD, HELD_OUT),
+    applied("refused-reports", "", WORKERS, WORKERS_OUT),
+    applied("updates-3", "--workers 3", PIECES, PIECES_OUT + FIVE_ANSWERS.replace(" 3", " 2"), RT, FIVE),
+    case("updates-from-standard-input", "apply r - a", {"r": RT, "a": ""}, out="deleted 1\n",
+         stdin=UPDATES + "del 10.0.0.0/8\n", refusing=False),
+    reported("held-group", "--groups 1", HELD, (1, 3, 1, 0, 0, 2)),
+    reported("flush-report", "", "flush\n", (0, 4, 0, 1, 255, 2), RT),
+    reported("threshold-zero", "--groups 4 --threshold 0 --workers 0", FOUR_CHANGES, (0, 4, 0, 1, 3, 3)),
+    # Migration.
+    migrated("migrate", "# nightly\nadd   10.1.2.3/8   5\nflush\n", "lpm-updates 2\nadd 10.0.0.0/8 5\nflush\n"),
+    migrated("migrate-edges-empty", "", "lpm-updates 2\n"),
     # The words aren't accepted.
     case("no-command", "", status=2, err=Has("error: 'lpmtool' requires a subcommand but one was not provided\n")),
     case("other-command", "serve r a", status=2, err=NO_SUCH_COMMAND),
@@ -61,83 +118,32 @@ CASES = [
     case("three-files", "lookup r a b", status=2, err=Has("error: unexpected argument 'b' found\n")),
     case("rules-0", "lookup --rules 0 r a", status=2, err=ZERO_RULES),
     case("not-utf-8", ["lookup", b"\xff", "a"], status=2, err="lpmtool: a word of the command line isn't UTF-8\n"),
+    case("two-standard-inputs", "lookup - -", status=2, err=TWO_INPUTS, stdin=RT),
+    case("two-standard-inputs-apply", "apply r - -", {"r": RT}, 2, err=TWO_INPUTS, refusing=False),
     # A file can't be read, or the output can't be written.
     case("no-route-file", "lookup r a", {"a": "1.2.3.4"}, 3, err="lpmtool: cannot read r\n"),
     case("no-address-file", "lookup r a", {"r": RT}, 3, err="lpmtool: cannot read a\n"),
     case("no-files", "lookup r a", status=3, err="lpmtool: cannot read r\n"),
     case("folder", "lookup . a", {"a": "1.2.3.4"}, 3, err="lpmtool: cannot read .\n"),
+    case("no-update-file", "apply r u a", {"r": RT}, 3, err="lpmtool: cannot read u\n"),
+    case("migrate-no-file", "migrate old", status=3, err="lpmtool: cannot read old\n"),
     case("full", "lookup r a", {"r": RT, "a": FIVE}, 3, err="lpmtool: cannot write\n", full=True),
     case("help-full", "--help", status=3, err="lpmtool: cannot write\n", full=True),
     # A file has a fault.
     fault("bad-route-lines-hop", "10.0.0.0/8 16777216", "1: bad hop"),
-    fault("bad-route-lines-length", "10.0.0.0/33 1", "1: bad length"),
-    fault("bad-route-lines-octet", "10.0.256.0/24 1", "1: bad address"),
-    fault("bad-route-lines-zero", "10.01.0.0/16 1", "1: bad address"),
-    fault("default-route-faults-00", "0.0.0.0/00 1", "1: bad length"),
-    fault("default-route-faults-33", "0.0.0.0/33 1", "1: bad length"),
+    fault("bad-route-lines-length", "10.0.0.0/33 1", "1: bad length", refusing=False),
+    fault("bad-route-lines-octet", "10.0.256.0/24 1", "1: bad address", refusing=False),
+    fault("bad-route-lines-zero", "10.01.0.0/16 1", "1: bad address", refusing=False),
+    fault("default-route-faults-00", "0.0.0.0/00 1", "1: bad length", refusing=False),
+    fault("default-route-faults-33", "0.0.0.0/33 1", "1: bad length", refusing=False),
     fault("cut-line", "10.0.0.0/8 1\n10.1.0.0/16", "2: bad fields"),
-    fault("skipped-lines-count", "# c\r\n\n10.0.0.0/8 x\n", "3: bad hop"),
+    fault("skipped-lines-count", "# c\n\n10.0.0.0/8 x\n", "3: bad hop", refusing=False),
+    case("bad-standard-input", "lookup - a", {"a": ""}, 4, err="lpmtool: -:2: bad fields\n", stdin="\n10.0.0.0/8\n"),
     case("bad-address", "lookup r a", {"r": RT, "a": "1.2.3.4\n1.2.3\n"}, 4, err="lpmtool: a:2: bad address\n"),
     case("first-file-first", "lookup r a", {"r": "x", "a": "x"}, 4, err="lpmtool: r:1: bad fields\n"),
     case("fault-before-refusal", "lookup --rules 1 r a", {"r": TWO_SHORT, "a": "x"}, 4,
          err="lpmtool: a:1: bad address\n"),
-    # A route is refused.
-    case("one-rule-load", "lookup --rules 1 r a", {"r": TWO_SHORT, "a": "10.0.0.0"}, 6,
-         err="lpmtool: r:2: refused 3 TooManyRules\n"),
-    case("one-group-load", "lookup --groups 1 r a", {"r": TWO_BLOCKS, "a": "10.0.0.0"}, 6,
-         err="lpmtool: r:2: refused 7 NoGroups\n"),
-]
-
-# Rows of what is to come. `tools/try_program.py --later` runs them too; they move up with their command or option.
-
-
-def applied(name, words, lines, out, routes="", addresses=""):
-    """An `apply` of these update lines."""
-    files = {"r": routes, "u": "lpm-updates 2\n" + lines, "a": addresses}
-    return case(name, f"apply {words} r u a", files, out=out)
-
-
-def reported(name, words, lines, numbers, routes=""):
-    """A `report` after these update lines: rules, versions, groups in use, in limbo and free, and the token."""
-    labels = ("rules", "versions", "in use", "limbo", "free", "token")
-    out = "".join(f"{label} {number}\n" for label, number in zip(labels, numbers))
-    return case(name, f"report {words} r u", {"r": routes, "u": "lpm-updates 2\n" + lines}, out=out)
-
-
-def update_fault(name, text, where):
-    """A `report` that an update file ends, which is given whole."""
-    return case(name, "report r u", {"r": "", "u": text}, 4, err=f"lpmtool: u:{where}\n")
-
-
-def line_fault(name, line, kind):
-    return update_fault(name, f"lpm-updates 2\n{line}\n", f"2: bad {kind}")
-
-
-def migrated(name, old, out="", **more):
-    return case(name, "migrate old", {"old": old}, out=out, **more)
-
-
-HELD = "online 0\nadd 10.0.0.0/25 1\ndel 10.0.0.0/25\nadd 10.0.1.0/25 2\nquiescent 0\nadd 10.0.1.0/25 2\n"
-HELD_OUT = "ok\nadded\ndeleted 1\nrefused 7 NoGroups worker 0 counter 1\nok\nadded\n"
-OUTCOMES = "add 10.0.0.0/8 1\nadd 10.0.0.0/8 1\nadd 10.0.0.0/8 2\ndel 10.0.0.0/8\ndel 10.0.0.0/8\n"
-WORKERS = "online 1\nquiescent 0\nonline 0\nonline 0\noffline 0\n"
-WORKERS_OUT = "refused 10 NoSuchWorker\nrefused 13 NotOnline\nok\nrefused 14 AlreadyOnline\nok\n"
-
-LATER = [
-    # Workers.
-    case("five-addresses-3", "lookup --workers 3 r a", {"r": RT, "a": FIVE}, out=FIVE_ANSWERS),
-    case("no-workers", "lookup --workers 0 r a", {"r": RT, "a": FIVE}, 6, err="lpmtool: refused 8 NoWorkers\n"),
     case("no-workers-fault", "lookup --workers 0 r a", {"r": RT, "a": "x"}, 4, err="lpmtool: a:1: bad address\n"),
-    case("no-workers-refusal", "lookup --workers 0 --rules 1 r a", {"r": TWO_SHORT, "a": ""}, 6,
-         err="lpmtool: r:2: refused 3 TooManyRules\n"),
-    # Updates. A refused update stops nothing, and the status is 0.
-    applied("delete-then-reclaim", "", "del 10.1.1.128/25\n", "deleted 3\n10.1.1.128 2\n", RT, "10.1.1.128"),
-    applied("outcomes", "", OUTCOMES, "added\nunchanged\nreplaced\ndeleted 2\nrefused 4 NoSuchRule\n"),
-    applied("held-group-outcomes", "--groups 1", HELD, HELD_OUT),
-    applied("refused-reports", "", WORKERS, WORKERS_OUT),
-    reported("held-group", "--groups 1", HELD, (1, 3, 1, 0, 0, 2)),
-    reported("flush-report", "", "flush\n", (0, 4, 0, 1, 255, 2), RT),
-    case("no-update-file", "apply r u a", {"r": RT}, 3, err="lpmtool: cannot read u\n"),
     # Faults of update files, whose lines are counted with the header.
     line_fault("wrong-fields-add", "add 10.0.0.0/8", "fields"),
     line_fault("wrong-fields-flush", "flush now", "fields"),
@@ -148,13 +154,22 @@ LATER = [
     line_fault("wrong-count", "reclaim 65537", "count"),
     line_fault("wrong-worker", "online 4294967296", "worker"),
     update_fault("bad-headers-empty", "", "1: bad header"),
-    update_fault("bad-headers-blank-before", " lpm-updates 2", "1: bad header"),
-    update_fault("bad-headers-blank-after", "lpm-updates 2 ", "1: bad header"),
-    update_fault("bad-headers-comment", "# x\nlpm-updates 2", "1: bad header"),
+    update_fault("bad-headers-blank-before", " lpm-updates 2", "1: bad header", refusing=False),
+    update_fault("bad-headers-blank-after", "lpm-updates 2 ", "1: bad header", refusing=False),
+    update_fault("bad-headers-comment", "# x\nlpm-updates 2", "1: bad header", refusing=False),
     update_fault("word-after-header", "lpm-updates 2\r\nput\n", "2: bad word"),
-    # Migration.
-    migrated("migrate", "# nightly\nadd   10.1.2.3/8   5\nflush\n", "lpm-updates 2\nadd 10.0.0.0/8 5\nflush\n"),
-    migrated("migrate-edges-empty", "", "lpm-updates 2\n"),
+    case("apply-bad-updates", "apply r u a", {"r": RT, "u": "flush\n", "a": "x"}, 4, err="lpmtool: u:1: bad header\n"),
     migrated("migrate-edges-header", "lpm-updates 2\n", status=4, err="lpmtool: old:1: bad word\n"),
-    case("migrate-no-file", "migrate old", status=3, err="lpmtool: cannot read old\n"),
+    # A route is refused, or there is no worker to answer.
+    case("one-rule-load", "lookup --rules 1 r a", {"r": TWO_SHORT, "a": "10.0.0.0"}, 6,
+         err="lpmtool: r:2: refused 3 TooManyRules\n"),
+    case("one-group-load", "lookup --groups 1 r a", {"r": TWO_BLOCKS, "a": "10.0.0.0"}, 6,
+         err="lpmtool: r:2: refused 7 NoGroups\n"),
+    case("one-rule-report", "report --rules 1 r u", {"r": TWO_SHORT, "u": UPDATES}, 6,
+         err="lpmtool: r:2: refused 3 TooManyRules\n"),
+    case("no-workers", "lookup --workers 0 r a", {"r": RT, "a": FIVE}, 6, err="lpmtool: refused 8 NoWorkers\n"),
+    case("no-workers-refusal", "lookup --workers 0 --rules 1 r a", {"r": TWO_SHORT, "a": ""}, 6,
+         err="lpmtool: r:2: refused 3 TooManyRules\n"),
+    case("no-workers-apply", "apply --workers 0 r u a", {"r": RT, "u": UPDATES + "flush\n", "a": ""}, 6,
+         err="lpmtool: refused 8 NoWorkers\n"),
 ]

@@ -2,10 +2,10 @@
 """Runs the built lpmtool on the cases of tools/cases.py, as they are and with each allocation refused in turn.
 
 Of each run the exit status is compared, and the whole of standard output and standard error. A case runs once as it
-is. Then its first allocation is refused, then its second, until a run ends without a refusal. Each of these runs has
-to end as the case wants, or with status 5, nothing on standard output and `lpmtool: out of memory` on standard error.
-The last one has to end as the case wants, and at least one with status 5. The start of a thread is refused as an
-allocation is.
+is. Then its first allocation is refused, then its second, until a run ends without a refusal; cases that take memory
+as another one does are left out here. Each of these runs has to end as the case wants, or with status 5, nothing on
+standard output and `lpmtool: out of memory` on standard error. The last one has to end as the case wants, and at least
+one with status 5. The start of a thread is refused as an allocation is.
 
 What runs are the programs that `rt ci` leaves behind, built by LLVM and by Rattle's own compiler from what it proved.
 They are the real ones, they run in hundredths of a second, and nothing is built again. `rt try --fail-alloc N` takes a
@@ -24,7 +24,7 @@ import tempfile
 from concurrent.futures import ThreadPoolExecutor
 
 sys.dont_write_bytecode = True
-from cases import CASES, LATER, Has
+from cases import CASES, Has
 
 HERE = pathlib.Path(__file__).resolve().parent
 PROGRAM = HERE.parent / "crates/lpmtool/out/lpmtool"
@@ -45,7 +45,7 @@ def run(program, case, refuser=None, at=0):
             with open("/dev/full", "wb") as full:
                 # (the program's name in the parser's texts is that of word 0)
                 ran = subprocess.run(["lpmtool", *case.words], executable=program, cwd=folder, env=refusing,
-                                     stdin=subprocess.DEVNULL, stdout=full if case.full else subprocess.PIPE,
+                                     input=case.stdin.encode(), stdout=full if case.full else subprocess.PIPE,
                                      stderr=subprocess.PIPE, pass_fds=[told], timeout=SECONDS)
         finally:
             os.close(told)
@@ -62,10 +62,15 @@ def is_wanted(case, got):
 
 
 def try_case(program, case, refuser):
-    """Runs the case as it is, and with each allocation refused; returns whether all is well, and what to say."""
+    """Runs the case as it is, and with each allocation refused if it asks for that.
+
+    Returns whether all is well, and what to say.
+    """
     got, _ = run(program, case)
     if not is_wanted(case, got):
         return False, f"got {got}, wanted {(case.status, case.out, case.err)}"
+    if not case.refusing:
+        return True, "as wanted"
     times_out = 0
     for at in range(1, MOST + 1):
         got, was_refused = run(program, case, refuser, at)
@@ -89,12 +94,11 @@ def build_refuser(folder):
 def main():
     asked = argparse.ArgumentParser(description=__doc__, formatter_class=argparse.RawDescriptionHelpFormatter)
     asked.add_argument("names", nargs="*", metavar="CASE", help="only the cases of these names")
-    asked.add_argument("--later", action="store_true", help="also the cases of commands and options that are to come")
     asked.add_argument("--passed", type=int, default=0, metavar="N",
                        help="what the last line, `N passed, M failed`, counts as passed already")
     asked = asked.parse_args()
     passed, failed = asked.passed, 0
-    cases = [it for it in CASES + LATER * asked.later if not asked.names or it.name in asked.names]
+    cases = [it for it in CASES if not asked.names or it.name in asked.names]
     # (rt ci builds by Rattle's own compiler where that can; the build by LLVM has to be there)
     builds = {name: path for name, path in BUILDS.items() if path == PROGRAM or path.exists()}
     with tempfile.TemporaryDirectory(prefix="try-program-") as folder, ThreadPoolExecutor(os.cpu_count()) as pool:

@@ -1,4 +1,4 @@
--- This layer's own: the text of a report, one line for each number.
+-- Meaning: the text of a report (this project's report: one line for each number).
 use Rattle.std.specs.Prelude.{ℕ, List, ◌++◌, codes, decimal}
 use Rattle.audit.specs.declared.report.Report.{Report}
 
