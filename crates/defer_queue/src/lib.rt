@@ -176,6 +176,3 @@ impl DeferQueue {
         }
     }
 }
-
-#[cfg(test)]
-mod tests;

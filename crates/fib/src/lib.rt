@@ -10,8 +10,6 @@ mod open_error;
 mod pool;
 mod replay;
 mod running;
-#[cfg(test)]
-mod tests;
 
 pub use fib::Fib;
 use keeper::Keeper;

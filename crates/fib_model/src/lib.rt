@@ -9,6 +9,3 @@ pub mod laws;
 
 pub use command::{Command, Outcome, Report};
 pub use event::Event;
-
-#[cfg(test)]
-mod tests;

@@ -11,6 +11,3 @@ mod waiting;
 
 pub use outcomes::expected;
 pub use plain::Account;
-
-#[cfg(test)]
-mod tests;

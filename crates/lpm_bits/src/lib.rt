@@ -178,6 +178,3 @@ impl Hop {
         self.number
     }
 }
-
-#[cfg(test)]
-mod tests;

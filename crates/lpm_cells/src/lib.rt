@@ -5,8 +5,6 @@
 #![tactic(auto)]
 
 mod plain;
-#[cfg(test)]
-mod tests;
 
 ghost use Rattle.std.specs.Prelude.{◌≡◌, ℕ, ◌<◌, length, slice_index};
 ghost use Rattle.lpm_cells.specs.Table.{Words, with_first, with_second};

@@ -128,6 +128,3 @@ impl Entry {
         }
     }
 }
-
-#[cfg(test)]
-mod tests;

@@ -172,6 +172,3 @@ impl Groups {
         self.limbo -= 1;
     }
 }
-
-#[cfg(test)]
-mod tests;

@@ -8,6 +8,3 @@ mod refusal;
 pub use busy::Busy;
 pub use config::{BadConfig, Config, Range};
 pub use refusal::Refusal;
-
-#[cfg(test)]
-mod tests;

@@ -394,6 +394,3 @@ impl<const FIRST: u32, const SECOND: u32> Rules<FIRST, SECOND> {
         Some(Rule { prefix, hop })
     }
 }
-
-#[cfg(test)]
-mod tests;

@@ -16,6 +16,7 @@ pub use Rattle.lpm_update.proofs.Blank.{blank}
 pub use Rattle.lpm_update.proofs.DeepCounts.{linked_deep}
 pub use Rattle.lpm_update.proofs.Groups.{no_group_at}
 pub use Rattle.lpm_update.proofs.Ties.{tied_same, tied_gone, tied_taken}
+pub use Rattle.lpm_update.proofs.Visits.{past_group}
 
 -- cells that allow each word that a table may hold at its place allow the next store
 pub plain_allows : (f s : ℕ) (u : Plan) (W : Words) → IsTable f s W → IsUnderWay f s u W

@@ -6,8 +6,6 @@ pub mod laws;
 mod link_group;
 mod rewrite;
 mod rewrite_range;
-#[cfg(test)]
-mod tests;
 mod unlink_group;
 mod update;
 

@@ -171,6 +171,3 @@ pub fn none_holds_where_passed()
 pub fn one_worker_is_first()
     ensures { OneIsFirst }
 {}
-
-#[cfg(test)]
-mod tests;

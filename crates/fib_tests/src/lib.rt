@@ -1,0 +1,8 @@
+//! The tests of `fib`, and of the definitions and the slow program that it is compared with. They
+//! call what is public alone, so they stand here: a crate with a test is proved twice.
+#![tactic(auto)]
+
+#[cfg(test)]
+mod laws;
+#[cfg(test)]
+mod table;

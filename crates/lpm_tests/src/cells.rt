@@ -1,0 +1,51 @@
+ghost use Rattle.std.specs.Prelude.{◌<◌, length};
+
+use lpm_bits::Hop;
+use lpm_cells::{Cells, PlainCells};
+use lpm_entry::Entry;
+use std::test::Fail;
+
+// Stores and loads through the trait alone.
+fn link<C: Cells>(cells: &mut C, i: usize, word: u64) -> u64
+    requires in_range { i < length (C.words cells.old).firsts }
+    requires allowed { C.may_set_first cells.old i word }
+    ensures { C.sets_first cells.old i word cells.new }
+{
+    let old = cells.first(i);
+    cells.set_first(i, word);
+    old
+}
+
+fn fill<C: Cells>(cells: &mut C, i: usize, word: u64) -> u64
+    requires in_range { i < length (C.words cells.old).seconds }
+    requires allowed { C.may_set_second cells.old i word }
+    ensures { C.sets_second cells.old i word cells.new }
+{
+    let old = cells.second(i);
+    cells.set_second(i, word);
+    old
+}
+
+#[test]
+#[tactic(auto, unfolding(lpm_entry::specs::Words::entry_in))]
+fn reads_one_word_or_two(rt: HostRuntime) -> Result<(), Fail> {
+    let mut cells = PlainCells::<4, 4>::new(rt.alloc(), 1)?;
+    assert_eq!(rt; cells.seconds(), 16);
+    for addr in 0..256u32 {
+        assert_eq!(rt; cells.read(addr), None);
+    }
+    assert_eq!(rt; fill(&mut cells, 2, 0x2100_0005), 0);
+    assert_eq!(rt; link(&mut cells, 1, 0x0300_0000), 0);
+    assert_eq!(rt; link(&mut cells, 2, 0x1100_0007), 0);
+    for addr in 0..256u32 {
+        let plainly = match addr {
+            0x12 => Hop::new(5).ok(),
+            0x20..0x30 => Hop::new(7).ok(),
+            _ => None,
+        };
+        assert_eq!(rt; cells.read(addr), plainly, "{addr}");
+    }
+    assert_eq!(rt; Entry::of_word(cells.first(1)), Entry::Group(0));
+    assert_eq!(rt; Entry::of_word(cells.second(2)).hop(), Hop::new(5).ok());
+    Ok(())
+}

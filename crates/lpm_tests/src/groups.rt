@@ -1,0 +1,109 @@
+use lpm_groups::{Counts, GroupState, Groups};
+use std::process::Abort;
+use std::test::Fail;
+
+// Moves a group on, as far as its state lets it: a linked one is retired, one in limbo released.
+fn move_on(groups: &mut Groups, group: u32) {
+    if (group as usize) < groups.len() {
+        match groups.state(group) {
+            GroupState::Free => {}
+            GroupState::Linked(_) => groups.retire(group),
+            GroupState::Limbo => groups.release(group),
+        }
+    }
+}
+
+fn assert_counts(rt: &impl Abort, groups: &Groups, in_use: usize, limbo: usize, free: usize) {
+    assert_eq!(rt;
+        groups.counts(),
+        Counts {
+            in_use,
+            limbo,
+            free
+        }
+    );
+    assert_eq!(rt; groups.is_any_free(), free > 0);
+}
+
+#[test]
+fn one_group_through_its_states(rt: HostRuntime) -> Result<(), Fail> {
+    let mut groups = Groups::new(rt.alloc(), 1)?;
+    assert_eq!(rt; groups.len(), 1);
+    assert!(rt; !groups.is_empty());
+    assert_eq!(rt; groups.state(0), GroupState::Free);
+    assert_counts(&rt, &groups, 0, 0, 1);
+
+    assert_eq!(rt; groups.take_least(7), Some(0));
+    assert_counts(&rt, &groups, 1, 0, 0);
+    assert_eq!(rt; groups.take_least(8), None);
+    assert_counts(&rt, &groups, 1, 0, 0);
+
+    move_on(&mut groups, 0);
+    assert_counts(&rt, &groups, 0, 1, 0);
+    assert_eq!(rt; groups.take_least(9), None);
+    move_on(&mut groups, 0);
+    assert_counts(&rt, &groups, 0, 0, 1);
+    assert_eq!(rt; groups.take_least(10), Some(0));
+    Ok(())
+}
+
+#[test]
+fn no_group_at_all(rt: HostRuntime) -> Result<(), Fail> {
+    let mut groups = Groups::new(rt.alloc(), 0)?;
+    assert_eq!(rt; groups.len(), 0);
+    assert!(rt; groups.is_empty());
+    assert_eq!(rt; groups.take_least(0), None);
+    assert_counts(&rt, &groups, 0, 0, 0);
+    Ok(())
+}
+
+// What the model holds at a group after `move_on`.
+fn moved_on(state: GroupState) -> GroupState {
+    match state {
+        GroupState::Free | GroupState::Limbo => GroupState::Free,
+        GroupState::Linked(_) => GroupState::Limbo,
+    }
+}
+
+// Compares the whole table with the plain list of states.
+fn assert_same(rt: &impl Abort, groups: &Groups, model: &[GroupState]) {
+    for (group, state) in model.iter().enumerate() {
+        assert!(rt; group < groups.len());
+        assert_eq!(rt; groups.state(group as u32), *state, "group {group}");
+    }
+    let linked = |state: &&GroupState| matches!(state, GroupState::Linked(_));
+    let limbo = |state: &&GroupState| **state == GroupState::Limbo;
+    let free = |state: &&GroupState| **state == GroupState::Free;
+    let counts = Counts {
+        in_use: model.iter().filter(linked).count(),
+        limbo: model.iter().filter(limbo).count(),
+        free: model.iter().filter(free).count(),
+    };
+    assert_eq!(rt; groups.counts(), counts);
+}
+
+// A run of 3,000 calls over 40 groups, beside a list that each call scans from its first group.
+#[test]
+fn run_beside_a_scanned_list(rt: HostRuntime) -> Result<(), Fail> {
+    let mut groups = Groups::new(rt.alloc(), 40)?;
+    let mut model = vec![in rt.alloc(); GroupState::Free; 40usize]?;
+    let mut random: u32 = 1;
+    for call in 0..3000usize {
+        random = random.wrapping_mul(1_103_515_245).wrapping_add(12_345);
+        let group = (random >> 16) % 40;
+        if random >> 31 == 0 {
+            let least = model.iter().position(|state| *state == GroupState::Free);
+            assert_eq!(rt; groups.take_least(call).map(|group| group as usize), least);
+            if let Some(least) = least {
+                assert!(rt; least < model.len());
+                model[least] = GroupState::Linked(call);
+            }
+        } else {
+            move_on(&mut groups, group);
+            assert!(rt; (group as usize) < model.len());
+            model[group as usize] = moved_on(model[group as usize]);
+        }
+        assert_same(&rt, &groups, &model);
+    }
+    Ok(())
+}

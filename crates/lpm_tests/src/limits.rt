@@ -1,0 +1,165 @@
+use lpm_limits::{BadConfig, Busy, Config, Refusal};
+use std::alloc::AllocError;
+use std::test::Fail;
+
+const USUAL: Config = Config {
+    rules: 1_048_576,
+    groups: 256,
+    workers: 1,
+    threshold: 32,
+    reclaim_max: 16,
+    first_token: 1,
+};
+
+// A limit outside its range in each.
+const OUTSIDE: [Config; 10] = [
+    Config { rules: 0, ..USUAL },
+    Config {
+        rules: 16_777_217,
+        ..USUAL
+    },
+    Config { groups: 0, ..USUAL },
+    Config {
+        groups: 65_537,
+        ..USUAL
+    },
+    Config {
+        workers: 2_049,
+        ..USUAL
+    },
+    Config {
+        threshold: 65_537,
+        ..USUAL
+    },
+    Config {
+        reclaim_max: 0,
+        ..USUAL
+    },
+    Config {
+        reclaim_max: 65_537,
+        ..USUAL
+    },
+    Config {
+        first_token: 0,
+        ..USUAL
+    },
+    Config {
+        first_token: (1 << 62) + 1,
+        ..USUAL
+    },
+];
+
+#[test]
+fn limits_of_a_config(rt: HostRuntime) {
+    assert_eq!(rt; Config::default(), USUAL);
+    let last = Config {
+        rules: 16_777_216,
+        groups: 65_536,
+        workers: 2_048,
+        threshold: 65_536,
+        reclaim_max: 65_536,
+        first_token: 1 << 62,
+    };
+    let first = Config {
+        rules: 1,
+        groups: 1,
+        workers: 0,
+        threshold: 0,
+        reclaim_max: 1,
+        first_token: 1,
+    };
+    for config in [USUAL, first, last] {
+        assert_eq!(rt; config.check(), Ok(()));
+    }
+    for config in OUTSIDE {
+        assert_eq!(rt; config.check(), Err(BadConfig), "{config:?}");
+    }
+}
+
+// A refusal, its number and name as they are printed, and its text.
+type Shown = (Refusal, &'static str, &'static str);
+
+const HELD: Refusal = Refusal::NoGroups {
+    oldest: Some(Busy {
+        worker: 3,
+        counter: 17,
+    }),
+};
+
+const UNHELD: Refusal = Refusal::NoGroups { oldest: None };
+
+#[rattlefmt::skip]
+const REFUSALS: [Shown; 15] = [
+    (
+        Refusal::BadLength,
+        "1 BadLength",
+        "a prefix length is past the bits of an address",
+    ),
+    (
+        Refusal::BadHop,
+        "2 BadHop",
+        "a next hop is past its 24 bits",
+    ),
+    (Refusal::TooManyRules, "3 TooManyRules", "too many rules"),
+    (Refusal::NoSuchRule, "4 NoSuchRule", "no such rule"),
+    (
+        Refusal::BadConfig,
+        "5 BadConfig",
+        "a limit of the table is outside its range",
+    ),
+    (
+        Refusal::Exhausted,
+        "6 Exhausted",
+        "tokens or versions are exhausted",
+    ),
+    (UNHELD, "7 NoGroups", "no group is free"),
+    (
+        HELD,
+        "7 NoGroups",
+        "no group is free: worker 3 at counter 17",
+    ),
+    (Refusal::NoWorkers, "8 NoWorkers", "no workers"),
+    (Refusal::Memory, "9 Memory", "out of memory"),
+    (Refusal::NoSuchWorker, "10 NoSuchWorker", "no such worker"),
+    (
+        Refusal::Taken,
+        "11 Taken",
+        "the worker's pass is handed out already",
+    ),
+    (
+        Refusal::NoThread,
+        "12 NoThread",
+        "a thread couldn't be started",
+    ),
+    (Refusal::NotOnline, "13 NotOnline", "the worker is offline"),
+    (
+        Refusal::AlreadyOnline,
+        "14 AlreadyOnline",
+        "the worker is already online",
+    ),
+];
+
+#[test]
+fn numbers_names_and_texts_of_refusals(rt: HostRuntime) -> Result<(), Fail> {
+    assert_eq!(rt; Refusal::from(AllocError), Refusal::Memory);
+    for (refusal, printed, text) in REFUSALS {
+        let found = format!(in rt.alloc(); "{} {}", refusal.number(), refusal.name())?;
+        assert_eq!(rt; found.as_str(), printed);
+        let shown = format!(in rt.alloc(); "{refusal}")?;
+        assert_eq!(rt; shown.as_str(), text);
+    }
+    Ok(())
+}
+
+#[test]
+fn names_of_numbers(rt: HostRuntime) {
+    let names = [
+        (0, None),
+        (1, Some("BadLength")),
+        (14, Some("AlreadyOnline")),
+        (15, None),
+    ];
+    for (number, name) in names {
+        assert_eq!(rt; Refusal::name_of(number), name);
+    }
+}

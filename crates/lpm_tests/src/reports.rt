@@ -1,0 +1,76 @@
+use qsbr::{Busy, Domain, none_holds_where_passed, older_tokens_pass, one_worker_is_first};
+use std::test::Fail;
+
+// The worker that holds the token, by the definition: of those that are online and behind it, the
+// least.
+fn holder_plainly(counters: [u64; 3], token: u64) -> Option<usize> {
+    let mut holder = None;
+    for worker in (0..3).rev() {
+        if counters[worker] > 0 && counters[worker] < token {
+            holder = Some(worker);
+        }
+    }
+    holder
+}
+
+#[test]
+fn checks_by_the_definition(rt: HostRuntime) -> Result<(), Fail> {
+    for a in 0..5u64 {
+        for b in 0..5u64 {
+            for c in 0..5u64 {
+                let mut domain = Domain::new(rt.alloc(), 3, 4)?;
+                domain.set_counter(0, a);
+                domain.set_counter(1, b);
+                domain.set_counter(2, c);
+                for token in 0..6u64 {
+                    let holder = domain.check(token).err().map(|busy| busy.worker);
+                    let plainly = holder_plainly([a, b, c], token);
+                    assert_eq!(rt; holder, plainly, "{a} {b} {c} at {token}");
+                }
+            }
+        }
+    }
+    Ok(())
+}
+
+#[test]
+fn two_workers(rt: HostRuntime) -> Result<(), Fail> {
+    let mut domain = Domain::new(rt.alloc(), 2, 1)?;
+    assert_eq!(rt; (domain.workers(), domain.token()), (2, 1));
+    domain.online(0);
+    let first = domain.start();
+    domain.online(1);
+    let second = domain.start();
+    assert_eq!(rt; (first, second, domain.token()), (2, 3, 3));
+    assert_eq!(rt; (domain.counter(0), domain.counter(1)), (1, 2));
+
+    let zero_at_1 = Busy {
+        worker: 0,
+        counter: 1,
+    };
+    assert_eq!(rt; domain.check(first), Err(zero_at_1));
+    domain.quiescent(0);
+    assert_eq!(rt; domain.check(first), Ok(()));
+    let one_at_2 = Busy {
+        worker: 1,
+        counter: 2,
+    };
+    assert_eq!(rt; domain.check(second), Err(one_at_2));
+    domain.offline(1);
+    assert_eq!(rt; domain.check(second), Ok(()));
+    assert!(rt; domain.is_online(0) && !domain.is_online(1));
+    assert_eq!(rt; (domain.counter(0), domain.counter(1)), (3, 0));
+    Ok(())
+}
+
+#[test]
+fn no_workers_and_last_token(rt: HostRuntime) -> Result<(), Fail> {
+    let mut domain = Domain::new(rt.alloc(), 0, (1 << 62) - 1)?;
+    let token = domain.start();
+    assert_eq!(rt; token, 1 << 62);
+    assert_eq!(rt; domain.check(token), Ok(()));
+    older_tokens_pass();
+    none_holds_where_passed();
+    one_worker_is_first();
+    Ok(())
+}

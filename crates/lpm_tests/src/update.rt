@@ -1,0 +1,264 @@
+ghost use Rattle.std.specs.Prelude.{◌≡◌, ℕ, ◌<◌, IsSome, IsTrue};
+ghost use Rattle.lpm_bits.specs.Widths.{IsShape};
+ghost use Rattle.lpm_rules.specs.RuleMap.{RuleMap};
+ghost use Rattle.lpm_update.specs.Linked.{IsTable, IsLinkTo};
+ghost use Rattle.lpm_update.specs.Represents.{Represents, IsBegun, TurnsInto, AddFits, LastFits};
+
+use lpm_bits::{Hop, Prefix, Shape};
+use lpm_cells::{Cells, PlainCells};
+use lpm_rules::Rules;
+use lpm_update::{Did, Update, laws};
+use std::alloc::{AllocError, Global};
+use std::marker::Model;
+use std::process::Abort;
+use std::test::Fail;
+
+// Makes all stores of a change, and notes what each step did.
+fn record(rt: &impl Abort, made: &mut Vec<Did>, update: Update, cells: &mut PlainCells<4, 4>)
+    requires table { IsTable 4 4 cells.old }
+    requires begun { IsBegun 4 4 update cells.old }
+    ensures represents { (R R' : RuleMap) → Represents 4 4 R cells.old → TurnsInto 4 4 update R R'
+        → Represents 4 4 R' cells.new }
+{
+    let mut update = update;
+    let _words = cells.seconds();
+    made.clear();
+    loop {
+        match update.step::<4, 4, PlainCells<4, 4>>(cells) {
+            Did::Done => return,
+            did => made.push(did).expect(rt, "memory"),
+        }
+    }
+}
+
+// Whether no block has a group.
+fn is_unlinked(cells: &PlainCells<4, 4>) -> bool
+    ensures { IsTrue result → (i g : ℕ) → IsLinkTo cells.now.firsts i g → ⊥ }
+{
+    let _words = cells.seconds();
+    for block in 0..16usize {
+        if cells.is_linked(block) {
+            return false;
+        }
+    }
+    true
+}
+
+// The group by which a rule is added: none where it needs no new one, or group 0, the only one.
+fn group_for(rt: &impl Abort, prefix: &Prefix<4, 4>, cells: &PlainCells<4, 4>) -> Option<u32>
+    ensures some { IsSome result → 4 < prefix.now.len }
+    ensures fits { (R : RuleMap) → Represents 4 4 R cells.now
+        → AddFits 4 4 R prefix.now cells.now result }
+{
+    let block = Shape::<4, 4>::first_index(prefix.bits());
+    if prefix.len() <= 4 {
+        return None;
+    }
+    if cells.is_linked(block) {
+        return None;
+    }
+    assert!(rt; cells.seconds() == 16);
+    assert!(rt; is_unlinked(cells));
+    Some(0)
+}
+
+// Whether no rule longer than 4 bits is left in the block of one that was so long.
+fn is_last(rules: &Rules<4, 4>, prefix: &Prefix<4, 4>) -> bool
+    ensures { LastFits 4 4 rules.now.rules prefix.now result }
+{
+    let bits = prefix.bits();
+    if prefix.len() <= 4 {
+        return false;
+    }
+    rules.deep_in(Shape::<4, 4>::first_index(bits)) == 0
+}
+
+// A table with one group that shows its words, and the steps of its last change.
+#[derive(Drop)]
+struct Table {
+    rules: Rules<4, 4>,
+    cells: PlainCells<4, 4>,
+    made: Vec<Did>,
+}
+
+impl Model for Table {
+    ghost use Rattle.lpm_rules.specs.RuleMap.{RuleList, coded_rule_list};
+    ghost use Rattle.lpm_update.specs.Represents.{Represents};
+
+    ghost Value = { RuleList };
+
+    ghost coded = { coded_rule_list };
+
+    ghost view = { λ a. a.rules };
+
+    ghost invariant = { λ a. Represents 4 4 a.rules.rules a.cells };
+}
+
+impl Table {
+    fn open(alloc: Global) -> Result<Self, AllocError> {
+        Ok(Table {
+            cells: PlainCells::new(alloc, 1)?,
+            rules: Rules::new(alloc, 100),
+            made: Vec::new(alloc),
+        })
+    }
+
+    fn add(&mut self, rt: &impl Abort, bits: u32, len: u32, hop: u32) {
+        assert!(rt; Shape::<4, 4>::is_addr(bits));
+        let prefix = Prefix::new(bits, len).expect(rt, "a length");
+        let hop = Hop::new(hop).expect(rt, "a next hop");
+        match self.rules.put(&prefix, hop) {
+            Ok(_) => {
+                let group = group_for(rt, &prefix, &self.cells);
+                let update = Update::add(&prefix, hop, group);
+                record(rt, &mut self.made, update, &mut self.cells);
+            }
+            Err(_) => panic!(rt; "the rule has no room"),
+        }
+    }
+
+    fn delete(&mut self, rt: &impl Abort, bits: u32, len: u32) {
+        assert!(rt; Shape::<4, 4>::is_addr(bits));
+        let prefix = Prefix::new(bits, len).expect(rt, "a length");
+        let cover = self.rules.cover(&prefix);
+        match self.rules.remove(&prefix) {
+            Ok(_) => {
+                let last = is_last(&self.rules, &prefix);
+                let update = Update::delete(&prefix, cover, last);
+                record(rt, &mut self.made, update, &mut self.cells);
+            }
+            Err(_) => panic!(rt; "no such rule"),
+        }
+    }
+
+    fn flush(&mut self, rt: &impl Abort) {
+        let _count = self.rules.clear();
+        let update = Update::flush::<4, 4>();
+        record(rt, &mut self.made, update, &mut self.cells);
+    }
+
+    fn assert_first(&mut self, rt: &impl Abort, place: usize, word: u64) {
+        let _words = self.cells.seconds();
+        assert!(rt; place < 16);
+        assert_eq!(rt; self.cells.first(place), word, "first word {place}");
+    }
+
+    fn assert_second(&mut self, rt: &impl Abort, place: usize, word: u64) {
+        assert!(rt; place < self.cells.seconds());
+        assert_eq!(rt; self.cells.second(place), word, "second word {place}");
+    }
+
+    // The stores of the last change were these, in this order.
+    fn assert_made(&self, rt: &impl Abort, expected: &[Stores]) {
+        let mut steps = self.made.iter().copied();
+        for run in expected {
+            match *run {
+                Stores::Firsts(from, end) => {
+                    for place in from..end {
+                        assert_eq!(rt; steps.next(), Some(Did::First(place)));
+                    }
+                }
+                Stores::Seconds(from, end) => {
+                    for place in from..end {
+                        assert_eq!(rt; steps.next(), Some(Did::Second(place)));
+                    }
+                }
+                Stores::Unlinked(block, group) => {
+                    assert_eq!(rt; steps.next(), Some(Did::Unlinked { block, group }));
+                }
+            }
+        }
+        assert_eq!(rt; steps.next(), None);
+    }
+}
+
+// Stores that follow each other upwards, from the first place up to, not including, the second.
+#[derive(Clone, Copy, Debug)]
+enum Stores {
+    Firsts(usize, usize),
+    Seconds(usize, usize),
+    Unlinked(usize, u32),
+}
+
+const LINK: [Stores; 2] = [Stores::Seconds(0, 16), Stores::Firsts(1, 2)];
+
+// The words of a hop 5 of length 8, 7 of length 4 and 9 of length 0, and of group 0.
+const FIVE: u64 = 0x2100_0005;
+
+const SEVEN: u64 = 0x1100_0007;
+
+const NINE: u64 = 0x0100_0009;
+
+const GROUP: u64 = 0x0300_0000;
+
+#[test]
+fn cover_answer(rt: HostRuntime) -> Result<(), Fail> {
+    let mut table = Table::open(rt.alloc())?;
+    table.add(&rt, 0x10, 4, 7);
+    table.assert_made(&rt, &[Stores::Firsts(1, 2)]);
+    table.add(&rt, 0x12, 8, 5);
+    table.assert_made(&rt, &LINK);
+    table.assert_first(&rt, 1, GROUP);
+    table.assert_second(&rt, 1, SEVEN);
+    table.assert_second(&rt, 2, FIVE);
+    table.delete(&rt, 0x12, 8);
+    table.assert_made(&rt, &[Stores::Seconds(2, 3), Stores::Unlinked(1, 0)]);
+    table.assert_first(&rt, 1, SEVEN);
+    table.assert_second(&rt, 2, SEVEN);
+    Ok(())
+}
+
+#[test]
+fn answer_from_unlinked_group(rt: HostRuntime) -> Result<(), Fail> {
+    let mut table = Table::open(rt.alloc())?;
+    table.add(&rt, 0x12, 8, 5);
+    table.assert_made(&rt, &LINK);
+    table.flush(&rt);
+    table.assert_made(&rt, &[Stores::Unlinked(1, 0)]);
+    table.assert_first(&rt, 1, 0);
+    table.assert_second(&rt, 2, FIVE);
+    Ok(())
+}
+
+#[test]
+fn order_under_a_group(rt: HostRuntime) -> Result<(), Fail> {
+    let mut table = Table::open(rt.alloc())?;
+    table.add(&rt, 0x12, 8, 5);
+    table.add(&rt, 0x00, 0, 9);
+    let around = [
+        Stores::Firsts(0, 1),
+        Stores::Seconds(0, 2),
+        Stores::Seconds(3, 16),
+        Stores::Firsts(2, 16),
+    ];
+    table.assert_made(&rt, &around);
+    table.assert_first(&rt, 15, NINE);
+    table.assert_second(&rt, 2, FIVE);
+    table.assert_second(&rt, 3, NINE);
+    table.flush(&rt);
+    let all = [
+        Stores::Firsts(0, 1),
+        Stores::Unlinked(1, 0),
+        Stores::Firsts(2, 16),
+    ];
+    table.assert_made(&rt, &all);
+    table.flush(&rt);
+    table.assert_made(&rt, &[]);
+    Ok(())
+}
+
+#[test]
+fn laws_are_called() {
+    laws::run_begins();
+    laws::run_goes_on();
+    laws::run_ends();
+    laws::no_word_twice();
+    laws::next_store();
+    laws::answers_turn_once();
+    laws::best_is_longest();
+    laws::blank_represents();
+    laws::linked_are_deep();
+    laws::tied_same();
+    laws::tied_gone();
+    laws::tied_taken();
+}
