@@ -3,6 +3,7 @@
 
 mod changes;
 mod lookups;
+mod pieces;
 mod report;
 mod routes;
 #[cfg(test)]

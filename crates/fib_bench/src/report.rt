@@ -5,6 +5,7 @@ ghost use Rattle.lpm_limits.specs.Limits.{IsConfig};
 
 use crate::changes::{add_all, delete_all};
 use crate::lookups::{Addresses, compare};
+use crate::pieces::print_pieces;
 use crate::routes::{Route, deep_blocks, fill, full_block};
 use crate::words::Words;
 use anyhow::Result;
@@ -15,13 +16,17 @@ use rand_core::{Rng, SeedableRng};
 use rand_xoshiro::Xoshiro256PlusPlus;
 use std::fmt;
 use std::rt::Clock;
+use std::thread::Threads;
 use std::time::Duration;
 
 /// The greatest number of routes of which a part is deleted and added again.
 const SAMPLE: usize = 10_000;
 
 /// Measures a table of that many routes, and prints a line for each figure.
-pub(crate) fn run<R: Clock + Print + AllocGlobal>(rt: &R, count: usize) -> Result<()> {
+pub(crate) fn run<R: Clock + Print + AllocGlobal + Threads + Sync>(
+    rt: &R,
+    count: usize,
+) -> Result<()> {
     let mut random = Xoshiro256PlusPlus::seed_from_u64(1);
     let mut table = Fib::<24, 8>::open(rt.alloc(), limits())?;
     let routes = fill(rt.alloc(), &mut table, &mut random, count)?;
@@ -50,7 +55,7 @@ fn limits() -> Config
 }
 
 /// Prints what lookups take at addresses of each kind; deep ones only where a route is deep.
-fn print_all_lookups<R: Clock + Print + AllocGlobal, G: Rng>(
+fn print_all_lookups<R: Clock + Print + AllocGlobal + Threads + Sync, G: Rng>(
     rt: &R,
     table: &Fib<24, 8>,
     routes: &[Route],
@@ -60,6 +65,9 @@ fn print_all_lookups<R: Clock + Print + AllocGlobal, G: Rng>(
     let words = Words::new(rt.alloc(), table, blocks.as_slice())?;
     let addresses = Addresses::random(rt.alloc(), random)?;
     print_lookups(rt, "random", table, &words, &addresses)?;
+    if let Addresses::Listed(addrs) = &addresses {
+        print_pieces(rt, table, addrs)?;
+    }
     print_lookups(rt, "ascending", table, &words, &Addresses::Ascending)?;
     if blocks.is_empty() {
         return Ok(());
@@ -157,12 +165,12 @@ impl fmt::Display for Hundredths {
 }
 
 /// The nanoseconds that each of so many calls took, in hundredths.
-fn hundredths_of_nanos(time: Duration, count: usize) -> u64 {
+pub(crate) fn hundredths_of_nanos(time: Duration, count: usize) -> u64 {
     nanos(time).saturating_mul(100) / (count as u64).max(1)
 }
 
 /// How often the second goes into the first, in hundredths.
-fn ratio(first: u64, second: u64) -> u64 {
+pub(crate) fn ratio(first: u64, second: u64) -> u64 {
     first.saturating_mul(100) / second.max(1)
 }
 

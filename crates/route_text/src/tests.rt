@@ -273,12 +273,14 @@ fn updates_of_each_kind() -> Result<[Order; 7], Fail> {
 }
 
 const EACH_KIND: &str =
-    "lpm-updates 2\nadd 10.0.0.0/8 5\ndel 10.0.0.0/8\nflush\nreclaim 65536\nonline 0\noffline 4294967295\nquiescent 7\n";
+    "lpm-updates 2\nadd 10.0.0.0/8 5\ndel 10.0.0.0/8\nflush\nreclaim 65536\nonline 0\n\
+        offline 4294967295\nquiescent 7\n";
 
 #[test]
 fn updates_are_read(rt: HostRuntime) -> Result<(), Fail> {
     let file =
-        "lpm-updates 2\r\n# c\n\nadd 10.1.2.3/8 5\r\n del\t10.255.0.0/8 \nflush\nreclaim 65536\nonline 0\n \noffline 4294967295\nquiescent 7";
+        "lpm-updates 2\r\n# c\n\nadd 10.1.2.3/8 5\r\n del\t10.255.0.0/8 \nflush\nreclaim 65536\n\
+            online 0\n \noffline 4294967295\nquiescent 7";
     let orders = read_updates(rt.alloc(), file.as_bytes())?;
     let expected = updates_of_each_kind()?;
     assert_eq!(rt; orders.as_slice(), expected.as_slice());
@@ -383,8 +385,9 @@ fn one_byte_after_the_header(rt: HostRuntime) -> Result<(), Fail> {
     Ok(())
 }
 
-const LINES_OF_OUTCOMES: &str =
-    "added\nreplaced\nunchanged\ndeleted 7\nflushed 3\nreclaimed 1\nreclaimed 0 stopped worker 0 counter 1\nok\nrefused 4 NoSuchRule\nrefused 7 NoGroups\nrefused 7 NoGroups worker 2 counter 17\n";
+const LINES_OF_OUTCOMES: &str = "added\nreplaced\nunchanged\ndeleted 7\nflushed 3\nreclaimed 1\n\
+        reclaimed 0 stopped worker 0 counter 1\nok\nrefused 4 NoSuchRule\nrefused 7 NoGroups\n\
+        refused 7 NoGroups worker 2 counter 17\n";
 
 #[test]
 fn outcomes_are_written(rt: HostRuntime) -> Result<(), Fail> {

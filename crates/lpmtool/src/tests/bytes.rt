@@ -1,4 +1,4 @@
-//! Files of one byte, and a route file that is cut.
+//! Files of one byte, and files that are cut.
 
 use super::cases::ending;
 use super::fakes::{Named, whole};
@@ -106,6 +106,67 @@ fn a_route_file_that_is_cut(rt: HostRuntime) -> Result<(), Fail> {
         assert_eq!(rt;
             (status, out.as_str(), err.as_str()),
             cut_at(bytes),
+            "{bytes}"
+        );
+    }
+    Ok(())
+}
+
+// How a lookup of the first bytes of the address file ends: where a whole address is left, however
+// few digits its last octet has, the lookup answers it.
+fn cut_address_at(bytes: usize) -> (u8, &'static str, &'static str) {
+    match bytes {
+        0 => (0, "", ""),
+        8 => (0, "10.1.1.1 2\n", ""),
+        9 => (0, "10.1.1.12 2\n", ""),
+        10 | 11 => (0, "10.1.1.128 3\n", ""),
+        _ => (4, "", "lpmtool: a:1: bad address\n"),
+    }
+}
+
+#[test]
+fn an_address_file_that_is_cut(rt: HostRuntime) -> Result<(), Fail> {
+    for bytes in 0..=ADDRESSES.len() {
+        let files = [("r", ROUTES.as_slice()), ("a", &ADDRESSES[..bytes])];
+        let words = ["lpmtool", "lookup", "r", "a"];
+        let (status, out, err) = ending(&rt, &words, &whole(&files))?;
+        assert_eq!(rt;
+            (status, out.as_str(), err.as_str()),
+            cut_address_at(bytes),
+            "{bytes}"
+        );
+    }
+    Ok(())
+}
+
+const UPDATES: &[u8; 37] = b"lpm-updates 2\nadd 10.0.0.0/8 1\nflush\n";
+
+// How an apply of the first bytes of the update file ends.
+fn cut_update_at(bytes: usize) -> (u8, &'static str, &'static str) {
+    match bytes {
+        13 | 14 => (0, "", ""),
+        30 | 31 => (0, "added\n", ""),
+        36 | 37 => (0, "added\nflushed 1\n", ""),
+        0..13 => (4, "", "lpmtool: u:1: bad header\n"),
+        15 | 16 => (4, "", "lpmtool: u:2: bad word\n"),
+        17..30 => (4, "", "lpmtool: u:2: bad fields\n"),
+        _ => (4, "", "lpmtool: u:3: bad word\n"),
+    }
+}
+
+#[test]
+fn an_update_file_that_is_cut(rt: HostRuntime) -> Result<(), Fail> {
+    for bytes in 0..=UPDATES.len() {
+        let files = [
+            ("r", [].as_slice()),
+            ("u", &UPDATES[..bytes]),
+            ("a", [].as_slice()),
+        ];
+        let words = ["lpmtool", "apply", "r", "u", "a"];
+        let (status, out, err) = ending(&rt, &words, &whole(&files))?;
+        assert_eq!(rt;
+            (status, out.as_str(), err.as_str()),
+            cut_update_at(bytes),
             "{bytes}"
         );
     }

@@ -1,6 +1,8 @@
 //! `apply` and `report`: worked cases.
 
-use super::cases::{Case, run_cases};
+use super::cases::{Case, ending, run_cases};
+use super::fakes::whole;
+use std::alloc::Global;
 use std::test::Fail;
 
 // What comes of updates.
@@ -51,7 +53,8 @@ const APPLIED: [Case; 11] = [
             ("r", b""),
             (
                 "u",
-                b"lpm-updates 2\nonline 0\nadd 10.0.0.0/25 1\ndel 10.0.0.0/25\nadd 10.0.1.0/25 2\nquiescent 0\nadd 10.0.1.0/25 2\n",
+                b"lpm-updates 2\nonline 0\nadd 10.0.0.0/25 1\ndel 10.0.0.0/25\n\
+                    add 10.0.1.0/25 2\nquiescent 0\nadd 10.0.1.0/25 2\n",
             ),
             ("a", b""),
         ],
@@ -66,7 +69,8 @@ const APPLIED: [Case; 11] = [
             ("r", b""),
             (
                 "u",
-                b"lpm-updates 2\nadd 10.0.0.0/8 1\nadd 10.0.0.0/8 1\nadd 10.0.0.0/8 2\ndel 10.0.0.0/8\ndel 10.0.0.0/8\n",
+                b"lpm-updates 2\nadd 10.0.0.0/8 1\nadd 10.0.0.0/8 1\nadd 10.0.0.0/8 2\n\
+                    del 10.0.0.0/8\ndel 10.0.0.0/8\n",
             ),
             ("a", b""),
         ],
@@ -81,12 +85,16 @@ const APPLIED: [Case; 11] = [
             ("r", b""),
             (
                 "u",
-                b"lpm-updates 2\nadd 10.0.0.0/25 1\nadd 10.0.1.0/25 2\nonline 0\ndel 10.0.0.0/25\nonline 1\ndel 10.0.1.0/25\nreclaim 16\nquiescent 0\nreclaim 16\noffline 1\nreclaim 16\n",
+                b"lpm-updates 2\nadd 10.0.0.0/25 1\nadd 10.0.1.0/25 2\nonline 0\n\
+                    del 10.0.0.0/25\nonline 1\ndel 10.0.1.0/25\nreclaim 16\nquiescent 0\n\
+                    reclaim 16\noffline 1\nreclaim 16\n",
             ),
             ("a", b""),
         ],
         status: 0,
-        out: "added\nadded\nok\ndeleted 1\nok\ndeleted 2\nreclaimed 0 stopped worker 0 counter 1\nok\nreclaimed 1 stopped worker 1 counter 2\nok\nreclaimed 1\n",
+        out: "added\nadded\nok\ndeleted 1\nok\ndeleted 2\n\
+            reclaimed 0 stopped worker 0 counter 1\nok\nreclaimed 1 stopped worker 1 counter 2\n\
+            ok\nreclaimed 1\n",
         err: "",
     },
     Case {
@@ -168,7 +176,8 @@ const APPLIED: [Case; 11] = [
             ("a", b""),
         ],
         status: 0,
-        out: "refused 13 NotOnline\nrefused 13 NotOnline\nok\nrefused 14 AlreadyOnline\nrefused 10 NoSuchWorker\nok\n",
+        out: "refused 13 NotOnline\nrefused 13 NotOnline\nok\nrefused 14 AlreadyOnline\n\
+            refused 10 NoSuchWorker\nok\n",
         err: "",
     },
 ];
@@ -218,7 +227,8 @@ const REPORTED: [Case; 9] = [
             ("r", b""),
             (
                 "u",
-                b"lpm-updates 2\nonline 0\nadd 10.0.0.0/25 1\ndel 10.0.0.0/25\nadd 10.0.1.0/25 2\nquiescent 0\nadd 10.0.1.0/25 2\n",
+                b"lpm-updates 2\nonline 0\nadd 10.0.0.0/25 1\ndel 10.0.0.0/25\n\
+                    add 10.0.1.0/25 2\nquiescent 0\nadd 10.0.1.0/25 2\n",
             ),
         ],
         status: 0,
@@ -232,7 +242,8 @@ const REPORTED: [Case; 9] = [
             ("r", b""),
             (
                 "u",
-                b"lpm-updates 2\nadd 10.0.0.0/8 1\nadd 10.0.0.0/8 1\nadd 10.0.0.0/8 2\ndel 10.0.0.0/8\ndel 10.0.0.0/8\n",
+                b"lpm-updates 2\nadd 10.0.0.0/8 1\nadd 10.0.0.0/8 1\nadd 10.0.0.0/8 2\n\
+                    del 10.0.0.0/8\ndel 10.0.0.0/8\n",
             ),
         ],
         status: 0,
@@ -484,4 +495,29 @@ fn reports_after_updates(rt: HostRuntime) -> Result<(), Fail> {
 #[test]
 fn faults_of_updates(rt: HostRuntime) -> Result<(), Fail> {
     run_cases(&rt, &FAULTY)
+}
+
+// A route to each address of one block, all with the same next hop.
+fn full_block(alloc: Global) -> Result<Vec<u8>, Fail> {
+    let mut routes = Vec::new(alloc);
+    for octet in 0..256u32 {
+        let line = format!(in alloc; "10.0.0.{octet}/32 9\n")?;
+        routes.extend_from_slice(line.as_bytes())?;
+    }
+    Ok(routes)
+}
+
+const FULL_BLOCK: &str = "rules 256\nversions 256\nin use 1\nlimbo 0\nfree 255\ntoken 1\n";
+
+#[test]
+fn a_block_that_is_full(rt: HostRuntime) -> Result<(), Fail> {
+    let routes = full_block(rt.alloc())?;
+    let files = [
+        ("r", routes.as_slice()),
+        ("u", b"lpm-updates 2\n".as_slice()),
+    ];
+    let words = ["lpmtool", "report", "r", "u"];
+    let (status, out, err) = ending(&rt, &words, &whole(&files))?;
+    assert_eq!(rt; (status, out.as_str(), err.as_str()), (0, FULL_BLOCK, ""));
+    Ok(())
 }
