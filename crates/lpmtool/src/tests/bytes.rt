@@ -25,10 +25,10 @@ static BYTES: [u8; 256] = [
 ];
 
 // The command on a file of this byte, and its first fault where the byte isn't blank.
-fn one_byte<R: Abort + AllocGlobal + Threads + Sync>(
+fn one_byte<'a, R: Abort + AllocGlobal + Threads + Sync>(
     rt: &R,
     words: &[&str],
-    files: &[Named<'_>],
+    files: &'a [Named<'a>],
     byte: u8,
     fault: &str,
 ) -> Result<(), Fail> {

@@ -137,18 +137,19 @@ const WRITES: [Writes; 4] = [
 // A write fails or takes no byte: what the earlier ones took is a beginning of the text.
 fn each_write_fails<R: Abort + AllocGlobal + Threads + Sync>(
     rt: &R,
-    case: &Writes,
+    words: &[&str],
+    text: &str,
+    writes: usize,
     at_bad: AtBad,
 ) -> Result<(), Fail> {
-    let (words, text, writes) = case;
-    for bad in 1..=*writes {
+    for bad in 1..=writes {
         let (status, out, err) = written(rt, words, bad, at_bad)?;
         assert_eq!(rt;
             (status, err.as_str()),
             (3, "lpmtool: cannot write\n"),
             "{words:?} {bad}"
         );
-        assert_eq!(rt; out.len(), (bad - 1) * 3, "{words:?} {bad}");
+        assert_eq!(rt; out.len(), (bad - 1).saturating_mul(3), "{words:?} {bad}");
         assert!(rt; text.starts_with(out.as_str()), "{words:?} {bad}");
     }
     Ok(())
@@ -157,26 +158,24 @@ fn each_write_fails<R: Abort + AllocGlobal + Threads + Sync>(
 // A write that was interrupted is made again.
 fn each_write_is_interrupted<R: Abort + AllocGlobal + Threads + Sync>(
     rt: &R,
-    case: &Writes,
+    words: &[&str],
+    text: &str,
+    writes: usize,
 ) -> Result<(), Fail> {
-    let (words, text, writes) = case;
-    for bad in 1..=*writes {
+    for bad in 1..=writes {
         let (status, out, err) = written(rt, words, bad, AtBad::IsInterrupted)?;
-        assert_eq!(rt;
-            (status, out.as_str(), err.as_str()),
-            (0, *text, ""),
-            "{words:?} {bad}"
-        );
+        assert_eq!(rt; (status, err.len()), (0, 0), "{words:?} {bad}");
+        assert!(rt; out.as_str() == text, "{words:?} {bad}");
     }
     Ok(())
 }
 
 #[test]
 fn writes_that_fail(rt: HostRuntime) -> Result<(), Fail> {
-    for case in &WRITES {
-        each_write_fails(&rt, case, AtBad::Fails)?;
-        each_write_fails(&rt, case, AtBad::TakesNone)?;
-        each_write_is_interrupted(&rt, case)?;
+    for (words, text, writes) in WRITES {
+        each_write_fails(&rt, words, text, writes, AtBad::Fails)?;
+        each_write_fails(&rt, words, text, writes, AtBad::TakesNone)?;
+        each_write_is_interrupted(&rt, words, text, writes)?;
     }
     Ok(())
 }

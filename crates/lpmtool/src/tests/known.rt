@@ -1,5 +1,5 @@
 //! Files whose bytes are known, and a writer whose contents are: what each command promises there.
-ghost use Rattle.std.specs.Prelude.{Some, ◌≡◌, ◌++◌, true, ℕ, List, drop};
+ghost use Rattle.std.specs.Prelude.{Some, ◌≡◌, ◌++◌, true, ℕ, List};
 ghost use Rattle.lpm_limits.specs.Limits.{IsConfig};
 ghost use Rattle.lpmtool.specs.Lookup.{IsLookupText};
 ghost use Rattle.lpmtool.specs.Apply.{IsApplyText};
@@ -19,22 +19,20 @@ use std::io::Read;
 use std::test::Fail;
 use std::thread::Threads;
 
-// Bytes, of which those from a place on are left to read.
+// Bytes that are left to read.
 #[derive(Drop)]
 struct Known {
     bytes: Vec<u8>,
-    at: usize,
 }
 
 impl Read for Known {
-    ghost remaining = { λ r. Some (drop r.at r.bytes.items) };
+    ghost remaining = { λ r. Some r.bytes.items };
 
     fn read(&mut self, buf: &mut [u8]) -> io::Result<usize> {
-        let at = self.at.min(self.bytes.len());
-        let left = &self.bytes[at..];
-        let n = left.len().min(buf.len());
-        buf[..n].copy_from_slice(&left[..n]);
-        self.at = at + n;
+        let n = self.bytes.len().min(buf.len());
+        let rest = self.bytes.split_off(n)?;
+        buf[..n].copy_from_slice(&self.bytes);
+        self.bytes = rest;
         Ok(n)
     }
 }
@@ -53,7 +51,7 @@ impl Files for Paths {
     fn open(&self, path: &str) -> io::Result<Known> {
         let mut bytes = Vec::new(self.alloc);
         bytes.extend_from_slice(path.as_bytes())?;
-        Ok(Known { bytes, at: 0 })
+        Ok(Known { bytes })
     }
 }
 

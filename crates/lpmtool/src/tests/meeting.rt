@@ -4,37 +4,65 @@ use super::fakes::{Named, whole};
 use crate::lookup::lookup;
 use bulk::Gate;
 use qsbr::Config;
+use std::process::Abort;
 use std::sync::atomic::{AtomicBool, Ordering};
 use std::test::Fail;
 
-// How often a piece looks for the other.
-const TURNS: u32 = 1_000_000_000;
+// How often a call looks for the other piece, before it notes that it missed it.
+const MOST_LOADS: u32 = 1_000_000_000;
 
-// A flag for each piece and address, and whether a piece gave up.
+// Two pieces of four addresses, each of which waits before each address for the other one.
 #[derive(Drop)]
 struct Meeting {
-    flags: [[AtomicBool; 4]; 2],
-    missed: AtomicBool,
+    // those of the first piece, and then those of the second
+    flags: [AtomicBool; 8],
+    is_missed: AtomicBool,
+}
+
+impl Meeting {
+    // Whether the flag was seen set.
+    fn sees(&self, flag: &AtomicBool) -> bool {
+        for _ in 0..MOST_LOADS {
+            if flag.load(Ordering::SeqCst) || self.is_missed.load(Ordering::SeqCst) {
+                return true;
+            }
+        }
+        false
+    }
+
+    fn meet(&self, mine: &AtomicBool, other: &AtomicBool) {
+        mine.store(true, Ordering::SeqCst);
+        if !self.sees(other) {
+            self.is_missed.store(true, Ordering::SeqCst);
+        }
+    }
 }
 
 impl Gate for Meeting {
     fn at(&self, piece: usize, i: usize) {
-        if piece > 1 || i > 3 || self.missed.load(Ordering::SeqCst) {
-            return;
+        if piece < 2 && i < 4 {
+            let flags = &self.flags;
+            self.meet(&flags[4 * piece + i], &flags[4 * (1 - piece) + i]);
+        } else {
+            self.is_missed.store(true, Ordering::SeqCst);
         }
-        self.flags[piece][i].store(true, Ordering::SeqCst);
-        for _ in 0..TURNS {
-            if self.flags[1 - piece][i].load(Ordering::SeqCst) {
-                return;
-            }
-        }
-        self.missed.store(true, Ordering::SeqCst);
     }
 }
 
-fn lowered() -> [AtomicBool; 4] {
-    let flag = || AtomicBool::new(false);
-    [flag(), flag(), flag(), flag()]
+fn new_meeting() -> Meeting {
+    let no = || AtomicBool::new(false);
+    Meeting {
+        flags: [no(), no(), no(), no(), no(), no(), no(), no()],
+        is_missed: AtomicBool::new(false),
+    }
+}
+
+// Each call was made, and none of them missed the other piece.
+fn assert_met(rt: &impl Abort, gate: &Meeting) {
+    assert!(rt; !gate.is_missed.load(Ordering::SeqCst));
+    for flag in &gate.flags {
+        assert!(rt; flag.load(Ordering::SeqCst));
+    }
 }
 
 const FILES: [Named<'static>; 2] = [
@@ -50,10 +78,7 @@ const TEXT: &str = "10.0.0.1 1\n10.0.0.2 1\n10.0.0.3 1\n10.0.0.4 1\n11.0.0.1 -\n
 
 #[test]
 fn two_pieces_see_each_other(rt: HostRuntime) -> Result<(), Fail> {
-    let gate = Meeting {
-        flags: [lowered(), lowered()],
-        missed: AtomicBool::new(false),
-    };
+    let gate = new_meeting();
     let config = Config {
         workers: 2,
         ..Config::default()
@@ -61,7 +86,8 @@ fn two_pieces_see_each_other(rt: HostRuntime) -> Result<(), Fail> {
     let mut out = Vec::new(rt.alloc());
     let files = whole(&FILES);
     let done = lookup(&rt, rt.alloc(), &files, "r", "a", config, &gate, &mut out);
-    assert!(rt; done.is_ok() && !gate.missed.load(Ordering::SeqCst));
+    assert!(rt; done.is_ok());
+    assert_met(&rt, &gate);
     assert_eq!(rt; String::from_utf8(out)?.as_str(), TEXT);
     Ok(())
 }
