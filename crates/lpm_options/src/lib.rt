@@ -133,6 +133,3 @@ fn refusal(error: Error) -> Refused
         _ => Refused::Usage(error),
     }
 }
-
-#[cfg(test)]
-mod tests;

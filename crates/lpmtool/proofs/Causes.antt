@@ -1,5 +1,5 @@
 -- Why a run has its status.
-use Rattle.std.proofs.Common.{◌≡◌, ◌≢◌, ◌⊎◌, inl, inr, ℕ, List, Option}
+use Rattle.std.proofs.Common.{◌≢◌, inl, inr, ℕ, List, Option}
 use Rattle.clap.specs.Words.{Text, subcommand_of, fault_of, kind_of}
 use Rattle.lpm_options.specs.declared.Refused.{Refused}
 use Rattle.lpm_options.specs.declared.Refused.TheVariants.{Usage, Memory, NoCommand, TwoStandardInputs}

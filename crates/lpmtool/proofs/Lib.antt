@@ -1,8 +1,2 @@
-pub mod Written
-pub mod Loaded
-pub mod Updated
-pub mod Texts
-pub mod Ends
-pub mod Known
 pub mod Causes
 pub mod Ended

@@ -1,22 +1,13 @@
 //! `lpmtool`: longest-prefix match of IPv4 addresses, from files.
 #![tactic(auto)]
 
-mod apply;
-mod failure;
-mod files;
-mod inputs;
-mod loading;
-mod lookup;
-mod migrate;
-mod report;
 mod run;
 #[cfg(test)]
 mod tests;
-mod updating;
 
 ghost use Rattle.std.specs.Prelude.{None};
 
-use crate::files::Files;
+use lpm_commands::Files;
 use std::fs::File;
 use std::io::{Read, Stdin};
 use std::process::ExitCode;

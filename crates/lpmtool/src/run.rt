@@ -3,19 +3,14 @@ ghost use Rattle.std.specs.Prelude.{◌≡◌, ◌≢◌, ◌⊎◌, map, OnOk, 
 ghost use Rattle.clap.specs.Words.{kind_of};
 ghost use Rattle.std.specs.declared.io.ErrorKind.TheVariants.{OutOfMemory};
 ghost use Rattle.lpm_options.specs.Asked.{IsInRange};
-ghost use Rattle.lpmtool.specs.Output.{Writes, WritesBeginning};
+ghost use Rattle.lpm_commands.specs.Output.{Writes, WritesBeginning};
 ghost use Rattle.lpmtool.specs.Run.{IsDone, IsBegun, IsCause, IsOutput, EndsCommand};
 ghost use Rattle.lpmtool.specs.Run.{IsShown, EndsRefused};
-ghost use Rattle.lpmtool.specs.Status.{status_of};
+ghost use Rattle.lpm_commands.specs.Status.{status_of};
 
-use crate::apply::apply;
-use crate::failure::{Failure, USAGE};
-use crate::files::Files;
-use crate::lookup::lookup;
-use crate::migrate::migrate;
-use crate::report::report;
 use bulk::Open;
 use clap::Error;
+use lpm_commands::{Failure, Files, USAGE, apply, lookup, migrate, report};
 use lpm_options::{CommandLine, Refused, options};
 use std::alloc::Global;
 use std::convert::AsStr;

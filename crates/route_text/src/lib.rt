@@ -32,6 +32,3 @@ pub use outcomes::{Outcome, outcomes_text};
 pub use routes::{Route, read_routes};
 pub use update_text::updates_text;
 pub use updates::{read_updates, read_updates_v1};
-
-#[cfg(test)]
-mod tests;

@@ -1,17 +1,13 @@
 //! Files whose bytes are known, and a writer whose contents are: what each command promises there.
 ghost use Rattle.std.specs.Prelude.{Some, ◌≡◌, ◌++◌, true, ℕ, List};
 ghost use Rattle.lpm_limits.specs.Limits.{IsConfig};
-ghost use Rattle.lpmtool.specs.Lookup.{IsLookupText};
-ghost use Rattle.lpmtool.specs.Apply.{IsApplyText};
-ghost use Rattle.lpmtool.specs.Report.{IsReportText};
-ghost use Rattle.lpmtool.specs.Migrate.{IsMigrateText};
+ghost use Rattle.lpm_commands.specs.Lookup.{IsLookupText};
+ghost use Rattle.lpm_commands.specs.Apply.{IsApplyText};
+ghost use Rattle.lpm_commands.specs.Report.{IsReportText};
+ghost use Rattle.lpm_commands.specs.Migrate.{IsMigrateText};
 
-use crate::apply::apply;
-use crate::files::Files;
-use crate::lookup::lookup;
-use crate::migrate::migrate;
-use crate::report::report;
 use bulk::Open;
+use lpm_commands::{Files, apply, lookup, migrate, report};
 use qsbr::Config;
 use std::alloc::Global;
 use std::io;

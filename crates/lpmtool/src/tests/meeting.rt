@@ -1,8 +1,8 @@
 //! Two pieces that must see each other before each address: they run at once.
 
 use super::fakes::{Named, whole};
-use crate::lookup::lookup;
 use bulk::Gate;
+use lpm_commands::lookup;
 use qsbr::Config;
 use std::process::Abort;
 use std::sync::atomic::{AtomicBool, Ordering};

@@ -2,8 +2,8 @@
 
 use super::cases::{Case, ending, run_cases};
 use super::fakes::{AtBad, whole, writer};
-use crate::failure::Failure;
 use crate::run::refuse_words;
+use lpm_commands::Failure;
 use qsbr::Refusal;
 use std::io::ErrorKind;
 use std::test::Fail;

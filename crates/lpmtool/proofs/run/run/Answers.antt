@@ -1,5 +1,5 @@
 use Rattle.std.proofs.Common.{inl, inr, ap, Err}
-use Rattle.lpmtool.specs.declared.failure.Failure.{Failure}
+use Rattle.lpm_commands.specs.declared.failure.Failure.{Failure}
 use Rattle.lpmtool.proofs.Ended.{cannot_write}
 use Rattle.lpmtool.proofs.Causes.{refused_cause}
 use Rattle.lpmtool.proofs.run.run.Goals as goal

@@ -1,0 +1,6 @@
+pub mod Written
+pub mod Loaded
+pub mod Updated
+pub mod Texts
+pub mod Ends
+pub mod Known

@@ -1,0 +1,79 @@
+-- The texts of the commands, by the files that they read.
+use Rattle.std.proofs.Common.{◌≡◌, ℕ, List, Option, subst}
+use Rattle.lpm_limits.specs.declared.config.Config.{Config}
+use Rattle.lpm_rules.specs.RuleMap.{RuleMap}
+use Rattle.qsbr.specs.Registry.{Registry}
+use Rattle.fib_model.specs.State.{State}
+use Rattle.fib_model.specs.declared.command.Outcome.{Outcome}
+use Rattle.fib.specs.Fib.{FibState}
+use Rattle.route_text.specs.declared.routes.Route.{Route}
+use Rattle.route_text.specs.declared.orders.Order.{Order}
+use Rattle.route_text.specs.Files.{AreRoutes, AreAddresses}
+use Rattle.route_text.specs.Updates.{AreUpdates}
+use Rattle.audit.specs.declared.report.Report.{Report}
+use Rattle.audit.specs.Report.{report_lines}
+use Rattle.lpm_commands.specs.Inputs.{Reads}
+use Rattle.lpm_commands.specs.Loading.{IsLoaded}
+use Rattle.lpm_commands.specs.Updating.{ComesOut}
+use Rattle.lpm_commands.specs.Lookup.{IsAnswered, IsLookupText}
+use Rattle.lpm_commands.specs.Apply.{IsToldAfter, IsApplyText}
+use Rattle.lpm_commands.specs.Report.{IsCountOf, IsReportText}
+use Rattle.lpm_commands.proofs.Updated.{updated, last_rules, reported}
+
+-- the answers of the table that the routes make
+pub is_lookup_text : (c : Config) (routes addresses : Option (List ℕ)) (list : List Route) (addrs : List ℕ) (table : State Registry) (text : List ℕ) → Reads AreRoutes routes list → Reads AreAddresses addresses addrs → IsLoaded c list table → IsAnswered c table.rules addrs text → IsLookupText c routes addresses text
+is_lookup_text c routes addresses list addrs table text are_routes are_addrs loaded answered = record {
+  list = list;
+  addrs = addrs;
+  table = table;
+  are_routes = are_routes;
+  are_addrs = are_addrs;
+  loaded = loaded;
+  answered = subst (λ (R : RuleMap). IsAnswered c R addrs text) loaded.rules answered;
+}
+
+-- what came of the updates, and the answers of the table after them
+pub is_apply_text : (c : Config) (routes updates addresses : Option (List ℕ)) (list : List Route) (orders : List Order) (addrs : List ℕ) (x z : State Registry) (text : List ℕ) → Reads AreRoutes routes list → Reads AreUpdates updates orders → Reads AreAddresses addresses addrs → IsLoaded c list x → IsToldAfter c x orders addrs z text → IsApplyText c routes updates addresses text
+is_apply_text c routes updates addresses list orders addrs x z text are_routes are_updates are_addrs loaded told =
+    let done = updated c list orders told.came x z loaded told.comes in
+    record {
+      list = list;
+      orders = orders;
+      addrs = addrs;
+      came = told.came;
+      log = done.0;
+      state = done.1.0;
+      answers = told.answers;
+      are_routes = are_routes;
+      are_updates = are_updates;
+      are_addrs = are_addrs;
+      updated = done.1.1;
+      answered = subst (λ (R : RuleMap). IsAnswered c R addrs told.answers) (last_rules c list orders told.came done.0 z done.1.0 done.1.1 done.1.2) told.answered;
+      written = told.written;
+    }
+
+-- what the table counts after the updates
+pub is_report_text : (c : Config) (routes updates : Option (List ℕ)) (list : List Route) (orders : List Order) (came : List Outcome) (x : State Registry) (fib : FibState) (r : Report) (text : List ℕ) → Reads AreRoutes routes list → Reads AreUpdates updates orders → IsLoaded c list x → ComesOut c x orders came fib.table → fib.config ≡ c → IsCountOf fib r → text ≡ report_lines r → IsReportText c routes updates text
+is_report_text c routes updates list orders came x fib r text are_routes are_updates loaded comes config counts written =
+    let done = updated c list orders came x fib.table loaded comes in
+    record {
+      list = list;
+      orders = orders;
+      came = came;
+      log = done.0;
+      state = done.1.0;
+      report = r;
+      are_routes = are_routes;
+      are_updates = are_updates;
+      updated = done.1.1;
+      reported = reported c list orders came done.0 fib done.1.0 r done.1.1 done.1.2 config counts;
+      written = written;
+    }
+
+-- the same answers under another name of the limits and the addresses
+pub answered_as : (c d : Config) (R : RuleMap) (addrs list text : List ℕ) → d ≡ c → addrs ≡ list → IsAnswered d R addrs text → IsAnswered c R list text
+answered_as c d R addrs list text limits same answered = subst (λ (k : Config). IsAnswered k R list text) limits (subst (λ (l : List ℕ). IsAnswered d R l text) same answered)
+
+-- the same text under other names of the limits, the orders and the addresses
+pub told_as : (c d : Config) (x z : State Registry) (orders orders' : List Order) (addrs addrs' : List ℕ) (text : List ℕ) → d ≡ c → orders ≡ orders' → addrs ≡ addrs' → IsToldAfter d x orders addrs z text → IsToldAfter c x orders' addrs' z text
+told_as c d x z orders orders' addrs addrs' text limits same_orders same_addrs told = subst (λ (k : Config). IsToldAfter k x orders' addrs' z text) limits (subst (λ (l : List ℕ). IsToldAfter d x orders' l z text) same_addrs (subst (λ (l : List Order). IsToldAfter d x l addrs z text) same_orders told))

@@ -1,0 +1,23 @@
+use Rattle.std.proofs.Common.{List, subst}
+use Rattle.std.proofs.lemmas.Result.{IfOk-weaker, IfErr-weaker}
+use Rattle.route_text.specs.declared.routes.Route.{Route}
+use Rattle.lpm_commands.specs.Loading.{IsLoaded}
+use Rattle.lpm_commands.proofs.Texts.{is_apply_text, told_as}
+use Rattle.lpm_commands.proofs.Ends.{ends_apply}
+use Rattle.lpm_commands.proofs.apply_command.apply_text.Goals as goal
+
+pub returns-clause-text : goal.returns-clause-text
+returns-clause-text g c =
+    let table = c.in_ok-table.table.table in
+    let loaded = subst (λ (list : List Route). IsLoaded c.args.config list table) c.deref.ensures.value c.in_ok-table.ensures.loaded in
+    IfOk-weaker c.text_after.result _ _ (λ v told.
+    is_apply_text _ _ _ _ c.in_ok-list.list.items c.in_ok-orders.orders.items c.in_ok-addrs.addrs.items table _ _ c.in_ok-list.ensures.items c.in_ok-orders.ensures.items c.in_ok-addrs.ensures.items loaded (told_as _ _ _ _ _ _ _ _ _ c.in_ok-table.ensures.config c.deref-2.ensures.value c.deref-3.ensures.value told))
+    c.text_after.ensures.text
+
+pub returns-clause-failure : goal.returns-clause-failure
+returns-clause-failure g c =
+    let table = c.in_ok-table.table.table in
+    let loaded = subst (λ (list : List Route). IsLoaded c.args.config list table) c.deref.ensures.value c.in_ok-table.ensures.loaded in
+    IfErr-weaker c.text_after.result _ _ (λ e ends.
+    ends_apply _ _ c.args.routes.now c.args.updates.now c.args.addresses.now (g.F.Files.bytes c.args.files.now) c.in_ok-list.list.items c.in_ok-orders.orders.items c.in_ok-addrs.addrs.items table e c.in_ok-table.ensures.config c.in_ok-list.ensures.items c.in_ok-orders.ensures.items c.in_ok-addrs.ensures.items loaded ends)
+    c.text_after.ensures.failure

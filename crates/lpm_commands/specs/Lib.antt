@@ -1,0 +1,9 @@
+pub mod Output
+pub mod Inputs
+pub mod Loading
+pub mod Updating
+pub mod Lookup
+pub mod Apply
+pub mod Report
+pub mod Migrate
+pub mod Status

@@ -1,0 +1,97 @@
+//! `apply`: what comes of updates after routes, and the next hops of addresses then.
+ghost use Rattle.std.specs.Prelude.{◌≡◌, ◌≢◌, IfOk, IfErr, OnOk, IsErrOf};
+ghost use Rattle.lpm_limits.specs.Limits.{IsConfig};
+ghost use Rattle.lpm_commands.specs.Output.{Writes, WritesBeginning};
+ghost use Rattle.lpm_commands.specs.Apply.{IsApplyText, IsToldAfter, EndsApply};
+ghost use Rattle.lpm_commands.specs.Lookup.{EndsAnswering};
+
+use crate::failure::Failure;
+use crate::files::{Files, put_text};
+use crate::inputs::{Addresses, Routes, Updates, read_list};
+use crate::loading::load;
+use crate::lookup_command::text_of_answers;
+use crate::updating::{text_of_outcomes, update};
+use bulk::Open;
+use fib::Fib;
+use qsbr::Config;
+use route_text::Order;
+use std::alloc::Global;
+use std::io::Write;
+use std::thread::Threads;
+
+/// Writes a line for what came of each update, after the routes, and then a line for each address
+/// with its next hop.
+///
+/// Each file is read and parsed before the next, and all before a route is loaded. The text is
+/// formed whole before it is written. A refused update doesn't stop the file.
+pub fn apply<'a, R: Threads + Sync, F: Files, W: Write>(
+    rt: &R,
+    alloc: Global,
+    files: &F,
+    routes: &'a str,
+    updates: &'a str,
+    addresses: &'a str,
+    config: Config,
+    out: &mut W,
+) -> Result<(), Failure<'a>>
+    requires { IsConfig config }
+    ensures done { OnOk result (Writes
+        (IsApplyText config (F.bytes files.now routes.entry.now)
+        (F.bytes files.now updates.entry.now) (F.bytes files.now addresses.entry.now))
+        (W.contents out.old) (W.contents out.new)) }
+
+    // Only a failed write leaves something written, a beginning of that text.
+    ensures beginning { IsErrOf result Failure.CannotWrite → WritesBeginning
+        (IsApplyText config (F.bytes files.now routes.entry.now)
+        (F.bytes files.now updates.entry.now) (F.bytes files.now addresses.entry.now))
+        (W.contents out.old) (W.contents out.new) }
+    ensures untouched { IfErr result (λ e. e ≢ Failure.CannotWrite → out.new ≡ out.old) }
+    ensures failure { IfErr result (EndsApply config
+        routes.entry.now updates.entry.now addresses.entry.now (F.bytes files.now)) }
+{
+    let text = apply_text(rt, alloc, files, routes, updates, addresses, config)?;
+    put_text(out, &text)
+}
+
+// The whole text, before anything is written.
+fn apply_text<'a, R: Threads + Sync, F: Files>(
+    rt: &R,
+    alloc: Global,
+    files: &F,
+    routes: &'a str,
+    updates: &'a str,
+    addresses: &'a str,
+    config: Config,
+) -> Result<Vec<u8>, Failure<'a>>
+    requires { IsConfig config }
+    ensures text { IfOk result (λ v. IsApplyText config (F.bytes files.now routes.entry.now)
+        (F.bytes files.now updates.entry.now) (F.bytes files.now addresses.entry.now) v.items) }
+    ensures failure { IfErr result (EndsApply config
+        routes.entry.now updates.entry.now addresses.entry.now (F.bytes files.now)) }
+    ensures unwritten { IfErr result (λ e. e ≢ Failure.CannotWrite) }
+{
+    let list = read_list::<Routes, F>(alloc, files, routes)?;
+    let orders = read_list::<Updates, F>(alloc, files, updates)?;
+    let addrs = read_list::<Addresses, F>(alloc, files, addresses)?;
+    let mut table = load(alloc, routes, &list, config)?;
+    text_after(rt, alloc, &mut table, &orders, &addrs)
+}
+
+// The lines of the updates, and then those of the addresses.
+fn text_after<'a, R: Threads + Sync>(
+    rt: &R,
+    alloc: Global,
+    table: &mut Fib<24, 8>,
+    orders: &[Order],
+    addrs: &[u32],
+) -> Result<Vec<u8>, Failure<'a>>
+    ensures text { IfOk result (λ v. IsToldAfter table.old.config table.old.table orders.now
+        addrs.now table.new.table v.items) }
+    ensures failure { IfErr result (EndsAnswering table.old.config) }
+{
+    let outcomes = update(alloc, table, orders)?;
+    let mut text = text_of_outcomes(alloc, &outcomes)?;
+    let answers = text_of_answers(rt, alloc, table, addrs, &Open)?;
+    text.extend_from_slice(&answers)?;
+    Ok(text)
+}

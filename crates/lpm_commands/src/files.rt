@@ -1,0 +1,96 @@
+//! Files to read and a writer to write, of any kind.
+ghost use Rattle.std.specs.Prelude.{◌≡◌, ℕ, ◌≤◌, List, Option, length, take};
+ghost use Rattle.std.specs.Prelude.{◌↔◌, IfOk, IfErr, IfSome, OnOk, OnErr};
+ghost use Rattle.std.specs.declared.io.ErrorKind.TheVariants.{OutOfMemory};
+ghost use Rattle.std.specs.Io.KnownBytes.{Appends};
+ghost use Rattle.std.specs.IoError.{error_kind};
+ghost use Rattle.lpm_commands.specs.Inputs.{IsKnownAs};
+ghost use Rattle.lpm_commands.specs.Output.{Begins};
+
+use crate::failure::Failure;
+use std::alloc::Global;
+use std::io;
+use std::io::{ErrorKind, Read, Write};
+
+/// What gives a reader for a path.
+pub trait Files {
+    type Reader: Read + Drop;
+
+    // The bytes of the file at a path, where they are known.
+    ghost bytes: { Self → List ℕ → Option (List ℕ) };
+
+    fn open(&self, path: &str) -> io::Result<Self::Reader>
+        ensures { IfOk result (λ r. Self.Reader.remaining r ≡ bytes self.now path.now) };
+}
+
+/// Why a file isn't read.
+#[derive(Clone, Copy, Debug, PartialEq, Eq)]
+pub enum ReadFailure {
+    /// It can't be opened, or a read failed.
+    CannotRead,
+    /// A growth was refused.
+    Memory,
+}
+
+/// The bytes of the file at the path.
+pub fn read_file<F: Files>(alloc: Global, files: &F, path: &str) -> Result<Vec<u8>, ReadFailure>
+    ensures { IfOk result (λ v. IsKnownAs (F.bytes files.now path.now) v.items) }
+{
+    let mut reader = match files.open(path) {
+        Ok(reader) => reader,
+        Err(e) => return Err(read_failure(e)),
+    };
+    let mut bytes = Vec::new(alloc);
+    match reader.read_to_end(&mut bytes) {
+        Ok(_) => Ok(bytes),
+        Err(e) => Err(read_failure(e)),
+    }
+}
+
+fn read_failure(e: io::Error) -> ReadFailure
+    ensures { (result ≡ ReadFailure.Memory) ↔ (error_kind e ≡ OutOfMemory) }
+{
+    match e.kind() {
+        ErrorKind::OutOfMemory => ReadFailure::Memory,
+        _ => ReadFailure::CannotRead,
+    }
+}
+
+/// Writes all of the text, or ends the run with `CannotWrite`.
+pub fn put_text<'a, W: Write>(out: &mut W, text: &[u8]) -> Result<(), Failure<'a>>
+    ensures all { OnOk result (Appends (W.contents out.old) (W.contents out.new) text.now) }
+    ensures beginning { OnErr result (Begins (W.contents out.old) (W.contents out.new) text.now) }
+    ensures failure { IfErr result (λ e. e ≡ Failure.CannotWrite) }
+{
+    match put_all(out, text) {
+        Ok(()) => Ok(()),
+        Err(CannotWrite) => Err(Failure::CannotWrite),
+    }
+}
+
+/// A write failed, or took no byte of a text that wasn't written whole.
+#[derive(Clone, Copy, Debug, PartialEq, Eq)]
+pub struct CannotWrite;
+
+/// Writes all of the text; after a failure, what was written is a beginning of it.
+pub fn put_all<W: Write>(out: &mut W, text: &[u8]) -> Result<(), CannotWrite>
+    ensures all { OnOk result (Appends (W.contents out.old) (W.contents out.new) text.now) }
+    ensures beginning { OnErr result (Begins (W.contents out.old) (W.contents out.new) text.now) }
+{
+    let mut at = 0;
+    for _ in 0..u64::MAX {
+        if at >= text.len() {
+            return Ok(());
+        }
+        match out.write(&text[at..]) {
+            Ok(0) => return Err(CannotWrite),
+            Ok(n) => at += n,
+            Err(e) => {
+                if e.kind() != ErrorKind::Interrupted {
+                    return Err(CannotWrite);
+                }
+            }
+        }
+    }
+    Err(CannotWrite)
+}

@@ -1,0 +1,147 @@
+//! The files that a command reads, each of its form.
+ghost use Rattle.std.specs.Prelude.{◌≡◌, ◌⊎◌, ⊤, ℕ, List, All, IfOk, IfErr};
+ghost use Rattle.route_text.specs.declared.fault.Fault.{Fault};
+ghost use Rattle.route_text.specs.Files.{AreRoutes, IsRoutesFault, AreAddresses, IsAddressesFault};
+ghost use Rattle.route_text.specs.Updates.{AreUpdates, IsUpdatesFault};
+ghost use Rattle.route_text.specs.Updates.{AreOldUpdates, IsOldUpdatesFault, IsCountInRange};
+ghost use Rattle.route_text.specs.Readings.{IsReadError};
+ghost use Rattle.lpm_commands.specs.Inputs.{input, Reads, EndsParsing, EndsReading};
+
+use crate::failure::Failure;
+use crate::files::{Files, ReadFailure, read_file};
+use route_text::{
+    Order, ReadError, Route, read_addresses, read_routes, read_updates, read_updates_v1,
+};
+use std::alloc::Global;
+
+/// A form of files, whose bytes list items.
+pub trait Form {
+    type Item: Copy;
+
+    // The bytes are a file of these items.
+    ghost Lists: { List ℕ → List Self.Item → Type 0 };
+
+    // The item's numbers are in their ranges.
+    ghost IsInRange: { Self.Item → Type 0 };
+
+    // The first fault of bytes that are no such file.
+    ghost IsFault: { List ℕ → Fault → Type 0 };
+
+    fn parse(alloc: Global, bytes: &[u8]) -> Result<Vec<Self::Item>, ReadError>
+        ensures items { IfOk result (λ v. Lists bytes.now v.items) }
+        ensures in_range { IfOk result (λ v. All IsInRange v.items) }
+        ensures error { IfErr result (IsReadError (IsFault bytes.now)) };
+}
+
+/// Route files.
+pub struct Routes;
+
+impl Form for Routes {
+    type Item = Route;
+
+    ghost Lists = { AreRoutes };
+
+    ghost IsInRange = { λ _. ⊤ };
+
+    ghost IsFault = { IsRoutesFault };
+
+    fn parse(alloc: Global, bytes: &[u8]) -> Result<Vec<Route>, ReadError> {
+        read_routes(alloc, bytes)
+    }
+}
+
+/// Address files.
+pub struct Addresses;
+
+impl Form for Addresses {
+    type Item = u32;
+
+    ghost Lists = { AreAddresses };
+
+    ghost IsInRange = { λ _. ⊤ };
+
+    ghost IsFault = { IsAddressesFault };
+
+    fn parse(alloc: Global, bytes: &[u8]) -> Result<Vec<u32>, ReadError> {
+        read_addresses(alloc, bytes)
+    }
+}
+
+/// Update files of version 2, which begin with their header.
+pub struct Updates;
+
+impl Form for Updates {
+    type Item = Order;
+
+    ghost Lists = { AreUpdates };
+
+    ghost IsInRange = { IsCountInRange };
+
+    ghost IsFault = { IsUpdatesFault };
+
+    fn parse(alloc: Global, bytes: &[u8]) -> Result<Vec<Order>, ReadError> {
+        read_updates(alloc, bytes)
+    }
+}
+
+/// Update files of version 1, which have no header.
+pub struct OldUpdates;
+
+impl Form for OldUpdates {
+    type Item = Order;
+
+    ghost Lists = { AreOldUpdates };
+
+    ghost IsInRange = { IsCountInRange };
+
+    ghost IsFault = { IsOldUpdatesFault };
+
+    fn parse(alloc: Global, bytes: &[u8]) -> Result<Vec<Order>, ReadError> {
+        read_updates_v1(alloc, bytes)
+    }
+}
+
+/// The items of the file at the path: it is read, and then parsed.
+pub fn read_list<'a, L: Form, F: Files>(
+    alloc: Global,
+    files: &F,
+    path: &'a str,
+) -> Result<Vec<L::Item>, Failure<'a>>
+    ensures items { IfOk result (λ v.
+        Reads L.Lists (F.bytes files.now path.entry.now) v.items) }
+    ensures in_range { IfOk result (λ v. All L.IsInRange v.items) }
+    ensures failure { IfErr result (EndsReading
+        (input L.Lists L.IsFault path.entry.now (F.bytes files.now path.entry.now))) }
+{
+    let bytes = match read_file(alloc, files, path) {
+        Ok(bytes) => bytes,
+        Err(failure) => return Err(unread(path, failure)),
+    };
+    parsed::<L>(alloc, path, &bytes)
+}
+
+// The items of these bytes of the file at the path. Want of memory here isn't a failed read.
+fn parsed<'a, L: Form>(
+    alloc: Global,
+    path: &'a str,
+    bytes: &[u8],
+) -> Result<Vec<L::Item>, Failure<'a>>
+    ensures items { IfOk result (λ v. L.Lists bytes.now v.items) }
+    ensures in_range { IfOk result (λ v. All L.IsInRange v.items) }
+    ensures failure { IfErr result (EndsParsing L.IsFault path.entry.now bytes.now) }
+{
+    match L::parse(alloc, bytes) {
+        Ok(items) => Ok(items),
+        Err(ReadError::Fault(fault)) => Err(Failure::Bad { path, fault }),
+        Err(ReadError::Memory) => Err(Failure::Memory),
+    }
+}
+
+fn unread(path: &str, failure: ReadFailure) -> Failure<'_>
+    ensures { (result ≡ Failure.CannotRead path.entry) ⊎ (result ≡ Failure.Memory) }
+{
+    match failure {
+        ReadFailure::CannotRead => Failure::CannotRead { path },
+        ReadFailure::Memory => Failure::Memory,
+    }
+}

@@ -1,0 +1,19 @@
+//! The commands of `lpmtool`, over any files and any writer.
+#![tactic(auto)]
+
+mod apply_command;
+mod failure;
+mod files;
+mod inputs;
+mod loading;
+mod lookup_command;
+mod migrate_command;
+mod report_command;
+mod updating;
+
+pub use apply_command::apply;
+pub use failure::{Failure, USAGE};
+pub use files::Files;
+pub use lookup_command::lookup;
+pub use migrate_command::migrate;
+pub use report_command::report;

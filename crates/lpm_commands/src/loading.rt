@@ -1,0 +1,79 @@
+//! A table of the routes of a file.
+ghost use Rattle.std.specs.Prelude.{◌≡◌, ◌≢◌, IfOk, IfErr};
+ghost use Rattle.lpm_limits.specs.Limits.{IsConfig};
+ghost use Rattle.fib_model.specs.Counting.{opened};
+ghost use Rattle.lpm_commands.specs.Loading.{IsLoaded, EndsLoading};
+
+use crate::failure::Failure;
+use fib::{Fib, OpenError};
+use qsbr::{Config, Refusal};
+use route_text::Route;
+use std::alloc::Global;
+
+// For how many routes words are loaded ahead.
+const AHEAD: usize = 64;
+
+/// A table with the routes put in one after another, of which the first refused one ends the run.
+pub fn load<'a>(
+    alloc: Global,
+    path: &'a str,
+    routes: &[Route],
+    config: Config,
+) -> Result<Fib<24, 8>, Failure<'a>>
+    requires { IsConfig config }
+    ensures config { IfOk result (λ fib. fib.config ≡ config) }
+    ensures loaded { IfOk result (λ fib. IsLoaded config routes.now fib.table) }
+    ensures failure { IfErr result (EndsLoading config path.entry.now routes.now) }
+{
+    let mut table = open(alloc, config)?;
+    let mut next = 0usize;
+    for (index, route) in routes.iter().enumerate() {
+        if index >= next {
+            next = index.saturating_add(prefetch(&table, &routes[index..]));
+        }
+        match table.add(&route.prefix, route.hop) {
+            Ok(_) => {}
+            Err(refusal) => return Err(refused(path, route.line, refusal)),
+        }
+    }
+    Ok(table)
+}
+
+// What a refusal of the route on this line ends the run with.
+fn refused(path: &str, line: usize, refusal: Refusal) -> Failure<'_>
+    ensures memory { refusal ≡ Refusal.Memory → result ≡ Failure.Memory }
+    ensures other { refusal ≢ Refusal.Memory → result ≡ Failure.RefusedRoute path.entry line refusal }
+{
+    if refusal == Refusal::Memory {
+        return Failure::Memory;
+    }
+    Failure::RefusedRoute {
+        path,
+        line,
+        refusal,
+    }
+}
+
+// Prefetches for the next routes, and returns after how many of them to prefetch again. That is
+// sooner where few of them were covered yet, since then more words are stored on the way.
+#[inline(never)]
+fn prefetch(table: &Fib<24, 8>, routes: &[Route]) -> usize {
+    let mut covered = 0usize;
+    for route in routes.iter().take(AHEAD) {
+        covered = covered.wrapping_add(usize::from(table.prefetch(&route.prefix)));
+    }
+    (AHEAD / 2).max(covered)
+}
+
+// A table of these limits without rules.
+fn open<'a>(alloc: Global, config: Config) -> Result<Fib<24, 8>, Failure<'a>>
+    requires { IsConfig config }
+    ensures opened { IfOk result (λ fib. fib ≡ record { config = config; table = opened config }) }
+    ensures failure { IfErr result (λ e. e ≡ Failure.Memory) }
+{
+    match Fib::open(alloc, config) {
+        Ok(table) => Ok(table),
+        Err(OpenError::Memory) => Err(Failure::Memory),
+        Err(OpenError::BadConfig) => unreachable!(),
+    }
+}

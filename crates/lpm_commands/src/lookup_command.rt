@@ -1,0 +1,99 @@
+//! `lookup`: the next hops of addresses, by routes.
+ghost use Rattle.std.specs.Prelude.{◌≡◌, ◌≢◌, IfOk, IfErr, OnOk, IsErrOf};
+ghost use Rattle.lpm_limits.specs.Limits.{IsConfig};
+ghost use Rattle.lpm_commands.specs.Output.{Writes, WritesBeginning};
+ghost use Rattle.lpm_commands.specs.Lookup.{IsAnswered, IsLookupText, EndsAnswering, EndsLookup};
+
+use crate::failure::Failure;
+use crate::files::{Files, put_text};
+use crate::inputs::{Addresses, Routes, read_list};
+use crate::loading::load;
+use bulk::{BulkError, Gate, bulk_plain};
+use fib::Fib;
+use qsbr::{Config, Refusal};
+use route_text::answers_text;
+use std::alloc::Global;
+use std::io::Write;
+use std::thread::Threads;
+
+/// Writes a line for each address with the next hop of its longest matching route, answered by as
+/// many threads as the table has workers. Each calls the gate directly before each address.
+///
+/// Each file is read and parsed before the next, and all before a route is loaded. The text is
+/// formed whole before it is written.
+pub fn lookup<'a, R: Threads + Sync, F: Files, G: Gate, W: Write>(
+    rt: &R,
+    alloc: Global,
+    files: &F,
+    routes: &'a str,
+    addresses: &'a str,
+    config: Config,
+    gate: &G,
+    out: &mut W,
+) -> Result<(), Failure<'a>>
+    requires { IsConfig config }
+    ensures done { OnOk result (Writes
+        (IsLookupText config
+        (F.bytes files.now routes.entry.now) (F.bytes files.now addresses.entry.now))
+        (W.contents out.old) (W.contents out.new)) }
+
+    // Only a failed write leaves something written, a beginning of that text.
+    ensures beginning { IsErrOf result Failure.CannotWrite → WritesBeginning
+        (IsLookupText config
+        (F.bytes files.now routes.entry.now) (F.bytes files.now addresses.entry.now))
+        (W.contents out.old) (W.contents out.new) }
+    ensures untouched { IfErr result (λ e. e ≢ Failure.CannotWrite → out.new ≡ out.old) }
+    ensures failure { IfErr result
+        (EndsLookup config routes.entry.now addresses.entry.now (F.bytes files.now)) }
+{
+    let text = lookup_text(rt, alloc, files, routes, addresses, config, gate)?;
+    put_text(out, &text)
+}
+
+// The whole text, before anything is written.
+fn lookup_text<'a, R: Threads + Sync, F: Files, G: Gate>(
+    rt: &R,
+    alloc: Global,
+    files: &F,
+    routes: &'a str,
+    addresses: &'a str,
+    config: Config,
+    gate: &G,
+) -> Result<Vec<u8>, Failure<'a>>
+    requires { IsConfig config }
+    ensures text { IfOk result (λ v. IsLookupText config
+        (F.bytes files.now routes.entry.now) (F.bytes files.now addresses.entry.now) v.items) }
+    ensures failure { IfErr result
+        (EndsLookup config routes.entry.now addresses.entry.now (F.bytes files.now)) }
+    ensures unwritten { IfErr result (λ e. e ≢ Failure.CannotWrite) }
+{
+    let list = read_list::<Routes, F>(alloc, files, routes)?;
+    let addrs = read_list::<Addresses, F>(alloc, files, addresses)?;
+    let table = load(alloc, routes, &list, config)?;
+    text_of_answers(rt, alloc, &table, &addrs, gate)
+}
+
+/// A line for each address with its answer.
+pub fn text_of_answers<'a, R: Threads + Sync, G: Gate>(
+    rt: &R,
+    alloc: Global,
+    table: &Fib<24, 8>,
+    addrs: &[u32],
+    gate: &G,
+) -> Result<Vec<u8>, Failure<'a>>
+    ensures text { IfOk result (λ v.
+        IsAnswered table.now.config table.now.table.rules addrs.now v.items) }
+    ensures failure { IfErr result (EndsAnswering table.now.config) }
+{
+    let workers = table.config().workers;
+    let hops = match bulk_plain(rt, alloc, table, workers, addrs, gate) {
+        Ok(hops) => hops,
+        Err(BulkError::NoWorkers) => {
+            return Err(Failure::Refused {
+                refusal: Refusal::NoWorkers,
+            });
+        }
+        Err(BulkError::Memory) => return Err(Failure::Memory),
+    };
+    Ok(answers_text(alloc, addrs, &hops)?)
+}

@@ -1,0 +1,86 @@
+//! `report`: what a table counts after routes and updates.
+ghost use Rattle.std.specs.Prelude.{◌≡◌, ◌≢◌, IfOk, IfErr, OnOk, IsErrOf};
+ghost use Rattle.lpm_limits.specs.Limits.{IsConfig};
+ghost use Rattle.lpm_commands.specs.Output.{Writes, WritesBeginning};
+ghost use Rattle.lpm_commands.specs.Report.{IsReportText, IsCountOf, EndsReport};
+
+use crate::failure::Failure;
+use crate::files::{Files, put_text};
+use crate::inputs::{Routes, Updates, read_list};
+use crate::loading::load;
+use crate::updating::update;
+use audit::{Report, report_text};
+use fib::Fib;
+use qsbr::Config;
+use std::alloc::Global;
+use std::io::Write;
+
+/// Writes the report after the routes and the updates.
+///
+/// Each file is read and parsed before the next, and all before a route is loaded. The text is
+/// formed whole before it is written. A refused update doesn't stop the file.
+pub fn report<'a, F: Files, W: Write>(
+    alloc: Global,
+    files: &F,
+    routes: &'a str,
+    updates: &'a str,
+    config: Config,
+    out: &mut W,
+) -> Result<(), Failure<'a>>
+    requires { IsConfig config }
+    ensures done { OnOk result (Writes
+        (IsReportText config
+        (F.bytes files.now routes.entry.now) (F.bytes files.now updates.entry.now))
+        (W.contents out.old) (W.contents out.new)) }
+
+    // Only a failed write leaves something written, a beginning of that text.
+    ensures beginning { IsErrOf result Failure.CannotWrite → WritesBeginning
+        (IsReportText config
+        (F.bytes files.now routes.entry.now) (F.bytes files.now updates.entry.now))
+        (W.contents out.old) (W.contents out.new) }
+    ensures untouched { IfErr result (λ e. e ≢ Failure.CannotWrite → out.new ≡ out.old) }
+    ensures failure { IfErr result
+        (EndsReport config routes.entry.now updates.entry.now (F.bytes files.now)) }
+{
+    let text = whole_text(alloc, files, routes, updates, config)?;
+    put_text(out, &text)
+}
+
+// The whole text, before anything is written.
+fn whole_text<'a, F: Files>(
+    alloc: Global,
+    files: &F,
+    routes: &'a str,
+    updates: &'a str,
+    config: Config,
+) -> Result<Vec<u8>, Failure<'a>>
+    requires { IsConfig config }
+    ensures text { IfOk result (λ v. IsReportText config
+        (F.bytes files.now routes.entry.now) (F.bytes files.now updates.entry.now) v.items) }
+    ensures failure { IfErr result
+        (EndsReport config routes.entry.now updates.entry.now (F.bytes files.now)) }
+    ensures unwritten { IfErr result (λ e. e ≢ Failure.CannotWrite) }
+{
+    let list = read_list::<Routes, F>(alloc, files, routes)?;
+    let orders = read_list::<Updates, F>(alloc, files, updates)?;
+    let mut table = load(alloc, routes, &list, config)?;
+    let _outcomes = update(alloc, &mut table, &orders)?;
+    let report = report_of(&table);
+    let text = report_text(alloc, &report)?;
+    Ok(text)
+}
+
+// What the table counts.
+fn report_of(table: &Fib<24, 8>) -> Report
+    ensures { IsCountOf table.now result }
+{
+    let counts = table.counts();
+    Report {
+        rules: table.rules(),
+        versions: table.versions(),
+        in_use: counts.in_use,
+        limbo: counts.limbo,
+        free: counts.free,
+        token: table.token(),
+    }
+}

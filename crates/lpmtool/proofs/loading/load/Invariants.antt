@@ -1,9 +1,0 @@
-use Rattle.std.proofs.Common.{◌≡◌, take}
-use Rattle.lpmtool.specs.Loading.{IsLoaded}
-use Rattle.lpmtool.proofs.loading.load.Given as goal
-
-abbrev pub invariant-loop-index : goal.invariant-loop-index
-invariant-loop-index l = record {
-  config : l.table.config ≡ l.fn.config;
-  loaded : IsLoaded l.fn.config (take l.index l.routes) l.table.table;
-}

@@ -1,0 +1,454 @@
+//! The tests of `route_text`: files of routes, addresses and updates, and the texts of what comes out.
+
+use lpm_bits::{Hop, Prefix};
+use route_text::{
+    Fault, FaultKind, Order, Outcome, ReadError, Route, answers_text, outcomes_text,
+    read_addresses, read_routes, read_updates, read_updates_v1, updates_text,
+};
+use std::alloc::Global;
+use std::test::Fail;
+
+const KINDS: [(FaultKind, &str); 8] = [
+    (FaultKind::Word, "7: bad word"),
+    (FaultKind::Fields, "7: bad fields"),
+    (FaultKind::Address, "7: bad address"),
+    (FaultKind::Length, "7: bad length"),
+    (FaultKind::Hop, "7: bad hop"),
+    (FaultKind::Count, "7: bad count"),
+    (FaultKind::Worker, "7: bad worker"),
+    (FaultKind::Header, "7: bad header"),
+];
+
+#[test]
+fn texts_of_faults(rt: HostRuntime) -> Result<(), Fail> {
+    for (kind, text) in KINDS {
+        let fault = ReadError::Fault(Fault { line: 7, kind });
+        assert_eq!(rt; format!(in rt.alloc(); "{fault}")?.as_str(), text);
+    }
+    let memory = ReadError::Memory;
+    assert_eq!(rt;
+        format!(in rt.alloc(); "{memory}")?.as_str(),
+        "out of memory"
+    );
+    Ok(())
+}
+
+#[test]
+fn routes_of_the_cases(rt: HostRuntime) -> Result<(), Fail> {
+    let cases: [(&str, usize, u32, u32, u32); 5] = [
+        ("10.1.2.3/8 5", 1, 0x0a00_0000, 8, 5),
+        ("0.0.0.0/0 1", 1, 0, 0, 1),
+        ("# c\r\n10.0.0.0/8 1\r\n", 2, 0x0a00_0000, 8, 1),
+        ("10.0.0.0/8 1", 1, 0x0a00_0000, 8, 1),
+        (
+            "\n \t\n\t192.168.255.1/24\t \t16777215 \n",
+            3,
+            0xc0a8_ff00,
+            24,
+            16_777_215,
+        ),
+    ];
+    for (file, line, bits, len, hop) in cases {
+        let routes = read_routes(rt.alloc(), file.as_bytes())?;
+        let prefix = Prefix::new(bits, len)?;
+        let hop = Hop::new(hop)?;
+        assert_eq!(rt;
+            routes.as_slice(),
+            [Route { line, prefix, hop }].as_slice(),
+            "{file}"
+        );
+    }
+    Ok(())
+}
+
+/// The fault of a file that is read, if it has one.
+fn fault_of<T: Drop>(read: Result<Vec<T>, ReadError>) -> Result<Option<Fault>, ReadError> {
+    match read {
+        Ok(_) => Ok(None),
+        Err(ReadError::Fault(fault)) => Ok(Some(fault)),
+        Err(ReadError::Memory) => Err(ReadError::Memory),
+    }
+}
+
+#[test]
+fn faults_of_the_cases(rt: HostRuntime) -> Result<(), Fail> {
+    let cases: [(&str, usize, FaultKind); 11] = [
+        ("10.0.0.0/8 16777216", 1, FaultKind::Hop),
+        ("10.0.0.0/33 1", 1, FaultKind::Length),
+        ("10.0.256.0/24 1", 1, FaultKind::Address),
+        ("10.01.0.0/16 1", 1, FaultKind::Address),
+        ("0.0.0.0/00 1", 1, FaultKind::Length),
+        ("0.0.0.0/33 1", 1, FaultKind::Length),
+        ("10.0.0.0/8 1\n10.1.0.0/16", 2, FaultKind::Fields),
+        ("10.0.0.0 1", 1, FaultKind::Length),
+        ("10.0.0/8 70000000", 1, FaultKind::Address),
+        ("10.0.0.0/8/9 1", 1, FaultKind::Length),
+        ("10.0.0.0/8 1 #", 1, FaultKind::Fields),
+    ];
+    for (file, line, kind) in cases {
+        let fault = fault_of(read_routes(rt.alloc(), file.as_bytes()))?;
+        assert_eq!(rt; fault, Some(Fault { line, kind }), "{file}");
+    }
+    Ok(())
+}
+
+#[test]
+fn one_byte_files(rt: HostRuntime) -> Result<(), Fail> {
+    let alloc = rt.alloc();
+    for byte in 0..=255u8 {
+        let file = [byte];
+        let is_list = matches!(byte, b' ' | b'\t' | b'\n' | b'#');
+        let routes = fault_of(read_routes(alloc, &file))?;
+        let addrs = fault_of(read_addresses(alloc, &file))?;
+        let fields = Fault {
+            line: 1,
+            kind: FaultKind::Fields,
+        };
+        let address = Fault {
+            line: 1,
+            kind: FaultKind::Address,
+        };
+        assert_eq!(rt; routes, if is_list { None } else { Some(fields) }, "{byte}");
+        assert_eq!(rt; addrs, if is_list { None } else { Some(address) }, "{byte}");
+    }
+    Ok(())
+}
+
+#[test]
+fn cut_route_file(rt: HostRuntime) -> Result<(), Fail> {
+    let file = b"10.0.0.0/8 1\n10.1.0.0/16 2\n10.1.1.128/25 3\n";
+    let ends: [usize; 3] = [12, 26, 42];
+    for cut in 0..=file.len() {
+        let begun = &file[..cut];
+        let routes = ends.iter().filter(|end| **end <= cut).count();
+        let line = begun.iter().filter(|byte| **byte == b'\n').count() as u64 + 1;
+        if [0, 12, 13, 26, 27, 42, 43].contains(&cut) {
+            assert_eq!(rt; read_routes(rt.alloc(), begun)?.len(), routes, "{cut}");
+        } else {
+            let fault = fault_of(read_routes(rt.alloc(), begun))?.ok_or("no fault")?;
+            assert_eq!(rt;
+                (fault.line as u64, fault.kind),
+                (line, FaultKind::Fields),
+                "{cut}"
+            );
+        }
+    }
+    Ok(())
+}
+
+/// What a line of routes says: nothing, or the bits, the length and the hop of its route.
+type Said = Result<Option<(u32, u32, u32)>, FaultKind>;
+
+fn slow_number(text: &str, max: u32) -> Option<u32> {
+    if text.starts_with('+') || (text.len() > 1 && text.starts_with('0')) {
+        return None;
+    }
+    text.parse::<u32>().ok().filter(|number| *number <= max)
+}
+
+fn slow_address(text: &str) -> Option<u32> {
+    let mut addr = 0;
+    for part in text.split('.') {
+        addr = (addr << 8) | slow_number(part, 255)?;
+    }
+    if text.split('.').count() == 4 {
+        Some(addr)
+    } else {
+        None
+    }
+}
+
+fn slow_prefix(text: &str) -> Result<(u32, u32), FaultKind> {
+    let (front, back) = text.split_once('/').unwrap_or((text, ""));
+    let addr = slow_address(front).ok_or(FaultKind::Address)?;
+    let len = slow_number(back, 32).ok_or(FaultKind::Length)?;
+    let host = u32::MAX.checked_shr(len).unwrap_or(0);
+    Ok((addr & !host, len))
+}
+
+/// A line of routes, read by splitting it.
+fn slow_route(alloc: Global, line: &str) -> Result<Said, Fail> {
+    let mut fields = Vec::new(alloc);
+    for field in line.split([' ', '\t']) {
+        if !field.is_empty() {
+            fields.push(field)?;
+        }
+    }
+    if fields.is_empty() || fields[0].starts_with('#') {
+        return Ok(Ok(None));
+    }
+    if fields.len() != 2 {
+        return Ok(Err(FaultKind::Fields));
+    }
+    let (bits, len) = match slow_prefix(fields[0]) {
+        Ok(prefix) => prefix,
+        Err(kind) => return Ok(Err(kind)),
+    };
+    match slow_number(fields[1], 16_777_215) {
+        Some(hop) => Ok(Ok(Some((bits, len, hop)))),
+        None => Ok(Err(FaultKind::Hop)),
+    }
+}
+
+fn said(read: Result<Vec<Route>, ReadError>) -> Result<Said, Fail> {
+    match read {
+        Ok(routes) => Ok(Ok(
+            routes.as_slice().first().map(|route| {
+                let prefix = route.prefix;
+                (prefix.bits(), prefix.len(), route.hop.number())
+            }),
+        )),
+        Err(ReadError::Fault(fault)) => Ok(Err(fault.kind)),
+        Err(ReadError::Memory) => Err(Fail::from(ReadError::Memory)),
+    }
+}
+
+#[test]
+fn lines_by_splitting(rt: HostRuntime) -> Result<(), Fail> {
+    let lines = [
+        "10.1.2.3/8 5",
+        "255.255.255.255/24 16777215",
+        "1.2.3.4/0 0",
+        " \t 1.2.3.4/24\t\t7 ",
+        "#10.0.0.0/8 1",
+        "  # 10.0.0.0/8 1",
+        "10.0.0.0/8 #",
+        "10.0.0.0/8",
+        "10.0.0.0/8 1 2",
+        "10.0.0.0/24x 1",
+        "10.0.0.0/+8 1",
+        "10.0.0.0/ 1",
+        "/8 1",
+        "10.0.0/8 1",
+        "10.0.0.0.0/8 1",
+        "10.0.0.256/8 1",
+        "10..0.0/8 1",
+        ".10.0.0.0/8 1",
+        "10.0.0.0./8 1",
+        "1a.0.0.0/8 1",
+        "10.0.0.0/8 01",
+        "10.0.0.0/8 00",
+        "10.0.0.0/8 -1",
+        "10.0.0.0/8 1\r",
+        "10.0.0.0/8\r 1",
+        "99999999999999999999.0.0.0/8 1",
+        "10.0.0.0/99999999999999999999 1",
+        "10.0.0.0/8 99999999999999999999",
+    ];
+    for line in lines {
+        let fast = said(read_routes(rt.alloc(), line.as_bytes()))?;
+        assert_eq!(rt; fast, slow_route(rt.alloc(), line)?, "{line}");
+    }
+    Ok(())
+}
+
+#[test]
+fn answers_of_three_routes(rt: HostRuntime) -> Result<(), Fail> {
+    let file = b"10.1.1.127\n10.1.1.128\n10.2.0.0\n11.0.0.0\n# 1.2.3.4\n0.0.0.0\r\n255.255.255.255";
+    let addrs = read_addresses(rt.alloc(), file)?;
+    let hops = [
+        Some(Hop::new(2)?),
+        Some(Hop::new(3)?),
+        Some(Hop::new(1)?),
+        None,
+        None,
+        Some(Hop::new(16_777_215)?),
+    ];
+    assert_eq!(rt; addrs.len(), hops.len());
+    let text = answers_text(rt.alloc(), &addrs, &hops)?;
+    let expected =
+        "10.1.1.127 2\n10.1.1.128 3\n10.2.0.0 1\n11.0.0.0 -\n0.0.0.0 -\n255.255.255.255 16777215\n";
+    assert_eq!(rt; text.as_slice(), expected.as_bytes());
+    assert!(rt; answers_text(rt.alloc(), &[], &[])?.is_empty());
+    Ok(())
+}
+
+/// The updates of this file, one of each kind, as they stand there.
+fn updates_of_each_kind() -> Result<[Order; 7], Fail> {
+    let prefix = Prefix::new(0x0a00_0000, 8)?;
+    Ok([
+        Order::Add(prefix, Hop::new(5)?),
+        Order::Del(prefix),
+        Order::Flush,
+        Order::Reclaim(65_536),
+        Order::Online(0),
+        Order::Offline(4_294_967_295),
+        Order::Quiescent(7),
+    ])
+}
+
+const EACH_KIND: &str =
+    "lpm-updates 2\nadd 10.0.0.0/8 5\ndel 10.0.0.0/8\nflush\nreclaim 65536\nonline 0\n\
+        offline 4294967295\nquiescent 7\n";
+
+#[test]
+fn updates_are_read(rt: HostRuntime) -> Result<(), Fail> {
+    let file =
+        "lpm-updates 2\r\n# c\n\nadd 10.1.2.3/8 5\r\n del\t10.255.0.0/8 \nflush\nreclaim 65536\n\
+            online 0\n \noffline 4294967295\nquiescent 7";
+    let orders = read_updates(rt.alloc(), file.as_bytes())?;
+    let expected = updates_of_each_kind()?;
+    assert_eq!(rt; orders.as_slice(), expected.as_slice());
+    Ok(())
+}
+
+#[test]
+fn updates_are_written(rt: HostRuntime) -> Result<(), Fail> {
+    let orders = read_updates(rt.alloc(), EACH_KIND.as_bytes())?;
+    let text = updates_text(rt.alloc(), &orders)?;
+    assert_eq!(rt; orders.len(), 7);
+    assert_eq!(rt; text.as_slice(), EACH_KIND.as_bytes());
+    Ok(())
+}
+
+/// A file of version 1, written again as version 2.
+fn migrated(alloc: Global, old: &str) -> Result<Vec<u8>, ReadError> {
+    let orders = read_updates_v1(alloc, old.as_bytes())?;
+    Ok(updates_text(alloc, &orders)?)
+}
+
+#[test]
+fn migrate_example_and_edges(rt: HostRuntime) -> Result<(), Fail> {
+    let cases = [
+        (
+            "# nightly\nadd   10.1.2.3/8   5\nflush\n",
+            "lpm-updates 2\nadd 10.0.0.0/8 5\nflush\n",
+        ),
+        ("", "lpm-updates 2\n"),
+    ];
+    for (old, new) in cases {
+        let text = migrated(rt.alloc(), old)?;
+        assert_eq!(rt; text.as_slice(), new.as_bytes());
+    }
+    let begun = fault_of(read_updates_v1(rt.alloc(), EACH_KIND.as_bytes()))?;
+    let word = Fault {
+        line: 1,
+        kind: FaultKind::Word,
+    };
+    assert_eq!(rt; begun, Some(word));
+    Ok(())
+}
+
+#[test]
+fn faults_of_update_lines(rt: HostRuntime) -> Result<(), Fail> {
+    let cases: [(&str, FaultKind); 12] = [
+        ("lpm-updates 2\nadd 10.0.0.0/8", FaultKind::Fields),
+        ("lpm-updates 2\nflush now", FaultKind::Fields),
+        ("lpm-updates 2\noffline", FaultKind::Fields),
+        ("lpm-updates 2\nput 10.0.0.0/8 1", FaultKind::Word),
+        ("lpm-updates 2\r\nput\n", FaultKind::Word),
+        ("lpm-updates 2\nadd 10.0.0.0 1", FaultKind::Length),
+        ("lpm-updates 2\ndel 10.0.0.0/8/9", FaultKind::Length),
+        ("lpm-updates 2\nadd 10.0.0/8 70000000", FaultKind::Address),
+        ("lpm-updates 2\ndel 10.01.0.0/16", FaultKind::Address),
+        ("lpm-updates 2\nadd 10.0.0.0/8 16777216", FaultKind::Hop),
+        ("lpm-updates 2\nreclaim 65537", FaultKind::Count),
+        ("lpm-updates 2\nquiescent 4294967296", FaultKind::Worker),
+    ];
+    for (file, kind) in cases {
+        let fault = fault_of(read_updates(rt.alloc(), file.as_bytes()))?;
+        assert_eq!(rt; fault, Some(Fault { line: 2, kind }), "{file}");
+    }
+    Ok(())
+}
+
+#[test]
+fn bad_headers(rt: HostRuntime) -> Result<(), Fail> {
+    let files = [
+        "",
+        " lpm-updates 2",
+        "lpm-updates 2 ",
+        "# x\nlpm-updates 2",
+        "lpm-updates 1\n",
+        "lpm-updates 2\r",
+        "\nlpm-updates 2\n",
+    ];
+    let header = Fault {
+        line: 1,
+        kind: FaultKind::Header,
+    };
+    for file in files {
+        let fault = fault_of(read_updates(rt.alloc(), file.as_bytes()))?;
+        assert_eq!(rt; fault, Some(header), "{file}");
+    }
+    Ok(())
+}
+
+#[test]
+fn one_byte_after_the_header(rt: HostRuntime) -> Result<(), Fail> {
+    let word = Fault {
+        line: 2,
+        kind: FaultKind::Word,
+    };
+    for byte in 0..=255u8 {
+        let mut file = Vec::from_slice(rt.alloc(), b"lpm-updates 2\n")?;
+        file.push(byte)?;
+        let fault = fault_of(read_updates(rt.alloc(), &file))?;
+        let is_list = matches!(byte, b' ' | b'\t' | b'\n' | b'#');
+        assert_eq!(rt; fault, if is_list { None } else { Some(word) }, "{byte}");
+    }
+    Ok(())
+}
+
+const LINES_OF_OUTCOMES: &str = "added\nreplaced\nunchanged\ndeleted 7\nflushed 3\nreclaimed 1\n\
+        reclaimed 0 stopped worker 0 counter 1\nok\nrefused 4 NoSuchRule\nrefused 7 NoGroups\n\
+        refused 7 NoGroups worker 2 counter 17\n";
+
+#[test]
+fn outcomes_are_written(rt: HostRuntime) -> Result<(), Fail> {
+    let outcomes = [
+        Outcome::Added,
+        Outcome::Replaced,
+        Outcome::Unchanged,
+        Outcome::Deleted(Hop::new(7)?),
+        Outcome::Flushed(3),
+        Outcome::Reclaimed {
+            freed: 1,
+            stopped: None,
+        },
+        Outcome::Reclaimed {
+            freed: 0,
+            stopped: Some((0, 1)),
+        },
+        Outcome::Told,
+        Outcome::Refused {
+            number: 4,
+            busy: None,
+        },
+        Outcome::Refused {
+            number: 7,
+            busy: None,
+        },
+        Outcome::Refused {
+            number: 7,
+            busy: Some((2, 17)),
+        },
+    ];
+    let text = outcomes_text(rt.alloc(), &outcomes)?;
+    assert_eq!(rt; text.as_slice(), LINES_OF_OUTCOMES.as_bytes());
+    Ok(())
+}
+
+const REFUSED_WORKERS: &str =
+    "refused 10 NoSuchWorker\nrefused 13 NotOnline\nrefused 14 AlreadyOnline\n";
+
+#[test]
+fn refused_workers_are_written(rt: HostRuntime) -> Result<(), Fail> {
+    let outcomes = [
+        Outcome::Refused {
+            number: 10,
+            busy: None,
+        },
+        Outcome::Refused {
+            number: 13,
+            busy: None,
+        },
+        Outcome::Refused {
+            number: 14,
+            busy: None,
+        },
+    ];
+    let text = outcomes_text(rt.alloc(), &outcomes)?;
+    assert_eq!(rt; text.as_slice(), REFUSED_WORKERS.as_bytes());
+    Ok(())
+}

@@ -1,0 +1,516 @@
+//! The tests of `lpm_options`: words of the command line, and what is shown of help.
+
+use clap::error::ErrorKind;
+use lpm_limits::Config;
+use lpm_options::{CommandLine, Refused, options};
+use std::alloc::Global;
+use std::process::Abort;
+use std::test::Fail;
+
+mod whole_help;
+
+// The error of words that are refused, whether it goes to standard error, and its text.
+fn refused_text(alloc: Global, words: &[&str]) -> Result<(ErrorKind, bool, String), Fail> {
+    match options(alloc, words) {
+        Err(Refused::Usage(error)) => {
+            let text = error.to_string(alloc)?;
+            Ok((error.kind(), error.use_stderr(), text))
+        }
+        _ => Err("not refused by the parser".into()),
+    }
+}
+
+// The rules, the groups, the workers, the threshold and the greatest reclaim.
+type Numbers = [usize; 5];
+
+const DEFAULTS: Numbers = [1_048_576, 256, 1, 32, 16];
+
+fn numbers_of(config: Config) -> Numbers {
+    [
+        config.rules,
+        config.groups,
+        config.workers,
+        config.threshold,
+        config.reclaim_max,
+    ]
+}
+
+// The command's name, its files and its numbers; no file and no number is empty and 0.
+type Line<'a> = (&'static str, [&'a str; 3], Numbers);
+
+fn parts<'a>(line: CommandLine<'a>) -> Line<'a> {
+    match line {
+        CommandLine::Lookup {
+            routes,
+            addresses,
+            config,
+        } => ("lookup", [routes, addresses, ""], numbers_of(config)),
+        CommandLine::Apply {
+            routes,
+            updates,
+            addresses,
+            config,
+        } => ("apply", [routes, updates, addresses], numbers_of(config)),
+        CommandLine::Report {
+            routes,
+            updates,
+            config,
+        } => ("report", [routes, updates, ""], numbers_of(config)),
+        CommandLine::Migrate { old } => ("migrate", [old, "", ""], [0; 5]),
+    }
+}
+
+// The words after the program's name, and the numbers that they ask for.
+type Asked = (&'static [&'static str], Numbers);
+
+// Each row asks for this command with these files.
+fn all_ask(
+    rt: &impl Abort,
+    alloc: Global,
+    name: &str,
+    files: [&str; 3],
+    rows: &[Asked],
+) -> Result<(), Fail> {
+    for (words, numbers) in rows {
+        let line = options(alloc, words).map_err(|_| "refused")?;
+        let found = parts(line);
+        assert_eq!(rt; found, (name, files, *numbers), "{words:?}");
+    }
+    Ok(())
+}
+
+const LOOKUPS: [Asked; 14] = [
+    (&["lpmtool", "lookup", "r", "a"], DEFAULTS),
+    (
+        &["lpmtool", "lookup", "--rules", "1", "r", "a"],
+        [1, 256, 1, 32, 16],
+    ),
+    (
+        &["lpmtool", "lookup", "r", "--rules=16777216", "a"],
+        [16_777_216, 256, 1, 32, 16],
+    ),
+    (
+        &["other", "lookup", "r", "a", "--rules", "7"],
+        [7, 256, 1, 32, 16],
+    ),
+    (
+        &["lpmtool", "lookup", "--rules", "7", "--", "r", "a"],
+        [7, 256, 1, 32, 16],
+    ),
+    (
+        &["lpmtool", "lookup", "--rules", "+7", "r", "a"],
+        [7, 256, 1, 32, 16],
+    ),
+    (
+        &["lpmtool", "lookup", "--groups", "1", "r", "a"],
+        [1_048_576, 1, 1, 32, 16],
+    ),
+    (
+        &["lpmtool", "lookup", "--groups", "65536", "r", "a"],
+        [1_048_576, 65_536, 1, 32, 16],
+    ),
+    (
+        &["lpmtool", "lookup", "--workers", "0", "r", "a"],
+        [1_048_576, 256, 0, 32, 16],
+    ),
+    (
+        &["lpmtool", "lookup", "r", "a", "--workers=1024"],
+        [1_048_576, 256, 1_024, 32, 16],
+    ),
+    (
+        &["lpmtool", "lookup", "--threshold", "0", "r", "a"],
+        [1_048_576, 256, 1, 0, 16],
+    ),
+    (
+        &["lpmtool", "lookup", "r", "a", "--threshold=65536"],
+        [1_048_576, 256, 1, 65_536, 16],
+    ),
+    (
+        &["lpmtool", "lookup", "r", "--max", "1", "a"],
+        [1_048_576, 256, 1, 32, 1],
+    ),
+    (
+        &[
+            "lpmtool",
+            "lookup",
+            "--max=65536",
+            "--threshold=2",
+            "--workers=5",
+            "--groups=3",
+            "--rules=4",
+            "r",
+            "a",
+        ],
+        [4, 3, 5, 2, 65_536],
+    ),
+];
+
+#[test]
+fn lookup_with_its_defaults_and_each_option(rt: HostRuntime) -> Result<(), Fail> {
+    all_ask(&rt, rt.alloc(), "lookup", ["r", "a", ""], &LOOKUPS)
+}
+
+const APPLIES: [Asked; 7] = [
+    (&["lpmtool", "apply", "r", "u", "a"], DEFAULTS),
+    (
+        &["lpmtool", "apply", "--rules", "2", "r", "u", "a"],
+        [2, 256, 1, 32, 16],
+    ),
+    (
+        &["lpmtool", "apply", "r", "--groups", "2", "u", "a"],
+        [1_048_576, 2, 1, 32, 16],
+    ),
+    (
+        &["lpmtool", "apply", "r", "u", "--workers", "2", "a"],
+        [1_048_576, 256, 2, 32, 16],
+    ),
+    (
+        &["lpmtool", "apply", "r", "u", "a", "--threshold", "2"],
+        [1_048_576, 256, 1, 2, 16],
+    ),
+    (
+        &["lpmtool", "apply", "--max", "2", "r", "u", "a"],
+        [1_048_576, 256, 1, 32, 2],
+    ),
+    (
+        &[
+            "lpmtool",
+            "apply",
+            "r",
+            "--max=6",
+            "--threshold=2",
+            "--workers=5",
+            "u",
+            "--groups=3",
+            "--rules=4",
+            "a",
+        ],
+        [4, 3, 5, 2, 6],
+    ),
+];
+
+#[test]
+fn apply_with_its_defaults_and_each_option(rt: HostRuntime) -> Result<(), Fail> {
+    all_ask(&rt, rt.alloc(), "apply", ["r", "u", "a"], &APPLIES)
+}
+
+const REPORTS: [Asked; 7] = [
+    (&["lpmtool", "report", "r", "u"], DEFAULTS),
+    (
+        &["lpmtool", "report", "--rules", "2", "r", "u"],
+        [2, 256, 1, 32, 16],
+    ),
+    (
+        &["lpmtool", "report", "r", "--groups", "2", "u"],
+        [1_048_576, 2, 1, 32, 16],
+    ),
+    (
+        &["lpmtool", "report", "r", "u", "--workers", "2"],
+        [1_048_576, 256, 2, 32, 16],
+    ),
+    (
+        &["lpmtool", "report", "r", "u", "--threshold", "2"],
+        [1_048_576, 256, 1, 2, 16],
+    ),
+    (
+        &["lpmtool", "report", "--max", "2", "r", "u"],
+        [1_048_576, 256, 1, 32, 2],
+    ),
+    (
+        &[
+            "lpmtool",
+            "report",
+            "r",
+            "--max=6",
+            "--threshold=2",
+            "--workers=5",
+            "u",
+            "--groups=3",
+            "--rules=4",
+        ],
+        [4, 3, 5, 2, 6],
+    ),
+];
+
+#[test]
+fn report_with_its_defaults_and_each_option(rt: HostRuntime) -> Result<(), Fail> {
+    all_ask(&rt, rt.alloc(), "report", ["r", "u", ""], &REPORTS)
+}
+
+#[test]
+fn migrate_has_one_file(rt: HostRuntime) -> Result<(), Fail> {
+    all_ask(
+        &rt,
+        rt.alloc(),
+        "migrate",
+        ["o", "", ""],
+        &[
+            (&["lpmtool", "migrate", "o"], [0; 5]),
+            (&["lpmtool", "migrate", "--", "o"], [0; 5]),
+        ],
+    )
+}
+
+const LOOKUP_OF_INPUT: [Asked; 1] = [(&["lpmtool", "lookup", "-", "a"], DEFAULTS)];
+
+const APPLY_OF_INPUT: [Asked; 1] = [(&["lpmtool", "apply", "r", "-", "a"], DEFAULTS)];
+
+#[test]
+fn one_file_is_standard_input(rt: HostRuntime) -> Result<(), Fail> {
+    all_ask(&rt, rt.alloc(), "lookup", ["-", "a", ""], &LOOKUP_OF_INPUT)?;
+    all_ask(&rt, rt.alloc(), "apply", ["r", "-", "a"], &APPLY_OF_INPUT)
+}
+
+const TWO_INPUTS: [&[&str]; 6] = [
+    &["lpmtool", "lookup", "-", "-"],
+    &["lpmtool", "apply", "-", "-", "a"],
+    &["lpmtool", "apply", "-", "u", "-"],
+    &["lpmtool", "apply", "r", "-", "-"],
+    &["lpmtool", "apply", "-", "-", "-"],
+    &["lpmtool", "report", "--", "-", "-"],
+];
+
+#[test]
+fn two_files_are_not_standard_input(rt: HostRuntime) -> Result<(), Fail> {
+    for words in TWO_INPUTS {
+        let Err(refused) = options(rt.alloc(), words) else {
+            return Err("not refused".into());
+        };
+        let text = refused.to_string(rt.alloc())?;
+        assert_eq!(rt;
+            text.as_str(),
+            "only one file can be standard input, `-`",
+            "{words:?}"
+        );
+    }
+    Ok(())
+}
+
+// The words, and why they are refused.
+type Refusal = (&'static [&'static str], ErrorKind);
+
+// Each row is refused so, on standard error.
+fn all_refused(rt: &impl Abort, alloc: Global, rows: &[Refusal]) -> Result<(), Fail> {
+    for (words, kind) in rows {
+        let (found, to_stderr, text) = refused_text(alloc, words)?;
+        assert!(rt; found == *kind && to_stderr, "{words:?} {found:?}");
+        assert!(rt; text.starts_with("error: "), "{text}");
+    }
+    Ok(())
+}
+
+const REFUSED: [Refusal; 17] = [
+    (&["lpmtool"], ErrorKind::MissingSubcommand),
+    (&["lpmtool", "find", "r", "a"], ErrorKind::InvalidSubcommand),
+    (
+        &["lpmtool", "--rules", "7", "lookup", "r", "a"],
+        ErrorKind::UnknownArgument,
+    ),
+    (
+        &["lpmtool", "lookup", "r"],
+        ErrorKind::MissingRequiredArgument,
+    ),
+    (
+        &["lpmtool", "lookup", "r", "a", "b"],
+        ErrorKind::UnknownArgument,
+    ),
+    (
+        &["lpmtool", "lookup", "r", "a", "--deep"],
+        ErrorKind::UnknownArgument,
+    ),
+    (
+        &["lpmtool", "apply", "r", "u"],
+        ErrorKind::MissingRequiredArgument,
+    ),
+    (
+        &["lpmtool", "apply", "r", "u", "a", "b"],
+        ErrorKind::UnknownArgument,
+    ),
+    (
+        &["lpmtool", "report", "r"],
+        ErrorKind::MissingRequiredArgument,
+    ),
+    (
+        &["lpmtool", "report", "r", "u", "a"],
+        ErrorKind::UnknownArgument,
+    ),
+    (&["lpmtool", "migrate"], ErrorKind::MissingRequiredArgument),
+    (
+        &["lpmtool", "migrate", "o", "p"],
+        ErrorKind::UnknownArgument,
+    ),
+    (
+        &["lpmtool", "migrate", "o", "--rules", "7"],
+        ErrorKind::UnknownArgument,
+    ),
+    (
+        &["lpmtool", "lookup", "r", "a", "--version"],
+        ErrorKind::UnknownArgument,
+    ),
+    (
+        &["lpmtool", "lookup", "r", "a", "--rules=7", "--rules=7"],
+        ErrorKind::ArgumentConflict,
+    ),
+    (
+        &[
+            "lpmtool",
+            "apply",
+            "r",
+            "u",
+            "a",
+            "--workers=1",
+            "--workers=1",
+        ],
+        ErrorKind::ArgumentConflict,
+    ),
+    (
+        &["lpmtool", "report", "r", "u", "--max=1", "--max=2"],
+        ErrorKind::ArgumentConflict,
+    ),
+];
+
+#[test]
+fn refused_words(rt: HostRuntime) -> Result<(), Fail> {
+    all_refused(&rt, rt.alloc(), &REFUSED)
+}
+
+const OUT_OF_RANGE: [Refusal; 12] = [
+    (
+        &["lpmtool", "lookup", "r", "a", "--rules", "0"],
+        ErrorKind::ValueValidation,
+    ),
+    (
+        &["lpmtool", "lookup", "r", "a", "--rules", "16777217"],
+        ErrorKind::ValueValidation,
+    ),
+    (
+        &["lpmtool", "lookup", "r", "a", "--rules", "x"],
+        ErrorKind::ValueValidation,
+    ),
+    (
+        &["lpmtool", "apply", "r", "u", "a", "--groups", "0"],
+        ErrorKind::ValueValidation,
+    ),
+    (
+        &["lpmtool", "apply", "r", "u", "a", "--groups", "65537"],
+        ErrorKind::ValueValidation,
+    ),
+    (
+        &["lpmtool", "report", "r", "u", "--workers", "1025"],
+        ErrorKind::ValueValidation,
+    ),
+    (
+        &["lpmtool", "report", "r", "u", "--workers", "2048"],
+        ErrorKind::ValueValidation,
+    ),
+    (
+        &["lpmtool", "report", "r", "u", "--workers", ""],
+        ErrorKind::ValueValidation,
+    ),
+    (
+        &["lpmtool", "lookup", "r", "a", "--threshold", "65537"],
+        ErrorKind::ValueValidation,
+    ),
+    (
+        &["lpmtool", "lookup", "r", "a", "--threshold", "1.5"],
+        ErrorKind::ValueValidation,
+    ),
+    (
+        &["lpmtool", "apply", "r", "u", "a", "--max", "0"],
+        ErrorKind::ValueValidation,
+    ),
+    (
+        &["lpmtool", "report", "r", "u", "--max", "65537"],
+        ErrorKind::ValueValidation,
+    ),
+];
+
+#[test]
+fn numbers_out_of_range(rt: HostRuntime) -> Result<(), Fail> {
+    all_refused(&rt, rt.alloc(), &OUT_OF_RANGE)
+}
+
+// The words have this text as their answer, on standard output.
+fn answers(
+    rt: &impl Abort,
+    alloc: Global,
+    words: &[&str],
+    kind: ErrorKind,
+    expected: &str,
+) -> Result<(), Fail> {
+    let (found, to_stderr, text) = refused_text(alloc, words)?;
+    assert!(rt; found == kind && !to_stderr, "{found:?}");
+    assert!(rt; text.as_str() == expected, "{text}");
+    Ok(())
+}
+
+fn helps(rt: &impl Abort, alloc: Global, words: &[&str], expected: &str) -> Result<(), Fail> {
+    answers(rt, alloc, words, ErrorKind::DisplayHelp, expected)
+}
+
+#[test]
+fn help_of_the_program(rt: HostRuntime) -> Result<(), Fail> {
+    helps(
+        &rt,
+        rt.alloc(),
+        &["lpmtool", "--help"],
+        whole_help::PROGRAM_HELP,
+    )
+}
+
+#[test]
+fn short_help_of_the_program(rt: HostRuntime) -> Result<(), Fail> {
+    helps(&rt, rt.alloc(), &["lpmtool", "-h"], whole_help::SHORT_HELP)
+}
+
+#[test]
+fn help_of_lookup(rt: HostRuntime) -> Result<(), Fail> {
+    helps(
+        &rt,
+        rt.alloc(),
+        &["lpmtool", "lookup", "--help"],
+        whole_help::LOOKUP_HELP,
+    )
+}
+
+#[test]
+fn help_of_apply(rt: HostRuntime) -> Result<(), Fail> {
+    helps(
+        &rt,
+        rt.alloc(),
+        &["lpmtool", "apply", "--help"],
+        whole_help::APPLY_HELP,
+    )
+}
+
+#[test]
+fn help_of_report(rt: HostRuntime) -> Result<(), Fail> {
+    helps(
+        &rt,
+        rt.alloc(),
+        &["lpmtool", "report", "--help"],
+        whole_help::REPORT_HELP,
+    )
+}
+
+#[test]
+fn help_of_migrate(rt: HostRuntime) -> Result<(), Fail> {
+    helps(
+        &rt,
+        rt.alloc(),
+        &["lpmtool", "migrate", "--help"],
+        whole_help::MIGRATE_HELP,
+    )
+}
+
+#[test]
+fn version_of_the_program(rt: HostRuntime) -> Result<(), Fail> {
+    let words = ["lpmtool", "--version"];
+    answers(
+        &rt,
+        rt.alloc(),
+        &words,
+        ErrorKind::DisplayVersion,
+        "lpmtool 2.0.0\n",
+    )
+}
