@@ -1,10 +1,11 @@
 //! Many addresses answered in pieces, on one thread and on four.
 
-use crate::report::{Hundredths, hundredths_of_nanos, ratio};
+use crate::report::{Hundredths, hundredths_of_nanos, nanos, ratio};
 use anyhow::Result;
-use bulk::{Open, bulk_plain};
+use bulk::{Gate, Open, bulk_plain};
 use fib::Fib;
 use std::rt::Clock;
+use std::sync::atomic::{AtomicU64, Ordering};
 use std::thread::Threads;
 use std::time::{Duration, Instant};
 
@@ -15,21 +16,38 @@ const ROUNDS: usize = 5;
 const WORKERS: usize = 4;
 
 /// Prints what it takes to answer the addresses with one worker and with four, each lookup in
-/// nanoseconds: room is made, the pieces are answered, and the answers are joined.
+/// nanoseconds: the whole call, in which room is made, the pieces are answered and the answers are
+/// joined; and the answering alone, from the first address of a piece to the last.
 pub(crate) fn print_pieces<R: Clock + Print + AllocGlobal + Threads + Sync>(
     rt: &R,
     table: &Fib<24, 8>,
     addrs: &[u32],
 ) -> Result<()> {
-    let one = hundredths_of_nanos(least(rt, table, addrs, 1)?, addrs.len());
-    let more = hundredths_of_nanos(least(rt, table, addrs, WORKERS)?, addrs.len());
-    println!(rt; "bulk, 1 worker: {} ns each", Hundredths(one))?;
-    println!(rt; "bulk, {WORKERS} workers: {} ns each", Hundredths(more))?;
-    println!(rt; "ratio, bulk: {}", Hundredths(ratio(one, more)))?;
+    let one = least(rt, table, addrs, 1)?;
+    let more = least(rt, table, addrs, WORKERS)?;
+    print_times(rt, "bulk", addrs.len(), one, more)?;
+    let one = least_answering(rt, table, addrs, 1)?;
+    let more = least_answering(rt, table, addrs, WORKERS)?;
+    print_times(rt, "answering alone", addrs.len(), one, more)
+}
+
+/// Prints the times of one worker and of four for so many addresses.
+fn print_times<R: Print>(
+    rt: &R,
+    what: &str,
+    addrs: usize,
+    one: Duration,
+    more: Duration,
+) -> Result<()> {
+    let one = hundredths_of_nanos(one, addrs);
+    let more = hundredths_of_nanos(more, addrs);
+    println!(rt; "{what}, 1 worker: {} ns each", Hundredths(one))?;
+    println!(rt; "{what}, {WORKERS} workers: {} ns each", Hundredths(more))?;
+    println!(rt; "ratio, {what}: {}", Hundredths(ratio(one, more)))?;
     Ok(())
 }
 
-/// The least time in which so many workers answer the addresses.
+/// The least time of a call in which so many workers answer the addresses.
 fn least<R: Clock + AllocGlobal + Threads + Sync>(
     rt: &R,
     table: &Fib<24, 8>,
@@ -43,4 +61,67 @@ fn least<R: Clock + AllocGlobal + Threads + Sync>(
         least = least.min(start.elapsed(rt)?);
     }
     Ok(least)
+}
+
+/// The least time from the first address of a piece to the last address of a piece, where so many
+/// workers answer the addresses.
+fn least_answering<R: Clock + AllocGlobal + Threads + Sync>(
+    rt: &R,
+    table: &Fib<24, 8>,
+    addrs: &[u32],
+    workers: usize,
+) -> Result<Duration> {
+    let mut least = Duration::MAX;
+    for _ in 0..ROUNDS {
+        let watch = Stopwatch {
+            rt,
+            start: Instant::now(rt)?,
+            last: (addrs.len() / workers.max(1)).saturating_sub(1),
+            began: AtomicU64::new(u64::MAX),
+            ended: AtomicU64::new(0),
+        };
+        let _hops = bulk_plain(rt, rt.alloc(), table, workers, addrs, &watch)?;
+        least = least.min(watch.time());
+    }
+    Ok(least)
+}
+
+/// A gate that notes when the first piece begins and when the last one comes to its last address.
+/// Times are nanoseconds from the start.
+#[derive(Drop)]
+struct Stopwatch<'a, R> {
+    rt: &'a R,
+    start: Instant,
+    last: usize,
+    began: AtomicU64,
+    ended: AtomicU64,
+}
+
+impl<R: Clock> Stopwatch<'_, R> {
+    /// The time until now, or none where the clock can't be read.
+    fn now(&self) -> Option<u64> {
+        Some(nanos(self.start.elapsed(self.rt).ok()?))
+    }
+
+    /// The time in which pieces were answered.
+    fn time(&self) -> Duration {
+        let began = self.began.load(Ordering::SeqCst);
+        let ended = self.ended.load(Ordering::SeqCst);
+        Duration::from_nanos(ended.saturating_sub(began))
+    }
+}
+
+impl<R: Clock + Sync> Gate for Stopwatch<'_, R> {
+    fn at(&self, _piece: usize, i: usize) {
+        if i == 0 {
+            if let Some(now) = self.now() {
+                self.began.fetch_min(now, Ordering::SeqCst);
+            }
+        }
+        if i == self.last {
+            if let Some(now) = self.now() {
+                self.ended.fetch_max(now, Ordering::SeqCst);
+            }
+        }
+    }
 }

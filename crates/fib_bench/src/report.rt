@@ -184,6 +184,6 @@ fn each_second(time: Duration, count: usize) -> u64 {
     (count as u64).saturating_mul(1_000_000_000) / nanos(time).max(1)
 }
 
-fn nanos(time: Duration) -> u64 {
+pub(crate) fn nanos(time: Duration) -> u64 {
     u64::try_from(time.as_nanos()).unwrap_or(u64::MAX)
 }
