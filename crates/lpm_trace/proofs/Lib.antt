@@ -1,0 +1,10 @@
+pub mod Basics
+pub mod Versions
+pub mod Good
+pub mod Writing
+pub mod Checking
+pub mod Reading
+pub mod Traces
+pub mod Moments
+pub mod Grace
+pub mod Promises

@@ -1,0 +1,315 @@
+-- From the number of the writer's steps to the number of all steps: each finished lookup is legal at a
+-- moment.
+use Rattle.std.proofs.Common.{◌≡◌, ◌≢◌, ℕ, zero, suc, ◌+◌, ◌-◌, ◌<◌, ◌≤◌, ◌⊎◌, inl, inr, cond, List, [], ◌∷◌, All, map, length, refl, sym, ap, subst, ◌∙◌, zero-add, arith}
+use Rattle.std.specs.Bool.{⊤}
+use Rattle.std.proofs.lemmas.Bool.{cases_lt}
+use Rattle.std.proofs.lemmas.Bool.Decides.{eqb_tells}
+use Rattle.lpm_entry.specs.declared.Entry.{Entry}
+use Rattle.lpm_entry.specs.declared.Entry.TheVariants.{Miss, Hop, Group}
+use Rattle.lpm_entry.specs.Words.{entry_in}
+use Rattle.lpm_trace.specs.declared.step.WriterStep.{WriterStep}
+use Rattle.lpm_trace.specs.declared.step.WorkerStep.{WorkerStep}
+use Rattle.lpm_trace.specs.declared.step.WorkerStep.TheVariants.{LoadOnline, StoreOnline, LoadQuiescent, StoreQuiescent, StoreOffline, Begins, LoadFirst, LoadSecond, Ends, Meets}
+use Rattle.lpm_trace.specs.declared.step.Step.{Step}
+use Rattle.lpm_trace.specs.declared.step.Step.TheVariants.{Writer, Worker as ByWorker}
+use Rattle.lpm_trace.specs.Tables.{Setup, Tables, IsSettled, IsAnswer, done_at, begun_at, version, oldest, tables, tables_at}
+use Rattle.lpm_trace.specs.Workers.{Worker, Probe, Unread, InGroup, Answered, Seen, resting, read_first, first_read, second_read, with_answers, moved}
+use Rattle.lpm_trace.specs.Trace.{after, IsTrace, writes, worker_of}
+use Rattle.lpm_trace.specs.Laws.{at_moment, rules_of_version, version_at, IsLegal, IsMonotone, LookupsAreLegal, LookupsAreMonotone, VersionsNeverFall}
+use Rattle.lpm_trace.proofs.Basics.{Each, each_map, each_all}
+use Rattle.lpm_trace.proofs.Versions.{version_ge, version_le}
+use Rattle.lpm_trace.proofs.Traces.{oldest_old, oldest_new, oldest_all, clock_length, tables_of, rising, IsRight, all_right}
+
+-- ---- how many of the first n steps are the writer's
+
+abbrev pub count : List Step → ℕ → ℕ
+count steps n = length (writes (oldest n steps))
+
+pub count_old : (s : Step) (steps : List Step) (n : ℕ) → n ≤ length steps → count (s ∷ steps) n ≡ count steps n
+count_old s steps n le = ap (λ l. length (writes l)) (oldest_old s steps n le)
+
+writes_more : (s : Step) (steps : List Step) → (length (writes steps) ≤ length (writes (s ∷ steps))) × (length (writes (s ∷ steps)) ≤ suc (length (writes steps)))
+writes_more (Writer s) steps = (omega arith, omega arith)
+writes_more (ByWorker k s) steps = (omega arith, omega arith)
+
+pub count_le : (steps : List Step) (n : ℕ) → count steps n ≤ length (writes steps)
+count_le [] n = omega arith
+count_le (s ∷ steps) n = elim (cases_lt (length steps) n) [
+  | inl h ↦ subst (λ l. length (writes l) ≤ length (writes (s ∷ steps))) (sym (oldest_new s steps n h)) (omega arith)
+  | inr h ↦ let here = count_old s steps n h in omega (arith, here, count_le steps n, (writes_more s steps).0)
+]
+
+writes_older : (s : Step) (steps : List Step) (n : ℕ) → n ≤ length (writes steps) → oldest n (writes (s ∷ steps)) ≡ oldest n (writes steps)
+writes_older (Writer s) steps n le = oldest_old s (writes steps) n le
+writes_older (ByWorker k s) steps n le = refl
+
+-- the writer's steps among the first n
+pub writes_oldest : (steps : List Step) (n : ℕ) → oldest (count steps n) (writes steps) ≡ writes (oldest n steps)
+writes_oldest [] n = refl
+writes_oldest (s ∷ steps) n = elim (cases_lt (length steps) n) [
+  | inl h ↦ subst (λ l. oldest (length (writes l)) (writes (s ∷ steps)) ≡ writes l) (sym (oldest_new s steps n h)) (oldest_all (writes (s ∷ steps)) (length (writes (s ∷ steps))) (omega arith))
+  | inr h ↦ subst (λ l. oldest (length (writes l)) (writes (s ∷ steps)) ≡ writes l) (sym (oldest_old s steps n h)) (writes_older s steps (count steps n) (count_le steps n) ∙ writes_oldest steps n)
+]
+
+pub count_next : (steps : List Step) (n : ℕ) → (count steps n ≤ count steps (suc n)) × (count steps (suc n) ≤ suc (count steps n))
+count_next [] n = (omega arith, omega arith)
+count_next (s ∷ steps) n = elim (cases_lt (length steps) n) [
+  | inl h ↦
+      let now = ap (λ l. length (writes l)) (oldest_new s steps n h) in
+      let next = ap (λ l. length (writes l)) (oldest_new s steps (suc n) (omega (arith, h))) in
+      (omega (arith, now, next), omega (arith, now, next))
+  | inr h ↦ elim (cases_lt (length steps) (suc n)) [
+    | inl last ↦
+        let now = count_old s steps n h in
+        let all : count steps n ≡ length (writes steps) = ap (λ l. length (writes l)) (oldest_all steps n (omega (arith, last))) in
+        let next = ap (λ l. length (writes l)) (oldest_new s steps (suc n) last) in
+        let one = writes_more s steps in
+        (omega (arith, now, all, next, one.0), omega (arith, now, all, next, one.1))
+    | inr more ↦
+        let now = count_old s steps n h in
+        let next = count_old s steps (suc n) more in
+        let both = count_next steps n in
+        (omega (arith, now, next, both.0), omega (arith, now, next, both.1))
+  ]
+]
+
+pub count_rises : (steps : List Step) (m d : ℕ) → count steps m ≤ count steps (d + m)
+count_rises steps m zero = let same = ap (count steps) (zero-add m) in omega (arith, same)
+count_rises steps m (suc d) =
+    let more = (count_next steps (d + m)).0 in
+    let next : suc d + m ≡ suc (d + m) = omega arith in
+    let same = ap (count steps) next in
+    omega (arith, count_rises steps m d, more, same)
+
+-- each number of the writer's steps between those at two moments is that at a moment between them
+record IsMoment (steps : List Step) (from to place : ℕ) : Type 0 where
+  pub moment : ℕ
+  pub after : from ≤ moment
+  pub before : moment ≤ to
+  pub is : count steps moment ≡ place
+
+moment_from : (steps : List Step) (from d place : ℕ) → count steps from ≤ place → place ≤ count steps (d + from) → IsMoment steps from (d + from) place
+moment_from steps from zero place low high = let same = ap (count steps) (zero-add from) in record { moment = from; after = omega arith; before = omega arith; is = omega (arith, low, high, same) }
+moment_from steps from (suc d) place low high = let next : suc d + from ≡ suc (d + from) = omega arith in let same = ap (count steps) next in elim (cases_lt (count steps (d + from)) place) [
+  | inl last ↦ let one = (count_next steps (d + from)).1 in record { moment = suc d + from; after = omega arith; before = omega arith; is = omega (arith, one, high, last, same) }
+  | inr le ↦ let m = moment_from steps from d place low le in record { moment = m.moment; after = m.after; before = omega (arith, m.before); is = m.is }
+]
+
+-- ---- the two clocks
+
+-- a step of this number stands after so many of the writer's
+abbrev IsTime : List Step → ℕ → ℕ → Type 0
+IsTime steps place number = (place ≡ count steps number) × (number ≤ length steps)
+
+abbrev ProbeAgrees : List Step → Probe → Probe → Type 0
+ProbeAgrees steps (Unread a) (Unread b) = a ≡ b
+ProbeAgrees steps (InGroup a g f) (InGroup b h n) = (a ≡ b) × (g ≡ h) × IsTime steps f n
+ProbeAgrees steps (Answered a x f l) (Answered b y m n) = (a ≡ b) × (x ≡ y) × IsTime steps f m × IsTime steps l n × (m ≤ n)
+ProbeAgrees steps _ _ = ⊥
+
+abbrev SeenAgrees : List Step → Seen → Seen → Type 0
+SeenAgrees steps s n = (s.addr ≡ n.addr) × (s.hop ≡ n.hop) × (s.lo ≡ n.lo) × (s.hi ≡ n.hi) × IsTime steps s.first n.first × IsTime steps s.last n.last × (n.first ≤ n.last)
+
+abbrev Zip : {A : Type 0} → (A → A → Type 0) → List A → List A → Type 0
+Zip R [] [] = ⊤
+Zip R (x ∷ xs) (y ∷ ys) = R x y × Zip R xs ys
+Zip R _ _ = ⊥
+
+zip_map : {A : Type 0} (R Q : A → A → Type 0) → ((x y : A) → R x y → Q x y) → (xs ys : List A) → Zip R xs ys → Zip Q xs ys
+zip_map R Q f [] [] z = tt
+zip_map R Q f (x ∷ xs) [] z = absurd z
+zip_map R Q f [] (y ∷ ys) z = absurd z
+zip_map R Q f (x ∷ xs) (y ∷ ys) z = (f x y z.0, zip_map R Q f xs ys z.1)
+
+zip_each : {A : Type 0} (R : A → A → Type 0) (P Q : A → Type 0) → ((x y : A) → R x y → P x → Q y) → (xs ys : List A) → Zip R xs ys → Each P xs → Each Q ys
+zip_each R P Q f [] [] z each = tt
+zip_each R P Q f (x ∷ xs) [] z each = absurd z
+zip_each R P Q f [] (y ∷ ys) z each = absurd z
+zip_each R P Q f (x ∷ xs) (y ∷ ys) z each = (f x y z.0 each.0, zip_each R P Q f xs ys z.1 each.1)
+
+record Agrees (steps : List Step) (p n : Worker) : Type 0 where
+  pub lo : p.lo ≡ n.lo
+  pub probes : Zip (ProbeAgrees steps) p.probes n.probes
+  pub finished : Zip (SeenAgrees steps) p.finished n.finished
+
+time_stays : (s : Step) (steps : List Step) (place number : ℕ) → IsTime steps place number → IsTime (s ∷ steps) place number
+time_stays s steps place number is = (is.0 ∙ sym (count_old s steps number is.1), omega (arith, is.1))
+
+probe_stays : (s : Step) (steps : List Step) (p q : Probe) → ProbeAgrees steps p q → ProbeAgrees (s ∷ steps) p q
+probe_stays s steps (Unread a) (Unread b) h = h
+probe_stays s steps (Unread a) (InGroup b g f) h = absurd h
+probe_stays s steps (Unread a) (Answered b x f l) h = absurd h
+probe_stays s steps (InGroup a g f) (Unread b) h = absurd h
+probe_stays s steps (InGroup a g f) (InGroup b h n) is = (is.0, is.1, time_stays s steps f n is.2)
+probe_stays s steps (InGroup a g f) (Answered b x m l) h = absurd h
+probe_stays s steps (Answered a x f l) (Unread b) h = absurd h
+probe_stays s steps (Answered a x f l) (InGroup b g m) h = absurd h
+probe_stays s steps (Answered a x f l) (Answered b y m n) h = (h.0, h.1, time_stays s steps f m h.2, time_stays s steps l n h.3, h.4)
+
+seen_stays : (s : Step) (steps : List Step) (p q : Seen) → SeenAgrees steps p q → SeenAgrees (s ∷ steps) p q
+seen_stays s steps p q h = (h.0, h.1, h.2, h.3, time_stays s steps p.first q.first h.4, time_stays s steps p.last q.last h.5, h.6)
+
+agrees_stays : (s : Step) (steps : List Step) (p n : Worker) → Agrees steps p n → Agrees (s ∷ steps) p n
+agrees_stays s steps p n h = record {
+  lo = h.lo;
+  probes = zip_map (ProbeAgrees steps) (ProbeAgrees (s ∷ steps)) (probe_stays s steps) p.probes n.probes h.probes;
+  finished = zip_map (SeenAgrees steps) (SeenAgrees (s ∷ steps)) (seen_stays s steps) p.finished n.finished h.finished;
+}
+
+module _ (steps : List Step) (place number : ℕ) (time : IsTime steps place number) (last : (n : ℕ) → n ≤ length steps → n ≤ number) where
+  read_agrees : (a b : ℕ) → a ≡ b → (e : Entry) → ProbeAgrees steps (read_first place a e) (read_first number b e)
+  read_agrees a b same Miss = (same, refl, time, time, omega arith)
+  read_agrees a b same (Hop hop depth) = (same, refl, time, time, omega arith)
+  read_agrees a b same (Group group) = (same, refl, time)
+
+  first_agrees : (e : Entry) (ps qs : List Probe) → Zip (ProbeAgrees steps) ps qs → Zip (ProbeAgrees steps) (first_read place e ps) (first_read number e qs)
+  first_agrees e [] [] z = tt
+  first_agrees e [] (q ∷ qs) z = absurd z
+  first_agrees e (p ∷ ps) [] z = absurd z
+  first_agrees e (Unread a ∷ ps) (Unread b ∷ qs) z = (read_agrees a b z.0 e, z.1)
+  first_agrees e (Unread a ∷ ps) (InGroup b g f ∷ qs) z = absurd z.0
+  first_agrees e (Unread a ∷ ps) (Answered b x f l ∷ qs) z = absurd z.0
+  first_agrees e (InGroup a g f ∷ ps) (Unread b ∷ qs) z = absurd z.0
+  first_agrees e (InGroup a g f ∷ ps) (InGroup b h n ∷ qs) z = (z.0, first_agrees e ps qs z.1)
+  first_agrees e (InGroup a g f ∷ ps) (Answered b x m l ∷ qs) z = absurd z.0
+  first_agrees e (Answered a x f l ∷ ps) (Unread b ∷ qs) z = absurd z.0
+  first_agrees e (Answered a x f l ∷ ps) (InGroup b g m ∷ qs) z = absurd z.0
+  first_agrees e (Answered a x f l ∷ ps) (Answered b y m n ∷ qs) z = (z.0, first_agrees e ps qs z.1)
+
+  second_agrees : (e : Entry) (ps qs : List Probe) → Zip (ProbeAgrees steps) ps qs → Zip (ProbeAgrees steps) (second_read place e ps) (second_read number e qs)
+  second_agrees e [] [] z = tt
+  second_agrees e [] (q ∷ qs) z = absurd z
+  second_agrees e (p ∷ ps) [] z = absurd z
+  second_agrees e (Unread a ∷ ps) (Unread b ∷ qs) z = (z.0, second_agrees e ps qs z.1)
+  second_agrees e (Unread a ∷ ps) (InGroup b g f ∷ qs) z = absurd z.0
+  second_agrees e (Unread a ∷ ps) (Answered b x f l ∷ qs) z = absurd z.0
+  second_agrees e (InGroup a g f ∷ ps) (Unread b ∷ qs) z = absurd z.0
+  second_agrees e (InGroup a g f ∷ ps) (InGroup b h n ∷ qs) z = ((z.0.0, refl, z.0.2, time, last n z.0.2.1), z.1)
+  second_agrees e (InGroup a g f ∷ ps) (Answered b x m l ∷ qs) z = absurd z.0
+  second_agrees e (Answered a x f l ∷ ps) (Unread b ∷ qs) z = absurd z.0
+  second_agrees e (Answered a x f l ∷ ps) (InGroup b g m ∷ qs) z = absurd z.0
+  second_agrees e (Answered a x f l ∷ ps) (Answered b y m n ∷ qs) z = (z.0, second_agrees e ps qs z.1)
+
+  answers_agree : (lo lo' hi : ℕ) → lo ≡ lo' → (ps qs : List Probe) → Zip (ProbeAgrees steps) ps qs → (xs ys : List Seen) → Zip (SeenAgrees steps) xs ys
+      → Zip (SeenAgrees steps) (with_answers lo hi ps xs) (with_answers lo' hi qs ys)
+  answers_agree lo lo' hi same [] [] z xs ys f = f
+  answers_agree lo lo' hi same [] (q ∷ qs) z xs ys f = absurd z
+  answers_agree lo lo' hi same (p ∷ ps) [] z xs ys f = absurd z
+  answers_agree lo lo' hi same (Unread a ∷ ps) (Unread b ∷ qs) z xs ys f = answers_agree lo lo' hi same ps qs z.1 xs ys f
+  answers_agree lo lo' hi same (Unread a ∷ ps) (InGroup b g m ∷ qs) z xs ys f = absurd z.0
+  answers_agree lo lo' hi same (Unread a ∷ ps) (Answered b x m l ∷ qs) z xs ys f = absurd z.0
+  answers_agree lo lo' hi same (InGroup a g m ∷ ps) (Unread b ∷ qs) z xs ys f = absurd z.0
+  answers_agree lo lo' hi same (InGroup a g m ∷ ps) (InGroup b h n ∷ qs) z xs ys f = answers_agree lo lo' hi same ps qs z.1 xs ys f
+  answers_agree lo lo' hi same (InGroup a g m ∷ ps) (Answered b x n l ∷ qs) z xs ys f = absurd z.0
+  answers_agree lo lo' hi same (Answered a x m l ∷ ps) (Unread b ∷ qs) z xs ys f = absurd z.0
+  answers_agree lo lo' hi same (Answered a x m l ∷ ps) (InGroup b g n ∷ qs) z xs ys f = absurd z.0
+  answers_agree lo lo' hi same (Answered a x m l ∷ ps) (Answered b y n k ∷ qs) z xs ys f =
+      answers_agree lo lo' hi same ps qs z.1 (record { addr = a; hop = x; first = m; last = l; lo = lo; hi = hi } ∷ xs) (record { addr = b; hop = y; first = n; last = k; lo = lo'; hi = hi } ∷ ys)
+      ((z.0.0, z.0.1, same, refl, z.0.2, z.0.3, z.0.4), f)
+
+  waits_agree : (addrs : List ℕ) → Zip (ProbeAgrees steps) (map Unread addrs) (map Unread addrs)
+  waits_agree [] = tt
+  waits_agree (a ∷ addrs) = (refl, waits_agree addrs)
+
+  moves_agree : (p n : Worker) → Agrees steps p n → (s : WorkerStep) → Agrees steps (moved place p s) (moved number n s)
+  moves_agree p n h (LoadOnline token) = record { lo = h.lo; probes = h.probes; finished = h.finished }
+  moves_agree p n h (StoreOnline token) = record { lo = h.lo; probes = h.probes; finished = h.finished }
+  moves_agree p n h (LoadQuiescent token) = record { lo = h.lo; probes = h.probes; finished = h.finished }
+  moves_agree p n h (StoreQuiescent token) = record { lo = h.lo; probes = h.probes; finished = h.finished }
+  moves_agree p n h StoreOffline = record { lo = h.lo; probes = h.probes; finished = h.finished }
+  moves_agree p n h (Begins addrs sequence) = record { lo = refl; probes = waits_agree addrs; finished = h.finished }
+  moves_agree p n h (LoadFirst word) = record { lo = h.lo; probes = first_agrees (entry_in word) p.probes n.probes h.probes; finished = h.finished }
+  moves_agree p n h (LoadSecond word) = record { lo = h.lo; probes = second_agrees (entry_in word) p.probes n.probes h.probes; finished = h.finished }
+  moves_agree p n h (Ends sequence) = record { lo = h.lo; probes = tt; finished = answers_agree p.lo n.lo (begun_at sequence) h.lo p.probes n.probes h.probes p.finished n.finished h.finished }
+  moves_agree p n h (Meets sequence) = h
+
+-- each worker, by the two clocks
+clocks_agree : (c : Setup) (steps : List Step) (k : ℕ) → Agrees steps ((after c steps).workers k) (worker_of k steps)
+clocks_agree c [] k = record { lo = refl; probes = tt; finished = tt }
+clocks_agree c (Writer s ∷ steps) k = agrees_stays (Writer s) steps ((after c steps).workers k) (worker_of k steps) (clocks_agree c steps k)
+clocks_agree c (ByWorker j s ∷ steps) k =
+    let w = (after c steps).workers in
+    let more = ByWorker j s ∷ steps in
+    let here = clocks_agree c steps k in
+    let clock : (after c steps).tables.clock ≡ length (writes steps) = ap (λ t. t.clock) (tables_of c steps) ∙ clock_length c (writes steps) in
+    let count_all : count more (suc (length steps)) ≡ length (writes steps) = ap (λ l. length (writes l)) (oldest_all more (suc (length steps)) (omega arith)) in
+    elim (eqb_tells k j) [
+      | inl h ↦ subst (λ b. Agrees more (cond b (moved (after c steps).tables.clock (w j) s) (w k)) (cond b (moved (suc (length steps)) (worker_of k steps) s) (worker_of k steps))) (sym h.0)
+          (subst (λ i. Agrees more (moved (after c steps).tables.clock (w i) s) (moved (suc (length steps)) (worker_of k steps) s)) h.1
+          (moves_agree more (after c steps).tables.clock (suc (length steps)) (clock ∙ sym count_all, omega arith) (λ n le. omega (arith, le))
+          (w k) (worker_of k steps) (agrees_stays (ByWorker j s) steps (w k) (worker_of k steps) here) s))
+      | inr h ↦ subst (λ b. Agrees more (cond b (moved (after c steps).tables.clock (w j) s) (w k)) (cond b (moved (suc (length steps)) (worker_of k steps) s) (worker_of k steps))) (sym h.0)
+          (agrees_stays (ByWorker j s) steps (w k) (worker_of k steps) here)
+    ]
+
+-- ---- the laws
+
+-- a place of the span of a lookup is that at a moment of its span
+span_moment : (steps : List Step) (s n : Seen) → SeenAgrees steps s n → (place : ℕ) → s.first ≤ place → place ≤ s.last → IsMoment steps n.first n.last place
+span_moment steps s n same place from to =
+    let d : ℕ = n.last - n.first in
+    let whole : d + n.first ≡ n.last = omega (arith, same.6) in
+    subst (λ l. IsMoment steps n.first l place) whole
+    (moment_from steps n.first d place (omega (arith, same.4.0, from)) (subst (λ l. place ≤ count steps l) (sym whole) (omega (arith, same.5.0, to))))
+
+at_place : (c : Setup) (steps : List Step) (n place : ℕ) → count steps n ≡ place → tables_at c (writes steps) place ≡ at_moment c steps n
+at_place c steps n place is = ap (tables_at c (writes steps)) (sym is) ∙ ap (tables c) (writes_oldest steps n)
+
+legal : (c : Setup) (steps : List Step) (s n : Seen) → SeenAgrees steps s n → IsRight c (writes steps) s → IsLegal c steps n
+legal c steps s n same right =
+    let m = span_moment steps s n same right.place right.from right.to in
+    let at : tables_at c (writes steps) right.place ≡ at_moment c steps m.moment = at_place c steps m.moment right.place m.is in
+    let k = version (at_moment c steps m.moment) n.addr in
+    let shown : version (tables_at c (writes steps) right.place) s.addr ≡ k = ap (λ w. version w s.addr) at ∙ ap (version (at_moment c steps m.moment)) same.0 in
+    record {
+      moment = m.moment;
+      version = k;
+      from = m.after;
+      to = m.before;
+      within = same.5.1;
+      stands = (version_ge (at_moment c steps m.moment) n.addr, version_le (at_moment c steps m.moment) n.addr);
+      answers = subst (λ v. IsAnswer c (rules_of_version c steps v) n.addr n.hop) shown
+          (subst (λ a. IsAnswer c (rules_of_version c steps (version (tables_at c (writes steps) right.place) s.addr)) a n.hop) same.0
+          (subst (λ h. IsAnswer c (rules_of_version c steps (version (tables_at c (writes steps) right.place) s.addr)) s.addr h) same.1 right.answers));
+      low = omega (arith, same.2, right.low, shown);
+      high = omega (arith, same.3, right.high, shown);
+    }
+
+monotone : (c : Setup) (steps : List Step) (s n : Seen) → SeenAgrees steps s n → IsRight c (writes steps) s → IsMonotone c steps n
+monotone c steps s n same right =
+    let m = span_moment steps s n same right.place right.from right.to in
+    let at : tables_at c (writes steps) right.place ≡ at_moment c steps m.moment = at_place c steps m.moment right.place m.is in
+    let shown : version (tables_at c (writes steps) right.place) s.addr ≡ version_at c steps n.addr m.moment = ap (λ w. version w s.addr) at ∙ ap (version (at_moment c steps m.moment)) same.0 in
+    record {
+      moment = m.moment;
+      from = m.after;
+      to = m.before;
+      within = same.5.1;
+      answers = subst (λ v. IsAnswer c (rules_of_version c steps v) n.addr n.hop) shown
+          (subst (λ a. IsAnswer c (rules_of_version c steps (version (tables_at c (writes steps) right.place) s.addr)) a n.hop) same.0
+          (subst (λ h. IsAnswer c (rules_of_version c steps (version (tables_at c (writes steps) right.place) s.addr)) s.addr h) same.1 right.answers));
+    }
+
+pub lookups_are_legal : LookupsAreLegal
+lookups_are_legal c steps k settled trace =
+    each_all (IsLegal c steps) (worker_of k steps).finished
+    (zip_each (SeenAgrees steps) (IsRight c (writes steps)) (IsLegal c steps) (legal c steps) ((after c steps).workers k).finished (worker_of k steps).finished
+    (clocks_agree c steps k).finished (all_right c settled steps trace k))
+
+pub lookups_are_monotone : LookupsAreMonotone
+lookups_are_monotone c steps k settled trace =
+    each_all (IsMonotone c steps) (worker_of k steps).finished
+    (zip_each (SeenAgrees steps) (IsRight c (writes steps)) (IsMonotone c steps) (monotone c steps) ((after c steps).workers k).finished (worker_of k steps).finished
+    (clocks_agree c steps k).finished (all_right c settled steps trace k))
+
+pub versions_never_fall : VersionsNeverFall
+versions_never_fall c steps a t u le =
+    let d : ℕ = u - t in
+    let whole : d + t ≡ u = omega (arith, le) in
+    let more : count steps t ≤ count steps u = subst (λ n. count steps t ≤ count steps n) whole (count_rises steps t d) in
+    let now = at_place c steps t (count steps t) refl in
+    let then = at_place c steps u (count steps u) refl in (
+      (version_ge (at_moment c steps t) a, version_le (at_moment c steps t) a),
+      subst (λ w. version w a ≤ version (at_moment c steps u) a) now
+          (subst (λ w. version (tables_at c (writes steps) (count steps t)) a ≤ version w a) then (rising c (writes steps) (count steps t) (count steps u) a more)),
+    )

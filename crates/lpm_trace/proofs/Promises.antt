@@ -1,0 +1,18 @@
+-- The laws, as the contracts name them.
+use Rattle.std.proofs.Common.{◌≡◌, ℕ, ◌/◌, ◌<◌, subst, sym, ap, arith}
+use Rattle.lpm_trace.specs.Tables.{Tables, addresses, IsAnswer, answer, done, begun, version, tables}
+use Rattle.lpm_trace.specs.Trace.{after, writes}
+use Rattle.lpm_trace.specs.Laws.{RestAnswers}
+use Rattle.lpm_trace.proofs.Versions.{Shows, version_ge, version_le}
+use Rattle.lpm_trace.proofs.Traces.{tables_of, shows_tables}
+pub use Rattle.lpm_trace.proofs.Moments.{lookups_are_legal, lookups_are_monotone, versions_never_fall}
+pub use Rattle.lpm_trace.proofs.Grace.{reuse_is_lawful}
+
+pub rest_answers : RestAnswers
+rest_answers c steps settled trace rests a lt =
+    let shows : Shows c (after c steps).tables = subst (Shows c) (sym (tables_of c steps)) (shows_tables c settled steps trace) in
+    let w : Tables = (after c steps).tables in
+    let low = version_ge w a in
+    let high = version_le w a in
+    let same : version w a ≡ done w = omega (arith, low, high, rests) in
+    subst (λ k. IsAnswer c (w.history k) a (answer c w.words a)) same (shows.shown a lt)

@@ -1,0 +1,265 @@
+-- What holds of every trace, by adding one step at a time, told by the number of the writer's steps.
+use Rattle.std.proofs.Common.{◌≡◌, ℕ, suc, ◌+◌, ◌/◌, ◌%◌, ◌^◌, ◌<◌, ◌≤◌, ◌⊎◌, inl, inr, Bool, true, false, cond, leb, List, [], ◌∷◌, ◌++◌, length, Option, refl, sym, ap, subst, ◌∙◌, arith}
+use Rattle.std.proofs.lemmas.Bool.Decides.{leb_tells}
+use Rattle.std.proofs.lemmas.Bool.{cases_lt}
+use Rattle.lpm_trace.specs.declared.step.WriterStep.{WriterStep}
+use Rattle.lpm_trace.specs.declared.step.WriterStep.TheVariants.{StoreFirst, StoreSecond, Opens, Closes, BumpToken, LoadCounter}
+use Rattle.lpm_trace.specs.declared.step.Step.{Step}
+use Rattle.lpm_trace.specs.declared.step.Step.TheVariants.{Writer, Worker as ByWorker}
+use Rattle.lpm_trace.specs.Tables.{Setup, Tables, IsSettled, addresses, with_at, answer, IsAnswer, done, begun, version, rules_by, written, opening, oldest, tables, tables_at, MayWrite}
+use Rattle.lpm_trace.specs.Workers.{Worker, Probe, Unread, InGroup, Answered, Seen, resting, moved, IsRunning}
+use Rattle.lpm_trace.specs.Trace.{World, MayCome, after, IsTrace, writes}
+use Rattle.lpm_trace.proofs.Basics.{Each, each_map, with_at_case}
+use Rattle.lpm_trace.proofs.Good.{Told, ProbeOk, FinishedOk, WorkerOk, Good}
+use Rattle.lpm_trace.proofs.Writing.{keeps_first, keeps_second, held_not_filled}
+use Rattle.lpm_trace.proofs.Checking.{keeps_quiet, keeps_counter}
+use Rattle.lpm_trace.proofs.Reading.{worker_moves}
+use Rattle.lpm_trace.proofs.Versions.{Shows, keeps_shows, opening_shows, version_ge, version_le, rises, sequence_grows, history_stays, tick}
+
+-- the first t members, where one more stands before
+pub oldest_old : {A : Type 0} (s : A) (xs : List A) (t : ℕ) → t ≤ length xs → oldest t (s ∷ xs) ≡ oldest t xs
+oldest_old s xs t le = elim (leb_tells t (length xs)) [
+  | inl h ↦ ap (λ b. cond b (oldest t xs) (s ∷ xs)) h.0
+  | inr h ↦ absurd (omega (arith, le, h.1))
+]
+
+pub oldest_new : {A : Type 0} (s : A) (xs : List A) (t : ℕ) → length xs < t → oldest t (s ∷ xs) ≡ s ∷ xs
+oldest_new s xs t lt = elim (leb_tells t (length xs)) [
+  | inl h ↦ absurd (omega (arith, lt, h.1))
+  | inr h ↦ ap (λ b. cond b (oldest t xs) (s ∷ xs)) h.0
+]
+
+pub oldest_all : {A : Type 0} (xs : List A) (t : ℕ) → length xs ≤ t → oldest t xs ≡ xs
+oldest_all [] t le = refl
+oldest_all (s ∷ xs) t le = oldest_new s xs t (omega (arith, le))
+
+pub clock_length : (c : Setup) (ws : List WriterStep) → (tables c ws).clock ≡ length ws
+clock_length c [] = refl
+clock_length c (s ∷ ws) = tick c (tables c ws) s ∙ ap suc (clock_length c ws)
+
+pub at_old : (c : Setup) (s : WriterStep) (ws : List WriterStep) (t : ℕ) → t ≤ length ws → tables_at c (s ∷ ws) t ≡ tables_at c ws t
+at_old c s ws t le = ap (tables c) (oldest_old s ws t le)
+
+pub at_new : (c : Setup) (s : WriterStep) (ws : List WriterStep) (t : ℕ) → length ws < t → tables_at c (s ∷ ws) t ≡ tables c (s ∷ ws)
+at_new c s ws t lt = ap (tables c) (oldest_new s ws t lt)
+
+pub at_now : (c : Setup) (ws : List WriterStep) → tables_at c ws (length ws) ≡ tables c ws
+at_now c ws = ap (tables c) (oldest_all ws (length ws) (omega arith))
+
+-- what the workers do changes no table
+pub tables_of : (c : Setup) (steps : List Step) → (after c steps).tables ≡ tables c (writes steps)
+tables_of c [] = refl
+tables_of c (Writer s ∷ steps) = ap (λ w. written c w s) (tables_of c steps)
+tables_of c (ByWorker k s ∷ steps) = tables_of c steps
+
+abbrev pub told_by : Setup → List WriterStep → Told
+told_by c ws t a lo x = (answer c (tables_at c ws t).words a ≡ x) × (lo ≤ done (tables_at c ws t))
+
+abbrev pub hi_by : Setup → List WriterStep → ℕ → ℕ → Type 0
+hi_by c ws t hi = begun (tables_at c ws t) ≤ hi
+
+-- one step of the writer keeps what holds
+keeps : (c : Setup) (A : Told) (Hi : ℕ → ℕ → Type 0) (w : Tables) (workers : ℕ → Worker) → Good c A Hi w workers
+    → (s : WriterStep) → MayWrite c (λ k. (workers k).counter) w s
+    → ((a lo : ℕ) → a < addresses c → lo ≤ done (written c w s) → A (suc w.clock) a lo (answer c (written c w s).words a)) → ((t : ℕ) → t ≤ suc w.clock → Hi t (begun (written c w s)))
+    → Good c A Hi (written c w s) workers
+keeps c A Hi w workers good (StoreFirst i x) may now below = keeps_first c A Hi w workers good i x may.1 may.2 now below
+keeps c A Hi w workers good (StoreSecond j x) may now below = keeps_second c A Hi w workers good j x may.2 now below
+keeps c A Hi w workers good (Opens change) may now below = keeps_quiet c A Hi w workers good (suc w.sequence) (with_at w.history (suc (begun w)) (rules_by (w.history (begun w)) change)) w.turned w.token (omega arith) (omega arith) now below
+keeps c A Hi w workers good Closes may now below = keeps_quiet c A Hi w workers good (suc w.sequence) w.history (λ a. false) w.token (omega arith) (omega arith) now below
+keeps c A Hi w workers good BumpToken may now below = keeps_quiet c A Hi w workers good w.sequence w.history w.turned (suc w.token) (omega arith) (omega arith) now below
+keeps c A Hi w workers good (LoadCounter token worker counter) may now below = keeps_counter c A Hi w workers good token worker counter may now below
+
+-- what was told stays told
+good_more : (c : Setup) (A B : Told) (HA HB : ℕ → ℕ → Type 0) (w : Tables) (workers : ℕ → Worker)
+    → ((t a lo : ℕ) (x : Option ℕ) → t ≤ w.clock → A t a lo x → B t a lo x) → ((t hi : ℕ) → t ≤ w.clock → HA t hi → HB t hi)
+    → Good c A HA w workers → Good c B HB w workers
+good_more c A B HA HB w workers more up good = record {
+  token = good.token;
+  passed = good.passed;
+  scan = good.scan;
+  unlinked = good.unlinked;
+  linked = good.linked;
+  workers_ok = λ k. let ok = good.workers_ok k in record {
+    inside = ok.inside;
+    counter = ok.counter;
+    loaded = ok.loaded;
+    since = ok.since;
+    grace = ok.grace;
+    idle = ok.idle;
+    low = ok.low;
+    probes = each_map (ProbeOk c A w (workers k).since (workers k).lo (workers k).phase) (ProbeOk c B w (workers k).since (workers k).lo (workers k).phase)
+        (probe_more (workers k).since (workers k).lo (workers k).phase) (workers k).probes ok.probes;
+    finished = each_map (FinishedOk c A HA w.clock) (FinishedOk c B HB w.clock)
+        (λ s h. (h.0, h.1, (h.2.0, h.2.1, h.2.2, more h.2.0 s.addr s.lo s.hop (omega (arith, h.1, h.2.2)) h.2.3, up h.2.0 s.hi (omega (arith, h.1, h.2.2)) h.2.4))) (workers k).finished ok.finished;
+  };
+  now = λ a lo lt le. more w.clock a lo (answer c w.words a) (omega arith) (good.now a lo lt le);
+  below = λ t le. up t (begun w) le (good.below t le);
+}
+  where
+    probe_more : (since lo : ℕ) (phase : _) (p : Probe) → ProbeOk c A w since lo phase p → ProbeOk c B w since lo phase p
+    probe_more since lo phase (Unread a) h = h
+    probe_more since lo phase (InGroup a g f) h = record {
+      inside = h.inside;
+      running = h.running;
+      from = h.from;
+      came = h.came;
+      low = h.low;
+      value = elim h.value [
+        | inl x ↦ inl x
+        | inr x ↦ inr (x.0, (x.1.0, x.1.1, x.1.2, more x.1.0 a lo _ x.1.2 x.1.3))
+      ];
+    }
+    probe_more since lo phase (Answered a y f l) h = (h.0, h.1, (h.2.0, h.2.1, h.2.2, more h.2.0 a lo y (omega (arith, h.1, h.2.2)) h.2.3))
+
+pub begun_grows : (c : Setup) (ws : List WriterStep) (t : ℕ) → begun (tables_at c ws t) ≤ begun (tables c ws)
+begun_grows c [] t = omega arith
+begun_grows c (s ∷ ws) t = elim (cases_lt (length ws) t) [
+  | inl h ↦ subst (λ w. begun w ≤ begun (tables c (s ∷ ws))) (sym (at_new c s ws t h)) (omega arith)
+  | inr h ↦ subst (λ w. begun w ≤ begun (tables c (s ∷ ws))) (sym (at_old c s ws t h)) (omega (arith, begun_grows c ws t, sequence_grows c (tables c ws) s))
+]
+
+resting_ok : (c : Setup) (k : ℕ) → WorkerOk c (told_by c []) (hi_by c []) (opening c) k resting
+resting_ok c k = record { inside = λ run. absurd run; counter = omega arith; loaded = tt; since = omega arith; grace = λ run. absurd run; idle = refl; low = tt; probes = tt; finished = tt }
+
+start_good : (c : Setup) → IsSettled c → Good c (told_by c []) (hi_by c []) (opening c) (after c []).workers
+start_good c settled = record {
+  token = settled.token;
+  passed = omega arith;
+  scan = omega arith;
+  unlinked = λ g. omega arith;
+  linked = settled.links;
+  workers_ok = resting_ok c;
+  now = λ a lo lt le. (refl, le);
+  below = λ t le. omega arith;
+}
+
+-- a step of the writer
+good_write : (c : Setup) (ws : List WriterStep) (workers : ℕ → Worker) → Good c (told_by c ws) (hi_by c ws) (tables c ws) workers
+    → (s : WriterStep) → MayWrite c (λ k. (workers k).counter) (tables c ws) s → Good c (told_by c (s ∷ ws)) (hi_by c (s ∷ ws)) (tables c (s ∷ ws)) workers
+good_write c ws workers good s may =
+    let w = tables c ws in
+    let len : w.clock ≡ length ws = clock_length c ws in
+    let new : tables_at c (s ∷ ws) (suc w.clock) ≡ tables c (s ∷ ws) = at_new c s ws (suc w.clock) (omega (arith, len)) in
+    let moved : Good c (told_by c (s ∷ ws)) (hi_by c (s ∷ ws)) w workers = good_more c (told_by c ws) (told_by c (s ∷ ws)) (hi_by c ws) (hi_by c (s ∷ ws)) w workers
+    (λ t a lo x le h. subst (λ v. (answer c v.words a ≡ x) × (lo ≤ done v)) (sym (at_old c s ws t (omega (arith, le, len)))) h)
+    (λ t hi le h. subst (λ v. begun v ≤ hi) (sym (at_old c s ws t (omega (arith, le, len)))) h) good in
+    keeps c (told_by c (s ∷ ws)) (hi_by c (s ∷ ws)) w workers moved s may
+    (λ a lo lt le. subst (λ v. (answer c v.words a ≡ answer c (written c w s).words a) × (lo ≤ done v)) (sym new) (refl, le))
+    (λ t le. begun_grows c (s ∷ ws) t)
+
+pub good_trace : (c : Setup) → IsSettled c → (steps : List Step) → IsTrace c steps
+    → Good c (told_by c (writes steps)) (hi_by c (writes steps)) (tables c (writes steps)) (after c steps).workers
+good_trace c settled [] trace = start_good c settled
+good_trace c settled (Writer s ∷ steps) trace =
+    good_write c (writes steps) (after c steps).workers (good_trace c settled steps trace.1) s
+    (subst (λ w. MayWrite c (λ k. ((after c steps).workers k).counter) w s) (tables_of c steps) trace.0)
+good_trace c settled (ByWorker k s ∷ steps) trace =
+    let good = good_trace c settled steps trace.1 in
+    let w = tables c (writes steps) in
+    let A : Told = told_by c (writes steps) in
+    let Hi : ℕ → ℕ → Type 0 = hi_by c (writes steps) in
+    let may : MayCome c (record { tables = w; workers = (after c steps).workers }) (ByWorker k s) =
+    subst (λ v. MayCome c (record { tables = v; workers = (after c steps).workers }) (ByWorker k s)) (tables_of c steps) trace.0 in
+    let r = (after c steps).workers k in
+    let ok : WorkerOk c A Hi w k (moved w.clock r s) = worker_moves c A Hi w (after c steps).workers good k may.0 r (good.workers_ok k) s may.1 in
+    record {
+      token = good.token;
+      passed = good.passed;
+      scan = good.scan;
+      unlinked = good.unlinked;
+      linked = good.linked;
+      workers_ok = λ j. subst (λ v. WorkerOk c A Hi w j (with_at (after c steps).workers k (moved v.clock r s) j)) (sym (tables_of c steps))
+          (with_at_case (WorkerOk c A Hi w j) (after c steps).workers k (moved w.clock r s) j
+          (λ e. subst (λ x. WorkerOk c A Hi w x (moved w.clock r s)) (sym e) ok)
+          (λ ne. good.workers_ok j));
+      now = good.now;
+      below = good.below;
+    }
+
+-- what the words show, after the writer's steps and after the first t of them
+pub shows_tables : (c : Setup) → IsSettled c → (steps : List Step) → IsTrace c steps → Shows c (tables c (writes steps))
+shows_tables c settled [] trace = opening_shows c settled
+shows_tables c settled (Writer s ∷ steps) trace =
+    keeps_shows c (λ k. ((after c steps).workers k).counter) (tables c (writes steps)) (shows_tables c settled steps trace.1) s
+    (subst (λ w. MayWrite c (λ k. ((after c steps).workers k).counter) w s) (tables_of c steps) trace.0)
+shows_tables c settled (ByWorker k s ∷ steps) trace = shows_tables c settled steps trace.1
+
+pub shows_at : (c : Setup) → IsSettled c → (steps : List Step) → IsTrace c steps → (t : ℕ) → Shows c (tables_at c (writes steps) t)
+shows_at c settled [] trace t = opening_shows c settled
+shows_at c settled (Writer s ∷ steps) trace t = elim (cases_lt (length (writes steps)) t) [
+  | inl h ↦ subst (Shows c) (sym (at_new c s (writes steps) t h)) (shows_tables c settled (Writer s ∷ steps) trace)
+  | inr h ↦ subst (Shows c) (sym (at_old c s (writes steps) t h)) (shows_at c settled steps trace.1 t)
+]
+shows_at c settled (ByWorker k s ∷ steps) trace t = shows_at c settled steps trace.1 t
+
+pub history_at : (c : Setup) (ws : List WriterStep) (t k : ℕ) → k ≤ begun (tables_at c ws t) → (tables c ws).history k ≡ (tables_at c ws t).history k
+history_at c [] t k le = refl
+history_at c (s ∷ ws) t k le = elim (cases_lt (length ws) t) [
+  | inl h ↦ ap (λ w. w.history k) (sym (at_new c s ws t h))
+  | inr h ↦
+      let le' : k ≤ begun (tables_at c ws t) = subst (λ w. k ≤ begun w) (at_old c s ws t h) le in
+      history_stays c (tables c ws) s k (omega (arith, le', begun_grows c ws t)) ∙ history_at c ws t k le' ∙ ap (λ w. w.history k) (sym (at_old c s ws t h))
+]
+
+-- the version that an address shows never falls
+pub rising : (c : Setup) (ws : List WriterStep) (t u a : ℕ) → t ≤ u
+    → version (tables_at c ws t) a ≤ version (tables_at c ws u) a
+rising c [] t u a le = omega arith
+rising c (s ∷ ws) t u a le = elim (cases_lt (length ws) u) [
+  | inl last ↦ subst (λ w. version (tables_at c (s ∷ ws) t) a ≤ version w a) (sym (at_new c s ws u last)) (elim (cases_lt (length ws) t) [
+    | inl h ↦ subst (λ w. version w a ≤ version (tables c (s ∷ ws)) a) (sym (at_new c s ws t h)) (omega arith)
+    | inr h ↦ subst (λ w. version w a ≤ version (tables c (s ∷ ws)) a) (sym (at_old c s ws t h))
+        (let up : version (tables_at c ws t) a ≤ version (tables_at c ws (length ws)) a = rising c ws t (length ws) a h in
+        let up' : version (tables_at c ws t) a ≤ version (tables c ws) a = subst (λ w. version (tables_at c ws t) a ≤ version w a) (at_now c ws) up in
+        omega (arith, up', rises c (tables c ws) s a))
+  ])
+  | inr h ↦ subst (λ w. version (tables_at c (s ∷ ws) t) a ≤ version w a) (sym (at_old c s ws u h))
+      (subst (λ w. version w a ≤ version (tables_at c ws u) a) (sym (at_old c s ws t (omega (arith, le, h)))) (rising c ws t u a le))
+]
+
+-- a finished lookup answers by the version that its address shows at a place of its span
+pub record IsRight (c : Setup) (ws : List WriterStep) (s : Seen) : Type 0 where
+  pub place : ℕ
+  pub from : s.first ≤ place
+  pub to : place ≤ s.last
+  pub within : s.last ≤ length ws
+  pub answers : IsAnswer c ((tables c ws).history (version (tables_at c ws place) s.addr)) s.addr s.hop
+  pub low : s.lo ≤ version (tables_at c ws place) s.addr
+  pub high : version (tables_at c ws place) s.addr ≤ s.hi
+
+right : (c : Setup) → IsSettled c → (steps : List Step) → IsTrace c steps → (s : Seen) → FinishedOk c (told_by c (writes steps)) (hi_by c (writes steps)) (tables c (writes steps)).clock s → IsRight c (writes steps) s
+right c settled steps trace s h =
+    let t = h.2.0 in
+    let ws = writes steps in
+    let w = tables_at c ws t in
+    let shown : IsAnswer c (w.history (version w s.addr)) s.addr (answer c w.words s.addr) = (shows_at c settled steps trace t).shown s.addr h.0 in
+    let kept : (tables c ws).history (version w s.addr) ≡ w.history (version w s.addr) = history_at c ws t (version w s.addr) (version_le w s.addr) in
+    record {
+      place = t;
+      from = h.2.1;
+      to = h.2.2;
+      within = omega (arith, h.1, clock_length c ws);
+      answers = subst (λ R. IsAnswer c R s.addr s.hop) (sym kept) (subst (IsAnswer c (w.history (version w s.addr)) s.addr) h.2.3.0 shown);
+      low = omega (arith, h.2.3.1, version_ge w s.addr);
+      high = omega (arith, h.2.4, version_le w s.addr);
+    }
+
+pub all_right : (c : Setup) → IsSettled c → (steps : List Step) → IsTrace c steps → (k : ℕ) → Each (IsRight c (writes steps)) ((after c steps).workers k).finished
+all_right c settled steps trace k =
+    each_map (FinishedOk c (told_by c (writes steps)) (hi_by c (writes steps)) (tables c (writes steps)).clock) (IsRight c (writes steps)) (right c settled steps trace)
+    ((after c steps).workers k).finished ((good_trace c settled steps trace).workers_ok k).finished
+
+-- a store into a group: each reader interval that runs began after the group was unlinked
+pub after_grace : (c : Setup) → IsSettled c → (steps : List Step) → IsTrace c steps → (j x : ℕ) → MayCome c (after c steps) (Writer (StoreSecond j x))
+    → (k : ℕ) → IsRunning ((after c steps).workers k).phase → (tables c (writes steps)).unlinked (j / 2 ^ c.second) ≤ ((after c steps).workers k).since
+after_grace c settled steps trace j x may k run =
+    let w = tables c (writes steps) in
+    let r = (after c steps).workers k in
+    let g = j / 2 ^ c.second in
+    let ok = (good_trace c settled steps trace).workers_ok k in
+    let may' : MayWrite c (λ k. ((after c steps).workers k).counter) w (StoreSecond j x) = subst (λ v. MayWrite c (λ k. ((after c steps).workers k).counter) v (StoreSecond j x)) (tables_of c steps) may in
+    elim (cases_lt r.since (w.unlinked g)) [
+      | inl lt ↦ absurd (held_not_filled c w k r.counter r.phase (ok.inside run) (w.groups g) (ok.grace run g lt) may'.2)
+      | inr le ↦ le
+    ]

@@ -1,0 +1,145 @@
+-- Meaning: what holds of each trace: answers, reuse of groups, rest, and versions that never fall
+-- (DPDK Programmer's Guide, "RCU Library": memory is used again after a grace period alone; this
+-- project's otherwise).
+use Rattle.std.specs.Prelude.{◌≡◌, ◌≢◌, ℕ, ◌+◌, ◌/◌, ◌^◌, ◌<◌, ◌≤◌, eqb, Bool, true, false, ◌%◌, All, List, [], ◌∷◌, ◌++◌, length}
+use Rattle.lpm_entry.specs.declared.Entry.TheVariants.{Group}
+use Rattle.lpm_entry.specs.Words.{entry_in}
+use Rattle.lpm_rules.specs.RuleMap.{RuleMap}
+use Rattle.reader_intervals.specs.Intervals.{Reporting, Interval, IsReaderInterval, Holds}
+use Rattle.lpm_trace.specs.declared.step.WriterStep.{WriterStep}
+use Rattle.lpm_trace.specs.declared.step.WriterStep.TheVariants.{StoreFirst, StoreSecond}
+use Rattle.lpm_trace.specs.declared.step.WorkerStep.{WorkerStep}
+use Rattle.lpm_trace.specs.declared.step.WorkerStep.TheVariants.{LoadOnline, StoreOnline, LoadQuiescent, StoreQuiescent, StoreOffline, Begins, LoadFirst, LoadSecond, Ends, Meets}
+use Rattle.lpm_trace.specs.declared.step.Step.{Step}
+use Rattle.lpm_trace.specs.declared.step.Step.TheVariants.{Writer, Worker as ByWorker}
+use Rattle.lpm_trace.specs.Tables.{Setup, Tables, IsSettled, addresses, answer, IsAnswer, done, begun, version, oldest, tables, tables_at, first_entry}
+use Rattle.lpm_trace.specs.Workers.{Seen}
+use Rattle.lpm_trace.specs.Trace.{after, IsTrace, writes, worker_of}
+
+-- ---- answers
+
+-- the tables at a moment: after the first t steps
+abbrev pub at_moment : Setup → List Step → ℕ → Tables
+at_moment c steps t = tables c (writes (oldest t steps))
+
+-- version k stands at moment t: its update was begun, and the next one isn't done
+abbrev pub Stands : Setup → List Step → ℕ → ℕ → Type 0
+Stands c steps t k = (done (at_moment c steps t) ≤ k) × (k ≤ begun (at_moment c steps t))
+
+-- the rules of version k
+abbrev pub rules_of_version : Setup → List Step → ℕ → RuleMap
+rules_of_version c steps k = (tables c (writes steps)).history k
+
+-- a finished lookup is legal: its answer is that of a version that stood at a moment from the read
+-- of its first word to the read of its last one, and that version lies from `lo` to `hi`
+pub record IsLegal (c : Setup) (steps : List Step) (seen : Seen) : Type 0 where
+  pub moment : ℕ
+  pub version : ℕ
+  pub from : seen.first ≤ moment
+  pub to : moment ≤ seen.last
+  pub within : seen.last ≤ length steps
+  pub stands : Stands c steps moment version
+  pub answers : IsAnswer c (rules_of_version c steps version) seen.addr seen.hop
+  pub low : seen.lo ≤ version
+  pub high : version ≤ seen.hi
+
+abbrev pub LookupsAreLegal : Type 0
+LookupsAreLegal = (c : Setup) (steps : List Step) (worker : ℕ) → IsSettled c → IsTrace c steps
+    → All (IsLegal c steps) (worker_of worker steps).finished
+
+-- ---- reuse
+
+-- a reader interval of the worker begins with the step: its counter is stored in a report that it is
+-- online, or the token is loaded in a quiescent report
+abbrev pub begins_by : ℕ → WorkerStep → ℕ → Bool
+begins_by k (LoadOnline token) worker = false
+begins_by k (StoreOnline token) worker = eqb worker k
+begins_by k (LoadQuiescent token) worker = eqb worker k
+begins_by k (StoreQuiescent token) worker = false
+begins_by k StoreOffline worker = false
+begins_by k (Begins addrs sequence) worker = false
+begins_by k (LoadFirst word) worker = false
+begins_by k (LoadSecond word) worker = false
+begins_by k (Ends sequence) worker = false
+begins_by k (Meets sequence) worker = false
+
+-- a reader interval of the worker ends with the step: the token is loaded in a quiescent report, or 0
+-- is stored
+abbrev pub ends_by : ℕ → WorkerStep → ℕ → Bool
+ends_by k (LoadOnline token) worker = false
+ends_by k (StoreOnline token) worker = false
+ends_by k (LoadQuiescent token) worker = eqb worker k
+ends_by k (StoreQuiescent token) worker = false
+ends_by k StoreOffline worker = eqb worker k
+ends_by k (Begins addrs sequence) worker = false
+ends_by k (LoadFirst word) worker = false
+ends_by k (LoadSecond word) worker = false
+ends_by k (Ends sequence) worker = false
+ends_by k (Meets sequence) worker = false
+
+abbrev pub begins : ℕ → Step → Bool
+begins worker (Writer s) = false
+begins worker (ByWorker k s) = begins_by k s worker
+
+abbrev pub ends : ℕ → Step → Bool
+ends worker (Writer s) = false
+ends worker (ByWorker k s) = ends_by k s worker
+
+abbrev pub by_steps : Reporting Step
+by_steps = record { begins = begins; ends = ends }
+
+-- after the steps `older`, a store of the first word of block i unlinks group g: it replaces the
+-- word of that group by another entry's
+abbrev pub Unlinks : Setup → List Step → WriterStep → ℕ → Type 0
+Unlinks c older (StoreFirst i x) g =
+    (first_entry (tables c (writes older)).words i ≡ Group g) × (entry_in x ≢ Group g)
+Unlinks c older s g = ⊥
+
+-- a store into group g
+abbrev pub Fills : Setup → WriterStep → ℕ → Type 0
+Fills c (StoreSecond j x) g = j / 2 ^ c.second ≡ g
+Fills c s g = ⊥
+
+-- no group is rewritten within its grace period: no reader interval holds both a step that unlinks a
+-- group and a later one that stores into it
+abbrev pub ReuseIsLawful : Type 0
+ReuseIsLawful = (c : Setup) (newer between older : List Step) (unlinks fills : WriterStep) (g : ℕ)
+    → IsSettled c → IsTrace c (newer ++ Writer fills ∷ (between ++ Writer unlinks ∷ older))
+    → Unlinks c older unlinks g → Fills c fills g
+    → (i : Interval)
+    → IsReaderInterval by_steps (newer ++ Writer fills ∷ (between ++ Writer unlinks ∷ older)) i
+    → Holds i (length older) → ¬ Holds i (length (between ++ Writer unlinks ∷ older))
+
+-- ---- rest
+
+-- where no update runs, the words answer by the rules of the last version
+abbrev pub RestAnswers : Type 0
+RestAnswers = (c : Setup) (steps : List Step) → IsSettled c → IsTrace c steps
+    → done (after c steps).tables ≡ begun (after c steps).tables
+    → (a : ℕ) → a < addresses c
+    → IsAnswer c ((after c steps).tables.history (done (after c steps).tables)) a
+    (answer c (after c steps).tables.words a)
+
+-- ---- versions
+
+-- the version that an address shows at a moment
+abbrev pub version_at : Setup → List Step → ℕ → ℕ → ℕ
+version_at c steps a t = version (at_moment c steps t) a
+
+-- the version that an address shows stands, and never falls
+abbrev pub VersionsNeverFall : Type 0
+VersionsNeverFall = (c : Setup) (steps : List Step) (a t u : ℕ) → t ≤ u
+    → Stands c steps t (version_at c steps a t) × (version_at c steps a t ≤ version_at c steps a u)
+
+-- a finished lookup answers by the version that its address shows at a moment of its span
+pub record IsMonotone (c : Setup) (steps : List Step) (seen : Seen) : Type 0 where
+  pub moment : ℕ
+  pub from : seen.first ≤ moment
+  pub to : moment ≤ seen.last
+  pub within : seen.last ≤ length steps
+  pub answers : IsAnswer c (rules_of_version c steps (version_at c steps seen.addr moment))
+      seen.addr seen.hop
+
+abbrev pub LookupsAreMonotone : Type 0
+LookupsAreMonotone = (c : Setup) (steps : List Step) (worker : ℕ) → IsSettled c → IsTrace c steps
+    → All (IsMonotone c steps) (worker_of worker steps).finished

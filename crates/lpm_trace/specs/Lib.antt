@@ -1,0 +1,4 @@
+pub mod Tables
+pub mod Workers
+pub mod Trace
+pub mod Laws
