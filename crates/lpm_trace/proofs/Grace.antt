@@ -10,8 +10,8 @@ use Rattle.lpm_trace.specs.declared.step.WriterStep.{WriterStep}
 use Rattle.lpm_trace.specs.declared.step.WriterStep.TheVariants.{StoreFirst, StoreSecond, Opens, Closes, BumpToken, LoadCounter}
 use Rattle.lpm_trace.specs.declared.step.WorkerStep.{WorkerStep}
 use Rattle.lpm_trace.specs.declared.step.WorkerStep.TheVariants.{LoadOnline, StoreOnline, LoadQuiescent, StoreQuiescent, StoreOffline, Begins, LoadFirst, LoadSecond, Ends, Meets}
-use Rattle.lpm_trace.specs.declared.step.Step.{Step}
-use Rattle.lpm_trace.specs.declared.step.Step.TheVariants.{Writer, Worker as ByWorker}
+use Rattle.lpm_trace.specs.declared.step.TraceStep.{TraceStep}
+use Rattle.lpm_trace.specs.declared.step.TraceStep.TheVariants.{Writer, Worker as ByWorker}
 use Rattle.lpm_trace.specs.Tables.{Setup, Tables, IsSettled, first_entry, stamped, oldest, written, tables}
 use Rattle.lpm_trace.specs.Workers.{Worker, moved, MayRead, IsRunning}
 use Rattle.lpm_trace.specs.Trace.{MayCome, after, IsTrace, writes}
@@ -65,10 +65,10 @@ not_begun (Ends sequence) k worker other does = cc does
 not_begun (Meets sequence) k worker other does = cc does
 
 -- the worker's state knows the interval that runs, and how many steps the writer had made before it
-abbrev KnowsInterval : Setup → List Step → ℕ → Worker → ℕ → Type 0
+abbrev KnowsInterval : Setup → List TraceStep → ℕ → Worker → ℕ → Type 0
 KnowsInterval c steps k r start = IsRunning r.phase × (r.since ≡ count steps start)
 
-running_since : (c : Setup) (steps : List Step) → IsTrace c steps → (k start : ℕ) → IsRunningSince by_steps steps k start → KnowsInterval c steps k ((after c steps).workers k) start
+running_since : (c : Setup) (steps : List TraceStep) → IsTrace c steps → (k start : ℕ) → IsRunningSince by_steps steps k start → KnowsInterval c steps k ((after c steps).workers k) start
 running_since c [] trace k start runs = let within = since_within by_steps [] k start runs in absurd (omega (arith, within))
 running_since c (Writer s ∷ steps) trace k start runs = elim (since_cases by_steps (Writer s) steps k start runs) [
   | inl new ↦ absurd (let does : false ≡ true = new.1 in cc does)
@@ -128,7 +128,7 @@ unlinked_grows c ws Closes g = omega arith
 unlinked_grows c ws BumpToken g = omega arith
 unlinked_grows c ws (LoadCounter token worker counter) g = omega arith
 
-unlinked_now : (c : Setup) (older : List Step) (s : WriterStep) (g : ℕ) → Unlinks c older s g → (tables c (s ∷ writes older)).unlinked g ≡ suc (length (writes older))
+unlinked_now : (c : Setup) (older : List TraceStep) (s : WriterStep) (g : ℕ) → Unlinks c older s g → (tables c (s ∷ writes older)).unlinked g ≡ suc (length (writes older))
 unlinked_now c older (StoreFirst i x) g unlinks =
     let w = tables c (writes older) in
     subst (λ e. stamped e (suc w.clock) w.unlinked g ≡ suc (length (writes older))) (sym unlinks.0) (with_at-same w.unlinked g (suc w.clock) ∙ ap suc (clock_length c (writes older)))
@@ -138,7 +138,7 @@ unlinked_now c older Closes g unlinks = absurd unlinks
 unlinked_now c older BumpToken g unlinks = absurd unlinks
 unlinked_now c older (LoadCounter token worker counter) g unlinks = absurd unlinks
 
-unlinked_since : (c : Setup) (between older : List Step) (s : WriterStep) (g : ℕ) → Unlinks c older s g
+unlinked_since : (c : Setup) (between older : List TraceStep) (s : WriterStep) (g : ℕ) → Unlinks c older s g
     → suc (length (writes older)) ≤ (tables c (writes (between ++ Writer s ∷ older))).unlinked g
 unlinked_since c [] older s g unlinks = let now = unlinked_now c older s g unlinks in omega (arith, now)
 unlinked_since c (Writer t ∷ between) older s g unlinks =
@@ -155,15 +155,15 @@ oldest_older (x ∷ newer) older n le =
     let len = length-append newer older in
     oldest_old x (newer ++ older) n (omega (arith, le, len)) ∙ oldest_older newer older n le
 
-older_trace : (c : Setup) (newer older : List Step) → IsTrace c (newer ++ older) → IsTrace c older
+older_trace : (c : Setup) (newer older : List TraceStep) → IsTrace c (newer ++ older) → IsTrace c older
 older_trace c [] older trace = trace
 older_trace c (s ∷ newer) older trace = older_trace c newer older trace.1
 
 -- at the store into the group, no worker holds the unlinking
-not_held : (c : Setup) → IsSettled c → (between older : List Step) (unlinks : WriterStep) (j x g : ℕ) → IsTrace c (Writer (StoreSecond j x) ∷ (between ++ Writer unlinks ∷ older))
+not_held : (c : Setup) → IsSettled c → (between older : List TraceStep) (unlinks : WriterStep) (j x g : ℕ) → IsTrace c (Writer (StoreSecond j x) ∷ (between ++ Writer unlinks ∷ older))
     → Unlinks c older unlinks g → j / 2 ^ c.second ≡ g → (k : ℕ) → ¬ IsHeldByWorker by_steps (between ++ Writer unlinks ∷ older) (length older) k
 not_held c settled between older unlinks j x g trace is same k held =
-    let base : List Step = between ++ Writer unlinks ∷ older in
+    let base : List TraceStep = between ++ Writer unlinks ∷ older in
     let start = held_start by_steps base (length older) k held in
     let knows = running_since c base trace.1 k start.0 start.1 in
     let since = after_grace c settled base trace.1 j x trace.0 k knows.0 in
@@ -172,15 +172,15 @@ not_held c settled between older unlinks j x g trace is same k held =
     let early : count base start.0 ≡ count older start.0 = ap (λ l. count l start.0) one ∙ ap (λ l. length (writes l)) (oldest_older (between ++ Writer unlinks ∷ []) older start.0 (omega (arith, start.2))) in
     omega (arith, since, late, knows.1, early, count_le older start.0)
 
-reuse : (c : Setup) (newer between older : List Step) (unlinks : WriterStep) (j x g : ℕ) → IsSettled c → IsTrace c (newer ++ Writer (StoreSecond j x) ∷ (between ++ Writer unlinks ∷ older))
+reuse : (c : Setup) (newer between older : List TraceStep) (unlinks : WriterStep) (j x g : ℕ) → IsSettled c → IsTrace c (newer ++ Writer (StoreSecond j x) ∷ (between ++ Writer unlinks ∷ older))
     → Unlinks c older unlinks g → j / 2 ^ c.second ≡ g → (i : Interval) → IsReaderInterval by_steps (newer ++ Writer (StoreSecond j x) ∷ (between ++ Writer unlinks ∷ older)) i
     → Holds i (length older) → ¬ Holds i (length (between ++ Writer unlinks ∷ older))
 reuse c newer between older unlinks j x g settled trace is same i interval =
-    let base : List Step = between ++ Writer unlinks ∷ older in
-    let fills : Step = Writer (StoreSecond j x) in
+    let base : List TraceStep = between ++ Writer unlinks ∷ older in
+    let fills : TraceStep = Writer (StoreSecond j x) in
     let len = length-append between (Writer unlinks ∷ older) in
     let whole : newer ++ fills ∷ base ≡ (newer ++ fills ∷ []) ++ base = sym (append_assoc newer (fills ∷ []) base) in
-    grace_period_is_over Step by_steps (newer ++ fills ∷ []) base (length older) (length base) i
+    grace_period_is_over TraceStep by_steps (newer ++ fills ∷ []) base (length older) (length base) i
     (omega (arith, len))
     (not_held c settled between older unlinks j x g (older_trace c newer (fills ∷ base) trace) is same)
     (omega arith)

@@ -10,8 +10,8 @@ use Rattle.lpm_entry.specs.Words.{entry_in}
 use Rattle.lpm_trace.specs.declared.step.WriterStep.{WriterStep}
 use Rattle.lpm_trace.specs.declared.step.WorkerStep.{WorkerStep}
 use Rattle.lpm_trace.specs.declared.step.WorkerStep.TheVariants.{LoadOnline, StoreOnline, LoadQuiescent, StoreQuiescent, StoreOffline, Begins, LoadFirst, LoadSecond, Ends, Meets}
-use Rattle.lpm_trace.specs.declared.step.Step.{Step}
-use Rattle.lpm_trace.specs.declared.step.Step.TheVariants.{Writer, Worker as ByWorker}
+use Rattle.lpm_trace.specs.declared.step.TraceStep.{TraceStep}
+use Rattle.lpm_trace.specs.declared.step.TraceStep.TheVariants.{Writer, Worker as ByWorker}
 use Rattle.lpm_trace.specs.Tables.{Setup, Tables, IsSettled, IsAnswer, done_at, begun_at, version, oldest, tables, tables_at}
 use Rattle.lpm_trace.specs.Workers.{Worker, Probe, Unread, InGroup, Answered, Seen, resting, read_first, first_read, second_read, with_answers, moved}
 use Rattle.lpm_trace.specs.Trace.{after, IsTrace, writes, worker_of}
@@ -22,36 +22,36 @@ use Rattle.lpm_trace.proofs.Traces.{oldest_old, oldest_new, oldest_all, clock_le
 
 -- ---- how many of the first n steps are the writer's
 
-abbrev pub count : List Step → ℕ → ℕ
+abbrev pub count : List TraceStep → ℕ → ℕ
 count steps n = length (writes (oldest n steps))
 
-pub count_old : (s : Step) (steps : List Step) (n : ℕ) → n ≤ length steps → count (s ∷ steps) n ≡ count steps n
+pub count_old : (s : TraceStep) (steps : List TraceStep) (n : ℕ) → n ≤ length steps → count (s ∷ steps) n ≡ count steps n
 count_old s steps n le = ap (λ l. length (writes l)) (oldest_old s steps n le)
 
-writes_more : (s : Step) (steps : List Step) → (length (writes steps) ≤ length (writes (s ∷ steps))) × (length (writes (s ∷ steps)) ≤ suc (length (writes steps)))
+writes_more : (s : TraceStep) (steps : List TraceStep) → (length (writes steps) ≤ length (writes (s ∷ steps))) × (length (writes (s ∷ steps)) ≤ suc (length (writes steps)))
 writes_more (Writer s) steps = (omega arith, omega arith)
 writes_more (ByWorker k s) steps = (omega arith, omega arith)
 
-pub count_le : (steps : List Step) (n : ℕ) → count steps n ≤ length (writes steps)
+pub count_le : (steps : List TraceStep) (n : ℕ) → count steps n ≤ length (writes steps)
 count_le [] n = omega arith
 count_le (s ∷ steps) n = elim (cases_lt (length steps) n) [
   | inl h ↦ subst (λ l. length (writes l) ≤ length (writes (s ∷ steps))) (sym (oldest_new s steps n h)) (omega arith)
   | inr h ↦ let here = count_old s steps n h in omega (arith, here, count_le steps n, (writes_more s steps).0)
 ]
 
-writes_older : (s : Step) (steps : List Step) (n : ℕ) → n ≤ length (writes steps) → oldest n (writes (s ∷ steps)) ≡ oldest n (writes steps)
+writes_older : (s : TraceStep) (steps : List TraceStep) (n : ℕ) → n ≤ length (writes steps) → oldest n (writes (s ∷ steps)) ≡ oldest n (writes steps)
 writes_older (Writer s) steps n le = oldest_old s (writes steps) n le
 writes_older (ByWorker k s) steps n le = refl
 
 -- the writer's steps among the first n
-pub writes_oldest : (steps : List Step) (n : ℕ) → oldest (count steps n) (writes steps) ≡ writes (oldest n steps)
+pub writes_oldest : (steps : List TraceStep) (n : ℕ) → oldest (count steps n) (writes steps) ≡ writes (oldest n steps)
 writes_oldest [] n = refl
 writes_oldest (s ∷ steps) n = elim (cases_lt (length steps) n) [
   | inl h ↦ subst (λ l. oldest (length (writes l)) (writes (s ∷ steps)) ≡ writes l) (sym (oldest_new s steps n h)) (oldest_all (writes (s ∷ steps)) (length (writes (s ∷ steps))) (omega arith))
   | inr h ↦ subst (λ l. oldest (length (writes l)) (writes (s ∷ steps)) ≡ writes l) (sym (oldest_old s steps n h)) (writes_older s steps (count steps n) (count_le steps n) ∙ writes_oldest steps n)
 ]
 
-pub count_next : (steps : List Step) (n : ℕ) → (count steps n ≤ count steps (suc n)) × (count steps (suc n) ≤ suc (count steps n))
+pub count_next : (steps : List TraceStep) (n : ℕ) → (count steps n ≤ count steps (suc n)) × (count steps (suc n) ≤ suc (count steps n))
 count_next [] n = (omega arith, omega arith)
 count_next (s ∷ steps) n = elim (cases_lt (length steps) n) [
   | inl h ↦
@@ -73,7 +73,7 @@ count_next (s ∷ steps) n = elim (cases_lt (length steps) n) [
   ]
 ]
 
-pub count_rises : (steps : List Step) (m d : ℕ) → count steps m ≤ count steps (d + m)
+pub count_rises : (steps : List TraceStep) (m d : ℕ) → count steps m ≤ count steps (d + m)
 count_rises steps m zero = let same = ap (count steps) (zero-add m) in omega (arith, same)
 count_rises steps m (suc d) =
     let more = (count_next steps (d + m)).0 in
@@ -82,13 +82,13 @@ count_rises steps m (suc d) =
     omega (arith, count_rises steps m d, more, same)
 
 -- each number of the writer's steps between those at two moments is that at a moment between them
-record IsMoment (steps : List Step) (from to place : ℕ) : Type 0 where
+record IsMoment (steps : List TraceStep) (from to place : ℕ) : Type 0 where
   pub moment : ℕ
   pub after : from ≤ moment
   pub before : moment ≤ to
   pub is : count steps moment ≡ place
 
-moment_from : (steps : List Step) (from d place : ℕ) → count steps from ≤ place → place ≤ count steps (d + from) → IsMoment steps from (d + from) place
+moment_from : (steps : List TraceStep) (from d place : ℕ) → count steps from ≤ place → place ≤ count steps (d + from) → IsMoment steps from (d + from) place
 moment_from steps from zero place low high = let same = ap (count steps) (zero-add from) in record { moment = from; after = omega arith; before = omega arith; is = omega (arith, low, high, same) }
 moment_from steps from (suc d) place low high = let next : suc d + from ≡ suc (d + from) = omega arith in let same = ap (count steps) next in elim (cases_lt (count steps (d + from)) place) [
   | inl last ↦ let one = (count_next steps (d + from)).1 in record { moment = suc d + from; after = omega arith; before = omega arith; is = omega (arith, one, high, last, same) }
@@ -98,16 +98,16 @@ moment_from steps from (suc d) place low high = let next : suc d + from ≡ suc 
 -- ---- the two clocks
 
 -- a step of this number stands after so many of the writer's
-abbrev IsTime : List Step → ℕ → ℕ → Type 0
+abbrev IsTime : List TraceStep → ℕ → ℕ → Type 0
 IsTime steps place number = (place ≡ count steps number) × (number ≤ length steps)
 
-abbrev ProbeAgrees : List Step → Probe → Probe → Type 0
+abbrev ProbeAgrees : List TraceStep → Probe → Probe → Type 0
 ProbeAgrees steps (Unread a) (Unread b) = a ≡ b
 ProbeAgrees steps (InGroup a g f) (InGroup b h n) = (a ≡ b) × (g ≡ h) × IsTime steps f n
 ProbeAgrees steps (Answered a x f l) (Answered b y m n) = (a ≡ b) × (x ≡ y) × IsTime steps f m × IsTime steps l n × (m ≤ n)
 ProbeAgrees steps _ _ = ⊥
 
-abbrev SeenAgrees : List Step → Seen → Seen → Type 0
+abbrev SeenAgrees : List TraceStep → Seen → Seen → Type 0
 SeenAgrees steps s n = (s.addr ≡ n.addr) × (s.hop ≡ n.hop) × (s.lo ≡ n.lo) × (s.hi ≡ n.hi) × IsTime steps s.first n.first × IsTime steps s.last n.last × (n.first ≤ n.last)
 
 abbrev Zip : {A : Type 0} → (A → A → Type 0) → List A → List A → Type 0
@@ -127,15 +127,15 @@ zip_each R P Q f (x ∷ xs) [] z each = absurd z
 zip_each R P Q f [] (y ∷ ys) z each = absurd z
 zip_each R P Q f (x ∷ xs) (y ∷ ys) z each = (f x y z.0 each.0, zip_each R P Q f xs ys z.1 each.1)
 
-record Agrees (steps : List Step) (p n : Worker) : Type 0 where
+record Agrees (steps : List TraceStep) (p n : Worker) : Type 0 where
   pub lo : p.lo ≡ n.lo
   pub probes : Zip (ProbeAgrees steps) p.probes n.probes
   pub finished : Zip (SeenAgrees steps) p.finished n.finished
 
-time_stays : (s : Step) (steps : List Step) (place number : ℕ) → IsTime steps place number → IsTime (s ∷ steps) place number
+time_stays : (s : TraceStep) (steps : List TraceStep) (place number : ℕ) → IsTime steps place number → IsTime (s ∷ steps) place number
 time_stays s steps place number is = (is.0 ∙ sym (count_old s steps number is.1), omega (arith, is.1))
 
-probe_stays : (s : Step) (steps : List Step) (p q : Probe) → ProbeAgrees steps p q → ProbeAgrees (s ∷ steps) p q
+probe_stays : (s : TraceStep) (steps : List TraceStep) (p q : Probe) → ProbeAgrees steps p q → ProbeAgrees (s ∷ steps) p q
 probe_stays s steps (Unread a) (Unread b) h = h
 probe_stays s steps (Unread a) (InGroup b g f) h = absurd h
 probe_stays s steps (Unread a) (Answered b x f l) h = absurd h
@@ -146,17 +146,17 @@ probe_stays s steps (Answered a x f l) (Unread b) h = absurd h
 probe_stays s steps (Answered a x f l) (InGroup b g m) h = absurd h
 probe_stays s steps (Answered a x f l) (Answered b y m n) h = (h.0, h.1, time_stays s steps f m h.2, time_stays s steps l n h.3, h.4)
 
-seen_stays : (s : Step) (steps : List Step) (p q : Seen) → SeenAgrees steps p q → SeenAgrees (s ∷ steps) p q
+seen_stays : (s : TraceStep) (steps : List TraceStep) (p q : Seen) → SeenAgrees steps p q → SeenAgrees (s ∷ steps) p q
 seen_stays s steps p q h = (h.0, h.1, h.2, h.3, time_stays s steps p.first q.first h.4, time_stays s steps p.last q.last h.5, h.6)
 
-agrees_stays : (s : Step) (steps : List Step) (p n : Worker) → Agrees steps p n → Agrees (s ∷ steps) p n
+agrees_stays : (s : TraceStep) (steps : List TraceStep) (p n : Worker) → Agrees steps p n → Agrees (s ∷ steps) p n
 agrees_stays s steps p n h = record {
   lo = h.lo;
   probes = zip_map (ProbeAgrees steps) (ProbeAgrees (s ∷ steps)) (probe_stays s steps) p.probes n.probes h.probes;
   finished = zip_map (SeenAgrees steps) (SeenAgrees (s ∷ steps)) (seen_stays s steps) p.finished n.finished h.finished;
 }
 
-module _ (steps : List Step) (place number : ℕ) (time : IsTime steps place number) (last : (n : ℕ) → n ≤ length steps → n ≤ number) where
+module _ (steps : List TraceStep) (place number : ℕ) (time : IsTime steps place number) (last : (n : ℕ) → n ≤ length steps → n ≤ number) where
   read_agrees : (a b : ℕ) → a ≡ b → (e : Entry) → ProbeAgrees steps (read_first place a e) (read_first number b e)
   read_agrees a b same Miss = (same, refl, time, time, omega arith)
   read_agrees a b same (Hop hop depth) = (same, refl, time, time, omega arith)
@@ -224,7 +224,7 @@ module _ (steps : List Step) (place number : ℕ) (time : IsTime steps place num
   moves_agree p n h (Meets sequence) = h
 
 -- each worker, by the two clocks
-clocks_agree : (c : Setup) (steps : List Step) (k : ℕ) → Agrees steps ((after c steps).workers k) (worker_of k steps)
+clocks_agree : (c : Setup) (steps : List TraceStep) (k : ℕ) → Agrees steps ((after c steps).workers k) (worker_of k steps)
 clocks_agree c [] k = record { lo = refl; probes = tt; finished = tt }
 clocks_agree c (Writer s ∷ steps) k = agrees_stays (Writer s) steps ((after c steps).workers k) (worker_of k steps) (clocks_agree c steps k)
 clocks_agree c (ByWorker j s ∷ steps) k =
@@ -245,17 +245,17 @@ clocks_agree c (ByWorker j s ∷ steps) k =
 -- ---- the laws
 
 -- a place of the span of a lookup is that at a moment of its span
-span_moment : (steps : List Step) (s n : Seen) → SeenAgrees steps s n → (place : ℕ) → s.first ≤ place → place ≤ s.last → IsMoment steps n.first n.last place
+span_moment : (steps : List TraceStep) (s n : Seen) → SeenAgrees steps s n → (place : ℕ) → s.first ≤ place → place ≤ s.last → IsMoment steps n.first n.last place
 span_moment steps s n same place from to =
     let d : ℕ = n.last - n.first in
     let whole : d + n.first ≡ n.last = omega (arith, same.6) in
     subst (λ l. IsMoment steps n.first l place) whole
     (moment_from steps n.first d place (omega (arith, same.4.0, from)) (subst (λ l. place ≤ count steps l) (sym whole) (omega (arith, same.5.0, to))))
 
-at_place : (c : Setup) (steps : List Step) (n place : ℕ) → count steps n ≡ place → tables_at c (writes steps) place ≡ at_moment c steps n
+at_place : (c : Setup) (steps : List TraceStep) (n place : ℕ) → count steps n ≡ place → tables_at c (writes steps) place ≡ at_moment c steps n
 at_place c steps n place is = ap (tables_at c (writes steps)) (sym is) ∙ ap (tables c) (writes_oldest steps n)
 
-legal : (c : Setup) (steps : List Step) (s n : Seen) → SeenAgrees steps s n → IsRight c (writes steps) s → IsLegal c steps n
+legal : (c : Setup) (steps : List TraceStep) (s n : Seen) → SeenAgrees steps s n → IsRight c (writes steps) s → IsLegal c steps n
 legal c steps s n same right =
     let m = span_moment steps s n same right.place right.from right.to in
     let at : tables_at c (writes steps) right.place ≡ at_moment c steps m.moment = at_place c steps m.moment right.place m.is in
@@ -275,7 +275,7 @@ legal c steps s n same right =
       high = omega (arith, same.3, right.high, shown);
     }
 
-monotone : (c : Setup) (steps : List Step) (s n : Seen) → SeenAgrees steps s n → IsRight c (writes steps) s → IsMonotone c steps n
+monotone : (c : Setup) (steps : List TraceStep) (s n : Seen) → SeenAgrees steps s n → IsRight c (writes steps) s → IsMonotone c steps n
 monotone c steps s n same right =
     let m = span_moment steps s n same right.place right.from right.to in
     let at : tables_at c (writes steps) right.place ≡ at_moment c steps m.moment = at_place c steps m.moment right.place m.is in

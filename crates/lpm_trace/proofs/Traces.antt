@@ -4,10 +4,10 @@ use Rattle.std.proofs.lemmas.Bool.Decides.{leb_tells}
 use Rattle.std.proofs.lemmas.Bool.{cases_lt}
 use Rattle.lpm_trace.specs.declared.step.WriterStep.{WriterStep}
 use Rattle.lpm_trace.specs.declared.step.WriterStep.TheVariants.{StoreFirst, StoreSecond, Opens, Closes, BumpToken, LoadCounter}
-use Rattle.lpm_trace.specs.declared.step.Step.{Step}
-use Rattle.lpm_trace.specs.declared.step.Step.TheVariants.{Writer, Worker as ByWorker}
+use Rattle.lpm_trace.specs.declared.step.TraceStep.{TraceStep}
+use Rattle.lpm_trace.specs.declared.step.TraceStep.TheVariants.{Writer, Worker as ByWorker}
 use Rattle.lpm_trace.specs.Tables.{Setup, Tables, IsSettled, addresses, with_at, answer, IsAnswer, done, begun, version, rules_by, written, opening, oldest, tables, tables_at, MayWrite}
-use Rattle.lpm_trace.specs.Workers.{Worker, Probe, Unread, InGroup, Answered, Seen, resting, moved, IsRunning}
+use Rattle.lpm_trace.specs.Workers.{Worker, Probe, Unread, InGroup, Answered, Seen, resting, moved, MayRead, IsRunning}
 use Rattle.lpm_trace.specs.Trace.{World, MayCome, after, IsTrace, writes}
 use Rattle.lpm_trace.proofs.Basics.{Each, each_map, with_at_case}
 use Rattle.lpm_trace.proofs.Good.{Told, ProbeOk, FinishedOk, WorkerOk, Good}
@@ -47,7 +47,7 @@ pub at_now : (c : Setup) (ws : List WriterStep) → tables_at c ws (length ws) �
 at_now c ws = ap (tables c) (oldest_all ws (length ws) (omega arith))
 
 -- what the workers do changes no table
-pub tables_of : (c : Setup) (steps : List Step) → (after c steps).tables ≡ tables c (writes steps)
+pub tables_of : (c : Setup) (steps : List TraceStep) → (after c steps).tables ≡ tables c (writes steps)
 tables_of c [] = refl
 tables_of c (Writer s ∷ steps) = ap (λ w. written c w s) (tables_of c steps)
 tables_of c (ByWorker k s ∷ steps) = tables_of c steps
@@ -148,21 +148,19 @@ good_write c ws workers good s may =
     (λ a lo lt le. subst (λ v. (answer c v.words a ≡ answer c (written c w s).words a) × (lo ≤ done v)) (sym new) (refl, le))
     (λ t le. begun_grows c (s ∷ ws) t)
 
-pub good_trace : (c : Setup) → IsSettled c → (steps : List Step) → IsTrace c steps
+pub good_trace : (c : Setup) → IsSettled c → (steps : List TraceStep) → IsTrace c steps
     → Good c (told_by c (writes steps)) (hi_by c (writes steps)) (tables c (writes steps)) (after c steps).workers
 good_trace c settled [] trace = start_good c settled
 good_trace c settled (Writer s ∷ steps) trace =
     good_write c (writes steps) (after c steps).workers (good_trace c settled steps trace.1) s
-    (subst (λ w. MayWrite c (λ k. ((after c steps).workers k).counter) w s) (tables_of c steps) trace.0)
+    (subst (λ w. MayWrite c (λ k. ((after c steps).workers k).counter) w s) (tables_of c steps) trace.0.0)
 good_trace c settled (ByWorker k s ∷ steps) trace =
     let good = good_trace c settled steps trace.1 in
     let w = tables c (writes steps) in
     let A : Told = told_by c (writes steps) in
     let Hi : ℕ → ℕ → Type 0 = hi_by c (writes steps) in
-    let may : MayCome c (record { tables = w; workers = (after c steps).workers }) (ByWorker k s) =
-    subst (λ v. MayCome c (record { tables = v; workers = (after c steps).workers }) (ByWorker k s)) (tables_of c steps) trace.0 in
     let r = (after c steps).workers k in
-    let ok : WorkerOk c A Hi w k (moved w.clock r s) = worker_moves c A Hi w (after c steps).workers good k may.0 r (good.workers_ok k) s may.1 in
+    let ok : WorkerOk c A Hi w k (moved w.clock r s) = worker_moves c A Hi w (after c steps).workers good k trace.0.0 r (good.workers_ok k) s (subst (λ v. MayRead c v ((after c steps).workers k) s) (tables_of c steps) trace.0.1) in
     record {
       token = good.token;
       passed = good.passed;
@@ -178,14 +176,14 @@ good_trace c settled (ByWorker k s ∷ steps) trace =
     }
 
 -- what the words show, after the writer's steps and after the first t of them
-pub shows_tables : (c : Setup) → IsSettled c → (steps : List Step) → IsTrace c steps → Shows c (tables c (writes steps))
+pub shows_tables : (c : Setup) → IsSettled c → (steps : List TraceStep) → IsTrace c steps → Shows c (tables c (writes steps))
 shows_tables c settled [] trace = opening_shows c settled
 shows_tables c settled (Writer s ∷ steps) trace =
     keeps_shows c (λ k. ((after c steps).workers k).counter) (tables c (writes steps)) (shows_tables c settled steps trace.1) s
-    (subst (λ w. MayWrite c (λ k. ((after c steps).workers k).counter) w s) (tables_of c steps) trace.0)
+    (subst (λ w. MayWrite c (λ k. ((after c steps).workers k).counter) w s) (tables_of c steps) trace.0.0)
 shows_tables c settled (ByWorker k s ∷ steps) trace = shows_tables c settled steps trace.1
 
-pub shows_at : (c : Setup) → IsSettled c → (steps : List Step) → IsTrace c steps → (t : ℕ) → Shows c (tables_at c (writes steps) t)
+pub shows_at : (c : Setup) → IsSettled c → (steps : List TraceStep) → IsTrace c steps → (t : ℕ) → Shows c (tables_at c (writes steps) t)
 shows_at c settled [] trace t = opening_shows c settled
 shows_at c settled (Writer s ∷ steps) trace t = elim (cases_lt (length (writes steps)) t) [
   | inl h ↦ subst (Shows c) (sym (at_new c s (writes steps) t h)) (shows_tables c settled (Writer s ∷ steps) trace)
@@ -228,7 +226,7 @@ pub record IsRight (c : Setup) (ws : List WriterStep) (s : Seen) : Type 0 where
   pub low : s.lo ≤ version (tables_at c ws place) s.addr
   pub high : version (tables_at c ws place) s.addr ≤ s.hi
 
-right : (c : Setup) → IsSettled c → (steps : List Step) → IsTrace c steps → (s : Seen) → FinishedOk c (told_by c (writes steps)) (hi_by c (writes steps)) (tables c (writes steps)).clock s → IsRight c (writes steps) s
+right : (c : Setup) → IsSettled c → (steps : List TraceStep) → IsTrace c steps → (s : Seen) → FinishedOk c (told_by c (writes steps)) (hi_by c (writes steps)) (tables c (writes steps)).clock s → IsRight c (writes steps) s
 right c settled steps trace s h =
     let t = h.2.0 in
     let ws = writes steps in
@@ -245,20 +243,20 @@ right c settled steps trace s h =
       high = omega (arith, h.2.4, version_le w s.addr);
     }
 
-pub all_right : (c : Setup) → IsSettled c → (steps : List Step) → IsTrace c steps → (k : ℕ) → Each (IsRight c (writes steps)) ((after c steps).workers k).finished
+pub all_right : (c : Setup) → IsSettled c → (steps : List TraceStep) → IsTrace c steps → (k : ℕ) → Each (IsRight c (writes steps)) ((after c steps).workers k).finished
 all_right c settled steps trace k =
     each_map (FinishedOk c (told_by c (writes steps)) (hi_by c (writes steps)) (tables c (writes steps)).clock) (IsRight c (writes steps)) (right c settled steps trace)
     ((after c steps).workers k).finished ((good_trace c settled steps trace).workers_ok k).finished
 
 -- a store into a group: each reader interval that runs began after the group was unlinked
-pub after_grace : (c : Setup) → IsSettled c → (steps : List Step) → IsTrace c steps → (j x : ℕ) → MayCome c (after c steps) (Writer (StoreSecond j x))
+pub after_grace : (c : Setup) → IsSettled c → (steps : List TraceStep) → IsTrace c steps → (j x : ℕ) → MayCome c (after c steps) (Writer (StoreSecond j x))
     → (k : ℕ) → IsRunning ((after c steps).workers k).phase → (tables c (writes steps)).unlinked (j / 2 ^ c.second) ≤ ((after c steps).workers k).since
 after_grace c settled steps trace j x may k run =
     let w = tables c (writes steps) in
     let r = (after c steps).workers k in
     let g = j / 2 ^ c.second in
     let ok = (good_trace c settled steps trace).workers_ok k in
-    let may' : MayWrite c (λ k. ((after c steps).workers k).counter) w (StoreSecond j x) = subst (λ v. MayWrite c (λ k. ((after c steps).workers k).counter) v (StoreSecond j x)) (tables_of c steps) may in
+    let may' : MayWrite c (λ k. ((after c steps).workers k).counter) w (StoreSecond j x) = subst (λ v. MayWrite c (λ k. ((after c steps).workers k).counter) v (StoreSecond j x)) (tables_of c steps) may.0 in
     elim (cases_lt r.since (w.unlinked g)) [
       | inl lt ↦ absurd (held_not_filled c w k r.counter r.phase (ok.inside run) (w.groups g) (ok.grace run g lt) may'.2)
       | inr le ↦ le

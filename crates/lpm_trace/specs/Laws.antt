@@ -10,8 +10,8 @@ use Rattle.lpm_trace.specs.declared.step.WriterStep.{WriterStep}
 use Rattle.lpm_trace.specs.declared.step.WriterStep.TheVariants.{StoreFirst, StoreSecond}
 use Rattle.lpm_trace.specs.declared.step.WorkerStep.{WorkerStep}
 use Rattle.lpm_trace.specs.declared.step.WorkerStep.TheVariants.{LoadOnline, StoreOnline, LoadQuiescent, StoreQuiescent, StoreOffline, Begins, LoadFirst, LoadSecond, Ends, Meets}
-use Rattle.lpm_trace.specs.declared.step.Step.{Step}
-use Rattle.lpm_trace.specs.declared.step.Step.TheVariants.{Writer, Worker as ByWorker}
+use Rattle.lpm_trace.specs.declared.step.TraceStep.{TraceStep}
+use Rattle.lpm_trace.specs.declared.step.TraceStep.TheVariants.{Writer, Worker as ByWorker}
 use Rattle.lpm_trace.specs.Tables.{Setup, Tables, IsSettled, addresses, answer, IsAnswer, done, begun, version, oldest, tables, tables_at, first_entry}
 use Rattle.lpm_trace.specs.Workers.{Seen}
 use Rattle.lpm_trace.specs.Trace.{after, IsTrace, writes, worker_of}
@@ -19,20 +19,20 @@ use Rattle.lpm_trace.specs.Trace.{after, IsTrace, writes, worker_of}
 -- ---- answers
 
 -- the tables at a moment: after the first t steps
-abbrev pub at_moment : Setup → List Step → ℕ → Tables
+abbrev pub at_moment : Setup → List TraceStep → ℕ → Tables
 at_moment c steps t = tables c (writes (oldest t steps))
 
 -- version k stands at moment t: its update was begun, and the next one isn't done
-abbrev pub Stands : Setup → List Step → ℕ → ℕ → Type 0
+abbrev pub Stands : Setup → List TraceStep → ℕ → ℕ → Type 0
 Stands c steps t k = (done (at_moment c steps t) ≤ k) × (k ≤ begun (at_moment c steps t))
 
 -- the rules of version k
-abbrev pub rules_of_version : Setup → List Step → ℕ → RuleMap
+abbrev pub rules_of_version : Setup → List TraceStep → ℕ → RuleMap
 rules_of_version c steps k = (tables c (writes steps)).history k
 
 -- a finished lookup is legal: its answer is that of a version that stood at a moment from the read
 -- of its first word to the read of its last one, and that version lies from `lo` to `hi`
-pub record IsLegal (c : Setup) (steps : List Step) (seen : Seen) : Type 0 where
+pub record IsLegal (c : Setup) (steps : List TraceStep) (seen : Seen) : Type 0 where
   pub moment : ℕ
   pub version : ℕ
   pub from : seen.first ≤ moment
@@ -44,7 +44,7 @@ pub record IsLegal (c : Setup) (steps : List Step) (seen : Seen) : Type 0 where
   pub high : version ≤ seen.hi
 
 abbrev pub LookupsAreLegal : Type 0
-LookupsAreLegal = (c : Setup) (steps : List Step) (worker : ℕ) → IsSettled c → IsTrace c steps
+LookupsAreLegal = (c : Setup) (steps : List TraceStep) (worker : ℕ) → IsSettled c → IsTrace c steps
     → All (IsLegal c steps) (worker_of worker steps).finished
 
 -- ---- reuse
@@ -77,20 +77,20 @@ ends_by k (LoadSecond word) worker = false
 ends_by k (Ends sequence) worker = false
 ends_by k (Meets sequence) worker = false
 
-abbrev pub begins : ℕ → Step → Bool
+abbrev pub begins : ℕ → TraceStep → Bool
 begins worker (Writer s) = false
 begins worker (ByWorker k s) = begins_by k s worker
 
-abbrev pub ends : ℕ → Step → Bool
+abbrev pub ends : ℕ → TraceStep → Bool
 ends worker (Writer s) = false
 ends worker (ByWorker k s) = ends_by k s worker
 
-abbrev pub by_steps : Reporting Step
+abbrev pub by_steps : Reporting TraceStep
 by_steps = record { begins = begins; ends = ends }
 
 -- after the steps `older`, a store of the first word of block i unlinks group g: it replaces the
 -- word of that group by another entry's
-abbrev pub Unlinks : Setup → List Step → WriterStep → ℕ → Type 0
+abbrev pub Unlinks : Setup → List TraceStep → WriterStep → ℕ → Type 0
 Unlinks c older (StoreFirst i x) g =
     (first_entry (tables c (writes older)).words i ≡ Group g) × (entry_in x ≢ Group g)
 Unlinks c older s g = ⊥
@@ -103,7 +103,7 @@ Fills c s g = ⊥
 -- no group is rewritten within its grace period: no reader interval holds both a step that unlinks a
 -- group and a later one that stores into it
 abbrev pub ReuseIsLawful : Type 0
-ReuseIsLawful = (c : Setup) (newer between older : List Step) (unlinks fills : WriterStep) (g : ℕ)
+ReuseIsLawful = (c : Setup) (newer between older : List TraceStep) (unlinks fills : WriterStep) (g : ℕ)
     → IsSettled c → IsTrace c (newer ++ Writer fills ∷ (between ++ Writer unlinks ∷ older))
     → Unlinks c older unlinks g → Fills c fills g
     → (i : Interval)
@@ -114,7 +114,7 @@ ReuseIsLawful = (c : Setup) (newer between older : List Step) (unlinks fills : W
 
 -- where no update runs, the words answer by the rules of the last version
 abbrev pub RestAnswers : Type 0
-RestAnswers = (c : Setup) (steps : List Step) → IsSettled c → IsTrace c steps
+RestAnswers = (c : Setup) (steps : List TraceStep) → IsSettled c → IsTrace c steps
     → done (after c steps).tables ≡ begun (after c steps).tables
     → (a : ℕ) → a < addresses c
     → IsAnswer c ((after c steps).tables.history (done (after c steps).tables)) a
@@ -123,16 +123,16 @@ RestAnswers = (c : Setup) (steps : List Step) → IsSettled c → IsTrace c step
 -- ---- versions
 
 -- the version that an address shows at a moment
-abbrev pub version_at : Setup → List Step → ℕ → ℕ → ℕ
+abbrev pub version_at : Setup → List TraceStep → ℕ → ℕ → ℕ
 version_at c steps a t = version (at_moment c steps t) a
 
 -- the version that an address shows stands, and never falls
 abbrev pub VersionsNeverFall : Type 0
-VersionsNeverFall = (c : Setup) (steps : List Step) (a t u : ℕ) → t ≤ u
+VersionsNeverFall = (c : Setup) (steps : List TraceStep) (a t u : ℕ) → t ≤ u
     → Stands c steps t (version_at c steps a t) × (version_at c steps a t ≤ version_at c steps a u)
 
 -- a finished lookup answers by the version that its address shows at a moment of its span
-pub record IsMonotone (c : Setup) (steps : List Step) (seen : Seen) : Type 0 where
+pub record IsMonotone (c : Setup) (steps : List TraceStep) (seen : Seen) : Type 0 where
   pub moment : ℕ
   pub from : seen.first ≤ moment
   pub to : moment ≤ seen.last
@@ -141,5 +141,5 @@ pub record IsMonotone (c : Setup) (steps : List Step) (seen : Seen) : Type 0 whe
       seen.addr seen.hop
 
 abbrev pub LookupsAreMonotone : Type 0
-LookupsAreMonotone = (c : Setup) (steps : List Step) (worker : ℕ) → IsSettled c → IsTrace c steps
+LookupsAreMonotone = (c : Setup) (steps : List TraceStep) (worker : ℕ) → IsSettled c → IsTrace c steps
     → All (IsMonotone c steps) (worker_of worker steps).finished

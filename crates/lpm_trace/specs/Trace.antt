@@ -3,47 +3,53 @@
 use Rattle.std.specs.Prelude.{◌≡◌, ℕ, suc, ◌<◌, ⊤, cond, eqb, List, [], ◌∷◌, length}
 use Rattle.lpm_trace.specs.declared.step.WriterStep.{WriterStep}
 use Rattle.lpm_trace.specs.declared.step.WorkerStep.{WorkerStep}
-use Rattle.lpm_trace.specs.declared.step.Step.{Step}
-use Rattle.lpm_trace.specs.declared.step.Step.TheVariants.{Writer, Worker as ByWorker}
+use Rattle.lpm_trace.specs.declared.step.TraceStep.{TraceStep}
+use Rattle.lpm_trace.specs.declared.step.TraceStep.TheVariants.{Writer, Worker as ByWorker}
 use Rattle.lpm_trace.specs.Tables.{Setup, Tables, with_at, written, opening, MayWrite}
+use Rattle.lpm_trace.specs.Course.{Course, beginning, coursed, Follows}
 use Rattle.lpm_trace.specs.Workers.{Worker, resting, moved, MayRead}
 
 pub record World : Type 0 where
   pub tables : Tables
+  pub course : Course
   pub workers : ℕ → Worker
 
 abbrev pub start : Setup → World
-start c = record { tables = opening c; workers = λ k. resting }
+start c = record { tables = opening c; course = beginning; workers = λ k. resting }
 
 -- the world after a step. A worker's clock is the number of the writer's steps.
-abbrev pub apply : Setup → World → Step → World
-apply c w (Writer s) = record w { tables = written c w.tables s }
+abbrev pub apply : Setup → World → TraceStep → World
+apply c w (Writer s) = record w {
+  tables = written c w.tables s;
+  course = coursed c w.tables w.course s;
+}
 apply c w (ByWorker k s) =
     record w { workers = with_at w.workers k (moved w.tables.clock (w.workers k) s) }
 
 -- the step may come next
-abbrev pub MayCome : Setup → World → Step → Type 0
-MayCome c w (Writer s) = MayWrite c (λ k. (w.workers k).counter) w.tables s
+abbrev pub MayCome : Setup → World → TraceStep → Type 0
+MayCome c w (Writer s) =
+    MayWrite c (λ k. (w.workers k).counter) w.tables s × Follows c w.tables w.course s
 MayCome c w (ByWorker k s) = (k < c.workers) × MayRead c w.tables (w.workers k) s
 
 -- the world after these steps
-abbrev pub after : Setup → List Step → World
+abbrev pub after : Setup → List TraceStep → World
 after c [] = start c
 after c (s ∷ steps) = apply c (after c steps) s
 
 -- each step may come after those before it
-abbrev pub IsTrace : Setup → List Step → Type 0
+abbrev pub IsTrace : Setup → List TraceStep → Type 0
 IsTrace c [] = ⊤
 IsTrace c (s ∷ steps) = MayCome c (after c steps) s × IsTrace c steps
 
 -- the writer's own steps
-abbrev pub writes : List Step → List WriterStep
+abbrev pub writes : List TraceStep → List WriterStep
 writes [] = []
 writes (Writer s ∷ steps) = s ∷ writes steps
 writes (ByWorker k s ∷ steps) = writes steps
 
 -- a worker's own steps, each with its place: how many steps the writer had made before it
-abbrev pub own : ℕ → List Step → List (WorkerStep × ℕ)
+abbrev pub own : ℕ → List TraceStep → List (WorkerStep × ℕ)
 own k [] = []
 own k (Writer s ∷ steps) = own k steps
 own k (ByWorker j s ∷ steps) =
@@ -55,7 +61,7 @@ worker_by [] = resting
 worker_by (s ∷ steps) = moved s.1 (worker_by steps) s.0
 
 -- what a worker's steps leave, where the clock is the number of the step itself, from 1
-abbrev pub worker_of : ℕ → List Step → Worker
+abbrev pub worker_of : ℕ → List TraceStep → Worker
 worker_of k [] = resting
 worker_of k (Writer s ∷ steps) = worker_of k steps
 worker_of k (ByWorker j s ∷ steps) =

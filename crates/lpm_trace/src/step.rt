@@ -55,7 +55,7 @@ pub enum WorkerStep {
 }
 
 /// A step of the writer, or of the worker of this number.
-pub enum Step {
+pub enum TraceStep {
     Writer(WriterStep),
     Worker(u64, WorkerStep),
 }
