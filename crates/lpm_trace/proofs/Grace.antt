@@ -1,8 +1,7 @@
 -- The textbook's grace period: no reader interval holds both a step that unlinks a group and a later
 -- store into it.
-use Rattle.std.proofs.Common.{◌≡◌, ◌≢◌, ℕ, suc, ◌+◌, ◌/◌, ◌^◌, ◌<◌, ◌≤◌, ◌⊎◌, inl, inr, true, false, cond, eqb, eq-eqb, IsTrue, List, [], ◌∷◌, ◌++◌, length, refl, sym, ap, subst, ◌∙◌, append_assoc, length-append, arith}
+use Rattle.std.proofs.Common.{◌≡◌, ℕ, suc, ◌/◌, ◌^◌, ◌≤◌, inl, inr, true, false, cond, eqb, eq-eqb, IsTrue, List, [], ◌∷◌, ◌++◌, length, refl, sym, ap, subst, ◌∙◌, append_assoc, length-append, arith}
 use Rattle.std.proofs.lemmas.Bool.Decides.{eqb_tells}
-use Rattle.lpm_entry.specs.declared.Entry.TheVariants.{Group}
 use Rattle.reader_intervals.specs.Intervals.{Interval, IsReaderInterval, Holds, IsRunningSince, IsHeldByWorker}
 use Rattle.reader_intervals.proofs.Running.{since_within, since_cases, held_start}
 use Rattle.reader_intervals.proofs.Grace.{grace_period_is_over}
@@ -12,12 +11,11 @@ use Rattle.lpm_trace.specs.declared.step.WorkerStep.{WorkerStep}
 use Rattle.lpm_trace.specs.declared.step.WorkerStep.TheVariants.{LoadOnline, StoreOnline, LoadQuiescent, StoreQuiescent, StoreOffline, Begins, LoadFirst, LoadSecond, Ends, Meets}
 use Rattle.lpm_trace.specs.declared.step.TraceStep.{TraceStep}
 use Rattle.lpm_trace.specs.declared.step.TraceStep.TheVariants.{Writer, Worker as ByWorker}
-use Rattle.lpm_trace.specs.Tables.{Setup, Tables, IsSettled, first_entry, stamped, oldest, written, tables}
+use Rattle.lpm_trace.specs.Tables.{Setup, Tables, IsSettled, first_entry, stamped, oldest, tables}
 use Rattle.lpm_trace.specs.Workers.{Worker, moved, MayRead, IsRunning}
-use Rattle.lpm_trace.specs.Trace.{MayCome, after, IsTrace, writes}
-use Rattle.lpm_trace.specs.Laws.{begins_by, ends_by, by_steps, Unlinks, Fills, ReuseIsLawful}
+use Rattle.lpm_trace.specs.Trace.{after, IsTrace, writes}
+use Rattle.lpm_trace.specs.Laws.{begins_by, ends_by, by_steps, Unlinks, ReuseIsLawful}
 use Rattle.lpm_trace.proofs.Basics.{with_at-same}
-use Rattle.lpm_trace.proofs.Versions.{tick}
 use Rattle.lpm_trace.proofs.Writing.{stamped_le, stamped_ge}
 use Rattle.lpm_trace.proofs.Traces.{oldest_old, oldest_all, clock_length, tables_of, after_grace}
 use Rattle.lpm_trace.proofs.Moments.{count, count_old, count_le}

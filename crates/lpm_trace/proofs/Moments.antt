@@ -1,22 +1,21 @@
 -- From the number of the writer's steps to the number of all steps: each finished lookup is legal at a
 -- moment.
-use Rattle.std.proofs.Common.{◌≡◌, ◌≢◌, ℕ, zero, suc, ◌+◌, ◌-◌, ◌<◌, ◌≤◌, ◌⊎◌, inl, inr, cond, List, [], ◌∷◌, All, map, length, refl, sym, ap, subst, ◌∙◌, zero-add, arith}
+use Rattle.std.proofs.Common.{◌≡◌, ℕ, zero, suc, ◌+◌, ◌-◌, ◌≤◌, inl, inr, cond, List, [], ◌∷◌, map, length, refl, sym, ap, subst, ◌∙◌, zero-add, arith}
 use Rattle.std.specs.Bool.{⊤}
 use Rattle.std.proofs.lemmas.Bool.{cases_lt}
 use Rattle.std.proofs.lemmas.Bool.Decides.{eqb_tells}
 use Rattle.lpm_entry.specs.declared.Entry.{Entry}
 use Rattle.lpm_entry.specs.declared.Entry.TheVariants.{Miss, Hop, Group}
 use Rattle.lpm_entry.specs.Words.{entry_in}
-use Rattle.lpm_trace.specs.declared.step.WriterStep.{WriterStep}
 use Rattle.lpm_trace.specs.declared.step.WorkerStep.{WorkerStep}
 use Rattle.lpm_trace.specs.declared.step.WorkerStep.TheVariants.{LoadOnline, StoreOnline, LoadQuiescent, StoreQuiescent, StoreOffline, Begins, LoadFirst, LoadSecond, Ends, Meets}
 use Rattle.lpm_trace.specs.declared.step.TraceStep.{TraceStep}
 use Rattle.lpm_trace.specs.declared.step.TraceStep.TheVariants.{Writer, Worker as ByWorker}
-use Rattle.lpm_trace.specs.Tables.{Setup, Tables, IsSettled, IsAnswer, done_at, begun_at, version, oldest, tables, tables_at}
-use Rattle.lpm_trace.specs.Workers.{Worker, Probe, Unread, InGroup, Answered, Seen, resting, read_first, first_read, second_read, with_answers, moved}
-use Rattle.lpm_trace.specs.Trace.{after, IsTrace, writes, worker_of}
+use Rattle.lpm_trace.specs.Tables.{Setup, IsAnswer, begun_at, version, oldest, tables, tables_at}
+use Rattle.lpm_trace.specs.Workers.{Worker, Probe, Unread, InGroup, Answered, Seen, read_first, first_read, second_read, with_answers, moved}
+use Rattle.lpm_trace.specs.Trace.{after, writes, worker_of}
 use Rattle.lpm_trace.specs.Laws.{at_moment, rules_of_version, version_at, IsLegal, IsMonotone, LookupsAreLegal, LookupsAreMonotone, VersionsNeverFall}
-use Rattle.lpm_trace.proofs.Basics.{Each, each_map, each_all}
+use Rattle.lpm_trace.proofs.Basics.{Each, each_all}
 use Rattle.lpm_trace.proofs.Versions.{version_ge, version_le}
 use Rattle.lpm_trace.proofs.Traces.{oldest_old, oldest_new, oldest_all, clock_length, tables_of, rising, IsRight, all_right}
 

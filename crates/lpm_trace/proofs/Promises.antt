@@ -1,7 +1,7 @@
 -- The laws, as the contracts name them.
-use Rattle.std.proofs.Common.{◌≡◌, ℕ, ◌/◌, ◌<◌, subst, sym, ap, arith}
-use Rattle.lpm_trace.specs.Tables.{Tables, addresses, IsAnswer, answer, done, begun, version, tables}
-use Rattle.lpm_trace.specs.Trace.{after, writes}
+use Rattle.std.proofs.Common.{◌≡◌, subst, sym, arith}
+use Rattle.lpm_trace.specs.Tables.{Tables, IsAnswer, answer, done, version}
+use Rattle.lpm_trace.specs.Trace.{after}
 use Rattle.lpm_trace.specs.Laws.{RestAnswers}
 use Rattle.lpm_trace.proofs.Versions.{Shows, version_ge, version_le}
 use Rattle.lpm_trace.proofs.Traces.{tables_of, shows_tables}

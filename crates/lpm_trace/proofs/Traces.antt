@@ -1,5 +1,5 @@
 -- What holds of every trace, by adding one step at a time, told by the number of the writer's steps.
-use Rattle.std.proofs.Common.{◌≡◌, ℕ, suc, ◌+◌, ◌/◌, ◌%◌, ◌^◌, ◌<◌, ◌≤◌, ◌⊎◌, inl, inr, Bool, true, false, cond, leb, List, [], ◌∷◌, ◌++◌, length, Option, refl, sym, ap, subst, ◌∙◌, arith}
+use Rattle.std.proofs.Common.{◌≡◌, ℕ, suc, ◌/◌, ◌^◌, ◌<◌, ◌≤◌, inl, inr, false, cond, List, [], ◌∷◌, length, Option, refl, sym, ap, subst, ◌∙◌, arith}
 use Rattle.std.proofs.lemmas.Bool.Decides.{leb_tells}
 use Rattle.std.proofs.lemmas.Bool.{cases_lt}
 use Rattle.lpm_trace.specs.declared.step.WriterStep.{WriterStep}
@@ -8,7 +8,7 @@ use Rattle.lpm_trace.specs.declared.step.TraceStep.{TraceStep}
 use Rattle.lpm_trace.specs.declared.step.TraceStep.TheVariants.{Writer, Worker as ByWorker}
 use Rattle.lpm_trace.specs.Tables.{Setup, Tables, IsSettled, addresses, with_at, answer, IsAnswer, done, begun, version, rules_by, written, opening, oldest, tables, tables_at, MayWrite}
 use Rattle.lpm_trace.specs.Workers.{Worker, Probe, Unread, InGroup, Answered, Seen, resting, moved, MayRead, IsRunning}
-use Rattle.lpm_trace.specs.Trace.{World, MayCome, after, IsTrace, writes}
+use Rattle.lpm_trace.specs.Trace.{MayCome, after, IsTrace, writes}
 use Rattle.lpm_trace.proofs.Basics.{Each, each_map, with_at_case}
 use Rattle.lpm_trace.proofs.Good.{Told, ProbeOk, FinishedOk, WorkerOk, Good}
 use Rattle.lpm_trace.proofs.Writing.{keeps_first, keeps_second, held_not_filled}

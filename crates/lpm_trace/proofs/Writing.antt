@@ -1,14 +1,14 @@
 -- The writer's stores keep what holds.
-use Rattle.std.proofs.Common.{◌≡◌, ℕ, suc, ◌+◌, ◌*◌, ◌/◌, ◌%◌, ◌^◌, ◌<◌, ◌≤◌, ◌≢◌, ◌⊎◌, inl, inr, length, slice_index, slice_set, refl, sym, ap, subst, ◌∙◌, arith}
+use Rattle.std.proofs.Common.{◌≡◌, ℕ, suc, ◌/◌, ◌%◌, ◌^◌, ◌<◌, ◌≤◌, ◌≢◌, ◌⊎◌, inl, inr, length, slice_index, refl, sym, ap, subst, ◌∙◌, arith}
 use Rattle.std.proofs.lemmas.Nat.{div-mul-add, pow_pos}
 use Rattle.std.proofs.Math.Nat.{mod-lt}
 use Rattle.std.proofs.Common.{get_or-set_other}
 use Rattle.lpm_entry.specs.declared.Entry.{Entry}
 use Rattle.lpm_entry.specs.declared.Entry.TheVariants.{Miss, Hop, Group}
 use Rattle.lpm_entry.specs.Words.{entry_in, hop_in}
-use Rattle.lpm_cells.specs.Table.{Words, with_first, with_second, followed}
+use Rattle.lpm_cells.specs.Table.{with_first, followed}
 use Rattle.lpm_trace.specs.declared.step.WriterStep.TheVariants.{StoreFirst, StoreSecond}
-use Rattle.lpm_trace.specs.Tables.{Setup, Tables, Status, Unused, Linked, Retired, addresses, with_at, answer, done, begun, first_entry, written, linked, retired, stamped, MayLink, MayFill, IsFree}
+use Rattle.lpm_trace.specs.Tables.{Setup, Tables, Status, Unused, Linked, Retired, addresses, answer, done, begun, first_entry, written, linked, retired, stamped, MayLink, MayFill, IsFree}
 use Rattle.lpm_trace.specs.Workers.{Worker, Phase, Offline, ComingOnline, Online, LookingUp, Reporting, IsRunning}
 use Rattle.lpm_trace.proofs.Basics.{with_at_case, with_at-same, with_at-other, set_case}
 use Rattle.lpm_trace.proofs.Good.{Told, LoadedAs, IsStaleAs, HeldAs, second_place, HalfOk, WorkerOk, Good, worker_stays}

@@ -1,7 +1,7 @@
 -- Meaning: the order in which the writer makes its steps (DPDK Programmer's Guide, "RCU Library": a
 -- token is started for what was given up, and a check asks one reader after another; the order
 -- within an update is this project's).
-use Rattle.std.specs.Prelude.{◌≡◌, ◌≢◌, ℕ, suc, ◌/◌, ◌%◌, ◌^◌, ◌<◌, ◌≤◌, ◌⊎◌, ⊤, Bool, true, false, cond, eqb, ◌&&◌, Option, Some, None, slice_index}
+use Rattle.std.specs.Prelude.{◌≡◌, ℕ, suc, ◌/◌, ◌^◌, ◌<◌, ◌≤◌, ◌⊎◌, ⊤, Bool, true, false, cond, eqb, Option, Some, None}
 use Rattle.lpm_entry.specs.declared.Entry.{Entry}
 use Rattle.lpm_entry.specs.declared.Entry.TheVariants.{Miss, Hop, Group}
 use Rattle.lpm_entry.specs.Words.{entry_in, group_in}

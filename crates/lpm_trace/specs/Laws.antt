@@ -1,7 +1,7 @@
 -- Meaning: what holds of each trace: answers, reuse of groups, rest, and versions that never fall
 -- (DPDK Programmer's Guide, "RCU Library": memory is used again after a grace period alone; this
 -- project's otherwise).
-use Rattle.std.specs.Prelude.{◌≡◌, ◌≢◌, ℕ, ◌+◌, ◌/◌, ◌^◌, ◌<◌, ◌≤◌, eqb, Bool, true, false, ◌%◌, All, List, [], ◌∷◌, ◌++◌, length}
+use Rattle.std.specs.Prelude.{◌≡◌, ◌≢◌, ℕ, ◌/◌, ◌^◌, ◌<◌, ◌≤◌, eqb, Bool, false, All, List, ◌∷◌, ◌++◌, length}
 use Rattle.lpm_entry.specs.declared.Entry.TheVariants.{Group}
 use Rattle.lpm_entry.specs.Words.{entry_in}
 use Rattle.lpm_rules.specs.RuleMap.{RuleMap}
@@ -12,7 +12,7 @@ use Rattle.lpm_trace.specs.declared.step.WorkerStep.{WorkerStep}
 use Rattle.lpm_trace.specs.declared.step.WorkerStep.TheVariants.{LoadOnline, StoreOnline, LoadQuiescent, StoreQuiescent, StoreOffline, Begins, LoadFirst, LoadSecond, Ends, Meets}
 use Rattle.lpm_trace.specs.declared.step.TraceStep.{TraceStep}
 use Rattle.lpm_trace.specs.declared.step.TraceStep.TheVariants.{Writer, Worker as ByWorker}
-use Rattle.lpm_trace.specs.Tables.{Setup, Tables, IsSettled, addresses, answer, IsAnswer, done, begun, version, oldest, tables, tables_at, first_entry}
+use Rattle.lpm_trace.specs.Tables.{Setup, Tables, IsSettled, addresses, answer, IsAnswer, done, begun, version, oldest, tables, first_entry}
 use Rattle.lpm_trace.specs.Workers.{Seen}
 use Rattle.lpm_trace.specs.Trace.{after, IsTrace, writes, worker_of}
 

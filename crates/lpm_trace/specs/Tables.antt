@@ -2,7 +2,7 @@
 -- rules and the groups; and which of its steps may come next (Gupta, Lin and McKeown, INFOCOM 1998,
 -- section 3; DPDK Programmer's Guide, "LPM Library": a group is given up when its block needs none
 -- any more; "RCU Library": a token for what was given up, and a check of each reader's counter).
-use Rattle.std.specs.Prelude.{◌≡◌, ℕ, suc, ◌+◌, ◌*◌, ◌/◌, ◌%◌, ◌^◌, ◌<◌, ◌≤◌, ◌⊎◌, ⊤, Bool, true, false, cond, ◌&&◌, leb, eqb, max, nat_lt, List, [], ◌∷◌, length, slice_index, Option, Some, None}
+use Rattle.std.specs.Prelude.{◌≡◌, ℕ, suc, ◌+◌, ◌/◌, ◌%◌, ◌^◌, ◌<◌, ◌≤◌, ◌⊎◌, ⊤, Bool, true, false, cond, ◌&&◌, leb, eqb, max, List, [], ◌∷◌, length, slice_index, Option, Some, None}
 use Rattle.std.specs.FinMap.{insert, remove, empty}
 use Rattle.lpm_entry.specs.declared.Entry.{Entry}
 use Rattle.lpm_entry.specs.declared.Entry.TheVariants.{Miss, Hop, Group}
