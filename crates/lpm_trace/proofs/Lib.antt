@@ -7,4 +7,5 @@ pub mod Reading
 pub mod Traces
 pub mod Moments
 pub mod Grace
+pub mod Places
 pub mod Promises

@@ -14,10 +14,10 @@ use Rattle.lpm_trace.specs.declared.step.TraceStep.TheVariants.{Writer, Worker a
 use Rattle.lpm_trace.specs.Tables.{Setup, IsAnswer, begun_at, version, oldest, tables, tables_at}
 use Rattle.lpm_trace.specs.Workers.{Worker, Probe, Unread, InGroup, Answered, Seen, read_first, first_read, second_read, with_answers, moved}
 use Rattle.lpm_trace.specs.Trace.{after, writes, worker_of}
-use Rattle.lpm_trace.specs.Laws.{at_moment, rules_of_version, version_at, IsLegal, IsMonotone, LookupsAreLegal, LookupsAreMonotone, VersionsNeverFall}
+use Rattle.lpm_trace.specs.Laws.{IsLegalAtPlace, at_moment, rules_of_version, version_at, IsLegal, IsMonotone, LookupsAreLegal, LookupsAreMonotone, VersionsNeverFall}
 use Rattle.lpm_trace.proofs.Basics.{Each, each_all}
 use Rattle.lpm_trace.proofs.Versions.{version_ge, version_le}
-use Rattle.lpm_trace.proofs.Traces.{oldest_old, oldest_new, oldest_all, clock_length, tables_of, rising, IsRight, all_right}
+use Rattle.lpm_trace.proofs.Traces.{oldest_old, oldest_new, oldest_all, clock_length, tables_of, rising, all_right}
 
 -- ---- how many of the first n steps are the writer's
 
@@ -254,7 +254,7 @@ span_moment steps s n same place from to =
 at_place : (c : Setup) (steps : List TraceStep) (n place : ℕ) → count steps n ≡ place → tables_at c (writes steps) place ≡ at_moment c steps n
 at_place c steps n place is = ap (tables_at c (writes steps)) (sym is) ∙ ap (tables c) (writes_oldest steps n)
 
-legal : (c : Setup) (steps : List TraceStep) (s n : Seen) → SeenAgrees steps s n → IsRight c (writes steps) s → IsLegal c steps n
+legal : (c : Setup) (steps : List TraceStep) (s n : Seen) → SeenAgrees steps s n → IsLegalAtPlace c (writes steps) s → IsLegal c steps n
 legal c steps s n same right =
     let m = span_moment steps s n same right.place right.from right.to in
     let at : tables_at c (writes steps) right.place ≡ at_moment c steps m.moment = at_place c steps m.moment right.place m.is in
@@ -274,7 +274,7 @@ legal c steps s n same right =
       high = omega (arith, same.3, right.high, shown);
     }
 
-monotone : (c : Setup) (steps : List TraceStep) (s n : Seen) → SeenAgrees steps s n → IsRight c (writes steps) s → IsMonotone c steps n
+monotone : (c : Setup) (steps : List TraceStep) (s n : Seen) → SeenAgrees steps s n → IsLegalAtPlace c (writes steps) s → IsMonotone c steps n
 monotone c steps s n same right =
     let m = span_moment steps s n same right.place right.from right.to in
     let at : tables_at c (writes steps) right.place ≡ at_moment c steps m.moment = at_place c steps m.moment right.place m.is in
@@ -292,13 +292,13 @@ monotone c steps s n same right =
 pub lookups_are_legal : LookupsAreLegal
 lookups_are_legal c steps k settled trace =
     each_all (IsLegal c steps) (worker_of k steps).finished
-    (zip_each (SeenAgrees steps) (IsRight c (writes steps)) (IsLegal c steps) (legal c steps) ((after c steps).workers k).finished (worker_of k steps).finished
+    (zip_each (SeenAgrees steps) (IsLegalAtPlace c (writes steps)) (IsLegal c steps) (legal c steps) ((after c steps).workers k).finished (worker_of k steps).finished
     (clocks_agree c steps k).finished (all_right c settled steps trace k))
 
 pub lookups_are_monotone : LookupsAreMonotone
 lookups_are_monotone c steps k settled trace =
     each_all (IsMonotone c steps) (worker_of k steps).finished
-    (zip_each (SeenAgrees steps) (IsRight c (writes steps)) (IsMonotone c steps) (monotone c steps) ((after c steps).workers k).finished (worker_of k steps).finished
+    (zip_each (SeenAgrees steps) (IsLegalAtPlace c (writes steps)) (IsMonotone c steps) (monotone c steps) ((after c steps).workers k).finished (worker_of k steps).finished
     (clocks_agree c steps k).finished (all_right c settled steps trace k))
 
 pub versions_never_fall : VersionsNeverFall

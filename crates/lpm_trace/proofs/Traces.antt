@@ -9,6 +9,7 @@ use Rattle.lpm_trace.specs.declared.step.TraceStep.TheVariants.{Writer, Worker a
 use Rattle.lpm_trace.specs.Tables.{Setup, Tables, IsSettled, addresses, with_at, answer, IsAnswer, done, begun, version, rules_by, written, opening, oldest, tables, tables_at, MayWrite}
 use Rattle.lpm_trace.specs.Workers.{Worker, Probe, Unread, InGroup, Answered, Seen, resting, moved, MayRead, IsRunning}
 use Rattle.lpm_trace.specs.Trace.{MayCome, after, IsTrace, writes}
+use Rattle.lpm_trace.specs.Laws.{IsLegalAtPlace}
 use Rattle.lpm_trace.proofs.Basics.{Each, each_map, with_at_case}
 use Rattle.lpm_trace.proofs.Good.{Told, ProbeOk, FinishedOk, WorkerOk, Good}
 use Rattle.lpm_trace.proofs.Writing.{keeps_first, keeps_second, held_not_filled}
@@ -216,17 +217,7 @@ rising c (s ∷ ws) t u a le = elim (cases_lt (length ws) u) [
       (subst (λ w. version w a ≤ version (tables_at c ws u) a) (sym (at_old c s ws t (omega (arith, le, h)))) (rising c ws t u a le))
 ]
 
--- a finished lookup answers by the version that its address shows at a place of its span
-pub record IsRight (c : Setup) (ws : List WriterStep) (s : Seen) : Type 0 where
-  pub place : ℕ
-  pub from : s.first ≤ place
-  pub to : place ≤ s.last
-  pub within : s.last ≤ length ws
-  pub answers : IsAnswer c ((tables c ws).history (version (tables_at c ws place) s.addr)) s.addr s.hop
-  pub low : s.lo ≤ version (tables_at c ws place) s.addr
-  pub high : version (tables_at c ws place) s.addr ≤ s.hi
-
-right : (c : Setup) → IsSettled c → (steps : List TraceStep) → IsTrace c steps → (s : Seen) → FinishedOk c (told_by c (writes steps)) (hi_by c (writes steps)) (tables c (writes steps)).clock s → IsRight c (writes steps) s
+right : (c : Setup) → IsSettled c → (steps : List TraceStep) → IsTrace c steps → (s : Seen) → FinishedOk c (told_by c (writes steps)) (hi_by c (writes steps)) (tables c (writes steps)).clock s → IsLegalAtPlace c (writes steps) s
 right c settled steps trace s h =
     let t = h.2.0 in
     let ws = writes steps in
@@ -243,9 +234,9 @@ right c settled steps trace s h =
       high = omega (arith, h.2.4, version_le w s.addr);
     }
 
-pub all_right : (c : Setup) → IsSettled c → (steps : List TraceStep) → IsTrace c steps → (k : ℕ) → Each (IsRight c (writes steps)) ((after c steps).workers k).finished
+pub all_right : (c : Setup) → IsSettled c → (steps : List TraceStep) → IsTrace c steps → (k : ℕ) → Each (IsLegalAtPlace c (writes steps)) ((after c steps).workers k).finished
 all_right c settled steps trace k =
-    each_map (FinishedOk c (told_by c (writes steps)) (hi_by c (writes steps)) (tables c (writes steps)).clock) (IsRight c (writes steps)) (right c settled steps trace)
+    each_map (FinishedOk c (told_by c (writes steps)) (hi_by c (writes steps)) (tables c (writes steps)).clock) (IsLegalAtPlace c (writes steps)) (right c settled steps trace)
     ((after c steps).workers k).finished ((good_trace c settled steps trace).workers_ok k).finished
 
 -- a store into a group: each reader interval that runs began after the group was unlinked

@@ -1,7 +1,7 @@
 -- Meaning: what holds of each trace: answers, reuse of groups, rest, and versions that never fall
 -- (DPDK Programmer's Guide, "RCU Library": memory is used again after a grace period alone; this
 -- project's otherwise).
-use Rattle.std.specs.Prelude.{◌≡◌, ◌≢◌, ℕ, ◌/◌, ◌^◌, ◌<◌, ◌≤◌, eqb, Bool, false, All, List, ◌∷◌, ◌++◌, length}
+use Rattle.std.specs.Prelude.{◌≡◌, ◌≢◌, ℕ, ◌/◌, ◌^◌, ◌<◌, ◌≤◌, ◌↔◌, eqb, Bool, false, All, List, ◌∷◌, ◌++◌, length}
 use Rattle.lpm_entry.specs.declared.Entry.TheVariants.{Group}
 use Rattle.lpm_entry.specs.Words.{entry_in}
 use Rattle.lpm_rules.specs.RuleMap.{RuleMap}
@@ -12,9 +12,9 @@ use Rattle.lpm_trace.specs.declared.step.WorkerStep.{WorkerStep}
 use Rattle.lpm_trace.specs.declared.step.WorkerStep.TheVariants.{LoadOnline, StoreOnline, LoadQuiescent, StoreQuiescent, StoreOffline, Begins, LoadFirst, LoadSecond, Ends, Meets}
 use Rattle.lpm_trace.specs.declared.step.TraceStep.{TraceStep}
 use Rattle.lpm_trace.specs.declared.step.TraceStep.TheVariants.{Writer, Worker as ByWorker}
-use Rattle.lpm_trace.specs.Tables.{Setup, Tables, IsSettled, addresses, answer, IsAnswer, done, begun, version, oldest, tables, first_entry}
+use Rattle.lpm_trace.specs.Tables.{Setup, Tables, IsSettled, addresses, answer, IsAnswer, done, begun, version, oldest, tables, tables_at, first_entry}
 use Rattle.lpm_trace.specs.Workers.{Seen}
-use Rattle.lpm_trace.specs.Trace.{after, IsTrace, writes, worker_of}
+use Rattle.lpm_trace.specs.Trace.{MayCome, after, IsTrace, writes, own, worker_by, worker_of}
 
 -- ---- answers
 
@@ -143,3 +143,40 @@ pub record IsMonotone (c : Setup) (steps : List TraceStep) (seen : Seen) : Type 
 abbrev pub LookupsAreMonotone : Type 0
 LookupsAreMonotone = (c : Setup) (steps : List TraceStep) (worker : ℕ) → IsSettled c → IsTrace c steps
     → All (IsMonotone c steps) (worker_of worker steps).finished
+
+-- ---- what a worker knows of its own steps
+
+-- a finished lookup is legal at a place: its answer is that of the version that its address shows when
+-- the writer has made so many steps, from the read of its first word to the read of its last one. That
+-- version lies from `lo` to `hi`. Here `first` and `last` are places.
+pub record IsLegalAtPlace (c : Setup) (written : List WriterStep) (seen : Seen) : Type 0 where
+  pub place : ℕ
+  pub from : seen.first ≤ place
+  pub to : place ≤ seen.last
+  pub within : seen.last ≤ length written
+  pub answers : IsAnswer c
+      ((tables c written).history (version (tables_at c written place) seen.addr))
+      seen.addr seen.hop
+  pub low : seen.lo ≤ version (tables_at c written place) seen.addr
+  pub high : version (tables_at c written place) seen.addr ≤ seen.hi
+
+-- what a worker's own steps leave, by their places, is its state, and its lookups are legal
+abbrev pub OwnLookupsAreLegal : Type 0
+OwnLookupsAreLegal = (c : Setup) (steps : List TraceStep) (worker : ℕ)
+    → IsSettled c → IsTrace c steps
+    → ((after c steps).workers worker ≡ worker_by (own worker steps))
+    × All (IsLegalAtPlace c (writes steps)) (worker_by (own worker steps)).finished
+
+-- the version that an address shows stands at each place, and never falls
+abbrev pub PlacesNeverFall : Type 0
+PlacesNeverFall = (c : Setup) (written : List WriterStep) (a t u : ℕ) → t ≤ u
+    → (done (tables_at c written t) ≤ version (tables_at c written t) a)
+    × (version (tables_at c written t) a ≤ begun (tables_at c written t))
+    × (version (tables_at c written t) a ≤ version (tables_at c written u) a)
+
+-- ---- traces
+
+-- a step that may come next makes a trace one longer, and what comes before the newest step is one
+abbrev pub TraceGrows : Type 0
+TraceGrows = (c : Setup) (step : TraceStep) (steps : List TraceStep)
+    → IsTrace c (step ∷ steps) ↔ (MayCome c (after c steps) step × IsTrace c steps)

@@ -2,6 +2,7 @@
 
 ghost use Rattle.lpm_trace.specs.Laws.{LookupsAreLegal, ReuseIsLawful, RestAnswers};
 ghost use Rattle.lpm_trace.specs.Laws.{VersionsNeverFall, LookupsAreMonotone};
+ghost use Rattle.lpm_trace.specs.Laws.{OwnLookupsAreLegal, PlacesNeverFall, TraceGrows};
 
 /// Each finished lookup answers by a rule list that stood at a moment between its first and its last
 /// read of a word, and its number lies from `lo` to `hi`.
@@ -28,4 +29,21 @@ pub fn versions_never_fall()
 /// and its last read of a word.
 pub fn lookups_are_monotone()
     ensures { LookupsAreMonotone }
+{}
+
+/// What a worker's own steps leave, by their places, is its state in the trace, and each of its finished
+/// lookups is legal at a place. This is the law as a running thread can know it.
+pub fn own_lookups_are_legal()
+    ensures { OwnLookupsAreLegal }
+{}
+
+/// The version that an address shows stands at each place, and never falls. So of two lookups of one
+/// address by one worker the later one's version can be chosen not less.
+pub fn places_never_fall()
+    ensures { PlacesNeverFall }
+{}
+
+/// A step that may come next makes a trace one longer.
+pub fn trace_grows()
+    ensures { TraceGrows }
 {}

@@ -18,7 +18,7 @@ pub struct Case {
 }
 
 /// How a run of these words and files ends: its status and its two texts.
-pub fn ending<R: Abort + AllocGlobal + Threads + Sync>(
+pub(crate) fn ending<R: Abort + AllocGlobal + Threads + Sync>(
     rt: &R,
     words: &[&str],
     files: &BreakingFiles<'_>,
@@ -32,7 +32,7 @@ pub fn ending<R: Abort + AllocGlobal + Threads + Sync>(
 }
 
 /// Runs each case.
-pub fn run_cases<R: Abort + AllocGlobal + Threads + Sync>(
+pub(crate) fn run_cases<R: Abort + AllocGlobal + Threads + Sync>(
     rt: &R,
     cases: &[Case],
 ) -> Result<(), Fail> {

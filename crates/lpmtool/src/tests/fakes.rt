@@ -63,7 +63,7 @@ impl<'a> Files for BreakingFiles<'a> {
 }
 
 /// Files that don't break.
-pub fn whole<'a>(files: &'a [Named<'a>]) -> BreakingFiles<'a> {
+pub(crate) fn whole<'a>(files: &'a [Named<'a>]) -> BreakingFiles<'a> {
     BreakingFiles {
         files,
         breaks: "",
@@ -112,7 +112,7 @@ impl Write for Short {
 }
 
 /// A writer that is bad at one of its calls, and at none where that is 0.
-pub fn writer(alloc: Global, bad: usize, at_bad: AtBad) -> Short {
+pub(crate) fn writer(alloc: Global, bad: usize, at_bad: AtBad) -> Short {
     Short {
         got: Vec::new(alloc),
         calls: 0,

@@ -1,0 +1,35 @@
+-- The law as one worker knows it: by its own steps with their places, and the writer's steps.
+use Rattle.std.proofs.Common.{◌≡◌, ℕ, inl, inr, cond, List, [], ◌∷◌, All, length, refl, sym, ap, subst, ◌∙◌}
+use Rattle.std.proofs.lemmas.Bool.Decides.{eqb_tells}
+use Rattle.lpm_trace.specs.declared.step.TraceStep.{TraceStep}
+use Rattle.lpm_trace.specs.declared.step.TraceStep.TheVariants.{Writer, Worker as ByWorker}
+use Rattle.lpm_trace.specs.Tables.{Setup, tables_at}
+use Rattle.lpm_trace.specs.Workers.{moved}
+use Rattle.lpm_trace.specs.Trace.{after, writes, own, worker_by}
+use Rattle.lpm_trace.specs.Laws.{IsLegalAtPlace, OwnLookupsAreLegal, PlacesNeverFall, TraceGrows}
+use Rattle.lpm_trace.proofs.Basics.{each_all}
+use Rattle.lpm_trace.proofs.Versions.{version_ge, version_le}
+use Rattle.lpm_trace.proofs.Traces.{clock_length, tables_of, rising, all_right}
+
+worker_is : (c : Setup) (steps : List TraceStep) (k : ℕ) → (after c steps).workers k ≡ worker_by (own k steps)
+worker_is c [] k = refl
+worker_is c (Writer s ∷ steps) k = worker_is c steps k
+worker_is c (ByWorker j s ∷ steps) k =
+    let r = (after c steps).workers in
+    let clock : (after c steps).tables.clock ≡ length (writes steps) = ap (λ t. t.clock) (tables_of c steps) ∙ clock_length c (writes steps) in
+    elim (eqb_tells k j) [
+      | inl h ↦ subst (λ b. cond b (moved (after c steps).tables.clock (r j) s) (r k) ≡ worker_by (cond b ((s, length (writes steps)) ∷ own k steps) (own k steps))) (sym h.0)
+          (ap (λ n. moved n (r j) s) clock ∙ ap (λ v. moved (length (writes steps)) v s) (ap r (sym h.1) ∙ worker_is c steps k))
+      | inr h ↦ subst (λ b. cond b (moved (after c steps).tables.clock (r j) s) (r k) ≡ worker_by (cond b ((s, length (writes steps)) ∷ own k steps) (own k steps))) (sym h.0) (worker_is c steps k)
+    ]
+
+pub own_lookups_are_legal : OwnLookupsAreLegal
+own_lookups_are_legal c steps k settled trace =
+    let same = worker_is c steps k in
+    (same, subst (λ r. All (IsLegalAtPlace c (writes steps)) r.finished) same (each_all (IsLegalAtPlace c (writes steps)) ((after c steps).workers k).finished (all_right c settled steps trace k)))
+
+pub places_never_fall : PlacesNeverFall
+places_never_fall c written a t u le = (version_ge (tables_at c written t) a, version_le (tables_at c written t) a, rising c written t u a le)
+
+pub trace_grows : TraceGrows
+trace_grows c step steps = (λ trace. trace, λ more. more)
