@@ -10,7 +10,7 @@ use std::thread::Threads;
 use std::time::{Duration, Instant};
 
 /// How often the addresses are answered by each number of workers; the least time counts.
-const ROUNDS: usize = 5;
+const ROUNDS: usize = 25;
 
 /// The number of workers beside one.
 const WORKERS: usize = 4;
