@@ -36,6 +36,11 @@ impl Setting {
         power_of_two(self.width())
     }
 
+    /// The greatest address.
+    pub(crate) fn last_address(&self) -> u32 {
+        u32::try_from(self.addresses().saturating_sub(1)).unwrap_or(u32::MAX)
+    }
+
     /// How many first words there are.
     pub(crate) fn firsts(&self) -> u64 {
         power_of_two(self.first)
