@@ -1,6 +1,8 @@
 //! A trace that was written by hand, which every decider accepts, and planted faults in it, each of
 //! which its decider refuses.
 
+mod two_workers;
+
 use crate::Setting;
 use crate::answers::{Seen, is_legal, lookups, never_falls};
 use crate::deeds::{deeds_are_done, deeds_are_sound};
@@ -150,41 +152,54 @@ fn good(alloc: Global) -> Result<Vec<Step>, AllocError> {
     Ok(steps)
 }
 
-/// The trace with another value at the step of this number.
-fn with_value(alloc: Global, number: usize, value: u64) -> Result<Vec<Step>, AllocError> {
-    let mut steps = good(alloc)?;
-    if let Some(step) = steps.get_mut(number.saturating_sub(1)) {
+/// The steps with another value at the one of this number.
+fn with_value(
+    alloc: Global,
+    steps: &[Step],
+    number: usize,
+    value: u64,
+) -> Result<Vec<Step>, AllocError> {
+    let mut changed = Vec::from_slice(alloc, steps)?;
+    if let Some(step) = changed.get_mut(number.saturating_sub(1)) {
         step.value = value;
     }
-    Ok(steps)
+    Ok(changed)
 }
 
-/// The trace with another index at the step of this number.
-fn with_index(alloc: Global, number: usize, index: u64) -> Result<Vec<Step>, AllocError> {
-    let mut steps = good(alloc)?;
-    if let Some(step) = steps.get_mut(number.saturating_sub(1)) {
+/// The steps with another index at the one of this number.
+fn with_index(
+    alloc: Global,
+    steps: &[Step],
+    number: usize,
+    index: u64,
+) -> Result<Vec<Step>, AllocError> {
+    let mut changed = Vec::from_slice(alloc, steps)?;
+    if let Some(step) = changed.get_mut(number.saturating_sub(1)) {
         step.index = index;
     }
-    Ok(steps)
+    Ok(changed)
 }
 
-/// The trace without the steps of these numbers.
-fn without(alloc: Global, numbers: &[usize]) -> Result<Vec<Step>, AllocError> {
-    let mut steps = Vec::new(alloc);
-    let whole = good(alloc)?;
-    for (earlier, step) in whole.iter().enumerate() {
+/// The steps without those of these numbers.
+fn without(alloc: Global, steps: &[Step], numbers: &[usize]) -> Result<Vec<Step>, AllocError> {
+    let mut rest = Vec::new(alloc);
+    for (earlier, step) in steps.iter().enumerate() {
         if !numbers.contains(&earlier.saturating_add(1)) {
-            steps.push(*step)?;
+            rest.push(*step)?;
         }
     }
-    Ok(steps)
+    Ok(rest)
 }
 
-/// The trace where the steps of these two numbers stand in each other's place.
-fn with_swapped(alloc: Global, one: usize, other: usize) -> Result<Vec<Step>, AllocError> {
-    let whole = good(alloc)?;
-    let mut steps = Vec::new(alloc);
-    for (earlier, step) in whole.iter().enumerate() {
+/// The steps where those of these two numbers stand in each other's place.
+fn with_swapped(
+    alloc: Global,
+    steps: &[Step],
+    one: usize,
+    other: usize,
+) -> Result<Vec<Step>, AllocError> {
+    let mut swapped = Vec::new(alloc);
+    for (earlier, step) in steps.iter().enumerate() {
         let number = earlier.saturating_add(1);
         let place = if number == one {
             other.saturating_sub(1)
@@ -193,9 +208,9 @@ fn with_swapped(alloc: Global, one: usize, other: usize) -> Result<Vec<Step>, Al
         } else {
             earlier
         };
-        steps.push(whole.get(place).copied().unwrap_or(*step))?;
+        swapped.push(steps.get(place).copied().unwrap_or(*step))?;
     }
-    Ok(steps)
+    Ok(swapped)
 }
 
 fn seen(addr: u32, hop: Option<u32>, span: (usize, usize), versions: (u64, u64)) -> Seen {
@@ -223,9 +238,10 @@ fn loads_of_the_good_trace(rt: HostRuntime) -> Result<(), Fail> {
 #[test]
 fn loads_of_what_was_not_stored(rt: HostRuntime) -> Result<(), Fail> {
     let alloc = rt.alloc();
+    let steps = good(alloc)?;
     for (number, value) in [(13, SEVEN), (5, 2), (15, 2), (14, 3), (12, 5), (11, 3)] {
-        let steps = with_value(alloc, number, value)?;
-        assert!(rt; !loads_are_stores(&SMALL, &steps), "{number}");
+        let changed = with_value(alloc, &steps, number, value)?;
+        assert!(rt; !loads_are_stores(&SMALL, &changed), "{number}");
     }
     Ok(())
 }
@@ -233,9 +249,10 @@ fn loads_of_what_was_not_stored(rt: HostRuntime) -> Result<(), Fail> {
 #[test]
 fn words_that_there_are_not(rt: HostRuntime) -> Result<(), Fail> {
     let alloc = rt.alloc();
+    let steps = good(alloc)?;
     for (number, index) in [(3, 2), (2, 2), (1, 1), (6, 1), (15, 1)] {
-        let steps = with_index(alloc, number, index)?;
-        assert!(rt; !loads_are_stores(&SMALL, &steps), "{number}");
+        let changed = with_index(alloc, &steps, number, index)?;
+        assert!(rt; !loads_are_stores(&SMALL, &changed), "{number}");
     }
     Ok(())
 }
@@ -243,22 +260,24 @@ fn words_that_there_are_not(rt: HostRuntime) -> Result<(), Fail> {
 #[test]
 fn deeds_of_the_good_trace(rt: HostRuntime) -> Result<(), Fail> {
     let alloc = rt.alloc();
+    let steps = good(alloc)?;
     assert!(rt; deeds_are_sound(&SMALL, &DEEDS));
     assert!(rt; deeds_are_done(alloc, &SMALL, &good(alloc)?, 0, &DEEDS)?);
     assert!(rt; deeds_are_done(alloc, &SMALL, &until_the_delete(alloc)?, 0, &DEEDS)?);
-    assert!(rt; deeds_are_done(alloc, &SMALL, &without(alloc, &[32])?, 0, &DEEDS)?);
+    assert!(rt; deeds_are_done(alloc, &SMALL, &without(alloc, &steps, &[32])?, 0, &DEEDS)?);
     Ok(())
 }
 
 #[test]
 fn deeds_that_were_not_done(rt: HostRuntime) -> Result<(), Fail> {
     let alloc = rt.alloc();
-    let steps = with_value(alloc, 17, 1)?;
-    assert!(rt; !deeds_are_done(alloc, &SMALL, &steps, 0, &DEEDS)?);
-    let steps = with_index(alloc, 13, 1)?;
-    assert!(rt; !deeds_are_done(alloc, &SMALL, &steps, 0, &DEEDS)?);
-    let steps = without(alloc, &[14])?;
-    assert!(rt; !deeds_are_done(alloc, &SMALL, &steps, 0, &DEEDS)?);
+    let steps = good(alloc)?;
+    let changed = with_value(alloc, &steps, 17, 1)?;
+    assert!(rt; !deeds_are_done(alloc, &SMALL, &changed, 0, &DEEDS)?);
+    let changed = with_index(alloc, &steps, 13, 1)?;
+    assert!(rt; !deeds_are_done(alloc, &SMALL, &changed, 0, &DEEDS)?);
+    let changed = without(alloc, &steps, &[14])?;
+    assert!(rt; !deeds_are_done(alloc, &SMALL, &changed, 0, &DEEDS)?);
     assert!(rt; !deeds_are_done(alloc, &SMALL, &good(alloc)?, 0, &[Deed::Online])?);
     assert!(rt; !deeds_are_sound(&SMALL, &[Deed::Lookup(0)]));
     assert!(rt; !deeds_are_sound(&SMALL, &[Deed::Online, Deed::Lookup(4)]));
@@ -275,24 +294,26 @@ fn order_of_the_good_trace(rt: HostRuntime) -> Result<(), Fail> {
 #[test]
 fn stores_out_of_order(rt: HostRuntime) -> Result<(), Fail> {
     let alloc = rt.alloc();
-    assert!(rt; !is_in_order(alloc, &with_swapped(alloc, 2, 3)?)?);
-    assert!(rt; !is_in_order(alloc, &with_swapped(alloc, 3, 4)?)?);
-    assert!(rt; !is_in_order(alloc, &with_value(alloc, 2, SEVEN)?)?);
-    assert!(rt; !is_in_order(alloc, &with_value(alloc, 10, SEVEN)?)?);
-    assert!(rt; !is_in_order(alloc, &with_value(alloc, 2, GROUP)?)?);
-    assert!(rt; !is_in_order(alloc, &with_value(alloc, 2, 1)?)?);
+    let steps = good(alloc)?;
+    assert!(rt; !is_in_order(alloc, &with_swapped(alloc, &steps, 2, 3)?)?);
+    assert!(rt; !is_in_order(alloc, &with_swapped(alloc, &steps, 3, 4)?)?);
+    assert!(rt; !is_in_order(alloc, &with_value(alloc, &steps, 2, SEVEN)?)?);
+    assert!(rt; !is_in_order(alloc, &with_value(alloc, &steps, 10, SEVEN)?)?);
+    assert!(rt; !is_in_order(alloc, &with_value(alloc, &steps, 2, GROUP)?)?);
+    assert!(rt; !is_in_order(alloc, &with_value(alloc, &steps, 2, 1)?)?);
     Ok(())
 }
 
 #[test]
 fn tokens_and_checks_out_of_order(rt: HostRuntime) -> Result<(), Fail> {
     let alloc = rt.alloc();
-    assert!(rt; !is_in_order(alloc, &without(alloc, &[11])?)?);
-    assert!(rt; !is_in_order(alloc, &with_swapped(alloc, 10, 11)?)?);
-    assert!(rt; !is_in_order(alloc, &with_swapped(alloc, 11, 12)?)?);
-    assert!(rt; !is_in_order(alloc, &without(alloc, &[18])?)?);
-    assert!(rt; !is_in_order(alloc, &with_value(alloc, 18, 1)?)?);
-    assert!(rt; !is_in_order(alloc, &with_index(alloc, 15, 1)?)?);
+    let steps = good(alloc)?;
+    assert!(rt; !is_in_order(alloc, &without(alloc, &steps, &[11])?)?);
+    assert!(rt; !is_in_order(alloc, &with_swapped(alloc, &steps, 10, 11)?)?);
+    assert!(rt; !is_in_order(alloc, &with_swapped(alloc, &steps, 11, 12)?)?);
+    assert!(rt; !is_in_order(alloc, &without(alloc, &steps, &[18])?)?);
+    assert!(rt; !is_in_order(alloc, &with_value(alloc, &steps, 18, 1)?)?);
+    assert!(rt; !is_in_order(alloc, &with_index(alloc, &steps, 15, 1)?)?);
     Ok(())
 }
 
@@ -355,8 +376,9 @@ fn reuse_of_the_good_trace(rt: HostRuntime) -> Result<(), Fail> {
 #[test]
 fn reuse_within_a_reader_interval(rt: HostRuntime) -> Result<(), Fail> {
     let alloc = rt.alloc();
-    assert!(rt; !reuse_is_lawful(&SMALL, &without(alloc, &[16, 17])?));
-    assert!(rt; !reuse_is_lawful(&SMALL, &with_swapped(alloc, 16, 20)?));
-    assert!(rt; reuse_is_lawful(&SMALL, &without(alloc, &[5, 6, 16, 17])?));
+    let steps = good(alloc)?;
+    assert!(rt; !reuse_is_lawful(&SMALL, &without(alloc, &steps, &[16, 17])?));
+    assert!(rt; !reuse_is_lawful(&SMALL, &with_swapped(alloc, &steps, 16, 20)?));
+    assert!(rt; reuse_is_lawful(&SMALL, &without(alloc, &steps, &[5, 6, 16, 17])?));
     Ok(())
 }
