@@ -47,11 +47,14 @@ pub(crate) struct Course {
     taken: Option<u64>,
 }
 
-/// A first word is stored: the group that this unlinks, the group that it links, and the token.
+/// What a store of a first word does to groups.
 #[derive(Clone, Copy)]
 pub(crate) struct Linking {
+    /// The group that it unlinks.
     pub(crate) unlinked: Option<u32>,
+    /// The group that it links.
     pub(crate) linked: Option<u32>,
+    /// The token before it.
     pub(crate) token: u64,
 }
 
@@ -110,7 +113,8 @@ impl Course {
         self.duty == Duty::Nothing
     }
 
-    /// A first word is stored. It links only the free group that the update took. Whether it may.
+    /// Moves on by a store of a first word. Answers whether it may come next: it links no group but
+    /// the free one that the update took.
     pub(crate) fn store_first(&mut self, setting: &Setting, linking: &Linking) -> bool {
         if !self.is_at_leisure() {
             return false;
@@ -131,8 +135,8 @@ impl Course {
         true
     }
 
-    /// A word of this group is stored: of one that is linked, or of one free group in an update.
-    /// Whether it may.
+    /// Moves on by a store of a word of this group. Answers whether it may come next: the group is
+    /// linked, or it is the one free group that the update takes.
     pub(crate) fn store_second(&mut self, setting: &Setting, group: u64) -> bool {
         if !self.is_at_leisure() {
             return false;
@@ -149,15 +153,16 @@ impl Course {
         is_only
     }
 
-    /// The sequence is raised. Whether it may.
+    /// Moves on by a step that raises the sequence. Answers whether it may come next.
     pub(crate) fn bump_sequence(&mut self) -> bool {
         self.reclaims = false;
         self.taken = None;
         self.is_at_leisure()
     }
 
-    /// The token is raised to this one: directly after an unlinking, else by a synchronize, which
-    /// comes between updates and checks the token next. Whether it may.
+    /// Moves on by a step that raises the token to this one. Answers whether it may come next:
+    /// directly after an unlinking; else it is a synchronize's, which comes between updates and
+    /// checks the token next.
     pub(crate) fn bump_token(&mut self, setting: &Setting, updating: bool, token: u64) -> bool {
         match self.duty {
             Duty::Bump => {
@@ -208,7 +213,7 @@ impl Course {
         }
     }
 
-    /// A worker has let the token of a check pass.
+    /// Moves on where a worker lets the token of a check pass.
     fn pass(&mut self, setting: &Setting, ask: Ask) {
         let next = ask.worker.saturating_add(1);
         if next < setting.workers as u64 {
@@ -223,7 +228,7 @@ impl Course {
         self.duty = Duty::Nothing;
     }
 
-    /// A worker has stopped a check. A synchronize checks again, and a reclaim ends.
+    /// Moves on where a worker stops a check: a synchronize checks again, and a reclaim ends.
     fn stop(&mut self) {
         match self.awaited {
             Some(token) => self.duty = Duty::Check(Ask { token, worker: 0 }),
@@ -234,7 +239,8 @@ impl Course {
         }
     }
 
-    /// The counter of a worker is loaded, where this is the token. Whether it may.
+    /// Moves on by a load of a worker's counter, where this is the token. Answers whether it may come
+    /// next.
     pub(crate) fn load_counter(
         &mut self,
         setting: &Setting,

@@ -228,6 +228,52 @@ fn is_in_order(alloc: Global, steps: &[Step]) -> Result<bool, AllocError> {
     writes_in_order(alloc, &SMALL, &versions(alloc)?, steps)
 }
 
+/// Whether the deciders of steps accept these, as those of the worker and the writer.
+fn are_accepted(alloc: Global, steps: &[Step]) -> Result<bool, AllocError> {
+    if !loads_are_stores(&SMALL, steps) || !deeds_are_done(alloc, &SMALL, steps, 0, &DEEDS)? {
+        return Ok(false);
+    }
+    is_in_order(alloc, steps)
+}
+
+#[test]
+fn each_step_with_another_value(rt: HostRuntime) -> Result<(), Fail> {
+    let alloc = rt.alloc();
+    let steps = good(alloc)?;
+    for (earlier, step) in steps.iter().enumerate() {
+        let number = earlier.saturating_add(1);
+        let changed = with_value(alloc, &steps, number, step.value.saturating_add(1))?;
+        assert!(rt; !are_accepted(alloc, &changed)?, "{number}");
+    }
+    Ok(())
+}
+
+#[test]
+fn each_step_at_another_index(rt: HostRuntime) -> Result<(), Fail> {
+    let alloc = rt.alloc();
+    let steps = good(alloc)?;
+    for (earlier, step) in steps.iter().enumerate() {
+        let number = earlier.saturating_add(1);
+        let changed = with_index(alloc, &steps, number, step.index.saturating_add(1))?;
+        assert!(rt; !are_accepted(alloc, &changed)?, "{number}");
+    }
+    Ok(())
+}
+
+// The check that was stopped and the last step may be left out, and no other step.
+#[test]
+fn each_step_left_out(rt: HostRuntime) -> Result<(), Fail> {
+    let alloc = rt.alloc();
+    let steps = good(alloc)?;
+    for earlier in 0..steps.len() {
+        let number = earlier.saturating_add(1);
+        let rest = without(alloc, &steps, &[number])?;
+        let may_be_left_out = number == 15 || number == 32;
+        assert_eq!(rt; are_accepted(alloc, &rest)?, may_be_left_out, "{number}");
+    }
+    Ok(())
+}
+
 #[test]
 fn loads_of_the_good_trace(rt: HostRuntime) -> Result<(), Fail> {
     let alloc = rt.alloc();
