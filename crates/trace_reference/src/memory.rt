@@ -124,25 +124,18 @@ fn is_by_its_actor(setting: &Setting, step: &Step) -> bool {
     }
 }
 
-/// Whether a word is one of this setting's.
-fn is_word(setting: &Setting, word: &Word) -> bool {
-    match word {
-        Word::First(index) => *index < setting.firsts(),
-        Word::Second(index) => *index < setting.seconds(),
-        Word::Sequence | Word::Token => true,
-        Word::Counter(worker) => *worker < setting.workers as u64,
-    }
-}
-
-/// Whether the index is that of the step's word: 0 for the sequence and the token.
+/// Whether the step's index is that of a word that there is: 0 for the sequence and the token.
 fn has_its_index(setting: &Setting, step: &Step) -> bool {
     match word_of(step) {
+        Word::First(index) => index < setting.firsts(),
+        Word::Second(index) => index < setting.seconds(),
         Word::Sequence | Word::Token => step.index == 0,
-        word => is_word(setting, &word),
+        Word::Counter(worker) => worker < setting.workers as u64,
     }
 }
 
-/// Whether the step's value is that of its word after this many steps, or follows on it.
+/// Whether the step's value may be, where its word has the value that it has after this many steps:
+/// a load gives that, and the sequence and the token are raised by one.
 fn has_its_value(setting: &Setting, steps: &[Step], moment: usize, step: &Step) -> bool {
     let old = value_at(setting, steps, moment, &word_of(step));
     match step.kind {

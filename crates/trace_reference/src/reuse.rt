@@ -93,8 +93,8 @@ fn is_filled_after(
     false
 }
 
-/// Whether no group that is unlinked in the worker's reader interval that begins here is stored into
-/// in that same interval.
+/// Whether the worker's reader interval that begins here holds no unlinking of a group with a later
+/// store into that group.
 fn interval_is_lawful(setting: &Setting, steps: &[Step], begin: usize, worker: usize) -> bool {
     for moment in begin.saturating_add(1)..steps.len() {
         if ends_at(setting, steps, moment, worker) {
@@ -109,7 +109,7 @@ fn interval_is_lawful(setting: &Setting, steps: &[Step], begin: usize, worker: u
     true
 }
 
-/// Whether this holds of all reader intervals of the worker.
+/// Whether no reader interval of the worker holds an unlinking of a group with a later store into it.
 fn intervals_are_lawful(setting: &Setting, steps: &[Step], worker: usize) -> bool {
     for begin in 0..steps.len() {
         let begins = begins_at(setting, steps, begin, worker);
