@@ -1,0 +1,262 @@
+//! How far the writer has come: where each group stands, and what the writer has to do next.
+
+use crate::Setting;
+use std::alloc::{AllocError, Global};
+
+/// Where a group stands.
+#[derive(Clone, Copy, Debug, PartialEq, Eq)]
+enum Standing {
+    /// No first word was ever the group's.
+    NeverLinked,
+    /// A first word is the group's.
+    Linked,
+    /// It was unlinked, and waits under this token.
+    Waits(u64),
+}
+
+/// A check of a token asks this worker next.
+#[derive(Clone, Copy, Debug, PartialEq, Eq)]
+struct Ask {
+    token: u64,
+    worker: u64,
+}
+
+/// What the writer has to do next.
+#[derive(Clone, Copy, Debug, PartialEq, Eq)]
+enum Duty {
+    /// Nothing that is fixed.
+    Nothing,
+    /// Raise the token, since its last step unlinked a group.
+    Bump,
+    /// Go on with a check.
+    Check(Ask),
+}
+
+/// How far the writer has come.
+#[derive(Drop)]
+pub(crate) struct Course {
+    groups: Vec<Standing>,
+    duty: Duty,
+    /// The greatest token whose check has passed.
+    passed: u64,
+    /// The token that a synchronize waits for.
+    awaited: Option<u64>,
+    /// The update that runs has unlinked a group, and may reclaim.
+    reclaims: bool,
+    /// The free group that the update took.
+    taken: Option<u64>,
+}
+
+/// What a store of a first word does to groups.
+#[derive(Clone, Copy)]
+pub(crate) struct Linking {
+    /// The group that it unlinks.
+    pub(crate) unlinked: Option<u32>,
+    /// The group that it links.
+    pub(crate) linked: Option<u32>,
+    /// The token before it.
+    pub(crate) token: u64,
+}
+
+/// The older of two tokens.
+fn older(token: u64, other: Option<u64>) -> u64 {
+    match other {
+        Some(other) => token.min(other),
+        None => token,
+    }
+}
+
+impl Course {
+    /// Before the first step no group was linked.
+    pub(crate) fn new(alloc: Global, setting: &Setting) -> Result<Self, AllocError> {
+        let mut groups = Vec::new(alloc);
+        for _group in 0..setting.groups {
+            groups.push(Standing::NeverLinked)?;
+        }
+        Ok(Course {
+            groups,
+            duty: Duty::Nothing,
+            passed: 0,
+            awaited: None,
+            reclaims: false,
+            taken: None,
+        })
+    }
+
+    /// Where a group stands, of those that there are.
+    fn standing(&self, group: u64) -> Option<Standing> {
+        let place = usize::try_from(group).ok()?;
+        self.groups.get(place).copied()
+    }
+
+    /// The group stands elsewhere from now on.
+    fn stand(&mut self, group: u64, standing: Standing) {
+        if let Ok(place) = usize::try_from(group) {
+            if let Some(old) = self.groups.get_mut(place) {
+                *old = standing;
+            }
+        }
+    }
+
+    /// Whether a group was never linked, or a check of its token has passed since. Without workers
+    /// each check passes.
+    fn is_free(&self, setting: &Setting, group: u64) -> bool {
+        match self.standing(group) {
+            Some(Standing::NeverLinked) => true,
+            Some(Standing::Waits(token)) => token <= self.passed || setting.workers == 0,
+            Some(Standing::Linked) | None => false,
+        }
+    }
+
+    /// Whether nothing is fixed that comes next.
+    fn is_at_leisure(&self) -> bool {
+        self.duty == Duty::Nothing
+    }
+
+    /// Moves on by a store of a first word. Answers whether it may come next: it links no group but
+    /// the free one that the update took.
+    pub(crate) fn store_first(&mut self, setting: &Setting, linking: &Linking) -> bool {
+        if !self.is_at_leisure() {
+            return false;
+        }
+        if let Some(group) = linking.linked {
+            let group = u64::from(group);
+            if self.taken != Some(group) || !self.is_free(setting, group) {
+                return false;
+            }
+            self.stand(group, Standing::Linked);
+        }
+        if let Some(group) = linking.unlinked {
+            let token = linking.token.saturating_add(1);
+            self.stand(u64::from(group), Standing::Waits(token));
+            self.duty = Duty::Bump;
+        }
+        self.reclaims = false;
+        true
+    }
+
+    /// Moves on by a store of a word of this group. Answers whether it may come next: the group is
+    /// linked, or it is the one free group that the update takes.
+    pub(crate) fn store_second(&mut self, setting: &Setting, group: u64) -> bool {
+        if !self.is_at_leisure() {
+            return false;
+        }
+        self.reclaims = false;
+        if self.standing(group) == Some(Standing::Linked) {
+            return true;
+        }
+        if !self.is_free(setting, group) {
+            return false;
+        }
+        let is_only = self.taken.is_none() || self.taken == Some(group);
+        self.taken = Some(group);
+        is_only
+    }
+
+    /// Moves on by a step that raises the sequence. Answers whether it may come next.
+    pub(crate) fn bump_sequence(&mut self) -> bool {
+        self.reclaims = false;
+        self.taken = None;
+        self.is_at_leisure()
+    }
+
+    /// Moves on by a step that raises the token to this one. Answers whether it may come next:
+    /// directly after an unlinking; else it is a synchronize's, which comes between updates and
+    /// checks the token next.
+    pub(crate) fn bump_token(&mut self, setting: &Setting, updating: bool, token: u64) -> bool {
+        match self.duty {
+            Duty::Bump => {
+                self.duty = Duty::Nothing;
+                self.reclaims = true;
+                true
+            }
+            Duty::Check(_) => false,
+            Duty::Nothing => {
+                if setting.workers > 0 {
+                    self.awaited = Some(token);
+                    self.duty = Duty::Check(Ask { token, worker: 0 });
+                }
+                !updating
+            }
+        }
+    }
+
+    /// The oldest token under which a group waits and whose check hasn't passed.
+    fn oldest_waiting(&self) -> Option<u64> {
+        let mut oldest = None;
+        for standing in &self.groups {
+            if let Standing::Waits(token) = standing {
+                if *token > self.passed {
+                    oldest = Some(older(*token, oldest));
+                }
+            }
+        }
+        oldest
+    }
+
+    /// What a check asks next, where this is the token: it goes on, or a reclaim begins one of the
+    /// oldest token; in an update that is after an unlinking, and not of the group just unlinked.
+    fn next_ask(&self, updating: bool, token: u64) -> Option<Ask> {
+        match self.duty {
+            Duty::Check(ask) => Some(ask),
+            Duty::Bump => None,
+            Duty::Nothing => {
+                let oldest = self.oldest_waiting()?;
+                if updating && (!self.reclaims || oldest >= token) {
+                    return None;
+                }
+                Some(Ask {
+                    token: oldest,
+                    worker: 0,
+                })
+            }
+        }
+    }
+
+    /// Moves on where a worker lets the token of a check pass.
+    fn pass(&mut self, setting: &Setting, ask: Ask) {
+        let next = ask.worker.saturating_add(1);
+        if next < setting.workers as u64 {
+            self.duty = Duty::Check(Ask {
+                token: ask.token,
+                worker: next,
+            });
+            return;
+        }
+        self.passed = self.passed.max(ask.token);
+        self.awaited = None;
+        self.duty = Duty::Nothing;
+    }
+
+    /// Moves on where a worker stops a check: a synchronize checks again, and a reclaim ends.
+    fn stop(&mut self) {
+        match self.awaited {
+            Some(token) => self.duty = Duty::Check(Ask { token, worker: 0 }),
+            None => {
+                self.duty = Duty::Nothing;
+                self.reclaims = false;
+            }
+        }
+    }
+
+    /// Moves on by a load of a worker's counter, where this is the token. Answers whether it may come
+    /// next.
+    pub(crate) fn load_counter(
+        &mut self,
+        setting: &Setting,
+        updating: bool,
+        token: u64,
+        worker: u64,
+        counter: u64,
+    ) -> bool {
+        let Some(ask) = self.next_ask(updating, token) else {
+            return false;
+        };
+        if counter == 0 || ask.token <= counter {
+            self.pass(setting, ask);
+        } else {
+            self.stop();
+        }
+        ask.worker == worker
+    }
+}

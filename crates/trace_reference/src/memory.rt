@@ -1,0 +1,159 @@
+//! The words that all share, as the list of steps tells their values.
+
+use crate::Setting;
+use lpm_entry::Entry;
+use lpm_trace::{Actor, Kind, Step};
+
+/// One of the words that all share.
+#[derive(Clone, Copy, Debug, PartialEq, Eq)]
+pub(crate) enum Word {
+    First(u64),
+    Second(u64),
+    Sequence,
+    Token,
+    Counter(u64),
+}
+
+/// The word that a step loads or stores.
+fn word_of(step: &Step) -> Word {
+    match step.kind {
+        Kind::StoreFirst | Kind::LoadFirst => Word::First(step.index),
+        Kind::StoreSecond | Kind::LoadSecond => Word::Second(step.index),
+        Kind::BumpSequence | Kind::LoadSequence => Word::Sequence,
+        Kind::BumpToken | Kind::LoadToken => Word::Token,
+        Kind::StoreCounter | Kind::LoadCounter => Word::Counter(step.index),
+    }
+}
+
+/// The value of a word before the first step.
+fn opening(setting: &Setting, word: &Word) -> u64 {
+    match word {
+        Word::Token => setting.first_token,
+        _ => 0,
+    }
+}
+
+/// Whether a step of this kind stores its word.
+fn is_store(kind: &Kind) -> bool {
+    match kind {
+        Kind::StoreFirst | Kind::StoreSecond | Kind::StoreCounter => true,
+        Kind::BumpSequence | Kind::BumpToken => true,
+        _ => false,
+    }
+}
+
+/// The value of a word after this many steps: that of the last store to it.
+pub(crate) fn value_at(setting: &Setting, steps: &[Step], moment: usize, word: &Word) -> u64 {
+    let mut value = opening(setting, word);
+    for step in steps.iter().take(moment) {
+        let same = word_of(step) == *word;
+        if same && is_store(&step.kind) {
+            value = step.value;
+        }
+    }
+    value
+}
+
+/// The entry that a word of a table stands for.
+pub(crate) fn entry_of(word: u64) -> Option<Entry> {
+    Entry::from_word::<24, 8>(word)
+}
+
+/// The group that a first word stands for.
+pub(crate) fn group_in(word: u64) -> Option<u32> {
+    match entry_of(word) {
+        Some(Entry::Group(group)) => Some(group),
+        _ => None,
+    }
+}
+
+/// The number of the next hop that a word stands for.
+pub(crate) fn hop_in(word: u64) -> Option<u32> {
+    let hop = entry_of(word)?.hop()?;
+    Some(hop.number())
+}
+
+/// The answer to an address by the words after this many steps.
+pub(crate) fn answer_at(
+    setting: &Setting,
+    steps: &[Step],
+    moment: usize,
+    addr: u32,
+) -> Option<u32> {
+    let block = Word::First(setting.first_index(addr));
+    let first = value_at(setting, steps, moment, &block);
+    match group_in(first) {
+        Some(group) => {
+            let place = Word::Second(setting.second_index(group, addr));
+            hop_in(value_at(setting, steps, moment, &place))
+        }
+        None => hop_in(first),
+    }
+}
+
+/// The group that the step after this many steps unlinks: that of the first word over which it
+/// stores another.
+pub(crate) fn unlinked_by(setting: &Setting, steps: &[Step], moment: usize) -> Option<u32> {
+    let step = steps.get(moment)?;
+    match step.kind {
+        Kind::StoreFirst => {
+            let old = value_at(setting, steps, moment, &Word::First(step.index));
+            if old == step.value {
+                return None;
+            }
+            group_in(old)
+        }
+        _ => None,
+    }
+}
+
+/// Whether the actor makes steps of this kind.
+fn is_by_its_actor(setting: &Setting, step: &Step) -> bool {
+    match step.actor {
+        Actor::Writer => match step.kind {
+            Kind::StoreFirst | Kind::StoreSecond | Kind::BumpSequence => true,
+            Kind::BumpToken | Kind::LoadCounter => true,
+            _ => false,
+        },
+        Actor::Worker(worker) => match step.kind {
+            Kind::LoadFirst | Kind::LoadSecond => worker < setting.workers,
+            Kind::LoadSequence | Kind::LoadToken => worker < setting.workers,
+            Kind::StoreCounter => worker < setting.workers && step.index == worker as u64,
+            _ => false,
+        },
+    }
+}
+
+/// Whether the step's index is that of a word that there is: 0 for the sequence and the token.
+fn has_its_index(setting: &Setting, step: &Step) -> bool {
+    match word_of(step) {
+        Word::First(index) => index < setting.firsts(),
+        Word::Second(index) => index < setting.seconds(),
+        Word::Sequence | Word::Token => step.index == 0,
+        Word::Counter(worker) => worker < setting.workers as u64,
+    }
+}
+
+/// Whether the step's value may be, where its word has the value that it has after this many steps:
+/// a load gives that, and the sequence and the token are raised by one.
+fn has_its_value(setting: &Setting, steps: &[Step], moment: usize, step: &Step) -> bool {
+    let old = value_at(setting, steps, moment, &word_of(step));
+    match step.kind {
+        Kind::StoreFirst | Kind::StoreSecond | Kind::StoreCounter => true,
+        Kind::BumpSequence | Kind::BumpToken => Some(step.value) == old.checked_add(1),
+        _ => step.value == old,
+    }
+}
+
+/// Whether each load gives the value of the last earlier store to its word, or the opening value;
+/// the sequence and the token are raised by one; and each actor makes its own kinds of step, at
+/// words that there are.
+pub fn loads_are_stores(setting: &Setting, steps: &[Step]) -> bool {
+    for (moment, step) in steps.iter().enumerate() {
+        let is_its_own = is_by_its_actor(setting, step) && has_its_index(setting, step);
+        if !is_its_own || !has_its_value(setting, steps, moment, step) {
+            return false;
+        }
+    }
+    true
+}

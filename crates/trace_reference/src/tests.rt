@@ -1,0 +1,430 @@
+//! A trace that was written by hand, which every decider accepts, and planted faults in it, each of
+//! which its decider refuses.
+
+mod two_workers;
+
+use crate::Setting;
+use crate::answers::{Seen, is_legal, lookups, never_falls};
+use crate::deeds::{deeds_are_done, deeds_are_sound};
+use crate::memory::loads_are_stores;
+use crate::order::writes_in_order;
+use crate::reuse::reuse_is_lawful;
+use crate::versions::{PlainRule, Versions};
+use lpm_trace::{Actor, Deed, Kind, Step};
+use std::alloc::{AllocError, Global};
+use std::test::Fail;
+
+/// Four addresses, in two blocks of two, one group and one worker.
+const SMALL: Setting = Setting {
+    first: 1,
+    second: 1,
+    groups: 1,
+    workers: 1,
+    first_token: 1,
+};
+
+/// The word of group 0.
+const GROUP: u64 = 0x0300_0000;
+
+/// The word of next hop 5, of a prefix of two bits.
+const FIVE: u64 = 0x0900_0005;
+
+/// The word of next hop 7, of a prefix of two bits.
+const SEVEN: u64 = 0x0900_0007;
+
+/// The deeds of the worker.
+const DEEDS: [Deed; 6] = [
+    Deed::Online,
+    Deed::Lookup(0),
+    Deed::Quiescent,
+    Deed::Lookup4([2, 0, 3, 1]),
+    Deed::Offline,
+    Deed::Meet,
+];
+
+fn writer(kind: Kind, index: u64, value: u64) -> Step {
+    Step {
+        actor: Actor::Writer,
+        kind,
+        index,
+        value,
+    }
+}
+
+fn worker(kind: Kind, index: u64, value: u64) -> Step {
+    Step {
+        actor: Actor::Worker(0),
+        kind,
+        index,
+        value,
+    }
+}
+
+/// The rule of address 0, none, and the rule of address 2.
+fn versions(alloc: Global) -> Result<Versions, AllocError> {
+    let of_zero = PlainRule {
+        bits: 0,
+        len: 2,
+        hop: 5,
+    };
+    let of_two = PlainRule {
+        bits: 2,
+        len: 2,
+        hop: 7,
+    };
+    let mut versions = Vec::new(alloc);
+    versions.push(Vec::new(alloc))?;
+    versions.push(Vec::from_slice(alloc, &[of_zero])?)?;
+    versions.push(Vec::new(alloc))?;
+    versions.push(Vec::from_slice(alloc, &[of_two])?)?;
+    Ok(versions)
+}
+
+/// The writer adds the rule of address 0, which takes the group; steps 1 to 4. The worker comes
+/// online and begins a lookup of address 0; steps 5 to 8. The writer deletes the rule, which unlinks
+/// the group; steps 9 to 12. The worker ends its lookup; steps 13 and 14.
+fn until_the_delete(alloc: Global) -> Result<Vec<Step>, AllocError> {
+    Vec::from_slice(
+        alloc,
+        &[
+            writer(Kind::BumpSequence, 0, 1),
+            writer(Kind::StoreSecond, 0, FIVE),
+            writer(Kind::StoreFirst, 0, GROUP),
+            writer(Kind::BumpSequence, 0, 2),
+            worker(Kind::LoadToken, 0, 1),
+            worker(Kind::StoreCounter, 0, 1),
+            worker(Kind::LoadSequence, 0, 2),
+            worker(Kind::LoadFirst, 0, GROUP),
+            writer(Kind::BumpSequence, 0, 3),
+            writer(Kind::StoreFirst, 0, 0),
+            writer(Kind::BumpToken, 0, 2),
+            writer(Kind::BumpSequence, 0, 4),
+            worker(Kind::LoadSecond, 0, FIVE),
+            worker(Kind::LoadSequence, 0, 4),
+        ],
+    )
+}
+
+/// A reclaim is stopped by the worker; step 15. It reports a quiescent state; steps 16 and 17. The
+/// next check passes; step 18. The writer adds the rule of address 2, which takes the group again;
+/// steps 19 to 22.
+fn from_the_check(alloc: Global) -> Result<Vec<Step>, AllocError> {
+    Vec::from_slice(
+        alloc,
+        &[
+            writer(Kind::LoadCounter, 0, 1),
+            worker(Kind::LoadToken, 0, 2),
+            worker(Kind::StoreCounter, 0, 2),
+            writer(Kind::LoadCounter, 0, 2),
+            writer(Kind::BumpSequence, 0, 5),
+            writer(Kind::StoreSecond, 0, SEVEN),
+            writer(Kind::StoreFirst, 1, GROUP),
+            writer(Kind::BumpSequence, 0, 6),
+        ],
+    )
+}
+
+/// The worker looks up all four addresses; steps 23 to 30. It goes offline and meets the writer;
+/// steps 31 and 32.
+fn from_the_last_lookup(alloc: Global) -> Result<Vec<Step>, AllocError> {
+    Vec::from_slice(
+        alloc,
+        &[
+            worker(Kind::LoadSequence, 0, 6),
+            worker(Kind::LoadFirst, 1, GROUP),
+            worker(Kind::LoadFirst, 0, 0),
+            worker(Kind::LoadFirst, 1, GROUP),
+            worker(Kind::LoadFirst, 0, 0),
+            worker(Kind::LoadSecond, 0, SEVEN),
+            worker(Kind::LoadSecond, 1, 0),
+            worker(Kind::LoadSequence, 0, 6),
+            worker(Kind::StoreCounter, 0, 0),
+            worker(Kind::LoadSequence, 0, 6),
+        ],
+    )
+}
+
+/// The whole trace.
+fn good(alloc: Global) -> Result<Vec<Step>, AllocError> {
+    let mut steps = until_the_delete(alloc)?;
+    steps.extend_from_slice(&from_the_check(alloc)?)?;
+    steps.extend_from_slice(&from_the_last_lookup(alloc)?)?;
+    Ok(steps)
+}
+
+/// The steps with another value at the one of this number.
+fn with_value(
+    alloc: Global,
+    steps: &[Step],
+    number: usize,
+    value: u64,
+) -> Result<Vec<Step>, AllocError> {
+    let mut changed = Vec::from_slice(alloc, steps)?;
+    if let Some(step) = changed.get_mut(number.saturating_sub(1)) {
+        step.value = value;
+    }
+    Ok(changed)
+}
+
+/// The steps with another index at the one of this number.
+fn with_index(
+    alloc: Global,
+    steps: &[Step],
+    number: usize,
+    index: u64,
+) -> Result<Vec<Step>, AllocError> {
+    let mut changed = Vec::from_slice(alloc, steps)?;
+    if let Some(step) = changed.get_mut(number.saturating_sub(1)) {
+        step.index = index;
+    }
+    Ok(changed)
+}
+
+/// The steps without those of these numbers.
+fn without(alloc: Global, steps: &[Step], numbers: &[usize]) -> Result<Vec<Step>, AllocError> {
+    let mut rest = Vec::new(alloc);
+    for (earlier, step) in steps.iter().enumerate() {
+        if !numbers.contains(&earlier.saturating_add(1)) {
+            rest.push(*step)?;
+        }
+    }
+    Ok(rest)
+}
+
+/// The steps where those of these two numbers stand in each other's place.
+fn with_swapped(
+    alloc: Global,
+    steps: &[Step],
+    one: usize,
+    other: usize,
+) -> Result<Vec<Step>, AllocError> {
+    let mut swapped = Vec::new(alloc);
+    for (earlier, step) in steps.iter().enumerate() {
+        let number = earlier.saturating_add(1);
+        let place = if number == one {
+            other.saturating_sub(1)
+        } else if number == other {
+            one.saturating_sub(1)
+        } else {
+            earlier
+        };
+        swapped.push(steps.get(place).copied().unwrap_or(*step))?;
+    }
+    Ok(swapped)
+}
+
+fn seen(addr: u32, hop: Option<u32>, span: (usize, usize), versions: (u64, u64)) -> Seen {
+    Seen {
+        addr,
+        hop,
+        first: span.0,
+        last: span.1,
+        lo: versions.0,
+        hi: versions.1,
+    }
+}
+
+fn is_in_order(alloc: Global, steps: &[Step]) -> Result<bool, AllocError> {
+    writes_in_order(alloc, &SMALL, &versions(alloc)?, steps)
+}
+
+/// Whether the deciders of steps accept these, as those of the worker and the writer.
+fn are_accepted(alloc: Global, steps: &[Step]) -> Result<bool, AllocError> {
+    if !loads_are_stores(&SMALL, steps) || !deeds_are_done(alloc, &SMALL, steps, 0, &DEEDS)? {
+        return Ok(false);
+    }
+    is_in_order(alloc, steps)
+}
+
+#[test]
+fn each_step_with_another_value(rt: HostRuntime) -> Result<(), Fail> {
+    let alloc = rt.alloc();
+    let steps = good(alloc)?;
+    for (earlier, step) in steps.iter().enumerate() {
+        let number = earlier.saturating_add(1);
+        let changed = with_value(alloc, &steps, number, step.value.saturating_add(1))?;
+        assert!(rt; !are_accepted(alloc, &changed)?, "{number}");
+    }
+    Ok(())
+}
+
+#[test]
+fn each_step_at_another_index(rt: HostRuntime) -> Result<(), Fail> {
+    let alloc = rt.alloc();
+    let steps = good(alloc)?;
+    for (earlier, step) in steps.iter().enumerate() {
+        let number = earlier.saturating_add(1);
+        let changed = with_index(alloc, &steps, number, step.index.saturating_add(1))?;
+        assert!(rt; !are_accepted(alloc, &changed)?, "{number}");
+    }
+    Ok(())
+}
+
+// The check that was stopped and the last step may be left out, and no other step.
+#[test]
+fn each_step_left_out(rt: HostRuntime) -> Result<(), Fail> {
+    let alloc = rt.alloc();
+    let steps = good(alloc)?;
+    for earlier in 0..steps.len() {
+        let number = earlier.saturating_add(1);
+        let rest = without(alloc, &steps, &[number])?;
+        let may_be_left_out = number == 15 || number == 32;
+        assert_eq!(rt; are_accepted(alloc, &rest)?, may_be_left_out, "{number}");
+    }
+    Ok(())
+}
+
+#[test]
+fn loads_of_the_good_trace(rt: HostRuntime) -> Result<(), Fail> {
+    let alloc = rt.alloc();
+    assert!(rt; loads_are_stores(&SMALL, &good(alloc)?));
+    Ok(())
+}
+
+#[test]
+fn loads_of_what_was_not_stored(rt: HostRuntime) -> Result<(), Fail> {
+    let alloc = rt.alloc();
+    let steps = good(alloc)?;
+    for (number, value) in [(13, SEVEN), (5, 2), (15, 2), (14, 3), (12, 5), (11, 3)] {
+        let changed = with_value(alloc, &steps, number, value)?;
+        assert!(rt; !loads_are_stores(&SMALL, &changed), "{number}");
+    }
+    Ok(())
+}
+
+#[test]
+fn words_that_there_are_not(rt: HostRuntime) -> Result<(), Fail> {
+    let alloc = rt.alloc();
+    let steps = good(alloc)?;
+    for (number, index) in [(3, 2), (2, 2), (1, 1), (6, 1), (15, 1)] {
+        let changed = with_index(alloc, &steps, number, index)?;
+        assert!(rt; !loads_are_stores(&SMALL, &changed), "{number}");
+    }
+    Ok(())
+}
+
+#[test]
+fn deeds_of_the_good_trace(rt: HostRuntime) -> Result<(), Fail> {
+    let alloc = rt.alloc();
+    let steps = good(alloc)?;
+    assert!(rt; deeds_are_sound(&SMALL, &DEEDS));
+    assert!(rt; deeds_are_done(alloc, &SMALL, &good(alloc)?, 0, &DEEDS)?);
+    assert!(rt; deeds_are_done(alloc, &SMALL, &until_the_delete(alloc)?, 0, &DEEDS)?);
+    assert!(rt; deeds_are_done(alloc, &SMALL, &without(alloc, &steps, &[32])?, 0, &DEEDS)?);
+    Ok(())
+}
+
+#[test]
+fn deeds_that_were_not_done(rt: HostRuntime) -> Result<(), Fail> {
+    let alloc = rt.alloc();
+    let steps = good(alloc)?;
+    let changed = with_value(alloc, &steps, 17, 1)?;
+    assert!(rt; !deeds_are_done(alloc, &SMALL, &changed, 0, &DEEDS)?);
+    let changed = with_index(alloc, &steps, 13, 1)?;
+    assert!(rt; !deeds_are_done(alloc, &SMALL, &changed, 0, &DEEDS)?);
+    let changed = without(alloc, &steps, &[14])?;
+    assert!(rt; !deeds_are_done(alloc, &SMALL, &changed, 0, &DEEDS)?);
+    assert!(rt; !deeds_are_done(alloc, &SMALL, &good(alloc)?, 0, &[Deed::Online])?);
+    assert!(rt; !deeds_are_sound(&SMALL, &[Deed::Lookup(0)]));
+    assert!(rt; !deeds_are_sound(&SMALL, &[Deed::Online, Deed::Lookup(4)]));
+    Ok(())
+}
+
+#[test]
+fn order_of_the_good_trace(rt: HostRuntime) -> Result<(), Fail> {
+    let alloc = rt.alloc();
+    assert!(rt; is_in_order(alloc, &good(alloc)?)?);
+    Ok(())
+}
+
+#[test]
+fn stores_out_of_order(rt: HostRuntime) -> Result<(), Fail> {
+    let alloc = rt.alloc();
+    let steps = good(alloc)?;
+    assert!(rt; !is_in_order(alloc, &with_swapped(alloc, &steps, 2, 3)?)?);
+    assert!(rt; !is_in_order(alloc, &with_swapped(alloc, &steps, 3, 4)?)?);
+    assert!(rt; !is_in_order(alloc, &with_value(alloc, &steps, 2, SEVEN)?)?);
+    assert!(rt; !is_in_order(alloc, &with_value(alloc, &steps, 10, SEVEN)?)?);
+    assert!(rt; !is_in_order(alloc, &with_value(alloc, &steps, 2, GROUP)?)?);
+    assert!(rt; !is_in_order(alloc, &with_value(alloc, &steps, 2, 1)?)?);
+    Ok(())
+}
+
+#[test]
+fn tokens_and_checks_out_of_order(rt: HostRuntime) -> Result<(), Fail> {
+    let alloc = rt.alloc();
+    let steps = good(alloc)?;
+    assert!(rt; !is_in_order(alloc, &without(alloc, &steps, &[11])?)?);
+    assert!(rt; !is_in_order(alloc, &with_swapped(alloc, &steps, 10, 11)?)?);
+    assert!(rt; !is_in_order(alloc, &with_swapped(alloc, &steps, 11, 12)?)?);
+    assert!(rt; !is_in_order(alloc, &without(alloc, &steps, &[18])?)?);
+    assert!(rt; !is_in_order(alloc, &with_value(alloc, &steps, 18, 1)?)?);
+    assert!(rt; !is_in_order(alloc, &with_index(alloc, &steps, 15, 1)?)?);
+    Ok(())
+}
+
+#[test]
+fn lookups_of_the_good_trace(rt: HostRuntime) -> Result<(), Fail> {
+    let alloc = rt.alloc();
+    let versions = versions(alloc)?;
+    let steps = good(alloc)?;
+    let found = lookups(alloc, &SMALL, &steps, 0, &DEEDS)?;
+    let expected = [
+        seen(0, Some(5), (8, 13), (1, 2)),
+        seen(2, Some(7), (24, 28), (3, 3)),
+        seen(0, None, (25, 25), (3, 3)),
+        seen(3, None, (26, 29), (3, 3)),
+        seen(1, None, (27, 27), (3, 3)),
+    ];
+    assert_eq!(rt; found.as_slice(), expected.as_slice());
+    for one in &found {
+        assert!(rt; is_legal(&SMALL, &versions, &steps, one));
+    }
+    assert!(rt; never_falls(&SMALL, &versions, &steps, &found));
+    Ok(())
+}
+
+#[test]
+fn answers_of_no_version_that_stood(rt: HostRuntime) -> Result<(), Fail> {
+    let alloc = rt.alloc();
+    let versions = versions(alloc)?;
+    let steps = good(alloc)?;
+    for wrong in [
+        seen(0, Some(7), (8, 13), (1, 2)),
+        seen(2, None, (24, 28), (3, 3)),
+        seen(0, Some(5), (25, 25), (1, 3)),
+        seen(0, Some(5), (8, 13), (2, 2)),
+        seen(0, None, (8, 13), (1, 1)),
+    ] {
+        assert!(rt; !is_legal(&SMALL, &versions, &steps, &wrong));
+    }
+    Ok(())
+}
+
+#[test]
+fn versions_that_fall(rt: HostRuntime) -> Result<(), Fail> {
+    let alloc = rt.alloc();
+    let versions = versions(alloc)?;
+    let steps = good(alloc)?;
+    let late = seen(0, Some(5), (11, 13), (1, 2));
+    assert!(rt; is_legal(&SMALL, &versions, &steps, &late));
+    assert!(rt; !never_falls(&SMALL, &versions, &steps, &[late]));
+    Ok(())
+}
+
+#[test]
+fn reuse_of_the_good_trace(rt: HostRuntime) -> Result<(), Fail> {
+    let alloc = rt.alloc();
+    assert!(rt; reuse_is_lawful(&SMALL, &good(alloc)?));
+    Ok(())
+}
+
+#[test]
+fn reuse_within_a_reader_interval(rt: HostRuntime) -> Result<(), Fail> {
+    let alloc = rt.alloc();
+    let steps = good(alloc)?;
+    assert!(rt; !reuse_is_lawful(&SMALL, &without(alloc, &steps, &[16, 17])?));
+    assert!(rt; !reuse_is_lawful(&SMALL, &with_swapped(alloc, &steps, 16, 20)?));
+    assert!(rt; reuse_is_lawful(&SMALL, &without(alloc, &steps, &[5, 6, 16, 17])?));
+    Ok(())
+}

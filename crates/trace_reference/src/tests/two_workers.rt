@@ -1,0 +1,198 @@
+//! A trace of two workers and two groups: a flush that unlinks both and reclaims, a synchronize, and
+//! an add that takes a group again; and planted faults in it.
+
+use super::{FIVE, GROUP, SEVEN, with_index, with_value, without, writer};
+use crate::Setting;
+use crate::deeds::deeds_are_done;
+use crate::memory::loads_are_stores;
+use crate::order::writes_in_order;
+use crate::reuse::reuse_is_lawful;
+use crate::versions::{PlainRule, Versions};
+use lpm_trace::{Actor, Deed, Kind, Step};
+use std::alloc::{AllocError, Global};
+use std::test::Fail;
+
+/// Four addresses, in two blocks of two, two groups and two workers.
+const WIDE: Setting = Setting {
+    first: 1,
+    second: 1,
+    groups: 2,
+    workers: 2,
+    first_token: 5,
+};
+
+/// The word of group 1.
+const OTHER_GROUP: u64 = 0x0300_0001;
+
+/// The rules of address 0, of address 2 and of address 1.
+const RULES: [PlainRule; 3] = [
+    PlainRule {
+        bits: 0,
+        len: 2,
+        hop: 5,
+    },
+    PlainRule {
+        bits: 2,
+        len: 2,
+        hop: 7,
+    },
+    PlainRule {
+        bits: 1,
+        len: 2,
+        hop: 5,
+    },
+];
+
+fn reader(kind: Kind, index: u64, value: u64) -> Step {
+    Step {
+        actor: Actor::Worker(1),
+        kind,
+        index,
+        value,
+    }
+}
+
+fn versions(alloc: Global) -> Result<Versions, AllocError> {
+    let [of_zero, of_two, of_one] = RULES;
+    let mut versions = Vec::new(alloc);
+    versions.push(Vec::new(alloc))?;
+    versions.push(Vec::from_slice(alloc, &[of_zero])?)?;
+    versions.push(Vec::from_slice(alloc, &[of_zero, of_two])?)?;
+    versions.push(Vec::new(alloc))?;
+    versions.push(Vec::from_slice(alloc, &[of_one])?)?;
+    Ok(versions)
+}
+
+/// The writer adds the rules of addresses 0 and 2, each of which takes a group; steps 1 to 8. Worker
+/// 1 comes online; steps 9 and 10.
+fn until_the_flush(alloc: Global) -> Result<Vec<Step>, AllocError> {
+    Vec::from_slice(
+        alloc,
+        &[
+            writer(Kind::BumpSequence, 0, 1),
+            writer(Kind::StoreSecond, 0, FIVE),
+            writer(Kind::StoreFirst, 0, GROUP),
+            writer(Kind::BumpSequence, 0, 2),
+            writer(Kind::BumpSequence, 0, 3),
+            writer(Kind::StoreSecond, 2, SEVEN),
+            writer(Kind::StoreFirst, 1, OTHER_GROUP),
+            writer(Kind::BumpSequence, 0, 4),
+            reader(Kind::LoadToken, 0, 5),
+            reader(Kind::StoreCounter, 1, 5),
+        ],
+    )
+}
+
+/// The writer flushes: it unlinks both groups, and at the second a reclaim is stopped by worker 1;
+/// steps 11 to 18. It synchronizes: worker 1 stops the first check, reports a quiescent state, and
+/// lets the second pass; steps 19 to 25.
+fn until_the_synchronize(alloc: Global) -> Result<Vec<Step>, AllocError> {
+    Vec::from_slice(
+        alloc,
+        &[
+            writer(Kind::BumpSequence, 0, 5),
+            writer(Kind::StoreFirst, 0, 0),
+            writer(Kind::BumpToken, 0, 6),
+            writer(Kind::StoreFirst, 1, 0),
+            writer(Kind::BumpToken, 0, 7),
+            writer(Kind::LoadCounter, 0, 0),
+            writer(Kind::LoadCounter, 1, 5),
+            writer(Kind::BumpSequence, 0, 6),
+            writer(Kind::BumpToken, 0, 8),
+            writer(Kind::LoadCounter, 0, 0),
+            writer(Kind::LoadCounter, 1, 5),
+            reader(Kind::LoadToken, 0, 8),
+            writer(Kind::LoadCounter, 0, 0),
+            reader(Kind::StoreCounter, 1, 8),
+            writer(Kind::LoadCounter, 1, 8),
+        ],
+    )
+}
+
+/// The writer adds the rule of address 1, which takes group 0 again; steps 26 to 30.
+fn until_the_end(alloc: Global) -> Result<Vec<Step>, AllocError> {
+    Vec::from_slice(
+        alloc,
+        &[
+            writer(Kind::BumpSequence, 0, 7),
+            writer(Kind::StoreSecond, 1, FIVE),
+            writer(Kind::StoreSecond, 0, 0),
+            writer(Kind::StoreFirst, 0, GROUP),
+            writer(Kind::BumpSequence, 0, 8),
+        ],
+    )
+}
+
+/// The whole trace.
+fn good(alloc: Global) -> Result<Vec<Step>, AllocError> {
+    let mut steps = until_the_flush(alloc)?;
+    steps.extend_from_slice(&until_the_synchronize(alloc)?)?;
+    steps.extend_from_slice(&until_the_end(alloc)?)?;
+    Ok(steps)
+}
+
+fn is_in_order(alloc: Global, steps: &[Step]) -> Result<bool, AllocError> {
+    writes_in_order(alloc, &WIDE, &versions(alloc)?, steps)
+}
+
+#[test]
+fn the_good_trace(rt: HostRuntime) -> Result<(), Fail> {
+    let alloc = rt.alloc();
+    let steps = good(alloc)?;
+    let deeds = [Deed::Online, Deed::Quiescent];
+    assert!(rt; loads_are_stores(&WIDE, &steps));
+    assert!(rt; deeds_are_done(alloc, &WIDE, &steps, 0, &[])?);
+    assert!(rt; deeds_are_done(alloc, &WIDE, &steps, 1, &deeds)?);
+    assert!(rt; is_in_order(alloc, &steps)?);
+    assert!(rt; reuse_is_lawful(&WIDE, &steps));
+    Ok(())
+}
+
+#[test]
+fn each_beginning_of_it(rt: HostRuntime) -> Result<(), Fail> {
+    let alloc = rt.alloc();
+    let steps = good(alloc)?;
+    for moment in 0..steps.len() {
+        let beginning = steps.get(..moment).unwrap_or(&[]);
+        assert!(rt; loads_are_stores(&WIDE, beginning));
+        assert!(rt; is_in_order(alloc, beginning)?, "{moment}");
+        assert!(rt; reuse_is_lawful(&WIDE, beginning));
+    }
+    Ok(())
+}
+
+#[test]
+fn checks_out_of_order(rt: HostRuntime) -> Result<(), Fail> {
+    let alloc = rt.alloc();
+    let steps = good(alloc)?;
+    for number in [16, 17, 20, 21, 23, 25] {
+        let changed = without(alloc, &steps, &[number])?;
+        assert!(rt; !is_in_order(alloc, &changed)?, "{number}");
+    }
+    let of_the_last = without(alloc, &steps, &[14, 15])?;
+    let beginning = of_the_last.get(..14).unwrap_or(&[]);
+    assert!(rt; !is_in_order(alloc, beginning)?);
+    Ok(())
+}
+
+#[test]
+fn groups_that_were_not_taken(rt: HostRuntime) -> Result<(), Fail> {
+    let alloc = rt.alloc();
+    let steps = good(alloc)?;
+    let into_both = with_index(alloc, &steps, 28, 2)?;
+    assert!(rt; !is_in_order(alloc, &into_both)?);
+    let of_the_other = with_value(alloc, &steps, 29, OTHER_GROUP)?;
+    assert!(rt; !is_in_order(alloc, &of_the_other)?);
+    let of_a_linked = with_value(alloc, &steps, 7, GROUP)?;
+    assert!(rt; !is_in_order(alloc, &of_a_linked)?);
+    Ok(())
+}
+
+#[test]
+fn reuse_while_a_worker_holds_the_group(rt: HostRuntime) -> Result<(), Fail> {
+    let alloc = rt.alloc();
+    let steps = good(alloc)?;
+    assert!(rt; !reuse_is_lawful(&WIDE, &without(alloc, &steps, &[22, 24])?));
+    assert!(rt; reuse_is_lawful(&WIDE, &without(alloc, &steps, &[24])?));
+    Ok(())
+}
