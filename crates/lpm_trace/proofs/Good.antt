@@ -5,7 +5,7 @@ use Rattle.std.specs.Bool.{⊤}
 use Rattle.lpm_entry.specs.declared.Entry.TheVariants.{Group}
 use Rattle.lpm_entry.specs.Words.{entry_in, hop_in}
 use Rattle.lpm_trace.specs.Tables.{Setup, Tables, Status, Unused, Linked, Retired, addresses, answer, done, begun, first_entry}
-use Rattle.lpm_trace.specs.Workers.{Worker, Phase, Offline, ComingOnline, Online, LookingUp, Reporting, Probe, Unread, InGroup, Answered, Seen, IsRunning}
+use Rattle.lpm_trace.specs.Workers.{Worker, Phase, Offline, ComingOnline, Online, LookingUp, ReportingQuiescent, Probe, Unread, InGroup, Answered, Seen, IsRunning}
 use Rattle.lpm_trace.proofs.Basics.{Each, each_map}
 
 abbrev pub Told : Type 1
@@ -17,7 +17,7 @@ LoadedAs token counter Offline = ⊤
 LoadedAs token counter (ComingOnline loaded) = (0 < loaded) × (loaded ≤ token)
 LoadedAs token counter Online = 0 < counter
 LoadedAs token counter LookingUp = 0 < counter
-LoadedAs token counter (Reporting loaded) = (0 < counter) × (0 < loaded) × (loaded ≤ token)
+LoadedAs token counter (ReportingQuiescent loaded) = (0 < counter) × (0 < loaded) × (loaded ≤ token)
 
 -- what the worker may yet store is below the token
 abbrev pub IsStaleAs : ℕ → Phase → Type 0
@@ -25,7 +25,7 @@ IsStaleAs token Offline = ⊤
 IsStaleAs token (ComingOnline loaded) = ⊤
 IsStaleAs token Online = ⊤
 IsStaleAs token LookingUp = ⊤
-IsStaleAs token (Reporting loaded) = loaded < token
+IsStaleAs token (ReportingQuiescent loaded) = loaded < token
 
 -- the worker holds the group back: it waits under a token that no check has passed, nor passed this
 -- worker
@@ -39,14 +39,14 @@ IdleAs ps Offline = ps ≡ []
 IdleAs ps (ComingOnline loaded) = ps ≡ []
 IdleAs ps Online = ps ≡ []
 IdleAs ps LookingUp = ⊤
-IdleAs ps (Reporting loaded) = ps ≡ []
+IdleAs ps (ReportingQuiescent loaded) = ps ≡ []
 
 abbrev pub LowAs : ℕ → ℕ → Phase → Type 0
 LowAs lo done Offline = ⊤
 LowAs lo done (ComingOnline loaded) = ⊤
 LowAs lo done Online = ⊤
 LowAs lo done LookingUp = lo ≤ done
-LowAs lo done (Reporting loaded) = ⊤
+LowAs lo done (ReportingQuiescent loaded) = ⊤
 
 -- where the second word of an address stands in a group
 abbrev pub second_place : Setup → ℕ → ℕ → ℕ
@@ -97,21 +97,21 @@ loaded_later token token' counter le Offline h = tt
 loaded_later token token' counter le (ComingOnline loaded) h = (h.0, omega (arith, le, h.1))
 loaded_later token token' counter le Online h = h
 loaded_later token token' counter le LookingUp h = h
-loaded_later token token' counter le (Reporting loaded) h = (h.0, h.1, omega (arith, le, h.2))
+loaded_later token token' counter le (ReportingQuiescent loaded) h = (h.0, h.1, omega (arith, le, h.2))
 
 pub low_later : (lo n n' : ℕ) → n ≤ n' → (p : Phase) → LowAs lo n p → LowAs lo n' p
 low_later lo n n' le Offline h = tt
 low_later lo n n' le (ComingOnline loaded) h = tt
 low_later lo n n' le Online h = tt
 low_later lo n n' le LookingUp h = omega (arith, le, h)
-low_later lo n n' le (Reporting loaded) h = tt
+low_later lo n n' le (ReportingQuiescent loaded) h = tt
 
 pub running_counter : (token counter : ℕ) (p : Phase) → IsRunning p → LoadedAs token counter p → 0 < counter
 running_counter token counter Offline run h = absurd run
 running_counter token counter (ComingOnline loaded) run h = absurd run
 running_counter token counter Online run h = h
 running_counter token counter LookingUp run h = h
-running_counter token counter (Reporting loaded) run h = h.0
+running_counter token counter (ReportingQuiescent loaded) run h = h.0
 
 -- a group is held whatever the worker's phase, as long as what it may store is stale
 pub held_phase : (w : Tables) (k counter : ℕ) (p p' : Phase) → ((token : ℕ) → IsStaleAs token p → IsStaleAs token p') → (s : Status) → HeldAs w k counter p s → HeldAs w k counter p' s

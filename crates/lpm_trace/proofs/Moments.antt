@@ -262,7 +262,7 @@ legal c steps s n same right =
     let shown : version (tables_at c (writes steps) right.place) s.addr ≡ k = ap (λ w. version w s.addr) at ∙ ap (version (at_moment c steps m.moment)) same.0 in
     record {
       moment = m.moment;
-      version = k;
+      chosen = k;
       from = m.after;
       to = m.before;
       within = same.5.1;

@@ -1,12 +1,16 @@
 -- The law as one worker knows it: by its own steps with their places, and the writer's steps.
-use Rattle.std.proofs.Common.{◌≡◌, ℕ, inl, inr, cond, List, [], ◌∷◌, All, length, refl, sym, ap, subst, ◌∙◌}
+use Rattle.std.proofs.Common.{◌≡◌, ℕ, suc, ◌≤◌, arith, inl, inr, cond, List, [], ◌∷◌, All, length, refl, sym, ap, subst, ◌∙◌}
 use Rattle.std.proofs.lemmas.Bool.Decides.{eqb_tells}
+use Rattle.std.proofs.lemmas.List.Elements.{All-nil, All-cons, All-weaker}
+use Rattle.std.proofs.lemmas.List.Kept.{AllPairs-cons}
+use Rattle.std.specs.List.{AllPairs}
+use Rattle.lpm_trace.specs.declared.step.WorkerStep.{WorkerStep}
 use Rattle.lpm_trace.specs.declared.step.TraceStep.{TraceStep}
 use Rattle.lpm_trace.specs.declared.step.TraceStep.TheVariants.{Writer, Worker as ByWorker}
 use Rattle.lpm_trace.specs.Tables.{Setup, tables_at}
 use Rattle.lpm_trace.specs.Workers.{moved}
 use Rattle.lpm_trace.specs.Trace.{after, writes, own, worker_by}
-use Rattle.lpm_trace.specs.Laws.{IsLegalAtPlace, OwnLookupsAreLegal, PlacesNeverFall, TraceGrows}
+use Rattle.lpm_trace.specs.Laws.{IsLegalAtPlace, OwnLookupsAreLegal, VersionsNeverFallAtPlaces, PlacesNeverFall, TraceGrows}
 use Rattle.lpm_trace.proofs.Basics.{each_all}
 use Rattle.lpm_trace.proofs.Versions.{version_ge, version_le}
 use Rattle.lpm_trace.proofs.Traces.{clock_length, tables_of, rising, all_right}
@@ -28,8 +32,22 @@ own_lookups_are_legal c steps k settled trace =
     let same = worker_is c steps k in
     (same, subst (λ r. All (IsLegalAtPlace c (writes steps)) r.finished) same (each_all (IsLegalAtPlace c (writes steps)) ((after c steps).workers k).finished (all_right c settled steps trace k)))
 
+pub versions_never_fall_at_places : VersionsNeverFallAtPlaces
+versions_never_fall_at_places c w_steps a t u le = (version_ge (tables_at c w_steps t) a, version_le (tables_at c w_steps t) a, rising c w_steps t u a le)
+
 pub places_never_fall : PlacesNeverFall
-places_never_fall c written a t u le = (version_ge (tables_at c written t) a, version_le (tables_at c written t) a, rising c written t u a le)
+places_never_fall k [] = (λ i j d lt within. absurd (omega (arith, within)), All-nil (λ s. s.1 ≤ 0))
+places_never_fall k (Writer s ∷ steps) =
+    let was = places_never_fall k steps in
+    (was.0, All-weaker (λ t. t.1 ≤ length (writes steps)) (λ t. t.1 ≤ suc (length (writes steps))) (λ t le. omega (arith, le)) (own k steps) was.1)
+places_never_fall k (ByWorker j s ∷ steps) =
+    let was = places_never_fall k steps in
+    let now : WorkerStep × ℕ = (s, length (writes steps)) in
+    elim (eqb_tells k j) [
+      | inl h ↦ subst (λ b. AllPairs (λ later earlier. earlier.1 ≤ later.1) (cond b (now ∷ own k steps) (own k steps)) × All (λ t. t.1 ≤ length (writes steps)) (cond b (now ∷ own k steps) (own k steps))) (sym h.0)
+          (AllPairs-cons (λ later earlier. earlier.1 ≤ later.1) now (own k steps) was.1 was.0, All-cons (λ t. t.1 ≤ length (writes steps)) now (own k steps) (omega arith) was.1)
+      | inr h ↦ subst (λ b. AllPairs (λ later earlier. earlier.1 ≤ later.1) (cond b (now ∷ own k steps) (own k steps)) × All (λ t. t.1 ≤ length (writes steps)) (cond b (now ∷ own k steps) (own k steps))) (sym h.0) was
+    ]
 
 pub trace_grows : TraceGrows
 trace_grows c step steps = (λ trace. trace, λ more. more)

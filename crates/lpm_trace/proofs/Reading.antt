@@ -9,7 +9,7 @@ use Rattle.lpm_cells.specs.Table.{followed}
 use Rattle.lpm_trace.specs.declared.step.WorkerStep.{WorkerStep}
 use Rattle.lpm_trace.specs.declared.step.WorkerStep.TheVariants.{LoadOnline, StoreOnline, LoadQuiescent, StoreQuiescent, StoreOffline, Begins, LoadFirst, LoadSecond, Ends, Meets}
 use Rattle.lpm_trace.specs.Tables.{Setup, Tables, Status, addresses, answer, first_entry, done, begun, begun_at, done_at}
-use Rattle.lpm_trace.specs.Workers.{Worker, Phase, Offline, ComingOnline, Online, LookingUp, Reporting, Probe, Unread, InGroup, Answered, Seen, read_first, first_read, second_read, with_answers, moved, IsNextFirst, IsNextSecond, AreAnswered, MayRead, IsRunning}
+use Rattle.lpm_trace.specs.Workers.{Worker, Phase, Offline, ComingOnline, Online, LookingUp, ReportingQuiescent, Probe, Unread, InGroup, Answered, Seen, read_first, first_read, second_read, with_answers, moved, IsNextFirst, IsNextSecond, AreAnswered, MayRead, IsRunning}
 use Rattle.lpm_trace.proofs.Basics.{Each}
 use Rattle.lpm_trace.proofs.Good.{Told, LoadedAs, HeldAs, IdleAs, LowAs, second_place, HalfOk, ProbeOk, FinishedOk, WorkerOk, Good, held_phase}
 
@@ -58,7 +58,7 @@ unread_ok c A w since lo phase (a ∷ addrs) all = (All-head (λ x. x < addresse
 
 module _ (c : Setup) (A : Told) (Hi : ℕ → ℕ → Type 0) (w : Tables) (workers : ℕ → Worker) (good : Good c A Hi w workers) (k : ℕ) (inside : k < c.workers) (r : Worker) (ok : WorkerOk c A Hi w k r) where
   -- the token that was loaded takes the counter's place
-  held_stored : (counter loaded : ℕ) (s : Status) → HeldAs w k counter (Reporting loaded) s → HeldAs w k loaded Online s
+  held_stored : (counter loaded : ℕ) (s : Status) → HeldAs w k counter (ReportingQuiescent loaded) s → HeldAs w k loaded Online s
   held_stored counter loaded Status.Unused h = h
   held_stored counter loaded (Status.Linked block) h = h
   held_stored counter loaded (Status.Retired token) h = (h.1, tt, h.2, h.3)
@@ -79,10 +79,10 @@ module _ (c : Setup) (A : Told) (Hi : ℕ → ℕ → Type 0) (w : Tables) (work
         finished = ok.finished;
       }
 
-  reported : (loaded : ℕ) → r.phase ≡ Reporting loaded → WorkerOk c A Hi w k (moved w.clock r (StoreQuiescent loaded))
+  reported : (loaded : ℕ) → r.phase ≡ ReportingQuiescent loaded → WorkerOk c A Hi w k (moved w.clock r (StoreQuiescent loaded))
   reported loaded is =
       let none : r.probes ≡ [] = subst (IdleAs r.probes) is ok.idle in
-      let was : LoadedAs w.token r.counter (Reporting loaded) = subst (LoadedAs w.token r.counter) is ok.loaded in
+      let was : LoadedAs w.token r.counter (ReportingQuiescent loaded) = subst (LoadedAs w.token r.counter) is ok.loaded in
       record {
         inside = λ _. inside;
         counter = was.2;
@@ -136,7 +136,7 @@ module _ (c : Setup) (A : Told) (Hi : ℕ → ℕ → Type 0) (w : Tables) (work
         grace = λ _ g lt. absurd (omega (arith, lt, good.unlinked g));
         idle = none;
         low = tt;
-        probes = subst (Each (ProbeOk c A w w.clock r.lo (Reporting token))) (sym none) tt;
+        probes = subst (Each (ProbeOk c A w w.clock r.lo (ReportingQuiescent token))) (sym none) tt;
         finished = ok.finished;
       }
 
@@ -178,7 +178,7 @@ module _ (c : Setup) (A : Told) (Hi : ℕ → ℕ → Type 0) (w : Tables) (work
     grace = ok.grace;
     idle = subst (IdleAs (second_read w.clock (entry_in word) r.probes)) (sym may.0) tt;
     low = ok.low;
-    probes = second_ok c A Hi w good.now r.since r.lo (subst (LowAs r.lo (done w)) may.0 ok.low) r.phase word r.probes may.1 ok.probes;
+    probes = second_ok c A Hi w good.now r.since r.lo (subst (LowAs r.lo (done w)) may.0 ok.low) r.phase word r.probes may.2 ok.probes;
     finished = ok.finished;
   }
   worker_moves (Ends sequence) may = record {

@@ -7,7 +7,7 @@ use Rattle.lpm_trace.specs.declared.step.WriterStep.TheVariants.{StoreFirst, Sto
 use Rattle.lpm_trace.specs.declared.step.TraceStep.{TraceStep}
 use Rattle.lpm_trace.specs.declared.step.TraceStep.TheVariants.{Writer, Worker as ByWorker}
 use Rattle.lpm_trace.specs.Tables.{Setup, Tables, IsSettled, addresses, with_at, answer, IsAnswer, done, begun, version, rules_by, written, opening, oldest, tables, tables_at, MayWrite}
-use Rattle.lpm_trace.specs.Workers.{Worker, Probe, Unread, InGroup, Answered, Seen, resting, moved, MayRead, IsRunning}
+use Rattle.lpm_trace.specs.Workers.{Worker, Probe, Unread, InGroup, Answered, Seen, unstarted, moved, MayRead, IsRunning}
 use Rattle.lpm_trace.specs.Trace.{MayCome, after, IsTrace, writes}
 use Rattle.lpm_trace.specs.Laws.{IsLegalAtPlace}
 use Rattle.lpm_trace.proofs.Basics.{Each, each_map, with_at_case}
@@ -64,8 +64,8 @@ keeps : (c : Setup) (A : Told) (Hi : ℕ → ℕ → Type 0) (w : Tables) (worke
     → (s : WriterStep) → MayWrite c (λ k. (workers k).counter) w s
     → ((a lo : ℕ) → a < addresses c → lo ≤ done (written c w s) → A (suc w.clock) a lo (answer c (written c w s).words a)) → ((t : ℕ) → t ≤ suc w.clock → Hi t (begun (written c w s)))
     → Good c A Hi (written c w s) workers
-keeps c A Hi w workers good (StoreFirst i x) may now below = keeps_first c A Hi w workers good i x may.1 may.2 now below
-keeps c A Hi w workers good (StoreSecond j x) may now below = keeps_second c A Hi w workers good j x may.2 now below
+keeps c A Hi w workers good (StoreFirst i x) may now below = keeps_first c A Hi w workers good i x may.1 may.3 now below
+keeps c A Hi w workers good (StoreSecond j x) may now below = keeps_second c A Hi w workers good j x may.3 now below
 keeps c A Hi w workers good (Opens change) may now below = keeps_quiet c A Hi w workers good (suc w.sequence) (with_at w.history (suc (begun w)) (rules_by (w.history (begun w)) change)) w.turned w.token (omega arith) (omega arith) now below
 keeps c A Hi w workers good Closes may now below = keeps_quiet c A Hi w workers good (suc w.sequence) w.history (λ a. false) w.token (omega arith) (omega arith) now below
 keeps c A Hi w workers good BumpToken may now below = keeps_quiet c A Hi w workers good w.sequence w.history w.turned (suc w.token) (omega arith) (omega arith) now below
@@ -120,8 +120,8 @@ begun_grows c (s ∷ ws) t = elim (cases_lt (length ws) t) [
   | inr h ↦ subst (λ w. begun w ≤ begun (tables c (s ∷ ws))) (sym (at_old c s ws t h)) (omega (arith, begun_grows c ws t, sequence_grows c (tables c ws) s))
 ]
 
-resting_ok : (c : Setup) (k : ℕ) → WorkerOk c (told_by c []) (hi_by c []) (opening c) k resting
-resting_ok c k = record { inside = λ run. absurd run; counter = omega arith; loaded = tt; since = omega arith; grace = λ run. absurd run; idle = refl; low = tt; probes = tt; finished = tt }
+unstarted_ok : (c : Setup) (k : ℕ) → WorkerOk c (told_by c []) (hi_by c []) (opening c) k unstarted
+unstarted_ok c k = record { inside = λ run. absurd run; counter = omega arith; loaded = tt; since = omega arith; grace = λ run. absurd run; idle = refl; low = tt; probes = tt; finished = tt }
 
 start_good : (c : Setup) → IsSettled c → Good c (told_by c []) (hi_by c []) (opening c) (after c []).workers
 start_good c settled = record {
@@ -130,7 +130,7 @@ start_good c settled = record {
   scan = omega arith;
   unlinked = λ g. omega arith;
   linked = settled.links;
-  workers_ok = resting_ok c;
+  workers_ok = unstarted_ok c;
   now = λ a lo lt le. (refl, le);
   below = λ t le. omega arith;
 }
@@ -249,6 +249,6 @@ after_grace c settled steps trace j x may k run =
     let ok = (good_trace c settled steps trace).workers_ok k in
     let may' : MayWrite c (λ k. ((after c steps).workers k).counter) w (StoreSecond j x) = subst (λ v. MayWrite c (λ k. ((after c steps).workers k).counter) v (StoreSecond j x)) (tables_of c steps) may.0 in
     elim (cases_lt r.since (w.unlinked g)) [
-      | inl lt ↦ absurd (held_not_filled c w k r.counter r.phase (ok.inside run) (w.groups g) (ok.grace run g lt) may'.2)
+      | inl lt ↦ absurd (held_not_filled c w k r.counter r.phase (ok.inside run) (w.groups g) (ok.grace run g lt) may'.3)
       | inr le ↦ le
     ]

@@ -39,20 +39,20 @@ moved_shown c w shows z moves a lt = elim (is_same_tells (answer c w.words a) (a
 pub keeps_shows : (c : Setup) (counters : ℕ → ℕ) (w : Tables) → Shows c w → (s : WriterStep) → MayWrite c counters w s → Shows c (written c w s)
 keeps_shows c counters w shows (StoreFirst i x) may = record {
   still = λ even a. absurd (omega (arith, even, may.0));
-  shown = λ a lt. moved_shown c w shows (with_first w.words i x) may.3 a lt;
+  shown = λ a lt. moved_shown c w shows (with_first w.words i x) may.4 a lt;
 }
 keeps_shows c counters w shows (StoreSecond j x) may = record {
   still = λ even a. absurd (omega (arith, even, may.0));
-  shown = λ a lt. moved_shown c w shows (with_second w.words j x) may.3 a lt;
+  shown = λ a lt. moved_shown c w shows (with_second w.words j x) may.4 a lt;
 }
 keeps_shows c counters w shows (Opens change) may =
-    let same : suc w.sequence / 2 ≡ done w = omega (arith, may) in
+    let same : suc w.sequence / 2 ≡ done w = omega (arith, may.0) in
     let other : suc w.sequence / 2 ≢ suc (begun w) = omega arith in
     let new : RuleMap = rules_by (w.history (begun w)) change in
     record {
-      still = λ even a. absurd (omega (arith, even, may));
+      still = λ even a. absurd (omega (arith, even, may.0));
       shown = λ a lt.
-          let none = shows.still may a in
+          let none = shows.still may.0 a in
           let was : IsAnswer c (w.history (done w)) a (answer c w.words a) = subst (λ b. IsAnswer c (w.history (cond b (begun w) (done w))) a (answer c w.words a)) none (shows.shown a lt) in
           subst (λ b. IsAnswer c (with_at w.history (suc (begun w)) new (cond b ((suc w.sequence + 1) / 2) (suc w.sequence / 2))) a (answer c w.words a)) (sym none)
           (subst (λ R. IsAnswer c R a (answer c w.words a)) (sym (with_at-other w.history (suc (begun w)) new (suc w.sequence / 2) other))

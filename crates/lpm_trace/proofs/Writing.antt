@@ -9,7 +9,7 @@ use Rattle.lpm_entry.specs.Words.{entry_in, hop_in}
 use Rattle.lpm_cells.specs.Table.{with_first, followed}
 use Rattle.lpm_trace.specs.declared.step.WriterStep.TheVariants.{StoreFirst, StoreSecond}
 use Rattle.lpm_trace.specs.Tables.{Setup, Tables, Status, Unused, Linked, Retired, addresses, answer, done, begun, first_entry, written, linked, retired, stamped, MayLink, MayFill, IsFree}
-use Rattle.lpm_trace.specs.Workers.{Worker, Phase, Offline, ComingOnline, Online, LookingUp, Reporting, IsRunning}
+use Rattle.lpm_trace.specs.Workers.{Worker, Phase, Offline, ComingOnline, Online, LookingUp, ReportingQuiescent, IsRunning}
 use Rattle.lpm_trace.proofs.Basics.{with_at_case, with_at-same, with_at-other, set_case}
 use Rattle.lpm_trace.proofs.Good.{Told, LoadedAs, IsStaleAs, HeldAs, second_place, HalfOk, WorkerOk, Good, worker_stays}
 
@@ -52,7 +52,7 @@ stale_next token counter Offline h = tt
 stale_next token counter (ComingOnline loaded) h = tt
 stale_next token counter Online h = tt
 stale_next token counter LookingUp h = tt
-stale_next token counter (Reporting loaded) h = omega (arith, h.2)
+stale_next token counter (ReportingQuiescent loaded) h = omega (arith, h.2)
 
 -- the place of an address in a group is one of that group
 place_in_group : (c : Setup) (a g : ℕ) → second_place c a g / 2 ^ c.second ≡ g

@@ -20,7 +20,8 @@ pub record Course : Type 0 where
   pub duty : Duty
   -- the token that a synchronize waits for, until its check has passed
   pub awaited : Option ℕ
-  -- in an update that has unlinked a group, further groups may be reclaimed
+  -- the update has just bumped the token for a group that it unlinked, and may check groups that wait,
+  -- until a worker stops a check or until its next store
   pub reclaims : Bool
   -- the free group that the update which runs took
   pub taken : Option ℕ
@@ -59,12 +60,14 @@ abbrev pub check_stopped : Course → Option ℕ → Course
 check_stopped course None = record course { duty = Nothing; reclaims = false }
 check_stopped course (Some token) = record course { duty = Check token }
 
+-- a counter was loaded in a check of the token
 abbrev pub counted : Setup → Course → ℕ → ℕ → ℕ → Course
 counted c course token worker counter =
     cond (lets_pass token counter)
     (cond (eqb (suc worker) c.workers) (check_passed course) (record course { duty = Check token }))
     (check_stopped course course.awaited)
 
+-- the course after a step of the writer
 abbrev pub coursed : Setup → Tables → Course → WriterStep → Course
 coursed c w course (StoreFirst i x) =
     record course { duty = due_after (first_entry w.words i); reclaims = false }
@@ -94,7 +97,7 @@ LinksOwn course (Some group) = course.taken ≡ Some group
 -- update has just unlinked doesn't wait yet
 pub record IsOldest (w : Tables) (token : ℕ) : Type 0 where
   pub group : ℕ
-  pub waits : w.groups group ≡ Retired token
+  pub retired : w.groups group ≡ Retired token
   pub unpassed : w.passed < token
   pub least : (other t : ℕ) → w.groups other ≡ Retired t → (t ≤ w.passed) ⊎ (token ≤ t)
   pub before : IsUpdating w → token < w.token
@@ -103,8 +106,8 @@ pub record IsOldest (w : Tables) (token : ℕ) : Type 0 where
 abbrev pub next_asked : Tables → ℕ → ℕ
 next_asked w token = cond (eqb w.scan.token token) w.scan.next 0
 
--- a check goes on, or a reclaim begins the check of the oldest token: of its own, or in an update
--- after an unlinking
+-- a check goes on; or the check of the oldest token begins, between updates or in one after an
+-- unlinking
 abbrev pub IsAsked : Tables → Course → ℕ → ℕ → Duty → Type 0
 IsAsked w course token worker Nothing =
     (worker ≡ 0) × IsOldest w token × (IsUpdating w → course.reclaims ≡ true)
@@ -118,6 +121,7 @@ IsBumped w Nothing = ¬ IsUpdating w
 IsBumped w Bump = ⊤
 IsBumped w (Check token) = ⊥
 
+-- the writer's step keeps the order
 abbrev pub Follows : Setup → Tables → Course → WriterStep → Type 0
 Follows c w course (StoreFirst i x) =
     (course.duty ≡ Nothing) × LinksOwn course (group_in (entry_in x))

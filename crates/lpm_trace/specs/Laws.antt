@@ -2,6 +2,7 @@
 -- (DPDK Programmer's Guide, "RCU Library": memory is used again after a grace period alone; this
 -- project's otherwise).
 use Rattle.std.specs.Prelude.{◌≡◌, ◌≢◌, ℕ, ◌/◌, ◌^◌, ◌<◌, ◌≤◌, ◌↔◌, eqb, Bool, false, All, List, ◌∷◌, ◌++◌, length}
+use Rattle.std.specs.List.{AllPairs}
 use Rattle.lpm_entry.specs.declared.Entry.TheVariants.{Group}
 use Rattle.lpm_entry.specs.Words.{entry_in}
 use Rattle.lpm_rules.specs.RuleMap.{RuleMap}
@@ -34,14 +35,14 @@ rules_of_version c steps k = (tables c (writes steps)).history k
 -- of its first word to the read of its last one, and that version lies from `lo` to `hi`
 pub record IsLegal (c : Setup) (steps : List TraceStep) (seen : Seen) : Type 0 where
   pub moment : ℕ
-  pub version : ℕ
+  pub chosen : ℕ
   pub from : seen.first ≤ moment
   pub to : moment ≤ seen.last
   pub within : seen.last ≤ length steps
-  pub stands : Stands c steps moment version
-  pub answers : IsAnswer c (rules_of_version c steps version) seen.addr seen.hop
-  pub low : seen.lo ≤ version
-  pub high : version ≤ seen.hi
+  pub stands : Stands c steps moment chosen
+  pub answers : IsAnswer c (rules_of_version c steps chosen) seen.addr seen.hop
+  pub low : seen.lo ≤ chosen
+  pub high : chosen ≤ seen.hi
 
 abbrev pub LookupsAreLegal : Type 0
 LookupsAreLegal = (c : Setup) (steps : List TraceStep) (worker : ℕ) → IsSettled c → IsTrace c steps
@@ -122,7 +123,8 @@ RestAnswers = (c : Setup) (steps : List TraceStep) → IsSettled c → IsTrace c
 
 -- ---- versions
 
--- the version that an address shows at a moment
+-- the version that an address shows at a moment. That it is told by counting which address has turned
+-- matters to no law: it is the function of which the promise says that there is one.
 abbrev pub version_at : Setup → List TraceStep → ℕ → ℕ → ℕ
 version_at c steps a t = version (at_moment c steps t) a
 
@@ -149,16 +151,16 @@ LookupsAreMonotone = (c : Setup) (steps : List TraceStep) (worker : ℕ) → IsS
 -- a finished lookup is legal at a place: its answer is that of the version that its address shows when
 -- the writer has made so many steps, from the read of its first word to the read of its last one. That
 -- version lies from `lo` to `hi`. Here `first` and `last` are places.
-pub record IsLegalAtPlace (c : Setup) (written : List WriterStep) (seen : Seen) : Type 0 where
+pub record IsLegalAtPlace (c : Setup) (w_steps : List WriterStep) (seen : Seen) : Type 0 where
   pub place : ℕ
   pub from : seen.first ≤ place
   pub to : place ≤ seen.last
-  pub within : seen.last ≤ length written
+  pub within : seen.last ≤ length w_steps
   pub answers : IsAnswer c
-      ((tables c written).history (version (tables_at c written place) seen.addr))
+      ((tables c w_steps).history (version (tables_at c w_steps place) seen.addr))
       seen.addr seen.hop
-  pub low : seen.lo ≤ version (tables_at c written place) seen.addr
-  pub high : version (tables_at c written place) seen.addr ≤ seen.hi
+  pub low : seen.lo ≤ version (tables_at c w_steps place) seen.addr
+  pub high : version (tables_at c w_steps place) seen.addr ≤ seen.hi
 
 -- what a worker's own steps leave, by their places, is its state, and its lookups are legal
 abbrev pub OwnLookupsAreLegal : Type 0
@@ -168,15 +170,22 @@ OwnLookupsAreLegal = (c : Setup) (steps : List TraceStep) (worker : ℕ)
     × All (IsLegalAtPlace c (writes steps)) (worker_by (own worker steps)).finished
 
 -- the version that an address shows stands at each place, and never falls
+abbrev pub VersionsNeverFallAtPlaces : Type 0
+VersionsNeverFallAtPlaces = (c : Setup) (w_steps : List WriterStep) (a t u : ℕ) → t ≤ u
+    → (done (tables_at c w_steps t) ≤ version (tables_at c w_steps t) a)
+    × (version (tables_at c w_steps t) a ≤ begun (tables_at c w_steps t))
+    × (version (tables_at c w_steps t) a ≤ version (tables_at c w_steps u) a)
+
+-- the places of a worker's own steps never fall, and none is past the number of the writer's steps
 abbrev pub PlacesNeverFall : Type 0
-PlacesNeverFall = (c : Setup) (written : List WriterStep) (a t u : ℕ) → t ≤ u
-    → (done (tables_at c written t) ≤ version (tables_at c written t) a)
-    × (version (tables_at c written t) a ≤ begun (tables_at c written t))
-    × (version (tables_at c written t) a ≤ version (tables_at c written u) a)
+PlacesNeverFall = (worker : ℕ) (steps : List TraceStep)
+    → AllPairs (λ later earlier. earlier.1 ≤ later.1) (own worker steps)
+    × All (λ step. step.1 ≤ length (writes steps)) (own worker steps)
 
 -- ---- traces
 
--- a step that may come next makes a trace one longer, and what comes before the newest step is one
+-- a step that may come next makes a trace one longer, and the steps before the newest make a trace:
+-- so traces are defined
 abbrev pub TraceGrows : Type 0
 TraceGrows = (c : Setup) (step : TraceStep) (steps : List TraceStep)
     → IsTrace c (step ∷ steps) ↔ (MayCome c (after c steps) step × IsTrace c steps)

@@ -6,16 +6,18 @@ use Rattle.std.specs.Prelude.{◌≡◌, ℕ, suc, ◌+◌, ◌/◌, ◌%◌, �
 use Rattle.std.specs.FinMap.{insert, remove, empty}
 use Rattle.lpm_entry.specs.declared.Entry.{Entry}
 use Rattle.lpm_entry.specs.declared.Entry.TheVariants.{Miss, Hop, Group}
-use Rattle.lpm_entry.specs.Words.{entry_in, hop_in}
-use Rattle.lpm_cells.specs.Table.{Words, with_first, with_second, entry_at}
-use Rattle.lpm_rules.specs.RuleMap.{RuleMap}
+use Rattle.lpm_entry.specs.Words.{IsLastWord, entry_in, hop_in}
+use Rattle.lpm_bits.specs.Network.{IsNetwork}
+use Rattle.lpm_cells.specs.Table.{Words, IsFirstWord, IsWords, with_first, with_second, entry_at}
+use Rattle.lpm_rules.specs.RuleMap.{RuleMap, AllNetworks}
 use Rattle.lpm_rules.specs.Longest.{IsLongestHop}
 use Rattle.lpm_trace.specs.declared.step.RuleChange.{RuleChange}
 use Rattle.lpm_trace.specs.declared.step.RuleChange.TheVariants.{Put, TakeOut, Clear}
 use Rattle.lpm_trace.specs.declared.step.WriterStep.{WriterStep}
 use Rattle.lpm_trace.specs.declared.step.WriterStep.TheVariants.{StoreFirst, StoreSecond, Opens, Closes, BumpToken, LoadCounter}
 
--- a group was never linked, is the group of a block, or was unlinked and waits under a token
+-- a group was never linked, is the group of a block, or was last unlinked under a token: it waits until
+-- a check of that token or a later one has passed, and is free then
 pub data Status : Type 0 where
   Unused : Status
   Linked : (block : ℕ) → Status
@@ -48,7 +50,8 @@ pub record Tables : Type 0 where
   -- whether the answer to an address has changed in the update that runs
   pub turned : ℕ → Bool
   pub groups : ℕ → Status
-  -- how many steps the writer had made with the one that last unlinked the group; 0 for none
+  -- the number, among the writer's steps, of the one that last unlinked the group; 0 for none. The
+  -- proof alone looks at it.
   pub unlinked : ℕ → ℕ
   pub scan : Scan
   -- the greatest token whose check has passed
@@ -112,6 +115,7 @@ retired Miss token groups = groups
 retired (Hop hop depth) token groups = groups
 retired (Group group) token groups = with_at groups group (Retired token)
 
+-- and notes the number of the step
 abbrev pub stamped : Entry → ℕ → (ℕ → ℕ) → ℕ → ℕ
 stamped Miss now unlinked = unlinked
 stamped (Hop hop depth) now unlinked = unlinked
@@ -192,14 +196,14 @@ tables_at c steps t = tables c (oldest t steps)
 
 -- ---- which step may come next
 
--- a group is free: it was never linked, or a check of its token has passed since; without workers
--- each check passes
+-- a group is free: it was never linked, or a check of its token or a later one has passed since;
+-- without workers each check passes
 abbrev pub IsFree : Setup → ℕ → Status → Type 0
 IsFree c passed Unused = ⊤
 IsFree c passed (Linked block) = ⊥
 IsFree c passed (Retired token) = (token ≤ passed) ⊎ (c.workers ≡ 0)
 
--- a group may be stored into: it is linked, or free
+-- a group may be stored into: it is linked, or free as above
 abbrev pub MayFill : Setup → ℕ → Status → Type 0
 MayFill c passed Unused = ⊤
 MayFill c passed (Linked block) = ⊤
@@ -227,15 +231,25 @@ Moves c w z = (a : ℕ) → a < addresses c → (answer c z a ≡ answer c w.wor
 abbrev pub IsNextChecked : Scan → ℕ → ℕ → Type 0
 IsNextChecked scan token worker = (worker ≡ 0) ⊎ ((scan.next ≡ worker) × (scan.token ≡ token))
 
+-- the change is one of a prefix whose host bits are cleared, to a next hop of 24 bits
+abbrev pub IsChange : ℕ → RuleChange → Type 0
+IsChange width (Put bits len hop) =
+    IsNetwork width (record { bits = bits; len = len }) × (hop < 2 ^ 24)
+IsChange width (TakeOut bits len) = IsNetwork width (record { bits = bits; len = len })
+IsChange width Clear = ⊤
+
 -- the writer's step may come next, where the workers' counters are these
 abbrev pub MayWrite : Setup → (ℕ → ℕ) → Tables → WriterStep → Type 0
 MayWrite c counters w (StoreFirst i x) =
-    IsUpdating w × (i < length w.words.firsts) × MayLink c w (entry_in x)
+    IsUpdating w × (i < length w.words.firsts)
+    × IsFirstWord (c.first + c.second) c.second w.words.seconds x × MayLink c w (entry_in x)
     × Moves c w (with_first w.words i x)
 MayWrite c counters w (StoreSecond j x) =
-    IsUpdating w × (j < length w.words.seconds) × MayFill c w.passed (w.groups (j / 2 ^ c.second))
+    IsUpdating w × (j < length w.words.seconds) × IsLastWord (c.first + c.second) x
+    × MayFill c w.passed (w.groups (j / 2 ^ c.second))
     × Moves c w (with_second w.words j x)
-MayWrite c counters w (Opens change) = w.sequence % 2 ≡ 0
+MayWrite c counters w (Opens change) =
+    (w.sequence % 2 ≡ 0) × IsChange (c.first + c.second) change
 MayWrite c counters w Closes =
     IsUpdating w × ((a : ℕ) → a < addresses c
     → IsAnswer c (w.history (begun w)) a (answer c w.words a))
@@ -244,9 +258,12 @@ MayWrite c counters w (LoadCounter token worker counter) =
     (counter ≡ counters worker) × (worker < c.workers) × (token ≤ w.token)
     × IsNextChecked w.scan token worker
 
--- the words that a trace begins with answer by its rules, and each group that stands in them is
--- known as linked
+-- what a trace begins with: a token that isn't 0, words of entries that answer by the rules, and each
+-- group that stands in them known as linked. Other groups can be known as linked too: no first word
+-- ever links such a group.
 pub record IsSettled (c : Setup) : Type 0 where
   pub token : 0 < c.token
+  pub words : IsWords c.first c.second c.words
+  pub networks : AllNetworks (c.first + c.second) c.rules
   pub answers : (a : ℕ) → a < addresses c → IsAnswer c c.rules a (answer c c.words a)
   pub links : (i g : ℕ) → first_entry c.words i ≡ Group g → c.groups g ≡ Linked i

@@ -7,7 +7,7 @@ use Rattle.lpm_trace.specs.declared.step.TraceStep.{TraceStep}
 use Rattle.lpm_trace.specs.declared.step.TraceStep.TheVariants.{Writer, Worker as ByWorker}
 use Rattle.lpm_trace.specs.Tables.{Setup, Tables, with_at, written, opening, MayWrite}
 use Rattle.lpm_trace.specs.Course.{Course, beginning, coursed, Follows}
-use Rattle.lpm_trace.specs.Workers.{Worker, resting, moved, MayRead}
+use Rattle.lpm_trace.specs.Workers.{Worker, unstarted, moved, MayRead}
 
 pub record World : Type 0 where
   pub tables : Tables
@@ -15,7 +15,7 @@ pub record World : Type 0 where
   pub workers : ℕ → Worker
 
 abbrev pub start : Setup → World
-start c = record { tables = opening c; course = beginning; workers = λ k. resting }
+start c = record { tables = opening c; course = beginning; workers = λ k. unstarted }
 
 -- the world after a step. A worker's clock is the number of the writer's steps.
 abbrev pub apply : Setup → World → TraceStep → World
@@ -57,12 +57,12 @@ own k (ByWorker j s ∷ steps) =
 
 -- what a worker's own steps leave, by their places
 abbrev pub worker_by : List (WorkerStep × ℕ) → Worker
-worker_by [] = resting
+worker_by [] = unstarted
 worker_by (s ∷ steps) = moved s.1 (worker_by steps) s.0
 
 -- what a worker's steps leave, where the clock is the number of the step itself, from 1
 abbrev pub worker_of : ℕ → List TraceStep → Worker
-worker_of k [] = resting
+worker_of k [] = unstarted
 worker_of k (Writer s ∷ steps) = worker_of k steps
 worker_of k (ByWorker j s ∷ steps) =
     cond (eqb k j) (moved (suc (length steps)) (worker_of k steps) s) (worker_of k steps)

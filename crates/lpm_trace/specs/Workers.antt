@@ -1,7 +1,8 @@
 -- Meaning: what a worker's own steps leave: its counter, its report or lookup that goes on, and its
 -- finished lookups; and which of its steps may come next (Gupta, Lin and McKeown, INFOCOM 1998,
 -- section 3: a lookup reads one word or two; DPDK Programmer's Guide, "RCU Library": a worker stores
--- the token in its counter when it comes online and in each quiescent state, and 0 when it goes).
+-- the token in its counter when it comes online and in each quiescent state, and 0 when it goes
+-- offline).
 use Rattle.std.specs.Prelude.{◌≡◌, ℕ, ◌+◌, ◌*◌, ◌/◌, ◌%◌, ◌^◌, ◌<◌, ⊤, List, [], ◌∷◌, All, map, slice_index, Option, Some, None}
 use Rattle.lpm_entry.specs.declared.Entry.{Entry}
 use Rattle.lpm_entry.specs.declared.Entry.TheVariants.{Miss, Hop, Group}
@@ -16,7 +17,7 @@ pub data Phase : Type 0 where
   ComingOnline : (loaded : ℕ) → Phase
   Online : Phase
   LookingUp : Phase
-  Reporting : (loaded : ℕ) → Phase
+  ReportingQuiescent : (loaded : ℕ) → Phase
 
 -- How far the lookup of one address has come: no word was read; its first word was, which is a
 -- group's; or it has its answer. `first` and `last` tell when the first and the last word was read.
@@ -46,8 +47,8 @@ pub record Worker : Type 0 where
   pub finished : List Seen
 
 -- a worker before its first step
-abbrev pub resting : Worker
-resting = record { counter = 0; phase = Offline; since = 0; lo = 0; probes = []; finished = [] }
+abbrev pub unstarted : Worker
+unstarted = record { counter = 0; phase = Offline; since = 0; lo = 0; probes = []; finished = [] }
 
 -- an address whose first word is this entry's
 abbrev pub read_first : ℕ → ℕ → Entry → Probe
@@ -81,7 +82,7 @@ with_answers lo hi (Answered a h f l ∷ rest) seen = with_answers lo hi rest
 abbrev pub moved : ℕ → Worker → WorkerStep → Worker
 moved now r (LoadOnline token) = record r { phase = ComingOnline token }
 moved now r (StoreOnline token) = record r { counter = token; phase = Online; since = now }
-moved now r (LoadQuiescent token) = record r { phase = Reporting token; since = now }
+moved now r (LoadQuiescent token) = record r { phase = ReportingQuiescent token; since = now }
 moved now r (StoreQuiescent token) = record r { counter = token; phase = Online }
 moved now r StoreOffline = record r { counter = 0; phase = Offline }
 moved now r (Begins addrs sequence) =
@@ -104,13 +105,20 @@ IsNextFirst c w word (Unread a ∷ rest) = word ≡ slice_index w.words.firsts (
 IsNextFirst c w word (InGroup a g f ∷ rest) = IsNextFirst c w word rest
 IsNextFirst c w word (Answered a h f l ∷ rest) = IsNextFirst c w word rest
 
--- all first words were read, and the word is the second word of the next address that has a group
+-- the word is the second word of the next address that has a group
 abbrev pub IsNextSecond : Setup → Tables → ℕ → List Probe → Type 0
 IsNextSecond c w word [] = ⊥
 IsNextSecond c w word (Unread a ∷ rest) = ⊥
 IsNextSecond c w word (InGroup a g f ∷ rest) =
     word ≡ slice_index w.words.seconds (g * 2 ^ c.second + a % 2 ^ c.second)
 IsNextSecond c w word (Answered a h f l ∷ rest) = IsNextSecond c w word rest
+
+-- each address has had its first word read
+abbrev pub AreBegun : List Probe → Type 0
+AreBegun [] = ⊤
+AreBegun (Unread a ∷ rest) = ⊥
+AreBegun (InGroup a g f ∷ rest) = AreBegun rest
+AreBegun (Answered a h f l ∷ rest) = AreBegun rest
 
 -- each address has its answer
 abbrev pub AreAnswered : List Probe → Type 0
@@ -125,19 +133,20 @@ IsBetweenDeeds Offline = ⊤
 IsBetweenDeeds (ComingOnline loaded) = ⊥
 IsBetweenDeeds Online = ⊤
 IsBetweenDeeds LookingUp = ⊥
-IsBetweenDeeds (Reporting loaded) = ⊥
+IsBetweenDeeds (ReportingQuiescent loaded) = ⊥
 
 -- the worker's step may come next, where the tables are these
 abbrev pub MayRead : Setup → Tables → Worker → WorkerStep → Type 0
 MayRead c w r (LoadOnline token) = (r.phase ≡ Offline) × (token ≡ w.token)
 MayRead c w r (StoreOnline token) = r.phase ≡ ComingOnline token
 MayRead c w r (LoadQuiescent token) = (r.phase ≡ Online) × (token ≡ w.token)
-MayRead c w r (StoreQuiescent token) = r.phase ≡ Reporting token
+MayRead c w r (StoreQuiescent token) = r.phase ≡ ReportingQuiescent token
 MayRead c w r StoreOffline = r.phase ≡ Online
 MayRead c w r (Begins addrs sequence) =
     (r.phase ≡ Online) × All (λ a. a < addresses c) addrs × (sequence ≡ w.sequence)
 MayRead c w r (LoadFirst word) = (r.phase ≡ LookingUp) × IsNextFirst c w word r.probes
-MayRead c w r (LoadSecond word) = (r.phase ≡ LookingUp) × IsNextSecond c w word r.probes
+MayRead c w r (LoadSecond word) =
+    (r.phase ≡ LookingUp) × AreBegun r.probes × IsNextSecond c w word r.probes
 MayRead c w r (Ends sequence) =
     (r.phase ≡ LookingUp) × AreAnswered r.probes × (sequence ≡ w.sequence)
 MayRead c w r (Meets sequence) = IsBetweenDeeds r.phase × (sequence ≡ w.sequence)
@@ -148,4 +157,4 @@ IsRunning Offline = ⊥
 IsRunning (ComingOnline loaded) = ⊥
 IsRunning Online = ⊤
 IsRunning LookingUp = ⊤
-IsRunning (Reporting loaded) = ⊤
+IsRunning (ReportingQuiescent loaded) = ⊤

@@ -3,6 +3,7 @@
 ghost use Rattle.lpm_trace.specs.Laws.{LookupsAreLegal, ReuseIsLawful, RestAnswers};
 ghost use Rattle.lpm_trace.specs.Laws.{VersionsNeverFall, LookupsAreMonotone};
 ghost use Rattle.lpm_trace.specs.Laws.{OwnLookupsAreLegal, PlacesNeverFall, TraceGrows};
+ghost use Rattle.lpm_trace.specs.Laws.{VersionsNeverFallAtPlaces};
 
 /// Each finished lookup answers by a rule list that stood at a moment between its first and its last
 /// read of a word, and its number lies from `lo` to `hi`.
@@ -37,8 +38,13 @@ pub fn own_lookups_are_legal()
     ensures { OwnLookupsAreLegal }
 {}
 
-/// The version that an address shows stands at each place, and never falls. So of two lookups of one
-/// address by one worker the later one's version can be chosen not less.
+/// The version that an address shows stands at each place, and never falls.
+pub fn versions_never_fall_at_places()
+    ensures { VersionsNeverFallAtPlaces }
+{}
+
+/// The places of a worker's own steps never fall. With the law above, of two lookups of one address by
+/// one worker the later one's version can be chosen not less.
 pub fn places_never_fall()
     ensures { PlacesNeverFall }
 {}
