@@ -8,4 +8,6 @@ pub mod Traces
 pub mod Moments
 pub mod Grace
 pub mod Places
+pub mod Checks
+pub mod Entries
 pub mod Promises

@@ -1,19 +1,20 @@
 -- Meaning: what holds of each trace: answers, reuse of groups, rest, and versions that never fall
 -- (DPDK Programmer's Guide, "RCU Library": memory is used again after a grace period alone; this
 -- project's otherwise).
-use Rattle.std.specs.Prelude.{◌≡◌, ◌≢◌, ℕ, ◌/◌, ◌^◌, ◌<◌, ◌≤◌, ◌↔◌, eqb, Bool, false, All, List, ◌∷◌, ◌++◌, length}
+use Rattle.std.specs.Prelude.{◌≡◌, ◌≢◌, ℕ, ◌/◌, ◌^◌, ◌<◌, ◌≤◌, ◌↔◌, eqb, Bool, true, false, All, List, ◌∷◌, ◌++◌, length}
 use Rattle.std.specs.List.{AllPairs}
 use Rattle.lpm_entry.specs.declared.Entry.TheVariants.{Group}
 use Rattle.lpm_entry.specs.Words.{entry_in}
+use Rattle.lpm_cells.specs.Table.{IsWords}
 use Rattle.lpm_rules.specs.RuleMap.{RuleMap}
 use Rattle.reader_intervals.specs.Intervals.{Reporting, Interval, IsReaderInterval, Holds}
 use Rattle.lpm_trace.specs.declared.step.WriterStep.{WriterStep}
-use Rattle.lpm_trace.specs.declared.step.WriterStep.TheVariants.{StoreFirst, StoreSecond}
+use Rattle.lpm_trace.specs.declared.step.WriterStep.TheVariants.{StoreFirst, StoreSecond, LoadCounter}
 use Rattle.lpm_trace.specs.declared.step.WorkerStep.{WorkerStep}
 use Rattle.lpm_trace.specs.declared.step.WorkerStep.TheVariants.{LoadOnline, StoreOnline, LoadQuiescent, StoreQuiescent, StoreOffline, Begins, LoadFirst, LoadSecond, Ends, Meets}
 use Rattle.lpm_trace.specs.declared.step.TraceStep.{TraceStep}
 use Rattle.lpm_trace.specs.declared.step.TraceStep.TheVariants.{Writer, Worker as ByWorker}
-use Rattle.lpm_trace.specs.Tables.{Setup, Tables, IsSettled, addresses, answer, IsAnswer, done, begun, version, oldest, tables, tables_at, first_entry}
+use Rattle.lpm_trace.specs.Tables.{Setup, Tables, IsSettled, addresses, answer, IsAnswer, done, begun, version, lets_pass, oldest, tables, tables_at, first_entry}
 use Rattle.lpm_trace.specs.Workers.{Seen}
 use Rattle.lpm_trace.specs.Trace.{MayCome, after, IsTrace, writes, own, worker_by, worker_of}
 
@@ -111,6 +112,30 @@ ReuseIsLawful = (c : Setup) (newer between older : List TraceStep) (unlinks fill
     → IsReaderInterval by_steps (newer ++ Writer fills ∷ (between ++ Writer unlinks ∷ older)) i
     → Holds i (length older) → ¬ Holds i (length (between ++ Writer unlinks ∷ older))
 
+-- ---- checks
+
+-- among these steps of the writer the worker's counter was loaded in a check of the token, after the
+-- token was there, and let it pass
+pub record IsAskedFor (c : Setup) (w_steps : List WriterStep) (token worker : ℕ) : Type 0 where
+  pub newer : List WriterStep
+  pub older : List WriterStep
+  pub counter : ℕ
+  pub split : w_steps ≡ newer ++ LoadCounter token worker counter ∷ older
+  pub started : token ≤ (tables c older).token
+  pub passes : lets_pass token counter ≡ true
+
+-- a token passes as its check, or that of a later one, has: each worker's counter was loaded after that
+-- token was there, and was 0 or at least the token
+pub record IsChecked (c : Setup) (w_steps : List WriterStep) (token : ℕ) : Type 0 where
+  pub checked : ℕ
+  pub later : token ≤ checked
+  pub each : (worker : ℕ) → worker < c.workers → IsAskedFor c w_steps checked worker
+
+-- each token up to the greatest that has passed was checked
+abbrev pub PassedIsChecked : Type 0
+PassedIsChecked = (c : Setup) (steps : List TraceStep) (token : ℕ) → IsTrace c steps
+    → 0 < token → token ≤ (after c steps).tables.passed → IsChecked c (writes steps) token
+
 -- ---- rest
 
 -- where no update runs, the words answer by the rules of the last version
@@ -181,6 +206,13 @@ abbrev pub PlacesNeverFall : Type 0
 PlacesNeverFall = (worker : ℕ) (steps : List TraceStep)
     → AllPairs (λ later earlier. earlier.1 ≤ later.1) (own worker steps)
     × All (λ step. step.1 ≤ length (writes steps)) (own worker steps)
+
+-- ---- words
+
+-- each word stays that of an entry that may stand at its place
+abbrev pub WordsAreEntries : Type 0
+WordsAreEntries = (c : Setup) (steps : List TraceStep) → IsSettled c → IsTrace c steps
+    → IsWords c.first c.second (after c steps).tables.words
 
 -- ---- traces
 

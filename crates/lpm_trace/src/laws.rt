@@ -3,7 +3,8 @@
 ghost use Rattle.lpm_trace.specs.Laws.{LookupsAreLegal, ReuseIsLawful, RestAnswers};
 ghost use Rattle.lpm_trace.specs.Laws.{VersionsNeverFall, LookupsAreMonotone};
 ghost use Rattle.lpm_trace.specs.Laws.{OwnLookupsAreLegal, PlacesNeverFall, TraceGrows};
-ghost use Rattle.lpm_trace.specs.Laws.{VersionsNeverFallAtPlaces};
+ghost use Rattle.lpm_trace.specs.Laws.{VersionsNeverFallAtPlaces, PassedIsChecked};
+ghost use Rattle.lpm_trace.specs.Laws.{WordsAreEntries};
 
 /// Each finished lookup answers by a rule list that stood at a moment between its first and its last
 /// read of a word, and its number lies from `lo` to `hi`.
@@ -52,4 +53,15 @@ pub fn places_never_fall()
 /// A step that may come next makes a trace one longer.
 pub fn trace_grows()
     ensures { TraceGrows }
+{}
+
+/// Each token up to the greatest that has passed was checked: after it, or a later one, was there, each
+/// worker's counter was loaded, and was 0 or at least that token.
+pub fn passed_is_checked()
+    ensures { PassedIsChecked }
+{}
+
+/// Each word stays that of an entry that may stand at its place.
+pub fn words_are_entries()
+    ensures { WordsAreEntries }
 {}

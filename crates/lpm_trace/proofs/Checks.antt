@@ -1,0 +1,106 @@
+-- Each token that has passed was checked, and each word stays an entry's.
+use Rattle.std.proofs.Common.{◌≡◌, ℕ, suc, ◌<◌, ◌≤◌, ◌⊎◌, inl, inr, Bool, true, false, cond, ◌&&◌, eqb, max, List, [], ◌∷◌, refl, sym, ap, subst, arith}
+use Rattle.std.proofs.lemmas.Bool.Decides.{eqb_tells}
+use Rattle.std.proofs.lemmas.Bool.{cases_lt}
+use Rattle.lpm_trace.specs.declared.step.WriterStep.{WriterStep}
+use Rattle.lpm_trace.specs.declared.step.WriterStep.TheVariants.{StoreFirst, StoreSecond, Opens, Closes, BumpToken, LoadCounter}
+use Rattle.lpm_trace.specs.declared.step.TraceStep.{TraceStep}
+use Rattle.lpm_trace.specs.declared.step.TraceStep.TheVariants.{Writer, Worker as ByWorker}
+use Rattle.lpm_trace.specs.Tables.{Setup, Tables, lets_pass, tables, IsNextChecked, MayWrite}
+use Rattle.lpm_trace.specs.Trace.{after, IsTrace, writes}
+use Rattle.lpm_trace.specs.Laws.{IsAskedFor, IsChecked, PassedIsChecked}
+use Rattle.lpm_trace.proofs.Traces.{tables_of}
+
+asked_still : (c : Setup) (s : WriterStep) (ws : List WriterStep) (token k : ℕ) → IsAskedFor c ws token k → IsAskedFor c (s ∷ ws) token k
+asked_still c s ws token k asked = record {
+  newer = s ∷ asked.newer;
+  older = asked.older;
+  counter = asked.counter;
+  split = ap (λ l. s ∷ l) asked.split;
+  started = asked.started;
+  passes = asked.passes;
+}
+
+asked_now : (c : Setup) (ws : List WriterStep) (token k counter : ℕ) → token ≤ (tables c ws).token → lets_pass token counter ≡ true → IsAskedFor c (LoadCounter token k counter ∷ ws) token k
+asked_now c ws token k counter le passes = record { newer = []; older = ws; counter = counter; split = refl; started = le; passes = passes }
+
+-- the workers below the next one were asked in the check that runs, and the greatest token that has
+-- passed was checked
+record Asked (c : Setup) (ws : List WriterStep) : Type 0 where
+  pub scanned : (k : ℕ) → k < (tables c ws).scan.next → IsAskedFor c ws (tables c ws).scan.token k
+  pub passed : ((tables c ws).passed ≡ 0) ⊎ IsChecked c ws (tables c ws).passed
+
+checked_still : (c : Setup) (s : WriterStep) (ws : List WriterStep) (token : ℕ) → IsChecked c ws token → IsChecked c (s ∷ ws) token
+checked_still c s ws token h = record { checked = h.checked; later = h.later; each = λ k lt. asked_still c s ws h.checked k (h.each k lt) }
+
+passed_still : (c : Setup) (s : WriterStep) (ws : List WriterStep) (passed : ℕ) → (passed ≡ 0) ⊎ IsChecked c ws passed → (passed ≡ 0) ⊎ IsChecked c (s ∷ ws) passed
+passed_still c s ws passed (inl none) = inl none
+passed_still c s ws passed (inr h) = inr (checked_still c s ws passed h)
+
+-- a step that is no load of a counter
+asked_quiet : (c : Setup) (s : WriterStep) (ws : List WriterStep) → Asked c ws → (tables c (s ∷ ws)).scan ≡ (tables c ws).scan → (tables c (s ∷ ws)).passed ≡ (tables c ws).passed → Asked c (s ∷ ws)
+asked_quiet c s ws asked scan passed = record {
+  scanned = subst (λ z. (k : ℕ) → k < z.next → IsAskedFor c (s ∷ ws) z.token k) (sym scan) (λ k lt. asked_still c s ws (tables c ws).scan.token k (asked.scanned k lt));
+  passed = subst (λ n. (n ≡ 0) ⊎ IsChecked c (s ∷ ws) n) (sym passed) (passed_still c s ws (tables c ws).passed asked.passed);
+}
+
+scanned_more : (c : Setup) (ws : List WriterStep) (token k0 counter : ℕ) → Asked c ws → token ≤ (tables c ws).token → IsNextChecked (tables c ws).scan token k0 → lets_pass token counter ≡ true
+    → (k : ℕ) → k < suc k0 → IsAskedFor c (LoadCounter token k0 counter ∷ ws) token k
+scanned_more c ws token k0 counter asked le next passes k lt =
+    let s : WriterStep = LoadCounter token k0 counter in
+    elim (eqb_tells k k0) [
+      | inl same ↦ subst (IsAskedFor c (s ∷ ws) token) (sym same.1) (asked_now c ws token k0 counter le passes)
+      | inr other ↦ elim next [
+        | inl first ↦ absurd (other.1 (omega (arith, first, lt)))
+        | inr going ↦
+            let below : k < (tables c ws).scan.next = omega (arith, going.0, lt, other.1) in
+            asked_still c s ws token k (subst (λ t. IsAskedFor c ws t k) going.1 (asked.scanned k below))
+      ]
+    ]
+
+counter_asked : (c : Setup) (ws : List WriterStep) (token k0 counter : ℕ) → Asked c ws → token ≤ (tables c ws).token → IsNextChecked (tables c ws).scan token k0 → (b : Bool) → lets_pass token counter ≡ b
+    → ((k : ℕ) → k < cond b (suc k0) 0 → IsAskedFor c (LoadCounter token k0 counter ∷ ws) token k)
+    × ((cond (b && eqb (suc k0) c.workers) (max (tables c ws).passed token) (tables c ws).passed ≡ 0)
+    ⊎ IsChecked c (LoadCounter token k0 counter ∷ ws) (cond (b && eqb (suc k0) c.workers) (max (tables c ws).passed token) (tables c ws).passed))
+counter_asked c ws token k0 counter asked le next false passes = (λ k lt. absurd (omega (arith, lt)), passed_still c (LoadCounter token k0 counter) ws (tables c ws).passed asked.passed)
+counter_asked c ws token k0 counter asked le next true passes =
+    let s : WriterStep = LoadCounter token k0 counter in
+    let w : Tables = tables c ws in
+    let more = scanned_more c ws token k0 counter asked le next passes in (
+      more,
+      elim (eqb_tells (suc k0) c.workers) [
+        | inl last ↦ subst (λ b. (cond b (max w.passed token) w.passed ≡ 0) ⊎ IsChecked c (s ∷ ws) (cond b (max w.passed token) w.passed)) (sym last.0)
+            (elim (cases_lt w.passed token) [
+              | inl greater ↦ inr (record { checked = token; later = omega (arith, greater); each = λ k lt. more k (omega (arith, lt, last.1)) })
+              | inr stays ↦
+                  let same : max w.passed token ≡ w.passed = omega (arith, stays) in
+                  subst (λ n. (n ≡ 0) ⊎ IsChecked c (s ∷ ws) n) (sym same) (passed_still c s ws w.passed asked.passed)
+            ])
+        | inr more_workers ↦ subst (λ b. (cond b (max w.passed token) w.passed ≡ 0) ⊎ IsChecked c (s ∷ ws) (cond b (max w.passed token) w.passed)) (sym more_workers.0) (passed_still c s ws w.passed asked.passed)
+      ],
+    )
+
+asked_more : (c : Setup) (counters : ℕ → ℕ) (ws : List WriterStep) (s : WriterStep) → Asked c ws → MayWrite c counters (tables c ws) s → Asked c (s ∷ ws)
+asked_more c counters ws (StoreFirst i x) asked may = asked_quiet c (StoreFirst i x) ws asked refl refl
+asked_more c counters ws (StoreSecond j x) asked may = asked_quiet c (StoreSecond j x) ws asked refl refl
+asked_more c counters ws (Opens change) asked may = asked_quiet c (Opens change) ws asked refl refl
+asked_more c counters ws Closes asked may = asked_quiet c Closes ws asked refl refl
+asked_more c counters ws BumpToken asked may = asked_quiet c BumpToken ws asked refl refl
+asked_more c counters ws (LoadCounter token k0 counter) asked may =
+    let both = counter_asked c ws token k0 counter asked may.2 may.3 (lets_pass token counter) refl in
+    record { scanned = both.0; passed = both.1 }
+
+asked_trace : (c : Setup) (steps : List TraceStep) → IsTrace c steps → Asked c (writes steps)
+asked_trace c [] trace = record { scanned = λ k lt. absurd (omega (arith, lt)); passed = inl refl }
+asked_trace c (Writer s ∷ steps) trace =
+    asked_more c (λ k. ((after c steps).workers k).counter) (writes steps) s (asked_trace c steps trace.1)
+    (subst (λ w. MayWrite c (λ k. ((after c steps).workers k).counter) w s) (tables_of c steps) trace.0.0)
+asked_trace c (ByWorker k s ∷ steps) trace = asked_trace c steps trace.1
+
+pub passed_is_checked : PassedIsChecked
+passed_is_checked c steps token trace some le =
+    let same : (after c steps).tables.passed ≡ (tables c (writes steps)).passed = ap (λ w. w.passed) (tables_of c steps) in
+    elim (asked_trace c steps trace).passed [
+      | inl none ↦ absurd (omega (arith, none, same, some, le))
+      | inr h ↦ record { checked = h.checked; later = omega (arith, h.later, same, le); each = h.each }
+    ]
