@@ -6,10 +6,11 @@ use Rattle.std.specs.Prelude.{ℕ, ◌≡◌, ◌+◌, replicate, slice_index, s
 use Rattle.std.specs.FinMap.{empty}
 use Rattle.qsbr.specs.Counters.{IsOnline, IsFirstHolding}
 use Rattle.qsbr.specs.Registry.{Registry}
+use Rattle.lpm_limits.specs.declared.busy.Busy.{Busy}
 use Rattle.lpm_limits.specs.declared.config.Config.{Config}
 use Rattle.fib_model.specs.declared.command.Report.{Report}
 use Rattle.fib_model.specs.declared.command.Report.TheVariants.{Online, Offline, Quiescent}
-use Rattle.fib_model.specs.State.{State, Keeping}
+use Rattle.fib_model.specs.State.{State, Transitions, Keeping, looks}
 
 -- the counter after a report
 abbrev pub counter_of : Report → ℕ → ℕ
@@ -17,14 +18,24 @@ counter_of Online token = token
 counter_of Offline token = 0
 counter_of Quiescent token = token
 
--- an unlinking goes by the token that was started for it
-abbrev pub counting : Keeping Registry
+-- the first worker whose counter holds what was given up under this token, and its counter
+abbrev pub IsFirstByCounter : Registry → ℕ → Busy → Type 0
+IsFirstByCounter r token busy = IsFirstHolding token r.counters busy.worker
+    × (busy.counter ≡ slice_index r.counters busy.worker)
+
+-- an unlinking goes by the token that is started for it; else a change leaves token and counters
+abbrev pub counting : Transitions Registry
 counting = record {
-  is_held_by = λ r token busy. IsFirstHolding token r.counters busy.worker
-      × (busy.counter ≡ slice_index r.counters busy.worker);
-  name = λ r. r.token + 1;
-  unlinked = λ r. record r { token = r.token + 1 };
+  checks = looks IsFirstByCounter;
+  begins = λ r z. z ≡ r;
+  unlinks = λ r name z. (name ≡ r.token + 1) × (z ≡ record r { token = r.token + 1 });
+  ends = λ r z. z ≡ r;
   token = λ r. r.token;
+}
+
+abbrev pub by_counters : Keeping Registry
+by_counters = record {
+  changes = counting;
   is_online = λ r w. IsOnline r.counters w;
   told = λ report w r. record r { counters = slice_set r.counters w (counter_of report r.token) };
 }

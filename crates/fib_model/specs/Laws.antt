@@ -1,5 +1,5 @@
 -- Meaning: laws of runs (this project's).
-use Rattle.std.specs.Prelude.{ℕ, ◌≡◌, ◌≢◌, ◌<◌, ◌↔◌, List, length, map, slice_index, All}
+use Rattle.std.specs.Prelude.{ℕ, ◌≡◌, ◌≢◌, ◌<◌, ◌↔◌, List, length, map, slice_index, All, Ok, Err}
 use Rattle.lpm_limits.specs.declared.busy.Busy.{Busy}
 use Rattle.lpm_limits.specs.declared.config.Config.{Config}
 use Rattle.lpm_limits.specs.declared.refusal.Refusal.TheVariants.{Memory}
@@ -9,31 +9,31 @@ use Rattle.fib_model.specs.declared.command.Outcome.TheVariants.{Refused}
 use Rattle.fib_model.specs.declared.event.Event.{Event}
 use Rattle.reader_intervals.specs.Intervals.{IsHeldByWorker}
 use Rattle.fib_model.specs.Intervals.{by_reports}
-use Rattle.fib_model.specs.State.{State, IsUnheld}
+use Rattle.fib_model.specs.State.{State}
 use Rattle.fib_model.specs.Outcomes.{Log, Runs}
-use Rattle.fib_model.specs.Counting.{counting, opened}
-use Rattle.fib_model.specs.Textbook.{textbook, beginning}
+use Rattle.fib_model.specs.Counting.{counting, by_counters, opened}
+use Rattle.fib_model.specs.Textbook.{textbook, by_intervals, beginning}
 use Rattle.fib_model.specs.History.{history, last_of}
 
 -- the rules are the last version, and the updates begun are as many as the versions
 abbrev pub RulesAreLastVersion : Type 0
 RulesAreLastVersion = (first second : ℕ) (c : Config) (log : Log first second)
-    (z : State (List Event)) → Runs (textbook c) first second c beginning log z
+    (z : State (List Event)) → Runs (by_intervals c) first second c beginning log z
     → (z.rules ≡ last_of (history log)) × (z.begun ≡ length (history log))
 
 -- the same of a run by counters
 abbrev pub RulesAreLastVersionByCounters : Type 0
 RulesAreLastVersionByCounters = (first second : ℕ) (c : Config) (log : Log first second)
-    (z : State Registry) → Runs counting first second c (opened c) log z
+    (z : State Registry) → Runs by_counters first second c (opened c) log z
     → (z.rules ≡ last_of (history log)) × (z.begun ≡ length (history log))
 
--- after a run an unlinking has no first holder exactly where no worker's running interval holds it
+-- after a run a check of an unlinking passes exactly where no worker's running interval holds it
 -- (DPDK Programmer's Guide, "RCU Library": memory may be freed once no reader can hold a reference
 -- to it)
 abbrev pub UnheldByNone : Type 0
 UnheldByNone = (first second : ℕ) (c : Config) (log : Log first second) (z : State (List Event))
-    → Runs (textbook c) first second c beginning log z
-    → (place : ℕ) → IsUnheld (textbook c) z.readers place
+    → Runs (by_intervals c) first second c beginning log z
+    → (place : ℕ) → (textbook c).checks z.readers place (Ok tt) z.readers
     ↔ ((w : ℕ) → ¬ IsHeldByWorker by_reports z.readers place w)
 
 -- two runs of the same commands, neither with memory refused, have the same outcomes and leave the
@@ -43,8 +43,8 @@ OutcomesAreUnique = (first second : ℕ) (c : Config) (log log' : Log first seco
     (z z' : State (List Event))
     → map (λ done. done.0) log ≡ map (λ done. done.0) log'
     → All (λ done. done.1 ≢ Refused Memory) log → All (λ done. done.1 ≢ Refused Memory) log'
-    → Runs (textbook c) first second c beginning log z
-    → Runs (textbook c) first second c beginning log' z'
+    → Runs (by_intervals c) first second c beginning log z
+    → Runs (by_intervals c) first second c beginning log' z'
     → (log ≡ log') × (z ≡ z')
 
 -- what counters say and what reader intervals say is the same: of the rules, the versions, the
@@ -54,15 +54,15 @@ pub record Agrees (c : Config) (z : State Registry) (y : State (List Event)) : T
   pub begun : y.begun ≡ z.begun
   pub token : (textbook c).token y.readers ≡ z.readers.token
   pub online : (w : ℕ) → w < c.workers
-      → counting.is_online z.readers w ↔ (textbook c).is_online y.readers w
+      → by_counters.is_online z.readers w ↔ (by_intervals c).is_online y.readers w
   pub waiting : length y.limbo ≡ length z.limbo
   pub held : (place : ℕ) → place < length z.limbo → (busy : Busy)
-      → counting.is_held_by z.readers (slice_index z.limbo place) busy
-      ↔ (textbook c).is_held_by y.readers (slice_index y.limbo place) busy
+      → counting.checks z.readers (slice_index z.limbo place) (Err busy) z.readers
+      ↔ (textbook c).checks y.readers (slice_index y.limbo place) (Err busy) y.readers
 
 -- a run by counters is one by reader intervals, with the same outcomes
 abbrev pub CountersTellIntervals : Type 0
 CountersTellIntervals = (first second : ℕ) (c : Config) (log : Log first second)
     (z : State Registry) → IsConfig c
-    → Runs counting first second c (opened c) log z
-    → (y : State (List Event)) × Runs (textbook c) first second c beginning log y × Agrees c z y
+    → Runs by_counters first second c (opened c) log z
+    → (y : State (List Event)) × Runs (by_intervals c) first second c beginning log y × Agrees c z y

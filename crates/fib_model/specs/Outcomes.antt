@@ -21,7 +21,7 @@ use Rattle.fib_model.specs.declared.command.Outcome.{Outcome}
 use Rattle.fib_model.specs.declared.command.Outcome.TheVariants as outcome
 use Rattle.fib_model.specs.declared.command.Report.{Report}
 use Rattle.fib_model.specs.declared.command.Report.TheVariants.{Online, Offline, Quiescent}
-use Rattle.fib_model.specs.State.{State, Keeping, IsUnheld, IsExhausted, HasTokens}
+use Rattle.fib_model.specs.State.{State, Transitions, Keeping, IsExhausted, HasTokens}
 use Rattle.fib_model.specs.Reclaiming.{Reclaims, Unlinks}
 
 -- the number of deep blocks, each of which has a group
@@ -36,71 +36,84 @@ pub record LacksGroup {X : Type 0} (first second : ℕ) (c : Config) (s : State 
   pub shallow : ¬ IsDeepBlock first second s.rules (block_of second p)
   pub none_free : c.groups ≤ groups_in_use first second s.rules + length s.limbo
 
--- the limbo list after an add, which takes its front where no group is free
-abbrev pub TakesGroup : {X : Type 0} → Keeping X → ℕ → ℕ → Config → State X → Network → List ℕ
-    → Type 0
-TakesGroup k first second c s p left =
-    (LacksGroup first second c s p → (u : ℕ) × IsUnheld k s.readers u × (s.limbo ≡ u ∷ left))
-    × (¬ LacksGroup first second c s p → left ≡ s.limbo)
+-- a group for a new rule: the front of the limbo list, once its check passed, where no group is free
+abbrev pub TakesGroup : {X : Type 0} → Transitions X → ℕ → ℕ → Config → State X → Network → List ℕ
+    → X → Type 0
+TakesGroup t first second c s p left y =
+    (LacksGroup first second c s p
+    → (u : ℕ) × (s.limbo ≡ u ∷ left) × t.checks s.readers u (Ok tt) y)
+    × (¬ LacksGroup first second c s p → (left ≡ s.limbo) × (y ≡ s.readers))
 
 -- the new rule passes the checks before that for a group
-abbrev pub IsNew : {X : Type 0} → Keeping X → Config → State X → Network → Type 0
-IsNew k c s p = (get s.rules p ≡ None) × HasTokens k c s × (len s.rules < c.rules)
+abbrev pub IsNew : {X : Type 0} → Transitions X → Config → State X → Network → Type 0
+IsNew t c s p = (get s.rules p ≡ None) × HasTokens t c s × (len s.rules < c.rules)
 
--- the first worker that holds the front of the limbo list; none where that is empty
-abbrev pub HoldsFront : {X : Type 0} → Keeping X → State X → Option Busy → Type 0
-HoldsFront k s oldest = MatchOption oldest (s.limbo ≡ [])
-    (λ busy. IsSomeAnd (slice_get s.limbo 0) (λ u. k.is_held_by s.readers u busy))
+-- the worker that holds the front of the limbo list, by a check of it; none where that is empty
+abbrev pub HoldsFront : {X : Type 0} → Transitions X → State X → Option Busy → X → Type 0
+HoldsFront t s oldest y = MatchOption oldest ((s.limbo ≡ []) × (y ≡ s.readers))
+    (λ busy. (u : ℕ) × (slice_get s.limbo 0 ≡ Some u) × t.checks s.readers u (Err busy) y)
+
+-- an update begins and ends, and unlinks no group
+abbrev pub Updates : {X : Type 0} → Transitions X → X → X → Type 0
+Updates {X} t x z = (y : X) × t.begins x y × t.ends y z
+
+-- one more update was begun, and R is the rule list that it made
+abbrev pub Makes : {X : Type 0} → State X → RuleMap → State X → Type 0
+Makes s R z = (z.rules ≡ R) × (z.begun ≡ s.begun + 1)
 
 -- adding rule p with next hop h
-abbrev pub Adds : {X : Type 0} → Keeping X → ℕ → ℕ → Config → State X → Network → ℕ
+abbrev pub Adds : {X : Type 0} → Transitions X → ℕ → ℕ → Config → State X → Network → ℕ
     → Result Put Refusal → State X → Type 0
-Adds k first second c s p h (Ok Unchanged) z = (get s.rules p ≡ Some h) × (z ≡ s)
-Adds k first second c s p h (Ok Replaced) z = IsSomeAnd (get s.rules p) (λ old. old ≢ h)
-    × HasTokens k c s × (z ≡ record s { rules = insert s.rules p h; begun = s.begun + 1 })
-Adds k first second c s p h (Ok Added) z = IsNew k c s p
-    × ((left : List ℕ) × TakesGroup k first second c s p left
-    × (z ≡ record s { rules = insert s.rules p h; begun = s.begun + 1; limbo = left }))
-Adds k first second c s p h (Err Exhausted) z =
-    (get s.rules p ≢ Some h) × IsExhausted k c s × (z ≡ s)
-Adds k first second c s p h (Err TooManyRules) z =
-    (get s.rules p ≡ None) × HasTokens k c s × (c.rules ≤ len s.rules) × (z ≡ s)
-Adds k first second c s p h (Err Memory) z = IsNew k c s p × (z ≡ s)
-Adds k first second c s p h (Err (NoGroups oldest)) z =
-    IsNew k c s p × LacksGroup first second c s p × HoldsFront k s oldest × (z ≡ s)
-Adds k first second c s p h (Err refusal) z = ⊥
+Adds t first second c s p h (Ok Unchanged) z = (get s.rules p ≡ Some h) × (z ≡ s)
+Adds t first second c s p h (Ok Replaced) z = IsSomeAnd (get s.rules p) (λ old. old ≢ h)
+    × HasTokens t c s × Updates t s.readers z.readers
+    × Makes s (insert s.rules p h) z × (z.limbo ≡ s.limbo)
+Adds {X} t first second c s p h (Ok Added) z = IsNew t c s p
+    × ((y : X) × TakesGroup t first second c s p z.limbo y × Updates t y z.readers)
+    × Makes s (insert s.rules p h) z
+Adds t first second c s p h (Err Exhausted) z =
+    (get s.rules p ≢ Some h) × IsExhausted t c s × (z ≡ s)
+Adds t first second c s p h (Err TooManyRules) z =
+    (get s.rules p ≡ None) × HasTokens t c s × (c.rules ≤ len s.rules) × (z ≡ s)
+Adds t first second c s p h (Err Memory) z = IsNew t c s p × (z ≡ s)
+Adds t first second c s p h (Err (NoGroups oldest)) z =
+    IsNew t c s p × LacksGroup first second c s p × HoldsFront t s oldest z.readers
+    × (z ≡ record s { readers = z.readers })
+Adds t first second c s p h (Err refusal) z = ⊥
 
 -- a change to fewer rules, R: each block that loses its last rule longer than FIRST bits is
 -- unlinked
-abbrev pub Shrinks : {X : Type 0} → Keeping X → ℕ → ℕ → Config → State X → RuleMap → State X
+abbrev pub Shrinks : {X : Type 0} → Transitions X → ℕ → ℕ → Config → State X → RuleMap → State X
     → Type 0
-Shrinks k first second c s R z = HasTokens k c s
-    × Unlinks k c (groups_in_use first second s.rules - groups_in_use first second R)
-    s.readers s.limbo z.readers z.limbo
-    × (z.rules ≡ R) × (z.begun ≡ s.begun + 1)
+Shrinks {X} t first second c s R z = HasTokens t c s
+    × ((x : X) × (y : X) × t.begins s.readers x
+    × Unlinks t c (groups_in_use first second s.rules - groups_in_use first second R)
+      x s.limbo y z.limbo
+    × t.ends y z.readers)
+    × Makes s R z
 
 -- deleting rule p
-abbrev pub Deletes : {X : Type 0} → Keeping X → ℕ → ℕ → Config → State X → Network
+abbrev pub Deletes : {X : Type 0} → Transitions X → ℕ → ℕ → Config → State X → Network
     → Result ℕ Refusal → State X → Type 0
-Deletes k first second c s p (Ok h) z =
-    (get s.rules p ≡ Some h) × Shrinks k first second c s (remove s.rules p) z
-Deletes k first second c s p (Err NoSuchRule) z = (get s.rules p ≡ None) × (z ≡ s)
-Deletes k first second c s p (Err Exhausted) z =
-    (get s.rules p ≢ None) × IsExhausted k c s × (z ≡ s)
-Deletes k first second c s p (Err refusal) z = ⊥
+Deletes t first second c s p (Ok h) z =
+    (get s.rules p ≡ Some h) × Shrinks t first second c s (remove s.rules p) z
+Deletes t first second c s p (Err NoSuchRule) z = (get s.rules p ≡ None) × (z ≡ s)
+Deletes t first second c s p (Err Exhausted) z =
+    (get s.rules p ≢ None) × IsExhausted t c s × (z ≡ s)
+Deletes t first second c s p (Err refusal) z = ⊥
 
 -- taking all rules out
-abbrev pub Flushes : {X : Type 0} → Keeping X → ℕ → ℕ → Config → State X → Result ℕ Refusal
+abbrev pub Flushes : {X : Type 0} → Transitions X → ℕ → ℕ → Config → State X → Result ℕ Refusal
     → State X → Type 0
-Flushes k first second c s (Ok n) z = (n ≡ len s.rules)
-    × (n ≡ 0 → z ≡ s) × (0 < n → Shrinks k first second c s empty z)
-Flushes k first second c s (Err Exhausted) z = (0 < len s.rules) × IsExhausted k c s × (z ≡ s)
-Flushes k first second c s (Err refusal) z = ⊥
+Flushes t first second c s (Ok n) z = (n ≡ len s.rules)
+    × (n ≡ 0 → z ≡ s) × (0 < n → Shrinks t first second c s empty z)
+Flushes t first second c s (Err Exhausted) z = (0 < len s.rules) × IsExhausted t c s × (z ≡ s)
+Flushes t first second c s (Err refusal) z = ⊥
 
 -- a reclaim of at most `max`
-abbrev pub Frees : {X : Type 0} → Keeping X → State X → ℕ → Reclaimed → State X → Type 0
-Frees k s max r z = Reclaims k s.readers max s.limbo r.freed r.stopped z.limbo
-    × (z ≡ record s { limbo = z.limbo })
+abbrev pub Frees : {X : Type 0} → Transitions X → State X → ℕ → Reclaimed → State X → Type 0
+Frees t s max r z = Reclaims t s.readers max s.limbo r.freed r.stopped z.limbo z.readers
+    × (z ≡ record s { readers = z.readers; limbo = z.limbo })
 
 -- the report may be made by this worker
 abbrev pub MayReport : {X : Type 0} → Keeping X → State X → Report → ℕ → Type 0
@@ -127,13 +140,16 @@ Reports k c s report w other z = ⊥
 -- a command came out so, and left z
 abbrev pub Does : {X : Type 0} → Keeping X → (first second : ℕ) → Config → State X
     → Command first second → Outcome → State X → Type 0
-Does k f g c s (command.Add p h) (outcome.Put put) z = Adds k f g c s p h (Ok put) z
-Does k f g c s (command.Add p h) (outcome.Refused refusal) z = Adds k f g c s p h (Err refusal) z
-Does k f g c s (command.Delete p) (outcome.Deleted h) z = Deletes k f g c s p (Ok h) z
-Does k f g c s (command.Delete p) (outcome.Refused refusal) z = Deletes k f g c s p (Err refusal) z
-Does k f g c s command.Flush (outcome.Flushed n) z = Flushes k f g c s (Ok n) z
-Does k f g c s command.Flush (outcome.Refused refusal) z = Flushes k f g c s (Err refusal) z
-Does k f g c s (command.Reclaim max) (outcome.Reclaimed r) z = Frees k s max r z
+Does k f g c s (command.Add p h) (outcome.Put put) z = Adds k.changes f g c s p h (Ok put) z
+Does k f g c s (command.Add p h) (outcome.Refused refusal) z =
+    Adds k.changes f g c s p h (Err refusal) z
+Does k f g c s (command.Delete p) (outcome.Deleted h) z = Deletes k.changes f g c s p (Ok h) z
+Does k f g c s (command.Delete p) (outcome.Refused refusal) z =
+    Deletes k.changes f g c s p (Err refusal) z
+Does k f g c s command.Flush (outcome.Flushed n) z = Flushes k.changes f g c s (Ok n) z
+Does k f g c s command.Flush (outcome.Refused refusal) z =
+    Flushes k.changes f g c s (Err refusal) z
+Does k f g c s (command.Reclaim max) (outcome.Reclaimed r) z = Frees k.changes s max r z
 Does k f g c s (command.Report report w) outcome z = Reports k c s report w outcome z
 Does k f g c s other outcome z = ⊥
 

@@ -10,7 +10,7 @@ use Rattle.fib_model.specs.declared.event.Event.{Event}
 use Rattle.fib_model.specs.declared.event.Event.TheVariants.{Online, Offline, Quiescent, Unlinking}
 use Rattle.reader_intervals.specs.Intervals.{IsRunningSince, IsHeldByWorker}
 use Rattle.fib_model.specs.Intervals.{by_reports, unlinkings_before, unlinkings}
-use Rattle.fib_model.specs.State.{State, Keeping}
+use Rattle.fib_model.specs.State.{State, Transitions, Keeping, looks}
 
 -- the least worker whose running interval holds the unlinking at this place, with the token number
 -- at that interval's beginning; the first token is `token`
@@ -25,13 +25,20 @@ event_of report.Online w = Online w
 event_of report.Offline w = Offline w
 event_of report.Quiescent w = Quiescent w
 
--- an unlinking goes by its place; the token number counts the unlinkings from the first token on
-abbrev pub textbook : Config → Keeping (List Event)
+-- an unlinking is one more event, and goes by its place; else a change leaves the events; the
+-- token number counts the unlinkings from the first token on
+abbrev pub textbook : Config → Transitions (List Event)
 textbook c = record {
-  is_held_by = IsFirstHolder c.first_token;
-  name = length;
-  unlinked = λ events. Unlinking ∷ events;
+  checks = looks (IsFirstHolder c.first_token);
+  begins = λ events z. z ≡ events;
+  unlinks = λ events name z. (name ≡ length events) × (z ≡ Unlinking ∷ events);
+  ends = λ events z. z ≡ events;
   token = λ events. c.first_token + unlinkings events;
+}
+
+abbrev pub by_intervals : Config → Keeping (List Event)
+by_intervals c = record {
+  changes = textbook c;
   is_online = λ events w. (start : ℕ) × IsRunningSince by_reports events w start;
   told = λ report w events. event_of report w ∷ events;
 }
