@@ -25,10 +25,12 @@ use Rattle.fib_model.specs.declared.event.Event.{Event}
 use Rattle.reader_intervals.specs.Intervals.{IsRunningSince}
 use Rattle.fib_model.specs.Intervals.{by_reports}
 use Rattle.fib_model.specs.State.{State, IsExhausted, HasTokens}
-use Rattle.fib_model.specs.Outcomes.{groups_in_use, LacksGroup, TakesGroup, IsNew, Adds, Shrinks, Deletes, Flushes, Frees, MayReport, Reports, Does, Log, Runs}
-use Rattle.fib_model.specs.Counting.{counting, opened}
-use Rattle.fib_model.specs.Textbook.{textbook, beginning, event_of}
+use Rattle.fib_model.specs.Outcomes.{LacksGroup, IsNew, MayReport, Reports, Does, Log, Runs}
+use Rattle.fib_model.specs.Counting.{counting, by_counters, opened}
+use Rattle.fib_model.specs.Textbook.{textbook, by_intervals, beginning, event_of}
 use Rattle.fib_model.specs.Laws.{Agrees, CountersTellIntervals}
+use Rattle.fib_model.proofs.Frozen.{TakesGroup, Adds, Shrinks, Deletes, Flushes, Frees, counted, listed, lacks_or_not}
+use Rattle.fib_model.proofs.Frozen.{adds_frozen, adds_moving, deletes_frozen, deletes_moving, flushes_frozen, flushes_moving, frees_frozen, frees_moving}
 use Rattle.fib_model.proofs.Holders.{Shows, IsName, online, held, unheld, shows_opened, shows_told}
 use Rattle.fib_model.proofs.Names.{Names, names_length, names_at, names_get, names_newer, reclaims, unlinks}
 
@@ -65,24 +67,6 @@ lacks f g c s E ps p tells =
       (λ h. let none = h.none_free in record { absent = h.absent; long = h.long; shallow = h.shallow; none_free = omega (arith, none, size) }),
     )
 
-deep_or_not : (f g : ℕ) (R : RuleMap) (block : ℕ) → IsDeepBlock f g R block ⊎ (IsDeepBlock f g R block → ⊥)
-deep_or_not f g R block = elim (cases_Bool (set.contains (deep_blocks f g R) block)) [
-  | inl has ↦ inl ((has_deep_blocks f g R block).0 has)
-  | inr lacking ↦ inr (λ deep. let is = (has_deep_blocks f g R block).1 deep in cc)
-]
-
-pub lacks_or_not : {X : Type 0} (f g : ℕ) (c : Config) (s : State X) (p : Network) → get s.rules p ≡ None → LacksGroup f g c s p ⊎ (LacksGroup f g c s p → ⊥)
-lacks_or_not f g c s p absent = elim (cases_lt f p.len) [
-  | inr short ↦ inr (λ h. let long = h.long in absurd (omega (arith, long, short)))
-  | inl long ↦ elim (deep_or_not f g s.rules (block_of g p)) [
-    | inl deep ↦ inr (λ h. h.shallow deep)
-    | inr shallow ↦ elim (cases_lt (groups_in_use f g s.rules + length s.limbo) c.groups) [
-      | inl free ↦ inr (λ h. let none = h.none_free in absurd (omega (arith, none, free)))
-      | inr none ↦ inl record { absent = absent; long = long; shallow = shallow; none_free = none }
-    ]
-  ]
-]
-
 -- ---- adding
 
 front_of : (first : ℕ) (E : List Event) (t : ℕ) (ts ps : List ℕ) → Names first E (t ∷ ts) ps → (p : ℕ) × (rest : List ℕ) × (ps ≡ p ∷ rest) × IsName first E t p × Names first E ts rest
@@ -93,8 +77,8 @@ none_of : (first : ℕ) (E : List Event) (ps : List ℕ) → Names first E [] ps
 none_of first E [] names = refl
 none_of first E (p ∷ ps) names = absurd names
 
-takes : (f g : ℕ) (c : Config) (s : State Registry) (E : List Event) (ps : List ℕ) (p : Network) (left : List ℕ) → get s.rules p ≡ None → Tells c s E ps → TakesGroup counting f g c s p left
-    → (rest : List ℕ) × TakesGroup (textbook c) f g c (by_events s E ps) p rest × Names c.first_token E left rest
+takes : (f g : ℕ) (c : Config) (s : State Registry) (E : List Event) (ps : List ℕ) (p : Network) (left : List ℕ) → get s.rules p ≡ None → Tells c s E ps → TakesGroup counted f g c s p left
+    → (rest : List ℕ) × TakesGroup (listed c) f g c (by_events s E ps) p rest × Names c.first_token E left rest
 takes f g c s E ps p left absent tells d =
     let same = lacks f g c s E ps p tells in
     elim (lacks_or_not f g c s p absent) [
@@ -112,15 +96,15 @@ takes f g c s E ps p left absent tells d =
     ]
 
 oldest_held : (c : Config) (s : State Registry) (E : List Event) (ps : List ℕ) (oldest : Option Busy) → Tells c s E ps
-    → MatchOption oldest (s.limbo ≡ []) (λ busy. IsSomeAnd (slice_get s.limbo 0) (λ u. counting.is_held_by s.readers u busy))
-    → MatchOption oldest (ps ≡ []) (λ busy. IsSomeAnd (slice_get ps 0) (λ u. (textbook c).is_held_by E u busy))
+    → MatchOption oldest (s.limbo ≡ []) (λ busy. IsSomeAnd (slice_get s.limbo 0) (λ u. counted.is_held_by s.readers u busy))
+    → MatchOption oldest (ps ≡ []) (λ busy. IsSomeAnd (slice_get ps 0) (λ u. (listed c).is_held_by E u busy))
 oldest_held c s E ps None tells h = none_of c.first_token E ps (subst (λ l. Names c.first_token E l ps) h tells.1)
 oldest_held c s E ps (Some busy) tells h =
-    names_get c.first_token E (λ t. counting.is_held_by s.readers t busy) (λ p. (textbook c).is_held_by E p busy)
+    names_get c.first_token E (λ t. counted.is_held_by s.readers t busy) (λ p. (listed c).is_held_by E p busy)
     (λ t p name. (held c s.readers E t p busy tells.0 name).0) s.limbo ps 0 tells.1 h
 
 adds : (f g : ℕ) (c : Config) (s z : State Registry) (E : List Event) (ps : List ℕ) (p : Network) (h : ℕ) (r : Result Put Refusal) → Tells c s E ps
-    → Adds counting f g c s p h r z → Follows c z (Adds (textbook c) f g c (by_events s E ps) p h r)
+    → Adds counted f g c s p h r z → Follows c z (Adds (listed c) f g c (by_events s E ps) p h r)
 adds f g c s z E ps p h (Ok Unchanged) tells d = (E, ps, (d.0, ap (λ x. by_events x E ps) d.1), keeps c s z E ps tells d.1)
 adds f g c s z E ps p h (Ok Replaced) tells d =
     (E, ps, (d.0, tokens c s E ps tells d.1, ap (λ x. by_events x E ps) d.2), subst (λ x. Tells c x E ps) (sym d.2) tells)
@@ -137,20 +121,20 @@ adds f g c s z E ps p h (Err other) tells d = absurd d
 -- ---- deleting, flushing, reclaiming
 
 shrinks : (f g : ℕ) (c : Config) (s z : State Registry) (E : List Event) (ps : List ℕ) (R : RuleMap) → Tells c s E ps
-    → Shrinks counting f g c s R z → Follows c z (Shrinks (textbook c) f g c (by_events s E ps) R)
+    → Shrinks counted f g c s R z → Follows c z (Shrinks (listed c) f g c (by_events s E ps) R)
 shrinks f g c s z E ps R tells d =
     let is = unlinks c _ s.readers E s.limbo ps z.readers z.limbo tells.0 tells.1 d.1 in
     (is.0, is.1, (tokens c s E ps tells d.0, is.2, d.2, d.3), (is.3, is.4))
 
 deletes : (f g : ℕ) (c : Config) (s z : State Registry) (E : List Event) (ps : List ℕ) (p : Network) (r : Result ℕ Refusal) → Tells c s E ps
-    → Deletes counting f g c s p r z → Follows c z (Deletes (textbook c) f g c (by_events s E ps) p r)
+    → Deletes counted f g c s p r z → Follows c z (Deletes (listed c) f g c (by_events s E ps) p r)
 deletes f g c s z E ps p (Ok h) tells d = let is = shrinks f g c s z E ps _ tells d.1 in (is.0, is.1, (d.0, is.2), is.3)
 deletes f g c s z E ps p (Err NoSuchRule) tells d = (E, ps, (d.0, ap (λ x. by_events x E ps) d.1), keeps c s z E ps tells d.1)
 deletes f g c s z E ps p (Err Exhausted) tells d = (E, ps, (d.0, exhausted c s E ps tells d.1, ap (λ x. by_events x E ps) d.2), keeps c s z E ps tells d.2)
 deletes f g c s z E ps p (Err other) tells d = absurd d
 
 flushes : (f g : ℕ) (c : Config) (s z : State Registry) (E : List Event) (ps : List ℕ) (r : Result ℕ Refusal) → Tells c s E ps
-    → Flushes counting f g c s r z → Follows c z (Flushes (textbook c) f g c (by_events s E ps) r)
+    → Flushes counted f g c s r z → Follows c z (Flushes (listed c) f g c (by_events s E ps) r)
 flushes f g c s z E ps (Ok zero) tells d =
     (E, ps, (d.0, (λ none. ap (λ x. by_events x E ps) (d.1 none)), (λ some. absurd (omega (arith, some)))), keeps c s z E ps tells (d.1 refl))
 flushes f g c s z E ps (Ok (suc n)) tells d =
@@ -160,7 +144,7 @@ flushes f g c s z E ps (Err Exhausted) tells d = (E, ps, (d.0, exhausted c s E p
 flushes f g c s z E ps (Err other) tells d = absurd d
 
 frees : (c : Config) (s z : State Registry) (E : List Event) (ps : List ℕ) (max : ℕ) (r : Reclaimed) → Tells c s E ps
-    → Frees counting s max r z → Follows c z (Frees (textbook c) (by_events s E ps) max r)
+    → Frees counted s max r z → Follows c z (Frees (listed c) (by_events s E ps) max r)
 frees c s z E ps max r tells d =
     let is = reclaims c s.readers E max s.limbo ps r.freed r.stopped z.limbo tells.0 tells.1 d.0 in
     (E, drop r.freed ps, (is.0, ap (λ x. by_events x E (drop r.freed ps)) d.1), (subst (λ x. Shows c x E) (sym (ap (λ x. x.readers) d.1)) tells.0, is.1))
@@ -168,20 +152,20 @@ frees c s z E ps max r tells d =
 -- ---- reports
 
 may : (c : Config) (s : State Registry) (E : List Event) (ps : List ℕ) (report : Report) (w : ℕ) → Tells c s E ps → w < c.workers
-    → MayReport counting s report w ↔ MayReport (textbook c) (by_events s E ps) report w
+    → MayReport by_counters s report w ↔ MayReport (by_intervals c) (by_events s E ps) report w
 may c s E ps kinds.Online w tells low =
     let is = online c s.readers E w tells.0 low in
     ((λ h k. h (is.1 k)), (λ h k. h (is.0 k)))
 may c s E ps kinds.Offline w tells low = online c s.readers E w tells.0 low
 may c s E ps kinds.Quiescent w tells low = online c s.readers E w tells.0 low
 
-pub fresh : (c : Config) (s : State (List Event)) (report : Report) (w : ℕ) → MayReport (textbook c) s report w → report ≡ kinds.Online → (start : ℕ) → IsRunningSince by_reports s.readers w start → ⊥
+pub fresh : (c : Config) (s : State (List Event)) (report : Report) (w : ℕ) → MayReport (by_intervals c) s report w → report ≡ kinds.Online → (start : ℕ) → IsRunningSince by_reports s.readers w start → ⊥
 fresh c s kinds.Online w may is start r = may (start, r)
 fresh c s kinds.Offline w may is start r = cc
 fresh c s kinds.Quiescent w may is start r = cc
 
 reports : (c : Config) (s z : State Registry) (E : List Event) (ps : List ℕ) (report : Report) (w : ℕ) (o : Outcome) → Tells c s E ps
-    → Reports counting c s report w o z → Follows c z (Reports (textbook c) c (by_events s E ps) report w o)
+    → Reports by_counters c s report w o z → Follows c z (Reports (by_intervals c) c (by_events s E ps) report w o)
 reports c s z E ps report w outcome.Told tells d =
     let can = (may c s E ps report w tells d.0).0 d.1 in (
       event_of report w ∷ E,
@@ -200,22 +184,36 @@ reports c s z E ps report w other tells d = absurd d
 -- ---- runs
 
 step : (f g : ℕ) (c : Config) (s z : State Registry) (E : List Event) (ps : List ℕ) (command : Command f g) (outcome : Outcome) → Tells c s E ps
-    → Does counting f g c s command outcome z → Follows c z (Does (textbook c) f g c (by_events s E ps) command outcome)
-step f g c s z E ps (command.Add p h) (outcome.Put put) tells d = adds f g c s z E ps p h (Ok put) tells d
-step f g c s z E ps (command.Add p h) (outcome.Refused refusal) tells d = adds f g c s z E ps p h (Err refusal) tells d
+    → Does by_counters f g c s command outcome z → Follows c z (Does (by_intervals c) f g c (by_events s E ps) command outcome)
+step f g c s z E ps (command.Add p h) (outcome.Put put) tells d =
+    let is = adds f g c s z E ps p h (Ok put) tells (adds_frozen counted f g c s z p h (Ok put) d) in
+    (is.0, is.1, adds_moving (listed c) f g c (by_events s E ps) (by_events z is.0 is.1) p h (Ok put) is.2, is.3)
+step f g c s z E ps (command.Add p h) (outcome.Refused refusal) tells d =
+    let is = adds f g c s z E ps p h (Err refusal) tells (adds_frozen counted f g c s z p h (Err refusal) d) in
+    (is.0, is.1, adds_moving (listed c) f g c (by_events s E ps) (by_events z is.0 is.1) p h (Err refusal) is.2, is.3)
 step f g c s z E ps (command.Add p h) other tells d = absurd d
-step f g c s z E ps (command.Delete p) (outcome.Deleted h) tells d = deletes f g c s z E ps p (Ok h) tells d
-step f g c s z E ps (command.Delete p) (outcome.Refused refusal) tells d = deletes f g c s z E ps p (Err refusal) tells d
+step f g c s z E ps (command.Delete p) (outcome.Deleted h) tells d =
+    let is = deletes f g c s z E ps p (Ok h) tells (deletes_frozen counted f g c s z p (Ok h) d) in
+    (is.0, is.1, deletes_moving (listed c) f g c (by_events s E ps) (by_events z is.0 is.1) p (Ok h) is.2, is.3)
+step f g c s z E ps (command.Delete p) (outcome.Refused refusal) tells d =
+    let is = deletes f g c s z E ps p (Err refusal) tells (deletes_frozen counted f g c s z p (Err refusal) d) in
+    (is.0, is.1, deletes_moving (listed c) f g c (by_events s E ps) (by_events z is.0 is.1) p (Err refusal) is.2, is.3)
 step f g c s z E ps (command.Delete p) other tells d = absurd d
-step f g c s z E ps command.Flush (outcome.Flushed n) tells d = flushes f g c s z E ps (Ok n) tells d
-step f g c s z E ps command.Flush (outcome.Refused refusal) tells d = flushes f g c s z E ps (Err refusal) tells d
+step f g c s z E ps command.Flush (outcome.Flushed n) tells d =
+    let is = flushes f g c s z E ps (Ok n) tells (flushes_frozen counted f g c s z (Ok n) d) in
+    (is.0, is.1, flushes_moving (listed c) f g c (by_events s E ps) (by_events z is.0 is.1) (Ok n) is.2, is.3)
+step f g c s z E ps command.Flush (outcome.Refused refusal) tells d =
+    let is = flushes f g c s z E ps (Err refusal) tells (flushes_frozen counted f g c s z (Err refusal) d) in
+    (is.0, is.1, flushes_moving (listed c) f g c (by_events s E ps) (by_events z is.0 is.1) (Err refusal) is.2, is.3)
 step f g c s z E ps command.Flush other tells d = absurd d
-step f g c s z E ps (command.Reclaim max) (outcome.Reclaimed r) tells d = frees c s z E ps max r tells d
+step f g c s z E ps (command.Reclaim max) (outcome.Reclaimed r) tells d =
+    let is = frees c s z E ps max r tells (frees_frozen counted s z max r d) in
+    (is.0, is.1, frees_moving (listed c) (by_events s E ps) (by_events z is.0 is.1) max r is.2, is.3)
 step f g c s z E ps (command.Reclaim max) other tells d = absurd d
 step f g c s z E ps (command.Report report w) o tells d = reports c s z E ps report w o tells d
 
-followed : (f g : ℕ) (c : Config) (log : Log f g) (z : State Registry) → 1 ≤ c.first_token → Runs counting f g c (opened c) log z
-    → Follows c z (Runs (textbook c) f g c beginning log)
+followed : (f g : ℕ) (c : Config) (log : Log f g) (z : State Registry) → 1 ≤ c.first_token → Runs by_counters f g c (opened c) log z
+    → Follows c z (Runs (by_intervals c) f g c beginning log)
 followed f g c [] z first r = ([], [], ap (λ x. by_events x [] []) r, subst (λ x. Tells c x [] []) (sym r) (shows_opened c first, tt))
 followed f g c (done ∷ log) z first r =
     let before = followed f g c log r.0 first r.1 in
@@ -229,7 +227,9 @@ agrees c z E ps tells = record {
   token = tells.0.token;
   online = λ w low. online c z.readers E w tells.0 low;
   waiting = names_length c.first_token E z.limbo ps tells.1;
-  held = λ place low busy. held c z.readers E _ _ busy tells.0 (names_at c.first_token E z.limbo ps place 0 0 tells.1 low);
+  held = λ place low busy.
+      let is = held c z.readers E _ _ busy tells.0 (names_at c.first_token E z.limbo ps place 0 0 tells.1 low) in
+      ((λ h. (is.0 h.0, refl)), (λ h. (is.1 h.0, refl)));
 }
 
 pub counters_tell_intervals : CountersTellIntervals

@@ -16,9 +16,9 @@ use Rattle.reader_intervals.specs.Intervals.{IsRunningSince, IsHeldByWorker}
 use Rattle.fib_model.specs.Intervals.{begins, ends, by_reports, is_unlinking, unlinkings_before, unlinkings}
 use Rattle.reader_intervals.proofs.Places.{at_new, at_old, at_within, before_mono, before_old, before_next, count_more, count_same}
 use Rattle.reader_intervals.proofs.Running.{since_within, since_new, since_kept, since_cases, held_start, start_held}
-use Rattle.fib_model.specs.State.{IsUnheld}
-use Rattle.fib_model.specs.Counting.{counting, counter_of, opened}
-use Rattle.fib_model.specs.Textbook.{textbook, event_of}
+use Rattle.fib_model.specs.Counting.{by_counters, counter_of, opened}
+use Rattle.fib_model.specs.Textbook.{event_of}
+use Rattle.fib_model.proofs.Frozen.{IsUnheld, counted, listed}
 
 -- the one running interval of worker w, and the token number at its beginning
 pub record IsOn (first : ℕ) (E : List Event) (w counter start : ℕ) : Type 0 where
@@ -172,7 +172,7 @@ counter_at c r E w start shows runs = elim (cases_lt w c.workers) [
 
 -- by counters and by intervals the same worker is the first that holds the unlinking
 pub held : (c : Config) (r : Registry) (E : List Event) (token place : ℕ) (busy : Busy) → Shows c r E → IsName c.first_token E token place
-    → counting.is_held_by r token busy ↔ (textbook c).is_held_by E place busy
+    → counted.is_held_by r token busy ↔ (listed c).is_held_by E place busy
 held c r E token place busy shows name = (
   (λ h. record {
     holds = (holding c r E token place busy.worker shows name).0 h.0.holds;
@@ -198,7 +198,7 @@ held c r E token place busy shows name = (
 )
 
 pub unheld : (c : Config) (r : Registry) (E : List Event) (token place : ℕ) → Shows c r E → IsName c.first_token E token place
-    → IsUnheld counting r token → IsUnheld (textbook c) E place
+    → IsUnheld counted r token → IsUnheld (listed c) E place
 unheld c r E token place shows name none busy h = none busy ((held c r E token place busy shows name).1 h)
 
 -- ---- the beginning, an unlinking, a report
@@ -212,7 +212,7 @@ shows_opened c first = record {
   others = λ w s high r. r.begins;
 }
 
-pub shows_unlinked : (c : Config) (r : Registry) (E : List Event) → Shows c r E → Shows c (counting.unlinked r) (Unlinking ∷ E)
+pub shows_unlinked : (c : Config) (r : Registry) (E : List Event) → Shows c r E → Shows c (counted.unlinked r) (Unlinking ∷ E)
 shows_unlinked c r E shows = record {
   first = shows.first;
   token = let more = count_more is_unlinking Unlinking E refl in let is = shows.token in omega (arith, more, is);
@@ -247,7 +247,7 @@ is_report kinds.Offline w = refl
 is_report kinds.Quiescent w = refl
 
 pub shows_told : (c : Config) (r : Registry) (E : List Event) (report : Report) (w : ℕ) → Shows c r E → w < c.workers → (report ≡ kinds.Online → (s : ℕ) → IsRunningSince by_reports E w s → ⊥)
-    → Shows c (counting.told report w r) (event_of report w ∷ E)
+    → Shows c (by_counters.told report w r) (event_of report w ∷ E)
 shows_told c r E report w shows low fresh =
     let many = shows.workers in
     let in_range : w < length r.counters = omega (arith, many, low) in
@@ -271,7 +271,7 @@ shows_told c r E report w shows low fresh =
 
 -- ---- names
 
-pub name_new : (c : Config) (r : Registry) (E : List Event) → Shows c r E → IsName c.first_token (Unlinking ∷ E) (counting.name r) ((textbook c).name E)
+pub name_new : (c : Config) (r : Registry) (E : List Event) → Shows c r E → IsName c.first_token (Unlinking ∷ E) (counted.name r) ((listed c).name E)
 name_new c r E shows = record {
   unlinking = at_new Unlinking E;
   token_is = let more = count_more is_unlinking Unlinking E refl in let is = shows.token in omega (arith, more, is);

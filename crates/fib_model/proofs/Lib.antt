@@ -1,3 +1,4 @@
+pub mod Frozen
 pub mod Versions
 pub mod Holders
 pub mod Names

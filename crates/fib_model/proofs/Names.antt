@@ -6,9 +6,7 @@ use Rattle.lpm_limits.specs.declared.busy.Busy.{Busy}
 use Rattle.lpm_limits.specs.declared.config.Config.{Config}
 use Rattle.fib_model.specs.declared.event.Event.{Event}
 use Rattle.fib_model.specs.declared.event.Event.TheVariants.{Unlinking}
-use Rattle.fib_model.specs.Reclaiming.{Reclaims, MakesRoom, Unlinks}
-use Rattle.fib_model.specs.Counting.{counting}
-use Rattle.fib_model.specs.Textbook.{textbook}
+use Rattle.fib_model.proofs.Frozen.{Reclaims, MakesRoom, Unlinks, counted, listed}
 use Rattle.fib_model.proofs.Holders.{Shows, IsName, held, unheld, shows_unlinked, name_new, name_newer}
 
 -- the tokens of the one list are those of the places of the other
@@ -66,18 +64,18 @@ names_get first E P Q leads (t ∷ ts) (p ∷ ps) (suc i) n some = names_get fir
 -- ---- reclaims
 
 reclaim_end : (c : Config) (r : Registry) (E : List Event) (max : ℕ) (ts ps : List ℕ) (freed : ℕ) (stopped : Option Busy) → Shows c r E → Names c.first_token E ts ps
-    → MatchOption stopped ((freed ≡ max) ⊎ (freed ≡ length ts)) (λ busy. (freed < max) × IsSomeAnd (slice_get ts freed) (λ u. counting.is_held_by r u busy))
-    → MatchOption stopped ((freed ≡ max) ⊎ (freed ≡ length ps)) (λ busy. (freed < max) × IsSomeAnd (slice_get ps freed) (λ u. (textbook c).is_held_by E u busy))
+    → MatchOption stopped ((freed ≡ max) ⊎ (freed ≡ length ts)) (λ busy. (freed < max) × IsSomeAnd (slice_get ts freed) (λ u. counted.is_held_by r u busy))
+    → MatchOption stopped ((freed ≡ max) ⊎ (freed ≡ length ps)) (λ busy. (freed < max) × IsSomeAnd (slice_get ps freed) (λ u. (listed c).is_held_by E u busy))
 reclaim_end c r E max ts ps freed None shows names (inl all) = inl all
 reclaim_end c r E max ts ps freed None shows names (inr all) = inr (all ∙ sym (names_length c.first_token E ts ps names))
 reclaim_end c r E max ts ps freed (Some busy) shows names end = (
   end.0,
-  names_get c.first_token E (λ t. counting.is_held_by r t busy) (λ p. (textbook c).is_held_by E p busy)
+  names_get c.first_token E (λ t. counted.is_held_by r t busy) (λ p. (listed c).is_held_by E p busy)
       (λ t p name. (held c r E t p busy shows name).0) ts ps freed names end.1,
 )
 
 pub reclaims : (c : Config) (r : Registry) (E : List Event) (max : ℕ) (ts ps : List ℕ) (freed : ℕ) (stopped : Option Busy) (left : List ℕ) → Shows c r E → Names c.first_token E ts ps
-    → Reclaims counting r max ts freed stopped left → Reclaims (textbook c) E max ps freed stopped (drop freed ps) × Names c.first_token E left (drop freed ps)
+    → Reclaims counted r max ts freed stopped left → Reclaims (listed c) E max ps freed stopped (drop freed ps) × Names c.first_token E left (drop freed ps)
 reclaims c r E max ts ps freed stopped left shows names d =
     let size = names_length c.first_token E ts ps names in
     let front = names_take c.first_token E freed ts ps names in
@@ -96,7 +94,7 @@ reclaims c r E max ts ps freed stopped left shows names d =
     )
 
 pub makes_room : (c : Config) (r : Registry) (E : List Event) (ts ps left : List ℕ) → Shows c r E → Names c.first_token E ts ps
-    → MakesRoom counting c r ts left → (rest : List ℕ) × MakesRoom (textbook c) c E ps rest × Names c.first_token E left rest
+    → MakesRoom counted c r ts left → (rest : List ℕ) × MakesRoom (listed c) c E ps rest × Names c.first_token E left rest
 makes_room c r E ts ps left shows names d =
     let size = names_length c.first_token E ts ps names in
     elim (cases_lt c.threshold (length ts)) [
@@ -109,12 +107,18 @@ makes_room c r E ts ps left shows names d =
 
 -- the unlinkings by tokens are unlinkings by places
 pub unlinks : (c : Config) (n : ℕ) (r : Registry) (E : List Event) (ts ps : List ℕ) (r' : Registry) (ts' : List ℕ) → Shows c r E → Names c.first_token E ts ps
-    → Unlinks counting c n r ts r' ts' → (E' : List Event) × (ps' : List ℕ) × Unlinks (textbook c) c n E ps E' ps' × Shows c r' E' × Names c.first_token E' ts' ps'
+    → Unlinks counted c n r ts r' ts' → (E' : List Event) × (ps' : List ℕ) × Unlinks (listed c) c n E ps E' ps' × Shows c r' E' × Names c.first_token E' ts' ps'
 unlinks c zero r E ts ps r' ts' shows names d =
     (E, ps, (refl, refl), subst (λ x. Shows c x E) (sym d.0) shows, subst (λ l. Names c.first_token E l ps) (sym d.1) names)
 unlinks c (suc n) r E ts ps r' ts' shows names d =
-    let now = shows_unlinked c r E shows in
-    let room = makes_room c (counting.unlinked r) (Unlinking ∷ E) ts ps d.0 now (names_newer c.first_token Unlinking E ts ps names) d.1 in
-    let rest = unlinks c n (counting.unlinked r) (Unlinking ∷ E) (d.0 ++ counting.name r ∷ []) (room.0 ++ (textbook c).name E ∷ []) r' ts' now
-    (names_last c.first_token (Unlinking ∷ E) d.0 room.0 (counting.name r) ((textbook c).name E) room.2 (name_new c r E shows)) d.2 in
-    (rest.0, rest.1, (room.0, room.1, rest.2), rest.3, rest.4)
+    let before = unlinks c n r E ts ps d.0 d.1 shows names d.3 in
+    let F = before.0 in
+    let now = shows_unlinked c d.0 F before.3 in
+    let room = makes_room c (counted.unlinked d.0) (Unlinking ∷ F) d.1 before.1 d.2 now (names_newer c.first_token Unlinking F d.1 before.1 before.4) d.4 in
+    let last = names_last c.first_token (Unlinking ∷ F) d.2 room.0 (counted.name d.0) ((listed c).name F) room.2 (name_new c d.0 F before.3) in (
+      Unlinking ∷ F,
+      room.0 ++ (listed c).name F ∷ [],
+      (F, before.1, room.0, before.2, room.1, refl, refl),
+      subst (λ x. Shows c x (Unlinking ∷ F)) (sym d.5) now,
+      subst (λ l. Names c.first_token (Unlinking ∷ F) l (room.0 ++ (listed c).name F ∷ [])) (sym d.6) last,
+    )

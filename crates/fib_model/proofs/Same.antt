@@ -17,11 +17,12 @@ use Rattle.fib_model.specs.declared.command.Outcome.{Outcome}
 use Rattle.fib_model.specs.declared.command.Outcome.TheVariants as outcome
 use Rattle.fib_model.specs.declared.command.Report.{Report}
 use Rattle.fib_model.specs.declared.event.Event.{Event}
-use Rattle.fib_model.specs.State.{State, IsUnheld, IsExhausted, HasTokens}
-use Rattle.fib_model.specs.Outcomes.{LacksGroup, TakesGroup, IsNew, Adds, Shrinks, Deletes, Flushes, Frees, MayReport, refusal_of, Reports, Does}
-use Rattle.fib_model.specs.Textbook.{textbook}
+use Rattle.fib_model.specs.State.{State, IsExhausted, HasTokens}
+use Rattle.fib_model.specs.Outcomes.{LacksGroup, IsNew, MayReport, refusal_of, Reports, Does}
+use Rattle.fib_model.specs.Textbook.{textbook, by_intervals}
 use Rattle.fib_model.specs.Laws.{OutcomesAreUnique}
-use Rattle.fib_model.proofs.Followed.{lacks_or_not}
+use Rattle.fib_model.proofs.Frozen.{IsUnheld, TakesGroup, Adds, Shrinks, Deletes, Flushes, Frees, listed, lacks_or_not, state_is}
+use Rattle.fib_model.proofs.Frozen.{adds_frozen, deletes_frozen, flushes_frozen, frees_frozen}
 use Rattle.fib_model.proofs.Unique.{one_front, one_length, one_stop, one_rest, one_unlinks}
 
 abbrev Book : Type 0
@@ -69,13 +70,13 @@ stage_of c s p h = stage (get s.rules p) h (is_exhausted c s) (nat_lt (len s.rul
 
 -- a new rule, for which a group is taken where it lacks one
 abbrev IsIn : ℕ → ℕ → Config → Book → Network → ℕ → Result Put Refusal → Book → Type 0
-IsIn f g c s p h r z = (r ≡ Ok Added) × ((left : List ℕ) × TakesGroup (textbook c) f g c s p left
+IsIn f g c s p h r z = (r ≡ Ok Added) × ((left : List ℕ) × TakesGroup (listed c) f g c s p left
     × (z ≡ record s { rules = insert s.rules p h; begun = s.begun + 1; limbo = left }))
 
 -- the same, and none can be taken
 abbrev IsOut : ℕ → ℕ → Config → Book → Network → Result Put Refusal → Book → Type 0
 IsOut f g c s p r z = (oldest : Option Busy) × (r ≡ Err (NoGroups oldest)) × LacksGroup f g c s p
-    × MatchOption oldest (s.limbo ≡ []) (λ busy. IsSomeAnd (slice_get s.limbo 0) (λ u. (textbook c).is_held_by s.readers u busy)) × (z ≡ s)
+    × MatchOption oldest (s.limbo ≡ []) (λ busy. IsSomeAnd (slice_get s.limbo 0) (λ u. (listed c).is_held_by s.readers u busy)) × (z ≡ s)
 
 abbrev Answer : ℕ → ℕ → Config → Book → Network → ℕ → ℕ → Result Put Refusal → Book → Type 0
 Answer f g c s p h zero r z = (r ≡ Ok Unchanged) × (z ≡ s)
@@ -88,7 +89,7 @@ stage_room : (c : Config) (s : Book) (p : Network) (h : ℕ) → IsNew (textbook
 stage_room c s p h new = stage_new _ h _ _ new.0 (has_tokens c s new.1) ∙ ap (λ b. cond b 4 3) (lt-ltb _ _ new.2)
 
 answer : (f g : ℕ) (c : Config) (s z : Book) (p : Network) (h : ℕ) (r : Result Put Refusal) → r ≢ Err Memory
-    → Adds (textbook c) f g c s p h r z → Answer f g c s p h (stage_of c s p h) r z
+    → Adds (listed c) f g c s p h r z → Answer f g c s p h (stage_of c s p h) r z
 answer f g c s z p h (Ok Unchanged) m d = subst (λ n. Answer f g c s p h n (Ok Unchanged) z) (sym (stage_same _ h _ _ d.0)) (refl, d.1)
 answer f g c s z p h (Ok Replaced) m d = subst (λ n. Answer f g c s p h n (Ok Replaced) z) (sym (stage_replaced _ h _ _ d.0 (has_tokens c s d.1))) (refl, d.2)
 answer f g c s z p h (Ok Added) m d = subst (λ n. Answer f g c s p h n (Ok Added) z) (sym (stage_room c s p h d.0)) (d.0.0, inl (refl, d.1))
@@ -100,7 +101,7 @@ answer f g c s z p h (Err (NoGroups oldest)) m d =
     subst (λ n. Answer f g c s p h n (Err (NoGroups oldest)) z) (sym (stage_room c s p h d.0)) (d.0.0, inr (oldest, refl, d.1, d.2, d.3))
 answer f g c s z p h (Err other) m d = absurd d
 
-one_left : (f g : ℕ) (c : Config) (s : Book) (p : Network) (a b : List ℕ) → get s.rules p ≡ None → TakesGroup (textbook c) f g c s p a → TakesGroup (textbook c) f g c s p b → a ≡ b
+one_left : (f g : ℕ) (c : Config) (s : Book) (p : Network) (a b : List ℕ) → get s.rules p ≡ None → TakesGroup (listed c) f g c s p a → TakesGroup (listed c) f g c s p b → a ≡ b
 one_left f g c s p a b absent h k = elim (lacks_or_not f g c s p absent) [
   | inl lacks ↦
       let one = h.0 lacks in
@@ -110,10 +111,10 @@ one_left f g c s p a b absent h k = elim (lacks_or_not f g c s p absent) [
   | inr not ↦ h.1 not ∙ sym (k.1 not)
 ]
 
-front_held : (c : Config) (E : List Event) (limbo left : List ℕ) (u : ℕ) (oldest : Option Busy) → limbo ≡ u ∷ left → IsUnheld (textbook c) E u
-    → MatchOption oldest (limbo ≡ []) (λ busy. IsSomeAnd (slice_get limbo 0) (λ v. (textbook c).is_held_by E v busy)) → ⊥
+front_held : (c : Config) (E : List Event) (limbo left : List ℕ) (u : ℕ) (oldest : Option Busy) → limbo ≡ u ∷ left → IsUnheld (listed c) E u
+    → MatchOption oldest (limbo ≡ []) (λ busy. IsSomeAnd (slice_get limbo 0) (λ v. (listed c).is_held_by E v busy)) → ⊥
 front_held c E limbo left u None is unheld h = let no : [] ≡ u ∷ left = sym h ∙ is in cc
-front_held c E limbo left u (Some busy) is unheld h = unheld busy (subst (λ l. IsSomeAnd (slice_get l 0) (λ v. (textbook c).is_held_by E v busy)) is h)
+front_held c E limbo left u (Some busy) is unheld h = unheld busy (subst (λ l. IsSomeAnd (slice_get l 0) (λ v. (listed c).is_held_by E v busy)) is h)
 
 not_in_and_out : (f g : ℕ) (c : Config) (s z z' : Book) (p : Network) (h : ℕ) (r r' : Result Put Refusal) → IsIn f g c s p h r z → IsOut f g c s p r' z' → ⊥
 not_in_and_out f g c s z z' p h r r' a b = let front = a.1.1.0 b.2 in front_held c s.readers s.limbo a.1.0 front.0 b.0 front.2 front.1 b.3
@@ -139,20 +140,13 @@ one_answer f g c s z z' p h (suc (suc (suc (suc n)))) r r' a b = elim a.1 [
 
 -- ---- deleting, flushing, reclaiming
 
-state_is : (z z' : Book) → z.rules ≡ z'.rules → z.readers ≡ z'.readers → z.limbo ≡ z'.limbo → z.begun ≡ z'.begun → z ≡ z'
-state_is z z' a b d e =
-    let one : z ≡ record z { rules = z'.rules } = ap (λ x. record z { rules = x }) a in
-    let two : record z { rules = z'.rules } ≡ record z' { limbo = z.limbo; begun = z.begun } = ap (λ x. record z { rules = z'.rules; readers = x }) b in
-    let three : record z' { limbo = z.limbo; begun = z.begun } ≡ record z' { begun = z.begun } = ap (λ x. record z' { limbo = x; begun = z.begun }) d in
-    one ∙ two ∙ three ∙ ap (λ x. record z' { begun = x }) e
-
-one_shrunk : (f g : ℕ) (c : Config) (s z z' : Book) (R : RuleMap) → Shrinks (textbook c) f g c s R z → Shrinks (textbook c) f g c s R z' → z ≡ z'
+one_shrunk : (f g : ℕ) (c : Config) (s z z' : Book) (R : RuleMap) → Shrinks (listed c) f g c s R z → Shrinks (listed c) f g c s R z' → z ≡ z'
 one_shrunk f g c s z z' R a b =
     let same = one_unlinks c _ s.readers s.limbo z.readers z.limbo z'.readers z'.limbo a.1 b.1 in
     state_is z z' (a.2 ∙ sym b.2) same.0 same.1 (a.3 ∙ sym b.3)
 
 one_deletion : (f g : ℕ) (c : Config) (s z z' : Book) (p : Network) (r r' : Result ℕ Refusal)
-    → Deletes (textbook c) f g c s p r z → Deletes (textbook c) f g c s p r' z' → (r ≡ r') × (z ≡ z')
+    → Deletes (listed c) f g c s p r z → Deletes (listed c) f g c s p r' z' → (r ≡ r') × (z ≡ z')
 one_deletion f g c s z z' p (Ok h) (Ok k) a b = let same : Some h ≡ Some k = sym a.0 ∙ b.0 in (cc, one_shrunk f g c s z z' _ a.1 b.1)
 one_deletion f g c s z z' p (Ok h) (Err NoSuchRule) a b = let no : Some h ≡ None = sym a.0 ∙ b.0 in cc
 one_deletion f g c s z z' p (Ok h) (Err Exhausted) a b = absurd (not_both c s a.1.0 b.1)
@@ -168,7 +162,7 @@ one_deletion f g c s z z' p (Err Exhausted) (Err other) a b = absurd b
 one_deletion f g c s z z' p (Err other) r' a b = absurd a
 
 one_flush : (f g : ℕ) (c : Config) (s z z' : Book) (r r' : Result ℕ Refusal)
-    → Flushes (textbook c) f g c s r z → Flushes (textbook c) f g c s r' z' → (r ≡ r') × (z ≡ z')
+    → Flushes (listed c) f g c s r z → Flushes (listed c) f g c s r' z' → (r ≡ r') × (z ≡ z')
 one_flush f g c s z z' (Ok n) (Ok m) a b =
     let same : n ≡ m = a.0 ∙ sym b.0 in (
       ap Ok same,
@@ -184,7 +178,7 @@ one_flush f g c s z z' (Err Exhausted) (Err Exhausted) a b = (refl, a.2 ∙ sym 
 one_flush f g c s z z' (Err Exhausted) (Err other) a b = absurd b
 one_flush f g c s z z' (Err other) r' a b = absurd a
 
-one_reclaim : (c : Config) (s z z' : Book) (max : ℕ) (r r' : Reclaimed) → Frees (textbook c) s max r z → Frees (textbook c) s max r' z' → (r ≡ r') × (z ≡ z')
+one_reclaim : (c : Config) (s z z' : Book) (max : ℕ) (r r' : Reclaimed) → Frees (listed c) s max r z → Frees (listed c) s max r' z' → (r ≡ r') × (z ≡ z')
 one_reclaim c s z z' max r r' a b =
     let many = one_length c s.readers max s.limbo r.freed r'.freed r.stopped r'.stopped z.limbo z'.limbo a.0 b.0 in
     let stop = one_stop c s.readers max s.limbo r.freed r'.freed r.stopped r'.stopped z.limbo z'.limbo many a.0 b.0 in
@@ -196,11 +190,11 @@ one_reclaim c s z z' max r r' a b =
 
 -- taken, of no worker, or refused
 abbrev IsReported : Config → Book → Report → ℕ → Outcome → Book → Type 0
-IsReported c s report w o z = ((w < c.workers) × MayReport (textbook c) s report w × (o ≡ outcome.Told) × (z ≡ record s { readers = (textbook c).told report w s.readers }))
+IsReported c s report w o z = ((w < c.workers) × MayReport (by_intervals c) s report w × (o ≡ outcome.Told) × (z ≡ record s { readers = (by_intervals c).told report w s.readers }))
     ⊎ ((c.workers ≤ w) × (o ≡ outcome.Refused NoSuchWorker) × (z ≡ s))
-    ⊎ ((w < c.workers) × (MayReport (textbook c) s report w → ⊥) × (o ≡ outcome.Refused (refusal_of report)) × (z ≡ s))
+    ⊎ ((w < c.workers) × (MayReport (by_intervals c) s report w → ⊥) × (o ≡ outcome.Refused (refusal_of report)) × (z ≡ s))
 
-reported : (c : Config) (s z : Book) (report : Report) (w : ℕ) (o : Outcome) → Reports (textbook c) c s report w o z → IsReported c s report w o z
+reported : (c : Config) (s z : Book) (report : Report) (w : ℕ) (o : Outcome) → Reports (by_intervals c) c s report w o z → IsReported c s report w o z
 reported c s z report w outcome.Told d = inl (d.0, d.1, refl, d.2)
 reported c s z report w (outcome.Refused NoSuchWorker) d = inr (inl (d.0, refl, d.1))
 reported c s z report w (outcome.Refused refusal) d = inr (inr (d.0, d.1, ap outcome.Refused d.2, d.3))
@@ -223,39 +217,39 @@ abbrev put_of : Result Put Refusal → Outcome
 put_of (Ok put) = outcome.Put put
 put_of (Err refusal) = outcome.Refused refusal
 
-does_add : (f g : ℕ) (c : Config) (s z : Book) (p : Network) (h : ℕ) (o : Outcome) → Does (textbook c) f g c s (command.Add p h) o z
-    → (r : Result Put Refusal) × (o ≡ put_of r) × Adds (textbook c) f g c s p h r z
-does_add f g c s z p h (outcome.Put put) d = (Ok put, refl, d)
-does_add f g c s z p h (outcome.Refused refusal) d = (Err refusal, refl, d)
+does_add : (f g : ℕ) (c : Config) (s z : Book) (p : Network) (h : ℕ) (o : Outcome) → Does (by_intervals c) f g c s (command.Add p h) o z
+    → (r : Result Put Refusal) × (o ≡ put_of r) × Adds (listed c) f g c s p h r z
+does_add f g c s z p h (outcome.Put put) d = (Ok put, refl, adds_frozen (listed c) f g c s z p h (Ok put) d)
+does_add f g c s z p h (outcome.Refused refusal) d = (Err refusal, refl, adds_frozen (listed c) f g c s z p h (Err refusal) d)
 does_add f g c s z p h other d = absurd d
 
 abbrev deleted_of : Result ℕ Refusal → Outcome
 deleted_of (Ok h) = outcome.Deleted h
 deleted_of (Err refusal) = outcome.Refused refusal
 
-does_delete : (f g : ℕ) (c : Config) (s z : Book) (p : Network) (o : Outcome) → Does (textbook c) f g c s (command.Delete p) o z
-    → (r : Result ℕ Refusal) × (o ≡ deleted_of r) × Deletes (textbook c) f g c s p r z
-does_delete f g c s z p (outcome.Deleted h) d = (Ok h, refl, d)
-does_delete f g c s z p (outcome.Refused refusal) d = (Err refusal, refl, d)
+does_delete : (f g : ℕ) (c : Config) (s z : Book) (p : Network) (o : Outcome) → Does (by_intervals c) f g c s (command.Delete p) o z
+    → (r : Result ℕ Refusal) × (o ≡ deleted_of r) × Deletes (listed c) f g c s p r z
+does_delete f g c s z p (outcome.Deleted h) d = (Ok h, refl, deletes_frozen (listed c) f g c s z p (Ok h) d)
+does_delete f g c s z p (outcome.Refused refusal) d = (Err refusal, refl, deletes_frozen (listed c) f g c s z p (Err refusal) d)
 does_delete f g c s z p other d = absurd d
 
 abbrev flushed_of : Result ℕ Refusal → Outcome
 flushed_of (Ok n) = outcome.Flushed n
 flushed_of (Err refusal) = outcome.Refused refusal
 
-does_flush : (f g : ℕ) (c : Config) (s z : Book) (o : Outcome) → Does (textbook c) f g c s command.Flush o z
-    → (r : Result ℕ Refusal) × (o ≡ flushed_of r) × Flushes (textbook c) f g c s r z
-does_flush f g c s z (outcome.Flushed n) d = (Ok n, refl, d)
-does_flush f g c s z (outcome.Refused refusal) d = (Err refusal, refl, d)
+does_flush : (f g : ℕ) (c : Config) (s z : Book) (o : Outcome) → Does (by_intervals c) f g c s command.Flush o z
+    → (r : Result ℕ Refusal) × (o ≡ flushed_of r) × Flushes (listed c) f g c s r z
+does_flush f g c s z (outcome.Flushed n) d = (Ok n, refl, flushes_frozen (listed c) f g c s z (Ok n) d)
+does_flush f g c s z (outcome.Refused refusal) d = (Err refusal, refl, flushes_frozen (listed c) f g c s z (Err refusal) d)
 does_flush f g c s z other d = absurd d
 
-does_reclaim : (f g : ℕ) (c : Config) (s z : Book) (max : ℕ) (o : Outcome) → Does (textbook c) f g c s (command.Reclaim max) o z
-    → (r : Reclaimed) × (o ≡ outcome.Reclaimed r) × Frees (textbook c) s max r z
-does_reclaim f g c s z max (outcome.Reclaimed r) d = (r, refl, d)
+does_reclaim : (f g : ℕ) (c : Config) (s z : Book) (max : ℕ) (o : Outcome) → Does (by_intervals c) f g c s (command.Reclaim max) o z
+    → (r : Reclaimed) × (o ≡ outcome.Reclaimed r) × Frees (listed c) s max r z
+does_reclaim f g c s z max (outcome.Reclaimed r) d = (r, refl, frees_frozen (listed c) s z max r d)
 does_reclaim f g c s z max other d = absurd d
 
 one_step : (f g : ℕ) (c : Config) (s z z' : Book) (command : Command f g) (o o' : Outcome) → o ≢ outcome.Refused Memory → o' ≢ outcome.Refused Memory
-    → Does (textbook c) f g c s command o z → Does (textbook c) f g c s command o' z' → (o ≡ o') × (z ≡ z')
+    → Does (by_intervals c) f g c s command o z → Does (by_intervals c) f g c s command o' z' → (o ≡ o') × (z ≡ z')
 one_step f g c s z z' (command.Add p h) o o' m m' d d' =
     let a = does_add f g c s z p h o d in
     let b = does_add f g c s z' p h o' d' in
@@ -301,6 +295,6 @@ outcomes_are_unique f g c (done ∷ log) (done' ∷ log') z z' same all all' r r
     let other = rest_of (λ x. x.1 ≢ outcome.Refused Memory) done' log' all' in
     let before = outcomes_are_unique f g c log log' r.0 r'.0 earlier one.1 other.1 r.1 r'.1 in
     let step = one_step f g c r'.0 z z' done'.0 done.1 done'.1 one.0 other.0
-    (subst (λ x. Does (textbook c) f g c r'.0 x done.1 z) now (subst (λ x. Does (textbook c) f g c x done.0 done.1 z) before.1 r.2)) r'.2 in
+    (subst (λ x. Does (by_intervals c) f g c r'.0 x done.1 z) now (subst (λ x. Does (by_intervals c) f g c x done.0 done.1 z) before.1 r.2)) r'.2 in
     let alike = done_of done done' now step.0 in
     (ap (λ x. x ∷ log) alike ∙ ap (λ l. done' ∷ l) before.0, step.1)

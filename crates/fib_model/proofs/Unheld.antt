@@ -7,8 +7,8 @@ use Rattle.fib_model.specs.declared.event.Event.{Event}
 use Rattle.reader_intervals.specs.Intervals.{IsRunningSince, IsHeldByWorker, IsTidy}
 use Rattle.fib_model.specs.Intervals.{by_reports, unlinkings_before}
 use Rattle.reader_intervals.proofs.Running.{held_start}
-use Rattle.fib_model.specs.State.{IsUnheld}
-use Rattle.fib_model.specs.Textbook.{textbook, IsFirstHolder}
+use Rattle.fib_model.specs.Textbook.{IsFirstHolder}
+use Rattle.fib_model.proofs.Frozen.{IsUnheld, listed}
 use Rattle.fib_model.specs.Laws.{UnheldByNone}
 use Rattle.fib_model.proofs.TidyRuns.{tidy_run}
 
@@ -25,7 +25,7 @@ first_holder c E place worker start busy tidy is holds runs counter first = reco
 }
 
 -- none of the first n workers holds it: the least that did would be its first holder
-none_of_first : (c : Config) (E : List Event) (place : ℕ) → IsTidy by_reports c.workers E → IsUnheld (textbook c) E place → (n : ℕ) → (w : ℕ) → w < n → IsHeldByWorker by_reports E place w → ⊥
+none_of_first : (c : Config) (E : List Event) (place : ℕ) → IsTidy by_reports c.workers E → IsUnheld (listed c) E place → (n : ℕ) → (w : ℕ) → w < n → IsHeldByWorker by_reports E place w → ⊥
 none_of_first c E place tidy unheld zero = λ w low held. absurd (omega (arith, low))
 none_of_first c E place tidy unheld (suc n) =
     let before = none_of_first c E place tidy unheld n in
@@ -39,6 +39,6 @@ none_of_first c E place tidy unheld (suc n) =
 
 pub unheld_by_none : UnheldByNone
 unheld_by_none f g c log z r place = (
-  (λ unheld w. none_of_first c z.readers place (tidy_run f g c log z r) unheld (suc w) w (omega arith)),
-  (λ none busy h. none busy.worker h.holds),
+  (λ passed w. none_of_first c z.readers place (tidy_run f g c log z r) passed.0 (suc w) w (omega arith)),
+  (λ none. ((λ busy h. none busy.worker h.holds), refl)),
 )

@@ -10,9 +10,8 @@ use Rattle.fib_model.specs.declared.event.Event.TheVariants.{Unlinking}
 use Rattle.reader_intervals.specs.Intervals.{IsRunningSince}
 use Rattle.fib_model.specs.Intervals.{by_reports}
 use Rattle.reader_intervals.proofs.Running.{held_start}
-use Rattle.fib_model.specs.State.{IsUnheld}
-use Rattle.fib_model.specs.Reclaiming.{Reclaims, MakesRoom, Unlinks}
-use Rattle.fib_model.specs.Textbook.{textbook, IsFirstHolder}
+use Rattle.fib_model.specs.Textbook.{IsFirstHolder}
+use Rattle.fib_model.proofs.Frozen.{IsUnheld, Reclaims, MakesRoom, Unlinks, listed}
 
 busy_of : (a b : Busy) → a.worker ≡ b.worker → a.counter ≡ b.counter → a ≡ b
 busy_of a b w n =
@@ -32,7 +31,7 @@ one_holder c E place a b h k = elim (cases_lt a.worker b.worker) [
   ]
 ]
 
-holder_at : (c : Config) (E : List Event) (o : Option ℕ) (a b : Busy) → IsSomeAnd o (λ u. (textbook c).is_held_by E u a) → IsSomeAnd o (λ u. (textbook c).is_held_by E u b) → a ≡ b
+holder_at : (c : Config) (E : List Event) (o : Option ℕ) (a b : Busy) → IsSomeAnd o (λ u. (listed c).is_held_by E u a) → IsSomeAnd o (λ u. (listed c).is_held_by E u b) → a ≡ b
 holder_at c E None a b h k = absurd h
 holder_at c E (Some u) a b h k = one_holder c E u a b h k
 
@@ -43,8 +42,8 @@ get_within (u ∷ limbo) (suc i) P some = let low = get_within limbo i P some in
 
 -- the busy worker that holds the front, if one does
 pub one_front : (c : Config) (E : List Event) (limbo : List ℕ) (a b : Option Busy)
-    → MatchOption a (limbo ≡ []) (λ busy. IsSomeAnd (slice_get limbo 0) (λ u. (textbook c).is_held_by E u busy))
-    → MatchOption b (limbo ≡ []) (λ busy. IsSomeAnd (slice_get limbo 0) (λ u. (textbook c).is_held_by E u busy))
+    → MatchOption a (limbo ≡ []) (λ busy. IsSomeAnd (slice_get limbo 0) (λ u. (listed c).is_held_by E u busy))
+    → MatchOption b (limbo ≡ []) (λ busy. IsSomeAnd (slice_get limbo 0) (λ u. (listed c).is_held_by E u busy))
     → a ≡ b
 one_front c E limbo None None h k = refl
 one_front c E limbo None (Some b) h k = let low = get_within limbo 0 _ k in let none = ap length h in absurd (omega (arith, low, none))
@@ -55,7 +54,7 @@ one_front c E limbo (Some a) (Some b) h k = ap Some (holder_at c E (slice_get li
 
 -- a reclaim doesn't stop before what another took
 not_before : (c : Config) (E : List Event) (max : ℕ) (limbo : List ℕ) (m n : ℕ) (a b : Option Busy) (left left' : List ℕ)
-    → Reclaims (textbook c) E max limbo m a left → Reclaims (textbook c) E max limbo n b left' → m < n → ⊥
+    → Reclaims (listed c) E max limbo m a left → Reclaims (listed c) E max limbo n b left' → m < n → ⊥
 not_before c E max limbo m n None b left left' h k low =
     let most = k.at_most in
     let within = k.within in
@@ -66,11 +65,11 @@ not_before c E max limbo m n None b left left' h k low =
 not_before c E max limbo m n (Some busy) b left left' h k low =
     let within = k.within in
     let size = length-take n limbo in
-    let unheld = subst (IsUnheld (textbook c) E) (get_or-take n limbo m 0 low) (k.unheld m 0 (omega (arith, size, within, low))) in
-    unheld busy (subst (λ o. IsSomeAnd o (λ u. (textbook c).is_held_by E u busy)) (slice_get-get_or limbo m 0 (omega (arith, within, low))) h.end.1)
+    let unheld = subst (IsUnheld (listed c) E) (get_or-take n limbo m 0 low) (k.unheld m 0 (omega (arith, size, within, low))) in
+    unheld busy (subst (λ o. IsSomeAnd o (λ u. (listed c).is_held_by E u busy)) (slice_get-get_or limbo m 0 (omega (arith, within, low))) h.end.1)
 
 pub one_length : (c : Config) (E : List Event) (max : ℕ) (limbo : List ℕ) (m n : ℕ) (a b : Option Busy) (left left' : List ℕ)
-    → Reclaims (textbook c) E max limbo m a left → Reclaims (textbook c) E max limbo n b left' → m ≡ n
+    → Reclaims (listed c) E max limbo m a left → Reclaims (listed c) E max limbo n b left' → m ≡ n
 one_length c E max limbo m n a b left left' h k = elim (cases_lt m n) [
   | inl low ↦ absurd (not_before c E max limbo m n a b left left' h k low)
   | inr high ↦ elim (cases_lt n m) [
@@ -85,37 +84,41 @@ not_stopped max limbo n P (inl all) low some = absurd (omega (arith, all, low))
 not_stopped max limbo n P (inr all) low some = let within = get_within limbo n P some in absurd (omega (arith, all, within))
 
 one_end : (c : Config) (E : List Event) (max : ℕ) (limbo : List ℕ) (n : ℕ) (a b : Option Busy)
-    → MatchOption a ((n ≡ max) ⊎ (n ≡ length limbo)) (λ busy. (n < max) × IsSomeAnd (slice_get limbo n) (λ u. (textbook c).is_held_by E u busy))
-    → MatchOption b ((n ≡ max) ⊎ (n ≡ length limbo)) (λ busy. (n < max) × IsSomeAnd (slice_get limbo n) (λ u. (textbook c).is_held_by E u busy))
+    → MatchOption a ((n ≡ max) ⊎ (n ≡ length limbo)) (λ busy. (n < max) × IsSomeAnd (slice_get limbo n) (λ u. (listed c).is_held_by E u busy))
+    → MatchOption b ((n ≡ max) ⊎ (n ≡ length limbo)) (λ busy. (n < max) × IsSomeAnd (slice_get limbo n) (λ u. (listed c).is_held_by E u busy))
     → a ≡ b
 one_end c E max limbo n None None h k = refl
-one_end c E max limbo n None (Some b) h k = absurd (not_stopped max limbo n (λ u. (textbook c).is_held_by E u b) h k.0 k.1)
-one_end c E max limbo n (Some a) None h k = absurd (not_stopped max limbo n (λ u. (textbook c).is_held_by E u a) k h.0 h.1)
+one_end c E max limbo n None (Some b) h k = absurd (not_stopped max limbo n (λ u. (listed c).is_held_by E u b) h k.0 k.1)
+one_end c E max limbo n (Some a) None h k = absurd (not_stopped max limbo n (λ u. (listed c).is_held_by E u a) k h.0 h.1)
 one_end c E max limbo n (Some a) (Some b) h k = ap Some (holder_at c E (slice_get limbo n) a b h.1 k.1)
 
 pub one_stop : (c : Config) (E : List Event) (max : ℕ) (limbo : List ℕ) (m n : ℕ) (a b : Option Busy) (left left' : List ℕ) → m ≡ n
-    → Reclaims (textbook c) E max limbo m a left → Reclaims (textbook c) E max limbo n b left' → a ≡ b
+    → Reclaims (listed c) E max limbo m a left → Reclaims (listed c) E max limbo n b left' → a ≡ b
 one_stop c E max limbo m n a b left left' is h k =
     one_end c E max limbo n a b
-    (subst (λ i. MatchOption a ((i ≡ max) ⊎ (i ≡ length limbo)) (λ busy. (i < max) × IsSomeAnd (slice_get limbo i) (λ u. (textbook c).is_held_by E u busy))) is h.end)
+    (subst (λ i. MatchOption a ((i ≡ max) ⊎ (i ≡ length limbo)) (λ busy. (i < max) × IsSomeAnd (slice_get limbo i) (λ u. (listed c).is_held_by E u busy))) is h.end)
     k.end
 
 pub one_rest : (c : Config) (E : List Event) (max : ℕ) (limbo : List ℕ) (m n : ℕ) (a b : Option Busy) (left left' : List ℕ)
-    → Reclaims (textbook c) E max limbo m a left → Reclaims (textbook c) E max limbo n b left' → left ≡ left'
+    → Reclaims (listed c) E max limbo m a left → Reclaims (listed c) E max limbo n b left' → left ≡ left'
 one_rest c E max limbo m n a b left left' h k = h.rest ∙ ap (λ i. drop i limbo) (one_length c E max limbo m n a b left left' h k) ∙ sym k.rest
 
 -- ---- unlinkings
 
-one_room : (c : Config) (E : List Event) (limbo left left' : List ℕ) → MakesRoom (textbook c) c E limbo left → MakesRoom (textbook c) c E limbo left' → left ≡ left'
+one_room : (c : Config) (E : List Event) (limbo left left' : List ℕ) → MakesRoom (listed c) c E limbo left → MakesRoom (listed c) c E limbo left' → left ≡ left'
 one_room c E limbo left left' h k = elim (cases_lt c.threshold (length limbo)) [
   | inl over ↦ let a = h.0 over in let b = k.0 over in one_rest c E c.reclaim_max limbo a.0 b.0 a.1 b.1 left left' a.2 b.2
   | inr within ↦ h.1 within ∙ sym (k.1 within)
 ]
 
 pub one_unlinks : (c : Config) (n : ℕ) (E : List Event) (limbo : List ℕ) (E' : List Event) (limbo' : List ℕ) (E'' : List Event) (limbo'' : List ℕ)
-    → Unlinks (textbook c) c n E limbo E' limbo' → Unlinks (textbook c) c n E limbo E'' limbo'' → (E' ≡ E'') × (limbo' ≡ limbo'')
+    → Unlinks (listed c) c n E limbo E' limbo' → Unlinks (listed c) c n E limbo E'' limbo'' → (E' ≡ E'') × (limbo' ≡ limbo'')
 one_unlinks c zero E limbo E' limbo' E'' limbo'' h k = (h.0 ∙ sym k.0, h.1 ∙ sym k.1)
 one_unlinks c (suc n) E limbo E' limbo' E'' limbo'' h k =
-    let same = one_room c (Unlinking ∷ E) limbo h.0 k.0 h.1 k.1 in
-    one_unlinks c n (Unlinking ∷ E) (k.0 ++ length E ∷ []) E' limbo' E'' limbo''
-    (subst (λ l. Unlinks (textbook c) c n (Unlinking ∷ E) (l ++ length E ∷ []) E' limbo') same h.2) k.2
+    let before = one_unlinks c n E limbo h.0 h.1 k.0 k.1 h.3 k.3 in
+    let here : MakesRoom (listed c) c (Unlinking ∷ k.0) k.1 h.2 =
+    subst (λ F. MakesRoom (listed c) c (Unlinking ∷ F) k.1 h.2) before.0 (subst (λ l. MakesRoom (listed c) c (Unlinking ∷ h.0) l h.2) before.1 h.4) in
+    let same = one_room c (Unlinking ∷ k.0) k.1 h.2 k.2 here k.4 in (
+      h.5 ∙ ap (λ F. Unlinking ∷ F) before.0 ∙ sym k.5,
+      h.6 ∙ ap (λ l. l ++ length h.0 ∷ []) same ∙ ap (λ F. k.2 ++ length F ∷ []) before.0 ∙ sym k.6,
+    )

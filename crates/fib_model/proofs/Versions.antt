@@ -11,8 +11,8 @@ use Rattle.fib_model.specs.declared.command.Outcome.{Outcome}
 use Rattle.fib_model.specs.declared.command.Outcome.TheVariants as outcome
 use Rattle.fib_model.specs.State.{State, Keeping}
 use Rattle.fib_model.specs.Outcomes.{Does}
-use Rattle.fib_model.specs.Counting.{counting}
-use Rattle.fib_model.specs.Textbook.{textbook}
+use Rattle.fib_model.specs.Counting.{by_counters}
+use Rattle.fib_model.specs.Textbook.{by_intervals}
 use Rattle.fib_model.specs.History.{last_of, versions_after, history}
 use Rattle.fib_model.specs.Laws.{RulesAreLastVersion, RulesAreLastVersionByCounters}
 
@@ -29,18 +29,18 @@ one_more n m l e f = omega arith
 step : {X : Type 0} (k : Keeping X) (first second : ℕ) (c : Config) (s z : State X) (H : List RuleMap) (command : Command first second) (outcome : Outcome)
     → IsAt s H → Does k first second c s command outcome z → IsAt z (versions_after H command outcome)
 step k f g c s z H (command.Add p h) (outcome.Put Added) at d =
-    (ap (λ x. x.rules) d.1.2 ∙ ap (λ R. insert R p h) at.0, one_more z.begun s.begun (length H) (ap (λ x. x.begun) d.1.2) at.1)
+    (d.2.0 ∙ ap (λ R. insert R p h) at.0, one_more z.begun s.begun (length H) d.2.1 at.1)
 step k f g c s z H (command.Add p h) (outcome.Put Replaced) at d =
-    (ap (λ x. x.rules) d.2 ∙ ap (λ R. insert R p h) at.0, one_more z.begun s.begun (length H) (ap (λ x. x.begun) d.2) at.1)
+    (d.3.0 ∙ ap (λ R. insert R p h) at.0, one_more z.begun s.begun (length H) d.3.1 at.1)
 step k f g c s z H (command.Add p h) (outcome.Put Unchanged) at d = stays s z H at d.1
 step k f g c s z H (command.Add p h) (outcome.Refused TooManyRules) at d = stays s z H at d.3
 step k f g c s z H (command.Add p h) (outcome.Refused Exhausted) at d = stays s z H at d.2
-step k f g c s z H (command.Add p h) (outcome.Refused (NoGroups oldest)) at d = stays s z H at d.3
+step k f g c s z H (command.Add p h) (outcome.Refused (NoGroups oldest)) at d = (ap (λ x. x.rules) d.3 ∙ at.0, ap (λ x. x.begun) d.3 ∙ at.1)
 step k f g c s z H (command.Add p h) (outcome.Refused Memory) at d = stays s z H at d.1
 step k f g c s z H (command.Add p h) (outcome.Refused other) at d = absurd d
 step k f g c s z H (command.Add p h) other at d = absurd d
 step k f g c s z H (command.Delete p) (outcome.Deleted h) at d =
-    (d.1.2 ∙ ap (λ R. remove R p) at.0, one_more z.begun s.begun (length H) d.1.3 at.1)
+    (d.1.2.0 ∙ ap (λ R. remove R p) at.0, one_more z.begun s.begun (length H) d.1.2.1 at.1)
 step k f g c s z H (command.Delete p) (outcome.Refused NoSuchRule) at d = stays s z H at d.1
 step k f g c s z H (command.Delete p) (outcome.Refused Exhausted) at d = stays s z H at d.2
 step k f g c s z H (command.Delete p) (outcome.Refused other) at d = absurd d
@@ -48,7 +48,7 @@ step k f g c s z H (command.Delete p) other at d = absurd d
 step k f g c s z H command.Flush (outcome.Flushed zero) at d = stays s z H at (d.1 refl)
 step k f g c s z H command.Flush (outcome.Flushed (suc n)) at d =
     let shrinks = d.2 (omega arith) in
-    (shrinks.2, one_more z.begun s.begun (length H) shrinks.3 at.1)
+    (shrinks.2.0, one_more z.begun s.begun (length H) shrinks.2.1 at.1)
 step k f g c s z H command.Flush (outcome.Refused Exhausted) at d = stays s z H at d.2
 step k f g c s z H command.Flush (outcome.Refused other) at d = absurd d
 step k f g c s z H command.Flush other at d = absurd d
@@ -62,9 +62,9 @@ step k f g c s z H (command.Report report w) other at d = absurd d
 pub rules_are_last_version : RulesAreLastVersion
 rules_are_last_version f g c [] z r = (ap (λ x. x.rules) r, ap (λ x. x.begun) r)
 rules_are_last_version f g c (done ∷ log) z r =
-    step (textbook c) f g c r.0 z (history log) done.0 done.1 (rules_are_last_version f g c log r.0 r.1) r.2
+    step (by_intervals c) f g c r.0 z (history log) done.0 done.1 (rules_are_last_version f g c log r.0 r.1) r.2
 
 pub rules_are_last_version_by_counters : RulesAreLastVersionByCounters
 rules_are_last_version_by_counters f g c [] z r = (ap (λ x. x.rules) r, ap (λ x. x.begun) r)
 rules_are_last_version_by_counters f g c (done ∷ log) z r =
-    step counting f g c r.0 z (history log) done.0 done.1 (rules_are_last_version_by_counters f g c log r.0 r.1) r.2
+    step by_counters f g c r.0 z (history log) done.0 done.1 (rules_are_last_version_by_counters f g c log r.0 r.1) r.2
