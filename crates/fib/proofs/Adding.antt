@@ -26,7 +26,9 @@ use Rattle.qsbr.specs.Registry.{Registry}
 use Rattle.fib_model.specs.State.{State, HasTokens}
 use Rattle.fib_model.specs.Counting.{counting}
 use Rattle.fib_model.specs.Reclaiming.{Unlinks}
-use Rattle.fib_model.specs.Outcomes.{groups_in_use, LacksGroup, TakesGroup, Adds}
+use Rattle.fib_model.specs.Outcomes.{groups_in_use, LacksGroup, HoldsFront, Adds}
+use Rattle.fib_model.proofs.Frozen.{TakesGroup, counted, adds_moving}
+use Rattle.fib_model.proofs.Frozen as frozen
 use Rattle.fib.specs.declared.pool.Pool.{Pool}
 use Rattle.fib.specs.Fib.{IsSound, table_of}
 use Rattle.fib.specs.Pool.{HasNone, IsFound, NeedsGroup, tokens, UnlinksSome}
@@ -41,8 +43,8 @@ some_none (Some y) P h e = cc
 
 -- the outcome of an add that was made, by what the rule list answered
 pub adds_made : (f s : ℕ) (c : Config) (S : State Registry) (p : Network) (h : ℕ) (put : Put) (left : List ℕ) → put ≢ Unchanged → (Ok' put ≡ Ok' Replaced → IsSomeAnd (get S.rules p) (λ old. old ≢ h))
-    → (Ok' put ≡ Ok' Added → (get S.rules p ≡ None) × (len S.rules < c.rules)) → HasTokens counting c S → TakesGroup counting f s c S p left
-    → Adds counting f s c S p h (Ok put) (record S { rules = insert S.rules p h; begun = S.begun + 1; limbo = left })
+    → (Ok' put ≡ Ok' Added → (get S.rules p ≡ None) × (len S.rules < c.rules)) → HasTokens counting c S → TakesGroup counted f s c S p left
+    → frozen.Adds counted f s c S p h (Ok put) (record S { rules = insert S.rules p h; begun = S.begun + 1; limbo = left })
 adds_made f s c S p h Unchanged left other r a tokens takes = absurd (other refl)
 adds_made f s c S p h Replaced left other r a tokens takes =
     let same = takes.1 (λ k. some_none (get S.rules p) (λ old. old ≢ h) (r refl) k.absent) in
@@ -70,6 +72,11 @@ no_some : (x : Option ℕ) → (IsSome x → ⊥) → x ≡ None
 no_some None h = refl
 no_some (Some y) h = absurd (h refl)
 
+-- what stands in the way of a group, by the table
+front : (pool : Pool) (n : ℕ) (R : RuleMap) (oldest : Option Busy) → HasNone pool oldest → HoldsFront counting (table_of R pool n) oldest pool.keeper.domain
+front pool n R None none = (none.1, refl)
+front pool n R (Some busy) none = none.1
+
 module _ (f s : ℕ) (c : Config) (rules : RuleList) (t : Words) (pool : Pool) (n : ℕ) (known : IsSound f s c rules t pool n)
     (p : Network) (low : p.bits / 2 ^ s < 2 ^ f) where
   -- a block with a group is deep, and one without isn't
@@ -91,7 +98,7 @@ module _ (f s : ℕ) (c : Config) (rules : RuleList) (t : Words) (pool : Pool) (
     none_free = omega (arith, sound_free known, empty, length-map pool.queue.items (λ item. item.1));
   }
 
-  takes_group : (group : Option ℕ) (new : Pool) → IsFound f s t.firsts p pool group new → TakesGroup counting f s c (table_of rules.rules pool n) p (tokens new)
+  takes_group : (group : Option ℕ) (new : Pool) → IsFound f s t.firsts p pool group new → TakesGroup counted f s c (table_of rules.rules pool n) p (tokens new)
   takes_group None new found = (
     (λ k. absurd (elim found.1 [
       | inl short ↦ omega (arith, short, k.long)
@@ -100,7 +107,9 @@ module _ (f s : ℕ) (c : Config) (rules : RuleList) (t : Words) (pool : Pool) (
     (λ _. ap tokens found.0),
   )
   takes_group (Some g) new found = (
-    (λ k. found.2.1 (omega (arith, sound_free known, length-map pool.queue.items (λ item. item.1), k.none_free))),
+    (λ k.
+        let is = found.2.1 (omega (arith, sound_free known, length-map pool.queue.items (λ item. item.1), k.none_free)) in
+        (is.0, is.2.0, is.1)),
     (λ enough. elim (cases_eq (free_count pool.keeper.groups) 0) [
       | inl empty ↦ absurd (enough (lacks found.0 empty))
       | inr some ↦ found.2.0 (omega (arith, some))
@@ -151,12 +160,14 @@ module _ (f s : ℕ) (c : Config) (rules : RuleList) (t : Words) (pool : Pool) (
       let none : linked_count mid.keeper.groups - linked_count new.keeper.groups ≡ 0 = omega (arith, sound_linked after ∙ ap (groups_in_use f s) made, found_linked h group mid found) in
       let still = subst (λ k. Unlinks counting c k mid.keeper.domain (tokens mid) new.keeper.domain (tokens new)) none unlinks in
       let adds = adds_made f s c S p h put (tokens mid) other replaced (λ e. let k = added e in (k.0, subst (λ m. len rules.rules < m) known.max k.1)) left (takes_group group mid found) in
-      subst (λ z. Adds counting f s c S p h (Ok put) z)
+      adds_moving counted f s c S (table_of rules'.rules new (n + 1)) p h (Ok put)
+      (subst (λ z. frozen.Adds counted f s c S p h (Ok put) z)
       (sym (ap (λ R. table_of R new (n + 1)) made
       ∙ ap (λ (r : Registry). record { rules = insert rules.rules p h; readers = r; limbo = tokens new; begun = n + 1 }) (still.0 ∙ domain)
-      ∙ ap (λ l. record S { rules = insert rules.rules p h; begun = n + 1; limbo = l }) still.1)) adds
+      ∙ ap (λ l. record S { rules = insert rules.rules p h; begun = n + 1; limbo = l }) still.1)) adds)
 
   -- an add that finds no group
   pub none_adds : (h : ℕ) (oldest : Option Busy) → NeedsGroup f s t.firsts p → HasNone pool oldest → len rules.rules < rules.max
       → HasTokens counting c (table_of rules.rules pool n) → Adds counting f s c (table_of rules.rules pool n) p h (Err (NoGroups oldest)) (table_of rules.rules pool n)
-  none_adds h oldest needs none room left = ((absent needs, left, subst (λ m. len rules.rules < m) known.max room), lacks needs none.0, none.1, refl)
+  none_adds h oldest needs none room left =
+      ((absent needs, left, subst (λ m. len rules.rules < m) known.max room), lacks needs none.0, front pool n rules.rules oldest none, refl)

@@ -8,21 +8,7 @@ use Rattle.lpm_groups.specs.declared.GroupState.{GroupState}
 use Rattle.lpm_groups.specs.declared.GroupState.TheVariants.{Linked}
 use Rattle.lpm_groups.specs.States.{IsLinkedTo, is_linked, linked_count}
 use Rattle.lpm_groups.proofs.Tallies.{counts-total, count_by-some}
-use Rattle.lpm_limits.specs.declared.config.Config.{Config}
 use Rattle.lpm_update.specs.Linked.{group_at}
-use Rattle.qsbr.specs.Registry.{Registry}
-use Rattle.fib_model.specs.Counting.{counting}
-use Rattle.fib_model.specs.Reclaiming.{MakesRoom, Unlinks}
-
--- one more unlinking after n
-pub unlinks_more : (c : Config) (n : ℕ) (x y : Registry) (limbo mid left : List ℕ) → Unlinks counting c n x limbo y mid → MakesRoom counting c (counting.unlinked y) mid left
-    → Unlinks counting c (suc n) x limbo (counting.unlinked y) (left ++ counting.name y ∷ [])
-unlinks_more c zero x y limbo mid left u room = (
-  left,
-  subst (λ r. MakesRoom counting c (counting.unlinked r) limbo left) u.0 (subst (λ l. MakesRoom counting c (counting.unlinked y) l left) u.1 room),
-  (ap counting.unlinked u.0, ap (λ r. left ++ counting.name r ∷ []) u.0),
-)
-unlinks_more c (suc n) x y limbo mid left u room = (u.0, u.1, unlinks_more c n (counting.unlinked x) y _ mid left u.2 room)
 
 -- a linked group is counted
 pub some_linked : (xs : List GroupState) (g b : ℕ) → IsLinkedTo xs g b → 0 < linked_count xs

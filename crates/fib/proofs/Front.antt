@@ -10,9 +10,7 @@ use Rattle.qsbr.specs.Counters.{IsChecked, Passes}
 use Rattle.defer_queue.specs.Reclaims.{FreesFront, Ends, Reclaims as QueueReclaims}
 use Rattle.defer_queue.specs.Longest.{TakesLongest}
 use Rattle.defer_queue.proofs.Longest.{Reclaims-longest}
-use Rattle.fib_model.specs.State.{IsUnheld}
-use Rattle.fib_model.specs.Counting.{counting}
-use Rattle.fib_model.specs.Reclaiming.{Reclaims}
+use Rattle.fib_model.proofs.Frozen.{IsUnheld, Reclaims, counted}
 use Rattle.fib.specs.declared.keeper.Keeper.{Keeper}
 use Rattle.fib.specs.Waiting.{tokens_of}
 use Rattle.fib.proofs.Waiting.{freed_states}
@@ -58,7 +56,7 @@ reclaim_none max zero items left k z stopped e r = ended max zero left r.last z 
 reclaim_none max (suc n) items left k z stopped e r = absurd (omega (arith, e))
 
 -- a token that passes is held by no worker
-pub passed_unheld : (d : Registry) (token : ℕ) → Passes token d.counters → IsUnheld counting d token
+pub passed_unheld : (d : Registry) (token : ℕ) → Passes token d.counters → IsUnheld counted d token
 passed_unheld d token passes busy held =
     let holds = held.0.holds in
     elim (passes busy.worker holds.registered) [
@@ -66,10 +64,10 @@ passed_unheld d token passes busy held =
       | inr past ↦ omega (arith, past, holds.behind)
     ]
 
-all_unheld : (d : Registry) (items : List (ℕ × ℕ)) → All (λ item. IsChecked item.1 d.counters (Ok tt)) items → All (λ item. IsUnheld counting d item.1) items
-all_unheld d [] all = All-nil (λ item. IsUnheld counting d item.1)
+all_unheld : (d : Registry) (items : List (ℕ × ℕ)) → All (λ item. IsChecked item.1 d.counters (Ok tt)) items → All (λ item. IsUnheld counted d item.1) items
+all_unheld d [] all = All-nil (λ item. IsUnheld counted d item.1)
 all_unheld d (item ∷ items) all =
-    All-cons (λ item. IsUnheld counting d item.1) item items (passed_unheld d item.1 (All-head (λ item. IsChecked item.1 d.counters (Ok tt)) item items all))
+    All-cons (λ item. IsUnheld counted d item.1) item items (passed_unheld d item.1 (All-head (λ item. IsChecked item.1 d.counters (Ok tt)) item items all))
     (all_unheld d items (All-tail (λ item. IsChecked item.1 d.counters (Ok tt)) item items all))
 
 some_token : (P : ℕ × ℕ → Type 0) (Q : ℕ → Type 0) → ((item : ℕ × ℕ) → P item → Q item.1) → (n : ℕ) (items : List (ℕ × ℕ)) → IsSomeAnd (slice_get items n) P → IsSomeAnd (slice_get (tokens_of items) n) Q
@@ -85,29 +83,29 @@ steady_freed d k group z same f = f.0 ∙ same
 
 stop_token : (d : Registry) (max n : ℕ) (items : List (ℕ × ℕ)) (stopped : Option Busy)
     → MatchOption stopped ((n ≡ max) ⊎ (n ≡ length items)) (λ busy. (n < max) × IsSomeAnd (slice_get items n) (λ item. IsChecked item.1 d.counters (Err busy)))
-    → MatchOption stopped ((n ≡ max) ⊎ (n ≡ length (tokens_of items))) (λ busy. (n < max) × IsSomeAnd (slice_get (tokens_of items) n) (λ u. counting.is_held_by d u busy))
+    → MatchOption stopped ((n ≡ max) ⊎ (n ≡ length (tokens_of items))) (λ busy. (n < max) × IsSomeAnd (slice_get (tokens_of items) n) (λ u. counted.is_held_by d u busy))
 stop_token d max n items None (inl e) = inl e
 stop_token d max n items None (inr e) = inr (e ∙ sym (length-map items (λ item. item.1)))
-stop_token d max n items (Some busy) e = (e.0, some_token (λ item. IsChecked item.1 d.counters (Err busy)) (λ u. counting.is_held_by d u busy) (λ item h. h) n items e.1)
+stop_token d max n items (Some busy) e = (e.0, some_token (λ item. IsChecked item.1 d.counters (Err busy)) (λ u. counted.is_held_by d u busy) (λ item h. h) n items e.1)
 
 -- a reclaim of the queue is one of its tokens
 pub reclaim_tokens : (d : Registry) (max n : ℕ) (items left : List (ℕ × ℕ)) (k z : Keeper) (stopped : Option Busy) → k.domain ≡ d → QueueReclaims checks frees max items k n stopped left z
-    → Reclaims counting d max (tokens_of items) n stopped (tokens_of (drop n items))
+    → Reclaims counted d max (tokens_of items) n stopped (tokens_of (drop n items))
 reclaim_tokens d max n items left k z stopped same r =
     let t : TakesLongest (λ token r. IsChecked token d.counters r) max items n stopped = Reclaims-longest checks frees (λ (x : Keeper). x.domain ≡ d) (λ token r. IsChecked token d.counters r) (steady_checked d) (steady_freed d) max items k n stopped left z same r in
     record {
       at_most = t.at_most;
       within = subst (λ m. n ≤ m) (sym (length-map items (λ item. item.1))) t.within;
-      unheld = subst (λ xs. All (IsUnheld counting d) xs) (sym (take-map (λ item. item.1) n items)) (All-map (IsUnheld counting d) (λ item. item.1) (take n items) (all_unheld d (take n items) t.passed));
+      unheld = subst (λ xs. All (IsUnheld counted d) xs) (sym (take-map (λ item. item.1) n items)) (All-map (IsUnheld counted d) (λ item. item.1) (take n items) (all_unheld d (take n items) t.passed));
       rest = sym (drop-map (λ item. item.1) n items);
       end = stop_token d max n items stopped t.end;
     }
 
 -- a reclaim of one that freed some freed the oldest
-pub reclaims_one : (d : Registry) (limbo left : List ℕ) (n : ℕ) (stopped : Option Busy) → Reclaims counting d 1 limbo n stopped left → n ≢ 0 → (u : ℕ) × IsUnheld counting d u × (limbo ≡ u ∷ left)
+pub reclaims_one : (d : Registry) (limbo left : List ℕ) (n : ℕ) (stopped : Option Busy) → Reclaims counted d 1 limbo n stopped left → n ≢ 0 → (u : ℕ) × IsUnheld counted d u × (limbo ≡ u ∷ left)
 reclaims_one d limbo left zero stopped r some = absurd (some refl)
 reclaims_one d [] left (suc n) stopped r some = absurd (omega (arith, r.within))
-reclaims_one d (u ∷ limbo) left (suc zero) stopped r some = (u, All-head (IsUnheld counting d) u [] r.unheld, ap (λ xs. u ∷ xs) (sym r.rest))
+reclaims_one d (u ∷ limbo) left (suc zero) stopped r some = (u, All-head (IsUnheld counted d) u [] r.unheld, ap (λ xs. u ∷ xs) (sym r.rest))
 reclaims_one d (u ∷ limbo) left (suc (suc n)) stopped r some = absurd (omega (arith, r.at_most))
 
 pub tokens_last : (n g t : ℕ) (items : List (ℕ × ℕ)) → tokens_of (drop n items ++ (g, t) ∷ []) ≡ tokens_of (drop n items) ++ t ∷ []

@@ -10,8 +10,8 @@ use Rattle.fib_model.specs.declared.command.Outcome.{Outcome}
 use Rattle.fib_model.specs.declared.event.Event.{Event}
 use Rattle.fib_model.specs.State.{State}
 use Rattle.fib_model.specs.Outcomes.{Log, Runs, logged}
-use Rattle.fib_model.specs.Counting.{counting, opened}
-use Rattle.fib_model.specs.Textbook.{textbook, beginning}
+use Rattle.fib_model.specs.Counting.{by_counters, opened}
+use Rattle.fib_model.specs.Textbook.{by_intervals, beginning}
 use Rattle.fib_model.specs.Laws.{Agrees}
 use Rattle.fib_model.proofs.Followed.{counters_tell_intervals}
 
@@ -30,16 +30,16 @@ module _ (f s : ℕ) where
   logged_on log older (c ∷ cs) [] = refl
   logged_on log older (c ∷ cs) (o ∷ os) = logged_on ((c, o) ∷ log) older cs os
 
-  runs_on : (c : Config) (x y z : State Registry) (log older : Log f s) → Runs counting f s c x older y → Runs counting f s c y log z → Runs counting f s c x (log ++ older) z
-  runs_on c x y z [] older before r = subst (λ w. Runs counting f s c x older w) (sym r) before
+  runs_on : (c : Config) (x y z : State Registry) (log older : Log f s) → Runs by_counters f s c x older y → Runs by_counters f s c y log z → Runs by_counters f s c x (log ++ older) z
+  runs_on c x y z [] older before r = subst (λ w. Runs by_counters f s c x older w) (sym r) before
   runs_on c x y z (done ∷ log) older before r = (r.0, runs_on c x y r.0 log older before r.1, r.2)
 
   -- a run after another, told by reader intervals
-  pub told : (c : Config) (y z : State Registry) (older : Log f s) (cs : List (Command f s)) (os : List Outcome) → IsConfig c → Runs counting f s c (opened c) older y → Runs counting f s c y (logged [] cs os) z
-      → (w : State (List Event)) × Runs (textbook c) f s c beginning (logged older cs os) w × Agrees c z w
+  pub told : (c : Config) (y z : State Registry) (older : Log f s) (cs : List (Command f s)) (os : List Outcome) → IsConfig c → Runs by_counters f s c (opened c) older y → Runs by_counters f s c y (logged [] cs os) z
+      → (w : State (List Event)) × Runs (by_intervals c) f s c beginning (logged older cs os) w × Agrees c z w
   told c y z older cs os limits before r =
       counters_tell_intervals f s c (logged older cs os) z limits
-      (subst (λ l. Runs counting f s c (opened c) l z) (sym (logged_on [] older cs os)) (runs_on c (opened c) y z (logged [] cs os) older before r))
+      (subst (λ l. Runs by_counters f s c (opened c) l z) (sym (logged_on [] older cs os)) (runs_on c (opened c) y z (logged [] cs os) older before r))
 
   -- the log when one more command of a list is done
   pub log_next : (cs : List (Command f s)) (os : List Outcome) (i : ℕ) (c : Command f s) (o : Outcome) → i < length cs → c ≡ get_or cs i c → length os ≡ length cs

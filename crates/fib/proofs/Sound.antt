@@ -22,6 +22,8 @@ use Rattle.fib_model.specs.State.{State, IsExhausted, HasTokens}
 use Rattle.fib_model.specs.Counting.{counting}
 use Rattle.fib_model.specs.Reclaiming.{Unlinks}
 use Rattle.fib_model.specs.Outcomes.{groups_in_use, Shrinks}
+use Rattle.fib_model.proofs.Frozen.{counted, unlinks_frozen}
+use Rattle.fib_model.proofs.Frozen as frozen
 use Rattle.fib.specs.declared.pool.Pool.{Pool}
 use Rattle.fib.specs.Change.{MayBegin, IsMade}
 use Rattle.fib.specs.Fib.{FibState, IsSound, table_of}
@@ -93,9 +95,12 @@ may_begin {f} {t = t} {pool = pool} u known begun held left = record {
 }
 
 -- unlinkings move no counter
+frozen_counters : (c : Config) (n : ℕ) (x y : Registry) (l m : List ℕ) → frozen.Unlinks counted c n x l y m → y.counters ≡ x.counters
+frozen_counters c zero x y l m u = ap (λ (r : Registry). r.counters) u.0
+frozen_counters c (suc n) x y l m u = ap (λ (r : Registry). r.counters) u.5 ∙ frozen_counters c n x u.0 l u.1 u.3
+
 pub unlinks_counters : (c : Config) (n : ℕ) (x y : Registry) (l m : List ℕ) → Unlinks counting c n x l y m → y.counters ≡ x.counters
-unlinks_counters c zero x y l m u = ap (λ (r : Registry). r.counters) u.0
-unlinks_counters c (suc n) x y l m u = unlinks_counters c n (counting.unlinked x) y _ m u.2
+unlinks_counters c n x y l m u = frozen_counters c n x y l m (unlinks_frozen counted c n x y l m u)
 
 -- a change that was made, after a group was perhaps taken for it
 pub sound_after : {f s : ℕ} {c : Config} {rules : RuleList} {t : Words} {pool : Pool} {n : ℕ} {u : Plan} {old : Pool} {z : Words} {new : Pool} (rules' : RuleList) → IsSound f s c rules t pool n
@@ -123,7 +128,17 @@ pub made_shrinks : {f s : ℕ} {c : Config} {rules rules' : RuleList} {t : Words
 made_shrinks {f} {s} {c} {rules} {pool = pool} {new = new} R known made after left gone =
     let count : linked_count pool.keeper.groups - linked_count new.keeper.groups ≡ groups_in_use f s rules.rules - groups_in_use f s R =
     omega (arith, sound_linked known, sound_linked after, ap (groups_in_use f s) gone) in
-    (left, subst (λ k. Unlinks counting c k pool.keeper.domain (tokens pool) new.keeper.domain (tokens new)) count made.unlinks, gone, refl)
+    (
+      left,
+      (
+        pool.keeper.domain,
+        new.keeper.domain,
+        refl,
+        subst (λ k. Unlinks counting c k pool.keeper.domain (tokens pool) new.keeper.domain (tokens new)) count made.unlinks,
+        refl,
+      ),
+      (gone, refl),
+    )
 
 -- a reclaim frees groups that no block has
 pub sound_reclaimed : {f s : ℕ} {c : Config} {rules : RuleList} {t : Words} {pool : Pool} {n : ℕ} (freed : ℕ) (new : Pool) → IsSound f s c rules t pool n

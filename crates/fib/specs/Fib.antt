@@ -11,7 +11,7 @@ use Rattle.qsbr.specs.Registry.{Registry}
 use Rattle.lpm_limits.specs.Limits.{IsConfig}
 use Rattle.lpm_limits.specs.declared.config.Config.{Config}
 use Rattle.fib_model.specs.declared.command.Report.{Report}
-use Rattle.fib_model.specs.Counting.{counting, opened}
+use Rattle.fib_model.specs.Counting.{by_counters, opened}
 use Rattle.fib_model.specs.State.{State}
 use Rattle.fib.specs.declared.pool.Pool.{Pool}
 use Rattle.fib.specs.Pool.{tokens}
@@ -29,7 +29,7 @@ fresh c = record { config = c; table = opened c }
 -- the table after a report of this worker
 abbrev pub told : Report → ℕ → FibState → FibState
 told report worker f =
-    let readers = counting.told report worker f.table.readers in
+    let readers = by_counters.told report worker f.table.readers in
     record f { table = record f.table { readers = readers } }
 
 -- what outcomes depend on, by what a table keeps

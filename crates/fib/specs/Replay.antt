@@ -11,8 +11,8 @@ use Rattle.fib_model.specs.declared.command.Outcome.{Outcome}
 use Rattle.fib_model.specs.declared.event.Event.{Event}
 use Rattle.fib_model.specs.State.{State}
 use Rattle.fib_model.specs.Outcomes.{Log, Runs, logged, groups_in_use}
-use Rattle.fib_model.specs.Counting.{counting, opened}
-use Rattle.fib_model.specs.Textbook.{textbook, beginning}
+use Rattle.fib_model.specs.Counting.{by_counters, opened}
+use Rattle.fib_model.specs.Textbook.{textbook, by_intervals, beginning}
 use Rattle.fib_model.specs.History.{history, last_of}
 use Rattle.fib_model.specs.Laws.{Agrees}
 use Rattle.fib.specs.declared.replay.Replay.{Replay}
@@ -22,16 +22,16 @@ use Rattle.fib.specs.declared.replay.Replay.{Replay}
 abbrev pub GoesOn : (first second : ℕ) → Config → State Registry → List (Command first second)
     → List Outcome → State Registry → Type 0
 GoesOn first second c x commands outcomes z =
-    (log : Log first second) → Runs counting first second c (opened c) log x
+    (log : Log first second) → Runs by_counters first second c (opened c) log x
     → (y : State (List Event))
-    × Runs (textbook c) first second c beginning (logged log commands outcomes) y × Agrees c z y
+    × Runs (by_intervals c) first second c beginning (logged log commands outcomes) y × Agrees c z y
 
 -- the commands of the log came out so on a table of these limits, and after the last one the counts
 -- are these, and the addresses have these next hops, each of the longest match in the last version
 pub record IsReplay (first second : ℕ) (c : Config) (log : Log first second) (addrs : List ℕ)
     (r : Replay) : Type 0 where
   pub state : State (List Event)
-  pub runs : Runs (textbook c) first second c beginning log state
+  pub runs : Runs (by_intervals c) first second c beginning log state
   pub hops : AreLongestHops (first + second) (last_of (history log)) addrs r.hops.items
   pub rules : r.rules ≡ len (last_of (history log))
   pub versions : r.versions ≡ length (history log)

@@ -2,7 +2,7 @@
 
 ghost use Rattle.std.specs.Prelude.{◌≡◌, ℕ, [], ◌∷◌, List, length, IfOk, OnErr};
 ghost use Rattle.fib_model.specs.Outcomes.{Does, Reports, Runs, logged};
-ghost use Rattle.fib_model.specs.Counting.{counting};
+ghost use Rattle.fib_model.specs.Counting.{by_counters};
 ghost use Rattle.fib.specs.Replay.{GoesOn};
 
 use super::Fib;
@@ -13,7 +13,7 @@ use std::alloc::{AllocError, Global};
 impl<const FIRST: u32, const SECOND: u32> Fib<FIRST, SECOND> {
     /// Does what a worker's report asks for, where that worker may make it.
     fn report(&mut self, report: Report, worker: usize) -> Outcome
-        ensures reports { Reports counting self.old.config self.old.table report worker
+        ensures reports { Reports by_counters self.old.config self.old.table report worker
             result self.new.table }
         ensures config { self.new.config ≡ self.old.config }
     {
@@ -34,7 +34,7 @@ impl<const FIRST: u32, const SECOND: u32> Fib<FIRST, SECOND> {
 
     /// Does a command.
     pub fn execute(&mut self, command: &Command<FIRST, SECOND>) -> Outcome
-        ensures does { Does counting FIRST SECOND self.old.config self.old.table command.now
+        ensures does { Does by_counters FIRST SECOND self.old.config self.old.table command.now
             result self.new.table }
         ensures config { self.new.config ≡ self.old.config }
     {
@@ -64,7 +64,7 @@ impl<const FIRST: u32, const SECOND: u32> Fib<FIRST, SECOND> {
         commands: &[Command<FIRST, SECOND>],
     ) -> Result<Vec<Outcome>, AllocError>
         ensures as_many { IfOk result (λ v. length v.items ≡ length commands.now) }
-        ensures runs { IfOk result (λ v. Runs counting FIRST SECOND self.old.config self.old.table
+        ensures runs { IfOk result (λ v. Runs by_counters FIRST SECOND self.old.config self.old.table
             (logged [] commands.now v.items) self.new.table) }
         ensures textbook { IfOk result (λ v. GoesOn FIRST SECOND self.old.config self.old.table
             commands.now v.items self.new.table) }

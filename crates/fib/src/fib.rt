@@ -8,7 +8,7 @@ ghost use Rattle.lpm_update.specs.Represents.{LastFits};
 ghost use Rattle.lpm_limits.specs.Limits.{IsConfig};
 ghost use Rattle.fib_model.specs.State.{IsExhausted};
 ghost use Rattle.fib_model.specs.Outcomes.{groups_in_use, Adds, Deletes, Flushes, Frees};
-ghost use Rattle.fib_model.specs.Counting.{counting};
+ghost use Rattle.fib_model.specs.Counting.{by_counters, counting};
 ghost use Rattle.fib.specs.Fib.{fresh, told};
 ghost use Rattle.fib_model.specs.declared.command.Report.TheVariants as report;
 
@@ -251,7 +251,7 @@ impl<const FIRST: u32, const SECOND: u32> Fib<FIRST, SECOND> {
     /// Whether the worker is online.
     pub fn is_online(&self, worker: usize) -> bool
         requires { worker < self.now.config.workers }
-        ensures { IsTrue result ↔ counting.is_online self.now.table.readers worker }
+        ensures { IsTrue result ↔ by_counters.is_online self.now.table.readers worker }
     {
         self.pool.keeper.domain.is_online(worker)
     }
@@ -259,7 +259,7 @@ impl<const FIRST: u32, const SECOND: u32> Fib<FIRST, SECOND> {
     /// The worker goes online: from now on it may hold each group that is given up.
     pub fn online(&mut self, worker: usize)
         requires worker { worker < self.old.config.workers }
-        requires offline { ¬ counting.is_online self.old.table.readers worker }
+        requires offline { ¬ by_counters.is_online self.old.table.readers worker }
         ensures { self.new ≡ told report.Online worker self.old }
     {
         self.pool.keeper.domain.online(worker);
@@ -268,7 +268,7 @@ impl<const FIRST: u32, const SECOND: u32> Fib<FIRST, SECOND> {
     /// The worker goes offline: it holds no group.
     pub fn offline(&mut self, worker: usize)
         requires worker { worker < self.old.config.workers }
-        requires online { counting.is_online self.old.table.readers worker }
+        requires online { by_counters.is_online self.old.table.readers worker }
         ensures { self.new ≡ told report.Offline worker self.old }
     {
         self.pool.keeper.domain.offline(worker);
@@ -277,7 +277,7 @@ impl<const FIRST: u32, const SECOND: u32> Fib<FIRST, SECOND> {
     /// The worker has ended its lookups so far: it holds no group that was given up before.
     pub fn quiescent(&mut self, worker: usize)
         requires worker { worker < self.old.config.workers }
-        requires online { counting.is_online self.old.table.readers worker }
+        requires online { by_counters.is_online self.old.table.readers worker }
         ensures { self.new ≡ told report.Quiescent worker self.old }
     {
         self.pool.keeper.domain.quiescent(worker);

@@ -27,7 +27,7 @@ impl Pool {
     pub(crate) fn reclaim(&mut self, max: usize) -> Reclaimed
         requires { AreWaiting self.old.keeper.groups self.old.queue.items }
         ensures reclaims { Reclaims counting self.old.keeper.domain max (tokens self.old)
-            result.freed result.stopped (tokens self.new) }
+            result.freed result.stopped (tokens self.new) self.new.keeper.domain }
         ensures domain { self.new.keeper.domain ≡ self.old.keeper.domain }
         ensures queue { self.new.queue ≡ record self.old.queue {
           items = drop result.freed self.old.queue.items;
@@ -46,7 +46,9 @@ impl Pool {
         requires linked { (block : ℕ) × IsLinkedTo self.old.keeper.groups group block }
         requires queued { IsQueued self.old.keeper.groups self.old.queue }
         requires token { self.old.keeper.domain.token < 2 ^ 62 }
-        ensures domain { self.new.keeper.domain ≡ counting.unlinked self.old.keeper.domain }
+        ensures domain { self.new.keeper.domain ≡ record self.old.keeper.domain {
+          token = self.old.keeper.domain.token + 1;
+        } }
         ensures limbo { GoesLast config.now self.old self.new }
         ensures queued { IsQueued self.new.keeper.groups self.new.queue }
         ensures states { length self.new.keeper.groups ≡ length self.old.keeper.groups }
@@ -65,7 +67,7 @@ impl Pool {
     fn make_room(&mut self, config: &Config)
         requires { AreWaiting self.old.keeper.groups self.old.queue.items }
         ensures room { MakesRoom counting config.now self.old.keeper.domain
-            (tokens self.old) (tokens self.new) }
+            (tokens self.old) (tokens self.new) self.new.keeper.domain }
         ensures domain { self.new.keeper.domain ≡ self.old.keeper.domain }
         ensures freed { FreesSome self.old self.new }
         ensures waiting { AreWaiting self.new.keeper.groups self.new.queue.items }

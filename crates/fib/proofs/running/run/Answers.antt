@@ -7,7 +7,7 @@ use Rattle.qsbr.specs.Registry.{Registry}
 use Rattle.fib_model.specs.Counting.{counting}
 use Rattle.fib_model.specs.Reclaiming.{Unlinks}
 use Rattle.fib.specs.Pool.{tokens}
-use Rattle.fib.proofs.Changing.{unlinks_more, some_linked, few_linked}
+use Rattle.fib.proofs.Changing.{some_linked, few_linked}
 use Rattle.fib.proofs.running.run.Goals as goal
 
 pub step-requires-clause-allows : goal.step-requires-clause-allows
@@ -39,7 +39,6 @@ loop-group-preserved-in-Unlinked g c =
     let gone = c.retire.ensures in
     let held = tied_gone f old.keeper.groups _ _ c.in-Unlinked.block c.in-Unlinked.group known.tied steps.held in
     let count : suc (linked_count first.keeper.groups - linked_count old.keeper.groups) ≡ linked_count first.keeper.groups - linked_count new.keeper.groups = omega (arith, gone.linked, known.fewer) in
-    let more = unlinks_more c.args.config.now (linked_count first.keeper.groups - linked_count old.keeper.groups) first.keeper.domain old.keeper.domain (tokens first) (tokens old) gone.limbo.0 known.unlinks gone.limbo.1 in
     let token = ap (λ (r : Registry). r.token) gone.domain in
     record {
       run = run_goes_on f s c.args.update c.args.cells.now _ c.loop-group.update c.step.new.self c.loop-group.cells c.step.new.cells known.run steps;
@@ -49,8 +48,7 @@ loop-group-preserved-in-Unlinked g c =
       fewer = omega (arith, gone.linked, known.fewer);
       token = omega (arith, gone.linked, known.token, token);
       unlinks = subst (λ k. Unlinks counting c.args.config.now k first.keeper.domain (tokens first) new.keeper.domain (tokens new)) count
-          (subst (λ (r : Registry). Unlinks counting c.args.config.now (suc (linked_count first.keeper.groups - linked_count old.keeper.groups)) first.keeper.domain (tokens first) r (tokens new)) (sym gone.domain)
-          (subst (λ l. Unlinks counting c.args.config.now (suc (linked_count first.keeper.groups - linked_count old.keeper.groups)) first.keeper.domain (tokens first) (counting.unlinked old.keeper.domain) l) (sym gone.limbo.2) more));
+          (old.keeper.domain, tokens old, known.unlinks, gone.limbo);
     }
 
 pub loop-group-preserved : goal.loop-group-preserved

@@ -3,7 +3,7 @@ use Rattle.std.proofs.lemmas.List.{take_all}
 use Rattle.std.proofs.Math.ListN.{length-set}
 use Rattle.lpm_limits.specs.declared.config.Config.{Config}
 use Rattle.lpm_limits.specs.Limits.{IsConfig}
-use Rattle.fib_model.specs.Counting.{counting}
+use Rattle.fib_model.specs.Counting.{by_counters}
 use Rattle.fib_model.specs.Outcomes.{Runs, Does, logged}
 use Rattle.fib.proofs.Logs.{log_next, told}
 use Rattle.fib.proofs.fib.Fib.execute_all.Goals as goal
@@ -17,9 +17,9 @@ loop-index-preserved g c =
     let command = c.index-commands-index.result in
     let outcome = c.execute.result in
     record {
-      done = subst (λ log. Runs counting f s c.args.self.now.config c.args.self.now.table log c.execute.new.self.table)
+      done = subst (λ log. Runs by_counters f s c.args.self.now.config c.args.self.now.table log c.execute.new.self.table)
           (sym (log_next f s c.args.commands.now c.loop-index.outcomes.items i command outcome c.loop-index-test.true c.index-commands-index.is known.room))
-          (c.loop-index.self.table, known.done, subst (λ (k : Config). Does counting f s k c.loop-index.self.table command outcome c.execute.new.self.table) known.config c.execute.ensures.does);
+          (c.loop-index.self.table, known.done, subst (λ (k : Config). Does by_counters f s k c.loop-index.self.table command outcome c.execute.new.self.table) known.config c.execute.ensures.does);
       room = length-set c.loop-index.outcomes.items i outcome ∙ known.room;
       config = c.execute.ensures.config ∙ known.config;
     }
@@ -32,6 +32,6 @@ returns-clause-textbook g c = λ log before.
     let commands = c.args.commands.now in
     let outcomes = c.loop-index.outcomes.items in
     let end = c.loop-index-test.false in
-    let all = subst (λ os. Runs counting f s c.args.self.now.config c.args.self.now.table (logged [] commands os) c.loop-index.self.table) (take_all c.loop-index.index outcomes (omega (arith, end, known.room)))
-    (subst (λ cs. Runs counting f s c.args.self.now.config c.args.self.now.table (logged [] cs (take c.loop-index.index outcomes)) c.loop-index.self.table) (take_all c.loop-index.index commands end) known.done) in
+    let all = subst (λ os. Runs by_counters f s c.args.self.now.config c.args.self.now.table (logged [] commands os) c.loop-index.self.table) (take_all c.loop-index.index outcomes (omega (arith, end, known.room)))
+    (subst (λ cs. Runs by_counters f s c.args.self.now.config c.args.self.now.table (logged [] cs (take c.loop-index.index outcomes)) c.loop-index.self.table) (take_all c.loop-index.index commands end) known.done) in
     told f s c.args.self.now.config c.args.self.now.table c.loop-index.self.table log commands outcomes (subst IsConfig c.config-config.ensures.value c.config-config.ensures.limits) before all

@@ -1,4 +1,4 @@
-use Rattle.std.proofs.Common.{arith, sym, ap, subst, ◌∙◌, ◌<◌, ◌++◌, ◌∷◌, [], length}
+use Rattle.std.proofs.Common.{arith, refl, sym, ap, subst, ◌∙◌, ◌+◌, ◌<◌, ◌++◌, ◌∷◌, [], length}
 use Rattle.lpm_groups.specs.declared.GroupState.TheVariants.{Limbo}
 use Rattle.lpm_groups.proofs.Tallies.{Retires-set}
 use Rattle.qsbr.specs.Registry.{Registry}
@@ -29,9 +29,12 @@ returns-clause-limbo c =
     let x = c.args.self.now in
     let freed = c.make_room.ensures.freed in
     let items = ap (λ (q : Queue). q.items) freed.2 in
-    let token = ap (λ (r : Registry). r.token) c.start-token.ensures.bumped in (
+    let bumped : Registry = record x.keeper.domain { token = x.keeper.domain.token + 1 } in (
+      x.keeper.domain.token + 1,
+      bumped,
       tokens_of c.make_room.new.self.queue.items,
-      subst (λ (r : Registry). MakesRoom counting c.args.config.now r (tokens_of x.queue.items) (tokens_of c.make_room.new.self.queue.items)) c.start-token.ensures.bumped c.make_room.ensures.room,
+      (refl, refl),
+      subst (λ (r : Registry). MakesRoom counting c.args.config.now r (tokens_of x.queue.items) (tokens_of c.make_room.new.self.queue.items) c.make_room.new.self.keeper.domain) c.start-token.ensures.bumped c.make_room.ensures.room,
       ap (λ (q : Queue). tokens_of q.items) c.retire-2.ensures
           ∙ ap (λ ys. tokens_of (ys ++ (c.args.group, c.start-token.result) ∷ [])) items ∙ tokens_last freed.0 c.args.group c.start-token.result x.queue.items
           ∙ ap (λ ys. tokens_of ys ++ c.start-token.result ∷ []) (sym items) ∙ ap (λ t. tokens_of c.make_room.new.self.queue.items ++ t ∷ []) c.start-token.ensures.value,

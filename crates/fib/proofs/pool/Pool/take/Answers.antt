@@ -2,6 +2,7 @@ use Rattle.std.proofs.Common.{arith, refl, sym, subst, ◌≢◌}
 use Rattle.defer_queue.specs.Limbo.{Limbo as Queue}
 use Rattle.fib.specs.Waiting.{AreWaiting, IsQueued, IsFreed, IsTaken, tokens_of}
 use Rattle.fib.proofs.Waiting.{taken_from, taken_queue, taken_after, freed_queue, still_free}
+use Rattle.fib_model.proofs.Frozen.{counted, reclaims_frozen}
 use Rattle.fib.proofs.Front.{reclaims_one, tokens_within}
 use Rattle.fib.proofs.pool.Pool.take.Goals as goal
 
@@ -25,7 +26,9 @@ returns-in-Some-take_least-clause-taken c =
     let freed = subst (λ ys. IsFreed ys x.queue.items r.result.freed r.new.self.keeper.groups) c.in_default.ensures.unchanged r.ensures.freed in
     let least = c.in-Some-take_least.ensures.least.free in
     let some : r.result.freed ≢ 0 = λ e. still_free r.new.self.keeper.groups c.in-Some-take_least.group least (omega (arith, freed.free, e, none)) in
-    ((λ more. absurd (omega (arith, more, none))), (λ _. reclaims_one x.keeper.domain (tokens_of x.queue.items) (tokens_of r.new.self.queue.items) r.result.freed r.result.stopped r.ensures.reclaims some))
+    let frozen = reclaims_frozen counted x.keeper.domain r.new.self.keeper.domain 1 (tokens_of x.queue.items) r.result.freed r.result.stopped (tokens_of r.new.self.queue.items) r.ensures.reclaims in
+    let one = reclaims_one x.keeper.domain (tokens_of x.queue.items) (tokens_of r.new.self.queue.items) r.result.freed r.result.stopped frozen.0 some in
+    ((λ more. absurd (omega (arith, more, none))), (λ _. (one.0, one.2, (one.1, frozen.1))))
 
 pub returns-in-Some-take_least-clause-linked : goal.returns-in-Some-take_least-clause-linked
 returns-in-Some-take_least-clause-linked c =
