@@ -44,7 +44,7 @@ impl<const FIRST: u32, const SECOND: u32> Plain<FIRST, SECOND> {
     ghost use Rattle.fib_model.specs.Outcomes.{Adds, Deletes, Does, Flushes, IsNew, LacksGroup, groups_in_use};
     ghost use Rattle.fib_model.specs.Reclaiming.{Unlinks};
     ghost use Rattle.fib_model.specs.State.{HasTokens, IsExhausted};
-    ghost use Rattle.fib_model.specs.Textbook.{textbook, beginning};
+    ghost use Rattle.fib_model.specs.Textbook.{textbook, by_intervals, beginning};
     ghost use Rattle.reader_intervals.specs.Intervals.{IsTidy};
     ghost use Rattle.fib_model.specs.Intervals.{by_reports};
 
@@ -240,7 +240,7 @@ impl<const FIRST: u32, const SECOND: u32> Plain<FIRST, SECOND> {
     ) -> Result<Outcome, AllocError>
         requires config { IsConfig config.now }
         requires sound { IsSound config.now self.old.waiting }
-        ensures does { IfOk result (λ outcome. Does (textbook config.now) FIRST SECOND config.now
+        ensures does { IfOk result (λ outcome. Does (by_intervals config.now) FIRST SECOND config.now
             (state_of self.old) command.now outcome (state_of self.new)) }
         ensures sound { OnOk result (IsSound config.now self.new.waiting) }
     {

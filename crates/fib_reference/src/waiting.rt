@@ -1,6 +1,6 @@
 //! What readers and the writer did, and what waits for readers.
 
-ghost use Rattle.std.specs.Prelude.{◌≡◌, ℕ, ◌+◌, ◌^◌, ◌<◌, ◌≤◌, [], ◌∷◌, length, drop, MatchOption, MatchResult, OnOk, slice_index, IsSomeAnd, slice_get, IfOk, IfErr, OnErr, IsTrue, IsFalse};
+ghost use Rattle.std.specs.Prelude.{◌≡◌, ℕ, ◌+◌, ◌^◌, ◌<◌, ◌≤◌, [], ◌∷◌, length, drop, MatchOption, MatchResult, OnOk, slice_index, slice_get, Some, Ok, Err, IfOk, IfErr, OnErr, IsTrue, IsFalse};
 ghost use Rattle.lpm_limits.specs.Limits.{IsConfig};
 ghost use Rattle.fib_model.specs.Outcomes as outcomes;
 ghost use Rattle.fib_model.specs.Textbook as book;
@@ -21,9 +21,8 @@ pub(crate) struct Waiting {
 impl Waiting {
     ghost use Rattle.reader_intervals.specs.Intervals.{IsRunningSince, IsHeldByWorker, IsTidy};
     ghost use Rattle.fib_model.specs.Intervals.{by_reports, unlinkings_before, unlinkings};
-    ghost use Rattle.fib_model.specs.Reclaiming.{Reclaims, Unlinks};
-    ghost use Rattle.fib_model.specs.State.{IsUnheld};
-    ghost use Rattle.fib_model.specs.Textbook.{textbook};
+    ghost use Rattle.fib_model.specs.Reclaiming.{Reclaims, UnlinksOne, Unlinks};
+    ghost use Rattle.fib_model.specs.Textbook.{textbook, by_intervals};
     ghost use Rattle.fib_reference.specs.Expected.{IsSound, events_of, state_with};
     ghost use Rattle.fib_model.specs.Outcomes.{MayReport, Reports};
     ghost use Rattle.lpm_rules.specs.RuleMap.{RuleMap};
@@ -75,8 +74,9 @@ impl Waiting {
     fn holder(&self, config: &Config, place: usize) -> Option<Busy>
         requires config { IsConfig config.now }
         requires sound { IsSound config.now self.now }
-        ensures { MatchOption result (IsUnheld (textbook config.now) (events_of self.now) place)
-            (λ busy. (textbook config.now).is_held_by (events_of self.now) place busy) }
+        ensures { let events = events_of self.now in MatchOption result
+            ((textbook config.now).checks events place (Ok tt) events)
+            (λ busy. (textbook config.now).checks events place (Err busy) events) }
     {
         for worker in 0..config.workers {
             if let Some(busy) = self.held_by(config, place, worker) {
@@ -91,7 +91,8 @@ impl Waiting {
         requires config { IsConfig config.now }
         requires sound { IsSound config.now self.now }
         ensures { Reclaims (textbook config.now) (events_of self.now) max self.now.limbo.items
-            result.freed result.stopped (drop result.freed self.now.limbo.items) }
+            result.freed result.stopped (drop result.freed self.now.limbo.items)
+            (events_of self.now) }
     {
         let most = max.min(self.limbo.len());
         for freed in 0..most {
@@ -124,7 +125,8 @@ impl Waiting {
         requires config { IsConfig config.now }
         requires sound { IsSound config.now self.old }
         ensures limbo { Reclaims (textbook config.now) (events_of self.old) max
-            self.old.limbo.items result.freed result.stopped self.new.limbo.items }
+            self.old.limbo.items result.freed result.stopped self.new.limbo.items
+            (events_of self.new) }
         ensures events { self.new.events ≡ self.old.events }
     {
         let reclaimed = self.front(config, max);
@@ -136,11 +138,12 @@ impl Waiting {
     pub(crate) fn take_front(&mut self, config: &Config) -> Result<(), Option<Busy>>
         requires config { IsConfig config.now }
         requires sound { IsSound config.now self.old }
-        ensures taken { OnOk result ((u : ℕ) × IsUnheld (textbook config.now) (events_of self.old) u
-            × (self.old.limbo.items ≡ u ∷ self.new.limbo.items)) }
+        ensures taken { OnOk result ((u : ℕ) × (self.old.limbo.items ≡ u ∷ self.new.limbo.items)
+            × (textbook config.now).checks (events_of self.old) u (Ok tt) (events_of self.new)) }
         ensures held { IfErr result (λ oldest. MatchOption oldest (self.old.limbo.items ≡ [])
-            (λ busy. IsSomeAnd (slice_get self.old.limbo.items 0)
-            (λ u. (textbook config.now).is_held_by (events_of self.old) u busy))) }
+            (λ busy. (u : ℕ) × (slice_get self.old.limbo.items 0 ≡ Some u)
+            × (textbook config.now).checks (events_of self.old) u (Err busy)
+            (events_of self.new))) }
         ensures limbo { OnErr result (self.new.limbo ≡ self.old.limbo) }
         ensures events { self.new.events ≡ self.old.events }
     {
@@ -158,7 +161,7 @@ impl Waiting {
     fn unlink(&mut self, config: &Config) -> Result<(), AllocError>
         requires config { IsConfig config.now }
         requires sound { IsSound config.now self.old }
-        ensures unlinked { OnOk result (Unlinks (textbook config.now) config.now 1
+        ensures unlinked { OnOk result (UnlinksOne (textbook config.now) config.now
             (events_of self.old) self.old.limbo.items (events_of self.new) self.new.limbo.items) }
         ensures sound { OnOk result (IsSound config.now self.new) }
     {
@@ -188,9 +191,9 @@ impl Waiting {
     /// Whether the worker may report this.
     fn may_report(&self, config: &Config, report: Report, worker: usize) -> bool
         ensures yes { IsTrue result → (rules : RuleMap) (begun : ℕ)
-            → MayReport (textbook config.now) (state_with rules begun self.now) report worker }
+            → MayReport (by_intervals config.now) (state_with rules begun self.now) report worker }
         ensures no { IsFalse result → (rules : RuleMap) (begun : ℕ)
-            → MayReport (textbook config.now) (state_with rules begun self.now) report worker → ⊥ }
+            → MayReport (by_intervals config.now) (state_with rules begun self.now) report worker → ⊥ }
     {
         let is_online = running(&self.events, worker).is_some();
         match report {
@@ -208,7 +211,7 @@ impl Waiting {
     ) -> Result<Outcome, AllocError>
         requires sound { IsSound config.now self.old }
         ensures reported { IfOk result (λ outcome. (rules : RuleMap) (begun : ℕ)
-            → Reports (textbook config.now) config.now (state_with rules begun self.old)
+            → Reports (by_intervals config.now) config.now (state_with rules begun self.old)
             report worker outcome (state_with rules begun self.new)) }
         ensures sound { OnOk result (IsSound config.now self.new) }
     {

@@ -6,6 +6,6 @@ pub returns-clause-taken : goal.returns-clause-taken
 returns-clause-taken c =
     let some : 0 < length c.args.self.now.limbo.items = search rules in (
       c.index.result.now,
-      c.in_default.ensures,
       front_removed c.args.self.now.limbo.items c.index.result.now c.index.result.now some c.index.ensures ∙ ap (λ l. c.index.result.now ∷ l) (sym c.remove.ensures.items),
+      c.in_default.ensures,
     )
