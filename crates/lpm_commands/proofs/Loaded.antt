@@ -16,6 +16,7 @@ use Rattle.qsbr.specs.Registry.{Registry}
 use Rattle.fib_model.specs.State.{State}
 use Rattle.fib_model.specs.Outcomes.{Adds}
 use Rattle.fib_model.specs.Counting.{counting, opened}
+use Rattle.fib_model.proofs.Frozen.{counted, adds_frozen, adds_moving}
 use Rattle.route_text.specs.declared.routes.Route.{Route}
 use Rattle.lpm_commands.specs.declared.failure.Failure.{Failure}
 use Rattle.lpm_commands.specs.declared.failure.Failure.TheVariants as failures
@@ -34,14 +35,14 @@ Loads-append c s t z (x ∷ xs) r put loads adds = (loads.0, loads.1, loads.2, L
 -- the rules after an add
 added_rules : (c : Config) (s z : State Registry) (p : Network) (h : ℕ) (put : Put) → Adds counting 24 8 c s p h (Ok put) z → z.rules ≡ insert s.rules p h
 added_rules c s z p h Unchanged adds = ap (λ (x : State Registry). x.rules) adds.1 ∙ sym (insert_same s.rules p h adds.0)
-added_rules c s z p h Replaced adds = ap (λ (x : State Registry). x.rules) adds.2
-added_rules c s z p h Added adds = ap (λ (x : State Registry). x.rules) adds.1.2
+added_rules c s z p h Replaced adds = adds.3.0
+added_rules c s z p h Added adds = adds.2.0
 
 -- an add puts no group into limbo
 added_limbo : (c : Config) (s z : State Registry) (p : Network) (h : ℕ) (put : Put) → s.limbo ≡ [] → Adds counting 24 8 c s p h (Ok put) z → z.limbo ≡ []
 added_limbo c s z p h Unchanged none adds = ap (λ (x : State Registry). x.limbo) adds.1 ∙ none
-added_limbo c s z p h Replaced none adds = ap (λ (x : State Registry). x.limbo) adds.2 ∙ none
-added_limbo c s z p h Added none adds = ap (λ (x : State Registry). x.limbo) adds.1.2 ∙ (adds.1.1.1 (λ lacks. let front = sym none ∙ (adds.1.1.0 lacks).2 in absurd cc) ∙ none)
+added_limbo c s z p h Replaced none adds = adds.4 ∙ none
+added_limbo c s z p h Added none adds = (adds.1.1.1 (λ lacks. let front = sym none ∙ (adds.1.1.0 lacks).1 in absurd cc)).0 ∙ none
 
 -- one route more
 pub loaded_more : (c : Config) (xs : List Route) (s z : State Registry) (r : Route) (put : Put) → IsLoaded c xs s → Adds counting 24 8 c s r.prefix r.hop (Ok put) z → IsLoaded c (xs ++ r ∷ []) z
@@ -64,7 +65,9 @@ refused_leaves : (c : Config) (s z : State Registry) (p : Network) (h : ℕ) (re
 refused_leaves c s z p h TooManyRules adds = (adds.0, adds.1, adds.2, refl)
 refused_leaves c s z p h Exhausted adds = (adds.0, adds.1, refl)
 refused_leaves c s z p h Memory adds = (adds.0, refl)
-refused_leaves c s z p h (NoGroups oldest) adds = (adds.0, adds.1, adds.2, refl)
+refused_leaves c s z p h (NoGroups oldest) adds =
+    let is = adds_frozen counted 24 8 c s z p h (Err (NoGroups oldest)) adds in
+    adds_moving counted 24 8 c s s p h (Err (NoGroups oldest)) (is.0, is.1, is.2, refl)
 refused_leaves c s z p h refusal adds = absurd adds
 
 -- the first route that is refused stands at this place of the routes

@@ -9,7 +9,7 @@ use Rattle.fib_model.specs.declared.command.Outcome.TheVariants as outcomes
 use Rattle.fib_model.specs.declared.event.Event.{Event}
 use Rattle.fib_model.specs.State.{State}
 use Rattle.fib_model.specs.Outcomes.{Log, Runs, logged, groups_in_use}
-use Rattle.fib_model.specs.Counting.{counting, opened}
+use Rattle.fib_model.specs.Counting.{by_counters, opened}
 use Rattle.fib_model.specs.History.{history, last_of}
 use Rattle.fib_model.specs.Laws.{Agrees}
 use Rattle.fib_model.proofs.Versions.{rules_are_last_version}
@@ -22,8 +22,8 @@ use Rattle.lpm_commands.specs.Updating.{command_of, loading_of, ComesOut, IsUpda
 use Rattle.lpm_commands.specs.Report.{IsCountOf, IsReportOf}
 
 -- the additions of the routes are a log
-loads_run : (c : Config) (log : Log 24 8) (s z : State Registry) (routes : List Route) → Runs counting 24 8 c (opened c) log s → Loads c s routes z → (loaded : List Put) × (length loaded ≡ length routes) × Runs counting 24 8 c (opened c) (logged log (map loading_of routes) (map outcomes.Put loaded)) z
-loads_run c log s z [] runs same = ([], refl, subst (Runs counting 24 8 c (opened c) log) (sym same) runs)
+loads_run : (c : Config) (log : Log 24 8) (s z : State Registry) (routes : List Route) → Runs by_counters 24 8 c (opened c) log s → Loads c s routes z → (loaded : List Put) × (length loaded ≡ length routes) × Runs by_counters 24 8 c (opened c) (logged log (map loading_of routes) (map outcomes.Put loaded)) z
+loads_run c log s z [] runs same = ([], refl, subst (Runs by_counters 24 8 c (opened c) log) (sym same) runs)
 loads_run c log s z (r ∷ routes) runs loads =
     let rest = loads_run c ((loading_of r, outcomes.Put loads.0) ∷ log) loads.1 z routes (s, runs, loads.2) loads.3 in
     (loads.0 ∷ rest.0, ap suc rest.1, rest.2)

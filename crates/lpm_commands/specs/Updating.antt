@@ -18,7 +18,7 @@ use Rattle.qsbr.specs.Registry.{Registry}
 use Rattle.fib.specs.Replay.{GoesOn}
 use Rattle.fib_model.specs.State.{State}
 use Rattle.fib_model.specs.Outcomes.{Log, Runs, logged}
-use Rattle.fib_model.specs.Textbook.{textbook, beginning}
+use Rattle.fib_model.specs.Textbook.{by_intervals, beginning}
 use Rattle.route_text.specs.declared.routes.Route.{Route}
 use Rattle.route_text.specs.declared.orders.Order.{Order}
 use Rattle.route_text.specs.declared.orders.Order.TheVariants as orders
@@ -79,4 +79,4 @@ pub record IsUpdated (c : Config) (routes : List Route) (list : List Order)
   pub had_memory : All (λ outcome. outcome ≢ outcomes.Refused Memory) came
   pub logs : log ≡ logged (logged [] (map loading_of routes) (map outcomes.Put loaded))
       (map command_of list) came
-  pub runs : Runs (textbook c) 24 8 c beginning log state
+  pub runs : Runs (by_intervals c) 24 8 c beginning log state
