@@ -1,5 +1,5 @@
 -- What runs of unlinkings and links of blocks come to.
-use Rattle.std.proofs.Common.{arith, ◌≡◌, ℕ, zero, suc, ◌<◌, ◌≤◌, refl, ap, subst, List, [], ◌∷◌, ◌++◌, length, Option, Some, None, Bool, false}
+use Rattle.std.proofs.Common.{arith, ◌≡◌, ℕ, ◌<◌, ◌≤◌, refl, List, length, Option, Some, None, Bool, false}
 use Rattle.std.specs.Prelude.{IsSome, IsTrue, ◌↔◌}
 use Rattle.lpm_entry.specs.declared.Entry.{Entry}
 use Rattle.lpm_entry.specs.declared.Entry.TheVariants.{Miss, Hop, Group}

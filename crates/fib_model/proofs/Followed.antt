@@ -1,14 +1,10 @@
 -- A run by counters is followed by one by reader intervals, command by command.
-use Rattle.std.proofs.Common.{arith, ◌≡◌, ℕ, zero, suc, ◌+◌, ◌^◌, ◌<◌, ◌≤◌, ◌↔◌, ◌⊎◌, inl, inr, refl, ap, sym, subst, List, [], ◌∷◌, length, drop, slice_get, Option, Some, None, Result, Ok, Err, IsSomeAnd, MatchOption}
+use Rattle.std.proofs.Common.{arith, ◌≡◌, ℕ, zero, suc, ◌+◌, ◌^◌, ◌<◌, ◌≤◌, ◌↔◌, inl, inr, refl, ap, sym, subst, List, [], ◌∷◌, drop, slice_get, Option, Some, None, Result, Ok, Err, IsSomeAnd, MatchOption}
 use Rattle.std.specs.FinMap.{get, empty}
-use Rattle.std.specs.FinSet as set
-use Rattle.std.proofs.lemmas.Bool.{cases_lt, cases_Bool}
 use Rattle.lpm_bits.specs.Network.{Network}
 use Rattle.lpm_rules.specs.RuleMap.{RuleMap}
-use Rattle.lpm_rules.specs.Deep.{IsDeepBlock, block_of, deep_blocks}
 use Rattle.lpm_rules.specs.declared.Put.{Put}
 use Rattle.lpm_rules.specs.declared.Put.TheVariants.{Added, Replaced, Unchanged}
-use Rattle.lpm_rules.proofs.Deep.{has_deep_blocks}
 use Rattle.qsbr.specs.Registry.{Registry}
 use Rattle.lpm_limits.specs.declared.busy.Busy.{Busy}
 use Rattle.lpm_limits.specs.declared.config.Config.{Config}

@@ -1,7 +1,7 @@
 -- Changes by one look at what is kept. Where a check only looks, and an update leaves what is kept but for its
 -- unlinkings, what comes of a change depends on the state before it alone. These forms say so, and are the same as
 -- the outcomes by transitions.
-use Rattle.std.proofs.Common.{arith, ◌≡◌, ◌≢◌, ℕ, zero, suc, ◌+◌, ◌-◌, ◌<◌, ◌≤◌, ◌↔◌, ◌⊎◌, inl, inr, refl, ap, sym, ◌∙◌, subst, List, [], ◌∷◌, ◌++◌, length, take, drop, get_or, slice_get, Option, Some, None, Result, Ok, Err, IsSomeAnd, MatchOption, All}
+use Rattle.std.proofs.Common.{arith, ◌≡◌, ◌≢◌, ℕ, zero, suc, ◌+◌, ◌-◌, ◌<◌, ◌≤◌, ◌⊎◌, inl, inr, refl, ap, sym, ◌∙◌, subst, List, [], ◌∷◌, ◌++◌, length, take, drop, get_or, slice_get, Option, Some, None, Result, Ok, Err, IsSomeAnd, MatchOption, All}
 use Rattle.std.specs.FinMap.{get, insert, remove, len, empty}
 use Rattle.std.specs.FinSet as set
 use Rattle.std.proofs.lemmas.Bool.{cases_lt, cases_Bool}

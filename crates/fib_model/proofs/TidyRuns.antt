@@ -12,7 +12,6 @@ use Rattle.fib_model.specs.declared.command.Outcome.{Outcome}
 use Rattle.fib_model.specs.declared.command.Outcome.TheVariants as outcome
 use Rattle.fib_model.specs.declared.command.Report.{Report}
 use Rattle.fib_model.specs.declared.event.Event.{Event}
-use Rattle.fib_model.specs.declared.event.Event.TheVariants.{Unlinking}
 use Rattle.fib_model.specs.State.{State}
 use Rattle.fib_model.specs.Outcomes.{Reports, Does, Log, Runs}
 use Rattle.fib_model.specs.Textbook.{by_intervals, beginning}

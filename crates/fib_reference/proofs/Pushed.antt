@@ -1,5 +1,5 @@
 -- What is pushed last is the newest, and the front of a list is taken.
-use Rattle.std.proofs.Common.{arith, ◌≡◌, ℕ, suc, ◌<◌, ap, sym, ◌∙◌, subst, List, [], ◌∷◌, ◌++◌, length, reverse, get_or, remove}
+use Rattle.std.proofs.Common.{arith, ◌≡◌, ℕ, ◌<◌, ap, sym, ◌∙◌, subst, List, [], ◌∷◌, ◌++◌, length, reverse, get_or, remove}
 use Rattle.std.proofs.lemmas.List.{reverse-append}
 use Rattle.fib_model.specs.declared.event.Event.{Event}
 use Rattle.reader_intervals.specs.Intervals.{IsTidy}

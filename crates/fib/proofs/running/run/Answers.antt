@@ -1,4 +1,4 @@
-use Rattle.std.proofs.Common.{arith, ap, sym, subst, ◌∙◌, ◌≡◌, suc, ◌-◌}
+use Rattle.std.proofs.Common.{arith, ap, subst, ◌∙◌, ◌≡◌, suc, ◌-◌}
 use Rattle.lpm_groups.specs.States.{linked_count}
 use Rattle.lpm_update.specs.Linked.{group_at}
 use Rattle.lpm_update.specs.Update.{group_held}

@@ -1,4 +1,4 @@
-use Rattle.std.proofs.Common.{ℕ, suc, ap, sym, subst, ◌+◌, ◌≡◌, arith}
+use Rattle.std.proofs.Common.{suc, subst, ◌+◌, ◌≡◌, arith}
 use Rattle.fib_model.specs.Reclaiming.{Unlinks}
 use Rattle.fib_model.specs.Textbook.{textbook}
 use Rattle.fib_reference.specs.Expected.{events_of}
