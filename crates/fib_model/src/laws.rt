@@ -13,7 +13,7 @@ pub fn rules_are_last_version_by_counters()
     ensures { RulesAreLastVersionByCounters }
 {}
 
-/// An unlinking without a first holder is held by no worker at all, and the other way round.
+/// A check of an unlinking passes where no worker holds it, and nowhere else.
 pub fn unheld_by_none()
     ensures { UnheldByNone }
 {}
