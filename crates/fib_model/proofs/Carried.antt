@@ -1,7 +1,7 @@
 -- What each part of a change carries over, each whole change does: a relation of two ways to keep what changes depend
 -- on, and the names that unlinkings have in both.
-use Rattle.std.proofs.Common.{arith, ◌≡◌, ℕ, zero, suc, ◌+◌, ◌-◌, ◌^◌, ◌<◌, ◌≤◌, ◌↔◌, ◌⊎◌, inl, inr, refl, ap, sym, ◌∙◌, subst, List, [], ◌∷◌, ◌++◌, length, drop, get_or, slice_get, Option, Some, None, Result, Ok, Err, MatchOption}
-use Rattle.std.specs.FinMap.{get, insert, remove, empty}
+use Rattle.std.proofs.Common.{arith, ◌≡◌, ℕ, zero, suc, ◌+◌, ◌-◌, ◌^◌, ◌<◌, ◌≤◌, ◌↔◌, inl, inr, refl, ap, sym, ◌∙◌, subst, List, [], ◌∷◌, ◌++◌, length, drop, get_or, slice_get, Option, Some, None, Result, Ok, Err}
+use Rattle.std.specs.FinMap.{get, remove, empty}
 use Rattle.std.proofs.lemmas.Bool.{cases_lt}
 use Rattle.lpm_bits.specs.Network.{Network}
 use Rattle.lpm_rules.specs.RuleMap.{RuleMap}
@@ -95,6 +95,10 @@ lacks P f g c s y ns p named =
       (λ h. let none = h.none_free in record { absent = h.absent; long = h.long; shallow = h.shallow; none_free = omega (arith, none, size) }),
       (λ h. let none = h.none_free in record { absent = h.absent; long = h.long; shallow = h.shallow; none_free = omega (arith, none, size) }),
     )
+
+-- some state that is related to z, so that the state beside z is as D says
+abbrev pub Follows : {X Y : Type 0} → (X → Y → Type 0) → (X → Y → ℕ → ℕ → Type 0) → State X → (State Y → Type 0) → Type 0
+Follows {X} {Y} R N z D = (y : Y) × (ns : List ℕ) × D (beside z y ns) × R z.readers y × AreNamed (N z.readers y) z.limbo ns
 
 module _ (X Y : Type 0) (t : Transitions X) (u : Transitions Y) (R : X → Y → Type 0) (N : X → Y → ℕ → ℕ → Type 0) (carries : Carries t u R N) where
   abbrev Carried : X → Y → X → Y → Type 0
@@ -209,10 +213,6 @@ module _ (X Y : Type 0) (t : Transitions X) (u : Transitions Y) (R : X → Y →
 
   -- ---- whole changes
 
-  -- some state by u that is related to z, so that the state beside z is as D says
-  abbrev pub Follows : State X → (State Y → Type 0) → Type 0
-  Follows z D = (y : Y) × (ns : List ℕ) × D (beside z y ns) × R z.readers y × AreNamed (N z.readers y) z.limbo ns
-
   module _ (f g : ℕ) (c : Config) (s z : State X) (y : Y) (ns : List ℕ) (rel : R s.readers y) (named : AreNamed (N s.readers y) s.limbo ns) where
     abbrev v : State Y
     v = beside s y ns
@@ -269,7 +269,7 @@ module _ (X Y : Type 0) (t : Transitions X) (u : Transitions Y) (R : X → Y →
         let ended = carries.ends d.0 x' begun.0 begun.2.0 d.2 in
         (ended.0, (begun.0, begun.1, ended.1), both x d.0 x' w begun.0 ended.0 begun.2 ended.2)
 
-    pub adds : (p : Network) (h : ℕ) (r : Result Put Refusal) → Adds t f g c s p h r z → Follows z (Adds u f g c v p h r)
+    pub adds : (p : Network) (h : ℕ) (r : Result Put Refusal) → Adds t f g c s p h r z → Follows R N z (Adds u f g c v p h r)
     adds p h (Ok Unchanged) d = let kept = keeps d.1 in (y, ns, (d.0, ap (λ x. beside x y ns) d.1), kept.0, kept.1)
     adds p h (Ok Replaced) d =
         let update = updates s.readers z.readers y rel d.2 in (
@@ -302,7 +302,7 @@ module _ (X Y : Type 0) (t : Transitions X) (u : Transitions Y) (R : X → Y →
         )
     adds p h (Err other) d = absurd d
 
-    shrinks : (Q : RuleMap) → Shrinks t f g c s Q z → Follows z (Shrinks u f g c v Q)
+    shrinks : (Q : RuleMap) → Shrinks t f g c s Q z → Follows R N z (Shrinks u f g c v Q)
     shrinks Q d =
         let is = d.1 in
         let begun = carries.begins s.readers is.0 y rel is.2 in
@@ -316,13 +316,13 @@ module _ (X Y : Type 0) (t : Transitions X) (u : Transitions Y) (R : X → Y →
           named_kept (N is.1 gone.0) (N z.readers ended.0) ended.2.1 z.limbo gone.1 gone.3,
         )
 
-    pub deletes : (p : Network) (r : Result ℕ Refusal) → Deletes t f g c s p r z → Follows z (Deletes u f g c v p r)
+    pub deletes : (p : Network) (r : Result ℕ Refusal) → Deletes t f g c s p r z → Follows R N z (Deletes u f g c v p r)
     deletes p (Ok h) d = let is = shrinks (remove s.rules p) d.1 in (is.0, is.1, (d.0, is.2), is.3, is.4)
     deletes p (Err NoSuchRule) d = let kept = keeps d.1 in (y, ns, (d.0, ap (λ x. beside x y ns) d.1), kept.0, kept.1)
     deletes p (Err Exhausted) d = let kept = keeps d.2 in (y, ns, (d.0, exhausted d.1, ap (λ x. beside x y ns) d.2), kept.0, kept.1)
     deletes p (Err other) d = absurd d
 
-    pub flushes : (r : Result ℕ Refusal) → Flushes t f g c s r z → Follows z (Flushes u f g c v r)
+    pub flushes : (r : Result ℕ Refusal) → Flushes t f g c s r z → Follows R N z (Flushes u f g c v r)
     flushes (Ok zero) d =
         let kept = keeps (d.1 refl) in
         (y, ns, (d.0, (λ none. ap (λ x. beside x y ns) (d.1 none)), (λ some. absurd (omega (arith, some)))), kept.0, kept.1)
@@ -332,7 +332,7 @@ module _ (X Y : Type 0) (t : Transitions X) (u : Transitions Y) (R : X → Y →
     flushes (Err Exhausted) d = let kept = keeps d.2 in (y, ns, (d.0, exhausted d.1, ap (λ x. beside x y ns) d.2), kept.0, kept.1)
     flushes (Err other) d = absurd d
 
-    pub frees : (max : ℕ) (r : Reclaimed) → Frees t s max r z → Follows z (Frees u v max r)
+    pub frees : (max : ℕ) (r : Reclaimed) → Frees t s max r z → Follows R N z (Frees u v max r)
     frees max r d =
         let is = reclaims s.readers z.readers y max s.limbo ns r.freed r.stopped z.limbo rel named d.0 in
         (is.0, drop r.freed ns, (is.1, ap (λ x. beside x is.0 (drop r.freed ns)) d.1), is.3.0, is.2)
