@@ -15,27 +15,10 @@ use Rattle.defer_queue.specs.declared.Reclaimed.{Reclaimed}
 use Rattle.fib_model.specs.State.{State, Transitions, HasTokens, IsExhausted}
 use Rattle.fib_model.specs.Reclaiming.{Passes, Reclaims, MakesRoom, UnlinksOne, Unlinks}
 use Rattle.fib_model.specs.Outcomes.{groups_in_use, LacksGroup, TakesGroup, IsNew, HoldsFront, Updates, Adds, Shrinks, Deletes, Flushes, Frees}
+use Rattle.fib_model.proofs.Carrying.{AreNamed, IsCarried, Carries, beside, Follows, ChangesCarryOver}
 use Rattle.fib_model.proofs.Frozen.{lacks_or_not}
 
--- what is kept then is related too, and names stay names of the same unlinkings
-abbrev pub IsCarried : {X Y : Type 0} → (X → Y → Type 0) → (X → Y → ℕ → ℕ → Type 0) → X → Y → X → Y → Type 0
-IsCarried R N x y x' y' = R x' y' × ((m n : ℕ) → N x y m n → N x' y' m n)
-
--- each part of a change by t is one by u, from related states to related states
-pub record Carries {X Y : Type 0} (t : Transitions X) (u : Transitions Y) (R : X → Y → Type 0) (N : X → Y → ℕ → ℕ → Type 0) : Type 0 where
-  pub token : (x : X) (y : Y) → R x y → u.token y ≡ t.token x
-  pub checks : (x x' : X) (y : Y) (m n : ℕ) (r : Result (Unit {0}) Busy) → R x y → N x y m n → t.checks x m r x' → (y' : Y) × u.checks y n r y' × IsCarried R N x y x' y'
-  pub begins : (x x' : X) (y : Y) → R x y → t.begins x x' → (y' : Y) × u.begins y y' × IsCarried R N x y x' y'
-  pub unlinks : (x x' : X) (y : Y) (m : ℕ) → R x y → t.unlinks x m x' → (y' : Y) × (n : ℕ) × u.unlinks y n y' × N x' y' m n × IsCarried R N x y x' y'
-  pub ends : (x x' : X) (y : Y) → R x y → t.ends x x' → (y' : Y) × u.ends y y' × IsCarried R N x y x' y'
-
 -- ---- lists of names
-
--- the names of the one list are those of the other
-abbrev pub AreNamed : (ℕ → ℕ → Type 0) → List ℕ → List ℕ → Type 0
-AreNamed P [] [] = Unit {0}
-AreNamed P (m ∷ ms) (n ∷ ns) = P m n × AreNamed P ms ns
-AreNamed P ms ns = ⊥
 
 pub named_length : (P : ℕ → ℕ → Type 0) (ms ns : List ℕ) → AreNamed P ms ns → length ns ≡ length ms
 named_length P [] [] h = refl
@@ -84,10 +67,6 @@ named_none P (n ∷ ns) h = absurd h
 
 -- ---- two states
 
--- a state with the same rules
-abbrev pub beside : {X Y : Type 0} → State X → Y → List ℕ → State Y
-beside s y ns = record { rules = s.rules; readers = y; limbo = ns; begun = s.begun }
-
 lacks : {X Y : Type 0} (P : ℕ → ℕ → Type 0) (f g : ℕ) (c : Config) (s : State X) (y : Y) (ns : List ℕ) (p : Network) → AreNamed P s.limbo ns
     → LacksGroup f g c s p ↔ LacksGroup f g c (beside s y ns) p
 lacks P f g c s y ns p named =
@@ -95,10 +74,6 @@ lacks P f g c s y ns p named =
       (λ h. let none = h.none_free in record { absent = h.absent; long = h.long; shallow = h.shallow; none_free = omega (arith, none, size) }),
       (λ h. let none = h.none_free in record { absent = h.absent; long = h.long; shallow = h.shallow; none_free = omega (arith, none, size) }),
     )
-
--- some state that is related to z, so that the state beside z is as D says
-abbrev pub Follows : {X Y : Type 0} → (X → Y → Type 0) → (X → Y → ℕ → ℕ → Type 0) → State X → (State Y → Type 0) → Type 0
-Follows {X} {Y} R N z D = (y : Y) × (ns : List ℕ) × D (beside z y ns) × R z.readers y × AreNamed (N z.readers y) z.limbo ns
 
 module _ (X Y : Type 0) (t : Transitions X) (u : Transitions Y) (R : X → Y → Type 0) (N : X → Y → ℕ → ℕ → Type 0) (carries : Carries t u R N) where
   abbrev Carried : X → Y → X → Y → Type 0
@@ -336,3 +311,11 @@ module _ (X Y : Type 0) (t : Transitions X) (u : Transitions Y) (R : X → Y →
     frees max r d =
         let is = reclaims s.readers z.readers y max s.limbo ns r.freed r.stopped z.limbo rel named d.0 in
         (is.0, drop r.freed ns, (is.1, ap (λ x. beside x is.0 (drop r.freed ns)) d.1), is.3.0, is.2)
+
+pub changes_carry_over : ChangesCarryOver
+changes_carry_over X Y t u R N carries f g c s y ns rel named = record {
+  adds = λ z p h r. adds X Y t u R N carries f g c s z y ns rel named p h r;
+  deletes = λ z p r. deletes X Y t u R N carries f g c s z y ns rel named p r;
+  flushes = λ z r. flushes X Y t u R N carries f g c s z y ns rel named r;
+  frees = λ z max r. frees X Y t u R N carries f g c s z y ns rel named max r;
+}

@@ -1,10 +1,7 @@
 -- A run by counters is followed by one by reader intervals, command by command.
-use Rattle.std.proofs.Common.{◌≡◌, ℕ, ◌<◌, ◌≤◌, ◌↔◌, refl, ap, sym, subst, List, [], ◌∷◌, Result, Ok, Err}
-use Rattle.lpm_bits.specs.Network.{Network}
-use Rattle.lpm_rules.specs.declared.Put.{Put}
+use Rattle.std.proofs.Common.{◌≡◌, ℕ, ◌<◌, ◌≤◌, ◌↔◌, refl, ap, sym, subst, List, [], ◌∷◌, Ok, Err}
 use Rattle.qsbr.specs.Registry.{Registry}
 use Rattle.lpm_limits.specs.declared.config.Config.{Config}
-use Rattle.lpm_limits.specs.declared.refusal.Refusal.{Refusal}
 use Rattle.lpm_limits.specs.declared.refusal.Refusal.TheVariants.{NoSuchWorker}
 use Rattle.fib_model.specs.declared.command.Command.{Command}
 use Rattle.fib_model.specs.declared.command.Command.TheVariants as command
@@ -16,12 +13,13 @@ use Rattle.fib_model.specs.declared.event.Event.{Event}
 use Rattle.reader_intervals.specs.Intervals.{IsRunningSince}
 use Rattle.fib_model.specs.Intervals.{by_reports}
 use Rattle.fib_model.specs.State.{State}
-use Rattle.fib_model.specs.Outcomes.{Adds, Deletes, Flushes, MayReport, Reports, Does, Log, Runs}
+use Rattle.fib_model.specs.Outcomes.{MayReport, Reports, Does, Log, Runs}
 use Rattle.fib_model.specs.Counting.{counting, by_counters, opened}
 use Rattle.fib_model.specs.Textbook.{textbook, by_intervals, beginning, event_of}
 use Rattle.fib_model.specs.Laws.{Agrees, CountersTellIntervals}
 use Rattle.fib_model.proofs.Holders.{Shows, IsName, online, held, shows_opened, shows_told}
-use Rattle.fib_model.proofs.Carried.{Follows, AreNamed, beside, named_length, named_at, adds, deletes, flushes, frees}
+use Rattle.fib_model.proofs.Carrying.{Follows, AreFollowed, AreNamed, beside}
+use Rattle.fib_model.proofs.Carried.{named_length, named_at, changes_carry_over}
 use Rattle.fib_model.proofs.Names.{Names, names_newer, counters_carry}
 
 -- some events that z's counters tell, so that the state by events is as D says
@@ -67,26 +65,20 @@ reports c s z E ps report w other shows names d = absurd d
 -- ---- runs
 
 module _ (f g : ℕ) (c : Config) (s z : State Registry) (E : List Event) (ps : List ℕ) (shows : Shows c s.readers E) (names : AreNamed (IsName c.first_token E) s.limbo ps) where
-  added : (p : Network) (h : ℕ) (r : Result Put Refusal) → Adds counting f g c s p h r z → Tells c z (Adds (textbook c) f g c (beside s E ps) p h r)
-  added = adds Registry (List Event) counting (textbook c) (Shows c) (Names c) (counters_carry c) f g c s z E ps shows names
-
-  deleted : (p : Network) (r : Result ℕ Refusal) → Deletes counting f g c s p r z → Tells c z (Deletes (textbook c) f g c (beside s E ps) p r)
-  deleted = deletes Registry (List Event) counting (textbook c) (Shows c) (Names c) (counters_carry c) f g c s z E ps shows names
-
-  flushed : (r : Result ℕ Refusal) → Flushes counting f g c s r z → Tells c z (Flushes (textbook c) f g c (beside s E ps) r)
-  flushed = flushes Registry (List Event) counting (textbook c) (Shows c) (Names c) (counters_carry c) f g c s z E ps shows names
+  followed_by : AreFollowed counting (textbook c) (Shows c) (Names c) f g c s (beside s E ps)
+  followed_by = changes_carry_over Registry (List Event) counting (textbook c) (Shows c) (Names c) (counters_carry c) f g c s E ps shows names
 
   step : (command : Command f g) (outcome : Outcome) → Does by_counters f g c s command outcome z → Tells c z (Does (by_intervals c) f g c (beside s E ps) command outcome)
-  step (command.Add p h) (outcome.Put put) d = added p h (Ok put) d
-  step (command.Add p h) (outcome.Refused refusal) d = added p h (Err refusal) d
+  step (command.Add p h) (outcome.Put put) d = followed_by.adds z p h (Ok put) d
+  step (command.Add p h) (outcome.Refused refusal) d = followed_by.adds z p h (Err refusal) d
   step (command.Add p h) other d = absurd d
-  step (command.Delete p) (outcome.Deleted h) d = deleted p (Ok h) d
-  step (command.Delete p) (outcome.Refused refusal) d = deleted p (Err refusal) d
+  step (command.Delete p) (outcome.Deleted h) d = followed_by.deletes z p (Ok h) d
+  step (command.Delete p) (outcome.Refused refusal) d = followed_by.deletes z p (Err refusal) d
   step (command.Delete p) other d = absurd d
-  step command.Flush (outcome.Flushed n) d = flushed (Ok n) d
-  step command.Flush (outcome.Refused refusal) d = flushed (Err refusal) d
+  step command.Flush (outcome.Flushed n) d = followed_by.flushes z (Ok n) d
+  step command.Flush (outcome.Refused refusal) d = followed_by.flushes z (Err refusal) d
   step command.Flush other d = absurd d
-  step (command.Reclaim max) (outcome.Reclaimed r) d = frees Registry (List Event) counting (textbook c) (Shows c) (Names c) (counters_carry c) f g c s z E ps shows names max r d
+  step (command.Reclaim max) (outcome.Reclaimed r) d = followed_by.frees z max r d
   step (command.Reclaim max) other d = absurd d
   step (command.Report report w) o d = reports c s z E ps report w o shows names d
 

@@ -1,4 +1,5 @@
 pub mod Frozen
+pub mod Carrying
 pub mod Carried
 pub mod Versions
 pub mod Holders

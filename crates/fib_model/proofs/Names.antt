@@ -7,7 +7,8 @@ use Rattle.fib_model.specs.declared.event.Event.{Event}
 use Rattle.fib_model.specs.declared.event.Event.TheVariants.{Unlinking}
 use Rattle.fib_model.specs.Counting.{counting}
 use Rattle.fib_model.specs.Textbook.{textbook}
-use Rattle.fib_model.proofs.Carried.{Carries, IsCarried, AreNamed, named_kept}
+use Rattle.fib_model.proofs.Carrying.{Carries, IsCarried, AreNamed}
+use Rattle.fib_model.proofs.Carried.{named_kept}
 use Rattle.fib_model.proofs.Holders.{Shows, IsName, held, unheld, shows_unlinked, name_new, name_newer}
 
 -- an unlinking goes by its token, and by its place
