@@ -127,8 +127,7 @@ pub made_shrinks : {f s : ℕ} {c : Config} {rules rules' : RuleList} {t : Words
     → Shrinks counting f s c (table_of rules.rules pool n) R (table_of rules'.rules new (n + 1))
 made_shrinks {f} {s} {c} {rules} {pool = pool} {new = new} R known made after left gone =
     let count : linked_count pool.keeper.groups - linked_count new.keeper.groups ≡ groups_in_use f s rules.rules - groups_in_use f s R =
-    omega (arith, sound_linked known, sound_linked after, ap (groups_in_use f s) gone) in
-    (
+    omega (arith, sound_linked known, sound_linked after, ap (groups_in_use f s) gone) in (
       left,
       (
         pool.keeper.domain,

@@ -210,15 +210,16 @@ reclaims_moving k x max limbo freed (Some busy) left d =
     }
 
 pub room_frozen : {X : Type 0} (k : Look X) (c : Config) (x z : X) (limbo left : List ℕ) → moving.MakesRoom (still k) c x limbo left z → MakesRoom k c x limbo left × (z ≡ x)
-room_frozen k c x z limbo left d =
-    ((
-      (λ over. let r = d.0 over in (r.0, r.1, (reclaims_frozen k x z c.reclaim_max limbo r.0 r.1 left r.2).0)),
-      (λ within. (d.1 within).0),
-    ),
-    elim (cases_lt c.threshold (length limbo)) [
-      | inl over ↦ let r = d.0 over in (reclaims_frozen k x z c.reclaim_max limbo r.0 r.1 left r.2).1
-      | inr within ↦ (d.1 within).1
-    ])
+room_frozen k c x z limbo left d = (
+  (
+    (λ over. let r = d.0 over in (r.0, r.1, (reclaims_frozen k x z c.reclaim_max limbo r.0 r.1 left r.2).0)),
+    (λ within. (d.1 within).0),
+  ),
+  elim (cases_lt c.threshold (length limbo)) [
+    | inl over ↦ let r = d.0 over in (reclaims_frozen k x z c.reclaim_max limbo r.0 r.1 left r.2).1
+    | inr within ↦ (d.1 within).1
+  ],
+)
 
 pub room_moving : {X : Type 0} (k : Look X) (c : Config) (x : X) (limbo left : List ℕ) → MakesRoom k c x limbo left → moving.MakesRoom (still k) c x limbo left x
 room_moving k c x limbo left d = (
@@ -288,15 +289,16 @@ state_is z z' a b d e =
 
 takes_frozen : {X : Type 0} (k : Look X) (f g : ℕ) (c : Config) (s : State X) (p : Network) (left : List ℕ) (y : X) → get s.rules p ≡ None
     → outcomes.TakesGroup (still k) f g c s p left y → TakesGroup k f g c s p left × (y ≡ s.readers)
-takes_frozen k f g c s p left y absent d =
-    ((
-      (λ lacks. let is = d.0 lacks in (is.0, is.2.0, is.1)),
-      (λ enough. (d.1 enough).0),
-    ),
-    elim (lacks_or_not f g c s p absent) [
-      | inl lacks ↦ (d.0 lacks).2.1
-      | inr enough ↦ (d.1 enough).1
-    ])
+takes_frozen k f g c s p left y absent d = (
+  (
+    (λ lacks. let is = d.0 lacks in (is.0, is.2.0, is.1)),
+    (λ enough. (d.1 enough).0),
+  ),
+  elim (lacks_or_not f g c s p absent) [
+    | inl lacks ↦ (d.0 lacks).2.1
+    | inr enough ↦ (d.1 enough).1
+  ],
+)
 
 pub takes_moving : {X : Type 0} (k : Look X) (f g : ℕ) (c : Config) (s : State X) (p : Network) (left : List ℕ) → TakesGroup k f g c s p left → outcomes.TakesGroup (still k) f g c s p left s.readers
 takes_moving k f g c s p left d = (

@@ -88,7 +88,7 @@ abbrev pub Shrinks : {X : Type 0} → Transitions X → ℕ → ℕ → Config �
 Shrinks {X} t first second c s R z = HasTokens t c s
     × ((x : X) × (y : X) × t.begins s.readers x
     × Unlinks t c (groups_in_use first second s.rules - groups_in_use first second R)
-      x s.limbo y z.limbo
+    x s.limbo y z.limbo
     × t.ends y z.readers)
     × Makes s R z
 
