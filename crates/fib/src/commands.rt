@@ -64,8 +64,8 @@ impl<const FIRST: u32, const SECOND: u32> Fib<FIRST, SECOND> {
         commands: &[Command<FIRST, SECOND>],
     ) -> Result<Vec<Outcome>, AllocError>
         ensures as_many { IfOk result (λ v. length v.items ≡ length commands.now) }
-        ensures runs { IfOk result (λ v. Runs by_counters FIRST SECOND self.old.config self.old.table
-            (logged [] commands.now v.items) self.new.table) }
+        ensures runs { IfOk result (λ v. Runs by_counters FIRST SECOND self.old.config
+            self.old.table (logged [] commands.now v.items) self.new.table) }
         ensures textbook { IfOk result (λ v. GoesOn FIRST SECOND self.old.config self.old.table
             commands.now v.items self.new.table) }
         ensures config { self.new.config ≡ self.old.config }

@@ -36,7 +36,7 @@ pub record LacksGroup {X : Type 0} (first second : ℕ) (c : Config) (s : State 
   pub shallow : ¬ IsDeepBlock first second s.rules (block_of second p)
   pub none_free : c.groups ≤ groups_in_use first second s.rules + length s.limbo
 
--- a group for a new rule: the front of the limbo list, once its check passed, where no group is free
+-- a group for a new rule: the front of the limbo list, once its check passed, where none is free
 abbrev pub TakesGroup : {X : Type 0} → Transitions X → ℕ → ℕ → Config → State X → Network → List ℕ
     → X → Type 0
 TakesGroup t first second c s p left y =

@@ -240,8 +240,8 @@ impl<const FIRST: u32, const SECOND: u32> Plain<FIRST, SECOND> {
     ) -> Result<Outcome, AllocError>
         requires config { IsConfig config.now }
         requires sound { IsSound config.now self.old.waiting }
-        ensures does { IfOk result (λ outcome. Does (by_intervals config.now) FIRST SECOND config.now
-            (state_of self.old) command.now outcome (state_of self.new)) }
+        ensures does { IfOk result (λ outcome. Does (by_intervals config.now) FIRST SECOND
+            config.now (state_of self.old) command.now outcome (state_of self.new)) }
         ensures sound { OnOk result (IsSound config.now self.new.waiting) }
     {
         match command {

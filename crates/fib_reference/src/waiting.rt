@@ -193,7 +193,7 @@ impl Waiting {
         ensures yes { IsTrue result → (rules : RuleMap) (begun : ℕ)
             → MayReport (by_intervals config.now) (state_with rules begun self.now) report worker }
         ensures no { IsFalse result → (rules : RuleMap) (begun : ℕ)
-            → MayReport (by_intervals config.now) (state_with rules begun self.now) report worker → ⊥ }
+            → ¬ MayReport (by_intervals config.now) (state_with rules begun self.now) report worker }
     {
         let is_online = running(&self.events, worker).is_some();
         match report {
