@@ -25,7 +25,7 @@ pub enum Entry {
 }
 
 impl Entry {
-    ghost use Rattle.lpm_entry.specs.Words.{IsEntry, IsLast, IsLastWord, IsWord, word_of, entry_in, hop_in};
+    ghost use Rattle.lpm_entry.specs.Words.{IsEntry, IsLast, IsLastWord, IsWord, word_of, entry_in, hop_in, depth_in};
     ghost use Rattle.lpm_entry.specs.declared.Entry.TheVariants.{Group};
     ghost use Rattle.lpm_entry.specs.declared.Entry.{Entry};
 
@@ -115,6 +115,17 @@ impl Entry {
         }
         let number = (word % VALID) as u32;
         Some(Hop::new(number).unwrap())
+    }
+
+    /// The length of the rule of a table's word at which a lookup ends; 0 for a miss, whose word is
+    /// 0.
+    #[inline]
+    pub fn depth_of_last_word<const FIRST: u32, const SECOND: u32>(word: u64) -> u32
+        requires shape { IsShape FIRST SECOND }
+        requires last { IsLastWord (FIRST + SECOND) word }
+        ensures { result ≡ depth_in (entry_in word) }
+    {
+        (word / DEPTH) as u32
     }
 
     /// The next hop of the entry; none for a miss and for a group.

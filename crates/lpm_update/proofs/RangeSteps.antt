@@ -38,7 +38,7 @@ moved f s u v F fu k =
     let e3 = fu.rewrite in
     rw (e1, e2, e3) k
 
-moved_stands : (s : ℕ) (u v : RewriteRange) (W : Words) → IsFurther u v → (E : ℕ → Entry) → Stands s u.from v.at u.rewrite W E → Stands s v.from v.at v.rewrite W E
+pub moved_stands : (s : ℕ) (u v : RewriteRange) (W : Words) → IsFurther u v → (E : ℕ → Entry) → Stands s u.from v.at u.rewrite W E → Stands s v.from v.at v.rewrite W E
 moved_stands s u v W fu E k =
     let e1 = fu.from in
     let e3 = fu.rewrite in

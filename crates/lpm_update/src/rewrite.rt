@@ -24,19 +24,25 @@ pub(crate) struct Rewrite {
 }
 
 impl Rewrite {
-    ghost use Rattle.std.specs.Prelude.{◌≡◌};
+    ghost use Rattle.std.specs.Prelude.{◌≡◌, ◌+◌};
+    ghost use Rattle.lpm_bits.specs.Widths.{IsShape};
+    ghost use Rattle.lpm_entry.specs.Words.{IsLastWord, entry_in};
     ghost use Rattle.lpm_update.specs.Rewrite.{replaces};
 
-    /// Whether the change replaces this entry.
-    pub(crate) fn replaces(&self, entry: &Entry) -> bool
-        ensures { result ≡ replaces self.now entry.now }
+    /// Whether the change replaces the entry of this word, at which a lookup ends. It compares
+    /// numbers alone, since this is asked of each word of the range.
+    #[inline]
+    pub(crate) fn replaces<const FIRST: u32, const SECOND: u32>(&self, word: u64) -> bool
+        requires shape { IsShape FIRST SECOND }
+        requires last { IsLastWord (FIRST + SECOND) word }
+        ensures { result ≡ replaces self.now (entry_in word) }
     {
-        match (self.kind, entry) {
-            (Kind::Add, Entry::Miss) => true,
-            (Kind::Add, Entry::Hop { depth, .. }) => *depth <= self.depth,
-            (Kind::Delete, Entry::Hop { depth, .. }) => *depth == self.depth,
-            (Kind::Flush, Entry::Hop { .. } | Entry::Group(_)) => true,
-            _ => false,
+        let depth = Entry::depth_of_last_word::<FIRST, SECOND>(word);
+        let is_miss = word == Entry::Miss.to_word();
+        match self.kind {
+            Kind::Add => depth <= self.depth,
+            Kind::Delete => !is_miss && depth == self.depth,
+            Kind::Flush => !is_miss,
         }
     }
 }

@@ -4,7 +4,7 @@ ghost use Rattle.std.specs.Prelude.{◌≡◌};
 
 use super::{Did, Kind, Rewrite};
 use lpm_bits::{Hop, Prefix, Shape};
-use lpm_cells::Cells;
+use lpm_cells::{Cells, PlainCells};
 use lpm_entry::Entry;
 use lpm_rules::Rule;
 
@@ -22,7 +22,7 @@ impl RewriteRange {
     ghost use Rattle.std.specs.Prelude.{◌≡◌, ℕ, ◌+◌, ◌-◌, ◌*◌, ◌/◌, ◌%◌, ◌^◌, ◌<◌, ◌≤◌, MatchOption};
     ghost use Rattle.lpm_bits.specs.Widths.{IsShape};
     ghost use Rattle.lpm_entry.specs.declared.Entry.TheVariants.{Hop as EntryHop};
-    ghost use Rattle.lpm_entry.specs.Words.{IsEntry, IsLast};
+    ghost use Rattle.lpm_entry.specs.Words.{IsEntry, IsLast, word_of};
     ghost use Rattle.lpm_rules.specs.RuleMap.{RuleMap};
     ghost use Rattle.lpm_rules.specs.Longest.{IsUncovered, IsCoverRule};
     ghost use Rattle.lpm_update.specs.declared.Did.TheVariants.{Done};
@@ -34,6 +34,7 @@ impl RewriteRange {
     ghost use Rattle.lpm_update.specs.RewriteRange.{IsRangeOf, Visits};
     ghost use Rattle.lpm_update.specs.Update.{IsUnderWay};
     ghost use Rattle.lpm_update.specs.Step.{AllowsNext, Steps, SetsWord};
+    ghost use Rattle.lpm_update.specs.Runs.{Advances};
 
     /// The change that adds a rule whose block needs no new group: a rule no longer than `FIRST`
     /// bits, or one whose block has a group.
@@ -109,9 +110,15 @@ impl RewriteRange {
         }
     }
 
-    /// Looks at the next place of the range, and makes the store there if it is to be made.
+    /// Looks at the next place of the range, and makes the store there if it is to be made. `word`
+    /// is what is stored.
     #[inline]
-    fn visit<const FIRST: u32, const SECOND: u32, C: Cells>(&mut self, cells: &mut C) -> Did
+    fn visit<const FIRST: u32, const SECOND: u32, C: Cells>(
+        &mut self,
+        cells: &mut C,
+        word: u64,
+    ) -> Did
+        requires word { word ≡ word_of self.old.rewrite.entry }
         requires shape { IsShape FIRST SECOND }
         requires table { IsTable FIRST SECOND (C.words cells.old) }
         requires under_way { IsUnderWay FIRST SECOND (Range self.old) (C.words cells.old) }
@@ -125,22 +132,22 @@ impl RewriteRange {
         let at = self.at;
         let rewrite = self.rewrite;
         let block = Shape::<FIRST, SECOND>::first_index(at as u32);
-        let entry = Entry::of_word(cells.first(block));
-        match entry {
-            Entry::Group(group) => {
+        let old = cells.first(block);
+        match Entry::group_of_word::<FIRST, SECOND>(old) {
+            Some(group) => {
                 let base = (group as usize) << SECOND;
                 let place = base + Shape::<FIRST, SECOND>::second_index(at as u32);
-                let old = Entry::of_word(cells.second(place));
+                let old = cells.second(place);
                 self.at = at + 1;
-                if rewrite.replaces(&old) {
-                    cells.set_second(place, rewrite.entry.to_word());
+                if rewrite.replaces::<FIRST, SECOND>(old) {
+                    cells.set_second(place, word);
                     return Did::Second(place);
                 }
             }
-            entry => {
+            None => {
                 self.at = at + (1 << SECOND);
-                if rewrite.replaces(&entry) {
-                    cells.set_first(block, rewrite.entry.to_word());
+                if rewrite.replaces::<FIRST, SECOND>(old) {
+                    cells.set_first(block, word);
                     return Did::First(block);
                 }
             }
@@ -166,13 +173,30 @@ impl RewriteRange {
         ensures skips { result ≡ Done
             → Skips SECOND self.old.rewrite (C.words cells.old) self.old.at self.old.end }
     {
+        let word = self.rewrite.entry.to_word();
         while self.at < self.end {
-            match self.visit::<FIRST, SECOND, C>(cells) {
+            match self.visit::<FIRST, SECOND, C>(cells, word) {
                 Did::Done => {}
                 did => return did,
             }
         }
         Did::Done
+    }
+
+    /// Makes all stores of the change that are left.
+    pub(crate) fn run<const FIRST: u32, const SECOND: u32>(
+        &mut self,
+        cells: &mut PlainCells<FIRST, SECOND>,
+    )
+        requires shape { IsShape FIRST SECOND }
+        requires table { IsTable FIRST SECOND cells.old }
+        requires under_way { IsUnderWay FIRST SECOND (Range self.old) cells.old }
+        ensures { Advances FIRST SECOND (Range self.old) cells.old (Range self.new) cells.new }
+    {
+        let word = self.rewrite.entry.to_word();
+        while self.at < self.end {
+            let _ = self.visit::<FIRST, SECOND, PlainCells<FIRST, SECOND>>(cells, word);
+        }
     }
 }
 
