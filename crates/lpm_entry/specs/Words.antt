@@ -31,12 +31,6 @@ hop_in Miss = None
 hop_in (Hop hop depth) = Some hop
 hop_in (Group group) = None
 
--- the length of an entry's rule; 0 for an entry that has none
-abbrev pub depth_in : Entry → ℕ
-depth_in Miss = 0
-depth_in (Hop hop depth) = depth
-depth_in (Group group) = 0
-
 -- the group of an entry, where it is one
 abbrev pub group_in : Entry → Option ℕ
 group_in Miss = None

@@ -6,7 +6,7 @@ use Rattle.std.proofs.lemmas.List.{get_or_past}
 use Rattle.lpm_bits.specs.Widths.{IsShape}
 use Rattle.lpm_entry.specs.declared.Entry.{Entry}
 use Rattle.lpm_entry.specs.declared.Entry.TheVariants.{Miss, Hop, Group}
-use Rattle.lpm_entry.specs.Words.{IsEntry, IsLast, word_of, entry_in}
+use Rattle.lpm_entry.specs.Words.{IsEntry, IsLast, IsWord, IsLastWord, word_of, entry_in}
 use Rattle.lpm_entry.proofs.Reading.{entry_in_zero}
 use Rattle.lpm_cells.specs.Table.{Words, entry_at, followed, with_first, with_second}
 use Rattle.lpm_update.specs.declared.Did.TheVariants.{First, Second, Done}
@@ -42,6 +42,13 @@ place_within f s W g x t h e =
     let r = mod_below x (2 ^ s) (pow_pos s) in
     let room : g * 2 ^ s + 2 ^ s ≤ length W.seconds = first_room f s W (x / 2 ^ s) g t h e in
     omega (arith, r, room)
+
+-- a word that was loaded from a table is an entry's
+pub first_is_word : (f s : ℕ) (W : Words) (i w : ℕ) → IsTable f s W → i < 2 ^ f → w ≡ slice_index W.firsts i → IsWord (f + s) w
+first_is_word f s W i w t h e = subst (IsWord (f + s)) (sym e) (first_word f s W i t h).0
+
+pub second_is_word : (f s : ℕ) (W : Words) (j w : ℕ) → IsTable f s W → j < length W.seconds → w ≡ slice_index W.seconds j → IsLastWord (f + s) w
+second_is_word f s W j w t h e = subst (IsLastWord (f + s)) (sym e) (t.words.second_words j h)
 
 -- ---- the bounds of the range
 

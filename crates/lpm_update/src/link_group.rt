@@ -84,9 +84,9 @@ impl LinkGroup {
         ensures { result ≡ word_of (final_entry self.now.from self.now.end self.now.rewrite
             address (entry_in old)) }
     {
-        let replaced = self.rewrite.replaces::<FIRST, SECOND>(old);
-        if self.from <= address && address < self.end && replaced {
-            return self.rewrite.entry.to_word();
+        let on = self.rewrite.on_words();
+        if self.from <= address && address < self.end && on.replaces(old) {
+            return on.word;
         }
         old
     }

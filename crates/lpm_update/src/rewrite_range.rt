@@ -2,7 +2,7 @@
 
 ghost use Rattle.std.specs.Prelude.{◌≡◌};
 
-use super::{Did, Kind, Rewrite};
+use super::{Did, Kind, Rewrite, WordRewrite};
 use lpm_bits::{Hop, Prefix, Shape};
 use lpm_cells::{Cells, PlainCells};
 use lpm_entry::Entry;
@@ -22,14 +22,14 @@ impl RewriteRange {
     ghost use Rattle.std.specs.Prelude.{◌≡◌, ℕ, ◌+◌, ◌-◌, ◌*◌, ◌/◌, ◌%◌, ◌^◌, ◌<◌, ◌≤◌, MatchOption};
     ghost use Rattle.lpm_bits.specs.Widths.{IsShape};
     ghost use Rattle.lpm_entry.specs.declared.Entry.TheVariants.{Hop as EntryHop};
-    ghost use Rattle.lpm_entry.specs.Words.{IsEntry, IsLast, word_of};
+    ghost use Rattle.lpm_entry.specs.Words.{IsEntry, IsLast};
     ghost use Rattle.lpm_rules.specs.RuleMap.{RuleMap};
     ghost use Rattle.lpm_rules.specs.Longest.{IsUncovered, IsCoverRule};
     ghost use Rattle.lpm_update.specs.declared.Did.TheVariants.{Done};
     ghost use Rattle.lpm_update.specs.declared.rewrite.Kind.TheVariants.{Add, Delete};
     ghost use Rattle.lpm_update.specs.declared.update.Plan.TheVariants.{Range};
     ghost use Rattle.lpm_update.specs.Best.{IsCoverEntry};
-    ghost use Rattle.lpm_update.specs.Rewrite.{Skips};
+    ghost use Rattle.lpm_update.specs.Rewrite.{IsOnWords, Skips};
     ghost use Rattle.lpm_update.specs.Linked.{IsTable};
     ghost use Rattle.lpm_update.specs.RewriteRange.{IsRangeOf, Visits};
     ghost use Rattle.lpm_update.specs.Update.{IsUnderWay};
@@ -110,15 +110,15 @@ impl RewriteRange {
         }
     }
 
-    /// Looks at the next place of the range, and makes the store there if it is to be made. `word`
-    /// is what is stored.
+    /// Looks at the next place of the range, and makes the store there if it is to be made. `on`
+    /// is what the change does to words.
     #[inline]
     fn visit<const FIRST: u32, const SECOND: u32, C: Cells>(
         &mut self,
         cells: &mut C,
-        word: u64,
+        on: WordRewrite,
     ) -> Did
-        requires word { word ≡ word_of self.old.rewrite.entry }
+        requires on { IsOnWords (FIRST + SECOND) self.old.rewrite on }
         requires shape { IsShape FIRST SECOND }
         requires table { IsTable FIRST SECOND (C.words cells.old) }
         requires under_way { IsUnderWay FIRST SECOND (Range self.old) (C.words cells.old) }
@@ -130,7 +130,6 @@ impl RewriteRange {
         ensures sets { SetsWord C.words C.sets_first C.sets_second cells.old result cells.new }
     {
         let at = self.at;
-        let rewrite = self.rewrite;
         let block = Shape::<FIRST, SECOND>::first_index(at as u32);
         let old = cells.first(block);
         match Entry::group_of_word::<FIRST, SECOND>(old) {
@@ -139,15 +138,15 @@ impl RewriteRange {
                 let place = base + Shape::<FIRST, SECOND>::second_index(at as u32);
                 let old = cells.second(place);
                 self.at = at + 1;
-                if rewrite.replaces::<FIRST, SECOND>(old) {
-                    cells.set_second(place, word);
+                if on.replaces(old) {
+                    cells.set_second(place, on.word);
                     return Did::Second(place);
                 }
             }
             None => {
                 self.at = at + (1 << SECOND);
-                if rewrite.replaces::<FIRST, SECOND>(old) {
-                    cells.set_first(block, word);
+                if on.replaces(old) {
+                    cells.set_first(block, on.word);
                     return Did::First(block);
                 }
             }
@@ -173,9 +172,9 @@ impl RewriteRange {
         ensures skips { result ≡ Done
             → Skips SECOND self.old.rewrite (C.words cells.old) self.old.at self.old.end }
     {
-        let word = self.rewrite.entry.to_word();
+        let on = self.rewrite.on_words();
         while self.at < self.end {
-            match self.visit::<FIRST, SECOND, C>(cells, word) {
+            match self.visit::<FIRST, SECOND, C>(cells, on) {
                 Did::Done => {}
                 did => return did,
             }
@@ -193,9 +192,9 @@ impl RewriteRange {
         requires under_way { IsUnderWay FIRST SECOND (Range self.old) cells.old }
         ensures { Advances FIRST SECOND (Range self.old) cells.old (Range self.new) cells.new }
     {
-        let word = self.rewrite.entry.to_word();
+        let on = self.rewrite.on_words();
         while self.at < self.end {
-            let _ = self.visit::<FIRST, SECOND, PlainCells<FIRST, SECOND>>(cells, word);
+            let _ = self.visit::<FIRST, SECOND, PlainCells<FIRST, SECOND>>(cells, on);
         }
     }
 }

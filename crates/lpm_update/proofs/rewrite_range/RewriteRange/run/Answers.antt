@@ -1,5 +1,6 @@
-use Rattle.std.proofs.Common.{◌∙◌}
+use Rattle.std.proofs.Common.{◌+◌, sym, subst, ◌∙◌}
 use Rattle.lpm_update.specs.declared.update.Plan.TheVariants.{Range}
+use Rattle.lpm_update.specs.Rewrite.{IsOnWords}
 use Rattle.lpm_update.proofs.Advancing.{advances_visit, plain_same}
 use Rattle.lpm_update.proofs.Promises.{plain_allows}
 use Rattle.lpm_update.proofs.rewrite_range.RewriteRange.run.Goals as goal
@@ -8,6 +9,11 @@ pub visit-requires-clause-allows : goal.visit-requires-clause-allows
 visit-requires-clause-allows g c =
     let come = c.loop-self.invariant.advances.come in
     plain_allows g.row.FIRST g.row.SECOND (Range c.loop-self.self) c.loop-self.cells come.table come.under_way
+
+pub visit-requires-clause-on : goal.visit-requires-clause-on
+visit-requires-clause-on g c =
+    let width = g.row.FIRST + g.row.SECOND in
+    subst (λ x. IsOnWords width x c.on_words-on.result) (sym c.loop-self.invariant.rewrite) (c.on_words-on.ensures width c.requires.shape.2)
 
 pub loop-self-preserved : goal.loop-self-preserved
 loop-self-preserved g c =

@@ -5,7 +5,7 @@ use Rattle.lpm_entry.specs.Words.{IsLast, entry_in}
 use Rattle.lpm_cells.specs.Table.{with_first, with_second}
 use Rattle.lpm_update.specs.Linked.{IsLinkTo}
 use Rattle.lpm_update.specs.Rewrite.{replaces}
-use Rattle.lpm_update.proofs.Visits.{base_of, place_within, visits_first, visited_first, kept_first, visited_second, kept_second}
+use Rattle.lpm_update.proofs.Visits.{base_of, place_within, first_is_word, second_is_word, visits_first, visited_first, kept_first, visited_second, kept_second}
 use Rattle.lpm_update.proofs.rewrite_range.RewriteRange.visit.Goals as goal
 
 pub set_first-requires-clause-allowed : goal.set_first-requires-clause-allowed
@@ -14,23 +14,25 @@ set_first-requires-clause-allowed g c =
     let i = c.first_index-block.result in
     let u = c.args.self.now in
     let value = c.first-old.ensures.value in
+    let whole = first_is_word g.row.FIRST g.row.SECOND W i c.first-old.result c.requires.table c.first_index-block.ensures.bound value in
     let last : IsLast (entry_in (slice_index W.firsts i)) = subst (λ x. IsLast (entry_in x)) value c.in-None.ensures in
-    let taken : replaces u.rewrite (entry_in (slice_index W.firsts i)) ≡ true = ap (λ x. replaces u.rewrite (entry_in x)) (sym value) ∙ sym c.replaces-in-None.ensures ∙ c.if-replaces-2.true in
-    rw c.first-old.ensures.same (c.requires.allows.first_word i c.args.word
-    (visits_first g.row.FIRST g.row.SECOND u W i c.requires.more c.requires.under_way c.first_index-block.ensures.value last _ taken c.requires.word))
+    let taken : replaces u.rewrite (entry_in (slice_index W.firsts i)) ≡ true = ap (λ x. replaces u.rewrite (entry_in x)) (sym value) ∙ c.requires.on.replaced c.first-old.result (whole, c.in-None.ensures) ∙ sym c.replaces-in-None.ensures ∙ c.if-replaces-2.true in
+    rw c.first-old.ensures.same (c.requires.allows.first_word i c.args.on.word
+    (visits_first g.row.FIRST g.row.SECOND u W i c.requires.more c.requires.under_way c.first_index-block.ensures.value last _ taken c.requires.on.word))
 
 pub returns-then-replaces-2-clause-visits : goal.returns-then-replaces-2-clause-visits
 returns-then-replaces-2-clause-visits g c =
     let C = g.C.Cells in
     let W = C.words c.args.cells.now in
     let i = c.first_index-block.result in
-    let w = c.args.word in
+    let w = c.args.on.word in
     let u = c.args.self.now in
     let value = c.first-old.ensures.value in
+    let whole = first_is_word g.row.FIRST g.row.SECOND W i c.first-old.result c.requires.table c.first_index-block.ensures.bound value in
     let last : IsLast (entry_in (slice_index W.firsts i)) = subst (λ x. IsLast (entry_in x)) value c.in-None.ensures in
-    let taken : replaces u.rewrite (entry_in (slice_index W.firsts i)) ≡ true = ap (λ x. replaces u.rewrite (entry_in x)) (sym value) ∙ sym c.replaces-in-None.ensures ∙ c.if-replaces-2.true in
+    let taken : replaces u.rewrite (entry_in (slice_index W.firsts i)) ≡ true = ap (λ x. replaces u.rewrite (entry_in x)) (sym value) ∙ c.requires.on.replaced c.first-old.result (whole, c.in-None.ensures) ∙ sym c.replaces-in-None.ensures ∙ c.if-replaces-2.true in
     let within : i < length W.firsts = subst (λ n. i < n) (sym c.requires.table.words.firsts_len) c.first_index-block.ensures.bound in
-    visited_first g.row.FIRST g.row.SECOND u W i c.requires.more c.requires.under_way c.first_index-block.ensures.value last _ w _ within taken c.requires.word
+    visited_first g.row.FIRST g.row.SECOND u W i c.requires.more c.requires.under_way c.first_index-block.ensures.value last _ w _ within taken c.requires.on.word
     (ap (λ x. u.at + x) (one_shl g.row.SECOND 64 (let z = c.requires.shape.2 in omega arith)))
     (c.set_first.ensures.words ∙ ap (λ x. with_first (C.words x) i w) c.first-old.ensures.same)
 
@@ -41,8 +43,9 @@ returns-else-replaces-2-clause-visits g c =
     let i = c.first_index-block.result in
     let u = c.args.self.now in
     let value = c.first-old.ensures.value in
+    let whole = first_is_word g.row.FIRST g.row.SECOND W i c.first-old.result c.requires.table c.first_index-block.ensures.bound value in
     let last : IsLast (entry_in (slice_index W.firsts i)) = subst (λ x. IsLast (entry_in x)) value c.in-None.ensures in
-    let kept : replaces u.rewrite (entry_in (slice_index W.firsts i)) ≡ false = ap (λ x. replaces u.rewrite (entry_in x)) (sym value) ∙ sym c.replaces-in-None.ensures ∙ c.if-replaces-2.false in
+    let kept : replaces u.rewrite (entry_in (slice_index W.firsts i)) ≡ false = ap (λ x. replaces u.rewrite (entry_in x)) (sym value) ∙ c.requires.on.replaced c.first-old.result (whole, c.in-None.ensures) ∙ sym c.replaces-in-None.ensures ∙ c.if-replaces-2.false in
     kept_first g.row.FIRST g.row.SECOND u W i c.requires.more c.requires.under_way c.first_index-block.ensures.value last _ _ kept
     (ap (λ x. u.at + x) (one_shl g.row.SECOND 64 (let z = c.requires.shape.2 in omega arith))) (ap (λ x. C.words x) c.first-old.ensures.same)
 
@@ -62,10 +65,12 @@ returns-then-replaces-clause-visits g c =
     let place : j ≡ n * 2 ^ s + u.at % 2 ^ s = ap (λ x. x + c.second_index.result) base ∙ ap (λ x. n * 2 ^ s + x) c.second_index.ensures.value in
     let same = c.second-old.ensures.same ∙ c.first-old.ensures.same in
     let value = c.second-old.ensures.value ∙ ap (λ x. slice_index (C.words x).seconds j) c.first-old.ensures.same in
-    let taken : replaces u.rewrite (entry_in (slice_index W.seconds j)) ≡ true = ap (λ x. replaces u.rewrite (entry_in x)) (sym value) ∙ sym c.replaces.ensures ∙ c.if-replaces.true in
-    visited_second f s u W n j c.requires.more c.requires.under_way group place _ c.args.word
-    (subst (λ x. x < length W.seconds) (sym place) (place_within f s W n u.at c.requires.table low group)) taken c.requires.word
-    (c.set_second.ensures.words ∙ ap (λ x. with_second (C.words x) j c.args.word) same)
+    let within : j < length W.seconds = subst (λ x. x < length W.seconds) (sym place) (place_within f s W n u.at c.requires.table low group) in
+    let word = second_is_word f s W j c.second-old.result c.requires.table within value in
+    let taken : replaces u.rewrite (entry_in (slice_index W.seconds j)) ≡ true = ap (λ x. replaces u.rewrite (entry_in x)) (sym value) ∙ c.requires.on.replaced c.second-old.result word ∙ sym c.replaces.ensures ∙ c.if-replaces.true in
+    visited_second f s u W n j c.requires.more c.requires.under_way group place _ c.args.on.word
+    within taken c.requires.on.word
+    (c.set_second.ensures.words ∙ ap (λ x. with_second (C.words x) j c.args.on.word) same)
 
 pub returns-else-replaces-clause-visits : goal.returns-else-replaces-clause-visits
 returns-else-replaces-clause-visits g c =
@@ -82,5 +87,7 @@ returns-else-replaces-clause-visits g c =
     let j = n * 2 ^ s % 18446744073709551616 + c.second_index.result in
     let place : j ≡ n * 2 ^ s + u.at % 2 ^ s = ap (λ x. x + c.second_index.result) base ∙ ap (λ x. n * 2 ^ s + x) c.second_index.ensures.value in
     let value = c.second-old.ensures.value ∙ ap (λ x. slice_index (C.words x).seconds j) c.first-old.ensures.same in
-    let kept : replaces u.rewrite (entry_in (slice_index W.seconds j)) ≡ false = ap (λ x. replaces u.rewrite (entry_in x)) (sym value) ∙ sym c.replaces.ensures ∙ c.if-replaces.false in
+    let within : j < length W.seconds = subst (λ x. x < length W.seconds) (sym place) (place_within f s W n u.at c.requires.table low group) in
+    let word = second_is_word f s W j c.second-old.result c.requires.table within value in
+    let kept : replaces u.rewrite (entry_in (slice_index W.seconds j)) ≡ false = ap (λ x. replaces u.rewrite (entry_in x)) (sym value) ∙ c.requires.on.replaced c.second-old.result word ∙ sym c.replaces.ensures ∙ c.if-replaces.false in
     kept_second f s u W n j c.requires.more c.requires.under_way group place _ kept (ap (λ x. C.words x) (c.second-old.ensures.same ∙ c.first-old.ensures.same))
