@@ -1,6 +1,5 @@
 -- Several steps of a change in one call.
-use Rattle.std.proofs.Common.{arith, refl, sym, ◌∙◌, ◌≡◌, ◌≢◌, ℕ, ◌<◌, ◌≤◌, ◌^◌, subst, Option}
-use Rattle.lpm_entry.specs.declared.Entry.{Entry}
+use Rattle.std.proofs.Common.{arith, refl, sym, ◌∙◌, ◌≡◌, ℕ, subst, Option}
 use Rattle.lpm_cells.specs.Table.{Words, with_first, with_second}
 use Rattle.lpm_update.specs.declared.Did.{Did}
 use Rattle.lpm_update.specs.declared.Did.TheVariants.{First, Second, Unlinked, Done}
@@ -8,9 +7,9 @@ use Rattle.lpm_update.specs.declared.link_group.LinkGroup.{LinkGroup}
 use Rattle.lpm_update.specs.declared.rewrite_range.RewriteRange.{RewriteRange}
 use Rattle.lpm_update.specs.declared.update.Plan.{Plan}
 use Rattle.lpm_update.specs.declared.update.Plan.TheVariants.{Range, Link}
-use Rattle.lpm_update.specs.Linked.{IsTable, group_at}
-use Rattle.lpm_update.specs.RewriteRange.{IsRewriting, Visits}
-use Rattle.lpm_update.specs.Update.{IsUnderWay, SameGroups, GivesUp, group_held}
+use Rattle.lpm_update.specs.Linked.{IsTable}
+use Rattle.lpm_update.specs.RewriteRange.{Visits}
+use Rattle.lpm_update.specs.Update.{IsUnderWay, SameGroups, GivesUp}
 use Rattle.lpm_update.specs.Step.{Steps, Stored, SetsWord}
 use Rattle.lpm_update.specs.Runs.{HasComeOn, Advances}
 use Rattle.lpm_update.proofs.Places.{stands_skip}

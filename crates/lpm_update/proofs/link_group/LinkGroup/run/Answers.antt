@@ -1,5 +1,5 @@
 use Rattle.lpm_update.specs.declared.update.Plan.TheVariants.{Link}
-use Rattle.lpm_update.proofs.Advancing.{advances_same, advances_step, link_keeps}
+use Rattle.lpm_update.proofs.Advancing.{advances_step, link_keeps}
 use Rattle.lpm_update.proofs.Promises.{plain_allows}
 use Rattle.lpm_update.proofs.link_group.LinkGroup.run.Goals as goal
 
