@@ -4,8 +4,7 @@ use Rattle.std.specs.Prelude.{slice_index}
 use Rattle.std.proofs.lemmas.Nat.{pow_pos, shl_whole, mod_below}
 use Rattle.std.proofs.lemmas.List.{get_or_past}
 use Rattle.lpm_bits.specs.Widths.{IsShape}
-use Rattle.lpm_entry.specs.declared.Entry.{Entry}
-use Rattle.lpm_entry.specs.declared.Entry.TheVariants.{Miss, Hop, Group}
+use Rattle.lpm_entry.specs.declared.Entry.TheVariants.{Miss, Group}
 use Rattle.lpm_entry.specs.Words.{IsEntry, IsLast, IsWord, IsLastWord, word_of, entry_in}
 use Rattle.lpm_entry.proofs.Reading.{entry_in_zero}
 use Rattle.lpm_cells.specs.Table.{Words, entry_at, followed, with_first, with_second}
@@ -24,11 +23,6 @@ pub past_group : (F : List ℕ) (i g : ℕ) → length F ≤ i → IsLinkTo F i 
 past_group F i g h e =
     let z : Miss ≡ Group g = sym entry_in_zero ∙ ap entry_in (sym (get_or_past F i 0 h)) ∙ e in
     cc
-
-pub not_group_last : (e : Entry) → ((g : ℕ) → e ≡ Group g → ⊥) → IsLast e
-not_group_last Miss h = tt
-not_group_last (Hop n d) h = tt
-not_group_last (Group g) h = h g refl
 
 group_small : (f s : ℕ) (W : Words) (i g : ℕ) → IsTable f s W → i < 2 ^ f → IsLinkTo W.firsts i g → g < 2 ^ 24
 group_small f s W i g t h e = subst (IsEntry (f + s)) e (first_word f s W i t h).0.0

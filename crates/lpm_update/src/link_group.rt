@@ -31,7 +31,7 @@ impl LinkGroup {
     ghost use Rattle.lpm_update.specs.Linked.{IsTable};
     ghost use Rattle.lpm_update.specs.LinkGroup.{IsLinking, final_entry};
     ghost use Rattle.lpm_update.specs.Represents.{IsFreshGroup};
-    ghost use Rattle.lpm_update.specs.Update.{IsUnderWay};
+    ghost use Rattle.lpm_update.specs.Update.{IsUnderWay, IsOver};
     ghost use Rattle.lpm_update.specs.Step.{AllowsNext, Steps, SetsWord};
     ghost use Rattle.lpm_update.specs.Runs.{Advances};
 
@@ -134,7 +134,9 @@ impl LinkGroup {
         requires shape { IsShape FIRST SECOND }
         requires table { IsTable FIRST SECOND cells.old }
         requires under_way { IsUnderWay FIRST SECOND (Link self.old) cells.old }
-        ensures { Advances FIRST SECOND (Link self.old) cells.old (Link self.new) cells.new }
+        ensures advances { Advances FIRST SECOND (Link self.old) cells.old
+            (Link self.new) cells.new }
+        ensures over { IsOver FIRST SECOND (Link self.new) }
     {
         loop {
             match self.step::<FIRST, SECOND, PlainCells<FIRST, SECOND>>(cells) {

@@ -32,7 +32,7 @@ impl RewriteRange {
     ghost use Rattle.lpm_update.specs.Rewrite.{IsOnWords, Skips};
     ghost use Rattle.lpm_update.specs.Linked.{IsTable};
     ghost use Rattle.lpm_update.specs.RewriteRange.{IsRangeOf, Visits};
-    ghost use Rattle.lpm_update.specs.Update.{IsUnderWay};
+    ghost use Rattle.lpm_update.specs.Update.{IsUnderWay, IsOver};
     ghost use Rattle.lpm_update.specs.Step.{AllowsNext, Steps, SetsWord};
     ghost use Rattle.lpm_update.specs.Runs.{Advances};
 
@@ -190,7 +190,9 @@ impl RewriteRange {
         requires shape { IsShape FIRST SECOND }
         requires table { IsTable FIRST SECOND cells.old }
         requires under_way { IsUnderWay FIRST SECOND (Range self.old) cells.old }
-        ensures { Advances FIRST SECOND (Range self.old) cells.old (Range self.new) cells.new }
+        ensures advances { Advances FIRST SECOND (Range self.old) cells.old
+            (Range self.new) cells.new }
+        ensures over { IsOver FIRST SECOND (Range self.new) }
     {
         let on = self.rewrite.on_words();
         while self.at < self.end {

@@ -156,8 +156,14 @@ impl Update {
         ensures held { EndsRun FIRST SECOND self.old cells.old result self.new cells.new }
     {
         match &mut self.plan {
-            Plan::Range(range) => range.run(cells),
-            Plan::Link(link) => link.run(cells),
+            Plan::Range(range) => {
+                range.run(cells);
+                return None;
+            }
+            Plan::Link(link) => {
+                link.run(cells);
+                return None;
+            }
             _ => {}
         }
         loop {

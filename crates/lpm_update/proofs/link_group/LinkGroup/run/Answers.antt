@@ -17,5 +17,6 @@ loop-preserved g c =
 
 pub returns-in-Done : goal.returns-in-Done
 returns-in-Done g c =
-    advances_step g.row.FIRST g.row.SECOND (Link c.args.self.now) c.args.cells.now _ (Link c.loop.self) (Link c.step.new.self) c.loop.cells c.step.new.cells (λ b n e. cc) c.loop.invariant
-    c.in-Done.ensures.steps
+    let h = c.in-Done.ensures.steps in
+    let now = advances_step g.row.FIRST g.row.SECOND (Link c.args.self.now) c.args.cells.now _ (Link c.loop.self) (Link c.step.new.self) c.loop.cells c.step.new.cells (λ b n e. cc) c.loop.invariant h in
+    record { advances = now; over = h.stored.1 }

@@ -1,4 +1,4 @@
-use Rattle.std.proofs.Common.{◌+◌, sym, subst, ◌∙◌}
+use Rattle.std.proofs.Common.{arith, refl, ◌+◌, sym, subst, ◌∙◌}
 use Rattle.lpm_update.specs.declared.update.Plan.TheVariants.{Range}
 use Rattle.lpm_update.specs.Rewrite.{IsOnWords}
 use Rattle.lpm_update.proofs.Advancing.{advances_visit, plain_same}
@@ -23,3 +23,9 @@ loop-self-preserved g c =
       advances = advances_visit g.row.FIRST g.row.SECOND (Range c.args.self.now) c.args.cells.now c.visit.result c.loop-self.self c.visit.new.self c.loop-self.cells c.visit.new.cells (plain_same c.loop-self.cells c.visit.result c.visit.new.cells c.visit.ensures.sets) known.advances visits;
       rewrite = visits.further.rewrite ∙ known.rewrite;
     }
+
+pub returns-clause-over : goal.returns-clause-over
+returns-clause-over g c =
+    let within = c.loop-self.invariant.advances.come.under_way.within in
+    let done = c.loop-self-test.false in
+    record { reached = omega (arith, within, done); groups = λ L i below. refl }

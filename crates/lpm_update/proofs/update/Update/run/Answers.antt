@@ -4,7 +4,6 @@ use Rattle.lpm_update.specs.Runs.{Advances}
 use Rattle.lpm_update.proofs.Advancing.{advances_same, advances_step, come_step, gives_up_after}
 use Rattle.lpm_update.proofs.Promises.{plain_allows}
 use Rattle.lpm_update.proofs.update.Update.run.Goals as goal
-use Rattle.lpm_update.proofs.update.Update.run.Goals.{in-Range, in-Link, in_default}
 
 pub step-requires-clause-allows : goal.step-requires-clause-allows
 step-requires-clause-allows g c =
@@ -17,16 +16,23 @@ loop-group-preserved g c =
     c.loop-group.invariant c.step.ensures.steps
 
 pub loop-group-init : goal.loop-group-init
-loop-group-init g c =
+loop-group-init g c = rw c.self.view_is (advances_same g.row.FIRST g.row.SECOND c.args.self.now c.args.cells.now c.requires.table c.requires.under_way)
+
+pub returns-in-Range : goal.returns-in-Range
+returns-in-Range g c =
     let f = g.row.FIRST in
-    let s = g.row.SECOND in
-    let u = c.args.self.now in
     let t = c.args.cells.now in
-    elim c.match-self.branch [
-      | in-Range w ↦ rw (w.self-inside-is, w.cells-is) (subst (λ x. Advances f s x t (Range w.run.new.self) w.run.new.cells) (sym w.in-Range.is ∙ c.self.view_is) w.run.ensures)
-      | in-Link w ↦ rw (w.self-inside-is, w.cells-is) (subst (λ x. Advances f s x t (Link w.run-in-Link.new.self) w.run-in-Link.new.cells) (sym w.in-Link.is ∙ c.self.view_is) w.run-in-Link.ensures)
-      | in_default w ↦ rw (w.self-inside-is, w.cells-is) (subst (λ x. Advances f s u t x t) (sym c.self.view_is) (advances_same f s u t c.requires.table c.requires.under_way))
-    ]
+    let same = sym c.in-Range.is ∙ c.self.view_is in
+    let all = subst (λ x. Advances f g.row.SECOND x t (Range c.run.new.self) c.run.new.cells) same c.run.ensures.advances in
+    record { come = all.come; held = (c.run.ensures.over, all.held) }
+
+pub returns-in-Link : goal.returns-in-Link
+returns-in-Link g c =
+    let f = g.row.FIRST in
+    let t = c.args.cells.now in
+    let same = sym c.in-Link.is ∙ c.self.view_is in
+    let all = subst (λ x. Advances f g.row.SECOND x t (Link c.run-in-Link.new.self) c.run-in-Link.new.cells) same c.run-in-Link.ensures.advances in
+    record { come = all.come; held = (c.run-in-Link.ensures.over, all.held) }
 
 pub returns-in-Unlinked : goal.returns-in-Unlinked
 returns-in-Unlinked g c =
