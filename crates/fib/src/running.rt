@@ -12,7 +12,7 @@ ghost use Rattle.fib.specs.Waiting.{IsQueued};
 use super::Pool;
 use lpm_bits::{Prefix, Shape};
 use lpm_cells::PlainCells;
-use lpm_update::{Did, Update};
+use lpm_update::Update;
 use qsbr::{Busy, Config};
 
 /// Makes all stores of a change, upwards; each group that it unlinks goes into limbo directly
@@ -28,12 +28,8 @@ pub(crate) fn run<const FIRST: u32, const SECOND: u32>(
 {
     let mut update = update;
     let _words = cells.seconds();
-    loop {
-        match update.step::<FIRST, SECOND, PlainCells<FIRST, SECOND>>(cells) {
-            Did::Unlinked { group, .. } => pool.retire(group, config),
-            Did::Done => return,
-            _ => {}
-        }
+    while let Some(group) = update.run(cells) {
+        pool.retire(group, config);
     }
 }
 

@@ -26,7 +26,7 @@ pub enum Entry {
 
 impl Entry {
     ghost use Rattle.lpm_entry.specs.Words.{IsEntry, IsLast, IsLastWord, IsWord, word_of, entry_in, hop_in};
-    ghost use Rattle.lpm_entry.specs.declared.Entry.TheVariants.{Group};
+    ghost use Rattle.lpm_entry.specs.declared.Entry.TheVariants.{Group, Hop as EntryHop};
     ghost use Rattle.lpm_entry.specs.declared.Entry.{Entry};
 
     /// The word of the entry: its number in bits 0 to 23, valid in bit 24, extended (a group) in
@@ -115,6 +115,17 @@ impl Entry {
         }
         let number = (word % VALID) as u32;
         Some(Hop::new(number).unwrap())
+    }
+
+    /// The least and the greatest word of a hop whose rule has this length. Between those of two
+    /// lengths words are in the order of the lengths, and a miss has the least word of all.
+    #[inline]
+    pub fn words_of_depth(depth: u32) -> (u64, u64)
+        ensures least { result.0 ≡ word_of (EntryHop 0 depth) }
+        ensures greatest { result.1 ≡ word_of (EntryHop 16777215 depth) }
+    {
+        let least = VALID + u64::from(depth) * DEPTH;
+        (least, least + (VALID - 1))
     }
 
     /// The next hop of the entry; none for a miss and for a group.

@@ -18,6 +18,7 @@ pub mod Turns
 pub mod Once
 pub mod Next
 pub mod Runs
+pub mod Advancing
 pub mod Ties
 pub mod Blank
 pub mod DeepCounts

@@ -13,7 +13,7 @@ use Rattle.lpm_update.specs.declared.update.Plan.TheVariants.{Range}
 use Rattle.lpm_update.specs.Rewrite.{Stands, Skips}
 use Rattle.lpm_update.specs.RewriteRange.{IsRewriting, IsFirstStore, IsSecondStore, IsFurther, Visits}
 use Rattle.lpm_update.specs.Linked.{IsTable, IsLinkTo, group_at}
-use Rattle.lpm_update.specs.Step.{Steps}
+use Rattle.lpm_update.specs.Step.{AllowsNext, Steps}
 use Rattle.lpm_update.specs.Update.{IsNextFirst, IsNextSecond}
 use Rattle.lpm_update.proofs.Places.{last_word, word_entry, stands_skip, stands_first, stands_second, table_first, table_second, whole_first, stored_first, stored_second}
 use Rattle.lpm_update.proofs.Visits.{past_first, past_second, past_group, place_within}
@@ -38,7 +38,7 @@ moved f s u v F fu k =
     let e3 = fu.rewrite in
     rw (e1, e2, e3) k
 
-moved_stands : (s : ℕ) (u v : RewriteRange) (W : Words) → IsFurther u v → (E : ℕ → Entry) → Stands s u.from v.at u.rewrite W E → Stands s v.from v.at v.rewrite W E
+pub moved_stands : (s : ℕ) (u v : RewriteRange) (W : Words) → IsFurther u v → (E : ℕ → Entry) → Stands s u.from v.at u.rewrite W E → Stands s v.from v.at v.rewrite W E
 moved_stands s u v W fu E k =
     let e1 = fu.from in
     let e3 = fu.rewrite in
@@ -153,6 +153,13 @@ module _ (s : ℕ) (u m : RewriteRange) (W : Words) (fu : IsFurther u m) (k : Sk
         word = h.word;
         skipped = skips_join s u.at m.at _ u.rewrite W k h.skipped;
       }
+
+  pub mid_allows : (f : ℕ) (P Q : ℕ → ℕ → Type 0) → AllowsNext f s (Range u) W P Q → AllowsNext f s (Range m) W P Q
+  mid_allows f P Q a = record {
+    first_word = λ i w n. a.first_word i w (mid_first i w n);
+    second_word = λ j w n. a.second_word j w (n.0, n.1, mid_second n.0 n.1 j w n.2);
+    unlink = λ b g w n. absurd n;
+  }
 
   pub mid_steps : (f : ℕ) (did : Did) (v : RewriteRange) (W' : Words) → IsTable f s W → IsRewriting f s u.from u.at u.end u.rewrite W.firsts → (did ≡ Done → ⊥) → Visits f s m W did v W'
       → Steps f s (Range u) W did (Range v) W'

@@ -4,9 +4,8 @@ use Rattle.std.specs.Prelude.{slice_index}
 use Rattle.std.proofs.lemmas.Nat.{pow_pos, shl_whole, mod_below}
 use Rattle.std.proofs.lemmas.List.{get_or_past}
 use Rattle.lpm_bits.specs.Widths.{IsShape}
-use Rattle.lpm_entry.specs.declared.Entry.{Entry}
-use Rattle.lpm_entry.specs.declared.Entry.TheVariants.{Miss, Hop, Group}
-use Rattle.lpm_entry.specs.Words.{IsEntry, IsLast, word_of, entry_in}
+use Rattle.lpm_entry.specs.declared.Entry.TheVariants.{Miss, Group}
+use Rattle.lpm_entry.specs.Words.{IsEntry, IsLast, IsWord, IsLastWord, word_of, entry_in}
 use Rattle.lpm_entry.proofs.Reading.{entry_in_zero}
 use Rattle.lpm_cells.specs.Table.{Words, entry_at, followed, with_first, with_second}
 use Rattle.lpm_update.specs.declared.Did.TheVariants.{First, Second, Done}
@@ -25,11 +24,6 @@ past_group F i g h e =
     let z : Miss ≡ Group g = sym entry_in_zero ∙ ap entry_in (sym (get_or_past F i 0 h)) ∙ e in
     cc
 
-pub not_group_last : (e : Entry) → ((g : ℕ) → e ≡ Group g → ⊥) → IsLast e
-not_group_last Miss h = tt
-not_group_last (Hop n d) h = tt
-not_group_last (Group g) h = h g refl
-
 group_small : (f s : ℕ) (W : Words) (i g : ℕ) → IsTable f s W → i < 2 ^ f → IsLinkTo W.firsts i g → g < 2 ^ 24
 group_small f s W i g t h e = subst (IsEntry (f + s)) e (first_word f s W i t h).0.0
 
@@ -42,6 +36,13 @@ place_within f s W g x t h e =
     let r = mod_below x (2 ^ s) (pow_pos s) in
     let room : g * 2 ^ s + 2 ^ s ≤ length W.seconds = first_room f s W (x / 2 ^ s) g t h e in
     omega (arith, r, room)
+
+-- a word that was loaded from a table is an entry's
+pub first_is_word : (f s : ℕ) (W : Words) (i w : ℕ) → IsTable f s W → i < 2 ^ f → w ≡ slice_index W.firsts i → IsWord (f + s) w
+first_is_word f s W i w t h e = subst (IsWord (f + s)) (sym e) (first_word f s W i t h).0
+
+pub second_is_word : (f s : ℕ) (W : Words) (j w : ℕ) → IsTable f s W → j < length W.seconds → w ≡ slice_index W.seconds j → IsLastWord (f + s) w
+second_is_word f s W j w t h e = subst (IsLastWord (f + s)) (sym e) (t.words.second_words j h)
 
 -- ---- the bounds of the range
 

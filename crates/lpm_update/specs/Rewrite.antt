@@ -1,13 +1,15 @@
 -- Meaning: what a change does to the entries of its range (DPDK Programmer's Guide, "LPM
 -- Library": an added rule takes the entries of shorter rules, a deleted rule's entries go to the
 -- longest rule that is shorter).
-use Rattle.std.specs.Prelude.{ℕ, Bool, true, false, ◌≡◌, ◌≤◌, ◌<◌, ◌==◌, nat_le, if◌then◌else◌}
+use Rattle.std.specs.Prelude.{ℕ, Bool, true, false, ◌≡◌, ◌≤◌, ◌<◌, ◌==◌, ◌&&◌, nat_le, if◌then◌else◌}
 use Rattle.lpm_entry.specs.declared.Entry.{Entry}
 use Rattle.lpm_entry.specs.declared.Entry.TheVariants.{Miss, Hop, Group}
+use Rattle.lpm_entry.specs.Words.{IsLastWord, entry_in, word_of}
 use Rattle.lpm_cells.specs.Table.{Words, entry_at}
 use Rattle.lpm_update.specs.declared.rewrite.Kind.{Kind}
 use Rattle.lpm_update.specs.declared.rewrite.Kind.TheVariants.{Add, Delete, Flush}
 use Rattle.lpm_update.specs.declared.rewrite.Rewrite.{Rewrite}
+use Rattle.lpm_update.specs.declared.rewrite.WordRewrite.{WordRewrite}
 
 -- a change by a rule of length n replaces this entry
 abbrev pub replaces_by : Kind → ℕ → Entry → Bool
@@ -23,6 +25,13 @@ replaces_by Flush n (Group group) = true
 
 abbrev pub replaces : Rewrite → Entry → Bool
 replaces c e = replaces_by c.kind c.depth e
+
+-- the change replaces the words from `least` to `greatest`, of those at which a lookup ends, and
+-- stores `word` over them
+pub record IsOnWords (width : ℕ) (c : Rewrite) (on : WordRewrite) : Type 0 where
+  pub replaced : (w : ℕ) → IsLastWord width w
+      → replaces c (entry_in w) ≡ (nat_le on.least w && nat_le w on.greatest)
+  pub word : on.word ≡ word_of c.entry
 
 -- what becomes of an entry in the range
 abbrev pub changed : Rewrite → Entry → Entry

@@ -11,7 +11,7 @@ mod update;
 
 use flush::Flush;
 use link_group::LinkGroup;
-use rewrite::{Kind, Rewrite};
+use rewrite::{Kind, Rewrite, WordRewrite};
 use rewrite_range::RewriteRange;
 use unlink_group::UnlinkGroup;
 pub use update::Update;

@@ -4,7 +4,7 @@ ghost use Rattle.std.specs.Prelude.{◌≡◌};
 
 use super::{Did, Kind, Rewrite};
 use lpm_bits::{Hop, Prefix, Shape};
-use lpm_cells::Cells;
+use lpm_cells::{Cells, PlainCells};
 use lpm_entry::Entry;
 
 /// The addition of a rule longer than `FIRST` bits to a block that has no group: the words of a
@@ -25,14 +25,15 @@ impl LinkGroup {
     ghost use Rattle.lpm_bits.specs.Widths.{IsShape};
     ghost use Rattle.lpm_cells.specs.Table.{Words};
     ghost use Rattle.lpm_entry.specs.declared.Entry.TheVariants.{Hop as EntryHop};
-    ghost use Rattle.lpm_entry.specs.Words.{IsLast, entry_in};
+    ghost use Rattle.lpm_entry.specs.Words.{IsEntry, IsLast, IsLastWord, entry_in, word_of};
     ghost use Rattle.lpm_update.specs.declared.rewrite.Kind.TheVariants.{Add};
     ghost use Rattle.lpm_update.specs.declared.update.Plan.TheVariants.{Link};
     ghost use Rattle.lpm_update.specs.Linked.{IsTable};
     ghost use Rattle.lpm_update.specs.LinkGroup.{IsLinking, final_entry};
     ghost use Rattle.lpm_update.specs.Represents.{IsFreshGroup};
-    ghost use Rattle.lpm_update.specs.Update.{IsUnderWay};
+    ghost use Rattle.lpm_update.specs.Update.{IsUnderWay, IsOver};
     ghost use Rattle.lpm_update.specs.Step.{AllowsNext, Steps, SetsWord};
+    ghost use Rattle.lpm_update.specs.Runs.{Advances};
 
     /// The addition of this rule by this group, which no block has.
     pub(crate) fn add<const FIRST: u32, const SECOND: u32>(
@@ -74,18 +75,24 @@ impl LinkGroup {
         }
     }
 
-    /// The entry of an address of the block after the change.
-    fn entry_for(&self, old: Entry, address: u64) -> Entry
-        ensures { result ≡ final_entry self.now.from self.now.end self.now.rewrite address old }
+    /// The word of an address of the block after the change. `old` is the block's word before.
+    #[inline]
+    fn word_for<const FIRST: u32, const SECOND: u32>(&self, old: u64, address: u64) -> u64
+        requires shape { IsShape FIRST SECOND }
+        requires last { IsLastWord (FIRST + SECOND) old }
+        requires entry { IsEntry (FIRST + SECOND) self.now.rewrite.entry }
+        ensures { result ≡ word_of (final_entry self.now.from self.now.end self.now.rewrite
+            address (entry_in old)) }
     {
-        let replaced = self.rewrite.replaces(&old);
-        if self.from <= address && address < self.end && replaced {
-            return self.rewrite.entry;
+        let on = self.rewrite.on_words();
+        if self.from <= address && address < self.end && on.replaces(old) {
+            return on.word;
         }
         old
     }
 
     /// Makes the next store of the addition, or none where it is done.
+    #[inline]
     pub(crate) fn step<const FIRST: u32, const SECOND: u32, C: Cells>(
         &mut self,
         cells: &mut C,
@@ -102,12 +109,12 @@ impl LinkGroup {
         let size = 1u64 << SECOND;
         let next = self.next;
         if next < size {
-            let old = Entry::of_word(cells.first(self.block));
+            let old = cells.first(self.block);
             let address = ((self.block as u64) << SECOND) + next;
-            let entry = self.entry_for(old, address);
+            let word = self.word_for::<FIRST, SECOND>(old, address);
             let place = ((self.group as usize) << SECOND) + next as usize;
             self.next = next + 1;
-            cells.set_second(place, entry.to_word());
+            cells.set_second(place, word);
             return Did::Second(place);
         }
         if next == size {
@@ -117,5 +124,25 @@ impl LinkGroup {
             return Did::First(block);
         }
         Did::Done
+    }
+
+    /// Makes all stores of the addition that are left.
+    pub(crate) fn run<const FIRST: u32, const SECOND: u32>(
+        &mut self,
+        cells: &mut PlainCells<FIRST, SECOND>,
+    )
+        requires shape { IsShape FIRST SECOND }
+        requires table { IsTable FIRST SECOND cells.old }
+        requires under_way { IsUnderWay FIRST SECOND (Link self.old) cells.old }
+        ensures advances { Advances FIRST SECOND (Link self.old) cells.old
+            (Link self.new) cells.new }
+        ensures over { IsOver FIRST SECOND (Link self.new) }
+    {
+        loop {
+            match self.step::<FIRST, SECOND, PlainCells<FIRST, SECOND>>(cells) {
+                Did::Done => return,
+                _ => {}
+            }
+        }
     }
 }

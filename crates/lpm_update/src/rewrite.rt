@@ -23,20 +23,58 @@ pub(crate) struct Rewrite {
     pub(crate) entry: Entry,
 }
 
-impl Rewrite {
-    ghost use Rattle.std.specs.Prelude.{◌≡◌};
-    ghost use Rattle.lpm_update.specs.Rewrite.{replaces};
+/// What a change does to the words of its range at which a lookup ends: those from `least` to
+/// `greatest` become `word`.
+///
+/// It is made once for many words, each of which is then only compared with two numbers.
+#[derive(Clone, Copy, Debug)]
+pub(crate) struct WordRewrite {
+    pub(crate) least: u64,
+    pub(crate) greatest: u64,
+    pub(crate) word: u64,
+}
 
-    /// Whether the change replaces this entry.
-    pub(crate) fn replaces(&self, entry: &Entry) -> bool
-        ensures { result ≡ replaces self.now entry.now }
+impl Rewrite {
+    ghost use Rattle.std.specs.Prelude.{ℕ, ◌≤◌};
+    ghost use Rattle.lpm_entry.specs.Words.{IsEntry};
+    ghost use Rattle.lpm_update.specs.Rewrite.{IsOnWords};
+
+    /// What the change does to words.
+    #[inline]
+    pub(crate) fn on_words(&self) -> WordRewrite
+        requires { IsEntry 32 self.now.entry }
+        ensures { (width : ℕ) → width ≤ 32 → IsOnWords width self.now result }
     {
-        match (self.kind, entry) {
-            (Kind::Add, Entry::Miss) => true,
-            (Kind::Add, Entry::Hop { depth, .. }) => *depth <= self.depth,
-            (Kind::Delete, Entry::Hop { depth, .. }) => *depth == self.depth,
-            (Kind::Flush, Entry::Hop { .. } | Entry::Group(_)) => true,
-            _ => false,
+        let (least, greatest) = Entry::words_of_depth(self.depth);
+        let word = self.entry.to_word();
+        match self.kind {
+            Kind::Add => WordRewrite {
+                least: Entry::Miss.to_word(),
+                greatest,
+                word,
+            },
+            Kind::Delete => WordRewrite {
+                least,
+                greatest,
+                word,
+            },
+            Kind::Flush => WordRewrite {
+                least: Entry::words_of_depth(0).0,
+                greatest: u64::MAX,
+                word,
+            },
         }
+    }
+}
+
+impl WordRewrite {
+    ghost use Rattle.std.specs.Prelude.{◌≡◌, ◌&&◌, nat_le};
+
+    /// Whether the change replaces this word, at which a lookup ends.
+    #[inline]
+    pub(crate) fn replaces(&self, word: u64) -> bool
+        ensures { result ≡ (nat_le self.now.least word && nat_le word self.now.greatest) }
+    {
+        self.least <= word && word <= self.greatest
     }
 }

@@ -2,9 +2,9 @@
 
 ghost use Rattle.std.specs.Prelude.{◌≡◌};
 
-use super::{Did, Kind, Rewrite};
+use super::{Did, Kind, Rewrite, WordRewrite};
 use lpm_bits::{Hop, Prefix, Shape};
-use lpm_cells::Cells;
+use lpm_cells::{Cells, PlainCells};
 use lpm_entry::Entry;
 use lpm_rules::Rule;
 
@@ -29,11 +29,12 @@ impl RewriteRange {
     ghost use Rattle.lpm_update.specs.declared.rewrite.Kind.TheVariants.{Add, Delete};
     ghost use Rattle.lpm_update.specs.declared.update.Plan.TheVariants.{Range};
     ghost use Rattle.lpm_update.specs.Best.{IsCoverEntry};
-    ghost use Rattle.lpm_update.specs.Rewrite.{Skips};
+    ghost use Rattle.lpm_update.specs.Rewrite.{IsOnWords, Skips};
     ghost use Rattle.lpm_update.specs.Linked.{IsTable};
     ghost use Rattle.lpm_update.specs.RewriteRange.{IsRangeOf, Visits};
-    ghost use Rattle.lpm_update.specs.Update.{IsUnderWay};
+    ghost use Rattle.lpm_update.specs.Update.{IsUnderWay, IsOver};
     ghost use Rattle.lpm_update.specs.Step.{AllowsNext, Steps, SetsWord};
+    ghost use Rattle.lpm_update.specs.Runs.{Advances};
 
     /// The change that adds a rule whose block needs no new group: a rule no longer than `FIRST`
     /// bits, or one whose block has a group.
@@ -109,9 +110,15 @@ impl RewriteRange {
         }
     }
 
-    /// Looks at the next place of the range, and makes the store there if it is to be made.
+    /// Looks at the next place of the range, and makes the store there if it is to be made. `on`
+    /// is what the change does to words.
     #[inline]
-    fn visit<const FIRST: u32, const SECOND: u32, C: Cells>(&mut self, cells: &mut C) -> Did
+    fn visit<const FIRST: u32, const SECOND: u32, C: Cells>(
+        &mut self,
+        cells: &mut C,
+        on: WordRewrite,
+    ) -> Did
+        requires on { IsOnWords (FIRST + SECOND) self.old.rewrite on }
         requires shape { IsShape FIRST SECOND }
         requires table { IsTable FIRST SECOND (C.words cells.old) }
         requires under_way { IsUnderWay FIRST SECOND (Range self.old) (C.words cells.old) }
@@ -123,24 +130,23 @@ impl RewriteRange {
         ensures sets { SetsWord C.words C.sets_first C.sets_second cells.old result cells.new }
     {
         let at = self.at;
-        let rewrite = self.rewrite;
         let block = Shape::<FIRST, SECOND>::first_index(at as u32);
-        let entry = Entry::of_word(cells.first(block));
-        match entry {
-            Entry::Group(group) => {
+        let old = cells.first(block);
+        match Entry::group_of_word::<FIRST, SECOND>(old) {
+            Some(group) => {
                 let base = (group as usize) << SECOND;
                 let place = base + Shape::<FIRST, SECOND>::second_index(at as u32);
-                let old = Entry::of_word(cells.second(place));
+                let old = cells.second(place);
                 self.at = at + 1;
-                if rewrite.replaces(&old) {
-                    cells.set_second(place, rewrite.entry.to_word());
+                if on.replaces(old) {
+                    cells.set_second(place, on.word);
                     return Did::Second(place);
                 }
             }
-            entry => {
+            None => {
                 self.at = at + (1 << SECOND);
-                if rewrite.replaces(&entry) {
-                    cells.set_first(block, rewrite.entry.to_word());
+                if on.replaces(old) {
+                    cells.set_first(block, on.word);
                     return Did::First(block);
                 }
             }
@@ -166,13 +172,32 @@ impl RewriteRange {
         ensures skips { result ≡ Done
             → Skips SECOND self.old.rewrite (C.words cells.old) self.old.at self.old.end }
     {
+        let on = self.rewrite.on_words();
         while self.at < self.end {
-            match self.visit::<FIRST, SECOND, C>(cells) {
+            match self.visit::<FIRST, SECOND, C>(cells, on) {
                 Did::Done => {}
                 did => return did,
             }
         }
         Did::Done
+    }
+
+    /// Makes all stores of the change that are left.
+    pub(crate) fn run<const FIRST: u32, const SECOND: u32>(
+        &mut self,
+        cells: &mut PlainCells<FIRST, SECOND>,
+    )
+        requires shape { IsShape FIRST SECOND }
+        requires table { IsTable FIRST SECOND cells.old }
+        requires under_way { IsUnderWay FIRST SECOND (Range self.old) cells.old }
+        ensures advances { Advances FIRST SECOND (Range self.old) cells.old
+            (Range self.new) cells.new }
+        ensures over { IsOver FIRST SECOND (Range self.new) }
+    {
+        let on = self.rewrite.on_words();
+        while self.at < self.end {
+            let _ = self.visit::<FIRST, SECOND, PlainCells<FIRST, SECOND>>(cells, on);
+        }
     }
 }
 

@@ -4,7 +4,7 @@ ghost use Rattle.std.specs.Prelude.{◌≡◌};
 
 use super::{Did, Flush, LinkGroup, RewriteRange, UnlinkGroup};
 use lpm_bits::{Hop, Prefix, Shape};
-use lpm_cells::Cells;
+use lpm_cells::{Cells, PlainCells};
 use lpm_rules::Rule;
 use std::marker::Model;
 
@@ -46,6 +46,7 @@ impl Update {
     ghost use Rattle.lpm_update.specs.Linked.{IsTable, group_at};
     ghost use Rattle.lpm_update.specs.Update.{IsUnderWay, group_held};
     ghost use Rattle.lpm_update.specs.Step.{AllowsNext, Steps, SetsWord};
+    ghost use Rattle.lpm_update.specs.Runs.{HasComeOn, EndsRun};
 
     /// The addition of a rule, or its replacement, by a free group where the rule is longer than
     /// `FIRST` bits and its block has none.
@@ -139,6 +140,38 @@ impl Update {
             Plan::Link(link) => link.step::<FIRST, SECOND, C>(cells),
             Plan::Unlink(unlink) => unlink.step::<FIRST, SECOND, C>(cells),
             Plan::Flush(flush) => flush.step::<FIRST, SECOND, C>(cells),
+        }
+    }
+
+    /// Makes stores up to one that unlinks a group, and returns that group, or all that are left,
+    /// and returns none. For many words it is faster than [`Update::step`].
+    pub fn run<const FIRST: u32, const SECOND: u32>(
+        &mut self,
+        cells: &mut PlainCells<FIRST, SECOND>,
+    ) -> Option<u32>
+        requires shape { IsShape FIRST SECOND }
+        requires table { IsTable FIRST SECOND cells.old }
+        requires under_way { IsUnderWay FIRST SECOND self.old cells.old }
+        ensures come { HasComeOn FIRST SECOND self.old cells.old self.new cells.new }
+        ensures held { EndsRun FIRST SECOND self.old cells.old result self.new cells.new }
+    {
+        match &mut self.plan {
+            Plan::Range(range) => {
+                range.run(cells);
+                return None;
+            }
+            Plan::Link(link) => {
+                link.run(cells);
+                return None;
+            }
+            _ => {}
+        }
+        loop {
+            match self.step::<FIRST, SECOND, PlainCells<FIRST, SECOND>>(cells) {
+                Did::Unlinked { group, .. } => return Some(group),
+                Did::Done => return None,
+                _ => {}
+            }
         }
     }
 }

@@ -2,7 +2,7 @@ use Rattle.std.proofs.Common.{◌≡◌, ◌+◌, ◌≤◌, length}
 use Rattle.lpm_groups.specs.States.{linked_count}
 use Rattle.lpm_update.specs.Runs.{HasCome}
 use Rattle.lpm_update.specs.Tied.{IsTied}
-use Rattle.lpm_update.specs.Update.{group_held, places_left}
+use Rattle.lpm_update.specs.Update.{group_held}
 use Rattle.fib.specs.Pool.{UnlinksSome}
 use Rattle.fib.specs.Waiting.{IsQueued}
 use Rattle.fib.proofs.running.run.Given as goal
@@ -22,4 +22,4 @@ invariant-loop-group g l =
     }
 
 abbrev pub decreases-loop-group : goal.decreases-loop-group
-decreases-loop-group g l = places_left g.row.FIRST g.row.SECOND l.update
+decreases-loop-group g l = linked_count l.pool.keeper.groups

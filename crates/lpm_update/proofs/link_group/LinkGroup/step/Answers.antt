@@ -24,12 +24,11 @@ set_second-requires-clause-allowed g c =
     let base : u.group * 2 ^ s % 18446744073709551616 ≡ u.group * 2 ^ s = shl_whole u.group 24 s 64 link.group (omega arith) in
     let widen : u.block < 2 ^ 32 = block_small g.row.FIRST u.block link.block (omega arith) in
     let start : u.block * 2 ^ s % 18446744073709551616 ≡ u.block * 2 ^ s = shl_whole u.block 32 s 64 widen (omega arith) in
-    let w = c.to_word.result in
-    let old : c.of_word-old.result ≡ entry_in (slice_index W.firsts u.block) = c.of_word-old.ensures ∙ ap entry_in c.first.ensures.value in
+    let w = c.word_for-word.result in
     let word : w ≡ word_of (filled_entry s u u.next (entry_in (slice_index W.firsts u.block))) =
-    c.to_word.ensures.value ∙ ap word_of c.entry_for-entry.ensures ∙ ap (λ x. word_of (final_entry u.from u.end u.rewrite (u.block * 2 ^ s % 18446744073709551616 + u.next) x)) old
+    c.word_for-word.ensures ∙ ap (λ x. word_of (final_entry u.from u.end u.rewrite (u.block * 2 ^ s % 18446744073709551616 + u.next) (entry_in x))) c.first-old.ensures.value
     ∙ ap (λ x. word_of (final_entry u.from u.end u.rewrite (x + u.next) (entry_in (slice_index W.firsts u.block)))) start in
-    rw c.first.ensures.same (c.requires.allows.second_word _ w (more, ap (λ x. x + u.next) base, word))
+    rw c.first-old.ensures.same (c.requires.allows.second_word _ w (more, ap (λ x. x + u.next) base, word))
 
 pub returns-then-next-size-clause-steps : goal.returns-then-next-size-clause-steps
 returns-then-next-size-clause-steps g c =
@@ -47,12 +46,11 @@ returns-then-next-size-clause-steps g c =
     let widen : u.block < 2 ^ 32 = block_small f u.block link.block (omega arith) in
     let start : u.block * 2 ^ s % 18446744073709551616 ≡ u.block * 2 ^ s = shl_whole u.block 32 s 64 widen (omega arith) in
     let j = u.group * 2 ^ s % 18446744073709551616 + u.next in
-    let w = c.to_word.result in
-    let old : c.of_word-old.result ≡ entry_in (slice_index W.firsts u.block) = c.of_word-old.ensures ∙ ap entry_in c.first.ensures.value in
+    let w = c.word_for-word.result in
     let word : w ≡ word_of (filled_entry s u u.next (entry_in (slice_index W.firsts u.block))) =
-    c.to_word.ensures.value ∙ ap word_of c.entry_for-entry.ensures ∙ ap (λ x. word_of (final_entry u.from u.end u.rewrite (u.block * 2 ^ s % 18446744073709551616 + u.next) x)) old
+    c.word_for-word.ensures ∙ ap (λ x. word_of (final_entry u.from u.end u.rewrite (u.block * 2 ^ s % 18446744073709551616 + u.next) (entry_in x))) c.first-old.ensures.value
     ∙ ap (λ x. word_of (final_entry u.from u.end u.rewrite (x + u.next) (entry_in (slice_index W.firsts u.block)))) start in
-    subst (Steps f s (Link u) W (Second j) (Link (next_place u))) (sym (c.set_second.ensures.words ∙ ap (λ x. with_second (C.words x) j w) c.first.ensures.same))
+    subst (Steps f s (Link u) W (Second j) (Link (next_place u))) (sym (c.set_second.ensures.words ∙ ap (λ x. with_second (C.words x) j w) c.first-old.ensures.same))
     (link_fill f s u W c.requires.table link j w (more, ap (λ x. x + u.next) base, word))
 
 pub returns-then-next-size-2-clause-steps : goal.returns-then-next-size-2-clause-steps
@@ -63,6 +61,6 @@ returns-then-next-size-2-clause-steps g c =
     let s = g.row.SECOND in
     let shape = c.requires.shape.2 in
     let size : 1 * 2 ^ s % 18446744073709551616 ≡ 2 ^ s = one_shl s 64 (omega arith) in
-    let word = c.to_word-then-next-size-2.ensures.value in
+    let word = c.to_word.ensures.value in
     subst (Steps f s (Link u) W (First u.block) (Link (next_place u))) (sym c.set_first.ensures.words)
     (link_link f s u W c.requires.table c.requires.under_way u.block _ (c.if-next-size-2.true ∙ size, refl, word))

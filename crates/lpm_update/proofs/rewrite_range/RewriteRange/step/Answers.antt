@@ -1,8 +1,24 @@
-use Rattle.std.proofs.Common.{subst}
+use Rattle.std.proofs.Common.{◌+◌, sym, subst}
+use Rattle.lpm_update.specs.declared.update.Plan.TheVariants.{Range}
+use Rattle.lpm_update.specs.Rewrite.{IsOnWords}
 use Rattle.lpm_update.specs.RewriteRange.{Visits}
-use Rattle.lpm_update.specs.Step.{SetsWord}
-use Rattle.lpm_update.proofs.RangeSteps.{mid_steps}
+use Rattle.lpm_update.specs.Step.{AllowsNext, SetsWord}
+use Rattle.lpm_update.proofs.RangeSteps.{mid_allows, mid_steps}
 use Rattle.lpm_update.proofs.rewrite_range.RewriteRange.step.Goals as goal
+
+pub visit-requires-clause-on : goal.visit-requires-clause-on
+visit-requires-clause-on g c =
+    let width = g.row.FIRST + g.row.SECOND in
+    subst (λ x. IsOnWords width x c.on_words-on.result) (sym c.loop-self.invariant.further.rewrite) (c.on_words-on.ensures width c.requires.shape.2)
+
+pub visit-requires-clause-allows : goal.visit-requires-clause-allows
+visit-requires-clause-allows g c =
+    let C = g.C.Cells in
+    let old = c.args.cells.now in
+    let m = c.loop-self.self in
+    let known = c.loop-self.invariant in
+    subst (λ x. AllowsNext g.row.FIRST g.row.SECOND (Range m) (C.words x) (C.may_set_first x) (C.may_set_second x)) (sym known.same)
+    (mid_allows g.row.SECOND c.args.self.now m (C.words old) known.further known.skips g.row.FIRST (C.may_set_first old) (C.may_set_second old) c.requires.allows)
 
 pub returns-in_default : goal.returns-in_default
 returns-in_default g c =

@@ -5,56 +5,49 @@ use Rattle.lpm_entry.specs.Words.{IsLast, entry_in}
 use Rattle.lpm_cells.specs.Table.{with_first, with_second}
 use Rattle.lpm_update.specs.Linked.{IsLinkTo}
 use Rattle.lpm_update.specs.Rewrite.{replaces}
-use Rattle.lpm_update.proofs.Places.{sets_first}
-use Rattle.lpm_update.proofs.Visits.{not_group_last, base_of, place_within, visits_first, visited_first, kept_first, visited_second, kept_second}
+use Rattle.lpm_update.proofs.Visits.{base_of, place_within, first_is_word, second_is_word, visits_first, visited_first, kept_first, visited_second, kept_second}
 use Rattle.lpm_update.proofs.rewrite_range.RewriteRange.visit.Goals as goal
 
-pub set_first-requires : goal.set_first-requires
-set_first-requires g c =
+pub set_first-requires-clause-allowed : goal.set_first-requires-clause-allowed
+set_first-requires-clause-allowed g c =
     let W = g.C.Cells.words c.args.cells.now in
     let i = c.first_index-block.result in
     let u = c.args.self.now in
-    let word : c.of_word-entry.result ≡ entry_in (slice_index W.firsts i) = c.of_word-entry.ensures ∙ ap entry_in c.first.ensures.value in
-    let last : IsLast (entry_in (slice_index W.firsts i)) = not_group_last _ (λ x z. c.in_default.not-Group x (word ∙ z)) in
-    let taken : replaces u.rewrite (entry_in (slice_index W.firsts i)) ≡ true = ap (replaces u.rewrite) (sym word) ∙ sym c.replaces-in_default.ensures ∙ c.if-replaces-2.true in
-    record {
-      in_range = rw c.first.ensures.same (subst (λ n. i < n) (sym c.requires.table.words.firsts_len) c.first_index-block.ensures.bound);
-      allowed = rw c.first.ensures.same (c.requires.allows.first_word i c.to_word-then-replaces-2.result
-          (visits_first g.row.FIRST g.row.SECOND u W i c.requires.more c.requires.under_way c.first_index-block.ensures.value last _ taken c.to_word-then-replaces-2.ensures.value));
-    }
+    let value = c.first-old.ensures.value in
+    let whole = first_is_word g.row.FIRST g.row.SECOND W i c.first-old.result c.requires.table c.first_index-block.ensures.bound value in
+    let last : IsLast (entry_in (slice_index W.firsts i)) = subst (λ x. IsLast (entry_in x)) value c.in-None.ensures in
+    let taken : replaces u.rewrite (entry_in (slice_index W.firsts i)) ≡ true = ap (λ x. replaces u.rewrite (entry_in x)) (sym value) ∙ c.requires.on.replaced c.first-old.result (whole, c.in-None.ensures) ∙ sym c.replaces-in-None.ensures ∙ c.if-replaces-2.true in
+    rw c.first-old.ensures.same (c.requires.allows.first_word i c.args.on.word
+    (visits_first g.row.FIRST g.row.SECOND u W i c.requires.more c.requires.under_way c.first_index-block.ensures.value last _ taken c.requires.on.word))
 
-pub returns-then-replaces-2 : goal.returns-then-replaces-2
-returns-then-replaces-2 g c =
+pub returns-then-replaces-2-clause-visits : goal.returns-then-replaces-2-clause-visits
+returns-then-replaces-2-clause-visits g c =
     let C = g.C.Cells in
     let W = C.words c.args.cells.now in
     let i = c.first_index-block.result in
-    let w = c.to_word-then-replaces-2.result in
+    let w = c.args.on.word in
     let u = c.args.self.now in
-    let word : c.of_word-entry.result ≡ entry_in (slice_index W.firsts i) = c.of_word-entry.ensures ∙ ap entry_in c.first.ensures.value in
-    let last : IsLast (entry_in (slice_index W.firsts i)) = not_group_last _ (λ x z. c.in_default.not-Group x (word ∙ z)) in
-    let taken : replaces u.rewrite (entry_in (slice_index W.firsts i)) ≡ true = ap (replaces u.rewrite) (sym word) ∙ sym c.replaces-in_default.ensures ∙ c.if-replaces-2.true in
+    let value = c.first-old.ensures.value in
+    let whole = first_is_word g.row.FIRST g.row.SECOND W i c.first-old.result c.requires.table c.first_index-block.ensures.bound value in
+    let last : IsLast (entry_in (slice_index W.firsts i)) = subst (λ x. IsLast (entry_in x)) value c.in-None.ensures in
+    let taken : replaces u.rewrite (entry_in (slice_index W.firsts i)) ≡ true = ap (λ x. replaces u.rewrite (entry_in x)) (sym value) ∙ c.requires.on.replaced c.first-old.result (whole, c.in-None.ensures) ∙ sym c.replaces-in-None.ensures ∙ c.if-replaces-2.true in
     let within : i < length W.firsts = subst (λ n. i < n) (sym c.requires.table.words.firsts_len) c.first_index-block.ensures.bound in
-    record {
-      visits = visited_first g.row.FIRST g.row.SECOND u W i c.requires.more c.requires.under_way c.first_index-block.ensures.value last _ w _ within taken c.to_word-then-replaces-2.ensures.value
-          (ap (λ x. u.at + x) (one_shl g.row.SECOND 64 (let z = c.requires.shape.2 in omega arith)))
-          (c.set_first.ensures.words ∙ ap (λ x. with_first (C.words x) i w) c.first.ensures.same);
-      sets = sets_first C.words C.sets_first c.args.cells.now c.first.new.self c.set_first.new.self i w c.first.ensures.same within c.set_first.ensures.words c.set_first.ensures.set;
-    }
+    visited_first g.row.FIRST g.row.SECOND u W i c.requires.more c.requires.under_way c.first_index-block.ensures.value last _ w _ within taken c.requires.on.word
+    (ap (λ x. u.at + x) (one_shl g.row.SECOND 64 (let z = c.requires.shape.2 in omega arith)))
+    (c.set_first.ensures.words ∙ ap (λ x. with_first (C.words x) i w) c.first-old.ensures.same)
 
-pub returns-else-replaces-2 : goal.returns-else-replaces-2
-returns-else-replaces-2 g c =
+pub returns-else-replaces-2-clause-visits : goal.returns-else-replaces-2-clause-visits
+returns-else-replaces-2-clause-visits g c =
     let C = g.C.Cells in
     let W = C.words c.args.cells.now in
     let i = c.first_index-block.result in
     let u = c.args.self.now in
-    let word : c.of_word-entry.result ≡ entry_in (slice_index W.firsts i) = c.of_word-entry.ensures ∙ ap entry_in c.first.ensures.value in
-    let last : IsLast (entry_in (slice_index W.firsts i)) = not_group_last _ (λ x z. c.in_default.not-Group x (word ∙ z)) in
-    let kept : replaces u.rewrite (entry_in (slice_index W.firsts i)) ≡ false = ap (replaces u.rewrite) (sym word) ∙ sym c.replaces-in_default.ensures ∙ c.if-replaces-2.false in
-    record {
-      visits = kept_first g.row.FIRST g.row.SECOND u W i c.requires.more c.requires.under_way c.first_index-block.ensures.value last _ _ kept
-          (ap (λ x. u.at + x) (one_shl g.row.SECOND 64 (let z = c.requires.shape.2 in omega arith))) (ap (λ x. C.words x) c.first.ensures.same);
-      sets = c.first.ensures.same;
-    }
+    let value = c.first-old.ensures.value in
+    let whole = first_is_word g.row.FIRST g.row.SECOND W i c.first-old.result c.requires.table c.first_index-block.ensures.bound value in
+    let last : IsLast (entry_in (slice_index W.firsts i)) = subst (λ x. IsLast (entry_in x)) value c.in-None.ensures in
+    let kept : replaces u.rewrite (entry_in (slice_index W.firsts i)) ≡ false = ap (λ x. replaces u.rewrite (entry_in x)) (sym value) ∙ c.requires.on.replaced c.first-old.result (whole, c.in-None.ensures) ∙ sym c.replaces-in-None.ensures ∙ c.if-replaces-2.false in
+    kept_first g.row.FIRST g.row.SECOND u W i c.requires.more c.requires.under_way c.first_index-block.ensures.value last _ _ kept
+    (ap (λ x. u.at + x) (one_shl g.row.SECOND 64 (let z = c.requires.shape.2 in omega arith))) (ap (λ x. C.words x) c.first-old.ensures.same)
 
 pub returns-then-replaces-clause-visits : goal.returns-then-replaces-clause-visits
 returns-then-replaces-clause-visits g c =
@@ -63,19 +56,21 @@ returns-then-replaces-clause-visits g c =
     let f = g.row.FIRST in
     let s = g.row.SECOND in
     let u = c.args.self.now in
-    let n = c.in-Group.group in
+    let n = c.in-Some.group in
     let block = c.first_index-block.ensures.value in
     let low : u.at / 2 ^ s < 2 ^ f = subst (λ k. k < 2 ^ f) block c.first_index-block.ensures.bound in
-    let group : IsLinkTo W.firsts (u.at / 2 ^ s) n = ap (λ k. entry_in (slice_index W.firsts k)) (sym block) ∙ ap entry_in (sym c.first.ensures.value) ∙ sym c.of_word-entry.ensures ∙ c.in-Group.is in
+    let group : IsLinkTo W.firsts (u.at / 2 ^ s) n = ap (λ k. entry_in (slice_index W.firsts k)) (sym block) ∙ ap entry_in (sym c.first-old.ensures.value) ∙ c.in-Some.ensures in
     let base = base_of f s W (u.at / 2 ^ s) n c.requires.shape c.requires.table low group in
     let j = n * 2 ^ s % 18446744073709551616 + c.second_index.result in
     let place : j ≡ n * 2 ^ s + u.at % 2 ^ s = ap (λ x. x + c.second_index.result) base ∙ ap (λ x. n * 2 ^ s + x) c.second_index.ensures.value in
-    let same = c.second.ensures.same ∙ c.first.ensures.same in
-    let old : c.of_word-old.result ≡ entry_in (slice_index W.seconds j) = c.of_word-old.ensures ∙ ap entry_in (c.second.ensures.value ∙ ap (λ x. slice_index (C.words x).seconds j) c.first.ensures.same) in
-    let taken : replaces u.rewrite (entry_in (slice_index W.seconds j)) ≡ true = ap (replaces u.rewrite) (sym old) ∙ sym c.replaces.ensures ∙ c.if-replaces.true in
-    visited_second f s u W n j c.requires.more c.requires.under_way group place _ c.to_word.result
-    (subst (λ x. x < length W.seconds) (sym place) (place_within f s W n u.at c.requires.table low group)) taken c.to_word.ensures.value
-    (c.set_second.ensures.words ∙ ap (λ x. with_second (C.words x) j c.to_word.result) same)
+    let same = c.second-old.ensures.same ∙ c.first-old.ensures.same in
+    let value = c.second-old.ensures.value ∙ ap (λ x. slice_index (C.words x).seconds j) c.first-old.ensures.same in
+    let within : j < length W.seconds = subst (λ x. x < length W.seconds) (sym place) (place_within f s W n u.at c.requires.table low group) in
+    let word = second_is_word f s W j c.second-old.result c.requires.table within value in
+    let taken : replaces u.rewrite (entry_in (slice_index W.seconds j)) ≡ true = ap (λ x. replaces u.rewrite (entry_in x)) (sym value) ∙ c.requires.on.replaced c.second-old.result word ∙ sym c.replaces.ensures ∙ c.if-replaces.true in
+    visited_second f s u W n j c.requires.more c.requires.under_way group place _ c.args.on.word
+    within taken c.requires.on.word
+    (c.set_second.ensures.words ∙ ap (λ x. with_second (C.words x) j c.args.on.word) same)
 
 pub returns-else-replaces-clause-visits : goal.returns-else-replaces-clause-visits
 returns-else-replaces-clause-visits g c =
@@ -84,13 +79,15 @@ returns-else-replaces-clause-visits g c =
     let f = g.row.FIRST in
     let s = g.row.SECOND in
     let u = c.args.self.now in
-    let n = c.in-Group.group in
+    let n = c.in-Some.group in
     let block = c.first_index-block.ensures.value in
     let low : u.at / 2 ^ s < 2 ^ f = subst (λ k. k < 2 ^ f) block c.first_index-block.ensures.bound in
-    let group : IsLinkTo W.firsts (u.at / 2 ^ s) n = ap (λ k. entry_in (slice_index W.firsts k)) (sym block) ∙ ap entry_in (sym c.first.ensures.value) ∙ sym c.of_word-entry.ensures ∙ c.in-Group.is in
+    let group : IsLinkTo W.firsts (u.at / 2 ^ s) n = ap (λ k. entry_in (slice_index W.firsts k)) (sym block) ∙ ap entry_in (sym c.first-old.ensures.value) ∙ c.in-Some.ensures in
     let base = base_of f s W (u.at / 2 ^ s) n c.requires.shape c.requires.table low group in
     let j = n * 2 ^ s % 18446744073709551616 + c.second_index.result in
     let place : j ≡ n * 2 ^ s + u.at % 2 ^ s = ap (λ x. x + c.second_index.result) base ∙ ap (λ x. n * 2 ^ s + x) c.second_index.ensures.value in
-    let old : c.of_word-old.result ≡ entry_in (slice_index W.seconds j) = c.of_word-old.ensures ∙ ap entry_in (c.second.ensures.value ∙ ap (λ x. slice_index (C.words x).seconds j) c.first.ensures.same) in
-    let kept : replaces u.rewrite (entry_in (slice_index W.seconds j)) ≡ false = ap (replaces u.rewrite) (sym old) ∙ sym c.replaces.ensures ∙ c.if-replaces.false in
-    kept_second f s u W n j c.requires.more c.requires.under_way group place _ kept (ap (λ x. C.words x) (c.second.ensures.same ∙ c.first.ensures.same))
+    let value = c.second-old.ensures.value ∙ ap (λ x. slice_index (C.words x).seconds j) c.first-old.ensures.same in
+    let within : j < length W.seconds = subst (λ x. x < length W.seconds) (sym place) (place_within f s W n u.at c.requires.table low group) in
+    let word = second_is_word f s W j c.second-old.result c.requires.table within value in
+    let kept : replaces u.rewrite (entry_in (slice_index W.seconds j)) ≡ false = ap (λ x. replaces u.rewrite (entry_in x)) (sym value) ∙ c.requires.on.replaced c.second-old.result word ∙ sym c.replaces.ensures ∙ c.if-replaces.false in
+    kept_second f s u W n j c.requires.more c.requires.under_way group place _ kept (ap (λ x. C.words x) (c.second-old.ensures.same ∙ c.first-old.ensures.same))
