@@ -10,4 +10,5 @@ pub mod Grace
 pub mod Places
 pub mod Checks
 pub mod Entries
+pub mod Alone
 pub mod Promises

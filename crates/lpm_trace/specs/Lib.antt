@@ -3,3 +3,4 @@ pub mod Course
 pub mod Workers
 pub mod Trace
 pub mod Laws
+pub mod Writer

@@ -5,6 +5,7 @@ ghost use Rattle.lpm_trace.specs.Laws.{VersionsNeverFall, LookupsAreMonotone};
 ghost use Rattle.lpm_trace.specs.Laws.{OwnLookupsAreLegal, PlacesNeverFall, TraceGrows};
 ghost use Rattle.lpm_trace.specs.Laws.{VersionsNeverFallAtPlaces, PassedIsChecked};
 ghost use Rattle.lpm_trace.specs.Laws.{WordsAreEntries};
+ghost use Rattle.lpm_trace.specs.Writer.{WriterIsAlone, WriterGoesOn};
 
 /// Each finished lookup answers by a rule list that stood at a moment between its first and its last
 /// read of a word, and its number lies from `lo` to `hi`.
@@ -64,4 +65,16 @@ pub fn passed_is_checked()
 /// Each word stays that of an entry that may stand at its place.
 pub fn words_are_entries()
     ensures { WordsAreEntries }
+{}
+
+/// The writer's steps of a trace may come one after another by themselves: none looks at what a worker
+/// does, but for the counters that it loads.
+pub fn writer_is_alone()
+    ensures { WriterIsAlone }
+{}
+
+/// A step that may come next after the writer's own steps makes the trace one longer, where a load finds
+/// the worker's counter.
+pub fn writer_goes_on()
+    ensures { WriterGoesOn }
 {}
