@@ -50,7 +50,7 @@ module _ (f s : ℕ) (u : RewriteRange) (W : Words) (t : IsTable f s W) (k : IsR
       subst (λ y. y < length W.seconds) (sym n.place) (place_within f s W g x t (shr_below x f s (let z = k.fits in omega (arith, z, high))) n.group)
 
 -- a store in the first table that is the next one is a step
-next_first : (f s : ℕ) (u : Plan) (W : Words) (i w : ℕ) → IsTable f s W → IsUnderWay f s u W → IsNextFirst f s u W i w → (i < length W.firsts) × ((v : Plan) × Steps f s u W (First i) v (with_first W i w))
+pub next_first : (f s : ℕ) (u : Plan) (W : Words) (i w : ℕ) → IsTable f s W → IsUnderWay f s u W → IsNextFirst f s u W i w → (i < length W.firsts) × ((v : Plan) × Steps f s u W (First i) v (with_first W i w))
 next_first f s (Range u) W i w t k n = (first_place f s u W t k i w n, (Range (moved_to u (i * 2 ^ s + 2 ^ s)), first_steps f s u W t k i w n))
 next_first f s (Link u) W i w t k n =
     (subst (λ x. i < x) (sym t.words.firsts_len) (subst (λ x. x < 2 ^ f) (sym n.1) k.block), (Link (next_place u), link_link f s u W t k i w n))
@@ -64,7 +64,7 @@ next_first f s (Unlink u) W i w t k n =
     )
 next_first f s (Flush u) W i w t k n = (subst (λ x. i < x) (sym t.words.firsts_len) n.0.high, (Flush (come_to (i + 1)), flush_first f s u W t i w n.0 n.1))
 
-next_second : (f s : ℕ) (u : Plan) (W : Words) (j w : ℕ) → IsTable f s W → IsUnderWay f s u W → IsNextSecond s u W j w → (j < length W.seconds) × ((v : Plan) × Steps f s u W (Second j) v (with_second W j w))
+pub next_second : (f s : ℕ) (u : Plan) (W : Words) (j w : ℕ) → IsTable f s W → IsUnderWay f s u W → IsNextSecond s u W j w → (j < length W.seconds) × ((v : Plan) × Steps f s u W (Second j) v (with_second W j w))
 next_second f s (Range u) W j w t k n = (second_place f s u W t k n.0 n.1 j w n.2, (Range (moved_to u (n.1 + 1)), second_steps f s u W t k n.0 n.1 j w n.2))
 next_second f s (Link u) W j w t k n =
     let more = n.0 in
@@ -81,7 +81,7 @@ next_second f s (Unlink u) W j w t k n =
     )
 next_second f s (Flush u) W j w t k n = absurd n
 
-next_unlink : (f s : ℕ) (u : Plan) (W : Words) (b g w : ℕ) → IsTable f s W → IsUnderWay f s u W → IsNextUnlink f s u W b g w → (b < length W.firsts) × ((v : Plan) × Steps f s u W (Unlinked b g) v (with_first W b w))
+pub next_unlink : (f s : ℕ) (u : Plan) (W : Words) (b g w : ℕ) → IsTable f s W → IsUnderWay f s u W → IsNextUnlink f s u W b g w → (b < length W.firsts) × ((v : Plan) × Steps f s u W (Unlinked b g) v (with_first W b w))
 next_unlink f s (Range u) W b g w t k n = absurd n
 next_unlink f s (Link u) W b g w t k n = absurd n
 next_unlink f s (Unlink u) W b g w t k n =

@@ -49,7 +49,7 @@ run_goes_on f s u t did v v' z z' k h = record {
 -- ---- the end
 
 -- each address has the entry that it has after the change
-over_entries : (f s : ℕ) (u v : Plan) (W : Words) (E : ℕ → Entry) → IsOnward u v → IsOver f s v → StandsSoFar s v W E → (a : ℕ) → entry_at s W a ≡ entry_after (f + s) u E a
+pub over_entries : (f s : ℕ) (u v : Plan) (W : Words) (E : ℕ → Entry) → IsOnward u v → IsOver f s v → StandsSoFar s v W E → (a : ℕ) → entry_at s W a ≡ entry_after (f + s) u E a
 over_entries f s u v W E on over t a =
     let whole : Stands s (from_of v) (end_of (f + s) v) (rewrite_of v) W E = subst (λ x. Stands s (from_of v) x (rewrite_of v) W E) over.reached t in
     stands_final s (from_of v) (end_of (f + s) v) (rewrite_of v) W E whole a

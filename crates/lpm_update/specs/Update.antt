@@ -121,6 +121,13 @@ group_held (Link u) firsts i = if i == u.block then Some u.group else group_at f
 group_held (Unlink u) firsts i = group_at firsts i
 group_held (Flush u) firsts i = group_at firsts i
 
+-- the change fills this group for this block, and has stored nothing yet; none where it fills none
+abbrev pub FillsFor : Plan → Option ℕ → ℕ → Type 0
+FillsFor (Range u) group block = group ≡ None
+FillsFor (Link u) group block = (group ≡ Some u.group) × (u.block ≡ block) × (u.next ≡ 0)
+FillsFor (Unlink u) group block = group ≡ None
+FillsFor (Flush u) group block = group ≡ None
+
 -- each block has the group that it had
 abbrev pub SameGroups : ℕ → (ℕ → Option ℕ) → (ℕ → Option ℕ) → Type 0
 SameGroups first old new = (i : ℕ) → i < 2 ^ first → new i ≡ old i

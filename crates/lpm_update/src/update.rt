@@ -44,7 +44,7 @@ impl Update {
     ghost use Rattle.lpm_rules.specs.Longest.{IsUncovered, IsCoverRule};
     ghost use Rattle.lpm_update.specs.Represents.{Represents, IsBegun, TurnsInto, AddFits, LastFits, held_with};
     ghost use Rattle.lpm_update.specs.Linked.{IsTable, group_at};
-    ghost use Rattle.lpm_update.specs.Update.{IsUnderWay, group_held};
+    ghost use Rattle.lpm_update.specs.Update.{FillsFor, IsUnderWay, group_held};
     ghost use Rattle.lpm_update.specs.Step.{AllowsNext, Steps, SetsWord};
     ghost use Rattle.lpm_update.specs.Runs.{HasComeOn, EndsRun};
 
@@ -58,6 +58,7 @@ impl Update {
         requires { IsSome group → FIRST < prefix.now.len }
         ensures held { (firsts : List ℕ) (i : ℕ)
             → group_held result firsts i ≡ held_with group (prefix.now.bits / 2 ^ SECOND) firsts i }
+        ensures fills { FillsFor result group (prefix.now.bits / 2 ^ SECOND) }
         ensures begun { (R : RuleMap) (t : Words) → Represents FIRST SECOND R t
             → AddFits FIRST SECOND R prefix.now t group
             → IsBegun FIRST SECOND result t
@@ -86,6 +87,7 @@ impl Update {
         last: bool,
     ) -> Update
         ensures held { (firsts : List ℕ) (i : ℕ) → group_held result firsts i ≡ group_at firsts i }
+        ensures fills { (block : ℕ) → FillsFor result None block }
         ensures begun { (R : RuleMap) (t : Words) → Represents FIRST SECOND R t
             → IsSome (map.get R prefix.now)
             → MatchOption cover.entry
@@ -114,6 +116,7 @@ impl Update {
     /// The removal of all rules.
     pub fn flush<const FIRST: u32, const SECOND: u32>() -> Update
         ensures held { (firsts : List ℕ) (i : ℕ) → group_held result firsts i ≡ group_at firsts i }
+        ensures fills { (block : ℕ) → FillsFor result None block }
         ensures begun { (R : RuleMap) (t : Words) → Represents FIRST SECOND R t
             → IsBegun FIRST SECOND result t × TurnsInto FIRST SECOND result R map.empty }
     {
