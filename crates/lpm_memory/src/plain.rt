@@ -1,0 +1,105 @@
+//! The memory of one thread.
+
+ghost use Rattle.std.specs.Prelude.{◌≡◌};
+
+use super::Memory;
+use lpm_cells::{Cells, PlainCells};
+use qsbr::Domain;
+
+/// Plain words, and the workers' counters as one thread keeps them. No sequence is kept, since no
+/// lookup runs beside a change.
+#[derive(Drop)]
+pub struct PlainMemory<const FIRST: u32, const SECOND: u32> {
+    pub cells: PlainCells<FIRST, SECOND>,
+    pub domain: Domain,
+}
+
+impl<const FIRST: u32, const SECOND: u32> Cells for PlainMemory<FIRST, SECOND> {
+    ghost use Rattle.std.specs.Prelude.{◌≡◌, ◌+◌};
+    ghost use Rattle.lpm_cells.specs.Table.{IsFirstWord, with_first, with_second};
+    ghost use Rattle.lpm_entry.specs.Words.{IsLastWord};
+
+    ghost words = { λ m. m.cells };
+
+    ghost may_set_first = { λ m i w. IsFirstWord (FIRST + SECOND) SECOND m.cells.seconds w };
+
+    ghost may_set_second = { λ m i w. IsLastWord (FIRST + SECOND) w };
+
+    ghost sets_first = { λ m i w z. (z.cells ≡ with_first m.cells i w) × (z.domain ≡ m.domain) };
+
+    ghost sets_second = { λ m i w z. (z.cells ≡ with_second m.cells i w) × (z.domain ≡ m.domain) };
+
+    #[inline]
+    fn first(&mut self, i: usize) -> u64 {
+        self.cells.first(i)
+    }
+
+    #[inline]
+    fn set_first(&mut self, i: usize, word: u64) {
+        self.cells.set_first(i, word);
+    }
+
+    #[inline]
+    fn second(&mut self, i: usize) -> u64 {
+        self.cells.second(i)
+    }
+
+    #[inline]
+    fn set_second(&mut self, i: usize, word: u64) {
+        self.cells.set_second(i, word);
+    }
+}
+
+impl<const FIRST: u32, const SECOND: u32> Memory for PlainMemory<FIRST, SECOND> {
+    ghost use Rattle.std.specs.Prelude.{length};
+    ghost use Rattle.lpm_memory.specs.Plain.{PlainDid, PlainDoes};
+    ghost use Rattle.lpm_memory.specs.PlainLaws.{plain_follows, plain_shows, plain_first, plain_second};
+
+    ghost worker_count = { λ m. length m.domain.counters };
+
+    ghost newest = { λ m. m.domain.token };
+
+    ghost did = { λ m c steps. PlainDid FIRST SECOND m.cells m.domain c steps };
+
+    ghost does = { λ m s z. PlainDoes s m.cells m.domain z.cells z.domain };
+
+    ghost follows = { λ m s z c steps does did may.
+        plain_follows FIRST SECOND m.cells m.domain z.cells z.domain c s steps does did may };
+
+    ghost shows = { λ m c steps did. plain_shows FIRST SECOND m.cells m.domain c steps did };
+
+    ghost may_first = { λ m i w may. plain_first FIRST SECOND m.cells m.domain i w may };
+
+    ghost may_second = { λ m i w may. plain_second FIRST SECOND m.cells m.domain i w may };
+
+    ghost first_stored = { λ m i w z sets. record { words = sets.0; reports = sets.1; finds = tt } };
+
+    ghost second_stored = { λ m i w z sets. record { words = sets.0; reports = sets.1; finds = tt } };
+
+    #[inline]
+    fn workers(&self) -> usize {
+        self.domain.workers()
+    }
+
+    #[inline]
+    fn token(&self) -> u64 {
+        self.domain.token()
+    }
+
+    #[inline]
+    fn open(&mut self) {}
+
+    #[inline]
+    fn close(&mut self) {}
+
+    #[inline]
+    fn start(&mut self) -> u64 {
+        self.domain.start()
+    }
+
+    #[inline]
+    fn load_counter(&mut self, checked: u64, worker: usize) -> u64 {
+        let _ = checked;
+        self.domain.counter(worker)
+    }
+}
