@@ -1,0 +1,177 @@
+-- What a check leaves.
+use Rattle.std.proofs.Common.{arith, ◌≡◌, ℕ, zero, suc, ◌<◌, ◌≤◌, inl, inr, true, false, cond, eqb, max, eq-eqb, refl, sym, ap, subst, ◌∙◌, List}
+use Rattle.std.specs.Prelude.{◌&&◌, Result, Ok, Err, IsOk}
+use Rattle.std.proofs.lemmas.Bool.Decides.{eqb_tells}
+use Rattle.lpm_limits.specs.declared.busy.Busy.{Busy}
+use Rattle.lpm_trace.specs.declared.step.WriterStep.{WriterStep}
+use Rattle.lpm_trace.specs.declared.step.WriterStep.TheVariants.{LoadCounter}
+use Rattle.lpm_trace.specs.Tables.{Setup, Tables, tables, lets_pass}
+use Rattle.lpm_trace.specs.Course.{Course, Nothing, Check, check_passed, check_stopped}
+use Rattle.lpm_trace.specs.Writer.{course}
+use Rattle.lpm_writer.specs.Traced.{Traced, Goes, Loads, Asks, Checks}
+use Rattle.lpm_writer.specs.Kept.{IsQuiet, IsIdle}
+use Rattle.lpm_writer.proofs.Loading.{go_on, stops_by}
+
+pub quiet_same : (w : Tables) → IsQuiet w w
+quiet_same w = record { words = refl; sequence = refl; history = refl; turned = refl; groups = refl }
+
+pub quiet_on : (w y z : Tables) → IsQuiet w y → IsQuiet y z → IsQuiet w z
+quiet_on w y z a b = record {
+  words = b.words ∙ a.words;
+  sequence = b.sequence ∙ a.sequence;
+  history = b.history ∙ a.history;
+  turned = b.turned ∙ a.turned;
+  groups = b.groups ∙ a.groups;
+}
+
+-- the course is the same but for what is due and for a synchronize that is over
+pub record IsLike (x z : Course) : Type 0 where
+  pub reclaims : z.reclaims ≡ x.reclaims
+  pub taken : z.taken ≡ x.taken
+
+-- what the loads of some workers' counters leave
+record Loaded (c : Setup) (steps later : List WriterStep) : Type 0 where
+  quiet : IsQuiet (tables c steps) (tables c later)
+  token : (tables c later).token ≡ (tables c steps).token
+  passed : (tables c later).passed ≡ (tables c steps).passed
+  awaited : (course c later).awaited ≡ (course c steps).awaited
+  like : IsLike (course c steps) (course c later)
+
+module _ {M : Type 0} (does : M → WriterStep → M → Type 0) (c : Setup) where
+  loaded : (n : ℕ) (x : Traced M) (t : ℕ) (z : Traced M) → n < c.workers → Loads does n x t z → Loaded c x.1 z.1
+  loaded zero x t z few h = subst (λ (y : Traced M). Loaded c x.1 y.1) (sym h) (record {
+    quiet = quiet_same (tables c x.1);
+    token = refl;
+    passed = refl;
+    awaited = refl;
+    like = record { reclaims = refl; taken = refl };
+  })
+  loaded (suc n) x t z few h =
+      let y = h.0 in
+      let v = h.1 in
+      let before = loaded n x t y (omega (arith, few)) h.2 in
+      let on = go_on c (course c y.1) t n v h.3 few in
+      subst (Loaded c x.1) (sym h.4.1) (record {
+        quiet = record {
+          words = before.quiet.words;
+          sequence = before.quiet.sequence;
+          history = before.quiet.history;
+          turned = before.quiet.turned;
+          groups = before.quiet.groups;
+        };
+        token = before.token;
+        passed = not_last n v few (lets_pass t v) (tables c y.1).passed t ∙ before.passed;
+        awaited = ap (λ (k : Course). k.awaited) on ∙ before.awaited;
+        like = record { reclaims = ap (λ (k : Course). k.reclaims) on ∙ before.like.reclaims; taken = ap (λ (k : Course). k.taken) on ∙ before.like.taken };
+      })
+    where
+      not_last : (k v : ℕ) → suc k < c.workers → (b : _) (p t : ℕ) → cond (b && eqb (suc k) c.workers) (max p t) p ≡ p
+      not_last k v more true p t = elim (eqb_tells (suc k) c.workers) [
+        | inl e ↦ absurd (omega (arith, more, e.1))
+        | inr e ↦ ap (λ b. cond b (max p t) p) e.0
+      ]
+      not_last k v more false p t = refl
+
+  -- the last worker's counter was loaded and let the token pass
+  last_passed : (k t v : ℕ) (y z : Traced M) → suc k ≡ c.workers → lets_pass t v ≡ true → Goes does y (LoadCounter t k v) z
+      → ((tables c z.1).passed ≡ max (tables c y.1).passed t) × (course c z.1 ≡ check_passed (course c y.1))
+  last_passed k t v y z all pass goes = subst (λ steps. ((tables c steps).passed ≡ max (tables c y.1).passed t) × (course c steps ≡ check_passed (course c y.1))) (sym goes.1) (
+    ap (λ b. cond (b && eqb (suc k) c.workers) (max (tables c y.1).passed t) (tables c y.1).passed) pass ∙ ap (λ b. cond b (max (tables c y.1).passed t) (tables c y.1).passed) (eq-eqb (suc k) c.workers all),
+    ap (λ b. cond b (cond (eqb (suc k) c.workers) (check_passed (course c y.1)) (record (course c y.1) { duty = Check t })) (check_stopped (course c y.1) (course c y.1).awaited)) pass
+        ∙ ap (λ b. cond b (check_passed (course c y.1)) (record (course c y.1) { duty = Check t })) (eq-eqb (suc k) c.workers all),
+  )
+
+-- what a check that has passed leaves
+pub record HasPassed (c : Setup) (steps : List WriterStep) (t : ℕ) (later : List WriterStep) : Type 0 where
+  pub quiet : IsQuiet (tables c steps) (tables c later)
+  pub token : (tables c later).token ≡ (tables c steps).token
+  pub more : (tables c steps).passed ≤ (tables c later).passed
+  pub passed : 0 < c.workers → t ≤ (tables c later).passed
+  pub idle : IsIdle c steps → IsIdle c later
+  pub like : IsLike (course c steps) (course c later)
+
+-- what a check that a worker has stopped leaves
+pub record HasStopped (c : Setup) (steps later : List WriterStep) : Type 0 where
+  pub quiet : IsQuiet (tables c steps) (tables c later)
+  pub token : (tables c later).token ≡ (tables c steps).token
+  pub passed : (tables c later).passed ≡ (tables c steps).passed
+  pub idle : IsIdle c steps → IsIdle c later
+  pub taken : IsIdle c steps → (course c later).taken ≡ (course c steps).taken
+
+ok_err : (busy : Busy) (r : Result (Unit {0}) Busy) → r ≡ Err busy → r ≡ Ok tt → ⊥
+ok_err busy r p q = cc
+
+module _ {M : Type 0} (does : M → WriterStep → M → Type 0) (c : Setup) where
+  all_passed : (n : ℕ) (x : Traced M) (t : ℕ) (z : Traced M) → n ≡ c.workers → Loads does n x t z → HasPassed c x.1 t z.1
+  all_passed zero x t z none h = subst (λ (y : Traced M). HasPassed c x.1 t y.1) (sym h) (record {
+    quiet = quiet_same (tables c x.1);
+    token = refl;
+    more = omega arith;
+    passed = λ some. absurd (omega (arith, none, some));
+    idle = λ i. i;
+    like = record { reclaims = refl; taken = refl };
+  })
+  all_passed (suc n) x t z all h =
+      let y = h.0 in
+      let before = loaded does c n x t y (omega (arith, all)) h.2 in
+      let end = last_passed does c n t h.1 y z all h.3 h.4 in
+      let quiet : IsQuiet (tables c y.1) (tables c z.1) = subst (λ steps. IsQuiet (tables c y.1) (tables c steps)) (sym h.4.1) (record { words = refl; sequence = refl; history = refl; turned = refl; groups = refl }) in
+      record {
+        quiet = quiet_on (tables c x.1) (tables c y.1) (tables c z.1) before.quiet quiet;
+        token = subst (λ steps. (tables c steps).token ≡ (tables c y.1).token) (sym h.4.1) refl ∙ before.token;
+        more = subst (λ p. p ≤ (tables c z.1).passed) before.passed (subst (λ p. (tables c y.1).passed ≤ p) (sym end.0) (omega arith));
+        passed = λ _. subst (λ p. t ≤ p) (sym end.0) (omega arith);
+        idle = λ _. record { duty = ap (λ (k : Course). k.duty) end.1; awaited = ap (λ (k : Course). k.awaited) end.1 };
+        like = record { reclaims = ap (λ (k : Course). k.reclaims) end.1 ∙ before.like.reclaims; taken = ap (λ (k : Course). k.taken) end.1 ∙ before.like.taken };
+      }
+
+  pub check_passes : (x : Traced M) (t : ℕ) (z : Traced M) → Checks does c x t (Ok tt) z → HasPassed c x.1 t z.1
+  check_passes x t z (inl h) = subst (λ (y : Traced M). HasPassed c x.1 t y.1) (sym h.2) (record {
+    quiet = quiet_same (tables c x.1);
+    token = refl;
+    more = omega arith;
+    passed = λ _. h.0;
+    idle = λ i. i;
+    like = record { reclaims = refl; taken = refl };
+  })
+  check_passes x t z (inr h) = all_passed c.workers x t z refl h
+
+  pub check_stops : (x : Traced M) (t : ℕ) (busy : Busy) (z : Traced M) → Checks does c x t (Err busy) z → HasStopped c x.1 z.1
+  check_stops x t busy z (inl h) = absurd (ok_err busy (Err busy) refl h.1)
+  check_stops x t busy z (inr h) =
+      let y = h.0 in
+      let before = loaded does c busy.worker x t y h.2 h.1 in
+      let stop = stops_by t busy.counter h.3 h.4 in
+      let k : Course = course c y.1 in
+      let end : course c z.1 ≡ check_stopped k k.awaited = subst (λ steps. course c steps ≡ check_stopped k k.awaited) (sym h.5.1)
+      (ap (λ b. cond b (cond (eqb (suc busy.worker) c.workers) (check_passed k) (record k { duty = Check t })) (check_stopped k k.awaited)) stop) in
+      let quiet : IsQuiet (tables c y.1) (tables c z.1) = subst (λ steps. IsQuiet (tables c y.1) (tables c steps)) (sym h.5.1) (record { words = refl; sequence = refl; history = refl; turned = refl; groups = refl }) in
+      let over : IsIdle c x.1 → course c z.1 ≡ record k { duty = Nothing; reclaims = false } = λ i. end ∙ ap (check_stopped k) (before.awaited ∙ i.awaited) in
+      record {
+        quiet = quiet_on (tables c x.1) (tables c y.1) (tables c z.1) before.quiet quiet;
+        token = subst (λ steps. (tables c steps).token ≡ (tables c y.1).token) (sym h.5.1) refl ∙ before.token;
+        passed = subst (λ steps. (tables c steps).passed ≡ (tables c y.1).passed) (sym h.5.1) (ap (λ b. cond (b && eqb (suc busy.worker) c.workers) (max (tables c y.1).passed t) (tables c y.1).passed) stop) ∙ before.passed;
+        idle = λ i. record { duty = ap (λ (k : Course). k.duty) (over i); awaited = ap (λ (k : Course). k.awaited) (over i) ∙ before.awaited ∙ i.awaited };
+        taken = λ i. ap (λ (k : Course). k.taken) (over i) ∙ before.like.taken;
+      }
+
+  -- all workers let a token pass that is above the greatest that had passed: it is the greatest then
+  pub asked_all : (x : Traced M) (t : ℕ) (z : Traced M) → (tables c x.1).passed ≤ t → Loads does c.workers x t z → 0 < c.workers → t ≡ (tables c z.1).passed
+  asked_all x t z below h some = last c.workers refl h
+    where
+      last : (n : ℕ) → n ≡ c.workers → Loads does n x t z → t ≡ (tables c z.1).passed
+      last zero all h = absurd (omega (arith, all, some))
+      last (suc n) all h =
+          let end = last_passed does c n t h.1 h.0 z all h.3 h.4 in
+          let before = loaded does c n x t h.0 (omega (arith, all)) h.2 in
+          let old : (tables c h.0.1).passed ≤ t = subst (λ p. p ≤ t) (sym before.passed) below in
+          omega (arith, end.0, old)
+
+  -- what the workers answered to a token that is above the greatest that had passed
+  pub asked_ok : (x : Traced M) (t : ℕ) (r : Result (Unit {0}) Busy) (z : Traced M) → (tables c x.1).passed ≤ t → IsOk r → Asks does c.workers x t r z → 0 < c.workers → t ≡ (tables c z.1).passed
+  asked_ok x t (Ok u) z below ok h some = asked_all x t z below h some
+  asked_ok x t (Err busy) z below ok h some = absurd cc
+
+  pub asked_err : (x : Traced M) (t : ℕ) (r : Result (Unit {0}) Busy) (z : Traced M) → ¬ IsOk r → Asks does c.workers x t r z → (tables c z.1).passed ≡ (tables c x.1).passed
+  asked_err x t (Ok u) z err h = absurd (err refl)
+  asked_err x t (Err busy) z err h = (check_stops x t busy z (inr h)).passed

@@ -1,0 +1,15 @@
+pub mod Limbo
+pub mod Loading
+pub mod Checks
+pub mod Keeping
+pub mod Freeing
+pub mod Reclaims
+pub mod Retiring
+pub mod NextStores
+pub mod Answering
+pub mod Storing
+pub mod UpdateRuns
+pub mod TakesOne
+pub mod WholeUpdates
+pub mod Rests
+pub mod Additions

@@ -1,0 +1,170 @@
+-- Groups that wait in limbo, and are freed.
+use Rattle.std.proofs.Common.{arith, ◌≡◌, ◌≢◌, ℕ, zero, suc, ◌+◌, ◌<◌, ◌≤◌, inl, inr, refl, ap, sym, ◌∙◌, List, [], ◌∷◌, length, length-append, length-drop, drop, ◌++◌, Option, Some}
+use Rattle.std.specs.Prelude.{slice_get, slice_set, ◌↔◌}
+use Rattle.std.proofs.lemmas.Bool.{cases_eq}
+use Rattle.std.proofs.Math.ListN.{length-set}
+use Rattle.lpm_groups.specs.declared.GroupState.{GroupState}
+use Rattle.lpm_groups.specs.declared.GroupState.TheVariants.{Free, Linked, Limbo}
+use Rattle.lpm_groups.specs.States.{IsLinkedTo, IsLimboAt, IsFreeAt, is_free, is_linked, free_count, linked_count}
+use Rattle.lpm_groups.proofs.Writes.{slice_get-set_same, slice_get-set_other}
+use Rattle.lpm_groups.proofs.Tallies.{Releases-set, Retires-set, Takes-set, counts-total, count_by-some}
+use Rattle.std.proofs.lemmas.Option.{slice_get_within}
+use Rattle.defer_queue.specs.Retired.{IsAbsent}
+use Rattle.defer_queue.specs.Limbo.{Limbo as Queue}
+use Rattle.lpm_writer.specs.Waiting.{AreWaiting, IsQueued, IsFreed, IsTaken}
+
+-- what is written to another group's state leaves the items waiting
+pub waiting_set : (xs : List GroupState) (g : ℕ) (s : GroupState) (items : List (ℕ × ℕ)) → IsAbsent g items → AreWaiting xs items → AreWaiting (slice_set xs g s) items
+waiting_set xs g s [] apart waits = tt
+waiting_set xs g s (item ∷ items) apart waits = (slice_get-set_other xs g item.0 s apart.0 ∙ waits.0, waits.1, waiting_set xs g s items apart.1 waits.2)
+
+-- the states after the first n items were freed
+abbrev pub freed_states : ℕ → List (ℕ × ℕ) → List GroupState → List GroupState
+freed_states zero items xs = xs
+freed_states (suc n) [] xs = xs
+freed_states (suc n) (item ∷ items) xs = freed_states n items (slice_set xs item.0 Free)
+
+limbo_linked : (x : Option GroupState) (b : ℕ) → x ≡ Some Limbo → x ≡ Some (Linked b) → ⊥
+limbo_linked x b p q = cc
+
+free_linked : (x : Option GroupState) (b : ℕ) → x ≡ Some Free → x ≡ Some (Linked b) → ⊥
+free_linked x b p q = cc
+
+-- a group in limbo that is freed changes no link
+freed_link : (xs : List GroupState) (g h b : ℕ) → IsLimboAt xs g → IsLinkedTo (slice_set xs g Free) h b ↔ IsLinkedTo xs h b
+freed_link xs g h b at = elim (cases_eq h g) [
+  | inl q ↦
+      let here = slice_get-set_same xs g Free (slice_get_within xs g Limbo at) in
+      ((λ l. absurd (free_linked (slice_get (slice_set xs g Free) h) b (ap (slice_get (slice_set xs g Free)) q ∙ here) l)), (λ l. absurd (limbo_linked (slice_get xs h) b (ap (slice_get xs) q ∙ at) l)))
+  | inr q ↦
+      let e = slice_get-set_other xs g h Free q in
+      ((λ l. sym e ∙ l), (λ l. e ∙ l))
+]
+
+pub is_freed : (n : ℕ) (items : List (ℕ × ℕ)) (xs : List GroupState) → n ≤ length items → AreWaiting xs items → IsFreed xs items n (freed_states n items xs)
+is_freed zero items xs few waits = record {
+  as_many = refl;
+  links = λ g b. ((λ l. l), (λ l. l));
+  others = λ g apart. refl;
+  linked = refl;
+  limbo = omega arith;
+  free = omega arith;
+}
+is_freed (suc n) [] xs few waits = absurd (omega (arith, few))
+is_freed (suc n) (item ∷ items) xs few waits =
+    let ys = slice_set xs item.0 Free in
+    let rest = is_freed n items ys (omega (arith, few)) (waiting_set xs item.0 Free items waits.1 waits.2) in
+    let one = Releases-set xs item.0 waits.0 in
+    record {
+      as_many = rest.as_many ∙ length-set xs item.0 Free;
+      links = λ g b.
+          let k = freed_link xs item.0 g b waits.0 in
+          let r = rest.links g b in
+          ((λ l. k.0 (r.0 l)), (λ l. r.1 (k.1 l)));
+      others = λ g apart. rest.others g apart.1 ∙ slice_get-set_other xs item.0 g Free (λ q. apart.0 (sym q));
+      linked = rest.linked ∙ one.linked;
+      limbo = omega (arith, rest.limbo, one.limbo);
+      free = omega (arith, rest.free, one.free);
+    }
+
+-- ---- which items a group is not among
+
+same_state : (x : Option GroupState) (s t : GroupState) → x ≡ Some s → x ≡ Some t → s ≡ t
+same_state x s t p q = cc
+
+-- a group that isn't in limbo
+pub absent_other : (xs : List GroupState) (g : ℕ) (s : GroupState) (items : List (ℕ × ℕ)) → slice_get xs g ≡ Some s → s ≢ Limbo → AreWaiting xs items → IsAbsent g items
+absent_other xs g s [] at other waits = tt
+absent_other xs g s (item ∷ items) at other waits = ((λ q. other (same_state (slice_get xs g) s Limbo at (ap (slice_get xs) (sym q) ∙ waits.0))), absent_other xs g s items at other waits.2)
+
+pub absent_drop : (g n : ℕ) (items : List (ℕ × ℕ)) → IsAbsent g items → IsAbsent g (drop n items)
+absent_drop g zero items h = h
+absent_drop g (suc n) [] h = tt
+absent_drop g (suc n) (item ∷ items) h = absent_drop g n items h.1
+
+absent_last : (h g t : ℕ) (items : List (ℕ × ℕ)) → g ≢ h → IsAbsent h items → IsAbsent h (items ++ (g, t) ∷ [])
+absent_last h g t [] apart a = (apart, tt)
+absent_last h g t (item ∷ items) apart a = (a.0, absent_last h g t items apart a.1)
+
+-- one more group that is in limbo goes last
+pub waiting_last : (xs : List GroupState) (g t : ℕ) (items : List (ℕ × ℕ)) → IsLimboAt xs g → IsAbsent g items → AreWaiting xs items → AreWaiting xs (items ++ (g, t) ∷ [])
+waiting_last xs g t [] at apart waits = (at, tt, tt)
+waiting_last xs g t (item ∷ items) at apart waits = (waits.0, absent_last item.0 g t items (λ q. apart.0 (sym q)) waits.1, waiting_last xs g t items at apart.1 waits.2)
+
+pub linked_limbo : (b : ℕ) → Linked b ≡ Limbo → ⊥
+linked_limbo b q = cc
+
+free_limbo : Free ≡ Limbo → ⊥
+free_limbo q = cc
+
+-- ---- a group that is retired: its state becomes limbo, the first n items are freed, and it goes last
+
+pub retired_queue : (xs zs : List GroupState) (q : Queue) (g b t n : ℕ) → IsLinkedTo xs g b → IsQueued xs q → n ≤ length q.items
+    → IsFreed (slice_set xs g Limbo) q.items n zs → AreWaiting zs (drop n q.items) → IsQueued zs (record q { items = drop n q.items ++ (g, t) ∷ [] })
+retired_queue xs zs q g b t n at queued few freed waits =
+    let apart = absent_other xs g (Linked b) q.items at (linked_limbo b) queued.waiting in
+    let here = slice_get-set_same xs g Limbo (slice_get_within xs g (Linked b) at) in
+    let one = Retires-set xs g b at in
+    record {
+      waiting = waiting_last zs g t (drop n q.items) (freed.others g apart ∙ here) (absent_drop g n q.items apart) waits;
+      all = omega (arith, length-append (drop n q.items) ((g, t) ∷ []), length-drop n q.items, few, freed.limbo, one.limbo, queued.all);
+      room = queued.room ∙ sym (freed.as_many ∙ length-set xs g Limbo);
+    }
+
+pub retired_room : (xs : List GroupState) (q : Queue) (g b n : ℕ) → IsLinkedTo xs g b → IsQueued xs q → length (drop n q.items) < q.capacity
+retired_room xs q g b n at queued = omega (arith, length-drop n q.items, queued.all, queued.room, counts-total xs, count_by-some is_linked xs g (Linked b) at refl)
+
+pub retired_others : (xs zs : List GroupState) (items : List (ℕ × ℕ)) (g n : ℕ) → IsFreed (slice_set xs g Limbo) items n zs → (h c : ℕ) → h ≢ g → IsLinkedTo zs h c ↔ IsLinkedTo xs h c
+retired_others xs zs items g n freed h c other =
+    let e = slice_get-set_other xs g h Limbo other in
+    let k = freed.links h c in
+    ((λ l. sym e ∙ k.0 l), (λ l. k.1 (e ∙ l)))
+
+pub retired_gone : (xs zs : List GroupState) (items : List (ℕ × ℕ)) (g b n : ℕ) → IsLinkedTo xs g b → IsFreed (slice_set xs g Limbo) items n zs → (c : ℕ) → ¬ IsLinkedTo zs g c
+retired_gone xs zs items g b n at freed c l = limbo_linked (slice_get (slice_set xs g Limbo) g) c (slice_get-set_same xs g Limbo (slice_get_within xs g (Linked b) at)) ((freed.links g c).0 l)
+
+-- ---- a group that is taken
+
+pub taken_from : (xs : List GroupState) (g b : ℕ) → IsFreeAt xs g → IsTaken xs g b (slice_set xs g (Linked b))
+taken_from xs g b at = record {
+  here = slice_get-set_same xs g (Linked b) (slice_get_within xs g Free at);
+  unlinked = λ c l. free_linked (slice_get xs g) c at l;
+  others = λ h c other. let e = slice_get-set_other xs g h (Linked b) other in ((λ l. sym e ∙ l), (λ l. e ∙ l));
+  as_many = length-set xs g (Linked b);
+  linked = (Takes-set xs g b at).linked;
+}
+
+pub taken_queue : (xs : List GroupState) (q : Queue) (g b : ℕ) → IsFreeAt xs g → IsQueued xs q → IsQueued (slice_set xs g (Linked b)) q
+taken_queue xs q g b at queued = record {
+  waiting = waiting_set xs g (Linked b) q.items (absent_other xs g Free q.items at free_limbo queued.waiting) queued.waiting;
+  all = queued.all ∙ sym (Takes-set xs g b at).limbo;
+  room = queued.room ∙ sym (length-set xs g (Linked b));
+}
+
+-- after some items were freed
+pub taken_after : (xs ys zs : List GroupState) (items : List (ℕ × ℕ)) (n g b : ℕ) → IsFreed xs items n ys → IsTaken ys g b zs → IsTaken xs g b zs
+taken_after xs ys zs items n g b freed taken = record {
+  here = taken.here;
+  unlinked = λ c l. taken.unlinked c ((freed.links g c).1 l);
+  others = λ h c other. let k = taken.others h c other in let f = freed.links h c in ((λ l. f.0 (k.0 l)), (λ l. k.1 (f.1 l)));
+  as_many = taken.as_many ∙ freed.as_many;
+  linked = taken.linked ∙ ap (λ n. n + 1) freed.linked;
+}
+
+pub freed_queue : (xs ys : List GroupState) (q : Queue) (n : ℕ) → IsQueued xs q → n ≤ length q.items → IsFreed xs q.items n ys → AreWaiting ys (drop n q.items) → IsQueued ys (record q { items = drop n q.items })
+freed_queue xs ys q n queued few freed waits = record {
+  waiting = waits;
+  all = omega (arith, length-drop n q.items, few, freed.limbo, queued.all);
+  room = queued.room ∙ sym freed.as_many;
+}
+
+-- a free group is counted
+pub still_free : (xs : List GroupState) (g : ℕ) → slice_get xs g ≡ Some Free → free_count xs ≡ 0 → ⊥
+still_free xs g at none = let some = count_by-some is_free xs g Free at refl in omega (arith, some, none)
+
+-- a linked group is counted
+pub some_linked : (xs : List GroupState) (g b : ℕ) → IsLinkedTo xs g b → 0 < linked_count xs
+some_linked xs g b at = count_by-some is_linked xs g (Linked b) at refl
+
+pub few_linked : (xs : List GroupState) → linked_count xs ≤ length xs
+few_linked xs = omega (arith, counts-total xs)

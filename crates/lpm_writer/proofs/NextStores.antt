@@ -1,0 +1,136 @@
+-- The next store of a change, by what it is of.
+use Rattle.std.proofs.Common.{arith, ◌≡◌, ◌≢◌, ℕ, ◌+◌, ◌/◌, ◌%◌, ◌^◌, ◌<◌, ◌≤◌, ◌⊎◌, inl, inr, refl, sym, ap, subst, ◌∙◌, List, slice_index, Option, Some, None}
+use Rattle.std.proofs.lemmas.Nat.{pow_pos, mod_below, div-mul-add, shr_below}
+use Rattle.lpm_entry.specs.declared.Entry.{Entry}
+use Rattle.lpm_entry.specs.declared.Entry.TheVariants.{Miss, Hop, Group}
+use Rattle.lpm_entry.specs.Words.{IsLast, entry_in, group_in}
+use Rattle.lpm_cells.specs.Table.{Words}
+use Rattle.lpm_update.specs.declared.link_group.LinkGroup.{LinkGroup}
+use Rattle.lpm_update.specs.declared.rewrite_range.RewriteRange.{RewriteRange}
+use Rattle.lpm_update.specs.declared.update.Plan.{Plan}
+use Rattle.lpm_update.specs.declared.update.Plan.TheVariants.{Range, Link, Unlink, Flush}
+use Rattle.lpm_update.specs.Linked.{IsTable, IsLinkTo, group_at}
+use Rattle.lpm_update.specs.RewriteRange.{IsSecondStore}
+use Rattle.lpm_update.specs.Update.{IsUnderWay, IsNextFirst, IsNextSecond, IsNextUnlink, IsOnward, group_held}
+use Rattle.std.proofs.lemmas.Bool.{cases_eq}
+use Rattle.lpm_update.proofs.Groups.{last_none, here_is, there_is}
+use Rattle.lpm_update.proofs.Places.{word_entry}
+use Rattle.lpm_update.proofs.Unlinks.{some_group, unlink_word}
+use Rattle.lpm_update.proofs.Onward.{by_kind}
+use Rattle.lpm_writer.specs.Making.{filling, unless_linked, IsTakenBy}
+
+none_last : (e : Entry) → group_in e ≡ None → IsLast e
+none_last Miss h = tt
+none_last (Hop hop depth) h = tt
+none_last (Group g) h = absurd cc
+
+pub none_some : (o : Option ℕ) (g : ℕ) → o ≡ None → o ≡ Some g → ⊥
+none_some o g p q = cc
+
+-- the next store in the first table, where no group is unlinked: it replaces no group's word, by one at
+-- which a lookup ends, or by that of the group that the change fills
+pub record IsFirstKind (v : Plan) (T : Words) (i x : ℕ) : Type 0 where
+  pub old : IsLast (entry_in (slice_index T.firsts i))
+  pub new : (IsLast (entry_in x) × (filling v T.firsts ≡ None))
+      ⊎ ((g : ℕ) × (entry_in x ≡ Group g) × (filling v T.firsts ≡ Some g) × (group_held v T.firsts i ≡ Some g)
+      × ((taken : Option ℕ) → IsTakenBy v T.firsts taken → taken ≡ Some g)
+      × ((b : ℕ) → group_held v T.firsts b ≡ Some g → b ≡ i))
+
+module _ (f s : ℕ) where
+  link_kind : (u : LinkGroup) (T : Words) (i x : ℕ) → IsUnderWay f s (Link u) T → IsNextFirst f s (Link u) T i x → IsFirstKind (Link u) T i x
+  link_kind u T i x k n =
+      let low : u.next ≤ 2 ^ s = let e = n.0 in omega (arith, e) in
+      let last = k.old low in
+      let none : group_at T.firsts u.block ≡ None = last_none (entry_in (slice_index T.firsts u.block)) last in
+      let pos = pow_pos s in
+      record {
+        old = subst (λ j. IsLast (entry_in (slice_index T.firsts j))) (sym n.1) last;
+        new = inr (
+          u.group,
+          word_entry (f + s) x (Group u.group) k.group n.2,
+          ap (λ o. unless_linked o u.group) none,
+          here i n.1,
+          (λ taken h. first taken (h none) (let e = n.0 in omega (arith, e, pos))),
+          λ b e. only b (k.free low b) e ∙ sym n.1,
+        );
+      }
+    where
+      here : (j : ℕ) → j ≡ u.block → group_held (Link u) T.firsts j ≡ Some u.group
+      here j e = elim (cases_eq j u.block) [
+        | inl q ↦ here_is j u.block (Some u.group) (group_at T.firsts j) q
+        | inr q ↦ absurd (q e)
+      ]
+
+      first : (taken : Option ℕ) → (taken ≡ Some u.group) ⊎ ((taken ≡ None) × (u.next ≡ 0)) → u.next ≢ 0 → taken ≡ Some u.group
+      first taken (inl e) more = e
+      first taken (inr h) more = absurd (more h.1)
+
+      only : (b : ℕ) → (IsLinkTo T.firsts b u.group → ⊥) → group_held (Link u) T.firsts b ≡ Some u.group → b ≡ u.block
+      only b free e = elim (cases_eq b u.block) [
+        | inl q ↦ q
+        | inr q ↦ absurd (free (some_group (entry_in (slice_index T.firsts b)) u.group (sym (there_is b u.block (Some u.group) (group_at T.firsts b) q) ∙ e)))
+      ]
+
+  pub first_kind : (v : Plan) (T : Words) (i x : ℕ) → IsUnderWay f s v T → IsNextFirst f s v T i x → IsFirstKind v T i x
+  first_kind (Range u) T i x k n = record { old = n.last; new = inl (subst IsLast (sym (word_entry (f + s) x u.rewrite.entry k.entry n.word)) k.last, refl) }
+  first_kind (Link u) T i x k n = link_kind u T i x k n
+  first_kind (Unlink u) T i x k n =
+      let d = (k.0 n.0).rewriting in
+      record { old = n.1.last; new = inl (subst IsLast (sym (word_entry (f + s) x u.range.rewrite.entry d.entry n.1.word)) d.last, refl) }
+  first_kind (Flush u) T i x k n = record {
+    old = none_last (entry_in (slice_index T.firsts i)) n.1;
+    new = inl (subst IsLast (sym (word_entry (f + s) x Miss tt n.0.word)) tt, refl);
+  }
+
+  -- the next store in the second table is into a group that a block has, or into the one that is filled
+  pub record IsSecondKind (v : Plan) (T : Words) (j : ℕ) : Type 0 where
+    pub group : ℕ
+    pub place : j / 2 ^ s ≡ group
+    pub kind : ((b : ℕ) × (b < 2 ^ f) × (group_held v T.firsts b ≡ Some group) × (filling v T.firsts ≡ None))
+        ⊎ ((filling v T.firsts ≡ Some group) × ((taken : Option ℕ) → IsTakenBy v T.firsts taken → (taken ≡ None) ⊎ (taken ≡ Some group)))
+
+  range_kind : (v : Plan) (u : RewriteRange) (T : Words) (g y j x : ℕ) → u.end ≤ 2 ^ (f + s) → IsSecondStore s u.at u.end u.rewrite T g y j x
+      → ((b : ℕ) → group_held v T.firsts b ≡ group_at T.firsts b) → filling v T.firsts ≡ None → IsSecondKind v T j
+  range_kind v u T g y j x fits n held none = record {
+    group = g;
+    place = ap (λ p. p / 2 ^ s) n.place ∙ div-mul-add g (2 ^ s) (y % 2 ^ s) (mod_below y (2 ^ s) (pow_pos s));
+    kind = inl (y / 2 ^ s, shr_below y f s (let h = n.high in omega (arith, h, fits)), held (y / 2 ^ s) ∙ ap group_in n.group, none);
+  }
+
+  pub second_kind : (v : Plan) (T : Words) (j x : ℕ) → IsUnderWay f s v T → IsNextSecond s v T j x → IsSecondKind v T j
+  second_kind (Range u) T j x k n = range_kind (Range u) u T n.0 n.1 j x k.fits n.2 (λ b. refl) refl
+  second_kind (Link u) T j x k n =
+      let low : u.next ≤ 2 ^ s = let e = n.0 in omega (arith, e) in
+      let none : group_at T.firsts u.block ≡ None = last_none (entry_in (slice_index T.firsts u.block)) (k.old low) in
+      record {
+        group = u.group;
+        place = ap (λ p. p / 2 ^ s) n.1 ∙ div-mul-add u.group (2 ^ s) u.next n.0;
+        kind = inr (ap (λ o. unless_linked o u.group) none, λ taken h. by (h none));
+      }
+    where
+      by : {taken : Option ℕ} → (taken ≡ Some u.group) ⊎ ((taken ≡ None) × (u.next ≡ 0)) → (taken ≡ None) ⊎ (taken ≡ Some u.group)
+      by (inl e) = inr e
+      by (inr h) = inl h.0
+  second_kind (Unlink u) T j x k n = range_kind (Unlink u) u.range T n.1.0 n.1.1 j x (k.0 n.0).rewriting.fits n.1.2 (λ b. refl) refl
+  second_kind (Flush u) T j x k n = absurd n
+
+  -- the store that unlinks a group replaces its word by one at which a lookup ends
+  pub unlink_kind : (v : Plan) (T : Words) (b g x : ℕ) → IsTable f s T → IsUnderWay f s v T → IsNextUnlink f s v T b g x
+      → IsLinkTo T.firsts b g × IsLast (entry_in x) × (filling v T.firsts ≡ None) × (group_held v T.firsts b ≡ Some g)
+  unlink_kind (Range u) T b g x t k n = absurd n
+  unlink_kind (Link u) T b g x t k n = absurd n
+  unlink_kind (Unlink u) T b g x t k n =
+      (n.3.group, (unlink_word f s T b g x t (subst (λ y. y < 2 ^ f) (sym n.1) (k.0 n.0).in_table) n.3).1, refl, ap group_in n.3.group)
+  unlink_kind (Flush u) T b g x t k n =
+      (some_group (entry_in (slice_index T.firsts b)) g n.1, subst IsLast (sym (word_entry (f + s) x Miss tt n.0.word)) tt, refl, n.1)
+
+-- ---- the group that is filled, and the one that was taken, from step to step
+
+same_link : (u v : LinkGroup) → IsOnward (Link u) (Link v) → (v.block ≡ u.block) × (v.group ≡ u.group)
+same_link u v o = (ap (λ (z : LinkGroup). z.block) o.0, ap (λ (z : LinkGroup). z.group) o.0)
+
+-- where the words of the first table stay
+pub filling_same : (u v : Plan) (F : List ℕ) → IsOnward u v → filling v F ≡ filling u F
+filling_same u v F = by_kind (λ x y. filling y F ≡ filling x F) (λ x y o. refl)
+    (λ x y o. let e = same_link x y o in ap (λ b. unless_linked (group_at F b) y.group) e.0 ∙ ap (unless_linked (group_at F x.block)) e.1)
+    (λ x y o. refl) (λ x y o. refl) u v

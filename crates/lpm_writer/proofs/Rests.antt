@@ -1,0 +1,214 @@
+-- What a writer keeps, before and after its commands.
+use Rattle.std.proofs.Common.{arith, ◌≡◌, ℕ, ◌+◌, ◌-◌, ◌*◌, ◌%◌, ◌^◌, ◌<◌, ◌≤◌, inl, inr, refl, sym, ap, subst, ◌∙◌, List, length, Option, Some, None, Bool, false}
+use Rattle.std.specs.Prelude.{IsTrue, ◌↔◌}
+use Rattle.std.proofs.lemmas.Bool.{cases_lt}
+use Rattle.lpm_cells.specs.Table.{Words, entry_at}
+use Rattle.lpm_groups.specs.declared.GroupState.{GroupState}
+use Rattle.lpm_groups.specs.States.{linked_count}
+use Rattle.lpm_limits.specs.declared.config.Config.{Config}
+use Rattle.lpm_rules.specs.RuleMap.{RuleMap, RuleList}
+use Rattle.lpm_update.specs.declared.update.Plan.{Plan}
+use Rattle.lpm_update.specs.declared.update.Plan.TheVariants.{Range, Link, Unlink, Flush}
+use Rattle.lpm_update.specs.Linked.{group_at}
+use Rattle.lpm_update.specs.Represents.{Represents, IsBegun, TurnsInto}
+use Rattle.lpm_update.specs.Tied.{IsTied}
+use Rattle.lpm_update.specs.Update.{FillsFor, entry_after, group_held}
+use Rattle.lpm_update.proofs.Promises.{best_hop, linked_deep, tied_same}
+use Rattle.fib_model.specs.State.{State, Transitions, IsExhausted, HasTokens}
+use Rattle.fib_model.specs.Reclaiming.{Unlinks}
+use Rattle.fib_model.specs.Outcomes.{groups_in_use, Shrinks}
+use Rattle.lpm_trace.specs.declared.step.RuleChange.{RuleChange}
+use Rattle.lpm_trace.specs.declared.step.WriterStep.{WriterStep}
+use Rattle.lpm_trace.specs.Tables.{Setup, Tables, tables, answer, IsAnswer, IsChange, done, done_at, rules_by}
+use Rattle.lpm_writer.specs.declared.books.Books.{Books}
+use Rattle.lpm_writer.specs.Waiting.{IsFreed, IsQueued, tokens_of}
+use Rattle.lpm_writer.specs.Traced.{by_steps}
+use Rattle.lpm_writer.specs.Kept.{IsStill, Keeps}
+use Rattle.lpm_writer.specs.Taking.{MayTake}
+use Rattle.lpm_writer.specs.Making.{filling, unless_linked, HasWidths, IsTakenBy, answer_after}
+use Rattle.lpm_writer.specs.Changing.{IsBetween, MayChange, HasChanged}
+use Rattle.lpm_writer.specs.Resting.{IsResting, state_of}
+use Rattle.lpm_writer.proofs.UpdateRuns.{fit}
+
+-- a change that fills no group
+pub none_fills : (u : Plan) (block : ℕ) (F : List ℕ) → FillsFor u None block → (filling u F ≡ None) × IsTakenBy u F None
+none_fills (Range u) block F h = (refl, tt)
+none_fills (Link u) block F h = absurd (none_is u.group h.0)
+  where
+    none_is : (g : ℕ) → None ≡ Some g → ⊥
+    none_is g e = cc
+none_fills (Unlink u) block F h = (refl, tt)
+none_fills (Flush u) block F h = (refl, tt)
+
+-- a change that fills a group for a block that has none
+pub some_fills : (u : Plan) (g block : ℕ) (F : List ℕ) → FillsFor u (Some g) block → group_at F block ≡ None → (filling u F ≡ Some g) × IsTakenBy u F None
+some_fills (Range u) g block F h none = absurd (some_is g h)
+  where
+    some_is : (g : ℕ) → Some g ≡ None → ⊥
+    some_is g e = cc
+some_fills (Link u) g block F h none = (ap (λ b. unless_linked (group_at F b) u.group) h.1 ∙ ap (λ o. unless_linked o u.group) none ∙ sym h.0, λ _. inr (refl, h.2))
+some_fills (Unlink u) g block F h none = absurd (some_is g h)
+  where
+    some_is : (g : ℕ) → Some g ≡ None → ⊥
+    some_is g e = cc
+some_fills (Flush u) g block F h none = absurd (some_is g h)
+  where
+    some_is : (g : ℕ) → Some g ≡ None → ⊥
+    some_is g e = cc
+
+-- an update that turns these rules into those of the change may be made
+pub may_change : (f s : ℕ) (c : Setup) (steps : List WriterStep) (rules R : RuleMap) (u : Plan) (change : RuleChange) (held : Option ℕ) (now : Books) → HasWidths f s c → IsBetween c steps
+    → (tables c steps).history (done (tables c steps)) ≡ rules → Represents f s rules (tables c steps).words → IsBegun f s u (tables c steps).words → TurnsInto f s u rules R → rules_by rules change ≡ R
+    → IsChange (f + s) change → (filling u (tables c steps).words.firsts ≡ held) × IsTakenBy u (tables c steps).words.firsts None
+    → Keeps c steps now.groups now.queue.items now.passed held → MayChange f s c steps u change now
+may_change f s c steps rules R u change held now widths between version represented may turns makes sound fills keeps =
+    let w : Tables = tables c steps in
+    let represents = fit (λ a b. Represents a b rules w.words) f s c widths represented in
+    let turns' = fit (λ a b. TurnsInto a b u rules R) f s c widths turns in
+    record {
+      widths = widths;
+      between = between;
+      table = represents.table;
+      begun = fit (λ a b. IsBegun a b u w.words) f s c widths may;
+      fresh = fills.1;
+      sound = fit (λ a b. IsChange (a + b) change) f s c widths sound;
+      old = λ a low. subst (λ r. IsAnswer c r a (answer c w.words a)) (sym version) (best_hop (c.first + c.second) rules a (entry_at c.second w.words a) (represents.best a low));
+      new = λ a low. subst (λ r. IsAnswer c r a (answer_after c u w.words a)) (sym (ap (λ r. rules_by r change) version ∙ makes))
+          (best_hop (c.first + c.second) R a (entry_after (c.first + c.second) u (entry_at c.second w.words) a) (turns'.best (entry_at c.second w.words) represents.best a low));
+      keeps = subst (λ o. Keeps c steps now.groups now.queue.items now.passed o) (sym fills.0) keeps;
+    }
+
+module _ (f s : ℕ) (c : Setup) (steps : List WriterStep) (config : Config) (rules : RuleList) (books : Books) (begun : ℕ) (rest : IsResting f s c steps config rules books begun) where
+  module _ {M : Type 0} (does : M → WriterStep → M → Type 0) (m z : M) (mid later : List WriterStep) (change : RuleChange) (now new : Books) (rules' : RuleList)
+      (made : HasChanged does c config change m mid now z later new) where
+    -- what is kept after the update
+    pub rests_after : (tables c mid).history (done (tables c mid)) ≡ rules.rules → Represents f s rules'.rules (tables c later).words → IsTied f new.groups (group_at (tables c later).words.firsts)
+        → length (tables c later).words.seconds ≡ length (tables c steps).words.seconds
+        → IsQueued new.groups new.queue → length new.groups ≡ length books.groups → rules_by rules.rules change ≡ rules'.rules → rules'.max ≡ rules.max → begun < 2 ^ 61
+        → IsResting f s c later config rules' new (begun + 1)
+    rests_after version represents tied sizes queued states makes max few = record {
+      shape = rest.shape;
+      widths = rest.widths;
+      workers = rest.workers;
+      between = made.between;
+      version = made.rules ∙ ap (λ r. rules_by r change) version ∙ makes;
+      represents = represents;
+      tied = tied;
+      room = record {
+        few = subst (λ n. n ≤ 65536) (sym states) rest.room.few;
+        words = sizes ∙ rest.room.words ∙ ap (λ n. n * 2 ^ s) (sym states);
+      };
+      queued = queued;
+      keeps = made.keeps;
+      limits = rest.limits;
+      max = max ∙ rest.max;
+      states = states ∙ rest.states;
+      updates = omega (arith, few);
+    }
+
+  -- as many groups are linked as there are deep blocks
+  pub linked_resting : linked_count books.groups ≡ groups_in_use f s rules.rules
+  linked_resting = linked_deep f s rules.rules (tables c steps).words books.groups rest.represents rest.tied
+
+-- ---- tokens and versions
+
+pub has_tokens : {X : Type 0} (t : Transitions X) (config : Config) (S : State X) (b : Bool) → b ≡ false → IsTrue b ↔ IsExhausted t config S → HasTokens t config S
+has_tokens t config S b off k = (
+  elim (cases_lt (2 ^ 62) (t.token S.readers + config.groups)) [
+    | inl past ↦ absurd (truth b off (k.1 (inl past)))
+    | inr within ↦ within
+  ],
+  elim (cases_lt S.begun (2 ^ 61)) [
+    | inl within ↦ within
+    | inr past ↦ absurd (truth b off (k.1 (inr past)))
+  ],
+)
+  where
+    truth : (b : Bool) → b ≡ false → IsTrue b → ⊥
+    truth b p q = cc
+
+-- ---- after an update
+
+module _ {M : Type 0} (words : M → Words) (newest count : M → ℕ) (did : M → Setup → List WriterStep → Type 0) (does : M → WriterStep → M → Type 0)
+    (shows : (m : M) (c : Setup) (steps : List WriterStep) → did m c steps → (words m ≡ (tables c steps).words) × (newest m ≡ (tables c steps).token) × (count m ≡ c.workers))
+    (f s : ℕ) (c : Setup) (steps : List WriterStep) (config : Config) (rules : RuleList) (books : Books) (begun : ℕ) (rest : IsResting f s c steps config rules books begun)
+    (m : M) (did_m : did m c steps) where
+  -- each block has the group that is held for it
+  pub tied_held : (u : Plan) → ((firsts : List ℕ) (i : ℕ) → group_held u firsts i ≡ group_at firsts i) → IsTied f books.groups (group_held u (words m).firsts)
+  tied_held u held = subst (λ (W : Words). IsTied f books.groups (group_held u W.firsts)) (sym (shows m c steps did_m).0)
+      (tied_same f books.groups (group_at (tables c steps).words.firsts) (group_held u (tables c steps).words.firsts) (λ i low. held (tables c steps).words.firsts i) rest.tied)
+
+  pub rests_then : (z : M) (later : List WriterStep) (change : RuleChange) (now new : Books) (rules' : RuleList) (u : Plan) → did z c later → HasChanged does c config change m steps now z later new
+      → ((R R' : RuleMap) → Represents f s R (words m) → TurnsInto f s u R R' → Represents f s R' (words z) × IsTied f new.groups (group_at (words z).firsts))
+      → length (words z).seconds ≡ length (words m).seconds → IsQueued new.groups new.queue → length new.groups ≡ length books.groups
+      → TurnsInto f s u rules.rules rules'.rules → rules_by rules.rules change ≡ rules'.rules → rules'.max ≡ rules.max → begun < 2 ^ 61 → IsResting f s c later config rules' new (begun + 1)
+  rests_then z later change now new rules' u did_z made represents sizes queued states turns makes max few =
+      let old = (shows m c steps did_m).0 in
+      let now_seen = (shows z c later did_z).0 in
+      let end = represents rules.rules rules'.rules (subst (Represents f s rules.rules) (sym old) rest.represents) turns in
+      rests_after f s c steps config rules books begun rest does m z steps later change now new rules' made rest.version
+      (subst (Represents f s rules'.rules) now_seen end.0)
+      (subst (λ (W : Words). IsTied f new.groups (group_at W.firsts)) now_seen end.1)
+      (ap (λ (W : Words). length W.seconds) (sym now_seen) ∙ sizes ∙ ap (λ (W : Words). length W.seconds) old)
+      queued states makes max few
+
+  -- a change to fewer rules that was made
+  pub shrinks_then : (z : M) (later : List WriterStep) (change : RuleChange) (new : Books) (rules' : RuleList) (R : RuleMap) → HasChanged does c config change m steps books z later new
+      → IsResting f s c later config rules' new (begun + 1) → rules'.rules ≡ R → HasTokens (by_steps does c) config (state_of rules.rules (m, steps) books begun)
+      → Shrinks (by_steps does c) f s config (state_of rules.rules (m, steps) books begun) R (state_of rules'.rules (z, later) new (begun + 1))
+  shrinks_then z later change new rules' R made after gone tokens =
+      let k = made.changes in
+      let same : linked_count books.groups - linked_count new.groups ≡ groups_in_use f s rules.rules - groups_in_use f s R =
+      omega (arith, linked_resting f s c steps config rules books begun rest, linked_resting f s c later config rules' new (begun + 1) after, ap (groups_in_use f s) gone) in
+      (tokens, (k.first, k.last, k.begins, subst (λ n. Unlinks (by_steps does c) config n k.first (tokens_of books.queue.items) k.last (tokens_of new.queue.items)) same k.unlinks, k.ends), (gone, refl))
+
+-- ---- after checks alone
+
+even_not : (n : ℕ) → n % 2 ≡ 0 → n % 2 ≡ 1 → ⊥
+even_not n p q = omega (arith, p, q)
+
+pub between_take : (c : Setup) (steps : List WriterStep) (books : Books) → IsBetween c steps → Keeps c steps books.groups books.queue.items books.passed None → MayTake c steps books
+between_take c steps books between keeps = record { keeps = keeps; idle = between.idle; rests = even_not (tables c steps).sequence between.even }
+
+pub between_still : (c : Setup) (steps later : List WriterStep) → IsBetween c steps → IsStill c steps later → IsBetween c later
+between_still c steps later between still = record {
+  idle = still.idle;
+  even = ap (λ n. n % 2) still.quiet.sequence ∙ between.even;
+  clear = λ a low. ap (λ t. t a) still.quiet.turned ∙ between.clear a low;
+}
+
+pub version_still : (c : Setup) (steps later : List WriterStep) (R : RuleMap) → (tables c steps).history (done (tables c steps)) ≡ R → IsStill c steps later → (tables c later).history (done (tables c later)) ≡ R
+version_still c steps later R version still =
+    ap (λ n. (tables c later).history (done_at n)) still.quiet.sequence ∙ ap (λ h. h (done (tables c steps))) still.quiet.history ∙ version
+
+pub rests_still : (f s : ℕ) (c : Setup) (steps later : List WriterStep) (config : Config) (rules : RuleList) (books new : Books) (begun : ℕ) → IsResting f s c steps config rules books begun
+    → IsStill c steps later → Keeps c later new.groups new.queue.items new.passed None → IsTied f new.groups (group_at (tables c steps).words.firsts) → IsQueued new.groups new.queue
+    → length new.groups ≡ length books.groups → IsResting f s c later config rules new begun
+rests_still f s c steps later config rules books new begun rest still keeps tied queued states =
+    let q = still.quiet in
+    record {
+      shape = rest.shape;
+      widths = rest.widths;
+      workers = rest.workers;
+      between = between_still c steps later rest.between still;
+      version = version_still c steps later rules.rules rest.version still;
+      represents = subst (Represents f s rules.rules) (sym q.words) rest.represents;
+      tied = subst (λ (W : Words). IsTied f new.groups (group_at W.firsts)) (sym q.words) tied;
+      room = record {
+        few = subst (λ n. n ≤ 65536) (sym states) rest.room.few;
+        words = ap (λ (W : Words). length W.seconds) q.words ∙ rest.room.words ∙ ap (λ n. n * 2 ^ s) (sym states);
+      };
+      queued = queued;
+      keeps = keeps;
+      limits = rest.limits;
+      max = rest.max;
+      states = states ∙ rest.states;
+      updates = rest.updates;
+    }
+
+-- groups that no block has were freed
+pub tied_freed : (f n : ℕ) (xs ys : List GroupState) (items : List (ℕ × ℕ)) (L : ℕ → Option ℕ) → IsFreed xs items n ys → IsTied f xs L → IsTied f ys L
+tied_freed f n xs ys items L freed tied = record {
+  linked = λ b g low e. (freed.links g b).1 (tied.linked b g low e);
+  only = λ b g at. tied.only b g ((freed.links g b).0 at);
+}

@@ -1,0 +1,327 @@
+-- What a store of an update leaves.
+use Rattle.std.proofs.Common.{arith, ◌≡◌, ◌≢◌, ℕ, suc, ◌+◌, ◌/◌, ◌%◌, ◌^◌, ◌<◌, ◌⊎◌, inl, inr, refl, sym, ap, subst, ◌∙◌, List, [], ◌∷◌, ◌++◌, length, slice_index, Option, Some, None}
+use Rattle.std.specs.Prelude.{slice_get, slice_set}
+use Rattle.std.proofs.lemmas.Bool.{cases_eq}
+use Rattle.std.proofs.lemmas.Option.{slice_get_within}
+use Rattle.lpm_entry.specs.declared.Entry.{Entry}
+use Rattle.lpm_entry.specs.declared.Entry.TheVariants.{Miss, Hop, Group}
+use Rattle.lpm_entry.specs.Words.{IsLast, entry_in, group_in}
+use Rattle.lpm_cells.specs.Table.{Words, with_first, with_second}
+use Rattle.lpm_groups.specs.declared.GroupState.{GroupState}
+use Rattle.lpm_groups.specs.declared.GroupState.TheVariants.{Free, Linked as LinkedTo, Limbo}
+use Rattle.lpm_groups.specs.States.{IsLinkedTo, IsFreeAt}
+use Rattle.lpm_groups.proofs.Writes.{slice_get-set_same, slice_get-set_other}
+use Rattle.defer_queue.specs.Retired.{IsAbsent}
+use Rattle.lpm_update.specs.declared.Did.{Did}
+use Rattle.lpm_update.specs.declared.link_group.LinkGroup.{LinkGroup}
+use Rattle.lpm_update.specs.declared.update.Plan.{Plan}
+use Rattle.lpm_update.specs.declared.update.Plan.TheVariants.{Range, Link, Unlink, Flush}
+use Rattle.lpm_update.specs.Laws.{StoreMoves}
+use Rattle.lpm_update.specs.Linked.{IsLinkTo, group_at}
+use Rattle.lpm_update.specs.Runs.{HasCome}
+use Rattle.lpm_update.specs.Step.{Steps}
+use Rattle.lpm_update.specs.Tied.{IsTied}
+use Rattle.lpm_update.specs.Update.{IsUnderWay, IsNextFirst, IsNextUnlink, IsOnward, IsOver, HasGroups, group_held}
+use Rattle.lpm_update.proofs.Groups.{group_set_same, here_is}
+use Rattle.lpm_update.proofs.Onward.{by_kind}
+use Rattle.lpm_update.proofs.Places.{word_entry}
+use Rattle.lpm_update.proofs.Runs.{run_goes_on}
+use Rattle.lpm_trace.specs.declared.step.WriterStep.{WriterStep}
+use Rattle.lpm_trace.specs.declared.step.WriterStep.TheVariants.{StoreFirst, StoreSecond}
+use Rattle.lpm_trace.specs.Tables.{Setup, Tables, Status, Unused, Linked, Retired, tables, with_at, linked, retired, IsFree, IsAnswer, answer, done, begun, done_at, begun_at}
+use Rattle.lpm_trace.specs.Course.{due_after, taken_with}
+use Rattle.lpm_trace.specs.Writer.{course}
+use Rattle.lpm_trace.proofs.Basics.{with_at-same, with_at-other}
+use Rattle.lpm_writer.specs.declared.books.Books.{Books}
+use Rattle.lpm_writer.specs.Waiting.{AreWaiting}
+use Rattle.lpm_writer.specs.Kept.{AreAfter, AreRising, AreRetired, AreBelow, IsAmong, AreKept, HasUnlinked, IsIdle, IsQuiet, Keeps}
+use Rattle.lpm_writer.specs.Making.{filling, unless_linked, IsTakenBy, IsMaking, answer_after}
+use Rattle.lpm_writer.proofs.Limbo.{absent_other, linked_limbo}
+use Rattle.lpm_writer.proofs.Keeping.{kept_quiet}
+use Rattle.lpm_writer.proofs.NextStores.{none_some, filling_same, IsFirstKind, IsSecondKind}
+use Rattle.lpm_writer.proofs.Answering.{turned_on}
+
+-- ---- the group that is filled
+
+same_link : (u v : LinkGroup) → IsOnward (Link u) (Link v) → (v.block ≡ u.block) × (v.group ≡ u.group)
+same_link u v o = (ap (λ (z : LinkGroup). z.block) o.0, ap (λ (z : LinkGroup). z.group) o.0)
+
+-- the block of a group that was just linked
+now_linked : (f s : ℕ) (x y : LinkGroup) (T : Words) (i w : ℕ) → IsOnward (Link x) (Link y) → i < length T.firsts → IsUnderWay f s (Link x) T → IsNextFirst f s (Link x) T i w
+    → group_at (slice_set T.firsts i w) y.block ≡ Some x.group
+now_linked f s x y T i w o low k n =
+    let e : y.block ≡ i = (same_link x y o).0 ∙ sym n.1 in
+    ap (group_at (slice_set T.firsts i w)) e ∙ group_set_same T.firsts i w low ∙ ap group_in (word_entry (f + s) w (Group x.group) k.group n.2)
+
+pub none_filling : (f s : ℕ) (u v : Plan) (T : Words) (i w : ℕ) → IsOnward u v → i < length T.firsts → IsUnderWay f s u T → IsNextFirst f s u T i w → filling v (slice_set T.firsts i w) ≡ None
+none_filling f s u v T i w = by_kind (λ x y. i < length T.firsts → IsUnderWay f s x T → IsNextFirst f s x T i w → filling y (slice_set T.firsts i w) ≡ None)
+    (λ x y o low k n. refl)
+    (λ x y o low k n. ap (λ g. unless_linked g y.group) (now_linked f s x y T i w o low k n))
+    (λ x y o low k n. refl) (λ x y o low k n. refl) u v
+
+pub taken_first : (f s : ℕ) (u v : Plan) (T : Words) (i w : ℕ) (taken : Option ℕ) → IsOnward u v → i < length T.firsts → IsUnderWay f s u T → IsNextFirst f s u T i w
+    → IsTakenBy v (slice_set T.firsts i w) taken
+taken_first f s u v T i w taken = by_kind (λ x y. i < length T.firsts → IsUnderWay f s x T → IsNextFirst f s x T i w → IsTakenBy y (slice_set T.firsts i w) taken)
+    (λ x y o low k n. tt)
+    (λ x y o low k n none. absurd (none_some (group_at (slice_set T.firsts i w) y.block) x.group none (now_linked f s x y T i w o low k n)))
+    (λ x y o low k n. tt) (λ x y o low k n. tt) u v
+
+-- a change that unlinks a group fills none
+pub unlink_filling : (f s : ℕ) (u v : Plan) (T : Words) (b g w : ℕ) (F : List ℕ) (taken : Option ℕ) → IsOnward u v → IsNextUnlink f s u T b g w → (filling v F ≡ None) × IsTakenBy v F taken
+unlink_filling f s u v T b g w F taken = by_kind (λ x y. IsNextUnlink f s x T b g w → (filling y F ≡ None) × IsTakenBy y F taken)
+    (λ x y o n. absurd n) (λ x y o n. absurd n) (λ x y o n. (refl, tt)) (λ x y o n. (refl, tt)) u v
+
+same_number : (o : Option ℕ) (g h : ℕ) → o ≡ Some g → o ≡ Some h → g ≡ h
+same_number o g h p q = cc
+
+-- a change that has nothing left to store has linked the group that it filled
+pub over_filling : (f s : ℕ) (v : Plan) (T : Words) (L : ℕ → Option ℕ) → IsUnderWay f s v T → IsOver f s v → HasGroups f s v T.firsts L → filling v T.firsts ≡ None
+over_filling f s (Range u) T L k over groups = refl
+over_filling f s (Link u) T L k over groups = ap (λ o. unless_linked o u.group) (groups u.block k.block ∙ over.groups L u.block k.block ∙ here_is u.block u.block (Some u.group) (L u.block) refl)
+over_filling f s (Unlink u) T L k over groups = refl
+over_filling f s (Flush u) T L k over groups = refl
+
+-- after a store into a group: where it was the one that is filled, it is taken
+pub taken_second : (u v : Plan) (F : List ℕ) (taken : Option ℕ) → IsOnward u v → (filling u F ≡ None) ⊎ ((g : ℕ) × (filling u F ≡ Some g) × (taken ≡ Some g)) → IsTakenBy v F taken
+taken_second u v F taken = by_kind (λ x y. (filling x F ≡ None) ⊎ ((g : ℕ) × (filling x F ≡ Some g) × (taken ≡ Some g)) → IsTakenBy y F taken)
+    (λ x y o h. tt)
+    (λ x y o h none. inl (link_taken x y (same_link x y o) (ap (group_at F) (sym (same_link x y o).0) ∙ none) h))
+    (λ x y o h. tt) (λ x y o h. tt) u v
+  where
+    link_taken : (x y : LinkGroup) → (y.block ≡ x.block) × (y.group ≡ x.group) → group_at F x.block ≡ None
+        → (filling (Link x) F ≡ None) ⊎ ((g : ℕ) × (filling (Link x) F ≡ Some g) × (taken ≡ Some g)) → taken ≡ Some y.group
+    link_taken x y e none (inl h) = absurd (none_some (filling (Link x) F) x.group h (ap (λ o. unless_linked o x.group) none))
+    link_taken x y e none (inr h) =
+        let g : h.0 ≡ x.group = same_number (filling (Link x) F) h.0 x.group h.1 (ap (λ o. unless_linked o x.group) none) in
+        h.2 ∙ ap Some (g ∙ sym e.1)
+
+taken_free : (c : Setup) (p g : ℕ) (taken : Option ℕ) (s : Status) → IsFree c p s → taken_with taken g s ≡ Some g
+taken_free c p g taken Unused h = refl
+taken_free c p g taken (Linked block) h = absurd h
+taken_free c p g taken (Retired token) h = refl
+
+-- ---- the statuses of the groups
+
+retired_last : (e : Entry) (t : ℕ) (G : ℕ → Status) → IsLast e → retired e t G ≡ G
+retired_last Miss t G h = refl
+retired_last (Hop hop depth) t G h = refl
+retired_last (Group g) t G h = absurd h
+
+linked_last : (e : Entry) (i : ℕ) (G : ℕ → Status) → IsLast e → linked e i G ≡ G
+linked_last Miss i G h = refl
+linked_last (Hop hop depth) i G h = refl
+linked_last (Group g) i G h = absurd h
+
+retired_apart : (G : ℕ → Status) (g : ℕ) (s : Status) (token : ℕ) (items : List (ℕ × ℕ)) → IsAbsent g items → AreRetired G token items → AreRetired (with_at G g s) token items
+retired_apart G g s token [] apart h = tt
+retired_apart G g s token (item ∷ items) apart h = (with_at-other G g s item.0 apart.0 ∙ h.0, h.1, retired_apart G g s token items apart.1 h.2)
+
+linked_not_retired : (b t : ℕ) → Linked b ≡ Retired t → ⊥
+linked_not_retired b t e = cc
+
+retired_token : (t u : ℕ) → Retired t ≡ Retired u → u ≡ t
+retired_token t u e = cc
+
+limbo_not : (x : Option GroupState) (s : GroupState) → (Limbo ≡ s → ⊥) → x ≡ Some Limbo → x ≡ Some s → ⊥
+limbo_not x s other p q = other (some_same Limbo s (sym p ∙ q))
+  where
+    some_same : (a b : GroupState) → Some a ≡ Some b → a ≡ b
+    some_same a b e = cc
+
+-- ---- one more item, behind all others
+
+below_retired : (G : ℕ → Status) (token : ℕ) (items : List (ℕ × ℕ)) → AreRetired G token items → AreBelow (suc token) items
+below_retired G token [] h = tt
+below_retired G token (item ∷ items) h = (let le = h.1 in omega (arith, le), below_retired G token items h.2)
+
+after_last : (t u g : ℕ) (items : List (ℕ × ℕ)) → t < u → AreAfter t items → AreAfter t (items ++ (g, u) ∷ [])
+after_last t u g [] lt h = (lt, tt)
+after_last t u g (item ∷ items) lt h = (h.0, after_last t u g items lt h.1)
+
+rising_last : (g t : ℕ) (items : List (ℕ × ℕ)) → AreBelow t items → AreRising items → AreRising (items ++ (g, t) ∷ [])
+rising_last g t [] below h = (tt, tt)
+rising_last g t (item ∷ items) below h = (after_last item.1 t g items below.0 h.0, rising_last g t items below.1 h.1)
+
+retired_more : (G : ℕ → Status) (token : ℕ) (g : ℕ) (items : List (ℕ × ℕ)) → G g ≡ Retired (suc token) → AreRetired G token items → AreRetired G (suc token) (items ++ (g, suc token) ∷ [])
+retired_more G token g [] e h = (e, omega arith, tt)
+retired_more G token g (item ∷ items) e h = (h.0, let le = h.1 in omega (arith, le), retired_more G token g items e h.2)
+
+among_front : (h u g t : ℕ) (items : List (ℕ × ℕ)) → IsAmong h u items → IsAmong h u (items ++ (g, t) ∷ [])
+among_front h u g t [] at = absurd at
+among_front h u g t (item ∷ items) (inl e) = inl e
+among_front h u g t (item ∷ items) (inr at) = inr (among_front h u g t items at)
+
+among_last : (g t : ℕ) (items : List (ℕ × ℕ)) → IsAmong g t (items ++ (g, t) ∷ [])
+among_last g t [] = inl (refl, refl)
+among_last g t (item ∷ items) = inr (among_last g t items)
+
+-- ---- what is kept after a store
+
+module _ (c : Setup) (steps : List WriterStep) (states : List GroupState) (items : List (ℕ × ℕ)) (passed : ℕ) (v : Plan)
+    (keeps : Keeps c steps states items passed (filling v (tables c steps).words.firsts)) where
+  -- a store that links no group
+  keeps_plain : (i x : ℕ) → IsLast (entry_in (slice_index (tables c steps).words.firsts i)) → IsLast (entry_in x) → filling v (tables c steps).words.firsts ≡ None
+      → Keeps c (StoreFirst i x ∷ steps) states items passed None
+  keeps_plain i x old last none =
+      let w : Tables = tables c steps in
+      let z : Tables = tables c (StoreFirst i x ∷ steps) in
+      let same : z.groups ≡ w.groups = linked_last (entry_in x) i (retired (entry_in (slice_index w.words.firsts i)) (suc w.token) w.groups) last
+      ∙ retired_last (entry_in (slice_index w.words.firsts i)) (suc w.token) w.groups old in
+      record {
+        kept = subst (AreKept c z w.token states items) none (kept_quiet c w z w.token states items (filling v w.words.firsts) same (omega arith) keeps.kept);
+        remembers = keeps.remembers;
+      }
+
+  -- the store that links the group that was filled
+  keeps_linked : (i x g : ℕ) → IsLast (entry_in (slice_index (tables c steps).words.firsts i)) → entry_in x ≡ Group g → filling v (tables c steps).words.firsts ≡ Some g
+      → IsLinkedTo states g i → ((b : ℕ) → IsLinkedTo states g b → b ≡ i) → AreWaiting states items → Keeps c (StoreFirst i x ∷ steps) states items passed None
+  keeps_linked i x g old e fill here only waits =
+      let w : Tables = tables c steps in
+      let z : Tables = tables c (StoreFirst i x ∷ steps) in
+      let same : z.groups ≡ with_at w.groups g (Linked i) = ap (λ y. linked y i (retired (entry_in (slice_index w.words.firsts i)) (suc w.token) w.groups)) e
+      ∙ ap (λ G. with_at G g (Linked i)) (retired_last (entry_in (slice_index w.words.firsts i)) (suc w.token) w.groups old) in
+      let at : z.groups g ≡ Linked i = ap (λ G. G g) same ∙ with_at-same w.groups g (Linked i) in
+      let off : (h : ℕ) → h ≢ g → z.groups h ≡ w.groups h = λ h ne. ap (λ G. G h) same ∙ with_at-other w.groups g (Linked i) h ne in
+      let apart = absent_other states g (LinkedTo i) items here (linked_limbo i) waits in
+      record {
+        kept = record {
+          free = λ h free. subst (IsFree c w.passed) (sym (off h (free_other h free))) (keeps.kept.free h free);
+          linked = λ h b link _. elim (cases_eq h g) [
+            | inl q ↦ ap z.groups q ∙ at ∙ ap Linked (sym (only b (subst (λ y. IsLinkedTo states y b) q link)))
+            | inr ne ↦ off h ne ∙ keeps.kept.linked h b link (λ q. ne (same_number (filling v w.words.firsts) h g q fill))
+          ];
+          taken = λ h q. absurd cc;
+          rising = keeps.kept.rising;
+          retired = subst (λ G. AreRetired G w.token items) (sym same) (retired_apart w.groups g (Linked i) w.token items apart keeps.kept.retired);
+          all = λ some h u q. elim (cases_eq h g) [
+            | inl k ↦ absurd (linked_not_retired i u (sym at ∙ ap z.groups (sym k) ∙ q))
+            | inr ne ↦ keeps.kept.all some h u (sym (off h ne) ∙ q)
+          ];
+        };
+        remembers = keeps.remembers;
+      }
+    where
+      free_linked : (y : Option GroupState) → y ≡ Some (LinkedTo i) → y ≡ Some Free → ⊥
+      free_linked y p q = cc
+
+      free_other : (h : ℕ) → IsFreeAt states h → h ≢ g
+      free_other h free q = free_linked (slice_get states g) here (ap (slice_get states) (sym q) ∙ free)
+
+  pub keeps_first : (i x : ℕ) → IsFirstKind v (tables c steps).words i x → (first : ℕ) → IsTied first states (group_held v (tables c steps).words.firsts) → i < 2 ^ first → AreWaiting states items
+      → Keeps c (StoreFirst i x ∷ steps) states items passed None
+  keeps_first i x kind first tied low waits = elim kind.new [
+    | inl last ↦ keeps_plain i x kind.old last.0 last.1
+    | inr h ↦ keeps_linked i x h.0 kind.old h.1 h.2 (tied.linked i h.0 low h.3) (λ b at. h.5 b (tied.only b h.0 at).1) waits
+  ]
+
+  pub keeps_second : (j x : ℕ) (v' : Plan) → IsOnward v v' → Keeps c (StoreSecond j x ∷ steps) states items passed (filling v' (tables c steps).words.firsts)
+  keeps_second j x v' o = record {
+    kept = subst (AreKept c (tables c (StoreSecond j x ∷ steps)) (tables c steps).token states items) (sym (filling_same v v' (tables c steps).words.firsts o))
+        (kept_quiet c (tables c steps) (tables c (StoreSecond j x ∷ steps)) (tables c steps).token states items (filling v (tables c steps).words.firsts) refl (omega arith) keeps.kept);
+    remembers = keeps.remembers;
+  }
+
+-- the store that unlinks a group
+pub has_unlinked : (c : Setup) (steps : List WriterStep) (books : Books) (v : Plan) (b g x : ℕ) → Keeps c steps books.groups books.queue.items books.passed (filling v (tables c steps).words.firsts)
+    → IsIdle c steps → IsLinkTo (tables c steps).words.firsts b g → IsLast (entry_in x) → filling v (tables c steps).words.firsts ≡ None → IsLinkedTo books.groups g b → AreWaiting books.groups books.queue.items
+    → HasUnlinked c (StoreFirst b x ∷ steps) books g None
+has_unlinked c steps books v b g x keeps idle link last none here waits =
+    let w : Tables = tables c steps in
+    let z : Tables = tables c (StoreFirst b x ∷ steps) in
+    let t = suc w.token in
+    let items = books.queue.items in
+    let states = books.groups in
+    let same : z.groups ≡ with_at w.groups g (Retired t) = linked_last (entry_in x) b (retired (entry_in (slice_index w.words.firsts b)) t w.groups) last ∙ ap (λ e. retired e t w.groups) link in
+    let at : z.groups g ≡ Retired t = ap (λ G. G g) same ∙ with_at-same w.groups g (Retired t) in
+    let off : (h : ℕ) → h ≢ g → z.groups h ≡ w.groups h = λ h ne. ap (λ G. G h) same ∙ with_at-other w.groups g (Retired t) h ne in
+    let apart = absent_other states g (LinkedTo b) items here (linked_limbo b) waits in
+    let limbo = slice_get-set_same states g Limbo (slice_get_within states g (LinkedTo b) here) in
+    record {
+      duty = ap due_after link;
+      awaited = idle.awaited;
+      kept = record {
+        free = λ h free. elim (cases_eq h g) [
+          | inl q ↦ absurd (limbo_not (slice_get (slice_set states g Limbo) g) Free limbo_free limbo (ap (slice_get (slice_set states g Limbo)) (sym q) ∙ free))
+          | inr ne ↦ subst (IsFree c w.passed) (sym (off h ne)) (keeps.kept.free h (sym (slice_get-set_other states g h Limbo ne) ∙ free))
+        ];
+        linked = λ h k to _. elim (cases_eq h g) [
+          | inl q ↦ absurd (limbo_not (slice_get (slice_set states g Limbo) g) (LinkedTo k) (limbo_linked k) limbo (ap (slice_get (slice_set states g Limbo)) (sym q) ∙ to))
+          | inr ne ↦ off h ne ∙ keeps.kept.linked h k (sym (slice_get-set_other states g h Limbo ne) ∙ to) (none_some (filling v w.words.firsts) h none)
+        ];
+        taken = λ h q. absurd cc;
+        rising = rising_last g t items (below_retired w.groups w.token items keeps.kept.retired) keeps.kept.rising;
+        retired = retired_more z.groups w.token g items at (subst (λ G. AreRetired G w.token items) (sym same) (retired_apart w.groups g (Retired t) w.token items apart keeps.kept.retired));
+        all = λ some h u q. elim (cases_eq h g) [
+          | inl k ↦
+              let e : u ≡ t = retired_token t u (sym at ∙ ap z.groups (sym k) ∙ q) in
+              inr (subst (λ y. IsAmong y u (items ++ (g, t) ∷ [])) (sym k) (subst (λ y. IsAmong g y (items ++ (g, t) ∷ [])) (sym e) (among_last g t items)))
+          | inr ne ↦ elim (keeps.kept.all some h u (sym (off h ne) ∙ q)) [
+            | inl le ↦ inl le
+            | inr in_queue ↦ inr (among_front h u g t items in_queue)
+          ]
+        ];
+      };
+      remembers = keeps.remembers;
+      started = below_retired w.groups w.token items keeps.kept.retired;
+    }
+  where
+    limbo_free : Limbo ≡ Free → ⊥
+    limbo_free e = cc
+
+    limbo_linked : (k : ℕ) → Limbo ≡ LinkedTo k → ⊥
+    limbo_linked k e = cc
+
+-- ---- the update that runs, after a store
+
+module _ (c : Setup) (steps : List WriterStep) (u : Plan) (t : Words) (v : Plan) (m : IsMaking c steps u t v) (v' : Plan) (did : Did) where
+  pub making_first : (i x : ℕ) → Steps c.first c.second v (tables c steps).words did v' (with_first (tables c steps).words i x)
+      → StoreMoves c.first c.second v (tables c steps).words (with_first (tables c steps).words i x)
+      → IsTakenBy v' (slice_set (tables c steps).words.firsts i x) (course c steps).taken → IsMaking c (StoreFirst i x ∷ steps) u t v'
+  making_first i x st sm taken = record {
+    come = run_goes_on c.first c.second u t did v v' (tables c steps).words (with_first (tables c steps).words i x) m.come st;
+    updating = m.updating;
+    taken = taken;
+    old = m.old;
+    new = m.new;
+    turned = turned_on c steps u t v m (with_first (tables c steps).words i x) sm;
+  }
+
+  pub making_second : (j x : ℕ) → Steps c.first c.second v (tables c steps).words did v' (with_second (tables c steps).words j x)
+      → StoreMoves c.first c.second v (tables c steps).words (with_second (tables c steps).words j x)
+      → IsTakenBy v' (tables c steps).words.firsts (course c (StoreSecond j x ∷ steps)).taken → IsMaking c (StoreSecond j x ∷ steps) u t v'
+  making_second j x st sm taken = record {
+    come = run_goes_on c.first c.second u t did v v' (tables c steps).words (with_second (tables c steps).words j x) m.come st;
+    updating = m.updating;
+    taken = taken;
+    old = m.old;
+    new = m.new;
+    turned = turned_on c steps u t v m (with_second (tables c steps).words j x) sm;
+  }
+
+-- the group of a store is that which the update has taken, where it is the one that is filled
+pub taken_by_second : (c : Setup) (steps : List WriterStep) (states : List GroupState) (items : List (ℕ × ℕ)) (passed : ℕ) (v v' : Plan)
+    → Keeps c steps states items passed (filling v (tables c steps).words.firsts) → (j x : ℕ) → IsOnward v v' → IsSecondKind c.first c.second v (tables c steps).words j
+    → IsTakenBy v' (tables c steps).words.firsts (course c (StoreSecond j x ∷ steps)).taken
+taken_by_second c steps states items passed v v' keeps j x o kind =
+    let w : Tables = tables c steps in
+    let old = (course c steps).taken in
+    taken_second v v' w.words.firsts (taken_with old (j / 2 ^ c.second) (w.groups (j / 2 ^ c.second))) o (elim kind.kind [
+      | inl h ↦ inl h.3
+      | inr h ↦ inr (
+        kind.group,
+        h.0,
+        ap (λ g. taken_with old g (w.groups g)) kind.place ∙ taken_free c w.passed kind.group old (w.groups kind.group) (keeps.kept.taken kind.group h.0),
+      )
+    ])
+
+-- checks leave the update as it is
+pub making_quiet : (c : Setup) (steps later : List WriterStep) (u : Plan) (t : Words) (v : Plan) → IsQuiet (tables c steps) (tables c later) → (course c later).taken ≡ (course c steps).taken
+    → IsMaking c steps u t v → IsMaking c later u t v
+making_quiet c steps later u t v q same m = record {
+  come = subst (HasCome c.first c.second u t v) (sym q.words) m.come;
+  updating = subst (λ n. n % 2 ≡ 1) (sym q.sequence) m.updating;
+  taken = subst (λ (W : Words). IsTakenBy v W.firsts (course c later).taken) (sym q.words) (subst (IsTakenBy v (tables c steps).words.firsts) (sym same) m.taken);
+  old = λ a low. subst (λ n. IsAnswer c ((tables c later).history (done_at n)) a (answer c t a)) (sym q.sequence) (subst (λ h. IsAnswer c (h (done (tables c steps))) a (answer c t a)) (sym q.history) (m.old a low));
+  new = λ a low. subst (λ n. IsAnswer c ((tables c later).history (begun_at n)) a (answer_after c u t a)) (sym q.sequence) (subst (λ h. IsAnswer c (h (begun (tables c steps))) a (answer_after c u t a)) (sym q.history) (m.new a low));
+  turned = λ a low now. ap (λ W. answer c W a) q.words ∙ m.turned a low (ap (λ f. f a) (sym q.turned) ∙ now);
+}

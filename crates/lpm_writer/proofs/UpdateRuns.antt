@@ -1,0 +1,289 @@
+-- An update that runs over a memory, from store to store.
+use Rattle.std.proofs.Common.{arith, ◌≡◌, ℕ, suc, ◌+◌, ◌-◌, ◌^◌, ◌<◌, refl, sym, ap, subst, ◌∙◌, List, ◌∷◌, Option, None, add-one}
+use Rattle.lpm_entry.specs.declared.Entry.{Entry}
+use Rattle.lpm_entry.specs.declared.Entry.TheVariants.{Miss, Hop, Group}
+use Rattle.lpm_entry.specs.Words.{IsLast, group_in}
+use Rattle.lpm_cells.specs.Table.{Words, with_first, with_second}
+use Rattle.lpm_groups.specs.States.{IsLinkedTo, linked_count}
+use Rattle.lpm_limits.specs.declared.config.Config.{Config}
+use Rattle.lpm_update.specs.declared.Did.{Did}
+use Rattle.lpm_update.specs.declared.Did.TheVariants.{First, Second, Unlinked, Done}
+use Rattle.lpm_update.specs.declared.update.Plan.{Plan}
+use Rattle.lpm_update.specs.Step.{Steps}
+use Rattle.lpm_update.specs.Tied.{IsTied}
+use Rattle.lpm_update.specs.Update.{IsNextFirst, IsNextSecond, IsNextUnlink, IsOver, group_held}
+use Rattle.lpm_update.specs.Linked.{group_at}
+use Rattle.lpm_update.specs.Runs.{HasCome}
+use Rattle.lpm_update.proofs.Groups.{last_none}
+use Rattle.lpm_update.proofs.Runs.{run_goes_on}
+use Rattle.lpm_update.proofs.Next.{next_store, next_first}
+use Rattle.lpm_trace.specs.declared.step.WriterStep.{WriterStep}
+use Rattle.lpm_trace.specs.declared.step.WriterStep.TheVariants.{StoreFirst, StoreSecond}
+use Rattle.lpm_trace.specs.Tables.{Setup, Tables, tables, first_entry}
+use Rattle.lpm_trace.specs.Course.{Nothing, due_after}
+use Rattle.lpm_trace.specs.Writer.{course, MayStep}
+use Rattle.lpm_writer.specs.declared.books.Books.{Books}
+use Rattle.fib_model.specs.Reclaiming.{Unlinks}
+use Rattle.lpm_writer.specs.Waiting.{AreWaiting, tokens_of}
+use Rattle.lpm_writer.specs.Traced.{Traced, IsPlainStore, Retires, by_steps}
+use Rattle.lpm_writer.specs.Kept.{HasUnlinked, IsBumped, IsIdle, Keeps}
+use Rattle.lpm_writer.specs.Making.{filling, HasWidths, IsMaking, MayMake, HasMade, HasUnlinkedSome}
+use Rattle.lpm_writer.proofs.NextStores.{filling_same, first_kind, second_kind, unlink_kind}
+use Rattle.lpm_writer.proofs.Answering.{may_store_first, may_store_second, may_unlink, may_close}
+use Rattle.lpm_writer.proofs.Storing.{none_filling, over_filling, taken_first, unlink_filling, taken_by_second, keeps_first, keeps_second, has_unlinked, making_first, making_second, making_quiet}
+
+due_last : (e : Entry) → IsLast e → due_after e ≡ Nothing
+due_last Miss h = refl
+due_last (Hop hop depth) h = refl
+due_last (Group g) h = absurd h
+
+-- what is said by a table's widths
+pub fit : (P : ℕ → ℕ → Type 0) (f s : ℕ) (c : Setup) → HasWidths f s c → P f s → P c.first c.second
+fit P f s c w p = subst (λ a. P a c.second) (sym w.0) (subst (λ b. P f b) (sym w.1) p)
+
+-- an update that has come to v by these steps
+pub record IsRunning {M : Type 0} (does : M → WriterStep → M → Type 0) (f s : ℕ) (config : Config) (c : Setup) (m : M) (steps : List WriterStep) (old : Books) (u : Plan)
+    (z : M) (later : List WriterStep) (new : Books) (v : Plan) : Type 0 where
+  pub widths : HasWidths f s c
+  pub making : IsMaking c later u (tables c steps).words v
+  pub idle : IsIdle c later
+  pub keeps : Keeps c later new.groups new.queue.items new.passed (filling v (tables c later).words.firsts)
+  pub sequence : (tables c later).sequence ≡ (tables c steps).sequence
+  pub history : (tables c later).history ≡ (tables c steps).history
+  pub unlinked : HasUnlinkedSome does c config (m, steps) old (z, later) new
+
+-- whatever the opening and the steps were, an update that may begin has come to v
+abbrev pub Runs : {M : Type 0} → (M → Setup → List WriterStep → Type 0) → (M → WriterStep → M → Type 0) → ℕ → ℕ → Config → M → Books → Plan → M → Books → Plan → Type 0
+Runs did does f s config first old u z new v = (c : Setup) (steps : List WriterStep) → did first c steps → MayMake f s c steps u old
+    → (later : List WriterStep) × did z c later × IsRunning does f s config c first steps old u z later new v
+
+module _ {M : Type 0} (words : M → Words) (newest count : M → ℕ) (did : M → Setup → List WriterStep → Type 0) (does : M → WriterStep → M → Type 0)
+    (follows : (m : M) (s : WriterStep) (z : M) (c : Setup) (steps : List WriterStep) → does m s z → did m c steps → MayStep c steps s → did z c (s ∷ steps))
+    (shows : (m : M) (c : Setup) (steps : List WriterStep) → did m c steps → (words m ≡ (tables c steps).words) × (newest m ≡ (tables c steps).token) × (count m ≡ c.workers))
+    (f s : ℕ) (config : Config) (first : M) (old : Books) (u : Plan) where
+  pub run_begins : Runs did does f s config first old u first old u
+  run_begins c steps d may = (
+    steps,
+    d,
+    record {
+      widths = may.widths;
+      making = may.making;
+      idle = may.idle;
+      keeps = may.keeps;
+      sequence = refl;
+      history = refl;
+      unlinked = record {
+        last = (first, steps);
+        stores = 0;
+        unlinks = none_unlinked c (first, steps);
+        since = refl;
+      };
+    },
+  )
+    where
+      none_unlinked : (c : Setup) (x : Traced M) → Unlinks (by_steps does c) config (linked_count old.groups - linked_count old.groups) x (tokens_of old.queue.items) x (tokens_of old.queue.items)
+      none_unlinked c x =
+          let e : 0 ≡ linked_count old.groups - linked_count old.groups = omega arith in
+          subst (λ n. Unlinks (by_steps does c) config n x (tokens_of old.queue.items) x (tokens_of old.queue.items)) e (refl, refl)
+
+  module _ (m : M) (new : Books) (v : Plan) (runs : Runs did does f s config first old u m new v) (z : M) (v' : Plan) where
+    module _ (c : Setup) (steps : List WriterStep) (d : did first c steps) (may : MayMake f s c steps u old) where
+      -- the words of the memory are those that the steps leave
+      seen : words m ≡ (tables c (runs c steps d may).0).words
+      seen = let now = runs c steps d may in (shows m c now.0 now.1).0
+
+      next_first_on : (i x : ℕ) → IsNextFirst f s v (words m) i x → IsNextFirst c.first c.second v (tables c (runs c steps d may).0).words i x
+      next_first_on i x n = fit (λ a b. IsNextFirst a b v (tables c (runs c steps d may).0).words i x) f s c may.widths (subst (λ W. IsNextFirst f s v W i x) seen n)
+
+      next_second_on : (j x : ℕ) → IsNextSecond s v (words m) j x → IsNextSecond c.second v (tables c (runs c steps d may).0).words j x
+      next_second_on j x n = fit (λ a b. IsNextSecond b v (tables c (runs c steps d may).0).words j x) f s c may.widths (subst (λ W. IsNextSecond s v W j x) seen n)
+
+      next_unlink_on : (b g x : ℕ) → IsNextUnlink f s v (words m) b g x → IsNextUnlink c.first c.second v (tables c (runs c steps d may).0).words b g x
+      next_unlink_on b g x n = fit (λ a b'. IsNextUnlink a b' v (tables c (runs c steps d may).0).words b g x) f s c may.widths (subst (λ W. IsNextUnlink f s v W b g x) seen n)
+
+      tied_on : IsTied f new.groups (group_held v (words m).firsts) → IsTied c.first new.groups (group_held v (tables c (runs c steps d may).0).words.firsts)
+      tied_on t = subst (λ a. IsTied a new.groups (group_held v (tables c (runs c steps d may).0).words.firsts)) (sym may.widths.0) (subst (λ (W : Words). IsTied f new.groups (group_held v W.firsts)) seen t)
+
+      steps_first : (did_it : Did) (i x : ℕ) → Steps f s v (words m) did_it v' (words z) → words z ≡ with_first (words m) i x
+          → Steps c.first c.second v (tables c (runs c steps d may).0).words did_it v' (with_first (tables c (runs c steps d may).0).words i x)
+      steps_first did_it i x st e = fit (λ a b. Steps a b v (tables c (runs c steps d may).0).words did_it v' (with_first (tables c (runs c steps d may).0).words i x)) f s c may.widths
+          (subst (λ W. Steps f s v W did_it v' (with_first W i x)) seen (subst (λ W. Steps f s v (words m) did_it v' W) e st))
+
+      steps_second : (did_it : Did) (j x : ℕ) → Steps f s v (words m) did_it v' (words z) → words z ≡ with_second (words m) j x
+          → Steps c.first c.second v (tables c (runs c steps d may).0).words did_it v' (with_second (tables c (runs c steps d may).0).words j x)
+      steps_second did_it j x st e = fit (λ a b. Steps a b v (tables c (runs c steps d may).0).words did_it v' (with_second (tables c (runs c steps d may).0).words j x)) f s c may.widths
+          (subst (λ W. Steps f s v W did_it v' (with_second W j x)) seen (subst (λ W. Steps f s v (words m) did_it v' W) e st))
+
+      pub allows_first : (i x : ℕ) → IsNextFirst f s v (words m) i x → MayStep c (runs c steps d may).0 (StoreFirst i x)
+      allows_first i x n =
+          let r = (runs c steps d may).2 in
+          may_store_first c (runs c steps d may).0 u (tables c steps).words v r.making new.groups new.queue.items new.passed r.keeps r.idle i x (next_first_on i x n)
+
+      pub allows_second : IsTied f new.groups (group_held v (words m).firsts) → (j x : ℕ) → IsNextSecond s v (words m) j x → MayStep c (runs c steps d may).0 (StoreSecond j x)
+      allows_second tied j x n =
+          let r = (runs c steps d may).2 in
+          may_store_second c (runs c steps d may).0 u (tables c steps).words v r.making new.groups new.queue.items new.passed r.keeps r.idle (tied_on tied) j x (next_second_on j x n)
+
+      pub allows_unlink : (b g x : ℕ) → IsNextUnlink f s v (words m) b g x → MayStep c (runs c steps d may).0 (StoreFirst b x)
+      allows_unlink b g x n =
+          let r = (runs c steps d may).2 in
+          may_unlink c (runs c steps d may).0 u (tables c steps).words v r.making new.groups new.queue.items new.passed r.keeps r.idle b g x (next_unlink_on b g x n)
+
+    -- one more store, which unlinks no group
+    one_more : (c : Setup) (x : Traced M) (later : List WriterStep) (step : WriterStep) (k : HasUnlinkedSome does c config x old (m, later) new) → IsPlainStore (tables c later) step → does m step z
+        → HasUnlinkedSome does c config x old (z, step ∷ later) new
+    one_more c x later step k plain goes = record {
+      last = k.last;
+      stores = k.stores + 1;
+      unlinks = k.unlinks;
+      since = rw add-one ((m, later), step, k.since, plain, (goes, refl));
+    }
+
+    pub run_first : (i x : ℕ) → Steps f s v (words m) (First i) v' (words z) → IsNextFirst f s v (words m) i x → words z ≡ with_first (words m) i x → does m (StoreFirst i x) z
+        → IsTied f new.groups (group_held v (words m).firsts) → AreWaiting new.groups new.queue.items → Runs did does f s config first old u z new v'
+    run_first i x st n e goes tied waits c steps d may =
+        let now = runs c steps d may in
+        let later = now.0 in
+        let r = now.2 in
+        let w : Tables = tables c later in
+        let n' = next_first_on c steps d may i x n in
+        let st' = steps_first c steps d may (First i) i x st e in
+        let under = r.making.come.under_way in
+        let kind = first_kind c.first c.second v w.words i x under n' in
+        let low = (next_first c.first c.second v w.words i x r.making.come.table under n').0 in
+        let low_block : i < 2 ^ c.first = subst (λ y. i < y) r.making.come.table.words.firsts_len low in
+        let sm = ((next_store c.first c.second v w.words r.making.come.table under).first_word i x n').1 in
+        let none = none_filling c.first c.second v v' w.words i x st'.onward low under n' in (
+          StoreFirst i x ∷ later,
+          follows m (StoreFirst i x) z c later goes now.1 (allows_first c steps d may i x n),
+          record {
+            widths = r.widths;
+            making = making_first c later u (tables c steps).words v r.making v' (First i) i x st' sm (taken_first c.first c.second v v' w.words i x (course c later).taken st'.onward low under n');
+            idle = record { duty = due_last (first_entry w.words i) kind.old; awaited = r.idle.awaited };
+            keeps = subst (Keeps c (StoreFirst i x ∷ later) new.groups new.queue.items new.passed) (sym none)
+                (keeps_first c later new.groups new.queue.items new.passed v r.keeps i x kind c.first (tied_on c steps d may tied) low_block waits);
+            sequence = r.sequence;
+            history = r.history;
+            unlinked = one_more c (first, steps) later (StoreFirst i x) r.unlinked (last_none (first_entry w.words i) kind.old) goes;
+          },
+        )
+
+    pub run_second : (j x : ℕ) → Steps f s v (words m) (Second j) v' (words z) → IsNextSecond s v (words m) j x → words z ≡ with_second (words m) j x → does m (StoreSecond j x) z
+        → IsTied f new.groups (group_held v (words m).firsts) → Runs did does f s config first old u z new v'
+    run_second j x st n e goes tied c steps d may =
+        let now = runs c steps d may in
+        let later = now.0 in
+        let r = now.2 in
+        let w : Tables = tables c later in
+        let n' = next_second_on c steps d may j x n in
+        let st' = steps_second c steps d may (Second j) j x st e in
+        let under = r.making.come.under_way in
+        let kind = second_kind c.first c.second v w.words j x under n' in
+        let sm = ((next_store c.first c.second v w.words r.making.come.table under).second_word j x n').1 in (
+          StoreSecond j x ∷ later,
+          follows m (StoreSecond j x) z c later goes now.1 (allows_second c steps d may tied j x n),
+          record {
+            widths = r.widths;
+            making = making_second c later u (tables c steps).words v r.making v' (Second j) j x st' sm
+                (taken_by_second c later new.groups new.queue.items new.passed v v' r.keeps j x st'.onward kind);
+            idle = record { duty = r.idle.duty; awaited = r.idle.awaited };
+            keeps = keeps_second c later new.groups new.queue.items new.passed v r.keeps j x v' st'.onward;
+            sequence = r.sequence;
+            history = r.history;
+            unlinked = one_more c (first, steps) later (StoreSecond j x) r.unlinked tt goes;
+          },
+        )
+
+    -- ---- a store that unlinks a group, whose token is bumped then
+
+    module _ (b g x : ℕ) (st : Steps f s v (words m) (Unlinked b g) v' (words z)) (n : IsNextUnlink f s v (words m) b g x) (e : words z ≡ with_first (words m) b x) (goes : does m (StoreFirst b x) z)
+        (here : IsLinkedTo new.groups g b) (waits : AreWaiting new.groups new.queue.items) where
+      pub unlinked_on : (c : Setup) (steps : List WriterStep) (d : did first c steps) (may : MayMake f s c steps u old)
+          → did z c (StoreFirst b x ∷ (runs c steps d may).0) × HasUnlinked c (StoreFirst b x ∷ (runs c steps d may).0) new g None
+      unlinked_on c steps d may =
+          let now = runs c steps d may in
+          let r = now.2 in
+          let kind = unlink_kind c.first c.second v (tables c now.0).words b g x r.making.come.table r.making.come.under_way (next_unlink_on c steps d may b g x n) in (
+            follows m (StoreFirst b x) z c now.0 goes now.1 (allows_unlink c steps d may b g x n),
+            has_unlinked c now.0 new v b g x r.keeps r.idle kind.0 kind.1 kind.2 here waits,
+          )
+
+      pub run_unlinked : (y : M) (last : Books) → suc (linked_count old.groups - linked_count new.groups) ≡ linked_count old.groups - linked_count last.groups
+          → ((c : Setup) (steps : List WriterStep) (held : Option ℕ) → did z c steps → HasUnlinked c steps new g held
+          → (later : List WriterStep) × did y c later × IsBumped c steps later × Keeps c later last.groups last.queue.items last.passed held
+          × Retires does c config (z, steps) (tokens_of new.queue.items) (y, later) (tokens_of last.queue.items)) → Runs did does f s config first old u y last v'
+      run_unlinked y last one retires c steps d may =
+          let now = runs c steps d may in
+          let r = now.2 in
+          let w : Tables = tables c now.0 in
+          let n' = next_unlink_on c steps d may b g x n in
+          let under = r.making.come.under_way in
+          let st' = steps_first c steps d may (Unlinked b g) b x st e in
+          let sm = ((next_store c.first c.second v w.words r.making.come.table under).unlink b g x n').1 in
+          let kind = unlink_kind c.first c.second v w.words b g x r.making.come.table under n' in
+          let unlinked = unlinked_on c steps d may in
+          let done = retires c (StoreFirst b x ∷ now.0) None unlinked.0 unlinked.1 in
+          let q = done.2 in
+          let fills = unlink_filling c.first c.second v v' w.words b g x (tables c done.0).words.firsts (course c done.0).taken st'.onward n' in
+          let making = making_first c now.0 u (tables c steps).words v r.making v' (Unlinked b g) b x st' sm
+          (unlink_filling c.first c.second v v' w.words b g x (with_first w.words b x).firsts (course c now.0).taken st'.onward n').1 in
+          let k = r.unlinked in (
+            done.0,
+            done.1,
+            record {
+              widths = r.widths;
+              making = making_quiet c (StoreFirst b x ∷ now.0) done.0 u (tables c steps).words v' q.quiet q.taken making;
+              idle = q.idle;
+              keeps = subst (Keeps c done.0 last.groups last.queue.items last.passed) (sym fills.0) done.3;
+              sequence = q.quiet.sequence ∙ r.sequence;
+              history = q.quiet.history ∙ r.history;
+              unlinked = record {
+                last = (y, done.0);
+                stores = 0;
+                unlinks = subst (λ j. Unlinks (by_steps does c) config j (first, steps) (tokens_of old.queue.items) (y, done.0) (tokens_of last.queue.items)) one (
+                  k.last,
+                  tokens_of new.queue.items,
+                  k.unlinks,
+                  (
+                    (tables c done.4.0.1).token,
+                    done.4.0,
+                    done.4.1,
+                    (k.stores, (m, now.0), (z, StoreFirst b x ∷ now.0), b, x, g, k.since, ap group_in kind.0, (goes, refl), done.4.2, refl),
+                    done.4.3,
+                    done.4.4,
+                  ),
+                );
+                since = refl;
+              };
+            },
+          )
+
+    -- nothing is left to store
+    pub run_ended : Steps f s v (words m) Done v' (words m) → (c : Setup) (steps : List WriterStep) → did first c steps → MayMake f s c steps u old
+        → (later : List WriterStep) × did m c later × HasMade does c config first steps old m later new
+    run_ended st c steps d may =
+        let now = runs c steps d may in
+        let r = now.2 in
+        let w : Tables = tables c now.0 in
+        let st' = fit (λ a b. Steps a b v w.words Done v' w.words) f s c may.widths (subst (λ W. Steps f s v W Done v' W) (seen c steps d may) st) in
+        let come = run_goes_on c.first c.second u (tables c steps).words Done v v' w.words w.words r.making.come st' in
+        let over : IsOver c.first c.second v' = st'.stored.1 in
+        let none = over_filling c.first c.second v' w.words (group_at (tables c steps).words.firsts) come.under_way over come.groups in (
+          now.0,
+          now.1,
+          record {
+            may_close = may_close c now.0 u (tables c steps).words v r.making v' come r.idle over;
+            idle = r.idle;
+            keeps = subst (Keeps c now.0 new.groups new.queue.items new.passed) (sym (filling_same v v' w.words.firsts st'.onward) ∙ none) r.keeps;
+            sequence = r.sequence;
+            history = r.history;
+            unlinked = r.unlinked;
+          },
+        )
+
+    -- the words of the memory, as an update that begins has them
+    pub begun_come : (c : Setup) (steps : List WriterStep) → did first c steps → MayMake f s c steps u old → HasCome f s u (words first) u (words first)
+    begun_come c steps d may =
+        let e = (shows first c steps d).0 in
+        subst (λ W. HasCome f s u W u W) (sym e) (subst (λ a. HasCome a s u (tables c steps).words u (tables c steps).words) may.widths.0
+        (subst (λ b. HasCome c.first b u (tables c steps).words u (tables c steps).words) may.widths.1 may.making.come))

@@ -1,0 +1,111 @@
+-- This layer's own: what a writer keeps of its groups is what its steps say (DPDK Programmer's Guide,
+-- "RCU Library", the defer queue of "LPM Library": a group waits with the token of its own unlinking).
+use Rattle.std.specs.Prelude.{ℕ, ◌≡◌, ◌≢◌, suc, ◌<◌, ◌≤◌, ◌⊎◌, ⊤, true, List, [], ◌∷◌, ◌++◌, slice_set, Option, Some, None}
+use Rattle.lpm_groups.specs.declared.GroupState.{GroupState}
+use Rattle.lpm_groups.specs.declared.GroupState.TheVariants.{Limbo}
+use Rattle.lpm_groups.specs.States.{IsFreeAt, IsLinkedTo}
+use Rattle.lpm_trace.specs.declared.step.WriterStep.{WriterStep}
+use Rattle.lpm_trace.specs.declared.step.WriterStep.TheVariants.{LoadCounter}
+use Rattle.lpm_trace.specs.Tables.{Setup, Tables, Status, Retired, Linked, tables, IsFree, IsUpdating}
+use Rattle.lpm_trace.specs.Course.{Nothing, Bump}
+use Rattle.lpm_trace.specs.Writer.{course, MayStep}
+use Rattle.lpm_writer.specs.declared.books.Books.{Books}
+
+-- each token is greater than t
+abbrev pub AreAfter : ℕ → List (ℕ × ℕ) → Type 0
+AreAfter t [] = ⊤
+AreAfter t (item ∷ items) = (t < item.1) × AreAfter t items
+
+-- each token is greater than those before it
+abbrev pub AreRising : List (ℕ × ℕ) → Type 0
+AreRising [] = ⊤
+AreRising (item ∷ items) = AreAfter item.1 items × AreRising items
+
+-- each group is retired under its item's token, which is at most this one
+abbrev pub AreRetired : (ℕ → Status) → ℕ → List (ℕ × ℕ) → Type 0
+AreRetired status token [] = ⊤
+AreRetired status token (item ∷ items) =
+    (status item.0 ≡ Retired item.1) × (item.1 ≤ token) × AreRetired status token items
+
+-- each token is less than t
+abbrev pub AreBelow : ℕ → List (ℕ × ℕ) → Type 0
+AreBelow t [] = ⊤
+AreBelow t (item ∷ items) = (item.1 < t) × AreBelow t items
+
+-- an item is of this group and this token
+abbrev pub IsAmong : ℕ → ℕ → List (ℕ × ℕ) → Type 0
+IsAmong g t [] = ⊥
+IsAmong g t (item ∷ items) = ((g ≡ item.0) × (t ≡ item.1)) ⊎ IsAmong g t items
+
+-- the states of the groups are what the steps say, and those items wait; `held` is a free group that
+-- is taken for a block, and not linked yet
+pub record AreKept (c : Setup) (w : Tables) (token : ℕ) (states : List GroupState)
+    (items : List (ℕ × ℕ)) (held : Option ℕ) : Type 0 where
+  pub free : (g : ℕ) → IsFreeAt states g → IsFree c w.passed (w.groups g)
+  pub linked : (g b : ℕ) → IsLinkedTo states g b → held ≢ Some g → w.groups g ≡ Linked b
+  pub taken : (g : ℕ) → held ≡ Some g → IsFree c w.passed (w.groups g)
+  pub rising : AreRising items
+  pub retired : AreRetired w.groups token items
+  -- each group that was retired waits, or a check of its token or a later one has passed
+  pub all : 0 < c.workers → (g t : ℕ) → w.groups g ≡ Retired t → (t ≤ w.passed) ⊎ IsAmong g t items
+
+-- nothing is due of the writer, and no synchronize waits
+pub record IsIdle (c : Setup) (steps : List WriterStep) : Type 0 where
+  pub duty : (course c steps).duty ≡ Nothing
+  pub awaited : (course c steps).awaited ≡ None
+
+-- the writer may begin a check: nothing else is due, and in an update it has just retired a group
+pub record MayReclaim (c : Setup) (steps : List WriterStep) (items : List (ℕ × ℕ)) : Type 0 where
+  pub idle : IsIdle c steps
+  pub updating : IsUpdating (tables c steps) → (course c steps).reclaims ≡ true
+  -- the group that was just retired isn't among them
+  pub before : IsUpdating (tables c steps) → AreBelow (tables c steps).token items
+
+-- the workers may be asked for the token, the first of them first
+abbrev pub MayAsk : Setup → List WriterStep → ℕ → Type 0
+MayAsk c steps token = 0 < c.workers → (counter : ℕ) → MayStep c steps (LoadCounter token 0 counter)
+
+-- the writer remembers the greatest token that has passed; without workers each passes
+abbrev pub Remembers : Setup → List WriterStep → ℕ → Type 0
+Remembers c steps passed = 0 < c.workers → passed ≡ (tables c steps).passed
+
+-- nothing but the token, the counts of steps and what is due has changed
+pub record IsQuiet (w z : Tables) : Type 0 where
+  pub words : z.words ≡ w.words
+  pub sequence : z.sequence ≡ w.sequence
+  pub history : z.history ≡ w.history
+  pub turned : z.turned ≡ w.turned
+  pub groups : z.groups ≡ w.groups
+
+-- what the writer keeps is what its steps say, where those items wait
+pub record Keeps (c : Setup) (steps : List WriterStep) (states : List GroupState)
+    (items : List (ℕ × ℕ)) (passed : ℕ) (held : Option ℕ) : Type 0 where
+  pub kept : AreKept c (tables c steps) (tables c steps).token states items held
+  pub remembers : Remembers c steps passed
+
+-- some checks led from one list of steps to the other
+pub record IsStill (c : Setup) (steps later : List WriterStep) : Type 0 where
+  pub quiet : IsQuiet (tables c steps) (tables c later)
+  pub token : (tables c later).token ≡ (tables c steps).token
+  pub taken : (course c later).taken ≡ (course c steps).taken
+  pub idle : IsIdle c later
+
+-- the update has just stored over the first word of this group, whose token is bumped next: from then on
+-- it is retired under that token, behind the groups that wait
+pub record HasUnlinked (c : Setup) (steps : List WriterStep) (books : Books) (group : ℕ)
+    (held : Option ℕ) : Type 0 where
+  pub duty : (course c steps).duty ≡ Bump
+  pub awaited : (course c steps).awaited ≡ None
+  pub kept : AreKept c (tables c steps) (suc (tables c steps).token)
+      (slice_set books.groups group Limbo)
+      (books.queue.items ++ (group, suc (tables c steps).token) ∷ []) held
+  pub remembers : Remembers c steps books.passed
+  -- each group that waited was retired under a token that had been started
+  pub started : AreBelow (suc (tables c steps).token) books.queue.items
+
+-- the token was bumped once, and some checks were made
+pub record IsBumped (c : Setup) (steps later : List WriterStep) : Type 0 where
+  pub quiet : IsQuiet (tables c steps) (tables c later)
+  pub token : (tables c later).token ≡ suc (tables c steps).token
+  pub taken : (course c later).taken ≡ (course c steps).taken
+  pub idle : IsIdle c later

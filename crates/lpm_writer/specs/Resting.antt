@@ -1,0 +1,41 @@
+-- This layer's own: what a writer keeps between its calls (this project's).
+use Rattle.std.specs.Prelude.{ℕ, ◌≡◌, ◌≤◌, ◌^◌, List, length, None}
+use Rattle.lpm_bits.specs.Widths.{IsShape}
+use Rattle.lpm_limits.specs.Limits.{IsConfig}
+use Rattle.lpm_limits.specs.declared.config.Config.{Config}
+use Rattle.lpm_rules.specs.RuleMap.{RuleMap, RuleList}
+use Rattle.lpm_update.specs.Linked.{group_at}
+use Rattle.lpm_update.specs.Represents.{Represents}
+use Rattle.lpm_update.specs.Tied.{IsTied, HasGroupRoom}
+use Rattle.fib_model.specs.State.{State}
+use Rattle.lpm_trace.specs.declared.step.WriterStep.{WriterStep}
+use Rattle.lpm_trace.specs.Tables.{Setup, tables, done}
+use Rattle.lpm_writer.specs.declared.books.Books.{Books}
+use Rattle.lpm_writer.specs.Waiting.{IsQueued, tokens_of}
+use Rattle.lpm_writer.specs.Kept.{Keeps}
+use Rattle.lpm_writer.specs.Making.{HasWidths}
+use Rattle.lpm_writer.specs.Changing.{IsBetween}
+
+-- what outcomes depend on, by what a writer keeps
+abbrev pub state_of : {X : Type 0} → RuleMap → X → Books → ℕ → State X
+state_of R x books begun =
+    record { rules = R; readers = x; limbo = tokens_of books.queue.items; begun = begun }
+
+-- no update runs; the words represent the rules, which are those of the last version; each group has
+-- one state, which the steps say; and all sizes are those of the limits
+pub record IsResting (first second : ℕ) (c : Setup) (steps : List WriterStep) (config : Config)
+    (rules : RuleList) (books : Books) (begun : ℕ) : Type 0 where
+  pub shape : IsShape first second
+  pub widths : HasWidths first second c
+  pub workers : c.workers ≡ config.workers
+  pub between : IsBetween c steps
+  pub version : (tables c steps).history (done (tables c steps)) ≡ rules.rules
+  pub represents : Represents first second rules.rules (tables c steps).words
+  pub tied : IsTied first books.groups (group_at (tables c steps).words.firsts)
+  pub room : HasGroupRoom second (tables c steps).words books.groups
+  pub queued : IsQueued books.groups books.queue
+  pub keeps : Keeps c steps books.groups books.queue.items books.passed None
+  pub limits : IsConfig config
+  pub max : rules.max ≡ config.rules
+  pub states : length books.groups ≡ config.groups
+  pub updates : begun ≤ 2 ^ 61

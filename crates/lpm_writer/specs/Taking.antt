@@ -1,0 +1,59 @@
+-- This layer's own: how a group is taken for a block (DPDK Programmer's Guide, "LPM Library": a free
+-- tbl8 group is taken, and else the defer queue is reclaimed first).
+use Rattle.std.specs.Prelude.{ℕ, ◌≡◌, ◌/◌, ◌^◌, ◌<◌, ◌≤◌, ◌⊎◌, IsSome, List, [], ◌∷◌, slice_get, Option, Some, None, MatchOption, Result, Ok, Err}
+use Rattle.lpm_bits.specs.Network.{Network}
+use Rattle.lpm_groups.specs.States.{free_count}
+use Rattle.lpm_limits.specs.declared.busy.Busy.{Busy}
+use Rattle.lpm_update.specs.Linked.{group_at}
+use Rattle.fib_model.specs.State.{Transitions}
+use Rattle.lpm_trace.specs.declared.step.WriterStep.{WriterStep}
+use Rattle.lpm_trace.specs.Tables.{Setup, tables, IsUpdating}
+use Rattle.lpm_writer.specs.declared.books.Books.{Books}
+use Rattle.lpm_writer.specs.Waiting.{IsTaken, tokens_of}
+use Rattle.lpm_writer.specs.Kept.{IsIdle, Keeps}
+
+-- no update runs, and nothing is due
+pub record MayTake (c : Setup) (steps : List WriterStep) (books : Books) : Type 0 where
+  pub keeps : Keeps c steps books.groups books.queue.items books.passed None
+  pub idle : IsIdle c steps
+  pub rests : ¬ IsUpdating (tables c steps)
+
+-- the group that was taken
+abbrev pub taken_by : Result ℕ (Option Busy) → Option ℕ
+taken_by (Ok group) = Some group
+taken_by (Err oldest) = None
+
+-- a free group is taken; where none is free, the oldest in limbo once its check has passed. No group is
+-- taken where none is free, and none waits or the check of the oldest is stopped by a worker.
+abbrev pub Takes : {X : Type 0} → Transitions X → X → Books → Result ℕ (Option Busy) → X → Books
+    → Type 0
+Takes t x old (Ok group) z new =
+    (0 < free_count old.groups
+    → (tokens_of new.queue.items ≡ tokens_of old.queue.items) × (z ≡ x))
+    × (free_count old.groups ≡ 0 → (u : ℕ)
+    × (tokens_of old.queue.items ≡ u ∷ tokens_of new.queue.items) × t.checks x u (Ok tt) z)
+Takes t x old (Err oldest) z new = (free_count old.groups ≡ 0)
+    × MatchOption oldest ((tokens_of old.queue.items ≡ []) × (z ≡ x))
+    (λ busy. (u : ℕ) × (slice_get (tokens_of old.queue.items) 0 ≡ Some u)
+    × t.checks x u (Err busy) z)
+
+-- the rule is longer than `first` bits, and its block has no group
+abbrev pub NeedsGroup : ℕ → ℕ → List ℕ → Network → Type 0
+NeedsGroup first second firsts p =
+    (first < p.len) × (group_at firsts (p.bits / 2 ^ second) ≡ None)
+
+-- the group that was found
+abbrev pub found_by : Result (Option ℕ) (Option Busy) → Option ℕ
+found_by (Ok group) = group
+found_by (Err oldest) = None
+
+-- a rule that needs no new group finds none, and one that needs one takes it for its block; where none
+-- can be taken the rule needs one
+abbrev pub Finds : {X : Type 0} → Transitions X → ℕ → ℕ → List ℕ → Network → X → Books
+    → Result (Option ℕ) (Option Busy) → X → Books → Type 0
+Finds t first second firsts p x old (Ok None) z new = (new ≡ old) × (z ≡ x)
+    × ((p.len ≤ first) ⊎ IsSome (group_at firsts (p.bits / 2 ^ second)))
+Finds t first second firsts p x old (Ok (Some group)) z new = NeedsGroup first second firsts p
+    × IsTaken old.groups group (p.bits / 2 ^ second) new.groups × Takes t x old (Ok group) z new
+Finds t first second firsts p x old (Err oldest) z new =
+    NeedsGroup first second firsts p × Takes t x old (Err oldest) z new

@@ -1,0 +1,97 @@
+-- This layer's own: a memory together with the writer's steps that led to it, and the parts of a
+-- change as what they lead to (DPDK Programmer's Guide, "RCU Library": a check asks one reader after
+-- another; the order within an update is this project's).
+use Rattle.std.specs.Prelude.{ℕ, zero, suc, ◌≡◌, ◌<◌, ◌≤◌, ◌⊎◌, true, List, [], ◌∷◌, ◌++◌, Some, None, Result, Ok, Err}
+use Rattle.lpm_entry.specs.Words.{group_in}
+use Rattle.lpm_limits.specs.declared.busy.Busy.{Busy}
+use Rattle.lpm_limits.specs.declared.config.Config.{Config}
+use Rattle.lpm_trace.specs.declared.step.RuleChange.{RuleChange}
+use Rattle.lpm_trace.specs.declared.step.WriterStep.{WriterStep}
+use Rattle.lpm_trace.specs.declared.step.WriterStep.TheVariants.{StoreFirst, StoreSecond, Opens, Closes, BumpToken, LoadCounter}
+use Rattle.lpm_trace.specs.Tables.{Setup, Tables, tables, lets_pass, first_entry}
+use Rattle.fib_model.specs.State.{Transitions}
+use Rattle.fib_model.specs.Reclaiming.{MakesRoom}
+
+-- a memory, and the writer's steps that led to it, the newest first
+abbrev pub Traced : Type 0 → Type 0
+Traced M = M × List WriterStep
+
+-- what the writer's steps leave
+abbrev pub tables_of : {M : Type 0} → Setup → Traced M → Tables
+tables_of c x = tables c x.1
+
+-- one more step leads from x to z
+abbrev pub Goes : {M : Type 0} → (M → WriterStep → M → Type 0) → Traced M → WriterStep → Traced M
+    → Type 0
+Goes does x s z = does x.0 s z.0 × (z.1 ≡ s ∷ x.1)
+
+-- the counters of the workers below n were loaded, in a check of the token, and each let it pass
+abbrev pub Loads : {M : Type 0} → (M → WriterStep → M → Type 0) → ℕ → Traced M → ℕ → Traced M
+    → Type 0
+Loads does zero x token z = z ≡ x
+Loads {M} does (suc n) x token z = (y : Traced M) × (counter : ℕ) × Loads does n x token y
+    × (lets_pass token counter ≡ true) × Goes does y (LoadCounter token n counter) z
+
+-- the workers were asked one after another: all let the token pass, or the first that didn't stopped
+-- the check
+abbrev pub Asks : {M : Type 0} → (M → WriterStep → M → Type 0) → ℕ → Traced M → ℕ
+    → Result (Unit {0}) Busy → Traced M → Type 0
+Asks does workers x token (Ok passed) z = Loads does workers x token z
+Asks {M} does workers x token (Err busy) z = (y : Traced M) × Loads does busy.worker x token y
+    × (busy.worker < workers) × (0 < busy.counter) × (busy.counter < token)
+    × Goes does y (LoadCounter token busy.worker busy.counter) z
+
+-- a check of a token: one that isn't above the greatest that has passed passes without a load
+abbrev pub Checks : {M : Type 0} → (M → WriterStep → M → Type 0) → Setup → Traced M → ℕ
+    → Result (Unit {0}) Busy → Traced M → Type 0
+Checks does c x token result z =
+    ((token ≤ (tables_of c x).passed) × (result ≡ Ok tt) × (z ≡ x))
+    ⊎ Asks does c.workers x token result z
+
+-- the step stores a word, and not over a group's first word
+abbrev pub IsPlainStore : Tables → WriterStep → Type 0
+IsPlainStore w (StoreFirst i x) = group_in (first_entry w.words i) ≡ None
+IsPlainStore w (StoreSecond j x) = Unit {0}
+IsPlainStore w other = ⊥
+
+-- n stores one after another, none of which unlinks a group
+abbrev pub Stores : {M : Type 0} → (M → WriterStep → M → Type 0) → Setup → ℕ → Traced M → Traced M
+    → Type 0
+Stores does c zero x z = z ≡ x
+Stores {M} does c (suc n) x z = (y : Traced M) × (s : WriterStep) × Stores does c n x y
+    × IsPlainStore (tables_of c y) s × Goes does y s z
+
+-- after some stores a group's first word is stored over, and a token is started for the group: that is
+-- the name of the unlinking
+abbrev pub StoresOverLink : {M : Type 0} → (M → WriterStep → M → Type 0) → Setup → Traced M → ℕ
+    → Traced M → Type 0
+StoresOverLink {M} does c x name z =
+    (n : ℕ) × (p : Traced M) × (q : Traced M) × (i : ℕ) × (w : ℕ) × (g : ℕ)
+    × Stores does c n x p × (group_in (first_entry (tables_of c p).words i) ≡ Some g)
+    × Goes does p (StoreFirst i w) q × Goes does q BumpToken z
+    × (name ≡ (tables_of c z).token)
+
+-- after some stores the update is done
+abbrev pub StoresAndCloses : {M : Type 0} → (M → WriterStep → M → Type 0) → Setup → Traced M
+    → Traced M → Type 0
+StoresAndCloses {M} does c x z =
+    (n : ℕ) × (y : Traced M) × Stores does c n x y × Goes does y Closes z
+
+-- the parts of a change, by the writer's steps
+abbrev pub by_steps : {M : Type 0} → (M → WriterStep → M → Type 0) → Setup
+    → Transitions (Traced M)
+by_steps does c = record {
+  checks = Checks does c;
+  begins = λ x z. (change : RuleChange) × Goes does x (Opens change) z;
+  unlinks = StoresOverLink does c;
+  ends = StoresAndCloses does c;
+  token = λ x. (tables_of c x).token;
+}
+
+-- a token was started for a group that was just unlinked, room was made in limbo, and the group went
+-- last into it
+abbrev pub Retires : {M : Type 0} → (M → WriterStep → M → Type 0) → Setup → Config → Traced M
+    → List ℕ → Traced M → List ℕ → Type 0
+Retires {M} does c config x limbo z limbo' = (y : Traced M) × (left : List ℕ)
+    × Goes does x BumpToken y × MakesRoom (by_steps does c) config y limbo left z
+    × (limbo' ≡ left ++ (tables_of c y).token ∷ [])

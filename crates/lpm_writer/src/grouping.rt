@@ -1,0 +1,67 @@
+//! The group by which a rule is added.
+
+ghost use Rattle.std.specs.Prelude.{◌≡◌, ℕ, ◌/◌, ◌^◌, ◌<◌, ◌↔◌, List, IfOk, OnErr, IsTrue, IsSome, length};
+ghost use Rattle.lpm_bits.specs.Widths.{IsShape};
+ghost use Rattle.lpm_cells.specs.Table.{IsWords};
+ghost use Rattle.lpm_update.specs.Linked.{group_at};
+ghost use Rattle.lpm_trace.specs.declared.step.WriterStep.{WriterStep};
+ghost use Rattle.lpm_trace.specs.Tables.{Setup};
+ghost use Rattle.lpm_writer.specs.Waiting.{IsQueued, IsTaken};
+ghost use Rattle.lpm_writer.specs.Traced.{by_steps};
+ghost use Rattle.lpm_writer.specs.Kept.{IsStill, Keeps};
+ghost use Rattle.lpm_writer.specs.Taking.{MayTake, Finds, NeedsGroup, found_by};
+
+use super::Books;
+use super::waiting::take;
+use lpm_bits::{Prefix, Shape};
+use lpm_entry::Entry;
+use lpm_memory::Memory;
+use qsbr::Busy;
+
+/// Whether the block has a group.
+fn is_linked<const FIRST: u32, const SECOND: u32, M: Memory>(memory: &mut M, block: usize) -> bool
+    requires shape { IsShape FIRST SECOND }
+    requires block { block < 2 ^ FIRST }
+    requires words { IsWords FIRST SECOND (M.words memory.old) }
+    ensures linked { IsTrue result ↔ IsSome (group_at (M.words memory.old).firsts block) }
+    ensures same { memory.new ≡ memory.old }
+{
+    matches!(Entry::of_word(memory.first(block)), Entry::Group(_))
+}
+
+/// The group by which a rule is added: none where it needs no new one, and else the one that is then
+/// linked to the rule's block. The error is that it needs one and none can be had, and the worker that
+/// holds the oldest group in limbo.
+pub(crate) fn group_for<const FIRST: u32, const SECOND: u32, M: Memory>(
+    prefix: &Prefix<FIRST, SECOND>,
+    memory: &mut M,
+    books: &mut Books,
+) -> Result<Option<u32>, Option<Busy>>
+    requires shape { IsShape FIRST SECOND }
+    requires words { IsWords FIRST SECOND (M.words memory.old) }
+    requires queued { IsQueued books.old.groups books.old.queue }
+    requires rests { (c : Setup) × (steps : List WriterStep) × M.did memory.old c steps
+        × MayTake c steps books.old }
+    ensures finds { (c : Setup) (steps : List WriterStep) → M.did memory.old c steps
+        → MayTake c steps books.old
+        → (later : List WriterStep) × M.did memory.new c later × IsStill c steps later
+        × Keeps c later books.new.groups books.new.queue.items books.new.passed (found_by result)
+        × Finds (by_steps M.does c) FIRST SECOND (M.words memory.old).firsts prefix.now
+        (memory.old, steps) books.old result (memory.new, later) books.new }
+    ensures unchanged { OnErr result ((books.new.groups ≡ books.old.groups)
+        × (books.new.queue ≡ books.old.queue)) }
+    ensures queued { IsQueued books.new.groups books.new.queue }
+{
+    let bits = prefix.bits();
+    if prefix.len() <= FIRST {
+        return Ok(None);
+    }
+    let block = Shape::<FIRST, SECOND>::first_index(bits);
+    if is_linked::<FIRST, SECOND, M>(memory, block) {
+        return Ok(None);
+    }
+    match take(books, memory, block) {
+        Ok(group) => return Ok(Some(group)),
+        Err(oldest) => return Err(oldest),
+    }
+}

@@ -1,0 +1,228 @@
+//! A writer's commands, over any memory.
+
+ghost use Rattle.std.specs.Prelude.{◌≡◌, ℕ, ◌+◌, ◌^◌, ◌<◌, ◌≤◌, ◌↔◌, List, IsTrue};
+ghost use Rattle.lpm_update.specs.Represents.{LastFits};
+ghost use Rattle.fib_model.specs.State.{IsExhausted};
+ghost use Rattle.fib_model.specs.Outcomes.{Adds, Deletes, Flushes, Frees};
+ghost use Rattle.lpm_trace.specs.declared.step.WriterStep.{WriterStep};
+ghost use Rattle.lpm_trace.specs.Tables.{Setup};
+ghost use Rattle.lpm_writer.specs.Traced.{by_steps};
+ghost use Rattle.lpm_writer.specs.Resting.{IsResting, state_of};
+
+use super::Books;
+use super::changing::change;
+use super::grouping::group_for;
+use super::waiting::reclaim as free_waiting;
+use defer_queue::Reclaimed;
+use lpm_bits::{Hop, Prefix, Shape};
+use lpm_memory::Memory;
+use lpm_rules::{Put, RuleFault, Rules};
+use lpm_update::Update;
+use qsbr::{Config, Refusal};
+
+/// The most updates that a writer begins.
+const MOST_UPDATES: u64 = 1 << 61;
+/// The greatest token.
+const LAST_TOKEN: u64 = 1 << 62;
+
+/// What a writer keeps beside the memory: the limits, the rules, the groups, and the number of updates
+/// that it has begun.
+#[derive(Drop)]
+pub struct Ledger<const FIRST: u32, const SECOND: u32> {
+    pub config: Config,
+    pub rules: Rules<FIRST, SECOND>,
+    pub books: Books,
+    pub versions: u64,
+}
+
+/// Whether the tokens or the versions would pass their bound by one more change.
+fn is_exhausted<const FIRST: u32, const SECOND: u32, M: Memory>(
+    ledger: &Ledger<FIRST, SECOND>,
+    memory: &M,
+) -> bool
+    requires rests { (c : Setup) × (steps : List WriterStep) × M.did memory.now c steps
+        × IsResting FIRST SECOND c steps ledger.now.config ledger.now.rules ledger.now.books
+        ledger.now.versions }
+    ensures { (c : Setup) (steps : List WriterStep) → M.did memory.now c steps
+        → IsTrue result ↔ IsExhausted (by_steps M.does c) ledger.now.config
+        (state_of ledger.now.rules.rules (memory.now, steps) ledger.now.books ledger.now.versions) }
+{
+    let groups = ledger.books.groups.len() as u64;
+    memory.token() + groups > LAST_TOKEN || ledger.versions >= MOST_UPDATES
+}
+
+/// Whether a rule that the list has no more was longer than `FIRST` bits, and has left no such rule in
+/// its block.
+fn is_last<const FIRST: u32, const SECOND: u32>(
+    rules: &Rules<FIRST, SECOND>,
+    prefix: &Prefix<FIRST, SECOND>,
+) -> bool
+    ensures { LastFits FIRST SECOND rules.now.rules prefix.now result }
+{
+    let bits = prefix.bits();
+    if prefix.len() <= FIRST {
+        return false;
+    }
+    let block = Shape::<FIRST, SECOND>::first_index(bits);
+    !rules.is_deep(block)
+}
+
+/// Adds a rule, or gives the prefix's rule another next hop. A rule that is there already stays, and is
+/// `Unchanged`, whatever else holds.
+///
+/// The refusals, in the order of the checks: `Exhausted`; `TooManyRules` and `Memory`, where a new rule
+/// has no room; and `NoGroups`, where a rule longer than `FIRST` bits is the first in its block, no group
+/// is free, and the oldest in limbo is held or there is none. It names the worker that holds that one.
+pub fn add<const FIRST: u32, const SECOND: u32, M: Memory>(
+    ledger: &mut Ledger<FIRST, SECOND>,
+    memory: &mut M,
+    prefix: &Prefix<FIRST, SECOND>,
+    hop: Hop,
+) -> Result<Put, Refusal>
+    requires rests { (c : Setup) × (steps : List WriterStep) × M.did memory.old c steps
+        × IsResting FIRST SECOND c steps ledger.old.config ledger.old.rules ledger.old.books
+        ledger.old.versions }
+    ensures adds { (c : Setup) (steps : List WriterStep) → M.did memory.old c steps
+        → IsResting FIRST SECOND c steps ledger.old.config ledger.old.rules ledger.old.books
+        ledger.old.versions
+        → (later : List WriterStep) × M.did memory.new c later
+        × IsResting FIRST SECOND c later ledger.new.config ledger.new.rules ledger.new.books
+        ledger.new.versions
+        × Adds (by_steps M.does c) FIRST SECOND ledger.old.config
+        (state_of ledger.old.rules.rules (memory.old, steps) ledger.old.books ledger.old.versions)
+        prefix.now hop result
+        (state_of ledger.new.rules.rules (memory.new, later) ledger.new.books ledger.new.versions) }
+    ensures config { ledger.new.config ≡ ledger.old.config }
+{
+    let _bits = prefix.bits();
+    let _number = hop.number();
+    if is_exhausted(ledger, memory) {
+        return match ledger.rules.get(prefix) {
+            Some(old) if old == hop => Ok(Put::Unchanged),
+            _ => Err(Refusal::Exhausted),
+        };
+    }
+    let put = match ledger.rules.put(prefix, hop) {
+        Ok(put) => put,
+        Err(RuleFault::TooManyRules) => return Err(Refusal::TooManyRules),
+        Err(RuleFault::Memory) => return Err(Refusal::Memory),
+    };
+    if let Put::Unchanged = put {
+        return Ok(put);
+    }
+    match group_for::<FIRST, SECOND, M>(prefix, memory, &mut ledger.books) {
+        Ok(group) => {
+            let update = Update::add(prefix, hop, group);
+            change::<FIRST, SECOND, M>(update, memory, &mut ledger.books, &ledger.config);
+            ledger.versions += 1;
+            return Ok(put);
+        }
+        Err(oldest) => {
+            let _ = ledger.rules.remove(prefix);
+            return Err(Refusal::NoGroups { oldest });
+        }
+    }
+}
+
+/// Frees groups that wait in limbo, from the oldest on: at most `max`, up to the first that a worker
+/// holds. It returns how many were freed, and the worker that stopped it.
+pub fn reclaim<const FIRST: u32, const SECOND: u32, M: Memory>(
+    ledger: &mut Ledger<FIRST, SECOND>,
+    memory: &mut M,
+    max: usize,
+) -> Reclaimed
+    requires rests { (c : Setup) × (steps : List WriterStep) × M.did memory.old c steps
+        × IsResting FIRST SECOND c steps ledger.old.config ledger.old.rules ledger.old.books
+        ledger.old.versions }
+    ensures frees { (c : Setup) (steps : List WriterStep) → M.did memory.old c steps
+        → IsResting FIRST SECOND c steps ledger.old.config ledger.old.rules ledger.old.books
+        ledger.old.versions
+        → (later : List WriterStep) × M.did memory.new c later
+        × IsResting FIRST SECOND c later ledger.new.config ledger.new.rules ledger.new.books
+        ledger.new.versions
+        × Frees (by_steps M.does c)
+        (state_of ledger.old.rules.rules (memory.old, steps) ledger.old.books ledger.old.versions)
+        max result
+        (state_of ledger.new.rules.rules (memory.new, later) ledger.new.books ledger.new.versions) }
+    ensures config { ledger.new.config ≡ ledger.old.config }
+{
+    free_waiting(&mut ledger.books, memory, max)
+}
+
+/// Deletes the rule of this prefix, and returns its next hop. Its addresses go to the longest rule that
+/// is shorter and covers it, where there is one.
+///
+/// The refusals: `NoSuchRule`, where the prefix has no rule, and else `Exhausted`.
+pub fn delete<const FIRST: u32, const SECOND: u32, M: Memory>(
+    ledger: &mut Ledger<FIRST, SECOND>,
+    memory: &mut M,
+    prefix: &Prefix<FIRST, SECOND>,
+) -> Result<Hop, Refusal>
+    requires rests { (c : Setup) × (steps : List WriterStep) × M.did memory.old c steps
+        × IsResting FIRST SECOND c steps ledger.old.config ledger.old.rules ledger.old.books
+        ledger.old.versions }
+    ensures deletes { (c : Setup) (steps : List WriterStep) → M.did memory.old c steps
+        → IsResting FIRST SECOND c steps ledger.old.config ledger.old.rules ledger.old.books
+        ledger.old.versions
+        → (later : List WriterStep) × M.did memory.new c later
+        × IsResting FIRST SECOND c later ledger.new.config ledger.new.rules ledger.new.books
+        ledger.new.versions
+        × Deletes (by_steps M.does c) FIRST SECOND ledger.old.config
+        (state_of ledger.old.rules.rules (memory.old, steps) ledger.old.books ledger.old.versions)
+        prefix.now result
+        (state_of ledger.new.rules.rules (memory.new, later) ledger.new.books ledger.new.versions) }
+    ensures config { ledger.new.config ≡ ledger.old.config }
+{
+    let _bits = prefix.bits();
+    if is_exhausted(ledger, memory) {
+        return match ledger.rules.get(prefix) {
+            Some(_) => Err(Refusal::Exhausted),
+            None => Err(Refusal::NoSuchRule),
+        };
+    }
+    let cover = ledger.rules.cover(prefix);
+    match ledger.rules.remove(prefix) {
+        Ok(hop) => {
+            let last = is_last(&ledger.rules, prefix);
+            let update = Update::delete(prefix, cover, last);
+            change::<FIRST, SECOND, M>(update, memory, &mut ledger.books, &ledger.config);
+            ledger.versions += 1;
+            return Ok(hop);
+        }
+        Err(_) => return Err(Refusal::NoSuchRule),
+    }
+}
+
+/// Deletes all rules, as one version, and returns how many there were. With none nothing changes, and
+/// else `Exhausted` is the only refusal.
+pub fn flush<const FIRST: u32, const SECOND: u32, M: Memory>(
+    ledger: &mut Ledger<FIRST, SECOND>,
+    memory: &mut M,
+) -> Result<usize, Refusal>
+    requires rests { (c : Setup) × (steps : List WriterStep) × M.did memory.old c steps
+        × IsResting FIRST SECOND c steps ledger.old.config ledger.old.rules ledger.old.books
+        ledger.old.versions }
+    ensures flushes { (c : Setup) (steps : List WriterStep) → M.did memory.old c steps
+        → IsResting FIRST SECOND c steps ledger.old.config ledger.old.rules ledger.old.books
+        ledger.old.versions
+        → (later : List WriterStep) × M.did memory.new c later
+        × IsResting FIRST SECOND c later ledger.new.config ledger.new.rules ledger.new.books
+        ledger.new.versions
+        × Flushes (by_steps M.does c) FIRST SECOND ledger.old.config
+        (state_of ledger.old.rules.rules (memory.old, steps) ledger.old.books ledger.old.versions)
+        result
+        (state_of ledger.new.rules.rules (memory.new, later) ledger.new.books ledger.new.versions) }
+    ensures config { ledger.new.config ≡ ledger.old.config }
+{
+    if ledger.rules.is_empty() {
+        return Ok(0);
+    }
+    if is_exhausted(ledger, memory) {
+        return Err(Refusal::Exhausted);
+    }
+    let count = ledger.rules.clear();
+    let update = Update::flush::<FIRST, SECOND>();
+    change::<FIRST, SECOND, M>(update, memory, &mut ledger.books, &ledger.config);
+    ledger.versions += 1;
+    Ok(count)
+}
