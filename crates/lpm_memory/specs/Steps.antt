@@ -6,5 +6,5 @@ use Rattle.lpm_trace.specs.Writer.{MayStep}
 
 -- from some opening, after some list of the writer's steps that may have led to the memory, the step
 -- may come next
-abbrev pub MayMake : {M : Type 0} → (M → Setup → List WriterStep → Type 0) → M → WriterStep → Type 0
-MayMake did m s = (c : Setup) × (steps : List WriterStep) × did m c steps × MayStep c steps s
+abbrev pub MayBeNext : {M : Type 0} → (M → Setup → List WriterStep → Type 0) → M → WriterStep → Type 0
+MayBeNext did m s = (c : Setup) × (steps : List WriterStep) × did m c steps × MayStep c steps s

@@ -11,8 +11,8 @@ ghost use Rattle.lpm_trace.specs.declared.step.RuleChange.{RuleChange};
 ghost use Rattle.lpm_trace.specs.declared.step.WriterStep.{WriterStep};
 ghost use Rattle.lpm_trace.specs.declared.step.WriterStep.TheVariants.{StoreFirst, StoreSecond, Opens, Closes, BumpToken, LoadCounter};
 ghost use Rattle.lpm_trace.specs.Tables.{Setup, tables};
-ghost use Rattle.lpm_trace.specs.Writer.{MayStep};
-ghost use Rattle.lpm_memory.specs.Steps.{MayMake};
+ghost use Rattle.lpm_trace.specs.Writer.{IsWritten, MayStep};
+ghost use Rattle.lpm_memory.specs.Steps.{MayBeNext};
 
 use lpm_cells::Cells;
 pub use plain::PlainMemory;
@@ -44,25 +44,25 @@ pub trait Memory: Cells {
 
     /// An update begins. The memory is the same whatever change of the rules it makes.
     fn open(&mut self)
-        requires may { (change : RuleChange) × MayMake did self.old (Opens change) }
+        requires may { (change : RuleChange) × MayBeNext did self.old (Opens change) }
         ensures does { (change : RuleChange) → does self.old (Opens change) self.new };
 
     /// The update is done.
     fn close(&mut self)
-        requires may { MayMake did self.old Closes }
+        requires may { MayBeNext did self.old Closes }
         ensures does { does self.old Closes self.new };
 
     /// Starts a token, which no worker has loaded yet, and returns it.
     fn start(&mut self) -> u64
         requires low { newest self.old < 2 ^ 62 }
-        requires may { MayMake did self.old BumpToken }
+        requires may { MayBeNext did self.old BumpToken }
         ensures value { result ≡ newest self.old + 1 }
         ensures does { does self.old BumpToken self.new };
 
     /// Loads the counter of a worker, in a check of the token.
     fn load_counter(&mut self, checked: u64, worker: usize) -> u64
         requires worker { worker < worker_count self.old }
-        requires may { (counter : ℕ) → MayMake did self.old (LoadCounter checked worker counter) }
+        requires may { (counter : ℕ) → MayBeNext did self.old (LoadCounter checked worker counter) }
         ensures does { does self.old (LoadCounter checked worker result) self.new };
 
     ghost follows: { (m : Self) (s : WriterStep) (z : Self) (c : Setup) (steps : List WriterStep)
@@ -72,10 +72,13 @@ pub trait Memory: Cells {
         → (Self.words m ≡ (tables c steps).words) × (newest m ≡ (tables c steps).token)
         × (worker_count m ≡ c.workers) };
 
-    ghost may_first: { (m : Self) (i w : ℕ) → MayMake did m (StoreFirst i w)
+    ghost written: { (m : Self) (c : Setup) (steps : List WriterStep) → did m c steps
+        → IsWritten c steps };
+
+    ghost may_first: { (m : Self) (i w : ℕ) → MayBeNext did m (StoreFirst i w)
         → Self.may_set_first m i w };
 
-    ghost may_second: { (m : Self) (i w : ℕ) → MayMake did m (StoreSecond i w)
+    ghost may_second: { (m : Self) (i w : ℕ) → MayBeNext did m (StoreSecond i w)
         → Self.may_set_second m i w };
 
     ghost first_stored: { (m : Self) (i w : ℕ) (z : Self) → Self.sets_first m i w z

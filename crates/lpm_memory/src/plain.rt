@@ -1,10 +1,14 @@
 //! The memory of one thread.
 
-ghost use Rattle.std.specs.Prelude.{◌≡◌};
+ghost use Rattle.std.specs.Prelude.{◌≡◌, ◌*◌, ◌^◌, ◌≤◌, IfOk, replicate};
+ghost use Rattle.lpm_bits.specs.Widths.{IsShape};
+ghost use Rattle.lpm_entry.specs.declared.Entry.TheVariants.{Miss};
+ghost use Rattle.lpm_entry.specs.Words.{word_of};
 
 use super::Memory;
 use lpm_cells::{Cells, PlainCells};
 use qsbr::Domain;
+use std::alloc::{AllocError, Global};
 
 /// Plain words, and the workers' counters as one thread keeps them. No sequence is kept, since no
 /// lookup runs beside a change.
@@ -12,6 +16,32 @@ use qsbr::Domain;
 pub struct PlainMemory<const FIRST: u32, const SECOND: u32> {
     pub cells: PlainCells<FIRST, SECOND>,
     pub domain: Domain,
+}
+
+impl<const FIRST: u32, const SECOND: u32> PlainMemory<FIRST, SECOND> {
+    /// Words that are all misses, with room for `groups` groups, and the token, with all workers
+    /// offline; the error only where memory is short.
+    pub fn new(
+        alloc: Global,
+        groups: usize,
+        workers: usize,
+        first_token: u64,
+    ) -> Result<Self, AllocError>
+        requires shape { IsShape FIRST SECOND }
+        requires groups { groups ≤ 65536 }
+        requires low { 1 ≤ first_token }
+        requires high { first_token ≤ 2 ^ 62 }
+        ensures firsts { IfOk result
+            (λ m. m.cells.firsts ≡ replicate (2 ^ FIRST) (word_of Miss)) }
+        ensures seconds { IfOk result
+            (λ m. m.cells.seconds ≡ replicate (groups * 2 ^ SECOND) (word_of Miss)) }
+        ensures token { IfOk result (λ m. m.domain.token ≡ first_token) }
+        ensures counters { IfOk result (λ m. m.domain.counters ≡ replicate workers 0) }
+    {
+        let cells = PlainCells::new(alloc, groups)?;
+        let domain = Domain::new(alloc, workers, first_token)?;
+        Ok(PlainMemory { cells, domain })
+    }
 }
 
 impl<const FIRST: u32, const SECOND: u32> Cells for PlainMemory<FIRST, SECOND> {
@@ -67,6 +97,8 @@ impl<const FIRST: u32, const SECOND: u32> Memory for PlainMemory<FIRST, SECOND> 
         plain_follows FIRST SECOND m.cells m.domain z.cells z.domain c s steps does did may };
 
     ghost shows = { λ m c steps did. plain_shows FIRST SECOND m.cells m.domain c steps did };
+
+    ghost written = { λ m c steps did. did.written };
 
     ghost may_first = { λ m i w may. plain_first FIRST SECOND m.cells m.domain i w may };
 
