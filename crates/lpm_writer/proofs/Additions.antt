@@ -109,7 +109,7 @@ module _ (f s : ℕ) (c : Setup) (steps : List WriterStep) (config : Config) (ru
       (λ k. found.2.1 (let none = k.none_free in omega (arith, all_groups, length-map books.queue.items (λ item. item.1), none))),
       (λ enough. elim (cases_eq (free_count books.groups) 0) [
         | inl empty ↦ absurd (enough (lacks found.0 empty))
-        | inr some ↦ found.2.0 (omega (arith, some))
+        | inr some ↦ let k = found.2.0 (omega (arith, some)) in (k.1, k.2)
       ]),
     )
 
@@ -188,10 +188,10 @@ module _ (f s : ℕ) (c : Setup) (steps : List WriterStep) (config : Config) (ru
         → put ≢ Unchanged → (Ok' put ≡ Ok' Replaced → IsSomeAnd (get rules.rules p) (λ old. old ≢ h)) → (Ok' put ≡ Ok' Added → (get rules.rules p ≡ None) × (len rules.rules < rules.max))
         → HasTokens t config (state_of rules.rules x books begun) → Adds t f s config (state_of rules.rules x books begun) p h (Ok put) (state_of rules'.rules z new (begun + 1))
     found_adds h put group y z mid new rules' found changes linked made other replaced added left =
-        let none = none_unlinked (linked_count mid.groups - linked_count new.groups) changes.first changes.last (tokens_of mid.queue.items) (tokens_of new.queue.items)
+        let none = none_unlinked (linked_count mid.groups - linked_count new.groups) changes.opened changes.last (tokens_of mid.queue.items) (tokens_of new.queue.items)
         (omega (arith, linked ∙ ap (groups_in_use f s) made, found_linked h group y mid found)) changes.unlinks in
         let takes = takes_group group y mid found in
-        by_put put other replaced added takes (changes.first, changes.begins, subst (λ l. t.ends l z) none.0 changes.ends) none.1
+        by_put put other replaced added takes (changes.opened, changes.begins, subst (λ l. t.ends l z) none.0 changes.ends) none.1
       where
         S : State X
         S = state_of rules.rules x books begun

@@ -134,11 +134,10 @@ module _ {M : Type 0} (does : M → WriterStep → M → Type 0) (c : Setup) whe
     idle = λ i. i;
     like = record { reclaims = refl; taken = refl };
   })
-  check_passes x t z (inr h) = all_passed c.workers x t z refl h
+  check_passes x t z (inr h) = all_passed c.workers x t z refl h.1
 
-  pub check_stops : (x : Traced M) (t : ℕ) (busy : Busy) (z : Traced M) → Checks does c x t (Err busy) z → HasStopped c x.1 z.1
-  check_stops x t busy z (inl h) = absurd (ok_err busy (Err busy) refl h.1)
-  check_stops x t busy z (inr h) =
+  stopped : (x : Traced M) (t : ℕ) (busy : Busy) (z : Traced M) → Asks does c.workers x t (Err busy) z → HasStopped c x.1 z.1
+  stopped x t busy z h =
       let y = h.0 in
       let before = loaded does c busy.worker x t y h.2 h.1 in
       let stop = stops_by t busy.counter h.3 h.4 in
@@ -154,6 +153,10 @@ module _ {M : Type 0} (does : M → WriterStep → M → Type 0) (c : Setup) whe
         idle = λ i. record { duty = ap (λ (k : Course). k.duty) (over i); awaited = ap (λ (k : Course). k.awaited) (over i) ∙ before.awaited ∙ i.awaited };
         taken = λ i. ap (λ (k : Course). k.taken) (over i) ∙ before.like.taken;
       }
+
+  pub check_stops : (x : Traced M) (t : ℕ) (busy : Busy) (z : Traced M) → Checks does c x t (Err busy) z → HasStopped c x.1 z.1
+  check_stops x t busy z (inl h) = absurd (ok_err busy (Err busy) refl h.1)
+  check_stops x t busy z (inr h) = stopped x t busy z h.1
 
   -- all workers let a token pass that is above the greatest that had passed: it is the greatest then
   pub asked_all : (x : Traced M) (t : ℕ) (z : Traced M) → (tables c x.1).passed ≤ t → Loads does c.workers x t z → 0 < c.workers → t ≡ (tables c z.1).passed
@@ -174,4 +177,4 @@ module _ {M : Type 0} (does : M → WriterStep → M → Type 0) (c : Setup) whe
 
   pub asked_err : (x : Traced M) (t : ℕ) (r : Result (Unit {0}) Busy) (z : Traced M) → ¬ IsOk r → Asks does c.workers x t r z → (tables c z.1).passed ≡ (tables c x.1).passed
   asked_err x t (Ok u) z err h = absurd (err refl)
-  asked_err x t (Err busy) z err h = (check_stops x t busy z (inr h)).passed
+  asked_err x t (Err busy) z err h = (stopped x t busy z h).passed

@@ -13,3 +13,4 @@ pub mod TakesOne
 pub mod WholeUpdates
 pub mod Rests
 pub mod Additions
+pub mod Opened

@@ -9,7 +9,7 @@ use Rattle.lpm_trace.specs.declared.step.WriterStep.{WriterStep}
 use Rattle.lpm_trace.specs.Tables.{Setup, tables}
 use Rattle.fib_model.specs.Reclaiming.{Passes, Reclaims}
 use Rattle.lpm_writer.specs.Waiting.{tokens_of}
-use Rattle.lpm_writer.specs.Traced.{Checks, by_steps}
+use Rattle.lpm_writer.specs.Traced.{Checks, by_writer}
 use Rattle.lpm_writer.specs.Kept.{MayAsk, Remembers, Keeps, MayReclaim, IsStill}
 use Rattle.lpm_writer.proofs.Checks.{quiet_same, quiet_on, check_passes, check_stops}
 use Rattle.lpm_writer.proofs.Keeping.{may_ask, keeps_freed, keeps_stopped, reclaims_on}
@@ -30,7 +30,7 @@ module _ {M : Type 0} (did : M → Setup → List WriterStep → Type 0) (does :
     HasFreed n m states items passed = (c : Setup) (steps : List WriterStep) (tail : List (ℕ × ℕ)) (held : Option ℕ) → did first c steps
         → Keeps c steps states0 (items0 ++ tail) passed0 held → MayReclaim c steps items0
         → (later : List WriterStep) × did m c later × IsStill c steps later × Keeps c later states (items ++ tail) passed held
-        × MayReclaim c later items × Passes (by_steps does c) n (tokens_of items0) (first, steps) (m, later)
+        × MayReclaim c later items × Passes (by_writer does c) n (tokens_of items0) (first, steps) (m, later)
 
     pub none_freed : HasFreed 0 first states0 items0 passed0
     none_freed c steps tail held d k may = (steps, d, still_same c steps items0 may, k, may, refl)
@@ -61,14 +61,14 @@ module _ {M : Type 0} (did : M → Setup → List WriterStep → Type 0) (does :
               },
               keeps_freed c now.0 later.0 states g t (rest ++ tail) passed passed' held (subst (λ xs. Keeps c now.0 states (xs ++ tail) passed held) front now.3) pass later.3 limbo,
               may_now,
-              passes_more (by_steps does c) n (tokens_of items0) (first, steps) (m, now.0) (z, later.0) t now.5 (item_at n items0 g t rest (sym left ∙ front)) checks,
+              passes_more (by_writer does c) n (tokens_of items0) (first, steps) (m, now.0) (z, later.0) t now.5 (item_at n items0 g t rest (sym left ∙ front)) checks,
             )
 
         pub one_held : (busy : Busy) → result ≡ Err busy → (max : ℕ) → n < max → n ≤ length items0 → items ≡ drop n items0
             → (c : Setup) (steps : List WriterStep) (tail : List (ℕ × ℕ)) (held : Option ℕ) → did first c steps
             → Keeps c steps states0 (items0 ++ tail) passed0 held → MayReclaim c steps items0
             → (later : List WriterStep) × did z c later × IsStill c steps later × Keeps c later states (items ++ tail) passed' held
-            × Reclaims (by_steps does c) (first, steps) max (tokens_of items0) n (Some busy) (tokens_of items) (z, later)
+            × Reclaims (by_writer does c) (first, steps) max (tokens_of items0) n (Some busy) (tokens_of items) (z, later)
         one_held busy err max more within left c steps tail held d k may =
             let now = freed c steps tail held d k may in
             let later = answers c now.0 now.1 now.3.remembers (may_check c steps tail held d k may) in
@@ -84,14 +84,14 @@ module _ {M : Type 0} (did : M → Setup → List WriterStep → Type 0) (does :
                 idle = stop.idle now.4.idle;
               },
               record { kept = kept.kept; remembers = later.3 },
-              reclaims_some (by_steps does c) (first, steps) (m, now.0) (z, later.0) max n items0 items g t rest busy more within now.5 left front checks,
+              reclaims_some (by_writer does c) (first, steps) (m, now.0) (z, later.0) max n items0 items g t rest busy more within now.5 left front checks,
             )
 
     pub all_freed : (n max : ℕ) (m : M) (states : List GroupState) (items : List (ℕ × ℕ)) (passed : ℕ) → HasFreed n m states items passed → n ≤ max → n ≤ length items0
         → items ≡ drop n items0 → (n ≡ max) ⊎ (items ≡ []) → (c : Setup) (steps : List WriterStep) (tail : List (ℕ × ℕ)) (held : Option ℕ) → did first c steps
         → Keeps c steps states0 (items0 ++ tail) passed0 held → MayReclaim c steps items0
         → (later : List WriterStep) × did m c later × IsStill c steps later × Keeps c later states (items ++ tail) passed held
-        × Reclaims (by_steps does c) (first, steps) max (tokens_of items0) n None (tokens_of items) (m, later)
+        × Reclaims (by_writer does c) (first, steps) max (tokens_of items0) n None (tokens_of items) (m, later)
     all_freed n max m states items passed freed most within left end c steps tail held d k may =
         let now = freed c steps tail held d k may in
-        (now.0, now.1, now.2, now.3, reclaims_all (by_steps does c) (first, steps) (m, now.0) max n items0 items most within now.5 left end)
+        (now.0, now.1, now.2, now.3, reclaims_all (by_writer does c) (first, steps) (m, now.0) max n items0 items most within now.5 left end)

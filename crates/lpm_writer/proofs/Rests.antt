@@ -22,7 +22,7 @@ use Rattle.lpm_trace.specs.declared.step.WriterStep.{WriterStep}
 use Rattle.lpm_trace.specs.Tables.{Setup, Tables, tables, answer, IsAnswer, IsChange, done, done_at, rules_by}
 use Rattle.lpm_writer.specs.declared.books.Books.{Books}
 use Rattle.lpm_writer.specs.Waiting.{IsFreed, IsQueued, tokens_of}
-use Rattle.lpm_writer.specs.Traced.{by_steps}
+use Rattle.lpm_writer.specs.Traced.{by_writer}
 use Rattle.lpm_writer.specs.Kept.{IsStill, Keeps}
 use Rattle.lpm_writer.specs.Taking.{MayTake}
 use Rattle.lpm_writer.specs.Making.{filling, unless_linked, HasWidths, IsTakenBy, answer_after}
@@ -82,11 +82,11 @@ module _ (f s : ℕ) (c : Setup) (steps : List WriterStep) (config : Config) (ru
   module _ {M : Type 0} (does : M → WriterStep → M → Type 0) (m z : M) (mid later : List WriterStep) (change : RuleChange) (now new : Books) (rules' : RuleList)
       (made : HasChanged does c config change m mid now z later new) where
     -- what is kept after the update
-    pub rests_after : (tables c mid).history (done (tables c mid)) ≡ rules.rules → Represents f s rules'.rules (tables c later).words → IsTied f new.groups (group_at (tables c later).words.firsts)
+    pub rests_after : (tables c mid).history (done (tables c mid)) ≡ rules.rules → begun ≡ done (tables c mid) → Represents f s rules'.rules (tables c later).words → IsTied f new.groups (group_at (tables c later).words.firsts)
         → length (tables c later).words.seconds ≡ length (tables c steps).words.seconds
         → IsQueued new.groups new.queue → length new.groups ≡ length books.groups → rules_by rules.rules change ≡ rules'.rules → rules'.max ≡ rules.max → begun < 2 ^ 61
         → IsResting f s c later config rules' new (begun + 1)
-    rests_after version represents tied sizes queued states makes max few = record {
+    rests_after version number represents tied sizes queued states makes max few = record {
       shape = rest.shape;
       widths = rest.widths;
       workers = rest.workers;
@@ -103,6 +103,7 @@ module _ (f s : ℕ) (c : Setup) (steps : List WriterStep) (config : Config) (ru
       limits = rest.limits;
       max = max ∙ rest.max;
       states = states ∙ rest.states;
+      versions = let next = made.next in omega (arith, next, number);
       updates = omega (arith, few);
     }
 
@@ -146,7 +147,7 @@ module _ {M : Type 0} (words : M → Words) (newest count : M → ℕ) (did : M 
       let old = (shows m c steps did_m).0 in
       let now_seen = (shows z c later did_z).0 in
       let end = represents rules.rules rules'.rules (subst (Represents f s rules.rules) (sym old) rest.represents) turns in
-      rests_after f s c steps config rules books begun rest does m z steps later change now new rules' made rest.version
+      rests_after f s c steps config rules books begun rest does m z steps later change now new rules' made rest.version rest.versions
       (subst (Represents f s rules'.rules) now_seen end.0)
       (subst (λ (W : Words). IsTied f new.groups (group_at W.firsts)) now_seen end.1)
       (ap (λ (W : Words). length W.seconds) (sym now_seen) ∙ sizes ∙ ap (λ (W : Words). length W.seconds) old)
@@ -154,13 +155,13 @@ module _ {M : Type 0} (words : M → Words) (newest count : M → ℕ) (did : M 
 
   -- a change to fewer rules that was made
   pub shrinks_then : (z : M) (later : List WriterStep) (change : RuleChange) (new : Books) (rules' : RuleList) (R : RuleMap) → HasChanged does c config change m steps books z later new
-      → IsResting f s c later config rules' new (begun + 1) → rules'.rules ≡ R → HasTokens (by_steps does c) config (state_of rules.rules (m, steps) books begun)
-      → Shrinks (by_steps does c) f s config (state_of rules.rules (m, steps) books begun) R (state_of rules'.rules (z, later) new (begun + 1))
+      → IsResting f s c later config rules' new (begun + 1) → rules'.rules ≡ R → HasTokens (by_writer does c) config (state_of rules.rules (m, steps) books begun)
+      → Shrinks (by_writer does c) f s config (state_of rules.rules (m, steps) books begun) R (state_of rules'.rules (z, later) new (begun + 1))
   shrinks_then z later change new rules' R made after gone tokens =
       let k = made.changes in
       let same : linked_count books.groups - linked_count new.groups ≡ groups_in_use f s rules.rules - groups_in_use f s R =
       omega (arith, linked_resting f s c steps config rules books begun rest, linked_resting f s c later config rules' new (begun + 1) after, ap (groups_in_use f s) gone) in
-      (tokens, (k.first, k.last, k.begins, subst (λ n. Unlinks (by_steps does c) config n k.first (tokens_of books.queue.items) k.last (tokens_of new.queue.items)) same k.unlinks, k.ends), (gone, refl))
+      (tokens, (k.opened, k.last, k.begins, subst (λ n. Unlinks (by_writer does c) config n k.opened (tokens_of books.queue.items) k.last (tokens_of new.queue.items)) same k.unlinks, k.ends), (gone, refl))
 
 -- ---- after checks alone
 
@@ -203,6 +204,7 @@ rests_still f s c steps later config rules books new begun rest still keeps tied
       limits = rest.limits;
       max = rest.max;
       states = states ∙ rest.states;
+      versions = rest.versions ∙ sym (ap done_at q.sequence);
       updates = rest.updates;
     }
 

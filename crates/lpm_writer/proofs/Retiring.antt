@@ -9,7 +9,7 @@ use Rattle.lpm_trace.specs.Course.{Course, Nothing, bumped, IsBumped as MayBump}
 use Rattle.lpm_trace.specs.Writer.{course, MayStep}
 use Rattle.lpm_writer.specs.declared.books.Books.{Books}
 use Rattle.lpm_writer.specs.Waiting.{tokens_of}
-use Rattle.lpm_writer.specs.Kept.{HasUnlinked, IsBumped, IsStill, Keeps, MayReclaim}
+use Rattle.lpm_writer.specs.Kept.{HasUnlinked, HasRetired, IsStill, Keeps, MayReclaim}
 use Rattle.lpm_writer.proofs.Checks.{quiet_on}
 
 pub tokens_append : (xs : List (ℕ × ℕ)) (g t : ℕ) → tokens_of (xs ++ (g, t) ∷ []) ≡ tokens_of xs ++ t ∷ []
@@ -41,7 +41,7 @@ may_make_room c steps books g held h =
     }
 
 pub bumped_on : (c : Setup) (steps later : List WriterStep) (books : Books) (g : ℕ) (held : Option ℕ) → HasUnlinked c steps books g held
-    → IsStill c (BumpToken ∷ steps) later → IsBumped c steps later
+    → IsStill c (BumpToken ∷ steps) later → HasRetired c steps later
 bumped_on c steps later books g held h still = record {
   quiet = quiet_on (tables c steps) (tables c (BumpToken ∷ steps)) (tables c later) (record { words = refl; sequence = refl; history = refl; turned = refl; groups = refl }) still.quiet;
   token = still.token;

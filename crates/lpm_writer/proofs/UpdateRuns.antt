@@ -25,8 +25,8 @@ use Rattle.lpm_trace.specs.Writer.{course, MayStep}
 use Rattle.lpm_writer.specs.declared.books.Books.{Books}
 use Rattle.fib_model.specs.Reclaiming.{Unlinks}
 use Rattle.lpm_writer.specs.Waiting.{AreWaiting, tokens_of}
-use Rattle.lpm_writer.specs.Traced.{Traced, IsPlainStore, Retires, by_steps}
-use Rattle.lpm_writer.specs.Kept.{HasUnlinked, IsBumped, IsIdle, Keeps}
+use Rattle.lpm_writer.specs.Traced.{Traced, UnlinksNone, Retires, by_writer}
+use Rattle.lpm_writer.specs.Kept.{HasUnlinked, HasRetired, IsIdle, Keeps}
 use Rattle.lpm_writer.specs.Making.{filling, HasWidths, IsMaking, MayMake, HasMade, HasUnlinkedSome}
 use Rattle.lpm_writer.proofs.NextStores.{filling_same, first_kind, second_kind, unlink_kind}
 use Rattle.lpm_writer.proofs.Answering.{may_store_first, may_store_second, may_unlink, may_close}
@@ -81,10 +81,10 @@ module _ {M : Type 0} (words : M → Words) (newest count : M → ℕ) (did : M 
     },
   )
     where
-      none_unlinked : (c : Setup) (x : Traced M) → Unlinks (by_steps does c) config (linked_count old.groups - linked_count old.groups) x (tokens_of old.queue.items) x (tokens_of old.queue.items)
+      none_unlinked : (c : Setup) (x : Traced M) → Unlinks (by_writer does c) config (linked_count old.groups - linked_count old.groups) x (tokens_of old.queue.items) x (tokens_of old.queue.items)
       none_unlinked c x =
           let e : 0 ≡ linked_count old.groups - linked_count old.groups = omega arith in
-          subst (λ n. Unlinks (by_steps does c) config n x (tokens_of old.queue.items) x (tokens_of old.queue.items)) e (refl, refl)
+          subst (λ n. Unlinks (by_writer does c) config n x (tokens_of old.queue.items) x (tokens_of old.queue.items)) e (refl, refl)
 
   module _ (m : M) (new : Books) (v : Plan) (runs : Runs did does f s config first old u m new v) (z : M) (v' : Plan) where
     module _ (c : Setup) (steps : List WriterStep) (d : did first c steps) (may : MayMake f s c steps u old) where
@@ -130,7 +130,7 @@ module _ {M : Type 0} (words : M → Words) (newest count : M → ℕ) (did : M 
           may_unlink c (runs c steps d may).0 u (tables c steps).words v r.making new.groups new.queue.items new.passed r.keeps r.idle b g x (next_unlink_on b g x n)
 
     -- one more store, which unlinks no group
-    one_more : (c : Setup) (x : Traced M) (later : List WriterStep) (step : WriterStep) (k : HasUnlinkedSome does c config x old (m, later) new) → IsPlainStore (tables c later) step → does m step z
+    one_more : (c : Setup) (x : Traced M) (later : List WriterStep) (step : WriterStep) (k : HasUnlinkedSome does c config x old (m, later) new) → UnlinksNone (tables c later) step → does m step z
         → HasUnlinkedSome does c config x old (z, step ∷ later) new
     one_more c x later step k plain goes = record {
       last = k.last;
@@ -210,7 +210,7 @@ module _ {M : Type 0} (words : M → Words) (newest count : M → ℕ) (did : M 
 
       pub run_unlinked : (y : M) (last : Books) → suc (linked_count old.groups - linked_count new.groups) ≡ linked_count old.groups - linked_count last.groups
           → ((c : Setup) (steps : List WriterStep) (held : Option ℕ) → did z c steps → HasUnlinked c steps new g held
-          → (later : List WriterStep) × did y c later × IsBumped c steps later × Keeps c later last.groups last.queue.items last.passed held
+          → (later : List WriterStep) × did y c later × HasRetired c steps later × Keeps c later last.groups last.queue.items last.passed held
           × Retires does c config (z, steps) (tokens_of new.queue.items) (y, later) (tokens_of last.queue.items)) → Runs did does f s config first old u y last v'
       run_unlinked y last one retires c steps d may =
           let now = runs c steps d may in
@@ -240,7 +240,7 @@ module _ {M : Type 0} (words : M → Words) (newest count : M → ℕ) (did : M 
               unlinked = record {
                 last = (y, done.0);
                 stores = 0;
-                unlinks = subst (λ j. Unlinks (by_steps does c) config j (first, steps) (tokens_of old.queue.items) (y, done.0) (tokens_of last.queue.items)) one (
+                unlinks = subst (λ j. Unlinks (by_writer does c) config j (first, steps) (tokens_of old.queue.items) (y, done.0) (tokens_of last.queue.items)) one (
                   k.last,
                   tokens_of new.queue.items,
                   k.unlinks,

@@ -82,8 +82,9 @@ after_close does f s config c steps u change old new m x y z later may opens mad
       keeps = record { kept = kept_quiet c v (tables c (Closes ∷ later)) v.token new.groups new.queue.items None refl (omega arith) made.keeps.kept; remembers = made.keeps.remembers };
       rules = ap v.history number ∙ ap (λ (h : ℕ → RuleMap). h (suc (begun w))) made.history ∙ with_at-same w.history (suc (begun w)) (rules_by (w.history (begun w)) change)
           ∙ ap (λ k. rules_by (w.history k) change) (even_same n even);
+      next = omega (arith, number, even_same n even);
       changes = record {
-        first = (x, Opens change ∷ steps);
+        opened = (x, Opens change ∷ steps);
         last = made.unlinked.last;
         begins = (change, (opens, refl));
         unlinks = made.unlinked.unlinks;

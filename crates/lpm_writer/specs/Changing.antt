@@ -1,4 +1,4 @@
--- This layer's own: a whole update, from the step that opens it to the one that closes it (this
+-- Meaning: a whole update, from the step that opens it to the one that closes it (this
 -- project's).
 use Rattle.std.specs.Prelude.{ℕ, ◌≡◌, ◌+◌, ◌-◌, ◌%◌, ◌<◌, false, List, None}
 use Rattle.lpm_groups.specs.States.{linked_count}
@@ -13,11 +13,11 @@ use Rattle.lpm_trace.specs.declared.step.WriterStep.{WriterStep}
 use Rattle.lpm_trace.specs.Tables.{Setup, tables, addresses, answer, IsAnswer, IsChange, done, rules_by}
 use Rattle.lpm_writer.specs.declared.books.Books.{Books}
 use Rattle.lpm_writer.specs.Waiting.{tokens_of}
-use Rattle.lpm_writer.specs.Traced.{by_steps}
+use Rattle.lpm_writer.specs.Traced.{by_writer}
 use Rattle.lpm_writer.specs.Kept.{IsIdle, Keeps}
 use Rattle.lpm_writer.specs.Making.{HasWidths, IsTakenBy, answer_after, filling}
 
--- no update runs, and nothing is due of the writer
+-- no update runs, nothing is due of the writer, and no address has turned
 pub record IsBetween (c : Setup) (steps : List WriterStep) : Type 0 where
   pub idle : IsIdle c steps
   pub even : (tables c steps).sequence % 2 ≡ 0
@@ -44,11 +44,11 @@ pub record MayChange (first second : ℕ) (c : Setup) (steps : List WriterStep) 
 -- an update began, groups were unlinked one after another, and it ended
 pub record Changes {X : Type 0} (t : Transitions X) (config : Config) (x : X) (old : Books) (z : X)
     (new : Books) : Type 0 where
-  pub first : X
+  pub opened : X
   pub last : X
-  pub begins : t.begins x first
+  pub begins : t.begins x opened
   pub unlinks : Unlinks t config (linked_count old.groups - linked_count new.groups)
-      first (tokens_of old.queue.items) last (tokens_of new.queue.items)
+      opened (tokens_of old.queue.items) last (tokens_of new.queue.items)
   pub ends : t.ends last z
 
 -- the update was made
@@ -59,4 +59,5 @@ pub record HasChanged {M : Type 0} (does : M → WriterStep → M → Type 0) (c
   pub keeps : Keeps c later new.groups new.queue.items new.passed None
   pub rules : (tables c later).history (done (tables c later))
       ≡ rules_by ((tables c steps).history (done (tables c steps))) change
-  pub changes : Changes (by_steps does c) config (m, steps) old (z, later) new
+  pub next : done (tables c later) ≡ done (tables c steps) + 1
+  pub changes : Changes (by_writer does c) config (m, steps) old (z, later) new

@@ -1,4 +1,4 @@
--- This layer's own: what a writer keeps of its groups is what its steps say (DPDK Programmer's Guide,
+-- Meaning: what a writer keeps of its groups is what its steps say (DPDK Programmer's Guide,
 -- "RCU Library", the defer queue of "LPM Library": a group waits with the token of its own unlinking).
 use Rattle.std.specs.Prelude.{ℕ, ◌≡◌, ◌≢◌, suc, ◌<◌, ◌≤◌, ◌⊎◌, ⊤, true, List, [], ◌∷◌, ◌++◌, slice_set, Option, Some, None}
 use Rattle.lpm_groups.specs.declared.GroupState.{GroupState}
@@ -69,7 +69,7 @@ MayAsk c steps token = 0 < c.workers → (counter : ℕ) → MayStep c steps (Lo
 abbrev pub Remembers : Setup → List WriterStep → ℕ → Type 0
 Remembers c steps passed = 0 < c.workers → passed ≡ (tables c steps).passed
 
--- nothing but the token, the counts of steps and what is due has changed
+-- the words, the sequence, the versions and the groups are the same
 pub record IsQuiet (w z : Tables) : Type 0 where
   pub words : z.words ≡ w.words
   pub sequence : z.sequence ≡ w.sequence
@@ -83,15 +83,15 @@ pub record Keeps (c : Setup) (steps : List WriterStep) (states : List GroupState
   pub kept : AreKept c (tables c steps) (tables c steps).token states items held
   pub remembers : Remembers c steps passed
 
--- some checks led from one list of steps to the other
+-- checks were made at most: the token and the group that is taken are the same too, and nothing is due
 pub record IsStill (c : Setup) (steps later : List WriterStep) : Type 0 where
   pub quiet : IsQuiet (tables c steps) (tables c later)
   pub token : (tables c later).token ≡ (tables c steps).token
   pub taken : (course c later).taken ≡ (course c steps).taken
   pub idle : IsIdle c later
 
--- the update has just stored over the first word of this group, whose token is bumped next: from then on
--- it is retired under that token, behind the groups that wait
+-- the update has just stored over the link of this group. The token is bumped next: from then on the
+-- group is retired under that token, behind the groups that wait.
 pub record HasUnlinked (c : Setup) (steps : List WriterStep) (books : Books) (group : ℕ)
     (held : Option ℕ) : Type 0 where
   pub duty : (course c steps).duty ≡ Bump
@@ -103,8 +103,8 @@ pub record HasUnlinked (c : Setup) (steps : List WriterStep) (books : Books) (gr
   -- each group that waited was retired under a token that had been started
   pub started : AreBelow (suc (tables c steps).token) books.queue.items
 
--- the token was bumped once, and some checks were made
-pub record IsBumped (c : Setup) (steps later : List WriterStep) : Type 0 where
+-- the token was bumped once, and checks were made at most
+pub record HasRetired (c : Setup) (steps later : List WriterStep) : Type 0 where
   pub quiet : IsQuiet (tables c steps) (tables c later)
   pub token : (tables c later).token ≡ suc (tables c steps).token
   pub taken : (course c later).taken ≡ (course c steps).taken

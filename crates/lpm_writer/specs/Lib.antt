@@ -5,3 +5,4 @@ pub mod Making
 pub mod Taking
 pub mod Changing
 pub mod Resting
+pub mod Opening

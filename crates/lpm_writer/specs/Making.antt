@@ -16,7 +16,7 @@ use Rattle.lpm_trace.specs.Writer.{course, MayStep}
 use Rattle.lpm_writer.specs.declared.books.Books.{Books}
 use Rattle.fib_model.specs.Reclaiming.{Unlinks}
 use Rattle.lpm_writer.specs.Waiting.{tokens_of}
-use Rattle.lpm_writer.specs.Traced.{Traced, Stores, by_steps}
+use Rattle.lpm_writer.specs.Traced.{Traced, Stores, by_writer}
 use Rattle.lpm_writer.specs.Kept.{IsIdle, Keeps}
 
 -- the group, where the block has none
@@ -77,7 +77,7 @@ pub record HasUnlinkedSome {M : Type 0} (does : M → WriterStep → M → Type 
     (config : Config) (x : Traced M) (old : Books) (z : Traced M) (new : Books) : Type 0 where
   pub last : Traced M
   pub stores : ℕ
-  pub unlinks : Unlinks (by_steps does c) config
+  pub unlinks : Unlinks (by_writer does c) config
       (linked_count old.groups - linked_count new.groups)
       x (tokens_of old.queue.items) last (tokens_of new.queue.items)
   pub since : Stores does c stores last z

@@ -1,4 +1,4 @@
--- This layer's own: what a writer keeps between its calls (this project's).
+-- Meaning: what a writer keeps between its calls (this project's).
 use Rattle.std.specs.Prelude.{ℕ, ◌≡◌, ◌≤◌, ◌^◌, List, length, None}
 use Rattle.lpm_bits.specs.Widths.{IsShape}
 use Rattle.lpm_limits.specs.Limits.{IsConfig}
@@ -38,4 +38,5 @@ pub record IsResting (first second : ℕ) (c : Setup) (steps : List WriterStep) 
   pub limits : IsConfig config
   pub max : rules.max ≡ config.rules
   pub states : length books.groups ≡ config.groups
+  pub versions : begun ≡ done (tables c steps)
   pub updates : begun ≤ 2 ^ 61

@@ -2,7 +2,7 @@
 -- tbl8 group is taken, and else the defer queue is reclaimed first).
 use Rattle.std.specs.Prelude.{ℕ, ◌≡◌, ◌/◌, ◌^◌, ◌<◌, ◌≤◌, ◌⊎◌, IsSome, List, [], ◌∷◌, slice_get, Option, Some, None, MatchOption, Result, Ok, Err}
 use Rattle.lpm_bits.specs.Network.{Network}
-use Rattle.lpm_groups.specs.States.{free_count}
+use Rattle.lpm_groups.specs.States.{free_count, IsLeastFree}
 use Rattle.lpm_limits.specs.declared.busy.Busy.{Busy}
 use Rattle.lpm_update.specs.Linked.{group_at}
 use Rattle.fib_model.specs.State.{Transitions}
@@ -23,13 +23,13 @@ abbrev pub taken_by : Result ℕ (Option Busy) → Option ℕ
 taken_by (Ok group) = Some group
 taken_by (Err oldest) = None
 
--- a free group is taken; where none is free, the oldest in limbo once its check has passed. No group is
+-- the least free group is taken; where none is free, the oldest in limbo once its check has passed. No group is
 -- taken where none is free, and none waits or the check of the oldest is stopped by a worker.
 abbrev pub Takes : {X : Type 0} → Transitions X → X → Books → Result ℕ (Option Busy) → X → Books
     → Type 0
 Takes t x old (Ok group) z new =
-    (0 < free_count old.groups
-    → (tokens_of new.queue.items ≡ tokens_of old.queue.items) × (z ≡ x))
+    (0 < free_count old.groups → IsLeastFree old.groups group
+    × (tokens_of new.queue.items ≡ tokens_of old.queue.items) × (z ≡ x))
     × (free_count old.groups ≡ 0 → (u : ℕ)
     × (tokens_of old.queue.items ≡ u ∷ tokens_of new.queue.items) × t.checks x u (Ok tt) z)
 Takes t x old (Err oldest) z new = (free_count old.groups ≡ 0)

@@ -1,4 +1,4 @@
--- This layer's own: a memory together with the writer's steps that led to it, and the parts of a
+-- Meaning: a memory together with the writer's steps that led to it, and the parts of a
 -- change as what they lead to (DPDK Programmer's Guide, "RCU Library": a check asks one reader after
 -- another; the order within an update is this project's).
 use Rattle.std.specs.Prelude.{ℕ, zero, suc, ◌≡◌, ◌<◌, ◌≤◌, ◌⊎◌, true, List, [], ◌∷◌, ◌++◌, Some, None, Result, Ok, Err}
@@ -41,28 +41,29 @@ Asks {M} does workers x token (Err busy) z = (y : Traced M) × Loads does busy.w
     × (busy.worker < workers) × (0 < busy.counter) × (busy.counter < token)
     × Goes does y (LoadCounter token busy.worker busy.counter) z
 
--- a check of a token: one that isn't above the greatest that has passed passes without a load
+-- a check of a token: one that isn't above the greatest that has passed passes without a load, and for
+-- any other the workers are asked
 abbrev pub Checks : {M : Type 0} → (M → WriterStep → M → Type 0) → Setup → Traced M → ℕ
     → Result (Unit {0}) Busy → Traced M → Type 0
 Checks does c x token result z =
     ((token ≤ (tables_of c x).passed) × (result ≡ Ok tt) × (z ≡ x))
-    ⊎ Asks does c.workers x token result z
+    ⊎ ((0 < c.workers → (tables_of c x).passed < token) × Asks does c.workers x token result z)
 
--- the step stores a word, and not over a group's first word
-abbrev pub IsPlainStore : Tables → WriterStep → Type 0
-IsPlainStore w (StoreFirst i x) = group_in (first_entry w.words i) ≡ None
-IsPlainStore w (StoreSecond j x) = Unit {0}
-IsPlainStore w other = ⊥
+-- the step stores a word, and not over one that links a group
+abbrev pub UnlinksNone : Tables → WriterStep → Type 0
+UnlinksNone w (StoreFirst i x) = group_in (first_entry w.words i) ≡ None
+UnlinksNone w (StoreSecond j x) = Unit {0}
+UnlinksNone w other = ⊥
 
 -- n stores one after another, none of which unlinks a group
 abbrev pub Stores : {M : Type 0} → (M → WriterStep → M → Type 0) → Setup → ℕ → Traced M → Traced M
     → Type 0
 Stores does c zero x z = z ≡ x
 Stores {M} does c (suc n) x z = (y : Traced M) × (s : WriterStep) × Stores does c n x y
-    × IsPlainStore (tables_of c y) s × Goes does y s z
+    × UnlinksNone (tables_of c y) s × Goes does y s z
 
--- after some stores a group's first word is stored over, and a token is started for the group: that is
--- the name of the unlinking
+-- after some stores a word that links a group is stored over, and a token is started for the group:
+-- that is the name of the unlinking
 abbrev pub StoresOverLink : {M : Type 0} → (M → WriterStep → M → Type 0) → Setup → Traced M → ℕ
     → Traced M → Type 0
 StoresOverLink {M} does c x name z =
@@ -78,9 +79,9 @@ StoresAndCloses {M} does c x z =
     (n : ℕ) × (y : Traced M) × Stores does c n x y × Goes does y Closes z
 
 -- the parts of a change, by the writer's steps
-abbrev pub by_steps : {M : Type 0} → (M → WriterStep → M → Type 0) → Setup
+abbrev pub by_writer : {M : Type 0} → (M → WriterStep → M → Type 0) → Setup
     → Transitions (Traced M)
-by_steps does c = record {
+by_writer does c = record {
   checks = Checks does c;
   begins = λ x z. (change : RuleChange) × Goes does x (Opens change) z;
   unlinks = StoresOverLink does c;
@@ -93,5 +94,5 @@ by_steps does c = record {
 abbrev pub Retires : {M : Type 0} → (M → WriterStep → M → Type 0) → Setup → Config → Traced M
     → List ℕ → Traced M → List ℕ → Type 0
 Retires {M} does c config x limbo z limbo' = (y : Traced M) × (left : List ℕ)
-    × Goes does x BumpToken y × MakesRoom (by_steps does c) config y limbo left z
+    × Goes does x BumpToken y × MakesRoom (by_writer does c) config y limbo left z
     × (limbo' ≡ left ++ (tables_of c y).token ∷ [])

@@ -7,7 +7,7 @@ ghost use Rattle.lpm_update.specs.Linked.{group_at};
 ghost use Rattle.lpm_trace.specs.declared.step.WriterStep.{WriterStep};
 ghost use Rattle.lpm_trace.specs.Tables.{Setup};
 ghost use Rattle.lpm_writer.specs.Waiting.{IsQueued, IsTaken};
-ghost use Rattle.lpm_writer.specs.Traced.{by_steps};
+ghost use Rattle.lpm_writer.specs.Traced.{by_writer};
 ghost use Rattle.lpm_writer.specs.Kept.{IsStill, Keeps};
 ghost use Rattle.lpm_writer.specs.Taking.{MayTake, Finds, NeedsGroup, found_by};
 
@@ -46,7 +46,7 @@ pub(crate) fn group_for<const FIRST: u32, const SECOND: u32, M: Memory>(
         → MayTake c steps books.old
         → (later : List WriterStep) × M.did memory.new c later × IsStill c steps later
         × Keeps c later books.new.groups books.new.queue.items books.new.passed (found_by result)
-        × Finds (by_steps M.does c) FIRST SECOND (M.words memory.old).firsts prefix.now
+        × Finds (by_writer M.does c) FIRST SECOND (M.words memory.old).firsts prefix.now
         (memory.old, steps) books.old result (memory.new, later) books.new }
     ensures unchanged { OnErr result ((books.new.groups ≡ books.old.groups)
         × (books.new.queue ≡ books.old.queue)) }

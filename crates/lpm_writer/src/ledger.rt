@@ -6,7 +6,7 @@ ghost use Rattle.fib_model.specs.State.{IsExhausted};
 ghost use Rattle.fib_model.specs.Outcomes.{Adds, Deletes, Flushes, Frees};
 ghost use Rattle.lpm_trace.specs.declared.step.WriterStep.{WriterStep};
 ghost use Rattle.lpm_trace.specs.Tables.{Setup};
-ghost use Rattle.lpm_writer.specs.Traced.{by_steps};
+ghost use Rattle.lpm_writer.specs.Traced.{by_writer};
 ghost use Rattle.lpm_writer.specs.Resting.{IsResting, state_of};
 
 use super::Books;
@@ -44,7 +44,7 @@ fn is_exhausted<const FIRST: u32, const SECOND: u32, M: Memory>(
         × IsResting FIRST SECOND c steps ledger.now.config ledger.now.rules ledger.now.books
         ledger.now.versions }
     ensures { (c : Setup) (steps : List WriterStep) → M.did memory.now c steps
-        → IsTrue result ↔ IsExhausted (by_steps M.does c) ledger.now.config
+        → IsTrue result ↔ IsExhausted (by_writer M.does c) ledger.now.config
         (state_of ledger.now.rules.rules (memory.now, steps) ledger.now.books ledger.now.versions) }
 {
     let groups = ledger.books.groups.len() as u64;
@@ -88,7 +88,7 @@ pub fn add<const FIRST: u32, const SECOND: u32, M: Memory>(
         → (later : List WriterStep) × M.did memory.new c later
         × IsResting FIRST SECOND c later ledger.new.config ledger.new.rules ledger.new.books
         ledger.new.versions
-        × Adds (by_steps M.does c) FIRST SECOND ledger.old.config
+        × Adds (by_writer M.does c) FIRST SECOND ledger.old.config
         (state_of ledger.old.rules.rules (memory.old, steps) ledger.old.books ledger.old.versions)
         prefix.now hop result
         (state_of ledger.new.rules.rules (memory.new, later) ledger.new.books ledger.new.versions) }
@@ -140,7 +140,7 @@ pub fn reclaim<const FIRST: u32, const SECOND: u32, M: Memory>(
         → (later : List WriterStep) × M.did memory.new c later
         × IsResting FIRST SECOND c later ledger.new.config ledger.new.rules ledger.new.books
         ledger.new.versions
-        × Frees (by_steps M.does c)
+        × Frees (by_writer M.does c)
         (state_of ledger.old.rules.rules (memory.old, steps) ledger.old.books ledger.old.versions)
         max result
         (state_of ledger.new.rules.rules (memory.new, later) ledger.new.books ledger.new.versions) }
@@ -167,7 +167,7 @@ pub fn delete<const FIRST: u32, const SECOND: u32, M: Memory>(
         → (later : List WriterStep) × M.did memory.new c later
         × IsResting FIRST SECOND c later ledger.new.config ledger.new.rules ledger.new.books
         ledger.new.versions
-        × Deletes (by_steps M.does c) FIRST SECOND ledger.old.config
+        × Deletes (by_writer M.does c) FIRST SECOND ledger.old.config
         (state_of ledger.old.rules.rules (memory.old, steps) ledger.old.books ledger.old.versions)
         prefix.now result
         (state_of ledger.new.rules.rules (memory.new, later) ledger.new.books ledger.new.versions) }
@@ -208,7 +208,7 @@ pub fn flush<const FIRST: u32, const SECOND: u32, M: Memory>(
         → (later : List WriterStep) × M.did memory.new c later
         × IsResting FIRST SECOND c later ledger.new.config ledger.new.rules ledger.new.books
         ledger.new.versions
-        × Flushes (by_steps M.does c) FIRST SECOND ledger.old.config
+        × Flushes (by_writer M.does c) FIRST SECOND ledger.old.config
         (state_of ledger.old.rules.rules (memory.old, steps) ledger.old.books ledger.old.versions)
         result
         (state_of ledger.new.rules.rules (memory.new, later) ledger.new.books ledger.new.versions) }

@@ -6,8 +6,12 @@ mod books;
 mod changing;
 mod grouping;
 mod ledger;
+mod open_error;
+mod opening;
 mod running;
 mod waiting;
 
 pub use books::Books;
 pub use ledger::{Ledger, add, delete, flush, reclaim};
+pub use open_error::OpenError;
+pub use opening::open;

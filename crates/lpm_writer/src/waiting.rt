@@ -7,8 +7,8 @@ ghost use Rattle.lpm_trace.specs.declared.step.WriterStep.{WriterStep};
 ghost use Rattle.lpm_trace.specs.Tables.{Setup};
 ghost use Rattle.fib_model.specs.Reclaiming.{MakesRoom, Reclaims};
 ghost use Rattle.lpm_writer.specs.Waiting.{AreWaiting, IsFreed, IsQueued, IsTaken, tokens_of};
-ghost use Rattle.lpm_writer.specs.Traced.{by_steps, Retires};
-ghost use Rattle.lpm_writer.specs.Kept.{HasUnlinked, IsBumped, IsStill, Keeps, MayReclaim};
+ghost use Rattle.lpm_writer.specs.Traced.{by_writer, Retires};
+ghost use Rattle.lpm_writer.specs.Kept.{HasUnlinked, HasRetired, IsStill, Keeps, MayReclaim};
 ghost use Rattle.lpm_writer.specs.Taking.{MayTake, Takes, taken_by};
 
 use super::Books;
@@ -30,7 +30,7 @@ pub(crate) fn reclaim<M: Memory>(books: &mut Books, memory: &mut M, max: usize) 
         → MayReclaim c steps books.old.queue.items
         → (later : List WriterStep) × M.did memory.new c later × IsStill c steps later
         × Keeps c later books.new.groups (books.new.queue.items ++ tail) books.new.passed held
-        × Reclaims (by_steps M.does c) (memory.old, steps) max (tokens_of books.old.queue.items)
+        × Reclaims (by_writer M.does c) (memory.old, steps) max (tokens_of books.old.queue.items)
         result.freed result.stopped (tokens_of books.new.queue.items) (memory.new, later) }
     ensures queue { books.new.queue ≡ record books.old.queue {
       items = drop result.freed books.old.queue.items;
@@ -73,7 +73,7 @@ fn make_room<M: Memory>(books: &mut Books, memory: &mut M, config: &Config)
         → MayReclaim c steps books.old.queue.items
         → (later : List WriterStep) × M.did memory.new c later × IsStill c steps later
         × Keeps c later books.new.groups (books.new.queue.items ++ tail) books.new.passed held
-        × MakesRoom (by_steps M.does c) config.now (memory.old, steps)
+        × MakesRoom (by_writer M.does c) config.now (memory.old, steps)
         (tokens_of books.old.queue.items) (tokens_of books.new.queue.items) (memory.new, later) }
     ensures freed { (n : ℕ) × (n ≤ length books.old.queue.items)
         × (books.new.queue ≡ record books.old.queue { items = drop n books.old.queue.items })
@@ -96,7 +96,7 @@ pub(crate) fn retire<M: Memory>(books: &mut Books, memory: &mut M, group: u32, c
         × M.did memory.old c steps × HasUnlinked c steps books.old group held }
     ensures retires { (c : Setup) (steps : List WriterStep) (held : Option ℕ)
         → M.did memory.old c steps → HasUnlinked c steps books.old group held
-        → (later : List WriterStep) × M.did memory.new c later × IsBumped c steps later
+        → (later : List WriterStep) × M.did memory.new c later × HasRetired c steps later
         × Keeps c later books.new.groups books.new.queue.items books.new.passed held
         × Retires M.does c config.now (memory.old, steps) (tokens_of books.old.queue.items)
         (memory.new, later) (tokens_of books.new.queue.items) }
@@ -126,7 +126,7 @@ pub(crate) fn take<M: Memory>(
         → MayTake c steps books.old
         → (later : List WriterStep) × M.did memory.new c later × IsStill c steps later
         × Keeps c later books.new.groups books.new.queue.items books.new.passed (taken_by result)
-        × Takes (by_steps M.does c) (memory.old, steps) books.old result
+        × Takes (by_writer M.does c) (memory.old, steps) books.old result
         (memory.new, later) books.new }
     ensures linked { IfOk result (λ g. IsTaken books.old.groups g block books.new.groups) }
     ensures unchanged { OnErr result ((books.new.groups ≡ books.old.groups)

@@ -12,10 +12,10 @@ use Rattle.lpm_update.specs.Tied.{IsTied}
 use Rattle.lpm_update.specs.Update.{group_held}
 use Rattle.lpm_trace.specs.declared.step.RuleChange.TheVariants.{Put as Puts}
 use Rattle.lpm_trace.specs.declared.step.WriterStep.{WriterStep}
-use Rattle.lpm_trace.specs.Tables.{tables}
+use Rattle.lpm_trace.specs.Tables.{tables, done_at}
 use Rattle.lpm_writer.specs.Making.{filling, IsTakenBy}
 use Rattle.lpm_writer.specs.Taking.{Finds}
-use Rattle.lpm_writer.specs.Traced.{by_steps}
+use Rattle.lpm_writer.specs.Traced.{by_writer}
 use Rattle.lpm_writer.specs.Resting.{IsResting, state_of}
 use Rattle.lpm_writer.proofs.Rests.{linked_resting, between_take, between_still, version_still, may_change, has_tokens, rests_after, rests_still}
 use Rattle.lpm_writer.proofs.Additions.{absent, found_states, found_fits, found_tied, found_fills, found_adds, none_adds, put_room, taken_back}
@@ -39,7 +39,7 @@ change-requires g c =
     let h = c.args.hop in
     let m = c.args.memory.now in
     let r = c.requires.rests in
-    let t = by_steps k.does r.0 in
+    let t = by_writer k.does r.0 in
     let x : g.row.M.Denot × List WriterStep = (m, r.1) in
     let low = shr_below p.bits f s c.bits-bits.ensures.network.1 in
     let group = c.in-Ok-group_for.group in
@@ -86,7 +86,7 @@ returns-in-Ok-group_for g c = record {
       let p = c.args.prefix.now in
       let h = c.args.hop in
       let m = c.args.memory.now in
-      let t = by_steps k.does setup in
+      let t = by_writer k.does setup in
       let x : g.row.M.Denot × List WriterStep = (m, steps) in
       let put = c.in-Ok.ensures in
       let low = shr_below p.bits f s c.bits-bits.ensures.network.1 in
@@ -119,7 +119,7 @@ returns-in-Ok-group_for g c = record {
       let now_seen = (met.shows z setup made.0 made.1).0 in
       let end = c.change.ensures.represents l.rules.rules rules.rules (subst (Represents f s l.rules.rules) (sym old_seen) represents) turns in
       let states = found_states f s setup steps l.config l.rules l.books l.versions rest p low t x group (y, found.0) mid finds in
-      let after = rests_after f s setup steps l.config l.rules l.books l.versions rest k.does y z found.0 made.0 change mid new rules made.2 version
+      let after = rests_after f s setup steps l.config l.rules l.books l.versions rest k.does y z found.0 made.0 change mid new rules made.2 version (rest.versions ∙ sym (ap done_at found.2.quiet.sequence))
       (subst (Represents f s rules.rules) now_seen end.0)
       (subst (λ (V : Words). IsTied f new.groups (group_at V.firsts)) now_seen end.1)
       (ap (λ (V : Words). length V.seconds) (sym now_seen) ∙ c.change.ensures.sizes ∙ ap (λ (V : Words). length V.seconds) (old_seen ∙ same))
@@ -144,7 +144,7 @@ returns-in-Err g c = record {
       let p = c.args.prefix.now in
       let h = c.args.hop in
       let m = c.args.memory.now in
-      let t = by_steps k.does setup in
+      let t = by_writer k.does setup in
       let x : g.row.M.Denot × List WriterStep = (m, steps) in
       let put = c.in-Ok.ensures in
       let low = shr_below p.bits f s c.bits-bits.ensures.network.1 in

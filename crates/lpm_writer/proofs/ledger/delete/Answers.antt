@@ -5,7 +5,7 @@ use Rattle.lpm_rules.specs.RuleMap.{RuleList}
 use Rattle.lpm_update.specs.Represents.{LastFits, TurnsInto}
 use Rattle.lpm_trace.specs.declared.step.RuleChange.TheVariants.{TakeOut}
 use Rattle.lpm_trace.specs.Tables.{tables}
-use Rattle.lpm_writer.specs.Traced.{by_steps}
+use Rattle.lpm_writer.specs.Traced.{by_writer}
 use Rattle.lpm_writer.specs.Resting.{state_of}
 use Rattle.lpm_writer.proofs.Rests.{none_fills, may_change, has_tokens, tied_held, rests_then, shrinks_then}
 use Rattle.lpm_writer.proofs.ledger.delete.Goals as goal
@@ -62,7 +62,7 @@ returns-in-Ok-clause-deletes g c = λ setup steps did rest.
     c.bits-bits.ensures.network (none_fills u 0 W.firsts (c.delete-update.ensures.fills 0)) rest.keeps in
     let made = c.change.ensures.changed setup steps change did may in
     let S = state_of x.rules.rules (m, steps) x.books x.versions in
-    let tokens = has_tokens (by_steps k.does setup) x.config S c.is_exhausted.result c.if-is_exhausted.false (c.is_exhausted.ensures setup steps did) in
+    let tokens = has_tokens (by_writer k.does setup) x.config S c.is_exhausted.result c.if-is_exhausted.false (c.is_exhausted.ensures setup steps did) in
     let turns = subst (λ R. TurnsInto f s u x.rules.rules R) (sym gone) begun.1 in
     let after = rests_then g.M.Cells.words k.newest k.worker_count k.did k.does met.shows f s setup steps x.config x.rules x.books x.versions rest m did z made.0 change x.books new rules u made.1 made.2
     c.change.ensures.represents c.change.ensures.sizes c.change.ensures.queued c.change.ensures.states turns (sym gone) (ap (λ (y : RuleList). y.max) c.in-Ok.ensures.ok) tokens.1 in (

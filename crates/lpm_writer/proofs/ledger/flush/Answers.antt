@@ -5,7 +5,7 @@ use Rattle.lpm_rules.specs.RuleMap.{RuleList, network_cmp}
 use Rattle.lpm_update.specs.Represents.{TurnsInto}
 use Rattle.lpm_trace.specs.declared.step.RuleChange.TheVariants.{Clear}
 use Rattle.lpm_trace.specs.Tables.{tables}
-use Rattle.lpm_writer.specs.Traced.{by_steps}
+use Rattle.lpm_writer.specs.Traced.{by_writer}
 use Rattle.lpm_writer.specs.Resting.{state_of}
 use Rattle.lpm_writer.proofs.Rests.{none_fills, may_change, has_tokens, tied_held, rests_then, shrinks_then}
 use Rattle.lpm_writer.proofs.ledger.flush.Goals as goal
@@ -52,7 +52,7 @@ returns-clause-flushes g c = λ setup steps did rest.
     let may = may_change f s setup steps x.rules.rules (empty {R = network_cmp}) u Clear None x.books rest.widths rest.between rest.version rest.represents begun.0 begun.1 refl tt (none_fills u 0 W.firsts (c.flush-update.ensures.fills 0)) rest.keeps in
     let made = c.change.ensures.changed setup steps Clear did may in
     let S = state_of x.rules.rules (m, steps) x.books x.versions in
-    let tokens = has_tokens (by_steps k.does setup) x.config S c.is_exhausted.result c.if-is_exhausted.false (c.is_exhausted.ensures setup steps did) in
+    let tokens = has_tokens (by_writer k.does setup) x.config S c.is_exhausted.result c.if-is_exhausted.false (c.is_exhausted.ensures setup steps did) in
     let turns = subst (λ R. TurnsInto f s u x.rules.rules R) (sym gone) begun.1 in
     let after = rests_then g.M.Cells.words k.newest k.worker_count k.did k.does met.shows f s setup steps x.config x.rules x.books x.versions rest m did z made.0 Clear x.books new rules u made.1 made.2
     c.change.ensures.represents c.change.ensures.sizes c.change.ensures.queued c.change.ensures.states turns (sym gone) (ap (λ (y : RuleList). y.max) c.clear-count.ensures.empty) tokens.1 in (

@@ -3,7 +3,7 @@ use Rattle.std.proofs.lemmas.List.{length-map}
 use Rattle.defer_queue.specs.Limbo.{Limbo as Queue}
 use Rattle.lpm_writer.specs.Kept.{Keeps}
 use Rattle.lpm_writer.specs.Waiting.{AreWaiting, IsQueued, IsFreed, IsTaken, tokens_of}
-use Rattle.lpm_writer.specs.Traced.{by_steps}
+use Rattle.lpm_writer.specs.Traced.{by_writer}
 use Rattle.lpm_writer.proofs.Reclaims.{still_same}
 use Rattle.lpm_writer.proofs.Keeping.{keeps_taken}
 use Rattle.lpm_writer.proofs.Limbo.{taken_from, taken_queue, taken_after, freed_queue, still_free}
@@ -19,7 +19,7 @@ returns-in-Some-clause-takes g c = λ s steps did may.
       did,
       still_same s steps x.queue.items (may_reclaim s steps x may),
       subst (λ ys. Keeps s steps ys x.queue.items x.passed (Some n)) (sym c.in-Some.ensures.linked) (keeps_taken s steps x.groups x.queue.items x.passed n c.args.block may.keeps free),
-      ((λ _. (refl, refl)), (λ none. absurd (still_free x.groups n free none))),
+      ((λ _. (c.in-Some.ensures.least, refl, refl)), (λ none. absurd (still_free x.groups n free none))),
     )
 
 pub returns-in-Some-clause-linked : goal.returns-in-Some-clause-linked
@@ -53,7 +53,7 @@ returns-in-Some-take_least-clause-takes g c = λ s steps did may.
     let some : r.result.freed ≢ 0 = λ e. still_free y.groups n now.least.free (omega (arith, freed.free, e, none)) in
     let keeps = subst (λ ys. Keeps s steps ys (x.queue.items ++ []) x.passed None) (sym c.in_default.ensures.unchanged) (no_tail s steps x.groups x.queue.items x.passed None may.keeps) in
     let done = r.ensures.reclaims s steps [] None did keeps (may_reclaim s steps x may) in
-    let one = reclaims_one (by_steps g.M.Memory.does s) (c.args.memory.now, steps) (r.new.memory, done.0) (tokens_of x.queue.items) (tokens_of y.queue.items) r.result.freed r.result.stopped done.4 some in (
+    let one = reclaims_one (by_writer g.M.Memory.does s) (c.args.memory.now, steps) (r.new.memory, done.0) (tokens_of x.queue.items) (tokens_of y.queue.items) r.result.freed r.result.stopped done.4 some in (
       done.0,
       done.1,
       done.2,
@@ -102,7 +102,7 @@ returns-in-None-clause-takes g c = λ s steps did may.
       done.1,
       done.2,
       subst (λ ys. Keeps s done.0 ys y.queue.items y.passed None) (sym now.unchanged) (without_tail s done.0 y.groups y.queue.items y.passed None done.3),
-      (none, reclaims_none (by_steps g.M.Memory.does s) (c.args.memory.now, steps) (r.new.memory, done.0) (tokens_of x.queue.items) (tokens_of y.queue.items) r.result.freed r.result.stopped done.4 (omega (arith, freed.free, still))),
+      (none, reclaims_none (by_writer g.M.Memory.does s) (c.args.memory.now, steps) (r.new.memory, done.0) (tokens_of x.queue.items) (tokens_of y.queue.items) r.result.freed r.result.stopped done.4 (omega (arith, freed.free, still))),
     )
 
 pub returns-in-None-clause-unchanged : goal.returns-in-None-clause-unchanged
