@@ -23,8 +23,8 @@ abbrev pub taken_by : Result ℕ (Option Busy) → Option ℕ
 taken_by (Ok group) = Some group
 taken_by (Err oldest) = None
 
--- the least free group is taken; where none is free, the oldest in limbo once its check has passed. No group is
--- taken where none is free, and none waits or the check of the oldest is stopped by a worker.
+-- the least free group is taken; where none is free, the oldest in limbo once its check has passed.
+-- No group is taken where none is free, and none waits or a worker stops the check of the oldest.
 abbrev pub Takes : {X : Type 0} → Transitions X → X → Books → Result ℕ (Option Busy) → X → Books
     → Type 0
 Takes t x old (Ok group) z new =

@@ -12,7 +12,7 @@ use std::alloc::Global;
 use std::marker::Model;
 
 #[derive(Drop)]
-pub struct Table {
+pub(crate) struct Table {
     ledger: Ledger<4, 4>,
     memory: PlainMemory<4, 4>,
 }
@@ -34,30 +34,30 @@ impl Model for Table {
 }
 
 impl Table {
-    pub fn open(alloc: Global, config: Config) -> Result<Self, OpenError> {
+    pub(crate) fn open(alloc: Global, config: Config) -> Result<Self, OpenError> {
         let (ledger, memory) = lpm_writer::open::<4, 4>(alloc, config)?;
         Ok(Table { ledger, memory })
     }
 
-    pub fn add(&mut self, prefix: &Prefix<4, 4>, hop: Hop) -> Result<Put, Refusal> {
+    pub(crate) fn add(&mut self, prefix: &Prefix<4, 4>, hop: Hop) -> Result<Put, Refusal> {
         lpm_writer::add(&mut self.ledger, &mut self.memory, prefix, hop)
     }
 
-    pub fn delete(&mut self, prefix: &Prefix<4, 4>) -> Result<Hop, Refusal> {
+    pub(crate) fn delete(&mut self, prefix: &Prefix<4, 4>) -> Result<Hop, Refusal> {
         lpm_writer::delete(&mut self.ledger, &mut self.memory, prefix)
     }
 
-    pub fn flush(&mut self) -> Result<usize, Refusal> {
+    pub(crate) fn flush(&mut self) -> Result<usize, Refusal> {
         lpm_writer::flush(&mut self.ledger, &mut self.memory)
     }
 
-    pub fn reclaim(&mut self, max: usize) -> Reclaimed {
+    pub(crate) fn reclaim(&mut self, max: usize) -> Reclaimed {
         lpm_writer::reclaim(&mut self.ledger, &mut self.memory, max)
     }
 
     // The worker reports that it holds nothing, and comes online where it was offline. A worker
     // that isn't there is passed over.
-    pub fn report(&mut self, worker: usize) {
+    pub(crate) fn report(&mut self, worker: usize) {
         if worker < self.memory.domain.workers() {
             let token = self.memory.domain.token();
             self.memory.domain.set_counter(worker, token);
@@ -65,7 +65,7 @@ impl Table {
     }
 
     // The rules, the versions, the groups in limbo and the newest token.
-    pub fn counts(&self) -> (usize, u64, usize, u64) {
+    pub(crate) fn counts(&self) -> (usize, u64, usize, u64) {
         let Ledger {
             rules,
             books,
@@ -80,7 +80,7 @@ impl Table {
         )
     }
 
-    pub fn lookup(&self, addr: u32) -> Option<Hop>
+    pub(crate) fn lookup(&self, addr: u32) -> Option<Hop>
         requires { addr < 2 ^ 8 }
     {
         self.memory.cells.read(addr)
