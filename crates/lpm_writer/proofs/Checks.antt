@@ -1,6 +1,6 @@
 -- What a check leaves.
 use Rattle.std.proofs.Common.{arith, ◌≡◌, ℕ, zero, suc, ◌<◌, ◌≤◌, inl, inr, true, false, cond, eqb, max, eq-eqb, refl, sym, ap, subst, ◌∙◌, List}
-use Rattle.std.specs.Prelude.{◌&&◌, Result, Ok, Err, IsOk}
+use Rattle.std.specs.Prelude.{◌&&◌, Result, Ok, Err, IsOk, Some}
 use Rattle.std.proofs.lemmas.Bool.Decides.{eqb_tells}
 use Rattle.lpm_limits.specs.declared.busy.Busy.{Busy}
 use Rattle.lpm_trace.specs.declared.step.WriterStep.{WriterStep}
@@ -88,6 +88,8 @@ pub record HasPassed (c : Setup) (steps : List WriterStep) (t : ℕ) (later : Li
   pub more : (tables c steps).passed ≤ (tables c later).passed
   pub passed : 0 < c.workers → t ≤ (tables c later).passed
   pub idle : IsIdle c steps → IsIdle c later
+  -- where the workers were asked nothing is due, whatever was
+  pub over : 0 < c.workers → (tables c steps).passed < t → IsIdle c later
   pub like : IsLike (course c steps) (course c later)
 
 -- what a check that a worker has stopped leaves
@@ -97,6 +99,9 @@ pub record HasStopped (c : Setup) (steps later : List WriterStep) : Type 0 where
   pub passed : (tables c later).passed ≡ (tables c steps).passed
   pub idle : IsIdle c steps → IsIdle c later
   pub taken : IsIdle c steps → (course c later).taken ≡ (course c steps).taken
+  -- a token that is waited for is checked again, from worker 0 on
+  pub again : (t : ℕ) → (course c steps).awaited ≡ Some t → ((course c later).duty ≡ Check t) × ((course c later).awaited ≡ Some t)
+  pub next : (tables c later).scan.next ≡ 0
 
 ok_err : (busy : Busy) (r : Result (Unit {0}) Busy) → r ≡ Err busy → r ≡ Ok tt → ⊥
 ok_err busy r p q = cc
@@ -109,6 +114,7 @@ module _ {M : Type 0} (does : M → WriterStep → M → Type 0) (c : Setup) whe
     more = omega arith;
     passed = λ some. absurd (omega (arith, none, some));
     idle = λ i. i;
+    over = λ some below. absurd (omega (arith, none, some));
     like = record { reclaims = refl; taken = refl };
   })
   all_passed (suc n) x t z all h =
@@ -116,12 +122,14 @@ module _ {M : Type 0} (does : M → WriterStep → M → Type 0) (c : Setup) whe
       let before = loaded does c n x t y (omega (arith, all)) h.2 in
       let end = last_passed does c n t h.1 y z all h.3 h.4 in
       let quiet : IsQuiet (tables c y.1) (tables c z.1) = subst (λ steps. IsQuiet (tables c y.1) (tables c steps)) (sym h.4.1) (record { words = refl; sequence = refl; history = refl; turned = refl; groups = refl }) in
+      let idle : IsIdle c z.1 = record { duty = ap (λ (k : Course). k.duty) end.1; awaited = ap (λ (k : Course). k.awaited) end.1 } in
       record {
         quiet = quiet_on (tables c x.1) (tables c y.1) (tables c z.1) before.quiet quiet;
         token = subst (λ steps. (tables c steps).token ≡ (tables c y.1).token) (sym h.4.1) refl ∙ before.token;
         more = subst (λ p. p ≤ (tables c z.1).passed) before.passed (subst (λ p. (tables c y.1).passed ≤ p) (sym end.0) (omega arith));
         passed = λ _. subst (λ p. t ≤ p) (sym end.0) (omega arith);
-        idle = λ _. record { duty = ap (λ (k : Course). k.duty) end.1; awaited = ap (λ (k : Course). k.awaited) end.1 };
+        idle = λ _. idle;
+        over = λ _ _. idle;
         like = record { reclaims = ap (λ (k : Course). k.reclaims) end.1 ∙ before.like.reclaims; taken = ap (λ (k : Course). k.taken) end.1 ∙ before.like.taken };
       }
 
@@ -132,6 +140,7 @@ module _ {M : Type 0} (does : M → WriterStep → M → Type 0) (c : Setup) whe
     more = omega arith;
     passed = λ _. h.0;
     idle = λ i. i;
+    over = λ some below. absurd (let le = h.0 in omega (arith, le, below));
     like = record { reclaims = refl; taken = refl };
   })
   check_passes x t z (inr h) = all_passed c.workers x t z refl h.1
@@ -152,6 +161,10 @@ module _ {M : Type 0} (does : M → WriterStep → M → Type 0) (c : Setup) whe
         passed = subst (λ steps. (tables c steps).passed ≡ (tables c y.1).passed) (sym h.5.1) (ap (λ b. cond (b && eqb (suc busy.worker) c.workers) (max (tables c y.1).passed t) (tables c y.1).passed) stop) ∙ before.passed;
         idle = λ i. record { duty = ap (λ (k : Course). k.duty) (over i); awaited = ap (λ (k : Course). k.awaited) (over i) ∙ before.awaited ∙ i.awaited };
         taken = λ i. ap (λ (k : Course). k.taken) (over i) ∙ before.like.taken;
+        again = λ u e.
+            let on = end ∙ ap (check_stopped k) (before.awaited ∙ e) in
+            (ap (λ (k : Course). k.duty) on, ap (λ (k : Course). k.awaited) on ∙ before.awaited ∙ e);
+        next = subst (λ steps. (tables c steps).scan.next ≡ 0) (sym h.5.1) (ap (λ b. cond b (suc busy.worker) 0) stop);
       }
 
   pub check_stops : (x : Traced M) (t : ℕ) (busy : Busy) (z : Traced M) → Checks does c x t (Err busy) z → HasStopped c x.1 z.1

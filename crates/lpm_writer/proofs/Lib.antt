@@ -12,5 +12,6 @@ pub mod UpdateRuns
 pub mod TakesOne
 pub mod WholeUpdates
 pub mod Rests
+pub mod Awaiting
 pub mod Additions
 pub mod Opened

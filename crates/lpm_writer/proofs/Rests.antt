@@ -23,7 +23,7 @@ use Rattle.lpm_trace.specs.Tables.{Setup, Tables, tables, answer, IsAnswer, IsCh
 use Rattle.lpm_writer.specs.declared.books.Books.{Books}
 use Rattle.lpm_writer.specs.Waiting.{IsFreed, IsQueued, tokens_of}
 use Rattle.lpm_writer.specs.Traced.{by_writer}
-use Rattle.lpm_writer.specs.Kept.{IsStill, Keeps}
+use Rattle.lpm_writer.specs.Kept.{IsIdle, IsQuiet, IsStill, Keeps}
 use Rattle.lpm_writer.specs.Taking.{MayTake}
 use Rattle.lpm_writer.specs.Making.{filling, unless_linked, HasWidths, IsTakenBy, answer_after}
 use Rattle.lpm_writer.specs.Changing.{IsBetween, MayChange, HasChanged}
@@ -165,34 +165,40 @@ module _ {M : Type 0} (words : M → Words) (newest count : M → ℕ) (did : M 
 
 -- ---- after checks alone
 
-even_not : (n : ℕ) → n % 2 ≡ 0 → n % 2 ≡ 1 → ⊥
+pub even_not : (n : ℕ) → n % 2 ≡ 0 → n % 2 ≡ 1 → ⊥
 even_not n p q = omega (arith, p, q)
 
 pub between_take : (c : Setup) (steps : List WriterStep) (books : Books) → IsBetween c steps → Keeps c steps books.groups books.queue.items books.passed None → MayTake c steps books
 between_take c steps books between keeps = record { keeps = keeps; idle = between.idle; rests = even_not (tables c steps).sequence between.even }
 
-pub between_still : (c : Setup) (steps later : List WriterStep) → IsBetween c steps → IsStill c steps later → IsBetween c later
-between_still c steps later between still = record {
-  idle = still.idle;
-  even = ap (λ n. n % 2) still.quiet.sequence ∙ between.even;
-  clear = λ a low. ap (λ t. t a) still.quiet.turned ∙ between.clear a low;
+between_quiet : (c : Setup) (steps later : List WriterStep) → IsBetween c steps → IsQuiet (tables c steps) (tables c later) → IsIdle c later → IsBetween c later
+between_quiet c steps later between quiet idle = record {
+  idle = idle;
+  even = ap (λ n. n % 2) quiet.sequence ∙ between.even;
+  clear = λ a low. ap (λ t. t a) quiet.turned ∙ between.clear a low;
 }
 
-pub version_still : (c : Setup) (steps later : List WriterStep) (R : RuleMap) → (tables c steps).history (done (tables c steps)) ≡ R → IsStill c steps later → (tables c later).history (done (tables c later)) ≡ R
-version_still c steps later R version still =
-    ap (λ n. (tables c later).history (done_at n)) still.quiet.sequence ∙ ap (λ h. h (done (tables c steps))) still.quiet.history ∙ version
+pub between_still : (c : Setup) (steps later : List WriterStep) → IsBetween c steps → IsStill c steps later → IsBetween c later
+between_still c steps later between still = between_quiet c steps later between still.quiet still.idle
 
-pub rests_still : (f s : ℕ) (c : Setup) (steps later : List WriterStep) (config : Config) (rules : RuleList) (books new : Books) (begun : ℕ) → IsResting f s c steps config rules books begun
-    → IsStill c steps later → Keeps c later new.groups new.queue.items new.passed None → IsTied f new.groups (group_at (tables c steps).words.firsts) → IsQueued new.groups new.queue
-    → length new.groups ≡ length books.groups → IsResting f s c later config rules new begun
-rests_still f s c steps later config rules books new begun rest still keeps tied queued states =
-    let q = still.quiet in
+version_quiet : (c : Setup) (steps later : List WriterStep) (R : RuleMap) → (tables c steps).history (done (tables c steps)) ≡ R → IsQuiet (tables c steps) (tables c later) → (tables c later).history (done (tables c later)) ≡ R
+version_quiet c steps later R version quiet =
+    ap (λ n. (tables c later).history (done_at n)) quiet.sequence ∙ ap (λ h. h (done (tables c steps))) quiet.history ∙ version
+
+pub version_still : (c : Setup) (steps later : List WriterStep) (R : RuleMap) → (tables c steps).history (done (tables c steps)) ≡ R → IsStill c steps later → (tables c later).history (done (tables c later)) ≡ R
+version_still c steps later R version still = version_quiet c steps later R version still.quiet
+
+-- the token may be another
+pub rests_quiet : (f s : ℕ) (c : Setup) (steps later : List WriterStep) (config : Config) (rules : RuleList) (books new : Books) (begun : ℕ) → IsResting f s c steps config rules books begun
+    → IsQuiet (tables c steps) (tables c later) → IsIdle c later → Keeps c later new.groups new.queue.items new.passed None → IsTied f new.groups (group_at (tables c steps).words.firsts)
+    → IsQueued new.groups new.queue → length new.groups ≡ length books.groups → IsResting f s c later config rules new begun
+rests_quiet f s c steps later config rules books new begun rest q idle keeps tied queued states =
     record {
       shape = rest.shape;
       widths = rest.widths;
       workers = rest.workers;
-      between = between_still c steps later rest.between still;
-      version = version_still c steps later rules.rules rest.version still;
+      between = between_quiet c steps later rest.between q idle;
+      version = version_quiet c steps later rules.rules rest.version q;
       represents = subst (Represents f s rules.rules) (sym q.words) rest.represents;
       tied = subst (λ (W : Words). IsTied f new.groups (group_at W.firsts)) (sym q.words) tied;
       room = record {
@@ -207,6 +213,12 @@ rests_still f s c steps later config rules books new begun rest still keeps tied
       versions = rest.versions ∙ sym (ap done_at q.sequence);
       updates = rest.updates;
     }
+
+pub rests_still : (f s : ℕ) (c : Setup) (steps later : List WriterStep) (config : Config) (rules : RuleList) (books new : Books) (begun : ℕ) → IsResting f s c steps config rules books begun
+    → IsStill c steps later → Keeps c later new.groups new.queue.items new.passed None → IsTied f new.groups (group_at (tables c steps).words.firsts) → IsQueued new.groups new.queue
+    → length new.groups ≡ length books.groups → IsResting f s c later config rules new begun
+rests_still f s c steps later config rules books new begun rest still keeps tied queued states =
+    rests_quiet f s c steps later config rules books new begun rest still.quiet still.idle keeps tied queued states
 
 -- groups that no block has were freed
 pub tied_freed : (f n : ℕ) (xs ys : List GroupState) (items : List (ℕ × ℕ)) (L : ℕ → Option ℕ) → IsFreed xs items n ys → IsTied f xs L → IsTied f ys L

@@ -5,4 +5,5 @@ pub mod Making
 pub mod Taking
 pub mod Changing
 pub mod Resting
+pub mod Synchronizing
 pub mod Opening

@@ -1,6 +1,6 @@
 //! Checks of a token: whether some worker may still hold what was given up under it.
 
-ghost use Rattle.std.specs.Prelude.{◌≡◌, ◌<◌, ℕ, List};
+ghost use Rattle.std.specs.Prelude.{◌≡◌, ◌<◌, ◌≤◌, ℕ, List, OnOk, OnErr};
 ghost use Rattle.lpm_trace.specs.declared.step.WriterStep.{WriterStep};
 ghost use Rattle.lpm_trace.specs.Tables.{Setup};
 ghost use Rattle.lpm_writer.specs.Traced.{Asks, Checks};
@@ -38,6 +38,8 @@ pub(crate) fn check<M: Memory>(memory: &mut M, passed: &mut u64, token: u64) -> 
         → (later : List WriterStep) × M.did memory.new c later
         × Checks M.does c (memory.old, steps) token result (memory.new, later)
         × Remembers c later passed.new }
+    ensures passed { OnOk result (token ≤ passed.new) }
+    ensures stopped { OnErr result (passed.new ≡ passed.old) }
 {
     if token <= *passed {
         return Ok(());

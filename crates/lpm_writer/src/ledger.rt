@@ -35,6 +35,20 @@ pub struct Ledger<const FIRST: u32, const SECOND: u32> {
     pub versions: u64,
 }
 
+/// Whether there is no token left for each group.
+pub(crate) fn is_out_of_tokens<const FIRST: u32, const SECOND: u32, M: Memory>(
+    ledger: &Ledger<FIRST, SECOND>,
+    memory: &M,
+) -> bool
+    requires rests { (c : Setup) × (steps : List WriterStep)
+        × IsResting FIRST SECOND c steps ledger.now.config ledger.now.rules ledger.now.books
+        ledger.now.versions }
+    ensures { IsTrue result ↔ (2 ^ 62 < M.newest memory.now + ledger.now.config.groups) }
+{
+    let groups = ledger.books.groups.len() as u64;
+    memory.token() + groups > LAST_TOKEN
+}
+
 /// Whether the tokens or the versions would pass their bound by one more change.
 fn is_exhausted<const FIRST: u32, const SECOND: u32, M: Memory>(
     ledger: &Ledger<FIRST, SECOND>,
@@ -47,8 +61,7 @@ fn is_exhausted<const FIRST: u32, const SECOND: u32, M: Memory>(
         → IsTrue result ↔ IsExhausted (by_writer M.does c) ledger.now.config
         (state_of ledger.now.rules.rules (memory.now, steps) ledger.now.books ledger.now.versions) }
 {
-    let groups = ledger.books.groups.len() as u64;
-    memory.token() + groups > LAST_TOKEN || ledger.versions >= MOST_UPDATES
+    is_out_of_tokens(ledger, memory) || ledger.versions >= MOST_UPDATES
 }
 
 /// Whether a rule that the list has no more was longer than `FIRST` bits, and has left no such rule in

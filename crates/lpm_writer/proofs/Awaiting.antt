@@ -1,0 +1,185 @@
+-- A synchronize that waits: what its token and its checks leave.
+use Rattle.std.proofs.Common.{arith, ◌≡◌, ℕ, zero, suc, ◌<◌, ◌≤◌, inl, inr, refl, sym, ap, subst, ◌∙◌, Bool, true, false, cond, eqb, eq-eqb, max, List, [], ◌∷◌, Some, None}
+use Rattle.std.specs.Prelude.{◌&&◌, All, Result, Ok, Err, OnOk, OnErr}
+use Rattle.std.proofs.lemmas.Bool.{cases_eq}
+use Rattle.std.proofs.lemmas.Bool.Decides.{eqb_tells}
+use Rattle.std.proofs.lemmas.List.Elements.{All-nil, All-cons}
+use Rattle.lpm_limits.specs.declared.busy.Busy.{Busy}
+use Rattle.lpm_limits.specs.declared.config.Config.{Config}
+use Rattle.lpm_rules.specs.RuleMap.{RuleList}
+use Rattle.lpm_trace.specs.declared.step.WriterStep.{WriterStep}
+use Rattle.lpm_trace.specs.declared.step.WriterStep.TheVariants.{StoreFirst, StoreSecond, Opens, Closes, BumpToken, LoadCounter}
+use Rattle.lpm_trace.specs.Tables.{Setup, Tables, Status, tables, lets_pass}
+use Rattle.lpm_trace.specs.Course.{Course, Check, bumped, IsAsked, IsBumped as MayBump}
+use Rattle.lpm_trace.specs.Writer.{course, IsWritten, MayStep}
+use Rattle.lpm_writer.specs.declared.books.Books.{Books}
+use Rattle.lpm_writer.specs.Traced.{Traced, Goes, Checks, tables_of}
+use Rattle.lpm_writer.specs.Kept.{AreRetired, IsIdle, MayAsk, Remembers}
+use Rattle.lpm_writer.specs.Changing.{IsBetween}
+use Rattle.lpm_writer.specs.Resting.{IsResting}
+use Rattle.lpm_writer.specs.Synchronizing.{IsAwaited, IsWaiting, AreStopped, Synchronizes}
+use Rattle.lpm_writer.proofs.Checks.{HasPassed, quiet_on, check_passes, check_stops}
+use Rattle.lpm_writer.proofs.Keeping.{kept_quiet}
+use Rattle.lpm_writer.proofs.Rests.{even_not, rests_quiet}
+
+-- ---- the token is started
+
+-- each token that was checked had been started
+started_all : (c : Setup) (steps : List WriterStep) → IsWritten c steps → ((tables c steps).scan.token ≤ (tables c steps).token) × ((tables c steps).passed ≤ (tables c steps).token)
+started_all c [] h = (omega arith, omega arith)
+started_all c (StoreFirst i x ∷ steps) h = started_all c steps h.1
+started_all c (StoreSecond j x ∷ steps) h = started_all c steps h.1
+started_all c (Opens change ∷ steps) h = started_all c steps h.1
+started_all c (Closes ∷ steps) h = started_all c steps h.1
+started_all c (BumpToken ∷ steps) h = let k = started_all c steps h.1 in let a = k.0 in let b = k.1 in (omega (arith, a), omega (arith, b))
+started_all c (LoadCounter token worker counter ∷ steps) h =
+    (h.0.0.2, within (lets_pass token counter && eqb (suc worker) c.workers) (tables c steps).passed token (tables c steps).token (started_all c steps h.1).1 h.0.0.2)
+  where
+    within : (b : Bool) (p t u : ℕ) → p ≤ u → t ≤ u → cond b (max p t) p ≤ u
+    within true p t u low low' = omega (arith, low, low')
+    within false p t u low low' = low
+
+differ : (m n : ℕ) → (m ≡ n → ⊥) → eqb m n ≡ false
+differ m n apart = elim (eqb_tells m n) [
+  | inl e ↦ absurd (apart e.1)
+  | inr e ↦ e.0
+]
+
+pub may_start : (c : Setup) (steps : List WriterStep) → IsBetween c steps → MayStep c steps BumpToken
+may_start c steps between = (tt, subst (MayBump (tables c steps)) (sym between.idle.duty) (even_not (tables c steps).sequence between.even))
+
+awaited_started : (c : Setup) (steps : List WriterStep) → IsWritten c steps → IsIdle c steps → IsAwaited c (BumpToken ∷ steps)
+awaited_started c steps written idle =
+    let w : Tables = tables c steps in
+    let k : Course = course c steps in
+    let due : Course = record k { duty = Check (suc w.token); awaited = Some (suc w.token) } in
+    let on : course c (BumpToken ∷ steps) ≡ cond (eqb c.workers 0) k due = ap (bumped c w.token k) idle.duty in
+    let waits : 0 < c.workers → course c (BumpToken ∷ steps) ≡ due = λ some. on ∙ ap (λ b. cond b k due) (differ c.workers 0 (λ none. omega (arith, some, none))) in
+    let low = (started_all c steps written).0 in
+    record {
+      alone = λ none.
+          let same = on ∙ ap (λ b. cond b k due) (eq-eqb c.workers 0 none) in
+          record { duty = ap (λ (x : Course). x.duty) same ∙ idle.duty; awaited = ap (λ (x : Course). x.awaited) same ∙ idle.awaited };
+      duty = λ some. ap (λ (x : Course). x.duty) (waits some);
+      awaited = λ some. ap (λ (x : Course). x.awaited) (waits some);
+      next = ap (λ b. cond b w.scan.next 0) (differ w.scan.token (suc w.token) (λ e. omega (arith, e, low)));
+    }
+
+module _ (f s : ℕ) (c : Setup) (config : Config) (rules : RuleList) (books : Books) (begun : ℕ) where
+  -- the token is started
+  pub waits_started : (steps : List WriterStep) → IsWritten c steps → IsResting f s c steps config rules books begun → IsWaiting f s c (BumpToken ∷ steps) config rules books begun
+  waits_started steps written rest =
+      let low = (started_all c steps written).1 in
+      record {
+        older = steps;
+        rested = rest;
+        quiet = record { words = refl; sequence = refl; history = refl; turned = refl; groups = refl };
+        started = refl;
+        passed = refl;
+        unpassed = omega (arith, low);
+        due = awaited_started c steps written rest.between.idle;
+      }
+
+  module _ (steps : List WriterStep) (wait : IsWaiting f s c steps config rules books begun) where
+    -- its check may begin
+    pub asks_awaited : MayAsk c steps (tables c steps).token
+    asks_awaited some counter =
+        ((refl, some, omega arith, inl refl), subst (λ d. IsAsked (tables c steps) (course c steps) (tables c steps).token 0 d) (sym (wait.due.duty some)) (refl, sym wait.due.next))
+
+    pub remembers_awaited : Remembers c steps books.passed
+    remembers_awaited some = wait.rested.keeps.remembers some ∙ sym wait.passed
+
+    -- where a check of the token has passed, so has one of each token that was queued
+    pub queued_passed : (passed : ℕ) → (tables c steps).token ≤ passed → All (λ (item : ℕ × ℕ). item.1 ≤ passed) books.queue.items
+    queued_passed passed more = below (tables c wait.older).groups (tables c wait.older).token books.queue.items (let one = wait.started in omega (arith, one, more)) wait.rested.keeps.kept.retired
+      where
+        below : (status : ℕ → Status) (t : ℕ) (items : List (ℕ × ℕ)) → t ≤ passed → AreRetired status t items → All (λ (item : ℕ × ℕ). item.1 ≤ passed) items
+        below status t [] more h = All-nil _
+        below status t (item ∷ items) more h = All-cons (λ (i : ℕ × ℕ). i.1 ≤ passed) item items (let le = h.1 in omega (arith, le, more)) (below status t items more h.2)
+
+    module _ {M : Type 0} (does : M → WriterStep → M → Type 0) (m z : M) (later : List WriterStep) where
+      -- a worker has stopped its check
+      pub waits_on : (busy : Busy) → Checks does c (m, steps) (tables c steps).token (Err busy) (z, later) → IsWaiting f s c later config rules books begun
+      waits_on busy checks =
+          let stop = check_stops does c (m, steps) (tables c steps).token busy (z, later) checks in
+          let t = stop.token in
+          let p = stop.passed in
+          let below = wait.unpassed in
+          record {
+            older = wait.older;
+            rested = wait.rested;
+            quiet = quiet_on (tables c wait.older) (tables c steps) (tables c later) wait.quiet stop.quiet;
+            started = t ∙ wait.started;
+            passed = p ∙ wait.passed;
+            unpassed = omega (arith, t, p, below);
+            due = record {
+              alone = λ none. stop.idle (wait.due.alone none);
+              duty = λ some. (stop.again (tables c steps).token (wait.due.awaited some)).0 ∙ ap Check (sym t);
+              awaited = λ some. (stop.again (tables c steps).token (wait.due.awaited some)).1 ∙ ap Some (sym t);
+              next = first (eqb (tables c later).scan.token (tables c later).token) (tables c later).scan.next stop.next;
+            };
+          }
+        where
+          first : (b : Bool) (n : ℕ) → n ≡ 0 → cond b n 0 ≡ 0
+          first true n e = e
+          first false n e = refl
+
+      -- its check has passed
+      pub rests_again : (passed : ℕ) → Checks does c (m, steps) (tables c steps).token (Ok tt) (z, later) → Remembers c later passed → IsResting f s c later config rules (record books { passed = passed }) begun
+      rests_again passed checks known =
+          let pass = check_passes does c (m, steps) (tables c steps).token (z, later) checks in
+          let quiet = quiet_on (tables c wait.older) (tables c steps) (tables c later) wait.quiet pass.quiet in
+          let rest = wait.rested in
+          let more : (tables c wait.older).passed ≤ (tables c later).passed = let a = wait.passed in let b = pass.more in omega (arith, a, b) in
+          let k = kept_quiet c (tables c wait.older) (tables c later) (tables c wait.older).token books.groups books.queue.items None quiet.groups more rest.keeps.kept in
+          rests_quiet f s c wait.older later config rules books (record books { passed = passed }) begun rest quiet (idle pass) (record {
+            kept = record {
+              free = k.free;
+              linked = k.linked;
+              taken = k.taken;
+              rising = k.rising;
+              retired = still (tables c later).groups (tables c wait.older).token (tables c later).token books.queue.items (let a = wait.started in let b = pass.token in omega (arith, a, b)) k.retired;
+              all = k.all;
+            };
+            remembers = known;
+          }) rest.tied rest.queued refl
+        where
+          idle : HasPassed c steps (tables c steps).token later → IsIdle c later
+          idle pass = elim (cases_eq c.workers 0) [
+            | inl none ↦ pass.idle (wait.due.alone none)
+            | inr some ↦ pass.over (omega (arith, some)) wait.unpassed
+          ]
+
+          -- a token that was started since is greater too
+          still : (status : ℕ → Status) (t u : ℕ) (items : List (ℕ × ℕ)) → t ≤ u → AreRetired status t items → AreRetired status u items
+          still status t u [] more h = tt
+          still status t u (item ∷ items) more h = (h.0, (let le = h.1 in omega (arith, le, more)), still status t u items more h.2)
+
+      -- either
+      pub checked : (r : Result (Unit {0}) Busy) (passed : ℕ) → Checks does c (m, steps) (tables c steps).token r (z, later) → Remembers c later passed → OnErr r (passed ≡ books.passed)
+          → OnOk r (IsResting f s c later config rules (record books { passed = passed }) begun) × OnErr r (IsWaiting f s c later config rules (record books { passed = passed }) begun)
+      checked (Ok u) passed checks known same = (rests_again passed checks known, tt)
+      checked (Err busy) passed checks known same = (tt, subst (λ p. IsWaiting f s c later config rules (record books { passed = p }) begun) (sym same) (waits_on busy checks))
+
+-- ---- a whole synchronize
+
+module _ {M : Type 0} (does : M → WriterStep → M → Type 0) (c : Setup) where
+  -- one more check of the token is stopped
+  pub stopped_more : (n : ℕ) (x : Traced M) (t : ℕ) (y z : Traced M) (busy : Busy) → AreStopped does c n x t y → Checks does c y t (Err busy) z → AreStopped does c (suc n) x t z
+  stopped_more n x t y z busy before checks = (y, busy, before, checks)
+
+  -- the checks of a synchronize start no token
+  pub stopped_token : (n : ℕ) (x : Traced M) (t : ℕ) (z : Traced M) → AreStopped does c n x t z → (tables_of c z).token ≡ (tables_of c x).token
+  stopped_token zero x t z h = ap (λ (y : Traced M). (tables_of c y).token) h
+  stopped_token (suc n) x t z h = (check_stops does c h.0 t h.1 z h.3).token ∙ stopped_token n x t h.0 h.2
+
+  -- a token that is started, checks of the newest token that are stopped, and one that passes
+  pub synchronizes : (x y : Traced M) (n : ℕ) (w z : Traced M) → Goes does x BumpToken y → AreStopped does c n y (tables_of c y).token w → Checks does c w (tables_of c w).token (Ok tt) z → Synchronizes does c x z
+  synchronizes x y n w z starts stopped passes = record {
+    begun = y;
+    last = w;
+    stops = n;
+    starts = starts;
+    stopped = stopped;
+    passes = subst (λ t. Checks does c w t (Ok tt) z) (stopped_token n y (tables_of c y).token w stopped) passes;
+  }

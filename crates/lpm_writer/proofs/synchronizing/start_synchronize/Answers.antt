@@ -1,0 +1,21 @@
+use Rattle.std.proofs.Common.{◌∷◌, refl}
+use Rattle.lpm_trace.specs.declared.step.WriterStep.TheVariants.{BumpToken}
+use Rattle.lpm_writer.proofs.Awaiting.{may_start, waits_started}
+use Rattle.lpm_writer.proofs.synchronizing.start_synchronize.Goals as goal
+
+pub start-requires-clause-may : goal.start-requires-clause-may
+start-requires-clause-may g c =
+    let r = c.requires.rests in
+    (r.0, r.1, r.2, may_start r.0 r.1 r.3.between)
+
+pub returns-clause-starts : goal.returns-clause-starts
+returns-clause-starts g c = λ setup steps did rest.
+    let met = g.met.M.Memory in
+    let l = c.args.ledger.now in
+    let m = c.args.memory.now in
+    let z = c.start.new.self in (
+      BumpToken ∷ steps,
+      met.follows m BumpToken z setup steps c.start.ensures.does did (may_start setup steps rest.between),
+      (c.start.ensures.does, refl),
+      waits_started g.row.FIRST g.row.SECOND setup l.config l.rules l.books l.versions steps (met.written m setup steps did) rest,
+    )
