@@ -1,8 +1,5 @@
-pub mod Waiting
-pub mod Front
-pub mod Changing
+pub mod Steps
 pub mod Sound
-pub mod Adding
 pub mod Logs
 pub mod Fours
 pub mod Replays

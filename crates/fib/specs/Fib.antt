@@ -1,21 +1,20 @@
 -- A layer's own: a table as its callers see it, and what its parts keep.
-use Rattle.std.specs.Prelude.{ℕ, ◌≡◌, ◌≤◌, ◌^◌, List, length, refl}
+use Rattle.std.specs.Prelude.{ℕ, List, refl}
 use Rattle.std.specs.FinMap as map
 use Rattle.std.specs.Coded.{Coded, code_by, coded×, coded_ℕ, coded_list}
-use Rattle.lpm_cells.specs.Table.{Words}
-use Rattle.lpm_rules.specs.RuleMap.{RuleMap, RuleList, coded_network}
-use Rattle.lpm_update.specs.Linked.{group_at}
-use Rattle.lpm_update.specs.Represents.{Represents}
-use Rattle.lpm_update.specs.Tied.{IsTied, HasGroupRoom}
+use Rattle.lpm_rules.specs.RuleMap.{RuleMap, coded_network}
+use Rattle.qsbr.specs.Counters.{Passes}
 use Rattle.qsbr.specs.Registry.{Registry}
-use Rattle.lpm_limits.specs.Limits.{IsConfig}
 use Rattle.lpm_limits.specs.declared.config.Config.{Config}
 use Rattle.fib_model.specs.declared.command.Report.{Report}
 use Rattle.fib_model.specs.Counting.{by_counters, opened}
 use Rattle.fib_model.specs.State.{State}
-use Rattle.fib.specs.declared.pool.Pool.{Pool}
-use Rattle.fib.specs.Pool.{tokens}
-use Rattle.fib.specs.Waiting.{IsQueued}
+use Rattle.lpm_trace.specs.declared.step.WriterStep.{WriterStep}
+use Rattle.lpm_trace.specs.Tables.{Setup, tables}
+use Rattle.lpm_memory.specs.declared.plain.PlainMemory.{PlainMemory}
+use Rattle.lpm_memory.specs.Plain.{PlainDid}
+use Rattle.lpm_writer.specs.declared.ledger.Ledger.{Ledger}
+use Rattle.lpm_writer.specs.Resting.{IsResting, state_of}
 
 -- the limits, and what outcomes depend on; an unlinking that waits goes by its token
 pub record FibState : Type 0 where
@@ -32,23 +31,23 @@ told report worker f =
     let readers = by_counters.told report worker f.table.readers in
     record f { table = record f.table { readers = readers } }
 
--- what outcomes depend on, by what a table keeps
-abbrev pub table_of : RuleMap → Pool → ℕ → State Registry
-table_of R pool begun =
-    record { rules = R; readers = pool.keeper.domain; limbo = tokens pool; begun = begun }
+-- what outcomes depend on, by the writer's ledger and the memory
+abbrev pub table_of : {first second : ℕ} → Ledger first second → PlainMemory first second
+    → State Registry
+table_of ledger memory = state_of ledger.rules.rules memory.domain ledger.books ledger.versions
 
--- the words represent the rules, each group has one state, and all sizes are those of the limits
-pub record IsSound (first second : ℕ) (config : Config) (rules : RuleList) (words : Words)
-    (pool : Pool) (begun : ℕ) : Type 0 where
-  pub limits : IsConfig config
-  pub represents : Represents first second rules.rules words
-  pub tied : IsTied first pool.keeper.groups (group_at words.firsts)
-  pub room : HasGroupRoom second words pool.keeper.groups
-  pub queued : IsQueued pool.keeper.groups pool.queue
-  pub max : rules.max ≡ config.rules
-  pub states : length pool.keeper.groups ≡ config.groups
-  pub workers : length pool.keeper.domain.counters ≡ config.workers
-  pub updates : begun ≤ 2 ^ 61
+-- these steps of the writer may have led from the opening to the memory, and after them the ledger
+-- rests; no worker holds what was given up under a token whose check has passed
+pub record IsKept (first second : ℕ) (c : Setup) (steps : List WriterStep)
+    (ledger : Ledger first second) (memory : PlainMemory first second) : Type 0 where
+  pub did : PlainDid first second memory.cells memory.domain c steps
+  pub rests : IsResting first second c steps ledger.config ledger.rules ledger.books ledger.versions
+  pub passed : Passes (tables c steps).passed memory.domain.counters
+
+-- some opening and steps have led here
+abbrev pub IsSound : (first second : ℕ) → Ledger first second → PlainMemory first second → Type 0
+IsSound first second ledger memory =
+    (c : Setup) × (steps : List WriterStep) × IsKept first second c steps ledger memory
 
 -- ---- a state as pairs, which comparisons of tables go by
 

@@ -1,46 +1,35 @@
 //! The table.
 
-ghost use Rattle.std.specs.Prelude.{◌≡◌, ℕ, ◌+◌, ◌*◌, ◌/◌, ◌^◌, ◌<◌, ◌≤◌, ◌↔◌, Some, None, IsTrue, IfOk, IfErr, length};
+ghost use Rattle.std.specs.Prelude.{◌≡◌, ◌+◌, ◌^◌, ◌<◌, ◌≤◌, ◌↔◌, IsTrue, IfOk, IfErr, length};
 ghost use Rattle.std.specs.FinMap as map;
 ghost use Rattle.lpm_bits.specs.Widths.{IsShape};
 ghost use Rattle.lpm_rules.specs.Longest.{IsLongestHop};
-ghost use Rattle.lpm_update.specs.Represents.{LastFits};
 ghost use Rattle.lpm_limits.specs.Limits.{IsConfig};
-ghost use Rattle.fib_model.specs.State.{IsExhausted};
 ghost use Rattle.fib_model.specs.Outcomes.{groups_in_use, Adds, Deletes, Flushes, Frees};
 ghost use Rattle.fib_model.specs.Counting.{by_counters, counting};
 ghost use Rattle.fib.specs.Fib.{fresh, told};
 ghost use Rattle.fib_model.specs.declared.command.Report.TheVariants as report;
 
-use super::running::{group_for, is_linked, run};
-use super::{Keeper, OpenError, Pool};
-use defer_queue::{DeferQueue, Reclaimed};
-use lpm_bits::{Hop, Prefix, Shape};
-use lpm_cells::PlainCells;
-use lpm_groups::{Counts, Groups};
-use lpm_rules::{Put, RuleFault, Rules};
-use lpm_update::Update;
-use qsbr::{Config, Domain, Refusal};
+use super::OpenError;
+use defer_queue::Reclaimed;
+use lpm_bits::{Hop, Prefix};
+use lpm_groups::Counts;
+use lpm_memory::PlainMemory;
+use lpm_rules::Put;
+use lpm_writer::{Ledger, add, delete, flush, open, reclaim};
+use qsbr::{Config, Refusal};
 use std::alloc::Global;
 use std::marker::Model;
 
-/// The most updates that a table begins.
-const MOST_UPDATES: u64 = 1 << 61;
-/// The greatest token.
-const LAST_TOKEN: u64 = 1 << 62;
-
-/// A route table for one thread: rules, the words that represent them, and the groups and reports
-/// that changes need. IPv4 has `Fib<24, 8>`.
+/// A route table for one thread: the writer's ledger and the memory of one thread, which has the
+/// words that represent the rules and what the workers report. IPv4 has `Fib<24, 8>`.
 ///
 /// Of the changes only an `add` that grows the rule list takes memory. Each change is refused as
 /// `Exhausted` where fewer tokens than groups are left, or no version.
 #[derive(Drop)]
 pub struct Fib<const FIRST: u32, const SECOND: u32> {
-    config: Config,
-    rules: Rules<FIRST, SECOND>,
-    cells: PlainCells<FIRST, SECOND>,
-    pool: Pool,
-    versions: u64,
+    ledger: Ledger<FIRST, SECOND>,
+    memory: PlainMemory<FIRST, SECOND>,
 }
 
 impl<const FIRST: u32, const SECOND: u32> Model for Fib<FIRST, SECOND> {
@@ -51,11 +40,11 @@ impl<const FIRST: u32, const SECOND: u32> Model for Fib<FIRST, SECOND> {
     ghost coded = { coded_fib_state };
 
     ghost view = { λ a. record {
-      config = a.config;
-      table = table_of a.rules.rules a.pool a.versions;
+      config = a.ledger.config;
+      table = table_of a.ledger a.memory;
     } };
 
-    ghost invariant = { λ a. IsSound FIRST SECOND a.config a.rules a.cells a.pool a.versions };
+    ghost invariant = { λ a. IsSound FIRST SECOND a.ledger a.memory };
 }
 
 impl<const FIRST: u32, const SECOND: u32> Fib<FIRST, SECOND> {
@@ -68,42 +57,29 @@ impl<const FIRST: u32, const SECOND: u32> Fib<FIRST, SECOND> {
         ensures bad_config { IfErr result
             (λ error. (error ≡ OpenError.BadConfig) ↔ (¬ IsConfig config)) }
     {
-        config.check()?;
-        let cells = PlainCells::new(alloc, config.groups)?;
-        let groups = Groups::new(alloc, config.groups)?;
-        let domain = Domain::new(alloc, config.workers, config.first_token)?;
-        let queue = DeferQueue::new(alloc, config.groups)?;
-        Ok(Fib {
-            config,
-            rules: Rules::new(alloc, config.rules),
-            cells,
-            pool: Pool {
-                keeper: Keeper { groups, domain },
-                queue,
-            },
-            versions: 0,
-        })
+        let (ledger, memory) = open(alloc, config)?;
+        Ok(Fib { ledger, memory })
     }
 
     /// The next hop of the rule of this very prefix; none where it has no rule.
     pub fn get(&self, prefix: &Prefix<FIRST, SECOND>) -> Option<Hop>
         ensures { result ≡ map.get self.now.table.rules prefix.now }
     {
-        self.rules.get(prefix)
+        self.ledger.rules.get(prefix)
     }
 
     /// The number of rules.
     pub fn rules(&self) -> usize
         ensures { result ≡ map.len self.now.table.rules }
     {
-        self.rules.len()
+        self.ledger.rules.len()
     }
 
     /// The number of changes that made a version of the rule list.
     pub fn versions(&self) -> u64
         ensures { result ≡ self.now.table.begun }
     {
-        self.versions
+        self.ledger.versions
     }
 
     /// The token number: the first token and, for each unlinking, one more.
@@ -111,7 +87,7 @@ impl<const FIRST: u32, const SECOND: u32> Fib<FIRST, SECOND> {
         ensures value { result ≡ self.now.table.readers.token }
         ensures within { result ≤ 2 ^ 62 }
     {
-        self.pool.keeper.domain.token()
+        self.memory.domain.token()
     }
 
     /// The limits that the table was opened with.
@@ -119,7 +95,7 @@ impl<const FIRST: u32, const SECOND: u32> Fib<FIRST, SECOND> {
         ensures value { result ≡ self.now.config }
         ensures limits { IsConfig result }
     {
-        self.config
+        self.ledger.config
     }
 
     /// How many groups are in use, in limbo and free.
@@ -128,7 +104,7 @@ impl<const FIRST: u32, const SECOND: u32> Fib<FIRST, SECOND> {
         ensures limbo { result.limbo ≡ length self.now.table.limbo }
         ensures all { result.in_use + result.limbo + result.free ≡ self.now.config.groups }
     {
-        self.pool.keeper.groups.counts()
+        self.ledger.books.groups.counts()
     }
 
     /// The next hop of the longest rule that covers the address, by one read or two.
@@ -137,15 +113,7 @@ impl<const FIRST: u32, const SECOND: u32> Fib<FIRST, SECOND> {
         requires { addr < 2 ^ (FIRST + SECOND) }
         ensures { IsLongestHop (FIRST + SECOND) self.now.table.rules addr result }
     {
-        self.cells.read(addr)
-    }
-
-    /// Whether the tokens or the versions would pass their bound by one more change.
-    fn is_exhausted(&self) -> bool
-        ensures { IsTrue result ↔ IsExhausted counting self.now.config self.now.table }
-    {
-        let groups = self.pool.keeper.groups.len() as u64;
-        self.token() + groups > LAST_TOKEN || self.versions() >= MOST_UPDATES
+        self.memory.cells.read(addr)
     }
 
     /// Adds a rule, or gives the prefix's rule another next hop. A rule that is there already
@@ -160,35 +128,7 @@ impl<const FIRST: u32, const SECOND: u32> Fib<FIRST, SECOND> {
             prefix.now hop result self.new.table }
         ensures config { self.new.config ≡ self.old.config }
     {
-        let _bits = prefix.bits();
-        if self.is_exhausted() {
-            return match self.rules.get(prefix) {
-                Some(old) if old == hop => Ok(Put::Unchanged),
-                _ => Err(Refusal::Exhausted),
-            };
-        }
-        // The word is loaded here, so that the wait for it and the search of the rules overlap.
-        let linked = is_linked(prefix, &self.cells);
-        let put = match self.rules.put(prefix, hop) {
-            Ok(put) => put,
-            Err(RuleFault::TooManyRules) => return Err(Refusal::TooManyRules),
-            Err(RuleFault::Memory) => return Err(Refusal::Memory),
-        };
-        if let Put::Unchanged = put {
-            return Ok(put);
-        }
-        match group_for(prefix, linked, &self.cells, &mut self.pool) {
-            Ok(group) => {
-                let update = Update::add(prefix, hop, group);
-                run(update, &mut self.cells, &mut self.pool, &self.config);
-                self.versions += 1;
-                return Ok(put);
-            }
-            Err(oldest) => {
-                let _ = self.rules.remove(prefix);
-                return Err(Refusal::NoGroups { oldest });
-            }
-        }
+        add(&mut self.ledger, &mut self.memory, prefix, hop)
     }
 
     /// Deletes the rule of this prefix, and returns its next hop. Its addresses go to the longest
@@ -200,23 +140,7 @@ impl<const FIRST: u32, const SECOND: u32> Fib<FIRST, SECOND> {
             prefix.now result self.new.table }
         ensures config { self.new.config ≡ self.old.config }
     {
-        if self.is_exhausted() {
-            return match self.rules.get(prefix) {
-                Some(_) => Err(Refusal::Exhausted),
-                None => Err(Refusal::NoSuchRule),
-            };
-        }
-        let cover = self.rules.cover(prefix);
-        match self.rules.remove(prefix) {
-            Ok(hop) => {
-                let last = is_last(&self.rules, prefix);
-                let update = Update::delete(prefix, cover, last);
-                run(update, &mut self.cells, &mut self.pool, &self.config);
-                self.versions += 1;
-                return Ok(hop);
-            }
-            Err(_) => return Err(Refusal::NoSuchRule),
-        }
+        delete(&mut self.ledger, &mut self.memory, prefix)
     }
 
     /// Deletes all rules, as one version, and returns how many there were. With none nothing
@@ -226,17 +150,7 @@ impl<const FIRST: u32, const SECOND: u32> Fib<FIRST, SECOND> {
             result self.new.table }
         ensures config { self.new.config ≡ self.old.config }
     {
-        if self.rules.is_empty() {
-            return Ok(0);
-        }
-        if self.is_exhausted() {
-            return Err(Refusal::Exhausted);
-        }
-        let count = self.rules.clear();
-        let update = Update::flush::<FIRST, SECOND>();
-        run(update, &mut self.cells, &mut self.pool, &self.config);
-        self.versions += 1;
-        Ok(count)
+        flush(&mut self.ledger, &mut self.memory)
     }
 
     /// Frees groups that wait in limbo, from the oldest on: at most `max`, up to the first that a
@@ -245,7 +159,7 @@ impl<const FIRST: u32, const SECOND: u32> Fib<FIRST, SECOND> {
         ensures frees { Frees counting self.old.table max result self.new.table }
         ensures config { self.new.config ≡ self.old.config }
     {
-        self.pool.reclaim(max)
+        reclaim(&mut self.ledger, &mut self.memory, max)
     }
 
     /// Whether the worker is online.
@@ -253,7 +167,7 @@ impl<const FIRST: u32, const SECOND: u32> Fib<FIRST, SECOND> {
         requires { worker < self.now.config.workers }
         ensures { IsTrue result ↔ by_counters.is_online self.now.table.readers worker }
     {
-        self.pool.keeper.domain.is_online(worker)
+        self.memory.domain.is_online(worker)
     }
 
     /// The worker goes online: from now on it may hold each group that is given up.
@@ -262,7 +176,7 @@ impl<const FIRST: u32, const SECOND: u32> Fib<FIRST, SECOND> {
         requires offline { ¬ by_counters.is_online self.old.table.readers worker }
         ensures { self.new ≡ told report.Online worker self.old }
     {
-        self.pool.keeper.domain.online(worker);
+        self.memory.domain.online(worker);
     }
 
     /// The worker goes offline: it holds no group.
@@ -271,7 +185,7 @@ impl<const FIRST: u32, const SECOND: u32> Fib<FIRST, SECOND> {
         requires online { by_counters.is_online self.old.table.readers worker }
         ensures { self.new ≡ told report.Offline worker self.old }
     {
-        self.pool.keeper.domain.offline(worker);
+        self.memory.domain.offline(worker);
     }
 
     /// The worker has ended its lookups so far: it holds no group that was given up before.
@@ -280,22 +194,6 @@ impl<const FIRST: u32, const SECOND: u32> Fib<FIRST, SECOND> {
         requires online { by_counters.is_online self.old.table.readers worker }
         ensures { self.new ≡ told report.Quiescent worker self.old }
     {
-        self.pool.keeper.domain.quiescent(worker);
+        self.memory.domain.quiescent(worker);
     }
-}
-
-/// Whether a rule that the list has no more was longer than `FIRST` bits, and has left no such rule
-/// in its block.
-fn is_last<const FIRST: u32, const SECOND: u32>(
-    rules: &Rules<FIRST, SECOND>,
-    prefix: &Prefix<FIRST, SECOND>,
-) -> bool
-    ensures { LastFits FIRST SECOND rules.now.rules prefix.now result }
-{
-    let bits = prefix.bits();
-    if prefix.len() <= FIRST {
-        return false;
-    }
-    let block = Shape::<FIRST, SECOND>::first_index(bits);
-    !rules.is_deep(block)
 }

@@ -4,15 +4,9 @@
 
 mod commands;
 mod fib;
-mod keeper;
 mod lookups;
-mod open_error;
-mod pool;
 mod replay;
-mod running;
 
 pub use fib::Fib;
-use keeper::Keeper;
-pub use open_error::OpenError;
-use pool::Pool;
+pub use lpm_writer::OpenError;
 pub use replay::Replay;

@@ -1,6 +1,6 @@
 -- Several steps of a change in one call.
-use Rattle.std.proofs.Common.{arith, refl, sym, ◌∙◌, ◌≡◌, ℕ, subst, Option}
-use Rattle.lpm_cells.specs.Table.{Words, with_first, with_second}
+use Rattle.std.proofs.Common.{arith, refl, sym, ◌≡◌, ℕ, subst, ◌≤◌, List, [], ◌∷◌, Some, None}
+use Rattle.lpm_cells.specs.Table.{Words}
 use Rattle.lpm_update.specs.declared.Did.{Did}
 use Rattle.lpm_update.specs.declared.Did.TheVariants.{First, Second, Unlinked, Done}
 use Rattle.lpm_update.specs.declared.link_group.LinkGroup.{LinkGroup}
@@ -8,75 +8,101 @@ use Rattle.lpm_update.specs.declared.rewrite_range.RewriteRange.{RewriteRange}
 use Rattle.lpm_update.specs.declared.update.Plan.{Plan}
 use Rattle.lpm_update.specs.declared.update.Plan.TheVariants.{Range, Link}
 use Rattle.lpm_update.specs.Linked.{IsTable}
-use Rattle.lpm_update.specs.RewriteRange.{Visits}
-use Rattle.lpm_update.specs.Update.{IsUnderWay, SameGroups, GivesUp}
+use Rattle.lpm_update.specs.Rewrite.{Skips}
+use Rattle.lpm_update.specs.RewriteRange.{IsFurther, Visits}
+use Rattle.lpm_update.specs.Update.{IsUnderWay}
 use Rattle.lpm_update.specs.Step.{Steps, Stored, SetsWord}
-use Rattle.lpm_update.specs.Runs.{HasComeOn, Advances}
-use Rattle.lpm_update.proofs.Places.{stands_skip}
-use Rattle.lpm_update.proofs.Onward.{onward_on}
-use Rattle.lpm_update.proofs.Once.{held_same}
-use Rattle.lpm_update.proofs.RangeSteps.{further_same, mid_steps, moved_stands}
-use Rattle.lpm_update.proofs.Runs.{run_goes_on}
+use Rattle.lpm_update.specs.Runs.{KeepsGroups, Leads, RunsOn}
+use Rattle.lpm_update.proofs.RangeSteps.{further_same, further_on, mid_steps, range_done, skips_join}
 
-module _ (f s : ℕ) (u : Plan) (t : Words) where
-  pub come_same : IsTable f s t → IsUnderWay f s u t → HasComeOn f s u t u t
-  come_same table k = record { table = table; under_way = k; come = λ b y h. h }
-
-  pub advances_same : IsTable f s t → IsUnderWay f s u t → Advances f s u t u t
-  advances_same table k = record { come = come_same table k; held = λ i low. refl }
-
-  pub come_step : (did : Did) (v v' : Plan) (z z' : Words) → HasComeOn f s u t v z → Steps f s v z did v' z' → HasComeOn f s u t v' z'
-  come_step did v v' z z' k h = record {
-    table = h.table;
-    under_way = h.under_way;
-    come = λ b y c. run_goes_on f s b y did v v' z z' (k.come b y c) h;
-  }
-
-  pub advances_step : (did : Did) (v v' : Plan) (z z' : Words) → ((b g : ℕ) → did ≡ Unlinked b g → ⊥) → Advances f s u t v z → Steps f s v z did v' z' → Advances f s u t v' z'
-  advances_step did v v' z z' n k h = record {
-    come = come_step did v v' z z' k.come h;
-    held = λ i low. held_same f did _ _ n h.held i low ∙ k.held i low;
-  }
-
-  -- after a look at the next place of a range that stored a word
-  stored_visit : (did : Did) (m v : RewriteRange) (z z' : Words) → ((b g : ℕ) → did ≡ Unlinked b g → ⊥) → (did ≡ Done → ⊥) → Advances f s u t (Range m) z → Visits f s m z did v z' → Advances f s u t (Range v) z'
-  stored_visit did m v z z' n stored k h = advances_step did (Range m) (Range v) z z' n k
-      (mid_steps s m m z (further_same m) (λ a low high. absurd (omega (arith, low, high))) f did v z' k.come.table k.come.under_way stored h)
-
-  -- after one that stored a word or none
-  pub advances_visit : (did : Did) (m v : RewriteRange) (z z' : Words) → (did ≡ Done → z' ≡ z) → Advances f s u t (Range m) z → Visits f s m z did v z' → Advances f s u t (Range v) z'
-  advances_visit Done m v z z' same k h = subst (Advances f s u t (Range v)) (sym (same refl)) (record {
-    come = record {
-      table = k.come.table;
-      under_way = h.stored.0;
-      come = λ b y c. let now = k.come.come b y c in record {
-        onward = onward_on b (Range m) (Range v) now.onward h.further;
-        table = now.table;
-        under_way = h.stored.0;
-        stands = moved_stands s m v z h.further _ (stands_skip s m.from m.at v.at m.rewrite z _ h.further.at h.stored.1 now.stands);
-        groups = now.groups;
-        sizes = now.sizes;
-      };
-    };
-    held = k.held;
-  })
-  advances_visit (First i) m v z z' same k h = stored_visit (First i) m v z z' (λ b g e. cc) (λ e. cc) k h
-  advances_visit (Second j) m v z z' same k h = stored_visit (Second j) m v z z' (λ b g e. cc) (λ e. cc) k h
-  advances_visit (Unlinked b g) m v z z' same k h = absurd h.stored
+-- a step that stored a word and unlinked no group
+pub keeps_groups : (did : Did) → ((b g : ℕ) → did ≡ Unlinked b g → ⊥) → (did ≡ Done → ⊥) → KeepsGroups did
+keeps_groups (First i) n stored = tt
+keeps_groups (Second j) n stored = tt
+keeps_groups (Unlinked b g) n stored = n b g refl
+keeps_groups Done n stored = stored refl
 
 -- an addition by a group unlinks none
 pub link_keeps : (f s : ℕ) (u : LinkGroup) (v : Plan) (W W' : Words) (did : Did) → Steps f s (Link u) W did v W' → (b g : ℕ) → did ≡ Unlinked b g → ⊥
 link_keeps f s u v W W' did h b g e = (subst (λ d. Stored f s d (Link u) W v W') e h.stored).0
 
--- a group is given up after steps that kept all
-pub gives_up_after : (f : ℕ) (L M N : ℕ → Option ℕ) (b g : ℕ) → SameGroups f L M → GivesUp f M N b g → GivesUp f L N b g
-gives_up_after f L M N b g same h = record {
-  in_table = h.in_table;
-  had = sym (same b h.in_table) ∙ h.had;
-  gone = h.gone;
-  others = λ i low n. h.others i low n ∙ same i low;
-}
+module _ {A : Type 0} (words : A → Words) (P Q : A → ℕ → ℕ → A → Type 0) (f s : ℕ) where
+  -- steps lead from the change u on the cells c to v and the cells d, and it may go on there
+  pub record Advances (u : Plan) (c : A) (v : Plan) (d : A) : Type 0 where
+    pub dids : List Did
+    pub leads : Leads words P Q f s u c dids v d
+    pub table : IsTable f s (words d)
+    pub under_way : IsUnderWay f s v (words d)
 
--- where nothing was stored, plain cells are as they were
-pub plain_same : (t : Words) (did : Did) (z : Words) → SetsWord (λ x. x) (λ x i w d. d ≡ with_first x i w) (λ x j w d. d ≡ with_second x j w) t did z → did ≡ Done → z ≡ t
-plain_same t did z sets e = subst (λ d. SetsWord (λ x. x) (λ x i w d. d ≡ with_first x i w) (λ x j w d. d ≡ with_second x j w) t d z) e sets
+  -- the same of a range, some places of which were looked at since the last store
+  pub record Visited (u : RewriteRange) (c : A) (v : RewriteRange) (d : A) : Type 0 where
+    pub last : RewriteRange
+    pub advances : Advances (Range u) c (Range last) d
+    pub further : IsFurther last v
+    pub under_way : IsUnderWay f s (Range v) (words d)
+    pub skips : Skips s last.rewrite (words d) last.at v.at
+
+  pub advances_same : (u : Plan) (c : A) → IsTable f s (words c) → IsUnderWay f s u (words c) → Advances u c u c
+  advances_same u c table k = record { dids = []; leads = (refl, refl); table = table; under_way = k }
+
+  pub advances_step : (u : Plan) (c : A) (did : Did) (v : Plan) (d : A) (v' : Plan) (d' : A) → KeepsGroups did → Advances u c v d → Steps f s v (words d) did v' (words d') → SetsWord words P Q d did d'
+      → Advances u c v' d'
+  advances_step u c did v d v' d' n k h sets = record {
+    dids = did ∷ k.dids;
+    leads = (v, d, k.leads, n, h, sets);
+    table = h.table;
+    under_way = h.under_way;
+  }
+
+  -- nothing is left to store
+  pub ran_all : (u : Plan) (c : A) (m : Plan) (b : A) (v : Plan) (d : A) → Advances u c m b → Steps f s m (words b) Done v (words d) → d ≡ b → RunsOn words P Q f s u c None v d
+  ran_all u c m b v d k h same = subst (RunsOn words P Q f s u c None v) (sym same) (k.dids, m, k.leads, subst (λ x. Steps f s m (words b) Done v (words x)) same h)
+
+  -- the group of a block is unlinked
+  pub ran_to : (u : Plan) (c : A) (m : Plan) (b : A) (block g : ℕ) (v : Plan) (d : A) → Advances u c m b → Steps f s m (words b) (Unlinked block g) v (words d) → SetsWord words P Q b (Unlinked block g) d
+      → RunsOn words P Q f s u c (Some g) v d
+  ran_to u c m b block g v d k h sets = (k.dids, m, b, block, k.leads, h, sets)
+
+  pub visited_same : (u : RewriteRange) (c : A) → IsTable f s (words c) → IsUnderWay f s (Range u) (words c) → Visited u c u c
+  visited_same u c table k = record {
+    last = u;
+    advances = advances_same (Range u) c table k;
+    further = further_same u;
+    under_way = k;
+    skips = λ a low high. absurd (omega (arith, low, high));
+  }
+
+  module _ (u : RewriteRange) (c : A) (m : RewriteRange) (d : A) (k : Visited u c m d) (v : RewriteRange) where
+    -- after a look at the next place that stored a word
+    stored_visit : (did : Did) (d' : A) → KeepsGroups did → (did ≡ Done → ⊥) → Visits f s m (words d) did v (words d') → SetsWord words P Q d did d' → Visited u c v d'
+    stored_visit did d' n stored h sets =
+        let st = mid_steps s k.last m (words d) k.further k.skips f did v (words d') k.advances.table k.advances.under_way stored h in
+        record {
+          last = v;
+          advances = advances_step (Range u) c did (Range k.last) d (Range v) d' n k.advances st sets;
+          further = further_same v;
+          under_way = st.under_way;
+          skips = λ a low high. absurd (omega (arith, low, high));
+        }
+
+    -- after one that stored none
+    passed_visit : Visits f s m (words d) Done v (words d) → Visited u c v d
+    passed_visit h = record {
+      last = k.last;
+      advances = k.advances;
+      further = further_on k.last m v k.further h.further;
+      under_way = h.stored.0;
+      skips = skips_join s k.last.at m.at v.at k.last.rewrite (words d) k.skips (subst (λ w. Skips s w (words d) m.at v.at) k.further.rewrite h.stored.1);
+    }
+
+    pub visited_visit : (did : Did) (d' : A) → Visits f s m (words d) did v (words d') → SetsWord words P Q d did d' → Visited u c v d'
+    visited_visit (First i) d' h sets = stored_visit (First i) d' tt (λ e. cc) h sets
+    visited_visit (Second j) d' h sets = stored_visit (Second j) d' tt (λ e. cc) h sets
+    visited_visit (Unlinked b g) d' h sets = absurd h.stored
+    visited_visit Done d' h sets = subst (Visited u c v) (sym sets) (passed_visit (subst (λ x. Visits f s m (words d) Done v (words x)) sets h))
+
+  -- all places were looked at
+  pub visited_all : (u : RewriteRange) (c : A) (v : RewriteRange) (d : A) → Visited u c v d → v.end ≤ v.at → RunsOn words P Q f s (Range u) c None (Range v) d
+  visited_all u c v d k done =
+      let within = k.under_way.within in
+      (k.advances.dids, Range k.last, k.advances.leads, range_done f s k.last v (words d) k.advances.table k.advances.under_way k.further k.under_way k.skips (omega (arith, done, within)))

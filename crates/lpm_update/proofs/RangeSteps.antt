@@ -125,7 +125,7 @@ module _ (f s : ℕ) (u v : RewriteRange) (W : Words) (t : IsTable f s W) (k : I
 
 -- ---- after a look that changed nothing
 
-skips_join : (s low mid high : ℕ) (c : Rewrite) (W : Words) → Skips s c W low mid → Skips s c W mid high → Skips s c W low high
+pub skips_join : (s low mid high : ℕ) (c : Rewrite) (W : Words) → Skips s c W low mid → Skips s c W mid high → Skips s c W low high
 skips_join s low mid high c W p q = λ a l h. elim (cases_lt a mid) [ inl below ↦ p a l below | inr above ↦ q a above h ]
 
 module _ (s : ℕ) (u m : RewriteRange) (W : Words) (fu : IsFurther u m) (k : Skips s u.rewrite W u.at m.at) where

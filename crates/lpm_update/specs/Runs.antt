@@ -1,12 +1,12 @@
 -- Meaning: a run of steps of one change, each by the contract of `Update::step` (this project's).
-use Rattle.std.specs.Prelude.{ℕ, ◌≡◌, List, [], ◌∷◌, length, Option, Some, None}
+use Rattle.std.specs.Prelude.{ℕ, ◌≡◌, ⊤, List, [], ◌∷◌, length, Option, Some, None}
 use Rattle.lpm_cells.specs.Table.{Words, entry_at}
 use Rattle.lpm_update.specs.declared.Did.{Did}
-use Rattle.lpm_update.specs.declared.Did.TheVariants.{First, Second, Unlinked}
+use Rattle.lpm_update.specs.declared.Did.TheVariants.{First, Second, Unlinked, Done}
 use Rattle.lpm_update.specs.declared.update.Plan.{Plan}
 use Rattle.lpm_update.specs.Linked.{IsTable, group_at}
-use Rattle.lpm_update.specs.Update.{IsUnderWay, StandsSoFar, HasGroups, IsOnward, IsOver, SameGroups, GivesUp, group_held}
-use Rattle.lpm_update.specs.Step.{Steps}
+use Rattle.lpm_update.specs.Update.{IsUnderWay, StandsSoFar, HasGroups, IsOnward}
+use Rattle.lpm_update.specs.Step.{AllowsNext, Steps, SetsWord}
 
 -- the steps from u and the words t, the last one first, lead to v and the words z
 abbrev pub Runs : ℕ → ℕ → Plan → Words → List Did → Plan → Words → Type 0
@@ -23,24 +23,43 @@ pub record HasCome (first second : ℕ) (u : Plan) (t : Words) (v : Plan) (z : W
   pub groups : HasGroups first second v z.firsts (group_at t.firsts)
   pub sizes : length z.seconds ≡ length t.seconds
 
--- steps lead from the change u on the words t to v and the words z: whatever run has come to the
--- one has come to the other
-pub record HasComeOn (first second : ℕ) (u : Plan) (t : Words) (v : Plan) (z : Words) : Type 0 where
-  pub table : IsTable first second z
-  pub under_way : IsUnderWay first second v z
-  pub come : (b : Plan) (y : Words) → HasCome first second b y u t → HasCome first second b y v z
+-- the step stored a word, and unlinked no group
+abbrev pub KeepsGroups : Did → Type 0
+KeepsGroups (First i) = ⊤
+KeepsGroups (Second j) = ⊤
+KeepsGroups (Unlinked b g) = ⊥
+KeepsGroups Done = ⊥
 
--- steps lead from u and t to v and z, and each block keeps the group that it holds
-pub record Advances (first second : ℕ) (u : Plan) (t : Words) (v : Plan) (z : Words) : Type 0 where
-  pub come : HasComeOn first second u t v z
-  pub held : SameGroups first (group_held u t.firsts) (group_held v z.firsts)
+-- the steps from u on the cells c, the last one first, each store a word, unlink no group, and lead to
+-- v and the cells d. `words` tells the words of cells, and P and Q what a store in the first table and
+-- one in the second makes of them.
+abbrev pub Leads : {A : Type 0} → (A → Words) → (A → ℕ → ℕ → A → Type 0)
+    → (A → ℕ → ℕ → A → Type 0) → ℕ → ℕ → Plan → A → List Did → Plan → A → Type 0
+Leads words P Q first second u c [] v d = (v ≡ u) × (d ≡ c)
+Leads {A} words P Q first second u c (did ∷ before) v d =
+    (m : Plan) × (b : A) × Leads words P Q first second u c before m b × KeepsGroups did
+    × Steps first second m (words b) did v (words d) × SetsWord words P Q b did d
 
--- the steps end where all is stored, or with the one that unlinks this group
-abbrev pub EndsRun : ℕ → ℕ → Plan → Words → Option ℕ → Plan → Words → Type 0
-EndsRun first second u t None v z =
-    IsOver first second v × SameGroups first (group_held u t.firsts) (group_held v z.firsts)
-EndsRun first second u t (Some g) v z =
-    (block : ℕ) × GivesUp first (group_held u t.firsts) (group_held v z.firsts) block g
+-- whatever such steps lead to, the cells allow the change's next store, by `may_first` and `may_second`
+abbrev pub AllowsAlong : {A : Type 0} → (A → Words) → (A → ℕ → ℕ → A → Type 0)
+    → (A → ℕ → ℕ → A → Type 0) → (A → ℕ → ℕ → Type 0) → (A → ℕ → ℕ → Type 0) → ℕ → ℕ → Plan
+    → A → Type 0
+AllowsAlong {A} words P Q may_first may_second first second u c =
+    (dids : List Did) (v : Plan) (d : A) → Leads words P Q first second u c dids v d
+    → AllowsNext first second v (words d) (may_first d) (may_second d)
+
+-- steps lead from u on the cells c to v and the cells d: all that are left, or up to the one that
+-- unlinks this group
+abbrev pub RunsOn : {A : Type 0} → (A → Words) → (A → ℕ → ℕ → A → Type 0)
+    → (A → ℕ → ℕ → A → Type 0) → ℕ → ℕ → Plan → A → Option ℕ → Plan → A → Type 0
+RunsOn words P Q first second u c None v d =
+    (dids : List Did) × (m : Plan) × Leads words P Q first second u c dids m d
+    × Steps first second m (words d) Done v (words d)
+RunsOn {A} words P Q first second u c (Some g) v d =
+    (dids : List Did) × (m : Plan) × (b : A) × (block : ℕ)
+    × Leads words P Q first second u c dids m b
+    × Steps first second m (words b) (Unlinked block g) v (words d)
+    × SetsWord words P Q b (Unlinked block g) d
 
 -- both stored the same word of a table
 abbrev pub IsSameWord : Did → Did → Type 0

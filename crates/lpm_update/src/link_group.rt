@@ -4,7 +4,7 @@ ghost use Rattle.std.specs.Prelude.{◌≡◌};
 
 use super::{Did, Kind, Rewrite};
 use lpm_bits::{Hop, Prefix, Shape};
-use lpm_cells::{Cells, PlainCells};
+use lpm_cells::Cells;
 use lpm_entry::Entry;
 
 /// The addition of a rule longer than `FIRST` bits to a block that has no group: the words of a
@@ -21,7 +21,7 @@ pub(crate) struct LinkGroup {
 }
 
 impl LinkGroup {
-    ghost use Rattle.std.specs.Prelude.{◌≡◌, ℕ, ◌+◌, ◌-◌, ◌/◌, ◌^◌, ◌<◌, slice_index};
+    ghost use Rattle.std.specs.Prelude.{◌≡◌, ℕ, ◌+◌, ◌-◌, ◌/◌, ◌^◌, ◌<◌, None, slice_index};
     ghost use Rattle.lpm_bits.specs.Widths.{IsShape};
     ghost use Rattle.lpm_cells.specs.Table.{Words};
     ghost use Rattle.lpm_entry.specs.declared.Entry.TheVariants.{Hop as EntryHop};
@@ -31,9 +31,9 @@ impl LinkGroup {
     ghost use Rattle.lpm_update.specs.Linked.{IsTable};
     ghost use Rattle.lpm_update.specs.LinkGroup.{IsLinking, final_entry};
     ghost use Rattle.lpm_update.specs.Represents.{IsFreshGroup};
-    ghost use Rattle.lpm_update.specs.Update.{IsUnderWay, IsOver};
+    ghost use Rattle.lpm_update.specs.Update.{IsUnderWay};
     ghost use Rattle.lpm_update.specs.Step.{AllowsNext, Steps, SetsWord};
-    ghost use Rattle.lpm_update.specs.Runs.{Advances};
+    ghost use Rattle.lpm_update.specs.Runs.{AllowsAlong, RunsOn};
 
     /// The addition of this rule by this group, which no block has.
     pub(crate) fn add<const FIRST: u32, const SECOND: u32>(
@@ -127,19 +127,17 @@ impl LinkGroup {
     }
 
     /// Makes all stores of the addition that are left.
-    pub(crate) fn run<const FIRST: u32, const SECOND: u32>(
-        &mut self,
-        cells: &mut PlainCells<FIRST, SECOND>,
-    )
+    pub(crate) fn run<const FIRST: u32, const SECOND: u32, C: Cells>(&mut self, cells: &mut C)
         requires shape { IsShape FIRST SECOND }
-        requires table { IsTable FIRST SECOND cells.old }
-        requires under_way { IsUnderWay FIRST SECOND (Link self.old) cells.old }
-        ensures advances { Advances FIRST SECOND (Link self.old) cells.old
-            (Link self.new) cells.new }
-        ensures over { IsOver FIRST SECOND (Link self.new) }
+        requires table { IsTable FIRST SECOND (C.words cells.old) }
+        requires under_way { IsUnderWay FIRST SECOND (Link self.old) (C.words cells.old) }
+        requires allows { AllowsAlong C.words C.sets_first C.sets_second C.may_set_first
+            C.may_set_second FIRST SECOND (Link self.old) cells.old }
+        ensures { RunsOn C.words C.sets_first C.sets_second FIRST SECOND
+            (Link self.old) cells.old None (Link self.new) cells.new }
     {
         loop {
-            match self.step::<FIRST, SECOND, PlainCells<FIRST, SECOND>>(cells) {
+            match self.step::<FIRST, SECOND, C>(cells) {
                 Did::Done => return,
                 _ => {}
             }

@@ -4,7 +4,7 @@ ghost use Rattle.std.specs.Prelude.{◌≡◌};
 
 use super::{Did, Kind, Rewrite, WordRewrite};
 use lpm_bits::{Hop, Prefix, Shape};
-use lpm_cells::{Cells, PlainCells};
+use lpm_cells::Cells;
 use lpm_entry::Entry;
 use lpm_rules::Rule;
 
@@ -19,7 +19,7 @@ pub(crate) struct RewriteRange {
 }
 
 impl RewriteRange {
-    ghost use Rattle.std.specs.Prelude.{◌≡◌, ℕ, ◌+◌, ◌-◌, ◌*◌, ◌/◌, ◌%◌, ◌^◌, ◌<◌, ◌≤◌, MatchOption};
+    ghost use Rattle.std.specs.Prelude.{◌≡◌, ℕ, ◌+◌, ◌-◌, ◌*◌, ◌/◌, ◌%◌, ◌^◌, ◌<◌, ◌≤◌, None, MatchOption};
     ghost use Rattle.lpm_bits.specs.Widths.{IsShape};
     ghost use Rattle.lpm_entry.specs.declared.Entry.TheVariants.{Hop as EntryHop};
     ghost use Rattle.lpm_entry.specs.Words.{IsEntry, IsLast};
@@ -32,9 +32,9 @@ impl RewriteRange {
     ghost use Rattle.lpm_update.specs.Rewrite.{IsOnWords, Skips};
     ghost use Rattle.lpm_update.specs.Linked.{IsTable};
     ghost use Rattle.lpm_update.specs.RewriteRange.{IsRangeOf, Visits};
-    ghost use Rattle.lpm_update.specs.Update.{IsUnderWay, IsOver};
+    ghost use Rattle.lpm_update.specs.Update.{IsUnderWay};
     ghost use Rattle.lpm_update.specs.Step.{AllowsNext, Steps, SetsWord};
-    ghost use Rattle.lpm_update.specs.Runs.{Advances};
+    ghost use Rattle.lpm_update.specs.Runs.{AllowsAlong, RunsOn};
 
     /// The change that adds a rule whose block needs no new group: a rule no longer than `FIRST`
     /// bits, or one whose block has a group.
@@ -183,20 +183,18 @@ impl RewriteRange {
     }
 
     /// Makes all stores of the change that are left.
-    pub(crate) fn run<const FIRST: u32, const SECOND: u32>(
-        &mut self,
-        cells: &mut PlainCells<FIRST, SECOND>,
-    )
+    pub(crate) fn run<const FIRST: u32, const SECOND: u32, C: Cells>(&mut self, cells: &mut C)
         requires shape { IsShape FIRST SECOND }
-        requires table { IsTable FIRST SECOND cells.old }
-        requires under_way { IsUnderWay FIRST SECOND (Range self.old) cells.old }
-        ensures advances { Advances FIRST SECOND (Range self.old) cells.old
-            (Range self.new) cells.new }
-        ensures over { IsOver FIRST SECOND (Range self.new) }
+        requires table { IsTable FIRST SECOND (C.words cells.old) }
+        requires under_way { IsUnderWay FIRST SECOND (Range self.old) (C.words cells.old) }
+        requires allows { AllowsAlong C.words C.sets_first C.sets_second C.may_set_first
+            C.may_set_second FIRST SECOND (Range self.old) cells.old }
+        ensures { RunsOn C.words C.sets_first C.sets_second FIRST SECOND
+            (Range self.old) cells.old None (Range self.new) cells.new }
     {
         let on = self.rewrite.on_words();
         while self.at < self.end {
-            let _ = self.visit::<FIRST, SECOND, PlainCells<FIRST, SECOND>>(cells, on);
+            let _ = self.visit::<FIRST, SECOND, C>(cells, on);
         }
     }
 }

@@ -4,7 +4,7 @@ ghost use Rattle.std.specs.Prelude.{◌≡◌};
 
 use super::{Did, Flush, LinkGroup, RewriteRange, UnlinkGroup};
 use lpm_bits::{Hop, Prefix, Shape};
-use lpm_cells::{Cells, PlainCells};
+use lpm_cells::Cells;
 use lpm_rules::Rule;
 use std::marker::Model;
 
@@ -46,7 +46,7 @@ impl Update {
     ghost use Rattle.lpm_update.specs.Linked.{IsTable, group_at};
     ghost use Rattle.lpm_update.specs.Update.{FillsFor, IsUnderWay, group_held};
     ghost use Rattle.lpm_update.specs.Step.{AllowsNext, Steps, SetsWord};
-    ghost use Rattle.lpm_update.specs.Runs.{HasComeOn, EndsRun};
+    ghost use Rattle.lpm_update.specs.Runs.{AllowsAlong, RunsOn};
 
     /// The addition of a rule, or its replacement, by a free group where the rule is longer than
     /// `FIRST` bits and its block has none.
@@ -148,29 +148,31 @@ impl Update {
 
     /// Makes stores up to one that unlinks a group, and returns that group, or all that are left,
     /// and returns none. For many words it is faster than [`Update::step`].
-    pub fn run<const FIRST: u32, const SECOND: u32>(
+    pub fn run<const FIRST: u32, const SECOND: u32, C: Cells>(
         &mut self,
-        cells: &mut PlainCells<FIRST, SECOND>,
+        cells: &mut C,
     ) -> Option<u32>
         requires shape { IsShape FIRST SECOND }
-        requires table { IsTable FIRST SECOND cells.old }
-        requires under_way { IsUnderWay FIRST SECOND self.old cells.old }
-        ensures come { HasComeOn FIRST SECOND self.old cells.old self.new cells.new }
-        ensures held { EndsRun FIRST SECOND self.old cells.old result self.new cells.new }
+        requires table { IsTable FIRST SECOND (C.words cells.old) }
+        requires under_way { IsUnderWay FIRST SECOND self.old (C.words cells.old) }
+        requires allows { AllowsAlong C.words C.sets_first C.sets_second C.may_set_first
+            C.may_set_second FIRST SECOND self.old cells.old }
+        ensures { RunsOn C.words C.sets_first C.sets_second FIRST SECOND
+            self.old cells.old result self.new cells.new }
     {
         match &mut self.plan {
             Plan::Range(range) => {
-                range.run(cells);
+                range.run::<FIRST, SECOND, C>(cells);
                 return None;
             }
             Plan::Link(link) => {
-                link.run(cells);
+                link.run::<FIRST, SECOND, C>(cells);
                 return None;
             }
             _ => {}
         }
         loop {
-            match self.step::<FIRST, SECOND, PlainCells<FIRST, SECOND>>(cells) {
+            match self.step::<FIRST, SECOND, C>(cells) {
                 Did::Unlinked { group, .. } => return Some(group),
                 Did::Done => return None,
                 _ => {}

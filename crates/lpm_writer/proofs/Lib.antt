@@ -9,9 +9,11 @@ pub mod NextStores
 pub mod Answering
 pub mod Storing
 pub mod UpdateRuns
+pub mod MakingStores
 pub mod TakesOne
 pub mod WholeUpdates
 pub mod Rests
 pub mod Awaiting
 pub mod Additions
 pub mod Opened
+pub mod StepsAlone

@@ -89,6 +89,24 @@ by_writer does c = record {
   token = λ x. (tables_of c x).token;
 }
 
+-- the writer's steps by themselves, on whatever memory they were made
+abbrev pub steps_alone : List WriterStep → Traced (Unit {0})
+steps_alone steps = (tt, steps)
+
+abbrev pub AnyMemory : Unit {0} → WriterStep → Unit {0} → Type 0
+AnyMemory m s z = Unit {0}
+
+-- the parts of a change, by the writer's steps alone
+abbrev pub by_steps : Setup → Transitions (List WriterStep)
+by_steps c = record {
+  checks = λ x token result z.
+      Checks AnyMemory c (steps_alone x) token result (steps_alone z);
+  begins = λ x z. (change : RuleChange) × (z ≡ Opens change ∷ x);
+  unlinks = λ x name z. StoresOverLink AnyMemory c (steps_alone x) name (steps_alone z);
+  ends = λ x z. StoresAndCloses AnyMemory c (steps_alone x) (steps_alone z);
+  token = λ x. (tables c x).token;
+}
+
 -- a token was started for a group that was just unlinked, room was made in limbo, and the group went
 -- last into it
 abbrev pub Retires : {M : Type 0} → (M → WriterStep → M → Type 0) → Setup → Config → Traced M

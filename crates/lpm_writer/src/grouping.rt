@@ -18,14 +18,19 @@ use lpm_entry::Entry;
 use lpm_memory::Memory;
 use qsbr::Busy;
 
-/// Whether the block has a group.
-fn is_linked<const FIRST: u32, const SECOND: u32, M: Memory>(memory: &mut M, block: usize) -> bool
-    requires shape { IsShape FIRST SECOND }
-    requires block { block < 2 ^ FIRST }
+/// Whether the block of the prefix's first address has a group.
+#[inline]
+pub(crate) fn is_linked<const FIRST: u32, const SECOND: u32, M: Memory>(
+    prefix: &Prefix<FIRST, SECOND>,
+    memory: &mut M,
+) -> bool
     requires words { IsWords FIRST SECOND (M.words memory.old) }
-    ensures linked { IsTrue result ↔ IsSome (group_at (M.words memory.old).firsts block) }
+    ensures linked { IsTrue result
+        ↔ IsSome (group_at (M.words memory.old).firsts (prefix.now.bits / 2 ^ SECOND)) }
     ensures same { memory.new ≡ memory.old }
 {
+    let bits = prefix.bits();
+    let block = Shape::<FIRST, SECOND>::first_index(bits);
     matches!(Entry::of_word(memory.first(block)), Entry::Group(_))
 }
 
@@ -34,11 +39,12 @@ fn is_linked<const FIRST: u32, const SECOND: u32, M: Memory>(memory: &mut M, blo
 /// holds the oldest group in limbo.
 pub(crate) fn group_for<const FIRST: u32, const SECOND: u32, M: Memory>(
     prefix: &Prefix<FIRST, SECOND>,
+    linked: bool,
     memory: &mut M,
     books: &mut Books,
 ) -> Result<Option<u32>, Option<Busy>>
-    requires shape { IsShape FIRST SECOND }
-    requires words { IsWords FIRST SECOND (M.words memory.old) }
+    requires linked { IsTrue linked
+        ↔ IsSome (group_at (M.words memory.old).firsts (prefix.now.bits / 2 ^ SECOND)) }
     requires queued { IsQueued books.old.groups books.old.queue }
     requires rests { (c : Setup) × (steps : List WriterStep) × M.did memory.old c steps
         × MayTake c steps books.old }
@@ -56,10 +62,10 @@ pub(crate) fn group_for<const FIRST: u32, const SECOND: u32, M: Memory>(
     if prefix.len() <= FIRST {
         return Ok(None);
     }
-    let block = Shape::<FIRST, SECOND>::first_index(bits);
-    if is_linked::<FIRST, SECOND, M>(memory, block) {
+    if linked {
         return Ok(None);
     }
+    let block = Shape::<FIRST, SECOND>::first_index(bits);
     match take(books, memory, block) {
         Ok(group) => return Ok(Some(group)),
         Err(oldest) => return Err(oldest),

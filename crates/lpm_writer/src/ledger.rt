@@ -11,7 +11,7 @@ ghost use Rattle.lpm_writer.specs.Resting.{IsResting, state_of};
 
 use super::Books;
 use super::changing::change;
-use super::grouping::group_for;
+use super::grouping::{group_for, is_linked};
 use super::waiting::reclaim as free_waiting;
 use defer_queue::Reclaimed;
 use lpm_bits::{Hop, Prefix, Shape};
@@ -115,6 +115,8 @@ pub fn add<const FIRST: u32, const SECOND: u32, M: Memory>(
             _ => Err(Refusal::Exhausted),
         };
     }
+    // The word is loaded here, so that the wait for it and the search of the rules overlap.
+    let linked = is_linked::<FIRST, SECOND, M>(prefix, memory);
     let put = match ledger.rules.put(prefix, hop) {
         Ok(put) => put,
         Err(RuleFault::TooManyRules) => return Err(Refusal::TooManyRules),
@@ -123,7 +125,7 @@ pub fn add<const FIRST: u32, const SECOND: u32, M: Memory>(
     if let Put::Unchanged = put {
         return Ok(put);
     }
-    match group_for::<FIRST, SECOND, M>(prefix, memory, &mut ledger.books) {
+    match group_for::<FIRST, SECOND, M>(prefix, linked, memory, &mut ledger.books) {
         Ok(group) => {
             let update = Update::add(prefix, hop, group);
             change::<FIRST, SECOND, M>(update, memory, &mut ledger.books, &ledger.config);

@@ -1,6 +1,6 @@
 //! How a table is opened, in the memory of one thread.
 
-ghost use Rattle.std.specs.Prelude.{◌≡◌, ◌↔◌, List, [], IfOk, IfErr};
+ghost use Rattle.std.specs.Prelude.{◌≡◌, ◌↔◌, List, [], IfOk, IfErr, replicate};
 ghost use Rattle.std.specs.FinMap as map;
 ghost use Rattle.lpm_bits.specs.Widths.{IsShape};
 ghost use Rattle.lpm_limits.specs.Limits.{IsConfig};
@@ -17,6 +17,38 @@ use lpm_rules::Rules;
 use qsbr::Config;
 use std::alloc::Global;
 
+impl<const FIRST: u32, const SECOND: u32> Ledger<FIRST, SECOND> {
+    /// What a writer keeps of a table without rules. It refuses limits out of range, and ends with
+    /// `Memory` where there is no room for the groups.
+    pub fn new(alloc: Global, config: Config) -> Result<Self, OpenError>
+        requires shape { IsShape FIRST SECOND }
+        ensures rests { IfOk result (λ l. IsResting FIRST SECOND (opening_setup FIRST SECOND config)
+            [] l.config l.rules l.books l.versions) }
+        ensures config { IfOk result (λ l. l.config ≡ config) }
+        ensures in_range { IfOk result (λ _. IsConfig config) }
+        ensures rules { IfOk result (λ l. l.rules.rules ≡ map.empty) }
+        ensures queue { IfOk result (λ l. l.books.queue.items ≡ []) }
+        ensures versions { IfOk result (λ l. l.versions ≡ 0) }
+        ensures bad_config { IfErr result
+            (λ error. (error ≡ OpenError.BadConfig) ↔ (¬ IsConfig config)) }
+    {
+        config.check()?;
+        let groups = Groups::new(alloc, config.groups)?;
+        let queue = DeferQueue::new(alloc, config.groups)?;
+        let books = Books {
+            groups,
+            queue,
+            passed: 0,
+        };
+        Ok(Ledger {
+            config,
+            rules: Rules::new(alloc, config.rules),
+            books,
+            versions: 0,
+        })
+    }
+}
+
 /// Opens a table without rules, with all workers offline. It refuses limits out of range, and ends
 /// with `Memory` where there is no room for the words, the groups or the workers.
 pub fn open<const FIRST: u32, const SECOND: u32>(
@@ -29,6 +61,10 @@ pub fn open<const FIRST: u32, const SECOND: u32>(
         (opening_setup FIRST SECOND config) []) }
     ensures rests { IfOk result (λ t. IsResting FIRST SECOND (opening_setup FIRST SECOND config) []
         t.0.config t.0.rules t.0.books t.0.versions) }
+    ensures domain { IfOk result (λ t. t.1.domain ≡ record {
+      token = config.first_token;
+      counters = replicate config.workers 0;
+    }) }
     ensures config { IfOk result (λ t. t.0.config ≡ config) }
     ensures rules { IfOk result (λ t. t.0.rules.rules ≡ map.empty) }
     ensures queue { IfOk result (λ t. t.0.books.queue.items ≡ []) }
@@ -36,20 +72,7 @@ pub fn open<const FIRST: u32, const SECOND: u32>(
     ensures bad_config { IfErr result
         (λ error. (error ≡ OpenError.BadConfig) ↔ (¬ IsConfig config)) }
 {
-    config.check()?;
+    let ledger = Ledger::new(alloc, config)?;
     let memory = PlainMemory::new(alloc, config.groups, config.workers, config.first_token)?;
-    let groups = Groups::new(alloc, config.groups)?;
-    let queue = DeferQueue::new(alloc, config.groups)?;
-    let books = Books {
-        groups,
-        queue,
-        passed: 0,
-    };
-    let ledger = Ledger {
-        config,
-        rules: Rules::new(alloc, config.rules),
-        books,
-        versions: 0,
-    };
     Ok((ledger, memory))
 }

@@ -16,7 +16,7 @@ ghost use Rattle.lpm_writer.specs.Making.{MayMake, HasMade};
 use super::Books;
 use super::waiting::retire;
 use lpm_memory::Memory;
-use lpm_update::{Did, Update};
+use lpm_update::Update;
 use qsbr::Config;
 
 /// Makes all stores of a change, upwards; each group that it unlinks goes into limbo directly after.
@@ -47,12 +47,7 @@ pub(crate) fn run<const FIRST: u32, const SECOND: u32, M: Memory>(
     ensures fewer { linked_count books.new.groups ≤ linked_count books.old.groups }
 {
     let mut update = update;
-    loop {
-        match update.step::<FIRST, SECOND, M>(memory) {
-            Did::First(_) => {}
-            Did::Second(_) => {}
-            Did::Unlinked { group, .. } => retire(books, memory, group, config),
-            Did::Done => return,
-        }
+    while let Some(group) = update.run::<FIRST, SECOND, M>(memory) {
+        retire(books, memory, group, config);
     }
 }

@@ -1,5 +1,5 @@
 use Rattle.std.proofs.Common.{arith, ◌≡◌, ◌+◌, ◌^◌, ◌<◌, inl, lit<, refl, sym, ap, subst, ◌∙◌, List, length, None}
-use Rattle.std.specs.Prelude.{Ok, Err}
+use Rattle.std.specs.Prelude.{IsSome, IsTrue, ◌↔◌, ◌/◌, Ok, Err}
 use Rattle.std.specs.FinMap.{insert}
 use Rattle.std.proofs.lemmas.Nat.{shr_below}
 use Rattle.lpm_cells.specs.Table.{Words, IsWords}
@@ -21,12 +21,24 @@ use Rattle.lpm_writer.proofs.Rests.{linked_resting, between_take, between_still,
 use Rattle.lpm_writer.proofs.Additions.{absent, found_states, found_fits, found_tied, found_fills, found_adds, none_adds, put_room, taken_back}
 use Rattle.lpm_writer.proofs.ledger.add.Goals as goal
 
-pub group_for-requires : goal.group_for-requires
-group_for-requires g c =
-    let x = c.args.ledger.now.books in
+pub is_linked-linked-requires : goal.is_linked-linked-requires
+is_linked-linked-requires g c =
     let r = c.requires.rests in
     let seen = (g.met.M.Memory.shows c.args.memory.now r.0 r.1 r.2).0 in
-    (lit< tt, (r.3.shape, (subst (IsWords g.row.FIRST g.row.SECOND) (sym seen) r.3.represents.table.words, (r.3.queued, (r.0, r.1, r.2, between_take r.0 r.1 x r.3.between r.3.keeps)))))
+    (lit< tt, subst (IsWords g.row.FIRST g.row.SECOND) (sym seen) r.3.represents.table.words)
+
+pub group_for-requires : goal.group_for-requires
+group_for-requires g c =
+    let b = c.args.ledger.now.books in
+    let r = c.requires.rests in
+    let same = sym c.is_linked-linked.ensures.same in
+    let block = c.args.prefix.now.bits / 2 ^ g.row.SECOND in (
+      lit< tt,
+      (
+        subst (λ m. IsTrue c.is_linked-linked.result ↔ IsSome (group_at (g.M.Cells.words m).firsts block)) same c.is_linked-linked.ensures.linked,
+        (r.3.queued, (r.0, r.1, subst (λ m. g.M.Memory.did m r.0 r.1) same r.2, between_take r.0 r.1 b r.3.between r.3.keeps)),
+      ),
+    )
 
 pub change-requires : goal.change-requires
 change-requires g c =
@@ -37,19 +49,20 @@ change-requires g c =
     let l = c.args.ledger.now in
     let p = c.args.prefix.now in
     let h = c.args.hop in
-    let m = c.args.memory.now in
+    let m = c.is_linked-linked.new.memory in
     let r = c.requires.rests in
+    let began : k.did m r.0 r.1 = subst (λ y. k.did y r.0 r.1) (sym c.is_linked-linked.ensures.same) r.2 in
     let t = by_writer k.does r.0 in
     let x : g.row.M.Denot × List WriterStep = (m, r.1) in
     let low = shr_below p.bits f s c.bits-bits.ensures.network.1 in
     let group = c.in-Ok-group_for.group in
     let mid = c.group_for.new.books in
     let y = c.group_for.new.memory in
-    let found = c.in-Ok-group_for.ensures.finds r.0 r.1 r.2 (between_take r.0 r.1 l.books r.3.between r.3.keeps) in
+    let found = c.in-Ok-group_for.ensures.finds r.0 r.1 began (between_take r.0 r.1 l.books r.3.between r.3.keeps) in
     let W = (tables r.0 r.1).words in
     let W1 = (tables r.0 found.0).words in
     let same : W1 ≡ W = found.2.quiet.words in
-    let finds = subst (λ (V : Words). Finds t f s V.firsts p x l.books (Ok group) (y, found.0) mid) (met.shows m r.0 r.1 r.2).0 found.4 in
+    let finds = subst (λ (V : Words). Finds t f s V.firsts p x l.books (Ok group) (y, found.0) mid) (met.shows m r.0 r.1 began).0 found.4 in
     let u = c.add-update.result in
     let represents = subst (Represents f s l.rules.rules) (sym same) r.3.represents in
     let fits = subst (λ V. AddFits f s l.rules.rules p V group) (sym same) (found_fits f s r.0 r.1 l.config l.rules l.books l.versions r.3 p low t x group (y, found.0) mid finds) in
@@ -85,7 +98,9 @@ returns-in-Ok-group_for g c = record {
       let l = c.args.ledger.now in
       let p = c.args.prefix.now in
       let h = c.args.hop in
-      let m = c.args.memory.now in
+      let m = c.is_linked-linked.new.memory in
+      let same_memory = c.is_linked-linked.ensures.same in
+      let began : k.did m setup steps = subst (λ y. k.did y setup steps) (sym same_memory) did in
       let t = by_writer k.does setup in
       let x : g.row.M.Denot × List WriterStep = (m, steps) in
       let put = c.in-Ok.ensures in
@@ -96,11 +111,11 @@ returns-in-Ok-group_for g c = record {
       let z = c.change.new.memory in
       let new = c.change.new.books in
       let rules = c.put.new.self in
-      let found = c.in-Ok-group_for.ensures.finds setup steps did (between_take setup steps l.books rest.between rest.keeps) in
+      let found = c.in-Ok-group_for.ensures.finds setup steps began (between_take setup steps l.books rest.between rest.keeps) in
       let W = (tables setup steps).words in
       let W1 = (tables setup found.0).words in
       let same : W1 ≡ W = found.2.quiet.words in
-      let finds = subst (λ (V : Words). Finds t f s V.firsts p x l.books (Ok group) (y, found.0) mid) (met.shows m setup steps did).0 found.4 in
+      let finds = subst (λ (V : Words). Finds t f s V.firsts p x l.books (Ok group) (y, found.0) mid) (met.shows m setup steps began).0 found.4 in
       let u = c.add-update.result in
       let represents = subst (Represents f s l.rules.rules) (sym same) rest.represents in
       let fits = subst (λ V. AddFits f s l.rules.rules p V group) (sym same) (found_fits f s setup steps l.config l.rules l.books l.versions rest p low t x group (y, found.0) mid finds) in
@@ -127,8 +142,9 @@ returns-in-Ok-group_for g c = record {
         made.0,
         made.1,
         after,
-        found_adds f s setup steps l.config l.rules l.books l.versions rest p low t x h c.in-Ok.put group (y, found.0) (z, made.0) mid new rules finds made.2.changes
-            (linked_resting f s setup made.0 l.config rules new (l.versions + 1) after) put_in c.in_default-put.not-Unchanged put.replaced.0 (λ e. put.new.0 (inl e)) left,
+        subst (λ y. Adds t f s l.config (state_of l.rules.rules (y, steps) l.books l.versions) p h (Ok c.in-Ok.put) (state_of rules.rules (z, made.0) new (l.versions + 1))) same_memory
+            (found_adds f s setup steps l.config l.rules l.books l.versions rest p low t x h c.in-Ok.put group (y, found.0) (z, made.0) mid new rules finds made.2.changes
+            (linked_resting f s setup made.0 l.config rules new (l.versions + 1) after) put_in c.in_default-put.not-Unchanged put.replaced.0 (λ e. put.new.0 (inl e)) left),
       );
   config = refl;
 }
@@ -143,7 +159,9 @@ returns-in-Err g c = record {
       let l = c.args.ledger.now in
       let p = c.args.prefix.now in
       let h = c.args.hop in
-      let m = c.args.memory.now in
+      let m = c.is_linked-linked.new.memory in
+      let same_memory = c.is_linked-linked.ensures.same in
+      let began : k.did m setup steps = subst (λ y. k.did y setup steps) (sym same_memory) did in
       let t = by_writer k.does setup in
       let x : g.row.M.Denot × List WriterStep = (m, steps) in
       let put = c.in-Ok.ensures in
@@ -151,8 +169,8 @@ returns-in-Err g c = record {
       let oldest = c.in-Err.oldest in
       let mid = c.group_for.new.books in
       let y = c.group_for.new.memory in
-      let found = c.in-Err.ensures.finds setup steps did (between_take setup steps l.books rest.between rest.keeps) in
-      let finds = subst (λ (V : Words). Finds t f s V.firsts p x l.books (Err oldest) (y, found.0) mid) (met.shows m setup steps did).0 found.4 in
+      let found = c.in-Err.ensures.finds setup steps began (between_take setup steps l.books rest.between rest.keeps) in
+      let finds = subst (λ (V : Words). Finds t f s V.firsts p x l.books (Err oldest) (y, found.0) mid) (met.shows m setup steps began).0 found.4 in
       let none = absent f s setup steps l.config l.rules l.books l.versions rest p low finds.0 in
       let back = taken_back l.rules p h c.put.new.self c.remove.new.self c.remove.result put.ok none c.remove.ensures.hop c.remove.ensures.ok in
       let room = put_room l.rules.rules p h l.rules.max c.in-Ok.put put.unchanged.0 put.replaced.0 (λ e. put.new.0 (inl e)) none in
@@ -164,7 +182,8 @@ returns-in-Err g c = record {
         found.0,
         found.1,
         subst (λ (r : RuleList). IsResting f s setup found.0 l.config r mid l.versions) (sym back) after,
-        subst (λ (r : RuleList). Adds t f s l.config (state_of l.rules.rules x l.books l.versions) p h (Err (NoGroups oldest)) (state_of r.rules (y, found.0) mid l.versions)) (sym back) adds,
+        subst (λ m. Adds t f s l.config (state_of l.rules.rules (m, steps) l.books l.versions) p h (Err (NoGroups oldest)) (state_of c.remove.new.self.rules (y, found.0) mid l.versions)) same_memory
+            (subst (λ (r : RuleList). Adds t f s l.config (state_of l.rules.rules x l.books l.versions) p h (Err (NoGroups oldest)) (state_of r.rules (y, found.0) mid l.versions)) (sym back) adds),
       );
   config = refl;
 }

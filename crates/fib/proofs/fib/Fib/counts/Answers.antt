@@ -1,9 +1,13 @@
 use Rattle.std.proofs.Common.{ap, ◌∙◌}
 use Rattle.fib_model.specs.Outcomes.{groups_in_use}
+use Rattle.lpm_writer.proofs.Rests.{linked_resting}
 use Rattle.fib.specs.Fib.{FibState}
-use Rattle.fib.proofs.Sound.{sound_linked}
 use Rattle.fib.proofs.fib.Fib.counts.Goals as goal
 
 pub returns-clause-in_use : goal.returns-clause-in_use
 returns-clause-in_use g c =
-    c.counts.ensures.in_use ∙ sound_linked c.self.invariant ∙ ap (λ (y : FibState). groups_in_use g.row.FIRST g.row.SECOND y.table.rules) c.self.view_is
+    let f = g.row.FIRST in
+    let s = g.row.SECOND in
+    let l = c.self.inside.ledger in
+    let known = c.self.invariant in
+    c.counts.ensures.in_use ∙ linked_resting f s known.0 known.1 l.config l.rules l.books l.versions known.2.rests ∙ ap (λ (y : FibState). groups_in_use f s y.table.rules) c.self.view_is

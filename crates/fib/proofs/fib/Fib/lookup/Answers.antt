@@ -1,4 +1,6 @@
-use Rattle.std.proofs.Common.{sym, subst, ◌+◌}
+use Rattle.std.proofs.Common.{sym, subst, ◌+◌, ◌∙◌, ap}
+use Rattle.lpm_cells.specs.Table.{entry_at}
+use Rattle.lpm_entry.specs.Words.{hop_in}
 use Rattle.lpm_rules.specs.Longest.{IsLongestHop}
 use Rattle.lpm_update.proofs.Promises.{best_hop}
 use Rattle.fib.specs.Fib.{FibState}
@@ -8,6 +10,8 @@ pub returns : goal.returns
 returns g c =
     let width = g.row.FIRST + g.row.SECOND in
     let x = c.self.inside in
+    let k = c.self.invariant.2 in
     let a = c.args.addr in
     subst (λ (f : FibState). IsLongestHop width f.table.rules a c.read.result) c.self.view_is
-    (subst (IsLongestHop width x.rules.rules a) (sym c.read.ensures) (best_hop width x.rules.rules a _ (c.self.invariant.represents.best a c.requires)))
+    (subst (IsLongestHop width x.ledger.rules.rules a) (sym (c.read.ensures ∙ ap (λ W. hop_in (entry_at g.row.SECOND W a)) k.did.words))
+    (best_hop width x.ledger.rules.rules a _ (k.rests.represents.best a c.requires)))

@@ -1,22 +1,29 @@
 use Rattle.lpm_update.specs.declared.update.Plan.TheVariants.{Link}
-use Rattle.lpm_update.proofs.Advancing.{advances_step, link_keeps}
-use Rattle.lpm_update.proofs.Promises.{plain_allows}
+use Rattle.lpm_update.proofs.Advancing.{advances_same, advances_step, keeps_groups, link_keeps, ran_all}
 use Rattle.lpm_update.proofs.link_group.LinkGroup.run.Goals as goal
+
+pub loop-init : goal.loop-init
+loop-init g c =
+    let C = g.C.Cells in
+    advances_same C.words C.sets_first C.sets_second g.row.FIRST g.row.SECOND (Link c.args.self.now) c.args.cells.now c.requires.table c.requires.under_way
 
 pub step-requires-clause-allows : goal.step-requires-clause-allows
 step-requires-clause-allows g c =
-    let come = c.loop.invariant.come in
-    plain_allows g.row.FIRST g.row.SECOND (Link c.loop.self) c.loop.cells come.table come.under_way
+    let known = c.loop.invariant in
+    c.requires.allows known.dids (Link c.loop.self) c.loop.cells known.leads
 
 pub loop-preserved : goal.loop-preserved
 loop-preserved g c =
+    let C = g.C.Cells in
+    let f = g.row.FIRST in
+    let s = g.row.SECOND in
     let v = Link c.step.new.self in
     let h = c.step.ensures.steps in
-    advances_step g.row.FIRST g.row.SECOND (Link c.args.self.now) c.args.cells.now c.step.result (Link c.loop.self) v c.loop.cells c.step.new.cells
-    (link_keeps g.row.FIRST g.row.SECOND c.loop.self v c.loop.cells c.step.new.cells c.step.result h) c.loop.invariant h
+    let n = keeps_groups c.step.result (link_keeps f s c.loop.self v (C.words c.loop.cells) (C.words c.step.new.cells) c.step.result h) c.in_default.not-Done in
+    advances_step C.words C.sets_first C.sets_second f s (Link c.args.self.now) c.args.cells.now c.step.result (Link c.loop.self) c.loop.cells v c.step.new.cells n c.loop.invariant h c.step.ensures.sets
 
 pub returns-in-Done : goal.returns-in-Done
 returns-in-Done g c =
-    let h = c.in-Done.ensures.steps in
-    let now = advances_step g.row.FIRST g.row.SECOND (Link c.args.self.now) c.args.cells.now _ (Link c.loop.self) (Link c.step.new.self) c.loop.cells c.step.new.cells (λ b n e. cc) c.loop.invariant h in
-    record { advances = now; over = h.stored.1 }
+    let C = g.C.Cells in
+    let h = c.in-Done.ensures in
+    ran_all C.words C.sets_first C.sets_second g.row.FIRST g.row.SECOND (Link c.args.self.now) c.args.cells.now (Link c.loop.self) c.loop.cells (Link c.step.new.self) c.step.new.cells c.loop.invariant h.steps h.sets

@@ -1,14 +1,25 @@
-use Rattle.std.proofs.Common.{arith, refl, ◌+◌, sym, subst, ◌∙◌}
+use Rattle.std.proofs.Common.{refl, ◌+◌, sym, subst, ◌∙◌}
 use Rattle.lpm_update.specs.declared.update.Plan.TheVariants.{Range}
 use Rattle.lpm_update.specs.Rewrite.{IsOnWords}
-use Rattle.lpm_update.proofs.Advancing.{advances_visit, plain_same}
-use Rattle.lpm_update.proofs.Promises.{plain_allows}
+use Rattle.lpm_update.proofs.Advancing.{visited_same, visited_visit, visited_all}
+use Rattle.lpm_update.proofs.RangeSteps.{mid_allows}
 use Rattle.lpm_update.proofs.rewrite_range.RewriteRange.run.Goals as goal
+
+pub loop-self-init : goal.loop-self-init
+loop-self-init g c =
+    let C = g.C.Cells in
+    record {
+      visited = visited_same C.words C.sets_first C.sets_second g.row.FIRST g.row.SECOND c.args.self.now c.args.cells.now c.requires.table c.requires.under_way;
+      rewrite = refl;
+    }
 
 pub visit-requires-clause-allows : goal.visit-requires-clause-allows
 visit-requires-clause-allows g c =
-    let come = c.loop-self.invariant.advances.come in
-    plain_allows g.row.FIRST g.row.SECOND (Range c.loop-self.self) c.loop-self.cells come.table come.under_way
+    let C = g.C.Cells in
+    let d = c.loop-self.cells in
+    let known = c.loop-self.invariant.visited in
+    mid_allows g.row.SECOND known.last c.loop-self.self (C.words d) known.further known.skips g.row.FIRST (C.may_set_first d) (C.may_set_second d)
+    (c.requires.allows known.advances.dids (Range known.last) d known.advances.leads)
 
 pub visit-requires-clause-on : goal.visit-requires-clause-on
 visit-requires-clause-on g c =
@@ -17,15 +28,16 @@ visit-requires-clause-on g c =
 
 pub loop-self-preserved : goal.loop-self-preserved
 loop-self-preserved g c =
+    let C = g.C.Cells in
     let known = c.loop-self.invariant in
     let visits = c.visit.ensures.visits in
     record {
-      advances = advances_visit g.row.FIRST g.row.SECOND (Range c.args.self.now) c.args.cells.now c.visit.result c.loop-self.self c.visit.new.self c.loop-self.cells c.visit.new.cells (plain_same c.loop-self.cells c.visit.result c.visit.new.cells c.visit.ensures.sets) known.advances visits;
+      visited = visited_visit C.words C.sets_first C.sets_second g.row.FIRST g.row.SECOND c.args.self.now c.args.cells.now c.loop-self.self c.loop-self.cells known.visited c.visit.new.self
+          c.visit.result c.visit.new.cells visits c.visit.ensures.sets;
       rewrite = visits.further.rewrite ∙ known.rewrite;
     }
 
-pub returns-clause-over : goal.returns-clause-over
-returns-clause-over g c =
-    let within = c.loop-self.invariant.advances.come.under_way.within in
-    let done = c.loop-self-test.false in
-    record { reached = omega (arith, within, done); groups = λ L i below. refl }
+pub returns : goal.returns
+returns g c =
+    let C = g.C.Cells in
+    visited_all C.words C.sets_first C.sets_second g.row.FIRST g.row.SECOND c.args.self.now c.args.cells.now c.loop-self.self c.loop-self.cells c.loop-self.invariant.visited c.loop-self-test.false

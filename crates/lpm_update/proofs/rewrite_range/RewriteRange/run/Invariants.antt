@@ -1,12 +1,12 @@
 use Rattle.std.proofs.Common.{◌-◌, ◌≡◌}
-use Rattle.lpm_update.specs.declared.update.Plan.TheVariants.{Range}
-use Rattle.lpm_update.specs.Runs.{Advances}
+use Rattle.lpm_update.proofs.Advancing.{Visited}
 use Rattle.lpm_update.proofs.rewrite_range.RewriteRange.run.Given as goal
 
 abbrev pub invariant-loop-self : goal.invariant-loop-self
 invariant-loop-self g l =
+    let C = g.C.Cells in
     record {
-      advances : Advances g.row.FIRST g.row.SECOND (Range l.fn.self) l.fn.cells (Range l.self) l.cells;
+      visited : Visited C.words C.sets_first C.sets_second g.row.FIRST g.row.SECOND l.fn.self l.fn.cells l.self l.cells;
       rewrite : l.self.rewrite ≡ l.fn.self.rewrite;
     }
 
