@@ -1,0 +1,5 @@
+pub mod Probes
+pub mod Deeds
+pub mod Lookups
+pub mod Ranges
+pub mod Steps

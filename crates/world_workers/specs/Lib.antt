@@ -1,0 +1,3 @@
+pub mod Scripts
+pub mod Shown
+pub mod Machine
