@@ -1,0 +1,13 @@
+use Rattle.std.proofs.Common.{◌-◌, length}
+use Rattle.world_memory.specs.World.{StaysShared}
+use Rattle.world_memory.proofs.Reaching.{PlaysOn}
+use Rattle.world_memory.proofs.world.WorldMemory.play_out.Given as goal
+
+abbrev pub invariant-loop-self : goal.invariant-loop-self
+invariant-loop-self g l = record {
+  shared : StaysShared l.fn.self l.self;
+  plays : PlaysOn g.row.FIRST g.row.SECOND l.fn.self l.self;
+}
+
+abbrev pub decreases-loop-self : goal.decreases-loop-self
+decreases-loop-self g l = length l.self.schedule - l.self.next

@@ -1,0 +1,5 @@
+pub mod Runs
+pub mod Schedule
+pub mod View
+pub mod World
+pub mod WorldLaws

@@ -1,0 +1,50 @@
+-- Meaning: what a run shows of a trace: each step, and each finished lookup (this project's: a step is
+-- one load or one store of one word, told with its actor, its kind, its index and its value).
+use Rattle.std.specs.Prelude.{ℕ, suc, List, [], ◌∷◌, ◌++◌, map, reverse}
+use Rattle.lpm_trace.specs.declared.kind.Actor.TheVariants.{Writer as WriterActor}
+use Rattle.lpm_trace.specs.declared.kind.Kind.{Kind}
+use Rattle.lpm_trace.specs.declared.kind.Kind.TheVariants as kind
+use Rattle.lpm_trace.specs.declared.kind.Step.{Step}
+use Rattle.lpm_trace.specs.declared.step.WriterStep.{WriterStep}
+use Rattle.lpm_trace.specs.declared.step.WriterStep.TheVariants.{StoreFirst, StoreSecond, Opens, Closes, BumpToken, LoadCounter}
+use Rattle.lpm_trace.specs.declared.step.TraceStep.{TraceStep}
+use Rattle.lpm_trace.specs.declared.step.TraceStep.TheVariants.{Writer, Worker as ByWorker}
+use Rattle.lpm_trace.specs.Tables.{Setup, Tables}
+use Rattle.lpm_trace.specs.Trace.{after, worker_of}
+use Rattle.world_workers.specs.declared.seen.Seen.{Seen}
+use Rattle.world_workers.specs.Shown.{shown_by, finished_by, seen_by}
+
+-- a step of the writer
+abbrev pub by_writer : Kind → ℕ → ℕ → Step
+by_writer kind index value =
+    record { actor = WriterActor; kind = kind; index = index; value = value }
+
+-- a step of the writer as a run shows it, where w is what its earlier steps left
+abbrev pub shown_write : Tables → WriterStep → Step
+shown_write w (StoreFirst i word) = by_writer kind.StoreFirst i word
+shown_write w (StoreSecond j word) = by_writer kind.StoreSecond j word
+shown_write w (Opens change) = by_writer kind.BumpSequence 0 (suc w.sequence)
+shown_write w Closes = by_writer kind.BumpSequence 0 (suc w.sequence)
+shown_write w BumpToken = by_writer kind.BumpToken 0 (suc w.token)
+shown_write w (LoadCounter token worker counter) = by_writer kind.LoadCounter worker counter
+
+-- a step as a run shows it, after these earlier ones
+abbrev pub shown : Setup → List TraceStep → TraceStep → Step
+shown c earlier (Writer s) = shown_write (after c earlier).tables s
+shown c earlier (ByWorker k s) = shown_by c k (worker_of k earlier) s
+
+-- all steps of a trace as a run shows them, the oldest first
+abbrev pub all_shown : Setup → List TraceStep → List Step
+all_shown c [] = []
+all_shown c (s ∷ steps) = all_shown c steps ++ shown c steps s ∷ []
+
+-- the lookups that a step finishes, after these earlier ones, in the order of their addresses
+abbrev pub seen_in : List TraceStep → TraceStep → List Seen
+seen_in earlier (Writer s) = []
+seen_in earlier (ByWorker k s) =
+    reverse (map (seen_by k) (finished_by (worker_of k earlier) s))
+
+-- all finished lookups of a trace, in the order in which they ended
+abbrev pub all_seen : List TraceStep → List Seen
+all_seen [] = []
+all_seen (s ∷ steps) = all_seen steps ++ seen_in steps s
