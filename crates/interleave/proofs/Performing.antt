@@ -1,0 +1,111 @@
+-- The writer's script, change by change: what was answered so far, and how a run ends.
+use Rattle.std.proofs.Common.{arith, ◌≡◌, ℕ, zero, suc, ◌+◌, ◌<◌, ◌≤◌, inl, inr, refl, ap, sym, subst, ◌∙◌, List, [], ◌∷◌, ◌++◌, length, map, reverse, Result, Ok, Err}
+use Rattle.std.proofs.lemmas.List.{reverse-append, append-nil}
+use Rattle.lpm_limits.specs.declared.busy.Busy.{Busy}
+use Rattle.lpm_limits.specs.declared.config.Config.{Config}
+use Rattle.lpm_rules.specs.declared.Change.{Change}
+use Rattle.lpm_trace.specs.declared.step.WriterStep.{WriterStep}
+use Rattle.lpm_trace.specs.declared.step.WriterStep.TheVariants.{BumpToken, LoadCounter}
+use Rattle.lpm_trace.specs.Tables.{Setup}
+use Rattle.lpm_writer.specs.Traced.{Traced, Goes, Loads, Checks, AnyMemory, steps_alone}
+use Rattle.lpm_writer.specs.Synchronizing.{AreStopped}
+use Rattle.interleave.specs.declared.reply.Reply.{Reply}
+use Rattle.interleave.specs.Replies.{Kept, Waits, CameOut, next_token}
+use Rattle.interleave.specs.Runs.{Log, HaveComeOut, IsUnderWay, IsPerformed}
+
+-- ---- how long a wait is
+
+abbrev Alone : Type 0
+Alone = Traced (Unit {0})
+
+goes_longer : (x z : Alone) (s : WriterStep) → Goes AnyMemory x s z → length z.1 ≡ suc (length x.1)
+goes_longer x z s h = ap length h.1
+
+loads_longer : (n : ℕ) (x z : Alone) (token : ℕ) → Loads AnyMemory n x token z → length x.1 ≤ length z.1
+loads_longer zero x z token h = subst (λ (t : Alone). length x.1 ≤ length t.1) (sym h) (omega (arith))
+loads_longer (suc n) x z token h =
+    let before = loads_longer n x h.0 token h.2 in
+    let now = goes_longer h.0 z (LoadCounter token n h.1) h.4 in
+    omega (arith, before, now)
+
+stop_longer : (c : Setup) (x z : Alone) (token : ℕ) (busy : Busy) → Checks AnyMemory c x token (Err busy) z → length x.1 < length z.1
+stop_longer c x z token busy (inl h) = absurd (no_pass busy h.1)
+  where
+    no_pass : (b : Busy) → ◌≡◌ {A = Result (Unit {0}) Busy} (Err b) (Ok tt) → ⊥
+    no_pass b e = cc
+stop_longer c x z token busy (inr h) =
+    let ask = h.1 in
+    let before = loads_longer busy.worker x ask.0 token ask.1 in
+    let now = goes_longer ask.0 z (LoadCounter token busy.worker busy.counter) ask.5 in
+    omega (arith, before, now)
+
+stops_longer : (c : Setup) (n : ℕ) (x z : Alone) (token : ℕ) → AreStopped AnyMemory c n x token z → length x.1 + n ≤ length z.1
+stops_longer c zero x z token h = subst (λ (t : Alone). length x.1 + 0 ≤ length t.1) (sym h) (omega (arith))
+stops_longer c (suc n) x z token h =
+    let before = stops_longer c n x h.0 token h.2 in
+    let now = stop_longer c h.0 z token h.1 h.3 in
+    omega (arith, before, now)
+
+pub waits_longer : (c : Setup) (n : ℕ) (x z : List WriterStep) → Waits c n x z → length x + n < length z
+waits_longer c n x z h =
+    let longer = stops_longer c n (steps_alone (BumpToken ∷ x)) (steps_alone z) (next_token c x) h in
+    omega (arith, longer)
+
+-- ---- the script
+
+module _ (c : Setup) (f g : ℕ) (config : Config) (n : ℕ) (opening : Kept) where
+  -- these changes were answered so, and left `last`
+  pub record HasPerformed (changes : List (Change f g)) (replies : List Reply) (last : Kept) : Type 0 where
+    pub log : Log f g
+    pub changes_are : changes ≡ reverse (map (λ entry. entry.0) log)
+    pub replies_are : replies ≡ reverse (map (λ entry. entry.1) log)
+    pub answered : HaveComeOut c f g config n opening log last
+
+  pub performed_none : HasPerformed [] [] opening
+  performed_none = record { log = []; changes_are = refl; replies_are = refl; answered = refl }
+
+  pub performed_more : (changes : List (Change f g)) (replies : List Reply) (last : Kept) (change : Change f g) (reply : Reply) (z : Kept)
+      → HasPerformed changes replies last → length last.readers < n → length z.readers ≤ n → CameOut c f g config last change reply z
+      → HasPerformed (changes ++ change ∷ []) (replies ++ reply ∷ []) z
+  performed_more changes replies last change reply z h low high answers = record {
+    log = (change, reply) ∷ h.log;
+    changes_are = ap (λ xs. xs ++ change ∷ []) h.changes_are ∙ sym (reverse-append (change ∷ []) (map (λ entry. entry.0) h.log));
+    replies_are = ap (λ xs. xs ++ reply ∷ []) h.replies_are ∙ sym (reverse-append (reply ∷ []) (map (λ entry. entry.1) h.log));
+    answered = (last, h.answered, low, high, answers);
+  }
+
+  pub performed_all : (changes : List (Change f g)) (replies : List Reply) (last : Kept) → HasPerformed changes replies last → IsPerformed c f g config n opening changes replies last.readers
+  performed_all changes replies last h = record {
+    log = h.log;
+    left = [];
+    last = last;
+    script_is = h.changes_are ∙ sym (append-nil (reverse (map (λ entry. entry.0) h.log)));
+    replies_are = h.replies_are;
+    answered = h.answered;
+    ends = refl;
+  }
+
+  pub performed_before : (changes left : List (Change f g)) (replies : List Reply) (last : Kept) (change : Change f g) → HasPerformed changes replies last → n ≤ length last.readers
+      → IsPerformed c f g config n opening (changes ++ change ∷ left) replies last.readers
+  performed_before changes left replies last change h none = record {
+    log = h.log;
+    left = change ∷ left;
+    last = last;
+    script_is = ap (λ xs. xs ++ change ∷ left) h.changes_are;
+    replies_are = h.replies_are;
+    answered = h.answered;
+    ends = inl (none, refl);
+  }
+
+  pub performed_within : (changes left : List (Change f g)) (replies : List Reply) (last : Kept) (change : Change f g) (steps : List WriterStep) → HasPerformed changes replies last
+      → length last.readers < n → n < length steps → IsUnderWay c f g config last change steps
+      → IsPerformed c f g config n opening (changes ++ change ∷ left) replies steps
+  performed_within changes left replies last change steps h low high way = record {
+    log = h.log;
+    left = change ∷ left;
+    last = last;
+    script_is = ap (λ xs. xs ++ change ∷ left) h.changes_are;
+    replies_are = h.replies_are;
+    answered = h.answered;
+    ends = inr (low, high, way);
+  }

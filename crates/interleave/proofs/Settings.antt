@@ -1,0 +1,16 @@
+-- What no step of the writer changes: the scripts and the schedule.
+use Rattle.std.proofs.Common.{◌≡◌, ℕ, List}
+use Rattle.lpm_trace.specs.declared.kind.Actor.{Actor}
+use Rattle.lpm_trace.specs.declared.kind.Deed.{Deed}
+use Rattle.lpm_trace.specs.declared.step.WriterStep.{WriterStep}
+use Rattle.world_memory.specs.View.{WorldView}
+use Rattle.world_memory.specs.World.{WorldDoes, setting}
+
+abbrev pub does_in : ℕ → ℕ → WorldView → WriterStep → WorldView → Type 0
+does_in first second m s z = WorldDoes first second s m z
+
+abbrev pub Setting : Type 0
+Setting = List (List Deed) × List Actor
+
+pub stays : (first second : ℕ) (m : WorldView) (s : WriterStep) (z : WorldView) → does_in first second m s z → setting z ≡ setting m
+stays first second m s z does = does.0

@@ -1,0 +1,49 @@
+-- A synchronize that goes on: a token was started, and a worker stopped each check of it so far.
+use Rattle.std.proofs.Common.{◌≡◌, ℕ, suc, ap, ◌∙◌, subst, List, Err}
+use Rattle.lpm_limits.specs.declared.busy.Busy.{Busy}
+use Rattle.lpm_limits.specs.declared.config.Config.{Config}
+use Rattle.lpm_rules.specs.RuleMap.{RuleList}
+use Rattle.lpm_trace.specs.declared.step.WriterStep.{WriterStep}
+use Rattle.lpm_trace.specs.declared.step.WriterStep.TheVariants.{BumpToken}
+use Rattle.lpm_trace.specs.Tables.{Setup, tables}
+use Rattle.lpm_writer.specs.declared.books.Books.{Books}
+use Rattle.lpm_writer.specs.Traced.{Goes, Checks, steps_alone}
+use Rattle.lpm_writer.specs.Resting.{IsResting}
+use Rattle.lpm_writer.specs.Synchronizing.{IsWaiting}
+use Rattle.lpm_writer.proofs.Checks.{check_stops}
+use Rattle.lpm_writer.proofs.StepsAlone.{checks_alone}
+use Rattle.interleave.specs.Replies.{Waits, next_token}
+
+module _ {M : Type 0} (did : M → Setup → List WriterStep → Type 0) (first second : ℕ) where
+  -- from m a token was started, and n checks of it were stopped, which led to z
+  abbrev pub HasWaited : M → Config → RuleList → Books → ℕ → ℕ → M → Type 0
+  HasWaited m config rules books begun n z = (c : Setup) (steps : List WriterStep) → did m c steps
+      → IsResting first second c steps config rules books begun
+      → (later : List WriterStep) × did z c later × IsWaiting first second c later config rules books begun
+      × ((tables c later).token ≡ next_token c steps) × Waits c n steps later
+
+  pub waited_none : (does : M → WriterStep → M → Type 0) (m z : M) (config : Config) (rules : RuleList) (books : Books) (begun : ℕ)
+      → ((c : Setup) (steps : List WriterStep) → did m c steps → IsResting first second c steps config rules books begun
+      → (later : List WriterStep) × did z c later × Goes does (m, steps) BumpToken (z, later) × IsWaiting first second c later config rules books begun)
+      → HasWaited m config rules books begun 0 z
+  waited_none does m z config rules books begun starts c steps did_it rests =
+      let s = starts c steps did_it rests in
+      (s.0, s.1, s.3, ap (λ w. (tables c w).token) s.2.1, ap steps_alone s.2.1)
+
+  pub waited_more : (does : M → WriterStep → M → Type 0) (m y z : M) (config : Config) (rules : RuleList) (books : Books) (begun n token : ℕ) (busy : Busy)
+      → HasWaited m config rules books begun n y
+      → ((c : Setup) (steps : List WriterStep) → did y c steps → token ≡ (tables c steps).token)
+      → ((c : Setup) (steps : List WriterStep) → did y c steps → IsWaiting first second c steps config rules books begun
+      → (later : List WriterStep) × did z c later × Checks does c (y, steps) token (Err busy) (z, later) × IsWaiting first second c later config rules books begun)
+      → HasWaited m config rules books begun (suc n) z
+  waited_more does m y z config rules books begun n token busy waited newest checks c steps did_it rests =
+      let so_far = waited c steps did_it rests in
+      let now = checks c so_far.0 so_far.1 so_far.2 in
+      let is : token ≡ next_token c steps = newest c so_far.0 so_far.1 ∙ so_far.3 in
+      let check : Checks does c (y, so_far.0) (next_token c steps) (Err busy) (z, now.0) = subst (λ t. Checks does c (y, so_far.0) t (Err busy) (z, now.0)) is now.2 in (
+        now.0,
+        now.1,
+        now.3,
+        (check_stops does c (y, so_far.0) (next_token c steps) busy (z, now.0) check).token ∙ so_far.3,
+        (steps_alone so_far.0, busy, so_far.4, checks_alone M does c (y, so_far.0) (z, now.0) (next_token c steps) (Err busy) check),
+      )

@@ -1,0 +1,120 @@
+use Rattle.std.proofs.Common.{arith, ◌≡◌, ℕ, suc, ◌+◌, ◌<◌, ◌≤◌, true, ap, sym, subst, ◌∙◌, List, [], ◌∷◌, ◌++◌, length, take, drop, get_or, Some, None, drop-cons}
+use Rattle.std.specs.Prelude.{is_ok, not, if◌then◌else◌}
+use Rattle.std.proofs.lemmas.List.{take_more, take_all, take-append-drop}
+use Rattle.lpm_trace.specs.declared.kind.Actor.{Actor}
+use Rattle.lpm_trace.specs.declared.kind.Actor.TheVariants.{Writer as WriterActor, Worker as WorkerActor}
+use Rattle.world_memory.specs.Schedule.{writer_items}
+use Rattle.world_memory.proofs.Reaching.{setting_stays}
+use Rattle.interleave.proofs.ScriptAnswers.{HasAnswered, HasEnded, HasCome, IsLate, answered_more, ends_all, ends_before, ends_late, ends_waiting}
+use Rattle.interleave.proofs.answering.answer_all.Goals as goal
+
+split : {A : Type 0} (xs : List A) (i : ℕ) (x : A) → i < length xs → x ≡ get_or xs i x → take i xs ++ x ∷ drop (suc i) xs ≡ xs
+split xs i x low is = ap (λ y. take i xs ++ y ∷ drop (suc i) xs) is ∙ ap (λ ys. take i xs ++ ys) (sym (drop-cons xs i x low)) ∙ take-append-drop i xs
+
+one_more : {A : Type 0} (xs : List A) (i : ℕ) (x : A) → i < length xs → x ≡ get_or xs i x → take (i + 1) xs ≡ take i xs ++ x ∷ []
+one_more xs i x low is = take_more xs i x low ∙ ap (λ y. take i xs ++ y ∷ []) (sym is)
+
+items_few : (xs : List Actor) → writer_items xs ≤ length xs
+items_few [] = omega arith
+items_few (WriterActor ∷ xs) = omega (arith, items_few xs)
+items_few (WorkerActor k ∷ xs) = omega (arith, items_few xs)
+
+pub reach-requires : goal.reach-requires
+reach-requires g c =
+    let o = c.requires.opening in
+    let h = c.loop-change.invariant.answered o.0 o.1 o.2 in
+    (omega arith, (o.0, h.0, h.1))
+
+pub returns-then-not-reach-clause-performed : goal.returns-then-not-reach-clause-performed
+returns-then-not-reach-clause-performed g c =
+    let f = g.row.FIRST in
+    let s = g.row.SECOND in
+    let i = c.loop-change.change-index in
+    let change = c.change-item.result in
+    let all = c.args.changes.now in
+    let done = take i all in
+    let ends : HasEnded f s c.args.memory.now c.args.ledger.now (done ++ change ∷ drop (suc i) all) c.loop-change.replies.items c.reach.new.self =
+    ends_before f s c.args.memory.now c.args.ledger.now done c.loop-change.replies.items c.loop-change.memory c.reach.new.self c.loop-change.ledger
+    c.loop-change.invariant.answered c.loop-change.invariant.setting_is c.if-not-reach.ensures.reaches change (drop (suc i) all) c.if-not-reach.ensures.left in
+    subst (λ xs. HasEnded f s c.args.memory.now c.args.ledger.now xs c.loop-change.replies.items c.reach.new.self) (split all i change c.loop-change-test.true c.change-item.is) ends
+
+pub answer-requires : goal.answer-requires
+answer-requires g c =
+    let o = c.requires.opening in
+    let h = c.loop-change.invariant.answered o.0 o.1 o.2 in
+    (omega arith, (omega arith, (omega arith, (o.0, h.0, c.if-not-reach.ensures.reaches o.0 h.0 h.1, h.2))))
+
+pub returns-in_default-clause-performed : goal.returns-in_default-clause-performed
+returns-in_default-clause-performed g c =
+    let f = g.row.FIRST in
+    let s = g.row.SECOND in
+    let i = c.loop-change.change-index in
+    let change = c.change-item.result in
+    let all = c.args.changes.now in
+    let done = take i all in
+    let y = c.reach.new.self in
+    let m' = c.answer.new.memory in
+    let l' = c.answer.new.ledger in
+    let still = c.in_ok-reply.ensures.setting ∙ setting_stays c.loop-change.memory y c.if-not-reach.ensures.shared ∙ c.loop-change.invariant.setting_is in
+    let come : HasCome f s y c.loop-change.ledger change c.args.tries None m' l' = subst (λ came. HasCome f s y c.loop-change.ledger change c.args.tries came m' l') c.in_default.is c.in_ok-reply.ensures.replies in
+    let ends : HasEnded f s c.args.memory.now c.args.ledger.now (done ++ change ∷ drop (suc i) all) c.loop-change.replies.items m' =
+    ends_waiting f s c.args.memory.now c.args.ledger.now done c.loop-change.replies.items c.loop-change.memory y c.loop-change.ledger
+    c.loop-change.invariant.answered c.loop-change.invariant.setting_is c.if-not-reach.ensures.reaches change (drop (suc i) all) c.args.tries m' l'
+    c.loop-change.invariant.config c.if-not-reach.ensures.left still (omega (arith, items_few c.args.memory.now.schedule, c.requires.tries)) come in
+    subst (λ xs. HasEnded f s c.args.memory.now c.args.ledger.now xs c.loop-change.replies.items m') (split all i change c.loop-change-test.true c.change-item.is) ends
+
+pub returns-then-is_stopped-clause-performed : goal.returns-then-is_stopped-clause-performed
+returns-then-is_stopped-clause-performed g c =
+    let f = g.row.FIRST in
+    let s = g.row.SECOND in
+    let i = c.loop-change.change-index in
+    let change = c.change-item.result in
+    let all = c.args.changes.now in
+    let done = take i all in
+    let y = c.reach.new.self in
+    let m' = c.answer.new.memory in
+    let l' = c.answer.new.ledger in
+    let still = c.in_ok-reply.ensures.setting ∙ setting_stays c.loop-change.memory y c.if-not-reach.ensures.shared ∙ c.loop-change.invariant.setting_is in
+    let come : HasCome f s y c.loop-change.ledger change c.args.tries (Some c.in-Some.reply) m' l' = subst (λ came. HasCome f s y c.loop-change.ledger change c.args.tries came m' l') c.in-Some.is c.in_ok-reply.ensures.replies in
+    let ends : HasEnded f s c.args.memory.now c.args.ledger.now (done ++ change ∷ drop (suc i) all) c.loop-change.replies.items m' =
+    ends_late f s c.args.memory.now c.args.ledger.now done c.loop-change.replies.items c.loop-change.memory y c.loop-change.ledger
+    c.loop-change.invariant.answered c.loop-change.invariant.setting_is c.if-not-reach.ensures.reaches change (drop (suc i) all) c.args.tries m' l'
+    c.loop-change.invariant.config c.if-not-reach.ensures.left still c.in-Some.reply come (subst (IsLate f s m') c.if-is_stopped.true c.is_stopped.ensures) in
+    subst (λ xs. HasEnded f s c.args.memory.now c.args.ledger.now xs c.loop-change.replies.items m') (split all i change c.loop-change-test.true c.change-item.is) ends
+
+pub loop-change-preserved : goal.loop-change-preserved
+loop-change-preserved g c =
+    let f = g.row.FIRST in
+    let s = g.row.SECOND in
+    let i = c.loop-change.change-index in
+    let change = c.change-item.result in
+    let all = c.args.changes.now in
+    let done = take i all in
+    let y = c.reach.new.self in
+    let m' = c.answer.new.memory in
+    let l' = c.answer.new.ledger in
+    let still = c.in_ok-reply.ensures.setting ∙ setting_stays c.loop-change.memory y c.if-not-reach.ensures.shared ∙ c.loop-change.invariant.setting_is in
+    let come : HasCome f s y c.loop-change.ledger change c.args.tries (Some c.in-Some.reply) m' l' = subst (λ came. HasCome f s y c.loop-change.ledger change c.args.tries came m' l') c.in-Some.is c.in_ok-reply.ensures.replies in
+    let more : HasAnswered f s c.args.memory.now c.args.ledger.now (done ++ change ∷ []) (c.loop-change.replies.items ++ c.in-Some.reply ∷ []) m' l' =
+    answered_more f s c.args.memory.now c.args.ledger.now done c.loop-change.replies.items c.loop-change.memory y c.loop-change.ledger
+    c.loop-change.invariant.answered c.loop-change.invariant.setting_is c.if-not-reach.ensures.reaches change (drop (suc i) all) c.args.tries m' l'
+    c.loop-change.invariant.config c.if-not-reach.ensures.left still c.in-Some.reply come (subst (IsLate f s m') c.if-is_stopped.false c.is_stopped.ensures) in
+    let ok : is_ok c.push.result ≡ true = c.is_err.ensures.negation ∙ ap not c.if-is_err.false in
+    let pushed : c.push.new.self.items ≡ c.loop-change.replies.items ++ c.in-Some.reply ∷ [] =
+    c.push.ensures.items ∙ ap (λ b. if b then (c.loop-change.replies.items ++ c.in-Some.reply ∷ []) else c.loop-change.replies.items) ok in
+    record {
+      config = c.answer.ensures.config ∙ c.loop-change.invariant.config;
+      setting_is = still;
+      answered = subst (λ xs. HasAnswered f s c.args.memory.now c.args.ledger.now xs c.push.new.self.items m' l') (sym (one_more all i change c.loop-change-test.true c.change-item.is))
+          (subst (λ xs. HasAnswered f s c.args.memory.now c.args.ledger.now (done ++ change ∷ []) xs m' l') (sym pushed) more);
+    }
+
+pub returns-clause-performed : goal.returns-clause-performed
+returns-clause-performed g c =
+    let f = g.row.FIRST in
+    let s = g.row.SECOND in
+    let all = c.args.changes.now in
+    let whole = take_all c.loop-change.change-index all (omega (arith, c.loop-change-test.false)) in
+    let ends = ends_all f s c.args.memory.now c.args.ledger.now (take c.loop-change.change-index all) c.loop-change.replies.items c.loop-change.memory c.loop-change.memory c.loop-change.ledger
+    c.loop-change.invariant.answered c.loop-change.invariant.setting_is (λ c' steps did. did) in
+    subst (λ xs. HasEnded f s c.args.memory.now c.args.ledger.now xs c.loop-change.replies.items c.loop-change.memory) whole ends

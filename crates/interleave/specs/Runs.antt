@@ -1,0 +1,115 @@
+-- Meaning: a run of the pure world: the writer's changes and the workers' deeds by a schedule (this
+-- project's).
+use Rattle.std.specs.Prelude.{ℕ, ◌≡◌, ◌≢◌, ◌<◌, ◌≤◌, ◌⊎◌, All, List, [], ◌∷◌, ◌++◌, length, map, reverse}
+use Rattle.std.specs.FinMap.{empty}
+use Rattle.reader_intervals.specs.Intervals.{Interval, IsReaderInterval, Holds}
+use Rattle.lpm_limits.specs.declared.config.Config.{Config}
+use Rattle.lpm_rules.specs.declared.Change.{Change}
+use Rattle.lpm_rules.specs.declared.Change.TheVariants.{Synchronize}
+use Rattle.lpm_trace.specs.declared.kind.Actor.{Actor}
+use Rattle.lpm_trace.specs.declared.kind.Deed.{Deed}
+use Rattle.lpm_trace.specs.declared.step.WriterStep.{WriterStep}
+use Rattle.lpm_trace.specs.declared.step.TraceStep.{TraceStep}
+use Rattle.lpm_trace.specs.declared.step.TraceStep.TheVariants.{Writer}
+use Rattle.lpm_trace.specs.Tables.{Setup, addresses, answer, IsAnswer, done, begun}
+use Rattle.lpm_trace.specs.Trace.{IsTrace, writes, worker_of}
+use Rattle.lpm_trace.specs.Laws.{Stands, version_at, IsLegal, IsMonotone, Unlinks, Fills, by_steps, at_moment, rules_of_version}
+use Rattle.world_memory.specs.Runs.{all_shown, all_seen}
+use Rattle.world_memory.specs.Schedule.{HasEnded, Makes, AreScripted, writer_items}
+use Rattle.lpm_writer.specs.Opening.{opening_setup}
+use Rattle.interleave.specs.declared.reply.Reply.{Reply}
+use Rattle.interleave.specs.declared.trace.Trace.{Trace}
+use Rattle.interleave.specs.Replies.{Kept, Waits, CameOut}
+
+-- ---- the writer's script
+
+-- changes and what came of each, the newest first
+abbrev pub Log : ℕ → ℕ → Type 0
+Log f g = List (Change f g × Reply)
+
+-- n items of the schedule are the writer's: a change is begun where one is left for it, and answered
+-- where its last step has one. So the changes of the log were answered one after another, and left z.
+abbrev pub HaveComeOut : Setup → (f g : ℕ) → Config → ℕ → Kept → Log f g → Kept → Type 0
+HaveComeOut c f g config n opening [] z = z ≡ opening
+HaveComeOut c f g config n opening (entry ∷ log) z = (s : Kept)
+    × HaveComeOut c f g config n opening log s
+    × (length s.readers < n) × (length z.readers ≤ n)
+    × CameOut c f g config s entry.0 entry.1 z
+
+-- with these steps the change would come out in some way, or a synchronize would wait on
+abbrev pub IsUnderWay : Setup → (f g : ℕ) → Config → Kept → Change f g → List WriterStep → Type 0
+IsUnderWay c f g config s change steps =
+    ((reply : Reply) × (z : Kept) × CameOut c f g config s change reply z × (z.readers ≡ steps))
+    ⊎ ((change ≡ Synchronize) × ((tries : ℕ) × Waits c tries s.readers steps))
+
+-- of the changes that are left the first wasn't begun, or would need more than the writer's items
+abbrev pub Ends : Setup → (f g : ℕ) → Config → ℕ → Kept → List (Change f g) → List WriterStep → Type 0
+Ends c f g config n s [] steps = steps ≡ s.readers
+Ends c f g config n s (change ∷ left) steps =
+    ((n ≤ length s.readers) × (steps ≡ s.readers))
+    ⊎ ((length s.readers < n) × (n < length steps) × IsUnderWay c f g config s change steps)
+
+-- the changes of the script were answered in order, as far as the writer's items lead; `steps` are the
+-- writer's, with those that the last change still needs
+pub record IsPerformed (c : Setup) (f g : ℕ) (config : Config) (n : ℕ) (opening : Kept)
+    (script : List (Change f g)) (replies : List Reply) (steps : List WriterStep) : Type 0 where
+  pub log : Log f g
+  pub left : List (Change f g)
+  pub last : Kept
+  pub script_is : script ≡ reverse (map (λ entry. entry.0) log) ++ left
+  pub replies_are : replies ≡ reverse (map (λ entry. entry.1) log)
+  pub answered : HaveComeOut c f g config n opening log last
+  pub ends : Ends c f g config n last left steps
+
+-- ---- what holds of a trace
+
+-- no reader interval holds both a step that unlinks a group and a later store into it
+abbrev pub ReusesLawfully : Setup → List TraceStep → Type 0
+ReusesLawfully c steps = (newer between older : List TraceStep) (unlinks fills : WriterStep) (group : ℕ)
+    → steps ≡ newer ++ Writer fills ∷ (between ++ Writer unlinks ∷ older)
+    → Unlinks c older unlinks group → Fills c fills group
+    → (i : Interval) → IsReaderInterval by_steps steps i
+    → Holds i (length older) → ¬ Holds i (length (between ++ Writer unlinks ∷ older))
+
+-- at each moment at which no update runs, the words answer by the rules of the last version
+abbrev pub RestsSettled : Setup → List TraceStep → Type 0
+RestsSettled c steps = (t : ℕ) → done (at_moment c steps t) ≡ begun (at_moment c steps t)
+    → (a : ℕ) → a < addresses c
+    → IsAnswer c (rules_of_version c steps (done (at_moment c steps t))) a
+    (answer c (at_moment c steps t).words a)
+
+-- each finished lookup is legal, and answers by the version that its address shows at a moment of its
+-- span; that version stands, and never falls; reuse is lawful; and at rest the words answer by the last
+-- version
+pub record IsLawful (c : Setup) (steps : List TraceStep) : Type 0 where
+  pub legal : (worker : ℕ) → All (IsLegal c steps) (worker_of worker steps).finished
+  pub monotone : (worker : ℕ) → All (IsMonotone c steps) (worker_of worker steps).finished
+  pub versions : (a t u : ℕ) → t ≤ u → Stands c steps t (version_at c steps a t)
+      × (version_at c steps a t ≤ version_at c steps a u)
+  pub reuse : ReusesLawfully c steps
+  pub rest : RestsSettled c steps
+
+-- ---- the run
+
+-- there are no rules, no steps were made, no group waits, and no update was begun
+abbrev pub opening_kept : Kept
+opening_kept = record { rules = empty; readers = []; limbo = []; begun = 0 }
+
+-- a trace was made by these scripts and this schedule, and that is what the run shows of it
+pub record IsRun (f g : ℕ) (config : Config) (script : List (Change f g))
+    (scripts : ℕ → List Deed) (schedule : List Actor) (shown : Trace) : Type 0 where
+  -- the steps of the run, and those that the writer's last change still needs, the newest first
+  pub steps : List TraceStep
+  pub beyond : List WriterStep
+  pub trace : IsTrace (opening_setup f g config) (map Writer beyond ++ steps)
+  pub cut : beyond ≢ [] → length (writes steps) ≡ writer_items schedule
+  -- each item of the schedule made one step of its actor, unless that had ended
+  pub scheduled : Makes
+      (HasEnded config.workers scripts (λ earlier. writes earlier ≡ beyond ++ writes steps))
+      (reverse schedule) steps
+  pub scripted : AreScripted scripts steps
+  pub performed : IsPerformed (opening_setup f g config) f g config (writer_items schedule) opening_kept
+      script shown.replies.items (beyond ++ writes steps)
+  pub shows_steps : shown.steps.items ≡ all_shown (opening_setup f g config) steps
+  pub shows_lookups : shown.lookups.items ≡ all_seen steps
+  pub lawful : IsLawful (opening_setup f g config) steps

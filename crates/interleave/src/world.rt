@@ -1,0 +1,63 @@
+//! Runs of the pure world.
+
+ghost use Rattle.std.specs.Prelude.{◌≡◌, ℕ, ◌+◌, ◌^◌, ◌↔◌, All, IfOk, IfErr, length, map};
+ghost use Rattle.lpm_bits.specs.Widths.{IsShape};
+ghost use Rattle.lpm_limits.specs.Limits.{IsConfig};
+ghost use Rattle.world_workers.specs.Scripts.{IsSound};
+ghost use Rattle.world_memory.specs.View.{script_at};
+ghost use Rattle.interleave.specs.declared.run_error.RunError.TheVariants.{BadConfig as IsBadConfig};
+ghost use Rattle.interleave.specs.Runs.{IsRun};
+
+use super::answering::answer_all;
+use super::{RunError, Trace};
+use lpm_rules::Change;
+use lpm_trace::{Actor, Deed};
+use lpm_writer::Ledger;
+use qsbr::Config;
+use std::alloc::Global;
+use world_memory::WorldMemory;
+
+/// The pure world of a table whose addresses have `FIRST` and `SECOND` bits: no threads, and each step
+/// where the schedule says.
+pub struct World<const FIRST: u32, const SECOND: u32>;
+
+impl<const FIRST: u32, const SECOND: u32> World<FIRST, SECOND> {
+    /// Runs the writer's changes and the workers' deeds by a schedule, each item of which makes one step of
+    /// its actor. An actor that is done makes none, and neither does a worker that isn't there. A change
+    /// without steps is answered at the writer's next item.
+    ///
+    /// There are as many scripts as the limits say workers, and `script_ok` takes each. It refuses limits out of range, and ends with
+    /// `Memory` where there is no room for the table, the rules or what the run shows.
+    pub fn run(
+        alloc: Global,
+        config: Config,
+        changes: &[Change<FIRST, SECOND>],
+        scripts: &[Vec<Deed>],
+        schedule: &[Actor],
+    ) -> Result<Trace, RunError>
+        requires shape { IsShape FIRST SECOND }
+        requires workers { length scripts.now ≡ config.workers }
+        requires sound { All (λ script. IsSound (2 ^ (FIRST + SECOND)) script.items) scripts.now }
+        ensures runs { IfOk result (λ trace. IsRun FIRST SECOND config changes.now
+            (script_at (map (λ script. script.items) scripts.now)) schedule.now trace) }
+        ensures limits { IfOk result (λ _. IsConfig config) }
+        ensures bad_config { IfErr result (λ error. (error ≡ IsBadConfig) ↔ (¬ IsConfig config)) }
+    {
+        let mut ledger = Ledger::new(alloc, config)?;
+        let mut memory = WorldMemory::new(
+            alloc,
+            config.groups,
+            config.first_token,
+            scripts,
+            schedule,
+        )?;
+        let replies = answer_all(alloc, &mut ledger, &mut memory, changes, schedule.len())?;
+        memory.play_out();
+        let (steps, lookups) = memory.into_record();
+        Ok(Trace {
+            steps,
+            replies,
+            lookups,
+        })
+    }
+}
