@@ -119,13 +119,10 @@ fn is_by_version(setting: &Setting, versions: &Versions, version: usize, seen: &
 /// Whether a finished lookup is legal: its answer is that of a version that stood at a moment from
 /// the read of its first word to the read of its last, and that version lies from `lo` to `hi`.
 pub fn is_legal(setting: &Setting, versions: &Versions, steps: &[Step], seen: &Seen) -> bool {
-    for moment in 0..steps.len().saturating_add(1) {
-        let is_in_span = seen.first <= moment && moment <= seen.last;
-        let done = done(steps, moment);
-        let begun = begun(steps, moment);
-        let is_by_either = is_by_version(setting, versions, done, seen)
-            || is_by_version(setting, versions, begun, seen);
-        if is_in_span && is_by_either {
+    for moment in seen.first..=seen.last.min(steps.len()) {
+        let is_by_either = is_by_version(setting, versions, done(steps, moment), seen)
+            || is_by_version(setting, versions, begun(steps, moment), seen);
+        if is_by_either {
             return true;
         }
     }
@@ -134,13 +131,10 @@ pub fn is_legal(setting: &Setting, versions: &Versions, steps: &[Step], seen: &S
 
 /// Whether a finished lookup answers by the version that its address shows at a moment of its span.
 fn is_by_shown(setting: &Setting, versions: &Versions, steps: &[Step], seen: &Seen) -> bool {
-    for moment in 0..steps.len().saturating_add(1) {
-        let is_in_span = seen.first <= moment && moment <= seen.last;
-        if is_in_span {
-            let version = version_at(setting, steps, moment, seen.addr);
-            if is_answer(setting, versions, version, seen.addr, seen.hop) {
-                return true;
-            }
+    for moment in seen.first..=seen.last.min(steps.len()) {
+        let version = version_at(setting, steps, moment, seen.addr);
+        if is_answer(setting, versions, version, seen.addr, seen.hop) {
+            return true;
         }
     }
     false

@@ -20,4 +20,4 @@ pub use memory::loads_are_stores;
 pub use order::writes_in_order;
 pub use reuse::reuse_is_lawful;
 pub use setting::Setting;
-pub use versions::{PlainRule, Versions};
+pub use versions::{PlainRule, Versions, version_at};

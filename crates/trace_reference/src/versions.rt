@@ -90,11 +90,12 @@ pub(crate) fn has_turned(setting: &Setting, steps: &[Step], moment: usize, addr:
     if !is_updating(steps, moment) {
         return false;
     }
-    let update = begun(steps, moment);
     let now = answer_at(setting, steps, moment, addr);
-    for earlier in 0..moment {
-        let is_in_it = is_updating(steps, earlier) && begun(steps, earlier) == update;
-        if is_in_it && answer_at(setting, steps, earlier, addr) != now {
+    for earlier in (0..moment).rev() {
+        if !is_updating(steps, earlier) {
+            return false;
+        }
+        if answer_at(setting, steps, earlier, addr) != now {
             return true;
         }
     }
@@ -103,7 +104,7 @@ pub(crate) fn has_turned(setting: &Setting, steps: &[Step], moment: usize, addr:
 
 /// The version that an address shows after this many steps: that of the updates done until its
 /// answer has changed in the update that runs, and that of the updates begun from that store on.
-pub(crate) fn version_at(setting: &Setting, steps: &[Step], moment: usize, addr: u32) -> usize {
+pub fn version_at(setting: &Setting, steps: &[Step], moment: usize, addr: u32) -> usize {
     if has_turned(setting, steps, moment, addr) {
         return begun(steps, moment);
     }

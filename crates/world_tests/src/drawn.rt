@@ -1,0 +1,84 @@
+// Many small worlds that are drawn, each judged by the plain deciders.
+
+ghost use Rattle.std.specs.Prelude.{◌<◌};
+ghost use Rattle.lpm_bits.specs.Widths.{IsShape};
+
+use super::drawing::{Draw, Sizes};
+use super::judging::judge;
+use super::plan::{ONE_GROUP, Plan};
+use qsbr::Config;
+use std::alloc::Global;
+use std::process::Abort;
+use std::test::Fail;
+
+// Runs and judges the plans of these numbers.
+fn judge_drawn<const FIRST: u32, const SECOND: u32>(
+    rt: &impl Abort,
+    alloc: Global,
+    from: u32,
+    to: u32,
+    sizes: &Sizes,
+) -> Result<(), Fail>
+    requires shape { IsShape FIRST SECOND }
+    requires deeds { sizes.now.deeds < 1000000 }
+{
+    for number in from..to {
+        let plan: Plan<FIRST, SECOND> = Draw::plan(rt, alloc, number, sizes)?;
+        let trace = plan.run(rt, alloc)?;
+        judge(rt, alloc, &plan, &trace)?;
+    }
+    Ok(())
+}
+
+// Short runs over blocks of four addresses, so that changes and lookups meet often.
+#[test]
+fn narrow_worlds(rt: HostRuntime) -> Result<(), Fail> {
+    let sizes = Sizes {
+        changes: 24,
+        deeds: 20,
+        items: 120,
+    };
+    judge_drawn::<2, 2>(&rt, rt.alloc(), 0, 9_000, &sizes)
+}
+
+// Long runs over blocks of four addresses.
+#[test]
+fn long_worlds(rt: HostRuntime) -> Result<(), Fail> {
+    let sizes = Sizes {
+        changes: 60,
+        deeds: 60,
+        items: 300,
+    };
+    judge_drawn::<2, 2>(&rt, rt.alloc(), 10_000, 10_700, &sizes)
+}
+
+// Runs over three of the sixteen blocks of sixteen addresses.
+#[test]
+fn wide_worlds(rt: HostRuntime) -> Result<(), Fail> {
+    let sizes = Sizes {
+        changes: 30,
+        deeds: 30,
+        items: 250,
+    };
+    judge_drawn::<4, 4>(&rt, rt.alloc(), 20_000, 20_300, &sizes)
+}
+
+// A hundred thousand items, each of which makes a step.
+#[test]
+fn many_items(rt: HostRuntime) -> Result<(), Fail> {
+    let config = Config {
+        groups: 3,
+        workers: 3,
+        threshold: 1,
+        ..ONE_GROUP
+    };
+    let sizes = Sizes {
+        changes: 20_000,
+        deeds: 20_000,
+        items: 100_000,
+    };
+    let plan: Plan<4, 4> = Draw::even_plan(&rt, rt.alloc(), config, &sizes)?;
+    let trace = plan.run(&rt, rt.alloc())?;
+    assert_eq!(rt; trace.steps.len(), 100_000);
+    Ok(())
+}

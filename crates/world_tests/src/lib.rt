@@ -1,0 +1,18 @@
+//! The tests of `interleave`, and of the workers and the memory that it stands on. They call what is
+//! public alone, so they stand here: a crate with a test is proved twice.
+#![tactic(auto)]
+
+#[cfg(test)]
+mod cases;
+#[cfg(test)]
+mod drawing;
+#[cfg(test)]
+mod drawn;
+#[cfg(test)]
+mod ends;
+#[cfg(test)]
+mod judging;
+#[cfg(test)]
+mod plan;
+#[cfg(test)]
+mod slow_writer;

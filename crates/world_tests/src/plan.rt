@@ -1,0 +1,123 @@
+// Runs of the pure world, as the tests make them.
+
+ghost use Rattle.std.specs.Prelude.{◌+◌, ◌^◌, All, IsTrue};
+ghost use Rattle.lpm_bits.specs.Widths.{IsShape};
+ghost use Rattle.world_workers.specs.Scripts.{IsSound};
+
+use interleave::{Actor, Change, Deed, RunError, Trace, World, script_ok};
+use lpm_bits::{Hop, Prefix, Shape};
+use qsbr::Config;
+use std::alloc::{AllocError, Global};
+use std::process::Abort;
+
+// One group and one worker; all else by default.
+pub(crate) const ONE_GROUP: Config = Config {
+    rules: 1_048_576,
+    groups: 1,
+    workers: 1,
+    threshold: 32,
+    reclaim_max: 16,
+    first_token: 1,
+};
+
+// What a run is made of. The number tells one plan from another where a test fails.
+#[derive(Drop)]
+pub(crate) struct Plan<const FIRST: u32, const SECOND: u32> {
+    pub(crate) number: u32,
+    pub(crate) config: Config,
+    pub(crate) changes: Vec<Change<FIRST, SECOND>>,
+    pub(crate) scripts: Vec<Vec<Deed>>,
+    pub(crate) schedule: Vec<Actor>,
+}
+
+// Whether workers can go through these scripts.
+fn are_sound<const FIRST: u32, const SECOND: u32>(scripts: &[Vec<Deed>]) -> bool
+    requires { IsShape FIRST SECOND }
+    ensures { IsTrue result
+        → All (λ script. IsSound (2 ^ (FIRST + SECOND)) script.items) scripts.now }
+{
+    for script in scripts {
+        if !script_ok::<FIRST, SECOND>(script) {
+            return false;
+        }
+    }
+    true
+}
+
+impl<const FIRST: u32, const SECOND: u32> Plan<FIRST, SECOND> {
+    pub(crate) fn run(&self, rt: &impl Abort, alloc: Global) -> Result<Trace, RunError>
+        requires { IsShape FIRST SECOND }
+    {
+        assert_eq!(rt; self.scripts.len(), self.config.workers);
+        assert!(rt; are_sound::<FIRST, SECOND>(&self.scripts));
+        World::<FIRST, SECOND>::run(
+            alloc,
+            self.config,
+            &self.changes,
+            &self.scripts,
+            &self.schedule,
+        )
+    }
+}
+
+pub(crate) fn prefix<const FIRST: u32, const SECOND: u32>(
+    rt: &impl Abort,
+    bits: u32,
+    len: u32,
+) -> Prefix<FIRST, SECOND>
+    requires { IsShape FIRST SECOND }
+{
+    assert!(rt; Shape::<FIRST, SECOND>::is_addr(bits));
+    Prefix::new(bits, len).expect(rt, "a length")
+}
+
+pub(crate) fn hop(rt: &impl Abort, number: u32) -> Hop {
+    Hop::new(number).expect(rt, "a next hop")
+}
+
+pub(crate) fn add(rt: &impl Abort, bits: u32, len: u32, number: u32) -> Change<4, 4> {
+    Change::Add(prefix(rt, bits, len), hop(rt, number))
+}
+
+pub(crate) fn delete(rt: &impl Abort, bits: u32, len: u32) -> Change<4, 4> {
+    Change::Delete(prefix(rt, bits, len))
+}
+
+// Puts this many items of the actor at the end of a schedule.
+fn push_items(schedule: &mut Vec<Actor>, actor: Actor, count: usize) -> Result<(), AllocError> {
+    for _ in 0..count {
+        schedule.push(actor)?;
+    }
+    Ok(())
+}
+
+// A schedule in which each of these actors in turn has so many items.
+pub(crate) fn schedule_of(
+    alloc: Global,
+    bursts: &[(Actor, usize)],
+) -> Result<Vec<Actor>, AllocError> {
+    let mut items = Vec::new(alloc);
+    for (actor, count) in bursts {
+        push_items(&mut items, *actor, *count)?;
+    }
+    Ok(items)
+}
+
+// A plan with one worker.
+pub(crate) fn planned(
+    alloc: Global,
+    config: Config,
+    changes: &[Change<4, 4>],
+    deeds: &[Deed],
+    bursts: &[(Actor, usize)],
+) -> Result<Plan<4, 4>, AllocError> {
+    let mut scripts = Vec::new(alloc);
+    scripts.push(Vec::from_slice(alloc, deeds)?)?;
+    Ok(Plan {
+        number: 0,
+        config,
+        changes: Vec::from_slice(alloc, changes)?,
+        scripts,
+        schedule: schedule_of(alloc, bursts)?,
+    })
+}
