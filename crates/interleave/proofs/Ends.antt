@@ -10,7 +10,7 @@ use Rattle.lpm_trace.specs.declared.kind.Deed.{Deed}
 use Rattle.lpm_trace.specs.declared.step.WriterStep.{WriterStep}
 use Rattle.lpm_trace.specs.declared.step.TraceStep.TheVariants.{Writer}
 use Rattle.lpm_trace.specs.Trace.{writes}
-use Rattle.world_memory.specs.Schedule.{HasEnded, Makes, writer_items}
+use Rattle.world_memory.specs.Schedule.{HasEnded, IsScheduled, writer_items}
 use Rattle.world_memory.specs.View.{script_at}
 use Rattle.world_memory.specs.World.{IsOpening, IsPlayedOut}
 use Rattle.lpm_writer.specs.Opening.{opening_setup}
@@ -50,8 +50,8 @@ run_ends f s config limits script scripts as_many schedule steps shown performed
       beyond = played.beyond;
       trace = played.may_come;
       cut = played.at_end;
-      scheduled = subst (λ n. Makes (HasEnded n (script_at scripts) (λ earlier. writes earlier ≡ played.beyond ++ writes played.trace)) (reverse schedule) played.trace) as_many
-          (subst (λ xs. Makes (HasEnded (length scripts) (script_at scripts) (λ earlier. writes earlier ≡ xs)) (reverse schedule) played.trace) played.split played.made);
+      scheduled = subst (λ n. IsScheduled (HasEnded n (script_at scripts) (λ earlier. writes earlier ≡ played.beyond ++ writes played.trace)) (reverse schedule) played.trace) as_many
+          (subst (λ xs. IsScheduled (HasEnded (length scripts) (script_at scripts) (λ earlier. writes earlier ≡ xs)) (reverse schedule) played.trace) played.split played.made);
       scripted = played.scripted;
       performed = subst (IsPerformed c f s config (writer_items schedule) opening_kept script shown.replies.items) played.split performed;
       shows_steps = played.shown;

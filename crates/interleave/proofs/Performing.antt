@@ -11,7 +11,7 @@ use Rattle.lpm_writer.specs.Traced.{Traced, Goes, Loads, Checks, AnyMemory, step
 use Rattle.lpm_writer.specs.Synchronizing.{AreStopped}
 use Rattle.interleave.specs.declared.reply.Reply.{Reply}
 use Rattle.interleave.specs.Replies.{Kept, Waits, CameOut, next_token}
-use Rattle.interleave.specs.Runs.{Log, HaveComeOut, IsUnderWay, IsPerformed}
+use Rattle.interleave.specs.Runs.{HaveComeOut, IsUnderWay, IsPerformed}
 
 -- ---- how long a wait is
 
@@ -56,7 +56,7 @@ waits_longer c n x z h =
 module _ (c : Setup) (f g : ℕ) (config : Config) (n : ℕ) (opening : Kept) where
   -- these changes were answered so, and left `last`
   pub record HasPerformed (changes : List (Change f g)) (replies : List Reply) (last : Kept) : Type 0 where
-    pub log : Log f g
+    pub log : List (Change f g × Reply)
     pub changes_are : changes ≡ reverse (map (λ entry. entry.0) log)
     pub replies_are : replies ≡ reverse (map (λ entry. entry.1) log)
     pub answered : HaveComeOut c f g config n opening log last
@@ -82,7 +82,7 @@ module _ (c : Setup) (f g : ℕ) (config : Config) (n : ℕ) (opening : Kept) wh
     script_is = h.changes_are ∙ sym (append-nil (reverse (map (λ entry. entry.0) h.log)));
     replies_are = h.replies_are;
     answered = h.answered;
-    ends = refl;
+    unanswered = refl;
   }
 
   pub performed_before : (changes left : List (Change f g)) (replies : List Reply) (last : Kept) (change : Change f g) → HasPerformed changes replies last → n ≤ length last.readers
@@ -94,7 +94,7 @@ module _ (c : Setup) (f g : ℕ) (config : Config) (n : ℕ) (opening : Kept) wh
     script_is = ap (λ xs. xs ++ change ∷ left) h.changes_are;
     replies_are = h.replies_are;
     answered = h.answered;
-    ends = inl (none, refl);
+    unanswered = inl (none, refl);
   }
 
   pub performed_within : (changes left : List (Change f g)) (replies : List Reply) (last : Kept) (change : Change f g) (steps : List WriterStep) → HasPerformed changes replies last
@@ -107,5 +107,5 @@ module _ (c : Setup) (f g : ℕ) (config : Config) (n : ℕ) (opening : Kept) wh
     script_is = ap (λ xs. xs ++ change ∷ left) h.changes_are;
     replies_are = h.replies_are;
     answered = h.answered;
-    ends = inr (low, high, way);
+    unanswered = inr (low, high, way);
   }

@@ -15,7 +15,7 @@ use Rattle.lpm_trace.specs.Tables.{Setup, addresses, answer, IsAnswer, done, beg
 use Rattle.lpm_trace.specs.Trace.{IsTrace, writes, worker_of}
 use Rattle.lpm_trace.specs.Laws.{Stands, version_at, IsLegal, IsMonotone, Unlinks, Fills, by_steps, at_moment, rules_of_version}
 use Rattle.world_memory.specs.Runs.{all_shown, all_seen}
-use Rattle.world_memory.specs.Schedule.{HasEnded, Makes, AreScripted, writer_items}
+use Rattle.world_memory.specs.Schedule.{HasEnded, IsScheduled, AreScripted, writer_items}
 use Rattle.lpm_writer.specs.Opening.{opening_setup}
 use Rattle.interleave.specs.declared.reply.Reply.{Reply}
 use Rattle.interleave.specs.declared.trace.Trace.{Trace}
@@ -23,13 +23,11 @@ use Rattle.interleave.specs.Replies.{Kept, Waits, CameOut}
 
 -- ---- the writer's script
 
--- changes and what came of each, the newest first
-abbrev pub Log : ℕ → ℕ → Type 0
-Log f g = List (Change f g × Reply)
-
 -- n items of the schedule are the writer's: a change is begun where one is left for it, and answered
--- where its last step has one. So the changes of the log were answered one after another, and left z.
-abbrev pub HaveComeOut : Setup → (f g : ℕ) → Config → ℕ → Kept → Log f g → Kept → Type 0
+-- where its last step has one. So the changes of the log, each with its reply and the newest first,
+-- were answered one after another, and left z.
+abbrev pub HaveComeOut : Setup → (f g : ℕ) → Config → ℕ → Kept → List (Change f g × Reply) → Kept
+    → Type 0
 HaveComeOut c f g config n opening [] z = z ≡ opening
 HaveComeOut c f g config n opening (entry ∷ log) z = (s : Kept)
     × HaveComeOut c f g config n opening log s
@@ -43,9 +41,10 @@ IsUnderWay c f g config s change steps =
     ⊎ ((change ≡ Synchronize) × ((tries : ℕ) × Waits c tries s.readers steps))
 
 -- of the changes that are left the first wasn't begun, or would need more than the writer's items
-abbrev pub Ends : Setup → (f g : ℕ) → Config → ℕ → Kept → List (Change f g) → List WriterStep → Type 0
-Ends c f g config n s [] steps = steps ≡ s.readers
-Ends c f g config n s (change ∷ left) steps =
+abbrev pub AreUnanswered : Setup → (f g : ℕ) → Config → ℕ → Kept → List (Change f g) → List WriterStep
+    → Type 0
+AreUnanswered c f g config n s [] steps = steps ≡ s.readers
+AreUnanswered c f g config n s (change ∷ left) steps =
     ((n ≤ length s.readers) × (steps ≡ s.readers))
     ⊎ ((length s.readers < n) × (n < length steps) × IsUnderWay c f g config s change steps)
 
@@ -53,13 +52,13 @@ Ends c f g config n s (change ∷ left) steps =
 -- writer's, with those that the last change still needs
 pub record IsPerformed (c : Setup) (f g : ℕ) (config : Config) (n : ℕ) (opening : Kept)
     (script : List (Change f g)) (replies : List Reply) (steps : List WriterStep) : Type 0 where
-  pub log : Log f g
+  pub log : List (Change f g × Reply)
   pub left : List (Change f g)
   pub last : Kept
   pub script_is : script ≡ reverse (map (λ entry. entry.0) log) ++ left
   pub replies_are : replies ≡ reverse (map (λ entry. entry.1) log)
   pub answered : HaveComeOut c f g config n opening log last
-  pub ends : Ends c f g config n last left steps
+  pub unanswered : AreUnanswered c f g config n last left steps
 
 -- ---- what holds of a trace
 
@@ -104,7 +103,7 @@ pub record IsRun (f g : ℕ) (config : Config) (script : List (Change f g))
   pub trace : IsTrace (opening_setup f g config) (map Writer beyond ++ steps)
   pub cut : beyond ≢ [] → length (writes steps) ≡ writer_items schedule
   -- each item of the schedule made one step of its actor, unless that had ended
-  pub scheduled : Makes
+  pub scheduled : IsScheduled
       (HasEnded config.workers scripts (λ earlier. writes earlier ≡ beyond ++ writes steps))
       (reverse schedule) steps
   pub scripted : AreScripted scripts steps

@@ -7,7 +7,7 @@ use Rattle.lpm_trace.specs.declared.kind.Deed.{Deed}
 use Rattle.lpm_trace.specs.declared.step.TraceStep.{TraceStep}
 use Rattle.lpm_trace.specs.declared.step.TraceStep.TheVariants.{Writer, Worker as ByWorker}
 use Rattle.lpm_trace.specs.Trace.{writes}
-use Rattle.world_memory.specs.Schedule.{IsBy, HasEnded, Makes, writer_items}
+use Rattle.world_memory.specs.Schedule.{IsBy, HasEnded, IsScheduled, writer_items}
 use Rattle.world_memory.specs.World.{used}
 
 -- the last item that is used up is the newest
@@ -68,7 +68,7 @@ writes_none k (ByWorker j s) earlier by = refl
 
 -- the writer has made a step for each of its items
 pub one_each : (workers : ℕ) (scripts : ℕ → List Deed) (items : List Actor) (steps : List TraceStep)
-    → Makes (HasEnded workers scripts (λ earlier. ⊥)) items steps → length (writes steps) ≡ writer_items items
+    → IsScheduled (HasEnded workers scripts (λ earlier. ⊥)) items steps → length (writes steps) ≡ writer_items items
 one_each workers scripts [] steps made = ap (λ xs. length (writes xs)) made
 one_each workers scripts (WriterActor ∷ items) steps (inl made) = absurd made.0
 one_each workers scripts (WriterActor ∷ items) steps (inr made) =
@@ -79,7 +79,7 @@ one_each workers scripts (WorkerActor k ∷ items) steps (inr made) =
 
 -- the writer has made at most a step for each of its items
 pub one_at_most : (workers : ℕ) (scripts : ℕ → List Deed) (done : List TraceStep → Type 0) (items : List Actor) (steps : List TraceStep)
-    → Makes (HasEnded workers scripts done) items steps → length (writes steps) ≤ writer_items items
+    → IsScheduled (HasEnded workers scripts done) items steps → length (writes steps) ≤ writer_items items
 one_at_most workers scripts done [] steps made = let e = ap (λ xs. length (writes xs)) made in omega (arith, e)
 one_at_most workers scripts done (WriterActor ∷ items) steps (inl made) = omega (arith, one_at_most workers scripts done items steps made.1)
 one_at_most workers scripts done (WriterActor ∷ items) steps (inr made) =
@@ -92,7 +92,7 @@ one_at_most workers scripts done (WorkerActor k ∷ items) steps (inr made) =
 
 -- what has ended by one meaning of the writer's end has by another
 pub makes_still : (workers : ℕ) (scripts : ℕ → List Deed) (was is : List TraceStep → Type 0) → ((steps : List TraceStep) → was steps → is steps)
-    → (items : List Actor) (steps : List TraceStep) → Makes (HasEnded workers scripts was) items steps → Makes (HasEnded workers scripts is) items steps
+    → (items : List Actor) (steps : List TraceStep) → IsScheduled (HasEnded workers scripts was) items steps → IsScheduled (HasEnded workers scripts is) items steps
 makes_still workers scripts was is more [] steps made = made
 makes_still workers scripts was is more (WriterActor ∷ items) steps (inl made) = inl (more steps made.0, makes_still workers scripts was is more items steps made.1)
 makes_still workers scripts was is more (WriterActor ∷ items) steps (inr made) =

@@ -9,7 +9,7 @@ use Rattle.lpm_trace.specs.declared.step.TraceStep.TheVariants.{Writer, Worker a
 use Rattle.lpm_trace.specs.Tables.{Setup}
 use Rattle.lpm_trace.specs.Trace.{IsTrace, writes}
 use Rattle.world_workers.specs.Scripts.{AreOf, steps_by}
-use Rattle.world_memory.specs.Schedule.{HasEnded, Makes, AreScripted, writer_items}
+use Rattle.world_memory.specs.Schedule.{HasEnded, IsScheduled, AreScripted, writer_items}
 use Rattle.world_memory.specs.View.{WorldView, script_at}
 use Rattle.world_memory.specs.World.{setting, IsWorld, IsDoneAfter, IsWritersTurn, WorldDid, Reaches, StaysShared, TakesTurn, IsPlayedOut, with_beyond, used}
 use Rattle.world_memory.proofs.Items.{one_each, one_at_most, items_left, items_all, items_used, used_all, makes_still}
@@ -158,7 +158,7 @@ plays_end first second v z plays all c steps did =
         items_all z.schedule z.next all,
       );
       at_end = now.4;
-      made = subst (λ items. Makes (HasEnded (length z.scripts) (script_at z.scripts) (IsDoneAfter (Some steps))) items now.0) every world.made;
+      made = subst (λ items. IsScheduled (HasEnded (length z.scripts) (script_at z.scripts) (IsDoneAfter (Some steps))) items now.0) every world.made;
       scripted = scripted first second z c (Some steps) now.0 now.1 world;
       shown = world.shown;
       finished = world.finished;

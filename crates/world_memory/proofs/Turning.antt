@@ -24,7 +24,7 @@ use Rattle.world_workers.specs.Machine.{IsAt, IsOf, IsNoted, Advances, probe_of}
 use Rattle.world_workers.specs.Scripts.{steps_by}
 use Rattle.world_workers.specs.Shown.{finished_by, seen_by}
 use Rattle.world_memory.specs.Runs.{all_shown}
-use Rattle.world_memory.specs.Schedule.{HasEnded, Makes}
+use Rattle.world_memory.specs.Schedule.{HasEnded, IsScheduled}
 use Rattle.world_memory.specs.View.{WorldView, script_at}
 use Rattle.world_memory.specs.World.{IsWorld, IsDoneAfter, AreAt, used}
 use Rattle.world_memory.proofs.Items.{used_more}
@@ -89,7 +89,7 @@ turn_passes first second v c whole trace item next more left is ended world = re
   words_are = world.words_are;
   token_is = world.token_is;
   sequence_is = world.sequence_is;
-  made = subst (λ items. Makes (HasEnded (length v.scripts) (script_at v.scripts) (IsDoneAfter whole)) items trace) (sym (ap (used v.schedule) more ∙ used_more v.schedule v.next item left is)) (inl (ended, world.made));
+  made = subst (λ items. IsScheduled (HasEnded (length v.scripts) (script_at v.scripts) (IsDoneAfter whole)) items trace) (sym (ap (used v.schedule) more ∙ used_more v.schedule v.next item left is)) (inl (ended, world.made));
   shown = world.shown;
   finished = world.finished;
   at = world.at;
@@ -176,7 +176,7 @@ turn_moves first second v c whole trace k next now script m step seen more when 
         words_are = world.words_are;
         token_is = world.token_is;
         sequence_is = world.sequence_is;
-        made = subst (λ items. Makes (HasEnded (length v.scripts) (script_at v.scripts) (IsDoneAfter whole)) items later) (sym (ap (used v.schedule) more ∙ used_more v.schedule v.next (WorkerActor k) left is)) (inr (ByWorker k s, trace, refl, refl, world.made));
+        made = subst (λ items. IsScheduled (HasEnded (length v.scripts) (script_at v.scripts) (IsDoneAfter whole)) items later) (sym (ap (used v.schedule) more ∙ used_more v.schedule v.next (WorkerActor k) left is)) (inr (ByWorker k s, trace, refl, refl, world.made));
         shown = ap (λ xs. xs ++ step ∷ []) world.shown ∙ ap (λ x. all_shown c trace ++ x ∷ []) adv.shown;
         finished = adv.noted ∙ ap (λ xs. xs ++ reverse (map (seen_by k) (finished_by (worker_of k trace) s))) world.finished;
         at = at_moved first second (length c.words.seconds) v.machines v.scripts trace k s m world.at machines

@@ -17,8 +17,8 @@ use Rattle.lpm_trace.proofs.Traces.{tables_of}
 use Rattle.world_workers.specs.declared.worker.Worker.{Worker as Machine}
 use Rattle.world_workers.specs.Machine.{Shows}
 use Rattle.world_memory.specs.Runs.{all_shown, all_seen, shown_write}
-use Rattle.world_memory.specs.Schedule.{HasEnded, Makes}
-use Rattle.world_memory.specs.View.{WorldView, script_at, words_by, token_by, sequence_by, shown_at, recorded, unrecorded}
+use Rattle.world_memory.specs.Schedule.{HasEnded, IsScheduled}
+use Rattle.world_memory.specs.View.{WorldView, script_at, words_by, token_by, sequence_by, recorded, unrecorded}
 use Rattle.world_memory.specs.World.{setting, IsWorld, IsDoneAfter, IsWritersTurn, WorldDoes, Reaches, with_beyond, used}
 use Rattle.world_memory.specs.WorldLaws.{writes_beyond}
 use Rattle.world_memory.proofs.Items.{used_more, used_few, one_at_most}
@@ -49,14 +49,6 @@ sequence_after c n (Opens change) steps e = ap suc e
 sequence_after c n Closes steps e = ap suc e
 sequence_after c n BumpToken steps e = e
 sequence_after c n (LoadCounter token worker counter) steps e = e
-
-shown_same : (w : Tables) (s : WriterStep) → shown_at w.sequence w.token s ≡ shown_write w s
-shown_same w (StoreFirst i x) = refl
-shown_same w (StoreSecond j x) = refl
-shown_same w (Opens change) = refl
-shown_same w Closes = refl
-shown_same w BumpToken = refl
-shown_same w (LoadCounter token worker counter) = refl
 
 -- the sequence counts no more than the steps of the writer
 sequence_few : (c : Setup) (steps : List WriterStep) → (tables c steps).sequence ≤ length steps
@@ -124,9 +116,9 @@ recorded_world first second v c trace s world turn may found = record {
   words_are = words_after c v.words s (writes trace) world.words_are;
   token_is = token_after c v.token s (writes trace) world.token_is;
   sequence_is = sequence_after c v.sequence s (writes trace) world.sequence_is;
-  made = subst (λ items. Makes (HasEnded (length v.scripts) (script_at v.scripts) (IsDoneAfter None)) items (Writer s ∷ trace)) (sym (used_more v.schedule v.next WriterActor turn.left (turn.item WriterActor)))
+  made = subst (λ items. IsScheduled (HasEnded (length v.scripts) (script_at v.scripts) (IsDoneAfter None)) items (Writer s ∷ trace)) (sym (used_more v.schedule v.next WriterActor turn.left (turn.item WriterActor)))
       (inr (Writer s, trace, refl, tt, world.made));
-  shown = ap (λ xs. xs ++ shown_at v.sequence v.token s ∷ []) world.shown ∙ ap (λ x. all_shown c trace ++ x ∷ []) one;
+  shown = ap (λ xs. xs ++ shown_write v.sequence v.token s ∷ []) world.shown ∙ ap (λ x. all_shown c trace ++ x ∷ []) one;
   finished = world.finished ∙ sym (append-nil (all_seen trace));
   at = world.at;
   at_end = λ some. absurd (some refl);
@@ -134,12 +126,11 @@ recorded_world first second v c trace s world turn may found = record {
   in_time = world.in_time;
 }
   where
-    one : shown_at v.sequence v.token s ≡ shown_write (after c trace).tables s
+    one : shown_write v.sequence v.token s ≡ shown_write (after c trace).tables.sequence (after c trace).tables.token s
     one =
-        ap (λ n. shown_at n v.token s) world.sequence_is
-        ∙ ap (λ n. shown_at (tables c (writes trace)).sequence n s) world.token_is
-        ∙ shown_same (tables c (writes trace)) s
-        ∙ ap (λ w. shown_write w s) (sym (tables_of c trace))
+        ap (λ n. shown_write n v.token s) world.sequence_is
+        ∙ ap (λ n. shown_write (tables c (writes trace)).sequence n s) world.token_is
+        ∙ ap (λ w. shown_write w.sequence w.token s) (sym (tables_of c trace))
 
 some_beyond : (s : WriterStep) (beyond : List WriterStep) → s ∷ beyond ≡ [] → ⊥
 some_beyond s beyond e = cc

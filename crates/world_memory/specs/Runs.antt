@@ -9,28 +9,30 @@ use Rattle.lpm_trace.specs.declared.step.WriterStep.{WriterStep}
 use Rattle.lpm_trace.specs.declared.step.WriterStep.TheVariants.{StoreFirst, StoreSecond, Opens, Closes, BumpToken, LoadCounter}
 use Rattle.lpm_trace.specs.declared.step.TraceStep.{TraceStep}
 use Rattle.lpm_trace.specs.declared.step.TraceStep.TheVariants.{Writer, Worker as ByWorker}
-use Rattle.lpm_trace.specs.Tables.{Setup, Tables}
+use Rattle.lpm_trace.specs.Tables.{Setup}
 use Rattle.lpm_trace.specs.Trace.{after, worker_of}
 use Rattle.world_workers.specs.declared.seen.Seen.{Seen}
 use Rattle.world_workers.specs.Shown.{shown_by, finished_by, seen_by}
 
 -- a step of the writer
-abbrev pub by_writer : Kind → ℕ → ℕ → Step
-by_writer kind index value =
+abbrev pub step_of_writer : Kind → ℕ → ℕ → Step
+step_of_writer kind index value =
     record { actor = WriterActor; kind = kind; index = index; value = value }
 
--- a step of the writer as a run shows it, where w is what its earlier steps left
-abbrev pub shown_write : Tables → WriterStep → Step
-shown_write w (StoreFirst i word) = by_writer kind.StoreFirst i word
-shown_write w (StoreSecond j word) = by_writer kind.StoreSecond j word
-shown_write w (Opens change) = by_writer kind.BumpSequence 0 (suc w.sequence)
-shown_write w Closes = by_writer kind.BumpSequence 0 (suc w.sequence)
-shown_write w BumpToken = by_writer kind.BumpToken 0 (suc w.token)
-shown_write w (LoadCounter token worker counter) = by_writer kind.LoadCounter worker counter
+-- a step of the writer as a run shows it, where these are the sequence and the token before it
+abbrev pub shown_write : ℕ → ℕ → WriterStep → Step
+shown_write sequence token (StoreFirst i word) = step_of_writer kind.StoreFirst i word
+shown_write sequence token (StoreSecond j word) = step_of_writer kind.StoreSecond j word
+shown_write sequence token (Opens change) = step_of_writer kind.BumpSequence 0 (suc sequence)
+shown_write sequence token Closes = step_of_writer kind.BumpSequence 0 (suc sequence)
+shown_write sequence token BumpToken = step_of_writer kind.BumpToken 0 (suc token)
+shown_write sequence token (LoadCounter checked worker counter) =
+    step_of_writer kind.LoadCounter worker counter
 
 -- a step as a run shows it, after these earlier ones
 abbrev pub shown : Setup → List TraceStep → TraceStep → Step
-shown c earlier (Writer s) = shown_write (after c earlier).tables s
+shown c earlier (Writer s) =
+    shown_write (after c earlier).tables.sequence (after c earlier).tables.token s
 shown c earlier (ByWorker k s) = shown_by c k (worker_of k earlier) s
 
 -- all steps of a trace as a run shows them, the oldest first

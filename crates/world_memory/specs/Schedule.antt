@@ -6,7 +6,8 @@ use Rattle.lpm_trace.specs.declared.kind.Actor.TheVariants.{Writer as WriterActo
 use Rattle.lpm_trace.specs.declared.kind.Deed.{Deed}
 use Rattle.lpm_trace.specs.declared.step.TraceStep.{TraceStep}
 use Rattle.lpm_trace.specs.declared.step.TraceStep.TheVariants.{Writer, Worker as ByWorker}
-use Rattle.world_workers.specs.Scripts.{IsScripted, IsDone}
+use Rattle.lpm_trace.specs.Trace.{worker_of}
+use Rattle.world_workers.specs.Scripts.{IsScripted, IsDone, steps_by}
 
 -- the step is one of this actor
 abbrev pub IsBy : Actor → TraceStep → Type 0
@@ -21,15 +22,15 @@ abbrev pub HasEnded : ℕ → (ℕ → List Deed) → (List TraceStep → Type 0
     → Type 0
 HasEnded workers scripts writer_is_done WriterActor steps = writer_is_done steps
 HasEnded workers scripts writer_is_done (WorkerActor k) steps =
-    (workers ≤ k) ⊎ IsDone (scripts k) k steps
+    (workers ≤ k) ⊎ IsDone (scripts k) (worker_of k steps) (steps_by k steps)
 
 -- each of these items, the newest first, made one step of its actor, or none where that had ended;
 -- and there are no other steps. `ended` says when an actor has ended.
-abbrev pub Makes : (Actor → List TraceStep → Type 0) → List Actor → List TraceStep → Type 0
-Makes ended [] steps = steps ≡ []
-Makes ended (item ∷ items) steps = (ended item steps × Makes ended items steps)
+abbrev pub IsScheduled : (Actor → List TraceStep → Type 0) → List Actor → List TraceStep → Type 0
+IsScheduled ended [] steps = steps ≡ []
+IsScheduled ended (item ∷ items) steps = (ended item steps × IsScheduled ended items steps)
     ⊎ ((step : TraceStep) × (earlier : List TraceStep) × (steps ≡ step ∷ earlier)
-    × IsBy item step × Makes ended items earlier)
+    × IsBy item step × IsScheduled ended items earlier)
 
 -- how many of these items are the writer's
 abbrev pub writer_items : List Actor → ℕ

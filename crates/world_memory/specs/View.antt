@@ -4,13 +4,12 @@ use Rattle.std.specs.Prelude.{◌≡◌, ℕ, suc, ◌*◌, ◌^◌, ◌<◌, �
 use Rattle.lpm_cells.specs.Table.{Words, with_first, with_second}
 use Rattle.lpm_trace.specs.declared.kind.Actor.{Actor}
 use Rattle.lpm_trace.specs.declared.kind.Deed.{Deed}
-use Rattle.lpm_trace.specs.declared.kind.Kind.TheVariants as kind
 use Rattle.lpm_trace.specs.declared.kind.Step.{Step}
 use Rattle.lpm_trace.specs.declared.step.WriterStep.{WriterStep}
 use Rattle.lpm_trace.specs.declared.step.WriterStep.TheVariants.{StoreFirst, StoreSecond, Opens, Closes, BumpToken, LoadCounter}
 use Rattle.world_workers.specs.declared.seen.Seen.{Seen}
 use Rattle.world_workers.specs.declared.worker.Worker.{Worker as Machine}
-use Rattle.world_memory.specs.Runs.{by_writer}
+use Rattle.world_memory.specs.Runs.{shown_write}
 
 -- the shared words, sequence and token; the workers, their scripts and the schedule; how many of its
 -- items are used up; and the record: each step, and each finished lookup
@@ -61,16 +60,6 @@ sequence_by sequence (Opens change) = suc sequence
 sequence_by sequence Closes = suc sequence
 sequence_by sequence other = sequence
 
--- a step of the writer as a run shows it, where these are the sequence and the token before it
-abbrev pub shown_at : ℕ → ℕ → WriterStep → Step
-shown_at sequence token (StoreFirst i word) = by_writer kind.StoreFirst i word
-shown_at sequence token (StoreSecond j word) = by_writer kind.StoreSecond j word
-shown_at sequence token (Opens change) = by_writer kind.BumpSequence 0 (suc sequence)
-shown_at sequence token Closes = by_writer kind.BumpSequence 0 (suc sequence)
-shown_at sequence token BumpToken = by_writer kind.BumpToken 0 (suc token)
-shown_at sequence token (LoadCounter checked worker counter) =
-    by_writer kind.LoadCounter worker counter
-
 -- a step of the writer that uses up an item, and is recorded
 abbrev pub recorded : WorldView → WriterStep → WorldView
 recorded v s = record v {
@@ -78,7 +67,7 @@ recorded v s = record v {
   sequence = sequence_by v.sequence s;
   token = token_by v.token s;
   next = suc v.next;
-  steps = v.steps ++ shown_at v.sequence v.token s ∷ [];
+  steps = v.steps ++ shown_write v.sequence v.token s ∷ [];
 }
 
 -- a step of the writer after the schedule's end: nothing is recorded

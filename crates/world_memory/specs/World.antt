@@ -20,7 +20,7 @@ use Rattle.world_workers.specs.declared.worker.Worker.{Worker as Machine}
 use Rattle.world_workers.specs.Machine.{IsAt}
 use Rattle.world_workers.specs.Scripts.{IsSound, steps_by}
 use Rattle.world_memory.specs.Runs.{all_shown, all_seen}
-use Rattle.world_memory.specs.Schedule.{HasEnded, Makes, writer_items, AreScripted}
+use Rattle.world_memory.specs.Schedule.{HasEnded, IsScheduled, writer_items, AreScripted}
 use Rattle.world_memory.specs.View.{WorldView, script_at}
 
 -- the writer has no step left: at no time, or once its steps are these
@@ -58,7 +58,7 @@ pub record IsWorld (first second : ℕ) (v : WorldView) (c : Setup) (whole : Opt
   pub words_are : v.words ≡ (tables c (beyond ++ writes trace)).words
   pub token_is : v.token ≡ (tables c (beyond ++ writes trace)).token
   pub sequence_is : v.sequence ≡ (tables c (writes trace)).sequence
-  pub made : Makes (HasEnded (length v.scripts) (script_at v.scripts) (IsDoneAfter whole))
+  pub made : IsScheduled (HasEnded (length v.scripts) (script_at v.scripts) (IsDoneAfter whole))
       (used v.schedule v.next) trace
   pub shown : v.steps ≡ all_shown c trace
   pub finished : v.seen ≡ all_seen trace
@@ -143,7 +143,7 @@ pub record IsPlayedOut (c : Setup) (scripts : List (List Deed)) (schedule : List
   pub may_come : IsTrace c (with_beyond beyond trace)
   pub few : length (writes trace) ≤ writer_items schedule
   pub at_end : beyond ≢ [] → length (writes trace) ≡ writer_items schedule
-  pub made : Makes (HasEnded (length scripts) (script_at scripts) (λ earlier. writes earlier ≡ steps))
+  pub made : IsScheduled (HasEnded (length scripts) (script_at scripts) (λ earlier. writes earlier ≡ steps))
       (reverse schedule) trace
   pub scripted : AreScripted (script_at scripts) trace
   pub shown : record_steps ≡ all_shown c trace

@@ -7,7 +7,7 @@ ghost use Rattle.lpm_trace.specs.declared.kind.Kind.TheVariants as kind;
 ghost use Rattle.lpm_trace.specs.declared.step.TraceStep.{TraceStep};
 ghost use Rattle.lpm_trace.specs.declared.step.WriterStep.{WriterStep};
 ghost use Rattle.lpm_trace.specs.Tables.{Setup};
-ghost use Rattle.world_memory.specs.Runs.{by_writer};
+ghost use Rattle.world_memory.specs.Runs.{step_of_writer};
 ghost use Rattle.world_memory.specs.Schedule.{writer_items};
 ghost use Rattle.world_memory.specs.World.{IsWorld, WorldDid, Reaches, StaysShared, IsWritersTurn, IsPlayedOut, TakesTurn};
 
@@ -128,7 +128,7 @@ impl<'a, const FIRST: u32, const SECOND: u32> WorldMemory<'a, FIRST, SECOND> {
         requires { self.old.next < length self.old.schedule }
         ensures { self.new ≡ record self.old {
           next = suc self.old.next;
-          steps = self.old.steps ++ by_writer kind index value ∷ [];
+          steps = self.old.steps ++ step_of_writer kind index value ∷ [];
         } }
     {
         self.next += 1;
@@ -148,7 +148,7 @@ impl<'a, const FIRST: u32, const SECOND: u32> WorldMemory<'a, FIRST, SECOND> {
         ensures { self.new ≡ record self.old {
           sequence = suc self.old.sequence;
           next = suc self.old.next;
-          steps = self.old.steps ++ by_writer kind.BumpSequence 0 (suc self.old.sequence) ∷ [];
+          steps = self.old.steps ++ step_of_writer kind.BumpSequence 0 (suc self.old.sequence) ∷ [];
         } }
     {
         self.shared.sequence += 1;

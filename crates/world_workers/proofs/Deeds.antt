@@ -12,8 +12,8 @@ use Rattle.world_workers.specs.declared.probe.Probe.TheVariants as probe
 use Rattle.world_workers.specs.declared.worker.Phase.TheVariants as phase
 use Rattle.world_workers.specs.declared.worker.Worker.{Worker as Machine}
 use Rattle.world_workers.specs.Scripts.{IsSoundFrom}
-use Rattle.world_workers.specs.Shown.{by_worker}
-use Rattle.world_workers.specs.Machine.{Shows, Makes, Begins, is_online, phase_of, probes_of}
+use Rattle.world_workers.specs.Shown.{step_of_worker}
+use Rattle.world_workers.specs.Machine.{Shows, Makes, BeginsDeed, is_online, phase_of, probes_of}
 
 offline_is : (p : Phase) → is_online p ≡ false → p ≡ Offline
 offline_is Offline e = refl
@@ -37,10 +37,10 @@ probes_unread (a ∷ addrs) = ap (λ ps. Unread a ∷ ps) (probes_unread addrs)
 abbrev pub IsBegun : Setup → Tables → ℕ → ℕ → Worker → List Deed → Machine → Machine → Step → Deed → Type 0
 IsBegun c w k now r left m new shown deed = Shows m r → IsBetweenDeeds r.phase
     → IsSoundFrom (addresses c) (is_online r.phase) (deed ∷ left)
-    → Begins c w k now r deed left new shown
+    → BeginsDeed c w k now r deed left new shown
 
 module _ (c : Setup) (w : Tables) (k now : ℕ) (r : Worker) (left : List Deed) (m : Machine) where
-  pub online_begun : (token : ℕ) (shown : Step) → w.token ≡ token → shown ≡ by_worker k kind.LoadToken 0 token
+  pub online_begun : (token : ℕ) (shown : Step) → w.token ≡ token → shown ≡ step_of_worker k kind.LoadToken 0 token
       → IsBegun c w k now r left m (record m { phase = phase.ComingOnline token }) shown deed.Online
   online_begun token shown same is shows between sound = record {
     made = step.LoadOnline token;
@@ -54,7 +54,7 @@ module _ (c : Setup) (w : Tables) (k now : ℕ) (r : Worker) (left : List Deed) 
     unfinished = refl;
   }
 
-  pub offline_begun : (shown : Step) → shown ≡ by_worker k kind.StoreCounter k 0
+  pub offline_begun : (shown : Step) → shown ≡ step_of_worker k kind.StoreCounter k 0
       → IsBegun c w k now r left m (record m { counter = 0; phase = phase.Offline }) shown deed.Offline
   offline_begun shown is shows between sound = record {
     made = step.StoreOffline;
@@ -68,7 +68,7 @@ module _ (c : Setup) (w : Tables) (k now : ℕ) (r : Worker) (left : List Deed) 
     unfinished = refl;
   }
 
-  pub quiescent_begun : (token : ℕ) (shown : Step) → w.token ≡ token → shown ≡ by_worker k kind.LoadToken 0 token
+  pub quiescent_begun : (token : ℕ) (shown : Step) → w.token ≡ token → shown ≡ step_of_worker k kind.LoadToken 0 token
       → IsBegun c w k now r left m (record m { phase = phase.ReportingQuiescent token }) shown deed.Quiescent
   quiescent_begun token shown same is shows between sound = record {
     made = step.LoadQuiescent token;
@@ -82,7 +82,7 @@ module _ (c : Setup) (w : Tables) (k now : ℕ) (r : Worker) (left : List Deed) 
     unfinished = refl;
   }
 
-  pub meet_begun : (sequence : ℕ) (shown : Step) → w.sequence ≡ sequence → shown ≡ by_worker k kind.LoadSequence 0 sequence
+  pub meet_begun : (sequence : ℕ) (shown : Step) → w.sequence ≡ sequence → shown ≡ step_of_worker k kind.LoadSequence 0 sequence
       → IsBegun c w k now r left m m shown deed.Meet
   meet_begun sequence shown same is shows between sound = record {
     made = step.Meets sequence;
@@ -92,7 +92,7 @@ module _ (c : Setup) (w : Tables) (k now : ℕ) (r : Worker) (left : List Deed) 
     unfinished = refl;
   }
 
-  module _ (new : Machine) (addrs : List ℕ) (sequence : ℕ) (shown : Step) (same : w.sequence ≡ sequence) (is : shown ≡ by_worker k kind.LoadSequence 0 sequence)
+  module _ (new : Machine) (addrs : List ℕ) (sequence : ℕ) (shown : Step) (same : w.sequence ≡ sequence) (is : shown ≡ step_of_worker k kind.LoadSequence 0 sequence)
       (counter : new.counter ≡ m.counter) (doing : new.phase ≡ phase.LookingUp) (lo : new.lo ≡ done_at sequence) (probes : new.probes.items ≡ map probe.Unread addrs) where
     looks_up : Shows m r → IsBetweenDeeds r.phase → is_online r.phase ≡ true → All (λ a. a < addresses c) addrs → Makes c w k now r (step.Begins addrs sequence) new shown
     looks_up shows between online all = record {

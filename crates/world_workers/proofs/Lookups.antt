@@ -16,9 +16,9 @@ use Rattle.world_workers.specs.declared.probe.Probe.TheVariants.{Unread, InGroup
 use Rattle.world_workers.specs.declared.seen.Seen.{Seen as Noted}
 use Rattle.world_workers.specs.declared.worker.Phase.TheVariants as phase
 use Rattle.world_workers.specs.declared.worker.Worker.{Worker as Machine}
-use Rattle.world_workers.specs.Shown.{seen_by, by_worker, next_first, next_second}
+use Rattle.world_workers.specs.Shown.{seen_by, step_of_worker, next_first, next_second}
 use Rattle.world_workers.proofs.Probes.{noted}
-use Rattle.world_workers.specs.Machine.{Shows, Makes, Goes, IsInRange, IsOf, IsNextUnread, IsNextGrouped, phase_of, probe_of, probes_of}
+use Rattle.world_workers.specs.Machine.{Shows, Makes, ContinuesDeed, IsInRange, IsOf, IsNextUnread, IsNextGrouped, phase_of, probe_of, probes_of}
 
 -- ---- the next address, by the place where it stands
 
@@ -75,7 +75,7 @@ pub record HasProbes (m new : Machine) (items : List Probe) : Type 0 where
 
 module _ (c : Setup) (w : Tables) (k now : ℕ) (r : Worker) (m new : Machine) (first second : ℕ) (words : Words) (sequence token : ℕ) (shown : Step) (of : IsOf first second words sequence token c w) (shows : Shows m r) (doing : r.phase ≡ LookingUp) where
   pub first_made : (place a word : ℕ) (p : Probe) → IsNextUnread m.probes.items place a → probe_of p ≡ read_first now a (entry_in word) → HasProbes m new (slice_set m.probes.items place p)
-      → word ≡ slice_index words.firsts (a / 2 ^ second) → shown ≡ by_worker k kind.LoadFirst (a / 2 ^ second) word → Makes c w k now r (step.LoadFirst word) new shown
+      → word ≡ slice_index words.firsts (a / 2 ^ second) → shown ≡ step_of_worker k kind.LoadFirst (a / 2 ^ second) word → Makes c w k now r (step.LoadFirst word) new shown
   first_made place a word p next read has is told =
       let was : r.probes ≡ probes_of (next.before ++ Unread a ∷ next.after) = shows.probes ∙ ap probes_of next.split in
       let set : new.probes.items ≡ next.before ++ p ∷ next.after = has.probes ∙ ap (λ ps. slice_set ps place p) next.split ∙ set_at next.before (Unread a) next.after p place next.count in
@@ -87,12 +87,12 @@ module _ (c : Setup) (w : Tables) (k now : ℕ) (r : Worker) (m new : Machine) (
           lo = shows.lo ∙ sym has.lo;
           probes = ap (first_read now (entry_in word)) was ∙ first_read_is a next.after now (entry_in word) p read next.before next.begun ∙ ap probes_of (sym set);
         };
-        shown = told ∙ ap (λ i. by_worker k kind.LoadFirst i word) (sym (ap (next_first c) was ∙ next_first_is a next.after c next.before next.begun ∙ place_is));
+        shown = told ∙ ap (λ i. step_of_worker k kind.LoadFirst i word) (sym (ap (next_first c) was ∙ next_first_is a next.after c next.before next.begun ∙ place_is));
       }
 
   pub second_made : (found : Grouped) (word : ℕ) → AreBegun (probes_of m.probes.items) → IsNextGrouped m.probes.items found
       → HasProbes m new (slice_set m.probes.items found.place (Answered found.addr word found.first now))
-      → word ≡ slice_index words.seconds (found.group * 2 ^ second + found.addr % 2 ^ second) → shown ≡ by_worker k kind.LoadSecond (found.group * 2 ^ second + found.addr % 2 ^ second) word
+      → word ≡ slice_index words.seconds (found.group * 2 ^ second + found.addr % 2 ^ second) → shown ≡ step_of_worker k kind.LoadSecond (found.group * 2 ^ second + found.addr % 2 ^ second) word
       → Makes c w k now r (step.LoadSecond word) new shown
   second_made found word begun next has is told =
       let a = found.addr in
@@ -112,15 +112,15 @@ module _ (c : Setup) (w : Tables) (k now : ℕ) (r : Worker) (m new : Machine) (
           lo = shows.lo ∙ sym has.lo;
           probes = ap (second_read now (entry_in word)) was ∙ second_read_is a g found.first next.after now word next.before next.answered ∙ ap probes_of (sym set);
         };
-        shown = told ∙ ap (λ i. by_worker k kind.LoadSecond i word) (sym (ap (next_second c) was ∙ next_second_is a g found.first next.after c next.before next.answered ∙ place_is));
+        shown = told ∙ ap (λ i. step_of_worker k kind.LoadSecond i word) (sym (ap (next_second c) was ∙ next_second_is a g found.first next.after c next.before next.answered ∙ place_is));
       }
 
 -- ---- the end of a lookup
 
 module _ (c : Setup) (w : Tables) (k now : ℕ) (r : Worker) (m new : Machine) (sequence : ℕ) (shown : Step) (before after : List Noted) where
   pub ended : AreAnswered (probes_of m.probes.items) → w.sequence ≡ sequence → Shows m r → r.phase ≡ LookingUp
-      → new.counter ≡ m.counter → new.phase ≡ phase.Online → new.lo ≡ m.lo → new.probes.items ≡ [] → shown ≡ by_worker k kind.LoadSequence 0 sequence
-      → after ≡ before ++ noted k m.lo (begun_at sequence) m.probes.items → Goes c w k now r new shown before after
+      → new.counter ≡ m.counter → new.phase ≡ phase.Online → new.lo ≡ m.lo → new.probes.items ≡ [] → shown ≡ step_of_worker k kind.LoadSequence 0 sequence
+      → after ≡ before ++ noted k m.lo (begun_at sequence) m.probes.items → ContinuesDeed c w k now r new shown before after
   ended answered same shows doing counter rests lo none told notes = record {
     made = step.Ends sequence;
     goes = tt;

@@ -13,8 +13,8 @@ use Rattle.world_workers.specs.declared.seen.Seen.{Seen as Noted}
 use Rattle.world_workers.specs.declared.worker.Phase.TheVariants as phase
 use Rattle.world_workers.specs.declared.worker.Worker.{Worker as Machine}
 use Rattle.world_workers.specs.Scripts.{IsSoundFrom, IsCut, GoesOn}
-use Rattle.world_workers.specs.Shown.{by_worker}
-use Rattle.world_workers.specs.Machine.{Shows, Begins, Goes, IsAt, IsOf, IsInRange, Advances, is_online, phase_of, probes_of}
+use Rattle.world_workers.specs.Shown.{step_of_worker}
+use Rattle.world_workers.specs.Machine.{Shows, BeginsDeed, ContinuesDeed, IsAt, IsOf, IsInRange, Advances, is_online, phase_of, probes_of}
 use Rattle.world_workers.proofs.Ranges.{kept}
 
 -- ---- the deed that begins next
@@ -68,14 +68,14 @@ module _ (first second : ℕ) (words : Words) (sequence token : ℕ) (c : Setup)
     -- a deed begins
     pub begins_next : (before : List Noted) (d : Deed) → m.begun < length script → d ≡ get_or script m.begun d → (m.phase ≡ phase.Offline) ⊎ (m.phase ≡ phase.Online)
         → new.begun ≡ m.begun + 1
-        → ((left : List Deed) → Shows (record m { begun = m.begun + 1 }) r → IsBetweenDeeds r.phase → IsSoundFrom (addresses c) (is_online r.phase) (d ∷ left) → Begins c w k now r d left new shown)
+        → ((left : List Deed) → Shows (record m { begun = m.begun + 1 }) r → IsBetweenDeeds r.phase → IsSoundFrom (addresses c) (is_online r.phase) (d ∷ left) → BeginsDeed c w k now r d left new shown)
         → Advances first second (length words.seconds) c w k now script r own new shown before before
     begins_next before d inside is rests count begin =
         let next = next_deed script at.begun at.left m.begun d at.cut at.count inside is in
         let n_is : 2 ^ (first + second) ≡ addresses c = sym wide_is in
         let sound : IsSoundFrom (addresses c) (is_online r.phase) (d ∷ next.0) = subst (λ n. IsSoundFrom n (is_online r.phase) (d ∷ next.0)) n_is (subst (λ (ds : List Deed). IsSoundFrom (2 ^ (first + second)) (is_online r.phase) ds) next.1 at.sound) in
         let shows : Shows (record m { begun = m.begun + 1 }) r = record { counter = at.shows.counter; phase = at.shows.phase; lo = at.shows.lo; probes = at.shows.probes } in
-        let b : Begins c w k now r d next.0 new shown = begin next.0 shows (is_between m r at.shows rests) sound in record {
+        let b : BeginsDeed c w k now r d next.0 new shown = begin next.0 shows (is_between m r at.shows rests) sound in record {
           made = b.made;
           may = b.makes.may;
           at = record {
@@ -95,7 +95,7 @@ module _ (first second : ℕ) (words : Words) (sequence token : ℕ) (c : Setup)
         }
 
     -- a deed goes on
-    pub goes_next : (before after : List Noted) → new.begun ≡ m.begun → Goes c w k now r new shown before after
+    pub goes_next : (before after : List Noted) → new.begun ≡ m.begun → ContinuesDeed c w k now r new shown before after
         → Advances first second (length words.seconds) c w k now script r own new shown before after
     goes_next before after count g = record {
       made = g.made;
@@ -118,7 +118,7 @@ module _ (first second : ℕ) (words : Words) (sequence token : ℕ) (c : Setup)
 
   -- a report stores its token
   pub stores : (new : Machine) (stored : ℕ) (shown : Step) (before : List Noted) → (m.phase ≡ phase.ComingOnline stored) ⊎ (m.phase ≡ phase.ReportingQuiescent stored)
-      → new ≡ record m { counter = stored; phase = phase.Online } → shown ≡ by_worker k kind.StoreCounter k stored → Goes c w k now r new shown before before
+      → new ≡ record m { counter = stored; phase = phase.Online } → shown ≡ step_of_worker k kind.StoreCounter k stored → ContinuesDeed c w k now r new shown before before
   stores new stored shown before doing is told =
       let counter : stored ≡ new.counter = sym (ap (λ (n : Machine). n.counter) is) in
       let rests : Online ≡ phase_of new.phase = sym (ap (λ (n : Machine). phase_of n.phase) is) in

@@ -7,7 +7,7 @@ use Rattle.lpm_trace.specs.declared.kind.Deed.{Deed}
 use Rattle.lpm_trace.specs.declared.kind.Step.{Step}
 use Rattle.lpm_trace.specs.declared.step.WorkerStep.{WorkerStep}
 use Rattle.lpm_trace.specs.Tables.{Setup, Tables, addresses}
-use Rattle.lpm_trace.specs.Workers.{Worker, Phase, Probe, Unread, InGroup, Answered, Offline, ComingOnline, Online, LookingUp, ReportingQuiescent, IsBetweenDeeds, AreBegun, AreAnswered, moved, MayRead}
+use Rattle.lpm_trace.specs.Workers.{Worker, Phase, Probe, Unread, InGroup, Answered, Offline, ComingOnline, Online, LookingUp, ReportingQuiescent, AreBegun, AreAnswered, moved, MayRead}
 use Rattle.world_workers.specs.declared.probe.Probe.{Probe as OwnProbe}
 use Rattle.world_workers.specs.declared.probe.Probe.TheVariants as probe
 use Rattle.world_workers.specs.declared.probe.Grouped.{Grouped}
@@ -104,7 +104,7 @@ pub record Makes (c : Setup) (w : Tables) (k now : ℕ) (r : Worker) (s : Worker
   pub shown : step ≡ shown_by c k r s
 
 -- worker k makes the first step of the deed, from which the rest of its script is sound still
-pub record Begins (c : Setup) (w : Tables) (k now : ℕ) (r : Worker) (deed : Deed) (left : List Deed) (machine : Machine) (step : Step) : Type 0 where
+pub record BeginsDeed (c : Setup) (w : Tables) (k now : ℕ) (r : Worker) (deed : Deed) (left : List Deed) (machine : Machine) (step : Step) : Type 0 where
   pub made : WorkerStep
   pub begins : BeginsWith deed made
   pub makes : Makes c w k now r made machine step
@@ -116,7 +116,7 @@ abbrev pub IsNoted : ℕ → Worker → WorkerStep → List Seen → List Seen �
 IsNoted k r s before after = after ≡ before ++ reverse (map (seen_by k) (finished_by r s))
 
 -- worker k goes on with a deed that has begun
-pub record Goes (c : Setup) (w : Tables) (k now : ℕ) (r : Worker) (machine : Machine) (step : Step) (before after : List Seen) : Type 0 where
+pub record ContinuesDeed (c : Setup) (w : Tables) (k now : ℕ) (r : Worker) (machine : Machine) (step : Step) (before after : List Seen) : Type 0 where
   pub made : WorkerStep
   pub goes : GoesOn made
   pub makes : Makes c w k now r made machine step
@@ -129,8 +129,3 @@ pub record Advances (first second seconds : ℕ) (c : Setup) (w : Tables) (k now
   pub at : IsAt first second seconds machine script (moved now r made) (made ∷ own)
   pub shown : step ≡ shown_by c k r made
   pub noted : IsNoted k r made before after
-
--- no step is left: all deeds of the script are done
-pub record HasEnded (script : List Deed) (r : Worker) (own : List WorkerStep) : Type 0 where
-  pub made : AreOf (reverse script) own
-  pub between : IsBetweenDeeds r.phase

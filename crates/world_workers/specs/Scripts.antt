@@ -7,9 +7,8 @@ use Rattle.lpm_trace.specs.declared.kind.Deed.TheVariants.{Online, Offline, Quie
 use Rattle.lpm_trace.specs.declared.step.WorkerStep.{WorkerStep}
 use Rattle.lpm_trace.specs.declared.step.WorkerStep.TheVariants.{LoadOnline, StoreOnline, LoadQuiescent, StoreQuiescent, StoreOffline, Begins, LoadFirst, LoadSecond, Ends, Meets}
 use Rattle.lpm_trace.specs.declared.step.TraceStep.{TraceStep}
-use Rattle.lpm_trace.specs.declared.step.TraceStep.TheVariants.{Writer, Worker as ByWorker}
-use Rattle.lpm_trace.specs.Workers.{IsBetweenDeeds}
-use Rattle.lpm_trace.specs.Trace.{worker_of}
+use Rattle.lpm_trace.specs.declared.step.TraceStep.TheVariants.{Writer as ByWriter, Worker as ByWorker}
+use Rattle.lpm_trace.specs.Workers.{Worker, IsBetweenDeeds}
 
 -- a worker that is online, or isn't, may do these deeds one after another, of addresses below n: it
 -- comes online where it is offline; it goes offline, reports and looks up where it is online; and it
@@ -63,7 +62,7 @@ AreOf deeds (step ∷ steps) = (GoesOn step × AreOf deeds steps)
 -- the worker's own steps, the newest first
 abbrev pub steps_by : ℕ → List TraceStep → List WorkerStep
 steps_by k [] = []
-steps_by k (Writer s ∷ steps) = steps_by k steps
+steps_by k (ByWriter s ∷ steps) = steps_by k steps
 steps_by k (ByWorker j s ∷ steps) = cond (eqb k j) (s ∷ steps_by k steps) (steps_by k steps)
 
 -- these deeds of the script have begun, the newest first, and those are left, in order
@@ -77,7 +76,8 @@ pub record IsScripted (script : List Deed) (worker : ℕ) (steps : List TraceSte
   pub cut : IsCut script begun left
   pub made : AreOf begun (steps_by worker steps)
 
--- all deeds of the script are done
-pub record IsDone (script : List Deed) (worker : ℕ) (steps : List TraceStep) : Type 0 where
-  pub made : AreOf (reverse script) (steps_by worker steps)
-  pub between : IsBetweenDeeds (worker_of worker steps).phase
+-- all deeds of the script are done: these are the steps of the worker, the newest first, and r is what
+-- they leave
+pub record IsDone (script : List Deed) (r : Worker) (own : List WorkerStep) : Type 0 where
+  pub made : AreOf (reverse script) own
+  pub between : IsBetweenDeeds r.phase

@@ -26,22 +26,22 @@ next_second c (InGroup a g f ∷ rest) = g * 2 ^ c.second + a % 2 ^ c.second
 next_second c (Answered a h f l ∷ rest) = next_second c rest
 
 -- a step of worker k
-abbrev pub by_worker : ℕ → Kind → ℕ → ℕ → Step
-by_worker k kind index value =
+abbrev pub step_of_worker : ℕ → Kind → ℕ → ℕ → Step
+step_of_worker k kind index value =
     record { actor = WorkerActor k; kind = kind; index = index; value = value }
 
 -- a step of worker k as a run shows it, where r is what its earlier steps left
 abbrev pub shown_by : Setup → ℕ → Worker → WorkerStep → Step
-shown_by c k r (LoadOnline token) = by_worker k kind.LoadToken 0 token
-shown_by c k r (StoreOnline token) = by_worker k kind.StoreCounter k token
-shown_by c k r (LoadQuiescent token) = by_worker k kind.LoadToken 0 token
-shown_by c k r (StoreQuiescent token) = by_worker k kind.StoreCounter k token
-shown_by c k r StoreOffline = by_worker k kind.StoreCounter k 0
-shown_by c k r (Begins addrs sequence) = by_worker k kind.LoadSequence 0 sequence
-shown_by c k r (LoadFirst word) = by_worker k kind.LoadFirst (next_first c r.probes) word
-shown_by c k r (LoadSecond word) = by_worker k kind.LoadSecond (next_second c r.probes) word
-shown_by c k r (Ends sequence) = by_worker k kind.LoadSequence 0 sequence
-shown_by c k r (Meets sequence) = by_worker k kind.LoadSequence 0 sequence
+shown_by c k r (LoadOnline token) = step_of_worker k kind.LoadToken 0 token
+shown_by c k r (StoreOnline token) = step_of_worker k kind.StoreCounter k token
+shown_by c k r (LoadQuiescent token) = step_of_worker k kind.LoadToken 0 token
+shown_by c k r (StoreQuiescent token) = step_of_worker k kind.StoreCounter k token
+shown_by c k r StoreOffline = step_of_worker k kind.StoreCounter k 0
+shown_by c k r (Begins addrs sequence) = step_of_worker k kind.LoadSequence 0 sequence
+shown_by c k r (LoadFirst word) = step_of_worker k kind.LoadFirst (next_first c r.probes) word
+shown_by c k r (LoadSecond word) = step_of_worker k kind.LoadSecond (next_second c r.probes) word
+shown_by c k r (Ends sequence) = step_of_worker k kind.LoadSequence 0 sequence
+shown_by c k r (Meets sequence) = step_of_worker k kind.LoadSequence 0 sequence
 
 -- the lookups that the step finishes, the newest first: those of the lookup that it ends
 abbrev pub finished_by : Worker → WorkerStep → List Finished

@@ -9,11 +9,11 @@ ghost use Rattle.lpm_trace.specs.declared.step.WorkerStep.{WorkerStep};
 ghost use Rattle.lpm_trace.specs.declared.step.WorkerStep.TheVariants.{LoadFirst, LoadSecond};
 ghost use Rattle.lpm_trace.specs.Tables.{Setup, Tables, addresses, done_at};
 ghost use Rattle.lpm_trace.specs.Workers.{Worker as TraceWorker, AreBegun, AreAnswered, IsBetweenDeeds, unstarted, LookingUp};
-ghost use Rattle.world_workers.specs.Scripts.{IsSound, IsSoundFrom};
-ghost use Rattle.world_workers.specs.Shown.{by_worker};
+ghost use Rattle.world_workers.specs.Scripts.{IsSound, IsSoundFrom, IsDone};
+ghost use Rattle.world_workers.specs.Shown.{step_of_worker};
 ghost use Rattle.world_workers.specs.declared.probe.Probe.TheVariants as probe;
 ghost use Rattle.world_workers.specs.declared.worker.Phase.TheVariants as phase;
-ghost use Rattle.world_workers.specs.Machine.{Shows, IsNextUnread, IsNextGrouped, IsInRange, IsAt, IsOf, Makes, Begins, Goes, Advances, HasEnded, probes_of, is_online};
+ghost use Rattle.world_workers.specs.Machine.{Shows, IsNextUnread, IsNextGrouped, IsInRange, IsAt, IsOf, Makes, BeginsDeed, ContinuesDeed, Advances, probes_of, is_online};
 
 use super::probe::{Grouped, Probe, next_in_group, next_unread, set_out};
 use super::seen::{Seen, note};
@@ -50,7 +50,7 @@ pub struct Worker {
 
 /// A step of the worker of this number.
 fn shown(number: usize, kind: Kind, index: u64, value: u64) -> Step
-    ensures { result ≡ by_worker number kind index value }
+    ensures { result ≡ step_of_worker number kind index value }
 {
     Step {
         actor: Actor::Worker(number),
@@ -104,7 +104,7 @@ impl Worker {
         ensures unchanged { IfNone result ((self.new ≡ self.old) × (seen.new ≡ seen.old)) }
         ensures ended { IfNone result ((r : TraceWorker) (own : List WorkerStep)
             → IsAt FIRST SECOND (length shared.old.cells.seconds) self.old script.now r own
-            → HasEnded script.now r own) }
+            → IsDone script.now r own) }
         ensures step { IfSome result (λ step. (c : Setup) (w : Tables) (r : TraceWorker)
             (own : List WorkerStep)
             → IsOf FIRST SECOND shared.old.cells shared.old.sequence shared.old.token c w
@@ -160,7 +160,7 @@ impl Worker {
             → IsOf FIRST SECOND shared.now.cells shared.now.sequence shared.now.token c w
             → Shows self.old r → IsBetweenDeeds r.phase
             → IsSoundFrom (addresses c) (is_online r.phase) (deed ∷ left)
-            → Begins c w number now r deed left self.new result }
+            → BeginsDeed c w number now r deed left self.new result }
     {
         match deed {
             Deed::Online => {
@@ -191,7 +191,7 @@ impl Worker {
     /// Makes the second step of a report: stores the token that the first loaded.
     fn store(&mut self, number: usize, token: u64) -> Step
         ensures stored { self.new ≡ record self.old { counter = token; phase = phase.Online } }
-        ensures shown { result ≡ by_worker number kind.StoreCounter number token }
+        ensures shown { result ≡ step_of_worker number kind.StoreCounter number token }
     {
         self.counter = token;
         self.phase = Phase::Online;
@@ -220,7 +220,7 @@ impl Worker {
         ensures step { (c : Setup) (w : Tables) (r : TraceWorker)
             → IsOf FIRST SECOND shared.old.cells shared.old.sequence shared.old.token c w
             → Shows self.old r → r.phase ≡ LookingUp
-            → Goes c w number now r self.new result seen.old.items seen.new.items }
+            → ContinuesDeed c w number now r self.new result seen.old.items seen.new.items }
     {
         if let Some((place, addr)) = next_unread(&self.probes) {
             return self.read_first(number, place, addr, shared, now);
@@ -306,7 +306,7 @@ impl Worker {
         ensures capacity { vec_capacity seen.old ≤ vec_capacity seen.new }
         ensures step { (c : Setup) (w : Tables) (now : ℕ) (r : TraceWorker) → w.sequence ≡ sequence
             → Shows self.old r → r.phase ≡ LookingUp
-            → Goes c w number now r self.new result seen.old.items seen.new.items }
+            → ContinuesDeed c w number now r self.new result seen.old.items seen.new.items }
     {
         note(number, &self.probes, self.lo, (sequence + 1) / 2, seen);
         self.probes.clear();

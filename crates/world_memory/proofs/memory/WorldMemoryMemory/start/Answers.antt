@@ -1,7 +1,7 @@
 use Rattle.std.proofs.Common.{true, ◌≡◌, ◌+◌, length, [], ◌∷◌, ◌++◌, sym, subst, ap, ◌∙◌, add-one}
 use Rattle.lpm_trace.specs.declared.kind.Kind.TheVariants as kind
 use Rattle.lpm_trace.specs.declared.step.WriterStep.TheVariants.{BumpToken}
-use Rattle.world_memory.specs.Runs.{by_writer}
+use Rattle.world_memory.specs.Runs.{step_of_writer}
 use Rattle.world_memory.specs.View.{WorldView, recorded, unrecorded}
 use Rattle.world_memory.specs.World.{setting, Reaches, IsWritersTurn}
 use Rattle.world_memory.proofs.Inside.{view_in}
@@ -19,7 +19,7 @@ returns-then-goes_on-clause-does g c =
     (ap setting is ∙ setting_stays c.args.self.now c.reach-goes_on.new.self c.if-goes_on.ensures.shared)
     (subst (Reaches f s c.args.self.now) (sym is) c.if-goes_on.ensures.reaches)
     (subst IsWritersTurn (sym is) c.if-goes_on.ensures.found) tt
-    (c.note.ensures ∙ ap (λ n. record (recorded y BumpToken) { token = n; steps = y.steps ++ by_writer kind.BumpToken 0 n ∷ [] }) (add-one y.token))
+    (c.note.ensures ∙ ap (λ n. record (recorded y BumpToken) { token = n; steps = y.steps ++ step_of_writer kind.BumpToken 0 n ∷ [] }) (add-one y.token))
 
 pub returns-else-goes_on-clause-does : goal.returns-else-goes_on-clause-does
 returns-else-goes_on-clause-does g c =

@@ -93,7 +93,7 @@ returns-in_default-clause-turn g c = λ c' whole trace world.
     let at = stands f s v c' whole trace here k c.index_mut-machine.result.now c.index_mut-machine.result.now c.deref.result.now inside c.index_mut-machine.ensures.value script in
     let none = c.in_default.ensures.ended (worker_of k trace) (steps_by k trace) at in
     let same_seen = ap (λ seen. seen.items) c.in_default.ensures.unchanged.1 in
-    let ended : IsDone (script_at v.scripts k) k trace = subst (λ y. IsDone y k trace) script (record { made = none.made; between = none.between }) in
+    let ended : IsDone (script_at v.scripts k) (worker_of k trace) (steps_by k trace) = subst (λ y. IsDone y (worker_of k trace) (steps_by k trace)) script none in
     let after : WorldView = record v { next = v.next + 1 } in
     let machines : v.machines ≡ slice_set v.machines k c.step-made.new.self =
     sym (set-get_or v.machines k c.index_mut-machine.result.now)
