@@ -93,6 +93,11 @@ abbrev pub LinksOwn : Course → Option ℕ → Type 0
 LinksOwn course None = ⊤
 LinksOwn course (Some group) = course.taken ≡ Some group
 
+-- a group that the update took is linked by now
+abbrev pub HasLinkedOwn : Tables → Option ℕ → Type 0
+HasLinkedOwn w None = ⊤
+HasLinkedOwn w (Some group) = (block : ℕ) × (w.groups group ≡ Linked block)
+
 -- the oldest token under which a group waits and whose check hasn't passed; a group that the running
 -- update has just unlinked doesn't wait yet
 pub record IsOldest (w : Tables) (token : ℕ) : Type 0 where
@@ -129,6 +134,6 @@ Follows c w course (StoreSecond j x) =
     (course.duty ≡ Nothing)
     × FillsOwn course (j / 2 ^ c.second) (w.groups (j / 2 ^ c.second))
 Follows c w course (Opens change) = course.duty ≡ Nothing
-Follows c w course Closes = course.duty ≡ Nothing
+Follows c w course Closes = (course.duty ≡ Nothing) × HasLinkedOwn w course.taken
 Follows c w course BumpToken = IsBumped w course.duty
 Follows c w course (LoadCounter token worker counter) = IsAsked w course token worker course.duty

@@ -172,7 +172,7 @@ module _ (f s : ℕ) (c : Setup) (steps : List WriterStep) (config : Config) (ru
         (taken.1 mid.groups (p.bits / 2 ^ s) low found.0.1 found.1.here found.1.others)
 
     pub found_fills : (group : Option ℕ) (z : X) (mid : Books) (u : Plan) → Finds t f s (tables c steps).words.firsts p x books (Ok group) z mid → FillsFor u group (p.bits / 2 ^ s)
-        → (filling u (tables c steps).words.firsts ≡ group) × IsTakenBy u (tables c steps).words.firsts None
+        → (filling u (tables c steps).words.firsts ≡ group) × IsTakenBy u None
     found_fills None z mid u found fills = none_fills u (p.bits / 2 ^ s) (tables c steps).words.firsts fills
     found_fills (Some g) z mid u found fills = some_fills u g (p.bits / 2 ^ s) (tables c steps).words.firsts fills found.0.1
 

@@ -18,7 +18,7 @@ use Rattle.lpm_update.proofs.Runs.{over_entries}
 use Rattle.lpm_trace.specs.declared.step.WriterStep.{WriterStep}
 use Rattle.lpm_trace.specs.declared.step.WriterStep.TheVariants.{StoreFirst, StoreSecond, Closes}
 use Rattle.lpm_trace.specs.Tables.{Setup, Tables, Status, Unused, Linked, Retired, tables, addresses, answer, IsAnswer, done, begun, is_same, turned_by, IsFree, MayFill, MayLink, Moves}
-use Rattle.lpm_trace.specs.Course.{Course, FillsOwn, LinksOwn}
+use Rattle.lpm_trace.specs.Course.{Course, FillsOwn, LinksOwn, HasLinkedOwn}
 use Rattle.lpm_trace.specs.Writer.{course, MayStep}
 use Rattle.lpm_writer.specs.Kept.{Keeps, IsIdle}
 use Rattle.lpm_writer.specs.Making.{filling, IsMaking, answer_after}
@@ -135,9 +135,10 @@ module _ (c : Setup) (steps : List WriterStep) (u : Plan) (t : Words) (v : Plan)
           (idle.duty, subst (LinksOwn (course c steps)) (sym (last_none (entry_in x) kind.1)) tt),
         )
 
-  -- where nothing is left to store, the update may be done
-  pub may_close : (v' : Plan) → HasCome c.first c.second u t v' (tables c steps).words → IsIdle c steps → IsOver c.first c.second v' → MayStep c steps Closes
-  may_close v' come idle over = (
+  -- where nothing is left to store, and the group that was taken is linked, the update may be done
+  pub may_close : (v' : Plan) → HasCome c.first c.second u t v' (tables c steps).words → IsIdle c steps → IsOver c.first c.second v' → HasLinkedOwn (tables c steps) (course c steps).taken
+      → MayStep c steps Closes
+  may_close v' come idle over linked = (
     (m.updating, λ a low. subst (IsAnswer c ((tables c steps).history (begun (tables c steps))) a) (sym (ap hop_in (over_entries c.first c.second u v' (tables c steps).words (entry_at c.second t) come.onward over come.stands a))) (m.new a low)),
-    idle.duty,
+    (idle.duty, linked),
   )

@@ -185,7 +185,7 @@ module _ {M : Type 0} (words : M → Words) (newest count : M → ℕ) (did : M 
     -- nothing is left to store
     module _ (v' : Plan) (st : Steps f s v (words m) Done v' (words m)) where
       all_made : (c : Setup) (steps : List WriterStep) → did first c steps → MayMake f s c steps u old → (later : List WriterStep) × did m c later × HasMade does c config first steps old m later new
-      all_made = run_ended words newest count did does follows shows f s config first old u m new v k.runs m v' st
+      all_made = run_ended words newest count did does follows shows f s config first old u m new v k.runs m v' st k.tied
 
       all_represents : (R R' : RuleMap) → Represents f s R (words first) → TurnsInto f s u R R' → Represents f s R' (words m) × IsTied f new.groups (group_at (words m).firsts)
       all_represents R R' represents turns =

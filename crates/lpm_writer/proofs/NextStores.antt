@@ -33,7 +33,7 @@ pub record IsFirstKind (v : Plan) (T : Words) (i x : ℕ) : Type 0 where
   pub old : IsLast (entry_in (slice_index T.firsts i))
   pub new : (IsLast (entry_in x) × (filling v T.firsts ≡ None))
       ⊎ ((g : ℕ) × (entry_in x ≡ Group g) × (filling v T.firsts ≡ Some g) × (group_held v T.firsts i ≡ Some g)
-      × ((taken : Option ℕ) → IsTakenBy v T.firsts taken → taken ≡ Some g)
+      × ((taken : Option ℕ) → IsTakenBy v taken → taken ≡ Some g)
       × ((b : ℕ) → group_held v T.firsts b ≡ Some g → b ≡ i))
 
 module _ (f s : ℕ) where
@@ -50,7 +50,7 @@ module _ (f s : ℕ) where
           word_entry (f + s) x (Group u.group) k.group n.2,
           ap (λ o. unless_linked o u.group) none,
           here i n.1,
-          (λ taken h. first taken (h none) (let e = n.0 in omega (arith, e, pos))),
+          (λ taken h. first taken h (let e = n.0 in omega (arith, e, pos))),
           λ b e. only b (k.free low b) e ∙ sym n.1,
         );
       }
@@ -87,7 +87,7 @@ module _ (f s : ℕ) where
     pub group : ℕ
     pub place : j / 2 ^ s ≡ group
     pub kind : ((b : ℕ) × (b < 2 ^ f) × (group_held v T.firsts b ≡ Some group) × (filling v T.firsts ≡ None))
-        ⊎ ((filling v T.firsts ≡ Some group) × ((taken : Option ℕ) → IsTakenBy v T.firsts taken → (taken ≡ None) ⊎ (taken ≡ Some group)))
+        ⊎ ((filling v T.firsts ≡ Some group) × ((taken : Option ℕ) → IsTakenBy v taken → (taken ≡ None) ⊎ (taken ≡ Some group)))
 
   range_kind : (v : Plan) (u : RewriteRange) (T : Words) (g y j x : ℕ) → u.end ≤ 2 ^ (f + s) → IsSecondStore s u.at u.end u.rewrite T g y j x
       → ((b : ℕ) → group_held v T.firsts b ≡ group_at T.firsts b) → filling v T.firsts ≡ None → IsSecondKind v T j
@@ -105,7 +105,7 @@ module _ (f s : ℕ) where
       record {
         group = u.group;
         place = ap (λ p. p / 2 ^ s) n.1 ∙ div-mul-add u.group (2 ^ s) u.next n.0;
-        kind = inr (ap (λ o. unless_linked o u.group) none, λ taken h. by (h none));
+        kind = inr (ap (λ o. unless_linked o u.group) none, λ taken h. by h);
       }
     where
       by : {taken : Option ℕ} → (taken ≡ Some u.group) ⊎ ((taken ≡ None) × (u.next ≡ 0)) → (taken ≡ None) ⊎ (taken ≡ Some u.group)

@@ -31,22 +31,22 @@ use Rattle.lpm_writer.specs.Resting.{IsResting, state_of}
 use Rattle.lpm_writer.proofs.UpdateRuns.{fit}
 
 -- a change that fills no group
-pub none_fills : (u : Plan) (block : ℕ) (F : List ℕ) → FillsFor u None block → (filling u F ≡ None) × IsTakenBy u F None
-none_fills (Range u) block F h = (refl, tt)
+pub none_fills : (u : Plan) (block : ℕ) (F : List ℕ) → FillsFor u None block → (filling u F ≡ None) × IsTakenBy u None
+none_fills (Range u) block F h = (refl, refl)
 none_fills (Link u) block F h = absurd (none_is u.group h.0)
   where
     none_is : (g : ℕ) → None ≡ Some g → ⊥
     none_is g e = cc
-none_fills (Unlink u) block F h = (refl, tt)
-none_fills (Flush u) block F h = (refl, tt)
+none_fills (Unlink u) block F h = (refl, refl)
+none_fills (Flush u) block F h = (refl, refl)
 
 -- a change that fills a group for a block that has none
-pub some_fills : (u : Plan) (g block : ℕ) (F : List ℕ) → FillsFor u (Some g) block → group_at F block ≡ None → (filling u F ≡ Some g) × IsTakenBy u F None
+pub some_fills : (u : Plan) (g block : ℕ) (F : List ℕ) → FillsFor u (Some g) block → group_at F block ≡ None → (filling u F ≡ Some g) × IsTakenBy u None
 some_fills (Range u) g block F h none = absurd (some_is g h)
   where
     some_is : (g : ℕ) → Some g ≡ None → ⊥
     some_is g e = cc
-some_fills (Link u) g block F h none = (ap (λ b. unless_linked (group_at F b) u.group) h.1 ∙ ap (λ o. unless_linked o u.group) none ∙ sym h.0, λ _. inr (refl, h.2))
+some_fills (Link u) g block F h none = (ap (λ b. unless_linked (group_at F b) u.group) h.1 ∙ ap (λ o. unless_linked o u.group) none ∙ sym h.0, inr (refl, h.2))
 some_fills (Unlink u) g block F h none = absurd (some_is g h)
   where
     some_is : (g : ℕ) → Some g ≡ None → ⊥
@@ -59,7 +59,7 @@ some_fills (Flush u) g block F h none = absurd (some_is g h)
 -- an update that turns these rules into those of the change may be made
 pub may_change : (f s : ℕ) (c : Setup) (steps : List WriterStep) (rules R : RuleMap) (u : Plan) (change : RuleChange) (held : Option ℕ) (now : Books) → HasWidths f s c → IsBetween c steps
     → (tables c steps).history (done (tables c steps)) ≡ rules → Represents f s rules (tables c steps).words → IsBegun f s u (tables c steps).words → TurnsInto f s u rules R → rules_by rules change ≡ R
-    → IsChange (f + s) change → (filling u (tables c steps).words.firsts ≡ held) × IsTakenBy u (tables c steps).words.firsts None
+    → IsChange (f + s) change → (filling u (tables c steps).words.firsts ≡ held) × IsTakenBy u None
     → Keeps c steps now.groups now.queue.items now.passed held → MayChange f s c steps u change now
 may_change f s c steps rules R u change held now widths between version represented may turns makes sound fills keeps =
     let w : Tables = tables c steps in

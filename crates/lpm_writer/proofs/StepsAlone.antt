@@ -1,12 +1,10 @@
 -- The writer's steps by themselves: a change of a memory is one by its steps, whatever the memory. And what no step
 -- changes of a memory, no change does.
-use Rattle.std.proofs.Common.{◌≡◌, ℕ, zero, suc, ◌+◌, ◌<◌, ◌≤◌, ◌⊎◌, inl, inr, true, refl, ap, sym, ◌∙◌, subst, List, [], ◌∷◌, Option, Some, None, Result, Ok, Err}
-use Rattle.lpm_entry.specs.Words.{group_in}
+use Rattle.std.proofs.Common.{◌≡◌, ℕ, zero, suc, inl, inr, refl, ap, sym, ◌∙◌, subst, List, [], ◌∷◌, Result, Ok, Err}
 use Rattle.lpm_limits.specs.declared.busy.Busy.{Busy}
-use Rattle.lpm_trace.specs.declared.step.RuleChange.{RuleChange}
 use Rattle.lpm_trace.specs.declared.step.WriterStep.{WriterStep}
-use Rattle.lpm_trace.specs.declared.step.WriterStep.TheVariants.{StoreFirst, StoreSecond, Opens, Closes, BumpToken, LoadCounter}
-use Rattle.lpm_trace.specs.Tables.{Setup, tables, lets_pass, first_entry}
+use Rattle.lpm_trace.specs.declared.step.WriterStep.TheVariants.{StoreFirst, Opens, Closes, BumpToken, LoadCounter}
+use Rattle.lpm_trace.specs.Tables.{Setup, tables}
 use Rattle.lpm_bits.specs.Network.{Network}
 use Rattle.lpm_limits.specs.declared.config.Config.{Config}
 use Rattle.lpm_limits.specs.declared.refusal.Refusal.{Refusal}
@@ -16,7 +14,7 @@ use Rattle.fib_model.specs.State.{State}
 use Rattle.fib_model.specs.Outcomes.{Adds, Deletes, Flushes, Frees}
 use Rattle.fib_model.proofs.Carrying.{Carries, AreNamed, AreFollowed, Follows, beside}
 use Rattle.fib_model.proofs.Carried.{changes_carry_over}
-use Rattle.lpm_writer.specs.Traced.{Traced, tables_of, Goes, Loads, Asks, Checks, UnlinksNone, Stores, StoresOverLink, StoresAndCloses, by_writer, by_steps, steps_alone, AnyMemory}
+use Rattle.lpm_writer.specs.Traced.{Traced, Goes, Loads, Asks, Checks, Stores, StoresOverLink, StoresAndCloses, by_writer, by_steps, steps_alone, AnyMemory}
 
 named_same : (ms : List ℕ) → AreNamed (λ m n. n ≡ m) ms ms
 named_same [] = tt

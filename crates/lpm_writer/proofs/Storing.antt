@@ -2,6 +2,7 @@
 use Rattle.std.proofs.Common.{arith, ◌≡◌, ◌≢◌, ℕ, suc, ◌+◌, ◌/◌, ◌%◌, ◌^◌, ◌<◌, ◌⊎◌, inl, inr, refl, sym, ap, subst, ◌∙◌, List, [], ◌∷◌, ◌++◌, length, slice_index, Option, Some, None}
 use Rattle.std.specs.Prelude.{slice_get, slice_set}
 use Rattle.std.proofs.lemmas.Bool.{cases_eq}
+use Rattle.std.proofs.lemmas.Nat.{pow_pos}
 use Rattle.std.proofs.lemmas.Option.{slice_get_within}
 use Rattle.lpm_entry.specs.declared.Entry.{Entry}
 use Rattle.lpm_entry.specs.declared.Entry.TheVariants.{Miss, Hop, Group}
@@ -14,6 +15,8 @@ use Rattle.lpm_groups.proofs.Writes.{slice_get-set_same, slice_get-set_other}
 use Rattle.defer_queue.specs.Retired.{IsAbsent}
 use Rattle.lpm_update.specs.declared.Did.{Did}
 use Rattle.lpm_update.specs.declared.link_group.LinkGroup.{LinkGroup}
+use Rattle.lpm_update.specs.declared.rewrite_range.RewriteRange.{RewriteRange}
+use Rattle.lpm_update.specs.declared.unlink_group.UnlinkGroup.{UnlinkGroup}
 use Rattle.lpm_update.specs.declared.update.Plan.{Plan}
 use Rattle.lpm_update.specs.declared.update.Plan.TheVariants.{Range, Link, Unlink, Flush}
 use Rattle.lpm_update.specs.Laws.{StoreMoves}
@@ -21,15 +24,15 @@ use Rattle.lpm_update.specs.Linked.{IsLinkTo, group_at}
 use Rattle.lpm_update.specs.Runs.{HasCome}
 use Rattle.lpm_update.specs.Step.{Steps}
 use Rattle.lpm_update.specs.Tied.{IsTied}
-use Rattle.lpm_update.specs.Update.{IsUnderWay, IsNextFirst, IsNextUnlink, IsOnward, IsOver, HasGroups, group_held}
-use Rattle.lpm_update.proofs.Groups.{group_set_same, here_is}
+use Rattle.lpm_update.specs.Update.{IsUnderWay, IsNextFirst, IsNextSecond, IsNextUnlink, IsOnward, IsOver, HasGroups, group_held}
+use Rattle.lpm_update.proofs.Groups.{group_set_same, here_is, last_none}
 use Rattle.lpm_update.proofs.Onward.{by_kind}
 use Rattle.lpm_update.proofs.Places.{word_entry}
 use Rattle.lpm_update.proofs.Runs.{run_goes_on}
 use Rattle.lpm_trace.specs.declared.step.WriterStep.{WriterStep}
 use Rattle.lpm_trace.specs.declared.step.WriterStep.TheVariants.{StoreFirst, StoreSecond}
 use Rattle.lpm_trace.specs.Tables.{Setup, Tables, Status, Unused, Linked, Retired, tables, with_at, linked, retired, IsFree, IsAnswer, answer, done, begun, done_at, begun_at}
-use Rattle.lpm_trace.specs.Course.{due_after, taken_with}
+use Rattle.lpm_trace.specs.Course.{HasLinkedOwn, due_after, taken_with}
 use Rattle.lpm_trace.specs.Writer.{course}
 use Rattle.lpm_trace.proofs.Basics.{with_at-same, with_at-other}
 use Rattle.lpm_writer.specs.declared.books.Books.{Books}
@@ -38,7 +41,7 @@ use Rattle.lpm_writer.specs.Kept.{AreAfter, AreRising, AreRetired, AreBelow, IsA
 use Rattle.lpm_writer.specs.Making.{filling, unless_linked, IsTakenBy, IsMaking, answer_after}
 use Rattle.lpm_writer.proofs.Limbo.{absent_other, linked_limbo}
 use Rattle.lpm_writer.proofs.Keeping.{kept_quiet}
-use Rattle.lpm_writer.proofs.NextStores.{none_some, filling_same, IsFirstKind, IsSecondKind}
+use Rattle.lpm_writer.proofs.NextStores.{none_some, filling_same, second_kind, IsFirstKind}
 use Rattle.lpm_writer.proofs.Answering.{turned_on}
 
 -- ---- the group that is filled
@@ -59,17 +62,27 @@ none_filling f s u v T i w = by_kind (λ x y. i < length T.firsts → IsUnderWay
     (λ x y o low k n. ap (λ g. unless_linked g y.group) (now_linked f s x y T i w o low k n))
     (λ x y o low k n. refl) (λ x y o low k n. refl) u v
 
-pub taken_first : (f s : ℕ) (u v : Plan) (T : Words) (i w : ℕ) (taken : Option ℕ) → IsOnward u v → i < length T.firsts → IsUnderWay f s u T → IsNextFirst f s u T i w
-    → IsTakenBy v (slice_set T.firsts i w) taken
-taken_first f s u v T i w taken = by_kind (λ x y. i < length T.firsts → IsUnderWay f s x T → IsNextFirst f s x T i w → IsTakenBy y (slice_set T.firsts i w) taken)
-    (λ x y o low k n. tt)
-    (λ x y o low k n none. absurd (none_some (group_at (slice_set T.firsts i w) y.block) x.group none (now_linked f s x y T i w o low k n)))
-    (λ x y o low k n. tt) (λ x y o low k n. tt) u v
+-- where some of the group that is linked was stored, it is the one that was taken
+link_taken : (x y : LinkGroup) (taken : Option ℕ) → y.group ≡ x.group → (x.next ≡ 0 → ⊥) → IsTakenBy (Link x) taken → taken ≡ Some y.group
+link_taken x y taken same some (inl is) = is ∙ ap Some (sym same)
+link_taken x y taken same some (inr h) = absurd (some h.1)
+
+-- a store in the first table takes no group
+pub taken_first : (f s : ℕ) (u v : Plan) (T : Words) (i w : ℕ) (taken : Option ℕ) → IsOnward u v → IsNextFirst f s u T i w → IsTakenBy u taken → IsTakenBy v taken
+taken_first f s u v T i w taken = by_kind (λ x y. IsNextFirst f s x T i w → IsTakenBy x taken → IsTakenBy y taken)
+    (λ x y o n h. h)
+    (λ x y o n h. inl (link_taken x y taken (same_link x y o).1 (λ e. let all = n.0 in let some = pow_pos s in omega (arith, all, some, e)) h))
+    (λ x y o n h. h) (λ x y o n h. h) u v
 
 -- a change that unlinks a group fills none
-pub unlink_filling : (f s : ℕ) (u v : Plan) (T : Words) (b g w : ℕ) (F : List ℕ) (taken : Option ℕ) → IsOnward u v → IsNextUnlink f s u T b g w → (filling v F ≡ None) × IsTakenBy v F taken
-unlink_filling f s u v T b g w F taken = by_kind (λ x y. IsNextUnlink f s x T b g w → (filling y F ≡ None) × IsTakenBy y F taken)
-    (λ x y o n. absurd n) (λ x y o n. absurd n) (λ x y o n. (refl, tt)) (λ x y o n. (refl, tt)) u v
+pub unlink_filling : (f s : ℕ) (u v : Plan) (T : Words) (b g w : ℕ) (F : List ℕ) → IsOnward u v → IsNextUnlink f s u T b g w → filling v F ≡ None
+unlink_filling f s u v T b g w F = by_kind (λ x y. IsNextUnlink f s x T b g w → filling y F ≡ None)
+    (λ x y o n. absurd n) (λ x y o n. absurd n) (λ x y o n. refl) (λ x y o n. refl) u v
+
+-- a store that unlinks a group takes none
+pub taken_unlink : (f s : ℕ) (u v : Plan) (T : Words) (b g w : ℕ) (taken : Option ℕ) → IsOnward u v → IsNextUnlink f s u T b g w → IsTakenBy u taken → IsTakenBy v taken
+taken_unlink f s u v T b g w taken = by_kind (λ x y. IsNextUnlink f s x T b g w → IsTakenBy x taken → IsTakenBy y taken)
+    (λ x y o n h. absurd n) (λ x y o n h. absurd n) (λ x y o n h. h) (λ x y o n h. h) u v
 
 same_number : (o : Option ℕ) (g h : ℕ) → o ≡ Some g → o ≡ Some h → g ≡ h
 same_number o g h p q = cc
@@ -81,19 +94,31 @@ over_filling f s (Link u) T L k over groups = ap (λ o. unless_linked o u.group)
 over_filling f s (Unlink u) T L k over groups = refl
 over_filling f s (Flush u) T L k over groups = refl
 
--- after a store into a group: where it was the one that is filled, it is taken
-pub taken_second : (u v : Plan) (F : List ℕ) (taken : Option ℕ) → IsOnward u v → (filling u F ≡ None) ⊎ ((g : ℕ) × (filling u F ≡ Some g) × (taken ≡ Some g)) → IsTakenBy v F taken
-taken_second u v F taken = by_kind (λ x y. (filling x F ≡ None) ⊎ ((g : ℕ) × (filling x F ≡ Some g) × (taken ≡ Some g)) → IsTakenBy y F taken)
-    (λ x y o h. tt)
-    (λ x y o h none. inl (link_taken x y (same_link x y o) (ap (group_at F) (sym (same_link x y o).0) ∙ none) h))
-    (λ x y o h. tt) (λ x y o h. tt) u v
+-- after a store into a group that is linked what was taken stays; and where it was the one that is filled,
+-- it is taken
+pub taken_second : (f s : ℕ) (u v : Plan) (T : Words) (j w : ℕ) (old taken : Option ℕ) → IsOnward u v → IsUnderWay f s u T → IsNextSecond s u T j w → IsTakenBy u old
+    → ((filling u T.firsts ≡ None) × (taken ≡ old)) ⊎ ((g : ℕ) × (filling u T.firsts ≡ Some g) × (taken ≡ Some g)) → IsTakenBy v taken
+taken_second f s u v T j w old taken = by_kind (λ x y. IsUnderWay f s x T → IsNextSecond s x T j w → IsTakenBy x old
+    → ((filling x T.firsts ≡ None) × (taken ≡ old)) ⊎ ((g : ℕ) × (filling x T.firsts ≡ Some g) × (taken ≡ Some g)) → IsTakenBy y taken)
+    (λ x y o k n was h. stays x h ∙ was)
+    (λ x y o k n was h. inl (filled x y (same_link x y o).1 (last_none (entry_in (slice_index T.firsts x.block)) (k.old (let few = n.0 in omega (arith, few)))) h))
+    (λ x y o k n was h. leaves x h ∙ was)
+    (λ x y o k n was h. absurd n) u v
   where
-    link_taken : (x y : LinkGroup) → (y.block ≡ x.block) × (y.group ≡ x.group) → group_at F x.block ≡ None
-        → (filling (Link x) F ≡ None) ⊎ ((g : ℕ) × (filling (Link x) F ≡ Some g) × (taken ≡ Some g)) → taken ≡ Some y.group
-    link_taken x y e none (inl h) = absurd (none_some (filling (Link x) F) x.group h (ap (λ o. unless_linked o x.group) none))
-    link_taken x y e none (inr h) =
-        let g : h.0 ≡ x.group = same_number (filling (Link x) F) h.0 x.group h.1 (ap (λ o. unless_linked o x.group) none) in
-        h.2 ∙ ap Some (g ∙ sym e.1)
+    stays : (x : RewriteRange) → ((filling (Range x) T.firsts ≡ None) × (taken ≡ old)) ⊎ ((g : ℕ) × (filling (Range x) T.firsts ≡ Some g) × (taken ≡ Some g)) → taken ≡ old
+    stays x (inl h) = h.1
+    stays x (inr h) = absurd (none_some (filling (Range x) T.firsts) h.0 refl h.1)
+
+    leaves : (x : UnlinkGroup) → ((filling (Unlink x) T.firsts ≡ None) × (taken ≡ old)) ⊎ ((g : ℕ) × (filling (Unlink x) T.firsts ≡ Some g) × (taken ≡ Some g)) → taken ≡ old
+    leaves x (inl h) = h.1
+    leaves x (inr h) = absurd (none_some (filling (Unlink x) T.firsts) h.0 refl h.1)
+
+    filled : (x y : LinkGroup) → y.group ≡ x.group → group_at T.firsts x.block ≡ None
+        → ((filling (Link x) T.firsts ≡ None) × (taken ≡ old)) ⊎ ((g : ℕ) × (filling (Link x) T.firsts ≡ Some g) × (taken ≡ Some g)) → taken ≡ Some y.group
+    filled x y e none (inl h) = absurd (none_some (filling (Link x) T.firsts) x.group h.0 (ap (λ o. unless_linked o x.group) none))
+    filled x y e none (inr h) =
+        let g : h.0 ≡ x.group = same_number (filling (Link x) T.firsts) h.0 x.group h.1 (ap (λ o. unless_linked o x.group) none) in
+        h.2 ∙ ap Some (g ∙ sym e)
 
 taken_free : (c : Setup) (p g : ℕ) (taken : Option ℕ) (s : Status) → IsFree c p s → taken_with taken g s ≡ Some g
 taken_free c p g taken Unused h = refl
@@ -276,7 +301,7 @@ has_unlinked c steps books v b g x keeps idle link last none here waits =
 module _ (c : Setup) (steps : List WriterStep) (u : Plan) (t : Words) (v : Plan) (m : IsMaking c steps u t v) (v' : Plan) (did : Did) where
   pub making_first : (i x : ℕ) → Steps c.first c.second v (tables c steps).words did v' (with_first (tables c steps).words i x)
       → StoreMoves c.first c.second v (tables c steps).words (with_first (tables c steps).words i x)
-      → IsTakenBy v' (slice_set (tables c steps).words.firsts i x) (course c steps).taken → IsMaking c (StoreFirst i x ∷ steps) u t v'
+      → IsTakenBy v' (course c steps).taken → IsMaking c (StoreFirst i x ∷ steps) u t v'
   making_first i x st sm taken = record {
     come = run_goes_on c.first c.second u t did v v' (tables c steps).words (with_first (tables c steps).words i x) m.come st;
     updating = m.updating;
@@ -288,7 +313,7 @@ module _ (c : Setup) (steps : List WriterStep) (u : Plan) (t : Words) (v : Plan)
 
   pub making_second : (j x : ℕ) → Steps c.first c.second v (tables c steps).words did v' (with_second (tables c steps).words j x)
       → StoreMoves c.first c.second v (tables c steps).words (with_second (tables c steps).words j x)
-      → IsTakenBy v' (tables c steps).words.firsts (course c (StoreSecond j x ∷ steps)).taken → IsMaking c (StoreSecond j x ∷ steps) u t v'
+      → IsTakenBy v' (course c (StoreSecond j x ∷ steps)).taken → IsMaking c (StoreSecond j x ∷ steps) u t v'
   making_second j x st sm taken = record {
     come = run_goes_on c.first c.second u t did v v' (tables c steps).words (with_second (tables c steps).words j x) m.come st;
     updating = m.updating;
@@ -299,14 +324,17 @@ module _ (c : Setup) (steps : List WriterStep) (u : Plan) (t : Words) (v : Plan)
   }
 
 -- the group of a store is that which the update has taken, where it is the one that is filled
-pub taken_by_second : (c : Setup) (steps : List WriterStep) (states : List GroupState) (items : List (ℕ × ℕ)) (passed : ℕ) (v v' : Plan)
-    → Keeps c steps states items passed (filling v (tables c steps).words.firsts) → (j x : ℕ) → IsOnward v v' → IsSecondKind c.first c.second v (tables c steps).words j
-    → IsTakenBy v' (tables c steps).words.firsts (course c (StoreSecond j x ∷ steps)).taken
-taken_by_second c steps states items passed v v' keeps j x o kind =
+pub taken_by_second : (c : Setup) (steps : List WriterStep) (states : List GroupState) (items : List (ℕ × ℕ)) (passed : ℕ) (u : Plan) (t : Words) (v v' : Plan)
+    → IsMaking c steps u t v → Keeps c steps states items passed (filling v (tables c steps).words.firsts) → IsTied c.first states (group_held v (tables c steps).words.firsts) → (j x : ℕ) → IsOnward v v'
+    → IsNextSecond c.second v (tables c steps).words j x → IsTakenBy v' (course c (StoreSecond j x ∷ steps)).taken
+taken_by_second c steps states items passed u t v v' m keeps tied j x o n =
     let w : Tables = tables c steps in
     let old = (course c steps).taken in
-    taken_second v v' w.words.firsts (taken_with old (j / 2 ^ c.second) (w.groups (j / 2 ^ c.second))) o (elim kind.kind [
-      | inl h ↦ inl h.3
+    let kind = second_kind c.first c.second v w.words j x m.come.under_way n in
+    taken_second c.first c.second v v' w.words j x old (taken_with old (j / 2 ^ c.second) (w.groups (j / 2 ^ c.second))) o m.come.under_way n m.taken (elim kind.kind [
+      | inl h ↦
+          let status = keeps.kept.linked kind.group h.0 (tied.linked h.0 kind.group h.1 h.2) (none_some (filling v w.words.firsts) kind.group h.3) in
+          inl (h.3, ap (λ g. taken_with old g (w.groups g)) kind.place ∙ ap (taken_with old kind.group) status)
       | inr h ↦ inr (
         kind.group,
         h.0,
@@ -314,13 +342,26 @@ taken_by_second c steps states items passed v v' keeps j x o kind =
       )
     ])
 
+-- where nothing is left to store, the group that was taken is linked
+pub has_linked : (c : Setup) (steps : List WriterStep) (states : List GroupState) (items : List (ℕ × ℕ)) (passed : ℕ) (v : Plan) (taken : Option ℕ) → IsTakenBy v taken
+    → IsUnderWay c.first c.second v (tables c steps).words → filling v (tables c steps).words.firsts ≡ None → Keeps c steps states items passed (filling v (tables c steps).words.firsts)
+    → IsTied c.first states (group_held v (tables c steps).words.firsts) → HasLinkedOwn (tables c steps) taken
+has_linked c steps states items passed (Range u) taken is k none keeps tied = subst (HasLinkedOwn (tables c steps)) (sym is) tt
+has_linked c steps states items passed (Link u) taken (inl is) k none keeps tied =
+    let F = (tables c steps).words.firsts in
+    let link = tied.linked u.block u.group k.block (here_is u.block u.block (Some u.group) (group_at F u.block) refl) in
+    subst (HasLinkedOwn (tables c steps)) (sym is) (u.block, keeps.kept.linked u.group u.block link (none_some (filling (Link u) F) u.group none))
+has_linked c steps states items passed (Link u) taken (inr h) k none keeps tied = subst (HasLinkedOwn (tables c steps)) (sym h.0) tt
+has_linked c steps states items passed (Unlink u) taken is k none keeps tied = subst (HasLinkedOwn (tables c steps)) (sym is) tt
+has_linked c steps states items passed (Flush u) taken is k none keeps tied = subst (HasLinkedOwn (tables c steps)) (sym is) tt
+
 -- checks leave the update as it is
 pub making_quiet : (c : Setup) (steps later : List WriterStep) (u : Plan) (t : Words) (v : Plan) → IsQuiet (tables c steps) (tables c later) → (course c later).taken ≡ (course c steps).taken
     → IsMaking c steps u t v → IsMaking c later u t v
 making_quiet c steps later u t v q same m = record {
   come = subst (HasCome c.first c.second u t v) (sym q.words) m.come;
   updating = subst (λ n. n % 2 ≡ 1) (sym q.sequence) m.updating;
-  taken = subst (λ (W : Words). IsTakenBy v W.firsts (course c later).taken) (sym q.words) (subst (IsTakenBy v (tables c steps).words.firsts) (sym same) m.taken);
+  taken = subst (IsTakenBy v) (sym same) m.taken;
   old = λ a low. subst (λ n. IsAnswer c ((tables c later).history (done_at n)) a (answer c t a)) (sym q.sequence) (subst (λ h. IsAnswer c (h (done (tables c steps))) a (answer c t a)) (sym q.history) (m.old a low));
   new = λ a low. subst (λ n. IsAnswer c ((tables c later).history (begun_at n)) a (answer_after c u t a)) (sym q.sequence) (subst (λ h. IsAnswer c (h (begun (tables c steps))) a (answer_after c u t a)) (sym q.history) (m.new a low));
   turned = λ a low now. ap (λ W. answer c W a) q.words ∙ m.turned a low (ap (λ f. f a) (sym q.turned) ∙ now);

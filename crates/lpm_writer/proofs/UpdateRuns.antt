@@ -28,9 +28,9 @@ use Rattle.lpm_writer.specs.Waiting.{AreWaiting, tokens_of}
 use Rattle.lpm_writer.specs.Traced.{Traced, UnlinksNone, Retires, by_writer}
 use Rattle.lpm_writer.specs.Kept.{HasUnlinked, HasRetired, IsIdle, Keeps}
 use Rattle.lpm_writer.specs.Making.{filling, HasWidths, IsMaking, MayMake, HasMade, HasUnlinkedSome}
-use Rattle.lpm_writer.proofs.NextStores.{filling_same, first_kind, second_kind, unlink_kind}
+use Rattle.lpm_writer.proofs.NextStores.{filling_same, first_kind, unlink_kind}
 use Rattle.lpm_writer.proofs.Answering.{may_store_first, may_store_second, may_unlink, may_close}
-use Rattle.lpm_writer.proofs.Storing.{none_filling, over_filling, taken_first, unlink_filling, taken_by_second, keeps_first, keeps_second, has_unlinked, making_first, making_second, making_quiet}
+use Rattle.lpm_writer.proofs.Storing.{none_filling, over_filling, taken_first, taken_unlink, unlink_filling, taken_by_second, has_linked, keeps_first, keeps_second, has_unlinked, making_first, making_second, making_quiet}
 
 due_last : (e : Entry) → IsLast e → due_after e ≡ Nothing
 due_last Miss h = refl
@@ -158,7 +158,7 @@ module _ {M : Type 0} (words : M → Words) (newest count : M → ℕ) (did : M 
           follows m (StoreFirst i x) z c later goes now.1 (allows_first c steps d may i x n),
           record {
             widths = r.widths;
-            making = making_first c later u (tables c steps).words v r.making v' (First i) i x st' sm (taken_first c.first c.second v v' w.words i x (course c later).taken st'.onward low under n');
+            making = making_first c later u (tables c steps).words v r.making v' (First i) i x st' sm (taken_first c.first c.second v v' w.words i x (course c later).taken st'.onward n' r.making.taken);
             idle = record { duty = due_last (first_entry w.words i) kind.old; awaited = r.idle.awaited };
             keeps = subst (Keeps c (StoreFirst i x ∷ later) new.groups new.queue.items new.passed) (sym none)
                 (keeps_first c later new.groups new.queue.items new.passed v r.keeps i x kind c.first (tied_on c steps d may tied) low_block waits);
@@ -178,14 +178,13 @@ module _ {M : Type 0} (words : M → Words) (newest count : M → ℕ) (did : M 
         let n' = next_second_on c steps d may j x n in
         let st' = steps_second c steps d may (Second j) j x st e in
         let under = r.making.come.under_way in
-        let kind = second_kind c.first c.second v w.words j x under n' in
         let sm = ((next_store c.first c.second v w.words r.making.come.table under).second_word j x n').1 in (
           StoreSecond j x ∷ later,
           follows m (StoreSecond j x) z c later goes now.1 (allows_second c steps d may tied j x n),
           record {
             widths = r.widths;
             making = making_second c later u (tables c steps).words v r.making v' (Second j) j x st' sm
-                (taken_by_second c later new.groups new.queue.items new.passed v v' r.keeps j x st'.onward kind);
+                (taken_by_second c later new.groups new.queue.items new.passed u (tables c steps).words v v' r.making r.keeps (tied_on c steps d may tied) j x st'.onward n');
             idle = record { duty = r.idle.duty; awaited = r.idle.awaited };
             keeps = keeps_second c later new.groups new.queue.items new.passed v r.keeps j x v' st'.onward;
             sequence = r.sequence;
@@ -224,9 +223,9 @@ module _ {M : Type 0} (words : M → Words) (newest count : M → ℕ) (did : M 
           let unlinked = unlinked_on c steps d may in
           let done = retires c (StoreFirst b x ∷ now.0) None unlinked.0 unlinked.1 in
           let q = done.2 in
-          let fills = unlink_filling c.first c.second v v' w.words b g x (tables c done.0).words.firsts (course c done.0).taken st'.onward n' in
+          let fills = unlink_filling c.first c.second v v' w.words b g x (tables c done.0).words.firsts st'.onward n' in
           let making = making_first c now.0 u (tables c steps).words v r.making v' (Unlinked b g) b x st' sm
-          (unlink_filling c.first c.second v v' w.words b g x (with_first w.words b x).firsts (course c now.0).taken st'.onward n').1 in
+          (taken_unlink c.first c.second v v' w.words b g x (course c now.0).taken st'.onward n' r.making.taken) in
           let k = r.unlinked in (
             done.0,
             done.1,
@@ -234,7 +233,7 @@ module _ {M : Type 0} (words : M → Words) (newest count : M → ℕ) (did : M 
               widths = r.widths;
               making = making_quiet c (StoreFirst b x ∷ now.0) done.0 u (tables c steps).words v' q.quiet q.taken making;
               idle = q.idle;
-              keeps = subst (Keeps c done.0 last.groups last.queue.items last.passed) (sym fills.0) done.3;
+              keeps = subst (Keeps c done.0 last.groups last.queue.items last.passed) (sym fills) done.3;
               sequence = q.quiet.sequence ∙ r.sequence;
               history = q.quiet.history ∙ r.history;
               unlinked = record {
@@ -259,22 +258,24 @@ module _ {M : Type 0} (words : M → Words) (newest count : M → ℕ) (did : M 
           )
 
     -- nothing is left to store
-    pub run_ended : Steps f s v (words m) Done v' (words m) → (c : Setup) (steps : List WriterStep) → did first c steps → MayMake f s c steps u old
+    pub run_ended : Steps f s v (words m) Done v' (words m) → IsTied f new.groups (group_held v (words m).firsts) → (c : Setup) (steps : List WriterStep) → did first c steps → MayMake f s c steps u old
         → (later : List WriterStep) × did m c later × HasMade does c config first steps old m later new
-    run_ended st c steps d may =
+    run_ended st tied c steps d may =
         let now = runs c steps d may in
         let r = now.2 in
         let w : Tables = tables c now.0 in
         let st' = fit (λ a b. Steps a b v w.words Done v' w.words) f s c may.widths (subst (λ W. Steps f s v W Done v' W) (seen c steps d may) st) in
         let come = run_goes_on c.first c.second u (tables c steps).words Done v v' w.words w.words r.making.come st' in
         let over : IsOver c.first c.second v' = st'.stored.1 in
-        let none = over_filling c.first c.second v' w.words (group_at (tables c steps).words.firsts) come.under_way over come.groups in (
+        let none = over_filling c.first c.second v' w.words (group_at (tables c steps).words.firsts) come.under_way over come.groups in
+        let none_yet = sym (filling_same v v' w.words.firsts st'.onward) ∙ none in
+        let linked = has_linked c now.0 new.groups new.queue.items new.passed v (course c now.0).taken r.making.taken r.making.come.under_way none_yet r.keeps (tied_on c steps d may tied) in (
           now.0,
           now.1,
           record {
-            may_close = may_close c now.0 u (tables c steps).words v r.making v' come r.idle over;
+            may_close = may_close c now.0 u (tables c steps).words v r.making v' come r.idle over linked;
             idle = r.idle;
-            keeps = subst (Keeps c now.0 new.groups new.queue.items new.passed) (sym (filling_same v v' w.words.firsts st'.onward) ∙ none) r.keeps;
+            keeps = subst (Keeps c now.0 new.groups new.queue.items new.passed) none_yet r.keeps;
             sequence = r.sequence;
             history = r.history;
             unlinked = r.unlinked;

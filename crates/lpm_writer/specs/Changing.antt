@@ -30,7 +30,7 @@ pub record MayChange (first second : ℕ) (c : Setup) (steps : List WriterStep) 
   pub between : IsBetween c steps
   pub table : IsTable c.first c.second (tables c steps).words
   pub begun : IsBegun c.first c.second u (tables c steps).words
-  pub fresh : IsTakenBy u (tables c steps).words.firsts None
+  pub fresh : IsTakenBy u None
   pub sound : IsChange (c.first + c.second) change
   pub old : (a : ℕ) → a < addresses c
       → IsAnswer c ((tables c steps).history (done (tables c steps))) a

@@ -1,5 +1,5 @@
 -- This layer's own: an update that runs, by the words and by the writer's steps (this project's).
-use Rattle.std.specs.Prelude.{ℕ, ◌≡◌, ◌+◌, ◌-◌, ◌<◌, ◌⊎◌, ⊤, true, List, Option, Some, None}
+use Rattle.std.specs.Prelude.{ℕ, ◌≡◌, ◌+◌, ◌-◌, ◌<◌, ◌⊎◌, true, List, Option, Some, None}
 use Rattle.lpm_entry.specs.Words.{hop_in}
 use Rattle.lpm_cells.specs.Table.{Words, entry_at}
 use Rattle.lpm_update.specs.declared.update.Plan.{Plan}
@@ -31,13 +31,12 @@ filling (Link u) firsts = unless_linked (group_at firsts u.block) u.group
 filling (Unlink u) firsts = None
 filling (Flush u) firsts = None
 
--- the group that the change fills is the one that the update took, once a word of it is stored
-abbrev pub IsTakenBy : Plan → List ℕ → Option ℕ → Type 0
-IsTakenBy (Range u) firsts taken = ⊤
-IsTakenBy (Link u) firsts taken = group_at firsts u.block ≡ None
-    → (taken ≡ Some u.group) ⊎ ((taken ≡ None) × (u.next ≡ 0))
-IsTakenBy (Unlink u) firsts taken = ⊤
-IsTakenBy (Flush u) firsts taken = ⊤
+-- the update took the group that the change links, once a word of it is stored, and no other
+abbrev pub IsTakenBy : Plan → Option ℕ → Type 0
+IsTakenBy (Range u) taken = taken ≡ None
+IsTakenBy (Link u) taken = (taken ≡ Some u.group) ⊎ ((taken ≡ None) × (u.next ≡ 0))
+IsTakenBy (Unlink u) taken = taken ≡ None
+IsTakenBy (Flush u) taken = taken ≡ None
 
 -- the answer that an address has after the change u of the words t
 abbrev pub answer_after : Setup → Plan → Words → ℕ → Option ℕ
@@ -48,7 +47,7 @@ pub record IsMaking (c : Setup) (steps : List WriterStep) (u : Plan) (t : Words)
     : Type 0 where
   pub come : HasCome c.first c.second u t v (tables c steps).words
   pub updating : IsUpdating (tables c steps)
-  pub taken : IsTakenBy v (tables c steps).words.firsts (course c steps).taken
+  pub taken : IsTakenBy v (course c steps).taken
   -- the answers before and after are those of the versions that are done and begun
   pub old : (a : ℕ) → a < addresses c
       → IsAnswer c ((tables c steps).history (done (tables c steps))) a (answer c t a)

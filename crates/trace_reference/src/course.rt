@@ -153,11 +153,21 @@ impl Course {
         is_only
     }
 
-    /// Moves on by a step that raises the sequence. Answers whether it may come next.
+    /// Whether a group that the update took is linked by now.
+    fn has_linked_its_own(&self) -> bool {
+        match self.taken {
+            Some(group) => self.standing(group) == Some(Standing::Linked),
+            None => true,
+        }
+    }
+
+    /// Moves on by a step that raises the sequence. Answers whether it may come next: an update that
+    /// ends has linked the group that it took.
     pub(crate) fn bump_sequence(&mut self) -> bool {
+        let is_allowed = self.is_at_leisure() && self.has_linked_its_own();
         self.reclaims = false;
         self.taken = None;
-        self.is_at_leisure()
+        is_allowed
     }
 
     /// Moves on by a step that raises the token to this one. Answers whether it may come next:

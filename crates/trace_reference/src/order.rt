@@ -129,7 +129,8 @@ fn begin_with_no_rules(versions: &Versions) -> bool {
 ///
 /// - its stores stand in updates, and after each of them each address has its old answer, or the new
 ///   one from then on; at the end of the update each has the new one;
-/// - an update stores into groups that are linked and into one free group, and links that one alone;
+/// - an update stores into groups that are linked and into one free group, and links that one alone,
+///   before it ends;
 /// - the token is raised directly after each step that unlinks a group, and else between updates;
 /// - a check loads the counters of the workers in turn, as far as the first that is neither 0 nor at
 ///   least the token.

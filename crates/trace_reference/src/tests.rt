@@ -350,6 +350,27 @@ fn stores_out_of_order(rt: HostRuntime) -> Result<(), Fail> {
     Ok(())
 }
 
+// An update that leaves the rules as they are may store nothing; but a free group that it fills it links
+// before it ends.
+#[test]
+fn a_group_that_is_filled_and_never_linked(rt: HostRuntime) -> Result<(), Fail> {
+    let alloc = rt.alloc();
+    let mut same_rules = Vec::new(alloc);
+    same_rules.push(Vec::new(alloc))?;
+    same_rules.push(Vec::new(alloc))?;
+    let steps = [
+        writer(Kind::BumpSequence, 0, 1),
+        writer(Kind::StoreSecond, 0, FIVE),
+        writer(Kind::BumpSequence, 0, 2),
+    ];
+    let unfilled = without(alloc, &steps, &[2])?;
+    let unfinished = without(alloc, &steps, &[3])?;
+    assert!(rt; writes_in_order(alloc, &SMALL, &same_rules, &unfilled)?);
+    assert!(rt; writes_in_order(alloc, &SMALL, &same_rules, &unfinished)?);
+    assert!(rt; !writes_in_order(alloc, &SMALL, &same_rules, &steps)?);
+    Ok(())
+}
+
 #[test]
 fn tokens_and_checks_out_of_order(rt: HostRuntime) -> Result<(), Fail> {
     let alloc = rt.alloc();

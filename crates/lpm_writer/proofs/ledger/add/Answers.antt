@@ -67,7 +67,7 @@ change-requires g c =
     let represents = subst (Represents f s l.rules.rules) (sym same) r.3.represents in
     let fits = subst (λ V. AddFits f s l.rules.rules p V group) (sym same) (found_fits f s r.0 r.1 l.config l.rules l.books l.versions r.3 p low t x group (y, found.0) mid finds) in
     let begun = c.add-update.ensures.begun l.rules.rules W1 represents fits in
-    let fills = subst (λ (V : Words). (filling u V.firsts ≡ group) × IsTakenBy u V.firsts None) (sym same)
+    let fills = subst (λ (V : Words). (filling u V.firsts ≡ group) × IsTakenBy u None) (sym same)
     (found_fills f s r.0 r.1 l.config l.rules l.books l.versions r.3 p low t x group (y, found.0) mid u finds c.add-update.ensures.fills) in
     let tied = found_tied f s r.0 r.1 l.config l.rules l.books l.versions r.3 p low t x group (y, found.0) mid u finds c.add-update.ensures.held in
     let now = met.shows y r.0 found.0 found.1 in
@@ -120,7 +120,7 @@ returns-in-Ok-group_for g c = record {
       let represents = subst (Represents f s l.rules.rules) (sym same) rest.represents in
       let fits = subst (λ V. AddFits f s l.rules.rules p V group) (sym same) (found_fits f s setup steps l.config l.rules l.books l.versions rest p low t x group (y, found.0) mid finds) in
       let begun = c.add-update.ensures.begun l.rules.rules W1 represents fits in
-      let fills = subst (λ (V : Words). (filling u V.firsts ≡ group) × IsTakenBy u V.firsts None) (sym same)
+      let fills = subst (λ (V : Words). (filling u V.firsts ≡ group) × IsTakenBy u None) (sym same)
       (found_fills f s setup steps l.config l.rules l.books l.versions rest p low t x group (y, found.0) mid u finds c.add-update.ensures.fills) in
       let change = Puts p.bits p.len h in
       let version = version_still setup steps found.0 l.rules.rules rest.version found.2 in
