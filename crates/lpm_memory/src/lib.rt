@@ -7,14 +7,14 @@
 mod plain;
 
 ghost use Rattle.std.specs.Prelude.{◌≡◌, ℕ, ◌+◌, ◌^◌, ◌<◌, ◌≤◌, List, ◌∷◌};
-ghost use Rattle.lpm_trace.specs.declared.step.RuleChange.{RuleChange};
 ghost use Rattle.lpm_trace.specs.declared.step.WriterStep.{WriterStep};
 ghost use Rattle.lpm_trace.specs.declared.step.WriterStep.TheVariants.{StoreFirst, StoreSecond, Opens, Closes, BumpToken, LoadCounter};
-ghost use Rattle.lpm_trace.specs.Tables.{Setup, tables};
+ghost use Rattle.lpm_trace.specs.Tables.{Setup, tables, done};
 ghost use Rattle.lpm_trace.specs.Writer.{IsWritten, MayStep};
 ghost use Rattle.lpm_memory.specs.Steps.{MayBeNext};
 
 use lpm_cells::Cells;
+use lpm_trace::RuleChange;
 pub use plain::PlainMemory;
 
 /// The memory of a table, as its writer uses it.
@@ -42,10 +42,12 @@ pub trait Memory: Cells {
         ensures value { result ≡ newest self.now }
         ensures within { result ≤ 2 ^ 62 };
 
-    /// An update begins. The memory is the same whatever change of the rules it makes.
-    fn open(&mut self)
-        requires may { (change : RuleChange) × MayBeNext did self.old (Opens change) }
-        ensures does { (change : RuleChange) → does self.old (Opens change) self.new };
+    /// The update of this change of the rules begins.
+    fn open(&mut self, change: &RuleChange)
+        requires may { MayBeNext did self.old (Opens change.now) }
+        requires few { (c : Setup) × (steps : List WriterStep) × did self.old c steps
+            × (done (tables c steps) < 2 ^ 61) }
+        ensures does { does self.old (Opens change.now) self.new };
 
     /// The update is done.
     fn close(&mut self)

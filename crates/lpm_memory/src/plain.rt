@@ -7,6 +7,7 @@ ghost use Rattle.lpm_entry.specs.Words.{word_of};
 
 use super::Memory;
 use lpm_cells::{Cells, PlainCells};
+use lpm_trace::RuleChange;
 use qsbr::Domain;
 use std::alloc::{AllocError, Global};
 
@@ -119,7 +120,9 @@ impl<const FIRST: u32, const SECOND: u32> Memory for PlainMemory<FIRST, SECOND> 
     }
 
     #[inline]
-    fn open(&mut self) {}
+    fn open(&mut self, change: &RuleChange) {
+        let _ = change;
+    }
 
     #[inline]
     fn close(&mut self) {}

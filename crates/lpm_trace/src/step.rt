@@ -1,10 +1,11 @@
 //! The steps of one writer and its workers. Each is one load or one store of one word. Beside the
 //! word that was loaded or stored a step tells which part of a command or a report it is. No value
-//! of these types is made: a step is what a definition speaks of.
+//! of a step is made: it is what a definition speaks of.
 
 use std::collections::LinkedList;
 
-/// The change of the rules that an update makes.
+/// The change of the rules that an update makes. A writer hands it to its memory when the update begins.
+#[derive(Clone, Copy)]
 pub enum RuleChange {
     /// The rule of this prefix, its bits and its length, gets this next hop.
     Put(u64, u64, u64),

@@ -57,17 +57,22 @@ some_fills (Flush u) g block F h none = absurd (some_is g h)
     some_is g e = cc
 
 -- an update that turns these rules into those of the change may be made
-pub may_change : (f s : ℕ) (c : Setup) (steps : List WriterStep) (rules R : RuleMap) (u : Plan) (change : RuleChange) (held : Option ℕ) (now : Books) → HasWidths f s c → IsBetween c steps
+-- a number of versions that is bounded bounds the updates that are done
+pub few_begun : (begun ended : ℕ) → begun ≡ ended → begun < 2 ^ 61 → ended < 2 ^ 61
+few_begun begun ended e low = subst (λ n. n < 2 ^ 61) e low
+
+pub may_change : (f s : ℕ) (c : Setup) (steps : List WriterStep) (rules R : RuleMap) (u : Plan) (change : RuleChange) (held : Option ℕ) (now : Books) → HasWidths f s c → IsBetween c steps → done (tables c steps) < 2 ^ 61
     → (tables c steps).history (done (tables c steps)) ≡ rules → Represents f s rules (tables c steps).words → IsBegun f s u (tables c steps).words → TurnsInto f s u rules R → rules_by rules change ≡ R
     → IsChange (f + s) change → (filling u (tables c steps).words.firsts ≡ held) × IsTakenBy u None
     → Keeps c steps now.groups now.queue.items now.passed held → MayChange f s c steps u change now
-may_change f s c steps rules R u change held now widths between version represented may turns makes sound fills keeps =
+may_change f s c steps rules R u change held now widths between few version represented may turns makes sound fills keeps =
     let w : Tables = tables c steps in
     let represents = fit (λ a b. Represents a b rules w.words) f s c widths represented in
     let turns' = fit (λ a b. TurnsInto a b u rules R) f s c widths turns in
     record {
       widths = widths;
       between = between;
+      few = few;
       table = represents.table;
       begun = fit (λ a b. IsBegun a b u w.words) f s c widths may;
       fresh = fills.1;

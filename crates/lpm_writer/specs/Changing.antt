@@ -1,6 +1,6 @@
 -- Meaning: a whole update, from the step that opens it to the one that closes it (this
 -- project's).
-use Rattle.std.specs.Prelude.{ℕ, ◌≡◌, ◌+◌, ◌-◌, ◌%◌, ◌<◌, false, List, None}
+use Rattle.std.specs.Prelude.{ℕ, ◌≡◌, ◌+◌, ◌-◌, ◌%◌, ◌^◌, ◌<◌, false, List, None}
 use Rattle.lpm_groups.specs.States.{linked_count}
 use Rattle.lpm_limits.specs.declared.config.Config.{Config}
 use Rattle.lpm_update.specs.declared.update.Plan.{Plan}
@@ -28,6 +28,7 @@ pub record MayChange (first second : ℕ) (c : Setup) (steps : List WriterStep) 
     (change : RuleChange) (books : Books) : Type 0 where
   pub widths : HasWidths first second c
   pub between : IsBetween c steps
+  pub few : done (tables c steps) < 2 ^ 61
   pub table : IsTable c.first c.second (tables c steps).words
   pub begun : IsBegun c.first c.second u (tables c steps).words
   pub fresh : IsTakenBy u None

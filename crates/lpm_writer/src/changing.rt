@@ -8,7 +8,6 @@ ghost use Rattle.lpm_update.specs.Linked.{group_at};
 ghost use Rattle.lpm_update.specs.Represents.{Represents, TurnsInto};
 ghost use Rattle.lpm_update.specs.Tied.{IsTied};
 ghost use Rattle.lpm_update.specs.Update.{group_held};
-ghost use Rattle.lpm_trace.specs.declared.step.RuleChange.{RuleChange};
 ghost use Rattle.lpm_trace.specs.declared.step.WriterStep.{WriterStep};
 ghost use Rattle.lpm_trace.specs.Tables.{Setup};
 ghost use Rattle.lpm_writer.specs.Waiting.{IsQueued};
@@ -17,27 +16,31 @@ ghost use Rattle.lpm_writer.specs.Changing.{MayChange, HasChanged};
 use super::Books;
 use super::running::run;
 use lpm_memory::Memory;
+use lpm_trace::RuleChange;
 use lpm_update::Update;
 use qsbr::Config;
 
-/// Makes a whole update: it begins, its stores are made, and it is done.
+/// Makes the whole update of a change of the rules: it begins, its stores are made, and it is done.
 pub(crate) fn change<const FIRST: u32, const SECOND: u32, M: Memory>(
     update: Update,
+    rule_change: &RuleChange,
     memory: &mut M,
     books: &mut Books,
     config: &Config,
 )
     requires shape { IsShape FIRST SECOND }
-    requires may { (c : Setup) × (steps : List WriterStep) × (change : RuleChange)
-        × M.did memory.old c steps × MayChange FIRST SECOND c steps update change books.old }
+    requires may { (c : Setup) × (steps : List WriterStep)
+        × M.did memory.old c steps
+        × MayChange FIRST SECOND c steps update rule_change.now books.old }
     requires tied { IsTied FIRST books.old.groups
         (group_held update (M.words memory.old).firsts) }
     requires queued { IsQueued books.old.groups books.old.queue }
     requires tokens { M.newest memory.old + length books.old.groups ≤ 2 ^ 62 }
-    ensures changed { (c : Setup) (steps : List WriterStep) (change : RuleChange)
-        → M.did memory.old c steps → MayChange FIRST SECOND c steps update change books.old
+    ensures changed { (c : Setup) (steps : List WriterStep)
+        → M.did memory.old c steps
+        → MayChange FIRST SECOND c steps update rule_change.now books.old
         → (later : List WriterStep) × M.did memory.new c later
-        × HasChanged M.does c config.now change memory.old steps books.old
+        × HasChanged M.does c config.now rule_change.now memory.old steps books.old
         memory.new later books.new }
     ensures represents { (R R' : RuleMap) → Represents FIRST SECOND R (M.words memory.old)
         → TurnsInto FIRST SECOND update R R'
@@ -48,7 +51,7 @@ pub(crate) fn change<const FIRST: u32, const SECOND: u32, M: Memory>(
     ensures states { length books.new.groups ≡ length books.old.groups }
     ensures fewer { linked_count books.new.groups ≤ linked_count books.old.groups }
 {
-    memory.open();
+    memory.open(rule_change);
     run::<FIRST, SECOND, M>(update, memory, books, config);
     memory.close();
 }

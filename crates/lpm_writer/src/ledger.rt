@@ -4,6 +4,7 @@ ghost use Rattle.std.specs.Prelude.{◌≡◌, ℕ, ◌+◌, ◌^◌, ◌<◌, �
 ghost use Rattle.lpm_update.specs.Represents.{LastFits};
 ghost use Rattle.fib_model.specs.State.{IsExhausted};
 ghost use Rattle.fib_model.specs.Outcomes.{Adds, Deletes, Flushes, Frees};
+ghost use Rattle.lpm_trace.specs.declared.step.RuleChange.TheVariants.{Put as Puts, TakeOut as TakesOut};
 ghost use Rattle.lpm_trace.specs.declared.step.WriterStep.{WriterStep};
 ghost use Rattle.lpm_trace.specs.Tables.{Setup};
 ghost use Rattle.lpm_writer.specs.Traced.{by_writer};
@@ -17,6 +18,7 @@ use defer_queue::Reclaimed;
 use lpm_bits::{Hop, Prefix, Shape};
 use lpm_memory::Memory;
 use lpm_rules::{Put, RuleFault, Rules};
+use lpm_trace::RuleChange;
 use lpm_update::Update;
 use qsbr::{Config, Refusal};
 
@@ -80,6 +82,27 @@ fn is_last<const FIRST: u32, const SECOND: u32>(
     !rules.is_deep(block)
 }
 
+/// The change of the rules that gives the prefix this next hop.
+fn putting<const FIRST: u32, const SECOND: u32>(
+    prefix: &Prefix<FIRST, SECOND>,
+    hop: Hop,
+) -> RuleChange
+    ensures { result ≡ Puts prefix.now.bits prefix.now.len hop }
+{
+    RuleChange::Put(
+        u64::from(prefix.bits()),
+        u64::from(prefix.len()),
+        u64::from(hop.number()),
+    )
+}
+
+/// The change of the rules that takes out the prefix's rule.
+fn taking_out<const FIRST: u32, const SECOND: u32>(prefix: &Prefix<FIRST, SECOND>) -> RuleChange
+    ensures { result ≡ TakesOut prefix.now.bits prefix.now.len }
+{
+    RuleChange::TakeOut(u64::from(prefix.bits()), u64::from(prefix.len()))
+}
+
 /// Adds a rule, or gives the prefix's rule another next hop. A rule that is there already stays, and is
 /// `Unchanged`, whatever else holds.
 ///
@@ -128,7 +151,8 @@ pub fn add<const FIRST: u32, const SECOND: u32, M: Memory>(
     match group_for::<FIRST, SECOND, M>(prefix, linked, memory, &mut ledger.books) {
         Ok(group) => {
             let update = Update::add(prefix, hop, group);
-            change::<FIRST, SECOND, M>(update, memory, &mut ledger.books, &ledger.config);
+            let rule = putting(prefix, hop);
+            change::<FIRST, SECOND, M>(update, &rule, memory, &mut ledger.books, &ledger.config);
             ledger.versions += 1;
             return Ok(put);
         }
@@ -200,7 +224,8 @@ pub fn delete<const FIRST: u32, const SECOND: u32, M: Memory>(
         Ok(hop) => {
             let last = is_last(&ledger.rules, prefix);
             let update = Update::delete(prefix, cover, last);
-            change::<FIRST, SECOND, M>(update, memory, &mut ledger.books, &ledger.config);
+            let rule = taking_out(prefix);
+            change::<FIRST, SECOND, M>(update, &rule, memory, &mut ledger.books, &ledger.config);
             ledger.versions += 1;
             return Ok(hop);
         }
@@ -237,7 +262,8 @@ pub fn flush<const FIRST: u32, const SECOND: u32, M: Memory>(
     }
     let count = ledger.rules.clear();
     let update = Update::flush::<FIRST, SECOND>();
-    change::<FIRST, SECOND, M>(update, memory, &mut ledger.books, &ledger.config);
+    let rule = RuleChange::Clear;
+    change::<FIRST, SECOND, M>(update, &rule, memory, &mut ledger.books, &ledger.config);
     ledger.versions += 1;
     Ok(count)
 }

@@ -3,7 +3,7 @@
 use super::WorldMemory;
 use lpm_cells::Cells;
 use lpm_memory::Memory;
-use lpm_trace::Kind;
+use lpm_trace::{Kind, RuleChange};
 
 impl<'a, const FIRST: u32, const SECOND: u32> Cells for WorldMemory<'a, FIRST, SECOND> {
     ghost use Rattle.lpm_trace.specs.declared.step.WriterStep.TheVariants.{StoreFirst, StoreSecond};
@@ -84,7 +84,8 @@ impl<'a, const FIRST: u32, const SECOND: u32> Memory for WorldMemory<'a, FIRST, 
         self.shared.token
     }
 
-    fn open(&mut self) {
+    fn open(&mut self, change: &RuleChange) {
+        let _ = change;
         if self.reach() {
             self.bump_sequence();
         } else {

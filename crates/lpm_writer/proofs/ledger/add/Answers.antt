@@ -12,12 +12,13 @@ use Rattle.lpm_update.specs.Tied.{IsTied}
 use Rattle.lpm_update.specs.Update.{group_held}
 use Rattle.lpm_trace.specs.declared.step.RuleChange.TheVariants.{Put as Puts}
 use Rattle.lpm_trace.specs.declared.step.WriterStep.{WriterStep}
-use Rattle.lpm_trace.specs.Tables.{tables, done_at}
+use Rattle.lpm_trace.specs.Tables.{tables, done, done_at}
 use Rattle.lpm_writer.specs.Making.{filling, IsTakenBy}
+use Rattle.lpm_writer.specs.Changing.{MayChange, HasChanged}
 use Rattle.lpm_writer.specs.Taking.{Finds}
 use Rattle.lpm_writer.specs.Traced.{by_writer}
 use Rattle.lpm_writer.specs.Resting.{IsResting, state_of}
-use Rattle.lpm_writer.proofs.Rests.{linked_resting, between_take, between_still, version_still, may_change, has_tokens, rests_after, rests_still}
+use Rattle.lpm_writer.proofs.Rests.{few_begun, linked_resting, between_take, between_still, version_still, may_change, has_tokens, rests_after, rests_still}
 use Rattle.lpm_writer.proofs.Additions.{absent, found_states, found_fits, found_tied, found_fills, found_adds, none_adds, put_room, taken_back}
 use Rattle.lpm_writer.proofs.ledger.add.Goals as goal
 
@@ -73,19 +74,20 @@ change-requires g c =
     let now = met.shows y r.0 found.0 found.1 in
     let states = found_states f s r.0 r.1 l.config l.rules l.books l.versions r.3 p low t x group (y, found.0) mid finds in
     let left = has_tokens t l.config (state_of l.rules.rules x l.books l.versions) c.is_exhausted.result c.if-is_exhausted.false (c.is_exhausted.ensures r.0 r.1 r.2) in
+    let few = few_begun l.versions (done (tables r.0 found.0)) (r.3.versions ∙ sym (ap done_at found.2.quiet.sequence)) left.1 in
     record {
       shape = r.3.shape;
       may = (
         r.0,
         found.0,
-        Puts p.bits p.len h,
         found.1,
-        may_change f s r.0 found.0 l.rules.rules (insert l.rules.rules p h) u (Puts p.bits p.len h) group mid r.3.widths (between_still r.0 r.1 found.0 r.3.between found.2)
-            (version_still r.0 r.1 found.0 l.rules.rules r.3.version found.2) represents begun.0 begun.1 refl (c.bits-bits.ensures.network, subst (λ n. n < 2 ^ 24) c.number-number.ensures.value c.number-number.ensures.bound) fills found.3,
+        subst (λ change. MayChange f s r.0 found.0 u change mid) (sym c.putting-rule.ensures)
+            (may_change f s r.0 found.0 l.rules.rules (insert l.rules.rules p h) u (Puts p.bits p.len h) group mid r.3.widths (between_still r.0 r.1 found.0 r.3.between found.2) few
+            (version_still r.0 r.1 found.0 l.rules.rules r.3.version found.2) represents begun.0 begun.1 refl (c.bits-bits.ensures.network, subst (λ n. n < 2 ^ 24) c.number-number.ensures.value c.number-number.ensures.bound) fills found.3),
       );
       tied = subst (λ (V : Words). IsTied f mid.groups (group_held u V.firsts)) (sym (now.0 ∙ same)) tied;
       queued = c.in-Ok-group_for.ensures.queued;
-      tokens = let token = now.1 ∙ found.2.token in let few = left.0 in omega (arith, token, states, r.3.states, few);
+      tokens = let token = now.1 ∙ found.2.token in let enough = left.0 in omega (arith, token, states, r.3.states, enough);
     }
 
 pub returns-in-Ok-group_for : goal.returns-in-Ok-group_for
@@ -124,17 +126,19 @@ returns-in-Ok-group_for g c = record {
       (found_fills f s setup steps l.config l.rules l.books l.versions rest p low t x group (y, found.0) mid u finds c.add-update.ensures.fills) in
       let change = Puts p.bits p.len h in
       let version = version_still setup steps found.0 l.rules.rules rest.version found.2 in
-      let may = may_change f s setup found.0 l.rules.rules (insert l.rules.rules p h) u change group mid rest.widths (between_still setup steps found.0 rest.between found.2)
-      version represents begun.0 begun.1 refl (c.bits-bits.ensures.network, subst (λ n. n < 2 ^ 24) c.number-number.ensures.value c.number-number.ensures.bound) fills found.3 in
-      let made = c.change.ensures.changed setup found.0 change found.1 may in
       let left = has_tokens t l.config (state_of l.rules.rules x l.books l.versions) c.is_exhausted.result c.if-is_exhausted.false (c.is_exhausted.ensures setup steps did) in
+      let few = few_begun l.versions (done (tables setup found.0)) (rest.versions ∙ sym (ap done_at found.2.quiet.sequence)) left.1 in
+      let may = may_change f s setup found.0 l.rules.rules (insert l.rules.rules p h) u change group mid rest.widths (between_still setup steps found.0 rest.between found.2) few
+      version represents begun.0 begun.1 refl (c.bits-bits.ensures.network, subst (λ n. n < 2 ^ 24) c.number-number.ensures.value c.number-number.ensures.bound) fills found.3 in
+      let made = c.change.ensures.changed setup found.0 found.1 (subst (λ ch. MayChange f s setup found.0 u ch mid) (sym c.putting-rule.ensures) may) in
+      let changed = subst (λ ch. HasChanged k.does setup l.config ch y found.0 mid z made.0 new) c.putting-rule.ensures made.2 in
       let put_in : rules.rules ≡ insert l.rules.rules p h = ap (λ (r : RuleList). r.rules) put.ok in
       let turns = subst (λ R. TurnsInto f s u l.rules.rules R) (sym put_in) begun.1 in
       let old_seen = (met.shows y setup found.0 found.1).0 in
       let now_seen = (met.shows z setup made.0 made.1).0 in
       let end = c.change.ensures.represents l.rules.rules rules.rules (subst (Represents f s l.rules.rules) (sym old_seen) represents) turns in
       let states = found_states f s setup steps l.config l.rules l.books l.versions rest p low t x group (y, found.0) mid finds in
-      let after = rests_after f s setup steps l.config l.rules l.books l.versions rest k.does y z found.0 made.0 change mid new rules made.2 version (rest.versions ∙ sym (ap done_at found.2.quiet.sequence))
+      let after = rests_after f s setup steps l.config l.rules l.books l.versions rest k.does y z found.0 made.0 change mid new rules changed version (rest.versions ∙ sym (ap done_at found.2.quiet.sequence))
       (subst (Represents f s rules.rules) now_seen end.0)
       (subst (λ (V : Words). IsTied f new.groups (group_at V.firsts)) now_seen end.1)
       (ap (λ (V : Words). length V.seconds) (sym now_seen) ∙ c.change.ensures.sizes ∙ ap (λ (V : Words). length V.seconds) (old_seen ∙ same))
@@ -143,7 +147,7 @@ returns-in-Ok-group_for g c = record {
         made.1,
         after,
         subst (λ y. Adds t f s l.config (state_of l.rules.rules (y, steps) l.books l.versions) p h (Ok c.in-Ok.put) (state_of rules.rules (z, made.0) new (l.versions + 1))) same_memory
-            (found_adds f s setup steps l.config l.rules l.books l.versions rest p low t x h c.in-Ok.put group (y, found.0) (z, made.0) mid new rules finds made.2.changes
+            (found_adds f s setup steps l.config l.rules l.books l.versions rest p low t x h c.in-Ok.put group (y, found.0) (z, made.0) mid new rules finds changed.changes
             (linked_resting f s setup made.0 l.config rules new (l.versions + 1) after) put_in c.in_default-put.not-Unchanged put.replaced.0 (λ e. put.new.0 (inl e)) left),
       );
   config = refl;

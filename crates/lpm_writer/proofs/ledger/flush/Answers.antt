@@ -4,10 +4,10 @@ use Rattle.std.specs.FinMap.{empty}
 use Rattle.lpm_rules.specs.RuleMap.{RuleList, network_cmp}
 use Rattle.lpm_update.specs.Represents.{TurnsInto}
 use Rattle.lpm_trace.specs.declared.step.RuleChange.TheVariants.{Clear}
-use Rattle.lpm_trace.specs.Tables.{tables}
+use Rattle.lpm_trace.specs.Tables.{tables, done}
 use Rattle.lpm_writer.specs.Traced.{by_writer}
 use Rattle.lpm_writer.specs.Resting.{state_of}
-use Rattle.lpm_writer.proofs.Rests.{none_fills, may_change, has_tokens, tied_held, rests_then, shrinks_then}
+use Rattle.lpm_writer.proofs.Rests.{few_begun, none_fills, may_change, has_tokens, tied_held, rests_then, shrinks_then}
 use Rattle.lpm_writer.proofs.ledger.flush.Goals as goal
 
 pub change-requires-clause-may : goal.change-requires-clause-may
@@ -18,12 +18,13 @@ change-requires-clause-may g c =
     let r = c.requires.rests in
     let W = (tables r.0 r.1).words in
     let u = c.flush-update.result in
-    let begun = c.flush-update.ensures.begun x.rules.rules W r.3.represents in (
+    let begun = c.flush-update.ensures.begun x.rules.rules W r.3.represents in
+    let tokens = has_tokens (by_writer g.M.Memory.does r.0) x.config (state_of x.rules.rules (c.args.memory.now, r.1) x.books x.versions) c.is_exhausted.result c.if-is_exhausted.false (c.is_exhausted.ensures r.0 r.1 r.2) in
+    let few = few_begun x.versions (done (tables r.0 r.1)) r.3.versions tokens.1 in (
       r.0,
       r.1,
-      Clear,
       r.2,
-      may_change f s r.0 r.1 x.rules.rules (empty {R = network_cmp}) u Clear None x.books r.3.widths r.3.between r.3.version r.3.represents begun.0 begun.1 refl tt (none_fills u 0 W.firsts (c.flush-update.ensures.fills 0)) r.3.keeps,
+      may_change f s r.0 r.1 x.rules.rules (empty {R = network_cmp}) u Clear None x.books r.3.widths r.3.between few r.3.version r.3.represents begun.0 begun.1 refl tt (none_fills u 0 W.firsts (c.flush-update.ensures.fills 0)) r.3.keeps,
     )
 
 pub change-requires-clause-tied : goal.change-requires-clause-tied
@@ -49,10 +50,11 @@ returns-clause-flushes g c = λ setup steps did rest.
     let W = (tables setup steps).words in
     let gone = ap (λ (y : RuleList). y.rules) c.clear-count.ensures.empty in
     let begun = c.flush-update.ensures.begun x.rules.rules W rest.represents in
-    let may = may_change f s setup steps x.rules.rules (empty {R = network_cmp}) u Clear None x.books rest.widths rest.between rest.version rest.represents begun.0 begun.1 refl tt (none_fills u 0 W.firsts (c.flush-update.ensures.fills 0)) rest.keeps in
-    let made = c.change.ensures.changed setup steps Clear did may in
     let S = state_of x.rules.rules (m, steps) x.books x.versions in
     let tokens = has_tokens (by_writer k.does setup) x.config S c.is_exhausted.result c.if-is_exhausted.false (c.is_exhausted.ensures setup steps did) in
+    let few = few_begun x.versions (done (tables setup steps)) rest.versions tokens.1 in
+    let may = may_change f s setup steps x.rules.rules (empty {R = network_cmp}) u Clear None x.books rest.widths rest.between few rest.version rest.represents begun.0 begun.1 refl tt (none_fills u 0 W.firsts (c.flush-update.ensures.fills 0)) rest.keeps in
+    let made = c.change.ensures.changed setup steps did may in
     let turns = subst (λ R. TurnsInto f s u x.rules.rules R) (sym gone) begun.1 in
     let after = rests_then g.M.Cells.words k.newest k.worker_count k.did k.does met.shows f s setup steps x.config x.rules x.books x.versions rest m did z made.0 Clear x.books new rules u made.1 made.2
     c.change.ensures.represents c.change.ensures.sizes c.change.ensures.queued c.change.ensures.states turns (sym gone) (ap (λ (y : RuleList). y.max) c.clear-count.ensures.empty) tokens.1 in (

@@ -10,7 +10,7 @@ use Rattle.world_memory.proofs.memory.WorldMemoryMemory.open.Goals as goal
 pub bump_sequence-requires : goal.bump_sequence-requires
 bump_sequence-requires g c =
     let y = c.reach.new.self in
-    let may = c.requires.may.1 in
+    let may = c.requires.may in
     let turn : IsWritersTurn y = c.if-reach.ensures.found in
     let now = c.if-reach.ensures.reaches may.0 may.1 may.2 in
     let low : y.sequence ≤ y.next = sequence_within g.row.FIRST g.row.SECOND y may.0 None now.0 now.1 now.2 in
@@ -18,7 +18,7 @@ bump_sequence-requires g c =
 
 pub returns-then-reach : goal.returns-then-reach
 returns-then-reach g c = record {
-  does = λ change. recorded_does g.row.FIRST g.row.SECOND c.args.self.now c.reach.new.self c.bump_sequence.new.self (Opens change)
+  does = recorded_does g.row.FIRST g.row.SECOND c.args.self.now c.reach.new.self c.bump_sequence.new.self (Opens c.args.change.now)
       (setting_stays c.args.self.now c.reach.new.self c.if-reach.ensures.shared) c.if-reach.ensures.reaches c.if-reach.ensures.found tt c.bump_sequence.ensures;
 }
 
@@ -29,7 +29,7 @@ returns-else-reach g c =
     let y : WorldView = view_in f s c.self.inside in
     let is : y ≡ c.reach.new.self = c.self.view_is in
     record {
-      does = λ change. unrecorded_does f s c.args.self.now y (record y { stopped = true }) (Opens change)
+      does = unrecorded_does f s c.args.self.now y (record y { stopped = true }) (Opens c.args.change.now)
           (ap setting is ∙ setting_stays c.args.self.now c.reach.new.self c.if-reach.ensures.shared)
           (subst (Reaches f s c.args.self.now) (sym is) c.if-reach.ensures.reaches)
           (subst (λ (x : WorldView). x.next ≡ length x.schedule) (sym is) c.if-reach.ensures.found) tt refl;
