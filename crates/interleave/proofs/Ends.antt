@@ -10,9 +10,11 @@ use Rattle.lpm_trace.specs.declared.kind.Deed.{Deed}
 use Rattle.lpm_trace.specs.declared.step.WriterStep.{WriterStep}
 use Rattle.lpm_trace.specs.declared.step.TraceStep.TheVariants.{Writer}
 use Rattle.lpm_trace.specs.Trace.{writes}
+use Rattle.world_memory.specs.Runs.{seen_of}
 use Rattle.world_memory.specs.Schedule.{HasEnded, IsScheduled, writer_items}
 use Rattle.world_memory.specs.View.{script_at}
 use Rattle.world_memory.specs.World.{IsOpening, IsPlayedOut}
+use Rattle.world_memory.proofs.Seeing.{seen_finished}
 use Rattle.lpm_writer.specs.Opening.{opening_setup}
 use Rattle.lpm_writer.proofs.Opened.{settled}
 use Rattle.interleave.specs.declared.trace.Trace.{Trace}
@@ -56,5 +58,6 @@ run_ends f s config limits script scripts as_many schedule steps shown performed
       performed = subst (IsPerformed c f s config (writer_items schedule) opening_kept script shown.replies.items) played.split performed;
       shows_steps = played.shown;
       shows_lookups = played.finished;
+      shows_finished = λ worker. ap (seen_of worker) played.finished ∙ seen_finished worker played.trace;
       lawful = lawful c played.trace start (older_trace c (map Writer played.beyond) played.trace played.may_come);
     }

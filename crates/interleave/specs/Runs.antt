@@ -14,7 +14,8 @@ use Rattle.lpm_trace.specs.declared.step.TraceStep.TheVariants.{Writer}
 use Rattle.lpm_trace.specs.Tables.{Setup, addresses, answer, IsAnswer, done, begun}
 use Rattle.lpm_trace.specs.Trace.{IsTrace, writes, worker_of}
 use Rattle.lpm_trace.specs.Laws.{Stands, version_at, IsLegal, IsMonotone, Unlinks, Fills, by_steps, at_moment, rules_of_version}
-use Rattle.world_memory.specs.Runs.{all_shown, all_seen}
+use Rattle.world_workers.specs.Shown.{seen_by}
+use Rattle.world_memory.specs.Runs.{all_shown, all_seen, seen_of}
 use Rattle.world_memory.specs.Schedule.{HasEnded, IsScheduled, AreScripted, writer_items}
 use Rattle.lpm_writer.specs.Opening.{opening_setup}
 use Rattle.interleave.specs.declared.reply.Reply.{Reply}
@@ -101,6 +102,7 @@ pub record IsRun (f g : ℕ) (config : Config) (script : List (Change f g))
   pub steps : List TraceStep
   pub beyond : List WriterStep
   pub trace : IsTrace (opening_setup f g config) (map Writer beyond ++ steps)
+  -- the writer was cut short by the schedule's end alone; this follows from `scheduled`, too
   pub cut : beyond ≢ [] → length (writes steps) ≡ writer_items schedule
   -- each item of the schedule made one step of its actor, unless that had ended
   pub scheduled : IsScheduled
@@ -111,4 +113,7 @@ pub record IsRun (f g : ℕ) (config : Config) (script : List (Change f g))
       script shown.replies.items (beyond ++ writes steps)
   pub shows_steps : shown.steps.items ≡ all_shown (opening_setup f g config) steps
   pub shows_lookups : shown.lookups.items ≡ all_seen steps
+  -- of each worker these are the lookups that it has finished, and no others
+  pub shows_finished : (worker : ℕ) → seen_of worker shown.lookups.items
+      ≡ reverse (map (seen_by worker) (worker_of worker steps).finished)
   pub lawful : IsLawful (opening_setup f g config) steps

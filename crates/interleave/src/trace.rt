@@ -4,11 +4,14 @@ use super::Reply;
 use lpm_trace::Step;
 use world_workers::Seen;
 
-/// What a run shows: its steps in order, the replies to the changes that were answered, in the order of
-/// the writer's script, and the finished lookups, in the order in which they ended.
+/// What a run shows. A change without a reply, and what comes after it in the writer's script, needed
+/// more steps than the schedule has items for the writer.
 #[derive(Drop)]
 pub struct Trace {
+    /// Each step of the writer and its workers, in the order in which they were made.
     pub steps: Vec<Step>,
+    /// The replies to the first changes of the writer's script, in its order.
     pub replies: Vec<Reply>,
+    /// The finished lookups, one for each address, in the order in which they ended.
     pub lookups: Vec<Seen>,
 }

@@ -5,3 +5,5 @@ pub mod Writing
 pub mod Inside
 pub mod Reaching
 pub mod Beginning
+pub mod Stepping
+pub mod Seeing

@@ -8,7 +8,7 @@ use Rattle.lpm_trace.specs.declared.step.WriterStep.{WriterStep}
 use Rattle.lpm_trace.specs.declared.step.WriterStep.TheVariants.{StoreFirst, StoreSecond, Opens, Closes, BumpToken, LoadCounter}
 use Rattle.lpm_trace.specs.declared.step.TraceStep.{TraceStep}
 use Rattle.lpm_trace.specs.declared.step.TraceStep.TheVariants.{Writer}
-use Rattle.lpm_trace.specs.Tables.{Setup, Tables, tables}
+use Rattle.lpm_trace.specs.Tables.{Setup, tables}
 use Rattle.lpm_trace.specs.Workers.{Worker}
 use Rattle.lpm_trace.specs.Trace.{after, writes, worker_of}
 use Rattle.lpm_trace.specs.Writer.{MayStep, Finds}

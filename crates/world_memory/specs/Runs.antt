@@ -1,6 +1,7 @@
 -- Meaning: what a run shows of a trace: each step, and each finished lookup (this project's: a step is
 -- one load or one store of one word, told with its actor, its kind, its index and its value).
-use Rattle.std.specs.Prelude.{ℕ, suc, List, [], ◌∷◌, ◌++◌, map, reverse}
+use Rattle.std.specs.Prelude.{ℕ, suc, List, [], ◌∷◌, ◌++◌, eqb, map, reverse}
+use Rattle.std.specs.List.{filter}
 use Rattle.lpm_trace.specs.declared.kind.Actor.TheVariants.{Writer as WriterActor}
 use Rattle.lpm_trace.specs.declared.kind.Kind.{Kind}
 use Rattle.lpm_trace.specs.declared.kind.Kind.TheVariants as kind
@@ -50,3 +51,7 @@ seen_in earlier (ByWorker k s) =
 abbrev pub all_seen : List TraceStep → List Seen
 all_seen [] = []
 all_seen (s ∷ steps) = all_seen steps ++ seen_in steps s
+
+-- those of worker k, in the same order
+abbrev pub seen_of : ℕ → List Seen → List Seen
+seen_of k seen = filter (λ s. eqb k s.worker) seen

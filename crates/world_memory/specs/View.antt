@@ -6,7 +6,7 @@ use Rattle.lpm_trace.specs.declared.kind.Actor.{Actor}
 use Rattle.lpm_trace.specs.declared.kind.Deed.{Deed}
 use Rattle.lpm_trace.specs.declared.kind.Step.{Step}
 use Rattle.lpm_trace.specs.declared.step.WriterStep.{WriterStep}
-use Rattle.lpm_trace.specs.declared.step.WriterStep.TheVariants.{StoreFirst, StoreSecond, Opens, Closes, BumpToken, LoadCounter}
+use Rattle.lpm_trace.specs.declared.step.WriterStep.TheVariants.{StoreFirst, StoreSecond, Opens, Closes, BumpToken}
 use Rattle.world_workers.specs.declared.seen.Seen.{Seen}
 use Rattle.world_workers.specs.declared.worker.Worker.{Worker as Machine}
 use Rattle.world_memory.specs.Runs.{shown_write}

@@ -25,13 +25,9 @@ impl<'a, const FIRST: u32, const SECOND: u32> Cells for WorldMemory<'a, FIRST, S
     }
 
     fn set_first(&mut self, i: usize, word: u64) {
-        let goes_on = self.reach();
+        self.reach();
         self.shared.cells.set_first(i, word);
-        if goes_on {
-            self.note(Kind::StoreFirst, i as u64, word);
-        } else {
-            self.stopped = true;
-        }
+        self.note(Kind::StoreFirst, i as u64, word);
     }
 
     fn second(&mut self, i: usize) -> u64 {
@@ -39,13 +35,9 @@ impl<'a, const FIRST: u32, const SECOND: u32> Cells for WorldMemory<'a, FIRST, S
     }
 
     fn set_second(&mut self, i: usize, word: u64) {
-        let goes_on = self.reach();
+        self.reach();
         self.shared.cells.set_second(i, word);
-        if goes_on {
-            self.note(Kind::StoreSecond, i as u64, word);
-        } else {
-            self.stopped = true;
-        }
+        self.note(Kind::StoreSecond, i as u64, word);
     }
 }
 
@@ -86,42 +78,27 @@ impl<'a, const FIRST: u32, const SECOND: u32> Memory for WorldMemory<'a, FIRST, 
 
     fn open(&mut self, change: &RuleChange) {
         let _ = change;
-        if self.reach() {
-            self.bump_sequence();
-        } else {
-            self.stopped = true;
-        }
+        self.reach();
+        self.bump_sequence();
     }
 
     fn close(&mut self) {
-        if self.reach() {
-            self.bump_sequence();
-        } else {
-            self.stopped = true;
-        }
+        self.reach();
+        self.bump_sequence();
     }
 
     fn start(&mut self) -> u64 {
-        let goes_on = self.reach();
+        self.reach();
         self.shared.token += 1;
         let token = self.shared.token;
-        if goes_on {
-            self.note(Kind::BumpToken, 0, token);
-        } else {
-            self.stopped = true;
-        }
+        self.note(Kind::BumpToken, 0, token);
         token
     }
 
-    fn load_counter(&mut self, checked: u64, worker: usize) -> u64 {
-        let _ = checked;
-        let goes_on = self.reach();
+    fn load_counter(&mut self, _checked: u64, worker: usize) -> u64 {
+        self.reach();
         let counter = self.workers[worker].counter();
-        if goes_on {
-            self.note(Kind::LoadCounter, worker as u64, counter);
-        } else {
-            self.stopped = true;
-        }
+        self.note(Kind::LoadCounter, worker as u64, counter);
         counter
     }
 }

@@ -1,6 +1,6 @@
 //! The shared words, the workers, the schedule and the record of a run.
 
-ghost use Rattle.std.specs.Prelude.{◌≡◌, suc, ◌+◌, ◌<◌, ◌≤◌, ◌↔◌, Option, Some, List, [], ◌∷◌, ◌++◌, IsTrue, MatchBool, length, slice_index_or, vec_len, vec_capacity};
+ghost use Rattle.std.specs.Prelude.{◌≡◌, suc, true, ◌+◌, ◌<◌, ◌≤◌, ◌↔◌, Option, Some, List, [], ◌∷◌, ◌++◌, IsTrue, MatchBool, length, slice_index_or, vec_len, vec_capacity};
 ghost use Rattle.lpm_trace.specs.declared.kind.Actor.{Actor};
 ghost use Rattle.lpm_trace.specs.declared.kind.Actor.TheVariants.{Worker as WorkerActor};
 ghost use Rattle.lpm_trace.specs.declared.kind.Kind.TheVariants as kind;
@@ -123,14 +123,20 @@ impl<'a, const FIRST: u32, const SECOND: u32> WorldMemory<'a, FIRST, SECOND> {
         self.stopped
     }
 
-    /// Records a step of the writer, which uses up its item.
+    /// Records a step of the writer, which uses up its item. After the schedule's end it leaves nothing
+    /// but that it came too late.
     pub(crate) fn note(&mut self, kind: Kind, index: u64, value: u64)
-        requires { self.old.next < length self.old.schedule }
-        ensures { self.new ≡ record self.old {
+        ensures left { self.old.next < length self.old.schedule → self.new ≡ record self.old {
           next = suc self.old.next;
           steps = self.old.steps ++ step_of_writer kind index value ∷ [];
         } }
+        ensures ended { self.old.next ≡ length self.old.schedule
+            → self.new ≡ record self.old { stopped = true } }
     {
+        if self.next == self.schedule.len() {
+            self.stopped = true;
+            return;
+        }
         self.next += 1;
         let step = Step {
             actor: Actor::Writer,
@@ -141,17 +147,20 @@ impl<'a, const FIRST: u32, const SECOND: u32> WorldMemory<'a, FIRST, SECOND> {
         append(&mut self.steps, step);
     }
 
-    /// Bumps the sequence, which uses up the writer's item.
+    /// Bumps the sequence, which uses up the writer's item. It stays after the schedule's end.
     pub(crate) fn bump_sequence(&mut self)
-        requires left { self.old.next < length self.old.schedule }
         requires fits { self.old.sequence ≤ self.old.next }
-        ensures { self.new ≡ record self.old {
+        ensures left { self.old.next < length self.old.schedule → self.new ≡ record self.old {
           sequence = suc self.old.sequence;
           next = suc self.old.next;
           steps = self.old.steps ++ step_of_writer kind.BumpSequence 0 (suc self.old.sequence) ∷ [];
         } }
+        ensures ended { self.old.next ≡ length self.old.schedule
+            → self.new ≡ record self.old { stopped = true } }
     {
-        self.shared.sequence += 1;
+        if self.next < self.schedule.len() {
+            self.shared.sequence += 1;
+        }
         let sequence = self.shared.sequence;
         self.note(Kind::BumpSequence, 0, sequence);
     }

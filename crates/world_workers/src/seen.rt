@@ -12,8 +12,9 @@ use lpm_entry::Entry;
 /// A finished lookup of one address. A step's number in the run is counted from 1.
 #[derive(Clone, Copy, Debug, PartialEq, Eq)]
 pub struct Seen {
-    /// The worker that looked it up.
+    /// The number of the worker that looked it up, from 0.
     pub worker: usize,
+    /// The address that was looked up.
     pub addr: u32,
     /// The next hop that the last word held; none for a miss.
     pub hop: Option<Hop>,
