@@ -1,0 +1,203 @@
+-- Steps of a worker one after another.
+use Rattle.std.proofs.Common.{◌≡◌, ℕ, ◌+◌, ◌*◌, ◌/◌, ◌%◌, ◌^◌, ◌<◌, ◌≤◌, All, List, [], ◌∷◌, ◌++◌, length, Option, Some, None, refl, sym, ap, subst, ◌∙◌, arith, append_assoc, length-set, length-append}
+use Rattle.std.proofs.lemmas.List.Elements.{All-head}
+use Rattle.atomic_table.specs.Seated.{TableId}
+use Rattle.lpm_entry.specs.declared.Entry.{Entry}
+use Rattle.lpm_entry.specs.declared.Entry.TheVariants.{Miss, Hop, Group}
+use Rattle.lpm_entry.specs.Words.{entry_in, hop_in, IsLast}
+use Rattle.lpm_trace.specs.declared.step.WriterStep.{WriterStep}
+use Rattle.lpm_trace.specs.declared.step.WriterStep.TheVariants.{StoreFirst, StoreSecond, Opens, Closes, BumpToken, LoadCounter}
+use Rattle.lpm_trace.specs.declared.step.WorkerStep.{WorkerStep}
+use Rattle.lpm_trace.specs.declared.step.WorkerStep.TheVariants.{Begins, LoadFirst, LoadSecond, Ends}
+use Rattle.lpm_trace.specs.Tables.{Setup, tables, done_at, begun_at}
+use Rattle.lpm_trace.specs.Trace.{worker_by}
+use Rattle.lpm_trace.specs.Workers.{Worker as WorkerState, Phase, Online, LookingUp, Unread, InGroup, Answered, Seen, Probe, moved, read_first, first_read, second_read, AreBegun, AreAnswered}
+use Rattle.lpm_trace.specs.Laws.{IsLegalAtPlace}
+use Rattle.shared_words.specs.declared.view.Role.{Role}
+use Rattle.shared_words.specs.declared.view.Role.TheVariants.{Writer, Worker, Note}
+use Rattle.shared_words.specs.declared.view.View.{View}
+use Rattle.shared_words.specs.declared.layout.Layout.{Layout}
+use Rattle.shared_words.specs.Opened.{Opened, setup_of}
+use Rattle.shared_words.specs.Rule.{IsLater}
+use Rattle.shared_words.specs.Seats.{IsOf, IsSound, Gains, IsFirstAt, IsSecondAt}
+use Rattle.shared_words.specs.Deeds.{Goes, GoesOn, LoadsWords, LooksUp, loads_of}
+
+-- ---- one step
+
+pub later_trans : (xs ys zs : List WriterStep) → IsLater xs ys → IsLater ys zs → IsLater xs zs
+later_trans xs ys zs h k =
+    (k.0 ++ h.0, k.1 ∙ (ap (λ (zs : List WriterStep). k.0 ++ zs) h.1 ∙ sym (append_assoc k.0 h.0 xs)))
+
+-- a view that gains a step goes on, and its worker's state is moved
+pub gains_on : (r : WorkerStep) (v w : View) → Gains r v w → GoesOn v w
+gains_on r v w g =
+    let same : w.seen ≡ g.seen = ap (λ (x : View). x.seen) g.view in
+    let mine : w.own ≡ (r, length g.seen) ∷ v.own = ap (λ (x : View). x.own) g.view in
+    record {
+      same = g.view ∙ ap (λ (z : List (WorkerStep × ℕ) × List WriterStep). record v { own = z.0; seen = z.1 })
+          (λ i. (sym mine i, sym same i));
+      later = subst (IsLater v.seen) (sym same) g.later;
+    }
+
+later_longer : (xs ys : List WriterStep) → IsLater xs ys → length xs ≤ length ys
+later_longer xs ys h = omega (arith, ap length h.1, length-append h.0 xs)
+
+pub goes_on : (u v w : View) → GoesOn u v → GoesOn v w → GoesOn u w
+goes_on u v w h k = record {
+  same = k.same ∙ ap (λ (x : View). record x { own = w.own; seen = w.seen }) h.same;
+  later = later_trans u.seen v.seen w.seen h.later k.later;
+}
+
+pub gains_state : (r : WorkerStep) (v w : View) (g : Gains r v w)
+    → worker_by w.own ≡ moved (length g.seen) (worker_by v.own) r
+gains_state r v w g = ap (λ (x : View). worker_by x.own) g.view
+
+-- steps one after another
+goes_after : (newer older : List WorkerStep) (u v w : View) → Goes newer v w → Goes older u v
+    → Goes (newer ++ older) u w
+goes_after [] older u v w new old = subst (Goes older u) (sym new) old
+goes_after (s ∷ newer) older u v w new old = (new.0, goes_after newer older u v new.0 new.1 old, new.2)
+
+pub two_steps : (r s : WorkerStep) (v u w : View) → Gains r v u → Gains s u w → Goes (s ∷ r ∷ []) v w
+two_steps r s v u w first second = (u, (v, refl, first), second)
+
+pub two_on : (r s : WorkerStep) (v u w : View) → Gains r v u → Gains s u w → GoesOn v w
+two_on r s v u w first second = goes_on v u w (gains_on r v u first) (gains_on s u w second)
+
+-- ---- the words of an address
+
+-- each step of the writer leaves the number of the first words
+firsts_written : (c : Setup) (steps : List WriterStep)
+    → length (tables c steps).words.firsts ≡ length c.words.firsts
+firsts_written c [] = refl
+firsts_written c (StoreFirst i x ∷ steps) =
+    length-set (tables c steps).words.firsts i x ∙ firsts_written c steps
+firsts_written c (StoreSecond j x ∷ steps) = firsts_written c steps
+firsts_written c (Opens change ∷ steps) = firsts_written c steps
+firsts_written c (Closes ∷ steps) = firsts_written c steps
+firsts_written c (BumpToken ∷ steps) = firsts_written c steps
+firsts_written c (LoadCounter token worker counter ∷ steps) = firsts_written c steps
+
+pub firsts_are : (r : WorkerStep) (v w : View) (first : ℕ) → Gains r v w → v.opening.first ≡ first
+    → length w.opening.firsts ≡ 2 ^ first
+firsts_are r v w first g is =
+    let firsts : length w.opening.firsts ≡ 2 ^ w.opening.first =
+    sym (firsts_written (setup_of w.opening) w.seen) ∙ g.sound.words.firsts_len in
+    let same : w.opening.first ≡ first = ap (λ (x : View). x.opening.first) g.view ∙ is in
+    firsts ∙ ap (λ n. 2 ^ n) same
+
+answered : (now a : ℕ) (e : Entry) → IsLast e → read_first now a e ≡ Answered a (hop_in e) now now
+answered now a Miss last = refl
+answered now a (Hop hop depth) last = refl
+answered now a (Group group) last = absurd last
+
+module _ (addr : ℕ) (v : View) (unread : (worker_by v.own).probes ≡ Unread addr ∷ []) where
+  module _ (word : ℕ) (u : View) (first : Gains (LoadFirst word) v u) where
+    -- the first word answers
+    pub one_word : IsLast (entry_in word) → LoadsWords addr word v u
+    one_word last =
+        let now : ℕ = length first.seen in
+        record {
+          word = word;
+          second = None;
+          steps = (v, refl, first);
+          rest = gains_on (LoadFirst word) v u first;
+          from = now;
+          until = now;
+          after = later_longer v.seen first.seen first.later;
+          state = gains_state (LoadFirst word) v u first
+              ∙ ap (λ (ps : List Probe). record (worker_by v.own) { probes = ps })
+              (ap (first_read now (entry_in word)) unread
+              ∙ ap (λ (p : Probe). p ∷ []) (answered now addr (entry_in word) last));
+        }
+
+    module _ (group : ℕ) (is : entry_in word ≡ Group group) where
+      in_group : worker_by u.own
+          ≡ record (worker_by v.own) { probes = InGroup addr group (length first.seen) ∷ [] }
+      in_group = gains_state (LoadFirst word) v u first
+          ∙ ap (λ (ps : List Probe). record (worker_by v.own) { probes = ps })
+          (ap (first_read (length first.seen) (entry_in word)) unread
+          ∙ ap (λ (e : Entry). read_first (length first.seen) addr e ∷ []) is)
+
+      -- the second word answers
+      pub two_words : (last : ℕ) (w : View) → Gains (LoadSecond last) u w → LoadsWords addr last v w
+      two_words last w second = record {
+        word = word;
+        second = Some last;
+        steps = (u, (v, refl, first), second);
+        rest = goes_on v u w (gains_on (LoadFirst word) v u first) (gains_on (LoadSecond last) u w second);
+        from = length first.seen;
+        until = length second.seen;
+        after = later_longer v.seen first.seen first.later;
+        state = gains_state (LoadSecond last) u w second
+            ∙ ap (λ (x : WorkerState). moved (length second.seen) x (LoadSecond last)) in_group;
+      }
+
+-- ---- a lookup
+
+module _ (addr low last high : ℕ) (v b u w : View) (begins : Gains (Begins (addr ∷ []) low) v b)
+    (words : LoadsWords addr last b u) (ends : Gains (Ends high) u w) where
+  abbrev seen_by : Seen
+  seen_by = record {
+    addr = addr;
+    hop = hop_in (entry_in last);
+    first = words.from;
+    last = words.until;
+    lo = done_at low;
+    hi = begun_at high;
+  }
+
+  state : worker_by w.own ≡ record (worker_by v.own) {
+    phase = Online;
+    lo = done_at low;
+    probes = [];
+    finished = seen_by ∷ (worker_by v.own).finished;
+  }
+  state = gains_state (Ends high) u w ends
+      ∙ ap (λ (x : WorkerState). moved (length ends.seen) x (Ends high))
+      (words.state
+      ∙ ap (λ (x : WorkerState). record x {
+        probes = Answered addr (hop_in (entry_in last)) words.from words.until ∷ [];
+      })
+      (gains_state (Begins (addr ∷ []) low) v b begins))
+
+  on : GoesOn v w
+  on = goes_on v b w (gains_on (Begins (addr ∷ []) low) v b begins)
+      (goes_on b u w words.rest (gains_on (Ends high) u w ends))
+
+  finished : (worker_by w.own).finished ≡ seen_by ∷ (worker_by v.own).finished
+  finished = ap (λ (x : WorkerState). x.finished) state
+
+  legal : IsLegalAtPlace (setup_of v.opening) w.seen seen_by
+  legal =
+      let all : All (IsLegalAtPlace (setup_of v.opening) w.seen) (worker_by w.own).finished = subst
+      (λ (o : Opened). All (IsLegalAtPlace (setup_of o) w.seen) (worker_by w.own).finished)
+      (ap (λ (x : View). x.opening) on.same) ends.sound.legal in
+      All-head (IsLegalAtPlace (setup_of v.opening) w.seen) seen_by (worker_by v.own).finished
+      (subst (All (IsLegalAtPlace (setup_of v.opening) w.seen)) finished all)
+
+  pub looked : (hop : Option ℕ) (lo hi : ℕ) → hop ≡ hop_in (entry_in last) → lo ≡ done_at low
+      → hi ≡ begun_at high
+      → LooksUp addr hop lo hi v w
+  looked hop lo hi hop_is lo_is hi_is = record {
+    low = low;
+    word = words.word;
+    second = words.second;
+    high = high;
+    steps = (
+      u,
+      goes_after (loads_of words.word words.second) (Begins (addr ∷ []) low ∷ []) v b u words.steps
+          (v, refl, begins),
+      ends,
+    );
+    rest = on;
+    online = ap (λ (x : WorkerState). x.phase) state;
+    seen = seen_by;
+    finished = finished;
+    answer = (refl, sym hop_is);
+    versions = (sym lo_is, sym hi_is);
+    after =
+        let begun : GoesOn v b = gains_on (Begins (addr ∷ []) low) v b begins in
+        omega (arith, later_longer v.seen b.seen begun.later, words.after);
+    legal = legal;
+  }

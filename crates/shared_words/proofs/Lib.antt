@@ -1,0 +1,6 @@
+pub mod Laying
+pub mod Writing
+pub mod Workings
+pub mod Reading
+pub mod Meetings
+pub mod Deeds

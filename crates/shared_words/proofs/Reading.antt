@@ -1,0 +1,157 @@
+-- Each step of a worker is allowed, where the contract of its call says that it may come.
+use Rattle.std.proofs.Common.{◌≡◌, ℕ, ◌+◌, ◌<◌, All, List, [], ◌∷◌, length, slice_index, refl, sym, ap, subst, ◌∙◌, arith}
+use Rattle.atomic_table.specs.Table.{Me, Allows}
+use Rattle.lpm_entry.specs.declared.Entry.{Entry}
+use Rattle.lpm_entry.specs.declared.Entry.TheVariants.{Miss, Hop, Group}
+use Rattle.lpm_entry.specs.Words.{entry_in, IsLastWord}
+use Rattle.lpm_cells.specs.Table.{IsFirst, IsFirstWord, IsWords}
+use Rattle.lpm_trace.specs.declared.step.WorkerStep.{WorkerStep}
+use Rattle.lpm_trace.specs.declared.step.WorkerStep.TheVariants.{LoadOnline, StoreOnline, LoadQuiescent, StoreQuiescent, StoreOffline, Begins, LoadFirst, LoadSecond, Ends, Meets}
+use Rattle.lpm_trace.specs.Tables.{Tables, addresses}
+use Rattle.lpm_trace.specs.Workers.{Offline, ComingOnline, Online, LookingUp, ReportingQuiescent, Probe, Unread, InGroup, Answered, IsNextFirst, IsNextSecond, AreBegun, AreAnswered, IsBetweenDeeds}
+use Rattle.lpm_trace.specs.Trace.{World, after, worker_by}
+use Rattle.lpm_trace.proofs.Promises.{words_are_entries}
+use Rattle.shared_words.specs.declared.view.Role.TheVariants.{Worker}
+use Rattle.shared_words.specs.declared.view.View.{View}
+use Rattle.shared_words.specs.Opened.{Opened, setup_of}
+use Rattle.shared_words.specs.Layout.{second_at, sequence_at, token_at, counter_at}
+use Rattle.shared_words.specs.Rule.{Holds}
+use Rattle.shared_words.specs.Seats.{IsFirstAt, IsSecondAt, gains, gains_first, gains_second}
+use Rattle.shared_words.proofs.Workings.{load_allowed, plain, store_allowed}
+
+-- the place decides which first word is next, and which second word
+next_first : (o : Opened) (w : Tables) (word i : ℕ) (probes : List Probe) → IsFirstAt o.second i probes
+    → word ≡ slice_index w.words.firsts i → IsNextFirst (setup_of o) w word probes
+next_first o w word i [] at is = absurd at
+next_first o w word i (Unread a ∷ rest) at is = is ∙ ap (slice_index w.words.firsts) at
+next_first o w word i (InGroup a g f ∷ rest) at is = next_first o w word i rest at is
+next_first o w word i (Answered a h f l ∷ rest) at is = next_first o w word i rest at is
+
+next_second : (o : Opened) (w : Tables) (word j : ℕ) (probes : List Probe) → IsSecondAt o.second j probes
+    → word ≡ slice_index w.words.seconds j → IsNextSecond (setup_of o) w word probes
+next_second o w word j [] at is = absurd at
+next_second o w word j (Unread a ∷ rest) at is = absurd at
+next_second o w word j (InGroup a g f ∷ rest) at is = is ∙ ap (slice_index w.words.seconds) at
+next_second o w word j (Answered a h f l ∷ rest) at is = next_second o w word j rest at is
+
+-- whether an entry may stand in the first table rests on how many second words there are
+room : (second : ℕ) (xs ys : List ℕ) → length xs ≡ length ys → (e : Entry)
+    → IsFirst second xs e → IsFirst second ys e
+room second xs ys same Miss is = tt
+room second xs ys same (Hop hop depth) is = tt
+room second xs ys same (Group group) is = omega (arith, same, is)
+
+module _ (o : Opened) (slots id k at : ℕ) (me : Me (Unit {0}) View) (role : me.0.role ≡ Worker k) where
+  -- a load of the word at this place
+  abbrev Loads : ℕ → (ℕ → WorkerStep) → Type 0
+  Loads i of = Allows (Holds o) slots id me i (λ n. n) (λ n me'. gains (of n) me me')
+
+  abbrev Stores : ℕ → WorkerStep → ℕ → Type 0
+  Stores i r x = Allows (Holds o) slots id me i (λ _. x) (λ _ me'. gains r me me')
+
+  pub load_online_allowed : at ≡ token_at o → (worker_by me.0.own).phase ≡ Offline → Loads at LoadOnline
+  load_online_allowed there offline = subst (λ i. Loads i LoadOnline) (sym there)
+      (plain o LoadOnline slots id (token_at o) me
+      (load_allowed o LoadOnline (λ _. Unit {0}) slots id k (token_at o) me role (λ n now w. refl)
+      (λ s h same. ((offline, h.words.token), tt))))
+
+  pub load_quiescent_allowed : at ≡ token_at o → (worker_by me.0.own).phase ≡ Online → Loads at LoadQuiescent
+  load_quiescent_allowed there online = subst (λ i. Loads i LoadQuiescent) (sym there)
+      (plain o LoadQuiescent slots id (token_at o) me
+      (load_allowed o LoadQuiescent (λ _. Unit {0}) slots id k (token_at o) me role (λ n now w. refl)
+      (λ s h same. ((online, h.words.token), tt))))
+
+  pub begins_allowed : (addrs : List ℕ) → at ≡ sequence_at o → (worker_by me.0.own).phase ≡ Online
+      → All (λ a. a < addresses (setup_of me.0.opening)) addrs → Loads at (Begins addrs)
+  begins_allowed addrs there online inside = subst (λ i. Loads i (Begins addrs)) (sym there)
+      (plain o (Begins addrs) slots id (sequence_at o) me
+      (load_allowed o (Begins addrs) (λ _. Unit {0}) slots id k (sequence_at o) me role (λ n now w. refl)
+      (λ s h same. (
+        (
+          online,
+          subst (λ (z : Opened). All (λ a. a < addresses (setup_of z)) addrs) same inside,
+          h.words.sequence,
+        ),
+        tt,
+      ))))
+
+  pub ends_allowed : at ≡ sequence_at o → (worker_by me.0.own).phase ≡ LookingUp
+      → AreAnswered (worker_by me.0.own).probes → Loads at Ends
+  ends_allowed there looking answered = subst (λ i. Loads i Ends) (sym there)
+      (plain o Ends slots id (sequence_at o) me
+      (load_allowed o Ends (λ _. Unit {0}) slots id k (sequence_at o) me role (λ n now w. refl)
+      (λ s h same. ((looking, answered, h.words.sequence), tt))))
+
+  pub meets_allowed : at ≡ sequence_at o → IsBetweenDeeds (worker_by me.0.own).phase → Loads at Meets
+  meets_allowed there between = subst (λ i. Loads i Meets) (sym there)
+      (plain o Meets slots id (sequence_at o) me
+      (load_allowed o Meets (λ _. Unit {0}) slots id k (sequence_at o) me role (λ n now w. refl)
+      (λ s h same. ((between, h.words.sequence), tt))))
+
+  pub first_allowed : at < length o.firsts → (worker_by me.0.own).phase ≡ LookingUp
+      → IsFirstAt me.0.opening.second at (worker_by me.0.own).probes
+      → Allows (Holds o) slots id me at (λ n. n) (gains_first me)
+  first_allowed inside looking next =
+      load_allowed o LoadFirst
+      (λ n. IsFirstWord (me.0.opening.first + me.0.opening.second) me.0.opening.second me.0.opening.seconds n)
+      slots id k at me role (λ n now w. refl)
+      (λ s h same.
+      let w : World = after (setup_of o) h.steps in
+      let word : ℕ = slice_index s.words at in
+      let is : word ≡ slice_index w.tables.words.firsts at = h.words.firsts at inside in
+      let entries : IsWords o.first o.second w.tables.words =
+      words_are_entries (setup_of o) h.steps h.settled h.trace in
+      let there : IsFirstWord (o.first + o.second) o.second w.tables.words.seconds word = subst
+      (IsFirstWord (o.first + o.second) o.second w.tables.words.seconds) (sym is)
+      (entries.first_words at (omega (arith, inside, h.words.firsts_len))) in (
+        (
+          looking,
+          next_first o w.tables word at (worker_by me.0.own).probes
+              (subst (λ (z : Opened). IsFirstAt z.second at (worker_by me.0.own).probes) same next) is,
+        ),
+        subst (λ (z : Opened). IsFirstWord (z.first + z.second) z.second z.seconds word) (sym same) (
+          there.0,
+          room o.second w.tables.words.seconds o.seconds h.words.seconds_len (entry_in word) there.1,
+        ),
+      ))
+
+  pub second_allowed : (j : ℕ) → at ≡ second_at o j → j < length o.seconds
+      → (worker_by me.0.own).phase ≡ LookingUp → AreBegun (worker_by me.0.own).probes
+      → IsSecondAt me.0.opening.second j (worker_by me.0.own).probes
+      → Allows (Holds o) slots id me at (λ n. n) (gains_second me)
+  second_allowed j there inside looking begun next = subst
+      (λ i. Allows (Holds o) slots id me i (λ n. n) (gains_second me)) (sym there)
+      (load_allowed o LoadSecond (λ n. IsLastWord (me.0.opening.first + me.0.opening.second) n)
+      slots id k (second_at o j) me role (λ n now w. refl)
+      (λ s h same.
+      let w : World = after (setup_of o) h.steps in
+      let word : ℕ = slice_index s.words (second_at o j) in
+      let is : word ≡ slice_index w.tables.words.seconds j = h.words.seconds j inside in
+      let entries : IsWords o.first o.second w.tables.words =
+      words_are_entries (setup_of o) h.steps h.settled h.trace in (
+        (
+          looking,
+          begun,
+          next_second o w.tables word j (worker_by me.0.own).probes
+              (subst (λ (z : Opened). IsSecondAt z.second j (worker_by me.0.own).probes) same next) is,
+        ),
+        subst (λ (z : Opened). IsLastWord (z.first + z.second) word) (sym same)
+            (subst (IsLastWord (o.first + o.second)) (sym is)
+            (entries.second_words j (omega (arith, inside, h.words.seconds_len)))),
+      )))
+
+  pub store_online_allowed : (token : ℕ) → at ≡ counter_at o k
+      → (worker_by me.0.own).phase ≡ ComingOnline token
+      → Stores at (StoreOnline token) token
+  store_online_allowed token there loaded = subst (λ i. Stores i (StoreOnline token) token) (sym there)
+      (store_allowed o (StoreOnline token) token slots id k me role (λ now w. refl) (λ s h. loaded))
+
+  pub store_quiescent_allowed : (token : ℕ) → at ≡ counter_at o k
+      → (worker_by me.0.own).phase ≡ ReportingQuiescent token → Stores at (StoreQuiescent token) token
+  store_quiescent_allowed token there loaded = subst (λ i. Stores i (StoreQuiescent token) token) (sym there)
+      (store_allowed o (StoreQuiescent token) token slots id k me role (λ now w. refl) (λ s h. loaded))
+
+  pub store_offline_allowed : at ≡ counter_at o k → (worker_by me.0.own).phase ≡ Online
+      → Stores at StoreOffline 0
+  store_offline_allowed there online = subst (λ i. Stores i StoreOffline 0) (sym there)
+      (store_allowed o StoreOffline 0 slots id k me role (λ now w. refl) (λ s h. online))

@@ -1,0 +1,285 @@
+-- A step of a worker keeps the rule, and the worker's view gains the step.
+use Rattle.std.proofs.Common.{◌≡◌, ◌≢◌, ℕ, ◌+◌, ◌<◌, ◌≤◌, cond, Bool, All, List, [], ◌∷◌, length, slice_index, slice_set, refl, sym, ap, subst, ◌∙◌, inl, inr, eq-eqb, ne_eqb, arith, get_or-set_same, get_or-set_other, length-set}
+use Rattle.std.proofs.lemmas.List.{set-get_or}
+use Rattle.std.specs.List.{AllPairs}
+use mathlib.Core.Option.{some}
+use lib.ListN.{get_elem?}
+use Rattle.atomic_table.specs.Table.{State, Me, keeps, Allows}
+use Rattle.atomic_table.proofs.Lists.{at_set}
+use Rattle.lpm_cells.specs.Table.{IsWords}
+use Rattle.lpm_trace.specs.declared.step.WriterStep.{WriterStep}
+use Rattle.lpm_trace.specs.declared.step.WorkerStep.{WorkerStep}
+use Rattle.lpm_trace.specs.declared.step.TraceStep.{TraceStep}
+use Rattle.lpm_trace.specs.declared.step.TraceStep.TheVariants.{Worker as ByWorker}
+use Rattle.lpm_trace.specs.Tables.{IsSettled, tables}
+use Rattle.lpm_trace.specs.Workers.{Worker as WorkerState, moved, MayRead}
+use Rattle.lpm_trace.specs.Writer.{IsWritten}
+use Rattle.lpm_trace.specs.Trace.{World, after, IsTrace, MayCome, writes, own, worker_by}
+use Rattle.lpm_trace.specs.Laws.{IsLegalAtPlace}
+use Rattle.lpm_trace.proofs.Basics.{with_at_case}
+use Rattle.lpm_trace.proofs.Traces.{tables_of}
+use Rattle.lpm_trace.proofs.Promises.{writer_is_alone, words_are_entries, own_lookups_are_legal, places_never_fall}
+use Rattle.shared_words.specs.declared.view.Role.{Role}
+use Rattle.shared_words.specs.declared.view.Role.TheVariants.{Writer, Worker, Note}
+use Rattle.shared_words.specs.declared.view.View.{View}
+use Rattle.shared_words.specs.Opened.{Opened, setup_of}
+use Rattle.shared_words.specs.Layout.{second_at, sequence_at, token_at, counter_at, IsLaidOut}
+use Rattle.shared_words.specs.Rule.{Seating, Sits, IsViewOf, Holds}
+use Rattle.shared_words.specs.Seats.{IsSound, Gains, gains}
+
+-- the step leaves the worker's counter
+abbrev pub IsQuiet : WorkerStep → Type 0
+IsQuiet r = (now : ℕ) (w : WorkerState) → (moved now w r).counter ≡ w.counter
+
+-- the step stores this in the worker's counter
+abbrev pub Stores : WorkerStep → ℕ → Type 0
+Stores r x = (now : ℕ) (w : WorkerState) → (moved now w r).counter ≡ x
+
+-- the view with the step
+abbrev pub gained : View → WorkerStep → List WriterStep → View
+gained v r seen = record v { own = (r, length seen) ∷ v.own; seen = seen }
+
+own_more : (k : ℕ) (r : WorkerStep) (steps : List TraceStep)
+    → own k (ByWorker k r ∷ steps) ≡ (r, length (writes steps)) ∷ own k steps
+own_more k r steps =
+    ap (λ (b : Bool). cond b ((r, length (writes steps)) ∷ own k steps) (own k steps)) (eq-eqb k k refl)
+
+own_same : (k j : ℕ) (r : WorkerStep) (steps : List TraceStep) → k ≢ j
+    → own k (ByWorker j r ∷ steps) ≡ own k steps
+own_same k j r steps ne =
+    ap (λ (b : Bool). cond b ((r, length (writes steps)) ∷ own k steps) (own k steps)) (ne_eqb k j ne)
+
+module _ (o : Opened) where
+  abbrev pub St : Type 0
+  St = State (Unit {0}) View
+
+  -- ---- the words
+
+  -- a load leaves the words
+  loaded : (steps : List TraceStep) (k : ℕ) (r : WorkerStep) (words : List ℕ) → IsQuiet r
+      → IsLaidOut o words (after (setup_of o) steps)
+      → IsLaidOut o words (after (setup_of o) (ByWorker k r ∷ steps))
+  loaded steps k r words quiet laid =
+      let w : World = after (setup_of o) steps in
+      record {
+        count = laid.count;
+        firsts_len = laid.firsts_len;
+        seconds_len = laid.seconds_len;
+        firsts = laid.firsts;
+        seconds = laid.seconds;
+        sequence = laid.sequence;
+        token = laid.token;
+        counters = λ j lt. with_at_case (λ (x : WorkerState). slice_index words (counter_at o j) ≡ x.counter)
+            w.workers k (moved w.tables.clock (w.workers k) r) j
+            (λ e. laid.counters j lt ∙ ap (λ (i : ℕ). (w.workers i).counter) e
+            ∙ sym (quiet w.tables.clock (w.workers k)))
+            (λ ne. laid.counters j lt);
+      }
+
+  -- a store changes the worker's counter alone
+  stored : (steps : List TraceStep) (k x : ℕ) (r : WorkerStep) (words : List ℕ) → k < o.workers → Stores r x
+      → IsLaidOut o words (after (setup_of o) steps)
+      → IsLaidOut o (slice_set words (counter_at o k) x) (after (setup_of o) (ByWorker k r ∷ steps))
+  stored steps k x r words inside stores laid =
+      let w : World = after (setup_of o) steps in
+      let at : ℕ = counter_at o k in
+      record {
+        count = length-set words at x ∙ laid.count;
+        firsts_len = laid.firsts_len;
+        seconds_len = laid.seconds_len;
+        firsts = λ i lt. get_or-set_other words at i x 0 (omega (arith, lt)) ∙ laid.firsts i lt;
+        seconds = λ j lt. get_or-set_other words at (second_at o j) x 0 (omega (arith, lt)) ∙ laid.seconds j lt;
+        sequence = get_or-set_other words at (sequence_at o) x 0 (omega arith) ∙ laid.sequence;
+        token = get_or-set_other words at (token_at o) x 0 (omega arith) ∙ laid.token;
+        counters = λ j lt. with_at_case
+            (λ (y : WorkerState). slice_index (slice_set words at x) (counter_at o j) ≡ y.counter)
+            w.workers k (moved w.tables.clock (w.workers k) r) j
+            (λ e. ap (λ (i : ℕ). slice_index (slice_set words at x) (counter_at o i)) e
+            ∙ get_or-set_same words at x 0 (omega (arith, laid.count, inside))
+            ∙ sym (stores w.tables.clock (w.workers k)))
+            (λ ne. get_or-set_other words at (counter_at o j) x 0 (omega (arith, ne)) ∙ laid.counters j lt);
+      }
+
+  -- ---- the views
+
+  -- another seat, after a step of worker k at the seat `id`
+  bystander : (steps : List TraceStep) (seating : Seating) (k id : ℕ) (r : WorkerStep)
+      → id ≡ seating.seat_of k → (j : ℕ) (u : View) → j ≢ id → (role : Role)
+      → Sits o steps seating j u role → Sits o (ByWorker k r ∷ steps) seating j u role
+  bystander steps seating k id r mine j u other Writer h = h
+  bystander steps seating k id r mine j u other (Worker l) h = (
+    h.0,
+    h.1,
+    h.2,
+    h.3 ∙ sym (own_same l k r steps (λ same. other (h.0 ∙ ap seating.seat_of same ∙ sym mine))),
+  )
+  bystander steps seating k id r mine j u other Note h = tt
+
+  -- what the rule says of a worker's seat
+  pub sits_of : (s : St) (h : Holds o s) (id k : ℕ) (v : View) → get_elem? s.views id ≡ some v
+      → v.role ≡ Worker k → Sits o h.steps h.seating id v (Worker k)
+  sits_of s h id k v at is = subst (Sits o h.steps h.seating id v) is (h.views id v at).sits
+
+  -- what may be read after the worker's own steps may come next
+  may_come : (s : St) (h : Holds o s) (id k : ℕ) (v : View) (r : WorkerStep) → get_elem? s.views id ≡ some v
+      → v.role ≡ Worker k → MayRead (setup_of o) (after (setup_of o) h.steps).tables (worker_by v.own) r
+      → MayCome (setup_of o) (after (setup_of o) h.steps) (ByWorker k r)
+  may_come s h id k v r at is may =
+      let mine = sits_of s h id k v at is in
+      let state = (own_lookups_are_legal (setup_of o) h.steps k h.settled h.trace).0 in (
+        (let l = mine.2 in omega (arith, l, h.made)),
+        subst (λ (x : WorkerState). MayRead (setup_of o) (after (setup_of o) h.steps).tables x r)
+            (sym (state ∙ ap worker_by (sym mine.3))) may,
+      )
+
+  -- a step of a worker keeps the rule
+  worker_step : (s : St) (h : Holds o s) (id k : ℕ) (v : View) (r : WorkerStep) (words : List ℕ)
+      → get_elem? s.views id ≡ some v → v.role ≡ Worker k
+      → MayRead (setup_of o) (after (setup_of o) h.steps).tables (worker_by v.own) r
+      → IsLaidOut o words (after (setup_of o) (ByWorker k r ∷ h.steps))
+      → Holds o record {
+        words = words;
+        homes = s.homes;
+        views = slice_set s.views id (gained v r (writes h.steps));
+      }
+  worker_step s h id k v r words at is may laid =
+      let steps = h.steps in
+      let seating = h.seating in
+      let w : View = gained v r (writes steps) in
+      let mine = sits_of s h id k v at is in
+      let known : IsViewOf o steps seating id v = h.views id v at in
+      let new : IsViewOf o (ByWorker k r ∷ steps) seating id w = record {
+        sits = subst (Sits o (ByWorker k r ∷ steps) seating id w) (sym is) (
+          mine.0,
+          mine.1,
+          mine.2,
+          ap (λ (xs : List (WorkerStep × ℕ)). (r, length (writes steps)) ∷ xs) mine.3
+              ∙ sym (own_more k r steps),
+        );
+        seen = ([], refl);
+        told = known.told;
+      } in
+      record {
+        steps = ByWorker k r ∷ steps;
+        seating = seating;
+        settled = h.settled;
+        trace = (may_come s h id k v r at is may, h.trace);
+        words = laid;
+        made = h.made;
+        unmade = λ j above. own_same j k r steps
+            (λ same. let l = mine.2 in absurd (omega (arith, l, above, same)))
+            ∙ h.unmade j above;
+        views = λ j u e. elim (at_set s.views id j w u e) [
+          | inl t ↦ subst (λ (x : ℕ × View). IsViewOf o (ByWorker k r ∷ steps) seating x.0 x.1)
+              (λ i. (sym t.0 i, t.1 i)) new
+          | inr t ↦
+              let old : IsViewOf o steps seating j u = h.views j u t.1 in
+              record {
+                sits = bystander steps seating k id r mine.0 j u t.0 u.role old.sits;
+                seen = old.seen;
+                told = old.told;
+              }
+        ];
+      }
+
+  -- ---- what the seat learns
+
+  sound : (v : View) (k : ℕ) (steps : List TraceStep) → IsSettled (setup_of o) → IsTrace (setup_of o) steps
+      → v.opening ≡ o → v.seen ≡ writes steps → v.own ≡ own k steps → IsSound v
+  sound v k steps settled trace opening seen mine =
+      let places = places_never_fall k steps in
+      let words : IsWords o.first o.second (tables (setup_of o) (writes steps)).words = subst
+      (λ t. IsWords o.first o.second t.words) (tables_of (setup_of o) steps)
+      (words_are_entries (setup_of o) steps settled trace) in
+      let known : Opened × List WriterStep → Type 0 = λ z. IsWritten (setup_of z.0) z.1
+      × IsWords z.0.first z.0.second (tables (setup_of z.0) z.1).words in
+      let legal : Opened × (List WriterStep × List (WorkerStep × ℕ)) → Type 0 = λ z.
+      All (IsLegalAtPlace (setup_of z.0) z.1.0) (worker_by z.1.1).finished in
+      let both = subst known (λ i. (sym opening i, sym seen i))
+      (writer_is_alone (setup_of o) steps trace, words) in
+      record {
+        written = both.0;
+        words = both.1;
+        rising = subst (λ (xs : List (WorkerStep × ℕ)). AllPairs (λ later earlier. earlier.1 ≤ later.1) xs)
+            (sym mine) places.0;
+        within = subst
+            (λ (z : List WriterStep × List (WorkerStep × ℕ)). All (λ step. step.1 ≤ length z.0) z.1)
+            (λ i. (sym seen i, sym mine i)) places.1;
+        legal = subst legal (λ i. (sym opening i, (sym seen i, sym mine i)))
+            (own_lookups_are_legal (setup_of o) steps k settled trace).1;
+      }
+
+  gained_is : (s : St) (h : Holds o s) (id k : ℕ) (v : View) (r : WorkerStep) → get_elem? s.views id ≡ some v
+      → v.role ≡ Worker k → MayRead (setup_of o) (after (setup_of o) h.steps).tables (worker_by v.own) r
+      → Gains r v (gained v r (writes h.steps))
+  gained_is s h id k v r at is may =
+      let steps = h.steps in
+      let mine = sits_of s h id k v at is in
+      let known : IsViewOf o steps h.seating id v = h.views id v at in
+      record {
+        seen = writes steps;
+        view = refl;
+        later = known.seen;
+        told = known.told;
+        sound = sound (gained v r (writes steps)) k (ByWorker k r ∷ steps) h.settled
+            (may_come s h id k v r at is may, h.trace) mine.1 refl
+            (ap (λ (xs : List (WorkerStep × ℕ)). (r, length (writes steps)) ∷ xs) mine.3
+            ∙ sym (own_more k r steps));
+      }
+
+  -- ---- the steps
+
+  -- the opening of a worker's view is the table's
+  pub opening_is : (s : St) (h : Holds o s) (id k : ℕ) (v : View) → get_elem? s.views id ≡ some v
+      → v.role ≡ Worker k → v.opening ≡ o
+  opening_is s h id k v at is = (sits_of s h id k v at is).1
+
+  -- a load, which may come next and tells what else is known of the word
+  pub load_allowed : (of : ℕ → WorkerStep) (also : ℕ → Type 0) (slots id k i : ℕ) (me : Me (Unit {0}) View)
+      → me.0.role ≡ Worker k → ((n : ℕ) → IsQuiet (of n))
+      → ((s : St) (h : Holds o s) → me.0.opening ≡ o
+      → MayRead (setup_of o) (after (setup_of o) h.steps).tables (worker_by me.0.own)
+      (of (slice_index s.words i))
+      × also (slice_index s.words i))
+      → Allows (Holds o) slots id me i (λ n. n) (λ n me'. gains (of n) me me' × also n)
+  load_allowed of also slots id k i me is quiet reads s h len at range =
+      let n : ℕ = slice_index s.words i in
+      let r : WorkerStep = of n in
+      let read = reads s h (opening_is s h id k me.0 at is) in
+      let w : View = gained me.0 r (writes h.steps) in
+      let kept : Holds o record { words = s.words; homes = s.homes; views = slice_set s.views id w } =
+      worker_step s h id k me.0 r s.words at is read.0 (loaded h.steps k r s.words (quiet n) h.words) in (
+        w,
+        keeps,
+        tt,
+        subst
+            (λ (words : List ℕ). Holds o record { words = words; homes = s.homes; views = slice_set s.views id w })
+            (sym (set-get_or s.words i 0)) kept,
+        ((refl, gained_is s h id k me.0 r at is read.0), read.1),
+      )
+
+  -- a load that tells no more
+  pub plain : (of : ℕ → WorkerStep) (slots id i : ℕ) (me : Me (Unit {0}) View)
+      → Allows (Holds o) slots id me i (λ n. n) (λ n me'. gains (of n) me me' × Unit {0})
+      → Allows (Holds o) slots id me i (λ n. n) (λ n me'. gains (of n) me me')
+  plain of slots id i me allowed s h len at range =
+      let t = allowed s h len at range in (t.0, t.1, t.2, t.3, t.4.0)
+
+  -- a store into the worker's counter
+  pub store_allowed : (r : WorkerStep) (x slots id k : ℕ) (me : Me (Unit {0}) View)
+      → me.0.role ≡ Worker k → Stores r x
+      → ((s : St) (h : Holds o s)
+      → MayRead (setup_of o) (after (setup_of o) h.steps).tables (worker_by me.0.own) r)
+      → Allows (Holds o) slots id me (counter_at o k) (λ _. x) (λ _ me'. gains r me me')
+  store_allowed r x slots id k me is stores reads s h len at range =
+      let read = reads s h in
+      let mine = sits_of s h id k me.0 at is in
+      let inside : k < o.workers = let l = mine.2 in omega (arith, l, h.made) in
+      let w : View = gained me.0 r (writes h.steps) in (
+        w,
+        keeps,
+        tt,
+        worker_step s h id k me.0 r (slice_set s.words (counter_at o k) x) at is read
+            (stored h.steps k x r s.words inside stores h.words),
+        (refl, gained_is s h id k me.0 r at is read),
+      )

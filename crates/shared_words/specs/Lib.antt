@@ -1,0 +1,5 @@
+pub mod Opened
+pub mod Layout
+pub mod Rule
+pub mod Seats
+pub mod Deeds

@@ -1,0 +1,99 @@
+-- Meaning: the rule of the shared table: there is a trace after which the words are the table's, and
+-- which has the steps of each seat (DPDK Programmer's Guide, "RCU Library", and this project's traces:
+-- one writer, and workers that load and store a word at a time).
+use Rattle.std.specs.Prelude.{ℕ, ◌≡◌, ◌+◌, ◌≤◌, ◌<◌, ⊤, List, [], ◌++◌}
+use mathlib.Core.Option.{some}
+use lib.ListN.{get_elem?}
+use Rattle.atomic_table.specs.Table.{State}
+use Rattle.lpm_trace.specs.declared.step.WriterStep.{WriterStep}
+use Rattle.lpm_trace.specs.declared.step.TraceStep.{TraceStep}
+use Rattle.lpm_trace.specs.Tables.{IsSettled}
+use Rattle.lpm_trace.specs.Trace.{after, IsTrace, writes, own}
+use Rattle.shared_words.specs.declared.view.Role.{Role}
+use Rattle.shared_words.specs.declared.view.Role.TheVariants.{Writer, Worker, Note}
+use Rattle.shared_words.specs.declared.view.View.{View}
+use Rattle.shared_words.specs.Opened.{Opened, setup_of, opened_nothing}
+use Rattle.shared_words.specs.Layout.{IsLaidOut}
+
+-- the list went on from there, the newest first
+abbrev pub IsLater : List WriterStep → List WriterStep → Type 0
+IsLater before after = (new : List WriterStep) × (after ≡ new ++ before)
+
+-- who sits where: the writer's seat, how many workers' seats were made, and the seat of each
+pub record Seating : Type 0 where
+  pub writer : ℕ
+  pub made : ℕ
+  pub seat_of : ℕ → ℕ
+
+-- what a seat knows is of the trace: the writer knows all its steps, and a worker all its own
+abbrev pub Sits : Opened → List TraceStep → Seating → ℕ → View → Role → Type 0
+Sits o steps seating seat v Writer = (seat ≡ seating.writer) × (v.opening ≡ o)
+    × (v.seen ≡ writes steps) × (v.made ≡ seating.made)
+Sits o steps seating seat v (Worker k) = (seat ≡ seating.seat_of k) × (v.opening ≡ o)
+    × (k < seating.made) × (v.own ≡ own k steps)
+Sits o steps seating seat v Note = ⊤
+
+-- and what it has seen and was told is a beginning of the writer's steps
+pub record IsViewOf (o : Opened) (steps : List TraceStep) (seating : Seating) (seat : ℕ) (v : View)
+    : Type 0 where
+  pub sits : Sits o steps seating seat v v.role
+  pub seen : IsLater v.seen (writes steps)
+  pub told : IsLater v.told (writes steps)
+
+-- there is a trace after which the words are these, and which has the steps of each seat
+pub record Holds (o : Opened) (s : State (Unit {0}) View) : Type 0 where
+  pub steps : List TraceStep
+  pub seating : Seating
+  pub settled : IsSettled (setup_of o)
+  pub trace : IsTrace (setup_of o) steps
+  pub words : IsLaidOut o s.words (after (setup_of o) steps)
+  pub made : seating.made ≤ o.workers
+  pub unmade : (k : ℕ) → seating.made ≤ k → own k steps ≡ []
+  pub views : (seat : ℕ) (v : View) → get_elem? s.views seat ≡ some v
+      → IsViewOf o steps seating seat v
+
+-- ---- how views begin
+
+-- the writer's, which the table is opened with
+abbrev pub writer_view : Opened → View
+writer_view o = record { opening = o; role = Writer; made = 0; own = []; seen = []; told = [] }
+
+-- that of the next worker, once its seat is cut off the writer's
+abbrev pub worker_view : View → View
+worker_view v = record {
+  opening = v.opening;
+  role = Worker v.made;
+  made = 0;
+  own = [];
+  seen = v.seen;
+  told = [];
+}
+
+abbrev pub with_one_more : View → View
+with_one_more v = record v { made = v.made + 1 }
+
+-- a note of what a seat has seen
+abbrev pub note_of : View → View
+note_of v = record {
+  opening = v.opening;
+  role = Note;
+  made = 0;
+  own = [];
+  seen = v.seen;
+  told = [];
+}
+
+-- what is left of a note that was read
+abbrev pub read_note : View
+read_note = record {
+  opening = opened_nothing;
+  role = Note;
+  made = 0;
+  own = [];
+  seen = [];
+  told = [];
+}
+
+-- a seat was told what the note says
+abbrev pub hearing : View → View → View
+hearing v note = record v { told = note.seen }

@@ -1,0 +1,115 @@
+-- Meaning: what one step of the table gains the view of its seat, and no other (DPDK Programmer's
+-- Guide, "RCU Library": a worker stores the token in its counter; the writer loads each counter).
+use Rattle.std.specs.Prelude.{ℕ, ◌≡◌, ◌+◌, ◌*◌, ◌/◌, ◌%◌, ◌^◌, ◌<◌, ◌≤◌, ⊤, All, List, [], ◌∷◌, length, slice_index}
+use Rattle.std.specs.List.{AllPairs}
+use Rattle.atomic_table.specs.Seated.{TableId}
+use Rattle.atomic_table.specs.Table.{Me, Step}
+use Rattle.lpm_trace.specs.declared.step.RuleChange.{RuleChange}
+use Rattle.lpm_trace.specs.declared.step.WriterStep.{WriterStep}
+use Rattle.lpm_trace.specs.declared.step.WriterStep.TheVariants.{StoreFirst, StoreSecond, Opens, Closes, BumpToken, LoadCounter}
+use Rattle.lpm_trace.specs.declared.step.WorkerStep.{WorkerStep}
+use Rattle.lpm_trace.specs.declared.step.WorkerStep.TheVariants.{LoadFirst, LoadSecond}
+use Rattle.lpm_entry.specs.Words.{IsLastWord}
+use Rattle.lpm_trace.specs.Tables.{tables}
+use Rattle.lpm_trace.specs.Writer.{IsWritten}
+use Rattle.lpm_trace.specs.Trace.{worker_by}
+use Rattle.lpm_trace.specs.Workers.{Probe, Unread, InGroup, Answered}
+use Rattle.lpm_trace.specs.Laws.{IsLegalAtPlace, IsChecked}
+use Rattle.lpm_cells.specs.Table.{IsWords, IsFirstWord}
+use Rattle.shared_words.specs.declared.view.View.{View}
+use Rattle.shared_words.specs.declared.layout.Layout.{Layout}
+use Rattle.shared_words.specs.Layout.{word_count, second_at, sequence_at}
+use Rattle.shared_words.specs.Opened.{Opened, setup_of}
+use Rattle.shared_words.specs.Rule.{IsLater}
+
+-- a seat at a table that was opened so: its view says the same, and the table has a word for each place
+pub record IsOf (table : TableId) (opening : Opened) (layout : Layout) (seat : TableId) (v : View)
+    : Type 0 where
+  pub same : seat ≡ table
+  pub opening_is : v.opening ≡ opening
+  pub firsts : layout.firsts ≡ length opening.firsts
+  pub seconds : layout.seconds ≡ length opening.seconds
+  pub workers : layout.workers ≡ opening.workers
+  pub words : table.words ≡ word_count opening
+  pub low : word_count opening < 2 ^ 63
+
+-- ---- the writer
+
+-- the writer's view after a step of its own
+abbrev pub with_step : View → WriterStep → View
+with_step v s = record v { seen = s ∷ v.seen }
+
+-- the writer's step is made
+abbrev pub Makes : WriterStep → Me (Unit {0}) View → Me (Unit {0}) View → Type 0
+Makes s me me' = me' ≡ (with_step me.0 s, me.1)
+
+-- each token up to the greatest that has passed was checked
+abbrev pub AreChecked : Opened → List WriterStep → Type 0
+AreChecked o seen = (token : ℕ) → 0 < token → token ≤ (tables (setup_of o) seen).passed
+    → IsChecked (setup_of o) seen token
+
+-- a load of a word that the writer alone changes is no step, and finds what its own steps left
+pub record Finds (o : Opened) (seen : List WriterStep) (at word : ℕ) : Type 0 where
+  pub written : IsWritten (setup_of o) seen
+  pub words : IsWords o.first o.second (tables (setup_of o) seen).words
+  pub checked : AreChecked o seen
+  pub first : at < length o.firsts
+      → word ≡ slice_index (tables (setup_of o) seen).words.firsts at
+  pub second : (j : ℕ) → j < length o.seconds → at ≡ second_at o j
+      → word ≡ slice_index (tables (setup_of o) seen).words.seconds j
+  pub sequence : at ≡ sequence_at o → word ≡ (tables (setup_of o) seen).sequence
+
+abbrev pub looks : Step (Unit {0}) → Me (Unit {0}) View → ℕ → Me (Unit {0}) View → Type 0
+looks s me x me' = (me' ≡ me) × Finds me.0.opening me.0.seen s.word x
+
+-- ---- a worker
+
+-- what a worker knows after a step: the writer's steps that it has seen are lawful, its own steps stand
+-- at places among them that never fall, and each lookup that it has finished is legal
+pub record IsSound (v : View) : Type 0 where
+  pub written : IsWritten (setup_of v.opening) v.seen
+  pub words : IsWords v.opening.first v.opening.second (tables (setup_of v.opening) v.seen).words
+  pub rising : AllPairs (λ later earlier. earlier.1 ≤ later.1) v.own
+  pub within : All (λ step. step.1 ≤ length v.seen) v.own
+  pub legal : All (IsLegalAtPlace (setup_of v.opening) v.seen) (worker_by v.own).finished
+
+-- the worker's own list gains the step, at the place of what it has seen of the writer's steps then
+pub record Gains (s : WorkerStep) (v w : View) : Type 0 where
+  pub seen : List WriterStep
+  pub view : w ≡ record v { own = (s, length seen) ∷ v.own; seen = seen }
+  pub later : IsLater v.seen seen
+  pub told : IsLater v.told seen
+  pub sound : IsSound w
+
+abbrev pub gains : WorkerStep → Me (Unit {0}) View → Me (Unit {0}) View → Type 0
+gains s me me' = (me'.1 ≡ me.1) × Gains s me.0 me'.0
+
+-- it gains the load of a first word, which may stand in the first table
+abbrev pub gains_first : Me (Unit {0}) View → ℕ → Me (Unit {0}) View → Type 0
+gains_first me n me' = gains (LoadFirst n) me me'
+    × IsFirstWord (me.0.opening.first + me.0.opening.second) me.0.opening.second me.0.opening.seconds n
+
+-- it gains the load of a second word, which ends a lookup
+abbrev pub gains_second : Me (Unit {0}) View → ℕ → Me (Unit {0}) View → Type 0
+gains_second me n me' = gains (LoadSecond n) me me'
+    × IsLastWord (me.0.opening.first + me.0.opening.second) n
+
+-- the next first word that a lookup of these addresses reads is at place i
+abbrev pub IsFirstAt : ℕ → ℕ → List Probe → Type 0
+IsFirstAt second i [] = ⊥
+IsFirstAt second i (Unread a ∷ rest) = i ≡ a / 2 ^ second
+IsFirstAt second i (InGroup a g f ∷ rest) = IsFirstAt second i rest
+IsFirstAt second i (Answered a h f l ∷ rest) = IsFirstAt second i rest
+
+-- the next second word that it reads is at place j
+abbrev pub IsSecondAt : ℕ → ℕ → List Probe → Type 0
+IsSecondAt second j [] = ⊥
+IsSecondAt second j (Unread a ∷ rest) = ⊥
+IsSecondAt second j (InGroup a g f ∷ rest) = j ≡ g * 2 ^ second + a % 2 ^ second
+IsSecondAt second j (Answered a h f l ∷ rest) = IsSecondAt second j rest
+
+-- ---- both
+
+-- the seat was told of nothing but steps that the writer made, and forgets them
+abbrev pub compares : Step (Unit {0}) → Me (Unit {0}) View → ℕ → Me (Unit {0}) View → Type 0
+compares s me x me' = (me' ≡ (record me.0 { told = [] }, me.1)) × IsLater me.0.told me.0.seen

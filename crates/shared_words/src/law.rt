@@ -1,0 +1,211 @@
+//! The rule of the table, and what each step tells its seat.
+
+ghost use Rattle.std.specs.Prelude.{ℕ, List, []};
+ghost use Rattle.lpm_trace.specs.declared.step.RuleChange.{RuleChange};
+ghost use Rattle.lpm_trace.specs.declared.step.RuleChange.TheVariants.{Clear};
+ghost use Rattle.lpm_trace.specs.declared.step.WriterStep.TheVariants.{StoreFirst, StoreSecond, Opens as OpensUpdate, Closes, BumpToken, LoadCounter};
+ghost use Rattle.lpm_trace.specs.declared.step.WorkerStep.TheVariants.{LoadOnline, StoreOnline, LoadQuiescent, StoreQuiescent, StoreOffline, Begins, Ends, Meets};
+ghost use Rattle.shared_words.specs.Rule.{Holds, writer_view, worker_view, with_one_more, note_of, read_note, hearing};
+ghost use Rattle.shared_words.specs.Seats.{Makes, looks, compares, gains, gains_first, gains_second};
+
+use crate::opening::Opens;
+use crate::view::View;
+use atomic_table::{Join, Play, Seat, Split, Table, TableRule};
+use std::alloc::Global;
+use std::marker::{Brand, PhantomData};
+
+/// The rule: the words and the views show the end of a trace.
+pub struct Traced;
+
+impl<T: Opens> TableRule<(), View, T> for Traced {
+    ghost holds = { λ key. Holds (T.opened key) };
+
+    ghost first = { λ key. writer_view (T.opened key) };
+}
+
+pub type Board<T> = Table<(), View, T, Traced, Global>;
+
+pub type Place = Seat<(), View>;
+
+/// What a step of the writer carries beside its word: the change of an update that begins, and the token and
+/// the worker of a check. Each call picks it.
+pub trait Carries {
+    ghost change: { RuleChange };
+
+    ghost token: { ℕ };
+
+    ghost index: { ℕ };
+
+    ghost addrs: { List ℕ };
+}
+
+impl Carries for Brand {
+    ghost change = { Clear };
+
+    ghost token = { 0 };
+
+    ghost index = { 0 };
+
+    ghost addrs = { [] };
+}
+
+/// A first word is stored.
+pub struct StoresFirst;
+
+impl Play<(), View> for StoresFirst {
+    ghost then = { λ s me n. Makes (StoreFirst s.word n) me };
+}
+
+/// A second word is stored: the one of this index.
+pub struct StoresSecond<J: Carries> {
+    of: PhantomData<J>,
+}
+
+impl<J: Carries> Play<(), View> for StoresSecond<J> {
+    ghost then = { λ s me n. Makes (StoreSecond J.index n) me };
+}
+
+/// The sequence is stored: the update of this change begins.
+pub struct OpensUpdates<J: Carries> {
+    of: PhantomData<J>,
+}
+
+impl<J: Carries> Play<(), View> for OpensUpdates<J> {
+    ghost then = { λ s me n. Makes (OpensUpdate J.change) me };
+}
+
+/// The sequence is stored: the update is done.
+pub struct ClosesUpdates;
+
+impl Play<(), View> for ClosesUpdates {
+    ghost then = { λ s me n. Makes Closes me };
+}
+
+/// The token is stored.
+pub struct BumpsToken;
+
+impl Play<(), View> for BumpsToken {
+    ghost then = { λ s me n. Makes BumpToken me };
+}
+
+/// The counter of this worker is loaded, in a check of this token.
+pub struct LoadsCounter<J: Carries> {
+    of: PhantomData<J>,
+}
+
+impl<J: Carries> Play<(), View> for LoadsCounter<J> {
+    ghost then = { λ s me n. Makes (LoadCounter J.token J.index n) me };
+}
+
+/// The writer loads a word that it alone changes, which is no step.
+pub struct Looks;
+
+impl Play<(), View> for Looks {
+    ghost then = { looks };
+}
+
+/// The writer compares what it was told with its own steps, which is no step.
+pub struct Compares;
+
+impl Play<(), View> for Compares {
+    ghost then = { compares };
+}
+
+/// In a report that it is online, a worker loads the token.
+pub struct LoadsOnline;
+
+impl Play<(), View> for LoadsOnline {
+    ghost then = { λ s me n. gains (LoadOnline n) me };
+}
+
+/// In that report, it stores the token.
+pub struct StoresOnline;
+
+impl Play<(), View> for StoresOnline {
+    ghost then = { λ s me n. gains (StoreOnline n) me };
+}
+
+/// In a quiescent report, a worker loads the token.
+pub struct LoadsQuiescent;
+
+impl Play<(), View> for LoadsQuiescent {
+    ghost then = { λ s me n. gains (LoadQuiescent n) me };
+}
+
+/// In that report, it stores the token.
+pub struct StoresQuiescent;
+
+impl Play<(), View> for StoresQuiescent {
+    ghost then = { λ s me n. gains (StoreQuiescent n) me };
+}
+
+/// A worker stores 0: it is offline.
+pub struct StoresOffline;
+
+impl Play<(), View> for StoresOffline {
+    ghost then = { λ s me n. gains StoreOffline me };
+}
+
+/// A worker loads the sequence: a lookup of these addresses begins.
+pub struct BeginsLookup<J: Carries> {
+    of: PhantomData<J>,
+}
+
+impl<J: Carries> Play<(), View> for BeginsLookup<J> {
+    ghost then = { λ s me n. gains (Begins J.addrs n) me };
+}
+
+/// A worker loads a first word.
+pub struct LoadsFirst;
+
+impl Play<(), View> for LoadsFirst {
+    ghost then = { λ s me n. gains_first me n };
+}
+
+/// A worker loads a second word.
+pub struct LoadsSecond;
+
+impl Play<(), View> for LoadsSecond {
+    ghost then = { λ s me n. gains_second me n };
+}
+
+/// A worker loads the sequence: the lookup ends.
+pub struct EndsLookup;
+
+impl Play<(), View> for EndsLookup {
+    ghost then = { λ s me n. gains (Ends n) me };
+}
+
+/// A worker loads the sequence to meet the writer.
+pub struct Meeting;
+
+impl Play<(), View> for Meeting {
+    ghost then = { λ s me n. gains (Meets n) me };
+}
+
+/// The next worker's seat is cut off the writer's.
+pub struct NextWorker;
+
+impl Split<View> for NextWorker {
+    ghost left = { with_one_more };
+
+    ghost right = { worker_view };
+}
+
+/// A note is cut off a seat.
+pub struct Notes;
+
+impl Split<View> for Notes {
+    ghost left = { λ v. v };
+
+    ghost right = { note_of };
+}
+
+/// A seat takes in a note.
+pub struct Hears;
+
+impl Join<View> for Hears {
+    ghost both = { hearing };
+
+    ghost spent = { read_note };
+}

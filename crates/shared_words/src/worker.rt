@@ -1,0 +1,226 @@
+//! The seat of a worker.
+
+ghost use Rattle.std.specs.Prelude.{◌≡◌, ℕ, ◌+◌, ◌<◌, All, []};
+ghost use Rattle.lpm_entry.specs.Words.{IsLastWord};
+ghost use Rattle.lpm_cells.specs.Table.{IsFirstWord};
+ghost use Rattle.lpm_trace.specs.declared.step.WorkerStep.TheVariants.{LoadOnline, StoreOnline, LoadQuiescent, StoreQuiescent, StoreOffline, Begins, LoadFirst as FirstLoad, LoadSecond as SecondLoad, Ends, Meets};
+ghost use Rattle.lpm_trace.specs.Tables.{addresses};
+ghost use Rattle.lpm_trace.specs.Trace.{worker_by};
+ghost use Rattle.lpm_trace.specs.Workers.{Offline, ComingOnline, Online, LookingUp, ReportingQuiescent, AreBegun, AreAnswered, IsBetweenDeeds};
+ghost use Rattle.shared_words.specs.declared.view.Role.TheVariants.{Worker as AsWorker};
+ghost use Rattle.shared_words.specs.Opened.{setup_of};
+ghost use Rattle.shared_words.specs.Layout.{sequence_at};
+ghost use Rattle.shared_words.specs.Seats.{IsOf, Gains, IsFirstAt, IsSecondAt};
+
+use crate::law::{
+    BeginsLookup, Board, Carries, Compares, EndsLookup, Hears, LoadsFirst, LoadsOnline,
+    LoadsQuiescent, LoadsSecond, Meeting, Notes, Place, StoresOffline, StoresOnline,
+    StoresQuiescent,
+};
+use crate::opening::Opens;
+use crate::words::SharedWords;
+use crate::writer::WriterSeat;
+use std::marker::Brand;
+
+/// The seat of the worker of this number. It knows each step that the worker has made.
+#[derive(Drop)]
+pub struct WorkerSeat {
+    pub place: Place,
+    pub number: u64,
+    pub ghost role: { place.me.0.role ≡ AsWorker number },
+    pub ghost alone: { place.me.1 ≡ [] },
+}
+
+// The caller picks the addresses. A signature with a const parameter would not let it.
+fn begin_as<T: Opens, J: Carries>(
+    board: &Board<T>,
+    place: &mut Place,
+    at: usize,
+    number: u64,
+    addrs: &[u64],
+) -> u64
+    requires own { (place.old.table_id ≡ board.now.shared.table_id)
+        × (at < board.now.shared.table_id.words) }
+    requires place { at ≡ sequence_at (T.opened board.now.shared.key) }
+    requires alone { place.old.me.1 ≡ [] }
+    requires role { place.old.me.0.role ≡ AsWorker number }
+    requires picked { J.addrs ≡ addrs.now }
+    requires online { (worker_by place.old.me.0.own).phase ≡ Online }
+    requires addrs { All (λ a. a < addresses (setup_of place.old.me.0.opening)) addrs.now }
+    ensures own { (place.new.table_id ≡ place.old.table_id) × (place.new.me.1 ≡ place.old.me.1) }
+    ensures step { Gains (Begins addrs.now result) place.old.me.0 place.new.me.0 }
+{
+    let _ = number;
+    let _ = addrs;
+    board.shared.load::<BeginsLookup<J>>(place, at)
+}
+
+impl WorkerSeat {
+    /// In a report that the worker is online, loads the token.
+    #[inline]
+    pub fn load_online<T: Opens>(&mut self, table: &SharedWords<T>) -> u64
+        requires own { IsOf table.now.board.shared.table_id (T.opened table.now.board.shared.key)
+            table.now.layout self.old.place.table_id self.old.place.me.0 }
+        requires offline { (worker_by self.old.place.me.0.own).phase ≡ Offline }
+        ensures own { self.new.place.table_id ≡ self.old.place.table_id }
+        ensures step { Gains (LoadOnline result) self.old.place.me.0 self.new.place.me.0 }
+    {
+        let at = table.layout.token_at();
+        table.board.shared.load::<LoadsOnline>(&mut self.place, at)
+    }
+
+    /// In that report, stores the token that it loaded in the worker's counter.
+    #[inline]
+    pub fn store_online<T: Opens>(&mut self, table: &SharedWords<T>, token: u64)
+        requires own { IsOf table.now.board.shared.table_id (T.opened table.now.board.shared.key)
+            table.now.layout self.old.place.table_id self.old.place.me.0 }
+        requires inside { self.old.number < table.now.layout.workers }
+        requires loaded { (worker_by self.old.place.me.0.own).phase ≡ ComingOnline token }
+        ensures own { self.new.place.table_id ≡ self.old.place.table_id }
+        ensures step { Gains (StoreOnline token) self.old.place.me.0 self.new.place.me.0 }
+    {
+        let at = table.layout.counter_at(self.number as usize);
+        table
+            .board
+            .shared
+            .store::<StoresOnline>(&mut self.place, at, token);
+    }
+
+    /// In a quiescent report, loads the token.
+    #[inline]
+    pub fn load_quiescent<T: Opens>(&mut self, table: &SharedWords<T>) -> u64
+        requires own { IsOf table.now.board.shared.table_id (T.opened table.now.board.shared.key)
+            table.now.layout self.old.place.table_id self.old.place.me.0 }
+        requires online { (worker_by self.old.place.me.0.own).phase ≡ Online }
+        ensures own { self.new.place.table_id ≡ self.old.place.table_id }
+        ensures step { Gains (LoadQuiescent result) self.old.place.me.0 self.new.place.me.0 }
+    {
+        let at = table.layout.token_at();
+        table
+            .board
+            .shared
+            .load::<LoadsQuiescent>(&mut self.place, at)
+    }
+
+    /// In that report, stores the token that it loaded in the worker's counter.
+    #[inline]
+    pub fn store_quiescent<T: Opens>(&mut self, table: &SharedWords<T>, token: u64)
+        requires own { IsOf table.now.board.shared.table_id (T.opened table.now.board.shared.key)
+            table.now.layout self.old.place.table_id self.old.place.me.0 }
+        requires inside { self.old.number < table.now.layout.workers }
+        requires loaded { (worker_by self.old.place.me.0.own).phase ≡ ReportingQuiescent token }
+        ensures own { self.new.place.table_id ≡ self.old.place.table_id }
+        ensures step { Gains (StoreQuiescent token) self.old.place.me.0 self.new.place.me.0 }
+    {
+        let at = table.layout.counter_at(self.number as usize);
+        table
+            .board
+            .shared
+            .store::<StoresQuiescent>(&mut self.place, at, token);
+    }
+
+    /// Stores 0 in the worker's counter: it is offline.
+    #[inline]
+    pub fn store_offline<T: Opens>(&mut self, table: &SharedWords<T>)
+        requires own { IsOf table.now.board.shared.table_id (T.opened table.now.board.shared.key)
+            table.now.layout self.old.place.table_id self.old.place.me.0 }
+        requires inside { self.old.number < table.now.layout.workers }
+        requires online { (worker_by self.old.place.me.0.own).phase ≡ Online }
+        ensures own { self.new.place.table_id ≡ self.old.place.table_id }
+        ensures step { Gains StoreOffline self.old.place.me.0 self.new.place.me.0 }
+    {
+        let at = table.layout.counter_at(self.number as usize);
+        table
+            .board
+            .shared
+            .store::<StoresOffline>(&mut self.place, at, 0);
+    }
+
+    /// Loads the sequence: a lookup of these addresses begins.
+    #[inline]
+    pub fn begin_lookup<T: Opens>(&mut self, table: &SharedWords<T>, addrs: &[u64]) -> u64
+        requires own { IsOf table.now.board.shared.table_id (T.opened table.now.board.shared.key)
+            table.now.layout self.old.place.table_id self.old.place.me.0 }
+        requires online { (worker_by self.old.place.me.0.own).phase ≡ Online }
+        requires addrs { All (λ a. a < addresses (setup_of self.old.place.me.0.opening)) addrs.now }
+        ensures own { self.new.place.table_id ≡ self.old.place.table_id }
+        ensures step { Gains (Begins addrs.now result) self.old.place.me.0 self.new.place.me.0 }
+    {
+        let at = table.layout.sequence_at();
+        begin_as::<T, Brand>(&table.board, &mut self.place, at, self.number, addrs)
+    }
+
+    /// Loads the first word of the next address, which lies at place `i`.
+    #[inline]
+    pub fn load_first<T: Opens>(&mut self, table: &SharedWords<T>, i: usize) -> u64
+        requires own { IsOf table.now.board.shared.table_id (T.opened table.now.board.shared.key)
+            table.now.layout self.old.place.table_id self.old.place.me.0 }
+        requires index { i < table.now.layout.firsts }
+        requires looking { (worker_by self.old.place.me.0.own).phase ≡ LookingUp }
+        requires next { IsFirstAt self.old.place.me.0.opening.second i (worker_by self.old.place.me.0.own).probes }
+        ensures own { self.new.place.table_id ≡ self.old.place.table_id }
+        ensures step { Gains (FirstLoad result) self.old.place.me.0 self.new.place.me.0 }
+        ensures word { IsFirstWord
+            (self.old.place.me.0.opening.first + self.old.place.me.0.opening.second)
+            self.old.place.me.0.opening.second self.old.place.me.0.opening.seconds result }
+    {
+        table.board.shared.load::<LoadsFirst>(&mut self.place, i)
+    }
+
+    /// Loads the second word of the next address that has a group, which lies at place `j`.
+    #[inline]
+    pub fn load_second<T: Opens>(&mut self, table: &SharedWords<T>, j: usize) -> u64
+        requires own { IsOf table.now.board.shared.table_id (T.opened table.now.board.shared.key)
+            table.now.layout self.old.place.table_id self.old.place.me.0 }
+        requires index { j < table.now.layout.seconds }
+        requires looking { (worker_by self.old.place.me.0.own).phase ≡ LookingUp }
+        requires begun { AreBegun (worker_by self.old.place.me.0.own).probes }
+        requires next { IsSecondAt self.old.place.me.0.opening.second j (worker_by self.old.place.me.0.own).probes }
+        ensures own { self.new.place.table_id ≡ self.old.place.table_id }
+        ensures step { Gains (SecondLoad result) self.old.place.me.0 self.new.place.me.0 }
+        ensures word { IsLastWord
+            (self.old.place.me.0.opening.first + self.old.place.me.0.opening.second) result }
+    {
+        let at = table.layout.second_at(j);
+        table.board.shared.load::<LoadsSecond>(&mut self.place, at)
+    }
+
+    /// Loads the sequence: the lookup, of which each address has its answer, ends.
+    #[inline]
+    pub fn end_lookup<T: Opens>(&mut self, table: &SharedWords<T>) -> u64
+        requires own { IsOf table.now.board.shared.table_id (T.opened table.now.board.shared.key)
+            table.now.layout self.old.place.table_id self.old.place.me.0 }
+        requires looking { (worker_by self.old.place.me.0.own).phase ≡ LookingUp }
+        requires answered { AreAnswered (worker_by self.old.place.me.0.own).probes }
+        ensures own { self.new.place.table_id ≡ self.old.place.table_id }
+        ensures step { Gains (Ends result) self.old.place.me.0 self.new.place.me.0 }
+    {
+        let at = table.layout.sequence_at();
+        table.board.shared.load::<EndsLookup>(&mut self.place, at)
+    }
+
+    /// Loads the sequence once. Then this worker has seen all that the writer has done, which stays as it was.
+    pub fn meet<T: Opens>(&mut self, table: &SharedWords<T>, writer: &mut WriterSeat)
+        requires own { IsOf table.now.board.shared.table_id (T.opened table.now.board.shared.key)
+            table.now.layout self.old.place.table_id self.old.place.me.0 }
+        requires between { IsBetweenDeeds (worker_by self.old.place.me.0.own).phase }
+        requires writer { IsOf table.now.board.shared.table_id (T.opened table.now.board.shared.key)
+            table.now.layout writer.old.place.table_id writer.old.place.me.0 }
+        ensures own { self.new.place.table_id ≡ self.old.place.table_id }
+        ensures step { (number : ℕ) × Gains (Meets number)
+            (record self.old.place.me.0 { told = writer.old.place.me.0.seen })
+            self.new.place.me.0 }
+        ensures all { self.new.place.me.0.seen ≡ writer.old.place.me.0.seen }
+        ensures writer { writer.new.place.me.0 ≡ writer.old.place.me.0 }
+        ensures seat { writer.new.place.table_id ≡ writer.old.place.table_id }
+    {
+        let at = table.layout.sequence_at();
+        let shared = &table.board.shared;
+        let told = shared.split_seat::<Notes>(&mut writer.place);
+        shared.join_seat::<Hears>(&mut self.place, told);
+        shared.load::<Meeting>(&mut self.place, at);
+        let told = shared.split_seat::<Notes>(&mut self.place);
+        shared.join_seat::<Hears>(&mut writer.place, told);
+        shared.load::<Compares>(&mut writer.place, at);
+    }
+}

@@ -1,0 +1,279 @@
+//! The writer's seat.
+
+ghost use Rattle.std.specs.Prelude.{◌≡◌, ℕ, ◌+◌, ◌<◌, length, slice_index, []};
+ghost use Rattle.lpm_trace.specs.declared.step.WriterStep.TheVariants.{StoreFirst, StoreSecond, Opens as OpensUpdate, Closes, BumpToken, LoadCounter};
+ghost use Rattle.lpm_trace.specs.Tables.{tables};
+ghost use Rattle.lpm_trace.specs.Writer.{IsWritten, MayStep};
+ghost use Rattle.shared_words.specs.declared.view.Role.TheVariants.{Writer as AsWriter};
+ghost use Rattle.shared_words.specs.Opened.{setup_of};
+ghost use Rattle.lpm_cells.specs.Table.{IsWords};
+ghost use Rattle.shared_words.specs.Layout.{second_at, sequence_at, counter_at};
+ghost use Rattle.shared_words.specs.Rule.{with_one_more, worker_view};
+ghost use Rattle.shared_words.specs.Seats.{IsOf, AreChecked, with_step};
+
+use crate::law::{
+    Board, BumpsToken, Carries, ClosesUpdates, LoadsCounter, Looks, NextWorker, OpensUpdates,
+    Place, StoresFirst, StoresSecond,
+};
+use crate::opening::Opens;
+use crate::words::SharedWords;
+use crate::worker::WorkerSeat;
+use lpm_trace::RuleChange;
+use std::marker::Brand;
+
+/// The seat of the one writer. It knows each step that the writer has made.
+#[derive(Drop)]
+pub struct WriterSeat {
+    pub place: Place,
+    pub ghost role: { place.me.0.role ≡ AsWriter },
+    pub ghost told: { place.me.0.told ≡ [] },
+    pub ghost alone: { place.me.1 ≡ [] },
+}
+
+// The calls that follow pick what a step carries beside its word. A signature with a const parameter would not
+// let them.
+
+fn store_second_as<T: Opens, J: Carries>(
+    board: &Board<T>,
+    place: &mut Place,
+    at: usize,
+    j: usize,
+    word: u64,
+)
+    requires own { (place.old.table_id ≡ board.now.shared.table_id)
+        × (at < board.now.shared.table_id.words) }
+    requires place { (at ≡ second_at (T.opened board.now.shared.key) j)
+        × (j < length (T.opened board.now.shared.key).seconds) }
+    requires alone { place.old.me.1 ≡ [] }
+    requires role { place.old.me.0.role ≡ AsWriter }
+    requires picked { J.index ≡ j }
+    requires may { MayStep (setup_of place.old.me.0.opening) place.old.me.0.seen
+        (StoreSecond j word) }
+    ensures own { (place.new.table_id ≡ place.old.table_id) × (place.new.me.1 ≡ place.old.me.1) }
+    ensures step { place.new.me.0 ≡ with_step place.old.me.0 (StoreSecond j word) }
+{
+    board.shared.store::<StoresSecond<J>>(place, at, word)
+}
+
+fn open_as<T: Opens, J: Carries>(
+    board: &Board<T>,
+    place: &mut Place,
+    at: usize,
+    change: &RuleChange,
+    number: u64,
+)
+    requires own { (place.old.table_id ≡ board.now.shared.table_id)
+        × (at < board.now.shared.table_id.words) }
+    requires place { at ≡ sequence_at (T.opened board.now.shared.key) }
+    requires alone { place.old.me.1 ≡ [] }
+    requires role { place.old.me.0.role ≡ AsWriter }
+    requires picked { J.change ≡ change.now }
+    requires next { number ≡ (tables (setup_of place.old.me.0.opening) place.old.me.0.seen).sequence + 1 }
+    requires may { MayStep (setup_of place.old.me.0.opening) place.old.me.0.seen
+        (OpensUpdate change.now) }
+    ensures own { (place.new.table_id ≡ place.old.table_id) × (place.new.me.1 ≡ place.old.me.1) }
+    ensures step { place.new.me.0 ≡ with_step place.old.me.0 (OpensUpdate change.now) }
+{
+    let _ = change;
+    board.shared.store::<OpensUpdates<J>>(place, at, number)
+}
+
+fn load_counter_as<T: Opens, J: Carries>(
+    board: &Board<T>,
+    place: &mut Place,
+    at: usize,
+    token: u64,
+    worker: usize,
+) -> u64
+    requires own { (place.old.table_id ≡ board.now.shared.table_id)
+        × (at < board.now.shared.table_id.words) }
+    requires place { (at ≡ counter_at (T.opened board.now.shared.key) worker)
+        × (worker < (T.opened board.now.shared.key).workers) }
+    requires alone { place.old.me.1 ≡ [] }
+    requires role { place.old.me.0.role ≡ AsWriter }
+    requires picked { (J.token ≡ token) × (J.index ≡ worker) }
+    requires may { (counter : ℕ) → MayStep (setup_of place.old.me.0.opening) place.old.me.0.seen
+        (LoadCounter token worker counter) }
+    ensures own { (place.new.table_id ≡ place.old.table_id) × (place.new.me.1 ≡ place.old.me.1) }
+    ensures step { place.new.me.0 ≡ with_step place.old.me.0 (LoadCounter token worker result) }
+{
+    let _ = token;
+    let _ = worker;
+    board.shared.load::<LoadsCounter<J>>(place, at)
+}
+
+impl WriterSeat {
+    /// Stores a first word.
+    #[inline]
+    pub fn store_first<T: Opens>(&mut self, table: &SharedWords<T>, i: usize, word: u64)
+        requires own { IsOf table.now.board.shared.table_id (T.opened table.now.board.shared.key)
+            table.now.layout self.old.place.table_id self.old.place.me.0 }
+        requires may { MayStep (setup_of self.old.place.me.0.opening) self.old.place.me.0.seen
+            (StoreFirst i word) }
+        ensures own { self.new.place.table_id ≡ self.old.place.table_id }
+        ensures step { self.new.place.me.0 ≡ with_step self.old.place.me.0 (StoreFirst i word) }
+    {
+        table
+            .board
+            .shared
+            .store::<StoresFirst>(&mut self.place, i, word);
+    }
+
+    /// Stores a second word.
+    #[inline]
+    pub fn store_second<T: Opens>(&mut self, table: &SharedWords<T>, j: usize, word: u64)
+        requires own { IsOf table.now.board.shared.table_id (T.opened table.now.board.shared.key)
+            table.now.layout self.old.place.table_id self.old.place.me.0 }
+        requires may { MayStep (setup_of self.old.place.me.0.opening) self.old.place.me.0.seen
+            (StoreSecond j word) }
+        ensures own { self.new.place.table_id ≡ self.old.place.table_id }
+        ensures step { self.new.place.me.0 ≡ with_step self.old.place.me.0 (StoreSecond j word) }
+    {
+        let at = table.layout.second_at(j);
+        store_second_as::<T, Brand>(&table.board, &mut self.place, at, j, word);
+    }
+
+    /// Stores the next number of the sequence: the update of this change begins.
+    #[inline]
+    pub fn open_update<T: Opens>(
+        &mut self,
+        table: &SharedWords<T>,
+        change: &RuleChange,
+        number: u64,
+    )
+        requires own { IsOf table.now.board.shared.table_id (T.opened table.now.board.shared.key)
+            table.now.layout self.old.place.table_id self.old.place.me.0 }
+        requires next { number ≡ (tables (setup_of self.old.place.me.0.opening)
+            self.old.place.me.0.seen).sequence + 1 }
+        requires may { MayStep (setup_of self.old.place.me.0.opening) self.old.place.me.0.seen
+            (OpensUpdate change.now) }
+        ensures own { self.new.place.table_id ≡ self.old.place.table_id }
+        ensures step { self.new.place.me.0 ≡ with_step self.old.place.me.0 (OpensUpdate change.now) }
+    {
+        let at = table.layout.sequence_at();
+        open_as::<T, Brand>(&table.board, &mut self.place, at, change, number);
+    }
+
+    /// Stores the next number of the sequence: the update is done.
+    #[inline]
+    pub fn close_update<T: Opens>(&mut self, table: &SharedWords<T>, number: u64)
+        requires own { IsOf table.now.board.shared.table_id (T.opened table.now.board.shared.key)
+            table.now.layout self.old.place.table_id self.old.place.me.0 }
+        requires next { number ≡ (tables (setup_of self.old.place.me.0.opening)
+            self.old.place.me.0.seen).sequence + 1 }
+        requires may { MayStep (setup_of self.old.place.me.0.opening) self.old.place.me.0.seen
+            (Closes) }
+        ensures own { self.new.place.table_id ≡ self.old.place.table_id }
+        ensures step { self.new.place.me.0 ≡ with_step self.old.place.me.0 (Closes) }
+    {
+        let at = table.layout.sequence_at();
+        table
+            .board
+            .shared
+            .store::<ClosesUpdates>(&mut self.place, at, number);
+    }
+
+    /// Stores the next token.
+    #[inline]
+    pub fn bump_token<T: Opens>(&mut self, table: &SharedWords<T>, token: u64)
+        requires own { IsOf table.now.board.shared.table_id (T.opened table.now.board.shared.key)
+            table.now.layout self.old.place.table_id self.old.place.me.0 }
+        requires next { token ≡ (tables (setup_of self.old.place.me.0.opening)
+            self.old.place.me.0.seen).token + 1 }
+        requires may { MayStep (setup_of self.old.place.me.0.opening) self.old.place.me.0.seen
+            (BumpToken) }
+        ensures own { self.new.place.table_id ≡ self.old.place.table_id }
+        ensures step { self.new.place.me.0 ≡ with_step self.old.place.me.0 (BumpToken) }
+    {
+        let at = table.layout.token_at();
+        table
+            .board
+            .shared
+            .store::<BumpsToken>(&mut self.place, at, token);
+    }
+
+    /// Loads the counter of a worker, in a check of the token.
+    #[inline]
+    pub fn load_counter<T: Opens>(
+        &mut self,
+        table: &SharedWords<T>,
+        token: u64,
+        worker: usize,
+    ) -> u64
+        requires own { IsOf table.now.board.shared.table_id (T.opened table.now.board.shared.key)
+            table.now.layout self.old.place.table_id self.old.place.me.0 }
+        requires worker { worker < table.now.layout.workers }
+        requires may { (counter : ℕ) → MayStep (setup_of self.old.place.me.0.opening)
+            self.old.place.me.0.seen (LoadCounter token worker counter) }
+        ensures own { self.new.place.table_id ≡ self.old.place.table_id }
+        ensures step { self.new.place.me.0 ≡ with_step self.old.place.me.0 (LoadCounter token worker result) }
+    {
+        let at = table.layout.counter_at(worker);
+        load_counter_as::<T, Brand>(&table.board, &mut self.place, at, token, worker)
+    }
+
+    /// The first word at place `i`, which this writer alone changes. It is no step.
+    #[inline]
+    pub fn first<T: Opens>(&mut self, table: &SharedWords<T>, i: usize) -> u64
+        requires own { IsOf table.now.board.shared.table_id (T.opened table.now.board.shared.key)
+            table.now.layout self.old.place.table_id self.old.place.me.0 }
+        requires index { i < table.now.layout.firsts }
+        ensures same { self.new ≡ self.old }
+        ensures value { result ≡ slice_index (tables (setup_of self.old.place.me.0.opening)
+            self.old.place.me.0.seen).words.firsts i }
+    {
+        table.board.shared.load::<Looks>(&mut self.place, i)
+    }
+
+    /// The second word at place `j`, which this writer alone changes. It is no step.
+    #[inline]
+    pub fn second<T: Opens>(&mut self, table: &SharedWords<T>, j: usize) -> u64
+        requires own { IsOf table.now.board.shared.table_id (T.opened table.now.board.shared.key)
+            table.now.layout self.old.place.table_id self.old.place.me.0 }
+        requires index { j < table.now.layout.seconds }
+        ensures same { self.new ≡ self.old }
+        ensures value { result ≡ slice_index (tables (setup_of self.old.place.me.0.opening)
+            self.old.place.me.0.seen).words.seconds j }
+    {
+        table
+            .board
+            .shared
+            .load::<Looks>(&mut self.place, table.layout.second_at(j))
+    }
+
+    /// The sequence, which this writer alone changes. It is no step. Each of the writer's steps might come
+    /// after those before it, the words are entries, and each token that has passed was checked.
+    #[inline]
+    pub fn sequence<T: Opens>(&mut self, table: &SharedWords<T>) -> u64
+        requires own { IsOf table.now.board.shared.table_id (T.opened table.now.board.shared.key)
+            table.now.layout self.old.place.table_id self.old.place.me.0 }
+        ensures same { self.new ≡ self.old }
+        ensures value { result ≡ (tables (setup_of self.old.place.me.0.opening)
+            self.old.place.me.0.seen).sequence }
+        ensures written { IsWritten (setup_of self.old.place.me.0.opening) self.old.place.me.0.seen }
+        ensures words { IsWords self.old.place.me.0.opening.first self.old.place.me.0.opening.second
+            (tables (setup_of self.old.place.me.0.opening) self.old.place.me.0.seen).words }
+        ensures checked { AreChecked self.old.place.me.0.opening self.old.place.me.0.seen }
+    {
+        table
+            .board
+            .shared
+            .load::<Looks>(&mut self.place, table.layout.sequence_at())
+    }
+
+    /// The seat of the next worker, which is offline and has made no step.
+    pub fn next_worker<T: Opens>(&mut self, table: &SharedWords<T>, number: u64) -> WorkerSeat
+        requires own { IsOf table.now.board.shared.table_id (T.opened table.now.board.shared.key)
+            table.now.layout self.old.place.table_id self.old.place.me.0 }
+        requires number { self.old.place.me.0.made ≡ number }
+        requires worker { number < table.now.layout.workers }
+        ensures own { self.new.place.table_id ≡ self.old.place.table_id }
+        ensures made { self.new.place.me.0 ≡ with_one_more self.old.place.me.0 }
+        ensures seat { result.place.table_id ≡ self.old.place.table_id }
+        ensures view { result.place.me.0 ≡ worker_view self.old.place.me.0 }
+        ensures worker { result.number ≡ number }
+    {
+        let place = table.board.shared.split_seat::<NextWorker>(&mut self.place);
+        WorkerSeat { place, number }
+    }
+}
