@@ -9,6 +9,6 @@ pub struct Shared<const FIRST: u32, const SECOND: u32> {
     pub cells: PlainCells<FIRST, SECOND>,
     /// Counts up as an update begins and as it is done: odd while one runs.
     pub sequence: u64,
-    /// The newest token. A worker that reports stores the one that it has loaded, not the newest by then.
+    /// The newest token. A report stores the one that it has loaded, which may be older by then.
     pub token: u64,
 }
