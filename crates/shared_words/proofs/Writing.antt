@@ -144,6 +144,8 @@ module _ (o : Opened) where
             ∙ ap (λ (z : Tables). slice_index z.words.seconds j) now;
         sequence = λ place. found (sequence_at o) place ∙ h.words.sequence
             ∙ ap (λ (z : Tables). z.sequence) now;
+        token = λ place. found (token_at o) place ∙ h.words.token
+            ∙ ap (λ (z : Tables). z.token) now;
       }
 
   -- the calls of the writer's seat, at a place of the words

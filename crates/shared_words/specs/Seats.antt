@@ -18,7 +18,7 @@ use Rattle.lpm_trace.specs.Laws.{IsLegalAtPlace, IsChecked}
 use Rattle.lpm_cells.specs.Table.{IsWords, IsFirstWord}
 use Rattle.shared_words.specs.declared.view.View.{View}
 use Rattle.shared_words.specs.declared.layout.Layout.{Layout}
-use Rattle.shared_words.specs.Layout.{word_count, second_at, sequence_at}
+use Rattle.shared_words.specs.Layout.{word_count, second_at, sequence_at, token_at}
 use Rattle.shared_words.specs.Opened.{Opened, setup_of}
 use Rattle.shared_words.specs.Rule.{IsLater}
 
@@ -58,6 +58,7 @@ pub record Finds (o : Opened) (seen : List WriterStep) (at word : ℕ) : Type 0 
   pub second : (j : ℕ) → j < length o.seconds → at ≡ second_at o j
       → word ≡ slice_index (tables (setup_of o) seen).words.seconds j
   pub sequence : at ≡ sequence_at o → word ≡ (tables (setup_of o) seen).sequence
+  pub token : at ≡ token_at o → word ≡ (tables (setup_of o) seen).token
 
 abbrev pub looks : Step (Unit {0}) → Me (Unit {0}) View → ℕ → Me (Unit {0}) View → Type 0
 looks s me x me' = (me' ≡ me) × Finds me.0.opening me.0.seen s.word x

@@ -261,6 +261,21 @@ impl WriterSeat {
             .load::<Looks>(&mut self.place, table.layout.sequence_at())
     }
 
+    /// The token, which this writer alone changes. It is no step.
+    #[inline]
+    pub fn token<T: Opens>(&mut self, table: &SharedWords<T>) -> u64
+        requires own { IsOf table.now.board.shared.table_id (T.opened table.now.board.shared.key)
+            table.now.layout self.old.place.table_id self.old.place.me.0 }
+        ensures same { self.new ≡ self.old }
+        ensures value { result ≡ (tables (setup_of self.old.place.me.0.opening)
+            self.old.place.me.0.seen).token }
+    {
+        table
+            .board
+            .shared
+            .load::<Looks>(&mut self.place, table.layout.token_at())
+    }
+
     /// The seat of the next worker, which is offline and has made no step.
     pub fn next_worker<T: Opens>(&mut self, table: &SharedWords<T>, number: u64) -> WorkerSeat
         requires own { IsOf table.now.board.shared.table_id (T.opened table.now.board.shared.key)

@@ -1,0 +1,12 @@
+use Rattle.std.proofs.Common.{arith}
+use Rattle.shared_words.proofs.Writing.{looks_allowed}
+use Rattle.shared_words.proofs.writer.WriterSeat.token.Goals as goal
+
+pub load-requires : goal.load-requires
+load-requires g c =
+    let seat = c.args.self.now in
+    let own = c.requires.own in (
+      own.same,
+      omega (arith, c.token_at.ensures, own.words, own.firsts, own.seconds),
+      looks_allowed _ _ _ _ seat.place.me seat.role,
+    )
