@@ -1,0 +1,14 @@
+use Rattle.std.proofs.Common.{◌≡◌, length, ap, arith}
+use Rattle.shared_words.specs.Opened.{Opened, setup_of}
+use Rattle.shared_words.proofs.Laying.{firsts_length}
+use Rattle.shared_memory.specs.Lent.{Lent, left_by}
+use Rattle.shared_memory.proofs.memory.SharedMemoryCells.first.Goals as goal
+
+pub first-requires-clause-index : goal.first-requires-clause-index
+first-requires-clause-index g c =
+    let v = c.self.inside.seat.now.place.me.0 in
+    let own = c.self.invariant.0 in
+    let stays = firsts_length (setup_of v.opening) v.seen in
+    let len = ap (λ (o : Opened). length o.firsts) own.opening_is in
+    let is = ap (λ (m : Lent). length (left_by m).words.firsts) c.self.view_is in
+    omega (arith, c.requires, stays, len, is, own.firsts)

@@ -1,0 +1,54 @@
+-- This layer's own: what a memory of a running table is to its writer: a seat that it has borrowed, and the
+-- steps that the seat has made (this project's).
+use Rattle.std.specs.Prelude.{◌≡◌, ℕ, ◌^◌, ◌≤◌, List, refl}
+use Rattle.std.specs.Coded.{Coded, code_by, coded×, coded_ℕ}
+use Rattle.atomic_table.specs.Seated.{TableId, table_id_coded}
+use Rattle.lpm_trace.specs.declared.step.WriterStep.{WriterStep}
+use Rattle.lpm_trace.specs.Tables.{Setup, Tables, tables, begun}
+use Rattle.lpm_trace.specs.Writer.{IsWritten, MayStep}
+use Rattle.shared_words.specs.declared.view.View.{View}
+use Rattle.shared_words.specs.contracts.view.View as view_row
+use Rattle.shared_words.specs.Opened.{setup_of}
+use Rattle.shared_words.specs.Seats.{with_step}
+
+-- a seat that was lent under a name: its table, and what it knows
+pub record Lent : Type 0 where
+  pub name : ℕ
+  pub table : TableId
+  pub view : View
+
+abbrev pub coded_lent : Coded Lent
+coded_lent =
+    code_by (ℕ × (TableId × View)) (coded× coded_ℕ (coded× table_id_coded view_row.the_row.coded))
+    (λ l. (l.name, (l.table, l.view)))
+    (λ p. record { name = p.0; table = p.1.0; view = p.1.1 })
+    (λ _. refl)
+
+-- what the steps of the view leave
+abbrev pub left_by_view : View → Tables
+left_by_view v = tables (setup_of v.opening) v.seen
+
+abbrev pub left_by : Lent → Tables
+left_by m = left_by_view m.view
+
+-- the token is the newest, and neither it nor the updates are past their bound
+pub record IsAt (v : View) (token : ℕ) : Type 0 where
+  pub newest : token ≡ (left_by_view v).token
+  pub token_low : token ≤ 2 ^ 62
+  pub few : begun (left_by_view v) ≤ 2 ^ 61
+
+-- the step may come next
+abbrev pub SharedMay : Lent → WriterStep → Type 0
+SharedMay m s = MayStep (setup_of m.view.opening) m.view.seen s
+
+-- the steps are those of the seat, each of which might come
+pub record SharedDid (m : Lent) (c : Setup) (steps : List WriterStep) : Type 0 where
+  pub opening : c ≡ setup_of m.view.opening
+  pub steps_are : steps ≡ m.view.seen
+  pub written : IsWritten c steps
+
+-- the seat has made one more step
+pub record SharedDoes (s : WriterStep) (m z : Lent) : Type 0 where
+  pub name : z.name ≡ m.name
+  pub table : z.table ≡ m.table
+  pub view : z.view ≡ with_step m.view s

@@ -1,0 +1,76 @@
+//! The words of a running table and the writer's seat, borrowed for a command.
+
+ghost use Rattle.std.specs.Prelude.{◌≡◌, ◌^◌, ◌≤◌};
+ghost use Rattle.lpm_trace.specs.Tables.{tables, begun};
+ghost use Rattle.shared_words.specs.Opened.{setup_of};
+ghost use Rattle.shared_words.specs.Seats.{IsOf};
+ghost use Rattle.shared_memory.specs.Loaded.{opened_of};
+
+use crate::Loaded;
+use shared_words::{SharedWords, WriterSeat};
+use std::marker::Model;
+
+/// The words of a running table, as the writer changes them through its seat.
+#[derive(Drop)]
+pub struct SharedMemory<'a, const FIRST: u32, const SECOND: u32> {
+    pub(crate) table: &'a SharedWords<Loaded<FIRST, SECOND>>,
+    pub(crate) seat: &'a mut WriterSeat,
+    /// The newest token.
+    pub(crate) token: u64,
+}
+
+impl<'a, const FIRST: u32, const SECOND: u32> Model for SharedMemory<'a, FIRST, SECOND> {
+    ghost use Rattle.shared_memory.specs.Lent.{Lent, coded_lent, IsAt};
+    ghost use Rattle.shared_words.specs.Seats.{IsOf};
+    ghost use Rattle.shared_memory.specs.Loaded.{opened_of};
+
+    ghost Value = { Lent };
+
+    ghost coded = { coded_lent };
+
+    ghost view = { λ a. record {
+      name = a.seat.ghost_name;
+      table = a.seat.now.place.table_id;
+      view = a.seat.now.place.me.0;
+    } };
+
+    ghost invariant = { λ a. IsOf a.table.now.board.shared.table_id
+        (opened_of FIRST SECOND a.table.now.board.shared.key.cells
+        a.table.now.board.shared.key.rules.rules a.table.now.board.shared.key.groups
+        a.table.now.board.shared.key.workers a.table.now.board.shared.key.token)
+        a.table.now.layout a.seat.now.place.table_id a.seat.now.place.me.0
+        × IsAt a.seat.now.place.me.0 a.token };
+}
+
+impl<'a, const FIRST: u32, const SECOND: u32> SharedMemory<'a, FIRST, SECOND> {
+    /// Borrows the table and its writer's seat.
+    pub fn new(
+        table: &'a SharedWords<Loaded<FIRST, SECOND>>,
+        seat: &'a mut WriterSeat,
+    ) -> SharedMemory<'a, FIRST, SECOND>
+        requires own { IsOf table.now.board.shared.table_id
+            (opened_of FIRST SECOND table.now.board.shared.key.cells
+            table.now.board.shared.key.rules.rules table.now.board.shared.key.groups
+            table.now.board.shared.key.workers table.now.board.shared.key.token)
+            table.now.layout seat.old.place.table_id seat.old.place.me.0 }
+        requires token { (tables (setup_of seat.old.place.me.0.opening) seat.old.place.me.0.seen).token
+            ≤ 2 ^ 62 }
+        requires updates { begun (tables (setup_of seat.old.place.me.0.opening)
+            seat.old.place.me.0.seen) ≤ 2 ^ 61 }
+        ensures name { result.name ≡ seat.entry.ghost_name }
+        ensures table { result.table ≡ seat.old.place.table_id }
+        ensures view { result.view ≡ seat.old.place.me.0 }
+    {
+        let token = seat.token(table);
+        SharedMemory { table, seat, token }
+    }
+
+    /// The seat, which has made the steps of all that was called.
+    pub fn done(self) -> &'a mut WriterSeat
+        ensures name { result.ghost_name ≡ self.entry.name }
+        ensures table { result.now.place.table_id ≡ self.entry.table }
+        ensures view { result.now.place.me.0 ≡ self.entry.view }
+    {
+        self.seat
+    }
+}
