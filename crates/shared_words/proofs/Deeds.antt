@@ -39,7 +39,7 @@ gains_on r v w g =
       later = subst (IsLater v.seen) (sym same) g.later;
     }
 
-later_longer : (xs ys : List WriterStep) → IsLater xs ys → length xs ≤ length ys
+pub later_longer : (xs ys : List WriterStep) → IsLater xs ys → length xs ≤ length ys
 later_longer xs ys h = omega (arith, ap length h.1, length-append h.0 xs)
 
 pub goes_on : (u v w : View) → GoesOn u v → GoesOn v w → GoesOn u w
@@ -53,7 +53,7 @@ pub gains_state : (r : WorkerStep) (v w : View) (g : Gains r v w)
 gains_state r v w g = ap (λ (x : View). worker_by x.own) g.view
 
 -- steps one after another
-goes_after : (newer older : List WorkerStep) (u v w : View) → Goes newer v w → Goes older u v
+pub goes_after : (newer older : List WorkerStep) (u v w : View) → Goes newer v w → Goes older u v
     → Goes (newer ++ older) u w
 goes_after [] older u v w new old = subst (Goes older u) (sym new) old
 goes_after (s ∷ newer) older u v w new old = (new.0, goes_after newer older u v new.0 new.1 old, new.2)
@@ -86,7 +86,7 @@ firsts_are r v w first g is =
     let same : w.opening.first ≡ first = ap (λ (x : View). x.opening.first) g.view ∙ is in
     firsts ∙ ap (λ n. 2 ^ n) same
 
-answered : (now a : ℕ) (e : Entry) → IsLast e → read_first now a e ≡ Answered a (hop_in e) now now
+pub answered : (now a : ℕ) (e : Entry) → IsLast e → read_first now a e ≡ Answered a (hop_in e) now now
 answered now a Miss last = refl
 answered now a (Hop hop depth) last = refl
 answered now a (Group group) last = absurd last

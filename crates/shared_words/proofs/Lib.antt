@@ -4,3 +4,4 @@ pub mod Workings
 pub mod Reading
 pub mod Meetings
 pub mod Deeds
+pub mod Together

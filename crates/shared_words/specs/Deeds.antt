@@ -1,11 +1,11 @@
 -- Meaning: what a whole deed of a worker gains its view: a report, or a lookup of one address (DPDK
 -- Programmer's Guide, "RCU Library": a worker comes online, is quiescent, goes offline; Gupta, Lin and
 -- McKeown, INFOCOM 1998, section 3: a lookup reads one word or two).
-use Rattle.std.specs.Prelude.{ℕ, ◌≡◌, ◌≤◌, List, [], ◌∷◌, ◌++◌, length, Option, Some, None}
+use Rattle.std.specs.Prelude.{ℕ, ◌≡◌, ◌≤◌, List, [], ◌∷◌, ◌++◌, All, map, reverse, length, Option, Some, None}
 use Rattle.lpm_entry.specs.Words.{entry_in, hop_in}
 use Rattle.lpm_trace.specs.declared.step.WorkerStep.{WorkerStep}
 use Rattle.lpm_trace.specs.declared.step.WorkerStep.TheVariants.{Begins, LoadFirst, LoadSecond, Ends}
-use Rattle.lpm_trace.specs.Workers.{Online, Answered, Seen}
+use Rattle.lpm_trace.specs.Workers.{Online, Probe, Answered, Seen, AreBegun, AreAnswered, read_first}
 use Rattle.lpm_trace.specs.Trace.{worker_by}
 use Rattle.lpm_trace.specs.Laws.{IsLegalAtPlace}
 use Rattle.shared_words.specs.declared.view.View.{View}
@@ -58,3 +58,59 @@ pub record LooksUp (addr : ℕ) (hop : Option ℕ) (lo hi : ℕ) (v w : View) : 
   pub versions : (seen.lo ≡ lo) × (seen.hi ≡ hi)
   pub after : length v.seen ≤ seen.first
   pub legal : IsLegalAtPlace (setup_of v.opening) w.seen seen
+
+-- ---- a lookup of several addresses
+
+-- the addresses with their first words, each of which was read at its place
+abbrev pub first_words : List ℕ → List ℕ → List ℕ → List Probe
+first_words (n ∷ places) (a ∷ addrs) (word ∷ words) =
+    read_first n a (entry_in word) ∷ first_words places addrs words
+first_words other addrs words = []
+
+-- the first words of the addresses are loaded, after all that the worker had seen of the writer's steps
+pub record LoadsFirsts (addrs words : List ℕ) (v w : View) : Type 0 where
+  pub steps : Goes (map LoadFirst (reverse words)) v w
+  pub rest : GoesOn v w
+  pub places : List ℕ
+  pub count : length places ≡ length addrs
+  pub after : All (λ place. length v.seen ≤ place) places
+  pub state : worker_by w.own
+      ≡ record (worker_by v.own) { probes = first_words places addrs words }
+
+-- the next address without its answer is this one, with this first word
+pub record IsNextWith (addr word : ℕ) (probes : List Probe) : Type 0 where
+  pub before : List Probe
+  pub rest : List Probe
+  pub first : ℕ
+  pub answered : AreAnswered before
+  pub begun : AreBegun rest
+  pub split : probes ≡ before ++ read_first first addr (entry_in word) ∷ rest
+
+-- the word that answers is loaded, where that isn't the first word
+pub record LoadsLast (addr word last : ℕ) (v w : View) : Type 0 where
+  pub seconds : List ℕ
+  pub steps : Goes (map LoadSecond seconds) v w
+  pub rest : GoesOn v w
+  pub state : (next : IsNextWith addr word (worker_by v.own).probes) → (until : ℕ)
+      × (worker_by w.own ≡ record (worker_by v.own) {
+        probes = next.before ++ Answered addr (hop_in (entry_in last)) next.first until ∷ next.rest;
+      })
+
+-- the addresses are looked up together: the sequence is loaded, the first words, those second words that
+-- answer, and the sequence again. These are the worker's newest lookups. Each is legal, and its words were
+-- loaded after all that the worker had seen of the writer's steps.
+pub record LooksUpAll (addrs : List ℕ) (hops : List (Option ℕ)) (lo hi : ℕ) (v w : View) : Type 0 where
+  pub low : ℕ
+  pub words : List ℕ
+  pub seconds : List ℕ
+  pub high : ℕ
+  pub steps : Goes (Ends high ∷ (map LoadSecond seconds ++ (map LoadFirst words ++ Begins addrs low ∷ []))) v w
+  pub rest : GoesOn v w
+  pub online : (worker_by w.own).phase ≡ Online
+  pub seen : List Seen
+  pub finished : (worker_by w.own).finished ≡ reverse seen ++ (worker_by v.own).finished
+  pub addrs_are : map (λ (s : Seen). s.addr) seen ≡ addrs
+  pub hops_are : map (λ (s : Seen). s.hop) seen ≡ hops
+  pub versions : All (λ s. (s.lo ≡ lo) × (s.hi ≡ hi)) seen
+  pub after : All (λ s. length v.seen ≤ s.first) seen
+  pub legal : All (IsLegalAtPlace (setup_of v.opening) w.seen) seen
