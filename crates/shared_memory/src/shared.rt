@@ -5,6 +5,7 @@ ghost use Rattle.lpm_trace.specs.Tables.{tables, begun};
 ghost use Rattle.shared_words.specs.Opened.{setup_of};
 ghost use Rattle.shared_words.specs.Seats.{IsOf};
 ghost use Rattle.shared_memory.specs.Loaded.{opened_of};
+ghost use Rattle.shared_memory.specs.Lent.{SharedDid, left_by};
 
 use crate::Loaded;
 use shared_words::{SharedWords, WriterSeat};
@@ -60,6 +61,7 @@ impl<'a, const FIRST: u32, const SECOND: u32> SharedMemory<'a, FIRST, SECOND> {
         ensures name { result.name ≡ seat.entry.ghost_name }
         ensures table { result.table ≡ seat.old.place.table_id }
         ensures view { result.view ≡ seat.old.place.me.0 }
+        ensures did { SharedDid result (setup_of seat.old.place.me.0.opening) seat.old.place.me.0.seen }
     {
         let token = seat.token(table);
         SharedMemory { table, seat, token }
@@ -70,6 +72,8 @@ impl<'a, const FIRST: u32, const SECOND: u32> SharedMemory<'a, FIRST, SECOND> {
         ensures name { result.ghost_name ≡ self.entry.name }
         ensures table { result.now.place.table_id ≡ self.entry.table }
         ensures view { result.now.place.me.0 ≡ self.entry.view }
+        ensures token { (left_by self.entry).token ≤ 2 ^ 62 }
+        ensures updates { begun (left_by self.entry) ≤ 2 ^ 61 }
     {
         self.seat
     }

@@ -261,7 +261,8 @@ impl WriterSeat {
             .load::<Looks>(&mut self.place, table.layout.sequence_at())
     }
 
-    /// The token, which this writer alone changes. It is no step.
+    /// The token, which this writer alone changes. It is no step. Each of the writer's steps might come
+    /// after those before it.
     #[inline]
     pub fn token<T: Opens>(&mut self, table: &SharedWords<T>) -> u64
         requires own { IsOf table.now.board.shared.table_id (T.opened table.now.board.shared.key)
@@ -269,6 +270,7 @@ impl WriterSeat {
         ensures same { self.new ≡ self.old }
         ensures value { result ≡ (tables (setup_of self.old.place.me.0.opening)
             self.old.place.me.0.seen).token }
+        ensures written { IsWritten (setup_of self.old.place.me.0.opening) self.old.place.me.0.seen }
     {
         table
             .board
