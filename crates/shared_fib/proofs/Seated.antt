@@ -1,0 +1,90 @@
+-- A command over the memory of a running table is one by the writer's steps, and of what the seat knows it
+-- changes those alone.
+use Rattle.std.proofs.Common.{ℕ, ◌≡◌, ◌/◌, ◌+◌, ◌%◌, ◌^◌, ◌≤◌, refl, ap, sym, subst, ◌∙◌, List, [], Result}
+use Rattle.atomic_table.specs.Seated.{TableId}
+use Rattle.lpm_trace.specs.declared.step.WriterStep.{WriterStep}
+use Rattle.lpm_trace.specs.Tables.{Setup, Tables, tables, begun, done}
+use Rattle.lpm_bits.specs.Network.{Network}
+use Rattle.lpm_limits.specs.declared.config.Config.{Config}
+use Rattle.lpm_limits.specs.declared.refusal.Refusal.{Refusal}
+use Rattle.lpm_rules.specs.RuleMap.{RuleMap}
+use Rattle.lpm_rules.specs.declared.Put.{Put}
+use Rattle.defer_queue.specs.declared.Reclaimed.{Reclaimed}
+use Rattle.fib_model.specs.Outcomes.{Adds, Deletes, Flushes, Frees}
+use Rattle.lpm_writer.specs.declared.books.Books.{Books}
+use Rattle.fib_model.specs.State.{State}
+use Rattle.lpm_writer.specs.Traced.{Traced, by_writer, by_steps}
+use Rattle.lpm_writer.specs.Resting.{state_of}
+use Rattle.lpm_writer.proofs.StepsAlone.{adds_alone, deletes_alone, flushes_alone, frees_alone}
+use Rattle.shared_words.specs.declared.view.View.{View}
+use Rattle.shared_words.specs.Opened.{setup_of}
+use Rattle.shared_memory.specs.Lent.{Lent, SharedDid, SharedDoes}
+use Rattle.shared_fib.specs.Running.{OnlySees}
+
+-- the step leads from the first memory to the second
+abbrev pub does_in : Lent → WriterStep → Lent → Type 0
+does_in m s z = SharedDoes s m z
+
+abbrev pub unseeing : View → View
+unseeing v = record v { seen = [] }
+
+-- what no step changes
+abbrev pub Kept : Type 0
+Kept = ℕ × (TableId × View)
+
+abbrev pub kept : Lent → Kept
+kept m = (m.name, (m.table, unseeing m.view))
+
+pub stays : (m : Lent) (s : WriterStep) (z : Lent) → does_in m s z → kept z ≡ kept m
+stays m s z does = λ i. (does.name i, (does.table i, ap unseeing does.view i))
+
+module _ (first second : ℕ) (c : Setup) (config : Config) (m z : Lent) (steps later : List WriterStep)
+    (R R' : RuleMap) (books books' : Books) (n n' : ℕ) where
+  abbrev before : State (Traced Lent)
+  before = state_of R (m, steps) books n
+
+  abbrev then : State (Traced Lent)
+  then = state_of R' (z, later) books' n'
+
+  abbrev before_alone : State (List WriterStep)
+  before_alone = state_of R steps books n
+
+  abbrev then_alone : State (List WriterStep)
+  then_alone = state_of R' later books' n'
+
+  abbrev StaysKept : Type 0
+  StaysKept = kept z ≡ kept m
+
+  pub added : (p : Network) (h : ℕ) (r : Result Put Refusal)
+      → Adds (by_writer does_in c) first second config before p h r then
+      → Adds (by_steps c) first second config before_alone p h r then_alone × StaysKept
+  added = adds_alone Lent does_in c Kept kept stays (kept m) first second config before then refl
+
+  pub deleted : (p : Network) (r : Result ℕ Refusal)
+      → Deletes (by_writer does_in c) first second config before p r then
+      → Deletes (by_steps c) first second config before_alone p r then_alone × StaysKept
+  deleted = deletes_alone Lent does_in c Kept kept stays (kept m) first second config before then refl
+
+  pub flushed : (r : Result ℕ Refusal)
+      → Flushes (by_writer does_in c) first second config before r then
+      → Flushes (by_steps c) first second config before_alone r then_alone × StaysKept
+  flushed = flushes_alone Lent does_in c Kept kept stays (kept m) first second config before then refl
+
+  pub freed : (max : ℕ) (r : Reclaimed)
+      → Frees (by_writer does_in c) before max r then
+      → Frees (by_steps c) before_alone max r then_alone × StaysKept
+  freed = frees_alone Lent does_in c Kept kept stays (kept m) first second config before then refl
+
+-- the memory's steps are these, and it has kept the rest
+pub only_sees : (m z : Lent) → kept z ≡ kept m → OnlySees m.view z.view
+only_sees m z same = ap (λ (k : Kept). record k.1.1 { seen = z.view.seen }) same
+
+-- where a ledger rests by the steps of the memory, it does by what the memory knows
+pub rests_after : (K : Setup → List WriterStep → Type 0) (z : Lent) (c : Setup) (later : List WriterStep)
+    → SharedDid z c later → K c later → K (setup_of z.view.opening) z.view.seen
+rests_after K z c later did rests =
+    subst (λ (x : Setup × List WriterStep). K x.0 x.1) (λ i. (did.opening i, did.steps_are i)) rests
+
+pub outcome_after : (K : List WriterStep → Type 0) (z : Lent) (c : Setup) (later : List WriterStep)
+    → SharedDid z c later → K later → K z.view.seen
+outcome_after K z c later did outcome = subst K did.steps_are outcome

@@ -1,0 +1,38 @@
+use Rattle.std.proofs.Common.{◌≡◌, ap, List}
+use Rattle.lpm_trace.specs.declared.step.WriterStep.{WriterStep}
+use Rattle.lpm_trace.specs.Tables.{Setup}
+use Rattle.fib_model.specs.Outcomes.{Frees}
+use Rattle.lpm_writer.specs.Traced.{by_steps}
+use Rattle.lpm_writer.specs.Resting.{IsResting, state_of}
+use Rattle.shared_words.specs.Opened.{setup_of}
+use Rattle.shared_memory.specs.Lent.{Lent}
+use Rattle.shared_fib.proofs.Seated.{Kept, kept, freed, only_sees, rests_after, outcome_after}
+use Rattle.shared_fib.proofs.commands.reclaim_over.Goals as goal
+
+pub returns : goal.returns
+returns g c =
+    let f = g.row.FIRST in
+    let s = g.row.SECOND in
+    let old = c.args.ledger.now in
+    let new = c.reclaim.new.ledger in
+    let m : Lent = c.args.memory.now in
+    let z : Lent = c.reclaim.new.memory in
+    let setup : Setup = setup_of m.view.opening in
+    let came = c.reclaim.ensures.frees setup m.view.seen c.requires.did c.requires.rests in
+    let all = freed f s setup old.config m z m.view.seen came.0
+    old.rules.rules new.rules.rules old.books new.books old.versions new.versions
+    c.args.max c.reclaim.result came.3 in
+    let same : kept z ≡ kept m = all.1 in
+    let Outcome : List WriterStep → Type 0 = λ later. Frees (by_steps setup)
+    (state_of old.rules.rules m.view.seen old.books old.versions) c.args.max c.reclaim.result
+    (state_of new.rules.rules later new.books new.versions) in
+    let Rests : Setup → List WriterStep → Type 0 = λ by later.
+    IsResting f s by later new.config new.rules new.books new.versions in
+    record {
+      frees = outcome_after Outcome z setup came.0 came.1 all.0;
+      rests = rests_after Rests z setup came.0 came.1 came.2;
+      name = ap (λ (k : Kept). k.0) same;
+      table = ap (λ (k : Kept). k.1.0) same;
+      view = only_sees m z same;
+      config = c.reclaim.ensures.config;
+    }
