@@ -1,1 +1,2 @@
 pub mod Seated
+pub mod Live

@@ -1,9 +1,9 @@
 -- A command over the memory of a running table is one by the writer's steps, and of what the seat knows it
 -- changes those alone.
-use Rattle.std.proofs.Common.{ℕ, ◌≡◌, ◌/◌, ◌+◌, ◌%◌, ◌^◌, ◌≤◌, refl, ap, sym, subst, ◌∙◌, List, [], Result}
+use Rattle.std.proofs.Common.{ℕ, ◌≡◌, refl, ap, subst, List, [], Result}
 use Rattle.atomic_table.specs.Seated.{TableId}
 use Rattle.lpm_trace.specs.declared.step.WriterStep.{WriterStep}
-use Rattle.lpm_trace.specs.Tables.{Setup, Tables, tables, begun, done}
+use Rattle.lpm_trace.specs.Tables.{Setup}
 use Rattle.lpm_bits.specs.Network.{Network}
 use Rattle.lpm_limits.specs.declared.config.Config.{Config}
 use Rattle.lpm_limits.specs.declared.refusal.Refusal.{Refusal}

@@ -1,5 +1,5 @@
 -- Proofs of what the trait asks of a memory: what one more step leaves of the memory of a running table.
-use Rattle.std.proofs.Common.{ℕ, ◌≡◌, List, ◌∷◌, refl, ap, sym, subst, ◌∙◌}
+use Rattle.std.proofs.Common.{◌≡◌, List, ◌∷◌, ap, sym, subst, ◌∙◌}
 use Rattle.lpm_trace.specs.declared.step.WriterStep.{WriterStep}
 use Rattle.lpm_trace.specs.Tables.{Setup, tables}
 use Rattle.lpm_trace.specs.Writer.{MayStep}

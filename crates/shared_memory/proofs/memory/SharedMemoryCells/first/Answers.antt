@@ -1,4 +1,4 @@
-use Rattle.std.proofs.Common.{◌≡◌, length, ap, arith}
+use Rattle.std.proofs.Common.{length, ap, arith}
 use Rattle.shared_words.specs.Opened.{Opened, setup_of}
 use Rattle.shared_words.proofs.Laying.{firsts_length}
 use Rattle.shared_memory.specs.Lent.{Lent, left_by}
