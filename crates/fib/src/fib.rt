@@ -7,7 +7,7 @@ ghost use Rattle.lpm_rules.specs.Longest.{IsLongestHop};
 ghost use Rattle.lpm_limits.specs.Limits.{IsConfig};
 ghost use Rattle.fib_model.specs.Outcomes.{groups_in_use, Adds, Deletes, Flushes, Frees};
 ghost use Rattle.fib_model.specs.Counting.{by_counters, counting};
-ghost use Rattle.fib.specs.Fib.{fresh, told};
+ghost use Rattle.fib.specs.Fib.{IsSound, fresh, table_of, told};
 ghost use Rattle.fib_model.specs.declared.command.Report.TheVariants as report;
 
 use super::OpenError;
@@ -59,6 +59,16 @@ impl<const FIRST: u32, const SECOND: u32> Fib<FIRST, SECOND> {
     {
         let (ledger, memory) = open(alloc, config)?;
         Ok(Fib { ledger, memory })
+    }
+
+    /// The writer's ledger and the memory of one thread, for a table that goes on in another memory.
+    pub fn into_parts(self) -> (Ledger<FIRST, SECOND>, PlainMemory<FIRST, SECOND>)
+        ensures sound { IsSound FIRST SECOND result.0 result.1 }
+        ensures config { result.0.config ≡ self.entry.config }
+        ensures table { table_of result.0 result.1 ≡ self.entry.table }
+    {
+        let Fib { ledger, memory } = self;
+        (ledger, memory)
     }
 
     /// The next hop of the rule of this very prefix; none where it has no rule.

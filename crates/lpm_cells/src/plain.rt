@@ -63,6 +63,20 @@ impl<const FIRST: u32, const SECOND: u32> PlainCells<FIRST, SECOND> {
         self.second_words.len()
     }
 
+    /// The first words, of each the low 32 bits.
+    pub fn first_words(&self) -> &[u32]
+        ensures { result.now ≡ self.now.firsts }
+    {
+        self.first_words.as_slice()
+    }
+
+    /// The words of all groups, of each the low 32 bits.
+    pub fn second_words(&self) -> &[u32]
+        ensures { result.now ≡ self.now.seconds }
+    {
+        self.second_words.as_slice()
+    }
+
     /// Whether the first word at this place is a group's.
     #[inline]
     pub fn is_linked(&self, i: usize) -> bool
