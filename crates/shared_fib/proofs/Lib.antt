@@ -1,2 +1,10 @@
 pub mod Seated
 pub mod Live
+pub mod Rests
+pub mod Seats
+pub mod Backwards
+pub mod Checked
+pub mod AllFreed
+pub mod Begins
+pub mod Passes
+pub mod Waited

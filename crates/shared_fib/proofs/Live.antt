@@ -38,7 +38,7 @@ unused_retired : (t : ℕ) → Unused ≡ Retired t → ⊥
 unused_retired t e = cc
 
 -- no group of a new table was ever retired
-never_retired : (x : Option (Option ℕ)) (t : ℕ) → status_of x ≡ Retired t → ⊥
+pub never_retired : (x : Option (Option ℕ)) (t : ℕ) → status_of x ≡ Retired t → ⊥
 never_retired (Some (Some block)) t e = linked_retired block t e
 never_retired (Some None) t e = unused_retired t e
 never_retired None t e = unused_retired t e

@@ -1,10 +1,85 @@
--- Meaning: the writer of a running table between its commands (this project's).
-use Rattle.std.specs.Prelude.{ℕ, ◌≡◌, ◌≤◌, ◌^◌}
-use Rattle.lpm_trace.specs.Tables.{tables}
+-- Meaning: a running table, its writer and its passes, as their callers see them (DPDK Programmer's
+-- Guide, "RCU Library": each thread registers, comes online and reports; this project's otherwise).
+use Rattle.std.specs.Prelude.{ℕ, ◌≡◌, ◌≤◌, ◌<◌, ◌^◌, Bool, true, false, List, [], ◌∷◌, length, slice_get, Option, Some, None, refl}
+use Rattle.std.specs.FinMap as map
+use Rattle.std.specs.Coded.{Coded, code_by, coded×, coded_ℕ, coded_list}
+use Rattle.atomic_table.specs.Seated.{TableId, table_id_coded}
+use Rattle.lpm_bits.specs.Widths.{IsShape}
+use Rattle.lpm_limits.specs.declared.config.Config.{Config}
+use Rattle.lpm_rules.specs.RuleMap.{RuleMap, coded_network}
+use Rattle.fib_model.specs.State.{State}
+use Rattle.fib.specs.Fib.{coded_config}
+use Rattle.lpm_trace.specs.declared.step.WriterStep.{WriterStep}
+use Rattle.lpm_trace.specs.contracts.step.WriterStep as step_row
+use Rattle.lpm_trace.specs.declared.step.WorkerStep.TheVariants.{StoreOffline}
+use Rattle.lpm_trace.specs.Tables.{Setup, Tables, tables, addresses, answer, IsAnswer, done, begun}
+use Rattle.lpm_trace.specs.Trace.{worker_by}
+use Rattle.lpm_trace.specs.Workers.{Phase, Offline, Online}
 use Rattle.lpm_writer.specs.declared.ledger.Ledger.{Ledger}
 use Rattle.lpm_writer.specs.Resting.{IsResting}
+use Rattle.shared_words.specs.declared.layout.Layout.{Layout}
 use Rattle.shared_words.specs.declared.view.View.{View}
-use Rattle.shared_words.specs.Opened.{setup_of}
+use Rattle.shared_words.specs.declared.view.Role.TheVariants.{Worker}
+use Rattle.shared_words.specs.contracts.view.View as view_row
+use Rattle.shared_words.specs.Opened.{Opened, coded_opened, setup_of}
+use Rattle.shared_words.specs.Layout.{word_count}
+use Rattle.shared_words.specs.Deeds.{Goes, GoesOn}
+
+-- ---- the table
+
+-- which running table: its words, and what it was opened with
+pub record Identity : Type 0 where
+  pub words : TableId
+  pub opening : Opened
+
+-- what the traces of the table begin with
+abbrev pub setup : Identity → Setup
+setup id = setup_of id.opening
+
+-- the table is of these widths and has a word for each place
+pub record IsFitted (first second : ℕ) (id : Identity) (layout : Layout) : Type 0 where
+  pub shape : IsShape first second
+  pub first_bits : id.opening.first ≡ first
+  pub second_bits : id.opening.second ≡ second
+  pub firsts : layout.firsts ≡ length id.opening.firsts
+  pub seconds : layout.seconds ≡ length id.opening.seconds
+  pub workers : layout.workers ≡ id.opening.workers
+  pub words : id.words.words ≡ word_count id.opening
+  pub low : word_count id.opening < 2 ^ 63
+
+-- ---- its writer
+
+-- the table that it changes, its limits, and what outcomes depend on, where the writer's steps, the
+-- newest first, stand for the readers
+pub record WriterState : Type 0 where
+  pub identity : Identity
+  pub config : Config
+  pub table : State (List WriterStep)
+
+-- the writer's steps so far, and what they leave
+abbrev pub steps_of : WriterState → List WriterStep
+steps_of w = w.table.readers
+
+abbrev pub left_by : WriterState → Tables
+left_by w = tables (setup w.identity) (steps_of w)
+
+-- no update runs; the versions are those that were done, the rules are those of the last one, and by
+-- them the words answer each address
+pub record IsAtRest (w : WriterState) : Type 0 where
+  pub done : done (left_by w) ≡ w.table.begun
+  pub begun : begun (left_by w) ≡ w.table.begun
+  pub rules : (left_by w).history w.table.begun ≡ w.table.rules
+  pub answers : (a : ℕ) → a < addresses (setup w.identity)
+      → IsAnswer (setup w.identity) w.table.rules a
+      (answer (setup w.identity) (left_by w).words a)
+
+-- the writer of a table that was just opened with these rules
+abbrev pub opens_with : Identity → Config → RuleMap → WriterState
+opens_with id config rules = record {
+  identity = id;
+  config = config;
+  table = record { rules = rules; readers = []; limbo = []; begun = 0 };
+}
 
 -- after the steps of the seat the ledger rests, and the tokens are not past their bound
 pub record IsReady (first second : ℕ) (ledger : Ledger first second) (v : View) : Type 0 where
@@ -15,3 +90,85 @@ pub record IsReady (first second : ℕ) (ledger : Ledger first second) (v : View
 -- of what the seat knows only the writer's steps have changed
 abbrev pub OnlySees : View → View → Type 0
 OnlySees v w = w ≡ record v { seen = w.seen }
+
+-- ---- its passes
+
+-- the words that the worker reads, and what it knows
+pub record PassState : Type 0 where
+  pub words : TableId
+  pub view : View
+
+abbrev pub identity_of : PassState → Identity
+identity_of p = record { words = p.words; opening = p.view.opening }
+
+abbrev pub phase_of : PassState → Phase
+phase_of p = (worker_by p.view.own).phase
+
+abbrev pub IsOnline : PassState → Type 0
+IsOnline p = phase_of p ≡ Online
+
+abbrev pub IsOffline : PassState → Type 0
+IsOffline p = phase_of p ≡ Offline
+
+abbrev pub phase_by : Bool → Phase
+phase_by true = Online
+phase_by false = Offline
+
+-- its number is one of the table's workers, and it is online or offline as the flag says
+pub record IsPass (number : ℕ) (v : View) (online : Bool) : Type 0 where
+  pub inside : number < v.opening.workers
+  pub phase : (worker_by v.own).phase ≡ phase_by online
+
+-- the pass of worker k of this table, which is offline
+pub record IsPassOf (id : Identity) (k : ℕ) (p : PassState) : Type 0 where
+  pub identity : identity_of p ≡ id
+  pub worker : p.view.role ≡ Worker k
+  pub offline : IsOffline p
+
+-- the passes that were not registered, by their numbers
+abbrev pub IsBenchOf : Identity → List (Option PassState) → Type 0
+IsBenchOf id passes = (length passes ≡ id.opening.workers)
+    × ((k : ℕ) (p : PassState) → slice_get passes k ≡ Some (Some p) → IsPassOf id k p)
+
+-- each worker's pass is there, and has made no step
+abbrev pub IsFullBench : Identity → List (Option PassState) → Type 0
+IsFullBench id passes = IsBenchOf id passes
+    × ((k : ℕ) → k < id.opening.workers
+    → (p : PassState) × (slice_get passes k ≡ Some (Some p)) × (p.view.own ≡ []))
+
+-- a pass that was online stores 0 in its counter; one that was offline does nothing
+abbrev pub Leaves : PassState → PassState → Type 0
+Leaves p q = (IsOnline p → Goes (StoreOffline ∷ []) p.view q.view) × (IsOffline p → q ≡ p)
+
+-- the number of a next hop, or the default where there is none
+abbrev pub hop_or : ℕ → Option ℕ → ℕ
+hop_or default (Some hop) = hop
+hop_or default None = default
+
+-- ---- states as pairs, which comparisons go by
+
+abbrev pub coded_identity : Coded Identity
+coded_identity = code_by (TableId × Opened) (coded× table_id_coded coded_opened)
+    (λ i. (i.words, i.opening)) (λ p. record { words = p.0; opening = p.1 }) (λ _. refl)
+
+abbrev pub coded_writer : Coded WriterState
+coded_writer =
+    code_by (Identity × (Config × (RuleMap × (List WriterStep × (List ℕ × ℕ)))))
+    (coded× coded_identity (coded× coded_config (coded× (map.code coded_network coded_ℕ)
+    (coded× (coded_list step_row.the_row.coded) (coded× (coded_list coded_ℕ) coded_ℕ)))))
+    (λ w. (w.identity, (w.config, (w.table.rules, (w.table.readers, (w.table.limbo, w.table.begun))))))
+    (λ p. record {
+      identity = p.0;
+      config = p.1.0;
+      table = record {
+        rules = p.1.1.0;
+        readers = p.1.1.1.0;
+        limbo = p.1.1.1.1.0;
+        begun = p.1.1.1.1.1;
+      };
+    })
+    (λ _. refl)
+
+abbrev pub coded_pass : Coded PassState
+coded_pass = code_by (TableId × View) (coded× table_id_coded view_row.the_row.coded)
+    (λ p. (p.words, p.view)) (λ p. record { words = p.0; view = p.1 }) (λ _. refl)

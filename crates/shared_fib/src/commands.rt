@@ -1,16 +1,18 @@
 //! A writer's commands over the memory of a running table, told by its steps.
 
-ghost use Rattle.std.specs.Prelude.{◌≡◌};
+ghost use Rattle.std.specs.Prelude.{◌≡◌, All, take};
 ghost use Rattle.fib_model.specs.Outcomes.{Adds, Deletes, Flushes, Frees};
 ghost use Rattle.lpm_writer.specs.Traced.{by_steps};
 ghost use Rattle.lpm_writer.specs.Resting.{IsResting, state_of};
+ghost use Rattle.lpm_writer.specs.Waiting.{tokens_of};
+ghost use Rattle.lpm_trace.specs.Laws.{IsChecked};
 ghost use Rattle.shared_words.specs.Opened.{setup_of};
 ghost use Rattle.shared_memory.specs.Lent.{SharedDid};
 ghost use Rattle.shared_words.specs.Seats.{IsOf};
 ghost use Rattle.shared_memory.specs.Loaded.{opened_of};
 ghost use Rattle.shared_fib.specs.Running.{IsReady, OnlySees};
 
-use crate::writer::SharedTable;
+use crate::table::Words;
 use defer_queue::Reclaimed;
 use lpm_bits::{Hop, Prefix};
 use lpm_rules::Put;
@@ -47,7 +49,7 @@ pub(crate) fn add_over<const FIRST: u32, const SECOND: u32>(
 pub(crate) fn add_by<const FIRST: u32, const SECOND: u32>(
     ledger: &mut Ledger<FIRST, SECOND>,
     seat: &mut WriterSeat,
-    table: &SharedTable<FIRST, SECOND>,
+    table: &Words<FIRST, SECOND>,
     prefix: &Prefix<FIRST, SECOND>,
     hop: Hop,
 ) -> Result<Put, Refusal>
@@ -100,7 +102,7 @@ pub(crate) fn delete_over<const FIRST: u32, const SECOND: u32>(
 pub(crate) fn delete_by<const FIRST: u32, const SECOND: u32>(
     ledger: &mut Ledger<FIRST, SECOND>,
     seat: &mut WriterSeat,
-    table: &SharedTable<FIRST, SECOND>,
+    table: &Words<FIRST, SECOND>,
     prefix: &Prefix<FIRST, SECOND>,
 ) -> Result<Hop, Refusal>
     requires own { IsOf table.now.board.shared.table_id
@@ -151,7 +153,7 @@ pub(crate) fn flush_over<const FIRST: u32, const SECOND: u32>(
 pub(crate) fn flush_by<const FIRST: u32, const SECOND: u32>(
     ledger: &mut Ledger<FIRST, SECOND>,
     seat: &mut WriterSeat,
-    table: &SharedTable<FIRST, SECOND>,
+    table: &Words<FIRST, SECOND>,
 ) -> Result<usize, Refusal>
     requires own { IsOf table.now.board.shared.table_id
         (opened_of FIRST SECOND table.now.board.shared.key.cells
@@ -185,7 +187,8 @@ pub(crate) fn reclaim_over<const FIRST: u32, const SECOND: u32>(
     requires did { SharedDid memory.old (setup_of memory.old.view.opening) memory.old.view.seen }
     requires rests { IsResting FIRST SECOND (setup_of memory.old.view.opening) memory.old.view.seen
         ledger.old.config ledger.old.rules ledger.old.books ledger.old.versions }
-    ensures frees { Frees (by_steps (setup_of memory.old.view.opening)) (state_of ledger.old.rules.rules memory.old.view.seen ledger.old.books ledger.old.versions)
+    ensures frees { Frees (by_steps (setup_of memory.old.view.opening))
+        (state_of ledger.old.rules.rules memory.old.view.seen ledger.old.books ledger.old.versions)
         max result
         (state_of ledger.new.rules.rules memory.new.view.seen ledger.new.books ledger.new.versions) }
     ensures rests { IsResting FIRST SECOND (setup_of memory.new.view.opening) memory.new.view.seen
@@ -201,7 +204,7 @@ pub(crate) fn reclaim_over<const FIRST: u32, const SECOND: u32>(
 pub(crate) fn reclaim_by<const FIRST: u32, const SECOND: u32>(
     ledger: &mut Ledger<FIRST, SECOND>,
     seat: &mut WriterSeat,
-    table: &SharedTable<FIRST, SECOND>,
+    table: &Words<FIRST, SECOND>,
     max: usize,
 ) -> Reclaimed
     requires own { IsOf table.now.board.shared.table_id
@@ -219,10 +222,14 @@ pub(crate) fn reclaim_by<const FIRST: u32, const SECOND: u32>(
     ensures ready { IsReady FIRST SECOND ledger.new seat.new.place.me.0 }
     ensures seat { seat.new.place.table_id ≡ seat.old.place.table_id }
     ensures view { OnlySees seat.old.place.me.0 seat.new.place.me.0 }
+    ensures checked { All (IsChecked (setup_of seat.old.place.me.0.opening) seat.new.place.me.0.seen)
+        (take result.freed (tokens_of ledger.old.books.queue.items)) }
     ensures config { ledger.new.config ≡ ledger.old.config }
 {
     let mut memory = SharedMemory::new(table, seat);
     let came = reclaim_over(ledger, &mut memory, max);
     memory.done();
+    // This look is no step. It tells that each token that has passed was checked.
+    let _ = seat.sequence(table);
     came
 }

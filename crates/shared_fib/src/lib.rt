@@ -1,10 +1,24 @@
 //! A running table: one writer changes it while workers look up.
 //!
-//! The table's words are shared (`shared_words`). Its writer keeps the ledger of `lpm_writer` and the writer's
-//! seat, and makes each command by way of `SharedMemory`: the same engine as that of one thread.
+//! The table's words are shared (`shared_words`). Its writer keeps the ledger of `lpm_writer` and the
+//! writer's seat, and makes each command by way of `SharedMemory`: the same engine as that of one thread.
+//! Each worker has a pass, by which it reports and looks up.
 #![tactic(auto)]
 
+mod bench;
 mod commands;
+pub mod laws;
+mod laying;
+mod opening;
+mod pass;
+mod reading;
+mod synchronizing;
+mod table;
 mod writer;
 
-pub use writer::{SharedTable, Writer};
+pub use bench::{Bench, RegisterError};
+pub use lpm_writer::Exhausted;
+pub use opening::{go_live, open};
+pub use pass::{FourHops, Pass};
+pub use table::SharedTable;
+pub use writer::Writer;

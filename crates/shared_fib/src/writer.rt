@@ -1,135 +1,130 @@
 //! The writer of a running table.
 
-ghost use Rattle.std.specs.Prelude.{◌≡◌};
+ghost use Rattle.std.specs.Prelude.{◌≡◌, All, take};
 ghost use Rattle.fib_model.specs.Outcomes.{Adds, Deletes, Flushes, Frees};
+ghost use Rattle.lpm_trace.specs.Laws.{IsChecked};
 ghost use Rattle.lpm_writer.specs.Traced.{by_steps};
 ghost use Rattle.lpm_writer.specs.Resting.{state_of};
-ghost use Rattle.shared_words.specs.Opened.{setup_of};
-ghost use Rattle.shared_words.specs.Seats.{IsOf};
-ghost use Rattle.shared_memory.specs.Loaded.{opened_of};
-ghost use Rattle.shared_fib.specs.Running.{IsReady, OnlySees};
+ghost use Rattle.shared_fib.specs.Running.{IsAtRest, IsReady, setup, steps_of};
 
+use crate::SharedTable;
 use crate::commands::{add_by, delete_by, flush_by, reclaim_by};
 use defer_queue::Reclaimed;
 use lpm_bits::{Hop, Prefix};
 use lpm_rules::Put;
 use lpm_writer::Ledger;
 use qsbr::Refusal;
-use shared_memory::Loaded;
-use shared_words::{SharedWords, WriterSeat};
-
-/// The words of a running table, which its writer and its workers share.
-pub type SharedTable<const FIRST: u32, const SECOND: u32> = SharedWords<Loaded<FIRST, SECOND>>;
+use shared_words::WriterSeat;
+use std::marker::Model;
 
 /// The one writer of a running table: what it keeps, and its seat.
+///
+/// Of its calls only an `add` that grows the rule list takes memory, and only `synchronize` waits. Each
+/// change is refused as `Exhausted` where fewer tokens than groups are left, or no version.
 #[derive(Drop)]
 pub struct Writer<const FIRST: u32, const SECOND: u32> {
-    pub ledger: Ledger<FIRST, SECOND>,
-    pub seat: WriterSeat,
+    pub(crate) ledger: Ledger<FIRST, SECOND>,
+    pub(crate) seat: WriterSeat,
+}
+
+impl<const FIRST: u32, const SECOND: u32> Model for Writer<FIRST, SECOND> {
+    ghost use Rattle.lpm_writer.specs.Resting.{state_of};
+    ghost use Rattle.shared_fib.specs.Running.{WriterState, coded_writer, IsReady};
+
+    ghost Value = { WriterState };
+
+    ghost coded = { coded_writer };
+
+    ghost view = { λ w. record {
+      identity = record { words = w.seat.place.table_id; opening = w.seat.place.me.0.opening };
+      config = w.ledger.config;
+      table = state_of w.ledger.rules.rules w.seat.place.me.0.seen w.ledger.books w.ledger.versions;
+    } };
+
+    ghost invariant = { λ w. IsReady FIRST SECOND w.ledger w.seat.place.me.0 };
 }
 
 impl<const FIRST: u32, const SECOND: u32> Writer<FIRST, SECOND> {
+    // The writer that keeps this ledger, and has this seat.
+    pub(crate) fn new(ledger: Ledger<FIRST, SECOND>, seat: WriterSeat) -> Self
+        requires { IsReady FIRST SECOND ledger seat.place.me.0 }
+        ensures { result ≡ record {
+          identity = record { words = seat.place.table_id; opening = seat.place.me.0.opening };
+          config = ledger.entry.config;
+          table = state_of ledger.entry.rules.rules seat.place.me.0.seen ledger.entry.books
+              ledger.entry.versions;
+        } }
+    {
+        Writer { ledger, seat }
+    }
+
     /// Adds a rule, or gives the prefix's rule another next hop. A rule that is there already stays, and is
-    /// `Unchanged`, whatever else holds. The refusals are those of `lpm_writer`'s `add`.
+    /// `Unchanged`, whatever else holds.
+    ///
+    /// The refusals, in the order of the checks: `Exhausted`; `TooManyRules` and `Memory`, where a new
+    /// rule has no room; and `NoGroups`, where a rule longer than `FIRST` bits is the first in its block,
+    /// no group is free, and the oldest in limbo is held or there is none. It names the worker that holds
+    /// that one.
     pub fn add(
         &mut self,
         table: &SharedTable<FIRST, SECOND>,
         prefix: &Prefix<FIRST, SECOND>,
         hop: Hop,
     ) -> Result<Put, Refusal>
-        requires own { IsOf table.now.board.shared.table_id
-            (opened_of FIRST SECOND table.now.board.shared.key.cells
-            table.now.board.shared.key.rules.rules table.now.board.shared.key.groups
-            table.now.board.shared.key.workers table.now.board.shared.key.token)
-            table.now.layout self.old.seat.place.table_id self.old.seat.place.me.0 }
-        requires ready { IsReady FIRST SECOND self.old.ledger self.old.seat.place.me.0 }
-        ensures adds { Adds (by_steps (setup_of self.old.seat.place.me.0.opening)) FIRST SECOND
-            self.old.ledger.config
-            (state_of self.old.ledger.rules.rules self.old.seat.place.me.0.seen
-            self.old.ledger.books self.old.ledger.versions)
-            prefix.now hop result
-            (state_of self.new.ledger.rules.rules self.new.seat.place.me.0.seen
-            self.new.ledger.books self.new.ledger.versions) }
-        ensures ready { IsReady FIRST SECOND self.new.ledger self.new.seat.place.me.0 }
-        ensures seat { self.new.seat.place.table_id ≡ self.old.seat.place.table_id }
-        ensures view { OnlySees self.old.seat.place.me.0 self.new.seat.place.me.0 }
-        ensures config { self.new.ledger.config ≡ self.old.ledger.config }
+        requires own { self.old.identity ≡ table.now }
+        ensures adds { Adds (by_steps (setup table.now)) FIRST SECOND self.old.config
+            self.old.table prefix.now hop result self.new.table }
+        ensures rests { IsAtRest self.new }
+        ensures own { self.new.identity ≡ self.old.identity }
+        ensures config { self.new.config ≡ self.old.config }
     {
-        add_by(&mut self.ledger, &mut self.seat, table, prefix, hop)
+        add_by(&mut self.ledger, &mut self.seat, &table.words, prefix, hop)
     }
 
-    /// Deletes the rule of this prefix, and returns its next hop. The refusals are those of `lpm_writer`'s
-    /// `delete`.
+    /// Deletes the rule of this prefix, and returns its next hop. Its addresses go to the longest rule that
+    /// is shorter and covers it, where there is one.
+    ///
+    /// The refusals: `NoSuchRule`, where the prefix has no rule, and else `Exhausted`.
     pub fn delete(
         &mut self,
         table: &SharedTable<FIRST, SECOND>,
         prefix: &Prefix<FIRST, SECOND>,
     ) -> Result<Hop, Refusal>
-        requires own { IsOf table.now.board.shared.table_id
-            (opened_of FIRST SECOND table.now.board.shared.key.cells
-            table.now.board.shared.key.rules.rules table.now.board.shared.key.groups
-            table.now.board.shared.key.workers table.now.board.shared.key.token)
-            table.now.layout self.old.seat.place.table_id self.old.seat.place.me.0 }
-        requires ready { IsReady FIRST SECOND self.old.ledger self.old.seat.place.me.0 }
-        ensures deletes { Deletes (by_steps (setup_of self.old.seat.place.me.0.opening)) FIRST SECOND
-            self.old.ledger.config
-            (state_of self.old.ledger.rules.rules self.old.seat.place.me.0.seen
-            self.old.ledger.books self.old.ledger.versions)
-            prefix.now result
-            (state_of self.new.ledger.rules.rules self.new.seat.place.me.0.seen
-            self.new.ledger.books self.new.ledger.versions) }
-        ensures ready { IsReady FIRST SECOND self.new.ledger self.new.seat.place.me.0 }
-        ensures seat { self.new.seat.place.table_id ≡ self.old.seat.place.table_id }
-        ensures view { OnlySees self.old.seat.place.me.0 self.new.seat.place.me.0 }
-        ensures config { self.new.ledger.config ≡ self.old.ledger.config }
+        requires own { self.old.identity ≡ table.now }
+        ensures deletes { Deletes (by_steps (setup table.now)) FIRST SECOND self.old.config
+            self.old.table prefix.now result self.new.table }
+        ensures rests { IsAtRest self.new }
+        ensures own { self.new.identity ≡ self.old.identity }
+        ensures config { self.new.config ≡ self.old.config }
     {
-        delete_by(&mut self.ledger, &mut self.seat, table, prefix)
+        delete_by(&mut self.ledger, &mut self.seat, &table.words, prefix)
     }
 
-    /// Deletes all rules, as one version, and returns how many there were. The refusals are those of
-    /// `lpm_writer`'s `flush`.
+    /// Deletes all rules, as one version, and returns how many there were. With none nothing changes, and
+    /// else `Exhausted` is the only refusal.
     pub fn flush(&mut self, table: &SharedTable<FIRST, SECOND>) -> Result<usize, Refusal>
-        requires own { IsOf table.now.board.shared.table_id
-            (opened_of FIRST SECOND table.now.board.shared.key.cells
-            table.now.board.shared.key.rules.rules table.now.board.shared.key.groups
-            table.now.board.shared.key.workers table.now.board.shared.key.token)
-            table.now.layout self.old.seat.place.table_id self.old.seat.place.me.0 }
-        requires ready { IsReady FIRST SECOND self.old.ledger self.old.seat.place.me.0 }
-        ensures flushes { Flushes (by_steps (setup_of self.old.seat.place.me.0.opening)) FIRST SECOND
-            self.old.ledger.config
-            (state_of self.old.ledger.rules.rules self.old.seat.place.me.0.seen
-            self.old.ledger.books self.old.ledger.versions)
-            result
-            (state_of self.new.ledger.rules.rules self.new.seat.place.me.0.seen
-            self.new.ledger.books self.new.ledger.versions) }
-        ensures ready { IsReady FIRST SECOND self.new.ledger self.new.seat.place.me.0 }
-        ensures seat { self.new.seat.place.table_id ≡ self.old.seat.place.table_id }
-        ensures view { OnlySees self.old.seat.place.me.0 self.new.seat.place.me.0 }
-        ensures config { self.new.ledger.config ≡ self.old.ledger.config }
+        requires own { self.old.identity ≡ table.now }
+        ensures flushes { Flushes (by_steps (setup table.now)) FIRST SECOND self.old.config
+            self.old.table result self.new.table }
+        ensures rests { IsAtRest self.new }
+        ensures own { self.new.identity ≡ self.old.identity }
+        ensures config { self.new.config ≡ self.old.config }
     {
-        flush_by(&mut self.ledger, &mut self.seat, table)
+        flush_by(&mut self.ledger, &mut self.seat, &table.words)
     }
 
-    /// Frees groups that wait in limbo, from the oldest on: at most `max`, up to the first that a worker holds.
-    /// It returns how many were freed, and the worker that stopped it.
+    /// Frees groups that wait in limbo, from the oldest on: at most `max`, up to the first that a worker
+    /// holds. It returns how many were freed, and the worker that stopped it.
     pub fn reclaim(&mut self, table: &SharedTable<FIRST, SECOND>, max: usize) -> Reclaimed
-        requires own { IsOf table.now.board.shared.table_id
-            (opened_of FIRST SECOND table.now.board.shared.key.cells
-            table.now.board.shared.key.rules.rules table.now.board.shared.key.groups
-            table.now.board.shared.key.workers table.now.board.shared.key.token)
-            table.now.layout self.old.seat.place.table_id self.old.seat.place.me.0 }
-        requires ready { IsReady FIRST SECOND self.old.ledger self.old.seat.place.me.0 }
-        ensures frees { Frees (by_steps (setup_of self.old.seat.place.me.0.opening))
-            (state_of self.old.ledger.rules.rules self.old.seat.place.me.0.seen
-            self.old.ledger.books self.old.ledger.versions)
-            max result
-            (state_of self.new.ledger.rules.rules self.new.seat.place.me.0.seen
-            self.new.ledger.books self.new.ledger.versions) }
-        ensures ready { IsReady FIRST SECOND self.new.ledger self.new.seat.place.me.0 }
-        ensures seat { self.new.seat.place.table_id ≡ self.old.seat.place.table_id }
-        ensures view { OnlySees self.old.seat.place.me.0 self.new.seat.place.me.0 }
-        ensures config { self.new.ledger.config ≡ self.old.ledger.config }
+        requires own { self.old.identity ≡ table.now }
+        ensures frees { Frees (by_steps (setup table.now)) self.old.table max result
+            self.new.table }
+        ensures checked { All (IsChecked (setup table.now) (steps_of self.new))
+            (take result.freed self.old.table.limbo) }
+        ensures rests { IsAtRest self.new }
+        ensures own { self.new.identity ≡ self.old.identity }
+        ensures config { self.new.config ≡ self.old.config }
     {
-        reclaim_by(&mut self.ledger, &mut self.seat, table, max)
+        reclaim_by(&mut self.ledger, &mut self.seat, &table.words, max)
     }
 }

@@ -7,6 +7,7 @@ use shared_words::Opens;
 
 /// A table of one thread, once no worker looks up any more: its words, its rules and its groups, the number
 /// of workers, and the newest token. A running table goes on from it.
+#[derive(Drop)]
 pub struct Loaded<const FIRST: u32, const SECOND: u32> {
     pub cells: PlainCells<FIRST, SECOND>,
     pub rules: Rules<FIRST, SECOND>,

@@ -1,0 +1,35 @@
+-- A table whose writer's ledger rests is at rest.
+use Rattle.std.proofs.Common.{arith, ◌≡◌, ℕ, ◌+◌, ◌/◌, ◌%◌, sym, ap, subst, ◌∙◌, List}
+use Rattle.lpm_cells.specs.Table.{entry_at}
+use Rattle.lpm_limits.specs.declared.config.Config.{Config}
+use Rattle.lpm_rules.specs.RuleMap.{RuleList}
+use Rattle.lpm_update.specs.Represents.{Represents}
+use Rattle.lpm_update.proofs.Promises.{best_hop}
+use Rattle.lpm_trace.specs.declared.step.WriterStep.{WriterStep}
+use Rattle.lpm_trace.specs.Tables.{Setup, tables, begun_at, done_at}
+use Rattle.lpm_writer.specs.declared.books.Books.{Books}
+use Rattle.lpm_writer.specs.Resting.{IsResting, state_of}
+use Rattle.lpm_writer.proofs.UpdateRuns.{fit}
+use Rattle.shared_fib.specs.Running.{Identity, WriterState, IsAtRest, setup}
+
+even_begun : (n : ℕ) → n % 2 ≡ 0 → begun_at n ≡ done_at n
+even_begun n even = omega (arith, even)
+
+-- the writer of this table, with this ledger
+abbrev pub writer_of : Identity → Config → RuleList → List WriterStep → Books → ℕ → WriterState
+writer_of id config rules steps books begun =
+    record { identity = id; config = config; table = state_of rules.rules steps books begun }
+
+pub at_rest : (f s : ℕ) (id : Identity) (config : Config) (rules : RuleList) (steps : List WriterStep)
+    (books : Books) (begun : ℕ) → IsResting f s (setup id) steps config rules books begun
+    → IsAtRest (writer_of id config rules steps books begun)
+at_rest f s id config rules steps books begun rests =
+    let c : Setup = setup id in
+    let w = tables c steps in
+    let represents = fit (λ a b. Represents a b rules.rules w.words) f s c rests.widths rests.represents in
+    record {
+      done = sym rests.versions;
+      begun = even_begun w.sequence rests.between.even ∙ sym rests.versions;
+      rules = ap (λ n. w.history n) rests.versions ∙ rests.version;
+      answers = λ a low. best_hop (c.first + c.second) rules.rules a (entry_at c.second w.words a) (represents.best a low);
+    }

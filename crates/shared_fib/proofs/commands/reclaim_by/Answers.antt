@@ -1,0 +1,31 @@
+use Rattle.std.proofs.Common.{ap, rules, subst, sym}
+use Rattle.fib_model.specs.Outcomes.{Frees}
+use Rattle.lpm_writer.specs.Traced.{by_steps}
+use Rattle.lpm_writer.specs.Resting.{state_of}
+use Rattle.shared_words.specs.declared.view.View.{View}
+use Rattle.shared_words.specs.declared.writer.WriterSeat.{WriterSeat}
+use Rattle.shared_words.specs.Opened.{Opened, setup_of}
+use Rattle.shared_words.specs.Seats.{AreChecked}
+use Rattle.shared_fib.specs.Running.{OnlySees}
+use Rattle.shared_fib.proofs.Checked.{freed_checked}
+use Rattle.shared_fib.proofs.commands.reclaim_by.Goals as goal
+
+pub returns-clause-checked : goal.returns-clause-checked
+returns-clause-checked g c =
+    let old = c.args.ledger.now in
+    let new = c.reclaim_over-came.new.ledger in
+    let v : View = c.args.seat.now.place.me.0 in
+    let w : View = c.sequence.new.self.place.me.0 in
+    let freed = c.reclaim_over-came.result in
+    let frees : Frees (by_steps (setup_of v.opening))
+    (state_of old.rules.rules v.seen old.books old.versions) c.args.max freed
+    (state_of new.rules.rules w.seen new.books new.versions) = search rules in
+    let sees : OnlySees v w = search rules in
+    let known : AreChecked w.opening w.seen =
+    subst (λ (s : WriterSeat). AreChecked s.place.me.0.opening s.place.me.0.seen)
+    (sym c.sequence.ensures.same) c.sequence.ensures.checked in
+    let checked : AreChecked v.opening w.seen =
+    subst (λ (o : Opened). AreChecked o w.seen) (ap (λ (x : View). x.opening) sees) known in
+    let rests = c.requires.ready.rests in
+    freed_checked v.opening v.seen w.seen _ old.books.queue.items c.args.max freed.freed freed.stopped _
+    rests.keeps.kept.retired frees.0 checked

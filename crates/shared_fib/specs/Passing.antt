@@ -1,0 +1,14 @@
+-- Meaning: the checks of a token that was started, up to the first that passes (DPDK Programmer's Guide,
+-- "RCU Library", and `rte_rcu_qsbr_synchronize` of its API: the check is made again until each reader has
+-- let the token pass).
+use Rattle.std.specs.Prelude.{ℕ, List, Ok}
+use Rattle.lpm_trace.specs.declared.step.WriterStep.{WriterStep}
+use Rattle.lpm_trace.specs.Tables.{Setup, tables}
+use Rattle.lpm_writer.specs.Traced.{Checks, AnyMemory, steps_alone}
+use Rattle.lpm_writer.specs.Synchronizing.{AreStopped}
+
+-- after the steps x some checks of the newest token were stopped, and then one passed; z are the steps then
+abbrev pub PassesAtLast : Setup → List WriterStep → List WriterStep → Type 0
+PassesAtLast c x z = (stops : ℕ) × (last : List WriterStep)
+    × AreStopped AnyMemory c stops (steps_alone x) (tables c x).token (steps_alone last)
+    × Checks AnyMemory c (steps_alone last) (tables c x).token (Ok tt) (steps_alone z)

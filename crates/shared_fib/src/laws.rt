@@ -1,0 +1,27 @@
+//! What holds of the answers of passes. Each function does nothing: its contract is the law.
+
+ghost use Rattle.shared_fib.specs.Laws.{AnswersAreOfVersions, VersionsStay};
+ghost use Rattle.shared_fib.specs.Laws.{LookupsNeverGoBack, PassesNeverGoBack};
+
+/// Each answer of a pass is that of the longest match in the rules of a version. That version stood while
+/// the address was looked up, and lies from `lo` to `hi`.
+pub fn answers_are_of_versions()
+    ensures { AnswersAreOfVersions }
+{}
+
+/// The rules of a version that was begun stay the same, whatever the writer does then.
+pub fn versions_stay()
+    ensures { VersionsStay }
+{}
+
+/// Of two finished lookups of one address, of which the second began with all that was known after the
+/// first, the later one's version can be chosen not less than the earlier one's.
+pub fn lookups_never_go_back()
+    ensures { LookupsNeverGoBack }
+{}
+
+/// Of two lookups of one address by one pass, the later one's version can be chosen not less than the
+/// earlier one's.
+pub fn passes_never_go_back()
+    ensures { PassesNeverGoBack }
+{}

@@ -1,0 +1,183 @@
+//! How a running table begins.
+
+ghost use Rattle.std.specs.Prelude.{◌≡◌, ◌↔◌, ℕ, ◌^◌, ◌<◌, ◌≤◌, [], IfOk, IfErr};
+ghost use Rattle.std.specs.FinMap as map;
+ghost use Rattle.lpm_bits.specs.Widths.{IsShape};
+ghost use Rattle.lpm_limits.specs.Limits.{IsConfig};
+ghost use Rattle.fib_model.specs.Counting.{by_counters};
+ghost use Rattle.fib.specs.Fib.{IsSound};
+ghost use Rattle.lpm_trace.specs.Tables.{IsSettled};
+ghost use Rattle.shared_words.specs.Opened.{setup_of};
+ghost use Rattle.shared_words.specs.Rule.{writer_view};
+ghost use Rattle.shared_words.specs.Seats.{IsOf};
+ghost use Rattle.shared_memory.specs.Loaded.{opened_of};
+ghost use Rattle.shared_fib.specs.Running.{IsAtRest, IsFullBench, opens_with};
+
+use crate::laying::lay;
+use crate::table::Words;
+use crate::{Bench, SharedTable, Writer};
+use defer_queue::DeferQueue;
+use fib::{Fib, OpenError};
+use lpm_memory::PlainMemory;
+use lpm_writer::{Books, Ledger};
+use qsbr::Config;
+use shared_memory::Loaded;
+use shared_words::{Layout, WriterSeat};
+use std::alloc::{AllocError, Global};
+
+/// The words of a table that goes on from this one, and the seat of its writer.
+fn open_words<const FIRST: u32, const SECOND: u32>(
+    alloc: Global,
+    loaded: &Loaded<FIRST, SECOND>,
+) -> Result<(Words<FIRST, SECOND>, WriterSeat), AllocError>
+    requires workers { loaded.now.workers ≤ 2048 }
+    requires settled { IsSettled (setup_of (opened_of FIRST SECOND loaded.now.cells
+        loaded.now.rules.rules loaded.now.groups loaded.now.workers loaded.now.token)) }
+    ensures key { IfOk result (λ r. r.0.board.shared.key ≡ loaded.now) }
+    ensures own { IfOk result (λ r. IsOf r.0.board.shared.table_id
+        (opened_of FIRST SECOND loaded.now.cells loaded.now.rules.rules loaded.now.groups
+        loaded.now.workers loaded.now.token)
+        r.0.layout r.1.place.table_id r.1.place.me.0) }
+    ensures view { IfOk result (λ r. r.1.place.me.0
+        ≡ writer_view (opened_of FIRST SECOND loaded.now.cells loaded.now.rules.rules
+        loaded.now.groups loaded.now.workers loaded.now.token)) }
+{
+    let layout = Layout {
+        firsts: loaded.cells.first_words().len(),
+        seconds: loaded.cells.second_words().len(),
+        workers: loaded.workers,
+    };
+    let words = lay(alloc, &loaded.cells, loaded.token, loaded.workers)?;
+    shared_words::open(alloc, &words, layout, loaded)
+}
+
+/// The limits, the queue of the groups that wait, and what a running table is opened with.
+fn load<const FIRST: u32, const SECOND: u32>(
+    ledger: Ledger<FIRST, SECOND>,
+    memory: PlainMemory<FIRST, SECOND>,
+) -> (Config, DeferQueue, Loaded<FIRST, SECOND>)
+    ensures config { result.0 ≡ ledger.entry.config }
+    ensures queue { result.1 ≡ ledger.entry.books.queue }
+    ensures loaded { result.2 ≡ record {
+      cells = memory.entry.cells;
+      rules = ledger.entry.rules;
+      groups = ledger.entry.books.groups;
+      workers = ledger.entry.config.workers;
+      token = memory.entry.domain.token;
+    } }
+    ensures low { 1 ≤ memory.entry.domain.token }
+    ensures high { memory.entry.domain.token ≤ 2 ^ 62 }
+{
+    let PlainMemory { cells, domain } = memory;
+    let Ledger {
+        config,
+        rules,
+        books,
+        versions: _,
+    } = ledger;
+    let Books {
+        groups,
+        queue,
+        passed: _,
+    } = books;
+    let loaded = Loaded {
+        cells,
+        rules,
+        groups,
+        workers: config.workers,
+        token: domain.token(),
+    };
+    (config, queue, loaded)
+}
+
+/// What the writer of a running table keeps at first: the rules that were loaded are version 0, and no token
+/// has passed.
+fn first_ledger<const FIRST: u32, const SECOND: u32>(
+    config: Config,
+    queue: DeferQueue,
+    loaded: Loaded<FIRST, SECOND>,
+) -> Ledger<FIRST, SECOND>
+    ensures { result ≡ record {
+      config = config;
+      rules = loaded.entry.rules;
+      books = record { groups = loaded.entry.groups; queue = queue; passed = 0 };
+      versions = 0;
+    } }
+{
+    let Loaded { rules, groups, .. } = loaded;
+    let books = Books {
+        groups,
+        queue,
+        passed: 0,
+    };
+    Ledger {
+        config,
+        rules,
+        books,
+        versions: 0,
+    }
+}
+
+/// A running table that goes on from these parts, where no group waits.
+fn begin<const FIRST: u32, const SECOND: u32>(
+    alloc: Global,
+    ledger: Ledger<FIRST, SECOND>,
+    memory: PlainMemory<FIRST, SECOND>,
+) -> Result<(SharedTable<FIRST, SECOND>, Writer<FIRST, SECOND>, Bench), AllocError>
+    requires sound { IsSound FIRST SECOND ledger memory }
+    requires none { ledger.books.queue.items ≡ [] }
+    ensures opened { IfOk result (λ r. r.1 ≡ opens_with r.0 ledger.entry.config ledger.entry.rules.rules) }
+    ensures token { IfOk result (λ r. r.0.opening.token ≡ memory.entry.domain.token) }
+    ensures workers { IfOk result (λ r. r.0.opening.workers ≡ ledger.entry.config.workers) }
+    ensures bench { IfOk result (λ r. IsFullBench r.0 r.2) }
+    ensures rests { IfOk result (λ r. IsAtRest r.1) }
+{
+    let (config, queue, loaded) = load(ledger, memory);
+    let (words, mut seat) = open_words(alloc, &loaded)?;
+    let bench = Bench::full(alloc, &words, &mut seat)?;
+    let ledger = first_ledger(config, queue, loaded);
+    Ok((SharedTable::new(words), Writer::new(ledger, seat), bench))
+}
+
+/// A running table without rules, its writer, and a pass for each worker, all offline. It refuses limits
+/// out of range, and ends with `Memory` where there is no room for the words, the groups or the workers.
+pub fn open<const FIRST: u32, const SECOND: u32>(
+    alloc: Global,
+    config: Config,
+) -> Result<(SharedTable<FIRST, SECOND>, Writer<FIRST, SECOND>, Bench), OpenError>
+    requires { IsShape FIRST SECOND }
+    ensures opened { IfOk result (λ r. r.1 ≡ opens_with r.0 config map.empty) }
+    ensures token { IfOk result (λ r. r.0.opening.token ≡ config.first_token) }
+    ensures workers { IfOk result (λ r. r.0.opening.workers ≡ config.workers) }
+    ensures bench { IfOk result (λ r. IsFullBench r.0 r.2) }
+    ensures rests { IfOk result (λ r. IsAtRest r.1) }
+    ensures limits { IfOk result (λ _. IsConfig config) }
+    ensures bad_config { IfErr result
+        (λ error. (error ≡ OpenError.BadConfig) ↔ (¬ IsConfig config)) }
+{
+    let fib = Fib::<FIRST, SECOND>::open(alloc, config)?;
+    Ok(go_live(alloc, fib)?)
+}
+
+/// Takes a table that was loaded on one thread, and goes on with it as a running one: its rules are version
+/// 0, no change of it is counted, and its words are copied. What waits in limbo is free again at once, since
+/// no worker is online.
+///
+/// The error is want of memory. Then the table is gone.
+pub fn go_live<const FIRST: u32, const SECOND: u32>(
+    alloc: Global,
+    mut fib: Fib<FIRST, SECOND>,
+) -> Result<(SharedTable<FIRST, SECOND>, Writer<FIRST, SECOND>, Bench), AllocError>
+    requires offline { (worker : ℕ) → worker < fib.config.workers
+        → ¬ by_counters.is_online fib.table.readers worker }
+    ensures opened { IfOk result (λ r. r.1 ≡ opens_with r.0 fib.entry.config fib.entry.table.rules) }
+    ensures token { IfOk result (λ r. r.0.opening.token ≡ fib.entry.table.readers.token) }
+    ensures workers { IfOk result (λ r. r.0.opening.workers ≡ fib.entry.config.workers) }
+    ensures bench { IfOk result (λ r. IsFullBench r.0 r.2) }
+    ensures rests { IfOk result (λ r. IsAtRest r.1) }
+{
+    let waiting = fib.counts().limbo;
+    let _ = fib.reclaim(waiting);
+    let (ledger, memory) = fib.into_parts();
+    begin(alloc, ledger, memory)
+}

@@ -1,0 +1,63 @@
+//! What a writer tells of its table.
+
+ghost use Rattle.std.specs.Prelude.{◌≡◌, ◌+◌, ◌^◌, ◌≤◌, length};
+ghost use Rattle.std.specs.FinMap as map;
+ghost use Rattle.fib_model.specs.Outcomes.{groups_in_use};
+ghost use Rattle.lpm_limits.specs.Limits.{IsConfig};
+ghost use Rattle.shared_fib.specs.Running.{IsAtRest, left_by};
+
+use crate::{SharedTable, Writer};
+use lpm_bits::{Hop, Prefix};
+use lpm_groups::Counts;
+use qsbr::Config;
+
+impl<const FIRST: u32, const SECOND: u32> Writer<FIRST, SECOND> {
+    /// The next hop of the rule of this very prefix; none where it has no rule.
+    pub fn get(&self, prefix: &Prefix<FIRST, SECOND>) -> Option<Hop>
+        ensures { result ≡ map.get self.now.table.rules prefix.now }
+    {
+        self.ledger.rules.get(prefix)
+    }
+
+    /// The number of rules.
+    pub fn rules(&self) -> usize
+        ensures { result ≡ map.len self.now.table.rules }
+    {
+        self.ledger.rules.len()
+    }
+
+    /// The number of changes that made a version of the rule list, since the table was opened.
+    pub fn versions(&self) -> u64
+        ensures value { result ≡ self.now.table.begun }
+        ensures rests { IsAtRest self.now }
+    {
+        self.ledger.versions
+    }
+
+    /// The token number: that of the opening and, for each unlinking and each synchronize, one more.
+    pub fn token(&mut self, table: &SharedTable<FIRST, SECOND>) -> u64
+        requires own { self.old.identity ≡ table.now }
+        ensures same { self.new ≡ self.old }
+        ensures value { result ≡ (left_by self.old).token }
+        ensures within { result ≤ 2 ^ 62 }
+    {
+        self.seat.token(&table.words)
+    }
+
+    /// The limits that the table was opened with.
+    pub fn config(&self) -> Config
+        ensures value { result ≡ self.now.config }
+        ensures limits { IsConfig result }
+    {
+        self.ledger.config
+    }
+
+    /// How many groups are in use, in limbo and free.
+    pub fn counts(&self) -> Counts
+        ensures in_use { result.in_use ≡ groups_in_use FIRST SECOND self.now.table.rules }
+        ensures limbo { result.limbo ≡ length self.now.table.limbo }
+        ensures all { result.in_use + result.limbo + result.free ≡ self.now.config.groups }
+    {
+        self.ledger.books.groups.counts()
+    }
+}

@@ -1,0 +1,147 @@
+//! A synchronize of the writer, which waits for the workers.
+
+ghost use Rattle.std.specs.Prelude.{◌≡◌, ◌+◌, ◌^◌, ◌<◌, ◌≤◌, ◌↔◌, All, IsErr, OnOk, OnErr};
+ghost use Rattle.lpm_writer.specs.Traced.{AnyMemory, steps_alone};
+ghost use Rattle.lpm_writer.specs.Waiting.{tokens_of};
+ghost use Rattle.lpm_writer.specs.Resting.{IsResting};
+ghost use Rattle.lpm_writer.specs.Synchronizing.{IsWaiting, Synchronizes};
+ghost use Rattle.shared_words.specs.Opened.{setup_of};
+ghost use Rattle.shared_words.specs.Seats.{IsOf};
+ghost use Rattle.shared_memory.specs.Loaded.{opened_of};
+ghost use Rattle.shared_memory.specs.Lent.{SharedDid, left_by_view};
+ghost use Rattle.shared_fib.specs.Passing.{PassesAtLast};
+ghost use Rattle.shared_fib.specs.Running.{IsAtRest, IsReady, OnlySees, left_by, setup, steps_of};
+
+use crate::table::Words;
+use crate::{SharedTable, Writer};
+use lpm_writer::{Exhausted, Ledger, check_synchronize, start_synchronize};
+use shared_memory::SharedMemory;
+use shared_words::WriterSeat;
+use std::sync::Wait;
+use std::thread::yield_now;
+
+/// Checks the token that was just started, again and again, until a check passes.
+fn check_until_passed<const FIRST: u32, const SECOND: u32, R: Wait>(
+    rt: &R,
+    ledger: &mut Ledger<FIRST, SECOND>,
+    memory: &mut SharedMemory<'_, FIRST, SECOND>,
+)
+    requires did { SharedDid memory.old (setup_of memory.old.view.opening) memory.old.view.seen }
+    requires waits { IsWaiting FIRST SECOND (setup_of memory.old.view.opening) memory.old.view.seen
+        ledger.old.config ledger.old.rules ledger.old.books ledger.old.versions }
+    ensures passes { PassesAtLast (setup_of memory.old.view.opening) memory.old.view.seen
+        memory.new.view.seen }
+    ensures queued { 0 < ledger.old.config.workers
+        → All (λ token. token ≤ (left_by_view memory.new.view).passed)
+        (tokens_of ledger.new.books.queue.items) }
+    ensures rests { IsResting FIRST SECOND (setup_of memory.new.view.opening) memory.new.view.seen
+        ledger.new.config ledger.new.rules ledger.new.books ledger.new.versions }
+    ensures same { ledger.new ≡ record ledger.old {
+      books = record ledger.old.books { passed = ledger.new.books.passed };
+    } }
+    ensures name { memory.new.name ≡ memory.old.name }
+    ensures table { memory.new.table ≡ memory.old.table }
+    ensures view { OnlySees memory.old.view memory.new.view }
+{
+    for _ in rt.forever() {
+        match check_synchronize(ledger, memory) {
+            Ok(()) => return,
+            Err(_) => yield_now(),
+        }
+    }
+    unreachable!()
+}
+
+fn synchronize_over<const FIRST: u32, const SECOND: u32, R: Wait>(
+    rt: &R,
+    ledger: &mut Ledger<FIRST, SECOND>,
+    memory: &mut SharedMemory<'_, FIRST, SECOND>,
+) -> Result<(), Exhausted>
+    requires did { SharedDid memory.old (setup_of memory.old.view.opening) memory.old.view.seen }
+    requires rests { IsResting FIRST SECOND (setup_of memory.old.view.opening) memory.old.view.seen
+        ledger.old.config ledger.old.rules ledger.old.books ledger.old.versions }
+    ensures exhausted { IsErr result
+        ↔ (2 ^ 62 < (left_by_view memory.old.view).token + ledger.old.config.groups) }
+    ensures synchronizes { OnOk result (Synchronizes AnyMemory (setup_of memory.old.view.opening)
+        (steps_alone memory.old.view.seen) (steps_alone memory.new.view.seen)) }
+    ensures queued { OnOk result (0 < ledger.old.config.workers
+        → All (λ token. token ≤ (left_by_view memory.new.view).passed)
+        (tokens_of ledger.new.books.queue.items)) }
+    ensures rests { IsResting FIRST SECOND (setup_of memory.new.view.opening) memory.new.view.seen
+        ledger.new.config ledger.new.rules ledger.new.books ledger.new.versions }
+    ensures same { ledger.new ≡ record ledger.old {
+      books = record ledger.old.books { passed = ledger.new.books.passed };
+    } }
+    ensures unchanged { OnErr result (ledger.new ≡ ledger.old) }
+    ensures untouched { OnErr result (memory.new ≡ memory.old) }
+    ensures name { memory.new.name ≡ memory.old.name }
+    ensures table { memory.new.table ≡ memory.old.table }
+    ensures view { OnlySees memory.old.view memory.new.view }
+{
+    start_synchronize(ledger, memory)?;
+    check_until_passed(rt, ledger, memory);
+    Ok(())
+}
+
+fn synchronize_by<const FIRST: u32, const SECOND: u32, R: Wait>(
+    rt: &R,
+    ledger: &mut Ledger<FIRST, SECOND>,
+    seat: &mut WriterSeat,
+    table: &Words<FIRST, SECOND>,
+) -> Result<(), Exhausted>
+    requires own { IsOf table.now.board.shared.table_id
+        (opened_of FIRST SECOND table.now.board.shared.key.cells
+        table.now.board.shared.key.rules.rules table.now.board.shared.key.groups
+        table.now.board.shared.key.workers table.now.board.shared.key.token)
+        table.now.layout seat.old.place.table_id seat.old.place.me.0 }
+    requires ready { IsReady FIRST SECOND ledger.old seat.old.place.me.0 }
+    ensures exhausted { IsErr result
+        ↔ (2 ^ 62 < (left_by_view seat.old.place.me.0).token + ledger.old.config.groups) }
+    ensures synchronizes { OnOk result (Synchronizes AnyMemory
+        (setup_of seat.old.place.me.0.opening)
+        (steps_alone seat.old.place.me.0.seen) (steps_alone seat.new.place.me.0.seen)) }
+    ensures queued { OnOk result (0 < ledger.old.config.workers
+        → All (λ token. token ≤ (left_by_view seat.new.place.me.0).passed)
+        (tokens_of ledger.new.books.queue.items)) }
+    ensures ready { IsReady FIRST SECOND ledger.new seat.new.place.me.0 }
+    ensures same { ledger.new ≡ record ledger.old {
+      books = record ledger.old.books { passed = ledger.new.books.passed };
+    } }
+    ensures unchanged { OnErr result (ledger.new ≡ ledger.old) }
+    ensures untouched { OnErr result (seat.new.place.me.0 ≡ seat.old.place.me.0) }
+    ensures seat { seat.new.place.table_id ≡ seat.old.place.table_id }
+    ensures view { OnlySees seat.old.place.me.0 seat.new.place.me.0 }
+{
+    let mut memory = SharedMemory::new(table, seat);
+    let came = synchronize_over(rt, ledger, &mut memory);
+    memory.done();
+    came
+}
+
+impl<const FIRST: u32, const SECOND: u32> Writer<FIRST, SECOND> {
+    /// Starts a token and checks it again and again until a check passes. It waits for workers that are
+    /// online and hold the token, so it returns only if each of them reports or goes offline. Once it has
+    /// returned `Ok`, no group that was queued before is held at any later check.
+    ///
+    /// `Exhausted` where fewer tokens than groups are left; nothing was written then.
+    pub fn synchronize<R: Wait>(
+        &mut self,
+        rt: &R,
+        table: &SharedTable<FIRST, SECOND>,
+    ) -> Result<(), Exhausted>
+        requires own { self.old.identity ≡ table.now }
+        ensures exhausted { IsErr result
+            ↔ (2 ^ 62 < (left_by self.old).token + self.old.config.groups) }
+        ensures synchronizes { OnOk result (Synchronizes AnyMemory (setup table.now)
+            (steps_alone (steps_of self.old)) (steps_alone (steps_of self.new))) }
+        ensures queued { OnOk result (0 < self.old.config.workers
+            → All (λ token. token ≤ (left_by self.new).passed) self.new.table.limbo) }
+        ensures same { self.new ≡ record self.old {
+          table = record self.old.table { readers = steps_of self.new };
+        } }
+        ensures unchanged { OnErr result (self.new ≡ self.old) }
+        ensures rests { IsAtRest self.new }
+    {
+        synchronize_by(rt, &mut self.ledger, &mut self.seat, &table.words)
+    }
+}
