@@ -1,2 +1,5 @@
 pub mod Borders
 pub mod Joined
+pub mod Resting
+pub mod Meetings
+pub mod Seating

@@ -26,6 +26,16 @@ pub fn border(piece: usize, addrs: usize, workers: usize) -> usize
     (piece as u128 * addrs as u128 / workers as u128) as usize
 }
 
+/// The addresses of the piece of this number.
+pub fn piece_at(addrs: &[u32], workers: usize, number: usize) -> &[u32]
+    requires { number < workers }
+    ensures { result.now ≡ piece_of addrs.now workers number }
+{
+    let from = border(number, addrs.len(), workers);
+    let to = border(number + 1, addrs.len(), workers);
+    &addrs[from..to]
+}
+
 /// The piece of this number, with its room; the error where that is refused.
 fn cut_piece<'a>(
     alloc: Global,
@@ -36,9 +46,7 @@ fn cut_piece<'a>(
     requires { number < workers }
     ensures { IfOk result (λ p. p.addrs.now ≡ piece_of addrs.now workers number) }
 {
-    let from = border(number, addrs.len(), workers);
-    let to = border(number + 1, addrs.len(), workers);
-    let addrs = &addrs[from..to];
+    let addrs = piece_at(addrs, workers, number);
     let hops = vec![in alloc; None; addrs.len()]?;
     Ok(Piece { addrs, hops })
 }
@@ -60,7 +68,7 @@ pub fn cut_all<'a>(
 }
 
 /// Appends hops where there is room for them.
-fn append(joined: &mut Vec<Option<Hop>>, hops: &[Option<Hop>])
+pub fn append(joined: &mut Vec<Option<Hop>>, hops: &[Option<Hop>])
     requires { vec_len joined.old + length hops.now ≤ vec_capacity joined.old }
     ensures items { joined.new.items ≡ joined.old.items ++ hops.now }
     ensures capacity { vec_capacity joined.old ≤ vec_capacity joined.new }

@@ -1,11 +1,15 @@
-use crate::{BulkError, Gate, Open, border, bulk_plain};
+ghost use Rattle.std.specs.Prelude.{◌≡◌};
+
+use crate::{BulkError, Gate, Open, border, bulk, bulk_plain, seat_all};
 use fib::{Fib, OpenError};
 use lpm_bits::{Hop, Prefix};
 use qsbr::Config;
+use shared_fib::{SharedTable, Writer};
 use std::alloc::Global;
 use std::process::Abort;
 use std::sync::atomic::{AtomicBool, Ordering};
 use std::test::Fail;
+use std::thread::Threads;
 
 // Adds 10.0.0.0/8, 10.1.0.0/16 and 10.1.1.128/25, with the next hops 1, 2 and 3.
 fn add_three(rt: &impl Abort, fib: &mut Fib<24, 8>) {
@@ -56,6 +60,50 @@ fn assert_ends(rt: &impl Abort, ends: &[usize]) {
     for i in 0..workers {
         assert_eq!(rt; border(i + 1, 5, workers), ends[i], "{i} of {workers}");
     }
+}
+
+fn add_rule(
+    rt: &impl Abort,
+    table: &SharedTable<24, 8>,
+    writer: &mut Writer<24, 8>,
+    bits: u32,
+    len: u32,
+    number: u32,
+)
+    requires own { writer.old.identity ≡ table.now }
+    ensures own { writer.new.identity ≡ writer.old.identity }
+{
+    let prefix = Prefix::new(bits, len).expect(rt, "a length");
+    let hop = Hop::new(number).expect(rt, "a next hop");
+    assert!(rt; writer.add(table, &prefix, hop).is_ok(), "{bits}/{len}");
+}
+
+// The five addresses, by a running table with so many workers.
+fn five_by_a_running_table<R: Abort + Threads + Sync>(
+    rt: &R,
+    alloc: Global,
+    workers: usize,
+) -> Result<(), Fail> {
+    let config = Config {
+        workers,
+        ..Config::default()
+    };
+    let (table, mut writer, mut bench) = shared_fib::open(alloc, config)?;
+    add_rule(rt, &table, &mut writer, 0x0a00_0000, 8, 1);
+    add_rule(rt, &table, &mut writer, 0x0a01_0000, 16, 2);
+    add_rule(rt, &table, &mut writer, 0x0a01_0180, 25, 3);
+    let mut desks = seat_all(alloc, &table, &mut bench, workers)?;
+    let hops = bulk(rt, alloc, &table, &mut writer, &mut desks, &FIVE, &Open)?;
+    assert_hops(rt, workers, &hops);
+    Ok(())
+}
+
+#[test]
+fn five_addresses_by_a_running_table(rt: HostRuntime) -> Result<(), Fail> {
+    for workers in [1, 2, 3, 8] {
+        five_by_a_running_table(&rt, rt.alloc(), workers)?;
+    }
+    Ok(())
 }
 
 #[test]
@@ -145,5 +193,31 @@ fn two_pieces_see_each_other(rt: HostRuntime) -> Result<(), Fail> {
     let hops = bulk_plain(&rt, rt.alloc(), &fib, 2, &addrs, &gate)?;
     assert_eq!(rt; hops.len(), 8);
     assert_met(&rt, &gate);
+    Ok(())
+}
+
+#[test]
+fn two_pieces_of_a_running_table_see_each_other(rt: HostRuntime) -> Result<(), Fail> {
+    let config = Config {
+        workers: 2,
+        ..Config::default()
+    };
+    let (table, mut writer, mut bench) = shared_fib::open::<4, 4>(rt.alloc(), config)?;
+    let mut desks = seat_all(rt.alloc(), &table, &mut bench, 2)?;
+    let gate = new_meeting();
+    let addrs = [1, 2, 3, 4, 5, 6, 7, 8];
+    let hops = bulk(
+        &rt,
+        rt.alloc(),
+        &table,
+        &mut writer,
+        &mut desks,
+        &addrs,
+        &gate,
+    )?;
+    assert_eq!(rt; hops.len(), 8);
+    assert_met(&rt, &gate);
+    let none = bulk(&rt, rt.alloc(), &table, &mut writer, &mut [], &addrs, &gate).err();
+    assert_eq!(rt; none, Some(BulkError::NoWorkers));
     Ok(())
 }

@@ -1,0 +1,169 @@
+-- Desks before and after a meeting, and their answers between two meetings.
+use Rattle.std.proofs.Common.{◌≡◌, ◌≢◌, ℕ, suc, ◌+◌, ◌<◌, ◌≤◌, inl, inr, List, [], ◌∷◌, length, get_or}
+use Rattle.std.proofs.Common.{set, map, All, refl, sym, ap, ap₂, subst, ◌∙◌, arith, get_or-set_same, get_or-set_other}
+use Rattle.std.specs.List.{flat_map}
+use Rattle.std.proofs.lemmas.Bool.{cases_eq, cases_lt}
+use Rattle.std.proofs.lemmas.List.{get_or_default}
+use Rattle.lpm_rules.specs.Longest.{AreLongestHops}
+use Rattle.lpm_trace.specs.declared.step.WorkerStep.TheVariants.{Meets}
+use Rattle.shared_words.specs.declared.view.Role.{Role}
+use Rattle.shared_words.specs.declared.view.View.{View}
+use Rattle.shared_words.specs.Rule.{IsLater}
+use Rattle.shared_words.specs.Seats.{Gains}
+use Rattle.shared_words.specs.Deeds.{GoesOn}
+use Rattle.shared_words.proofs.Deeds.{goes_on}
+use Rattle.shared_fib.specs.Running.{Identity, WriterState, PassState, IsAtRest, IsOffline, identity_of, steps_of}
+use Rattle.bulk.specs.declared.desk.Desk.{Desk}
+use Rattle.bulk.specs.Pieces.{piece_of}
+use Rattle.bulk.specs.Desks.{IsDeskOf, role_of, EachDesk, HasMet, AnswersAtRest, HasAnswered}
+use Rattle.bulk.proofs.Joined.{pieces_answered}
+use Rattle.bulk.proofs.Resting.{between, width_of, answers_within}
+
+-- ---- one desk after another
+
+-- the desks before place i have come to this, and the others are as they were
+pub record UpTo (R : Desk → Desk → Type 0) (i : ℕ) (old new : List Desk) : Type 0 where
+  pub done : (k : ℕ) (d : Desk) → k < i → R (get_or old k d) (get_or new k d)
+  pub rest : (k : ℕ) (d : Desk) → i ≤ k → get_or new k d ≡ get_or old k d
+
+pub none_yet : (R : Desk → Desk → Type 0) (desks : List Desk) → UpTo R 0 desks desks
+none_yet R desks = record { done = λ k d lt. absurd (omega (arith, lt)); rest = λ k d le. refl }
+
+-- what is so of the desks before place i, each by its place, and of the one that comes to stand there
+pub place_more : (P : ℕ → Desk → Type 0) (i : ℕ) (desks : List Desk) (y : Desk) → i < length desks
+    → ((k : ℕ) (d : Desk) → k < i → P k (get_or desks k d)) → P i y
+    → (k : ℕ) (d : Desk) → k < i + 1 → P k (get_or (set desks i y) k d)
+place_more P i desks y lt before now k d below = elim (cases_eq k i) [
+  | inl here ↦ subst (λ (n : ℕ). P n (get_or (set desks i y) n d)) (sym here)
+      (subst (P i) (sym (get_or-set_same desks i y d lt)) now)
+  | inr other ↦ subst (P k) (sym (get_or-set_other desks i k y d other))
+      (before k d (omega (arith, below, other)))
+]
+
+pub one_more : (R : Desk → Desk → Type 0) (i : ℕ) (old new : List Desk) (e y : Desk) → i < length new
+    → UpTo R i old new → R (get_or new i e) y → UpTo R (i + 1) old (set new i y)
+one_more R i old new e y lt up now = record {
+  done = λ k d below.
+      let was : get_or new i e ≡ get_or old i d = get_or_default new i e d lt ∙ up.rest i d (omega arith) in
+      place_more (λ (n : ℕ). R (get_or old n d)) i new y lt
+      (λ n f less. subst (R (get_or old n d)) (get_or_default new n d f (omega (arith, less, lt))) (up.done n d less))
+      (subst (λ (u : Desk). R u y) was now) k d below;
+  rest = λ k d le.
+      let other : k ≢ i = omega (arith, le) in
+      get_or-set_other new i k y d other ∙ up.rest k d (omega (arith, le));
+}
+
+-- in the end, where a desk that stays as it was will do
+pub up_to_all : (R : Desk → Desk → Type 0) → ((x : Desk) → R x x) → (i : ℕ) (old new : List Desk)
+    → UpTo R i old new → EachDesk R old new
+up_to_all R same i old new up k d lt = elim (cases_lt k i) [
+  | inl below ↦ up.done k d below
+  | inr from ↦ subst (R (get_or old k d)) (sym (up.rest k d from)) (same (get_or old k d))
+]
+
+-- ---- whose desks they are
+
+roles_stay : (old new : List Desk) → length new ≡ length old → EachDesk (λ x y. role_of y ≡ role_of x) old new
+    → map role_of new ≡ map role_of old
+roles_stay [] [] len each = refl
+roles_stay [] (y ∷ new) len each = absurd (omega arith)
+roles_stay (x ∷ old) [] len each = absurd (omega arith)
+roles_stay (x ∷ old) (y ∷ new) len each =
+    ap₂ (λ (r : Role) (rs : List Role). r ∷ rs) (each 0 x (omega arith))
+    (roles_stay old new (omega arith) (λ k d lt. each (suc k) d (omega (arith, lt))))
+
+-- desks that keep their passes are those of the same workers
+pub roles_kept : (old new : List Desk) → length new ≡ length old → EachDesk (λ x y. y.pass ≡ x.pass) old new
+    → map role_of new ≡ map role_of old
+roles_kept old new len kept =
+    roles_stay old new len (λ k d lt. ap (λ (p : PassState). p.view.role) (kept k d lt))
+
+-- ---- what a desk comes to
+
+-- a pass that meets the writer
+pub met : (w : WriterState) (old new : Desk) (number : ℕ)
+    → Gains (Meets number) (record old.pass.view { told = steps_of w }) new.pass.view
+    → identity_of new.pass ≡ identity_of old.pass → IsOffline new.pass → new.hops ≡ old.hops
+    → new.pass.view.seen ≡ steps_of w → IsAtRest w → HasMet w old new
+met w old new number step identity offline hops seen rests = record {
+  same = record {
+    identity = identity;
+    role = ap (λ (v : View). v.role) step.view;
+    offline = offline;
+    later = subst (IsLater old.pass.view.seen) (sym (ap (λ (v : View). v.seen) step.view)) step.later;
+  };
+  hops = hops;
+  seen = seen;
+  rests = rests;
+}
+
+-- a view that stays as it is
+pub goes_nowhere : (v : View) → GoesOn v v
+goes_nowhere v = record { same = refl; later = ([], refl) }
+
+-- a pass that comes online with the view u, looks up until its view is v, and goes offline
+pub has_answered : (id : Identity) (addrs : List ℕ) (old new : Desk) (u v : View) → identity_of old.pass ≡ id
+    → identity_of new.pass ≡ id → IsOffline new.pass
+    → GoesOn old.pass.view u → GoesOn u v → GoesOn v new.pass.view
+    → AnswersAtRest id addrs new.hops.items u.seen v.seen → HasAnswered addrs old new
+has_answered id addrs old new u v was is offline comes looks leaves answers =
+    let first : View = old.pass.view in
+    let last : View = new.pass.view in
+    let on : GoesOn first last = goes_on first u last comes (goes_on u v last looks leaves) in
+    record {
+      same = record {
+        identity = is ∙ sym was;
+        role = ap (λ (x : View). x.role) on.same;
+        offline = offline;
+        later = on.later;
+      };
+      answers = λ w of rest before after.
+          answers_within id addrs new.hops.items first.seen u.seen v.seen last.seen
+          comes.later looks.later leaves.later answers w (of ∙ was) rest before after;
+    }
+
+-- ---- two meetings
+
+-- a desk that has met the writer, has answered, and has met the writer again
+answered_at_rest : (w : WriterState) (addrs : List ℕ) (a b c d : Desk) → identity_of a.pass ≡ w.identity
+    → HasMet w a b → HasAnswered addrs b c → HasMet w c d
+    → AreLongestHops (width_of w) w.table.rules addrs d.hops.items
+answered_at_rest w addrs a b c d is first answers last =
+    let again : d.pass.view.seen ≡ b.pass.view.seen = last.seen ∙ sym first.seen in
+    let seen : c.pass.view.seen ≡ steps_of w =
+    between b.pass.view.seen c.pass.view.seen d.pass.view.seen answers.same.later last.same.later again
+    ∙ first.seen in
+    rw last.hops (answers.answers w (sym (first.same.identity ∙ is)) first.rests first.seen seen)
+
+-- desks that have met the writer, have answered a piece each, and have met the writer again, which is as it was
+module _ (w z : WriterState) (same : z ≡ w) (xs : List ℕ) (ps qs rs ss : List Desk) (met_len : length qs ≡ length ps)
+    (answered_len : length rs ≡ length qs) (last_len : length ss ≡ length rs) (first : EachDesk (HasMet w) ps qs)
+    (answers : (k : ℕ) (d : Desk) → k < length qs
+    → HasAnswered (piece_of xs (length qs) k) (get_or qs k d) (get_or rs k d))
+    (last : EachDesk (HasMet z) rs ss) where
+  abbrev again : EachDesk (HasMet w) rs ss
+  again = subst (λ (x : WriterState). EachDesk (HasMet x) rs ss) same last
+
+  pub longest : (id : Identity) → w.identity ≡ id → All (IsDeskOf id) ps → 0 < length ps
+      → AreLongestHops (id.opening.first + id.opening.second) w.table.rules xs
+      (flat_map (λ (d : Desk). d.hops.items) ss)
+  longest id own desks some =
+      let count : length ss ≡ length qs = last_len ∙ answered_len in
+      let each : (k : ℕ) (d : Desk) → k < length ss
+      → AreLongestHops (width_of w) w.table.rules (piece_of xs (length ss) k) (get_or ss k d).hops.items =
+      λ k d lt.
+      let piece : HasAnswered (piece_of xs (length ss) k) (get_or qs k d) (get_or rs k d) = subst
+      (λ (n : ℕ). HasAnswered (piece_of xs n k) (get_or qs k d) (get_or rs k d)) (sym count)
+      (answers k d (omega (arith, lt))) in
+      answered_at_rest w (piece_of xs (length ss) k)
+      (get_or ps k d) (get_or qs k d) (get_or rs k d) (get_or ss k d)
+      ((desks k d (omega (arith, lt))).identity ∙ sym own)
+      (first k d (omega (arith, lt))) piece (again k d (omega (arith, lt))) in
+      subst (λ (i : Identity). AreLongestHops (i.opening.first + i.opening.second) w.table.rules xs
+      (flat_map (λ (d : Desk). d.hops.items) ss)) own
+      (pieces_answered (λ (d : Desk). d.hops.items) (width_of w) w.table.rules xs ss (omega arith) each)
+
+  pub same_roles : map role_of ss ≡ map role_of ps
+  same_roles = roles_stay ps ss (last_len ∙ (answered_len ∙ met_len)) (λ k d lt.
+      (last k d (omega (arith, lt))).same.role
+      ∙ ((answers k d (omega (arith, lt))).same.role ∙ (first k d lt).same.role))

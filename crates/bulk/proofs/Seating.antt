@@ -1,0 +1,34 @@
+-- The desks of a table's workers, which were seated one after another.
+use Rattle.std.proofs.Common.{◌≡◌, ◌≢◌, ℕ, zero, suc, ◌+◌, ◌<◌, ◌≤◌, refl, ap, ap₂, sym, ◌∙◌, zero-add}
+use Rattle.std.proofs.Common.{List, [], ◌∷◌, ◌++◌, Option, None, map, slice_get, arith}
+use Rattle.std.specs.Prelude.{slice_set}
+use Rattle.std.specs.List.{range_with_len}
+use Rattle.std.proofs.lemmas.List.{map-append}
+use Rattle.std.proofs.lemmas.List.FromFn.{map-range_with_len_more}
+use Rattle.shared_words.specs.declared.view.Role.{Role}
+use Rattle.shared_words.specs.declared.view.Role.TheVariants.{Worker}
+use Rattle.shared_fib.specs.Running.{PassState}
+use Rattle.bulk.specs.declared.desk.Desk.{Desk}
+use Rattle.bulk.specs.Desks.{IsAtBench, role_of}
+
+-- what stands at another place stays after a store
+others_stay : {X : Type 0} (xs : List X) (i k : ℕ) (y : X) → k ≢ i → slice_get (slice_set xs i y) k ≡ slice_get xs k
+others_stay [] i k y other = refl
+others_stay (x ∷ xs) zero zero y other = absurd (other refl)
+others_stay (x ∷ xs) zero (suc k) y other = refl
+others_stay (x ∷ xs) (suc i) zero y other = refl
+others_stay (x ∷ xs) (suc i) (suc k) y other = others_stay xs i k y (λ e. other (ap suc e))
+
+-- where one worker's pass is taken, the others' stay at the bench
+pub stays_at_bench : (passes : List (Option PassState)) (i k : ℕ) → k ≢ i → IsAtBench passes k
+    → IsAtBench (slice_set passes i None) k
+stays_at_bench passes i k other at = (at.0, others_stay passes i k None other ∙ at.1)
+
+-- whose desks they are, with the next worker's
+pub one_more_role : (desks : List Desk) (desk : Desk) (worker : ℕ)
+    → map role_of desks ≡ map Worker (range_with_len 0 worker) → role_of desk ≡ Worker worker
+    → map role_of (desks ++ desk ∷ []) ≡ map Worker (range_with_len 0 (worker + 1))
+one_more_role desks desk worker so_far role =
+    map-append role_of desks (desk ∷ [])
+    ∙ (ap₂ (λ (a b : List Role). a ++ b) so_far (ap (λ (r : Role). r ∷ []) role)
+    ∙ sym (map-range_with_len_more Worker 0 worker worker (zero-add worker)))

@@ -1,0 +1,47 @@
+use Rattle.std.proofs.Common.{◌≡◌, ℕ, ◌+◌, List, All, map, ap, subst, sym, ◌∙◌, arith}
+use Rattle.std.specs.List.{range_with_len}
+use Rattle.std.proofs.lemmas.List.Elements.{All-nil, All-push}
+use Rattle.shared_words.specs.declared.view.Role.TheVariants.{Worker}
+use Rattle.bulk.specs.declared.desk.Desk.{Desk}
+use Rattle.bulk.specs.Desks.{IsDeskOf, role_of}
+use Rattle.bulk.proofs.Seating.{stays_at_bench, one_more_role}
+use Rattle.bulk.proofs.desk.seat_all.Goals as goal
+
+pub loop-worker-init : goal.loop-worker-init
+loop-worker-init g c = record {
+  len = c.in_ok-desks.ensures.len;
+  capacity = c.in_ok-desks.ensures.exact;
+  own = c.requires.full.0;
+  waiting = λ k from below.
+      let at = c.requires.full.1 k (omega (arith, below, c.requires.workers)) in
+      (at.0, at.1);
+  desks = subst (All (IsDeskOf c.args.table.now)) (sym {A = List Desk} c.in_ok-desks.ensures.items) (All-nil (IsDeskOf c.args.table.now));
+  roles = ap (map role_of) c.in_ok-desks.ensures.items;
+}
+
+pub seat-requires : goal.seat-requires
+seat-requires g c =
+    let known = c.loop-worker.invariant in
+    (omega arith, (known.own, known.waiting c.loop-worker.worker (omega arith) c.loop-worker-test.true))
+
+pub loop-worker-preserved : goal.loop-worker-preserved
+loop-worker-preserved g c =
+    let known = c.loop-worker.invariant in
+    let i = c.loop-worker.worker in
+    let pushed = c.push_reserved.ensures in
+    record {
+      len = pushed.len ∙ ap (λ (n : ℕ). n + 1) known.len;
+      capacity = pushed.capacity ∙ known.capacity;
+      own = c.seat.ensures.own;
+      waiting = λ k from below. rw c.seat.ensures.taken (stays_at_bench c.loop-worker.bench i k
+          (omega (arith, from)) (known.waiting k (omega (arith, from)) below));
+      desks = subst (All (IsDeskOf c.args.table.now)) (sym {A = List Desk} pushed.items)
+          (All-push (IsDeskOf c.args.table.now) c.loop-worker.desks.items c.seat.result known.desks c.seat.ensures.desk);
+      roles = ap (map role_of) pushed.items
+          ∙ one_more_role c.loop-worker.desks.items c.seat.result i known.roles c.seat.ensures.role;
+    }
+
+pub returns-clause-roles : goal.returns-clause-roles
+returns-clause-roles g c =
+    let all : c.loop-worker.worker ≡ c.args.workers = omega arith in
+    c.loop-worker.invariant.roles ∙ ap (λ (n : ℕ). map Worker (range_with_len 0 n)) all

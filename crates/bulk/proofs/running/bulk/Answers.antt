@@ -1,0 +1,17 @@
+use Rattle.std.proofs.Common.{◌∙◌, arith}
+use Rattle.lpm_rules.proofs.Longest.{length-AreLongestHops}
+use Rattle.bulk.proofs.Meetings.{roles_kept}
+use Rattle.bulk.proofs.running.bulk.Goals as goal
+
+pub returns-in_err-make_room-clause-roles : goal.returns-in_err-make_room-clause-roles
+returns-in_err-make_room-clause-roles g c = roles_kept _ _ c.make_room.ensures.len c.make_room.ensures.passes
+
+pub returns-in_err-joined-clause-roles : goal.returns-in_err-joined-clause-roles
+returns-in_err-joined-clause-roles g c = roles_kept _ _ c.make_room.ensures.len c.make_room.ensures.passes
+
+pub join_desks-requires : goal.join_desks-requires
+join_desks-requires g c =
+    omega (arith, length-AreLongestHops _ _ _ _ c.answer_at_rest.ensures.answers, c.in_ok-joined.ensures.len, c.in_ok-joined.ensures.exact)
+
+pub returns-clause-roles : goal.returns-clause-roles
+returns-clause-roles g c = c.answer_at_rest.ensures.roles ∙ roles_kept _ _ c.make_room.ensures.len c.make_room.ensures.passes

@@ -1,0 +1,59 @@
+-- This layer's own: what a desk's pass sees while a piece is answered between two meetings with the writer.
+use Rattle.std.specs.Prelude.{ℕ, ◌≡◌, ◌+◌, ◌<◌, List, Option, Some, length, slice_get, slice_index_or, vec_len}
+use Rattle.lpm_rules.specs.Longest.{AreLongestHops}
+use Rattle.lpm_trace.specs.declared.step.WriterStep.{WriterStep}
+use Rattle.shared_words.specs.declared.view.Role.{Role}
+use Rattle.shared_words.specs.Rule.{IsLater}
+use Rattle.shared_fib.specs.Running.{Identity, WriterState, PassState, IsAtRest, IsOffline, identity_of, steps_of}
+use Rattle.bulk.specs.declared.desk.Desk.{Desk}
+use Rattle.bulk.specs.Pieces.{piece_of}
+
+-- its pass is one of this table, and is offline
+pub record IsDeskOf (id : Identity) (desk : Desk) : Type 0 where
+  pub identity : identity_of desk.pass ≡ id
+  pub offline : IsOffline desk.pass
+
+-- whose pass it is
+abbrev pub role_of : Desk → Role
+role_of desk = desk.pass.view.role
+
+-- the worker's pass is at the bench
+abbrev pub IsAtBench : List (Option PassState) → ℕ → Type 0
+IsAtBench passes worker = (p : PassState) × (slice_get passes worker ≡ Some (Some p))
+
+-- of each desk, what it was and what it is
+abbrev pub EachDesk : (Desk → Desk → Type 0) → List Desk → List Desk → Type 0
+EachDesk R old new = (k : ℕ) (d : Desk) → k < length old → R (slice_index_or old k d) (slice_index_or new k d)
+
+-- each desk has room for the hops of its piece
+abbrev pub HaveRoom : List ℕ → List Desk → Type 0
+HaveRoom addrs desks = (k : ℕ) (d : Desk) → k < length desks
+    → vec_len (slice_index_or desks k d).hops ≡ length (piece_of addrs (length desks) k)
+
+-- the desk is that of the same worker of the same table, and is offline; and its pass has seen at least
+-- what it had seen of the writer's steps
+pub record IsSameDesk (old new : Desk) : Type 0 where
+  pub identity : identity_of new.pass ≡ identity_of old.pass
+  pub role : role_of new ≡ role_of old
+  pub offline : IsOffline new.pass
+  pub later : IsLater old.pass.view.seen new.pass.view.seen
+
+-- its pass has met this writer, which rests: it has seen all of the writer's steps
+pub record HasMet (w : WriterState) (old new : Desk) : Type 0 where
+  pub same : IsSameDesk old new
+  pub hops : new.hops ≡ old.hops
+  pub seen : new.pass.view.seen ≡ steps_of w
+  pub rests : IsAtRest w
+
+-- a writer that rests, all of whose steps were seen before the answers, and no other until after them:
+-- they are the next hops by its rules
+abbrev pub AnswersAtRest : Identity → List ℕ → List (Option ℕ) → List WriterStep → List WriterStep → Type 0
+AnswersAtRest id addrs hops before after = (w : WriterState) → w.identity ≡ id → IsAtRest w
+    → before ≡ steps_of w → after ≡ steps_of w
+    → AreLongestHops (w.identity.opening.first + w.identity.opening.second) w.table.rules addrs hops
+
+-- it has answered these addresses
+pub record HasAnswered (addrs : List ℕ) (old new : Desk) : Type 0 where
+  pub same : IsSameDesk old new
+  pub answers : AnswersAtRest (identity_of old.pass) addrs new.hops.items
+      old.pass.view.seen new.pass.view.seen

@@ -1,0 +1,80 @@
+//! A worker's place in a `bulk`: its pass, with the room of its piece.
+
+ghost use Rattle.std.specs.Prelude.{◌≡◌, All, IfOk, OnErr, None, map, slice_set};
+ghost use Rattle.std.specs.List.{range_with_len};
+ghost use Rattle.shared_words.specs.declared.view.Role.TheVariants.{Worker};
+ghost use Rattle.shared_fib.specs.Running.{IsBenchOf, IsFullBench};
+ghost use Rattle.bulk.specs.Desks.{IsDeskOf, IsAtBench, role_of};
+
+use lpm_bits::Hop;
+use shared_fib::{Bench, Pass, SharedTable};
+use std::alloc::{AllocError, Global};
+
+/// The pass of a worker, with room for the next hops of a piece. A thread of `bulk` answers with one. It
+/// keeps its room from call to call.
+#[derive(Drop)]
+pub struct Desk {
+    pub(crate) pass: Pass,
+    pub(crate) hops: Vec<Option<Hop>>,
+}
+
+impl Desk {
+    /// A desk for this pass. It has no room yet: that is made by the first `bulk`.
+    pub fn new(alloc: Global, pass: Pass) -> Desk
+        ensures { result.pass ≡ pass }
+    {
+        Desk {
+            pass,
+            hops: Vec::new(alloc),
+        }
+    }
+
+    /// The pass of this desk.
+    pub fn into_pass(self) -> Pass
+        ensures { result ≡ self.pass }
+    {
+        self.pass
+    }
+}
+
+/// The desk of the worker of this number, whose pass is at the bench.
+fn seat<const FIRST: u32, const SECOND: u32>(
+    alloc: Global,
+    table: &SharedTable<FIRST, SECOND>,
+    bench: &mut Bench,
+    worker: usize,
+) -> Desk
+    requires own { IsBenchOf table.now bench.old }
+    requires pass { IsAtBench bench.old worker }
+    ensures desk { IsDeskOf table.now result }
+    ensures role { role_of result ≡ Worker worker }
+    ensures own { IsBenchOf table.now bench.new }
+    ensures taken { bench.new ≡ slice_set bench.old worker None }
+{
+    let Ok(pass) = bench.register(table, worker) else {
+        unreachable!();
+    };
+    Desk::new(alloc, pass)
+}
+
+/// A desk for each worker of a table that was just opened, in the order of the workers.
+///
+/// All memory is taken before a pass leaves the bench.
+pub fn seat_all<const FIRST: u32, const SECOND: u32>(
+    alloc: Global,
+    table: &SharedTable<FIRST, SECOND>,
+    bench: &mut Bench,
+    workers: usize,
+) -> Result<Vec<Desk>, AllocError>
+    requires full { IsFullBench table.now bench.old }
+    requires workers { workers ≡ table.now.opening.workers }
+    ensures desks { IfOk result (λ v. All (IsDeskOf table.now) v.items) }
+    ensures roles { IfOk result (λ v. map role_of v.items ≡ map Worker (range_with_len 0 workers)) }
+    ensures unchanged { OnErr result (bench.new ≡ bench.old) }
+{
+    let mut desks = Vec::with_capacity(alloc, workers)?;
+    for worker in 0..workers {
+        desks.push_reserved(seat(alloc, table, bench, worker));
+    }
+    Ok(desks)
+}

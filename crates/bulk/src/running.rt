@@ -1,0 +1,220 @@
+//! Many addresses, answered by a running table that its writer lets rest meanwhile.
+
+ghost use Rattle.std.specs.Prelude.{◌≡◌, ◌+◌, ◌^◌, ℕ, ◌<◌, ◌≤◌, ◌↔◌, ◌++◌, All, IfOk, OnOk, IsErrOf};
+ghost use Rattle.std.specs.Prelude.{length, map, slice_index_or, vec_len, vec_capacity};
+ghost use Rattle.std.specs.List.{flat_map};
+ghost use Rattle.lpm_rules.specs.Longest.{AreLongestHops};
+ghost use Rattle.shared_words.specs.Deeds.{GoesOn};
+ghost use Rattle.shared_fib.specs.Running.{IsOnline, identity_of};
+ghost use Rattle.bulk.specs.Pieces.{piece_of};
+ghost use Rattle.bulk.specs.Desks.{IsDeskOf, role_of, EachDesk, HaveRoom, HasMet, HasAnswered, AnswersAtRest};
+
+use super::pieces::{append, piece_at};
+use super::{BulkError, Desk, Gate};
+use lpm_bits::Hop;
+use shared_fib::{Pass, SharedTable, Writer};
+use std::alloc::{AllocError, Global};
+use std::thread;
+use std::thread::Threads;
+
+/// Makes room for so many hops.
+fn make_room_at(desk: &mut Desk, count: usize) -> Result<(), AllocError>
+    ensures pass { desk.new.pass ≡ desk.old.pass }
+    ensures room { OnOk result (vec_len desk.new.hops ≡ count) }
+{
+    desk.hops.resize(count, None)
+}
+
+/// Makes room at each desk for the hops of its piece.
+fn make_room(desks: &mut [Desk], addrs: &[u32]) -> Result<(), AllocError>
+    ensures len { length desks.new ≡ length desks.old }
+    ensures passes { EachDesk (λ old new. new.pass ≡ old.pass) desks.old desks.new }
+    ensures room { OnOk result (HaveRoom addrs.now desks.new) }
+{
+    let workers = desks.len();
+    for number in 0..workers {
+        let count = piece_at(addrs, workers, number).len();
+        make_room_at(&mut desks[number], count)?;
+    }
+    Ok(())
+}
+
+/// The desk's pass meets the writer.
+fn meet<const FIRST: u32, const SECOND: u32>(
+    table: &SharedTable<FIRST, SECOND>,
+    writer: &mut Writer<FIRST, SECOND>,
+    desk: &mut Desk,
+)
+    requires own { writer.old.identity ≡ table.now }
+    requires desk { IsDeskOf table.now desk.old }
+    ensures met { HasMet writer.old desk.old desk.new }
+    ensures same { writer.new ≡ writer.old }
+{
+    desk.pass.meet(table, writer);
+}
+
+/// Each desk's pass meets the writer.
+fn meet_all<const FIRST: u32, const SECOND: u32>(
+    table: &SharedTable<FIRST, SECOND>,
+    writer: &mut Writer<FIRST, SECOND>,
+    desks: &mut [Desk],
+)
+    requires own { writer.old.identity ≡ table.now }
+    requires desks { All (IsDeskOf table.now) desks.old }
+    ensures len { length desks.new ≡ length desks.old }
+    ensures met { EachDesk (HasMet writer.old) desks.old desks.new }
+    ensures same { writer.new ≡ writer.old }
+{
+    for number in 0..desks.len() {
+        meet(table, writer, &mut desks[number]);
+    }
+}
+
+/// Looks the addresses up, each after the gate.
+fn look_up_each<G: Gate, const FIRST: u32, const SECOND: u32>(
+    table: &SharedTable<FIRST, SECOND>,
+    gate: &G,
+    number: usize,
+    addrs: &[u32],
+    pass: &mut Pass,
+    hops: &mut Vec<Option<Hop>>,
+)
+    requires own { identity_of pass.old ≡ table.now }
+    requires online { IsOnline pass.old }
+    requires room { vec_len hops.old ≡ length addrs.now }
+    requires addrs { All (λ a. a < 2 ^ (FIRST + SECOND)) addrs.now }
+    ensures own { identity_of pass.new ≡ table.now }
+    ensures online { IsOnline pass.new }
+    ensures rest { GoesOn pass.old.view pass.new.view }
+    ensures answers { AnswersAtRest table.now addrs.now hops.new.items pass.old.view.seen
+        pass.new.view.seen }
+{
+    for i in 0..addrs.len() {
+        gate.at(number, i);
+        hops[i] = pass.lookup(table, addrs[i]).hop;
+    }
+}
+
+/// Answers the addresses of a piece. The desk's pass is online meanwhile.
+fn answer<G: Gate, const FIRST: u32, const SECOND: u32>(
+    table: &SharedTable<FIRST, SECOND>,
+    gate: &G,
+    number: usize,
+    addrs: &[u32],
+    desk: &mut Desk,
+)
+    requires desk { IsDeskOf table.now desk.old }
+    requires room { vec_len desk.old.hops ≡ length addrs.now }
+    requires addrs { All (λ a. a < 2 ^ (FIRST + SECOND)) addrs.now }
+    ensures { HasAnswered addrs.now desk.old desk.new }
+{
+    desk.pass.online(table);
+    look_up_each(table, gate, number, addrs, &mut desk.pass, &mut desk.hops);
+    desk.pass.offline(table);
+}
+
+/// Answers the addresses of each piece, on as many threads as there are desks.
+fn answer_all<R: Threads + Sync, G: Gate, const FIRST: u32, const SECOND: u32>(
+    rt: &R,
+    table: &SharedTable<FIRST, SECOND>,
+    gate: &G,
+    addrs: &[u32],
+    desks: &mut [Desk],
+)
+    requires some { 0 < length desks.old }
+    requires desks { All (IsDeskOf table.now) desks.old }
+    requires room { HaveRoom addrs.now desks.old }
+    requires addrs { All (λ a. a < 2 ^ (FIRST + SECOND)) addrs.now }
+    ensures len { length desks.new ≡ length desks.old }
+    ensures answers { (k : ℕ) (d : _) → k < length desks.old
+        → HasAnswered (piece_of addrs.now (length desks.old) k)
+        (slice_index_or desks.old k d) (slice_index_or desks.new k d) }
+{
+    let workers = desks.len();
+    thread::for_each_mut(
+        rt,
+        desks,
+        workers,
+        &|number: usize, desk: &mut Desk|
+            requires number { number < workers }
+            requires desk { IsDeskOf table.now desk.now }
+            requires room { vec_len desk.now.hops ≡ length (piece_of addrs.now workers number) }
+            requires addrs { All (λ a. a < 2 ^ (FIRST + SECOND)) addrs.now }
+            ensures { HasAnswered (piece_of addrs.entry.now workers number) desk.entry.now
+                desk.exit.now }
+        { answer(table, gate, number, piece_at(addrs, workers, number), desk) },
+    );
+}
+
+/// Answers the addresses of each piece between two meetings of the writer with each desk's pass. By the first
+/// one, a lookup is made after all that the writer has done; by the second one, it has done nothing since.
+fn answer_at_rest<R: Threads + Sync, G: Gate, const FIRST: u32, const SECOND: u32>(
+    rt: &R,
+    table: &SharedTable<FIRST, SECOND>,
+    writer: &mut Writer<FIRST, SECOND>,
+    desks: &mut [Desk],
+    addrs: &[u32],
+    gate: &G,
+)
+    requires own { writer.old.identity ≡ table.now }
+    requires some { 0 < length desks.old }
+    requires desks { All (IsDeskOf table.now) desks.old }
+    requires room { HaveRoom addrs.now desks.old }
+    requires addrs { All (λ a. a < 2 ^ (FIRST + SECOND)) addrs.now }
+    ensures answers { AreLongestHops (FIRST + SECOND) writer.old.table.rules addrs.now
+        (flat_map (λ d. d.hops.items) desks.new) }
+    ensures same { writer.new ≡ writer.old }
+    ensures desks { All (IsDeskOf table.now) desks.new }
+    ensures roles { map role_of desks.new ≡ map role_of desks.old }
+{
+    table.has_widths();
+    meet_all(table, writer, desks);
+    answer_all(rt, table, gate, addrs, desks);
+    meet_all(table, writer, desks);
+}
+
+/// Appends the hops of the desks, one desk after another, where there is room for all.
+fn join_desks(desks: &[Desk], joined: &mut Vec<Option<Hop>>)
+    requires { vec_len joined.old + length (flat_map (λ d. d.hops.items) desks.now)
+        ≤ vec_capacity joined.old }
+    ensures { joined.new.items ≡ joined.old.items ++ flat_map (λ d. d.hops.items) desks.now }
+{
+    for desk in desks {
+        append(joined, &desk.hops);
+    }
+}
+
+/// The next hop of each address, in the order of the addresses, by the rules that the writer has. Each desk
+/// answers a piece, on its own thread.
+///
+/// The desks' passes are offline before, and are again after. All memory is taken before a thread starts:
+/// `Memory` comes only where nothing was answered yet, and no gate was called. Where no further thread can be
+/// had, pieces are answered one after another.
+pub fn bulk<R: Threads + Sync, G: Gate, const FIRST: u32, const SECOND: u32>(
+    rt: &R,
+    alloc: Global,
+    table: &SharedTable<FIRST, SECOND>,
+    writer: &mut Writer<FIRST, SECOND>,
+    desks: &mut [Desk],
+    addrs: &[u32],
+    gate: &G,
+) -> Result<Vec<Option<Hop>>, BulkError>
+    requires own { writer.old.identity ≡ table.now }
+    requires desks { All (IsDeskOf table.now) desks.old }
+    requires addrs { All (λ a. a < 2 ^ (FIRST + SECOND)) addrs.now }
+    ensures answers { IfOk result (λ v.
+        AreLongestHops (FIRST + SECOND) writer.old.table.rules addrs.now v.items) }
+    ensures workers { IsErrOf result BulkError.NoWorkers ↔ (length desks.old ≡ 0) }
+    ensures same { writer.new ≡ writer.old }
+    ensures desks { All (IsDeskOf table.now) desks.new }
+    ensures roles { map role_of desks.new ≡ map role_of desks.old }
+{
+    if desks.is_empty() {
+        return Err(BulkError::NoWorkers);
+    }
+    make_room(desks, addrs)?;
+    let mut joined = Vec::with_capacity(alloc, addrs.len())?;
+    answer_at_rest(rt, table, writer, desks, addrs, gate);
+    join_desks(desks, &mut joined);
+    Ok(joined)
+}
