@@ -1,0 +1,203 @@
+//! Lookups on threads of their own, while the writer changes the table on another.
+ghost use Rattle.std.specs.Prelude.{◌≡◌, ◌<◌, ◌^◌};
+ghost use Rattle.std.specs.Thread.{IsSync};
+ghost use Rattle.shared_fib.specs.Running.{IsOffline, IsOnline, identity_of};
+
+use lpm_bits::{Hop, Prefix, Shape};
+use lpm_rules::{Answer, Rules};
+use qsbr::Config;
+use shared_fib::{Pass, SharedTable, Writer, open};
+use std::alloc::Global;
+use std::process::Abort;
+use std::test::Fail;
+use std::thread::{Threads, join};
+
+// Two groups, of which each that waits is reclaimed as soon as no worker holds it.
+const LIMITS: Config = Config {
+    rules: 9,
+    groups: 2,
+    workers: 2,
+    threshold: 0,
+    reclaim_max: 2,
+    first_token: 1,
+};
+
+const CHANGES: u64 = 100_000;
+// How often the writer tries, where a worker may hold the groups.
+const TRIES: u64 = 1_000_000_000;
+
+const LOOKUPS: u64 = 600_000;
+
+// The changes come round: a long rule in one block, and none, and one in another block, and none.
+const ROUND: u64 = 4;
+
+type Rule = (Prefix<4, 4>, Hop);
+
+// Makes the change after so many. Whether it was made.
+fn change(
+    table: &SharedTable<4, 4>,
+    writer: &mut Writer<4, 4>,
+    rules: &[Rule; 2],
+    made: u64,
+) -> bool
+    requires own { writer.old.identity ≡ table.now }
+    ensures own { writer.new.identity ≡ writer.old.identity }
+{
+    let (prefix, hop) = rules[(made % ROUND / 2) as usize];
+    if made % 2 == 0 {
+        return writer.add(table, &prefix, hop).is_ok();
+    }
+    writer.delete(table, &prefix).is_ok()
+}
+
+// Makes all changes, and returns how many it has made.
+fn change_all(table: &SharedTable<4, 4>, writer: &mut Writer<4, 4>, rules: &[Rule; 2]) -> u64
+    requires own { writer.old.identity ≡ table.now }
+{
+    let mut made = 0u64;
+    for _ in 0..TRIES {
+        if made >= CHANGES {
+            break;
+        }
+        if change(table, writer, rules, made) {
+            made += 1;
+        }
+    }
+    made
+}
+
+// Whether the answer is that of a version from `lo` to `hi`, by a plain search. The rules of version `k` are
+// those of `k % ROUND`.
+fn is_of_a_version(versions: &[Rules<4, 4>; 4], addr: u32, answer: &Answer) -> bool
+    requires { addr < 2 ^ 8 }
+{
+    let Answer { hop, lo, hi } = *answer;
+    for step in 0..ROUND {
+        let version = lo.saturating_add(step);
+        if version <= hi && versions[(version % ROUND) as usize].longest(addr) == hop {
+            return true;
+        }
+    }
+    false
+}
+
+// Looks one address up, and reports now and then that the worker is quiescent. Whether the answer is of no
+// version from `lo` to `hi`.
+fn look(table: &SharedTable<4, 4>, pass: &mut Pass, versions: &[Rules<4, 4>; 4], i: u64) -> bool
+    requires own { identity_of pass.old ≡ table.now }
+    requires online { IsOnline pass.old }
+    ensures own { identity_of pass.new ≡ identity_of pass.old }
+    ensures online { IsOnline pass.new }
+{
+    let addr = (i % 256) as u32;
+    let answer = pass.lookup(table, addr);
+    if i % 16 == 15 {
+        pass.quiescent(table);
+    }
+    !is_of_a_version(versions, addr, &answer)
+}
+
+// Goes online, looks up all addresses, again and again, and goes offline. How many answers were wrong.
+fn look_all(table: &SharedTable<4, 4>, pass: &mut Pass, versions: &[Rules<4, 4>; 4]) -> u64
+    requires own { identity_of pass.old ≡ table.now }
+    requires offline { IsOffline pass.old }
+{
+    pass.online(table);
+    let mut wrong = 0u64;
+    for i in 0..LOOKUPS {
+        wrong = wrong.saturating_add(u64::from(look(table, pass, versions, i)));
+    }
+    pass.offline(table);
+    wrong
+}
+
+// Two passes look up, each on a thread. How many answers of each were wrong.
+fn look_beside<R: Threads + Sync>(
+    rt: &R,
+    table: &SharedTable<4, 4>,
+    one: &mut Pass,
+    other: &mut Pass,
+    versions: &[Rules<4, 4>; 4],
+) -> (u64, u64)
+    requires one { (identity_of one.old ≡ table.now) × IsOffline one.old }
+    requires other { (identity_of other.old ≡ table.now) × IsOffline other.old }
+{
+    join(
+        rt,
+        || -> u64
+            requires { (identity_of one.now ≡ table.now) × IsOffline one.now }
+        { look_all(table, one, versions) },
+        || -> u64
+            requires { (identity_of other.now ≡ table.now) × IsOffline other.now }
+        { look_all(table, other, versions) },
+    )
+}
+
+// The writer makes its changes on a thread, while two passes look up on theirs. How many changes were made,
+// and how many answers of each pass were wrong.
+fn change_beside<R: Threads + Sync>(
+    rt: &R,
+    table: &SharedTable<4, 4>,
+    writer: &mut Writer<4, 4>,
+    rules: &[Rule; 2],
+    one: &mut Pass,
+    other: &mut Pass,
+    versions: &[Rules<4, 4>; 4],
+) -> (u64, (u64, u64))
+    requires writer { writer.old.identity ≡ table.now }
+    requires one { (identity_of one.old ≡ table.now) × IsOffline one.old }
+    requires other { (identity_of other.old ≡ table.now) × IsOffline other.old }
+{
+    join(
+        rt,
+        || -> u64
+            requires { writer.now.identity ≡ table.now }
+        { change_all(table, writer, rules) },
+        || -> (u64, u64)
+            requires sync { IsSync R.row }
+            requires one { (identity_of one.now ≡ table.now) × IsOffline one.now }
+            requires other { (identity_of other.now ≡ table.now) × IsOffline other.now }
+        { look_beside(rt, table, one, other, versions) },
+    )
+}
+
+fn rule(rt: &impl Abort, bits: u32, number: u32) -> Rule {
+    assert!(rt; Shape::<4, 4>::is_addr(bits));
+    let prefix = Prefix::new(bits, 8).expect(rt, "a length");
+    (prefix, Hop::new(number).expect(rt, "a next hop"))
+}
+
+// The rules of a version that has these.
+fn version(alloc: Global, rules: &[Rule]) -> Result<Rules<4, 4>, Fail> {
+    let mut list = Rules::new(alloc, LIMITS.rules);
+    for (prefix, hop) in rules {
+        list.put(prefix, *hop)?;
+    }
+    Ok(list)
+}
+
+#[test]
+fn lookups_beside_updates(rt: HostRuntime) -> Result<(), Fail> {
+    let rules = [rule(&rt, 0x12, 1), rule(&rt, 0x35, 2)];
+    let [first, second] = rules;
+    let versions = [
+        version(rt.alloc(), &[])?,
+        version(rt.alloc(), &[first])?,
+        version(rt.alloc(), &[])?,
+        version(rt.alloc(), &[second])?,
+    ];
+    let (table, mut writer, mut bench) = open::<4, 4>(rt.alloc(), LIMITS)?;
+    let mut one = bench.register(&table, 0)?;
+    let mut other = bench.register(&table, 1)?;
+    let done = change_beside(
+        &rt,
+        &table,
+        &mut writer,
+        &rules,
+        &mut one,
+        &mut other,
+        &versions,
+    );
+    assert_eq!(rt; done, (CHANGES, (0, 0)));
+    Ok(())
+}
