@@ -1,4 +1,6 @@
+use super::asserting::{assert_at, assert_shown};
 use lpm_bits::{BadHop, BadLength, Hop, Prefix, Shape};
+use std::process::Abort;
 use std::test::Fail;
 
 // The definition of covering, computed digit by digit: both have the same first bits.
@@ -19,24 +21,40 @@ fn covering_by_the_definition(rt: HostRuntime) -> Result<(), Fail> {
             let prefix = Prefix::<3, 2>::new(bits, len)?;
             for addr in 0..32u32 {
                 let plainly = covers_plainly(5, bits, len, addr);
-                assert_eq!(rt; prefix.covers(addr), plainly, "{bits}/{len} {addr}");
+                assert_at(&rt, (bits, len, addr), prefix.covers(addr), plainly);
             }
         }
     }
     Ok(())
 }
 
+type Ipv4 = Prefix<24, 8>;
+
+// The bits and the length that a prefix is made of, the bits that it keeps, and whether it covers an
+// address.
+const COVERS: [(u32, u32, u32, u32, bool); 6] = [
+    (0xffff_ffff, 0, 0, 0, true),
+    (0xffff_ffff, 0, 0, 0xffff_ffff, true),
+    (0x0a01_0203, 8, 0x0a00_0000, 0x0a09_0909, true),
+    (0x0a01_0203, 8, 0x0a00_0000, 0x0b00_0000, false),
+    (0xffff_ffff, 32, 0xffff_ffff, 0xffff_ffff, true),
+    (0xffff_ffff, 32, 0xffff_ffff, 0xffff_fffe, false),
+];
+
+// The prefix of these bits and this length keeps these bits and that length.
+fn assert_prefix(rt: &impl Abort, bits: u32, len: u32, kept: u32) -> Result<Ipv4, BadLength> {
+    let prefix = Ipv4::new(bits, len)?;
+    assert_at(rt, (bits, len), (prefix.bits(), prefix.len()), (kept, len));
+    Ok(prefix)
+}
+
 #[test]
 fn prefixes_of_32_bits(rt: HostRuntime) -> Result<(), Fail> {
-    let all = Prefix::<24, 8>::new(0xffff_ffff, 0)?;
-    assert_eq!(rt; (all.bits(), all.len()), (0, 0));
-    assert!(rt; all.covers(0) && all.covers(0xffff_ffff));
-    let ten = Prefix::<24, 8>::new(0x0a01_0203, 8)?;
-    assert_eq!(rt; (ten.bits(), ten.len()), (0x0a00_0000, 8));
-    assert!(rt; ten.covers(0x0a09_0909) && !ten.covers(0x0b00_0000));
-    let last = Prefix::<24, 8>::new(0xffff_ffff, 32)?;
-    assert!(rt; last.covers(0xffff_ffff) && !last.covers(0xffff_fffe));
-    assert!(rt; Prefix::<24, 8>::new(0, 33).is_err());
+    for (bits, len, kept, addr, is_covered) in COVERS {
+        let prefix = assert_prefix(&rt, bits, len, kept)?;
+        assert_at(&rt, (bits, len, addr), prefix.covers(addr), is_covered);
+    }
+    assert!(rt; Ipv4::new(0, 33).is_err());
     assert!(rt; Prefix::<4, 4>::new(0, 9).is_err());
     Ok(())
 }
@@ -45,9 +63,21 @@ fn prefixes_of_32_bits(rt: HostRuntime) -> Result<(), Fail> {
 fn indices_and_hops(rt: HostRuntime) -> Result<(), Fail> {
     assert!(rt; Shape::<24, 8>::is_addr(0xffff_ffff));
     assert!(rt; Shape::<4, 4>::is_addr(0xff) && !Shape::<4, 4>::is_addr(0x100));
-    assert_eq!(rt; Shape::<24, 8>::first_index(0x0a01_0180), 0x0a_0101);
-    assert_eq!(rt; Shape::<24, 8>::second_index(0x0a01_0180), 0x80);
-    assert_eq!(rt; Hop::new(16_777_215)?.number(), 16_777_215);
+    let addr = 0x0a01_0180;
+    assert_at(
+        &rt,
+        "first index",
+        Shape::<24, 8>::first_index(addr),
+        0x0a_0101,
+    );
+    assert_at(
+        &rt,
+        "second index",
+        Shape::<24, 8>::second_index(addr),
+        0x80,
+    );
+    let last = Hop::new(16_777_215)?;
+    assert_at(&rt, "the last hop", last.number(), 16_777_215);
     assert!(rt; Hop::new(16_777_216).is_err());
     Ok(())
 }
@@ -55,12 +85,11 @@ fn indices_and_hops(rt: HostRuntime) -> Result<(), Fail> {
 #[test]
 fn texts_of_the_faults(rt: HostRuntime) -> Result<(), Fail> {
     let alloc = rt.alloc();
-    let length = format!(in alloc; "{}", BadLength)?;
-    assert_eq!(rt;
-        length.as_str(),
-        "prefix length past the bits of an address"
-    );
-    let hop = format!(in alloc; "{}", BadHop)?;
-    assert_eq!(rt; hop.as_str(), "next hop past 24 bits");
-    Ok(())
+    assert_shown(
+        &rt,
+        alloc,
+        &BadLength,
+        "prefix length past the bits of an address",
+    )?;
+    assert_shown(&rt, alloc, &BadHop, "next hop past 24 bits")
 }

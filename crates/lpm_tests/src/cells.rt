@@ -1,8 +1,10 @@
 ghost use Rattle.std.specs.Prelude.{◌<◌, length};
 
+use super::asserting::assert_at;
 use lpm_bits::Hop;
 use lpm_cells::{Cells, PlainCells};
 use lpm_entry::Entry;
+use std::process::Abort;
 use std::test::Fail;
 
 // Stores and loads through the trait alone.
@@ -26,26 +28,40 @@ fn fill<C: Cells>(cells: &mut C, i: usize, word: u64) -> u64
     old
 }
 
+fn assert_misses(rt: &impl Abort, cells: &PlainCells<4, 4>) {
+    for addr in 0..256u32 {
+        assert_at(rt, addr, cells.read(addr), None);
+    }
+}
+
+// The hop of an address where hop 7 is that of block 2, and hop 5 is in the group of block 1.
+fn hop_plainly(addr: u32) -> Option<Hop> {
+    match addr {
+        0x12 => Hop::new(5).ok(),
+        0x20..0x30 => Hop::new(7).ok(),
+        _ => None,
+    }
+}
+
+fn assert_hops(rt: &impl Abort, cells: &PlainCells<4, 4>) {
+    for addr in 0..256u32 {
+        assert_at(rt, addr, cells.read(addr), hop_plainly(addr));
+    }
+}
+
 #[test]
 #[tactic(auto, unfolding(lpm_entry::specs::Words::entry_in))]
 fn reads_one_word_or_two(rt: HostRuntime) -> Result<(), Fail> {
     let mut cells = PlainCells::<4, 4>::new(rt.alloc(), 1)?;
-    assert_eq!(rt; cells.seconds(), 16);
-    for addr in 0..256u32 {
-        assert_eq!(rt; cells.read(addr), None);
-    }
-    assert_eq!(rt; fill(&mut cells, 2, 0x2100_0005), 0);
-    assert_eq!(rt; link(&mut cells, 1, 0x0300_0000), 0);
-    assert_eq!(rt; link(&mut cells, 2, 0x1100_0007), 0);
-    for addr in 0..256u32 {
-        let plainly = match addr {
-            0x12 => Hop::new(5).ok(),
-            0x20..0x30 => Hop::new(7).ok(),
-            _ => None,
-        };
-        assert_eq!(rt; cells.read(addr), plainly, "{addr}");
-    }
-    assert_eq!(rt; Entry::of_word(cells.first(1)), Entry::Group(0));
-    assert_eq!(rt; Entry::of_word(cells.second(2)).hop(), Hop::new(5).ok());
+    assert_at(&rt, "second words", cells.seconds(), 16);
+    assert_misses(&rt, &cells);
+    assert_at(&rt, "hop 5", fill(&mut cells, 2, 0x2100_0005), 0);
+    assert_at(&rt, "a group", link(&mut cells, 1, 0x0300_0000), 0);
+    assert_at(&rt, "hop 7", link(&mut cells, 2, 0x1100_0007), 0);
+    assert_hops(&rt, &cells);
+    let group = Entry::of_word(cells.first(1));
+    assert_at(&rt, "a group", group, Entry::Group(0));
+    let five = Entry::of_word(cells.second(2)).hop();
+    assert_at(&rt, "hop 5", five, Hop::new(5).ok());
     Ok(())
 }

@@ -1,10 +1,19 @@
-use lpm_bits::Hop;
+use super::asserting::assert_at;
+use lpm_bits::{BadHop, Hop};
 use lpm_entry::Entry;
+use std::process::Abort;
 use std::test::Fail;
 
-fn hop_entry(number: u32, depth: u32) -> Option<Entry> {
-    let hop = Hop::new(number).ok()?;
-    Some(Entry::Hop { hop, depth })
+// The word of a hop with this number and this depth.
+fn assert_word(rt: &impl Abort, number: u32, depth: u32, word: u32) -> Result<(), BadHop> {
+    let word = u64::from(word);
+    let hop = Hop::new(number)?;
+    assert!(rt; depth <= 32);
+    let entry = Entry::from_word::<24, 8>(word);
+    assert_at(rt, word, entry, Some(Entry::Hop { hop, depth }));
+    assert_at(rt, word, Entry::of_word(word).hop(), Some(hop));
+    assert_at(rt, word, Entry::Hop { hop, depth }.to_word(), word);
+    Ok(())
 }
 
 #[test]
@@ -17,19 +26,14 @@ fn words_of_the_layout(rt: HostRuntime) -> Result<(), Fail> {
         (16_777_215, 32, 0x81ff_ffff),
     ];
     for (number, depth, word) in rows {
-        assert_eq!(rt; Entry::from_word::<24, 8>(word), hop_entry(number, depth));
-        assert_eq!(rt; Entry::of_word(word).hop(), Hop::new(number).ok());
-        let hop = Hop::new(number)?;
-        assert!(rt; depth <= 32);
-        assert_eq!(rt; Entry::Hop { hop, depth }.to_word(), word);
+        assert_word(&rt, number, depth, word)?;
     }
-    assert_eq!(rt; Entry::Group(0).to_word(), 0x0300_0000);
-    assert_eq!(rt;
-        Entry::from_word::<24, 8>(0x0300_0007),
-        Some(Entry::Group(7))
-    );
-    assert_eq!(rt; Entry::Miss.to_word(), 0);
-    assert_eq!(rt; Entry::from_word::<24, 8>(0), Some(Entry::Miss));
+    assert_at(&rt, "group 0", Entry::Group(0).to_word(), 0x0300_0000);
+    let group = Entry::from_word::<24, 8>(0x0300_0007);
+    assert_at(&rt, "group 7", group, Some(Entry::Group(7)));
+    assert_at(&rt, "a miss", Entry::Miss.to_word(), 0);
+    let miss = Entry::from_word::<24, 8>(0);
+    assert_at(&rt, "a miss", miss, Some(Entry::Miss));
     Ok(())
 }
 
@@ -44,7 +48,8 @@ fn words_of_no_entry(rt: HostRuntime) {
         u64::MAX,
     ];
     for word in rows {
-        assert_eq!(rt; Entry::from_word::<24, 8>(word), None, "{word}");
+        assert_at(&rt, word, Entry::from_word::<24, 8>(word), None);
     }
-    assert_eq!(rt; Entry::from_word::<4, 4>(0x2500_0001), None);
+    let narrow = Entry::from_word::<4, 4>(0x2500_0001);
+    assert_at(&rt, "over 4 and 4 bits", narrow, None);
 }

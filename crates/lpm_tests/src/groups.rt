@@ -1,3 +1,4 @@
+use super::asserting::assert_at;
 use lpm_groups::{Counts, GroupState, Groups};
 use std::process::Abort;
 use std::test::Fail;
@@ -14,45 +15,41 @@ fn move_on(groups: &mut Groups, group: u32) {
 }
 
 fn assert_counts(rt: &impl Abort, groups: &Groups, in_use: usize, limbo: usize, free: usize) {
-    assert_eq!(rt;
-        groups.counts(),
-        Counts {
-            in_use,
-            limbo,
-            free
-        }
-    );
-    assert_eq!(rt; groups.is_any_free(), free > 0);
+    let counts = Counts {
+        in_use,
+        limbo,
+        free,
+    };
+    assert_at(rt, "counts", groups.counts(), counts);
+    assert_at(rt, "is any free", groups.is_any_free(), free > 0);
 }
 
 #[test]
 fn one_group_through_its_states(rt: HostRuntime) -> Result<(), Fail> {
     let mut groups = Groups::new(rt.alloc(), 1)?;
-    assert_eq!(rt; groups.len(), 1);
-    assert!(rt; !groups.is_empty());
-    assert_eq!(rt; groups.state(0), GroupState::Free);
+    assert_at(&rt, "groups", (groups.len(), groups.is_empty()), (1, false));
+    assert_at(&rt, "group 0", groups.state(0), GroupState::Free);
     assert_counts(&rt, &groups, 0, 0, 1);
 
-    assert_eq!(rt; groups.take_least(7), Some(0));
+    assert_at(&rt, "block 7", groups.take_least(7), Some(0));
     assert_counts(&rt, &groups, 1, 0, 0);
-    assert_eq!(rt; groups.take_least(8), None);
+    assert_at(&rt, "block 8", groups.take_least(8), None);
     assert_counts(&rt, &groups, 1, 0, 0);
 
     move_on(&mut groups, 0);
     assert_counts(&rt, &groups, 0, 1, 0);
-    assert_eq!(rt; groups.take_least(9), None);
+    assert_at(&rt, "block 9", groups.take_least(9), None);
     move_on(&mut groups, 0);
     assert_counts(&rt, &groups, 0, 0, 1);
-    assert_eq!(rt; groups.take_least(10), Some(0));
+    assert_at(&rt, "block 10", groups.take_least(10), Some(0));
     Ok(())
 }
 
 #[test]
 fn no_group_at_all(rt: HostRuntime) -> Result<(), Fail> {
     let mut groups = Groups::new(rt.alloc(), 0)?;
-    assert_eq!(rt; groups.len(), 0);
-    assert!(rt; groups.is_empty());
-    assert_eq!(rt; groups.take_least(0), None);
+    assert_at(&rt, "groups", (groups.len(), groups.is_empty()), (0, true));
+    assert_at(&rt, "block 0", groups.take_least(0), None);
     assert_counts(&rt, &groups, 0, 0, 0);
     Ok(())
 }
@@ -65,21 +62,43 @@ fn moved_on(state: GroupState) -> GroupState {
     }
 }
 
+fn counts_plainly(model: &[GroupState]) -> Counts {
+    let linked = |state: &&GroupState| matches!(state, GroupState::Linked(_));
+    let limbo = |state: &&GroupState| **state == GroupState::Limbo;
+    let free = |state: &&GroupState| **state == GroupState::Free;
+    Counts {
+        in_use: model.iter().filter(linked).count(),
+        limbo: model.iter().filter(limbo).count(),
+        free: model.iter().filter(free).count(),
+    }
+}
+
 // Compares the whole table with the plain list of states.
 fn assert_same(rt: &impl Abort, groups: &Groups, model: &[GroupState]) {
     for (group, state) in model.iter().enumerate() {
         assert!(rt; group < groups.len());
-        assert_eq!(rt; groups.state(group as u32), *state, "group {group}");
+        assert_at(rt, group, groups.state(group as u32), *state);
     }
-    let linked = |state: &&GroupState| matches!(state, GroupState::Linked(_));
-    let limbo = |state: &&GroupState| **state == GroupState::Limbo;
-    let free = |state: &&GroupState| **state == GroupState::Free;
-    let counts = Counts {
-        in_use: model.iter().filter(linked).count(),
-        limbo: model.iter().filter(limbo).count(),
-        free: model.iter().filter(free).count(),
-    };
-    assert_eq!(rt; groups.counts(), counts);
+    assert_at(rt, "counts", groups.counts(), counts_plainly(model));
+}
+
+// Takes the least free group for this block, as the list has it.
+fn take_both(rt: &impl Abort, groups: &mut Groups, model: &mut [GroupState], block: usize) {
+    let least = model.iter().position(|state| *state == GroupState::Free);
+    let taken = groups.take_least(block).map(|group| group as usize);
+    assert_at(rt, block, taken, least);
+    if let Some(least) = least {
+        assert!(rt; least < model.len());
+        model[least] = GroupState::Linked(block);
+    }
+}
+
+// Moves the group on, in the list too.
+fn move_both(rt: &impl Abort, groups: &mut Groups, model: &mut [GroupState], group: u32) {
+    move_on(groups, group);
+    let place = group as usize;
+    assert!(rt; place < model.len());
+    model[place] = moved_on(model[place]);
 }
 
 // A run of 3,000 calls over 40 groups, beside a list that each call scans from its first group.
@@ -92,16 +111,9 @@ fn run_beside_a_scanned_list(rt: HostRuntime) -> Result<(), Fail> {
         random = random.wrapping_mul(1_103_515_245).wrapping_add(12_345);
         let group = (random >> 16) % 40;
         if random >> 31 == 0 {
-            let least = model.iter().position(|state| *state == GroupState::Free);
-            assert_eq!(rt; groups.take_least(call).map(|group| group as usize), least);
-            if let Some(least) = least {
-                assert!(rt; least < model.len());
-                model[least] = GroupState::Linked(call);
-            }
+            take_both(&rt, &mut groups, &mut model, call);
         } else {
-            move_on(&mut groups, group);
-            assert!(rt; (group as usize) < model.len());
-            model[group as usize] = moved_on(model[group as usize]);
+            move_both(&rt, &mut groups, &mut model, group);
         }
         assert_same(&rt, &groups, &model);
     }

@@ -3,8 +3,11 @@ ghost use Rattle.qsbr.specs.Counters.{IsChecked};
 ghost use Rattle.defer_queue.specs.Retired.{AreRetired};
 ghost use Rattle.defer_queue.specs.Longest.{TakesLongest};
 
+use super::asserting::assert_at;
 use defer_queue::{DeferQueue, Grace, Reclaimed};
 use qsbr::{Busy, Domain};
+use std::alloc::Global;
+use std::process::Abort;
 use std::test::Fail;
 
 // A table's part in a reclaim: its domain, and the token under which each group is retired, 0 for
@@ -171,6 +174,20 @@ fn reclaim_plainly(counters: [u64; 2], tokens: [u64; 3], max: usize) -> Reclaime
     }
 }
 
+// So many are freed, and the worker's counter stops it.
+fn stopped(freed: usize, worker: usize, counter: u64) -> Reclaimed {
+    let stopped = Some(Busy { worker, counter });
+    Reclaimed { freed, stopped }
+}
+
+// So many are freed, and nothing stops it.
+fn unstopped(freed: usize) -> Reclaimed {
+    Reclaimed {
+        freed,
+        stopped: None,
+    }
+}
+
 #[test]
 fn two_workers(rt: HostRuntime) -> Result<(), Fail> {
     let mut domain = Domain::new(rt.alloc(), 2, 1)?;
@@ -182,43 +199,49 @@ fn two_workers(rt: HostRuntime) -> Result<(), Fail> {
     assert!(rt; give_up(&mut domain, &mut queue, &mut tokens, 1));
 
     let first = reclaim(&domain, &mut queue, &mut tokens, 16);
-    let zero_at_1 = Busy {
-        worker: 0,
-        counter: 1,
-    };
-    assert_eq!(rt; (first.freed, first.stopped), (0, Some(zero_at_1)));
+    assert_at(&rt, "first", first, stopped(0, 0, 1));
     domain.quiescent(0);
     let second = reclaim(&domain, &mut queue, &mut tokens, 16);
-    let one_at_2 = Busy {
-        worker: 1,
-        counter: 2,
-    };
-    assert_eq!(rt; (second.freed, second.stopped), (1, Some(one_at_2)));
+    assert_at(&rt, "second", second, stopped(1, 1, 2));
     domain.offline(1);
     let third = reclaim(&domain, &mut queue, &mut tokens, 16);
-    assert_eq!(rt; (third.freed, third.stopped), (1, None));
+    assert_at(&rt, "third", third, unstopped(1));
     assert!(rt; queue.is_empty());
-    assert_eq!(rt; tokens.as_slice(), [0, 0].as_slice());
+    assert_at(&rt, "tokens", tokens.as_slice(), &[0, 0]);
+    Ok(())
+}
+
+// The fronts of a queue of three, where none, one, two and all are freed.
+const FRONTS: [Option<(u32, u64)>; 4] = [Some((0, 2)), Some((1, 3)), Some((2, 4)), None];
+
+// A reclaim from a queue of three, under two workers with these counters.
+fn assert_reclaimed(
+    rt: &impl Abort,
+    alloc: Global,
+    counters: [u64; 2],
+    max: usize,
+) -> Result<(), Fail> {
+    let mut domain = Domain::new(alloc, 2, 1)?;
+    let mut queue = DeferQueue::new(alloc, 3)?;
+    let mut tokens = vec![in alloc; 0u64; 3]?;
+    let retired = give_up_first(&mut domain, &mut queue, &mut tokens, 3);
+    assert_at(rt, "retired", retired, 3);
+    domain.set_counter(0, counters[0]);
+    domain.set_counter(1, counters[1]);
+    let reclaimed = reclaim(&domain, &mut queue, &mut tokens, max);
+    let plainly = reclaim_plainly(counters, [2, 3, 4], max);
+    assert_at(rt, (counters, max), reclaimed, plainly);
+    let front = FRONTS.get(reclaimed.freed).copied();
+    assert_at(rt, (counters, max), Some(queue.front()), front);
     Ok(())
 }
 
 #[test]
 fn reclaims_by_the_definition(rt: HostRuntime) -> Result<(), Fail> {
-    let fronts = [Some((0, 2)), Some((1, 3)), Some((2, 4)), None];
     for a in 0..5u64 {
         for b in 0..5u64 {
             for max in 0..5usize {
-                let mut domain = Domain::new(rt.alloc(), 2, 1)?;
-                let mut queue = DeferQueue::new(rt.alloc(), 3)?;
-                let mut tokens = vec![in rt.alloc(); 0u64; 3]?;
-                assert_eq!(rt; give_up_first(&mut domain, &mut queue, &mut tokens, 3), 3);
-                domain.set_counter(0, a);
-                domain.set_counter(1, b);
-                let reclaimed = reclaim(&domain, &mut queue, &mut tokens, max);
-                let plainly = reclaim_plainly([a, b], [2, 3, 4], max);
-                assert_eq!(rt; reclaimed, plainly, "{a} {b} {max}");
-                let front = fronts.get(reclaimed.freed).copied();
-                assert_eq!(rt; Some(queue.front()), front, "{a} {b} {max}");
+                assert_reclaimed(&rt, rt.alloc(), [a, b], max)?;
             }
         }
     }
@@ -231,26 +254,21 @@ fn pieces_of_a_queue(rt: HostRuntime) -> Result<(), Fail> {
     let mut queue = DeferQueue::new(rt.alloc(), 3)?;
     let mut tokens = vec![in rt.alloc(); 0u64; 4]?;
     let retired = give_up_first(&mut domain, &mut queue, &mut tokens, 4);
-    assert_eq!(rt; retired, 3, "it has room for three");
+    assert_at(&rt, "it has room for three", retired, 3);
     let none = reclaim(&domain, &mut queue, &mut tokens, 0);
-    assert_eq!(rt;
-        (none.freed, none.stopped, queue.front()),
-        (0, None, Some((0, 2)))
-    );
+    assert_at(&rt, "none", none, unstopped(0));
+    assert_at(&rt, "none", queue.front(), Some((0, 2)));
     let one = reclaim(&domain, &mut queue, &mut tokens, 1);
-    assert_eq!(rt;
-        (one.freed, one.stopped, queue.front()),
-        (1, None, Some((1, 3)))
-    );
+    assert_at(&rt, "one", one, unstopped(1));
+    assert_at(&rt, "one", queue.front(), Some((1, 3)));
     assert!(rt; give_up(&mut domain, &mut queue, &mut tokens, 0));
     let two = reclaim(&domain, &mut queue, &mut tokens, 2);
-    assert_eq!(rt;
-        (two.freed, two.stopped, queue.front()),
-        (2, None, Some((0, 5)))
-    );
+    assert_at(&rt, "two", two, unstopped(2));
+    assert_at(&rt, "two", queue.front(), Some((0, 5)));
     let last = reclaim(&domain, &mut queue, &mut tokens, 16);
-    assert_eq!(rt; (last.freed, last.stopped, queue.front()), (1, None, None));
-    assert_eq!(rt; tokens.as_slice(), [0, 0, 0, 0].as_slice());
+    assert_at(&rt, "last", last, unstopped(1));
+    assert_at(&rt, "last", queue.front(), None);
+    assert_at(&rt, "tokens", tokens.as_slice(), &[0, 0, 0, 0]);
     Ok(())
 }
 
@@ -260,38 +278,36 @@ fn remembered_token(rt: HostRuntime) -> Result<(), Fail> {
     let mut domain = Domain::new(rt.alloc(), 1, 1)?;
     let mut queue = DeferQueue::new(rt.alloc(), 2)?;
     let mut tokens = vec![in rt.alloc(); 0u64; 2]?;
-    assert_eq!(rt; give_up_first(&mut domain, &mut queue, &mut tokens, 2), 2);
+    let retired = give_up_first(&mut domain, &mut queue, &mut tokens, 2);
+    assert_at(&rt, "retired", retired, 2);
     let mut passed = 4;
     domain.set_counter(0, 1);
     let forgetting = reclaim(&domain, &mut queue, &mut tokens, 16);
-    let zero_at_1 = Busy {
-        worker: 0,
-        counter: 1,
-    };
-    assert_eq!(rt;
-        (forgetting.freed, forgetting.stopped),
-        (0, Some(zero_at_1))
-    );
+    assert_at(&rt, "forgetting", forgetting, stopped(0, 0, 1));
     let all = reclaim_remembering(&domain, &mut queue, &mut tokens, &mut passed, 16);
-    assert_eq!(rt; (all.freed, all.stopped, passed), (2, None, 4));
+    assert_at(&rt, "remembering", all, unstopped(2));
+    assert_at(&rt, "passed", passed, 4);
     Ok(())
+}
+
+// How many wait, and which is in front.
+fn assert_waiting(rt: &impl Abort, queue: &DeferQueue, len: usize, front: Option<(u32, u64)>) {
+    assert_at(rt, "waiting", (queue.len(), queue.front()), (len, front));
+    let ends = (queue.is_empty(), queue.is_full());
+    assert_at(rt, "empty, full", ends, (len == 0, len == queue.capacity()));
 }
 
 #[test]
 fn calls_of_a_queue(rt: HostRuntime) -> Result<(), Fail> {
     let mut queue = DeferQueue::new(rt.alloc(), 2)?;
-    assert!(rt; queue.is_empty() && !queue.is_full());
-    assert_eq!(rt;
-        (queue.len(), queue.capacity(), queue.front()),
-        (0, 2, None)
-    );
+    assert_at(&rt, "capacity", queue.capacity(), 2);
+    assert_waiting(&rt, &queue, 0, None);
     queue.retire(7, 1);
     queue.retire(8, 1 << 62);
-    assert!(rt; !queue.is_empty() && queue.is_full());
-    assert_eq!(rt; (queue.len(), queue.front()), (2, Some((7, 1))));
+    assert_waiting(&rt, &queue, 2, Some((7, 1)));
     queue.take_front();
     queue.retire(9, 3);
-    assert_eq!(rt; queue.front(), Some((8, 1 << 62)));
+    assert_at(&rt, "front", queue.front(), Some((8, 1 << 62)));
     let none = DeferQueue::new(rt.alloc(), 0)?;
     assert!(rt; none.is_empty() && none.is_full());
     Ok(())

@@ -1,5 +1,7 @@
+use super::asserting::{assert_at, assert_shown};
 use lpm_limits::{BadConfig, Busy, Config, Refusal};
-use std::alloc::AllocError;
+use std::alloc::{AllocError, Global};
+use std::process::Abort;
 use std::test::Fail;
 
 const USUAL: Config = Config {
@@ -49,30 +51,33 @@ const OUTSIDE: [Config; 10] = [
     },
 ];
 
+// Each limit at its first value, and at its last.
+const FIRST: Config = Config {
+    rules: 1,
+    groups: 1,
+    workers: 0,
+    threshold: 0,
+    reclaim_max: 1,
+    first_token: 1,
+};
+
+const LAST: Config = Config {
+    rules: 16_777_216,
+    groups: 65_536,
+    workers: 2_048,
+    threshold: 65_536,
+    reclaim_max: 65_536,
+    first_token: 1 << 62,
+};
+
 #[test]
 fn limits_of_a_config(rt: HostRuntime) {
-    assert_eq!(rt; Config::default(), USUAL);
-    let last = Config {
-        rules: 16_777_216,
-        groups: 65_536,
-        workers: 2_048,
-        threshold: 65_536,
-        reclaim_max: 65_536,
-        first_token: 1 << 62,
-    };
-    let first = Config {
-        rules: 1,
-        groups: 1,
-        workers: 0,
-        threshold: 0,
-        reclaim_max: 1,
-        first_token: 1,
-    };
-    for config in [USUAL, first, last] {
-        assert_eq!(rt; config.check(), Ok(()));
-    }
-    for config in OUTSIDE {
-        assert_eq!(rt; config.check(), Err(BadConfig), "{config:?}");
+    assert_at(&rt, "by default", Config::default(), USUAL);
+    assert_at(&rt, "usual", USUAL.check(), Ok(()));
+    assert_at(&rt, "first", FIRST.check(), Ok(()));
+    assert_at(&rt, "last", LAST.check(), Ok(()));
+    for config in &OUTSIDE {
+        assert_at(&rt, *config, config.check(), Err(BadConfig));
     }
 }
 
@@ -139,14 +144,18 @@ const REFUSALS: [Shown; 15] = [
     ),
 ];
 
+fn assert_refusal(rt: &impl Abort, alloc: Global, row: &Shown) -> Result<(), Fail> {
+    let (refusal, printed, text) = row;
+    let found = format!(in alloc; "{} {}", refusal.number(), refusal.name())?;
+    assert_at(rt, "number and name", found.as_str(), *printed);
+    assert_shown(rt, alloc, refusal, text)
+}
+
 #[test]
 fn numbers_names_and_texts_of_refusals(rt: HostRuntime) -> Result<(), Fail> {
-    assert_eq!(rt; Refusal::from(AllocError), Refusal::Memory);
-    for (refusal, printed, text) in REFUSALS {
-        let found = format!(in rt.alloc(); "{} {}", refusal.number(), refusal.name())?;
-        assert_eq!(rt; found.as_str(), printed);
-        let shown = format!(in rt.alloc(); "{refusal}")?;
-        assert_eq!(rt; shown.as_str(), text);
+    assert_at(&rt, "memory", Refusal::from(AllocError), Refusal::Memory);
+    for row in &REFUSALS {
+        assert_refusal(&rt, rt.alloc(), row)?;
     }
     Ok(())
 }
@@ -160,6 +169,6 @@ fn names_of_numbers(rt: HostRuntime) {
         (15, None),
     ];
     for (number, name) in names {
-        assert_eq!(rt; Refusal::name_of(number), name);
+        assert_at(&rt, number, Refusal::name_of(number), name);
     }
 }

@@ -1,4 +1,6 @@
+use super::asserting::assert_at;
 use qsbr::{Busy, Domain, none_holds_where_passed, older_tokens_pass, one_worker_is_first};
+use std::process::Abort;
 use std::test::Fail;
 
 // The worker that holds the token, by the definition: of those that are online and behind it, the
@@ -13,6 +15,15 @@ fn holder_plainly(counters: [u64; 3], token: u64) -> Option<usize> {
     holder
 }
 
+// Each token is held back by the worker that the definition says.
+fn assert_holders(rt: &impl Abort, domain: &Domain, counters: [u64; 3]) {
+    for token in 0..6u64 {
+        let holder = domain.check(token).err().map(|busy| busy.worker);
+        let plainly = holder_plainly(counters, token);
+        assert_at(rt, (counters, token), holder, plainly);
+    }
+}
+
 #[test]
 fn checks_by_the_definition(rt: HostRuntime) -> Result<(), Fail> {
     for a in 0..5u64 {
@@ -22,44 +33,39 @@ fn checks_by_the_definition(rt: HostRuntime) -> Result<(), Fail> {
                 domain.set_counter(0, a);
                 domain.set_counter(1, b);
                 domain.set_counter(2, c);
-                for token in 0..6u64 {
-                    let holder = domain.check(token).err().map(|busy| busy.worker);
-                    let plainly = holder_plainly([a, b, c], token);
-                    assert_eq!(rt; holder, plainly, "{a} {b} {c} at {token}");
-                }
+                assert_holders(&rt, &domain, [a, b, c]);
             }
         }
     }
     Ok(())
 }
 
+// The check of a token that the worker's counter holds back.
+fn held(worker: usize, counter: u64) -> Result<(), Busy> {
+    Err(Busy { worker, counter })
+}
+
 #[test]
 fn two_workers(rt: HostRuntime) -> Result<(), Fail> {
     let mut domain = Domain::new(rt.alloc(), 2, 1)?;
-    assert_eq!(rt; (domain.workers(), domain.token()), (2, 1));
+    assert_at(&rt, "new", (domain.workers(), domain.token()), (2, 1));
     domain.online(0);
     let first = domain.start();
     domain.online(1);
     let second = domain.start();
-    assert_eq!(rt; (first, second, domain.token()), (2, 3, 3));
-    assert_eq!(rt; (domain.counter(0), domain.counter(1)), (1, 2));
+    assert_at(&rt, "tokens", (first, second, domain.token()), (2, 3, 3));
+    let counters = (domain.counter(0), domain.counter(1));
+    assert_at(&rt, "counters", counters, (1, 2));
 
-    let zero_at_1 = Busy {
-        worker: 0,
-        counter: 1,
-    };
-    assert_eq!(rt; domain.check(first), Err(zero_at_1));
+    assert_at(&rt, "first", domain.check(first), held(0, 1));
     domain.quiescent(0);
-    assert_eq!(rt; domain.check(first), Ok(()));
-    let one_at_2 = Busy {
-        worker: 1,
-        counter: 2,
-    };
-    assert_eq!(rt; domain.check(second), Err(one_at_2));
+    assert_at(&rt, "first", domain.check(first), Ok(()));
+    assert_at(&rt, "second", domain.check(second), held(1, 2));
     domain.offline(1);
-    assert_eq!(rt; domain.check(second), Ok(()));
+    assert_at(&rt, "second", domain.check(second), Ok(()));
     assert!(rt; domain.is_online(0) && !domain.is_online(1));
-    assert_eq!(rt; (domain.counter(0), domain.counter(1)), (3, 0));
+    let counters = (domain.counter(0), domain.counter(1));
+    assert_at(&rt, "counters", counters, (3, 0));
     Ok(())
 }
 
@@ -67,8 +73,8 @@ fn two_workers(rt: HostRuntime) -> Result<(), Fail> {
 fn no_workers_and_last_token(rt: HostRuntime) -> Result<(), Fail> {
     let mut domain = Domain::new(rt.alloc(), 0, (1 << 62) - 1)?;
     let token = domain.start();
-    assert_eq!(rt; token, 1 << 62);
-    assert_eq!(rt; domain.check(token), Ok(()));
+    assert_at(&rt, "token", token, 1 << 62);
+    assert_at(&rt, "check", domain.check(token), Ok(()));
     older_tokens_pass();
     none_holds_where_passed();
     one_worker_is_first();

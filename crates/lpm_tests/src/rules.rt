@@ -1,5 +1,6 @@
 ghost use Rattle.std.specs.Prelude.{◌<◌};
 
+use super::asserting::{assert_at, assert_shown};
 use lpm_bits::{BadLength, Hop, Prefix};
 use lpm_rules::{NoSuchRule, Put, RuleFault, Rules};
 use std::alloc::Global;
@@ -65,38 +66,52 @@ fn plain_deep(rules: &[Plain], block: u32) -> usize {
         .count()
 }
 
-fn assert_same(rt: &impl Abort, rules: &Small, plain: &[Plain]) -> Result<(), BadLength> {
-    assert_eq!(rt; rules.len(), plain.len());
+// The rule of the table at the prefix, and its cover.
+fn assert_rule(rt: &impl Abort, rules: &Small, plain: &[Plain], prefix: &SmallPrefix) {
+    let (bits, len) = (prefix.bits(), prefix.len());
+    let hop = rules.get(prefix).map(|hop| hop.number());
+    assert_at(rt, ("get", bits, len), hop, plain_get(plain, prefix));
+    let cover = rules.cover(prefix).map(|rule| Plain {
+        bits: rule.prefix.bits(),
+        len: rule.prefix.len(),
+        hop: rule.hop.number(),
+    });
+    let plainly = plain_longest(plain, len, bits);
+    assert_at(rt, ("cover", bits, len), cover, plainly);
+}
+
+// Every address, and every prefix.
+fn assert_rules(rt: &impl Abort, rules: &Small, plain: &[Plain]) -> Result<(), BadLength> {
     for addr in 0..256u32 {
         let hop = rules.longest(addr).map(|hop| hop.number());
-        let expected = plain_longest(plain, 9, addr).map(|rule| rule.hop);
-        assert_eq!(rt; hop, expected, "longest at {addr}");
+        let plainly = plain_longest(plain, 9, addr).map(|rule| rule.hop);
+        assert_at(rt, ("longest", addr), hop, plainly);
         for len in 0..9u32 {
-            let prefix = SmallPrefix::new(addr, len)?;
-            let hop = rules.get(&prefix).map(|hop| hop.number());
-            assert_eq!(rt; hop, plain_get(plain, &prefix), "get {addr}/{len}");
-            let cover = rules.cover(&prefix).map(|rule| Plain {
-                bits: rule.prefix.bits(),
-                len: rule.prefix.len(),
-                hop: rule.hop.number(),
-            });
-            assert_eq!(rt;
-                cover,
-                plain_longest(plain, len, prefix.bits()),
-                "cover of {addr}/{len}"
-            );
+            assert_rule(rt, rules, plain, &SmallPrefix::new(addr, len)?);
         }
     }
+    Ok(())
+}
+
+// Every block.
+fn assert_blocks(rt: &impl Abort, rules: &Small, plain: &[Plain]) {
     let mut blocks = 0usize;
     for block in 0..16u32 {
+        let place = block as usize;
         let deep = plain_deep(plain, block);
-        assert_eq!(rt; rules.deep_in(block as usize), deep, "deep in {block}");
-        assert_eq!(rt; rules.is_deep(block as usize), deep > 0, "is {block} deep");
+        let found = (rules.deep_in(place), rules.is_deep(place));
+        assert_at(rt, ("deep", block), found, (deep, deep > 0));
         if deep > 0 {
             blocks = blocks.saturating_add(1);
         }
     }
-    assert_eq!(rt; rules.deep_blocks(), blocks);
+    assert_at(rt, "deep blocks", rules.deep_blocks(), blocks);
+}
+
+fn assert_same(rt: &impl Abort, rules: &Small, plain: &[Plain]) -> Result<(), BadLength> {
+    assert_at(rt, "rules", rules.len(), plain.len());
+    assert_rules(rt, rules, plain)?;
+    assert_blocks(rt, rules, plain);
     Ok(())
 }
 
@@ -107,49 +122,72 @@ fn some_prefix(i: u32) -> Result<SmallPrefix, BadLength>
     SmallPrefix::new((i * 37 + i / 3) % 64 * 3, i * 5 % 9)
 }
 
-#[test]
-fn plain_search_agrees(rt: HostRuntime) -> Result<(), Fail> {
-    let max = 24;
-    let mut rules = Small::new(rt.alloc(), max);
-    let mut plain: Vec<Plain> = Vec::new(rt.alloc());
-    assert_same(&rt, &rules, &plain)?;
+// The list without the rule of the prefix.
+fn plain_remove(plain: &mut Vec<Plain>, prefix: &SmallPrefix) {
+    plain.retain(|rule| !is_of(rule, prefix));
+}
+
+// What comes of a rule that is put into a list of at most so many.
+fn plain_put(
+    plain: &mut Vec<Plain>,
+    max: usize,
+    prefix: &SmallPrefix,
+    hop: u32,
+) -> Result<Result<Put, RuleFault>, Fail> {
+    let put = match plain_get(plain, prefix) {
+        Some(old) if old == hop => Put::Unchanged,
+        Some(_) => Put::Replaced,
+        None if plain.len() >= max => return Ok(Err(RuleFault::TooManyRules)),
+        None => Put::Added,
+    };
+    plain_remove(plain, prefix);
+    plain.push(Plain {
+        bits: prefix.bits(),
+        len: prefix.len(),
+        hop,
+    })?;
+    Ok(Ok(put))
+}
+
+// How many rules the table and the list have room for.
+const MOST_RULES: usize = 24;
+
+fn put_all(rt: &impl Abort, rules: &mut Small, plain: &mut Vec<Plain>) -> Result<(), Fail> {
     for i in 0..60u32 {
         let prefix = some_prefix(i)?;
-        let hop = i % 7;
-        let expected = match plain_get(&plain, &prefix) {
-            Some(old) if old == hop => Ok(Put::Unchanged),
-            Some(_) => Ok(Put::Replaced),
-            None if plain.len() >= max => Err(RuleFault::TooManyRules),
-            None => Ok(Put::Added),
-        };
-        assert_eq!(rt; rules.put(&prefix, Hop::new(hop)?), expected, "put {i}");
-        if expected.is_ok() {
-            plain.retain(|rule| !is_of(rule, &prefix));
-            plain.push(Plain {
-                bits: prefix.bits(),
-                len: prefix.len(),
-                hop,
-            })?;
-        }
+        let put = rules.put(&prefix, Hop::new(i % 7)?);
+        let plainly = plain_put(plain, MOST_RULES, &prefix, i % 7)?;
+        assert_at(rt, ("put", i), put, plainly);
         if i % 6 == 5 {
-            assert_same(&rt, &rules, &plain)?;
+            assert_same(rt, rules, plain)?;
         }
     }
-    assert!(rt; rules.is_full());
+    Ok(())
+}
+
+fn remove_all(rt: &impl Abort, rules: &mut Small, plain: &mut Vec<Plain>) -> Result<(), Fail> {
     for i in 0..40u32 {
         let prefix = some_prefix(i)?;
         let removed = rules.remove(&prefix).map(|hop| hop.number());
-        assert_eq!(rt;
-            removed,
-            plain_get(&plain, &prefix).ok_or(NoSuchRule),
-            "remove {i}"
-        );
-        plain.retain(|rule| !is_of(rule, &prefix));
+        let plainly = plain_get(plain, &prefix).ok_or(NoSuchRule);
+        assert_at(rt, ("remove", i), removed, plainly);
+        plain_remove(plain, &prefix);
         if i % 6 == 5 {
-            assert_same(&rt, &rules, &plain)?;
+            assert_same(rt, rules, plain)?;
         }
     }
-    assert_eq!(rt; rules.clear(), plain.len());
+    Ok(())
+}
+
+#[test]
+fn plain_search_agrees(rt: HostRuntime) -> Result<(), Fail> {
+    let mut rules = Small::new(rt.alloc(), MOST_RULES);
+    let mut plain: Vec<Plain> = Vec::new(rt.alloc());
+    assert_same(&rt, &rules, &plain)?;
+    put_all(&rt, &mut rules, &mut plain)?;
+    assert!(rt; rules.is_full());
+    remove_all(&rt, &mut rules, &mut plain)?;
+    assert_at(&rt, "cleared", rules.clear(), plain.len());
     assert!(rt; rules.is_empty());
     assert_same(&rt, &rules, &[])?;
     Ok(())
@@ -157,8 +195,11 @@ fn plain_search_agrees(rt: HostRuntime) -> Result<(), Fail> {
 
 type Ipv4 = Rules<24, 8>;
 
-// A list with these rules: bits, length and next hop of each.
-fn list_of(alloc: Global, routes: &[(u32, u32, u32)]) -> Result<Ipv4, Fail> {
+// The bits, the length and the next hop of a rule.
+type Route = (u32, u32, u32);
+
+// A list with these rules.
+fn list_of(alloc: Global, routes: &[Route]) -> Result<Ipv4, Fail> {
     let mut rules = Ipv4::new(alloc, 100);
     for (bits, len, hop) in routes {
         rules.put(&Prefix::new(*bits, *len)?, Hop::new(*hop)?)?;
@@ -169,28 +210,32 @@ fn list_of(alloc: Global, routes: &[(u32, u32, u32)]) -> Result<Ipv4, Fail> {
 fn assert_hops(rt: &impl Abort, rules: &Ipv4, hops: &[(u32, Option<u32>)]) {
     for (addr, expected) in hops {
         let hop = rules.longest(*addr).map(|hop| hop.number());
-        assert_eq!(rt; hop, *expected, "longest at {addr}");
+        assert_at(rt, ("longest", *addr), hop, *expected);
     }
 }
 
+const EIGHT: Route = (0x0a00_0000, 8, 1);
+
+const SIXTEEN: Route = (0x0a01_0000, 16, 2);
+
+const TWENTY_FOUR: Route = (0x0a01_0100, 24, 4);
+
+const ORDERS: [[Route; 3]; 3] = [
+    [EIGHT, SIXTEEN, TWENTY_FOUR],
+    [TWENTY_FOUR, SIXTEEN, EIGHT],
+    [SIXTEEN, TWENTY_FOUR, EIGHT],
+];
+
 #[test]
 fn short_prefixes(rt: HostRuntime) -> Result<(), Fail> {
-    let eight = (0x0a00_0000, 8, 1);
-    let sixteen = (0x0a01_0000, 16, 2);
-    let twenty_four = (0x0a01_0100, 24, 4);
-    let orders = [
-        [eight, sixteen, twenty_four],
-        [twenty_four, sixteen, eight],
-        [sixteen, twenty_four, eight],
+    let hops = [
+        (0x0a01_01ff, Some(4)),
+        (0x0a01_0200, Some(2)),
+        (0x0a02_0000, Some(1)),
+        (0x09ff_ffff, None),
     ];
-    for routes in &orders {
+    for routes in &ORDERS {
         let rules = list_of(rt.alloc(), routes)?;
-        let hops = [
-            (0x0a01_01ff, Some(4)),
-            (0x0a01_0200, Some(2)),
-            (0x0a02_0000, Some(1)),
-            (0x09ff_ffff, None),
-        ];
         assert_hops(&rt, &rules, &hops);
     }
     Ok(())
@@ -224,9 +269,9 @@ fn last_address(rt: HostRuntime) -> Result<(), Fail> {
         &rules,
         &[(0xffff_fffe, None), (0xffff_ffff, Some(16_777_215))],
     );
-    assert_eq!(rt; rules.of_length(32).len(), 1);
-    assert_eq!(rt; rules.deep_in(0xff_ffff), 1);
-    assert_eq!(rt; rules.deep_blocks(), 1);
+    assert_at(&rt, "of length 32", rules.of_length(32).len(), 1);
+    assert_at(&rt, "deep in the last block", rules.deep_in(0xff_ffff), 1);
+    assert_at(&rt, "deep blocks", rules.deep_blocks(), 1);
     Ok(())
 }
 
@@ -241,7 +286,7 @@ fn one_rule(rt: HostRuntime) -> Result<(), Fail> {
     ];
     for (bits, hop, expected) in steps {
         let outcome = rules.put(&Prefix::new(bits, 8)?, Hop::new(hop)?);
-        assert_eq!(rt; outcome, expected, "put {bits}/8 {hop}");
+        assert_at(&rt, ("put", bits, hop), outcome, expected);
     }
     assert_hops(&rt, &rules, &[(0x0a00_0000, Some(5)), (0x0b00_0000, None)]);
     Ok(())
@@ -250,17 +295,7 @@ fn one_rule(rt: HostRuntime) -> Result<(), Fail> {
 #[test]
 fn texts_of_the_faults(rt: HostRuntime) -> Result<(), Fail> {
     let alloc = rt.alloc();
-    assert_eq!(rt;
-        format!(in alloc; "{}", RuleFault::TooManyRules)?.as_str(),
-        "too many rules"
-    );
-    assert_eq!(rt;
-        format!(in alloc; "{}", RuleFault::Memory)?.as_str(),
-        "out of memory"
-    );
-    assert_eq!(rt;
-        format!(in alloc; "{}", NoSuchRule)?.as_str(),
-        "no such rule"
-    );
-    Ok(())
+    assert_shown(&rt, alloc, &RuleFault::TooManyRules, "too many rules")?;
+    assert_shown(&rt, alloc, &RuleFault::Memory, "out of memory")?;
+    assert_shown(&rt, alloc, &NoSuchRule, "no such rule")
 }

@@ -4,6 +4,7 @@ ghost use Rattle.lpm_rules.specs.RuleMap.{RuleMap};
 ghost use Rattle.lpm_update.specs.Linked.{IsTable, IsLinkTo};
 ghost use Rattle.lpm_update.specs.Represents.{Represents, IsBegun, TurnsInto, AddFits, LastFits};
 
+use super::asserting::assert_at;
 use lpm_bits::{Hop, Prefix, Shape};
 use lpm_cells::{Cells, PlainCells};
 use lpm_rules::Rules;
@@ -140,44 +141,58 @@ impl Table {
     fn assert_first(&mut self, rt: &impl Abort, place: usize, word: u64) {
         let _words = self.cells.seconds();
         assert!(rt; place < 16);
-        assert_eq!(rt; self.cells.first(place), word, "first word {place}");
+        assert_at(rt, ("first word", place), self.cells.first(place), word);
     }
 
     fn assert_second(&mut self, rt: &impl Abort, place: usize, word: u64) {
         assert!(rt; place < self.cells.seconds());
-        assert_eq!(rt; self.cells.second(place), word, "second word {place}");
+        assert_at(rt, ("second word", place), self.cells.second(place), word);
     }
 
     // The stores of the last change were these, in this order.
     fn assert_made(&self, rt: &impl Abort, expected: &[Stores]) {
-        let mut steps = self.made.iter().copied();
-        for run in expected {
-            match *run {
-                Stores::Firsts(from, end) => {
-                    for place in from..end {
-                        assert_eq!(rt; steps.next(), Some(Did::First(place)));
-                    }
-                }
-                Stores::Seconds(from, end) => {
-                    for place in from..end {
-                        assert_eq!(rt; steps.next(), Some(Did::Second(place)));
-                    }
-                }
-                Stores::Unlinked(block, group) => {
-                    assert_eq!(rt; steps.next(), Some(Did::Unlinked { block, group }));
-                }
-            }
+        let mut made: usize = 0;
+        for stores in expected {
+            assert_stores(rt, &self.made, made, *stores);
+            made = made.saturating_add(stores.len());
         }
-        assert_eq!(rt; steps.next(), None);
+        assert_at(rt, "stores", self.made.len(), made);
     }
 }
 
 // Stores that follow each other upwards, from the first place up to, not including, the second.
-#[derive(Clone, Copy, Debug)]
+#[derive(Clone, Copy)]
 enum Stores {
     Firsts(usize, usize),
     Seconds(usize, usize),
     Unlinked(usize, u32),
+}
+
+impl Stores {
+    fn len(self) -> usize {
+        match self {
+            Stores::Firsts(from, end) | Stores::Seconds(from, end) => end.saturating_sub(from),
+            Stores::Unlinked(_, _) => 1,
+        }
+    }
+
+    // What the store of this number among them did.
+    fn did(self, number: usize) -> Did {
+        match self {
+            Stores::Firsts(from, _) => Did::First(from.saturating_add(number)),
+            Stores::Seconds(from, _) => Did::Second(from.saturating_add(number)),
+            Stores::Unlinked(block, group) => Did::Unlinked { block, group },
+        }
+    }
+}
+
+// The steps after this many are these stores.
+fn assert_stores(rt: &impl Abort, made: &[Did], before: usize, stores: Stores) {
+    for number in 0..stores.len() {
+        let place = before.saturating_add(number);
+        let did = made.get(place).copied();
+        assert_at(rt, place, did, Some(stores.did(number)));
+    }
 }
 
 const LINK: [Stores; 2] = [Stores::Seconds(0, 16), Stores::Firsts(1, 2)];
