@@ -1,11 +1,13 @@
 //! The tests of `route_text`: files of routes, addresses and updates, and the texts of what comes out.
 
-use lpm_bits::{Hop, Prefix};
+use super::asserting::{assert_at, assert_shown};
+use lpm_bits::{BadHop, Hop, Prefix};
 use route_text::{
     Fault, FaultKind, Order, Outcome, ReadError, Route, answers_text, outcomes_text,
     read_addresses, read_routes, read_updates, read_updates_v1, updates_text,
 };
 use std::alloc::Global;
+use std::process::Abort;
 use std::test::Fail;
 
 const KINDS: [(FaultKind, &str); 8] = [
@@ -23,40 +25,41 @@ const KINDS: [(FaultKind, &str); 8] = [
 fn texts_of_faults(rt: HostRuntime) -> Result<(), Fail> {
     for (kind, text) in KINDS {
         let fault = ReadError::Fault(Fault { line: 7, kind });
-        assert_eq!(rt; format!(in rt.alloc(); "{fault}")?.as_str(), text);
+        assert_shown(&rt, rt.alloc(), &fault, text)?;
     }
-    let memory = ReadError::Memory;
-    assert_eq!(rt;
-        format!(in rt.alloc(); "{memory}")?.as_str(),
-        "out of memory"
-    );
+    assert_shown(&rt, rt.alloc(), &ReadError::Memory, "out of memory")
+}
+
+/// A file of one route: its text, and the route's line, bits, length and hop.
+type OneRoute = (&'static str, usize, u32, u32, u32);
+
+const ONE_ROUTE: [OneRoute; 5] = [
+    ("10.1.2.3/8 5", 1, 0x0a00_0000, 8, 5),
+    ("0.0.0.0/0 1", 1, 0, 0, 1),
+    ("# c\r\n10.0.0.0/8 1\r\n", 2, 0x0a00_0000, 8, 1),
+    ("10.0.0.0/8 1", 1, 0x0a00_0000, 8, 1),
+    (
+        "\n \t\n\t192.168.255.1/24\t \t16777215 \n",
+        3,
+        0xc0a8_ff00,
+        24,
+        16_777_215,
+    ),
+];
+
+fn assert_route(rt: &impl Abort, alloc: Global, row: &OneRoute) -> Result<(), Fail> {
+    let (file, line, bits, len, hop) = *row;
+    let prefix = Prefix::new(bits, len)?;
+    let hop = Hop::new(hop)?;
+    let routes = read_routes(alloc, file.as_bytes())?;
+    assert_at(rt, file, routes.as_slice(), &[Route { line, prefix, hop }]);
     Ok(())
 }
 
 #[test]
 fn routes_of_the_cases(rt: HostRuntime) -> Result<(), Fail> {
-    let cases: [(&str, usize, u32, u32, u32); 5] = [
-        ("10.1.2.3/8 5", 1, 0x0a00_0000, 8, 5),
-        ("0.0.0.0/0 1", 1, 0, 0, 1),
-        ("# c\r\n10.0.0.0/8 1\r\n", 2, 0x0a00_0000, 8, 1),
-        ("10.0.0.0/8 1", 1, 0x0a00_0000, 8, 1),
-        (
-            "\n \t\n\t192.168.255.1/24\t \t16777215 \n",
-            3,
-            0xc0a8_ff00,
-            24,
-            16_777_215,
-        ),
-    ];
-    for (file, line, bits, len, hop) in cases {
-        let routes = read_routes(rt.alloc(), file.as_bytes())?;
-        let prefix = Prefix::new(bits, len)?;
-        let hop = Hop::new(hop)?;
-        assert_eq!(rt;
-            routes.as_slice(),
-            [Route { line, prefix, hop }].as_slice(),
-            "{file}"
-        );
+    for row in &ONE_ROUTE {
+        assert_route(&rt, rt.alloc(), row)?;
     }
     Ok(())
 }
@@ -70,68 +73,82 @@ fn fault_of<T: Drop>(read: Result<Vec<T>, ReadError>) -> Result<Option<Fault>, R
     }
 }
 
+/// Route files, each with the line of its fault, and its kind.
+const ROUTE_FAULTS: [(&str, usize, FaultKind); 11] = [
+    ("10.0.0.0/8 16777216", 1, FaultKind::Hop),
+    ("10.0.0.0/33 1", 1, FaultKind::Length),
+    ("10.0.256.0/24 1", 1, FaultKind::Address),
+    ("10.01.0.0/16 1", 1, FaultKind::Address),
+    ("0.0.0.0/00 1", 1, FaultKind::Length),
+    ("0.0.0.0/33 1", 1, FaultKind::Length),
+    ("10.0.0.0/8 1\n10.1.0.0/16", 2, FaultKind::Fields),
+    ("10.0.0.0 1", 1, FaultKind::Length),
+    ("10.0.0/8 70000000", 1, FaultKind::Address),
+    ("10.0.0.0/8/9 1", 1, FaultKind::Length),
+    ("10.0.0.0/8 1 #", 1, FaultKind::Fields),
+];
+
 #[test]
 fn faults_of_the_cases(rt: HostRuntime) -> Result<(), Fail> {
-    let cases: [(&str, usize, FaultKind); 11] = [
-        ("10.0.0.0/8 16777216", 1, FaultKind::Hop),
-        ("10.0.0.0/33 1", 1, FaultKind::Length),
-        ("10.0.256.0/24 1", 1, FaultKind::Address),
-        ("10.01.0.0/16 1", 1, FaultKind::Address),
-        ("0.0.0.0/00 1", 1, FaultKind::Length),
-        ("0.0.0.0/33 1", 1, FaultKind::Length),
-        ("10.0.0.0/8 1\n10.1.0.0/16", 2, FaultKind::Fields),
-        ("10.0.0.0 1", 1, FaultKind::Length),
-        ("10.0.0/8 70000000", 1, FaultKind::Address),
-        ("10.0.0.0/8/9 1", 1, FaultKind::Length),
-        ("10.0.0.0/8 1 #", 1, FaultKind::Fields),
-    ];
-    for (file, line, kind) in cases {
+    for (file, line, kind) in ROUTE_FAULTS {
         let fault = fault_of(read_routes(rt.alloc(), file.as_bytes()))?;
-        assert_eq!(rt; fault, Some(Fault { line, kind }), "{file}");
+        assert_at(&rt, file, fault, Some(Fault { line, kind }));
     }
     Ok(())
+}
+
+/// The fault of a file whose last byte this is, unless the byte is a blank, ends a line or begins a comment.
+fn unless_blank(byte: u8, line: usize, kind: FaultKind) -> Option<Fault> {
+    match byte {
+        b' ' | b'\t' | b'\n' | b'#' => None,
+        _ => Some(Fault { line, kind }),
+    }
 }
 
 #[test]
 fn one_byte_files(rt: HostRuntime) -> Result<(), Fail> {
-    let alloc = rt.alloc();
     for byte in 0..=255u8 {
-        let file = [byte];
-        let is_list = matches!(byte, b' ' | b'\t' | b'\n' | b'#');
-        let routes = fault_of(read_routes(alloc, &file))?;
-        let addrs = fault_of(read_addresses(alloc, &file))?;
-        let fields = Fault {
-            line: 1,
-            kind: FaultKind::Fields,
-        };
-        let address = Fault {
-            line: 1,
-            kind: FaultKind::Address,
-        };
-        assert_eq!(rt; routes, if is_list { None } else { Some(fields) }, "{byte}");
-        assert_eq!(rt; addrs, if is_list { None } else { Some(address) }, "{byte}");
+        let routes = fault_of(read_routes(rt.alloc(), &[byte]))?;
+        assert_at(&rt, byte, routes, unless_blank(byte, 1, FaultKind::Fields));
+        let addrs = fault_of(read_addresses(rt.alloc(), &[byte]))?;
+        assert_at(&rt, byte, addrs, unless_blank(byte, 1, FaultKind::Address));
     }
     Ok(())
 }
 
+const CUT_FILE: &[u8; 43] = b"10.0.0.0/8 1\n10.1.0.0/16 2\n10.1.1.128/25 3\n";
+
+/// What is read of the file's first bytes: so many routes, or a fault in the line that is cut.
+fn cut_at(bytes: usize) -> Result<usize, Fault> {
+    let line = match bytes {
+        0 => return Ok(0),
+        12 | 13 => return Ok(1),
+        26 | 27 => return Ok(2),
+        42 | 43 => return Ok(3),
+        1..12 => 1,
+        14..26 => 2,
+        _ => 3,
+    };
+    Err(Fault {
+        line,
+        kind: FaultKind::Fields,
+    })
+}
+
+/// How many routes are read, or the file's fault.
+fn count_routes(read: Result<Vec<Route>, ReadError>) -> Result<Result<usize, Fault>, ReadError> {
+    match read {
+        Ok(routes) => Ok(Ok(routes.len())),
+        Err(ReadError::Fault(fault)) => Ok(Err(fault)),
+        Err(ReadError::Memory) => Err(ReadError::Memory),
+    }
+}
+
 #[test]
 fn cut_route_file(rt: HostRuntime) -> Result<(), Fail> {
-    let file = b"10.0.0.0/8 1\n10.1.0.0/16 2\n10.1.1.128/25 3\n";
-    let ends: [usize; 3] = [12, 26, 42];
-    for cut in 0..=file.len() {
-        let begun = &file[..cut];
-        let routes = ends.iter().filter(|end| **end <= cut).count();
-        let line = begun.iter().filter(|byte| **byte == b'\n').count() as u64 + 1;
-        if [0, 12, 13, 26, 27, 42, 43].contains(&cut) {
-            assert_eq!(rt; read_routes(rt.alloc(), begun)?.len(), routes, "{cut}");
-        } else {
-            let fault = fault_of(read_routes(rt.alloc(), begun))?.ok_or("no fault")?;
-            assert_eq!(rt;
-                (fault.line as u64, fault.kind),
-                (line, FaultKind::Fields),
-                "{cut}"
-            );
-        }
+    for bytes in 0..=CUT_FILE.len() {
+        let read = count_routes(read_routes(rt.alloc(), &CUT_FILE[..bytes]))?;
+        assert_at(&rt, bytes, read, cut_at(bytes));
     }
     Ok(())
 }
@@ -203,62 +220,66 @@ fn said(read: Result<Vec<Route>, ReadError>) -> Result<Said, Fail> {
     }
 }
 
+/// Lines of route files, good ones and bad ones.
+const LINES: [&str; 28] = [
+    "10.1.2.3/8 5",
+    "255.255.255.255/24 16777215",
+    "1.2.3.4/0 0",
+    " \t 1.2.3.4/24\t\t7 ",
+    "#10.0.0.0/8 1",
+    "  # 10.0.0.0/8 1",
+    "10.0.0.0/8 #",
+    "10.0.0.0/8",
+    "10.0.0.0/8 1 2",
+    "10.0.0.0/24x 1",
+    "10.0.0.0/+8 1",
+    "10.0.0.0/ 1",
+    "/8 1",
+    "10.0.0/8 1",
+    "10.0.0.0.0/8 1",
+    "10.0.0.256/8 1",
+    "10..0.0/8 1",
+    ".10.0.0.0/8 1",
+    "10.0.0.0./8 1",
+    "1a.0.0.0/8 1",
+    "10.0.0.0/8 01",
+    "10.0.0.0/8 00",
+    "10.0.0.0/8 -1",
+    "10.0.0.0/8 1\r",
+    "10.0.0.0/8\r 1",
+    "99999999999999999999.0.0.0/8 1",
+    "10.0.0.0/99999999999999999999 1",
+    "10.0.0.0/8 99999999999999999999",
+];
+
 #[test]
 fn lines_by_splitting(rt: HostRuntime) -> Result<(), Fail> {
-    let lines = [
-        "10.1.2.3/8 5",
-        "255.255.255.255/24 16777215",
-        "1.2.3.4/0 0",
-        " \t 1.2.3.4/24\t\t7 ",
-        "#10.0.0.0/8 1",
-        "  # 10.0.0.0/8 1",
-        "10.0.0.0/8 #",
-        "10.0.0.0/8",
-        "10.0.0.0/8 1 2",
-        "10.0.0.0/24x 1",
-        "10.0.0.0/+8 1",
-        "10.0.0.0/ 1",
-        "/8 1",
-        "10.0.0/8 1",
-        "10.0.0.0.0/8 1",
-        "10.0.0.256/8 1",
-        "10..0.0/8 1",
-        ".10.0.0.0/8 1",
-        "10.0.0.0./8 1",
-        "1a.0.0.0/8 1",
-        "10.0.0.0/8 01",
-        "10.0.0.0/8 00",
-        "10.0.0.0/8 -1",
-        "10.0.0.0/8 1\r",
-        "10.0.0.0/8\r 1",
-        "99999999999999999999.0.0.0/8 1",
-        "10.0.0.0/99999999999999999999 1",
-        "10.0.0.0/8 99999999999999999999",
-    ];
-    for line in lines {
+    for line in LINES {
         let fast = said(read_routes(rt.alloc(), line.as_bytes()))?;
-        assert_eq!(rt; fast, slow_route(rt.alloc(), line)?, "{line}");
+        assert_at(&rt, line, fast, slow_route(rt.alloc(), line)?);
     }
     Ok(())
 }
 
+const LOOKED_UP: &[u8] =
+    b"10.1.1.127\n10.1.1.128\n10.2.0.0\n11.0.0.0\n# 1.2.3.4\n0.0.0.0\r\n255.255.255.255";
+
+const ANSWERS: &str =
+    "10.1.1.127 2\n10.1.1.128 3\n10.2.0.0 1\n11.0.0.0 -\n0.0.0.0 -\n255.255.255.255 16777215\n";
+
+fn hops_of_answers() -> Result<[Option<Hop>; 6], BadHop> {
+    let (one, two, three) = (Hop::new(1)?, Hop::new(2)?, Hop::new(3)?);
+    let last = Hop::new(16_777_215)?;
+    Ok([Some(two), Some(three), Some(one), None, None, Some(last)])
+}
+
 #[test]
 fn answers_of_three_routes(rt: HostRuntime) -> Result<(), Fail> {
-    let file = b"10.1.1.127\n10.1.1.128\n10.2.0.0\n11.0.0.0\n# 1.2.3.4\n0.0.0.0\r\n255.255.255.255";
-    let addrs = read_addresses(rt.alloc(), file)?;
-    let hops = [
-        Some(Hop::new(2)?),
-        Some(Hop::new(3)?),
-        Some(Hop::new(1)?),
-        None,
-        None,
-        Some(Hop::new(16_777_215)?),
-    ];
-    assert_eq!(rt; addrs.len(), hops.len());
+    let addrs = read_addresses(rt.alloc(), LOOKED_UP)?;
+    let hops = hops_of_answers()?;
+    assert!(rt; addrs.len() == hops.len());
     let text = answers_text(rt.alloc(), &addrs, &hops)?;
-    let expected =
-        "10.1.1.127 2\n10.1.1.128 3\n10.2.0.0 1\n11.0.0.0 -\n0.0.0.0 -\n255.255.255.255 16777215\n";
-    assert_eq!(rt; text.as_slice(), expected.as_bytes());
+    assert_at(&rt, "answers", text.as_slice(), ANSWERS.as_bytes());
     assert!(rt; answers_text(rt.alloc(), &[], &[])?.is_empty());
     Ok(())
 }
@@ -287,8 +308,7 @@ fn updates_are_read(rt: HostRuntime) -> Result<(), Fail> {
         "lpm-updates 2\r\n# c\n\nadd 10.1.2.3/8 5\r\n del\t10.255.0.0/8 \nflush\nreclaim 65536\n\
             online 0\n \noffline 4294967295\nquiescent 7";
     let orders = read_updates(rt.alloc(), file.as_bytes())?;
-    let expected = updates_of_each_kind()?;
-    assert_eq!(rt; orders.as_slice(), expected.as_slice());
+    assert_at(&rt, "updates", orders.as_slice(), &updates_of_each_kind()?);
     Ok(())
 }
 
@@ -296,8 +316,8 @@ fn updates_are_read(rt: HostRuntime) -> Result<(), Fail> {
 fn updates_are_written(rt: HostRuntime) -> Result<(), Fail> {
     let orders = read_updates(rt.alloc(), EACH_KIND.as_bytes())?;
     let text = updates_text(rt.alloc(), &orders)?;
-    assert_eq!(rt; orders.len(), 7);
-    assert_eq!(rt; text.as_slice(), EACH_KIND.as_bytes());
+    assert_at(&rt, "updates", orders.len(), 7);
+    assert_at(&rt, "text", text.as_slice(), EACH_KIND.as_bytes());
     Ok(())
 }
 
@@ -307,85 +327,91 @@ fn migrated(alloc: Global, old: &str) -> Result<Vec<u8>, ReadError> {
     Ok(updates_text(alloc, &orders)?)
 }
 
+/// Files of version 1, and what they are as version 2.
+const MIGRATED: [(&str, &str); 2] = [
+    (
+        "# nightly\nadd   10.1.2.3/8   5\nflush\n",
+        "lpm-updates 2\nadd 10.0.0.0/8 5\nflush\n",
+    ),
+    ("", "lpm-updates 2\n"),
+];
+
 #[test]
 fn migrate_example_and_edges(rt: HostRuntime) -> Result<(), Fail> {
-    let cases = [
-        (
-            "# nightly\nadd   10.1.2.3/8   5\nflush\n",
-            "lpm-updates 2\nadd 10.0.0.0/8 5\nflush\n",
-        ),
-        ("", "lpm-updates 2\n"),
-    ];
-    for (old, new) in cases {
+    for (old, new) in MIGRATED {
         let text = migrated(rt.alloc(), old)?;
-        assert_eq!(rt; text.as_slice(), new.as_bytes());
+        assert_at(&rt, old, text.as_slice(), new.as_bytes());
     }
     let begun = fault_of(read_updates_v1(rt.alloc(), EACH_KIND.as_bytes()))?;
     let word = Fault {
         line: 1,
         kind: FaultKind::Word,
     };
-    assert_eq!(rt; begun, Some(word));
+    assert_at(&rt, "version 2", begun, Some(word));
     Ok(())
 }
 
+/// Update files with a fault in line 2, and its kind.
+const UPDATE_FAULTS: [(&str, FaultKind); 12] = [
+    ("lpm-updates 2\nadd 10.0.0.0/8", FaultKind::Fields),
+    ("lpm-updates 2\nflush now", FaultKind::Fields),
+    ("lpm-updates 2\noffline", FaultKind::Fields),
+    ("lpm-updates 2\nput 10.0.0.0/8 1", FaultKind::Word),
+    ("lpm-updates 2\r\nput\n", FaultKind::Word),
+    ("lpm-updates 2\nadd 10.0.0.0 1", FaultKind::Length),
+    ("lpm-updates 2\ndel 10.0.0.0/8/9", FaultKind::Length),
+    ("lpm-updates 2\nadd 10.0.0/8 70000000", FaultKind::Address),
+    ("lpm-updates 2\ndel 10.01.0.0/16", FaultKind::Address),
+    ("lpm-updates 2\nadd 10.0.0.0/8 16777216", FaultKind::Hop),
+    ("lpm-updates 2\nreclaim 65537", FaultKind::Count),
+    ("lpm-updates 2\nquiescent 4294967296", FaultKind::Worker),
+];
+
 #[test]
 fn faults_of_update_lines(rt: HostRuntime) -> Result<(), Fail> {
-    let cases: [(&str, FaultKind); 12] = [
-        ("lpm-updates 2\nadd 10.0.0.0/8", FaultKind::Fields),
-        ("lpm-updates 2\nflush now", FaultKind::Fields),
-        ("lpm-updates 2\noffline", FaultKind::Fields),
-        ("lpm-updates 2\nput 10.0.0.0/8 1", FaultKind::Word),
-        ("lpm-updates 2\r\nput\n", FaultKind::Word),
-        ("lpm-updates 2\nadd 10.0.0.0 1", FaultKind::Length),
-        ("lpm-updates 2\ndel 10.0.0.0/8/9", FaultKind::Length),
-        ("lpm-updates 2\nadd 10.0.0/8 70000000", FaultKind::Address),
-        ("lpm-updates 2\ndel 10.01.0.0/16", FaultKind::Address),
-        ("lpm-updates 2\nadd 10.0.0.0/8 16777216", FaultKind::Hop),
-        ("lpm-updates 2\nreclaim 65537", FaultKind::Count),
-        ("lpm-updates 2\nquiescent 4294967296", FaultKind::Worker),
-    ];
-    for (file, kind) in cases {
+    for (file, kind) in UPDATE_FAULTS {
         let fault = fault_of(read_updates(rt.alloc(), file.as_bytes()))?;
-        assert_eq!(rt; fault, Some(Fault { line: 2, kind }), "{file}");
+        assert_at(&rt, file, fault, Some(Fault { line: 2, kind }));
     }
     Ok(())
 }
 
+/// Files with no header of version 2.
+const BAD_HEADERS: [&str; 7] = [
+    "",
+    " lpm-updates 2",
+    "lpm-updates 2 ",
+    "# x\nlpm-updates 2",
+    "lpm-updates 1\n",
+    "lpm-updates 2\r",
+    "\nlpm-updates 2\n",
+];
+
 #[test]
 fn bad_headers(rt: HostRuntime) -> Result<(), Fail> {
-    let files = [
-        "",
-        " lpm-updates 2",
-        "lpm-updates 2 ",
-        "# x\nlpm-updates 2",
-        "lpm-updates 1\n",
-        "lpm-updates 2\r",
-        "\nlpm-updates 2\n",
-    ];
     let header = Fault {
         line: 1,
         kind: FaultKind::Header,
     };
-    for file in files {
+    for file in BAD_HEADERS {
         let fault = fault_of(read_updates(rt.alloc(), file.as_bytes()))?;
-        assert_eq!(rt; fault, Some(header), "{file}");
+        assert_at(&rt, file, fault, Some(header));
     }
     Ok(())
 }
 
+/// The fault of an update file with this byte alone after its header.
+fn fault_after_the_header(alloc: Global, byte: u8) -> Result<Option<Fault>, ReadError> {
+    let mut file = Vec::from_slice(alloc, b"lpm-updates 2\n")?;
+    file.push(byte)?;
+    fault_of(read_updates(alloc, &file))
+}
+
 #[test]
 fn one_byte_after_the_header(rt: HostRuntime) -> Result<(), Fail> {
-    let word = Fault {
-        line: 2,
-        kind: FaultKind::Word,
-    };
     for byte in 0..=255u8 {
-        let mut file = Vec::from_slice(rt.alloc(), b"lpm-updates 2\n")?;
-        file.push(byte)?;
-        let fault = fault_of(read_updates(rt.alloc(), &file))?;
-        let is_list = matches!(byte, b' ' | b'\t' | b'\n' | b'#');
-        assert_eq!(rt; fault, if is_list { None } else { Some(word) }, "{byte}");
+        let fault = fault_after_the_header(rt.alloc(), byte)?;
+        assert_at(&rt, byte, fault, unless_blank(byte, 2, FaultKind::Word));
     }
     Ok(())
 }
@@ -425,7 +451,7 @@ fn outcomes_are_written(rt: HostRuntime) -> Result<(), Fail> {
         },
     ];
     let text = outcomes_text(rt.alloc(), &outcomes)?;
-    assert_eq!(rt; text.as_slice(), LINES_OF_OUTCOMES.as_bytes());
+    assert_at(&rt, "text", text.as_slice(), LINES_OF_OUTCOMES.as_bytes());
     Ok(())
 }
 
@@ -449,6 +475,6 @@ fn refused_workers_are_written(rt: HostRuntime) -> Result<(), Fail> {
         },
     ];
     let text = outcomes_text(rt.alloc(), &outcomes)?;
-    assert_eq!(rt; text.as_slice(), REFUSED_WORKERS.as_bytes());
+    assert_at(&rt, "text", text.as_slice(), REFUSED_WORKERS.as_bytes());
     Ok(())
 }

@@ -1,5 +1,6 @@
 //! The tests of `lpm_options`: words of the command line, and what is shown of help.
 
+use super::asserting::assert_at;
 use clap::error::ErrorKind;
 use lpm_limits::Config;
 use lpm_options::{CommandLine, Refused, options};
@@ -63,18 +64,28 @@ fn parts<'a>(line: CommandLine<'a>) -> Line<'a> {
 // The words after the program's name, and the numbers that they ask for.
 type Asked = (&'static [&'static str], Numbers);
 
+// The words ask for this line.
+fn assert_asks(
+    rt: &impl Abort,
+    alloc: Global,
+    words: &[&str],
+    wanted: Line<'_>,
+) -> Result<(), Fail> {
+    let line = options(alloc, words).map_err(|_| "refused")?;
+    assert_at(rt, words, parts(line), wanted);
+    Ok(())
+}
+
 // Each row asks for this command with these files.
 fn all_ask(
     rt: &impl Abort,
     alloc: Global,
-    name: &str,
+    name: &'static str,
     files: [&str; 3],
     rows: &[Asked],
 ) -> Result<(), Fail> {
     for (words, numbers) in rows {
-        let line = options(alloc, words).map_err(|_| "refused")?;
-        let found = parts(line);
-        assert_eq!(rt; found, (name, files, *numbers), "{words:?}");
+        assert_asks(rt, alloc, words, (name, files, *numbers))?;
     }
     Ok(())
 }
@@ -237,18 +248,14 @@ fn report_with_its_defaults_and_each_option(rt: HostRuntime) -> Result<(), Fail>
     all_ask(&rt, rt.alloc(), "report", ["r", "u", ""], &REPORTS)
 }
 
+const MIGRATES: [Asked; 2] = [
+    (&["lpmtool", "migrate", "o"], [0; 5]),
+    (&["lpmtool", "migrate", "--", "o"], [0; 5]),
+];
+
 #[test]
 fn migrate_has_one_file(rt: HostRuntime) -> Result<(), Fail> {
-    all_ask(
-        &rt,
-        rt.alloc(),
-        "migrate",
-        ["o", "", ""],
-        &[
-            (&["lpmtool", "migrate", "o"], [0; 5]),
-            (&["lpmtool", "migrate", "--", "o"], [0; 5]),
-        ],
-    )
+    all_ask(&rt, rt.alloc(), "migrate", ["o", "", ""], &MIGRATES)
 }
 
 const LOOKUP_OF_INPUT: [Asked; 1] = [(&["lpmtool", "lookup", "-", "a"], DEFAULTS)];
@@ -270,18 +277,21 @@ const TWO_INPUTS: [&[&str]; 6] = [
     &["lpmtool", "report", "--", "-", "-"],
 ];
 
+// The words name standard input twice.
+fn assert_two_inputs(rt: &impl Abort, alloc: Global, words: &[&str]) -> Result<(), Fail> {
+    let Err(refused) = options(alloc, words) else {
+        return Err("not refused".into());
+    };
+    let text = refused.to_string(alloc)?;
+    let wanted = "only one file can be standard input, `-`";
+    assert_at(rt, words, text.as_str(), wanted);
+    Ok(())
+}
+
 #[test]
 fn two_files_are_not_standard_input(rt: HostRuntime) -> Result<(), Fail> {
     for words in TWO_INPUTS {
-        let Err(refused) = options(rt.alloc(), words) else {
-            return Err("not refused".into());
-        };
-        let text = refused.to_string(rt.alloc())?;
-        assert_eq!(rt;
-            text.as_str(),
-            "only one file can be standard input, `-`",
-            "{words:?}"
-        );
+        assert_two_inputs(&rt, rt.alloc(), words)?;
     }
     Ok(())
 }
@@ -289,12 +299,28 @@ fn two_files_are_not_standard_input(rt: HostRuntime) -> Result<(), Fail> {
 // The words, and why they are refused.
 type Refusal = (&'static [&'static str], ErrorKind);
 
+// The words are refused so, on standard error.
+fn assert_refused(
+    rt: &impl Abort,
+    alloc: Global,
+    words: &[&str],
+    kind: ErrorKind,
+) -> Result<(), Fail> {
+    let (found, to_stderr, text) = refused_text(alloc, words)?;
+    assert_at(rt, words, (found, to_stderr), (kind, true));
+    assert_at(
+        rt,
+        (words, text.as_str()),
+        text.starts_with("error: "),
+        true,
+    );
+    Ok(())
+}
+
 // Each row is refused so, on standard error.
 fn all_refused(rt: &impl Abort, alloc: Global, rows: &[Refusal]) -> Result<(), Fail> {
     for (words, kind) in rows {
-        let (found, to_stderr, text) = refused_text(alloc, words)?;
-        assert!(rt; found == *kind && to_stderr, "{words:?} {found:?}");
-        assert!(rt; text.starts_with("error: "), "{text}");
+        assert_refused(rt, alloc, words, *kind)?;
     }
     Ok(())
 }
@@ -439,8 +465,8 @@ fn answers(
     expected: &str,
 ) -> Result<(), Fail> {
     let (found, to_stderr, text) = refused_text(alloc, words)?;
-    assert!(rt; found == kind && !to_stderr, "{found:?}");
-    assert!(rt; text.as_str() == expected, "{text}");
+    assert_at(rt, words, (found, to_stderr), (kind, false));
+    assert_at(rt, words, text.as_str(), expected);
     Ok(())
 }
 
