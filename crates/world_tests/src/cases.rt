@@ -1,13 +1,13 @@
 // The worked cases of the pure world, each under its name, over 4 and 4 bits. Every case is judged by the
 // plain deciders too.
 
-use super::judging::{judge, setting_of};
-use super::plan::{ONE_GROUP, Plan, add, delete, hop, planned};
+use super::asserting::{assert_at, assert_trace};
+use super::judging::{judge, played, setting_of};
+use super::plan::{ONE_GROUP, add, delete, hop, planned};
 use defer_queue::Reclaimed;
 use interleave::{Actor, Change, Deed, Kind, Reply, Seen, Step, Trace};
 use lpm_rules::Put;
 use qsbr::{Busy, Config, Refusal};
-use std::alloc::Global;
 use std::process::Abort;
 use std::test::Fail;
 use trace_reference::version_at;
@@ -51,6 +51,11 @@ fn seen(
     }
 }
 
+// The reply to a delete of a rule with this next hop.
+fn deleted(rt: &impl Abort, number: u32) -> Reply {
+    Reply::Deleted(hop(rt, number))
+}
+
 // The steps from this number on are these: of the actor, each with its kind, its index and its value.
 fn assert_steps(
     rt: &impl Abort,
@@ -68,30 +73,18 @@ fn assert_steps(
             index: *index,
             value: *value,
         };
-        assert_eq!(rt; step, Some(wanted), "step {number}");
+        assert_at(rt, ("step", number), step, Some(wanted));
     }
-}
-
-// The run of a plan with one worker. All deciders accept it.
-fn played(rt: &impl Abort, alloc: Global, plan: &Plan<4, 4>) -> Result<Trace, Fail> {
-    let trace = plan.run(rt, alloc)?;
-    judge(rt, alloc, plan, &trace)?;
-    Ok(trace)
 }
 
 // A lookup reads the group's word after a flush has unlinked the group. Its answer stood in its span,
 // though not at its last read.
 #[test]
 fn answer_from_unlinked_group(rt: HostRuntime) -> Result<(), Fail> {
-    let plan = planned(
-        rt.alloc(),
-        ONE_GROUP,
-        &[add(&rt, 0x12, 8, 5), Change::Flush],
-        &[Deed::Online, Deed::Lookup(0x12)],
-        &[(WRITER, 19), (WORKER, 4), (WRITER, 4), (WORKER, 2)],
-    )?;
-    let trace = played(&rt, rt.alloc(), &plan)?;
-    assert_eq!(rt; trace.steps.len(), 29);
+    let changes = [add(&rt, 0x12, 8, 5), Change::Flush];
+    let deeds = [Deed::Online, Deed::Lookup(0x12)];
+    let bursts = [(WRITER, 19), (WORKER, 4), (WRITER, 4), (WORKER, 2)];
+    let trace = played(&rt, rt.alloc(), ONE_GROUP, &changes, &deeds, &bursts)?;
     assert_steps(&rt, &trace, 23, WORKER, &[(Kind::LoadFirst, 1, GROUP)]);
     let flush = [
         (Kind::BumpSequence, 0, 3),
@@ -101,12 +94,8 @@ fn answer_from_unlinked_group(rt: HostRuntime) -> Result<(), Fail> {
     ];
     assert_steps(&rt, &trace, 24, WRITER, &flush);
     assert_steps(&rt, &trace, 28, WORKER, &[(Kind::LoadSecond, 2, FIVE)]);
-    assert_eq!(rt;
-        trace.replies.as_slice(),
-        [ADDED, Reply::Flushed(1)].as_slice()
-    );
-    let lookup = seen(&rt, 0x12, Some(5), (23, 28), (1, 2));
-    assert_eq!(rt; trace.lookups.as_slice(), [lookup].as_slice());
+    let lookups = [seen(&rt, 0x12, Some(5), (23, 28), (1, 2))];
+    assert_trace(&rt, &trace, 29, &[ADDED, Reply::Flushed(1)], &lookups);
     Ok(())
 }
 
@@ -119,15 +108,9 @@ fn cover_answer(rt: HostRuntime) -> Result<(), Fail> {
         add(&rt, 0x12, 8, 5),
         delete(&rt, 0x12, 8),
     ];
-    let plan = planned(
-        rt.alloc(),
-        ONE_GROUP,
-        &changes,
-        &[Deed::Online, Deed::Lookup(0x12)],
-        &[(WRITER, 22), (WORKER, 4), (WRITER, 5), (WORKER, 2)],
-    )?;
-    let trace = played(&rt, rt.alloc(), &plan)?;
-    assert_eq!(rt; trace.steps.len(), 33);
+    let deeds = [Deed::Online, Deed::Lookup(0x12)];
+    let bursts = [(WRITER, 22), (WORKER, 4), (WRITER, 5), (WORKER, 2)];
+    let trace = played(&rt, rt.alloc(), ONE_GROUP, &changes, &deeds, &bursts)?;
     let last_five = [
         (Kind::BumpSequence, 0, 5),
         (Kind::StoreSecond, 2, SEVEN),
@@ -136,15 +119,19 @@ fn cover_answer(rt: HostRuntime) -> Result<(), Fail> {
         (Kind::BumpSequence, 0, 6),
     ];
     assert_steps(&rt, &trace, 27, WRITER, &last_five);
-    let deleted = Reply::Deleted(hop(&rt, 5));
-    assert_eq!(rt;
-        trace.replies.as_slice(),
-        [ADDED, ADDED, deleted].as_slice()
-    );
-    let lookup = seen(&rt, 0x12, Some(7), (26, 32), (2, 3));
-    assert_eq!(rt; trace.lookups.as_slice(), [lookup].as_slice());
+    let replies = [ADDED, ADDED, deleted(&rt, 5)];
+    let lookups = [seen(&rt, 0x12, Some(7), (26, 32), (2, 3))];
+    assert_trace(&rt, &trace, 33, &replies, &lookups);
     Ok(())
 }
+
+// An add that found no group, since worker 0 is at counter 1.
+const HELD: Reply = Reply::Refused(Refusal::NoGroups {
+    oldest: Some(Busy {
+        worker: 0,
+        counter: 1,
+    }),
+});
 
 // A worker in the middle of a lookup holds the one group back; once it has reported a quiescent state
 // the same add takes the group.
@@ -156,39 +143,22 @@ fn held_then_reused(rt: HostRuntime) -> Result<(), Fail> {
         add(&rt, 0x35, 8, 6),
         add(&rt, 0x35, 8, 6),
     ];
-    let plan = planned(
-        rt.alloc(),
-        ONE_GROUP,
-        &changes,
-        &[Deed::Online, Deed::Lookup(0x12), Deed::Quiescent],
-        &[
-            (WRITER, 19),
-            (WORKER, 4),
-            (WRITER, 6),
-            (WORKER, 4),
-            (WRITER, 20),
-        ],
-    )?;
-    let trace = played(&rt, rt.alloc(), &plan)?;
-    assert_eq!(rt; trace.steps.len(), 53);
+    let deeds = [Deed::Online, Deed::Lookup(0x12), Deed::Quiescent];
+    let bursts = [
+        (WRITER, 19),
+        (WORKER, 4),
+        (WRITER, 6),
+        (WORKER, 4),
+        (WRITER, 20),
+    ];
+    let trace = played(&rt, rt.alloc(), ONE_GROUP, &changes, &deeds, &bursts)?;
     assert_steps(&rt, &trace, 29, WRITER, &[(Kind::LoadCounter, 0, 1)]);
     assert_steps(&rt, &trace, 34, WRITER, &[(Kind::LoadCounter, 0, 2)]);
     let last = [(Kind::StoreFirst, 3, GROUP), (Kind::BumpSequence, 0, 6)];
     assert_steps(&rt, &trace, 52, WRITER, &last);
-    let busy = Busy {
-        worker: 0,
-        counter: 1,
-    };
-    let oldest = Some(busy);
-    let replies = [
-        ADDED,
-        Reply::Deleted(hop(&rt, 5)),
-        Reply::Refused(Refusal::NoGroups { oldest }),
-        ADDED,
-    ];
-    assert_eq!(rt; trace.replies.as_slice(), replies.as_slice());
-    let lookup = seen(&rt, 0x12, None, (23, 30), (1, 2));
-    assert_eq!(rt; trace.lookups.as_slice(), [lookup].as_slice());
+    let replies = [ADDED, deleted(&rt, 5), HELD, ADDED];
+    let lookups = [seen(&rt, 0x12, None, (23, 30), (1, 2))];
+    assert_trace(&rt, &trace, 53, &replies, &lookups);
     Ok(())
 }
 
@@ -201,25 +171,15 @@ fn stale_counter(rt: HostRuntime) -> Result<(), Fail> {
         delete(&rt, 0x12, 8),
         add(&rt, 0x35, 8, 6),
     ];
-    let plan = planned(
-        rt.alloc(),
-        ONE_GROUP,
-        &changes,
-        &[Deed::Online, Deed::Lookup(0x12)],
-        &[(WRITER, 19), (WORKER, 1), (WRITER, 25), (WORKER, 4)],
-    )?;
-    let trace = played(&rt, rt.alloc(), &plan)?;
-    assert_eq!(rt; trace.steps.len(), 49);
+    let deeds = [Deed::Online, Deed::Lookup(0x12)];
+    let bursts = [(WRITER, 19), (WORKER, 1), (WRITER, 25), (WORKER, 4)];
+    let trace = played(&rt, rt.alloc(), ONE_GROUP, &changes, &deeds, &bursts)?;
     assert_steps(&rt, &trace, 20, WORKER, &[(Kind::LoadToken, 0, 1)]);
     assert_steps(&rt, &trace, 26, WRITER, &[(Kind::LoadCounter, 0, 0)]);
     assert_steps(&rt, &trace, 46, WORKER, &[(Kind::StoreCounter, 0, 1)]);
-    let deleted = Reply::Deleted(hop(&rt, 5));
-    assert_eq!(rt;
-        trace.replies.as_slice(),
-        [ADDED, deleted, ADDED].as_slice()
-    );
-    let lookup = seen(&rt, 0x12, None, (48, 48), (3, 3));
-    assert_eq!(rt; trace.lookups.as_slice(), [lookup].as_slice());
+    let replies = [ADDED, deleted(&rt, 5), ADDED];
+    let lookups = [seen(&rt, 0x12, None, (48, 48), (3, 3))];
+    assert_trace(&rt, &trace, 49, &replies, &lookups);
     Ok(())
 }
 
@@ -232,32 +192,28 @@ fn four_lookups(rt: HostRuntime) -> Result<(), Fail> {
         add(&rt, 0x35, 8, 6),
         delete(&rt, 0x12, 8),
     ];
-    let plan = planned(
-        rt.alloc(),
-        TWO_GROUPS,
-        &changes,
-        &[Deed::Online, Deed::Lookup4([0x12, 0x35, 0x12, 0x40])],
-        &[(WRITER, 38), (WORKER, 8), (WRITER, 5), (WORKER, 3)],
-    )?;
-    let trace = played(&rt, rt.alloc(), &plan)?;
-    assert_eq!(rt; trace.steps.len(), 54);
+    let deeds = [Deed::Online, Deed::Lookup4([0x12, 0x35, 0x12, 0x40])];
+    let bursts = [(WRITER, 38), (WORKER, 8), (WRITER, 5), (WORKER, 3)];
+    let trace = played(&rt, rt.alloc(), TWO_GROUPS, &changes, &deeds, &bursts)?;
     assert_steps(&rt, &trace, 46, WORKER, &[(Kind::LoadSecond, 2, FIVE)]);
     let last = [(Kind::LoadSecond, 21, SIX), (Kind::LoadSecond, 2, 0)];
     assert_steps(&rt, &trace, 52, WORKER, &last);
-    let deleted = Reply::Deleted(hop(&rt, 5));
-    assert_eq!(rt;
-        trace.replies.as_slice(),
-        [ADDED, ADDED, deleted].as_slice()
-    );
+    let replies = [ADDED, ADDED, deleted(&rt, 5)];
     let lookups = [
         seen(&rt, 0x12, Some(5), (42, 46), (2, 3)),
         seen(&rt, 0x35, Some(6), (43, 52), (2, 3)),
         seen(&rt, 0x12, None, (44, 53), (2, 3)),
         seen(&rt, 0x40, None, (45, 45), (2, 3)),
     ];
-    assert_eq!(rt; trace.lookups.as_slice(), lookups.as_slice());
+    assert_trace(&rt, &trace, 54, &replies, &lookups);
     Ok(())
 }
+
+// Two groups that are freed.
+const BOTH_FREED: Reply = Reply::Reclaimed(Reclaimed {
+    freed: 2,
+    stopped: None,
+});
 
 // A token that has passed stays passed: a counter below it, stored later, holds nothing back.
 #[test]
@@ -278,57 +234,38 @@ fn remembered_token(rt: HostRuntime) -> Result<(), Fail> {
         (WORKER, 1),
         (WRITER, 1),
     ];
-    let plan = planned(rt.alloc(), TWO_GROUPS, &changes, &[Deed::Online], &bursts)?;
-    let trace = played(&rt, rt.alloc(), &plan)?;
-    assert_eq!(rt; trace.steps.len(), 53);
+    let deeds = [Deed::Online];
+    let trace = played(&rt, rt.alloc(), TWO_GROUPS, &changes, &deeds, &bursts)?;
     assert_steps(&rt, &trace, 39, WORKER, &[(Kind::LoadToken, 0, 1)]);
     let synchronize = [(Kind::BumpToken, 0, 4), (Kind::LoadCounter, 0, 0)];
     assert_steps(&rt, &trace, 50, WRITER, &synchronize);
     assert_steps(&rt, &trace, 52, WORKER, &[(Kind::StoreCounter, 0, 1)]);
     assert_steps(&rt, &trace, 53, WRITER, &[(Kind::BumpSequence, 0, 9)]);
-    let replies = [
-        ADDED,
-        ADDED,
-        Reply::Deleted(hop(&rt, 5)),
-        Reply::Deleted(hop(&rt, 6)),
-        Reply::Synchronized,
-        Reply::Reclaimed(Reclaimed {
-            freed: 2,
-            stopped: None,
-        }),
-    ];
-    assert_eq!(rt; trace.replies.as_slice(), replies.as_slice());
-    assert!(rt; trace.lookups.is_empty());
+    let (five, six) = (deleted(&rt, 5), deleted(&rt, 6));
+    let replies = [ADDED, ADDED, five, six, Reply::Synchronized, BOTH_FREED];
+    assert_trace(&rt, &trace, 53, &replies, &[]);
     Ok(())
+}
+
+// The store of this number, from 0 on, of a default route over a table whose block 1 has a group, in
+// which word 2 has a longer rule.
+fn default_store(number: usize) -> (Kind, u64) {
+    match number {
+        0 => (Kind::StoreFirst, 0),
+        1 => (Kind::StoreSecond, 0),
+        2 => (Kind::StoreSecond, 1),
+        3..16 => (Kind::StoreSecond, number as u64),
+        _ => (Kind::StoreFirst, (number as u64).saturating_sub(14)),
+    }
 }
 
 // The 32 steps of an add of a default route under which one block has a group.
 fn assert_default_route(rt: &impl Abort, trace: &Trace) {
-    let word = 0x0100_0009;
     assert_steps(rt, trace, 20, WRITER, &[(Kind::BumpSequence, 0, 3)]);
-    assert_steps(rt, trace, 21, WRITER, &[(Kind::StoreFirst, 0, word)]);
-    for index in 0..16u64 {
-        let number = 22 + index as usize;
-        let place = if index < 2 { number } else { number - 1 };
-        if index != 2 {
-            assert_steps(
-                rt,
-                trace,
-                place,
-                WRITER,
-                &[(Kind::StoreSecond, index, word)],
-            );
-        }
-    }
-    for block in 2..16u64 {
-        let number = 35 + block as usize;
-        assert_steps(
-            rt,
-            trace,
-            number,
-            WRITER,
-            &[(Kind::StoreFirst, block, word)],
-        );
+    for number in 0..30usize {
+        let (kind, index) = default_store(number);
+        let store = [(kind, index, 0x0100_0009)];
+        assert_steps(rt, trace, number + 21, WRITER, &store);
     }
     assert_steps(rt, trace, 51, WRITER, &[(Kind::BumpSequence, 0, 4)]);
 }
@@ -337,12 +274,10 @@ fn assert_default_route(rt: &impl Abort, trace: &Trace) {
 #[test]
 fn default_under_a_group(rt: HostRuntime) -> Result<(), Fail> {
     let changes = [add(&rt, 0x12, 8, 5), add(&rt, 0x00, 0, 9)];
-    let plan = planned(rt.alloc(), ONE_GROUP, &changes, &[], &[(WRITER, 60)])?;
-    let trace = played(&rt, rt.alloc(), &plan)?;
-    assert_eq!(rt; trace.steps.len(), 51);
+    let bursts = [(WRITER, 60)];
+    let trace = played(&rt, rt.alloc(), ONE_GROUP, &changes, &[], &bursts)?;
     assert_default_route(&rt, &trace);
-    assert_eq!(rt; trace.replies.as_slice(), [ADDED, ADDED].as_slice());
-    assert!(rt; trace.lookups.is_empty());
+    assert_trace(&rt, &trace, 51, &[ADDED, ADDED], &[]);
     Ok(())
 }
 
@@ -351,23 +286,20 @@ fn default_under_a_group(rt: HostRuntime) -> Result<(), Fail> {
 #[test]
 fn two_answers(rt: HostRuntime) -> Result<(), Fail> {
     let changes = [add(&rt, 0x10, 4, 7), add(&rt, 0x12, 8, 5)];
-    let plan = planned(
-        rt.alloc(),
-        ONE_GROUP,
-        &changes,
-        &[Deed::Online, Deed::Lookup(0x12), Deed::Lookup(0x12)],
-        &[(WRITER, 20), (WORKER, 5), (WRITER, 2), (WORKER, 4)],
-    )?;
-    let trace = played(&rt, rt.alloc(), &plan)?;
-    assert_eq!(rt; trace.steps.len(), 31);
-    assert_eq!(rt; trace.replies.as_slice(), [ADDED, ADDED].as_slice());
+    let deeds = [Deed::Online, Deed::Lookup(0x12), Deed::Lookup(0x12)];
+    let bursts = [(WRITER, 20), (WORKER, 5), (WRITER, 2), (WORKER, 4)];
+    let plan = planned(rt.alloc(), ONE_GROUP, &changes, &deeds, &bursts)?;
+    let trace = plan.run(&rt, rt.alloc())?;
+    judge(&rt, rt.alloc(), &plan, &trace)?;
     let lookups = [
         seen(&rt, 0x12, Some(7), (24, 24), (1, 2)),
         seen(&rt, 0x12, Some(5), (29, 30), (2, 2)),
     ];
-    assert_eq!(rt; trace.lookups.as_slice(), lookups.as_slice());
+    assert_trace(&rt, &trace, 31, &[ADDED, ADDED], &lookups);
     let setting = setting_of(&plan);
-    assert_eq!(rt; version_at(&setting, &trace.steps, 24, 0x12), 1);
-    assert_eq!(rt; version_at(&setting, &trace.steps, 30, 0x12), 2);
+    for (read, version) in [(24, 1), (30, 2)] {
+        let shown = version_at(&setting, &trace.steps, read, 0x12);
+        assert_at(&rt, ("read", read), shown, version);
+    }
     Ok(())
 }

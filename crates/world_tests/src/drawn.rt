@@ -3,6 +3,7 @@
 ghost use Rattle.std.specs.Prelude.{◌<◌};
 ghost use Rattle.lpm_bits.specs.Widths.{IsShape};
 
+use super::asserting::assert_at;
 use super::drawing::{Draw, Sizes};
 use super::judging::judge;
 use super::plan::{ONE_GROUP, Plan};
@@ -79,6 +80,6 @@ fn many_items(rt: HostRuntime) -> Result<(), Fail> {
     };
     let plan: Plan<4, 4> = Draw::even_plan(&rt, rt.alloc(), config, &sizes)?;
     let trace = plan.run(&rt, rt.alloc())?;
-    assert_eq!(rt; trace.steps.len(), 100_000);
+    assert_at(&rt, "steps", trace.steps.len(), 100_000);
     Ok(())
 }

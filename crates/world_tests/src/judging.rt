@@ -1,8 +1,10 @@
 // Whether the trace of a run is what its plan leads to, by plain deciders.
 
-use super::plan::Plan;
+use super::asserting::assert_at;
+use super::plan::{Plan, planned};
 use super::slow_writer::SlowWriter;
-use interleave::{Actor, Deed, Kind, Seen, Step, Trace};
+use interleave::{Actor, Change, Deed, Kind, Seen, Step, Trace};
+use qsbr::Config;
 use std::alloc::{AllocError, Global};
 use std::process::Abort;
 use std::test::Fail;
@@ -206,17 +208,36 @@ fn judge_writer<const FIRST: u32, const SECOND: u32>(
     plan: &Plan<FIRST, SECOND>,
     trace: &Trace,
 ) -> Result<Versions, Fail> {
-    let number = plan.number;
     let own = steps_by(alloc, &trace.steps, Actor::Writer)?;
     let items = items_of(&plan.schedule, Actor::Writer);
     let mut slow = SlowWriter::new(alloc, plan.config, FIRST, SECOND, own)?;
     let replies = slow.replies(rt, alloc, &plan.changes, items)?;
-    assert_eq!(rt; trace.replies, replies, "world {number}");
+    let shown = trace.replies.as_slice();
+    assert_at(rt, ("world", plan.number), shown, replies.as_slice());
     Ok(slow.into_versions())
 }
 
-// The worker's steps are those of its script, as far as its items lead; and the run shows what its
-// lookups found. Returns how many addresses it has looked up.
+// The worker's steps are those of its script, as far as its items lead.
+fn judge_deeds<const FIRST: u32, const SECOND: u32>(
+    rt: &impl Abort,
+    alloc: Global,
+    plan: &Plan<FIRST, SECOND>,
+    steps: &[Step],
+    worker: usize,
+    script: &[Deed],
+) -> Result<(), Fail> {
+    let world = ("world", plan.number, "worker", worker);
+    let own = steps_by(alloc, steps, Actor::Worker(worker))?;
+    let items = items_of(&plan.schedule, Actor::Worker(worker));
+    let is_whole = count_others(&own) == length_of_all(script);
+    assert_at(rt, world, own.len() == items || is_whole, true);
+    let are_done = reference::deeds_are_done(alloc, &setting_of(plan), steps, worker, script)?;
+    assert_at(rt, world, are_done, true);
+    Ok(())
+}
+
+// The worker makes its deeds, and the run shows what its lookups found. Returns how many addresses it
+// has looked up.
 fn judge_worker<const FIRST: u32, const SECOND: u32>(
     rt: &impl Abort,
     alloc: Global,
@@ -226,25 +247,63 @@ fn judge_worker<const FIRST: u32, const SECOND: u32>(
     worker: usize,
     script: &[Deed],
 ) -> Result<usize, Fail> {
-    let number = plan.number;
+    let world = ("world", plan.number, "worker", worker);
     let setting = setting_of(plan);
     let steps = &trace.steps;
-    let own = steps_by(alloc, steps, Actor::Worker(worker))?;
-    let items = items_of(&plan.schedule, Actor::Worker(worker));
-    let is_whole = count_others(&own) == length_of_all(script);
-    assert!(rt; own.len() == items || is_whole, "world {number}");
-    assert!(rt;
-        reference::deeds_are_done(alloc, &setting, steps, worker, script)?,
-        "world {number}"
-    );
+    judge_deeds(rt, alloc, plan, steps, worker, script)?;
     let lookups = reference::lookups(alloc, &setting, steps, worker, script)?;
     let shown = lookups_by(alloc, &trace.lookups, worker)?;
-    assert_eq!(rt; shown, lookups, "world {number}");
-    assert!(rt;
-        are_lawful(&setting, versions, steps, &lookups),
-        "world {number}"
-    );
+    assert_at(rt, world, shown.as_slice(), lookups.as_slice());
+    let are_lawful = are_lawful(&setting, versions, steps, &lookups);
+    assert_at(rt, world, are_lawful, true);
     Ok(lookups.len())
+}
+
+// The workers make their deeds, and the run shows all that they looked up, in order.
+fn judge_workers<const FIRST: u32, const SECOND: u32>(
+    rt: &impl Abort,
+    alloc: Global,
+    plan: &Plan<FIRST, SECOND>,
+    trace: &Trace,
+    versions: &Versions,
+) -> Result<(), Fail> {
+    let mut count: usize = 0;
+    for (worker, script) in plan.scripts.iter().enumerate() {
+        let found = judge_worker(rt, alloc, plan, trace, versions, worker, script)?;
+        count = count.saturating_add(found);
+    }
+    let world = ("world", plan.number);
+    assert_at(rt, world, trace.lookups.len(), count);
+    let is_in_order = are_in_order(&trace.steps, &trace.lookups);
+    assert_at(rt, world, is_in_order, true);
+    Ok(())
+}
+
+// The steps follow the schedule, loads give what was stored last, and a group is taken again only where
+// that is lawful.
+fn judge_steps<const FIRST: u32, const SECOND: u32>(
+    rt: &impl Abort,
+    plan: &Plan<FIRST, SECOND>,
+    steps: &[Step],
+) {
+    let number = plan.number;
+    let setting = setting_of(plan);
+    assert_at(
+        rt,
+        ("schedule", number),
+        follows(&plan.schedule, steps),
+        true,
+    );
+    let loads = reference::loads_are_stores(&setting, steps);
+    assert_at(rt, ("loads", number), loads, true);
+    assert_at(
+        rt,
+        ("stores", number),
+        stores_go_upwards(&setting, steps),
+        true,
+    );
+    let reuse = reference::reuse_is_lawful(&setting, steps);
+    assert_at(rt, ("reuse", number), reuse, true);
 }
 
 // Every plain decider accepts the run.
@@ -254,30 +313,25 @@ pub(crate) fn judge<const FIRST: u32, const SECOND: u32>(
     plan: &Plan<FIRST, SECOND>,
     trace: &Trace,
 ) -> Result<(), Fail> {
-    let number = plan.number;
-    let setting = setting_of(plan);
     let steps = &trace.steps;
-    assert!(rt; follows(&plan.schedule, steps), "world {number}");
-    assert!(rt;
-        reference::loads_are_stores(&setting, steps),
-        "world {number}"
-    );
+    judge_steps(rt, plan, steps);
     let versions = judge_writer(rt, alloc, plan, trace)?;
-    assert!(rt; stores_go_upwards(&setting, steps), "world {number}");
-    assert!(rt;
-        reference::writes_in_order(alloc, &setting, &versions, steps)?,
-        "world {number}"
-    );
-    assert!(rt;
-        reference::reuse_is_lawful(&setting, steps),
-        "world {number}"
-    );
-    let mut count: usize = 0;
-    for (worker, script) in plan.scripts.iter().enumerate() {
-        let found = judge_worker(rt, alloc, plan, trace, &versions, worker, script)?;
-        count = count.saturating_add(found);
-    }
-    assert_eq!(rt; trace.lookups.len(), count, "world {number}");
-    assert!(rt; are_in_order(steps, &trace.lookups), "world {number}");
-    Ok(())
+    let writes = reference::writes_in_order(alloc, &setting_of(plan), &versions, steps)?;
+    assert_at(rt, ("writes", plan.number), writes, true);
+    judge_workers(rt, alloc, plan, trace, &versions)
+}
+
+// The run of a plan with one worker. All deciders accept it.
+pub(crate) fn played(
+    rt: &impl Abort,
+    alloc: Global,
+    config: Config,
+    changes: &[Change<4, 4>],
+    deeds: &[Deed],
+    bursts: &[(Actor, usize)],
+) -> Result<Trace, Fail> {
+    let plan = planned(alloc, config, changes, deeds, bursts)?;
+    let trace = plan.run(rt, alloc)?;
+    judge(rt, alloc, &plan, &trace)?;
+    Ok(trace)
 }

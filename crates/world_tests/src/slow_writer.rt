@@ -1,6 +1,7 @@
 // A slow writer. It goes through the writer's own steps of a run and tells, from them and the changes
 // alone, what comes of each change and which rules stand in each version.
 
+use super::asserting::assert_at;
 use defer_queue::Reclaimed;
 use interleave::{Change, Kind, Reply, Step};
 use lpm_bits::{Hop, Prefix};
@@ -97,7 +98,7 @@ impl SlowWriter {
     fn take(&mut self, rt: &impl Abort, kind: Kind) -> Result<Step, Stop> {
         match self.steps.get(self.used).copied() {
             Some(step) => {
-                assert_eq!(rt; step.kind, kind);
+                assert_at(rt, "kind", step.kind, kind);
                 self.used = self.used.saturating_add(1);
                 Ok(step)
             }
@@ -135,7 +136,7 @@ impl SlowWriter {
         }
         for worker in 0..self.config.workers {
             let step = self.take(rt, Kind::LoadCounter)?;
-            assert_eq!(rt; step.index, worker as u64);
+            assert_at(rt, "worker", step.index, worker as u64);
             if step.value != 0 && step.value < token {
                 return Ok(Some(Busy {
                     worker,
@@ -209,7 +210,7 @@ impl SlowWriter {
             self.retire(rt, alloc, group)?;
         }
         if let Some(group) = group_in(step.value) {
-            assert_eq!(rt; Some(group), self.least_free());
+            assert_at(rt, "group", Some(group), self.least_free());
             self.linked.push(group)?;
         }
         Ok(())
@@ -285,7 +286,7 @@ impl SlowWriter {
             match step.kind {
                 Kind::BumpSequence => return Ok(()),
                 Kind::StoreFirst => self.store_first(rt, alloc, &step)?,
-                kind => assert_eq!(rt; kind, Kind::StoreSecond),
+                kind => assert_at(rt, "kind", kind, Kind::StoreSecond),
             }
         }
         Err(Stop::Unfinished)
@@ -404,12 +405,12 @@ impl SlowWriter {
                 Ok(reply) => replies.push(reply)?,
                 Err(Stop::Memory) => return Err(AllocError),
                 Err(Stop::Unfinished) => {
-                    assert_eq!(rt; self.steps.len(), items);
+                    assert_at(rt, "steps", self.steps.len(), items);
                     break;
                 }
             }
         }
-        assert_eq!(rt; self.used, self.steps.len());
+        assert_at(rt, "steps", self.used, self.steps.len());
         assert!(rt; self.used == items || replies.len() == changes.len());
         Ok(replies)
     }
