@@ -4,6 +4,7 @@ ghost use Rattle.std.specs.Prelude.{◌<◌, length};
 
 use anyhow::{Result, ensure};
 use fib::Fib;
+use lpm_bits::Hop;
 use rand_core::Rng;
 use std::alloc::{AllocError, Global};
 use std::io;
@@ -19,10 +20,16 @@ pub(crate) trait Table {
 impl Table for Fib<24, 8> {
     #[inline]
     fn number(&self, addr: u32) -> u64 {
-        match self.lookup(addr) {
-            Some(hop) => u64::from(hop.number()),
-            None => 0,
-        }
+        number_of(self.lookup(addr))
+    }
+}
+
+/// The number of a next hop, 0 where there is none.
+#[inline]
+pub(crate) fn number_of(hop: Option<Hop>) -> u64 {
+    match hop {
+        Some(hop) => u64::from(hop.number()),
+        None => 0,
     }
 }
 
@@ -38,11 +45,11 @@ pub(crate) enum Addresses {
 /// How many addresses a list has.
 const LISTED: usize = 1 << 22;
 /// How many ascending addresses there are.
-const ASCENDING: u32 = 1 << 24;
+pub(crate) const ASCENDING: u32 = 1 << 24;
 /// How far one ascending address is from the next.
-const STRIDE: u32 = 251;
+pub(crate) const STRIDE: u32 = 251;
 /// How often each time is taken: the least one counts.
-const ROUNDS: usize = 5;
+pub(crate) const ROUNDS: usize = 5;
 
 impl Addresses {
     /// Addresses with any bits.
@@ -180,4 +187,31 @@ fn timed<R: Clock, T: Table>(
     let start = Instant::now(rt)?;
     let sum = add_numbers(table, addresses, sum);
     Ok((start.elapsed(rt)?, sum))
+}
+
+/// The least time that all lookups took, and the sum of all next hops that were found.
+#[derive(Clone, Copy)]
+pub(crate) struct Least {
+    pub(crate) time: Duration,
+    pub(crate) sum: u64,
+}
+
+/// Reads a table at these addresses, again and again.
+pub(crate) fn measure_alone<R: Clock, T: Table>(
+    rt: &R,
+    table: &T,
+    addresses: &Addresses,
+) -> Result<Least> {
+    let mut least = Least {
+        time: Duration::MAX,
+        sum: 0,
+    };
+    for _ in 0..ROUNDS {
+        let (time, sum) = timed(rt, table, addresses, least.sum)?;
+        least = Least {
+            time: least.time.min(time),
+            sum,
+        };
+    }
+    Ok(least)
 }

@@ -1,11 +1,15 @@
-//! `fib_bench`: how fast the table looks up and changes, beside plain words of the same size.
+//! `fib_bench`: how fast the table looks up and changes, beside plain words of the same size, and then as a
+//! running table.
 #![tactic(auto)]
 
 mod changes;
+mod crowd;
 mod lookups;
+mod passes;
 mod pieces;
 mod report;
 mod routes;
+mod running;
 #[cfg(test)]
 mod tests;
 mod words;

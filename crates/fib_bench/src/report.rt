@@ -7,6 +7,7 @@ use crate::changes::{add_all, delete_all};
 use crate::lookups::{Addresses, compare};
 use crate::pieces::print_pieces;
 use crate::routes::{Route, deep_blocks, fill, full_block};
+use crate::running::{WORKERS, print_running};
 use crate::words::Words;
 use anyhow::Result;
 use fib::Fib;
@@ -20,7 +21,7 @@ use std::thread::Threads;
 use std::time::Duration;
 
 /// The greatest number of routes of which a part is deleted and added again.
-const SAMPLE: usize = 10_000;
+pub(crate) const SAMPLE: usize = 10_000;
 
 /// Measures a table of that many routes, and prints a line for each figure.
 pub(crate) fn run<R: Clock + Print + AllocGlobal + Threads + Sync>(
@@ -37,7 +38,8 @@ pub(crate) fn run<R: Clock + Print + AllocGlobal + Threads + Sync>(
     print_all_lookups(rt, &table, routes.as_slice(), &mut random)?;
     print_changes(rt, &mut table, routes.as_slice())?;
     print_default_route(rt, &mut table)?;
-    print_full_block(rt, &mut table)
+    print_full_block(rt, &mut table)?;
+    print_running(rt, table, routes.as_slice(), &mut random)
 }
 
 /// The limits of the table: as many rules and groups as there can be.
@@ -47,7 +49,7 @@ fn limits() -> Config
     Config {
         rules: 1 << 24,
         groups: 1 << 16,
-        workers: 1,
+        workers: WORKERS,
         threshold: 32,
         reclaim_max: 16,
         first_token: 1,
@@ -180,7 +182,7 @@ fn hundredths_of_millis(time: Duration) -> u64 {
 }
 
 /// How many of the calls were made in a second, where so many took the time.
-fn each_second(time: Duration, count: usize) -> u64 {
+pub(crate) fn each_second(time: Duration, count: usize) -> u64 {
     (count as u64).saturating_mul(1_000_000_000) / nanos(time).max(1)
 }
 

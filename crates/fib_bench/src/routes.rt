@@ -55,6 +55,23 @@ pub(crate) fn deep_blocks(alloc: Global, routes: &[Route]) -> Result<Vec<u32>, A
     Ok(blocks)
 }
 
+/// Those of the routes that have at least and at most so many bits.
+pub(crate) fn of_lengths(
+    alloc: Global,
+    routes: &[Route],
+    least: u32,
+    most: u32,
+) -> Result<Vec<Route>, AllocError> {
+    let mut some = Vec::new(alloc);
+    for route in routes {
+        let len = route.prefix.len();
+        if least <= len && len <= most {
+            some.push(*route)?;
+        }
+    }
+    Ok(some)
+}
+
 /// A route of 32 bits for each address of the first block.
 pub(crate) fn full_block(alloc: Global) -> Result<Vec<Route>> {
     let mut routes = Vec::new(alloc);

@@ -1,0 +1,185 @@
+//! The workers and the writer of a running table.
+
+ghost use Rattle.std.specs.Prelude.{◌≡◌};
+ghost use Rattle.shared_fib.specs.Running.{IsBenchOf, IsOnline, identity_of};
+
+use crate::lookups::{ASCENDING, STRIDE, number_of};
+use crate::routes::Route;
+use anyhow::Result;
+use shared_fib::{Bench, Pass, SharedTable, Writer};
+use std::sync::atomic::{AtomicBool, Ordering};
+
+/// After how many lookups a worker reports that it is quiescent.
+const BETWEEN_REPORTS: usize = 1024;
+
+/// The addresses that a worker looks up, and how.
+#[derive(Clone, Copy)]
+pub(crate) enum Lookups<'a> {
+    /// These, one by one.
+    Listed(&'a [u32]),
+    /// These, four at once. Those past the last four are left out.
+    Fours(&'a [u32]),
+    /// The ascending ones, one by one.
+    Ascending,
+}
+
+/// A worker, and the sum of the next hops that it has found. It is online while it looks up.
+#[derive(Drop)]
+pub(crate) struct Reader<'a> {
+    table: &'a SharedTable<24, 8>,
+    pass: Pass,
+    pub(crate) sum: u64,
+    ghost own: { identity_of pass ≡ table.now },
+}
+
+impl<'a> Reader<'a> {
+    /// The worker of this number.
+    pub(crate) fn new(
+        table: &'a SharedTable<24, 8>,
+        bench: &mut Bench,
+        worker: usize,
+    ) -> Result<Reader<'a>>
+        requires own { IsBenchOf table.now bench.old }
+        ensures own { IsBenchOf table.now bench.new }
+    {
+        let pass = bench.register(table, worker)?;
+        Ok(Reader {
+            table,
+            pass,
+            sum: 0,
+        })
+    }
+
+    /// Adds the number of each address's next hop to the sum.
+    pub(crate) fn look_up(&mut self, lookups: Lookups<'_>) {
+        if self.pass.is_online() {
+            return;
+        }
+        self.pass.online(self.table);
+        match lookups {
+            Lookups::Listed(addrs) => self.add_listed(addrs),
+            Lookups::Fours(addrs) => self.add_fours(addrs),
+            Lookups::Ascending => self.add_ascending(),
+        }
+        if self.pass.is_online() {
+            self.pass.offline(self.table);
+        }
+    }
+
+    #[inline(never)]
+    fn add_listed(&mut self, addrs: &[u32])
+        requires { IsOnline self.old.pass }
+        ensures { IsOnline self.new.pass }
+    {
+        let mut sum = self.sum;
+        for addr in addrs {
+            let hop = self.pass.lookup(self.table, *addr).hop;
+            sum = sum.wrapping_add(number_of(hop));
+        }
+        self.sum = sum;
+    }
+
+    #[inline(never)]
+    fn add_ascending(&mut self)
+        requires { IsOnline self.old.pass }
+        ensures { IsOnline self.new.pass }
+    {
+        let mut sum = self.sum;
+        for step in 0..ASCENDING {
+            let hop = self.pass.lookup(self.table, step * STRIDE).hop;
+            sum = sum.wrapping_add(number_of(hop));
+        }
+        self.sum = sum;
+    }
+
+    #[inline(never)]
+    fn add_fours(&mut self, addrs: &[u32])
+        requires { IsOnline self.old.pass }
+        ensures { IsOnline self.new.pass }
+    {
+        let mut sum = self.sum;
+        for four in addrs.chunks_exact(4) {
+            let four = [four[0], four[1], four[2], four[3]];
+            let [a, b, c, d] = self.pass.lookup4(self.table, four, 0).hops;
+            let found = u64::from(a) + u64::from(b) + u64::from(c) + u64::from(d);
+            sum = sum.wrapping_add(found);
+        }
+        self.sum = sum;
+    }
+
+    /// Looks these addresses up, and reports now and then that the worker is quiescent.
+    pub(crate) fn add_reporting(&mut self, addrs: &[u32]) {
+        if self.pass.is_online() {
+            return;
+        }
+        self.pass.online(self.table);
+        for some in addrs.chunks(BETWEEN_REPORTS) {
+            self.add_listed(some);
+            self.pass.quiescent(self.table);
+        }
+        self.pass.offline(self.table);
+    }
+}
+
+/// The writer, and how many changes it has made.
+#[derive(Drop)]
+pub(crate) struct Changer<'a> {
+    table: &'a SharedTable<24, 8>,
+    writer: Writer<24, 8>,
+    pub(crate) made: u64,
+    ghost own: { writer.identity ≡ table.now },
+}
+
+impl<'a> Changer<'a> {
+    /// The writer of this table, which has made none.
+    pub(crate) fn new(table: &'a SharedTable<24, 8>, writer: Writer<24, 8>) -> Changer<'a>
+        requires { writer.identity ≡ table.now }
+    {
+        Changer {
+            table,
+            writer,
+            made: 0,
+        }
+    }
+
+    /// Deletes these routes.
+    pub(crate) fn delete_all(&mut self, routes: &[Route]) -> Result<()> {
+        for route in routes {
+            self.writer.delete(self.table, &route.prefix)?;
+        }
+        Ok(())
+    }
+
+    /// Adds these routes.
+    pub(crate) fn add_all(&mut self, routes: &[Route]) -> Result<()> {
+        for route in routes {
+            self.writer.add(self.table, &route.prefix, route.hop)?;
+        }
+        Ok(())
+    }
+
+    /// Deletes these routes and adds them again, each in turn, until the lookups are over.
+    fn change_all(&mut self, routes: &[Route], is_over: &AtomicBool) {
+        for route in routes {
+            if is_over.load(Ordering::SeqCst) {
+                break;
+            }
+            let gone = self.writer.delete(self.table, &route.prefix).is_ok();
+            let back = self
+                .writer
+                .add(self.table, &route.prefix, route.hop)
+                .is_ok();
+            self.made = self.made.saturating_add(u64::from(gone) + u64::from(back));
+        }
+    }
+
+    /// Changes these routes again and again, until the lookups are over. With no routes it doesn't wait.
+    pub(crate) fn change_until(&mut self, routes: &[Route], is_over: &AtomicBool) {
+        for _ in 0..u64::MAX {
+            if routes.is_empty() || is_over.load(Ordering::SeqCst) {
+                break;
+            }
+            self.change_all(routes, is_over);
+        }
+    }
+}

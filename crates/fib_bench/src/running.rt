@@ -1,0 +1,145 @@
+//! A running table: lookups by passes and changes by its writer, at rest and at once.
+
+ghost use Rattle.std.specs.Prelude.{◌≡◌, ◌<◌, ◌≤◌, ℕ, IfOk, IsTrue, length, vec_len};
+ghost use Rattle.fib_model.specs.Counting.{by_counters};
+ghost use Rattle.shared_fib.specs.Running.{IsBenchOf};
+
+use crate::crowd::print_at_once;
+use crate::lookups::{Addresses, Least, ROUNDS, measure_alone};
+use crate::passes::{Changer, Lookups, Reader};
+use crate::report::{Hundredths, SAMPLE, each_second, hundredths_of_nanos, ratio};
+use crate::routes::Route;
+use anyhow::{Result, ensure};
+use fib::Fib;
+use rand_core::Rng;
+use shared_fib::{Bench, SharedTable, go_live};
+use std::alloc::Global;
+use std::rt::Clock;
+use std::thread::Threads;
+use std::time::{Duration, Instant};
+
+/// How many workers the table has.
+pub(crate) const WORKERS: usize = 4;
+
+/// Goes on with the table as a running one, and prints what its lookups and changes take.
+pub(crate) fn print_running<R: Clock + Print + AllocGlobal + Threads + Sync, G: Rng>(
+    rt: &R,
+    table: Fib<24, 8>,
+    routes: &[Route],
+    random: &mut G,
+) -> Result<()> {
+    ensure!(is_left(&table), "a worker is online");
+    let addresses = Addresses::random(rt.alloc(), random)?;
+    let Addresses::Listed(addrs) = &addresses else {
+        return Ok(());
+    };
+    let listed = measure_alone(rt, &table, &addresses)?;
+    let ascending = measure_alone(rt, &table, &Addresses::Ascending)?;
+    let (table, writer, mut bench) = go_live(rt.alloc(), table)?;
+    let mut readers = readers_of(rt.alloc(), &table, &mut bench)?;
+    let mut changer = Changer::new(&table, writer);
+    print_at_rest(rt, &mut readers[0], addrs, listed, ascending)?;
+    print_changes(rt, &mut changer, &routes[..routes.len().min(SAMPLE)])?;
+    print_at_once(rt, readers.as_mut_slice(), &mut changer, routes, addrs)
+}
+
+/// Whether no worker of the table is online.
+fn is_left(table: &Fib<24, 8>) -> bool
+    ensures { IsTrue result → (worker : ℕ) → worker < table.now.config.workers
+        → ¬ by_counters.is_online table.now.table.readers worker }
+{
+    let workers = table.config().workers;
+    for worker in 0..workers {
+        if table.is_online(worker) {
+            return false;
+        }
+    }
+    true
+}
+
+/// The workers of a table.
+fn readers_of<'a>(
+    alloc: Global,
+    table: &'a SharedTable<24, 8>,
+    bench: &mut Bench,
+) -> Result<Vec<Reader<'a>>>
+    requires own { IsBenchOf table.now bench.old }
+    ensures { IfOk result (λ readers. vec_len readers ≡ 4) }
+{
+    let mut readers = Vec::with_capacity(alloc, WORKERS)?;
+    for worker in 0..WORKERS {
+        readers.push(Reader::new(table, bench, worker)?)?;
+    }
+    Ok(readers)
+}
+
+/// Prints what the lookups of one pass take while nothing changes, beside those of the table alone.
+fn print_at_rest<R: Clock + Print>(
+    rt: &R,
+    reader: &mut Reader<'_>,
+    addrs: &[u32],
+    listed: Least,
+    ascending: Least,
+) -> Result<()> {
+    let pass = least_of(rt, reader, Lookups::Listed(addrs))?;
+    print_beside(rt, "pass, random", addrs.len(), pass, listed)?;
+    let fours = least_of(rt, reader, Lookups::Fours(addrs))?;
+    print_beside(rt, "pass by fours, random", addrs.len(), fours, pass)?;
+    let count = Addresses::Ascending.count();
+    let pass = least_of(rt, reader, Lookups::Ascending)?;
+    print_beside(rt, "pass, ascending", count, pass, ascending)?;
+    let more = hundredths_of_nanos(pass.time.saturating_sub(ascending.time), count);
+    println!(rt; "difference, pass, ascending: {} ns each", Hundredths(more))?;
+    Ok(())
+}
+
+/// Prints what so many lookups take, each in nanoseconds, beside others that find the same next hops.
+fn print_beside<R: Print>(
+    rt: &R,
+    what: &str,
+    count: usize,
+    lookups: Least,
+    others: Least,
+) -> Result<()> {
+    ensure!(
+        lookups.sum == others.sum,
+        "the sums of the next hops differ"
+    );
+    let each = hundredths_of_nanos(lookups.time, count);
+    let other = hundredths_of_nanos(others.time, count);
+    println!(rt; "{what}: {} ns each", Hundredths(each))?;
+    println!(rt; "ratio, {what}: {}", Hundredths(ratio(each, other)))?;
+    Ok(())
+}
+
+/// The least time of these lookups by one pass, and the sum of all next hops that it has found.
+fn least_of<R: Clock>(rt: &R, reader: &mut Reader<'_>, lookups: Lookups<'_>) -> Result<Least> {
+    let mut time = Duration::MAX;
+    reader.sum = 0;
+    for _ in 0..ROUNDS {
+        let start = Instant::now(rt)?;
+        reader.look_up(lookups);
+        time = time.min(start.elapsed(rt)?);
+    }
+    Ok(Least {
+        time,
+        sum: reader.sum,
+    })
+}
+
+/// Prints what it takes to delete these routes and to add them again.
+fn print_changes<R: Clock + Print>(
+    rt: &R,
+    changer: &mut Changer<'_>,
+    routes: &[Route],
+) -> Result<()> {
+    let start = Instant::now(rt)?;
+    changer.delete_all(routes)?;
+    let deleting = each_second(start.elapsed(rt)?, routes.len());
+    println!(rt; "deletions, running: {deleting} a second")?;
+    let start = Instant::now(rt)?;
+    changer.add_all(routes)?;
+    let adding = each_second(start.elapsed(rt)?, routes.len());
+    println!(rt; "additions, running: {adding} a second")?;
+    Ok(())
+}
