@@ -101,7 +101,7 @@ impl Addresses {
 }
 
 /// An address in one of these blocks, each given by its first address.
-pub(crate) fn draw_within<R: Rng>(random: &mut R, blocks: &[u32]) -> u32
+fn draw_within<R: Rng>(random: &mut R, blocks: &[u32]) -> u32
     requires { 0 < length blocks.now }
 {
     let first = blocks[random.next_u32() as usize % blocks.len()];

@@ -10,8 +10,6 @@ mod pieces;
 mod report;
 mod routes;
 mod running;
-#[cfg(test)]
-mod tests;
 mod words;
 
 ghost use Rattle.std.specs.Prelude.{◌≤◌, IfSome};

@@ -1,6 +1,6 @@
 //! Random routes, the same in each run.
 
-ghost use Rattle.std.specs.Prelude.{◌≡◌, ◌≤◌, IfOk, vec_len};
+ghost use Rattle.std.specs.Prelude.{◌≡◌, ◌<◌, ◌≤◌, ◌↔◌, IfOk, vec_len};
 
 use anyhow::{Result, ensure};
 use fib::Fib;
@@ -94,8 +94,9 @@ fn draw<R: Rng>(random: &mut R) -> Result<Route> {
 
 /// The length of a prefix that is one of a hundred, like that of the routes of the internet: more
 /// than half have 24 bits, few have less than 16, and two in a hundred have more than 24.
-pub(crate) fn length(of_hundred: u32, among: u32) -> u32
-    ensures { result ≤ 32 }
+fn length(of_hundred: u32, among: u32) -> u32
+    ensures fits { result ≤ 32 }
+    ensures long { 24 < result ↔ of_hundred < 2 }
 {
     match of_hundred {
         0..=1 => 25 + among % 8,
