@@ -42,11 +42,11 @@ fn open_words<const FIRST: u32, const SECOND: u32>(
         ≡ writer_view (opened_of FIRST SECOND loaded.now.cells loaded.now.rules.rules
         loaded.now.groups loaded.now.workers loaded.now.token)) }
 {
-    let layout = Layout {
-        firsts: loaded.cells.first_words().len(),
-        seconds: loaded.cells.second_words().len(),
-        workers: loaded.workers,
-    };
+    let layout = Layout::new(
+        loaded.cells.first_words().len(),
+        loaded.cells.second_words().len(),
+        loaded.workers,
+    );
     let words = lay(alloc, &loaded.cells, loaded.token, loaded.workers)?;
     shared_words::open(alloc, &words, layout, loaded)
 }

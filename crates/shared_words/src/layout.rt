@@ -9,9 +9,27 @@ pub struct Layout {
     pub firsts: usize,
     pub seconds: usize,
     pub workers: usize,
+    // Where the sequence lies, which each lookup loads twice.
+    sequence: usize,
+    ghost behind: { sequence ≡ firsts + seconds },
 }
 
 impl Layout {
+    /// The layout of so many words of each kind.
+    pub fn new(firsts: usize, seconds: usize, workers: usize) -> Self
+        requires { firsts + seconds < 2 ^ 63 }
+        ensures firsts { result.firsts ≡ firsts }
+        ensures seconds { result.seconds ≡ seconds }
+        ensures workers { result.workers ≡ workers }
+    {
+        Layout {
+            firsts,
+            seconds,
+            workers,
+            sequence: firsts + seconds,
+        }
+    }
+
     /// Where second word `j` lies.
     #[inline]
     pub(crate) fn second_at(self, j: usize) -> usize
@@ -24,10 +42,9 @@ impl Layout {
     /// Where the sequence lies.
     #[inline]
     pub(crate) fn sequence_at(self) -> usize
-        requires { self.firsts + self.seconds < 2 ^ 63 }
         ensures { result ≡ self.firsts + self.seconds }
     {
-        self.firsts + self.seconds
+        self.sequence
     }
 
     /// Where the token lies.
@@ -36,7 +53,7 @@ impl Layout {
         requires { self.firsts + self.seconds < 2 ^ 63 }
         ensures { result ≡ self.firsts + self.seconds + 1 }
     {
-        self.firsts + self.seconds + 1
+        self.sequence + 1
     }
 
     /// Where the counter of a worker lies.
@@ -45,6 +62,6 @@ impl Layout {
         requires { self.firsts + self.seconds + 2 + worker < 2 ^ 63 }
         ensures { result ≡ self.firsts + self.seconds + 2 + worker }
     {
-        self.firsts + self.seconds + 2 + worker
+        self.sequence + 2 + worker
     }
 }

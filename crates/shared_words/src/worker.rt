@@ -136,17 +136,22 @@ impl WorkerSeat {
             .store::<StoresOffline>(&mut self.place, at, 0);
     }
 
-    /// Loads the sequence: a lookup of these addresses begins.
+    /// Loads the sequence, which lies at this place: a lookup of these addresses begins.
     #[inline]
-    pub fn begin_lookup<T: Opens>(&mut self, table: &SharedWords<T>, addrs: &[u64]) -> u64
+    pub(crate) fn begin_lookup<T: Opens>(
+        &mut self,
+        table: &SharedWords<T>,
+        at: usize,
+        addrs: &[u64],
+    ) -> u64
         requires own { IsOf table.now.board.shared.table_id (T.opened table.now.board.shared.key)
             table.now.layout self.old.place.table_id self.old.place.me.0 }
+        requires place { at ≡ table.now.layout.firsts + table.now.layout.seconds }
         requires online { (worker_by self.old.place.me.0.own).phase ≡ Online }
         requires addrs { All (λ a. a < addresses (setup_of self.old.place.me.0.opening)) addrs.now }
         ensures own { self.new.place.table_id ≡ self.old.place.table_id }
         ensures step { Gains (Begins addrs.now result) self.old.place.me.0 self.new.place.me.0 }
     {
-        let at = table.layout.sequence_at();
         begin_as::<T, Brand>(&table.board, &mut self.place, at, self.number, addrs)
     }
 
@@ -185,17 +190,17 @@ impl WorkerSeat {
         table.board.shared.load::<LoadsSecond>(&mut self.place, at)
     }
 
-    /// Loads the sequence: the lookup, of which each address has its answer, ends.
+    /// Loads the sequence, which lies at this place: the lookup, of which each address has its answer, ends.
     #[inline]
-    pub fn end_lookup<T: Opens>(&mut self, table: &SharedWords<T>) -> u64
+    pub(crate) fn end_lookup<T: Opens>(&mut self, table: &SharedWords<T>, at: usize) -> u64
         requires own { IsOf table.now.board.shared.table_id (T.opened table.now.board.shared.key)
             table.now.layout self.old.place.table_id self.old.place.me.0 }
+        requires place { at ≡ table.now.layout.firsts + table.now.layout.seconds }
         requires looking { (worker_by self.old.place.me.0.own).phase ≡ LookingUp }
         requires answered { AreAnswered (worker_by self.old.place.me.0.own).probes }
         ensures own { self.new.place.table_id ≡ self.old.place.table_id }
         ensures step { Gains (Ends result) self.old.place.me.0 self.new.place.me.0 }
     {
-        let at = table.layout.sequence_at();
         table.board.shared.load::<EndsLookup>(&mut self.place, at)
     }
 

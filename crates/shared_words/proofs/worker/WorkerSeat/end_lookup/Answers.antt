@@ -5,7 +5,7 @@ use Rattle.shared_words.proofs.worker.WorkerSeat.end_lookup.Goals as goal
 pub load-requires : goal.load-requires
 load-requires g c =
     let own = c.requires.own in
-    let at = c.sequence_at-at.ensures in (
+    let at = c.requires.place in (
       own.same,
       omega (arith, at, own.firsts, own.seconds, own.words),
       ends_allowed _ _ _ _ _ _ c.args.self.now.role
