@@ -1,6 +1,7 @@
 pub mod Written
 pub mod Loaded
 pub mod Updated
+pub mod Answered
 pub mod Texts
 pub mod Ends
 pub mod Known

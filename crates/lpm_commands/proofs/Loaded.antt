@@ -1,5 +1,5 @@
 -- Routes that are added one after another.
-use Rattle.std.proofs.Common.{◌≡◌, ◌≢◌, ◌∙◌, ap, sym, subst, ℕ, suc, ◌+◌, ◌<◌, List, [], ◌∷◌, ◌++◌, Ok, Err, ◌⊎◌, inl, inr, refl, take, drop, length, get_or, map}
+use Rattle.std.proofs.Common.{◌≡◌, ◌≢◌, ◌∙◌, ap, sym, subst, ℕ, zero, suc, ◌+◌, ◌<◌, List, [], ◌∷◌, ◌++◌, Ok, Err, ◌⊎◌, inl, inr, refl, take, drop, length, get_or, slice_index, replicate, map, arith}
 use Rattle.std.proofs.Math.Seq.{drop-cons}
 use Rattle.std.proofs.lemmas.List.{take_more, take-append-drop}
 use Rattle.std.specs.FinMap.{insert, empty}
@@ -15,7 +15,7 @@ use Rattle.lpm_bits.specs.Network.{Network}
 use Rattle.qsbr.specs.Registry.{Registry}
 use Rattle.fib_model.specs.State.{State}
 use Rattle.fib_model.specs.Outcomes.{Adds}
-use Rattle.fib_model.specs.Counting.{counting, opened}
+use Rattle.fib_model.specs.Counting.{counting, by_counters, opened}
 use Rattle.fib_model.proofs.Frozen.{counted, adds_frozen, adds_moving}
 use Rattle.route_text.specs.declared.routes.Route.{Route}
 use Rattle.lpm_commands.specs.declared.failure.Failure.{Failure}
@@ -44,11 +44,18 @@ added_limbo c s z p h Unchanged none adds = ap (λ (x : State Registry). x.limbo
 added_limbo c s z p h Replaced none adds = adds.4 ∙ none
 added_limbo c s z p h Added none adds = (adds.1.1.1 (λ lacks. let front = sym none ∙ (adds.1.1.0 lacks).1 in absurd cc)).0 ∙ none
 
+-- an add changes no reader
+added_readers : (c : Config) (s z : State Registry) (p : Network) (h : ℕ) (put : Put) → s.limbo ≡ [] → Adds counting 24 8 c s p h (Ok put) z → z.readers ≡ s.readers
+added_readers c s z p h Unchanged none adds = ap (λ (x : State Registry). x.readers) adds.1
+added_readers c s z p h Replaced none adds = adds.2.2 ∙ adds.2.1
+added_readers c s z p h Added none adds = adds.1.2.2 ∙ (adds.1.2.1 ∙ (adds.1.1.1 (λ lacks. let front = sym none ∙ (adds.1.1.0 lacks).1 in absurd cc)).1)
+
 -- one route more
 pub loaded_more : (c : Config) (xs : List Route) (s z : State Registry) (r : Route) (put : Put) → IsLoaded c xs s → Adds counting 24 8 c s r.prefix r.hop (Ok put) z → IsLoaded c (xs ++ r ∷ []) z
 loaded_more c xs s z r put loaded adds = record {
   loads = Loads-append c (opened c) s z xs r put loaded.loads adds;
   rules = added_rules c s z r.prefix r.hop put adds ∙ (ap (λ (R : RuleMap). insert R r.prefix r.hop) loaded.rules ∙ sym (rules_after-more empty xs r));
+  readers = added_readers c s z r.prefix r.hop put loaded.limbo adds ∙ loaded.readers;
   limbo = added_limbo c s z r.prefix r.hop put loaded.limbo adds;
 }
 
@@ -95,3 +102,15 @@ refused_ends c file routes refusal failure refused memory other ends = elim (is_
   | inl e ↦ subst (EndsLoading c file routes) (sym (memory e)) tt
   | inr reason ↦ subst (EndsLoading c file routes) (sym (other reason)) (ends reason)
 ]
+
+-- each counter of a table that was just opened is 0
+no_counter : (n w : ℕ) → slice_index (replicate n 0) w ≡ 0
+no_counter zero w = refl
+no_counter (suc n) zero = refl
+no_counter (suc n) (suc w) = no_counter n w
+
+-- no worker of a loaded table is online
+pub all_offline : (c : Config) (routes : List Route) (table : State Registry) → IsLoaded c routes table → (w : ℕ) → ¬ by_counters.is_online table.readers w
+all_offline c routes table loaded w online =
+    let none = ap (λ (r : Registry). slice_index r.counters w) loaded.readers ∙ no_counter c.workers w in
+    absurd (omega (arith, none))

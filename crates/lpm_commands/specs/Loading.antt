@@ -35,10 +35,12 @@ addition_of route = Add route.prefix route.hop
 abbrev pub rules_of_routes : List Route → RuleMap
 rules_of_routes routes = rules_after empty (map addition_of routes)
 
--- the table of these routes; it has their rules, and no group in limbo
+-- the table of these routes; it has their rules, its readers are as they were at first, and no
+-- group is in limbo
 pub record IsLoaded (c : Config) (routes : List Route) (table : State Registry) : Type 0 where
   pub loads : Loads c (opened c) routes table
   pub rules : table.rules ≡ rules_of_routes routes
+  pub readers : table.readers ≡ (opened c).readers
   pub limbo : table.limbo ≡ []
 
 -- the routes before the one on this line make a table, which refuses that one for another reason

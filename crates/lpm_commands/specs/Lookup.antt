@@ -6,6 +6,8 @@ use Rattle.lpm_limits.specs.declared.refusal.Refusal.TheVariants.{NoWorkers}
 use Rattle.lpm_rules.specs.RuleMap.{RuleMap}
 use Rattle.lpm_rules.specs.Longest.{AreLongestHops}
 use Rattle.qsbr.specs.Registry.{Registry}
+use Rattle.bulk.specs.declared.bulk_error.BulkError.{BulkError}
+use Rattle.bulk.specs.declared.bulk_error.BulkError.TheVariants as bulks
 use Rattle.fib_model.specs.State.{State}
 use Rattle.route_text.specs.declared.routes.Route.{Route}
 use Rattle.route_text.specs.Files.{AreRoutes, AreAddresses}
@@ -36,6 +38,11 @@ pub record IsLookupText (c : Config) (routes addresses : Option (List ℕ)) (tex
   pub are_addrs : Reads AreAddresses addresses addrs
   pub loaded : IsLoaded c list table
   pub answered : IsAnswered c (rules_of_routes list) addrs text
+
+-- what addresses that were not answered end the run with
+abbrev pub ending_of : BulkError → Failure
+ending_of bulks.NoWorkers = Refused NoWorkers
+ending_of bulks.Memory = Memory
 
 -- answering addresses ends so: there is no worker to answer them, or no memory
 abbrev pub EndsAnswering : Config → Failure → Type 0

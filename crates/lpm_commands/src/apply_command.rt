@@ -5,11 +5,11 @@ ghost use Rattle.lpm_commands.specs.Output.{Writes, WritesBeginning};
 ghost use Rattle.lpm_commands.specs.Apply.{IsApplyText, IsToldAfter, EndsApply};
 ghost use Rattle.lpm_commands.specs.Lookup.{EndsAnswering};
 
+use crate::answers::text_of_answers;
 use crate::failure::Failure;
 use crate::files::{Files, put_text};
 use crate::inputs::{Addresses, Routes, Updates, read_list};
 use crate::loading::load;
-use crate::lookup_command::text_of_answers;
 use crate::updating::{text_of_outcomes, update};
 use bulk::Open;
 use fib::Fib;

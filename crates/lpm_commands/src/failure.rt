@@ -1,8 +1,10 @@
 //! What ends a run before its output is written, and its exit status.
 ghost use Rattle.std.specs.Prelude.{◌≡◌};
+ghost use Rattle.lpm_commands.specs.Lookup.{ending_of};
 ghost use Rattle.lpm_commands.specs.Status.{status_of};
 ghost use Rattle.lpm_commands.specs.declared.failure.Failure.TheVariants.{Memory as IsMemory};
 
+use bulk::BulkError;
 use qsbr::Refusal;
 use route_text::Fault;
 use std::alloc::AllocError;
@@ -62,6 +64,20 @@ impl From<AllocError> for Failure<'_> {
 
     fn from(_error: AllocError) -> Self {
         Failure::Memory
+    }
+}
+
+/// Why addresses were not answered, as it ends a run.
+impl From<BulkError> for Failure<'_> {
+    ghost from_gives = { λ error failure. failure ≡ ending_of error };
+
+    fn from(error: BulkError) -> Self {
+        match error {
+            BulkError::NoWorkers => Failure::Refused {
+                refusal: Refusal::NoWorkers,
+            },
+            BulkError::Memory => Failure::Memory,
+        }
     }
 }
 

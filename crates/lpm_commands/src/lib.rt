@@ -1,6 +1,7 @@
 //! The commands of `lpmtool`, over any files and any writer.
 #![tactic(auto)]
 
+mod answers;
 mod apply_command;
 mod failure;
 mod files;

@@ -2,16 +2,15 @@
 ghost use Rattle.std.specs.Prelude.{◌≡◌, ◌≢◌, IfOk, IfErr, OnOk, IsErrOf};
 ghost use Rattle.lpm_limits.specs.Limits.{IsConfig};
 ghost use Rattle.lpm_commands.specs.Output.{Writes, WritesBeginning};
-ghost use Rattle.lpm_commands.specs.Lookup.{IsAnswered, IsLookupText, EndsAnswering, EndsLookup};
+ghost use Rattle.lpm_commands.specs.Lookup.{IsLookupText, EndsLookup};
 
+use crate::answers::text_of_live_answers;
 use crate::failure::Failure;
 use crate::files::{Files, put_text};
 use crate::inputs::{Addresses, Routes, read_list};
 use crate::loading::load;
-use bulk::{BulkError, Gate, bulk_plain};
-use fib::Fib;
-use qsbr::{Config, Refusal};
-use route_text::answers_text;
+use bulk::Gate;
+use qsbr::Config;
 use std::alloc::Global;
 use std::io::Write;
 use std::thread::Threads;
@@ -70,30 +69,5 @@ fn lookup_text<'a, R: Threads + Sync, F: Files, G: Gate>(
     let list = read_list::<Routes, F>(alloc, files, routes)?;
     let addrs = read_list::<Addresses, F>(alloc, files, addresses)?;
     let table = load(alloc, routes, &list, config)?;
-    text_of_answers(rt, alloc, &table, &addrs, gate)
-}
-
-/// A line for each address with its answer.
-pub fn text_of_answers<'a, R: Threads + Sync, G: Gate>(
-    rt: &R,
-    alloc: Global,
-    table: &Fib<24, 8>,
-    addrs: &[u32],
-    gate: &G,
-) -> Result<Vec<u8>, Failure<'a>>
-    ensures text { IfOk result (λ v.
-        IsAnswered table.now.config table.now.table.rules addrs.now v.items) }
-    ensures failure { IfErr result (EndsAnswering table.now.config) }
-{
-    let workers = table.config().workers;
-    let hops = match bulk_plain(rt, alloc, table, workers, addrs, gate) {
-        Ok(hops) => hops,
-        Err(BulkError::NoWorkers) => {
-            return Err(Failure::Refused {
-                refusal: Refusal::NoWorkers,
-            });
-        }
-        Err(BulkError::Memory) => return Err(Failure::Memory),
-    };
-    Ok(answers_text(alloc, addrs, &hops)?)
+    text_of_live_answers(rt, alloc, table, &addrs, gate)
 }

@@ -1,23 +1,27 @@
-use Rattle.std.proofs.Common.{List, subst}
+use Rattle.std.proofs.Common.{List, subst, rules}
 use Rattle.std.proofs.lemmas.Result.{IfOk-weaker, IfErr-weaker}
 use Rattle.route_text.specs.declared.routes.Route.{Route}
 use Rattle.lpm_commands.specs.Loading.{IsLoaded}
+use Rattle.lpm_commands.proofs.Loaded.{all_offline}
 use Rattle.lpm_commands.proofs.Texts.{is_lookup_text, answered_as}
 use Rattle.lpm_commands.proofs.Ends.{ends_lookup}
 use Rattle.lpm_commands.proofs.lookup_command.lookup_text.Goals as goal
+
+pub text_of_live_answers-requires : goal.text_of_live_answers-requires
+text_of_live_answers-requires g c = (search rules, (search rules, λ w below. all_offline _ _ _ c.in_ok-table.ensures.loaded w))
 
 pub returns-clause-text : goal.returns-clause-text
 returns-clause-text g c =
     let table = c.in_ok-table.table.table in
     let loaded = subst (λ (list : List Route). IsLoaded c.args.config list table) c.deref.ensures.value c.in_ok-table.ensures.loaded in
-    IfOk-weaker c.text_of_answers.result _ _ (λ v answered.
+    IfOk-weaker c.text_of_live_answers.result _ _ (λ v answered.
     is_lookup_text _ _ _ c.in_ok-list.list.items c.in_ok-addrs.addrs.items table _ c.in_ok-list.ensures.items c.in_ok-addrs.ensures.items loaded (answered_as _ _ _ _ _ _ c.in_ok-table.ensures.config c.deref-2.ensures.value answered))
-    c.text_of_answers.ensures.text
+    c.text_of_live_answers.ensures.text
 
 pub returns-clause-failure : goal.returns-clause-failure
 returns-clause-failure g c =
     let table = c.in_ok-table.table.table in
     let loaded = subst (λ (list : List Route). IsLoaded c.args.config list table) c.deref.ensures.value c.in_ok-table.ensures.loaded in
-    IfErr-weaker c.text_of_answers.result _ _ (λ e ends.
+    IfErr-weaker c.text_of_live_answers.result _ _ (λ e ends.
     ends_lookup _ _ c.args.routes.now c.args.addresses.now (g.F.Files.bytes c.args.files.now) c.in_ok-list.list.items c.in_ok-addrs.addrs.items table e c.in_ok-table.ensures.config c.in_ok-list.ensures.items c.in_ok-addrs.ensures.items loaded ends)
-    c.text_of_answers.ensures.failure
+    c.text_of_live_answers.ensures.failure

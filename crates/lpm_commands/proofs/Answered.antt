@@ -1,0 +1,37 @@
+-- How answering by a running table ends.
+use Rattle.std.proofs.Common.{◌≡◌, ◌∙◌, ℕ, List, Result, Ok, Err, length, map, ap, sym, subst, refl}
+use Rattle.std.specs.Prelude.{IfErr, IsErrAnd, IsErrOf}
+use Rattle.std.specs.List.{range_with_len}
+use Rattle.std.proofs.lemmas.List.{length-map}
+use Rattle.std.proofs.lemmas.List.FromFn.{length-map-range_with_len}
+use Rattle.lpm_limits.specs.declared.config.Config.{Config}
+use Rattle.lpm_rules.specs.RuleMap.{RuleMap}
+use Rattle.shared_words.specs.declared.view.Role.TheVariants.{Worker}
+use Rattle.shared_fib.specs.Running.{Identity, WriterState, opens_with}
+use Rattle.bulk.specs.declared.bulk_error.BulkError.{BulkError}
+use Rattle.bulk.specs.declared.bulk_error.BulkError.TheVariants.{NoWorkers, Memory}
+use Rattle.bulk.specs.declared.desk.Desk.{Desk}
+use Rattle.bulk.specs.Desks.{role_of}
+use Rattle.lpm_commands.specs.declared.failure.Failure.{Failure}
+use Rattle.lpm_commands.specs.Lookup.{ending_of, EndsAnswering}
+
+-- a writer at its opening is that of this table, and has these rules
+pub is_of : (id : Identity) (c : Config) (R : RuleMap) (w : WriterState) → w ≡ opens_with id c R → w.identity ≡ id
+is_of id c R w opened = ap (λ (v : WriterState). v.identity) opened
+
+pub has_rules : (id : Identity) (c : Config) (R : RuleMap) (w : WriterState) → w ≡ opens_with id c R → w.table.rules ≡ R
+has_rules id c R w opened = ap (λ (v : WriterState). v.table.rules) opened
+
+-- there are as many desks as workers
+pub as_many_desks : (desks : List Desk) (workers : ℕ) → map role_of desks ≡ map Worker (range_with_len 0 workers) → length desks ≡ workers
+as_many_desks desks workers roles = sym (length-map desks role_of) ∙ (ap length roles ∙ length-map-range_with_len Worker 0 workers)
+
+-- what is known of a failure leads to what is to be shown of it
+pub failure_leads : (T : Type 0) (r : Result T Failure) (P Q : Failure → Type 0) → IsErrAnd r P → ((e : Failure) → P e → Q e) → IfErr r Q
+failure_leads T (Ok x) P Q known leads = tt
+failure_leads T (Err e) P Q known leads = leads e known
+
+-- addresses that were not answered end the run so
+pub ends_answering : (T : Type 0) (c : Config) (error : BulkError) (failure : Failure) → failure ≡ ending_of error → (IsErrOf {T = T} (Err error) NoWorkers → c.workers ≡ 0) → EndsAnswering c failure
+ends_answering T c NoWorkers failure same none = subst (EndsAnswering c) (sym same) (refl, none refl)
+ends_answering T c Memory failure same none = subst (EndsAnswering c) (sym same) tt

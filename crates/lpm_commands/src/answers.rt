@@ -1,0 +1,61 @@
+//! The text of the answers to addresses, by a table of one thread or by a running one.
+ghost use Rattle.std.specs.Prelude.{◌≡◌, ◌<◌, ℕ, IfOk, IfErr};
+ghost use Rattle.fib_model.specs.Counting.{by_counters};
+ghost use Rattle.lpm_commands.specs.Lookup.{IsAnswered, EndsAnswering};
+
+use crate::failure::Failure;
+use bulk::{Gate, bulk, bulk_plain, seat_all};
+use fib::Fib;
+use route_text::answers_text;
+use shared_fib::go_live;
+use std::alloc::Global;
+use std::thread::Threads;
+
+/// A line for each address with its answer by this table, by as many threads as it has workers.
+pub fn text_of_answers<'a, R: Threads + Sync, G: Gate>(
+    rt: &R,
+    alloc: Global,
+    table: &Fib<24, 8>,
+    addrs: &[u32],
+    gate: &G,
+) -> Result<Vec<u8>, Failure<'a>>
+    ensures text { IfOk result (λ v.
+        IsAnswered table.now.config table.now.table.rules addrs.now v.items) }
+    ensures failure { IfErr result (EndsAnswering table.now.config) }
+{
+    let workers = table.config().workers;
+    let hops = bulk_plain(rt, alloc, table, workers, addrs, gate)?;
+    Ok(answers_text(alloc, addrs, &hops)?)
+}
+
+/// A line for each address with its answer by the running table that this one becomes. Each of its
+/// workers answers a piece of the addresses by its own pass, on its own thread.
+///
+/// No worker may be online yet.
+pub fn text_of_live_answers<'a, R: Threads + Sync, G: Gate>(
+    rt: &R,
+    alloc: Global,
+    fib: Fib<24, 8>,
+    addrs: &[u32],
+    gate: &G,
+) -> Result<Vec<u8>, Failure<'a>>
+    requires offline { (worker : ℕ) → worker < fib.config.workers
+        → ¬ by_counters.is_online fib.table.readers worker }
+    ensures text { IfOk result (λ v.
+        IsAnswered fib.config fib.table.rules addrs.now v.items) }
+    ensures failure { IfErr result (EndsAnswering fib.config) }
+{
+    let workers = fib.config().workers;
+    let (table, mut writer, mut bench) = go_live(alloc, fib)?;
+    let mut desks = seat_all(alloc, &table, &mut bench, workers)?;
+    let hops = bulk(
+        rt,
+        alloc,
+        &table,
+        &mut writer,
+        desks.as_mut_slice(),
+        addrs,
+        gate,
+    )?;
+    Ok(answers_text(alloc, addrs, &hops)?)
+}
