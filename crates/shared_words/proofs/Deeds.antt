@@ -1,7 +1,6 @@
 -- Steps of a worker one after another.
-use Rattle.std.proofs.Common.{◌≡◌, ℕ, ◌+◌, ◌*◌, ◌/◌, ◌%◌, ◌^◌, ◌<◌, ◌≤◌, All, List, [], ◌∷◌, ◌++◌, length, Option, Some, None, refl, sym, ap, subst, ◌∙◌, arith, append_assoc, length-set, length-append}
+use Rattle.std.proofs.Common.{◌≡◌, ℕ, ◌^◌, ◌≤◌, All, List, [], ◌∷◌, ◌++◌, length, Option, Some, None, refl, sym, ap, subst, ◌∙◌, arith, append_assoc, length-set, length-append}
 use Rattle.std.proofs.lemmas.List.Elements.{All-head}
-use Rattle.atomic_table.specs.Seated.{TableId}
 use Rattle.lpm_entry.specs.declared.Entry.{Entry}
 use Rattle.lpm_entry.specs.declared.Entry.TheVariants.{Miss, Hop, Group}
 use Rattle.lpm_entry.specs.Words.{entry_in, hop_in, IsLast}
@@ -11,15 +10,12 @@ use Rattle.lpm_trace.specs.declared.step.WorkerStep.{WorkerStep}
 use Rattle.lpm_trace.specs.declared.step.WorkerStep.TheVariants.{Begins, LoadFirst, LoadSecond, Ends}
 use Rattle.lpm_trace.specs.Tables.{Setup, tables, done_at, begun_at}
 use Rattle.lpm_trace.specs.Trace.{worker_by}
-use Rattle.lpm_trace.specs.Workers.{Worker as WorkerState, Phase, Online, LookingUp, Unread, InGroup, Answered, Seen, Probe, moved, read_first, first_read, second_read, AreBegun, AreAnswered}
+use Rattle.lpm_trace.specs.Workers.{Worker as WorkerState, Online, Unread, InGroup, Answered, Seen, Probe, moved, read_first, first_read}
 use Rattle.lpm_trace.specs.Laws.{IsLegalAtPlace}
-use Rattle.shared_words.specs.declared.view.Role.{Role}
-use Rattle.shared_words.specs.declared.view.Role.TheVariants.{Writer, Worker, Note}
 use Rattle.shared_words.specs.declared.view.View.{View}
-use Rattle.shared_words.specs.declared.layout.Layout.{Layout}
 use Rattle.shared_words.specs.Opened.{Opened, setup_of}
 use Rattle.shared_words.specs.Rule.{IsLater}
-use Rattle.shared_words.specs.Seats.{IsOf, IsSound, Gains, IsFirstAt, IsSecondAt}
+use Rattle.shared_words.specs.Seats.{Gains}
 use Rattle.shared_words.specs.Deeds.{Goes, GoesOn, LoadsWords, LooksUp, loads_of}
 
 -- ---- one step

@@ -1,5 +1,5 @@
 -- What the writer does keeps the rule.
-use Rattle.std.proofs.Common.{◌≡◌, ◌≢◌, ℕ, zero, suc, ◌+◌, ◌<◌, ◌≤◌, ◌⊎◌, ⊎_elim, inl, inr, cond, eqb, eq-eqb, ne_eqb, Bool, List, [], ◌∷◌, ◌++◌, length, slice_index, slice_set, refl, sym, ap, subst, ◌∙◌, append-nil, arith}
+use Rattle.std.proofs.Common.{◌≡◌, ◌≢◌, ℕ, zero, suc, ◌+◌, ◌<◌, ◌≤◌, ◌⊎◌, inl, inr, cond, eqb, eq-eqb, ne_eqb, Bool, List, [], ◌∷◌, ◌++◌, length, slice_index, slice_set, refl, sym, ap, subst, ◌∙◌, append-nil, arith}
 use Rattle.std.proofs.lemmas.List.{set-get_or}
 use mathlib.Core.Option.{none, some, some-injective, some-ne-none}
 use lib.ListN.{get_elem?}
@@ -14,8 +14,7 @@ use Rattle.lpm_trace.specs.declared.step.TraceStep.TheVariants.{Writer as ByWrit
 use Rattle.lpm_trace.specs.Tables.{Tables, IsSettled, tables, written}
 use Rattle.lpm_trace.specs.Course.{coursed}
 use Rattle.lpm_trace.specs.Trace.{World, apply, after, writes, own}
-use Rattle.lpm_trace.specs.Writer.{MayStep, IsWritten, Finds as FindsCounter}
-use Rattle.lpm_trace.specs.Laws.{IsChecked}
+use Rattle.lpm_trace.specs.Writer.{MayStep, Finds as FindsCounter}
 use Rattle.lpm_trace.proofs.Traces.{tables_of}
 use Rattle.lpm_trace.proofs.Promises.{writer_is_alone, writer_goes_on, passed_is_checked, words_are_entries}
 use Rattle.shared_words.specs.declared.view.Role.{Role}
@@ -24,7 +23,7 @@ use Rattle.shared_words.specs.declared.view.View.{View}
 use Rattle.shared_words.specs.Opened.{Opened, setup_of}
 use Rattle.shared_words.specs.Layout.{IsLaidOut, second_at, sequence_at, token_at, counter_at, opening_words}
 use Rattle.shared_words.specs.Rule.{IsLater, Seating, Sits, IsViewOf, Holds, writer_view, worker_view, with_one_more}
-use Rattle.shared_words.specs.Seats.{Makes, Finds, AreChecked, looks, with_step}
+use Rattle.shared_words.specs.Seats.{Makes, Finds, looks, with_step}
 use Rattle.shared_words.proofs.Laying.{firsts_length, seconds_length, lays_first, lays_second, lays_sequence, lays_token, lays_none, lays_opening}
 
 abbrev St : Type 0

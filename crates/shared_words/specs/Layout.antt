@@ -1,6 +1,6 @@
 -- This layer's own: where each word of a shared table lies: the first words, the second words, the
 -- sequence, the token, and the counter of each worker (this project's).
-use Rattle.std.specs.Prelude.{ℕ, zero, ◌≡◌, ◌+◌, ◌<◌, List, [], ◌∷◌, ◌++◌, length, replicate, slice_index}
+use Rattle.std.specs.Prelude.{ℕ, ◌≡◌, ◌+◌, ◌<◌, List, ◌∷◌, ◌++◌, length, replicate, slice_index}
 use Rattle.lpm_trace.specs.Trace.{World}
 use Rattle.shared_words.specs.Opened.{Opened}
 

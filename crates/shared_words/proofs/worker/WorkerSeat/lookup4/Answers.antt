@@ -1,4 +1,4 @@
-use Rattle.std.proofs.Common.{◌≡◌, ℕ, ◌+◌, ◌/◌, ◌%◌, List, [], ◌∷◌, Option, refl, arith}
+use Rattle.std.proofs.Common.{◌≡◌, ◌+◌, ◌/◌, ◌%◌, refl, arith}
 use Rattle.shared_words.proofs.Deeds.{firsts_are}
 use Rattle.shared_words.proofs.Together.{same_four, next_a, next_b, next_c, next_d, looking_b, looking_c, looking_d, looking_end, all_answered, looked_together}
 use Rattle.shared_words.proofs.worker.WorkerSeat.lookup4.Goals as goal
