@@ -66,8 +66,8 @@ impl WorkerSeat {
         self.store_offline(table);
     }
 
-    /// The next hop of the longest rule that covers the address, as a version has it that stood while the words
-    /// were loaded.
+    /// The next hop of the longest rule that covers the address, as a version has it that stood while the
+    /// words were loaded.
     #[inline]
     pub fn lookup<const FIRST: u32, const SECOND: u32, T: Opens>(
         &mut self,

@@ -162,7 +162,8 @@ impl WorkerSeat {
             table.now.layout self.old.place.table_id self.old.place.me.0 }
         requires index { i < table.now.layout.firsts }
         requires looking { (worker_by self.old.place.me.0.own).phase ≡ LookingUp }
-        requires next { IsFirstAt self.old.place.me.0.opening.second i (worker_by self.old.place.me.0.own).probes }
+        requires next { IsFirstAt self.old.place.me.0.opening.second i
+            (worker_by self.old.place.me.0.own).probes }
         ensures own { self.new.place.table_id ≡ self.old.place.table_id }
         ensures step { Gains (FirstLoad result) self.old.place.me.0 self.new.place.me.0 }
         ensures word { IsFirstWord
@@ -180,7 +181,8 @@ impl WorkerSeat {
         requires index { j < table.now.layout.seconds }
         requires looking { (worker_by self.old.place.me.0.own).phase ≡ LookingUp }
         requires begun { AreBegun (worker_by self.old.place.me.0.own).probes }
-        requires next { IsSecondAt self.old.place.me.0.opening.second j (worker_by self.old.place.me.0.own).probes }
+        requires next { IsSecondAt self.old.place.me.0.opening.second j
+            (worker_by self.old.place.me.0.own).probes }
         ensures own { self.new.place.table_id ≡ self.old.place.table_id }
         ensures step { Gains (SecondLoad result) self.old.place.me.0 self.new.place.me.0 }
         ensures word { IsLastWord
@@ -204,7 +206,8 @@ impl WorkerSeat {
         table.board.shared.load::<EndsLookup>(&mut self.place, at)
     }
 
-    /// Loads the sequence once. Then this worker has seen all that the writer has done, which stays as it was.
+    /// Loads the sequence once. Then this worker has seen all that the writer has done, which stays as it
+    /// was.
     pub fn meet<T: Opens>(&mut self, table: &SharedWords<T>, writer: &mut WriterSeat)
         requires own { IsOf table.now.board.shared.table_id (T.opened table.now.board.shared.key)
             table.now.layout self.old.place.table_id self.old.place.me.0 }

@@ -30,8 +30,8 @@ pub struct WriterSeat {
     pub ghost alone: { place.me.1 ≡ [] },
 }
 
-// The calls that follow pick what a step carries beside its word. A signature with a const parameter would not
-// let them.
+// The calls that follow pick what a step carries beside its word. A signature with a const parameter would
+// not let them.
 
 fn store_second_as<T: Opens, J: Carries>(
     board: &Board<T>,
