@@ -56,55 +56,15 @@ impl<'a> Reader<'a> {
             return;
         }
         self.pass.online(self.table);
-        match lookups {
-            Lookups::Listed(addrs) => self.add_listed(addrs),
-            Lookups::Fours(addrs) => self.add_fours(addrs),
-            Lookups::Ascending => self.add_ascending(),
-        }
+        let found = match lookups {
+            Lookups::Listed(addrs) => sum_of(self.table, &mut self.pass, addrs),
+            Lookups::Fours(addrs) => sum_by_fours(self.table, &mut self.pass, addrs),
+            Lookups::Ascending => sum_ascending(self.table, &mut self.pass),
+        };
+        self.sum = self.sum.wrapping_add(found);
         if self.pass.is_online() {
             self.pass.offline(self.table);
         }
-    }
-
-    #[inline(never)]
-    fn add_listed(&mut self, addrs: &[u32])
-        requires { IsOnline self.old.pass }
-        ensures { IsOnline self.new.pass }
-    {
-        let mut sum = self.sum;
-        for addr in addrs {
-            let hop = self.pass.lookup(self.table, *addr).hop;
-            sum = sum.wrapping_add(number_of(hop));
-        }
-        self.sum = sum;
-    }
-
-    #[inline(never)]
-    fn add_ascending(&mut self)
-        requires { IsOnline self.old.pass }
-        ensures { IsOnline self.new.pass }
-    {
-        let mut sum = self.sum;
-        for step in 0..ASCENDING {
-            let hop = self.pass.lookup(self.table, step * STRIDE).hop;
-            sum = sum.wrapping_add(number_of(hop));
-        }
-        self.sum = sum;
-    }
-
-    #[inline(never)]
-    fn add_fours(&mut self, addrs: &[u32])
-        requires { IsOnline self.old.pass }
-        ensures { IsOnline self.new.pass }
-    {
-        let mut sum = self.sum;
-        for four in addrs.chunks_exact(4) {
-            let four = [four[0], four[1], four[2], four[3]];
-            let [a, b, c, d] = self.pass.lookup4(self.table, four, 0).hops;
-            let found = u64::from(a) + u64::from(b) + u64::from(c) + u64::from(d);
-            sum = sum.wrapping_add(found);
-        }
-        self.sum = sum;
     }
 
     /// Looks these addresses up, and reports now and then that the worker is quiescent.
@@ -114,11 +74,63 @@ impl<'a> Reader<'a> {
         }
         self.pass.online(self.table);
         for some in addrs.chunks(BETWEEN_REPORTS) {
-            self.add_listed(some);
+            let found = sum_of(self.table, &mut self.pass, some);
+            self.sum = self.sum.wrapping_add(found);
             self.pass.quiescent(self.table);
         }
         self.pass.offline(self.table);
     }
+}
+
+/// The sum of the next hops of these addresses, looked up one by one.
+#[inline(never)]
+fn sum_of(table: &SharedTable<24, 8>, pass: &mut Pass, addrs: &[u32]) -> u64
+    requires own { identity_of pass.old ≡ table.now }
+    requires online { IsOnline pass.old }
+    ensures own { identity_of pass.new ≡ table.now }
+    ensures online { IsOnline pass.new }
+{
+    let mut sum = 0u64;
+    for addr in addrs {
+        let hop = pass.lookup(table, *addr).hop;
+        sum = sum.wrapping_add(number_of(hop));
+    }
+    sum
+}
+
+/// The sum of the next hops of the ascending addresses.
+#[inline(never)]
+fn sum_ascending(table: &SharedTable<24, 8>, pass: &mut Pass) -> u64
+    requires own { identity_of pass.old ≡ table.now }
+    requires online { IsOnline pass.old }
+    ensures own { identity_of pass.new ≡ table.now }
+    ensures online { IsOnline pass.new }
+{
+    let mut sum = 0u64;
+    for step in 0..ASCENDING {
+        let hop = pass.lookup(table, step * STRIDE).hop;
+        sum = sum.wrapping_add(number_of(hop));
+    }
+    sum
+}
+
+/// The sum of the next hops of these addresses, looked up four at once. Those past the last four are left
+/// out.
+#[inline(never)]
+fn sum_by_fours(table: &SharedTable<24, 8>, pass: &mut Pass, addrs: &[u32]) -> u64
+    requires own { identity_of pass.old ≡ table.now }
+    requires online { IsOnline pass.old }
+    ensures own { identity_of pass.new ≡ table.now }
+    ensures online { IsOnline pass.new }
+{
+    let mut sum = 0u64;
+    for four in addrs.chunks_exact(4) {
+        let four = [four[0], four[1], four[2], four[3]];
+        let [a, b, c, d] = pass.lookup4(table, four, 0).hops;
+        let found = u64::from(a) + u64::from(b) + u64::from(c) + u64::from(d);
+        sum = sum.wrapping_add(found);
+    }
+    sum
 }
 
 /// The writer, and how many changes it has made.
