@@ -23,7 +23,7 @@ use Rattle.shared_words.specs.declared.view.Role.TheVariants.{Worker}
 use Rattle.shared_words.specs.contracts.view.View as view_row
 use Rattle.shared_words.specs.Opened.{Opened, coded_opened, setup_of}
 use Rattle.shared_words.specs.Layout.{word_count}
-use Rattle.shared_words.specs.Deeds.{Goes, GoesOn}
+use Rattle.shared_words.specs.Deeds.{GainsAll, GoesOn}
 
 -- ---- the table
 
@@ -138,7 +138,7 @@ IsFullBench id passes = IsBenchOf id passes
 
 -- a pass that was online stores 0 in its counter; one that was offline does nothing
 abbrev pub Leaves : PassState → PassState → Type 0
-Leaves p q = (IsOnline p → Goes (StoreOffline ∷ []) p.view q.view) × (IsOffline p → q ≡ p)
+Leaves p q = (IsOnline p → GainsAll (StoreOffline ∷ []) p.view q.view) × (IsOffline p → q ≡ p)
 
 -- the number of a next hop, or the default where there is none
 abbrev pub hop_or : ℕ → Option ℕ → ℕ

@@ -6,7 +6,7 @@ ghost use Rattle.lpm_trace.specs.Trace.{worker_by};
 ghost use Rattle.lpm_trace.specs.Workers.{Offline};
 ghost use Rattle.shared_words.specs.declared.view.Role.TheVariants.{Worker};
 ghost use Rattle.shared_words.specs.Seats.{Gains};
-ghost use Rattle.shared_words.specs.Deeds.{Goes, GoesOn, LooksUp, LooksUpAll};
+ghost use Rattle.shared_words.specs.Deeds.{GainsAll, GoesOn, LooksUp, LooksUpAll};
 ghost use Rattle.shared_fib.specs.Running.{IsAtRest, IsOffline, IsOnline, Leaves, hop_or, identity_of, steps_of};
 
 use crate::{SharedTable, Writer};
@@ -87,7 +87,7 @@ impl Pass {
         requires own { identity_of self.old ≡ table.now }
         requires offline { IsOffline self.old }
         ensures own { identity_of self.new ≡ identity_of self.old }
-        ensures steps { (token : ℕ) × Goes (StoreOnline token ∷ LoadOnline token ∷ [])
+        ensures steps { (token : ℕ) × GainsAll (StoreOnline token ∷ LoadOnline token ∷ [])
             self.old.view self.new.view }
         ensures rest { GoesOn self.old.view self.new.view }
         ensures online { IsOnline self.new }
@@ -105,7 +105,7 @@ impl Pass {
         requires own { identity_of self.old ≡ table.now }
         requires online { IsOnline self.old }
         ensures own { identity_of self.new ≡ identity_of self.old }
-        ensures steps { Goes (StoreOffline ∷ []) self.old.view self.new.view }
+        ensures steps { GainsAll (StoreOffline ∷ []) self.old.view self.new.view }
         ensures rest { GoesOn self.old.view self.new.view }
         ensures offline { IsOffline self.new }
     {
@@ -138,7 +138,7 @@ impl Pass {
         requires own { identity_of self.old ≡ table.now }
         requires online { IsOnline self.old }
         ensures own { identity_of self.new ≡ identity_of self.old }
-        ensures steps { (token : ℕ) × Goes (StoreQuiescent token ∷ LoadQuiescent token ∷ [])
+        ensures steps { (token : ℕ) × GainsAll (StoreQuiescent token ∷ LoadQuiescent token ∷ [])
             self.old.view self.new.view }
         ensures rest { GoesOn self.old.view self.new.view }
         ensures online { IsOnline self.new }

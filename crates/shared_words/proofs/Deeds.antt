@@ -16,7 +16,7 @@ use Rattle.shared_words.specs.declared.view.View.{View}
 use Rattle.shared_words.specs.Opened.{Opened, setup_of}
 use Rattle.shared_words.specs.Rule.{IsLater}
 use Rattle.shared_words.specs.Seats.{Gains}
-use Rattle.shared_words.specs.Deeds.{Goes, GoesOn, LoadsWords, LooksUp, loads_of}
+use Rattle.shared_words.specs.Deeds.{GainsAll, GoesOn, LoadsWords, LooksUp, loads_of}
 
 -- ---- one step
 
@@ -49,12 +49,12 @@ pub gains_state : (r : WorkerStep) (v w : View) (g : Gains r v w)
 gains_state r v w g = ap (λ (x : View). worker_by x.own) g.view
 
 -- steps one after another
-pub goes_after : (newer older : List WorkerStep) (u v w : View) → Goes newer v w → Goes older u v
-    → Goes (newer ++ older) u w
-goes_after [] older u v w new old = subst (Goes older u) (sym new) old
+pub goes_after : (newer older : List WorkerStep) (u v w : View) → GainsAll newer v w → GainsAll older u v
+    → GainsAll (newer ++ older) u w
+goes_after [] older u v w new old = subst (GainsAll older u) (sym new) old
 goes_after (s ∷ newer) older u v w new old = (new.0, goes_after newer older u v new.0 new.1 old, new.2)
 
-pub two_steps : (r s : WorkerStep) (v u w : View) → Gains r v u → Gains s u w → Goes (s ∷ r ∷ []) v w
+pub two_steps : (r s : WorkerStep) (v u w : View) → Gains r v u → Gains s u w → GainsAll (s ∷ r ∷ []) v w
 two_steps r s v u w first second = (u, (v, refl, first), second)
 
 pub two_on : (r s : WorkerStep) (v u w : View) → Gains r v u → Gains s u w → GoesOn v w

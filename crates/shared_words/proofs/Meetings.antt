@@ -15,7 +15,7 @@ use Rattle.shared_words.specs.declared.view.Role.TheVariants.{Writer, Worker, No
 use Rattle.shared_words.specs.declared.view.View.{View}
 use Rattle.shared_words.specs.Opened.{Opened}
 use Rattle.shared_words.specs.Rule.{IsLater, Seating, Sits, IsViewOf, Holds, note_of, read_note, hearing}
-use Rattle.shared_words.specs.Seats.{Gains, compares}
+use Rattle.shared_words.specs.Seats.{Gains, SeatCompares}
 
 -- ---- lists that go on from one another
 
@@ -111,7 +111,7 @@ module _ (o : Opened) where
 
   -- the writer compares what it was told with its own steps
   pub compares_allowed : (slots id at : ℕ) (me : Me (Unit {0}) View) → me.0.role ≡ Writer
-      → Allows (Holds o) slots id me at (λ n. n) (compares (step slots at 0 0 none) me)
+      → Allows (Holds o) slots id me at (λ n. n) (SeatCompares (step slots at 0 0 none) me)
   compares_allowed slots id at me role s h len there range =
       let w : View = record me.0 { told = [] } in
       let known : IsViewOf o h.steps h.seating id me.0 = h.views id me.0 there in

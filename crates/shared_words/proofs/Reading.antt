@@ -16,7 +16,7 @@ use Rattle.shared_words.specs.declared.view.View.{View}
 use Rattle.shared_words.specs.Opened.{Opened, setup_of}
 use Rattle.shared_words.specs.Layout.{second_at, sequence_at, token_at, counter_at}
 use Rattle.shared_words.specs.Rule.{Holds}
-use Rattle.shared_words.specs.Seats.{IsFirstAt, IsSecondAt, gains, gains_first, gains_second}
+use Rattle.shared_words.specs.Seats.{IsFirstAt, IsSecondAt, WorkerGains, WorkerGainsFirst, WorkerGainsSecond}
 use Rattle.shared_words.proofs.Workings.{load_allowed, plain, store_allowed}
 
 -- the place decides which first word is next, and which second word
@@ -44,10 +44,10 @@ room second xs ys same (Group group) is = omega (arith, same, is)
 module _ (o : Opened) (slots id k at : ℕ) (me : Me (Unit {0}) View) (role : me.0.role ≡ Worker k) where
   -- a load of the word at this place
   abbrev Loads : ℕ → (ℕ → WorkerStep) → Type 0
-  Loads i of = Allows (Holds o) slots id me i (λ n. n) (λ n me'. gains (of n) me me')
+  Loads i of = Allows (Holds o) slots id me i (λ n. n) (λ n me'. WorkerGains (of n) me me')
 
   abbrev Stores : ℕ → WorkerStep → ℕ → Type 0
-  Stores i r x = Allows (Holds o) slots id me i (λ _. x) (λ _ me'. gains r me me')
+  Stores i r x = Allows (Holds o) slots id me i (λ _. x) (λ _ me'. WorkerGains r me me')
 
   pub load_online_allowed : at ≡ token_at o → (worker_by me.0.own).phase ≡ Offline → Loads at LoadOnline
   load_online_allowed there offline = subst (λ i. Loads i LoadOnline) (sym there)
@@ -90,7 +90,7 @@ module _ (o : Opened) (slots id k at : ℕ) (me : Me (Unit {0}) View) (role : me
 
   pub first_allowed : at < length o.firsts → (worker_by me.0.own).phase ≡ LookingUp
       → IsFirstAt me.0.opening.second at (worker_by me.0.own).probes
-      → Allows (Holds o) slots id me at (λ n. n) (gains_first me)
+      → Allows (Holds o) slots id me at (λ n. n) (WorkerGainsFirst me)
   first_allowed inside looking next =
       load_allowed o LoadFirst
       (λ n. IsFirstWord (me.0.opening.first + me.0.opening.second) me.0.opening.second me.0.opening.seconds n)
@@ -118,9 +118,9 @@ module _ (o : Opened) (slots id k at : ℕ) (me : Me (Unit {0}) View) (role : me
   pub second_allowed : (j : ℕ) → at ≡ second_at o j → j < length o.seconds
       → (worker_by me.0.own).phase ≡ LookingUp → AreBegun (worker_by me.0.own).probes
       → IsSecondAt me.0.opening.second j (worker_by me.0.own).probes
-      → Allows (Holds o) slots id me at (λ n. n) (gains_second me)
+      → Allows (Holds o) slots id me at (λ n. n) (WorkerGainsSecond me)
   second_allowed j there inside looking begun next = subst
-      (λ i. Allows (Holds o) slots id me i (λ n. n) (gains_second me)) (sym there)
+      (λ i. Allows (Holds o) slots id me i (λ n. n) (WorkerGainsSecond me)) (sym there)
       (load_allowed o LoadSecond (λ n. IsLastWord (me.0.opening.first + me.0.opening.second) n)
       slots id k (second_at o j) me role (λ n now w. refl)
       (λ s h same.

@@ -12,7 +12,7 @@ use Rattle.lpm_trace.specs.Laws.{IsLegalAtPlace}
 use Rattle.shared_words.specs.declared.view.View.{View}
 use Rattle.shared_words.specs.Opened.{Opened, setup_of}
 use Rattle.shared_words.specs.Seats.{Gains, IsSecondAt}
-use Rattle.shared_words.specs.Deeds.{Goes, GoesOn, LoadsFirsts, LoadsLast, IsNextWith, LooksUpAll, first_words}
+use Rattle.shared_words.specs.Deeds.{GainsAll, GoesOn, LoadsFirsts, LoadsLast, IsNextWith, LooksUpAll, first_words}
 use Rattle.shared_words.proofs.Deeds.{gains_on, goes_on, gains_state, goes_after, later_longer, answered}
 
 -- ---- the probes of a lookup
@@ -197,9 +197,9 @@ looking_by : (r : WorkerState) (probes : List Probe) (u : View) → r.phase ≡ 
     → (worker_by u.own).phase ≡ LookingUp
 looking_by r probes u looking stands = ap (λ (x : WorkerState). x.phase) stands ∙ looking
 
-goes_seconds : (newer older : List ℕ) (u v w : View) → Goes (map LoadSecond newer) v w
-    → Goes (map LoadSecond older) u v → Goes (map LoadSecond (newer ++ older)) u w
-goes_seconds [] older u v w new old = subst (Goes (map LoadSecond older) u) (sym new) old
+goes_seconds : (newer older : List ℕ) (u v w : View) → GainsAll (map LoadSecond newer) v w
+    → GainsAll (map LoadSecond older) u v → GainsAll (map LoadSecond (newer ++ older)) u w
+goes_seconds [] older u v w new old = subst (GainsAll (map LoadSecond older) u) (sym new) old
 goes_seconds (x ∷ newer) older u v w new old = (new.0, goes_seconds newer older u v new.0 new.1 old, new.2)
 
 pub same_four : {A : Type 0} {a b c d a' b' c' d' : A} → a' ≡ a → b' ≡ b → c' ≡ c → d' ≡ d
@@ -401,11 +401,11 @@ module _ (a b c d low : ℕ) (addrs : List ℕ) (same : addrs ≡ a ∷ b ∷ c 
               looked_together hops lo hi hops_are lo_is hi_is =
                   let is : Seen → Type 0 = λ s. (s.lo ≡ lo) × (s.hi ≡ hi) in
                   let both : (done_at low ≡ lo) × (begun_at high ≡ hi) = (sym lo_is, sym hi_is) in
-                  let firsts_on : Goes (map LoadFirst (x4 ∷ x3 ∷ x2 ∷ x1 ∷ []) ++ Begins (a ∷ b ∷ c ∷ d ∷ []) low ∷ []) v0 f =
+                  let firsts_on : GainsAll (map LoadFirst (x4 ∷ x3 ∷ x2 ∷ x1 ∷ []) ++ Begins (a ∷ b ∷ c ∷ d ∷ []) low ∷ []) v0 f =
                   goes_after (map LoadFirst (x4 ∷ x3 ∷ x2 ∷ x1 ∷ [])) (Begins (a ∷ b ∷ c ∷ d ∷ []) low ∷ []) v0 v f
                   firsts.steps (v0, refl, begins) in
                   let seconds : List ℕ = last.seconds ++ (three.seconds ++ (two.seconds ++ one.seconds)) in
-                  let seconds_on : Goes (map LoadSecond seconds) f s4 =
+                  let seconds_on : GainsAll (map LoadSecond seconds) f s4 =
                   goes_seconds last.seconds (three.seconds ++ (two.seconds ++ one.seconds)) f s3 s4 last.steps
                   (goes_seconds three.seconds (two.seconds ++ one.seconds) f s2 s3 three.steps
                   (goes_seconds two.seconds one.seconds f s1 s2 two.steps one.steps)) in

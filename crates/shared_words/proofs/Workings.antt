@@ -25,7 +25,7 @@ use Rattle.shared_words.specs.declared.view.View.{View}
 use Rattle.shared_words.specs.Opened.{Opened, setup_of}
 use Rattle.shared_words.specs.Layout.{second_at, sequence_at, token_at, counter_at, IsLaidOut}
 use Rattle.shared_words.specs.Rule.{Seating, Sits, IsViewOf, Holds}
-use Rattle.shared_words.specs.Seats.{IsSound, Gains, gains}
+use Rattle.shared_words.specs.Seats.{IsSound, Gains, WorkerGains}
 
 -- the step leaves the worker's counter
 abbrev pub IsQuiet : WorkerStep → Type 0
@@ -241,7 +241,7 @@ module _ (o : Opened) where
       → MayRead (setup_of o) (after (setup_of o) h.steps).tables (worker_by me.0.own)
       (of (slice_index s.words i))
       × also (slice_index s.words i))
-      → Allows (Holds o) slots id me i (λ n. n) (λ n me'. gains (of n) me me' × also n)
+      → Allows (Holds o) slots id me i (λ n. n) (λ n me'. WorkerGains (of n) me me' × also n)
   load_allowed of also slots id k i me is quiet reads s h len at range =
       let n : ℕ = slice_index s.words i in
       let r : WorkerStep = of n in
@@ -260,8 +260,8 @@ module _ (o : Opened) where
 
   -- a load that tells no more
   pub plain : (of : ℕ → WorkerStep) (slots id i : ℕ) (me : Me (Unit {0}) View)
-      → Allows (Holds o) slots id me i (λ n. n) (λ n me'. gains (of n) me me' × Unit {0})
-      → Allows (Holds o) slots id me i (λ n. n) (λ n me'. gains (of n) me me')
+      → Allows (Holds o) slots id me i (λ n. n) (λ n me'. WorkerGains (of n) me me' × Unit {0})
+      → Allows (Holds o) slots id me i (λ n. n) (λ n me'. WorkerGains (of n) me me')
   plain of slots id i me allowed s h len at range =
       let t = allowed s h len at range in (t.0, t.1, t.2, t.3, t.4.0)
 
@@ -270,7 +270,7 @@ module _ (o : Opened) where
       → me.0.role ≡ Worker k → Stores r x
       → ((s : St) (h : Holds o s)
       → MayRead (setup_of o) (after (setup_of o) h.steps).tables (worker_by me.0.own) r)
-      → Allows (Holds o) slots id me (counter_at o k) (λ _. x) (λ _ me'. gains r me me')
+      → Allows (Holds o) slots id me (counter_at o k) (λ _. x) (λ _ me'. WorkerGains r me me')
   store_allowed r x slots id k me is stores reads s h len at range =
       let read = reads s h in
       let mine = sits_of s h id k me.0 at is in

@@ -23,7 +23,7 @@ use Rattle.shared_words.specs.declared.view.View.{View}
 use Rattle.shared_words.specs.Opened.{Opened, setup_of}
 use Rattle.shared_words.specs.Layout.{IsLaidOut, second_at, sequence_at, token_at, counter_at, opening_words}
 use Rattle.shared_words.specs.Rule.{IsLater, Seating, Sits, IsViewOf, Holds, writer_view, worker_view, with_one_more}
-use Rattle.shared_words.specs.Seats.{Makes, Finds, looks, with_step}
+use Rattle.shared_words.specs.Seats.{WriterGains, IsFoundAt, WriterLooks, with_step}
 use Rattle.shared_words.proofs.Laying.{firsts_length, seconds_length, lays_first, lays_second, lays_sequence, lays_token, lays_none, lays_opening}
 
 abbrev St : Type 0
@@ -126,7 +126,7 @@ module _ (o : Opened) where
       subst (λ (ws : List ℕ). Holds o (with_words s ws views)) (sym (set-get_or s.words i 0)) h
 
   -- what the writer finds at a place
-  finds : (s : St) (h : Holds o s) (at : ℕ) → Finds o (writes h.steps) at (slice_index s.words at)
+  finds : (s : St) (h : Holds o s) (at : ℕ) → IsFoundAt o (writes h.steps) at (slice_index s.words at)
   finds s h at =
       let c = setup_of o in
       let now : (world_by h.steps).tables ≡ tables_by (writes h.steps) = tables_of c h.steps in
@@ -157,7 +157,7 @@ module _ (o : Opened) where
         → ((steps : List TraceStep) → FindsCounter (setup_of o) steps step)
         → ((words : List ℕ) (w : World) → me.0.opening ≡ o → w.tables ≡ tables_by seen
         → IsLaidOut o words w → IsLaidAfter (slice_set words at n) w step)
-        → Allows (Holds o) slots id me at (λ _. n) (λ _. Makes step me)
+        → Allows (Holds o) slots id me at (λ _. n) (λ _. WriterGains step me)
     store_allowed n step may found lays s h fits here range =
         let mine : Sits o h.steps h.seating id me.0 Writer = sits_writer s h id me.0 here was in
         let w : World = world_by h.steps in
@@ -172,7 +172,7 @@ module _ (o : Opened) where
         )
 
     pub first_allowed : (x : ℕ) → MayMake me.0 (StoreFirst at x)
-        → Allows (Holds o) slots id me at (λ _. x) (λ _. Makes (StoreFirst at x) me)
+        → Allows (Holds o) slots id me at (λ _. x) (λ _. WriterGains (StoreFirst at x) me)
     first_allowed x may = store_allowed x (StoreFirst at x) may (λ _. tt)
         (λ words w is now laid.
         let len : length me.0.opening.firsts ≡ length o.firsts = ap (λ (z : Opened). length z.firsts) is in
@@ -180,7 +180,7 @@ module _ (o : Opened) where
         lays_first o words w laid at x (omega (arith, may.0.1, stays, len)))
 
     pub second_allowed : (j x : ℕ) → at ≡ second_at o j → MayMake me.0 (StoreSecond j x)
-        → Allows (Holds o) slots id me at (λ _. x) (λ _. Makes (StoreSecond j x) me)
+        → Allows (Holds o) slots id me at (λ _. x) (λ _. WriterGains (StoreSecond j x) me)
     second_allowed j x place may = store_allowed x (StoreSecond j x) may (λ _. tt)
         (λ words w is now laid.
         let len : length me.0.opening.seconds ≡ length o.seconds = ap (λ (z : Opened). length z.seconds) is in
@@ -203,7 +203,7 @@ module _ (o : Opened) where
 
     pub opens_allowed : (n : ℕ) (change : RuleChange) → at ≡ sequence_at o
         → n ≡ (left_by me.0).sequence + 1 → MayMake me.0 (Opens change)
-        → Allows (Holds o) slots id me at (λ _. n) (λ _. Makes (Opens change) me)
+        → Allows (Holds o) slots id me at (λ _. n) (λ _. WriterGains (Opens change) me)
     opens_allowed n change place next may = store_allowed n (Opens change) may (λ _. tt)
         (λ words w is now laid. next_sequence n (Opens change) place next words w is now
         (lays_sequence o words w laid (written (setup_of o) w.tables (Opens change))
@@ -211,14 +211,14 @@ module _ (o : Opened) where
 
     pub closes_allowed : (n : ℕ) → at ≡ sequence_at o
         → n ≡ (left_by me.0).sequence + 1 → MayMake me.0 Closes
-        → Allows (Holds o) slots id me at (λ _. n) (λ _. Makes Closes me)
+        → Allows (Holds o) slots id me at (λ _. n) (λ _. WriterGains Closes me)
     closes_allowed n place next may = store_allowed n Closes may (λ _. tt)
         (λ words w is now laid. next_sequence n Closes place next words w is now
         (lays_sequence o words w laid (written (setup_of o) w.tables Closes)
         (coursed (setup_of o) w.tables w.course Closes)))
 
     pub bump_allowed : (n : ℕ) → at ≡ token_at o → n ≡ (left_by me.0).token + 1 → MayMake me.0 BumpToken
-        → Allows (Holds o) slots id me at (λ _. n) (λ _. Makes BumpToken me)
+        → Allows (Holds o) slots id me at (λ _. n) (λ _. WriterGains BumpToken me)
     bump_allowed n place next may = store_allowed n BumpToken may (λ _. tt)
         (λ words w is now laid.
         let one : (left_by me.0).token ≡ (tables_by seen).token =
@@ -233,7 +233,7 @@ module _ (o : Opened) where
     -- a load of a worker's counter, in a check of the token
     pub counter_allowed : (token k : ℕ) → at ≡ counter_at o k → k < o.workers
         → ((counter : ℕ) → MayMake me.0 (LoadCounter token k counter))
-        → Allows (Holds o) slots id me at (λ n. n) (λ n. Makes (LoadCounter token k n) me)
+        → Allows (Holds o) slots id me at (λ n. n) (λ n. WriterGains (LoadCounter token k n) me)
     counter_allowed token k place inside may s h fits here range =
         let n : ℕ = slice_index s.words at in
         let load : WriterStep = LoadCounter token k n in
@@ -253,7 +253,7 @@ module _ (o : Opened) where
         )
 
     -- a load of a word that the writer alone changes
-    pub looks_allowed : Allows (Holds o) slots id me at (λ n. n) (looks (step slots at 0 0 none) me)
+    pub looks_allowed : Allows (Holds o) slots id me at (λ n. n) (WriterLooks (step slots at 0 0 none) me)
     looks_allowed s h fits here range =
         let mine : Sits o h.steps h.seating id me.0 Writer = sits_writer s h id me.0 here was in
         let same : Holds o (with_words s s.words (slice_set s.views id me.0)) =
@@ -266,7 +266,7 @@ module _ (o : Opened) where
           unread s at (slice_set s.views id me.0) same,
           (
             refl,
-            subst (λ (z : Opened × List WriterStep). Finds z.0 z.1 at n) (λ i. (sym mine.1 i, sym mine.2 i))
+            subst (λ (z : Opened × List WriterStep). IsFoundAt z.0 z.1 at n) (λ i. (sym mine.1 i, sym mine.2 i))
                 (finds s h at),
           ),
         )

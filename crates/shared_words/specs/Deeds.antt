@@ -14,9 +14,9 @@ use Rattle.shared_words.specs.Rule.{IsLater}
 use Rattle.shared_words.specs.Seats.{Gains}
 
 -- the view gains these steps, one after another, of which the newest stands first
-abbrev pub Goes : List WorkerStep → View → View → Type 0
-Goes [] v w = w ≡ v
-Goes (s ∷ steps) v w = (u : View) × Goes steps v u × Gains s u w
+abbrev pub GainsAll : List WorkerStep → View → View → Type 0
+GainsAll [] v w = w ≡ v
+GainsAll (s ∷ steps) v w = (u : View) × GainsAll steps v u × Gains s u w
 
 -- nothing else of the view changes, and what it has seen of the writer's steps goes on
 pub record GoesOn (v w : View) : Type 0 where
@@ -33,7 +33,7 @@ loads_of word (Some second) = LoadSecond second ∷ LoadFirst word ∷ []
 pub record LoadsWords (addr last : ℕ) (v w : View) : Type 0 where
   pub word : ℕ
   pub second : Option ℕ
-  pub steps : Goes (loads_of word second) v w
+  pub steps : GainsAll (loads_of word second) v w
   pub rest : GoesOn v w
   pub from : ℕ
   pub until : ℕ
@@ -49,7 +49,7 @@ pub record LooksUp (addr : ℕ) (hop : Option ℕ) (lo hi : ℕ) (v w : View) : 
   pub word : ℕ
   pub second : Option ℕ
   pub high : ℕ
-  pub steps : Goes (Ends high ∷ (loads_of word second ++ Begins (addr ∷ []) low ∷ [])) v w
+  pub steps : GainsAll (Ends high ∷ (loads_of word second ++ Begins (addr ∷ []) low ∷ [])) v w
   pub rest : GoesOn v w
   pub online : (worker_by w.own).phase ≡ Online
   pub seen : Seen
@@ -69,7 +69,7 @@ first_words other addrs words = []
 
 -- the first words of the addresses are loaded, after all that the worker had seen of the writer's steps
 pub record LoadsFirsts (addrs words : List ℕ) (v w : View) : Type 0 where
-  pub steps : Goes (map LoadFirst (reverse words)) v w
+  pub steps : GainsAll (map LoadFirst (reverse words)) v w
   pub rest : GoesOn v w
   pub places : List ℕ
   pub count : length places ≡ length addrs
@@ -89,7 +89,7 @@ pub record IsNextWith (addr word : ℕ) (probes : List Probe) : Type 0 where
 -- the word that answers is loaded, where that isn't the first word
 pub record LoadsLast (addr word last : ℕ) (v w : View) : Type 0 where
   pub seconds : List ℕ
-  pub steps : Goes (map LoadSecond seconds) v w
+  pub steps : GainsAll (map LoadSecond seconds) v w
   pub rest : GoesOn v w
   pub state : (next : IsNextWith addr word (worker_by v.own).probes) → (until : ℕ)
       × (worker_by w.own ≡ record (worker_by v.own) {
@@ -104,7 +104,7 @@ pub record LooksUpAll (addrs : List ℕ) (hops : List (Option ℕ)) (lo hi : ℕ
   pub words : List ℕ
   pub seconds : List ℕ
   pub high : ℕ
-  pub steps : Goes (Ends high ∷ (map LoadSecond seconds ++ (map LoadFirst words ++ Begins addrs low ∷ []))) v w
+  pub steps : GainsAll (Ends high ∷ (map LoadSecond seconds ++ (map LoadFirst words ++ Begins addrs low ∷ []))) v w
   pub rest : GoesOn v w
   pub online : (worker_by w.own).phase ≡ Online
   pub seen : List Seen

@@ -38,8 +38,8 @@ abbrev pub with_step : View → WriterStep → View
 with_step v s = record v { seen = s ∷ v.seen }
 
 -- the writer's step is made
-abbrev pub Makes : WriterStep → Me (Unit {0}) View → Me (Unit {0}) View → Type 0
-Makes s me me' = me' ≡ (with_step me.0 s, me.1)
+abbrev pub WriterGains : WriterStep → Me (Unit {0}) View → Me (Unit {0}) View → Type 0
+WriterGains s me me' = me' ≡ (with_step me.0 s, me.1)
 
 -- each token up to the greatest that has passed was checked
 abbrev pub AreChecked : Opened → List WriterStep → Type 0
@@ -47,7 +47,7 @@ AreChecked o seen = (token : ℕ) → 0 < token → token ≤ (tables (setup_of 
     → IsChecked (setup_of o) seen token
 
 -- a load of a word that the writer alone changes is no step, and finds what its own steps left
-pub record Finds (o : Opened) (seen : List WriterStep) (at word : ℕ) : Type 0 where
+pub record IsFoundAt (o : Opened) (seen : List WriterStep) (at word : ℕ) : Type 0 where
   pub written : IsWritten (setup_of o) seen
   pub words : IsWords o.first o.second (tables (setup_of o) seen).words
   pub checked : AreChecked o seen
@@ -58,8 +58,8 @@ pub record Finds (o : Opened) (seen : List WriterStep) (at word : ℕ) : Type 0 
   pub sequence : at ≡ sequence_at o → word ≡ (tables (setup_of o) seen).sequence
   pub token : at ≡ token_at o → word ≡ (tables (setup_of o) seen).token
 
-abbrev pub looks : Step (Unit {0}) → Me (Unit {0}) View → ℕ → Me (Unit {0}) View → Type 0
-looks s me x me' = (me' ≡ me) × Finds me.0.opening me.0.seen s.word x
+abbrev pub WriterLooks : Step (Unit {0}) → Me (Unit {0}) View → ℕ → Me (Unit {0}) View → Type 0
+WriterLooks s me x me' = (me' ≡ me) × IsFoundAt me.0.opening me.0.seen s.word x
 
 -- ---- a worker
 
@@ -80,17 +80,17 @@ pub record Gains (s : WorkerStep) (v w : View) : Type 0 where
   pub told : IsLater v.told seen
   pub sound : IsSound w
 
-abbrev pub gains : WorkerStep → Me (Unit {0}) View → Me (Unit {0}) View → Type 0
-gains s me me' = (me'.1 ≡ me.1) × Gains s me.0 me'.0
+abbrev pub WorkerGains : WorkerStep → Me (Unit {0}) View → Me (Unit {0}) View → Type 0
+WorkerGains s me me' = (me'.1 ≡ me.1) × Gains s me.0 me'.0
 
 -- it gains the load of a first word, which may stand in the first table
-abbrev pub gains_first : Me (Unit {0}) View → ℕ → Me (Unit {0}) View → Type 0
-gains_first me n me' = gains (LoadFirst n) me me'
+abbrev pub WorkerGainsFirst : Me (Unit {0}) View → ℕ → Me (Unit {0}) View → Type 0
+WorkerGainsFirst me n me' = WorkerGains (LoadFirst n) me me'
     × IsFirstWord (me.0.opening.first + me.0.opening.second) me.0.opening.second me.0.opening.seconds n
 
 -- it gains the load of a second word, which ends a lookup
-abbrev pub gains_second : Me (Unit {0}) View → ℕ → Me (Unit {0}) View → Type 0
-gains_second me n me' = gains (LoadSecond n) me me'
+abbrev pub WorkerGainsSecond : Me (Unit {0}) View → ℕ → Me (Unit {0}) View → Type 0
+WorkerGainsSecond me n me' = WorkerGains (LoadSecond n) me me'
     × IsLastWord (me.0.opening.first + me.0.opening.second) n
 
 -- the next first word that a lookup of these addresses reads is at place i
@@ -110,5 +110,5 @@ IsSecondAt second j (Answered a h f l ∷ rest) = IsSecondAt second j rest
 -- ---- both
 
 -- the seat was told of nothing but steps that the writer made, and forgets them
-abbrev pub compares : Step (Unit {0}) → Me (Unit {0}) View → ℕ → Me (Unit {0}) View → Type 0
-compares s me x me' = (me' ≡ (record me.0 { told = [] }, me.1)) × IsLater me.0.told me.0.seen
+abbrev pub SeatCompares : Step (Unit {0}) → Me (Unit {0}) View → ℕ → Me (Unit {0}) View → Type 0
+SeatCompares s me x me' = (me' ≡ (record me.0 { told = [] }, me.1)) × IsLater me.0.told me.0.seen

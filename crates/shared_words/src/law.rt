@@ -6,7 +6,7 @@ ghost use Rattle.lpm_trace.specs.declared.step.RuleChange.TheVariants.{Clear};
 ghost use Rattle.lpm_trace.specs.declared.step.WriterStep.TheVariants.{StoreFirst, StoreSecond, Opens as OpensUpdate, Closes, BumpToken, LoadCounter};
 ghost use Rattle.lpm_trace.specs.declared.step.WorkerStep.TheVariants.{LoadOnline, StoreOnline, LoadQuiescent, StoreQuiescent, StoreOffline, Begins, Ends, Meets};
 ghost use Rattle.shared_words.specs.Rule.{Holds, writer_view, worker_view, with_one_more, note_of, read_note, hearing};
-ghost use Rattle.shared_words.specs.Seats.{Makes, looks, compares, gains, gains_first, gains_second};
+ghost use Rattle.shared_words.specs.Seats.{WriterGains, WriterLooks, SeatCompares, WorkerGains, WorkerGainsFirst, WorkerGainsSecond};
 
 use crate::opening::Opens;
 use crate::view::View;
@@ -15,15 +15,15 @@ use std::alloc::Global;
 use std::marker::{Brand, PhantomData};
 
 /// The rule: the words and the views show the end of a trace.
-pub struct Traced;
+pub struct TraceRule;
 
-impl<T: Opens> TableRule<(), View, T> for Traced {
+impl<T: Opens> TableRule<(), View, T> for TraceRule {
     ghost holds = { λ key. Holds (T.opened key) };
 
     ghost first = { λ key. writer_view (T.opened key) };
 }
 
-pub type Board<T> = Table<(), View, T, Traced, Global>;
+pub type Board<T> = Table<(), View, T, TraceRule, Global>;
 
 pub type Place = Seat<(), View>;
 
@@ -53,7 +53,7 @@ impl Carries for Brand {
 pub struct StoresFirst;
 
 impl Play<(), View> for StoresFirst {
-    ghost then = { λ s me n. Makes (StoreFirst s.word n) me };
+    ghost then = { λ s me n. WriterGains (StoreFirst s.word n) me };
 }
 
 /// A second word is stored: the one of this index.
@@ -62,7 +62,7 @@ pub struct StoresSecond<J: Carries> {
 }
 
 impl<J: Carries> Play<(), View> for StoresSecond<J> {
-    ghost then = { λ s me n. Makes (StoreSecond J.index n) me };
+    ghost then = { λ s me n. WriterGains (StoreSecond J.index n) me };
 }
 
 /// The sequence is stored: the update of this change begins.
@@ -71,21 +71,21 @@ pub struct OpensUpdates<J: Carries> {
 }
 
 impl<J: Carries> Play<(), View> for OpensUpdates<J> {
-    ghost then = { λ s me n. Makes (OpensUpdate J.change) me };
+    ghost then = { λ s me n. WriterGains (OpensUpdate J.change) me };
 }
 
 /// The sequence is stored: the update is done.
 pub struct ClosesUpdates;
 
 impl Play<(), View> for ClosesUpdates {
-    ghost then = { λ s me n. Makes Closes me };
+    ghost then = { λ s me n. WriterGains Closes me };
 }
 
 /// The token is stored.
 pub struct BumpsToken;
 
 impl Play<(), View> for BumpsToken {
-    ghost then = { λ s me n. Makes BumpToken me };
+    ghost then = { λ s me n. WriterGains BumpToken me };
 }
 
 /// The counter of this worker is loaded, in a check of this token.
@@ -94,56 +94,56 @@ pub struct LoadsCounter<J: Carries> {
 }
 
 impl<J: Carries> Play<(), View> for LoadsCounter<J> {
-    ghost then = { λ s me n. Makes (LoadCounter J.token J.index n) me };
+    ghost then = { λ s me n. WriterGains (LoadCounter J.token J.index n) me };
 }
 
 /// The writer loads a word that it alone changes, which is no step.
 pub struct Looks;
 
 impl Play<(), View> for Looks {
-    ghost then = { looks };
+    ghost then = { WriterLooks };
 }
 
 /// The writer compares what it was told with its own steps, which is no step.
 pub struct Compares;
 
 impl Play<(), View> for Compares {
-    ghost then = { compares };
+    ghost then = { SeatCompares };
 }
 
 /// In a report that it is online, a worker loads the token.
 pub struct LoadsOnline;
 
 impl Play<(), View> for LoadsOnline {
-    ghost then = { λ s me n. gains (LoadOnline n) me };
+    ghost then = { λ s me n. WorkerGains (LoadOnline n) me };
 }
 
 /// In that report, it stores the token.
 pub struct StoresOnline;
 
 impl Play<(), View> for StoresOnline {
-    ghost then = { λ s me n. gains (StoreOnline n) me };
+    ghost then = { λ s me n. WorkerGains (StoreOnline n) me };
 }
 
 /// In a quiescent report, a worker loads the token.
 pub struct LoadsQuiescent;
 
 impl Play<(), View> for LoadsQuiescent {
-    ghost then = { λ s me n. gains (LoadQuiescent n) me };
+    ghost then = { λ s me n. WorkerGains (LoadQuiescent n) me };
 }
 
 /// In that report, it stores the token.
 pub struct StoresQuiescent;
 
 impl Play<(), View> for StoresQuiescent {
-    ghost then = { λ s me n. gains (StoreQuiescent n) me };
+    ghost then = { λ s me n. WorkerGains (StoreQuiescent n) me };
 }
 
 /// A worker stores 0: it is offline.
 pub struct StoresOffline;
 
 impl Play<(), View> for StoresOffline {
-    ghost then = { λ s me n. gains StoreOffline me };
+    ghost then = { λ s me n. WorkerGains StoreOffline me };
 }
 
 /// A worker loads the sequence: a lookup of these addresses begins.
@@ -152,35 +152,35 @@ pub struct BeginsLookup<J: Carries> {
 }
 
 impl<J: Carries> Play<(), View> for BeginsLookup<J> {
-    ghost then = { λ s me n. gains (Begins J.addrs n) me };
+    ghost then = { λ s me n. WorkerGains (Begins J.addrs n) me };
 }
 
 /// A worker loads a first word.
 pub struct LoadsFirst;
 
 impl Play<(), View> for LoadsFirst {
-    ghost then = { λ s me n. gains_first me n };
+    ghost then = { λ s me n. WorkerGainsFirst me n };
 }
 
 /// A worker loads a second word.
 pub struct LoadsSecond;
 
 impl Play<(), View> for LoadsSecond {
-    ghost then = { λ s me n. gains_second me n };
+    ghost then = { λ s me n. WorkerGainsSecond me n };
 }
 
 /// A worker loads the sequence: the lookup ends.
 pub struct EndsLookup;
 
 impl Play<(), View> for EndsLookup {
-    ghost then = { λ s me n. gains (Ends n) me };
+    ghost then = { λ s me n. WorkerGains (Ends n) me };
 }
 
 /// A worker loads the sequence to meet the writer.
 pub struct Meeting;
 
 impl Play<(), View> for Meeting {
-    ghost then = { λ s me n. gains (Meets n) me };
+    ghost then = { λ s me n. WorkerGains (Meets n) me };
 }
 
 /// The next worker's seat is cut off the writer's.

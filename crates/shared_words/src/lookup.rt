@@ -7,7 +7,7 @@ ghost use Rattle.lpm_trace.specs.declared.step.WorkerStep.TheVariants.{LoadOnlin
 ghost use Rattle.lpm_trace.specs.Trace.{worker_by};
 ghost use Rattle.lpm_trace.specs.Workers.{Offline, Online, LookingUp, Unread};
 ghost use Rattle.shared_words.specs.Seats.{IsOf};
-ghost use Rattle.shared_words.specs.Deeds.{Goes, GoesOn, LoadsWords, LooksUp};
+ghost use Rattle.shared_words.specs.Deeds.{GainsAll, GoesOn, LoadsWords, LooksUp};
 
 use crate::opening::Opens;
 use crate::words::SharedWords;
@@ -25,7 +25,7 @@ impl WorkerSeat {
         requires inside { self.old.number < table.now.layout.workers }
         requires offline { (worker_by self.old.place.me.0.own).phase ≡ Offline }
         ensures own { self.new.place.table_id ≡ self.old.place.table_id }
-        ensures steps { (token : ℕ) × Goes (StoreOnline token ∷ LoadOnline token ∷ [])
+        ensures steps { (token : ℕ) × GainsAll (StoreOnline token ∷ LoadOnline token ∷ [])
             self.old.place.me.0 self.new.place.me.0 }
         ensures rest { GoesOn self.old.place.me.0 self.new.place.me.0 }
         ensures online { (worker_by self.new.place.me.0.own).phase ≡ Online }
@@ -42,7 +42,7 @@ impl WorkerSeat {
         requires inside { self.old.number < table.now.layout.workers }
         requires online { (worker_by self.old.place.me.0.own).phase ≡ Online }
         ensures own { self.new.place.table_id ≡ self.old.place.table_id }
-        ensures steps { (token : ℕ) × Goes (StoreQuiescent token ∷ LoadQuiescent token ∷ [])
+        ensures steps { (token : ℕ) × GainsAll (StoreQuiescent token ∷ LoadQuiescent token ∷ [])
             self.old.place.me.0 self.new.place.me.0 }
         ensures rest { GoesOn self.old.place.me.0 self.new.place.me.0 }
         ensures online { (worker_by self.new.place.me.0.own).phase ≡ Online }
@@ -59,7 +59,7 @@ impl WorkerSeat {
         requires inside { self.old.number < table.now.layout.workers }
         requires online { (worker_by self.old.place.me.0.own).phase ≡ Online }
         ensures own { self.new.place.table_id ≡ self.old.place.table_id }
-        ensures steps { Goes (StoreOffline ∷ []) self.old.place.me.0 self.new.place.me.0 }
+        ensures steps { GainsAll (StoreOffline ∷ []) self.old.place.me.0 self.new.place.me.0 }
         ensures rest { GoesOn self.old.place.me.0 self.new.place.me.0 }
         ensures offline { (worker_by self.new.place.me.0.own).phase ≡ Offline }
     {

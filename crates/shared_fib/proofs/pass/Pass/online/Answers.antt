@@ -1,10 +1,10 @@
 use Rattle.std.proofs.Common.{ℕ, subst, [], ◌∷◌}
 use Rattle.lpm_trace.specs.declared.step.WorkerStep.TheVariants.{LoadOnline, StoreOnline}
-use Rattle.shared_words.specs.Deeds.{Goes}
+use Rattle.shared_words.specs.Deeds.{GainsAll}
 use Rattle.shared_fib.specs.Running.{PassState}
 use Rattle.shared_fib.proofs.pass.Pass.online.Goals as goal
 
 pub returns-clause-steps : goal.returns-clause-steps
 returns-clause-steps g c =
-    subst (λ (p : PassState). (token : ℕ) × Goes (StoreOnline token ∷ LoadOnline token ∷ []) p.view c.online.new.self.place.me.0)
+    subst (λ (p : PassState). (token : ℕ) × GainsAll (StoreOnline token ∷ LoadOnline token ∷ []) p.view c.online.new.self.place.me.0)
     c.self.view_is c.online.ensures.steps
