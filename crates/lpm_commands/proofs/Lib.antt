@@ -1,5 +1,6 @@
 pub mod Written
 pub mod Loaded
+pub mod Groups
 pub mod Updated
 pub mod Answered
 pub mod Texts

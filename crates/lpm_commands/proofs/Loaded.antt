@@ -39,13 +39,13 @@ added_rules c s z p h Replaced adds = adds.3.0
 added_rules c s z p h Added adds = adds.2.0
 
 -- an add puts no group into limbo
-added_limbo : (c : Config) (s z : State Registry) (p : Network) (h : ℕ) (put : Put) → s.limbo ≡ [] → Adds counting 24 8 c s p h (Ok put) z → z.limbo ≡ []
+pub added_limbo : (c : Config) (s z : State Registry) (p : Network) (h : ℕ) (put : Put) → s.limbo ≡ [] → Adds counting 24 8 c s p h (Ok put) z → z.limbo ≡ []
 added_limbo c s z p h Unchanged none adds = ap (λ (x : State Registry). x.limbo) adds.1 ∙ none
 added_limbo c s z p h Replaced none adds = adds.4 ∙ none
 added_limbo c s z p h Added none adds = (adds.1.1.1 (λ lacks. let front = sym none ∙ (adds.1.1.0 lacks).1 in absurd cc)).0 ∙ none
 
 -- an add changes no reader
-added_readers : (c : Config) (s z : State Registry) (p : Network) (h : ℕ) (put : Put) → s.limbo ≡ [] → Adds counting 24 8 c s p h (Ok put) z → z.readers ≡ s.readers
+pub added_readers : (c : Config) (s z : State Registry) (p : Network) (h : ℕ) (put : Put) → s.limbo ≡ [] → Adds counting 24 8 c s p h (Ok put) z → z.readers ≡ s.readers
 added_readers c s z p h Unchanged none adds = ap (λ (x : State Registry). x.readers) adds.1
 added_readers c s z p h Replaced none adds = adds.2.2 ∙ adds.2.1
 added_readers c s z p h Added none adds = adds.1.2.2 ∙ (adds.1.2.1 ∙ (adds.1.1.1 (λ lacks. let front = sym none ∙ (adds.1.1.0 lacks).1 in absurd cc)).1)

@@ -1,23 +1,19 @@
 -- The texts of the commands, by the files that they read.
-use Rattle.std.proofs.Common.{◌≡◌, ℕ, List, Option, subst}
+use Rattle.std.proofs.Common.{◌≡◌, ℕ, List, Option, subst, arith}
 use Rattle.lpm_limits.specs.declared.config.Config.{Config}
 use Rattle.lpm_rules.specs.RuleMap.{RuleMap}
 use Rattle.qsbr.specs.Registry.{Registry}
 use Rattle.fib_model.specs.State.{State}
-use Rattle.fib_model.specs.declared.command.Outcome.{Outcome}
 use Rattle.fib.specs.Fib.{FibState}
 use Rattle.route_text.specs.declared.routes.Route.{Route}
 use Rattle.route_text.specs.declared.orders.Order.{Order}
 use Rattle.route_text.specs.Files.{AreRoutes, AreAddresses}
 use Rattle.route_text.specs.Updates.{AreUpdates}
-use Rattle.audit.specs.declared.report.Report.{Report}
-use Rattle.audit.specs.Report.{report_lines}
 use Rattle.lpm_commands.specs.Inputs.{Reads}
 use Rattle.lpm_commands.specs.Loading.{IsLoaded}
-use Rattle.lpm_commands.specs.Updating.{ComesOut}
-use Rattle.lpm_commands.specs.Lookup.{IsAnswered, IsLookupText}
+use Rattle.lpm_commands.specs.Lookup.{IsAnswered, IsAnswerText, IsLookupText}
 use Rattle.lpm_commands.specs.Apply.{IsToldAfter, IsApplyText}
-use Rattle.lpm_commands.specs.Report.{IsCountOf, IsReportText}
+use Rattle.lpm_commands.specs.Report.{IsReportedAfter, IsReportText}
 use Rattle.lpm_commands.proofs.Updated.{updated, last_rules, reported}
 
 -- the answers of the table that the routes make
@@ -53,26 +49,30 @@ is_apply_text c routes updates addresses list orders addrs x z text are_routes a
     }
 
 -- what the table counts after the updates
-pub is_report_text : (c : Config) (routes updates : Option (List ℕ)) (list : List Route) (orders : List Order) (came : List Outcome) (x : State Registry) (fib : FibState) (r : Report) (text : List ℕ) → Reads AreRoutes routes list → Reads AreUpdates updates orders → IsLoaded c list x → ComesOut c x orders came fib.table → fib.config ≡ c → IsCountOf fib r → text ≡ report_lines r → IsReportText c routes updates text
-is_report_text c routes updates list orders came x fib r text are_routes are_updates loaded comes config counts written =
-    let done = updated c list orders came x fib.table loaded comes in
+pub is_report_text : (c : Config) (routes updates : Option (List ℕ)) (list : List Route) (orders : List Order) (x : State Registry) (fib : FibState) (text : List ℕ) → Reads AreRoutes routes list → Reads AreUpdates updates orders → IsLoaded c list x → IsReportedAfter c x orders fib text → IsReportText c routes updates text
+is_report_text c routes updates list orders x fib text are_routes are_updates loaded after =
+    let done = updated c list orders after.came x fib.table loaded after.comes in
     record {
       list = list;
       orders = orders;
-      came = came;
+      came = after.came;
       log = done.0;
       state = done.1.0;
-      report = r;
+      report = after.report;
       are_routes = are_routes;
       are_updates = are_updates;
       updated = done.1.1;
-      reported = reported c list orders came done.0 fib done.1.0 r done.1.1 done.1.2 config counts;
-      written = written;
+      reported = reported c list orders after.came done.0 fib done.1.0 after.report done.1.1 done.1.2 after.limits after.counts;
+      written = after.written;
     }
 
--- the same answers under another name of the limits and the addresses
-pub answered_as : (c d : Config) (R : RuleMap) (addrs list text : List ℕ) → d ≡ c → addrs ≡ list → IsAnswered d R addrs text → IsAnswered c R list text
-answered_as c d R addrs list text limits same answered = subst (λ (k : Config). IsAnswered k R list text) limits (subst (λ (l : List ℕ). IsAnswered d R l text) same answered)
+-- the same report under other names of the limits and the orders
+pub reported_as : (c d : Config) (x : State Registry) (orders orders' : List Order) (z : FibState) (text : List ℕ) → d ≡ c → orders ≡ orders' → IsReportedAfter d x orders z text → IsReportedAfter c x orders' z text
+reported_as c d x orders orders' z text limits same after = subst (λ (k : Config). IsReportedAfter k x orders' z text) limits (subst (λ (l : List Order). IsReportedAfter d x l z text) same after)
+
+-- the same answers by a table of as many workers, and under another name of the addresses
+pub answered_as : (c d : Config) (R : RuleMap) (addrs list text : List ℕ) → d.workers ≡ c.workers → addrs ≡ list → IsAnswered d R addrs text → IsAnswered c R list text
+answered_as c d R addrs list text many same answered = (omega (arith, many, answered.0), subst (λ (l : List ℕ). IsAnswerText R l text) same answered.1)
 
 -- the same text under other names of the limits, the orders and the addresses
 pub told_as : (c d : Config) (x z : State Registry) (orders orders' : List Order) (addrs addrs' : List ℕ) (text : List ℕ) → d ≡ c → orders ≡ orders' → addrs ≡ addrs' → IsToldAfter d x orders addrs z text → IsToldAfter c x orders' addrs' z text

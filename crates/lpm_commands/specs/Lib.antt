@@ -1,6 +1,7 @@
 pub mod Output
 pub mod Inputs
 pub mod Loading
+pub mod Groups
 pub mod Updating
 pub mod Lookup
 pub mod Apply

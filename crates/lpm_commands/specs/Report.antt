@@ -3,6 +3,7 @@
 use Rattle.std.specs.Prelude.{ℕ, ◌≡◌, ◌+◌, ◌⊎◌, List, [], ◌∷◌, Option, length}
 use Rattle.std.specs.FinMap.{len}
 use Rattle.lpm_limits.specs.declared.config.Config.{Config}
+use Rattle.qsbr.specs.Registry.{Registry}
 use Rattle.fib_model.specs.declared.command.Outcome.{Outcome}
 use Rattle.fib_model.specs.declared.event.Event.{Event}
 use Rattle.fib_model.specs.State.{State}
@@ -21,7 +22,7 @@ use Rattle.lpm_commands.specs.declared.failure.Failure.TheVariants.{CannotWrite}
 use Rattle.lpm_commands.specs.Inputs.{Input, Reads, route_file, update_file}
 use Rattle.lpm_commands.specs.Inputs.{AreRead, EndsAtOne}
 use Rattle.lpm_commands.specs.Loading.{EndsTable}
-use Rattle.lpm_commands.specs.Updating.{IsUpdated}
+use Rattle.lpm_commands.specs.Updating.{ComesOut, IsUpdated}
 
 -- the report has what the table counts
 pub record IsCountOf (fib : FibState) (r : Report) : Type 0 where
@@ -42,6 +43,17 @@ pub record IsReportOf (c : Config) (log : Log 24 8) (state : State (List Event))
   pub limbo : r.limbo ≡ length state.limbo
   pub groups : r.in_use + r.limbo + r.free ≡ c.groups
   pub token : r.token ≡ (textbook c).token state.readers
+
+-- on a table with these limits in the state x, the updates come out and leave the table z; the text
+-- tells what that counts
+pub record IsReportedAfter (c : Config) (x : State Registry) (orders : List Order) (z : FibState)
+    (text : List ℕ) : Type 0 where
+  pub came : List Outcome
+  pub report : Report
+  pub limits : z.config ≡ c
+  pub comes : ComesOut c x orders came z.table
+  pub counts : IsCountOf z report
+  pub written : text ≡ report_lines report
 
 -- the text is the report after the routes and the updates; the files' bytes are known, or not
 pub record IsReportText (c : Config) (routes updates : Option (List ℕ)) (text : List ℕ)

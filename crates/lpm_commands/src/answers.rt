@@ -1,11 +1,13 @@
 //! The text of the answers to addresses, by a table of one thread or by a running one.
 ghost use Rattle.std.specs.Prelude.{◌≡◌, ◌<◌, ℕ, IfOk, IfErr};
+ghost use Rattle.lpm_rules.specs.Longest.{AreLongestHops};
 ghost use Rattle.fib_model.specs.Counting.{by_counters};
 ghost use Rattle.lpm_commands.specs.Lookup.{IsAnswered, EndsAnswering};
 
 use crate::failure::Failure;
 use bulk::{Gate, bulk, bulk_plain, seat_all};
 use fib::Fib;
+use lpm_bits::Hop;
 use route_text::answers_text;
 use shared_fib::go_live;
 use std::alloc::Global;
@@ -45,6 +47,24 @@ pub fn text_of_live_answers<'a, R: Threads + Sync, G: Gate>(
         IsAnswered fib.config fib.table.rules addrs.now v.items) }
     ensures failure { IfErr result (EndsAnswering fib.config) }
 {
+    let hops = live_hops(rt, alloc, fib, addrs, gate)?;
+    Ok(answers_text(alloc, addrs, &hops)?)
+}
+
+// The next hops of the addresses by the running table that this one becomes.
+fn live_hops<'a, R: Threads + Sync, G: Gate>(
+    rt: &R,
+    alloc: Global,
+    fib: Fib<24, 8>,
+    addrs: &[u32],
+    gate: &G,
+) -> Result<Vec<Option<Hop>>, Failure<'a>>
+    requires offline { (worker : ℕ) → worker < fib.config.workers
+        → ¬ by_counters.is_online fib.table.readers worker }
+    ensures workers { IfOk result (λ v. 0 < fib.config.workers) }
+    ensures hops { IfOk result (λ v. AreLongestHops 32 fib.table.rules addrs.now v.items) }
+    ensures failure { IfErr result (EndsAnswering fib.config) }
+{
     let workers = fib.config().workers;
     let (table, mut writer, mut bench) = go_live(alloc, fib)?;
     let mut desks = seat_all(alloc, &table, &mut bench, workers)?;
@@ -57,5 +77,5 @@ pub fn text_of_live_answers<'a, R: Threads + Sync, G: Gate>(
         addrs,
         gate,
     )?;
-    Ok(answers_text(alloc, addrs, &hops)?)
+    Ok(hops)
 }

@@ -1,8 +1,9 @@
 //! A table of the routes of a file.
 ghost use Rattle.std.specs.Prelude.{◌≡◌, ◌≢◌, IfOk, IfErr};
-ghost use Rattle.lpm_limits.specs.Limits.{IsConfig};
+ghost use Rattle.lpm_limits.specs.Limits.{IsConfig, IsIn, groups_range};
 ghost use Rattle.fib_model.specs.Counting.{opened};
 ghost use Rattle.lpm_commands.specs.Loading.{IsLoaded, EndsLoading};
+ghost use Rattle.lpm_commands.specs.Groups.{IsEnough, long_routes};
 
 use crate::failure::Failure;
 use fib::{Fib, OpenError};
@@ -37,6 +38,48 @@ pub fn load<'a>(
         }
     }
     Ok(table)
+}
+
+/// The table that `load` makes, with no more groups than these routes can need, so it is for lookups
+/// alone. `config.groups` is the most.
+///
+/// A running table has words for each group, needed or not: fewer groups take less memory and time.
+pub fn load_for_lookups<'a>(
+    alloc: Global,
+    path: &'a str,
+    routes: &[Route],
+    config: Config,
+) -> Result<Fib<24, 8>, Failure<'a>>
+    requires { IsConfig config }
+    ensures workers { IfOk result (λ fib. fib.config.workers ≡ config.workers) }
+    ensures loaded { IfOk result (λ fib. IsLoaded config routes.now fib.table) }
+    ensures failure { IfErr result (EndsLoading config path.entry.now routes.now) }
+{
+    let groups = groups_for(routes, config);
+    load(alloc, path, routes, Config { groups, ..config })
+}
+
+// How many groups do for the routes: one for each that is longer than 24 bits, and one at least.
+// All that are given where the tokens don't last for them, since then no route is added at all.
+fn groups_for(routes: &[Route], config: Config) -> usize
+    requires { IsConfig config }
+    ensures range { IsIn groups_range result }
+    ensures enough { IsEnough config routes.now result }
+{
+    if config.first_token + config.groups as u64 > Config::FIRST_TOKEN.last {
+        return config.groups;
+    }
+    long_routes(routes).clamp(1, config.groups)
+}
+
+// How many of the routes are longer than 24 bits.
+fn long_routes(routes: &[Route]) -> usize
+    ensures { result ≡ long_routes routes.now }
+{
+    routes
+        .iter()
+        .filter(|route| route.prefix.len() > 24)
+        .count()
 }
 
 // What a refusal of the route on this line ends the run with.

@@ -8,7 +8,7 @@ use crate::answers::text_of_live_answers;
 use crate::failure::Failure;
 use crate::files::{Files, put_text};
 use crate::inputs::{Addresses, Routes, read_list};
-use crate::loading::load;
+use crate::loading::load_for_lookups;
 use bulk::Gate;
 use qsbr::Config;
 use std::alloc::Global;
@@ -68,6 +68,6 @@ fn lookup_text<'a, R: Threads + Sync, F: Files, G: Gate>(
 {
     let list = read_list::<Routes, F>(alloc, files, routes)?;
     let addrs = read_list::<Addresses, F>(alloc, files, addresses)?;
-    let table = load(alloc, routes, &list, config)?;
+    let table = load_for_lookups(alloc, routes, &list, config)?;
     text_of_live_answers(rt, alloc, table, &addrs, gate)
 }

@@ -2,7 +2,7 @@
 ghost use Rattle.std.specs.Prelude.{◌≡◌, ◌≢◌, IfOk, IfErr, OnOk, IsErrOf};
 ghost use Rattle.lpm_limits.specs.Limits.{IsConfig};
 ghost use Rattle.lpm_commands.specs.Output.{Writes, WritesBeginning};
-ghost use Rattle.lpm_commands.specs.Report.{IsReportText, IsCountOf, EndsReport};
+ghost use Rattle.lpm_commands.specs.Report.{IsReportText, IsReportedAfter, IsCountOf, EndsReport};
 
 use crate::failure::Failure;
 use crate::files::{Files, put_text};
@@ -12,7 +12,8 @@ use crate::updating::update;
 use audit::{Report, report_text};
 use fib::Fib;
 use qsbr::Config;
-use std::alloc::Global;
+use route_text::Order;
+use std::alloc::{AllocError, Global};
 use std::io::Write;
 
 /// Writes the report after the routes and the updates.
@@ -64,10 +65,22 @@ fn whole_text<'a, F: Files>(
     let list = read_list::<Routes, F>(alloc, files, routes)?;
     let orders = read_list::<Updates, F>(alloc, files, updates)?;
     let mut table = load(alloc, routes, &list, config)?;
-    let _outcomes = update(alloc, &mut table, &orders)?;
-    let report = report_of(&table);
-    let text = report_text(alloc, &report)?;
+    let text = text_after(alloc, &mut table, &orders)?;
     Ok(text)
+}
+
+// The text of what the table counts after the updates.
+fn text_after(
+    alloc: Global,
+    table: &mut Fib<24, 8>,
+    orders: &[Order],
+) -> Result<Vec<u8>, AllocError>
+    ensures { IfOk result (λ v. IsReportedAfter table.old.config table.old.table orders.now
+        table.new v.items) }
+{
+    let _outcomes = update(alloc, table, orders)?;
+    let report = report_of(table);
+    report_text(alloc, &report)
 }
 
 // What the table counts.

@@ -1,54 +1,12 @@
-use Rattle.std.proofs.Common.{◌≢◌, ◌∙◌, All, length, ap, sym, subst, lit<, arith}
-use Rattle.std.proofs.lemmas.Grind.{get_or_default_zero}
-use Rattle.lpm_limits.specs.declared.config.Config.{Config}
-use Rattle.lpm_rules.specs.RuleMap.{RuleMap}
-use Rattle.lpm_rules.specs.Longest.{AreLongestHops}
+use Rattle.std.proofs.Common.{◌∙◌, ap}
 use Rattle.lpm_rules.proofs.Longest.{length-AreLongestHops}
-use Rattle.bulk.specs.Desks.{IsDeskOf}
 use Rattle.route_text.specs.Texts.{answer_lines}
-use Rattle.lpm_commands.proofs.Answered.{is_of, has_rules, as_many_desks, failure_leads, ends_answering}
 use Rattle.lpm_commands.proofs.answers.text_of_live_answers.Goals as goal
 
-pub bulk-requires-after_bounds : goal.bulk-requires-after_bounds
-bulk-requires-after_bounds g c κs within =
-    let id = c.in_ok-table.table in
-    let own = is_of id _ _ _ c.in_ok-table.ensures.opened in
-    let desks = subst (All (IsDeskOf id)) (sym c.as_mut_slice.ensures.value) c.in_ok-desks.ensures.desks in
-    let addrs = c.args.addrs.now in (
-      lit< tt,
-      (
-        lit< tt,
-        (
-          own,
-          (
-            desks,
-            λ k d below.
-                let zero = get_or_default_zero addrs k d below in
-                let fits = c.type_inv.addrs k in
-                omega (arith, zero, fits),
-          ),
-        ),
-      ),
-    )
-
-pub returns-in_err-hops-clause-failure : goal.returns-in_err-hops-clause-failure
-returns-in_err-hops-clause-failure g c =
-    let many = ap length c.as_mut_slice.ensures.value ∙ (as_many_desks _ _ c.in_ok-desks.ensures.roles
-    ∙ ap (λ (k : Config). k.workers) c.config-workers.ensures.value) in
-    failure_leads _ c.from_residual-in_err-hops.result _ _ c.from_residual-in_err-hops.ensures.1 (λ failure same.
-    ends_answering _ c.args.fib.config c.in_err-hops.field-0.0 failure same
-    (λ none. sym many ∙ c.in_err-hops.ensures.workers.0 none))
-
 pub answers_text-requires : goal.answers_text-requires
-answers_text-requires g c = rw c.deref.ensures.value (length-AreLongestHops _ _ _ _ c.in_ok-hops.ensures.answers)
+answers_text-requires g c = rw c.deref.ensures.value (length-AreLongestHops _ _ _ _ c.in_ok-hops.ensures.hops)
 
 pub returns-clause-text : goal.returns-clause-text
 returns-clause-text g c =
-    let many = ap length c.as_mut_slice.ensures.value ∙ (as_many_desks _ _ c.in_ok-desks.ensures.roles
-    ∙ ap (λ (k : Config). k.workers) c.config-workers.ensures.value) in
-    let some : length c.as_mut_slice.result.now ≢ 0 = λ none. let refused = c.in_ok-hops.ensures.workers.1 none in cc in
-    let hops = c.in_ok-hops.hops.items in
-    let rules = has_rules _ _ _ _ c.in_ok-table.ensures.opened in
-    let answers = subst (λ (R : RuleMap). AreLongestHops 32 R c.args.addrs.now hops) rules c.in_ok-hops.ensures.answers in
     let written = c.in_ok-answers_text.ensures ∙ ap (answer_lines c.args.addrs.now) c.deref.ensures.value in
-    (omega (arith, many, some), (hops, answers, written))
+    (c.in_ok-hops.ensures.workers, (c.in_ok-hops.hops.items, c.in_ok-hops.ensures.hops, written))
