@@ -20,6 +20,16 @@ struct AtOnce {
     made: u64,
 }
 
+/// What the writer does while passes look up: the name of these changes, and the routes that it changes.
+#[derive(Clone, Copy)]
+struct Changes<'a> {
+    name: &'a str,
+    routes: &'a [Route],
+}
+
+/// How many passes look up at once, and how they are called.
+const CROWDS: [(usize, &str); 3] = [(1, "1 pass"), (2, "2 passes"), (4, "4 passes")];
+
 /// Prints what the lookups of 1, 2 and 4 passes take at once: while nothing changes, and while the writer
 /// changes routes of up to 24 bits, and longer ones.
 pub(crate) fn print_at_once<R: Clock + Print + AllocGlobal + Threads + Sync>(
@@ -31,17 +41,49 @@ pub(crate) fn print_at_once<R: Clock + Print + AllocGlobal + Threads + Sync>(
 ) -> Result<()> {
     let short = of_lengths(rt.alloc(), routes, 0, 24)?;
     let long = of_lengths(rt.alloc(), routes, 25, 32)?;
-    for (count, passes) in [(1, "1 pass"), (2, "2 passes"), (4, "4 passes")] {
+    let short = Changes {
+        name: "short changes",
+        routes: short.as_slice(),
+    };
+    let long = Changes {
+        name: "long changes",
+        routes: long.as_slice(),
+    };
+    print_crowds(rt, readers, changer, &[short, long], addrs)
+}
+
+/// Prints what the lookups of each number of passes take at once, while nothing changes and beside each of
+/// these changes.
+fn print_crowds<R: Clock + Print + Threads + Sync>(
+    rt: &R,
+    readers: &mut [Reader<'_>],
+    changer: &mut Changer<'_>,
+    all: &[Changes<'_>],
+    addrs: &[u32],
+) -> Result<()> {
+    for &(count, passes) in &CROWDS {
         let count = readers.len().min(count);
-        let some = &mut readers[..count];
-        let quiet = measure(rt, some, changer, &[], addrs)?;
-        print_speed(rt, passes, "no changes", quiet, count, addrs.len())?;
-        let beside = measure(rt, some, changer, &short, addrs)?;
-        print_speed(rt, passes, "short changes", beside, count, addrs.len())?;
-        print_changes(rt, passes, "short changes", beside, quiet)?;
-        let beside = measure(rt, some, changer, &long, addrs)?;
-        print_speed(rt, passes, "long changes", beside, count, addrs.len())?;
-        print_changes(rt, passes, "long changes", beside, quiet)?;
+        print_crowd(rt, passes, &mut readers[..count], changer, all, addrs)?;
+    }
+    Ok(())
+}
+
+/// Prints what the lookups of these readers take at once.
+fn print_crowd<R: Clock + Print + Threads + Sync>(
+    rt: &R,
+    passes: &str,
+    readers: &mut [Reader<'_>],
+    changer: &mut Changer<'_>,
+    all: &[Changes<'_>],
+    addrs: &[u32],
+) -> Result<()> {
+    let count = readers.len();
+    let quiet = measure(rt, readers, changer, &[], addrs)?;
+    print_speed(rt, passes, "no changes", quiet, count, addrs.len())?;
+    for changes in all {
+        let beside = measure(rt, readers, changer, changes.routes, addrs)?;
+        print_speed(rt, passes, changes.name, beside, count, addrs.len())?;
+        print_changes(rt, passes, changes.name, beside, quiet)?;
     }
     Ok(())
 }

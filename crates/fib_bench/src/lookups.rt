@@ -34,70 +34,73 @@ pub(crate) fn number_of(hop: Option<Hop>) -> u64 {
 }
 
 /// The addresses at which a table is read.
-#[derive(Drop)]
-pub(crate) enum Addresses {
+#[derive(Clone, Copy)]
+pub(crate) enum Addresses<'a> {
     /// These.
-    Listed(Vec<u32>),
+    Listed(&'a [u32]),
     /// One in each 251, upwards.
     Ascending,
 }
 
 /// How many addresses a list has.
-const LISTED: usize = 1 << 22;
+const LISTED: usize = 4_194_304;
 /// How many ascending addresses there are.
-pub(crate) const ASCENDING: u32 = 1 << 24;
+pub(crate) const ASCENDING: u32 = 16_777_216;
 /// How far one ascending address is from the next.
 pub(crate) const STRIDE: u32 = 251;
 /// How often each time is taken: the least one counts.
 pub(crate) const ROUNDS: usize = 5;
 
-impl Addresses {
-    /// Addresses with any bits.
-    pub(crate) fn random<R: Rng>(alloc: Global, random: &mut R) -> Result<Addresses, AllocError> {
-        let mut addrs = Vec::with_capacity(alloc, LISTED)?;
-        for _ in 0..LISTED {
-            addrs.push(random.next_u32())?;
-        }
-        Ok(Addresses::Listed(addrs))
-    }
-
-    /// Addresses in these blocks, each given by its first address.
-    pub(crate) fn deep<R: Rng>(
-        alloc: Global,
-        random: &mut R,
-        blocks: &[u32],
-    ) -> Result<Addresses, AllocError>
-        requires { 0 < length blocks.now }
-    {
-        let mut addrs = Vec::with_capacity(alloc, LISTED)?;
-        for _ in 0..LISTED {
-            addrs.push(draw_within(random, blocks))?;
-        }
-        Ok(Addresses::Listed(addrs))
-    }
-
-    /// Addresses of which each is in one of these blocks or has any bits, as a coin falls.
-    pub(crate) fn half_deep<R: Rng>(
-        alloc: Global,
-        random: &mut R,
-        blocks: &[u32],
-    ) -> Result<Addresses, AllocError>
-        requires { 0 < length blocks.now }
-    {
-        let mut addrs = Vec::with_capacity(alloc, LISTED)?;
-        for _ in 0..LISTED {
-            addrs.push(draw_half_within(random, blocks))?;
-        }
-        Ok(Addresses::Listed(addrs))
-    }
-
+impl Addresses<'_> {
     /// How many there are.
-    pub(crate) fn count(&self) -> usize {
+    pub(crate) fn count(self) -> usize {
         match self {
             Addresses::Listed(addrs) => addrs.len(),
             Addresses::Ascending => ASCENDING as usize,
         }
     }
+}
+
+/// Addresses with any bits.
+pub(crate) fn random_addresses<R: Rng>(
+    alloc: Global,
+    random: &mut R,
+) -> Result<Vec<u32>, AllocError> {
+    let mut addrs = Vec::with_capacity(alloc, LISTED)?;
+    for _ in 0..LISTED {
+        addrs.push(random.next_u32())?;
+    }
+    Ok(addrs)
+}
+
+/// Addresses in these blocks, each given by its first address.
+pub(crate) fn deep_addresses<R: Rng>(
+    alloc: Global,
+    random: &mut R,
+    blocks: &[u32],
+) -> Result<Vec<u32>, AllocError>
+    requires { 0 < length blocks.now }
+{
+    let mut addrs = Vec::with_capacity(alloc, LISTED)?;
+    for _ in 0..LISTED {
+        addrs.push(draw_within(random, blocks))?;
+    }
+    Ok(addrs)
+}
+
+/// Addresses of which each is in one of these blocks or has any bits, as a coin falls.
+pub(crate) fn half_deep_addresses<R: Rng>(
+    alloc: Global,
+    random: &mut R,
+    blocks: &[u32],
+) -> Result<Vec<u32>, AllocError>
+    requires { 0 < length blocks.now }
+{
+    let mut addrs = Vec::with_capacity(alloc, LISTED)?;
+    for _ in 0..LISTED {
+        addrs.push(draw_half_within(random, blocks))?;
+    }
+    Ok(addrs)
 }
 
 /// An address in one of these blocks, each given by its first address.
@@ -119,9 +122,9 @@ fn draw_half_within<R: Rng>(random: &mut R, blocks: &[u32]) -> u32
 }
 
 /// Adds the number of each address's next hop to the sum.
-fn add_numbers<T: Table>(table: &T, addresses: &Addresses, sum: u64) -> u64 {
+fn add_numbers<T: Table>(table: &T, addresses: Addresses<'_>, sum: u64) -> u64 {
     match addresses {
-        Addresses::Listed(addrs) => add_listed(table, addrs.as_slice(), sum),
+        Addresses::Listed(addrs) => add_listed(table, addrs, sum),
         Addresses::Ascending => add_ascending(table, sum),
     }
 }
@@ -157,7 +160,7 @@ pub(crate) fn compare<R: Clock, T: Table, U: Table>(
     rt: &R,
     one: &T,
     other: &U,
-    addresses: &Addresses,
+    addresses: Addresses<'_>,
 ) -> Result<Compared> {
     let mut compared = Compared {
         first: Duration::MAX,
@@ -181,7 +184,7 @@ pub(crate) fn compare<R: Clock, T: Table, U: Table>(
 fn timed<R: Clock, T: Table>(
     rt: &R,
     table: &T,
-    addresses: &Addresses,
+    addresses: Addresses<'_>,
     sum: u64,
 ) -> io::Result<(Duration, u64)> {
     let start = Instant::now(rt)?;
@@ -200,7 +203,7 @@ pub(crate) struct Least {
 pub(crate) fn measure_alone<R: Clock, T: Table>(
     rt: &R,
     table: &T,
-    addresses: &Addresses,
+    addresses: Addresses<'_>,
 ) -> Result<Least> {
     let mut least = Least {
         time: Duration::MAX,

@@ -16,8 +16,10 @@ ghost use Rattle.std.specs.Prelude.{◌≤◌, IfSome};
 
 use anyhow::Result;
 use std::convert::AsStr;
-use std::env;
 use std::process::ExitCode;
+use std::rt::Clock;
+use std::thread::Threads;
+use std::{env, io};
 
 const USAGE: &str = "usage: fib_bench run [ROUTES]
 
@@ -34,24 +36,39 @@ const MOST_ROUTES: usize = 1_000_000;
 const REFUSED: u8 = 2;
 
 fn main(rt: HostRuntime) -> Result<ExitCode> {
+    let words = command_words(&rt)?;
+    if words.len() <= 1 {
+        return print_usage(&rt);
+    }
+    perform(&rt, asked(&words[1..]))
+}
+
+/// The words of the command line, the program's name first.
+fn command_words(rt: &HostRuntime) -> io::Result<Vec<String>> {
     let mut words = Vec::new(rt.alloc());
-    for word in env::args(&rt)? {
+    for word in env::args(rt)? {
         words.push(word)?;
     }
-    if words.len() <= 1 {
-        print!(rt; "{USAGE}")?;
-        return Ok(ExitCode::SUCCESS);
-    }
-    match asked(&words[1..]) {
-        Some(count) => {
-            report::run(&rt, count)?;
-            Ok(ExitCode::SUCCESS)
-        }
-        None => {
-            eprint!(rt; "{USAGE}")?;
-            Ok(ExitCode::from(REFUSED))
-        }
-    }
+    Ok(words)
+}
+
+/// Prints how the program is called.
+fn print_usage<R: Print>(rt: &R) -> Result<ExitCode> {
+    print!(rt; "{USAGE}")?;
+    Ok(ExitCode::SUCCESS)
+}
+
+/// Measures a table of so many routes. `None` stands for a command line that isn't accepted.
+fn perform<R: Clock + Print + Eprint + AllocGlobal + Threads + Sync>(
+    rt: &R,
+    count: Option<usize>,
+) -> Result<ExitCode> {
+    let Some(count) = count else {
+        eprint!(rt; "{USAGE}")?;
+        return Ok(ExitCode::from(REFUSED));
+    };
+    report::run(rt, count)?;
+    Ok(ExitCode::SUCCESS)
 }
 
 /// The number of routes that the words of the command line, after the program's name, ask for.

@@ -4,7 +4,7 @@ ghost use Rattle.std.specs.Prelude.{◌<◌, length};
 ghost use Rattle.lpm_limits.specs.Limits.{IsConfig};
 
 use crate::changes::{add_all, delete_all};
-use crate::lookups::{Addresses, compare};
+use crate::lookups::{Addresses, compare, deep_addresses, half_deep_addresses, random_addresses};
 use crate::pieces::print_pieces;
 use crate::routes::{Route, deep_blocks, fill, full_block};
 use crate::running::{WORKERS, print_running};
@@ -31,15 +31,25 @@ pub(crate) fn run<R: Clock + Print + AllocGlobal + Threads + Sync>(
     let mut random = Xoshiro256PlusPlus::seed_from_u64(1);
     let mut table = Fib::<24, 8>::open(rt.alloc(), limits())?;
     let routes = fill(rt.alloc(), &mut table, &mut random, count)?;
+    print_alone(rt, &mut table, routes.as_slice(), &mut random)?;
+    print_running(rt, table, routes.as_slice(), &mut random)
+}
+
+/// Prints the size of a table of one thread that has these routes, and what its lookups and changes take.
+fn print_alone<R: Clock + Print + AllocGlobal + Threads + Sync, G: Rng>(
+    rt: &R,
+    table: &mut Fib<24, 8>,
+    routes: &[Route],
+    random: &mut G,
+) -> Result<()> {
     let rules = table.rules();
     println!(rt; "routes: {rules}")?;
     let in_use = table.counts().in_use;
     println!(rt; "groups in use: {in_use}")?;
-    print_all_lookups(rt, &table, routes.as_slice(), &mut random)?;
-    print_changes(rt, &mut table, routes.as_slice())?;
-    print_default_route(rt, &mut table)?;
-    print_full_block(rt, &mut table)?;
-    print_running(rt, table, routes.as_slice(), &mut random)
+    print_all_lookups(rt, table, routes, random)?;
+    print_changes(rt, table, routes)?;
+    print_default_route(rt, table)?;
+    print_full_block(rt, table)
 }
 
 /// The limits of the table: as many rules and groups as there can be.
@@ -47,8 +57,8 @@ fn limits() -> Config
     ensures { IsConfig result }
 {
     Config {
-        rules: 1 << 24,
-        groups: 1 << 16,
+        rules: 16_777_216,
+        groups: 65_536,
         workers: WORKERS,
         threshold: 32,
         reclaim_max: 16,
@@ -65,16 +75,38 @@ fn print_all_lookups<R: Clock + Print + AllocGlobal + Threads + Sync, G: Rng>(
 ) -> Result<()> {
     let blocks = deep_blocks(rt.alloc(), routes)?;
     let words = Words::new(rt.alloc(), table, blocks.as_slice())?;
-    let addresses = Addresses::random(rt.alloc(), random)?;
-    print_lookups(rt, "random", table, &words, &addresses)?;
-    if let Addresses::Listed(addrs) = &addresses {
-        print_pieces(rt, table, addrs)?;
-    }
-    print_lookups(rt, "ascending", table, &words, &Addresses::Ascending)?;
+    print_each_kind(rt, table, &words, blocks.as_slice(), random)
+}
+
+/// Prints what lookups take at addresses of each kind. Each of these blocks, given by its first address, has a
+/// deep route.
+fn print_each_kind<R: Clock + Print + AllocGlobal + Threads + Sync, G: Rng>(
+    rt: &R,
+    table: &Fib<24, 8>,
+    words: &Words,
+    blocks: &[u32],
+    random: &mut G,
+) -> Result<()> {
+    print_random_lookups(rt, table, words, random)?;
+    print_lookups(rt, "ascending", table, words, Addresses::Ascending)?;
     if blocks.is_empty() {
         return Ok(());
     }
-    print_deep_lookups(rt, table, &words, blocks.as_slice(), random)
+    print_deep_lookups(rt, table, words, blocks, random)?;
+    print_half_deep_lookups(rt, table, words, blocks, random)
+}
+
+/// Prints what lookups take at addresses with any bits, one by one and in pieces.
+fn print_random_lookups<R: Clock + Print + AllocGlobal + Threads + Sync, G: Rng>(
+    rt: &R,
+    table: &Fib<24, 8>,
+    words: &Words,
+    random: &mut G,
+) -> Result<()> {
+    let addrs = random_addresses(rt.alloc(), random)?;
+    let addresses = Addresses::Listed(addrs.as_slice());
+    print_lookups(rt, "random", table, words, addresses)?;
+    print_pieces(rt, table, addrs.as_slice())
 }
 
 /// Prints what lookups take in these blocks, each given by its first address.
@@ -87,10 +119,25 @@ fn print_deep_lookups<R: Clock + Print + AllocGlobal, G: Rng>(
 ) -> Result<()>
     requires { 0 < length blocks.now }
 {
-    let addresses = Addresses::deep(rt.alloc(), random, blocks)?;
-    print_lookups(rt, "deep", table, words, &addresses)?;
-    let addresses = Addresses::half_deep(rt.alloc(), random, blocks)?;
-    print_lookups(rt, "half deep", table, words, &addresses)
+    let addrs = deep_addresses(rt.alloc(), random, blocks)?;
+    let addresses = Addresses::Listed(addrs.as_slice());
+    print_lookups(rt, "deep", table, words, addresses)
+}
+
+/// Prints what lookups take at addresses of which about half are in these blocks, each given by its first
+/// address.
+fn print_half_deep_lookups<R: Clock + Print + AllocGlobal, G: Rng>(
+    rt: &R,
+    table: &Fib<24, 8>,
+    words: &Words,
+    blocks: &[u32],
+    random: &mut G,
+) -> Result<()>
+    requires { 0 < length blocks.now }
+{
+    let addrs = half_deep_addresses(rt.alloc(), random, blocks)?;
+    let addresses = Addresses::Listed(addrs.as_slice());
+    print_lookups(rt, "half deep", table, words, addresses)
 }
 
 /// Prints what the table takes beside the plain words, each lookup in nanoseconds.
@@ -99,7 +146,7 @@ fn print_lookups<R: Clock + Print>(
     kind: &str,
     table: &Fib<24, 8>,
     words: &Words,
-    addresses: &Addresses,
+    addresses: Addresses<'_>,
 ) -> Result<()> {
     let compared = compare(rt, table, words, addresses)?;
     let count = addresses.count();
@@ -140,13 +187,22 @@ fn print_default_route<R: Clock + Print>(rt: &R, table: &mut Fib<24, 8>) -> Resu
 /// Adds a route of 32 bits for each address of a block, and deletes them again.
 fn print_full_block<R: Clock + Print + AllocGlobal>(rt: &R, table: &mut Fib<24, 8>) -> Result<()> {
     let routes = full_block(rt.alloc())?;
+    print_block_changes(rt, table, routes.as_slice())
+}
+
+/// Adds all routes of a full block, and deletes them again.
+fn print_block_changes<R: Clock + Print>(
+    rt: &R,
+    table: &mut Fib<24, 8>,
+    routes: &[Route],
+) -> Result<()> {
     let count = routes.len();
-    let adding = add_all(rt, table, routes.as_slice())?;
+    let adding = add_all(rt, table, routes)?;
     println!(rt;
         "additions, full block: {} a second",
         each_second(adding, count)
     )?;
-    let deleting = delete_all(rt, table, routes.as_slice())?;
+    let deleting = delete_all(rt, table, routes)?;
     println!(rt;
         "deletions, full block: {} a second",
         each_second(deleting, count)

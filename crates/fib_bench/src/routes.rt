@@ -1,6 +1,6 @@
 //! Random routes, the same in each run.
 
-ghost use Rattle.std.specs.Prelude.{◌≡◌, ◌<◌, ◌≤◌, ◌↔◌, IfOk, vec_len};
+ghost use Rattle.std.specs.Prelude.{◌≡◌, ◌<◌, ◌≤◌, ◌↔◌, IfOk, OnOk, vec_len};
 
 use anyhow::{Result, ensure};
 use fib::Fib;
@@ -29,6 +29,19 @@ pub(crate) fn fill<R: Rng>(
     ensures { IfOk result (λ routes. vec_len routes ≡ count) }
 {
     let mut routes = Vec::new(alloc);
+    draw_all(table, random, &mut routes, count)?;
+    Ok(routes)
+}
+
+/// Adds routes to the table and to those that it has, until that many are there.
+fn draw_all<R: Rng>(
+    table: &mut Fib<24, 8>,
+    random: &mut R,
+    routes: &mut Vec<Route>,
+    count: usize,
+) -> Result<()>
+    ensures { OnOk result (vec_len routes.new ≡ count) }
+{
     for _ in 0..count.saturating_mul(DRAWS) {
         if routes.len() >= count {
             break;
@@ -39,7 +52,7 @@ pub(crate) fn fill<R: Rng>(
         }
     }
     ensure!(routes.len() == count, "too many prefixes were drawn twice");
-    Ok(routes)
+    Ok(())
 }
 
 /// The first address of each block that has one of these routes longer than 24 bits.
@@ -76,11 +89,16 @@ pub(crate) fn of_lengths(
 pub(crate) fn full_block(alloc: Global) -> Result<Vec<Route>> {
     let mut routes = Vec::new(alloc);
     for addr in 0..256u32 {
-        let prefix = Prefix::new(addr, 32)?;
-        let hop = Hop::new(addr)?;
-        routes.push(Route { prefix, hop })?;
+        routes.push(host_route(addr)?)?;
     }
     Ok(routes)
+}
+
+/// The route of 32 bits for this address, whose next hop has the same number.
+fn host_route(addr: u32) -> Result<Route> {
+    let prefix = Prefix::new(addr, 32)?;
+    let hop = Hop::new(addr)?;
+    Ok(Route { prefix, hop })
 }
 
 /// A route with any bits and any next hop.

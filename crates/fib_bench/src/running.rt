@@ -1,11 +1,11 @@
 //! A running table: lookups by passes and changes by its writer, at rest and at once.
 
-ghost use Rattle.std.specs.Prelude.{◌≡◌, ◌<◌, ◌≤◌, ℕ, IfOk, IsTrue, length, vec_len};
+ghost use Rattle.std.specs.Prelude.{◌≡◌, ◌<◌, ◌≤◌, ℕ, IfOk, IsTrue, OnOk, length, vec_len};
 ghost use Rattle.fib_model.specs.Counting.{by_counters};
 ghost use Rattle.shared_fib.specs.Running.{IsBenchOf};
 
 use crate::crowd::print_at_once;
-use crate::lookups::{Addresses, Least, ROUNDS, measure_alone};
+use crate::lookups::{Addresses, Least, ROUNDS, measure_alone, random_addresses};
 use crate::passes::{Changer, Lookups, Reader};
 use crate::report::{Hundredths, SAMPLE, each_second, hundredths_of_nanos, ratio};
 use crate::routes::Route;
@@ -21,6 +21,13 @@ use std::time::{Duration, Instant};
 /// How many workers the table has.
 pub(crate) const WORKERS: usize = 4;
 
+/// What the lookups of a table take while it isn't a running one.
+#[derive(Clone, Copy)]
+struct Alone {
+    listed: Least,
+    ascending: Least,
+}
+
 /// Goes on with the table as a running one, and prints what its lookups and changes take.
 pub(crate) fn print_running<R: Clock + Print + AllocGlobal + Threads + Sync, G: Rng>(
     rt: &R,
@@ -28,19 +35,55 @@ pub(crate) fn print_running<R: Clock + Print + AllocGlobal + Threads + Sync, G: 
     routes: &[Route],
     random: &mut G,
 ) -> Result<()> {
-    ensure!(is_left(&table), "a worker is online");
-    let addresses = Addresses::random(rt.alloc(), random)?;
-    let Addresses::Listed(addrs) = &addresses else {
-        return Ok(());
-    };
-    let listed = measure_alone(rt, &table, &addresses)?;
-    let ascending = measure_alone(rt, &table, &Addresses::Ascending)?;
+    let addrs = random_addresses(rt.alloc(), random)?;
+    let alone = measure_left(rt, &table, addrs.as_slice())?;
+    print_going_live(rt, table, routes, addrs.as_slice(), alone)
+}
+
+/// Goes on with the table, of which no worker is online, as a running one.
+fn print_going_live<R: Clock + Print + AllocGlobal + Threads + Sync>(
+    rt: &R,
+    table: Fib<24, 8>,
+    routes: &[Route],
+    addrs: &[u32],
+    alone: Alone,
+) -> Result<()>
+    requires offline { (worker : ℕ) → worker < table.config.workers
+        → ¬ by_counters.is_online table.table.readers worker }
+{
     let (table, writer, mut bench) = go_live(rt.alloc(), table)?;
-    let mut readers = readers_of(rt.alloc(), &table, &mut bench)?;
     let mut changer = Changer::new(&table, writer);
-    print_at_rest(rt, &mut readers[0], addrs, listed, ascending)?;
-    print_changes(rt, &mut changer, &routes[..routes.len().min(SAMPLE)])?;
-    print_at_once(rt, readers.as_mut_slice(), &mut changer, routes, addrs)
+    print_live(rt, &table, &mut bench, &mut changer, routes, addrs, alone)
+}
+
+/// What lookups of the table take at these addresses, and at the ascending ones. It is an error if a worker is
+/// online.
+fn measure_left<R: Clock>(rt: &R, table: &Fib<24, 8>, addrs: &[u32]) -> Result<Alone>
+    ensures { OnOk result ((worker : ℕ) → worker < table.now.config.workers
+        → ¬ by_counters.is_online table.now.table.readers worker) }
+{
+    ensure!(is_left(table), "a worker is online");
+    let listed = measure_alone(rt, table, Addresses::Listed(addrs))?;
+    let ascending = measure_alone(rt, table, Addresses::Ascending)?;
+    Ok(Alone { listed, ascending })
+}
+
+/// Prints what lookups by the workers of the bench and changes by the writer take.
+fn print_live<R: Clock + Print + AllocGlobal + Threads + Sync>(
+    rt: &R,
+    table: &SharedTable<24, 8>,
+    bench: &mut Bench,
+    changer: &mut Changer<'_>,
+    routes: &[Route],
+    addrs: &[u32],
+    alone: Alone,
+) -> Result<()>
+    requires own { IsBenchOf table.now bench.old }
+{
+    let mut readers = readers_of(rt.alloc(), table, bench)?;
+    print_at_rest(rt, &mut readers[0], addrs, alone)?;
+    print_changes(rt, changer, &routes[..routes.len().min(SAMPLE)])?;
+    print_at_once(rt, readers.as_mut_slice(), changer, routes, addrs)
 }
 
 /// Whether no worker of the table is online.
@@ -78,17 +121,16 @@ fn print_at_rest<R: Clock + Print>(
     rt: &R,
     reader: &mut Reader<'_>,
     addrs: &[u32],
-    listed: Least,
-    ascending: Least,
+    alone: Alone,
 ) -> Result<()> {
     let pass = least_of(rt, reader, Lookups::Listed(addrs))?;
-    print_beside(rt, "pass, random", addrs.len(), pass, listed)?;
+    print_beside(rt, "pass, random", addrs.len(), pass, alone.listed)?;
     let fours = least_of(rt, reader, Lookups::Fours(addrs))?;
     print_beside(rt, "pass by fours, random", addrs.len(), fours, pass)?;
     let count = Addresses::Ascending.count();
     let pass = least_of(rt, reader, Lookups::Ascending)?;
-    print_beside(rt, "pass, ascending", count, pass, ascending)?;
-    let more = hundredths_of_nanos(pass.time.saturating_sub(ascending.time), count);
+    print_beside(rt, "pass, ascending", count, pass, alone.ascending)?;
+    let more = hundredths_of_nanos(pass.time.saturating_sub(alone.ascending.time), count);
     println!(rt; "difference, pass, ascending: {} ns each", Hundredths(more))?;
     Ok(())
 }

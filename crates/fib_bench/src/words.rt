@@ -8,11 +8,11 @@ use lpm_bits::Hop;
 use std::alloc::{AllocError, Global};
 
 /// The number of words of each of the two lists.
-const WORDS: usize = 1 << 24;
+const WORDS: usize = 16_777_216;
 /// In a word: it has a next hop, or a group.
-const VALID: u32 = 1 << 24;
+const VALID: u32 = 16_777_216;
 /// In a first word: the next hops stand in the group of this number.
-const GROUP: u32 = 3 << 24;
+const GROUP: u32 = 50_331_648;
 
 /// As many first words as the table has, and as many second ones.
 #[derive(Drop)]

@@ -21,24 +21,26 @@ fn main(rt: HostRuntime) -> Result<()> {
         ..Config::default()
     };
     let mut table = Table::open(rt.alloc(), limits)?;
+    use_table(&rt, &mut table)
+}
 
+fn use_table<R: Print>(rt: &R, table: &mut Table) -> Result<()> {
     // The worker goes online before its first lookup.
-    go_online(&mut table)?;
-    add_routes(&mut table)?;
-    look_up(&rt, &table)?;
-    delete_and_reclaim(&rt, &mut table)
+    go_online(table)?;
+    add_routes(table)?;
+    look_up(rt, table)?;
+    delete_and_reclaim(rt, table)
 }
 
 fn add_routes(table: &mut Table) -> Result<()> {
     // The default route covers every address.
-    table.add(&prefix([0, 0, 0, 0], 0)?, Hop::new(1)?)?;
+    add_route(table, [0, 0, 0, 0], 0, 1)?;
 
     // A longer route comes before a shorter one.
-    table.add(&prefix([10, 0, 0, 0], 8)?, Hop::new(2)?)?;
+    add_route(table, [10, 0, 0, 0], 8, 2)?;
 
     // A route of more than 24 bits needs a group, for the 256 addresses around it.
-    table.add(&prefix([10, 1, 2, 64], 26)?, Hop::new(3)?)?;
-    Ok(())
+    add_route(table, [10, 1, 2, 64], 26, 3)
 }
 
 fn look_up<R: Print>(rt: &R, table: &Table) -> Result<()> {
@@ -46,15 +48,14 @@ fn look_up<R: Print>(rt: &R, table: &Table) -> Result<()> {
     print_lookup(rt, table, [192, 0, 2, 1])?;
     print_lookup(rt, table, [10, 9, 8, 7])?;
     print_lookup(rt, table, [10, 1, 2, 65])?;
-    println!(rt; "{:?}", table.counts())?;
-    Ok(())
+    print_counts(rt, table)
 }
 
 fn delete_and_reclaim<R: Print>(rt: &R, table: &mut Table) -> Result<()> {
     // Delete the route of 26 bits: its group is unlinked, and waits in limbo.
     table.delete(&prefix([10, 1, 2, 64], 26)?)?;
     print_lookup(rt, table, [10, 1, 2, 65])?;
-    println!(rt; "{:?}", table.counts())?;
+    print_counts(rt, table)?;
 
     // Reclaim at most 16 groups: none is freed, since the worker may still read the one in limbo.
     println!(rt; "{:?}", table.reclaim(16))?;
@@ -64,8 +65,7 @@ fn delete_and_reclaim<R: Print>(rt: &R, table: &mut Table) -> Result<()> {
 
     // Reclaim again: no worker holds the group, so it is freed.
     println!(rt; "{:?}", table.reclaim(16))?;
-    println!(rt; "{:?}", table.counts())?;
-    Ok(())
+    print_counts(rt, table)
 }
 
 /// From now on the worker may hold each group that is unlinked.
@@ -84,6 +84,12 @@ fn end_lookups(table: &mut Table) -> Result<()> {
     Ok(())
 }
 
+/// Adds the route of this length that covers the address, with the next hop of this number.
+fn add_route(table: &mut Table, addr: [u8; 4], len: u32, hop: u32) -> Result<()> {
+    table.add(&prefix(addr, len)?, Hop::new(hop)?)?;
+    Ok(())
+}
+
 /// The prefix of this length that covers the address.
 fn prefix(addr: [u8; 4], len: u32) -> Result<Prefix<24, 8>> {
     Ok(Prefix::new(u32::from_be_bytes(addr), len)?)
@@ -95,5 +101,11 @@ fn print_lookup<R: Print>(rt: &R, table: &Table, addr: [u8; 4]) -> Result<()> {
         Some(hop) => println!(rt; "{text}: next hop {}", hop.number())?,
         None => println!(rt; "{text}: no route")?,
     }
+    Ok(())
+}
+
+/// Prints how many groups are in use, wait in limbo and are free.
+fn print_counts<R: Print>(rt: &R, table: &Table) -> Result<()> {
+    println!(rt; "{:?}", table.counts())?;
     Ok(())
 }

@@ -2,7 +2,7 @@
 //! opened, what comes of each, and after the last command the counts and what lookups find. The
 //! expected values were worked out by hand.
 
-ghost use Rattle.std.specs.Prelude.{◌≡◌, ◌≤◌, ◌<◌, IfOk, length};
+ghost use Rattle.std.specs.Prelude.{◌≡◌, ◌+◌, ◌≤◌, ◌<◌, IfOk, OnOk, length};
 
 use crate::Account;
 use defer_queue::Reclaimed;
@@ -168,16 +168,31 @@ pub fn lookups(alloc: Global) -> Result<Vec<Case>, AllocError>
     ensures { IfOk result (λ cases. length cases.items ≡ 9) }
 {
     let mut cases = Vec::new(alloc);
-    cases.push(empty_table(alloc)?)?;
-    cases.push(short_prefixes(alloc)?)?;
-    cases.push(three_routes(alloc)?)?;
-    cases.push(reverse_order(alloc)?)?;
-    cases.push(top_bit(alloc)?)?;
-    cases.push(host_bits(alloc)?)?;
-    cases.push(last_address(alloc)?)?;
-    cases.push(default_route(alloc)?)?;
-    cases.push(full_block(alloc)?)?;
+    push_lookups(alloc, &mut cases)?;
     Ok(cases)
+}
+
+/// Adds a case, or passes its error on.
+fn push(cases: &mut Vec<Case>, case: Result<Case, AllocError>) -> Result<(), AllocError>
+    ensures { OnOk result (length cases.new.items ≡ length cases.old.items + 1) }
+{
+    cases.push(case?)?;
+    Ok(())
+}
+
+fn push_lookups(alloc: Global, cases: &mut Vec<Case>) -> Result<(), AllocError>
+    ensures { OnOk result (length cases.new.items ≡ length cases.old.items + 9) }
+{
+    push(cases, empty_table(alloc))?;
+    push(cases, short_prefixes(alloc))?;
+    push(cases, three_routes(alloc))?;
+    push(cases, reverse_order(alloc))?;
+    push(cases, top_bit(alloc))?;
+    push(cases, host_bits(alloc))?;
+    push(cases, last_address(alloc))?;
+    push(cases, default_route(alloc))?;
+    push(cases, full_block(alloc))?;
+    Ok(())
 }
 
 /// The cases of updates, reports and reclaims.
@@ -185,21 +200,28 @@ pub fn updates(alloc: Global) -> Result<Vec<Case>, AllocError>
     ensures { IfOk result (λ cases. length cases.items ≡ 14) }
 {
     let mut cases = Vec::new(alloc);
-    cases.push(delete_then_reclaim(alloc)?)?;
-    cases.push(reclaimed_after_delete(alloc)?)?;
-    cases.push(one_group(alloc)?)?;
-    cases.push(held_group(alloc)?)?;
-    cases.push(outcomes(alloc)?)?;
-    cases.push(two_workers(alloc)?)?;
-    cases.push(threshold_zero(alloc)?)?;
-    cases.push(one_rule(alloc)?)?;
-    cases.push(flush_report(alloc)?)?;
-    cases.push(flush_three_groups(alloc)?)?;
-    cases.push(default_route_updates(alloc)?)?;
-    cases.push(exhausted_add(alloc)?)?;
-    cases.push(last_token(alloc)?)?;
-    cases.push(refused_reports(alloc)?)?;
+    push_updates(alloc, &mut cases)?;
     Ok(cases)
+}
+
+fn push_updates(alloc: Global, cases: &mut Vec<Case>) -> Result<(), AllocError>
+    ensures { OnOk result (length cases.new.items ≡ length cases.old.items + 14) }
+{
+    push(cases, delete_then_reclaim(alloc))?;
+    push(cases, reclaimed_after_delete(alloc))?;
+    push(cases, one_group(alloc))?;
+    push(cases, held_group(alloc))?;
+    push(cases, outcomes(alloc))?;
+    push(cases, two_workers(alloc))?;
+    push(cases, threshold_zero(alloc))?;
+    push(cases, one_rule(alloc))?;
+    push(cases, flush_report(alloc))?;
+    push(cases, flush_three_groups(alloc))?;
+    push(cases, default_route_updates(alloc))?;
+    push(cases, exhausted_add(alloc))?;
+    push(cases, last_token(alloc))?;
+    push(cases, refused_reports(alloc))?;
+    Ok(())
 }
 
 fn empty_table(alloc: Global) -> Result<Case, AllocError> {

@@ -21,7 +21,7 @@ pub(crate) struct Waiting {
 impl Waiting {
     ghost use Rattle.reader_intervals.specs.Intervals.{IsRunningSince, IsHeldByWorker, IsTidy};
     ghost use Rattle.fib_model.specs.Intervals.{by_reports, unlinkings_before, unlinkings};
-    ghost use Rattle.fib_model.specs.Reclaiming.{Reclaims, UnlinksOne, Unlinks};
+    ghost use Rattle.fib_model.specs.Reclaiming.{MakesRoom, Reclaims, UnlinksOne, Unlinks};
     ghost use Rattle.fib_model.specs.Textbook.{textbook, by_intervals};
     ghost use Rattle.fib_reference.specs.Expected.{IsSound, events_of, state_with};
     ghost use Rattle.fib_model.specs.Outcomes.{MayReport, Reports};
@@ -157,6 +157,19 @@ impl Waiting {
         Ok(())
     }
 
+    /// Reclaims where more wait than the threshold.
+    fn make_room(&mut self, config: &Config)
+        requires config { IsConfig config.now }
+        requires sound { IsSound config.now self.old }
+        ensures room { MakesRoom (textbook config.now) config.now (events_of self.old)
+            self.old.limbo.items self.new.limbo.items (events_of self.new) }
+        ensures events { self.new.events ≡ self.old.events }
+    {
+        if self.limbo.len() > config.threshold {
+            self.reclaim(config, config.reclaim_max);
+        }
+    }
+
     /// Unlinks a group: makes room where more wait than the threshold, and puts the unlinking last.
     fn unlink(&mut self, config: &Config) -> Result<(), AllocError>
         requires config { IsConfig config.now }
@@ -167,9 +180,7 @@ impl Waiting {
     {
         let place = self.events.len();
         self.events.push(Event::Unlinking)?;
-        if self.limbo.len() > config.threshold {
-            self.reclaim(config, config.reclaim_max);
-        }
+        self.make_room(config);
         self.limbo.push(place)?;
         Ok(())
     }
