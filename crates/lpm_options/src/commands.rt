@@ -1,7 +1,8 @@
 //! The commands of the program and their options, as the parser reads them.
 ghost use Rattle.std.specs.Prelude.{◌≡◌, IfOk, true, false};
-ghost use Rattle.clap.specs.Words.{app_of, rule_of};
+ghost use Rattle.clap.specs.Words.{App, app_of, rule_of, new_app, with_rule};
 ghost use Rattle.lpm_options.specs.Commands.{file_rule, number_rule, with_command, program_app};
+ghost use Rattle.lpm_options.specs.Commands.{with_file};
 ghost use Rattle.lpm_options.specs.Commands.{lookup_app, apply_app, report_app, migrate_app};
 ghost use Rattle.lpm_options.specs.Commands.{with_limits, with_sizes, with_reclaiming, the_app};
 
@@ -24,10 +25,10 @@ pub(crate) const WORKERS: Range = Range {
 pub(crate) fn whole_command<'a>(alloc: Global) -> Result<Command<'a>, AllocError>
     ensures { IfOk result (λ c. app_of c ≡ the_app) }
 {
-    let command = add(program(alloc), lookup_command(alloc)?)?;
-    let command = add(command, apply_command(alloc)?)?;
-    let command = add(command, report_command(alloc)?)?;
-    add(command, migrate_command(alloc)?)
+    let command = add_made(program(alloc), lookup_command(alloc))?;
+    let command = add_made(command, apply_command(alloc))?;
+    let command = add_made(command, report_command(alloc))?;
+    add_made(command, migrate_command(alloc))
 }
 
 fn program<'a>(alloc: Global) -> Command<'a>
@@ -38,6 +39,18 @@ fn program<'a>(alloc: Global) -> Command<'a>
         .about(help::PROGRAM)
         .after_long_help(help::AFTER_PROGRAM)
         .subcommand_required(true)
+}
+
+// The program with one command more, where there was memory to make it.
+fn add_made<'a>(
+    program: Command<'a>,
+    command: Result<Command<'a>, AllocError>,
+) -> Result<Command<'a>, AllocError>
+    requires { IfOk command (λ c. (app_of c).top.is_plain ≡ true) }
+    ensures { (app : App) → IfOk command.entry (λ c. app_of c ≡ app)
+        → IfOk result (λ c. app_of c ≡ with_command (app_of program.entry) app) }
+{
+    add(program, command?)
 }
 
 // The program with one command more.
@@ -52,47 +65,57 @@ fn add<'a>(program: Command<'a>, command: Command<'a>) -> Result<Command<'a>, Al
 fn lookup_command<'a>(alloc: Global) -> Result<Command<'a>, AllocError>
     ensures { IfOk result (λ c. app_of c ≡ lookup_app) }
 {
-    let command = Command::new(alloc, "lookup")
-        .about(help::LOOKUP)
-        .after_long_help(help::AFTER_LOOKUP);
-    let routes = file(alloc, "ROUTES", help::ROUTES);
-    let addresses = file(alloc, "ADDRESSES", help::ADDRESSES);
-    let command = command.arg(routes)?.arg(addresses)?;
+    let command = bare_command(alloc, "lookup", help::LOOKUP, help::AFTER_LOOKUP);
+    let command = with_file(alloc, command, "ROUTES", help::ROUTES)?;
+    let command = with_file(alloc, command, "ADDRESSES", help::ADDRESSES)?;
     with_limits(alloc, command)
 }
 
 fn apply_command<'a>(alloc: Global) -> Result<Command<'a>, AllocError>
     ensures { IfOk result (λ c. app_of c ≡ apply_app) }
 {
-    let command = Command::new(alloc, "apply")
-        .about(help::APPLY)
-        .after_long_help(help::AFTER_APPLY);
-    let routes = file(alloc, "ROUTES", help::ROUTES);
-    let updates = file(alloc, "UPDATES", help::UPDATES);
-    let addresses = file(alloc, "ADDRESSES", help::ADDRESSES);
-    let command = command.arg(routes)?.arg(updates)?.arg(addresses)?;
+    let command = bare_command(alloc, "apply", help::APPLY, help::AFTER_APPLY);
+    let command = with_file(alloc, command, "ROUTES", help::ROUTES)?;
+    let command = with_file(alloc, command, "UPDATES", help::UPDATES)?;
+    let command = with_file(alloc, command, "ADDRESSES", help::ADDRESSES)?;
     with_limits(alloc, command)
 }
 
 fn report_command<'a>(alloc: Global) -> Result<Command<'a>, AllocError>
     ensures { IfOk result (λ c. app_of c ≡ report_app) }
 {
-    let command = Command::new(alloc, "report")
-        .about(help::REPORT)
-        .after_long_help(help::AFTER_REPORT);
-    let routes = file(alloc, "ROUTES", help::ROUTES);
-    let updates = file(alloc, "UPDATES", help::UPDATES);
-    let command = command.arg(routes)?.arg(updates)?;
+    let command = bare_command(alloc, "report", help::REPORT, help::AFTER_REPORT);
+    let command = with_file(alloc, command, "ROUTES", help::ROUTES)?;
+    let command = with_file(alloc, command, "UPDATES", help::UPDATES)?;
     with_limits(alloc, command)
 }
 
 fn migrate_command<'a>(alloc: Global) -> Result<Command<'a>, AllocError>
     ensures { IfOk result (λ c. app_of c ≡ migrate_app) }
 {
-    Command::new(alloc, "migrate")
-        .about(help::MIGRATE)
-        .after_long_help(help::AFTER_MIGRATE)
-        .arg(file(alloc, "OLD", help::OLD))
+    let command = bare_command(alloc, "migrate", help::MIGRATE, help::AFTER_MIGRATE);
+    with_file(alloc, command, "OLD", help::OLD)
+}
+
+// A command of this name without arguments, and its texts of help.
+fn bare_command<'a>(alloc: Global, name: &'a str, about: &'a str, after: &'a str) -> Command<'a>
+    ensures { app_of result ≡ new_app name.entry.now }
+{
+    Command::new(alloc, name)
+        .about(about)
+        .after_long_help(after)
+}
+
+// The command with one file more.
+fn with_file<'a>(
+    alloc: Global,
+    command: Command<'a>,
+    id: &'a str,
+    help: &'a str,
+) -> Result<Command<'a>, AllocError>
+    ensures { IfOk result (λ c. app_of c ≡ with_file (app_of command.entry) id.entry.now) }
+{
+    command.arg(file(alloc, id, help))
 }
 
 // The options of each command that makes a table.
@@ -107,19 +130,53 @@ fn with_limits<'a>(alloc: Global, command: Command<'a>) -> Result<Command<'a>, A
 fn with_sizes<'a>(alloc: Global, command: Command<'a>) -> Result<Command<'a>, AllocError>
     ensures { IfOk result (λ c. app_of c ≡ with_sizes (app_of command.entry)) }
 {
-    let rules = number(alloc, "rules", Config::RULES, "1048576", help::RULES);
-    let groups = number(alloc, "groups", Config::GROUPS, "256", help::GROUPS);
-    let workers = number(alloc, "workers", WORKERS, "1", help::WORKERS);
-    command.arg(rules)?.arg(groups)?.arg(workers)
+    let command = with_number(
+        alloc,
+        command,
+        "rules",
+        Config::RULES,
+        "1048576",
+        help::RULES,
+    )?;
+    let command = with_number(
+        alloc,
+        command,
+        "groups",
+        Config::GROUPS,
+        "256",
+        help::GROUPS,
+    )?;
+    with_number(alloc, command, "workers", WORKERS, "1", help::WORKERS)
 }
 
 // The options that say when a change reclaims, and how much.
 fn with_reclaiming<'a>(alloc: Global, command: Command<'a>) -> Result<Command<'a>, AllocError>
     ensures { IfOk result (λ c. app_of c ≡ with_reclaiming (app_of command.entry)) }
 {
-    let threshold = number(alloc, "threshold", Config::THRESHOLD, "32", help::THRESHOLD);
-    let max = number(alloc, "max", Config::RECLAIM_MAX, "16", help::MAX);
-    command.arg(threshold)?.arg(max)
+    let command = with_number(
+        alloc,
+        command,
+        "threshold",
+        Config::THRESHOLD,
+        "32",
+        help::THRESHOLD,
+    )?;
+    with_number(alloc, command, "max", Config::RECLAIM_MAX, "16", help::MAX)
+}
+
+// The command with one option more, which takes a number of the range.
+fn with_number<'a>(
+    alloc: Global,
+    command: Command<'a>,
+    id: &'a str,
+    range: Range,
+    default: &'a str,
+    help: &'a str,
+) -> Result<Command<'a>, AllocError>
+    ensures { IfOk result (λ c. app_of c ≡ with_rule (app_of command.entry)
+        (number_rule id.entry.now range default.entry.now)) }
+{
+    command.arg(number(alloc, id, range, default, help))
 }
 
 // A file that the command wants, named by its place among the words.
