@@ -3,6 +3,8 @@
 #![tactic(auto)]
 
 #[cfg(test)]
+mod asserting;
+#[cfg(test)]
 mod laws;
 #[cfg(test)]
 mod table;

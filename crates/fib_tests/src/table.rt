@@ -1,6 +1,7 @@
 ghost use Rattle.lpm_bits.specs.Widths.{IsShape};
 
-use fib::{Fib, OpenError};
+use super::asserting::assert_at;
+use fib::{Fib, OpenError, Replay};
 use fib_model::{Command, Outcome, Report};
 use fib_reference::cases::{self, Case};
 use fib_reference::{Account, expected};
@@ -9,6 +10,7 @@ use lpm_groups::Counts;
 use lpm_rules::Put;
 use qsbr::{BadConfig, Busy, Config, Refusal};
 use std::alloc::{AllocError, Global};
+use std::fmt::Debug;
 use std::process::Abort;
 use std::test::Fail;
 
@@ -27,59 +29,94 @@ fn hop(rt: &impl Abort, number: u32) -> Hop {
     Hop::new(number).expect(rt, "a next hop")
 }
 
-// The outcomes of the commands so far, and the table's counts.
-fn account<const FIRST: u32, const SECOND: u32>(
-    fib: &Fib<FIRST, SECOND>,
-    outcomes: Vec<Outcome>,
-) -> Account {
-    let Counts {
-        in_use,
-        limbo,
-        free,
-    } = fib.counts();
-    Account {
-        outcomes,
-        rules: fib.rules(),
-        versions: fib.versions(),
-        in_use,
-        limbo,
-        free,
-        token: fib.token(),
+// The rules, the versions, the groups and the token number.
+type Figures = (usize, u64, Counts, u64);
+
+fn figures<const FIRST: u32, const SECOND: u32>(fib: &Fib<FIRST, SECOND>) -> Figures {
+    (fib.rules(), fib.versions(), fib.counts(), fib.token())
+}
+
+fn figures_of(account: &Account) -> Figures {
+    let counts = Counts {
+        in_use: account.in_use,
+        limbo: account.limbo,
+        free: account.free,
+    };
+    (account.rules, account.versions, counts, account.token)
+}
+
+// The commands come to what the account says.
+fn assert_executed<R: Debug + Copy, const FIRST: u32, const SECOND: u32>(
+    rt: &impl Abort,
+    alloc: Global,
+    row: R,
+    fib: &mut Fib<FIRST, SECOND>,
+    commands: &[Command<FIRST, SECOND>],
+    account: &Account,
+) -> Result<(), Fail> {
+    let outcomes = fib.execute_all(alloc, commands)?;
+    assert_at(rt, row, outcomes.as_slice(), account.outcomes.as_slice());
+    assert_at(rt, row, figures(fib), figures_of(account));
+    Ok(())
+}
+
+// A lookup of the address finds the next hop of this number.
+fn assert_number(rt: &impl Abort, name: &str, fib: &Fib<24, 8>, addr: u32, number: Option<u32>) {
+    assert!(rt; Shape::<24, 8>::is_addr(addr));
+    let found = fib.lookup(addr).map(|hop| hop.number());
+    assert_at(rt, (name, addr), found, number);
+}
+
+fn assert_numbers(rt: &impl Abort, name: &str, fib: &Fib<24, 8>, numbers: &[(u32, Option<u32>)]) {
+    for (addr, number) in numbers {
+        assert_number(rt, name, fib, *addr, *number);
     }
 }
 
-// The table does what was worked out by hand, and what the slow program computes.
-fn assert_case(rt: &impl Abort, alloc: Global, case: &Case) -> Result<(), Fail> {
+// The slow program computes what was worked out by hand.
+fn assert_computed(rt: &impl Abort, alloc: Global, case: &Case) -> Result<(), Fail> {
     let name = case.name;
-    let mut fib = Fib::<24, 8>::open(alloc, case.config)?;
-    let outcomes = fib.execute_all(alloc, &case.commands)?;
-    let got = account(&fib, outcomes);
-    assert_eq!(rt; got, case.account, "{name}");
     assert!(rt; case.config.check().is_ok(), "{name}");
     let computed = expected(alloc, &case.config, &case.commands)?;
-    assert_eq!(rt; got, computed, "{name}");
-    for (addr, number) in case.lookups.iter() {
-        assert!(rt; Shape::<24, 8>::is_addr(*addr));
-        let found = fib.lookup(*addr).map(|hop| hop.number());
-        assert_eq!(rt; found, *number, "{name} at {addr}");
+    assert_at(rt, name, &computed, &case.account);
+    Ok(())
+}
+
+fn assert_table(
+    rt: &impl Abort,
+    alloc: Global,
+    fib: &mut Fib<24, 8>,
+    case: &Case,
+) -> Result<(), Fail> {
+    assert_executed(rt, alloc, case.name, fib, &case.commands, &case.account)?;
+    assert_numbers(rt, case.name, fib, &case.lookups);
+    Ok(())
+}
+
+// The slow program and the table do what was worked out by hand.
+fn assert_case(rt: &impl Abort, alloc: Global, case: &Case) -> Result<(), Fail> {
+    assert_computed(rt, alloc, case)?;
+    let mut fib = Fib::<24, 8>::open(alloc, case.config)?;
+    assert_table(rt, alloc, &mut fib, case)
+}
+
+fn assert_cases(rt: &impl Abort, alloc: Global, cases: &[Case]) -> Result<(), Fail> {
+    for case in cases {
+        assert_case(rt, alloc, case)?;
     }
     Ok(())
 }
 
 #[test]
 fn lookup_cases(rt: HostRuntime) -> Result<(), Fail> {
-    for case in &cases::lookups(rt.alloc())? {
-        assert_case(&rt, rt.alloc(), case)?;
-    }
-    Ok(())
+    let cases = cases::lookups(rt.alloc())?;
+    assert_cases(&rt, rt.alloc(), &cases)
 }
 
 #[test]
 fn update_cases(rt: HostRuntime) -> Result<(), Fail> {
-    for case in &cases::updates(rt.alloc())? {
-        assert_case(&rt, rt.alloc(), case)?;
-    }
-    Ok(())
+    let cases = cases::updates(rt.alloc())?;
+    assert_cases(&rt, rt.alloc(), &cases)
 }
 
 // The next of a fixed list of numbers without a pattern, below 65,536.
@@ -117,24 +154,36 @@ fn hop_by_rules(rt: &impl Abort, fib: &Fib<4, 4>, addr: u32) -> Option<Hop> {
 // Each lookup answers what the rules alone say.
 fn assert_lookups(rt: &impl Abort, fib: &Fib<4, 4>) {
     for addr in 0..256u32 {
-        assert_eq!(rt; fib.lookup(addr), hop_by_rules(rt, fib, addr), "at {addr}");
+        assert_at(rt, addr, fib.lookup(addr), hop_by_rules(rt, fib, addr));
     }
 }
 
-// The table agrees with the slow program, and each lookup with the table's rules.
+const SMALL: Config = Config {
+    rules: 9,
+    groups: 3,
+    workers: 2,
+    threshold: 1,
+    reclaim_max: 1,
+    first_token: 1,
+};
+
+// The table, which was just opened, agrees with the slow program, and each lookup with the table's rules.
 fn assert_agrees(
     rt: &impl Abort,
     alloc: Global,
-    config: &Config,
+    fib: &mut Fib<4, 4>,
     commands: &[Command<4, 4>],
 ) -> Result<(), Fail> {
-    assert!(rt; config.check().is_ok());
-    let computed = expected(alloc, config, commands)?;
-    let mut fib = Fib::<4, 4>::open(alloc, *config)?;
-    let outcomes = fib.execute_all(alloc, commands)?;
-    assert_eq!(rt; account(&fib, outcomes), computed);
-    assert_lookups(rt, &fib);
+    assert!(rt; SMALL.check().is_ok());
+    let computed = expected(alloc, &SMALL, commands)?;
+    assert_executed(rt, alloc, commands.len(), fib, commands, &computed)?;
+    assert_lookups(rt, fib);
     Ok(())
+}
+
+fn assert_drawn(rt: &impl Abort, alloc: Global, commands: &[Command<4, 4>]) -> Result<(), Fail> {
+    let mut fib = Fib::<4, 4>::open(alloc, SMALL)?;
+    assert_agrees(rt, alloc, &mut fib, commands)
 }
 
 // Draws five more commands.
@@ -152,34 +201,26 @@ fn draw_more(
 // Each of many lists of commands, one longer than the other, comes out as the slow program says.
 #[test]
 fn drawn_commands(rt: HostRuntime) -> Result<(), Fail> {
-    let config = Config {
-        rules: 9,
-        groups: 3,
-        workers: 2,
-        threshold: 1,
-        reclaim_max: 1,
-        first_token: 1,
-    };
     let mut seed = 1;
     let mut commands = Vec::new(rt.alloc());
     for _ in 0..40 {
         draw_more(&rt, &mut seed, &mut commands)?;
-        assert_agrees(&rt, rt.alloc(), &config, &commands)?;
+        assert_drawn(&rt, rt.alloc(), &commands)?;
     }
     Ok(())
 }
 
+fn add(rt: &impl Abort, bits: u32, len: u32, number: u32) -> Command<24, 8> {
+    Command::Add(prefix(rt, bits, len), hop(rt, number))
+}
+
 // The additions of 10.0.0.0/8, 10.1.0.0/16 and 10.1.1.128/25.
-fn three_routes(rt: &impl Abort, alloc: Global) -> Result<Vec<Command<24, 8>>, AllocError> {
-    let mut commands = Vec::new(alloc);
-    for (bits, len, number) in [
-        (0x0a00_0000, 8, 1),
-        (0x0a01_0000, 16, 2),
-        (0x0a01_0180, 25, 3),
-    ] {
-        commands.push(Command::Add(prefix(rt, bits, len), hop(rt, number)))?;
-    }
-    Ok(commands)
+fn three_routes(rt: &impl Abort) -> [Command<24, 8>; 3] {
+    [
+        add(rt, 0x0a00_0000, 8, 1),
+        add(rt, 0x0a01_0000, 16, 2),
+        add(rt, 0x0a01_0180, 25, 3),
+    ]
 }
 
 // 10.1.1.128, 11.0.0.0, 10.1.1.127 and 10.2.0.0, and their next hops by the three routes.
@@ -187,41 +228,68 @@ const FOUR: [u32; 4] = [0x0a01_0180, 0x0b00_0000, 0x0a01_017f, 0x0a02_0000];
 
 fn assert_hops(rt: &impl Abort, hops: &[Option<Hop>]) {
     let numbers = [Some(3), None, Some(2), Some(1)];
-    assert_eq!(rt; hops.len(), 4);
+    assert_at(rt, "hops", hops.len(), 4);
     for (hop, number) in hops.iter().zip(numbers.iter()) {
-        assert_eq!(rt; hop.map(|hop| hop.number()), *number);
+        assert_at(rt, "hop", hop.map(|hop| hop.number()), *number);
     }
 }
 
 fn assert_reads(rt: &impl Abort, fib: &Fib<24, 8>) {
     let route = prefix(rt, 0x0a01_0000, 16);
-    assert_eq!(rt; fib.get(&route), Some(hop(rt, 2)));
-    assert!(rt; fib.prefetch(&route));
-    assert!(rt; !fib.prefetch(&prefix(rt, 0x0b00_0000, 8)));
-    assert_eq!(rt; fib.lookup4(FOUR, 99), [3, 99, 2, 1]);
+    let other = prefix(rt, 0x0b00_0000, 8);
+    assert_at(rt, "its rule", fib.get(&route), Some(hop(rt, 2)));
+    assert_at(rt, "covered", fib.prefetch(&route), true);
+    assert_at(rt, "uncovered", fib.prefetch(&other), false);
+    assert_at(rt, "lookup4", fib.lookup4(FOUR, 99), [3, 99, 2, 1]);
+    assert_at(rt, "config", fib.config(), Config::default());
+}
+
+fn assert_all_found(rt: &impl Abort, alloc: Global, fib: &Fib<24, 8>) -> Result<(), Fail> {
+    let hops = fib.lookup_all(alloc, &FOUR)?;
+    assert_hops(rt, &hops);
+    Ok(())
+}
+
+// The three routes are added, and then answer.
+fn assert_three_routes(rt: &impl Abort, fib: &mut Fib<24, 8>) {
+    for command in &three_routes(rt) {
+        let outcome = fib.execute(command);
+        assert_at(rt, *command, outcome, Outcome::Put(Put::Added));
+    }
+    assert_reads(rt, fib);
 }
 
 #[test]
 fn lookups_of_three_routes(rt: HostRuntime) -> Result<(), Fail> {
-    let commands = three_routes(&rt, rt.alloc())?;
     let mut fib = Fib::<24, 8>::open(rt.alloc(), Config::default())?;
-    for command in &commands {
-        assert_eq!(rt; fib.execute(command), Outcome::Put(Put::Added));
-    }
-    assert_reads(&rt, &fib);
-    assert_hops(&rt, &fib.lookup_all(rt.alloc(), &FOUR)?);
-    assert_eq!(rt; fib.config(), Config::default());
-    Ok(())
+    assert_three_routes(&rt, &mut fib);
+    assert_all_found(&rt, rt.alloc(), &fib)
+}
+
+fn assert_replay(rt: &impl Abort, replay: &Replay) {
+    let Counts {
+        in_use,
+        limbo,
+        free,
+    } = replay.counts;
+    let counts = (replay.rules, replay.versions, replay.token);
+    assert_at(rt, "rules, versions, token", counts, (3, 3, 1));
+    assert_at(rt, "groups", (in_use, limbo, free), (1, 0, 255));
+    assert_hops(rt, &replay.hops);
 }
 
 #[test]
 fn replay_of_three_routes(rt: HostRuntime) -> Result<(), Fail> {
-    let commands = three_routes(&rt, rt.alloc())?;
+    let commands = three_routes(&rt);
     let replay = Fib::<24, 8>::replay(rt.alloc(), Config::default(), &commands, &FOUR)?;
-    assert_hops(&rt, &replay.hops);
-    assert_eq!(rt; (replay.rules, replay.versions, replay.token), (3, 3, 1));
-    let counts = replay.counts;
-    assert_eq!(rt; (counts.in_use, counts.limbo, counts.free), (1, 0, 255));
+    assert_replay(&rt, &replay);
+    Ok(())
+}
+
+fn assert_texts(rt: &impl Abort, alloc: Global) -> Result<(), Fail> {
+    let text = format!(in alloc; "{}, {}", OpenError::BadConfig, OpenError::Memory)?;
+    let wanted = "a limit of the table is outside its range, out of memory";
+    assert_at(rt, "texts", text.as_str(), wanted);
     Ok(())
 }
 
@@ -232,15 +300,41 @@ fn configs(rt: HostRuntime) -> Result<(), Fail> {
         ..Config::default()
     };
     let refused = Fib::<24, 8>::open(rt.alloc(), config).err();
-    assert_eq!(rt; refused, Some(OpenError::BadConfig));
-    let text = format!(in rt.alloc(); "{}, {}", OpenError::BadConfig, OpenError::Memory)?;
-    assert_eq!(rt;
-        text.as_str(),
-        "a limit of the table is outside its range, out of memory"
+    assert_at(&rt, "no groups", refused, Some(OpenError::BadConfig));
+    let bad_config = OpenError::from(BadConfig);
+    assert_at(&rt, "bad config", bad_config, OpenError::BadConfig);
+    assert_at(
+        &rt,
+        "memory",
+        OpenError::from(AllocError),
+        OpenError::Memory,
     );
-    assert_eq!(rt; OpenError::from(BadConfig), OpenError::BadConfig);
-    assert_eq!(rt; OpenError::from(AllocError), OpenError::Memory);
-    Ok(())
+    assert_texts(&rt, rt.alloc())
+}
+
+// Worker 0 holds the group of a rule that came and went.
+fn hold_a_group(rt: &impl Abort, fib: &mut Fib<24, 8>) {
+    let route = prefix(rt, 0x0a00_0000, 25);
+    if fib.config().workers > 0 && !fib.is_online(0) {
+        fib.online(0);
+    }
+    assert_at(rt, "it comes", fib.add(&route, hop(rt, 1)), Ok(Put::Added));
+    assert_at(rt, "it goes", fib.delete(&route), Ok(hop(rt, 1)));
+}
+
+// A rule in another block finds no group, and everything stays as it was.
+fn assert_refused(rt: &impl Abort, fib: &mut Fib<24, 8>) {
+    let route = prefix(rt, 0x0a00_0100, 25);
+    let before = figures(fib);
+    let oldest = Some(Busy {
+        worker: 0,
+        counter: 1,
+    });
+    let refused = Err(Refusal::NoGroups { oldest });
+    assert_at(rt, "an add", fib.add(&route, hop(rt, 2)), refused);
+    assert_at(rt, "counts", figures(fib), before);
+    assert_at(rt, "lookup", fib.lookup(0x0a00_0100), Some(hop(rt, 7)));
+    assert_at(rt, "rule", fib.get(&route), None);
 }
 
 // A refused change leaves everything as it was, and the worker that holds the group is named.
@@ -251,28 +345,27 @@ fn a_refusal_changes_nothing(rt: HostRuntime) -> Result<(), Fail> {
         ..Config::default()
     };
     let mut fib = Fib::<24, 8>::open(rt.alloc(), config)?;
-    let first = prefix(&rt, 0x0a00_0000, 25);
-    let second = prefix(&rt, 0x0a00_0100, 25);
     let cover = prefix(&rt, 0x0a00_0000, 8);
-    assert_eq!(rt; fib.add(&cover, hop(&rt, 7)), Ok(Put::Added));
-    if fib.config().workers > 0 && !fib.is_online(0) {
-        fib.online(0);
-    }
-    assert_eq!(rt; fib.add(&first, hop(&rt, 1)), Ok(Put::Added));
-    assert_eq!(rt; fib.delete(&first), Ok(hop(&rt, 1)));
-    let before = account(&fib, Vec::new(rt.alloc()));
-    let oldest = Some(Busy {
-        worker: 0,
-        counter: 1,
-    });
-    assert_eq!(rt;
-        fib.add(&second, hop(&rt, 2)),
-        Err(Refusal::NoGroups { oldest })
-    );
-    assert_eq!(rt; account(&fib, Vec::new(rt.alloc())), before);
-    assert_eq!(rt; fib.lookup(0x0a00_0100), Some(hop(&rt, 7)));
-    assert_eq!(rt; fib.get(&second), None);
+    let added = fib.add(&cover, hop(&rt, 7));
+    assert_at(&rt, "cover", added, Ok(Put::Added));
+    hold_a_group(&rt, &mut fib);
+    assert_refused(&rt, &mut fib);
     Ok(())
+}
+
+// The rule is added, at the latest by the second try; the first, where it's refused, changes nothing.
+fn assert_grows(rt: &impl Abort, fib: &mut Fib<4, 4>) {
+    let route = prefix(rt, 0x12, 8);
+    let before = (0, 0, fib.counts(), 1);
+    if fib.add(&route, hop(rt, 3)) == Err(Refusal::Memory) {
+        let found = (fib.get(&route), fib.lookup(0x12));
+        assert_at(rt, "refused", figures(fib), before);
+        assert_at(rt, "no rule", found, (None, None));
+        assert_at(rt, "again", fib.add(&route, hop(rt, 3)), Ok(Put::Added));
+    }
+    let counts = (fib.rules(), fib.versions(), fib.token());
+    assert_at(rt, "rules, versions, token", counts, (1, 1, 1));
+    assert_at(rt, "lookup", fib.lookup(0x12), Some(hop(rt, 3)));
 }
 
 // A growth that is refused leaves everything as it was, and the same addition then succeeds. Memory runs
@@ -284,15 +377,6 @@ fn a_refused_growth(rt: HostRuntime) -> Result<(), Fail> {
         ..Config::default()
     };
     let mut fib = Fib::<4, 4>::open(rt.alloc(), config)?;
-    let route = prefix(&rt, 0x12, 8);
-    let old = fib.counts();
-    if fib.add(&route, hop(&rt, 3)) == Err(Refusal::Memory) {
-        assert_eq!(rt; (fib.rules(), fib.versions(), fib.token()), (0, 0, 1));
-        assert_eq!(rt; fib.counts(), old);
-        assert_eq!(rt; (fib.get(&route), fib.lookup(0x12)), (None, None));
-        assert_eq!(rt; fib.add(&route, hop(&rt, 3)), Ok(Put::Added));
-    }
-    assert_eq!(rt; (fib.rules(), fib.versions(), fib.token()), (1, 1, 1));
-    assert_eq!(rt; fib.lookup(0x12), Some(hop(&rt, 3)));
+    assert_grows(&rt, &mut fib);
     Ok(())
 }
