@@ -1,6 +1,6 @@
 //! Files of one byte, and files that are cut.
 
-use super::cases::ending;
+use super::cases::{Ending, assert_ends};
 use super::fakes::{Named, whole};
 use std::process::Abort;
 use std::slice;
@@ -24,31 +24,29 @@ static BYTES: [u8; 256] = [
     250, 251, 252, 253, 254, 255,
 ];
 
-// The command on a file of this byte, and its first fault where the byte isn't blank.
-fn one_byte<'a, R: Abort + AllocGlobal + Threads + Sync>(
+const LOOKUP: &str = "lpmtool lookup r a";
+
+const APPLY: &str = "lpmtool apply r u a";
+
+// The command on a file of this byte ends in its first fault where the byte isn't blank.
+fn assert_one_byte<'a, R: Abort + AllocGlobal + Threads + Sync>(
     rt: &R,
-    words: &[&str],
+    line: &str,
     files: &'a [Named<'a>],
     byte: u8,
     fault: &str,
 ) -> Result<(), Fail> {
-    let is_empty = matches!(byte, b' ' | b'\t' | b'\n' | b'#');
-    let (status, out, err) = ending(rt, words, &whole(files))?;
-    let wanted = if is_empty {
-        (0, "", "")
-    } else {
-        (4, "", fault)
-    };
-    assert_eq!(rt; (status, out.as_str(), err.as_str()), wanted, "{byte}");
-    Ok(())
+    if matches!(byte, b' ' | b'\t' | b'\n' | b'#') {
+        return assert_ends(rt, byte, line, &whole(files), (0, "", ""));
+    }
+    assert_ends(rt, byte, line, &whole(files), (4, "", fault))
 }
 
 #[test]
 fn route_files_of_one_byte(rt: HostRuntime) -> Result<(), Fail> {
     for byte in &BYTES {
         let files = [("r", slice::from_ref(byte)), ("a", [].as_slice())];
-        let words = ["lpmtool", "lookup", "r", "a"];
-        one_byte(&rt, &words, &files, *byte, "lpmtool: r:1: bad fields\n")?;
+        assert_one_byte(&rt, LOOKUP, &files, *byte, "lpmtool: r:1: bad fields\n")?;
     }
     Ok(())
 }
@@ -57,8 +55,7 @@ fn route_files_of_one_byte(rt: HostRuntime) -> Result<(), Fail> {
 fn address_files_of_one_byte(rt: HostRuntime) -> Result<(), Fail> {
     for byte in &BYTES {
         let files = [("r", [].as_slice()), ("a", slice::from_ref(byte))];
-        let words = ["lpmtool", "lookup", "r", "a"];
-        one_byte(&rt, &words, &files, *byte, "lpmtool: a:1: bad address\n")?;
+        assert_one_byte(&rt, LOOKUP, &files, *byte, "lpmtool: a:1: bad address\n")?;
     }
     Ok(())
 }
@@ -74,8 +71,7 @@ fn update_files_of_one_byte(rt: HostRuntime) -> Result<(), Fail> {
             ("u", updates.as_slice()),
             ("a", [].as_slice()),
         ];
-        let words = ["lpmtool", "apply", "r", "u", "a"];
-        one_byte(&rt, &words, &files, *byte, "lpmtool: u:2: bad word\n")?;
+        assert_one_byte(&rt, APPLY, &files, *byte, "lpmtool: u:2: bad word\n")?;
     }
     Ok(())
 }
@@ -85,7 +81,7 @@ const ROUTES: &[u8; 43] = b"10.0.0.0/8 1\n10.1.0.0/16 2\n10.1.1.128/25 3\n";
 const ADDRESSES: &[u8] = b"10.1.1.128\n";
 
 // How a lookup in the first bytes of the route file ends.
-fn cut_at(bytes: usize) -> (u8, &'static str, &'static str) {
+fn cut_at(bytes: usize) -> Ending<'static> {
     match bytes {
         0 => (0, "10.1.1.128 -\n", ""),
         12 | 13 => (0, "10.1.1.128 1\n", ""),
@@ -101,20 +97,14 @@ fn cut_at(bytes: usize) -> (u8, &'static str, &'static str) {
 fn a_route_file_that_is_cut(rt: HostRuntime) -> Result<(), Fail> {
     for bytes in 0..=ROUTES.len() {
         let files = [("r", &ROUTES[..bytes]), ("a", ADDRESSES)];
-        let words = ["lpmtool", "lookup", "r", "a"];
-        let (status, out, err) = ending(&rt, &words, &whole(&files))?;
-        assert_eq!(rt;
-            (status, out.as_str(), err.as_str()),
-            cut_at(bytes),
-            "{bytes}"
-        );
+        assert_ends(&rt, bytes, LOOKUP, &whole(&files), cut_at(bytes))?;
     }
     Ok(())
 }
 
 // How a lookup of the first bytes of the address file ends: where a whole address is left, however
 // few digits its last octet has, the lookup answers it.
-fn cut_address_at(bytes: usize) -> (u8, &'static str, &'static str) {
+fn cut_address_at(bytes: usize) -> Ending<'static> {
     match bytes {
         0 => (0, "", ""),
         8 => (0, "10.1.1.1 2\n", ""),
@@ -128,13 +118,7 @@ fn cut_address_at(bytes: usize) -> (u8, &'static str, &'static str) {
 fn an_address_file_that_is_cut(rt: HostRuntime) -> Result<(), Fail> {
     for bytes in 0..=ADDRESSES.len() {
         let files = [("r", ROUTES.as_slice()), ("a", &ADDRESSES[..bytes])];
-        let words = ["lpmtool", "lookup", "r", "a"];
-        let (status, out, err) = ending(&rt, &words, &whole(&files))?;
-        assert_eq!(rt;
-            (status, out.as_str(), err.as_str()),
-            cut_address_at(bytes),
-            "{bytes}"
-        );
+        assert_ends(&rt, bytes, LOOKUP, &whole(&files), cut_address_at(bytes))?;
     }
     Ok(())
 }
@@ -142,7 +126,7 @@ fn an_address_file_that_is_cut(rt: HostRuntime) -> Result<(), Fail> {
 const UPDATES: &[u8; 37] = b"lpm-updates 2\nadd 10.0.0.0/8 1\nflush\n";
 
 // How an apply of the first bytes of the update file ends.
-fn cut_update_at(bytes: usize) -> (u8, &'static str, &'static str) {
+fn cut_update_at(bytes: usize) -> Ending<'static> {
     match bytes {
         13 | 14 => (0, "", ""),
         30 | 31 => (0, "added\n", ""),
@@ -162,13 +146,7 @@ fn an_update_file_that_is_cut(rt: HostRuntime) -> Result<(), Fail> {
             ("u", &UPDATES[..bytes]),
             ("a", [].as_slice()),
         ];
-        let words = ["lpmtool", "apply", "r", "u", "a"];
-        let (status, out, err) = ending(&rt, &words, &whole(&files))?;
-        assert_eq!(rt;
-            (status, out.as_str(), err.as_str()),
-            cut_update_at(bytes),
-            "{bytes}"
-        );
+        assert_ends(&rt, bytes, APPLY, &whole(&files), cut_update_at(bytes))?;
     }
     Ok(())
 }

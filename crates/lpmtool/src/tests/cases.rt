@@ -1,49 +1,53 @@
-//! A case: words, files, and how a run of them ends.
+//! A run of a command line, and how it ends.
 
-use super::fakes::{AtBad, BreakingFiles, Named, whole, writer};
+use super::fakes::{AtBad, BreakingFiles, Short, writer};
 use crate::run::run;
+use std::fmt::Debug;
 use std::process::Abort;
 use std::test::Fail;
 use std::thread::Threads;
 
-/// The words after the program's name, the files, the exit status, and the texts on standard output
-/// and standard error.
-pub struct Case {
-    pub name: &'static str,
-    pub words: &'static [&'static str],
-    pub files: &'static [Named<'static>],
-    pub status: u8,
-    pub out: &'static str,
-    pub err: &'static str,
+/// The exit status, and the texts on standard output and standard error.
+pub type Ending<'a> = (u8, &'a str, &'a str);
+
+/// The exit status of a run of the words of this line.
+pub(crate) fn run_line<R: AllocGlobal + Threads + Sync>(
+    rt: &R,
+    line: &str,
+    files: &BreakingFiles<'_>,
+    out: &mut Short,
+    err: &mut Short,
+) -> Result<u8, Fail> {
+    let words: Vec<&str> = line.split_whitespace().collect(rt.alloc())?;
+    Ok(run(rt, rt.alloc(), words.as_slice(), files, out, err))
 }
 
-/// How a run of these words and files ends: its status and its two texts.
-pub(crate) fn ending<R: Abort + AllocGlobal + Threads + Sync>(
+/// What was written, which is text.
+pub(crate) fn text<'a>(rt: &impl Abort, writer: &'a Short) -> &'a str {
+    str::from_utf8(&writer.got).expect(rt, "a text")
+}
+
+/// What was found is what is wanted; else the message names the row.
+pub(crate) fn assert_at<N: Debug + Copy, T: PartialEq + Debug + Copy>(
+    rt: &impl Abort,
+    row: N,
+    found: T,
+    wanted: T,
+) {
+    assert_eq!(rt; found, wanted, "{row:?}");
+}
+
+/// A run of this line with these files ends so.
+pub(crate) fn assert_ends<R: Abort + AllocGlobal + Threads + Sync, N: Debug + Copy>(
     rt: &R,
-    words: &[&str],
+    row: N,
+    line: &str,
     files: &BreakingFiles<'_>,
-) -> Result<(u8, String, String), Fail> {
+    ending: Ending<'_>,
+) -> Result<(), Fail> {
     let mut out = writer(rt.alloc(), 0, AtBad::Fails);
     let mut err = writer(rt.alloc(), 0, AtBad::Fails);
-    let status = run(rt, rt.alloc(), words, files, &mut out, &mut err);
-    let out = String::from_utf8(out.got)?;
-    let err = String::from_utf8(err.got)?;
-    Ok((status, out, err))
-}
-
-/// Runs each case.
-pub(crate) fn run_cases<R: Abort + AllocGlobal + Threads + Sync>(
-    rt: &R,
-    cases: &[Case],
-) -> Result<(), Fail> {
-    for case in cases {
-        let (status, out, err) = ending(rt, case.words, &whole(case.files))?;
-        assert_eq!(rt;
-            (status, out.as_str(), err.as_str()),
-            (case.status, case.out, case.err),
-            "{}",
-            case.name
-        );
-    }
+    let status = run_line(rt, line, files, &mut out, &mut err)?;
+    assert_at(rt, row, (status, text(rt, &out), text(rt, &err)), ending);
     Ok(())
 }

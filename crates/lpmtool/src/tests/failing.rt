@@ -1,8 +1,7 @@
 //! Reads and writes that fail.
 
-use super::cases::ending;
+use super::cases::{Ending, assert_at, assert_ends, run_line, text};
 use super::fakes::{AtBad, BreakingFiles, Named, whole, writer};
-use crate::run::run;
 use std::io::ErrorKind;
 use std::process::Abort;
 use std::test::Fail;
@@ -21,161 +20,127 @@ const FILES: [Named<'static>; 4] = [
     ("o", b"flush\n"),
 ];
 
-// The words of a command, and its files, each with the number of reads that are made of it: one for
-// each byte, and one that finds the end.
-type Reads = (&'static [&'static str], &'static [(&'static str, usize)]);
+const LOOKUP: &str = "lpmtool lookup r a";
 
-const READS: [Reads; 4] = [
-    (&["lpmtool", "lookup", "r", "a"], &[("r", 14), ("a", 19)]),
-    (
-        &["lpmtool", "apply", "r", "u", "a"],
-        &[("r", 14), ("u", 21), ("a", 19)],
-    ),
-    (&["lpmtool", "report", "r", "u"], &[("r", 14), ("u", 21)]),
-    (&["lpmtool", "migrate", "o"], &[("o", 7)]),
+const APPLY: &str = "lpmtool apply r u a";
+
+const REPORT: &str = "lpmtool report r u";
+
+const MIGRATE: &str = "lpmtool migrate o";
+
+// A command, and each of its files with the number of reads that are made of it: one for each byte,
+// and one that finds the end.
+static READS: [(&str, &str, usize); 8] = [
+    (LOOKUP, "r", 14),
+    (LOOKUP, "a", 19),
+    (APPLY, "r", 14),
+    (APPLY, "u", 21),
+    (APPLY, "a", 19),
+    (REPORT, "r", 14),
+    (REPORT, "u", 21),
+    (MIGRATE, "o", 7),
 ];
 
-// How a run ends at which a read fails.
-fn broken<R: Abort + AllocGlobal + Threads + Sync>(
+// A run ends so at which a read fails.
+fn assert_broken<R: Abort + AllocGlobal + Threads + Sync>(
     rt: &R,
-    words: &[&str],
+    line: &str,
     breaks: &str,
     bad: usize,
     kind: ErrorKind,
-) -> Result<(u8, String, String), Fail> {
+    ending: Ending<'_>,
+) -> Result<(), Fail> {
     let files = BreakingFiles {
         files: &FILES,
         breaks,
         bad,
         kind,
     };
-    ending(rt, words, &files)
+    assert_ends(rt, (line, breaks, bad), line, &files, ending)
 }
 
 // Each read of the file fails in turn.
 fn each_read_fails<R: Abort + AllocGlobal + Threads + Sync>(
     rt: &R,
-    words: &[&str],
+    line: &str,
     breaks: &str,
     reads: usize,
 ) -> Result<(), Fail> {
+    let fault = format!(in rt.alloc(); "lpmtool: cannot read {breaks}\n")?;
     for bad in 1..=reads {
-        let (status, out, err) = broken(rt, words, breaks, bad, ErrorKind::Other)?;
-        let text = format!(in rt.alloc(); "lpmtool: cannot read {breaks}\n")?;
-        assert_eq!(rt;
-            (status, out.as_str(), err.as_str()),
-            (3, "", text.as_str()),
-            "{words:?} {bad}"
-        );
+        let ending = (3, "", fault.as_str());
+        assert_broken(rt, line, breaks, bad, ErrorKind::Other, ending)?;
     }
-    Ok(())
-}
-
-// A read for which memory is wanted.
-fn a_read_wants_memory<R: Abort + AllocGlobal + Threads + Sync>(
-    rt: &R,
-    words: &[&str],
-    breaks: &str,
-) -> Result<(), Fail> {
-    let (status, out, err) = broken(rt, words, breaks, 3, ErrorKind::OutOfMemory)?;
-    assert_eq!(rt;
-        (status, out.as_str(), err.as_str()),
-        (5, "", "lpmtool: out of memory\n"),
-        "{words:?} {breaks}"
-    );
     Ok(())
 }
 
 #[test]
 fn reads_that_fail(rt: HostRuntime) -> Result<(), Fail> {
-    for (words, files) in READS {
-        for (breaks, reads) in files {
-            each_read_fails(&rt, words, breaks, *reads)?;
-            a_read_wants_memory(&rt, words, breaks)?;
-        }
+    let wants_memory = (5, "", "lpmtool: out of memory\n");
+    for (line, breaks, reads) in &READS {
+        each_read_fails(&rt, line, breaks, *reads)?;
+        assert_broken(&rt, line, breaks, 3, ErrorKind::OutOfMemory, wants_memory)?;
     }
     Ok(())
 }
 
-// How a run ends with a writer that is bad at one of its calls.
-fn written<R: Abort + AllocGlobal + Threads + Sync>(
-    rt: &R,
-    words: &[&str],
-    bad: usize,
-    at_bad: AtBad,
-) -> Result<(u8, String, String), Fail> {
-    let mut out = writer(rt.alloc(), bad, at_bad);
-    let mut err = writer(rt.alloc(), 0, AtBad::Fails);
-    let status = run(rt, rt.alloc(), words, &whole(&FILES), &mut out, &mut err);
-    let out = String::from_utf8(out.got)?;
-    let err = String::from_utf8(err.got)?;
-    Ok((status, out, err))
-}
-
-// The words of a command, its text, and the number of writes of at most three bytes that it takes.
-type Writes = (&'static [&'static str], &'static str, usize);
-
-const WRITES: [Writes; 4] = [
+// A command, its text, and the number of writes of at most three bytes that it takes.
+static WRITES: [(&str, &str, usize); 4] = [
+    (LOOKUP, "10.1.1.1 1\n11.0.0.0 -\n", 8),
+    (APPLY, "flushed 1\n10.1.1.1 -\n11.0.0.0 -\n", 11),
     (
-        &["lpmtool", "lookup", "r", "a"],
-        "10.1.1.1 1\n11.0.0.0 -\n",
-        8,
-    ),
-    (
-        &["lpmtool", "apply", "r", "u", "a"],
-        "flushed 1\n10.1.1.1 -\n11.0.0.0 -\n",
-        11,
-    ),
-    (
-        &["lpmtool", "report", "r", "u"],
+        REPORT,
         "rules 0\nversions 2\nin use 0\nlimbo 0\nfree 256\ntoken 1\n",
         18,
     ),
-    (&["lpmtool", "migrate", "o"], "lpm-updates 2\nflush\n", 7),
+    (MIGRATE, "lpm-updates 2\nflush\n", 7),
 ];
 
-// A write fails or takes no byte: what the earlier ones took is a beginning of the text.
-fn each_write_fails<R: Abort + AllocGlobal + Threads + Sync>(
-    rt: &R,
-    words: &[&str],
-    text: &str,
-    writes: usize,
-    at_bad: AtBad,
-) -> Result<(), Fail> {
-    for bad in 1..=writes {
-        let (status, out, err) = written(rt, words, bad, at_bad)?;
-        assert_eq!(rt;
-            (status, err.as_str()),
-            (3, "lpmtool: cannot write\n"),
-            "{words:?} {bad}"
-        );
-        assert_eq!(rt; out.len(), (bad - 1).saturating_mul(3), "{words:?} {bad}");
-        assert!(rt; text.starts_with(out.as_str()), "{words:?} {bad}");
-    }
-    Ok(())
+// A run can't write, and what the earlier writes took is a beginning of the text.
+fn assert_stopped(rt: &impl Abort, row: (&str, usize), ending: Ending<'_>, text: &str) {
+    let (status, out, err) = ending;
+    let (_, bad) = row;
+    assert_at(rt, row, err, "lpmtool: cannot write\n");
+    assert_at(rt, row, status, 3);
+    assert_at(rt, row, out.len(), bad.saturating_sub(1).saturating_mul(3));
+    assert_at(rt, row, text.starts_with(out), true);
 }
 
-// A write that was interrupted is made again.
-fn each_write_is_interrupted<R: Abort + AllocGlobal + Threads + Sync>(
+// A write that was interrupted is made again: the text is whole.
+fn assert_whole(rt: &impl Abort, row: (&str, usize), ending: Ending<'_>, text: &str) {
+    let (status, out, err) = ending;
+    assert_at(rt, row, (status, err.len()), (0, 0));
+    assert_at(rt, row, out, text);
+}
+
+// A run of which one write is bad.
+fn assert_written<R: Abort + AllocGlobal + Threads + Sync>(
     rt: &R,
-    words: &[&str],
-    text: &str,
-    writes: usize,
+    line: &str,
+    whole_text: &str,
+    bad: usize,
+    at_bad: AtBad,
 ) -> Result<(), Fail> {
-    for bad in 1..=writes {
-        let (status, out, err) = written(rt, words, bad, AtBad::IsInterrupted)?;
-        assert_eq!(rt; (status, err.len()), (0, 0), "{words:?} {bad}");
-        assert!(rt; out.as_str() == text, "{words:?} {bad}");
+    let mut out = writer(rt.alloc(), bad, at_bad);
+    let mut err = writer(rt.alloc(), 0, AtBad::Fails);
+    let status = run_line(rt, line, &whole(&FILES), &mut out, &mut err)?;
+    let ending = (status, text(rt, &out), text(rt, &err));
+    if at_bad == AtBad::IsInterrupted {
+        assert_whole(rt, (line, bad), ending, whole_text);
+    } else {
+        assert_stopped(rt, (line, bad), ending, whole_text);
     }
     Ok(())
 }
 
 #[test]
 fn writes_that_fail(rt: HostRuntime) -> Result<(), Fail> {
-    for (words, text, writes) in WRITES {
-        each_write_fails(&rt, words, text, writes, AtBad::Fails)?;
-        each_write_fails(&rt, words, text, writes, AtBad::TakesNone)?;
-        each_write_is_interrupted(&rt, words, text, writes)?;
+    for (line, text, writes) in &WRITES {
+        for bad in 1..=*writes {
+            assert_written(&rt, line, text, bad, AtBad::Fails)?;
+            assert_written(&rt, line, text, bad, AtBad::TakesNone)?;
+            assert_written(&rt, line, text, bad, AtBad::IsInterrupted)?;
+        }
     }
     Ok(())
 }

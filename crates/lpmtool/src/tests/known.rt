@@ -6,13 +6,13 @@ ghost use Rattle.lpm_commands.specs.Apply.{IsApplyText};
 ghost use Rattle.lpm_commands.specs.Report.{IsReportText};
 ghost use Rattle.lpm_commands.specs.Migrate.{IsMigrateText};
 
+use super::cases::assert_at;
 use bulk::Open;
 use lpm_commands::{Files, apply, lookup, migrate, report};
 use qsbr::Config;
 use std::alloc::Global;
 use std::io;
 use std::io::Read;
-use std::test::Fail;
 use std::thread::Threads;
 
 // Bytes that are left to read.
@@ -121,22 +121,28 @@ const UPDATES: &str = "lpm-updates 2\ndel 10.1.1.128/25\n";
 
 const ADDRESSES: &str = "10.1.1.128\n";
 
-const REPORT: &str = "rules 1\nversions 3\nin use 0\nlimbo 1\nfree 255\ntoken 2\n";
+const OLD: &str = "del 1.2.3.4/8\n";
+
+// What the four commands write, one after the other.
+const TEXT: &str = "10.1.1.128 3\ndeleted 3\n10.1.1.128 1\n\
+    rules 1\nversions 3\nin use 0\nlimbo 1\nfree 255\ntoken 2\n\
+    lpm-updates 2\ndel 1.0.0.0/8\n";
+
+// Runs the four commands. Which of them were done.
+fn run_each<R: Threads + Sync>(rt: &R, alloc: Global, out: &mut Vec<u8>) -> [bool; 4] {
+    let config = Config::default();
+    [
+        known_lookup(rt, alloc, ROUTES, ADDRESSES, config, out),
+        known_apply(rt, alloc, ROUTES, UPDATES, ADDRESSES, config, out),
+        known_report(alloc, ROUTES, UPDATES, config, out),
+        known_migrate(alloc, OLD, out),
+    ]
+}
 
 #[test]
-fn known_bytes_in_and_out(rt: HostRuntime) -> Result<(), Fail> {
-    let config = Config::default();
-    let alloc = rt.alloc();
-    let mut out = Vec::new(alloc);
-    assert!(rt; known_lookup(&rt, alloc, ROUTES, ADDRESSES, config, &mut out));
-    assert!(rt; known_apply(&rt, alloc, ROUTES, UPDATES, ADDRESSES, config, &mut out));
-    assert!(rt; known_report(alloc, ROUTES, UPDATES, config, &mut out));
-    assert!(rt; known_migrate(alloc, "del 1.2.3.4/8\n", &mut out));
-    let text = String::from_utf8(out)?;
-    let text = text
-        .strip_prefix("10.1.1.128 3\ndeleted 3\n10.1.1.128 1\n")
-        .ok_or("answers")?;
-    let text = text.strip_prefix(REPORT).ok_or("report")?;
-    assert_eq!(rt; text, "lpm-updates 2\ndel 1.0.0.0/8\n");
-    Ok(())
+fn known_bytes_in_and_out(rt: HostRuntime) {
+    let mut out = Vec::new(rt.alloc());
+    let done = run_each(&rt, rt.alloc(), &mut out);
+    assert_at(&rt, "done", done, [true; 4]);
+    assert_at(&rt, "text", str::from_utf8(&out), Ok(TEXT));
 }

@@ -1,12 +1,12 @@
 //! Two pieces that must see each other before each address: they run at once.
 
+use super::cases::assert_at;
 use super::fakes::{Named, whole};
 use bulk::Gate;
 use lpm_commands::lookup;
 use qsbr::Config;
 use std::process::Abort;
 use std::sync::atomic::{AtomicBool, Ordering};
-use std::test::Fail;
 
 // How often a call looks for the other piece, before it notes that it missed it.
 const MOST_LOADS: u32 = 1_000_000_000;
@@ -76,8 +76,14 @@ const FILES: [Named<'static>; 2] = [
 const TEXT: &str = "10.0.0.1 1\n10.0.0.2 1\n10.0.0.3 1\n10.0.0.4 1\n11.0.0.1 -\n11.0.0.2 -\n\
     11.0.0.3 -\n11.0.0.4 -\n";
 
+// The lookup is done, and wrote each answer.
+fn assert_answers(rt: &impl Abort, is_done: bool, out: &[u8]) {
+    assert_at(rt, "done", is_done, true);
+    assert_at(rt, "answers", str::from_utf8(out), Ok(TEXT));
+}
+
 #[test]
-fn two_pieces_see_each_other(rt: HostRuntime) -> Result<(), Fail> {
+fn two_pieces_see_each_other(rt: HostRuntime) {
     let gate = new_meeting();
     let config = Config {
         workers: 2,
@@ -86,8 +92,6 @@ fn two_pieces_see_each_other(rt: HostRuntime) -> Result<(), Fail> {
     let mut out = Vec::new(rt.alloc());
     let files = whole(&FILES);
     let done = lookup(&rt, rt.alloc(), &files, "r", "a", config, &gate, &mut out);
-    assert!(rt; done.is_ok());
+    assert_answers(&rt, done.is_ok(), &out);
     assert_met(&rt, &gate);
-    assert_eq!(rt; String::from_utf8(out)?.as_str(), TEXT);
-    Ok(())
 }

@@ -1,64 +1,82 @@
 //! `migrate`: worked cases.
 
-use super::cases::{Case, run_cases};
+use super::cases::{Ending, assert_ends};
+use super::fakes::whole;
+use std::process::Abort;
 use std::test::Fail;
+use std::thread::Threads;
+
+// A migration of the update file of version 1 that is file `o`, and how it ends.
+struct Migration {
+    name: &'static str,
+    line: &'static str,
+    old: &'static str,
+    ending: Ending<'static>,
+}
+
+fn assert_migration<R: Abort + AllocGlobal + Threads + Sync>(
+    rt: &R,
+    migration: &Migration,
+) -> Result<(), Fail> {
+    let files = [("o", migration.old.as_bytes())];
+    assert_ends(
+        rt,
+        migration.name,
+        migration.line,
+        &whole(&files),
+        migration.ending,
+    )
+}
 
 // Update files of version 1.
-const MIGRATED: [Case; 6] = [
-    Case {
+static MIGRATED: [Migration; 6] = [
+    Migration {
         name: "an example",
-        words: &["lpmtool", "migrate", "o"],
-        files: &[("o", b"# nightly\nadd   10.1.2.3/8   5\nflush\n")],
-        status: 0,
-        out: "lpm-updates 2\nadd 10.0.0.0/8 5\nflush\n",
-        err: "",
+        line: "lpmtool migrate o",
+        old: "# nightly\nadd   10.1.2.3/8   5\nflush\n",
+        ending: (0, "lpm-updates 2\nadd 10.0.0.0/8 5\nflush\n", ""),
     },
-    Case {
+    Migration {
         name: "migrate-edges",
-        words: &["lpmtool", "migrate", "o"],
-        files: &[("o", b"")],
-        status: 0,
-        out: "lpm-updates 2\n",
-        err: "",
+        line: "lpmtool migrate o",
+        old: "",
+        ending: (0, "lpm-updates 2\n", ""),
     },
-    Case {
+    Migration {
         name: "migrate-edges",
-        words: &["lpmtool", "migrate", "o"],
-        files: &[("o", b"lpm-updates 2\n")],
-        status: 4,
-        out: "",
-        err: "lpmtool: o:1: bad word\n",
+        line: "lpmtool migrate o",
+        old: "lpm-updates 2\n",
+        ending: (4, "", "lpmtool: o:1: bad word\n"),
     },
-    Case {
+    Migration {
         name: "each word",
-        words: &["lpmtool", "migrate", "o"],
-        files: &[(
-            "o",
-            b"\tdel 1.2.3.4/32\r\nreclaim 65536\n\nonline 4294967295\noffline 0\nquiescent 7",
-        )],
-        status: 0,
-        out: "lpm-updates 2\ndel 1.2.3.4/32\nreclaim 65536\nonline 4294967295\noffline 0\nquiescent 7\n",
-        err: "",
+        line: "lpmtool migrate o",
+        old: "\tdel 1.2.3.4/32\r\nreclaim 65536\n\nonline 4294967295\noffline 0\nquiescent 7",
+        ending: (
+            0,
+            "lpm-updates 2\ndel 1.2.3.4/32\nreclaim 65536\nonline 4294967295\noffline 0\n\
+            quiescent 7\n",
+            "",
+        ),
     },
-    Case {
+    Migration {
         name: "a fault after a comment",
-        words: &["lpmtool", "migrate", "o"],
-        files: &[("o", b"# c\nflush\nflush 1\n")],
-        status: 4,
-        out: "",
-        err: "lpmtool: o:3: bad fields\n",
+        line: "lpmtool migrate o",
+        old: "# c\nflush\nflush 1\n",
+        ending: (4, "", "lpmtool: o:3: bad fields\n"),
     },
-    Case {
+    Migration {
         name: "no such file",
-        words: &["lpmtool", "migrate", "gone"],
-        files: &[("o", b"")],
-        status: 3,
-        out: "",
-        err: "lpmtool: cannot read gone\n",
+        line: "lpmtool migrate gone",
+        old: "",
+        ending: (3, "", "lpmtool: cannot read gone\n"),
     },
 ];
 
 #[test]
 fn files_of_version_1(rt: HostRuntime) -> Result<(), Fail> {
-    run_cases(&rt, &MIGRATED)
+    for migration in &MIGRATED {
+        assert_migration(&rt, migration)?;
+    }
+    Ok(())
 }

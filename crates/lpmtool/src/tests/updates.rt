@@ -1,500 +1,395 @@
 //! `apply` and `report`: worked cases.
 
-use super::cases::{Case, ending, run_cases};
+use super::cases::{Ending, assert_ends};
 use super::fakes::whole;
 use std::alloc::Global;
+use std::process::Abort;
 use std::test::Fail;
+use std::thread::Threads;
+
+// An apply of the updates of file `u` to the routes of file `r`, with a lookup of the addresses of file
+// `a`, and how it ends.
+struct Apply {
+    name: &'static str,
+    line: &'static str,
+    routes: &'static str,
+    updates: &'static str,
+    addresses: &'static str,
+    ending: Ending<'static>,
+}
+
+fn assert_apply<R: Abort + AllocGlobal + Threads + Sync>(
+    rt: &R,
+    apply: &Apply,
+) -> Result<(), Fail> {
+    let files = [
+        ("r", apply.routes.as_bytes()),
+        ("u", apply.updates.as_bytes()),
+        ("a", apply.addresses.as_bytes()),
+    ];
+    assert_ends(rt, apply.name, apply.line, &whole(&files), apply.ending)
+}
+
+// A report on the updates of file `u` to the routes of file `r`, and its text.
+struct Report {
+    name: &'static str,
+    line: &'static str,
+    routes: &'static str,
+    updates: &'static str,
+    text: &'static str,
+}
+
+fn assert_report<R: Abort + AllocGlobal + Threads + Sync>(
+    rt: &R,
+    report: &Report,
+) -> Result<(), Fail> {
+    let files = [
+        ("r", report.routes.as_bytes()),
+        ("u", report.updates.as_bytes()),
+    ];
+    let ending = (0, report.text, "");
+    assert_ends(rt, report.name, report.line, &whole(&files), ending)
+}
 
 // What comes of updates.
-const APPLIED: [Case; 11] = [
-    Case {
+static APPLIED: [Apply; 11] = [
+    Apply {
         name: "delete-then-reclaim",
-        words: &["lpmtool", "apply", "r", "u", "a"],
-        files: &[
-            ("r", b"10.0.0.0/8 1\n10.1.0.0/16 2\n10.1.1.128/25 3\n"),
-            ("u", b"lpm-updates 2\ndel 10.1.1.128/25\n"),
-            ("a", b"10.1.1.128\n"),
-        ],
-        status: 0,
-        out: "deleted 3\n10.1.1.128 2\n",
-        err: "",
+        line: "lpmtool apply r u a",
+        routes: "10.0.0.0/8 1\n10.1.0.0/16 2\n10.1.1.128/25 3\n",
+        updates: "lpm-updates 2\ndel 10.1.1.128/25\n",
+        addresses: "10.1.1.128\n",
+        ending: (0, "deleted 3\n10.1.1.128 2\n", ""),
     },
-    Case {
+    Apply {
         name: "delete-then-reclaim",
-        words: &["lpmtool", "apply", "r", "u", "a"],
-        files: &[
-            ("r", b"10.0.0.0/8 1\n10.1.0.0/16 2\n10.1.1.128/25 3\n"),
-            ("u", b"lpm-updates 2\ndel 10.1.1.128/25\nreclaim 16\n"),
-            ("a", b"10.1.1.128\n"),
-        ],
-        status: 0,
-        out: "deleted 3\nreclaimed 1\n10.1.1.128 2\n",
-        err: "",
+        line: "lpmtool apply r u a",
+        routes: "10.0.0.0/8 1\n10.1.0.0/16 2\n10.1.1.128/25 3\n",
+        updates: "lpm-updates 2\ndel 10.1.1.128/25\nreclaim 16\n",
+        addresses: "10.1.1.128\n",
+        ending: (0, "deleted 3\nreclaimed 1\n10.1.1.128 2\n", ""),
     },
-    Case {
+    Apply {
         name: "one-group",
-        words: &["lpmtool", "apply", "--groups", "1", "r", "u", "a"],
-        files: &[
-            ("r", b""),
-            (
-                "u",
-                b"lpm-updates 2\nadd 10.0.0.0/25 1\nadd 10.0.1.0/25 2\n",
-            ),
-            ("a", b""),
-        ],
-        status: 0,
-        out: "added\nrefused 7 NoGroups\n",
-        err: "",
+        line: "lpmtool apply --groups 1 r u a",
+        routes: "",
+        updates: "lpm-updates 2\nadd 10.0.0.0/25 1\nadd 10.0.1.0/25 2\n",
+        addresses: "",
+        ending: (0, "added\nrefused 7 NoGroups\n", ""),
     },
-    Case {
+    Apply {
         name: "held-group",
-        words: &["lpmtool", "apply", "--groups", "1", "r", "u", "a"],
-        files: &[
-            ("r", b""),
-            (
-                "u",
-                b"lpm-updates 2\nonline 0\nadd 10.0.0.0/25 1\ndel 10.0.0.0/25\n\
-                    add 10.0.1.0/25 2\nquiescent 0\nadd 10.0.1.0/25 2\n",
-            ),
-            ("a", b""),
-        ],
-        status: 0,
-        out: "ok\nadded\ndeleted 1\nrefused 7 NoGroups worker 0 counter 1\nok\nadded\n",
-        err: "",
+        line: "lpmtool apply --groups 1 r u a",
+        routes: "",
+        updates: "lpm-updates 2\nonline 0\nadd 10.0.0.0/25 1\ndel 10.0.0.0/25\n\
+            add 10.0.1.0/25 2\nquiescent 0\nadd 10.0.1.0/25 2\n",
+        addresses: "",
+        ending: (
+            0,
+            "ok\nadded\ndeleted 1\nrefused 7 NoGroups worker 0 counter 1\nok\nadded\n",
+            "",
+        ),
     },
-    Case {
+    Apply {
         name: "outcomes",
-        words: &["lpmtool", "apply", "r", "u", "a"],
-        files: &[
-            ("r", b""),
-            (
-                "u",
-                b"lpm-updates 2\nadd 10.0.0.0/8 1\nadd 10.0.0.0/8 1\nadd 10.0.0.0/8 2\n\
-                    del 10.0.0.0/8\ndel 10.0.0.0/8\n",
-            ),
-            ("a", b""),
-        ],
-        status: 0,
-        out: "added\nunchanged\nreplaced\ndeleted 2\nrefused 4 NoSuchRule\n",
-        err: "",
+        line: "lpmtool apply r u a",
+        routes: "",
+        updates: "lpm-updates 2\nadd 10.0.0.0/8 1\nadd 10.0.0.0/8 1\nadd 10.0.0.0/8 2\n\
+            del 10.0.0.0/8\ndel 10.0.0.0/8\n",
+        addresses: "",
+        ending: (
+            0,
+            "added\nunchanged\nreplaced\ndeleted 2\nrefused 4 NoSuchRule\n",
+            "",
+        ),
     },
-    Case {
+    Apply {
         name: "two-workers",
-        words: &["lpmtool", "apply", "--workers", "2", "r", "u", "a"],
-        files: &[
-            ("r", b""),
-            (
-                "u",
-                b"lpm-updates 2\nadd 10.0.0.0/25 1\nadd 10.0.1.0/25 2\nonline 0\n\
-                    del 10.0.0.0/25\nonline 1\ndel 10.0.1.0/25\nreclaim 16\nquiescent 0\n\
-                    reclaim 16\noffline 1\nreclaim 16\n",
-            ),
-            ("a", b""),
-        ],
-        status: 0,
-        out: "added\nadded\nok\ndeleted 1\nok\ndeleted 2\n\
+        line: "lpmtool apply --workers 2 r u a",
+        routes: "",
+        updates: "lpm-updates 2\nadd 10.0.0.0/25 1\nadd 10.0.1.0/25 2\nonline 0\n\
+            del 10.0.0.0/25\nonline 1\ndel 10.0.1.0/25\nreclaim 16\nquiescent 0\nreclaim 16\n\
+            offline 1\nreclaim 16\n",
+        addresses: "",
+        ending: (
+            0,
+            "added\nadded\nok\ndeleted 1\nok\ndeleted 2\n\
             reclaimed 0 stopped worker 0 counter 1\nok\nreclaimed 1 stopped worker 1 counter 2\n\
             ok\nreclaimed 1\n",
-        err: "",
+            "",
+        ),
     },
-    Case {
+    Apply {
         name: "one-rule",
-        words: &["lpmtool", "apply", "--rules", "1", "r", "u", "a"],
-        files: &[
-            ("r", b""),
-            (
-                "u",
-                b"lpm-updates 2\nadd 10.0.0.0/8 1\nadd 11.0.0.0/8 1\nadd 10.0.0.0/8 5\n",
-            ),
-            ("a", b""),
-        ],
-        status: 0,
-        out: "added\nrefused 3 TooManyRules\nreplaced\n",
-        err: "",
+        line: "lpmtool apply --rules 1 r u a",
+        routes: "",
+        updates: "lpm-updates 2\nadd 10.0.0.0/8 1\nadd 11.0.0.0/8 1\nadd 10.0.0.0/8 5\n",
+        addresses: "",
+        ending: (0, "added\nrefused 3 TooManyRules\nreplaced\n", ""),
     },
-    Case {
+    Apply {
         name: "flush-report",
-        words: &["lpmtool", "apply", "r", "u", "a"],
-        files: &[
-            ("r", b"10.0.0.0/8 1\n10.1.0.0/16 2\n10.1.1.128/25 3\n"),
-            ("u", b"lpm-updates 2\nflush\n"),
-            ("a", b""),
-        ],
-        status: 0,
-        out: "flushed 3\n",
-        err: "",
+        line: "lpmtool apply r u a",
+        routes: "10.0.0.0/8 1\n10.1.0.0/16 2\n10.1.1.128/25 3\n",
+        updates: "lpm-updates 2\nflush\n",
+        addresses: "",
+        ending: (0, "flushed 3\n", ""),
     },
-    Case {
+    Apply {
         name: "flush-three-groups",
-        words: &[
-            "lpmtool",
-            "apply",
-            "--groups",
-            "3",
-            "--threshold",
-            "0",
-            "r",
-            "u",
-            "a",
-        ],
-        files: &[
-            ("r", b""),
-            (
-                "u",
-                b"lpm-updates 2\nadd 10.0.0.0/25 1\nadd 10.0.1.0/25 2\nadd 10.0.2.0/25 3\nflush\n",
-            ),
-            ("a", b""),
-        ],
-        status: 0,
-        out: "added\nadded\nadded\nflushed 3\n",
-        err: "",
+        line: "lpmtool apply --groups 3 --threshold 0 r u a",
+        routes: "",
+        updates: "lpm-updates 2\nadd 10.0.0.0/25 1\nadd 10.0.1.0/25 2\nadd 10.0.2.0/25 3\nflush\n",
+        addresses: "",
+        ending: (0, "added\nadded\nadded\nflushed 3\n", ""),
     },
-    Case {
+    Apply {
         name: "default-route-updates",
-        words: &["lpmtool", "apply", "r", "u", "a"],
-        files: &[
-            ("r", b""),
-            (
-                "u",
-                b"lpm-updates 2\nadd 1.2.3.4/0 1\nadd 0.0.0.0/0 1\nadd 10.0.0.0/8 2\ndel 10.0.0.0/8\n",
-            ),
-            ("a", b"10.0.0.0\n"),
-        ],
-        status: 0,
-        out: "added\nunchanged\nadded\ndeleted 2\n10.0.0.0 1\n",
-        err: "",
+        line: "lpmtool apply r u a",
+        routes: "",
+        updates: "lpm-updates 2\nadd 1.2.3.4/0 1\nadd 0.0.0.0/0 1\nadd 10.0.0.0/8 2\ndel 10.0.0.0/8\n",
+        addresses: "10.0.0.0\n",
+        ending: (0, "added\nunchanged\nadded\ndeleted 2\n10.0.0.0 1\n", ""),
     },
-    Case {
+    Apply {
         name: "reports of workers",
-        words: &["lpmtool", "apply", "r", "u", "a"],
-        files: &[
-            ("r", b""),
-            (
-                "u",
-                b"lpm-updates 2\noffline 0\nquiescent 0\nonline 0\nonline 0\nonline 1\noffline 0\n",
-            ),
-            ("a", b""),
-        ],
-        status: 0,
-        out: "refused 13 NotOnline\nrefused 13 NotOnline\nok\nrefused 14 AlreadyOnline\n\
+        line: "lpmtool apply r u a",
+        routes: "",
+        updates: "lpm-updates 2\noffline 0\nquiescent 0\nonline 0\nonline 0\nonline 1\noffline 0\n",
+        addresses: "",
+        ending: (
+            0,
+            "refused 13 NotOnline\nrefused 13 NotOnline\nok\nrefused 14 AlreadyOnline\n\
             refused 10 NoSuchWorker\nok\n",
-        err: "",
+            "",
+        ),
     },
 ];
 
 // What is counted after updates.
-const REPORTED: [Case; 9] = [
-    Case {
+static REPORTED: [Report; 9] = [
+    Report {
         name: "delete-then-reclaim",
-        words: &["lpmtool", "report", "r", "u"],
-        files: &[
-            ("r", b"10.0.0.0/8 1\n10.1.0.0/16 2\n10.1.1.128/25 3\n"),
-            ("u", b"lpm-updates 2\ndel 10.1.1.128/25\n"),
-        ],
-        status: 0,
-        out: "rules 2\nversions 4\nin use 0\nlimbo 1\nfree 255\ntoken 2\n",
-        err: "",
+        line: "lpmtool report r u",
+        routes: "10.0.0.0/8 1\n10.1.0.0/16 2\n10.1.1.128/25 3\n",
+        updates: "lpm-updates 2\ndel 10.1.1.128/25\n",
+        text: "rules 2\nversions 4\nin use 0\nlimbo 1\nfree 255\ntoken 2\n",
     },
-    Case {
+    Report {
         name: "delete-then-reclaim",
-        words: &["lpmtool", "report", "r", "u"],
-        files: &[
-            ("r", b"10.0.0.0/8 1\n10.1.0.0/16 2\n10.1.1.128/25 3\n"),
-            ("u", b"lpm-updates 2\ndel 10.1.1.128/25\nreclaim 16\n"),
-        ],
-        status: 0,
-        out: "rules 2\nversions 4\nin use 0\nlimbo 0\nfree 256\ntoken 2\n",
-        err: "",
+        line: "lpmtool report r u",
+        routes: "10.0.0.0/8 1\n10.1.0.0/16 2\n10.1.1.128/25 3\n",
+        updates: "lpm-updates 2\ndel 10.1.1.128/25\nreclaim 16\n",
+        text: "rules 2\nversions 4\nin use 0\nlimbo 0\nfree 256\ntoken 2\n",
     },
-    Case {
+    Report {
         name: "one-group",
-        words: &["lpmtool", "report", "--groups", "1", "r", "u"],
-        files: &[
-            ("r", b""),
-            (
-                "u",
-                b"lpm-updates 2\nadd 10.0.0.0/25 1\nadd 10.0.1.0/25 2\n",
-            ),
-        ],
-        status: 0,
-        out: "rules 1\nversions 1\nin use 1\nlimbo 0\nfree 0\ntoken 1\n",
-        err: "",
+        line: "lpmtool report --groups 1 r u",
+        routes: "",
+        updates: "lpm-updates 2\nadd 10.0.0.0/25 1\nadd 10.0.1.0/25 2\n",
+        text: "rules 1\nversions 1\nin use 1\nlimbo 0\nfree 0\ntoken 1\n",
     },
-    Case {
+    Report {
         name: "held-group",
-        words: &["lpmtool", "report", "--groups", "1", "r", "u"],
-        files: &[
-            ("r", b""),
-            (
-                "u",
-                b"lpm-updates 2\nonline 0\nadd 10.0.0.0/25 1\ndel 10.0.0.0/25\n\
-                    add 10.0.1.0/25 2\nquiescent 0\nadd 10.0.1.0/25 2\n",
-            ),
-        ],
-        status: 0,
-        out: "rules 1\nversions 3\nin use 1\nlimbo 0\nfree 0\ntoken 2\n",
-        err: "",
+        line: "lpmtool report --groups 1 r u",
+        routes: "",
+        updates: "lpm-updates 2\nonline 0\nadd 10.0.0.0/25 1\ndel 10.0.0.0/25\n\
+            add 10.0.1.0/25 2\nquiescent 0\nadd 10.0.1.0/25 2\n",
+        text: "rules 1\nversions 3\nin use 1\nlimbo 0\nfree 0\ntoken 2\n",
     },
-    Case {
+    Report {
         name: "outcomes",
-        words: &["lpmtool", "report", "r", "u"],
-        files: &[
-            ("r", b""),
-            (
-                "u",
-                b"lpm-updates 2\nadd 10.0.0.0/8 1\nadd 10.0.0.0/8 1\nadd 10.0.0.0/8 2\n\
-                    del 10.0.0.0/8\ndel 10.0.0.0/8\n",
-            ),
-        ],
-        status: 0,
-        out: "rules 0\nversions 3\nin use 0\nlimbo 0\nfree 256\ntoken 1\n",
-        err: "",
+        line: "lpmtool report r u",
+        routes: "",
+        updates: "lpm-updates 2\nadd 10.0.0.0/8 1\nadd 10.0.0.0/8 1\nadd 10.0.0.0/8 2\n\
+            del 10.0.0.0/8\ndel 10.0.0.0/8\n",
+        text: "rules 0\nversions 3\nin use 0\nlimbo 0\nfree 256\ntoken 1\n",
     },
-    Case {
+    Report {
         name: "threshold-zero",
-        words: &[
-            "lpmtool",
-            "report",
-            "--groups",
-            "4",
-            "--threshold",
-            "0",
-            "--workers",
-            "0",
-            "r",
-            "u",
-        ],
-        files: &[
-            ("r", b""),
-            (
-                "u",
-                b"lpm-updates 2\nadd 10.0.0.0/25 1\nadd 10.0.1.0/25 2\ndel 10.0.0.0/25\ndel 10.0.1.0/25\n",
-            ),
-        ],
-        status: 0,
-        out: "rules 0\nversions 4\nin use 0\nlimbo 1\nfree 3\ntoken 3\n",
-        err: "",
+        line: "lpmtool report --groups 4 --threshold 0 --workers 0 r u",
+        routes: "",
+        updates: "lpm-updates 2\nadd 10.0.0.0/25 1\nadd 10.0.1.0/25 2\ndel 10.0.0.0/25\n\
+            del 10.0.1.0/25\n",
+        text: "rules 0\nversions 4\nin use 0\nlimbo 1\nfree 3\ntoken 3\n",
     },
-    Case {
+    Report {
         name: "flush-report",
-        words: &["lpmtool", "report", "r", "u"],
-        files: &[
-            ("r", b"10.0.0.0/8 1\n10.1.0.0/16 2\n10.1.1.128/25 3\n"),
-            ("u", b"lpm-updates 2\nflush\n"),
-        ],
-        status: 0,
-        out: "rules 0\nversions 4\nin use 0\nlimbo 1\nfree 255\ntoken 2\n",
-        err: "",
+        line: "lpmtool report r u",
+        routes: "10.0.0.0/8 1\n10.1.0.0/16 2\n10.1.1.128/25 3\n",
+        updates: "lpm-updates 2\nflush\n",
+        text: "rules 0\nversions 4\nin use 0\nlimbo 1\nfree 255\ntoken 2\n",
     },
-    Case {
+    Report {
         name: "flush-three-groups",
-        words: &[
-            "lpmtool",
-            "report",
-            "--groups",
-            "3",
-            "--threshold",
-            "0",
-            "r",
-            "u",
-        ],
-        files: &[
-            ("r", b""),
-            (
-                "u",
-                b"lpm-updates 2\nadd 10.0.0.0/25 1\nadd 10.0.1.0/25 2\nadd 10.0.2.0/25 3\nflush\n",
-            ),
-        ],
-        status: 0,
-        out: "rules 0\nversions 4\nin use 0\nlimbo 1\nfree 2\ntoken 4\n",
-        err: "",
+        line: "lpmtool report --groups 3 --threshold 0 r u",
+        routes: "",
+        updates: "lpm-updates 2\nadd 10.0.0.0/25 1\nadd 10.0.1.0/25 2\nadd 10.0.2.0/25 3\nflush\n",
+        text: "rules 0\nversions 4\nin use 0\nlimbo 1\nfree 2\ntoken 4\n",
     },
-    Case {
+    Report {
         name: "three-routes",
-        words: &["lpmtool", "report", "r", "u"],
-        files: &[
-            ("r", b"10.0.0.0/8 1\n10.1.0.0/16 2\n10.1.1.128/25 3\n"),
-            ("u", b"lpm-updates 2\n"),
-        ],
-        status: 0,
-        out: "rules 3\nversions 3\nin use 1\nlimbo 0\nfree 255\ntoken 1\n",
-        err: "",
+        line: "lpmtool report r u",
+        routes: "10.0.0.0/8 1\n10.1.0.0/16 2\n10.1.1.128/25 3\n",
+        updates: "lpm-updates 2\n",
+        text: "rules 3\nversions 3\nin use 1\nlimbo 0\nfree 255\ntoken 1\n",
     },
 ];
 
 // Faults and refusals.
-const FAULTY: [Case; 16] = [
-    Case {
+static FAULTY: [Apply; 16] = [
+    Apply {
         name: "wrong-fields",
-        words: &["lpmtool", "apply", "r", "u", "a"],
-        files: &[
-            ("r", b""),
-            ("u", b"lpm-updates 2\nadd 10.0.0.0/8\n"),
-            ("a", b""),
-        ],
-        status: 4,
-        out: "",
-        err: "lpmtool: u:2: bad fields\n",
+        line: "lpmtool apply r u a",
+        routes: "",
+        updates: "lpm-updates 2\nadd 10.0.0.0/8\n",
+        addresses: "",
+        ending: (4, "", "lpmtool: u:2: bad fields\n"),
     },
-    Case {
+    Apply {
         name: "wrong-fields",
-        words: &["lpmtool", "apply", "r", "u", "a"],
-        files: &[("r", b""), ("u", b"lpm-updates 2\nflush now\n"), ("a", b"")],
-        status: 4,
-        out: "",
-        err: "lpmtool: u:2: bad fields\n",
+        line: "lpmtool apply r u a",
+        routes: "",
+        updates: "lpm-updates 2\nflush now\n",
+        addresses: "",
+        ending: (4, "", "lpmtool: u:2: bad fields\n"),
     },
-    Case {
+    Apply {
         name: "wrong-word",
-        words: &["lpmtool", "apply", "r", "u", "a"],
-        files: &[
-            ("r", b""),
-            ("u", b"lpm-updates 2\nput 10.0.0.0/8 1\n"),
-            ("a", b""),
-        ],
-        status: 4,
-        out: "",
-        err: "lpmtool: u:2: bad word\n",
+        line: "lpmtool apply r u a",
+        routes: "",
+        updates: "lpm-updates 2\nput 10.0.0.0/8 1\n",
+        addresses: "",
+        ending: (4, "", "lpmtool: u:2: bad word\n"),
     },
-    Case {
+    Apply {
         name: "wrong-length",
-        words: &["lpmtool", "apply", "r", "u", "a"],
-        files: &[
-            ("r", b""),
-            ("u", b"lpm-updates 2\nadd 10.0.0.0 1\n"),
-            ("a", b""),
-        ],
-        status: 4,
-        out: "",
-        err: "lpmtool: u:2: bad length\n",
+        line: "lpmtool apply r u a",
+        routes: "",
+        updates: "lpm-updates 2\nadd 10.0.0.0 1\n",
+        addresses: "",
+        ending: (4, "", "lpmtool: u:2: bad length\n"),
     },
-    Case {
+    Apply {
         name: "wrong-length",
-        words: &["lpmtool", "apply", "r", "u", "a"],
-        files: &[
-            ("r", b""),
-            ("u", b"lpm-updates 2\ndel 10.0.0.0/8/9\n"),
-            ("a", b""),
-        ],
-        status: 4,
-        out: "",
-        err: "lpmtool: u:2: bad length\n",
+        line: "lpmtool apply r u a",
+        routes: "",
+        updates: "lpm-updates 2\ndel 10.0.0.0/8/9\n",
+        addresses: "",
+        ending: (4, "", "lpmtool: u:2: bad length\n"),
     },
-    Case {
+    Apply {
         name: "wrong-address",
-        words: &["lpmtool", "apply", "r", "u", "a"],
-        files: &[
-            ("r", b""),
-            ("u", b"lpm-updates 2\nadd 10.0.0/8 70000000\n"),
-            ("a", b""),
-        ],
-        status: 4,
-        out: "",
-        err: "lpmtool: u:2: bad address\n",
+        line: "lpmtool apply r u a",
+        routes: "",
+        updates: "lpm-updates 2\nadd 10.0.0/8 70000000\n",
+        addresses: "",
+        ending: (4, "", "lpmtool: u:2: bad address\n"),
     },
-    Case {
+    Apply {
         name: "bad-headers",
-        words: &["lpmtool", "apply", "r", "u", "a"],
-        files: &[("r", b""), ("u", b""), ("a", b"")],
-        status: 4,
-        out: "",
-        err: "lpmtool: u:1: bad header\n",
+        line: "lpmtool apply r u a",
+        routes: "",
+        updates: "",
+        addresses: "",
+        ending: (4, "", "lpmtool: u:1: bad header\n"),
     },
-    Case {
+    Apply {
         name: "bad-headers",
-        words: &["lpmtool", "apply", "r", "u", "a"],
-        files: &[("r", b""), ("u", b" lpm-updates 2\n"), ("a", b"")],
-        status: 4,
-        out: "",
-        err: "lpmtool: u:1: bad header\n",
+        line: "lpmtool apply r u a",
+        routes: "",
+        updates: " lpm-updates 2\n",
+        addresses: "",
+        ending: (4, "", "lpmtool: u:1: bad header\n"),
     },
-    Case {
+    Apply {
         name: "bad-headers",
-        words: &["lpmtool", "apply", "r", "u", "a"],
-        files: &[("r", b""), ("u", b"lpm-updates 2 \n"), ("a", b"")],
-        status: 4,
-        out: "",
-        err: "lpmtool: u:1: bad header\n",
+        line: "lpmtool apply r u a",
+        routes: "",
+        updates: "lpm-updates 2 \n",
+        addresses: "",
+        ending: (4, "", "lpmtool: u:1: bad header\n"),
     },
-    Case {
+    Apply {
         name: "bad-headers",
-        words: &["lpmtool", "apply", "r", "u", "a"],
-        files: &[("r", b""), ("u", b"# x\nlpm-updates 2\n"), ("a", b"")],
-        status: 4,
-        out: "",
-        err: "lpmtool: u:1: bad header\n",
+        line: "lpmtool apply r u a",
+        routes: "",
+        updates: "# x\nlpm-updates 2\n",
+        addresses: "",
+        ending: (4, "", "lpmtool: u:1: bad header\n"),
     },
-    Case {
+    Apply {
         name: "word-after-header",
-        words: &["lpmtool", "apply", "r", "u", "a"],
-        files: &[("r", b""), ("u", b"lpm-updates 2\r\nput\n"), ("a", b"")],
-        status: 4,
-        out: "",
-        err: "lpmtool: u:2: bad word\n",
+        line: "lpmtool apply r u a",
+        routes: "",
+        updates: "lpm-updates 2\r\nput\n",
+        addresses: "",
+        ending: (4, "", "lpmtool: u:2: bad word\n"),
     },
-    Case {
+    Apply {
         name: "routes before updates",
-        words: &["lpmtool", "apply", "r", "u", "a"],
-        files: &[("r", b"x\n"), ("u", b"lpm-updates 2\nput\n"), ("a", b"y\n")],
-        status: 4,
-        out: "",
-        err: "lpmtool: r:1: bad fields\n",
+        line: "lpmtool apply r u a",
+        routes: "x\n",
+        updates: "lpm-updates 2\nput\n",
+        addresses: "y\n",
+        ending: (4, "", "lpmtool: r:1: bad fields\n"),
     },
-    Case {
+    Apply {
         name: "updates before addresses",
-        words: &["lpmtool", "apply", "r", "u", "a"],
-        files: &[("r", b""), ("u", b"lpm-updates 2\nput\n"), ("a", b"y\n")],
-        status: 4,
-        out: "",
-        err: "lpmtool: u:2: bad word\n",
+        line: "lpmtool apply r u a",
+        routes: "",
+        updates: "lpm-updates 2\nput\n",
+        addresses: "y\n",
+        ending: (4, "", "lpmtool: u:2: bad word\n"),
     },
-    Case {
+    Apply {
         name: "addresses before a refusal",
-        words: &["lpmtool", "apply", "--rules", "1", "r", "u", "a"],
-        files: &[
-            ("r", b"10.0.0.0/8 1\n10.1.0.0/16 2\n"),
-            ("u", b"lpm-updates 2\n"),
-            ("a", b"y\n"),
-        ],
-        status: 4,
-        out: "",
-        err: "lpmtool: a:1: bad address\n",
+        line: "lpmtool apply --rules 1 r u a",
+        routes: "10.0.0.0/8 1\n10.1.0.0/16 2\n",
+        updates: "lpm-updates 2\n",
+        addresses: "y\n",
+        ending: (4, "", "lpmtool: a:1: bad address\n"),
     },
-    Case {
+    Apply {
         name: "a refused route",
-        words: &["lpmtool", "apply", "--rules", "1", "r", "u", "a"],
-        files: &[
-            ("r", b"10.0.0.0/8 1\n10.1.0.0/16 2\n"),
-            ("u", b"lpm-updates 2\n"),
-            ("a", b""),
-        ],
-        status: 6,
-        out: "",
-        err: "lpmtool: r:2: refused 3 TooManyRules\n",
+        line: "lpmtool apply --rules 1 r u a",
+        routes: "10.0.0.0/8 1\n10.1.0.0/16 2\n",
+        updates: "lpm-updates 2\n",
+        addresses: "",
+        ending: (6, "", "lpmtool: r:2: refused 3 TooManyRules\n"),
     },
-    Case {
+    Apply {
         name: "no workers",
-        words: &["lpmtool", "apply", "--workers", "0", "r", "u", "a"],
-        files: &[("r", b""), ("u", b"lpm-updates 2\nflush\n"), ("a", b"")],
-        status: 6,
-        out: "",
-        err: "lpmtool: refused 8 NoWorkers\n",
+        line: "lpmtool apply --workers 0 r u a",
+        routes: "",
+        updates: "lpm-updates 2\nflush\n",
+        addresses: "",
+        ending: (6, "", "lpmtool: refused 8 NoWorkers\n"),
     },
 ];
 
 #[test]
 fn what_comes_of_updates(rt: HostRuntime) -> Result<(), Fail> {
-    run_cases(&rt, &APPLIED)
+    for apply in &APPLIED {
+        assert_apply(&rt, apply)?;
+    }
+    Ok(())
 }
 
 #[test]
 fn reports_after_updates(rt: HostRuntime) -> Result<(), Fail> {
-    run_cases(&rt, &REPORTED)
+    for report in &REPORTED {
+        assert_report(&rt, report)?;
+    }
+    Ok(())
 }
 
 #[test]
 fn faults_of_updates(rt: HostRuntime) -> Result<(), Fail> {
-    run_cases(&rt, &FAULTY)
+    for apply in &FAULTY {
+        assert_apply(&rt, apply)?;
+    }
+    Ok(())
 }
 
 // A route to each address of one block, all with the same next hop.
@@ -516,8 +411,6 @@ fn a_block_that_is_full(rt: HostRuntime) -> Result<(), Fail> {
         ("r", routes.as_slice()),
         ("u", b"lpm-updates 2\n".as_slice()),
     ];
-    let words = ["lpmtool", "report", "r", "u"];
-    let (status, out, err) = ending(&rt, &words, &whole(&files))?;
-    assert_eq!(rt; (status, out.as_str(), err.as_str()), (0, FULL_BLOCK, ""));
-    Ok(())
+    let ending = (0, FULL_BLOCK, "");
+    assert_ends(&rt, "a block", "lpmtool report r u", &whole(&files), ending)
 }

@@ -1,61 +1,75 @@
 //! Words that ask for help, words that are refused, and the texts of refusals.
 
-use super::cases::{Case, ending, run_cases};
+use super::cases::{Ending, assert_at, assert_ends, run_line, text};
 use super::fakes::{AtBad, whole, writer};
 use crate::run::refuse_words;
 use lpm_commands::Failure;
 use qsbr::Refusal;
 use std::io::ErrorKind;
+use std::process::Abort;
 use std::test::Fail;
+use std::thread::Threads;
 
-const REFUSED: [Case; 2] = [
-    Case {
-        name: "a file is missing",
-        words: &["lpmtool", "lookup", "r"],
-        files: &[],
-        status: 2,
-        out: "",
-        err: "error: the following required arguments were not provided:
+const FILE_MISSING: &str = "error: the following required arguments were not provided:
   <ADDRESSES>
 
 Usage: lpmtool lookup <ROUTES> <ADDRESSES>
 
 For more information, try '--help'.
-",
-    },
-    Case {
-        name: "two files are standard input",
-        words: &["lpmtool", "lookup", "-", "-"],
-        files: &[],
-        status: 2,
-        out: "",
-        err: "lpmtool: only one file can be `-`, standard input\n",
-    },
+";
+
+// The words, and the text of the refusal.
+static REFUSED: [(&str, &str); 2] = [
+    ("lpmtool lookup r", FILE_MISSING),
+    (
+        "lpmtool lookup - -",
+        "lpmtool: only one file can be `-`, standard input\n",
+    ),
 ];
 
 #[test]
 fn refused_words(rt: HostRuntime) -> Result<(), Fail> {
-    run_cases(&rt, &REFUSED)
+    for (line, refusal) in &REFUSED {
+        assert_ends(&rt, *line, line, &whole(&[]), (2, "", *refusal))?;
+    }
+    Ok(())
 }
 
 // The words, and what their help or version has.
-const SHOWN: [(&[&str], &str); 6] = [
-    (&["lpmtool", "--help"], "Usage: lpmtool"),
-    (&["lpmtool", "--version"], "lpmtool "),
-    (&["lpmtool", "lookup", "-h"], "Usage: lpmtool lookup"),
-    (&["lpmtool", "apply", "--help"], "Usage: lpmtool apply"),
-    (&["lpmtool", "report", "--help"], "Usage: lpmtool report"),
-    (&["lpmtool", "migrate", "--help"], "Usage: lpmtool migrate"),
+static SHOWN: [(&str, &str); 6] = [
+    ("lpmtool --help", "Usage: lpmtool"),
+    ("lpmtool --version", "lpmtool "),
+    ("lpmtool lookup -h", "Usage: lpmtool lookup"),
+    ("lpmtool apply --help", "Usage: lpmtool apply"),
+    ("lpmtool report --help", "Usage: lpmtool report"),
+    ("lpmtool migrate --help", "Usage: lpmtool migrate"),
 ];
+
+// The text on standard output has this part, and that on standard error is empty.
+fn assert_has(rt: &impl Abort, line: &str, ending: Ending<'_>, part: &str) {
+    let (status, out, err) = ending;
+    assert!(rt;
+        status == 0 && err.is_empty() && out.contains(part),
+        "{line} {out}{err}"
+    );
+}
+
+fn assert_shown<R: Abort + AllocGlobal + Threads + Sync>(
+    rt: &R,
+    line: &str,
+    part: &str,
+) -> Result<(), Fail> {
+    let mut out = writer(rt.alloc(), 0, AtBad::Fails);
+    let mut err = writer(rt.alloc(), 0, AtBad::Fails);
+    let status = run_line(rt, line, &whole(&[]), &mut out, &mut err)?;
+    assert_has(rt, line, (status, text(rt, &out), text(rt, &err)), part);
+    Ok(())
+}
 
 #[test]
 fn help_is_on_standard_output(rt: HostRuntime) -> Result<(), Fail> {
-    for (words, part) in SHOWN {
-        let (status, out, err) = ending(&rt, words, &whole(&[]))?;
-        assert!(rt;
-            status == 0 && err.is_empty() && out.contains(part),
-            "{words:?} {out}{err}"
-        );
+    for (line, part) in &SHOWN {
+        assert_shown(&rt, line, part)?;
     }
     Ok(())
 }
@@ -63,11 +77,13 @@ fn help_is_on_standard_output(rt: HostRuntime) -> Result<(), Fail> {
 #[test]
 fn words_that_cannot_be_had(rt: HostRuntime) {
     let mut err = writer(rt.alloc(), 0, AtBad::Fails);
-    assert_eq!(rt; refuse_words(ErrorKind::InvalidData, &mut err), 2);
-    assert_eq!(rt; refuse_words(ErrorKind::OutOfMemory, &mut err), 5);
+    let unreadable = refuse_words(ErrorKind::InvalidData, &mut err);
+    assert_at(&rt, "not UTF-8", unreadable, 2);
+    let wants_memory = refuse_words(ErrorKind::OutOfMemory, &mut err);
+    assert_at(&rt, "out of memory", wants_memory, 5);
 }
 
-const REFUSALS: [(Refusal, &str); 3] = [
+static REFUSALS: [(Refusal, &str); 3] = [
     (
         Refusal::TooManyRules,
         "lpmtool: r:9: refused 3 TooManyRules",
@@ -79,16 +95,27 @@ const REFUSALS: [(Refusal, &str); 3] = [
     ),
 ];
 
+// The text of a route's refusal, and the exit status.
+fn assert_refusal(
+    rt: &(impl Abort + AllocGlobal),
+    refusal: Refusal,
+    wanted: &str,
+) -> Result<(), Fail> {
+    let failure = Failure::RefusedRoute {
+        path: "r",
+        line: 9,
+        refusal,
+    };
+    let found = format!(in rt.alloc(); "{failure}")?;
+    assert_at(rt, refusal, found.as_str(), wanted);
+    assert_at(rt, refusal, failure.status(), 6);
+    Ok(())
+}
+
 #[test]
 fn texts_of_refusals(rt: HostRuntime) -> Result<(), Fail> {
-    for (refusal, text) in REFUSALS {
-        let failure = Failure::RefusedRoute {
-            path: "r",
-            line: 9,
-            refusal,
-        };
-        let found = format!(in rt.alloc(); "{failure}")?;
-        assert_eq!(rt; (found.as_str(), failure.status()), (text, 6));
+    for (refusal, text) in &REFUSALS {
+        assert_refusal(&rt, *refusal, text)?;
     }
     Ok(())
 }
