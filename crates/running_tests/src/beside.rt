@@ -1,13 +1,13 @@
 //! Lookups on threads of their own, while the writer changes the table on another.
-ghost use Rattle.std.specs.Prelude.{◌≡◌, ◌<◌, ◌^◌};
+ghost use Rattle.std.specs.Prelude.{◌≡◌};
 ghost use Rattle.std.specs.Thread.{IsSync};
 ghost use Rattle.shared_fib.specs.Running.{IsOffline, IsOnline, identity_of};
 
+use super::asserting::assert_at;
 use lpm_bits::{Hop, Prefix, Shape};
-use lpm_rules::{Answer, Rules};
+use lpm_rules::Answer;
 use qsbr::Config;
 use shared_fib::{Pass, SharedTable, Writer, open};
-use std::alloc::Global;
 use std::process::Abort;
 use std::test::Fail;
 use std::thread::{Threads, join};
@@ -66,15 +66,23 @@ fn change_all(table: &SharedTable<4, 4>, writer: &mut Writer<4, 4>, rules: &[Rul
     made
 }
 
-// Whether the answer is that of a version from `lo` to `hi`, by a plain search. The rules of version `k` are
-// those of `k % ROUND`.
-fn is_of_a_version(versions: &[Rules<4, 4>; 4], addr: u32, answer: &Answer) -> bool
-    requires { addr < 2 ^ 8 }
-{
+// The next hop of an address at a version, found by the rule that the version has: after a change that adds
+// a rule it has that one, and after one that deletes it, none.
+fn hop_plainly(rules: &[Rule; 2], version: u64, addr: u32) -> Option<Hop> {
+    let (prefix, hop) = rules[(version % ROUND / 2) as usize];
+    if version % 2 == 1 && prefix.covers(addr) {
+        return Some(hop);
+    }
+    None
+}
+
+// Whether the answer is that of a version from `lo` to `hi`. The rules of version `k` are those of
+// `k % ROUND`.
+fn is_of_a_version(rules: &[Rule; 2], addr: u32, answer: &Answer) -> bool {
     let Answer { hop, lo, hi } = *answer;
     for step in 0..ROUND {
         let version = lo.saturating_add(step);
-        if version <= hi && versions[(version % ROUND) as usize].longest(addr) == hop {
+        if version <= hi && hop_plainly(rules, version, addr) == hop {
             return true;
         }
     }
@@ -83,7 +91,7 @@ fn is_of_a_version(versions: &[Rules<4, 4>; 4], addr: u32, answer: &Answer) -> b
 
 // Looks one address up, and reports now and then that the worker is quiescent. Whether the answer is of no
 // version from `lo` to `hi`.
-fn look(table: &SharedTable<4, 4>, pass: &mut Pass, versions: &[Rules<4, 4>; 4], i: u64) -> bool
+fn look(table: &SharedTable<4, 4>, pass: &mut Pass, rules: &[Rule; 2], i: u64) -> bool
     requires own { identity_of pass.old ≡ table.now }
     requires online { IsOnline pass.old }
     ensures own { identity_of pass.new ≡ identity_of pass.old }
@@ -94,18 +102,18 @@ fn look(table: &SharedTable<4, 4>, pass: &mut Pass, versions: &[Rules<4, 4>; 4],
     if i % 16 == 15 {
         pass.quiescent(table);
     }
-    !is_of_a_version(versions, addr, &answer)
+    !is_of_a_version(rules, addr, &answer)
 }
 
 // Goes online, looks up all addresses, again and again, and goes offline. How many answers were wrong.
-fn look_all(table: &SharedTable<4, 4>, pass: &mut Pass, versions: &[Rules<4, 4>; 4]) -> u64
+fn look_all(table: &SharedTable<4, 4>, pass: &mut Pass, rules: &[Rule; 2]) -> u64
     requires own { identity_of pass.old ≡ table.now }
     requires offline { IsOffline pass.old }
 {
     pass.online(table);
     let mut wrong = 0u64;
     for i in 0..LOOKUPS {
-        wrong = wrong.saturating_add(u64::from(look(table, pass, versions, i)));
+        wrong = wrong.saturating_add(u64::from(look(table, pass, rules, i)));
     }
     pass.offline(table);
     wrong
@@ -117,7 +125,7 @@ fn look_beside<R: Threads + Sync>(
     table: &SharedTable<4, 4>,
     one: &mut Pass,
     other: &mut Pass,
-    versions: &[Rules<4, 4>; 4],
+    rules: &[Rule; 2],
 ) -> (u64, u64)
     requires one { (identity_of one.old ≡ table.now) × IsOffline one.old }
     requires other { (identity_of other.old ≡ table.now) × IsOffline other.old }
@@ -126,10 +134,10 @@ fn look_beside<R: Threads + Sync>(
         rt,
         || -> u64
             requires { (identity_of one.now ≡ table.now) × IsOffline one.now }
-        { look_all(table, one, versions) },
+        { look_all(table, one, rules) },
         || -> u64
             requires { (identity_of other.now ≡ table.now) × IsOffline other.now }
-        { look_all(table, other, versions) },
+        { look_all(table, other, rules) },
     )
 }
 
@@ -142,7 +150,6 @@ fn change_beside<R: Threads + Sync>(
     rules: &[Rule; 2],
     one: &mut Pass,
     other: &mut Pass,
-    versions: &[Rules<4, 4>; 4],
 ) -> (u64, (u64, u64))
     requires writer { writer.old.identity ≡ table.now }
     requires one { (identity_of one.old ≡ table.now) × IsOffline one.old }
@@ -157,7 +164,7 @@ fn change_beside<R: Threads + Sync>(
             requires sync { IsSync R.row }
             requires one { (identity_of one.now ≡ table.now) × IsOffline one.now }
             requires other { (identity_of other.now ≡ table.now) × IsOffline other.now }
-        { look_beside(rt, table, one, other, versions) },
+        { look_beside(rt, table, one, other, rules) },
     )
 }
 
@@ -167,37 +174,13 @@ fn rule(rt: &impl Abort, bits: u32, number: u32) -> Rule {
     (prefix, Hop::new(number).expect(rt, "a next hop"))
 }
 
-// The rules of a version that has these.
-fn version(alloc: Global, rules: &[Rule]) -> Result<Rules<4, 4>, Fail> {
-    let mut list = Rules::new(alloc, LIMITS.rules);
-    for (prefix, hop) in rules {
-        list.put(prefix, *hop)?;
-    }
-    Ok(list)
-}
-
 #[test]
 fn lookups_beside_updates(rt: HostRuntime) -> Result<(), Fail> {
     let rules = [rule(&rt, 0x12, 1), rule(&rt, 0x35, 2)];
-    let [first, second] = rules;
-    let versions = [
-        version(rt.alloc(), &[])?,
-        version(rt.alloc(), &[first])?,
-        version(rt.alloc(), &[])?,
-        version(rt.alloc(), &[second])?,
-    ];
     let (table, mut writer, mut bench) = open::<4, 4>(rt.alloc(), LIMITS)?;
-    let mut one = bench.register(&table, 0)?;
-    let mut other = bench.register(&table, 1)?;
-    let done = change_beside(
-        &rt,
-        &table,
-        &mut writer,
-        &rules,
-        &mut one,
-        &mut other,
-        &versions,
-    );
-    assert_eq!(rt; done, (CHANGES, (0, 0)));
+    let mut one = bench.register(&table, 0).expect(&rt, "a pass");
+    let mut other = bench.register(&table, 1).expect(&rt, "a pass");
+    let done = change_beside(&rt, &table, &mut writer, &rules, &mut one, &mut other);
+    assert_at(&rt, "changes, wrong answers", done, (CHANGES, (0, 0)));
     Ok(())
 }

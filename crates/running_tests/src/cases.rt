@@ -1,13 +1,16 @@
 //! Worked cases, on one thread.
+ghost use Rattle.std.specs.Prelude.{◌≡◌};
 ghost use Rattle.lpm_bits.specs.Widths.{IsShape};
+ghost use Rattle.shared_fib.specs.Running.{IsOffline, identity_of};
 
+use super::asserting::assert_at;
 use defer_queue::Reclaimed;
 use fib::Fib;
 use lpm_bits::{Hop, Prefix, Shape};
 use lpm_groups::Counts;
 use lpm_rules::Put;
 use qsbr::{Busy, Config, Refusal};
-use shared_fib::{Exhausted, RegisterError, Writer, go_live, open};
+use shared_fib::{Exhausted, Pass, RegisterError, SharedTable, Writer, go_live, open};
 use std::process::Abort;
 use std::test::Fail;
 
@@ -46,48 +49,86 @@ fn counts<const FIRST: u32, const SECOND: u32>(
     (in_use, limbo, free)
 }
 
+// The bits and the length of a rule's prefix, and the number of its next hop.
+type Rule = (u32, u32, u32);
+
+// Adds a rule, whose prefix has none so far.
+fn add<const FIRST: u32, const SECOND: u32>(
+    rt: &impl Abort,
+    table: &SharedTable<FIRST, SECOND>,
+    writer: &mut Writer<FIRST, SECOND>,
+    rule: Rule,
+)
+    requires shape { IsShape FIRST SECOND }
+    requires own { writer.old.identity ≡ table.now }
+    ensures own { writer.new.identity ≡ writer.old.identity }
+{
+    let (bits, len, number) = rule;
+    let put = writer.add(table, &prefix(rt, bits, len), hop(rt, number));
+    assert_at(rt, rule, put, Ok(Put::Added));
+}
+
+// Deletes a rule that is there.
+fn delete<const FIRST: u32, const SECOND: u32>(
+    rt: &impl Abort,
+    table: &SharedTable<FIRST, SECOND>,
+    writer: &mut Writer<FIRST, SECOND>,
+    rule: Rule,
+)
+    requires shape { IsShape FIRST SECOND }
+    requires own { writer.old.identity ≡ table.now }
+    ensures own { writer.new.identity ≡ writer.old.identity }
+{
+    let (bits, len, number) = rule;
+    let deleted = writer.delete(table, &prefix(rt, bits, len));
+    assert_at(rt, rule, deleted, Ok(hop(rt, number)));
+}
+
 #[test]
 fn meet_then_lookup(rt: HostRuntime) -> Result<(), Fail> {
     let (table, mut writer, mut bench) = open::<24, 8>(rt.alloc(), Config::default())?;
-    let mut pass = bench.register(&table, 0)?;
-    let rule = prefix(&rt, 0x0a00_0000, 8);
-    assert_eq!(rt; writer.add(&table, &rule, hop(&rt, 1)), Ok(Put::Added));
+    let mut pass = bench.register(&table, 0).expect(&rt, "a pass");
+    add(&rt, &table, &mut writer, (0x0a00_0000, 8, 1));
     pass.meet(&table, &mut writer);
     pass.online(&table);
     let answer = pass.lookup(&table, 0x0a00_0001);
-    assert_eq!(rt;
-        (answer.hop, answer.lo, answer.hi),
-        (Some(hop(&rt, 1)), 1, 1)
-    );
+    let found = (answer.hop, answer.lo, answer.hi);
+    assert_at(&rt, "answer", found, (Some(hop(&rt, 1)), 1, 1));
     Ok(())
+}
+
+// Adds a rule longer than `FIRST` bits, and deletes it.
+fn add_and_delete(rt: &impl Abort, table: &SharedTable<4, 4>, writer: &mut Writer<4, 4>)
+    requires own { writer.old.identity ≡ table.now }
+    ensures own { writer.new.identity ≡ writer.old.identity }
+{
+    add(rt, table, writer, (0x12, 8, 5));
+    delete(rt, table, writer, (0x12, 8, 5));
 }
 
 #[test]
 fn shared_reuse(rt: HostRuntime) -> Result<(), Fail> {
     let (table, mut writer, _) = open::<4, 4>(rt.alloc(), SMALL)?;
-    let first = prefix(&rt, 0x12, 8);
-    assert_eq!(rt; writer.add(&table, &first, hop(&rt, 5)), Ok(Put::Added));
-    assert_eq!(rt; writer.delete(&table, &first), Ok(hop(&rt, 5)));
-    let other = prefix(&rt, 0x35, 8);
-    assert_eq!(rt; writer.add(&table, &other, hop(&rt, 6)), Ok(Put::Added));
-    assert_eq!(rt; counts(&writer), (1, 0, 0));
-    assert_eq!(rt; writer.get(&other), Some(hop(&rt, 6)));
-    assert_eq!(rt; (writer.rules(), writer.versions()), (1, 3));
+    add_and_delete(&rt, &table, &mut writer);
+    add(&rt, &table, &mut writer, (0x35, 8, 6));
+    assert_at(&rt, "counts", counts(&writer), (1, 0, 0));
+    let there = writer.get(&prefix(&rt, 0x35, 8));
+    assert_at(&rt, "the rule", there, Some(hop(&rt, 6)));
+    let sizes = (writer.rules(), writer.versions());
+    assert_at(&rt, "rules, versions", sizes, (1, 3));
     Ok(())
 }
 
 #[test]
 fn shared_reclaim(rt: HostRuntime) -> Result<(), Fail> {
     let (table, mut writer, _) = open::<4, 4>(rt.alloc(), SMALL)?;
-    let rule = prefix(&rt, 0x12, 8);
-    assert_eq!(rt; writer.add(&table, &rule, hop(&rt, 5)), Ok(Put::Added));
-    assert_eq!(rt; writer.delete(&table, &rule), Ok(hop(&rt, 5)));
-    assert_eq!(rt; writer.token(&table), 2);
-    assert_eq!(rt; writer.synchronize(&rt, &table), Ok(()));
-    assert_eq!(rt; writer.token(&table), 3);
-    let stopped = None;
-    assert_eq!(rt; writer.reclaim(&table, 1), Reclaimed { freed: 1, stopped });
-    assert_eq!(rt; counts(&writer), (0, 0, 1));
+    add_and_delete(&rt, &table, &mut writer);
+    assert_at(&rt, "token", writer.token(&table), 2);
+    let synchronized = writer.synchronize(&rt, &table);
+    assert_at(&rt, "synchronize", synchronized, Ok(()));
+    assert_at(&rt, "token", writer.token(&table), 3);
+    assert_at(&rt, "reclaim", writer.reclaim(&table, 1), unstopped(1));
+    assert_at(&rt, "counts", counts(&writer), (0, 0, 1));
     Ok(())
 }
 
@@ -98,8 +139,9 @@ fn synchronize_refused(rt: HostRuntime) -> Result<(), Fail> {
         ..SMALL
     };
     let (table, mut writer, _) = open::<4, 4>(rt.alloc(), config)?;
-    assert_eq!(rt; writer.synchronize(&rt, &table), Err(Exhausted));
-    assert_eq!(rt; writer.token(&table), 1 << 62);
+    let refused = writer.synchronize(&rt, &table);
+    assert_at(&rt, "synchronize", refused, Err(Exhausted));
+    assert_at(&rt, "token", writer.token(&table), 1 << 62);
     Ok(())
 }
 
@@ -110,48 +152,60 @@ fn synchronize_last_tokens(rt: HostRuntime) -> Result<(), Fail> {
         ..SMALL
     };
     let (table, mut writer, _) = open::<4, 4>(rt.alloc(), config)?;
-    assert_eq!(rt; writer.synchronize(&rt, &table), Ok(()));
-    assert_eq!(rt; writer.token(&table), 1 << 62);
-    assert_eq!(rt; writer.synchronize(&rt, &table), Err(Exhausted));
+    let last = writer.synchronize(&rt, &table);
+    assert_at(&rt, "the last", last, Ok(()));
+    assert_at(&rt, "token", writer.token(&table), 1 << 62);
+    let refused = writer.synchronize(&rt, &table);
+    assert_at(&rt, "past the last", refused, Err(Exhausted));
     Ok(())
 }
 
 #[test]
 fn register_twice(rt: HostRuntime) -> Result<(), Fail> {
     let (table, _, mut bench) = open::<4, 4>(rt.alloc(), SMALL)?;
-    let pass = bench.register(&table, 0)?;
-    assert_eq!(rt; pass.worker(), 0);
-    assert_eq!(rt; bench.register(&table, 0).err(), Some(RegisterError::Taken));
-    assert_eq!(rt;
-        bench.register(&table, 1).err(),
-        Some(RegisterError::NoSuchWorker)
-    );
+    let pass = bench.register(&table, 0).expect(&rt, "a pass");
+    assert_at(&rt, "worker", pass.worker(), 0);
+    let again = bench.register(&table, 0).err();
+    assert_at(&rt, "worker 0 again", again, Some(RegisterError::Taken));
+    let none = bench.register(&table, 1).err();
+    assert_at(&rt, "worker 1", none, Some(RegisterError::NoSuchWorker));
     Ok(())
+}
+
+// The only group is held by worker 0, until it reports.
+fn hold_and_let_go(
+    rt: &impl Abort,
+    table: &SharedTable<4, 4>,
+    writer: &mut Writer<4, 4>,
+    pass: &mut Pass,
+)
+    requires writer { writer.old.identity ≡ table.now }
+    requires pass { identity_of pass.old ≡ table.now }
+    requires offline { IsOffline pass.old }
+    ensures pass { identity_of pass.new ≡ identity_of pass.old }
+{
+    pass.online(table);
+    add(rt, table, writer, (0x12, 8, 1));
+    delete(rt, table, writer, (0x12, 8, 1));
+    let oldest = Some(Busy {
+        worker: 0,
+        counter: 1,
+    });
+    let refused = writer.add(table, &prefix(rt, 0x35, 8), hop(rt, 2));
+    assert_at(rt, "held", refused, Err(Refusal::NoGroups { oldest }));
+    pass.quiescent(table);
+    add(rt, table, writer, (0x35, 8, 2));
+    assert_at(rt, "counts", counts(writer), (1, 0, 0));
 }
 
 #[test]
 fn held_group(rt: HostRuntime) -> Result<(), Fail> {
     let (table, mut writer, mut bench) = open::<4, 4>(rt.alloc(), SMALL)?;
-    let mut pass = bench.register(&table, 0)?;
-    pass.online(&table);
-    let first = prefix(&rt, 0x12, 8);
-    assert_eq!(rt; writer.add(&table, &first, hop(&rt, 1)), Ok(Put::Added));
-    assert_eq!(rt; writer.delete(&table, &first), Ok(hop(&rt, 1)));
-    let other = prefix(&rt, 0x35, 8);
-    let oldest = Some(Busy {
-        worker: 0,
-        counter: 1,
-    });
-    assert_eq!(rt;
-        writer.add(&table, &other, hop(&rt, 2)),
-        Err(Refusal::NoGroups { oldest })
-    );
-    pass.quiescent(&table);
-    assert_eq!(rt; writer.add(&table, &other, hop(&rt, 2)), Ok(Put::Added));
-    assert_eq!(rt; counts(&writer), (1, 0, 0));
+    let mut pass = bench.register(&table, 0).expect(&rt, "a pass");
+    hold_and_let_go(&rt, &table, &mut writer, &mut pass);
     bench.unregister(&table, pass);
-    let pass = bench.register(&table, 0)?;
-    assert!(rt; !pass.is_online());
+    let again = bench.register(&table, 0).expect(&rt, "a pass");
+    assert_at(&rt, "online", again.is_online(), false);
     Ok(())
 }
 
@@ -163,47 +217,51 @@ fn two_workers(rt: HostRuntime) -> Result<(), Fail> {
         ..SMALL
     };
     let (table, mut writer, mut bench) = open::<4, 4>(rt.alloc(), config)?;
-    let mut zero = bench.register(&table, 0)?;
-    let mut one = bench.register(&table, 1)?;
-    let first = prefix(&rt, 0x12, 8);
-    let other = prefix(&rt, 0x35, 8);
-    assert_eq!(rt; writer.add(&table, &first, hop(&rt, 1)), Ok(Put::Added));
-    assert_eq!(rt; writer.add(&table, &other, hop(&rt, 2)), Ok(Put::Added));
+    let mut zero = bench.register(&table, 0).expect(&rt, "a pass");
+    let mut one = bench.register(&table, 1).expect(&rt, "a pass");
+    add(&rt, &table, &mut writer, (0x12, 8, 1));
+    add(&rt, &table, &mut writer, (0x35, 8, 2));
     zero.online(&table);
-    assert_eq!(rt; writer.delete(&table, &first), Ok(hop(&rt, 1)));
+    delete(&rt, &table, &mut writer, (0x12, 8, 1));
     one.online(&table);
-    assert_eq!(rt; writer.delete(&table, &other), Ok(hop(&rt, 2)));
-    assert_eq!(rt; writer.reclaim(&table, 16), stopped(0, 0, 1));
+    delete(&rt, &table, &mut writer, (0x35, 8, 2));
+    assert_at(&rt, "first", writer.reclaim(&table, 16), stopped(0, 0, 1));
     zero.quiescent(&table);
-    assert_eq!(rt; writer.reclaim(&table, 16), stopped(1, 1, 2));
+    assert_at(&rt, "second", writer.reclaim(&table, 16), stopped(1, 1, 2));
     one.offline(&table);
-    let stopped = None;
-    assert_eq!(rt; writer.reclaim(&table, 16), Reclaimed { freed: 1, stopped });
+    assert_at(&rt, "third", writer.reclaim(&table, 16), unstopped(1));
     Ok(())
 }
 
+// So many are freed, and the worker's counter stops it.
 fn stopped(freed: usize, worker: usize, counter: u64) -> Reclaimed {
     let stopped = Some(Busy { worker, counter });
     Reclaimed { freed, stopped }
 }
 
+// So many are freed, and nothing stops it.
+fn unstopped(freed: usize) -> Reclaimed {
+    Reclaimed {
+        freed,
+        stopped: None,
+    }
+}
+
 #[test]
 fn lookup4_by_a_pass(rt: HostRuntime) -> Result<(), Fail> {
     let (table, mut writer, mut bench) = open::<24, 8>(rt.alloc(), Config::default())?;
-    let rule = prefix(&rt, 0x0a00_0000, 8);
-    assert_eq!(rt; writer.add(&table, &rule, hop(&rt, 1)), Ok(Put::Added));
-    let rule = prefix(&rt, 0x0a01_0000, 16);
-    assert_eq!(rt; writer.add(&table, &rule, hop(&rt, 2)), Ok(Put::Added));
-    let rule = prefix(&rt, 0x0a01_0180, 25);
-    assert_eq!(rt; writer.add(&table, &rule, hop(&rt, 3)), Ok(Put::Added));
-    let mut pass = bench.register(&table, 0)?;
+    add(&rt, &table, &mut writer, (0x0a00_0000, 8, 1));
+    add(&rt, &table, &mut writer, (0x0a01_0000, 16, 2));
+    add(&rt, &table, &mut writer, (0x0a01_0180, 25, 3));
+    let mut pass = bench.register(&table, 0).expect(&rt, "a pass");
     pass.online(&table);
     let addrs = [0x0a01_0180, 0x0b00_0000, 0x0a01_017f, 0x0a02_0000];
     let found = pass.lookup4(&table, addrs, 99);
-    assert_eq!(rt; found.hops, [3, 99, 2, 1]);
-    assert_eq!(rt; (found.lo, found.hi), (3, 3));
-    assert_eq!(rt; writer.flush(&table), Ok(3));
-    assert_eq!(rt; pass.lookup(&table, 0x0a01_0180).hop, None);
+    assert_at(&rt, "hops", found.hops, [3, 99, 2, 1]);
+    assert_at(&rt, "versions", (found.lo, found.hi), (3, 3));
+    assert_at(&rt, "flush", writer.flush(&table), Ok(3));
+    let answer = pass.lookup(&table, 0x0a01_0180);
+    assert_at(&rt, "hop after the flush", answer.hop, None);
     Ok(())
 }
 
@@ -216,13 +274,16 @@ fn going_live(rt: HostRuntime) -> Result<(), Fail> {
     assert_eq!(rt; fib.add(&first, hop(&rt, 5)), Ok(Put::Added));
     assert_eq!(rt; fib.add(&other, hop(&rt, 6)), Ok(Put::Added));
     let (table, mut writer, mut bench) = go_live(rt.alloc(), fib)?;
-    let mut pass = bench.register(&table, 0)?;
+    let mut pass = bench.register(&table, 0).expect(&rt, "a pass");
     pass.online(&table);
-    assert_eq!(rt; pass.lookup(&table, 0x12).hop, Some(hop(&rt, 5)));
-    assert_eq!(rt; pass.lookup(&table, 0x3f).hop, Some(hop(&rt, 6)));
-    assert_eq!(rt; writer.delete(&table, &first), Ok(hop(&rt, 5)));
     let answer = pass.lookup(&table, 0x12);
-    assert_eq!(rt; (answer.hop, answer.lo, answer.hi), (None, 1, 1));
-    assert_eq!(rt; counts(&writer), (0, 1, 0));
+    assert_at(&rt, 0x12, answer.hop, Some(hop(&rt, 5)));
+    let answer = pass.lookup(&table, 0x3f);
+    assert_at(&rt, 0x3f, answer.hop, Some(hop(&rt, 6)));
+    delete(&rt, &table, &mut writer, (0x12, 8, 5));
+    let answer = pass.lookup(&table, 0x12);
+    let found = (answer.hop, answer.lo, answer.hi);
+    assert_at(&rt, "after the delete", found, (None, 1, 1));
+    assert_at(&rt, "counts", counts(&writer), (0, 1, 0));
     Ok(())
 }
