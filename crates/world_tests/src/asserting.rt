@@ -1,6 +1,7 @@
 // What the tests assert by. A function is proved once, and a macro at each place where it stands.
 
-use interleave::{Reply, Seen, Trace};
+use super::plan::hop;
+use interleave::{Actor, Kind, Reply, Seen, Step, Trace};
 use std::fmt::Debug;
 use std::process::Abort;
 
@@ -14,15 +15,93 @@ pub(crate) fn assert_at<R: Debug + Copy, T: PartialEq + Debug + Copy>(
     assert_eq!(rt; found, wanted, "{row:?}");
 }
 
+// The number of a step, from 1 on, who makes it, its kind, its index and its value.
+pub(crate) type Numbered = (usize, Actor, Kind, u64, u64);
+
+pub(crate) fn assert_step(rt: &impl Abort, steps: &[Step], numbered: &Numbered) {
+    let (number, actor, kind, index, value) = *numbered;
+    let step = steps.get(number.saturating_sub(1)).copied();
+    let wanted = Step {
+        actor,
+        kind,
+        index,
+        value,
+    };
+    assert_at(rt, ("step", number), step, Some(wanted));
+}
+
+// These stand among the steps, each at its number.
+pub(crate) fn assert_steps(rt: &impl Abort, steps: &[Step], wanted: &[Numbered]) {
+    for numbered in wanted {
+        assert_step(rt, steps, numbered);
+    }
+}
+
+// A reply, where a next hop is its number.
+#[derive(Clone, Copy)]
+pub(crate) enum Answer {
+    // A rule with this next hop was deleted.
+    Deleted(u32),
+    // A reply without a next hop.
+    Other(Reply),
+}
+
+impl Answer {
+    fn reply(self, rt: &impl Abort) -> Reply {
+        match self {
+            Answer::Deleted(number) => Reply::Deleted(hop(rt, number)),
+            Answer::Other(reply) => reply,
+        }
+    }
+}
+
+// The reply at this place is the answer.
+pub(crate) fn assert_reply(rt: &impl Abort, replies: &[Reply], place: usize, answer: Answer) {
+    let found = replies.get(place).copied();
+    assert_at(rt, ("reply", place), found, Some(answer.reply(rt)));
+}
+
+pub(crate) fn assert_replies(rt: &impl Abort, replies: &[Reply], answers: &[Answer]) {
+    for (place, answer) in answers.iter().enumerate() {
+        assert_reply(rt, replies, place, *answer);
+    }
+    assert_at(rt, "replies", replies.len(), answers.len());
+}
+
+// A lookup of worker 0: the address, the number of its next hop, the numbers of its first and last read,
+// and `lo` and `hi`.
+pub(crate) type Looked = (u32, Option<u32>, (usize, usize), (u64, u64));
+
+fn seen(rt: &impl Abort, looked: &Looked) -> Seen {
+    let (addr, found, reads, versions) = *looked;
+    Seen {
+        worker: 0,
+        addr,
+        hop: found.map(|number| hop(rt, number)),
+        first: reads.0,
+        last: reads.1,
+        lo: versions.0,
+        hi: versions.1,
+    }
+}
+
+fn assert_lookups(rt: &impl Abort, lookups: &[Seen], wanted: &[Looked]) {
+    for (place, looked) in wanted.iter().enumerate() {
+        let found = lookups.get(place).copied();
+        assert_at(rt, ("lookup", place), found, Some(seen(rt, looked)));
+    }
+    assert_at(rt, "lookups", lookups.len(), wanted.len());
+}
+
 // The trace has so many steps, and these replies and lookups.
 pub(crate) fn assert_trace(
     rt: &impl Abort,
     trace: &Trace,
     steps: usize,
-    replies: &[Reply],
-    lookups: &[Seen],
+    answers: &[Answer],
+    lookups: &[Looked],
 ) {
     assert_at(rt, "steps", trace.steps.len(), steps);
-    assert_at(rt, "replies", trace.replies.as_slice(), replies);
-    assert_at(rt, "lookups", trace.lookups.as_slice(), lookups);
+    assert_replies(rt, &trace.replies, answers);
+    assert_lookups(rt, &trace.lookups, lookups);
 }

@@ -1,16 +1,19 @@
 // The worked cases of the pure world, each under its name, over 4 and 4 bits. Every case is judged by the
 // plain deciders too.
 
-use super::asserting::{assert_at, assert_trace};
-use super::judging::{judge, played, setting_of};
-use super::plan::{ONE_GROUP, add, delete, hop, planned};
+use super::asserting::{
+    Answer, Looked, Numbered, assert_at, assert_step, assert_steps, assert_trace,
+};
+use super::judging::played;
+use super::plan::{Edit, ONE_GROUP};
 use defer_queue::Reclaimed;
-use interleave::{Actor, Change, Deed, Kind, Reply, Seen, Step, Trace};
+use interleave::{Actor, Deed, Kind, Reply, Trace};
 use lpm_rules::Put;
 use qsbr::{Busy, Config, Refusal};
+use std::alloc::Global;
 use std::process::Abort;
 use std::test::Fail;
-use trace_reference::version_at;
+use trace_reference::{Setting, version_at};
 
 const TWO_GROUPS: Config = Config {
     groups: 2,
@@ -21,7 +24,7 @@ const WRITER: Actor = Actor::Writer;
 
 const WORKER: Actor = Actor::Worker(0);
 
-const ADDED: Reply = Reply::Put(Put::Added);
+const ADDED: Answer = Answer::Other(Reply::Put(Put::Added));
 
 // The words of hop 7 with depth 4, of hop 5 with depth 8, of hop 6 with depth 8, and of group 0.
 const SEVEN: u64 = 0x1100_0007;
@@ -32,219 +35,234 @@ const SIX: u64 = 0x2100_0006;
 
 const GROUP: u64 = 0x0300_0000;
 
-// A lookup of worker 0: the numbers of its first and last read, and `lo` and `hi`.
-fn seen(
-    rt: &impl Abort,
-    addr: u32,
-    found: Option<u32>,
-    reads: (usize, usize),
-    versions: (u64, u64),
-) -> Seen {
-    Seen {
-        worker: 0,
-        addr,
-        hop: found.map(|number| hop(rt, number)),
-        first: reads.0,
-        last: reads.1,
-        lo: versions.0,
-        hi: versions.1,
-    }
+// A run of one worker, and what its trace has to be: these steps among so many, these replies and
+// lookups.
+#[derive(Clone, Copy)]
+struct Case<'a> {
+    config: Config,
+    changes: &'a [Edit],
+    deeds: &'a [Deed],
+    bursts: &'a [(Actor, usize)],
+    steps: &'a [Numbered],
+    count: usize,
+    replies: &'a [Answer],
+    lookups: &'a [Looked],
 }
 
-// The reply to a delete of a rule with this next hop.
-fn deleted(rt: &impl Abort, number: u32) -> Reply {
-    Reply::Deleted(hop(rt, number))
+// The trace of the case.
+fn traced(rt: &impl Abort, alloc: Global, case: &Case<'_>) -> Result<Trace, Fail> {
+    let trace = played(
+        rt,
+        alloc,
+        case.config,
+        case.changes,
+        case.deeds,
+        case.bursts,
+    )?;
+    assert_steps(rt, &trace.steps, case.steps);
+    assert_trace(rt, &trace, case.count, case.replies, case.lookups);
+    Ok(trace)
 }
 
-// The steps from this number on are these: of the actor, each with its kind, its index and its value.
-fn assert_steps(
-    rt: &impl Abort,
-    trace: &Trace,
-    from: usize,
-    actor: Actor,
-    expected: &[(Kind, u64, u64)],
-) {
-    for (place, (kind, index, value)) in expected.iter().enumerate() {
-        let number = from.saturating_add(place);
-        let step = trace.steps.get(number.saturating_sub(1)).copied();
-        let wanted = Step {
-            actor,
-            kind: *kind,
-            index: *index,
-            value: *value,
-        };
-        assert_at(rt, ("step", number), step, Some(wanted));
-    }
+fn assert_case(rt: &impl Abort, alloc: Global, case: &Case<'_>) -> Result<(), Fail> {
+    traced(rt, alloc, case)?;
+    Ok(())
 }
 
 // A lookup reads the group's word after a flush has unlinked the group. Its answer stood in its span,
 // though not at its last read.
 #[test]
 fn answer_from_unlinked_group(rt: HostRuntime) -> Result<(), Fail> {
-    let changes = [add(&rt, 0x12, 8, 5), Change::Flush];
-    let deeds = [Deed::Online, Deed::Lookup(0x12)];
-    let bursts = [(WRITER, 19), (WORKER, 4), (WRITER, 4), (WORKER, 2)];
-    let trace = played(&rt, rt.alloc(), ONE_GROUP, &changes, &deeds, &bursts)?;
-    assert_steps(&rt, &trace, 23, WORKER, &[(Kind::LoadFirst, 1, GROUP)]);
-    let flush = [
-        (Kind::BumpSequence, 0, 3),
-        (Kind::StoreFirst, 1, 0),
-        (Kind::BumpToken, 0, 2),
-        (Kind::BumpSequence, 0, 4),
-    ];
-    assert_steps(&rt, &trace, 24, WRITER, &flush);
-    assert_steps(&rt, &trace, 28, WORKER, &[(Kind::LoadSecond, 2, FIVE)]);
-    let lookups = [seen(&rt, 0x12, Some(5), (23, 28), (1, 2))];
-    assert_trace(&rt, &trace, 29, &[ADDED, Reply::Flushed(1)], &lookups);
-    Ok(())
+    let case = Case {
+        config: ONE_GROUP,
+        changes: &[Edit::Add(0x12, 8, 5), Edit::Flush],
+        deeds: &[Deed::Online, Deed::Lookup(0x12)],
+        bursts: &[(WRITER, 19), (WORKER, 4), (WRITER, 4), (WORKER, 2)],
+        steps: &[
+            (23, WORKER, Kind::LoadFirst, 1, GROUP),
+            (24, WRITER, Kind::BumpSequence, 0, 3),
+            (25, WRITER, Kind::StoreFirst, 1, 0),
+            (26, WRITER, Kind::BumpToken, 0, 2),
+            (27, WRITER, Kind::BumpSequence, 0, 4),
+            (28, WORKER, Kind::LoadSecond, 2, FIVE),
+        ],
+        count: 29,
+        replies: &[ADDED, Answer::Other(Reply::Flushed(1))],
+        lookups: &[(0x12, Some(5), (23, 28), (1, 2))],
+    };
+    assert_case(&rt, rt.alloc(), &case)
 }
 
 // The last longer rule of a block goes while a lookup is in the group: the group's word is that of the
 // cover by then.
 #[test]
 fn cover_answer(rt: HostRuntime) -> Result<(), Fail> {
-    let changes = [
-        add(&rt, 0x10, 4, 7),
-        add(&rt, 0x12, 8, 5),
-        delete(&rt, 0x12, 8),
-    ];
-    let deeds = [Deed::Online, Deed::Lookup(0x12)];
-    let bursts = [(WRITER, 22), (WORKER, 4), (WRITER, 5), (WORKER, 2)];
-    let trace = played(&rt, rt.alloc(), ONE_GROUP, &changes, &deeds, &bursts)?;
-    let last_five = [
-        (Kind::BumpSequence, 0, 5),
-        (Kind::StoreSecond, 2, SEVEN),
-        (Kind::StoreFirst, 1, SEVEN),
-        (Kind::BumpToken, 0, 2),
-        (Kind::BumpSequence, 0, 6),
-    ];
-    assert_steps(&rt, &trace, 27, WRITER, &last_five);
-    let replies = [ADDED, ADDED, deleted(&rt, 5)];
-    let lookups = [seen(&rt, 0x12, Some(7), (26, 32), (2, 3))];
-    assert_trace(&rt, &trace, 33, &replies, &lookups);
-    Ok(())
+    let case = Case {
+        config: ONE_GROUP,
+        changes: &[
+            Edit::Add(0x10, 4, 7),
+            Edit::Add(0x12, 8, 5),
+            Edit::Delete(0x12, 8),
+        ],
+        deeds: &[Deed::Online, Deed::Lookup(0x12)],
+        bursts: &[(WRITER, 22), (WORKER, 4), (WRITER, 5), (WORKER, 2)],
+        steps: &[
+            (27, WRITER, Kind::BumpSequence, 0, 5),
+            (28, WRITER, Kind::StoreSecond, 2, SEVEN),
+            (29, WRITER, Kind::StoreFirst, 1, SEVEN),
+            (30, WRITER, Kind::BumpToken, 0, 2),
+            (31, WRITER, Kind::BumpSequence, 0, 6),
+        ],
+        count: 33,
+        replies: &[ADDED, ADDED, Answer::Deleted(5)],
+        lookups: &[(0x12, Some(7), (26, 32), (2, 3))],
+    };
+    assert_case(&rt, rt.alloc(), &case)
 }
 
 // An add that found no group, since worker 0 is at counter 1.
-const HELD: Reply = Reply::Refused(Refusal::NoGroups {
+const HELD: Answer = Answer::Other(Reply::Refused(Refusal::NoGroups {
     oldest: Some(Busy {
         worker: 0,
         counter: 1,
     }),
-});
+}));
 
 // A worker in the middle of a lookup holds the one group back; once it has reported a quiescent state
 // the same add takes the group.
 #[test]
 fn held_then_reused(rt: HostRuntime) -> Result<(), Fail> {
-    let changes = [
-        add(&rt, 0x12, 8, 5),
-        delete(&rt, 0x12, 8),
-        add(&rt, 0x35, 8, 6),
-        add(&rt, 0x35, 8, 6),
-    ];
-    let deeds = [Deed::Online, Deed::Lookup(0x12), Deed::Quiescent];
-    let bursts = [
-        (WRITER, 19),
-        (WORKER, 4),
-        (WRITER, 6),
-        (WORKER, 4),
-        (WRITER, 20),
-    ];
-    let trace = played(&rt, rt.alloc(), ONE_GROUP, &changes, &deeds, &bursts)?;
-    assert_steps(&rt, &trace, 29, WRITER, &[(Kind::LoadCounter, 0, 1)]);
-    assert_steps(&rt, &trace, 34, WRITER, &[(Kind::LoadCounter, 0, 2)]);
-    let last = [(Kind::StoreFirst, 3, GROUP), (Kind::BumpSequence, 0, 6)];
-    assert_steps(&rt, &trace, 52, WRITER, &last);
-    let replies = [ADDED, deleted(&rt, 5), HELD, ADDED];
-    let lookups = [seen(&rt, 0x12, None, (23, 30), (1, 2))];
-    assert_trace(&rt, &trace, 53, &replies, &lookups);
-    Ok(())
+    let case = Case {
+        config: ONE_GROUP,
+        changes: &[
+            Edit::Add(0x12, 8, 5),
+            Edit::Delete(0x12, 8),
+            Edit::Add(0x35, 8, 6),
+            Edit::Add(0x35, 8, 6),
+        ],
+        deeds: &[Deed::Online, Deed::Lookup(0x12), Deed::Quiescent],
+        bursts: &[
+            (WRITER, 19),
+            (WORKER, 4),
+            (WRITER, 6),
+            (WORKER, 4),
+            (WRITER, 20),
+        ],
+        steps: &[
+            (29, WRITER, Kind::LoadCounter, 0, 1),
+            (34, WRITER, Kind::LoadCounter, 0, 2),
+            (52, WRITER, Kind::StoreFirst, 3, GROUP),
+            (53, WRITER, Kind::BumpSequence, 0, 6),
+        ],
+        count: 53,
+        replies: &[ADDED, Answer::Deleted(5), HELD, ADDED],
+        lookups: &[(0x12, None, (23, 30), (1, 2))],
+    };
+    assert_case(&rt, rt.alloc(), &case)
 }
 
 // A token that was loaded early is stored only after the group was reused. The worker reads first words
 // after that store alone, so its lookup finds the new ones.
 #[test]
 fn stale_counter(rt: HostRuntime) -> Result<(), Fail> {
-    let changes = [
-        add(&rt, 0x12, 8, 5),
-        delete(&rt, 0x12, 8),
-        add(&rt, 0x35, 8, 6),
-    ];
-    let deeds = [Deed::Online, Deed::Lookup(0x12)];
-    let bursts = [(WRITER, 19), (WORKER, 1), (WRITER, 25), (WORKER, 4)];
-    let trace = played(&rt, rt.alloc(), ONE_GROUP, &changes, &deeds, &bursts)?;
-    assert_steps(&rt, &trace, 20, WORKER, &[(Kind::LoadToken, 0, 1)]);
-    assert_steps(&rt, &trace, 26, WRITER, &[(Kind::LoadCounter, 0, 0)]);
-    assert_steps(&rt, &trace, 46, WORKER, &[(Kind::StoreCounter, 0, 1)]);
-    let replies = [ADDED, deleted(&rt, 5), ADDED];
-    let lookups = [seen(&rt, 0x12, None, (48, 48), (3, 3))];
-    assert_trace(&rt, &trace, 49, &replies, &lookups);
-    Ok(())
+    let case = Case {
+        config: ONE_GROUP,
+        changes: &[
+            Edit::Add(0x12, 8, 5),
+            Edit::Delete(0x12, 8),
+            Edit::Add(0x35, 8, 6),
+        ],
+        deeds: &[Deed::Online, Deed::Lookup(0x12)],
+        bursts: &[(WRITER, 19), (WORKER, 1), (WRITER, 25), (WORKER, 4)],
+        steps: &[
+            (20, WORKER, Kind::LoadToken, 0, 1),
+            (26, WRITER, Kind::LoadCounter, 0, 0),
+            (46, WORKER, Kind::StoreCounter, 0, 1),
+        ],
+        count: 49,
+        replies: &[ADDED, Answer::Deleted(5), ADDED],
+        lookups: &[(0x12, None, (48, 48), (3, 3))],
+    };
+    assert_case(&rt, rt.alloc(), &case)
 }
 
 // Four addresses in one lookup: each has its own span of reads, and the same address can have two
 // answers.
 #[test]
 fn four_lookups(rt: HostRuntime) -> Result<(), Fail> {
-    let changes = [
-        add(&rt, 0x12, 8, 5),
-        add(&rt, 0x35, 8, 6),
-        delete(&rt, 0x12, 8),
-    ];
-    let deeds = [Deed::Online, Deed::Lookup4([0x12, 0x35, 0x12, 0x40])];
-    let bursts = [(WRITER, 38), (WORKER, 8), (WRITER, 5), (WORKER, 3)];
-    let trace = played(&rt, rt.alloc(), TWO_GROUPS, &changes, &deeds, &bursts)?;
-    assert_steps(&rt, &trace, 46, WORKER, &[(Kind::LoadSecond, 2, FIVE)]);
-    let last = [(Kind::LoadSecond, 21, SIX), (Kind::LoadSecond, 2, 0)];
-    assert_steps(&rt, &trace, 52, WORKER, &last);
-    let replies = [ADDED, ADDED, deleted(&rt, 5)];
-    let lookups = [
-        seen(&rt, 0x12, Some(5), (42, 46), (2, 3)),
-        seen(&rt, 0x35, Some(6), (43, 52), (2, 3)),
-        seen(&rt, 0x12, None, (44, 53), (2, 3)),
-        seen(&rt, 0x40, None, (45, 45), (2, 3)),
-    ];
-    assert_trace(&rt, &trace, 54, &replies, &lookups);
-    Ok(())
+    let case = Case {
+        config: TWO_GROUPS,
+        changes: &[
+            Edit::Add(0x12, 8, 5),
+            Edit::Add(0x35, 8, 6),
+            Edit::Delete(0x12, 8),
+        ],
+        deeds: &[Deed::Online, Deed::Lookup4([0x12, 0x35, 0x12, 0x40])],
+        bursts: &[(WRITER, 38), (WORKER, 8), (WRITER, 5), (WORKER, 3)],
+        steps: &[
+            (46, WORKER, Kind::LoadSecond, 2, FIVE),
+            (52, WORKER, Kind::LoadSecond, 21, SIX),
+            (53, WORKER, Kind::LoadSecond, 2, 0),
+        ],
+        count: 54,
+        replies: &[ADDED, ADDED, Answer::Deleted(5)],
+        lookups: &[
+            (0x12, Some(5), (42, 46), (2, 3)),
+            (0x35, Some(6), (43, 52), (2, 3)),
+            (0x12, None, (44, 53), (2, 3)),
+            (0x40, None, (45, 45), (2, 3)),
+        ],
+    };
+    assert_case(&rt, rt.alloc(), &case)
 }
 
 // Two groups that are freed.
-const BOTH_FREED: Reply = Reply::Reclaimed(Reclaimed {
+const BOTH_FREED: Answer = Answer::Other(Reply::Reclaimed(Reclaimed {
     freed: 2,
     stopped: None,
-});
+}));
 
 // A token that has passed stays passed: a counter below it, stored later, holds nothing back.
 #[test]
 fn remembered_token(rt: HostRuntime) -> Result<(), Fail> {
-    let changes = [
-        add(&rt, 0x12, 8, 5),
-        add(&rt, 0x35, 8, 6),
-        delete(&rt, 0x12, 8),
-        delete(&rt, 0x35, 8),
-        Change::Synchronize,
-        Change::Reclaim(16),
-        add(&rt, 0x40, 4, 7),
-    ];
-    let bursts = [
-        (WRITER, 38),
-        (WORKER, 1),
-        (WRITER, 12),
-        (WORKER, 1),
-        (WRITER, 1),
-    ];
-    let deeds = [Deed::Online];
-    let trace = played(&rt, rt.alloc(), TWO_GROUPS, &changes, &deeds, &bursts)?;
-    assert_steps(&rt, &trace, 39, WORKER, &[(Kind::LoadToken, 0, 1)]);
-    let synchronize = [(Kind::BumpToken, 0, 4), (Kind::LoadCounter, 0, 0)];
-    assert_steps(&rt, &trace, 50, WRITER, &synchronize);
-    assert_steps(&rt, &trace, 52, WORKER, &[(Kind::StoreCounter, 0, 1)]);
-    assert_steps(&rt, &trace, 53, WRITER, &[(Kind::BumpSequence, 0, 9)]);
-    let (five, six) = (deleted(&rt, 5), deleted(&rt, 6));
-    let replies = [ADDED, ADDED, five, six, Reply::Synchronized, BOTH_FREED];
-    assert_trace(&rt, &trace, 53, &replies, &[]);
-    Ok(())
+    let case = Case {
+        config: TWO_GROUPS,
+        changes: &[
+            Edit::Add(0x12, 8, 5),
+            Edit::Add(0x35, 8, 6),
+            Edit::Delete(0x12, 8),
+            Edit::Delete(0x35, 8),
+            Edit::Synchronize,
+            Edit::Reclaim(16),
+            Edit::Add(0x40, 4, 7),
+        ],
+        deeds: &[Deed::Online],
+        bursts: &[
+            (WRITER, 38),
+            (WORKER, 1),
+            (WRITER, 12),
+            (WORKER, 1),
+            (WRITER, 1),
+        ],
+        steps: &[
+            (39, WORKER, Kind::LoadToken, 0, 1),
+            (50, WRITER, Kind::BumpToken, 0, 4),
+            (51, WRITER, Kind::LoadCounter, 0, 0),
+            (52, WORKER, Kind::StoreCounter, 0, 1),
+            (53, WRITER, Kind::BumpSequence, 0, 9),
+        ],
+        count: 53,
+        replies: &[
+            ADDED,
+            ADDED,
+            Answer::Deleted(5),
+            Answer::Deleted(6),
+            Answer::Other(Reply::Synchronized),
+            BOTH_FREED,
+        ],
+        lookups: &[],
+    };
+    assert_case(&rt, rt.alloc(), &case)
 }
 
 // The store of this number, from 0 on, of a default route over a table whose block 1 has a group, in
@@ -259,47 +277,71 @@ fn default_store(number: usize) -> (Kind, u64) {
     }
 }
 
-// The 32 steps of an add of a default route under which one block has a group.
+// The stores of an add of a default route under which one block has a group.
 fn assert_default_route(rt: &impl Abort, trace: &Trace) {
-    assert_steps(rt, trace, 20, WRITER, &[(Kind::BumpSequence, 0, 3)]);
     for number in 0..30usize {
         let (kind, index) = default_store(number);
-        let store = [(kind, index, 0x0100_0009)];
-        assert_steps(rt, trace, number + 21, WRITER, &store);
+        let store = (number + 21, WRITER, kind, index, 0x0100_0009);
+        assert_step(rt, &trace.steps, &store);
     }
-    assert_steps(rt, trace, 51, WRITER, &[(Kind::BumpSequence, 0, 4)]);
 }
 
 // A default route fills the words of a group where the group's block stands among the others.
 #[test]
 fn default_under_a_group(rt: HostRuntime) -> Result<(), Fail> {
-    let changes = [add(&rt, 0x12, 8, 5), add(&rt, 0x00, 0, 9)];
-    let bursts = [(WRITER, 60)];
-    let trace = played(&rt, rt.alloc(), ONE_GROUP, &changes, &[], &bursts)?;
+    let case = Case {
+        config: ONE_GROUP,
+        changes: &[Edit::Add(0x12, 8, 5), Edit::Add(0x00, 0, 9)],
+        deeds: &[],
+        bursts: &[(WRITER, 60)],
+        steps: &[
+            (20, WRITER, Kind::BumpSequence, 0, 3),
+            (51, WRITER, Kind::BumpSequence, 0, 4),
+        ],
+        count: 51,
+        replies: &[ADDED, ADDED],
+        lookups: &[],
+    };
+    let trace = traced(&rt, rt.alloc(), &case)?;
     assert_default_route(&rt, &trace);
-    assert_trace(&rt, &trace, 51, &[ADDED, ADDED], &[]);
     Ok(())
+}
+
+// The world of one group.
+const SETTING: Setting = Setting {
+    first: 4,
+    second: 4,
+    groups: ONE_GROUP.groups,
+    workers: ONE_GROUP.workers,
+    first_token: ONE_GROUP.first_token,
+};
+
+// At each of these reads the address shows this version.
+fn assert_versions(rt: &impl Abort, trace: &Trace, addr: u32, versions: &[(usize, usize)]) {
+    for (read, version) in versions {
+        let shown = version_at(&SETTING, &trace.steps, *read, addr);
+        assert_at(rt, ("read", *read), shown, *version);
+    }
 }
 
 // Two lookups of one address, of which the first ends within an update and the second after it: the
 // version that the address shows goes up from one to the other.
 #[test]
 fn two_answers(rt: HostRuntime) -> Result<(), Fail> {
-    let changes = [add(&rt, 0x10, 4, 7), add(&rt, 0x12, 8, 5)];
-    let deeds = [Deed::Online, Deed::Lookup(0x12), Deed::Lookup(0x12)];
-    let bursts = [(WRITER, 20), (WORKER, 5), (WRITER, 2), (WORKER, 4)];
-    let plan = planned(rt.alloc(), ONE_GROUP, &changes, &deeds, &bursts)?;
-    let trace = plan.run(&rt, rt.alloc())?;
-    judge(&rt, rt.alloc(), &plan, &trace)?;
-    let lookups = [
-        seen(&rt, 0x12, Some(7), (24, 24), (1, 2)),
-        seen(&rt, 0x12, Some(5), (29, 30), (2, 2)),
-    ];
-    assert_trace(&rt, &trace, 31, &[ADDED, ADDED], &lookups);
-    let setting = setting_of(&plan);
-    for (read, version) in [(24, 1), (30, 2)] {
-        let shown = version_at(&setting, &trace.steps, read, 0x12);
-        assert_at(&rt, ("read", read), shown, version);
-    }
+    let case = Case {
+        config: ONE_GROUP,
+        changes: &[Edit::Add(0x10, 4, 7), Edit::Add(0x12, 8, 5)],
+        deeds: &[Deed::Online, Deed::Lookup(0x12), Deed::Lookup(0x12)],
+        bursts: &[(WRITER, 20), (WORKER, 5), (WRITER, 2), (WORKER, 4)],
+        steps: &[],
+        count: 31,
+        replies: &[ADDED, ADDED],
+        lookups: &[
+            (0x12, Some(7), (24, 24), (1, 2)),
+            (0x12, Some(5), (29, 30), (2, 2)),
+        ],
+    };
+    let trace = traced(&rt, rt.alloc(), &case)?;
+    assert_versions(&rt, &trace, 0x12, &[(24, 1), (30, 2)]);
     Ok(())
 }

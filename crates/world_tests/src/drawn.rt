@@ -5,7 +5,7 @@ ghost use Rattle.lpm_bits.specs.Widths.{IsShape};
 
 use super::asserting::assert_at;
 use super::drawing::{Draw, Sizes};
-use super::judging::judge;
+use super::judging::judged;
 use super::plan::{ONE_GROUP, Plan};
 use qsbr::Config;
 use std::alloc::Global;
@@ -25,8 +25,7 @@ fn judge_drawn<const FIRST: u32, const SECOND: u32>(
 {
     for number in from..to {
         let plan: Plan<FIRST, SECOND> = Draw::plan(rt, alloc, number, sizes)?;
-        let trace = plan.run(rt, alloc)?;
-        judge(rt, alloc, &plan, &trace)?;
+        judged(rt, alloc, &plan)?;
     }
     Ok(())
 }

@@ -1,18 +1,18 @@
 // Whether the trace of a run is what its plan leads to, by plain deciders.
 
+ghost use Rattle.lpm_bits.specs.Widths.{IsShape};
+
 use super::asserting::assert_at;
-use super::plan::{Plan, planned};
+use super::plan::{Edit, Plan, planned};
 use super::slow_writer::SlowWriter;
-use interleave::{Actor, Change, Deed, Kind, Seen, Step, Trace};
+use interleave::{Actor, Deed, Kind, Seen, Step, Trace};
 use qsbr::Config;
 use std::alloc::{AllocError, Global};
 use std::process::Abort;
 use std::test::Fail;
 use trace_reference::{self as reference, Setting, Versions};
 
-pub(crate) fn setting_of<const FIRST: u32, const SECOND: u32>(
-    plan: &Plan<FIRST, SECOND>,
-) -> Setting {
+fn setting_of<const FIRST: u32, const SECOND: u32>(plan: &Plan<FIRST, SECOND>) -> Setting {
     Setting {
         first: FIRST,
         second: SECOND,
@@ -307,7 +307,7 @@ fn judge_steps<const FIRST: u32, const SECOND: u32>(
 }
 
 // Every plain decider accepts the run.
-pub(crate) fn judge<const FIRST: u32, const SECOND: u32>(
+fn judge<const FIRST: u32, const SECOND: u32>(
     rt: &impl Abort,
     alloc: Global,
     plan: &Plan<FIRST, SECOND>,
@@ -321,17 +321,28 @@ pub(crate) fn judge<const FIRST: u32, const SECOND: u32>(
     judge_workers(rt, alloc, plan, trace, &versions)
 }
 
+// The run of the plan. All deciders accept it.
+pub(crate) fn judged<const FIRST: u32, const SECOND: u32>(
+    rt: &impl Abort,
+    alloc: Global,
+    plan: &Plan<FIRST, SECOND>,
+) -> Result<Trace, Fail>
+    requires { IsShape FIRST SECOND }
+{
+    let trace = plan.run(rt, alloc)?;
+    judge(rt, alloc, plan, &trace)?;
+    Ok(trace)
+}
+
 // The run of a plan with one worker. All deciders accept it.
 pub(crate) fn played(
     rt: &impl Abort,
     alloc: Global,
     config: Config,
-    changes: &[Change<4, 4>],
+    edits: &[Edit],
     deeds: &[Deed],
     bursts: &[(Actor, usize)],
 ) -> Result<Trace, Fail> {
-    let plan = planned(alloc, config, changes, deeds, bursts)?;
-    let trace = plan.run(rt, alloc)?;
-    judge(rt, alloc, &plan, &trace)?;
-    Ok(trace)
+    let plan = planned(rt, alloc, config, edits, deeds, bursts)?;
+    judged(rt, alloc, &plan)
 }

@@ -75,12 +75,39 @@ pub(crate) fn hop(rt: &impl Abort, number: u32) -> Hop {
     Hop::new(number).expect(rt, "a next hop")
 }
 
-pub(crate) fn add(rt: &impl Abort, bits: u32, len: u32, number: u32) -> Change<4, 4> {
-    Change::Add(prefix(rt, bits, len), hop(rt, number))
+// A change over 4 and 4 bits as plain numbers.
+#[derive(Clone, Copy)]
+pub(crate) enum Edit {
+    // The bits, the length and the next hop of a rule.
+    Add(u32, u32, u32),
+    Delete(u32, u32),
+    Flush,
+    Reclaim(usize),
+    Synchronize,
 }
 
-pub(crate) fn delete(rt: &impl Abort, bits: u32, len: u32) -> Change<4, 4> {
-    Change::Delete(prefix(rt, bits, len))
+impl Edit {
+    fn change(self, rt: &impl Abort) -> Change<4, 4> {
+        match self {
+            Edit::Add(bits, len, number) => Change::Add(prefix(rt, bits, len), hop(rt, number)),
+            Edit::Delete(bits, len) => Change::Delete(prefix(rt, bits, len)),
+            Edit::Flush => Change::Flush,
+            Edit::Reclaim(max) => Change::Reclaim(max),
+            Edit::Synchronize => Change::Synchronize,
+        }
+    }
+}
+
+fn changes_of(
+    rt: &impl Abort,
+    alloc: Global,
+    edits: &[Edit],
+) -> Result<Vec<Change<4, 4>>, AllocError> {
+    let mut changes = Vec::new(alloc);
+    for edit in edits {
+        changes.push(edit.change(rt))?;
+    }
+    Ok(changes)
 }
 
 // Puts this many items of the actor at the end of a schedule.
@@ -103,21 +130,27 @@ pub(crate) fn schedule_of(
     Ok(items)
 }
 
+// The script of one worker.
+fn script_of(alloc: Global, deeds: &[Deed]) -> Result<Vec<Vec<Deed>>, AllocError> {
+    let mut scripts = Vec::new(alloc);
+    scripts.push(Vec::from_slice(alloc, deeds)?)?;
+    Ok(scripts)
+}
+
 // A plan with one worker.
 pub(crate) fn planned(
+    rt: &impl Abort,
     alloc: Global,
     config: Config,
-    changes: &[Change<4, 4>],
+    edits: &[Edit],
     deeds: &[Deed],
     bursts: &[(Actor, usize)],
 ) -> Result<Plan<4, 4>, AllocError> {
-    let mut scripts = Vec::new(alloc);
-    scripts.push(Vec::from_slice(alloc, deeds)?)?;
     Ok(Plan {
         number: 0,
         config,
-        changes: Vec::from_slice(alloc, changes)?,
-        scripts,
+        changes: changes_of(rt, alloc, edits)?,
+        scripts: script_of(alloc, deeds)?,
         schedule: schedule_of(alloc, bursts)?,
     })
 }
