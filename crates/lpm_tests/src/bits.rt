@@ -54,31 +54,26 @@ fn prefixes_of_32_bits(rt: HostRuntime) -> Result<(), Fail> {
         let prefix = assert_prefix(&rt, bits, len, kept)?;
         assert_at(&rt, (bits, len, addr), prefix.covers(addr), is_covered);
     }
-    assert!(rt; Ipv4::new(0, 33).is_err());
-    assert!(rt; Prefix::<4, 4>::new(0, 9).is_err());
+    assert_at(&rt, "33 of 32 bits", Ipv4::new(0, 33).is_err(), true);
+    assert_at(&rt, "9 of 8 bits", Prefix::<4, 4>::new(0, 9).is_err(), true);
     Ok(())
 }
 
 #[test]
 fn indices_and_hops(rt: HostRuntime) -> Result<(), Fail> {
-    assert!(rt; Shape::<24, 8>::is_addr(0xffff_ffff));
-    assert!(rt; Shape::<4, 4>::is_addr(0xff) && !Shape::<4, 4>::is_addr(0x100));
+    let last_of_32 = Shape::<24, 8>::is_addr(0xffff_ffff);
+    let last_of_8 = Shape::<4, 4>::is_addr(0xff);
+    let past_8 = Shape::<4, 4>::is_addr(0x100);
+    let are_addresses = [last_of_32, last_of_8, past_8];
+    assert_at(&rt, "addresses", are_addresses, [true, true, false]);
     let addr = 0x0a01_0180;
-    assert_at(
-        &rt,
-        "first index",
-        Shape::<24, 8>::first_index(addr),
-        0x0a_0101,
-    );
-    assert_at(
-        &rt,
-        "second index",
-        Shape::<24, 8>::second_index(addr),
-        0x80,
-    );
+    let first = Shape::<24, 8>::first_index(addr);
+    let second = Shape::<24, 8>::second_index(addr);
+    assert_at(&rt, "indices", [first, second], [0x0a_0101, 0x80]);
     let last = Hop::new(16_777_215)?;
     assert_at(&rt, "the last hop", last.number(), 16_777_215);
-    assert!(rt; Hop::new(16_777_216).is_err());
+    let past = Hop::new(16_777_216).is_err();
+    assert_at(&rt, "past the last hop", past, true);
     Ok(())
 }
 

@@ -122,6 +122,39 @@ fn give_up_first(
     groups
 }
 
+// Retires the group under a new token, which can be done.
+fn assert_given_up(
+    rt: &impl Abort,
+    domain: &mut Domain,
+    queue: &mut DeferQueue,
+    tokens: &mut Vec<u64>,
+    group: u32,
+)
+    requires { AreRetired tokens.old.items queue.old.items }
+    ensures retired { AreRetired tokens.new.items queue.new.items }
+    ensures counters { domain.new.counters ≡ domain.old.counters }
+{
+    let is_retired = give_up(domain, queue, tokens, group);
+    assert_at(rt, ("retired", group), is_retired, true);
+}
+
+// Retires groups 0, 1 and so on, as many as are wanted.
+fn assert_first_given_up(
+    rt: &impl Abort,
+    domain: &mut Domain,
+    queue: &mut DeferQueue,
+    tokens: &mut Vec<u64>,
+    groups: u32,
+    wanted: u32,
+)
+    requires { AreRetired tokens.old.items queue.old.items }
+    ensures retired { AreRetired tokens.new.items queue.new.items }
+    ensures counters { domain.new.counters ≡ domain.old.counters }
+{
+    let retired = give_up_first(domain, queue, tokens, groups);
+    assert_at(rt, ("retired of", groups), retired, wanted);
+}
+
 // A reclaim that remembers nothing.
 fn reclaim(domain: &Domain, queue: &mut DeferQueue, tokens: &mut Vec<u64>, max: usize) -> Reclaimed
     requires { AreRetired tokens.old.items queue.old.items }
@@ -188,25 +221,47 @@ fn unstopped(freed: usize) -> Reclaimed {
     }
 }
 
+// A reclaim that remembers nothing does what is wanted, and leaves this in front.
+fn assert_reclaim(
+    rt: &impl Abort,
+    domain: &Domain,
+    queue: &mut DeferQueue,
+    tokens: &mut Vec<u64>,
+    max: usize,
+    wanted: (Reclaimed, Option<(u32, u64)>),
+)
+    requires { AreRetired tokens.old.items queue.old.items }
+    ensures { AreRetired tokens.new.items queue.new.items }
+{
+    let reclaimed = reclaim(domain, queue, tokens, max);
+    assert_at(rt, ("reclaim", max), (reclaimed, queue.front()), wanted);
+}
+
 #[test]
 fn two_workers(rt: HostRuntime) -> Result<(), Fail> {
     let mut domain = Domain::new(rt.alloc(), 2, 1)?;
     let mut queue = DeferQueue::new(rt.alloc(), 2)?;
     let mut tokens = vec![in rt.alloc(); 0u64; 2]?;
     domain.online(0);
-    assert!(rt; give_up(&mut domain, &mut queue, &mut tokens, 0));
+    assert_given_up(&rt, &mut domain, &mut queue, &mut tokens, 0);
     domain.online(1);
-    assert!(rt; give_up(&mut domain, &mut queue, &mut tokens, 1));
+    assert_given_up(&rt, &mut domain, &mut queue, &mut tokens, 1);
 
-    let first = reclaim(&domain, &mut queue, &mut tokens, 16);
-    assert_at(&rt, "first", first, stopped(0, 0, 1));
+    let first = (stopped(0, 0, 1), Some((0, 2)));
+    assert_reclaim(&rt, &domain, &mut queue, &mut tokens, 16, first);
     domain.quiescent(0);
-    let second = reclaim(&domain, &mut queue, &mut tokens, 16);
-    assert_at(&rt, "second", second, stopped(1, 1, 2));
+    let second = (stopped(1, 1, 2), Some((1, 3)));
+    assert_reclaim(&rt, &domain, &mut queue, &mut tokens, 16, second);
     domain.offline(1);
-    let third = reclaim(&domain, &mut queue, &mut tokens, 16);
-    assert_at(&rt, "third", third, unstopped(1));
-    assert!(rt; queue.is_empty());
+    assert_reclaim(
+        &rt,
+        &domain,
+        &mut queue,
+        &mut tokens,
+        16,
+        (unstopped(1), None),
+    );
+    assert_waiting(&rt, &queue, 0, None);
     assert_at(&rt, "tokens", tokens.as_slice(), &[0, 0]);
     Ok(())
 }
@@ -224,8 +279,7 @@ fn assert_reclaimed(
     let mut domain = Domain::new(alloc, 2, 1)?;
     let mut queue = DeferQueue::new(alloc, 3)?;
     let mut tokens = vec![in alloc; 0u64; 3]?;
-    let retired = give_up_first(&mut domain, &mut queue, &mut tokens, 3);
-    assert_at(rt, "retired", retired, 3);
+    assert_first_given_up(rt, &mut domain, &mut queue, &mut tokens, 3, 3);
     domain.set_counter(0, counters[0]);
     domain.set_counter(1, counters[1]);
     let reclaimed = reclaim(&domain, &mut queue, &mut tokens, max);
@@ -253,21 +307,23 @@ fn pieces_of_a_queue(rt: HostRuntime) -> Result<(), Fail> {
     let mut domain = Domain::new(rt.alloc(), 0, 1)?;
     let mut queue = DeferQueue::new(rt.alloc(), 3)?;
     let mut tokens = vec![in rt.alloc(); 0u64; 4]?;
-    let retired = give_up_first(&mut domain, &mut queue, &mut tokens, 4);
-    assert_at(&rt, "it has room for three", retired, 3);
-    let none = reclaim(&domain, &mut queue, &mut tokens, 0);
-    assert_at(&rt, "none", none, unstopped(0));
-    assert_at(&rt, "none", queue.front(), Some((0, 2)));
-    let one = reclaim(&domain, &mut queue, &mut tokens, 1);
-    assert_at(&rt, "one", one, unstopped(1));
-    assert_at(&rt, "one", queue.front(), Some((1, 3)));
-    assert!(rt; give_up(&mut domain, &mut queue, &mut tokens, 0));
-    let two = reclaim(&domain, &mut queue, &mut tokens, 2);
-    assert_at(&rt, "two", two, unstopped(2));
-    assert_at(&rt, "two", queue.front(), Some((0, 5)));
-    let last = reclaim(&domain, &mut queue, &mut tokens, 16);
-    assert_at(&rt, "last", last, unstopped(1));
-    assert_at(&rt, "last", queue.front(), None);
+    // It has room for three.
+    assert_first_given_up(&rt, &mut domain, &mut queue, &mut tokens, 4, 3);
+    let none = (unstopped(0), Some((0, 2)));
+    assert_reclaim(&rt, &domain, &mut queue, &mut tokens, 0, none);
+    let one = (unstopped(1), Some((1, 3)));
+    assert_reclaim(&rt, &domain, &mut queue, &mut tokens, 1, one);
+    assert_given_up(&rt, &mut domain, &mut queue, &mut tokens, 0);
+    let two = (unstopped(2), Some((0, 5)));
+    assert_reclaim(&rt, &domain, &mut queue, &mut tokens, 2, two);
+    assert_reclaim(
+        &rt,
+        &domain,
+        &mut queue,
+        &mut tokens,
+        16,
+        (unstopped(1), None),
+    );
     assert_at(&rt, "tokens", tokens.as_slice(), &[0, 0, 0, 0]);
     Ok(())
 }
@@ -278,12 +334,11 @@ fn remembered_token(rt: HostRuntime) -> Result<(), Fail> {
     let mut domain = Domain::new(rt.alloc(), 1, 1)?;
     let mut queue = DeferQueue::new(rt.alloc(), 2)?;
     let mut tokens = vec![in rt.alloc(); 0u64; 2]?;
-    let retired = give_up_first(&mut domain, &mut queue, &mut tokens, 2);
-    assert_at(&rt, "retired", retired, 2);
+    assert_first_given_up(&rt, &mut domain, &mut queue, &mut tokens, 2, 2);
     let mut passed = 4;
     domain.set_counter(0, 1);
-    let forgetting = reclaim(&domain, &mut queue, &mut tokens, 16);
-    assert_at(&rt, "forgetting", forgetting, stopped(0, 0, 1));
+    let forgetting = (stopped(0, 0, 1), Some((0, 2)));
+    assert_reclaim(&rt, &domain, &mut queue, &mut tokens, 16, forgetting);
     let all = reclaim_remembering(&domain, &mut queue, &mut tokens, &mut passed, 16);
     assert_at(&rt, "remembering", all, unstopped(2));
     assert_at(&rt, "passed", passed, 4);
@@ -309,6 +364,6 @@ fn calls_of_a_queue(rt: HostRuntime) -> Result<(), Fail> {
     queue.retire(9, 3);
     assert_at(&rt, "front", queue.front(), Some((8, 1 << 62)));
     let none = DeferQueue::new(rt.alloc(), 0)?;
-    assert!(rt; none.is_empty() && none.is_full());
+    assert_waiting(&rt, &none, 0, None);
     Ok(())
 }

@@ -63,7 +63,8 @@ fn two_workers(rt: HostRuntime) -> Result<(), Fail> {
     assert_at(&rt, "second", domain.check(second), held(1, 2));
     domain.offline(1);
     assert_at(&rt, "second", domain.check(second), Ok(()));
-    assert!(rt; domain.is_online(0) && !domain.is_online(1));
+    let are_online = [domain.is_online(0), domain.is_online(1)];
+    assert_at(&rt, "online", are_online, [true, false]);
     let counters = (domain.counter(0), domain.counter(1));
     assert_at(&rt, "counters", counters, (3, 0));
     Ok(())

@@ -185,10 +185,10 @@ fn plain_search_agrees(rt: HostRuntime) -> Result<(), Fail> {
     let mut plain: Vec<Plain> = Vec::new(rt.alloc());
     assert_same(&rt, &rules, &plain)?;
     put_all(&rt, &mut rules, &mut plain)?;
-    assert!(rt; rules.is_full());
+    assert_at(&rt, "full", rules.is_full(), true);
     remove_all(&rt, &mut rules, &mut plain)?;
     assert_at(&rt, "cleared", rules.clear(), plain.len());
-    assert!(rt; rules.is_empty());
+    assert_at(&rt, "empty", rules.is_empty(), true);
     assert_same(&rt, &rules, &[])?;
     Ok(())
 }

@@ -149,6 +149,16 @@ impl Table {
         assert_at(rt, ("second word", place), self.cells.second(place), word);
     }
 
+    // These first words and second words, each at its place.
+    fn assert_words(&mut self, rt: &impl Abort, firsts: &[(usize, u64)], seconds: &[(usize, u64)]) {
+        for (place, word) in firsts {
+            self.assert_first(rt, *place, *word);
+        }
+        for (place, word) in seconds {
+            self.assert_second(rt, *place, *word);
+        }
+    }
+
     // The stores of the last change were these, in this order.
     fn assert_made(&self, rt: &impl Abort, expected: &[Stores]) {
         let mut made: usize = 0;
@@ -213,13 +223,10 @@ fn cover_answer(rt: HostRuntime) -> Result<(), Fail> {
     table.assert_made(&rt, &[Stores::Firsts(1, 2)]);
     table.add(&rt, 0x12, 8, 5);
     table.assert_made(&rt, &LINK);
-    table.assert_first(&rt, 1, GROUP);
-    table.assert_second(&rt, 1, SEVEN);
-    table.assert_second(&rt, 2, FIVE);
+    table.assert_words(&rt, &[(1, GROUP)], &[(1, SEVEN), (2, FIVE)]);
     table.delete(&rt, 0x12, 8);
     table.assert_made(&rt, &[Stores::Seconds(2, 3), Stores::Unlinked(1, 0)]);
-    table.assert_first(&rt, 1, SEVEN);
-    table.assert_second(&rt, 2, SEVEN);
+    table.assert_words(&rt, &[(1, SEVEN)], &[(2, SEVEN)]);
     Ok(())
 }
 
@@ -230,8 +237,7 @@ fn answer_from_unlinked_group(rt: HostRuntime) -> Result<(), Fail> {
     table.assert_made(&rt, &LINK);
     table.flush(&rt);
     table.assert_made(&rt, &[Stores::Unlinked(1, 0)]);
-    table.assert_first(&rt, 1, 0);
-    table.assert_second(&rt, 2, FIVE);
+    table.assert_words(&rt, &[(1, 0)], &[(2, FIVE)]);
     Ok(())
 }
 
@@ -247,9 +253,7 @@ fn order_under_a_group(rt: HostRuntime) -> Result<(), Fail> {
         Stores::Firsts(2, 16),
     ];
     table.assert_made(&rt, &around);
-    table.assert_first(&rt, 15, NINE);
-    table.assert_second(&rt, 2, FIVE);
-    table.assert_second(&rt, 3, NINE);
+    table.assert_words(&rt, &[(15, NINE)], &[(2, FIVE), (3, NINE)]);
     table.flush(&rt);
     let all = [
         Stores::Firsts(0, 1),
