@@ -1,5 +1,5 @@
 //! The commands of the program and their options, as the parser reads them.
-ghost use Rattle.std.specs.Prelude.{◌≡◌, IfOk, true, false};
+ghost use Rattle.std.specs.Prelude.{◌≡◌, IfOk, codes, true, false};
 ghost use Rattle.clap.specs.Words.{App, app_of, rule_of, new_app, with_rule};
 ghost use Rattle.lpm_options.specs.Commands.{file_rule, number_rule, with_command, program_app};
 ghost use Rattle.lpm_options.specs.Commands.{with_file};
@@ -67,26 +67,22 @@ fn lookup_command<'a>(alloc: Global) -> Result<Command<'a>, AllocError>
 {
     let command = bare_command(alloc, "lookup", help::LOOKUP, help::AFTER_LOOKUP);
     let command = with_file(alloc, command, "ROUTES", help::ROUTES)?;
-    let command = with_file(alloc, command, "ADDRESSES", help::ADDRESSES)?;
-    with_limits(alloc, command)
+    with_last_file(alloc, command, "ADDRESSES", help::ADDRESSES)
 }
 
 fn apply_command<'a>(alloc: Global) -> Result<Command<'a>, AllocError>
     ensures { IfOk result (λ c. app_of c ≡ apply_app) }
 {
     let command = bare_command(alloc, "apply", help::APPLY, help::AFTER_APPLY);
-    let command = with_file(alloc, command, "ROUTES", help::ROUTES)?;
-    let command = with_file(alloc, command, "UPDATES", help::UPDATES)?;
-    let command = with_file(alloc, command, "ADDRESSES", help::ADDRESSES)?;
-    with_limits(alloc, command)
+    let command = with_routes_and_updates(alloc, command)?;
+    with_last_file(alloc, command, "ADDRESSES", help::ADDRESSES)
 }
 
 fn report_command<'a>(alloc: Global) -> Result<Command<'a>, AllocError>
     ensures { IfOk result (λ c. app_of c ≡ report_app) }
 {
     let command = bare_command(alloc, "report", help::REPORT, help::AFTER_REPORT);
-    let command = with_file(alloc, command, "ROUTES", help::ROUTES)?;
-    let command = with_file(alloc, command, "UPDATES", help::UPDATES)?;
+    let command = with_routes_and_updates(alloc, command)?;
     with_limits(alloc, command)
 }
 
@@ -116,6 +112,31 @@ fn with_file<'a>(
     ensures { IfOk result (λ c. app_of c ≡ with_file (app_of command.entry) id.entry.now) }
 {
     command.arg(file(alloc, id, help))
+}
+
+fn with_routes_and_updates<'a>(
+    alloc: Global,
+    command: Command<'a>,
+) -> Result<Command<'a>, AllocError>
+    ensures { IfOk result (λ c. app_of c ≡ with_file (with_file (app_of command.entry)
+        (codes "ROUTES")) (codes "UPDATES")) }
+{
+    let command = with_file(alloc, command, "ROUTES", help::ROUTES)?;
+    with_file(alloc, command, "UPDATES", help::UPDATES)
+}
+
+// The command with its last file, and with the options of each command that makes a table.
+fn with_last_file<'a>(
+    alloc: Global,
+    command: Command<'a>,
+    id: &'a str,
+    help: &'a str,
+) -> Result<Command<'a>, AllocError>
+    ensures { IfOk result (λ c. app_of c ≡ with_limits (with_file (app_of command.entry)
+        id.entry.now)) }
+{
+    let command = with_file(alloc, command, id, help)?;
+    with_limits(alloc, command)
 }
 
 // The options of each command that makes a table.
