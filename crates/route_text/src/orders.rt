@@ -46,6 +46,18 @@ pub(crate) fn keyword_of(text: &[u8]) -> Option<Keyword>
         b"del" => Some(Keyword::Del),
         b"flush" => Some(Keyword::Flush),
         b"reclaim" => Some(Keyword::Reclaim),
+        _ => report_of(text),
+    }
+}
+
+// The word of a report that the text is.
+fn report_of(text: &[u8]) -> Option<Keyword>
+    ensures found { IfSome result (λ keyword. text.now ≡ word_text keyword) }
+    ensures online { IfNone result (text.now ≡ word_text Keyword.Online → ⊥) }
+    ensures offline { IfNone result (text.now ≡ word_text Keyword.Offline → ⊥) }
+    ensures quiescent { IfNone result (text.now ≡ word_text Keyword.Quiescent → ⊥) }
+{
+    match text {
         b"online" => Some(Keyword::Online),
         b"offline" => Some(Keyword::Offline),
         b"quiescent" => Some(Keyword::Quiescent),
