@@ -11,8 +11,6 @@ mod gate;
 mod pieces;
 mod plain;
 mod running;
-#[cfg(test)]
-mod tests;
 
 pub use bulk_error::BulkError;
 pub use desk::{Desk, seat_all};

@@ -3,7 +3,6 @@
 //! its outcomes with these, and both with cases that were worked out by hand.
 #![tactic(auto)]
 
-pub mod cases;
 mod intervals;
 mod outcomes;
 mod plain;

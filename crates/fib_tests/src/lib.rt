@@ -5,6 +5,8 @@
 #[cfg(test)]
 mod asserting;
 #[cfg(test)]
+mod cases;
+#[cfg(test)]
 mod laws;
 #[cfg(test)]
 mod table;

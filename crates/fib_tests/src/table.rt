@@ -1,9 +1,9 @@
 ghost use Rattle.lpm_bits.specs.Widths.{IsShape};
 
 use super::asserting::assert_at;
+use super::cases::{self, Case};
 use fib::{Fib, OpenError, Replay};
 use fib_model::{Command, Outcome, Report};
-use fib_reference::cases::{self, Case};
 use fib_reference::{Account, expected};
 use lpm_bits::{Hop, Prefix, Shape};
 use lpm_groups::Counts;

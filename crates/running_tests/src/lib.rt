@@ -1,5 +1,5 @@
-//! The tests of the running table. They call what is public alone, so they stand here: a crate with a
-//! test is proved twice.
+//! The tests of the running table, and of addresses answered in pieces. They call what is public alone,
+//! so they stand here: a crate with a test is proved twice.
 #![tactic(auto)]
 
 #[cfg(test)]
@@ -8,3 +8,5 @@ mod asserting;
 mod beside;
 #[cfg(test)]
 mod cases;
+#[cfg(test)]
+mod pieces;

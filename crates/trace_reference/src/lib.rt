@@ -10,8 +10,6 @@ mod memory;
 mod order;
 mod reuse;
 mod setting;
-#[cfg(test)]
-mod tests;
 mod versions;
 
 pub use answers::{Seen, is_legal, lookups, never_falls};

@@ -3,16 +3,13 @@
 
 mod two_workers;
 
-use crate::Setting;
-use crate::answers::{Seen, is_legal, lookups, never_falls};
-use crate::deeds::{deeds_are_done, deeds_are_sound};
-use crate::memory::loads_are_stores;
-use crate::order::writes_in_order;
-use crate::reuse::reuse_is_lawful;
-use crate::versions::{PlainRule, Versions};
 use lpm_trace::{Actor, Deed, Kind, Step};
 use std::alloc::{AllocError, Global};
 use std::test::Fail;
+use trace_reference::{
+    PlainRule, Seen, Setting, Versions, deeds_are_done, deeds_are_sound, is_legal,
+    loads_are_stores, lookups, never_falls, reuse_is_lawful, writes_in_order,
+};
 
 /// Four addresses, in two blocks of two, one group and one worker.
 const SMALL: Setting = Setting {

@@ -4,9 +4,9 @@
 
 ghost use Rattle.std.specs.Prelude.{◌≡◌, ◌+◌, ◌≤◌, ◌<◌, IfOk, OnOk, length};
 
-use crate::Account;
 use defer_queue::Reclaimed;
 use fib_model::{Command, Outcome, Report};
+use fib_reference::Account;
 use lpm_bits::{Hop, Prefix};
 use lpm_rules::Put;
 use qsbr::{Busy, Config, Refusal};
@@ -14,18 +14,18 @@ use std::alloc::{AllocError, Global};
 
 /// A worked case of IPv4.
 #[derive(Drop)]
-pub struct Case {
+pub(crate) struct Case {
     /// The name under which documents speak of the case.
-    pub name: &'static str,
+    pub(crate) name: &'static str,
     /// The limits of the table.
-    pub config: Config,
+    pub(crate) config: Config,
     /// The commands to the table that was just opened.
-    pub commands: Vec<Command<24, 8>>,
+    pub(crate) commands: Vec<Command<24, 8>>,
     /// What each command comes to, and the counts after the last.
-    pub account: Account,
+    pub(crate) account: Account,
     /// Addresses, and the number of the next hop that a lookup of each finds after the last
     /// command.
-    pub lookups: Vec<(u32, Option<u32>)>,
+    pub(crate) lookups: Vec<(u32, Option<u32>)>,
 }
 
 /// The rules, versions, groups in use, groups in limbo, free groups and the token number.
@@ -164,7 +164,7 @@ fn busy(worker: usize, counter: u64) -> Option<Busy> {
 }
 
 /// The cases of lookups: every command adds a route.
-pub fn lookups(alloc: Global) -> Result<Vec<Case>, AllocError>
+pub(crate) fn lookups(alloc: Global) -> Result<Vec<Case>, AllocError>
     ensures { IfOk result (λ cases. length cases.items ≡ 9) }
 {
     let mut cases = Vec::new(alloc);
@@ -196,7 +196,7 @@ fn push_lookups(alloc: Global, cases: &mut Vec<Case>) -> Result<(), AllocError>
 }
 
 /// The cases of updates, reports and reclaims.
-pub fn updates(alloc: Global) -> Result<Vec<Case>, AllocError>
+pub(crate) fn updates(alloc: Global) -> Result<Vec<Case>, AllocError>
     ensures { IfOk result (λ cases. length cases.items ≡ 14) }
 {
     let mut cases = Vec::new(alloc);

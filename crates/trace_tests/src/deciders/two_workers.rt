@@ -2,15 +2,13 @@
 //! an add that takes a group again; and planted faults in it.
 
 use super::{FIVE, GROUP, SEVEN, with_index, with_value, without, writer};
-use crate::Setting;
-use crate::deeds::deeds_are_done;
-use crate::memory::loads_are_stores;
-use crate::order::writes_in_order;
-use crate::reuse::reuse_is_lawful;
-use crate::versions::{PlainRule, Versions};
 use lpm_trace::{Actor, Deed, Kind, Step};
 use std::alloc::{AllocError, Global};
 use std::test::Fail;
+use trace_reference::{
+    PlainRule, Setting, Versions, deeds_are_done, loads_are_stores, reuse_is_lawful,
+    writes_in_order,
+};
 
 /// Four addresses, in two blocks of two, two groups and two workers.
 const WIDE: Setting = Setting {

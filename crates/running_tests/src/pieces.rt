@@ -1,6 +1,7 @@
+//! Many addresses, answered in pieces.
 ghost use Rattle.std.specs.Prelude.{◌≡◌};
 
-use crate::{BulkError, Gate, Open, border, bulk, bulk_plain, seat_all};
+use bulk::{BulkError, Gate, Open, border, bulk, bulk_plain, seat_all};
 use fib::{Fib, OpenError};
 use lpm_bits::{Hop, Prefix};
 use qsbr::Config;
