@@ -1,7 +1,9 @@
 //! Many addresses, answered in pieces.
-ghost use Rattle.std.specs.Prelude.{◌≡◌};
+ghost use Rattle.std.specs.Prelude.{◌≡◌, All};
+ghost use Rattle.bulk.specs.Desks.{IsDeskOf};
 
-use bulk::{BulkError, Gate, Open, border, bulk, bulk_plain, seat_all};
+use super::asserting::assert_at;
+use bulk::{BulkError, Desk, Gate, Open, border, bulk, bulk_plain, seat_all};
 use fib::{Fib, OpenError};
 use lpm_bits::{Hop, Prefix};
 use qsbr::Config;
@@ -34,24 +36,46 @@ const FIVE: [u32; 5] = [
     0x0a01_01ff,
 ];
 
+// The numbers of their next hops.
+const NUMBERS: [Option<u32>; 5] = [Some(2), Some(3), Some(1), None, Some(3)];
+
 // The next hops of the five addresses.
 fn assert_hops(rt: &impl Abort, workers: usize, hops: &[Option<Hop>]) {
-    let numbers = [Some(2), Some(3), Some(1), None, Some(3)];
-    assert_eq!(rt; hops.len(), 5, "{workers}");
-    for (hop, number) in hops.iter().zip(numbers.iter()) {
-        assert_eq!(rt; hop.map(|hop| hop.number()), *number, "{workers}");
+    assert_at(rt, workers, hops.len(), FIVE.len());
+    for (hop, number) in hops.iter().zip(NUMBERS.iter()) {
+        assert_at(rt, workers, hop.map(|hop| hop.number()), *number);
     }
 }
 
+// The five addresses, by a table of one thread with so many workers.
+fn assert_five<R: Abort + Threads + Sync>(
+    rt: &R,
+    alloc: Global,
+    fib: &Fib<24, 8>,
+    workers: usize,
+) -> Result<(), BulkError> {
+    let hops = bulk_plain(rt, alloc, fib, workers, &FIVE, &Open)?;
+    assert_hops(rt, workers, &hops);
+    Ok(())
+}
+
 // Among the numbers of workers are more than addresses, and far more.
+fn assert_five_in_pieces<R: Abort + Threads + Sync>(
+    rt: &R,
+    alloc: Global,
+    fib: &Fib<24, 8>,
+) -> Result<(), BulkError> {
+    for workers in [1, 2, 3, 8, 4_000] {
+        assert_five(rt, alloc, fib, workers)?;
+    }
+    Ok(())
+}
+
 #[test]
 fn pieces(rt: HostRuntime) -> Result<(), Fail> {
     let mut fib = Fib::open(rt.alloc(), Config::default())?;
     add_three(&rt, &mut fib);
-    for workers in [1, 2, 3, 8, 4_000] {
-        let hops = bulk_plain(&rt, rt.alloc(), &fib, workers, &FIVE, &Open)?;
-        assert_hops(&rt, workers, &hops);
-    }
+    assert_five_in_pieces(&rt, rt.alloc(), &fib)?;
     Ok(())
 }
 
@@ -59,7 +83,7 @@ fn pieces(rt: HostRuntime) -> Result<(), Fail> {
 fn assert_ends(rt: &impl Abort, ends: &[usize]) {
     let workers = ends.len();
     for i in 0..workers {
-        assert_eq!(rt; border(i + 1, 5, workers), ends[i], "{i} of {workers}");
+        assert_at(rt, (i, workers), border(i + 1, 5, workers), ends[i]);
     }
 }
 
@@ -79,6 +103,32 @@ fn add_rule(
     assert!(rt; writer.add(table, &prefix, hop).is_ok(), "{bits}/{len}");
 }
 
+fn add_rules(rt: &impl Abort, table: &SharedTable<24, 8>, writer: &mut Writer<24, 8>)
+    requires own { writer.old.identity ≡ table.now }
+    ensures own { writer.new.identity ≡ writer.old.identity }
+{
+    add_rule(rt, table, writer, 0x0a00_0000, 8, 1);
+    add_rule(rt, table, writer, 0x0a01_0000, 16, 2);
+    add_rule(rt, table, writer, 0x0a01_0180, 25, 3);
+}
+
+// The five addresses, by these desks.
+fn assert_five_at_desks<R: Abort + Threads + Sync>(
+    rt: &R,
+    alloc: Global,
+    table: &SharedTable<24, 8>,
+    writer: &mut Writer<24, 8>,
+    desks: &mut [Desk],
+) -> Result<(), BulkError>
+    requires own { writer.old.identity ≡ table.now }
+    requires desks { All (IsDeskOf table.now) desks.old }
+{
+    let workers = desks.len();
+    let hops = bulk(rt, alloc, table, writer, desks, &FIVE, &Open)?;
+    assert_hops(rt, workers, &hops);
+    Ok(())
+}
+
 // The five addresses, by a running table with so many workers.
 fn five_by_a_running_table<R: Abort + Threads + Sync>(
     rt: &R,
@@ -90,12 +140,9 @@ fn five_by_a_running_table<R: Abort + Threads + Sync>(
         ..Config::default()
     };
     let (table, mut writer, mut bench) = shared_fib::open(alloc, config)?;
-    add_rule(rt, &table, &mut writer, 0x0a00_0000, 8, 1);
-    add_rule(rt, &table, &mut writer, 0x0a01_0000, 16, 2);
-    add_rule(rt, &table, &mut writer, 0x0a01_0180, 25, 3);
+    add_rules(rt, &table, &mut writer);
     let mut desks = seat_all(alloc, &table, &mut bench, workers)?;
-    let hops = bulk(rt, alloc, &table, &mut writer, &mut desks, &FIVE, &Open)?;
-    assert_hops(rt, workers, &hops);
+    assert_five_at_desks(rt, alloc, &table, &mut writer, &mut desks)?;
     Ok(())
 }
 
@@ -113,19 +160,33 @@ fn pieces_end_at_borders(rt: HostRuntime) {
     assert_ends(&rt, &[2, 5]);
     assert_ends(&rt, &[1, 3, 5]);
     assert_ends(&rt, &[0, 1, 1, 2, 3, 3, 4, 5]);
-    assert_eq!(rt; border(3, usize::MAX, 3), usize::MAX);
+    assert_at(&rt, "the most", border(3, usize::MAX, 3), usize::MAX);
 }
 
 fn small(alloc: Global) -> Result<Fib<4, 4>, OpenError> {
     Fib::open(alloc, Config::default())
 }
 
+fn assert_no_addresses<R: Abort + Threads + Sync>(
+    rt: &R,
+    alloc: Global,
+    fib: &Fib<4, 4>,
+) -> Result<(), BulkError> {
+    let hops = bulk_plain(rt, alloc, fib, 3, &[], &Open)?;
+    assert_at(rt, "no addresses", hops.len(), 0);
+    Ok(())
+}
+
+fn assert_no_workers<R: Abort + Threads + Sync>(rt: &R, alloc: Global, fib: &Fib<4, 4>) {
+    let refused = bulk_plain(rt, alloc, fib, 0, &[1], &Open).err();
+    assert_at(rt, "no workers", refused, Some(BulkError::NoWorkers));
+}
+
 #[test]
 fn no_addresses_and_no_workers(rt: HostRuntime) -> Result<(), Fail> {
     let fib = small(rt.alloc())?;
-    assert!(rt; bulk_plain(&rt, rt.alloc(), &fib, 3, &[], &Open)?.is_empty());
-    let refused = bulk_plain(&rt, rt.alloc(), &fib, 0, &[1], &Open).err();
-    assert_eq!(rt; refused, Some(BulkError::NoWorkers));
+    assert_no_addresses(&rt, rt.alloc(), &fib)?;
+    assert_no_workers(&rt, rt.alloc(), &fib);
     Ok(())
 }
 
@@ -180,21 +241,63 @@ fn new_meeting() -> Meeting {
 
 // Each call was made, and none of them missed the other piece.
 fn assert_met(rt: &impl Abort, gate: &Meeting) {
-    assert!(rt; !gate.is_missed.load(Ordering::SeqCst));
+    assert_at(rt, "missed", gate.is_missed.load(Ordering::SeqCst), false);
     for flag in &gate.flags {
-        assert!(rt; flag.load(Ordering::SeqCst));
+        assert_at(rt, "met", flag.load(Ordering::SeqCst), true);
     }
+}
+
+const EIGHT: [u32; 8] = [1, 2, 3, 4, 5, 6, 7, 8];
+
+// Two pieces of eight addresses, by a table of one thread.
+fn meet_by_a_table<R: Abort + Threads + Sync>(
+    rt: &R,
+    alloc: Global,
+    fib: &Fib<4, 4>,
+    gate: &Meeting,
+) -> Result<(), BulkError> {
+    let hops = bulk_plain(rt, alloc, fib, 2, &EIGHT, gate)?;
+    assert_at(rt, "answers", hops.len(), EIGHT.len());
+    assert_met(rt, gate);
+    Ok(())
 }
 
 #[test]
 fn two_pieces_see_each_other(rt: HostRuntime) -> Result<(), Fail> {
     let fib = small(rt.alloc())?;
-    let gate = new_meeting();
-    let addrs = [1, 2, 3, 4, 5, 6, 7, 8];
-    let hops = bulk_plain(&rt, rt.alloc(), &fib, 2, &addrs, &gate)?;
-    assert_eq!(rt; hops.len(), 8);
-    assert_met(&rt, &gate);
+    meet_by_a_table(&rt, rt.alloc(), &fib, &new_meeting())?;
     Ok(())
+}
+
+// Two pieces of eight addresses, at these desks of a running table.
+fn meet_at_desks<R: Abort + Threads + Sync>(
+    rt: &R,
+    alloc: Global,
+    table: &SharedTable<4, 4>,
+    writer: &mut Writer<4, 4>,
+    desks: &mut [Desk],
+    gate: &Meeting,
+) -> Result<(), BulkError>
+    requires own { writer.old.identity ≡ table.now }
+    requires desks { All (IsDeskOf table.now) desks.old }
+    ensures own { writer.new.identity ≡ writer.old.identity }
+{
+    let hops = bulk(rt, alloc, table, writer, desks, &EIGHT, gate)?;
+    assert_at(rt, "answers", hops.len(), EIGHT.len());
+    assert_met(rt, gate);
+    Ok(())
+}
+
+fn assert_no_desks<R: Abort + Threads + Sync>(
+    rt: &R,
+    alloc: Global,
+    table: &SharedTable<4, 4>,
+    writer: &mut Writer<4, 4>,
+)
+    requires own { writer.old.identity ≡ table.now }
+{
+    let refused = bulk(rt, alloc, table, writer, &mut [], &EIGHT, &Open).err();
+    assert_at(rt, "no desks", refused, Some(BulkError::NoWorkers));
 }
 
 #[test]
@@ -203,22 +306,11 @@ fn two_pieces_of_a_running_table_see_each_other(rt: HostRuntime) -> Result<(), F
         workers: 2,
         ..Config::default()
     };
-    let (table, mut writer, mut bench) = shared_fib::open::<4, 4>(rt.alloc(), config)?;
-    let mut desks = seat_all(rt.alloc(), &table, &mut bench, 2)?;
+    let alloc = rt.alloc();
+    let (table, mut writer, mut bench) = shared_fib::open::<4, 4>(alloc, config)?;
+    let mut desks = seat_all(alloc, &table, &mut bench, 2)?;
     let gate = new_meeting();
-    let addrs = [1, 2, 3, 4, 5, 6, 7, 8];
-    let hops = bulk(
-        &rt,
-        rt.alloc(),
-        &table,
-        &mut writer,
-        &mut desks,
-        &addrs,
-        &gate,
-    )?;
-    assert_eq!(rt; hops.len(), 8);
-    assert_met(&rt, &gate);
-    let none = bulk(&rt, rt.alloc(), &table, &mut writer, &mut [], &addrs, &gate).err();
-    assert_eq!(rt; none, Some(BulkError::NoWorkers));
+    meet_at_desks(&rt, alloc, &table, &mut writer, &mut desks, &gate)?;
+    assert_no_desks(&rt, alloc, &table, &mut writer);
     Ok(())
 }
