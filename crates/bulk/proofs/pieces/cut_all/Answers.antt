@@ -1,4 +1,4 @@
-use Rattle.std.proofs.Common.{ℕ, List, ◌∷◌, [], ◌++◌, map, sym, ap, ap₂, ◌∙◌, zero-add}
+use Rattle.std.proofs.Common.{ℕ, List, ◌∷◌, [], ◌++◌, map, sym, ap, ap₂, ◌∙◌, zero-add, rules}
 use Rattle.std.proofs.lemmas.List.{map-append}
 use Rattle.std.proofs.lemmas.List.FromFn.{map-range_with_len_more}
 use Rattle.bulk.specs.declared.pieces.Piece.{Piece}
@@ -14,3 +14,6 @@ loop-number-preserved c =
     ap (map addrs_of) c.in_ok-push.ensures.items
     ∙ (map-append addrs_of c.loop-number.pieces.items _
     ∙ (ap₂ (λ (a b : List (List ℕ)). a ++ b) c.loop-number.invariant one ∙ sym more))
+
+pub returns : goal.returns
+returns c = search rules

@@ -1,4 +1,4 @@
-use Rattle.std.proofs.Common.{List, subst}
+use Rattle.std.proofs.Common.{List, subst, rules}
 use Rattle.std.proofs.lemmas.Result.{IfOk-weaker, IfErr-weaker}
 use Rattle.route_text.specs.declared.routes.Route.{Route}
 use Rattle.lpm_commands.specs.Loading.{IsLoaded}
@@ -21,3 +21,6 @@ returns-clause-failure g c =
     IfErr-weaker c.text_after.result _ _ (λ e ends.
     ends_apply _ _ c.args.routes.now c.args.updates.now c.args.addresses.now (g.F.Files.bytes c.args.files.now) c.in_ok-list.list.items c.in_ok-orders.orders.items c.in_ok-addrs.addrs.items table e c.in_ok-table.ensures.config c.in_ok-list.ensures.items c.in_ok-orders.ensures.items c.in_ok-addrs.ensures.items loaded ends)
     c.text_after.ensures.failure
+
+pub returns-in_err-orders-clause-failure : goal.returns-in_err-orders-clause-failure
+returns-in_err-orders-clause-failure g c = search rules

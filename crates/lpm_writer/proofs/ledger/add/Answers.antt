@@ -1,4 +1,4 @@
-use Rattle.std.proofs.Common.{arith, ◌≡◌, ◌+◌, ◌^◌, ◌<◌, inl, lit<, refl, sym, ap, subst, ◌∙◌, List, length, None}
+use Rattle.std.proofs.Common.{arith, ◌≡◌, ◌+◌, ◌^◌, ◌<◌, inl, lit<, refl, sym, ap, subst, ◌∙◌, List, length, None, rules}
 use Rattle.std.specs.Prelude.{IsSome, IsTrue, ◌↔◌, ◌/◌, Ok, Err}
 use Rattle.std.specs.FinMap.{insert}
 use Rattle.std.proofs.lemmas.Nat.{shr_below}
@@ -191,3 +191,6 @@ returns-in-Err g c = record {
       );
   config = refl;
 }
+
+pub returns-in_default-clause-adds : goal.returns-in_default-clause-adds
+returns-in_default-clause-adds g c = search rules

@@ -1,4 +1,4 @@
-use Rattle.std.proofs.Common.{ap, ◌∙◌}
+use Rattle.std.proofs.Common.{ap, ◌∙◌, rules}
 use Rattle.fib_model.specs.Outcomes.{groups_in_use}
 use Rattle.lpm_writer.proofs.Rests.{linked_resting}
 use Rattle.fib.specs.Fib.{FibState}
@@ -11,3 +11,6 @@ returns-clause-in_use g c =
     let l = c.self.inside.ledger in
     let known = c.self.invariant in
     c.counts.ensures.in_use ∙ linked_resting f s known.0 known.1 l.config l.rules l.books l.versions known.2.rests ∙ ap (λ (y : FibState). groups_in_use f s y.table.rules) c.self.view_is
+
+pub returns-clause-all : goal.returns-clause-all
+returns-clause-all g c = search rules

@@ -1,4 +1,4 @@
-use Rattle.std.proofs.Common.{subst, [], ◌∷◌}
+use Rattle.std.proofs.Common.{subst, [], ◌∷◌, rules}
 use Rattle.lpm_trace.specs.declared.step.WorkerStep.TheVariants.{StoreOffline}
 use Rattle.shared_words.specs.Deeds.{GainsAll}
 use Rattle.shared_fib.specs.Running.{PassState}
@@ -8,3 +8,6 @@ pub returns-clause-steps : goal.returns-clause-steps
 returns-clause-steps g c =
     subst (λ (p : PassState). GainsAll (StoreOffline ∷ []) p.view c.offline.new.self.place.me.0) c.self.view_is
     c.offline.ensures.steps
+
+pub invariant_of-self : goal.invariant_of-self
+invariant_of-self g c = search rules

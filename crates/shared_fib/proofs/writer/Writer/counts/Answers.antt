@@ -1,4 +1,4 @@
-use Rattle.std.proofs.Common.{ap, ◌∙◌}
+use Rattle.std.proofs.Common.{ap, ◌∙◌, rules}
 use Rattle.fib_model.specs.Outcomes.{groups_in_use}
 use Rattle.lpm_writer.proofs.Rests.{linked_resting}
 use Rattle.shared_words.specs.Opened.{setup_of}
@@ -14,3 +14,6 @@ returns-clause-in_use g c =
     c.counts.ensures.in_use
     ∙ linked_resting f s (setup_of v.opening) v.seen l.config l.rules l.books l.versions c.self.invariant.rests
     ∙ ap (λ (y : WriterState). groups_in_use f s y.table.rules) c.self.view_is
+
+pub returns-clause-all : goal.returns-clause-all
+returns-clause-all g c = search rules

@@ -1,4 +1,4 @@
-use Rattle.std.proofs.Common.{All, subst, take}
+use Rattle.std.proofs.Common.{All, subst, take, rules}
 use Rattle.lpm_trace.specs.Laws.{IsChecked}
 use Rattle.shared_fib.specs.Running.{Identity, WriterState, setup}
 use Rattle.shared_fib.proofs.Rests.{at_rest}
@@ -19,3 +19,6 @@ returns-clause-checked g c =
     c.requires.own
     (subst (λ (y : WriterState). All (IsChecked (setup y.identity) later) (take freed y.table.limbo))
     c.self.view_is c.reclaim_by.ensures.checked)
+
+pub returns-clause-frees : goal.returns-clause-frees
+returns-clause-frees g c = search rules

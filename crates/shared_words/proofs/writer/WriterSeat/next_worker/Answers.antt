@@ -1,4 +1,4 @@
-use Rattle.std.proofs.Common.{◌<◌, arith}
+use Rattle.std.proofs.Common.{◌<◌, arith, rules}
 use Rattle.shared_words.specs.Opened.{Opened}
 use Rattle.shared_words.proofs.Writing.{next_worker_allowed}
 use Rattle.shared_words.proofs.writer.WriterSeat.next_worker.Goals as goal
@@ -11,3 +11,6 @@ split_seat-place-requires g c =
     let room : seat.place.me.0.made < o.workers =
     omega (arith, c.requires.number, c.requires.worker, own.workers) in
     (own.same, omega (arith, own.words), next_worker_allowed o _ seat.place.me.0 seat.role room)
+
+pub invariant_of-result : goal.invariant_of-result
+invariant_of-result g c = search rules

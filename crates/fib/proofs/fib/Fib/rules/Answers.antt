@@ -1,0 +1,5 @@
+use Rattle.std.proofs.Common.{rules}
+use Rattle.fib.proofs.fib.Fib.rules.Goals as goal
+
+pub returns : goal.returns
+returns c = search rules

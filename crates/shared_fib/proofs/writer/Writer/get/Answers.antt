@@ -1,0 +1,5 @@
+use Rattle.std.proofs.Common.{rules}
+use Rattle.shared_fib.proofs.writer.Writer.get.Goals as goal
+
+pub returns : goal.returns
+returns c = search rules
