@@ -19,3 +19,9 @@ loop-freed-preserved g c =
       ready = rw later kept;
       lent = c.free.ensures.lent ∙ c.check.ensures.lent ∙ c.loop-freed.invariant.lent;
     }
+
+pub returns-in-Err-clause-reclaims : goal.returns-in-Err-clause-reclaims
+returns-in-Err-clause-reclaims c = search rules
+
+pub returns-after-loop-freed-clause-reclaims : goal.returns-after-loop-freed-clause-reclaims
+returns-after-loop-freed-clause-reclaims c = search rules

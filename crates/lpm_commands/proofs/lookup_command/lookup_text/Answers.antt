@@ -25,3 +25,6 @@ returns-clause-failure g c =
     IfErr-weaker c.text_of_live_answers.result _ _ (λ e ends.
     ends_lookup c.args.config c.in_ok-table.table.config c.args.routes.now c.args.addresses.now (g.F.Files.bytes c.args.files.now) c.in_ok-list.list.items c.in_ok-addrs.addrs.items table e c.in_ok-table.ensures.workers c.in_ok-list.ensures.items c.in_ok-addrs.ensures.items loaded ends)
     c.text_of_live_answers.ensures.failure
+
+pub returns-in_err-addrs-clause-failure : goal.returns-in_err-addrs-clause-failure
+returns-in_err-addrs-clause-failure g c = search rules

@@ -1,4 +1,4 @@
-use Rattle.std.proofs.Common.{arith}
+use Rattle.std.proofs.Common.{arith, rules}
 use Rattle.lpm_groups.proofs.Tallies.{counts-total}
 use Rattle.lpm_groups.proofs.Groups.counts.Goals as goal
 
@@ -12,3 +12,9 @@ returns-clause-free c =
 pub returns-clause-all : goal.returns-clause-all
 returns-clause-all c =
     rw (← c.self.view_is) (omega (arith, counts-total c.self.inside.states.items, c.len.ensures))
+
+pub returns-clause-in_use : goal.returns-clause-in_use
+returns-clause-in_use c = search rules
+
+pub returns-clause-limbo : goal.returns-clause-limbo
+returns-clause-limbo c = search rules

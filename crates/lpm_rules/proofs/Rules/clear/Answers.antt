@@ -1,4 +1,4 @@
-use Rattle.std.proofs.Common.{arith, ap, ◌∙◌}
+use Rattle.std.proofs.Common.{arith, ap, ◌∙◌, rules}
 use Rattle.std.proofs.Math.ListN.{length-set}
 use Rattle.std.specs.FinMap as map
 use Rattle.lpm_rules.specs.RuleMap.{RuleList}
@@ -27,3 +27,6 @@ returns-clause-empty g c =
     let long = c.loop-length.invariant.0 in
     ap (λ m. record { rules = m; max = c.self.inside.max }) (none_at c.loop-length.length-items (λ i d h. c.loop-length.invariant.1 i d (omega (arith, h, long))))
     ∙ ap (λ (m : RuleList). record { rules = map.empty; max = m.max }) c.self.view_is
+
+pub returns-clause-count : goal.returns-clause-count
+returns-clause-count c = search rules

@@ -1,4 +1,4 @@
-use Rattle.std.proofs.Common.{length, ap, arith}
+use Rattle.std.proofs.Common.{length, ap, arith, rules}
 use Rattle.shared_words.specs.Opened.{Opened, setup_of}
 use Rattle.shared_words.proofs.Laying.{seconds_length}
 use Rattle.shared_memory.specs.Lent.{Lent, left_by}
@@ -12,3 +12,6 @@ second-requires-clause-index g c =
     let len = ap (λ (o : Opened). length o.seconds) own.opening_is in
     let is = ap (λ (m : Lent). length (left_by m).words.seconds) c.self.view_is in
     omega (arith, c.requires, stays, len, is, own.seconds)
+
+pub returns-clause-value : goal.returns-clause-value
+returns-clause-value c = search rules

@@ -1,4 +1,4 @@
-use Rattle.std.proofs.Common.{arith}
+use Rattle.std.proofs.Common.{arith, rules}
 use Rattle.shared_words.proofs.Writing.{looks_allowed}
 use Rattle.shared_words.proofs.writer.WriterSeat.token.Goals as goal
 
@@ -10,3 +10,6 @@ load-requires g c =
       omega (arith, c.token_at.ensures, own.words, own.firsts, own.seconds),
       looks_allowed _ _ _ _ seat.place.me seat.role,
     )
+
+pub returns-clause-value : goal.returns-clause-value
+returns-clause-value c = search rules

@@ -1,0 +1,14 @@
+use Rattle.std.proofs.Common.{rules}
+use Rattle.lpm_options.proofs.line_of.Goals as goal
+
+pub returns-in_default-command_line-clause-refused : goal.returns-in_default-command_line-clause-refused
+returns-in_default-command_line-clause-refused c = search rules
+
+pub returns-then-has_two_standard_inputs-clause-refused : goal.returns-then-has_two_standard_inputs-clause-refused
+returns-then-has_two_standard_inputs-clause-refused c = search rules
+
+pub returns-clause-asked : goal.returns-clause-asked
+returns-clause-asked c = search rules
+
+pub returns-then-has_two_standard_inputs-clause-one_input : goal.returns-then-has_two_standard_inputs-clause-one_input
+returns-then-has_two_standard_inputs-clause-one_input c = search rules
