@@ -1,5 +1,5 @@
 -- What a list of commands came to, told by reader intervals and versions.
-use Rattle.std.proofs.Common.{◌≡◌, ℕ, ◌+◌, ap, sym, ◌∙◌, subst, List, [], length}
+use Rattle.std.proofs.Common.{◌≡◌, ℕ, ◌+◌, ap, sym, ◌∙◌, subst, List, []}
 use Rattle.std.specs.FinMap.{len}
 use Rattle.lpm_rules.specs.Longest.{AreLongestHops}
 use Rattle.qsbr.specs.Registry.{Registry}
@@ -11,17 +11,7 @@ use Rattle.fib_model.specs.Laws.{Agrees}
 use Rattle.fib_model.proofs.Versions.{rules_are_last_version}
 use Rattle.fib.specs.declared.replay.Replay.{Replay}
 use Rattle.fib.specs.Fib.{FibState, fresh}
-use Rattle.fib.specs.Replay.{GoesOn, IsReplay}
-
--- what a table answers and counts itself
-pub record IsAsked (f s : ℕ) (c : Config) (z : State Registry) (addrs : List ℕ) (r : Replay) : Type 0 where
-  pub hops : AreLongestHops (f + s) z.rules addrs r.hops.items
-  pub rules : r.rules ≡ len z.rules
-  pub versions : r.versions ≡ z.begun
-  pub in_use : r.counts.in_use ≡ groups_in_use f s z.rules
-  pub limbo : r.counts.limbo ≡ length z.limbo
-  pub groups : r.counts.in_use + r.counts.limbo + r.counts.free ≡ c.groups
-  pub token : r.token ≡ z.readers.token
+use Rattle.fib.specs.Replay.{GoesOn, IsAsked, IsReplay}
 
 pub is_replay : (f s : ℕ) (c : Config) (x : FibState) (z : State Registry) (commands : _) (addrs : List ℕ) (r : Replay) → x ≡ fresh c
     → GoesOn f s x.config x.table commands r.outcomes.items z → IsAsked f s x.config z addrs r

@@ -26,6 +26,17 @@ GoesOn first second c x commands outcomes z =
     → (y : State (List Event))
     × Runs (by_intervals c) first second c beginning (logged log commands outcomes) y × Agrees c z y
 
+-- a table of these limits that is so answers the addresses and counts like this
+pub record IsAsked (first second : ℕ) (c : Config) (z : State Registry) (addrs : List ℕ) (r : Replay)
+    : Type 0 where
+  pub hops : AreLongestHops (first + second) z.rules addrs r.hops.items
+  pub rules : r.rules ≡ len z.rules
+  pub versions : r.versions ≡ z.begun
+  pub in_use : r.counts.in_use ≡ groups_in_use first second z.rules
+  pub limbo : r.counts.limbo ≡ length z.limbo
+  pub groups : r.counts.in_use + r.counts.limbo + r.counts.free ≡ c.groups
+  pub token : r.token ≡ z.readers.token
+
 -- the commands of the log came out so on a table of these limits, and after the last one the counts
 -- are these, and the addresses have these next hops, each of the longest match in the last version
 pub record IsReplay (first second : ℕ) (c : Config) (log : Log first second) (addrs : List ℕ)

@@ -4,14 +4,14 @@ ghost use Rattle.std.specs.Prelude.{◌≡◌, ◌+◌, ◌^◌, ◌<◌, ◌↔
 ghost use Rattle.lpm_bits.specs.Widths.{IsShape};
 ghost use Rattle.lpm_limits.specs.Limits.{IsConfig};
 ghost use Rattle.fib_model.specs.Outcomes.{logged};
-ghost use Rattle.fib.specs.Replay.{IsReplay};
+ghost use Rattle.fib.specs.Replay.{GoesOn, IsAsked, IsReplay};
 
 use super::{Fib, OpenError};
 use fib_model::{Command, Outcome};
 use lpm_bits::Hop;
 use lpm_groups::Counts;
 use qsbr::Config;
-use std::alloc::Global;
+use std::alloc::{AllocError, Global};
 
 /// What came of a list of commands, and what the table answered and counted after the last.
 #[derive(Drop)]
@@ -51,15 +51,32 @@ impl<const FIRST: u32, const SECOND: u32> Fib<FIRST, SECOND> {
             (λ error. (error ≡ OpenError.BadConfig) ↔ (¬ IsConfig config)) }
     {
         let mut fib = Fib::<FIRST, SECOND>::open(alloc, config)?;
-        let outcomes = fib.execute_all(alloc, commands)?;
-        let hops = fib.lookup_all(alloc, addrs)?;
+        Ok(fib.replay_here(alloc, commands, addrs)?)
+    }
+
+    /// Does the commands one after another, and looks the addresses up after the last.
+    fn replay_here(
+        &mut self,
+        alloc: Global,
+        commands: &[Command<FIRST, SECOND>],
+        addrs: &[u32],
+    ) -> Result<Replay, AllocError>
+        requires addrs { All (λ a. a < 2 ^ (FIRST + SECOND)) addrs.now }
+        ensures as_many { IfOk result (λ r. length r.outcomes.items ≡ length commands.now) }
+        ensures textbook { IfOk result (λ r. GoesOn FIRST SECOND self.old.config self.old.table
+            commands.now r.outcomes.items self.new.table) }
+        ensures asked { IfOk result (λ r.
+            IsAsked FIRST SECOND self.old.config self.new.table addrs.now r) }
+    {
+        let outcomes = self.execute_all(alloc, commands)?;
+        let hops = self.lookup_all(alloc, addrs)?;
         Ok(Replay {
             outcomes,
             hops,
-            rules: fib.rules(),
-            versions: fib.versions(),
-            counts: fib.counts(),
-            token: fib.token(),
+            rules: self.rules(),
+            versions: self.versions(),
+            counts: self.counts(),
+            token: self.token(),
         })
     }
 }
