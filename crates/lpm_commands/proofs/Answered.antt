@@ -32,6 +32,6 @@ failure_leads T (Ok x) P Q known leads = tt
 failure_leads T (Err e) P Q known leads = leads e known
 
 -- addresses that were not answered end the run so
-pub ends_answering : (T : Type 0) (c : Config) (error : BulkError) (failure : Failure) → failure ≡ ending_of error → (IsErrOf {T = T} (Err error) NoWorkers → c.workers ≡ 0) → EndsAnswering c failure
-ends_answering T c NoWorkers failure same none = subst (EndsAnswering c) (sym same) (refl, none refl)
-ends_answering T c Memory failure same none = subst (EndsAnswering c) (sym same) tt
+pub ends_answering : (T : Type 0) (workers : ℕ) (error : BulkError) (failure : Failure) → failure ≡ ending_of error → (IsErrOf {T = T} (Err error) NoWorkers → workers ≡ 0) → EndsAnswering workers failure
+ends_answering T workers NoWorkers failure same none = subst (EndsAnswering workers) (sym same) (refl, none refl)
+ends_answering T workers Memory failure same none = subst (EndsAnswering workers) (sym same) tt

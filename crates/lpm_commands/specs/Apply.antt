@@ -62,5 +62,5 @@ EndsApply c routes updates addresses bytes failure =
     let files = apply_files routes updates addresses bytes in
     EndsAtOne files failure
     ⊎ (AreRead files × EndsTable c routes (bytes routes) failure)
-    ⊎ (AreRead files × HasTable c (bytes routes) × EndsAnswering c failure)
+    ⊎ (AreRead files × HasTable c (bytes routes) × EndsAnswering c.workers failure)
     ⊎ (failure ≡ CannotWrite)

@@ -44,11 +44,11 @@ abbrev pub ending_of : BulkError → Failure
 ending_of bulks.NoWorkers = Refused NoWorkers
 ending_of bulks.Memory = Memory
 
--- answering addresses ends so: there is no worker to answer them, or no memory
-abbrev pub EndsAnswering : Config → Failure → Type 0
-EndsAnswering c (Refused refusal) = (refusal ≡ NoWorkers) × (c.workers ≡ 0)
-EndsAnswering c Memory = ⊤
-EndsAnswering c _ = ⊥
+-- answering addresses by so many workers ends so: there is none of them, or no memory
+abbrev pub EndsAnswering : ℕ → Failure → Type 0
+EndsAnswering workers (Refused refusal) = (refusal ≡ NoWorkers) × (workers ≡ 0)
+EndsAnswering workers Memory = ⊤
+EndsAnswering workers _ = ⊥
 
 -- the files of a lookup, of these paths and bytes
 abbrev pub lookup_files : List ℕ → List ℕ → (List ℕ → Option (List ℕ)) → List Input
@@ -62,5 +62,5 @@ EndsLookup c routes addresses bytes failure =
     let files = lookup_files routes addresses bytes in
     EndsAtOne files failure
     ⊎ (AreRead files × EndsTable c routes (bytes routes) failure)
-    ⊎ (AreRead files × HasTable c (bytes routes) × EndsAnswering c failure)
+    ⊎ (AreRead files × HasTable c (bytes routes) × EndsAnswering c.workers failure)
     ⊎ (failure ≡ CannotWrite)

@@ -2,6 +2,7 @@
 ghost use Rattle.std.specs.Prelude.{◌≡◌, ◌<◌, ℕ, IfOk, IfErr};
 ghost use Rattle.lpm_rules.specs.Longest.{AreLongestHops};
 ghost use Rattle.fib_model.specs.Counting.{by_counters};
+ghost use Rattle.shared_fib.specs.Running.{IsFullBench};
 ghost use Rattle.lpm_commands.specs.Lookup.{IsAnswered, EndsAnswering};
 
 use crate::failure::Failure;
@@ -9,7 +10,7 @@ use bulk::{Gate, bulk, bulk_plain, seat_all};
 use fib::Fib;
 use lpm_bits::Hop;
 use route_text::answers_text;
-use shared_fib::go_live;
+use shared_fib::{Bench, SharedTable, Writer, go_live};
 use std::alloc::Global;
 use std::thread::Threads;
 
@@ -23,7 +24,7 @@ pub fn text_of_answers<'a, R: Threads + Sync, G: Gate>(
 ) -> Result<Vec<u8>, Failure<'a>>
     ensures text { IfOk result (λ v.
         IsAnswered table.now.config table.now.table.rules addrs.now v.items) }
-    ensures failure { IfErr result (EndsAnswering table.now.config) }
+    ensures failure { IfErr result (EndsAnswering table.now.config.workers) }
 {
     let workers = table.config().workers;
     let hops = bulk_plain(rt, alloc, table, workers, addrs, gate)?;
@@ -45,7 +46,7 @@ pub fn text_of_live_answers<'a, R: Threads + Sync, G: Gate>(
         → ¬ by_counters.is_online fib.table.readers worker }
     ensures text { IfOk result (λ v.
         IsAnswered fib.config fib.table.rules addrs.now v.items) }
-    ensures failure { IfErr result (EndsAnswering fib.config) }
+    ensures failure { IfErr result (EndsAnswering fib.config.workers) }
 {
     let hops = live_hops(rt, alloc, fib, addrs, gate)?;
     Ok(answers_text(alloc, addrs, &hops)?)
@@ -63,19 +64,41 @@ fn live_hops<'a, R: Threads + Sync, G: Gate>(
         → ¬ by_counters.is_online fib.table.readers worker }
     ensures workers { IfOk result (λ v. 0 < fib.config.workers) }
     ensures hops { IfOk result (λ v. AreLongestHops 32 fib.table.rules addrs.now v.items) }
-    ensures failure { IfErr result (EndsAnswering fib.config) }
+    ensures failure { IfErr result (EndsAnswering fib.config.workers) }
 {
     let workers = fib.config().workers;
     let (table, mut writer, mut bench) = go_live(alloc, fib)?;
-    let mut desks = seat_all(alloc, &table, &mut bench, workers)?;
-    let hops = bulk(
+    desk_hops(
         rt,
         alloc,
         &table,
         &mut writer,
-        desks.as_mut_slice(),
+        &mut bench,
+        workers,
         addrs,
         gate,
-    )?;
+    )
+}
+
+// The next hops of the addresses by a running table that was just opened, with a desk for each worker.
+fn desk_hops<'a, R: Threads + Sync, G: Gate>(
+    rt: &R,
+    alloc: Global,
+    table: &SharedTable<24, 8>,
+    writer: &mut Writer<24, 8>,
+    bench: &mut Bench,
+    workers: usize,
+    addrs: &[u32],
+    gate: &G,
+) -> Result<Vec<Option<Hop>>, Failure<'a>>
+    requires own { writer.old.identity ≡ table.now }
+    requires full { IsFullBench table.now bench.old }
+    requires workers { workers ≡ table.now.opening.workers }
+    ensures workers { IfOk result (λ v. 0 < workers) }
+    ensures hops { IfOk result (λ v. AreLongestHops 32 writer.old.table.rules addrs.now v.items) }
+    ensures failure { IfErr result (EndsAnswering workers) }
+{
+    let mut desks = seat_all(alloc, table, bench, workers)?;
+    let hops = bulk(rt, alloc, table, writer, desks.as_mut_slice(), addrs, gate)?;
     Ok(hops)
 }

@@ -87,7 +87,7 @@ fn text_after<'a, R: Threads + Sync>(
 ) -> Result<Vec<u8>, Failure<'a>>
     ensures text { IfOk result (λ v. IsToldAfter table.old.config table.old.table orders.now
         addrs.now table.new.table v.items) }
-    ensures failure { IfErr result (EndsAnswering table.old.config) }
+    ensures failure { IfErr result (EndsAnswering table.old.config.workers) }
 {
     let outcomes = update(alloc, table, orders)?;
     let mut text = text_of_outcomes(alloc, &outcomes)?;

@@ -1,5 +1,5 @@
 //! A table of the routes of a file.
-ghost use Rattle.std.specs.Prelude.{◌≡◌, ◌≢◌, IfOk, IfErr};
+ghost use Rattle.std.specs.Prelude.{◌≡◌, ◌≢◌, IfOk, IfErr, OnOk};
 ghost use Rattle.lpm_limits.specs.Limits.{IsConfig, IsIn, groups_range};
 ghost use Rattle.fib_model.specs.Counting.{opened};
 ghost use Rattle.lpm_commands.specs.Loading.{IsLoaded, EndsLoading};
@@ -27,17 +27,28 @@ pub fn load<'a>(
     ensures failure { IfErr result (EndsLoading config path.entry.now routes.now) }
 {
     let mut table = open(alloc, config)?;
+    add_all(&mut table, path, routes)?;
+    Ok(table)
+}
+
+// Puts the routes into a table that was just opened, one after another.
+fn add_all<'a>(table: &mut Fib<24, 8>, path: &'a str, routes: &[Route]) -> Result<(), Failure<'a>>
+    requires new { table.old.table ≡ opened table.old.config }
+    ensures config { table.new.config ≡ table.old.config }
+    ensures loaded { OnOk result (IsLoaded table.old.config routes.now table.new.table) }
+    ensures failure { IfErr result (EndsLoading table.old.config path.entry.now routes.now) }
+{
     let mut next = 0usize;
     for (index, route) in routes.iter().enumerate() {
         if index >= next {
-            next = index.saturating_add(prefetch(&table, &routes[index..]));
+            next = index.saturating_add(prefetch(table, &routes[index..]));
         }
         match table.add(&route.prefix, route.hop) {
             Ok(_) => {}
             Err(refusal) => return Err(refused(path, route.line, refusal)),
         }
     }
-    Ok(table)
+    Ok(())
 }
 
 /// The table that `load` makes, with no more groups than these routes can need, so it is for lookups

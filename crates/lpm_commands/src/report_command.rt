@@ -13,7 +13,7 @@ use audit::{Report, report_text};
 use fib::Fib;
 use qsbr::Config;
 use route_text::Order;
-use std::alloc::{AllocError, Global};
+use std::alloc::Global;
 use std::io::Write;
 
 /// Writes the report after the routes and the updates.
@@ -65,22 +65,22 @@ fn whole_text<'a, F: Files>(
     let list = read_list::<Routes, F>(alloc, files, routes)?;
     let orders = read_list::<Updates, F>(alloc, files, updates)?;
     let mut table = load(alloc, routes, &list, config)?;
-    let text = text_after(alloc, &mut table, &orders)?;
-    Ok(text)
+    text_after(alloc, &mut table, &orders)
 }
 
 // The text of what the table counts after the updates.
-fn text_after(
+fn text_after<'a>(
     alloc: Global,
     table: &mut Fib<24, 8>,
     orders: &[Order],
-) -> Result<Vec<u8>, AllocError>
-    ensures { IfOk result (λ v. IsReportedAfter table.old.config table.old.table orders.now
+) -> Result<Vec<u8>, Failure<'a>>
+    ensures text { IfOk result (λ v. IsReportedAfter table.old.config table.old.table orders.now
         table.new v.items) }
+    ensures memory { IfErr result (λ e. e ≡ Failure.Memory) }
 {
     let _outcomes = update(alloc, table, orders)?;
     let report = report_of(table);
-    report_text(alloc, &report)
+    Ok(report_text(alloc, &report)?)
 }
 
 // What the table counts.

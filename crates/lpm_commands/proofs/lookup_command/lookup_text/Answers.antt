@@ -23,7 +23,7 @@ returns-clause-failure g c =
     let table = c.in_ok-table.table.table in
     let loaded = subst (λ (list : List Route). IsLoaded c.args.config list table) c.deref.ensures.value c.in_ok-table.ensures.loaded in
     IfErr-weaker c.text_of_live_answers.result _ _ (λ e ends.
-    ends_lookup c.args.config c.in_ok-table.table.config c.args.routes.now c.args.addresses.now (g.F.Files.bytes c.args.files.now) c.in_ok-list.list.items c.in_ok-addrs.addrs.items table e c.in_ok-table.ensures.workers c.in_ok-list.ensures.items c.in_ok-addrs.ensures.items loaded ends)
+    ends_lookup c.args.config c.in_ok-table.table.config.workers c.args.routes.now c.args.addresses.now (g.F.Files.bytes c.args.files.now) c.in_ok-list.list.items c.in_ok-addrs.addrs.items table e c.in_ok-table.ensures.workers c.in_ok-list.ensures.items c.in_ok-addrs.ensures.items loaded ends)
     c.text_of_live_answers.ensures.failure
 
 pub returns-in_err-addrs-clause-failure : goal.returns-in_err-addrs-clause-failure

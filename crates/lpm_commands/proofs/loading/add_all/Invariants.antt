@@ -1,9 +1,9 @@
 use Rattle.std.proofs.Common.{◌≡◌, take}
 use Rattle.lpm_commands.specs.Loading.{IsLoaded}
-use Rattle.lpm_commands.proofs.loading.load.Given as goal
+use Rattle.lpm_commands.proofs.loading.add_all.Given as goal
 
 abbrev pub invariant-loop-index : goal.invariant-loop-index
 invariant-loop-index l = record {
-  config : l.table.config ≡ l.fn.config;
-  loaded : IsLoaded l.fn.config (take l.index l.routes) l.table.table;
+  config : l.table.config ≡ l.fn.table.config;
+  loaded : IsLoaded l.fn.table.config (take l.index l.routes) l.table.table;
 }
