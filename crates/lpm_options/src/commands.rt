@@ -21,14 +21,18 @@ pub(crate) const WORKERS: Range = Range {
     last: 1_024,
 };
 
+// A command, or want of memory for it.
+type Made<'a> = Result<Command<'a>, AllocError>;
+
 /// The program with all its commands.
-pub(crate) fn whole_command<'a>(alloc: Global) -> Result<Command<'a>, AllocError>
+pub(crate) fn whole_command<'a>(alloc: Global) -> Made<'a>
     ensures { IfOk result (λ c. app_of c ≡ the_app) }
 {
-    let command = add_made(program(alloc), lookup_command(alloc))?;
-    let command = add_made(command, apply_command(alloc))?;
-    let command = add_made(command, report_command(alloc))?;
-    add_made(command, migrate_command(alloc))
+    let made = Ok(program(alloc));
+    let made = with_command(made, lookup_command(alloc));
+    let made = with_command(made, apply_command(alloc));
+    let made = with_command(made, report_command(alloc));
+    with_command(made, migrate_command(alloc))
 }
 
 fn program<'a>(alloc: Global) -> Command<'a>
@@ -42,55 +46,47 @@ fn program<'a>(alloc: Global) -> Command<'a>
 }
 
 // The program with one command more, where there was memory to make it.
-fn add_made<'a>(
-    program: Command<'a>,
-    command: Result<Command<'a>, AllocError>,
-) -> Result<Command<'a>, AllocError>
+fn with_command<'a>(made: Made<'a>, command: Made<'a>) -> Made<'a>
     requires { IfOk command (λ c. (app_of c).top.is_plain ≡ true) }
-    ensures { (app : App) → IfOk command.entry (λ c. app_of c ≡ app)
-        → IfOk result (λ c. app_of c ≡ with_command (app_of program.entry) app) }
+    ensures { (program app : App) → IfOk made.entry (λ c. app_of c ≡ program)
+        → IfOk command.entry (λ c. app_of c ≡ app)
+        → IfOk result (λ c. app_of c ≡ with_command program app) }
 {
-    add(program, command?)
-}
-
-// The program with one command more.
-fn add<'a>(program: Command<'a>, command: Command<'a>) -> Result<Command<'a>, AllocError>
-    requires { (app_of command).top.is_plain ≡ true }
-    ensures { IfOk result (λ c. app_of c ≡ with_command (app_of program.entry)
-        (app_of command.entry)) }
-{
+    let Some((program, command)) = made.ok().zip(command.ok()) else {
+        return Err(AllocError);
+    };
     program.subcommand(command)
 }
 
-fn lookup_command<'a>(alloc: Global) -> Result<Command<'a>, AllocError>
+fn lookup_command<'a>(alloc: Global) -> Made<'a>
     ensures { IfOk result (λ c. app_of c ≡ lookup_app) }
 {
-    let command = bare_command(alloc, "lookup", help::LOOKUP, help::AFTER_LOOKUP);
-    let command = with_file(alloc, command, "ROUTES", help::ROUTES)?;
-    with_last_file(alloc, command, "ADDRESSES", help::ADDRESSES)
+    let made = bare_command(alloc, "lookup", help::LOOKUP, help::AFTER_LOOKUP);
+    let made = with_file(alloc, Ok(made), "ROUTES", help::ROUTES);
+    with_last_file(alloc, made, "ADDRESSES", help::ADDRESSES)
 }
 
-fn apply_command<'a>(alloc: Global) -> Result<Command<'a>, AllocError>
+fn apply_command<'a>(alloc: Global) -> Made<'a>
     ensures { IfOk result (λ c. app_of c ≡ apply_app) }
 {
-    let command = bare_command(alloc, "apply", help::APPLY, help::AFTER_APPLY);
-    let command = with_routes_and_updates(alloc, command)?;
-    with_last_file(alloc, command, "ADDRESSES", help::ADDRESSES)
+    let made = bare_command(alloc, "apply", help::APPLY, help::AFTER_APPLY);
+    let made = with_routes_and_updates(alloc, Ok(made));
+    with_last_file(alloc, made, "ADDRESSES", help::ADDRESSES)
 }
 
-fn report_command<'a>(alloc: Global) -> Result<Command<'a>, AllocError>
+fn report_command<'a>(alloc: Global) -> Made<'a>
     ensures { IfOk result (λ c. app_of c ≡ report_app) }
 {
-    let command = bare_command(alloc, "report", help::REPORT, help::AFTER_REPORT);
-    let command = with_routes_and_updates(alloc, command)?;
-    with_limits(alloc, command)
+    let made = bare_command(alloc, "report", help::REPORT, help::AFTER_REPORT);
+    let made = with_routes_and_updates(alloc, Ok(made));
+    with_limits(alloc, made)
 }
 
-fn migrate_command<'a>(alloc: Global) -> Result<Command<'a>, AllocError>
+fn migrate_command<'a>(alloc: Global) -> Made<'a>
     ensures { IfOk result (λ c. app_of c ≡ migrate_app) }
 {
-    let command = bare_command(alloc, "migrate", help::MIGRATE, help::AFTER_MIGRATE);
-    with_file(alloc, command, "OLD", help::OLD)
+    let made = bare_command(alloc, "migrate", help::MIGRATE, help::AFTER_MIGRATE);
+    with_file(alloc, Ok(made), "OLD", help::OLD)
 }
 
 // A command of this name without arguments, and its texts of help.
@@ -103,101 +99,80 @@ fn bare_command<'a>(alloc: Global, name: &'a str, about: &'a str, after: &'a str
 }
 
 // The command with one file more.
-fn with_file<'a>(
-    alloc: Global,
-    command: Command<'a>,
-    id: &'a str,
-    help: &'a str,
-) -> Result<Command<'a>, AllocError>
-    ensures { IfOk result (λ c. app_of c ≡ with_file (app_of command.entry) id.entry.now) }
+fn with_file<'a>(alloc: Global, made: Made<'a>, id: &'a str, help: &'a str) -> Made<'a>
+    ensures { (app : App) → IfOk made.entry (λ c. app_of c ≡ app)
+        → IfOk result (λ c. app_of c ≡ with_file app id.entry.now) }
 {
-    command.arg(file(alloc, id, help))
+    made?.arg(file(alloc, id, help))
 }
 
-fn with_routes_and_updates<'a>(
-    alloc: Global,
-    command: Command<'a>,
-) -> Result<Command<'a>, AllocError>
-    ensures { IfOk result (λ c. app_of c ≡ with_file (with_file (app_of command.entry)
-        (codes "ROUTES")) (codes "UPDATES")) }
+fn with_routes_and_updates<'a>(alloc: Global, made: Made<'a>) -> Made<'a>
+    ensures { (app : App) → IfOk made.entry (λ c. app_of c ≡ app)
+        → IfOk result (λ c. app_of c ≡ with_file (with_file app (codes "ROUTES"))
+        (codes "UPDATES")) }
 {
-    let command = with_file(alloc, command, "ROUTES", help::ROUTES)?;
-    with_file(alloc, command, "UPDATES", help::UPDATES)
+    let made = with_file(alloc, made, "ROUTES", help::ROUTES);
+    with_file(alloc, made, "UPDATES", help::UPDATES)
 }
 
 // The command with its last file, and with the options of each command that makes a table.
-fn with_last_file<'a>(
-    alloc: Global,
-    command: Command<'a>,
-    id: &'a str,
-    help: &'a str,
-) -> Result<Command<'a>, AllocError>
-    ensures { IfOk result (λ c. app_of c ≡ with_limits (with_file (app_of command.entry)
-        id.entry.now)) }
+fn with_last_file<'a>(alloc: Global, made: Made<'a>, id: &'a str, help: &'a str) -> Made<'a>
+    ensures { (app : App) → IfOk made.entry (λ c. app_of c ≡ app)
+        → IfOk result (λ c. app_of c ≡ with_limits (with_file app id.entry.now)) }
 {
-    let command = with_file(alloc, command, id, help)?;
-    with_limits(alloc, command)
+    let made = with_file(alloc, made, id, help);
+    with_limits(alloc, made)
 }
 
 // The options of each command that makes a table.
-fn with_limits<'a>(alloc: Global, command: Command<'a>) -> Result<Command<'a>, AllocError>
-    ensures { IfOk result (λ c. app_of c ≡ with_limits (app_of command.entry)) }
+fn with_limits<'a>(alloc: Global, made: Made<'a>) -> Made<'a>
+    ensures { (app : App) → IfOk made.entry (λ c. app_of c ≡ app)
+        → IfOk result (λ c. app_of c ≡ with_limits app) }
 {
-    let command = with_sizes(alloc, command)?;
-    with_reclaiming(alloc, command)
+    let made = with_sizes(alloc, made);
+    with_reclaiming(alloc, made)
 }
 
 // The options that say how much the table holds, and who reads it.
-fn with_sizes<'a>(alloc: Global, command: Command<'a>) -> Result<Command<'a>, AllocError>
-    ensures { IfOk result (λ c. app_of c ≡ with_sizes (app_of command.entry)) }
+fn with_sizes<'a>(alloc: Global, made: Made<'a>) -> Made<'a>
+    ensures { (app : App) → IfOk made.entry (λ c. app_of c ≡ app)
+        → IfOk result (λ c. app_of c ≡ with_sizes app) }
 {
-    let command = with_number(
-        alloc,
-        command,
-        "rules",
-        Config::RULES,
-        "1048576",
-        help::RULES,
-    )?;
-    let command = with_number(
-        alloc,
-        command,
-        "groups",
-        Config::GROUPS,
-        "256",
-        help::GROUPS,
-    )?;
-    with_number(alloc, command, "workers", WORKERS, "1", help::WORKERS)
+    let made = with_number(alloc, made, "rules", Config::RULES, "1048576", help::RULES);
+    let made = with_number(alloc, made, "groups", Config::GROUPS, "256", help::GROUPS);
+    with_number(alloc, made, "workers", WORKERS, "1", help::WORKERS)
 }
 
 // The options that say when a change reclaims, and how much.
-fn with_reclaiming<'a>(alloc: Global, command: Command<'a>) -> Result<Command<'a>, AllocError>
-    ensures { IfOk result (λ c. app_of c ≡ with_reclaiming (app_of command.entry)) }
+fn with_reclaiming<'a>(alloc: Global, made: Made<'a>) -> Made<'a>
+    ensures { (app : App) → IfOk made.entry (λ c. app_of c ≡ app)
+        → IfOk result (λ c. app_of c ≡ with_reclaiming app) }
 {
-    let command = with_number(
+    let made = with_number(
         alloc,
-        command,
+        made,
         "threshold",
         Config::THRESHOLD,
         "32",
         help::THRESHOLD,
-    )?;
-    with_number(alloc, command, "max", Config::RECLAIM_MAX, "16", help::MAX)
+    );
+    with_number(alloc, made, "max", Config::RECLAIM_MAX, "16", help::MAX)
 }
 
 // The command with one option more, which takes a number of the range.
 fn with_number<'a>(
     alloc: Global,
-    command: Command<'a>,
+    made: Made<'a>,
     id: &'a str,
     range: Range,
     default: &'a str,
     help: &'a str,
-) -> Result<Command<'a>, AllocError>
-    ensures { IfOk result (λ c. app_of c ≡ with_rule (app_of command.entry)
+) -> Made<'a>
+    ensures { (app : App) → IfOk made.entry (λ c. app_of c ≡ app)
+        → IfOk result (λ c. app_of c ≡ with_rule app
         (number_rule id.entry.now range default.entry.now)) }
 {
-    command.arg(number(alloc, id, range, default, help))
+    made?.arg(number(alloc, id, range, default, help))
 }
 
 // A file that the command wants, named by its place among the words.

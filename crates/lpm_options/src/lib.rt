@@ -21,7 +21,7 @@ use std::convert::AsStr;
 use std::fmt;
 
 /// What the words of a command line ask for. The path `-` is standard input.
-#[derive(Clone, Copy, Debug)]
+#[derive(Clone, Copy)]
 pub enum CommandLine<'a> {
     /// `lookup`: the next hop of each address, by the routes.
     Lookup {
