@@ -8,7 +8,7 @@ use lpm_entry::Entry;
 
 /// The removal of all rules: each first word becomes a miss, upwards from place `next` on. No word
 /// of a group is stored.
-#[derive(Debug, Drop)]
+#[derive(Drop)]
 pub(crate) struct Flush {
     pub(crate) next: usize,
 }

@@ -9,7 +9,7 @@ use lpm_entry::Entry;
 
 /// The addition of a rule longer than `FIRST` bits to a block that has no group: the words of a
 /// free group are stored, upwards, and then the group is linked to the block.
-#[derive(Debug, Drop)]
+#[derive(Drop)]
 pub(crate) struct LinkGroup {
     pub(crate) from: u64,
     pub(crate) end: u64,

@@ -5,7 +5,7 @@ ghost use Rattle.std.specs.Prelude.{◌≡◌};
 use lpm_entry::Entry;
 
 /// The changes of a rule list.
-#[derive(Clone, Copy, Debug, PartialEq, Eq)]
+#[derive(Clone, Copy)]
 pub(crate) enum Kind {
     Add,
     Delete,
@@ -16,7 +16,7 @@ pub(crate) enum Kind {
 ///
 /// An add replaces misses and the hops of rules no longer than `depth`, a delete the hops of rules
 /// of length `depth`, a flush all but misses.
-#[derive(Clone, Copy, Debug)]
+#[derive(Clone, Copy)]
 pub(crate) struct Rewrite {
     pub(crate) kind: Kind,
     pub(crate) depth: u32,
@@ -27,7 +27,7 @@ pub(crate) struct Rewrite {
 /// `greatest` become `word`.
 ///
 /// It is made once for many words, each of which is then only compared with two numbers.
-#[derive(Clone, Copy, Debug)]
+#[derive(Clone, Copy)]
 pub(crate) struct WordRewrite {
     pub(crate) least: u64,
     pub(crate) greatest: u64,

@@ -10,7 +10,7 @@ use lpm_rules::Rule;
 
 /// The addresses from `from` up to, not including, `end`, whose entries become what `rewrite` makes
 /// of them; those below `at` have become so.
-#[derive(Debug, Drop)]
+#[derive(Drop)]
 pub(crate) struct RewriteRange {
     pub(crate) from: u64,
     pub(crate) at: u64,

@@ -14,7 +14,7 @@ use lpm_entry::Entry;
 
 /// The deletion of the last rule of a block that is longer than `FIRST` bits: its range is
 /// rewritten, and then the block's group is unlinked.
-#[derive(Debug, Drop)]
+#[derive(Drop)]
 pub(crate) struct UnlinkGroup {
     pub(crate) range: RewriteRange,
     pub(crate) block: usize,

@@ -9,7 +9,7 @@ use lpm_rules::Rule;
 use std::marker::Model;
 
 /// What is left to store, by the kind of the change.
-#[derive(Debug, Drop)]
+#[derive(Drop)]
 pub(crate) enum Plan {
     /// The words of a range are rewritten, upwards.
     Range(RewriteRange),
@@ -22,7 +22,7 @@ pub(crate) enum Plan {
 }
 
 /// A change of the words by a change of the rule list, one store of one word a step.
-#[derive(Debug, Drop)]
+#[derive(Drop)]
 pub struct Update {
     plan: Plan,
 }

@@ -4,7 +4,7 @@ use crate::Setting;
 use std::alloc::{AllocError, Global};
 
 /// Where a group stands.
-#[derive(Clone, Copy, Debug, PartialEq, Eq)]
+#[derive(Clone, Copy, PartialEq, Eq)]
 enum Standing {
     /// No first word was ever the group's.
     NeverLinked,
@@ -15,14 +15,14 @@ enum Standing {
 }
 
 /// A check of a token asks this worker next.
-#[derive(Clone, Copy, Debug, PartialEq, Eq)]
+#[derive(Clone, Copy, PartialEq, Eq)]
 struct Ask {
     token: u64,
     worker: u64,
 }
 
 /// What the writer has to do next.
-#[derive(Clone, Copy, Debug, PartialEq, Eq)]
+#[derive(Clone, Copy, PartialEq, Eq)]
 enum Duty {
     /// Nothing that is fixed.
     Nothing,

@@ -5,7 +5,7 @@ use lpm_entry::Entry;
 use lpm_trace::{Actor, Kind, Step};
 
 /// One of the words that all share.
-#[derive(Clone, Copy, Debug, PartialEq, Eq)]
+#[derive(Clone, Copy, PartialEq, Eq)]
 pub(crate) enum Word {
     First(u64),
     Second(u64),

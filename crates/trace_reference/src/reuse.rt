@@ -5,7 +5,7 @@ use crate::memory::{Word, unlinked_by, value_at};
 use lpm_trace::{Actor, Kind, Step};
 
 /// What a step is to the reader intervals of a worker.
-#[derive(Clone, Copy, Debug, PartialEq, Eq)]
+#[derive(Clone, Copy)]
 enum Mark {
     /// One begins: the counter is stored in a report that the worker is online.
     Begins,

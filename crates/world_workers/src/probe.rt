@@ -9,7 +9,7 @@ ghost use Rattle.world_workers.specs.Machine.{IsNextUnread, IsNextGrouped, probe
 use lpm_entry::Entry;
 
 /// How far the lookup of one address has come. A step's number in the run is counted from 1.
-#[derive(Clone, Copy, Debug, PartialEq, Eq)]
+#[derive(Clone, Copy)]
 pub enum Probe {
     /// No word was read.
     Unread(u32),
@@ -32,7 +32,7 @@ pub enum Probe {
 }
 
 /// An address of a lookup that goes on in a group.
-#[derive(Clone, Copy, Debug, PartialEq, Eq)]
+#[derive(Clone, Copy)]
 pub struct Grouped {
     /// Its place among the addresses of the lookup.
     pub place: usize,

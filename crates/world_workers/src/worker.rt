@@ -25,7 +25,7 @@ use lpm_trace::{Actor, Deed, Kind, Step};
 use std::alloc::{AllocError, Global};
 
 /// What a worker is doing. In the two reports it has loaded a token that it hasn't stored yet.
-#[derive(Clone, Copy, Debug, PartialEq, Eq)]
+#[derive(Clone, Copy)]
 pub enum Phase {
     Offline,
     ComingOnline(u64),
