@@ -1,13 +1,14 @@
 //! The whole run, and what it prints.
 
-ghost use Rattle.std.specs.Prelude.{◌<◌, length};
+ghost use Rattle.std.specs.Prelude.{◌<◌, ℕ, IfOk, length};
+ghost use Rattle.fib_model.specs.Counting.{by_counters};
 ghost use Rattle.lpm_limits.specs.Limits.{IsConfig};
 
 use crate::changes::{add_all, delete_all};
 use crate::lookups::{Addresses, compare, deep_addresses, half_deep_addresses, random_addresses};
 use crate::pieces::print_pieces;
 use crate::routes::{Route, deep_blocks, fill, full_block};
-use crate::running::{WORKERS, print_running};
+use crate::running::{Measured, WORKERS, measure_left, print_running};
 use crate::words::Words;
 use anyhow::Result;
 use fib::Fib;
@@ -28,11 +29,24 @@ pub(crate) fn run<R: Clock + Print + AllocGlobal + Threads + Sync>(
     rt: &R,
     count: usize,
 ) -> Result<()> {
-    let mut random = Xoshiro256PlusPlus::seed_from_u64(1);
     let mut table = Fib::<24, 8>::open(rt.alloc(), limits())?;
-    let routes = fill(rt.alloc(), &mut table, &mut random, count)?;
-    print_alone(rt, &mut table, routes.as_slice(), &mut random)?;
-    print_running(rt, table, routes.as_slice(), &mut random)
+    let measured = measure_alone(rt, &mut table, count)?;
+    print_running(rt, table, &measured)
+}
+
+/// Adds that many random routes to the table, and measures it as one of one thread.
+fn measure_alone<R: Clock + Print + AllocGlobal + Threads + Sync>(
+    rt: &R,
+    table: &mut Fib<24, 8>,
+    count: usize,
+) -> Result<Measured>
+    ensures { IfOk result (λ _. (worker : ℕ) → worker < table.new.config.workers
+        → ¬ by_counters.is_online table.new.table.readers worker) }
+{
+    let mut random = Xoshiro256PlusPlus::seed_from_u64(1);
+    let routes = fill(rt.alloc(), table, &mut random, count)?;
+    print_alone(rt, table, routes.as_slice(), &mut random)?;
+    measure_left(rt, table, routes, &mut random)
 }
 
 /// Prints the size of a table of one thread that has these routes, and what its lookups and changes take.

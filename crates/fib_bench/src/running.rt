@@ -28,37 +28,53 @@ struct Alone {
     ascending: Least,
 }
 
-/// Goes on with the table as a running one, and prints what its lookups and changes take.
-pub(crate) fn print_running<R: Clock + Print + AllocGlobal + Threads + Sync, G: Rng>(
-    rt: &R,
-    table: Fib<24, 8>,
-    routes: &[Route],
-    random: &mut G,
-) -> Result<()> {
-    let addrs = random_addresses(rt.alloc(), random)?;
-    let alone = measure_left(rt, &table, addrs.as_slice())?;
-    print_going_live(rt, table, routes, addrs.as_slice(), alone)
+/// What is left of a table that was measured alone: its routes, addresses with any bits, and what lookups took
+/// at them.
+#[derive(Drop)]
+pub(crate) struct Measured {
+    routes: Vec<Route>,
+    addrs: Vec<u32>,
+    alone: Alone,
 }
 
-/// Goes on with the table, of which no worker is online, as a running one.
-fn print_going_live<R: Clock + Print + AllocGlobal + Threads + Sync>(
+/// Measures the table, which has these routes, once more before it goes on as a running one. It is an error if a
+/// worker is online.
+pub(crate) fn measure_left<R: Clock + AllocGlobal, G: Rng>(
+    rt: &R,
+    table: &Fib<24, 8>,
+    routes: Vec<Route>,
+    random: &mut G,
+) -> Result<Measured>
+    ensures { IfOk result (λ _. (worker : ℕ) → worker < table.now.config.workers
+        → ¬ by_counters.is_online table.now.table.readers worker) }
+{
+    let addrs = random_addresses(rt.alloc(), random)?;
+    let alone = measure(rt, table, addrs.as_slice())?;
+    Ok(Measured {
+        routes,
+        addrs,
+        alone,
+    })
+}
+
+/// Goes on with the table, of which no worker is online, as a running one, and prints what its lookups and
+/// changes take.
+pub(crate) fn print_running<R: Clock + Print + AllocGlobal + Threads + Sync>(
     rt: &R,
     table: Fib<24, 8>,
-    routes: &[Route],
-    addrs: &[u32],
-    alone: Alone,
+    measured: &Measured,
 ) -> Result<()>
     requires offline { (worker : ℕ) → worker < table.config.workers
         → ¬ by_counters.is_online table.table.readers worker }
 {
     let (table, writer, mut bench) = go_live(rt.alloc(), table)?;
     let mut changer = Changer::new(&table, writer);
-    print_live(rt, &table, &mut bench, &mut changer, routes, addrs, alone)
+    print_live(rt, &table, &mut bench, &mut changer, measured)
 }
 
 /// What lookups of the table take at these addresses, and at the ascending ones. It is an error if a worker is
 /// online.
-fn measure_left<R: Clock>(rt: &R, table: &Fib<24, 8>, addrs: &[u32]) -> Result<Alone>
+fn measure<R: Clock>(rt: &R, table: &Fib<24, 8>, addrs: &[u32]) -> Result<Alone>
     ensures { OnOk result ((worker : ℕ) → worker < table.now.config.workers
         → ¬ by_counters.is_online table.now.table.readers worker) }
 {
@@ -74,16 +90,28 @@ fn print_live<R: Clock + Print + AllocGlobal + Threads + Sync>(
     table: &SharedTable<24, 8>,
     bench: &mut Bench,
     changer: &mut Changer<'_>,
-    routes: &[Route],
-    addrs: &[u32],
-    alone: Alone,
+    measured: &Measured,
 ) -> Result<()>
     requires own { IsBenchOf table.now bench.old }
 {
     let mut readers = readers_of(rt.alloc(), table, bench)?;
-    print_at_rest(rt, &mut readers[0], addrs, alone)?;
+    print_readers(rt, readers.as_mut_slice(), changer, measured)
+}
+
+/// Prints what lookups by these readers and changes by the writer take, one after the other and at once.
+fn print_readers<R: Clock + Print + AllocGlobal + Threads + Sync>(
+    rt: &R,
+    readers: &mut [Reader<'_>],
+    changer: &mut Changer<'_>,
+    measured: &Measured,
+) -> Result<()>
+    requires { 0 < length readers.old }
+{
+    let addrs = measured.addrs.as_slice();
+    let routes = measured.routes.as_slice();
+    print_at_rest(rt, &mut readers[0], addrs, measured.alone)?;
     print_changes(rt, changer, &routes[..routes.len().min(SAMPLE)])?;
-    print_at_once(rt, readers.as_mut_slice(), changer, routes, addrs)
+    print_at_once(rt, readers, changer, routes, addrs)
 }
 
 /// Whether no worker of the table is online.
