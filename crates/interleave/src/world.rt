@@ -1,11 +1,14 @@
 //! Runs of the pure world.
 
-ghost use Rattle.std.specs.Prelude.{◌≡◌, ℕ, ◌+◌, ◌^◌, ◌↔◌, All, IfOk, IfErr, length, map};
+ghost use Rattle.std.specs.Prelude.{◌≡◌, ℕ, ◌+◌, ◌^◌, ◌↔◌, [], All, IfOk, IfErr, length, map};
+ghost use Rattle.std.specs.FinMap.{empty};
 ghost use Rattle.lpm_bits.specs.Widths.{IsShape};
 ghost use Rattle.lpm_limits.specs.Limits.{IsConfig};
 ghost use Rattle.world_workers.specs.Scripts.{IsSound};
+ghost use Rattle.lpm_writer.specs.Opening.{opening_setup};
+ghost use Rattle.lpm_writer.specs.Resting.{IsResting};
 ghost use Rattle.world_memory.specs.View.{script_at};
-ghost use Rattle.interleave.specs.declared.run_error.RunError.TheVariants.{BadConfig as IsBadConfig};
+ghost use Rattle.interleave.specs.declared.run_error.RunError.TheVariants.{BadConfig as IsBadConfig, Memory as IsMemory};
 ghost use Rattle.interleave.specs.Runs.{IsRun};
 
 use super::answering::answer_all;
@@ -45,20 +48,39 @@ impl<const FIRST: u32, const SECOND: u32> World<FIRST, SECOND> {
         ensures bad_config { IfErr result (λ error. (error ≡ IsBadConfig) ↔ (¬ IsConfig config)) }
     {
         let mut ledger = Ledger::new(alloc, config)?;
-        let mut memory = WorldMemory::new(
-            alloc,
-            config.groups,
-            config.first_token,
-            scripts,
-            schedule,
-        )?;
-        let replies = answer_all(alloc, &mut ledger, &mut memory, changes, schedule.len())?;
-        memory.play_out();
-        let (steps, lookups) = memory.into_record();
-        Ok(Trace {
-            steps,
-            replies,
-            lookups,
-        })
+        run_opened(alloc, &mut ledger, changes, scripts, schedule)
     }
+}
+
+/// Runs the changes and the deeds on a table that was just opened.
+fn run_opened<const FIRST: u32, const SECOND: u32>(
+    alloc: Global,
+    ledger: &mut Ledger<FIRST, SECOND>,
+    changes: &[Change<FIRST, SECOND>],
+    scripts: &[Vec<Deed>],
+    schedule: &[Actor],
+) -> Result<Trace, RunError>
+    requires shape { IsShape FIRST SECOND }
+    requires in_range { IsConfig ledger.old.config }
+    requires workers { length scripts.now ≡ ledger.old.config.workers }
+    requires sound { All (λ script. IsSound (2 ^ (FIRST + SECOND)) script.items) scripts.now }
+    requires rests { IsResting FIRST SECOND (opening_setup FIRST SECOND ledger.old.config) []
+        ledger.old.config ledger.old.rules ledger.old.books ledger.old.versions }
+    requires rules { ledger.old.rules.rules ≡ empty }
+    requires queue { ledger.old.books.queue.items ≡ [] }
+    requires versions { ledger.old.versions ≡ 0 }
+    ensures runs { IfOk result (λ trace. IsRun FIRST SECOND ledger.old.config changes.now
+        (script_at (map (λ script. script.items) scripts.now)) schedule.now trace) }
+    ensures memory { IfErr result (λ error. error ≡ IsMemory) }
+{
+    let config = ledger.config;
+    let mut memory = WorldMemory::new(alloc, config.groups, config.first_token, scripts, schedule)?;
+    let replies = answer_all(alloc, ledger, &mut memory, changes, schedule.len())?;
+    memory.play_out();
+    let (steps, lookups) = memory.into_record();
+    Ok(Trace {
+        steps,
+        replies,
+        lookups,
+    })
 }

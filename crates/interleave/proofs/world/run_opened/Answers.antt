@@ -7,34 +7,34 @@ use Rattle.world_memory.specs.World.{IsPlayedOut}
 use Rattle.interleave.specs.Replies.{kept}
 use Rattle.interleave.specs.Runs.{IsPerformed}
 use Rattle.interleave.proofs.Ends.{opens, nothing_yet, run_ends}
-use Rattle.interleave.proofs.world.World.run.Goals as goal
+use Rattle.interleave.proofs.world.run_opened.Goals as goal
 
 pub answer_all-requires : goal.answer_all-requires
 answer_all-requires g c =
     let f = g.row.FIRST in
     let s = g.row.SECOND in
-    let opening = opening_setup f s c.args.config in
-    let did = c.in_ok-memory.ensures.did opening (opens f s c.args.config (length c.args.scripts.now) c.requires.workers) in
+    let opening = opening_setup f s c.args.ledger.now.config in
+    let did = c.in_ok-memory.ensures.did opening (opens f s c.args.ledger.now.config (length c.args.scripts.now) c.requires.workers) in
     let all : length c.in_ok-memory.memory.schedule ≤ length c.args.schedule.now = let same = ap length c.in_ok-memory.ensures.schedule in omega (arith, same) in
-    (omega arith, (omega arith, (omega arith, ((opening, did, c.in_ok-ledger.ensures.rests), all))))
+    (omega arith, (omega arith, (omega arith, ((opening, did, c.requires.rests), all))))
 
 pub play_out-requires : goal.play_out-requires
 play_out-requires g c =
     let f = g.row.FIRST in
     let s = g.row.SECOND in
-    let opening = opening_setup f s c.args.config in
-    let did = c.in_ok-memory.ensures.did opening (opens f s c.args.config (length c.args.scripts.now) c.requires.workers) in
-    let performed = c.in_ok-replies.ensures.performed opening did c.in_ok-ledger.ensures.rests in
+    let opening = opening_setup f s c.args.ledger.now.config in
+    let did = c.in_ok-memory.ensures.did opening (opens f s c.args.ledger.now.config (length c.args.scripts.now) c.requires.workers) in
+    let performed = c.in_ok-replies.ensures.performed opening did c.requires.rests in
     (omega arith, (opening, performed.0, performed.1))
 
 pub returns-clause-runs : goal.returns-clause-runs
 returns-clause-runs g c =
     let f = g.row.FIRST in
     let s = g.row.SECOND in
-    let config = c.args.config in
+    let config = c.args.ledger.now.config in
     let opening = opening_setup f s config in
-    let ledger = c.in_ok-ledger.ledger in
-    let told = c.in_ok-ledger.ensures in
+    let ledger = c.args.ledger.now in
+    let told = c.requires in
     let scripts = map (λ script. script.items) c.args.scripts.now in
     let schedule = c.args.schedule.now in
     let did = c.in_ok-memory.ensures.did opening (opens f s config (length c.args.scripts.now) c.requires.workers) in
@@ -45,7 +45,7 @@ returns-clause-runs g c =
     let scripts_are : z.scripts ≡ scripts = c.play_out.ensures.shared.scripts ∙ ap (λ x. x.0) same ∙ c.in_ok-memory.ensures.scripts in
     let schedule_is : z.schedule ≡ schedule = c.play_out.ensures.shared.schedule ∙ ap (λ x. x.1) same ∙ c.in_ok-memory.ensures.schedule in
     let start : kept ledger.rules [] ledger.books ledger.versions ≡ _ = nothing_yet ledger.rules.rules (tokens_of ledger.books.queue.items) ledger.versions told.rules (ap tokens_of told.queue) told.versions in
-    let performed = subst (λ x. IsPerformed opening f s x (writer_items c.in_ok-memory.memory.schedule) (kept ledger.rules [] ledger.books ledger.versions) c.args.changes.now c.in_ok-replies.replies.items done.0) told.config done.2 in
+    let performed = done.2 in
     let performed' = subst (λ x. IsPerformed opening f s config (writer_items x) (kept ledger.rules [] ledger.books ledger.versions) c.args.changes.now c.in_ok-replies.replies.items done.0) c.in_ok-memory.ensures.schedule performed in
     let performed'' = subst (λ x. IsPerformed opening f s config (writer_items schedule) x c.args.changes.now c.in_ok-replies.replies.items done.0) start performed' in
     let out = subst (λ x. IsPlayedOut opening x z.schedule done.0 z.steps z.seen) scripts_are played in
