@@ -25,3 +25,9 @@ returns-in-Err-clause-reclaims c = search rules
 
 pub returns-after-loop-freed-clause-reclaims : goal.returns-after-loop-freed-clause-reclaims
 returns-after-loop-freed-clause-reclaims c = search rules
+
+pub returns-in-Err-clause-left : goal.returns-in-Err-clause-left
+returns-in-Err-clause-left c = search rules
+
+pub returns-in-Err-clause-ready : goal.returns-in-Err-clause-ready
+returns-in-Err-clause-ready c = search rules
