@@ -1,4 +1,4 @@
-use Rattle.std.proofs.Common.{ap, sym, ◌∙◌, subst, arith, ◌≡◌, ◌+◌, ◌*◌, ◌^◌, ◌<◌, ◌/◌, ◌%◌, length, true, false}
+use Rattle.std.proofs.Common.{rules, ap, sym, ◌∙◌, subst, arith, ◌≡◌, ◌+◌, ◌*◌, ◌^◌, ◌<◌, ◌/◌, ◌%◌, length, true, false}
 use Rattle.std.specs.Prelude.{slice_index}
 use Rattle.std.proofs.lemmas.Nat.{one_shl}
 use Rattle.lpm_entry.specs.Words.{IsLast, entry_in}
@@ -91,3 +91,6 @@ returns-else-replaces-clause-visits g c =
     let word = second_is_word f s W j c.second-old.result c.requires.table within value in
     let kept : replaces u.rewrite (entry_in (slice_index W.seconds j)) ≡ false = ap (λ x. replaces u.rewrite (entry_in x)) (sym value) ∙ c.requires.on.replaced c.second-old.result word ∙ sym c.replaces.ensures ∙ c.if-replaces.false in
     kept_second f s u W n j c.requires.more c.requires.under_way group place _ kept (ap (λ x. C.words x) (c.second-old.ensures.same ∙ c.first-old.ensures.same))
+
+pub returns-then-replaces-clause-sets : goal.returns-then-replaces-clause-sets
+returns-then-replaces-clause-sets c = search rules

@@ -48,3 +48,6 @@ load-requires-2 g c =
           ∙ (ap {A = Me (Unit {0}) View} (λ m. m.0.role) c.split_seat-told.ensures.2
           ∙ c.args.writer.now.role)),
     )
+
+pub returns-clause-step : goal.returns-clause-step
+returns-clause-step g c = search rules
