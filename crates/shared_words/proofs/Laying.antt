@@ -1,5 +1,5 @@
 -- Where each word of the world lies, after a store of the writer and at the start.
-use Rattle.std.proofs.Common.{◌≡◌, ◌≢◌, ℕ, suc, ◌+◌, ◌<◌, List, [], ◌∷◌, ◌++◌, length, replicate, slice_index, slice_set, refl, ap, ◌∙◌, arith}
+use Rattle.std.proofs.Common.{◌≡◌, ◌≢◌, ℕ, suc, ◌+◌, ◌/◌, ◌^◌, ◌<◌, sym, List, [], ◌∷◌, ◌++◌, length, replicate, slice_index, slice_set, refl, ap, ◌∙◌, arith}
 use Rattle.std.proofs.lemmas.List.{get_or-set_same, get_or-set_other, length-set, get_or_append_left, get_or-append-add, get_or-replicate, length-append, length-replicate}
 use Rattle.lpm_trace.specs.declared.step.WriterStep.{WriterStep}
 use Rattle.lpm_trace.specs.declared.step.WriterStep.TheVariants.{StoreFirst, StoreSecond, Opens, Closes, BumpToken, LoadCounter}
@@ -7,9 +7,9 @@ use Rattle.lpm_trace.specs.declared.step.TraceStep.TheVariants.{Writer as ByWrit
 use Rattle.lpm_trace.specs.Tables.{Setup, Tables, tables, written}
 use Rattle.lpm_trace.specs.Course.{Course}
 use Rattle.lpm_trace.specs.Trace.{World, apply, start}
-use Rattle.lpm_trace.proofs.Basics.{set_case}
 use Rattle.shared_words.specs.Opened.{Opened, setup_of}
-use Rattle.shared_words.specs.Layout.{IsLaidOut, second_at, sequence_at, token_at, counter_at, opening_words}
+use Rattle.shared_words.specs.Layout.{IsLaidOut, word_count, half, pairs, packed, first_at, second_at, sequence_at, token_at, counter_at, opening_words}
+use Rattle.shared_words.proofs.Halves.{half_stored, packed_half, packed_length}
 
 -- no step changes how many words there are
 firsts_written : (c : Setup) (w : Tables) (s : WriterStep)
@@ -40,53 +40,57 @@ pub seconds_length : (c : Setup) (seen : List WriterStep)
 seconds_length c [] = refl
 seconds_length c (s ∷ seen) = seconds_written c (tables c seen) s ∙ seconds_length c seen
 
--- a word that is stored in two lists, at place p of one and at i of the other
-twin : (words ws : List ℕ) (p i x q j : ℕ) → p < length words → i < length ws
-    → (j ≡ i → q ≡ p) → (j ≢ i → q ≢ p) → slice_index words q ≡ slice_index ws j
-    → slice_index (slice_set words p x) q ≡ slice_index (slice_set ws i x) j
-twin words ws p i x q j low inside same other is =
-    set_case (λ y. slice_index (slice_set words p x) q ≡ y) ws i x j inside
-    (λ e. ap (λ k. slice_index (slice_set words p x) k) (same e) ∙ get_or-set_same words p x 0 low)
-    (λ ne. get_or-set_other words p q x 0 (other ne) ∙ is)
-
 -- a word elsewhere
 beside : (words : List ℕ) (p x q y : ℕ) → q ≢ p → slice_index words q ≡ y
     → slice_index (slice_set words p x) q ≡ y
 beside words p x q y ne is = get_or-set_other words p q x 0 ne ∙ is
 
+-- a half of a word elsewhere
+half_away : (words : List ℕ) (p x q k y : ℕ) → q ≢ p → half k (slice_index words q) ≡ y
+    → half k (slice_index (slice_set words p x) q) ≡ y
+half_away words p x q k y ne is = ap (half k) (get_or-set_other words p q x 0 ne) ∙ is
+
 module _ (o : Opened) (words : List ℕ) (w : World) (laid : IsLaidOut o words w) where
-  pub lays_first : (i x : ℕ) → i < length o.firsts
-      → IsLaidOut o (slice_set words i x) (apply (setup_of o) w (ByWriter (StoreFirst i x)))
-  lays_first i x inside =
-      let away = beside words i x in
-      let low : i < length words = omega (arith, inside, laid.count) in
+  -- word x is stored at place i of the first table, by word n, which keeps the neighbour
+  pub lays_first : (i x n : ℕ) → i < length o.firsts → half i n ≡ x
+      → ((k : ℕ) → k < length o.firsts → first_at k ≡ first_at i → k ≢ i
+      → half k n ≡ slice_index w.tables.words.firsts k)
+      → IsLaidOut o (slice_set words (first_at i) n) (apply (setup_of o) w (ByWriter (StoreFirst i x)))
+  lays_first i x n inside stored kept =
+      let at : ℕ = first_at i in
+      let away = beside words at n in
+      let low : at < length words = omega (arith, inside, laid.count) in
       let low' : i < length w.tables.words.firsts = omega (arith, inside, laid.firsts_len) in
       record {
-        count = length-set words i x ∙ laid.count;
+        count = length-set words at n ∙ laid.count;
         firsts_len = length-set w.tables.words.firsts i x ∙ laid.firsts_len;
         seconds_len = laid.seconds_len;
-        firsts = λ j lt. twin words w.tables.words.firsts i i x j j low low' (λ e. e) (λ ne. ne)
-            (laid.firsts j lt);
-        seconds = λ j lt. away (second_at o j) _ (λ e. omega (arith, e, inside)) (laid.seconds j lt);
+        firsts = λ j lt. half_stored words w.tables.words.firsts at n (first_at j) i x j low low' stored
+            (ap first_at) (λ ne e. kept j lt e ne) (laid.firsts j lt);
+        seconds = λ j lt. half_away words at n (second_at o j) j _ (λ e. omega (arith, e, inside))
+            (laid.seconds j lt);
         sequence = away (sequence_at o) _ (λ e. omega (arith, e, inside)) laid.sequence;
         token = away (token_at o) _ (λ e. omega (arith, e, inside)) laid.token;
         counters = λ k lt. away (counter_at o k) _ (λ e. omega (arith, e, inside)) (laid.counters k lt);
       }
 
-  pub lays_second : (j x : ℕ) → j < length o.seconds
-      → IsLaidOut o (slice_set words (second_at o j) x) (apply (setup_of o) w (ByWriter (StoreSecond j x)))
-  lays_second j x inside =
+  -- word x is stored at place j of the second table, by word n, which keeps the neighbour
+  pub lays_second : (j x n : ℕ) → j < length o.seconds → half j n ≡ x
+      → ((k : ℕ) → k < length o.seconds → second_at o k ≡ second_at o j → k ≢ j
+      → half k n ≡ slice_index w.tables.words.seconds k)
+      → IsLaidOut o (slice_set words (second_at o j) n) (apply (setup_of o) w (ByWriter (StoreSecond j x)))
+  lays_second j x n inside stored kept =
       let at : ℕ = second_at o j in
-      let away = beside words at x in
+      let away = beside words at n in
       let low : at < length words = omega (arith, inside, laid.count) in
       let low' : j < length w.tables.words.seconds = omega (arith, inside, laid.seconds_len) in
       record {
-        count = length-set words at x ∙ laid.count;
+        count = length-set words at n ∙ laid.count;
         firsts_len = laid.firsts_len;
         seconds_len = length-set w.tables.words.seconds j x ∙ laid.seconds_len;
-        firsts = λ i lt. away i _ (λ e. omega (arith, e, lt)) (laid.firsts i lt);
-        seconds = λ i lt. twin words w.tables.words.seconds at j x (second_at o i) i low low'
-            (λ e. omega (arith, e)) (λ ne e. ne (omega (arith, e))) (laid.seconds i lt);
+        firsts = λ i lt. half_away words at n (first_at i) i _ (λ e. omega (arith, e, lt)) (laid.firsts i lt);
+        seconds = λ i lt. half_stored words w.tables.words.seconds at n (second_at o i) j x i low low' stored
+            (ap (second_at o)) (λ ne e. kept i lt e ne) (laid.seconds i lt);
         sequence = away (sequence_at o) _ (λ e. omega (arith, e, inside)) laid.sequence;
         token = away (token_at o) _ (λ e. omega (arith, e, inside)) laid.token;
         counters = λ k lt. away (counter_at o k) _ (λ e. omega (arith, e, inside)) (laid.counters k lt);
@@ -106,8 +110,9 @@ module _ (o : Opened) (words : List ℕ) (w : World) (laid : IsLaidOut o words w
         count = length-set words at t.sequence ∙ laid.count;
         firsts_len = laid.firsts_len;
         seconds_len = laid.seconds_len;
-        firsts = λ i lt. away i _ (λ e. omega (arith, e, lt)) (laid.firsts i lt);
-        seconds = λ j lt. away (second_at o j) _ (λ e. omega (arith, e, lt)) (laid.seconds j lt);
+        firsts = λ i lt. half_away words at t.sequence (first_at i) i _ (λ e. omega (arith, e, lt)) (laid.firsts i lt);
+        seconds = λ j lt. half_away words at t.sequence (second_at o j) j _ (λ e. omega (arith, e, lt))
+            (laid.seconds j lt);
         sequence = get_or-set_same words at t.sequence 0 (omega (arith, laid.count));
         token = away (token_at o) _ (λ e. omega (arith, e)) laid.token;
         counters = λ k lt. away (counter_at o k) _ (λ e. omega (arith, e)) (laid.counters k lt);
@@ -127,8 +132,9 @@ module _ (o : Opened) (words : List ℕ) (w : World) (laid : IsLaidOut o words w
         count = length-set words at t.token ∙ laid.count;
         firsts_len = laid.firsts_len;
         seconds_len = laid.seconds_len;
-        firsts = λ i lt. away i _ (λ e. omega (arith, e, lt)) (laid.firsts i lt);
-        seconds = λ j lt. away (second_at o j) _ (λ e. omega (arith, e, lt)) (laid.seconds j lt);
+        firsts = λ i lt. half_away words at t.token (first_at i) i _ (λ e. omega (arith, e, lt)) (laid.firsts i lt);
+        seconds = λ j lt. half_away words at t.token (second_at o j) j _ (λ e. omega (arith, e, lt))
+            (laid.seconds j lt);
         sequence = away (sequence_at o) _ (λ e. omega (arith, e)) laid.sequence;
         token = get_or-set_same words at t.token 0 (omega (arith, laid.count));
         counters = λ k lt. away (counter_at o k) _ (λ e. omega (arith, e)) (laid.counters k lt);
@@ -156,27 +162,53 @@ module _ (o : Opened) (words : List ℕ) (w : World) (laid : IsLaidOut o words w
     counters = laid.counters;
   }
 
--- the words at the start
-pub lays_opening : (o : Opened) → IsLaidOut o (opening_words o) (start (setup_of o))
-lays_opening o =
-    let f : ℕ = length o.firsts in
-    let s : ℕ = length o.seconds in
+-- how many words there are at the start
+pub opening_count : (o : Opened) → length (opening_words o) ≡ word_count o
+opening_count o =
+    let firsts : List ℕ = packed o.firsts in
+    let seconds : List ℕ = packed o.seconds in
     let calm : List ℕ = replicate o.workers 0 in
     let tail : List ℕ = 0 ∷ o.token ∷ calm in
-    let rest : List ℕ = o.seconds ++ tail in
-    let all : List ℕ = o.firsts ++ rest in
-    let past : (at k : ℕ) → at ≡ f + (s + k) → slice_index all at ≡ slice_index tail k =
-    λ at k e. ap (slice_index all) e ∙ get_or-append-add o.firsts rest (s + k) 0
-    ∙ get_or-append-add o.seconds tail k 0 in
     let many : length calm ≡ o.workers = length-replicate {A = ℕ} o.workers 0 in
+    omega (
+      arith,
+      length-append firsts (seconds ++ tail),
+      length-append seconds tail,
+      many,
+      packed_length o.firsts,
+      packed_length o.seconds,
+    )
+
+-- the words at the start, where each is one of 32 bits
+pub lays_opening : (o : Opened) → ((i : ℕ) → i < length o.firsts → slice_index o.firsts i < 2 ^ 32)
+    → ((j : ℕ) → j < length o.seconds → slice_index o.seconds j < 2 ^ 32)
+    → IsLaidOut o (opening_words o) (start (setup_of o))
+lays_opening o small_first small_second =
+    let firsts : List ℕ = packed o.firsts in
+    let seconds : List ℕ = packed o.seconds in
+    let f : length firsts ≡ pairs (length o.firsts) = packed_length o.firsts in
+    let s : length seconds ≡ pairs (length o.seconds) = packed_length o.seconds in
+    let calm : List ℕ = replicate o.workers 0 in
+    let tail : List ℕ = 0 ∷ o.token ∷ calm in
+    let rest : List ℕ = seconds ++ tail in
+    let all : List ℕ = firsts ++ rest in
+    let past : (at k : ℕ) → at ≡ length firsts + (length seconds + k)
+    → slice_index all at ≡ slice_index tail k =
+    λ at k e. ap (slice_index all) e ∙ get_or-append-add firsts rest (length seconds + k) 0
+    ∙ get_or-append-add seconds tail k 0 in
     record {
-      count = omega (arith, length-append o.firsts rest, length-append o.seconds tail, many);
+      count = opening_count o;
       firsts_len = refl;
       seconds_len = refl;
-      firsts = λ i lt. get_or_append_left o.firsts rest 0 i lt;
-      seconds = λ j lt. get_or-append-add o.firsts rest j 0 ∙ get_or_append_left o.seconds tail 0 j lt;
-      sequence = past (sequence_at o) 0 (omega arith);
-      token = past (token_at o) 1 (omega arith);
-      counters = λ k lt. past (counter_at o k) (suc (suc k)) (omega arith)
+      firsts = λ i lt. ap (half i) (get_or_append_left firsts rest 0 (first_at i) (omega (arith, lt, f)))
+          ∙ packed_half o.firsts small_first i lt;
+      seconds = λ j lt. ap (half j) (ap (slice_index all)
+          (ap (λ (n : ℕ). n + j / 2) (sym f))
+          ∙ get_or-append-add firsts rest (j / 2) 0
+          ∙ get_or_append_left seconds tail 0 (j / 2) (omega (arith, lt, s)))
+          ∙ packed_half o.seconds small_second j lt;
+      sequence = past (sequence_at o) 0 (omega (arith, f, s));
+      token = past (token_at o) 1 (omega (arith, f, s));
+      counters = λ k lt. past (counter_at o k) (suc (suc k)) (omega (arith, f, s))
           ∙ get_or-replicate o.workers k 0 0 lt;
     }

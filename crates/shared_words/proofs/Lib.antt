@@ -1,3 +1,4 @@
+pub mod Halves
 pub mod Laying
 pub mod Writing
 pub mod Workings

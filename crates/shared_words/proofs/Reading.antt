@@ -14,7 +14,7 @@ use Rattle.lpm_trace.proofs.Promises.{words_are_entries}
 use Rattle.shared_words.specs.declared.view.Role.TheVariants.{Worker}
 use Rattle.shared_words.specs.declared.view.View.{View}
 use Rattle.shared_words.specs.Opened.{Opened, setup_of}
-use Rattle.shared_words.specs.Layout.{second_at, sequence_at, token_at, counter_at}
+use Rattle.shared_words.specs.Layout.{half, first_at, second_at, sequence_at, token_at, counter_at}
 use Rattle.shared_words.specs.Rule.{Holds}
 use Rattle.shared_words.specs.Seats.{IsFirstAt, IsSecondAt, WorkerGains, WorkerGainsFirst, WorkerGainsSecond}
 use Rattle.shared_words.proofs.Workings.{load_allowed, plain, store_allowed}
@@ -88,44 +88,48 @@ module _ (o : Opened) (slots id k at : ℕ) (me : Me (Unit {0}) View) (role : me
       (load_allowed o Meets (λ _. Unit {0}) slots id k (sequence_at o) me role (λ n now w. refl)
       (λ s h same. ((between, h.words.sequence), tt))))
 
-  pub first_allowed : at < length o.firsts → (worker_by me.0.own).phase ≡ LookingUp
-      → IsFirstAt me.0.opening.second at (worker_by me.0.own).probes
-      → Allows (Holds o) slots id me at (λ n. n) (WorkerGainsFirst me)
-  first_allowed inside looking next =
-      load_allowed o LoadFirst
-      (λ n. IsFirstWord (me.0.opening.first + me.0.opening.second) me.0.opening.second me.0.opening.seconds n)
-      slots id k at me role (λ n now w. refl)
+  pub first_allowed : (i : ℕ) → at ≡ first_at i → i < length o.firsts
+      → (worker_by me.0.own).phase ≡ LookingUp
+      → IsFirstAt me.0.opening.second i (worker_by me.0.own).probes
+      → Allows (Holds o) slots id me at (λ n. n) (λ n. WorkerGainsFirst me (half i n))
+  first_allowed i there inside looking next = subst
+      (λ q. Allows (Holds o) slots id me q (λ n. n) (λ n. WorkerGainsFirst me (half i n))) (sym there)
+      (load_allowed o (λ n. LoadFirst (half i n))
+      (λ n. IsFirstWord (me.0.opening.first + me.0.opening.second) me.0.opening.second me.0.opening.seconds
+      (half i n))
+      slots id k (first_at i) me role (λ n now w. refl)
       (λ s h same.
       let w : World = after (setup_of o) h.steps in
-      let word : ℕ = slice_index s.words at in
-      let is : word ≡ slice_index w.tables.words.firsts at = h.words.firsts at inside in
+      let word : ℕ = half i (slice_index s.words (first_at i)) in
+      let is : word ≡ slice_index w.tables.words.firsts i = h.words.firsts i inside in
       let entries : IsWords o.first o.second w.tables.words =
       words_are_entries (setup_of o) h.steps h.settled h.trace in
       let there : IsFirstWord (o.first + o.second) o.second w.tables.words.seconds word = subst
       (IsFirstWord (o.first + o.second) o.second w.tables.words.seconds) (sym is)
-      (entries.first_words at (omega (arith, inside, h.words.firsts_len))) in (
+      (entries.first_words i (omega (arith, inside, h.words.firsts_len))) in (
         (
           looking,
-          next_first o w.tables word at (worker_by me.0.own).probes
-              (subst (λ (z : Opened). IsFirstAt z.second at (worker_by me.0.own).probes) same next) is,
+          next_first o w.tables word i (worker_by me.0.own).probes
+              (subst (λ (z : Opened). IsFirstAt z.second i (worker_by me.0.own).probes) same next) is,
         ),
         subst (λ (z : Opened). IsFirstWord (z.first + z.second) z.second z.seconds word) (sym same) (
           there.0,
           room o.second w.tables.words.seconds o.seconds h.words.seconds_len (entry_in word) there.1,
         ),
-      ))
+      )))
 
   pub second_allowed : (j : ℕ) → at ≡ second_at o j → j < length o.seconds
       → (worker_by me.0.own).phase ≡ LookingUp → AreBegun (worker_by me.0.own).probes
       → IsSecondAt me.0.opening.second j (worker_by me.0.own).probes
-      → Allows (Holds o) slots id me at (λ n. n) (WorkerGainsSecond me)
+      → Allows (Holds o) slots id me at (λ n. n) (λ n. WorkerGainsSecond me (half j n))
   second_allowed j there inside looking begun next = subst
-      (λ i. Allows (Holds o) slots id me i (λ n. n) (WorkerGainsSecond me)) (sym there)
-      (load_allowed o LoadSecond (λ n. IsLastWord (me.0.opening.first + me.0.opening.second) n)
+      (λ q. Allows (Holds o) slots id me q (λ n. n) (λ n. WorkerGainsSecond me (half j n))) (sym there)
+      (load_allowed o (λ n. LoadSecond (half j n))
+      (λ n. IsLastWord (me.0.opening.first + me.0.opening.second) (half j n))
       slots id k (second_at o j) me role (λ n now w. refl)
       (λ s h same.
       let w : World = after (setup_of o) h.steps in
-      let word : ℕ = slice_index s.words (second_at o j) in
+      let word : ℕ = half j (slice_index s.words (second_at o j)) in
       let is : word ≡ slice_index w.tables.words.seconds j = h.words.seconds j inside in
       let entries : IsWords o.first o.second w.tables.words =
       words_are_entries (setup_of o) h.steps h.settled h.trace in (

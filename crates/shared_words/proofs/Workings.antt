@@ -23,7 +23,7 @@ use Rattle.shared_words.specs.declared.view.Role.{Role}
 use Rattle.shared_words.specs.declared.view.Role.TheVariants.{Writer, Worker, Note}
 use Rattle.shared_words.specs.declared.view.View.{View}
 use Rattle.shared_words.specs.Opened.{Opened, setup_of}
-use Rattle.shared_words.specs.Layout.{second_at, sequence_at, token_at, counter_at, IsLaidOut}
+use Rattle.shared_words.specs.Layout.{half, first_at, second_at, sequence_at, token_at, counter_at, IsLaidOut}
 use Rattle.shared_words.specs.Rule.{Seating, Sits, IsViewOf, Holds}
 use Rattle.shared_words.specs.Seats.{IsSound, Gains, WorkerGains}
 
@@ -87,8 +87,10 @@ module _ (o : Opened) where
         count = length-set words at x ∙ laid.count;
         firsts_len = laid.firsts_len;
         seconds_len = laid.seconds_len;
-        firsts = λ i lt. get_or-set_other words at i x 0 (omega (arith, lt)) ∙ laid.firsts i lt;
-        seconds = λ j lt. get_or-set_other words at (second_at o j) x 0 (omega (arith, lt)) ∙ laid.seconds j lt;
+        firsts = λ i lt. ap (half i) (get_or-set_other words at (first_at i) x 0 (omega (arith, lt)))
+            ∙ laid.firsts i lt;
+        seconds = λ j lt. ap (half j) (get_or-set_other words at (second_at o j) x 0 (omega (arith, lt)))
+            ∙ laid.seconds j lt;
         sequence = get_or-set_other words at (sequence_at o) x 0 (omega arith) ∙ laid.sequence;
         token = get_or-set_other words at (token_at o) x 0 (omega arith) ∙ laid.token;
         counters = λ j lt. with_at_case

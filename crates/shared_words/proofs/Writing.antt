@@ -6,6 +6,7 @@ use lib.ListN.{get_elem?}
 use Rattle.atomic_table.specs.Table.{State, Me, step, keeps, Allows, Splits, opening}
 use Rattle.atomic_table.proofs.Lists.{at_set, set_again}
 use Rattle.lpm_cells.specs.Table.{IsWords}
+use Rattle.lpm_entry.proofs.Reading.{word_below}
 use Rattle.lpm_trace.specs.declared.step.RuleChange.{RuleChange}
 use Rattle.lpm_trace.specs.declared.step.WriterStep.{WriterStep}
 use Rattle.lpm_trace.specs.declared.step.WriterStep.TheVariants.{StoreFirst, StoreSecond, Opens, Closes, BumpToken, LoadCounter}
@@ -21,9 +22,9 @@ use Rattle.shared_words.specs.declared.view.Role.{Role}
 use Rattle.shared_words.specs.declared.view.Role.TheVariants.{Writer, Worker, Note}
 use Rattle.shared_words.specs.declared.view.View.{View}
 use Rattle.shared_words.specs.Opened.{Opened, setup_of}
-use Rattle.shared_words.specs.Layout.{IsLaidOut, second_at, sequence_at, token_at, counter_at, opening_words}
+use Rattle.shared_words.specs.Layout.{IsLaidOut, half, first_at, second_at, sequence_at, token_at, counter_at, opening_words}
 use Rattle.shared_words.specs.Rule.{IsLater, Seating, Sits, IsViewOf, Holds, writer_view, worker_view, with_one_more}
-use Rattle.shared_words.specs.Seats.{WriterGains, IsFoundAt, WriterLooks, with_step}
+use Rattle.shared_words.specs.Seats.{WriterGains, IsFoundAt, KeepsFirst, KeepsSecond, WriterLooks, with_step}
 use Rattle.shared_words.proofs.Laying.{firsts_length, seconds_length, lays_first, lays_second, lays_sequence, lays_token, lays_none, lays_opening}
 
 abbrev St : Type 0
@@ -138,8 +139,9 @@ module _ (o : Opened) where
         words = subst (λ (z : Tables). IsWords o.first o.second z.words) now entries;
         checked = λ token pos low. passed_is_checked c h.steps token h.trace pos
             (subst (λ (z : Tables). token ≤ z.passed) (sym now) low);
-        first = λ lt. h.words.firsts at lt ∙ ap (λ (z : Tables). slice_index z.words.firsts at) now;
-        second = λ j lt place. found (second_at o j) place ∙ h.words.seconds j lt
+        first = λ i lt place. ap (half i) (found (first_at i) place) ∙ h.words.firsts i lt
+            ∙ ap (λ (z : Tables). slice_index z.words.firsts i) now;
+        second = λ j lt place. ap (half j) (found (second_at o j) place) ∙ h.words.seconds j lt
             ∙ ap (λ (z : Tables). slice_index z.words.seconds j) now;
         sequence = λ place. found (sequence_at o) place ∙ h.words.sequence
             ∙ ap (λ (z : Tables). z.sequence) now;
@@ -171,22 +173,29 @@ module _ (o : Opened) where
           refl,
         )
 
-    pub first_allowed : (x : ℕ) → MayMake me.0 (StoreFirst at x)
-        → Allows (Holds o) slots id me at (λ _. x) (λ _. WriterGains (StoreFirst at x) me)
-    first_allowed x may = store_allowed x (StoreFirst at x) may (λ _. tt)
+    pub first_allowed : (i x n : ℕ) → at ≡ first_at i → half i n ≡ x
+        → KeepsFirst me.0.opening seen i n → MayMake me.0 (StoreFirst i x)
+        → Allows (Holds o) slots id me at (λ _. n) (λ _. WriterGains (StoreFirst i x) me)
+    first_allowed i x n place stored kept may = store_allowed n (StoreFirst i x) may (λ _. tt)
         (λ words w is now laid.
         let len : length me.0.opening.firsts ≡ length o.firsts = ap (λ (z : Opened). length z.firsts) is in
         let stays = firsts_length (setup_of me.0.opening) seen in
-        lays_first o words w laid at x (omega (arith, may.0.1, stays, len)))
+        let kept' : KeepsFirst o seen i n = subst (λ (z : Opened). KeepsFirst z seen i n) is kept in
+        subst (λ (q : ℕ). IsLaidAfter (slice_set words q n) w (StoreFirst i x)) (sym place)
+        (lays_first o words w laid i x n (omega (arith, may.0.1, stays, len)) stored
+        (λ k lt e ne. kept' k lt e ne ∙ ap (λ (z : Tables). slice_index z.words.firsts k) (sym now))))
 
-    pub second_allowed : (j x : ℕ) → at ≡ second_at o j → MayMake me.0 (StoreSecond j x)
-        → Allows (Holds o) slots id me at (λ _. x) (λ _. WriterGains (StoreSecond j x) me)
-    second_allowed j x place may = store_allowed x (StoreSecond j x) may (λ _. tt)
+    pub second_allowed : (j x n : ℕ) → at ≡ second_at o j → half j n ≡ x
+        → KeepsSecond me.0.opening seen j n → MayMake me.0 (StoreSecond j x)
+        → Allows (Holds o) slots id me at (λ _. n) (λ _. WriterGains (StoreSecond j x) me)
+    second_allowed j x n place stored kept may = store_allowed n (StoreSecond j x) may (λ _. tt)
         (λ words w is now laid.
         let len : length me.0.opening.seconds ≡ length o.seconds = ap (λ (z : Opened). length z.seconds) is in
         let stays = seconds_length (setup_of me.0.opening) seen in
-        subst (λ (k : ℕ). IsLaidAfter (slice_set words k x) w (StoreSecond j x)) (sym place)
-        (lays_second o words w laid j x (omega (arith, may.0.1, stays, len))))
+        let kept' : KeepsSecond o seen j n = subst (λ (z : Opened). KeepsSecond z seen j n) is kept in
+        subst (λ (q : ℕ). IsLaidAfter (slice_set words q n) w (StoreSecond j x)) (sym place)
+        (lays_second o words w laid j x n (omega (arith, may.0.1, stays, len)) stored
+        (λ k lt e ne. kept' k lt e ne ∙ ap (λ (z : Tables). slice_index z.words.seconds k) (sym now))))
 
     -- the next number of the sequence is stored
     next_sequence : (n : ℕ) (step : WriterStep) → at ≡ sequence_at o → n ≡ (left_by me.0).sequence + 1
@@ -361,13 +370,16 @@ module _ (o : Opened) where
   first_seat (suc j) u e = absurd (some-ne-none u (sym e))
 
   pub opens : (words : List ℕ) → words ≡ opening_words o → IsSettled (setup_of o)
+      → o.first + o.second ≤ 32
       → Holds o (opening {S = Unit {0}} words [] (writer_view o))
-  opens words are settled = record {
+  opens words are settled widths = record {
     steps = [];
     seating = alone;
     settled = settled;
     trace = tt;
-    words = subst (λ (ws : List ℕ). IsLaidOut o ws (world_by [])) (sym are) (lays_opening o);
+    words = subst (λ (ws : List ℕ). IsLaidOut o ws (world_by [])) (sym are) (lays_opening o
+        (λ i lt. word_below (o.first + o.second) _ widths (settled.words.first_words i lt).0)
+        (λ j lt. word_below (o.first + o.second) _ widths (settled.words.second_words j lt).0));
     made = omega arith;
     unmade = λ k above. refl;
     views = first_seat;

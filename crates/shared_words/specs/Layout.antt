@@ -1,27 +1,48 @@
 -- This layer's own: where each word of a shared table lies: the first words, the second words, the
--- sequence, the token, and the counter of each worker (this project's).
-use Rattle.std.specs.Prelude.{ℕ, ◌≡◌, ◌+◌, ◌<◌, List, ◌∷◌, ◌++◌, length, replicate, slice_index}
+-- sequence, the token, and the counter of each worker. A word of the two tables has 32 bits and a shared
+-- word 64, so two neighbours of one table share a word (this project's).
+use Rattle.std.specs.Prelude.{ℕ, ◌≡◌, ◌+◌, ◌*◌, ◌/◌, ◌%◌, ◌^◌, ◌<◌, List, ◌∷◌, ◌++◌, map, length, replicate, slice_index}
+use Rattle.std.specs.List.{range_with_len}
 use Rattle.lpm_trace.specs.Trace.{World}
 use Rattle.shared_words.specs.Opened.{Opened}
 
+-- what a shared word has of the table word at this place: its low 32 bits for an even place, its high 32
+-- bits for an odd one
+abbrev pub half : ℕ → ℕ → ℕ
+half at word = word / 2 ^ (at % 2 * 32) % 2 ^ 32
+
+-- how many words so many table words share
+abbrev pub pairs : ℕ → ℕ
+pairs n = (n + 1) / 2
+
+-- the words that those of a table share; at the end of an odd number of them one half is left over
+abbrev pub pair_at : List ℕ → ℕ → ℕ
+pair_at xs k = slice_index xs (2 * k) + slice_index xs (2 * k + 1) * 2 ^ 32
+
+abbrev pub packed : List ℕ → List ℕ
+packed xs = map (pair_at xs) (range_with_len 0 (pairs (length xs)))
+
+abbrev pub first_at : ℕ → ℕ
+first_at i = i / 2
+
 abbrev pub second_at : Opened → ℕ → ℕ
-second_at o j = length o.firsts + j
+second_at o j = pairs (length o.firsts) + j / 2
 
 abbrev pub sequence_at : Opened → ℕ
-sequence_at o = length o.firsts + length o.seconds
+sequence_at o = pairs (length o.firsts) + pairs (length o.seconds)
 
 abbrev pub token_at : Opened → ℕ
-token_at o = length o.firsts + length o.seconds + 1
+token_at o = pairs (length o.firsts) + pairs (length o.seconds) + 1
 
 abbrev pub counter_at : Opened → ℕ → ℕ
-counter_at o worker = length o.firsts + length o.seconds + 2 + worker
+counter_at o worker = pairs (length o.firsts) + pairs (length o.seconds) + 2 + worker
 
 abbrev pub word_count : Opened → ℕ
-word_count o = length o.firsts + length o.seconds + 2 + o.workers
+word_count o = pairs (length o.firsts) + pairs (length o.seconds) + 2 + o.workers
 
 -- the words that a table is opened with: no update was begun, and each worker is offline
 abbrev pub opening_words : Opened → List ℕ
-opening_words o = o.firsts ++ (o.seconds ++ 0 ∷ o.token ∷ replicate o.workers 0)
+opening_words o = packed o.firsts ++ (packed o.seconds ++ 0 ∷ o.token ∷ replicate o.workers 0)
 
 -- the words are those of the world
 pub record IsLaidOut (o : Opened) (words : List ℕ) (w : World) : Type 0 where
@@ -29,9 +50,9 @@ pub record IsLaidOut (o : Opened) (words : List ℕ) (w : World) : Type 0 where
   pub firsts_len : length w.tables.words.firsts ≡ length o.firsts
   pub seconds_len : length w.tables.words.seconds ≡ length o.seconds
   pub firsts : (i : ℕ) → i < length o.firsts
-      → slice_index words i ≡ slice_index w.tables.words.firsts i
+      → half i (slice_index words (first_at i)) ≡ slice_index w.tables.words.firsts i
   pub seconds : (j : ℕ) → j < length o.seconds
-      → slice_index words (second_at o j) ≡ slice_index w.tables.words.seconds j
+      → half j (slice_index words (second_at o j)) ≡ slice_index w.tables.words.seconds j
   pub sequence : slice_index words (sequence_at o) ≡ w.tables.sequence
   pub token : slice_index words (token_at o) ≡ w.tables.token
   pub counters : (k : ℕ) → k < o.workers

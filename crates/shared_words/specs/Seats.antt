@@ -1,6 +1,6 @@
 -- Meaning: what one step of the table gains the view of its seat, and no other (DPDK Programmer's
 -- Guide, "RCU Library": a worker stores the token in its counter; the writer loads each counter).
-use Rattle.std.specs.Prelude.{ℕ, ◌≡◌, ◌+◌, ◌*◌, ◌/◌, ◌%◌, ◌^◌, ◌<◌, ◌≤◌, All, List, [], ◌∷◌, length, slice_index}
+use Rattle.std.specs.Prelude.{ℕ, ◌≡◌, ◌≢◌, ◌+◌, ◌*◌, ◌/◌, ◌%◌, ◌^◌, ◌<◌, ◌≤◌, All, List, [], ◌∷◌, length, slice_index}
 use Rattle.std.specs.List.{AllPairs}
 use Rattle.atomic_table.specs.Seated.{TableId}
 use Rattle.atomic_table.specs.Table.{Me, Step}
@@ -16,15 +16,17 @@ use Rattle.lpm_trace.specs.Laws.{IsLegalAtPlace, IsChecked}
 use Rattle.lpm_cells.specs.Table.{IsWords, IsFirstWord}
 use Rattle.shared_words.specs.declared.view.View.{View}
 use Rattle.shared_words.specs.declared.layout.Layout.{Layout}
-use Rattle.shared_words.specs.Layout.{word_count, second_at, sequence_at, token_at}
+use Rattle.shared_words.specs.Layout.{half, word_count, first_at, second_at, sequence_at, token_at}
 use Rattle.shared_words.specs.Opened.{Opened, setup_of}
 use Rattle.shared_words.specs.Rule.{IsLater}
 
 -- a seat at a table that was opened so: its view says the same, and the table has a word for each place
+-- and addresses of at most 32 bits
 pub record IsOf (table : TableId) (opening : Opened) (layout : Layout) (seat : TableId) (v : View)
     : Type 0 where
   pub same : seat ≡ table
   pub opening_is : v.opening ≡ opening
+  pub widths : opening.first + opening.second ≤ 32
   pub firsts : layout.firsts ≡ length opening.firsts
   pub seconds : layout.seconds ≡ length opening.seconds
   pub workers : layout.workers ≡ opening.workers
@@ -51,15 +53,25 @@ pub record IsFoundAt (o : Opened) (seen : List WriterStep) (at word : ℕ) : Typ
   pub written : IsWritten (setup_of o) seen
   pub words : IsWords o.first o.second (tables (setup_of o) seen).words
   pub checked : AreChecked o seen
-  pub first : at < length o.firsts
-      → word ≡ slice_index (tables (setup_of o) seen).words.firsts at
+  pub first : (i : ℕ) → i < length o.firsts → at ≡ first_at i
+      → half i word ≡ slice_index (tables (setup_of o) seen).words.firsts i
   pub second : (j : ℕ) → j < length o.seconds → at ≡ second_at o j
-      → word ≡ slice_index (tables (setup_of o) seen).words.seconds j
+      → half j word ≡ slice_index (tables (setup_of o) seen).words.seconds j
   pub sequence : at ≡ sequence_at o → word ≡ (tables (setup_of o) seen).sequence
   pub token : at ≡ token_at o → word ≡ (tables (setup_of o) seen).token
 
 abbrev pub WriterLooks : Step (Unit {0}) → Me (Unit {0}) View → ℕ → Me (Unit {0}) View → Type 0
 WriterLooks s me x me' = (me' ≡ me) × IsFoundAt me.0.opening me.0.seen s.word x
+
+-- a word in which first word i stands has its neighbour there as the writer's steps left it
+abbrev pub KeepsFirst : Opened → List WriterStep → ℕ → ℕ → Type 0
+KeepsFirst o seen i word = (k : ℕ) → k < length o.firsts → first_at k ≡ first_at i → k ≢ i
+    → half k word ≡ slice_index (tables (setup_of o) seen).words.firsts k
+
+-- a word in which second word j stands has its neighbour there as the writer's steps left it
+abbrev pub KeepsSecond : Opened → List WriterStep → ℕ → ℕ → Type 0
+KeepsSecond o seen j word = (k : ℕ) → k < length o.seconds → second_at o k ≡ second_at o j → k ≢ j
+    → half k word ≡ slice_index (tables (setup_of o) seen).words.seconds k
 
 -- ---- a worker
 

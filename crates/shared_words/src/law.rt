@@ -5,6 +5,7 @@ ghost use Rattle.lpm_trace.specs.declared.step.RuleChange.{RuleChange};
 ghost use Rattle.lpm_trace.specs.declared.step.RuleChange.TheVariants.{Clear};
 ghost use Rattle.lpm_trace.specs.declared.step.WriterStep.TheVariants.{StoreFirst, StoreSecond, Opens as OpensUpdate, Closes, BumpToken, LoadCounter};
 ghost use Rattle.lpm_trace.specs.declared.step.WorkerStep.TheVariants.{LoadOnline, StoreOnline, LoadQuiescent, StoreQuiescent, StoreOffline, Begins, Ends, Meets};
+ghost use Rattle.shared_words.specs.Layout.{half};
 ghost use Rattle.shared_words.specs.Rule.{Holds, writer_view, worker_view, with_one_more, note_of, read_note, hearing};
 ghost use Rattle.shared_words.specs.Seats.{WriterGains, WriterLooks, SeatCompares, WorkerGains, WorkerGainsFirst, WorkerGainsSecond};
 
@@ -27,10 +28,13 @@ pub type Board<T> = Table<(), View, T, TraceRule, Global>;
 
 pub type Place = Seat<(), View>;
 
-/// What a step of the writer carries beside its word: the change of an update that begins, and the token and
-/// the worker of a check. Each call picks it.
+/// What a step carries beside the shared word that it loads or stores: the place and the word of the table
+/// that it is of, the change of an update that begins, the token and the worker of a check, and the addresses
+/// of a lookup. Each call picks it.
 pub trait Carries {
     ghost change: { RuleChange };
+
+    ghost word: { ℕ };
 
     ghost token: { ℕ };
 
@@ -42,6 +46,8 @@ pub trait Carries {
 impl Carries for Brand {
     ghost change = { Clear };
 
+    ghost word = { 0 };
+
     ghost token = { 0 };
 
     ghost index = { 0 };
@@ -49,20 +55,22 @@ impl Carries for Brand {
     ghost addrs = { [] };
 }
 
-/// A first word is stored.
-pub struct StoresFirst;
-
-impl Play<(), View> for StoresFirst {
-    ghost then = { λ s me n. WriterGains (StoreFirst s.word n) me };
+/// A first word is stored at this place.
+pub struct StoresFirst<J: Carries> {
+    of: PhantomData<J>,
 }
 
-/// A second word is stored: the one of this index.
+impl<J: Carries> Play<(), View> for StoresFirst<J> {
+    ghost then = { λ s me n. WriterGains (StoreFirst J.index J.word) me };
+}
+
+/// A second word is stored at this place.
 pub struct StoresSecond<J: Carries> {
     of: PhantomData<J>,
 }
 
 impl<J: Carries> Play<(), View> for StoresSecond<J> {
-    ghost then = { λ s me n. WriterGains (StoreSecond J.index n) me };
+    ghost then = { λ s me n. WriterGains (StoreSecond J.index J.word) me };
 }
 
 /// The sequence is stored: the update of this change begins.
@@ -155,18 +163,22 @@ impl<J: Carries> Play<(), View> for BeginsLookup<J> {
     ghost then = { λ s me n. WorkerGains (Begins J.addrs n) me };
 }
 
-/// A worker loads a first word.
-pub struct LoadsFirst;
-
-impl Play<(), View> for LoadsFirst {
-    ghost then = { λ s me n. WorkerGainsFirst me n };
+/// A worker loads the first word at this place.
+pub struct LoadsFirst<J: Carries> {
+    of: PhantomData<J>,
 }
 
-/// A worker loads a second word.
-pub struct LoadsSecond;
+impl<J: Carries> Play<(), View> for LoadsFirst<J> {
+    ghost then = { λ s me n. WorkerGainsFirst me (half J.index n) };
+}
 
-impl Play<(), View> for LoadsSecond {
-    ghost then = { λ s me n. WorkerGainsSecond me n };
+/// A worker loads the second word at this place.
+pub struct LoadsSecond<J: Carries> {
+    of: PhantomData<J>,
+}
+
+impl<J: Carries> Play<(), View> for LoadsSecond<J> {
+    ghost then = { λ s me n. WorkerGainsSecond me (half J.index n) };
 }
 
 /// A worker loads the sequence: the lookup ends.

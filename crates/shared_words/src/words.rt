@@ -1,6 +1,6 @@
 //! The table of words.
 
-ghost use Rattle.std.specs.Prelude.{◌≡◌, ℕ, ◌+◌, ◌<◌, length, IfOk, []};
+ghost use Rattle.std.specs.Prelude.{◌≡◌, ℕ, ◌+◌, ◌<◌, ◌≤◌, length, IfOk, []};
 ghost use Rattle.lpm_trace.specs.Tables.{IsSettled};
 ghost use Rattle.shared_words.specs.Opened.{setup_of};
 ghost use Rattle.shared_words.specs.Layout.{opening_words};
@@ -34,6 +34,7 @@ pub fn open<T: Opens>(
     requires firsts { layout.firsts ≡ length (T.opened opening.now).firsts }
     requires seconds { layout.seconds ≡ length (T.opened opening.now).seconds }
     requires workers { layout.workers ≡ (T.opened opening.now).workers }
+    requires widths { (T.opened opening.now).first + (T.opened opening.now).second ≤ 32 }
     ensures key { IfOk result (λ r. (r.0.board.shared.key ≡ opening.now) × (r.0.layout ≡ layout)) }
     ensures own { IfOk result (λ r. IsOf r.0.board.shared.table_id (T.opened opening.now) layout
         r.1.place.table_id r.1.place.me.0) }

@@ -1,6 +1,6 @@
 //! The seat of a worker.
 
-ghost use Rattle.std.specs.Prelude.{◌≡◌, ℕ, ◌+◌, ◌<◌, All, []};
+ghost use Rattle.std.specs.Prelude.{◌≡◌, ℕ, ◌+◌, ◌<◌, All, [], length};
 ghost use Rattle.lpm_entry.specs.Words.{IsLastWord};
 ghost use Rattle.lpm_cells.specs.Table.{IsFirstWord};
 ghost use Rattle.lpm_trace.specs.declared.step.WorkerStep.TheVariants.{LoadOnline, StoreOnline, LoadQuiescent, StoreQuiescent, StoreOffline, Begins, LoadFirst as FirstLoad, LoadSecond as SecondLoad, Ends, Meets};
@@ -9,7 +9,7 @@ ghost use Rattle.lpm_trace.specs.Trace.{worker_by};
 ghost use Rattle.lpm_trace.specs.Workers.{Offline, ComingOnline, Online, LookingUp, ReportingQuiescent, AreBegun, AreAnswered, IsBetweenDeeds};
 ghost use Rattle.shared_words.specs.declared.view.Role.TheVariants.{Worker as AsWorker};
 ghost use Rattle.shared_words.specs.Opened.{setup_of};
-ghost use Rattle.shared_words.specs.Layout.{sequence_at};
+ghost use Rattle.shared_words.specs.Layout.{first_at, pairs, second_at, sequence_at};
 ghost use Rattle.shared_words.specs.Seats.{IsOf, Gains, IsFirstAt, IsSecondAt};
 
 use crate::law::{
@@ -17,6 +17,7 @@ use crate::law::{
     LoadsQuiescent, LoadsSecond, Meeting, Notes, Place, StoresOffline, StoresOnline,
     StoresQuiescent,
 };
+use crate::layout::{first_at, half};
 use crate::opening::Opens;
 use crate::words::SharedWords;
 use crate::writer::WriterSeat;
@@ -53,6 +54,58 @@ fn begin_as<T: Opens, J: Carries>(
     let _ = number;
     let _ = addrs;
     board.shared.load::<BeginsLookup<J>>(place, at)
+}
+
+// The caller picks the place of the table word that is loaded.
+#[inline]
+fn load_first_as<T: Opens, J: Carries>(
+    board: &Board<T>,
+    place: &mut Place,
+    number: u64,
+    at: usize,
+    i: usize,
+) -> u64
+    requires own { (place.old.table_id ≡ board.now.shared.table_id)
+        × (at < board.now.shared.table_id.words) }
+    requires place { (at ≡ first_at i) × (i < length (T.opened board.now.shared.key).firsts) }
+    requires alone { place.old.me.1 ≡ [] }
+    requires role { place.old.me.0.role ≡ AsWorker number }
+    requires picked { J.index ≡ i }
+    requires looking { (worker_by place.old.me.0.own).phase ≡ LookingUp }
+    requires next { IsFirstAt place.old.me.0.opening.second i (worker_by place.old.me.0.own).probes }
+    ensures own { (place.new.table_id ≡ place.old.table_id) × (place.new.me.1 ≡ place.old.me.1) }
+    ensures step { Gains (FirstLoad result) place.old.me.0 place.new.me.0 }
+    ensures word { IsFirstWord (place.old.me.0.opening.first + place.old.me.0.opening.second)
+        place.old.me.0.opening.second place.old.me.0.opening.seconds result }
+{
+    let _ = number;
+    half(i, board.shared.load::<LoadsFirst<J>>(place, at))
+}
+
+#[inline]
+fn load_second_as<T: Opens, J: Carries>(
+    board: &Board<T>,
+    place: &mut Place,
+    number: u64,
+    at: usize,
+    j: usize,
+) -> u64
+    requires own { (place.old.table_id ≡ board.now.shared.table_id)
+        × (at < board.now.shared.table_id.words) }
+    requires place { (at ≡ second_at (T.opened board.now.shared.key) j)
+        × (j < length (T.opened board.now.shared.key).seconds) }
+    requires alone { place.old.me.1 ≡ [] }
+    requires role { place.old.me.0.role ≡ AsWorker number }
+    requires picked { J.index ≡ j }
+    requires looking { (worker_by place.old.me.0.own).phase ≡ LookingUp }
+    requires begun { AreBegun (worker_by place.old.me.0.own).probes }
+    requires next { IsSecondAt place.old.me.0.opening.second j (worker_by place.old.me.0.own).probes }
+    ensures own { (place.new.table_id ≡ place.old.table_id) × (place.new.me.1 ≡ place.old.me.1) }
+    ensures step { Gains (SecondLoad result) place.old.me.0 place.new.me.0 }
+    ensures word { IsLastWord (place.old.me.0.opening.first + place.old.me.0.opening.second) result }
+{
+    let _ = number;
+    half(j, board.shared.load::<LoadsSecond<J>>(place, at))
 }
 
 impl WorkerSeat {
@@ -146,7 +199,7 @@ impl WorkerSeat {
     ) -> u64
         requires own { IsOf table.now.board.shared.table_id (T.opened table.now.board.shared.key)
             table.now.layout self.old.place.table_id self.old.place.me.0 }
-        requires place { at ≡ table.now.layout.firsts + table.now.layout.seconds }
+        requires place { at ≡ pairs table.now.layout.firsts + pairs table.now.layout.seconds }
         requires online { (worker_by self.old.place.me.0.own).phase ≡ Online }
         requires addrs { All (λ a. a < addresses (setup_of self.old.place.me.0.opening)) addrs.now }
         ensures own { self.new.place.table_id ≡ self.old.place.table_id }
@@ -170,7 +223,7 @@ impl WorkerSeat {
             (self.old.place.me.0.opening.first + self.old.place.me.0.opening.second)
             self.old.place.me.0.opening.second self.old.place.me.0.opening.seconds result }
     {
-        table.board.shared.load::<LoadsFirst>(&mut self.place, i)
+        load_first_as::<T, Brand>(&table.board, &mut self.place, self.number, first_at(i), i)
     }
 
     /// Loads the second word of the next address that has a group, which lies at place `j`.
@@ -189,7 +242,7 @@ impl WorkerSeat {
             (self.old.place.me.0.opening.first + self.old.place.me.0.opening.second) result }
     {
         let at = table.layout.second_at(j);
-        table.board.shared.load::<LoadsSecond>(&mut self.place, at)
+        load_second_as::<T, Brand>(&table.board, &mut self.place, self.number, at, j)
     }
 
     /// Loads the sequence, which lies at this place: the lookup, of which each address has its answer, ends.
@@ -197,7 +250,7 @@ impl WorkerSeat {
     pub(crate) fn end_lookup<T: Opens>(&mut self, table: &SharedWords<T>, at: usize) -> u64
         requires own { IsOf table.now.board.shared.table_id (T.opened table.now.board.shared.key)
             table.now.layout self.old.place.table_id self.old.place.me.0 }
-        requires place { at ≡ table.now.layout.firsts + table.now.layout.seconds }
+        requires place { at ≡ pairs table.now.layout.firsts + pairs table.now.layout.seconds }
         requires looking { (worker_by self.old.place.me.0.own).phase ≡ LookingUp }
         requires answered { AreAnswered (worker_by self.old.place.me.0.own).probes }
         ensures own { self.new.place.table_id ≡ self.old.place.table_id }

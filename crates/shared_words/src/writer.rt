@@ -7,14 +7,15 @@ ghost use Rattle.lpm_trace.specs.Writer.{IsWritten, MayStep};
 ghost use Rattle.shared_words.specs.declared.view.Role.TheVariants.{Writer as AsWriter};
 ghost use Rattle.shared_words.specs.Opened.{setup_of};
 ghost use Rattle.lpm_cells.specs.Table.{IsWords};
-ghost use Rattle.shared_words.specs.Layout.{second_at, sequence_at, counter_at};
+ghost use Rattle.shared_words.specs.Layout.{half, first_at, second_at, sequence_at, counter_at};
 ghost use Rattle.shared_words.specs.Rule.{with_one_more, worker_view};
-ghost use Rattle.shared_words.specs.Seats.{IsOf, AreChecked, with_step};
+ghost use Rattle.shared_words.specs.Seats.{IsOf, KeepsFirst, KeepsSecond, AreChecked, with_step};
 
 use crate::law::{
     Board, BumpsToken, Carries, ClosesUpdates, LoadsCounter, Looks, NextWorker, OpensUpdates,
     Place, StoresFirst, StoresSecond,
 };
+use crate::layout::{first_at, half, with_half};
 use crate::opening::Opens;
 use crate::words::SharedWords;
 use crate::worker::WorkerSeat;
@@ -33,26 +34,56 @@ pub struct WriterSeat {
 // The calls that follow pick what a step carries beside its word. A signature with a const parameter would
 // not let them.
 
+fn store_first_as<T: Opens, J: Carries>(
+    board: &Board<T>,
+    place: &mut Place,
+    at: usize,
+    i: usize,
+    word: u64,
+    shared: u64,
+)
+    requires own { (place.old.table_id ≡ board.now.shared.table_id)
+        × (at < board.now.shared.table_id.words) }
+    requires place { at ≡ first_at i }
+    requires alone { place.old.me.1 ≡ [] }
+    requires role { place.old.me.0.role ≡ AsWriter }
+    requires picked { (J.index ≡ i) × (J.word ≡ word) }
+    requires may { MayStep (setup_of place.old.me.0.opening) place.old.me.0.seen
+        (StoreFirst i word) }
+    requires stored { half i shared ≡ word }
+    requires kept { KeepsFirst place.old.me.0.opening place.old.me.0.seen i shared }
+    ensures own { (place.new.table_id ≡ place.old.table_id) × (place.new.me.1 ≡ place.old.me.1) }
+    ensures step { place.new.me.0 ≡ with_step place.old.me.0 (StoreFirst i word) }
+{
+    let _ = i;
+    let _ = word;
+    board.shared.store::<StoresFirst<J>>(place, at, shared)
+}
+
 fn store_second_as<T: Opens, J: Carries>(
     board: &Board<T>,
     place: &mut Place,
     at: usize,
     j: usize,
     word: u64,
+    shared: u64,
 )
     requires own { (place.old.table_id ≡ board.now.shared.table_id)
         × (at < board.now.shared.table_id.words) }
-    requires place { (at ≡ second_at (T.opened board.now.shared.key) j)
-        × (j < length (T.opened board.now.shared.key).seconds) }
+    requires place { at ≡ second_at (T.opened board.now.shared.key) j }
     requires alone { place.old.me.1 ≡ [] }
     requires role { place.old.me.0.role ≡ AsWriter }
-    requires picked { J.index ≡ j }
+    requires picked { (J.index ≡ j) × (J.word ≡ word) }
     requires may { MayStep (setup_of place.old.me.0.opening) place.old.me.0.seen
         (StoreSecond j word) }
+    requires stored { half j shared ≡ word }
+    requires kept { KeepsSecond place.old.me.0.opening place.old.me.0.seen j shared }
     ensures own { (place.new.table_id ≡ place.old.table_id) × (place.new.me.1 ≡ place.old.me.1) }
     ensures step { place.new.me.0 ≡ with_step place.old.me.0 (StoreSecond j word) }
 {
-    board.shared.store::<StoresSecond<J>>(place, at, word)
+    let _ = j;
+    let _ = word;
+    board.shared.store::<StoresSecond<J>>(place, at, shared)
 }
 
 fn open_as<T: Opens, J: Carries>(
@@ -103,7 +134,8 @@ fn load_counter_as<T: Opens, J: Carries>(
 }
 
 impl WriterSeat {
-    /// Stores a first word.
+    /// Stores a first word: one store of the shared word in which it stands, beside its neighbour as this
+    /// writer left it.
     #[inline]
     pub fn store_first<T: Opens>(&mut self, table: &SharedWords<T>, i: usize, word: u64)
         requires own { IsOf table.now.board.shared.table_id (T.opened table.now.board.shared.key)
@@ -113,13 +145,14 @@ impl WriterSeat {
         ensures own { self.new.place.table_id ≡ self.old.place.table_id }
         ensures step { self.new.place.me.0 ≡ with_step self.old.place.me.0 (StoreFirst i word) }
     {
-        table
-            .board
-            .shared
-            .store::<StoresFirst>(&mut self.place, i, word);
+        let at = first_at(i);
+        let found = table.board.shared.load::<Looks>(&mut self.place, at);
+        let shared = with_half(i, found, word);
+        store_first_as::<T, Brand>(&table.board, &mut self.place, at, i, word, shared);
     }
 
-    /// Stores a second word.
+    /// Stores a second word: one store of the shared word in which it stands, beside its neighbour as this
+    /// writer left it.
     #[inline]
     pub fn store_second<T: Opens>(&mut self, table: &SharedWords<T>, j: usize, word: u64)
         requires own { IsOf table.now.board.shared.table_id (T.opened table.now.board.shared.key)
@@ -130,7 +163,9 @@ impl WriterSeat {
         ensures step { self.new.place.me.0 ≡ with_step self.old.place.me.0 (StoreSecond j word) }
     {
         let at = table.layout.second_at(j);
-        store_second_as::<T, Brand>(&table.board, &mut self.place, at, j, word);
+        let found = table.board.shared.load::<Looks>(&mut self.place, at);
+        let shared = with_half(j, found, word);
+        store_second_as::<T, Brand>(&table.board, &mut self.place, at, j, word, shared);
     }
 
     /// Stores the next number of the sequence: the update of this change begins.
@@ -222,7 +257,11 @@ impl WriterSeat {
         ensures value { result ≡ slice_index (tables (setup_of self.old.place.me.0.opening)
             self.old.place.me.0.seen).words.firsts i }
     {
-        table.board.shared.load::<Looks>(&mut self.place, i)
+        let shared = table
+            .board
+            .shared
+            .load::<Looks>(&mut self.place, first_at(i));
+        half(i, shared)
     }
 
     /// The second word at place `j`, which this writer alone changes. It is no step.
@@ -235,10 +274,9 @@ impl WriterSeat {
         ensures value { result ≡ slice_index (tables (setup_of self.old.place.me.0.opening)
             self.old.place.me.0.seen).words.seconds j }
     {
-        table
-            .board
-            .shared
-            .load::<Looks>(&mut self.place, table.layout.second_at(j))
+        let at = table.layout.second_at(j);
+        let shared = table.board.shared.load::<Looks>(&mut self.place, at);
+        half(j, shared)
     }
 
     /// The sequence, which this writer alone changes. It is no step. Each of the writer's steps might come

@@ -2,12 +2,12 @@ use Rattle.std.proofs.Common.{arith, rules}
 use Rattle.shared_words.proofs.Writing.{looks_allowed}
 use Rattle.shared_words.proofs.writer.WriterSeat.second.Goals as goal
 
-pub load-requires : goal.load-requires
-load-requires g c =
+pub load-shared-requires : goal.load-shared-requires
+load-shared-requires g c =
     let seat = c.args.self.now in
     let own = c.requires.own in (
       own.same,
-      omega (arith, c.second_at.ensures, own.words, own.firsts, own.seconds, c.requires.index),
+      omega (arith, c.second_at-at.ensures, own.words, own.firsts, own.seconds, c.requires.index),
       looks_allowed _ _ _ _ seat.place.me seat.role,
     )
 
