@@ -1,5 +1,5 @@
 -- A table whose writer's ledger rests is at rest.
-use Rattle.std.proofs.Common.{arith, ◌≡◌, ℕ, ◌+◌, ◌/◌, ◌%◌, sym, ap, subst, ◌∙◌, List}
+use Rattle.std.proofs.Common.{arith, ◌≡◌, ℕ, ◌+◌, ◌%◌, sym, ap, ◌∙◌, List}
 use Rattle.lpm_cells.specs.Table.{entry_at}
 use Rattle.lpm_limits.specs.declared.config.Config.{Config}
 use Rattle.lpm_rules.specs.RuleMap.{RuleList}

@@ -1,18 +1,40 @@
 //! How the words of a running table are laid out, one behind the other.
 
-ghost use Rattle.std.specs.Prelude.{◌≡◌, ◌+◌, ◌≤◌, ◌++◌, ◌∷◌, length, replicate, vec_len, vec_capacity, IfOk};
+ghost use Rattle.std.specs.Prelude.{◌≡◌, ◌+◌, ◌<◌, ◌≤◌, ◌++◌, ◌∷◌, length, replicate, vec_len, vec_capacity, IfOk};
+ghost use Rattle.shared_words.specs.Layout.{packed, pair_at, pairs};
 
 use lpm_cells::PlainCells;
 use std::alloc::{AllocError, Global};
 
-/// Puts words of 32 bits last, where there is room for them.
-fn widen(words: &mut Vec<u64>, narrow: &[u32])
-    requires room { vec_len words.old + length narrow.now ≤ vec_capacity words.old }
-    ensures items { words.new.items ≡ words.old.items ++ narrow.now }
+/// How many words so many words of 32 bits share.
+fn pairs(narrow: usize) -> usize
+    ensures { result ≡ pairs narrow }
+{
+    narrow / 2 + narrow % 2
+}
+
+/// The word that two neighbours share: the one at place `2 * k`, and the one behind it, or 0.
+#[inline]
+fn pair_at(narrow: &[u32], k: usize) -> u64
+    requires { k < pairs (length narrow.now) }
+    ensures { result ≡ pair_at narrow.now k }
+{
+    let low = u64::from(narrow[2 * k]);
+    if 2 * k + 1 >= narrow.len() {
+        return low;
+    }
+    low + u64::from(narrow[2 * k + 1]) * (1 << 32)
+}
+
+/// Puts the words that these of 32 bits share last, where there is room for them.
+fn pack(words: &mut Vec<u64>, narrow: &[u32])
+    requires room { vec_len words.old + pairs (length narrow.now) ≤ vec_capacity words.old }
+    ensures len { vec_len words.new ≡ vec_len words.old + pairs (length narrow.now) }
+    ensures items { words.new.items ≡ words.old.items ++ packed narrow.now }
     ensures capacity { vec_capacity words.new ≡ vec_capacity words.old }
 {
-    for word in narrow {
-        words.push_reserved(u64::from(*word));
+    for k in 0..pairs(narrow.len()) {
+        words.push_reserved(pair_at(narrow, k));
     }
 }
 
@@ -26,14 +48,15 @@ pub(crate) fn lay<const FIRST: u32, const SECOND: u32>(
 ) -> Result<Vec<u64>, AllocError>
     requires workers { workers ≤ 2048 }
     ensures { IfOk result (λ words. words.items
-        ≡ cells.now.firsts ++ (cells.now.seconds ++ 0 ∷ token ∷ replicate workers 0)) }
+        ≡ packed cells.now.firsts
+        ++ (packed cells.now.seconds ++ 0 ∷ token ∷ replicate workers 0)) }
 {
     let firsts = cells.first_words();
     let seconds = cells.second_words();
-    let count = firsts.len() + seconds.len() + 2 + workers;
+    let count = pairs(firsts.len()) + pairs(seconds.len()) + 2 + workers;
     let mut words = Vec::with_capacity(alloc, count)?;
-    widen(&mut words, firsts);
-    widen(&mut words, seconds);
+    pack(&mut words, firsts);
+    pack(&mut words, seconds);
     words.push_reserved(0);
     words.push_reserved(token);
     words.resize(count, 0)?;

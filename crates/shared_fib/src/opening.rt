@@ -44,7 +44,7 @@ fn open_words<const FIRST: u32, const SECOND: u32>(
 {
     let layout = Layout::new(
         loaded.cells.first_words().len(),
-        loaded.cells.second_words().len(),
+        loaded.cells.seconds(),
         loaded.workers,
     );
     let words = lay(alloc, &loaded.cells, loaded.token, loaded.workers)?;

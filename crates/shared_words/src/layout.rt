@@ -21,7 +21,7 @@ pub struct Layout {
 impl Layout {
     /// The layout of so many words of each kind.
     pub fn new(firsts: usize, seconds: usize, workers: usize) -> Self
-        requires { firsts + seconds < 2 ^ 64 }
+        requires { pairs firsts + pairs seconds < 2 ^ 64 }
         ensures firsts { result.firsts ≡ firsts }
         ensures seconds { result.seconds ≡ seconds }
         ensures workers { result.workers ≡ workers }

@@ -48,9 +48,8 @@ Memory:
   64 MiB for the first table (2^24 words of 4 bytes), 1 KiB for each group, 15 to
   22 bytes for each rule, and 24 bytes for each line of the route file. `lookup`
   makes no more groups than the file has routes longer than 24 bits. It copies the
-  table into one that its workers share, with words of 8 bytes. While it does so it
-  takes 320 MiB in place of 64 MiB, and 5 KiB for each group. `migrate` makes no
-  table.
+  table into one that its workers share. While it does so it takes 192 MiB in place
+  of 64 MiB, and 3 KiB for each group. `migrate` makes no table.
 
 Exit status:
   0  done, or help or the version was asked for
@@ -138,7 +137,7 @@ nothing is printed. Give a greater number:
   --groups   at `refused 7 NoGroups`
   --workers  at `refused 8 NoWorkers`
 
-Memory: up to 320 MiB, 5 KiB for each group, and 15 to 22 bytes for each rule. No more
+Memory: up to 192 MiB, 3 KiB for each group, and 15 to 22 bytes for each rule. No more
 groups are made than there are routes longer than 24 bits.
 Exit status: 0 done, 2 words, 3 can't read or write, 4 a faulty file, 5 out of memory,
 6 refused. More in `lpmtool --help`.

@@ -1,4 +1,4 @@
-use Rattle.std.proofs.Common.{◌≡◌, ap, sym, subst, ◌∙◌, List, Option, Some}
+use Rattle.std.proofs.Common.{ap, sym, subst, ◌∙◌, List, Option, Some}
 use Rattle.std.specs.Prelude.{slice_set}
 use Rattle.shared_fib.specs.Running.{PassState, IsBenchOf}
 use Rattle.shared_fib.proofs.Seats.{put_back}
