@@ -57,6 +57,10 @@ FIVE = "10.1.1.127\n10.1.1.128\n10.2.0.0\n11.0.0.0\n10.1.1.255\n"
 FIVE_ANSWERS = "10.1.1.127 2\n10.1.1.128 3\n10.2.0.0 1\n11.0.0.0 -\n10.1.1.255 3\n"
 TWO_SHORT = "10.0.0.0/8 1\n10.1.0.0/16 2\n"
 TWO_BLOCKS = "10.0.0.0/25 1\n10.0.1.0/25 2\n"
+TWICE = "10.1.0.0/16 5\n10.0.0.0/8 1\n10.1.0.0/16 2\n9.0.0.0/8 7\n"
+TWICE_ANSWERS = "10.1.0.0 2\n10.2.0.0 1\n9.0.0.0 7\n"
+THREE_DOWN = "11.0.0.0/8 1\n10.0.0.0/8 2\n9.0.0.0/8 3\n"
+TWO_BLOCKS_DOWN = "10.0.1.0/25 2\n10.0.0.0/25 1\n"
 UPDATES = "lpm-updates 2\n"
 HELD = "online 0\nadd 10.0.0.0/25 1\ndel 10.0.0.0/25\nadd 10.0.1.0/25 2\nquiescent 0\nadd 10.0.1.0/25 2\n"
 HELD_OUT = "ok\nadded\ndeleted 1\nrefused 7 NoGroups worker 0 counter 1\nok\nadded\n"
@@ -89,6 +93,7 @@ CASES = [
     # Done, or help or the version was asked for.
     case("five-addresses", "lookup r a", {"r": RT, "a": FIVE}, out=FIVE_ANSWERS),
     case("five-addresses-3", "lookup --workers 3 r a", {"r": RT, "a": FIVE}, out=FIVE_ANSWERS),
+    case("later-hop-out-of-order", "lookup r a", {"r": TWICE, "a": "10.1.0.0\n10.2.0.0\n9.0.0.0\n"}, out=TWICE_ANSWERS),
     case("empty-table", "lookup r a", {"r": "", "a": "1.2.3.4"}, out="1.2.3.4 -\n"),
     case("line-ends", "lookup r a", {"r": "# c\r\n10.0.0.0/8 1\r\n", "a": "10.0.0.0\r\n"}, out="10.0.0.0 1\n"),
     case("no-line-end", "lookup r a", {"r": "10.0.0.0/8 1", "a": "10.0.0.0"}, out="10.0.0.0 1\n"),
@@ -165,6 +170,11 @@ CASES = [
          err="lpmtool: r:2: refused 3 TooManyRules\n"),
     case("one-group-load", "lookup --groups 1 r a", {"r": TWO_BLOCKS, "a": "10.0.0.0"}, 6,
          err="lpmtool: r:2: refused 7 NoGroups\n"),
+    # The first line of the file that is refused, and not the last prefix.
+    case("two-rules-load-down", "lookup --rules 2 r a", {"r": THREE_DOWN, "a": "10.0.0.0"}, 6,
+         err="lpmtool: r:3: refused 3 TooManyRules\n"),
+    case("one-group-load-down", "lookup --groups 1 r a", {"r": TWO_BLOCKS_DOWN, "a": "10.0.0.0"}, 6,
+         err="lpmtool: r:2: refused 7 NoGroups\n", refusing=False),
     case("one-rule-report", "report --rules 1 r u", {"r": TWO_SHORT, "u": UPDATES}, 6,
          err="lpmtool: r:2: refused 3 TooManyRules\n"),
     case("no-workers", "lookup --workers 0 r a", {"r": RT, "a": FIVE}, 6, err="lpmtool: refused 8 NoWorkers\n"),

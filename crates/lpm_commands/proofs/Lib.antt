@@ -1,6 +1,8 @@
 pub mod Written
 pub mod Loaded
 pub mod Groups
+pub mod Reordered
+pub mod Ordered
 pub mod Updated
 pub mod Answered
 pub mod Texts

@@ -2,6 +2,7 @@ pub mod Output
 pub mod Inputs
 pub mod Loading
 pub mod Groups
+pub mod Order
 pub mod Updating
 pub mod Lookup
 pub mod Apply

@@ -9,6 +9,7 @@ mod inputs;
 mod loading;
 mod lookup_command;
 mod migrate_command;
+mod ordering;
 mod report_command;
 mod updating;
 

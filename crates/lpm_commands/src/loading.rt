@@ -1,11 +1,12 @@
 //! A table of the routes of a file.
-ghost use Rattle.std.specs.Prelude.{◌≡◌, ◌≢◌, IfOk, IfErr, OnOk};
+ghost use Rattle.std.specs.Prelude.{◌≡◌, ◌≢◌, IfOk, IfErr, IfSome, OnOk};
 ghost use Rattle.lpm_limits.specs.Limits.{IsConfig, IsIn, groups_range};
 ghost use Rattle.fib_model.specs.Counting.{opened};
 ghost use Rattle.lpm_commands.specs.Loading.{IsLoaded, EndsLoading};
 ghost use Rattle.lpm_commands.specs.Groups.{IsEnough, long_routes};
 
 use crate::failure::Failure;
+use crate::ordering::in_order;
 use fib::{Fib, OpenError};
 use qsbr::{Config, Refusal};
 use route_text::Route;
@@ -55,6 +56,8 @@ fn add_all<'a>(table: &mut Fib<24, 8>, path: &'a str, routes: &[Route]) -> Resul
 /// alone. `config.groups` is the most.
 ///
 /// A running table has words for each group, needed or not: fewer groups take less memory and time.
+/// The routes are put in by the order of their prefixes, which is faster. Where that is refused they
+/// are put in once more, in the order of the file, so that the first refused one is that of the file.
 pub fn load_for_lookups<'a>(
     alloc: Global,
     path: &'a str,
@@ -67,7 +70,24 @@ pub fn load_for_lookups<'a>(
     ensures failure { IfErr result (EndsLoading config path.entry.now routes.now) }
 {
     let groups = groups_for(routes, config);
-    load(alloc, path, routes, Config { groups, ..config })
+    let limits = Config { groups, ..config };
+    match load_in_order(alloc, routes, limits) {
+        Some(table) => Ok(table),
+        None => load(alloc, path, routes, limits),
+    }
+}
+
+// The table of the routes, put in by the order of their prefixes. None where a route is refused, or
+// memory; which one it was isn't told, since another may be the first of the file.
+fn load_in_order(alloc: Global, routes: &[Route], config: Config) -> Option<Fib<24, 8>>
+    requires { IsConfig config }
+    ensures config { IfSome result (λ fib. fib.config ≡ config) }
+    ensures loaded { IfSome result (λ fib. IsLoaded config routes.now fib.table) }
+{
+    let Ok(sorted) = in_order(alloc, routes) else {
+        return None;
+    };
+    load(alloc, "", &sorted, config).ok()
 }
 
 // How many groups do for the routes: one for each that is longer than 24 bits, and one at least.
