@@ -38,8 +38,8 @@ fn pack(words: &mut Vec<u64>, narrow: &[u32])
     }
 }
 
-/// The words that a running table begins with: those of the table of one thread, the sequence, which is 0,
-/// the token, and a counter for each worker, which is 0. The room for all is had at once.
+/// The words that a running table begins with: the sequence, which is 0, the token, the words of the table of
+/// one thread, and a counter for each worker, which is 0. The room for all is had at once.
 pub(crate) fn lay<const FIRST: u32, const SECOND: u32>(
     alloc: Global,
     cells: &PlainCells<FIRST, SECOND>,
@@ -48,17 +48,17 @@ pub(crate) fn lay<const FIRST: u32, const SECOND: u32>(
 ) -> Result<Vec<u64>, AllocError>
     requires workers { workers ≤ 2048 }
     ensures { IfOk result (λ words. words.items
-        ≡ packed cells.now.firsts
-        ++ (packed cells.now.seconds ++ 0 ∷ token ∷ replicate workers 0)) }
+        ≡ 0 ∷ token ∷ (packed cells.now.firsts
+        ++ (packed cells.now.seconds ++ replicate workers 0))) }
 {
     let firsts = cells.first_words();
     let seconds = cells.second_words();
-    let count = pairs(firsts.len()) + pairs(seconds.len()) + 2 + workers;
+    let count = 2 + pairs(firsts.len()) + pairs(seconds.len()) + workers;
     let mut words = Vec::with_capacity(alloc, count)?;
-    pack(&mut words, firsts);
-    pack(&mut words, seconds);
     words.push_reserved(0);
     words.push_reserved(token);
+    pack(&mut words, firsts);
+    pack(&mut words, seconds);
     words.resize(count, 0)?;
     Ok(words)
 }

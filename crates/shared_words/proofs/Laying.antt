@@ -1,5 +1,5 @@
 -- Where each word of the world lies, after a store of the writer and at the start.
-use Rattle.std.proofs.Common.{◌≡◌, ◌≢◌, ℕ, suc, ◌+◌, ◌/◌, ◌^◌, ◌<◌, sym, List, [], ◌∷◌, ◌++◌, length, replicate, slice_index, slice_set, refl, ap, ◌∙◌, arith}
+use Rattle.std.proofs.Common.{◌≡◌, ◌≢◌, ℕ, suc, ◌+◌, ◌/◌, ◌^◌, ◌<◌, List, [], ◌∷◌, ◌++◌, length, replicate, slice_index, slice_set, refl, ap, ◌∙◌, arith}
 use Rattle.std.proofs.lemmas.List.{get_or-set_same, get_or-set_other, length-set, get_or_append_left, get_or-append-add, get_or-replicate, length-append, length-replicate}
 use Rattle.lpm_trace.specs.declared.step.WriterStep.{WriterStep}
 use Rattle.lpm_trace.specs.declared.step.WriterStep.TheVariants.{StoreFirst, StoreSecond, Opens, Closes, BumpToken, LoadCounter}
@@ -69,8 +69,8 @@ module _ (o : Opened) (words : List ℕ) (w : World) (laid : IsLaidOut o words w
             (ap first_at) (λ ne e. kept j lt e ne) (laid.firsts j lt);
         seconds = λ j lt. half_away words at n (second_at o j) j _ (λ e. omega (arith, e, inside))
             (laid.seconds j lt);
-        sequence = away (sequence_at o) _ (λ e. omega (arith, e, inside)) laid.sequence;
-        token = away (token_at o) _ (λ e. omega (arith, e, inside)) laid.token;
+        sequence = away sequence_at _ (λ e. omega (arith, e, inside)) laid.sequence;
+        token = away token_at _ (λ e. omega (arith, e, inside)) laid.token;
         counters = λ k lt. away (counter_at o k) _ (λ e. omega (arith, e, inside)) (laid.counters k lt);
       }
 
@@ -91,20 +91,20 @@ module _ (o : Opened) (words : List ℕ) (w : World) (laid : IsLaidOut o words w
         firsts = λ i lt. half_away words at n (first_at i) i _ (λ e. omega (arith, e, lt)) (laid.firsts i lt);
         seconds = λ i lt. half_stored words w.tables.words.seconds at n (second_at o i) j x i low low' stored
             (ap (second_at o)) (λ ne e. kept i lt e ne) (laid.seconds i lt);
-        sequence = away (sequence_at o) _ (λ e. omega (arith, e, inside)) laid.sequence;
-        token = away (token_at o) _ (λ e. omega (arith, e, inside)) laid.token;
+        sequence = away sequence_at _ (λ e. omega (arith, e, inside)) laid.sequence;
+        token = away token_at _ (λ e. omega (arith, e, inside)) laid.token;
         counters = λ k lt. away (counter_at o k) _ (λ e. omega (arith, e, inside)) (laid.counters k lt);
       }
 
   -- the sequence alone changes
   pub lays_sequence : (t : Tables) (course : Course)
-      → IsLaidOut o (slice_set words (sequence_at o) t.sequence) (record {
+      → IsLaidOut o (slice_set words sequence_at t.sequence) (record {
         tables = record t { words = w.tables.words; token = w.tables.token };
         course = course;
         workers = w.workers;
       })
   lays_sequence t course =
-      let at : ℕ = sequence_at o in
+      let at : ℕ = sequence_at in
       let away = beside words at t.sequence in
       record {
         count = length-set words at t.sequence ∙ laid.count;
@@ -114,19 +114,19 @@ module _ (o : Opened) (words : List ℕ) (w : World) (laid : IsLaidOut o words w
         seconds = λ j lt. half_away words at t.sequence (second_at o j) j _ (λ e. omega (arith, e, lt))
             (laid.seconds j lt);
         sequence = get_or-set_same words at t.sequence 0 (omega (arith, laid.count));
-        token = away (token_at o) _ (λ e. omega (arith, e)) laid.token;
+        token = away token_at _ (λ e. omega (arith, e)) laid.token;
         counters = λ k lt. away (counter_at o k) _ (λ e. omega (arith, e)) (laid.counters k lt);
       }
 
   -- the token alone changes
   pub lays_token : (t : Tables) (course : Course)
-      → IsLaidOut o (slice_set words (token_at o) t.token) (record {
+      → IsLaidOut o (slice_set words token_at t.token) (record {
         tables = record t { words = w.tables.words; sequence = w.tables.sequence };
         course = course;
         workers = w.workers;
       })
   lays_token t course =
-      let at : ℕ = token_at o in
+      let at : ℕ = token_at in
       let away = beside words at t.token in
       record {
         count = length-set words at t.token ∙ laid.count;
@@ -135,7 +135,7 @@ module _ (o : Opened) (words : List ℕ) (w : World) (laid : IsLaidOut o words w
         firsts = λ i lt. half_away words at t.token (first_at i) i _ (λ e. omega (arith, e, lt)) (laid.firsts i lt);
         seconds = λ j lt. half_away words at t.token (second_at o j) j _ (λ e. omega (arith, e, lt))
             (laid.seconds j lt);
-        sequence = away (sequence_at o) _ (λ e. omega (arith, e)) laid.sequence;
+        sequence = away sequence_at _ (λ e. omega (arith, e)) laid.sequence;
         token = get_or-set_same words at t.token 0 (omega (arith, laid.count));
         counters = λ k lt. away (counter_at o k) _ (λ e. omega (arith, e)) (laid.counters k lt);
       }
@@ -168,12 +168,11 @@ opening_count o =
     let firsts : List ℕ = packed o.firsts in
     let seconds : List ℕ = packed o.seconds in
     let calm : List ℕ = replicate o.workers 0 in
-    let tail : List ℕ = 0 ∷ o.token ∷ calm in
     let many : length calm ≡ o.workers = length-replicate {A = ℕ} o.workers 0 in
     omega (
       arith,
-      length-append firsts (seconds ++ tail),
-      length-append seconds tail,
+      length-append firsts (seconds ++ calm),
+      length-append seconds calm,
       many,
       packed_length o.firsts,
       packed_length o.seconds,
@@ -189,26 +188,25 @@ lays_opening o small_first small_second =
     let f : length firsts ≡ pairs (length o.firsts) = packed_length o.firsts in
     let s : length seconds ≡ pairs (length o.seconds) = packed_length o.seconds in
     let calm : List ℕ = replicate o.workers 0 in
-    let tail : List ℕ = 0 ∷ o.token ∷ calm in
-    let rest : List ℕ = seconds ++ tail in
-    let all : List ℕ = firsts ++ rest in
-    let past : (at k : ℕ) → at ≡ length firsts + (length seconds + k)
-    → slice_index all at ≡ slice_index tail k =
-    λ at k e. ap (slice_index all) e ∙ get_or-append-add firsts rest (length seconds + k) 0
-    ∙ get_or-append-add seconds tail k 0 in
+    let rest : List ℕ = seconds ++ calm in
+    let all : List ℕ = opening_words o in
+    let behind : (at k : ℕ) → at ≡ suc (suc k) → slice_index all at ≡ slice_index (firsts ++ rest) k =
+    λ at k e. ap (slice_index all) e in
+    let past : (at k : ℕ) → at ≡ suc (suc (length firsts + k)) → slice_index all at ≡ slice_index rest k =
+    λ at k e. behind at (length firsts + k) e ∙ get_or-append-add firsts rest k 0 in
     record {
       count = opening_count o;
       firsts_len = refl;
       seconds_len = refl;
-      firsts = λ i lt. ap (half i) (get_or_append_left firsts rest 0 (first_at i) (omega (arith, lt, f)))
+      firsts = λ i lt. ap (half i) (behind (first_at i) (i / 2) (omega arith)
+          ∙ get_or_append_left firsts rest 0 (i / 2) (omega (arith, lt, f)))
           ∙ packed_half o.firsts small_first i lt;
-      seconds = λ j lt. ap (half j) (ap (slice_index all)
-          (ap (λ (n : ℕ). n + j / 2) (sym f))
-          ∙ get_or-append-add firsts rest (j / 2) 0
-          ∙ get_or_append_left seconds tail 0 (j / 2) (omega (arith, lt, s)))
+      seconds = λ j lt. ap (half j) (past (second_at o j) (j / 2) (omega (arith, f))
+          ∙ get_or_append_left seconds calm 0 (j / 2) (omega (arith, lt, s)))
           ∙ packed_half o.seconds small_second j lt;
-      sequence = past (sequence_at o) 0 (omega (arith, f, s));
-      token = past (token_at o) 1 (omega (arith, f, s));
-      counters = λ k lt. past (counter_at o k) (suc (suc k)) (omega (arith, f, s))
+      sequence = refl;
+      token = refl;
+      counters = λ k lt. past (counter_at o k) (length seconds + k) (omega (arith, f, s))
+          ∙ get_or-append-add seconds calm k 0
           ∙ get_or-replicate o.workers k 0 0 lt;
     }

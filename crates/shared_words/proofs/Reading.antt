@@ -49,23 +49,23 @@ module _ (o : Opened) (slots id k at : ℕ) (me : Me (Unit {0}) View) (role : me
   abbrev Stores : ℕ → WorkerStep → ℕ → Type 0
   Stores i r x = Allows (Holds o) slots id me i (λ _. x) (λ _ me'. WorkerGains r me me')
 
-  pub load_online_allowed : at ≡ token_at o → (worker_by me.0.own).phase ≡ Offline → Loads at LoadOnline
+  pub load_online_allowed : at ≡ token_at → (worker_by me.0.own).phase ≡ Offline → Loads at LoadOnline
   load_online_allowed there offline = subst (λ i. Loads i LoadOnline) (sym there)
-      (plain o LoadOnline slots id (token_at o) me
-      (load_allowed o LoadOnline (λ _. Unit {0}) slots id k (token_at o) me role (λ n now w. refl)
+      (plain o LoadOnline slots id token_at me
+      (load_allowed o LoadOnline (λ _. Unit {0}) slots id k token_at me role (λ n now w. refl)
       (λ s h same. ((offline, h.words.token), tt))))
 
-  pub load_quiescent_allowed : at ≡ token_at o → (worker_by me.0.own).phase ≡ Online → Loads at LoadQuiescent
+  pub load_quiescent_allowed : at ≡ token_at → (worker_by me.0.own).phase ≡ Online → Loads at LoadQuiescent
   load_quiescent_allowed there online = subst (λ i. Loads i LoadQuiescent) (sym there)
-      (plain o LoadQuiescent slots id (token_at o) me
-      (load_allowed o LoadQuiescent (λ _. Unit {0}) slots id k (token_at o) me role (λ n now w. refl)
+      (plain o LoadQuiescent slots id token_at me
+      (load_allowed o LoadQuiescent (λ _. Unit {0}) slots id k token_at me role (λ n now w. refl)
       (λ s h same. ((online, h.words.token), tt))))
 
-  pub begins_allowed : (addrs : List ℕ) → at ≡ sequence_at o → (worker_by me.0.own).phase ≡ Online
+  pub begins_allowed : (addrs : List ℕ) → at ≡ sequence_at → (worker_by me.0.own).phase ≡ Online
       → All (λ a. a < addresses (setup_of me.0.opening)) addrs → Loads at (Begins addrs)
   begins_allowed addrs there online inside = subst (λ i. Loads i (Begins addrs)) (sym there)
-      (plain o (Begins addrs) slots id (sequence_at o) me
-      (load_allowed o (Begins addrs) (λ _. Unit {0}) slots id k (sequence_at o) me role (λ n now w. refl)
+      (plain o (Begins addrs) slots id sequence_at me
+      (load_allowed o (Begins addrs) (λ _. Unit {0}) slots id k sequence_at me role (λ n now w. refl)
       (λ s h same. (
         (
           online,
@@ -75,17 +75,17 @@ module _ (o : Opened) (slots id k at : ℕ) (me : Me (Unit {0}) View) (role : me
         tt,
       ))))
 
-  pub ends_allowed : at ≡ sequence_at o → (worker_by me.0.own).phase ≡ LookingUp
+  pub ends_allowed : at ≡ sequence_at → (worker_by me.0.own).phase ≡ LookingUp
       → AreAnswered (worker_by me.0.own).probes → Loads at Ends
   ends_allowed there looking answered = subst (λ i. Loads i Ends) (sym there)
-      (plain o Ends slots id (sequence_at o) me
-      (load_allowed o Ends (λ _. Unit {0}) slots id k (sequence_at o) me role (λ n now w. refl)
+      (plain o Ends slots id sequence_at me
+      (load_allowed o Ends (λ _. Unit {0}) slots id k sequence_at me role (λ n now w. refl)
       (λ s h same. ((looking, answered, h.words.sequence), tt))))
 
-  pub meets_allowed : at ≡ sequence_at o → IsBetweenDeeds (worker_by me.0.own).phase → Loads at Meets
+  pub meets_allowed : at ≡ sequence_at → IsBetweenDeeds (worker_by me.0.own).phase → Loads at Meets
   meets_allowed there between = subst (λ i. Loads i Meets) (sym there)
-      (plain o Meets slots id (sequence_at o) me
-      (load_allowed o Meets (λ _. Unit {0}) slots id k (sequence_at o) me role (λ n now w. refl)
+      (plain o Meets slots id sequence_at me
+      (load_allowed o Meets (λ _. Unit {0}) slots id k sequence_at me role (λ n now w. refl)
       (λ s h same. ((between, h.words.sequence), tt))))
 
   pub first_allowed : (i : ℕ) → at ≡ first_at i → i < length o.firsts

@@ -91,8 +91,8 @@ module _ (o : Opened) where
             ∙ laid.firsts i lt;
         seconds = λ j lt. ap (half j) (get_or-set_other words at (second_at o j) x 0 (omega (arith, lt)))
             ∙ laid.seconds j lt;
-        sequence = get_or-set_other words at (sequence_at o) x 0 (omega arith) ∙ laid.sequence;
-        token = get_or-set_other words at (token_at o) x 0 (omega arith) ∙ laid.token;
+        sequence = get_or-set_other words at sequence_at x 0 (omega arith) ∙ laid.sequence;
+        token = get_or-set_other words at token_at x 0 (omega arith) ∙ laid.token;
         counters = λ j lt. with_at_case
             (λ (y : WorkerState). slice_index (slice_set words at x) (counter_at o j) ≡ y.counter)
             w.workers k (moved w.tables.clock (w.workers k) r) j

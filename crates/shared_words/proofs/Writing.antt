@@ -143,9 +143,9 @@ module _ (o : Opened) where
             ∙ ap (λ (z : Tables). slice_index z.words.firsts i) now;
         second = λ j lt place. ap (half j) (found (second_at o j) place) ∙ h.words.seconds j lt
             ∙ ap (λ (z : Tables). slice_index z.words.seconds j) now;
-        sequence = λ place. found (sequence_at o) place ∙ h.words.sequence
+        sequence = λ place. found sequence_at place ∙ h.words.sequence
             ∙ ap (λ (z : Tables). z.sequence) now;
-        token = λ place. found (token_at o) place ∙ h.words.token
+        token = λ place. found token_at place ∙ h.words.token
             ∙ ap (λ (z : Tables). z.token) now;
       }
 
@@ -198,9 +198,9 @@ module _ (o : Opened) where
         (λ k lt e ne. kept' k lt e ne ∙ ap (λ (z : Tables). slice_index z.words.seconds k) (sym now))))
 
     -- the next number of the sequence is stored
-    next_sequence : (n : ℕ) (step : WriterStep) → at ≡ sequence_at o → n ≡ (left_by me.0).sequence + 1
+    next_sequence : (n : ℕ) (step : WriterStep) → at ≡ sequence_at → n ≡ (left_by me.0).sequence + 1
         → (words : List ℕ) (w : World) → me.0.opening ≡ o → w.tables ≡ tables_by seen
-        → IsLaidAfter (slice_set words (sequence_at o) (suc w.tables.sequence)) w step
+        → IsLaidAfter (slice_set words sequence_at (suc w.tables.sequence)) w step
         → IsLaidAfter (slice_set words at n) w step
     next_sequence n step place next words w is now laid =
         let one : (left_by me.0).sequence ≡ (tables_by seen).sequence =
@@ -210,7 +210,7 @@ module _ (o : Opened) where
         subst (λ (z : ℕ × ℕ). IsLaidAfter (slice_set words z.0 z.1) w step)
         (λ i. (sym place i, sym same i)) laid
 
-    pub opens_allowed : (n : ℕ) (change : RuleChange) → at ≡ sequence_at o
+    pub opens_allowed : (n : ℕ) (change : RuleChange) → at ≡ sequence_at
         → n ≡ (left_by me.0).sequence + 1 → MayMake me.0 (Opens change)
         → Allows (Holds o) slots id me at (λ _. n) (λ _. WriterGains (Opens change) me)
     opens_allowed n change place next may = store_allowed n (Opens change) may (λ _. tt)
@@ -218,7 +218,7 @@ module _ (o : Opened) where
         (lays_sequence o words w laid (written (setup_of o) w.tables (Opens change))
         (coursed (setup_of o) w.tables w.course (Opens change))))
 
-    pub closes_allowed : (n : ℕ) → at ≡ sequence_at o
+    pub closes_allowed : (n : ℕ) → at ≡ sequence_at
         → n ≡ (left_by me.0).sequence + 1 → MayMake me.0 Closes
         → Allows (Holds o) slots id me at (λ _. n) (λ _. WriterGains Closes me)
     closes_allowed n place next may = store_allowed n Closes may (λ _. tt)
@@ -226,7 +226,7 @@ module _ (o : Opened) where
         (lays_sequence o words w laid (written (setup_of o) w.tables Closes)
         (coursed (setup_of o) w.tables w.course Closes)))
 
-    pub bump_allowed : (n : ℕ) → at ≡ token_at o → n ≡ (left_by me.0).token + 1 → MayMake me.0 BumpToken
+    pub bump_allowed : (n : ℕ) → at ≡ token_at → n ≡ (left_by me.0).token + 1 → MayMake me.0 BumpToken
         → Allows (Holds o) slots id me at (λ _. n) (λ _. WriterGains BumpToken me)
     bump_allowed n place next may = store_allowed n BumpToken may (λ _. tt)
         (λ words w is now laid.

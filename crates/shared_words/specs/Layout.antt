@@ -1,6 +1,6 @@
--- This layer's own: where each word of a shared table lies: the first words, the second words, the
--- sequence, the token, and the counter of each worker. A word of the two tables has 32 bits and a shared
--- word 64, so two neighbours of one table share a word (this project's).
+-- This layer's own: where each word of a shared table lies: the sequence, the token, the first words, the
+-- second words, and the counter of each worker. A word of the two tables has 32 bits and a shared word 64,
+-- so two neighbours of one table share a word (this project's).
 use Rattle.std.specs.Prelude.{ℕ, ◌≡◌, ◌+◌, ◌*◌, ◌/◌, ◌%◌, ◌^◌, ◌<◌, List, ◌∷◌, ◌++◌, map, length, replicate, slice_index}
 use Rattle.std.specs.List.{range_with_len}
 use Rattle.lpm_trace.specs.Trace.{World}
@@ -22,27 +22,27 @@ pair_at xs k = slice_index xs (2 * k) + slice_index xs (2 * k + 1) * 2 ^ 32
 abbrev pub packed : List ℕ → List ℕ
 packed xs = map (pair_at xs) (range_with_len 0 (pairs (length xs)))
 
+abbrev pub sequence_at : ℕ
+sequence_at = 0
+
+abbrev pub token_at : ℕ
+token_at = 1
+
 abbrev pub first_at : ℕ → ℕ
-first_at i = i / 2
+first_at i = 2 + i / 2
 
 abbrev pub second_at : Opened → ℕ → ℕ
-second_at o j = pairs (length o.firsts) + j / 2
-
-abbrev pub sequence_at : Opened → ℕ
-sequence_at o = pairs (length o.firsts) + pairs (length o.seconds)
-
-abbrev pub token_at : Opened → ℕ
-token_at o = pairs (length o.firsts) + pairs (length o.seconds) + 1
+second_at o j = 2 + pairs (length o.firsts) + j / 2
 
 abbrev pub counter_at : Opened → ℕ → ℕ
-counter_at o worker = pairs (length o.firsts) + pairs (length o.seconds) + 2 + worker
+counter_at o worker = 2 + pairs (length o.firsts) + pairs (length o.seconds) + worker
 
 abbrev pub word_count : Opened → ℕ
-word_count o = pairs (length o.firsts) + pairs (length o.seconds) + 2 + o.workers
+word_count o = 2 + pairs (length o.firsts) + pairs (length o.seconds) + o.workers
 
 -- the words that a table is opened with: no update was begun, and each worker is offline
 abbrev pub opening_words : Opened → List ℕ
-opening_words o = packed o.firsts ++ (packed o.seconds ++ 0 ∷ o.token ∷ replicate o.workers 0)
+opening_words o = 0 ∷ o.token ∷ (packed o.firsts ++ (packed o.seconds ++ replicate o.workers 0))
 
 -- the words are those of the world
 pub record IsLaidOut (o : Opened) (words : List ℕ) (w : World) : Type 0 where
@@ -53,7 +53,7 @@ pub record IsLaidOut (o : Opened) (words : List ℕ) (w : World) : Type 0 where
       → half i (slice_index words (first_at i)) ≡ slice_index w.tables.words.firsts i
   pub seconds : (j : ℕ) → j < length o.seconds
       → half j (slice_index words (second_at o j)) ≡ slice_index w.tables.words.seconds j
-  pub sequence : slice_index words (sequence_at o) ≡ w.tables.sequence
-  pub token : slice_index words (token_at o) ≡ w.tables.token
+  pub sequence : slice_index words sequence_at ≡ w.tables.sequence
+  pub token : slice_index words token_at ≡ w.tables.token
   pub counters : (k : ℕ) → k < o.workers
       → slice_index words (counter_at o k) ≡ (w.workers k).counter

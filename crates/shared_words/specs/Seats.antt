@@ -57,8 +57,8 @@ pub record IsFoundAt (o : Opened) (seen : List WriterStep) (at word : ℕ) : Typ
       → half i word ≡ slice_index (tables (setup_of o) seen).words.firsts i
   pub second : (j : ℕ) → j < length o.seconds → at ≡ second_at o j
       → half j word ≡ slice_index (tables (setup_of o) seen).words.seconds j
-  pub sequence : at ≡ sequence_at o → word ≡ (tables (setup_of o) seen).sequence
-  pub token : at ≡ token_at o → word ≡ (tables (setup_of o) seen).token
+  pub sequence : at ≡ sequence_at → word ≡ (tables (setup_of o) seen).sequence
+  pub token : at ≡ token_at → word ≡ (tables (setup_of o) seen).token
 
 abbrev pub WriterLooks : Step (Unit {0}) → Me (Unit {0}) View → ℕ → Me (Unit {0}) View → Type 0
 WriterLooks s me x me' = (me' ≡ me) × IsFoundAt me.0.opening me.0.seen s.word x

@@ -4,71 +4,60 @@ ghost use Rattle.std.specs.Prelude.{◌≡◌, ◌≢◌, ℕ, ◌+◌, ◌/◌,
 ghost use Rattle.shared_words.specs.Layout.{first_at, half, pairs};
 
 /// How many words of each kind a table has: first words, second words, and workers, each with a counter.
-/// The words lie in this order, with the sequence and the token before the counters. A first or second word
-/// has 32 bits, and two neighbours of one kind share a word.
+/// The words lie in this order, behind the sequence and the token. A first or second word has 32 bits, and
+/// two neighbours of one kind share a word.
 #[derive(Clone, Copy)]
 pub struct Layout {
     pub firsts: usize,
     pub seconds: usize,
     pub workers: usize,
-    // Where the second words and the sequence begin, which lookups load.
+    // Where the second words and the counters begin.
     groups: usize,
-    sequence: usize,
-    ghost before: { groups ≡ pairs firsts },
-    ghost behind: { sequence ≡ pairs firsts + pairs seconds },
+    counters: usize,
+    ghost before: { groups ≡ 2 + pairs firsts },
+    ghost behind: { counters ≡ 2 + pairs firsts + pairs seconds },
 }
 
 impl Layout {
+    /// Where the sequence lies, which each lookup loads twice.
+    pub(crate) const SEQUENCE: usize = 0;
+
+    /// Where the token lies.
+    pub(crate) const TOKEN: usize = 1;
+
     /// The layout of so many words of each kind.
     pub fn new(firsts: usize, seconds: usize, workers: usize) -> Self
-        requires { pairs firsts + pairs seconds < 2 ^ 64 }
+        requires { 2 + pairs firsts + pairs seconds < 2 ^ 64 }
         ensures firsts { result.firsts ≡ firsts }
         ensures seconds { result.seconds ≡ seconds }
         ensures workers { result.workers ≡ workers }
     {
-        let groups = firsts / 2 + firsts % 2;
+        let groups = 2 + (firsts / 2 + firsts % 2);
         Layout {
             firsts,
             seconds,
             workers,
             groups,
-            sequence: groups + (seconds / 2 + seconds % 2),
+            counters: groups + (seconds / 2 + seconds % 2),
         }
     }
 
     /// Where second word `j` lies.
     #[inline]
     pub(crate) fn second_at(self, j: usize) -> usize
-        requires { pairs self.firsts + j / 2 < 2 ^ 63 }
-        ensures { result ≡ pairs self.firsts + j / 2 }
+        requires { 2 + pairs self.firsts + j / 2 < 2 ^ 63 }
+        ensures { result ≡ 2 + pairs self.firsts + j / 2 }
     {
         self.groups + j / 2
-    }
-
-    /// Where the sequence lies.
-    #[inline]
-    pub(crate) fn sequence_at(self) -> usize
-        ensures { result ≡ pairs self.firsts + pairs self.seconds }
-    {
-        self.sequence
-    }
-
-    /// Where the token lies.
-    #[inline]
-    pub(crate) fn token_at(self) -> usize
-        requires { pairs self.firsts + pairs self.seconds < 2 ^ 63 }
-        ensures { result ≡ pairs self.firsts + pairs self.seconds + 1 }
-    {
-        self.sequence + 1
     }
 
     /// Where the counter of a worker lies.
     #[inline]
     pub(crate) fn counter_at(self, worker: usize) -> usize
-        requires { pairs self.firsts + pairs self.seconds + 2 + worker < 2 ^ 63 }
-        ensures { result ≡ pairs self.firsts + pairs self.seconds + 2 + worker }
+        requires { 2 + pairs self.firsts + pairs self.seconds + worker < 2 ^ 63 }
+        ensures { result ≡ 2 + pairs self.firsts + pairs self.seconds + worker }
     {
-        self.sequence + 2 + worker
+        self.counters + worker
     }
 }
 
@@ -77,7 +66,7 @@ impl Layout {
 pub(crate) fn first_at(i: usize) -> usize
     ensures { result ≡ first_at i }
 {
-    i / 2
+    2 + i / 2
 }
 
 /// The table word at this place, as the shared word has it.
@@ -85,7 +74,10 @@ pub(crate) fn first_at(i: usize) -> usize
 pub(crate) fn half(at: usize, word: u64) -> u64
     ensures { result ≡ half at word }
 {
-    (word >> (at % 2 * 32)) % (1 << 32)
+    if at % 2 == 0 {
+        return word % (1 << 32);
+    }
+    word / (1 << 32)
 }
 
 /// The shared word with another table word at this place, and the neighbour that it has.

@@ -85,10 +85,9 @@ impl WorkerSeat {
         ensures answer { LooksUp addr result.hop result.lo result.hi
             self.old.place.me.0 self.new.place.me.0 }
     {
-        let at = table.layout.sequence_at();
-        let low = self.begin_lookup(table, at, &[u64::from(addr)]);
+        let low = self.begin_lookup(table, &[u64::from(addr)]);
         let word = self.load_words::<FIRST, SECOND, T>(table, addr);
-        let high = self.end_lookup(table, at);
+        let high = self.end_lookup(table);
         Answer {
             hop: Entry::hop_of_last_word::<FIRST, SECOND>(word),
             lo: low / 2,

@@ -49,10 +49,8 @@ impl WorkerSeat {
         ensures answers { LooksUpAll (a ∷ b ∷ c ∷ d ∷ []) result.hops result.lo result.hi
             self.old.place.me.0 self.new.place.me.0 }
     {
-        let at = table.layout.sequence_at();
         let low = self.begin_lookup(
             table,
-            at,
             &[u64::from(a), u64::from(b), u64::from(c), u64::from(d)],
         );
         let (w, x, y, z) = self.load_firsts::<FIRST, SECOND, T>(table, a, b, c, d);
@@ -60,7 +58,7 @@ impl WorkerSeat {
         let x = self.load_last::<FIRST, SECOND, T>(table, b, x);
         let y = self.load_last::<FIRST, SECOND, T>(table, c, y);
         let z = self.load_last::<FIRST, SECOND, T>(table, d, z);
-        let high = self.end_lookup(table, at);
+        let high = self.end_lookup(table);
         FourAnswers {
             hops: [
                 Entry::hop_of_last_word::<FIRST, SECOND>(w),

@@ -17,7 +17,7 @@ use crate::law::{
     LoadsQuiescent, LoadsSecond, Meeting, Notes, Place, StoresOffline, StoresOnline,
     StoresQuiescent,
 };
-use crate::layout::{first_at, half};
+use crate::layout::{Layout, first_at, half};
 use crate::opening::Opens;
 use crate::words::SharedWords;
 use crate::writer::WriterSeat;
@@ -42,7 +42,7 @@ fn begin_as<T: Opens, J: Carries>(
 ) -> u64
     requires own { (place.old.table_id ≡ board.now.shared.table_id)
         × (at < board.now.shared.table_id.words) }
-    requires place { at ≡ sequence_at (T.opened board.now.shared.key) }
+    requires place { at ≡ sequence_at }
     requires alone { place.old.me.1 ≡ [] }
     requires role { place.old.me.0.role ≡ AsWorker number }
     requires picked { J.addrs ≡ addrs.now }
@@ -118,7 +118,7 @@ impl WorkerSeat {
         ensures own { self.new.place.table_id ≡ self.old.place.table_id }
         ensures step { Gains (LoadOnline result) self.old.place.me.0 self.new.place.me.0 }
     {
-        let at = table.layout.token_at();
+        let at = Layout::TOKEN;
         table.board.shared.load::<LoadsOnline>(&mut self.place, at)
     }
 
@@ -148,7 +148,7 @@ impl WorkerSeat {
         ensures own { self.new.place.table_id ≡ self.old.place.table_id }
         ensures step { Gains (LoadQuiescent result) self.old.place.me.0 self.new.place.me.0 }
     {
-        let at = table.layout.token_at();
+        let at = Layout::TOKEN;
         table
             .board
             .shared
@@ -189,22 +189,17 @@ impl WorkerSeat {
             .store::<StoresOffline>(&mut self.place, at, 0);
     }
 
-    /// Loads the sequence, which lies at this place: a lookup of these addresses begins.
+    /// Loads the sequence: a lookup of these addresses begins.
     #[inline]
-    pub(crate) fn begin_lookup<T: Opens>(
-        &mut self,
-        table: &SharedWords<T>,
-        at: usize,
-        addrs: &[u64],
-    ) -> u64
+    pub(crate) fn begin_lookup<T: Opens>(&mut self, table: &SharedWords<T>, addrs: &[u64]) -> u64
         requires own { IsOf table.now.board.shared.table_id (T.opened table.now.board.shared.key)
             table.now.layout self.old.place.table_id self.old.place.me.0 }
-        requires place { at ≡ pairs table.now.layout.firsts + pairs table.now.layout.seconds }
         requires online { (worker_by self.old.place.me.0.own).phase ≡ Online }
         requires addrs { All (λ a. a < addresses (setup_of self.old.place.me.0.opening)) addrs.now }
         ensures own { self.new.place.table_id ≡ self.old.place.table_id }
         ensures step { Gains (Begins addrs.now result) self.old.place.me.0 self.new.place.me.0 }
     {
+        let at = Layout::SEQUENCE;
         begin_as::<T, Brand>(&table.board, &mut self.place, at, self.number, addrs)
     }
 
@@ -245,17 +240,17 @@ impl WorkerSeat {
         load_second_as::<T, Brand>(&table.board, &mut self.place, self.number, at, j)
     }
 
-    /// Loads the sequence, which lies at this place: the lookup, of which each address has its answer, ends.
+    /// Loads the sequence: the lookup, of which each address has its answer, ends.
     #[inline]
-    pub(crate) fn end_lookup<T: Opens>(&mut self, table: &SharedWords<T>, at: usize) -> u64
+    pub(crate) fn end_lookup<T: Opens>(&mut self, table: &SharedWords<T>) -> u64
         requires own { IsOf table.now.board.shared.table_id (T.opened table.now.board.shared.key)
             table.now.layout self.old.place.table_id self.old.place.me.0 }
-        requires place { at ≡ pairs table.now.layout.firsts + pairs table.now.layout.seconds }
         requires looking { (worker_by self.old.place.me.0.own).phase ≡ LookingUp }
         requires answered { AreAnswered (worker_by self.old.place.me.0.own).probes }
         ensures own { self.new.place.table_id ≡ self.old.place.table_id }
         ensures step { Gains (Ends result) self.old.place.me.0 self.new.place.me.0 }
     {
+        let at = Layout::SEQUENCE;
         table.board.shared.load::<EndsLookup>(&mut self.place, at)
     }
 
@@ -275,7 +270,7 @@ impl WorkerSeat {
         ensures writer { writer.new.place.me.0 ≡ writer.old.place.me.0 }
         ensures seat { writer.new.place.table_id ≡ writer.old.place.table_id }
     {
-        let at = table.layout.sequence_at();
+        let at = Layout::SEQUENCE;
         let shared = &table.board.shared;
         let told = shared.split_seat::<Notes>(&mut writer.place);
         shared.join_seat::<Hears>(&mut self.place, told);

@@ -15,7 +15,7 @@ use crate::law::{
     Board, BumpsToken, Carries, ClosesUpdates, LoadsCounter, Looks, NextWorker, OpensUpdates,
     Place, StoresFirst, StoresSecond,
 };
-use crate::layout::{first_at, half, with_half};
+use crate::layout::{Layout, first_at, half, with_half};
 use crate::opening::Opens;
 use crate::words::SharedWords;
 use crate::worker::WorkerSeat;
@@ -95,7 +95,7 @@ fn open_as<T: Opens, J: Carries>(
 )
     requires own { (place.old.table_id ≡ board.now.shared.table_id)
         × (at < board.now.shared.table_id.words) }
-    requires place { at ≡ sequence_at (T.opened board.now.shared.key) }
+    requires place { at ≡ sequence_at }
     requires alone { place.old.me.1 ≡ [] }
     requires role { place.old.me.0.role ≡ AsWriter }
     requires picked { J.change ≡ change.now }
@@ -185,7 +185,7 @@ impl WriterSeat {
         ensures own { self.new.place.table_id ≡ self.old.place.table_id }
         ensures step { self.new.place.me.0 ≡ with_step self.old.place.me.0 (OpensUpdate change.now) }
     {
-        let at = table.layout.sequence_at();
+        let at = Layout::SEQUENCE;
         open_as::<T, Brand>(&table.board, &mut self.place, at, change, number);
     }
 
@@ -201,7 +201,7 @@ impl WriterSeat {
         ensures own { self.new.place.table_id ≡ self.old.place.table_id }
         ensures step { self.new.place.me.0 ≡ with_step self.old.place.me.0 (Closes) }
     {
-        let at = table.layout.sequence_at();
+        let at = Layout::SEQUENCE;
         table
             .board
             .shared
@@ -220,7 +220,7 @@ impl WriterSeat {
         ensures own { self.new.place.table_id ≡ self.old.place.table_id }
         ensures step { self.new.place.me.0 ≡ with_step self.old.place.me.0 (BumpToken) }
     {
-        let at = table.layout.token_at();
+        let at = Layout::TOKEN;
         table
             .board
             .shared
@@ -296,7 +296,7 @@ impl WriterSeat {
         table
             .board
             .shared
-            .load::<Looks>(&mut self.place, table.layout.sequence_at())
+            .load::<Looks>(&mut self.place, Layout::SEQUENCE)
     }
 
     /// The token, which this writer alone changes. It is no step. Each of the writer's steps might come
@@ -313,7 +313,7 @@ impl WriterSeat {
         table
             .board
             .shared
-            .load::<Looks>(&mut self.place, table.layout.token_at())
+            .load::<Looks>(&mut self.place, Layout::TOKEN)
     }
 
     /// The seat of the next worker, which is offline and has made no step.

@@ -1,13 +1,11 @@
-use Rattle.std.proofs.Common.{arith}
+use Rattle.std.proofs.Common.{refl, arith}
 use Rattle.shared_words.proofs.Reading.{ends_allowed}
 use Rattle.shared_words.proofs.worker.WorkerSeat.end_lookup.Goals as goal
 
 pub load-requires : goal.load-requires
 load-requires g c =
-    let own = c.requires.own in
-    let at = c.requires.place in (
+    let own = c.requires.own in (
       own.same,
-      omega (arith, at, own.firsts, own.seconds, own.words),
-      ends_allowed _ _ _ _ _ _ c.args.self.now.role
-          (omega (arith, at, own.firsts, own.seconds)) c.requires.looking c.requires.answered,
+      omega (arith, own.words),
+      ends_allowed _ _ _ _ _ _ c.args.self.now.role refl c.requires.looking c.requires.answered,
     )

@@ -1,4 +1,4 @@
-use Rattle.std.proofs.Common.{rules, arith, ap, ◌∙◌, sym, subst}
+use Rattle.std.proofs.Common.{refl, rules, arith, ap, ◌∙◌, sym, subst}
 use Rattle.atomic_table.specs.Table.{Me}
 use Rattle.lpm_trace.specs.Workers.{IsBetweenDeeds}
 use Rattle.lpm_trace.specs.Trace.{worker_by}
@@ -19,12 +19,11 @@ join_seat-requires g c =
 pub load-requires : goal.load-requires
 load-requires g c =
     let own = c.requires.own in
-    let at = c.sequence_at-at.ensures in
     let heard = c.join_seat.ensures.2 in (
       search rules,
-      omega (arith, at, own.firsts, own.seconds, own.words),
+      omega (arith, own.words),
       meets_allowed _ _ _ _ _ _ (ap {A = Me (Unit {0}) View} (λ m. m.0.role) heard ∙ c.args.self.now.role)
-          (omega (arith, at, own.firsts, own.seconds))
+          refl
           (subst (λ (m : Me (Unit {0}) View). IsBetweenDeeds (worker_by m.0.own).phase)
           (sym heard) c.requires.between),
     )
@@ -40,10 +39,9 @@ join_seat-requires-2 g c =
 
 pub load-requires-2 : goal.load-requires-2
 load-requires-2 g c =
-    let own = c.requires.own in
-    let at = c.sequence_at-at.ensures in (
+    let own = c.requires.own in (
       search rules,
-      omega (arith, at, own.firsts, own.seconds, own.words),
+      omega (arith, own.words),
       compares_allowed _ _ _ _ _ (ap {A = Me (Unit {0}) View} (λ m. m.0.role) c.join_seat-2.ensures.2
           ∙ (ap {A = Me (Unit {0}) View} (λ m. m.0.role) c.split_seat-told.ensures.2
           ∙ c.args.writer.now.role)),

@@ -1,6 +1,5 @@
-use Rattle.std.proofs.Common.{◌≡◌, arith}
+use Rattle.std.proofs.Common.{refl, arith}
 use Rattle.shared_words.specs.Opened.{Opened}
-use Rattle.shared_words.specs.Layout.{token_at}
 use Rattle.shared_words.proofs.Writing.{bump_allowed}
 use Rattle.shared_words.proofs.writer.WriterSeat.bump_token.Goals as goal
 
@@ -8,10 +7,8 @@ pub store-requires : goal.store-requires
 store-requires g c =
     let o : Opened = g.T.Opens.opened c.args.table.now.board.shared.key in
     let seat = c.args.self.now in
-    let own = c.requires.own in
-    let at = c.token_at-at in
-    let place : at.result ≡ token_at o = omega (arith, at.ensures, own.firsts, own.seconds) in (
+    let own = c.requires.own in (
       own.same,
-      omega (arith, place, own.words),
-      bump_allowed o _ _ _ seat.place.me seat.role _ place c.requires.next c.requires.may,
+      omega (arith, own.words),
+      bump_allowed o _ _ _ seat.place.me seat.role _ refl c.requires.next c.requires.may,
     )

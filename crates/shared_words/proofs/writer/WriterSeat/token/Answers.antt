@@ -7,7 +7,7 @@ load-requires g c =
     let seat = c.args.self.now in
     let own = c.requires.own in (
       own.same,
-      omega (arith, c.token_at.ensures, own.words, own.firsts, own.seconds),
+      omega (arith, own.words),
       looks_allowed _ _ _ _ seat.place.me seat.role,
     )
 
