@@ -1,13 +1,10 @@
 //! `lpmtool`: longest-prefix match of IPv4 addresses, from files.
 #![tactic(auto)]
 
-mod run;
-#[cfg(test)]
-mod tests;
-
 ghost use Rattle.std.specs.Prelude.{None};
 
 use lpm_commands::Files;
+use lpm_program::run::{refuse_words, run};
 use std::fs::File;
 use std::io::{Read, Stdin};
 use std::process::ExitCode;
@@ -56,10 +53,10 @@ fn main(rt: HostRuntime) -> ExitCode {
     let mut err = rt.stderr();
     let words = match command_words(&rt) {
         Ok(words) => words,
-        Err(e) => return ExitCode::from(run::refuse_words(e.kind(), &mut err)),
+        Err(e) => return ExitCode::from(refuse_words(e.kind(), &mut err)),
     };
     let files = Disk { rt: &rt };
-    let status = run::run(
+    let status = run(
         &rt,
         rt.alloc(),
         words.as_slice(),

@@ -1,5 +1,5 @@
 // The worked cases of the pure world, each under its name, over 4 and 4 bits. Every case is judged by the
-// plain deciders too.
+// slow program too.
 
 use super::asserting::{
     Answer, Looked, Numbered, assert_at, assert_step, assert_steps, assert_trace,

@@ -3,12 +3,13 @@
 ghost use Rattle.std.specs.Prelude.{◌<◌};
 ghost use Rattle.lpm_bits.specs.Widths.{IsShape};
 
-use super::plan::{Plan, hop, prefix};
+use super::plan::{hop, prefix};
 use interleave::{Actor, Change, Deed};
 use lpm_bits::Prefix;
 use qsbr::Config;
 use std::alloc::{AllocError, Global};
 use std::process::Abort;
+use world_reference::Plan;
 
 // A fixed list of numbers without a pattern.
 #[derive(Clone, Copy)]
@@ -288,7 +289,6 @@ impl Draw {
             scripts.push(draw.script::<FIRST, SECOND>(alloc, sizes.deeds)?)?;
         }
         Ok(Plan {
-            number: 1,
             config,
             changes,
             scripts,
@@ -314,7 +314,6 @@ impl Draw {
             items,
         } = *sizes;
         Ok(Plan {
-            number,
             config,
             changes: draw.changes(rt, alloc, changes)?,
             scripts: draw.scripts::<FIRST, SECOND>(alloc, config.workers, deeds)?,

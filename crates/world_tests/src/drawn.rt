@@ -1,4 +1,4 @@
-// Many small worlds that are drawn, each judged by the plain deciders.
+// Many small worlds that are drawn, each judged by the slow program.
 
 ghost use Rattle.std.specs.Prelude.{◌<◌};
 ghost use Rattle.lpm_bits.specs.Widths.{IsShape};
@@ -6,11 +6,12 @@ ghost use Rattle.lpm_bits.specs.Widths.{IsShape};
 use super::asserting::assert_at;
 use super::drawing::{Draw, Sizes};
 use super::judging::judged;
-use super::plan::{ONE_GROUP, Plan};
+use super::plan::{ONE_GROUP, run};
 use qsbr::Config;
 use std::alloc::Global;
 use std::process::Abort;
 use std::test::Fail;
+use world_reference::Plan;
 
 // Runs and judges the plans of these numbers.
 fn judge_drawn<const FIRST: u32, const SECOND: u32>(
@@ -25,7 +26,7 @@ fn judge_drawn<const FIRST: u32, const SECOND: u32>(
 {
     for number in from..to {
         let plan: Plan<FIRST, SECOND> = Draw::plan(rt, alloc, number, sizes)?;
-        judged(rt, alloc, &plan)?;
+        judged(rt, alloc, number, &plan)?;
     }
     Ok(())
 }
@@ -78,7 +79,7 @@ fn many_items(rt: HostRuntime) -> Result<(), Fail> {
         items: 100_000,
     };
     let plan: Plan<4, 4> = Draw::even_plan(&rt, rt.alloc(), config, &sizes)?;
-    let trace = plan.run(&rt, rt.alloc())?;
+    let trace = run(&rt, rt.alloc(), &plan)?;
     assert_at(&rt, "steps", trace.steps.len(), 100_000);
     Ok(())
 }

@@ -2,7 +2,7 @@
 
 use super::asserting::{Answer, assert_at, assert_replies, assert_reply, assert_trace};
 use super::judging::{judged, played};
-use super::plan::{Edit, ONE_GROUP, Plan, planned};
+use super::plan::{Edit, ONE_GROUP, planned, run};
 use defer_queue::Reclaimed;
 use interleave::{Actor, Deed, Kind, Reply, RunError, Trace};
 use lpm_rules::Put;
@@ -10,6 +10,7 @@ use qsbr::{Busy, Config, Refusal};
 use std::alloc::{AllocError, Global};
 use std::process::Abort;
 use std::test::Fail;
+use world_reference::Plan;
 
 const WRITER: Actor = Actor::Writer;
 
@@ -219,7 +220,7 @@ fn unknown_workers(rt: HostRuntime) -> Result<(), Fail> {
 fn empty_schedules(rt: HostRuntime) -> Result<(), Fail> {
     let edits = [Edit::Flush, Edit::Add(0x10, 4, 7)];
     let plan = planned(&rt, rt.alloc(), ONE_GROUP, &edits, &[Deed::Meet], &[])?;
-    let trace = plan.run(&rt, rt.alloc())?;
+    let trace = run(&rt, rt.alloc(), &plan)?;
     assert_trace(&rt, &trace, 0, &[], &[]);
     Ok(())
 }
@@ -233,7 +234,7 @@ const NO_WORKERS: Config = Config {
 fn played_alone(rt: &impl Abort, alloc: Global, edits: &[Edit]) -> Result<Trace, Fail> {
     let mut plan = planned(rt, alloc, NO_WORKERS, edits, &[], &[(WRITER, 60)])?;
     plan.scripts = Vec::new(alloc);
-    judged(rt, alloc, &plan)
+    judged(rt, alloc, 0, &plan)
 }
 
 // One group that is freed.
@@ -293,11 +294,11 @@ fn last_tokens(rt: HostRuntime) -> Result<(), Fail> {
 
 // The trace of the plan, at the second run where the first is out of memory.
 fn run_again(rt: &impl Abort, alloc: Global, plan: &Plan<4, 4>) -> Result<Trace, Fail> {
-    match plan.run(rt, alloc) {
+    match run(rt, alloc, plan) {
         Ok(trace) => Ok(trace),
         Err(error) => {
             assert_at(rt, "the first run", error, RunError::Memory);
-            Ok(plan.run(rt, alloc)?)
+            Ok(run(rt, alloc, plan)?)
         }
     }
 }
@@ -344,7 +345,7 @@ const WRONG: [Config; 5] = [
 // Why a run over these limits has no trace.
 fn fault_of(rt: &impl Abort, alloc: Global, config: Config) -> Result<Option<RunError>, Fail> {
     let plan = planned(rt, alloc, config, &[], &[], &[])?;
-    Ok(plan.run(rt, alloc).err())
+    Ok(run(rt, alloc, &plan).err())
 }
 
 #[test]

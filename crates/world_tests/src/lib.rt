@@ -16,5 +16,3 @@ mod ends;
 mod judging;
 #[cfg(test)]
 mod plan;
-#[cfg(test)]
-mod slow_writer;

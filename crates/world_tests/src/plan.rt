@@ -9,6 +9,7 @@ use lpm_bits::{Hop, Prefix, Shape};
 use qsbr::Config;
 use std::alloc::{AllocError, Global};
 use std::process::Abort;
+use world_reference::Plan;
 
 // One group and one worker; all else by default.
 pub(crate) const ONE_GROUP: Config = Config {
@@ -19,16 +20,6 @@ pub(crate) const ONE_GROUP: Config = Config {
     reclaim_max: 16,
     first_token: 1,
 };
-
-// What a run is made of. The number tells one plan from another where a test fails.
-#[derive(Drop)]
-pub(crate) struct Plan<const FIRST: u32, const SECOND: u32> {
-    pub(crate) number: u32,
-    pub(crate) config: Config,
-    pub(crate) changes: Vec<Change<FIRST, SECOND>>,
-    pub(crate) scripts: Vec<Vec<Deed>>,
-    pub(crate) schedule: Vec<Actor>,
-}
 
 // Whether workers can go through these scripts.
 fn are_sound<const FIRST: u32, const SECOND: u32>(scripts: &[Vec<Deed>]) -> bool
@@ -44,20 +35,23 @@ fn are_sound<const FIRST: u32, const SECOND: u32>(scripts: &[Vec<Deed>]) -> bool
     true
 }
 
-impl<const FIRST: u32, const SECOND: u32> Plan<FIRST, SECOND> {
-    pub(crate) fn run(&self, rt: &impl Abort, alloc: Global) -> Result<Trace, RunError>
-        requires { IsShape FIRST SECOND }
-    {
-        assert_eq!(rt; self.scripts.len(), self.config.workers);
-        assert!(rt; are_sound::<FIRST, SECOND>(&self.scripts));
-        World::<FIRST, SECOND>::run(
-            alloc,
-            self.config,
-            &self.changes,
-            &self.scripts,
-            &self.schedule,
-        )
-    }
+// The run of the plan.
+pub(crate) fn run<const FIRST: u32, const SECOND: u32>(
+    rt: &impl Abort,
+    alloc: Global,
+    plan: &Plan<FIRST, SECOND>,
+) -> Result<Trace, RunError>
+    requires { IsShape FIRST SECOND }
+{
+    assert_eq!(rt; plan.scripts.len(), plan.config.workers);
+    assert!(rt; are_sound::<FIRST, SECOND>(&plan.scripts));
+    World::<FIRST, SECOND>::run(
+        alloc,
+        plan.config,
+        &plan.changes,
+        &plan.scripts,
+        &plan.schedule,
+    )
 }
 
 pub(crate) fn prefix<const FIRST: u32, const SECOND: u32>(
@@ -147,7 +141,6 @@ pub(crate) fn planned(
     bursts: &[(Actor, usize)],
 ) -> Result<Plan<4, 4>, AllocError> {
     Ok(Plan {
-        number: 0,
         config,
         changes: changes_of(rt, alloc, edits)?,
         scripts: script_of(alloc, deeds)?,

@@ -1,4 +1,4 @@
-use Rattle.lpmtool.proofs.run.perform.Goals as goal
+use Rattle.lpm_program.proofs.run.perform.Goals as goal
 
 pub returns-in-Lookup-clause-done : goal.returns-in-Lookup-clause-done
 returns-in-Lookup-clause-done g c = rw c.in-Lookup.is c.lookup.ensures.done

@@ -1,8 +1,8 @@
 use Rattle.std.proofs.Common.{inl, inr, ap, Err}
 use Rattle.lpm_commands.specs.declared.failure.Failure.{Failure}
-use Rattle.lpmtool.proofs.Ended.{cannot_write}
-use Rattle.lpmtool.proofs.Causes.{refused_cause}
-use Rattle.lpmtool.proofs.run.run.Goals as goal
+use Rattle.lpm_program.proofs.Ended.{cannot_write}
+use Rattle.lpm_program.proofs.Causes.{refused_cause}
+use Rattle.lpm_program.proofs.run.run.Goals as goal
 
 pub returns-in-Ok-perform-clause-done : goal.returns-in-Ok-perform-clause-done
 returns-in-Ok-perform-clause-done g c = λ _. inr (c.in-Ok.line, (c.in-Ok.ensures.asked, c.in-Ok-perform.ensures.done))

@@ -6,13 +6,13 @@ ghost use Rattle.lpm_commands.specs.Apply.{IsApplyText};
 ghost use Rattle.lpm_commands.specs.Report.{IsReportText};
 ghost use Rattle.lpm_commands.specs.Migrate.{IsMigrateText};
 
-use super::cases::assert_at;
-use bulk::Open;
+use bulk::{Gate, Open};
 use lpm_commands::{Files, apply, lookup, migrate, report};
 use qsbr::Config;
 use std::alloc::Global;
 use std::io;
 use std::io::Read;
+use std::process::Abort;
 use std::thread::Threads;
 
 // Bytes that are left to read.
@@ -52,12 +52,13 @@ impl Files for Paths {
 }
 
 /// `lookup` where the bytes are known.
-fn known_lookup<R: Threads + Sync>(
+pub(crate) fn known_lookup<R: Threads + Sync, G: Gate>(
     rt: &R,
     alloc: Global,
     routes: &str,
     addresses: &str,
     config: Config,
+    gate: &G,
     out: &mut Vec<u8>,
 ) -> bool
     requires { IsConfig config }
@@ -66,7 +67,7 @@ fn known_lookup<R: Threads + Sync>(
         × (out.new.items ≡ out.old.items ++ text) }
 {
     let files = Paths { alloc };
-    lookup(rt, alloc, &files, routes, addresses, config, &Open, out).is_ok()
+    lookup(rt, alloc, &files, routes, addresses, config, gate, out).is_ok()
 }
 
 /// `apply` where the bytes are known.
@@ -128,11 +129,17 @@ const TEXT: &str = "10.1.1.128 3\ndeleted 3\n10.1.1.128 1\n\
     rules 1\nversions 3\nin use 0\nlimbo 1\nfree 255\ntoken 2\n\
     lpm-updates 2\ndel 1.0.0.0/8\n";
 
+/// What was asked for is done, and this text was written.
+pub(crate) fn assert_wrote(rt: &impl Abort, is_done: bool, out: &[u8], text: &str) {
+    assert!(rt; is_done);
+    assert_eq!(rt; str::from_utf8(out), Ok(text));
+}
+
 // Runs the four commands. Which of them were done.
 fn run_each<R: Threads + Sync>(rt: &R, alloc: Global, out: &mut Vec<u8>) -> [bool; 4] {
     let config = Config::default();
     [
-        known_lookup(rt, alloc, ROUTES, ADDRESSES, config, out),
+        known_lookup(rt, alloc, ROUTES, ADDRESSES, config, &Open, out),
         known_apply(rt, alloc, ROUTES, UPDATES, ADDRESSES, config, out),
         known_report(alloc, ROUTES, UPDATES, config, out),
         known_migrate(alloc, OLD, out),
@@ -143,6 +150,5 @@ fn run_each<R: Threads + Sync>(rt: &R, alloc: Global, out: &mut Vec<u8>) -> [boo
 fn known_bytes_in_and_out(rt: HostRuntime) {
     let mut out = Vec::new(rt.alloc());
     let done = run_each(&rt, rt.alloc(), &mut out);
-    assert_at(&rt, "done", done, [true; 4]);
-    assert_at(&rt, "text", str::from_utf8(&out), Ok(TEXT));
+    assert_wrote(&rt, done == [true; 4], &out, TEXT);
 }

@@ -1,7 +1,7 @@
-// A slow writer. It goes through the writer's own steps of a run and tells, from them and the changes
-// alone, what comes of each change and which rules stand in each version.
+//! A slow writer. It goes through the writer's own steps of a run and tells, from them and the changes
+//! alone, what comes of each change and which rules stand in each version.
 
-use super::asserting::assert_at;
+use super::JudgeError;
 use defer_queue::Reclaimed;
 use interleave::{Change, Kind, Reply, Step};
 use lpm_bits::{Hop, Prefix};
@@ -10,26 +10,32 @@ use lpm_rules::Put;
 use qsbr::{Busy, Config, Refusal};
 use std::alloc::{AllocError, AllocFailed, Global};
 use std::collections::VecDeque;
-use std::process::Abort;
 use trace_reference::{PlainRule, Versions};
 
 // Why a change has no reply.
-#[derive(Clone, Copy, Debug, PartialEq, Eq)]
-pub(crate) enum Stop {
+#[derive(Clone, Copy)]
+enum Stop {
     // The steps end before the change does.
     Unfinished,
-    Memory,
+    // The steps aren't those of the change, or there is too little memory to tell.
+    Judged(JudgeError),
+}
+
+impl From<JudgeError> for Stop {
+    fn from(error: JudgeError) -> Self {
+        Stop::Judged(error)
+    }
 }
 
 impl From<AllocError> for Stop {
     fn from(_error: AllocError) -> Self {
-        Stop::Memory
+        Stop::Judged(JudgeError::Memory)
     }
 }
 
 impl<T: Drop> From<AllocFailed<T>> for Stop {
     fn from(_error: AllocFailed<T>) -> Self {
-        Stop::Memory
+        Stop::Judged(JudgeError::Memory)
     }
 }
 
@@ -69,6 +75,26 @@ fn group_in(word: u64) -> Option<u32> {
     }
 }
 
+// The step is of this kind.
+fn kind_is(step: &Step, wanted: Kind) -> Result<(), JudgeError> {
+    let found = step.kind;
+    if found == wanted {
+        Ok(())
+    } else {
+        Err(JudgeError::Kind { found, wanted })
+    }
+}
+
+// The step loads the counter of this worker.
+fn turn_is(step: &Step, wanted: usize) -> Result<(), JudgeError> {
+    let found = step.index;
+    if found == wanted as u64 {
+        Ok(())
+    } else {
+        Err(JudgeError::Turn { found, wanted })
+    }
+}
+
 impl SlowWriter {
     pub(crate) fn new(
         alloc: Global,
@@ -95,10 +121,10 @@ impl SlowWriter {
     }
 
     // The next step, which is of this kind.
-    fn take(&mut self, rt: &impl Abort, kind: Kind) -> Result<Step, Stop> {
+    fn take(&mut self, kind: Kind) -> Result<Step, Stop> {
         match self.steps.get(self.used).copied() {
             Some(step) => {
-                assert_at(rt, "kind", step.kind, kind);
+                kind_is(&step, kind)?;
                 self.used = self.used.saturating_add(1);
                 Ok(step)
             }
@@ -130,13 +156,13 @@ impl SlowWriter {
 
     // Checks a token: the workers' counters are loaded in turn, up to the first that holds it back. A
     // token up to one that has passed isn't checked again.
-    fn check(&mut self, rt: &impl Abort, token: u64) -> Result<Option<Busy>, Stop> {
+    fn check(&mut self, token: u64) -> Result<Option<Busy>, Stop> {
         if token <= self.passed {
             return Ok(None);
         }
         for worker in 0..self.config.workers {
-            let step = self.take(rt, Kind::LoadCounter)?;
-            assert_at(rt, "worker", step.index, worker as u64);
+            let step = self.take(Kind::LoadCounter)?;
+            turn_is(&step, worker)?;
             if step.value != 0 && step.value < token {
                 return Ok(Some(Busy {
                     worker,
@@ -148,13 +174,13 @@ impl SlowWriter {
         Ok(None)
     }
 
-    fn reclaim(&mut self, rt: &impl Abort, max: usize) -> Result<Reclaimed, Stop> {
+    fn reclaim(&mut self, max: usize) -> Result<Reclaimed, Stop> {
         let mut freed: usize = 0;
         for _ in 0..max {
             let Some(front) = self.queue.front().copied() else {
                 break;
             };
-            let stopped = self.check(rt, front.token)?;
+            let stopped = self.check(front.token)?;
             if stopped.is_some() {
                 return Ok(Reclaimed { freed, stopped });
             }
@@ -178,14 +204,23 @@ impl SlowWriter {
         Ok(())
     }
 
+    fn link(&mut self, found: u32) -> Result<(), Stop> {
+        let wanted = self.least_free();
+        if wanted != Some(found) {
+            return Err(Stop::Judged(JudgeError::Link { found, wanted }));
+        }
+        self.linked.push(found)?;
+        Ok(())
+    }
+
     // A group was unlinked: the token is bumped, and where too many groups wait, some are reclaimed
     // before this one waits too.
-    fn retire(&mut self, rt: &impl Abort, alloc: Global, group: u32) -> Result<(), Stop> {
+    fn retire(&mut self, alloc: Global, group: u32) -> Result<(), Stop> {
         self.unlink(alloc, group)?;
-        self.token = self.take(rt, Kind::BumpToken)?.value;
+        self.token = self.take(Kind::BumpToken)?.value;
         let token = self.token;
         if self.queue.len() > self.config.threshold {
-            self.reclaim(rt, self.config.reclaim_max)?;
+            self.reclaim(self.config.reclaim_max)?;
         }
         self.queue.push_back(Waiting { group, token })?;
         Ok(())
@@ -205,13 +240,12 @@ impl SlowWriter {
 
     // A store of a first word unlinks the group that stood there, and links no group but the least that
     // is free.
-    fn store_first(&mut self, rt: &impl Abort, alloc: Global, step: &Step) -> Result<(), Stop> {
+    fn store_first(&mut self, alloc: Global, step: &Step) -> Result<(), Stop> {
         if let Some(group) = self.group_before(step.index) {
-            self.retire(rt, alloc, group)?;
+            self.retire(alloc, group)?;
         }
         if let Some(group) = group_in(step.value) {
-            assert_at(rt, "group", Some(group), self.least_free());
-            self.linked.push(group)?;
+            self.link(group)?;
         }
         Ok(())
     }
@@ -269,13 +303,8 @@ impl SlowWriter {
     // ---- changes
 
     // An update to these rules: a bump of the sequence, its stores, and a bump again.
-    fn update(
-        &mut self,
-        rt: &impl Abort,
-        alloc: Global,
-        rules: Vec<PlainRule>,
-    ) -> Result<(), Stop> {
-        self.take(rt, Kind::BumpSequence)?;
+    fn update(&mut self, alloc: Global, rules: Vec<PlainRule>) -> Result<(), Stop> {
+        self.take(Kind::BumpSequence)?;
         self.versions.push(Vec::from_slice(alloc, &rules)?)?;
         self.rules = rules;
         for _ in self.used..self.steps.len() {
@@ -285,8 +314,8 @@ impl SlowWriter {
             self.used = self.used.saturating_add(1);
             match step.kind {
                 Kind::BumpSequence => return Ok(()),
-                Kind::StoreFirst => self.store_first(rt, alloc, &step)?,
-                kind => assert_at(rt, "kind", kind, Kind::StoreSecond),
+                Kind::StoreFirst => self.store_first(alloc, &step)?,
+                _ => kind_is(&step, Kind::StoreSecond)?,
             }
         }
         Err(Stop::Unfinished)
@@ -294,7 +323,6 @@ impl SlowWriter {
 
     fn add<const FIRST: u32, const SECOND: u32>(
         &mut self,
-        rt: &impl Abort,
         alloc: Global,
         prefix: &Prefix<FIRST, SECOND>,
         hop: Hop,
@@ -311,7 +339,7 @@ impl SlowWriter {
             return Ok(Reply::Refused(Refusal::TooManyRules));
         }
         if self.wants_group(prefix) && self.least_free().is_none() {
-            let Reclaimed { freed, stopped } = self.reclaim(rt, 1)?;
+            let Reclaimed { freed, stopped } = self.reclaim(1)?;
             if freed == 0 {
                 return Ok(Reply::Refused(Refusal::NoGroups { oldest: stopped }));
             }
@@ -319,7 +347,7 @@ impl SlowWriter {
         let mut rules = self.rules_without(alloc, prefix)?;
         let (bits, len) = (prefix.bits(), prefix.len());
         rules.push(PlainRule { bits, len, hop })?;
-        self.update(rt, alloc, rules)?;
+        self.update(alloc, rules)?;
         let put = if old.is_some() {
             Put::Replaced
         } else {
@@ -330,7 +358,6 @@ impl SlowWriter {
 
     fn delete<const FIRST: u32, const SECOND: u32>(
         &mut self,
-        rt: &impl Abort,
         alloc: Global,
         prefix: &Prefix<FIRST, SECOND>,
     ) -> Result<Reply, Stop> {
@@ -341,11 +368,14 @@ impl SlowWriter {
             return Ok(Reply::Refused(Refusal::Exhausted));
         }
         let rules = self.rules_without(alloc, prefix)?;
-        self.update(rt, alloc, rules)?;
-        Ok(Reply::Deleted(Hop::new(number).expect(rt, "a next hop")))
+        self.update(alloc, rules)?;
+        match Hop::new(number) {
+            Ok(hop) => Ok(Reply::Deleted(hop)),
+            Err(_) => Err(Stop::Judged(JudgeError::Replies)),
+        }
     }
 
-    fn flush(&mut self, rt: &impl Abort, alloc: Global) -> Result<Reply, Stop> {
+    fn flush(&mut self, alloc: Global) -> Result<Reply, Stop> {
         let count = self.rules.len();
         if count == 0 {
             return Ok(Reply::Flushed(0));
@@ -353,18 +383,18 @@ impl SlowWriter {
         if self.is_exhausted() {
             return Ok(Reply::Refused(Refusal::Exhausted));
         }
-        self.update(rt, alloc, Vec::new(alloc))?;
+        self.update(alloc, Vec::new(alloc))?;
         Ok(Reply::Flushed(count))
     }
 
     // The token is bumped, and checked again and again until the check passes.
-    fn synchronize(&mut self, rt: &impl Abort) -> Result<Reply, Stop> {
+    fn synchronize(&mut self) -> Result<Reply, Stop> {
         if self.is_exhausted() {
             return Ok(Reply::Refused(Refusal::Exhausted));
         }
-        self.token = self.take(rt, Kind::BumpToken)?.value;
+        self.token = self.take(Kind::BumpToken)?.value;
         for _ in 0..self.steps.len() {
-            if self.check(rt, self.token)?.is_none() {
+            if self.check(self.token)?.is_none() {
                 return Ok(Reply::Synchronized);
             }
         }
@@ -373,16 +403,15 @@ impl SlowWriter {
 
     fn answer<const FIRST: u32, const SECOND: u32>(
         &mut self,
-        rt: &impl Abort,
         alloc: Global,
         change: &Change<FIRST, SECOND>,
     ) -> Result<Reply, Stop> {
         match change {
-            Change::Add(prefix, hop) => self.add(rt, alloc, prefix, *hop),
-            Change::Delete(prefix) => self.delete(rt, alloc, prefix),
-            Change::Flush => self.flush(rt, alloc),
-            Change::Reclaim(max) => Ok(Reply::Reclaimed(self.reclaim(rt, *max)?)),
-            Change::Synchronize => self.synchronize(rt),
+            Change::Add(prefix, hop) => self.add(alloc, prefix, *hop),
+            Change::Delete(prefix) => self.delete(alloc, prefix),
+            Change::Flush => self.flush(alloc),
+            Change::Reclaim(max) => Ok(Reply::Reclaimed(self.reclaim(*max)?)),
+            Change::Synchronize => self.synchronize(),
         }
     }
 
@@ -391,28 +420,38 @@ impl SlowWriter {
     // within a change only where the items do.
     pub(crate) fn replies<const FIRST: u32, const SECOND: u32>(
         &mut self,
-        rt: &impl Abort,
         alloc: Global,
         changes: &[Change<FIRST, SECOND>],
         items: usize,
-    ) -> Result<Vec<Reply>, AllocError> {
+    ) -> Result<Vec<Reply>, JudgeError> {
         let mut replies = Vec::new(alloc);
         for change in changes {
             if self.used >= items {
                 break;
             }
-            match self.answer(rt, alloc, change) {
+            match self.answer(alloc, change) {
                 Ok(reply) => replies.push(reply)?,
-                Err(Stop::Memory) => return Err(AllocError),
+                Err(Stop::Judged(error)) => return Err(error),
                 Err(Stop::Unfinished) => {
-                    assert_at(rt, "steps", self.steps.len(), items);
+                    self.ends_at(items)?;
                     break;
                 }
             }
         }
-        assert_at(rt, "steps", self.used, self.steps.len());
-        assert!(rt; self.used == items || replies.len() == changes.len());
+        self.ends_at(self.used)?;
+        if self.used != items && replies.len() != changes.len() {
+            return Err(JudgeError::Length);
+        }
         Ok(replies)
+    }
+
+    // The writer has made so many steps.
+    fn ends_at(&self, count: usize) -> Result<(), JudgeError> {
+        if self.steps.len() == count {
+            Ok(())
+        } else {
+            Err(JudgeError::Length)
+        }
     }
 
     // The rules of each version that was begun.

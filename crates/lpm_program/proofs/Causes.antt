@@ -5,7 +5,7 @@ use Rattle.lpm_options.specs.declared.Refused.{Refused}
 use Rattle.lpm_options.specs.declared.Refused.TheVariants.{Usage, Memory, NoCommand, TwoStandardInputs}
 use Rattle.lpm_options.specs.Commands.{the_app}
 use Rattle.lpm_options.specs.Asked.{IsRefusalBy}
-use Rattle.lpmtool.specs.Run.{IsRequest, EndsRefused, AsksForHelp, IsCause}
+use Rattle.lpm_program.specs.Run.{IsRequest, EndsRefused, AsksForHelp, IsCause}
 
 -- a request that the parser answers is one of the words
 pub asks_for_help : (words : List Text) (why : Refused) → IsRequest why → IsRefusalBy (fault_of the_app words) (subcommand_of the_app words) why → AsksForHelp words

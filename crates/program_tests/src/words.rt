@@ -1,10 +1,8 @@
-//! Words that ask for help, words that are refused, and the texts of refusals.
+//! Words that ask for help, and words that are refused.
 
 use super::cases::{Ending, assert_at, assert_ends, run_line, text};
 use super::fakes::{AtBad, whole, writer};
-use crate::run::refuse_words;
-use lpm_commands::Failure;
-use qsbr::Refusal;
+use lpm_program::run::refuse_words;
 use std::io::ErrorKind;
 use std::process::Abort;
 use std::test::Fail;
@@ -81,41 +79,4 @@ fn words_that_cannot_be_had(rt: HostRuntime) {
     assert_at(&rt, "not UTF-8", unreadable, 2);
     let wants_memory = refuse_words(ErrorKind::OutOfMemory, &mut err);
     assert_at(&rt, "out of memory", wants_memory, 5);
-}
-
-static REFUSALS: [(Refusal, &str); 3] = [
-    (
-        Refusal::TooManyRules,
-        "lpmtool: r:9: refused 3 TooManyRules",
-    ),
-    (Refusal::Exhausted, "lpmtool: r:9: refused 6 Exhausted"),
-    (
-        Refusal::NoGroups { oldest: None },
-        "lpmtool: r:9: refused 7 NoGroups",
-    ),
-];
-
-// The text of a route's refusal, and the exit status.
-fn assert_refusal(
-    rt: &(impl Abort + AllocGlobal),
-    refusal: Refusal,
-    wanted: &str,
-) -> Result<(), Fail> {
-    let failure = Failure::RefusedRoute {
-        path: "r",
-        line: 9,
-        refusal,
-    };
-    let found = format!(in rt.alloc(); "{failure}")?;
-    assert_at(rt, refusal, found.as_str(), wanted);
-    assert_at(rt, refusal, failure.status(), 6);
-    Ok(())
-}
-
-#[test]
-fn texts_of_refusals(rt: HostRuntime) -> Result<(), Fail> {
-    for (refusal, text) in &REFUSALS {
-        assert_refusal(&rt, *refusal, text)?;
-    }
-    Ok(())
 }

@@ -1,7 +1,7 @@
 //! A run of a command line, and how it ends.
 
 use super::fakes::{AtBad, BreakingFiles, Short, writer};
-use crate::run::run;
+use lpm_program::run::run;
 use std::fmt::Debug;
 use std::process::Abort;
 use std::test::Fail;

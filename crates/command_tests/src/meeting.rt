@@ -1,9 +1,7 @@
 //! Two pieces that must see each other before each address: they run at once.
 
-use super::cases::assert_at;
-use super::fakes::{Named, whole};
+use super::known::{assert_wrote, known_lookup};
 use bulk::Gate;
-use lpm_commands::lookup;
 use qsbr::Config;
 use std::process::Abort;
 use std::sync::atomic::{AtomicBool, Ordering};
@@ -65,22 +63,13 @@ fn assert_met(rt: &impl Abort, gate: &Meeting) {
     }
 }
 
-const FILES: [Named<'static>; 2] = [
-    ("r", b"10.0.0.0/8 1\n"),
-    (
-        "a",
-        b"10.0.0.1\n10.0.0.2\n10.0.0.3\n10.0.0.4\n11.0.0.1\n11.0.0.2\n11.0.0.3\n11.0.0.4\n",
-    ),
-];
+const ROUTES: &str = "10.0.0.0/8 1\n";
+
+const ADDRESSES: &str = "10.0.0.1\n10.0.0.2\n10.0.0.3\n10.0.0.4\n11.0.0.1\n11.0.0.2\n11.0.0.3\n\
+    11.0.0.4\n";
 
 const TEXT: &str = "10.0.0.1 1\n10.0.0.2 1\n10.0.0.3 1\n10.0.0.4 1\n11.0.0.1 -\n11.0.0.2 -\n\
     11.0.0.3 -\n11.0.0.4 -\n";
-
-// The lookup is done, and wrote each answer.
-fn assert_answers(rt: &impl Abort, is_done: bool, out: &[u8]) {
-    assert_at(rt, "done", is_done, true);
-    assert_at(rt, "answers", str::from_utf8(out), Ok(TEXT));
-}
 
 #[test]
 fn two_pieces_see_each_other(rt: HostRuntime) {
@@ -90,8 +79,7 @@ fn two_pieces_see_each_other(rt: HostRuntime) {
         ..Config::default()
     };
     let mut out = Vec::new(rt.alloc());
-    let files = whole(&FILES);
-    let done = lookup(&rt, rt.alloc(), &files, "r", "a", config, &gate, &mut out);
-    assert_answers(&rt, done.is_ok(), &out);
+    let is_done = known_lookup(&rt, rt.alloc(), ROUTES, ADDRESSES, config, &gate, &mut out);
+    assert_wrote(&rt, is_done, &out, TEXT);
     assert_met(&rt, &gate);
 }

@@ -4,8 +4,8 @@ ghost use Rattle.clap.specs.Words.{kind_of};
 ghost use Rattle.std.specs.declared.io.ErrorKind.TheVariants.{OutOfMemory};
 ghost use Rattle.lpm_options.specs.Asked.{IsInRange};
 ghost use Rattle.lpm_commands.specs.Output.{Writes, WritesBeginning};
-ghost use Rattle.lpmtool.specs.Run.{IsDone, IsBegun, IsCause, IsOutput, EndsCommand};
-ghost use Rattle.lpmtool.specs.Run.{IsShown, EndsRefused};
+ghost use Rattle.lpm_program.specs.Run.{IsDone, IsBegun, IsCause, IsOutput, EndsCommand};
+ghost use Rattle.lpm_program.specs.Run.{IsShown, EndsRefused};
 ghost use Rattle.lpm_commands.specs.Status.{status_of};
 
 use bulk::Open;
