@@ -16,3 +16,5 @@ mod ends;
 mod judging;
 #[cfg(test)]
 mod plan;
+#[cfg(test)]
+mod planted;
