@@ -1,11 +1,11 @@
-use Rattle.std.proofs.Common.{ap, sym, ◌∙◌, subst, refl, true}
+use Rattle.std.proofs.Common.{rules, ap, sym, ◌∙◌, subst, refl, true}
 use Rattle.std.specs.Prelude.{slice_index}
 use Rattle.lpm_cells.specs.Table.{with_first}
 use Rattle.lpm_update.specs.declared.Did.TheVariants.{Unlinked, Done}
 use Rattle.lpm_update.specs.declared.update.Plan.TheVariants.{Range, Unlink}
 use Rattle.lpm_update.specs.UnlinkGroup.{IsUnlinkStore}
 use Rattle.lpm_update.specs.Step.{Steps}
-use Rattle.lpm_update.proofs.Unlinks.{one_entry, unlink_link}
+use Rattle.lpm_update.proofs.Unlinks.{one_entry, unlink_link, unlink_range}
 use Rattle.lpm_update.proofs.unlink_group.UnlinkGroup.step.Goals as goal
 
 pub unlink-group-requires-clause-group : goal.unlink-group-requires-clause-group
@@ -45,3 +45,10 @@ returns-clause-steps g c =
     subst (Steps f s (Unlink u) W (Unlinked u.block n) (Unlink (record u { range = r; unlinked = true })))
     (sym (after.words ∙ ap (λ x. with_first (C.words x) u.block w) same))
     (unlink_link f s u W there r n w (c.requires.under_way.0 there) range (c.step.ensures.skips c.in-Done.is) (subst (λ x. IsUnlinkStore s (C.words x) u.block n w) same after.store))
+
+pub returns-in_default-clause-steps : goal.returns-in_default-clause-steps
+returns-in_default-clause-steps g c =
+    let W = g.C.Cells.words c.args.cells.now in
+    let u = c.args.self.now in
+    let there = c.if-self.false in
+    unlink_range g.row.FIRST g.row.SECOND u W there (c.requires.under_way.0 there) c.step.new.self (g.C.Cells.words c.step.new.cells) c.step.result (search rules) c.step.ensures.steps
