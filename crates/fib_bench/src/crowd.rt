@@ -1,6 +1,5 @@
 //! Lookups by several passes at once, beside a writer that changes the table.
 
-use crate::lookups::ROUNDS;
 use crate::passes::{Changer, Reader};
 use crate::report::{Hundredths, each_second, hundredths_of_nanos, nanos, ratio};
 use crate::routes::{Route, of_lengths};
@@ -11,14 +10,31 @@ use std::sync::atomic::{AtomicBool, Ordering};
 use std::thread::{Threads, for_each_mut, join_mut};
 use std::time::{Duration, Instant};
 
-/// The least time in which passes looked all addresses up at once, the sum of these times, and how many
-/// changes the writer made in it.
+/// How long passes took that looked all addresses up at once: each by the mean, and until the last had ended.
+#[derive(Clone, Copy)]
+struct Times {
+    mean: Duration,
+    last: Duration,
+}
+
+/// The least times of all rounds, their sum until the last pass had ended, and how many changes the
+/// writer made in them.
 #[derive(Clone, Copy)]
 struct AtOnce {
-    least: Duration,
+    least: Times,
     total: Duration,
     made: u64,
 }
+
+/// What stands before the first round.
+const NO_ROUND: AtOnce = AtOnce {
+    least: Times {
+        mean: Duration::MAX,
+        last: Duration::MAX,
+    },
+    total: Duration::ZERO,
+    made: 0,
+};
 
 /// What the writer does while passes look up: the name of these changes, and the routes that it changes.
 #[derive(Clone, Copy)]
@@ -27,10 +43,18 @@ struct Changes<'a> {
     routes: &'a [Route],
 }
 
-/// How many passes look up at once, and how they are called.
-const CROWDS: [(usize, &str); 3] = [(1, "1 pass"), (2, "2 passes"), (4, "4 passes")];
+/// How often the passes look up without changes and beside each kind of changes, in turns.
+const TURNS: usize = 15;
 
-/// Prints what the lookups of 1, 2 and 4 passes take at once: while nothing changes, and while the writer
+/// How many passes look up at once, and how they are called.
+const CROWDS: [(usize, &str); 4] = [
+    (1, "1 pass"),
+    (2, "2 passes"),
+    (3, "3 passes"),
+    (4, "4 passes"),
+];
+
+/// Prints what the lookups of 1 to 4 passes take at once: while nothing changes, and while the writer
 /// changes routes of up to 24 bits, and longer ones.
 pub(crate) fn print_at_once<R: Clock + Print + AllocGlobal + Threads + Sync>(
     rt: &R,
@@ -41,55 +65,59 @@ pub(crate) fn print_at_once<R: Clock + Print + AllocGlobal + Threads + Sync>(
 ) -> Result<()> {
     let short = of_lengths(rt.alloc(), routes, 0, 24)?;
     let long = of_lengths(rt.alloc(), routes, 25, 32)?;
-    let short = Changes {
-        name: "short changes",
-        routes: short.as_slice(),
-    };
-    let long = Changes {
-        name: "long changes",
-        routes: long.as_slice(),
-    };
-    print_crowds(rt, readers, changer, &[short, long], addrs)
+    let all = [
+        Changes {
+            name: "no changes",
+            routes: &[],
+        },
+        Changes {
+            name: "short changes",
+            routes: short.as_slice(),
+        },
+        Changes {
+            name: "long changes",
+            routes: long.as_slice(),
+        },
+    ];
+    print_crowds(rt, readers, changer, &all, addrs)
 }
 
-/// Prints what the lookups of each number of passes take at once, while nothing changes and beside each of
-/// these changes.
+/// Prints what the lookups of each number of passes take at once, beside each kind of changes.
 fn print_crowds<R: Clock + Print + Threads + Sync>(
     rt: &R,
     readers: &mut [Reader<'_>],
     changer: &mut Changer<'_>,
-    all: &[Changes<'_>],
+    all: &[Changes<'_>; 3],
     addrs: &[u32],
 ) -> Result<()> {
     for &(count, passes) in &CROWDS {
         let count = readers.len().min(count);
-        print_crowd(rt, passes, &mut readers[..count], changer, all, addrs)?;
+        let found = measure_in_turns(rt, &mut readers[..count], changer, all, addrs)?;
+        print_crowd(rt, passes, count, all, &found, addrs.len())?;
     }
     Ok(())
 }
 
-/// Prints what the lookups of these readers take at once.
-fn print_crowd<R: Clock + Print + Threads + Sync>(
+/// Prints what so many lookups by each of these passes took beside each kind of changes.
+fn print_crowd<R: Print>(
     rt: &R,
     passes: &str,
-    readers: &mut [Reader<'_>],
-    changer: &mut Changer<'_>,
-    all: &[Changes<'_>],
-    addrs: &[u32],
+    count: usize,
+    all: &[Changes<'_>; 3],
+    found: &[AtOnce; 3],
+    addrs: usize,
 ) -> Result<()> {
-    let count = readers.len();
-    let quiet = measure(rt, readers, changer, &[], addrs)?;
-    print_speed(rt, passes, "no changes", quiet, count, addrs.len())?;
-    for changes in all {
-        let beside = measure(rt, readers, changer, changes.routes, addrs)?;
-        print_speed(rt, passes, changes.name, beside, count, addrs.len())?;
-        print_changes(rt, passes, changes.name, beside, quiet)?;
+    let quiet = found[0];
+    print_speed(rt, passes, all[0].name, quiet, count, addrs)?;
+    for (changes, beside) in all.iter().zip(found).skip(1) {
+        print_speed(rt, passes, changes.name, *beside, count, addrs)?;
+        print_changes(rt, passes, changes.name, *beside, quiet)?;
     }
     Ok(())
 }
 
 /// Prints the nanoseconds that a lookup takes where so many passes look so many addresses up at once, and
-/// how many lookups they make a second together.
+/// how many lookups they make a second together until the last has ended.
 fn print_speed<R: Print>(
     rt: &R,
     passes: &str,
@@ -98,8 +126,8 @@ fn print_speed<R: Print>(
     count: usize,
     addrs: usize,
 ) -> Result<()> {
-    let each = hundredths_of_nanos(at_once.least, addrs);
-    let speed = each_second(at_once.least, addrs.saturating_mul(count));
+    let each = hundredths_of_nanos(at_once.least.mean, addrs);
+    let speed = each_second(at_once.least.last, addrs.saturating_mul(count));
     println!(rt; "{passes}, {changes}: {} ns each", Hundredths(each))?;
     println!(rt; "{passes}, {changes}: {speed} lookups a second")?;
     Ok(())
@@ -114,8 +142,13 @@ fn print_changes<R: Print>(
     beside: AtOnce,
     quiet: AtOnce,
 ) -> Result<()> {
-    let slower = ratio(nanos(beside.least), nanos(quiet.least));
+    let slower = ratio(nanos(beside.least.mean), nanos(quiet.least.mean));
     println!(rt; "ratio, {passes}, {changes}: {}", Hundredths(slower))?;
+    let last = ratio(nanos(beside.least.last), nanos(quiet.least.last));
+    println!(rt;
+        "ratio of the last, {passes}, {changes}: {}",
+        Hundredths(last)
+    )?;
     let made = usize::try_from(beside.made).unwrap_or(usize::MAX);
     println!(rt;
         "{changes} beside {passes}: {} a second",
@@ -124,46 +157,73 @@ fn print_changes<R: Print>(
     Ok(())
 }
 
-/// Lets each reader look all addresses up, again and again, while the writer changes these routes.
-fn measure<R: Clock + Threads + Sync>(
+/// Lets each reader look all addresses up beside each kind of changes in turns, so that whatever else
+/// slows the machine for a while slows each kind.
+fn measure_in_turns<R: Clock + Threads + Sync>(
     rt: &R,
     readers: &mut [Reader<'_>],
     changer: &mut Changer<'_>,
-    routes: &[Route],
+    all: &[Changes<'_>; 3],
     addrs: &[u32],
-) -> Result<AtOnce> {
-    let mut at_once = AtOnce {
-        least: Duration::MAX,
-        total: Duration::ZERO,
-        made: 0,
-    };
-    changer.made = 0;
-    for _ in 0..ROUNDS {
-        let time = look_up_beside(rt, readers, changer, routes, addrs)?;
-        at_once = AtOnce {
-            least: at_once.least.min(time),
-            total: at_once.total.saturating_add(time),
-            made: changer.made,
-        };
+) -> Result<[AtOnce; 3]> {
+    let mut found = [NO_ROUND; 3];
+    for _ in 0..TURNS {
+        measure_each(rt, readers, changer, all, &mut found, addrs)?;
     }
-    Ok(at_once)
+    Ok(found)
 }
 
-/// How long it takes until each reader has looked all addresses up, while the writer changes these routes.
+/// Lets each reader look all addresses up once beside each kind of changes.
+fn measure_each<R: Clock + Threads + Sync>(
+    rt: &R,
+    readers: &mut [Reader<'_>],
+    changer: &mut Changer<'_>,
+    all: &[Changes<'_>; 3],
+    found: &mut [AtOnce; 3],
+    addrs: &[u32],
+) -> Result<()> {
+    for (changes, found) in all.iter().zip(found.iter_mut()) {
+        changer.made = 0;
+        let times = look_up_beside(rt, readers, changer, changes.routes, addrs)?;
+        *found = AtOnce {
+            least: Times {
+                mean: found.least.mean.min(times.mean),
+                last: found.least.last.min(times.last),
+            },
+            total: found.total.saturating_add(times.last),
+            made: found.made.saturating_add(changer.made),
+        };
+    }
+    Ok(())
+}
+
+/// How long each reader takes to look all addresses up, while the writer changes these routes.
 fn look_up_beside<R: Clock + Threads + Sync>(
     rt: &R,
     readers: &mut [Reader<'_>],
     changer: &mut Changer<'_>,
     routes: &[Route],
     addrs: &[u32],
-) -> io::Result<Duration> {
+) -> io::Result<Times> {
     let is_over = AtomicBool::new(false);
-    let (_, time) = join_mut(
+    let (_, last) = join_mut(
         rt,
         &mut || changer.change_until(routes, &is_over),
         &mut || look_up_and_tell(rt, addrs, &is_over, readers),
     );
-    time
+    Ok(Times {
+        mean: mean_of(readers),
+        last: last?,
+    })
+}
+
+/// The mean of the times that the readers took.
+fn mean_of(readers: &[Reader<'_>]) -> Duration {
+    let mut sum = 0u64;
+    for reader in readers {
+        sum = sum.saturating_add(nanos(reader.took));
+    }
+    Duration::from_nanos(sum / (readers.len() as u64).max(1))
 }
 
 /// How long it takes until each reader has looked all addresses up. Then it tells that they are over.
@@ -190,7 +250,7 @@ fn look_up_at_once<R: Clock + Threads + Sync>(
         rt,
         readers,
         threads,
-        &|_: usize, reader: &mut Reader<'_>| reader.add_reporting(addrs),
+        &|_: usize, reader: &mut Reader<'_>| reader.add_timed(rt, addrs),
     );
     start.elapsed(rt)
 }

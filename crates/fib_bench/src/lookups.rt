@@ -49,7 +49,7 @@ pub(crate) const ASCENDING: u32 = 16_777_216;
 /// How far one ascending address is from the next.
 pub(crate) const STRIDE: u32 = 251;
 /// How often each time is taken: the least one counts.
-pub(crate) const ROUNDS: usize = 5;
+const ROUNDS: usize = 5;
 
 impl Addresses<'_> {
     /// How many there are.
@@ -181,7 +181,7 @@ pub(crate) fn compare<R: Clock, T: Table, U: Table>(
 }
 
 /// How long the lookups at all addresses take, and the sum with their next hops.
-fn timed<R: Clock, T: Table>(
+pub(crate) fn timed<R: Clock, T: Table>(
     rt: &R,
     table: &T,
     addresses: Addresses<'_>,
@@ -190,31 +190,4 @@ fn timed<R: Clock, T: Table>(
     let start = Instant::now(rt)?;
     let sum = add_numbers(table, addresses, sum);
     Ok((start.elapsed(rt)?, sum))
-}
-
-/// The least time that all lookups took, and the sum of all next hops that were found.
-#[derive(Clone, Copy)]
-pub(crate) struct Least {
-    pub(crate) time: Duration,
-    pub(crate) sum: u64,
-}
-
-/// Reads a table at these addresses, again and again.
-pub(crate) fn measure_alone<R: Clock, T: Table>(
-    rt: &R,
-    table: &T,
-    addresses: Addresses<'_>,
-) -> Result<Least> {
-    let mut least = Least {
-        time: Duration::MAX,
-        sum: 0,
-    };
-    for _ in 0..ROUNDS {
-        let (time, sum) = timed(rt, table, addresses, least.sum)?;
-        least = Least {
-            time: least.time.min(time),
-            sum,
-        };
-    }
-    Ok(least)
 }

@@ -7,7 +7,9 @@ use crate::lookups::{ASCENDING, STRIDE, number_of};
 use crate::routes::Route;
 use anyhow::Result;
 use shared_fib::{Bench, Pass, SharedTable, Writer};
+use std::rt::Clock;
 use std::sync::atomic::{AtomicBool, Ordering};
+use std::time::{Duration, Instant};
 
 /// After how many lookups a worker reports that it is quiescent.
 const BETWEEN_REPORTS: usize = 1024;
@@ -23,12 +25,14 @@ pub(crate) enum Lookups<'a> {
     Ascending,
 }
 
-/// A worker, and the sum of the next hops that it has found. It is online while it looks up.
+/// A worker, the sum of the next hops that it has found, and how long it took to look addresses up beside
+/// others. It is online while it looks up.
 #[derive(Drop)]
 pub(crate) struct Reader<'a> {
     table: &'a SharedTable<24, 8>,
     pass: Pass,
     pub(crate) sum: u64,
+    pub(crate) took: Duration,
     ghost own: { identity_of pass ≡ table.now },
 }
 
@@ -47,6 +51,7 @@ impl<'a> Reader<'a> {
             table,
             pass,
             sum: 0,
+            took: Duration::ZERO,
         })
     }
 
@@ -67,8 +72,18 @@ impl<'a> Reader<'a> {
         }
     }
 
+    /// Looks these addresses up, reports now and then that the worker is quiescent, and notes how long it
+    /// took: the greatest time where the clock can't be read.
+    pub(crate) fn add_timed<R: Clock>(&mut self, rt: &R, addrs: &[u32]) {
+        self.took = Duration::MAX;
+        if let Ok(start) = Instant::now(rt) {
+            self.add_reporting(addrs);
+            self.took = start.elapsed(rt).unwrap_or(Duration::MAX);
+        }
+    }
+
     /// Looks these addresses up, and reports now and then that the worker is quiescent.
-    pub(crate) fn add_reporting(&mut self, addrs: &[u32]) {
+    fn add_reporting(&mut self, addrs: &[u32]) {
         if self.pass.is_online() {
             return;
         }

@@ -1,14 +1,13 @@
 //! The whole run, and what it prints.
 
-ghost use Rattle.std.specs.Prelude.{◌<◌, ℕ, IfOk, length};
-ghost use Rattle.fib_model.specs.Counting.{by_counters};
+ghost use Rattle.std.specs.Prelude.{◌<◌, length};
 ghost use Rattle.lpm_limits.specs.Limits.{IsConfig};
 
 use crate::changes::{add_all, delete_all};
 use crate::lookups::{Addresses, compare, deep_addresses, half_deep_addresses, random_addresses};
 use crate::pieces::print_pieces;
 use crate::routes::{Route, deep_blocks, fill, full_block};
-use crate::running::{Measured, WORKERS, measure_left, print_running};
+use crate::running::{Drawn, WORKERS, add_left, print_running};
 use crate::words::Words;
 use anyhow::Result;
 use fib::Fib;
@@ -24,14 +23,17 @@ use std::time::Duration;
 /// The greatest number of routes of which a part is deleted and added again.
 pub(crate) const SAMPLE: usize = 10_000;
 
-/// Measures a table of that many routes, and prints a line for each figure.
+/// Measures a table of that many routes, and prints a line for each figure. Then it measures another one
+/// with the same routes as a running table, beside the first.
 pub(crate) fn run<R: Clock + Print + AllocGlobal + Threads + Sync>(
     rt: &R,
     count: usize,
 ) -> Result<()> {
     let mut table = Fib::<24, 8>::open(rt.alloc(), limits())?;
-    let measured = measure_alone(rt, &mut table, count)?;
-    print_running(rt, table, &measured)
+    let drawn = measure_alone(rt, &mut table, count)?;
+    let mut other = Fib::<24, 8>::open(rt.alloc(), limits())?;
+    add_left(rt, &mut other, drawn.routes.as_slice())?;
+    print_running(rt, other, &table, &drawn)
 }
 
 /// Adds that many random routes to the table, and measures it as one of one thread.
@@ -39,14 +41,12 @@ fn measure_alone<R: Clock + Print + AllocGlobal + Threads + Sync>(
     rt: &R,
     table: &mut Fib<24, 8>,
     count: usize,
-) -> Result<Measured>
-    ensures { IfOk result (λ _. (worker : ℕ) → worker < table.new.config.workers
-        → ¬ by_counters.is_online table.new.table.readers worker) }
-{
+) -> Result<Drawn> {
     let mut random = Xoshiro256PlusPlus::seed_from_u64(1);
     let routes = fill(rt.alloc(), table, &mut random, count)?;
     print_alone(rt, table, routes.as_slice(), &mut random)?;
-    measure_left(rt, table, routes, &mut random)
+    let addrs = random_addresses(rt.alloc(), &mut random)?;
+    Ok(Drawn { routes, addrs })
 }
 
 /// Prints the size of a table of one thread that has these routes, and what its lookups and changes take.

@@ -5,7 +5,6 @@ ghost use Rattle.std.specs.Prelude.{◌≡◌, ◌<◌, ◌≤◌, ◌↔◌, If
 use anyhow::{Result, ensure};
 use fib::Fib;
 use lpm_bits::{Hop, Prefix};
-use lpm_rules::Put;
 use rand_core::Rng;
 use std::alloc::{AllocError, Global};
 
@@ -33,7 +32,7 @@ pub(crate) fn fill<R: Rng>(
     Ok(routes)
 }
 
-/// Adds routes to the table and to those that it has, until that many are there.
+/// Adds routes to the table, which has none of their prefixes, and to the list, until that many are there.
 fn draw_all<R: Rng>(
     table: &mut Fib<24, 8>,
     random: &mut R,
@@ -47,7 +46,8 @@ fn draw_all<R: Rng>(
             break;
         }
         let route = draw(random)?;
-        if let Put::Added = table.add(&route.prefix, route.hop)? {
+        if table.get(&route.prefix).is_none() {
+            table.add(&route.prefix, route.hop)?;
             routes.push(route)?;
         }
     }

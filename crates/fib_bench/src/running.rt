@@ -1,19 +1,20 @@
 //! A running table: lookups by passes and changes by its writer, at rest and at once.
 
-ghost use Rattle.std.specs.Prelude.{◌≡◌, ◌<◌, ◌≤◌, ℕ, IfOk, IsTrue, OnOk, length, vec_len};
+ghost use Rattle.std.specs.Prelude.{◌≡◌, ◌<◌, ℕ, IfOk, IsTrue, OnOk, length, vec_len};
 ghost use Rattle.fib_model.specs.Counting.{by_counters};
 ghost use Rattle.shared_fib.specs.Running.{IsBenchOf};
 
+use crate::changes::add_all;
 use crate::crowd::print_at_once;
-use crate::lookups::{Addresses, Least, ROUNDS, measure_alone, random_addresses};
+use crate::lookups::{Addresses, timed};
 use crate::passes::{Changer, Lookups, Reader};
-use crate::report::{Hundredths, SAMPLE, each_second, hundredths_of_nanos, ratio};
+use crate::report::{Hundredths, SAMPLE, each_second, hundredths_of_nanos, nanos, ratio};
 use crate::routes::Route;
 use anyhow::{Result, ensure};
 use fib::Fib;
-use rand_core::Rng;
 use shared_fib::{Bench, SharedTable, go_live};
 use std::alloc::Global;
+use std::io;
 use std::rt::Clock;
 use std::thread::Threads;
 use std::time::{Duration, Instant};
@@ -21,81 +22,41 @@ use std::time::{Duration, Instant};
 /// How many workers the table has.
 pub(crate) const WORKERS: usize = 4;
 
-/// What the lookups of a table take while it isn't a running one.
-#[derive(Clone, Copy)]
-struct Alone {
-    listed: Least,
-    ascending: Least,
-}
+/// How often each time is taken, in turns with those that it is compared with: the least one counts.
+const TURNS: usize = 15;
 
-/// What is left of a table that was measured alone: its routes, addresses with any bits, and what lookups took
-/// at them.
+/// The routes of a table, and addresses with any bits.
 #[derive(Drop)]
-pub(crate) struct Measured {
-    routes: Vec<Route>,
-    addrs: Vec<u32>,
-    alone: Alone,
+pub(crate) struct Drawn {
+    pub(crate) routes: Vec<Route>,
+    pub(crate) addrs: Vec<u32>,
 }
 
-/// Measures the table, which has these routes, once more before it goes on as a running one. It is an error if a
-/// worker is online.
-pub(crate) fn measure_left<R: Clock + AllocGlobal, G: Rng>(
-    rt: &R,
-    table: &Fib<24, 8>,
-    routes: Vec<Route>,
-    random: &mut G,
-) -> Result<Measured>
-    ensures { IfOk result (λ _. (worker : ℕ) → worker < table.now.config.workers
-        → ¬ by_counters.is_online table.now.table.readers worker) }
+/// Adds these routes to the table. It is an error if a worker is online.
+pub(crate) fn add_left<R: Clock>(rt: &R, table: &mut Fib<24, 8>, routes: &[Route]) -> Result<()>
+    ensures { OnOk result ((worker : ℕ) → worker < table.new.config.workers
+        → ¬ by_counters.is_online table.new.table.readers worker) }
 {
-    let addrs = random_addresses(rt.alloc(), random)?;
-    let alone = measure(rt, table, addrs.as_slice())?;
-    Ok(Measured {
-        routes,
-        addrs,
-        alone,
-    })
+    add_all(rt, table, routes)?;
+    ensure!(is_left(table), "a worker is online");
+    Ok(())
 }
 
 /// Goes on with the table, of which no worker is online, as a running one, and prints what its lookups and
-/// changes take.
+/// changes take, its lookups beside those of the other, which has the same routes.
 pub(crate) fn print_running<R: Clock + Print + AllocGlobal + Threads + Sync>(
     rt: &R,
     table: Fib<24, 8>,
-    measured: &Measured,
+    other: &Fib<24, 8>,
+    drawn: &Drawn,
 ) -> Result<()>
     requires offline { (worker : ℕ) → worker < table.config.workers
         → ¬ by_counters.is_online table.table.readers worker }
 {
     let (table, writer, mut bench) = go_live(rt.alloc(), table)?;
     let mut changer = Changer::new(&table, writer);
-    print_live(rt, &table, &mut bench, &mut changer, measured)
-}
-
-/// What lookups of the table take at these addresses, and at the ascending ones. It is an error if a worker is
-/// online.
-fn measure<R: Clock>(rt: &R, table: &Fib<24, 8>, addrs: &[u32]) -> Result<Alone>
-    ensures { OnOk result ((worker : ℕ) → worker < table.now.config.workers
-        → ¬ by_counters.is_online table.now.table.readers worker) }
-{
-    ensure!(is_left(table), "a worker is online");
-    let listed = measure_alone(rt, table, Addresses::Listed(addrs))?;
-    let ascending = measure_alone(rt, table, Addresses::Ascending)?;
-    Ok(Alone { listed, ascending })
-}
-
-/// Prints what lookups by the workers of the bench and changes by the writer take.
-fn print_live<R: Clock + Print + AllocGlobal + Threads + Sync>(
-    rt: &R,
-    table: &SharedTable<24, 8>,
-    bench: &mut Bench,
-    changer: &mut Changer<'_>,
-    measured: &Measured,
-) -> Result<()>
-    requires own { IsBenchOf table.now bench.old }
-{
-    let mut readers = readers_of(rt.alloc(), table, bench)?;
-    print_readers(rt, readers.as_mut_slice(), changer, measured)
+    let mut readers = readers_of(rt.alloc(), &table, &mut bench)?;
+    print_readers(rt, readers.as_mut_slice(), &mut changer, other, drawn)
 }
 
 /// Prints what lookups by these readers and changes by the writer take, one after the other and at once.
@@ -103,13 +64,14 @@ fn print_readers<R: Clock + Print + AllocGlobal + Threads + Sync>(
     rt: &R,
     readers: &mut [Reader<'_>],
     changer: &mut Changer<'_>,
-    measured: &Measured,
+    other: &Fib<24, 8>,
+    drawn: &Drawn,
 ) -> Result<()>
     requires { 0 < length readers.old }
 {
-    let addrs = measured.addrs.as_slice();
-    let routes = measured.routes.as_slice();
-    print_at_rest(rt, &mut readers[0], addrs, measured.alone)?;
+    let addrs = drawn.addrs.as_slice();
+    let routes = drawn.routes.as_slice();
+    print_at_rest(rt, &mut readers[0], other, addrs)?;
     print_changes(rt, changer, &routes[..routes.len().min(SAMPLE)])?;
     print_at_once(rt, readers, changer, routes, addrs)
 }
@@ -144,57 +106,107 @@ fn readers_of<'a>(
     Ok(readers)
 }
 
-/// Prints what the lookups of one pass take while nothing changes, beside those of the table alone.
+/// Prints what the lookups of one pass take while nothing changes, beside those of the other table.
 fn print_at_rest<R: Clock + Print>(
     rt: &R,
     reader: &mut Reader<'_>,
+    other: &Fib<24, 8>,
     addrs: &[u32],
-    alone: Alone,
 ) -> Result<()> {
-    let pass = least_of(rt, reader, Lookups::Listed(addrs))?;
-    print_beside(rt, "pass, random", addrs.len(), pass, alone.listed)?;
-    let fours = least_of(rt, reader, Lookups::Fours(addrs))?;
-    print_beside(rt, "pass by fours, random", addrs.len(), fours, pass)?;
+    print_random(rt, reader, other, addrs)?;
+    let mut least = [Duration::MAX];
+    let kinds = [Lookups::Ascending];
+    let alone = in_turns(rt, reader, other, Addresses::Ascending, &kinds, &mut least)?;
     let count = Addresses::Ascending.count();
-    let pass = least_of(rt, reader, Lookups::Ascending)?;
-    print_beside(rt, "pass, ascending", count, pass, alone.ascending)?;
-    let more = hundredths_of_nanos(pass.time.saturating_sub(alone.ascending.time), count);
+    print_beside(rt, "pass, ascending", count, least[0], alone)?;
+    let more = hundredths_of_nanos(least[0].saturating_sub(alone), count);
     println!(rt; "difference, pass, ascending: {} ns each", Hundredths(more))?;
     Ok(())
 }
 
-/// Prints what so many lookups take, each in nanoseconds, beside others that find the same next hops.
+/// Prints what the lookups of one pass at these addresses take, one by one and by fours, beside those of
+/// the other table.
+fn print_random<R: Clock + Print>(
+    rt: &R,
+    reader: &mut Reader<'_>,
+    other: &Fib<24, 8>,
+    addrs: &[u32],
+) -> Result<()> {
+    let mut least = [Duration::MAX; 2];
+    let kinds = [Lookups::Listed(addrs), Lookups::Fours(addrs)];
+    let alone = in_turns(
+        rt,
+        reader,
+        other,
+        Addresses::Listed(addrs),
+        &kinds,
+        &mut least,
+    )?;
+    print_beside(rt, "pass, random", addrs.len(), least[0], alone)?;
+    print_beside(rt, "pass by fours, random", addrs.len(), least[1], least[0])
+}
+
+/// Prints what so many lookups take, each in nanoseconds, and how often that is what the others take.
 fn print_beside<R: Print>(
     rt: &R,
     what: &str,
     count: usize,
-    lookups: Least,
-    others: Least,
+    lookups: Duration,
+    others: Duration,
 ) -> Result<()> {
-    ensure!(
-        lookups.sum == others.sum,
-        "the sums of the next hops differ"
-    );
-    let each = hundredths_of_nanos(lookups.time, count);
-    let other = hundredths_of_nanos(others.time, count);
+    let each = hundredths_of_nanos(lookups, count);
     println!(rt; "{what}: {} ns each", Hundredths(each))?;
-    println!(rt; "ratio, {what}: {}", Hundredths(ratio(each, other)))?;
+    let times = ratio(nanos(lookups), nanos(others));
+    println!(rt; "ratio, {what}: {}", Hundredths(times))?;
     Ok(())
 }
 
-/// The least time of these lookups by one pass, and the sum of all next hops that it has found.
-fn least_of<R: Clock>(rt: &R, reader: &mut Reader<'_>, lookups: Lookups<'_>) -> Result<Least> {
-    let mut time = Duration::MAX;
-    reader.sum = 0;
-    for _ in 0..ROUNDS {
-        let start = Instant::now(rt)?;
-        reader.look_up(lookups);
-        time = time.min(start.elapsed(rt)?);
+/// Reads the other table at these addresses, and lets the pass look them up in each of these ways, in
+/// turns, so that whatever else slows the machine for a while slows each of them. It returns the least time
+/// of the other table, and lowers the least times of the pass.
+fn in_turns<R: Clock>(
+    rt: &R,
+    reader: &mut Reader<'_>,
+    other: &Fib<24, 8>,
+    addresses: Addresses<'_>,
+    kinds: &[Lookups<'_>],
+    least: &mut [Duration],
+) -> Result<Duration> {
+    let mut alone = Duration::MAX;
+    for _ in 0..TURNS {
+        let (time, sum) = timed(rt, other, addresses, 0)?;
+        alone = alone.min(time);
+        take_turn(rt, reader, kinds, sum, least)?;
     }
-    Ok(Least {
-        time,
-        sum: reader.sum,
-    })
+    Ok(alone)
+}
+
+/// Lets the pass look addresses up once in each of these ways. The next hops have to have this sum.
+fn take_turn<R: Clock>(
+    rt: &R,
+    reader: &mut Reader<'_>,
+    kinds: &[Lookups<'_>],
+    sum: u64,
+    least: &mut [Duration],
+) -> Result<()> {
+    for (lookups, least) in kinds.iter().zip(least.iter_mut()) {
+        let (time, same) = timed_by(rt, reader, *lookups)?;
+        ensure!(sum == same, "the sums of the next hops differ");
+        *least = (*least).min(time);
+    }
+    Ok(())
+}
+
+/// How long these lookups by the pass take, and the sum of the next hops that they find.
+fn timed_by<R: Clock>(
+    rt: &R,
+    reader: &mut Reader<'_>,
+    lookups: Lookups<'_>,
+) -> io::Result<(Duration, u64)> {
+    reader.sum = 0;
+    let start = Instant::now(rt)?;
+    reader.look_up(lookups);
+    Ok((start.elapsed(rt)?, reader.sum))
 }
 
 /// Prints what it takes to delete these routes and to add them again.
