@@ -7,7 +7,7 @@ use crate::changes::{add_all, delete_all};
 use crate::lookups::{Addresses, compare, deep_addresses, half_deep_addresses, random_addresses};
 use crate::pieces::print_pieces;
 use crate::routes::{Route, deep_blocks, fill, full_block};
-use crate::running::{Drawn, WORKERS, add_left, print_running};
+use crate::running::{Drawn, WORKERS, add_offline, print_running};
 use crate::words::Words;
 use anyhow::Result;
 use fib::Fib;
@@ -32,7 +32,7 @@ pub(crate) fn run<R: Clock + Print + AllocGlobal + Threads + Sync>(
     let mut table = Fib::<24, 8>::open(rt.alloc(), limits())?;
     let drawn = measure_alone(rt, &mut table, count)?;
     let mut other = Fib::<24, 8>::open(rt.alloc(), limits())?;
-    add_left(rt, &mut other, drawn.routes.as_slice())?;
+    add_offline(rt, &mut other, drawn.routes.as_slice())?;
     print_running(rt, other, &table, &drawn)
 }
 
@@ -92,8 +92,8 @@ fn print_all_lookups<R: Clock + Print + AllocGlobal + Threads + Sync, G: Rng>(
     print_each_kind(rt, table, &words, blocks.as_slice(), random)
 }
 
-/// Prints what lookups take at addresses of each kind. Each of these blocks, given by its first address, has a
-/// deep route.
+/// Prints what lookups take at addresses of each kind. Each of these blocks, given by its first address,
+/// has a deep route.
 fn print_each_kind<R: Clock + Print + AllocGlobal + Threads + Sync, G: Rng>(
     rt: &R,
     table: &Fib<24, 8>,

@@ -33,12 +33,12 @@ pub(crate) struct Drawn {
 }
 
 /// Adds these routes to the table. It is an error if a worker is online.
-pub(crate) fn add_left<R: Clock>(rt: &R, table: &mut Fib<24, 8>, routes: &[Route]) -> Result<()>
+pub(crate) fn add_offline<R: Clock>(rt: &R, table: &mut Fib<24, 8>, routes: &[Route]) -> Result<()>
     ensures { OnOk result ((worker : ℕ) → worker < table.new.config.workers
         → ¬ by_counters.is_online table.new.table.readers worker) }
 {
     add_all(rt, table, routes)?;
-    ensure!(is_left(table), "a worker is online");
+    ensure!(is_offline(table), "a worker is online");
     Ok(())
 }
 
@@ -77,7 +77,7 @@ fn print_readers<R: Clock + Print + AllocGlobal + Threads + Sync>(
 }
 
 /// Whether no worker of the table is online.
-fn is_left(table: &Fib<24, 8>) -> bool
+fn is_offline(table: &Fib<24, 8>) -> bool
     ensures { IsTrue result → (worker : ℕ) → worker < table.now.config.workers
         → ¬ by_counters.is_online table.now.table.readers worker }
 {

@@ -1,6 +1,6 @@
 use Rattle.std.proofs.Common.{ℕ, ◌<◌}
 use Rattle.fib_model.specs.Counting.{by_counters}
-use Rattle.fib_bench.proofs.running.is_left.Given as goal
+use Rattle.fib_bench.proofs.running.is_offline.Given as goal
 
 -- the workers before this one are offline
 abbrev pub invariant-loop-worker : goal.invariant-loop-worker
