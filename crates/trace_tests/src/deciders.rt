@@ -5,6 +5,7 @@ mod two_workers;
 
 use lpm_trace::{Actor, Deed, Kind, Step};
 use std::alloc::{AllocError, Global};
+use std::process::Abort;
 use std::test::Fail;
 use trace_reference::{
     PlainRule, Seen, Setting, Versions, deeds_are_done, deeds_are_sound, is_legal,
@@ -210,6 +211,46 @@ fn with_swapped(
     Ok(swapped)
 }
 
+/// A fault to be planted in a trace, at the step of a number.
+#[derive(Clone, Copy)]
+enum Fault {
+    /// The step has another value.
+    Value(usize, u64),
+    /// The step has another index.
+    Index(usize, u64),
+    /// Two steps stand in each other's place.
+    Swapped(usize, usize),
+    /// The step is left out.
+    LeftOut(usize),
+}
+
+/// The steps with the fault.
+fn with_fault(alloc: Global, steps: &[Step], fault: Fault) -> Result<Vec<Step>, AllocError> {
+    match fault {
+        Fault::Value(number, value) => with_value(alloc, steps, number, value),
+        Fault::Index(number, index) => with_index(alloc, steps, number, index),
+        Fault::Swapped(one, other) => with_swapped(alloc, steps, one, other),
+        Fault::LeftOut(number) => without(alloc, steps, &[number]),
+    }
+}
+
+/// With each of these faults, the steps of the writer are refused.
+fn assert_refused(
+    rt: &impl Abort,
+    alloc: Global,
+    setting: &Setting,
+    versions: &Versions,
+    steps: &[Step],
+    faults: &[Fault],
+) -> Result<(), Fail> {
+    for (place, fault) in faults.iter().enumerate() {
+        let changed = with_fault(alloc, steps, *fault)?;
+        let is_accepted = writes_in_order(alloc, setting, versions, &changed)?;
+        assert!(rt; !is_accepted, "fault {place}");
+    }
+    Ok(())
+}
+
 fn seen(addr: u32, hop: Option<u32>, span: (usize, usize), versions: (u64, u64)) -> Seen {
     Seen {
         addr,
@@ -305,9 +346,14 @@ fn deeds_of_the_good_trace(rt: HostRuntime) -> Result<(), Fail> {
     let alloc = rt.alloc();
     let steps = good(alloc)?;
     assert!(rt; deeds_are_sound(&SMALL, &DEEDS));
-    assert!(rt; deeds_are_done(alloc, &SMALL, &good(alloc)?, 0, &DEEDS)?);
-    assert!(rt; deeds_are_done(alloc, &SMALL, &until_the_delete(alloc)?, 0, &DEEDS)?);
-    assert!(rt; deeds_are_done(alloc, &SMALL, &without(alloc, &steps, &[32])?, 0, &DEEDS)?);
+    // The whole trace, the one without its last step, and its beginning.
+    for steps_done in [32, 31, 14] {
+        let beginning = steps.get(..steps_done).unwrap_or(&[]);
+        assert!(rt;
+            deeds_are_done(alloc, &SMALL, beginning, 0, &DEEDS)?,
+            "{steps_done}"
+        );
+    }
     Ok(())
 }
 
@@ -315,13 +361,18 @@ fn deeds_of_the_good_trace(rt: HostRuntime) -> Result<(), Fail> {
 fn deeds_that_were_not_done(rt: HostRuntime) -> Result<(), Fail> {
     let alloc = rt.alloc();
     let steps = good(alloc)?;
-    let changed = with_value(alloc, &steps, 17, 1)?;
-    assert!(rt; !deeds_are_done(alloc, &SMALL, &changed, 0, &DEEDS)?);
-    let changed = with_index(alloc, &steps, 13, 1)?;
-    assert!(rt; !deeds_are_done(alloc, &SMALL, &changed, 0, &DEEDS)?);
-    let changed = without(alloc, &steps, &[14])?;
-    assert!(rt; !deeds_are_done(alloc, &SMALL, &changed, 0, &DEEDS)?);
-    assert!(rt; !deeds_are_done(alloc, &SMALL, &good(alloc)?, 0, &[Deed::Online])?);
+    let faults = [Fault::Value(17, 1), Fault::Index(13, 1), Fault::LeftOut(14)];
+    for (place, fault) in faults.iter().enumerate() {
+        let changed = with_fault(alloc, &steps, *fault)?;
+        let are_done = deeds_are_done(alloc, &SMALL, &changed, 0, &DEEDS)?;
+        assert!(rt; !are_done, "fault {place}");
+    }
+    assert!(rt; !deeds_are_done(alloc, &SMALL, &steps, 0, &[Deed::Online])?);
+    Ok(())
+}
+
+#[test]
+fn deeds_that_cannot_be_done(rt: HostRuntime) -> Result<(), Fail> {
     assert!(rt; !deeds_are_sound(&SMALL, &[Deed::Lookup(0)]));
     assert!(rt; !deeds_are_sound(&SMALL, &[Deed::Online, Deed::Lookup(4)]));
     Ok(())
@@ -337,14 +388,16 @@ fn order_of_the_good_trace(rt: HostRuntime) -> Result<(), Fail> {
 #[test]
 fn stores_out_of_order(rt: HostRuntime) -> Result<(), Fail> {
     let alloc = rt.alloc();
-    let steps = good(alloc)?;
-    assert!(rt; !is_in_order(alloc, &with_swapped(alloc, &steps, 2, 3)?)?);
-    assert!(rt; !is_in_order(alloc, &with_swapped(alloc, &steps, 3, 4)?)?);
-    assert!(rt; !is_in_order(alloc, &with_value(alloc, &steps, 2, SEVEN)?)?);
-    assert!(rt; !is_in_order(alloc, &with_value(alloc, &steps, 10, SEVEN)?)?);
-    assert!(rt; !is_in_order(alloc, &with_value(alloc, &steps, 2, GROUP)?)?);
-    assert!(rt; !is_in_order(alloc, &with_value(alloc, &steps, 2, 1)?)?);
-    Ok(())
+    let faults = [
+        Fault::Swapped(2, 3),
+        Fault::Swapped(3, 4),
+        Fault::Value(2, SEVEN),
+        Fault::Value(10, SEVEN),
+        Fault::Value(2, GROUP),
+        Fault::Value(2, 1),
+    ];
+    let versions = versions(alloc)?;
+    assert_refused(&rt, alloc, &SMALL, &versions, &good(alloc)?, &faults)
 }
 
 // An update that leaves the rules as they are may store nothing; but a free group that it fills it links
@@ -371,30 +424,43 @@ fn a_group_that_is_filled_and_never_linked(rt: HostRuntime) -> Result<(), Fail> 
 #[test]
 fn tokens_and_checks_out_of_order(rt: HostRuntime) -> Result<(), Fail> {
     let alloc = rt.alloc();
-    let steps = good(alloc)?;
-    assert!(rt; !is_in_order(alloc, &without(alloc, &steps, &[11])?)?);
-    assert!(rt; !is_in_order(alloc, &with_swapped(alloc, &steps, 10, 11)?)?);
-    assert!(rt; !is_in_order(alloc, &with_swapped(alloc, &steps, 11, 12)?)?);
-    assert!(rt; !is_in_order(alloc, &without(alloc, &steps, &[18])?)?);
-    assert!(rt; !is_in_order(alloc, &with_value(alloc, &steps, 18, 1)?)?);
-    assert!(rt; !is_in_order(alloc, &with_index(alloc, &steps, 15, 1)?)?);
-    Ok(())
+    let faults = [
+        Fault::LeftOut(11),
+        Fault::Swapped(10, 11),
+        Fault::Swapped(11, 12),
+        Fault::LeftOut(18),
+        Fault::Value(18, 1),
+        Fault::Index(15, 1),
+    ];
+    let versions = versions(alloc)?;
+    assert_refused(&rt, alloc, &SMALL, &versions, &good(alloc)?, &faults)
 }
 
-#[test]
-fn lookups_of_the_good_trace(rt: HostRuntime) -> Result<(), Fail> {
-    let alloc = rt.alloc();
-    let versions = versions(alloc)?;
-    let steps = good(alloc)?;
-    let found = lookups(alloc, &SMALL, &steps, 0, &DEEDS)?;
-    let expected = [
+/// The lookups of the whole trace.
+fn good_lookups() -> [Seen; 5] {
+    [
         seen(0, Some(5), (8, 13), (1, 2)),
         seen(2, Some(7), (24, 28), (3, 3)),
         seen(0, None, (25, 25), (3, 3)),
         seen(3, None, (26, 29), (3, 3)),
         seen(1, None, (27, 27), (3, 3)),
-    ];
-    assert_eq!(rt; found.as_slice(), expected.as_slice());
+    ]
+}
+
+#[test]
+fn lookups_of_the_good_trace(rt: HostRuntime) -> Result<(), Fail> {
+    let alloc = rt.alloc();
+    let found = lookups(alloc, &SMALL, &good(alloc)?, 0, &DEEDS)?;
+    assert_eq!(rt; found.as_slice(), good_lookups().as_slice());
+    Ok(())
+}
+
+#[test]
+fn answers_of_the_good_trace(rt: HostRuntime) -> Result<(), Fail> {
+    let alloc = rt.alloc();
+    let versions = versions(alloc)?;
+    let steps = good(alloc)?;
+    let found = good_lookups();
     for one in &found {
         assert!(rt; is_legal(&SMALL, &versions, &steps, one));
     }

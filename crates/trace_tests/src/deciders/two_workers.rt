@@ -1,7 +1,7 @@
 //! A trace of two workers and two groups: a flush that unlinks both and reclaims, a synchronize, and
 //! an add that takes a group again; and planted faults in it.
 
-use super::{FIVE, GROUP, SEVEN, with_index, with_value, without, writer};
+use super::{FIVE, Fault, GROUP, SEVEN, assert_refused, without, writer};
 use lpm_trace::{Actor, Deed, Kind, Step};
 use std::alloc::{AllocError, Global};
 use std::test::Fail;
@@ -162,12 +162,23 @@ fn each_beginning_of_it(rt: HostRuntime) -> Result<(), Fail> {
 #[test]
 fn checks_out_of_order(rt: HostRuntime) -> Result<(), Fail> {
     let alloc = rt.alloc();
-    let steps = good(alloc)?;
-    for number in [16, 17, 20, 21, 23, 25] {
-        let changed = without(alloc, &steps, &[number])?;
-        assert!(rt; !is_in_order(alloc, &changed)?, "{number}");
-    }
-    let of_the_last = without(alloc, &steps, &[14, 15])?;
+    let faults = [
+        Fault::LeftOut(16),
+        Fault::LeftOut(17),
+        Fault::LeftOut(20),
+        Fault::LeftOut(21),
+        Fault::LeftOut(23),
+        Fault::LeftOut(25),
+    ];
+    let versions = versions(alloc)?;
+    assert_refused(&rt, alloc, &WIDE, &versions, &good(alloc)?, &faults)
+}
+
+// The check of the flush comes after its second unlinking, and not before.
+#[test]
+fn a_check_before_the_second_unlinking(rt: HostRuntime) -> Result<(), Fail> {
+    let alloc = rt.alloc();
+    let of_the_last = without(alloc, &good(alloc)?, &[14, 15])?;
     let beginning = of_the_last.get(..14).unwrap_or(&[]);
     assert!(rt; !is_in_order(alloc, beginning)?);
     Ok(())
@@ -176,14 +187,12 @@ fn checks_out_of_order(rt: HostRuntime) -> Result<(), Fail> {
 #[test]
 fn groups_that_were_not_taken(rt: HostRuntime) -> Result<(), Fail> {
     let alloc = rt.alloc();
-    let steps = good(alloc)?;
-    let into_both = with_index(alloc, &steps, 28, 2)?;
-    assert!(rt; !is_in_order(alloc, &into_both)?);
-    let of_the_other = with_value(alloc, &steps, 29, OTHER_GROUP)?;
-    assert!(rt; !is_in_order(alloc, &of_the_other)?);
-    let of_a_linked = with_value(alloc, &steps, 7, GROUP)?;
-    assert!(rt; !is_in_order(alloc, &of_a_linked)?);
-    Ok(())
+    let into_both = Fault::Index(28, 2);
+    let of_the_other = Fault::Value(29, OTHER_GROUP);
+    let of_a_linked = Fault::Value(7, GROUP);
+    let faults = [into_both, of_the_other, of_a_linked];
+    let versions = versions(alloc)?;
+    assert_refused(&rt, alloc, &WIDE, &versions, &good(alloc)?, &faults)
 }
 
 #[test]
