@@ -4,8 +4,6 @@
 
 mod expected;
 mod report;
-#[cfg(test)]
-mod tests;
 
 pub use expected::expect;
 pub use report::{Report, report_text};

@@ -1,6 +1,6 @@
 ghost use Rattle.lpm_bits.specs.Widths.{IsShape};
 
-use crate::{Report, expect, report_text};
+use audit::{Report, expect, report_text};
 use lpm_bits::{Hop, Prefix};
 use lpm_rules::Rules;
 use std::process::Abort;
