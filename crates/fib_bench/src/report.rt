@@ -31,9 +31,18 @@ pub(crate) fn run<R: Clock + Print + AllocGlobal + Threads + Sync>(
 ) -> Result<()> {
     let mut table = Fib::<24, 8>::open(rt.alloc(), limits())?;
     let drawn = measure_alone(rt, &mut table, count)?;
+    measure_running(rt, &table, &drawn)
+}
+
+/// Measures another table with these routes as a running one, beside the first.
+fn measure_running<R: Clock + Print + AllocGlobal + Threads + Sync>(
+    rt: &R,
+    table: &Fib<24, 8>,
+    drawn: &Drawn,
+) -> Result<()> {
     let mut other = Fib::<24, 8>::open(rt.alloc(), limits())?;
     add_offline(rt, &mut other, drawn.routes.as_slice())?;
-    print_running(rt, other, &table, &drawn)
+    print_running(rt, other, table, drawn)
 }
 
 /// Adds that many random routes to the table, and measures it as one of one thread.
