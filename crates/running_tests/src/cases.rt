@@ -1,7 +1,7 @@
 //! Worked cases, on one thread.
 ghost use Rattle.std.specs.Prelude.{◌≡◌};
 ghost use Rattle.lpm_bits.specs.Widths.{IsShape};
-ghost use Rattle.shared_fib.specs.Running.{IsOffline, identity_of};
+ghost use Rattle.shared_fib.specs.Running.{IsBenchOf, IsOffline, IsOnline, identity_of};
 
 use super::asserting::assert_at;
 use defer_queue::Reclaimed;
@@ -10,8 +10,9 @@ use lpm_bits::{Hop, Prefix, Shape};
 use lpm_groups::Counts;
 use lpm_rules::Put;
 use qsbr::{Busy, Config, Refusal};
-use shared_fib::{Exhausted, Pass, RegisterError, SharedTable, Writer, go_live, open};
+use shared_fib::{Bench, Exhausted, Pass, RegisterError, SharedTable, Writer, go_live, open};
 use std::process::Abort;
+use std::sync::Wait;
 use std::test::Fail;
 
 const SMALL: Config = Config {
@@ -84,16 +85,31 @@ fn delete<const FIRST: u32, const SECOND: u32>(
     assert_at(rt, rule, deleted, Ok(hop(rt, number)));
 }
 
+// A pass that has met the writer answers by the rule that was added before. Each case is played by a
+// function that is lent its table: what a function owns makes its proof longer at each early end.
+fn meet_and_look_up(
+    rt: &impl Abort,
+    table: &SharedTable<24, 8>,
+    writer: &mut Writer<24, 8>,
+    pass: &mut Pass,
+)
+    requires writer { writer.old.identity ≡ table.now }
+    requires pass { identity_of pass.old ≡ table.now }
+    requires offline { IsOffline pass.old }
+{
+    add(rt, table, writer, (0x0a00_0000, 8, 1));
+    pass.meet(table, writer);
+    pass.online(table);
+    let answer = pass.lookup(table, 0x0a00_0001);
+    let found = (answer.hop, answer.lo, answer.hi);
+    assert_at(rt, "answer", found, (Some(hop(rt, 1)), 1, 1));
+}
+
 #[test]
 fn meet_then_lookup(rt: HostRuntime) -> Result<(), Fail> {
     let (table, mut writer, mut bench) = open::<24, 8>(rt.alloc(), Config::default())?;
     let mut pass = bench.register(&table, 0).expect(&rt, "a pass");
-    add(&rt, &table, &mut writer, (0x0a00_0000, 8, 1));
-    pass.meet(&table, &mut writer);
-    pass.online(&table);
-    let answer = pass.lookup(&table, 0x0a00_0001);
-    let found = (answer.hop, answer.lo, answer.hi);
-    assert_at(&rt, "answer", found, (Some(hop(&rt, 1)), 1, 1));
+    meet_and_look_up(&rt, &table, &mut writer, &mut pass);
     Ok(())
 }
 
@@ -106,29 +122,47 @@ fn add_and_delete(rt: &impl Abort, table: &SharedTable<4, 4>, writer: &mut Write
     delete(rt, table, writer, (0x12, 8, 5));
 }
 
+// The only group is taken again, by a rule in another block.
+fn reuse(rt: &impl Abort, table: &SharedTable<4, 4>, writer: &mut Writer<4, 4>)
+    requires own { writer.old.identity ≡ table.now }
+{
+    add_and_delete(rt, table, writer);
+    add(rt, table, writer, (0x35, 8, 6));
+    assert_at(rt, "counts", counts(writer), (1, 0, 0));
+    let there = writer.get(&prefix(rt, 0x35, 8));
+    assert_at(rt, "the rule", there, Some(hop(rt, 6)));
+    let sizes = (writer.rules(), writer.versions());
+    assert_at(rt, "rules, versions", sizes, (1, 3));
+}
+
 #[test]
 fn shared_reuse(rt: HostRuntime) -> Result<(), Fail> {
     let (table, mut writer, _) = open::<4, 4>(rt.alloc(), SMALL)?;
-    add_and_delete(&rt, &table, &mut writer);
-    add(&rt, &table, &mut writer, (0x35, 8, 6));
-    assert_at(&rt, "counts", counts(&writer), (1, 0, 0));
-    let there = writer.get(&prefix(&rt, 0x35, 8));
-    assert_at(&rt, "the rule", there, Some(hop(&rt, 6)));
-    let sizes = (writer.rules(), writer.versions());
-    assert_at(&rt, "rules, versions", sizes, (1, 3));
+    reuse(&rt, &table, &mut writer);
     Ok(())
+}
+
+// The group is given back once a synchronize has returned.
+fn synchronize_and_reclaim<R: Wait + Abort>(
+    rt: &R,
+    table: &SharedTable<4, 4>,
+    writer: &mut Writer<4, 4>,
+)
+    requires own { writer.old.identity ≡ table.now }
+{
+    add_and_delete(rt, table, writer);
+    assert_at(rt, "token", writer.token(table), 2);
+    let synchronized = writer.synchronize(rt, table);
+    assert_at(rt, "synchronize", synchronized, Ok(()));
+    assert_at(rt, "token", writer.token(table), 3);
+    assert_at(rt, "reclaim", writer.reclaim(table, 1), unstopped(1));
+    assert_at(rt, "counts", counts(writer), (0, 0, 1));
 }
 
 #[test]
 fn shared_reclaim(rt: HostRuntime) -> Result<(), Fail> {
     let (table, mut writer, _) = open::<4, 4>(rt.alloc(), SMALL)?;
-    add_and_delete(&rt, &table, &mut writer);
-    assert_at(&rt, "token", writer.token(&table), 2);
-    let synchronized = writer.synchronize(&rt, &table);
-    assert_at(&rt, "synchronize", synchronized, Ok(()));
-    assert_at(&rt, "token", writer.token(&table), 3);
-    assert_at(&rt, "reclaim", writer.reclaim(&table, 1), unstopped(1));
-    assert_at(&rt, "counts", counts(&writer), (0, 0, 1));
+    synchronize_and_reclaim(&rt, &table, &mut writer);
     Ok(())
 }
 
@@ -161,14 +195,28 @@ fn synchronize_last_tokens(rt: HostRuntime) -> Result<(), Fail> {
 }
 
 #[test]
+fn text_of_exhausted(rt: HostRuntime) -> Result<(), Fail> {
+    let text = format!(in rt.alloc(); "{Exhausted}")?;
+    assert_at(&rt, "text", text.as_str(), "tokens are exhausted");
+    Ok(())
+}
+
+// Nobody else gets the pass of worker 0, and there is no worker 1.
+fn register_each(rt: &impl Abort, table: &SharedTable<4, 4>, bench: &mut Bench)
+    requires { IsBenchOf table.now bench.old }
+{
+    let pass = bench.register(table, 0).expect(rt, "a pass");
+    assert_at(rt, "worker", pass.worker(), 0);
+    let again = bench.register(table, 0).err();
+    assert_at(rt, "worker 0 again", again, Some(RegisterError::Taken));
+    let none = bench.register(table, 1).err();
+    assert_at(rt, "worker 1", none, Some(RegisterError::NoSuchWorker));
+}
+
+#[test]
 fn register_twice(rt: HostRuntime) -> Result<(), Fail> {
     let (table, _, mut bench) = open::<4, 4>(rt.alloc(), SMALL)?;
-    let pass = bench.register(&table, 0).expect(&rt, "a pass");
-    assert_at(&rt, "worker", pass.worker(), 0);
-    let again = bench.register(&table, 0).err();
-    assert_at(&rt, "worker 0 again", again, Some(RegisterError::Taken));
-    let none = bench.register(&table, 1).err();
-    assert_at(&rt, "worker 1", none, Some(RegisterError::NoSuchWorker));
+    register_each(&rt, &table, &mut bench);
     Ok(())
 }
 
@@ -198,15 +246,53 @@ fn hold_and_let_go(
     assert_at(rt, "counts", counts(writer), (1, 0, 0));
 }
 
+// A pass that is given back is offline when it is handed out again.
+fn hold_and_register_again(
+    rt: &impl Abort,
+    table: &SharedTable<4, 4>,
+    writer: &mut Writer<4, 4>,
+    bench: &mut Bench,
+)
+    requires writer { writer.old.identity ≡ table.now }
+    requires bench { IsBenchOf table.now bench.old }
+{
+    let mut pass = bench.register(table, 0).expect(rt, "a pass");
+    hold_and_let_go(rt, table, writer, &mut pass);
+    bench.unregister(table, pass);
+    let again = bench.register(table, 0).expect(rt, "a pass");
+    assert_at(rt, "online", again.is_online(), false);
+}
+
 #[test]
 fn held_group(rt: HostRuntime) -> Result<(), Fail> {
     let (table, mut writer, mut bench) = open::<4, 4>(rt.alloc(), SMALL)?;
-    let mut pass = bench.register(&table, 0).expect(&rt, "a pass");
-    hold_and_let_go(&rt, &table, &mut writer, &mut pass);
-    bench.unregister(&table, pass);
-    let again = bench.register(&table, 0).expect(&rt, "a pass");
-    assert_at(&rt, "online", again.is_online(), false);
+    hold_and_register_again(&rt, &table, &mut writer, &mut bench);
     Ok(())
+}
+
+// Each of two workers holds a group; one reports and the other goes offline.
+fn hold_by_two(
+    rt: &impl Abort,
+    table: &SharedTable<4, 4>,
+    writer: &mut Writer<4, 4>,
+    zero: &mut Pass,
+    one: &mut Pass,
+)
+    requires writer { writer.old.identity ≡ table.now }
+    requires zero { (identity_of zero.old ≡ table.now) × IsOffline zero.old }
+    requires one { (identity_of one.old ≡ table.now) × IsOffline one.old }
+{
+    add(rt, table, writer, (0x12, 8, 1));
+    add(rt, table, writer, (0x35, 8, 2));
+    zero.online(table);
+    delete(rt, table, writer, (0x12, 8, 1));
+    one.online(table);
+    delete(rt, table, writer, (0x35, 8, 2));
+    assert_at(rt, "first", writer.reclaim(table, 16), stopped(0, 0, 1));
+    zero.quiescent(table);
+    assert_at(rt, "second", writer.reclaim(table, 16), stopped(1, 1, 2));
+    one.offline(table);
+    assert_at(rt, "third", writer.reclaim(table, 16), unstopped(1));
 }
 
 #[test]
@@ -219,17 +305,7 @@ fn two_workers(rt: HostRuntime) -> Result<(), Fail> {
     let (table, mut writer, mut bench) = open::<4, 4>(rt.alloc(), config)?;
     let mut zero = bench.register(&table, 0).expect(&rt, "a pass");
     let mut one = bench.register(&table, 1).expect(&rt, "a pass");
-    add(&rt, &table, &mut writer, (0x12, 8, 1));
-    add(&rt, &table, &mut writer, (0x35, 8, 2));
-    zero.online(&table);
-    delete(&rt, &table, &mut writer, (0x12, 8, 1));
-    one.online(&table);
-    delete(&rt, &table, &mut writer, (0x35, 8, 2));
-    assert_at(&rt, "first", writer.reclaim(&table, 16), stopped(0, 0, 1));
-    zero.quiescent(&table);
-    assert_at(&rt, "second", writer.reclaim(&table, 16), stopped(1, 1, 2));
-    one.offline(&table);
-    assert_at(&rt, "third", writer.reclaim(&table, 16), unstopped(1));
+    hold_by_two(&rt, &table, &mut writer, &mut zero, &mut one);
     Ok(())
 }
 
@@ -247,22 +323,83 @@ fn unstopped(freed: usize) -> Reclaimed {
     }
 }
 
+// Three routes, of which one is longer than 24 bits.
+fn add_three(rt: &impl Abort, table: &SharedTable<24, 8>, writer: &mut Writer<24, 8>)
+    requires own { writer.old.identity ≡ table.now }
+    ensures own { writer.new.identity ≡ writer.old.identity }
+{
+    add(rt, table, writer, (0x0a00_0000, 8, 1));
+    add(rt, table, writer, (0x0a01_0000, 16, 2));
+    add(rt, table, writer, (0x0a01_0180, 25, 3));
+}
+
+// Four addresses are looked up at once, by three routes, and one of them after a flush.
+fn look_up_four(
+    rt: &impl Abort,
+    table: &SharedTable<24, 8>,
+    writer: &mut Writer<24, 8>,
+    pass: &mut Pass,
+)
+    requires writer { writer.old.identity ≡ table.now }
+    requires pass { identity_of pass.old ≡ table.now }
+    requires offline { IsOffline pass.old }
+{
+    add_three(rt, table, writer);
+    pass.online(table);
+    let addrs = [0x0a01_0180, 0x0b00_0000, 0x0a01_017f, 0x0a02_0000];
+    let found = pass.lookup4(table, addrs, 99);
+    assert_at(rt, "hops", found.hops, [3, 99, 2, 1]);
+    assert_at(rt, "versions", (found.lo, found.hi), (3, 3));
+    assert_at(rt, "flush", writer.flush(table), Ok(3));
+    let answer = pass.lookup(table, 0x0a01_0180);
+    assert_at(rt, "hop after the flush", answer.hop, None);
+}
+
 #[test]
 fn lookup4_by_a_pass(rt: HostRuntime) -> Result<(), Fail> {
     let (table, mut writer, mut bench) = open::<24, 8>(rt.alloc(), Config::default())?;
-    add(&rt, &table, &mut writer, (0x0a00_0000, 8, 1));
-    add(&rt, &table, &mut writer, (0x0a01_0000, 16, 2));
-    add(&rt, &table, &mut writer, (0x0a01_0180, 25, 3));
     let mut pass = bench.register(&table, 0).expect(&rt, "a pass");
-    pass.online(&table);
-    let addrs = [0x0a01_0180, 0x0b00_0000, 0x0a01_017f, 0x0a02_0000];
-    let found = pass.lookup4(&table, addrs, 99);
-    assert_at(&rt, "hops", found.hops, [3, 99, 2, 1]);
-    assert_at(&rt, "versions", (found.lo, found.hi), (3, 3));
-    assert_at(&rt, "flush", writer.flush(&table), Ok(3));
-    let answer = pass.lookup(&table, 0x0a01_0180);
-    assert_at(&rt, "hop after the flush", answer.hop, None);
+    look_up_four(&rt, &table, &mut writer, &mut pass);
     Ok(())
+}
+
+// The next hop of the address is this one, by the version that stands.
+fn assert_hop(
+    rt: &impl Abort,
+    table: &SharedTable<4, 4>,
+    pass: &mut Pass,
+    addr: u32,
+    found: (Option<Hop>, u64),
+)
+    requires own { identity_of pass.old ≡ table.now }
+    requires online { IsOnline pass.old }
+    ensures own { identity_of pass.new ≡ identity_of pass.old }
+    ensures online { IsOnline pass.new }
+{
+    assert!(rt; Shape::<4, 4>::is_addr(addr));
+    let answer = pass.lookup(table, addr);
+    let (hop, version) = found;
+    let found = (answer.hop, answer.lo, answer.hi);
+    assert_at(rt, addr, found, (hop, version, version));
+}
+
+// The rules that the table was loaded with are version 0, and a delete makes the next one.
+fn look_up_and_delete(
+    rt: &impl Abort,
+    table: &SharedTable<4, 4>,
+    writer: &mut Writer<4, 4>,
+    pass: &mut Pass,
+)
+    requires writer { writer.old.identity ≡ table.now }
+    requires pass { identity_of pass.old ≡ table.now }
+    requires offline { IsOffline pass.old }
+{
+    pass.online(table);
+    assert_hop(rt, table, pass, 0x12, (Some(hop(rt, 5)), 0));
+    assert_hop(rt, table, pass, 0x3f, (Some(hop(rt, 6)), 0));
+    delete(rt, table, writer, (0x12, 8, 5));
+    assert_hop(rt, table, pass, 0x12, (None, 1));
+    assert_at(rt, "counts", counts(writer), (0, 1, 0));
 }
 
 // A table that was loaded on one thread goes on, and counts its versions from there.
@@ -275,15 +412,6 @@ fn going_live(rt: HostRuntime) -> Result<(), Fail> {
     assert_eq!(rt; fib.add(&other, hop(&rt, 6)), Ok(Put::Added));
     let (table, mut writer, mut bench) = go_live(rt.alloc(), fib)?;
     let mut pass = bench.register(&table, 0).expect(&rt, "a pass");
-    pass.online(&table);
-    let answer = pass.lookup(&table, 0x12);
-    assert_at(&rt, 0x12, answer.hop, Some(hop(&rt, 5)));
-    let answer = pass.lookup(&table, 0x3f);
-    assert_at(&rt, 0x3f, answer.hop, Some(hop(&rt, 6)));
-    delete(&rt, &table, &mut writer, (0x12, 8, 5));
-    let answer = pass.lookup(&table, 0x12);
-    let found = (answer.hop, answer.lo, answer.hi);
-    assert_at(&rt, "after the delete", found, (None, 1, 1));
-    assert_at(&rt, "counts", counts(&writer), (0, 1, 0));
+    look_up_and_delete(&rt, &table, &mut writer, &mut pass);
     Ok(())
 }

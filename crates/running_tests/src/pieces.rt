@@ -1,13 +1,14 @@
 //! Many addresses, answered in pieces.
 ghost use Rattle.std.specs.Prelude.{◌≡◌, All};
 ghost use Rattle.bulk.specs.Desks.{IsDeskOf};
+ghost use Rattle.shared_fib.specs.Running.{IsFullBench};
 
 use super::asserting::assert_at;
 use bulk::{BulkError, Desk, Gate, Open, border, bulk, bulk_plain, seat_all};
 use fib::{Fib, OpenError};
 use lpm_bits::{Hop, Prefix};
 use qsbr::Config;
-use shared_fib::{SharedTable, Writer};
+use shared_fib::{Bench, SharedTable, Writer};
 use std::alloc::Global;
 use std::process::Abort;
 use std::sync::atomic::{AtomicBool, Ordering};
@@ -129,6 +130,23 @@ fn assert_five_at_desks<R: Abort + Threads + Sync>(
     Ok(())
 }
 
+// The five addresses, by a running table that has the rules, with so many workers.
+fn assert_five_by_desks<R: Abort + Threads + Sync>(
+    rt: &R,
+    alloc: Global,
+    table: &SharedTable<24, 8>,
+    writer: &mut Writer<24, 8>,
+    bench: &mut Bench,
+    workers: usize,
+) -> Result<(), BulkError>
+    requires own { writer.old.identity ≡ table.now }
+    requires full { IsFullBench table.now bench.old }
+    requires workers { workers ≡ table.now.opening.workers }
+{
+    let mut desks = seat_all(alloc, table, bench, workers)?;
+    assert_five_at_desks(rt, alloc, table, writer, &mut desks)
+}
+
 // The five addresses, by a running table with so many workers.
 fn five_by_a_running_table<R: Abort + Threads + Sync>(
     rt: &R,
@@ -141,8 +159,7 @@ fn five_by_a_running_table<R: Abort + Threads + Sync>(
     };
     let (table, mut writer, mut bench) = shared_fib::open(alloc, config)?;
     add_rules(rt, &table, &mut writer);
-    let mut desks = seat_all(alloc, &table, &mut bench, workers)?;
-    assert_five_at_desks(rt, alloc, &table, &mut writer, &mut desks)?;
+    assert_five_by_desks(rt, alloc, &table, &mut writer, &mut bench, workers)?;
     Ok(())
 }
 
@@ -167,26 +184,23 @@ fn small(alloc: Global) -> Result<Fib<4, 4>, OpenError> {
     Fib::open(alloc, Config::default())
 }
 
-fn assert_no_addresses<R: Abort + Threads + Sync>(
+// No address has no answer, and no worker answers none.
+fn assert_nothing<R: Abort + Threads + Sync>(
     rt: &R,
     alloc: Global,
     fib: &Fib<4, 4>,
 ) -> Result<(), BulkError> {
     let hops = bulk_plain(rt, alloc, fib, 3, &[], &Open)?;
     assert_at(rt, "no addresses", hops.len(), 0);
-    Ok(())
-}
-
-fn assert_no_workers<R: Abort + Threads + Sync>(rt: &R, alloc: Global, fib: &Fib<4, 4>) {
     let refused = bulk_plain(rt, alloc, fib, 0, &[1], &Open).err();
     assert_at(rt, "no workers", refused, Some(BulkError::NoWorkers));
+    Ok(())
 }
 
 #[test]
 fn no_addresses_and_no_workers(rt: HostRuntime) -> Result<(), Fail> {
     let fib = small(rt.alloc())?;
-    assert_no_addresses(&rt, rt.alloc(), &fib)?;
-    assert_no_workers(&rt, rt.alloc(), &fib);
+    assert_nothing(&rt, rt.alloc(), &fib)?;
     Ok(())
 }
 
@@ -254,18 +268,18 @@ fn meet_by_a_table<R: Abort + Threads + Sync>(
     rt: &R,
     alloc: Global,
     fib: &Fib<4, 4>,
-    gate: &Meeting,
 ) -> Result<(), BulkError> {
-    let hops = bulk_plain(rt, alloc, fib, 2, &EIGHT, gate)?;
+    let gate = new_meeting();
+    let hops = bulk_plain(rt, alloc, fib, 2, &EIGHT, &gate)?;
     assert_at(rt, "answers", hops.len(), EIGHT.len());
-    assert_met(rt, gate);
+    assert_met(rt, &gate);
     Ok(())
 }
 
 #[test]
 fn two_pieces_see_each_other(rt: HostRuntime) -> Result<(), Fail> {
     let fib = small(rt.alloc())?;
-    meet_by_a_table(&rt, rt.alloc(), &fib, &new_meeting())?;
+    meet_by_a_table(&rt, rt.alloc(), &fib)?;
     Ok(())
 }
 
@@ -276,15 +290,15 @@ fn meet_at_desks<R: Abort + Threads + Sync>(
     table: &SharedTable<4, 4>,
     writer: &mut Writer<4, 4>,
     desks: &mut [Desk],
-    gate: &Meeting,
 ) -> Result<(), BulkError>
     requires own { writer.old.identity ≡ table.now }
     requires desks { All (IsDeskOf table.now) desks.old }
     ensures own { writer.new.identity ≡ writer.old.identity }
 {
-    let hops = bulk(rt, alloc, table, writer, desks, &EIGHT, gate)?;
+    let gate = new_meeting();
+    let hops = bulk(rt, alloc, table, writer, desks, &EIGHT, &gate)?;
     assert_at(rt, "answers", hops.len(), EIGHT.len());
-    assert_met(rt, gate);
+    assert_met(rt, &gate);
     Ok(())
 }
 
@@ -300,6 +314,24 @@ fn assert_no_desks<R: Abort + Threads + Sync>(
     assert_at(rt, "no desks", refused, Some(BulkError::NoWorkers));
 }
 
+// Two pieces of eight addresses by a running table with two workers, and then none.
+fn meet_by_a_running_table<R: Abort + Threads + Sync>(
+    rt: &R,
+    alloc: Global,
+    table: &SharedTable<4, 4>,
+    writer: &mut Writer<4, 4>,
+    bench: &mut Bench,
+) -> Result<(), BulkError>
+    requires own { writer.old.identity ≡ table.now }
+    requires full { IsFullBench table.now bench.old }
+    requires workers { 2 ≡ table.now.opening.workers }
+{
+    let mut desks = seat_all(alloc, table, bench, 2)?;
+    meet_at_desks(rt, alloc, table, writer, &mut desks)?;
+    assert_no_desks(rt, alloc, table, writer);
+    Ok(())
+}
+
 #[test]
 fn two_pieces_of_a_running_table_see_each_other(rt: HostRuntime) -> Result<(), Fail> {
     let config = Config {
@@ -308,9 +340,6 @@ fn two_pieces_of_a_running_table_see_each_other(rt: HostRuntime) -> Result<(), F
     };
     let alloc = rt.alloc();
     let (table, mut writer, mut bench) = shared_fib::open::<4, 4>(alloc, config)?;
-    let mut desks = seat_all(alloc, &table, &mut bench, 2)?;
-    let gate = new_meeting();
-    meet_at_desks(&rt, alloc, &table, &mut writer, &mut desks, &gate)?;
-    assert_no_desks(&rt, alloc, &table, &mut writer);
+    meet_by_a_running_table(&rt, alloc, &table, &mut writer, &mut bench)?;
     Ok(())
 }
