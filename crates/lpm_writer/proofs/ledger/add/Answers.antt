@@ -194,3 +194,6 @@ returns-in-Err g c = record {
 
 pub returns-in_default-clause-adds : goal.returns-in_default-clause-adds
 returns-in_default-clause-adds g c = search rules
+
+pub returns-in-Unchanged-clause-adds : goal.returns-in-Unchanged-clause-adds
+returns-in-Unchanged-clause-adds g c = search rules
