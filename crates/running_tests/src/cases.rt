@@ -410,7 +410,7 @@ fn going_live(rt: HostRuntime) -> Result<(), Fail> {
     let other = prefix(&rt, 0x30, 4);
     assert_eq!(rt; fib.add(&first, hop(&rt, 5)), Ok(Put::Added));
     assert_eq!(rt; fib.add(&other, hop(&rt, 6)), Ok(Put::Added));
-    let (table, mut writer, mut bench) = go_live(rt.alloc(), fib)?;
+    let (table, mut writer, mut bench) = go_live(rt.alloc(), fib).expect(&rt, "memory");
     let mut pass = bench.register(&table, 0).expect(&rt, "a pass");
     look_up_and_delete(&rt, &table, &mut writer, &mut pass);
     Ok(())

@@ -49,34 +49,23 @@ fn assert_hops(rt: &impl Abort, workers: usize, hops: &[Option<Hop>]) {
 }
 
 // The five addresses, by a table of one thread with so many workers.
-fn assert_five<R: Abort + Threads + Sync>(
-    rt: &R,
-    alloc: Global,
-    fib: &Fib<24, 8>,
-    workers: usize,
-) -> Result<(), BulkError> {
-    let hops = bulk_plain(rt, alloc, fib, workers, &FIVE, &Open)?;
-    assert_hops(rt, workers, &hops);
-    Ok(())
+fn assert_five<R: Abort + Threads + Sync>(rt: &R, alloc: Global, fib: &Fib<24, 8>, workers: usize) {
+    let answered = bulk_plain(rt, alloc, fib, workers, &FIVE, &Open);
+    assert_hops(rt, workers, &answered.expect(rt, "answers"));
 }
 
 // Among the numbers of workers are more than addresses, and far more.
-fn assert_five_in_pieces<R: Abort + Threads + Sync>(
-    rt: &R,
-    alloc: Global,
-    fib: &Fib<24, 8>,
-) -> Result<(), BulkError> {
+fn assert_five_in_pieces<R: Abort + Threads + Sync>(rt: &R, alloc: Global, fib: &Fib<24, 8>) {
     for workers in [1, 2, 3, 8, 4_000] {
-        assert_five(rt, alloc, fib, workers)?;
+        assert_five(rt, alloc, fib, workers);
     }
-    Ok(())
 }
 
 #[test]
 fn pieces(rt: HostRuntime) -> Result<(), Fail> {
     let mut fib = Fib::open(rt.alloc(), Config::default())?;
     add_three(&rt, &mut fib);
-    assert_five_in_pieces(&rt, rt.alloc(), &fib)?;
+    assert_five_in_pieces(&rt, rt.alloc(), &fib);
     Ok(())
 }
 
@@ -120,14 +109,13 @@ fn assert_five_at_desks<R: Abort + Threads + Sync>(
     table: &SharedTable<24, 8>,
     writer: &mut Writer<24, 8>,
     desks: &mut [Desk],
-) -> Result<(), BulkError>
+)
     requires own { writer.old.identity ≡ table.now }
     requires desks { All (IsDeskOf table.now) desks.old }
 {
     let workers = desks.len();
-    let hops = bulk(rt, alloc, table, writer, desks, &FIVE, &Open)?;
-    assert_hops(rt, workers, &hops);
-    Ok(())
+    let answered = bulk(rt, alloc, table, writer, desks, &FIVE, &Open);
+    assert_hops(rt, workers, &answered.expect(rt, "answers"));
 }
 
 // The five addresses, by a running table that has the rules, with so many workers.
@@ -138,13 +126,13 @@ fn assert_five_by_desks<R: Abort + Threads + Sync>(
     writer: &mut Writer<24, 8>,
     bench: &mut Bench,
     workers: usize,
-) -> Result<(), BulkError>
+)
     requires own { writer.old.identity ≡ table.now }
     requires full { IsFullBench table.now bench.old }
     requires workers { workers ≡ table.now.opening.workers }
 {
-    let mut desks = seat_all(alloc, table, bench, workers)?;
-    assert_five_at_desks(rt, alloc, table, writer, &mut desks)
+    let mut desks = seat_all(alloc, table, bench, workers).expect(rt, "desks");
+    assert_five_at_desks(rt, alloc, table, writer, &mut desks);
 }
 
 // The five addresses, by a running table with so many workers.
@@ -159,7 +147,7 @@ fn five_by_a_running_table<R: Abort + Threads + Sync>(
     };
     let (table, mut writer, mut bench) = shared_fib::open(alloc, config)?;
     add_rules(rt, &table, &mut writer);
-    assert_five_by_desks(rt, alloc, &table, &mut writer, &mut bench, workers)?;
+    assert_five_by_desks(rt, alloc, &table, &mut writer, &mut bench, workers);
     Ok(())
 }
 
@@ -185,22 +173,17 @@ fn small(alloc: Global) -> Result<Fib<4, 4>, OpenError> {
 }
 
 // No address has no answer, and no worker answers none.
-fn assert_nothing<R: Abort + Threads + Sync>(
-    rt: &R,
-    alloc: Global,
-    fib: &Fib<4, 4>,
-) -> Result<(), BulkError> {
-    let hops = bulk_plain(rt, alloc, fib, 3, &[], &Open)?;
-    assert_at(rt, "no addresses", hops.len(), 0);
+fn assert_nothing<R: Abort + Threads + Sync>(rt: &R, alloc: Global, fib: &Fib<4, 4>) {
+    let answered = bulk_plain(rt, alloc, fib, 3, &[], &Open);
+    assert_at(rt, "no addresses", answered.expect(rt, "answers").len(), 0);
     let refused = bulk_plain(rt, alloc, fib, 0, &[1], &Open).err();
     assert_at(rt, "no workers", refused, Some(BulkError::NoWorkers));
-    Ok(())
 }
 
 #[test]
 fn no_addresses_and_no_workers(rt: HostRuntime) -> Result<(), Fail> {
     let fib = small(rt.alloc())?;
-    assert_nothing(&rt, rt.alloc(), &fib)?;
+    assert_nothing(&rt, rt.alloc(), &fib);
     Ok(())
 }
 
@@ -264,22 +247,18 @@ fn assert_met(rt: &impl Abort, gate: &Meeting) {
 const EIGHT: [u32; 8] = [1, 2, 3, 4, 5, 6, 7, 8];
 
 // Two pieces of eight addresses, by a table of one thread.
-fn meet_by_a_table<R: Abort + Threads + Sync>(
-    rt: &R,
-    alloc: Global,
-    fib: &Fib<4, 4>,
-) -> Result<(), BulkError> {
+fn meet_by_a_table<R: Abort + Threads + Sync>(rt: &R, alloc: Global, fib: &Fib<4, 4>) {
     let gate = new_meeting();
-    let hops = bulk_plain(rt, alloc, fib, 2, &EIGHT, &gate)?;
-    assert_at(rt, "answers", hops.len(), EIGHT.len());
+    let answered = bulk_plain(rt, alloc, fib, 2, &EIGHT, &gate);
+    let answers = answered.expect(rt, "answers").len();
+    assert_at(rt, "answers", answers, EIGHT.len());
     assert_met(rt, &gate);
-    Ok(())
 }
 
 #[test]
 fn two_pieces_see_each_other(rt: HostRuntime) -> Result<(), Fail> {
     let fib = small(rt.alloc())?;
-    meet_by_a_table(&rt, rt.alloc(), &fib)?;
+    meet_by_a_table(&rt, rt.alloc(), &fib);
     Ok(())
 }
 
@@ -290,16 +269,16 @@ fn meet_at_desks<R: Abort + Threads + Sync>(
     table: &SharedTable<4, 4>,
     writer: &mut Writer<4, 4>,
     desks: &mut [Desk],
-) -> Result<(), BulkError>
+)
     requires own { writer.old.identity ≡ table.now }
     requires desks { All (IsDeskOf table.now) desks.old }
     ensures own { writer.new.identity ≡ writer.old.identity }
 {
     let gate = new_meeting();
-    let hops = bulk(rt, alloc, table, writer, desks, &EIGHT, &gate)?;
-    assert_at(rt, "answers", hops.len(), EIGHT.len());
+    let answered = bulk(rt, alloc, table, writer, desks, &EIGHT, &gate);
+    let answers = answered.expect(rt, "answers").len();
+    assert_at(rt, "answers", answers, EIGHT.len());
     assert_met(rt, &gate);
-    Ok(())
 }
 
 fn assert_no_desks<R: Abort + Threads + Sync>(
@@ -321,15 +300,14 @@ fn meet_by_a_running_table<R: Abort + Threads + Sync>(
     table: &SharedTable<4, 4>,
     writer: &mut Writer<4, 4>,
     bench: &mut Bench,
-) -> Result<(), BulkError>
+)
     requires own { writer.old.identity ≡ table.now }
     requires full { IsFullBench table.now bench.old }
     requires workers { 2 ≡ table.now.opening.workers }
 {
-    let mut desks = seat_all(alloc, table, bench, 2)?;
-    meet_at_desks(rt, alloc, table, writer, &mut desks)?;
+    let mut desks = seat_all(alloc, table, bench, 2).expect(rt, "desks");
+    meet_at_desks(rt, alloc, table, writer, &mut desks);
     assert_no_desks(rt, alloc, table, writer);
-    Ok(())
 }
 
 #[test]
@@ -340,6 +318,6 @@ fn two_pieces_of_a_running_table_see_each_other(rt: HostRuntime) -> Result<(), F
     };
     let alloc = rt.alloc();
     let (table, mut writer, mut bench) = shared_fib::open::<4, 4>(alloc, config)?;
-    meet_by_a_running_table(&rt, alloc, &table, &mut writer, &mut bench)?;
+    meet_by_a_running_table(&rt, alloc, &table, &mut writer, &mut bench);
     Ok(())
 }
