@@ -240,8 +240,8 @@ fn assert_reclaim(
 #[test]
 fn two_workers(rt: HostRuntime) -> Result<(), Fail> {
     let mut domain = Domain::new(rt.alloc(), 2, 1)?;
-    let mut queue = DeferQueue::new(rt.alloc(), 2)?;
-    let mut tokens = vec![in rt.alloc(); 0u64; 2]?;
+    let mut queue = DeferQueue::new(rt.alloc(), 2).expect(&rt, "a queue");
+    let mut tokens = vec![in rt.alloc(); 0u64; 2].expect(&rt, "tokens");
     domain.online(0);
     assert_given_up(&rt, &mut domain, &mut queue, &mut tokens, 0);
     domain.online(1);
@@ -270,15 +270,10 @@ fn two_workers(rt: HostRuntime) -> Result<(), Fail> {
 const FRONTS: [Option<(u32, u64)>; 4] = [Some((0, 2)), Some((1, 3)), Some((2, 4)), None];
 
 // A reclaim from a queue of three, under two workers with these counters.
-fn assert_reclaimed(
-    rt: &impl Abort,
-    alloc: Global,
-    counters: [u64; 2],
-    max: usize,
-) -> Result<(), Fail> {
-    let mut domain = Domain::new(alloc, 2, 1)?;
-    let mut queue = DeferQueue::new(alloc, 3)?;
-    let mut tokens = vec![in alloc; 0u64; 3]?;
+fn assert_reclaimed(rt: &impl Abort, alloc: Global, counters: [u64; 2], max: usize) {
+    let mut domain = Domain::new(alloc, 2, 1).expect(rt, "a domain");
+    let mut queue = DeferQueue::new(alloc, 3).expect(rt, "a queue");
+    let mut tokens = vec![in alloc; 0u64; 3].expect(rt, "tokens");
     assert_first_given_up(rt, &mut domain, &mut queue, &mut tokens, 3, 3);
     domain.set_counter(0, counters[0]);
     domain.set_counter(1, counters[1]);
@@ -287,26 +282,24 @@ fn assert_reclaimed(
     assert_at(rt, (counters, max), reclaimed, plainly);
     let front = FRONTS.get(reclaimed.freed).copied();
     assert_at(rt, (counters, max), Some(queue.front()), front);
-    Ok(())
 }
 
 #[test]
-fn reclaims_by_the_definition(rt: HostRuntime) -> Result<(), Fail> {
+fn reclaims_by_the_definition(rt: HostRuntime) {
     for a in 0..5u64 {
         for b in 0..5u64 {
             for max in 0..5usize {
-                assert_reclaimed(&rt, rt.alloc(), [a, b], max)?;
+                assert_reclaimed(&rt, rt.alloc(), [a, b], max);
             }
         }
     }
-    Ok(())
 }
 
 #[test]
 fn pieces_of_a_queue(rt: HostRuntime) -> Result<(), Fail> {
     let mut domain = Domain::new(rt.alloc(), 0, 1)?;
-    let mut queue = DeferQueue::new(rt.alloc(), 3)?;
-    let mut tokens = vec![in rt.alloc(); 0u64; 4]?;
+    let mut queue = DeferQueue::new(rt.alloc(), 3).expect(&rt, "a queue");
+    let mut tokens = vec![in rt.alloc(); 0u64; 4].expect(&rt, "tokens");
     // It has room for three.
     assert_first_given_up(&rt, &mut domain, &mut queue, &mut tokens, 4, 3);
     let none = (unstopped(0), Some((0, 2)));
@@ -332,8 +325,8 @@ fn pieces_of_a_queue(rt: HostRuntime) -> Result<(), Fail> {
 #[test]
 fn remembered_token(rt: HostRuntime) -> Result<(), Fail> {
     let mut domain = Domain::new(rt.alloc(), 1, 1)?;
-    let mut queue = DeferQueue::new(rt.alloc(), 2)?;
-    let mut tokens = vec![in rt.alloc(); 0u64; 2]?;
+    let mut queue = DeferQueue::new(rt.alloc(), 2).expect(&rt, "a queue");
+    let mut tokens = vec![in rt.alloc(); 0u64; 2].expect(&rt, "tokens");
     assert_first_given_up(&rt, &mut domain, &mut queue, &mut tokens, 2, 2);
     let mut passed = 4;
     domain.set_counter(0, 1);
@@ -353,8 +346,8 @@ fn assert_waiting(rt: &impl Abort, queue: &DeferQueue, len: usize, front: Option
 }
 
 #[test]
-fn calls_of_a_queue(rt: HostRuntime) -> Result<(), Fail> {
-    let mut queue = DeferQueue::new(rt.alloc(), 2)?;
+fn calls_of_a_queue(rt: HostRuntime) {
+    let mut queue = DeferQueue::new(rt.alloc(), 2).expect(&rt, "a queue");
     assert_at(&rt, "capacity", queue.capacity(), 2);
     assert_waiting(&rt, &queue, 0, None);
     queue.retire(7, 1);
@@ -363,7 +356,6 @@ fn calls_of_a_queue(rt: HostRuntime) -> Result<(), Fail> {
     queue.take_front();
     queue.retire(9, 3);
     assert_at(&rt, "front", queue.front(), Some((8, 1 << 62)));
-    let none = DeferQueue::new(rt.alloc(), 0)?;
+    let none = DeferQueue::new(rt.alloc(), 0).expect(&rt, "a queue");
     assert_waiting(&rt, &none, 0, None);
-    Ok(())
 }

@@ -1,7 +1,7 @@
 ghost use Rattle.std.specs.Prelude.{◌<◌};
 
 use super::asserting::{assert_at, assert_shown};
-use lpm_bits::{BadLength, Hop, Prefix};
+use lpm_bits::{Hop, Prefix};
 use lpm_rules::{NoSuchRule, Put, RuleFault, Rules};
 use std::alloc::Global;
 use std::process::Abort;
@@ -81,16 +81,16 @@ fn assert_rule(rt: &impl Abort, rules: &Small, plain: &[Plain], prefix: &SmallPr
 }
 
 // Every address, and every prefix.
-fn assert_rules(rt: &impl Abort, rules: &Small, plain: &[Plain]) -> Result<(), BadLength> {
+fn assert_rules(rt: &impl Abort, rules: &Small, plain: &[Plain]) {
     for addr in 0..256u32 {
         let hop = rules.longest(addr).map(|hop| hop.number());
         let plainly = plain_longest(plain, 9, addr).map(|rule| rule.hop);
         assert_at(rt, ("longest", addr), hop, plainly);
         for len in 0..9u32 {
-            assert_rule(rt, rules, plain, &SmallPrefix::new(addr, len)?);
+            let prefix = SmallPrefix::new(addr, len).expect(rt, "a length");
+            assert_rule(rt, rules, plain, &prefix);
         }
     }
-    Ok(())
 }
 
 // Every block.
@@ -108,18 +108,17 @@ fn assert_blocks(rt: &impl Abort, rules: &Small, plain: &[Plain]) {
     assert_at(rt, "deep blocks", rules.deep_blocks(), blocks);
 }
 
-fn assert_same(rt: &impl Abort, rules: &Small, plain: &[Plain]) -> Result<(), BadLength> {
+fn assert_same(rt: &impl Abort, rules: &Small, plain: &[Plain]) {
     assert_at(rt, "rules", rules.len(), plain.len());
-    assert_rules(rt, rules, plain)?;
+    assert_rules(rt, rules, plain);
     assert_blocks(rt, rules, plain);
-    Ok(())
 }
 
 // Prefixes of all lengths, with many in one block and some more than once.
-fn some_prefix(i: u32) -> Result<SmallPrefix, BadLength>
+fn some_prefix(rt: &impl Abort, i: u32) -> SmallPrefix
     requires { i < 1000 }
 {
-    SmallPrefix::new((i * 37 + i / 3) % 64 * 3, i * 5 % 9)
+    SmallPrefix::new((i * 37 + i / 3) % 64 * 3, i * 5 % 9).expect(rt, "a length")
 }
 
 // The list without the rule of the prefix.
@@ -129,68 +128,67 @@ fn plain_remove(plain: &mut Vec<Plain>, prefix: &SmallPrefix) {
 
 // What comes of a rule that is put into a list of at most so many.
 fn plain_put(
+    rt: &impl Abort,
     plain: &mut Vec<Plain>,
     max: usize,
     prefix: &SmallPrefix,
     hop: u32,
-) -> Result<Result<Put, RuleFault>, Fail> {
+) -> Result<Put, RuleFault> {
     let put = match plain_get(plain, prefix) {
         Some(old) if old == hop => Put::Unchanged,
         Some(_) => Put::Replaced,
-        None if plain.len() >= max => return Ok(Err(RuleFault::TooManyRules)),
+        None if plain.len() >= max => return Err(RuleFault::TooManyRules),
         None => Put::Added,
     };
     plain_remove(plain, prefix);
-    plain.push(Plain {
+    let rule = Plain {
         bits: prefix.bits(),
         len: prefix.len(),
         hop,
-    })?;
-    Ok(Ok(put))
+    };
+    plain.push(rule).expect(rt, "room");
+    Ok(put)
 }
 
 // How many rules the table and the list have room for.
 const MOST_RULES: usize = 24;
 
-fn put_all(rt: &impl Abort, rules: &mut Small, plain: &mut Vec<Plain>) -> Result<(), Fail> {
+fn put_all(rt: &impl Abort, rules: &mut Small, plain: &mut Vec<Plain>) {
     for i in 0..60u32 {
-        let prefix = some_prefix(i)?;
-        let put = rules.put(&prefix, Hop::new(i % 7)?);
-        let plainly = plain_put(plain, MOST_RULES, &prefix, i % 7)?;
+        let prefix = some_prefix(rt, i);
+        let put = rules.put(&prefix, Hop::new(i % 7).expect(rt, "a next hop"));
+        let plainly = plain_put(rt, plain, MOST_RULES, &prefix, i % 7);
         assert_at(rt, ("put", i), put, plainly);
         if i % 6 == 5 {
-            assert_same(rt, rules, plain)?;
+            assert_same(rt, rules, plain);
         }
     }
-    Ok(())
 }
 
-fn remove_all(rt: &impl Abort, rules: &mut Small, plain: &mut Vec<Plain>) -> Result<(), Fail> {
+fn remove_all(rt: &impl Abort, rules: &mut Small, plain: &mut Vec<Plain>) {
     for i in 0..40u32 {
-        let prefix = some_prefix(i)?;
+        let prefix = some_prefix(rt, i);
         let removed = rules.remove(&prefix).map(|hop| hop.number());
         let plainly = plain_get(plain, &prefix).ok_or(NoSuchRule);
         assert_at(rt, ("remove", i), removed, plainly);
         plain_remove(plain, &prefix);
         if i % 6 == 5 {
-            assert_same(rt, rules, plain)?;
+            assert_same(rt, rules, plain);
         }
     }
-    Ok(())
 }
 
 #[test]
-fn plain_search_agrees(rt: HostRuntime) -> Result<(), Fail> {
+fn plain_search_agrees(rt: HostRuntime) {
     let mut rules = Small::new(rt.alloc(), MOST_RULES);
     let mut plain: Vec<Plain> = Vec::new(rt.alloc());
-    assert_same(&rt, &rules, &plain)?;
-    put_all(&rt, &mut rules, &mut plain)?;
+    assert_same(&rt, &rules, &plain);
+    put_all(&rt, &mut rules, &mut plain);
     assert_at(&rt, "full", rules.is_full(), true);
-    remove_all(&rt, &mut rules, &mut plain)?;
+    remove_all(&rt, &mut rules, &mut plain);
     assert_at(&rt, "cleared", rules.clear(), plain.len());
     assert_at(&rt, "empty", rules.is_empty(), true);
-    assert_same(&rt, &rules, &[])?;
-    Ok(())
+    assert_same(&rt, &rules, &[]);
 }
 
 type Ipv4 = Rules<24, 8>;
@@ -199,12 +197,14 @@ type Ipv4 = Rules<24, 8>;
 type Route = (u32, u32, u32);
 
 // A list with these rules.
-fn list_of(alloc: Global, routes: &[Route]) -> Result<Ipv4, Fail> {
+fn list_of(rt: &impl Abort, alloc: Global, routes: &[Route]) -> Ipv4 {
     let mut rules = Ipv4::new(alloc, 100);
-    for (bits, len, hop) in routes {
-        rules.put(&Prefix::new(*bits, *len)?, Hop::new(*hop)?)?;
+    for (bits, len, number) in routes {
+        let prefix = Prefix::new(*bits, *len).expect(rt, "a length");
+        let hop = Hop::new(*number).expect(rt, "a next hop");
+        rules.put(&prefix, hop).expect(rt, "room");
     }
-    Ok(rules)
+    rules
 }
 
 fn assert_hops(rt: &impl Abort, rules: &Ipv4, hops: &[(u32, Option<u32>)]) {
@@ -227,7 +227,7 @@ const ORDERS: [[Route; 3]; 3] = [
 ];
 
 #[test]
-fn short_prefixes(rt: HostRuntime) -> Result<(), Fail> {
+fn short_prefixes(rt: HostRuntime) {
     let hops = [
         (0x0a01_01ff, Some(4)),
         (0x0a01_0200, Some(2)),
@@ -235,35 +235,32 @@ fn short_prefixes(rt: HostRuntime) -> Result<(), Fail> {
         (0x09ff_ffff, None),
     ];
     for routes in &ORDERS {
-        let rules = list_of(rt.alloc(), routes)?;
+        let rules = list_of(&rt, rt.alloc(), routes);
         assert_hops(&rt, &rules, &hops);
     }
-    Ok(())
 }
 
 #[test]
-fn top_bit(rt: HostRuntime) -> Result<(), Fail> {
-    let rules = list_of(rt.alloc(), &[(0x8000_0000, 1, 7)])?;
+fn top_bit(rt: HostRuntime) {
+    let rules = list_of(&rt, rt.alloc(), &[(0x8000_0000, 1, 7)]);
     let hops = [
         (0x7fff_ffff, None),
         (0x8000_0000, Some(7)),
         (0xffff_ffff, Some(7)),
     ];
     assert_hops(&rt, &rules, &hops);
-    Ok(())
 }
 
 #[test]
-fn default_route(rt: HostRuntime) -> Result<(), Fail> {
-    let rules = list_of(rt.alloc(), &[(0, 0, 1), (0x0a00_0000, 8, 2)])?;
+fn default_route(rt: HostRuntime) {
+    let rules = list_of(&rt, rt.alloc(), &[(0, 0, 1), (0x0a00_0000, 8, 2)]);
     let hops = [(0, Some(1)), (0x0a00_0000, Some(2)), (0xffff_ffff, Some(1))];
     assert_hops(&rt, &rules, &hops);
-    Ok(())
 }
 
 #[test]
-fn last_address(rt: HostRuntime) -> Result<(), Fail> {
-    let rules = list_of(rt.alloc(), &[(0xffff_ffff, 32, 16_777_215)])?;
+fn last_address(rt: HostRuntime) {
+    let rules = list_of(&rt, rt.alloc(), &[(0xffff_ffff, 32, 16_777_215)]);
     assert_hops(
         &rt,
         &rules,
@@ -272,11 +269,10 @@ fn last_address(rt: HostRuntime) -> Result<(), Fail> {
     assert_at(&rt, "of length 32", rules.of_length(32).len(), 1);
     assert_at(&rt, "deep in the last block", rules.deep_in(0xff_ffff), 1);
     assert_at(&rt, "deep blocks", rules.deep_blocks(), 1);
-    Ok(())
 }
 
 #[test]
-fn one_rule(rt: HostRuntime) -> Result<(), Fail> {
+fn one_rule(rt: HostRuntime) {
     let mut rules = Ipv4::new(rt.alloc(), 1);
     let steps = [
         (0x0a00_0000, 1, Ok(Put::Added)),
@@ -285,11 +281,11 @@ fn one_rule(rt: HostRuntime) -> Result<(), Fail> {
         (0x0a00_0000, 5, Ok(Put::Unchanged)),
     ];
     for (bits, hop, expected) in steps {
-        let outcome = rules.put(&Prefix::new(bits, 8)?, Hop::new(hop)?);
+        let prefix = Prefix::new(bits, 8).expect(&rt, "a length");
+        let outcome = rules.put(&prefix, Hop::new(hop).expect(&rt, "a next hop"));
         assert_at(&rt, ("put", bits, hop), outcome, expected);
     }
     assert_hops(&rt, &rules, &[(0x0a00_0000, Some(5)), (0x0b00_0000, None)]);
-    Ok(())
 }
 
 #[test]
