@@ -1,19 +1,20 @@
 -- The law as one worker knows it: by its own steps with their places, and the writer's steps.
 use Rattle.std.proofs.Common.{◌≡◌, ℕ, suc, ◌≤◌, arith, inl, inr, cond, List, [], ◌∷◌, All, length, refl, sym, ap, subst, ◌∙◌}
 use Rattle.std.proofs.lemmas.Bool.Decides.{eqb_tells}
-use Rattle.std.proofs.lemmas.List.Elements.{All-nil, All-cons, All-weaker}
+use Rattle.std.proofs.lemmas.List.Elements.{All-nil, All-cons, All-head, All-tail, All-weaker}
 use Rattle.std.proofs.lemmas.List.Kept.{AllPairs-cons}
 use Rattle.std.specs.List.{AllPairs}
+use Rattle.lpm_trace.specs.declared.step.WriterStep.{WriterStep}
 use Rattle.lpm_trace.specs.declared.step.WorkerStep.{WorkerStep}
 use Rattle.lpm_trace.specs.declared.step.TraceStep.{TraceStep}
 use Rattle.lpm_trace.specs.declared.step.TraceStep.TheVariants.{Writer, Worker as ByWorker}
-use Rattle.lpm_trace.specs.Tables.{Setup, tables_at}
-use Rattle.lpm_trace.specs.Workers.{moved}
+use Rattle.lpm_trace.specs.Tables.{Setup, Tables, oldest, tables, tables_at}
+use Rattle.lpm_trace.specs.Workers.{Worker, moved, MayRead}
 use Rattle.lpm_trace.specs.Trace.{after, writes, own, worker_by}
-use Rattle.lpm_trace.specs.Laws.{IsLegalAtPlace, OwnLookupsAreLegal, VersionsNeverFallAtPlaces, PlacesNeverFall, TraceGrows}
+use Rattle.lpm_trace.specs.Laws.{IsLegalAtPlace, OwnLookupsAreLegal, ArePlaced, OwnStepsArePlaced, VersionsNeverFallAtPlaces, PlacesNeverFall, TraceGrows}
 use Rattle.lpm_trace.proofs.Basics.{each_all}
 use Rattle.lpm_trace.proofs.Versions.{version_ge, version_le}
-use Rattle.lpm_trace.proofs.Traces.{clock_length, tables_of, rising, all_right}
+use Rattle.lpm_trace.proofs.Traces.{oldest_old, oldest_all, clock_length, tables_of, rising, all_right}
 
 worker_is : (c : Setup) (steps : List TraceStep) (k : ℕ) → (after c steps).workers k ≡ worker_by (own k steps)
 worker_is c [] k = refl
@@ -47,6 +48,41 @@ places_never_fall k (ByWorker j s ∷ steps) =
       | inl h ↦ subst (λ b. AllPairs (λ later earlier. earlier.1 ≤ later.1) (cond b (now ∷ own k steps) (own k steps)) × All (λ t. t.1 ≤ length (writes steps)) (cond b (now ∷ own k steps) (own k steps))) (sym h.0)
           (AllPairs-cons (λ later earlier. earlier.1 ≤ later.1) now (own k steps) was.1 was.0, All-cons (λ t. t.1 ≤ length (writes steps)) now (own k steps) (omega arith) was.1)
       | inr h ↦ subst (λ b. AllPairs (λ later earlier. earlier.1 ≤ later.1) (cond b (now ∷ own k steps) (own k steps)) × All (λ t. t.1 ≤ length (writes steps)) (cond b (now ∷ own k steps) (own k steps))) (sym h.0) was
+    ]
+
+-- one more step of the writer leaves what it had done at the places before
+placed_more : (c : Setup) (s : WriterStep) (w_steps : List WriterStep) (steps : List (WorkerStep × ℕ)) → All (λ t. t.1 ≤ length w_steps) steps
+    → ArePlaced c w_steps steps → ArePlaced c (s ∷ w_steps) steps
+placed_more c s w_steps [] within placed = tt
+placed_more c s w_steps (t ∷ steps) within placed =
+    let le : t.1 ≤ length w_steps = All-head (λ (x : WorkerStep × ℕ). x.1 ≤ length w_steps) t steps within in (
+      subst (λ (l : List WriterStep). MayRead c (tables c l) (worker_by steps) t.0) (sym (oldest_old s w_steps t.1 le)) placed.0,
+      placed_more c s w_steps steps (All-tail (λ (x : WorkerStep × ℕ). x.1 ≤ length w_steps) t steps within) placed.1,
+    )
+
+-- a worker's newest step stands at the end of the writer's steps
+placed_now : (c : Setup) (steps : List TraceStep) (k : ℕ) (s : WorkerStep) → MayRead c (after c steps).tables ((after c steps).workers k) s
+    → MayRead c (tables_at c (writes steps) (length (writes steps))) (worker_by (own k steps)) s
+placed_now c steps k s may =
+    let w_steps = writes steps in
+    let all : oldest (length w_steps) w_steps ≡ w_steps = oldest_all w_steps (length w_steps) (omega arith) in
+    subst (λ (l : List WriterStep). MayRead c (tables c l) (worker_by (own k steps)) s) (sym all)
+    (subst (λ (z : Tables × Worker). MayRead c z.0 z.1 s) (λ i. (tables_of c steps i, worker_is c steps k i)) may)
+
+pub own_steps_are_placed : OwnStepsArePlaced
+own_steps_are_placed c [] k trace = tt
+own_steps_are_placed c (Writer s ∷ steps) k trace =
+    placed_more c s (writes steps) (own k steps) (places_never_fall k steps).1 (own_steps_are_placed c steps k trace.1)
+own_steps_are_placed c (ByWorker j s ∷ steps) k trace =
+    let was = own_steps_are_placed c steps k trace.1 in
+    let now : WorkerStep × ℕ = (s, length (writes steps)) in
+    elim (eqb_tells k j) [
+      | inl h ↦ subst (λ b. ArePlaced c (writes steps) (cond b (now ∷ own k steps) (own k steps))) (sym h.0) (
+        subst (λ n. MayRead c (tables_at c (writes steps) (length (writes steps))) (worker_by (own n steps)) s) (sym h.1)
+            (placed_now c steps j s trace.0.1),
+        was,
+      )
+      | inr h ↦ subst (λ b. ArePlaced c (writes steps) (cond b (now ∷ own k steps) (own k steps))) (sym h.0) was
     ]
 
 pub trace_grows : TraceGrows

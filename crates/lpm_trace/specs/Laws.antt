@@ -1,7 +1,7 @@
 -- Meaning: what holds of each trace: answers, reuse of groups, rest, and versions that never fall
 -- (DPDK Programmer's Guide, "RCU Library": memory is used again after a grace period alone; this
 -- project's otherwise).
-use Rattle.std.specs.Prelude.{◌≡◌, ◌≢◌, ℕ, ◌/◌, ◌^◌, ◌<◌, ◌≤◌, ◌↔◌, eqb, Bool, true, false, All, List, ◌∷◌, ◌++◌, length}
+use Rattle.std.specs.Prelude.{◌≡◌, ◌≢◌, ℕ, ◌/◌, ◌^◌, ◌<◌, ◌≤◌, ◌↔◌, ⊤, eqb, Bool, true, false, All, List, [], ◌∷◌, ◌++◌, length}
 use Rattle.std.specs.List.{AllPairs}
 use Rattle.lpm_entry.specs.declared.Entry.TheVariants.{Group}
 use Rattle.lpm_entry.specs.Words.{entry_in}
@@ -15,7 +15,7 @@ use Rattle.lpm_trace.specs.declared.step.WorkerStep.TheVariants.{LoadOnline, Sto
 use Rattle.lpm_trace.specs.declared.step.TraceStep.{TraceStep}
 use Rattle.lpm_trace.specs.declared.step.TraceStep.TheVariants.{Writer, Worker as ByWorker}
 use Rattle.lpm_trace.specs.Tables.{Setup, Tables, IsSettled, addresses, answer, IsAnswer, done, begun, version, lets_pass, oldest, tables, tables_at, first_entry}
-use Rattle.lpm_trace.specs.Workers.{Seen}
+use Rattle.lpm_trace.specs.Workers.{Seen, MayRead}
 use Rattle.lpm_trace.specs.Trace.{MayCome, after, IsTrace, writes, own, worker_by, worker_of}
 
 -- ---- answers
@@ -193,6 +193,18 @@ OwnLookupsAreLegal = (c : Setup) (steps : List TraceStep) (worker : ℕ)
     → IsSettled c → IsTrace c steps
     → ((after c steps).workers worker ≡ worker_by (own worker steps))
     × All (IsLegalAtPlace c (writes steps)) (worker_by (own worker steps)).finished
+
+-- each of a worker's own steps may come where the writer has made as many of these steps as its place says,
+-- after the worker's own steps before it. So each load finds what the writer had left at its place.
+abbrev pub ArePlaced : Setup → List WriterStep → List (WorkerStep × ℕ) → Type 0
+ArePlaced c w_steps [] = ⊤
+ArePlaced c w_steps (s ∷ steps) =
+    MayRead c (tables_at c w_steps s.1) (worker_by steps) s.0 × ArePlaced c w_steps steps
+
+-- the own steps of a trace's worker are such
+abbrev pub OwnStepsArePlaced : Type 0
+OwnStepsArePlaced = (c : Setup) (steps : List TraceStep) (worker : ℕ) → IsTrace c steps
+    → ArePlaced c (writes steps) (own worker steps)
 
 -- the version that an address shows stands at each place, and never falls
 abbrev pub VersionsNeverFallAtPlaces : Type 0

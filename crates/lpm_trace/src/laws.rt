@@ -2,7 +2,7 @@
 
 ghost use Rattle.lpm_trace.specs.Laws.{LookupsAreLegal, ReuseIsLawful, RestAnswers};
 ghost use Rattle.lpm_trace.specs.Laws.{VersionsNeverFall, LookupsAreMonotone};
-ghost use Rattle.lpm_trace.specs.Laws.{OwnLookupsAreLegal, PlacesNeverFall, TraceGrows};
+ghost use Rattle.lpm_trace.specs.Laws.{OwnLookupsAreLegal, OwnStepsArePlaced, PlacesNeverFall, TraceGrows};
 ghost use Rattle.lpm_trace.specs.Laws.{VersionsNeverFallAtPlaces, PassedIsChecked};
 ghost use Rattle.lpm_trace.specs.Laws.{WordsAreEntries};
 ghost use Rattle.lpm_trace.specs.Writer.{WriterIsAlone, WriterGoesOn};
@@ -38,6 +38,12 @@ pub fn lookups_are_monotone()
 /// lookups is legal at a place. This is the law as a running thread can know it.
 pub fn own_lookups_are_legal()
     ensures { OwnLookupsAreLegal }
+{}
+
+/// Each of a worker's own steps may come where the writer has made as many steps as its place says: a load
+/// of a word, of the sequence or of the token finds what the writer had left there.
+pub fn own_steps_are_placed()
+    ensures { OwnStepsArePlaced }
 {}
 
 /// The version that an address shows stands at each place, and never falls.
