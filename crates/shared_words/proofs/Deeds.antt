@@ -8,15 +8,16 @@ use Rattle.lpm_trace.specs.declared.step.WriterStep.{WriterStep}
 use Rattle.lpm_trace.specs.declared.step.WriterStep.TheVariants.{StoreFirst, StoreSecond, Opens, Closes, BumpToken, LoadCounter}
 use Rattle.lpm_trace.specs.declared.step.WorkerStep.{WorkerStep}
 use Rattle.lpm_trace.specs.declared.step.WorkerStep.TheVariants.{Begins, LoadFirst, LoadSecond, Ends}
-use Rattle.lpm_trace.specs.Tables.{Setup, tables, done_at, begun_at}
+use Rattle.lpm_trace.specs.Tables.{Setup, oldest, tables, done_at, begun_at, begun}
 use Rattle.lpm_trace.specs.Trace.{worker_by}
-use Rattle.lpm_trace.specs.Workers.{Worker as WorkerState, Online, Unread, InGroup, Answered, Seen, Probe, moved, read_first, first_read}
-use Rattle.lpm_trace.specs.Laws.{IsLegalAtPlace}
+use Rattle.lpm_trace.specs.Workers.{Worker as WorkerState, Online, Unread, InGroup, Answered, Seen, Probe, moved, read_first, first_read, MayRead}
+use Rattle.lpm_trace.specs.Laws.{IsLegalAtPlace, ArePlaced}
+use Rattle.lpm_trace.proofs.Traces.{oldest_all}
 use Rattle.shared_words.specs.declared.view.View.{View}
 use Rattle.shared_words.specs.Opened.{Opened, setup_of}
 use Rattle.shared_words.specs.Rule.{IsLater}
 use Rattle.shared_words.specs.Seats.{Gains}
-use Rattle.shared_words.specs.Deeds.{GainsAll, GoesOn, LoadsWords, LooksUp, loads_of}
+use Rattle.shared_words.specs.Deeds.{GainsAll, GoesOn, IsReadOn, LoadsAround, LoadsWords, LooksUp}
 
 -- ---- one step
 
@@ -47,6 +48,37 @@ goes_on u v w h k = record {
 pub gains_state : (r : WorkerStep) (v w : View) (g : Gains r v w)
     → worker_by w.own ≡ moved (length g.seen) (worker_by v.own) r
 gains_state r v w g = ap (λ (x : View). worker_by x.own) g.view
+
+-- a step may come at the end of what the worker has seen by then of the writer's steps
+pub may_now : (s : WorkerStep) (v w : View) → Gains s v w
+    → MayRead (setup_of v.opening) (tables (setup_of v.opening) w.seen) (worker_by v.own) s
+may_now s v w g =
+    let c : Setup = setup_of v.opening in
+    let placed = subst (λ (x : View). ArePlaced (setup_of x.opening) x.seen x.own) g.view g.sound.placed in
+    let all : oldest (length g.seen) g.seen ≡ g.seen = oldest_all g.seen (length g.seen) (omega arith) in
+    subst (λ (l : List WriterStep). MayRead c (tables c l) (worker_by v.own) s)
+    (all ∙ sym (ap (λ (x : View). x.seen) g.view)) placed.0
+
+-- the two loads of the sequence tell how many updates were done and begun at their places
+pub around : (addrs : List ℕ) (low high lo hi : ℕ) (v b u w : View) (begins : Gains (Begins addrs low) v b)
+    (ends : Gains (Ends high) u w) → u.opening ≡ v.opening → lo ≡ done_at low → hi ≡ begun_at high
+    → LoadsAround addrs lo hi v b u w
+around addrs low high lo hi v b u w begins ends same lo_is hi_is = record {
+  low = low;
+  begins = begins;
+  high = high;
+  ends = ends;
+  done_then = lo_is ∙ ap done_at (may_now (Begins addrs low) v b begins).2;
+  begun_then = subst (λ (o : Opened). hi ≡ begun (tables (setup_of o) w.seen)) same
+      (hi_is ∙ ap begun_at (may_now (Ends high) u w ends).2);
+}
+
+-- what is loaded after the lookup began is loaded after what the worker had seen before
+pub after_all : (addrs : List ℕ) (lo hi first : ℕ) (v b u w : View) → LoadsAround addrs lo hi v b u w
+    → length b.seen ≤ first → length v.seen ≤ first
+after_all addrs lo hi first v b u w h le =
+    let begun : GoesOn v b = gains_on (Begins addrs h.low) v b h.begins in
+    omega (arith, later_longer v.seen b.seen begun.later, le)
 
 -- steps one after another
 pub goes_after : (newer older : List WorkerStep) (u v w : View) → GainsAll newer v w → GainsAll older u v
@@ -82,6 +114,12 @@ firsts_are r v w first g is =
     let same : w.opening.first ≡ first = ap (λ (x : View). x.opening.first) g.view ∙ is in
     firsts ∙ ap (λ n. 2 ^ n) same
 
+-- a word that answers is no group's
+alone : (e : Entry) → IsLast e → IsReadOn e None
+alone Miss last = refl
+alone (Hop hop depth) last = refl
+alone (Group group) last = absurd last
+
 pub answered : (now a : ℕ) (e : Entry) → IsLast e → read_first now a e ≡ Answered a (hop_in e) now now
 answered now a Miss last = refl
 answered now a (Hop hop depth) last = refl
@@ -97,6 +135,7 @@ module _ (addr : ℕ) (v : View) (unread : (worker_by v.own).probes ≡ Unread a
           word = word;
           second = None;
           steps = (v, refl, first);
+          exact = alone (entry_in word) last;
           rest = gains_on (LoadFirst word) v u first;
           from = now;
           until = now;
@@ -121,6 +160,7 @@ module _ (addr : ℕ) (v : View) (unread : (worker_by v.own).probes ≡ Unread a
         word = word;
         second = Some last;
         steps = (u, (v, refl, first), second);
+        exact = subst (λ (e : Entry). IsReadOn e (Some last)) (sym is) (last, refl);
         rest = goes_on v u w (gains_on (LoadFirst word) v u first) (gains_on (LoadSecond last) u w second);
         from = length first.seen;
         until = length second.seen;
@@ -175,25 +215,22 @@ module _ (addr low last high : ℕ) (v b u w : View) (begins : Gains (Begins (ad
   pub looked : (hop : Option ℕ) (lo hi : ℕ) → hop ≡ hop_in (entry_in last) → lo ≡ done_at low
       → hi ≡ begun_at high
       → LooksUp addr hop lo hi v w
-  looked hop lo hi hop_is lo_is hi_is = record {
-    low = low;
-    word = words.word;
-    second = words.second;
-    high = high;
-    steps = (
-      u,
-      goes_after (loads_of words.word words.second) (Begins (addr ∷ []) low ∷ []) v b u words.steps
-          (v, refl, begins),
-      ends,
-    );
-    rest = on;
-    online = ap (λ (x : WorkerState). x.phase) state;
-    seen = seen_by;
-    finished = finished;
-    answer = (refl, sym hop_is);
-    versions = (sym lo_is, sym hi_is);
-    after =
-        let begun : GoesOn v b = gains_on (Begins (addr ∷ []) low) v b begins in
-        omega (arith, later_longer v.seen b.seen begun.later, words.after);
-    legal = legal;
-  }
+  looked hop lo hi hop_is lo_is hi_is =
+      let loaded : GoesOn v u = goes_on v b u (gains_on (Begins (addr ∷ []) low) v b begins) words.rest in
+      let opened : u.opening ≡ v.opening = ap (λ (x : View). x.opening) loaded.same in record {
+        started = b;
+        loaded = u;
+        around = around (addr ∷ []) low high lo hi v b u w begins ends opened lo_is hi_is;
+        word = words.word;
+        second = words.second;
+        steps = words.steps;
+        exact = words.exact;
+        rest = on;
+        online = ap (λ (x : WorkerState). x.phase) state;
+        seen = seen_by;
+        finished = finished;
+        answer = (refl, sym hop_is);
+        versions = (sym lo_is, sym hi_is);
+        after = words.after;
+        legal = legal;
+      }

@@ -1,5 +1,5 @@
 -- The steps of a lookup of four addresses.
-use Rattle.std.proofs.Common.{◌≡◌, ℕ, ◌+◌, ◌*◌, ◌%◌, ◌^◌, ◌≤◌, All, List, [], ◌∷◌, ◌++◌, map, length, Option, refl, sym, ap, subst, ◌∙◌, arith}
+use Rattle.std.proofs.Common.{◌≡◌, ℕ, ◌+◌, ◌*◌, ◌%◌, ◌^◌, ◌≤◌, All, List, [], ◌∷◌, ◌++◌, map, length, Option, refl, sym, ap, subst, ◌∙◌, arith, length-append}
 use Rattle.std.proofs.lemmas.List.Elements.{All-nil, All-cons, All-head, All-tail}
 use Rattle.lpm_entry.specs.declared.Entry.{Entry}
 use Rattle.lpm_entry.specs.declared.Entry.TheVariants.{Miss, Hop, Group}
@@ -12,8 +12,8 @@ use Rattle.lpm_trace.specs.Laws.{IsLegalAtPlace}
 use Rattle.shared_words.specs.declared.view.View.{View}
 use Rattle.shared_words.specs.Opened.{Opened, setup_of}
 use Rattle.shared_words.specs.Seats.{Gains, IsSecondAt}
-use Rattle.shared_words.specs.Deeds.{GainsAll, GoesOn, LoadsFirsts, LoadsLast, IsNextWith, LooksUpAll, first_words}
-use Rattle.shared_words.proofs.Deeds.{gains_on, goes_on, gains_state, goes_after, later_longer, answered}
+use Rattle.shared_words.specs.Deeds.{GainsAll, GoesOn, LoadsFirsts, LoadsLast, IsNextWith, LooksUpAll, first_words, is_group}
+use Rattle.shared_words.proofs.Deeds.{gains_on, goes_on, gains_state, goes_after, around, later_longer, answered}
 
 -- ---- the probes of a lookup
 
@@ -112,11 +112,17 @@ module _ (a b c d : ℕ) (v v1 v2 v3 w : View) (x1 x2 x3 x4 : ℕ) (g1 : Gains (
 
 -- ---- the words that answer
 
+none_group : (e : Entry) → IsLast e → 0 ≡ is_group e
+none_group Miss last = refl
+none_group (Hop hop depth) last = refl
+none_group (Group group) last = absurd last
+
 module _ (addr word : ℕ) (v : View) where
   pub no_second : IsLast (entry_in word) → LoadsLast addr word word v v
   no_second last = record {
     seconds = [];
     steps = refl;
+    exact = none_group (entry_in word) last;
     rest = record { same = refl; later = ([], refl) };
     state = λ next. (
       next.first,
@@ -144,6 +150,7 @@ module _ (addr word : ℕ) (v : View) where
     second_loaded last w g = record {
       seconds = last ∷ [];
       steps = (v, refl, g);
+      exact = sym (ap is_group is);
       rest = gains_on (LoadSecond last) v w g;
       state = λ next. (
         length g.seen,
@@ -378,21 +385,25 @@ module _ (a b c d low : ℕ) (addrs : List ℕ) (same : addrs ≡ a ∷ b ∷ c 
                   (All-nil IsLegal))))
 
               abbrev IsAfter : Seen → Type 0
-              IsAfter s = length v0.seen ≤ s.first
+              IsAfter s = length v.seen ≤ s.first
 
               after : All IsAfter (seen1 ∷ seen2 ∷ seen3 ∷ seen4 ∷ [])
               after =
-                  let early : length v0.seen ≤ length v.seen = later_longer v0.seen v.seen on_begun.later in
                   let is : ℕ → Type 0 = λ place. length v.seen ≤ place in
                   let h1 : All is (n1 ∷ n2 ∷ n3 ∷ n4 ∷ []) = subst (All is) places_of.4 firsts.after in
                   let h2 = All-tail is n1 (n2 ∷ n3 ∷ n4 ∷ []) h1 in
                   let h3 = All-tail is n2 (n3 ∷ n4 ∷ []) h2 in
                   let h4 = All-tail is n3 (n4 ∷ []) h3 in
-                  All-cons IsAfter seen1 (seen2 ∷ seen3 ∷ seen4 ∷ [])
-                  (omega (arith, early, All-head is n1 (n2 ∷ n3 ∷ n4 ∷ []) h1))
-                  (All-cons IsAfter seen2 (seen3 ∷ seen4 ∷ []) (omega (arith, early, All-head is n2 (n3 ∷ n4 ∷ []) h2))
-                  (All-cons IsAfter seen3 (seen4 ∷ []) (omega (arith, early, All-head is n3 (n4 ∷ []) h3))
-                  (All-cons IsAfter seen4 [] (omega (arith, early, All-head is n4 [] h4)) (All-nil IsAfter))))
+                  All-cons IsAfter seen1 (seen2 ∷ seen3 ∷ seen4 ∷ []) (All-head is n1 (n2 ∷ n3 ∷ n4 ∷ []) h1)
+                  (All-cons IsAfter seen2 (seen3 ∷ seen4 ∷ []) (All-head is n2 (n3 ∷ n4 ∷ []) h2)
+                  (All-cons IsAfter seen3 (seen4 ∷ []) (All-head is n3 (n4 ∷ []) h3)
+                  (All-cons IsAfter seen4 [] (All-head is n4 [] h4) (All-nil IsAfter))))
+
+              opened : s4.opening ≡ v0.opening
+              opened =
+                  let loaded : GoesOn v0 s4 = goes_on v0 v s4 on_begun (goes_on v f s4 firsts.rest
+                  (goes_on f s1 s4 one.rest (goes_on s1 s2 s4 two.rest (goes_on s2 s3 s4 three.rest last.rest)))) in
+                  ap (λ (x : View). x.opening) loaded.same
 
               pub looked_together : (hops : List (Option ℕ)) (lo hi : ℕ)
                   → hops ≡ hop_in (entry_in l1) ∷ hop_in (entry_in l2) ∷ hop_in (entry_in l3) ∷ hop_in (entry_in l4) ∷ []
@@ -401,25 +412,31 @@ module _ (a b c d low : ℕ) (addrs : List ℕ) (same : addrs ≡ a ∷ b ∷ c 
               looked_together hops lo hi hops_are lo_is hi_is =
                   let is : Seen → Type 0 = λ s. (s.lo ≡ lo) × (s.hi ≡ hi) in
                   let both : (done_at low ≡ lo) × (begun_at high ≡ hi) = (sym lo_is, sym hi_is) in
-                  let firsts_on : GainsAll (map LoadFirst (x4 ∷ x3 ∷ x2 ∷ x1 ∷ []) ++ Begins (a ∷ b ∷ c ∷ d ∷ []) low ∷ []) v0 f =
-                  goes_after (map LoadFirst (x4 ∷ x3 ∷ x2 ∷ x1 ∷ [])) (Begins (a ∷ b ∷ c ∷ d ∷ []) low ∷ []) v0 v f
-                  firsts.steps (v0, refl, begins) in
-                  let seconds : List ℕ = last.seconds ++ (three.seconds ++ (two.seconds ++ one.seconds)) in
+                  let third : List ℕ = two.seconds ++ one.seconds in
+                  let fourth : List ℕ = three.seconds ++ third in
+                  let seconds : List ℕ = last.seconds ++ fourth in
                   let seconds_on : GainsAll (map LoadSecond seconds) f s4 =
                   goes_seconds last.seconds (three.seconds ++ (two.seconds ++ one.seconds)) f s3 s4 last.steps
                   (goes_seconds three.seconds (two.seconds ++ one.seconds) f s2 s3 three.steps
                   (goes_seconds two.seconds one.seconds f s1 s2 two.steps one.steps)) in
                   record {
-                    low = low;
+                    started = v;
+                    loaded = s4;
+                    around = around (a ∷ b ∷ c ∷ d ∷ []) low high lo hi v0 v s4 w begins ends opened lo_is hi_is;
                     words = x4 ∷ x3 ∷ x2 ∷ x1 ∷ [];
                     seconds = seconds;
-                    high = high;
-                    steps = (
-                      s4,
-                      goes_after (map LoadSecond seconds)
-                          (map LoadFirst (x4 ∷ x3 ∷ x2 ∷ x1 ∷ []) ++ Begins (a ∷ b ∷ c ∷ d ∷ []) low ∷ [])
-                          v0 f s4 seconds_on firsts_on,
-                      ends,
+                    steps = goes_after (map LoadSecond seconds) (map LoadFirst (x4 ∷ x3 ∷ x2 ∷ x1 ∷ [])) v f s4
+                        seconds_on firsts.steps;
+                    each = refl;
+                    exact = omega (
+                      arith,
+                      length-append last.seconds fourth,
+                      length-append three.seconds third,
+                      length-append two.seconds one.seconds,
+                      last.exact,
+                      three.exact,
+                      two.exact,
+                      one.exact,
                     );
                     rest = on;
                     online = ap (λ (x : WorkerState). x.phase) state;

@@ -15,10 +15,10 @@ use Rattle.lpm_trace.specs.Tables.{IsSettled, tables}
 use Rattle.lpm_trace.specs.Workers.{Worker as WorkerState, moved, MayRead}
 use Rattle.lpm_trace.specs.Writer.{IsWritten}
 use Rattle.lpm_trace.specs.Trace.{World, after, IsTrace, MayCome, writes, own, worker_by}
-use Rattle.lpm_trace.specs.Laws.{IsLegalAtPlace}
+use Rattle.lpm_trace.specs.Laws.{IsLegalAtPlace, ArePlaced}
 use Rattle.lpm_trace.proofs.Basics.{with_at_case}
 use Rattle.lpm_trace.proofs.Traces.{tables_of}
-use Rattle.lpm_trace.proofs.Promises.{writer_is_alone, words_are_entries, own_lookups_are_legal, places_never_fall}
+use Rattle.lpm_trace.proofs.Promises.{writer_is_alone, words_are_entries, own_lookups_are_legal, own_steps_are_placed, places_never_fall}
 use Rattle.shared_words.specs.declared.view.Role.{Role}
 use Rattle.shared_words.specs.declared.view.Role.TheVariants.{Writer, Worker, Note}
 use Rattle.shared_words.specs.declared.view.View.{View}
@@ -197,6 +197,8 @@ module _ (o : Opened) where
       × IsWords z.0.first z.0.second (tables (setup_of z.0) z.1).words in
       let legal : Opened × (List WriterStep × List (WorkerStep × ℕ)) → Type 0 = λ z.
       All (IsLegalAtPlace (setup_of z.0) z.1.0) (worker_by z.1.1).finished in
+      let placed : Opened × (List WriterStep × List (WorkerStep × ℕ)) → Type 0 = λ z.
+      ArePlaced (setup_of z.0) z.1.0 z.1.1 in
       let both = subst known (λ i. (sym opening i, sym seen i))
       (writer_is_alone (setup_of o) steps trace, words) in
       record {
@@ -207,6 +209,8 @@ module _ (o : Opened) where
         within = subst
             (λ (z : List WriterStep × List (WorkerStep × ℕ)). All (λ step. step.1 ≤ length z.0) z.1)
             (λ i. (sym seen i, sym mine i)) places.1;
+        placed = subst placed (λ i. (sym opening i, (sym seen i, sym mine i)))
+            (own_steps_are_placed (setup_of o) steps k trace);
         legal = subst legal (λ i. (sym opening i, (sym seen i, sym mine i)))
             (own_lookups_are_legal (setup_of o) steps k settled trace).1;
       }

@@ -1,10 +1,13 @@
 -- Meaning: what a whole deed of a worker gains its view: a report, or a lookup of one address (DPDK
 -- Programmer's Guide, "RCU Library": a worker comes online, is quiescent, goes offline; Gupta, Lin and
 -- McKeown, INFOCOM 1998, section 3: a lookup reads one word or two).
-use Rattle.std.specs.Prelude.{ℕ, ◌≡◌, ◌≤◌, List, [], ◌∷◌, ◌++◌, All, map, reverse, length, Option, Some, None}
+use Rattle.std.specs.Prelude.{ℕ, ◌≡◌, ◌+◌, ◌≤◌, List, [], ◌∷◌, ◌++◌, All, map, reverse, length, Option, Some, None}
+use Rattle.lpm_entry.specs.declared.Entry.{Entry}
+use Rattle.lpm_entry.specs.declared.Entry.TheVariants.{Miss, Hop, Group}
 use Rattle.lpm_entry.specs.Words.{entry_in, hop_in}
 use Rattle.lpm_trace.specs.declared.step.WorkerStep.{WorkerStep}
 use Rattle.lpm_trace.specs.declared.step.WorkerStep.TheVariants.{Begins, LoadFirst, LoadSecond, Ends}
+use Rattle.lpm_trace.specs.Tables.{tables, done, begun}
 use Rattle.lpm_trace.specs.Workers.{Online, Probe, Answered, Seen, AreBegun, AreAnswered, read_first}
 use Rattle.lpm_trace.specs.Trace.{worker_by}
 use Rattle.lpm_trace.specs.Laws.{IsLegalAtPlace}
@@ -28,12 +31,29 @@ abbrev pub loads_of : ℕ → Option ℕ → List WorkerStep
 loads_of word None = LoadFirst word ∷ []
 loads_of word (Some second) = LoadSecond second ∷ LoadFirst word ∷ []
 
+-- a second word is loaded exactly where the first word is a group's
+abbrev pub IsReadOn : Entry → Option ℕ → Type 0
+IsReadOn Miss second = second ≡ None
+IsReadOn (Hop hop depth) second = second ≡ None
+IsReadOn (Group group) second = (word : ℕ) × (second ≡ Some word)
+
+-- a lookup of these addresses begins and ends with a load of the sequence: `lo` is how many updates were
+-- done at the place of the first, and `hi` how many were begun at the place of the last
+pub record LoadsAround (addrs : List ℕ) (lo hi : ℕ) (v started loaded w : View) : Type 0 where
+  pub low : ℕ
+  pub begins : Gains (Begins addrs low) v started
+  pub high : ℕ
+  pub ends : Gains (Ends high) loaded w
+  pub done_then : lo ≡ done (tables (setup_of v.opening) started.seen)
+  pub begun_then : hi ≡ begun (tables (setup_of v.opening) w.seen)
+
 -- in a lookup of the address alone, its words are loaded, of which the last one answers, after all that
 -- the worker had seen of the writer's steps
 pub record LoadsWords (addr last : ℕ) (v w : View) : Type 0 where
   pub word : ℕ
   pub second : Option ℕ
   pub steps : GainsAll (loads_of word second) v w
+  pub exact : IsReadOn (entry_in word) second
   pub rest : GoesOn v w
   pub from : ℕ
   pub until : ℕ
@@ -43,20 +63,22 @@ pub record LoadsWords (addr last : ℕ) (v w : View) : Type 0 where
 
 -- the address is looked up: the sequence is loaded, its words, and the sequence again. This is the
 -- worker's newest lookup. It is legal, and its words were loaded after all that the worker had seen of the
--- writer's steps.
+-- writer's steps when it began.
 pub record LooksUp (addr : ℕ) (hop : Option ℕ) (lo hi : ℕ) (v w : View) : Type 0 where
-  pub low : ℕ
+  pub started : View
+  pub loaded : View
+  pub around : LoadsAround (addr ∷ []) lo hi v started loaded w
   pub word : ℕ
   pub second : Option ℕ
-  pub high : ℕ
-  pub steps : GainsAll (Ends high ∷ (loads_of word second ++ Begins (addr ∷ []) low ∷ [])) v w
+  pub steps : GainsAll (loads_of word second) started loaded
+  pub exact : IsReadOn (entry_in word) second
   pub rest : GoesOn v w
   pub online : (worker_by w.own).phase ≡ Online
   pub seen : Seen
   pub finished : (worker_by w.own).finished ≡ seen ∷ (worker_by v.own).finished
   pub answer : (seen.addr ≡ addr) × (seen.hop ≡ hop)
   pub versions : (seen.lo ≡ lo) × (seen.hi ≡ hi)
-  pub after : length v.seen ≤ seen.first
+  pub after : length started.seen ≤ seen.first
   pub legal : IsLegalAtPlace (setup_of v.opening) w.seen seen
 
 -- ---- a lookup of several addresses
@@ -86,25 +108,40 @@ pub record IsNextWith (addr word : ℕ) (probes : List Probe) : Type 0 where
   pub begun : AreBegun rest
   pub split : probes ≡ before ++ read_first first addr (entry_in word) ∷ rest
 
+-- how many of these first words are a group's
+abbrev pub is_group : Entry → ℕ
+is_group Miss = 0
+is_group (Hop hop depth) = 0
+is_group (Group group) = 1
+
+abbrev pub groups_in : List ℕ → ℕ
+groups_in [] = 0
+groups_in (word ∷ words) = is_group (entry_in word) + groups_in words
+
 -- the word that answers is loaded, where that isn't the first word
 pub record LoadsLast (addr word last : ℕ) (v w : View) : Type 0 where
   pub seconds : List ℕ
   pub steps : GainsAll (map LoadSecond seconds) v w
+  pub exact : length seconds ≡ is_group (entry_in word)
   pub rest : GoesOn v w
   pub state : (next : IsNextWith addr word (worker_by v.own).probes) → (until : ℕ)
       × (worker_by w.own ≡ record (worker_by v.own) {
         probes = next.before ++ Answered addr (hop_in (entry_in last)) next.first until ∷ next.rest;
       })
 
--- the addresses are looked up together: the sequence is loaded, the first words, those second words that
--- answer, and the sequence again. These are the worker's newest lookups. Each is legal, and its words were
--- loaded after all that the worker had seen of the writer's steps.
+-- the addresses are looked up together: the sequence is loaded, a first word for each, a second word for
+-- each first word that is a group's, and the sequence again. These are the worker's newest lookups. Each
+-- is legal, and its words were loaded after all that the worker had seen of the writer's steps when they
+-- began.
 pub record LooksUpAll (addrs : List ℕ) (hops : List (Option ℕ)) (lo hi : ℕ) (v w : View) : Type 0 where
-  pub low : ℕ
+  pub started : View
+  pub loaded : View
+  pub around : LoadsAround addrs lo hi v started loaded w
   pub words : List ℕ
   pub seconds : List ℕ
-  pub high : ℕ
-  pub steps : GainsAll (Ends high ∷ (map LoadSecond seconds ++ (map LoadFirst words ++ Begins addrs low ∷ []))) v w
+  pub steps : GainsAll (map LoadSecond seconds ++ map LoadFirst words) started loaded
+  pub each : length words ≡ length addrs
+  pub exact : length seconds ≡ groups_in words
   pub rest : GoesOn v w
   pub online : (worker_by w.own).phase ≡ Online
   pub seen : List Seen
@@ -112,5 +149,5 @@ pub record LooksUpAll (addrs : List ℕ) (hops : List (Option ℕ)) (lo hi : ℕ
   pub addrs_are : map (λ (s : Seen). s.addr) seen ≡ addrs
   pub hops_are : map (λ (s : Seen). s.hop) seen ≡ hops
   pub versions : All (λ s. (s.lo ≡ lo) × (s.hi ≡ hi)) seen
-  pub after : All (λ s. length v.seen ≤ s.first) seen
+  pub after : All (λ s. length started.seen ≤ s.first) seen
   pub legal : All (IsLegalAtPlace (setup_of v.opening) w.seen) seen

@@ -12,7 +12,7 @@ use Rattle.lpm_trace.specs.Tables.{tables}
 use Rattle.lpm_trace.specs.Writer.{IsWritten}
 use Rattle.lpm_trace.specs.Trace.{worker_by}
 use Rattle.lpm_trace.specs.Workers.{Probe, Unread, InGroup, Answered}
-use Rattle.lpm_trace.specs.Laws.{IsLegalAtPlace, IsChecked}
+use Rattle.lpm_trace.specs.Laws.{IsLegalAtPlace, ArePlaced, IsChecked}
 use Rattle.lpm_cells.specs.Table.{IsWords, IsFirstWord}
 use Rattle.shared_words.specs.declared.view.View.{View}
 use Rattle.shared_words.specs.declared.layout.Layout.{Layout}
@@ -76,12 +76,14 @@ KeepsSecond o seen j word = (k : ℕ) → k < length o.seconds → second_at o k
 -- ---- a worker
 
 -- what a worker knows after a step: the writer's steps that it has seen are lawful, its own steps stand
--- at places among them that never fall, and each lookup that it has finished is legal
+-- at places among them that never fall, each may come at its place, and each lookup that it has finished
+-- is legal
 pub record IsSound (v : View) : Type 0 where
   pub written : IsWritten (setup_of v.opening) v.seen
   pub words : IsWords v.opening.first v.opening.second (tables (setup_of v.opening) v.seen).words
   pub rising : AllPairs (λ later earlier. earlier.1 ≤ later.1) v.own
   pub within : All (λ step. step.1 ≤ length v.seen) v.own
+  pub placed : ArePlaced (setup_of v.opening) v.seen v.own
   pub legal : All (IsLegalAtPlace (setup_of v.opening) v.seen) (worker_by v.own).finished
 
 -- the worker's own list gains the step, at the place of what it has seen of the writer's steps then
