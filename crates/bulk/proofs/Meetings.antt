@@ -11,13 +11,13 @@ use Rattle.shared_words.specs.declared.view.View.{View}
 use Rattle.shared_words.specs.Rule.{IsLater}
 use Rattle.shared_words.specs.Seats.{Gains}
 use Rattle.shared_words.specs.Deeds.{GoesOn}
-use Rattle.shared_words.proofs.Deeds.{goes_on}
+use Rattle.shared_words.proofs.Deeds.{between, goes_on}
 use Rattle.shared_fib.specs.Running.{Identity, WriterState, PassState, IsAtRest, IsOffline, identity_of, steps_of}
 use Rattle.bulk.specs.declared.desk.Desk.{Desk}
 use Rattle.bulk.specs.Pieces.{piece_of}
 use Rattle.bulk.specs.Desks.{IsDeskOf, role_of, EachDesk, HasMet, AnswersAtRest, HasAnswered}
 use Rattle.bulk.proofs.Joined.{pieces_answered}
-use Rattle.bulk.proofs.Resting.{between, width_of, answers_within}
+use Rattle.bulk.proofs.Resting.{width_of, answers_within}
 
 -- ---- one desk after another
 

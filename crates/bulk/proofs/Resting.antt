@@ -1,6 +1,5 @@
 -- A writer that rests while addresses are looked up: the answers are those of its rules.
-use Rattle.std.proofs.Common.{◌≡◌, ℕ, ◌+◌, ◌≤◌, List, [], ◌∷◌, ◌++◌, Option, length, length-append, sym, ap, subst, ◌∙◌, arith}
-use Rattle.std.proofs.lemmas.List.{nil_from_length}
+use Rattle.std.proofs.Common.{◌≡◌, ℕ, ◌+◌, ◌≤◌, List, [], ◌∷◌, ◌++◌, Option, length, sym, ap, subst, ◌∙◌, arith}
 use Rattle.lpm_rules.specs.RuleMap.{RuleMap}
 use Rattle.lpm_rules.specs.Longest.{IsLongestHop}
 use Rattle.lpm_rules.proofs.Longest.{AreLongestHops-append}
@@ -14,15 +13,9 @@ use Rattle.shared_words.specs.declared.view.View.{View}
 use Rattle.shared_words.specs.Opened.{Opened, setup_of}
 use Rattle.shared_words.specs.Rule.{IsLater}
 use Rattle.shared_words.specs.Deeds.{LooksUp}
-use Rattle.shared_words.proofs.Deeds.{later_trans}
+use Rattle.shared_words.proofs.Deeds.{after_all, between, later_trans}
 use Rattle.shared_fib.specs.Running.{Identity, WriterState, IsAtRest, setup, steps_of}
 use Rattle.bulk.specs.Desks.{AnswersAtRest}
-
--- what was seen between two moments at which the same was seen
-pub between : (first middle last : List WriterStep) → IsLater first middle → IsLater middle last → last ≡ first → middle ≡ first
-between first middle last old new same =
-    let none : length old.0 ≡ 0 = omega (arith, ap length old.1, ap length new.1, ap length same, length-append old.0 first, length-append new.0 middle) in
-    old.1 ∙ ap (λ (l : List WriterStep). l ++ first) (nil_from_length old.0 none)
 
 -- a legal lookup whose words were loaded after all steps of a writer that rests
 pub rests_answer : (w : WriterState) (s : Seen) → IsAtRest w → IsLegalAtPlace (setup w.identity) (steps_of w) s → length (steps_of w) ≤ s.first
@@ -46,7 +39,8 @@ looked_up w addr hop lo hi u v rest looks opening before after =
     let s : Seen = looks.seen in
     let at_end : IsLegalAtPlace (setup_of u.opening) (steps_of w) s = subst (λ (l : List WriterStep). IsLegalAtPlace (setup_of u.opening) l s) after looks.legal in
     let legal : IsLegalAtPlace (setup w.identity) (steps_of w) s = subst (λ (o : Opened). IsLegalAtPlace (setup_of o) (steps_of w) s) opening at_end in
-    let late : length (steps_of w) ≤ s.first = omega (arith, ap length before, looks.after) in
+    let early : length u.seen ≤ s.first = after_all (addr ∷ []) lo hi s.first u looks.started looks.loaded v looks.around looks.after in
+    let late : length (steps_of w) ≤ s.first = omega (arith, ap length before, early) in
     subst (λ (a : ℕ). IsLongestHop (width_of w) w.table.rules a hop) looks.answer.0
     (subst (λ (h : Option ℕ). IsLongestHop (width_of w) w.table.rules s.addr h) looks.answer.1 (rests_answer w s rest legal late))
 

@@ -1,9 +1,10 @@
 -- No pass goes back in versions.
 use Rattle.std.proofs.Common.{ℕ, zero, suc, ◌≡◌, ◌≤◌, inl, inr, refl, ap, sym, subst, ◌∙◌, All, List, [], ◌∷◌, ◌++◌, length, map, slice_get, Option, Some, arith, length-append}
-use Rattle.std.specs.Prelude.{option_map}
-use Rattle.std.proofs.lemmas.Option.{none-some, same_Some, slice_get-map, slice_get_within, get_or_from_slice_get}
+use Rattle.std.proofs.lemmas.Option.{slice_get_within, get_or_from_slice_get}
 use Rattle.lpm_rules.specs.RuleMap.{RuleMap}
 use Rattle.lpm_trace.specs.declared.step.WriterStep.{WriterStep}
+use Rattle.lpm_trace.specs.declared.step.WorkerStep.{WorkerStep}
+use Rattle.lpm_trace.specs.declared.step.WorkerStep.TheVariants.{Begins, LoadFirst, LoadSecond, Ends}
 use Rattle.lpm_trace.specs.Tables.{Setup, Tables, IsAnswer, done, begun, version, oldest, tables, tables_at}
 use Rattle.lpm_trace.specs.Workers.{Seen}
 use Rattle.lpm_trace.specs.Laws.{IsLegalAtPlace}
@@ -12,9 +13,10 @@ use Rattle.lpm_trace.proofs.Promises.{versions_never_fall_at_places}
 use Rattle.shared_words.specs.declared.view.View.{View}
 use Rattle.shared_words.specs.Opened.{Opened, setup_of}
 use Rattle.shared_words.specs.Rule.{IsLater}
-use Rattle.shared_words.specs.Deeds.{LooksUp, LooksUpAll}
-use Rattle.shared_words.proofs.Deeds.{later_longer, later_trans}
-use Rattle.shared_fib.specs.Laws.{IsOfVersion, VersionsStay, LookupsNeverGoBack, IsLookedUp, known_as, AnswersAreOfVersions, PassesNeverGoBack}
+use Rattle.shared_words.specs.Deeds.{LooksUp, LooksUpAll, LoadsAround, GainsAll, GoesOn, loads_of}
+use Rattle.shared_words.proofs.Deeds.{all_on, between, gains_on, later_longer, later_trans}
+use Rattle.shared_fib.specs.Laws.{IsOfVersion, VersionsStay, LookupsNeverGoBack, IsLookedUp, AnswersAreOfVersions, PassesNeverGoBack, LookupsCountVersions}
+use Rattle.shared_fib.specs.Running.{steps_of}
 
 -- ---- steps that were there before others
 
@@ -96,129 +98,85 @@ lookups_never_go_back c before after earlier later old new on first same =
       of_shown c after later new,
     )
 
--- ---- lists by place
-
--- what stands in a list that was mapped stands for a member of the list
-mapped_at : {A B : Type 0} (f : A → B) (xs : List A) (i : ℕ) (y : B) → slice_get (map f xs) i ≡ Some y
-    → (x : A) × (slice_get xs i ≡ Some x) × (f x ≡ y)
-mapped_at f [] i y at = absurd (none-some y at)
-mapped_at f (x ∷ xs) zero y at = (x, refl, same_Some (f x) y at)
-mapped_at f (x ∷ xs) (suc i) y at = mapped_at f xs i y at
-
-mapped_to : {A B : Type 0} (f : A → B) (xs : List A) (i : ℕ) (x : A) (y : B) → slice_get xs i ≡ Some x
-    → slice_get (map f xs) i ≡ Some y → f x ≡ y
-mapped_to f xs i x y here at =
-    same_Some (f x) y (sym (ap (option_map f) here) ∙ (sym (slice_get-map f xs i) ∙ at))
+-- ---- what a pass is told
 
 at_place : {A : Type 0} (P : A → Type 0) (xs : List A) (i : ℕ) (x : A) → slice_get xs i ≡ Some x → All P xs
     → P x
 at_place P xs i x here all =
     subst P (get_or_from_slice_get xs i x x here) (all i x (slice_get_within xs i x here))
 
--- ---- what a pass is told
+-- the lookup was finished between these views, is legal, and counts what was done and begun at two of them
+record Finished (seen : Seen) (v w : View) : Type 0 where
+  started : View
+  since : IsLater v.seen started.seen
+  later : IsLater started.seen w.seen
+  after : length started.seen ≤ seen.first
+  legal : IsLegalAtPlace (setup_of v.opening) w.seen seen
+  lo : seen.lo ≡ done (tables (setup_of v.opening) started.seen)
+  hi : seen.hi ≡ begun (tables (setup_of v.opening) w.seen)
 
-abbrev seen_as : ℕ → Option ℕ → (lo hi first last : ℕ) → Seen
-seen_as addr hop lo hi first last =
-    record { addr = addr; hop = hop; first = first; last = last; lo = lo; hi = hi }
+module _ (seen : Seen) (v w : View) where
+  module _ (addrs : List ℕ) (lo hi : ℕ) (started loaded : View) (around : LoadsAround addrs lo hi v started loaded w)
+      (steps : List WorkerStep) (gains : GainsAll steps started loaded) where
+    finished_around : length started.seen ≤ seen.first → IsLegalAtPlace (setup_of v.opening) w.seen seen
+        → (seen.lo ≡ lo) × (seen.hi ≡ hi) → Finished seen v w
+    finished_around after legal versions =
+        let begins : GoesOn v started = gains_on (Begins addrs around.low) v started around.begins in
+        let on : GoesOn started loaded = all_on steps started loaded gains in
+        let ends : GoesOn loaded w = gains_on (Ends around.high) loaded w around.ends in
+        record {
+          started = started;
+          since = begins.later;
+          later = later_trans started.seen loaded.seen w.seen on.later ends.later;
+          after = after;
+          legal = legal;
+          lo = versions.0 ∙ around.done_then;
+          hi = versions.1 ∙ around.begun_then;
+        }
 
--- the lookup was finished between these views, and is legal
-record Finished (addr : ℕ) (hop : Option ℕ) (lo hi : ℕ) (v w : View) : Type 0 where
-  first : ℕ
-  last : ℕ
-  after : length v.seen ≤ first
-  legal : IsLegalAtPlace (setup_of v.opening) w.seen (seen_as addr hop lo hi first last)
-  later : IsLater v.seen w.seen
-
-module _ (addr : ℕ) (hop : Option ℕ) (lo hi : ℕ) (v w : View) where
-  abbrev opened : Setup
-  opened = setup_of v.opening
-
-  is_finished : (s : Seen) → s.addr ≡ addr → s.hop ≡ hop → s.lo ≡ lo → s.hi ≡ hi → length v.seen ≤ s.first
-      → IsLegalAtPlace opened w.seen s → IsLater v.seen w.seen → Finished addr hop lo hi v w
-  is_finished s addr_is hop_is lo_is hi_is after legal later =
-      let same : s ≡ seen_as addr hop lo hi s.first s.last =
-      λ i. record {
-        addr = addr_is i;
-        hop = hop_is i;
-        first = s.first;
-        last = s.last;
-        lo = lo_is i;
-        hi = hi_is i;
-      } in
-      record {
-        first = s.first;
-        last = s.last;
-        after = after;
-        legal = subst (IsLegalAtPlace opened w.seen) same legal;
-        later = later;
-      }
-
-  finished_alone : LooksUp addr hop lo hi v w → Finished addr hop lo hi v w
-  finished_alone h = is_finished h.seen h.answer.0 h.answer.1 h.versions.0 h.versions.1 h.after h.legal
-      h.rest.later
-
-  finished_among : (addrs : List ℕ) (hops : List (Option ℕ)) (i : ℕ) → LooksUpAll addrs hops lo hi v w
-      → slice_get addrs i ≡ Some addr → slice_get hops i ≡ Some hop → Finished addr hop lo hi v w
-  finished_among addrs hops i h at at' =
-      let one = mapped_at (λ (s : Seen). s.addr) h.seen i addr
-      (ap (λ (xs : List ℕ). slice_get xs i) h.addrs_are ∙ at) in
-      let s : Seen = one.0 in
-      let hop_is : s.hop ≡ hop = mapped_to (λ (x : Seen). x.hop) h.seen i s hop one.1
-      (ap (λ (xs : List (Option ℕ)). slice_get xs i) h.hops_are ∙ at') in
-      let versions : (s.lo ≡ lo) × (s.hi ≡ hi) =
-      at_place (λ (x : Seen). (x.lo ≡ lo) × (x.hi ≡ hi)) h.seen i s one.1 h.versions in
-      is_finished s one.2 hop_is versions.0 versions.1
-      (at_place (λ (x : Seen). length v.seen ≤ x.first) h.seen i s one.1 h.after)
-      (at_place (IsLegalAtPlace opened w.seen) h.seen i s one.1 h.legal) h.rest.later
-
-  finished : IsLookedUp addr hop lo hi v w → Finished addr hop lo hi v w
-  finished (inl h) = finished_alone h
-  finished (inr h) = finished_among h.0 h.1 h.2 h.3 h.4 h.5
-
-  -- a version of a lookup is one of it with a wider span too
-  wider : (c : Setup) (steps : List WriterStep) (first last k : ℕ) → length v.seen ≤ first
-      → last ≤ length w.seen → length w.seen ≤ length steps
-      → IsOfVersion c steps (seen_as addr hop lo hi first last) k
-      → IsOfVersion c steps (known_as addr hop lo hi v w) k
-  wider c steps first last k early late all h = record {
-    place = h.place;
-    from = omega (arith, early, h.from);
-    to = omega (arith, late, h.to);
-    within = all;
-    stands = h.stands;
-    answers = h.answers;
-    low = h.low;
-    high = h.high;
-  }
+  finished : IsLookedUp seen v w → Finished seen v w
+  finished (inl told) =
+      let lo : ℕ = told.2 in
+      let hi : ℕ = told.3 in
+      let h : LooksUp told.0 told.1 lo hi v w = told.4 in
+      let known : Seen → Type 0 = λ s. (length h.started.seen ≤ s.first)
+      × IsLegalAtPlace (setup_of v.opening) w.seen s × ((s.lo ≡ lo) × (s.hi ≡ hi)) in
+      let all : known seen = subst known told.5 (h.after, h.legal, h.versions) in
+      finished_around (told.0 ∷ []) lo hi h.started h.loaded h.around (loads_of h.word h.second) h.steps
+      all.0 all.1 all.2
+  finished (inr told) =
+      let lo : ℕ = told.2 in
+      let hi : ℕ = told.3 in
+      let h : LooksUpAll told.0 told.1 lo hi v w = told.5 in
+      finished_around told.0 lo hi h.started h.loaded h.around
+      (map LoadSecond h.seconds ++ map LoadFirst h.words) h.steps
+      (at_place (λ (s : Seen). length h.started.seen ≤ s.first) h.seen told.4 seen told.6 h.after)
+      (at_place (IsLegalAtPlace (setup_of v.opening) w.seen) h.seen told.4 seen told.6 h.legal)
+      (at_place (λ (s : Seen). (s.lo ≡ lo) × (s.hi ≡ hi)) h.seen told.4 seen told.6 h.versions)
 
 pub answers_are_of_versions : AnswersAreOfVersions
-answers_are_of_versions addr hop lo hi v w told =
-    let f = finished addr hop lo hi v w told in
-    let c : Setup = setup_of v.opening in
-    let seen : Seen = seen_as addr hop lo hi f.first f.last in
-    let k : ℕ = shown c w.seen seen f.legal in (
-      k,
-      wider addr hop lo hi v w c w.seen f.first f.last k f.after f.legal.within (omega arith)
-          (of_shown c w.seen seen f.legal),
-    )
+answers_are_of_versions seen v w told =
+    let f = finished seen v w told in
+    let c : Setup = setup_of v.opening in (shown c w.seen seen f.legal, of_shown c w.seen seen f.legal)
 
 pub passes_never_go_back : PassesNeverGoBack
-passes_never_go_back addr hop hop' lo hi lo' hi' v w v' w' told told' same on =
-    let f = finished addr hop lo hi v w told in
-    let g = finished addr hop' lo' hi' v' w' told' in
+passes_never_go_back earlier later v w v' w' told told' one same on =
+    let f = finished earlier v w told in
+    let g = finished later v' w' told' in
     let c : Setup = setup_of v.opening in
-    let earlier : Seen = seen_as addr hop lo hi f.first f.last in
-    let later : Seen = seen_as addr hop' lo' hi' g.first g.last in
     let legal : IsLegalAtPlace c w'.seen later =
     subst (λ (o : Opened). IsLegalAtPlace (setup_of o) w'.seen later) same g.legal in
-    let all : IsLater w.seen w'.seen = later_trans w.seen v'.seen w'.seen on g.later in
-    let order = lookups_never_go_back c w.seen w'.seen earlier later f.legal legal all
-    (omega (arith, later_longer w.seen v'.seen on, g.after)) refl in (
-      order.0,
-      order.1,
-      order.2,
-      wider addr hop lo hi v w c w'.seen f.first f.last order.0 f.after f.legal.within
-          (later_longer w.seen w'.seen all) order.3,
-      wider addr hop' lo' hi' v' w' c w'.seen g.first g.last order.1 g.after g.legal.within (omega arith)
-          order.4,
+    let begun : IsLater w.seen g.started.seen = later_trans w.seen v'.seen g.started.seen on g.since in
+    let all : IsLater w.seen w'.seen = later_trans w.seen g.started.seen w'.seen begun g.later in
+    lookups_never_go_back c w.seen w'.seen earlier later f.legal legal all
+    (omega (arith, later_longer w.seen g.started.seen begun, g.after)) one
+
+pub lookups_count_versions : LookupsCountVersions
+lookups_count_versions writer seen v w rest told opening before after =
+    let f = finished seen v w told in
+    let started : f.started.seen ≡ steps_of writer =
+    between v.seen f.started.seen w.seen f.since f.later (after ∙ sym before) ∙ before in
+    let at : Opened × List WriterStep → Tables = λ z. tables (setup_of z.0) z.1 in (
+      f.lo ∙ ap (λ z. done (at z)) (λ i. (opening i, started i)) ∙ rest.done,
+      f.hi ∙ ap (λ z. begun (at z)) (λ i. (opening i, after i)) ∙ rest.begun,
     )

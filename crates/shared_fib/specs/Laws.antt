@@ -10,6 +10,7 @@ use Rattle.shared_words.specs.declared.view.View.{View}
 use Rattle.shared_words.specs.Opened.{setup_of}
 use Rattle.shared_words.specs.Rule.{IsLater}
 use Rattle.shared_words.specs.Deeds.{LooksUp, LooksUpAll}
+use Rattle.shared_fib.specs.Running.{WriterState, IsAtRest, steps_of}
 
 -- ---- versions
 
@@ -53,35 +54,31 @@ LookupsNeverGoBack = (c : Setup) (before after : List WriterStep) (earlier later
 
 -- ---- what a pass is told
 
--- between these views a pass has looked the address up, alone or as one of several
-abbrev pub IsLookedUp : ℕ → Option ℕ → ℕ → ℕ → View → View → Type 0
-IsLookedUp addr hop lo hi v w = LooksUp addr hop lo hi v w
-    ⊎ ((addrs : List ℕ) × (hops : List (Option ℕ)) × (i : ℕ) × LooksUpAll addrs hops lo hi v w
-    × (slice_get addrs i ≡ Some addr) × (slice_get hops i ≡ Some hop))
+-- between these views a pass has finished this lookup, alone or as one of several
+abbrev pub IsLookedUp : Seen → View → View → Type 0
+IsLookedUp seen v w =
+    ((addr : ℕ) × (hop : Option ℕ) × (lo : ℕ) × (hi : ℕ) × (h : LooksUp addr hop lo hi v w)
+    × (h.seen ≡ seen))
+    ⊎ ((addrs : List ℕ) × (hops : List (Option ℕ)) × (lo : ℕ) × (hi : ℕ) × (i : ℕ)
+    × (h : LooksUpAll addrs hops lo hi v w) × (slice_get h.seen i ≡ Some seen))
 
--- the lookup as its pass knows it: its span is from what the pass had seen of the writer's steps before to
--- what it has seen after
-abbrev pub known_as : ℕ → Option ℕ → ℕ → ℕ → View → View → Seen
-known_as addr hop lo hi v w = record {
-  addr = addr;
-  hop = hop;
-  first = length v.seen;
-  last = length w.seen;
-  lo = lo;
-  hi = hi;
-}
-
--- each answer is that of a version which stood while the address was looked up
+-- each answer is that of a version which stood at a place of the lookup's span
 abbrev pub AnswersAreOfVersions : Type 0
-AnswersAreOfVersions = (addr : ℕ) (hop : Option ℕ) (lo hi : ℕ) (v w : View)
-    → IsLookedUp addr hop lo hi v w
-    → (k : ℕ) × IsOfVersion (setup_of v.opening) w.seen (known_as addr hop lo hi v w) k
+AnswersAreOfVersions = (seen : Seen) (v w : View) → IsLookedUp seen v w
+    → (k : ℕ) × IsOfVersion (setup_of v.opening) w.seen seen k
 
 -- two lookups of one address never go back, where the second began with all that was seen in the first: so
 -- it is for each two lookups of one pass
 abbrev pub PassesNeverGoBack : Type 0
-PassesNeverGoBack = (addr : ℕ) (hop hop' : Option ℕ) (lo hi lo' hi' : ℕ) (v w v' w' : View)
-    → IsLookedUp addr hop lo hi v w → IsLookedUp addr hop' lo' hi' v' w'
+PassesNeverGoBack = (earlier later : Seen) (v w v' w' : View)
+    → IsLookedUp earlier v w → IsLookedUp later v' w' → earlier.addr ≡ later.addr
     → v'.opening ≡ v.opening → IsLater w.seen v'.seen
-    → AreInOrder (setup_of v.opening) w'.seen
-    (known_as addr hop lo hi v w) (known_as addr hop' lo' hi' v' w')
+    → AreInOrder (setup_of v.opening) w'.seen earlier later
+
+-- a lookup of a pass that has met the writer, at rest, before and again after it, while the writer has made
+-- no step: `lo` and `hi` are both the number of the versions
+abbrev pub LookupsCountVersions : Type 0
+LookupsCountVersions = (writer : WriterState) (seen : Seen) (v w : View) → IsAtRest writer
+    → IsLookedUp seen v w → v.opening ≡ writer.identity.opening
+    → v.seen ≡ steps_of writer → w.seen ≡ steps_of writer
+    → (seen.lo ≡ writer.table.begun) × (seen.hi ≡ writer.table.begun)

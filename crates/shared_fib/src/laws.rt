@@ -1,10 +1,10 @@
 //! What holds of the answers of passes. Each function does nothing: its contract is the law.
 
 ghost use Rattle.shared_fib.specs.Laws.{AnswersAreOfVersions, VersionsStay};
-ghost use Rattle.shared_fib.specs.Laws.{LookupsNeverGoBack, PassesNeverGoBack};
+ghost use Rattle.shared_fib.specs.Laws.{LookupsCountVersions, LookupsNeverGoBack, PassesNeverGoBack};
 
-/// Each answer of a pass is that of the longest match in the rules of a version. That version stood while
-/// the address was looked up, and lies from `lo` to `hi`.
+/// Each answer of a pass is that of the longest match in the rules of a version. That version stood between
+/// the reads of the lookup's first and last word, and lies from `lo` to `hi`.
 pub fn answers_are_of_versions()
     ensures { AnswersAreOfVersions }
 {}
@@ -24,4 +24,10 @@ pub fn lookups_never_go_back()
 /// earlier one's.
 pub fn passes_never_go_back()
     ensures { PassesNeverGoBack }
+{}
+
+/// A lookup of a pass that has met a writer at rest before it, and meets it again after it with nothing
+/// changed, has for `lo` and for `hi` the number of the writer's versions.
+pub fn lookups_count_versions()
+    ensures { LookupsCountVersions }
 {}

@@ -1,5 +1,6 @@
 -- Steps of a worker one after another.
 use Rattle.std.proofs.Common.{◌≡◌, ℕ, ◌^◌, ◌≤◌, All, List, [], ◌∷◌, ◌++◌, length, Option, Some, None, refl, sym, ap, subst, ◌∙◌, arith, append_assoc, length-set, length-append}
+use Rattle.std.proofs.lemmas.List.{nil_from_length}
 use Rattle.std.proofs.lemmas.List.Elements.{All-head}
 use Rattle.lpm_entry.specs.declared.Entry.{Entry}
 use Rattle.lpm_entry.specs.declared.Entry.TheVariants.{Miss, Hop, Group}
@@ -91,6 +92,25 @@ two_steps r s v u w first second = (u, (v, refl, first), second)
 
 pub two_on : (r s : WorkerStep) (v u w : View) → Gains r v u → Gains s u w → GoesOn v w
 two_on r s v u w first second = goes_on v u w (gains_on r v u first) (gains_on s u w second)
+
+-- a view that gains steps goes on
+pub all_on : (steps : List WorkerStep) (v w : View) → GainsAll steps v w → GoesOn v w
+all_on [] v w same = subst (GoesOn v) (sym same) (record { same = refl; later = ([], refl) })
+all_on (s ∷ steps) v w more = goes_on v more.0 w (all_on steps v more.0 more.1) (gains_on s more.0 w more.2)
+
+-- what was seen between two views that had seen the same
+pub between : (first middle last : List WriterStep) → IsLater first middle → IsLater middle last → last ≡ first
+    → middle ≡ first
+between first middle last old new same =
+    let none : length old.0 ≡ 0 = omega (
+      arith,
+      ap length old.1,
+      ap length new.1,
+      ap length same,
+      length-append old.0 first,
+      length-append new.0 middle,
+    ) in
+    old.1 ∙ ap (λ (l : List WriterStep). l ++ first) (nil_from_length old.0 none)
 
 -- ---- the words of an address
 
