@@ -1,4 +1,5 @@
--- This layer's own: what a desk's pass sees while a piece is answered between two meetings with the writer.
+-- Meaning: whose pass a desk has, and what that pass sees while a piece is answered between two meetings
+-- with the writer (this project's).
 use Rattle.std.specs.Prelude.{ℕ, ◌≡◌, ◌+◌, ◌<◌, List, Option, Some, length, slice_get, slice_index_or, vec_len}
 use Rattle.lpm_rules.specs.Longest.{AreLongestHops}
 use Rattle.lpm_trace.specs.declared.step.WriterStep.{WriterStep}

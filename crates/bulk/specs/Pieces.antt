@@ -1,4 +1,4 @@
--- This layer's own: how a list of addresses is cut into pieces.
+-- This layer's own: how a list of addresses is cut into pieces (this project's).
 use Rattle.std.specs.Prelude.{ℕ, ◌+◌, ◌-◌, ◌*◌, ◌/◌, List, length, map, take, drop}
 use Rattle.std.specs.List.{range_with_len}
 

@@ -1,4 +1,4 @@
--- A layer's own: a table as its callers see it, and what its parts keep.
+-- Meaning: a table of one thread as its callers see it, and what its parts keep (this project's).
 use Rattle.std.specs.Prelude.{ℕ, List, refl}
 use Rattle.std.specs.FinMap as map
 use Rattle.std.specs.Coded.{Coded, code_by, coded×, coded_ℕ, coded_list}

@@ -1,5 +1,6 @@
--- Meaning: which whole reports begin and end a reader interval, and how many unlinkings there
--- were.
+-- Meaning: which whole reports begin and end a reader interval, and how many unlinkings there were
+-- (DPDK Programmer's Guide, "RCU Library": a reader comes online, reports quiescent states and goes
+-- offline; this project's otherwise).
 use Rattle.std.specs.Prelude.{ℕ, ◌==◌, Bool, true, false, List, length}
 use Rattle.reader_intervals.specs.Intervals.{Reporting}
 use Rattle.reader_intervals.specs.Places.{count_before}

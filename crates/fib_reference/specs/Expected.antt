@@ -1,4 +1,4 @@
--- This layer's own: what the plain program keeps, and what it answers.
+-- This layer's own: what the plain program keeps, and what it answers (this project's).
 use Rattle.std.specs.Prelude.{ℕ, ◌≡◌, ◌-◌, List, [], length, reverse}
 use Rattle.std.specs.FinMap.{len}
 use Rattle.lpm_rules.specs.RuleMap.{RuleMap}

@@ -1,6 +1,6 @@
--- Meaning: how many groups a table of routes needs (Gupta, Lin and McKeown, INFOCOM 1998, section 3:
--- a group of second words stands behind each first word whose block has a prefix longer than 24
--- bits, so one for each such route is enough).
+-- This layer's own: how many groups a table of routes needs (Gupta, Lin and McKeown, INFOCOM 1998,
+-- section 3: a group of second words stands behind each first word whose block has a prefix longer
+-- than 24 bits, so one for each such route is enough).
 use Rattle.std.specs.Prelude.{ℕ, ◌≡◌, ◌+◌, ◌≤◌, ◌^◌, ◌⊎◌, Bool, List, nat_lt, count_by}
 use Rattle.lpm_limits.specs.declared.config.Config.{Config}
 use Rattle.route_text.specs.declared.routes.Route.{Route}

@@ -19,6 +19,8 @@ pub trait Files {
     // The bytes of the file at a path, where they are known.
     ghost bytes: { Self → List ℕ → Option (List ℕ) };
 
+    /// A reader of the file at the path, of which nothing is read yet. An error of the kind `OutOfMemory`
+    /// says that a growth was refused, every other one that the file can't be opened.
     fn open(&self, path: &str) -> io::Result<Self::Reader>
         ensures { IfOk result (λ r. Self.Reader.remaining r ≡ bytes self.now path.now) };
 }

@@ -27,6 +27,8 @@ pub trait Form {
     // The first fault of bytes that are no such file.
     ghost IsFault: { List ℕ → Fault → Type 0 };
 
+    /// The items that the bytes list, in order. The error is the first fault, or that memory for the list is
+    /// refused.
     fn parse(alloc: Global, bytes: &[u8]) -> Result<Vec<Self::Item>, ReadError>
         ensures items { IfOk result (λ v. Lists bytes.now v.items) }
         ensures in_range { IfOk result (λ v. All IsInRange v.items) }

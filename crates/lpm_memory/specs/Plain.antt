@@ -1,4 +1,4 @@
--- This layer's own: the memory of one thread, and the steps that may have led to it (this project's).
+-- Meaning: the memory of one thread, and the steps that may have led to it (this project's).
 use Rattle.std.specs.Prelude.{ℕ, ◌≡◌, ◌+◌, ⊤, List, length, slice_index}
 use Rattle.lpm_cells.specs.Table.{Words, with_first, with_second}
 use Rattle.qsbr.specs.Registry.{Registry}

@@ -1,4 +1,4 @@
--- This layer's own: which step the writer of a memory may make next (this project's).
+-- Meaning: which step the writer of a memory may make next (this project's).
 use Rattle.std.specs.Prelude.{List}
 use Rattle.lpm_trace.specs.declared.step.WriterStep.{WriterStep}
 use Rattle.lpm_trace.specs.Tables.{Setup}

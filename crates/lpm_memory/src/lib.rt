@@ -1,7 +1,8 @@
 //! A memory that one writer changes: words, a sequence, a token, and the workers' counters.
 //!
-//! Whatever keeps the words, the writer of a table makes the same calls. Each is one step of a trace:
-//! one load or one store of one word. `PlainMemory` is the memory of one thread.
+//! Whatever keeps the words, the writer of a table makes the same calls. Each store, and `open`, `close`,
+//! `start` and `load_counter`, is one step of a trace; the writer's own loads of words are none.
+//! `PlainMemory` is the memory of one thread.
 #![tactic(auto)]
 
 mod plain;

@@ -1,5 +1,5 @@
 -- Meaning: traces: lists of steps, the newest first, each of which may come after those before it. A
--- moment is the state after a number of steps.
+-- moment is the state after a number of steps (this project's).
 use Rattle.std.specs.Prelude.{ℕ, suc, ◌<◌, ⊤, cond, eqb, List, [], ◌∷◌, length}
 use Rattle.lpm_trace.specs.declared.step.WriterStep.{WriterStep}
 use Rattle.lpm_trace.specs.declared.step.WorkerStep.{WorkerStep}

@@ -1,4 +1,4 @@
--- This layer's own: what a table is opened with (this project's).
+-- Meaning: what a table is opened with (this project's).
 use Rattle.std.specs.Prelude.{ℕ, ◌*◌, ◌^◌}
 use Rattle.std.specs.FinMap.{empty}
 use Rattle.lpm_limits.specs.declared.config.Config.{Config}

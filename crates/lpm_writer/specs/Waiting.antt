@@ -1,4 +1,4 @@
--- A layer's own: the groups in limbo and the queue in which they wait (DPDK Programmer's Guide,
+-- This layer's own: the groups in limbo and the queue in which they wait (DPDK Programmer's Guide,
 -- "RCU Library", the defer queue of "LPM Library", the reclaiming of tbl8 groups).
 use Rattle.std.specs.Prelude.{ℕ, ◌≡◌, ◌+◌, ◌↔◌, List, [], ◌∷◌, length, map, slice_get}
 use Rattle.lpm_groups.specs.declared.GroupState.{GroupState}

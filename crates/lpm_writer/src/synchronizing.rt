@@ -18,6 +18,8 @@ use qsbr::Busy;
 
 /// Starts the token of a synchronize. From then on the ledger waits, until `check_synchronize` has
 /// returned `Ok`.
+///
+/// `Exhausted` where fewer tokens than groups are left; nothing was written then.
 pub fn start_synchronize<const FIRST: u32, const SECOND: u32, M: Memory>(
     ledger: &Ledger<FIRST, SECOND>,
     memory: &mut M,

@@ -1,5 +1,5 @@
 -- Meaning: places in a list of events, of which the newest stands first and the oldest is at
--- place 0.
+-- place 0 (this project's).
 use Rattle.std.specs.Prelude.{ℕ, ◌+◌, ◌==◌, ◌&&◌, nat_lt, if◌then◌else◌, Bool, List, [], ◌∷◌, length, Option, Some, None}
 
 -- the event at a place

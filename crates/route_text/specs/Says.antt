@@ -1,4 +1,4 @@
--- This layer's own: what one line says, and the ranges of an update's values.
+-- This layer's own: what one line says, and the ranges of an update's values (this project's).
 use Rattle.std.specs.Prelude.{◌≡◌, ℕ, ◌<◌, ⊤, List, ◌∷◌}
 use Rattle.lpm_bits.specs.Network.{IsNetwork}
 use Rattle.route_text.specs.declared.orders.Order.{Order}

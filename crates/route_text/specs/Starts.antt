@@ -1,5 +1,5 @@
 -- This layer's own: what a text begins with, a number or an address up to the first byte that can't
--- belong to it.
+-- belong to it (this project's).
 use Rattle.std.specs.Prelude.{◌≡◌, ℕ, ◌≤◌, List, [], ◌∷◌, ◌++◌, decimal, ⊤}
 use Rattle.std.specs.Int.{IsInRange}
 use Rattle.route_text.specs.Fields.{IsAddress}

@@ -1,6 +1,6 @@
--- Meaning: the checks of a token that was started, up to the first that passes (DPDK Programmer's Guide,
--- "RCU Library", and `rte_rcu_qsbr_synchronize` of its API: the check is made again until each reader has
--- let the token pass).
+-- This layer's own: the checks of a token that was started, up to the first that passes (DPDK Programmer's
+-- Guide, "RCU Library", and `rte_rcu_qsbr_synchronize` of its API: the check is made again until each
+-- reader has let the token pass).
 use Rattle.std.specs.Prelude.{ℕ, List, Ok}
 use Rattle.lpm_trace.specs.declared.step.WriterStep.{WriterStep}
 use Rattle.lpm_trace.specs.Tables.{Setup, tables}

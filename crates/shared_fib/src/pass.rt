@@ -27,7 +27,7 @@ pub struct FourHops {
     pub hi: u64,
 }
 
-/// The pass of a worker, by which it reports and looks up. It is the token of what its worker has seen.
+/// The pass of a worker, by which it reports and looks up. A pass keeps what its worker has seen.
 ///
 /// No call of a pass waits or takes memory, and each lookup has an answer.
 #[derive(Drop)]

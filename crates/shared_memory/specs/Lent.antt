@@ -1,5 +1,5 @@
--- This layer's own: what a memory of a running table is to its writer: a seat that it has borrowed, and the
--- steps that the seat has made (this project's).
+-- Meaning: what a memory of a running table is to its writer: a seat that it has borrowed, and the steps
+-- that the seat has made (this project's).
 use Rattle.std.specs.Prelude.{◌≡◌, ℕ, ◌^◌, ◌≤◌, List, refl}
 use Rattle.std.specs.Coded.{Coded, code_by, coded×, coded_ℕ}
 use Rattle.atomic_table.specs.Seated.{TableId, table_id_coded}

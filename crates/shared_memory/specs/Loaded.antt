@@ -1,5 +1,5 @@
--- This layer's own: what a running table is opened with, by the table of one thread that it goes on from
--- (this project's).
+-- Meaning: what a running table is opened with, by the table of one thread that it goes on from (this
+-- project's).
 use Rattle.std.specs.Prelude.{ℕ, List, map, Option, Some, None}
 use Rattle.lpm_cells.specs.Table.{Words}
 use Rattle.lpm_groups.specs.declared.GroupState.{GroupState}

@@ -1,6 +1,6 @@
--- This layer's own: where each word of a shared table lies: the sequence, the token, the first words, the
--- second words, and the counter of each worker. A word of the two tables has 32 bits and a shared word 64,
--- so two neighbours of one table share a word (this project's).
+-- Meaning: where each word of a shared table lies: the sequence, the token, the first words, the second
+-- words, and the counter of each worker. A word of the two tables has 32 bits and a shared word 64, so two
+-- neighbours of one table share a word (this project's).
 use Rattle.std.specs.Prelude.{ℕ, ◌≡◌, ◌+◌, ◌*◌, ◌/◌, ◌%◌, ◌^◌, ◌<◌, List, ◌∷◌, ◌++◌, map, length, replicate, slice_index}
 use Rattle.std.specs.List.{range_with_len}
 use Rattle.lpm_trace.specs.Trace.{World}

@@ -1,4 +1,4 @@
--- This layer's own: what a shared table is opened with, as plain data (this project's).
+-- Meaning: what a shared table is opened with, as plain data (this project's).
 use Rattle.std.specs.Prelude.{ℕ, List, [], slice_get, Option, Some, None, refl}
 use Rattle.std.specs.Coded.{Coded, code_by, coded×, coded_ℕ, coded_list, coded_option}
 use Rattle.std.specs.FinMap as map
