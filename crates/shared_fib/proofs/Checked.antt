@@ -1,25 +1,31 @@
--- Each group that a reclaim frees was checked after it was retired.
-use Rattle.std.proofs.Common.{ℕ, zero, suc, ◌≡◌, ◌<◌, ◌≤◌, inl, inr, ap, sym, subst, ◌∙◌, All, List, [], ◌∷◌, length, take, get_or, slice_get, Option, Some, None, arith}
+-- Each group that a command frees was checked after it was retired, and so was the token of a synchronize.
+use Rattle.std.proofs.Common.{ℕ, suc, ◌≡◌, ◌+◌, ◌<◌, ◌≤◌, inl, inr, ap, sym, subst, ◌∙◌, All, List, [], ◌∷◌, ◌++◌, get_or, slice_get, arith}
 use Rattle.std.proofs.lemmas.Bool.{cases_lt}
-use Rattle.std.proofs.lemmas.List.{length-take, get_or-take}
-use Rattle.std.proofs.lemmas.List.Elements.{All-nil, All-cons}
-use Rattle.std.proofs.lemmas.Option.{same_Some, slice_get-get_or}
+use Rattle.std.specs.List.{range_with_len}
+use Rattle.std.proofs.lemmas.List.{length-append, get_or_append_left}
+use Rattle.std.proofs.lemmas.List.FromFn.{length-range_with_len, get_or-range_with_len}
+use Rattle.std.proofs.lemmas.List.Elements.{All-nil, All-cons, All-head, All-append}
 use Rattle.lpm_entry.specs.declared.Entry.{Entry}
 use Rattle.lpm_entry.specs.declared.Entry.TheVariants.{Miss, Hop, Group}
 use Rattle.lpm_entry.specs.Words.{entry_in}
-use Rattle.lpm_limits.specs.declared.busy.Busy.{Busy}
-use Rattle.fib_model.specs.Reclaiming.{Passes, Reclaims}
+use Rattle.fib_model.specs.State.{State}
 use Rattle.lpm_trace.specs.declared.step.WriterStep.{WriterStep}
 use Rattle.lpm_trace.specs.declared.step.WriterStep.TheVariants.{StoreFirst, StoreSecond, Opens, Closes, BumpToken, LoadCounter}
 use Rattle.lpm_trace.specs.Tables.{Setup, Tables, Status, Linked, Retired, tables, retired, linked, first_entry}
 use Rattle.lpm_trace.specs.Laws.{IsChecked}
 use Rattle.lpm_trace.proofs.Basics.{with_at_case}
-use Rattle.lpm_writer.specs.Traced.{AnyMemory, steps_alone, by_steps}
+use Rattle.lpm_writer.specs.Traced.{AnyMemory, steps_alone}
+use Rattle.lpm_writer.specs.Synchronizing.{Synchronizes}
+use Rattle.lpm_writer.proofs.Awaiting.{stopped_token}
+use Rattle.lpm_writer.proofs.Checks.{check_passes}
 use Rattle.lpm_writer.specs.Kept.{AreRetired}
 use Rattle.lpm_writer.specs.Waiting.{tokens_of}
-use Rattle.lpm_writer.proofs.Checks.{check_passes, check_stops}
+use Rattle.shared_words.specs.declared.view.View.{View}
 use Rattle.shared_words.specs.Opened.{Opened, setup_of}
 use Rattle.shared_words.specs.Seats.{AreChecked}
+use Rattle.shared_fib.specs.Freeing.{FreesChecked}
+use Rattle.shared_fib.proofs.Freed.{Leaves}
+use Rattle.shared_fib.specs.Running.{OnlySees}
 use Rattle.shared_fib.proofs.Live.{never_retired}
 
 -- ---- the tokens under which groups are retired
@@ -74,64 +80,91 @@ tokens_numbered status token (item ∷ items) all are =
     All-cons (λ t. 0 < t) item.1 (tokens_of items) (all item.0 item.1 are.0)
     (tokens_numbered status token items all are.2)
 
--- ---- the tokens that a reclaim let pass
-
--- the first n of these tokens are not above the greatest that has passed
-abbrev HavePassed : ℕ → List ℕ → ℕ → Type 0
-HavePassed n limbo passed = (i t : ℕ) → i < n → slice_get limbo i ≡ Some t → t ≤ passed
-
-one_member : (limbo : List ℕ) (n i t u : ℕ) → n ≡ i → slice_get limbo n ≡ Some t → slice_get limbo i ≡ Some u
-    → t ≡ u
-one_member limbo n i t u same here there = same_Some t u (sym here ∙ (ap (slice_get limbo) same ∙ there))
-
-module _ (c : Setup) (some : 0 < c.workers) (limbo : List ℕ) where
-  passes_below : (n : ℕ) (x z : List WriterStep) → Passes (by_steps c) n limbo x z
-      → HavePassed n limbo (tables c z).passed
-  passes_below zero x z h i t low at = absurd (omega (arith, low))
-  passes_below (suc n) x z h i t low at =
-      let passed = check_passes AnyMemory c (steps_alone h.0) h.1 (steps_alone z) h.4 in
-      elim (cases_lt i n) [
-        | inl below ↦
-            let before : t ≤ (tables c h.0).passed = passes_below n x h.0 h.2 i t below at in
-            omega (arith, before, passed.more)
-        | inr last ↦
-            let same : h.1 ≡ t = one_member limbo n i h.1 t (omega (arith, low, last)) h.3 at in
-            omega (arith, same, passed.passed some)
-      ]
-
-  reclaims_below : (x z : List WriterStep) (max freed : ℕ) (stopped : Option Busy) (left : List ℕ)
-      → Reclaims (by_steps c) x max limbo freed stopped left z → HavePassed freed limbo (tables c z).passed
-  reclaims_below x z max freed None left h =
-      subst (λ (y : List WriterStep). HavePassed freed limbo (tables c y).passed) (sym h.end.0)
-      (passes_below freed x h.last h.passed)
-  reclaims_below x z max freed (Some busy) left h =
-      let stop = h.end.1 in
-      let stays = check_stops AnyMemory c (steps_alone h.last) stop.0 busy (steps_alone z) stop.2 in
-      subst (HavePassed freed limbo) (sym stays.passed) (passes_below freed x h.last h.passed)
-
 -- ---- so each was checked
 
-pub freed_checked : (o : Opened) (before after : List WriterStep) (token : ℕ) (items : List (ℕ × ℕ))
-    (max freed : ℕ) (stopped : Option Busy) (left : List ℕ)
-    → AreRetired (tables (setup_of o) before).groups token items
-    → Reclaims (by_steps (setup_of o)) before max (tokens_of items) freed stopped left after
-    → AreChecked o after → All (IsChecked (setup_of o) after) (take freed (tokens_of items))
-freed_checked o before after token items max freed stopped left are h checked i d within =
+-- what the look at the end of a command finds, by what the table was opened with
+pub looked : (v w : View) → OnlySees v w → AreChecked w.opening w.seen → AreChecked v.opening w.seen
+looked v w sees are =
+    subst (λ (o : Opened). AreChecked o w.seen) (ap (λ (x : View). x.opening) sees) are
+
+-- each of these tokens was started, and has passed
+each_checked : (o : Opened) (steps : List WriterStep) (freed : List ℕ) → All (λ t. 0 < t) freed
+    → (0 < (setup_of o).workers → All (λ t. t ≤ (tables (setup_of o) steps).passed) freed)
+    → AreChecked o steps → All (IsChecked (setup_of o) steps) freed
+each_checked o steps freed past passed checked i d within = elim (cases_lt 0 (setup_of o).workers) [
+  | inl some ↦ checked (get_or freed i d) (past i d within) (passed some i d within)
+  | inr none ↦ record {
+    checked = get_or freed i d;
+    later = omega arith;
+    each = λ worker inside. absurd (omega (arith, none, inside));
+  }
+]
+
+started_past : (token n : ℕ) → All (λ t. 0 < t) (range_with_len (token + 1) n)
+started_past token n i d within =
+    let low : i < n = omega (arith, length-range_with_len (token + 1) n, within) in
+    subst (λ t. 0 < t) (sym (get_or-range_with_len (token + 1) n i d low)) (omega arith)
+
+-- what holds of each member of two lists in a row holds of those of the first
+all_front : (P : ℕ → Type 0) (xs ys : List ℕ) → All P (xs ++ ys) → All P xs
+all_front P xs ys all i d within =
+    subst P (get_or_append_left xs ys d i within) (all i d (omega (arith, within, length-append xs ys)))
+
+pub frees_checked : (o : Opened) (s z : State (List WriterStep)) (token : ℕ) (items : List (ℕ × ℕ))
+    (n : ℕ) (freed : List ℕ)
+    → AreRetired (tables (setup_of o) s.readers).groups token items → s.limbo ≡ tokens_of items
+    → Leaves (setup_of o) s.readers z.readers s.limbo n freed z.limbo → AreChecked o z.readers
+    → FreesChecked (setup_of o) s z freed
+frees_checked o s z token items n freed are same h checked =
     let c : Setup = setup_of o in
-    let limbo : List ℕ = tokens_of items in
-    let low : i < freed = omega (arith, length-take freed limbo, within) in
-    let there : i < length limbo = omega (arith, low, h.within) in
-    let t : ℕ = get_or limbo i d in
-    let at : slice_get limbo i ≡ Some t = slice_get-get_or limbo i d there in
-    let past : 0 < t = tokens_numbered (tables c before).groups token items
-    (numbered c (opened_numbered o) before) are i d there in
-    subst (IsChecked c after) (sym (get_or-take freed limbo i d low))
-    (elim (cases_lt 0 c.workers) [
-      | inl some ↦ checked t past
-          (reclaims_below c some limbo before after max freed stopped left h i t low at)
-      | inr none ↦ record {
-        checked = t;
-        later = omega arith;
-        each = λ worker inside. absurd (omega (arith, none, inside));
-      }
-    ])
+    let t : ℕ = (tables c s.readers).token in
+    let waited : All (λ t. 0 < t) s.limbo = subst (All (λ t. 0 < t)) (sym same)
+    (tokens_numbered (tables c s.readers).groups token items
+    (numbered c (opened_numbered o) s.readers) are) in
+    let all : All (λ t. 0 < t) (s.limbo ++ range_with_len (t + 1) n) =
+    All-append (λ t. 0 < t) s.limbo (range_with_len (t + 1) n) waited (started_past t n) in
+    let past : All (λ t. 0 < t) freed =
+    all_front (λ t. 0 < t) freed z.limbo (subst (All (λ t. 0 < t)) h.queue all) in
+    record {
+      started = n;
+      token = h.token;
+      queue = h.queue;
+      checked = each_checked o z.readers freed past h.passed checked;
+    }
+
+-- ---- a synchronize
+
+-- the token that a synchronize starts is the newest then, and was checked
+pub record IsNewestChecked (x : List WriterStep) (c d : Setup) (z : List WriterStep) : Type 0 where
+  pub started : (tables d z).token ≡ (tables c x).token + 1
+  pub checked : IsChecked d z (tables d z).token
+
+newest_checked : (o : Opened) (x z : List WriterStep)
+    → Synchronizes AnyMemory (setup_of o) (steps_alone x) (steps_alone z) → AreChecked o z
+    → IsNewestChecked x (setup_of o) (setup_of o) z
+newest_checked o x z h are =
+    let c : Setup = setup_of o in
+    let t : ℕ = (tables c h.begun.1).token in
+    let newest : ℕ = (tables c z).token in
+    let begun : t ≡ suc (tables c x).token = ap (λ y. (tables c y).token) h.starts.1 in
+    let stopped = stopped_token AnyMemory c h.stops h.begun t h.last h.stopped in
+    let passed = check_passes AnyMemory c h.last t (steps_alone z) h.passes in
+    let last : newest ≡ t = passed.token ∙ stopped in
+    let past : All (λ u. 0 < u) (newest ∷ []) =
+    All-cons (λ u. 0 < u) newest [] (omega (arith, begun, last)) (All-nil (λ u. 0 < u)) in
+    let all = each_checked o z (newest ∷ []) past
+    (λ some. All-cons (λ u. u ≤ (tables c z).passed) newest [] (omega (arith, last, passed.passed some))
+    (All-nil (λ u. u ≤ (tables c z).passed))) are in
+    record {
+      started = omega (arith, begun, last);
+      checked = All-head (IsChecked c z) newest [] all;
+    }
+
+pub synchronize_checked : (v w : View) → OnlySees v w
+    → Synchronizes AnyMemory (setup_of v.opening) (steps_alone v.seen) (steps_alone w.seen)
+    → AreChecked v.opening w.seen
+    → IsNewestChecked v.seen (setup_of v.opening) (setup_of w.opening) w.seen
+synchronize_checked v w sees h are =
+    let same : w.opening ≡ v.opening = ap (λ (x : View). x.opening) sees in
+    subst (λ (o : Opened). IsNewestChecked v.seen (setup_of v.opening) (setup_of o) w.seen) (sym same)
+    (newest_checked v.opening v.seen w.seen h are)

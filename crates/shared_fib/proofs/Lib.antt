@@ -3,6 +3,7 @@ pub mod Live
 pub mod Rests
 pub mod Seats
 pub mod Backwards
+pub mod Freed
 pub mod Checked
 pub mod AllFreed
 pub mod Begins

@@ -1,3 +1,4 @@
 pub mod Running
 pub mod Laws
 pub mod Passing
+pub mod Freeing

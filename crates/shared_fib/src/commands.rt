@@ -1,15 +1,15 @@
 //! A writer's commands over the memory of a running table, told by its steps.
 
-ghost use Rattle.std.specs.Prelude.{◌≡◌, All, take};
+ghost use Rattle.std.specs.Prelude.{ℕ, ◌≡◌, List, take};
 ghost use Rattle.fib_model.specs.Outcomes.{Adds, Deletes, Flushes, Frees};
 ghost use Rattle.lpm_writer.specs.Traced.{by_steps};
 ghost use Rattle.lpm_writer.specs.Resting.{IsResting, state_of};
 ghost use Rattle.lpm_writer.specs.Waiting.{tokens_of};
-ghost use Rattle.lpm_trace.specs.Laws.{IsChecked};
 ghost use Rattle.shared_words.specs.Opened.{setup_of};
 ghost use Rattle.shared_memory.specs.Lent.{SharedDid};
 ghost use Rattle.shared_words.specs.Seats.{IsOf};
 ghost use Rattle.shared_memory.specs.Loaded.{opened_of};
+ghost use Rattle.shared_fib.specs.Freeing.{FreesChecked};
 ghost use Rattle.shared_fib.specs.Running.{IsReady, OnlySees};
 
 use crate::table::Words;
@@ -22,6 +22,9 @@ use shared_memory::SharedMemory;
 use shared_words::WriterSeat;
 
 // Beside what the command comes to, each says that the memory holds the seat that it held.
+//
+// The look at the sequence that ends a command is no step. It tells that each token that has passed was
+// checked.
 
 pub(crate) fn add_over<const FIRST: u32, const SECOND: u32>(
     ledger: &mut Ledger<FIRST, SECOND>,
@@ -69,11 +72,17 @@ pub(crate) fn add_by<const FIRST: u32, const SECOND: u32>(
     ensures ready { IsReady FIRST SECOND ledger.new seat.new.place.me.0 }
     ensures seat { seat.new.place.table_id ≡ seat.old.place.table_id }
     ensures view { OnlySees seat.old.place.me.0 seat.new.place.me.0 }
+    ensures checked { (freed : List ℕ) × FreesChecked (setup_of seat.old.place.me.0.opening)
+        (state_of ledger.old.rules.rules seat.old.place.me.0.seen ledger.old.books
+        ledger.old.versions)
+        (state_of ledger.new.rules.rules seat.new.place.me.0.seen ledger.new.books
+        ledger.new.versions) freed }
     ensures config { ledger.new.config ≡ ledger.old.config }
 {
     let mut memory = SharedMemory::new(table, seat);
     let came = add_over(ledger, &mut memory, prefix, hop);
     memory.done();
+    let _ = seat.sequence(table);
     came
 }
 
@@ -121,11 +130,17 @@ pub(crate) fn delete_by<const FIRST: u32, const SECOND: u32>(
     ensures ready { IsReady FIRST SECOND ledger.new seat.new.place.me.0 }
     ensures seat { seat.new.place.table_id ≡ seat.old.place.table_id }
     ensures view { OnlySees seat.old.place.me.0 seat.new.place.me.0 }
+    ensures checked { (freed : List ℕ) × FreesChecked (setup_of seat.old.place.me.0.opening)
+        (state_of ledger.old.rules.rules seat.old.place.me.0.seen ledger.old.books
+        ledger.old.versions)
+        (state_of ledger.new.rules.rules seat.new.place.me.0.seen ledger.new.books
+        ledger.new.versions) freed }
     ensures config { ledger.new.config ≡ ledger.old.config }
 {
     let mut memory = SharedMemory::new(table, seat);
     let came = delete_over(ledger, &mut memory, prefix);
     memory.done();
+    let _ = seat.sequence(table);
     came
 }
 
@@ -171,11 +186,17 @@ pub(crate) fn flush_by<const FIRST: u32, const SECOND: u32>(
     ensures ready { IsReady FIRST SECOND ledger.new seat.new.place.me.0 }
     ensures seat { seat.new.place.table_id ≡ seat.old.place.table_id }
     ensures view { OnlySees seat.old.place.me.0 seat.new.place.me.0 }
+    ensures checked { (freed : List ℕ) × FreesChecked (setup_of seat.old.place.me.0.opening)
+        (state_of ledger.old.rules.rules seat.old.place.me.0.seen ledger.old.books
+        ledger.old.versions)
+        (state_of ledger.new.rules.rules seat.new.place.me.0.seen ledger.new.books
+        ledger.new.versions) freed }
     ensures config { ledger.new.config ≡ ledger.old.config }
 {
     let mut memory = SharedMemory::new(table, seat);
     let came = flush_over(ledger, &mut memory);
     memory.done();
+    let _ = seat.sequence(table);
     came
 }
 
@@ -222,14 +243,17 @@ pub(crate) fn reclaim_by<const FIRST: u32, const SECOND: u32>(
     ensures ready { IsReady FIRST SECOND ledger.new seat.new.place.me.0 }
     ensures seat { seat.new.place.table_id ≡ seat.old.place.table_id }
     ensures view { OnlySees seat.old.place.me.0 seat.new.place.me.0 }
-    ensures checked { All (IsChecked (setup_of seat.old.place.me.0.opening) seat.new.place.me.0.seen)
+    ensures checked { FreesChecked (setup_of seat.old.place.me.0.opening)
+        (state_of ledger.old.rules.rules seat.old.place.me.0.seen ledger.old.books
+        ledger.old.versions)
+        (state_of ledger.new.rules.rules seat.new.place.me.0.seen ledger.new.books
+        ledger.new.versions)
         (take result.freed (tokens_of ledger.old.books.queue.items)) }
     ensures config { ledger.new.config ≡ ledger.old.config }
 {
     let mut memory = SharedMemory::new(table, seat);
     let came = reclaim_over(ledger, &mut memory, max);
     memory.done();
-    // This look is no step. It tells that each token that has passed was checked.
     let _ = seat.sequence(table);
     came
 }

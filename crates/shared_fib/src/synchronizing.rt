@@ -1,6 +1,7 @@
 //! A synchronize of the writer, which waits for the workers.
 
 ghost use Rattle.std.specs.Prelude.{◌≡◌, ◌+◌, ◌^◌, ◌<◌, ◌≤◌, ◌↔◌, All, IsErr, OnOk, OnErr};
+ghost use Rattle.lpm_trace.specs.Laws.{IsChecked};
 ghost use Rattle.lpm_writer.specs.Traced.{AnyMemory, steps_alone};
 ghost use Rattle.lpm_writer.specs.Waiting.{tokens_of};
 ghost use Rattle.lpm_writer.specs.Resting.{IsResting};
@@ -100,6 +101,10 @@ fn synchronize_by<const FIRST: u32, const SECOND: u32, R: Wait>(
     ensures synchronizes { OnOk result (Synchronizes AnyMemory
         (setup_of seat.old.place.me.0.opening)
         (steps_alone seat.old.place.me.0.seen) (steps_alone seat.new.place.me.0.seen)) }
+    ensures started { OnOk result ((left_by_view seat.new.place.me.0).token
+        ≡ (left_by_view seat.old.place.me.0).token + 1) }
+    ensures checked { OnOk result (IsChecked (setup_of seat.new.place.me.0.opening)
+        seat.new.place.me.0.seen (left_by_view seat.new.place.me.0).token) }
     ensures queued { OnOk result (0 < ledger.old.config.workers
         → All (λ token. token ≤ (left_by_view seat.new.place.me.0).passed)
         (tokens_of ledger.new.books.queue.items)) }
@@ -115,13 +120,16 @@ fn synchronize_by<const FIRST: u32, const SECOND: u32, R: Wait>(
     let mut memory = SharedMemory::new(table, seat);
     let came = synchronize_over(rt, ledger, &mut memory);
     memory.done();
+    // This look is no step. It tells that each token that has passed was checked.
+    let _ = seat.sequence(table);
     came
 }
 
 impl<const FIRST: u32, const SECOND: u32> Writer<FIRST, SECOND> {
     /// Starts a token and checks it again and again until a check passes. It waits for workers that are
     /// online and hold the token, so it returns only if each of them reports or goes offline. Once it has
-    /// returned `Ok`, no group that was queued before is held at any later check.
+    /// returned `Ok`, each worker's counter was loaded after the token was there, and was 0 or at least the
+    /// token; and no group that was queued before is held at any later check.
     ///
     /// `Exhausted` where fewer tokens than groups are left; nothing was written then.
     pub fn synchronize<R: Wait>(
@@ -134,6 +142,9 @@ impl<const FIRST: u32, const SECOND: u32> Writer<FIRST, SECOND> {
             ↔ (2 ^ 62 < (left_by self.old).token + self.old.config.groups) }
         ensures synchronizes { OnOk result (Synchronizes AnyMemory (setup table.now)
             (steps_alone (steps_of self.old)) (steps_alone (steps_of self.new))) }
+        ensures started { OnOk result ((left_by self.new).token ≡ (left_by self.old).token + 1) }
+        ensures checked { OnOk result (IsChecked (setup table.now) (steps_of self.new)
+            (left_by self.new).token) }
         ensures queued { OnOk result (0 < self.old.config.workers
             → All (λ token. token ≤ (left_by self.new).passed) self.new.table.limbo) }
         ensures same { self.new ≡ record self.old {

@@ -1,11 +1,11 @@
 //! The writer of a running table.
 
-ghost use Rattle.std.specs.Prelude.{◌≡◌, All, take};
+ghost use Rattle.std.specs.Prelude.{ℕ, ◌≡◌, List, take};
 ghost use Rattle.fib_model.specs.Outcomes.{Adds, Deletes, Flushes, Frees};
-ghost use Rattle.lpm_trace.specs.Laws.{IsChecked};
 ghost use Rattle.lpm_writer.specs.Traced.{by_steps};
 ghost use Rattle.lpm_writer.specs.Resting.{state_of};
-ghost use Rattle.shared_fib.specs.Running.{IsAtRest, IsReady, setup, steps_of};
+ghost use Rattle.shared_fib.specs.Freeing.{FreesChecked};
+ghost use Rattle.shared_fib.specs.Running.{IsAtRest, IsReady, setup};
 
 use crate::SharedTable;
 use crate::commands::{add_by, delete_by, flush_by, reclaim_by};
@@ -21,6 +21,9 @@ use std::marker::Model;
 ///
 /// Of its calls only an `add` that grows the rule list takes memory, and only `synchronize` waits. Each
 /// change is refused as `Exhausted` where fewer tokens than groups are left, or no version.
+///
+/// A group that is given up waits in limbo under a token of its own. Whichever call frees it, each worker's
+/// counter was loaded after that token was there, and was 0 or at least the token.
 #[derive(Drop)]
 pub struct Writer<const FIRST: u32, const SECOND: u32> {
     pub(crate) ledger: Ledger<FIRST, SECOND>,
@@ -61,6 +64,9 @@ impl<const FIRST: u32, const SECOND: u32> Writer<FIRST, SECOND> {
     /// Adds a rule, or gives the prefix's rule another next hop. A rule that is there already stays, and is
     /// `Unchanged`, whatever else holds.
     ///
+    /// A rule longer than `FIRST` bits that is the first in its block takes a group. Where none is free, it
+    /// takes the oldest in limbo, once its check has passed.
+    ///
     /// The refusals, in the order of the checks: `Exhausted`; `TooManyRules` and `Memory`, where a new
     /// rule has no room; and `NoGroups`, where a rule longer than `FIRST` bits is the first in its block,
     /// no group is free, and the oldest in limbo is held or there is none. It names the worker that holds
@@ -74,6 +80,8 @@ impl<const FIRST: u32, const SECOND: u32> Writer<FIRST, SECOND> {
         requires own { self.old.identity ≡ table.now }
         ensures adds { Adds (by_steps (setup table.now)) FIRST SECOND self.old.config
             self.old.table prefix.now hop result self.new.table }
+        ensures checked { (freed : List ℕ)
+            × FreesChecked (setup table.now) self.old.table self.new.table freed }
         ensures rests { IsAtRest self.new }
         ensures own { self.new.identity ≡ self.old.identity }
         ensures config { self.new.config ≡ self.old.config }
@@ -82,7 +90,8 @@ impl<const FIRST: u32, const SECOND: u32> Writer<FIRST, SECOND> {
     }
 
     /// Deletes the rule of this prefix, and returns its next hop. Its addresses go to the longest rule that
-    /// is shorter and covers it, where there is one.
+    /// is shorter and covers it, where there is one. A block that loses its last rule longer than `FIRST` bits
+    /// gives its group up; where more than the threshold wait in limbo, some are reclaimed first.
     ///
     /// The refusals: `NoSuchRule`, where the prefix has no rule, and else `Exhausted`.
     pub fn delete(
@@ -93,6 +102,8 @@ impl<const FIRST: u32, const SECOND: u32> Writer<FIRST, SECOND> {
         requires own { self.old.identity ≡ table.now }
         ensures deletes { Deletes (by_steps (setup table.now)) FIRST SECOND self.old.config
             self.old.table prefix.now result self.new.table }
+        ensures checked { (freed : List ℕ)
+            × FreesChecked (setup table.now) self.old.table self.new.table freed }
         ensures rests { IsAtRest self.new }
         ensures own { self.new.identity ≡ self.old.identity }
         ensures config { self.new.config ≡ self.old.config }
@@ -101,11 +112,14 @@ impl<const FIRST: u32, const SECOND: u32> Writer<FIRST, SECOND> {
     }
 
     /// Deletes all rules, as one version, and returns how many there were. With none nothing changes, and
-    /// else `Exhausted` is the only refusal.
+    /// else `Exhausted` is the only refusal. The groups are given up and reclaimed as by `delete`, one after
+    /// another.
     pub fn flush(&mut self, table: &SharedTable<FIRST, SECOND>) -> Result<usize, Refusal>
         requires own { self.old.identity ≡ table.now }
         ensures flushes { Flushes (by_steps (setup table.now)) FIRST SECOND self.old.config
             self.old.table result self.new.table }
+        ensures checked { (freed : List ℕ)
+            × FreesChecked (setup table.now) self.old.table self.new.table freed }
         ensures rests { IsAtRest self.new }
         ensures own { self.new.identity ≡ self.old.identity }
         ensures config { self.new.config ≡ self.old.config }
@@ -119,7 +133,7 @@ impl<const FIRST: u32, const SECOND: u32> Writer<FIRST, SECOND> {
         requires own { self.old.identity ≡ table.now }
         ensures frees { Frees (by_steps (setup table.now)) self.old.table max result
             self.new.table }
-        ensures checked { All (IsChecked (setup table.now) (steps_of self.new))
+        ensures checked { FreesChecked (setup table.now) self.old.table self.new.table
             (take result.freed self.old.table.limbo) }
         ensures rests { IsAtRest self.new }
         ensures own { self.new.identity ≡ self.old.identity }

@@ -1,13 +1,14 @@
-use Rattle.std.proofs.Common.{ap, rules, subst, sym}
+use Rattle.std.proofs.Common.{refl, rules, subst, sym}
 use Rattle.fib_model.specs.Outcomes.{Frees}
 use Rattle.lpm_writer.specs.Traced.{by_steps}
 use Rattle.lpm_writer.specs.Resting.{state_of}
 use Rattle.shared_words.specs.declared.view.View.{View}
 use Rattle.shared_words.specs.declared.writer.WriterSeat.{WriterSeat}
-use Rattle.shared_words.specs.Opened.{Opened, setup_of}
+use Rattle.shared_words.specs.Opened.{setup_of}
 use Rattle.shared_words.specs.Seats.{AreChecked}
 use Rattle.shared_fib.specs.Running.{OnlySees}
-use Rattle.shared_fib.proofs.Checked.{freed_checked}
+use Rattle.shared_fib.proofs.Checked.{looked, frees_checked}
+use Rattle.shared_fib.proofs.Freed.{reclaims_leave}
 use Rattle.shared_fib.proofs.commands.reclaim_by.Goals as goal
 
 pub returns-clause-checked : goal.returns-clause-checked
@@ -24,8 +25,10 @@ returns-clause-checked g c =
     let known : AreChecked w.opening w.seen =
     subst (λ (s : WriterSeat). AreChecked s.place.me.0.opening s.place.me.0.seen)
     (sym c.sequence.ensures.same) c.sequence.ensures.checked in
-    let checked : AreChecked v.opening w.seen =
-    subst (λ (o : Opened). AreChecked o w.seen) (ap (λ (x : View). x.opening) sees) known in
+    let checked = looked v w sees known in
+    let s = state_of old.rules.rules v.seen old.books old.versions in
+    let z = state_of new.rules.rules w.seen new.books new.versions in
     let rests = c.requires.ready.rests in
-    freed_checked v.opening v.seen w.seen _ old.books.queue.items c.args.max freed.freed freed.stopped _
-    rests.keeps.kept.retired frees.0 checked
+    frees_checked v.opening s z _ old.books.queue.items 0 _ rests.keeps.kept.retired refl
+    (reclaims_leave (setup_of v.opening) v.seen w.seen c.args.max s.limbo freed.freed freed.stopped
+    z.limbo frees.0) checked

@@ -1,3 +1,7 @@
+use Rattle.std.proofs.Common.{ℕ, List, subst}
+use Rattle.lpm_writer.specs.Resting.{state_of}
+use Rattle.shared_fib.specs.Freeing.{FreesChecked}
+use Rattle.shared_fib.specs.Running.{Identity, WriterState, setup}
 use Rattle.shared_fib.proofs.Rests.{at_rest}
 use Rattle.shared_fib.proofs.writer.Writer.flush.Goals as goal
 
@@ -7,3 +11,12 @@ returns-clause-rests g c =
     let place = c.flush_by.new.seat.place in
     at_rest g.row.FIRST g.row.SECOND (record { words = place.table_id; opening = place.me.0.opening })
     l.config l.rules place.me.0.seen l.books l.versions c.flush_by.ensures.ready.rests
+
+pub returns-clause-checked : goal.returns-clause-checked
+returns-clause-checked g c =
+    let l = c.flush_by.new.ledger in
+    let z = state_of l.rules.rules c.flush_by.new.seat.place.me.0.seen l.books l.versions in
+    subst (λ (id : Identity). (freed : List ℕ) × FreesChecked (setup id) c.args.self.now.table z freed)
+    c.requires.own
+    (subst (λ (y : WriterState). (freed : List ℕ) × FreesChecked (setup y.identity) y.table z freed)
+    c.self.view_is c.flush_by.ensures.checked)

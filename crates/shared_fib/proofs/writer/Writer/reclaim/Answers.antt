@@ -1,5 +1,6 @@
-use Rattle.std.proofs.Common.{All, subst, take, rules}
-use Rattle.lpm_trace.specs.Laws.{IsChecked}
+use Rattle.std.proofs.Common.{subst, take, rules}
+use Rattle.lpm_writer.specs.Resting.{state_of}
+use Rattle.shared_fib.specs.Freeing.{FreesChecked}
 use Rattle.shared_fib.specs.Running.{Identity, WriterState, setup}
 use Rattle.shared_fib.proofs.Rests.{at_rest}
 use Rattle.shared_fib.proofs.writer.Writer.reclaim.Goals as goal
@@ -13,11 +14,12 @@ returns-clause-rests g c =
 
 pub returns-clause-checked : goal.returns-clause-checked
 returns-clause-checked g c =
-    let later = c.reclaim_by.new.seat.place.me.0.seen in
+    let l = c.reclaim_by.new.ledger in
+    let z = state_of l.rules.rules c.reclaim_by.new.seat.place.me.0.seen l.books l.versions in
     let freed = c.reclaim_by.result.freed in
-    subst (λ (id : Identity). All (IsChecked (setup id) later) (take freed c.args.self.now.table.limbo))
-    c.requires.own
-    (subst (λ (y : WriterState). All (IsChecked (setup y.identity) later) (take freed y.table.limbo))
+    let s = c.args.self.now.table in
+    subst (λ (id : Identity). FreesChecked (setup id) s z (take freed s.limbo)) c.requires.own
+    (subst (λ (y : WriterState). FreesChecked (setup y.identity) y.table z (take freed y.table.limbo))
     c.self.view_is c.reclaim_by.ensures.checked)
 
 pub returns-clause-frees : goal.returns-clause-frees
