@@ -244,6 +244,8 @@ fn hold_and_let_go(
     pass.quiescent(table);
     add(rt, table, writer, (0x35, 8, 2));
     assert_at(rt, "counts", counts(writer), (1, 0, 0));
+    let made = (writer.rules(), writer.versions(), writer.token(table));
+    assert_at(rt, "rules, versions, token", made, (1, 3, 2));
 }
 
 // A pass that is given back is offline when it is handed out again.

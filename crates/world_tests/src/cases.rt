@@ -90,7 +90,9 @@ fn answer_from_unlinked_group(rt: HostRuntime) -> Result<(), Fail> {
         replies: &[ADDED, Answer::Other(Reply::Flushed(1))],
         lookups: &[(0x12, Some(5), (23, 28), (1, 2))],
     };
-    assert_case(&rt, rt.alloc(), &case)
+    let trace = traced(&rt, rt.alloc(), &case)?;
+    assert_versions(&rt, &trace, 0x12, &[(23, 1), (28, 2)]);
+    Ok(())
 }
 
 // The last longer rule of a block goes while a lookup is in the group: the group's word is that of the

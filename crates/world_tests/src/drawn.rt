@@ -39,7 +39,7 @@ fn narrow_worlds(rt: HostRuntime) -> Result<(), Fail> {
         deeds: 20,
         items: 120,
     };
-    judge_drawn::<2, 2>(&rt, rt.alloc(), 0, 9_000, &sizes)
+    judge_drawn::<2, 2>(&rt, rt.alloc(), 0, 9_700, &sizes)
 }
 
 // Long runs over blocks of four addresses.
