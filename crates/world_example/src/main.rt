@@ -1,0 +1,140 @@
+//! `world_example`: one writer and one worker of the pure world, who make their steps by a schedule. Called with a
+//! number, it makes a run of so many steps, and tells how long that took.
+#![tactic(auto)]
+
+use anyhow::{Result, ensure};
+use interleave::{Actor, Change, Deed, Trace, World, script_ok};
+use lpm_bits::{Hop, Prefix};
+use qsbr::Config;
+use std::alloc::{AllocError, Global};
+use std::convert::AsStr;
+use std::rt::Clock;
+use std::time::Instant;
+use std::{env, io};
+
+/// One worker, and two groups for blocks with a rule longer than four bits.
+const LIMITS: Config = Config {
+    rules: 16,
+    groups: 2,
+    workers: 1,
+    threshold: 0,
+    reclaim_max: 16,
+    first_token: 1,
+};
+
+/// The address that the worker looks up.
+const ADDR: u32 = 0x12;
+
+/// The one worker.
+const WORKER: Actor = Actor::Worker(0);
+
+/// How many steps a run may be asked for.
+const MOST_STEPS: usize = 10_000_000;
+
+fn main(rt: HostRuntime) -> Result<()> {
+    match asked(&rt)? {
+        None => show_run(&rt, rt.alloc()),
+        Some(steps) => time_run(&rt, rt.alloc(), steps.min(MOST_STEPS)),
+    }
+}
+
+/// The number that is the last word of the command line, if it is one.
+fn asked(rt: &HostRuntime) -> io::Result<Option<usize>> {
+    let mut last = None;
+    for word in env::args(rt)? {
+        last = word.as_str().parse::<usize>().ok();
+    }
+    Ok(last)
+}
+
+/// Shows a lookup that has read the link to a group when the writer gives the group up. The group is free
+/// only once the worker has reported that it is quiescent.
+fn show_run<R: Print>(rt: &R, alloc: Global) -> Result<()> {
+    let (add, delete) = changes_of_rule()?;
+    let changes = [add, delete, Change::Reclaim(1), Change::Reclaim(1)];
+    let deeds = [Deed::Online, Deed::Lookup(ADDR), Deed::Quiescent];
+    let turns = [
+        (WORKER, 2),
+        (Actor::Writer, 19),
+        (WORKER, 2),
+        (Actor::Writer, 6),
+        (WORKER, 4),
+        (Actor::Writer, 1),
+    ];
+    let schedule = schedule_of(alloc, &turns)?;
+    print_trace(rt, &run(alloc, &changes, &deeds, &schedule)?)
+}
+
+/// Makes a run of so many steps, half of them the writer's, and prints how long it took.
+fn time_run<R: Clock + Print>(rt: &R, alloc: Global, steps: usize) -> Result<()> {
+    let (add, delete) = changes_of_rule()?;
+    let changes = repeated(alloc, &[add, delete, Change::Reclaim(1)], steps / 6)?;
+    let mut deeds = Vec::new(alloc);
+    deeds.push(Deed::Online)?;
+    deeds.append(&mut repeated(alloc, &[Deed::Lookup(ADDR), Deed::Quiescent], steps / 8)?)?;
+    let turns = repeated(alloc, &[(Actor::Writer, 1), (WORKER, 1)], steps / 2)?;
+    let schedule = schedule_of(alloc, &turns)?;
+    let start = Instant::now(rt)?;
+    let trace = run(alloc, &changes, &deeds, &schedule)?;
+    let taken = start.elapsed(rt)?;
+    println!(rt;
+        "{} steps, {} lookups: {:?}",
+        trace.steps.len(),
+        trace.lookups.len(),
+        taken
+    )?;
+    Ok(())
+}
+
+/// The changes that give the address a next hop of its own, which takes a group, and that take it away.
+fn changes_of_rule() -> Result<(Change<4, 4>, Change<4, 4>)> {
+    let prefix = Prefix::new(ADDR, 8)?;
+    Ok((Change::Add(prefix, Hop::new(1)?), Change::Delete(prefix)))
+}
+
+/// A schedule in which each actor in turn has so many items.
+fn schedule_of(alloc: Global, turns: &[(Actor, usize)]) -> Result<Vec<Actor>, AllocError> {
+    let mut schedule = Vec::new(alloc);
+    for (actor, count) in turns {
+        schedule.append(&mut repeated(alloc, &[*actor], *count)?)?;
+    }
+    Ok(schedule)
+}
+
+/// The items, so many times one after another.
+fn repeated<T: Copy>(alloc: Global, items: &[T], times: usize) -> Result<Vec<T>, AllocError> {
+    let mut all = Vec::new(alloc);
+    for _ in 0..times {
+        all.extend_from_slice(items)?;
+    }
+    Ok(all)
+}
+
+/// The run of these changes and of one worker's deeds.
+fn run(
+    alloc: Global,
+    changes: &[Change<4, 4>],
+    deeds: &[Deed],
+    schedule: &[Actor],
+) -> Result<Trace> {
+    ensure!(script_ok::<4, 4>(deeds), "the worker can't do this");
+    let scripts = [Vec::from_slice(alloc, deeds)?];
+    Ok(World::<4, 4>::run(alloc, LIMITS, changes, &scripts, schedule)?)
+}
+
+/// Prints each step, what came of each change, and each lookup.
+fn print_trace<R: Print>(rt: &R, trace: &Trace) -> Result<()> {
+    for (i, step) in trace.steps.iter().enumerate() {
+        println!(rt;
+            "{i}: {:?} {:?} {} {}",
+            step.actor, step.kind, step.index, step.value
+        )?;
+    }
+    for reply in &trace.replies {
+        println!(rt; "{reply:?}")?;
+    }
+    for seen in &trace.lookups {
+        println!(rt; "{seen:?}")?;
+    }
+    Ok(())
+}
