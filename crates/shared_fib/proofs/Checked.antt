@@ -8,7 +8,8 @@ use Rattle.lpm_entry.specs.declared.Entry.{Entry}
 use Rattle.lpm_entry.specs.declared.Entry.TheVariants.{Miss, Hop, Group}
 use Rattle.lpm_entry.specs.Words.{entry_in}
 use Rattle.lpm_limits.specs.declared.busy.Busy.{Busy}
-use Rattle.fib_model.specs.Reclaiming.{Passes, Reclaims}
+use Rattle.fib_model.specs.Reclaiming as model
+use Rattle.fib_model.proofs.ByPlaces.{Passes, Reclaims, by_places}
 use Rattle.lpm_trace.specs.declared.step.WriterStep.{WriterStep}
 use Rattle.lpm_trace.specs.declared.step.WriterStep.TheVariants.{StoreFirst, StoreSecond, Opens, Closes, BumpToken, LoadCounter}
 use Rattle.lpm_trace.specs.Tables.{Setup, Tables, Status, Linked, Retired, tables, retired, linked, first_entry}
@@ -114,11 +115,12 @@ module _ (c : Setup) (some : 0 < c.workers) (limbo : List ℕ) where
 pub freed_checked : (o : Opened) (before after : List WriterStep) (token : ℕ) (items : List (ℕ × ℕ))
     (max freed : ℕ) (stopped : Option Busy) (left : List ℕ)
     → AreRetired (tables (setup_of o) before).groups token items
-    → Reclaims (by_steps (setup_of o)) before max (tokens_of items) freed stopped left after
+    → model.Reclaims (by_steps (setup_of o)) before max (tokens_of items) freed stopped left after
     → AreChecked o after → All (IsChecked (setup_of o) after) (take freed (tokens_of items))
-freed_checked o before after token items max freed stopped left are h checked i d within =
+freed_checked o before after token items max freed stopped left are reclaims checked i d within =
     let c : Setup = setup_of o in
     let limbo : List ℕ = tokens_of items in
+    let h = by_places (by_steps c) before max limbo freed stopped left after reclaims in
     let low : i < freed = omega (arith, length-take freed limbo, within) in
     let there : i < length limbo = omega (arith, low, h.within) in
     let t : ℕ = get_or limbo i d in
