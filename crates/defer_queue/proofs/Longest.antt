@@ -17,7 +17,7 @@ module _ {S : Type 0} (checks : S → ℕ → Result (Unit {0}) Busy → S → T
     rest : left ≡ drop n items
     still : steady z
 
-  took : (n : ℕ) (items left : List (ℕ × ℕ)) (s z : S) → steady s → FreesFront checks frees n items s left z → Took n items left z
+  took : (n : ℕ) (items left : List (ℕ × ℕ)) (s z : S) → steady s → FreesFront (λ s item. checks s item.1) (λ s item. frees s item.0) n items s left z → Took n items left z
   took zero items left s z i h = record {
     within = omega arith;
     passed = All-nil (λ item. answers item.1 (Ok tt));
@@ -52,7 +52,7 @@ module _ {S : Type 0} (checks : S → ℕ → Result (Unit {0}) Busy → S → T
   held (suc n) (first ∷ items) left item busy e a = held n items left item busy e a
 
   pub Reclaims-longest : (max : ℕ) (items : List (ℕ × ℕ)) (s : S) (n : ℕ) (stopped : Option Busy) (left : List (ℕ × ℕ)) (z : S)
-      → steady s → Reclaims checks frees max items s n stopped left z → TakesLongest answers max items n stopped
+      → steady s → Reclaims (λ s item. checks s item.1) (λ s item. frees s item.0) max items s n stopped left z → TakesLongest answers max items n stopped
   Reclaims-longest max items s n None left z i r =
       let t = took n items left s r.last i r.front in
       record {

@@ -4,7 +4,8 @@ use Rattle.std.specs.Prelude.{ℕ, ◌≡◌, ◌≤◌, ◌<◌, ◌⊎◌, Lis
 use Rattle.lpm_limits.specs.declared.busy.Busy.{Busy}
 
 -- where `answers token r` says what a check of the token answers while the reclaim runs: it took
--- the longest front of the items that all pass, but at most `max`
+-- the longest front of the items that all pass, but at most `max`. This follows from `Reclaims`,
+-- which says what a reclaim does where the answers change meanwhile, too
 pub record TakesLongest (answers : ℕ → Result (Unit {0}) Busy → Type 0) (max : ℕ)
     (items : List (ℕ × ℕ)) (freed : ℕ) (stopped : Option Busy) : Type 0 where
   pub at_most : freed ≤ max

@@ -149,8 +149,8 @@ impl DeferQueue {
     /// ends at the first check that fails, whose group stays in the queue with all behind it.
     pub fn reclaim<G: Grace>(&mut self, max: usize, grace: &mut G) -> Reclaimed
         requires { G.ready grace.old self.old.items }
-        ensures reclaims { Reclaims G.checks G.frees max self.old.items grace.old
-            result.freed result.stopped self.new.items grace.new }
+        ensures reclaims { Reclaims (λ s item. G.checks s item.1) (λ s item. G.frees s item.0)
+            max self.old.items grace.old result.freed result.stopped self.new.items grace.new }
         ensures left { self.new ≡ record self.old { items = drop result.freed self.old.items } }
         ensures ready { G.ready grace.new self.new.items }
         ensures lent { G.lent grace.new ≡ G.lent grace.old }

@@ -13,8 +13,10 @@ use Rattle.lpm_limits.specs.declared.refusal.Refusal.{Refusal}
 use Rattle.lpm_limits.specs.declared.refusal.Refusal.TheVariants.{TooManyRules, NoSuchRule, Exhausted, NoGroups, Memory}
 use Rattle.defer_queue.specs.declared.Reclaimed.{Reclaimed}
 use Rattle.fib_model.specs.State.{State, Transitions, HasTokens, IsExhausted}
-use Rattle.fib_model.specs.Reclaiming.{Passes, Reclaims, MakesRoom, UnlinksOne, Unlinks}
+use Rattle.fib_model.specs.Reclaiming.{Reclaims, MakesRoom, UnlinksOne, Unlinks}
 use Rattle.fib_model.specs.Outcomes.{groups_in_use, LacksGroup, TakesGroup, IsNew, HoldsFront, Updates, Adds, Shrinks, Deletes, Flushes, Frees}
+use Rattle.fib_model.proofs.ByPlaces as places
+use Rattle.fib_model.proofs.ByPlaces.{Passes, by_places, by_front}
 use Rattle.fib_model.proofs.Carrying.{AreNamed, IsCarried, Carries, beside, Follows, ChangesCarryOver}
 use Rattle.fib_model.proofs.Frozen.{lacks_or_not}
 
@@ -95,9 +97,9 @@ module _ (X Y : Type 0) (t : Transitions X) (u : Transitions Y) (R : X → Y →
       let now = carries.checks d.0 z before.0 d.1 name.0 (Ok tt) before.2.0 (before.2.1 d.1 name.0 name.2) d.4 in
       (now.0, (before.0, name.0, before.1, name.1, now.1), both x d.0 z y before.0 now.0 before.2 now.2)
 
-  pub reclaims : (x z : X) (y : Y) (max : ℕ) (ms ns : List ℕ) (freed : ℕ) (stopped : Option Busy) (left : List ℕ) → R x y → AreNamed (N x y) ms ns
-      → Reclaims t x max ms freed stopped left z → (w : Y) × Reclaims u y max ns freed stopped (drop freed ns) w × AreNamed (N z w) left (drop freed ns) × Carried x y z w
-  reclaims x z y max ms ns freed None left rel named d =
+  reclaims_places : (x z : X) (y : Y) (max : ℕ) (ms ns : List ℕ) (freed : ℕ) (stopped : Option Busy) (left : List ℕ) → R x y → AreNamed (N x y) ms ns
+      → places.Reclaims t x max ms freed stopped left z → (w : Y) × places.Reclaims u y max ns freed stopped (drop freed ns) w × AreNamed (N z w) left (drop freed ns) × Carried x y z w
+  reclaims_places x z y max ms ns freed None left rel named d =
       let before = passes freed x d.last y ms ns rel named d.passed in
       let size = named_length (N x y) ms ns named in
       let within = d.within in
@@ -120,7 +122,7 @@ module _ (X Y : Type 0) (t : Transitions X) (u : Transitions Y) (R : X → Y →
         subst (λ l. AreNamed (N z before.0) l (drop freed ns)) (sym d.rest) (named_kept (N x y) (N z before.0) carried.1 (drop freed ms) (drop freed ns) (named_drop (N x y) freed ms ns named)),
         carried,
       )
-  reclaims x z y max ms ns freed (Some busy) left rel named d =
+  reclaims_places x z y max ms ns freed (Some busy) left rel named d =
       let before = passes freed x d.last y ms ns rel named d.passed in
       let size = named_length (N x y) ms ns named in
       let within = d.within in
@@ -140,6 +142,12 @@ module _ (X Y : Type 0) (t : Transitions X) (u : Transitions Y) (R : X → Y →
         subst (λ l. AreNamed (N z now.0) l (drop freed ns)) (sym d.rest) (named_kept (N x y) (N z now.0) carried.1 (drop freed ms) (drop freed ns) (named_drop (N x y) freed ms ns named)),
         carried,
       )
+
+  pub reclaims : (x z : X) (y : Y) (max : ℕ) (ms ns : List ℕ) (freed : ℕ) (stopped : Option Busy) (left : List ℕ) → R x y → AreNamed (N x y) ms ns
+      → Reclaims t x max ms freed stopped left z → (w : Y) × Reclaims u y max ns freed stopped (drop freed ns) w × AreNamed (N z w) left (drop freed ns) × Carried x y z w
+  reclaims x z y max ms ns freed stopped left rel named d =
+      let done = reclaims_places x z y max ms ns freed stopped left rel named (by_places t x max ms freed stopped left z d) in
+      (done.0, by_front u y max ns freed stopped (drop freed ns) done.0 done.1, done.2, done.3)
 
   makes_room : (c : Config) (x z : X) (y : Y) (ms ns left : List ℕ) → R x y → AreNamed (N x y) ms ns → MakesRoom t c x ms left z
       → (w : Y) × (rest : List ℕ) × MakesRoom u c y ns rest w × AreNamed (N z w) left rest × Carried x y z w

@@ -27,6 +27,8 @@ use Rattle.fib_model.specs.Reclaiming as moving
 use Rattle.fib_model.specs.Outcomes as outcomes
 use Rattle.fib_model.specs.Outcomes.{groups_in_use, LacksGroup, IsNew}
 use Rattle.fib_model.specs.Counting.{IsFirstByCounter}
+use Rattle.fib_model.proofs.ByPlaces as places
+use Rattle.fib_model.proofs.ByPlaces.{by_places, by_front}
 use Rattle.fib_model.specs.Textbook.{IsFirstHolder}
 
 -- who is the first worker that holds which unlinking, the name that the next gets, and what is kept after it
@@ -139,7 +141,7 @@ one_some o u v e f = let same : Some u ≡ Some v = sym e ∙ f in cc
 abbrev AreUnheld : {X : Type 0} → Look X → X → ℕ → List ℕ → Type 0
 AreUnheld k x n limbo = (i u : ℕ) → i < n → slice_get limbo i ≡ Some u → IsUnheld k x u
 
-passes_frozen : {X : Type 0} (k : Look X) (n : ℕ) (limbo : List ℕ) (x z : X) → moving.Passes (still k) n limbo x z → (z ≡ x) × AreUnheld k x n limbo
+passes_frozen : {X : Type 0} (k : Look X) (n : ℕ) (limbo : List ℕ) (x z : X) → places.Passes (still k) n limbo x z → (z ≡ x) × AreUnheld k x n limbo
 passes_frozen k zero limbo x z p = (p, λ i u low at. absurd (omega (arith, low)))
 passes_frozen k (suc n) limbo x z p =
     let before = passes_frozen k n limbo x p.0 p.2 in (
@@ -152,7 +154,7 @@ passes_frozen k (suc n) limbo x z p =
       ],
     )
 
-passes_moving : {X : Type 0} (k : Look X) (n : ℕ) (limbo : List ℕ) (x : X) → n ≤ length limbo → AreUnheld k x n limbo → moving.Passes (still k) n limbo x x
+passes_moving : {X : Type 0} (k : Look X) (n : ℕ) (limbo : List ℕ) (x : X) → n ≤ length limbo → AreUnheld k x n limbo → places.Passes (still k) n limbo x x
 passes_moving k zero limbo x within all = refl
 passes_moving k (suc n) limbo x within all =
     let at = sym (slice_get-get_or limbo n 0 (omega (arith, within))) in
@@ -170,12 +172,12 @@ all_unheld k x n limbo within are i d low =
     let below : i < n = omega (arith, size, within, low) in
     subst (IsUnheld k x) (sym (get_or-take n limbo i d below)) (are i (get_or limbo i d) below (slice_get-get_or limbo i d (omega (arith, within, below))))
 
-pub reclaims_frozen : {X : Type 0} (k : Look X) (x z : X) (max : ℕ) (limbo : List ℕ) (freed : ℕ) (stopped : Option Busy) (left : List ℕ)
-    → moving.Reclaims (still k) x max limbo freed stopped left z → Reclaims k x max limbo freed stopped left × (z ≡ x)
-reclaims_frozen k x z max limbo freed None left d =
+places_frozen : {X : Type 0} (k : Look X) (x z : X) (max : ℕ) (limbo : List ℕ) (freed : ℕ) (stopped : Option Busy) (left : List ℕ)
+    → places.Reclaims (still k) x max limbo freed stopped left z → Reclaims k x max limbo freed stopped left × (z ≡ x)
+places_frozen k x z max limbo freed None left d =
     let passed = passes_frozen k freed limbo x d.last d.passed in
     (record { at_most = d.at_most; within = d.within; unheld = all_unheld k x freed limbo d.within passed.1; rest = d.rest; end = d.end.1 }, d.end.0 ∙ passed.0)
-reclaims_frozen k x z max limbo freed (Some busy) left d =
+places_frozen k x z max limbo freed (Some busy) left d =
     let passed = passes_frozen k freed limbo x d.last d.passed in
     let stop = d.end.1 in (
       record {
@@ -188,9 +190,13 @@ reclaims_frozen k x z max limbo freed (Some busy) left d =
       stop.2.1 ∙ passed.0,
     )
 
-pub reclaims_moving : {X : Type 0} (k : Look X) (x : X) (max : ℕ) (limbo : List ℕ) (freed : ℕ) (stopped : Option Busy) (left : List ℕ)
-    → Reclaims k x max limbo freed stopped left → moving.Reclaims (still k) x max limbo freed stopped left x
-reclaims_moving k x max limbo freed None left d = record {
+pub reclaims_frozen : {X : Type 0} (k : Look X) (x z : X) (max : ℕ) (limbo : List ℕ) (freed : ℕ) (stopped : Option Busy) (left : List ℕ)
+    → moving.Reclaims (still k) x max limbo freed stopped left z → Reclaims k x max limbo freed stopped left × (z ≡ x)
+reclaims_frozen k x z max limbo freed stopped left d = places_frozen k x z max limbo freed stopped left (by_places (still k) x max limbo freed stopped left z d)
+
+places_moving : {X : Type 0} (k : Look X) (x : X) (max : ℕ) (limbo : List ℕ) (freed : ℕ) (stopped : Option Busy) (left : List ℕ)
+    → Reclaims k x max limbo freed stopped left → places.Reclaims (still k) x max limbo freed stopped left x
+places_moving k x max limbo freed None left d = record {
   at_most = d.at_most;
   within = d.within;
   last = x;
@@ -198,7 +204,7 @@ reclaims_moving k x max limbo freed None left d = record {
   rest = d.rest;
   end = (refl, d.end);
 }
-reclaims_moving k x max limbo freed (Some busy) left d =
+places_moving k x max limbo freed (Some busy) left d =
     let stop = some_of (slice_get limbo freed) (λ u. k.is_held_by x u busy) d.end.1 in
     record {
       at_most = d.at_most;
@@ -208,6 +214,10 @@ reclaims_moving k x max limbo freed (Some busy) left d =
       rest = d.rest;
       end = (d.end.0, (stop.0, stop.1, (stop.2, refl)));
     }
+
+pub reclaims_moving : {X : Type 0} (k : Look X) (x : X) (max : ℕ) (limbo : List ℕ) (freed : ℕ) (stopped : Option Busy) (left : List ℕ)
+    → Reclaims k x max limbo freed stopped left → moving.Reclaims (still k) x max limbo freed stopped left x
+reclaims_moving k x max limbo freed stopped left d = by_front (still k) x max limbo freed stopped left x (places_moving k x max limbo freed stopped left d)
 
 pub room_frozen : {X : Type 0} (k : Look X) (c : Config) (x z : X) (limbo left : List ℕ) → moving.MakesRoom (still k) c x limbo left z → MakesRoom k c x limbo left × (z ≡ x)
 room_frozen k c x z limbo left d = (

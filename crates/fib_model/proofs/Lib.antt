@@ -1,3 +1,4 @@
+pub mod ByPlaces
 pub mod Frozen
 pub mod Carrying
 pub mod Carried

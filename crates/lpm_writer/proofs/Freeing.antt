@@ -1,14 +1,17 @@
 -- What a reclaim comes to, item by item.
-use Rattle.std.proofs.Common.{arith, ℕ, zero, suc, ◌≡◌, ◌+◌, ◌<◌, ◌≤◌, ◌⊎◌, inl, inr, refl, ap, sym, ◌∙◌, subst, List, [], ◌∷◌, length, drop, add-one, Some, None}
-use Rattle.std.specs.Prelude.{slice_get, slice_set, Ok, Err}
+use Rattle.std.proofs.Common.{arith, ℕ, zero, suc, ◌≡◌, ◌+◌, ◌<◌, ◌≤◌, ◌⊎◌, inl, inr, refl, ap, sym, ◌∙◌, subst, List, [], ◌∷◌, length, drop, add-one, Option, Some, None}
+use Rattle.std.specs.Prelude.{slice_get, slice_set, Result, Ok, Err}
 use Rattle.std.proofs.lemmas.List.{drop-map, length-map}
 use Rattle.lpm_groups.specs.declared.GroupState.{GroupState}
 use Rattle.lpm_groups.specs.declared.GroupState.TheVariants.{Free}
 use Rattle.lpm_limits.specs.declared.busy.Busy.{Busy}
+use Rattle.defer_queue.specs.Reclaims as queue
+use Rattle.defer_queue.proofs.Fronts.{Reclaims-within}
 use Rattle.lpm_writer.specs.Waiting.{tokens_of}
 use Rattle.lpm_writer.proofs.Limbo.{freed_states}
 use Rattle.fib_model.specs.State.{Transitions}
-use Rattle.fib_model.specs.Reclaiming.{Passes, Reclaims}
+use Rattle.fib_model.specs.Reclaiming.{Reclaims}
+use Rattle.fib_model.proofs.ByPlaces.{Passes, by_front}
 
 module _ {X : Type 0} (k : Transitions X) where
   pub passes_more : (n : ℕ) (limbo : List ℕ) (x y z : X) (u : ℕ) → Passes k n limbo x y → slice_get limbo n ≡ Some u → k.checks y u (Ok tt) z → Passes k (n + 1) limbo x z
@@ -46,7 +49,7 @@ module _ {X : Type 0} (k : Transitions X) where
   -- it ended without a check that failed
   pub reclaims_all : (x z : X) (max n : ℕ) (items left : List (ℕ × ℕ)) → n ≤ max → n ≤ length items → Passes k n (tokens_of items) x z → left ≡ drop n items
       → (n ≡ max) ⊎ (left ≡ []) → Reclaims k x max (tokens_of items) n None (tokens_of left) z
-  reclaims_all x z max n items left most within passed e end = record {
+  reclaims_all x z max n items left most within passed e end = by_front k x max (tokens_of items) n None (tokens_of left) z record {
     at_most = most;
     within = subst (λ m. n ≤ m) (sym (length-map items (λ item. item.1))) within;
     last = z;
@@ -57,7 +60,7 @@ module _ {X : Type 0} (k : Transitions X) where
 
   pub reclaims_some : (x y z : X) (max n : ℕ) (items left : List (ℕ × ℕ)) (g t : ℕ) (rest : List (ℕ × ℕ)) (busy : Busy) → n < max → n ≤ length items → Passes k n (tokens_of items) x y → left ≡ drop n items
       → left ≡ (g, t) ∷ rest → k.checks y t (Err busy) z → Reclaims k x max (tokens_of items) n (Some busy) (tokens_of left) z
-  reclaims_some x y z max n items left g t rest busy more within passed e front c = record {
+  reclaims_some x y z max n items left g t rest busy more within passed e front c = by_front k x max (tokens_of items) n (Some busy) (tokens_of left) z record {
     at_most = omega (arith, more);
     within = subst (λ m. n ≤ m) (sym (length-map items (λ item. item.1))) within;
     last = y;
@@ -65,3 +68,8 @@ module _ {X : Type 0} (k : Transitions X) where
     rest = ap tokens_of e ∙ sym (drop-map (λ item. item.1) n items);
     end = (more, (t, item_at n items g t rest (sym e ∙ front), c));
   }
+
+-- a reclaim freed no more than waited
+pub freed_within : {X : Type 0} {checks : X → ℕ → Result (Unit {0}) Busy → X → Type 0} {frees : X → ℕ → X → Type 0} {x z : X} {max n : ℕ} {stopped : Option Busy} {left : List ℕ}
+    (items : List (ℕ × ℕ)) → queue.Reclaims checks frees max (tokens_of items) x n stopped left z → n ≤ length items
+freed_within {n = n} items r = subst (λ m. n ≤ m) (length-map items (λ item. item.1)) (Reclaims-within r)

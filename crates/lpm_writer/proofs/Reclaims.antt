@@ -7,7 +7,8 @@ use Rattle.lpm_groups.specs.States.{IsLimboAt}
 use Rattle.lpm_limits.specs.declared.busy.Busy.{Busy}
 use Rattle.lpm_trace.specs.declared.step.WriterStep.{WriterStep}
 use Rattle.lpm_trace.specs.Tables.{Setup, tables}
-use Rattle.fib_model.specs.Reclaiming.{Passes, Reclaims}
+use Rattle.fib_model.specs.Reclaiming.{Reclaims}
+use Rattle.fib_model.proofs.ByPlaces.{Passes}
 use Rattle.lpm_writer.specs.Waiting.{tokens_of}
 use Rattle.lpm_writer.specs.Traced.{Checks, by_writer}
 use Rattle.lpm_writer.specs.Kept.{MayAsk, Remembers, Keeps, MayReclaim, IsStill}

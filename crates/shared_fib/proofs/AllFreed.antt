@@ -9,7 +9,7 @@ use Rattle.defer_queue.specs.declared.Reclaimed.{Reclaimed}
 use Rattle.fib_model.specs.State.{State}
 use Rattle.fib_model.specs.Counting.{counting, IsFirstByCounter}
 use Rattle.fib_model.specs.Outcomes.{Frees}
-use Rattle.fib_model.specs.Reclaiming.{Passes}
+use Rattle.fib_model.proofs.ByPlaces.{Passes, Reclaims, by_places}
 use Rattle.lpm_limits.specs.declared.config.Config.{Config}
 use Rattle.lpm_memory.specs.declared.plain.PlainMemory.{PlainMemory}
 use Rattle.lpm_writer.specs.declared.ledger.Ledger.{Ledger}
@@ -40,14 +40,17 @@ unstopped max limbo freed last z (Some busy) offline h = absurd (none_holds last
 
 module _ (x z : State Registry) (max : ℕ) (r : Reclaimed) (workers : ℕ) (offline : AreOffline workers x.readers)
     (all : max ≡ length x.limbo) (frees : Frees counting x max r z) (count : length z.readers.counters ≡ workers) where
-  same_readers : frees.0.last ≡ x.readers
-  same_readers = unmoved r.freed x.limbo x.readers frees.0.last frees.0.passed
+  taken : Reclaims counting x.readers max x.limbo r.freed r.stopped z.limbo z.readers
+  taken = by_places counting x.readers max x.limbo r.freed r.stopped z.limbo z.readers frees.0
 
-  ended : (z.readers ≡ frees.0.last) × ((r.freed ≡ max) ⊎ (r.freed ≡ length x.limbo))
-  ended = unstopped max x.limbo r.freed frees.0.last z.readers r.stopped
+  same_readers : taken.last ≡ x.readers
+  same_readers = unmoved r.freed x.limbo x.readers taken.last taken.passed
+
+  ended : (z.readers ≡ taken.last) × ((r.freed ≡ max) ⊎ (r.freed ≡ length x.limbo))
+  ended = unstopped max x.limbo r.freed taken.last z.readers r.stopped
       (λ same w low. subst (λ (y : Registry). ¬ IsOnline y.counters w) (sym same_readers)
       (offline w (subst (λ n. w < n) (sym (ap (λ (y : Registry). length y.counters) same) ∙ count) low)))
-      frees.0.end
+      taken.end
 
   freed_all : (r.freed ≡ max) ⊎ (r.freed ≡ length x.limbo) → length x.limbo ≤ r.freed
   freed_all (inl e) = omega (arith, e, all)
@@ -60,7 +63,7 @@ module _ (x z : State Registry) (max : ℕ) (r : Reclaimed) (workers : ℕ) (off
   rules_stay = ap (λ (y : State Registry). y.rules) frees.1
 
   pub none_waits : z.limbo ≡ []
-  none_waits = frees.0.rest ∙ drop_all r.freed x.limbo (freed_all ended.1)
+  none_waits = taken.rest ∙ drop_all r.freed x.limbo (freed_all ended.1)
 
 -- no token waits, so no group does
 no_cons : (t : ℕ) (ts : List ℕ) → t ∷ ts ≡ [] → ⊥

@@ -13,7 +13,9 @@ use Rattle.lpm_limits.specs.declared.refusal.Refusal.TheVariants.{TooManyRules, 
 use Rattle.lpm_rules.specs.declared.Put.{Put}
 use Rattle.lpm_rules.specs.declared.Put.TheVariants.{Added, Replaced, Unchanged}
 use Rattle.fib_model.specs.State.{State}
-use Rattle.fib_model.specs.Reclaiming.{Passes, Reclaims, MakesRoom, UnlinksOne, Unlinks}
+use Rattle.fib_model.specs.Reclaiming.{MakesRoom, UnlinksOne, Unlinks}
+use Rattle.fib_model.specs.Reclaiming as model
+use Rattle.fib_model.proofs.ByPlaces.{Passes, Reclaims, by_places}
 use Rattle.fib_model.specs.Outcomes.{Adds, Deletes, Flushes, TakesGroup, HoldsFront, Updates, Shrinks, groups_in_use}
 use Rattle.lpm_rules.specs.RuleMap.{RuleMap}
 use Rattle.fib_model.proofs.Frozen.{lacks_or_not}
@@ -139,9 +141,10 @@ module _ (c : Setup) where
       (stays.token, stays.passed)
 
   pub reclaims_leave : (x z : List WriterStep) (max : ℕ) (limbo : List ℕ) (freed : ℕ) (stopped : Option Busy)
-      (left : List ℕ) → Reclaims (by_steps c) x max limbo freed stopped left z
+      (left : List ℕ) → model.Reclaims (by_steps c) x max limbo freed stopped left z
       → Leaves c x z limbo 0 (take freed limbo) left
-  reclaims_leave x z max limbo freed stopped left h =
+  reclaims_leave x z max limbo freed stopped left reclaims =
+      let h = by_places (by_steps c) x max limbo freed stopped left z reclaims in
       let end = reclaims_on x h.last z max limbo freed stopped left h in
       let on = passes_on c limbo freed x h.last h.passed in
       front_leaves x z limbo freed left

@@ -11,8 +11,8 @@ loop-freed-preserved g c =
     let kept = c.free.ensures.kept c.in-Some.token (drop 1 items) (c.check.ensures.kept _ ready) in
     record {
       at_most = search rules;
-      front = FreesFront-more g.G.Grace.checks g.G.Grace.frees c.loop-freed.freed c.args.self.now.items items (drop 1 items) c.take_front.new.self.items
-          c.in-Some.group c.in-Some.token c.args.grace.now c.loop-freed.grace c.check.new.self c.free.new.self
+      front = FreesFront-more (λ s item. g.G.Grace.checks s item.1) (λ s item. g.G.Grace.frees s item.0) c.loop-freed.freed c.args.self.now.items items (drop 1 items) c.take_front.new.self.items
+          (c.in-Some.group, c.in-Some.token) c.args.grace.now c.loop-freed.grace c.check.new.self c.free.new.self
           c.loop-freed.invariant.front c.in-Some.ensures.rest later c.in_default-check.ensures.checks c.free.ensures.frees;
       capacity = search rules;
       left = later ∙ ap (drop 1) c.loop-freed.invariant.left ∙ drop-drop 1 c.loop-freed.freed c.args.self.now.items;

@@ -5,7 +5,7 @@ use Rattle.defer_queue.proofs.DeferQueue.reclaim.Given as goal
 abbrev pub invariant-loop-freed : goal.invariant-loop-freed
 invariant-loop-freed g l = record {
   at_most : l.freed ≤ l.max;
-  front : FreesFront g.G.Grace.checks g.G.Grace.frees l.freed l.initial.self.items l.initial.grace l.self.items l.grace;
+  front : FreesFront (λ s item. g.G.Grace.checks s item.1) (λ s item. g.G.Grace.frees s item.0) l.freed l.initial.self.items l.initial.grace l.self.items l.grace;
   capacity : l.self.capacity ≡ l.initial.self.capacity;
   left : l.self.items ≡ drop l.freed l.initial.self.items;
   ready : g.G.Grace.ready l.grace l.self.items;

@@ -1,9 +1,9 @@
 use Rattle.std.proofs.Common.{◌≤◌, refl, sym, subst, [], length, None}
-use Rattle.std.proofs.lemmas.List.{length-map}
 use Rattle.defer_queue.specs.Limbo.{Limbo as Queue}
 use Rattle.lpm_update.specs.Linked.{group_at}
 use Rattle.lpm_trace.specs.Tables.{tables}
 use Rattle.lpm_writer.specs.Waiting.{AreWaiting, IsQueued}
+use Rattle.lpm_writer.proofs.Freeing.{freed_within}
 use Rattle.lpm_writer.proofs.Limbo.{freed_queue}
 use Rattle.lpm_writer.proofs.TakesOne.{no_tail, without_tail, may_reclaim}
 use Rattle.lpm_writer.proofs.Rests.{between_take, rests_still, tied_freed}
@@ -24,7 +24,7 @@ returns-clause-frees g c = λ setup steps did rest.
     let r = c.reclaim in
     let y = r.new.books in
     let done = r.ensures.reclaims setup steps [] None did (no_tail setup steps x.groups x.queue.items x.passed None rest.keeps) (may_reclaim setup steps x (between_take setup steps x rest.between rest.keeps)) in
-    let within : r.result.freed ≤ length x.queue.items = subst (λ m. r.result.freed ≤ m) (length-map x.queue.items (λ item. item.1)) done.4.within in
+    let within : r.result.freed ≤ length x.queue.items = freed_within x.queue.items done.4 in
     let waits = subst (λ (q : Queue). AreWaiting y.groups q.items) r.ensures.queue r.ensures.waiting in
     let queued = subst (IsQueued y.groups) (sym r.ensures.queue) (freed_queue x.groups y.groups x.queue r.result.freed rest.queued within r.ensures.freed waits) in (
       done.0,

@@ -1,6 +1,7 @@
-use Rattle.std.proofs.Common.{arith, ◌<◌, ◌≤◌, subst, length}
+use Rattle.std.proofs.Common.{arith, ◌<◌, ◌≤◌, length}
 use Rattle.std.proofs.lemmas.List.{length-map}
 use Rattle.lpm_writer.specs.Waiting.{tokens_of}
+use Rattle.lpm_writer.proofs.Freeing.{freed_within}
 use Rattle.lpm_writer.proofs.waiting.make_room.Goals as goal
 
 pub returns-clause-room : goal.returns-clause-room
@@ -15,5 +16,5 @@ returns-clause-freed g c =
     let x = c.args.books.now in
     let s = c.requires.kept in
     let done = c.reclaim.ensures.reclaims s.0 s.1 s.2 s.3 s.4 s.5 s.6 in
-    let within : c.reclaim.result.freed ≤ length x.queue.items = subst (λ n. c.reclaim.result.freed ≤ n) (length-map x.queue.items (λ item. item.1)) done.4.within in
+    let within : c.reclaim.result.freed ≤ length x.queue.items = freed_within x.queue.items done.4 in
     (c.reclaim.result.freed, within, c.reclaim.ensures.queue, c.reclaim.ensures.freed)

@@ -1,9 +1,9 @@
 use Rattle.std.proofs.Common.{arith, ◌≡◌, ◌≢◌, ◌≤◌, refl, sym, ap, subst, ◌∙◌, [], ◌++◌, length, drop, Some, None}
-use Rattle.std.proofs.lemmas.List.{length-map}
 use Rattle.defer_queue.specs.Limbo.{Limbo as Queue}
 use Rattle.lpm_writer.specs.Kept.{Keeps}
 use Rattle.lpm_writer.specs.Waiting.{AreWaiting, IsQueued, IsFreed, IsTaken, tokens_of}
 use Rattle.lpm_writer.specs.Traced.{by_writer}
+use Rattle.lpm_writer.proofs.Freeing.{freed_within}
 use Rattle.lpm_writer.proofs.Reclaims.{still_same}
 use Rattle.lpm_writer.proofs.Keeping.{keeps_taken}
 use Rattle.lpm_writer.proofs.Limbo.{taken_from, taken_queue, taken_after, freed_queue, still_free}
@@ -82,7 +82,7 @@ returns-in-Some-take_least-clause-queued g c =
     let b = c.requires.rests in
     let keeps = subst (λ ys. Keeps b.0 b.1 ys (x.queue.items ++ []) x.passed None) (sym c.in_default.ensures.unchanged) (no_tail b.0 b.1 x.groups x.queue.items x.passed None b.3.keeps) in
     let done = r.ensures.reclaims b.0 b.1 [] None b.2 keeps (may_reclaim b.0 b.1 x b.3) in
-    let within : r.result.freed ≤ length x.queue.items = subst (λ m. r.result.freed ≤ m) (length-map x.queue.items (λ item. item.1)) done.4.within in
+    let within : r.result.freed ≤ length x.queue.items = freed_within x.queue.items done.4 in
     let waits = subst (λ (q : Queue). AreWaiting ys q.items) r.ensures.queue r.ensures.waiting in
     let queued = subst (IsQueued ys) (sym r.ensures.queue) (freed_queue x.groups ys x.queue r.result.freed c.requires.queued within freed waits) in
     subst (λ zs. IsQueued zs r.new.books.queue) (sym now.linked) (taken_queue ys r.new.books.queue n c.args.block now.least.free queued)
