@@ -130,12 +130,12 @@ module _ (c : Setup) where
     more = on.more;
   }
 
-  reclaims_on : (x last z : List WriterStep) (max : ℕ) (limbo : List ℕ) (freed : ℕ) (stopped : Option Busy)
+  reclaims_on : (x z : List WriterStep) (max : ℕ) (limbo : List ℕ) (freed : ℕ) (stopped : Option Busy)
       (left : List ℕ) (h : Reclaims (by_steps c) x max limbo freed stopped left z)
       → ((tables c z).token ≡ (tables c h.last).token) × ((tables c z).passed ≡ (tables c h.last).passed)
-  reclaims_on x last z max limbo freed None left h =
+  reclaims_on x z max limbo freed None left h =
       (ap (λ y. (tables c y).token) h.end.0, ap (λ y. (tables c y).passed) h.end.0)
-  reclaims_on x last z max limbo freed (Some busy) left h =
+  reclaims_on x z max limbo freed (Some busy) left h =
       let stop = h.end.1 in
       let stays = check_stops AnyMemory c (steps_alone h.last) stop.0 busy (steps_alone z) stop.2 in
       (stays.token, stays.passed)
@@ -145,7 +145,7 @@ module _ (c : Setup) where
       → Leaves c x z limbo 0 (take freed limbo) left
   reclaims_leave x z max limbo freed stopped left reclaims =
       let h = by_places (by_steps c) x max limbo freed stopped left z reclaims in
-      let end = reclaims_on x h.last z max limbo freed stopped left h in
+      let end = reclaims_on x z max limbo freed stopped left h in
       let on = passes_on c limbo freed x h.last h.passed in
       front_leaves x z limbo freed left
       (record { token = end.0 ∙ on.token; more = subst (λ p. (tables c x).passed ≤ p) (sym end.1) on.more })
