@@ -45,7 +45,7 @@ returns-in-Err-clause-reclaims g c =
     let known = c.loop-freed.invariant in
     one_held g.M.Memory.did g.M.Memory.does c.args.memory.now x.groups x.queue.items x.passed c.loop-freed.freed c.loop-freed.memory y.groups y.queue.items y.passed known.freed
     c.in-Some.group c.in-Some.token (drop 1 y.queue.items) c.in-Some.ensures.rest c.check.new.memory c.check.new.passed c.check.result c.check.ensures.checks c.in-Err.busy c.in-Err.is
-    c.args.max c.loop-freed-test.true known.within known.left
+    c.args.max c.loop-freed-test.true
 
 pub returns-in-Err-clause-freed : goal.returns-in-Err-clause-freed
 returns-in-Err-clause-freed g c =
@@ -69,7 +69,7 @@ loop-freed-preserved g c =
     let later : c.take_front.new.self.items ≡ drop 1 now = search rules in
     let waits = subst (AreWaiting y.groups) c.in-Some.ensures.rest known.waiting in
     let freed = one_freed g.M.Memory.did g.M.Memory.does c.args.memory.now x.groups items x.passed n c.loop-freed.memory y.groups now y.passed known.freed c.in-Some.group c.in-Some.token (drop 1 now) c.in-Some.ensures.rest
-    c.check.new.memory c.check.new.passed c.check.result c.check.ensures.checks c.in_default-check.is known.left waits.0 in
+    c.check.new.memory c.check.new.passed c.check.result c.check.ensures.checks c.in_default-check.is waits.0 in
     record {
       at_most = search rules;
       within = more_items n items c.in-Some.group c.in-Some.token (drop 1 now) front;
@@ -87,7 +87,7 @@ returns-after-loop-freed-clause-reclaims g c =
     let y = c.loop-freed.books in
     let known = c.loop-freed.invariant in
     all_freed g.M.Memory.did g.M.Memory.does c.args.memory.now x.groups x.queue.items x.passed c.loop-freed.freed c.args.max c.loop-freed.memory y.groups y.queue.items y.passed known.freed
-    known.at_most known.within known.left (inl (omega (arith, known.at_most, c.loop-freed-test.false)))
+    known.at_most (inl (omega (arith, known.at_most, c.loop-freed-test.false)))
 
 pub returns-after-loop-freed-clause-freed : goal.returns-after-loop-freed-clause-freed
 returns-after-loop-freed-clause-freed g c =
@@ -100,7 +100,7 @@ returns-in_default-clause-reclaims g c =
     let y = c.loop-freed.books in
     let known = c.loop-freed.invariant in
     all_freed g.M.Memory.did g.M.Memory.does c.args.memory.now x.groups x.queue.items x.passed c.loop-freed.freed c.args.max c.loop-freed.memory y.groups y.queue.items y.passed known.freed
-    known.at_most known.within known.left (inr (search rules))
+    known.at_most (inr (search rules))
 
 pub returns-in_default-clause-freed : goal.returns-in_default-clause-freed
 returns-in_default-clause-freed g c =
