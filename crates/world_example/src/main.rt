@@ -50,14 +50,18 @@ fn asked(rt: &HostRuntime) -> io::Result<Option<usize>> {
 /// Shows a lookup that has read the link to a group when the writer gives the group up. The group is free
 /// only once the worker has reported that it is quiescent.
 fn show_run<R: Print>(rt: &R, alloc: Global) -> Result<()> {
-    let (add, delete) = changes_of_rule()?;
-    let changes = [add, delete, Change::Reclaim(1), Change::Reclaim(1)];
+    let changes = [
+        add_rule()?,
+        Change::Flush,
+        Change::Reclaim(1),
+        Change::Reclaim(1),
+    ];
     let deeds = [Deed::Online, Deed::Lookup(ADDR), Deed::Quiescent];
     let turns = [
         (WORKER, 2),
         (Actor::Writer, 19),
         (WORKER, 2),
-        (Actor::Writer, 6),
+        (Actor::Writer, 5),
         (WORKER, 4),
         (Actor::Writer, 1),
     ];
@@ -67,8 +71,8 @@ fn show_run<R: Print>(rt: &R, alloc: Global) -> Result<()> {
 
 /// Makes a run of so many steps, half of them the writer's, and prints how long it took.
 fn time_run<R: Clock + Print>(rt: &R, alloc: Global, steps: usize) -> Result<()> {
-    let (add, delete) = changes_of_rule()?;
-    let changes = repeated(alloc, &[add, delete, Change::Reclaim(1)], steps / 6)?;
+    let round = [add_rule()?, Change::Flush, Change::Reclaim(1)];
+    let changes = repeated(alloc, &round, steps / 6)?;
     let mut deeds = Vec::new(alloc);
     deeds.push(Deed::Online)?;
     deeds.append(&mut repeated(alloc, &[Deed::Lookup(ADDR), Deed::Quiescent], steps / 8)?)?;
@@ -86,10 +90,9 @@ fn time_run<R: Clock + Print>(rt: &R, alloc: Global, steps: usize) -> Result<()>
     Ok(())
 }
 
-/// The changes that give the address a next hop of its own, which takes a group, and that take it away.
-fn changes_of_rule() -> Result<(Change<4, 4>, Change<4, 4>)> {
-    let prefix = Prefix::new(ADDR, 8)?;
-    Ok((Change::Add(prefix, Hop::new(1)?), Change::Delete(prefix)))
+/// The change that gives the address a next hop of its own, which takes a group.
+fn add_rule() -> Result<Change<4, 4>> {
+    Ok(Change::Add(Prefix::new(ADDR, 8)?, Hop::new(1)?))
 }
 
 /// A schedule in which each actor in turn has so many items.
@@ -126,8 +129,12 @@ fn run(
 fn print_trace<R: Print>(rt: &R, trace: &Trace) -> Result<()> {
     for (i, step) in trace.steps.iter().enumerate() {
         println!(rt;
-            "{i}: {:?} {:?} {} {}",
-            step.actor, step.kind, step.index, step.value
+            "{}: {:?} {:?} {} {}",
+            i + 1,
+            step.actor,
+            step.kind,
+            step.index,
+            step.value
         )?;
     }
     for reply in &trace.replies {
