@@ -90,8 +90,8 @@ impl<const FIRST: u32, const SECOND: u32> Writer<FIRST, SECOND> {
     }
 
     /// Deletes the rule of this prefix, and returns its next hop. Its addresses go to the longest rule that
-    /// is shorter and covers it, where there is one. A block that loses its last rule longer than `FIRST` bits
-    /// gives its group up; where more than the threshold wait in limbo, some are reclaimed first.
+    /// is shorter and covers it, where there is one. A block that loses its last rule longer than `FIRST`
+    /// bits gives its group up; where more than the threshold wait in limbo, some are reclaimed first.
     ///
     /// The refusals: `NoSuchRule`, where the prefix has no rule, and else `Exhausted`.
     pub fn delete(

@@ -1,5 +1,5 @@
-//! `world_example`: one writer and one worker of the pure world, who make their steps by a schedule. Called with a
-//! number, it makes a run of so many steps, and tells how long that took.
+//! `world_example`: one writer and one worker of the pure world, who make their steps by a schedule. Called
+//! with a number, it makes a run of so many steps, and tells how long that took.
 #![tactic(auto)]
 
 use anyhow::{Result, ensure};
