@@ -6,6 +6,7 @@ what stands on standard input (nothing). With `full=True` standard output is /de
 occur. Wanted texts come from docs/FORMATS.md and from worked cases, never from a run.
 """
 from collections import namedtuple
+from itertools import permutations
 
 
 class Has(str):
@@ -25,17 +26,23 @@ def fault(name, text, where, **more):
     return case(name, "lookup r a", {"r": text, "a": ""}, 4, "", f"lpmtool: r:{where}\n", **more)
 
 
-def applied(name, words, lines, out, routes="", addresses=""):
+def answered(name, routes, addresses, hops, words="", **more):
+    """A `lookup` of these addresses, which answers these next hops."""
+    out = "".join(f"{address} {hop}\n" for address, hop in zip(addresses.split(), hops.split()))
+    return case(name, f"lookup {words} r a", {"r": routes, "a": addresses}, out=out, **more)
+
+
+def applied(name, words, lines, out, routes="", addresses="", **more):
     """An `apply` of these update lines."""
     files = {"r": routes, "u": UPDATES + lines, "a": addresses}
-    return case(name, f"apply {words} r u a", files, out=out)
+    return case(name, f"apply {words} r u a", files, out=out, **more)
 
 
-def reported(name, words, lines, numbers, routes=""):
+def reported(name, words, lines, numbers, routes="", **more):
     """A `report` after these update lines: rules, versions, groups in use, in limbo and free, and the token."""
     labels = ("rules", "versions", "in use", "limbo", "free", "token")
     out = "".join(f"{label} {number}\n" for label, number in zip(labels, numbers))
-    return case(name, f"report {words} r u", {"r": routes, "u": UPDATES + lines}, out=out)
+    return case(name, f"report {words} r u", {"r": routes, "u": UPDATES + lines}, out=out, **more)
 
 
 def update_fault(name, text, where, **more):
@@ -50,6 +57,23 @@ def line_fault(name, line, kind):
 
 def migrated(name, old, out="", **more):
     return case(name, "migrate old", {"old": old}, out=out, **more)
+
+
+def one_byte(kind, words, files, name, before, where):
+    """A command for each byte, in which the file of this name ends. Each but a space, a tab, LF and `#` is a fault."""
+    for byte in range(256):
+        fault = {} if byte in b" \t\n#" else {"status": 4, "err": f"lpmtool: {name}:{where}\n"}
+        named = {**files, name: before + bytes([byte])}
+        yield case(f"one-byte-files-{kind}-{byte}", words, named, refusing=False, **fault)
+
+
+def cut(kind, words, files, name, text, ends):
+    """A command for each beginning of the file of this name. Each of `ends` is the most bytes for which it holds, and
+    how the command ends then: the lines on standard output, or the place and the kind of a fault."""
+    for count in range(len(text) + 1):
+        end = next(end for most, end in ends if count <= most)
+        more = {"out": end} if end == "" or end.endswith("\n") else {"status": 4, "err": f"lpmtool: {name}:{end}\n"}
+        yield case(f"cut-{kind}-{count}", words, {**files, name: text[:count]}, refusing=False, **more)
 
 
 RT = "10.0.0.0/8 1\n10.1.0.0/16 2\n10.1.1.128/25 3\n"
@@ -70,6 +94,38 @@ WORKERS_OUT = "refused 10 NoSuchWorker\nrefused 13 NotOnline\nok\nrefused 14 Alr
 PIECES = "online 2\ndel 10.1.1.128/25\nreclaim 16\n"
 PIECES_OUT = "ok\ndeleted 3\nreclaimed 0 stopped worker 2 counter 1\n"
 FOUR_CHANGES = "add 10.0.0.0/25 1\nadd 10.0.1.0/25 2\ndel 10.0.0.0/25\ndel 10.0.1.0/25\n"
+NESTED = ["10.0.0.0/8 1\n", "10.1.0.0/16 2\n", "10.1.1.0/24 4\n"]
+THREE_ROUTES = "10.1.1.127\n10.1.1.128\n10.2.0.0\n11.0.0.0\n"
+RT_DOWN = "10.1.1.128/25 3\n10.1.0.0/16 2\n10.0.0.0/8 1\n"
+TWO_ADDS = "add 10.0.0.0/25 1\nadd 10.0.1.0/25 2\n"
+TWO_WORKERS = TWO_ADDS + """online 0
+del 10.0.0.0/25
+online 1
+del 10.0.1.0/25
+reclaim 16
+quiescent 0
+reclaim 16
+offline 1
+reclaim 16
+"""
+TWO_WORKERS_OUT = """added
+added
+ok
+deleted 1
+ok
+deleted 2
+reclaimed 0 stopped worker 0 counter 1
+ok
+reclaimed 1 stopped worker 1 counter 2
+ok
+reclaimed 1
+"""
+THREE_GROUPS = TWO_ADDS + "add 10.0.2.0/25 3\nflush\n"
+ONE_RULE = "add 10.0.0.0/8 1\nadd 11.0.0.0/8 1\nadd 10.0.0.0/8 5\n"
+DEFAULT_UPDATES = "add 1.2.3.4/0 1\nadd 0.0.0.0/0 1\nadd 10.0.0.0/8 2\ndel 10.0.0.0/8\n"
+FULL_BLOCK = "".join(f"10.0.0.{octet}/32 9\n" for octet in range(256))
+EACH_WORD = "\tdel 1.2.3.4/32\r\nreclaim 65536\n\nonline 4294967295\noffline 0\nquiescent 7"
+EACH_WORD_NEW = "lpm-updates 2\ndel 1.2.3.4/32\nreclaim 65536\nonline 4294967295\noffline 0\nquiescent 7\n"
 TWO_INPUTS = "lpmtool: only one file can be `-`, standard input\n"
 NO_ADDRESSES = """error: the following required arguments were not provided:
   <ADDRESSES>
@@ -99,23 +155,62 @@ CASES = [
     case("no-line-end", "lookup r a", {"r": "10.0.0.0/8 1", "a": "10.0.0.0"}, out="10.0.0.0 1\n"),
     case("standard-input", "lookup - a", {"a": FIVE}, out=FIVE_ANSWERS, stdin=RT),
     case("file-named-dash", "lookup ./- a", {"-": RT, "a": FIVE}, out=FIVE_ANSWERS, stdin="x", refusing=False),
+    *(answered(f"short-prefixes-{order}", "".join(routes), "10.1.1.255 10.1.2.0 10.2.0.0 9.255.255.255", "4 2 1 -",
+               refusing=False) for order, routes in enumerate(permutations(NESTED))),
+    answered("no-addresses", RT, "", "", refusing=False),
+    answered("three-routes", RT, THREE_ROUTES, "2 3 1 -", refusing=False),
+    answered("reverse-order", RT_DOWN, THREE_ROUTES, "2 3 1 -", refusing=False),
+    answered("top-bit", "128.0.0.0/1 7", "127.255.255.255 128.0.0.0 255.255.255.255", "- 7 7", refusing=False),
+    answered("host-bits", "10.1.2.3/8 5", "10.9.9.9", "5", refusing=False),
+    answered("last-address", "255.255.255.255/32 16777215", "255.255.255.254 255.255.255.255", "- 16777215",
+             refusing=False),
+    answered("default-route", "0.0.0.0/0 1\n10.0.0.0/8 2\n", "0.0.0.0 10.0.0.0 255.255.255.255", "1 2 1",
+             refusing=False),
+    answered("default-route-line", "0.0.0.0/0 1\n", "0.0.0.0 10.0.0.0 255.255.255.255", "1 1 1", refusing=False),
+    answered("one-prefix-twice", "10.0.0.0/8 1\n10.0.0.0/8 2\n", "10.0.0.1 10.0.0.1", "2 2", "--rules 1",
+             refusing=False),
+    *(case(f"five-addresses-{count}", f"lookup --workers {count} r a", {"r": RT, "a": FIVE}, out=FIVE_ANSWERS,
+           refusing=False) for count in (1, 2, 8, 1024)),
     case("help", "--help", out=Has("\nUsage: lpmtool <COMMAND>\n")),
     case("lookup-help", "lookup --help", out=Has("\nUsage: lpmtool lookup [OPTIONS] <ROUTES> <ADDRESSES>\n")),
+    case("lookup-short-help", "lookup -h", out=Has("Usage: lpmtool lookup"), refusing=False),
+    case("apply-help", "apply --help", out=Has("Usage: lpmtool apply"), refusing=False),
+    case("report-help", "report --help", out=Has("Usage: lpmtool report"), refusing=False),
+    case("migrate-help", "migrate --help", out=Has("Usage: lpmtool migrate"), refusing=False),
     case("version", "--version", out="lpmtool 2.0.0\n"),
     # Updates. A refused update stops nothing, and the status is 0.
     applied("delete-then-reclaim", "", "del 10.1.1.128/25\n", "deleted 3\n10.1.1.128 2\n", RT, "10.1.1.128"),
     applied("outcomes", "", OUTCOMES, "added\nunchanged\nreplaced\ndeleted 2\nrefused 4 NoSuchRule\n"),
     applied("held-group-outcomes", "--groups 1", HELD, HELD_OUT),
     applied("refused-reports", "", WORKERS, WORKERS_OUT),
+    applied("delete-then-reclaim-16", "", "del 10.1.1.128/25\nreclaim 16\n",
+            "deleted 3\nreclaimed 1\n10.1.1.128 2\n", RT, "10.1.1.128", refusing=False),
+    applied("one-group", "--groups 1", TWO_ADDS, "added\nrefused 7 NoGroups\n", refusing=False),
+    applied("two-workers", "--workers 2", TWO_WORKERS, TWO_WORKERS_OUT, refusing=False),
+    applied("one-rule", "--rules 1", ONE_RULE, "added\nrefused 3 TooManyRules\nreplaced\n", refusing=False),
+    applied("flush", "", "flush\n", "flushed 3\n", RT, refusing=False),
+    applied("flush-three-groups", "--groups 3 --threshold 0", THREE_GROUPS, "added\nadded\nadded\nflushed 3\n",
+            refusing=False),
+    applied("default-route-updates", "", DEFAULT_UPDATES, "added\nunchanged\nadded\ndeleted 2\n10.0.0.0 1\n", "",
+            "10.0.0.0", refusing=False),
     applied("updates-3", "--workers 3", PIECES, PIECES_OUT + FIVE_ANSWERS.replace(" 3", " 2"), RT, FIVE),
     case("updates-from-standard-input", "apply r - a", {"r": RT, "a": ""}, out="deleted 1\n",
          stdin=UPDATES + "del 10.0.0.0/8\n", refusing=False),
     reported("held-group", "--groups 1", HELD, (1, 3, 1, 0, 0, 2)),
     reported("flush-report", "", "flush\n", (0, 4, 0, 1, 255, 2), RT),
     reported("threshold-zero", "--groups 4 --threshold 0 --workers 0", FOUR_CHANGES, (0, 4, 0, 1, 3, 3)),
+    reported("delete-then-reclaim-report", "", "del 10.1.1.128/25\n", (2, 4, 0, 1, 255, 2), RT, refusing=False),
+    reported("delete-then-reclaim-16-report", "", "del 10.1.1.128/25\nreclaim 16\n", (2, 4, 0, 0, 256, 2), RT,
+             refusing=False),
+    reported("one-group-report", "--groups 1", TWO_ADDS, (1, 1, 1, 0, 0, 1), refusing=False),
+    reported("outcomes-report", "", OUTCOMES, (0, 3, 0, 0, 256, 1), refusing=False),
+    reported("flush-three-groups-report", "--groups 3 --threshold 0", THREE_GROUPS, (0, 4, 0, 1, 2, 4), refusing=False),
+    reported("three-routes-report", "", "", (3, 3, 1, 0, 255, 1), RT, refusing=False),
+    reported("full-block", "", "", (256, 256, 1, 0, 255, 1), FULL_BLOCK, refusing=False),
     # Migration.
     migrated("migrate", "# nightly\nadd   10.1.2.3/8   5\nflush\n", "lpm-updates 2\nadd 10.0.0.0/8 5\nflush\n"),
     migrated("migrate-edges-empty", "", "lpm-updates 2\n"),
+    migrated("migrate-each-word", EACH_WORD, EACH_WORD_NEW, refusing=False),
     # The words aren't accepted.
     case("no-command", "", status=2, err=Has("error: 'lpmtool' requires a subcommand but one was not provided\n")),
     case("other-command", "serve r a", status=2, err=NO_SUCH_COMMAND),
@@ -146,6 +241,8 @@ CASES = [
     case("bad-standard-input", "lookup - a", {"a": ""}, 4, err="lpmtool: -:2: bad fields\n", stdin="\n10.0.0.0/8\n"),
     case("bad-address", "lookup r a", {"r": RT, "a": "1.2.3.4\n1.2.3\n"}, 4, err="lpmtool: a:2: bad address\n"),
     case("first-file-first", "lookup r a", {"r": "x", "a": "x"}, 4, err="lpmtool: r:1: bad fields\n"),
+    case("one-address-a-line", "lookup r a", {"r": "", "a": "1.2.3.4 1.2.3.4\n"}, 4, err="lpmtool: a:1: bad fields\n",
+         refusing=False),
     case("fault-before-refusal", "lookup --rules 1 r a", {"r": TWO_SHORT, "a": "x"}, 4,
          err="lpmtool: a:1: bad address\n"),
     case("no-workers-fault", "lookup --workers 0 r a", {"r": RT, "a": "x"}, 4, err="lpmtool: a:1: bad address\n"),
@@ -164,17 +261,33 @@ CASES = [
     update_fault("bad-headers-comment", "# x\nlpm-updates 2", "1: bad header", refusing=False),
     update_fault("word-after-header", "lpm-updates 2\r\nput\n", "2: bad word"),
     case("apply-bad-updates", "apply r u a", {"r": RT, "u": "flush\n", "a": "x"}, 4, err="lpmtool: u:1: bad header\n"),
+    case("routes-before-updates", "apply r u a", {"r": "x", "u": UPDATES + "put\n", "a": "y"}, 4,
+         err="lpmtool: r:1: bad fields\n", refusing=False),
+    case("updates-before-addresses", "apply r u a", {"r": "", "u": UPDATES + "put\n", "a": "y"}, 4,
+         err="lpmtool: u:2: bad word\n", refusing=False),
+    case("addresses-before-refusal", "apply --rules 1 r u a", {"r": TWO_SHORT, "u": UPDATES, "a": "y"}, 4,
+         err="lpmtool: a:1: bad address\n", refusing=False),
+    migrated("migrate-fault-after-comment", "# c\nflush\nflush 1\n", status=4, err="lpmtool: old:3: bad fields\n",
+             refusing=False),
     migrated("migrate-edges-header", "lpm-updates 2\n", status=4, err="lpmtool: old:1: bad word\n"),
     # A route is refused, or there is no worker to answer.
     case("one-rule-load", "lookup --rules 1 r a", {"r": TWO_SHORT, "a": "10.0.0.0"}, 6,
          err="lpmtool: r:2: refused 3 TooManyRules\n"),
     case("one-group-load", "lookup --groups 1 r a", {"r": TWO_BLOCKS, "a": "10.0.0.0"}, 6,
          err="lpmtool: r:2: refused 7 NoGroups\n"),
+    case("refusal-after-comment", "lookup --rules 1 r a",
+         {"r": "# c\n\n10.0.0.0/8 1\n10.0.0.0/8 2\n10.1.0.0/16 2\n", "a": ""}, 6,
+         err="lpmtool: r:5: refused 3 TooManyRules\n", refusing=False),
+    case("one-group-twice", "lookup --groups 1 --threshold 0 --max 1 r a",
+         {"r": "10.0.0.0/25 1\n10.0.0.128/26 3\n10.0.1.0/25 2\n", "a": ""}, 6, err="lpmtool: r:3: refused 7 NoGroups\n",
+         refusing=False),
     # The first line of the file that is refused, and not the last prefix.
     case("two-rules-load-down", "lookup --rules 2 r a", {"r": THREE_DOWN, "a": "10.0.0.0"}, 6,
          err="lpmtool: r:3: refused 3 TooManyRules\n"),
     case("one-group-load-down", "lookup --groups 1 r a", {"r": TWO_BLOCKS_DOWN, "a": "10.0.0.0"}, 6,
          err="lpmtool: r:2: refused 7 NoGroups\n", refusing=False),
+    case("one-rule-apply", "apply --rules 1 r u a", {"r": TWO_SHORT, "u": UPDATES, "a": ""}, 6,
+         err="lpmtool: r:2: refused 3 TooManyRules\n", refusing=False),
     case("one-rule-report", "report --rules 1 r u", {"r": TWO_SHORT, "u": UPDATES}, 6,
          err="lpmtool: r:2: refused 3 TooManyRules\n"),
     case("no-workers", "lookup --workers 0 r a", {"r": RT, "a": FIVE}, 6, err="lpmtool: refused 8 NoWorkers\n"),
@@ -182,4 +295,16 @@ CASES = [
          err="lpmtool: r:2: refused 3 TooManyRules\n"),
     case("no-workers-apply", "apply --workers 0 r u a", {"r": RT, "u": UPDATES + "flush\n", "a": ""}, 6,
          err="lpmtool: refused 8 NoWorkers\n"),
+    # Files of one byte, and files that are cut.
+    *one_byte("routes", "lookup r a", {"a": ""}, "r", b"", "1: bad fields"),
+    *one_byte("addresses", "lookup r a", {"r": ""}, "a", b"", "1: bad address"),
+    *one_byte("updates", "report r u", {"r": ""}, "u", UPDATES.encode(), "2: bad word"),
+    *cut("route-file", "lookup r a", {"a": "10.1.1.128\n"}, "r", RT, [
+        (0, "10.1.1.128 -\n"), (11, "1: bad fields"), (13, "10.1.1.128 1\n"), (25, "2: bad fields"),
+        (27, "10.1.1.128 2\n"), (41, "3: bad fields"), (43, "10.1.1.128 3\n")]),
+    *cut("address-file", "lookup r a", {"r": RT}, "a", "10.1.1.128\n", [
+        (0, ""), (7, "1: bad address"), (8, "10.1.1.1 2\n"), (9, "10.1.1.12 2\n"), (11, "10.1.1.128 3\n")]),
+    *cut("update-file", "apply r u a", {"r": "", "a": ""}, "u", UPDATES + "add 10.0.0.0/8 1\nflush\n", [
+        (12, "1: bad header"), (14, ""), (16, "2: bad word"), (29, "2: bad fields"), (31, "added\n"),
+        (35, "3: bad word"), (37, "added\nflushed 1\n")]),
 ]

@@ -29,6 +29,7 @@ from cases import CASES, Has
 HERE = pathlib.Path(__file__).resolve().parent
 PROGRAM = HERE.parent / "crates/lpmtool/out/lpmtool"
 BUILDS = {"LLVM": PROGRAM, "Rattle's compiler": PROGRAM.with_name("lpmtool.by-rattle")}
+AS_WANTED = "as wanted"
 OUT_OF_MEMORY = (5, "", "lpmtool: out of memory\n")
 SECONDS = 60  # for one run
 MOST = 5000  # allocations of one case, which has about a hundred
@@ -38,7 +39,7 @@ def run(program, case, refuser=None, at=0):
     """Runs the case in a new folder; returns (status, output, error), and whether an allocation was refused."""
     with tempfile.TemporaryDirectory(prefix="try-program-") as folder:
         for name, text in case.files.items():
-            pathlib.Path(folder, name).write_bytes(text.encode())
+            pathlib.Path(folder, name).write_bytes(text if isinstance(text, bytes) else text.encode())
         seen, told = os.pipe()
         refusing = {"LD_PRELOAD": refuser, "REFUSE_AT": str(at), "REFUSE_FD": str(told)} if refuser else {}
         try:
@@ -70,7 +71,7 @@ def try_case(program, case, refuser):
     if not is_wanted(case, got):
         return False, f"got {got}, wanted {(case.status, case.out, case.err)}"
     if not case.refusing:
-        return True, "as wanted"
+        return True, AS_WANTED
     times_out = 0
     for at in range(1, MOST + 1):
         got, was_refused = run(program, case, refuser, at)
@@ -79,7 +80,7 @@ def try_case(program, case, refuser):
         if not (is_out or is_wanted(case, got)):
             return False, f"with allocation {at} {'refused' if was_refused else 'reached no more'}: got {got}"
         if not was_refused:
-            return times_out > 0, f"as wanted; {at - 1} allocations refused in turn, {times_out} times status 5"
+            return times_out > 0, f"{AS_WANTED}; {at - 1} allocations refused in turn, {times_out} times status 5"
     return False, f"it makes over {MOST} allocations"
 
 
@@ -110,7 +111,9 @@ def main():
                 is_well, text = task.result()
             except (OSError, subprocess.TimeoutExpired) as error:
                 is_well, text = False, str(error)
-            print(f"lpmtool, {name}: {'' if is_well else 'FAILED: '}{text}")
+            # (of the many cases that run once alone only the failed ones are told)
+            if not is_well or text != AS_WANTED:
+                print(f"lpmtool, {name}: {'' if is_well else 'FAILED: '}{text}")
             passed, failed = passed + is_well, failed + (not is_well)
     print(f"{passed} passed, {failed} failed")
     return 1 if failed or not tasks else 0

@@ -1,20 +1,13 @@
-//! The tests of `lpm_program`: worked cases as text, and files and writers that fail. They call what is
-//! public alone, so they stand here: a crate with a test is proved twice.
+//! The tests of `lpm_program` that the built program can't show: files and writers that fail at each of their
+//! calls. They call what is public alone, so they stand here: a crate with a test is proved twice. The worked
+//! cases are runs of the built program (`tools/cases.py`).
 #![tactic(auto)]
 
-#[cfg(test)]
-mod bytes;
 #[cfg(test)]
 mod cases;
 #[cfg(test)]
 mod failing;
 #[cfg(test)]
 mod fakes;
-#[cfg(test)]
-mod lookups;
-#[cfg(test)]
-mod migrations;
-#[cfg(test)]
-mod updates;
 #[cfg(test)]
 mod words;
