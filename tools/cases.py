@@ -28,8 +28,9 @@ def fault(name, text, where, **more):
 
 def answered(name, routes, addresses, hops, words="", **more):
     """A `lookup` of these addresses, which answers these next hops."""
+    lines = [f"{address}\n" for address in addresses.split()]
     out = "".join(f"{address} {hop}\n" for address, hop in zip(addresses.split(), hops.split()))
-    return case(name, f"lookup {words} r a", {"r": routes, "a": addresses}, out=out, **more)
+    return case(name, f"lookup {words} r a", {"r": routes, "a": "".join(lines)}, out=out, **more)
 
 
 def applied(name, words, lines, out, routes="", addresses="", **more):
@@ -298,7 +299,7 @@ CASES = [
     # Files of one byte, and files that are cut.
     *one_byte("routes", "lookup r a", {"a": ""}, "r", b"", "1: bad fields"),
     *one_byte("addresses", "lookup r a", {"r": ""}, "a", b"", "1: bad address"),
-    *one_byte("updates", "report r u", {"r": ""}, "u", UPDATES.encode(), "2: bad word"),
+    *one_byte("updates", "apply r u a", {"r": "", "a": ""}, "u", UPDATES.encode(), "2: bad word"),
     *cut("route-file", "lookup r a", {"a": "10.1.1.128\n"}, "r", RT, [
         (0, "10.1.1.128 -\n"), (11, "1: bad fields"), (13, "10.1.1.128 1\n"), (25, "2: bad fields"),
         (27, "10.1.1.128 2\n"), (41, "3: bad fields"), (43, "10.1.1.128 3\n")]),
