@@ -161,17 +161,20 @@ impl SlowWriter {
             return Ok(None);
         }
         for worker in 0..self.config.workers {
-            let step = self.take(Kind::LoadCounter)?;
-            turn_is(&step, worker)?;
-            if step.value != 0 && step.value < token {
-                return Ok(Some(Busy {
-                    worker,
-                    counter: step.value,
-                }));
+            let counter = self.counter_of(worker)?;
+            if counter != 0 && counter < token {
+                return Ok(Some(Busy { worker, counter }));
             }
         }
         self.passed = token;
         Ok(None)
+    }
+
+    // The worker's counter, which the next step loads.
+    fn counter_of(&mut self, worker: usize) -> Result<u64, Stop> {
+        let step = self.take(Kind::LoadCounter)?;
+        turn_is(&step, worker)?;
+        Ok(step.value)
     }
 
     fn reclaim(&mut self, max: usize) -> Result<Reclaimed, Stop> {
@@ -332,28 +335,51 @@ impl SlowWriter {
         if old == Some(hop) {
             return Ok(Reply::Put(Put::Unchanged));
         }
-        if self.is_exhausted() {
-            return Ok(Reply::Refused(Refusal::Exhausted));
+        if let Some(refusal) = self.refusal_of(prefix, old.is_none())? {
+            return Ok(Reply::Refused(refusal));
         }
-        if old.is_none() && self.rules.len() >= self.config.rules {
-            return Ok(Reply::Refused(Refusal::TooManyRules));
-        }
-        if self.wants_group(prefix) && self.least_free().is_none() {
-            let Reclaimed { freed, stopped } = self.reclaim(1)?;
-            if freed == 0 {
-                return Ok(Reply::Refused(Refusal::NoGroups { oldest: stopped }));
-            }
-        }
-        let mut rules = self.rules_without(alloc, prefix)?;
-        let (bits, len) = (prefix.bits(), prefix.len());
-        rules.push(PlainRule { bits, len, hop })?;
-        self.update(alloc, rules)?;
+        self.put(alloc, prefix, hop)?;
         let put = if old.is_some() {
             Put::Replaced
         } else {
             Put::Added
         };
         Ok(Reply::Put(put))
+    }
+
+    // Why a rule of this prefix, maybe a new one, can't be put in. Where no group is free, one is reclaimed.
+    fn refusal_of<const FIRST: u32, const SECOND: u32>(
+        &mut self,
+        prefix: &Prefix<FIRST, SECOND>,
+        is_new: bool,
+    ) -> Result<Option<Refusal>, Stop> {
+        if self.is_exhausted() {
+            return Ok(Some(Refusal::Exhausted));
+        }
+        if is_new && self.rules.len() >= self.config.rules {
+            return Ok(Some(Refusal::TooManyRules));
+        }
+        if !self.wants_group(prefix) || self.least_free().is_some() {
+            return Ok(None);
+        }
+        let Reclaimed { freed, stopped } = self.reclaim(1)?;
+        if freed == 0 {
+            return Ok(Some(Refusal::NoGroups { oldest: stopped }));
+        }
+        Ok(None)
+    }
+
+    // The update to the rules with this one in the place of any other of its prefix.
+    fn put<const FIRST: u32, const SECOND: u32>(
+        &mut self,
+        alloc: Global,
+        prefix: &Prefix<FIRST, SECOND>,
+        hop: u32,
+    ) -> Result<(), Stop> {
+        let mut rules = self.rules_without(alloc, prefix)?;
+        let (bits, len) = (prefix.bits(), prefix.len());
+        rules.push(PlainRule { bits, len, hop })?;
+        self.update(alloc, rules)
     }
 
     fn delete<const FIRST: u32, const SECOND: u32>(
