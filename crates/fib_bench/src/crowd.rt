@@ -64,22 +64,38 @@ pub(crate) fn print_at_once<R: Clock + Print + AllocGlobal + Threads + Sync>(
     addrs: &[u32],
 ) -> Result<()> {
     let short = of_lengths(rt.alloc(), routes, 0, 24)?;
+    print_beside_short(rt, readers, changer, routes, &short, addrs)
+}
+
+/// The same, with these routes of up to 24 bits.
+fn print_beside_short<R: Clock + Print + AllocGlobal + Threads + Sync>(
+    rt: &R,
+    readers: &mut [Reader<'_>],
+    changer: &mut Changer<'_>,
+    routes: &[Route],
+    short: &[Route],
+    addrs: &[u32],
+) -> Result<()> {
     let long = of_lengths(rt.alloc(), routes, 25, 32)?;
-    let all = [
+    print_crowds(rt, readers, changer, &kinds(short, &long), addrs)
+}
+
+/// No changes, changes of these routes of up to 24 bits, and of these longer ones.
+fn kinds<'a>(short: &'a [Route], long: &'a [Route]) -> [Changes<'a>; 3] {
+    [
         Changes {
             name: "no changes",
             routes: &[],
         },
         Changes {
             name: "short changes",
-            routes: short.as_slice(),
+            routes: short,
         },
         Changes {
             name: "long changes",
-            routes: long.as_slice(),
+            routes: long,
         },
-    ];
-    print_crowds(rt, readers, changer, &all, addrs)
+    ]
 }
 
 /// Prints what the lookups of each number of passes take at once, beside each kind of changes.

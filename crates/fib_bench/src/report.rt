@@ -30,8 +30,17 @@ pub(crate) fn run<R: Clock + Print + AllocGlobal + Threads + Sync>(
     count: usize,
 ) -> Result<()> {
     let mut table = Fib::<24, 8>::open(rt.alloc(), limits())?;
-    let drawn = measure_alone(rt, &mut table, count)?;
-    measure_running(rt, &table, &drawn)
+    measure(rt, &mut table, count)
+}
+
+/// Measures the table with that many routes, and then another one with the same as a running table.
+fn measure<R: Clock + Print + AllocGlobal + Threads + Sync>(
+    rt: &R,
+    table: &mut Fib<24, 8>,
+    count: usize,
+) -> Result<()> {
+    let drawn = measure_alone(rt, table, count)?;
+    measure_running(rt, table, &drawn)
 }
 
 /// Measures another table with these routes as a running one, beside the first.

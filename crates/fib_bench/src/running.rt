@@ -55,8 +55,22 @@ pub(crate) fn print_running<R: Clock + Print + AllocGlobal + Threads + Sync>(
 {
     let (table, writer, mut bench) = go_live(rt.alloc(), table)?;
     let mut changer = Changer::new(&table, writer);
-    let mut readers = readers_of(rt.alloc(), &table, &mut bench)?;
-    print_readers(rt, readers.as_mut_slice(), &mut changer, other, drawn)
+    print_live(rt, &table, &mut changer, &mut bench, other, drawn)
+}
+
+/// Prints what the lookups of a running table take, by a pass for each worker, and the changes.
+fn print_live<R: Clock + Print + AllocGlobal + Threads + Sync>(
+    rt: &R,
+    table: &SharedTable<24, 8>,
+    changer: &mut Changer<'_>,
+    bench: &mut Bench,
+    other: &Fib<24, 8>,
+    drawn: &Drawn,
+) -> Result<()>
+    requires own { IsBenchOf table.now bench.old }
+{
+    let mut readers = readers_of(rt.alloc(), table, bench)?;
+    print_readers(rt, readers.as_mut_slice(), changer, other, drawn)
 }
 
 /// Prints what lookups by these readers and changes by the writer take, one after the other and at once.
