@@ -41,9 +41,12 @@ fn print_times<R: Print>(
 ) -> Result<()> {
     let one = hundredths_of_nanos(one, addrs);
     let more = hundredths_of_nanos(more, addrs);
-    println!(rt; "{what}, 1 worker: {} ns each", Hundredths(one))?;
-    println!(rt; "{what}, {WORKERS} workers: {} ns each", Hundredths(more))?;
-    println!(rt; "ratio, {what}: {}", Hundredths(ratio(one, more)))?;
+    println!(rt;
+        "{what}, 1 worker: {} ns each\n{what}, {WORKERS} workers: {} ns each\nratio, {what}: {}",
+        Hundredths(one),
+        Hundredths(more),
+        Hundredths(ratio(one, more))
+    )?;
     Ok(())
 }
 

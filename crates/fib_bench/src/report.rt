@@ -75,9 +75,8 @@ fn print_alone<R: Clock + Print + AllocGlobal + Threads + Sync, G: Rng>(
     random: &mut G,
 ) -> Result<()> {
     let rules = table.rules();
-    println!(rt; "routes: {rules}")?;
     let in_use = table.counts().in_use;
-    println!(rt; "groups in use: {in_use}")?;
+    println!(rt; "routes: {rules}\ngroups in use: {in_use}")?;
     print_all_lookups(rt, table, routes, random)?;
     print_changes(rt, table, routes)?;
     print_default_route(rt, table)?;
@@ -184,11 +183,13 @@ fn print_lookups<R: Clock + Print>(
     let count = addresses.count();
     let table = hundredths_of_nanos(compared.first, count);
     let words = hundredths_of_nanos(compared.second, count);
-    println!(rt; "lookups, {kind}: {} ns each", Hundredths(table))?;
-    println!(rt; "plain words, {kind}: {} ns each", Hundredths(words))?;
-    println!(rt; "ratio, {kind}: {}", Hundredths(ratio(table, words)))?;
-    let sum = compared.sum;
-    println!(rt; "checksum, {kind}: {sum}")?;
+    println!(rt;
+        "lookups, {kind}: {} ns each\nplain words, {kind}: {} ns each\nratio, {kind}: {}\nchecksum, {kind}: {}",
+        Hundredths(table),
+        Hundredths(words),
+        Hundredths(ratio(table, words)),
+        compared.sum
+    )?;
     Ok(())
 }
 
@@ -196,10 +197,9 @@ fn print_lookups<R: Clock + Print>(
 fn print_changes<R: Clock + Print>(rt: &R, table: &mut Fib<24, 8>, routes: &[Route]) -> Result<()> {
     let count = routes.len().min(SAMPLE);
     let sample = &routes[..count];
-    let deleting = delete_all(rt, table, sample)?;
-    println!(rt; "deletions: {} a second", each_second(deleting, count))?;
-    let adding = add_all(rt, table, sample)?;
-    println!(rt; "additions: {} a second", each_second(adding, count))?;
+    let deleting = each_second(delete_all(rt, table, sample)?, count);
+    let adding = each_second(add_all(rt, table, sample)?, count);
+    println!(rt; "deletions: {deleting} a second\nadditions: {adding} a second")?;
     Ok(())
 }
 
@@ -209,10 +209,11 @@ fn print_default_route<R: Clock + Print>(rt: &R, table: &mut Fib<24, 8>) -> Resu
         prefix: Prefix::new(0, 0)?,
         hop: Hop::new(1)?,
     }];
-    let adding = hundredths_of_millis(add_all(rt, table, &default)?);
-    println!(rt; "addition of a default route: {} ms", Hundredths(adding))?;
-    let deleting = hundredths_of_millis(delete_all(rt, table, &default)?);
-    println!(rt; "deletion of a default route: {} ms", Hundredths(deleting))?;
+    let adding = Hundredths(hundredths_of_millis(add_all(rt, table, &default)?));
+    let deleting = Hundredths(hundredths_of_millis(delete_all(rt, table, &default)?));
+    println!(rt;
+        "addition of a default route: {adding} ms\ndeletion of a default route: {deleting} ms"
+    )?;
     Ok(())
 }
 
@@ -229,15 +230,10 @@ fn print_block_changes<R: Clock + Print>(
     routes: &[Route],
 ) -> Result<()> {
     let count = routes.len();
-    let adding = add_all(rt, table, routes)?;
+    let adding = each_second(add_all(rt, table, routes)?, count);
+    let deleting = each_second(delete_all(rt, table, routes)?, count);
     println!(rt;
-        "additions, full block: {} a second",
-        each_second(adding, count)
-    )?;
-    let deleting = delete_all(rt, table, routes)?;
-    println!(rt;
-        "deletions, full block: {} a second",
-        each_second(deleting, count)
+        "additions, full block: {adding} a second\ndeletions, full block: {deleting} a second"
     )?;
     Ok(())
 }

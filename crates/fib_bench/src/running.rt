@@ -169,9 +169,12 @@ fn print_beside<R: Print>(
     others: Duration,
 ) -> Result<()> {
     let each = hundredths_of_nanos(lookups, count);
-    println!(rt; "{what}: {} ns each", Hundredths(each))?;
     let times = ratio(nanos(lookups), nanos(others));
-    println!(rt; "ratio, {what}: {}", Hundredths(times))?;
+    println!(rt;
+        "{what}: {} ns each\nratio, {what}: {}",
+        Hundredths(each),
+        Hundredths(times)
+    )?;
     Ok(())
 }
 
@@ -232,10 +235,9 @@ fn print_changes<R: Clock + Print>(
     let start = Instant::now(rt)?;
     changer.delete_all(routes)?;
     let deleting = each_second(start.elapsed(rt)?, routes.len());
-    println!(rt; "deletions, running: {deleting} a second")?;
     let start = Instant::now(rt)?;
     changer.add_all(routes)?;
     let adding = each_second(start.elapsed(rt)?, routes.len());
-    println!(rt; "additions, running: {adding} a second")?;
+    println!(rt; "deletions, running: {deleting} a second\nadditions, running: {adding} a second")?;
     Ok(())
 }
