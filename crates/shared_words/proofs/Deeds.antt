@@ -148,7 +148,15 @@ word_fits u v w first second n h k is_first is_second fit =
     (subst (λ m. IsFirstWord (first + m) m v.opening.seconds n) s
     (subst (λ m. IsFirstWord (m + v.opening.second) v.opening.second v.opening.seconds n) f fit))
 
--- so it is with four of them
+-- what holds of each of four
+pub all_four : (P : ℕ → Type 0) (a b c d : ℕ) → All P (a ∷ b ∷ c ∷ d ∷ []) → P a × P b × P c × P d
+all_four P a b c d all =
+    let all2 = All-tail P a (b ∷ c ∷ d ∷ []) all in
+    let all3 = All-tail P b (c ∷ d ∷ []) all2 in
+    let all4 = All-tail P c (d ∷ []) all3 in
+    (All-head P a (b ∷ c ∷ d ∷ []) all, All-head P b (c ∷ d ∷ []) all2, All-head P c (d ∷ []) all3, All-head P d [] all4)
+
+-- four words that may stand in the first table still may after more steps
 pub words_fit : (u v w : View) (first second a b c d : ℕ) → GoesOn u v → GoesOn v w
     → u.opening.first ≡ first → u.opening.second ≡ second
     → All (IsFirstWord (v.opening.first + v.opening.second) v.opening.second v.opening.seconds) (a ∷ b ∷ c ∷ d ∷ [])
@@ -157,14 +165,11 @@ pub words_fit : (u v w : View) (first second a b c d : ℕ) → GoesOn u v → G
     × IsFirstWord (first + second) second w.opening.seconds c
     × IsFirstWord (first + second) second w.opening.seconds d
 words_fit u v w first second a b c d h k is_first is_second fit =
-    let P : ℕ → Type 0 = IsFirstWord (v.opening.first + v.opening.second) v.opening.second v.opening.seconds in
-    let fit2 = All-tail P a (b ∷ c ∷ d ∷ []) fit in
-    let fit3 = All-tail P b (c ∷ d ∷ []) fit2 in
-    let fit4 = All-tail P c (d ∷ []) fit3 in (
-      word_fits u v w first second a h k is_first is_second (All-head P a (b ∷ c ∷ d ∷ []) fit),
-      word_fits u v w first second b h k is_first is_second (All-head P b (c ∷ d ∷ []) fit2),
-      word_fits u v w first second c h k is_first is_second (All-head P c (d ∷ []) fit3),
-      word_fits u v w first second d h k is_first is_second (All-head P d [] fit4),
+    let fits = all_four (IsFirstWord (v.opening.first + v.opening.second) v.opening.second v.opening.seconds) a b c d fit in (
+      word_fits u v w first second a h k is_first is_second fits.0,
+      word_fits u v w first second b h k is_first is_second fits.1,
+      word_fits u v w first second c h k is_first is_second fits.2,
+      word_fits u v w first second d h k is_first is_second fits.3,
     )
 
 -- a word that answers is no group's
