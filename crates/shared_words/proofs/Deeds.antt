@@ -1,7 +1,8 @@
 -- Steps of a worker one after another.
-use Rattle.std.proofs.Common.{◌≡◌, ℕ, ◌^◌, ◌≤◌, All, List, [], ◌∷◌, ◌++◌, length, Option, Some, None, refl, sym, ap, subst, ◌∙◌, arith, append_assoc, length-set, length-append}
+use Rattle.std.proofs.Common.{◌≡◌, ℕ, ◌+◌, ◌^◌, ◌≤◌, All, List, [], ◌∷◌, ◌++◌, length, Option, Some, None, refl, sym, ap, subst, ◌∙◌, arith, append_assoc, length-set, length-append}
 use Rattle.std.proofs.lemmas.List.{nil_from_length}
-use Rattle.std.proofs.lemmas.List.Elements.{All-head}
+use Rattle.std.proofs.lemmas.List.Elements.{All-head, All-tail}
+use Rattle.lpm_cells.specs.Table.{IsFirstWord}
 use Rattle.lpm_entry.specs.declared.Entry.{Entry}
 use Rattle.lpm_entry.specs.declared.Entry.TheVariants.{Miss, Hop, Group}
 use Rattle.lpm_entry.specs.Words.{entry_in, hop_in, IsLast}
@@ -133,6 +134,43 @@ firsts_are r v w first g is =
     sym (firsts_written (setup_of w.opening) w.seen) ∙ g.sound.words.firsts_len in
     let same : w.opening.first ≡ first = ap (λ (x : View). x.opening.first) g.view ∙ is in
     firsts ∙ ap (λ n. 2 ^ n) same
+
+-- a word that may stand in the first table still may after more steps
+word_fits : (u v w : View) (first second n : ℕ) → GoesOn u v → GoesOn v w
+    → u.opening.first ≡ first → u.opening.second ≡ second
+    → IsFirstWord (v.opening.first + v.opening.second) v.opening.second v.opening.seconds n
+    → IsFirstWord (first + second) second w.opening.seconds n
+word_fits u v w first second n h k is_first is_second fit =
+    let same : w.opening ≡ v.opening = ap (λ (x : View). x.opening) k.same in
+    let f : v.opening.first ≡ first = ap (λ (x : View). x.opening.first) h.same ∙ is_first in
+    let s : v.opening.second ≡ second = ap (λ (x : View). x.opening.second) h.same ∙ is_second in
+    subst (λ (o : Opened). IsFirstWord (first + second) second o.seconds n) (sym same)
+    (subst (λ m. IsFirstWord (first + m) m v.opening.seconds n) s
+    (subst (λ m. IsFirstWord (m + v.opening.second) v.opening.second v.opening.seconds n) f fit))
+
+-- what holds of each of four
+pub all_four : (P : ℕ → Type 0) (a b c d : ℕ) → All P (a ∷ b ∷ c ∷ d ∷ []) → P a × P b × P c × P d
+all_four P a b c d all =
+    let all2 = All-tail P a (b ∷ c ∷ d ∷ []) all in
+    let all3 = All-tail P b (c ∷ d ∷ []) all2 in
+    let all4 = All-tail P c (d ∷ []) all3 in
+    (All-head P a (b ∷ c ∷ d ∷ []) all, All-head P b (c ∷ d ∷ []) all2, All-head P c (d ∷ []) all3, All-head P d [] all4)
+
+-- four words that may stand in the first table still may after more steps
+pub words_fit : (u v w : View) (first second a b c d : ℕ) → GoesOn u v → GoesOn v w
+    → u.opening.first ≡ first → u.opening.second ≡ second
+    → All (IsFirstWord (v.opening.first + v.opening.second) v.opening.second v.opening.seconds) (a ∷ b ∷ c ∷ d ∷ [])
+    → IsFirstWord (first + second) second w.opening.seconds a
+    × IsFirstWord (first + second) second w.opening.seconds b
+    × IsFirstWord (first + second) second w.opening.seconds c
+    × IsFirstWord (first + second) second w.opening.seconds d
+words_fit u v w first second a b c d h k is_first is_second fit =
+    let fits = all_four (IsFirstWord (v.opening.first + v.opening.second) v.opening.second v.opening.seconds) a b c d fit in (
+      word_fits u v w first second a h k is_first is_second fits.0,
+      word_fits u v w first second b h k is_first is_second fits.1,
+      word_fits u v w first second c h k is_first is_second fits.2,
+      word_fits u v w first second d h k is_first is_second fits.3,
+    )
 
 -- a word that answers is no group's
 alone : (e : Entry) → IsLast e → IsReadOn e None

@@ -1,4 +1,5 @@
-use Rattle.std.proofs.Common.{rules}
+use Rattle.std.proofs.Common.{◌+◌, ◌^◌, ◌<◌, rules}
+use Rattle.shared_words.proofs.Deeds.{all_four}
 use Rattle.shared_words.proofs.Together.{firsts_loaded}
 use Rattle.shared_words.proofs.worker.WorkerSeat.load_firsts.Goals as goal
 
@@ -60,3 +61,19 @@ returns-clause-own g c = search rules
 
 pub returns-clause-words : goal.returns-clause-words
 returns-clause-words g c = search rules
+
+pub first_index-requires-clause-addr : goal.first_index-requires-clause-addr
+first_index-requires-clause-addr g c =
+    (all_four (λ addr. addr < 2 ^ (g.row.FIRST + g.row.SECOND)) c.args.a c.args.b c.args.c c.args.d c.requires.addrs).0
+
+pub first_index-requires-2-clause-addr : goal.first_index-requires-2-clause-addr
+first_index-requires-2-clause-addr g c =
+    (all_four (λ addr. addr < 2 ^ (g.row.FIRST + g.row.SECOND)) c.args.a c.args.b c.args.c c.args.d c.requires.addrs).1
+
+pub first_index-requires-3-clause-addr : goal.first_index-requires-3-clause-addr
+first_index-requires-3-clause-addr g c =
+    (all_four (λ addr. addr < 2 ^ (g.row.FIRST + g.row.SECOND)) c.args.a c.args.b c.args.c c.args.d c.requires.addrs).2
+
+pub first_index-requires-4-clause-addr : goal.first_index-requires-4-clause-addr
+first_index-requires-4-clause-addr g c =
+    (all_four (λ addr. addr < 2 ^ (g.row.FIRST + g.row.SECOND)) c.args.a c.args.b c.args.c c.args.d c.requires.addrs).3

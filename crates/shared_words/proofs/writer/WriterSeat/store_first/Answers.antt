@@ -1,4 +1,4 @@
-use Rattle.std.proofs.Common.{◌≡◌, ◌<◌, ℕ, length, ap, arith}
+use Rattle.std.proofs.Common.{◌≡◌, ◌<◌, ℕ, length, ap, arith, rules}
 use Rattle.lpm_trace.specs.declared.step.WriterStep.TheVariants.{StoreFirst}
 use Rattle.lpm_trace.specs.Writer.{MayStep}
 use Rattle.shared_words.specs.declared.view.View.{View}
@@ -31,3 +31,33 @@ store_first_as-requires-clause-own g c =
     let own = c.requires.own in
     let low = inside o c.args.self.now.place.me.0 c.args.i c.args.word own.opening_is c.requires.may in
     (grind (arith, own), omega (arith, c.first_at-at.ensures, own.words, low))
+
+pub store_first_as-requires-clause-place : goal.store_first_as-requires-clause-place
+store_first_as-requires-clause-place g c = search rules
+
+pub store_first_as-requires-clause-alone : goal.store_first_as-requires-clause-alone
+store_first_as-requires-clause-alone g c = search rules
+
+pub store_first_as-requires-clause-role : goal.store_first_as-requires-clause-role
+store_first_as-requires-clause-role g c = search rules
+
+pub store_first_as-requires-clause-picked : goal.store_first_as-requires-clause-picked
+store_first_as-requires-clause-picked g c = search rules
+
+pub store_first_as-requires-clause-may : goal.store_first_as-requires-clause-may
+store_first_as-requires-clause-may g c = search rules
+
+pub store_first_as-requires-clause-stored : goal.store_first_as-requires-clause-stored
+store_first_as-requires-clause-stored g c = search rules
+
+pub store_first_as-requires-clause-kept : goal.store_first_as-requires-clause-kept
+store_first_as-requires-clause-kept g c = search rules
+
+pub invariant_of-self : goal.invariant_of-self
+invariant_of-self g c = search rules
+
+pub returns-clause-own : goal.returns-clause-own
+returns-clause-own g c = search rules
+
+pub returns-clause-step : goal.returns-clause-step
+returns-clause-step g c = search rules

@@ -1,4 +1,5 @@
-use Rattle.std.proofs.Common.{◌≡◌, ◌<◌, ℕ, length, ap, arith}
+use Rattle.std.proofs.Common.{◌≡◌, ◌<◌, ℕ, length, ap, arith, rules}
+use Rattle.std.proofs.lemmas.Grind.{common_steps}
 use Rattle.lpm_trace.specs.declared.step.WriterStep.TheVariants.{StoreSecond}
 use Rattle.lpm_trace.specs.Writer.{MayStep}
 use Rattle.shared_words.specs.declared.view.View.{View}
@@ -38,3 +39,33 @@ store_second_as-requires-clause-own g c =
     let own = c.requires.own in
     let low = inside o c.args.self.now.place.me.0 c.args.j c.args.word own.opening_is c.requires.may in
     (grind (arith, own), omega (arith, c.second_at-at.ensures, own.firsts, own.words, low))
+
+pub store_second_as-requires-clause-place : goal.store_second_as-requires-clause-place
+store_second_as-requires-clause-place g c = search rules
+
+pub store_second_as-requires-clause-alone : goal.store_second_as-requires-clause-alone
+store_second_as-requires-clause-alone g c = search rules
+
+pub store_second_as-requires-clause-role : goal.store_second_as-requires-clause-role
+store_second_as-requires-clause-role g c = search rules
+
+pub store_second_as-requires-clause-picked : goal.store_second_as-requires-clause-picked
+store_second_as-requires-clause-picked g c = search rules
+
+pub store_second_as-requires-clause-may : goal.store_second_as-requires-clause-may
+store_second_as-requires-clause-may g c = search rules
+
+pub store_second_as-requires-clause-stored : goal.store_second_as-requires-clause-stored
+store_second_as-requires-clause-stored g c = search rules
+
+pub store_second_as-requires-clause-kept : goal.store_second_as-requires-clause-kept
+store_second_as-requires-clause-kept g c = grind (arith, common_steps)
+
+pub invariant_of-self : goal.invariant_of-self
+invariant_of-self g c = search rules
+
+pub returns-clause-own : goal.returns-clause-own
+returns-clause-own g c = search rules
+
+pub returns-clause-step : goal.returns-clause-step
+returns-clause-step g c = search rules
