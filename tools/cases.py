@@ -5,8 +5,11 @@ what stands on standard input (nothing). With `full=True` standard output is /de
 `refusing=False` the case runs only as it is: another row takes memory in the same way. A text in `Has` need only
 occur. Wanted texts come from docs/FORMATS.md and from worked cases, never from a run.
 """
+import pathlib
 from collections import namedtuple
 from itertools import permutations
+
+HELP = pathlib.Path(__file__).resolve().parent / "help"
 
 
 class Has(str):
@@ -19,6 +22,16 @@ Case = namedtuple("Case", "name words files status out err stdin full refusing")
 def case(name, words, files=None, status=0, out="", err="", stdin="", full=False, refusing=True):
     words = words if isinstance(words, list) else words.split()
     return Case(name, words, files or {}, status, out, err, stdin, full, refusing)
+
+
+def helped(name, words, file, **more):
+    """A run that prints the help text of this file, whole."""
+    return case(name, words, out=(HELP / file).read_text(), **more)
+
+
+def refused(name, words, why):
+    """Words that the parser refuses, for this cause."""
+    return case(f"refused-words-{name}", words, status=2, err=Has(f"error: {why}"), refusing=False)
 
 
 def fault(name, text, where, **more):
@@ -127,6 +140,8 @@ DEFAULT_UPDATES = "add 1.2.3.4/0 1\nadd 0.0.0.0/0 1\nadd 10.0.0.0/8 2\ndel 10.0.
 FULL_BLOCK = "".join(f"10.0.0.{octet}/32 9\n" for octet in range(256))
 EACH_WORD = "\tdel 1.2.3.4/32\r\nreclaim 65536\n\nonline 4294967295\noffline 0\nquiescent 7"
 EACH_WORD_NEW = "lpm-updates 2\ndel 1.2.3.4/32\nreclaim 65536\nonline 4294967295\noffline 0\nquiescent 7\n"
+LACKING = "the following required arguments were not provided:\n"
+TWICE_GIVEN = "cannot be used multiple times"
 TWO_INPUTS = "lpmtool: only one file can be `-`, standard input\n"
 NO_ADDRESSES = """error: the following required arguments were not provided:
   <ADDRESSES>
@@ -172,12 +187,13 @@ CASES = [
              refusing=False),
     *(case(f"five-addresses-{count}", f"lookup --workers {count} r a", {"r": RT, "a": FIVE}, out=FIVE_ANSWERS,
            refusing=False) for count in (1, 2, 8, 1024)),
-    case("help", "--help", out=Has("\nUsage: lpmtool <COMMAND>\n")),
-    case("lookup-help", "lookup --help", out=Has("\nUsage: lpmtool lookup [OPTIONS] <ROUTES> <ADDRESSES>\n")),
+    helped("help", "--help", "program.txt"),
+    helped("short-help", "-h", "program-short.txt", refusing=False),
+    helped("lookup-help", "lookup --help", "lookup.txt"),
+    helped("apply-help", "apply --help", "apply.txt", refusing=False),
+    helped("report-help", "report --help", "report.txt", refusing=False),
+    helped("migrate-help", "migrate --help", "migrate.txt", refusing=False),
     case("lookup-short-help", "lookup -h", out=Has("Usage: lpmtool lookup"), refusing=False),
-    case("apply-help", "apply --help", out=Has("Usage: lpmtool apply"), refusing=False),
-    case("report-help", "report --help", out=Has("Usage: lpmtool report"), refusing=False),
-    case("migrate-help", "migrate --help", out=Has("Usage: lpmtool migrate"), refusing=False),
     case("version", "--version", out="lpmtool 2.0.0\n"),
     # Updates. A refused update stops nothing, and the status is 0.
     applied("delete-then-reclaim", "", "del 10.1.1.128/25\n", "deleted 3\n10.1.1.128 2\n", RT, "10.1.1.128"),
@@ -221,6 +237,32 @@ CASES = [
     case("not-utf-8", ["lookup", b"\xff", "a"], status=2, err="lpmtool: a word of the command line isn't UTF-8\n"),
     case("two-standard-inputs", "lookup - -", status=2, err=TWO_INPUTS, stdin=RT),
     case("two-standard-inputs-apply", "apply r - -", {"r": RT}, 2, err=TWO_INPUTS, refusing=False),
+    *(case(f"two-standard-inputs-{number}", words, status=2, err=TWO_INPUTS, refusing=False)
+      for number, words in enumerate(("apply - - a", "apply - u -", "apply - - -", "report -- - -"))),
+    refused("option-first", "--rules 7 lookup r a", "unexpected argument '--rules' found"),
+    refused("deep", "lookup r a --deep", "unexpected argument '--deep' found"),
+    refused("apply-two-files", "apply r u", f"{LACKING}  <ADDRESSES>"),
+    refused("apply-four-files", "apply r u a b", "unexpected argument 'b' found"),
+    refused("report-one-file", "report r", f"{LACKING}  <UPDATES>"),
+    refused("report-three-files", "report r u a", "unexpected argument 'a' found"),
+    refused("migrate-no-file", "migrate", f"{LACKING}  <OLD>"),
+    refused("migrate-two-files", "migrate o p", "unexpected argument 'p' found"),
+    refused("migrate-rules", "migrate o --rules 7", "unexpected argument '--rules' found"),
+    refused("version-of-a-command", "lookup r a --version", "unexpected argument '--version' found"),
+    refused("rules-twice", "lookup r a --rules=7 --rules=7", f"the argument '--rules <N>' {TWICE_GIVEN}"),
+    refused("workers-twice", "apply r u a --workers=1 --workers=1", f"the argument '--workers <N>' {TWICE_GIVEN}"),
+    refused("max-twice", "report r u --max=1 --max=2", f"the argument '--max <N>' {TWICE_GIVEN}"),
+    refused("rules-16777217", "lookup r a --rules 16777217", "invalid value '16777217' for '--rules <N>'"),
+    refused("rules-x", "lookup r a --rules x", "invalid value 'x' for '--rules <N>'"),
+    refused("groups-0", "apply r u a --groups 0", "invalid value '0' for '--groups <N>'"),
+    refused("groups-65537", "apply r u a --groups 65537", "invalid value '65537' for '--groups <N>'"),
+    refused("workers-1025", "report r u --workers 1025", "invalid value '1025' for '--workers <N>'"),
+    refused("workers-2048", "report r u --workers 2048", "invalid value '2048' for '--workers <N>'"),
+    refused("workers-empty", ["report", "r", "u", "--workers", ""], "invalid value '' for '--workers <N>'"),
+    refused("threshold-65537", "lookup r a --threshold 65537", "invalid value '65537' for '--threshold <N>'"),
+    refused("threshold-1.5", "lookup r a --threshold 1.5", "invalid value '1.5' for '--threshold <N>'"),
+    refused("max-0", "apply r u a --max 0", "invalid value '0' for '--max <N>'"),
+    refused("max-65537", "report r u --max 65537", "invalid value '65537' for '--max <N>'"),
     # A file can't be read, or the output can't be written.
     case("no-route-file", "lookup r a", {"a": "1.2.3.4"}, 3, err="lpmtool: cannot read r\n"),
     case("no-address-file", "lookup r a", {"r": RT}, 3, err="lpmtool: cannot read a\n"),
@@ -237,6 +279,10 @@ CASES = [
     fault("bad-route-lines-zero", "10.01.0.0/16 1", "1: bad address", refusing=False),
     fault("default-route-faults-00", "0.0.0.0/00 1", "1: bad length", refusing=False),
     fault("default-route-faults-33", "0.0.0.0/33 1", "1: bad length", refusing=False),
+    fault("no-length", "10.0.0.0 1", "1: bad length", refusing=False),
+    fault("three-octets", "10.0.0/8 70000000", "1: bad address", refusing=False),
+    fault("two-lengths", "10.0.0.0/8/9 1", "1: bad length", refusing=False),
+    fault("comment-behind-a-route", "10.0.0.0/8 1 #", "1: bad fields", refusing=False),
     fault("cut-line", "10.0.0.0/8 1\n10.1.0.0/16", "2: bad fields"),
     fault("skipped-lines-count", "# c\n\n10.0.0.0/8 x\n", "3: bad hop", refusing=False),
     case("bad-standard-input", "lookup - a", {"a": ""}, 4, err="lpmtool: -:2: bad fields\n", stdin="\n10.0.0.0/8\n"),
@@ -256,10 +302,17 @@ CASES = [
     line_fault("wrong-address", "add 10.0.0/8 70000000", "address"),
     line_fault("wrong-count", "reclaim 65537", "count"),
     line_fault("wrong-worker", "online 4294967296", "worker"),
+    line_fault("wrong-worker-quiescent", "quiescent 4294967296", "worker"),
+    line_fault("wrong-fields-offline", "offline", "fields"),
+    line_fault("wrong-address-zero", "del 10.01.0.0/16", "address"),
+    line_fault("wrong-hop", "add 10.0.0.0/8 16777216", "hop"),
     update_fault("bad-headers-empty", "", "1: bad header"),
     update_fault("bad-headers-blank-before", " lpm-updates 2", "1: bad header", refusing=False),
     update_fault("bad-headers-blank-after", "lpm-updates 2 ", "1: bad header", refusing=False),
     update_fault("bad-headers-comment", "# x\nlpm-updates 2", "1: bad header", refusing=False),
+    update_fault("bad-headers-version-1", "lpm-updates 1\n", "1: bad header", refusing=False),
+    update_fault("bad-headers-return", "lpm-updates 2\r", "1: bad header", refusing=False),
+    update_fault("bad-headers-second-line", "\nlpm-updates 2\n", "1: bad header", refusing=False),
     update_fault("word-after-header", "lpm-updates 2\r\nput\n", "2: bad word"),
     case("apply-bad-updates", "apply r u a", {"r": RT, "u": "flush\n", "a": "x"}, 4, err="lpmtool: u:1: bad header\n"),
     case("routes-before-updates", "apply r u a", {"r": "x", "u": UPDATES + "put\n", "a": "y"}, 4,

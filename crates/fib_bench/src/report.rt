@@ -261,7 +261,7 @@ pub(crate) fn ratio(first: u64, second: u64) -> u64 {
 }
 
 /// The time's milliseconds, in hundredths.
-fn hundredths_of_millis(time: Duration) -> u64 {
+pub(crate) fn hundredths_of_millis(time: Duration) -> u64 {
     nanos(time) / 10_000
 }
 

@@ -8,7 +8,9 @@ use crate::changes::add_all;
 use crate::crowd::print_at_once;
 use crate::lookups::{Addresses, timed};
 use crate::passes::{Changer, Lookups, Reader};
-use crate::report::{Hundredths, SAMPLE, each_second, hundredths_of_nanos, nanos, ratio};
+use crate::report::{
+    Hundredths, SAMPLE, each_second, hundredths_of_millis, hundredths_of_nanos, nanos, ratio,
+};
 use crate::routes::Route;
 use anyhow::{Result, ensure};
 use fib::Fib;
@@ -42,8 +44,8 @@ pub(crate) fn add_offline<R: Clock>(rt: &R, table: &mut Fib<24, 8>, routes: &[Ro
     Ok(())
 }
 
-/// Goes on with the table, of which no worker is online, as a running one, and prints what its lookups and
-/// changes take, its lookups beside those of the other, which has the same routes.
+/// Goes on with the table, of which no worker is online, as a running one, and prints what that, its lookups
+/// and its changes take, its lookups beside those of the other, which has the same routes.
 pub(crate) fn print_running<R: Clock + Print + AllocGlobal + Threads + Sync>(
     rt: &R,
     table: Fib<24, 8>,
@@ -53,14 +55,17 @@ pub(crate) fn print_running<R: Clock + Print + AllocGlobal + Threads + Sync>(
     requires offline { (worker : ℕ) → worker < table.config.workers
         → ¬ by_counters.is_online table.table.readers worker }
 {
+    let start = Instant::now(rt)?;
     let (table, writer, mut bench) = go_live(rt.alloc(), table)?;
     let mut changer = Changer::new(&table, writer);
-    print_live(rt, &table, &mut changer, &mut bench, other, drawn)
+    print_live(rt, start, &table, &mut changer, &mut bench, other, drawn)
 }
 
-/// Prints what the lookups of a running table take, by a pass for each worker, and the changes.
+/// Prints how long it took from the start until the table runs, and what its lookups, by a pass for each
+/// worker, and its changes take.
 fn print_live<R: Clock + Print + AllocGlobal + Threads + Sync>(
     rt: &R,
+    start: Instant,
     table: &SharedTable<24, 8>,
     changer: &mut Changer<'_>,
     bench: &mut Bench,
@@ -69,6 +74,8 @@ fn print_live<R: Clock + Print + AllocGlobal + Threads + Sync>(
 ) -> Result<()>
     requires own { IsBenchOf table.now bench.old }
 {
+    let going_live = Hundredths(hundredths_of_millis(start.elapsed(rt)?));
+    println!(rt; "going live: {going_live} ms")?;
     let mut readers = readers_of(rt.alloc(), table, bench)?;
     print_readers(rt, readers.as_mut_slice(), changer, other, drawn)
 }

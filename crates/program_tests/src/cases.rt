@@ -1,5 +1,6 @@
 //! A run of a command line, and how it ends.
 
+use super::asserting::assert_at;
 use super::fakes::{AtBad, BreakingFiles, Short, writer};
 use lpm_program::run::run;
 use std::fmt::Debug;
@@ -25,16 +26,6 @@ pub(crate) fn run_line<R: AllocGlobal + Threads + Sync>(
 /// What was written, which is text.
 pub(crate) fn text<'a>(rt: &impl Abort, writer: &'a Short) -> &'a str {
     str::from_utf8(&writer.got).expect(rt, "a text")
-}
-
-/// What was found is what is wanted; else the message names the row.
-pub(crate) fn assert_at<N: Debug + Copy, T: PartialEq + Debug + Copy>(
-    rt: &impl Abort,
-    row: N,
-    found: T,
-    wanted: T,
-) {
-    assert_eq!(rt; found, wanted, "{row:?}");
 }
 
 /// A run of this line with these files ends so.

@@ -1,6 +1,7 @@
 //! Reads and writes that fail.
 
-use super::cases::{Ending, assert_at, assert_ends, run_line, text};
+use super::asserting::assert_at;
+use super::cases::{Ending, assert_ends, run_line, text};
 use super::fakes::{AtBad, BreakingFiles, Named, whole, writer};
 use std::io::ErrorKind;
 use std::process::Abort;

@@ -4,7 +4,7 @@ use super::asserting::{assert_at, assert_shown};
 use lpm_bits::{BadHop, Hop, Prefix};
 use route_text::{
     Fault, FaultKind, Order, Outcome, ReadError, Route, answers_text, outcomes_text,
-    read_addresses, read_routes, read_updates, read_updates_v1, updates_text,
+    read_addresses, read_routes, read_updates, updates_text,
 };
 use std::alloc::Global;
 use std::process::Abort;
@@ -60,95 +60,6 @@ fn assert_route(rt: &impl Abort, alloc: Global, row: &OneRoute) -> Result<(), Fa
 fn routes_of_the_cases(rt: HostRuntime) -> Result<(), Fail> {
     for row in &ONE_ROUTE {
         assert_route(&rt, rt.alloc(), row)?;
-    }
-    Ok(())
-}
-
-/// The fault of a file that is read, if it has one.
-fn fault_of<T: Drop>(read: Result<Vec<T>, ReadError>) -> Result<Option<Fault>, ReadError> {
-    match read {
-        Ok(_) => Ok(None),
-        Err(ReadError::Fault(fault)) => Ok(Some(fault)),
-        Err(ReadError::Memory) => Err(ReadError::Memory),
-    }
-}
-
-/// Route files, each with the line of its fault, and its kind.
-const ROUTE_FAULTS: [(&str, usize, FaultKind); 11] = [
-    ("10.0.0.0/8 16777216", 1, FaultKind::Hop),
-    ("10.0.0.0/33 1", 1, FaultKind::Length),
-    ("10.0.256.0/24 1", 1, FaultKind::Address),
-    ("10.01.0.0/16 1", 1, FaultKind::Address),
-    ("0.0.0.0/00 1", 1, FaultKind::Length),
-    ("0.0.0.0/33 1", 1, FaultKind::Length),
-    ("10.0.0.0/8 1\n10.1.0.0/16", 2, FaultKind::Fields),
-    ("10.0.0.0 1", 1, FaultKind::Length),
-    ("10.0.0/8 70000000", 1, FaultKind::Address),
-    ("10.0.0.0/8/9 1", 1, FaultKind::Length),
-    ("10.0.0.0/8 1 #", 1, FaultKind::Fields),
-];
-
-#[test]
-fn faults_of_the_cases(rt: HostRuntime) -> Result<(), Fail> {
-    for (file, line, kind) in ROUTE_FAULTS {
-        let fault = fault_of(read_routes(rt.alloc(), file.as_bytes()))?;
-        assert_at(&rt, file, fault, Some(Fault { line, kind }));
-    }
-    Ok(())
-}
-
-/// The fault of a file whose last byte this is, unless the byte is a blank, ends a line or begins a comment.
-fn unless_blank(byte: u8, line: usize, kind: FaultKind) -> Option<Fault> {
-    match byte {
-        b' ' | b'\t' | b'\n' | b'#' => None,
-        _ => Some(Fault { line, kind }),
-    }
-}
-
-#[test]
-fn one_byte_files(rt: HostRuntime) -> Result<(), Fail> {
-    for byte in 0..=255u8 {
-        let routes = fault_of(read_routes(rt.alloc(), &[byte]))?;
-        assert_at(&rt, byte, routes, unless_blank(byte, 1, FaultKind::Fields));
-        let addrs = fault_of(read_addresses(rt.alloc(), &[byte]))?;
-        assert_at(&rt, byte, addrs, unless_blank(byte, 1, FaultKind::Address));
-    }
-    Ok(())
-}
-
-const CUT_FILE: &[u8; 43] = b"10.0.0.0/8 1\n10.1.0.0/16 2\n10.1.1.128/25 3\n";
-
-/// What is read of the file's first bytes: so many routes, or a fault in the line that is cut.
-fn cut_at(bytes: usize) -> Result<usize, Fault> {
-    let line = match bytes {
-        0 => return Ok(0),
-        12 | 13 => return Ok(1),
-        26 | 27 => return Ok(2),
-        42 | 43 => return Ok(3),
-        1..12 => 1,
-        14..26 => 2,
-        _ => 3,
-    };
-    Err(Fault {
-        line,
-        kind: FaultKind::Fields,
-    })
-}
-
-/// How many routes are read, or the file's fault.
-fn count_routes(read: Result<Vec<Route>, ReadError>) -> Result<Result<usize, Fault>, ReadError> {
-    match read {
-        Ok(routes) => Ok(Ok(routes.len())),
-        Err(ReadError::Fault(fault)) => Ok(Err(fault)),
-        Err(ReadError::Memory) => Err(ReadError::Memory),
-    }
-}
-
-#[test]
-fn cut_route_file(rt: HostRuntime) -> Result<(), Fail> {
-    for bytes in 0..=CUT_FILE.len() {
-        let read = count_routes(read_routes(rt.alloc(), &CUT_FILE[..bytes]))?;
-        assert_at(&rt, bytes, read, cut_at(bytes));
     }
     Ok(())
 }
@@ -321,104 +232,10 @@ fn updates_are_written(rt: HostRuntime) -> Result<(), Fail> {
     Ok(())
 }
 
-/// A file of version 1, written again as version 2.
-fn migrated(alloc: Global, old: &str) -> Result<Vec<u8>, ReadError> {
-    let orders = read_updates_v1(alloc, old.as_bytes())?;
-    Ok(updates_text(alloc, &orders)?)
-}
-
-/// Files of version 1, and what they are as version 2.
-const MIGRATED: [(&str, &str); 2] = [
-    (
-        "# nightly\nadd   10.1.2.3/8   5\nflush\n",
-        "lpm-updates 2\nadd 10.0.0.0/8 5\nflush\n",
-    ),
-    ("", "lpm-updates 2\n"),
-];
-
-#[test]
-fn migrate_example_and_edges(rt: HostRuntime) -> Result<(), Fail> {
-    for (old, new) in MIGRATED {
-        let text = migrated(rt.alloc(), old)?;
-        assert_at(&rt, old, text.as_slice(), new.as_bytes());
-    }
-    let begun = fault_of(read_updates_v1(rt.alloc(), EACH_KIND.as_bytes()))?;
-    let word = Fault {
-        line: 1,
-        kind: FaultKind::Word,
-    };
-    assert_at(&rt, "version 2", begun, Some(word));
-    Ok(())
-}
-
-/// Update files with a fault in line 2, and its kind.
-const UPDATE_FAULTS: [(&str, FaultKind); 12] = [
-    ("lpm-updates 2\nadd 10.0.0.0/8", FaultKind::Fields),
-    ("lpm-updates 2\nflush now", FaultKind::Fields),
-    ("lpm-updates 2\noffline", FaultKind::Fields),
-    ("lpm-updates 2\nput 10.0.0.0/8 1", FaultKind::Word),
-    ("lpm-updates 2\r\nput\n", FaultKind::Word),
-    ("lpm-updates 2\nadd 10.0.0.0 1", FaultKind::Length),
-    ("lpm-updates 2\ndel 10.0.0.0/8/9", FaultKind::Length),
-    ("lpm-updates 2\nadd 10.0.0/8 70000000", FaultKind::Address),
-    ("lpm-updates 2\ndel 10.01.0.0/16", FaultKind::Address),
-    ("lpm-updates 2\nadd 10.0.0.0/8 16777216", FaultKind::Hop),
-    ("lpm-updates 2\nreclaim 65537", FaultKind::Count),
-    ("lpm-updates 2\nquiescent 4294967296", FaultKind::Worker),
-];
-
-#[test]
-fn faults_of_update_lines(rt: HostRuntime) -> Result<(), Fail> {
-    for (file, kind) in UPDATE_FAULTS {
-        let fault = fault_of(read_updates(rt.alloc(), file.as_bytes()))?;
-        assert_at(&rt, file, fault, Some(Fault { line: 2, kind }));
-    }
-    Ok(())
-}
-
-/// Files with no header of version 2.
-const BAD_HEADERS: [&str; 7] = [
-    "",
-    " lpm-updates 2",
-    "lpm-updates 2 ",
-    "# x\nlpm-updates 2",
-    "lpm-updates 1\n",
-    "lpm-updates 2\r",
-    "\nlpm-updates 2\n",
-];
-
-#[test]
-fn bad_headers(rt: HostRuntime) -> Result<(), Fail> {
-    let header = Fault {
-        line: 1,
-        kind: FaultKind::Header,
-    };
-    for file in BAD_HEADERS {
-        let fault = fault_of(read_updates(rt.alloc(), file.as_bytes()))?;
-        assert_at(&rt, file, fault, Some(header));
-    }
-    Ok(())
-}
-
-/// The fault of an update file with this byte alone after its header.
-fn fault_after_the_header(alloc: Global, byte: u8) -> Result<Option<Fault>, ReadError> {
-    let mut file = Vec::from_slice(alloc, b"lpm-updates 2\n")?;
-    file.push(byte)?;
-    fault_of(read_updates(alloc, &file))
-}
-
-#[test]
-fn one_byte_after_the_header(rt: HostRuntime) -> Result<(), Fail> {
-    for byte in 0..=255u8 {
-        let fault = fault_after_the_header(rt.alloc(), byte)?;
-        assert_at(&rt, byte, fault, unless_blank(byte, 2, FaultKind::Word));
-    }
-    Ok(())
-}
-
 const LINES_OF_OUTCOMES: &str = "added\nreplaced\nunchanged\ndeleted 7\nflushed 3\nreclaimed 1\n\
         reclaimed 0 stopped worker 0 counter 1\nok\nrefused 4 NoSuchRule\nrefused 7 NoGroups\n\
-        refused 7 NoGroups worker 2 counter 17\n";
+        refused 7 NoGroups worker 2 counter 17\nrefused 10 NoSuchWorker\nrefused 13 NotOnline\n\
+        refused 14 AlreadyOnline\n";
 
 #[test]
 fn outcomes_are_written(rt: HostRuntime) -> Result<(), Fail> {
@@ -449,18 +266,6 @@ fn outcomes_are_written(rt: HostRuntime) -> Result<(), Fail> {
             number: 7,
             busy: Some((2, 17)),
         },
-    ];
-    let text = outcomes_text(rt.alloc(), &outcomes)?;
-    assert_at(&rt, "text", text.as_slice(), LINES_OF_OUTCOMES.as_bytes());
-    Ok(())
-}
-
-const REFUSED_WORKERS: &str =
-    "refused 10 NoSuchWorker\nrefused 13 NotOnline\nrefused 14 AlreadyOnline\n";
-
-#[test]
-fn refused_workers_are_written(rt: HostRuntime) -> Result<(), Fail> {
-    let outcomes = [
         Outcome::Refused {
             number: 10,
             busy: None,
@@ -475,6 +280,6 @@ fn refused_workers_are_written(rt: HostRuntime) -> Result<(), Fail> {
         },
     ];
     let text = outcomes_text(rt.alloc(), &outcomes)?;
-    assert_at(&rt, "text", text.as_slice(), REFUSED_WORKERS.as_bytes());
+    assert_at(&rt, "text", text.as_slice(), LINES_OF_OUTCOMES.as_bytes());
     Ok(())
 }

@@ -1,0 +1,255 @@
+//! The tests of `lpm_options`: what words of the command line ask for.
+
+use super::asserting::assert_at;
+use lpm_limits::Config;
+use lpm_options::{CommandLine, options};
+use std::alloc::Global;
+use std::process::Abort;
+use std::test::Fail;
+
+// The rules, the groups, the workers, the threshold and the greatest reclaim.
+type Numbers = [usize; 5];
+
+const DEFAULTS: Numbers = [1_048_576, 256, 1, 32, 16];
+
+fn numbers_of(config: Config) -> Numbers {
+    [
+        config.rules,
+        config.groups,
+        config.workers,
+        config.threshold,
+        config.reclaim_max,
+    ]
+}
+
+// The command's name, its files and its numbers; no file and no number is empty and 0.
+type Line<'a> = (&'static str, [&'a str; 3], Numbers);
+
+fn parts<'a>(line: CommandLine<'a>) -> Line<'a> {
+    match line {
+        CommandLine::Lookup {
+            routes,
+            addresses,
+            config,
+        } => ("lookup", [routes, addresses, ""], numbers_of(config)),
+        CommandLine::Apply {
+            routes,
+            updates,
+            addresses,
+            config,
+        } => ("apply", [routes, updates, addresses], numbers_of(config)),
+        CommandLine::Report {
+            routes,
+            updates,
+            config,
+        } => ("report", [routes, updates, ""], numbers_of(config)),
+        CommandLine::Migrate { old } => ("migrate", [old, "", ""], [0; 5]),
+    }
+}
+
+// The words after the program's name, and the numbers that they ask for.
+type Asked = (&'static [&'static str], Numbers);
+
+// The words ask for this line.
+fn assert_asks(
+    rt: &impl Abort,
+    alloc: Global,
+    words: &[&str],
+    wanted: Line<'_>,
+) -> Result<(), Fail> {
+    let line = options(alloc, words).map_err(|_| "refused")?;
+    assert_at(rt, words, parts(line), wanted);
+    Ok(())
+}
+
+// Each row asks for this command with these files.
+fn all_ask(
+    rt: &impl Abort,
+    alloc: Global,
+    name: &'static str,
+    files: [&str; 3],
+    rows: &[Asked],
+) -> Result<(), Fail> {
+    for (words, numbers) in rows {
+        assert_asks(rt, alloc, words, (name, files, *numbers))?;
+    }
+    Ok(())
+}
+
+const LOOKUPS: [Asked; 14] = [
+    (&["lpmtool", "lookup", "r", "a"], DEFAULTS),
+    (
+        &["lpmtool", "lookup", "--rules", "1", "r", "a"],
+        [1, 256, 1, 32, 16],
+    ),
+    (
+        &["lpmtool", "lookup", "r", "--rules=16777216", "a"],
+        [16_777_216, 256, 1, 32, 16],
+    ),
+    (
+        &["other", "lookup", "r", "a", "--rules", "7"],
+        [7, 256, 1, 32, 16],
+    ),
+    (
+        &["lpmtool", "lookup", "--rules", "7", "--", "r", "a"],
+        [7, 256, 1, 32, 16],
+    ),
+    (
+        &["lpmtool", "lookup", "--rules", "+7", "r", "a"],
+        [7, 256, 1, 32, 16],
+    ),
+    (
+        &["lpmtool", "lookup", "--groups", "1", "r", "a"],
+        [1_048_576, 1, 1, 32, 16],
+    ),
+    (
+        &["lpmtool", "lookup", "--groups", "65536", "r", "a"],
+        [1_048_576, 65_536, 1, 32, 16],
+    ),
+    (
+        &["lpmtool", "lookup", "--workers", "0", "r", "a"],
+        [1_048_576, 256, 0, 32, 16],
+    ),
+    (
+        &["lpmtool", "lookup", "r", "a", "--workers=1024"],
+        [1_048_576, 256, 1_024, 32, 16],
+    ),
+    (
+        &["lpmtool", "lookup", "--threshold", "0", "r", "a"],
+        [1_048_576, 256, 1, 0, 16],
+    ),
+    (
+        &["lpmtool", "lookup", "r", "a", "--threshold=65536"],
+        [1_048_576, 256, 1, 65_536, 16],
+    ),
+    (
+        &["lpmtool", "lookup", "r", "--max", "1", "a"],
+        [1_048_576, 256, 1, 32, 1],
+    ),
+    (
+        &[
+            "lpmtool",
+            "lookup",
+            "--max=65536",
+            "--threshold=2",
+            "--workers=5",
+            "--groups=3",
+            "--rules=4",
+            "r",
+            "a",
+        ],
+        [4, 3, 5, 2, 65_536],
+    ),
+];
+
+#[test]
+fn lookup_with_its_defaults_and_each_option(rt: HostRuntime) -> Result<(), Fail> {
+    all_ask(&rt, rt.alloc(), "lookup", ["r", "a", ""], &LOOKUPS)
+}
+
+const APPLIES: [Asked; 7] = [
+    (&["lpmtool", "apply", "r", "u", "a"], DEFAULTS),
+    (
+        &["lpmtool", "apply", "--rules", "2", "r", "u", "a"],
+        [2, 256, 1, 32, 16],
+    ),
+    (
+        &["lpmtool", "apply", "r", "--groups", "2", "u", "a"],
+        [1_048_576, 2, 1, 32, 16],
+    ),
+    (
+        &["lpmtool", "apply", "r", "u", "--workers", "2", "a"],
+        [1_048_576, 256, 2, 32, 16],
+    ),
+    (
+        &["lpmtool", "apply", "r", "u", "a", "--threshold", "2"],
+        [1_048_576, 256, 1, 2, 16],
+    ),
+    (
+        &["lpmtool", "apply", "--max", "2", "r", "u", "a"],
+        [1_048_576, 256, 1, 32, 2],
+    ),
+    (
+        &[
+            "lpmtool",
+            "apply",
+            "r",
+            "--max=6",
+            "--threshold=2",
+            "--workers=5",
+            "u",
+            "--groups=3",
+            "--rules=4",
+            "a",
+        ],
+        [4, 3, 5, 2, 6],
+    ),
+];
+
+#[test]
+fn apply_with_its_defaults_and_each_option(rt: HostRuntime) -> Result<(), Fail> {
+    all_ask(&rt, rt.alloc(), "apply", ["r", "u", "a"], &APPLIES)
+}
+
+const REPORTS: [Asked; 7] = [
+    (&["lpmtool", "report", "r", "u"], DEFAULTS),
+    (
+        &["lpmtool", "report", "--rules", "2", "r", "u"],
+        [2, 256, 1, 32, 16],
+    ),
+    (
+        &["lpmtool", "report", "r", "--groups", "2", "u"],
+        [1_048_576, 2, 1, 32, 16],
+    ),
+    (
+        &["lpmtool", "report", "r", "u", "--workers", "2"],
+        [1_048_576, 256, 2, 32, 16],
+    ),
+    (
+        &["lpmtool", "report", "r", "u", "--threshold", "2"],
+        [1_048_576, 256, 1, 2, 16],
+    ),
+    (
+        &["lpmtool", "report", "--max", "2", "r", "u"],
+        [1_048_576, 256, 1, 32, 2],
+    ),
+    (
+        &[
+            "lpmtool",
+            "report",
+            "r",
+            "--max=6",
+            "--threshold=2",
+            "--workers=5",
+            "u",
+            "--groups=3",
+            "--rules=4",
+        ],
+        [4, 3, 5, 2, 6],
+    ),
+];
+
+#[test]
+fn report_with_its_defaults_and_each_option(rt: HostRuntime) -> Result<(), Fail> {
+    all_ask(&rt, rt.alloc(), "report", ["r", "u", ""], &REPORTS)
+}
+
+const MIGRATES: [Asked; 2] = [
+    (&["lpmtool", "migrate", "o"], [0; 5]),
+    (&["lpmtool", "migrate", "--", "o"], [0; 5]),
+];
+
+#[test]
+fn migrate_has_one_file(rt: HostRuntime) -> Result<(), Fail> {
+    all_ask(&rt, rt.alloc(), "migrate", ["o", "", ""], &MIGRATES)
+}
+
+const LOOKUP_OF_INPUT: [Asked; 1] = [(&["lpmtool", "lookup", "-", "a"], DEFAULTS)];
+
+const APPLY_OF_INPUT: [Asked; 1] = [(&["lpmtool", "apply", "r", "-", "a"], DEFAULTS)];
+
+#[test]
+fn one_file_is_standard_input(rt: HostRuntime) -> Result<(), Fail> {
+    all_ask(&rt, rt.alloc(), "lookup", ["-", "a", ""], &LOOKUP_OF_INPUT)?;
+    all_ask(&rt, rt.alloc(), "apply", ["r", "-", "a"], &APPLY_OF_INPUT)
+}
