@@ -1,4 +1,4 @@
-ghost use Rattle.std.specs.Prelude.{◌≡◌, ◌<◌, ◌≤◌, length, slice_index, slice_set};
+ghost use Rattle.std.specs.Prelude.{◌≡◌};
 ghost use Rattle.qsbr.specs.Counters.{IsChecked};
 ghost use Rattle.defer_queue.specs.Retired.{AreRetired};
 ghost use Rattle.defer_queue.specs.Longest.{TakesLongest};
@@ -44,49 +44,6 @@ impl Grace for Plain<'_> {
     }
 }
 
-// The same, with the greatest token whose check has passed: no counter is read for a token that
-// isn't above it.
-#[derive(Drop)]
-struct Remembering<'a> {
-    domain: &'a Domain,
-    tokens: &'a mut Vec<u64>,
-    passed: &'a mut u64,
-}
-
-impl Grace for Remembering<'_> {
-    ghost use Rattle.std.specs.Prelude.{◌≡◌, ◌<◌, ◌≤◌, [], ◌∷◌, slice_index, slice_set, Ok, MatchResult};
-    ghost use Rattle.qsbr.specs.Counters.{IsChecked};
-    ghost use Rattle.defer_queue.specs.Retired.{AreRetired};
-
-    ghost lent = { λ s. s.tokens.ghost_name ∷ s.passed.ghost_name ∷ [] };
-
-    ghost ready = { λ s items. AreRetired s.tokens.now.items items };
-
-    ghost may_free = { λ s group. (0 < slice_index s.tokens.now.items group)
-        × (slice_index s.tokens.now.items group ≤ s.passed.now) };
-
-    ghost checks = { λ s token r z. (z.domain.now ≡ s.domain.now)
-        × (z.tokens.now.items ≡ s.tokens.now.items)
-        × (token ≤ s.passed.now → (r ≡ Ok tt) × (z.passed.now ≡ s.passed.now))
-        × (s.passed.now < token → IsChecked token s.domain.now.counters r
-        × MatchResult r (λ _. z.passed.now ≡ token) (λ _. z.passed.now ≡ s.passed.now)) };
-
-    ghost frees = { λ s group z. (z.domain.now ≡ s.domain.now) × (z.passed.now ≡ s.passed.now)
-        × (z.tokens.now.items ≡ slice_set s.tokens.now.items group 0) };
-
-    fn check(&mut self, token: u64) -> Result<(), Busy> {
-        if token > *self.passed {
-            self.domain.check(token)?;
-            *self.passed = token;
-        }
-        Ok(())
-    }
-
-    fn free(&mut self, group: u32) {
-        self.tokens[group as usize] = 0;
-    }
-}
-
 // Retires the group under a new token, where that may be done.
 fn give_up(domain: &mut Domain, queue: &mut DeferQueue, tokens: &mut Vec<u64>, group: u32) -> bool
     requires { AreRetired tokens.old.items queue.old.items }
@@ -122,22 +79,6 @@ fn give_up_first(
     groups
 }
 
-// Retires the group under a new token, which can be done.
-fn assert_given_up(
-    rt: &impl Abort,
-    domain: &mut Domain,
-    queue: &mut DeferQueue,
-    tokens: &mut Vec<u64>,
-    group: u32,
-)
-    requires { AreRetired tokens.old.items queue.old.items }
-    ensures retired { AreRetired tokens.new.items queue.new.items }
-    ensures counters { domain.new.counters ≡ domain.old.counters }
-{
-    let is_retired = give_up(domain, queue, tokens, group);
-    assert_at(rt, ("retired", group), is_retired, true);
-}
-
 // Retires groups 0, 1 and so on, as many as are wanted.
 fn assert_first_given_up(
     rt: &impl Abort,
@@ -166,25 +107,6 @@ fn reclaim(domain: &Domain, queue: &mut DeferQueue, tokens: &mut Vec<u64>, max: 
     queue.reclaim(max, &mut grace)
 }
 
-// The same, with the greatest token whose check has passed.
-fn reclaim_remembering(
-    domain: &Domain,
-    queue: &mut DeferQueue,
-    tokens: &mut Vec<u64>,
-    passed: &mut u64,
-    max: usize,
-) -> Reclaimed
-    requires { AreRetired tokens.old.items queue.old.items }
-    ensures { AreRetired tokens.new.items queue.new.items }
-{
-    let mut grace = Remembering {
-        domain,
-        tokens,
-        passed,
-    };
-    queue.reclaim(max, &mut grace)
-}
-
 // How many are freed, and what it stops at, by the definition.
 fn reclaim_plainly(counters: [u64; 2], tokens: [u64; 3], max: usize) -> Reclaimed {
     let mut freed = 0;
@@ -205,65 +127,6 @@ fn reclaim_plainly(counters: [u64; 2], tokens: [u64; 3], max: usize) -> Reclaime
         freed,
         stopped: None,
     }
-}
-
-// So many are freed, and the worker's counter stops it.
-fn stopped(freed: usize, worker: usize, counter: u64) -> Reclaimed {
-    let stopped = Some(Busy { worker, counter });
-    Reclaimed { freed, stopped }
-}
-
-// So many are freed, and nothing stops it.
-fn unstopped(freed: usize) -> Reclaimed {
-    Reclaimed {
-        freed,
-        stopped: None,
-    }
-}
-
-// A reclaim that remembers nothing does what is wanted, and leaves this in front.
-fn assert_reclaim(
-    rt: &impl Abort,
-    domain: &Domain,
-    queue: &mut DeferQueue,
-    tokens: &mut Vec<u64>,
-    max: usize,
-    wanted: (Reclaimed, Option<(u32, u64)>),
-)
-    requires { AreRetired tokens.old.items queue.old.items }
-    ensures { AreRetired tokens.new.items queue.new.items }
-{
-    let reclaimed = reclaim(domain, queue, tokens, max);
-    assert_at(rt, ("reclaim", max), (reclaimed, queue.front()), wanted);
-}
-
-#[test]
-fn two_workers(rt: HostRuntime) -> Result<(), Fail> {
-    let mut domain = Domain::new(rt.alloc(), 2, 1)?;
-    let mut queue = DeferQueue::new(rt.alloc(), 2).expect(&rt, "a queue");
-    let mut tokens = vec![in rt.alloc(); 0u64; 2].expect(&rt, "tokens");
-    domain.online(0);
-    assert_given_up(&rt, &mut domain, &mut queue, &mut tokens, 0);
-    domain.online(1);
-    assert_given_up(&rt, &mut domain, &mut queue, &mut tokens, 1);
-
-    let first = (stopped(0, 0, 1), Some((0, 2)));
-    assert_reclaim(&rt, &domain, &mut queue, &mut tokens, 16, first);
-    domain.quiescent(0);
-    let second = (stopped(1, 1, 2), Some((1, 3)));
-    assert_reclaim(&rt, &domain, &mut queue, &mut tokens, 16, second);
-    domain.offline(1);
-    assert_reclaim(
-        &rt,
-        &domain,
-        &mut queue,
-        &mut tokens,
-        16,
-        (unstopped(1), None),
-    );
-    assert_waiting(&rt, &queue, 0, None);
-    assert_at(&rt, "tokens", tokens.as_slice(), &[0, 0]);
-    Ok(())
 }
 
 // The fronts of a queue of three, where none, one, two and all are freed.
@@ -293,49 +156,6 @@ fn reclaims_by_the_definition(rt: HostRuntime) {
             }
         }
     }
-}
-
-#[test]
-fn pieces_of_a_queue(rt: HostRuntime) -> Result<(), Fail> {
-    let mut domain = Domain::new(rt.alloc(), 0, 1)?;
-    let mut queue = DeferQueue::new(rt.alloc(), 3).expect(&rt, "a queue");
-    let mut tokens = vec![in rt.alloc(); 0u64; 4].expect(&rt, "tokens");
-    // It has room for three.
-    assert_first_given_up(&rt, &mut domain, &mut queue, &mut tokens, 4, 3);
-    let none = (unstopped(0), Some((0, 2)));
-    assert_reclaim(&rt, &domain, &mut queue, &mut tokens, 0, none);
-    let one = (unstopped(1), Some((1, 3)));
-    assert_reclaim(&rt, &domain, &mut queue, &mut tokens, 1, one);
-    assert_given_up(&rt, &mut domain, &mut queue, &mut tokens, 0);
-    let two = (unstopped(2), Some((0, 5)));
-    assert_reclaim(&rt, &domain, &mut queue, &mut tokens, 2, two);
-    assert_reclaim(
-        &rt,
-        &domain,
-        &mut queue,
-        &mut tokens,
-        16,
-        (unstopped(1), None),
-    );
-    assert_at(&rt, "tokens", tokens.as_slice(), &[0, 0, 0, 0]);
-    Ok(())
-}
-
-// The token 4 has passed before the worker stores an older one that it had loaded.
-#[test]
-fn remembered_token(rt: HostRuntime) -> Result<(), Fail> {
-    let mut domain = Domain::new(rt.alloc(), 1, 1)?;
-    let mut queue = DeferQueue::new(rt.alloc(), 2).expect(&rt, "a queue");
-    let mut tokens = vec![in rt.alloc(); 0u64; 2].expect(&rt, "tokens");
-    assert_first_given_up(&rt, &mut domain, &mut queue, &mut tokens, 2, 2);
-    let mut passed = 4;
-    domain.set_counter(0, 1);
-    let forgetting = (stopped(0, 0, 1), Some((0, 2)));
-    assert_reclaim(&rt, &domain, &mut queue, &mut tokens, 16, forgetting);
-    let all = reclaim_remembering(&domain, &mut queue, &mut tokens, &mut passed, 16);
-    assert_at(&rt, "remembering", all, unstopped(2));
-    assert_at(&rt, "passed", passed, 4);
-    Ok(())
 }
 
 // How many wait, and which is in front.

@@ -3,7 +3,6 @@ ghost use Rattle.std.specs.Prelude.{◌<◌};
 use super::asserting::{assert_at, assert_shown};
 use lpm_bits::{Hop, Prefix};
 use lpm_rules::{NoSuchRule, Put, RuleFault, Rules};
-use std::alloc::Global;
 use std::process::Abort;
 use std::test::Fail;
 
@@ -189,103 +188,6 @@ fn plain_search_agrees(rt: HostRuntime) {
     assert_at(&rt, "cleared", rules.clear(), plain.len());
     assert_at(&rt, "empty", rules.is_empty(), true);
     assert_same(&rt, &rules, &[]);
-}
-
-type Ipv4 = Rules<24, 8>;
-
-// The bits, the length and the next hop of a rule.
-type Route = (u32, u32, u32);
-
-// A list with these rules.
-fn list_of(rt: &impl Abort, alloc: Global, routes: &[Route]) -> Ipv4 {
-    let mut rules = Ipv4::new(alloc, 100);
-    for (bits, len, number) in routes {
-        let prefix = Prefix::new(*bits, *len).expect(rt, "a length");
-        let hop = Hop::new(*number).expect(rt, "a next hop");
-        rules.put(&prefix, hop).expect(rt, "room");
-    }
-    rules
-}
-
-fn assert_hops(rt: &impl Abort, rules: &Ipv4, hops: &[(u32, Option<u32>)]) {
-    for (addr, expected) in hops {
-        let hop = rules.longest(*addr).map(|hop| hop.number());
-        assert_at(rt, ("longest", *addr), hop, *expected);
-    }
-}
-
-const EIGHT: Route = (0x0a00_0000, 8, 1);
-
-const SIXTEEN: Route = (0x0a01_0000, 16, 2);
-
-const TWENTY_FOUR: Route = (0x0a01_0100, 24, 4);
-
-const ORDERS: [[Route; 3]; 3] = [
-    [EIGHT, SIXTEEN, TWENTY_FOUR],
-    [TWENTY_FOUR, SIXTEEN, EIGHT],
-    [SIXTEEN, TWENTY_FOUR, EIGHT],
-];
-
-#[test]
-fn short_prefixes(rt: HostRuntime) {
-    let hops = [
-        (0x0a01_01ff, Some(4)),
-        (0x0a01_0200, Some(2)),
-        (0x0a02_0000, Some(1)),
-        (0x09ff_ffff, None),
-    ];
-    for routes in &ORDERS {
-        let rules = list_of(&rt, rt.alloc(), routes);
-        assert_hops(&rt, &rules, &hops);
-    }
-}
-
-#[test]
-fn top_bit(rt: HostRuntime) {
-    let rules = list_of(&rt, rt.alloc(), &[(0x8000_0000, 1, 7)]);
-    let hops = [
-        (0x7fff_ffff, None),
-        (0x8000_0000, Some(7)),
-        (0xffff_ffff, Some(7)),
-    ];
-    assert_hops(&rt, &rules, &hops);
-}
-
-#[test]
-fn default_route(rt: HostRuntime) {
-    let rules = list_of(&rt, rt.alloc(), &[(0, 0, 1), (0x0a00_0000, 8, 2)]);
-    let hops = [(0, Some(1)), (0x0a00_0000, Some(2)), (0xffff_ffff, Some(1))];
-    assert_hops(&rt, &rules, &hops);
-}
-
-#[test]
-fn last_address(rt: HostRuntime) {
-    let rules = list_of(&rt, rt.alloc(), &[(0xffff_ffff, 32, 16_777_215)]);
-    assert_hops(
-        &rt,
-        &rules,
-        &[(0xffff_fffe, None), (0xffff_ffff, Some(16_777_215))],
-    );
-    assert_at(&rt, "of length 32", rules.of_length(32).len(), 1);
-    assert_at(&rt, "deep in the last block", rules.deep_in(0xff_ffff), 1);
-    assert_at(&rt, "deep blocks", rules.deep_blocks(), 1);
-}
-
-#[test]
-fn one_rule(rt: HostRuntime) {
-    let mut rules = Ipv4::new(rt.alloc(), 1);
-    let steps = [
-        (0x0a00_0000, 1, Ok(Put::Added)),
-        (0x0b00_0000, 1, Err(RuleFault::TooManyRules)),
-        (0x0a00_0000, 5, Ok(Put::Replaced)),
-        (0x0a00_0000, 5, Ok(Put::Unchanged)),
-    ];
-    for (bits, hop, expected) in steps {
-        let prefix = Prefix::new(bits, 8).expect(&rt, "a length");
-        let outcome = rules.put(&prefix, Hop::new(hop).expect(&rt, "a next hop"));
-        assert_at(&rt, ("put", bits, hop), outcome, expected);
-    }
-    assert_hops(&rt, &rules, &[(0x0a00_0000, Some(5)), (0x0b00_0000, None)]);
 }
 
 #[test]
