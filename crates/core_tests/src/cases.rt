@@ -2,7 +2,7 @@
 //! opened, what comes of each, and after the last command the counts and what lookups find. The
 //! expected values were worked out by hand.
 
-ghost use Rattle.std.specs.Prelude.{◌≡◌, ◌+◌, ◌≤◌, ◌<◌, IfOk, OnOk, length};
+ghost use Rattle.std.specs.Prelude.{◌≤◌, ◌<◌};
 
 use defer_queue::Reclaimed;
 use fib_model::{Command, Outcome, Report};
@@ -52,10 +52,7 @@ impl Case {
         steps: &[Step],
         found: &[Found],
         counts: Counts,
-    ) -> Result<Self, AllocError>
-        ensures { IfOk result (λ case.
-            length case.commands.items ≡ length case.account.outcomes.items) }
-    {
+    ) -> Result<Self, AllocError> {
         let (rules, versions, in_use, limbo, free, token) = counts;
         let account = Account {
             outcomes: outcomes_of(alloc, steps)?,
@@ -76,9 +73,7 @@ impl Case {
     }
 }
 
-fn commands_of(alloc: Global, steps: &[Step]) -> Result<Vec<Command<24, 8>>, AllocError>
-    ensures { IfOk result (λ commands. length commands.items ≡ length steps.now) }
-{
+fn commands_of(alloc: Global, steps: &[Step]) -> Result<Vec<Command<24, 8>>, AllocError> {
     let mut commands = Vec::new(alloc);
     for step in steps {
         commands.push(step.0)?;
@@ -86,9 +81,7 @@ fn commands_of(alloc: Global, steps: &[Step]) -> Result<Vec<Command<24, 8>>, All
     Ok(commands)
 }
 
-fn outcomes_of(alloc: Global, steps: &[Step]) -> Result<Vec<Outcome>, AllocError>
-    ensures { IfOk result (λ outcomes. length outcomes.items ≡ length steps.now) }
-{
+fn outcomes_of(alloc: Global, steps: &[Step]) -> Result<Vec<Outcome>, AllocError> {
     let mut outcomes = Vec::new(alloc);
     for step in steps {
         outcomes.push(step.1)?;
@@ -164,64 +157,54 @@ fn busy(worker: usize, counter: u64) -> Option<Busy> {
 }
 
 /// The cases of lookups: every command adds a route.
-pub(crate) fn lookups(alloc: Global) -> Result<Vec<Case>, AllocError>
-    ensures { IfOk result (λ cases. length cases.items ≡ 9) }
-{
+pub(crate) fn lookups(alloc: Global) -> Result<Vec<Case>, AllocError> {
     let mut cases = Vec::new(alloc);
-    push_lookups(alloc, &mut cases)?;
+    for at in 0..9usize {
+        cases.push(lookup_case(alloc, at)?)?;
+    }
     Ok(cases)
 }
 
-/// Adds a case, or passes its error on.
-fn push(cases: &mut Vec<Case>, case: Result<Case, AllocError>) -> Result<(), AllocError>
-    ensures { OnOk result (length cases.new.items ≡ length cases.old.items + 1) }
-{
-    cases.push(case?)?;
-    Ok(())
-}
-
-fn push_lookups(alloc: Global, cases: &mut Vec<Case>) -> Result<(), AllocError>
-    ensures { OnOk result (length cases.new.items ≡ length cases.old.items + 9) }
-{
-    push(cases, empty_table(alloc))?;
-    push(cases, short_prefixes(alloc))?;
-    push(cases, three_routes(alloc))?;
-    push(cases, reverse_order(alloc))?;
-    push(cases, top_bit(alloc))?;
-    push(cases, host_bits(alloc))?;
-    push(cases, last_address(alloc))?;
-    push(cases, default_route(alloc))?;
-    push(cases, full_block(alloc))?;
-    Ok(())
+fn lookup_case(alloc: Global, at: usize) -> Result<Case, AllocError> {
+    match at {
+        0 => empty_table(alloc),
+        1 => short_prefixes(alloc),
+        2 => three_routes(alloc),
+        3 => reverse_order(alloc),
+        4 => top_bit(alloc),
+        5 => host_bits(alloc),
+        6 => last_address(alloc),
+        7 => default_route(alloc),
+        _ => full_block(alloc),
+    }
 }
 
 /// The cases of updates, reports and reclaims.
-pub(crate) fn updates(alloc: Global) -> Result<Vec<Case>, AllocError>
-    ensures { IfOk result (λ cases. length cases.items ≡ 14) }
-{
+pub(crate) fn updates(alloc: Global) -> Result<Vec<Case>, AllocError> {
     let mut cases = Vec::new(alloc);
-    push_updates(alloc, &mut cases)?;
+    for at in 0..14usize {
+        cases.push(update_case(alloc, at)?)?;
+    }
     Ok(cases)
 }
 
-fn push_updates(alloc: Global, cases: &mut Vec<Case>) -> Result<(), AllocError>
-    ensures { OnOk result (length cases.new.items ≡ length cases.old.items + 14) }
-{
-    push(cases, delete_then_reclaim(alloc))?;
-    push(cases, reclaimed_after_delete(alloc))?;
-    push(cases, one_group(alloc))?;
-    push(cases, held_group(alloc))?;
-    push(cases, outcomes(alloc))?;
-    push(cases, two_workers(alloc))?;
-    push(cases, threshold_zero(alloc))?;
-    push(cases, one_rule(alloc))?;
-    push(cases, flush_report(alloc))?;
-    push(cases, flush_three_groups(alloc))?;
-    push(cases, default_route_updates(alloc))?;
-    push(cases, exhausted_add(alloc))?;
-    push(cases, last_token(alloc))?;
-    push(cases, refused_reports(alloc))?;
-    Ok(())
+fn update_case(alloc: Global, at: usize) -> Result<Case, AllocError> {
+    match at {
+        0 => delete_then_reclaim(alloc),
+        1 => reclaimed_after_delete(alloc),
+        2 => one_group(alloc),
+        3 => held_group(alloc),
+        4 => outcomes(alloc),
+        5 => two_workers(alloc),
+        6 => threshold_zero(alloc),
+        7 => one_rule(alloc),
+        8 => flush_report(alloc),
+        9 => flush_three_groups(alloc),
+        10 => default_route_updates(alloc),
+        11 => exhausted_add(alloc),
+        12 => last_token(alloc),
+        _ => refused_reports(alloc),
+    }
 }
 
 fn empty_table(alloc: Global) -> Result<Case, AllocError> {

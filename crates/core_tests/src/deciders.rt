@@ -1,8 +1,6 @@
 //! A trace that was written by hand, which every decider accepts, and planted faults in it, each of
 //! which its decider refuses.
 
-mod two_workers;
-
 use lpm_trace::{Actor, Deed, Kind, Step};
 use std::alloc::{AllocError, Global};
 use std::process::Abort;
@@ -40,23 +38,31 @@ const DEEDS: [Deed; 6] = [
     Deed::Meet,
 ];
 
-fn writer(kind: Kind, index: u64, value: u64) -> Step {
-    Step {
-        actor: Actor::Writer,
-        kind,
-        index,
-        value,
-    }
+/// A step of the writer: its kind, the index and the value.
+macro_rules! writer {
+    ($kind:ident, $index:expr, $value:expr) => {
+        Step {
+            actor: Actor::Writer,
+            kind: Kind::$kind,
+            index: $index,
+            value: $value,
+        }
+    };
 }
 
-fn worker(kind: Kind, index: u64, value: u64) -> Step {
-    Step {
-        actor: Actor::Worker(0),
-        kind,
-        index,
-        value,
-    }
+/// A step of the worker: its kind, the index and the value.
+macro_rules! worker {
+    ($kind:ident, $index:expr, $value:expr) => {
+        Step {
+            actor: Actor::Worker(0),
+            kind: Kind::$kind,
+            index: $index,
+            value: $value,
+        }
+    };
 }
+
+mod two_workers;
 
 /// The rule of address 0, none, and the rule of address 2.
 fn versions(alloc: Global) -> Result<Versions, AllocError> {
@@ -78,77 +84,49 @@ fn versions(alloc: Global) -> Result<Versions, AllocError> {
     Ok(versions)
 }
 
-/// The writer adds the rule of address 0, which takes the group; steps 1 to 4. The worker comes
-/// online and begins a lookup of address 0; steps 5 to 8. The writer deletes the rule, which unlinks
-/// the group; steps 9 to 12. The worker ends its lookup; steps 13 and 14.
-fn until_the_delete(alloc: Global) -> Result<Vec<Step>, AllocError> {
-    Vec::from_slice(
-        alloc,
-        &[
-            writer(Kind::BumpSequence, 0, 1),
-            writer(Kind::StoreSecond, 0, FIVE),
-            writer(Kind::StoreFirst, 0, GROUP),
-            writer(Kind::BumpSequence, 0, 2),
-            worker(Kind::LoadToken, 0, 1),
-            worker(Kind::StoreCounter, 0, 1),
-            worker(Kind::LoadSequence, 0, 2),
-            worker(Kind::LoadFirst, 0, GROUP),
-            writer(Kind::BumpSequence, 0, 3),
-            writer(Kind::StoreFirst, 0, 0),
-            writer(Kind::BumpToken, 0, 2),
-            writer(Kind::BumpSequence, 0, 4),
-            worker(Kind::LoadSecond, 0, FIVE),
-            worker(Kind::LoadSequence, 0, 4),
-        ],
-    )
-}
-
-/// A reclaim is stopped by the worker; step 15. It reports a quiescent state; steps 16 and 17. The
-/// next check passes; step 18. The writer adds the rule of address 2, which takes the group again;
-/// steps 19 to 22.
-fn from_the_check(alloc: Global) -> Result<Vec<Step>, AllocError> {
-    Vec::from_slice(
-        alloc,
-        &[
-            writer(Kind::LoadCounter, 0, 1),
-            worker(Kind::LoadToken, 0, 2),
-            worker(Kind::StoreCounter, 0, 2),
-            writer(Kind::LoadCounter, 0, 2),
-            writer(Kind::BumpSequence, 0, 5),
-            writer(Kind::StoreSecond, 0, SEVEN),
-            writer(Kind::StoreFirst, 1, GROUP),
-            writer(Kind::BumpSequence, 0, 6),
-        ],
-    )
-}
-
-/// The worker looks up all four addresses; steps 23 to 30. It goes offline and meets the writer;
-/// steps 31 and 32.
-fn from_the_last_lookup(alloc: Global) -> Result<Vec<Step>, AllocError> {
-    Vec::from_slice(
-        alloc,
-        &[
-            worker(Kind::LoadSequence, 0, 6),
-            worker(Kind::LoadFirst, 1, GROUP),
-            worker(Kind::LoadFirst, 0, 0),
-            worker(Kind::LoadFirst, 1, GROUP),
-            worker(Kind::LoadFirst, 0, 0),
-            worker(Kind::LoadSecond, 0, SEVEN),
-            worker(Kind::LoadSecond, 1, 0),
-            worker(Kind::LoadSequence, 0, 6),
-            worker(Kind::StoreCounter, 0, 0),
-            worker(Kind::LoadSequence, 0, 6),
-        ],
-    )
-}
-
-/// The whole trace.
-fn good(alloc: Global) -> Result<Vec<Step>, AllocError> {
-    let mut steps = until_the_delete(alloc)?;
-    steps.extend_from_slice(&from_the_check(alloc)?)?;
-    steps.extend_from_slice(&from_the_last_lookup(alloc)?)?;
-    Ok(steps)
-}
+/// The trace.
+const GOOD: [Step; 32] = [
+    // The writer adds the rule of address 0, which takes the group; steps 1 to 4. The worker comes
+    // online and begins a lookup of address 0; steps 5 to 8. The writer deletes the rule, which unlinks
+    // the group; steps 9 to 12. The worker ends its lookup; steps 13 and 14.
+    writer!(BumpSequence, 0, 1),
+    writer!(StoreSecond, 0, FIVE),
+    writer!(StoreFirst, 0, GROUP),
+    writer!(BumpSequence, 0, 2),
+    worker!(LoadToken, 0, 1),
+    worker!(StoreCounter, 0, 1),
+    worker!(LoadSequence, 0, 2),
+    worker!(LoadFirst, 0, GROUP),
+    writer!(BumpSequence, 0, 3),
+    writer!(StoreFirst, 0, 0),
+    writer!(BumpToken, 0, 2),
+    writer!(BumpSequence, 0, 4),
+    worker!(LoadSecond, 0, FIVE),
+    worker!(LoadSequence, 0, 4),
+    // A reclaim is stopped by the worker; step 15. It reports a quiescent state; steps 16 and 17. The
+    // next check passes; step 18. The writer adds the rule of address 2, which takes the group again;
+    // steps 19 to 22.
+    writer!(LoadCounter, 0, 1),
+    worker!(LoadToken, 0, 2),
+    worker!(StoreCounter, 0, 2),
+    writer!(LoadCounter, 0, 2),
+    writer!(BumpSequence, 0, 5),
+    writer!(StoreSecond, 0, SEVEN),
+    writer!(StoreFirst, 1, GROUP),
+    writer!(BumpSequence, 0, 6),
+    // The worker looks up all four addresses; steps 23 to 30. It goes offline and meets the writer;
+    // steps 31 and 32.
+    worker!(LoadSequence, 0, 6),
+    worker!(LoadFirst, 1, GROUP),
+    worker!(LoadFirst, 0, 0),
+    worker!(LoadFirst, 1, GROUP),
+    worker!(LoadFirst, 0, 0),
+    worker!(LoadSecond, 0, SEVEN),
+    worker!(LoadSecond, 1, 0),
+    worker!(LoadSequence, 0, 6),
+    worker!(StoreCounter, 0, 0),
+    worker!(LoadSequence, 0, 6),
+];
 
 /// The steps with another value at the one of this number.
 fn with_value(
@@ -277,10 +255,9 @@ fn are_accepted(alloc: Global, steps: &[Step]) -> Result<bool, AllocError> {
 #[test]
 fn each_step_with_another_value(rt: HostRuntime) -> Result<(), Fail> {
     let alloc = rt.alloc();
-    let steps = good(alloc)?;
-    for (earlier, step) in steps.iter().enumerate() {
+    for (earlier, step) in GOOD.iter().enumerate() {
         let number = earlier.saturating_add(1);
-        let changed = with_value(alloc, &steps, number, step.value.saturating_add(1))?;
+        let changed = with_value(alloc, &GOOD, number, step.value.saturating_add(1))?;
         assert!(rt; !are_accepted(alloc, &changed)?, "{number}");
     }
     Ok(())
@@ -289,10 +266,9 @@ fn each_step_with_another_value(rt: HostRuntime) -> Result<(), Fail> {
 #[test]
 fn each_step_at_another_index(rt: HostRuntime) -> Result<(), Fail> {
     let alloc = rt.alloc();
-    let steps = good(alloc)?;
-    for (earlier, step) in steps.iter().enumerate() {
+    for (earlier, step) in GOOD.iter().enumerate() {
         let number = earlier.saturating_add(1);
-        let changed = with_index(alloc, &steps, number, step.index.saturating_add(1))?;
+        let changed = with_index(alloc, &GOOD, number, step.index.saturating_add(1))?;
         assert!(rt; !are_accepted(alloc, &changed)?, "{number}");
     }
     Ok(())
@@ -302,10 +278,9 @@ fn each_step_at_another_index(rt: HostRuntime) -> Result<(), Fail> {
 #[test]
 fn each_step_left_out(rt: HostRuntime) -> Result<(), Fail> {
     let alloc = rt.alloc();
-    let steps = good(alloc)?;
-    for earlier in 0..steps.len() {
+    for earlier in 0..GOOD.len() {
         let number = earlier.saturating_add(1);
-        let rest = without(alloc, &steps, &[number])?;
+        let rest = without(alloc, &GOOD, &[number])?;
         let may_be_left_out = number == 15 || number == 32;
         assert_eq!(rt; are_accepted(alloc, &rest)?, may_be_left_out, "{number}");
     }
@@ -314,17 +289,15 @@ fn each_step_left_out(rt: HostRuntime) -> Result<(), Fail> {
 
 #[test]
 fn loads_of_the_good_trace(rt: HostRuntime) -> Result<(), Fail> {
-    let alloc = rt.alloc();
-    assert!(rt; loads_are_stores(&SMALL, &good(alloc)?));
+    assert!(rt; loads_are_stores(&SMALL, &GOOD));
     Ok(())
 }
 
 #[test]
 fn loads_of_what_was_not_stored(rt: HostRuntime) -> Result<(), Fail> {
     let alloc = rt.alloc();
-    let steps = good(alloc)?;
     for (number, value) in [(13, SEVEN), (5, 2), (15, 2), (14, 3), (12, 5), (11, 3)] {
-        let changed = with_value(alloc, &steps, number, value)?;
+        let changed = with_value(alloc, &GOOD, number, value)?;
         assert!(rt; !loads_are_stores(&SMALL, &changed), "{number}");
     }
     Ok(())
@@ -333,9 +306,8 @@ fn loads_of_what_was_not_stored(rt: HostRuntime) -> Result<(), Fail> {
 #[test]
 fn words_that_there_are_not(rt: HostRuntime) -> Result<(), Fail> {
     let alloc = rt.alloc();
-    let steps = good(alloc)?;
     for (number, index) in [(3, 2), (2, 2), (1, 1), (6, 1), (15, 1)] {
-        let changed = with_index(alloc, &steps, number, index)?;
+        let changed = with_index(alloc, &GOOD, number, index)?;
         assert!(rt; !loads_are_stores(&SMALL, &changed), "{number}");
     }
     Ok(())
@@ -344,11 +316,10 @@ fn words_that_there_are_not(rt: HostRuntime) -> Result<(), Fail> {
 #[test]
 fn deeds_of_the_good_trace(rt: HostRuntime) -> Result<(), Fail> {
     let alloc = rt.alloc();
-    let steps = good(alloc)?;
     assert!(rt; deeds_are_sound(&SMALL, &DEEDS));
     // The whole trace, the one without its last step, and its beginning.
     for steps_done in [32, 31, 14] {
-        let beginning = steps.get(..steps_done).unwrap_or(&[]);
+        let beginning = GOOD.get(..steps_done).unwrap_or(&[]);
         assert!(rt;
             deeds_are_done(alloc, &SMALL, beginning, 0, &DEEDS)?,
             "{steps_done}"
@@ -360,14 +331,13 @@ fn deeds_of_the_good_trace(rt: HostRuntime) -> Result<(), Fail> {
 #[test]
 fn deeds_that_were_not_done(rt: HostRuntime) -> Result<(), Fail> {
     let alloc = rt.alloc();
-    let steps = good(alloc)?;
     let faults = [Fault::Value(17, 1), Fault::Index(13, 1), Fault::LeftOut(14)];
     for (place, fault) in faults.iter().enumerate() {
-        let changed = with_fault(alloc, &steps, *fault)?;
+        let changed = with_fault(alloc, &GOOD, *fault)?;
         let are_done = deeds_are_done(alloc, &SMALL, &changed, 0, &DEEDS)?;
         assert!(rt; !are_done, "fault {place}");
     }
-    assert!(rt; !deeds_are_done(alloc, &SMALL, &steps, 0, &[Deed::Online])?);
+    assert!(rt; !deeds_are_done(alloc, &SMALL, &GOOD, 0, &[Deed::Online])?);
     Ok(())
 }
 
@@ -381,7 +351,7 @@ fn deeds_that_cannot_be_done(rt: HostRuntime) -> Result<(), Fail> {
 #[test]
 fn order_of_the_good_trace(rt: HostRuntime) -> Result<(), Fail> {
     let alloc = rt.alloc();
-    assert!(rt; is_in_order(alloc, &good(alloc)?)?);
+    assert!(rt; is_in_order(alloc, &GOOD)?);
     Ok(())
 }
 
@@ -397,7 +367,7 @@ fn stores_out_of_order(rt: HostRuntime) -> Result<(), Fail> {
         Fault::Value(2, 1),
     ];
     let versions = versions(alloc)?;
-    assert_refused(&rt, alloc, &SMALL, &versions, &good(alloc)?, &faults)
+    assert_refused(&rt, alloc, &SMALL, &versions, &GOOD, &faults)
 }
 
 // An update that leaves the rules as they are may store nothing; but a free group that it fills it links
@@ -409,9 +379,9 @@ fn a_group_that_is_filled_and_never_linked(rt: HostRuntime) -> Result<(), Fail> 
     same_rules.push(Vec::new(alloc))?;
     same_rules.push(Vec::new(alloc))?;
     let steps = [
-        writer(Kind::BumpSequence, 0, 1),
-        writer(Kind::StoreSecond, 0, FIVE),
-        writer(Kind::BumpSequence, 0, 2),
+        writer!(BumpSequence, 0, 1),
+        writer!(StoreSecond, 0, FIVE),
+        writer!(BumpSequence, 0, 2),
     ];
     let unfilled = without(alloc, &steps, &[2])?;
     let unfinished = without(alloc, &steps, &[3])?;
@@ -433,7 +403,7 @@ fn tokens_and_checks_out_of_order(rt: HostRuntime) -> Result<(), Fail> {
         Fault::Index(15, 1),
     ];
     let versions = versions(alloc)?;
-    assert_refused(&rt, alloc, &SMALL, &versions, &good(alloc)?, &faults)
+    assert_refused(&rt, alloc, &SMALL, &versions, &GOOD, &faults)
 }
 
 /// The lookups of the whole trace.
@@ -450,7 +420,7 @@ fn good_lookups() -> [Seen; 5] {
 #[test]
 fn lookups_of_the_good_trace(rt: HostRuntime) -> Result<(), Fail> {
     let alloc = rt.alloc();
-    let found = lookups(alloc, &SMALL, &good(alloc)?, 0, &DEEDS)?;
+    let found = lookups(alloc, &SMALL, &GOOD, 0, &DEEDS)?;
     assert_eq!(rt; found.as_slice(), good_lookups().as_slice());
     Ok(())
 }
@@ -459,12 +429,11 @@ fn lookups_of_the_good_trace(rt: HostRuntime) -> Result<(), Fail> {
 fn answers_of_the_good_trace(rt: HostRuntime) -> Result<(), Fail> {
     let alloc = rt.alloc();
     let versions = versions(alloc)?;
-    let steps = good(alloc)?;
     let found = good_lookups();
     for one in &found {
-        assert!(rt; is_legal(&SMALL, &versions, &steps, one));
+        assert!(rt; is_legal(&SMALL, &versions, &GOOD, one));
     }
-    assert!(rt; never_falls(&SMALL, &versions, &steps, &found));
+    assert!(rt; never_falls(&SMALL, &versions, &GOOD, &found));
     Ok(())
 }
 
@@ -472,7 +441,6 @@ fn answers_of_the_good_trace(rt: HostRuntime) -> Result<(), Fail> {
 fn answers_of_no_version_that_stood(rt: HostRuntime) -> Result<(), Fail> {
     let alloc = rt.alloc();
     let versions = versions(alloc)?;
-    let steps = good(alloc)?;
     for wrong in [
         seen(0, Some(7), (8, 13), (1, 2)),
         seen(2, None, (24, 28), (3, 3)),
@@ -480,7 +448,7 @@ fn answers_of_no_version_that_stood(rt: HostRuntime) -> Result<(), Fail> {
         seen(0, Some(5), (8, 13), (2, 2)),
         seen(0, None, (8, 13), (1, 1)),
     ] {
-        assert!(rt; !is_legal(&SMALL, &versions, &steps, &wrong));
+        assert!(rt; !is_legal(&SMALL, &versions, &GOOD, &wrong));
     }
     Ok(())
 }
@@ -489,26 +457,23 @@ fn answers_of_no_version_that_stood(rt: HostRuntime) -> Result<(), Fail> {
 fn versions_that_fall(rt: HostRuntime) -> Result<(), Fail> {
     let alloc = rt.alloc();
     let versions = versions(alloc)?;
-    let steps = good(alloc)?;
     let late = seen(0, Some(5), (11, 13), (1, 2));
-    assert!(rt; is_legal(&SMALL, &versions, &steps, &late));
-    assert!(rt; !never_falls(&SMALL, &versions, &steps, &[late]));
+    assert!(rt; is_legal(&SMALL, &versions, &GOOD, &late));
+    assert!(rt; !never_falls(&SMALL, &versions, &GOOD, &[late]));
     Ok(())
 }
 
 #[test]
 fn reuse_of_the_good_trace(rt: HostRuntime) -> Result<(), Fail> {
-    let alloc = rt.alloc();
-    assert!(rt; reuse_is_lawful(&SMALL, &good(alloc)?));
+    assert!(rt; reuse_is_lawful(&SMALL, &GOOD));
     Ok(())
 }
 
 #[test]
 fn reuse_within_a_reader_interval(rt: HostRuntime) -> Result<(), Fail> {
     let alloc = rt.alloc();
-    let steps = good(alloc)?;
-    assert!(rt; !reuse_is_lawful(&SMALL, &without(alloc, &steps, &[16, 17])?));
-    assert!(rt; !reuse_is_lawful(&SMALL, &with_swapped(alloc, &steps, 16, 20)?));
-    assert!(rt; reuse_is_lawful(&SMALL, &without(alloc, &steps, &[5, 6, 16, 17])?));
+    assert!(rt; !reuse_is_lawful(&SMALL, &without(alloc, &GOOD, &[16, 17])?));
+    assert!(rt; !reuse_is_lawful(&SMALL, &with_swapped(alloc, &GOOD, 16, 20)?));
+    assert!(rt; reuse_is_lawful(&SMALL, &without(alloc, &GOOD, &[5, 6, 16, 17])?));
     Ok(())
 }
