@@ -1,10 +1,10 @@
-//! `fib_example`: the table step by step, as a program calls it.
-#![tactic(auto)]
+//! The table step by step, as a program calls it.
 
 use anyhow::{Result, ensure};
 use fib::Fib;
 use lpm_bits::{Hop, Prefix};
 use qsbr::Config;
+use std::alloc::Global;
 use std::net::Ipv4Addr;
 
 /// A table for IPv4: 24 bits of an address choose a word of the first table, 8 bits one of a group.
@@ -13,15 +13,16 @@ type Table = Fib<24, 8>;
 /// The worker that looks addresses up.
 const WORKER: usize = 0;
 
-fn main(rt: HostRuntime) -> Result<()> {
+/// Opens a table, changes it, and looks addresses up.
+pub(crate) fn show_table<R: Print>(rt: &R, alloc: Global) -> Result<()> {
     // Open a table of 4 groups, with 1 worker and the other limits as they are by default.
     let limits = Config {
         groups: 4,
         workers: 1,
         ..Config::default()
     };
-    let mut table = Table::open(rt.alloc(), limits)?;
-    use_table(&rt, &mut table)
+    let mut table = Table::open(alloc, limits)?;
+    use_table(rt, &mut table)
 }
 
 fn use_table<R: Print>(rt: &R, table: &mut Table) -> Result<()> {

@@ -1,16 +1,12 @@
-//! `world_example`: one writer and one worker of the pure world, who make their steps by a schedule. Called
-//! with a number, it makes a run of so many steps, and tells how long that took.
-#![tactic(auto)]
+//! One writer and one worker of the pure world, who make their steps by a schedule.
 
 use anyhow::{Result, ensure};
 use interleave::{Actor, Change, Deed, Trace, World, script_ok};
 use lpm_bits::{Hop, Prefix};
 use qsbr::Config;
 use std::alloc::{AllocError, Global};
-use std::convert::AsStr;
 use std::rt::Clock;
 use std::time::Instant;
-use std::{env, io};
 
 /// One worker, and two groups for blocks with a rule longer than four bits.
 const LIMITS: Config = Config {
@@ -28,28 +24,9 @@ const ADDR: u32 = 0x12;
 /// The one worker.
 const WORKER: Actor = Actor::Worker(0);
 
-/// How many steps a run may be asked for.
-const MOST_STEPS: usize = 10_000_000;
-
-fn main(rt: HostRuntime) -> Result<()> {
-    match asked(&rt)? {
-        None => show_run(&rt, rt.alloc()),
-        Some(steps) => time_run(&rt, rt.alloc(), steps.min(MOST_STEPS)),
-    }
-}
-
-/// The number that is the last word of the command line, if it is one.
-fn asked(rt: &HostRuntime) -> io::Result<Option<usize>> {
-    let mut last = None;
-    for word in env::args(rt)? {
-        last = word.as_str().parse::<usize>().ok();
-    }
-    Ok(last)
-}
-
 /// Shows a lookup that has read the link to a group when the writer gives the group up. The group is free
 /// only once the worker has reported that it is quiescent.
-fn show_run<R: Print>(rt: &R, alloc: Global) -> Result<()> {
+pub(crate) fn show_run<R: Print>(rt: &R, alloc: Global) -> Result<()> {
     let changes = [
         add_rule()?,
         Change::Flush,
@@ -70,7 +47,7 @@ fn show_run<R: Print>(rt: &R, alloc: Global) -> Result<()> {
 }
 
 /// Makes a run of so many steps, half of them the writer's, and prints how long it took.
-fn time_run<R: Clock + Print>(rt: &R, alloc: Global, steps: usize) -> Result<()> {
+pub(crate) fn time_run<R: Clock + Print>(rt: &R, alloc: Global, steps: usize) -> Result<()> {
     let round = [add_rule()?, Change::Flush, Change::Reclaim(1)];
     let changes = repeated(alloc, &round, steps / 6)?;
     let mut deeds = Vec::new(alloc);
