@@ -13,8 +13,8 @@ use Rattle.lpm_trace.proofs.Promises.{versions_never_fall_at_places}
 use Rattle.shared_words.specs.declared.view.View.{View}
 use Rattle.shared_words.specs.Opened.{Opened, setup_of}
 use Rattle.shared_words.specs.Rule.{IsLater}
-use Rattle.shared_words.specs.Deeds.{LooksUp, LooksUpAll, LoadsAround, GainsAll, GoesOn, loads_of}
-use Rattle.shared_words.proofs.Deeds.{all_on, between, gains_on, later_longer, later_trans}
+use Rattle.shared_deeds.specs.Deeds.{LooksUp, LooksUpAll, LoadsAround, GainsAll, GoesOn, loads_of}
+use Rattle.shared_deeds.proofs.Deeds.{all_on, between, gains_on, later_longer, later_trans}
 use Rattle.shared_fib.specs.Laws.{IsOfVersion, VersionsStay, LookupsNeverGoBack, IsLookedUp, AnswersAreOfVersions, PassesNeverGoBack, LookupsCountVersions}
 use Rattle.shared_fib.specs.Running.{steps_of}
 

@@ -9,7 +9,7 @@ use Rattle.lpm_trace.specs.Laws.{IsLegalAtPlace}
 use Rattle.shared_words.specs.declared.view.View.{View}
 use Rattle.shared_words.specs.Opened.{setup_of}
 use Rattle.shared_words.specs.Rule.{IsLater}
-use Rattle.shared_words.specs.Deeds.{LooksUp, LooksUpAll}
+use Rattle.shared_deeds.specs.Deeds.{LooksUp, LooksUpAll}
 use Rattle.shared_fib.specs.Running.{WriterState, IsAtRest, steps_of}
 
 -- ---- versions

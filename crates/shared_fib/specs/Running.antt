@@ -23,7 +23,7 @@ use Rattle.shared_words.specs.declared.view.Role.TheVariants.{Worker}
 use Rattle.shared_words.specs.contracts.view.View as view_row
 use Rattle.shared_words.specs.Opened.{Opened, coded_opened, setup_of}
 use Rattle.shared_words.specs.Layout.{word_count}
-use Rattle.shared_words.specs.Deeds.{GainsAll}
+use Rattle.shared_deeds.specs.Deeds.{GainsAll}
 
 -- ---- the table
 

@@ -6,7 +6,7 @@ ghost use Rattle.lpm_trace.specs.Trace.{worker_by};
 ghost use Rattle.lpm_trace.specs.Workers.{Offline};
 ghost use Rattle.shared_words.specs.declared.view.Role.TheVariants.{Worker};
 ghost use Rattle.shared_words.specs.Seats.{Gains};
-ghost use Rattle.shared_words.specs.Deeds.{GainsAll, GoesOn, LooksUp, LooksUpAll};
+ghost use Rattle.shared_deeds.specs.Deeds.{GainsAll, GoesOn, LooksUp, LooksUpAll};
 ghost use Rattle.shared_fib.specs.Running.{IsAtRest, IsOffline, IsOnline, Leaves, hop_or, identity_of, steps_of};
 
 use crate::{SharedTable, Writer};
@@ -92,7 +92,7 @@ impl Pass {
         ensures rest { GoesOn self.old.view self.new.view }
         ensures online { IsOnline self.new }
     {
-        self.seat.online(&table.words);
+        shared_deeds::online(&mut self.seat, &table.words);
         self.is_online = true;
     }
 
@@ -109,7 +109,7 @@ impl Pass {
         ensures rest { GoesOn self.old.view self.new.view }
         ensures offline { IsOffline self.new }
     {
-        self.seat.offline(&table.words);
+        shared_deeds::offline(&mut self.seat, &table.words);
         self.is_online = false;
     }
 
@@ -143,7 +143,7 @@ impl Pass {
         ensures rest { GoesOn self.old.view self.new.view }
         ensures online { IsOnline self.new }
     {
-        self.seat.quiescent(&table.words);
+        shared_deeds::quiescent(&mut self.seat, &table.words);
     }
 
     /// The next hop of the longest rule that covers the address, of a version that stood while its words were
@@ -161,7 +161,7 @@ impl Pass {
         ensures answer { LooksUp addr result.hop result.lo result.hi self.old.view self.new.view }
         ensures online { IsOnline self.new }
     {
-        self.seat.lookup::<FIRST, SECOND, _>(&table.words, addr)
+        shared_deeds::lookup::<FIRST, SECOND, _>(&mut self.seat, &table.words, addr)
     }
 
     /// The next hops of four addresses, with `default` for an address that no rule covers, between two
@@ -183,9 +183,8 @@ impl Pass {
         ensures online { IsOnline self.new }
     {
         let [a, b, c, d] = addrs;
-        let found = self
-            .seat
-            .lookup4::<FIRST, SECOND, _>(&table.words, a, b, c, d);
+        let words = &table.words;
+        let found = shared_deeds::lookup4::<FIRST, SECOND, _>(&mut self.seat, words, a, b, c, d);
         let [w, x, y, z] = found.hops;
         FourHops {
             hops: [

@@ -4,5 +4,3 @@ pub mod Writing
 pub mod Workings
 pub mod Reading
 pub mod Meetings
-pub mod Deeds
-pub mod Together

@@ -2,4 +2,3 @@ pub mod Opened
 pub mod Layout
 pub mod Rule
 pub mod Seats
-pub mod Deeds

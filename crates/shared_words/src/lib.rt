@@ -12,8 +12,6 @@
 
 mod law;
 mod layout;
-mod lookup;
-mod lookup4;
 mod opening;
 mod view;
 mod words;
@@ -21,7 +19,6 @@ mod worker;
 mod writer;
 
 pub use layout::Layout;
-pub use lookup4::FourAnswers;
 pub use opening::{Opening, Opens};
 pub use view::{Role, View};
 pub use words::{SharedWords, open};

@@ -191,7 +191,7 @@ impl WorkerSeat {
 
     /// Loads the sequence: a lookup of these addresses begins.
     #[inline]
-    pub(crate) fn begin_lookup<T: Opens>(&mut self, table: &SharedWords<T>, addrs: &[u64]) -> u64
+    pub fn begin_lookup<T: Opens>(&mut self, table: &SharedWords<T>, addrs: &[u64]) -> u64
         requires own { IsOf table.now.board.shared.table_id (T.opened table.now.board.shared.key)
             table.now.layout self.old.place.table_id self.old.place.me.0 }
         requires online { (worker_by self.old.place.me.0.own).phase ≡ Online }
@@ -242,7 +242,7 @@ impl WorkerSeat {
 
     /// Loads the sequence: the lookup, of which each address has its answer, ends.
     #[inline]
-    pub(crate) fn end_lookup<T: Opens>(&mut self, table: &SharedWords<T>) -> u64
+    pub fn end_lookup<T: Opens>(&mut self, table: &SharedWords<T>) -> u64
         requires own { IsOf table.now.board.shared.table_id (T.opened table.now.board.shared.key)
             table.now.layout self.old.place.table_id self.old.place.me.0 }
         requires looking { (worker_by self.old.place.me.0.own).phase ≡ LookingUp }

@@ -1,8 +1,8 @@
 use Rattle.std.proofs.Common.{◌≡◌, ℕ, ◌+◌, ◌/◌, ◌%◌, [], ◌∷◌, refl, subst, arith}
 use Rattle.lpm_trace.specs.declared.step.WorkerStep.TheVariants.{Begins}
 use Rattle.shared_words.specs.Seats.{Gains}
-use Rattle.shared_words.proofs.Deeds.{firsts_are, looked}
-use Rattle.shared_words.proofs.worker.WorkerSeat.lookup.Goals as goal
+use Rattle.shared_deeds.proofs.Deeds.{firsts_are, looked}
+use Rattle.shared_deeds.proofs.lookup.lookup.Goals as goal
 
 pub load_words-word-requires-clause-firsts : goal.load_words-word-requires-clause-firsts
 load_words-word-requires-clause-firsts g c =
@@ -10,7 +10,7 @@ load_words-word-requires-clause-firsts g c =
 
 pub returns-clause-answer : goal.returns-clause-answer
 returns-clause-answer g c =
-    let v = c.args.self.now.place.me.0 in
+    let v = c.args.seat.now.place.me.0 in
     let begun = c.begin_lookup-low.new.self.place.me.0 in
     let low = c.begin_lookup-low.result in
     let high = c.end_lookup-high.result in

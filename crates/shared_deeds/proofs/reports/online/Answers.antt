@@ -1,6 +1,6 @@
 use Rattle.lpm_trace.specs.declared.step.WorkerStep.TheVariants.{LoadOnline, StoreOnline}
-use Rattle.shared_words.proofs.Deeds.{two_steps, two_on}
-use Rattle.shared_words.proofs.worker.WorkerSeat.online.Goals as goal
+use Rattle.shared_deeds.proofs.Deeds.{two_steps, two_on}
+use Rattle.shared_deeds.proofs.reports.online.Goals as goal
 
 pub returns-clause-steps : goal.returns-clause-steps
 returns-clause-steps g c =

@@ -19,7 +19,7 @@ use Rattle.shared_words.specs.declared.view.View.{View}
 use Rattle.shared_words.specs.Opened.{Opened, setup_of}
 use Rattle.shared_words.specs.Rule.{IsLater}
 use Rattle.shared_words.specs.Seats.{Gains}
-use Rattle.shared_words.specs.Deeds.{GainsAll, GoesOn, IsReadOn, LoadsAround, LoadsWords, LooksUp}
+use Rattle.shared_deeds.specs.Deeds.{GainsAll, GoesOn, IsReadOn, LoadsAround, LoadsWords, LooksUp}
 
 -- ---- one step
 

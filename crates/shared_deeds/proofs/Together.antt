@@ -12,8 +12,8 @@ use Rattle.lpm_trace.specs.Laws.{IsLegalAtPlace}
 use Rattle.shared_words.specs.declared.view.View.{View}
 use Rattle.shared_words.specs.Opened.{Opened, setup_of}
 use Rattle.shared_words.specs.Seats.{Gains, IsSecondAt}
-use Rattle.shared_words.specs.Deeds.{GainsAll, GoesOn, LoadsFirsts, LoadsLast, IsNextWith, LooksUpAll, first_words, is_group}
-use Rattle.shared_words.proofs.Deeds.{gains_on, goes_on, gains_state, goes_after, around, later_longer, answered}
+use Rattle.shared_deeds.specs.Deeds.{GainsAll, GoesOn, LoadsFirsts, LoadsLast, IsNextWith, LooksUpAll, first_words, is_group}
+use Rattle.shared_deeds.proofs.Deeds.{gains_on, goes_on, gains_state, goes_after, around, later_longer, answered}
 
 -- ---- the probes of a lookup
 

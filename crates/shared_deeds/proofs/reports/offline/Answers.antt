@@ -1,5 +1,5 @@
 use Rattle.std.proofs.Common.{rules}
-use Rattle.shared_words.proofs.worker.WorkerSeat.offline.Goals as goal
+use Rattle.shared_deeds.proofs.reports.offline.Goals as goal
 
 pub returns-clause-steps : goal.returns-clause-steps
 returns-clause-steps g c = search rules

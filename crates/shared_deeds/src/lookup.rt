@@ -1,0 +1,75 @@
+//! The lookup of an address.
+
+ghost use Rattle.std.specs.Prelude.{◌≡◌, ℕ, ◌+◌, ◌^◌, ◌<◌, length, [], ◌∷◌};
+ghost use Rattle.lpm_bits.specs.Widths.{IsShape};
+ghost use Rattle.lpm_entry.specs.Words.{IsLastWord};
+ghost use Rattle.lpm_trace.specs.Trace.{worker_by};
+ghost use Rattle.lpm_trace.specs.Workers.{Online, LookingUp, Unread};
+ghost use Rattle.shared_words.specs.Seats.{IsOf};
+ghost use Rattle.shared_deeds.specs.Deeds.{LoadsWords, LooksUp};
+
+use lpm_bits::{Hop, Shape};
+use lpm_entry::Entry;
+use lpm_rules::Answer;
+use shared_words::{Opens, SharedWords, WorkerSeat};
+
+/// The next hop of the longest rule that covers the address, as a version has it that stood while the
+/// words were loaded.
+#[inline]
+pub fn lookup<const FIRST: u32, const SECOND: u32, T: Opens>(
+    seat: &mut WorkerSeat,
+    table: &SharedWords<T>,
+    addr: u32,
+) -> Answer
+    requires own { IsOf table.now.board.shared.table_id (T.opened table.now.board.shared.key)
+        table.now.layout seat.old.place.table_id seat.old.place.me.0 }
+    requires shape { IsShape FIRST SECOND }
+    requires first { seat.old.place.me.0.opening.first ≡ FIRST }
+    requires second { seat.old.place.me.0.opening.second ≡ SECOND }
+    requires online { (worker_by seat.old.place.me.0.own).phase ≡ Online }
+    requires addr { addr < 2 ^ (FIRST + SECOND) }
+    ensures own { seat.new.place.table_id ≡ seat.old.place.table_id }
+    ensures answer { LooksUp addr result.hop result.lo result.hi
+        seat.old.place.me.0 seat.new.place.me.0 }
+{
+    let low = seat.begin_lookup(table, &[u64::from(addr)]);
+    let word = load_words::<FIRST, SECOND, T>(seat, table, addr);
+    let high = seat.end_lookup(table);
+    Answer {
+        hop: Entry::hop_of_last_word::<FIRST, SECOND>(word),
+        lo: low / 2,
+        hi: high / 2 + high % 2,
+    }
+}
+
+/// Loads the words of an address that is looked up alone. It returns the one that answers.
+#[inline]
+fn load_words<const FIRST: u32, const SECOND: u32, T: Opens>(
+    seat: &mut WorkerSeat,
+    table: &SharedWords<T>,
+    addr: u32,
+) -> u64
+    requires own { IsOf table.now.board.shared.table_id (T.opened table.now.board.shared.key)
+        table.now.layout seat.old.place.table_id seat.old.place.me.0 }
+    requires shape { IsShape FIRST SECOND }
+    requires first { seat.old.place.me.0.opening.first ≡ FIRST }
+    requires second { seat.old.place.me.0.opening.second ≡ SECOND }
+    requires firsts { length seat.old.place.me.0.opening.firsts ≡ 2 ^ FIRST }
+    requires addr { addr < 2 ^ (FIRST + SECOND) }
+    requires looking { (worker_by seat.old.place.me.0.own).phase ≡ LookingUp }
+    requires unread { (worker_by seat.old.place.me.0.own).probes ≡ Unread addr ∷ [] }
+    ensures own { seat.new.place.table_id ≡ seat.old.place.table_id }
+    ensures last { IsLastWord (FIRST + SECOND) result }
+    ensures words { LoadsWords addr result seat.old.place.me.0 seat.new.place.me.0 }
+{
+    let index = Shape::<FIRST, SECOND>::first_index(addr);
+    let word = seat.load_first(table, index);
+    match Entry::group_of_word::<FIRST, SECOND>(word) {
+        None => word,
+        Some(group) => {
+            let base = (group as usize) << SECOND;
+            let index = base + Shape::<FIRST, SECOND>::second_index(addr);
+            seat.load_second(table, index)
+        }
+    }
+}

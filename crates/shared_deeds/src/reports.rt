@@ -1,0 +1,59 @@
+//! The reports of a worker.
+
+ghost use Rattle.std.specs.Prelude.{◌≡◌, ℕ, ◌<◌, [], ◌∷◌};
+ghost use Rattle.lpm_trace.specs.declared.step.WorkerStep.TheVariants.{LoadOnline, StoreOnline, LoadQuiescent, StoreQuiescent, StoreOffline};
+ghost use Rattle.lpm_trace.specs.Trace.{worker_by};
+ghost use Rattle.lpm_trace.specs.Workers.{Offline, Online};
+ghost use Rattle.shared_words.specs.Seats.{IsOf};
+ghost use Rattle.shared_deeds.specs.Deeds.{GainsAll, GoesOn};
+
+use shared_words::{Opens, SharedWords, WorkerSeat};
+
+/// Reports that the worker is online: stores the token that it loads in the worker's counter.
+#[inline]
+pub fn online<T: Opens>(seat: &mut WorkerSeat, table: &SharedWords<T>)
+    requires own { IsOf table.now.board.shared.table_id (T.opened table.now.board.shared.key)
+        table.now.layout seat.old.place.table_id seat.old.place.me.0 }
+    requires inside { seat.old.number < table.now.layout.workers }
+    requires offline { (worker_by seat.old.place.me.0.own).phase ≡ Offline }
+    ensures own { seat.new.place.table_id ≡ seat.old.place.table_id }
+    ensures steps { (token : ℕ) × GainsAll (StoreOnline token ∷ LoadOnline token ∷ [])
+        seat.old.place.me.0 seat.new.place.me.0 }
+    ensures rest { GoesOn seat.old.place.me.0 seat.new.place.me.0 }
+    ensures online { (worker_by seat.new.place.me.0.own).phase ≡ Online }
+{
+    let token = seat.load_online(table);
+    seat.store_online(table, token);
+}
+
+/// Reports that the worker is quiescent: stores the token that it loads in the worker's counter.
+#[inline]
+pub fn quiescent<T: Opens>(seat: &mut WorkerSeat, table: &SharedWords<T>)
+    requires own { IsOf table.now.board.shared.table_id (T.opened table.now.board.shared.key)
+        table.now.layout seat.old.place.table_id seat.old.place.me.0 }
+    requires inside { seat.old.number < table.now.layout.workers }
+    requires online { (worker_by seat.old.place.me.0.own).phase ≡ Online }
+    ensures own { seat.new.place.table_id ≡ seat.old.place.table_id }
+    ensures steps { (token : ℕ) × GainsAll (StoreQuiescent token ∷ LoadQuiescent token ∷ [])
+        seat.old.place.me.0 seat.new.place.me.0 }
+    ensures rest { GoesOn seat.old.place.me.0 seat.new.place.me.0 }
+    ensures online { (worker_by seat.new.place.me.0.own).phase ≡ Online }
+{
+    let token = seat.load_quiescent(table);
+    seat.store_quiescent(table, token);
+}
+
+/// Reports that the worker is offline: stores 0 in the worker's counter.
+#[inline]
+pub fn offline<T: Opens>(seat: &mut WorkerSeat, table: &SharedWords<T>)
+    requires own { IsOf table.now.board.shared.table_id (T.opened table.now.board.shared.key)
+        table.now.layout seat.old.place.table_id seat.old.place.me.0 }
+    requires inside { seat.old.number < table.now.layout.workers }
+    requires online { (worker_by seat.old.place.me.0.own).phase ≡ Online }
+    ensures own { seat.new.place.table_id ≡ seat.old.place.table_id }
+    ensures steps { GainsAll (StoreOffline ∷ []) seat.old.place.me.0 seat.new.place.me.0 }
+    ensures rest { GoesOn seat.old.place.me.0 seat.new.place.me.0 }
+    ensures offline { (worker_by seat.new.place.me.0.own).phase ≡ Offline }
+{
+    seat.store_offline(table);
+}
