@@ -8,7 +8,7 @@ use super::asserting::assert_at;
 use lpm_bits::{Hop, Prefix, Shape};
 use lpm_cells::{Cells, PlainCells};
 use lpm_rules::Rules;
-use lpm_update::{Did, Update, laws};
+use lpm_update::{Did, Update};
 use std::alloc::{AllocError, Global};
 use std::marker::Model;
 use std::process::Abort;
@@ -268,16 +268,16 @@ fn order_under_a_group(rt: HostRuntime) -> Result<(), Fail> {
 
 #[test]
 fn laws_are_called() {
-    laws::run_begins();
-    laws::run_goes_on();
-    laws::run_ends();
-    laws::no_word_twice();
-    laws::next_store();
-    laws::answers_turn_once();
-    laws::best_is_longest();
-    laws::blank_represents();
-    laws::linked_are_deep();
-    laws::tied_same();
-    laws::tied_gone();
-    laws::tied_taken();
+    update_laws::run_begins();
+    update_laws::run_goes_on();
+    update_laws::run_ends();
+    update_laws::no_word_twice();
+    update_laws::next_store();
+    update_laws::answers_turn_once();
+    update_laws::best_is_longest();
+    update_laws::blank_represents();
+    update_laws::linked_are_deep();
+    update_laws::tied_same();
+    update_laws::tied_gone();
+    update_laws::tied_taken();
 }

@@ -13,13 +13,4 @@ pub mod Blocks
 pub mod Outcomes
 pub mod Beginning
 pub mod Begins
-pub mod Onward
-pub mod Turns
-pub mod Once
-pub mod Next
-pub mod Runs
 pub mod Advancing
-pub mod Ties
-pub mod Blank
-pub mod DeepCounts
-pub mod Promises

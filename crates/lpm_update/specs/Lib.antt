@@ -10,4 +10,3 @@ pub mod Update
 pub mod Step
 pub mod Tied
 pub mod Runs
-pub mod Laws

@@ -2,7 +2,6 @@
 #![tactic(auto)]
 
 mod flush;
-pub mod laws;
 mod link_group;
 mod rewrite;
 mod rewrite_range;

@@ -7,14 +7,14 @@ use Rattle.lpm_cells.specs.Table.{Words, entry_at, with_first, with_second}
 use Rattle.lpm_groups.specs.declared.GroupState.{GroupState}
 use Rattle.lpm_update.specs.declared.update.Plan.{Plan}
 use Rattle.lpm_update.specs.LinkGroup.{final_entry}
-use Rattle.lpm_update.specs.Laws.{StoreMoves}
+use Rattle.update_laws.specs.Laws.{StoreMoves}
 use Rattle.lpm_update.specs.Runs.{HasCome}
 use Rattle.lpm_update.specs.Tied.{IsTied}
 use Rattle.lpm_update.specs.Update.{IsNextFirst, IsNextSecond, IsNextUnlink, IsOnward, IsOver, entry_after, from_of, end_of, rewrite_of, group_held}
-use Rattle.lpm_update.proofs.Next.{next_store, next_first, next_second, next_unlink}
-use Rattle.lpm_update.proofs.Turns.{from_same, end_same, rewrite_same}
+use Rattle.update_laws.proofs.Next.{next_store, next_first, next_second, next_unlink}
+use Rattle.update_laws.proofs.Turns.{from_same, end_same, rewrite_same}
 use Rattle.lpm_update.proofs.Groups.{last_none}
-use Rattle.lpm_update.proofs.Runs.{over_entries}
+use Rattle.update_laws.proofs.Runs.{over_entries}
 use Rattle.lpm_trace.specs.declared.step.WriterStep.{WriterStep}
 use Rattle.lpm_trace.specs.declared.step.WriterStep.TheVariants.{StoreFirst, StoreSecond, Closes}
 use Rattle.lpm_trace.specs.Tables.{Setup, Tables, Status, Unused, Linked, Retired, tables, addresses, answer, IsAnswer, done, begun, is_same, turned_by, IsFree, MayFill, MayLink, Moves}

@@ -15,7 +15,7 @@ use Rattle.lpm_update.specs.Runs.{HasCome, Leads, RunsOn, AllowsAlong}
 use Rattle.lpm_update.specs.Step.{Steps, AllowsNext}
 use Rattle.lpm_update.specs.Tied.{IsTied, SameLinksBut}
 use Rattle.lpm_update.specs.Update.{group_held}
-use Rattle.lpm_update.proofs.Promises.{run_goes_on, run_ends, tied_same, tied_gone}
+use Rattle.update_laws.proofs.Promises.{run_goes_on, run_ends, tied_same, tied_gone}
 use Rattle.lpm_trace.specs.declared.step.WriterStep.{WriterStep}
 use Rattle.lpm_trace.specs.declared.step.WriterStep.TheVariants.{StoreFirst, StoreSecond}
 use Rattle.lpm_trace.specs.Tables.{Setup, tables}

@@ -16,7 +16,7 @@ use Rattle.std.proofs.lemmas.Bool.{cases_eq}
 use Rattle.lpm_update.proofs.Groups.{last_none, here_is, there_is}
 use Rattle.lpm_update.proofs.Places.{word_entry}
 use Rattle.lpm_update.proofs.Unlinks.{some_group, unlink_word}
-use Rattle.lpm_update.proofs.Onward.{by_kind}
+use Rattle.update_laws.proofs.Onward.{by_kind}
 use Rattle.lpm_writer.specs.Making.{filling, unless_linked, IsTakenBy}
 
 none_last : (e : Entry) → group_in e ≡ None → IsLast e

@@ -13,8 +13,8 @@ use Rattle.lpm_groups.proofs.Tallies.{limbo_count-replicate}
 use Rattle.lpm_limits.specs.Limits.{IsConfig}
 use Rattle.lpm_limits.specs.declared.config.Config.{Config}
 use Rattle.lpm_rules.specs.RuleMap.{network_cmp}
-use Rattle.lpm_update.specs.Laws.{blank_words}
-use Rattle.lpm_update.proofs.Promises.{blank, best_hop}
+use Rattle.update_laws.specs.Laws.{blank_words}
+use Rattle.update_laws.proofs.Promises.{blank, best_hop}
 use Rattle.lpm_trace.specs.Tables.{Unused, Retired, IsSettled}
 use Rattle.lpm_writer.specs.declared.books.Books.{Books}
 use Rattle.lpm_writer.specs.Opening.{opening_setup}

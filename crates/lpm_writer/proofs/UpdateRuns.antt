@@ -15,8 +15,8 @@ use Rattle.lpm_update.specs.Update.{IsNextFirst, IsNextSecond, IsNextUnlink, IsO
 use Rattle.lpm_update.specs.Linked.{group_at}
 use Rattle.lpm_update.specs.Runs.{HasCome}
 use Rattle.lpm_update.proofs.Groups.{last_none}
-use Rattle.lpm_update.proofs.Runs.{run_goes_on}
-use Rattle.lpm_update.proofs.Next.{next_store, next_first}
+use Rattle.update_laws.proofs.Runs.{run_goes_on}
+use Rattle.update_laws.proofs.Next.{next_store, next_first}
 use Rattle.lpm_trace.specs.declared.step.WriterStep.{WriterStep}
 use Rattle.lpm_trace.specs.declared.step.WriterStep.TheVariants.{StoreFirst, StoreSecond}
 use Rattle.lpm_trace.specs.Tables.{Setup, Tables, tables, first_entry}

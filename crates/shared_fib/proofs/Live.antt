@@ -19,7 +19,7 @@ use Rattle.lpm_rules.specs.RuleMap.{RuleMap}
 use Rattle.lpm_update.specs.Linked.{group_at}
 use Rattle.lpm_update.specs.Represents.{Represents}
 use Rattle.lpm_update.specs.Tied.{IsTied, HasGroupRoom}
-use Rattle.lpm_update.proofs.Promises.{best_hop}
+use Rattle.update_laws.proofs.Promises.{best_hop}
 use Rattle.lpm_trace.specs.Tables.{Unused, Linked as LinkedTo, Retired, IsFree, IsSettled}
 use Rattle.lpm_writer.specs.Resting.{IsResting}
 use Rattle.shared_words.specs.Opened.{Opened, status_of, setup_of}

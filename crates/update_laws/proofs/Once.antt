@@ -19,7 +19,7 @@ use Rattle.lpm_update.specs.UnlinkGroup.{IsUnlinking}
 use Rattle.lpm_update.specs.Step.{Steps, Stored, HasPassed, HeldAlong}
 use Rattle.lpm_update.specs.Runs.{IsSameWord}
 use Rattle.lpm_update.proofs.Unlinks.{some_group, both_ways}
-use Rattle.lpm_update.proofs.Onward.{by_kind}
+use Rattle.update_laws.proofs.Onward.{by_kind}
 
 -- ---- what is passed stays so
 

@@ -6,19 +6,19 @@ use Rattle.lpm_update.specs.declared.update.Plan.{Plan}
 use Rattle.lpm_update.specs.Linked.{IsTable}
 use Rattle.lpm_update.specs.Update.{IsUnderWay}
 use Rattle.lpm_update.specs.Step.{AllowsNext}
-use Rattle.lpm_update.proofs.Next.{next_store as next}
-pub use Rattle.lpm_update.proofs.Runs.{run_begins, run_goes_on, run_ends, no_word_twice}
-pub use Rattle.lpm_update.proofs.Next.{next_store, next_first, next_second, next_unlink}
-pub use Rattle.lpm_update.proofs.Turns.{answers_turn_once, from_same, end_same, rewrite_same}
-pub use Rattle.lpm_update.proofs.Once.{held_same}
+use Rattle.update_laws.proofs.Next.{next_store as next}
+pub use Rattle.update_laws.proofs.Runs.{run_begins, run_goes_on, run_ends, no_word_twice}
+pub use Rattle.update_laws.proofs.Next.{next_store, next_first, next_second, next_unlink}
+pub use Rattle.update_laws.proofs.Turns.{answers_turn_once, from_same, end_same, rewrite_same}
+pub use Rattle.update_laws.proofs.Once.{held_same}
 pub use Rattle.lpm_update.proofs.Rules.{best_hop}
-pub use Rattle.lpm_update.proofs.Blank.{blank}
-pub use Rattle.lpm_update.proofs.DeepCounts.{linked_deep}
+pub use Rattle.update_laws.proofs.Blank.{blank}
+pub use Rattle.update_laws.proofs.DeepCounts.{linked_deep}
 pub use Rattle.lpm_update.proofs.Groups.{no_group_at, last_none, first_within}
 pub use Rattle.lpm_update.proofs.Places.{word_entry, followed_last}
-pub use Rattle.lpm_update.proofs.Onward.{by_kind}
+pub use Rattle.update_laws.proofs.Onward.{by_kind}
 pub use Rattle.lpm_update.proofs.Unlinks.{some_group}
-pub use Rattle.lpm_update.proofs.Ties.{tied_same, tied_gone, tied_taken}
+pub use Rattle.update_laws.proofs.Ties.{tied_same, tied_gone, tied_taken}
 pub use Rattle.lpm_update.proofs.Visits.{past_group}
 
 -- cells that allow each word that a table may hold at its place allow the next store

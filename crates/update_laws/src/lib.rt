@@ -1,7 +1,9 @@
-//! What an upper layer needs of a change. Each function does nothing: its contract is the law. The
-//! statement is in `specs/Laws.antt`, and an upper crate cites the proof in `proofs/Promises.antt`.
+//! What an upper layer needs of a change of a table: how it begins, goes on and ends, and what the words
+//! answer meanwhile. Each function does nothing: its contract is the law. The statement is in
+//! `specs/Laws.antt`, and an upper crate cites the proof in `proofs/Promises.antt`.
+#![tactic(auto)]
 
-ghost use Rattle.lpm_update.specs.Laws.{RunBegins, RunGoesOn, RunEnds, NoWordTwice, NextStore, AnswersTurnOnce, BestIsLongest, BlankRepresents, LinkedAreDeep, TiedSame, TiedGone, TiedTaken};
+ghost use Rattle.update_laws.specs.Laws.{RunBegins, RunGoesOn, RunEnds, NoWordTwice, NextStore, AnswersTurnOnce, BestIsLongest, BlankRepresents, LinkedAreDeep, TiedSame, TiedGone, TiedTaken};
 
 /// A change that may begin has come as far as its beginning.
 #[tactic(auto, using(crate::proofs::Promises::run_begins))]

@@ -11,7 +11,7 @@ use Rattle.lpm_cells.specs.Table.{Words}
 use Rattle.lpm_update.specs.Linked.{IsTable, group_at}
 use Rattle.lpm_update.specs.Represents.{IsFreshGroup}
 use Rattle.lpm_update.specs.Tied.{IsTied, HasGroupRoom}
-use Rattle.lpm_update.specs.Laws.{TiedSame, TiedGone, TiedTaken}
+use Rattle.update_laws.specs.Laws.{TiedSame, TiedGone, TiedTaken}
 use Rattle.lpm_update.proofs.Groups.{here_is, there_is}
 use Rattle.lpm_update.proofs.Visits.{past_group}
 

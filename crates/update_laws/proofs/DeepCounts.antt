@@ -18,9 +18,9 @@ use Rattle.lpm_rules.specs.Deep.{deep_blocks}
 use Rattle.lpm_rules.proofs.Deep.{has_deep_blocks, deep_below}
 use Rattle.lpm_update.specs.Represents.{HasDeepGroups}
 use Rattle.lpm_update.specs.Linked.{group_at}
-use Rattle.lpm_update.specs.Laws.{LinkedAreDeep}
+use Rattle.update_laws.specs.Laws.{LinkedAreDeep}
 use Rattle.lpm_update.specs.Tied.{IsTied}
-use Rattle.lpm_update.proofs.Ties.{tied_once}
+use Rattle.update_laws.proofs.Ties.{tied_once}
 
 -- a number that differs from each of the list is not among them
 none_tied : (k : ℕ) (ks : List ℕ) → AllByRecursion (λ y. nat_eq k y ≡ false) ks → list_any (eq_by_cmp nat_cmp k) ks ≡ false

@@ -15,14 +15,14 @@ use Rattle.lpm_update.specs.Update.{IsUnderWay, IsNextFirst, IsNextSecond, IsNex
 use Rattle.lpm_update.specs.Step.{Steps}
 use Rattle.lpm_entry.specs.declared.Entry.{Entry}
 use Rattle.lpm_update.specs.UnlinkGroup.{IsUnlinkStore}
-use Rattle.lpm_update.specs.Laws.{Moves, NextStore}
+use Rattle.update_laws.specs.Laws.{Moves, NextStore}
 use Rattle.lpm_update.proofs.Groups.{first_within}
 use Rattle.lpm_update.proofs.Visits.{place_within}
 use Rattle.lpm_update.proofs.RangeSteps.{range_first, range_second, range_done}
 use Rattle.lpm_update.proofs.Links.{next_place, link_fill, link_link}
 use Rattle.lpm_update.proofs.Unlinks.{unlink_range, unlink_link}
 use Rattle.lpm_update.proofs.Flushes.{come_to, flush_first, flush_unlink}
-use Rattle.lpm_update.proofs.Turns.{answers_turn_once}
+use Rattle.update_laws.proofs.Turns.{answers_turn_once}
 
 -- the range that has come to that address
 abbrev moved_to : RewriteRange → ℕ → RewriteRange

@@ -13,9 +13,9 @@ use Rattle.lpm_update.specs.declared.update.Plan.TheVariants.{Range, Link, Unlin
 use Rattle.lpm_update.specs.Rewrite.{changed, Stands}
 use Rattle.lpm_update.specs.LinkGroup.{final_entry, reached}
 use Rattle.lpm_update.specs.Update.{IsUnderWay, IsOnward, from_of, end_of, reached_of, rewrite_of, group_after}
-use Rattle.lpm_update.specs.Laws.{AnswersTurnOnce, Moves}
+use Rattle.update_laws.specs.Laws.{AnswersTurnOnce, Moves}
 use Rattle.lpm_update.proofs.Links.{range_true, reached_low, reached_high}
-use Rattle.lpm_update.proofs.Onward.{by_kind}
+use Rattle.update_laws.proofs.Onward.{by_kind}
 
 -- ---- where the change has come
 

@@ -13,8 +13,8 @@ use Rattle.lpm_cells.specs.Table.{entry_at, followed}
 use Rattle.lpm_cells.proofs.Blank.{blank as blank_cells}
 use Rattle.lpm_update.specs.Best.{IsBest}
 use Rattle.lpm_update.specs.Linked.{IsLinkTo}
-use Rattle.lpm_update.specs.Laws.{BlankRepresents, blank_words}
-use Rattle.lpm_update.proofs.Ties.{tied_none}
+use Rattle.update_laws.specs.Laws.{BlankRepresents, blank_words}
+use Rattle.update_laws.proofs.Ties.{tied_none}
 
 word_at : (n i : ℕ) → slice_index (replicate n (word_of Miss)) i ≡ word_of Miss
 word_at n i = elim (cases_lt i n) [

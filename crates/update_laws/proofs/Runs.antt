@@ -18,12 +18,12 @@ use Rattle.lpm_update.specs.Best.{IsBest}
 use Rattle.lpm_update.specs.Update.{StandsSoFar, HasGroups, IsOnward, IsOver, SameGroups, group_held, entry_after, from_of, end_of, rewrite_of}
 use Rattle.lpm_update.specs.Step.{Stored, HasPassed}
 use Rattle.lpm_update.specs.Runs.{Runs, HasCome, IsSameWord}
-use Rattle.lpm_update.specs.Laws.{RunBegins, RunGoesOn, RunEnds, NoWordTwice}
+use Rattle.update_laws.specs.Laws.{RunBegins, RunGoesOn, RunEnds, NoWordTwice}
 use Rattle.lpm_update.proofs.Groups.{held_by, there_is}
 use Rattle.lpm_update.proofs.Uniform.{stands_final}
-use Rattle.lpm_update.proofs.Onward.{onward_same, onward_on}
-use Rattle.lpm_update.proofs.Turns.{from_same, end_same, rewrite_same, groups_same}
-use Rattle.lpm_update.proofs.Once.{passed_stays, not_twice}
+use Rattle.update_laws.proofs.Onward.{onward_same, onward_on}
+use Rattle.update_laws.proofs.Turns.{from_same, end_same, rewrite_same, groups_same}
+use Rattle.update_laws.proofs.Once.{passed_stays, not_twice}
 
 -- ---- one step after another
 
