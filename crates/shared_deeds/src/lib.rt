@@ -4,10 +4,10 @@
 //! No call here waits or takes memory.
 #![tactic(auto)]
 
-mod lookup;
-mod lookup4;
+mod address;
+mod four_addresses;
 mod reports;
 
-pub use lookup::lookup;
-pub use lookup4::{FourAnswers, lookup4};
+pub use address::lookup;
+pub use four_addresses::{FourAnswers, lookup4};
 pub use reports::{offline, online, quiescent};

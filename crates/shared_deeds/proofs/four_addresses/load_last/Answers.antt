@@ -2,7 +2,7 @@ use Rattle.std.proofs.Common.{◌+◌, ◌*◌, ◌%◌, ◌^◌, ◌<◌, sym, 
 use Rattle.std.proofs.lemmas.Nat.{shl_whole}
 use Rattle.lpm_entry.specs.Words.{IsEntry}
 use Rattle.shared_deeds.proofs.Together.{no_second, begun_with, second_with, second_loaded}
-use Rattle.shared_deeds.proofs.lookup4.load_last.Goals as goal
+use Rattle.shared_deeds.proofs.four_addresses.load_last.Goals as goal
 
 pub load_second-requires-clause-begun : goal.load_second-requires-clause-begun
 load_second-requires-clause-begun g c =

@@ -1,7 +1,7 @@
 use Rattle.std.proofs.Common.{◌+◌, ◌^◌, ◌<◌, rules}
 use Rattle.shared_deeds.proofs.Deeds.{all_four}
 use Rattle.shared_deeds.proofs.Together.{firsts_loaded}
-use Rattle.shared_deeds.proofs.lookup4.load_firsts.Goals as goal
+use Rattle.shared_deeds.proofs.four_addresses.load_firsts.Goals as goal
 
 pub returns-clause-loads : goal.returns-clause-loads
 returns-clause-loads g c =

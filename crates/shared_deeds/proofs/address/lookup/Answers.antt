@@ -2,7 +2,7 @@ use Rattle.std.proofs.Common.{◌≡◌, ℕ, ◌+◌, ◌/◌, ◌%◌, [], ◌
 use Rattle.lpm_trace.specs.declared.step.WorkerStep.TheVariants.{Begins}
 use Rattle.shared_words.specs.Seats.{Gains}
 use Rattle.shared_deeds.proofs.Deeds.{firsts_are, looked}
-use Rattle.shared_deeds.proofs.lookup.lookup.Goals as goal
+use Rattle.shared_deeds.proofs.address.lookup.Goals as goal
 
 pub load_words-word-requires-clause-firsts : goal.load_words-word-requires-clause-firsts
 load_words-word-requires-clause-firsts g c =

@@ -1,5 +1,5 @@
 use Rattle.shared_deeds.proofs.Deeds.{one_word, two_words}
-use Rattle.shared_deeds.proofs.lookup.load_words.Goals as goal
+use Rattle.shared_deeds.proofs.address.load_words.Goals as goal
 
 pub returns-in-None-clause-words : goal.returns-in-None-clause-words
 returns-in-None-clause-words g c =

@@ -1,7 +1,7 @@
 use Rattle.std.proofs.Common.{◌≡◌, ◌+◌, ◌/◌, ◌%◌, refl, arith}
 use Rattle.shared_deeds.proofs.Deeds.{firsts_are, gains_on, goes_on, words_fit}
 use Rattle.shared_deeds.proofs.Together.{same_four, next_a, next_b, next_c, next_d, looking_b, looking_c, looking_d, looking_end, all_answered, looked_together}
-use Rattle.shared_deeds.proofs.lookup4.lookup4.Goals as goal
+use Rattle.shared_deeds.proofs.four_addresses.lookup4.Goals as goal
 
 pub load_firsts-w-requires-clause-firsts : goal.load_firsts-w-requires-clause-firsts
 load_firsts-w-requires-clause-firsts g c =
