@@ -10,8 +10,8 @@ use Rattle.shared_words.specs.declared.view.Role.{Role}
 use Rattle.shared_words.specs.declared.view.View.{View}
 use Rattle.shared_words.specs.Rule.{IsLater}
 use Rattle.shared_words.specs.Seats.{Gains}
-use Rattle.shared_words.specs.Deeds.{GoesOn}
-use Rattle.shared_words.proofs.Deeds.{between, goes_on}
+use Rattle.shared_deeds.specs.Deeds.{GoesOn}
+use Rattle.shared_deeds.proofs.Deeds.{between, goes_on}
 use Rattle.shared_fib.specs.Running.{Identity, WriterState, PassState, IsAtRest, IsOffline, identity_of, steps_of}
 use Rattle.bulk.specs.declared.desk.Desk.{Desk}
 use Rattle.bulk.specs.Pieces.{piece_of}

@@ -12,8 +12,8 @@ use Rattle.lpm_trace.proofs.Traces.{at_now}
 use Rattle.shared_words.specs.declared.view.View.{View}
 use Rattle.shared_words.specs.Opened.{Opened, setup_of}
 use Rattle.shared_words.specs.Rule.{IsLater}
-use Rattle.shared_words.specs.Deeds.{LooksUp}
-use Rattle.shared_words.proofs.Deeds.{after_all, between, later_trans}
+use Rattle.shared_deeds.specs.Deeds.{LooksUp}
+use Rattle.shared_deeds.proofs.Deeds.{after_all, between, later_trans}
 use Rattle.shared_fib.specs.Running.{Identity, WriterState, IsAtRest, setup, steps_of}
 use Rattle.bulk.specs.Desks.{AnswersAtRest}
 

@@ -4,7 +4,7 @@ ghost use Rattle.std.specs.Prelude.{◌≡◌, ◌+◌, ◌^◌, ℕ, ◌<◌, �
 ghost use Rattle.std.specs.Prelude.{length, map, slice_index_or, vec_len, vec_capacity};
 ghost use Rattle.std.specs.List.{flat_map};
 ghost use Rattle.lpm_rules.specs.Longest.{AreLongestHops};
-ghost use Rattle.shared_words.specs.Deeds.{GoesOn};
+ghost use Rattle.shared_deeds.specs.Deeds.{GoesOn};
 ghost use Rattle.shared_fib.specs.Running.{IsOnline, identity_of};
 ghost use Rattle.bulk.specs.Pieces.{piece_of};
 ghost use Rattle.bulk.specs.Desks.{IsDeskOf, role_of, EachDesk, HaveRoom, HasMet, HasAnswered, AnswersAtRest};

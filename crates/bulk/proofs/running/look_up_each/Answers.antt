@@ -1,6 +1,6 @@
 use Rattle.std.proofs.Common.{◌<◌, length, take, ap, ◌∙◌, arith}
 use Rattle.std.proofs.lemmas.List.{take_more, take_more_set}
-use Rattle.shared_words.proofs.Deeds.{goes_on}
+use Rattle.shared_deeds.proofs.Deeds.{goes_on}
 use Rattle.shared_fib.specs.Running.{Identity}
 use Rattle.bulk.proofs.Meetings.{goes_nowhere}
 use Rattle.bulk.proofs.Resting.{answers_more}

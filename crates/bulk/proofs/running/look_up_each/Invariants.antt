@@ -1,5 +1,5 @@
 use Rattle.std.proofs.Common.{◌≡◌, length, take, vec_len}
-use Rattle.shared_words.specs.Deeds.{GoesOn}
+use Rattle.shared_deeds.specs.Deeds.{GoesOn}
 use Rattle.shared_fib.specs.Running.{IsOnline, identity_of}
 use Rattle.bulk.specs.Desks.{AnswersAtRest}
 use Rattle.bulk.proofs.running.look_up_each.Given as goal
