@@ -50,12 +50,14 @@ run_ends f s config limits script scripts as_many schedule steps shown performed
     record {
       steps = played.trace;
       beyond = played.beyond;
-      trace = played.may_come;
+      trace = record {
+        may_come = played.may_come;
+        scripted = played.scripted;
+        performed = subst (IsPerformed c f s config (writer_items schedule) opening_kept script shown.replies.items) played.split performed;
+      };
       cut = played.at_end;
       scheduled = subst (λ n. IsScheduled (HasEnded n (script_at scripts) (λ earlier. writes earlier ≡ played.beyond ++ writes played.trace)) (reverse schedule) played.trace) as_many
           (subst (λ xs. IsScheduled (HasEnded (length scripts) (script_at scripts) (λ earlier. writes earlier ≡ xs)) (reverse schedule) played.trace) played.split played.made);
-      scripted = played.scripted;
-      performed = subst (IsPerformed c f s config (writer_items schedule) opening_kept script shown.replies.items) played.split performed;
       shows_steps = played.shown;
       shows_lookups = played.finished;
       shows_finished = λ worker. ap (seen_of worker) played.finished ∙ seen_finished worker played.trace;

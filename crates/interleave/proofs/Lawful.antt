@@ -1,6 +1,7 @@
--- What the laws of every trace say of the trace of a run.
-use Rattle.std.proofs.Common.{arith, ◌≡◌, ℕ, ◌≤◌, ap, sym, subst, ◌∙◌, List, [], ◌∷◌, ◌++◌, length, leb, cond, Bool, true, false}
+-- What the laws of every trace say of a trace of changes and deeds.
+use Rattle.std.proofs.Common.{arith, ◌≡◌, ℕ, ◌≤◌, ap, sym, subst, ◌∙◌, List, [], ◌∷◌, ◌++◌, length, map, leb, cond, Bool, true, false}
 use Rattle.lpm_trace.specs.declared.step.TraceStep.{TraceStep}
+use Rattle.lpm_trace.specs.declared.step.TraceStep.TheVariants.{Writer}
 use Rattle.lpm_trace.specs.Tables.{Setup, Tables, IsSettled, IsAnswer, answer, done, begun, oldest, tables, tables_at}
 use Rattle.lpm_trace.specs.Trace.{after, IsTrace, writes}
 use Rattle.lpm_trace.specs.Laws.{at_moment, by_steps}
@@ -8,7 +9,9 @@ use Rattle.lpm_trace.proofs.Traces.{tables_of, history_at}
 use Rattle.lpm_trace.proofs.Moments.{count, writes_oldest}
 use Rattle.lpm_trace.proofs.Promises.{lookups_are_legal, lookups_are_monotone, versions_never_fall, reuse_is_lawful, rest_answers}
 use Rattle.reader_intervals.specs.Intervals.{IsReaderInterval}
-use Rattle.interleave.specs.Runs.{IsLawful, RestsSettled, ReusesLawfully}
+use Rattle.lpm_writer.specs.Opening.{opening_setup}
+use Rattle.lpm_writer.proofs.Opened.{settled as opening_is_settled}
+use Rattle.interleave.specs.Runs.{IsLawful, RestsSettled, ReusesLawfully, TracesAreLawful}
 
 either : (c : Setup) (xs ys : List TraceStep) (b : Bool) → IsTrace c xs → IsTrace c ys → IsTrace c (cond b xs ys)
 either c xs ys true x y = x
@@ -48,3 +51,8 @@ lawful c steps settled trace = record {
   reuse = reuses c steps settled trace;
   rest = rests c steps settled trace;
 }
+
+pub traces_are_lawful : TracesAreLawful
+traces_are_lawful f g config script scripts n replies beyond steps limits trace =
+    let c = opening_setup f g config in
+    lawful c steps (opening_is_settled f g config limits) (older_trace c (map Writer beyond) steps trace.may_come)

@@ -1,9 +1,11 @@
--- Meaning: a run of the pure world: the writer's changes and the workers' deeds by a schedule (this
--- project's).
+-- Meaning: traces of one writer's changes and of workers' deeds, what holds of them, and a run of the pure
+-- world by a schedule (DPDK Programmer's Guide, "LPM Library" and "RCU Library", for the groups in limbo;
+-- this project's otherwise).
 use Rattle.std.specs.Prelude.{ℕ, ◌≡◌, ◌≢◌, ◌<◌, ◌≤◌, ◌⊎◌, All, List, [], ◌∷◌, ◌++◌, length, map, reverse}
 use Rattle.std.specs.FinMap.{empty}
 use Rattle.reader_intervals.specs.Intervals.{Interval, IsReaderInterval, Holds}
 use Rattle.lpm_limits.specs.declared.config.Config.{Config}
+use Rattle.lpm_limits.specs.Limits.{IsConfig}
 use Rattle.lpm_rules.specs.declared.Change.{Change}
 use Rattle.lpm_rules.specs.declared.Change.TheVariants.{Synchronize}
 use Rattle.lpm_trace.specs.declared.kind.Actor.{Actor}
@@ -61,6 +63,28 @@ pub record IsPerformed (c : Setup) (f g : ℕ) (config : Config) (n : ℕ) (open
   pub answered : HaveComeOut c f g config n opening log last
   pub unanswered : AreUnanswered c f g config n last left steps
 
+-- ---- traces of changes and deeds
+
+-- there are no rules, no steps were made, no group waits, and no update was begun
+abbrev pub opening_kept : Kept
+opening_kept = record { rules = empty; readers = []; limbo = []; begun = 0 }
+
+-- the steps, the newest first, of a writer that makes these changes one after another, and of workers that do
+-- the deeds of their scripts, on a table that was just opened. n items of a schedule are the writer's, and
+-- `beyond` are the steps that its last change needs past them.
+--
+-- `IsTrace` says which step may come next by the steps before it alone. What the writer keeps beside them is
+-- told by its changes, in `performed`: before an unlinked group is queued a reclaim runs exactly where more
+-- than `threshold` groups wait, and takes no more than `reclaim_max`; a group is free where it was never
+-- linked, or where a reclaim has taken it off the limbo list; and what each change comes to.
+pub record IsTraceOf (f g : ℕ) (config : Config) (script : List (Change f g))
+    (scripts : ℕ → List Deed) (n : ℕ) (replies : List Reply) (beyond : List WriterStep)
+    (steps : List TraceStep) : Type 0 where
+  pub may_come : IsTrace (opening_setup f g config) (map Writer beyond ++ steps)
+  pub scripted : AreScripted scripts steps
+  pub performed : IsPerformed (opening_setup f g config) f g config n opening_kept script replies
+      (beyond ++ writes steps)
+
 -- ---- what holds of a trace
 
 -- no reader interval holds both a step that unlinks a group and a later store into it
@@ -89,11 +113,14 @@ pub record IsLawful (c : Setup) (steps : List TraceStep) : Type 0 where
   pub reuse : ReusesLawfully c steps
   pub rest : RestsSettled c steps
 
--- ---- the run
+-- each trace of changes and deeds is lawful, with limits in range
+abbrev pub TracesAreLawful : Type 0
+TracesAreLawful = (f g : ℕ) (config : Config) (script : List (Change f g)) (scripts : ℕ → List Deed)
+    (n : ℕ) (replies : List Reply) (beyond : List WriterStep) (steps : List TraceStep)
+    → IsConfig config → IsTraceOf f g config script scripts n replies beyond steps
+    → IsLawful (opening_setup f g config) steps
 
--- there are no rules, no steps were made, no group waits, and no update was begun
-abbrev pub opening_kept : Kept
-opening_kept = record { rules = empty; readers = []; limbo = []; begun = 0 }
+-- ---- the run
 
 -- a trace was made by these scripts and this schedule, and that is what the run shows of it
 pub record IsRun (f g : ℕ) (config : Config) (script : List (Change f g))
@@ -101,16 +128,14 @@ pub record IsRun (f g : ℕ) (config : Config) (script : List (Change f g))
   -- the steps of the run, and those that the writer's last change still needs, the newest first
   pub steps : List TraceStep
   pub beyond : List WriterStep
-  pub trace : IsTrace (opening_setup f g config) (map Writer beyond ++ steps)
+  pub trace : IsTraceOf f g config script scripts (writer_items schedule) shown.replies.items beyond
+      steps
   -- the writer was cut short by the schedule's end alone; this follows from `scheduled`, too
   pub cut : beyond ≢ [] → length (writes steps) ≡ writer_items schedule
   -- each item of the schedule made one step of its actor, unless that had ended
   pub scheduled : IsScheduled
       (HasEnded config.workers scripts (λ earlier. writes earlier ≡ beyond ++ writes steps))
       (reverse schedule) steps
-  pub scripted : AreScripted scripts steps
-  pub performed : IsPerformed (opening_setup f g config) f g config (writer_items schedule) opening_kept
-      script shown.replies.items (beyond ++ writes steps)
   pub shows_steps : shown.steps.items ≡ all_shown (opening_setup f g config) steps
   pub shows_lookups : shown.lookups.items ≡ all_seen steps
   -- of each worker these are the lookups that it has finished, and no others

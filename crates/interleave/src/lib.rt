@@ -2,6 +2,7 @@
 #![tactic(auto)]
 
 mod answering;
+pub mod laws;
 mod reply;
 mod run_error;
 mod synchronizing;

@@ -1,0 +1,5 @@
+use Rattle.interleave.proofs.Lawful.{traces_are_lawful as law}
+use Rattle.interleave.proofs.laws.traces_are_lawful.Goals as goal
+
+pub returns : goal.returns
+returns c = law
