@@ -102,7 +102,7 @@ fn add_rules(rt: &impl Abort, table: &SharedTable<24, 8>, writer: &mut Writer<24
     add_rule(rt, table, writer, 0x0a01_0180, 25, 3);
 }
 
-// The five addresses, by these desks.
+// The five addresses twice, by these desks: a call to which memory is refused leaves them as they were.
 fn assert_five_at_desks<R: Abort + Threads + Sync>(
     rt: &R,
     alloc: Global,
@@ -114,8 +114,22 @@ fn assert_five_at_desks<R: Abort + Threads + Sync>(
     requires desks { All (IsDeskOf table.now) desks.old }
 {
     let workers = desks.len();
-    let answered = bulk(rt, alloc, table, writer, desks, &FIVE, &Open);
-    assert_hops(rt, workers, &answered.expect(rt, "answers"));
+    let first = bulk(rt, alloc, table, writer, desks, &FIVE, &Open);
+    let again = bulk(rt, alloc, table, writer, desks, &FIVE, &Open);
+    assert_hops_where_memory_is_ample(rt, workers, first);
+    assert_hops(rt, workers, &again.expect(rt, "answers"));
+}
+
+// The next hops of the five addresses, but where a growth was refused (`rt try --test --fail-alloc N`).
+fn assert_hops_where_memory_is_ample(
+    rt: &impl Abort,
+    workers: usize,
+    answered: Result<Vec<Option<Hop>>, BulkError>,
+) {
+    match answered {
+        Ok(hops) => assert_hops(rt, workers, &hops),
+        Err(error) => assert_at(rt, workers, error, BulkError::Memory),
+    }
 }
 
 // The five addresses, by a running table that has the rules, with so many workers.
