@@ -1,14 +1,13 @@
 //! Lookups by several passes at once, beside a writer that changes the table.
 
-use crate::passes::{Changer, Reader};
-use crate::report::{Hundredths, each_second, hundredths_of_nanos, nanos, ratio};
-use crate::routes::{Route, of_lengths};
+use crate::passes::{Changer, Reader, Whose};
 use anyhow::Result;
 use std::io;
 use std::rt::Clock;
 use std::sync::atomic::{AtomicBool, Ordering};
 use std::thread::{Threads, for_each_mut, join_mut};
 use std::time::{Duration, Instant};
+use table_bench::{Hundredths, Route, each_second, hundredths_of_nanos, nanos, of_lengths, ratio};
 
 /// How long passes took that looked all addresses up at once: each by the mean, and until the last had ended.
 #[derive(Clone, Copy)]
@@ -36,11 +35,22 @@ const NO_ROUND: AtOnce = AtOnce {
     made: 0,
 };
 
-/// What the writer does while passes look up: the name of these changes, and the routes that it changes.
+/// What is changed while passes look up: the name of these changes, the table, and the routes.
 #[derive(Clone, Copy)]
 struct Changes<'a> {
     name: &'a str,
+    whose: Whose,
     routes: &'a [Route],
+}
+
+impl<'a> Changes<'a> {
+    fn new(name: &'a str, whose: Whose, routes: &'a [Route]) -> Self {
+        Changes {
+            name,
+            whose,
+            routes,
+        }
+    }
 }
 
 /// How often the passes look up without changes and beside each kind of changes, in turns.
@@ -54,8 +64,8 @@ const CROWDS: [(usize, &str); 4] = [
     (4, "4 passes"),
 ];
 
-/// Prints what the lookups of 1 to 4 passes take at once: while nothing changes, and while the writer
-/// changes routes of up to 24 bits, and longer ones.
+/// Prints what the lookups of 1 to 4 passes take at once: while nothing changes, while the writer changes
+/// routes of up to 24 bits, and longer ones, and while a table is changed that no pass reads.
 pub(crate) fn print_at_once<R: Clock + Print + AllocGlobal + Threads + Sync>(
     rt: &R,
     readers: &mut [Reader<'_>],
@@ -80,21 +90,14 @@ fn print_beside_short<R: Clock + Print + AllocGlobal + Threads + Sync>(
     print_crowds(rt, readers, changer, &kinds(short, &long), addrs)
 }
 
-/// No changes, changes of these routes of up to 24 bits, and of these longer ones.
-fn kinds<'a>(short: &'a [Route], long: &'a [Route]) -> [Changes<'a>; 3] {
+/// No changes, changes of these routes of up to 24 bits, of these longer ones, and of the first in another
+/// table.
+fn kinds<'a>(short: &'a [Route], long: &'a [Route]) -> [Changes<'a>; 4] {
     [
-        Changes {
-            name: "no changes",
-            routes: &[],
-        },
-        Changes {
-            name: "short changes",
-            routes: short,
-        },
-        Changes {
-            name: "long changes",
-            routes: long,
-        },
+        Changes::new("no changes", Whose::Running, &[]),
+        Changes::new("short changes", Whose::Running, short),
+        Changes::new("long changes", Whose::Running, long),
+        Changes::new("changes apart", Whose::Apart, short),
     ]
 }
 
@@ -103,7 +106,7 @@ fn print_crowds<R: Clock + Print + Threads + Sync>(
     rt: &R,
     readers: &mut [Reader<'_>],
     changer: &mut Changer<'_>,
-    all: &[Changes<'_>; 3],
+    all: &[Changes<'_>; 4],
     addrs: &[u32],
 ) -> Result<()> {
     for &(count, passes) in &CROWDS {
@@ -119,8 +122,8 @@ fn print_crowd<R: Print>(
     rt: &R,
     passes: &str,
     count: usize,
-    all: &[Changes<'_>; 3],
-    found: &[AtOnce; 3],
+    all: &[Changes<'_>; 4],
+    found: &[AtOnce; 4],
     addrs: usize,
 ) -> Result<()> {
     let quiet = found[0];
@@ -179,10 +182,10 @@ fn measure_in_turns<R: Clock + Threads + Sync>(
     rt: &R,
     readers: &mut [Reader<'_>],
     changer: &mut Changer<'_>,
-    all: &[Changes<'_>; 3],
+    all: &[Changes<'_>; 4],
     addrs: &[u32],
-) -> Result<[AtOnce; 3]> {
-    let mut found = [NO_ROUND; 3];
+) -> Result<[AtOnce; 4]> {
+    let mut found = [NO_ROUND; 4];
     for _ in 0..TURNS {
         measure_each(rt, readers, changer, all, &mut found, addrs)?;
     }
@@ -194,13 +197,13 @@ fn measure_each<R: Clock + Threads + Sync>(
     rt: &R,
     readers: &mut [Reader<'_>],
     changer: &mut Changer<'_>,
-    all: &[Changes<'_>; 3],
-    found: &mut [AtOnce; 3],
+    all: &[Changes<'_>; 4],
+    found: &mut [AtOnce; 4],
     addrs: &[u32],
 ) -> Result<()> {
     for (changes, found) in all.iter().zip(found.iter_mut()) {
         changer.made = 0;
-        let times = look_up_beside(rt, readers, changer, changes.routes, addrs)?;
+        let times = look_up_beside(rt, readers, changer, *changes, addrs)?;
         *found = AtOnce {
             least: Times {
                 mean: found.least.mean.min(times.mean),
@@ -213,18 +216,18 @@ fn measure_each<R: Clock + Threads + Sync>(
     Ok(())
 }
 
-/// How long each reader takes to look all addresses up, while the writer changes these routes.
+/// How long each reader takes to look all addresses up beside these changes.
 fn look_up_beside<R: Clock + Threads + Sync>(
     rt: &R,
     readers: &mut [Reader<'_>],
     changer: &mut Changer<'_>,
-    routes: &[Route],
+    changes: Changes<'_>,
     addrs: &[u32],
 ) -> io::Result<Times> {
     let is_over = AtomicBool::new(false);
     let (_, last) = join_mut(
         rt,
-        &mut || changer.change_until(routes, &is_over),
+        &mut || changer.change_until(changes.whose, changes.routes, &is_over),
         &mut || look_up_and_tell(rt, addrs, &is_over, readers),
     );
     Ok(Times {

@@ -2,15 +2,10 @@
 //! running table.
 #![tactic(auto)]
 
-mod changes;
 mod crowd;
-mod lookups;
 mod passes;
-mod pieces;
 mod report;
-mod routes;
 mod running;
-mod words;
 
 ghost use Rattle.std.specs.Prelude.{◌≤◌, IfSome};
 

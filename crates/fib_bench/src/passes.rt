@@ -3,26 +3,24 @@
 ghost use Rattle.std.specs.Prelude.{◌≡◌};
 ghost use Rattle.shared_fib.specs.Running.{IsBenchOf, IsOnline, identity_of};
 
-use crate::lookups::{ASCENDING, STRIDE, number_of};
-use crate::routes::Route;
 use anyhow::Result;
+use fib::Fib;
 use shared_fib::{Bench, Pass, SharedTable, Writer};
 use std::rt::Clock;
 use std::sync::atomic::{AtomicBool, Ordering};
 use std::time::{Duration, Instant};
+use table_bench::{Addresses, Route, ascending, number_of};
 
 /// After how many lookups a worker reports that it is quiescent.
 const BETWEEN_REPORTS: usize = 1024;
 
-/// The addresses that a worker looks up, and how.
+/// How many addresses a worker looks up together.
 #[derive(Clone, Copy)]
-pub(crate) enum Lookups<'a> {
-    /// These, one by one.
-    Listed(&'a [u32]),
-    /// These, four at once. Those past the last four are left out.
-    Fours(&'a [u32]),
-    /// The ascending ones, one by one.
-    Ascending,
+pub(crate) enum Way {
+    /// One.
+    Single,
+    /// Four, where they are listed. Those past the last four are left out.
+    Fours,
 }
 
 /// A worker, the sum of the next hops that it has found, and how long it took to look addresses up beside
@@ -56,15 +54,19 @@ impl<'a> Reader<'a> {
     }
 
     /// Adds the number of each address's next hop to the sum.
-    pub(crate) fn look_up(&mut self, lookups: Lookups<'_>) {
+    pub(crate) fn look_up(&mut self, addresses: Addresses<'_>, way: Way) {
         if self.pass.is_online() {
             return;
         }
         self.pass.online(self.table);
-        let found = match lookups {
-            Lookups::Listed(addrs) => sum_of(self.table, &mut self.pass, addrs),
-            Lookups::Fours(addrs) => sum_by_fours(self.table, &mut self.pass, addrs),
-            Lookups::Ascending => sum_ascending(self.table, &mut self.pass),
+        let found = match (addresses, way) {
+            (Addresses::Listed(addrs), Way::Single) => sum_of(self.table, &mut self.pass, addrs),
+            (Addresses::Listed(addrs), Way::Fours) => {
+                sum_by_fours(self.table, &mut self.pass, addrs)
+            }
+            (Addresses::Ascending(from, to), _) => {
+                sum_ascending(self.table, &mut self.pass, from, to)
+            }
         };
         self.sum = self.sum.wrapping_add(found);
         if self.pass.is_online() {
@@ -113,17 +115,17 @@ fn sum_of(table: &SharedTable<24, 8>, pass: &mut Pass, addrs: &[u32]) -> u64
     sum
 }
 
-/// The sum of the next hops of the ascending addresses.
+/// The sum of the next hops of the ascending addresses from this place on, before that one.
 #[inline(never)]
-fn sum_ascending(table: &SharedTable<24, 8>, pass: &mut Pass) -> u64
+fn sum_ascending(table: &SharedTable<24, 8>, pass: &mut Pass, from: u32, to: u32) -> u64
     requires own { identity_of pass.old ≡ table.now }
     requires online { IsOnline pass.old }
     ensures own { identity_of pass.new ≡ table.now }
     ensures online { IsOnline pass.new }
 {
     let mut sum = 0u64;
-    for step in 0..ASCENDING {
-        let hop = pass.lookup(table, step * STRIDE).hop;
+    for place in from..to {
+        let hop = pass.lookup(table, ascending(place)).hop;
         sum = sum.wrapping_add(number_of(hop));
     }
     sum
@@ -148,28 +150,44 @@ fn sum_by_fours(table: &SharedTable<24, 8>, pass: &mut Pass, addrs: &[u32]) -> u
     sum
 }
 
-/// The writer, and how many changes it has made.
+/// Which table is changed while passes look up.
+#[derive(Clone, Copy)]
+pub(crate) enum Whose {
+    /// Theirs, by its writer.
+    Running,
+    /// One that they don't read.
+    Apart,
+}
+
+/// The writer of a running table, a table of one thread with the same routes, and how many changes were
+/// made of either.
 #[derive(Drop)]
 pub(crate) struct Changer<'a> {
     table: &'a SharedTable<24, 8>,
     writer: Writer<24, 8>,
+    pub(crate) apart: &'a mut Fib<24, 8>,
     pub(crate) made: u64,
     ghost own: { writer.identity ≡ table.now },
 }
 
 impl<'a> Changer<'a> {
-    /// The writer of this table, which has made none.
-    pub(crate) fn new(table: &'a SharedTable<24, 8>, writer: Writer<24, 8>) -> Changer<'a>
+    /// The writer of the first table, and the second one. No change was made.
+    pub(crate) fn new(
+        table: &'a SharedTable<24, 8>,
+        writer: Writer<24, 8>,
+        apart: &'a mut Fib<24, 8>,
+    ) -> Changer<'a>
         requires { writer.identity ≡ table.now }
     {
         Changer {
             table,
             writer,
+            apart,
             made: 0,
         }
     }
 
-    /// Deletes these routes.
+    /// Deletes these routes of the running table.
     pub(crate) fn delete_all(&mut self, routes: &[Route]) -> Result<()> {
         for route in routes {
             self.writer.delete(self.table, &route.prefix)?;
@@ -177,7 +195,7 @@ impl<'a> Changer<'a> {
         Ok(())
     }
 
-    /// Adds these routes.
+    /// Adds these routes to the running table.
     pub(crate) fn add_all(&mut self, routes: &[Route]) -> Result<()> {
         for route in routes {
             self.writer.add(self.table, &route.prefix, route.hop)?;
@@ -185,28 +203,40 @@ impl<'a> Changer<'a> {
         Ok(())
     }
 
+    /// Deletes this route and adds it again. It returns how many of the two changes were made.
+    fn change(&mut self, whose: Whose, route: &Route) -> u64 {
+        let (gone, back) = match whose {
+            Whose::Running => (
+                self.writer.delete(self.table, &route.prefix).is_ok(),
+                self.writer
+                    .add(self.table, &route.prefix, route.hop)
+                    .is_ok(),
+            ),
+            Whose::Apart => (
+                self.apart.delete(&route.prefix).is_ok(),
+                self.apart.add(&route.prefix, route.hop).is_ok(),
+            ),
+        };
+        u64::from(gone) + u64::from(back)
+    }
+
     /// Deletes these routes and adds them again, each in turn, until the lookups are over.
-    fn change_all(&mut self, routes: &[Route], is_over: &AtomicBool) {
+    fn change_all(&mut self, whose: Whose, routes: &[Route], is_over: &AtomicBool) {
         for route in routes {
             if is_over.load(Ordering::SeqCst) {
                 break;
             }
-            let gone = self.writer.delete(self.table, &route.prefix).is_ok();
-            let back = self
-                .writer
-                .add(self.table, &route.prefix, route.hop)
-                .is_ok();
-            self.made = self.made.saturating_add(u64::from(gone) + u64::from(back));
+            self.made = self.made.saturating_add(self.change(whose, route));
         }
     }
 
     /// Changes these routes again and again, until the lookups are over. With no routes it doesn't wait.
-    pub(crate) fn change_until(&mut self, routes: &[Route], is_over: &AtomicBool) {
+    pub(crate) fn change_until(&mut self, whose: Whose, routes: &[Route], is_over: &AtomicBool) {
         for _ in 0..u64::MAX {
             if routes.is_empty() || is_over.load(Ordering::SeqCst) {
                 break;
             }
-            self.change_all(routes, is_over);
+            self.change_all(whose, routes, is_over);
         }
     }
 }

@@ -4,14 +4,8 @@ ghost use Rattle.std.specs.Prelude.{◌≡◌, ◌<◌, ℕ, IfOk, IsTrue, OnOk,
 ghost use Rattle.fib_model.specs.Counting.{by_counters};
 ghost use Rattle.shared_fib.specs.Running.{IsBenchOf};
 
-use crate::changes::add_all;
 use crate::crowd::print_at_once;
-use crate::lookups::{Addresses, timed};
-use crate::passes::{Changer, Lookups, Reader};
-use crate::report::{
-    Hundredths, SAMPLE, each_second, hundredths_of_millis, hundredths_of_nanos, nanos, ratio,
-};
-use crate::routes::Route;
+use crate::passes::{Changer, Reader, Way};
 use anyhow::{Result, ensure};
 use fib::Fib;
 use shared_fib::{Bench, SharedTable, go_live};
@@ -20,12 +14,16 @@ use std::io;
 use std::rt::Clock;
 use std::thread::Threads;
 use std::time::{Duration, Instant};
+use table_bench::{
+    ASCENDING, Addresses, Hundredths, Least, Route, SAMPLE, add_all, each_second,
+    hundredths_of_millis, hundredths_of_nanos, nanos, no_rounds, ratio, timed, whole,
+};
 
 /// How many workers the table has.
 pub(crate) const WORKERS: usize = 4;
 
 /// How often each time is taken, in turns with those that it is compared with: the least one counts.
-const TURNS: usize = 15;
+const TURNS: usize = 45;
 
 /// The routes of a table, and addresses with any bits.
 #[derive(Drop)]
@@ -49,7 +47,7 @@ pub(crate) fn add_offline<R: Clock>(rt: &R, table: &mut Fib<24, 8>, routes: &[Ro
 pub(crate) fn print_running<R: Clock + Print + AllocGlobal + Threads + Sync>(
     rt: &R,
     table: Fib<24, 8>,
-    other: &Fib<24, 8>,
+    other: &mut Fib<24, 8>,
     drawn: &Drawn,
 ) -> Result<()>
     requires offline { (worker : ℕ) → worker < table.config.workers
@@ -57,8 +55,8 @@ pub(crate) fn print_running<R: Clock + Print + AllocGlobal + Threads + Sync>(
 {
     let start = Instant::now(rt)?;
     let (table, writer, mut bench) = go_live(rt.alloc(), table)?;
-    let mut changer = Changer::new(&table, writer);
-    print_live(rt, start, &table, &mut changer, &mut bench, other, drawn)
+    let mut changer = Changer::new(&table, writer, other);
+    print_live(rt, start, &table, &mut changer, &mut bench, drawn)
 }
 
 /// Prints how long it took from the start until the table runs, and what its lookups, by a pass for each
@@ -69,7 +67,6 @@ fn print_live<R: Clock + Print + AllocGlobal + Threads + Sync>(
     table: &SharedTable<24, 8>,
     changer: &mut Changer<'_>,
     bench: &mut Bench,
-    other: &Fib<24, 8>,
     drawn: &Drawn,
 ) -> Result<()>
     requires own { IsBenchOf table.now bench.old }
@@ -77,7 +74,7 @@ fn print_live<R: Clock + Print + AllocGlobal + Threads + Sync>(
     let going_live = Hundredths(hundredths_of_millis(start.elapsed(rt)?));
     println!(rt; "going live: {going_live} ms")?;
     let mut readers = readers_of(rt.alloc(), table, bench)?;
-    print_readers(rt, readers.as_mut_slice(), changer, other, drawn)
+    print_readers(rt, readers.as_mut_slice(), changer, drawn)
 }
 
 /// Prints what lookups by these readers and changes by the writer take, one after the other and at once.
@@ -85,14 +82,13 @@ fn print_readers<R: Clock + Print + AllocGlobal + Threads + Sync>(
     rt: &R,
     readers: &mut [Reader<'_>],
     changer: &mut Changer<'_>,
-    other: &Fib<24, 8>,
     drawn: &Drawn,
 ) -> Result<()>
     requires { 0 < length readers.old }
 {
     let addrs = drawn.addrs.as_slice();
     let routes = drawn.routes.as_slice();
-    print_at_rest(rt, &mut readers[0], other, addrs)?;
+    print_at_rest(rt, &mut readers[0], changer.apart, addrs)?;
     print_changes(rt, changer, &routes[..routes.len().min(SAMPLE)])?;
     print_at_once(rt, readers, changer, routes, addrs)
 }
@@ -128,43 +124,47 @@ fn readers_of<'a>(
 }
 
 /// Prints what the lookups of one pass take while nothing changes, beside those of the other table.
-fn print_at_rest<R: Clock + Print>(
+fn print_at_rest<R: Clock + Print + AllocGlobal>(
     rt: &R,
     reader: &mut Reader<'_>,
     other: &Fib<24, 8>,
     addrs: &[u32],
 ) -> Result<()> {
-    print_random(rt, reader, other, addrs)?;
-    let mut least = [Duration::MAX];
-    let kinds = [Lookups::Ascending];
-    let alone = in_turns(rt, reader, other, Addresses::Ascending, &kinds, &mut least)?;
-    let count = Addresses::Ascending.count();
-    print_beside(rt, "pass, ascending", count, least[0], alone)?;
-    let more = hundredths_of_nanos(least[0].saturating_sub(alone), count);
-    println!(rt; "difference, pass, ascending: {} ns each", Hundredths(more))?;
-    Ok(())
+    print_random(rt, reader, other, Addresses::Listed(addrs))?;
+    print_ascending(rt, reader, other)
 }
 
 /// Prints what the lookups of one pass at these addresses take, one by one and by fours, beside those of
 /// the other table.
-fn print_random<R: Clock + Print>(
+fn print_random<R: Clock + Print + AllocGlobal>(
     rt: &R,
     reader: &mut Reader<'_>,
     other: &Fib<24, 8>,
-    addrs: &[u32],
+    addresses: Addresses<'_>,
 ) -> Result<()> {
-    let mut least = [Duration::MAX; 2];
-    let kinds = [Lookups::Listed(addrs), Lookups::Fours(addrs)];
-    let alone = in_turns(
+    let ways = [Way::Single, Way::Fours];
+    let [alone, single, fours] = in_turns(rt, reader, other, addresses, &ways)?;
+    print_beside(rt, "pass, random", addresses.count(), single, alone)?;
+    print_beside(
         rt,
-        reader,
-        other,
-        Addresses::Listed(addrs),
-        &kinds,
-        &mut least,
-    )?;
-    print_beside(rt, "pass, random", addrs.len(), least[0], alone)?;
-    print_beside(rt, "pass by fours, random", addrs.len(), least[1], least[0])
+        "pass by fours, random",
+        addresses.count(),
+        fours,
+        single,
+    )
+}
+
+/// Prints what the lookups of one pass at ascending addresses take, beside those of the other table.
+fn print_ascending<R: Clock + Print + AllocGlobal>(
+    rt: &R,
+    reader: &mut Reader<'_>,
+    other: &Fib<24, 8>,
+) -> Result<()> {
+    let [alone, single, _] = in_turns(rt, reader, other, ASCENDING, &[Way::Single])?;
+    print_beside(rt, "pass, ascending", ASCENDING.count(), single, alone)?;
+    let more = hundredths_of_nanos(single.saturating_sub(alone), ASCENDING.count());
+    println!(rt; "difference, pass, ascending: {} ns each", Hundredths(more))?;
+    Ok(())
 }
 
 /// Prints what so many lookups take, each in nanoseconds, and how often that is what the others take.
@@ -186,35 +186,66 @@ fn print_beside<R: Print>(
 }
 
 /// Reads the other table at these addresses, and lets the pass look them up in each of these ways, in
-/// turns, so that whatever else slows the machine for a while slows each of them. It returns the least time
-/// of the other table, and lowers the least times of the pass.
-fn in_turns<R: Clock>(
+/// turns. It returns the least times: of the other table, and of each way.
+fn in_turns<R: Clock + AllocGlobal>(
     rt: &R,
     reader: &mut Reader<'_>,
     other: &Fib<24, 8>,
     addresses: Addresses<'_>,
-    kinds: &[Lookups<'_>],
-    least: &mut [Duration],
-) -> Result<Duration> {
-    let mut alone = Duration::MAX;
-    for _ in 0..TURNS {
-        let (time, sum) = timed(rt, other, addresses, 0)?;
-        alone = alone.min(time);
-        take_turn(rt, reader, kinds, sum, least)?;
-    }
-    Ok(alone)
+    ways: &[Way],
+) -> Result<Least> {
+    let mut least = no_rounds(rt.alloc(), addresses)?;
+    take_turns(rt, reader, other, addresses, ways, least.as_mut_slice())?;
+    Ok(whole(least.as_slice()))
 }
 
-/// Lets the pass look addresses up once in each of these ways. The next hops have to have this sum.
+/// The same, which lowers the least times of each piece.
+fn take_turns<R: Clock>(
+    rt: &R,
+    reader: &mut Reader<'_>,
+    other: &Fib<24, 8>,
+    addresses: Addresses<'_>,
+    ways: &[Way],
+    least: &mut [Least],
+) -> Result<()> {
+    for _ in 0..TURNS {
+        take_turn(rt, reader, other, addresses, ways, least)?;
+    }
+    Ok(())
+}
+
+/// Takes each piece of the addresses once: with the other table, and with the pass in each of these ways,
+/// one after the other, so that whatever else slows the machine for a while slows each of them.
 fn take_turn<R: Clock>(
     rt: &R,
     reader: &mut Reader<'_>,
-    kinds: &[Lookups<'_>],
+    other: &Fib<24, 8>,
+    addresses: Addresses<'_>,
+    ways: &[Way],
+    least: &mut [Least],
+) -> Result<()> {
+    let mut left = addresses;
+    for least in least.iter_mut() {
+        let (piece, rest) = left.split();
+        let (time, sum) = timed(rt, other, piece, 0)?;
+        least[0] = least[0].min(time);
+        time_ways(rt, reader, piece, ways, sum, &mut least[1..])?;
+        left = rest;
+    }
+    Ok(())
+}
+
+/// Lets the pass look addresses up once in each of these ways. The next hops have to have this sum.
+fn time_ways<R: Clock>(
+    rt: &R,
+    reader: &mut Reader<'_>,
+    addresses: Addresses<'_>,
+    ways: &[Way],
     sum: u64,
     least: &mut [Duration],
 ) -> Result<()> {
-    for (lookups, least) in kinds.iter().zip(least.iter_mut()) {
-        let (time, same) = timed_by(rt, reader, *lookups)?;
+    for (way, least) in ways.iter().zip(least.iter_mut()) {
+        let (time, same) = timed_by(rt, reader, addresses, *way)?;
         ensure!(sum == same, "the sums of the next hops differ");
         *least = (*least).min(time);
     }
@@ -225,11 +256,12 @@ fn take_turn<R: Clock>(
 fn timed_by<R: Clock>(
     rt: &R,
     reader: &mut Reader<'_>,
-    lookups: Lookups<'_>,
+    addresses: Addresses<'_>,
+    way: Way,
 ) -> io::Result<(Duration, u64)> {
     reader.sum = 0;
     let start = Instant::now(rt)?;
-    reader.look_up(lookups);
+    reader.look_up(addresses, way);
     Ok((start.elapsed(rt)?, reader.sum))
 }
 

@@ -3,5 +3,5 @@ use Rattle.shared_fib.specs.Running.{IsOnline, identity_of}
 use Rattle.fib_bench.proofs.passes.sum_ascending.Given as goal
 
 -- the pass is of this table, and online
-abbrev pub invariant-loop-step : goal.invariant-loop-step
-invariant-loop-step l = (identity_of l.pass ≡ l.table) × IsOnline l.pass
+abbrev pub invariant-loop-place : goal.invariant-loop-place
+invariant-loop-place l = (identity_of l.pass ≡ l.table) × IsOnline l.pass

@@ -1,6 +1,6 @@
 //! Many addresses answered in pieces, on one thread and on four.
 
-use crate::report::{Hundredths, hundredths_of_nanos, nanos, ratio};
+use crate::figures::{Hundredths, hundredths_of_nanos, nanos, ratio};
 use anyhow::Result;
 use bulk::{Gate, Open, bulk_plain};
 use fib::Fib;

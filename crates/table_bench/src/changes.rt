@@ -20,11 +20,7 @@ pub(crate) fn delete_all<R: Clock>(
 }
 
 /// How long it takes to add these routes.
-pub(crate) fn add_all<R: Clock>(
-    rt: &R,
-    table: &mut Fib<24, 8>,
-    routes: &[Route],
-) -> Result<Duration> {
+pub fn add_all<R: Clock>(rt: &R, table: &mut Fib<24, 8>, routes: &[Route]) -> Result<Duration> {
     let start = Instant::now(rt)?;
     for route in routes {
         table.add(&route.prefix, route.hop)?;

@@ -10,16 +10,16 @@ use std::alloc::{AllocError, Global};
 
 /// A prefix and its next hop.
 #[derive(Clone, Copy)]
-pub(crate) struct Route {
-    pub(crate) prefix: Prefix<24, 8>,
-    pub(crate) hop: Hop,
+pub struct Route {
+    pub prefix: Prefix<24, 8>,
+    pub hop: Hop,
 }
 
 /// How many routes are drawn for each one that is wanted, since a prefix may be drawn twice.
 const DRAWS: usize = 8;
 
 /// Adds that many routes to the table, and answers them in the order in which they were added.
-pub(crate) fn fill<R: Rng>(
+pub fn fill<R: Rng>(
     alloc: Global,
     table: &mut Fib<24, 8>,
     random: &mut R,
@@ -69,7 +69,7 @@ pub(crate) fn deep_blocks(alloc: Global, routes: &[Route]) -> Result<Vec<u32>, A
 }
 
 /// Those of the routes that have at least and at most so many bits.
-pub(crate) fn of_lengths(
+pub fn of_lengths(
     alloc: Global,
     routes: &[Route],
     least: u32,
