@@ -1,12 +1,13 @@
 // Runs in which one thing is wrong, which the slow program refuses.
 
 use super::asserting::assert_at;
-use super::plan::{Edit, ONE_GROUP, planned, run};
-use interleave::{Actor, Deed, Kind, Step, Trace};
+use super::plan::{Edit, ONE_GROUP, hop, planned, prefix, run};
+use interleave::{Actor, Change, Deed, Kind, Step, Trace};
+use qsbr::Config;
 use std::alloc::Global;
 use std::process::Abort;
 use std::test::Fail;
-use world_reference::{JudgeError, judge};
+use world_reference::{JudgeError, Plan, judge};
 
 // What is wrong with a run.
 #[derive(Clone, Copy, Debug)]
@@ -15,6 +16,12 @@ enum Fault {
     StepsExchanged,
     // A lookup loads a first word that no one stored.
     AnotherWordLoaded,
+    // Two stores into the words of the group stand in each other's place.
+    StoresExchanged,
+    // The sequence is stored where the token is due.
+    SequenceForToken,
+    // The first word links a group that was never filled, and the lookup loads that word.
+    AnotherGroupLinked,
     // The last step is missing.
     StepDropped,
     // The last reply is missing.
@@ -25,9 +32,18 @@ enum Fault {
     AnotherAddress,
 }
 
-const FOUND: [(Fault, JudgeError); 6] = [
+const FOUND: [(Fault, JudgeError); 9] = [
     (Fault::StepsExchanged, JudgeError::Schedule),
     (Fault::AnotherWordLoaded, JudgeError::Loads),
+    (Fault::StoresExchanged, JudgeError::Stores),
+    (Fault::SequenceForToken, JudgeError::Loads),
+    (
+        Fault::AnotherGroupLinked,
+        JudgeError::Link {
+            found: 1,
+            wanted: Some(0),
+        },
+    ),
     (Fault::StepDropped, JudgeError::Deeds(0)),
     (Fault::ReplyDropped, JudgeError::Replies),
     (Fault::LookupDropped, JudgeError::Lookups(0)),
@@ -47,22 +63,46 @@ const BURSTS: [(Actor, usize); 5] = [
     (Actor::Worker(0), 2),
 ];
 
-fn load_another_word(steps: &mut [Step]) {
+// The values of all steps of this kind are greater by one.
+fn raise(steps: &mut [Step], kind: Kind) {
     for place in 0..steps.len() {
-        if steps[place].kind == Kind::LoadFirst {
+        if steps[place].kind == kind {
             steps[place].value = steps[place].value.wrapping_add(1);
         }
     }
 }
 
+// The group of the first word that the update links, and of the same word where it is loaded, is the next.
+fn link_another_group(steps: &mut [Step]) {
+    for place in 0..steps.len() {
+        let is_first = matches!(steps[place].kind, Kind::StoreFirst | Kind::LoadFirst);
+        if is_first && steps[place].value != 0 {
+            steps[place].value = steps[place].value.wrapping_add(1);
+        }
+    }
+}
+
+fn store_the_sequence_for_the_token(steps: &mut [Step]) {
+    for place in 0..steps.len() {
+        if steps[place].kind == Kind::BumpToken {
+            steps[place].kind = Kind::BumpSequence;
+        }
+    }
+}
+
+fn exchange(steps: &mut [Step], place: usize) {
+    if steps.len() > place && place > 0 {
+        steps.swap(place - 1, place);
+    }
+}
+
 fn plant(trace: &mut Trace, fault: Fault) {
     match fault {
-        Fault::StepsExchanged => {
-            if trace.steps.len() > 2 {
-                trace.steps.as_mut_slice().swap(1, 2);
-            }
-        }
-        Fault::AnotherWordLoaded => load_another_word(trace.steps.as_mut_slice()),
+        Fault::StepsExchanged => exchange(trace.steps.as_mut_slice(), 2),
+        Fault::AnotherWordLoaded => raise(trace.steps.as_mut_slice(), Kind::LoadFirst),
+        Fault::StoresExchanged => exchange(trace.steps.as_mut_slice(), 5),
+        Fault::SequenceForToken => store_the_sequence_for_the_token(trace.steps.as_mut_slice()),
+        Fault::AnotherGroupLinked => link_another_group(trace.steps.as_mut_slice()),
         Fault::StepDropped => {
             let _ = trace.steps.pop();
         }
@@ -99,6 +139,86 @@ fn assert_refused(
 fn planted_faults_are_found(rt: HostRuntime) -> Result<(), Fail> {
     for (fault, error) in &FOUND {
         assert_refused(&rt, rt.alloc(), *fault, *error)?;
+    }
+    Ok(())
+}
+
+// How a plan differs from the one that a run was made by.
+#[derive(Clone, Copy, Debug)]
+enum Other {
+    // One more group may wait before some are reclaimed.
+    Threshold,
+    // The writer has one item more.
+    Item,
+    // The first rule is added with another next hop.
+    Hop,
+}
+
+// Two groups, and one waits before some are reclaimed.
+const TWO_GROUPS: Config = Config {
+    groups: 2,
+    threshold: 0,
+    ..ONE_GROUP
+};
+
+const FOUR_EDITS: [Edit; 4] = [
+    Edit::Add(0x12, 8, 5),
+    Edit::Add(0x35, 8, 6),
+    Edit::Delete(0x12, 8),
+    Edit::Delete(0x35, 8),
+];
+
+// How many of the edits are made, with how many items of the writer, and why the other plan refuses that run.
+const OTHERS: [(Other, usize, usize, JudgeError); 3] = [
+    (
+        Other::Threshold,
+        4,
+        49,
+        JudgeError::Kind {
+            found: Kind::LoadCounter,
+            wanted: Kind::StoreSecond,
+        },
+    ),
+    (Other::Item, 1, 10, JudgeError::Length),
+    (Other::Hop, 1, 19, JudgeError::Writes),
+];
+
+fn change_plan(rt: &impl Abort, plan: &mut Plan<4, 4>, other: Other) -> Result<(), Fail> {
+    match other {
+        Other::Threshold => plan.config.threshold = 1,
+        Other::Item => plan.schedule.push(Actor::Writer)?,
+        Other::Hop => {
+            plan.changes.clear();
+            plan.changes
+                .push(Change::Add(prefix(rt, 0x12, 8), hop(rt, 6)))?;
+        }
+    }
+    Ok(())
+}
+
+// The run is accepted by its own plan, and refused for this reason by the other one.
+fn assert_of_its_plan(
+    rt: &impl Abort,
+    alloc: Global,
+    other: Other,
+    bursts: &[(Actor, usize)],
+    edits: &[Edit],
+    error: JudgeError,
+) -> Result<(), Fail> {
+    let mut plan = planned(rt, alloc, TWO_GROUPS, edits, &[Deed::Online], bursts)?;
+    let trace = run(rt, alloc, &plan)?;
+    assert_at(rt, "its plan", judge(alloc, &plan, &trace), Ok(()));
+    change_plan(rt, &mut plan, other)?;
+    assert_at(rt, other, judge(alloc, &plan, &trace), Err(error));
+    Ok(())
+}
+
+#[test]
+fn runs_of_another_plan_are_found(rt: HostRuntime) -> Result<(), Fail> {
+    for (other, edits, items, error) in &OTHERS {
+        let bursts = [(Actor::Worker(0), 2), (Actor::Writer, *items)];
+        let edits = &FOUR_EDITS[..*edits];
+        assert_of_its_plan(&rt, rt.alloc(), *other, &bursts, edits, *error)?;
     }
     Ok(())
 }
