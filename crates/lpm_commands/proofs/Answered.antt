@@ -12,7 +12,7 @@ use Rattle.bulk.specs.declared.bulk_error.BulkError.{BulkError}
 use Rattle.bulk.specs.declared.bulk_error.BulkError.TheVariants.{NoWorkers, Memory}
 use Rattle.bulk.specs.declared.desk.Desk.{Desk}
 use Rattle.bulk.specs.Desks.{role_of}
-use Rattle.lpm_commands.specs.declared.failure.Failure.{Failure}
+use Rattle.lpm_files.specs.declared.failure.Failure.{Failure}
 use Rattle.lpm_commands.specs.Lookup.{ending_of, EndsAnswering}
 
 -- a writer at its opening is that of this table, and has these rules

@@ -7,8 +7,8 @@ use Rattle.route_text.specs.declared.routes.Route.{Route}
 use Rattle.route_text.specs.declared.orders.Order.{Order}
 use Rattle.route_text.specs.Files.{AreRoutes, AreAddresses}
 use Rattle.route_text.specs.Updates.{AreUpdates}
-use Rattle.lpm_commands.specs.declared.failure.Failure.{Failure}
-use Rattle.lpm_commands.specs.Inputs.{Reads, IsKnownAs, AreRead}
+use Rattle.lpm_files.specs.declared.failure.Failure.{Failure}
+use Rattle.lpm_files.specs.Inputs.{Reads, IsKnownAs, AreRead}
 use Rattle.lpm_commands.specs.Loading.{IsLoaded, HasTable}
 use Rattle.lpm_commands.specs.Lookup.{lookup_files, EndsAnswering, EndsLookup}
 use Rattle.lpm_commands.specs.Apply.{apply_files, EndsApply}

@@ -21,8 +21,8 @@ use Rattle.fib_model.specs.State.{State, HasTokens}
 use Rattle.fib_model.specs.Outcomes.{Adds, LacksGroup, groups_in_use}
 use Rattle.fib_model.specs.Counting.{counting, opened}
 use Rattle.route_text.specs.declared.routes.Route.{Route}
-use Rattle.lpm_commands.specs.declared.failure.Failure.{Failure}
-use Rattle.lpm_commands.specs.declared.failure.Failure.TheVariants as failures
+use Rattle.lpm_files.specs.declared.failure.Failure.{Failure}
+use Rattle.lpm_files.specs.declared.failure.Failure.TheVariants as failures
 use Rattle.lpm_commands.specs.Loading.{Loads, addition_of, rules_of_routes, IsLoaded, IsFirstRefused, EndsLoading}
 use Rattle.lpm_commands.specs.Groups.{is_long, long_routes, IsEnough}
 use Rattle.lpm_commands.proofs.Loaded.{added_limbo, added_readers}

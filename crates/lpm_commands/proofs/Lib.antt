@@ -1,4 +1,3 @@
-pub mod Written
 pub mod Loaded
 pub mod Groups
 pub mod Reordered

@@ -18,8 +18,8 @@ use Rattle.fib_model.specs.Outcomes.{Adds}
 use Rattle.fib_model.specs.Counting.{counting, by_counters, opened}
 use Rattle.fib_model.proofs.Frozen.{counted, adds_frozen, adds_moving}
 use Rattle.route_text.specs.declared.routes.Route.{Route}
-use Rattle.lpm_commands.specs.declared.failure.Failure.{Failure}
-use Rattle.lpm_commands.specs.declared.failure.Failure.TheVariants as failures
+use Rattle.lpm_files.specs.declared.failure.Failure.{Failure}
+use Rattle.lpm_files.specs.declared.failure.Failure.TheVariants as failures
 use Rattle.lpm_commands.specs.Loading.{EndsLoading}
 use Rattle.lpm_commands.specs.Loading.{Loads, addition_of, IsLoaded, IsFirstRefused}
 

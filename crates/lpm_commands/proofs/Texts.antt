@@ -9,7 +9,7 @@ use Rattle.route_text.specs.declared.routes.Route.{Route}
 use Rattle.route_text.specs.declared.orders.Order.{Order}
 use Rattle.route_text.specs.Files.{AreRoutes, AreAddresses}
 use Rattle.route_text.specs.Updates.{AreUpdates}
-use Rattle.lpm_commands.specs.Inputs.{Reads}
+use Rattle.lpm_files.specs.Inputs.{Reads}
 use Rattle.lpm_commands.specs.Loading.{IsLoaded}
 use Rattle.lpm_commands.specs.Lookup.{IsAnswered, IsAnswerText, IsLookupText}
 use Rattle.lpm_commands.specs.Apply.{IsToldAfter, IsApplyText}

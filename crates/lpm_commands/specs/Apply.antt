@@ -13,10 +13,10 @@ use Rattle.route_text.specs.declared.orders.Order.{Order}
 use Rattle.route_text.specs.Files.{AreRoutes, AreAddresses}
 use Rattle.route_text.specs.Updates.{AreUpdates}
 use Rattle.route_text.specs.Texts.{outcome_lines}
-use Rattle.lpm_commands.specs.declared.failure.Failure.{Failure}
-use Rattle.lpm_commands.specs.declared.failure.Failure.TheVariants.{CannotWrite}
-use Rattle.lpm_commands.specs.Inputs.{Input, Reads, route_file, update_file, address_file}
-use Rattle.lpm_commands.specs.Inputs.{AreRead, EndsAtOne}
+use Rattle.lpm_files.specs.declared.failure.Failure.{Failure}
+use Rattle.lpm_files.specs.declared.failure.Failure.TheVariants.{CannotWrite}
+use Rattle.lpm_files.specs.Inputs.{Input, Reads, route_file, update_file, address_file}
+use Rattle.lpm_files.specs.Inputs.{AreRead, EndsAtOne}
 use Rattle.lpm_commands.specs.Loading.{EndsTable, HasTable}
 use Rattle.lpm_commands.specs.Updating.{IsUpdated, ComesOut, told_of}
 use Rattle.lpm_commands.specs.Lookup.{IsAnswered, EndsAnswering}

@@ -1,5 +1,3 @@
-pub mod Output
-pub mod Inputs
 pub mod Loading
 pub mod Groups
 pub mod Order
@@ -8,4 +6,3 @@ pub mod Lookup
 pub mod Apply
 pub mod Report
 pub mod Migrate
-pub mod Status

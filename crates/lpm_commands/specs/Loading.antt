@@ -16,9 +16,9 @@ use Rattle.fib_model.specs.Outcomes.{Adds}
 use Rattle.fib_model.specs.Counting.{counting, opened}
 use Rattle.route_text.specs.declared.routes.Route.{Route}
 use Rattle.route_text.specs.Files.{AreRoutes}
-use Rattle.lpm_commands.specs.declared.failure.Failure.{Failure}
-use Rattle.lpm_commands.specs.declared.failure.Failure.TheVariants as failures
-use Rattle.lpm_commands.specs.Inputs.{Reads}
+use Rattle.lpm_files.specs.declared.failure.Failure.{Failure}
+use Rattle.lpm_files.specs.declared.failure.Failure.TheVariants as failures
+use Rattle.lpm_files.specs.Inputs.{Reads}
 
 -- the routes are added to s one after another, none is refused, and z is left
 abbrev pub Loads : Config → State Registry → List Route → State Registry → Type 0

@@ -12,10 +12,10 @@ use Rattle.fib_model.specs.State.{State}
 use Rattle.route_text.specs.declared.routes.Route.{Route}
 use Rattle.route_text.specs.Files.{AreRoutes, AreAddresses}
 use Rattle.route_text.specs.Texts.{answer_lines}
-use Rattle.lpm_commands.specs.declared.failure.Failure.{Failure}
-use Rattle.lpm_commands.specs.declared.failure.Failure.TheVariants.{CannotWrite, Memory, Refused}
-use Rattle.lpm_commands.specs.Inputs.{Input, Reads, route_file, address_file}
-use Rattle.lpm_commands.specs.Inputs.{AreRead, EndsAtOne}
+use Rattle.lpm_files.specs.declared.failure.Failure.{Failure}
+use Rattle.lpm_files.specs.declared.failure.Failure.TheVariants.{CannotWrite, Memory, Refused}
+use Rattle.lpm_files.specs.Inputs.{Input, Reads, route_file, address_file}
+use Rattle.lpm_files.specs.Inputs.{AreRead, EndsAtOne}
 use Rattle.lpm_commands.specs.Loading.{rules_of_routes, IsLoaded, EndsTable, HasTable}
 
 -- the text has a line for each address with its longest match

@@ -4,9 +4,9 @@ use Rattle.std.specs.Prelude.{ℕ, ◌≡◌, ◌⊎◌, List, [], ◌∷◌, Op
 use Rattle.route_text.specs.declared.orders.Order.{Order}
 use Rattle.route_text.specs.Updates.{AreOldUpdates}
 use Rattle.route_text.specs.Texts.{update_lines}
-use Rattle.lpm_commands.specs.declared.failure.Failure.{Failure}
-use Rattle.lpm_commands.specs.declared.failure.Failure.TheVariants.{CannotWrite}
-use Rattle.lpm_commands.specs.Inputs.{Reads, old_update_file, EndsAtOne}
+use Rattle.lpm_files.specs.declared.failure.Failure.{Failure}
+use Rattle.lpm_files.specs.declared.failure.Failure.TheVariants.{CannotWrite}
+use Rattle.lpm_files.specs.Inputs.{Reads, old_update_file, EndsAtOne}
 
 -- the text is the update file, in version 2, of the updates that the old file lists; its bytes are
 -- known, or not

@@ -17,10 +17,10 @@ use Rattle.route_text.specs.Files.{AreRoutes}
 use Rattle.route_text.specs.Updates.{AreUpdates}
 use Rattle.audit.specs.declared.report.Report.{Report}
 use Rattle.audit.specs.Report.{report_lines}
-use Rattle.lpm_commands.specs.declared.failure.Failure.{Failure}
-use Rattle.lpm_commands.specs.declared.failure.Failure.TheVariants.{CannotWrite}
-use Rattle.lpm_commands.specs.Inputs.{Input, Reads, route_file, update_file}
-use Rattle.lpm_commands.specs.Inputs.{AreRead, EndsAtOne}
+use Rattle.lpm_files.specs.declared.failure.Failure.{Failure}
+use Rattle.lpm_files.specs.declared.failure.Failure.TheVariants.{CannotWrite}
+use Rattle.lpm_files.specs.Inputs.{Input, Reads, route_file, update_file}
+use Rattle.lpm_files.specs.Inputs.{AreRead, EndsAtOne}
 use Rattle.lpm_commands.specs.Loading.{EndsTable}
 use Rattle.lpm_commands.specs.Updating.{ComesOut, IsUpdated}
 

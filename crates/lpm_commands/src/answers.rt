@@ -3,12 +3,13 @@ ghost use Rattle.std.specs.Prelude.{◌≡◌, ◌<◌, ℕ, IfOk, IfErr};
 ghost use Rattle.lpm_rules.specs.Longest.{AreLongestHops};
 ghost use Rattle.fib_model.specs.Counting.{by_counters};
 ghost use Rattle.shared_fib.specs.Running.{IsFullBench};
-ghost use Rattle.lpm_commands.specs.Lookup.{IsAnswered, EndsAnswering};
+ghost use Rattle.lpm_commands.specs.Lookup.{IsAnswered, EndsAnswering, ending_of};
 
-use crate::failure::Failure;
-use bulk::{Gate, bulk, bulk_plain, seat_all};
+use bulk::{BulkError, Gate, bulk, bulk_plain, seat_all};
 use fib::Fib;
 use lpm_bits::Hop;
+use lpm_files::Failure;
+use qsbr::Refusal;
 use route_text::answers_text;
 use shared_fib::{Bench, SharedTable, Writer, go_live};
 use std::alloc::Global;
@@ -27,7 +28,10 @@ pub fn text_of_answers<'a, R: Threads + Sync, G: Gate>(
     ensures failure { IfErr result (EndsAnswering table.now.config.workers) }
 {
     let workers = table.config().workers;
-    let hops = bulk_plain(rt, alloc, table, workers, addrs, gate)?;
+    let hops = match bulk_plain(rt, alloc, table, workers, addrs, gate) {
+        Ok(hops) => hops,
+        Err(error) => return Err(ending_of(error)),
+    };
     Ok(answers_text(alloc, addrs, &hops)?)
 }
 
@@ -99,6 +103,20 @@ fn desk_hops<'a, R: Threads + Sync, G: Gate>(
     ensures failure { IfErr result (EndsAnswering workers) }
 {
     let mut desks = seat_all(alloc, table, bench, workers)?;
-    let hops = bulk(rt, alloc, table, writer, desks.as_mut_slice(), addrs, gate)?;
-    Ok(hops)
+    match bulk(rt, alloc, table, writer, desks.as_mut_slice(), addrs, gate) {
+        Ok(hops) => Ok(hops),
+        Err(error) => Err(ending_of(error)),
+    }
+}
+
+// What addresses that were not answered end the run with.
+fn ending_of<'a>(error: BulkError) -> Failure<'a>
+    ensures { result ≡ ending_of error }
+{
+    match error {
+        BulkError::NoWorkers => Failure::Refused {
+            refusal: Refusal::NoWorkers,
+        },
+        BulkError::Memory => Failure::Memory,
+    }
 }

@@ -1,18 +1,16 @@
 //! `apply`: what comes of updates after routes, and the next hops of addresses then.
 ghost use Rattle.std.specs.Prelude.{◌≡◌, ◌≢◌, IfOk, IfErr, OnOk, IsErrOf};
 ghost use Rattle.lpm_limits.specs.Limits.{IsConfig};
-ghost use Rattle.lpm_commands.specs.Output.{Writes, WritesBeginning};
+ghost use Rattle.lpm_files.specs.Output.{Writes, WritesBeginning};
 ghost use Rattle.lpm_commands.specs.Apply.{IsApplyText, IsToldAfter, EndsApply};
 ghost use Rattle.lpm_commands.specs.Lookup.{EndsAnswering};
 
 use crate::answers::text_of_answers;
-use crate::failure::Failure;
-use crate::files::{Files, put_text};
-use crate::inputs::{Addresses, Routes, Updates, read_list};
 use crate::loading::load;
 use crate::updating::{text_of_outcomes, update};
 use bulk::Open;
 use fib::Fib;
+use lpm_files::{Addresses, Failure, Files, Routes, Updates, put_text, read_list};
 use qsbr::Config;
 use route_text::Order;
 use std::alloc::Global;

@@ -3,9 +3,6 @@
 
 mod answers;
 mod apply_command;
-mod failure;
-mod files;
-mod inputs;
 mod loading;
 mod lookup_command;
 mod migrate_command;
@@ -14,8 +11,6 @@ mod report_command;
 mod updating;
 
 pub use apply_command::apply;
-pub use failure::{Failure, USAGE};
-pub use files::Files;
 pub use lookup_command::lookup;
 pub use migrate_command::migrate;
 pub use report_command::report;

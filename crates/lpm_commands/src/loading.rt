@@ -5,9 +5,9 @@ ghost use Rattle.fib_model.specs.Counting.{opened};
 ghost use Rattle.lpm_commands.specs.Loading.{IsLoaded, EndsLoading};
 ghost use Rattle.lpm_commands.specs.Groups.{IsEnough, long_routes};
 
-use crate::failure::Failure;
 use crate::ordering::in_order;
 use fib::{Fib, OpenError};
+use lpm_files::Failure;
 use qsbr::{Config, Refusal};
 use route_text::Route;
 use std::alloc::Global;

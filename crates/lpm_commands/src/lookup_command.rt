@@ -1,15 +1,13 @@
 //! `lookup`: the next hops of addresses, by routes.
 ghost use Rattle.std.specs.Prelude.{◌≡◌, ◌≢◌, IfOk, IfErr, OnOk, IsErrOf};
 ghost use Rattle.lpm_limits.specs.Limits.{IsConfig};
-ghost use Rattle.lpm_commands.specs.Output.{Writes, WritesBeginning};
+ghost use Rattle.lpm_files.specs.Output.{Writes, WritesBeginning};
 ghost use Rattle.lpm_commands.specs.Lookup.{IsLookupText, EndsLookup};
 
 use crate::answers::text_of_live_answers;
-use crate::failure::Failure;
-use crate::files::{Files, put_text};
-use crate::inputs::{Addresses, Routes, read_list};
 use crate::loading::load_for_lookups;
 use bulk::Gate;
+use lpm_files::{Addresses, Failure, Files, Routes, put_text, read_list};
 use qsbr::Config;
 use std::alloc::Global;
 use std::io::Write;

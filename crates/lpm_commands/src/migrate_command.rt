@@ -1,11 +1,9 @@
 //! `migrate`: an update file of version 1 in version 2.
 ghost use Rattle.std.specs.Prelude.{◌≡◌, ◌≢◌, IfOk, IfErr, OnOk, IsErrOf};
-ghost use Rattle.lpm_commands.specs.Output.{Writes, WritesBeginning};
+ghost use Rattle.lpm_files.specs.Output.{Writes, WritesBeginning};
 ghost use Rattle.lpm_commands.specs.Migrate.{IsMigrateText, EndsMigrate};
 
-use crate::failure::Failure;
-use crate::files::{Files, put_text};
-use crate::inputs::{OldUpdates, read_list};
+use lpm_files::{Failure, Files, OldUpdates, put_text, read_list};
 use route_text::updates_text;
 use std::alloc::Global;
 use std::io::Write;

@@ -1,16 +1,14 @@
 //! `report`: what a table counts after routes and updates.
 ghost use Rattle.std.specs.Prelude.{◌≡◌, ◌≢◌, IfOk, IfErr, OnOk, IsErrOf};
 ghost use Rattle.lpm_limits.specs.Limits.{IsConfig};
-ghost use Rattle.lpm_commands.specs.Output.{Writes, WritesBeginning};
+ghost use Rattle.lpm_files.specs.Output.{Writes, WritesBeginning};
 ghost use Rattle.lpm_commands.specs.Report.{IsReportText, IsReportedAfter, IsCountOf, EndsReport};
 
-use crate::failure::Failure;
-use crate::files::{Files, put_text};
-use crate::inputs::{Routes, Updates, read_list};
 use crate::loading::load;
 use crate::updating::update;
 use audit::{Report, report_text};
 use fib::Fib;
+use lpm_files::{Failure, Files, Routes, Updates, put_text, read_list};
 use qsbr::Config;
 use route_text::Order;
 use std::alloc::Global;

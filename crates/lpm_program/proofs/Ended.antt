@@ -1,8 +1,8 @@
 -- How a run ended.
 use Rattle.std.proofs.Common.{◌≡◌, ◌≢◌, ◌⊎◌, inl, inr, refl}
-use Rattle.lpm_commands.specs.declared.failure.Failure.{Failure}
-use Rattle.lpm_commands.specs.declared.failure.Failure.TheVariants.{CannotRead, CannotWrite, Bad}
-use Rattle.lpm_commands.specs.declared.failure.Failure.TheVariants.{Memory, RefusedRoute, Refused}
+use Rattle.lpm_files.specs.declared.failure.Failure.{Failure}
+use Rattle.lpm_files.specs.declared.failure.Failure.TheVariants.{CannotRead, CannotWrite, Bad}
+use Rattle.lpm_files.specs.declared.failure.Failure.TheVariants.{Memory, RefusedRoute, Refused}
 
 -- a failure is a failed write, or another one
 pub cannot_write : (e : Failure) → (e ≡ CannotWrite) ⊎ (e ≢ CannotWrite)

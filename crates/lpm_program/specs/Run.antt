@@ -10,13 +10,13 @@ use Rattle.lpm_options.specs.declared.Refused.{Refused}
 use Rattle.lpm_options.specs.declared.Refused.TheVariants as refused
 use Rattle.lpm_options.specs.Commands.{the_app}
 use Rattle.lpm_options.specs.Asked.{IsAskedBy, IsRefusalBy}
-use Rattle.lpm_commands.specs.declared.failure.Failure.{Failure}
-use Rattle.lpm_commands.specs.Output.{Writes, WritesBeginning}
+use Rattle.lpm_files.specs.declared.failure.Failure.{Failure}
+use Rattle.lpm_files.specs.Output.{Writes, WritesBeginning}
 use Rattle.lpm_commands.specs.Lookup.{IsLookupText, EndsLookup}
 use Rattle.lpm_commands.specs.Apply.{IsApplyText, EndsApply}
 use Rattle.lpm_commands.specs.Report.{IsReportText, EndsReport}
 use Rattle.lpm_commands.specs.Migrate.{IsMigrateText, EndsMigrate}
-use Rattle.lpm_commands.specs.Status.{status_of}
+use Rattle.lpm_files.specs.Status.{status_of}
 
 -- the text is the command's output, for files of these bytes
 abbrev pub IsOutput : CommandLine → (List ℕ → Option (List ℕ)) → List ℕ → Type 0

@@ -3,14 +3,15 @@ ghost use Rattle.std.specs.Prelude.{◌≡◌, ◌≢◌, ◌⊎◌, map, OnOk, 
 ghost use Rattle.clap.specs.Words.{kind_of};
 ghost use Rattle.std.specs.declared.io.ErrorKind.TheVariants.{OutOfMemory};
 ghost use Rattle.lpm_options.specs.Asked.{IsInRange};
-ghost use Rattle.lpm_commands.specs.Output.{Writes, WritesBeginning};
+ghost use Rattle.lpm_files.specs.Output.{Writes, WritesBeginning};
 ghost use Rattle.lpm_program.specs.Run.{IsDone, IsBegun, IsCause, IsOutput, EndsCommand};
 ghost use Rattle.lpm_program.specs.Run.{IsShown, EndsRefused};
-ghost use Rattle.lpm_commands.specs.Status.{status_of};
+ghost use Rattle.lpm_files.specs.Status.{status_of};
 
 use bulk::Open;
 use clap::Error;
-use lpm_commands::{Failure, Files, USAGE, apply, lookup, migrate, report};
+use lpm_commands::{apply, lookup, migrate, report};
+use lpm_files::{Failure, Files, USAGE};
 use lpm_options::{CommandLine, Refused, options};
 use std::alloc::Global;
 use std::convert::AsStr;

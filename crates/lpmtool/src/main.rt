@@ -3,7 +3,7 @@
 
 ghost use Rattle.std.specs.Prelude.{None};
 
-use lpm_commands::Files;
+use lpm_files::Files;
 use lpm_program::run::{refuse_words, run};
 use std::fs::File;
 use std::io::{Read, Stdin};

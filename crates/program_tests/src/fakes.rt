@@ -1,7 +1,7 @@
 //! Files and writers in memory, which may fail.
 ghost use Rattle.std.specs.Prelude.{None, Some};
 
-use lpm_commands::Files;
+use lpm_files::Files;
 use std::alloc::Global;
 use std::io;
 use std::io::{ErrorKind, Read, Write};

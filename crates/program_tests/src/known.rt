@@ -7,7 +7,8 @@ ghost use Rattle.lpm_commands.specs.Report.{IsReportText};
 ghost use Rattle.lpm_commands.specs.Migrate.{IsMigrateText};
 
 use bulk::{Gate, Open};
-use lpm_commands::{Files, apply, lookup, migrate, report};
+use lpm_commands::{apply, lookup, migrate, report};
+use lpm_files::Files;
 use qsbr::Config;
 use std::alloc::Global;
 use std::io;

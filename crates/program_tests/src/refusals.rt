@@ -1,6 +1,6 @@
 //! The texts of refusals.
 
-use lpm_commands::Failure;
+use lpm_files::Failure;
 use qsbr::Refusal;
 use std::process::Abort;
 use std::test::Fail;

@@ -1,9 +1,9 @@
 use Rattle.std.proofs.Common.{arith, subst, take, List, ℕ, length, ◌≤◌, drop}
 use Rattle.std.proofs.lemmas.List.{take_rest, length-drop}
 use Rattle.std.specs.Io.KnownBytes.{Appends}
-use Rattle.lpm_commands.proofs.Written.{stays, farther}
-use Rattle.lpm_commands.proofs.files.put_all.Goals as goal
-use Rattle.lpm_commands.proofs.files.put_all.Goals.{in-Ok, in-Err+else-ne}
+use Rattle.lpm_files.proofs.Written.{stays, farther}
+use Rattle.lpm_files.proofs.files.put_all.Goals as goal
+use Rattle.lpm_files.proofs.files.put_all.Goals.{in-Ok, in-Err+else-ne}
 
 pub loop-preserved : goal.loop-preserved
 loop-preserved g c =

@@ -4,8 +4,8 @@ use Rattle.std.specs.Prelude.{ℕ, ◌≡◌, ◌⊎◌, ⊤, List, [], ◌∷�
 use Rattle.route_text.specs.declared.fault.Fault.{Fault}
 use Rattle.route_text.specs.Files.{AreRoutes, IsRoutesFault, AreAddresses, IsAddressesFault}
 use Rattle.route_text.specs.Updates.{AreUpdates, IsUpdatesFault, AreOldUpdates, IsOldUpdatesFault}
-use Rattle.lpm_commands.specs.declared.failure.Failure.{Failure}
-use Rattle.lpm_commands.specs.declared.failure.Failure.TheVariants.{CannotRead, Bad, Memory}
+use Rattle.lpm_files.specs.declared.failure.Failure.{Failure}
+use Rattle.lpm_files.specs.declared.failure.Failure.TheVariants.{CannotRead, Bad, Memory}
 
 -- a file to read: its path, its bytes where they are known, whether bytes are of its form, and the
 -- first fault of bytes that aren't

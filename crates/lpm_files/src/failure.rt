@@ -1,11 +1,9 @@
 //! What ends a run before its output is written, and its exit status.
 ghost use Rattle.std.specs.Prelude.{◌≡◌};
-ghost use Rattle.lpm_commands.specs.Lookup.{ending_of};
-ghost use Rattle.lpm_commands.specs.Status.{status_of};
-ghost use Rattle.lpm_commands.specs.declared.failure.Failure.TheVariants.{Memory as IsMemory};
+ghost use Rattle.lpm_files.specs.Status.{status_of};
+ghost use Rattle.lpm_files.specs.declared.failure.Failure.TheVariants.{Memory as IsMemory};
 
-use bulk::BulkError;
-use qsbr::Refusal;
+use lpm_limits::Refusal;
 use route_text::Fault;
 use std::alloc::AllocError;
 use thiserror::Error;
@@ -63,21 +61,7 @@ impl From<AllocError> for Failure<'_> {
     ghost from_gives = { λ _ failure. failure ≡ IsMemory };
 
     fn from(_error: AllocError) -> Self {
-        Failure::Memory
-    }
-}
-
-/// Why addresses were not answered, as it ends a run.
-impl From<BulkError> for Failure<'_> {
-    ghost from_gives = { λ error failure. failure ≡ ending_of error };
-
-    fn from(error: BulkError) -> Self {
-        match error {
-            BulkError::NoWorkers => Failure::Refused {
-                refusal: Refusal::NoWorkers,
-            },
-            BulkError::Memory => Failure::Memory,
-        }
+        Self::Memory
     }
 }
 

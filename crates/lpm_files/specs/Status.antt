@@ -1,8 +1,8 @@
 -- Meaning: the exit status of a failure (this project's program).
 use Rattle.std.specs.Prelude.{ℕ}
-use Rattle.lpm_commands.specs.declared.failure.Failure.{Failure}
-use Rattle.lpm_commands.specs.declared.failure.Failure.TheVariants.{CannotRead, CannotWrite, Bad}
-use Rattle.lpm_commands.specs.declared.failure.Failure.TheVariants.{Memory, RefusedRoute, Refused}
+use Rattle.lpm_files.specs.declared.failure.Failure.{Failure}
+use Rattle.lpm_files.specs.declared.failure.Failure.TheVariants.{CannotRead, CannotWrite, Bad}
+use Rattle.lpm_files.specs.declared.failure.Failure.TheVariants.{Memory, RefusedRoute, Refused}
 
 abbrev pub status_of : Failure → ℕ
 status_of (CannotRead path) = 3

@@ -1,11 +1,11 @@
-//! The files that a command reads, each of its form.
+//! Files that are read, each of its form.
 ghost use Rattle.std.specs.Prelude.{◌≡◌, ◌⊎◌, ⊤, ℕ, List, All, IfOk, IfErr};
 ghost use Rattle.route_text.specs.declared.fault.Fault.{Fault};
 ghost use Rattle.route_text.specs.Files.{AreRoutes, IsRoutesFault, AreAddresses, IsAddressesFault};
 ghost use Rattle.route_text.specs.Updates.{AreUpdates, IsUpdatesFault};
 ghost use Rattle.route_text.specs.Updates.{AreOldUpdates, IsOldUpdatesFault, IsCountInRange};
 ghost use Rattle.route_text.specs.Readings.{IsReadError};
-ghost use Rattle.lpm_commands.specs.Inputs.{input, Reads, EndsParsing, EndsReading};
+ghost use Rattle.lpm_files.specs.Inputs.{input, Reads, EndsParsing, EndsReading};
 
 use crate::failure::Failure;
 use crate::files::{Files, ReadFailure, read_file};
@@ -16,6 +16,7 @@ use std::alloc::Global;
 
 /// A form of files, whose bytes list items.
 pub trait Form {
+    /// What a line of the file says.
     type Item: Copy;
 
     // The bytes are a file of these items.
@@ -35,7 +36,7 @@ pub trait Form {
         ensures error { IfErr result (IsReadError (IsFault bytes.now)) };
 }
 
-/// Route files.
+/// Route files: a prefix and its next hop a line.
 pub struct Routes;
 
 impl Form for Routes {
@@ -52,7 +53,7 @@ impl Form for Routes {
     }
 }
 
-/// Address files.
+/// Address files: an address a line.
 pub struct Addresses;
 
 impl Form for Addresses {
@@ -103,7 +104,10 @@ impl Form for OldUpdates {
     }
 }
 
-/// The items of the file at the path: it is read, and then parsed.
+/// The items of the file at the path. The file is read whole, and then parsed.
+///
+/// `CannotRead` comes where the file can't be opened or a read of it fails, `Bad` where its bytes have
+/// a fault, and `Memory` where a growth is refused: in opening, in reading or in parsing.
 pub fn read_list<'a, L: Form, F: Files>(
     alloc: Global,
     files: &F,

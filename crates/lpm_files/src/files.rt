@@ -4,8 +4,8 @@ ghost use Rattle.std.specs.Prelude.{◌↔◌, IfOk, IfErr, IfSome, OnOk, OnErr}
 ghost use Rattle.std.specs.declared.io.ErrorKind.TheVariants.{OutOfMemory};
 ghost use Rattle.std.specs.Io.KnownBytes.{Appends};
 ghost use Rattle.std.specs.IoError.{error_kind};
-ghost use Rattle.lpm_commands.specs.Inputs.{IsKnownAs};
-ghost use Rattle.lpm_commands.specs.Output.{Begins};
+ghost use Rattle.lpm_files.specs.Inputs.{IsKnownAs};
+ghost use Rattle.lpm_files.specs.Output.{Begins};
 
 use crate::failure::Failure;
 use std::alloc::Global;
@@ -58,7 +58,8 @@ fn read_failure(e: io::Error) -> ReadFailure
     }
 }
 
-/// Writes all of the text, or ends the run with `CannotWrite`.
+/// Writes all of the text. An interrupted write is made once more. `CannotWrite` comes where a write
+/// fails otherwise, or takes no byte though some are left.
 pub fn put_text<'a, W: Write>(out: &mut W, text: &[u8]) -> Result<(), Failure<'a>>
     ensures all { OnOk result (Appends (W.contents out.old) (W.contents out.new) text.now) }
     ensures beginning { OnErr result (Begins (W.contents out.old) (W.contents out.new) text.now) }
