@@ -16,17 +16,12 @@ use Rattle.lpm_writer.specs.Waiting.{tokens_of}
 use Rattle.fib.specs.Fib.{IsSound}
 use Rattle.shared_words.specs.declared.layout.Layout.{Layout}
 use Rattle.shared_words.specs.declared.view.View.{View}
-use Rattle.shared_words.specs.Opened.{Opened, setup_of}
+use Rattle.shared_words.specs.Opened.{setup_of}
 use Rattle.shared_words.specs.Rule.{writer_view}
 use Rattle.shared_words.specs.Seats.{IsOf}
 use Rattle.shared_memory.specs.declared.loaded.Loaded.{Loaded}
-use Rattle.shared_memory.specs.Loaded.{opened_of}
-use Rattle.shared_fib.specs.Running.{Identity, WriterState, IsAtRest, IsReady, opens_with, setup}
+use Rattle.shared_fib.specs.Running.{Identity, WriterState, IsAtRest, IsReady, opening_by, opens_with, setup}
 use Rattle.shared_fib.proofs.Live.{live_settled, live_rests}
-
--- what a table is opened with that goes on from what was loaded
-abbrev pub opening_by : (f s : ℕ) → Loaded f s → Opened
-opening_by f s l = opened_of f s l.cells l.rules.rules l.groups l.workers l.token
 
 -- ---- what was loaded
 

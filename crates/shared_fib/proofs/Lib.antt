@@ -2,7 +2,6 @@ pub mod Seated
 pub mod Live
 pub mod Rests
 pub mod Seats
-pub mod Backwards
 pub mod Freed
 pub mod Checked
 pub mod AllFreed

@@ -1,4 +1,3 @@
 pub mod Running
-pub mod Laws
 pub mod Passing
 pub mod Freeing

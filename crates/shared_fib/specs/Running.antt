@@ -16,13 +16,15 @@ use Rattle.lpm_trace.specs.Tables.{Setup, Tables, tables, addresses, answer, IsA
 use Rattle.lpm_trace.specs.Trace.{worker_by}
 use Rattle.lpm_trace.specs.Workers.{Phase, Offline, Online}
 use Rattle.lpm_writer.specs.declared.ledger.Ledger.{Ledger}
-use Rattle.lpm_writer.specs.Resting.{IsResting}
+use Rattle.lpm_writer.specs.Resting.{IsResting, state_of}
 use Rattle.shared_words.specs.declared.layout.Layout.{Layout}
 use Rattle.shared_words.specs.declared.view.View.{View}
 use Rattle.shared_words.specs.declared.view.Role.TheVariants.{Worker}
 use Rattle.shared_words.specs.contracts.view.View as view_row
 use Rattle.shared_words.specs.Opened.{Opened, coded_opened, setup_of}
 use Rattle.shared_words.specs.Layout.{word_count}
+use Rattle.shared_memory.specs.declared.loaded.Loaded.{Loaded}
+use Rattle.shared_memory.specs.Loaded.{opened_of}
 use Rattle.shared_deeds.specs.Deeds.{GainsAll}
 
 -- ---- the table
@@ -35,6 +37,10 @@ pub record Identity : Type 0 where
 -- what the traces of the table begin with
 abbrev pub setup : Identity → Setup
 setup id = setup_of id.opening
+
+-- what a table is opened with that goes on from what was loaded
+abbrev pub opening_by : (first second : ℕ) → Loaded first second → Opened
+opening_by first second l = opened_of first second l.cells l.rules.rules l.groups l.workers l.token
 
 -- the table is of these widths and has a word for each place
 pub record IsFitted (first second : ℕ) (id : Identity) (layout : Layout) : Type 0 where
@@ -81,10 +87,18 @@ opens_with id config rules = record {
   table = record { rules = rules; readers = []; limbo = []; begun = 0 };
 }
 
--- after the steps of the seat the ledger rests, and the tokens are not past their bound
+-- the ledger with the steps that the seat knows
+abbrev pub state_by : {first second : ℕ} → Ledger first second → View → State (List WriterStep)
+state_by ledger v = state_of ledger.rules.rules v.seen ledger.books ledger.versions
+
+-- after the steps of the seat the ledger rests
+abbrev pub RestsBy : (first second : ℕ) → Ledger first second → View → Type 0
+RestsBy first second ledger v = IsResting first second (setup_of v.opening) v.seen
+    ledger.config ledger.rules ledger.books ledger.versions
+
+-- the same, and the tokens are not past their bound
 pub record IsReady (first second : ℕ) (ledger : Ledger first second) (v : View) : Type 0 where
-  pub rests : IsResting first second (setup_of v.opening) v.seen
-      ledger.config ledger.rules ledger.books ledger.versions
+  pub rests : RestsBy first second ledger v
   pub token : (tables (setup_of v.opening) v.seen).token ≤ 2 ^ 62
 
 -- of what the seat knows only the writer's steps have changed

@@ -4,8 +4,7 @@ ghost use Rattle.std.specs.Prelude.{◌≡◌, ℕ, ◌<◌, ◌≤◌, ◌↔�
 ghost use Rattle.shared_words.specs.declared.view.Role.TheVariants.{Worker};
 ghost use Rattle.shared_words.specs.Rule.{with_one_more, worker_view};
 ghost use Rattle.shared_words.specs.Seats.{IsOf};
-ghost use Rattle.shared_memory.specs.Loaded.{opened_of};
-ghost use Rattle.shared_fib.specs.Running.{IsBenchOf, IsFullBench, IsPassOf, Leaves, PassState, identity_of};
+ghost use Rattle.shared_fib.specs.Running.{IsBenchOf, IsFullBench, IsPassOf, Leaves, PassState, identity_of, opening_by};
 
 use crate::table::Words;
 use crate::{Pass, SharedTable};
@@ -61,10 +60,8 @@ fn next_pass<const FIRST: u32, const SECOND: u32>(
     number: u64,
 ) -> Pass
     requires own { IsOf table.now.board.shared.table_id
-        (opened_of FIRST SECOND table.now.board.shared.key.cells
-        table.now.board.shared.key.rules.rules table.now.board.shared.key.groups
-        table.now.board.shared.key.workers table.now.board.shared.key.token)
-        table.now.layout seat.old.place.table_id seat.old.place.me.0 }
+        (opening_by FIRST SECOND table.now.board.shared.key) table.now.layout
+        seat.old.place.table_id seat.old.place.me.0 }
     requires number { seat.old.place.me.0.made ≡ number }
     requires worker { number < table.now.layout.workers }
     ensures own { seat.new.place.table_id ≡ seat.old.place.table_id }
@@ -86,10 +83,8 @@ impl Bench {
         seat: &mut WriterSeat,
     ) -> Result<Self, AllocError>
         requires own { IsOf table.now.board.shared.table_id
-            (opened_of FIRST SECOND table.now.board.shared.key.cells
-            table.now.board.shared.key.rules.rules table.now.board.shared.key.groups
-            table.now.board.shared.key.workers table.now.board.shared.key.token)
-            table.now.layout seat.old.place.table_id seat.old.place.me.0 }
+            (opening_by FIRST SECOND table.now.board.shared.key) table.now.layout
+            seat.old.place.table_id seat.old.place.me.0 }
         requires none { seat.old.place.me.0.made ≡ 0 }
         ensures own { seat.new.place.table_id ≡ seat.old.place.table_id }
         ensures view { (made : ℕ) × (seat.new.place.me.0 ≡ record seat.old.place.me.0 { made = made }) }

@@ -3,14 +3,12 @@
 ghost use Rattle.std.specs.Prelude.{ℕ, ◌≡◌, List, take};
 ghost use Rattle.fib_model.specs.Outcomes.{Adds, Deletes, Flushes, Frees};
 ghost use Rattle.lpm_writer.specs.Traced.{by_steps};
-ghost use Rattle.lpm_writer.specs.Resting.{IsResting, state_of};
 ghost use Rattle.lpm_writer.specs.Waiting.{tokens_of};
 ghost use Rattle.shared_words.specs.Opened.{setup_of};
 ghost use Rattle.shared_memory.specs.Lent.{SharedDid};
 ghost use Rattle.shared_words.specs.Seats.{IsOf};
-ghost use Rattle.shared_memory.specs.Loaded.{opened_of};
 ghost use Rattle.shared_fib.specs.Freeing.{FreesChecked};
-ghost use Rattle.shared_fib.specs.Running.{IsReady, OnlySees};
+ghost use Rattle.shared_fib.specs.Running.{IsReady, OnlySees, RestsBy, opening_by, state_by};
 
 use crate::table::Words;
 use defer_queue::Reclaimed;
@@ -33,14 +31,11 @@ pub(crate) fn add_over<const FIRST: u32, const SECOND: u32>(
     hop: Hop,
 ) -> Result<Put, Refusal>
     requires did { SharedDid memory.old (setup_of memory.old.view.opening) memory.old.view.seen }
-    requires rests { IsResting FIRST SECOND (setup_of memory.old.view.opening) memory.old.view.seen
-        ledger.old.config ledger.old.rules ledger.old.books ledger.old.versions }
+    requires rests { RestsBy FIRST SECOND ledger.old memory.old.view }
     ensures adds { Adds (by_steps (setup_of memory.old.view.opening)) FIRST SECOND ledger.old.config
-        (state_of ledger.old.rules.rules memory.old.view.seen ledger.old.books ledger.old.versions)
-        prefix.now hop result
-        (state_of ledger.new.rules.rules memory.new.view.seen ledger.new.books ledger.new.versions) }
-    ensures rests { IsResting FIRST SECOND (setup_of memory.new.view.opening) memory.new.view.seen
-        ledger.new.config ledger.new.rules ledger.new.books ledger.new.versions }
+        (state_by ledger.old memory.old.view) prefix.now hop result
+        (state_by ledger.new memory.new.view) }
+    ensures rests { RestsBy FIRST SECOND ledger.new memory.new.view }
     ensures name { memory.new.name ≡ memory.old.name }
     ensures table { memory.new.table ≡ memory.old.table }
     ensures view { OnlySees memory.old.view memory.new.view }
@@ -57,26 +52,17 @@ pub(crate) fn add_by<const FIRST: u32, const SECOND: u32>(
     hop: Hop,
 ) -> Result<Put, Refusal>
     requires own { IsOf table.now.board.shared.table_id
-        (opened_of FIRST SECOND table.now.board.shared.key.cells
-        table.now.board.shared.key.rules.rules table.now.board.shared.key.groups
-        table.now.board.shared.key.workers table.now.board.shared.key.token)
-        table.now.layout seat.old.place.table_id seat.old.place.me.0 }
+        (opening_by FIRST SECOND table.now.board.shared.key) table.now.layout
+        seat.old.place.table_id seat.old.place.me.0 }
     requires ready { IsReady FIRST SECOND ledger.old seat.old.place.me.0 }
     ensures adds { Adds (by_steps (setup_of seat.old.place.me.0.opening)) FIRST SECOND
-        ledger.old.config
-        (state_of ledger.old.rules.rules seat.old.place.me.0.seen ledger.old.books
-        ledger.old.versions)
-        prefix.now hop result
-        (state_of ledger.new.rules.rules seat.new.place.me.0.seen ledger.new.books
-        ledger.new.versions) }
+        ledger.old.config (state_by ledger.old seat.old.place.me.0) prefix.now hop result
+        (state_by ledger.new seat.new.place.me.0) }
     ensures ready { IsReady FIRST SECOND ledger.new seat.new.place.me.0 }
     ensures seat { seat.new.place.table_id ≡ seat.old.place.table_id }
     ensures view { OnlySees seat.old.place.me.0 seat.new.place.me.0 }
     ensures checked { (freed : List ℕ) × FreesChecked (setup_of seat.old.place.me.0.opening)
-        (state_of ledger.old.rules.rules seat.old.place.me.0.seen ledger.old.books
-        ledger.old.versions)
-        (state_of ledger.new.rules.rules seat.new.place.me.0.seen ledger.new.books
-        ledger.new.versions) freed }
+        (state_by ledger.old seat.old.place.me.0) (state_by ledger.new seat.new.place.me.0) freed }
     ensures config { ledger.new.config ≡ ledger.old.config }
 {
     let mut memory = SharedMemory::new(table, seat);
@@ -92,14 +78,11 @@ pub(crate) fn delete_over<const FIRST: u32, const SECOND: u32>(
     prefix: &Prefix<FIRST, SECOND>,
 ) -> Result<Hop, Refusal>
     requires did { SharedDid memory.old (setup_of memory.old.view.opening) memory.old.view.seen }
-    requires rests { IsResting FIRST SECOND (setup_of memory.old.view.opening) memory.old.view.seen
-        ledger.old.config ledger.old.rules ledger.old.books ledger.old.versions }
-    ensures deletes { Deletes (by_steps (setup_of memory.old.view.opening)) FIRST SECOND ledger.old.config
-        (state_of ledger.old.rules.rules memory.old.view.seen ledger.old.books ledger.old.versions)
-        prefix.now result
-        (state_of ledger.new.rules.rules memory.new.view.seen ledger.new.books ledger.new.versions) }
-    ensures rests { IsResting FIRST SECOND (setup_of memory.new.view.opening) memory.new.view.seen
-        ledger.new.config ledger.new.rules ledger.new.books ledger.new.versions }
+    requires rests { RestsBy FIRST SECOND ledger.old memory.old.view }
+    ensures deletes { Deletes (by_steps (setup_of memory.old.view.opening)) FIRST SECOND
+        ledger.old.config (state_by ledger.old memory.old.view) prefix.now result
+        (state_by ledger.new memory.new.view) }
+    ensures rests { RestsBy FIRST SECOND ledger.new memory.new.view }
     ensures name { memory.new.name ≡ memory.old.name }
     ensures table { memory.new.table ≡ memory.old.table }
     ensures view { OnlySees memory.old.view memory.new.view }
@@ -115,26 +98,17 @@ pub(crate) fn delete_by<const FIRST: u32, const SECOND: u32>(
     prefix: &Prefix<FIRST, SECOND>,
 ) -> Result<Hop, Refusal>
     requires own { IsOf table.now.board.shared.table_id
-        (opened_of FIRST SECOND table.now.board.shared.key.cells
-        table.now.board.shared.key.rules.rules table.now.board.shared.key.groups
-        table.now.board.shared.key.workers table.now.board.shared.key.token)
-        table.now.layout seat.old.place.table_id seat.old.place.me.0 }
+        (opening_by FIRST SECOND table.now.board.shared.key) table.now.layout
+        seat.old.place.table_id seat.old.place.me.0 }
     requires ready { IsReady FIRST SECOND ledger.old seat.old.place.me.0 }
     ensures deletes { Deletes (by_steps (setup_of seat.old.place.me.0.opening)) FIRST SECOND
-        ledger.old.config
-        (state_of ledger.old.rules.rules seat.old.place.me.0.seen ledger.old.books
-        ledger.old.versions)
-        prefix.now result
-        (state_of ledger.new.rules.rules seat.new.place.me.0.seen ledger.new.books
-        ledger.new.versions) }
+        ledger.old.config (state_by ledger.old seat.old.place.me.0) prefix.now result
+        (state_by ledger.new seat.new.place.me.0) }
     ensures ready { IsReady FIRST SECOND ledger.new seat.new.place.me.0 }
     ensures seat { seat.new.place.table_id ≡ seat.old.place.table_id }
     ensures view { OnlySees seat.old.place.me.0 seat.new.place.me.0 }
     ensures checked { (freed : List ℕ) × FreesChecked (setup_of seat.old.place.me.0.opening)
-        (state_of ledger.old.rules.rules seat.old.place.me.0.seen ledger.old.books
-        ledger.old.versions)
-        (state_of ledger.new.rules.rules seat.new.place.me.0.seen ledger.new.books
-        ledger.new.versions) freed }
+        (state_by ledger.old seat.old.place.me.0) (state_by ledger.new seat.new.place.me.0) freed }
     ensures config { ledger.new.config ≡ ledger.old.config }
 {
     let mut memory = SharedMemory::new(table, seat);
@@ -149,14 +123,11 @@ pub(crate) fn flush_over<const FIRST: u32, const SECOND: u32>(
     memory: &mut SharedMemory<'_, FIRST, SECOND>,
 ) -> Result<usize, Refusal>
     requires did { SharedDid memory.old (setup_of memory.old.view.opening) memory.old.view.seen }
-    requires rests { IsResting FIRST SECOND (setup_of memory.old.view.opening) memory.old.view.seen
-        ledger.old.config ledger.old.rules ledger.old.books ledger.old.versions }
-    ensures flushes { Flushes (by_steps (setup_of memory.old.view.opening)) FIRST SECOND ledger.old.config
-        (state_of ledger.old.rules.rules memory.old.view.seen ledger.old.books ledger.old.versions)
-        result
-        (state_of ledger.new.rules.rules memory.new.view.seen ledger.new.books ledger.new.versions) }
-    ensures rests { IsResting FIRST SECOND (setup_of memory.new.view.opening) memory.new.view.seen
-        ledger.new.config ledger.new.rules ledger.new.books ledger.new.versions }
+    requires rests { RestsBy FIRST SECOND ledger.old memory.old.view }
+    ensures flushes { Flushes (by_steps (setup_of memory.old.view.opening)) FIRST SECOND
+        ledger.old.config (state_by ledger.old memory.old.view) result
+        (state_by ledger.new memory.new.view) }
+    ensures rests { RestsBy FIRST SECOND ledger.new memory.new.view }
     ensures name { memory.new.name ≡ memory.old.name }
     ensures table { memory.new.table ≡ memory.old.table }
     ensures view { OnlySees memory.old.view memory.new.view }
@@ -171,26 +142,17 @@ pub(crate) fn flush_by<const FIRST: u32, const SECOND: u32>(
     table: &Words<FIRST, SECOND>,
 ) -> Result<usize, Refusal>
     requires own { IsOf table.now.board.shared.table_id
-        (opened_of FIRST SECOND table.now.board.shared.key.cells
-        table.now.board.shared.key.rules.rules table.now.board.shared.key.groups
-        table.now.board.shared.key.workers table.now.board.shared.key.token)
-        table.now.layout seat.old.place.table_id seat.old.place.me.0 }
+        (opening_by FIRST SECOND table.now.board.shared.key) table.now.layout
+        seat.old.place.table_id seat.old.place.me.0 }
     requires ready { IsReady FIRST SECOND ledger.old seat.old.place.me.0 }
     ensures flushes { Flushes (by_steps (setup_of seat.old.place.me.0.opening)) FIRST SECOND
-        ledger.old.config
-        (state_of ledger.old.rules.rules seat.old.place.me.0.seen ledger.old.books
-        ledger.old.versions)
-        result
-        (state_of ledger.new.rules.rules seat.new.place.me.0.seen ledger.new.books
-        ledger.new.versions) }
+        ledger.old.config (state_by ledger.old seat.old.place.me.0) result
+        (state_by ledger.new seat.new.place.me.0) }
     ensures ready { IsReady FIRST SECOND ledger.new seat.new.place.me.0 }
     ensures seat { seat.new.place.table_id ≡ seat.old.place.table_id }
     ensures view { OnlySees seat.old.place.me.0 seat.new.place.me.0 }
     ensures checked { (freed : List ℕ) × FreesChecked (setup_of seat.old.place.me.0.opening)
-        (state_of ledger.old.rules.rules seat.old.place.me.0.seen ledger.old.books
-        ledger.old.versions)
-        (state_of ledger.new.rules.rules seat.new.place.me.0.seen ledger.new.books
-        ledger.new.versions) freed }
+        (state_by ledger.old seat.old.place.me.0) (state_by ledger.new seat.new.place.me.0) freed }
     ensures config { ledger.new.config ≡ ledger.old.config }
 {
     let mut memory = SharedMemory::new(table, seat);
@@ -206,14 +168,10 @@ pub(crate) fn reclaim_over<const FIRST: u32, const SECOND: u32>(
     max: usize,
 ) -> Reclaimed
     requires did { SharedDid memory.old (setup_of memory.old.view.opening) memory.old.view.seen }
-    requires rests { IsResting FIRST SECOND (setup_of memory.old.view.opening) memory.old.view.seen
-        ledger.old.config ledger.old.rules ledger.old.books ledger.old.versions }
+    requires rests { RestsBy FIRST SECOND ledger.old memory.old.view }
     ensures frees { Frees (by_steps (setup_of memory.old.view.opening))
-        (state_of ledger.old.rules.rules memory.old.view.seen ledger.old.books ledger.old.versions)
-        max result
-        (state_of ledger.new.rules.rules memory.new.view.seen ledger.new.books ledger.new.versions) }
-    ensures rests { IsResting FIRST SECOND (setup_of memory.new.view.opening) memory.new.view.seen
-        ledger.new.config ledger.new.rules ledger.new.books ledger.new.versions }
+        (state_by ledger.old memory.old.view) max result (state_by ledger.new memory.new.view) }
+    ensures rests { RestsBy FIRST SECOND ledger.new memory.new.view }
     ensures name { memory.new.name ≡ memory.old.name }
     ensures table { memory.new.table ≡ memory.old.table }
     ensures view { OnlySees memory.old.view memory.new.view }
@@ -229,25 +187,17 @@ pub(crate) fn reclaim_by<const FIRST: u32, const SECOND: u32>(
     max: usize,
 ) -> Reclaimed
     requires own { IsOf table.now.board.shared.table_id
-        (opened_of FIRST SECOND table.now.board.shared.key.cells
-        table.now.board.shared.key.rules.rules table.now.board.shared.key.groups
-        table.now.board.shared.key.workers table.now.board.shared.key.token)
-        table.now.layout seat.old.place.table_id seat.old.place.me.0 }
+        (opening_by FIRST SECOND table.now.board.shared.key) table.now.layout
+        seat.old.place.table_id seat.old.place.me.0 }
     requires ready { IsReady FIRST SECOND ledger.old seat.old.place.me.0 }
     ensures frees { Frees (by_steps (setup_of seat.old.place.me.0.opening))
-        (state_of ledger.old.rules.rules seat.old.place.me.0.seen ledger.old.books
-        ledger.old.versions)
-        max result
-        (state_of ledger.new.rules.rules seat.new.place.me.0.seen ledger.new.books
-        ledger.new.versions) }
+        (state_by ledger.old seat.old.place.me.0) max result
+        (state_by ledger.new seat.new.place.me.0) }
     ensures ready { IsReady FIRST SECOND ledger.new seat.new.place.me.0 }
     ensures seat { seat.new.place.table_id ≡ seat.old.place.table_id }
     ensures view { OnlySees seat.old.place.me.0 seat.new.place.me.0 }
     ensures checked { FreesChecked (setup_of seat.old.place.me.0.opening)
-        (state_of ledger.old.rules.rules seat.old.place.me.0.seen ledger.old.books
-        ledger.old.versions)
-        (state_of ledger.new.rules.rules seat.new.place.me.0.seen ledger.new.books
-        ledger.new.versions)
+        (state_by ledger.old seat.old.place.me.0) (state_by ledger.new seat.new.place.me.0)
         (take result.freed (tokens_of ledger.old.books.queue.items)) }
     ensures config { ledger.new.config ≡ ledger.old.config }
 {

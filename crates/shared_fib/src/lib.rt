@@ -7,7 +7,6 @@
 
 mod bench;
 mod commands;
-pub mod laws;
 mod laying;
 mod opening;
 mod pass;

@@ -10,8 +10,7 @@ ghost use Rattle.lpm_trace.specs.Tables.{IsSettled};
 ghost use Rattle.shared_words.specs.Opened.{setup_of};
 ghost use Rattle.shared_words.specs.Rule.{writer_view};
 ghost use Rattle.shared_words.specs.Seats.{IsOf};
-ghost use Rattle.shared_memory.specs.Loaded.{opened_of};
-ghost use Rattle.shared_fib.specs.Running.{IsAtRest, IsFullBench, opens_with};
+ghost use Rattle.shared_fib.specs.Running.{IsAtRest, IsFullBench, opening_by, opens_with};
 
 use crate::laying::lay;
 use crate::table::Words;
@@ -31,16 +30,12 @@ fn open_words<const FIRST: u32, const SECOND: u32>(
     loaded: &Loaded<FIRST, SECOND>,
 ) -> Result<(Words<FIRST, SECOND>, WriterSeat), AllocError>
     requires workers { loaded.now.workers ≤ 2048 }
-    requires settled { IsSettled (setup_of (opened_of FIRST SECOND loaded.now.cells
-        loaded.now.rules.rules loaded.now.groups loaded.now.workers loaded.now.token)) }
+    requires settled { IsSettled (setup_of (opening_by FIRST SECOND loaded.now)) }
     ensures key { IfOk result (λ r. r.0.board.shared.key ≡ loaded.now) }
     ensures own { IfOk result (λ r. IsOf r.0.board.shared.table_id
-        (opened_of FIRST SECOND loaded.now.cells loaded.now.rules.rules loaded.now.groups
-        loaded.now.workers loaded.now.token)
-        r.0.layout r.1.place.table_id r.1.place.me.0) }
-    ensures view { IfOk result (λ r. r.1.place.me.0
-        ≡ writer_view (opened_of FIRST SECOND loaded.now.cells loaded.now.rules.rules
-        loaded.now.groups loaded.now.workers loaded.now.token)) }
+        (opening_by FIRST SECOND loaded.now) r.0.layout r.1.place.table_id r.1.place.me.0) }
+    ensures view { IfOk result
+        (λ r. r.1.place.me.0 ≡ writer_view (opening_by FIRST SECOND loaded.now)) }
 {
     let layout = Layout::new(
         loaded.cells.first_words().len(),

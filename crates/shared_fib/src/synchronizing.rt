@@ -4,14 +4,12 @@ ghost use Rattle.std.specs.Prelude.{◌≡◌, ◌+◌, ◌^◌, ◌<◌, ◌≤
 ghost use Rattle.lpm_trace.specs.Laws.{IsChecked};
 ghost use Rattle.lpm_writer.specs.Traced.{AnyMemory, steps_alone};
 ghost use Rattle.lpm_writer.specs.Waiting.{tokens_of};
-ghost use Rattle.lpm_writer.specs.Resting.{IsResting};
 ghost use Rattle.lpm_writer.specs.Synchronizing.{IsWaiting, Synchronizes};
 ghost use Rattle.shared_words.specs.Opened.{setup_of};
 ghost use Rattle.shared_words.specs.Seats.{IsOf};
-ghost use Rattle.shared_memory.specs.Loaded.{opened_of};
 ghost use Rattle.shared_memory.specs.Lent.{SharedDid, left_by_view};
 ghost use Rattle.shared_fib.specs.Passing.{PassesAtLast};
-ghost use Rattle.shared_fib.specs.Running.{IsAtRest, IsReady, OnlySees, left_by, setup, steps_of};
+ghost use Rattle.shared_fib.specs.Running.{IsAtRest, IsReady, OnlySees, RestsBy, left_by, opening_by, setup, steps_of};
 
 use crate::table::Words;
 use crate::{SharedTable, Writer};
@@ -35,8 +33,7 @@ fn check_until_passed<const FIRST: u32, const SECOND: u32, R: Wait>(
     ensures queued { 0 < ledger.old.config.workers
         → All (λ token. token ≤ (left_by_view memory.new.view).passed)
         (tokens_of ledger.new.books.queue.items) }
-    ensures rests { IsResting FIRST SECOND (setup_of memory.new.view.opening) memory.new.view.seen
-        ledger.new.config ledger.new.rules ledger.new.books ledger.new.versions }
+    ensures rests { RestsBy FIRST SECOND ledger.new memory.new.view }
     ensures same { ledger.new ≡ record ledger.old {
       books = record ledger.old.books { passed = ledger.new.books.passed };
     } }
@@ -59,8 +56,7 @@ fn synchronize_over<const FIRST: u32, const SECOND: u32, R: Wait>(
     memory: &mut SharedMemory<'_, FIRST, SECOND>,
 ) -> Result<(), Exhausted>
     requires did { SharedDid memory.old (setup_of memory.old.view.opening) memory.old.view.seen }
-    requires rests { IsResting FIRST SECOND (setup_of memory.old.view.opening) memory.old.view.seen
-        ledger.old.config ledger.old.rules ledger.old.books ledger.old.versions }
+    requires rests { RestsBy FIRST SECOND ledger.old memory.old.view }
     ensures exhausted { IsErr result
         ↔ (2 ^ 62 < (left_by_view memory.old.view).token + ledger.old.config.groups) }
     ensures synchronizes { OnOk result (Synchronizes AnyMemory (setup_of memory.old.view.opening)
@@ -68,8 +64,7 @@ fn synchronize_over<const FIRST: u32, const SECOND: u32, R: Wait>(
     ensures queued { OnOk result (0 < ledger.old.config.workers
         → All (λ token. token ≤ (left_by_view memory.new.view).passed)
         (tokens_of ledger.new.books.queue.items)) }
-    ensures rests { IsResting FIRST SECOND (setup_of memory.new.view.opening) memory.new.view.seen
-        ledger.new.config ledger.new.rules ledger.new.books ledger.new.versions }
+    ensures rests { RestsBy FIRST SECOND ledger.new memory.new.view }
     ensures same { ledger.new ≡ record ledger.old {
       books = record ledger.old.books { passed = ledger.new.books.passed };
     } }
@@ -91,10 +86,8 @@ fn synchronize_by<const FIRST: u32, const SECOND: u32, R: Wait>(
     table: &Words<FIRST, SECOND>,
 ) -> Result<(), Exhausted>
     requires own { IsOf table.now.board.shared.table_id
-        (opened_of FIRST SECOND table.now.board.shared.key.cells
-        table.now.board.shared.key.rules.rules table.now.board.shared.key.groups
-        table.now.board.shared.key.workers table.now.board.shared.key.token)
-        table.now.layout seat.old.place.table_id seat.old.place.me.0 }
+        (opening_by FIRST SECOND table.now.board.shared.key) table.now.layout
+        seat.old.place.table_id seat.old.place.me.0 }
     requires ready { IsReady FIRST SECOND ledger.old seat.old.place.me.0 }
     ensures exhausted { IsErr result
         ↔ (2 ^ 62 < (left_by_view seat.old.place.me.0).token + ledger.old.config.groups) }

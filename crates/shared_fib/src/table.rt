@@ -2,8 +2,7 @@
 
 ghost use Rattle.std.specs.Prelude.{◌≡◌};
 ghost use Rattle.lpm_writer.specs.Making.{HasWidths};
-ghost use Rattle.shared_memory.specs.Loaded.{opened_of};
-ghost use Rattle.shared_fib.specs.Running.{IsFitted, setup};
+ghost use Rattle.shared_fib.specs.Running.{IsFitted, opening_by, setup};
 
 use shared_memory::Loaded;
 use shared_words::SharedWords;
@@ -19,8 +18,7 @@ pub struct SharedTable<const FIRST: u32, const SECOND: u32> {
 }
 
 impl<const FIRST: u32, const SECOND: u32> Model for SharedTable<FIRST, SECOND> {
-    ghost use Rattle.shared_memory.specs.Loaded.{opened_of};
-    ghost use Rattle.shared_fib.specs.Running.{Identity, coded_identity, IsFitted};
+    ghost use Rattle.shared_fib.specs.Running.{Identity, coded_identity, IsFitted, opening_by};
 
     ghost Value = { Identity };
 
@@ -28,16 +26,12 @@ impl<const FIRST: u32, const SECOND: u32> Model for SharedTable<FIRST, SECOND> {
 
     ghost view = { λ t. record {
       words = t.words.board.shared.table_id;
-      opening = opened_of FIRST SECOND t.words.board.shared.key.cells
-          t.words.board.shared.key.rules.rules t.words.board.shared.key.groups
-          t.words.board.shared.key.workers t.words.board.shared.key.token;
+      opening = opening_by FIRST SECOND t.words.board.shared.key;
     } };
 
     ghost invariant = { λ t. IsFitted FIRST SECOND (record {
       words = t.words.board.shared.table_id;
-      opening = opened_of FIRST SECOND t.words.board.shared.key.cells
-          t.words.board.shared.key.rules.rules t.words.board.shared.key.groups
-          t.words.board.shared.key.workers t.words.board.shared.key.token;
+      opening = opening_by FIRST SECOND t.words.board.shared.key;
     }) t.words.layout };
 }
 
@@ -46,15 +40,11 @@ impl<const FIRST: u32, const SECOND: u32> SharedTable<FIRST, SECOND> {
     pub(crate) fn new(words: Words<FIRST, SECOND>) -> Self
         requires { IsFitted FIRST SECOND (record {
           words = words.board.shared.table_id;
-          opening = opened_of FIRST SECOND words.board.shared.key.cells
-              words.board.shared.key.rules.rules words.board.shared.key.groups
-              words.board.shared.key.workers words.board.shared.key.token;
+          opening = opening_by FIRST SECOND words.board.shared.key;
         }) words.layout }
         ensures { result ≡ record {
           words = words.entry.board.shared.table_id;
-          opening = opened_of FIRST SECOND words.entry.board.shared.key.cells
-              words.entry.board.shared.key.rules.rules words.entry.board.shared.key.groups
-              words.entry.board.shared.key.workers words.entry.board.shared.key.token;
+          opening = opening_by FIRST SECOND words.entry.board.shared.key;
         } }
     {
         SharedTable { words }

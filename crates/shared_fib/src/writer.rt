@@ -3,9 +3,8 @@
 ghost use Rattle.std.specs.Prelude.{ℕ, ◌≡◌, List, take};
 ghost use Rattle.fib_model.specs.Outcomes.{Adds, Deletes, Flushes, Frees};
 ghost use Rattle.lpm_writer.specs.Traced.{by_steps};
-ghost use Rattle.lpm_writer.specs.Resting.{state_of};
 ghost use Rattle.shared_fib.specs.Freeing.{FreesChecked};
-ghost use Rattle.shared_fib.specs.Running.{IsAtRest, IsReady, setup};
+ghost use Rattle.shared_fib.specs.Running.{IsAtRest, IsReady, setup, state_by};
 
 use crate::SharedTable;
 use crate::commands::{add_by, delete_by, flush_by, reclaim_by};
@@ -31,8 +30,7 @@ pub struct Writer<const FIRST: u32, const SECOND: u32> {
 }
 
 impl<const FIRST: u32, const SECOND: u32> Model for Writer<FIRST, SECOND> {
-    ghost use Rattle.lpm_writer.specs.Resting.{state_of};
-    ghost use Rattle.shared_fib.specs.Running.{WriterState, coded_writer, IsReady};
+    ghost use Rattle.shared_fib.specs.Running.{WriterState, coded_writer, IsReady, state_by};
 
     ghost Value = { WriterState };
 
@@ -41,7 +39,7 @@ impl<const FIRST: u32, const SECOND: u32> Model for Writer<FIRST, SECOND> {
     ghost view = { λ w. record {
       identity = record { words = w.seat.place.table_id; opening = w.seat.place.me.0.opening };
       config = w.ledger.config;
-      table = state_of w.ledger.rules.rules w.seat.place.me.0.seen w.ledger.books w.ledger.versions;
+      table = state_by w.ledger w.seat.place.me.0;
     } };
 
     ghost invariant = { λ w. IsReady FIRST SECOND w.ledger w.seat.place.me.0 };
@@ -54,8 +52,7 @@ impl<const FIRST: u32, const SECOND: u32> Writer<FIRST, SECOND> {
         ensures { result ≡ record {
           identity = record { words = seat.place.table_id; opening = seat.place.me.0.opening };
           config = ledger.entry.config;
-          table = state_of ledger.entry.rules.rules seat.place.me.0.seen ledger.entry.books
-              ledger.entry.versions;
+          table = state_by ledger.entry seat.place.me.0;
         } }
     {
         Writer { ledger, seat }

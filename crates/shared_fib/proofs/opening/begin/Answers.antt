@@ -1,7 +1,7 @@
 use Rattle.std.proofs.Common.{◌≡◌, ◌<◌, ap, sym, subst, ◌∙◌, lit<, arith}
 use Rattle.lpm_writer.specs.declared.ledger.Ledger.{Ledger}
-use Rattle.shared_fib.specs.Running.{Identity, IsAtRest, IsFullBench}
-use Rattle.shared_fib.proofs.Begins.{opening_by, kept_by, few_workers, token_within, loaded_settled, loaded_rests, ready, opens, opening_rests}
+use Rattle.shared_fib.specs.Running.{Identity, IsAtRest, IsFullBench, opening_by}
+use Rattle.shared_fib.proofs.Begins.{kept_by, few_workers, token_within, loaded_settled, loaded_rests, ready, opens, opening_rests}
 use Rattle.shared_fib.proofs.opening.begin.Goals as goal
 
 pub open_words-requires : goal.open_words-requires

@@ -1,7 +1,9 @@
-//! What holds of the answers of passes. Each function does nothing: its contract is the law.
+//! What holds of the answers of a running table's passes. Each function does nothing: its contract is the
+//! law. The statement is in `specs/Laws.antt`.
+#![tactic(auto)]
 
-ghost use Rattle.shared_fib.specs.Laws.{AnswersAreOfVersions, VersionsStay};
-ghost use Rattle.shared_fib.specs.Laws.{LookupsCountVersions, LookupsNeverGoBack, PassesNeverGoBack};
+ghost use Rattle.running_laws.specs.Laws.{AnswersAreOfVersions, VersionsStay};
+ghost use Rattle.running_laws.specs.Laws.{LookupsCountVersions, LookupsNeverGoBack, PassesNeverGoBack};
 
 /// Each answer of a pass is that of the longest match in the rules of a version. That version stood between
 /// the reads of the lookup's first and last word, and lies from `lo` to `hi`.

@@ -15,7 +15,7 @@ use Rattle.shared_words.specs.Opened.{Opened, setup_of}
 use Rattle.shared_words.specs.Rule.{IsLater}
 use Rattle.shared_deeds.specs.Deeds.{LooksUp, LooksUpAll, LoadsAround, GainsAll, GoesOn, loads_of}
 use Rattle.shared_deeds.proofs.Deeds.{all_on, between, gains_on, later_longer, later_trans}
-use Rattle.shared_fib.specs.Laws.{IsOfVersion, VersionsStay, LookupsNeverGoBack, IsLookedUp, AnswersAreOfVersions, PassesNeverGoBack, LookupsCountVersions}
+use Rattle.running_laws.specs.Laws.{IsOfVersion, VersionsStay, LookupsNeverGoBack, IsLookedUp, AnswersAreOfVersions, PassesNeverGoBack, LookupsCountVersions}
 use Rattle.shared_fib.specs.Running.{steps_of}
 
 -- ---- steps that were there before others

@@ -1,5 +1,0 @@
-use Rattle.shared_fib.proofs.Backwards.{passes_never_go_back as law}
-use Rattle.shared_fib.proofs.laws.passes_never_go_back.Goals as goal
-
-pub returns : goal.returns
-returns c = law
