@@ -9,7 +9,7 @@ use crate::failure::Failure;
 use bulk::{Gate, bulk, bulk_plain, seat_all};
 use fib::Fib;
 use lpm_bits::Hop;
-use route_text::answers_text;
+use output_text::answers_text;
 use shared_fib::{Bench, SharedTable, Writer, go_live};
 use std::alloc::Global;
 use std::thread::Threads;

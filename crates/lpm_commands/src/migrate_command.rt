@@ -6,7 +6,7 @@ ghost use Rattle.lpm_commands.specs.Migrate.{IsMigrateText, EndsMigrate};
 use crate::failure::Failure;
 use crate::files::{Files, put_text};
 use crate::inputs::{OldUpdates, read_list};
-use route_text::updates_text;
+use output_text::updates_text;
 use std::alloc::Global;
 use std::io::Write;
 
