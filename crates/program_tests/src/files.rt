@@ -1,10 +1,11 @@
-//! The tests of `route_text`: files of routes, addresses and updates, and the texts of what comes out.
+//! The tests of `route_text` and `output_text`: files of routes, addresses and updates, and the texts of what
+//! comes out.
 
 use super::asserting::{assert_at, assert_shown};
 use lpm_bits::{BadHop, Hop, Prefix};
+use output_text::{Outcome, answers_text, outcomes_text, updates_text};
 use route_text::{
-    Fault, FaultKind, Order, Outcome, ReadError, Route, answers_text, outcomes_text,
-    read_addresses, read_routes, read_updates, updates_text,
+    Fault, FaultKind, Order, ReadError, Route, read_addresses, read_routes, read_updates,
 };
 use std::alloc::Global;
 use std::process::Abort;

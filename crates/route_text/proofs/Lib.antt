@@ -5,8 +5,6 @@ pub mod Octets
 pub mod Cuts
 pub mod Items
 pub mod Plain
-pub mod Answering
 pub mod Unique
 pub mod Grammars
 pub mod UpdateGrammar
-pub mod Writing

@@ -1,9 +1,9 @@
 //! Pieces of lines that are written.
 ghost use Rattle.std.specs.Prelude.{◌≡◌, ◌++◌, OnOk, decimal};
 ghost use Rattle.lpm_bits.specs.Network.{IsNetwork};
-ghost use Rattle.route_text.specs.Texts.{address_text, prefix_text, holder_text};
+ghost use Rattle.output_text.specs.Texts.{address_text, prefix_text, holder_text};
 
-use super::answers::put_address;
+use crate::answers::put_address;
 use itoa::Buffer;
 use lpm_bits::Prefix;
 use std::alloc::AllocError;

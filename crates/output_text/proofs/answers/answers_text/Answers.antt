@@ -1,8 +1,8 @@
 use Rattle.std.proofs.Common.{◌≡◌, ◌++◌, ◌+◌, List, ℕ, Option, drop, get_or, sym, ap, ◌∙◌, arith, append_assoc}
 use Rattle.std.proofs.lemmas.List.{append-nil}
-use Rattle.route_text.specs.Texts.{answer_line, answer_lines}
-use Rattle.route_text.proofs.Answering.{next, done}
-use Rattle.route_text.proofs.answers.answers_text.Goals as goal
+use Rattle.output_text.specs.Texts.{answer_line, answer_lines}
+use Rattle.output_text.proofs.Answering.{next, done}
+use Rattle.output_text.proofs.answers.answers_text.Goals as goal
 
 pub loop-i-preserved : goal.loop-i-preserved
 loop-i-preserved c =

@@ -2,7 +2,7 @@
 use Rattle.std.proofs.Common.{◌≡◌, ℕ, suc, ◌+◌, ◌<◌, ◌≤◌, List, [], ◌∷◌, ◌++◌, Option, length, get_or, drop, refl, sym, ap, ap₂, ◌∙◌, arith, add-one}
 use Rattle.std.proofs.Math.Seq.{drop-cons}
 use Rattle.std.proofs.lemmas.List.{drop_all}
-use Rattle.route_text.specs.Texts.{answer_line, answer_lines}
+use Rattle.output_text.specs.Texts.{answer_line, answer_lines}
 
 first : (a : ℕ) (h : Option ℕ) (ads : List ℕ) (hs : List (Option ℕ)) → answer_lines (a ∷ ads) (h ∷ hs) ≡ answer_line a h ++ answer_lines ads hs
 unfolding answer_lines

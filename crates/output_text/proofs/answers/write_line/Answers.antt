@@ -1,7 +1,7 @@
 use Rattle.std.proofs.Common.{◌≡◌, ◌∷◌, ◌++◌, [], List, ℕ, drop, ap, ◌∙◌, sym, arith, append_assoc}
 use Rattle.std.proofs.lemmas.List.{drop_all}
-use Rattle.route_text.specs.Texts.{address_text, hop_text}
-use Rattle.route_text.proofs.answers.write_line.Goals as goal
+use Rattle.output_text.specs.Texts.{address_text, hop_text}
+use Rattle.output_text.proofs.answers.write_line.Goals as goal
 
 -- the pieces of a line, each before what stands after it
 joined : (address hop : List ℕ) → address ++ 32 ∷ (hop ++ 10 ∷ []) ≡ address ++ 32 ∷ [] ++ hop ++ 10 ∷ []

@@ -1,7 +1,7 @@
 //! The text of answers.
 ghost use Rattle.std.specs.Prelude.{◌≡◌, ◌+◌, ◌≤◌, ◌<◌, ◌∷◌, ◌++◌, OnOk, IfOk};
 ghost use Rattle.std.specs.Prelude.{length, drop, decimal};
-ghost use Rattle.route_text.specs.Texts.{address_text, hop_text, answer_line, answer_lines};
+ghost use Rattle.output_text.specs.Texts.{address_text, hop_text, answer_line, answer_lines};
 
 use itoa::write_digits;
 use lpm_bits::Hop;
