@@ -1,10 +1,11 @@
 //! Whether the trace of a run is what its plan leads to, by plain deciders.
 
+use super::JudgeError;
 use super::slow_writer::SlowWriter;
-use super::{JudgeError, Plan};
 use interleave::{Actor, Deed, Kind, Seen, Step, Trace};
 use std::alloc::{AllocError, Global};
 use trace_reference::{self as reference, Setting, Versions};
+use world_plans::Plan;
 
 fn setting_of<const FIRST: u32, const SECOND: u32>(plan: &Plan<FIRST, SECOND>) -> Setting {
     Setting {

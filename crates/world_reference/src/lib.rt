@@ -4,9 +4,7 @@
 
 mod judge_error;
 mod judging;
-mod plan;
 mod slow_writer;
 
 pub use judge_error::JudgeError;
 pub use judging::judge;
-pub use plan::Plan;

@@ -10,7 +10,7 @@ use qsbr::{Busy, Config, Refusal};
 use std::alloc::{AllocError, Global};
 use std::process::Abort;
 use std::test::Fail;
-use world_reference::Plan;
+use world_plans::Plan;
 
 const WRITER: Actor = Actor::Writer;
 

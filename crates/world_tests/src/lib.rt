@@ -7,13 +7,11 @@ mod asserting;
 #[cfg(test)]
 mod cases;
 #[cfg(test)]
-mod drawing;
-#[cfg(test)]
-mod drawn;
-#[cfg(test)]
 mod ends;
 #[cfg(test)]
 mod judging;
+#[cfg(test)]
+mod many;
 #[cfg(test)]
 mod plan;
 #[cfg(test)]

@@ -1,17 +1,15 @@
 // Many small worlds that are drawn, each judged by the slow program.
 
-ghost use Rattle.std.specs.Prelude.{◌<◌};
 ghost use Rattle.lpm_bits.specs.Widths.{IsShape};
 
 use super::asserting::assert_at;
-use super::drawing::{Draw, Sizes};
 use super::judging::judged;
 use super::plan::{ONE_GROUP, run};
 use qsbr::Config;
 use std::alloc::Global;
 use std::process::Abort;
 use std::test::Fail;
-use world_reference::Plan;
+use world_plans::{Plan, Sizes, drawn, even};
 
 // Runs and judges the plans of these numbers.
 fn judge_drawn<const FIRST: u32, const SECOND: u32>(
@@ -21,11 +19,10 @@ fn judge_drawn<const FIRST: u32, const SECOND: u32>(
     to: u32,
     sizes: &Sizes,
 ) -> Result<(), Fail>
-    requires shape { IsShape FIRST SECOND }
-    requires deeds { sizes.now.deeds < 1000000 }
+    requires { IsShape FIRST SECOND }
 {
     for number in from..to {
-        let plan: Plan<FIRST, SECOND> = Draw::plan(rt, alloc, number, sizes)?;
+        let plan: Plan<FIRST, SECOND> = drawn(alloc, number, sizes)?;
         judged(rt, alloc, number, &plan)?;
     }
     Ok(())
@@ -78,7 +75,7 @@ fn many_items(rt: HostRuntime) -> Result<(), Fail> {
         deeds: 20_000,
         items: 100_000,
     };
-    let plan: Plan<4, 4> = Draw::even_plan(&rt, rt.alloc(), config, &sizes)?;
+    let plan: Plan<4, 4> = even(rt.alloc(), config, &sizes)?;
     let trace = run(&rt, rt.alloc(), &plan)?;
     assert_at(&rt, "steps", trace.steps.len(), 100_000);
     Ok(())
