@@ -33,17 +33,20 @@ const ROUND: u64 = 4;
 
 type Rule = (Prefix<4, 4>, Hop);
 
+// The rules of the table: one of a whole block, which stays, and two long ones, which come and go. The first
+// of these lies under it.
+#[derive(Clone, Copy)]
+struct Rules {
+    cover: Rule,
+    long: [Rule; 2],
+}
+
 // Makes the change after so many. Whether it was made.
-fn change(
-    table: &SharedTable<4, 4>,
-    writer: &mut Writer<4, 4>,
-    rules: &[Rule; 2],
-    made: u64,
-) -> bool
+fn change(table: &SharedTable<4, 4>, writer: &mut Writer<4, 4>, rules: &Rules, made: u64) -> bool
     requires own { writer.old.identity ≡ table.now }
     ensures own { writer.new.identity ≡ writer.old.identity }
 {
-    let (prefix, hop) = rules[(made % ROUND / 2) as usize];
+    let (prefix, hop) = rules.long[(made % ROUND / 2) as usize];
     if made % 2 == 0 {
         return writer.add(table, &prefix, hop).is_ok();
     }
@@ -51,7 +54,7 @@ fn change(
 }
 
 // Makes all changes, and returns how many it has made.
-fn change_all(table: &SharedTable<4, 4>, writer: &mut Writer<4, 4>, rules: &[Rule; 2]) -> u64
+fn change_all(table: &SharedTable<4, 4>, writer: &mut Writer<4, 4>, rules: &Rules) -> u64
     requires own { writer.old.identity ≡ table.now }
 {
     let mut made = 0u64;
@@ -66,21 +69,22 @@ fn change_all(table: &SharedTable<4, 4>, writer: &mut Writer<4, 4>, rules: &[Rul
     made
 }
 
-// The next hop of an address at a version, found by the rule that the version has: after a change that adds
-// a rule it has that one, and after one that deletes it, none.
-fn hop_plainly(rules: &[Rule; 2], version: u64, addr: u32) -> Option<Hop> {
-    let (prefix, hop) = rules[(version % ROUND / 2) as usize];
-    if version % 2 == 1 && prefix.covers(addr) {
+// The next hop of an address at a version, found by the rules that the version has: first none, then the cover
+// alone, and from then on one long rule more after each other change.
+fn hop_plainly(rules: &Rules, version: u64, addr: u32) -> Option<Hop> {
+    let made = version.checked_sub(1)?;
+    let (prefix, hop) = rules.long[(made % ROUND / 2) as usize];
+    if made % 2 == 1 && prefix.covers(addr) {
         return Some(hop);
     }
-    None
+    let (prefix, hop) = rules.cover;
+    if prefix.covers(addr) { Some(hop) } else { None }
 }
 
-// Whether the answer is that of a version from `lo` to `hi`. The rules of version `k` are those of
-// `k % ROUND`.
-fn is_of_a_version(rules: &[Rule; 2], addr: u32, answer: &Answer) -> bool {
+// Whether the answer is that of a version from `lo` to `hi`. From version 1 on the rules come round.
+fn is_of_a_version(rules: &Rules, addr: u32, answer: &Answer) -> bool {
     let Answer { hop, lo, hi } = *answer;
-    for step in 0..ROUND {
+    for step in 0..=ROUND {
         let version = lo.saturating_add(step);
         if version <= hi && hop_plainly(rules, version, addr) == hop {
             return true;
@@ -91,7 +95,7 @@ fn is_of_a_version(rules: &[Rule; 2], addr: u32, answer: &Answer) -> bool {
 
 // Looks one address up, and reports now and then that the worker is quiescent. Whether the answer is of no
 // version from `lo` to `hi`.
-fn look(table: &SharedTable<4, 4>, pass: &mut Pass, rules: &[Rule; 2], i: u64) -> bool
+fn look(table: &SharedTable<4, 4>, pass: &mut Pass, rules: &Rules, i: u64) -> bool
     requires own { identity_of pass.old ≡ table.now }
     requires online { IsOnline pass.old }
     ensures own { identity_of pass.new ≡ identity_of pass.old }
@@ -106,7 +110,7 @@ fn look(table: &SharedTable<4, 4>, pass: &mut Pass, rules: &[Rule; 2], i: u64) -
 }
 
 // Goes online, looks up all addresses, again and again, and goes offline. How many answers were wrong.
-fn look_all(table: &SharedTable<4, 4>, pass: &mut Pass, rules: &[Rule; 2]) -> u64
+fn look_all(table: &SharedTable<4, 4>, pass: &mut Pass, rules: &Rules) -> u64
     requires own { identity_of pass.old ≡ table.now }
     requires offline { IsOffline pass.old }
 {
@@ -125,7 +129,7 @@ fn look_beside<R: Threads + Sync>(
     table: &SharedTable<4, 4>,
     one: &mut Pass,
     other: &mut Pass,
-    rules: &[Rule; 2],
+    rules: &Rules,
 ) -> (u64, u64)
     requires one { (identity_of one.old ≡ table.now) × IsOffline one.old }
     requires other { (identity_of other.old ≡ table.now) × IsOffline other.old }
@@ -147,7 +151,7 @@ fn change_beside<R: Threads + Sync>(
     rt: &R,
     table: &SharedTable<4, 4>,
     writer: &mut Writer<4, 4>,
-    rules: &[Rule; 2],
+    rules: &Rules,
     one: &mut Pass,
     other: &mut Pass,
 ) -> (u64, (u64, u64))
@@ -168,16 +172,32 @@ fn change_beside<R: Threads + Sync>(
     )
 }
 
-fn rule(rt: &impl Abort, bits: u32, number: u32) -> Rule {
+fn rule(rt: &impl Abort, bits: u32, len: u32, number: u32) -> Rule {
     assert!(rt; Shape::<4, 4>::is_addr(bits));
-    let prefix = Prefix::new(bits, 8).expect(rt, "a length");
+    let prefix = Prefix::new(bits, len).expect(rt, "a length");
     (prefix, Hop::new(number).expect(rt, "a next hop"))
+}
+
+fn three_rules(rt: &impl Abort) -> Rules {
+    Rules {
+        cover: rule(rt, 0x10, 4, 3),
+        long: [rule(rt, 0x12, 8, 1), rule(rt, 0x35, 8, 2)],
+    }
+}
+
+fn add_cover(rt: &impl Abort, table: &SharedTable<4, 4>, writer: &mut Writer<4, 4>, rules: &Rules)
+    requires own { writer.old.identity ≡ table.now }
+    ensures own { writer.new.identity ≡ writer.old.identity }
+{
+    let (prefix, hop) = rules.cover;
+    assert!(rt; writer.add(table, &prefix, hop).is_ok());
 }
 
 #[test]
 fn lookups_beside_updates(rt: HostRuntime) -> Result<(), Fail> {
-    let rules = [rule(&rt, 0x12, 1), rule(&rt, 0x35, 2)];
+    let rules = three_rules(&rt);
     let (table, mut writer, mut bench) = open::<4, 4>(rt.alloc(), LIMITS)?;
+    add_cover(&rt, &table, &mut writer, &rules);
     let mut one = bench.register(&table, 0).expect(&rt, "a pass");
     let mut other = bench.register(&table, 1).expect(&rt, "a pass");
     let done = change_beside(&rt, &table, &mut writer, &rules, &mut one, &mut other);
