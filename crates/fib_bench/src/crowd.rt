@@ -126,11 +126,11 @@ fn print_crowd<R: Print>(
     found: &[AtOnce; 4],
     addrs: usize,
 ) -> Result<()> {
-    let quiet = found[0];
+    let [quiet, _, _, apart] = *found;
     print_speed(rt, passes, all[0].name, quiet, count, addrs)?;
     for (changes, beside) in all.iter().zip(found).skip(1) {
         print_speed(rt, passes, changes.name, *beside, count, addrs)?;
-        print_changes(rt, passes, changes.name, *beside, quiet)?;
+        print_changes(rt, passes, changes.name, *beside, quiet, apart)?;
     }
     Ok(())
 }
@@ -152,17 +152,23 @@ fn print_speed<R: Print>(
     Ok(())
 }
 
-/// Prints how much slower the lookups are than those while nothing changes, and how many changes the
-/// writer made a second.
+/// Prints how much slower the lookups are than those while nothing changes, and than those beside changes
+/// apart, and how many changes the writer made a second.
 fn print_changes<R: Print>(
     rt: &R,
     passes: &str,
     changes: &str,
     beside: AtOnce,
     quiet: AtOnce,
+    apart: AtOnce,
 ) -> Result<()> {
     let slower = ratio(nanos(beside.least.mean), nanos(quiet.least.mean));
-    println!(rt; "ratio, {passes}, {changes}: {}", Hundredths(slower))?;
+    let by_writer = ratio(nanos(beside.least.mean), nanos(apart.least.mean));
+    println!(rt;
+        "ratio, {passes}, {changes}: {}\nratio to changes apart, {passes}, {changes}: {}",
+        Hundredths(slower),
+        Hundredths(by_writer)
+    )?;
     let last = ratio(nanos(beside.least.last), nanos(quiet.least.last));
     println!(rt;
         "ratio of the last, {passes}, {changes}: {}",

@@ -143,8 +143,8 @@ fn print_random<R: Clock + Print + AllocGlobal>(
     addresses: Addresses<'_>,
 ) -> Result<()> {
     // The words that one way has just read are in the caches for the other: each has rounds of its own.
-    let [alone, single, _] = in_turns(rt, reader, other, addresses, &[Way::Single])?;
-    let [_, fours, _] = in_turns(rt, reader, other, addresses, &[Way::Fours])?;
+    let [alone, single] = in_turns(rt, reader, other, addresses, Way::Single)?;
+    let [_, fours] = in_turns(rt, reader, other, addresses, Way::Fours)?;
     print_beside(rt, "pass, random", addresses.count(), single, alone)?;
     print_beside(
         rt,
@@ -161,7 +161,7 @@ fn print_ascending<R: Clock + Print + AllocGlobal>(
     reader: &mut Reader<'_>,
     other: &Fib<24, 8>,
 ) -> Result<()> {
-    let [alone, single, _] = in_turns(rt, reader, other, ASCENDING, &[Way::Single])?;
+    let [alone, single] = in_turns(rt, reader, other, ASCENDING, Way::Single)?;
     print_beside(rt, "pass, ascending", ASCENDING.count(), single, alone)?;
     let more = hundredths_of_nanos(single.saturating_sub(alone), ASCENDING.count());
     println!(rt; "difference, pass, ascending: {} ns each", Hundredths(more))?;
@@ -186,71 +186,79 @@ fn print_beside<R: Print>(
     Ok(())
 }
 
-/// Reads the other table at these addresses, and lets the pass look them up in each of these ways, in
-/// turns. It returns the least times: of the other table, and of each way.
+/// Reads the other table at these addresses, and lets the pass look them up in this way, in turns. It
+/// returns the least times: of the other table, and of the pass.
 fn in_turns<R: Clock + AllocGlobal>(
     rt: &R,
     reader: &mut Reader<'_>,
     other: &Fib<24, 8>,
     addresses: Addresses<'_>,
-    ways: &[Way],
+    way: Way,
 ) -> Result<Least> {
     let mut least = no_rounds(rt.alloc(), addresses)?;
-    take_turns(rt, reader, other, addresses, ways, least.as_mut_slice())?;
+    take_turns(rt, reader, other, addresses, way, least.as_mut_slice())?;
     Ok(whole(least.as_slice()))
 }
 
-/// The same, which lowers the least times of each piece.
+/// The same, which lowers the least times of each piece. The table and the pass go first in turn: whoever
+/// does finds the addresses out of the caches.
 fn take_turns<R: Clock>(
     rt: &R,
     reader: &mut Reader<'_>,
     other: &Fib<24, 8>,
     addresses: Addresses<'_>,
-    ways: &[Way],
+    way: Way,
     least: &mut [Least],
 ) -> Result<()> {
-    for _ in 0..TURNS {
-        take_turn(rt, reader, other, addresses, ways, least)?;
+    for turn in 0..TURNS {
+        take_turn(rt, reader, other, addresses, way, turn % 2 == 1, least)?;
     }
     Ok(())
 }
 
-/// Takes each piece of the addresses once: with the other table, and with the pass in each of these ways,
-/// one after the other, so that whatever else slows the machine for a while slows each of them.
+/// Takes each piece of the addresses once, with the other table and with the pass, one after the other, so
+/// that whatever else slows the machine for a while slows both.
 fn take_turn<R: Clock>(
     rt: &R,
     reader: &mut Reader<'_>,
     other: &Fib<24, 8>,
     addresses: Addresses<'_>,
-    ways: &[Way],
+    way: Way,
+    is_pass_first: bool,
     least: &mut [Least],
 ) -> Result<()> {
     let mut left = addresses;
     for least in least.iter_mut() {
         let (piece, rest) = left.split();
-        let (time, sum) = timed(rt, other, piece, 0)?;
-        least[0] = least[0].min(time);
-        time_ways(rt, reader, piece, ways, sum, &mut least[1..])?;
+        let [alone, by_pass] = time_both(rt, reader, other, piece, way, is_pass_first)?;
+        *least = [least[0].min(alone), least[1].min(by_pass)];
         left = rest;
     }
     Ok(())
 }
 
-/// Lets the pass look addresses up once in each of these ways. The next hops have to have this sum.
-fn time_ways<R: Clock>(
+/// How long the lookups of a piece take by the other table and by the pass, of which this one goes first.
+/// The next hops have to have the same sum.
+fn time_both<R: Clock>(
     rt: &R,
     reader: &mut Reader<'_>,
-    addresses: Addresses<'_>,
-    ways: &[Way],
-    sum: u64,
-    least: &mut [Duration],
-) -> Result<()> {
-    for (way, least) in ways.iter().zip(least.iter_mut()) {
-        let (time, same) = timed_by(rt, reader, addresses, *way)?;
-        ensure!(sum == same, "the sums of the next hops differ");
-        *least = (*least).min(time);
-    }
-    Ok(())
+    other: &Fib<24, 8>,
+    piece: Addresses<'_>,
+    way: Way,
+    is_pass_first: bool,
+) -> Result<Least> {
+    let before = if is_pass_first {
+        Some(timed_by(rt, reader, piece, way)?)
+    } else {
+        None
+    };
+    let (alone, sum) = timed(rt, other, piece, 0)?;
+    let (by_pass, same) = match before {
+        Some(found) => found,
+        None => timed_by(rt, reader, piece, way)?,
+    };
+    ensure!(sum == same, "the sums of the next hops differ");
+    Ok([alone, by_pass])
 }
 
 /// How long these lookups by the pass take, and the sum of the next hops that they find.

@@ -174,11 +174,11 @@ fn add_ascending<T: Table>(table: &T, from: u32, to: u32, sum: u64) -> u64 {
     sum
 }
 
-/// The least times that the lookups of one piece took, by each of several ways.
-pub type Least = [Duration; 3];
+/// The least times that the lookups of one piece took, by each of two ways.
+pub type Least = [Duration; 2];
 
 /// What stands before the first round.
-const NO_ROUND: Least = [Duration::MAX; 3];
+const NO_ROUND: Least = [Duration::MAX; 2];
 
 /// For each piece of these addresses what stands before the first round.
 pub fn no_rounds(alloc: Global, addresses: Addresses<'_>) -> Result<Vec<Least>, AllocError> {
@@ -187,12 +187,11 @@ pub fn no_rounds(alloc: Global, addresses: Addresses<'_>) -> Result<Vec<Least>, 
 
 /// The sum of the least times of all pieces by each way.
 pub fn whole(pieces: &[Least]) -> Least {
-    let mut sum = [Duration::ZERO; 3];
-    for [first, second, third] in pieces {
+    let mut sum = [Duration::ZERO; 2];
+    for [first, second] in pieces {
         sum = [
             sum[0].saturating_add(*first),
             sum[1].saturating_add(*second),
-            sum[2].saturating_add(*third),
         ];
     }
     sum
@@ -215,7 +214,7 @@ pub(crate) fn compare<R: Clock + AllocGlobal, T: Table, U: Table>(
 ) -> Result<Compared> {
     let mut least = no_rounds(rt.alloc(), addresses)?;
     let sum = compare_in_rounds(rt, one, other, addresses, least.as_mut_slice())?;
-    let [first, second, _] = whole(least.as_slice());
+    let [first, second] = whole(least.as_slice());
     Ok(Compared { first, second, sum })
 }
 
@@ -251,7 +250,7 @@ fn compare_pieces<R: Clock, T: Table, U: Table>(
         let (first, found) = timed(rt, one, piece, sum)?;
         let (second, same) = timed(rt, other, piece, sum)?;
         ensure!(found == same, "the sums of the next hops differ");
-        *least = [least[0].min(first), least[1].min(second), least[2]];
+        *least = [least[0].min(first), least[1].min(second)];
         sum = found;
         left = rest;
     }
