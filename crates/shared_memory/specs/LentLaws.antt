@@ -20,8 +20,10 @@ pub shared_shows : (m : Lent) (c : Setup) (steps : List WriterStep) → SharedDi
     → ((left_by m).words ≡ (tables c steps).words) × ((left_by m).token ≡ (tables c steps).token)
     × (m.view.opening.workers ≡ c.workers)
 shared_shows m c steps did = (
-  ap (λ (z : Setup × List WriterStep). (tables z.0 z.1).words) (λ i. (sym did.opening i, sym did.steps_are i)),
-  ap (λ (z : Setup × List WriterStep). (tables z.0 z.1).token) (λ i. (sym did.opening i, sym did.steps_are i)),
+  ap (λ (z : Setup × List WriterStep). (tables z.0 z.1).words)
+      (λ i. (sym did.opening i, sym did.steps_are i)),
+  ap (λ (z : Setup × List WriterStep). (tables z.0 z.1).token)
+      (λ i. (sym did.opening i, sym did.steps_are i)),
   ap (λ (z : Setup). z.workers) (sym did.opening),
 )
 

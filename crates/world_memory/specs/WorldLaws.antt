@@ -11,16 +11,23 @@ use Rattle.world_memory.specs.View.{WorldView}
 use Rattle.world_memory.specs.World.{with_beyond, WorldDid}
 
 -- the writer's own steps of the whole trace
-pub writes_beyond : (beyond : List WriterStep) (trace : List TraceStep) → writes (with_beyond beyond trace) ≡ beyond ++ writes trace
+pub writes_beyond : (beyond : List WriterStep) (trace : List TraceStep)
+    → writes (with_beyond beyond trace) ≡ beyond ++ writes trace
 writes_beyond [] trace = refl
 writes_beyond (s ∷ beyond) trace = ap (λ xs. s ∷ xs) (writes_beyond beyond trace)
 
-pub world_shows : (first second : ℕ) (v : WorldView) (c : Setup) (steps : List WriterStep) → WorldDid first second v c steps
+pub world_shows : (first second : ℕ) (v : WorldView) (c : Setup) (steps : List WriterStep)
+    → WorldDid first second v c steps
     → (v.words ≡ (tables c steps).words) × (v.token ≡ (tables c steps).token) × (length v.scripts ≡ c.workers)
 world_shows first second v c steps did =
-    let world = did.2 in
-    (world.words_are ∙ ap (λ xs. (tables c xs).words) (sym did.3), world.token_is ∙ ap (λ xs. (tables c xs).token) (sym did.3), sym world.workers)
+    let world = did.2 in (
+      world.words_are ∙ ap (λ xs. (tables c xs).words) (sym did.3),
+      world.token_is ∙ ap (λ xs. (tables c xs).token) (sym did.3),
+      sym world.workers,
+    )
 
-pub world_written : (first second : ℕ) (v : WorldView) (c : Setup) (steps : List WriterStep) → WorldDid first second v c steps → IsWritten c steps
+pub world_written : (first second : ℕ) (v : WorldView) (c : Setup) (steps : List WriterStep)
+    → WorldDid first second v c steps → IsWritten c steps
 world_written first second v c steps did =
-    subst (IsWritten c) (writes_beyond did.1 did.0 ∙ sym did.3) (writer_is_alone c (with_beyond did.1 did.0) did.2.may_come)
+    subst (IsWritten c) (writes_beyond did.1 did.0 ∙ sym did.3)
+    (writer_is_alone c (with_beyond did.1 did.0) did.2.may_come)

@@ -76,7 +76,8 @@ IsInRange n second seconds (InGroup a g f) = (a < n) × (g * 2 ^ second + 2 ^ se
 IsInRange n second seconds (Answered a h f l) = ⊤
 
 -- the worker has made these steps of its script's deeds, the newest first, and they leave r
-pub record IsAt (first second seconds : ℕ) (machine : Machine) (script : List Deed) (r : Worker) (own : List WorkerStep) : Type 0 where
+pub record IsAt (first second seconds : ℕ) (machine : Machine) (script : List Deed) (r : Worker)
+    (own : List WorkerStep) : Type 0 where
   pub shows : Shows machine r
   -- there is room for four addresses, and there are no more
   pub room : 4 ≤ vec_capacity machine.probes
@@ -90,7 +91,8 @@ pub record IsAt (first second seconds : ℕ) (machine : Machine) (script : List 
   pub in_range : All (IsInRange (2 ^ (first + second)) second seconds) r.probes
 
 -- the tables hold these words, this sequence and this token
-pub record IsOf (first second : ℕ) (words : Words) (sequence token : ℕ) (c : Setup) (w : Tables) : Type 0 where
+pub record IsOf (first second : ℕ) (words : Words) (sequence token : ℕ) (c : Setup)
+    (w : Tables) : Type 0 where
   pub first_width : c.first ≡ first
   pub second_width : c.second ≡ second
   pub words_are : w.words ≡ words
@@ -98,13 +100,15 @@ pub record IsOf (first second : ℕ) (words : Words) (sequence token : ℕ) (c :
   pub token_is : w.token ≡ token
 
 -- worker k makes this step at the time `now`, and r is what its earlier steps left
-pub record Makes (c : Setup) (w : Tables) (k now : ℕ) (r : Worker) (s : WorkerStep) (machine : Machine) (step : Step) : Type 0 where
+pub record Makes (c : Setup) (w : Tables) (k now : ℕ) (r : Worker) (s : WorkerStep)
+    (machine : Machine) (step : Step) : Type 0 where
   pub may : MayRead c w r s
   pub shows : Shows machine (moved now r s)
   pub shown : step ≡ shown_by c k r s
 
 -- worker k makes the first step of the deed, from which the rest of its script is sound still
-pub record BeginsDeed (c : Setup) (w : Tables) (k now : ℕ) (r : Worker) (deed : Deed) (left : List Deed) (machine : Machine) (step : Step) : Type 0 where
+pub record BeginsDeed (c : Setup) (w : Tables) (k now : ℕ) (r : Worker) (deed : Deed)
+    (left : List Deed) (machine : Machine) (step : Step) : Type 0 where
   pub made : WorkerStep
   pub begins : BeginsWith deed made
   pub makes : Makes c w k now r made machine step
@@ -116,14 +120,17 @@ abbrev pub IsNoted : ℕ → Worker → WorkerStep → List Seen → List Seen �
 IsNoted k r s before after = after ≡ before ++ reverse (map (seen_by k) (finished_by r s))
 
 -- worker k goes on with a deed that has begun
-pub record ContinuesDeed (c : Setup) (w : Tables) (k now : ℕ) (r : Worker) (machine : Machine) (step : Step) (before after : List Seen) : Type 0 where
+pub record ContinuesDeed (c : Setup) (w : Tables) (k now : ℕ) (r : Worker) (machine : Machine)
+    (step : Step) (before after : List Seen) : Type 0 where
   pub made : WorkerStep
   pub goes : GoesOn made
   pub makes : Makes c w k now r made machine step
   pub noted : IsNoted k r made before after
 
 -- worker k makes the next step of its script
-pub record Advances (first second seconds : ℕ) (c : Setup) (w : Tables) (k now : ℕ) (script : List Deed) (r : Worker) (own : List WorkerStep) (machine : Machine) (step : Step) (before after : List Seen) : Type 0 where
+pub record Advances (first second seconds : ℕ) (c : Setup) (w : Tables) (k now : ℕ)
+    (script : List Deed) (r : Worker) (own : List WorkerStep) (machine : Machine) (step : Step)
+    (before after : List Seen) : Type 0 where
   pub made : WorkerStep
   pub may : MayRead c w r made
   pub at : IsAt first second seconds machine script (moved now r made) (made ∷ own)
