@@ -1,5 +1,6 @@
 -- Meaning: plans of runs (this project's).
-use Rattle.std.specs.Prelude.{◌≡◌, ℕ, ◌+◌, ◌^◌, All, length}
+use Rattle.std.specs.Prelude.{◌≡◌, ℕ, ◌+◌, ◌^◌, ◌≤◌, All, List, length}
+use Rattle.lpm_trace.specs.declared.kind.Deed.{Deed}
 use Rattle.world_workers.specs.Scripts.{IsSound}
 use Rattle.world_plans.specs.declared.plan.Plan.{Plan}
 
@@ -7,3 +8,7 @@ use Rattle.world_plans.specs.declared.plan.Plan.{Plan}
 pub record IsSoundPlan (first second : ℕ) (plan : Plan first second) : Type 0 where
   pub workers : length plan.scripts.items ≡ plan.config.workers
   pub scripts : All (λ script. IsSound (2 ^ (first + second)) script.items) plan.scripts.items
+
+-- the script has at least so many deeds and at most so many
+abbrev pub HasDeeds : ℕ → ℕ → List Deed → Type 0
+HasDeeds least most deeds = (least ≤ length deeds) × (length deeds ≤ most)

@@ -1,8 +1,9 @@
 //! Plans that are drawn.
 
-ghost use Rattle.std.specs.Prelude.{◌≡◌, IfOk, length};
+ghost use Rattle.std.specs.Prelude.{◌≡◌, All, IfOk, length};
 ghost use Rattle.lpm_bits.specs.Widths.{IsShape};
-ghost use Rattle.world_plans.specs.Plans.{IsSoundPlan};
+ghost use Rattle.lpm_limits.specs.Limits.{IsConfig};
+ghost use Rattle.world_plans.specs.Plans.{HasDeeds, IsSoundPlan};
 
 use super::Plan;
 use super::changes::draw_changes;
@@ -27,7 +28,9 @@ pub struct Sizes {
 const LAST_TOKEN: u64 = 1 << 62;
 
 /// Limits that are met soon: few groups, at times few rules, no worker, or few tokens.
-fn draw_config(draw: &mut Draw) -> Config {
+fn draw_config(draw: &mut Draw) -> Config
+    ensures { IsConfig result }
+{
     let rules = if draw.once_in(8) { 2 } else { 12 };
     let groups = 1 + draw.below(3) as usize;
     let workers = if draw.once_in(16) {
@@ -59,7 +62,10 @@ pub fn drawn<const FIRST: u32, const SECOND: u32>(
 ) -> Result<Plan<FIRST, SECOND>, AllocError>
     requires { IsShape FIRST SECOND }
     ensures sound { IfOk result (λ plan. IsSoundPlan FIRST SECOND plan) }
+    ensures limits { IfOk result (λ plan. IsConfig plan.config) }
     ensures changes { IfOk result (λ plan. length plan.changes.items ≡ sizes.now.changes) }
+    ensures deeds { IfOk result
+        (λ plan. All (λ script. HasDeeds 0 sizes.now.deeds script.items) plan.scripts.items) }
     ensures items { IfOk result (λ plan. length plan.schedule.items ≡ sizes.now.items) }
 {
     let mut draw = Draw::new(number);
@@ -86,6 +92,8 @@ pub fn even<const FIRST: u32, const SECOND: u32>(
     ensures sound { IfOk result (λ plan. IsSoundPlan FIRST SECOND plan) }
     ensures limits { IfOk result (λ plan. plan.config ≡ config) }
     ensures changes { IfOk result (λ plan. length plan.changes.items ≡ sizes.now.changes) }
+    ensures deeds { IfOk result (λ plan.
+        All (λ script. HasDeeds sizes.now.deeds sizes.now.deeds script.items) plan.scripts.items) }
     ensures items { IfOk result (λ plan. length plan.schedule.items ≡ sizes.now.items) }
 {
     let mut draw = Draw::new(1);

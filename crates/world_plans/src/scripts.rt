@@ -4,6 +4,7 @@ ghost use Rattle.std.specs.Prelude.{◌≡◌, ◌+◌, ◌^◌, ◌≤◌, All,
 ghost use Rattle.lpm_bits.specs.Widths.{IsShape};
 ghost use Rattle.lpm_trace.specs.declared.kind.Deed.{Deed};
 ghost use Rattle.world_workers.specs.Scripts.{IsSound, IsSoundFrom};
+ghost use Rattle.world_plans.specs.Plans.{HasDeeds};
 
 use super::draw::Draw;
 use interleave::Deed;
@@ -46,7 +47,8 @@ fn script<const FIRST: u32, const SECOND: u32>(
     count: u32,
 ) -> Result<Vec<Deed>, AllocError>
     requires { IsShape FIRST SECOND }
-    ensures { IfOk result (λ deeds. IsSound (2 ^ (FIRST + SECOND)) deeds.items) }
+    ensures sound { IfOk result (λ deeds. IsSound (2 ^ (FIRST + SECOND)) deeds.items) }
+    ensures count { IfOk result (λ deeds. length deeds.items ≡ count) }
 {
     let mut deeds = Vec::new(alloc);
     let mut is_online = false;
@@ -71,6 +73,8 @@ pub(crate) fn draw_scripts<const FIRST: u32, const SECOND: u32>(
     ensures workers { IfOk result (λ scripts. length scripts.items ≡ workers) }
     ensures sound { IfOk result
         (λ scripts. All (λ script. IsSound (2 ^ (FIRST + SECOND)) script.items) scripts.items) }
+    ensures deeds { IfOk result
+        (λ scripts. All (λ script. HasDeeds least most script.items) scripts.items) }
 {
     let mut scripts = Vec::new(alloc);
     for _ in 0..workers {

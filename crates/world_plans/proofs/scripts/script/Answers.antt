@@ -3,5 +3,5 @@ use Rattle.std.proofs.lemmas.List.{append-nil}
 use Rattle.world_workers.specs.Scripts.{IsSound}
 use Rattle.world_plans.proofs.scripts.script.Goals as goal
 
-pub returns : goal.returns
-returns g c = subst (IsSound (2 ^ (g.row.FIRST + g.row.SECOND))) (append-nil c.loop.deeds.items) (c.loop.invariant [] tt)
+pub returns-clause-sound : goal.returns-clause-sound
+returns-clause-sound g c = subst (IsSound (2 ^ (g.row.FIRST + g.row.SECOND))) (append-nil c.loop.deeds.items) (c.loop.invariant.sound [] tt)
