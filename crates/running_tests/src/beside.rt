@@ -69,8 +69,8 @@ fn change_all(table: &SharedTable<4, 4>, writer: &mut Writer<4, 4>, rules: &Rule
     made
 }
 
-// The next hop of an address at a version, found by the rules that the version has: first none, then the cover
-// alone, and from then on one long rule more after each other change.
+// The next hop of an address at a version, found by the rules that the version has: first none, then the
+// cover alone, and from then on one long rule more after each other change.
 fn hop_plainly(rules: &Rules, version: u64, addr: u32) -> Option<Hop> {
     let made = version.checked_sub(1)?;
     let (prefix, hop) = rules.long[(made % ROUND / 2) as usize];

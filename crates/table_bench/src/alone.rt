@@ -123,10 +123,13 @@ fn print_lookups<R: Clock + Print + AllocGlobal>(
     let table = hundredths_of_nanos(compared.first, count);
     let words = hundredths_of_nanos(compared.second, count);
     println!(rt;
-        "lookups, {kind}: {} ns each\nplain words, {kind}: {} ns each\nratio, {kind}: {}\nchecksum, {kind}: {}",
+        "lookups, {kind}: {} ns each\nplain words, {kind}: {} ns each",
         Hundredths(table),
-        Hundredths(words),
-        Hundredths(ratio(table, words)),
+        Hundredths(words)
+    )?;
+    let times = Hundredths(ratio(table, words));
+    println!(rt;
+        "ratio, {kind}: {times}\nchecksum, {kind}: {}",
         compared.sum
     )?;
     Ok(())
