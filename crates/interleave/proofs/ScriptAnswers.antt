@@ -15,7 +15,7 @@ use Rattle.world_memory.specs.Schedule.{writer_items}
 use Rattle.world_memory.specs.View.{WorldView}
 use Rattle.world_memory.specs.World.{WorldDid, Reaches, setting}
 use Rattle.interleave.specs.declared.reply.Reply.{Reply}
-use Rattle.interleave.specs.Replies.{Kept, Waits, Answers, IsLimbo, kept}
+use Rattle.interleave.specs.Replies.{Kept, HasTokensLeft, Waits, Answers, IsLimbo, kept}
 use Rattle.interleave.specs.Runs.{IsPerformed}
 use Rattle.interleave.proofs.Performing.{HasPerformed, performed_none, performed_more, performed_all, performed_before, performed_within, waits_longer}
 
@@ -64,7 +64,8 @@ module _ (f s : ℕ) where
   -- a change was answered so, or waits
   abbrev pub HasCome : WorldView → Ledger f s → Change f s → ℕ → Option Reply → WorldView → Ledger f s → Type 0
   HasCome m l change tries came m' l' = (c : Setup) (steps : List WriterStep) → WorldDid f s m c steps → Rests c steps l
-      → MatchOption came ((change ≡ Synchronize) × ((later : List WriterStep) × WorldDid f s m' c later × Waits c tries steps later))
+      → MatchOption came ((change ≡ Synchronize) × HasTokensLeft c l.config (kept_in l steps)
+      × ((later : List WriterStep) × WorldDid f s m' c later × Waits c tries steps later))
       (λ reply. (later : List WriterStep) × WorldDid f s m' c later × Rests c later l'
       × Answers c f s l.config (kept_in l steps) change reply (kept_in l' later))
 
@@ -143,9 +144,9 @@ module _ (f s : ℕ) where
       ends_waiting many come c did rests =
           let h = answered c did rests in
           let now = come c h.0 (reaches c h.0 h.1) h.2 in
-          let long = waits_longer c tries h.0 now.1.0 now.1.2 in (
-            now.1.0,
-            now.1.1,
-            performed_within c f s l0.config n (kept_in l0 []) done left replies (kept_in l h.0) change now.1.0 h.3 (low c h.0 h.1) (omega (arith, long, many))
-                (inr (now.0, (tries, now.1.2))),
+          let long = waits_longer c tries h.0 now.2.0 now.2.2 in (
+            now.2.0,
+            now.2.1,
+            performed_within c f s l0.config n (kept_in l0 []) done left replies (kept_in l h.0) change now.2.0 h.3 (low c h.0 h.1) (omega (arith, long, many))
+                (inr (now.0, subst (λ x. HasTokensLeft c x (kept_in l h.0)) config now.1, (tries, now.2.2))),
           )

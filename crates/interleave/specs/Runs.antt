@@ -22,7 +22,7 @@ use Rattle.world_memory.specs.Schedule.{HasEnded, IsScheduled, AreScripted, writ
 use Rattle.lpm_writer.specs.Opening.{opening_setup}
 use Rattle.interleave.specs.declared.reply.Reply.{Reply}
 use Rattle.interleave.specs.declared.trace.Trace.{Trace}
-use Rattle.interleave.specs.Replies.{Kept, Waits, CameOut}
+use Rattle.interleave.specs.Replies.{Kept, HasTokensLeft, Waits, CameOut}
 
 -- ---- the writer's script
 
@@ -37,11 +37,12 @@ HaveComeOut c f g config n opening (entry ∷ log) z = (s : Kept)
     × (length s.readers < n) × (length z.readers ≤ n)
     × CameOut c f g config s entry.0 entry.1 z
 
--- with these steps the change would come out in some way, or a synchronize would wait on
+-- with these steps the change would come out in some way, or a synchronize, for which there were tokens,
+-- would wait on
 abbrev pub IsUnderWay : Setup → (f g : ℕ) → Config → Kept → Change f g → List WriterStep → Type 0
 IsUnderWay c f g config s change steps =
     ((reply : Reply) × (z : Kept) × CameOut c f g config s change reply z × (z.readers ≡ steps))
-    ⊎ ((change ≡ Synchronize) × ((tries : ℕ) × Waits c tries s.readers steps))
+    ⊎ ((change ≡ Synchronize) × HasTokensLeft c config s × ((tries : ℕ) × Waits c tries s.readers steps))
 
 -- of the changes that are left the first wasn't begun, or would need more than the writer's items
 abbrev pub AreUnanswered : Setup → (f g : ℕ) → Config → ℕ → Kept → List (Change f g) → List WriterStep

@@ -8,7 +8,7 @@ ghost use Rattle.lpm_rules.specs.declared.Change.TheVariants.{Synchronize};
 ghost use Rattle.world_memory.specs.Schedule.{writer_items};
 ghost use Rattle.world_memory.specs.World.{WorldDid, setting};
 ghost use Rattle.interleave.specs.declared.run_error.RunError.TheVariants.{Memory as IsMemory};
-ghost use Rattle.interleave.specs.Replies.{Waits, Answers, kept};
+ghost use Rattle.interleave.specs.Replies.{HasTokensLeft, Waits, Answers, kept};
 ghost use Rattle.interleave.specs.Runs.{IsPerformed};
 
 use super::synchronizing::synchronize;
@@ -36,6 +36,8 @@ pub(crate) fn answer<const FIRST: u32, const SECOND: u32>(
         ledger.old.versions
         → MatchOption came
         ((change.now ≡ Synchronize)
+        × HasTokensLeft c ledger.old.config (kept ledger.old.rules steps ledger.old.books
+        ledger.old.versions)
         × ((later : List WriterStep) × WorldDid FIRST SECOND memory.new c later × Waits c tries steps later))
         (λ reply. (later : List WriterStep) × WorldDid FIRST SECOND memory.new c later
         × IsResting FIRST SECOND c later ledger.new.config ledger.new.rules ledger.new.books

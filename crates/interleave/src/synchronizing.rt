@@ -6,7 +6,7 @@ ghost use Rattle.lpm_trace.specs.Tables.{Setup};
 ghost use Rattle.lpm_writer.specs.Resting.{IsResting};
 ghost use Rattle.lpm_rules.specs.declared.Change.TheVariants.{Synchronize};
 ghost use Rattle.world_memory.specs.World.{WorldDid, setting};
-ghost use Rattle.interleave.specs.Replies.{Waits, Answers, kept};
+ghost use Rattle.interleave.specs.Replies.{HasTokensLeft, Waits, Answers, kept};
 
 use super::Reply;
 use lpm_writer::{Exhausted, Ledger, check_synchronize, start_synchronize};
@@ -27,7 +27,10 @@ pub(crate) fn synchronize<const FIRST: u32, const SECOND: u32>(
         → IsResting FIRST SECOND c steps ledger.old.config ledger.old.rules ledger.old.books
         ledger.old.versions
         → MatchOption result
-        ((later : List WriterStep) × WorldDid FIRST SECOND memory.new c later × Waits c tries steps later)
+        (HasTokensLeft c ledger.old.config (kept ledger.old.rules steps ledger.old.books
+        ledger.old.versions)
+        × ((later : List WriterStep) × WorldDid FIRST SECOND memory.new c later
+        × Waits c tries steps later))
         (λ reply. (later : List WriterStep) × WorldDid FIRST SECOND memory.new c later
         × IsResting FIRST SECOND c later ledger.new.config ledger.new.rules ledger.new.books
         ledger.new.versions

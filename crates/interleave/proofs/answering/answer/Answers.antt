@@ -126,7 +126,7 @@ returns-in-Synchronize-clause-replies g c = λ setup steps did rests.
     let s = g.row.SECOND in
     let old = c.args.ledger.now in
     let l = c.synchronize.new.ledger in
-    weaker c.synchronize.result (λ waits. (c.in-Synchronize.is, waits))
+    weaker c.synchronize.result (λ waits. (c.in-Synchronize.is, waits.0, waits.1))
     (λ reply now. (
       now.0,
       now.1,

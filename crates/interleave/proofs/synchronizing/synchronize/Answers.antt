@@ -107,4 +107,10 @@ pub returns-clause-replies : goal.returns-clause-replies
 returns-clause-replies g c = λ setup steps did rests.
     let so_far = c.loop-check.invariant.waited setup steps did rests in
     let all : c.loop-check._check ≡ c.args.tries = omega (arith, c.loop-check-test.false, c.loop-check.auto._check-end) in
-    (so_far.0, so_far.1, subst (λ n. Waits setup n steps so_far.0) all so_far.4)
+    let token = (world_shows g.row.FIRST g.row.SECOND c.args.memory.now setup steps did).1 in (
+      elim (cases_lt (2 ^ 62) (c.args.memory.now.token + c.args.ledger.now.config.groups)) [
+        | inl over ↦ absurd (not_true (c.in_default.ensures.exhausted.1 over))
+        | inr within ↦ omega (arith, within, token)
+      ],
+      (so_far.0, so_far.1, subst (λ n. Waits setup n steps so_far.0) all so_far.4),
+    )
