@@ -11,11 +11,11 @@ use Rattle.shared_words.specs.declared.view.View.{View}
 use Rattle.shared_words.specs.Rule.{IsLater}
 use Rattle.shared_words.specs.Seats.{Gains}
 use Rattle.shared_deeds.specs.Deeds.{GoesOn}
-use Rattle.shared_deeds.proofs.Deeds.{between, goes_on}
+use Rattle.shared_deeds.proofs.Deeds.{between, goes_on, later_trans}
 use Rattle.shared_fib.specs.Running.{Identity, WriterState, PassState, IsAtRest, IsOffline, identity_of, steps_of}
 use Rattle.bulk.specs.declared.desk.Desk.{Desk}
 use Rattle.bulk.specs.Pieces.{piece_of}
-use Rattle.bulk.specs.Desks.{IsDeskOf, role_of, EachDesk, HasMet, AnswersAtRest, HasAnswered}
+use Rattle.bulk.specs.Desks.{IsDeskOf, role_of, EachDesk, IsSameDesk, HasMet, AnswersAtRest, HasAnswered}
 use Rattle.bulk.proofs.Joined.{pieces_answered}
 use Rattle.bulk.proofs.Resting.{width_of, answers_within}
 
@@ -77,6 +77,35 @@ pub roles_kept : (old new : List Desk) → length new ≡ length old → EachDes
     → map role_of new ≡ map role_of old
 roles_kept old new len kept =
     roles_stay old new len (λ k d lt. ap (λ (p : PassState). p.view.role) (kept k d lt))
+
+-- a desk that keeps its pass, which is offline, is the same
+kept_desk : (id : Identity) (old new : Desk) → IsDeskOf id old → new.pass ≡ old.pass → IsSameDesk old new
+kept_desk id old new was kept = record {
+  identity = ap identity_of kept;
+  role = ap (λ (p : PassState). p.view.role) kept;
+  offline = subst IsOffline (sym kept) was.offline;
+  later = subst (λ (p : PassState). IsLater old.pass.view.seen p.view.seen) (sym kept) ([], refl);
+}
+
+pub kept_desks : (id : Identity) (old new : List Desk) → All (IsDeskOf id) old
+    → EachDesk (λ x y. y.pass ≡ x.pass) old new → EachDesk IsSameDesk old new
+kept_desks id old new desks kept k d lt =
+    kept_desk id (get_or old k d) (get_or new k d) (desks k d lt) (kept k d lt)
+
+-- a desk that stays the same, and then again
+same_twice : (a b c : Desk) → IsSameDesk a b → IsSameDesk b c → IsSameDesk a c
+same_twice a b c h k = record {
+  identity = k.identity ∙ h.identity;
+  role = k.role ∙ h.role;
+  offline = k.offline;
+  later = later_trans a.pass.view.seen b.pass.view.seen c.pass.view.seen h.later k.later;
+}
+
+pub desks_twice : (old middle new : List Desk) → length middle ≡ length old → EachDesk IsSameDesk old middle
+    → EachDesk IsSameDesk middle new → EachDesk IsSameDesk old new
+desks_twice old middle new len before after k d lt =
+    same_twice (get_or old k d) (get_or middle k d) (get_or new k d) (before k d lt)
+    (after k d (omega (arith, lt, len)))
 
 -- ---- what a desk comes to
 
@@ -167,3 +196,12 @@ module _ (w z : WriterState) (same : z ≡ w) (xs : List ℕ) (ps qs rs ss : Lis
   same_roles = roles_stay ps ss (last_len ∙ (answered_len ∙ met_len)) (λ k d lt.
       (last k d (omega (arith, lt))).same.role
       ∙ ((answers k d (omega (arith, lt))).same.role ∙ (first k d lt).same.role))
+
+  pub same_desks : EachDesk IsSameDesk ps ss
+  same_desks k d lt =
+      let p : Desk = get_or ps k d in
+      let q : Desk = get_or qs k d in
+      let r : Desk = get_or rs k d in
+      let s : Desk = get_or ss k d in
+      same_twice p q s (first k d lt).same
+      (same_twice q r s (answers k d (omega (arith, lt))).same (last k d (omega (arith, lt))).same)

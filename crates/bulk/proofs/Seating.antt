@@ -1,6 +1,6 @@
 -- The desks of a table's workers, which were seated one after another.
-use Rattle.std.proofs.Common.{◌≡◌, ◌≢◌, ℕ, zero, suc, ◌+◌, ◌<◌, ◌≤◌, refl, ap, ap₂, sym, ◌∙◌, zero-add}
-use Rattle.std.proofs.Common.{List, [], ◌∷◌, ◌++◌, Option, None, map, slice_get, arith}
+use Rattle.std.proofs.Common.{◌≡◌, ◌≢◌, ℕ, zero, suc, ◌+◌, refl, ap, ap₂, sym, ◌∙◌, zero-add}
+use Rattle.std.proofs.Common.{List, [], ◌∷◌, ◌++◌, Option, None, map, slice_get}
 use Rattle.std.specs.Prelude.{slice_set}
 use Rattle.std.specs.List.{range_with_len}
 use Rattle.std.proofs.lemmas.List.{map-append}

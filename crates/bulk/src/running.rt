@@ -7,7 +7,7 @@ ghost use Rattle.lpm_rules.specs.Longest.{AreLongestHops};
 ghost use Rattle.shared_deeds.specs.Deeds.{GoesOn};
 ghost use Rattle.shared_fib.specs.Running.{IsOnline, identity_of};
 ghost use Rattle.bulk.specs.Pieces.{piece_of};
-ghost use Rattle.bulk.specs.Desks.{IsDeskOf, role_of, EachDesk, HaveRoom, HasMet, HasAnswered, AnswersAtRest};
+ghost use Rattle.bulk.specs.Desks.{IsDeskOf, role_of, EachDesk, IsSameDesk, HaveRoom, HasMet, HasAnswered, AnswersAtRest};
 
 use super::pieces::{append, piece_at};
 use super::{BulkError, Desk, Gate};
@@ -166,6 +166,7 @@ fn answer_at_rest<R: Threads + Sync, G: Gate, const FIRST: u32, const SECOND: u3
     ensures same { writer.new ≡ writer.old }
     ensures desks { All (IsDeskOf table.now) desks.new }
     ensures roles { map role_of desks.new ≡ map role_of desks.old }
+    ensures passes { EachDesk IsSameDesk desks.old desks.new }
 {
     table.has_widths();
     meet_all(table, writer, desks);
@@ -189,7 +190,7 @@ fn join_desks(desks: &[Desk], joined: &mut Vec<Option<Hop>>)
 ///
 /// The desks' passes are offline before, and are again after. All memory is taken before a thread starts:
 /// `Memory` comes only where nothing was answered yet, and no gate was called. Where no further thread can be
-/// had, pieces are answered one after another.
+/// had, pieces are answered one after another. Each pass has then seen all that it had seen before.
 pub fn bulk<R: Threads + Sync, G: Gate, const FIRST: u32, const SECOND: u32>(
     rt: &R,
     alloc: Global,
@@ -208,6 +209,7 @@ pub fn bulk<R: Threads + Sync, G: Gate, const FIRST: u32, const SECOND: u32>(
     ensures same { writer.new ≡ writer.old }
     ensures desks { All (IsDeskOf table.now) desks.new }
     ensures roles { map role_of desks.new ≡ map role_of desks.old }
+    ensures passes { EachDesk IsSameDesk desks.old desks.new }
 {
     if desks.is_empty() {
         return Err(BulkError::NoWorkers);

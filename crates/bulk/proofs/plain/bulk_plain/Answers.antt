@@ -1,4 +1,4 @@
-use Rattle.std.proofs.Common.{ℕ, ◌+◌, ◌^◌, ◌<◌, List, Option, ◌++◌, map, ap, subst, sym, ◌∙◌, lit<, arith, rules}
+use Rattle.std.proofs.Common.{ℕ, ◌+◌, ◌^◌, ◌<◌, List, Option, ◌++◌, map, ap, subst, sym, ◌∙◌, lit<, arith}
 use Rattle.std.specs.List.{flat_map}
 use Rattle.lpm_rules.specs.Longest.{AreLongestHops}
 use Rattle.lpm_rules.proofs.Longest.{length-AreLongestHops}

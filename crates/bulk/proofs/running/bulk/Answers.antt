@@ -1,6 +1,6 @@
 use Rattle.std.proofs.Common.{◌∙◌, arith}
 use Rattle.lpm_rules.proofs.Longest.{length-AreLongestHops}
-use Rattle.bulk.proofs.Meetings.{roles_kept}
+use Rattle.bulk.proofs.Meetings.{desks_twice, kept_desks, roles_kept}
 use Rattle.bulk.proofs.running.bulk.Goals as goal
 
 pub returns-in_err-make_room-clause-roles : goal.returns-in_err-make_room-clause-roles
@@ -15,3 +15,15 @@ join_desks-requires g c =
 
 pub returns-clause-roles : goal.returns-clause-roles
 returns-clause-roles g c = c.answer_at_rest.ensures.roles ∙ roles_kept _ _ c.make_room.ensures.len c.make_room.ensures.passes
+
+pub returns-in_err-make_room-clause-passes : goal.returns-in_err-make_room-clause-passes
+returns-in_err-make_room-clause-passes g c = kept_desks c.args.table.now _ _ c.requires.desks c.make_room.ensures.passes
+
+pub returns-in_err-joined-clause-passes : goal.returns-in_err-joined-clause-passes
+returns-in_err-joined-clause-passes g c = kept_desks c.args.table.now _ _ c.requires.desks c.make_room.ensures.passes
+
+pub returns-clause-passes : goal.returns-clause-passes
+returns-clause-passes g c =
+    desks_twice _ _ _ c.make_room.ensures.len
+    (kept_desks c.args.table.now _ _ c.requires.desks c.make_room.ensures.passes)
+    c.answer_at_rest.ensures.passes
