@@ -12,7 +12,8 @@ use std::process::Abort;
 use std::test::Fail;
 use std::thread::{Threads, join};
 
-// Two groups, of which each that waits is reclaimed as soon as no worker holds it.
+// Two groups. One that waits is reclaimed at the next unlinking, or where the next addition finds none free,
+// once no worker holds it.
 const LIMITS: Config = Config {
     rules: 9,
     groups: 2,

@@ -220,11 +220,16 @@ fn register_twice(rt: HostRuntime) -> Result<(), Fail> {
     Ok(())
 }
 
+// 10.0.0.0/25 to next hop 1, and 10.0.1.0/25 to next hop 2.
+const FIRST_RULE: Rule = (0x0a00_0000, 25, 1);
+
+const SECOND_RULE: Rule = (0x0a00_0100, 25, 2);
+
 // The only group is held by worker 0, until it reports.
 fn hold_and_let_go(
     rt: &impl Abort,
-    table: &SharedTable<4, 4>,
-    writer: &mut Writer<4, 4>,
+    table: &SharedTable<24, 8>,
+    writer: &mut Writer<24, 8>,
     pass: &mut Pass,
 )
     requires writer { writer.old.identity ≡ table.now }
@@ -233,16 +238,16 @@ fn hold_and_let_go(
     ensures pass { identity_of pass.new ≡ identity_of pass.old }
 {
     pass.online(table);
-    add(rt, table, writer, (0x12, 8, 1));
-    delete(rt, table, writer, (0x12, 8, 1));
+    add(rt, table, writer, FIRST_RULE);
+    delete(rt, table, writer, FIRST_RULE);
     let oldest = Some(Busy {
         worker: 0,
         counter: 1,
     });
-    let refused = writer.add(table, &prefix(rt, 0x35, 8), hop(rt, 2));
+    let refused = writer.add(table, &prefix(rt, 0x0a00_0100, 25), hop(rt, 2));
     assert_at(rt, "held", refused, Err(Refusal::NoGroups { oldest }));
     pass.quiescent(table);
-    add(rt, table, writer, (0x35, 8, 2));
+    add(rt, table, writer, SECOND_RULE);
     assert_at(rt, "counts", counts(writer), (1, 0, 0));
     let made = (writer.rules(), writer.versions(), writer.token(table));
     assert_at(rt, "rules, versions, token", made, (1, 3, 2));
@@ -251,8 +256,8 @@ fn hold_and_let_go(
 // A pass that is given back is offline when it is handed out again.
 fn hold_and_register_again(
     rt: &impl Abort,
-    table: &SharedTable<4, 4>,
-    writer: &mut Writer<4, 4>,
+    table: &SharedTable<24, 8>,
+    writer: &mut Writer<24, 8>,
     bench: &mut Bench,
 )
     requires writer { writer.old.identity ≡ table.now }
@@ -267,7 +272,7 @@ fn hold_and_register_again(
 
 #[test]
 fn held_group(rt: HostRuntime) -> Result<(), Fail> {
-    let (table, mut writer, mut bench) = open::<4, 4>(rt.alloc(), SMALL)?;
+    let (table, mut writer, mut bench) = open::<24, 8>(rt.alloc(), SMALL)?;
     hold_and_register_again(&rt, &table, &mut writer, &mut bench);
     Ok(())
 }
@@ -275,8 +280,8 @@ fn held_group(rt: HostRuntime) -> Result<(), Fail> {
 // Each of two workers holds a group; one reports and the other goes offline.
 fn hold_by_two(
     rt: &impl Abort,
-    table: &SharedTable<4, 4>,
-    writer: &mut Writer<4, 4>,
+    table: &SharedTable<24, 8>,
+    writer: &mut Writer<24, 8>,
     zero: &mut Pass,
     one: &mut Pass,
 )
@@ -284,12 +289,12 @@ fn hold_by_two(
     requires zero { (identity_of zero.old ≡ table.now) × IsOffline zero.old }
     requires one { (identity_of one.old ≡ table.now) × IsOffline one.old }
 {
-    add(rt, table, writer, (0x12, 8, 1));
-    add(rt, table, writer, (0x35, 8, 2));
+    add(rt, table, writer, FIRST_RULE);
+    add(rt, table, writer, SECOND_RULE);
     zero.online(table);
-    delete(rt, table, writer, (0x12, 8, 1));
+    delete(rt, table, writer, FIRST_RULE);
     one.online(table);
-    delete(rt, table, writer, (0x35, 8, 2));
+    delete(rt, table, writer, SECOND_RULE);
     assert_at(rt, "first", writer.reclaim(table, 16), stopped(0, 0, 1));
     zero.quiescent(table);
     assert_at(rt, "second", writer.reclaim(table, 16), stopped(1, 1, 2));
@@ -300,11 +305,11 @@ fn hold_by_two(
 #[test]
 fn two_workers(rt: HostRuntime) -> Result<(), Fail> {
     let config = Config {
-        groups: 2,
+        groups: 256,
         workers: 2,
         ..SMALL
     };
-    let (table, mut writer, mut bench) = open::<4, 4>(rt.alloc(), config)?;
+    let (table, mut writer, mut bench) = open::<24, 8>(rt.alloc(), config)?;
     let mut zero = bench.register(&table, 0).expect(&rt, "a pass");
     let mut one = bench.register(&table, 1).expect(&rt, "a pass");
     hold_by_two(&rt, &table, &mut writer, &mut zero, &mut one);
