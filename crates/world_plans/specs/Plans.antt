@@ -1,4 +1,4 @@
--- Meaning: plans of runs (this project's).
+-- This layer's own: plans of runs (this project's).
 use Rattle.std.specs.Prelude.{◌≡◌, ℕ, ◌+◌, ◌^◌, ◌≤◌, All, List, length}
 use Rattle.lpm_trace.specs.declared.kind.Deed.{Deed}
 use Rattle.world_workers.specs.Scripts.{IsSound}
