@@ -6,7 +6,7 @@ use super::asserting::assert_at;
 use super::judging::judged;
 use super::plan::{ONE_GROUP, run};
 use qsbr::Config;
-use std::alloc::Global;
+use std::alloc::{AllocError, Global};
 use std::process::Abort;
 use std::test::Fail;
 use world_plans::{Plan, Sizes, drawn, even};
@@ -78,5 +78,31 @@ fn many_items(rt: HostRuntime) -> Result<(), Fail> {
     let plan: Plan<4, 4> = even(rt.alloc(), config, &sizes)?;
     let trace = run(&rt, rt.alloc(), &plan)?;
     assert_at(&rt, "steps", trace.steps.len(), 100_000);
+    Ok(())
+}
+
+// A short plan of few changes.
+const SHORT: Sizes = Sizes {
+    changes: 4,
+    deeds: 4,
+    items: 60,
+};
+
+// Whether two numbers draw the same schedule.
+fn draw_the_same(alloc: Global, one: u32, other: u32) -> Result<bool, AllocError> {
+    let first: Plan<2, 2> = drawn(alloc, one, &SHORT)?;
+    let second: Plan<2, 2> = drawn(alloc, other, &SHORT)?;
+    Ok(first.schedule.as_slice() == second.schedule.as_slice())
+}
+
+// Each number draws a plan of its own, and always the same.
+#[test]
+fn numbers_draw_their_own_plans(rt: HostRuntime) -> Result<(), Fail> {
+    for number in 0..20 {
+        let same = draw_the_same(rt.alloc(), number, number)?;
+        assert_at(&rt, number, same, true);
+        let other = draw_the_same(rt.alloc(), number, number + 1)?;
+        assert_at(&rt, number, other, false);
+    }
     Ok(())
 }
