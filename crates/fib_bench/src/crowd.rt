@@ -1,6 +1,7 @@
 //! Lookups by several passes at once, beside a writer that changes the table.
 
 use crate::passes::{Changer, Reader, Whose};
+use crate::rounds::{AtOnce, Rounds, of_piece};
 use anyhow::Result;
 use std::io;
 use std::rt::Clock;
@@ -8,32 +9,6 @@ use std::sync::atomic::{AtomicBool, Ordering};
 use std::thread::{Threads, for_each_mut, join_mut};
 use std::time::{Duration, Instant};
 use table_bench::{Hundredths, Route, each_second, hundredths_of_nanos, nanos, of_lengths, ratio};
-
-/// How long passes took that looked all addresses up at once: each by the mean, and until the last had ended.
-#[derive(Clone, Copy)]
-struct Times {
-    mean: Duration,
-    last: Duration,
-}
-
-/// The least times of all rounds, their sum until the last pass had ended, and how many changes the
-/// writer made in them.
-#[derive(Clone, Copy)]
-struct AtOnce {
-    least: Times,
-    total: Duration,
-    made: u64,
-}
-
-/// What stands before the first round.
-const NO_ROUND: AtOnce = AtOnce {
-    least: Times {
-        mean: Duration::MAX,
-        last: Duration::MAX,
-    },
-    total: Duration::ZERO,
-    made: 0,
-};
 
 /// What is changed while passes look up: the name of these changes, the table, and the routes.
 #[derive(Clone, Copy)]
@@ -102,7 +77,7 @@ fn kinds<'a>(short: &'a [Route], long: &'a [Route]) -> [Changes<'a>; 4] {
 }
 
 /// Prints what the lookups of each number of passes take at once, beside each kind of changes.
-fn print_crowds<R: Clock + Print + Threads + Sync>(
+fn print_crowds<R: Clock + Print + AllocGlobal + Threads + Sync>(
     rt: &R,
     readers: &mut [Reader<'_>],
     changer: &mut Changer<'_>,
@@ -130,7 +105,9 @@ fn print_crowd<R: Print>(
     print_speed(rt, passes, all[0].name, quiet, count, addrs)?;
     for (changes, beside) in all.iter().zip(found).skip(1) {
         print_speed(rt, passes, changes.name, *beside, count, addrs)?;
-        print_changes(rt, passes, changes.name, *beside, quiet, apart)?;
+        print_slowdown(rt, passes, changes.name, *beside, quiet, apart)?;
+        print_slowdown_of_pieces(rt, passes, changes.name, *beside, quiet)?;
+        print_changes(rt, passes, changes.name, *beside)?;
     }
     Ok(())
 }
@@ -146,15 +123,20 @@ fn print_speed<R: Print>(
     addrs: usize,
 ) -> Result<()> {
     let each = hundredths_of_nanos(at_once.least.mean, addrs);
+    let of_half = of_piece(at_once.pieces.half);
     let speed = each_second(at_once.least.last, addrs.saturating_mul(count));
     println!(rt; "{passes}, {changes}: {} ns each", Hundredths(each))?;
+    println!(rt;
+        "{passes}, {changes}, median piece: {} ns each",
+        Hundredths(of_half)
+    )?;
     println!(rt; "{passes}, {changes}: {speed} lookups a second")?;
     Ok(())
 }
 
 /// Prints how much slower the lookups are than those while nothing changes, and than those beside changes
-/// apart, and how many changes the writer made a second.
-fn print_changes<R: Print>(
+/// apart, each with the waiting for a core.
+fn print_slowdown<R: Print>(
     rt: &R,
     passes: &str,
     changes: &str,
@@ -174,6 +156,33 @@ fn print_changes<R: Print>(
         "ratio of the last, {passes}, {changes}: {}",
         Hundredths(last)
     )?;
+    Ok(())
+}
+
+/// Prints how much slower the lookups of a piece are than those while nothing changes, by the median and by
+/// the time that nine tenths of the pieces take at most.
+fn print_slowdown_of_pieces<R: Print>(
+    rt: &R,
+    passes: &str,
+    changes: &str,
+    beside: AtOnce,
+    quiet: AtOnce,
+) -> Result<()> {
+    let of_half = ratio(nanos(beside.pieces.half), nanos(quiet.pieces.half));
+    let of_nine_tenths = ratio(
+        nanos(beside.pieces.nine_tenths),
+        nanos(quiet.pieces.nine_tenths),
+    );
+    println!(rt;
+        "ratio of the median piece, {passes}, {changes}: {}\nratio of nine tenths of the pieces, {passes}, {changes}: {}",
+        Hundredths(of_half),
+        Hundredths(of_nine_tenths)
+    )?;
+    Ok(())
+}
+
+/// Prints how many changes the writer made a second.
+fn print_changes<R: Print>(rt: &R, passes: &str, changes: &str, beside: AtOnce) -> Result<()> {
     let made = usize::try_from(beside.made).unwrap_or(usize::MAX);
     println!(rt;
         "{changes} beside {passes}: {} a second",
@@ -184,18 +193,29 @@ fn print_changes<R: Print>(
 
 /// Lets each reader look all addresses up beside each kind of changes in turns, so that whatever else
 /// slows the machine for a while slows each kind.
-fn measure_in_turns<R: Clock + Threads + Sync>(
+fn measure_in_turns<R: Clock + AllocGlobal + Threads + Sync>(
     rt: &R,
     readers: &mut [Reader<'_>],
     changer: &mut Changer<'_>,
     all: &[Changes<'_>; 4],
     addrs: &[u32],
 ) -> Result<[AtOnce; 4]> {
-    let mut found = [NO_ROUND; 4];
+    let mut rounds = [
+        Rounds::new(rt.alloc()),
+        Rounds::new(rt.alloc()),
+        Rounds::new(rt.alloc()),
+        Rounds::new(rt.alloc()),
+    ];
     for _ in 0..TURNS {
-        measure_each(rt, readers, changer, all, &mut found, addrs)?;
+        measure_each(rt, readers, changer, all, &mut rounds, addrs)?;
     }
-    Ok(found)
+    let [quiet, short, long, apart] = &mut rounds;
+    Ok([
+        quiet.at_once(),
+        short.at_once(),
+        long.at_once(),
+        apart.at_once(),
+    ])
 }
 
 /// Lets each reader look all addresses up once beside each kind of changes.
@@ -204,51 +224,32 @@ fn measure_each<R: Clock + Threads + Sync>(
     readers: &mut [Reader<'_>],
     changer: &mut Changer<'_>,
     all: &[Changes<'_>; 4],
-    found: &mut [AtOnce; 4],
+    rounds: &mut [Rounds; 4],
     addrs: &[u32],
 ) -> Result<()> {
-    for (changes, found) in all.iter().zip(found.iter_mut()) {
+    for (changes, rounds) in all.iter().zip(rounds.iter_mut()) {
         changer.made = 0;
-        let times = look_up_beside(rt, readers, changer, *changes, addrs)?;
-        *found = AtOnce {
-            least: Times {
-                mean: found.least.mean.min(times.mean),
-                last: found.least.last.min(times.last),
-            },
-            total: found.total.saturating_add(times.last),
-            made: found.made.saturating_add(changer.made),
-        };
+        let last = look_up_beside(rt, readers, changer, *changes, addrs)?;
+        rounds.add(readers, last, changer.made)?;
     }
     Ok(())
 }
 
-/// How long each reader takes to look all addresses up beside these changes.
+/// How long it takes until each reader has looked all addresses up beside these changes.
 fn look_up_beside<R: Clock + Threads + Sync>(
     rt: &R,
     readers: &mut [Reader<'_>],
     changer: &mut Changer<'_>,
     changes: Changes<'_>,
     addrs: &[u32],
-) -> io::Result<Times> {
+) -> io::Result<Duration> {
     let is_over = AtomicBool::new(false);
     let (_, last) = join_mut(
         rt,
         &mut || changer.change_until(changes.whose, changes.routes, &is_over),
         &mut || look_up_and_tell(rt, addrs, &is_over, readers),
     );
-    Ok(Times {
-        mean: mean_of(readers),
-        last: last?,
-    })
-}
-
-/// The mean of the times that the readers took.
-fn mean_of(readers: &[Reader<'_>]) -> Duration {
-    let mut sum = 0u64;
-    for reader in readers {
-        sum = sum.saturating_add(nanos(reader.took));
-    }
-    Duration::from_nanos(sum / (readers.len() as u64).max(1))
+    last
 }
 
 /// How long it takes until each reader has looked all addresses up. Then it tells that they are over.

@@ -5,6 +5,7 @@
 mod crowd;
 mod passes;
 mod report;
+mod rounds;
 mod running;
 
 ghost use Rattle.std.specs.Prelude.{◌≤◌, IfSome};

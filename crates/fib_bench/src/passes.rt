@@ -6,6 +6,7 @@ ghost use Rattle.shared_fib.specs.Running.{IsBenchOf, IsOnline, identity_of};
 use anyhow::Result;
 use fib::Fib;
 use shared_fib::{Bench, Pass, SharedTable, Writer};
+use std::io;
 use std::rt::Clock;
 use std::sync::atomic::{AtomicBool, Ordering};
 use std::time::{Duration, Instant};
@@ -13,6 +14,13 @@ use table_bench::{Addresses, Route, ascending, number_of};
 
 /// After how many lookups a worker reports that it is quiescent.
 const BETWEEN_REPORTS: usize = 1024;
+
+/// How many lookups of a worker beside others are timed together: few enough that most pieces don't wait for a
+/// core.
+pub(crate) const PIECE: usize = 65_536;
+
+/// How many such pieces a worker can time of one list.
+const PIECES: usize = 64;
 
 /// How many addresses a worker looks up together.
 #[derive(Clone, Copy)]
@@ -24,13 +32,14 @@ pub(crate) enum Way {
 }
 
 /// A worker, the sum of the next hops that it has found, and how long it took to look addresses up beside
-/// others. It is online while it looks up.
+/// others: all, and each piece of them. It is online while it looks up.
 #[derive(Drop)]
 pub(crate) struct Reader<'a> {
     table: &'a SharedTable<24, 8>,
     pass: Pass,
     pub(crate) sum: u64,
     pub(crate) took: Duration,
+    pub(crate) pieces: [Duration; PIECES],
     ghost own: { identity_of pass ≡ table.now },
 }
 
@@ -50,6 +59,7 @@ impl<'a> Reader<'a> {
             pass,
             sum: 0,
             took: Duration::ZERO,
+            pieces: [Duration::ZERO; PIECES],
         })
     }
 
@@ -75,28 +85,76 @@ impl<'a> Reader<'a> {
     }
 
     /// Looks these addresses up, reports now and then that the worker is quiescent, and notes how long it
-    /// took: the greatest time where the clock can't be read.
+    /// took: the greatest time where the clock can't be read. Addresses past the last piece are left out.
     pub(crate) fn add_timed<R: Clock>(&mut self, rt: &R, addrs: &[u32]) {
         self.took = Duration::MAX;
         if let Ok(start) = Instant::now(rt) {
-            self.add_reporting(addrs);
+            self.add_by_pieces(rt, addrs);
             self.took = start.elapsed(rt).unwrap_or(Duration::MAX);
         }
     }
 
-    /// Looks these addresses up, and reports now and then that the worker is quiescent.
-    fn add_reporting(&mut self, addrs: &[u32]) {
+    /// Looks these addresses up, and notes how long each piece took.
+    fn add_by_pieces<R: Clock>(&mut self, rt: &R, addrs: &[u32]) {
         if self.pass.is_online() {
             return;
         }
         self.pass.online(self.table);
-        for some in addrs.chunks(BETWEEN_REPORTS) {
-            let found = sum_of(self.table, &mut self.pass, some);
-            self.sum = self.sum.wrapping_add(found);
-            self.pass.quiescent(self.table);
+        let found = sum_by_pieces(rt, self.table, &mut self.pass, addrs, &mut self.pieces);
+        self.sum = self.sum.wrapping_add(found);
+        if self.pass.is_online() {
+            self.pass.offline(self.table);
         }
-        self.pass.offline(self.table);
     }
+}
+
+/// The sum of the next hops of these addresses, with a report now and then that the worker is quiescent. It
+/// notes how long each piece took: the greatest time where the clock can't be read.
+fn sum_by_pieces<R: Clock>(
+    rt: &R,
+    table: &SharedTable<24, 8>,
+    pass: &mut Pass,
+    addrs: &[u32],
+    pieces: &mut [Duration],
+) -> u64
+    requires own { identity_of pass.old ≡ table.now }
+    requires online { IsOnline pass.old }
+    ensures own { identity_of pass.new ≡ table.now }
+    ensures online { IsOnline pass.new }
+{
+    let mut sum = 0u64;
+    let mut left = addrs;
+    for took in pieces.iter_mut() {
+        let (piece, rest) = left.split_at(left.len().min(PIECE));
+        let start = Instant::now(rt);
+        sum = sum.wrapping_add(sum_reporting(table, pass, piece));
+        *took = time_since(rt, start);
+        left = rest;
+    }
+    sum
+}
+
+/// The time from then until now, the greatest where the clock can't be read.
+fn time_since<R: Clock>(rt: &R, start: io::Result<Instant>) -> Duration {
+    match start {
+        Ok(start) => start.elapsed(rt).unwrap_or(Duration::MAX),
+        Err(_) => Duration::MAX,
+    }
+}
+
+/// The sum of the next hops of these addresses, with a report now and then that the worker is quiescent.
+fn sum_reporting(table: &SharedTable<24, 8>, pass: &mut Pass, addrs: &[u32]) -> u64
+    requires own { identity_of pass.old ≡ table.now }
+    requires online { IsOnline pass.old }
+    ensures own { identity_of pass.new ≡ table.now }
+    ensures online { IsOnline pass.new }
+{
+    let mut sum = 0u64;
+    for some in addrs.chunks(BETWEEN_REPORTS) {
+        sum = sum.wrapping_add(sum_of(table, pass, some));
+        pass.quiescent(table);
+    }
+    sum
 }
 
 /// The sum of the next hops of these addresses, looked up one by one.

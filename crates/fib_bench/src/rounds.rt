@@ -1,0 +1,107 @@
+//! What lookups by several passes at once took, round by round.
+
+use crate::passes::{PIECE, Reader};
+use anyhow::Result;
+use std::alloc::Global;
+use std::time::Duration;
+use table_bench::{hundredths_of_nanos, nanos};
+
+/// How long passes took that looked all addresses up at once: each by the mean, and until the last had ended.
+#[derive(Clone, Copy)]
+pub(crate) struct Times {
+    pub(crate) mean: Duration,
+    pub(crate) last: Duration,
+}
+
+/// The time of a piece that so many of all pieces of all rounds took at most.
+#[derive(Clone, Copy)]
+pub(crate) struct Pieces {
+    pub(crate) half: Duration,
+    pub(crate) nine_tenths: Duration,
+}
+
+/// The least times of all rounds, those of their pieces, the sum of the times until the last pass had ended,
+/// and how many changes the writer made meanwhile.
+#[derive(Clone, Copy)]
+pub(crate) struct AtOnce {
+    pub(crate) least: Times,
+    pub(crate) pieces: Pieces,
+    pub(crate) total: Duration,
+    pub(crate) made: u64,
+}
+
+/// The rounds until now: the least times of all, the time of each piece of each pass in each, the sum of the
+/// times until the last pass had ended, and how many changes the writer made meanwhile.
+#[derive(Drop)]
+pub(crate) struct Rounds {
+    least: Times,
+    pieces: Vec<Duration>,
+    total: Duration,
+    made: u64,
+}
+
+impl Rounds {
+    /// No round.
+    pub(crate) fn new(alloc: Global) -> Self {
+        Rounds {
+            least: Times {
+                mean: Duration::MAX,
+                last: Duration::MAX,
+            },
+            pieces: Vec::new(alloc),
+            total: Duration::ZERO,
+            made: 0,
+        }
+    }
+
+    /// Adds a round of these passes, in which the writer made so many changes.
+    pub(crate) fn add(&mut self, readers: &[Reader<'_>], last: Duration, made: u64) -> Result<()> {
+        for reader in readers {
+            self.pieces.extend_from_slice(&reader.pieces)?;
+        }
+        self.least = Times {
+            mean: self.least.mean.min(mean_of(readers)),
+            last: self.least.last.min(last),
+        };
+        self.total = self.total.saturating_add(last);
+        self.made = self.made.saturating_add(made);
+        Ok(())
+    }
+
+    /// What all rounds took.
+    pub(crate) fn at_once(&mut self) -> AtOnce {
+        self.pieces.sort_unstable();
+        AtOnce {
+            least: self.least,
+            pieces: Pieces {
+                half: self.time_of_tenths(5),
+                nine_tenths: self.time_of_tenths(9),
+            },
+            total: self.total,
+            made: self.made,
+        }
+    }
+
+    /// The time that so many tenths of the pieces took at most, where they are sorted.
+    fn time_of_tenths(&self, tenths: usize) -> Duration {
+        let place = (self.pieces.len() / 10).saturating_mul(tenths);
+        match self.pieces.get(place) {
+            Some(time) => *time,
+            None => Duration::ZERO,
+        }
+    }
+}
+
+/// The mean of the times that the passes took.
+fn mean_of(readers: &[Reader<'_>]) -> Duration {
+    let mut sum = 0u64;
+    for reader in readers {
+        sum = sum.saturating_add(nanos(reader.took));
+    }
+    Duration::from_nanos(sum / (readers.len() as u64).max(1))
+}
+
+/// The nanoseconds of a lookup of a piece that took so long, in hundredths.
+pub(crate) fn of_piece(time: Duration) -> u64 {
+    hundredths_of_nanos(time, PIECE)
+}
