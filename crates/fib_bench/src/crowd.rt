@@ -174,8 +174,11 @@ fn print_slowdown_of_pieces<R: Print>(
         nanos(quiet.pieces.nine_tenths),
     );
     println!(rt;
-        "ratio of the median piece, {passes}, {changes}: {}\nratio of nine tenths of the pieces, {passes}, {changes}: {}",
-        Hundredths(of_half),
+        "ratio of the median piece, {passes}, {changes}: {}",
+        Hundredths(of_half)
+    )?;
+    println!(rt;
+        "ratio of nine tenths of the pieces, {passes}, {changes}: {}",
         Hundredths(of_nine_tenths)
     )?;
     Ok(())

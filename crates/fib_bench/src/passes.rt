@@ -15,12 +15,11 @@ use table_bench::{Addresses, Route, ascending, number_of};
 /// After how many lookups a worker reports that it is quiescent.
 const BETWEEN_REPORTS: usize = 1024;
 
-/// How many lookups of a worker beside others are timed together: few enough that most pieces don't wait for a
-/// core.
-pub(crate) const PIECE: usize = 65_536;
+/// How many lookups of a worker beside others are timed together: so few that most don't wait for a core.
+pub(crate) const PIECE: usize = 8_192;
 
-/// How many such pieces a worker can time of one list.
-const PIECES: usize = 64;
+/// How many pieces of one list a worker can time.
+const PIECES: usize = 512;
 
 /// How many addresses a worker looks up together.
 #[derive(Clone, Copy)]

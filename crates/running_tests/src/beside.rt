@@ -10,7 +10,7 @@ use qsbr::Config;
 use shared_fib::{Pass, SharedTable, Writer, open};
 use std::process::Abort;
 use std::test::Fail;
-use std::thread::{Threads, join};
+use std::thread::{Threads, join, yield_now};
 
 // Two groups. One that waits is reclaimed at the next unlinking, or where the next addition finds none free,
 // once no worker holds it.
@@ -24,10 +24,19 @@ const LIMITS: Config = Config {
 };
 
 const CHANGES: u64 = 100_000;
-// How often the writer tries, where a worker may hold the groups.
+// The version after the last change: that of the cover is 1.
+const LAST: u64 = CHANGES + 1;
+// How often the writer tries at most, where a worker may hold the groups.
 const TRIES: u64 = 1_000_000_000;
 
-const LOOKUPS: u64 = 600_000;
+// How many addresses a pass looks up at most. It ends when it has seen the last version.
+const LOOKUPS: u64 = 100_000_000;
+
+const BETWEEN_REPORTS: u64 = 32;
+// So many lookups of each pass at least begin before the last change is done, however the threads come to run.
+// Between two reports of a pass each group is taken once at most, since one that was given up meanwhile may
+// be held. Half of the changes are additions that take a group, of which there are two.
+const BESIDE: u64 = (CHANGES / 4 - 1) * BETWEEN_REPORTS;
 
 // The changes come round: a long rule in one block, and none, and one in another block, and none.
 const ROUND: u64 = 4;
@@ -54,7 +63,7 @@ fn change(table: &SharedTable<4, 4>, writer: &mut Writer<4, 4>, rules: &Rules, m
     writer.delete(table, &prefix).is_ok()
 }
 
-// Makes all changes, and returns how many it has made.
+// Makes all changes, and returns how many it has made. Where one is refused, a worker has to report first.
 fn change_all(table: &SharedTable<4, 4>, writer: &mut Writer<4, 4>, rules: &Rules) -> u64
     requires own { writer.old.identity ≡ table.now }
 {
@@ -65,6 +74,8 @@ fn change_all(table: &SharedTable<4, 4>, writer: &mut Writer<4, 4>, rules: &Rule
         }
         if change(table, writer, rules, made) {
             made += 1;
+        } else {
+            yield_now();
         }
     }
     made
@@ -94,60 +105,74 @@ fn is_of_a_version(rules: &Rules, addr: u32, answer: &Answer) -> bool {
     false
 }
 
-// Looks one address up, and reports now and then that the worker is quiescent. Whether the answer is of no
-// version from `lo` to `hi`.
-fn look(table: &SharedTable<4, 4>, pass: &mut Pass, rules: &Rules, i: u64) -> bool
+// Looks one address up, and reports now and then that the worker is quiescent.
+fn look(table: &SharedTable<4, 4>, pass: &mut Pass, addr: u32, i: u64) -> Answer
     requires own { identity_of pass.old ≡ table.now }
     requires online { IsOnline pass.old }
+    requires addr { addr < 256 }
     ensures own { identity_of pass.new ≡ identity_of pass.old }
     ensures online { IsOnline pass.new }
 {
-    let addr = (i % 256) as u32;
     let answer = pass.lookup(table, addr);
-    if i % 16 == 15 {
+    if i % BETWEEN_REPORTS == BETWEEN_REPORTS - 1 {
         pass.quiescent(table);
+        yield_now();
     }
-    !is_of_a_version(rules, addr, &answer)
+    answer
 }
 
-// Goes online, looks up all addresses, again and again, and goes offline. How many answers were wrong.
-fn look_all(table: &SharedTable<4, 4>, pass: &mut Pass, rules: &Rules) -> u64
+// How many lookups of a pass began before the last change was done, and how many of all its answers are of no
+// version from `lo` to `hi`.
+#[derive(Clone, Copy)]
+struct Looked {
+    beside: u64,
+    wrong: u64,
+}
+
+// Looks up all addresses, again and again, until the last change is done, and goes offline.
+fn look_all(table: &SharedTable<4, 4>, pass: &mut Pass, rules: &Rules) -> Looked
     requires own { identity_of pass.old ≡ table.now }
-    requires offline { IsOffline pass.old }
+    requires online { IsOnline pass.old }
 {
-    pass.online(table);
+    let mut beside = 0u64;
     let mut wrong = 0u64;
     for i in 0..LOOKUPS {
-        wrong = wrong.saturating_add(u64::from(look(table, pass, rules, i)));
+        let addr = (i % 256) as u32;
+        let answer = look(table, pass, addr, i);
+        wrong = wrong.saturating_add(u64::from(!is_of_a_version(rules, addr, &answer)));
+        if answer.lo >= LAST {
+            break;
+        }
+        beside = beside.saturating_add(1);
     }
     pass.offline(table);
-    wrong
+    Looked { beside, wrong }
 }
 
-// Two passes look up, each on a thread. How many answers of each were wrong.
+// Two passes look up, each on a thread.
 fn look_beside<R: Threads + Sync>(
     rt: &R,
     table: &SharedTable<4, 4>,
     one: &mut Pass,
     other: &mut Pass,
     rules: &Rules,
-) -> (u64, u64)
-    requires one { (identity_of one.old ≡ table.now) × IsOffline one.old }
-    requires other { (identity_of other.old ≡ table.now) × IsOffline other.old }
+) -> (Looked, Looked)
+    requires one { (identity_of one.old ≡ table.now) × IsOnline one.old }
+    requires other { (identity_of other.old ≡ table.now) × IsOnline other.old }
 {
     join(
         rt,
-        || -> u64
-            requires { (identity_of one.now ≡ table.now) × IsOffline one.now }
+        || -> Looked
+            requires { (identity_of one.now ≡ table.now) × IsOnline one.now }
         { look_all(table, one, rules) },
-        || -> u64
-            requires { (identity_of other.now ≡ table.now) × IsOffline other.now }
+        || -> Looked
+            requires { (identity_of other.now ≡ table.now) × IsOnline other.now }
         { look_all(table, other, rules) },
     )
 }
 
 // The writer makes its changes on a thread, while two passes look up on theirs. How many changes were made,
-// and how many answers of each pass were wrong.
+// and what each pass looked up.
 fn change_beside<R: Threads + Sync>(
     rt: &R,
     table: &SharedTable<4, 4>,
@@ -155,20 +180,20 @@ fn change_beside<R: Threads + Sync>(
     rules: &Rules,
     one: &mut Pass,
     other: &mut Pass,
-) -> (u64, (u64, u64))
+) -> (u64, (Looked, Looked))
     requires writer { writer.old.identity ≡ table.now }
-    requires one { (identity_of one.old ≡ table.now) × IsOffline one.old }
-    requires other { (identity_of other.old ≡ table.now) × IsOffline other.old }
+    requires one { (identity_of one.old ≡ table.now) × IsOnline one.old }
+    requires other { (identity_of other.old ≡ table.now) × IsOnline other.old }
 {
     join(
         rt,
         || -> u64
             requires { writer.now.identity ≡ table.now }
         { change_all(table, writer, rules) },
-        || -> (u64, u64)
+        || -> (Looked, Looked)
             requires sync { IsSync R.row }
-            requires one { (identity_of one.now ≡ table.now) × IsOffline one.now }
-            requires other { (identity_of other.now ≡ table.now) × IsOffline other.now }
+            requires one { (identity_of one.now ≡ table.now) × IsOnline one.now }
+            requires other { (identity_of other.now ≡ table.now) × IsOnline other.now }
         { look_beside(rt, table, one, other, rules) },
     )
 }
@@ -201,7 +226,18 @@ fn lookups_beside_updates(rt: HostRuntime) -> Result<(), Fail> {
     add_cover(&rt, &table, &mut writer, &rules);
     let mut one = bench.register(&table, 0).expect(&rt, "a pass");
     let mut other = bench.register(&table, 1).expect(&rt, "a pass");
-    let done = change_beside(&rt, &table, &mut writer, &rules, &mut one, &mut other);
-    assert_at(&rt, "changes, wrong answers", done, (CHANGES, (0, 0)));
+    one.online(&table);
+    other.online(&table);
+    let (made, (by_one, by_other)) = change_beside(
+        &rt,
+        &table,
+        &mut writer,
+        &rules,
+        &mut one,
+        &mut other,
+    );
+    assert_at(&rt, "changes", made, CHANGES);
+    assert_at(&rt, "wrong", (by_one.wrong, by_other.wrong), (0, 0));
+    assert!(rt; by_one.beside >= BESIDE && by_other.beside >= BESIDE);
     Ok(())
 }
