@@ -106,7 +106,6 @@ fn print_crowd<R: Print>(
     for (changes, beside) in all.iter().zip(found).skip(1) {
         print_speed(rt, passes, changes.name, *beside, count, addrs)?;
         print_slowdown(rt, passes, changes.name, *beside, quiet, apart)?;
-        print_slowdown_of_pieces(rt, passes, changes.name, *beside, quiet)?;
         print_changes(rt, passes, changes.name, *beside)?;
     }
     Ok(())
@@ -135,7 +134,7 @@ fn print_speed<R: Print>(
 }
 
 /// Prints how much slower the lookups are than those while nothing changes, and than those beside changes
-/// apart, each with the waiting for a core.
+/// apart: with the waiting for a core, and by pieces, of which most have none.
 fn print_slowdown<R: Print>(
     rt: &R,
     passes: &str,
@@ -144,43 +143,32 @@ fn print_slowdown<R: Print>(
     quiet: AtOnce,
     apart: AtOnce,
 ) -> Result<()> {
-    let slower = ratio(nanos(beside.least.mean), nanos(quiet.least.mean));
-    let by_writer = ratio(nanos(beside.least.mean), nanos(apart.least.mean));
-    println!(rt;
-        "ratio, {passes}, {changes}: {}\nratio to changes apart, {passes}, {changes}: {}",
-        Hundredths(slower),
-        Hundredths(by_writer)
-    )?;
-    let last = ratio(nanos(beside.least.last), nanos(quiet.least.last));
-    println!(rt;
-        "ratio of the last, {passes}, {changes}: {}",
-        Hundredths(last)
-    )?;
-    Ok(())
-}
-
-/// Prints how much slower the lookups of a piece are than those while nothing changes, by the median and by
-/// the time that nine tenths of the pieces take at most.
-fn print_slowdown_of_pieces<R: Print>(
-    rt: &R,
-    passes: &str,
-    changes: &str,
-    beside: AtOnce,
-    quiet: AtOnce,
-) -> Result<()> {
-    let of_half = ratio(nanos(beside.pieces.half), nanos(quiet.pieces.half));
-    let of_nine_tenths = ratio(
-        nanos(beside.pieces.nine_tenths),
-        nanos(quiet.pieces.nine_tenths),
-    );
-    println!(rt;
-        "ratio of the median piece, {passes}, {changes}: {}",
-        Hundredths(of_half)
-    )?;
-    println!(rt;
-        "ratio of nine tenths of the pieces, {passes}, {changes}: {}",
-        Hundredths(of_nine_tenths)
-    )?;
+    let AtOnce { least, pieces, .. } = beside;
+    let compared = [
+        ("ratio", least.mean, quiet.least.mean),
+        ("ratio to changes apart", least.mean, apart.least.mean),
+        ("ratio of the last", least.last, quiet.least.last),
+        ("ratio of the median piece", pieces.half, quiet.pieces.half),
+        (
+            "ratio of the median piece to changes apart",
+            pieces.half,
+            apart.pieces.half,
+        ),
+        (
+            "ratio of nine tenths of the pieces",
+            pieces.nine_tenths,
+            quiet.pieces.nine_tenths,
+        ),
+        (
+            "ratio of nine tenths of the pieces to changes apart",
+            pieces.nine_tenths,
+            apart.pieces.nine_tenths,
+        ),
+    ];
+    for &(what, time, other) in &compared {
+        let slower = Hundredths(ratio(nanos(time), nanos(other)));
+        println!(rt; "{what}, {passes}, {changes}: {slower}")?;
+    }
     Ok(())
 }
 
@@ -233,7 +221,7 @@ fn measure_each<R: Clock + Threads + Sync>(
     for (changes, rounds) in all.iter().zip(rounds.iter_mut()) {
         changer.made = 0;
         let last = look_up_beside(rt, readers, changer, *changes, addrs)?;
-        rounds.add(readers, last, changer.made)?;
+        rounds.add(readers, addrs.len(), last, changer.made)?;
     }
     Ok(())
 }

@@ -38,7 +38,7 @@ pub(crate) struct Reader<'a> {
     pass: Pass,
     pub(crate) sum: u64,
     pub(crate) took: Duration,
-    pub(crate) pieces: [Duration; PIECES],
+    pieces: [Duration; PIECES],
     ghost own: { identity_of pass ≡ table.now },
 }
 
@@ -83,8 +83,13 @@ impl<'a> Reader<'a> {
         }
     }
 
+    /// How long each piece took where it looked so many addresses up. What is left of them isn't among these.
+    pub(crate) fn times_of_pieces(&self, addrs: usize) -> &[Duration] {
+        &self.pieces[..PIECES.min(addrs / PIECE)]
+    }
+
     /// Looks these addresses up, reports now and then that the worker is quiescent, and notes how long it
-    /// took: the greatest time where the clock can't be read. Addresses past the last piece are left out.
+    /// took: the greatest time where the clock can't be read.
     pub(crate) fn add_timed<R: Clock>(&mut self, rt: &R, addrs: &[u32]) {
         self.took = Duration::MAX;
         if let Ok(start) = Instant::now(rt) {
@@ -108,7 +113,8 @@ impl<'a> Reader<'a> {
 }
 
 /// The sum of the next hops of these addresses, with a report now and then that the worker is quiescent. It
-/// notes how long each piece took: the greatest time where the clock can't be read.
+/// notes how long each piece took: the greatest time where the clock can't be read. What is left behind the
+/// last piece is looked up and not timed.
 fn sum_by_pieces<R: Clock>(
     rt: &R,
     table: &SharedTable<24, 8>,
@@ -130,7 +136,7 @@ fn sum_by_pieces<R: Clock>(
         *took = time_since(rt, start);
         left = rest;
     }
-    sum
+    sum.wrapping_add(sum_reporting(table, pass, left))
 }
 
 /// The time from then until now, the greatest where the clock can't be read.

@@ -13,7 +13,7 @@ pub(crate) struct Times {
     pub(crate) last: Duration,
 }
 
-/// The time of a piece that so many of all pieces of all rounds took at most.
+/// The time that half of all pieces of all rounds took at most, and the one that nine tenths of them did.
 #[derive(Clone, Copy)]
 pub(crate) struct Pieces {
     pub(crate) half: Duration,
@@ -54,10 +54,18 @@ impl Rounds {
         }
     }
 
-    /// Adds a round of these passes, in which the writer made so many changes.
-    pub(crate) fn add(&mut self, readers: &[Reader<'_>], last: Duration, made: u64) -> Result<()> {
+    /// Adds a round in which each of these passes looked so many addresses up, the last had ended after that
+    /// time, and the writer made so many changes.
+    pub(crate) fn add(
+        &mut self,
+        readers: &[Reader<'_>],
+        addrs: usize,
+        last: Duration,
+        made: u64,
+    ) -> Result<()> {
         for reader in readers {
-            self.pieces.extend_from_slice(&reader.pieces)?;
+            self.pieces
+                .extend_from_slice(reader.times_of_pieces(addrs))?;
         }
         self.least = Times {
             mean: self.least.mean.min(mean_of(readers)),
@@ -82,7 +90,7 @@ impl Rounds {
         }
     }
 
-    /// The time that so many tenths of the pieces took at most, where they are sorted.
+    /// The time that so many tenths of the pieces took at most, where these are sorted.
     fn time_of_tenths(&self, tenths: usize) -> Duration {
         let place = (self.pieces.len() / 10).saturating_mul(tenths);
         match self.pieces.get(place) {

@@ -1,7 +1,7 @@
 //! Lookups on threads of their own, while the writer changes the table on another.
 ghost use Rattle.std.specs.Prelude.{◌≡◌};
 ghost use Rattle.std.specs.Thread.{IsSync};
-ghost use Rattle.shared_fib.specs.Running.{IsOffline, IsOnline, identity_of};
+ghost use Rattle.shared_fib.specs.Running.{IsOnline, identity_of};
 
 use super::asserting::assert_at;
 use lpm_bits::{Hop, Prefix, Shape};
@@ -30,12 +30,14 @@ const LAST: u64 = CHANGES + 1;
 const TRIES: u64 = 1_000_000_000;
 
 // How many addresses a pass looks up at most. It ends when it has seen the last version.
-const LOOKUPS: u64 = 100_000_000;
+const LOOKUPS: u64 = 500_000_000;
 
 const BETWEEN_REPORTS: u64 = 32;
-// So many lookups of each pass at least begin before the last change is done, however the threads come to run.
-// Between two reports of a pass each group is taken once at most, since one that was given up meanwhile may
-// be held. Half of the changes are additions that take a group, of which there are two.
+// So many lookups of each pass at least begin before the last change is done, where the pass was online from
+// before the first one on. Half of the changes are additions that take a group, of which there are two, so one
+// group is taken as often as a quarter of the changes. Once it was given up, each online pass holds it until
+// it reports. So between two takings of it each pass reports, and looks up before that as often as it does
+// between reports.
 const BESIDE: u64 = (CHANGES / 4 - 1) * BETWEEN_REPORTS;
 
 // The changes come round: a long rule in one block, and none, and one in another block, and none.
@@ -121,11 +123,12 @@ fn look(table: &SharedTable<4, 4>, pass: &mut Pass, addr: u32, i: u64) -> Answer
     answer
 }
 
-// How many lookups of a pass began before the last change was done, and how many of all its answers are of no
-// version from `lo` to `hi`.
+// How many lookups of a pass began before the last change was done, whether a later one was made, and how
+// many of all answers are of no version from `lo` to `hi`.
 #[derive(Clone, Copy)]
 struct Looked {
     beside: u64,
+    saw_last: bool,
     wrong: u64,
 }
 
@@ -135,18 +138,24 @@ fn look_all(table: &SharedTable<4, 4>, pass: &mut Pass, rules: &Rules) -> Looked
     requires online { IsOnline pass.old }
 {
     let mut beside = 0u64;
+    let mut saw_last = false;
     let mut wrong = 0u64;
     for i in 0..LOOKUPS {
         let addr = (i % 256) as u32;
         let answer = look(table, pass, addr, i);
         wrong = wrong.saturating_add(u64::from(!is_of_a_version(rules, addr, &answer)));
         if answer.lo >= LAST {
+            saw_last = true;
             break;
         }
         beside = beside.saturating_add(1);
     }
     pass.offline(table);
-    Looked { beside, wrong }
+    Looked {
+        beside,
+        saw_last,
+        wrong,
+    }
 }
 
 // Two passes look up, each on a thread.
@@ -238,6 +247,7 @@ fn lookups_beside_updates(rt: HostRuntime) -> Result<(), Fail> {
     );
     assert_at(&rt, "changes", made, CHANGES);
     assert_at(&rt, "wrong", (by_one.wrong, by_other.wrong), (0, 0));
+    assert!(rt; by_one.saw_last && by_other.saw_last);
     assert!(rt; by_one.beside >= BESIDE && by_other.beside >= BESIDE);
     Ok(())
 }
