@@ -200,12 +200,11 @@ fn measure_in_turns<R: Clock + AllocGlobal + Threads + Sync>(
     for _ in 0..TURNS {
         measure_each(rt, readers, changer, all, &mut rounds, addrs)?;
     }
-    let [quiet, short, long, apart] = &mut rounds;
     Ok([
-        quiet.at_once(),
-        short.at_once(),
-        long.at_once(),
-        apart.at_once(),
+        rounds[0].at_once(),
+        rounds[1].at_once(),
+        rounds[2].at_once(),
+        rounds[3].at_once(),
     ])
 }
 

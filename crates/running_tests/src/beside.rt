@@ -1,5 +1,5 @@
 //! Lookups on threads of their own, while the writer changes the table on another.
-ghost use Rattle.std.specs.Prelude.{◌≡◌};
+ghost use Rattle.std.specs.Prelude.{◌≡◌, ◌<◌};
 ghost use Rattle.std.specs.Thread.{IsSync};
 ghost use Rattle.shared_fib.specs.Running.{IsOnline, identity_of};
 

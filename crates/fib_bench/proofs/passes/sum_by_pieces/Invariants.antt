@@ -4,7 +4,4 @@ use Rattle.fib_bench.proofs.passes.sum_by_pieces.Given as goal
 
 -- the pass is of this table, and online
 abbrev pub invariant-loop-took : goal.invariant-loop-took
-invariant-loop-took l = (identity_of l.pass ≡ l.table)
-    × IsOnline l.pass
-    × (goal.iterator-loop-took).can_next l.took-iterator
-    × (goal.iterator-loop-took).is_finite l.took-iterator
+invariant-loop-took g l = (identity_of l.pass ≡ l.table) × IsOnline l.pass
