@@ -111,8 +111,9 @@ fn print_crowd<R: Print>(
     Ok(())
 }
 
-/// Prints the nanoseconds that a lookup takes where so many passes look so many addresses up at once, and
-/// how many lookups they make a second together until the last has ended.
+/// Prints the nanoseconds that a lookup takes where so many passes look so many addresses up at once, by the
+/// whole time and by the median piece, and how many lookups they make a second together until the last has
+/// ended.
 fn print_speed<R: Print>(
     rt: &R,
     passes: &str,

@@ -15,7 +15,8 @@ use table_bench::{Addresses, Route, ascending, number_of};
 /// After how many lookups a worker reports that it is quiescent.
 const BETWEEN_REPORTS: usize = 1024;
 
-/// How many lookups of a worker beside others are timed together: so few that most don't wait for a core.
+/// How many lookups of a worker beside others are timed together: so few that most pieces have no wait for a
+/// core in them.
 pub(crate) const PIECE: usize = 8_192;
 
 /// How many pieces of one list a worker can time.

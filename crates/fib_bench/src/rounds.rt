@@ -20,8 +20,8 @@ pub(crate) struct Pieces {
     pub(crate) nine_tenths: Duration,
 }
 
-/// The least times of all rounds, those of their pieces, the sum of the times until the last pass had ended,
-/// and how many changes the writer made meanwhile.
+/// The least times of all rounds, two times among those of all pieces, the sum of the times until the last
+/// pass had ended, and how many changes the writer made meanwhile.
 #[derive(Clone, Copy)]
 pub(crate) struct AtOnce {
     pub(crate) least: Times,

@@ -33,11 +33,10 @@ const TRIES: u64 = 1_000_000_000;
 const LOOKUPS: u64 = 500_000_000;
 
 const BETWEEN_REPORTS: u64 = 32;
-// So many lookups of each pass at least begin before the last change is done, where the pass was online from
-// before the first one on. Half of the changes are additions that take a group, of which there are two, so one
-// group is taken as often as a quarter of the changes. Once it was given up, each online pass holds it until
-// it reports. So between two takings of it each pass reports, and looks up before that as often as it does
-// between reports.
+// At least so many lookups of each pass begin before the last change is done, where the pass was online from
+// before the first one on. Half of the changes are additions that take a group, of which there are two, so
+// one group is taken at least as often as a quarter of the changes. Once it was given up, each online pass
+// holds it until it reports. So between two takings of it each pass reports, after its next lookups.
 const BESIDE: u64 = (CHANGES / 4 - 1) * BETWEEN_REPORTS;
 
 // The changes come round: a long rule in one block, and none, and one in another block, and none.
@@ -65,7 +64,8 @@ fn change(table: &SharedTable<4, 4>, writer: &mut Writer<4, 4>, rules: &Rules, m
     writer.delete(table, &prefix).is_ok()
 }
 
-// Makes all changes, and returns how many it has made. Where one is refused, a worker has to report first.
+// Makes all changes, and returns how many it has made. Where one is refused, a worker has to report first, so
+// another thread may run.
 fn change_all(table: &SharedTable<4, 4>, writer: &mut Writer<4, 4>, rules: &Rules) -> u64
     requires own { writer.old.identity ≡ table.now }
 {
@@ -107,7 +107,7 @@ fn is_of_a_version(rules: &Rules, addr: u32, answer: &Answer) -> bool {
     false
 }
 
-// Looks one address up, and reports now and then that the worker is quiescent.
+// Looks one address up, and reports now and then that the worker is quiescent. Then another thread may run.
 fn look(table: &SharedTable<4, 4>, pass: &mut Pass, addr: u32, i: u64) -> Answer
     requires own { identity_of pass.old ≡ table.now }
     requires online { IsOnline pass.old }
