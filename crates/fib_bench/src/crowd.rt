@@ -105,15 +105,19 @@ fn print_crowd<R: Print>(
     print_speed(rt, passes, all[0].name, quiet, count, addrs)?;
     for (changes, beside) in all.iter().zip(found).skip(1) {
         print_speed(rt, passes, changes.name, *beside, count, addrs)?;
-        print_slowdown(rt, passes, changes.name, *beside, quiet, apart)?;
+        print_slowdown(rt, passes, changes.name, *beside, quiet, "")?;
+        if let Whose::Running = changes.whose {
+            let to = " to changes apart";
+            print_slowdown(rt, passes, changes.name, *beside, apart, to)?;
+        }
         print_changes(rt, passes, changes.name, *beside)?;
     }
     Ok(())
 }
 
 /// Prints the nanoseconds that a lookup takes where so many passes look so many addresses up at once, by the
-/// whole time and by the median piece, and how many lookups they make a second together until the last has
-/// ended.
+/// least and the median round and by the median piece, and how many lookups they make a second together until
+/// the last has ended.
 fn print_speed<R: Print>(
     rt: &R,
     passes: &str,
@@ -123,9 +127,14 @@ fn print_speed<R: Print>(
     addrs: usize,
 ) -> Result<()> {
     let each = hundredths_of_nanos(at_once.least.mean, addrs);
+    let of_round = hundredths_of_nanos(at_once.round, addrs);
     let of_half = of_piece(at_once.pieces.half);
     let speed = each_second(at_once.least.last, addrs.saturating_mul(count));
     println!(rt; "{passes}, {changes}: {} ns each", Hundredths(each))?;
+    println!(rt;
+        "{passes}, {changes}, median round: {} ns each",
+        Hundredths(of_round)
+    )?;
     println!(rt;
         "{passes}, {changes}, median piece: {} ns each",
         Hundredths(of_half)
@@ -134,41 +143,19 @@ fn print_speed<R: Print>(
     Ok(())
 }
 
-/// Prints how much slower the lookups are than those while nothing changes, and than those beside changes
-/// apart: with the waiting for a core, and by pieces, of which most have none.
+/// Prints how much slower the lookups are than beside other changes: with the waiting for a core, and by
+/// pieces, of which most have none.
 fn print_slowdown<R: Print>(
     rt: &R,
     passes: &str,
     changes: &str,
     beside: AtOnce,
-    quiet: AtOnce,
-    apart: AtOnce,
+    other: AtOnce,
+    to: &str,
 ) -> Result<()> {
-    let AtOnce { least, pieces, .. } = beside;
-    let compared = [
-        ("ratio", least.mean, quiet.least.mean),
-        ("ratio to changes apart", least.mean, apart.least.mean),
-        ("ratio of the last", least.last, quiet.least.last),
-        ("ratio of the median piece", pieces.half, quiet.pieces.half),
-        (
-            "ratio of the median piece to changes apart",
-            pieces.half,
-            apart.pieces.half,
-        ),
-        (
-            "ratio of nine tenths of the pieces",
-            pieces.nine_tenths,
-            quiet.pieces.nine_tenths,
-        ),
-        (
-            "ratio of nine tenths of the pieces to changes apart",
-            pieces.nine_tenths,
-            apart.pieces.nine_tenths,
-        ),
-    ];
-    for &(what, time, other) in &compared {
-        let slower = Hundredths(ratio(nanos(time), nanos(other)));
-        println!(rt; "{what}, {passes}, {changes}: {slower}")?;
+    for ((what, time), (_, than)) in beside.compared().iter().zip(&other.compared()) {
+        let slower = Hundredths(ratio(nanos(*time), nanos(*than)));
+        println!(rt; "{what}{to}, {passes}, {changes}: {slower}")?;
     }
     Ok(())
 }

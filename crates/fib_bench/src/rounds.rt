@@ -20,21 +20,41 @@ pub(crate) struct Pieces {
     pub(crate) nine_tenths: Duration,
 }
 
-/// The least times of all rounds, two times among those of all pieces, the sum of the times until the last
-/// pass had ended, and how many changes the writer made meanwhile.
+/// The least times of all rounds, the median of the mean times of the passes in each, two times among those
+/// of all pieces, the sum of the times until the last pass had ended, and how many changes the writer made
+/// meanwhile.
 #[derive(Clone, Copy)]
 pub(crate) struct AtOnce {
     pub(crate) least: Times,
+    pub(crate) round: Duration,
     pub(crate) pieces: Pieces,
     pub(crate) total: Duration,
     pub(crate) made: u64,
 }
 
-/// The rounds until now: the least times of all, the time of each piece of each pass in each, the sum of the
-/// times until the last pass had ended, and how many changes the writer made meanwhile.
+impl AtOnce {
+    /// The times that are compared with those beside other changes, and what their ratio is called.
+    pub(crate) fn compared(self) -> [(&'static str, Duration); 5] {
+        [
+            ("ratio", self.least.mean),
+            ("ratio of the last", self.least.last),
+            ("ratio of the median round", self.round),
+            ("ratio of the median piece", self.pieces.half),
+            (
+                "ratio of nine tenths of the pieces",
+                self.pieces.nine_tenths,
+            ),
+        ]
+    }
+}
+
+/// The rounds until now: the least times of all, the mean time of the passes in each, the time of each piece
+/// of each pass in each, the sum of the times until the last pass had ended, and how many changes the writer
+/// made meanwhile.
 #[derive(Drop)]
 pub(crate) struct Rounds {
     least: Times,
+    means: Vec<Duration>,
     pieces: Vec<Duration>,
     total: Duration,
     made: u64,
@@ -48,6 +68,7 @@ impl Rounds {
                 mean: Duration::MAX,
                 last: Duration::MAX,
             },
+            means: Vec::new(alloc),
             pieces: Vec::new(alloc),
             total: Duration::ZERO,
             made: 0,
@@ -67,8 +88,10 @@ impl Rounds {
             self.pieces
                 .extend_from_slice(reader.times_of_pieces(addrs))?;
         }
+        let mean = mean_of(readers);
+        self.means.push(mean)?;
         self.least = Times {
-            mean: self.least.mean.min(mean_of(readers)),
+            mean: self.least.mean.min(mean),
             last: self.least.last.min(last),
         };
         self.total = self.total.saturating_add(last);
@@ -78,25 +101,26 @@ impl Rounds {
 
     /// What all rounds took.
     pub(crate) fn at_once(&mut self) -> AtOnce {
+        self.means.sort_unstable();
         self.pieces.sort_unstable();
         AtOnce {
             least: self.least,
+            round: time_of_tenths(self.means.as_slice(), 5),
             pieces: Pieces {
-                half: self.time_of_tenths(5),
-                nine_tenths: self.time_of_tenths(9),
+                half: time_of_tenths(self.pieces.as_slice(), 5),
+                nine_tenths: time_of_tenths(self.pieces.as_slice(), 9),
             },
             total: self.total,
             made: self.made,
         }
     }
+}
 
-    /// The time that so many tenths of the pieces took at most, where these are sorted.
-    fn time_of_tenths(&self, tenths: usize) -> Duration {
-        let place = (self.pieces.len() / 10).saturating_mul(tenths);
-        match self.pieces.get(place) {
-            Some(time) => *time,
-            None => Duration::ZERO,
-        }
+/// The time that so many tenths of these sorted times are at most.
+fn time_of_tenths(times: &[Duration], tenths: usize) -> Duration {
+    match times.get(times.len().saturating_mul(tenths) / 10) {
+        Some(time) => *time,
+        None => Duration::ZERO,
     }
 }
 
