@@ -16,3 +16,5 @@ mod many;
 mod plan;
 #[cfg(test)]
 mod planted;
+#[cfg(test)]
+mod unlawful;

@@ -124,11 +124,30 @@ pub(crate) fn schedule_of(
     Ok(items)
 }
 
-// The script of one worker.
-fn script_of(alloc: Global, deeds: &[Deed]) -> Result<Vec<Vec<Deed>>, AllocError> {
-    let mut scripts = Vec::new(alloc);
-    scripts.push(Vec::from_slice(alloc, deeds)?)?;
-    Ok(scripts)
+// The scripts of these workers.
+fn scripts_of(alloc: Global, scripts: &[&[Deed]]) -> Result<Vec<Vec<Deed>>, AllocError> {
+    let mut all = Vec::new(alloc);
+    for deeds in scripts {
+        all.push(Vec::from_slice(alloc, deeds)?)?;
+    }
+    Ok(all)
+}
+
+// A plan with a worker for each of these scripts.
+pub(crate) fn planned_for(
+    rt: &impl Abort,
+    alloc: Global,
+    config: Config,
+    edits: &[Edit],
+    scripts: &[&[Deed]],
+    bursts: &[(Actor, usize)],
+) -> Result<Plan<4, 4>, AllocError> {
+    Ok(Plan {
+        config,
+        changes: changes_of(rt, alloc, edits)?,
+        scripts: scripts_of(alloc, scripts)?,
+        schedule: schedule_of(alloc, bursts)?,
+    })
 }
 
 // A plan with one worker.
@@ -140,10 +159,5 @@ pub(crate) fn planned(
     deeds: &[Deed],
     bursts: &[(Actor, usize)],
 ) -> Result<Plan<4, 4>, AllocError> {
-    Ok(Plan {
-        config,
-        changes: changes_of(rt, alloc, edits)?,
-        scripts: script_of(alloc, deeds)?,
-        schedule: schedule_of(alloc, bursts)?,
-    })
+    planned_for(rt, alloc, config, edits, &[deeds], bursts)
 }
