@@ -4,14 +4,8 @@ ghost use Rattle.std.specs.Prelude.{◌≡◌, ◌+◌, ◌<◌, ◌≤◌, ◌+
 ghost use Rattle.shared_words.specs.Layout.{packed, pair_at, pairs};
 
 use lpm_cells::PlainCells;
+use shared_words::pairs;
 use std::alloc::{AllocError, Global};
-
-/// How many words so many words of 32 bits share.
-fn pairs(narrow: usize) -> usize
-    ensures { result ≡ pairs narrow }
-{
-    narrow / 2 + narrow % 2
-}
 
 /// The word that two neighbours share: the one at place `2 * k`, and the one behind it, or 0.
 #[inline]

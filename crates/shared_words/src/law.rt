@@ -24,14 +24,16 @@ impl<T: Opens> TableRule<(), View, T> for TraceRule {
     ghost first = { λ key. writer_view (T.opened key) };
 }
 
+/// The table of atomic words under this rule.
 pub type Board<T> = Table<(), View, T, TraceRule, Global>;
 
+/// A seat at it, with what that seat knows.
 pub type Place = Seat<(), View>;
 
-/// What a step carries beside the shared word that it loads or stores: the place and the word of the table
-/// that it is of, the change of an update that begins, the token and the worker of a check, and the addresses
-/// of a lookup. Each call picks it.
-pub trait Carries {
+/// What a call picks for its step, beside the shared word that this loads or stores: the place and the word of
+/// the table that it is of, the change of an update that begins, the token and the worker of a check, and the
+/// addresses of a lookup.
+pub trait Picks {
     ghost change: { RuleChange };
 
     ghost word: { ℕ };
@@ -43,7 +45,7 @@ pub trait Carries {
     ghost addrs: { List ℕ };
 }
 
-impl Carries for Brand {
+impl Picks for Brand {
     ghost change = { Clear };
 
     ghost word = { 0 };
@@ -56,29 +58,29 @@ impl Carries for Brand {
 }
 
 /// A first word is stored at this place.
-pub struct StoresFirst<J: Carries> {
+pub struct StoresFirst<J: Picks> {
     of: PhantomData<J>,
 }
 
-impl<J: Carries> Play<(), View> for StoresFirst<J> {
+impl<J: Picks> Play<(), View> for StoresFirst<J> {
     ghost then = { λ s me n. WriterGains (StoreFirst J.index J.word) me };
 }
 
 /// A second word is stored at this place.
-pub struct StoresSecond<J: Carries> {
+pub struct StoresSecond<J: Picks> {
     of: PhantomData<J>,
 }
 
-impl<J: Carries> Play<(), View> for StoresSecond<J> {
+impl<J: Picks> Play<(), View> for StoresSecond<J> {
     ghost then = { λ s me n. WriterGains (StoreSecond J.index J.word) me };
 }
 
 /// The sequence is stored: the update of this change begins.
-pub struct OpensUpdates<J: Carries> {
+pub struct OpensUpdates<J: Picks> {
     of: PhantomData<J>,
 }
 
-impl<J: Carries> Play<(), View> for OpensUpdates<J> {
+impl<J: Picks> Play<(), View> for OpensUpdates<J> {
     ghost then = { λ s me n. WriterGains (OpensUpdate J.change) me };
 }
 
@@ -97,11 +99,11 @@ impl Play<(), View> for BumpsToken {
 }
 
 /// The counter of this worker is loaded, in a check of this token.
-pub struct LoadsCounter<J: Carries> {
+pub struct LoadsCounter<J: Picks> {
     of: PhantomData<J>,
 }
 
-impl<J: Carries> Play<(), View> for LoadsCounter<J> {
+impl<J: Picks> Play<(), View> for LoadsCounter<J> {
     ghost then = { λ s me n. WriterGains (LoadCounter J.token J.index n) me };
 }
 
@@ -155,29 +157,29 @@ impl Play<(), View> for StoresOffline {
 }
 
 /// A worker loads the sequence: a lookup of these addresses begins.
-pub struct BeginsLookup<J: Carries> {
+pub struct BeginsLookup<J: Picks> {
     of: PhantomData<J>,
 }
 
-impl<J: Carries> Play<(), View> for BeginsLookup<J> {
+impl<J: Picks> Play<(), View> for BeginsLookup<J> {
     ghost then = { λ s me n. WorkerGains (Begins J.addrs n) me };
 }
 
 /// A worker loads the first word at this place.
-pub struct LoadsFirst<J: Carries> {
+pub struct LoadsFirst<J: Picks> {
     of: PhantomData<J>,
 }
 
-impl<J: Carries> Play<(), View> for LoadsFirst<J> {
+impl<J: Picks> Play<(), View> for LoadsFirst<J> {
     ghost then = { λ s me n. WorkerGainsFirst me (half J.index n) };
 }
 
 /// A worker loads the second word at this place.
-pub struct LoadsSecond<J: Carries> {
+pub struct LoadsSecond<J: Picks> {
     of: PhantomData<J>,
 }
 
-impl<J: Carries> Play<(), View> for LoadsSecond<J> {
+impl<J: Picks> Play<(), View> for LoadsSecond<J> {
     ghost then = { λ s me n. WorkerGainsSecond me (half J.index n) };
 }
 

@@ -8,8 +8,11 @@ ghost use Rattle.shared_words.specs.Layout.{first_at, half, pairs};
 /// two neighbours of one kind share a word.
 #[derive(Clone, Copy)]
 pub struct Layout {
+    /// How many first words.
     pub firsts: usize,
+    /// How many second words.
     pub seconds: usize,
+    /// How many workers.
     pub workers: usize,
     // Where the second words and the counters begin.
     groups: usize,
@@ -32,13 +35,13 @@ impl Layout {
         ensures seconds { result.seconds ≡ seconds }
         ensures workers { result.workers ≡ workers }
     {
-        let groups = 2 + (firsts / 2 + firsts % 2);
+        let groups = 2 + pairs(firsts);
         Layout {
             firsts,
             seconds,
             workers,
             groups,
-            counters: groups + (seconds / 2 + seconds % 2),
+            counters: groups + pairs(seconds),
         }
     }
 
@@ -59,6 +62,13 @@ impl Layout {
     {
         self.counters + worker
     }
+}
+
+/// How many shared words so many words of one kind take: two neighbours share one.
+pub fn pairs(words: usize) -> usize
+    ensures { result ≡ pairs words }
+{
+    words / 2 + words % 2
 }
 
 /// Where first word `i` lies.

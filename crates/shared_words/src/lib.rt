@@ -18,7 +18,7 @@ mod words;
 mod worker;
 mod writer;
 
-pub use layout::Layout;
+pub use layout::{Layout, pairs};
 pub use opening::{Opening, Opens};
 pub use view::{Role, View};
 pub use words::{SharedWords, open};

@@ -18,6 +18,7 @@ pub enum Role {
 pub struct View {
     /// What the table was opened with.
     pub opening: Opening,
+    /// Whose seat it is.
     pub role: Role,
     /// How many workers' seats were made, for the writer.
     pub made: u64,

@@ -17,7 +17,9 @@ use std::alloc::{AllocError, Global};
 /// The words of a shared table. Each step on them is made through a seat.
 #[derive(Drop)]
 pub struct SharedWords<T: Opens> {
+    /// The table of atomic words.
     pub board: Board<T>,
+    /// Where each word lies in it.
     pub layout: Layout,
 }
 

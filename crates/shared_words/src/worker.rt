@@ -13,9 +13,8 @@ ghost use Rattle.shared_words.specs.Layout.{first_at, pairs, second_at, sequence
 ghost use Rattle.shared_words.specs.Seats.{IsOf, Gains, IsFirstAt, IsSecondAt};
 
 use crate::law::{
-    BeginsLookup, Board, Carries, Compares, EndsLookup, Hears, LoadsFirst, LoadsOnline,
-    LoadsQuiescent, LoadsSecond, Meeting, Notes, Place, StoresOffline, StoresOnline,
-    StoresQuiescent,
+    BeginsLookup, Board, Compares, EndsLookup, Hears, LoadsFirst, LoadsOnline, LoadsQuiescent,
+    LoadsSecond, Meeting, Notes, Picks, Place, StoresOffline, StoresOnline, StoresQuiescent,
 };
 use crate::layout::{Layout, first_at, half};
 use crate::opening::Opens;
@@ -26,14 +25,16 @@ use std::marker::Brand;
 /// The seat of the worker of this number. It knows each step that the worker has made.
 #[derive(Drop)]
 pub struct WorkerSeat {
+    /// The seat at the table of atomic words.
     pub place: Place,
+    /// The worker's number, from 0.
     pub number: u64,
     pub ghost role: { place.me.0.role ≡ AsWorker number },
     pub ghost alone: { place.me.1 ≡ [] },
 }
 
 // The caller picks the addresses. A signature with a const parameter would not let it.
-fn begin_as<T: Opens, J: Carries>(
+fn begin_as<T: Opens, J: Picks>(
     board: &Board<T>,
     place: &mut Place,
     at: usize,
@@ -58,7 +59,7 @@ fn begin_as<T: Opens, J: Carries>(
 
 // The caller picks the place of the table word that is loaded.
 #[inline]
-fn load_first_as<T: Opens, J: Carries>(
+fn load_first_as<T: Opens, J: Picks>(
     board: &Board<T>,
     place: &mut Place,
     number: u64,
@@ -83,7 +84,7 @@ fn load_first_as<T: Opens, J: Carries>(
 }
 
 #[inline]
-fn load_second_as<T: Opens, J: Carries>(
+fn load_second_as<T: Opens, J: Picks>(
     board: &Board<T>,
     place: &mut Place,
     number: u64,
@@ -122,7 +123,7 @@ impl WorkerSeat {
         table.board.shared.load::<LoadsOnline>(&mut self.place, at)
     }
 
-    /// In that report, stores the token that it loaded in the worker's counter.
+    /// In that report, stores the loaded token into the worker's counter.
     #[inline]
     pub fn store_online<T: Opens>(&mut self, table: &SharedWords<T>, token: u64)
         requires own { IsOf table.now.board.shared.table_id (T.opened table.now.board.shared.key)
@@ -155,7 +156,7 @@ impl WorkerSeat {
             .load::<LoadsQuiescent>(&mut self.place, at)
     }
 
-    /// In that report, stores the token that it loaded in the worker's counter.
+    /// In that report, stores the loaded token into the worker's counter.
     #[inline]
     pub fn store_quiescent<T: Opens>(&mut self, table: &SharedWords<T>, token: u64)
         requires own { IsOf table.now.board.shared.table_id (T.opened table.now.board.shared.key)
@@ -254,7 +255,7 @@ impl WorkerSeat {
         table.board.shared.load::<EndsLookup>(&mut self.place, at)
     }
 
-    /// Loads the sequence once. Then this worker has seen all that the writer has done, which stays as it
+    /// Loads the sequence once. Then this worker has seen all that the writer has done. The writer stays as it
     /// was.
     pub fn meet<T: Opens>(&mut self, table: &SharedWords<T>, writer: &mut WriterSeat)
         requires own { IsOf table.now.board.shared.table_id (T.opened table.now.board.shared.key)

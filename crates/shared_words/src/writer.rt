@@ -12,8 +12,8 @@ ghost use Rattle.shared_words.specs.Rule.{with_one_more, worker_view};
 ghost use Rattle.shared_words.specs.Seats.{IsOf, KeepsFirst, KeepsSecond, AreChecked, with_step};
 
 use crate::law::{
-    Board, BumpsToken, Carries, ClosesUpdates, LoadsCounter, Looks, NextWorker, OpensUpdates,
-    Place, StoresFirst, StoresSecond,
+    Board, BumpsToken, ClosesUpdates, LoadsCounter, Looks, NextWorker, OpensUpdates, Picks, Place,
+    StoresFirst, StoresSecond,
 };
 use crate::layout::{Layout, first_at, half, with_half};
 use crate::opening::Opens;
@@ -25,6 +25,7 @@ use std::marker::Brand;
 /// The seat of the one writer. It knows each step that the writer has made.
 #[derive(Drop)]
 pub struct WriterSeat {
+    /// The seat at the table of atomic words.
     pub place: Place,
     pub ghost role: { place.me.0.role ≡ AsWriter },
     pub ghost told: { place.me.0.told ≡ [] },
@@ -34,7 +35,7 @@ pub struct WriterSeat {
 // The calls that follow pick what a step carries beside its word. A signature with a const parameter would
 // not let them.
 
-fn store_first_as<T: Opens, J: Carries>(
+fn store_first_as<T: Opens, J: Picks>(
     board: &Board<T>,
     place: &mut Place,
     at: usize,
@@ -60,7 +61,7 @@ fn store_first_as<T: Opens, J: Carries>(
     board.shared.store::<StoresFirst<J>>(place, at, shared)
 }
 
-fn store_second_as<T: Opens, J: Carries>(
+fn store_second_as<T: Opens, J: Picks>(
     board: &Board<T>,
     place: &mut Place,
     at: usize,
@@ -86,7 +87,7 @@ fn store_second_as<T: Opens, J: Carries>(
     board.shared.store::<StoresSecond<J>>(place, at, shared)
 }
 
-fn open_as<T: Opens, J: Carries>(
+fn open_as<T: Opens, J: Picks>(
     board: &Board<T>,
     place: &mut Place,
     at: usize,
@@ -109,7 +110,7 @@ fn open_as<T: Opens, J: Carries>(
     board.shared.store::<OpensUpdates<J>>(place, at, number)
 }
 
-fn load_counter_as<T: Opens, J: Carries>(
+fn load_counter_as<T: Opens, J: Picks>(
     board: &Board<T>,
     place: &mut Place,
     at: usize,
