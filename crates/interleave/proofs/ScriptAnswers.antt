@@ -1,46 +1,23 @@
 -- The writer's script over the memory of the world: what was answered so far, and how the script ends.
-use Rattle.std.proofs.Common.{arith, ◌≡◌, ℕ, ◌<◌, ◌≤◌, ◌↔◌, inl, inr, true, false, Bool, refl, ap, sym, subst, ◌∙◌, List, [], ◌∷◌, ◌++◌, length, Option, Some, None, MatchOption}
+use Rattle.std.proofs.Common.{arith, ◌≡◌, ℕ, ◌<◌, ◌≤◌, ◌↔◌, inl, inr, true, false, Bool, refl, ap, subst, List, [], ◌∷◌, ◌++◌, length, Option, Some, None, MatchOption}
 use Rattle.std.proofs.lemmas.Bool.{cases_lt}
 use Rattle.lpm_rules.specs.declared.Change.{Change}
 use Rattle.lpm_rules.specs.declared.Change.TheVariants.{Synchronize}
 use Rattle.lpm_trace.specs.declared.step.WriterStep.{WriterStep}
-use Rattle.lpm_trace.specs.Tables.{Setup, Status, Linked, Retired, tables}
-use Rattle.defer_queue.specs.Retired.{IsAbsent}
-use Rattle.lpm_writer.specs.declared.books.Books.{Books}
+use Rattle.lpm_trace.specs.Tables.{Setup, tables}
 use Rattle.lpm_writer.specs.declared.ledger.Ledger.{Ledger}
-use Rattle.lpm_writer.specs.Kept.{AreKept, AreRetired}
-use Rattle.lpm_writer.specs.Waiting.{tokens_of}
 use Rattle.lpm_writer.specs.Resting.{IsResting}
+use Rattle.lpm_writer.proofs.Keeping.{is_limbo}
 use Rattle.world_memory.specs.Schedule.{writer_items}
 use Rattle.world_memory.specs.View.{WorldView}
 use Rattle.world_memory.specs.World.{WorldDid, Reaches, setting}
 use Rattle.interleave.specs.declared.reply.Reply.{Reply}
-use Rattle.interleave.specs.Replies.{Kept, HasTokensLeft, Waits, Answers, IsLimbo, kept}
+use Rattle.interleave.specs.Replies.{Kept, HasTokensLeft, Waits, Answers, kept}
 use Rattle.interleave.specs.Runs.{IsPerformed}
 use Rattle.interleave.proofs.Performing.{HasPerformed, performed_none, performed_more, performed_all, performed_before, performed_within, waits_longer}
 
 items_same : (v z : WorldView) → setting z ≡ setting v → writer_items z.schedule ≡ writer_items v.schedule
 items_same v z e = ap (λ x. writer_items x.1) e
-
--- the groups that wait are those of the queue
-is_limbo : (c : Setup) (steps : List WriterStep) (books : Books) → AreKept c (tables c steps) (tables c steps).token books.groups books.queue.items None
-    → IsLimbo c (tables c steps) (tokens_of books.queue.items)
-is_limbo c steps books kept = record {
-  items = books.queue.items;
-  tokens = refl;
-  rising = kept.rising;
-  retired = kept.retired;
-  linked = λ g b is. absent_linked (tables c steps).groups (tables c steps).token g b books.queue.items is kept.retired;
-  all = kept.all;
-}
-  where
-    not_both : (b t : ℕ) → Linked b ≡ Retired t → ⊥
-    not_both b t e = cc
-
-    -- a group that is linked is none of those that are retired
-    absent_linked : (status : ℕ → Status) (token g b : ℕ) (items : List (ℕ × ℕ)) → status g ≡ Linked b → AreRetired status token items → IsAbsent g items
-    absent_linked status token g b [] is h = tt
-    absent_linked status token g b (item ∷ items) is h = (λ e. not_both b item.1 (sym is ∙ ap status (sym e) ∙ h.0), absent_linked status token g b items is h.2)
 
 module _ (f s : ℕ) where
   abbrev pub Rests : Setup → List WriterStep → Ledger f s → Type 0
@@ -123,7 +100,7 @@ module _ (f s : ℕ) where
             now.1,
             now.2,
             performed_more c f s l0.config n (kept_in l0 []) done replies (kept_in l h.0) change reply (kept_in l' now.0) h.3 (low c h.0 h.1) high
-                (subst (λ x. Answers c f s x (kept_in l h.0) change reply (kept_in l' now.0)) config now.3, (now.2.version, now.2.versions), is_limbo c now.0 l'.books now.2.keeps.kept),
+                (subst (λ x. Answers c f s x (kept_in l h.0) change reply (kept_in l' now.0)) config now.3, (now.2.version, now.2.versions), is_limbo c (tables c now.0) l'.books.groups l'.books.queue.items now.2.keeps.kept),
           )
         where
           not_true : false ≡ true → ⊥
@@ -137,7 +114,7 @@ module _ (f s : ℕ) where
             now.0,
             now.1,
             performed_within c f s l0.config n (kept_in l0 []) done left replies (kept_in l h.0) change now.0 h.3 (low c h.0 h.1) over
-                (inl (reply, kept_in l' now.0, (subst (λ x. Answers c f s x (kept_in l h.0) change reply (kept_in l' now.0)) config now.3, (now.2.version, now.2.versions), is_limbo c now.0 l'.books now.2.keeps.kept), refl)),
+                (inl (reply, kept_in l' now.0, (subst (λ x. Answers c f s x (kept_in l h.0) change reply (kept_in l' now.0)) config now.3, (now.2.version, now.2.versions), is_limbo c (tables c now.0) l'.books.groups l'.books.queue.items now.2.keeps.kept), refl)),
           )
 
       pub ends_waiting : n ≤ tries → HasCome y l change tries None m' l' → HasEnded m0 l0 (done ++ change ∷ left) replies m'

@@ -1,23 +1,21 @@
 -- Meaning: what comes of a change of the writer's script, by the writer's steps alone (DPDK
 -- Programmer's Guide, "LPM Library" and "RCU Library": a synchronize waits until each reader has left
 -- a token behind).
-use Rattle.std.specs.Prelude.{ℕ, suc, ◌≡◌, ◌≢◌, ◌+◌, ◌^◌, ◌<◌, ◌≤◌, ◌⊎◌, List, ◌∷◌, Ok, Err}
-use Rattle.defer_queue.specs.Retired.{IsAbsent}
+use Rattle.std.specs.Prelude.{ℕ, suc, ◌≡◌, ◌≢◌, ◌+◌, ◌^◌, ◌≤◌, List, ◌∷◌, Ok, Err}
 use Rattle.lpm_limits.specs.declared.config.Config.{Config}
 use Rattle.lpm_limits.specs.declared.refusal.Refusal.TheVariants.{Exhausted, Memory}
 use Rattle.lpm_rules.specs.declared.Change.{Change}
 use Rattle.lpm_rules.specs.declared.Change.TheVariants.{Add, Delete, Flush, Reclaim, Synchronize}
 use Rattle.lpm_trace.specs.declared.step.WriterStep.{WriterStep}
 use Rattle.lpm_trace.specs.declared.step.WriterStep.TheVariants.{BumpToken}
-use Rattle.lpm_trace.specs.Tables.{Setup, Tables, Linked, Retired, tables, done}
+use Rattle.lpm_trace.specs.Tables.{Setup, tables, done}
 use Rattle.fib_model.specs.State.{State}
 use Rattle.fib_model.specs.Outcomes.{Adds, Deletes, Flushes, Frees}
 use Rattle.lpm_rules.specs.RuleMap.{RuleList}
 use Rattle.lpm_writer.specs.declared.books.Books.{Books}
 use Rattle.lpm_writer.specs.Traced.{by_steps, AnyMemory, steps_alone}
 use Rattle.lpm_writer.specs.Resting.{state_of}
-use Rattle.lpm_writer.specs.Kept.{AreRising, AreRetired, IsAmong}
-use Rattle.lpm_writer.specs.Waiting.{tokens_of}
+use Rattle.lpm_writer.specs.Kept.{IsLimbo}
 use Rattle.lpm_writer.specs.Synchronizing.{AreStopped, Synchronizes}
 use Rattle.interleave.specs.declared.reply.Reply.{Reply}
 use Rattle.interleave.specs.declared.reply.Reply.TheVariants.{Put, Deleted, Flushed, Reclaimed, Synchronized, Refused}
@@ -63,19 +61,6 @@ Answers c f g config s Synchronize Synchronized z = HasTokensLeft c config s
     × (z ≡ record s { readers = z.readers })
 Answers c f g config s Synchronize (Refused Exhausted) z = ¬ HasTokensLeft c config s × (z ≡ s)
 Answers c f g config s change reply z = ⊥
-
--- these tokens, oldest first, are those of the groups that wait after steps that left w. So a group that
--- a change linked isn't in limbo after it: what an update fills was never linked, or was taken off the
--- list first.
-pub record IsLimbo (c : Setup) (w : Tables) (limbo : List ℕ) : Type 0 where
-  -- the groups, each with its token
-  pub items : List (ℕ × ℕ)
-  pub tokens : tokens_of items ≡ limbo
-  pub rising : AreRising items
-  pub retired : AreRetired w.groups w.token items
-  pub linked : (g b : ℕ) → w.groups g ≡ Linked b → IsAbsent g items
-  -- each group that was retired waits, or a check of its token or a later one has passed
-  pub all : 0 < c.workers → (g t : ℕ) → w.groups g ≡ Retired t → (t ≤ w.passed) ⊎ IsAmong g t items
 
 -- the change came out so, and what is kept then is what the steps say
 abbrev pub CameOut : Setup → (first second : ℕ) → Config → Kept → Change first second → Reply → Kept

@@ -3,6 +3,7 @@ use Rattle.std.proofs.Common.{arith, ◌≡◌, ℕ, ◌%◌, ◌<◌, ◌≤◌
 use Rattle.std.specs.Prelude.{slice_get, slice_set}
 use Rattle.std.proofs.lemmas.Bool.{cases_eq}
 use Rattle.std.proofs.lemmas.Option.{slice_get_within}
+use Rattle.defer_queue.specs.Retired.{IsAbsent}
 use Rattle.lpm_groups.specs.declared.GroupState.{GroupState}
 use Rattle.lpm_groups.specs.declared.GroupState.TheVariants.{Free, Linked as LinkedTo, Limbo}
 use Rattle.lpm_groups.specs.States.{IsLimboAt, IsFreeAt}
@@ -11,7 +12,8 @@ use Rattle.lpm_trace.specs.declared.step.WriterStep.{WriterStep}
 use Rattle.lpm_trace.specs.Tables.{Setup, Tables, Status, Unused, Linked, Retired, tables, IsFree, IsUpdating}
 use Rattle.lpm_trace.specs.Course.{IsOldest, IsAsked}
 use Rattle.lpm_trace.specs.Writer.{course}
-use Rattle.lpm_writer.specs.Kept.{AreAfter, AreRetired, AreBelow, IsAmong, AreKept, MayReclaim, MayAsk, Remembers, Keeps}
+use Rattle.lpm_writer.specs.Kept.{AreAfter, AreRetired, AreBelow, IsAmong, AreKept, IsLimbo, MayReclaim, MayAsk, Remembers, Keeps}
+use Rattle.lpm_writer.specs.Waiting.{tokens_of}
 use Rattle.lpm_writer.proofs.Checks.{HasPassed, HasStopped}
 
 -- ---- where more tokens have passed
@@ -149,3 +151,25 @@ keeps_taken c steps states items passed g b k free =
   where
     same_taken : (g h : ℕ) → Some g ≡ Some h → g ≡ h
     same_taken g h q = cc
+
+-- ---- the groups that wait
+
+-- they are those of the queue
+pub is_limbo : (c : Setup) (w : Tables) (states : List GroupState) (items : List (ℕ × ℕ)) → AreKept c w w.token states items None
+    → IsLimbo c w (tokens_of items)
+is_limbo c w states items kept = record {
+  items = items;
+  tokens = refl;
+  rising = kept.rising;
+  retired = kept.retired;
+  linked = λ g b is. absent_linked w.groups w.token g b items is kept.retired;
+  all = kept.all;
+}
+  where
+    not_both : (b t : ℕ) → Linked b ≡ Retired t → ⊥
+    not_both b t e = cc
+
+    -- a group that is linked is none of those that are retired
+    absent_linked : (status : ℕ → Status) (token g b : ℕ) (items : List (ℕ × ℕ)) → status g ≡ Linked b → AreRetired status token items → IsAbsent g items
+    absent_linked status token g b [] is h = tt
+    absent_linked status token g b (item ∷ items) is h = (λ e. not_both b item.1 (sym is ∙ ap status (sym e) ∙ h.0), absent_linked status token g b items is h.2)

@@ -1,6 +1,7 @@
 -- Meaning: what a writer keeps of its groups is what its steps say (DPDK Programmer's Guide,
 -- "RCU Library", the defer queue of "LPM Library": a group waits with the token of its own unlinking).
 use Rattle.std.specs.Prelude.{ℕ, ◌≡◌, ◌≢◌, suc, ◌<◌, ◌≤◌, ◌⊎◌, ⊤, true, List, [], ◌∷◌, ◌++◌, slice_set, Option, Some, None}
+use Rattle.defer_queue.specs.Retired.{IsAbsent}
 use Rattle.lpm_groups.specs.declared.GroupState.{GroupState}
 use Rattle.lpm_groups.specs.declared.GroupState.TheVariants.{Limbo}
 use Rattle.lpm_groups.specs.States.{IsFreeAt, IsLinkedTo}
@@ -10,6 +11,7 @@ use Rattle.lpm_trace.specs.Tables.{Setup, Tables, Status, Retired, Linked, table
 use Rattle.lpm_trace.specs.Course.{Nothing, Bump}
 use Rattle.lpm_trace.specs.Writer.{course, MayStep}
 use Rattle.lpm_writer.specs.declared.books.Books.{Books}
+use Rattle.lpm_writer.specs.Waiting.{tokens_of}
 
 -- each token is greater than t
 abbrev pub AreAfter : ℕ → List (ℕ × ℕ) → Type 0
@@ -46,6 +48,19 @@ pub record AreKept (c : Setup) (w : Tables) (token : ℕ) (states : List GroupSt
   pub taken : (g : ℕ) → held ≡ Some g → IsFree c w.passed (w.groups g)
   pub rising : AreRising items
   pub retired : AreRetired w.groups token items
+  -- each group that was retired waits, or a check of its token or a later one has passed
+  pub all : 0 < c.workers → (g t : ℕ) → w.groups g ≡ Retired t → (t ≤ w.passed) ⊎ IsAmong g t items
+
+-- these tokens, oldest first, are those of the groups that wait after steps that left w. So a group that
+-- a change linked isn't in limbo after it: what an update fills was never linked, or was taken off the
+-- list first.
+pub record IsLimbo (c : Setup) (w : Tables) (limbo : List ℕ) : Type 0 where
+  -- the groups, each with its token
+  pub items : List (ℕ × ℕ)
+  pub tokens : tokens_of items ≡ limbo
+  pub rising : AreRising items
+  pub retired : AreRetired w.groups w.token items
+  pub linked : (g b : ℕ) → w.groups g ≡ Linked b → IsAbsent g items
   -- each group that was retired waits, or a check of its token or a later one has passed
   pub all : 0 < c.workers → (g t : ℕ) → w.groups g ≡ Retired t → (t ≤ w.passed) ⊎ IsAmong g t items
 

@@ -37,7 +37,7 @@ pub struct Ledger<const FIRST: u32, const SECOND: u32> {
     pub versions: u64,
 }
 
-/// Whether there is no token left for each group.
+/// Whether fewer tokens than groups are left.
 pub(crate) fn is_out_of_tokens<const FIRST: u32, const SECOND: u32, M: Memory>(
     ledger: &Ledger<FIRST, SECOND>,
     memory: &M,

@@ -1,27 +1,35 @@
 -- A running table goes on from the parts of a table of one thread, of which no group waits.
-use Rattle.std.proofs.Common.{ℕ, ◌≡◌, ◌^◌, ◌<◌, ◌≤◌, refl, ap, sym, subst, ◌∙◌, [], length}
+use Rattle.std.proofs.Common.{ℕ, ◌≡◌, ◌^◌, ◌<◌, ◌≤◌, refl, ap, sym, subst, ◌∙◌, [], length, map, slice_get, Option, Some, None}
+use Rattle.std.specs.Prelude.{option_map}
+use Rattle.std.specs.FinMap.{empty}
+use Rattle.std.proofs.lemmas.Option.{slice_get-map}
 use Rattle.atomic_table.specs.Seated.{TableId}
 use Rattle.lpm_cells.specs.Table.{Words}
+use Rattle.lpm_groups.specs.declared.GroupState.{GroupState}
+use Rattle.lpm_groups.specs.declared.GroupState.TheVariants.{Free, Linked as LinkedTo, Limbo}
 use Rattle.lpm_limits.specs.declared.config.Config.{Config}
 use Rattle.lpm_rules.specs.RuleMap.{RuleMap}
 use Rattle.lpm_update.specs.Linked.{group_at}
 use Rattle.lpm_update.specs.Represents.{Represents}
 use Rattle.lpm_update.specs.Tied.{IsTied, HasGroupRoom}
-use Rattle.defer_queue.specs.Limbo.{Limbo}
+use Rattle.defer_queue.specs.Limbo.{Limbo as Queue}
 use Rattle.lpm_memory.specs.declared.plain.PlainMemory.{PlainMemory}
-use Rattle.lpm_trace.specs.Tables.{IsSettled}
+use Rattle.lpm_trace.specs.Tables.{IsSettled, Unused, Linked}
 use Rattle.lpm_writer.specs.declared.ledger.Ledger.{Ledger}
+use Rattle.lpm_memory.specs.Plain.{PlainDid}
+use Rattle.lpm_writer.specs.Opening.{opening_setup}
 use Rattle.lpm_writer.specs.Resting.{IsResting, state_of}
 use Rattle.lpm_writer.specs.Waiting.{tokens_of}
 use Rattle.fib.specs.Fib.{IsSound}
 use Rattle.shared_words.specs.declared.layout.Layout.{Layout}
 use Rattle.shared_words.specs.declared.view.View.{View}
-use Rattle.shared_words.specs.Opened.{setup_of}
+use Rattle.shared_words.specs.Opened.{setup_of, status_of}
 use Rattle.shared_words.specs.Rule.{writer_view}
 use Rattle.shared_words.specs.Seats.{IsOf}
 use Rattle.shared_memory.specs.declared.loaded.Loaded.{Loaded}
+use Rattle.shared_memory.specs.Loaded.{block_of, opened_of}
 use Rattle.shared_fib.specs.Running.{Identity, WriterState, IsAtRest, IsReady, opening_by, opens_with, setup}
-use Rattle.shared_fib.proofs.Live.{live_settled, live_rests}
+use Rattle.shared_fib.proofs.Live.{live_settled, live_rests, never_retired, none_some}
 
 -- ---- what was loaded
 
@@ -40,7 +48,7 @@ module _ (f s : ℕ) (ledger : Ledger f s) (memory : PlainMemory f s) where
   first_kept = record ledger { books = record ledger.books { passed = 0 }; versions = 0 }
 
   -- a ledger of what was loaded
-  pub kept_by : (config : Config) (queue : Limbo) (l : Loaded f s) → config ≡ ledger.config → queue ≡ ledger.books.queue → l ≡ loads
+  pub kept_by : (config : Config) (queue : Queue) (l : Loaded f s) → config ≡ ledger.config → queue ≡ ledger.books.queue → l ≡ loads
       → record { config = config; rules = l.rules; books = record { groups = l.groups; queue = queue; passed = 0 }; versions = 0 } ≡ first_kept
   kept_by config queue l same waits is = λ i. record {
     config = same i;
@@ -65,15 +73,15 @@ module _ (f s : ℕ) (ledger : Ledger f s) (memory : PlainMemory f s) where
     settled : 0 < memory.domain.token → IsSettled (setup_of (opening_by f s loads))
     settled = live_settled f s memory.cells ledger.rules.rules ledger.books.groups ledger.config memory.domain.token represents tied
 
-    abbrev empty : Limbo
-    empty = record { items = []; capacity = length ledger.books.groups }
+    abbrev no_queue : Queue
+    no_queue = record { items = []; capacity = length ledger.books.groups }
 
-    same_queue : empty ≡ ledger.books.queue
+    same_queue : no_queue ≡ ledger.books.queue
     same_queue = λ i. record { items = sym none i; capacity = sym sound.2.rests.queued.room i }
 
     rests : IsResting f s (setup_of (opening_by f s loads)) [] ledger.config ledger.rules first_kept.books 0
     rests = subst
-        (λ (q : Limbo). IsResting f s (setup_of (opening_by f s loads)) [] ledger.config ledger.rules
+        (λ (q : Queue). IsResting f s (setup_of (opening_by f s loads)) [] ledger.config ledger.rules
         (record { groups = ledger.books.groups; queue = q; passed = 0 }) 0)
         same_queue
         (live_rests f s memory.cells ledger.rules.rules ledger.books.groups ledger.config memory.domain.token represents tied
@@ -128,9 +136,55 @@ module _ (f s : ℕ) (key : Loaded f s) (words : TableId) (layout : Layout) (sea
     };
   }
 
+-- ---- a table without rules
+
+no_link : (b : ℕ) → Unused ≡ Linked b → ⊥
+no_link b e = cc
+
+-- what stands in the list of blocks for a group of which no step says that it is linked
+no_block : (x : Option GroupState) → ((b : ℕ) → x ≡ Some (LinkedTo b) → ⊥) → status_of (option_map block_of x) ≡ Unused
+no_block None none = refl
+no_block (Some Free) none = refl
+no_block (Some (LinkedTo b)) none = absurd (none b refl)
+no_block (Some Limbo) none = refl
+
+-- it is opened with words that are all misses, and groups that were never linked
+pub opens_blank : (f s : ℕ) (config : Config) (ledger : Ledger f s) (memory : PlainMemory f s)
+    → PlainDid f s memory.cells memory.domain (opening_setup f s config) []
+    → IsResting f s (opening_setup f s config) [] ledger.config ledger.rules ledger.books ledger.versions
+    → ledger.config ≡ config → ledger.rules.rules ≡ empty
+    → setup_of (opened_of f s memory.cells ledger.rules.rules ledger.books.groups ledger.config.workers memory.domain.token)
+    ≡ opening_setup f s config
+opens_blank f s config ledger memory did rests same none = λ i. record {
+  first = f;
+  second = s;
+  workers = ap (λ (x : Config). x.workers) same i;
+  token = did.token i;
+  words = record { firsts = ap (λ (t : Words). t.firsts) did.words i; seconds = ap (λ (t : Words). t.seconds) did.words i };
+  rules = none i;
+  groups = λ g. unused g i;
+}
+  where
+    unused : (g : ℕ) → status_of (slice_get (map block_of ledger.books.groups) g) ≡ Unused
+    unused g = ap status_of (slice_get-map block_of ledger.books.groups g)
+        ∙ no_block (slice_get ledger.books.groups g) (λ b at. no_link b (rests.keeps.kept.linked g b at (λ e. none_some g e)))
+
 -- a writer whose table was just opened is at rest
 pub opening_rests : (id : Identity) (config : Config) (R : RuleMap) → R ≡ id.opening.rules → IsSettled (setup id)
     → IsAtRest (opens_with id config R)
 opening_rests id config R same settled =
     subst (λ (x : RuleMap). IsAtRest (opens_with id config x)) (sym same)
-    (record { done = refl; begun = refl; rules = refl; answers = settled.answers })
+    (record {
+      done = refl;
+      begun = refl;
+      rules = refl;
+      answers = settled.answers;
+      limbo = record {
+        items = [];
+        tokens = refl;
+        rising = tt;
+        retired = tt;
+        linked = λ g b is. tt;
+        all = λ some g t is. absurd (never_retired (slice_get id.opening.blocks g) t is);
+      };
+    })

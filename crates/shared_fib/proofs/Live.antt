@@ -28,7 +28,7 @@ use Rattle.shared_memory.specs.Loaded.{block_of, opened_of}
 no_group : (g : ℕ) → Miss ≡ Group g → ⊥
 no_group g e = cc
 
-none_some : (g : ℕ) → None ≡ Some g → ⊥
+pub none_some : (g : ℕ) → None ≡ Some g → ⊥
 none_some g e = cc
 
 linked_retired : (b t : ℕ) → LinkedTo b ≡ Retired t → ⊥

@@ -9,6 +9,7 @@ use Rattle.lpm_trace.specs.declared.step.WriterStep.{WriterStep}
 use Rattle.lpm_trace.specs.Tables.{Setup, tables, begun_at, done_at}
 use Rattle.lpm_writer.specs.declared.books.Books.{Books}
 use Rattle.lpm_writer.specs.Resting.{IsResting, state_of}
+use Rattle.lpm_writer.proofs.Keeping.{is_limbo}
 use Rattle.lpm_writer.proofs.UpdateRuns.{fit}
 use Rattle.shared_fib.specs.Running.{Identity, WriterState, IsAtRest, setup}
 
@@ -32,4 +33,5 @@ at_rest f s id config rules steps books begun rests =
       begun = even_begun w.sequence rests.between.even ∙ sym rests.versions;
       rules = ap (λ n. w.history n) rests.versions ∙ rests.version;
       answers = λ a low. best_hop (c.first + c.second) rules.rules a (entry_at c.second w.words a) (represents.best a low);
+      limbo = is_limbo c w books.groups books.queue.items rests.keeps.kept;
     }

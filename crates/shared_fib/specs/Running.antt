@@ -16,6 +16,7 @@ use Rattle.lpm_trace.specs.Tables.{Setup, Tables, tables, addresses, answer, IsA
 use Rattle.lpm_trace.specs.Trace.{worker_by}
 use Rattle.lpm_trace.specs.Workers.{Phase, Offline, Online}
 use Rattle.lpm_writer.specs.declared.ledger.Ledger.{Ledger}
+use Rattle.lpm_writer.specs.Kept.{IsLimbo}
 use Rattle.lpm_writer.specs.Resting.{IsResting, state_of}
 use Rattle.shared_words.specs.declared.layout.Layout.{Layout}
 use Rattle.shared_words.specs.declared.view.View.{View}
@@ -70,7 +71,7 @@ abbrev pub left_by : WriterState → Tables
 left_by w = tables (setup w.identity) (steps_of w)
 
 -- no update runs; the versions are those that were done, the rules are those of the last one, and by
--- them the words answer each address
+-- them the words answer each address; the groups that wait are those that the steps retired
 pub record IsAtRest (w : WriterState) : Type 0 where
   pub done : done (left_by w) ≡ w.table.begun
   pub begun : begun (left_by w) ≡ w.table.begun
@@ -78,6 +79,7 @@ pub record IsAtRest (w : WriterState) : Type 0 where
   pub answers : (a : ℕ) → a < addresses (setup w.identity)
       → IsAnswer (setup w.identity) w.table.rules a
       (answer (setup w.identity) (left_by w).words a)
+  pub limbo : IsLimbo (setup w.identity) (left_by w) w.table.limbo
 
 -- the writer of a table that was just opened with these rules
 abbrev pub opens_with : Identity → Config → RuleMap → WriterState

@@ -19,7 +19,7 @@ use std::{fmt, mem};
 pub enum RegisterError {
     /// The table has no worker of this number.
     NoSuchWorker,
-    /// The worker's pass was registered before.
+    /// The worker's pass is handed out, and not put back yet.
     Taken,
 }
 
@@ -103,7 +103,7 @@ impl Bench {
     }
 
     /// The pass of the worker of this number, which is offline. The errors: the table has no such worker,
-    /// or its pass was registered before.
+    /// or its pass is handed out and not put back yet.
     pub fn register<const FIRST: u32, const SECOND: u32>(
         &mut self,
         table: &SharedTable<FIRST, SECOND>,

@@ -16,7 +16,8 @@ mod table;
 mod writer;
 
 pub use bench::{Bench, RegisterError};
-pub use lpm_writer::Exhausted;
+pub use lpm_rules::Answer;
+pub use lpm_writer::{Exhausted, OpenError};
 pub use opening::{go_live, open};
 pub use pass::{FourHops, Pass};
 pub use table::SharedTable;

@@ -10,15 +10,17 @@ ghost use Rattle.lpm_trace.specs.Tables.{IsSettled};
 ghost use Rattle.shared_words.specs.Opened.{setup_of};
 ghost use Rattle.shared_words.specs.Rule.{writer_view};
 ghost use Rattle.shared_words.specs.Seats.{IsOf};
-ghost use Rattle.shared_fib.specs.Running.{IsAtRest, IsFullBench, opening_by, opens_with};
+ghost use Rattle.shared_memory.specs.Loaded.{opened_of};
+ghost use Rattle.lpm_writer.specs.Opening.{opening_setup};
+ghost use Rattle.shared_fib.specs.Running.{IsAtRest, IsFullBench, opening_by, opens_with, setup};
 
 use crate::laying::lay;
 use crate::table::Words;
 use crate::{Bench, SharedTable, Writer};
 use defer_queue::DeferQueue;
-use fib::{Fib, OpenError};
+use fib::Fib;
 use lpm_memory::PlainMemory;
-use lpm_writer::{Books, Ledger};
+use lpm_writer::{Books, Ledger, OpenError};
 use qsbr::Config;
 use shared_memory::Loaded;
 use shared_words::{Layout, WriterSeat};
@@ -121,6 +123,9 @@ fn begin<const FIRST: u32, const SECOND: u32>(
 ) -> Result<(SharedTable<FIRST, SECOND>, Writer<FIRST, SECOND>, Bench), AllocError>
     requires sound { IsSound FIRST SECOND ledger memory }
     requires none { ledger.books.queue.items ≡ [] }
+    ensures opening { IfOk result (λ r. r.0.opening ≡ opened_of FIRST SECOND memory.entry.cells
+        ledger.entry.rules.rules ledger.entry.books.groups ledger.entry.config.workers
+        memory.entry.domain.token) }
     ensures opened { IfOk result (λ r. r.1 ≡ opens_with r.0 ledger.entry.config ledger.entry.rules.rules) }
     ensures token { IfOk result (λ r. r.0.opening.token ≡ memory.entry.domain.token) }
     ensures workers { IfOk result (λ r. r.0.opening.workers ≡ ledger.entry.config.workers) }
@@ -141,6 +146,7 @@ pub fn open<const FIRST: u32, const SECOND: u32>(
     config: Config,
 ) -> Result<(SharedTable<FIRST, SECOND>, Writer<FIRST, SECOND>, Bench), OpenError>
     requires { IsShape FIRST SECOND }
+    ensures opening { IfOk result (λ r. setup r.0 ≡ opening_setup FIRST SECOND config) }
     ensures opened { IfOk result (λ r. r.1 ≡ opens_with r.0 config map.empty) }
     ensures token { IfOk result (λ r. r.0.opening.token ≡ config.first_token) }
     ensures workers { IfOk result (λ r. r.0.opening.workers ≡ config.workers) }
@@ -150,8 +156,8 @@ pub fn open<const FIRST: u32, const SECOND: u32>(
     ensures bad_config { IfErr result
         (λ error. (error ≡ OpenError.BadConfig) ↔ (¬ IsConfig config)) }
 {
-    let fib = Fib::<FIRST, SECOND>::open(alloc, config)?;
-    Ok(go_live(alloc, fib)?)
+    let (ledger, memory) = lpm_writer::open(alloc, config)?;
+    Ok(begin(alloc, ledger, memory)?)
 }
 
 /// Takes a table that was loaded on one thread, and goes on with it as a running one: its rules are version

@@ -147,7 +147,8 @@ impl Pass {
     }
 
     /// The next hop of the longest rule that covers the address, of a version that stood while its words were
-    /// loaded; `lo` and `hi` are how many updates were done before that and begun after it.
+    /// loaded. That version lies from `lo`, how many updates were done when the lookup began, to `hi`, how
+    /// many were begun when it ended.
     #[inline]
     pub fn lookup<const FIRST: u32, const SECOND: u32>(
         &mut self,
@@ -198,7 +199,7 @@ impl Pass {
         }
     }
 
-    /// Loads the sequence once. Then this pass has seen all that the writer has done, which stays as it
+    /// Loads the sequence once. Then this pass has seen all that the writer has done. The writer stays as it
     /// was.
     pub fn meet<const FIRST: u32, const SECOND: u32>(
         &mut self,

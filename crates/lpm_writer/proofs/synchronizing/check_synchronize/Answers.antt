@@ -1,4 +1,4 @@
-use Rattle.std.proofs.Common.{◌≤◌, sym, subst, ◌∙◌, rules}
+use Rattle.std.proofs.Common.{◌≤◌, sym, subst, ◌∙◌}
 use Rattle.std.proofs.lemmas.Result.{on_ok_weaker}
 use Rattle.lpm_writer.specs.Traced.{Checks}
 use Rattle.lpm_writer.specs.Kept.{MayAsk}

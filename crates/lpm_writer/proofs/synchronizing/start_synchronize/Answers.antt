@@ -1,4 +1,4 @@
-use Rattle.std.proofs.Common.{◌∷◌, refl, rules}
+use Rattle.std.proofs.Common.{◌∷◌, refl}
 use Rattle.lpm_trace.specs.declared.step.WriterStep.TheVariants.{BumpToken}
 use Rattle.lpm_writer.proofs.Awaiting.{may_start, waits_started}
 use Rattle.lpm_writer.proofs.synchronizing.start_synchronize.Goals as goal
