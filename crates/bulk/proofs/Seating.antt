@@ -1,6 +1,7 @@
 -- The desks of a table's workers, which were seated one after another.
-use Rattle.std.proofs.Common.{◌≡◌, ◌≢◌, ℕ, zero, suc, ◌+◌, refl, ap, ap₂, sym, ◌∙◌, zero-add}
-use Rattle.std.proofs.Common.{List, [], ◌∷◌, ◌++◌, Option, None, map, slice_get}
+use Rattle.std.proofs.Common.{arith, ◌≡◌, ◌≢◌, ℕ, zero, suc, ◌+◌, ◌<◌, inl, inr, refl, ap, ap₂, sym, ◌∙◌, zero-add}
+use Rattle.std.proofs.lemmas.Bool.{cases_lt}
+use Rattle.std.proofs.Common.{List, [], ◌∷◌, ◌++◌, Option, Some, None, map, slice_get}
 use Rattle.std.specs.Prelude.{slice_set}
 use Rattle.std.specs.List.{range_with_len}
 use Rattle.std.proofs.lemmas.List.{map-append}
@@ -23,6 +24,26 @@ others_stay (x ∷ xs) (suc i) (suc k) y other = others_stay xs i k y (λ e. oth
 pub stays_at_bench : (passes : List (Option PassState)) (i k : ℕ) → k ≢ i → IsAtBench passes k
     → IsAtBench (slice_set passes i None) k
 stays_at_bench passes i k other at = (at.0, others_stay passes i k None other ∙ at.1)
+
+-- what was stored at a place stands there
+stands_here : {X : Type 0} (xs : List X) (i : ℕ) (x y : X) → slice_get xs i ≡ Some x → slice_get (slice_set xs i y) i ≡ Some y
+stands_here [] i x y at = absurd (no_some x at)
+  where
+    no_some : {X : Type 0} (x : X) → None ≡ Some x → ⊥
+    no_some x e = cc
+stands_here (x0 ∷ xs) zero x y at = refl
+stands_here (x0 ∷ xs) (suc i) x y at = stands_here xs i x y at
+
+-- no pass of the workers so far is at the bench, and none of the next one
+pub one_more_seated : (passes : List (Option PassState)) (i : ℕ) → IsAtBench passes i
+    → ((k : ℕ) → k < i → slice_get passes k ≡ Some None)
+    → (k : ℕ) → k < i + 1 → slice_get (slice_set passes i None) k ≡ Some None
+one_more_seated passes i at before k low = elim (cases_lt k i) [
+  | inl below ↦ others_stay passes i k None (omega (arith, below)) ∙ before k below
+  | inr above ↦
+      let here : k ≡ i = omega (arith, low, above) in
+      ap (slice_get (slice_set passes i None)) here ∙ stands_here passes i (Some at.0) None at.1
+]
 
 -- whose desks they are, with the next worker's
 pub one_more_role : (desks : List Desk) (desk : Desk) (worker : ℕ)

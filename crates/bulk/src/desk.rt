@@ -1,6 +1,6 @@
 //! A worker's place in a `bulk`: its pass, with the room of its piece.
 
-ghost use Rattle.std.specs.Prelude.{◌≡◌, All, IfOk, OnErr, None, map, slice_set};
+ghost use Rattle.std.specs.Prelude.{◌≡◌, ◌<◌, ℕ, All, IfOk, OnErr, Some, None, map, slice_get, slice_set};
 ghost use Rattle.std.specs.List.{range_with_len};
 ghost use Rattle.shared_words.specs.declared.view.Role.TheVariants.{Worker};
 ghost use Rattle.shared_fib.specs.Running.{IsBenchOf, IsFullBench};
@@ -70,6 +70,9 @@ pub fn seat_all<const FIRST: u32, const SECOND: u32>(
     requires workers { workers ≡ table.now.opening.workers }
     ensures desks { IfOk result (λ v. All (IsDeskOf table.now) v.items) }
     ensures roles { IfOk result (λ v. map role_of v.items ≡ map Worker (range_with_len 0 workers)) }
+    ensures own { IsBenchOf table.now bench.new }
+    ensures seated { IfOk result (λ _. (worker : ℕ) → worker < workers
+        → slice_get bench.new worker ≡ Some None) }
     ensures unchanged { OnErr result (bench.new ≡ bench.old) }
 {
     let mut desks = Vec::with_capacity(alloc, workers)?;

@@ -1,10 +1,10 @@
-use Rattle.std.proofs.Common.{◌≡◌, ℕ, ◌+◌, List, All, map, ap, subst, sym, ◌∙◌, arith}
+use Rattle.std.proofs.Common.{◌≡◌, ℕ, ◌+◌, ◌<◌, List, All, map, slice_get, Some, None, ap, subst, sym, ◌∙◌, arith}
 use Rattle.std.specs.List.{range_with_len}
 use Rattle.std.proofs.lemmas.List.Elements.{All-nil, All-push}
 use Rattle.shared_words.specs.declared.view.Role.TheVariants.{Worker}
 use Rattle.bulk.specs.declared.desk.Desk.{Desk}
 use Rattle.bulk.specs.Desks.{IsDeskOf, role_of}
-use Rattle.bulk.proofs.Seating.{stays_at_bench, one_more_role}
+use Rattle.bulk.proofs.Seating.{stays_at_bench, one_more_seated, one_more_role}
 use Rattle.bulk.proofs.desk.seat_all.Goals as goal
 
 pub loop-worker-init : goal.loop-worker-init
@@ -15,6 +15,7 @@ loop-worker-init g c = record {
   waiting = λ k from below.
       let at = c.requires.full.1 k (omega (arith, below, c.requires.workers)) in
       (at.0, at.1);
+  seated = λ k low. absurd (omega (arith, low));
   desks = subst (All (IsDeskOf c.args.table.now)) (sym {A = List Desk} c.in_ok-desks.ensures.items) (All-nil (IsDeskOf c.args.table.now));
   roles = ap (map role_of) c.in_ok-desks.ensures.items;
 }
@@ -35,6 +36,8 @@ loop-worker-preserved g c =
       own = c.seat.ensures.own;
       waiting = λ k from below. rw c.seat.ensures.taken (stays_at_bench c.loop-worker.bench i k
           (omega (arith, from)) (known.waiting k (omega (arith, from)) below));
+      seated = λ k low. rw c.seat.ensures.taken (one_more_seated c.loop-worker.bench i
+          (known.waiting i (omega arith) c.loop-worker-test.true) known.seated k low);
       desks = subst (All (IsDeskOf c.args.table.now)) (sym {A = List Desk} pushed.items)
           (All-push (IsDeskOf c.args.table.now) c.loop-worker.desks.items c.seat.result known.desks c.seat.ensures.desk);
       roles = ap (map role_of) pushed.items
@@ -45,3 +48,8 @@ pub returns-clause-roles : goal.returns-clause-roles
 returns-clause-roles g c =
     let all : c.loop-worker.worker ≡ c.args.workers = omega arith in
     c.loop-worker.invariant.roles ∙ ap (λ (n : ℕ). map Worker (range_with_len 0 n)) all
+
+pub returns-clause-seated : goal.returns-clause-seated
+returns-clause-seated g c =
+    let all : c.loop-worker.worker ≡ c.args.workers = omega arith in
+    subst (λ (n : ℕ). (k : ℕ) → k < n → slice_get c.loop-worker.bench k ≡ Some None) all c.loop-worker.invariant.seated

@@ -1,5 +1,5 @@
 use Rattle.std.proofs.Common.{◌≡◌, ℕ, ◌<◌, ◌≤◌, All, map, vec_len}
-use Rattle.std.specs.Prelude.{vec_capacity}
+use Rattle.std.specs.Prelude.{vec_capacity, slice_get, Some, None}
 use Rattle.std.specs.List.{range_with_len}
 use Rattle.shared_words.specs.declared.view.Role.TheVariants.{Worker}
 use Rattle.shared_fib.specs.Running.{IsBenchOf}
@@ -13,6 +13,7 @@ invariant-loop-worker g l = record {
   capacity : vec_capacity l.desks ≡ l.workers;
   own : IsBenchOf l.table l.bench;
   waiting : (k : ℕ) → l.worker ≤ k → k < l.workers → IsAtBench l.bench k;
+  seated : (k : ℕ) → k < l.worker → slice_get l.bench k ≡ Some None;
   desks : All (IsDeskOf l.table) l.desks.items;
   roles : map role_of l.desks.items ≡ map Worker (range_with_len 0 l.worker);
 }
