@@ -7,7 +7,7 @@ use super::asserting::assert_at;
 use bulk::{BulkError, Desk, Gate, Open, border, bulk, bulk_plain, seat_all};
 use fib::{Fib, OpenError};
 use lpm_bits::{Hop, Prefix};
-use qsbr::Config;
+use qsbr::{Config, Refusal};
 use shared_fib::{Bench, SharedTable, Writer};
 use std::alloc::Global;
 use std::process::Abort;
@@ -77,29 +77,34 @@ fn assert_ends(rt: &impl Abort, ends: &[usize]) {
     }
 }
 
+// Adds a rule. The error is want of memory: it ends a test by its result, where an assertion stops it.
 fn add_rule(
     rt: &impl Abort,
     table: &SharedTable<24, 8>,
     writer: &mut Writer<24, 8>,
-    bits: u32,
-    len: u32,
-    number: u32,
-)
+    rule: (u32, u32, u32),
+) -> Result<(), Refusal>
     requires own { writer.old.identity ≡ table.now }
     ensures own { writer.new.identity ≡ writer.old.identity }
 {
+    let (bits, len, number) = rule;
     let prefix = Prefix::new(bits, len).expect(rt, "a length");
     let hop = Hop::new(number).expect(rt, "a next hop");
-    assert!(rt; writer.add(table, &prefix, hop).is_ok(), "{bits}/{len}");
+    writer.add(table, &prefix, hop)?;
+    Ok(())
 }
 
-fn add_rules(rt: &impl Abort, table: &SharedTable<24, 8>, writer: &mut Writer<24, 8>)
+fn add_rules(
+    rt: &impl Abort,
+    table: &SharedTable<24, 8>,
+    writer: &mut Writer<24, 8>,
+) -> Result<(), Refusal>
     requires own { writer.old.identity ≡ table.now }
     ensures own { writer.new.identity ≡ writer.old.identity }
 {
-    add_rule(rt, table, writer, 0x0a00_0000, 8, 1);
-    add_rule(rt, table, writer, 0x0a01_0000, 16, 2);
-    add_rule(rt, table, writer, 0x0a01_0180, 25, 3);
+    add_rule(rt, table, writer, (0x0a00_0000, 8, 1))?;
+    add_rule(rt, table, writer, (0x0a01_0000, 16, 2))?;
+    add_rule(rt, table, writer, (0x0a01_0180, 25, 3))
 }
 
 // The five addresses twice, by these desks: a call to which memory is refused leaves them as they were.
@@ -109,27 +114,24 @@ fn assert_five_at_desks<R: Abort + Threads + Sync>(
     table: &SharedTable<24, 8>,
     writer: &mut Writer<24, 8>,
     desks: &mut [Desk],
-)
+) -> Result<(), BulkError>
     requires own { writer.old.identity ≡ table.now }
     requires desks { All (IsDeskOf table.now) desks.old }
 {
     let workers = desks.len();
     let first = bulk(rt, alloc, table, writer, desks, &FIVE, &Open);
     let again = bulk(rt, alloc, table, writer, desks, &FIVE, &Open);
-    assert_hops_where_memory_is_ample(rt, workers, first);
-    assert_hops(rt, workers, &again.expect(rt, "answers"));
-}
-
-// The next hops of the five addresses, but where a growth was refused (`rt try --test --fail-alloc N`).
-fn assert_hops_where_memory_is_ample(
-    rt: &impl Abort,
-    workers: usize,
-    answered: Result<Vec<Option<Hop>>, BulkError>,
-) {
-    match answered {
-        Ok(hops) => assert_hops(rt, workers, &hops),
-        Err(error) => assert_at(rt, workers, error, BulkError::Memory),
+    match first {
+        Ok(hops) => {
+            assert_hops(rt, workers, &hops);
+            assert_hops(rt, workers, &again?);
+        }
+        Err(error) => {
+            assert_at(rt, workers, error, BulkError::Memory);
+            assert_hops(rt, workers, &again.expect(rt, "answers"));
+        }
     }
+    Ok(())
 }
 
 // The five addresses, by a running table that has the rules, with so many workers.
@@ -140,13 +142,14 @@ fn assert_five_by_desks<R: Abort + Threads + Sync>(
     writer: &mut Writer<24, 8>,
     bench: &mut Bench,
     workers: usize,
-)
+) -> Result<(), Fail>
     requires own { writer.old.identity ≡ table.now }
     requires full { IsFullBench table.now bench.old }
     requires workers { workers ≡ table.now.opening.workers }
 {
-    let mut desks = seat_all(alloc, table, bench, workers).expect(rt, "desks");
-    assert_five_at_desks(rt, alloc, table, writer, &mut desks);
+    let mut desks = seat_all(alloc, table, bench, workers)?;
+    assert_five_at_desks(rt, alloc, table, writer, &mut desks)?;
+    Ok(())
 }
 
 // The five addresses, by a running table with so many workers.
@@ -160,11 +163,12 @@ fn five_by_a_running_table<R: Abort + Threads + Sync>(
         ..Config::default()
     };
     let (table, mut writer, mut bench) = shared_fib::open(alloc, config)?;
-    add_rules(rt, &table, &mut writer);
-    assert_five_by_desks(rt, alloc, &table, &mut writer, &mut bench, workers);
-    Ok(())
+    add_rules(rt, &table, &mut writer)?;
+    assert_five_by_desks(rt, alloc, &table, &mut writer, &mut bench, workers)
 }
 
+// Where a growth of the first call of `bulk` is refused (`tools/try_program.py` refuses each), the second one
+// answers. Where another is, want of memory is the result.
 #[test]
 fn five_addresses_by_a_running_table(rt: HostRuntime) -> Result<(), Fail> {
     for workers in [1, 2, 3, 8] {
