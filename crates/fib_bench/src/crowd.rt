@@ -127,17 +127,17 @@ fn print_speed<R: Print>(
     addrs: usize,
 ) -> Result<()> {
     let each = hundredths_of_nanos(at_once.least.mean, addrs);
-    let of_round = hundredths_of_nanos(at_once.round, addrs);
-    let of_half = of_piece(at_once.pieces.half);
+    let median_round = hundredths_of_nanos(at_once.median_round, addrs);
+    let median_piece = of_piece(at_once.pieces.median);
     let speed = each_second(at_once.least.last, addrs.saturating_mul(count));
     println!(rt; "{passes}, {changes}: {} ns each", Hundredths(each))?;
     println!(rt;
         "{passes}, {changes}, median round: {} ns each",
-        Hundredths(of_round)
+        Hundredths(median_round)
     )?;
     println!(rt;
         "{passes}, {changes}, median piece: {} ns each",
-        Hundredths(of_half)
+        Hundredths(median_piece)
     )?;
     println!(rt; "{passes}, {changes}: {speed} lookups a second")?;
     Ok(())
@@ -160,7 +160,7 @@ fn print_slowdown<R: Print>(
     Ok(())
 }
 
-/// Prints how many changes the writer made a second.
+/// Prints how many changes were made a second beside the passes.
 fn print_changes<R: Print>(rt: &R, passes: &str, changes: &str, beside: AtOnce) -> Result<()> {
     let made = usize::try_from(beside.made).unwrap_or(usize::MAX);
     println!(rt;

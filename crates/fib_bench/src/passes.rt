@@ -1,7 +1,7 @@
 //! The workers and the writer of a running table.
 
 ghost use Rattle.std.specs.Prelude.{◌≡◌};
-ghost use Rattle.shared_fib.specs.Running.{IsBenchOf, IsOnline, identity_of};
+ghost use Rattle.shared_fib.specs.Running.{IsBenchOf, IsOffline, IsOnline, identity_of};
 
 use anyhow::Result;
 use fib::Fib;
@@ -32,7 +32,7 @@ pub(crate) enum Way {
 }
 
 /// A worker, the sum of the next hops that it has found, and how long it took to look addresses up beside
-/// others: all, and each piece of them. It is online while it looks up.
+/// others: all, and each piece of them. It is online while it looks up, and offline else.
 #[derive(Drop)]
 pub(crate) struct Reader<'a> {
     table: &'a SharedTable<24, 8>,
@@ -41,6 +41,7 @@ pub(crate) struct Reader<'a> {
     pub(crate) took: Duration,
     pieces: [Duration; PIECES],
     ghost own: { identity_of pass ≡ table.now },
+    ghost offline: { IsOffline pass },
 }
 
 impl<'a> Reader<'a> {
@@ -65,23 +66,10 @@ impl<'a> Reader<'a> {
 
     /// Adds the number of each address's next hop to the sum.
     pub(crate) fn look_up(&mut self, addresses: Addresses<'_>, way: Way) {
-        if self.pass.is_online() {
-            return;
-        }
         self.pass.online(self.table);
-        let found = match (addresses, way) {
-            (Addresses::Listed(addrs), Way::Single) => sum_of(self.table, &mut self.pass, addrs),
-            (Addresses::Listed(addrs), Way::Fours) => {
-                sum_by_fours(self.table, &mut self.pass, addrs)
-            }
-            (Addresses::Ascending(from, to), _) => {
-                sum_ascending(self.table, &mut self.pass, from, to)
-            }
-        };
+        let found = sum_in_a_way(self.table, &mut self.pass, addresses, way);
         self.sum = self.sum.wrapping_add(found);
-        if self.pass.is_online() {
-            self.pass.offline(self.table);
-        }
+        self.pass.offline(self.table);
     }
 
     /// How long each piece took where it looked so many addresses up. What is left of them isn't among these.
@@ -101,15 +89,30 @@ impl<'a> Reader<'a> {
 
     /// Looks these addresses up, and notes how long each piece took.
     fn add_by_pieces<R: Clock>(&mut self, rt: &R, addrs: &[u32]) {
-        if self.pass.is_online() {
-            return;
-        }
         self.pass.online(self.table);
         let found = sum_by_pieces(rt, self.table, &mut self.pass, addrs, &mut self.pieces);
         self.sum = self.sum.wrapping_add(found);
-        if self.pass.is_online() {
-            self.pass.offline(self.table);
-        }
+        self.pass.offline(self.table);
+    }
+}
+
+/// The sum of the next hops of these addresses, looked up in this way.
+#[inline]
+fn sum_in_a_way(
+    table: &SharedTable<24, 8>,
+    pass: &mut Pass,
+    addresses: Addresses<'_>,
+    way: Way,
+) -> u64
+    requires own { identity_of pass.old ≡ table.now }
+    requires online { IsOnline pass.old }
+    ensures own { identity_of pass.new ≡ table.now }
+    ensures online { IsOnline pass.new }
+{
+    match (addresses, way) {
+        (Addresses::Listed(addrs), Way::Single) => sum_of(table, pass, addrs),
+        (Addresses::Listed(addrs), Way::Fours) => sum_by_fours(table, pass, addrs),
+        (Addresses::Ascending(from, to), _) => sum_ascending(table, pass, from, to),
     }
 }
 

@@ -13,22 +13,26 @@ pub(crate) struct Times {
     pub(crate) last: Duration,
 }
 
-/// The time that half of all pieces of all rounds took at most, and the one that nine tenths of them did.
+/// Two times among those of all pieces of all rounds.
 #[derive(Clone, Copy)]
 pub(crate) struct Pieces {
-    pub(crate) half: Duration,
+    /// The one that half of the pieces took at most.
+    pub(crate) median: Duration,
+    /// The one that nine tenths of them took at most.
     pub(crate) nine_tenths: Duration,
 }
 
-/// The least times of all rounds, the median of the mean times of the passes in each, two times among those
-/// of all pieces, the sum of the times until the last pass had ended, and how many changes the writer made
-/// meanwhile.
+/// What all rounds took.
 #[derive(Clone, Copy)]
 pub(crate) struct AtOnce {
+    /// The least times of all rounds.
     pub(crate) least: Times,
-    pub(crate) round: Duration,
+    /// The median, over the rounds, of the mean time of the passes.
+    pub(crate) median_round: Duration,
     pub(crate) pieces: Pieces,
+    /// The sum, over the rounds, of the times until the last pass had ended.
     pub(crate) total: Duration,
+    /// How many changes were made meanwhile.
     pub(crate) made: u64,
 }
 
@@ -38,8 +42,8 @@ impl AtOnce {
         [
             ("ratio", self.least.mean),
             ("ratio of the last", self.least.last),
-            ("ratio of the median round", self.round),
-            ("ratio of the median piece", self.pieces.half),
+            ("ratio of the median round", self.median_round),
+            ("ratio of the median piece", self.pieces.median),
             (
                 "ratio of nine tenths of the pieces",
                 self.pieces.nine_tenths,
@@ -48,15 +52,17 @@ impl AtOnce {
     }
 }
 
-/// The rounds until now: the least times of all, the mean time of the passes in each, the time of each piece
-/// of each pass in each, the sum of the times until the last pass had ended, and how many changes the writer
-/// made meanwhile.
+/// The rounds until now.
 #[derive(Drop)]
 pub(crate) struct Rounds {
     least: Times,
+    // The mean time of the passes in each.
     means: Vec<Duration>,
+    // The time of each piece of each pass in each.
     pieces: Vec<Duration>,
+    // The sum of the times until the last pass had ended.
     total: Duration,
+    // How many changes were made meanwhile.
     made: u64,
 }
 
@@ -76,7 +82,7 @@ impl Rounds {
     }
 
     /// Adds a round in which each of these passes looked so many addresses up, the last had ended after that
-    /// time, and the writer made so many changes.
+    /// time, and so many changes were made.
     pub(crate) fn add(
         &mut self,
         readers: &[Reader<'_>],
@@ -105,9 +111,9 @@ impl Rounds {
         self.pieces.sort_unstable();
         AtOnce {
             least: self.least,
-            round: time_of_tenths(self.means.as_slice(), 5),
+            median_round: time_of_tenths(self.means.as_slice(), 5),
             pieces: Pieces {
-                half: time_of_tenths(self.pieces.as_slice(), 5),
+                median: time_of_tenths(self.pieces.as_slice(), 5),
                 nine_tenths: time_of_tenths(self.pieces.as_slice(), 9),
             },
             total: self.total,
