@@ -92,9 +92,9 @@ pub enum Change<const FIRST: u32, const SECOND: u32> {
 pub struct Answer {
     /// The next hop, or none for a miss.
     pub hop: Option<Hop>,
-    /// The updates that were done when the lookup began.
+    /// How many updates were done when the lookup began.
     pub lo: u64,
-    /// The updates that had begun when the lookup ended.
+    /// How many updates were begun when it ended.
     pub hi: u64,
 }
 

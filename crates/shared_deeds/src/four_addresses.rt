@@ -46,10 +46,8 @@ pub fn lookup4<const FIRST: u32, const SECOND: u32, T: Opens>(
     ensures answers { LooksUpAll (a ∷ b ∷ c ∷ d ∷ []) result.hops result.lo result.hi
         seat.old.place.me.0 seat.new.place.me.0 }
 {
-    let low = seat.begin_lookup(
-        table,
-        &[u64::from(a), u64::from(b), u64::from(c), u64::from(d)],
-    );
+    let addrs = [u64::from(a), u64::from(b), u64::from(c), u64::from(d)];
+    let low = seat.begin_lookup(table, &addrs);
     let (w, x, y, z) = load_firsts::<FIRST, SECOND, T>(seat, table, a, b, c, d);
     let w = load_last::<FIRST, SECOND, T>(seat, table, a, w);
     let x = load_last::<FIRST, SECOND, T>(seat, table, b, x);
