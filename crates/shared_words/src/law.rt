@@ -30,9 +30,9 @@ pub type Board<T> = Table<(), View, T, TraceRule, Global>;
 /// A seat at it, with what that seat knows.
 pub type Place = Seat<(), View>;
 
-/// What a call picks for its step, beside the shared word that this loads or stores: the place and the word of
-/// the table that it is of, the change of an update that begins, the token and the worker of a check, and the
-/// addresses of a lookup.
+/// What a call picks for its step, beside the shared word that this loads or stores: the place and the word
+/// of the table that it is of, the change of an update that begins, the token and the worker of a check, and
+/// the addresses of a lookup.
 pub trait Picks {
     ghost change: { RuleChange };
 

@@ -255,8 +255,8 @@ impl WorkerSeat {
         table.board.shared.load::<EndsLookup>(&mut self.place, at)
     }
 
-    /// Loads the sequence once. Then this worker has seen all that the writer has done. The writer stays as it
-    /// was.
+    /// Loads the sequence once. Then this worker has seen all that the writer has done. The writer stays as
+    /// it was.
     pub fn meet<T: Opens>(&mut self, table: &SharedWords<T>, writer: &mut WriterSeat)
         requires own { IsOf table.now.board.shared.table_id (T.opened table.now.board.shared.key)
             table.now.layout self.old.place.table_id self.old.place.me.0 }
