@@ -1,6 +1,7 @@
 -- Meaning: the text of a report (this project's report: one line for each number).
 use Rattle.std.specs.Prelude.{ℕ, List, ◌++◌, codes, decimal}
 use Rattle.audit.specs.declared.report.Report.{Report}
+use Rattle.audit.specs.declared.report.StormReport.{StormReport}
 
 -- a name, a space, a number in decimal, and a line end
 abbrev pub number_line : List ℕ → ℕ → List ℕ
@@ -20,3 +21,11 @@ report_lines report =
     ++ number_line (codes "versions") report.versions
     ++ group_lines report
     ++ number_line (codes "token") report.token
+
+-- what came of a storm, and then the counts of its table
+abbrev pub storm_lines : StormReport → List ℕ
+storm_lines storm =
+    number_line (codes "answers") storm.answers
+    ++ number_line (codes "refused") storm.refused
+    ++ number_line (codes "wrong") storm.wrong
+    ++ report_lines storm.table

@@ -1,9 +1,14 @@
-//! What a table is held against: the answers of a plain search through the rules, and a report of
-//! its counts as text.
+//! What a table is held against: the answers of a plain search through the rules, the versions of a
+//! history that explain an answer, and a report of its counts as text.
 #![tactic(auto)]
 
+mod counting;
+mod events;
 mod expected;
+mod past;
 mod report;
 
+pub use counting::wrong;
 pub use expected::expect;
-pub use report::{Report, report_text};
+pub use past::Past;
+pub use report::{Report, StormReport, report_text, storm_text};
