@@ -40,7 +40,7 @@ module _ (c : Setup) (before after : List WriterStep) (later : IsLater before af
       history_at c after place k (subst (λ (w : Tables). k ≤ begun w) (sym same) stands)
       ∙ (ap (λ (w : Tables). w.history k) same ∙ sym (history_at c before place k stands))
 
-  of_version_still : (seen : Seen) (k : ℕ) → IsOfVersion c before seen k → IsOfVersion c after seen k
+  pub of_version_still : (seen : Seen) (k : ℕ) → IsOfVersion c before seen k → IsOfVersion c after seen k
   of_version_still seen k h =
       let low : h.place ≤ length before = omega (arith, h.to, h.within) in
       record {

@@ -1,0 +1,5 @@
+pub mod Told
+pub mod Logs
+pub mod Meetings
+pub mod Counts
+pub mod Rounds

@@ -1,0 +1,42 @@
+use Rattle.std.proofs.Common.{arith, lit<, ℕ, ◌≡◌, ◌+◌, ◌∙◌, ap, subst, sym, true, All, Bool, List, length}
+use Rattle.std.specs.Prelude.{cond}
+use Rattle.lpm_limits.specs.declared.config.Config.{Config}
+use Rattle.storm.specs.declared.looking.Worker.{Worker}
+use Rattle.storm.specs.Looking.{IsOver}
+use Rattle.storm.specs.Plans.{HasMadeAll, IsUnderWay}
+use Rattle.storm.proofs.engine.run_over.Goals as goal
+
+pub seat_stuck-stuck-requires : goal.seat_stuck-stuck-requires
+seat_stuck-stuck-requires g c =
+    let plan = c.args.plan.now in
+    let seats : c.args.table.now.opening.workers ≡ plan.config.workers + cond plan.has_stuck_worker 1 0 =
+    c.requires.workers ∙ ap (λ (k : Config). k.workers) c.requires.limits in (
+      lit< tt,
+      (
+        lit< tt,
+        (
+          c.in_ok-workers.ensures.own,
+          λ stuck.
+              let one : ◌≡◌ {A = ℕ} (cond plan.has_stuck_worker 1 0) 1 = ap (λ (b : Bool). cond b 1 0) stuck in
+              c.in_ok-workers.ensures.others plan.config.workers (omega arith) (omega (arith, seats, one)),
+        ),
+      ),
+    )
+
+pub finish-requires-after_bounds : goal.finish-requires-after_bounds
+finish-requires-after_bounds g c κs within =
+    let plan = c.args.plan.now in
+    let id = c.args.table.now in
+    let ran = c.in_ok-workers-2.ensures in
+    let recorder = c.in_ok-workers-2.recorder in
+    let slice = c.as_mut_slice-workers.ensures.value in
+    let made : HasMadeAll plan id recorder.outcomes.items recorder.writer = record {
+      under_way = subst (λ (k : Config). IsUnderWay id k plan.commands.now plan.loaded recorder.outcomes.items recorder.writer)
+          c.requires.limits ran.under_way;
+      all = omega (arith, ran.all);
+      had_memory = ran.had_memory;
+    } in
+    let over = subst (All (IsOver id plan.addrs.now plan.rounds)) (sym slice) ran.over in
+    let done = subst (λ (ws : List Worker). All (λ w. w.is_done ≡ true) ws) (sym slice) ran.done in
+    let len : length c.as_mut_slice-workers.result.now ≡ plan.config.workers = omega (arith, c.as_mut_slice-workers.ensures.len, ran.len, c.in_ok-workers.ensures.len) in
+    (lit< tt, (lit< tt, (lit< tt, (made, (over, (done, (len, (c.requires.answers, c.requires.addrs))))))))

@@ -1,0 +1,15 @@
+use Rattle.std.proofs.Common.{◌≡◌, ℕ, ◌<◌, ◌≤◌, All, vec_len, vec_capacity}
+use Rattle.shared_fib.specs.Running.{IsBenchOf}
+use Rattle.bulk.specs.Desks.{IsAtBench}
+use Rattle.storm.specs.Looking.{IsReadyFor}
+use Rattle.storm.proofs.engine.seat_all.Given as goal
+
+-- the workers so far are seated, and the passes of the others wait at the bench
+abbrev pub invariant-loop-number : goal.invariant-loop-number
+invariant-loop-number g l = record {
+  len : vec_len l.workers ≡ l.number;
+  capacity : l.fn.count ≤ vec_capacity l.workers;
+  own : IsBenchOf l.table l.bench;
+  waiting : (k : ℕ) → l.number ≤ k → k < l.table.opening.workers → IsAtBench l.bench k;
+  ready : All (IsReadyFor l.table l.room) l.workers.items;
+}

@@ -1,0 +1,50 @@
+use Rattle.std.proofs.Common.{arith, lit<, ℕ, ◌≡◌, ◌+◌, ◌^◌, ◌<◌, ◌∙◌, ◌++◌, All, List, length, take, get_or, ap, sym, subst}
+use Rattle.std.proofs.lemmas.List.{take_more}
+use Rattle.std.proofs.lemmas.List.Folds.{length-flat_map-take}
+use Rattle.lpm_rules.specs.declared.Answer.{Answer}
+use Rattle.lpm_rules.specs.declared.Change.{Change}
+use Rattle.audit.specs.Wrong.{AreWrong}
+use Rattle.storm.specs.Looking.{all_answers}
+use Rattle.storm.specs.declared.looking.Worker.{Worker}
+use Rattle.storm.proofs.Counts.{flat_more, wrong_append, wrong_within}
+use Rattle.storm.proofs.settling.count_wrong.Goals as goal
+
+abbrev answers_of : Worker → List (ℕ × Answer)
+answers_of w = w.answers.items
+
+pub count_wrong-requires-after_bounds : goal.count_wrong-requires-after_bounds
+count_wrong-requires-after_bounds g c κs within =
+    let inside = λ (x : ℕ × Answer). x.0 < 2 ^ (g.row.FIRST + g.row.SECOND) in
+    let here = c.requires.addrs c.loop-worker.worker-index c.worker-item.result c.loop-worker-test.true in
+    (lit< tt, subst (All inside) (sym c.deref.ensures.value) (subst (λ (w : Worker). All inside w.answers.items) (sym c.worker-item.is) here))
+
+pub overflow_add-wrong : goal.overflow_add-wrong
+overflow_add-wrong g c =
+    let f = g.row.FIRST in
+    let s = g.row.SECOND in
+    let i = c.loop-worker.worker-index in
+    let workers = c.args.workers.now in
+    let history = c.args.history.now in
+    let so_far = wrong_within f s history (all_answers (take i workers)) c.loop-worker.wrong c.loop-worker.invariant in
+    let here = wrong_within f s c.in_ok-past.past c.deref.result.now c.in_ok-wrong.field-0 c.in_ok-wrong.ensures in
+    let own : length c.deref.result.now ≡ length (answers_of (get_or workers i c.worker-item.result)) =
+    ap length c.deref.ensures.value ∙ ap (λ (w : Worker). length (answers_of w)) c.worker-item.is in
+    let most = length-flat_map-take answers_of workers i c.worker-item.result c.loop-worker-test.true in
+    omega (arith, so_far, here, own, most, c.requires.few)
+
+pub loop-worker-preserved : goal.loop-worker-preserved
+loop-worker-preserved g c =
+    let f = g.row.FIRST in
+    let s = g.row.SECOND in
+    let i = c.loop-worker.worker-index in
+    let workers = c.args.workers.now in
+    let history = c.args.history.now in
+    let past = subst (λ (h : List (Change f s)). AreWrong h c.deref.result.now c.in_ok-wrong.field-0) c.in_ok-past.ensures c.in_ok-wrong.ensures in
+    let here = subst (λ (xs : List (ℕ × Answer)). AreWrong history xs c.in_ok-wrong.field-0)
+    (c.deref.ensures.value ∙ ap answers_of c.worker-item.is) past in
+    let both = wrong_append f s history (all_answers (take i workers)) (answers_of (get_or workers i c.worker-item.result))
+    c.loop-worker.wrong c.in_ok-wrong.field-0 c.loop-worker.invariant here in
+    let next : all_answers (take (i + 1) workers) ≡ all_answers (take i workers) ++ answers_of (get_or workers i c.worker-item.result) =
+    ap all_answers (take_more workers i c.worker-item.result c.loop-worker-test.true)
+    ∙ flat_more answers_of (take i workers) (get_or workers i c.worker-item.result) in
+    subst (λ (xs : List (ℕ × Answer)). AreWrong history xs (c.loop-worker.wrong + c.in_ok-wrong.field-0)) (sym next) both

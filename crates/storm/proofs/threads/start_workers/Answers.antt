@@ -1,0 +1,20 @@
+use Rattle.std.proofs.Common.{◌+◌, All, [], ◌∷◌, rules, sym, subst}
+use Rattle.std.proofs.lemmas.List.Elements.{All-append, All-cons}
+use Rattle.storm.specs.Threads.{AreLookups}
+use Rattle.storm.proofs.threads.start_workers.Goals as goal
+
+pub loop-worker-preserved : goal.loop-worker-preserved
+loop-worker-preserved g c =
+    let was = c.loop-worker.invariant in
+    let id = c.args.table.now in
+    let addrs = c.args.addrs.now in
+    let rounds = c.args.rounds in
+    record {
+      rest = λ k d below. let h = was.rest (k + 1) d in grind rules;
+      count = search rules;
+      len = search rules;
+      room = search rules;
+      started = subst (λ xs. All (λ h. AreLookups id addrs rounds h.promise) xs) (sym c.push_reserved.ensures.items)
+          (All-append (λ h. AreLookups id addrs rounds h.promise) c.loop-worker.handles.items (c.in-Some-start_worker.handle ∷ []) was.started
+          (All-cons (λ h. AreLookups id addrs rounds h.promise) c.in-Some-start_worker.handle [] (search rules) (λ k d below. search rules)));
+    }

@@ -1,0 +1,73 @@
+-- Meaning: the commands that the writer of a running table makes one after another, what came of each, and
+-- which of them made a version (DPDK Programmer's Guide, "LPM Library", "Addition" and "Deletion"; that an
+-- unchanged rule makes no version is this project's).
+use Rattle.std.specs.Prelude.{ℕ, suc, ◌≡◌, ◌≤◌, Bool, true, false, List, [], ◌∷◌, ◌++◌, length, count_by}
+use Rattle.std.specs.FinMap.{empty}
+use Rattle.lpm_limits.specs.declared.config.Config.{Config}
+use Rattle.lpm_rules.specs.declared.Change.{Change}
+use Rattle.lpm_rules.specs.declared.Change.TheVariants as change
+use Rattle.lpm_rules.specs.declared.Put.TheVariants.{Added, Replaced}
+use Rattle.fib_model.specs.declared.command.Command.{Command}
+use Rattle.fib_model.specs.declared.command.Command.TheVariants as command
+use Rattle.fib_model.specs.declared.command.Outcome.{Outcome}
+use Rattle.fib_model.specs.declared.command.Outcome.TheVariants as outcome
+use Rattle.fib_model.specs.State.{Keeping}
+use Rattle.fib_model.specs.Outcomes.{Runs, logged}
+use Rattle.lpm_trace.specs.declared.step.WriterStep.{WriterStep}
+use Rattle.lpm_trace.specs.Tables.{Setup}
+use Rattle.lpm_writer.specs.Opening.{opening_setup}
+use Rattle.lpm_writer.specs.Traced.{by_steps}
+use Rattle.shared_fib.specs.Running.{Identity, WriterState, opens_with, setup}
+
+-- the writer's steps stand for what the readers reported; no report is made to the writer itself
+abbrev pub by_own_steps : Setup → Keeping (List WriterStep)
+by_own_steps c = record {
+  changes = by_steps c;
+  is_online = λ steps worker. ⊥;
+  told = λ report worker steps. steps;
+}
+
+-- the command is one for the writer, and no report of a worker
+abbrev pub IsForWriter : {first second : ℕ} → Command first second → Type 0
+IsForWriter (command.Report report worker) = ⊥
+IsForWriter other = Unit {0}
+
+-- a table was opened with these limits; then its writer made as many of these commands as there are
+-- outcomes, in order, which came out so, and left it like this
+pub record HasMade {first second : ℕ} (id : Identity) (config : Config)
+    (commands : List (Command first second)) (outcomes : List Outcome) (w : WriterState) : Type 0 where
+  pub opening : setup id ≡ opening_setup first second config
+  pub identity : w.identity ≡ id
+  pub limits : w.config ≡ config
+  pub some : length outcomes ≤ length commands
+  pub runs : Runs (by_own_steps (setup id)) first second config (opens_with id config empty).table
+      (logged [] commands outcomes) w.table
+
+-- the change of the rule list that a command made; a rule that stays, a refused command, a flush of no
+-- rules and a reclaim make none
+abbrev pub change_by : {first second : ℕ} → Command first second → Outcome → List (Change first second)
+change_by (command.Add p h) (outcome.Put Added) = change.Add p h ∷ []
+change_by (command.Add p h) (outcome.Put Replaced) = change.Add p h ∷ []
+change_by (command.Delete p) (outcome.Deleted h) = change.Delete p ∷ []
+change_by command.Flush (outcome.Flushed (suc n)) = change.Flush ∷ []
+change_by other outcome = []
+
+-- the accepted changes of these commands, in order, by what came of each
+abbrev pub changes_by : {first second : ℕ} → List (Command first second) → List Outcome
+    → List (Change first second)
+changes_by [] outcomes = []
+changes_by (command ∷ commands) [] = []
+changes_by (command ∷ commands) (outcome ∷ outcomes) =
+    change_by command outcome ++ changes_by commands outcomes
+
+abbrev pub is_refused : Outcome → Bool
+is_refused (outcome.Refused refusal) = true
+is_refused other = false
+
+-- the command was accepted
+abbrev pub IsAccepted : Outcome → Type 0
+IsAccepted o = is_refused o ≡ false
+
+-- how many of the commands were refused
+abbrev pub refused_among : List Outcome → ℕ
+refused_among outcomes = count_by is_refused outcomes

@@ -1,0 +1,53 @@
+-- Meaning: what comes of a storm (this project's: every answer is held against the versions of the rules).
+use Rattle.std.specs.Prelude.{ℕ, ◌≡◌, ◌+◌, List, All, length, map}
+use Rattle.std.specs.FinMap.{len}
+use Rattle.lpm_rules.specs.declared.Answer.{Answer}
+use Rattle.fib_model.specs.declared.command.Outcome.{Outcome}
+use Rattle.fib_model.specs.Outcomes.{Frees, groups_in_use}
+use Rattle.lpm_writer.specs.Traced.{AnyMemory, by_steps, steps_alone}
+use Rattle.lpm_writer.specs.Synchronizing.{Synchronizes}
+use Rattle.defer_queue.specs.declared.Reclaimed.{Reclaimed}
+use Rattle.shared_fib.specs.Running.{Identity, WriterState, left_by, setup, steps_of}
+use Rattle.audit.specs.declared.report.Report.{Report}
+use Rattle.audit.specs.declared.report.StormReport.{StormReport}
+use Rattle.audit.specs.Wrong.{AreWrong}
+use Rattle.storm.specs.declared.plan.Plan.{Plan}
+use Rattle.storm.specs.Changing.{changes_by, refused_among}
+use Rattle.storm.specs.Looking.{IsToldBy, times}
+use Rattle.storm.specs.Plans.{HasMadeAll}
+
+-- the writer has synchronized, and then reclaimed all that waited
+pub record Settles (id : Identity) (last end : WriterState) : Type 0 where
+  pub passed : WriterState
+  pub reclaimed : Reclaimed
+  pub synchronizes : Synchronizes AnyMemory (setup id) (steps_alone (steps_of last))
+      (steps_alone (steps_of passed))
+  pub same : passed ≡ record last { table = record last.table { readers = steps_of passed } }
+  pub frees : Frees (by_steps (setup id)) passed.table (length last.table.limbo) reclaimed end.table
+
+-- the report has what the table counts
+pub record IsCountOf (first second : ℕ) (w : WriterState) (r : Report) : Type 0 where
+  pub rules : r.rules ≡ len w.table.rules
+  pub versions : r.versions ≡ w.table.begun
+  pub in_use : r.in_use ≡ groups_in_use first second w.table.rules
+  pub limbo : r.limbo ≡ length w.table.limbo
+  pub groups : r.in_use + r.limbo + r.free ≡ w.config.groups
+  pub token : r.token ≡ (left_by w).token
+
+-- A storm of this plan came out so. The answers are those of each worker, of the whole list in each round,
+-- and each is that of a version by the writer's steps. `wrong` counts those that no version of the accepted
+-- changes has.
+pub record IsStorm {first second : ℕ} (p : Plan first second) (r : StormReport) : Type 0 where
+  pub id : Identity
+  pub outcomes : List Outcome
+  pub last : WriterState
+  pub end : WriterState
+  pub answers : List (ℕ × Answer)
+  pub made : HasMadeAll p id outcomes last
+  pub addresses : map (λ x. x.0) answers ≡ times p.config.workers (times p.rounds p.addrs.now)
+  pub told : All (IsToldBy (setup id) (steps_of last)) answers
+  pub settles : Settles id last end
+  pub answered : r.answers ≡ length answers
+  pub refused : r.refused ≡ refused_among outcomes
+  pub wrong : AreWrong (changes_by p.commands.now outcomes) answers r.wrong
+  pub counts : IsCountOf first second end r.table

@@ -1,0 +1,159 @@
+//! The writer of a storm, and what its thread does.
+
+ghost use Rattle.std.specs.Prelude.{◌≡◌, ℕ, ◌+◌, ◌<◌, ◌≤◌, ◌++◌, ◌∷◌, [], List, All, IfErr, OnOk, length, vec_len, vec_capacity};
+ghost use Rattle.fib_model.specs.Outcomes.{Does};
+ghost use Rattle.shared_fib.specs.Running.{setup};
+ghost use Rattle.storm.specs.Changing.{HasMade, IsForWriter, by_own_steps};
+ghost use Rattle.storm.specs.Plans.{IsRefusedAt, IsUnderWay};
+
+use bulk::Gate;
+use fib_model::{Command, Outcome};
+use qsbr::{Config, Refusal};
+use shared_fib::{SharedTable, Writer};
+use std::sync::atomic::{AtomicBool, Ordering};
+
+/// What the writer of a storm is to do. It looks at `stop` before each command that its thread makes, and
+/// ends early where that is set.
+#[derive(Clone, Copy)]
+pub struct Updates<'a, const FIRST: u32, const SECOND: u32> {
+    pub table: &'a SharedTable<FIRST, SECOND>,
+    /// The limits that the table was opened with.
+    pub limits: Config,
+    /// The commands, in their order. None is a report of a worker.
+    pub commands: &'a [Command<FIRST, SECOND>],
+    /// How many of the commands are made before a thread starts.
+    pub loaded: usize,
+    pub stop: &'a AtomicBool,
+}
+
+/// The writer of a storm, with what came of each of its commands so far. It has room for all of them before
+/// the first is made.
+#[derive(Drop)]
+pub struct Recorder<const FIRST: u32, const SECOND: u32> {
+    pub writer: Writer<FIRST, SECOND>,
+    pub outcomes: Vec<Outcome>,
+}
+
+/// Does a command, which is no report.
+fn execute<const FIRST: u32, const SECOND: u32>(
+    table: &SharedTable<FIRST, SECOND>,
+    writer: &mut Writer<FIRST, SECOND>,
+    command: &Command<FIRST, SECOND>,
+) -> Outcome
+    requires own { writer.old.identity ≡ table.now }
+    requires command { IsForWriter command.now }
+    ensures does { Does (by_own_steps (setup table.now)) FIRST SECOND writer.old.config
+        writer.old.table command.now result writer.new.table }
+    ensures own { writer.new.identity ≡ writer.old.identity }
+    ensures config { writer.new.config ≡ writer.old.config }
+{
+    match command {
+        Command::Add(prefix, hop) => match writer.add(table, prefix, *hop) {
+            Ok(put) => return Outcome::Put(put),
+            Err(refusal) => return Outcome::Refused(refusal),
+        },
+        Command::Delete(prefix) => match writer.delete(table, prefix) {
+            Ok(hop) => return Outcome::Deleted(hop),
+            Err(refusal) => return Outcome::Refused(refusal),
+        },
+        Command::Flush => match writer.flush(table) {
+            Ok(count) => return Outcome::Flushed(count),
+            Err(refusal) => return Outcome::Refused(refusal),
+        },
+        Command::Reclaim(max) => return Outcome::Reclaimed(writer.reclaim(table, *max)),
+        Command::Report(..) => unreachable!(),
+    }
+}
+
+/// Notes what came of a command.
+fn note(outcomes: &mut Vec<Outcome>, outcome: &Outcome)
+    requires room { vec_len outcomes.old < vec_capacity outcomes.old }
+    ensures items { outcomes.new.items ≡ outcomes.old.items ++ outcome.now ∷ [] }
+    ensures capacity { vec_capacity outcomes.old ≤ vec_capacity outcomes.new }
+{
+    outcomes.push_reserved(*outcome);
+}
+
+/// Makes the next command of the plan, and notes what came of it.
+fn record<const FIRST: u32, const SECOND: u32>(
+    updates: &Updates<'_, FIRST, SECOND>,
+    recorder: &mut Recorder<FIRST, SECOND>,
+    index: usize,
+) -> Outcome
+    requires made { HasMade updates.now.table.now updates.now.limits updates.now.commands.now
+        recorder.old.outcomes.items recorder.old.writer }
+    requires index { index < length updates.now.commands.now }
+    requires next { vec_len recorder.old.outcomes ≡ index }
+    requires room { index < vec_capacity recorder.old.outcomes }
+    requires commands { All IsForWriter updates.now.commands.now }
+    ensures made { HasMade updates.now.table.now updates.now.limits updates.now.commands.now
+        recorder.new.outcomes.items recorder.new.writer }
+    ensures outcomes { recorder.new.outcomes.items ≡ recorder.old.outcomes.items ++ result ∷ [] }
+    ensures capacity { vec_capacity recorder.old.outcomes ≤ vec_capacity recorder.new.outcomes }
+{
+    let outcome = execute(
+        updates.table,
+        &mut recorder.writer,
+        &updates.commands[index],
+    );
+    note(&mut recorder.outcomes, &outcome);
+    outcome
+}
+
+/// Makes the commands of the plan that come before the threads. The first refused one ends that, and is
+/// returned with its place.
+pub fn load<const FIRST: u32, const SECOND: u32>(
+    updates: &Updates<'_, FIRST, SECOND>,
+    recorder: &mut Recorder<FIRST, SECOND>,
+) -> Result<(), (usize, Refusal)>
+    requires made { HasMade updates.now.table.now updates.now.limits updates.now.commands.now
+        recorder.old.outcomes.items recorder.old.writer }
+    requires none { recorder.old.outcomes.items ≡ [] }
+    requires loaded { updates.now.loaded ≤ length updates.now.commands.now }
+    requires room { length updates.now.commands.now ≤ vec_capacity recorder.old.outcomes }
+    requires commands { All IsForWriter updates.now.commands.now }
+    ensures under_way { OnOk result (IsUnderWay updates.now.table.now updates.now.limits
+        updates.now.commands.now updates.now.loaded recorder.new.outcomes.items recorder.new.writer) }
+    ensures all { OnOk result (vec_len recorder.new.outcomes ≡ updates.now.loaded) }
+    ensures room { length updates.now.commands.now ≤ vec_capacity recorder.new.outcomes }
+    ensures refused { IfErr result (λ e. IsRefusedAt updates.now.limits
+        updates.now.commands.now updates.now.loaded e.0 e.1) }
+{
+    for index in 0..updates.loaded {
+        if let Outcome::Refused(refusal) = record(updates, recorder, index) {
+            return Err((index, refusal));
+        }
+    }
+    Ok(())
+}
+
+/// What the thread of the writer does: it makes the commands that are left, each after the gate. There the
+/// writer's number is that after all workers of the table, and the first of these commands is number 0. It
+/// ends early where it is told to stop, and where a command wants memory that isn't there; then it tells the
+/// workers to stop.
+pub fn change_all<G: Gate, const FIRST: u32, const SECOND: u32>(
+    updates: &Updates<'_, FIRST, SECOND>,
+    gate: &G,
+    mut recorder: Recorder<FIRST, SECOND>,
+) -> Recorder<FIRST, SECOND>
+    requires under_way { IsUnderWay updates.now.table.now updates.now.limits updates.now.commands.now
+        updates.now.loaded recorder.outcomes.items recorder.writer }
+    requires loaded { vec_len recorder.outcomes ≡ updates.now.loaded }
+    requires room { length updates.now.commands.now ≤ vec_capacity recorder.outcomes }
+    requires commands { All IsForWriter updates.now.commands.now }
+    ensures under_way { IsUnderWay updates.now.table.now updates.now.limits updates.now.commands.now
+        updates.now.loaded result.outcomes.items result.writer }
+{
+    for index in updates.loaded..updates.commands.len() {
+        if updates.stop.load(Ordering::SeqCst) {
+            return recorder;
+        }
+        gate.at(updates.limits.workers, index - updates.loaded);
+        let outcome = record(updates, &mut recorder, index);
+        if outcome == Outcome::Refused(Refusal::Memory) {
+            updates.stop.store(true, Ordering::SeqCst);
+            return recorder;
+        }
+    }
+    recorder
+}

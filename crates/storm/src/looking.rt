@@ -1,0 +1,111 @@
+//! The workers of a storm, and what their threads do.
+
+ghost use Rattle.std.specs.Prelude.{◌≡◌, ℕ, ◌+◌, ◌*◌, ◌^◌, ◌<◌, ◌≤◌, ◌++◌, [], All, IsTrue, length, map, vec_len, vec_capacity};
+ghost use Rattle.shared_fib.specs.Running.{IsOffline, IsOnline, identity_of};
+ghost use Rattle.storm.specs.Looking.{IsOver, IsReadyFor, IsTold, times};
+
+use bulk::Gate;
+use lpm_rules::Answer;
+use shared_fib::{Pass, SharedTable};
+use std::sync::atomic::{AtomicBool, Ordering};
+
+/// A worker of a storm: its pass, and the answers that it got, each beside its address. A worker has room
+/// for all of them before its thread starts.
+#[derive(Drop)]
+pub struct Worker {
+    pub pass: Pass,
+    pub answers: Vec<(u32, Answer)>,
+    /// Whether it came to the end of the last round. It ends early only where it was told to stop.
+    pub is_done: bool,
+}
+
+/// What each worker of a storm is to look up. It looks at `stop` before each lookup, and ends early where
+/// that is set.
+#[derive(Clone, Copy)]
+pub struct Lookups<'a, const FIRST: u32, const SECOND: u32> {
+    pub table: &'a SharedTable<FIRST, SECOND>,
+    /// The addresses, in their order.
+    pub addrs: &'a [u32],
+    /// How often all of them are looked up.
+    pub rounds: usize,
+    pub stop: &'a AtomicBool,
+}
+
+/// Looks all addresses up once, each after the gate. The number of the lookup before them is `from`. Whether
+/// it came to the end.
+fn look_once<G: Gate, const FIRST: u32, const SECOND: u32>(
+    lookups: &Lookups<'_, FIRST, SECOND>,
+    gate: &G,
+    number: usize,
+    from: usize,
+    worker: &mut Worker,
+) -> bool
+    requires own { identity_of worker.old.pass ≡ lookups.now.table.now }
+    requires online { IsOnline worker.old.pass }
+    requires addrs { All (λ a. a < 2 ^ (FIRST + SECOND)) lookups.now.addrs.now }
+    requires room { vec_len worker.old.answers + length lookups.now.addrs.now ≤ vec_capacity worker.old.answers }
+    requires numbers { from + length lookups.now.addrs.now < 2 ^ 64 }
+    requires told { IsTold lookups.now.table.now worker.old }
+    ensures own { identity_of worker.new.pass ≡ identity_of worker.old.pass }
+    ensures online { IsOnline worker.new.pass }
+    ensures told { IsTold lookups.now.table.now worker.new }
+    ensures whole { IsTrue result → map (λ x. x.0) worker.new.answers.items
+        ≡ map (λ x. x.0) worker.old.answers.items ++ lookups.now.addrs.now }
+    ensures capacity { vec_capacity worker.old.answers ≤ vec_capacity worker.new.answers }
+{
+    for i in 0..lookups.addrs.len() {
+        if lookups.stop.load(Ordering::SeqCst) {
+            return false;
+        }
+        gate.at(number, from + i);
+        let addr = lookups.addrs[i];
+        let answer = worker.pass.lookup(lookups.table, addr);
+        worker.answers.push_reserved((addr, answer));
+    }
+    true
+}
+
+/// Looks all addresses up, round after round, with a report after each. Whether it came to the end.
+fn look_rounds<G: Gate, const FIRST: u32, const SECOND: u32>(
+    lookups: &Lookups<'_, FIRST, SECOND>,
+    gate: &G,
+    number: usize,
+    worker: &mut Worker,
+) -> bool
+    requires own { identity_of worker.old.pass ≡ lookups.now.table.now }
+    requires online { IsOnline worker.old.pass }
+    requires addrs { All (λ a. a < 2 ^ (FIRST + SECOND)) lookups.now.addrs.now }
+    requires empty { worker.old.answers.items ≡ [] }
+    requires room { lookups.now.rounds * length lookups.now.addrs.now ≤ vec_capacity worker.old.answers }
+    ensures own { identity_of worker.new.pass ≡ identity_of worker.old.pass }
+    ensures online { IsOnline worker.new.pass }
+    ensures told { IsTold lookups.now.table.now worker.new }
+    ensures whole { IsTrue result
+        → map (λ x. x.0) worker.new.answers.items ≡ times lookups.now.rounds lookups.now.addrs.now }
+{
+    for round in 0..lookups.rounds {
+        if !look_once(lookups, gate, number, round * lookups.addrs.len(), worker) {
+            return false;
+        }
+        worker.pass.quiescent(lookups.table);
+    }
+    true
+}
+
+/// What the thread of a worker does: it goes online, looks all addresses up, round after round with a
+/// report of a quiescent state after each, and goes offline.
+pub fn work<G: Gate, const FIRST: u32, const SECOND: u32>(
+    lookups: &Lookups<'_, FIRST, SECOND>,
+    gate: &G,
+    number: usize,
+    mut worker: Worker,
+) -> Worker
+    requires ready { IsReadyFor lookups.now.table.now (lookups.now.rounds * length lookups.now.addrs.now) worker }
+    requires addrs { All (λ a. a < 2 ^ (FIRST + SECOND)) lookups.now.addrs.now }
+    ensures over { IsOver lookups.now.table.now lookups.now.addrs.now lookups.now.rounds result }
+{
+    worker.pass.online(lookups.table);
+    worker.is_done = look_rounds(lookups, gate, number, &mut worker);
+    worker.pass.offline(lookups.table);
+    worker
+}

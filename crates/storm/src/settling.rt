@@ -1,0 +1,189 @@
+//! What a storm does when its threads have ended.
+
+ghost use Rattle.std.specs.Prelude.{◌≡◌, ◌+◌, ◌^◌, ◌<◌, [], ◌∷◌, true, All, IfOk, MatchOption, OnErr, OnOk, length};
+ghost use Rattle.shared_fib.specs.Running.{left_by, steps_of};
+ghost use Rattle.audit.specs.Wrong.{AreWrong};
+ghost use Rattle.storm.specs.Changing.{changes_by, change_by, is_refused, refused_among};
+ghost use Rattle.storm.specs.Looking.{HasAnswered, IsOver, all_answers};
+ghost use Rattle.storm.specs.Storm.{IsCountOf, Settles};
+
+use crate::looking::Worker;
+use audit::{Past, Report};
+use fib_model::{Command, Outcome};
+use lpm_rules::{Change, Put};
+use lpm_writer::Exhausted;
+use shared_fib::{SharedTable, Writer};
+use std::alloc::{AllocError, Global};
+use std::sync::Wait;
+use std::thread::Threads;
+
+/// The worker's pass meets the writer: it has seen all that the writer has done.
+fn meet<const FIRST: u32, const SECOND: u32>(
+    table: &SharedTable<FIRST, SECOND>,
+    writer: &mut Writer<FIRST, SECOND>,
+    worker: &mut Worker,
+    addrs: &[u32],
+    rounds: usize,
+)
+    requires own { writer.old.identity ≡ table.now }
+    requires over { IsOver table.now addrs.now rounds worker.old }
+    requires done { worker.old.is_done ≡ true }
+    ensures same { writer.new ≡ writer.old }
+    ensures answered { HasAnswered table.now addrs.now rounds (steps_of writer.old) worker.new }
+{
+    let _ = addrs;
+    let _ = rounds;
+    worker.pass.meet(table, writer);
+}
+
+/// Each worker's pass meets the writer.
+pub fn meet_all<const FIRST: u32, const SECOND: u32>(
+    table: &SharedTable<FIRST, SECOND>,
+    writer: &mut Writer<FIRST, SECOND>,
+    workers: &mut [Worker],
+    addrs: &[u32],
+    rounds: usize,
+)
+    requires own { writer.old.identity ≡ table.now }
+    requires over { All (IsOver table.now addrs.now rounds) workers.old }
+    requires done { All (λ w. w.is_done ≡ true) workers.old }
+    ensures same { writer.new ≡ writer.old }
+    ensures len { length workers.new ≡ length workers.old }
+    ensures answered { All (HasAnswered table.now addrs.now rounds (steps_of writer.old)) workers.new }
+{
+    for number in 0..workers.len() {
+        meet(table, writer, &mut workers[number], addrs, rounds);
+    }
+}
+
+/// Synchronizes, and then frees all groups that wait. No worker is online any more, so none holds one.
+pub fn settle<R: Wait, const FIRST: u32, const SECOND: u32>(
+    rt: &R,
+    table: &SharedTable<FIRST, SECOND>,
+    writer: &mut Writer<FIRST, SECOND>,
+) -> Result<(), Exhausted>
+    requires own { writer.old.identity ≡ table.now }
+    ensures settles { OnOk result (Settles table.now writer.old writer.new) }
+    ensures own { writer.new.identity ≡ writer.old.identity }
+    ensures config { writer.new.config ≡ writer.old.config }
+    ensures exhausted { OnErr result
+        (2 ^ 62 < (left_by writer.old).token + writer.old.config.groups) }
+{
+    writer.synchronize(rt, table)?;
+    let waiting = writer.counts().limbo;
+    let _ = writer.reclaim(table, waiting);
+    Ok(())
+}
+
+/// What the table counts.
+pub fn report_of<const FIRST: u32, const SECOND: u32>(
+    table: &SharedTable<FIRST, SECOND>,
+    writer: &mut Writer<FIRST, SECOND>,
+) -> Report
+    requires own { writer.old.identity ≡ table.now }
+    ensures same { writer.new ≡ writer.old }
+    ensures counts { IsCountOf FIRST SECOND writer.old result }
+{
+    let counts = writer.counts();
+    Report {
+        rules: writer.rules(),
+        versions: writer.versions(),
+        in_use: counts.in_use,
+        limbo: counts.limbo,
+        free: counts.free,
+        token: writer.token(table),
+    }
+}
+
+/// The change of the rule list that a command made, by what came of it.
+fn change_of<const FIRST: u32, const SECOND: u32>(
+    command: &Command<FIRST, SECOND>,
+    outcome: &Outcome,
+) -> Option<Change<FIRST, SECOND>>
+    ensures { MatchOption result (change_by command.now outcome.now ≡ [])
+        (λ change. change_by command.now outcome.now ≡ change ∷ []) }
+{
+    match command {
+        Command::Add(prefix, hop) => match outcome {
+            Outcome::Put(Put::Added) => return Some(Change::Add(*prefix, *hop)),
+            Outcome::Put(Put::Replaced) => return Some(Change::Add(*prefix, *hop)),
+            _ => return None,
+        },
+        Command::Delete(prefix) => match outcome {
+            Outcome::Deleted(_) => return Some(Change::Delete(*prefix)),
+            _ => return None,
+        },
+        Command::Flush => match outcome {
+            Outcome::Flushed(count) => {
+                if *count == 0 {
+                    return None;
+                }
+                return Some(Change::Flush);
+            }
+            _ => return None,
+        },
+        Command::Reclaim(_) => return None,
+        Command::Report(..) => return None,
+    }
+}
+
+/// The changes that made a version of the rule list, in order.
+pub fn accepted<const FIRST: u32, const SECOND: u32>(
+    alloc: Global,
+    commands: &[Command<FIRST, SECOND>],
+    outcomes: &[Outcome],
+) -> Result<Vec<Change<FIRST, SECOND>>, AllocError>
+    requires { length outcomes.now ≡ length commands.now }
+    ensures { IfOk result (λ v. v.items ≡ changes_by commands.now outcomes.now) }
+{
+    let mut changes = Vec::with_capacity(alloc, commands.len())?;
+    for index in 0..commands.len() {
+        if let Some(change) = change_of(&commands[index], &outcomes[index]) {
+            changes.push(change)?;
+        }
+    }
+    Ok(changes)
+}
+
+/// Whether the command was refused.
+fn is_refused(outcome: &Outcome) -> bool
+    ensures { result ≡ is_refused outcome.now }
+{
+    match outcome {
+        Outcome::Refused(_) => return true,
+        Outcome::Put(_) => return false,
+        Outcome::Deleted(_) => return false,
+        Outcome::Flushed(_) => return false,
+        Outcome::Reclaimed(_) => return false,
+        Outcome::Told => return false,
+    }
+}
+
+/// How many of the commands were refused.
+pub fn count_refused(outcomes: &[Outcome]) -> u64
+    ensures { result ≡ refused_among outcomes.now }
+{
+    outcomes
+        .iter()
+        .filter(|outcome| is_refused(outcome))
+        .count() as u64
+}
+
+/// How many of the workers' answers are of no version of these changes.
+pub fn count_wrong<R: Threads + Sync, const FIRST: u32, const SECOND: u32>(
+    rt: &R,
+    alloc: Global,
+    history: &[Change<FIRST, SECOND>],
+    workers: &[Worker],
+) -> Result<u64, AllocError>
+    requires addrs { All (λ w. All (λ x. x.0 < 2 ^ (FIRST + SECOND)) w.answers.items) workers.now }
+    requires few { length (all_answers workers.now) < 2 ^ 63 }
+    ensures { IfOk result (AreWrong history.now (all_answers workers.now)) }
+{
+    let past = Past::new(alloc, history)?;
+    let mut wrong = 0u64;
+    for worker in workers {
+        wrong += past.count_wrong(rt, alloc, &worker.answers)?;
+    }
+    Ok(wrong)
+}
