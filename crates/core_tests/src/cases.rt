@@ -182,7 +182,7 @@ fn lookup_case(alloc: Global, at: usize) -> Result<Case, AllocError> {
 /// The cases of updates, reports and reclaims.
 pub(crate) fn updates(alloc: Global) -> Result<Vec<Case>, AllocError> {
     let mut cases = Vec::new(alloc);
-    for at in 0..14usize {
+    for at in 0..20usize {
         cases.push(update_case(alloc, at)?)?;
     }
     Ok(cases)
@@ -203,7 +203,13 @@ fn update_case(alloc: Global, at: usize) -> Result<Case, AllocError> {
         10 => default_route_updates(alloc),
         11 => exhausted_add(alloc),
         12 => last_token(alloc),
-        _ => refused_reports(alloc),
+        13 => refused_reports(alloc),
+        14 => under_a_group(alloc),
+        15 => collapse(alloc),
+        16 => collapse_whole(alloc),
+        17 => default_under_a_group(alloc),
+        18 => second_half_stays(alloc),
+        _ => second_half_goes(alloc),
     }
 }
 
@@ -613,5 +619,147 @@ fn refused_reports(alloc: Global) -> Result<Case, AllocError> {
         ],
         &[],
         (0, 0, 0, 0, 256, 1),
+    )
+}
+
+// In Shape<24, 8> the block is 10.0.1.0/24, and the rule in it 10.0.1.2/32.
+fn under_a_group(alloc: Global) -> Result<Case, AllocError> {
+    Case::new(
+        alloc,
+        "under-a-group",
+        Config::default(),
+        &[
+            (add([10, 0, 1, 0], 24, 7), ADDED),
+            (add([10, 0, 1, 2], 32, 5), ADDED),
+            (add([10, 0, 1, 0], 24, 3), REPLACED),
+        ],
+        &[
+            ([10, 0, 0, 255], None),
+            ([10, 0, 1, 0], Some(3)),
+            ([10, 0, 1, 1], Some(3)),
+            ([10, 0, 1, 2], Some(5)),
+            ([10, 0, 1, 3], Some(3)),
+            ([10, 0, 1, 255], Some(3)),
+            ([10, 0, 2, 0], None),
+        ],
+        (2, 3, 1, 0, 255, 1),
+    )
+}
+
+fn collapse(alloc: Global) -> Result<Case, AllocError> {
+    Case::new(
+        alloc,
+        "collapse",
+        Config::default(),
+        &[
+            (add([10, 0, 1, 0], 24, 7), ADDED),
+            (add([10, 0, 1, 2], 32, 5), ADDED),
+            (add([10, 0, 1, 0], 30, 6), ADDED),
+            (delete([10, 0, 1, 2], 32), deleted(5)),
+        ],
+        &[
+            ([10, 0, 1, 0], Some(6)),
+            ([10, 0, 1, 2], Some(6)),
+            ([10, 0, 1, 3], Some(6)),
+            ([10, 0, 1, 4], Some(7)),
+            ([10, 0, 1, 255], Some(7)),
+        ],
+        (2, 4, 1, 0, 255, 1),
+    )
+}
+
+fn collapse_whole(alloc: Global) -> Result<Case, AllocError> {
+    Case::new(
+        alloc,
+        "collapse, with both deletes",
+        Config::default(),
+        &[
+            (add([10, 0, 1, 0], 24, 7), ADDED),
+            (add([10, 0, 1, 2], 32, 5), ADDED),
+            (add([10, 0, 1, 0], 30, 6), ADDED),
+            (delete([10, 0, 1, 2], 32), deleted(5)),
+            (delete([10, 0, 1, 0], 30), deleted(6)),
+        ],
+        &[
+            ([10, 0, 0, 255], None),
+            ([10, 0, 1, 0], Some(7)),
+            ([10, 0, 1, 2], Some(7)),
+            ([10, 0, 1, 255], Some(7)),
+            ([10, 0, 2, 0], None),
+        ],
+        (1, 5, 0, 1, 255, 2),
+    )
+}
+
+fn default_under_a_group(alloc: Global) -> Result<Case, AllocError> {
+    Case::new(
+        alloc,
+        "default-under-a-group",
+        Config::default(),
+        &[
+            (add([10, 0, 1, 2], 32, 5), ADDED),
+            (add([0, 0, 0, 0], 0, 9), ADDED),
+        ],
+        &[
+            ([0, 0, 0, 0], Some(9)),
+            ([10, 0, 0, 255], Some(9)),
+            ([10, 0, 1, 1], Some(9)),
+            ([10, 0, 1, 2], Some(5)),
+            ([10, 0, 1, 3], Some(9)),
+            ([10, 0, 2, 0], Some(9)),
+            ([255, 255, 255, 255], Some(9)),
+        ],
+        (2, 2, 1, 0, 255, 1),
+    )
+}
+
+// The only group stays with its block while one of two long rules is left there.
+fn second_half_stays(alloc: Global) -> Result<Case, AllocError> {
+    Case::new(
+        alloc,
+        "second-half, which stays",
+        Config {
+            groups: 1,
+            ..Config::default()
+        },
+        &[
+            (add([10, 0, 0, 0], 25, 1), ADDED),
+            (add([10, 0, 0, 128], 25, 2), ADDED),
+            (delete([10, 0, 0, 0], 25), deleted(1)),
+            (add([10, 0, 1, 0], 25, 3), no_groups(None)),
+        ],
+        &[
+            ([10, 0, 0, 0], None),
+            ([10, 0, 0, 127], None),
+            ([10, 0, 0, 128], Some(2)),
+            ([10, 0, 0, 255], Some(2)),
+            ([10, 0, 1, 0], None),
+        ],
+        (1, 3, 1, 0, 0, 1),
+    )
+}
+
+fn second_half_goes(alloc: Global) -> Result<Case, AllocError> {
+    Case::new(
+        alloc,
+        "second-half, which goes too",
+        Config {
+            groups: 1,
+            ..Config::default()
+        },
+        &[
+            (add([10, 0, 0, 0], 25, 1), ADDED),
+            (add([10, 0, 0, 128], 25, 2), ADDED),
+            (delete([10, 0, 0, 0], 25), deleted(1)),
+            (delete([10, 0, 0, 128], 25), deleted(2)),
+            (add([10, 0, 1, 0], 25, 3), ADDED),
+        ],
+        &[
+            ([10, 0, 0, 0], None),
+            ([10, 0, 0, 255], None),
+            ([10, 0, 1, 0], Some(3)),
+            ([10, 0, 1, 128], None),
+        ],
+        (1, 5, 1, 0, 0, 2),
     )
 }

@@ -8,6 +8,8 @@ mod asserting;
 #[cfg(test)]
 mod cases;
 #[cfg(test)]
+mod large;
+#[cfg(test)]
 mod laws;
 #[cfg(test)]
 mod table;

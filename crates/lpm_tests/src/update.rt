@@ -159,6 +159,13 @@ impl Table {
         }
     }
 
+    // The group's word at place 2 is this one, and each other word of the group the other one.
+    fn assert_group(&mut self, rt: &impl Abort, at_two: u64, around: u64) {
+        for place in 0..16usize {
+            self.assert_second(rt, place, if place == 2 { at_two } else { around });
+        }
+    }
+
     // The stores of the last change were these, in this order.
     fn assert_made(&self, rt: &impl Abort, expected: &[Stores]) {
         let mut made: usize = 0;
@@ -207,26 +214,62 @@ fn assert_stores(rt: &impl Abort, made: &[Did], before: usize, stores: Stores) {
 
 const LINK: [Stores; 2] = [Stores::Seconds(0, 16), Stores::Firsts(1, 2)];
 
-// The words of a hop 5 of length 8, 7 of length 4 and 9 of length 0, and of group 0.
+// The words of a hop 5 of length 8, 6 of length 6, 7 and 3 of length 4 and 9 of length 0, and of group 0.
 const FIVE: u64 = 0x2100_0005;
 
+const SIX: u64 = 0x1900_0006;
+
 const SEVEN: u64 = 0x1100_0007;
+
+const THREE: u64 = 0x1100_0003;
 
 const NINE: u64 = 0x0100_0009;
 
 const GROUP: u64 = 0x0300_0000;
 
+// Adds 0x10 of length 4 to hop 7, and then 0x12 of length 8 to hop 5, which takes group 0.
+fn fill_group(rt: &impl Abort, table: &mut Table) {
+    table.add(rt, 0x10, 4, 7);
+    table.assert_made(rt, &[Stores::Firsts(1, 2)]);
+    table.add(rt, 0x12, 8, 5);
+    table.assert_made(rt, &LINK);
+    table.assert_words(rt, &[(1, GROUP)], &[]);
+    table.assert_group(rt, FIVE, SEVEN);
+}
+
 #[test]
 fn cover_answer(rt: HostRuntime) -> Result<(), Fail> {
     let mut table = Table::open(rt.alloc())?;
-    table.add(&rt, 0x10, 4, 7);
-    table.assert_made(&rt, &[Stores::Firsts(1, 2)]);
-    table.add(&rt, 0x12, 8, 5);
-    table.assert_made(&rt, &LINK);
-    table.assert_words(&rt, &[(1, GROUP)], &[(1, SEVEN), (2, FIVE)]);
+    fill_group(&rt, &mut table);
     table.delete(&rt, 0x12, 8);
     table.assert_made(&rt, &[Stores::Seconds(2, 3), Stores::Unlinked(1, 0)]);
     table.assert_words(&rt, &[(1, SEVEN)], &[(2, SEVEN)]);
+    Ok(())
+}
+
+#[test]
+fn under_a_group(rt: HostRuntime) -> Result<(), Fail> {
+    let mut table = Table::open(rt.alloc())?;
+    fill_group(&rt, &mut table);
+    table.add(&rt, 0x10, 4, 3);
+    table.assert_made(&rt, &[Stores::Seconds(0, 2), Stores::Seconds(3, 16)]);
+    table.assert_words(&rt, &[(1, GROUP)], &[]);
+    table.assert_group(&rt, FIVE, THREE);
+    Ok(())
+}
+
+// The group stays while a second rule longer than 4 bits is left in its block.
+#[test]
+fn collapse(rt: HostRuntime) -> Result<(), Fail> {
+    let mut table = Table::open(rt.alloc())?;
+    fill_group(&rt, &mut table);
+    table.add(&rt, 0x10, 6, 6);
+    table.delete(&rt, 0x12, 8);
+    table.assert_made(&rt, &[Stores::Seconds(2, 3)]);
+    table.assert_words(&rt, &[(1, GROUP)], &[(1, SIX), (2, SIX), (4, SEVEN)]);
+    table.delete(&rt, 0x10, 6);
+    table.assert_made(&rt, &[Stores::Seconds(0, 4), Stores::Unlinked(1, 0)]);
+    table.assert_words(&rt, &[(1, SEVEN)], &[]);
     Ok(())
 }
 

@@ -9,4 +9,8 @@ mod beside;
 #[cfg(test)]
 mod cases;
 #[cfg(test)]
+mod groups;
+#[cfg(test)]
+mod large;
+#[cfg(test)]
 mod pieces;
