@@ -2,12 +2,15 @@
 
 A row is a name, the words, the files by name, and what is wanted: `status` (0), `out` and `err` (nothing). `stdin` is
 what stands on standard input (nothing). With `full=True` standard output is /dev/full, where each write fails. With
-`refusing=False` the case runs only as it is: another row takes memory in the same way. A text in `Has` need only
-occur. Wanted texts come from docs/FORMATS.md and from worked cases, never from a run.
+`refusing=False` the case runs only as it is: another row takes memory in the same way. As it is it runs `times` times
+(once). With `threads=True` it ends with the refusal `NoThread` where the start of a thread is refused. A text in `Has`
+need only occur. Wanted texts come from docs/FORMATS.md and from worked cases, never from a run.
 """
 import pathlib
 from collections import namedtuple
 from itertools import permutations
+
+import large
 
 HELP = pathlib.Path(__file__).resolve().parent / "help"
 
@@ -16,12 +19,13 @@ class Has(str):
     """A text that has to occur in what was written, where the rest is the parser's own."""
 
 
-Case = namedtuple("Case", "name words files status out err stdin full refusing")
+Case = namedtuple("Case", "name words files status out err stdin full refusing times threads")
 
 
-def case(name, words, files=None, status=0, out="", err="", stdin="", full=False, refusing=True):
+def case(name, words, files=None, status=0, out="", err="", stdin="", full=False, refusing=True, times=1,
+         threads=False):
     words = words if isinstance(words, list) else words.split()
-    return Case(name, words, files or {}, status, out, err, stdin, full, refusing)
+    return Case(name, words, files or {}, status, out, err, stdin, full, refusing, times, threads)
 
 
 def helped(name, words, file, **more):
@@ -52,11 +56,23 @@ def applied(name, words, lines, out, routes="", addresses="", **more):
     return case(name, f"apply {words} r u a", files, out=out, **more)
 
 
+def counts(labels, numbers):
+    return "".join(f"{label} {number}\n" for label, number in zip(labels, numbers, strict=True))
+
+
+TABLE = ("rules", "versions", "in use", "limbo", "free", "token")
+
+
 def reported(name, words, lines, numbers, routes="", **more):
     """A `report` after these update lines: rules, versions, groups in use, in limbo and free, and the token."""
-    labels = ("rules", "versions", "in use", "limbo", "free", "token")
-    out = "".join(f"{label} {number}\n" for label, number in zip(labels, numbers))
-    return case(name, f"report {words} r u", {"r": routes, "u": UPDATES + lines}, out=out, **more)
+    return case(name, f"report {words} r u", {"r": routes, "u": UPDATES + lines}, out=counts(TABLE, numbers), **more)
+
+
+def stormed(name, words, lines, numbers, routes="", addresses="", **more):
+    """A `storm` with these update lines: answers, refused updates and wrong answers, and then as `reported`."""
+    files = {"r": routes, "u": UPDATES + lines, "a": addresses}
+    out = counts(("answers", "refused", "wrong", *TABLE), numbers)
+    return case(name, f"storm {words} r u a", files, out=out, **more)
 
 
 def update_fault(name, text, where, **more):
@@ -90,6 +106,37 @@ def cut(kind, words, files, name, text, ends):
         yield case(f"cut-{kind}-{count}", words, {**files, name: text[:count]}, refusing=False, **more)
 
 
+def large_cases():
+    """The commands with files of over a megabyte and as many rules as fit just so: each answers, since memory is ample.
+    Then a fault and a refusal in the last line of such a file."""
+    lines, table = large.loaded()
+    routes, addresses = large.text(lines), large.text(large.addresses())
+    limits = f"--rules {large.ROUTES} --groups {large.GROUPS}"
+    plain = {"routes": routes, "refusing": False}
+    answers = large.text(large.answers(table))
+    for workers in (1, 3):
+        yield case(f"large-lookup-{workers}", f"lookup {limits} --workers {workers} r a", {"r": routes, "a": addresses},
+                   out=answers, refusing=False)
+    yield reported("large-load", limits, "", table.numbers(), **plain)
+    updates, outcomes = map(large.text, large.changed(table))
+    yield applied("large-apply", limits, updates, outcomes + large.text(large.answers(table)), addresses=addresses,
+                  **plain)
+    yield reported("large-report", limits, updates, table.numbers(), **plain)
+    # (which updates are refused, and so the counts, depends on how the threads run; that no answer is wrong doesn't)
+    yield case("large-storm", f"storm --rules {large.ROUTES} --groups {large.STORM_GROUPS} --workers 3 --rounds 300 r u a",
+               {"r": routes, "u": UPDATES + large.text(large.storm_changes()), "a": "\n".join(large.storm_addresses())},
+               out=Has("\nwrong 0\n"), refusing=False)
+    old, new = map(large.text, zip(*large.migrated()))
+    yield migrated("large-migrate", old, UPDATES + new, refusing=False)
+    yield fault("large-route-fault", f"{routes}x\n", f"{large.ROUTES + 1}: bad fields", refusing=False)
+    yield case("large-address-fault", "lookup r a", {"r": "", "a": f"{addresses}x\n"}, 4,
+               err=f"lpmtool: a:{large.ADDRESSES + 1}: bad address\n", refusing=False)
+    yield update_fault("large-update-fault", f"{UPDATES}{updates}x\n", f"{large.UPDATES + 2}: bad word", refusing=False)
+    yield case("large-rules-load", f"report --rules {large.ROUTES - 1} --groups {large.GROUPS} r u",
+               {"r": routes, "u": UPDATES}, 6, err=f"lpmtool: r:{large.ROUTES}: refused 3 TooManyRules\n",
+               refusing=False)
+
+
 RT = "10.0.0.0/8 1\n10.1.0.0/16 2\n10.1.1.128/25 3\n"
 FIVE = "10.1.1.127\n10.1.1.128\n10.2.0.0\n11.0.0.0\n10.1.1.255\n"
 FIVE_ANSWERS = "10.1.1.127 2\n10.1.1.128 3\n10.2.0.0 1\n11.0.0.0 -\n10.1.1.255 3\n"
@@ -109,6 +156,9 @@ PIECES = "online 2\ndel 10.1.1.128/25\nreclaim 16\n"
 PIECES_OUT = "ok\ndeleted 3\nreclaimed 0 stopped worker 2 counter 1\n"
 FOUR_CHANGES = "add 10.0.0.0/25 1\nadd 10.0.1.0/25 2\ndel 10.0.0.0/25\ndel 10.0.1.0/25\n"
 NESTED = ["10.0.0.0/8 1\n", "10.1.0.0/16 2\n", "10.1.1.0/24 4\n"]
+STORM = "del 10.1.1.128/25\nadd 10.1.1.128/25 4\n"
+STUCK = "add 10.0.0.0/25 1\ndel 10.0.0.0/25\nadd 10.0.1.0/25 2\n"
+SKIPPED = "online 9\nflush\nquiescent 9\nonline 0\nreclaim 16\noffline 4294967295\n"
 THREE_ROUTES = "10.1.1.127\n10.1.1.128\n10.2.0.0\n11.0.0.0\n"
 RT_DOWN = "10.1.1.128/25 3\n10.1.0.0/16 2\n10.0.0.0/8 1\n"
 TWO_ADDS = "add 10.0.0.0/25 1\nadd 10.0.1.0/25 2\n"
@@ -137,6 +187,9 @@ reclaimed 1
 THREE_GROUPS = TWO_ADDS + "add 10.0.2.0/25 3\nflush\n"
 ONE_RULE = "add 10.0.0.0/8 1\nadd 11.0.0.0/8 1\nadd 10.0.0.0/8 5\n"
 DEFAULT_UPDATES = "add 1.2.3.4/0 1\nadd 0.0.0.0/0 1\nadd 10.0.0.0/8 2\ndel 10.0.0.0/8\n"
+UNDER_A_GROUP = "add 10.0.1.0/24 7\nadd 10.0.1.2/32 5\nadd 10.0.1.0/24 3\n"
+COLLAPSE = "add 10.0.1.0/24 7\nadd 10.0.1.2/32 5\nadd 10.0.1.0/30 6\ndel 10.0.1.2/32\n"
+SECOND_HALF = "add 10.0.0.0/25 1\nadd 10.0.0.128/25 2\ndel 10.0.0.0/25\nadd 10.0.1.0/25 3\n"
 FULL_BLOCK = "".join(f"10.0.0.{octet}/32 9\n" for octet in range(256))
 EACH_WORD = "\tdel 1.2.3.4/32\r\nreclaim 65536\n\nonline 4294967295\noffline 0\nquiescent 7"
 EACH_WORD_NEW = "lpm-updates 2\ndel 1.2.3.4/32\nreclaim 65536\nonline 4294967295\noffline 0\nquiescent 7\n"
@@ -193,6 +246,7 @@ CASES = [
     helped("apply-help", "apply --help", "apply.txt", refusing=False),
     helped("report-help", "report --help", "report.txt", refusing=False),
     helped("migrate-help", "migrate --help", "migrate.txt", refusing=False),
+    helped("storm-help", "storm --help", "storm.txt", refusing=False),
     case("lookup-short-help", "lookup -h", out=Has("Usage: lpmtool lookup"), refusing=False),
     case("version", "--version", out="lpmtool 2.0.0\n"),
     # Updates. A refused update stops nothing, and the status is 0.
@@ -210,6 +264,20 @@ CASES = [
             refusing=False),
     applied("default-route-updates", "", DEFAULT_UPDATES, "added\nunchanged\nadded\ndeleted 2\n10.0.0.0 1\n", "",
             "10.0.0.0", refusing=False),
+    applied("under-a-group", "", UNDER_A_GROUP, "added\nadded\nreplaced\n10.0.1.1 3\n10.0.1.2 5\n10.0.1.255 3\n", "",
+            "10.0.1.1\n10.0.1.2\n10.0.1.255\n", refusing=False),
+    applied("collapse", "", COLLAPSE, "added\nadded\nadded\ndeleted 5\n10.0.1.2 6\n10.0.1.4 7\n", "",
+            "10.0.1.2\n10.0.1.4\n", refusing=False),
+    applied("collapse-whole", "", COLLAPSE + "del 10.0.1.0/30\n",
+            "added\nadded\nadded\ndeleted 5\ndeleted 6\n10.0.1.2 7\n10.0.1.4 7\n", "", "10.0.1.2\n10.0.1.4\n",
+            refusing=False),
+    applied("default-under-a-group", "", "add 10.0.1.2/32 5\nadd 0.0.0.0/0 9\n",
+            "added\nadded\n10.0.1.1 9\n10.0.1.2 5\n10.0.1.3 9\n", "", "10.0.1.1\n10.0.1.2\n10.0.1.3\n", refusing=False),
+    applied("second-half", "--groups 1", SECOND_HALF, "added\nadded\ndeleted 1\nrefused 7 NoGroups\n10.0.0.127 -\n"
+            "10.0.0.128 2\n", "", "10.0.0.127\n10.0.0.128\n", refusing=False),
+    applied("second-half-goes", "--groups 1", SECOND_HALF + "del 10.0.0.128/25\nadd 10.0.1.0/25 3\n",
+            "added\nadded\ndeleted 1\nrefused 7 NoGroups\ndeleted 2\nadded\n10.0.0.128 -\n10.0.1.0 3\n", "",
+            "10.0.0.128\n10.0.1.0\n", refusing=False),
     applied("updates-3", "--workers 3", PIECES, PIECES_OUT + FIVE_ANSWERS.replace(" 3", " 2"), RT, FIVE),
     case("updates-from-standard-input", "apply r - a", {"r": RT, "a": ""}, out="deleted 1\n",
          stdin=UPDATES + "del 10.0.0.0/8\n", refusing=False),
@@ -220,10 +288,27 @@ CASES = [
     reported("delete-then-reclaim-16-report", "", "del 10.1.1.128/25\nreclaim 16\n", (2, 4, 0, 0, 256, 2), RT,
              refusing=False),
     reported("one-group-report", "--groups 1", TWO_ADDS, (1, 1, 1, 0, 0, 1), refusing=False),
+    reported("collapse-report", "", COLLAPSE, (2, 4, 1, 0, 255, 1), refusing=False),
+    reported("collapse-whole-report", "", COLLAPSE + "del 10.0.1.0/30\n", (1, 5, 0, 1, 255, 2), refusing=False),
     reported("outcomes-report", "", OUTCOMES, (0, 3, 0, 0, 256, 1), refusing=False),
     reported("flush-three-groups-report", "--groups 3 --threshold 0", THREE_GROUPS, (0, 4, 0, 1, 2, 4), refusing=False),
     reported("three-routes-report", "", "", (3, 3, 1, 0, 255, 1), RT, refusing=False),
     reported("full-block", "", "", (256, 256, 1, 0, 255, 1), FULL_BLOCK, refusing=False),
+    # Storms. Each lookup has an answer, and each is of a version of the rules.
+    stormed("storm", "--workers 2 --rounds 50", STORM, (400, 0, 0, 3, 5, 1, 0, 255, 3), RT, THREE_ROUTES, times=100,
+            threads=True),
+    stormed("stuck-storm", "--groups 1 --stuck", STUCK, (1, 1, 0, 0, 2, 0, 0, 1, 3), "", "10.0.0.1\n", times=100,
+            threads=True),
+    stormed("storm-3", "--workers 3 --rounds 7 --stuck", STORM, (84, 0, 0, 3, 5, 1, 0, 255, 3), RT, THREE_ROUTES,
+            refusing=False),
+    stormed("storm-no-addresses", "--rounds 1000000", STORM, (0, 0, 0, 3, 5, 1, 0, 255, 3), RT, refusing=False),
+    stormed("storm-no-updates", "--workers 2", "", (8, 0, 0, 3, 3, 1, 0, 255, 2), RT, THREE_ROUTES, refusing=False),
+    stormed("storm-skips-reports", "", SKIPPED, (4, 0, 0, 0, 4, 0, 0, 256, 3), RT, THREE_ROUTES, refusing=False),
+    stormed("storm-refused-updates", "", OUTCOMES, (4, 1, 0, 0, 3, 0, 0, 256, 2), "", THREE_ROUTES, refusing=False),
+    stormed("storm-many-updates", "--workers 3 --rounds 5000 --stuck", STORM * 100,
+            (60_000, 0, 0, 3, 203, 1, 0, 255, 102), RT, THREE_ROUTES, times=10, refusing=False),
+    case("storm-of-standard-input", "storm r - a", {"r": RT, "a": FIVE}, stdin=UPDATES,
+         out=Has("answers 5\nrefused 0\nwrong 0\nrules 3\n"), refusing=False),
     # Migration.
     migrated("migrate", "# nightly\nadd   10.1.2.3/8   5\nflush\n", "lpm-updates 2\nadd 10.0.0.0/8 5\nflush\n"),
     migrated("migrate-edges-empty", "", "lpm-updates 2\n"),
@@ -238,7 +323,8 @@ CASES = [
     case("two-standard-inputs", "lookup - -", status=2, err=TWO_INPUTS, stdin=RT),
     case("two-standard-inputs-apply", "apply r - -", {"r": RT}, 2, err=TWO_INPUTS, refusing=False),
     *(case(f"two-standard-inputs-{number}", words, status=2, err=TWO_INPUTS, refusing=False)
-      for number, words in enumerate(("apply - - a", "apply - u -", "apply - - -", "report -- - -"))),
+      for number, words in enumerate((
+          "apply - - a", "apply - u -", "apply - - -", "report -- - -", "storm - - a", "storm - u -", "storm r - -"))),
     refused("option-first", "--rules 7 lookup r a", "unexpected argument '--rules' found"),
     refused("deep", "lookup r a --deep", "unexpected argument '--deep' found"),
     refused("apply-two-files", "apply r u", f"{LACKING}  <ADDRESSES>"),
@@ -263,6 +349,15 @@ CASES = [
     refused("threshold-1.5", "lookup r a --threshold 1.5", "invalid value '1.5' for '--threshold <N>'"),
     refused("max-0", "apply r u a --max 0", "invalid value '0' for '--max <N>'"),
     refused("max-65537", "report r u --max 65537", "invalid value '65537' for '--max <N>'"),
+    refused("storm-two-files", "storm r u", f"{LACKING}  <ADDRESSES>"),
+    refused("storm-four-files", "storm r u a b", "unexpected argument 'b' found"),
+    refused("rounds-0", "storm r u a --rounds 0", "invalid value '0' for '--rounds <N>': 0 is not in 1..=1000000"),
+    refused("rounds-1000001", "storm r u a --rounds 1000001", "invalid value '1000001' for '--rounds <N>'"),
+    refused("rounds-twice", "storm r u a --rounds=1 --rounds=1", f"the argument '--rounds <N>' {TWICE_GIVEN}"),
+    refused("stuck-twice", "storm r u a --stuck --stuck", f"the argument '--stuck' {TWICE_GIVEN}"),
+    refused("stuck-true", "storm r u a --stuck=true", "unexpected value 'true' for '--stuck' found"),
+    refused("apply-rounds", "apply r u a --rounds 1", "unexpected argument '--rounds' found"),
+    refused("apply-stuck", "apply r u a --stuck", "unexpected argument '--stuck' found"),
     # A file can't be read, or the output can't be written.
     case("no-route-file", "lookup r a", {"a": "1.2.3.4"}, 3, err="lpmtool: cannot read r\n"),
     case("no-address-file", "lookup r a", {"r": RT}, 3, err="lpmtool: cannot read a\n"),
@@ -271,6 +366,8 @@ CASES = [
     case("no-update-file", "apply r u a", {"r": RT}, 3, err="lpmtool: cannot read u\n"),
     case("migrate-no-file", "migrate old", status=3, err="lpmtool: cannot read old\n"),
     case("full", "lookup r a", {"r": RT, "a": FIVE}, 3, err="lpmtool: cannot write\n", full=True),
+    case("storm-full", "storm r u a", {"r": RT, "u": UPDATES, "a": FIVE}, 3, err="lpmtool: cannot write\n", full=True,
+         refusing=False),
     case("help-full", "--help", status=3, err="lpmtool: cannot write\n", full=True),
     # A file has a fault.
     fault("bad-route-lines-hop", "10.0.0.0/8 16777216", "1: bad hop"),
@@ -321,6 +418,12 @@ CASES = [
          err="lpmtool: u:2: bad word\n", refusing=False),
     case("addresses-before-refusal", "apply --rules 1 r u a", {"r": TWO_SHORT, "u": UPDATES, "a": "y"}, 4,
          err="lpmtool: a:1: bad address\n", refusing=False),
+    case("storm-routes-first", "storm r u a", {"r": "x", "u": "x", "a": "x"}, 4, err="lpmtool: r:1: bad fields\n",
+         refusing=False),
+    case("storm-updates-second", "storm r u a", {"r": "", "u": "x", "a": "x"}, 4, err="lpmtool: u:1: bad header\n",
+         refusing=False),
+    case("storm-no-workers-fault", "storm --workers 0 r u a", {"r": RT, "u": UPDATES, "a": "x"}, 4,
+         err="lpmtool: a:1: bad address\n", refusing=False),
     migrated("migrate-fault-after-comment", "# c\nflush\nflush 1\n", status=4, err="lpmtool: old:3: bad fields\n",
              refusing=False),
     migrated("migrate-edges-header", "lpm-updates 2\n", status=4, err="lpmtool: old:1: bad word\n"),
@@ -349,6 +452,16 @@ CASES = [
          err="lpmtool: r:2: refused 3 TooManyRules\n"),
     case("no-workers-apply", "apply --workers 0 r u a", {"r": RT, "u": UPDATES + "flush\n", "a": ""}, 6,
          err="lpmtool: refused 8 NoWorkers\n"),
+    # The refusals of a storm: no workers and too many answers come before the routes are added.
+    case("storm-no-workers", "storm --workers 0 --rules 1 --stuck r u a", {"r": TWO_SHORT, "u": UPDATES, "a": ""}, 6,
+         err="lpmtool: refused 8 NoWorkers\n"),
+    case("storm-too-many-answers", "storm --rules 1 --rounds 1000000 r u a",
+         {"r": TWO_SHORT, "u": UPDATES, "a": "10.0.0.0\n" * 17}, 6, err="lpmtool: refused 5 BadConfig\n"),
+    case("storm-one-rule-load", "storm --rules 1 r u a",
+         {"r": "# c\n\n10.0.0.0/8 1\n10.0.0.0/8 2\n10.1.0.0/16 2\n", "u": UPDATES, "a": FIVE}, 6,
+         err="lpmtool: r:5: refused 3 TooManyRules\n"),
+    case("storm-one-group-load", "storm --groups 1 r u a", {"r": TWO_BLOCKS, "u": UPDATES, "a": FIVE}, 6,
+         err="lpmtool: r:2: refused 7 NoGroups\n", refusing=False),
     # Files of one byte, and files that are cut.
     *one_byte("routes", "lookup r a", {"a": ""}, "r", b"", "1: bad fields"),
     *one_byte("addresses", "lookup r a", {"r": ""}, "a", b"", "1: bad address"),
@@ -361,4 +474,5 @@ CASES = [
     *cut("update-file", "apply r u a", {"r": "", "a": ""}, "u", UPDATES + "add 10.0.0.0/8 1\nflush\n", [
         (12, "1: bad header"), (14, ""), (16, "2: bad word"), (29, "2: bad fields"), (31, "added\n"),
         (35, "3: bad word"), (37, "added\nflushed 1\n")]),
+    *large_cases(),
 ]

@@ -2,11 +2,12 @@
 """Runs the built lpmtool on the cases of tools/cases.py, as they are and with each allocation refused in turn; and so
 two tests of library calls.
 
-Of each run the exit status is compared, and the whole of standard output and standard error. A case runs once as it
-is. Then its first allocation is refused, then its second, until a run ends without a refusal; cases that take memory
-as another one does are left out here. Each of these runs has to end as the case wants, or with status 5, nothing on
-standard output and `lpmtool: out of memory` on standard error. The last one has to end as the case wants, and at least
-one with status 5. The start of a thread is refused as an allocation is.
+Of each run the exit status is compared, and the whole of standard output and standard error. A case runs as it is, once
+or as often as it says. Then its first allocation is refused, then its second, until a run ends without a refusal; cases
+that take memory as another one does are left out here. Each of these runs has to end as the case wants, or with status
+5, nothing on standard output and `lpmtool: out of memory` on standard error. The last one has to end as the case wants,
+and at least one with status 5. The start of a thread is refused as an allocation is. Where a case has `threads`, a run
+may end with the refusal `NoThread` too, and at least one has to.
 
 Two tests of calls of the library run with each allocation refused too (TESTS). Each run has to end as the test wants,
 or with want of memory as its result: an assertion never fails. At least so many runs have to end as wanted as the call
@@ -37,10 +38,12 @@ PROGRAM = HERE.parent / "crates/lpmtool/out/lpmtool"
 BUILDS = {"LLVM": PROGRAM, "Rattle's compiler": PROGRAM.with_name("lpmtool.by-rattle")}
 AS_WANTED = "as wanted"
 OUT_OF_MEMORY = (5, "", "lpmtool: out of memory\n")
+NO_THREAD = (6, "", "lpmtool: refused 12 NoThread\n")
 # (a test that returns an error ends so: with that error, as Debug writes it)
 TEST_OUT_OF_MEMORY = (101, {"error: Memory", "error: AllocError"})
 SECONDS = 60  # for one run
 MOST = 5000  # allocations of one case, which has about a hundred
+LONG = 2000  # characters of a text that a failed case shows
 
 
 # A test of a library call, and how many growths that call has of its own.
@@ -83,25 +86,34 @@ def is_wanted(case, got):
     return got[0] == case.status and all(it in text if isinstance(it, Has) else it == text for it, text in texts)
 
 
+def brief(ending):
+    """The status and the texts, of a long one its beginning alone."""
+    status, *texts = ending
+    return (status, *(text if len(text) <= LONG else f"{text[:LONG]} .. of {len(text)} characters" for text in texts))
+
+
 def try_case(program, case, refuser):
     """Runs the case as it is, and with each allocation refused if it asks for that.
 
     Returns whether all is well, and what to say.
     """
-    got, _ = run_case(program, case)
-    if not is_wanted(case, got):
-        return False, f"got {got}, wanted {(case.status, case.out, case.err)}"
+    for _ in range(case.times):
+        got, _ = run_case(program, case)
+        if not is_wanted(case, got):
+            return False, f"got {brief(got)}, wanted {brief((case.status, case.out, case.err))}"
     if not case.refusing:
         return True, AS_WANTED
-    times_out = 0
+    ends = [OUT_OF_MEMORY] + [NO_THREAD] * case.threads
+    times = dict.fromkeys(ends, 0)
     for at in range(1, MOST + 1):
         got, was_refused = run_case(program, case, refuser, at)
-        is_out = was_refused and got == OUT_OF_MEMORY
-        times_out += is_out
-        if not (is_out or is_wanted(case, got)):
+        if was_refused and got in times:
+            times[got] += 1
+        elif not is_wanted(case, got):
             return False, f"with allocation {at} {'refused' if was_refused else 'reached no more'}: got {got}"
         if not was_refused:
-            return times_out > 0, f"{AS_WANTED}; {at - 1} allocations refused in turn, {times_out} times status 5"
+            counts = ", ".join(f"{count} times status {status}" for (status, *_), count in times.items())
+            return all(times.values()), f"{AS_WANTED}; {at - 1} allocations refused in turn, {counts}"
     return False, f"it makes over {MOST} allocations"
 
 

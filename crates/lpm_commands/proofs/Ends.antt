@@ -14,7 +14,7 @@ use Rattle.lpm_commands.specs.Lookup.{lookup_files, EndsAnswering, EndsLookup}
 use Rattle.lpm_commands.specs.Apply.{apply_files, EndsApply}
 
 -- a file whose items were read is of its form
-is_read : {Item : Type 0} (known : Option (List ℕ)) (Lists : List ℕ → List Item → Type 0) (items : List Item) → Reads Lists known items → (b : List ℕ) × IsKnownAs known b × ((list : List Item) × Lists b list)
+pub is_read : {Item : Type 0} (known : Option (List ℕ)) (Lists : List ℕ → List Item → Type 0) (items : List Item) → Reads Lists known items → (b : List ℕ) × IsKnownAs known b × ((list : List Item) × Lists b list)
 is_read known Lists items reads = (reads.0, reads.1, (items, reads.2))
 
 -- a lookup ends where its addresses are answered

@@ -6,4 +6,5 @@ pub mod Updated
 pub mod Answered
 pub mod Texts
 pub mod Ends
+pub mod Storms
 pub mod Known

@@ -5,4 +5,5 @@ pub mod Updating
 pub mod Lookup
 pub mod Apply
 pub mod Report
+pub mod Storm
 pub mod Migrate

@@ -8,7 +8,7 @@ ghost use Rattle.lpm_commands.specs.Lookup.{EndsAnswering};
 use crate::answers::text_of_answers;
 use crate::loading::load;
 use crate::updating::{text_of_outcomes, update};
-use bulk::Open;
+use bulk::Gate;
 use fib::Fib;
 use lpm_files::{Addresses, Failure, Files, Routes, Updates, put_text, read_list};
 use qsbr::Config;
@@ -18,11 +18,12 @@ use std::io::Write;
 use std::thread::Threads;
 
 /// Writes a line for what came of each update, after the routes, and then a line for each address
-/// with its next hop.
+/// with its next hop, answered by as many threads as the table has workers. Each calls the gate
+/// directly before each address.
 ///
 /// Each file is read and parsed before the next, and all before a route is loaded. The text is
 /// formed whole before it is written. A refused update doesn't stop the file.
-pub fn apply<'a, R: Threads + Sync, F: Files, W: Write>(
+pub fn apply<'a, R: Threads + Sync, F: Files, G: Gate, W: Write>(
     rt: &R,
     alloc: Global,
     files: &F,
@@ -30,6 +31,7 @@ pub fn apply<'a, R: Threads + Sync, F: Files, W: Write>(
     updates: &'a str,
     addresses: &'a str,
     config: Config,
+    gate: &G,
     out: &mut W,
 ) -> Result<(), Failure<'a>>
     requires { IsConfig config }
@@ -47,12 +49,12 @@ pub fn apply<'a, R: Threads + Sync, F: Files, W: Write>(
     ensures failure { IfErr result (EndsApply config
         routes.entry.now updates.entry.now addresses.entry.now (F.bytes files.now)) }
 {
-    let text = apply_text(rt, alloc, files, routes, updates, addresses, config)?;
+    let text = apply_text(rt, alloc, files, routes, updates, addresses, config, gate)?;
     put_text(out, &text)
 }
 
 // The whole text, before anything is written.
-fn apply_text<'a, R: Threads + Sync, F: Files>(
+fn apply_text<'a, R: Threads + Sync, F: Files, G: Gate>(
     rt: &R,
     alloc: Global,
     files: &F,
@@ -60,6 +62,7 @@ fn apply_text<'a, R: Threads + Sync, F: Files>(
     updates: &'a str,
     addresses: &'a str,
     config: Config,
+    gate: &G,
 ) -> Result<Vec<u8>, Failure<'a>>
     requires { IsConfig config }
     ensures text { IfOk result (λ v. IsApplyText config (F.bytes files.now routes.entry.now)
@@ -72,16 +75,17 @@ fn apply_text<'a, R: Threads + Sync, F: Files>(
     let orders = read_list::<Updates, F>(alloc, files, updates)?;
     let addrs = read_list::<Addresses, F>(alloc, files, addresses)?;
     let mut table = load(alloc, routes, &list, config)?;
-    text_after(rt, alloc, &mut table, &orders, &addrs)
+    text_after(rt, alloc, &mut table, &orders, &addrs, gate)
 }
 
 // The lines of the updates, and then those of the addresses.
-fn text_after<'a, R: Threads + Sync>(
+fn text_after<'a, R: Threads + Sync, G: Gate>(
     rt: &R,
     alloc: Global,
     table: &mut Fib<24, 8>,
     orders: &[Order],
     addrs: &[u32],
+    gate: &G,
 ) -> Result<Vec<u8>, Failure<'a>>
     ensures text { IfOk result (λ v. IsToldAfter table.old.config table.old.table orders.now
         addrs.now table.new.table v.items) }
@@ -89,7 +93,7 @@ fn text_after<'a, R: Threads + Sync>(
 {
     let outcomes = update(alloc, table, orders)?;
     let mut text = text_of_outcomes(alloc, &outcomes)?;
-    let answers = text_of_answers(rt, alloc, table, addrs, &Open)?;
+    let answers = text_of_answers(rt, alloc, table, addrs, gate)?;
     text.extend_from_slice(&answers)?;
     Ok(text)
 }

@@ -8,9 +8,11 @@ mod lookup_command;
 mod migrate_command;
 mod ordering;
 mod report_command;
+mod storm_command;
 mod updating;
 
 pub use apply_command::apply;
 pub use lookup_command::lookup;
 pub use migrate_command::migrate;
 pub use report_command::report;
+pub use storm_command::storm;

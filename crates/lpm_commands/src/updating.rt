@@ -44,7 +44,8 @@ fn commands_of(alloc: Global, orders: &[Order]) -> Result<Vec<Command<24, 8>>, A
     Ok(commands)
 }
 
-fn command_of(order: &Order) -> Command<24, 8>
+/// The command that the order asks for.
+pub fn command_of(order: &Order) -> Command<24, 8>
     ensures { result ≡ command_of order.now }
 {
     match order {

@@ -50,7 +50,8 @@ pub enum Failure<'a> {
         line: usize,
         refusal: Refusal,
     },
-    /// Another refusal, that of no line: `NoWorkers` where addresses are to be answered.
+    /// Another refusal, that of no line: `NoWorkers` where addresses are to be answered, or one of a
+    /// storm, `BadConfig`, `Exhausted` or `NoThread`.
     #[error("lpmtool: refused {} {}", .refusal.number(), .refusal.name())]
     Refused {
         refusal: Refusal,

@@ -6,6 +6,7 @@ use Rattle.lpm_limits.specs.declared.config.Range.{Range}
 use Rattle.lpm_limits.specs.Limits.{range, rules_range, groups_range, threshold_range}
 use Rattle.lpm_limits.specs.Limits.{reclaim_range, default_config}
 use Rattle.clap.specs.declared.builder.value_parser.ValueParser.TheVariants as parsers
+use Rattle.clap.specs.declared.builder.action.ArgAction.TheVariants as actions
 
 -- a file, named by its place
 abbrev pub file_rule : Text → Rule
@@ -20,9 +21,17 @@ number_rule id range default = record (new_rule id) {
   parser = Some (parsers.Unsigned range.first range.last);
 }
 
+-- a flag, which takes no value
+abbrev pub flag_rule : Text → Rule
+flag_rule id = record (new_rule id) { long = Some id; action = Some actions.SetTrue }
+
 -- as many workers as the program takes, which is less than a table takes
 abbrev pub program_workers : Range
 program_workers = range 0 1024
+
+-- how often the workers of a storm can go over the addresses
+abbrev pub storm_rounds : Range
+storm_rounds = range 1 1000000
 
 abbrev pub rules_rule : Rule
 rules_rule = number_rule (codes "rules") rules_range (decimal default_config.rules)
@@ -38,6 +47,12 @@ threshold_rule = number_rule (codes "threshold") threshold_range (decimal defaul
 
 abbrev pub max_rule : Rule
 max_rule = number_rule (codes "max") reclaim_range (decimal default_config.reclaim_max)
+
+abbrev pub rounds_rule : Rule
+rounds_rule = number_rule (codes "rounds") storm_rounds (codes "1")
+
+abbrev pub stuck_rule : Rule
+stuck_rule = flag_rule (codes "stuck")
 
 -- the options that say how much the table holds, and who reads it
 abbrev pub with_sizes : App → App
@@ -59,15 +74,22 @@ with_file app id = with_rule app (file_rule id)
 abbrev pub with_files : Text → Text → Text → App
 with_files name first second = with_file (with_file (new_app name) first) second
 
+-- the command of this name for routes, updates and addresses, with the options of a table
+abbrev pub with_three_files : Text → App
+with_three_files name = with_limits
+    (with_file (with_files name (codes "ROUTES") (codes "UPDATES")) (codes "ADDRESSES"))
+
 abbrev pub lookup_app : App
 lookup_app = with_limits (with_files (codes "lookup") (codes "ROUTES") (codes "ADDRESSES"))
 
 abbrev pub apply_app : App
-apply_app = with_limits
-    (with_file (with_files (codes "apply") (codes "ROUTES") (codes "UPDATES")) (codes "ADDRESSES"))
+apply_app = with_three_files (codes "apply")
 
 abbrev pub report_app : App
 report_app = with_limits (with_files (codes "report") (codes "ROUTES") (codes "UPDATES"))
+
+abbrev pub storm_app : App
+storm_app = with_rule (with_rule (with_three_files (codes "storm")) rounds_rule) stuck_rule
 
 abbrev pub migrate_app : App
 migrate_app = with_file (new_app (codes "migrate")) (codes "OLD")
@@ -83,5 +105,7 @@ with_command app command = with_subcommand app command.top
 
 unfoldable pub the_app : App
 the_app = with_command
+    (with_command
     (with_command (with_command (with_command program_app lookup_app) apply_app) report_app)
+    storm_app)
     migrate_app

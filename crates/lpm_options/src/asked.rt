@@ -2,14 +2,14 @@
 ghost use Rattle.std.specs.Prelude.{◌↔◌, ◌<◌, ◌^◌, ℕ, IsTrue, IfSome, IsNone, codes};
 ghost use Rattle.clap.specs.Words.{Text, rows_of, found_of};
 ghost use Rattle.lpm_limits.specs.Limits.{IsIn};
-ghost use Rattle.lpm_options.specs.Commands.{program_workers};
-ghost use Rattle.lpm_options.specs.Asked.{HasFile, HasNumber, AreLimits, Asks, IsInRange};
-ghost use Rattle.lpm_options.specs.Asked.{IsStandardInput, HasTwoStandardInputs};
+ghost use Rattle.lpm_options.specs.Asked.{HasFile, HasNumber, HasFlag, HaveFiles, AreLimits, Asks};
+ghost use Rattle.lpm_options.specs.Asked.{IsInRange, IsStandardInput, AreTwoStandardInputs};
+ghost use Rattle.lpm_options.specs.Asked.{HasTwoStandardInputs};
 
 use crate::CommandLine;
-use crate::commands::WORKERS;
+use crate::commands::{ROUNDS, WORKERS};
 use clap::ArgMatches;
-use lpm_limits::Config;
+use lpm_limits::{Config, Range};
 
 /// What the matches of the command of this name ask for.
 pub(crate) fn command_line<'a>(name: &'a str, found: &ArgMatches<'a>) -> Option<CommandLine<'a>>
@@ -26,6 +26,9 @@ pub(crate) fn command_line<'a>(name: &'a str, found: &ArgMatches<'a>) -> Option<
     }
     if name == "report" {
         return report_line(found);
+    }
+    if name == "storm" {
+        return storm_line(found);
     }
     if name == "migrate" {
         return migrate_line(found);
@@ -55,9 +58,7 @@ fn apply_line<'a>(found: &ArgMatches<'a>) -> Option<CommandLine<'a>>
     ensures none { IsNone result → (line : CommandLine)
         → Asks (codes "apply") (rows_of (found_of found.now)) line → ⊥ }
 {
-    let routes = path_of(found, "ROUTES")?;
-    let updates = path_of(found, "UPDATES")?;
-    let addresses = path_of(found, "ADDRESSES")?;
+    let (routes, updates, addresses) = files_of(found)?;
     let config = config_of(found)?;
     Some(CommandLine::Apply {
         routes,
@@ -80,6 +81,25 @@ fn report_line<'a>(found: &ArgMatches<'a>) -> Option<CommandLine<'a>>
         routes,
         updates,
         config,
+    })
+}
+
+fn storm_line<'a>(found: &ArgMatches<'a>) -> Option<CommandLine<'a>>
+    ensures asked { IfSome result (Asks (codes "storm") (rows_of (found_of found.now))) }
+    ensures in_range { IfSome result IsInRange }
+    ensures none { IsNone result → (line : CommandLine)
+        → Asks (codes "storm") (rows_of (found_of found.now)) line → ⊥ }
+{
+    let (routes, updates, addresses) = files_of(found)?;
+    let config = config_of(found)?;
+    let rounds = number_within(found, "rounds", ROUNDS)?;
+    Some(CommandLine::Storm {
+        routes,
+        updates,
+        addresses,
+        config,
+        rounds,
+        has_stuck_worker: has_flag(found, "stuck"),
     })
 }
 
@@ -108,18 +128,29 @@ pub(crate) fn has_two_standard_inputs(line: CommandLine<'_>) -> bool
             updates,
             addresses,
             ..
-        } => {
-            (is_standard_input(routes) && is_standard_input(updates))
-                || (is_standard_input(routes) && is_standard_input(addresses))
-                || (is_standard_input(updates) && is_standard_input(addresses))
-        }
+        } => are_two_standard_inputs(routes, updates, addresses),
         CommandLine::Report {
             routes,
             updates,
             ..
         } => is_standard_input(routes) && is_standard_input(updates),
+        CommandLine::Storm {
+            routes,
+            updates,
+            addresses,
+            ..
+        } => are_two_standard_inputs(routes, updates, addresses),
         CommandLine::Migrate { .. } => false,
     }
+}
+
+// Whether two of the three files are standard input.
+fn are_two_standard_inputs(first: &str, second: &str, third: &str) -> bool
+    ensures { IsTrue result ↔ AreTwoStandardInputs first.now second.now third.now }
+{
+    (is_standard_input(first) && is_standard_input(second))
+        || (is_standard_input(first) && is_standard_input(third))
+        || (is_standard_input(second) && is_standard_input(third))
 }
 
 fn is_standard_input(path: &str) -> bool
@@ -137,7 +168,7 @@ fn config_of(found: &ArgMatches<'_>) -> Option<Config>
     let config = Config {
         rules: number_of(found, "rules")?,
         groups: number_of(found, "groups")?,
-        workers: workers_of(found)?,
+        workers: number_within(found, "workers", WORKERS)?,
         threshold: number_of(found, "threshold")?,
         reclaim_max: number_of(found, "max")?,
         ..Config::default()
@@ -148,16 +179,16 @@ fn config_of(found: &ArgMatches<'_>) -> Option<Config>
     }
 }
 
-fn workers_of(found: &ArgMatches<'_>) -> Option<usize>
-    ensures number { IfSome result (HasNumber (rows_of (found_of found.now)) (codes "workers")) }
-    ensures few { IfSome result (IsIn program_workers) }
+// The number of the option, where it lies in the range.
+fn number_within(found: &ArgMatches<'_>, id: &str, range: Range) -> Option<usize>
+    ensures number { IfSome result (HasNumber (rows_of (found_of found.now)) id.now) }
+    ensures in_range { IfSome result (IsIn range) }
     ensures none { IsNone result → (n : ℕ)
-        → HasNumber (rows_of (found_of found.now)) (codes "workers") n
-        → IsIn program_workers n → ⊥ }
+        → HasNumber (rows_of (found_of found.now)) id.now n → IsIn range n → ⊥ }
 {
-    let workers = number_of(found, "workers")?;
-    if WORKERS.contains(workers as u64) {
-        return Some(workers);
+    let number = number_of(found, id)?;
+    if range.contains(number as u64) {
+        return Some(number);
     }
     None
 }
@@ -169,6 +200,27 @@ fn number_of(found: &ArgMatches<'_>, id: &str) -> Option<usize>
         → HasNumber (rows_of (found_of found.now)) id.now n → n < 2 ^ 64 → ⊥ }
 {
     found.get_one::<usize>(id)
+}
+
+// Whether the words gave the flag. `get_flag` promises less: nothing of a value that is neither
+// `true` nor `false`.
+fn has_flag(found: &ArgMatches<'_>, id: &str) -> bool
+    ensures { HasFlag (rows_of (found_of found.now)) id.now result }
+{
+    found.get_one::<bool>(id).unwrap_or(false)
+}
+
+// The paths of the route file, the update file and the address file.
+fn files_of<'a>(found: &ArgMatches<'a>) -> Option<(&'a str, &'a str, &'a str)>
+    ensures files { IfSome result (λ files.
+        HaveFiles (rows_of (found_of found.now)) files.0.now files.1.now files.2.now) }
+    ensures none { IsNone result → (routes updates addresses : Text)
+        → HaveFiles (rows_of (found_of found.now)) routes updates addresses → ⊥ }
+{
+    let routes = path_of(found, "ROUTES")?;
+    let updates = path_of(found, "UPDATES")?;
+    let addresses = path_of(found, "ADDRESSES")?;
+    Some((routes, updates, addresses))
 }
 
 // The path of the file.

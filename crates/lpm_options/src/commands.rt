@@ -1,14 +1,15 @@
 //! The commands of the program and their options, as the parser reads them.
 ghost use Rattle.std.specs.Prelude.{◌≡◌, IfOk, codes, true, false};
 ghost use Rattle.clap.specs.Words.{App, app_of, rule_of, new_app, with_rule};
-ghost use Rattle.lpm_options.specs.Commands.{file_rule, number_rule, with_command, program_app};
-ghost use Rattle.lpm_options.specs.Commands.{with_file};
-ghost use Rattle.lpm_options.specs.Commands.{lookup_app, apply_app, report_app, migrate_app};
+ghost use Rattle.lpm_options.specs.Commands.{file_rule, number_rule, flag_rule, program_app};
+ghost use Rattle.lpm_options.specs.Commands.{with_command, with_file};
+ghost use Rattle.lpm_options.specs.Commands.{lookup_app, apply_app, report_app, storm_app};
+ghost use Rattle.lpm_options.specs.Commands.{migrate_app};
 ghost use Rattle.lpm_options.specs.Commands.{with_limits, with_sizes, with_reclaiming, the_app};
 
 use crate::help;
 use clap::builder::ValueParser;
-use clap::{Arg, Command};
+use clap::{Arg, ArgAction, Command};
 use lpm_limits::{Config, Range};
 use std::alloc::{AllocError, Global};
 
@@ -19,6 +20,12 @@ pub(crate) const VERSION: &str = "2.0.0";
 pub(crate) const WORKERS: Range = Range {
     first: 0,
     last: 1_024,
+};
+
+/// How often the workers of a storm can go over the addresses.
+pub(crate) const ROUNDS: Range = Range {
+    first: 1,
+    last: 1_000_000,
 };
 
 // A command, or want of memory for it.
@@ -32,6 +39,7 @@ pub(crate) fn whole_command<'a>(alloc: Global) -> Made<'a>
     let made = with_command(made, lookup_command(alloc));
     let made = with_command(made, apply_command(alloc));
     let made = with_command(made, report_command(alloc));
+    let made = with_command(made, storm_command(alloc));
     with_command(made, migrate_command(alloc))
 }
 
@@ -70,8 +78,7 @@ fn apply_command<'a>(alloc: Global) -> Made<'a>
     ensures { IfOk result (λ c. app_of c ≡ apply_app) }
 {
     let made = bare_command(alloc, "apply", help::APPLY, help::AFTER_APPLY);
-    let made = with_routes_and_updates(alloc, Ok(made));
-    with_last_file(alloc, made, "ADDRESSES", help::ADDRESSES)
+    with_three_files(alloc, Ok(made))
 }
 
 fn report_command<'a>(alloc: Global) -> Made<'a>
@@ -80,6 +87,15 @@ fn report_command<'a>(alloc: Global) -> Made<'a>
     let made = bare_command(alloc, "report", help::REPORT, help::AFTER_REPORT);
     let made = with_routes_and_updates(alloc, Ok(made));
     with_limits(alloc, made)
+}
+
+fn storm_command<'a>(alloc: Global) -> Made<'a>
+    ensures { IfOk result (λ c. app_of c ≡ storm_app) }
+{
+    let made = bare_command(alloc, "storm", help::STORM, help::AFTER_STORM);
+    let made = with_three_files(alloc, Ok(made));
+    let made = with_number(alloc, made, "rounds", ROUNDS, "1", help::ROUNDS);
+    with_flag(alloc, made, "stuck", help::STUCK)
 }
 
 fn migrate_command<'a>(alloc: Global) -> Made<'a>
@@ -113,6 +129,17 @@ fn with_routes_and_updates<'a>(alloc: Global, made: Made<'a>) -> Made<'a>
 {
     let made = with_file(alloc, made, "ROUTES", help::ROUTES);
     with_file(alloc, made, "UPDATES", help::UPDATES)
+}
+
+// The command with a route file, an update file and an address file, and with the options of each
+// command that makes a table.
+fn with_three_files<'a>(alloc: Global, made: Made<'a>) -> Made<'a>
+    ensures { (app : App) → IfOk made.entry (λ c. app_of c ≡ app)
+        → IfOk result (λ c. app_of c ≡ with_limits (with_file (with_file (with_file app
+        (codes "ROUTES")) (codes "UPDATES")) (codes "ADDRESSES"))) }
+{
+    let made = with_routes_and_updates(alloc, made);
+    with_last_file(alloc, made, "ADDRESSES", help::ADDRESSES)
 }
 
 // The command with its last file, and with the options of each command that makes a table.
@@ -175,6 +202,14 @@ fn with_number<'a>(
     made?.arg(number(alloc, id, range, default, help))
 }
 
+// The command with one flag more.
+fn with_flag<'a>(alloc: Global, made: Made<'a>, id: &'a str, help: &'a str) -> Made<'a>
+    ensures { (app : App) → IfOk made.entry (λ c. app_of c ≡ app)
+        → IfOk result (λ c. app_of c ≡ with_rule app (flag_rule id.entry.now)) }
+{
+    made?.arg(flag(alloc, id, help))
+}
+
 // A file that the command wants, named by its place among the words.
 fn file<'a>(alloc: Global, id: &'a str, help: &'a str) -> Arg<'a>
     ensures rule { rule_of result ≡ file_rule id.entry.now }
@@ -193,5 +228,16 @@ fn number<'a>(alloc: Global, id: &'a str, range: Range, default: &'a str, help: 
         .value_name("N")
         .default_value(default)
         .value_parser(ValueParser::unsigned(range.first, range.last))
+        .help(help)
+}
+
+// A flag, which takes no value.
+fn flag<'a>(alloc: Global, id: &'a str, help: &'a str) -> Arg<'a>
+    ensures rule { rule_of result ≡ flag_rule id.entry.now }
+    ensures plain { result.global ≡ false }
+{
+    Arg::new(alloc, id)
+        .long(id)
+        .action(ArgAction::SetTrue)
         .help(help)
 }

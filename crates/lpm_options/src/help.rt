@@ -25,15 +25,18 @@ Files:
     offline 0
   `flush` deletes all routes. `reclaim 16` frees at most 16 of the groups that were
   given up. The last three are reports of worker 0: it begins to read, it holds
-  nothing that it read before, it has ended. A file of version 1 lacks the first
-  line: see `migrate`.
+  nothing that it read before, it has ended. `storm` skips them: its workers are
+  threads and report by themselves. A file of version 1 lacks the first line: see
+  `migrate`.
 
 Memory:
   64 MiB for the first table (2^24 words of 4 bytes), 1 KiB for each group, 15 to
   22 bytes for each rule, and 24 bytes for each line of the route file. `lookup`
   makes no more groups than the file has routes longer than 24 bits. It copies the
   table into one that its workers share. While it does so it takes 192 MiB in place
-  of 64 MiB, and 3 KiB for each group. `migrate` makes no table.
+  of 64 MiB, and 3 KiB for each group. `storm` takes as much before it loads the
+  routes, for all groups, and then 32 bytes for each answer. `migrate` makes no
+  table.
 
 Exit status:
   0  done, or help or the version was asked for
@@ -118,6 +121,52 @@ Memory: 64 MiB, 1 KiB for each group, and 15 to 22 bytes for each rule.
 Exit status: 0 done, 2 words, 3 can't read or write, 4 a faulty file, 5 out of memory,
 6 refused. More in `lpmtool --help`.";
 
+pub(crate) const STORM: &str =
+    "Looks the addresses up while the updates are made, and counts wrong answers";
+
+pub(crate) const AFTER_STORM: &str = "\
+Example:
+  lpmtool storm --workers 2 --rounds 50 routes.txt updates.txt addresses.txt
+
+The routes are loaded. Then each worker has a thread of its own: it goes online,
+looks all addresses up, round after round, and goes offline. After each round it
+reports a quiescent state: it holds nothing that it read before. Meanwhile one
+more thread, the writer, makes the updates. It skips the lines `online`,
+`quiescent` and `offline`. When all threads have ended, the writer frees each
+group that was given up, and every answer is held against the versions of the
+rules.
+
+Output, nine lines, here of three routes, two updates and four addresses:
+  answers 400   the answers: workers times rounds times addresses
+  refused 0     the `add`, `del` and `flush` lines that were refused
+  wrong 0       the answers that no version of the rules explains
+  rules 3       the routes in the table
+  versions 5    the changes made, those of the route file too
+  in use 1      the groups in use
+  limbo 0       the groups that were given up and aren't free: none in the end
+  free 255      the groups that are free
+  token 3       the token, which counts up as groups are given up, and once more
+Each lookup notes which versions there were while it ran. Its answer is wrong if
+the rules of none of them give it.
+
+The number at `refused` can depend on how the threads ran: an `add` that finds
+no free group is refused while a worker may still read those that were given up.
+With `--stuck` one worker may do so until the last update is made.
+
+The path `-` is standard input. Only one of the files can be. Where one of these
+ends the run, nothing is printed:
+  refused 3 TooManyRules   at a route: give a greater --rules
+  refused 7 NoGroups       at a route: give a greater --groups
+  refused 8 NoWorkers      give at least --workers 1
+  refused 5 BadConfig      more than 16777216 answers: give a smaller --rounds
+  refused 12 NoThread      a thread can't be started: give a smaller --workers
+
+Memory: 192 MiB and 3 KiB for each group before the routes are loaded, and then
+64 MiB, 1 KiB for each group, 15 to 22 bytes for each rule, and 32 bytes for
+each answer: up to 512 MiB for all answers.
+Exit status: 0 done, also where answers are wrong, 2 words, 3 can't read or
+write, 4 a faulty file, 5 out of memory, 6 refused. More in `lpmtool --help`.";
+
 pub(crate) const MIGRATE: &str = "Prints an update file of version 1 as one of version 2";
 
 pub(crate) const AFTER_MIGRATE: &str = "\
@@ -162,11 +211,20 @@ The number of groups, 1 to 65536. Each block of 256 addresses with a route
 longer than 24 bits needs one";
 
 pub(crate) const WORKERS: &str = "\
-The number of workers, 0 to 1024. They answer the addresses together, which
-takes at least 1. An update file names them by the numbers from 0 to N - 1";
+The number of workers, 0 to 1024. They look the addresses up, which takes at
+least 1. An update file names them by the numbers from 0 to N - 1";
 
 pub(crate) const THRESHOLD: &str = "\
 A group that was given up waits in limbo until no worker can hold it. Where
 more than N wait, 0 to 65536, a change that gives up one more first frees some";
 
 pub(crate) const MAX: &str = "The most groups that a change frees so, 1 to 65536";
+
+pub(crate) const ROUNDS: &str = "\
+How often each worker looks all addresses up, 1 to 1000000.
+All workers together give at most 16777216 answers";
+
+pub(crate) const STUCK: &str = "\
+Has one worker more: online from before the first update until after
+the last, it looks nothing up. So no group that is given up meanwhile
+can be used again";

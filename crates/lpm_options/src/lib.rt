@@ -52,6 +52,24 @@ pub enum CommandLine<'a> {
         /// The limits of the table.
         config: Config,
     },
+    /// `storm`: the workers look the addresses up, round after round, while the writer makes the
+    /// updates of the routes. Then every answer is held against the versions of the rules.
+    Storm {
+        /// The path of the route file.
+        routes: &'a str,
+        /// The path of the update file.
+        updates: &'a str,
+        /// The path of the address file.
+        addresses: &'a str,
+        /// The limits of the table. Its workers are those that look the addresses up, 0 to 1,024:
+        /// the stuck worker isn't counted.
+        config: Config,
+        /// How often each worker looks all addresses up, 1 to 1,000,000.
+        rounds: usize,
+        /// Whether there is one worker more, which is online from before the first update until
+        /// after the last, and looks nothing up.
+        has_stuck_worker: bool,
+    },
     /// `migrate`: an update file of version 1, in version 2.
     Migrate {
         /// The path of the update file of version 1.

@@ -15,6 +15,7 @@ use Rattle.lpm_files.specs.Output.{Writes, WritesBeginning}
 use Rattle.lpm_commands.specs.Lookup.{IsLookupText, EndsLookup}
 use Rattle.lpm_commands.specs.Apply.{IsApplyText, EndsApply}
 use Rattle.lpm_commands.specs.Report.{IsReportText, EndsReport}
+use Rattle.lpm_commands.specs.Storm.{IsStormText, EndsStormRun}
 use Rattle.lpm_commands.specs.Migrate.{IsMigrateText, EndsMigrate}
 use Rattle.lpm_files.specs.Status.{status_of}
 
@@ -26,6 +27,9 @@ IsOutput (commands.Apply routes updates addresses config) bytes =
     IsApplyText config (bytes routes.now) (bytes updates.now) (bytes addresses.now)
 IsOutput (commands.Report routes updates config) bytes =
     IsReportText config (bytes routes.now) (bytes updates.now)
+IsOutput (commands.Storm routes updates addresses config rounds has_stuck_worker) bytes =
+    IsStormText config rounds has_stuck_worker (bytes routes.now) (bytes updates.now)
+    (bytes addresses.now)
 IsOutput (commands.Migrate old) bytes = IsMigrateText (bytes old.now)
 
 -- the command ends in this failure, for files of these bytes
@@ -36,6 +40,8 @@ EndsCommand (commands.Apply routes updates addresses config) bytes failure =
     EndsApply config routes.now updates.now addresses.now bytes failure
 EndsCommand (commands.Report routes updates config) bytes failure =
     EndsReport config routes.now updates.now bytes failure
+EndsCommand (commands.Storm routes updates addresses config rounds has_stuck_worker) bytes failure =
+    EndsStormRun config rounds has_stuck_worker routes.now updates.now addresses.now bytes failure
 EndsCommand (commands.Migrate old) bytes failure = EndsMigrate old.now bytes failure
 
 -- help or the version is to be shown

@@ -10,18 +10,19 @@ ghost use Rattle.lpm_files.specs.Status.{status_of};
 
 use bulk::Open;
 use clap::Error;
-use lpm_commands::{apply, lookup, migrate, report};
+use lpm_commands::{apply, lookup, migrate, report, storm};
 use lpm_files::{Failure, Files, USAGE};
 use lpm_options::{CommandLine, Refused, options};
 use std::alloc::Global;
 use std::convert::AsStr;
 use std::io;
 use std::io::Write;
+use std::sync::Wait;
 use std::thread::Threads;
 
 /// Runs the command of these words, of which the first is the program's name, and returns the exit
 /// status. Faults go to `err`, one line each.
-pub fn run<R: Threads + Sync, S: AsStr, F: Files, O: Write, E: Write>(
+pub fn run<R: Threads + Wait + Sync, S: AsStr, F: Files, O: Write, E: Write>(
     rt: &R,
     alloc: Global,
     words: &[S],
@@ -51,7 +52,7 @@ pub fn run<R: Threads + Sync, S: AsStr, F: Files, O: Write, E: Write>(
 }
 
 // Performs the command.
-fn perform<'a, R: Threads + Sync, F: Files, O: Write>(
+fn perform<'a, R: Threads + Wait + Sync, F: Files, O: Write>(
     rt: &R,
     alloc: Global,
     line: CommandLine<'a>,
@@ -78,12 +79,34 @@ fn perform<'a, R: Threads + Sync, F: Files, O: Write>(
             updates,
             addresses,
             config,
-        } => apply(rt, alloc, files, routes, updates, addresses, config, out),
+        } => apply(
+            rt, alloc, files, routes, updates, addresses, config, &Open, out,
+        ),
         CommandLine::Report {
             routes,
             updates,
             config,
         } => report(alloc, files, routes, updates, config, out),
+        CommandLine::Storm {
+            routes,
+            updates,
+            addresses,
+            config,
+            rounds,
+            has_stuck_worker,
+        } => storm(
+            rt,
+            alloc,
+            files,
+            routes,
+            updates,
+            addresses,
+            config,
+            rounds,
+            has_stuck_worker,
+            &Open,
+            out,
+        ),
         CommandLine::Migrate { old } => migrate(alloc, files, old, out),
     }
 }

@@ -5,6 +5,7 @@ use super::fakes::{AtBad, BreakingFiles, Short, writer};
 use lpm_program::run::run;
 use std::fmt::Debug;
 use std::process::Abort;
+use std::sync::Wait;
 use std::test::Fail;
 use std::thread::Threads;
 
@@ -12,7 +13,7 @@ use std::thread::Threads;
 pub type Ending<'a> = (u8, &'a str, &'a str);
 
 /// The exit status of a run of the words of this line.
-pub(crate) fn run_line<R: AllocGlobal + Threads + Sync>(
+pub(crate) fn run_line<R: AllocGlobal + Threads + Wait + Sync>(
     rt: &R,
     line: &str,
     files: &BreakingFiles<'_>,
@@ -29,7 +30,7 @@ pub(crate) fn text<'a>(rt: &impl Abort, writer: &'a Short) -> &'a str {
 }
 
 /// A run of this line with these files ends so.
-pub(crate) fn assert_ends<R: Abort + AllocGlobal + Threads + Sync, N: Debug + Copy>(
+pub(crate) fn assert_ends<R: Abort + AllocGlobal + Threads + Wait + Sync, N: Debug + Copy>(
     rt: &R,
     row: N,
     line: &str,

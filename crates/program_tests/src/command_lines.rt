@@ -43,6 +43,13 @@ fn parts<'a>(line: CommandLine<'a>) -> Line<'a> {
             updates,
             config,
         } => ("report", [routes, updates, ""], numbers_of(config)),
+        CommandLine::Storm {
+            routes,
+            updates,
+            addresses,
+            config,
+            ..
+        } => ("storm", [routes, updates, addresses], numbers_of(config)),
         CommandLine::Migrate { old } => ("migrate", [old, "", ""], [0; 5]),
     }
 }
@@ -232,6 +239,140 @@ const REPORTS: [Asked; 7] = [
 #[test]
 fn report_with_its_defaults_and_each_option(rt: HostRuntime) -> Result<(), Fail> {
     all_ask(&rt, rt.alloc(), "report", ["r", "u", ""], &REPORTS)
+}
+
+// The rounds of a storm, and whether it has a stuck worker.
+fn storm_parts(line: CommandLine<'_>) -> Option<(usize, bool)> {
+    match line {
+        CommandLine::Storm {
+            rounds,
+            has_stuck_worker,
+            ..
+        } => Some((rounds, has_stuck_worker)),
+        _ => None,
+    }
+}
+
+// The words after the program's name, and the numbers, the rounds and the flag that they ask for.
+type AskedStorm = (&'static [&'static str], Numbers, usize, bool);
+
+const STORMS: [AskedStorm; 11] = [
+    (&["lpmtool", "storm", "r", "u", "a"], DEFAULTS, 1, false),
+    (
+        &["lpmtool", "storm", "--stuck", "r", "u", "a"],
+        DEFAULTS,
+        1,
+        true,
+    ),
+    (
+        &["lpmtool", "storm", "r", "u", "a", "--stuck"],
+        DEFAULTS,
+        1,
+        true,
+    ),
+    (
+        &["lpmtool", "storm", "--rounds", "1", "r", "u", "a"],
+        DEFAULTS,
+        1,
+        false,
+    ),
+    (
+        &["lpmtool", "storm", "r", "u", "--rounds=1000000", "a"],
+        DEFAULTS,
+        1_000_000,
+        false,
+    ),
+    (
+        &["lpmtool", "storm", "r", "--rounds", "+7", "u", "a"],
+        DEFAULTS,
+        7,
+        false,
+    ),
+    (
+        &["lpmtool", "storm", "--workers", "0", "r", "u", "a"],
+        [1_048_576, 256, 0, 32, 16],
+        1,
+        false,
+    ),
+    (
+        &[
+            "lpmtool",
+            "storm",
+            "--workers=1024",
+            "--stuck",
+            "r",
+            "u",
+            "a",
+        ],
+        [1_048_576, 256, 1_024, 32, 16],
+        1,
+        true,
+    ),
+    (
+        &["lpmtool", "storm", "--", "r", "u", "a"],
+        DEFAULTS,
+        1,
+        false,
+    ),
+    (
+        &[
+            "lpmtool",
+            "storm",
+            "--stuck",
+            "r",
+            "--max=6",
+            "--threshold=2",
+            "--workers=5",
+            "u",
+            "--groups=3",
+            "--rounds=9",
+            "--rules=4",
+            "a",
+        ],
+        [4, 3, 5, 2, 6],
+        9,
+        true,
+    ),
+    (
+        &[
+            "lpmtool",
+            "storm",
+            "--rules",
+            "5",
+            "--rounds",
+            "50",
+            "--workers",
+            "2",
+            "r",
+            "u",
+            "a",
+        ],
+        [5, 256, 2, 32, 16],
+        50,
+        false,
+    ),
+];
+
+// The row's words ask for this storm.
+fn assert_storm(rt: &impl Abort, alloc: Global, row: &AskedStorm) -> Result<(), Fail> {
+    let (words, numbers, rounds, has_stuck_worker) = *row;
+    let line = options(alloc, words).map_err(|_| "refused")?;
+    assert_at(rt, words, parts(line), ("storm", ["r", "u", "a"], numbers));
+    assert_at(
+        rt,
+        words,
+        storm_parts(line),
+        Some((rounds, has_stuck_worker)),
+    );
+    Ok(())
+}
+
+#[test]
+fn storm_with_its_defaults_and_each_option(rt: HostRuntime) -> Result<(), Fail> {
+    for row in &STORMS {
+        assert_storm(&rt, rt.alloc(), row)?;
+    }
+    Ok(())
 }
 
 const MIGRATES: [Asked; 2] = [

@@ -5,6 +5,7 @@ use super::cases::{Ending, assert_ends, run_line, text};
 use super::fakes::{AtBad, BreakingFiles, Named, whole, writer};
 use std::io::ErrorKind;
 use std::process::Abort;
+use std::sync::Wait;
 use std::test::Fail;
 use std::thread::Threads;
 
@@ -27,11 +28,13 @@ const APPLY: &str = "lpmtool apply r u a";
 
 const REPORT: &str = "lpmtool report r u";
 
+const STORM: &str = "lpmtool storm r u a";
+
 const MIGRATE: &str = "lpmtool migrate o";
 
 // A command, and each of its files with the number of reads that are made of it: one for each byte,
 // and one that finds the end.
-static READS: [(&str, &str, usize); 8] = [
+static READS: [(&str, &str, usize); 11] = [
     (LOOKUP, "r", 14),
     (LOOKUP, "a", 19),
     (APPLY, "r", 14),
@@ -39,11 +42,14 @@ static READS: [(&str, &str, usize); 8] = [
     (APPLY, "a", 19),
     (REPORT, "r", 14),
     (REPORT, "u", 21),
+    (STORM, "r", 14),
+    (STORM, "u", 21),
+    (STORM, "a", 19),
     (MIGRATE, "o", 7),
 ];
 
 // A run ends so at which a read fails.
-fn assert_broken<R: Abort + AllocGlobal + Threads + Sync>(
+fn assert_broken<R: Abort + AllocGlobal + Threads + Wait + Sync>(
     rt: &R,
     line: &str,
     breaks: &str,
@@ -61,7 +67,7 @@ fn assert_broken<R: Abort + AllocGlobal + Threads + Sync>(
 }
 
 // Each read of the file fails in turn.
-fn each_read_fails<R: Abort + AllocGlobal + Threads + Sync>(
+fn each_read_fails<R: Abort + AllocGlobal + Threads + Wait + Sync>(
     rt: &R,
     line: &str,
     breaks: &str,
@@ -115,7 +121,7 @@ fn assert_whole(rt: &impl Abort, row: (&str, usize), ending: Ending<'_>, text: &
 }
 
 // A run of which one write is bad.
-fn assert_written<R: Abort + AllocGlobal + Threads + Sync>(
+fn assert_written<R: Abort + AllocGlobal + Threads + Wait + Sync>(
     rt: &R,
     line: &str,
     whole_text: &str,
@@ -142,6 +148,18 @@ fn writes_that_fail(rt: HostRuntime) -> Result<(), Fail> {
             assert_written(&rt, line, text, bad, AtBad::TakesNone)?;
             assert_written(&rt, line, text, bad, AtBad::IsInterrupted)?;
         }
+    }
+    Ok(())
+}
+
+const STORM_TEXT: &str = "answers 2\nrefused 0\nwrong 0\n\
+    rules 0\nversions 2\nin use 0\nlimbo 0\nfree 256\ntoken 2\n";
+
+// Each write of a storm's text fails in turn. Each run makes a table of threads, which takes long.
+#[test]
+fn writes_of_a_storm_that_fail(rt: HostRuntime) -> Result<(), Fail> {
+    for bad in 1..=27 {
+        assert_written(&rt, STORM, STORM_TEXT, bad, AtBad::Fails)?;
     }
     Ok(())
 }

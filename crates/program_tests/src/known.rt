@@ -1,19 +1,21 @@
 //! Files whose bytes are known, and a writer whose contents are: what each command promises there.
-ghost use Rattle.std.specs.Prelude.{Some, ◌≡◌, ◌++◌, true, ℕ, List};
+ghost use Rattle.std.specs.Prelude.{Some, ◌≡◌, ◌++◌, true, false, ℕ, List};
 ghost use Rattle.lpm_limits.specs.Limits.{IsConfig};
 ghost use Rattle.lpm_commands.specs.Lookup.{IsLookupText};
 ghost use Rattle.lpm_commands.specs.Apply.{IsApplyText};
 ghost use Rattle.lpm_commands.specs.Report.{IsReportText};
+ghost use Rattle.lpm_commands.specs.Storm.{IsStormText};
 ghost use Rattle.lpm_commands.specs.Migrate.{IsMigrateText};
 
 use bulk::{Gate, Open};
-use lpm_commands::{apply, lookup, migrate, report};
+use lpm_commands::{apply, lookup, migrate, report, storm};
 use lpm_files::Files;
 use qsbr::Config;
 use std::alloc::Global;
 use std::io;
 use std::io::Read;
 use std::process::Abort;
+use std::sync::Wait;
 use std::thread::Threads;
 
 // Bytes that are left to read.
@@ -72,13 +74,14 @@ pub(crate) fn known_lookup<R: Threads + Sync, G: Gate>(
 }
 
 /// `apply` where the bytes are known.
-fn known_apply<R: Threads + Sync>(
+pub(crate) fn known_apply<R: Threads + Sync, G: Gate>(
     rt: &R,
     alloc: Global,
     routes: &str,
     updates: &str,
     addresses: &str,
     config: Config,
+    gate: &G,
     out: &mut Vec<u8>,
 ) -> bool
     requires { IsConfig config }
@@ -87,7 +90,10 @@ fn known_apply<R: Threads + Sync>(
         × (out.new.items ≡ out.old.items ++ text) }
 {
     let files = Paths { alloc };
-    apply(rt, alloc, &files, routes, updates, addresses, config, out).is_ok()
+    apply(
+        rt, alloc, &files, routes, updates, addresses, config, gate, out,
+    )
+    .is_ok()
 }
 
 /// `report` where the bytes are known.
@@ -105,6 +111,29 @@ fn known_report(
 {
     let files = Paths { alloc };
     report(alloc, &files, routes, updates, config, out).is_ok()
+}
+
+/// `storm` without a stuck worker, where the bytes are known.
+pub(crate) fn known_storm<R: Threads + Wait + Sync, G: Gate>(
+    rt: &R,
+    alloc: Global,
+    routes: &str,
+    updates: &str,
+    addresses: &str,
+    config: Config,
+    rounds: usize,
+    gate: &G,
+    out: &mut Vec<u8>,
+) -> bool
+    ensures { result ≡ true → (text : List ℕ)
+        × IsStormText config rounds false (Some routes.now) (Some updates.now) (Some addresses.now) text
+        × (out.new.items ≡ out.old.items ++ text) }
+{
+    let files = Paths { alloc };
+    storm(
+        rt, alloc, &files, routes, updates, addresses, config, rounds, false, gate, out,
+    )
+    .is_ok()
 }
 
 /// `migrate` where the bytes are known.
@@ -125,9 +154,11 @@ const ADDRESSES: &str = "10.1.1.128\n";
 
 const OLD: &str = "del 1.2.3.4/8\n";
 
-// What the four commands write, one after the other.
+// What the five commands write, one after the other.
 const TEXT: &str = "10.1.1.128 3\ndeleted 3\n10.1.1.128 1\n\
     rules 1\nversions 3\nin use 0\nlimbo 1\nfree 255\ntoken 2\n\
+    answers 2\nrefused 0\nwrong 0\n\
+    rules 1\nversions 3\nin use 0\nlimbo 0\nfree 256\ntoken 3\n\
     lpm-updates 2\ndel 1.0.0.0/8\n";
 
 /// What was asked for is done, and this text was written.
@@ -136,13 +167,14 @@ pub(crate) fn assert_wrote(rt: &impl Abort, is_done: bool, out: &[u8], text: &st
     assert_eq!(rt; str::from_utf8(out), Ok(text));
 }
 
-// Runs the four commands. Which of them were done.
-fn run_each<R: Threads + Sync>(rt: &R, alloc: Global, out: &mut Vec<u8>) -> [bool; 4] {
+// Runs the five commands. Which of them were done.
+fn run_each<R: Threads + Wait + Sync>(rt: &R, alloc: Global, out: &mut Vec<u8>) -> [bool; 5] {
     let config = Config::default();
     [
         known_lookup(rt, alloc, ROUTES, ADDRESSES, config, &Open, out),
-        known_apply(rt, alloc, ROUTES, UPDATES, ADDRESSES, config, out),
+        known_apply(rt, alloc, ROUTES, UPDATES, ADDRESSES, config, &Open, out),
         known_report(alloc, ROUTES, UPDATES, config, out),
+        known_storm(rt, alloc, ROUTES, UPDATES, ADDRESSES, config, 2, &Open, out),
         known_migrate(alloc, OLD, out),
     ]
 }
@@ -151,5 +183,5 @@ fn run_each<R: Threads + Sync>(rt: &R, alloc: Global, out: &mut Vec<u8>) -> [boo
 fn known_bytes_in_and_out(rt: HostRuntime) {
     let mut out = Vec::new(rt.alloc());
     let done = run_each(&rt, rt.alloc(), &mut out);
-    assert_wrote(&rt, done == [true; 4], &out, TEXT);
+    assert_wrote(&rt, done == [true; 5], &out, TEXT);
 }

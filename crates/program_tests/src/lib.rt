@@ -26,3 +26,5 @@ mod meeting;
 mod refusals;
 #[cfg(test)]
 mod words;
+#[cfg(test)]
+mod wrong_answers;

@@ -1,7 +1,11 @@
 use Rattle.std.proofs.Common.{codes, rules}
 use Rattle.clap.specs.Words.{rows_of, found_of}
-use Rattle.lpm_options.proofs.Limits.{limits_of}
+use Rattle.lpm_options.proofs.Limits.{limits_of, no_files}
 use Rattle.lpm_options.proofs.asked.apply_line.Goals as goal
+
+pub returns-in_err-routes-clause-none : goal.returns-in_err-routes-clause-none
+returns-in_err-routes-clause-none c = λ _ line asks.
+    no_files (codes "apply") (rows_of (found_of c.args.found.now)) line asks (λ e. absurd cc) (λ e. absurd cc) (λ e. absurd cc) (c.in_err-routes.ensures.none (search rules))
 
 pub returns-in_err-config-clause-none : goal.returns-in_err-config-clause-none
 returns-in_err-config-clause-none c = λ _ line asks.

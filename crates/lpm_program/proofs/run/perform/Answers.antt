@@ -23,3 +23,12 @@ returns-in-Report-clause-done g c = rw c.in-Report.is c.report.ensures.done
 
 pub returns-in-Report-clause-begun : goal.returns-in-Report-clause-begun
 returns-in-Report-clause-begun g c = rw c.in-Report.is c.report.ensures.beginning
+
+pub returns-in-Storm-clause-done : goal.returns-in-Storm-clause-done
+returns-in-Storm-clause-done g c = rw c.in-Storm.is c.storm.ensures.done
+
+pub returns-in-Storm-clause-begun : goal.returns-in-Storm-clause-begun
+returns-in-Storm-clause-begun g c = rw c.in-Storm.is c.storm.ensures.beginning
+
+pub returns-in-Storm-clause-failure : goal.returns-in-Storm-clause-failure
+returns-in-Storm-clause-failure g c = rw c.in-Storm.is c.storm.ensures.failure

@@ -1,0 +1,20 @@
+use Rattle.std.proofs.Common.{codes, rules}
+use Rattle.clap.specs.Words.{rows_of, found_of}
+use Rattle.lpm_options.proofs.Limits.{limits_of, no_files, no_rounds}
+use Rattle.lpm_options.proofs.asked.storm_line.Goals as goal
+
+pub returns-in_err-routes-clause-none : goal.returns-in_err-routes-clause-none
+returns-in_err-routes-clause-none c = λ _ line asks.
+    no_files (codes "storm") (rows_of (found_of c.args.found.now)) line asks (λ e. absurd cc) (λ e. absurd cc) (λ e. absurd cc) (c.in_err-routes.ensures.none (search rules))
+
+pub returns-in_err-config-clause-none : goal.returns-in_err-config-clause-none
+returns-in_err-config-clause-none c = λ _ line asks.
+    let limits = limits_of (codes "storm") (rows_of (found_of c.args.found.now)) line asks (λ e. absurd cc) in
+    c.in_err-config.ensures.none (search rules) limits.0 limits.1
+
+pub returns-in_err-rounds-clause-none : goal.returns-in_err-rounds-clause-none
+returns-in_err-rounds-clause-none c = λ _ line asks.
+    no_rounds (rows_of (found_of c.args.found.now)) line asks (c.in_err-rounds.ensures.none (search rules))
+
+pub returns-clause-asked : goal.returns-clause-asked
+returns-clause-asked c = search rules
