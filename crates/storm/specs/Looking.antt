@@ -15,9 +15,9 @@ abbrev pub times : ℕ → List ℕ → List ℕ
 times zero addrs = []
 times (suc n) addrs = times n addrs ++ addrs
 
--- By these steps of the writer the answer for the address is that of a lookup: the longest match in the
--- rules of a version that stood between the lookup's first and last load of a word, and lies from `lo` to
--- `hi`.
+-- By these steps of the writer the answer for the address is the longest match in the rules of a version
+-- that stood at a place of a span, and lies from `lo` to `hi`. That the span, `lo` and `hi` are those of a
+-- lookup that the worker made is what `Pass::lookup` promises, and isn't said here.
 pub record IsToldBy (c : Setup) (w_steps : List WriterStep) (x : ℕ × Answer) : Type 0 where
   pub seen : Seen
   pub k : ℕ
