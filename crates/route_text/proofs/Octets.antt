@@ -2,8 +2,10 @@
 use Rattle.std.proofs.Common.{◌≡◌, ℕ, ◌+◌, ◌*◌, ◌<◌, List, [], ◌∷◌, ◌++◌, refl, sym, ap, ◌∙◌, arith, append_assoc}
 use Rattle.std.specs.Fmt.{decimal}
 use Rattle.std.proofs.lemmas.List.{append-nil}
+use Rattle.route_text.specs.declared.lines.End.{End}
+use Rattle.route_text.specs.declared.lines.End.TheVariants as ends
 use Rattle.route_text.specs.Fields.{IsAddress, dotted}
-use Rattle.route_text.specs.Starts.{StartsNumber, StartsNoDigit, StartsNextOctet, StartsNoNextOctet, StartsAddress}
+use Rattle.route_text.specs.Starts.{StartsNumber, StartsNoDigit, StartsNextOctet, StartsNoNextOctet, StartsAddress, StartsNumberBefore, StartsAddressBefore}
 use Rattle.route_text.proofs.Digits.{one_start}
 
 -- a dot, an octet and what stands after it
@@ -112,3 +114,25 @@ whole_address addr text is = record { front = text; address = is; split = sym (a
 
 pub one_address : (m n : ℕ) (text : List ℕ) → IsAddress text m → IsAddress text n → m ≡ n
 one_address m n text p q = (one_address_start m n text [] [] (whole_address m text p) (whole_address n text q)).0
+
+-- an address of which each octet was read with what stands after it
+pub octets_before : (end : End) (text r s t rest : List ℕ) (a b c d : ℕ) → StartsNumberBefore (ends.Byte 46) 255 text a r → StartsNumberBefore (ends.Byte 46) 255 r b s → StartsNumberBefore (ends.Byte 46) 255 s c t → StartsNumberBefore end 255 t d rest → StartsAddressBefore end text (((a * 256 + b) * 256 + c) * 256 + d) rest
+octets_before end text r s t rest a b c d p q u v =
+    let fourth : u.after ≡ after_dot d v.after = u.ends ∙ ap (λ x. 46 ∷ x) v.split in
+    let third : q.after ≡ after_dot c (after_dot d v.after) = q.ends ∙ ap (λ x. 46 ∷ x) (u.split ∙ ap (λ x. decimal c ++ x) fourth) in
+    let second : p.after ≡ after_dot b (after_dot c (after_dot d v.after)) = p.ends ∙ ap (λ x. 46 ∷ x) (q.split ∙ ap (λ x. decimal b ++ x) third) in
+    record {
+      front = dotted a b c d;
+      after = v.after;
+      address = record {
+        a = a;
+        b = b;
+        c = c;
+        d = d;
+        octets = (omega (arith, p.small), omega (arith, q.small), omega (arith, u.small), omega (arith, v.small));
+        spelled = refl;
+        value = refl;
+      };
+      split = p.split ∙ (ap (λ x. decimal a ++ x) second ∙ sym (regroup (decimal a) (decimal b) (decimal c) (decimal d) v.after));
+      ends = v.ends;
+    }

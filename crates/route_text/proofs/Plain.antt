@@ -8,13 +8,14 @@ use Rattle.std.proofs.lemmas.List.{append-nil, length-append, get_or_append_left
 use Rattle.std.proofs.lemmas.Str.Parse.{digit_from_value, digit_at}
 use Rattle.route_text.specs.Lines.{is_blank, onto_first, lines, fields}
 use Rattle.lpm_bits.specs.Network.{Network, masked}
+use Rattle.route_text.specs.declared.lines.End.TheVariants as ends
 use Rattle.route_text.specs.declared.grammar.Said.TheVariants as said
 use Rattle.route_text.specs.Fields.{IsNumber, IsAddress, IsPrefix}
-use Rattle.route_text.specs.Starts.{StartsNumber, StartsAddress}
+use Rattle.route_text.specs.Starts.{StartsNumberBefore, StartsAddressBefore}
 use Rattle.route_text.specs.Files.{SpellsAddress, HasAddressFault, SpellsRoute, HasRouteFault}
 use Rattle.route_text.specs.Says.{Says, SaysFirst}
 use Rattle.route_text.proofs.Cuts.{HasNoSlash, before_cut, after_cut}
-use Rattle.route_text.proofs.FirstLine.{IsWritten, written_line}
+use Rattle.route_text.proofs.FirstLine.{IsWritten, ended_line}
 use Rattle.route_text.proofs.Runs.{last_one, goes_on, cons_blank, nil_fields}
 
 -- each byte is past the space
@@ -79,16 +80,15 @@ unskipped text rest addr is e =
 some_address : (text : List ℕ) (addr : ℕ) → IsAddress text addr → 0 < length text
 some_address text addr is = rw is.spelled (simp (length-append) (omega arith))
 
-pub plain_address_line : (n addr : ℕ) (bytes after rest : List ℕ) → StartsAddress bytes addr after → after ≡ 10 ∷ rest → SaysFirst SpellsAddress HasAddressFault n bytes (said.Item addr) rest
-plain_address_line n addr bytes after rest is e =
+pub plain_address_line : (n addr : ℕ) (bytes rest : List ℕ) → StartsAddressBefore ends.Line bytes addr rest → SaysFirst SpellsAddress HasAddressFault n bytes (said.Item addr) rest
+plain_address_line n addr bytes rest is =
     let text = is.front in
     let plain = plain_address text addr is.address in
     let some = some_address text addr is.address in
     let fs = one_field text plain some in
-    let split : bytes ≡ text ++ 10 ∷ rest = is.split ∙ ap (λ t. text ++ t) e in
     record {
       line = text;
-      split = ap lines split ∙ written_line text (written_plain text plain) rest;
+      split = ap lines is.split ∙ ended_line text (written_plain text plain) is.after rest is.ends;
       says = subst (λ f. Says SpellsAddress HasAddressFault n f (said.Item addr)) (sym fs) (
         λ skipped. unskipped text [] addr is.address (ap (λ t. get_or t 0 0) (append-nil text) ∙ skipped),
         is.address,
@@ -128,11 +128,12 @@ prefix_of text after addr len prefix is number e = record {
   bits = rw e refl;
 }
 
-pub plain_route_line : (n addr len hop : ℕ) (prefix : Network) (bytes a b c d e rest : List ℕ)
-    → StartsAddress bytes addr a → a ≡ 47 ∷ b → StartsNumber 32 b len c → c ≡ 32 ∷ d → StartsNumber 16777215 d hop e → e ≡ 10 ∷ rest
+-- an address, a slash, a length, a space, a hop and the end of the line
+pub plain_route_line : (n addr len hop : ℕ) (prefix : Network) (bytes b d rest : List ℕ)
+    → StartsAddressBefore (ends.Byte 47) bytes addr b → StartsNumberBefore (ends.Byte 32) 32 b len d → StartsNumberBefore ends.Line 16777215 d hop rest
     → prefix ≡ record { bits = masked 32 len addr; len = len }
     → SaysFirst SpellsRoute HasRouteFault n bytes (said.Item (record { line = n; prefix = prefix; hop = hop })) rest
-plain_route_line n addr len hop prefix bytes a b c d e rest address slash length_is blank hop_is feed same =
+plain_route_line n addr len hop prefix bytes b d rest address length_is hop_is same =
     let text = address.front in
     let first = text ++ 47 ∷ decimal len in
     let second = decimal hop in
@@ -142,18 +143,17 @@ plain_route_line n addr len hop prefix bytes a b c d e rest address slash length
     let some_first : 0 < length first = omega (arith, length-append text (47 ∷ decimal len)) in
     let some_second : 0 < length second = decimal_nonempty hop (omega (arith, hop_is.small)) in
     let fs : fields line ≡ first ∷ second ∷ [] = field_before first second plain_first some_first ∙ ap (λ t. first ∷ t) (one_field second plain_second some_second) in
-    let back : d ≡ second ++ 10 ∷ rest = hop_is.split ∙ ap (λ t. second ++ t) feed in
-    let middle : b ≡ decimal len ++ 32 ∷ (second ++ 10 ∷ rest) = length_is.split ∙ ap (λ t. decimal len ++ t) (blank ∙ ap (λ t. 32 ∷ t) back) in
-    let split : bytes ≡ line ++ 10 ∷ rest = address.split ∙ (ap (λ t. text ++ t) (slash ∙ ap (λ t. 47 ∷ t) middle) ∙ regroup text (decimal len) second rest) in
+    let middle : b ≡ decimal len ++ 32 ∷ (second ++ hop_is.after) = length_is.split ∙ ap (λ t. decimal len ++ t) (length_is.ends ∙ ap (λ t. 32 ∷ t) hop_is.split) in
+    let split : bytes ≡ line ++ hop_is.after = address.split ∙ (ap (λ t. text ++ t) (address.ends ∙ ap (λ t. 47 ∷ t) middle) ∙ regroup text (decimal len) second hop_is.after) in
     let written : IsWritten line = written_append first (32 ∷ second) (written_plain first plain_first) (omega arith, written_plain second plain_second) in
     record {
       line = line;
-      split = ap lines split ∙ written_line line written rest;
+      split = ap lines split ∙ ended_line line written hop_is.after rest hop_is.ends;
       says = subst (λ f. Says SpellsRoute HasRouteFault n f (said.Item (record { line = n; prefix = prefix; hop = hop }))) (sym fs) (
         unskipped text (47 ∷ decimal len) addr address.address,
         (refl, prefix_of text (decimal len) addr len prefix address.address (record { small = length_is.small; spelled = refl }) same, record { small = hop_is.small; spelled = refl }),
       );
     }
   where
-    regroup : (t l h r : List ℕ) → t ++ 47 ∷ (l ++ 32 ∷ (h ++ 10 ∷ r)) ≡ t ++ 47 ∷ l ++ 32 ∷ h ++ 10 ∷ r
+    regroup : (t l h r : List ℕ) → t ++ 47 ∷ (l ++ 32 ∷ (h ++ r)) ≡ (t ++ 47 ∷ l ++ 32 ∷ h) ++ r
     regroup t l h r = sym (simp append_assoc)

@@ -6,8 +6,8 @@ ghost use Rattle.route_text.specs.Readings.{IsReadError};
 
 use super::fault::{FaultKind, ReadError};
 use super::grammar::{Grammar, read_items};
-use super::lines::next_field;
-use super::numbers::{address, after_byte, leading_address};
+use super::lines::{End, next_field};
+use super::numbers::{ADDRESS_ROOM, address, address_before};
 use std::alloc::Global;
 
 /// The grammar of an address file: an address.
@@ -31,9 +31,12 @@ impl Grammar for AddressLines {
     }
 
     #[inline(always)]
-    fn plain_line(_line: usize, bytes: &[u8]) -> Option<(u32, &[u8])> {
-        let (addr, rest) = leading_address(bytes)?;
-        Some((addr, after_byte(rest, b'\n')?))
+    fn plain_line(_line: usize, bytes: &[u8], at: usize) -> Option<(u32, usize)> {
+        if bytes.len() - at < ADDRESS_ROOM {
+            return None;
+        }
+        let (addr, next) = address_before(bytes, at, End::Line)?;
+        Some((addr, next))
     }
 }
 

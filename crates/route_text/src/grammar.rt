@@ -1,15 +1,19 @@
 //! Reading a file line by line, for any grammar of lines.
-ghost use Rattle.std.specs.Prelude.{ℕ, ◌+◌, ◌^◌, ◌<◌, List, ◌∷◌, IfSome, IfOk, IfErr, length};
+ghost use Rattle.std.specs.Prelude.{ℕ, ◌+◌, ◌^◌, ◌<◌, ◌≤◌, List, ◌∷◌, IfSome, IfOk, IfErr};
+ghost use Rattle.std.specs.Prelude.{length, drop};
 ghost use Rattle.route_text.specs.declared.fault.FaultKind.{FaultKind};
 ghost use Rattle.route_text.specs.declared.grammar.Said.TheVariants as Said;
 ghost use Rattle.route_text.specs.Lines.{lines, fields};
 ghost use Rattle.route_text.specs.Files.{AreItems, IsFirstFault};
 ghost use Rattle.route_text.specs.Readings.{IsReadError};
-ghost use Rattle.route_text.specs.Says.{Says, SaysFirst};
+ghost use Rattle.route_text.specs.Says.{Says, SaysFirst, SaysItems, SaysFault};
 
 use super::fault::{Fault, FaultKind, ReadError};
 use super::lines::{next_field, next_line};
 use std::alloc::Global;
+
+/// About how many bytes a line has. At first room is taken for the items of a file of such lines.
+const USUAL_LINE: usize = 16;
 
 /// What a line says.
 #[derive(Clone, Copy)]
@@ -36,11 +40,14 @@ pub(crate) trait Grammar {
         ensures item { IfOk result (Spells number (first.now ∷ fields rest.now)) }
         ensures fault { IfErr result (HasFault (first.now ∷ fields rest.now)) };
 
-    /// The item of the first line and what stands after the line, where the line is written
-    /// plainly: its bytes are read once. After `None` the line is read by its fields.
-    fn plain_line(number: usize, bytes: &[u8]) -> Option<(Self::Item, &[u8])>
-        ensures { IfSome result
-            (λ p. SaysFirst Spells HasFault number bytes.now (Said.Item p.0) p.1.now) };
+    /// The item of the line at this place, and the place after the line, where it is written
+    /// plainly: its bytes are read once. `None` may come for any line, which is then read by its
+    /// fields.
+    fn plain_line(number: usize, bytes: &[u8], at: usize) -> Option<(Self::Item, usize)>
+        requires { at ≤ length bytes.now }
+        ensures line { IfSome result (λ p. SaysFirst Spells HasFault number (drop at bytes.now)
+            (Said.Item p.0) (drop p.1 bytes.now)) }
+        ensures place { IfSome result (λ p. p.1 ≤ length bytes.now) };
 }
 
 /// What a line says: nothing, an item, or what is wrong with it.
@@ -59,17 +66,63 @@ fn read_line<G: Grammar>(number: usize, line: &[u8]) -> Said<G::Item>
     }
 }
 
-/// What the first line says, and what stands after it.
-#[inline(always)]
-fn read_first<G: Grammar>(number: usize, bytes: &[u8]) -> (Said<G::Item>, &[u8])
-    requires { 0 < length bytes.now }
-    ensures { SaysFirst G.Spells G.HasFault number bytes.now result.0 result.1.now }
+/// Items, how many lines were read for them, and what stands after these.
+struct Taken<'a, Item> {
+    items: Vec<Item>,
+    lines: usize,
+    rest: &'a [u8],
+}
+
+/// Adds the items of plain lines at the front of the bytes, as far as there is room for them, and
+/// up to the first line that isn't plain.
+///
+/// The function owns the list and isn't inlined, so the list's place and length stay in registers.
+#[inline(never)]
+fn take_plain<G: Grammar>(number: usize, bytes: &[u8], items: Vec<G::Item>) -> Taken<'_, G::Item>
+    requires { number + length (lines bytes.now) < 2 ^ 64 }
+    ensures { SaysItems G.Spells number bytes.now items.items result.items.items result.lines
+        result.rest.now }
 {
-    if let Some((item, rest)) = G::plain_line(number, bytes) {
-        return (Said::Item(item), rest);
+    let mut items = items;
+    let room = items.capacity() - items.len();
+    let mut lines = 0;
+    let mut end = 0;
+    while lines < room {
+        let Some((item, next)) = G::plain_line(number + lines, bytes, end) else {
+            break;
+        };
+        items.push_reserved(item);
+        lines += 1;
+        end = next;
     }
+    Taken {
+        items,
+        lines,
+        rest: &bytes[end..],
+    }
+}
+
+/// Adds the item of the first line, if it isn't blank or a comment, and gives what stands after it.
+fn take_line<G: Grammar>(
+    number: usize,
+    bytes: &[u8],
+    items: Vec<G::Item>,
+) -> Result<(Vec<G::Item>, &[u8]), ReadError>
+    requires { 0 < length bytes.now }
+    ensures taken { IfOk result
+        (λ p. SaysItems G.Spells number bytes.now items.items p.0.items 1 p.1.now) }
+    ensures error { IfErr result (IsReadError (SaysFault G.Spells G.HasFault number bytes.now)) }
+{
+    let mut items = items;
     let (line, rest) = next_line(bytes);
-    (read_line::<G>(number, line), rest)
+    match read_line::<G>(number, line) {
+        Said::Nothing => Ok((items, rest)),
+        Said::Item(item) => {
+            items.push(item)?;
+            Ok((items, rest))
+        }
+        Said::Fault(kind) => Err(ReadError::Fault(Fault { line: number, kind })),
+    }
 }
 
 /// The items of lines of which the first has the number `first`, or their first fault.
@@ -83,19 +136,27 @@ pub(crate) fn read_items<G: Grammar>(
     ensures error { IfErr result
         (IsReadError (IsFirstFault G.Spells G.HasFault first (lines bytes.now))) }
 {
-    let mut items = Vec::new(alloc);
+    let mut items = Vec::with_capacity(alloc, bytes.len() / USUAL_LINE)?;
     let mut read = 0;
     let mut rest = bytes;
     while !rest.is_empty() {
-        let number = first + read;
-        read += 1;
-        let (said, after) = read_first::<G>(number, rest);
-        match said {
-            Said::Nothing => {}
-            Said::Item(item) => items.push(item)?,
-            Said::Fault(kind) => return Err(ReadError::Fault(Fault { line: number, kind })),
+        items.reserve(1)?;
+        let Taken {
+            items: taken,
+            lines,
+            rest: after,
+        } = take_plain::<G>(first + read, rest, items);
+        read += lines;
+        if after.is_empty() {
+            return Ok(taken);
         }
-        rest = after;
+        let (longer, left) = match take_line::<G>(first + read, after, taken) {
+            Ok(line) => line,
+            Err(error) => return Err(error),
+        };
+        read += 1;
+        items = longer;
+        rest = left;
     }
     Ok(items)
 }

@@ -1,9 +1,19 @@
 //! Decimals and addresses.
-ghost use Rattle.std.specs.Prelude.{◌≡◌, ℕ, List, ◌∷◌, IfSome, IfNone};
+ghost use Rattle.std.specs.Prelude.{◌≡◌, ℕ, ◌+◌, ◌≤◌, List, ◌∷◌, IfSome, IfNone, length, drop};
 ghost use Rattle.route_text.specs.Fields.{IsNumber, IsAddress};
 ghost use Rattle.route_text.specs.Starts.{StartsNumber, StartsNoNumber};
 ghost use Rattle.route_text.specs.Starts.{StartsNextOctet, StartsNoNextOctet};
 ghost use Rattle.route_text.specs.Starts.{StartsAddress, StartsNoAddress};
+ghost use Rattle.route_text.specs.Starts.{StartsNumberBefore, StartsAddressBefore};
+
+use super::lines::{End, place_after};
+
+/// The bytes of a number of three digits and of its end, as `255` and CR LF.
+pub(crate) const NUMBER_ROOM: usize = 5;
+
+/// The bytes of four such numbers: so many are left where an address is read in place, so that no
+/// byte of it needs a test of the text's length.
+pub(crate) const ADDRESS_ROOM: usize = 4 * NUMBER_ROOM;
 
 /// The number of at most `max` that the text begins with, and what stands after its digits.
 #[inline(always)]
@@ -81,4 +91,69 @@ pub(crate) fn address(text: &[u8]) -> Option<u32>
 {
     let (addr, rest) = leading_address(text)?;
     if rest.is_empty() { Some(addr) } else { None }
+}
+
+/// The digit that the byte writes, or a number past 9 where it writes none.
+#[inline(always)]
+fn digit(byte: u8) -> u32
+    ensures { result ≤ 9 → byte ≡ 48 + result }
+{
+    u32::from(byte).wrapping_sub(48)
+}
+
+/// The number of at most `max` at this place that `end` stands after, and the place after that end.
+///
+/// `None` comes for a number of four digits or more too. `max` is 9 or more.
+#[inline(always)]
+pub(crate) fn number_before(bytes: &[u8], at: usize, max: u32, end: End) -> Option<(u32, usize)>
+    requires room { at + NUMBER_ROOM ≤ length bytes.now }
+    requires most { 9 ≤ max }
+    ensures number { IfSome result
+        (λ p. StartsNumberBefore end max (drop at bytes.now) p.0 (drop p.1 bytes.now)) }
+    ensures place { IfSome result (λ p. p.1 ≤ at + NUMBER_ROOM) }
+{
+    let first = digit(bytes[at]);
+    if first > 9 {
+        return None;
+    }
+    let second = digit(bytes[at + 1]);
+    if second > 9 {
+        let next = place_after(bytes, at + 1, end)?;
+        return Some((first, next));
+    }
+    if first == 0 {
+        return None;
+    }
+    let two = first * 10 + second;
+    let third = digit(bytes[at + 2]);
+    if third > 9 {
+        if two > max {
+            return None;
+        }
+        let next = place_after(bytes, at + 2, end)?;
+        return Some((two, next));
+    }
+    let three = two * 10 + third;
+    if three > max {
+        return None;
+    }
+    let next = place_after(bytes, at + 3, end)?;
+    Some((three, next))
+}
+
+/// The address at this place that `end` stands after, and the place after that end.
+#[inline(always)]
+pub(crate) fn address_before(bytes: &[u8], at: usize, end: End) -> Option<(u32, usize)>
+    requires { at + ADDRESS_ROOM ≤ length bytes.now }
+    ensures address { IfSome result
+        (λ p. StartsAddressBefore end (drop at bytes.now) p.0 (drop p.1 bytes.now)) }
+    ensures place { IfSome result (λ p. p.1 ≤ at + ADDRESS_ROOM) }
+{
+    let (a, at) = number_before(bytes, at, 255, End::Byte(b'.'))?;
+    let (b, at) = number_before(bytes, at, 255, End::Byte(b'.'))?;
+    let ab = a * 256 + b;
+    let (c, at) = number_before(bytes, at, 255, End::Byte(b'.'))?;
+    let abc = ab * 256 + c;
+    let (d, at) = number_before(bytes, at, 255, end)?;
+    Some((abc * 256 + d, at))
 }

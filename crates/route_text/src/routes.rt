@@ -1,12 +1,14 @@
 //! The route file.
-ghost use Rattle.std.specs.Prelude.{IfOk, IfErr};
+ghost use Rattle.std.specs.Prelude.{◌+◌, ◌≤◌, ◌<◌, IfOk, IfErr, IfSome, length, drop};
+ghost use Rattle.route_text.specs.declared.lines.End.TheVariants as ends;
+ghost use Rattle.route_text.specs.Starts.{StartsNumberBefore};
 ghost use Rattle.route_text.specs.Files.{AreRoutes, IsRoutesFault, SpellsRoute, HasRouteFault};
 ghost use Rattle.route_text.specs.Readings.{IsReadError};
 
 use super::fault::{FaultKind, ReadError};
 use super::grammar::{Grammar, read_items};
-use super::lines::next_field;
-use super::numbers::{after_byte, leading_address, leading_number};
+use super::lines::{End, next_field, place_after};
+use super::numbers::{ADDRESS_ROOM, NUMBER_ROOM, address_before, leading_number, number_before};
 use super::prefixes::{LAST_HOP, LONGEST, hop, prefix};
 use lpm_bits::{Hop, Prefix};
 use std::alloc::Global;
@@ -18,6 +20,9 @@ pub struct Route {
     pub prefix: Prefix<24, 8>,
     pub hop: Hop,
 }
+
+/// The bytes of an address and two such numbers: so many are left where a line is read in place.
+const LINE_ROOM: usize = ADDRESS_ROOM + 2 * NUMBER_ROOM;
 
 /// The grammar of a route file: a prefix and a hop.
 pub(crate) struct RouteLines;
@@ -44,19 +49,47 @@ impl Grammar for RouteLines {
     }
 
     #[inline(always)]
-    fn plain_line(line: usize, bytes: &[u8]) -> Option<(Route, &[u8])> {
-        let (addr, rest) = leading_address(bytes)?;
-        let (len, rest) = leading_number(after_byte(rest, b'/')?, LONGEST)?;
-        let (number, rest) = leading_number(after_byte(rest, b' ')?, LAST_HOP)?;
-        let rest = after_byte(rest, b'\n')?;
+    fn plain_line(line: usize, bytes: &[u8], at: usize) -> Option<(Route, usize)> {
+        if bytes.len() - at < LINE_ROOM {
+            return None;
+        }
+        let (addr, at) = address_before(bytes, at, End::Byte(b'/'))?;
+        let (len, at) = number_before(bytes, at, LONGEST, End::Byte(b' '))?;
         let Ok(prefix) = Prefix::new(addr, len) else {
             return None;
         };
-        let Ok(hop) = Hop::new(number) else {
-            return None;
-        };
-        Some((Route { line, prefix, hop }, rest))
+        // (most hops have three digits or fewer)
+        if let Some((number, next)) = number_before(bytes, at, 999, End::Line) {
+            let Ok(hop) = Hop::new(number) else {
+                return None;
+            };
+            return Some((Route { line, prefix, hop }, next));
+        }
+        let (hop, next) = long_hop_before(bytes, at)?;
+        Some((Route { line, prefix, hop }, next))
     }
+}
+
+/// The hop at this place that the line ends after, and the place after the line.
+///
+/// It may have any count of digits. It is the slow way, for hops of more than three.
+#[cold]
+#[inline(never)]
+fn long_hop_before(bytes: &[u8], at: usize) -> Option<(Hop, usize)>
+    requires { at ≤ length bytes.now }
+    ensures hop { IfSome result
+        (λ p. StartsNumberBefore ends.Line LAST_HOP (drop at bytes.now) p.0 (drop p.1 bytes.now)) }
+    ensures place { IfSome result (λ p. p.1 ≤ length bytes.now) }
+{
+    let (number, rest) = leading_number(&bytes[at..], LAST_HOP)?;
+    if rest.len() < 2 {
+        return None;
+    }
+    let next = place_after(rest, 0, End::Line)?;
+    let Ok(hop) = Hop::new(number) else {
+        return None;
+    };
+    Some((hop, bytes.len() - rest.len() + next))
 }
 
 /// The routes of the file, in the order of their lines.
