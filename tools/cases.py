@@ -193,6 +193,41 @@ SECOND_HALF = "add 10.0.0.0/25 1\nadd 10.0.0.128/25 2\ndel 10.0.0.0/25\nadd 10.0
 FULL_BLOCK = "".join(f"10.0.0.{octet}/32 9\n" for octet in range(256))
 EACH_WORD = "\tdel 1.2.3.4/32\r\nreclaim 65536\n\nonline 4294967295\noffline 0\nquiescent 7"
 EACH_WORD_NEW = "lpm-updates 2\ndel 1.2.3.4/32\nreclaim 65536\nonline 4294967295\noffline 0\nquiescent 7\n"
+EDGES = (0, 9, 10, 99, 100, 199, 200, 255)
+HOP_EDGES = (0, 9, 10, 99, 100, 255, 256, 999, 1000, 65535, 999_999, 1_000_000, 16_777_215)
+BLOCK_ROUTES = "10.0.0.0/8 7\n10.0.0.63/32 300\n10.0.0.64/32 16777215\n"
+MIXED_ROUTES = """10.0.0.0/8 1\r
+11.0.0.0/8 2
+# c\r
+\r
+ \t12.0.0.0/8\t3 \r
+13.0.0.0/8 4
+14.0.0.0/8 1000\r
+15.0.0.0/8 6
+16.0.0.0/8 16777215\r
+17.0.0.0/8 8"""
+MIXED_ADDRESSES = """10.0.0.1\r
+11.0.0.1
+
+# c\r
+ 12.0.0.1\r
+13.0.0.1\t
+14.0.0.1\r
+15.0.0.1
+16.0.0.1\r
+17.0.0.1
+18.0.0.1"""
+MIXED_ANSWERS = """10.0.0.1 1
+11.0.0.1 2
+12.0.0.1 3
+13.0.0.1 4
+14.0.0.1 1000
+15.0.0.1 6
+16.0.0.1 16777215
+17.0.0.1 8
+18.0.0.1 -
+"""
+FOUR_ROUTES, FOUR_ADDRESSES = "10.0.0.0/8 1\n" * 4, "10.0.0.0\n" * 4
 LACKING = "the following required arguments were not provided:\n"
 TWICE_GIVEN = "cannot be used multiple times"
 TWO_INPUTS = "lpmtool: only one file can be `-`, standard input\n"
@@ -238,6 +273,16 @@ CASES = [
     answered("default-route-line", "0.0.0.0/0 1\n", "0.0.0.0 10.0.0.0 255.255.255.255", "1 1 1", refusing=False),
     answered("one-prefix-twice", "10.0.0.0/8 1\n10.0.0.0/8 2\n", "10.0.0.1 10.0.0.1", "2 2", "--rules 1",
              refusing=False),
+    # Lines of each form beside one another, and answers of more than one block.
+    case("mixed-lines", "lookup r a", {"r": MIXED_ROUTES, "a": MIXED_ADDRESSES}, out=MIXED_ANSWERS),
+    answered("octets", "0.0.0.0/0 1\n", " ".join(".".join(str(EDGES[(first + step) % 8]) for step in range(4))
+                                                 for first in range(8)), "1 " * 8, refusing=False),
+    answered("hops", "".join(f"10.0.0.{octet}/32 {hop}\n" for octet, hop in enumerate(HOP_EDGES)),
+             " ".join(f"10.0.0.{octet}" for octet in range(len(HOP_EDGES))), " ".join(map(str, HOP_EDGES)),
+             refusing=False),
+    *(answered(f"answers-{count}", BLOCK_ROUTES, " ".join(f"10.0.0.{octet}" for octet in range(count)),
+               " ".join({63: "300", 64: "16777215"}.get(octet, "7") for octet in range(count)), refusing=False)
+      for count in (63, 64, 65, 128, 129)),
     *(case(f"five-addresses-{count}", f"lookup --workers {count} r a", {"r": RT, "a": FIVE}, out=FIVE_ANSWERS,
            refusing=False) for count in (1, 2, 8, 1024)),
     helped("help", "--help", "program.txt"),
@@ -382,6 +427,15 @@ CASES = [
     fault("comment-behind-a-route", "10.0.0.0/8 1 #", "1: bad fields", refusing=False),
     fault("cut-line", "10.0.0.0/8 1\n10.1.0.0/16", "2: bad fields"),
     fault("skipped-lines-count", "# c\n\n10.0.0.0/8 x\n", "3: bad hop", refusing=False),
+    *(fault(f"between-routes-{number}", f"{FOUR_ROUTES}{line}\n{FOUR_ROUTES}", f"5: bad {kind}", refusing=False)
+      for number, (line, kind) in enumerate((
+          ("10.0.0.256/8 1", "address"), ("10.0.00.0/8 1", "address"), ("010.0.0.0/8 1", "address"),
+          ("1000.0.0.0/8 1", "address"), ("10.0.0.0\r/8 1", "address"), ("10.0.0.0/33 1", "length"),
+          ("10.0.0.0/08 1", "length"), ("10.0.0.0/100 1", "length"), ("10.0.0.0/8\r 1", "length"),
+          ("10.0.0.0/8 16777216", "hop"), ("10.0.0.0/8 01", "hop"), ("10.0.0.0/8 1\r\r", "hop")))),
+    *(case(f"between-addresses-{number}", "lookup r a", {"r": "", "a": f"{FOUR_ADDRESSES}{line}\n{FOUR_ADDRESSES}"}, 4,
+           err="lpmtool: a:5: bad address\n", refusing=False)
+      for number, line in enumerate(("10.0.0.256", "10.0.0.01", "10.0.0.1000", "10.0.0.1\r\r", "10.0.0\r.1"))),
     case("bad-standard-input", "lookup - a", {"a": ""}, 4, err="lpmtool: -:2: bad fields\n", stdin="\n10.0.0.0/8\n"),
     case("bad-address", "lookup r a", {"r": RT, "a": "1.2.3.4\n1.2.3\n"}, 4, err="lpmtool: a:2: bad address\n"),
     case("first-file-first", "lookup r a", {"r": "x", "a": "x"}, 4, err="lpmtool: r:1: bad fields\n"),
