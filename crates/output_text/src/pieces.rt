@@ -3,7 +3,7 @@ ghost use Rattle.std.specs.Prelude.{◌≡◌, ◌++◌, OnOk, decimal};
 ghost use Rattle.lpm_bits.specs.Network.{IsNetwork};
 ghost use Rattle.output_text.specs.Texts.{address_text, prefix_text, holder_text};
 
-use crate::answers::put_address;
+use crate::answers::{ADDRESS_ROOM, put_address};
 use itoa::Buffer;
 use lpm_bits::Prefix;
 use std::alloc::AllocError;
@@ -29,8 +29,8 @@ pub(crate) fn put_holder(text: &mut Vec<u8>, worker: usize, counter: u64) -> Res
 fn put_octets(text: &mut Vec<u8>, addr: u32) -> Result<(), AllocError>
     ensures { OnOk result (text.new.items ≡ text.old.items ++ address_text addr) }
 {
-    let mut octets = [0; 15];
-    let start = put_address(addr, &mut octets, 15);
+    let mut octets = [0; ADDRESS_ROOM];
+    let start = put_address(addr, &mut octets, ADDRESS_ROOM);
     text.extend_from_slice(&octets[start..])
 }
 
