@@ -1,0 +1,10 @@
+use Rattle.std.proofs.Common.{◌≡◌, ◌⊎◌, ℕ, ◌<◌, ◌≤◌}
+use Rattle.lpm_sweep.specs.Listed.{place, prefix_at}
+use Rattle.lpm_sweep.proofs.ordering.are_in_order.Given as goal
+
+abbrev pub invariant-loop-rule : goal.invariant-loop-rule
+invariant-loop-rule g l = record {
+  ordered : (j k : ℕ) → j ≤ k → k < l.rule-index → place (prefix_at l.rules j) ≤ place (prefix_at l.rules k);
+  last : (l.last ≡ 0) ⊎ ((j : ℕ) × (j < l.rule-index) × (place (prefix_at l.rules j) ≡ l.last));
+  below : (j : ℕ) → j < l.rule-index → place (prefix_at l.rules j) ≤ l.last;
+}

@@ -1,0 +1,190 @@
+use Rattle.std.proofs.Common.{arith, ◌≡◌, ℕ, ◌+◌, ◌*◌, ◌/◌, ◌%◌, ◌^◌, ◌<◌, ◌≤◌, ap, sym, ◌∙◌, subst, length, lit<, take, List, []}
+use Rattle.std.proofs.lemmas.Nat.{one_shl, pow_pos, le-div}
+use Rattle.std.proofs.lemmas.List.{take_all}
+use Rattle.std.specs.FinMap.{insert, empty, get-empty}
+use Rattle.lpm_rules.specs.RuleMap.{RuleMap, network_cmp}
+use Rattle.lpm_rules.specs.declared.Rule.{Rule}
+use Rattle.std.specs.FinSet as set
+use Rattle.std.specs.Ordering.{nat_cmp}
+use Rattle.lpm_rules.specs.Deep.{block_of, deep_blocks}
+use Rattle.lpm_rules.proofs.Changes.{not_some}
+use Rattle.lpm_rules.proofs.DeepChanges.{deep_blocks_empty, deep_blocks_insert_short}
+use Rattle.lpm_update.proofs.Places.{block_low}
+use Rattle.lpm_update.specs.Represents.{Represents}
+use Rattle.std.proofs.lemmas.Grind.{common_steps}
+use Rattle.lpm_sweep.specs.Frames.{held}
+use Rattle.lpm_sweep.specs.Listed.{place, prefix_at, rules_of, AllUpTo}
+use Rattle.lpm_sweep.specs.Swept.{IsSwept, AreNumbered}
+use Rattle.lpm_sweep.proofs.Orders.{up_to_insert, up_to_more}
+use Rattle.lpm_sweep.proofs.Lists.{prefix_read, rules_more}
+use Rattle.lpm_sweep.proofs.Sweeps.{swept_on, numbered_on}
+use Rattle.lpm_sweep.proofs.Wholes.{swept_none, numbered_none, swept_all}
+use Rattle.lpm_sweep.proofs.DeepBlocks.{more_blocks}
+use Rattle.lpm_sweep.proofs.sweeping.sweep.Goals as goal
+
+pub loop-next-init : goal.loop-next-init
+loop-next-init g c =
+    let f = g.row.FIRST in
+    let s = g.row.SECOND in
+    let none : c.in_ok-firsts.firsts.items ≡ [] = c.in_ok-firsts.ensures.items in
+    let zero_words = ap {B = ℕ} (λ l. length l) none in
+    record {
+      within = omega arith;
+      few = let e = ap {B = ℕ} (λ l. length l) c.new-blocks.ensures.items in omega (arith, e);
+      count = ap {B = ℕ} (λ l. length l) c.new-blocks.ensures.items ∙ sym (ap set.len (deep_blocks_empty f s) ∙ set.len-empty nat_cmp);
+      numbered = subst (λ (F : List ℕ). AreNumbered F c.new-blocks.result.items) (sym none) (subst (λ (B : List ℕ). AreNumbered [] B) (sym c.new-blocks.ensures.items) numbered_none);
+      reached = λ k l h. subst (λ (F : List ℕ). length F * 2 ^ s * 64 ≤ place (prefix_at c.args.rules.now k)) (sym none) (omega arith);
+      before = λ k l h q some. absurd (not_some (get-empty network_cmp q) some);
+      swept = subst (λ m. IsSwept f s m empty (record { firsts = c.in_ok-firsts.firsts.items; seconds = c.new-seconds.result.items }) (held c.new-outer.result)) (sym (ap {B = ℕ} (λ l. length l) c.new-blocks.ensures.items))
+          (subst (λ (F : List ℕ). IsSwept f s 0 empty (record { firsts = F; seconds = c.new-seconds.result.items }) (held c.new-outer.result)) (sym none)
+          (subst (λ (S : List ℕ). IsSwept f s 0 empty (record { firsts = []; seconds = S }) (held c.new-outer.result)) (sym c.new-seconds.ensures.items)
+          (swept_none f s (held c.new-outer.result) (λ k. c.new-outer.ensures k ∙ c.to_word-miss.ensures.value))));
+    }
+
+pub put_short-requires : goal.put_short-requires
+put_short-requires g c =
+    let f = g.row.FIRST in
+    let s = g.row.SECOND in
+    let rs = c.args.rules.now in
+    let n = c.loop-next.next in
+    let inv = c.loop-next.invariant in
+    let p = c.index-rules-next.result.prefix in
+    let read : prefix_at rs n ≡ p = prefix_read rs n c.index-rules-next.result c.loop-next-test.true c.index-rules-next.is in
+    let F = c.loop-next.firsts.items in
+    let reach : length F * 2 ^ s * 64 ≤ place p = subst (λ q. length F * 2 ^ s * 64 ≤ place q) read (inv.reached n (omega arith) c.loop-next-test.true) in
+    let short = c.bits-bits.ensures.network.0 in
+    let fits = c.requires.shape.2 in
+    let low : length F * 2 ^ s ≤ p.bits = omega (arith, reach, short, fits) in
+    (lit< tt, (c.requires.shape, (subst (λ x. x ≤ f) c.len.ensures.value c.if-len.true, le-div (length F) p.bits (2 ^ s) (pow_pos s) low)))
+
+pub loop-next-preserved-then-len : goal.loop-next-preserved-then-len
+loop-next-preserved-then-len g c =
+    let f = g.row.FIRST in
+    let s = g.row.SECOND in
+    let rs = c.args.rules.now in
+    let n = c.loop-next.next in
+    let inv = c.loop-next.invariant in
+    let r = c.index-rules-next.result in
+    let p = r.prefix in
+    let read : prefix_at rs n ≡ p = prefix_read rs n r c.loop-next-test.true c.index-rules-next.is in
+    let next : (k : ℕ) → n + 1 ≤ k → k < length rs → place p ≤ place (prefix_at rs k) = λ k l h. subst (λ q. place q ≤ place (prefix_at rs k)) read (c.requires.sorted n k (omega (arith, l)) h) in
+    let more = rules_more rs n r c.loop-next-test.true c.index-rules-next.is in
+    let R = rules_of (take n rs) in
+    let before : AllUpTo R (place p) = subst (λ q. AllUpTo R (place q)) read (inv.before n (omega arith) c.loop-next-test.true) in
+    let test = c.loop-next-test.true in
+    let low : length c.put_short.new.words.items * 2 ^ s ≤ p.bits = subst (λ x. x * 2 ^ s ≤ p.bits) (sym c.in_ok-put_short.ensures.len) (block_low s p.bits) in
+    record {
+      within = omega (arith, test);
+      few = inv.few;
+      count = inv.count ∙ sym (ap (λ (x : RuleMap). set.len (deep_blocks f s x)) more ∙ ap set.len (deep_blocks_insert_short f s R p r.hop (subst (λ x. x ≤ f) c.len.ensures.value c.if-len.true)));
+      numbered = c.in_ok-put_short.ensures.numbered (length c.loop-next.blocks.items) R c.loop-next.seconds.items c.loop-next.blocks.items inv.swept inv.numbered;
+      reached = λ k l h. let z = next k l h in omega (arith, z, low);
+      before = λ k l h. subst (λ (x : RuleMap). AllUpTo x (place (prefix_at rs k))) (sym more)
+          (up_to_more (insert R p r.hop) (place p) (place (prefix_at rs k)) (next k l h) (up_to_insert R p r.hop before));
+      swept = subst (λ (x : RuleMap). IsSwept f s (length c.loop-next.blocks.items) x (record { firsts = c.put_short.new.words.items; seconds = c.loop-next.seconds.items }) (held c.put_short.new.frames)) (sym more)
+          (c.in_ok-put_short.ensures.swept (length c.loop-next.blocks.items) R c.loop-next.seconds.items before inv.swept);
+    }
+
+pub put_group-requires : goal.put_group-requires
+put_group-requires g c =
+    let f = g.row.FIRST in
+    let s = g.row.SECOND in
+    let rs = c.args.rules.now in
+    let n = c.loop-next.next in
+    let inv = c.loop-next.invariant in
+    let p = c.index-rules-next.result.prefix in
+    let read : prefix_at rs n ≡ p = prefix_read rs n c.index-rules-next.result c.loop-next-test.true c.index-rules-next.is in
+    let F = c.loop-next.firsts.items in
+    let reach : length F * 2 ^ s * 64 ≤ place p = subst (λ q. length F * 2 ^ s * 64 ≤ place q) read (inv.reached n (omega arith) c.loop-next-test.true) in
+    let short = c.bits-bits.ensures.network.0 in
+    let fits = c.requires.shape.2 in
+    let low : length F * 2 ^ s ≤ p.bits = omega (arith, reach, short, fits) in
+    let long : f < p.len = subst (λ x. f < x) c.len.ensures.value c.if-len.false in
+    let few = c.requires.few in
+    let used = c.if-used-groups.false in (
+      lit< tt,
+      (
+        c.requires.shape,
+        (
+          (let count : c.len-used.result ≡ length c.loop-next.blocks.items = grind (arith, common_steps) in omega (arith, used, few, count)),
+          (
+            c.loop-next-test.true,
+            (
+              c.requires.sorted,
+              (
+                subst (λ q. f < q.len) (sym read) long,
+                (
+                  subst (λ q. length F ≤ q.bits / 2 ^ s) (sym read) (le-div (length F) p.bits (2 ^ s) (pow_pos s) low),
+                  (inv.before n (omega arith) c.loop-next-test.true, (inv.numbered, inv.swept)),
+                ),
+              ),
+            ),
+          ),
+        ),
+      ),
+    )
+
+pub returns-clause-represents : goal.returns-clause-represents
+returns-clause-represents g c =
+    let f = g.row.FIRST in
+    let s = g.row.SECOND in
+    let rs = c.args.rules.now in
+    let n = c.loop-next.next in
+    let inv = c.loop-next.invariant in
+    let fits = c.requires.shape in
+    let size : 1 * 2 ^ f % 18446744073709551616 ≡ 2 ^ f = one_shl f 64 (omega (arith, fits)) in
+    let long : length c.advance.new.words.items ≡ 2 ^ f = c.in_ok-advance.ensures.len ∙ size in
+    let all : take n rs ≡ rs = take_all n rs c.loop-next-test.false in
+    subst (λ (l : List (Rule f s)). Represents f s (rules_of l) (record { firsts = c.advance.new.words.items; seconds = c.loop-next.seconds.items })) all
+    (swept_all f s (length c.loop-next.blocks.items) (rules_of (take n rs)) c.advance.new.words.items c.loop-next.seconds.items (held c.advance.new.self) long
+    (swept_on f s (length c.loop-next.blocks.items) (rules_of (take n rs)) c.loop-next.firsts.items c.advance.new.words.items c.loop-next.seconds.items (held c.loop-next.outer) (held c.advance.new.self)
+    (omega (arith, long))
+    c.in_ok-advance.ensures.fills
+    (λ k l. c.in_ok-advance.ensures.frames k (omega (arith, l, c.in_ok-advance.ensures.len)))
+    inv.swept))
+
+pub returns-clause-numbered : goal.returns-clause-numbered
+returns-clause-numbered g c =
+    let f = g.row.FIRST in
+    let s = g.row.SECOND in
+    let n = length c.loop-next.blocks.items in
+    let rs = c.args.rules.now in
+    let inv = c.loop-next.invariant in
+    let fits = c.requires.shape in
+    let size : 1 * 2 ^ f % 18446744073709551616 ≡ 2 ^ f = one_shl f 64 (omega (arith, fits)) in
+    let long : length c.advance.new.words.items ≡ 2 ^ f = c.in_ok-advance.ensures.len ∙ size in
+    numbered_on f s n (rules_of (take c.loop-next.next rs)) c.loop-next.firsts.items c.advance.new.words.items c.loop-next.seconds.items (held c.loop-next.outer) (held c.advance.new.self)
+    (omega (arith, long))
+    c.in_ok-advance.ensures.fills
+    (λ k l. c.in_ok-advance.ensures.frames k (omega (arith, l, c.in_ok-advance.ensures.len)))
+    inv.swept c.loop-next.blocks.items inv.numbered
+
+pub returns-clause-count : goal.returns-clause-count
+returns-clause-count g c =
+    let f = g.row.FIRST in
+    let s = g.row.SECOND in
+    let rs = c.args.rules.now in
+    let all : take c.loop-next.next rs ≡ rs = take_all c.loop-next.next rs c.loop-next-test.false in
+    c.loop-next.invariant.count ∙ ap (λ (l : List (Rule f s)). set.len (deep_blocks f s (rules_of l))) all
+
+pub returns-then-used-groups-clause-none : goal.returns-then-used-groups-clause-none
+returns-then-used-groups-clause-none g c =
+    let f = g.row.FIRST in
+    let s = g.row.SECOND in
+    let rs = c.args.rules.now in
+    let n = c.loop-next.next in
+    let inv = c.loop-next.invariant in
+    let r = c.index-rules-next.result in
+    let p = r.prefix in
+    let read : prefix_at rs n ≡ p = prefix_read rs n r c.loop-next-test.true c.index-rules-next.is in
+    let F = c.loop-next.firsts.items in
+    let reach : length F * 2 ^ s * 64 ≤ place p = subst (λ q. length F * 2 ^ s * 64 ≤ place q) read (inv.reached n (omega arith) c.loop-next-test.true) in
+    let short = c.bits-bits.ensures.network.0 in
+    let fits = c.requires.shape.2 in
+    let low : length F * 2 ^ s ≤ p.bits = omega (arith, reach, short, fits) in
+    let long : f < p.len = subst (λ x. f < x) c.len.ensures.value c.if-len.false in
+    let more = more_blocks rs n r (rules_more rs n r c.loop-next-test.true c.index-rules-next.is) long (inv.swept.shallow (block_of s p) (le-div (length F) p.bits (2 ^ s) (pow_pos s) low)) in
+    let used = c.if-used-groups.true in
+    let count : c.len-used.result ≡ length c.loop-next.blocks.items = grind (arith, common_steps) in
+    let blocks = inv.count in
+    λ _. omega (arith, more, used, count, blocks)

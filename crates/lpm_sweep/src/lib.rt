@@ -1,0 +1,21 @@
+//! The words of a longest-prefix-match table, made from a whole list of rules at once.
+//!
+//! A table has two lists of words (DIR-24-8: Gupta, Lin and McKeown, "Routing Lookups in Hardware
+//! at Memory Access Speeds", INFOCOM 1998, section 3). [`sweep`] goes once, upwards, over rules
+//! that are in the order of their prefixes, and puts each word last in its list. So each word is
+//! stored once, where adding the rules one by one stores a word again for each rule that covers it.
+//!
+//! [`in_order`] brings rules into that order, [`are_in_order`] says whether they are, and
+//! [`count_rules`] counts their prefixes. Nothing here changes a table that is in use.
+#![tactic(auto)]
+
+mod counting;
+mod filling;
+mod frames;
+pub mod laws;
+mod ordering;
+mod sweeping;
+
+pub use counting::count_rules;
+pub use ordering::{MOST_SORTED, are_in_order, in_order};
+pub use sweeping::{Swept, sweep};

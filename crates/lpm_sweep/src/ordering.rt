@@ -1,0 +1,91 @@
+//! The order of rules by their prefixes.
+
+ghost use Rattle.std.specs.Prelude.{◌≡◌, ℕ, ◌%◌, ◌^◌, ◌<◌, ◌≤◌, ◌↔◌, IsTrue, IfOk, length, slice_index};
+ghost use Rattle.lpm_sweep.specs.Keys.{AreKeys, AreTaken};
+ghost use Rattle.lpm_sweep.specs.Listed.{AreInOrder, AreReordered, place, rules_of};
+
+use lpm_rules::Rule;
+use std::alloc::{AllocError, Global};
+
+/// The greatest number of rules that [`in_order`] sorts: 2^26.
+///
+/// It sorts numbers of 64 bits, of which 38 tell the prefix and 26 where the rule stands.
+pub const MOST_SORTED: usize = 1 << 26;
+
+/// Where the prefix of the rule stands in the order: by its bits, and then by its length.
+#[inline]
+pub(crate) fn place_of<const FIRST: u32, const SECOND: u32>(rule: &Rule<FIRST, SECOND>) -> u64
+    ensures value { result ≡ place rule.now.prefix }
+    ensures bound { result < 2 ^ 38 }
+    ensures len { rule.now.prefix.len ≤ 32 }
+{
+    u64::from(rule.prefix.bits()) * 64 + u64::from(rule.prefix.len())
+}
+
+/// Whether the rules are in the order of their prefixes: by the bits, and of those with the same
+/// bits by the length. Rules of one prefix may follow one another.
+pub fn are_in_order<const FIRST: u32, const SECOND: u32>(rules: &[Rule<FIRST, SECOND>]) -> bool
+    ensures { IsTrue result ↔ AreInOrder rules.now }
+{
+    let mut last = 0;
+    for rule in rules {
+        let place = place_of(rule);
+        if place < last {
+            return false;
+        }
+        last = place;
+    }
+    true
+}
+
+/// The number by which each rule is sorted: that of its prefix, and then where it stands.
+fn keys_of<const FIRST: u32, const SECOND: u32>(
+    alloc: Global,
+    rules: &[Rule<FIRST, SECOND>],
+) -> Result<Vec<u64>, AllocError>
+    requires { length rules.now ≤ 2 ^ 26 }
+    ensures { IfOk result (λ v. AreKeys rules.now v.items) }
+{
+    let mut keys = Vec::with_capacity(alloc, rules.len())?;
+    for index in 0..rules.len() {
+        keys.push(place_of(&rules[index]) * MOST_SORTED as u64 + index as u64)?;
+    }
+    Ok(keys)
+}
+
+/// The rules in the order of these keys.
+fn rules_by_keys<const FIRST: u32, const SECOND: u32>(
+    alloc: Global,
+    rules: &[Rule<FIRST, SECOND>],
+    keys: &[u64],
+) -> Result<Vec<Rule<FIRST, SECOND>>, AllocError>
+    requires { (k : ℕ) → k < length keys.now
+        → slice_index keys.now k % 2 ^ 26 < length rules.now }
+    ensures { IfOk result (λ v. AreTaken rules.now keys.now v.items) }
+{
+    let mut sorted = Vec::with_capacity(alloc, keys.len())?;
+    for index in 0..keys.len() {
+        let rule = rules[(keys[index] % MOST_SORTED as u64) as usize];
+        sorted.push(rule)?;
+    }
+    Ok(sorted)
+}
+
+/// A copy of the rules in the order of their prefixes (see [`are_in_order`]), in which those of one
+/// prefix keep their order. So the last rule of a prefix is still its last.
+///
+/// At most [`MOST_SORTED`] rules. `AllocError` where memory is short.
+pub fn in_order<const FIRST: u32, const SECOND: u32>(
+    alloc: Global,
+    rules: &[Rule<FIRST, SECOND>],
+) -> Result<Vec<Rule<FIRST, SECOND>>, AllocError>
+    requires few { length rules.now ≤ 2 ^ 26 }
+    ensures ordered { IfOk result (λ v. AreInOrder v.items) }
+    ensures reordered { IfOk result (λ v. AreReordered rules.now v.items) }
+    ensures same { IfOk result (λ v. rules_of v.items ≡ rules_of rules.now) }
+{
+    let mut keys = keys_of(alloc, rules)?;
+    keys.sort_unstable();
+    let sorted = rules_by_keys(alloc, rules, keys.as_slice())?;
+    Ok(sorted)
+}
