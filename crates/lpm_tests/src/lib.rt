@@ -21,4 +21,6 @@ mod reports;
 #[cfg(test)]
 mod rules;
 #[cfg(test)]
+mod sweep;
+#[cfg(test)]
 mod update;

@@ -1,0 +1,261 @@
+//! Swept words beside a rule list into which the same rules were put one by one.
+
+ghost use Rattle.std.specs.Prelude.{◌+◌, ◌^◌, ◌<◌, ◌≤◌};
+ghost use Rattle.lpm_bits.specs.Widths.{IsShape};
+
+use super::asserting::assert_at;
+use lpm_bits::{Hop, Prefix, Shape};
+use lpm_entry::Entry;
+use lpm_rules::{Rule, Rules};
+use lpm_sweep::{MOST_SORTED, Swept, are_in_order, count_rules, in_order, sweep};
+use std::alloc::Global;
+use std::process::Abort;
+use std::test::Fail;
+
+// A rule as plain numbers: the bits of its prefix, its length and its next hop.
+type Plain = (u32, u32, u32);
+
+fn rule_of<const FIRST: u32, const SECOND: u32>(
+    rt: &impl Abort,
+    plain: Plain,
+) -> Rule<FIRST, SECOND>
+    requires { IsShape FIRST SECOND }
+{
+    let (bits, len, hop) = plain;
+    assert!(rt; Shape::<FIRST, SECOND>::is_addr(bits));
+    let prefix = Prefix::new(bits, len).expect(rt, "a length");
+    let hop = Hop::new(hop).expect(rt, "a next hop");
+    Rule { prefix, hop }
+}
+
+fn rules_of<const FIRST: u32, const SECOND: u32>(
+    rt: &impl Abort,
+    alloc: Global,
+    plain: &[Plain],
+) -> Vec<Rule<FIRST, SECOND>>
+    requires { IsShape FIRST SECOND }
+{
+    let mut rules = Vec::new(alloc);
+    for rule in plain {
+        rules.push(rule_of(rt, *rule)).expect(rt, "memory");
+    }
+    rules
+}
+
+// The rule list into which the rules are put one by one.
+fn put_all<const FIRST: u32, const SECOND: u32>(
+    rt: &impl Abort,
+    alloc: Global,
+    rules: &[Rule<FIRST, SECOND>],
+) -> Rules<FIRST, SECOND>
+    requires { IsShape FIRST SECOND }
+{
+    let mut list = Rules::new(alloc, rules.len());
+    for rule in rules {
+        let _put = list.put(&rule.prefix, rule.hop).expect(rt, "room");
+    }
+    list
+}
+
+// The next hop that the words have for an address, by one read or two.
+fn read<const FIRST: u32, const SECOND: u32>(swept: &Swept, addr: u32) -> Option<Hop>
+    requires shape { IsShape FIRST SECOND }
+    requires addr { addr < 2 ^ (FIRST + SECOND) }
+{
+    let block = Shape::<FIRST, SECOND>::first_index(addr);
+    let word = swept.first_words.get(block).copied()?;
+    let group = match Entry::of_word(u64::from(word)) {
+        Entry::Group(group) => (group as usize).wrapping_mul(1 << SECOND),
+        entry => return entry.hop(),
+    };
+    let place = group.wrapping_add(Shape::<FIRST, SECOND>::second_index(addr));
+    let word = swept.second_words.get(place).copied()?;
+    Entry::of_word(u64::from(word)).hop()
+}
+
+// The words answer the address as the rule list does, where it is one.
+fn assert_hop<const FIRST: u32, const SECOND: u32>(
+    rt: &impl Abort,
+    swept: &Swept,
+    list: &Rules<FIRST, SECOND>,
+    addr: u32,
+)
+    requires { IsShape FIRST SECOND }
+{
+    if Shape::<FIRST, SECOND>::is_addr(addr) {
+        let hop = read::<FIRST, SECOND>(swept, addr);
+        assert_at(rt, addr, hop, list.longest(addr));
+    }
+}
+
+// The first and the last address of each rule, and those beside them.
+fn assert_ends<const FIRST: u32, const SECOND: u32>(
+    rt: &impl Abort,
+    swept: &Swept,
+    list: &Rules<FIRST, SECOND>,
+    rules: &[Rule<FIRST, SECOND>],
+)
+    requires { IsShape FIRST SECOND }
+{
+    for rule in rules {
+        let first = rule.prefix.bits();
+        let host = FIRST + SECOND - rule.prefix.len();
+        let last = first | ((1u64 << host) - 1) as u32;
+        assert_hop(rt, swept, list, first.wrapping_sub(1));
+        assert_hop(rt, swept, list, first);
+        assert_hop(rt, swept, list, last);
+        assert_hop(rt, swept, list, last.wrapping_add(1));
+    }
+}
+
+// The first 65,536 addresses, which in the small tables are all.
+fn assert_first<const FIRST: u32, const SECOND: u32>(
+    rt: &impl Abort,
+    swept: &Swept,
+    list: &Rules<FIRST, SECOND>,
+)
+    requires { IsShape FIRST SECOND }
+{
+    for addr in 0..65536u32 {
+        assert_hop(rt, swept, list, addr);
+    }
+}
+
+// With a group for each block that needs one the words are those of the rule list, and with one
+// fewer there are none.
+fn assert_sorted<const FIRST: u32, const SECOND: u32>(
+    rt: &impl Abort,
+    alloc: Global,
+    sorted: &[Rule<FIRST, SECOND>],
+    list: &Rules<FIRST, SECOND>,
+)
+    requires { IsShape FIRST SECOND }
+{
+    assert!(rt; are_in_order(sorted));
+    assert_at(rt, "prefixes", count_rules(sorted), list.len());
+    let deep = list.deep_blocks();
+    assert!(rt; deep <= 65536);
+    let swept = sweep(alloc, sorted, deep).expect(rt, "memory");
+    let swept = swept.expect(rt, "groups that suffice");
+    assert_at(rt, "groups", swept.blocks.len(), deep);
+    assert_first(rt, &swept, list);
+    assert_ends(rt, &swept, list, sorted);
+    if deep > 0 {
+        let fewer = sweep(alloc, sorted, deep - 1).expect(rt, "memory");
+        assert_at(rt, "a group is lacking", fewer.is_none(), true);
+    }
+}
+
+// Sorts and sweeps the rules, which may stand in any order.
+fn assert_swept<const FIRST: u32, const SECOND: u32>(
+    rt: &impl Abort,
+    alloc: Global,
+    rules: &[Rule<FIRST, SECOND>],
+)
+    requires { IsShape FIRST SECOND }
+{
+    assert!(rt; rules.len() <= MOST_SORTED);
+    let sorted = in_order(alloc, rules).expect(rt, "memory");
+    let list = put_all(rt, alloc, rules);
+    assert_sorted(rt, alloc, &sorted, &list);
+}
+
+fn assert_plain(rt: &impl Abort, alloc: Global, plain: &[Plain]) {
+    let rules: Vec<Rule<4, 4>> = rules_of(rt, alloc, plain);
+    assert_swept(rt, alloc, &rules);
+}
+
+// So many rules of any prefixes and lengths, each of its own next hop.
+fn assert_drawn<const FIRST: u32, const SECOND: u32>(rt: &impl Abort, alloc: Global, count: u32)
+    requires shape { IsShape FIRST SECOND }
+    requires count { count ≤ 10000 }
+{
+    let mut random: u64 = 1;
+    let mut plain: Vec<Plain> = Vec::new(alloc);
+    for hop in 0..count {
+        random = random
+            .wrapping_mul(6_364_136_223_846_793_005)
+            .wrapping_add(1_442_695_040_888_963_407);
+        let bits = (random >> 32) % (1 << (FIRST + SECOND));
+        let len = (random >> 16) % u64::from(FIRST + SECOND + 1);
+        plain
+            .push((bits as u32, len as u32, hop))
+            .expect(rt, "memory");
+    }
+    let rules: Vec<Rule<FIRST, SECOND>> = rules_of(rt, alloc, &plain);
+    assert_swept(rt, alloc, &rules);
+}
+
+#[test]
+fn small_tables(rt: HostRuntime) {
+    let alloc = rt.alloc();
+    assert_plain(&rt, alloc, &[]);
+    assert_plain(&rt, alloc, &[(0, 0, 9)]);
+    // A rule longer than 4 bits, under a shorter one that comes later.
+    assert_plain(&rt, alloc, &[(0x12, 8, 5), (0x10, 4, 7)]);
+    // Prefixes that come more than once.
+    assert_plain(
+        &rt,
+        alloc,
+        &[
+            (0x10, 4, 7),
+            (0x12, 8, 5),
+            (0x10, 4, 3),
+            (0x12, 8, 6),
+            (0x10, 4, 4),
+        ],
+    );
+    // Rules with the same first address.
+    assert_plain(
+        &rt,
+        alloc,
+        &[(0, 8, 1), (0, 5, 2), (0, 4, 3), (0, 1, 4), (0, 0, 5)],
+    );
+    // Rules with the same last address, and two blocks that need a group.
+    assert_plain(
+        &rt,
+        alloc,
+        &[
+            (0, 0, 4),
+            (0xff, 8, 2),
+            (0xfe, 7, 3),
+            (0xf0, 4, 1),
+            (0x7f, 8, 6),
+        ],
+    );
+}
+
+#[test]
+fn drawn_rules(rt: HostRuntime) {
+    let alloc = rt.alloc();
+    assert_drawn::<4, 4>(&rt, alloc, 3000);
+    assert_drawn::<8, 8>(&rt, alloc, 3000);
+    assert_drawn::<24, 8>(&rt, alloc, 5000);
+}
+
+// The example of the crate's page, with the words in full.
+#[test]
+fn words_of_an_example(rt: HostRuntime) -> Result<(), Fail> {
+    let alloc = rt.alloc();
+    let rules: Vec<Rule<2, 2>> = rules_of(&rt, alloc, &[(0, 0, 7), (4, 2, 1), (6, 3, 2)]);
+    assert!(&rt; are_in_order(&rules));
+    let swept = sweep(alloc, &rules, 1)?.expect(&rt, "groups that suffice");
+    let seven = 0x0100_0007;
+    assert_eq!(&rt;
+        swept.first_words.as_slice(),
+        [seven, 0x0300_0000, seven, seven].as_slice()
+    );
+    let group = [0x0900_0001, 0x0900_0001, 0x0d00_0002, 0x0d00_0002];
+    assert_eq!(&rt; swept.second_words.as_slice(), group.as_slice());
+    assert_eq!(&rt; swept.blocks.as_slice(), [1].as_slice());
+    Ok(())
+}
+
+#[test]
+fn laws_are_called() {
+    lpm_sweep::laws::order_is_by_bits();
+    lpm_sweep::laws::numbered_are_tied();
+    lpm_sweep::laws::room_may_grow();
+    lpm_sweep::laws::collected_is_of_length();
+    lpm_sweep::laws::collected_are_the_rules();
+}
