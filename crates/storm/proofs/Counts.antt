@@ -1,12 +1,14 @@
 -- Wrong answers of two lists, and changes of two lists of commands.
 use Rattle.std.proofs.Common.{arith, ℕ, suc, ◌≡◌, ◌+◌, ◌≤◌, ◌<◌, inl, inr, refl, ap, sym, subst, ◌∙◌, List, [], ◌∷◌, ◌++◌, length, take, min, get_or, append_assoc}
 use Rattle.std.specs.List.{flat_map}
+use Rattle.std.specs.Prelude.{All}
 use Rattle.std.proofs.lemmas.List.{take_more, length-take}
+use Rattle.std.proofs.lemmas.List.Elements.{All-head, All-tail}
 use Rattle.lpm_rules.specs.declared.Answer.{Answer}
 use Rattle.lpm_rules.specs.declared.Change.{Change}
 use Rattle.fib_model.specs.declared.command.Command.{Command}
 use Rattle.fib_model.specs.declared.command.Outcome.{Outcome}
-use Rattle.audit.specs.Wrong.{AreWrong}
+use Rattle.audit.specs.Wrong.{AreWrong, IsOfSomeVersion}
 use Rattle.storm.specs.Changing.{change_by, changes_by}
 
 pub append_nil : {X : Type 0} (xs : List X) → xs ++ [] ≡ xs
@@ -30,6 +32,12 @@ module _ (f s : ℕ) where
       let less : rest.0 ≤ length xs = wrong_within history xs rest.0 rest.2 in omega (arith, less, rest.1)
   wrong_within history (x ∷ xs) n (inr (right, rest)) =
       let less : n ≤ length xs = wrong_within history xs n rest in omega (arith, less)
+
+  -- where each answer is of a version, none is wrong
+  pub none_wrong : (history : List (Change f s)) (xs : List (ℕ × Answer)) (n : ℕ) → All (IsOfSomeVersion history) xs → AreWrong history xs n → n ≡ 0
+  none_wrong history [] n all none = none
+  none_wrong history (x ∷ xs) n all (inl (wrong, rest)) = absurd (wrong (All-head (IsOfSomeVersion history) x xs all))
+  none_wrong history (x ∷ xs) n all (inr (right, rest)) = none_wrong history xs n (All-tail (IsOfSomeVersion history) x xs all) rest
 
   pub changes_more : (cs : List (Command f s)) (os : List Outcome) (c : Command f s) (o : Outcome) → length cs ≡ length os
       → changes_by (cs ++ c ∷ []) (os ++ o ∷ []) ≡ changes_by cs os ++ change_by c o

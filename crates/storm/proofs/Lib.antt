@@ -3,3 +3,6 @@ pub mod Logs
 pub mod Meetings
 pub mod Counts
 pub mod Rounds
+pub mod Later
+pub mod Versions
+pub mod Emptied

@@ -1,6 +1,9 @@
--- Elements of a list that are changed one after another.
-use Rattle.std.proofs.Common.{◌≢◌, ℕ, ◌+◌, ◌<◌, ◌≤◌, inl, inr, List, length, get_or, set, All, sym, subst, arith, get_or-set_same, get_or-set_other, length-set}
+-- Elements of a list that are changed one after another, and passes that leave the bench.
+use Rattle.std.proofs.Common.{◌≡◌, ◌≢◌, ℕ, zero, suc, ◌+◌, ◌<◌, ◌≤◌, inl, inr, List, [], ◌∷◌, length, get_or, set, All, refl, ap, ◌∙◌, sym, subst, arith, get_or-set_same, get_or-set_other, length-set, Option, None, slice_get}
+use Rattle.std.specs.Prelude.{slice_set}
 use Rattle.std.proofs.lemmas.Bool.{cases_eq}
+use Rattle.shared_fib.specs.Running.{PassState}
+use Rattle.storm.specs.Looking.{IsUnused}
 
 -- the elements before place i have come to P, and the others are Q still
 pub record UpTo {X : Type 0} (P Q : X → Type 0) (i : ℕ) (xs : List X) : Type 0 where
@@ -27,3 +30,15 @@ one_more P Q i xs y low up now = record {
 
 pub all_done : {X : Type 0} (P Q : X → Type 0) (i : ℕ) (xs : List X) → length xs ≤ i → UpTo P Q i xs → All P xs
 all_done P Q i xs all up k d lt = up.done k d (omega (arith, lt, all))
+
+-- what stands at another place stays after a store
+others_stay : {X : Type 0} (xs : List X) (i k : ℕ) (y : X) → k ≢ i → slice_get (slice_set xs i y) k ≡ slice_get xs k
+others_stay [] i k y other = refl
+others_stay (x ∷ xs) zero zero y other = absurd (other refl)
+others_stay (x ∷ xs) zero (suc k) y other = refl
+others_stay (x ∷ xs) (suc i) zero y other = refl
+others_stay (x ∷ xs) (suc i) (suc k) y other = others_stay xs i k y (λ e. other (ap suc e))
+
+-- where one worker's pass is taken, the others' stay at the bench, unused
+pub stays_unused : (passes : List (Option PassState)) (i k : ℕ) → k ≢ i → IsUnused passes k → IsUnused (slice_set passes i None) k
+stays_unused passes i k other at = (at.0, others_stay passes i k None other ∙ at.1, at.2)

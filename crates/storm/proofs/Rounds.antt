@@ -1,13 +1,20 @@
 -- Rounds of addresses, with one more.
-use Rattle.std.proofs.Common.{arith, ℕ, zero, suc, ◌≡◌, ◌+◌, ◌*◌, ap, ◌∙◌, sym, subst, refl, All, List, [], ◌∷◌, ◌++◌, length, map, length-append, append_assoc}
-use Rattle.std.proofs.lemmas.List.{length-map, map-append, get_or-map}
-use Rattle.std.proofs.lemmas.List.Elements.{All-append, All-head, All-tail}
+use Rattle.std.proofs.Common.{arith, ℕ, zero, suc, ◌≡◌, ◌+◌, ◌*◌, ap, ◌∙◌, sym, subst, refl, All, List, [], ◌∷◌, ◌++◌, length, map, length-append, ap₂}
+use Rattle.std.proofs.lemmas.List.{length-map, get_or-map}
+use Rattle.std.proofs.lemmas.List.Elements.{All-append, All-cons, All-head, All-map, All-tail}
 use Rattle.lpm_rules.specs.declared.Answer.{Answer}
 use Rattle.lpm_trace.specs.declared.step.WriterStep.{WriterStep}
-use Rattle.shared_fib.specs.Running.{Identity, setup}
+use Rattle.lpm_rules.specs.declared.Change.{Change}
+use Rattle.lpm_limits.specs.declared.config.Config.{Config}
+use Rattle.lpm_writer.specs.Opening.{opening_setup}
+use Rattle.shared_words.specs.declared.view.View.{View}
+use Rattle.shared_fib.specs.Running.{Identity, WriterState, setup, steps_of}
+use Rattle.audit.specs.Wrong.{IsOfSomeVersion}
+use Rattle.storm.specs.Changing.{HasVersions}
+use Rattle.storm.proofs.Versions.{answer_is_right}
 use Rattle.storm.specs.declared.looking.Worker.{Worker}
-use Rattle.storm.specs.Looking.{HasAnswered, IsToldBy, all_answers, times}
-use Rattle.storm.proofs.Counts.{append_nil}
+use Rattle.storm.specs.Looking.{HasAnswered, HasLookedUp, IsOfAVersion, all_answers, answer_of, answers_by, held_answers, lookups_of, times, views_of}
+use Rattle.storm.proofs.Told.{addresses_same}
 
 pub one_more_round : (n : ℕ) (addrs before after : List ℕ) → before ≡ times n addrs → after ≡ before ++ addrs
     → after ≡ times (n + 1) addrs
@@ -26,12 +33,8 @@ pub length_rounds : (n : ℕ) (addrs : List ℕ) (xs : List (ℕ × Answer)) →
     → length xs ≡ n * length addrs
 length_rounds n addrs xs all = sym (length-map xs (λ (x : ℕ × Answer). x.0)) ∙ (ap length all ∙ length_times n addrs)
 
--- a round more at the front is one at the end
-pub times_front : (n : ℕ) (addrs : List ℕ) → addrs ++ times n addrs ≡ times n addrs ++ addrs
-times_front zero addrs = append_nil addrs
-times_front (suc n) addrs =
-    sym (append_assoc addrs (times n addrs) addrs)
-    ∙ ap (λ (xs : List ℕ). xs ++ addrs) (times_front n addrs)
+suc_times : (n m : ℕ) → m + n * m ≡ suc n * m
+suc_times n m = grind arith
 
 pub all_times : (P : ℕ → Type 0) (n : ℕ) (addrs : List ℕ) → All P addrs → All P (times n addrs)
 all_times P zero addrs all = λ k d below. absurd (omega (arith, below))
@@ -46,25 +49,49 @@ all_of_addresses P xs ys same all k d below =
 -- ---- all workers
 
 module _ (id : Identity) (addrs : List ℕ) (rounds : ℕ) (w_steps : List WriterStep) where
-  pub all_addresses : (workers : List Worker) → All (HasAnswered id addrs rounds w_steps) workers
-      → map (λ x. x.0) (all_answers workers) ≡ times (length workers) (times rounds addrs)
-  all_addresses [] all = refl
-  all_addresses (w ∷ workers) all =
-      map-append (λ (x : ℕ × Answer). x.0) w.answers.items (all_answers workers)
-      ∙ (ap (λ (xs : List ℕ). xs ++ map (λ (x : ℕ × Answer). x.0) (all_answers workers)) (All-head (HasAnswered id addrs rounds w_steps) w workers all).whole
-      ∙ (ap (λ (xs : List ℕ). times rounds addrs ++ xs) (all_addresses workers (All-tail (HasAnswered id addrs rounds w_steps) w workers all))
-      ∙ times_front (length workers) (times rounds addrs)))
+  -- the addresses of a worker's answers
+  pub addresses_of : (w : Worker) → HasAnswered id addrs rounds w_steps w → map (λ x. x.0) w.answers.items ≡ times rounds addrs
+  addresses_of w h =
+      ap (map (λ (x : ℕ × Answer). x.0)) h.answers ∙ (addresses_same w.pass.view ∙ h.looked.whole)
 
-  pub all_told : (workers : List Worker) → All (HasAnswered id addrs rounds w_steps) workers
-      → All (IsToldBy (setup id) w_steps) (all_answers workers)
-  all_told [] all = λ k d below. absurd (omega (arith, below))
-  all_told (w ∷ workers) all =
-      All-append (IsToldBy (setup id) w_steps) w.answers.items (all_answers workers)
-      (All-head (HasAnswered id addrs rounds w_steps) w workers all).told
-      (all_told workers (All-tail (HasAnswered id addrs rounds w_steps) w workers all))
+  pub all_held : (workers : List Worker) → All (HasAnswered id addrs rounds w_steps) workers
+      → held_answers workers ≡ all_answers (views_of workers)
+  all_held [] all = refl
+  all_held (w ∷ workers) all =
+      let rest : held_answers workers ≡ all_answers (views_of workers) =
+      all_held workers (All-tail (HasAnswered id addrs rounds w_steps) w workers all) in
+      ap (λ (xs : List (ℕ × Answer)). xs ++ held_answers workers) (All-head (HasAnswered id addrs rounds w_steps) w workers all).answers
+      ∙ ap (λ (xs : List (ℕ × Answer)). answers_by w.pass.view ++ xs) rest
+
+  pub all_looked : (workers : List Worker) → All (HasAnswered id addrs rounds w_steps) workers
+      → All (HasLookedUp id addrs rounds w_steps) (views_of workers)
+  all_looked [] all = λ k d below. absurd (omega (arith, below))
+  all_looked (w ∷ workers) all =
+      All-cons (HasLookedUp id addrs rounds w_steps) w.pass.view (views_of workers)
+      (All-head (HasAnswered id addrs rounds w_steps) w workers all).looked
+      (all_looked workers (All-tail (HasAnswered id addrs rounds w_steps) w workers all))
 
   pub count_all : (workers : List Worker) → All (HasAnswered id addrs rounds w_steps) workers
-      → length (all_answers workers) ≡ length workers * (rounds * length addrs)
-  count_all workers all =
-      length_rounds (length workers) (times rounds addrs) (all_answers workers) (all_addresses workers all)
-      ∙ ap (λ (n : ℕ). length workers * n) (length_times rounds addrs)
+      → length (held_answers workers) ≡ length workers * (rounds * length addrs)
+  count_all [] all = omega arith
+  count_all (w ∷ workers) all =
+      let here : length w.answers.items ≡ rounds * length addrs =
+      length_rounds rounds addrs w.answers.items (addresses_of w (All-head (HasAnswered id addrs rounds w_steps) w workers all)) in
+      let rest : length (held_answers workers) ≡ length workers * (rounds * length addrs) =
+      count_all workers (All-tail (HasAnswered id addrs rounds w_steps) w workers all) in
+      let both : length (held_answers (w ∷ workers)) ≡ length w.answers.items + length (held_answers workers) =
+      length-append w.answers.items (held_answers workers) in
+      both ∙ (ap₂ (λ (m n : ℕ). m + n) here rest ∙ suc_times (length workers) (rounds * length addrs))
+
+  -- ---- answers of versions
+
+  pub all_right : (f s : ℕ) (config : Config) (w : WriterState) (changes : List (Change f s)) (views : List View)
+      → setup id ≡ opening_setup f s config → w.identity ≡ id → HasVersions w changes → steps_of w ≡ w_steps
+      → All (HasLookedUp id addrs rounds w_steps) views → All (IsOfSomeVersion changes) (all_answers views)
+  all_right f s config w changes [] opening own has same all = λ k d below. absurd (omega (arith, below))
+  all_right f s config w changes (v ∷ views) opening own has same all =
+      let looked = All-head (HasLookedUp id addrs rounds w_steps) v views all in
+      let of = subst (λ (l : List WriterStep). All (IsOfAVersion (setup id) l) (lookups_of v)) (sym same) looked.versions in
+      All-append (IsOfSomeVersion changes) (answers_by v) (all_answers views)
+      (All-map (IsOfSomeVersion changes) answer_of (lookups_of v) (λ k d below. answer_is_right f s id config w changes _ opening own has (of k d below)))
+      (all_right f s config w changes views opening own has same (All-tail (HasLookedUp id addrs rounds w_steps) v views all))

@@ -4,6 +4,7 @@
 use Rattle.std.specs.Prelude.{ℕ, suc, ◌≡◌, ◌≤◌, Bool, true, false, List, [], ◌∷◌, ◌++◌, length, count_by}
 use Rattle.std.specs.FinMap.{empty}
 use Rattle.lpm_limits.specs.declared.config.Config.{Config}
+use Rattle.lpm_rules.specs.Changes.{rules_after}
 use Rattle.lpm_rules.specs.declared.Change.{Change}
 use Rattle.lpm_rules.specs.declared.Change.TheVariants as change
 use Rattle.lpm_rules.specs.declared.Put.TheVariants.{Added, Replaced}
@@ -14,10 +15,11 @@ use Rattle.fib_model.specs.declared.command.Outcome.TheVariants as outcome
 use Rattle.fib_model.specs.State.{Keeping}
 use Rattle.fib_model.specs.Outcomes.{Runs, logged}
 use Rattle.lpm_trace.specs.declared.step.WriterStep.{WriterStep}
-use Rattle.lpm_trace.specs.Tables.{Setup}
+use Rattle.lpm_trace.specs.Tables.{Setup, begun}
 use Rattle.lpm_writer.specs.Opening.{opening_setup}
 use Rattle.lpm_writer.specs.Traced.{by_steps}
-use Rattle.shared_fib.specs.Running.{Identity, WriterState, opens_with, setup}
+use Rattle.shared_fib.specs.Running.{Identity, WriterState, left_by, opens_with, setup}
+use Rattle.audit.specs.Wrong.{version_of}
 
 -- the writer's steps stand for what the readers reported; no report is made to the writer itself
 abbrev pub by_own_steps : Setup → Keeping (List WriterStep)
@@ -31,17 +33,6 @@ by_own_steps c = record {
 abbrev pub IsForWriter : {first second : ℕ} → Command first second → Type 0
 IsForWriter (command.Report report worker) = ⊥
 IsForWriter other = Unit {0}
-
--- a table was opened with these limits; then its writer made as many of these commands as there are
--- outcomes, in order, which came out so, and left it like this
-pub record HasMade {first second : ℕ} (id : Identity) (config : Config)
-    (commands : List (Command first second)) (outcomes : List Outcome) (w : WriterState) : Type 0 where
-  pub opening : setup id ≡ opening_setup first second config
-  pub identity : w.identity ≡ id
-  pub limits : w.config ≡ config
-  pub some : length outcomes ≤ length commands
-  pub runs : Runs (by_own_steps (setup id)) first second config (opens_with id config empty).table
-      (logged [] commands outcomes) w.table
 
 -- the change of the rule list that a command made; a rule that stays, a refused command, a flush of no
 -- rules and a reclaim make none
@@ -59,6 +50,27 @@ changes_by [] outcomes = []
 changes_by (command ∷ commands) [] = []
 changes_by (command ∷ commands) (outcome ∷ outcomes) =
     change_by command outcome ++ changes_by commands outcomes
+
+-- the versions of the writer are those of these changes: as many were begun, its rules are those after all
+-- of them, and for each k the rules of version k are those after the first k, from no rules on
+pub record HasVersions {first second : ℕ} (w : WriterState) (changes : List (Change first second))
+    : Type 0 where
+  pub count : w.table.begun ≡ length changes
+  pub begun : begun (left_by w) ≡ length changes
+  pub rules : w.table.rules ≡ rules_after empty changes
+  pub each : (k : ℕ) → k ≤ length changes → (left_by w).history k ≡ version_of changes k
+
+-- a table was opened with these limits; then its writer made as many of these commands as there are
+-- outcomes, in order, which came out so, and left it like this, with the versions of the accepted changes
+pub record HasMade {first second : ℕ} (id : Identity) (config : Config)
+    (commands : List (Command first second)) (outcomes : List Outcome) (w : WriterState) : Type 0 where
+  pub opening : setup id ≡ opening_setup first second config
+  pub identity : w.identity ≡ id
+  pub limits : w.config ≡ config
+  pub some : length outcomes ≤ length commands
+  pub runs : Runs (by_own_steps (setup id)) first second config (opens_with id config empty).table
+      (logged [] commands outcomes) w.table
+  pub versions : HasVersions w (changes_by commands outcomes)
 
 abbrev pub is_refused : Outcome → Bool
 is_refused (outcome.Refused refusal) = true

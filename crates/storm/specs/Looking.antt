@@ -1,13 +1,17 @@
--- Meaning: what a worker of a storm gives back: answers, each of a version that stood meanwhile (this
--- project's; the answer of the longest match is that of Gupta, Lin and McKeown, INFOCOM 1998).
-use Rattle.std.specs.Prelude.{ℕ, zero, suc, ◌≡◌, ◌≤◌, true, List, [], ◌++◌, All, map, vec_capacity}
-use Rattle.std.specs.List.{flat_map}
+-- Meaning: what a worker of a storm gives back: the answers of the lookups that its pass made, each of a
+-- version that stood meanwhile (this project's; the answer of the longest match is that of Gupta, Lin and
+-- McKeown, INFOCOM 1998).
+use Rattle.std.specs.Prelude.{ℕ, zero, suc, ◌≡◌, ◌≤◌, true, List, [], ◌++◌, All, map, reverse, slice_get, Option, Some, vec_capacity}
+use Rattle.std.specs.List.{AllPairs, flat_map}
 use Rattle.lpm_rules.specs.declared.Answer.{Answer}
 use Rattle.lpm_trace.specs.declared.step.WriterStep.{WriterStep}
 use Rattle.lpm_trace.specs.Tables.{Setup}
+use Rattle.lpm_trace.specs.Trace.{worker_by}
 use Rattle.lpm_trace.specs.Workers.{Seen}
+use Rattle.lpm_trace.specs.Laws.{ArePlaced}
 use Rattle.running_laws.specs.Laws.{IsOfVersion}
-use Rattle.shared_fib.specs.Running.{Identity, IsOffline, identity_of, setup}
+use Rattle.shared_words.specs.declared.view.View.{View}
+use Rattle.shared_fib.specs.Running.{Identity, PassState, IsOffline, identity_of, setup}
 use Rattle.storm.specs.declared.looking.Worker.{Worker}
 
 -- the addresses, so many times
@@ -15,30 +19,48 @@ abbrev pub times : ℕ → List ℕ → List ℕ
 times zero addrs = []
 times (suc n) addrs = times n addrs ++ addrs
 
--- By these steps of the writer the answer for the address is the longest match in the rules of a version
--- that stood at a place of a span, and lies from `lo` to `hi`. That the span, `lo` and `hi` are those of a
--- lookup that the worker made is what `Pass::lookup` promises, and isn't said here.
-pub record IsToldBy (c : Setup) (w_steps : List WriterStep) (x : ℕ × Answer) : Type 0 where
-  pub seen : Seen
-  pub k : ℕ
-  pub version : IsOfVersion c w_steps seen k
-  pub addr : seen.addr ≡ x.0
-  pub hop : seen.hop ≡ x.1.hop
-  pub lo : seen.lo ≡ x.1.lo
-  pub hi : seen.hi ≡ x.1.hi
+-- ---- lookups of a pass
 
--- each of its answers is that of a version, by the steps of the writer that its pass has seen
-abbrev pub IsTold : Identity → Worker → Type 0
-IsTold id w = All (IsToldBy (setup id) w.pass.view.seen) w.answers.items
+-- the lookups that a pass has finished by its own steps, the oldest first
+abbrev pub lookups_of : View → List Seen
+lookups_of v = reverse (worker_by v.own).finished
 
--- its pass is one of this table and offline, it has no answer yet, and has room for so many
+-- what a finished lookup answered, beside its address
+abbrev pub answer_of : Seen → ℕ × Answer
+answer_of seen = (seen.addr, record { hop = seen.hop; lo = seen.lo; hi = seen.hi })
+
+-- what the pass answered, in order
+abbrev pub answers_by : View → List (ℕ × Answer)
+answers_by v = map answer_of (lookups_of v)
+
+-- by these steps of the writer the lookup is of a version: its answer is the longest match in the rules of
+-- one that stood between its first and its last read, and lies from its `lo` to its `hi`
+abbrev pub IsOfAVersion : Setup → List WriterStep → Seen → Type 0
+IsOfAVersion c w_steps seen = (k : ℕ) × IsOfVersion c w_steps seen k
+
+-- ---- a worker
+
+-- its answers are those of its pass's lookups, one of each and in order; and each lookup is of a version,
+-- by the steps of the writer that the pass has seen
+pub record IsTold (id : Identity) (w : Worker) : Type 0 where
+  pub answers : w.answers.items ≡ answers_by w.pass.view
+  pub versions : All (IsOfAVersion (setup id) w.pass.view.seen) (lookups_of w.pass.view)
+
+-- the pass of this worker is at the bench, and has made no step
+abbrev pub IsUnused : List (Option PassState) → ℕ → Type 0
+IsUnused passes worker =
+    (p : PassState) × (slice_get passes worker ≡ Some (Some p)) × (p.view.own ≡ [])
+
+-- its pass is one of this table and offline, and has made no step; it has no answer yet, and has room for
+-- so many
 pub record IsReadyFor (id : Identity) (count : ℕ) (w : Worker) : Type 0 where
   pub identity : identity_of w.pass ≡ id
   pub offline : IsOffline w.pass
+  pub unused : w.pass.view.own ≡ []
   pub empty : w.answers.items ≡ []
   pub room : count ≤ vec_capacity w.answers
 
--- its pass is one of this table and offline; each of its answers is that of a version; and where it came to
+-- its pass is one of this table and offline; its answers are those of its lookups; and where it came to
 -- its end, they are those of the whole list, in order, in each round
 pub record IsOver (id : Identity) (addrs : List ℕ) (rounds : ℕ) (w : Worker) : Type 0 where
   pub identity : identity_of w.pass ≡ id
@@ -46,13 +68,33 @@ pub record IsOver (id : Identity) (addrs : List ℕ) (rounds : ℕ) (w : Worker)
   pub told : IsTold id w
   pub whole : w.is_done ≡ true → map (λ x. x.0) w.answers.items ≡ times rounds addrs
 
--- its answers are those of the whole list, in order, in each round, and each is that of a version by these
--- steps of the writer
+-- ---- after the threads
+
+-- A pass of this table that has seen these steps of the writer. Its own steps stand at places among them
+-- that never fall, and each load found what the writer had left at its place. Its lookups are those of the
+-- whole list, in order, in each round, and each is of a version.
+pub record HasLookedUp (id : Identity) (addrs : List ℕ) (rounds : ℕ) (w_steps : List WriterStep)
+    (v : View) : Type 0 where
+  pub opening : v.opening ≡ id.opening
+  pub rising : AllPairs (λ later earlier. earlier.1 ≤ later.1) v.own
+  pub placed : ArePlaced (setup id) w_steps v.own
+  pub whole : map (λ s. s.addr) (lookups_of v) ≡ times rounds addrs
+  pub versions : All (IsOfAVersion (setup id) w_steps) (lookups_of v)
+
+-- its answers are those of its pass, which has looked the whole list up in each round
 pub record HasAnswered (id : Identity) (addrs : List ℕ) (rounds : ℕ) (w_steps : List WriterStep)
     (w : Worker) : Type 0 where
-  pub told : All (IsToldBy (setup id) w_steps) w.answers.items
-  pub whole : map (λ x. x.0) w.answers.items ≡ times rounds addrs
+  pub answers : w.answers.items ≡ answers_by w.pass.view
+  pub looked : HasLookedUp id addrs rounds w_steps w.pass.view
 
--- the answers of all workers
-abbrev pub all_answers : List Worker → List (ℕ × Answer)
-all_answers workers = flat_map (λ w. w.answers.items) workers
+-- what each worker's pass knows
+abbrev pub views_of : List Worker → List View
+views_of workers = map (λ w. w.pass.view) workers
+
+-- the answers of all these passes
+abbrev pub all_answers : List View → List (ℕ × Answer)
+all_answers views = flat_map answers_by views
+
+-- the answers that the workers hold
+abbrev pub held_answers : List Worker → List (ℕ × Answer)
+held_answers workers = flat_map (λ w. w.answers.items) workers

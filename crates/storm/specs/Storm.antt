@@ -1,7 +1,6 @@
 -- Meaning: what comes of a storm (this project's: every answer is held against the versions of the rules).
-use Rattle.std.specs.Prelude.{ℕ, ◌≡◌, ◌+◌, List, All, length, map}
+use Rattle.std.specs.Prelude.{ℕ, ◌≡◌, ◌+◌, List, [], All, length}
 use Rattle.std.specs.FinMap.{len}
-use Rattle.lpm_rules.specs.declared.Answer.{Answer}
 use Rattle.fib_model.specs.declared.command.Outcome.{Outcome}
 use Rattle.fib_model.specs.Outcomes.{Frees, groups_in_use}
 use Rattle.lpm_writer.specs.Traced.{AnyMemory, by_steps, steps_alone}
@@ -10,13 +9,14 @@ use Rattle.defer_queue.specs.declared.Reclaimed.{Reclaimed}
 use Rattle.shared_fib.specs.Running.{Identity, WriterState, left_by, setup, steps_of}
 use Rattle.audit.specs.declared.report.Report.{Report}
 use Rattle.audit.specs.declared.report.StormReport.{StormReport}
-use Rattle.audit.specs.Wrong.{AreWrong}
+use Rattle.audit.specs.Wrong.{AreWrong, IsOfSomeVersion}
 use Rattle.storm.specs.declared.plan.Plan.{Plan}
 use Rattle.storm.specs.Changing.{changes_by, refused_among}
-use Rattle.storm.specs.Looking.{IsToldBy, times}
-use Rattle.storm.specs.Plans.{HasMadeAll}
+use Rattle.shared_words.specs.declared.view.View.{View}
+use Rattle.storm.specs.Looking.{HasLookedUp, all_answers}
+use Rattle.storm.specs.Plans.{HasMadeAll, answers_of}
 
--- the writer has synchronized, and then reclaimed all that waited
+-- the writer has synchronized, and then reclaimed all that waited; nothing waits any more
 pub record Settles (id : Identity) (last end : WriterState) : Type 0 where
   pub passed : WriterState
   pub reclaimed : Reclaimed
@@ -24,6 +24,7 @@ pub record Settles (id : Identity) (last end : WriterState) : Type 0 where
       (steps_alone (steps_of passed))
   pub same : passed ≡ record last { table = record last.table { readers = steps_of passed } }
   pub frees : Frees (by_steps (setup id)) passed.table (length last.table.limbo) reclaimed end.table
+  pub emptied : end.table.limbo ≡ []
 
 -- the report has what the table counts
 pub record IsCountOf (first second : ℕ) (w : WriterState) (r : Report) : Type 0 where
@@ -34,20 +35,23 @@ pub record IsCountOf (first second : ℕ) (w : WriterState) (r : Report) : Type 
   pub groups : r.in_use + r.limbo + r.free ≡ w.config.groups
   pub token : r.token ≡ (left_by w).token
 
--- A storm of this plan came out so. The answers are those of each worker, of the whole list in each round,
--- and each is that of a version by the writer's steps. `wrong` counts those that no version of the accepted
--- changes has.
+-- A storm of this plan came out so. Each worker's pass has looked the whole list up in each round, and each
+-- of its answers is the longest match in a version of the accepted changes, from its `lo` to its `hi`. So
+-- none is wrong. In the end no group waits.
 pub record IsStorm {first second : ℕ} (p : Plan first second) (r : StormReport) : Type 0 where
   pub id : Identity
   pub outcomes : List Outcome
   pub last : WriterState
   pub end : WriterState
-  pub answers : List (ℕ × Answer)
+  pub passes : List View
   pub made : HasMadeAll p id outcomes last
-  pub addresses : map (λ x. x.0) answers ≡ times p.config.workers (times p.rounds p.addrs.now)
-  pub told : All (IsToldBy (setup id) (steps_of last)) answers
+  pub workers : length passes ≡ p.config.workers
+  pub looked : All (HasLookedUp id p.addrs.now p.rounds (steps_of last)) passes
+  pub right : All (IsOfSomeVersion (changes_by p.commands.now outcomes)) (all_answers passes)
   pub settles : Settles id last end
-  pub answered : r.answers ≡ length answers
+  pub answered : r.answers ≡ answers_of p
   pub refused : r.refused ≡ refused_among outcomes
-  pub wrong : AreWrong (changes_by p.commands.now outcomes) answers r.wrong
+  pub counted : AreWrong (changes_by p.commands.now outcomes) (all_answers passes) r.wrong
+  pub wrong : r.wrong ≡ 0
+  pub limbo : r.table.limbo ≡ 0
   pub counts : IsCountOf first second end r.table

@@ -7,7 +7,7 @@ ghost use Rattle.lpm_writer.specs.Opening.{opening_setup};
 ghost use Rattle.shared_fib.specs.Running.{IsBenchOf, IsFullBench, IsOnline, identity_of, opens_with, setup};
 ghost use Rattle.bulk.specs.Desks.{IsAtBench};
 ghost use Rattle.storm.specs.Changing.{IsForWriter};
-ghost use Rattle.storm.specs.Looking.{IsOver, IsReadyFor};
+ghost use Rattle.storm.specs.Looking.{IsOver, IsReadyFor, IsUnused};
 ghost use Rattle.storm.specs.Plans.{EndsLoading, EndsStorm, EndsUnderWay, HasMadeAll, IsTooMuch, IsUnderWay, answers_of, limits_of, most_answers};
 ghost use Rattle.storm.specs.Storm.{IsStorm};
 
@@ -34,7 +34,7 @@ fn seat<const FIRST: u32, const SECOND: u32>(
     room: usize,
 ) -> Result<Worker, AllocError>
     requires own { IsBenchOf table.now bench.old }
-    requires pass { IsAtBench bench.old number }
+    requires pass { IsUnused bench.old number }
     ensures ready { IfOk result (IsReadyFor table.now room) }
     ensures own { IsBenchOf table.now bench.new }
     ensures taken { IfOk result (λ _. bench.new ≡ slice_set bench.old number None) }
@@ -144,9 +144,12 @@ fn finish<R: Threads + Wait + Sync, const FIRST: u32, const SECOND: u32>(
     requires over { All (IsOver table.now plan.now.addrs.now plan.now.rounds) workers.old }
     requires done { All (λ w. w.is_done ≡ true) workers.old }
     requires len { length workers.old ≡ plan.now.config.workers }
+    requires some { 0 < plan.now.config.workers }
     requires answers { (answers ≡ answers_of plan.now) × (answers ≤ most_answers) }
     requires addrs { All (λ a. a < 2 ^ (FIRST + SECOND)) plan.now.addrs.now }
     ensures storm { IfOk result (IsStorm plan.now) }
+    ensures wrong { IfOk result (λ r. r.wrong ≡ 0) }
+    ensures limbo { IfOk result (λ r. r.table.limbo ≡ 0) }
     ensures failure { IfErr result (EndsUnderWay plan.now) }
 {
     let writer = &mut recorder.writer;
@@ -187,6 +190,8 @@ fn run_over<R: Threads + Wait + Sync, G: Gate, const FIRST: u32, const SECOND: u
     requires some { 0 < plan.now.config.workers }
     requires answers { (answers ≡ answers_of plan.now) × (answers ≤ most_answers) }
     ensures storm { IfOk result (IsStorm plan.now) }
+    ensures wrong { IfOk result (λ r. r.wrong ≡ 0) }
+    ensures limbo { IfOk result (λ r. r.table.limbo ≡ 0) }
     ensures failure { IfErr result (EndsUnderWay plan.now) }
 {
     let stop = AtomicBool::new(false);
@@ -245,6 +250,8 @@ pub fn run<R: Threads + Wait + Sync, G: Gate, const FIRST: u32, const SECOND: u3
     requires loaded { plan.now.loaded ≤ length plan.now.commands.now }
     requires addrs { All (λ a. a < 2 ^ (FIRST + SECOND)) plan.now.addrs.now }
     ensures storm { IfOk result (IsStorm plan.now) }
+    ensures wrong { IfOk result (λ r. r.wrong ≡ 0) }
+    ensures limbo { IfOk result (λ r. r.table.limbo ≡ 0) }
     ensures no_workers { IsErrOf result StormError.NoWorkers ↔ (plan.now.config.workers ≡ 0) }
     ensures too_much { IsErrOf result StormError.BadConfig
         ↔ ((0 < plan.now.config.workers) × IsTooMuch plan.now) }

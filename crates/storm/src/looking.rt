@@ -75,6 +75,7 @@ fn look_rounds<G: Gate, const FIRST: u32, const SECOND: u32>(
     requires own { identity_of worker.old.pass ≡ lookups.now.table.now }
     requires online { IsOnline worker.old.pass }
     requires addrs { All (λ a. a < 2 ^ (FIRST + SECOND)) lookups.now.addrs.now }
+    requires told { IsTold lookups.now.table.now worker.old }
     requires empty { worker.old.answers.items ≡ [] }
     requires room { lookups.now.rounds * length lookups.now.addrs.now ≤ vec_capacity worker.old.answers }
     ensures own { identity_of worker.new.pass ≡ identity_of worker.old.pass }

@@ -1,10 +1,10 @@
 //! What a storm does when its threads have ended.
 
 ghost use Rattle.std.specs.Prelude.{◌≡◌, ◌+◌, ◌^◌, ◌<◌, [], ◌∷◌, true, All, IfOk, MatchOption, OnErr, OnOk, length};
-ghost use Rattle.shared_fib.specs.Running.{left_by, steps_of};
+ghost use Rattle.shared_fib.specs.Running.{left_by, setup, steps_of};
 ghost use Rattle.audit.specs.Wrong.{AreWrong};
 ghost use Rattle.storm.specs.Changing.{changes_by, change_by, is_refused, refused_among};
-ghost use Rattle.storm.specs.Looking.{HasAnswered, IsOver, all_answers};
+ghost use Rattle.storm.specs.Looking.{HasAnswered, IsOver, held_answers};
 ghost use Rattle.storm.specs.Storm.{IsCountOf, Settles};
 
 use crate::looking::Worker;
@@ -63,6 +63,8 @@ pub fn settle<R: Wait, const FIRST: u32, const SECOND: u32>(
     writer: &mut Writer<FIRST, SECOND>,
 ) -> Result<(), Exhausted>
     requires own { writer.old.identity ≡ table.now }
+    requires some { 0 < writer.old.config.workers }
+    requires workers { (setup table.now).workers ≡ writer.old.config.workers }
     ensures settles { OnOk result (Settles table.now writer.old writer.new) }
     ensures own { writer.new.identity ≡ writer.old.identity }
     ensures config { writer.new.config ≡ writer.old.config }
@@ -177,8 +179,8 @@ pub fn count_wrong<R: Threads + Sync, const FIRST: u32, const SECOND: u32>(
     workers: &[Worker],
 ) -> Result<u64, AllocError>
     requires addrs { All (λ w. All (λ x. x.0 < 2 ^ (FIRST + SECOND)) w.answers.items) workers.now }
-    requires few { length (all_answers workers.now) < 2 ^ 63 }
-    ensures { IfOk result (AreWrong history.now (all_answers workers.now)) }
+    requires few { length (held_answers workers.now) < 2 ^ 63 }
+    ensures { IfOk result (AreWrong history.now (held_answers workers.now)) }
 {
     let past = Past::new(alloc, history)?;
     let mut wrong = 0u64;

@@ -3,7 +3,7 @@ use Rattle.fib_model.specs.declared.command.Command.{Command}
 use Rattle.fib_model.specs.declared.command.Outcome.{Outcome}
 use Rattle.fib_model.specs.Outcomes.{Does}
 use Rattle.shared_fib.specs.Running.{setup}
-use Rattle.storm.specs.Changing.{HasMade, by_own_steps}
+use Rattle.storm.specs.Changing.{HasMade, IsForWriter, by_own_steps}
 use Rattle.storm.proofs.Logs.{made_next}
 use Rattle.storm.proofs.changing.record.Goals as goal
 
@@ -23,4 +23,5 @@ returns-clause-made g c =
     (made_next g.row.FIRST g.row.SECOND c.args.updates.now.table.now c.args.updates.now.limits commands outcomes command c.execute-outcome.result
     c.args.recorder.now.writer c.execute-outcome.new.writer (omega (arith, here, c.requires.index))
     (c.index-updates-index.is ∙ ap (λ (n : ℕ). get_or commands n command) (sym here))
-    c.requires.made does c.execute-outcome.ensures.own c.execute-outcome.ensures.config)
+    c.requires.made does c.execute-outcome.ensures.own c.execute-outcome.ensures.config
+    (subst IsForWriter (sym c.index-updates-index.is) (c.requires.commands c.args.index command c.requires.index)) c.execute-outcome.ensures.rests)

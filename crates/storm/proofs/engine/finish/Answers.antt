@@ -1,14 +1,18 @@
-use Rattle.std.proofs.Common.{arith, lit<, ℕ, ◌≡◌, ◌+◌, ◌*◌, ◌^◌, ◌<◌, ◌∙◌, List, length, map, get_or, ap, subst, sym}
+use Rattle.std.proofs.Common.{arith, lit<, refl, ℕ, ◌≡◌, ◌+◌, ◌*◌, ◌^◌, ◌<◌, ◌∙◌, List, length, get_or, ap, subst}
 use Rattle.lpm_limits.specs.declared.config.Config.{Config}
 use Rattle.lpm_rules.specs.declared.Answer.{Answer}
 use Rattle.lpm_rules.specs.declared.Change.{Change}
 use Rattle.shared_fib.specs.Running.{WriterState, left_by, steps_of}
 use Rattle.audit.specs.Wrong.{AreWrong}
 use Rattle.fib_model.specs.declared.command.Outcome.{Outcome}
+use Rattle.std.proofs.lemmas.List.{length-map}
 use Rattle.storm.specs.Changing.{changes_by, refused_among}
-use Rattle.storm.specs.Looking.{all_answers, times}
+use Rattle.storm.specs.Looking.{all_answers, held_answers, times, views_of}
+use Rattle.storm.specs.declared.looking.Worker.{Worker}
+use Rattle.storm.specs.Plans.{limits_of}
 use Rattle.storm.specs.Storm.{Settles}
-use Rattle.storm.proofs.Rounds.{all_addresses, all_of_addresses, all_times, all_told, count_all}
+use Rattle.storm.proofs.Rounds.{addresses_of, all_held, all_looked, all_of_addresses, all_right, all_times, count_all}
+use Rattle.storm.proofs.Counts.{none_wrong}
 use Rattle.storm.proofs.engine.finish.Goals as goal
 
 pub returns-in_default-clause-failure : goal.returns-in_default-clause-failure
@@ -32,10 +36,11 @@ count_wrong-requires-after_bounds g c κs within =
     let answered = c.meet_all.ensures.answered in
     let many = count_all c.args.table.now plan.addrs.now plan.rounds steps workers answered in
     let as_many : length workers ≡ plan.config.workers = c.meet_all.ensures.len ∙ c.requires.len in
-    let all = subst (λ (n : ℕ). length (all_answers workers) ≡ n * (plan.rounds * length plan.addrs.now)) as_many many in (
+    let all = subst (λ (n : ℕ). length (held_answers workers) ≡ n * (plan.rounds * length plan.addrs.now)) as_many many in (
       lit< tt,
       (
-        λ k d below. all_of_addresses inside (get_or workers k d).answers.items (times plan.rounds plan.addrs.now) (answered k d below).whole
+        λ k d below. all_of_addresses inside (get_or workers k d).answers.items (times plan.rounds plan.addrs.now)
+            (addresses_of c.args.table.now plan.addrs.now plan.rounds steps (get_or workers k d) (answered k d below))
             (all_times inside plan.rounds plan.addrs.now c.requires.addrs),
         omega (arith, all, c.requires.answers),
       ),
@@ -53,23 +58,37 @@ returns-clause-storm g c =
     let steps = steps_of writer in
     let answered = c.meet_all.ensures.answered in
     let as_many : length workers ≡ plan.config.workers = c.meet_all.ensures.len ∙ c.requires.len in
-    let many = subst (λ (n : ℕ). length (all_answers workers) ≡ n * (plan.rounds * length plan.addrs.now)) as_many
-    (count_all id plan.addrs.now plan.rounds steps workers answered) in
+    let held = all_held id plan.addrs.now plan.rounds steps workers answered in
+    let history = changes_by plan.commands.now outcomes in
+    let wrong = subst (λ (h : List (Change f s)). AreWrong h (held_answers workers) c.in_ok-wrong.wrong)
+    (c.deref-2.ensures.value ∙ c.in_ok-history.ensures ∙ ap (λ (os : List Outcome). changes_by plan.commands.now os) c.deref.ensures.value)
+    c.in_ok-wrong.ensures in
+    let made = c.requires.made.under_way.made in
+    let looked = all_looked id plan.addrs.now plan.rounds steps workers answered in
+    let right = all_right id plan.addrs.now plan.rounds steps f s (limits_of plan) writer history (views_of workers) made.opening made.identity made.versions refl looked in
+    let counted = subst (λ (xs : List (ℕ × Answer)). AreWrong history xs c.in_ok-wrong.wrong) held wrong in
+    let settled = subst (λ (w : WriterState). Settles id w c.settle.new.writer) c.meet_all.ensures.same c.in-Ok.ensures.settles in
     record {
       id = id;
       outcomes = outcomes;
       last = writer;
       end = c.settle.new.writer;
-      answers = all_answers workers;
+      passes = views_of workers;
       made = c.requires.made;
-      addresses = subst (λ (n : ℕ). map (λ (x : ℕ × Answer). x.0) (all_answers workers) ≡ times n (times plan.rounds plan.addrs.now)) as_many
-          (all_addresses id plan.addrs.now plan.rounds steps workers answered);
-      told = all_told id plan.addrs.now plan.rounds steps workers answered;
-      settles = subst (λ (w : WriterState). Settles id w c.settle.new.writer) c.meet_all.ensures.same c.in-Ok.ensures.settles;
-      answered = c.requires.answers.0 ∙ sym many;
+      workers = length-map workers (λ (w : Worker). w.pass.view) ∙ as_many;
+      looked = looked;
+      right = right;
+      settles = settled;
+      answered = c.requires.answers.0;
       refused = c.count_refused.ensures ∙ ap refused_among c.deref-3.ensures.value;
-      wrong = subst (λ (h : List (Change f s)). AreWrong h (all_answers workers) c.in_ok-wrong.wrong)
-          (c.deref-2.ensures.value ∙ c.in_ok-history.ensures ∙ ap (λ (os : List Outcome). changes_by plan.commands.now os) c.deref.ensures.value)
-          c.in_ok-wrong.ensures;
+      counted = counted;
+      wrong = none_wrong f s history (all_answers (views_of workers)) c.in_ok-wrong.wrong right counted;
+      limbo = c.report_of.ensures.counts.limbo ∙ ap (λ (l : List ℕ). length l) settled.emptied;
       counts = c.report_of.ensures.counts;
     }
+
+pub returns-clause-wrong : goal.returns-clause-wrong
+returns-clause-wrong g c = (returns-clause-storm g c).wrong
+
+pub returns-clause-limbo : goal.returns-clause-limbo
+returns-clause-limbo g c = (returns-clause-storm g c).limbo

@@ -39,4 +39,4 @@ finish-requires-after_bounds g c κs within =
     let over = subst (All (IsOver id plan.addrs.now plan.rounds)) (sym slice) ran.over in
     let done = subst (λ (ws : List Worker). All (λ w. w.is_done ≡ true) ws) (sym slice) ran.done in
     let len : length c.as_mut_slice-workers.result.now ≡ plan.config.workers = omega (arith, c.as_mut_slice-workers.ensures.len, ran.len, c.in_ok-workers.ensures.len) in
-    (lit< tt, (lit< tt, (lit< tt, (made, (over, (done, (len, (c.requires.answers, c.requires.addrs))))))))
+    (lit< tt, (lit< tt, (lit< tt, (made, (over, (done, (len, (c.requires.some, (c.requires.answers, c.requires.addrs)))))))))

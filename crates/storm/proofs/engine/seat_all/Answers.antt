@@ -2,7 +2,7 @@ use Rattle.std.proofs.Common.{ℕ, ◌+◌, List, All, ap, subst, sym, ◌∙◌
 use Rattle.std.proofs.lemmas.List.Elements.{All-nil, All-push}
 use Rattle.storm.specs.Looking.{IsReadyFor}
 use Rattle.storm.specs.declared.looking.Worker.{Worker}
-use Rattle.bulk.proofs.Seating.{stays_at_bench}
+use Rattle.storm.proofs.Meetings.{stays_unused}
 use Rattle.storm.proofs.engine.seat_all.Goals as goal
 
 pub loop-number-init : goal.loop-number-init
@@ -10,9 +10,7 @@ loop-number-init g c = record {
   len = c.in_ok-workers.ensures.len;
   capacity = omega (arith, c.in_ok-workers.ensures.exact);
   own = c.requires.full.0;
-  waiting = λ k from below.
-      let at = c.requires.full.1 k below in
-      (at.0, at.1);
+  waiting = λ k from below. c.requires.full.1 k below;
   ready = subst (All (IsReadyFor c.args.table.now c.args.room)) (sym {A = List Worker} c.in_ok-workers.ensures.items)
       (All-nil (IsReadyFor c.args.table.now c.args.room));
 }
@@ -31,11 +29,13 @@ loop-number-preserved g c =
       len = pushed.len ∙ ap (λ (n : ℕ). n + 1) known.len;
       capacity = omega (arith, pushed.capacity, known.capacity);
       own = c.seat.ensures.own;
-      waiting = λ k from below. rw c.in_ok-seat.ensures.taken (stays_at_bench c.loop-number.bench i k
+      waiting = λ k from below. rw c.in_ok-seat.ensures.taken (stays_unused c.loop-number.bench i k
           (omega (arith, from)) (known.waiting k (omega (arith, from)) below));
       ready = subst (All (IsReadyFor c.args.table.now c.args.room)) (sym {A = List Worker} pushed.items)
           (All-push (IsReadyFor c.args.table.now c.args.room) c.loop-number.workers.items c.in_ok-seat.field-0 known.ready c.in_ok-seat.ensures.ready);
     }
 
 pub returns-clause-others : goal.returns-clause-others
-returns-clause-others g c = λ k from below. c.loop-number.invariant.waiting k (omega (arith, from)) below
+returns-clause-others g c = λ k from below.
+    let at = c.loop-number.invariant.waiting k (omega (arith, from)) below in
+    (at.0, at.1)

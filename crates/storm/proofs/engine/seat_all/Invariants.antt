@@ -1,7 +1,6 @@
 use Rattle.std.proofs.Common.{◌≡◌, ℕ, ◌<◌, ◌≤◌, All, vec_len, vec_capacity}
 use Rattle.shared_fib.specs.Running.{IsBenchOf}
-use Rattle.bulk.specs.Desks.{IsAtBench}
-use Rattle.storm.specs.Looking.{IsReadyFor}
+use Rattle.storm.specs.Looking.{IsReadyFor, IsUnused}
 use Rattle.storm.proofs.engine.seat_all.Given as goal
 
 -- the workers so far are seated, and the passes of the others wait at the bench
@@ -10,6 +9,6 @@ invariant-loop-number g l = record {
   len : vec_len l.workers ≡ l.number;
   capacity : l.fn.count ≤ vec_capacity l.workers;
   own : IsBenchOf l.table l.bench;
-  waiting : (k : ℕ) → l.number ≤ k → k < l.table.opening.workers → IsAtBench l.bench k;
+  waiting : (k : ℕ) → l.number ≤ k → k < l.table.opening.workers → IsUnused l.bench k;
   ready : All (IsReadyFor l.table l.room) l.workers.items;
 }

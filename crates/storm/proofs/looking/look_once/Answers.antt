@@ -1,8 +1,7 @@
-use Rattle.std.proofs.Common.{◌∙◌, ◌++◌, [], ◌∷◌, ℕ, All, List, ap, subst, sym, rules, map, take, append_assoc, get_or}
+use Rattle.std.proofs.Common.{◌∙◌, ◌++◌, [], ◌∷◌, ℕ, List, ap, sym, rules, map, take, append_assoc, get_or}
 use Rattle.std.proofs.lemmas.List.{map-append, take_more}
 use Rattle.lpm_rules.specs.declared.Answer.{Answer}
 use Rattle.shared_fib.specs.Running.{setup}
-use Rattle.storm.specs.Looking.{IsToldBy}
 use Rattle.storm.proofs.Told.{told_more}
 use Rattle.storm.proofs.looking.look_once.Goals as goal
 
@@ -14,12 +13,13 @@ loop-i-preserved g c =
     let was = c.loop-i.invariant in
     let addrs = c.args.lookups.now.addrs.now in
     let id = c.args.lookups.now.table.now in
-    let more = told_more (setup id) c.loop-i.worker.pass.view c.lookup-answer.new.self.view _ c.lookup-answer.result c.loop-i.worker.answers.items (ap setup (was.own ∙ c.requires.own)) was.told c.lookup-answer.ensures.answer in
+    let more = told_more c.loop-i.worker.pass.view c.lookup-answer.new.self.view _ c.lookup-answer.result c.lookup-answer.ensures.answer
+    (setup id) c.loop-i.worker.answers.items (ap setup (was.own ∙ c.requires.own)) (was.told.answers, was.told.versions) in
     record {
       own = c.lookup-answer.ensures.own ∙ was.own;
       online = c.lookup-answer.ensures.online;
       len = search rules;
-      told = subst (λ (xs : List (ℕ × Answer)). All (IsToldBy (setup id) c.lookup-answer.new.self.view.seen) xs) (sym c.push_reserved.ensures.items) more;
+      told = record { answers = c.push_reserved.ensures.items ∙ more.0; versions = more.1 };
       whole = ap (map address_of) c.push_reserved.ensures.items
           ∙ map-append address_of c.loop-i.worker.answers.items _
           ∙ ap (λ (xs : List ℕ). xs ++ get_or addrs c.loop-i.i 0 ∷ []) was.whole

@@ -1,7 +1,8 @@
 use Rattle.std.proofs.Common.{◌≡◌, ◌+◌, ◌∙◌, refl, arith, rules, map}
+use Rattle.lpm_trace.specs.declared.step.WorkerStep.TheVariants.{LoadQuiescent, StoreQuiescent}
 use Rattle.shared_fib.specs.Running.{setup}
 use Rattle.storm.specs.Looking.{times}
-use Rattle.storm.proofs.Told.{all_later}
+use Rattle.storm.proofs.Told.{kept_by_two, told_on}
 use Rattle.storm.proofs.Rounds.{length_rounds, one_more_round}
 use Rattle.storm.proofs.looking.look_rounds.Goals as goal
 
@@ -13,11 +14,17 @@ loop-round-preserved g c =
     let made = c.look_once.new.worker in
     let all : map (λ x. x.0) made.answers.items ≡ times (c.loop-round.round + 1) addrs =
     one_more_round c.loop-round.round addrs _ _ was.whole (c.if-not-look_once.ensures.whole refl) in
+    let before = made.pass.view in
+    let after = c.quiescent.new.self.view in
+    let steps = c.quiescent.ensures.steps in
+    let same = kept_by_two (LoadQuiescent steps.0) (StoreQuiescent steps.0) before after (λ now r. refl) (λ now r. refl) steps.1 in
+    let told = told_on (setup id) before after made.answers.items same c.quiescent.ensures.rest.later
+    (c.look_once.ensures.told.answers, c.look_once.ensures.told.versions) in
     record {
       own = c.quiescent.ensures.own ∙ c.look_once.ensures.own ∙ was.own;
       online = c.quiescent.ensures.online;
       len = let e = length_rounds (c.loop-round.round + 1) addrs made.answers.items all in omega (arith, e);
-      told = all_later (setup id) made.pass.view.seen c.quiescent.new.self.view.seen made.answers.items c.quiescent.ensures.rest.later c.look_once.ensures.told;
+      told = record { answers = told.0; versions = told.1 };
       whole = all;
       capacity = search rules;
     }

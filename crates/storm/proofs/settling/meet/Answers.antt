@@ -1,22 +1,16 @@
-use Rattle.std.proofs.Common.{All, List, subst}
-use Rattle.lpm_trace.specs.declared.step.WriterStep.{WriterStep}
-use Rattle.lpm_trace.specs.declared.step.WorkerStep.TheVariants.{Meets}
-use Rattle.shared_fib.specs.Running.{setup, steps_of}
-use Rattle.shared_deeds.proofs.Deeds.{gains_on}
-use Rattle.storm.specs.Looking.{IsToldBy}
-use Rattle.storm.proofs.Told.{all_later}
+use Rattle.std.proofs.Common.{ap, ◌∙◌}
+use Rattle.shared_fib.specs.Running.{Identity, steps_of}
+use Rattle.storm.proofs.Told.{looked_up}
 use Rattle.storm.proofs.settling.meet.Goals as goal
 
 pub returns-clause-answered : goal.returns-clause-answered
 returns-clause-answered g c =
-    let c0 = setup c.args.table.now in
+    let id = c.args.table.now in
     let over = c.requires.over in
-    let answers = c.args.worker.now.answers.items in
+    let old = c.args.worker.now.pass.view in
+    let told = record old { told = steps_of c.args.writer.now } in
     let step = c.meet.ensures.step in
-    let before = record c.args.worker.now.pass.view { told = steps_of c.args.writer.now } in
-    let on = gains_on (Meets step.0) before c.meet.new.self.view step.1 in
-    record {
-      told = subst (λ (steps : List WriterStep). All (IsToldBy c0 steps) answers) c.meet.ensures.all
-          (all_later c0 c.args.worker.now.pass.view.seen c.meet.new.self.view.seen answers on.later over.told);
-      whole = over.whole c.requires.done;
-    }
+    let own = ap (λ (i : Identity). i.opening) (c.meet.ensures.own ∙ over.identity) in
+    let met = looked_up id c.args.addrs.now c.args.rounds (steps_of c.args.writer.now) step.0 told c.meet.new.self.view c.args.worker.now.answers.items
+    step.1 own c.meet.ensures.all (over.told.answers, over.told.versions) (over.whole c.requires.done) in
+    record { answers = met.0; looked = met.1 }

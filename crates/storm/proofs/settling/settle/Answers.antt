@@ -1,19 +1,30 @@
-use Rattle.std.proofs.Common.{ℕ, length, ap, ◌∙◌, subst}
+use Rattle.std.proofs.Common.{ℕ, ◌≡◌, ◌<◌, ◌≤◌, length, ap, ◌∙◌, sym, subst}
+use Rattle.std.specs.Prelude.{All}
+use Rattle.lpm_trace.specs.Tables.{tables}
 use Rattle.fib_model.specs.Outcomes.{Frees}
 use Rattle.lpm_writer.specs.Traced.{by_steps}
-use Rattle.shared_fib.specs.Running.{WriterState, setup}
+use Rattle.shared_fib.specs.Running.{Identity, WriterState, setup, steps_of}
+use Rattle.storm.proofs.Emptied.{emptied}
 use Rattle.storm.proofs.settling.settle.Goals as goal
 
 pub returns-clause-settles : goal.returns-clause-settles
 returns-clause-settles g c =
+    let id = c.args.table.now in
     let passed = c.synchronize.new.self in
     let told = c.in_ok-synchronize.ensures in
     let limbo = c.counts-waiting.ensures.limbo ∙ ap (λ (w : WriterState). length w.table.limbo) told.same in
+    let own : passed.identity ≡ id = ap (λ (w : WriterState). w.identity) told.same ∙ c.requires.own in
+    let queued = subst (λ (i : Identity). All (λ token. token ≤ (tables (setup i) (steps_of passed)).passed) passed.table.limbo)
+    own (told.queued c.requires.some) in
+    let some : 0 < (setup id).workers = subst (λ (n : ℕ). 0 < n) (sym c.requires.workers) c.requires.some in
+    let all = subst (λ (n : ℕ). Frees (by_steps (setup id)) passed.table n c.reclaim.result c.reclaim.new.self.table)
+    c.counts-waiting.ensures.limbo c.reclaim.ensures.frees in
     record {
       passed = passed;
       reclaimed = c.reclaim.result;
       synchronizes = told.synchronizes;
       same = told.same;
-      frees = subst (λ (n : ℕ). Frees (by_steps (setup c.args.table.now)) passed.table n c.reclaim.result c.reclaim.new.self.table)
+      frees = subst (λ (n : ℕ). Frees (by_steps (setup id)) passed.table n c.reclaim.result c.reclaim.new.self.table)
           limbo c.reclaim.ensures.frees;
+      emptied = emptied (setup id) some passed.table c.reclaim.new.self.table c.reclaim.result queued all;
     }

@@ -1,0 +1,174 @@
+-- The versions of the writer are those of the accepted changes.
+use Rattle.std.proofs.Common.{arith, ◌≡◌, ◌+◌, ◌≤◌, ℕ, zero, suc, inl, inr, refl, ap, ◌∙◌, sym, subst, List, [], ◌∷◌, ◌++◌, length, length-append}
+use Rattle.std.specs.FinMap.{empty}
+use Rattle.std.proofs.lemmas.Bool.{cases_lt}
+use Rattle.std.proofs.lemmas.List.{take-append-le, take_all}
+use Rattle.lpm_limits.specs.declared.config.Config.{Config}
+use Rattle.lpm_limits.specs.declared.refusal.Refusal.TheVariants.{TooManyRules, NoSuchRule, Exhausted, NoGroups, Memory}
+use Rattle.lpm_rules.specs.RuleMap.{RuleMap}
+use Rattle.lpm_rules.specs.Changes.{rules_after}
+use Rattle.lpm_rules.specs.Longest.{IsLongestHop}
+use Rattle.lpm_rules.specs.declared.Change.{Change}
+use Rattle.lpm_rules.specs.declared.Put.TheVariants.{Added, Replaced, Unchanged}
+use Rattle.lpm_rules.proofs.LastChange.{rules_after-append}
+use Rattle.fib_model.specs.declared.command.Command.{Command}
+use Rattle.fib_model.specs.declared.command.Command.TheVariants as command
+use Rattle.fib_model.specs.declared.command.Outcome.{Outcome}
+use Rattle.fib_model.specs.declared.command.Outcome.TheVariants as outcome
+use Rattle.fib_model.specs.State.{State, Keeping}
+use Rattle.fib_model.specs.Outcomes.{Does}
+use Rattle.lpm_trace.specs.declared.step.WriterStep.{WriterStep}
+use Rattle.lpm_trace.specs.Tables.{Setup, Tables, begun, tables}
+use Rattle.lpm_trace.specs.Workers.{Seen}
+use Rattle.lpm_trace.proofs.Traces.{begun_grows}
+use Rattle.lpm_writer.specs.Opening.{opening_setup}
+use Rattle.shared_words.specs.Rule.{IsLater}
+use Rattle.shared_fib.specs.Running.{Identity, IsAtRest, WriterState, left_by, opens_with, setup, steps_of}
+use Rattle.running_laws.proofs.Backwards.{versions_stay}
+use Rattle.audit.specs.Wrong.{IsOfSomeVersion, version_of}
+use Rattle.storm.specs.Changing.{HasVersions, IsForWriter, by_own_steps, change_by}
+use Rattle.storm.specs.Looking.{IsOfAVersion, answer_of}
+use Rattle.storm.proofs.Later.{command_later, steps_go_on}
+
+-- ---- one command
+
+-- a command leaves the rules after its change, and begins an update where it made one
+record Comes {X : Type 0} {f g : ℕ} (s z : State X) (changes : List (Change f g)) : Type 0 where
+  rules : z.rules ≡ rules_after s.rules changes
+  begun : z.begun ≡ s.begun + length changes
+  few : length changes ≤ 1
+
+module _ {X : Type 0} {f g : ℕ} (s z : State X) where
+  no_change : z ≡ s → Comes {X = X} {f = f} {g = g} s z []
+  no_change same = record {
+    rules = ap (λ (x : State X). x.rules) same;
+    begun = let e : z.begun ≡ s.begun = ap (λ (x : State X). x.begun) same in omega (arith, e);
+    few = omega arith;
+  }
+
+  a_change : (change : Change f g) → z.rules ≡ rules_after s.rules (change ∷ []) → z.begun ≡ s.begun + 1
+      → Comes s z (change ∷ [])
+  a_change change rules count = record { rules = rules; begun = count; few = omega arith }
+
+  kept_rules : z.rules ≡ s.rules → z.begun ≡ s.begun → Comes {X = X} {f = f} {g = g} s z []
+  kept_rules rules count = record { rules = rules; begun = omega (arith, count); few = omega arith }
+
+comes : {X : Type 0} (k : Keeping X) (f g : ℕ) (c : Config) (s z : State X) (order : Command f g) (out : Outcome)
+    → IsForWriter order → Does k f g c s order out z → Comes s z (change_by order out)
+comes k f g c s z (command.Add p h) (outcome.Put Added) mine d = a_change s z _ d.2.0 d.2.1
+comes k f g c s z (command.Add p h) (outcome.Put Replaced) mine d = a_change s z _ d.3.0 d.3.1
+comes k f g c s z (command.Add p h) (outcome.Put Unchanged) mine d = no_change s z d.1
+comes k f g c s z (command.Add p h) (outcome.Refused TooManyRules) mine d = no_change s z d.3
+comes k f g c s z (command.Add p h) (outcome.Refused Exhausted) mine d = no_change s z d.2
+comes {X} k f g c s z (command.Add p h) (outcome.Refused (NoGroups oldest)) mine d =
+    kept_rules s z (ap (λ (x : State X). x.rules) d.3) (ap (λ (x : State X). x.begun) d.3)
+comes k f g c s z (command.Add p h) (outcome.Refused Memory) mine d = no_change s z d.1
+comes k f g c s z (command.Add p h) (outcome.Refused other) mine d = absurd d
+comes k f g c s z (command.Add p h) other mine d = absurd d
+comes k f g c s z (command.Delete p) (outcome.Deleted h) mine d = a_change s z _ d.1.2.0 d.1.2.1
+comes k f g c s z (command.Delete p) (outcome.Refused NoSuchRule) mine d = no_change s z d.1
+comes k f g c s z (command.Delete p) (outcome.Refused Exhausted) mine d = no_change s z d.2
+comes k f g c s z (command.Delete p) (outcome.Refused other) mine d = absurd d
+comes k f g c s z (command.Delete p) other mine d = absurd d
+comes k f g c s z command.Flush (outcome.Flushed zero) mine d = no_change s z (d.1 refl)
+comes k f g c s z command.Flush (outcome.Flushed (suc n)) mine d =
+    let shrinks = d.2 (omega arith) in a_change s z _ shrinks.2.0 shrinks.2.1
+comes k f g c s z command.Flush (outcome.Refused Exhausted) mine d = no_change s z d.2
+comes k f g c s z command.Flush (outcome.Refused other) mine d = absurd d
+comes k f g c s z command.Flush other mine d = absurd d
+comes {X} k f g c s z (command.Reclaim max) (outcome.Reclaimed r) mine d =
+    kept_rules s z (ap (λ (x : State X). x.rules) d.1) (ap (λ (x : State X). x.begun) d.1)
+comes k f g c s z (command.Reclaim max) other mine d = absurd d
+comes k f g c s z (command.Report report w) out mine d = absurd mine
+
+-- ---- the versions, command by command
+
+module _ (f g : ℕ) where
+  pub versions_none : (id : Identity) (config : Config) → setup id ≡ opening_setup f g config
+      → HasVersions {first = f} {second = g} (opens_with id config empty) []
+  versions_none id config opening = record {
+    count = refl;
+    begun = refl;
+    rules = refl;
+    each = λ k low. ap (λ (c : Setup). c.rules) opening ∙ sym (ap (rules_after empty) (take_all k [] (omega arith)));
+  }
+
+  -- the rules after all changes are those of the last version
+  all_changes : (changes : List (Change f g)) (k : ℕ) → length changes ≤ k → version_of changes k ≡ rules_after empty changes
+  all_changes changes k le = ap (rules_after empty) (take_all k changes le)
+
+  module _ (id : Identity) (w z : WriterState) (before change : List (Change f g)) (has : HasVersions w before)
+      (own : w.identity ≡ id) (own' : z.identity ≡ id) (later : IsLater (steps_of w) (steps_of z)) (rests : IsAtRest z)
+      (came : Comes w.table z.table change) where
+    count_now : z.table.begun ≡ length (before ++ change)
+    count_now = let e : z.table.begun ≡ w.table.begun + length change = came.begun in omega (arith, e, has.count, length-append before change)
+
+    rules_now : z.table.rules ≡ rules_after empty (before ++ change)
+    rules_now =
+        came.rules ∙ (ap (λ (R : RuleMap). rules_after R change) has.rules ∙ sym (rules_after-append f g empty before change))
+
+    -- the table's state after the steps before, whichever of its names is used
+    left_before : left_by w ≡ tables (setup id) (steps_of w)
+    left_before = ap (λ (i : Identity). tables (setup i) (steps_of w)) own
+
+    left_now : left_by z ≡ tables (setup id) (steps_of z)
+    left_now = ap (λ (i : Identity). tables (setup i) (steps_of z)) own'
+
+    old_version : (k : ℕ) → k ≤ length before → (left_by z).history k ≡ version_of (before ++ change) k
+    old_version k low =
+        let begun_k : k ≤ begun (tables (setup id) (steps_of w)) =
+        subst (λ (t : Tables). k ≤ begun t) left_before (omega (arith, low, has.begun)) in
+        ap (λ (t : Tables). t.history k) left_now
+        ∙ (versions_stay (setup id) (steps_of w) (steps_of z) k later begun_k
+        ∙ (ap (λ (t : Tables). t.history k) (sym left_before)
+        ∙ (has.each k low ∙ sym (ap (rules_after empty) (take-append-le k before change low)))))
+
+    new_version : (k : ℕ) → k ≡ z.table.begun → (left_by z).history k ≡ version_of (before ++ change) k
+    new_version k here =
+        ap (λ (n : ℕ). (left_by z).history n) here
+        ∙ (rests.rules ∙ (rules_now ∙ sym (all_changes (before ++ change) k (omega (arith, here, count_now)))))
+
+    versions_more : HasVersions z (before ++ change)
+    versions_more = record {
+      count = count_now;
+      begun = rests.begun ∙ count_now;
+      rules = rules_now;
+      each = λ k low. elim (cases_lt (length before) k) [
+        | inl new ↦ new_version k (omega (arith, low, new, count_now, length-append before change, came.few))
+        | inr old ↦ old_version k (omega (arith, old))
+      ];
+    }
+
+  pub versions_next : (id : Identity) (config : Config) (w z : WriterState) (before : List (Change f g)) (order : Command f g) (out : Outcome)
+      → HasVersions w before → w.identity ≡ id → z.identity ≡ id → IsForWriter order → IsAtRest z
+      → Does (by_own_steps (setup id)) f g config w.table order out z.table → HasVersions z (before ++ change_by order out)
+  versions_next id config w z before order out has own own' mine rests does =
+      let keeping : Keeping (List WriterStep) = by_own_steps (setup id) in
+      versions_more id w z before (change_by order out) has own own'
+      (command_later keeping (steps_go_on (setup id)) f g config w.table z.table order out mine does) rests
+      (comes keeping f g config w.table z.table order out mine does)
+
+  -- ---- answers
+
+  -- a lookup of a version by the writer's steps answers by a version of the accepted changes
+  pub answer_is_right : (id : Identity) (config : Config) (w : WriterState) (changes : List (Change f g)) (seen : Seen)
+      → setup id ≡ opening_setup f g config → w.identity ≡ id → HasVersions w changes
+      → IsOfAVersion (setup id) (steps_of w) seen → IsOfSomeVersion changes (answer_of seen)
+  answer_is_right id config w changes seen opening own has of =
+      let c : Setup = setup id in
+      let k : ℕ = of.0 in
+      let h = of.1 in
+      let left : left_by w ≡ tables c (steps_of w) = ap (λ (i : Identity). tables (setup i) (steps_of w)) own in
+      let begun_k : k ≤ begun (tables c (steps_of w)) = omega (arith, h.stands.1, begun_grows c (steps_of w) h.place) in
+      let within : k ≤ length changes = subst (λ (n : ℕ). k ≤ n) has.begun (subst (λ (t : Tables). k ≤ begun t) (sym left) begun_k) in
+      let rules : (tables c (steps_of w)).history k ≡ version_of changes k =
+      ap (λ (t : Tables). t.history k) (sym left) ∙ has.each k within in
+      let width : c.first + c.second ≡ f + g = ap (λ (s : Setup). s.first + s.second) opening in
+      record {
+        k = k;
+        from = h.low;
+        to = h.high;
+        within = within;
+        answers = subst (λ (n : ℕ). IsLongestHop n (version_of changes k) seen.addr seen.hop) width
+            (subst (λ (R : RuleMap). IsLongestHop (c.first + c.second) R seen.addr seen.hop) rules h.answers);
+      }

@@ -1,0 +1,21 @@
+use Rattle.std.proofs.Common.{◌≡◌, ◌∙◌, true, arith, length-set, subst}
+use Rattle.shared_fib.specs.Running.{WriterState, steps_of}
+use Rattle.storm.specs.Looking.{HasAnswered, IsOver}
+use Rattle.storm.specs.declared.looking.Worker.{Worker}
+use Rattle.storm.proofs.Meetings.{one_more}
+use Rattle.storm.proofs.settling.meet_all.Goals as goal
+
+pub loop-number-preserved : goal.loop-number-preserved
+loop-number-preserved g c =
+    let was = c.loop-number.invariant in
+    let id = c.args.table.now in
+    let addrs = c.args.addrs.now in
+    let rounds = c.args.rounds in
+    let worker = c.meet.new.worker in
+    let now = subst (λ (w : WriterState). HasAnswered id addrs rounds (steps_of w) worker) was.same c.meet.ensures.answered in
+    record {
+      same = c.meet.ensures.same ∙ was.same;
+      len = length-set c.loop-number.workers c.loop-number.number worker ∙ was.len;
+      met = one_more (HasAnswered id addrs rounds (steps_of c.args.writer.now)) (λ (w : Worker). IsOver id addrs rounds w × (w.is_done ≡ true))
+          c.loop-number.number c.loop-number.workers worker (omega (arith, c.loop-number-test.true, was.len)) was.met now;
+    }
