@@ -119,8 +119,8 @@ def large_cases():
                    out=answers, refusing=False)
     yield reported("large-load", limits, "", table.numbers(), **plain)
     updates, outcomes = map(large.text, large.changed(table))
-    yield applied("large-apply", limits, updates, outcomes + large.text(large.answers(table)), addresses=addresses,
-                  **plain)
+    yield applied("large-apply", f"{limits} --workers 4", updates, outcomes + large.text(large.answers(table)),
+                  addresses=addresses, **plain)
     yield reported("large-report", limits, updates, table.numbers(), **plain)
     # (which updates are refused, and so the counts, depends on how the threads run; that no answer is wrong doesn't)
     yield case("large-storm", f"storm --rules {large.ROUTES} --groups {large.STORM_GROUPS} --workers 3 --rounds 300 r u a",
@@ -129,8 +129,19 @@ def large_cases():
     old, new = map(large.text, zip(*large.migrated()))
     yield migrated("large-migrate", old, UPDATES + new, refusing=False)
     yield fault("large-route-fault", f"{routes}x\n", f"{large.ROUTES + 1}: bad fields", refusing=False)
-    yield case("large-address-fault", "lookup r a", {"r": "", "a": f"{addresses}x\n"}, 4,
-               err=f"lpmtool: a:{large.ADDRESSES + 1}: bad address\n", refusing=False)
+    # Each worker reads a piece of the file. The first fault wins, by its line in the whole file.
+    for workers in (1, 3):
+        yield case(f"large-address-fault-{workers}", f"lookup --workers {workers} r a", {"r": "", "a": f"{addresses}x\n"}, 4,
+                   err=f"lpmtool: a:{large.ADDRESSES + 1}: bad address\n", refusing=False)
+    for first in (1, 40_000, 70_000, 99_000):
+        bad = addresses.split("\n")
+        bad[first - 1], bad[99_999] = "1.2.3", "x"
+        yield case(f"large-address-faults-{first}", "lookup --workers 3 r a", {"r": "", "a": "\n".join(bad)}, 4,
+                   err=f"lpmtool: a:{first}: bad address\n", refusing=False)
+    # Two pieces of which each allocation is refused.
+    few = "".join(f"10.{number >> 8}.{number & 255}.255\n" for number in range(11_000))
+    yield case("two-pieces-of-a-file", "lookup --workers 2 r a", {"r": "10.0.0.0/8 7\n", "a": few},
+               out=few.replace("\n", " 7\n"))
     yield update_fault("large-update-fault", f"{UPDATES}{updates}x\n", f"{large.UPDATES + 2}: bad word", refusing=False)
     yield case("large-rules-load", f"report --rules {large.ROUTES - 1} --groups {large.GROUPS} r u",
                {"r": routes, "u": UPDATES}, 6, err=f"lpmtool: r:{large.ROUTES}: refused 3 TooManyRules\n",

@@ -9,13 +9,14 @@ use bulk::{BulkError, Gate, bulk, bulk_plain, seat_all};
 use fib::Fib;
 use lpm_bits::Hop;
 use lpm_files::Failure;
-use output_text::answers_text;
+use parallel_text::answers_text_on;
 use qsbr::Refusal;
 use shared_fib::{Bench, SharedTable, Writer, go_live};
 use std::alloc::Global;
 use std::thread::Threads;
 
-/// A line for each address with its answer by this table, by as many threads as it has workers.
+/// A line for each address with its answer by this table, answered and written by as many threads as it has
+/// workers.
 pub fn text_of_answers<'a, R: Threads + Sync, G: Gate>(
     rt: &R,
     alloc: Global,
@@ -32,11 +33,12 @@ pub fn text_of_answers<'a, R: Threads + Sync, G: Gate>(
         Ok(hops) => hops,
         Err(error) => return Err(ending_of(error)),
     };
-    Ok(answers_text(alloc, addrs, &hops)?)
+    Ok(answers_text_on(rt, alloc, addrs, &hops, workers)?)
 }
 
 /// A line for each address with its answer by the running table that this one becomes. Each of its
-/// workers answers a piece of the addresses by its own pass, on its own thread.
+/// workers answers a piece of the addresses by its own pass, on its own thread. The lines are written on
+/// as many threads.
 ///
 /// No worker may be online yet.
 pub fn text_of_live_answers<'a, R: Threads + Sync, G: Gate>(
@@ -52,8 +54,9 @@ pub fn text_of_live_answers<'a, R: Threads + Sync, G: Gate>(
         IsAnswered fib.config fib.table.rules addrs.now v.items) }
     ensures failure { IfErr result (EndsAnswering fib.config.workers) }
 {
+    let workers = fib.config().workers;
     let hops = live_hops(rt, alloc, fib, addrs, gate)?;
-    Ok(answers_text(alloc, addrs, &hops)?)
+    Ok(answers_text_on(rt, alloc, addrs, &hops, workers)?)
 }
 
 // The next hops of the addresses by the running table that this one becomes.

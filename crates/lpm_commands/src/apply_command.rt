@@ -10,7 +10,7 @@ use crate::loading::load;
 use crate::updating::{text_of_outcomes, update};
 use bulk::Gate;
 use fib::Fib;
-use lpm_files::{Addresses, Failure, Files, Routes, Updates, put_text, read_list};
+use lpm_files::{Failure, Files, Routes, Updates, put_text, read_addresses_on, read_list};
 use qsbr::Config;
 use route_text::Order;
 use std::alloc::Global;
@@ -73,7 +73,7 @@ fn apply_text<'a, R: Threads + Sync, F: Files, G: Gate>(
 {
     let list = read_list::<Routes, F>(alloc, files, routes)?;
     let orders = read_list::<Updates, F>(alloc, files, updates)?;
-    let addrs = read_list::<Addresses, F>(alloc, files, addresses)?;
+    let addrs = read_addresses_on(rt, alloc, files, addresses, config.workers)?;
     let mut table = load(alloc, routes, &list, config)?;
     text_after(rt, alloc, &mut table, &orders, &addrs, gate)
 }

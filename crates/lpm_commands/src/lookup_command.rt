@@ -7,7 +7,7 @@ ghost use Rattle.lpm_commands.specs.Lookup.{IsLookupText, EndsLookup};
 use crate::answers::text_of_live_answers;
 use crate::loading::load_for_lookups;
 use bulk::Gate;
-use lpm_files::{Addresses, Failure, Files, Routes, put_text, read_list};
+use lpm_files::{Failure, Files, Routes, put_text, read_addresses_on, read_list};
 use qsbr::Config;
 use std::alloc::Global;
 use std::io::Write;
@@ -65,7 +65,7 @@ fn lookup_text<'a, R: Threads + Sync, F: Files, G: Gate>(
     ensures unwritten { IfErr result (λ e. e ≢ Failure.CannotWrite) }
 {
     let list = read_list::<Routes, F>(alloc, files, routes)?;
-    let addrs = read_list::<Addresses, F>(alloc, files, addresses)?;
+    let addrs = read_addresses_on(rt, alloc, files, addresses, config.workers)?;
     let table = load_for_lookups(alloc, routes, &list, config)?;
     text_of_live_answers(rt, alloc, table, &addrs, gate)
 }

@@ -5,7 +5,7 @@ ghost use Rattle.route_text.specs.Files.{AreRoutes, IsRoutesFault, AreAddresses,
 ghost use Rattle.route_text.specs.Updates.{AreUpdates, IsUpdatesFault};
 ghost use Rattle.route_text.specs.Updates.{AreOldUpdates, IsOldUpdatesFault, IsCountInRange};
 ghost use Rattle.route_text.specs.Readings.{IsReadError};
-ghost use Rattle.lpm_files.specs.Inputs.{input, Reads, EndsParsing, EndsReading};
+ghost use Rattle.lpm_files.specs.Inputs.{address_file, input, Reads, EndsParsing, EndsReading};
 
 use crate::failure::Failure;
 use crate::files::{Files, ReadFailure, read_file};
@@ -13,6 +13,7 @@ use route_text::{
     Order, ReadError, Route, read_addresses, read_routes, read_updates, read_updates_v1,
 };
 use std::alloc::Global;
+use std::thread::Threads;
 
 /// A form of files, whose bytes list items.
 pub trait Form {
@@ -124,6 +125,31 @@ pub fn read_list<'a, L: Form, F: Files>(
         Err(failure) => return Err(unread(path, failure)),
     };
     parsed::<L>(alloc, path, &bytes)
+}
+
+/// The addresses of the file at the path, as `read_list::<Addresses, F>` gives them. The file is read whole,
+/// and then parsed in pieces on at most so many threads.
+pub fn read_addresses_on<'a, R: Threads + Sync, F: Files>(
+    rt: &R,
+    alloc: Global,
+    files: &F,
+    path: &'a str,
+    threads: usize,
+) -> Result<Vec<u32>, Failure<'a>>
+    ensures items { IfOk result (λ v.
+        Reads AreAddresses (F.bytes files.now path.entry.now) v.items) }
+    ensures failure { IfErr result (EndsReading
+        (address_file path.entry.now (F.bytes files.now path.entry.now))) }
+{
+    let bytes = match read_file(alloc, files, path) {
+        Ok(bytes) => bytes,
+        Err(failure) => return Err(unread(path, failure)),
+    };
+    match parallel_text::read_addresses_on(rt, alloc, &bytes, threads) {
+        Ok(addrs) => Ok(addrs),
+        Err(ReadError::Fault(fault)) => Err(Failure::Bad { path, fault }),
+        Err(ReadError::Memory) => Err(Failure::Memory),
+    }
 }
 
 // The items of these bytes of the file at the path. Want of memory here isn't a failed read.

@@ -1,0 +1,10 @@
+//! Files of addresses read, and answers written, in pieces on several threads. What comes of it is what
+//! one thread gives: the same list or the same first fault, and the same text.
+#![tactic(auto)]
+
+mod addresses;
+mod answers;
+mod lines;
+
+pub use addresses::read_addresses_on;
+pub use answers::answers_text_on;
