@@ -47,9 +47,10 @@ pub record IsPlanOf (c : Config) (rounds : ℕ) (is_stuck : Bool) (list : List R
   pub addresses : plan.addrs.now ≡ addrs
   pub times : plan.rounds ≡ rounds
 
--- the text is the report of a storm of this plan
+-- the text is the report of a storm of this plan, and its line of wrong answers is `wrong 0`
 abbrev pub IsTextOf : Plan 24 8 → List ℕ → Type 0
-IsTextOf plan text = (report : StormReport) × IsStorm plan report × (text ≡ storm_lines report)
+IsTextOf plan text = (report : StormReport)
+    × IsStorm plan report × (report.wrong ≡ 0) × (text ≡ storm_lines report)
 
 -- the text is the report of a storm of these routes, updates and addresses
 abbrev pub IsTextOver : Config → ℕ → Bool → List Route → List Order → List ℕ → List ℕ → Type 0
