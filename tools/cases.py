@@ -119,8 +119,9 @@ def large_cases():
                    out=answers, refusing=False)
     yield reported("large-load", limits, "", table.numbers(), **plain)
     updates, outcomes = map(large.text, large.changed(table))
-    yield applied("large-apply", f"{limits} --workers 4", updates, outcomes + large.text(large.answers(table)),
-                  addresses=addresses, **plain)
+    told = outcomes + large.text(large.answers(table))
+    for workers in (1, 4):
+        yield applied(f"large-apply-{workers}", f"{limits} --workers {workers}", updates, told, addresses=addresses, **plain)
     yield reported("large-report", limits, updates, table.numbers(), **plain)
     # (which updates are refused, and so the counts, depends on how the threads run; that no answer is wrong doesn't)
     yield case("large-storm", f"storm --rules {large.ROUTES} --groups {large.STORM_GROUPS} --workers 3 --rounds 300 r u a",
@@ -138,6 +139,14 @@ def large_cases():
         bad[first - 1], bad[99_999] = "1.2.3", "x"
         yield case(f"large-address-faults-{first}", "lookup --workers 3 r a", {"r": "", "a": "\n".join(bad)}, 4,
                    err=f"lpmtool: a:{first}: bad address\n", refusing=False)
+    # Pieces cut in lines of CR LF, in a comment that is longer than a piece, and in one line.
+    returned = addresses.replace("\n", "\r\n")[:-2]
+    long = f"{addresses}#{' comment' * 40_000}\n{addresses}"
+    for name, text, count in (("returns", returned, 1), ("long-comment", long, 2)):
+        yield case(f"large-{name}", "lookup --workers 3 r a", {"r": "0.0.0.0/0 7\n", "a": text},
+                   out=addresses.replace("\n", " 7\n") * count, refusing=False)
+    yield case("large-line", "lookup --workers 4 r a", {"r": "", "a": f"{' ' * 300_000}1.2.3.4"}, out="1.2.3.4 -\n",
+               refusing=False)
     # Two pieces of which each allocation is refused.
     few = "".join(f"10.{number >> 8}.{number & 255}.255\n" for number in range(11_000))
     yield case("two-pieces-of-a-file", "lookup --workers 2 r a", {"r": "10.0.0.0/8 7\n", "a": few},

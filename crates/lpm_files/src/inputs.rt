@@ -146,9 +146,9 @@ pub fn read_addresses_on<'a, R: Threads + Sync, F: Files>(
         Err(failure) => return Err(unread(path, failure)),
     };
     match parallel_text::read_addresses_on(rt, alloc, &bytes, threads) {
-        Ok(addrs) => Ok(addrs),
-        Err(ReadError::Fault(fault)) => Err(Failure::Bad { path, fault }),
-        Err(ReadError::Memory) => Err(Failure::Memory),
+        Ok(addrs) => return Ok(addrs),
+        Err(ReadError::Fault(fault)) => return Err(Failure::Bad { path, fault }),
+        Err(ReadError::Memory) => return Err(Failure::Memory),
     }
 }
 

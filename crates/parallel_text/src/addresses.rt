@@ -10,7 +10,7 @@ use route_text::{Fault, ReadError, read_addresses};
 use std::alloc::Global;
 use std::thread::{Threads, join};
 
-/// How many bytes are worth a thread.
+/// How many bytes a piece is to have at least, before its end is moved to that of a line.
 const LEAST_BYTES: usize = 65_536;
 
 /// What two pieces of the bytes, cut where a line ends, come to.
@@ -61,16 +61,22 @@ fn later(bytes: &[u8], front: &[u8], back: &[u8], error: ReadError) -> ReadError
     }
 }
 
-/// The addresses of the bytes, read in so many pieces.
-fn read_pieces<R: Threads + Sync>(
+/// The addresses that the file lists, as `route_text::read_addresses` gives them, read in pieces on
+/// at most so many threads. The pieces are cut where lines end, and have 64 KiB or about that. Where
+/// a thread can't be had its piece is read by the thread that asks.
+///
+/// The errors: the first fault of the file, by its line in the whole file, or want of memory for the
+/// list or a piece of it.
+pub fn read_addresses_on<R: Threads + Sync>(
     rt: &R,
     alloc: Global,
     bytes: &[u8],
-    pieces: usize,
+    threads: usize,
 ) -> Result<Vec<u32>, ReadError>
     ensures addrs { IfOk result (λ v. AreAddresses bytes.now v.items) }
     ensures error { IfErr result (IsReadError (IsAddressesFault bytes.now)) }
 {
+    let pieces = threads.min(bytes.len() / LEAST_BYTES);
     if pieces < 2 {
         return read_addresses(alloc, bytes);
     }
@@ -84,30 +90,12 @@ fn read_pieces<R: Threads + Sync>(
             requires { IsSync R.row }
             ensures addrs { IfOk result (λ v. AreAddresses front.entry.now v.items) }
             ensures error { IfErr result (IsReadError (IsAddressesFault front.entry.now)) }
-        { read_pieces(rt, alloc, front, few) },
+        { read_addresses_on(rt, alloc, front, few) },
         || -> Result<Vec<u32>, ReadError>
             requires { IsSync R.row }
             ensures addrs { IfOk result (λ v. AreAddresses back.entry.now v.items) }
             ensures error { IfErr result (IsReadError (IsAddressesFault back.entry.now)) }
-        { read_pieces(rt, alloc, back, more) },
+        { read_addresses_on(rt, alloc, back, more) },
     );
     joined(bytes, front, back, first, second)
-}
-
-/// The addresses that the file lists, as `route_text::read_addresses` gives them, read in pieces on
-/// at most so many threads. The pieces are cut where lines end; one of less than 64 KiB isn't worth a
-/// thread. Where a thread can't be had its piece is read by the thread that asks.
-///
-/// The errors: the first fault of the file, by its line in the whole file, or want of memory for the
-/// list or a piece of it.
-pub fn read_addresses_on<R: Threads + Sync>(
-    rt: &R,
-    alloc: Global,
-    bytes: &[u8],
-    threads: usize,
-) -> Result<Vec<u32>, ReadError>
-    ensures addrs { IfOk result (λ v. AreAddresses bytes.now v.items) }
-    ensures error { IfErr result (IsReadError (IsAddressesFault bytes.now)) }
-{
-    read_pieces(rt, alloc, bytes, threads.min(bytes.len() / LEAST_BYTES))
 }

@@ -36,12 +36,14 @@ fn text_of_pieces<R: Threads + Sync>(
         || -> Result<Vec<u8>, AllocError>
             requires sync { IsSync R.row }
             requires lengths { length front_hops.now ≡ length front.now }
-            ensures { IfOk result (λ v. v.items ≡ answer_lines front.entry.now front_hops.entry.now) }
+            ensures { IfOk result (λ v.
+                v.items ≡ answer_lines front.entry.now front_hops.entry.now) }
         { text_of_pieces(rt, alloc, front, front_hops, few) },
         || -> Result<Vec<u8>, AllocError>
             requires sync { IsSync R.row }
             requires lengths { length back_hops.now ≡ length back.now }
-            ensures { IfOk result (λ v. v.items ≡ answer_lines back.entry.now back_hops.entry.now) }
+            ensures { IfOk result (λ v.
+                v.items ≡ answer_lines back.entry.now back_hops.entry.now) }
         { text_of_pieces(rt, alloc, back, back_hops, more) },
     );
     let mut text = match first {

@@ -17,6 +17,7 @@ pub(crate) fn share(all: usize, few: usize, pieces: usize) -> usize
 /// The place after the line that this place is on.
 pub(crate) fn line_end(bytes: &[u8], from: usize) -> usize
     requires { from ≤ length bytes.now }
+    ensures onward { from ≤ result }
     ensures within { result ≤ length bytes.now }
     ensures ends { (result ≡ length bytes.now)
         ⊎ ((0 < result) × (slice_index bytes.now (result - 1) ≡ 10)) }

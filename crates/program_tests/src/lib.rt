@@ -23,6 +23,8 @@ mod known;
 #[cfg(test)]
 mod meeting;
 #[cfg(test)]
+mod pieces;
+#[cfg(test)]
 mod refusals;
 #[cfg(test)]
 mod words;

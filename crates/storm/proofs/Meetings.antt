@@ -1,9 +1,13 @@
 -- Elements of a list that are changed one after another, and passes that leave the bench.
-use Rattle.std.proofs.Common.{◌≡◌, ◌≢◌, ℕ, zero, suc, ◌+◌, ◌<◌, ◌≤◌, inl, inr, List, [], ◌∷◌, length, get_or, set, All, refl, ap, ◌∙◌, sym, subst, arith, get_or-set_same, get_or-set_other, length-set, Option, None, slice_get}
+use Rattle.std.proofs.Common.{◌≡◌, ◌≢◌, ℕ, zero, suc, ◌+◌, ◌<◌, ◌≤◌, inl, inr, List, [], ◌∷◌, ◌++◌, length, map, get_or, set, All, refl, ap, ◌∙◌, sym, subst, arith, get_or-set_same, get_or-set_other, length-set, Option, Some, None, slice_get}
 use Rattle.std.specs.Prelude.{slice_set}
-use Rattle.std.proofs.lemmas.Bool.{cases_eq}
+use Rattle.std.proofs.lemmas.Bool.{cases_eq, cases_lt}
+use Rattle.std.proofs.lemmas.List.{get_or-append-add, get_or-map, get_or_append_left, length-append, length-map}
+use Rattle.std.proofs.lemmas.Option.{get_or_from_slice_get, slice_get_within}
+use Rattle.shared_words.specs.declared.view.View.{View}
 use Rattle.shared_fib.specs.Running.{PassState}
-use Rattle.storm.specs.Looking.{IsUnused}
+use Rattle.storm.specs.Looking.{AreInSeats, AreOfWorkers, EachAt, IsUnused, views_of}
+use Rattle.storm.specs.declared.looking.Worker.{Worker}
 
 -- the elements before place i have come to P, and the others are Q still
 pub record UpTo {X : Type 0} (P Q : X → Type 0) (i : ℕ) (xs : List X) : Type 0 where
@@ -42,3 +46,36 @@ others_stay (x ∷ xs) (suc i) (suc k) y other = others_stay xs i k y (λ e. oth
 -- where one worker's pass is taken, the others' stay at the bench, unused
 pub stays_unused : (passes : List (Option PassState)) (i k : ℕ) → k ≢ i → IsUnused passes k → IsUnused (slice_set passes i None) k
 stays_unused passes i k other at = (at.0, others_stay passes i k None other ∙ at.1, at.2)
+
+-- one element more, which is so at the last place
+pub each_push : {X : Type 0} (P : ℕ → X → Type 0) (xs : List X) (x : X) → EachAt P xs → P (length xs) x → EachAt P (xs ++ x ∷ [])
+each_push P xs x each here k d below = elim (cases_lt k (length xs)) [
+  | inl low ↦ subst (P k) (sym (get_or_append_left xs (x ∷ []) d k low)) (each k d low)
+  | inr past ↦
+      let at : k ≡ length xs + 0 = omega (arith, below, past, length-append xs (x ∷ [])) in
+      let last : length xs + 0 ≡ length xs = omega arith in
+      subst (λ (i : ℕ). P i (get_or (xs ++ x ∷ []) i d)) (sym at)
+      (subst (P (length xs + 0)) (sym (get_or-append-add xs (x ∷ []) 0 d)) (subst (λ (i : ℕ). P i x) (sym last) here))
+]
+
+-- another element at a place, which is so there
+pub each_set : {X : Type 0} (P : ℕ → X → Type 0) (xs : List X) (i : ℕ) (y : X) → i < length xs → EachAt P xs → P i y
+    → EachAt P (set xs i y)
+each_set P xs i y low each here k d below = elim (cases_eq k i) [
+  | inl at ↦ subst (λ (j : ℕ). P j (get_or (set xs i y) j d)) (sym at) (subst (P i) (sym (get_or-set_same xs i y d low)) here)
+  | inr other ↦ subst (P k) (sym (get_or-set_other xs i k y d other)) (each k d (omega (arith, below, length-set xs i y)))
+]
+
+no_some : {X : Type 0} (x : X) → None ≡ Some x → ⊥
+no_some x e = cc
+
+-- what the passes of workers in their seats know
+pub of_workers : (workers : List Worker) → AreInSeats workers → AreOfWorkers (views_of workers)
+of_workers [] each k v at = absurd (no_some v at)
+of_workers (w ∷ workers) each k v at =
+    let ws : List Worker = w ∷ workers in
+    let view : Worker → View = λ x. x.pass.view in
+    let low : k < length (map view ws) = slice_get_within (map view ws) k v at in
+    let below : k < length ws = omega (arith, low, length-map ws view) in
+    let here : get_or (map view ws) k v ≡ v = get_or_from_slice_get (map view ws) k v v at in
+    ap (λ (x : View). x.role) (sym here ∙ get_or-map view ws k w v below) ∙ each k w below

@@ -13,7 +13,7 @@ use Rattle.audit.specs.Wrong.{IsOfSomeVersion}
 use Rattle.storm.specs.Changing.{HasVersions}
 use Rattle.storm.proofs.Versions.{answer_is_right}
 use Rattle.storm.specs.declared.looking.Worker.{Worker}
-use Rattle.storm.specs.Looking.{HasAnswered, HasLookedUp, IsOfAVersion, all_answers, answer_of, answers_by, held_answers, lookups_of, times, views_of}
+use Rattle.storm.specs.Looking.{HasAnswered, HasLookedUp, IsOfAStandingVersion, answers_of_passes, answer_of, answers_by, answers_of_workers, lookups_of, times, views_of}
 use Rattle.storm.proofs.Told.{addresses_same}
 
 pub one_more_round : (n : ℕ) (addrs before after : List ℕ) → before ≡ times n addrs → after ≡ before ++ addrs
@@ -55,12 +55,12 @@ module _ (id : Identity) (addrs : List ℕ) (rounds : ℕ) (w_steps : List Write
       ap (map (λ (x : ℕ × Answer). x.0)) h.answers ∙ (addresses_same w.pass.view ∙ h.looked.whole)
 
   pub all_held : (workers : List Worker) → All (HasAnswered id addrs rounds w_steps) workers
-      → held_answers workers ≡ all_answers (views_of workers)
+      → answers_of_workers workers ≡ answers_of_passes (views_of workers)
   all_held [] all = refl
   all_held (w ∷ workers) all =
-      let rest : held_answers workers ≡ all_answers (views_of workers) =
+      let rest : answers_of_workers workers ≡ answers_of_passes (views_of workers) =
       all_held workers (All-tail (HasAnswered id addrs rounds w_steps) w workers all) in
-      ap (λ (xs : List (ℕ × Answer)). xs ++ held_answers workers) (All-head (HasAnswered id addrs rounds w_steps) w workers all).answers
+      ap (λ (xs : List (ℕ × Answer)). xs ++ answers_of_workers workers) (All-head (HasAnswered id addrs rounds w_steps) w workers all).answers
       ∙ ap (λ (xs : List (ℕ × Answer)). answers_by w.pass.view ++ xs) rest
 
   pub all_looked : (workers : List Worker) → All (HasAnswered id addrs rounds w_steps) workers
@@ -72,26 +72,26 @@ module _ (id : Identity) (addrs : List ℕ) (rounds : ℕ) (w_steps : List Write
       (all_looked workers (All-tail (HasAnswered id addrs rounds w_steps) w workers all))
 
   pub count_all : (workers : List Worker) → All (HasAnswered id addrs rounds w_steps) workers
-      → length (held_answers workers) ≡ length workers * (rounds * length addrs)
+      → length (answers_of_workers workers) ≡ length workers * (rounds * length addrs)
   count_all [] all = omega arith
   count_all (w ∷ workers) all =
       let here : length w.answers.items ≡ rounds * length addrs =
       length_rounds rounds addrs w.answers.items (addresses_of w (All-head (HasAnswered id addrs rounds w_steps) w workers all)) in
-      let rest : length (held_answers workers) ≡ length workers * (rounds * length addrs) =
+      let rest : length (answers_of_workers workers) ≡ length workers * (rounds * length addrs) =
       count_all workers (All-tail (HasAnswered id addrs rounds w_steps) w workers all) in
-      let both : length (held_answers (w ∷ workers)) ≡ length w.answers.items + length (held_answers workers) =
-      length-append w.answers.items (held_answers workers) in
+      let both : length (answers_of_workers (w ∷ workers)) ≡ length w.answers.items + length (answers_of_workers workers) =
+      length-append w.answers.items (answers_of_workers workers) in
       both ∙ (ap₂ (λ (m n : ℕ). m + n) here rest ∙ suc_times (length workers) (rounds * length addrs))
 
   -- ---- answers of versions
 
   pub all_right : (f s : ℕ) (config : Config) (w : WriterState) (changes : List (Change f s)) (views : List View)
       → setup id ≡ opening_setup f s config → w.identity ≡ id → HasVersions w changes → steps_of w ≡ w_steps
-      → All (HasLookedUp id addrs rounds w_steps) views → All (IsOfSomeVersion changes) (all_answers views)
+      → All (HasLookedUp id addrs rounds w_steps) views → All (IsOfSomeVersion changes) (answers_of_passes views)
   all_right f s config w changes [] opening own has same all = λ k d below. absurd (omega (arith, below))
   all_right f s config w changes (v ∷ views) opening own has same all =
       let looked = All-head (HasLookedUp id addrs rounds w_steps) v views all in
-      let of = subst (λ (l : List WriterStep). All (IsOfAVersion (setup id) l) (lookups_of v)) (sym same) looked.versions in
-      All-append (IsOfSomeVersion changes) (answers_by v) (all_answers views)
+      let of = subst (λ (l : List WriterStep). All (IsOfAStandingVersion (setup id) l) (lookups_of v)) (sym same) looked.versions in
+      All-append (IsOfSomeVersion changes) (answers_by v) (answers_of_passes views)
       (All-map (IsOfSomeVersion changes) answer_of (lookups_of v) (λ k d below. answer_is_right f s id config w changes _ opening own has (of k d below)))
       (all_right f s config w changes views opening own has same (All-tail (HasLookedUp id addrs rounds w_steps) v views all))

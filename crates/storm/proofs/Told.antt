@@ -1,5 +1,5 @@
 -- Lookups of a pass, as it goes on.
-use Rattle.std.proofs.Common.{◌≡◌, ℕ, List, [], ◌∷◌, ◌++◌, All, map, refl, inl, ap, sym, subst, ◌∙◌, length}
+use Rattle.std.proofs.Common.{◌≡◌, ◌≤◌, ℕ, List, [], ◌∷◌, ◌++◌, All, map, refl, inl, ap, sym, subst, ◌∙◌, length}
 use Rattle.std.specs.Prelude.{reverse}
 use mathlib.Core.List.{reverse-cons, map-map}
 use Rattle.std.proofs.lemmas.List.{map-append}
@@ -20,14 +20,14 @@ use Rattle.shared_deeds.specs.Deeds.{GainsAll, LooksUp}
 use Rattle.shared_deeds.proofs.Deeds.{gains_on, gains_state}
 use Rattle.shared_fib.specs.Running.{Identity, setup}
 use Rattle.running_laws.proofs.Backwards.{answers_are_of_versions, of_version_still}
-use Rattle.storm.specs.Looking.{HasLookedUp, IsOfAVersion, answer_of, answers_by, lookups_of, times}
+use Rattle.storm.specs.Looking.{HasLookedUp, IsOfAStandingVersion, answer_of, answers_by, lookups_of, times}
 
 -- the answers are those of the pass, each of whose lookups is of a version
 abbrev pub AreTold : Setup → View → List (ℕ × Answer) → Type 0
-AreTold c v xs = (xs ≡ answers_by v) × All (IsOfAVersion c v.seen) (lookups_of v)
+AreTold c v xs = (xs ≡ answers_by v) × All (IsOfAStandingVersion c v.seen) (lookups_of v)
 
 versions_later : (c : Setup) (before after : List WriterStep) (xs : List Seen) → IsLater before after
-    → All (IsOfAVersion c before) xs → All (IsOfAVersion c after) xs
+    → All (IsOfAStandingVersion c before) xs → All (IsOfAStandingVersion c after) xs
 versions_later c before after xs later all k d below =
     let h = all k d below in
     (h.0, of_version_still c before after later _ h.0 h.1)
@@ -37,7 +37,7 @@ pub told_none : (c : Setup) (v : View) (xs : List (ℕ × Answer)) → v.own ≡
 told_none c v xs unused none =
     let nothing : lookups_of v ≡ [] = ap (λ (own : List (WorkerStep × ℕ)). reverse (worker_by own).finished) unused in (
       none ∙ sym (ap (map answer_of) nothing),
-      subst (All (IsOfAVersion c v.seen)) (sym nothing) (All-nil (IsOfAVersion c v.seen)),
+      subst (All (IsOfAStandingVersion c v.seen)) (sym nothing) (All-nil (IsOfAStandingVersion c v.seen)),
     )
 
 -- steps that end no lookup leave the lookups as they are
@@ -45,7 +45,7 @@ pub told_on : (c : Setup) (v w : View) (xs : List (ℕ × Answer)) → lookups_o
     → AreTold c v xs → AreTold c w xs
 told_on c v w xs same later told = (
   told.0 ∙ sym (ap (map answer_of) same),
-  subst (All (IsOfAVersion c w.seen)) (sym same) (versions_later c v.seen w.seen (lookups_of v) later told.1),
+  subst (All (IsOfAStandingVersion c w.seen)) (sym same) (versions_later c v.seen w.seen (lookups_of v) later told.1),
 )
 
 -- the step ends no lookup
@@ -83,12 +83,12 @@ module _ (v w : View) (addr : ℕ) (answer : Answer) (looks : LooksUp addr answe
       → AreTold c w (xs ++ (addr, answer) ∷ [])
   told_more c xs own told =
       let of = answers_are_of_versions looks.seen v w (inl (addr, answer.hop, answer.lo, answer.hi, looks, refl)) in
-      let this : IsOfAVersion c w.seen looks.seen = subst (λ (s : Setup). IsOfAVersion s w.seen looks.seen) own of in
+      let this : IsOfAStandingVersion c w.seen looks.seen = subst (λ (s : Setup). IsOfAStandingVersion s w.seen looks.seen) own of in
       let before = versions_later c v.seen w.seen (lookups_of v) looks.rest.later told.1 in (
         ap (λ (ys : List (ℕ × Answer)). ys ++ (addr, answer) ∷ []) told.0 ∙ sym answers_are,
-        subst (All (IsOfAVersion c w.seen)) (sym newest)
-            (All-append (IsOfAVersion c w.seen) (lookups_of v) (looks.seen ∷ []) before
-            (All-cons (IsOfAVersion c w.seen) looks.seen [] this (All-nil (IsOfAVersion c w.seen)))),
+        subst (All (IsOfAStandingVersion c w.seen)) (sym newest)
+            (All-append (IsOfAStandingVersion c w.seen) (lookups_of v) (looks.seen ∷ []) before
+            (All-cons (IsOfAStandingVersion c w.seen) looks.seen [] this (All-nil (IsOfAStandingVersion c w.seen)))),
       )
 
 -- ---- a pass that meets the writer
@@ -107,10 +107,12 @@ looked_up id addrs rounds steps n v w xs g own all told whole =
       after.0,
       record {
         opening = own;
+        seen = all;
+        within = subst (λ (l : List WriterStep). All (λ step. step.1 ≤ length l) w.own) all g.sound.within;
         rising = g.sound.rising;
         placed = subst (λ (l : List WriterStep). ArePlaced (setup id) l w.own) all
             (subst (λ (o : Opened). ArePlaced (setup_of o) w.seen w.own) own g.sound.placed);
         whole = sym (addresses_same w) ∙ (ap (map (λ (x : ℕ × Answer). x.0)) (sym after.0) ∙ whole);
-        versions = subst (λ (l : List WriterStep). All (IsOfAVersion (setup id) l) (lookups_of w)) all after.1;
+        versions = subst (λ (l : List WriterStep). All (IsOfAStandingVersion (setup id) l) (lookups_of w)) all after.1;
       },
     )

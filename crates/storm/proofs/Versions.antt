@@ -27,7 +27,7 @@ use Rattle.shared_fib.specs.Running.{Identity, IsAtRest, WriterState, left_by, o
 use Rattle.running_laws.proofs.Backwards.{versions_stay}
 use Rattle.audit.specs.Wrong.{IsOfSomeVersion, version_of}
 use Rattle.storm.specs.Changing.{HasVersions, IsForWriter, by_own_steps, change_by}
-use Rattle.storm.specs.Looking.{IsOfAVersion, answer_of}
+use Rattle.storm.specs.Looking.{IsOfAStandingVersion, answer_of}
 use Rattle.storm.proofs.Later.{command_later, steps_go_on}
 
 -- ---- one command
@@ -153,7 +153,7 @@ module _ (f g : ℕ) where
   -- a lookup of a version by the writer's steps answers by a version of the accepted changes
   pub answer_is_right : (id : Identity) (config : Config) (w : WriterState) (changes : List (Change f g)) (seen : Seen)
       → setup id ≡ opening_setup f g config → w.identity ≡ id → HasVersions w changes
-      → IsOfAVersion (setup id) (steps_of w) seen → IsOfSomeVersion changes (answer_of seen)
+      → IsOfAStandingVersion (setup id) (steps_of w) seen → IsOfSomeVersion changes (answer_of seen)
   answer_is_right id config w changes seen opening own has of =
       let c : Setup = setup id in
       let k : ℕ = of.0 in

@@ -23,8 +23,8 @@ abbrev pub most_answers : ℕ
 most_answers = 16777216
 
 -- how many answers are asked for
-abbrev pub answers_of : {first second : ℕ} → Plan first second → ℕ
-answers_of p = p.config.workers * (p.rounds * length p.addrs.now)
+abbrev pub answer_count : {first second : ℕ} → Plan first second → ℕ
+answer_count p = p.config.workers * (p.rounds * length p.addrs.now)
 
 -- the table was opened with these limits, its writer made as many of the commands as there are outcomes,
 -- and those that come before the threads were accepted
@@ -63,7 +63,7 @@ pub record LacksTokens {first second : ℕ} (p : Plan first second) : Type 0 whe
 
 -- a limit of the table is out of range, or too many answers are asked for
 abbrev pub IsTooMuch : {first second : ℕ} → Plan first second → Type 0
-IsTooMuch p = (¬ IsConfig (limits_of p)) ⊎ (most_answers < answers_of p)
+IsTooMuch p = (¬ IsConfig (limits_of p)) ⊎ (most_answers < answer_count p)
 
 -- making the commands that come before the threads ends so
 abbrev pub EndsLoading : {first second : ℕ} → Config → List (Command first second) → ℕ → StormError → Type 0

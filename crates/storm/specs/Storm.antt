@@ -6,17 +6,18 @@ use Rattle.fib_model.specs.Outcomes.{Frees, groups_in_use}
 use Rattle.lpm_writer.specs.Traced.{AnyMemory, by_steps, steps_alone}
 use Rattle.lpm_writer.specs.Synchronizing.{Synchronizes}
 use Rattle.defer_queue.specs.declared.Reclaimed.{Reclaimed}
-use Rattle.shared_fib.specs.Running.{Identity, WriterState, left_by, setup, steps_of}
+use Rattle.shared_fib.specs.Running.{Identity, IsAtRest, WriterState, left_by, setup, steps_of}
 use Rattle.audit.specs.declared.report.Report.{Report}
 use Rattle.audit.specs.declared.report.StormReport.{StormReport}
 use Rattle.audit.specs.Wrong.{AreWrong, IsOfSomeVersion}
 use Rattle.storm.specs.declared.plan.Plan.{Plan}
 use Rattle.storm.specs.Changing.{changes_by, refused_among}
 use Rattle.shared_words.specs.declared.view.View.{View}
-use Rattle.storm.specs.Looking.{HasLookedUp, all_answers}
-use Rattle.storm.specs.Plans.{HasMadeAll, answers_of}
+use Rattle.storm.specs.Looking.{AreOfWorkers, HasLookedUp, answers_of_passes}
+use Rattle.storm.specs.Plans.{HasMadeAll, answer_count}
 
--- the writer has synchronized, and then reclaimed all that waited; nothing waits any more
+-- the writer of this table has synchronized, and then reclaimed all that waited; it is at rest, and nothing
+-- waits any more
 pub record Settles (id : Identity) (last end : WriterState) : Type 0 where
   pub passed : WriterState
   pub reclaimed : Reclaimed
@@ -24,6 +25,9 @@ pub record Settles (id : Identity) (last end : WriterState) : Type 0 where
       (steps_alone (steps_of passed))
   pub same : passed ≡ record last { table = record last.table { readers = steps_of passed } }
   pub frees : Frees (by_steps (setup id)) passed.table (length last.table.limbo) reclaimed end.table
+  pub identity : end.identity ≡ id
+  pub config : end.config ≡ last.config
+  pub rests : IsAtRest end
   pub emptied : end.table.limbo ≡ []
 
 -- the report has what the table counts
@@ -35,9 +39,9 @@ pub record IsCountOf (first second : ℕ) (w : WriterState) (r : Report) : Type 
   pub groups : r.in_use + r.limbo + r.free ≡ w.config.groups
   pub token : r.token ≡ (left_by w).token
 
--- A storm of this plan came out so. Each worker's pass has looked the whole list up in each round, and each
--- of its answers is the longest match in a version of the accepted changes, from its `lo` to its `hi`. So
--- none is wrong. In the end no group waits.
+-- A storm of this plan came out so. The pass of each worker has looked the whole list up in each round. Each
+-- answer is the longest match in a version of the accepted changes, from its `lo` to its `hi`. So none is
+-- wrong. In the end no group waits.
 pub record IsStorm {first second : ℕ} (p : Plan first second) (r : StormReport) : Type 0 where
   pub id : Identity
   pub outcomes : List Outcome
@@ -45,13 +49,14 @@ pub record IsStorm {first second : ℕ} (p : Plan first second) (r : StormReport
   pub end : WriterState
   pub passes : List View
   pub made : HasMadeAll p id outcomes last
-  pub workers : length passes ≡ p.config.workers
+  pub count : length passes ≡ p.config.workers
+  pub workers : AreOfWorkers passes
   pub looked : All (HasLookedUp id p.addrs.now p.rounds (steps_of last)) passes
-  pub right : All (IsOfSomeVersion (changes_by p.commands.now outcomes)) (all_answers passes)
+  pub right : All (IsOfSomeVersion (changes_by p.commands.now outcomes)) (answers_of_passes passes)
   pub settles : Settles id last end
-  pub answered : r.answers ≡ answers_of p
+  pub answered : r.answers ≡ answer_count p
   pub refused : r.refused ≡ refused_among outcomes
-  pub counted : AreWrong (changes_by p.commands.now outcomes) (all_answers passes) r.wrong
+  pub counted : AreWrong (changes_by p.commands.now outcomes) (answers_of_passes passes) r.wrong
   pub wrong : r.wrong ≡ 0
   pub limbo : r.table.limbo ≡ 0
   pub counts : IsCountOf first second end r.table

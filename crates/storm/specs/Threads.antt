@@ -6,7 +6,7 @@ use Rattle.shared_fib.specs.Running.{Identity}
 use Rattle.storm.specs.declared.changing.Updates.{Updates}
 use Rattle.storm.specs.declared.looking.Lookups.{Lookups}
 
--- these lookups, by this table
+-- these lookups by this table, of the worker of this number
 pub record AreLookups {first second : ℕ} (id : Identity) (addrs : List ℕ) (rounds : ℕ)
     (l : Lookups first second) : Type 0 where
   pub table : l.table.now ≡ id

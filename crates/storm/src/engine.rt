@@ -7,8 +7,9 @@ ghost use Rattle.lpm_writer.specs.Opening.{opening_setup};
 ghost use Rattle.shared_fib.specs.Running.{IsBenchOf, IsFullBench, IsOnline, identity_of, opens_with, setup};
 ghost use Rattle.bulk.specs.Desks.{IsAtBench};
 ghost use Rattle.storm.specs.Changing.{IsForWriter};
-ghost use Rattle.storm.specs.Looking.{IsOver, IsReadyFor, IsUnused};
-ghost use Rattle.storm.specs.Plans.{EndsLoading, EndsStorm, EndsUnderWay, HasMadeAll, IsTooMuch, IsUnderWay, answers_of, limits_of, most_answers};
+ghost use Rattle.storm.specs.Looking.{AreInSeats, IsOver, IsReadyFor, IsUnused, role_of};
+ghost use Rattle.shared_words.specs.declared.view.Role.TheVariants.{Worker as OfWorker};
+ghost use Rattle.storm.specs.Plans.{EndsLoading, EndsStorm, EndsUnderWay, HasMadeAll, IsTooMuch, IsUnderWay, answer_count, limits_of, most_answers};
 ghost use Rattle.storm.specs.Storm.{IsStorm};
 
 use crate::changing::{Recorder, Updates, load};
@@ -36,6 +37,7 @@ fn seat<const FIRST: u32, const SECOND: u32>(
     requires own { IsBenchOf table.now bench.old }
     requires pass { IsUnused bench.old number }
     ensures ready { IfOk result (IsReadyFor table.now room) }
+    ensures role { IfOk result (λ w. role_of w ≡ OfWorker number) }
     ensures own { IsBenchOf table.now bench.new }
     ensures taken { IfOk result (λ _. bench.new ≡ slice_set bench.old number None) }
 {
@@ -61,6 +63,7 @@ fn seat_all<const FIRST: u32, const SECOND: u32>(
     requires full { IsFullBench table.now bench.old }
     requires count { count ≤ table.now.opening.workers }
     ensures ready { IfOk result (λ v. All (IsReadyFor table.now room) v.items) }
+    ensures roles { IfOk result (λ v. AreInSeats v.items) }
     ensures len { IfOk result (λ v. vec_len v ≡ count) }
     ensures own { IfOk result (λ _. IsBenchOf table.now bench.new) }
     ensures others { IfOk result (λ _. (k : ℕ) → count ≤ k → k < table.now.opening.workers
@@ -143,9 +146,10 @@ fn finish<R: Threads + Wait + Sync, const FIRST: u32, const SECOND: u32>(
         recorder.old.outcomes.items recorder.old.writer }
     requires over { All (IsOver table.now plan.now.addrs.now plan.now.rounds) workers.old }
     requires done { All (λ w. w.is_done ≡ true) workers.old }
+    requires roles { AreInSeats workers.old }
     requires len { length workers.old ≡ plan.now.config.workers }
     requires some { 0 < plan.now.config.workers }
-    requires answers { (answers ≡ answers_of plan.now) × (answers ≤ most_answers) }
+    requires answers { (answers ≡ answer_count plan.now) × (answers ≤ most_answers) }
     requires addrs { All (λ a. a < 2 ^ (FIRST + SECOND)) plan.now.addrs.now }
     ensures storm { IfOk result (IsStorm plan.now) }
     ensures wrong { IfOk result (λ r. r.wrong ≡ 0) }
@@ -188,7 +192,7 @@ fn run_over<R: Threads + Wait + Sync, G: Gate, const FIRST: u32, const SECOND: u
     requires loaded { plan.now.loaded ≤ length plan.now.commands.now }
     requires addrs { All (λ a. a < 2 ^ (FIRST + SECOND)) plan.now.addrs.now }
     requires some { 0 < plan.now.config.workers }
-    requires answers { (answers ≡ answers_of plan.now) × (answers ≤ most_answers) }
+    requires answers { (answers ≡ answer_count plan.now) × (answers ≤ most_answers) }
     ensures storm { IfOk result (IsStorm plan.now) }
     ensures wrong { IfOk result (λ r. r.wrong ≡ 0) }
     ensures limbo { IfOk result (λ r. r.table.limbo ≡ 0) }
@@ -230,7 +234,8 @@ fn run_over<R: Threads + Wait + Sync, G: Gate, const FIRST: u32, const SECOND: u
 /// Opens a table, makes the first commands, and then starts a thread for each worker and one for the writer.
 /// Each worker goes online, looks all addresses up, round after round with a report of a quiescent state
 /// after each, and goes offline. The writer makes the other commands meanwhile. When all have ended, it
-/// synchronizes and reclaims all that waits, and every answer is held against the versions of the rules.
+/// synchronizes and reclaims all that waits, and every answer is held against the versions of the rules. None
+/// is wrong, and nothing waits in limbo then.
 ///
 /// Worker `k` calls the gate as `at(k, i)` directly before its lookup `i`, from 0 over all rounds. The
 /// writer, whose number is that after all workers of the table, calls it directly before its update `i`: of

@@ -2,7 +2,7 @@
 
 ghost use Rattle.std.specs.Prelude.{◌≡◌, ℕ, ◌+◌, ◌*◌, ◌^◌, ◌<◌, ◌≤◌, ◌++◌, [], All, IsTrue, length, map, vec_len, vec_capacity};
 ghost use Rattle.shared_fib.specs.Running.{IsOffline, IsOnline, identity_of};
-ghost use Rattle.storm.specs.Looking.{IsOver, IsReadyFor, IsTold, times};
+ghost use Rattle.storm.specs.Looking.{IsOver, IsReadyFor, HoldsItsAnswers, role_of, times};
 
 use bulk::Gate;
 use lpm_rules::Answer;
@@ -28,6 +28,8 @@ pub struct Lookups<'a, const FIRST: u32, const SECOND: u32> {
     pub addrs: &'a [u32],
     /// How often all of them are looked up.
     pub rounds: usize,
+    /// The number of the worker.
+    pub number: usize,
     pub stop: &'a AtomicBool,
 }
 
@@ -36,7 +38,6 @@ pub struct Lookups<'a, const FIRST: u32, const SECOND: u32> {
 fn look_once<G: Gate, const FIRST: u32, const SECOND: u32>(
     lookups: &Lookups<'_, FIRST, SECOND>,
     gate: &G,
-    number: usize,
     from: usize,
     worker: &mut Worker,
 ) -> bool
@@ -45,10 +46,11 @@ fn look_once<G: Gate, const FIRST: u32, const SECOND: u32>(
     requires addrs { All (λ a. a < 2 ^ (FIRST + SECOND)) lookups.now.addrs.now }
     requires room { vec_len worker.old.answers + length lookups.now.addrs.now ≤ vec_capacity worker.old.answers }
     requires numbers { from + length lookups.now.addrs.now < 2 ^ 64 }
-    requires told { IsTold lookups.now.table.now worker.old }
+    requires told { HoldsItsAnswers lookups.now.table.now worker.old }
     ensures own { identity_of worker.new.pass ≡ identity_of worker.old.pass }
     ensures online { IsOnline worker.new.pass }
-    ensures told { IsTold lookups.now.table.now worker.new }
+    ensures role { role_of worker.new ≡ role_of worker.old }
+    ensures told { HoldsItsAnswers lookups.now.table.now worker.new }
     ensures whole { IsTrue result → map (λ x. x.0) worker.new.answers.items
         ≡ map (λ x. x.0) worker.old.answers.items ++ lookups.now.addrs.now }
     ensures capacity { vec_capacity worker.old.answers ≤ vec_capacity worker.new.answers }
@@ -57,7 +59,7 @@ fn look_once<G: Gate, const FIRST: u32, const SECOND: u32>(
         if lookups.stop.load(Ordering::SeqCst) {
             return false;
         }
-        gate.at(number, from + i);
+        gate.at(lookups.number, from + i);
         let addr = lookups.addrs[i];
         let answer = worker.pass.lookup(lookups.table, addr);
         worker.answers.push_reserved((addr, answer));
@@ -69,23 +71,23 @@ fn look_once<G: Gate, const FIRST: u32, const SECOND: u32>(
 fn look_rounds<G: Gate, const FIRST: u32, const SECOND: u32>(
     lookups: &Lookups<'_, FIRST, SECOND>,
     gate: &G,
-    number: usize,
     worker: &mut Worker,
 ) -> bool
     requires own { identity_of worker.old.pass ≡ lookups.now.table.now }
     requires online { IsOnline worker.old.pass }
     requires addrs { All (λ a. a < 2 ^ (FIRST + SECOND)) lookups.now.addrs.now }
-    requires told { IsTold lookups.now.table.now worker.old }
+    requires told { HoldsItsAnswers lookups.now.table.now worker.old }
     requires empty { worker.old.answers.items ≡ [] }
     requires room { lookups.now.rounds * length lookups.now.addrs.now ≤ vec_capacity worker.old.answers }
     ensures own { identity_of worker.new.pass ≡ identity_of worker.old.pass }
     ensures online { IsOnline worker.new.pass }
-    ensures told { IsTold lookups.now.table.now worker.new }
+    ensures role { role_of worker.new ≡ role_of worker.old }
+    ensures told { HoldsItsAnswers lookups.now.table.now worker.new }
     ensures whole { IsTrue result
         → map (λ x. x.0) worker.new.answers.items ≡ times lookups.now.rounds lookups.now.addrs.now }
 {
     for round in 0..lookups.rounds {
-        if !look_once(lookups, gate, number, round * lookups.addrs.len(), worker) {
+        if !look_once(lookups, gate, round * lookups.addrs.len(), worker) {
             return false;
         }
         worker.pass.quiescent(lookups.table);
@@ -98,15 +100,15 @@ fn look_rounds<G: Gate, const FIRST: u32, const SECOND: u32>(
 pub fn work<G: Gate, const FIRST: u32, const SECOND: u32>(
     lookups: &Lookups<'_, FIRST, SECOND>,
     gate: &G,
-    number: usize,
     mut worker: Worker,
 ) -> Worker
     requires ready { IsReadyFor lookups.now.table.now (lookups.now.rounds * length lookups.now.addrs.now) worker }
     requires addrs { All (λ a. a < 2 ^ (FIRST + SECOND)) lookups.now.addrs.now }
     ensures over { IsOver lookups.now.table.now lookups.now.addrs.now lookups.now.rounds result }
+    ensures role { role_of result ≡ role_of worker }
 {
     worker.pass.online(lookups.table);
-    worker.is_done = look_rounds(lookups, gate, number, &mut worker);
+    worker.is_done = look_rounds(lookups, gate, &mut worker);
     worker.pass.offline(lookups.table);
     worker
 }

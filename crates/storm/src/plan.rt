@@ -1,7 +1,7 @@
 //! What a storm is to do, and why it came to nothing.
 
 ghost use Rattle.std.specs.Prelude.{◌≡◌, ◌^◌, ◌<◌, ◌≤◌, ◌⊎◌, IfOk, IfErr, IfSome, IsNone};
-ghost use Rattle.storm.specs.Plans.{IsTooMuch, answers_of, limits_of, most_answers};
+ghost use Rattle.storm.specs.Plans.{IsTooMuch, answer_count, limits_of, most_answers};
 ghost use Rattle.storm.specs.declared.plan.StormError.TheVariants.{Memory as IsMemory};
 
 use fib_model::Command;
@@ -92,8 +92,8 @@ fn count_answers<const FIRST: u32, const SECOND: u32>(
     plan: &Plan<'_, FIRST, SECOND>,
 ) -> Option<usize>
     requires { 0 < plan.now.config.workers }
-    ensures some { IfSome result (λ n. (n ≡ answers_of plan.now) × (n ≤ most_answers)) }
-    ensures none { IsNone result → most_answers < answers_of plan.now }
+    ensures some { IfSome result (λ n. (n ≡ answer_count plan.now) × (n ≤ most_answers)) }
+    ensures none { IsNone result → most_answers < answer_count plan.now }
 {
     let of_worker = plan.rounds.checked_mul(plan.addrs.len())?;
     let of_all = plan.config.workers.checked_mul(of_worker)?;
@@ -108,7 +108,7 @@ pub(crate) fn limits_for<const FIRST: u32, const SECOND: u32>(
     plan: &Plan<'_, FIRST, SECOND>,
 ) -> Result<(Config, usize), StormError>
     ensures limits { IfOk result (λ r. r.0 ≡ limits_of plan.now) }
-    ensures answers { IfOk result (λ r. (r.1 ≡ answers_of plan.now) × (r.1 ≤ most_answers)) }
+    ensures answers { IfOk result (λ r. (r.1 ≡ answer_count plan.now) × (r.1 ≤ most_answers)) }
     ensures some { IfOk result (λ _. 0 < plan.now.config.workers) }
     ensures failure { IfErr result (λ e. ((e ≡ StormError.NoWorkers) × (plan.now.config.workers ≡ 0))
         ⊎ ((e ≡ StormError.BadConfig) × (0 < plan.now.config.workers) × IsTooMuch plan.now)) }

@@ -4,7 +4,7 @@ ghost use Rattle.std.specs.Prelude.{◌≡◌, ◌+◌, ◌^◌, ◌<◌, [], �
 ghost use Rattle.shared_fib.specs.Running.{left_by, setup, steps_of};
 ghost use Rattle.audit.specs.Wrong.{AreWrong};
 ghost use Rattle.storm.specs.Changing.{changes_by, change_by, is_refused, refused_among};
-ghost use Rattle.storm.specs.Looking.{HasAnswered, IsOver, held_answers};
+ghost use Rattle.storm.specs.Looking.{AreInSeats, HasAnswered, IsOver, answers_of_workers, role_of};
 ghost use Rattle.storm.specs.Storm.{IsCountOf, Settles};
 
 use crate::looking::Worker;
@@ -29,6 +29,7 @@ fn meet<const FIRST: u32, const SECOND: u32>(
     requires over { IsOver table.now addrs.now rounds worker.old }
     requires done { worker.old.is_done ≡ true }
     ensures same { writer.new ≡ writer.old }
+    ensures role { role_of worker.new ≡ role_of worker.old }
     ensures answered { HasAnswered table.now addrs.now rounds (steps_of writer.old) worker.new }
 {
     let _ = addrs;
@@ -47,7 +48,9 @@ pub fn meet_all<const FIRST: u32, const SECOND: u32>(
     requires own { writer.old.identity ≡ table.now }
     requires over { All (IsOver table.now addrs.now rounds) workers.old }
     requires done { All (λ w. w.is_done ≡ true) workers.old }
+    requires roles { AreInSeats workers.old }
     ensures same { writer.new ≡ writer.old }
+    ensures roles { AreInSeats workers.new }
     ensures len { length workers.new ≡ length workers.old }
     ensures answered { All (HasAnswered table.now addrs.now rounds (steps_of writer.old)) workers.new }
 {
@@ -179,8 +182,8 @@ pub fn count_wrong<R: Threads + Sync, const FIRST: u32, const SECOND: u32>(
     workers: &[Worker],
 ) -> Result<u64, AllocError>
     requires addrs { All (λ w. All (λ x. x.0 < 2 ^ (FIRST + SECOND)) w.answers.items) workers.now }
-    requires few { length (held_answers workers.now) < 2 ^ 63 }
-    ensures { IfOk result (AreWrong history.now (held_answers workers.now)) }
+    requires few { length (answers_of_workers workers.now) < 2 ^ 63 }
+    ensures { IfOk result (AreWrong history.now (answers_of_workers workers.now)) }
 {
     let past = Past::new(alloc, history)?;
     let mut wrong = 0u64;

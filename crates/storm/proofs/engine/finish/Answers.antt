@@ -7,12 +7,13 @@ use Rattle.audit.specs.Wrong.{AreWrong}
 use Rattle.fib_model.specs.declared.command.Outcome.{Outcome}
 use Rattle.std.proofs.lemmas.List.{length-map}
 use Rattle.storm.specs.Changing.{changes_by, refused_among}
-use Rattle.storm.specs.Looking.{all_answers, held_answers, times, views_of}
+use Rattle.storm.specs.Looking.{answers_of_passes, answers_of_workers, times, views_of}
 use Rattle.storm.specs.declared.looking.Worker.{Worker}
 use Rattle.storm.specs.Plans.{limits_of}
 use Rattle.storm.specs.Storm.{Settles}
 use Rattle.storm.proofs.Rounds.{addresses_of, all_held, all_looked, all_of_addresses, all_right, all_times, count_all}
 use Rattle.storm.proofs.Counts.{none_wrong}
+use Rattle.storm.proofs.Meetings.{of_workers}
 use Rattle.storm.proofs.engine.finish.Goals as goal
 
 pub returns-in_default-clause-failure : goal.returns-in_default-clause-failure
@@ -36,7 +37,7 @@ count_wrong-requires-after_bounds g c κs within =
     let answered = c.meet_all.ensures.answered in
     let many = count_all c.args.table.now plan.addrs.now plan.rounds steps workers answered in
     let as_many : length workers ≡ plan.config.workers = c.meet_all.ensures.len ∙ c.requires.len in
-    let all = subst (λ (n : ℕ). length (held_answers workers) ≡ n * (plan.rounds * length plan.addrs.now)) as_many many in (
+    let all = subst (λ (n : ℕ). length (answers_of_workers workers) ≡ n * (plan.rounds * length plan.addrs.now)) as_many many in (
       lit< tt,
       (
         λ k d below. all_of_addresses inside (get_or workers k d).answers.items (times plan.rounds plan.addrs.now)
@@ -60,7 +61,7 @@ returns-clause-storm g c =
     let as_many : length workers ≡ plan.config.workers = c.meet_all.ensures.len ∙ c.requires.len in
     let held = all_held id plan.addrs.now plan.rounds steps workers answered in
     let history = changes_by plan.commands.now outcomes in
-    let wrong = subst (λ (h : List (Change f s)). AreWrong h (held_answers workers) c.in_ok-wrong.wrong)
+    let wrong = subst (λ (h : List (Change f s)). AreWrong h (answers_of_workers workers) c.in_ok-wrong.wrong)
     (c.deref-2.ensures.value ∙ c.in_ok-history.ensures ∙ ap (λ (os : List Outcome). changes_by plan.commands.now os) c.deref.ensures.value)
     c.in_ok-wrong.ensures in
     let made = c.requires.made.under_way.made in
@@ -75,14 +76,15 @@ returns-clause-storm g c =
       end = c.settle.new.writer;
       passes = views_of workers;
       made = c.requires.made;
-      workers = length-map workers (λ (w : Worker). w.pass.view) ∙ as_many;
+      count = length-map workers (λ (w : Worker). w.pass.view) ∙ as_many;
+      workers = of_workers workers c.meet_all.ensures.roles;
       looked = looked;
       right = right;
       settles = settled;
       answered = c.requires.answers.0;
       refused = c.count_refused.ensures ∙ ap refused_among c.deref-3.ensures.value;
       counted = counted;
-      wrong = none_wrong f s history (all_answers (views_of workers)) c.in_ok-wrong.wrong right counted;
+      wrong = none_wrong f s history (answers_of_passes (views_of workers)) c.in_ok-wrong.wrong right counted;
       limbo = c.report_of.ensures.counts.limbo ∙ ap (λ (l : List ℕ). length l) settled.emptied;
       counts = c.report_of.ensures.counts;
     }

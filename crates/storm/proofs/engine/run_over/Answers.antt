@@ -2,7 +2,7 @@ use Rattle.std.proofs.Common.{arith, lit<, ℕ, ◌≡◌, ◌+◌, ◌∙◌, a
 use Rattle.std.specs.Prelude.{cond}
 use Rattle.lpm_limits.specs.declared.config.Config.{Config}
 use Rattle.storm.specs.declared.looking.Worker.{Worker}
-use Rattle.storm.specs.Looking.{IsOver}
+use Rattle.storm.specs.Looking.{AreInSeats, IsOver}
 use Rattle.storm.specs.Plans.{HasMadeAll, IsUnderWay}
 use Rattle.storm.proofs.engine.run_over.Goals as goal
 
@@ -39,4 +39,5 @@ finish-requires-after_bounds g c κs within =
     let over = subst (All (IsOver id plan.addrs.now plan.rounds)) (sym slice) ran.over in
     let done = subst (λ (ws : List Worker). All (λ w. w.is_done ≡ true) ws) (sym slice) ran.done in
     let len : length c.as_mut_slice-workers.result.now ≡ plan.config.workers = omega (arith, c.as_mut_slice-workers.ensures.len, ran.len, c.in_ok-workers.ensures.len) in
-    (lit< tt, (lit< tt, (lit< tt, (made, (over, (done, (len, (c.requires.some, (c.requires.answers, c.requires.addrs)))))))))
+    let roles = subst AreInSeats (sym slice) ran.roles in
+    (lit< tt, (lit< tt, (lit< tt, (made, (over, (done, (roles, (len, (c.requires.some, (c.requires.answers, c.requires.addrs))))))))))

@@ -1,8 +1,10 @@
-use Rattle.std.proofs.Common.{ℕ, ◌+◌, List, All, ap, subst, sym, ◌∙◌, arith, lit<}
+use Rattle.std.proofs.Common.{◌≡◌, length, ℕ, ◌+◌, List, All, ap, subst, sym, ◌∙◌, arith, lit<}
 use Rattle.std.proofs.lemmas.List.Elements.{All-nil, All-push}
-use Rattle.storm.specs.Looking.{IsReadyFor}
+use Rattle.storm.specs.Looking.{AreInSeats, IsReadyFor, role_of}
+use Rattle.shared_words.specs.declared.view.Role.TheVariants as roles
 use Rattle.storm.specs.declared.looking.Worker.{Worker}
-use Rattle.storm.proofs.Meetings.{stays_unused}
+use Rattle.storm.proofs.Meetings.{each_push, stays_unused}
+use Rattle.std.proofs.lemmas.Grind.{common_steps}
 use Rattle.storm.proofs.engine.seat_all.Goals as goal
 
 pub loop-number-init : goal.loop-number-init
@@ -13,6 +15,7 @@ loop-number-init g c = record {
   waiting = λ k from below. c.requires.full.1 k below;
   ready = subst (All (IsReadyFor c.args.table.now c.args.room)) (sym {A = List Worker} c.in_ok-workers.ensures.items)
       (All-nil (IsReadyFor c.args.table.now c.args.room));
+  seats = subst AreInSeats (sym {A = List Worker} c.in_ok-workers.ensures.items) (λ k d below. absurd (omega (arith, below)));
 }
 
 pub seat-requires : goal.seat-requires
@@ -25,6 +28,7 @@ loop-number-preserved g c =
     let known = c.loop-number.invariant in
     let i = c.loop-number.number in
     let pushed = c.push_reserved.ensures in
+    let place : i ≡ length c.loop-number.workers.items = grind (arith, common_steps) in
     record {
       len = pushed.len ∙ ap (λ (n : ℕ). n + 1) known.len;
       capacity = omega (arith, pushed.capacity, known.capacity);
@@ -33,6 +37,9 @@ loop-number-preserved g c =
           (omega (arith, from)) (known.waiting k (omega (arith, from)) below));
       ready = subst (All (IsReadyFor c.args.table.now c.args.room)) (sym {A = List Worker} pushed.items)
           (All-push (IsReadyFor c.args.table.now c.args.room) c.loop-number.workers.items c.in_ok-seat.field-0 known.ready c.in_ok-seat.ensures.ready);
+      seats = subst AreInSeats (sym {A = List Worker} pushed.items)
+          (each_push (λ k w. role_of w ≡ roles.Worker k) c.loop-number.workers.items c.in_ok-seat.field-0 known.seats
+          (c.in_ok-seat.ensures.role ∙ ap roles.Worker place));
     }
 
 pub returns-clause-others : goal.returns-clause-others

@@ -1,6 +1,6 @@
 use Rattle.std.proofs.Common.{◌≡◌, ℕ, ◌<◌, ◌≤◌, All, vec_len, vec_capacity}
 use Rattle.shared_fib.specs.Running.{IsBenchOf}
-use Rattle.storm.specs.Looking.{IsReadyFor, IsUnused}
+use Rattle.storm.specs.Looking.{AreInSeats, IsReadyFor, IsUnused}
 use Rattle.storm.proofs.engine.seat_all.Given as goal
 
 -- the workers so far are seated, and the passes of the others wait at the bench
@@ -11,4 +11,5 @@ invariant-loop-number g l = record {
   own : IsBenchOf l.table l.bench;
   waiting : (k : ℕ) → l.number ≤ k → k < l.table.opening.workers → IsUnused l.bench k;
   ready : All (IsReadyFor l.table l.room) l.workers.items;
+  seats : AreInSeats l.workers.items;
 }

@@ -1,6 +1,7 @@
 use Rattle.std.proofs.Common.{◌∙◌, ◌++◌, [], ◌∷◌, ℕ, List, ap, sym, rules, map, take, append_assoc, get_or}
 use Rattle.std.proofs.lemmas.List.{map-append, take_more}
 use Rattle.lpm_rules.specs.declared.Answer.{Answer}
+use Rattle.shared_words.specs.declared.view.View.{View}
 use Rattle.shared_fib.specs.Running.{setup}
 use Rattle.storm.proofs.Told.{told_more}
 use Rattle.storm.proofs.looking.look_once.Goals as goal
@@ -18,6 +19,7 @@ loop-i-preserved g c =
     record {
       own = c.lookup-answer.ensures.own ∙ was.own;
       online = c.lookup-answer.ensures.online;
+      role = ap (λ (v : View). v.role) c.lookup-answer.ensures.answer.rest.same ∙ was.role;
       len = search rules;
       told = record { answers = c.push_reserved.ensures.items ∙ more.0; versions = more.1 };
       whole = ap (map address_of) c.push_reserved.ensures.items

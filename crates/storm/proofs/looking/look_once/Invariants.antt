@@ -1,14 +1,15 @@
 use Rattle.std.proofs.Common.{◌≡◌, ◌+◌, ◌≤◌, ◌++◌, map, take, vec_len, vec_capacity}
 use Rattle.shared_fib.specs.Running.{IsOnline, identity_of}
-use Rattle.storm.specs.Looking.{IsTold}
+use Rattle.storm.specs.Looking.{HoldsItsAnswers, role_of}
 use Rattle.storm.proofs.looking.look_once.Given as goal
 
 abbrev pub invariant-loop-i : goal.invariant-loop-i
 invariant-loop-i g l = record {
   own : identity_of l.worker.pass ≡ identity_of l.fn.worker.pass;
   online : IsOnline l.worker.pass;
+  role : role_of l.worker ≡ role_of l.fn.worker;
   len : vec_len l.worker.answers ≡ vec_len l.fn.worker.answers + l.i;
-  told : IsTold l.lookups.table.now l.worker;
+  told : HoldsItsAnswers l.lookups.table.now l.worker;
   whole : map (λ x. x.0) l.worker.answers.items ≡ map (λ x. x.0) l.fn.worker.answers.items ++ take l.i l.lookups.addrs.now;
   capacity : vec_capacity l.fn.worker.answers ≤ vec_capacity l.worker.answers;
 }

@@ -1,5 +1,6 @@
-use Rattle.std.proofs.Common.{◌≡◌, ◌+◌, ◌∙◌, refl, arith, rules, map}
+use Rattle.std.proofs.Common.{◌≡◌, ◌+◌, ◌∙◌, ap, refl, arith, rules, map}
 use Rattle.lpm_trace.specs.declared.step.WorkerStep.TheVariants.{LoadQuiescent, StoreQuiescent}
+use Rattle.shared_words.specs.declared.view.View.{View}
 use Rattle.shared_fib.specs.Running.{setup}
 use Rattle.storm.specs.Looking.{times}
 use Rattle.storm.proofs.Told.{kept_by_two, told_on}
@@ -23,6 +24,7 @@ loop-round-preserved g c =
     record {
       own = c.quiescent.ensures.own ∙ c.look_once.ensures.own ∙ was.own;
       online = c.quiescent.ensures.online;
+      role = ap (λ (v : View). v.role) c.quiescent.ensures.rest.same ∙ c.look_once.ensures.role ∙ was.role;
       len = let e = length_rounds (c.loop-round.round + 1) addrs made.answers.items all in omega (arith, e);
       told = record { answers = told.0; versions = told.1 };
       whole = all;

@@ -1,5 +1,6 @@
-use Rattle.std.proofs.Common.{◌∙◌, refl}
+use Rattle.std.proofs.Common.{◌∙◌, ap, refl}
 use Rattle.lpm_trace.specs.declared.step.WorkerStep.TheVariants.{StoreOffline}
+use Rattle.shared_words.specs.declared.view.View.{View}
 use Rattle.shared_fib.specs.Running.{setup}
 use Rattle.storm.proofs.Told.{kept_by_one, told_on}
 use Rattle.storm.proofs.looking.work.Goals as goal
@@ -19,4 +20,6 @@ returns g c =
         told = record { answers = told.0; versions = told.1 };
         whole = λ done. c.look_rounds.ensures.whole done;
       };
+      role = ap (λ (v : View). v.role) c.offline.ensures.rest.same ∙ c.look_rounds.ensures.role
+          ∙ ap (λ (v : View). v.role) c.online.ensures.rest.same;
     }

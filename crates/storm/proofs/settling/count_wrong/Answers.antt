@@ -4,7 +4,7 @@ use Rattle.std.proofs.lemmas.List.Folds.{length-flat_map-take}
 use Rattle.lpm_rules.specs.declared.Answer.{Answer}
 use Rattle.lpm_rules.specs.declared.Change.{Change}
 use Rattle.audit.specs.Wrong.{AreWrong}
-use Rattle.storm.specs.Looking.{held_answers}
+use Rattle.storm.specs.Looking.{answers_of_workers}
 use Rattle.storm.specs.declared.looking.Worker.{Worker}
 use Rattle.storm.proofs.Counts.{flat_more, wrong_append, wrong_within}
 use Rattle.storm.proofs.settling.count_wrong.Goals as goal
@@ -25,7 +25,7 @@ overflow_add-wrong g c =
     let i = c.loop-worker.worker-index in
     let workers = c.args.workers.now in
     let history = c.args.history.now in
-    let so_far = wrong_within f s history (held_answers (take i workers)) c.loop-worker.wrong c.loop-worker.invariant in
+    let so_far = wrong_within f s history (answers_of_workers (take i workers)) c.loop-worker.wrong c.loop-worker.invariant in
     let here = wrong_within f s c.in_ok-past.past c.deref.result.now c.in_ok-wrong.field-0 c.in_ok-wrong.ensures in
     let own : length c.deref.result.now ≡ length (answers_of (get_or workers i c.worker-item.result)) =
     ap length c.deref.ensures.value ∙ ap (λ (w : Worker). length (answers_of w)) c.worker-item.is in
@@ -42,9 +42,9 @@ loop-worker-preserved g c =
     let past = subst (λ (h : List (Change f s)). AreWrong h c.deref.result.now c.in_ok-wrong.field-0) c.in_ok-past.ensures c.in_ok-wrong.ensures in
     let here = subst (λ (xs : List (ℕ × Answer)). AreWrong history xs c.in_ok-wrong.field-0)
     (c.deref.ensures.value ∙ ap answers_of c.worker-item.is) past in
-    let both = wrong_append f s history (held_answers (take i workers)) (answers_of (get_or workers i c.worker-item.result))
+    let both = wrong_append f s history (answers_of_workers (take i workers)) (answers_of (get_or workers i c.worker-item.result))
     c.loop-worker.wrong c.in_ok-wrong.field-0 c.loop-worker.invariant here in
-    let next : held_answers (take (i + 1) workers) ≡ held_answers (take i workers) ++ answers_of (get_or workers i c.worker-item.result) =
-    ap held_answers (take_more workers i c.worker-item.result c.loop-worker-test.true)
+    let next : answers_of_workers (take (i + 1) workers) ≡ answers_of_workers (take i workers) ++ answers_of (get_or workers i c.worker-item.result) =
+    ap answers_of_workers (take_more workers i c.worker-item.result c.loop-worker-test.true)
     ∙ flat_more answers_of (take i workers) (get_or workers i c.worker-item.result) in
     subst (λ (xs : List (ℕ × Answer)). AreWrong history xs (c.loop-worker.wrong + c.in_ok-wrong.field-0)) (sym next) both

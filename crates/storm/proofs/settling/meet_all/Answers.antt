@@ -1,8 +1,9 @@
-use Rattle.std.proofs.Common.{◌≡◌, ◌∙◌, true, arith, length-set, subst}
+use Rattle.std.proofs.Common.{◌≡◌, ◌<◌, ◌∙◌, true, arith, length, length-set, subst}
 use Rattle.shared_fib.specs.Running.{WriterState, steps_of}
-use Rattle.storm.specs.Looking.{HasAnswered, IsOver}
+use Rattle.storm.specs.Looking.{HasAnswered, IsOver, role_of}
+use Rattle.shared_words.specs.declared.view.Role.TheVariants as roles
 use Rattle.storm.specs.declared.looking.Worker.{Worker}
-use Rattle.storm.proofs.Meetings.{one_more}
+use Rattle.storm.proofs.Meetings.{each_set, one_more}
 use Rattle.storm.proofs.settling.meet_all.Goals as goal
 
 pub loop-number-preserved : goal.loop-number-preserved
@@ -13,9 +14,12 @@ loop-number-preserved g c =
     let rounds = c.args.rounds in
     let worker = c.meet.new.worker in
     let now = subst (λ (w : WriterState). HasAnswered id addrs rounds (steps_of w) worker) was.same c.meet.ensures.answered in
+    let low : c.loop-number.number < length c.loop-number.workers = omega (arith, c.loop-number-test.true, was.len) in
     record {
       same = c.meet.ensures.same ∙ was.same;
       len = length-set c.loop-number.workers c.loop-number.number worker ∙ was.len;
+      seats = each_set (λ k w. role_of w ≡ roles.Worker k) c.loop-number.workers c.loop-number.number worker low was.seats
+          (c.meet.ensures.role ∙ was.seats c.loop-number.number c.index-workers-number.result low);
       met = one_more (HasAnswered id addrs rounds (steps_of c.args.writer.now)) (λ (w : Worker). IsOver id addrs rounds w × (w.is_done ≡ true))
-          c.loop-number.number c.loop-number.workers worker (omega (arith, c.loop-number-test.true, was.len)) was.met now;
+          c.loop-number.number c.loop-number.workers worker low was.met now;
     }

@@ -1,6 +1,6 @@
 use Rattle.std.proofs.Common.{◌≡◌, true, length}
 use Rattle.shared_fib.specs.Running.{steps_of}
-use Rattle.storm.specs.Looking.{HasAnswered, IsOver}
+use Rattle.storm.specs.Looking.{AreInSeats, HasAnswered, IsOver}
 use Rattle.storm.proofs.Meetings.{UpTo}
 use Rattle.storm.proofs.settling.meet_all.Given as goal
 
@@ -9,6 +9,7 @@ abbrev pub invariant-loop-number : goal.invariant-loop-number
 invariant-loop-number g l = record {
   same : l.writer ≡ l.fn.writer;
   len : length l.workers ≡ length l.fn.workers;
+  seats : AreInSeats l.workers;
   met : UpTo (HasAnswered l.table l.addrs l.rounds (steps_of l.fn.writer))
       (λ w. IsOver l.table l.addrs l.rounds w × (w.is_done ≡ true)) l.number l.workers;
 }

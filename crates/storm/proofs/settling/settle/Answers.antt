@@ -26,5 +26,8 @@ returns-clause-settles g c =
       same = told.same;
       frees = subst (λ (n : ℕ). Frees (by_steps (setup id)) passed.table n c.reclaim.result c.reclaim.new.self.table)
           limbo c.reclaim.ensures.frees;
+      identity = c.reclaim.ensures.own ∙ own;
+      config = c.reclaim.ensures.config ∙ ap (λ (w : WriterState). w.config) told.same;
+      rests = c.reclaim.ensures.rests;
       emptied = emptied (setup id) some passed.table c.reclaim.new.self.table c.reclaim.result queued all;
     }

@@ -1,9 +1,12 @@
-use Rattle.std.proofs.Common.{◌+◌, ℕ, All, List, [], ◌∷◌, rules, sym, subst}
+use Rattle.std.proofs.Common.{◌≡◌, ◌+◌, ◌∙◌, ap, arith, ℕ, All, List, [], ◌∷◌, rules, sym, subst}
 use Rattle.std.proofs.lemmas.List.Elements.{All-append, All-cons}
 use Rattle.shared_fib.specs.Running.{Identity}
 use Rattle.storm.specs.Looking.{IsOver}
 use Rattle.storm.specs.Threads.{AreLookups}
 use Rattle.storm.specs.declared.looking.Worker.{Worker}
+use Rattle.storm.specs.Looking.{AreInSeats, role_of}
+use Rattle.shared_words.specs.declared.view.Role.TheVariants as roles
+use Rattle.storm.proofs.Meetings.{each_push}
 use Rattle.storm.proofs.threads.join_workers.Goals as goal
 
 pub loop-handle-preserved : goal.loop-handle-preserved
@@ -13,14 +16,19 @@ loop-handle-preserved g c =
     let next : AreLookups c.args.table.now c.args.addrs.now c.args.rounds c.in-Some.handle.promise =
     let h = was.rest 0 c.in-Some.handle in grind rules in
     let at_table = subst (λ (i : Identity). IsOver i c.in-Some.handle.promise.addrs.now c.in-Some.handle.promise.rounds c.join.result)
-    next.table c.join.ensures in
+    next.table c.join.ensures.0 in
     let at_addrs = subst (λ (xs : List ℕ). IsOver c.args.table.now xs c.in-Some.handle.promise.rounds c.join.result)
     next.list at_table in
     let this : over c.join.result = subst (λ (n : ℕ). IsOver c.args.table.now c.args.addrs.now n c.join.result) next.times at_addrs in
+    let role = c.join.ensures.1 in
     record {
       rest = λ k d below. let h = was.rest (k + 1) d in grind rules;
       count = search rules;
       room = search rules;
+      seats = subst AreInSeats (sym c.push_reserved.ensures.items)
+          (each_push (λ k w. role_of w ≡ roles.Worker k) c.loop-handle.ended.items c.join.result was.seats
+          (role ∙ ap roles.Worker (let h = was.numbers 0 c.in-Some.handle in grind (rules, arith))));
+      numbers = λ k d below. let h = was.numbers (k + 1) d in grind (rules, arith);
       ended = subst (λ (xs : List Worker). All over xs) (sym c.push_reserved.ensures.items)
           (All-append over c.loop-handle.ended.items (c.join.result ∷ []) was.ended (All-cons over c.join.result [] this (λ k d below. search rules)));
     }

@@ -1,7 +1,7 @@
 use Rattle.std.proofs.Common.{◌++◌, List, ℕ, sym, ap, ap₂, ◌∙◌}
 use Rattle.route_text.specs.Lines.{lines}
 use Rattle.parallel_text.proofs.Joined.{cut_lines}
-use Rattle.parallel_text.proofs.addresses.+fn-read_pieces-join+arg2+fn-read_pieces-join+arg3+read_pieces.Goals as goal
+use Rattle.parallel_text.proofs.addresses.+fn-read_addresses_on-join+arg2+fn-read_addresses_on-join+arg3+read_addresses_on.Goals as goal
 
 pub joined-requires-clause-cut : goal.joined-requires-clause-cut
 joined-requires-clause-cut g t c =

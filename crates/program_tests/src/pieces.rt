@@ -1,0 +1,108 @@
+//! A file that is read, and a text that is written, in pieces on threads: as one thread does it.
+
+use lpm_bits::Hop;
+use output_text::answers_text;
+use parallel_text::{answers_text_on, read_addresses_on};
+use route_text::{Fault, FaultKind, ReadError, read_addresses};
+use std::alloc::{AllocError, Global};
+use std::process::Abort;
+use std::test::Fail;
+use std::thread::Threads;
+
+// How many lines the file has: they are over 400 KiB.
+const LINES: u32 = 40_000;
+
+// On how many threads it is read.
+const THREADS: [usize; 6] = [0, 1, 2, 3, 8, 1_000_000];
+
+// A line for each address. Each third ends in CR LF, each seventh is a comment, and the one of this number is bad.
+fn file(alloc: Global, bad: u32) -> Result<Vec<u8>, Fail> {
+    let mut bytes = Vec::new(alloc);
+    for number in 0..LINES {
+        let mark = if number == bad {
+            "x"
+        } else if number % 7 == 0 {
+            "#"
+        } else {
+            ""
+        };
+        let end = if number % 3 == 0 { "\r\n" } else { "\n" };
+        let (third, last) = (number / 256, number % 256);
+        let line = format!(in alloc; "{mark}10.0.{third}.{last}{end}")?;
+        bytes.extend_from_slice(line.as_bytes())?;
+    }
+    Ok(bytes)
+}
+
+fn assert_list<R: Threads + Abort + Sync>(
+    rt: &R,
+    alloc: Global,
+    bytes: &[u8],
+    threads: usize,
+    list: &[u32],
+) {
+    let found = read_addresses_on(rt, alloc, bytes, threads).expect(rt, "a list");
+    assert!(rt; found.as_slice() == list, "{threads}");
+}
+
+#[test]
+fn pieces_of_a_file(rt: HostRuntime) -> Result<(), Fail> {
+    let bytes = file(rt.alloc(), LINES)?;
+    let list = read_addresses(rt.alloc(), &bytes).expect(&rt, "a list");
+    for threads in THREADS {
+        assert_list(&rt, rt.alloc(), &bytes, threads, &list);
+    }
+    assert_list(&rt, rt.alloc(), "10.0.0.1".as_bytes(), 8, &[0x0a00_0001]);
+    Ok(())
+}
+
+fn assert_fault<R: Threads + Abort + Sync>(
+    rt: &R,
+    alloc: Global,
+    bytes: &[u8],
+    threads: usize,
+    line: usize,
+) {
+    let fault = Fault {
+        line,
+        kind: FaultKind::Address,
+    };
+    let found = read_addresses_on(rt, alloc, bytes, threads).err();
+    assert!(rt; found == Some(ReadError::Fault(fault)), "{line}, {threads}");
+}
+
+#[test]
+fn fault_in_a_piece(rt: HostRuntime) -> Result<(), Fail> {
+    for bad in [1, 20_000, 39_998] {
+        let bytes = file(rt.alloc(), bad)?;
+        for threads in THREADS {
+            assert_fault(&rt, rt.alloc(), &bytes, threads, bad as usize + 1);
+        }
+    }
+    Ok(())
+}
+
+// The next hop of each address: its number, or none for each fifth.
+fn hops(rt: &impl Abort, alloc: Global) -> Result<Vec<Option<Hop>>, AllocError> {
+    let mut hops = Vec::new(alloc);
+    for number in 0..LINES {
+        let hop = Hop::new(number).expect(rt, "a next hop");
+        hops.push(if number % 5 == 0 { None } else { Some(hop) })?;
+    }
+    Ok(hops)
+}
+
+#[test]
+fn pieces_of_a_text(rt: HostRuntime) -> Result<(), Fail> {
+    let hops = hops(&rt, rt.alloc())?;
+    let mut addrs = Vec::new(rt.alloc());
+    for number in 0..LINES {
+        addrs.push(number.wrapping_mul(65_537))?;
+    }
+    let text = answers_text(rt.alloc(), &addrs, &hops)?;
+    for threads in THREADS {
+        let found = answers_text_on(&rt, rt.alloc(), &addrs, &hops, threads)?;
+        assert!(rt; found.as_slice() == text.as_slice(), "{threads}");
+    }
+    Ok(())
+}
