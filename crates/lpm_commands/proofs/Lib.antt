@@ -1,7 +1,7 @@
 pub mod Loaded
 pub mod Groups
-pub mod Reordered
-pub mod Ordered
+pub mod Filled
+pub mod Sorted
 pub mod Updated
 pub mod Answered
 pub mod Texts

@@ -24,7 +24,7 @@ use Rattle.lpm_commands.specs.Loading.{EndsLoading}
 use Rattle.lpm_commands.specs.Loading.{Loads, addition_of, IsLoaded, IsFirstRefused}
 
 -- the rules of one route more
-rules_after-more : (R : RuleMap) (xs : List Route) (r : Route) → rules_after R (map addition_of (xs ++ r ∷ [])) ≡ insert (rules_after R (map addition_of xs)) r.prefix r.hop
+pub rules_after-more : (R : RuleMap) (xs : List Route) (r : Route) → rules_after R (map addition_of (xs ++ r ∷ [])) ≡ insert (rules_after R (map addition_of xs)) r.prefix r.hop
 rules_after-more R [] r = refl
 rules_after-more R (x ∷ xs) r = rules_after-more (insert R x.prefix x.hop) xs r
 
@@ -33,7 +33,7 @@ Loads-append c s t z [] r put same adds = (put, z, subst (λ (x : State Registry
 Loads-append c s t z (x ∷ xs) r put loads adds = (loads.0, loads.1, loads.2, Loads-append c loads.1 t z xs r put loads.3 adds)
 
 -- the rules after an add
-added_rules : (c : Config) (s z : State Registry) (p : Network) (h : ℕ) (put : Put) → Adds counting 24 8 c s p h (Ok put) z → z.rules ≡ insert s.rules p h
+pub added_rules : (c : Config) (s z : State Registry) (p : Network) (h : ℕ) (put : Put) → Adds counting 24 8 c s p h (Ok put) z → z.rules ≡ insert s.rules p h
 added_rules c s z p h Unchanged adds = ap (λ (x : State Registry). x.rules) adds.1 ∙ sym (insert_same s.rules p h adds.0)
 added_rules c s z p h Replaced adds = adds.3.0
 added_rules c s z p h Added adds = adds.2.0
@@ -109,8 +109,8 @@ no_counter zero w = refl
 no_counter (suc n) zero = refl
 no_counter (suc n) (suc w) = no_counter n w
 
--- no worker of a loaded table is online
-pub all_offline : (c : Config) (routes : List Route) (table : State Registry) → IsLoaded c routes table → (w : ℕ) → ¬ by_counters.is_online table.readers w
-all_offline c routes table loaded w online =
-    let none = ap (λ (r : Registry). slice_index r.counters w) loaded.readers ∙ no_counter c.workers w in
+-- no worker of such a table is online
+pub all_offline : (c : Config) (table : State Registry) → table.readers ≡ (opened c).readers → (w : ℕ) → ¬ by_counters.is_online table.readers w
+all_offline c table first w online =
+    let none = ap (λ (r : Registry). slice_index r.counters w) first ∙ no_counter c.workers w in
     absurd (omega (arith, none))

@@ -10,22 +10,22 @@ use Rattle.route_text.specs.declared.orders.Order.{Order}
 use Rattle.route_text.specs.Files.{AreRoutes, AreAddresses}
 use Rattle.route_text.specs.Updates.{AreUpdates}
 use Rattle.lpm_files.specs.Inputs.{Reads}
-use Rattle.lpm_commands.specs.Loading.{IsLoaded}
+use Rattle.lpm_commands.specs.Loading.{IsLoaded, rules_of_routes}
 use Rattle.lpm_commands.specs.Lookup.{IsAnswered, IsAnswerText, IsLookupText}
 use Rattle.lpm_commands.specs.Apply.{IsToldAfter, IsApplyText}
 use Rattle.lpm_commands.specs.Report.{IsReportedAfter, IsReportText}
 use Rattle.lpm_commands.proofs.Updated.{updated, last_rules, reported}
 
--- the answers of the table that the routes make
-pub is_lookup_text : (c : Config) (routes addresses : Option (List ℕ)) (list : List Route) (addrs : List ℕ) (table : State Registry) (text : List ℕ) → Reads AreRoutes routes list → Reads AreAddresses addresses addrs → IsLoaded c list table → IsAnswered c table.rules addrs text → IsLookupText c routes addresses text
-is_lookup_text c routes addresses list addrs table text are_routes are_addrs loaded answered = record {
+-- the answers by the rules of the routes, which make a table
+pub is_lookup_text : (c : Config) (routes addresses : Option (List ℕ)) (list : List Route) (addrs : List ℕ) (table : State Registry) (R : RuleMap) (text : List ℕ) → Reads AreRoutes routes list → Reads AreAddresses addresses addrs → IsLoaded c list table → R ≡ rules_of_routes list → IsAnswered c R addrs text → IsLookupText c routes addresses text
+is_lookup_text c routes addresses list addrs table R text are_routes are_addrs loaded same answered = record {
   list = list;
   addrs = addrs;
   table = table;
   are_routes = are_routes;
   are_addrs = are_addrs;
   loaded = loaded;
-  answered = subst (λ (R : RuleMap). IsAnswered c R addrs text) loaded.rules answered;
+  answered = subst (λ (S : RuleMap). IsAnswered c S addrs text) same answered;
 }
 
 -- what came of the updates, and the answers of the table after them

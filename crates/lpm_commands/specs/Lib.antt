@@ -1,6 +1,6 @@
 pub mod Loading
 pub mod Groups
-pub mod Order
+pub mod Filled
 pub mod Updating
 pub mod Lookup
 pub mod Apply

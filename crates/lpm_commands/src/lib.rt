@@ -7,6 +7,7 @@ mod loading;
 mod lookup_command;
 mod migrate_command;
 mod ordering;
+mod refusals;
 mod report_command;
 mod storm_command;
 mod updating;

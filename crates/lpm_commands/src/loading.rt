@@ -1,13 +1,23 @@
 //! A table of the routes of a file.
-ghost use Rattle.std.specs.Prelude.{◌≡◌, ◌≢◌, IfOk, IfErr, IfSome, OnOk};
+ghost use Rattle.std.specs.Prelude.{◌≡◌, ◌+◌, ◌^◌, ◌<◌, ◌≤◌, IsTrue, IfOk, IfErr, IfSome, OnOk, OnSome, length, map, drop};
 ghost use Rattle.lpm_limits.specs.Limits.{IsConfig, IsIn, groups_range};
+ghost use Rattle.lpm_rules.specs.RuleMap.{RuleMap};
+ghost use Rattle.lpm_rules.specs.Changes.{rules_after};
+ghost use Rattle.lpm_sweep.specs.Listed.{with_rules};
+ghost use Rattle.qsbr.specs.Registry.{Registry};
+ghost use Rattle.fib_model.specs.State.{State};
 ghost use Rattle.fib_model.specs.Counting.{opened};
-ghost use Rattle.lpm_commands.specs.Loading.{IsLoaded, EndsLoading};
+ghost use Rattle.lpm_commands.specs.Loading.{IsLoaded, EndsLoading, addition_of, rules_of_routes};
 ghost use Rattle.lpm_commands.specs.Groups.{IsEnough, long_routes};
+ghost use Rattle.lpm_commands.specs.Filled.{IsFilled};
 
-use crate::ordering::in_order;
+use crate::ordering::rules_in_order;
+use crate::refusals::{first_refusal, refused};
 use fib::{Fib, OpenError};
+use lpm_bits::Prefix;
 use lpm_files::Failure;
+use lpm_rules::Rule;
+use lpm_sweep::MOST_SORTED;
 use qsbr::{Config, Refusal};
 use route_text::Route;
 use std::alloc::Global;
@@ -52,12 +62,13 @@ fn add_all<'a>(table: &mut Fib<24, 8>, path: &'a str, routes: &[Route]) -> Resul
     Ok(())
 }
 
-/// The table that `load` makes, with no more groups than these routes can need, so it is for lookups
-/// alone. `config.groups` is the most.
+/// A table with the rules of the routes, and with no more groups than these can need, so it is for
+/// lookups alone. `config.groups` is the most.
 ///
 /// A running table has words for each group, needed or not: fewer groups take less memory and time.
-/// The routes are put in by the order of their prefixes, which is faster. Where that is refused they
-/// are put in once more, in the order of the file, so that the first refused one is that of the file.
+/// The rules are put in by the order of their prefixes, each prefix once, so the words that are
+/// stored are bounded by those of the table, whatever the file repeats. Where that is refused, the
+/// first refused route of the file is told without a table.
 pub fn load_for_lookups<'a>(
     alloc: Global,
     path: &'a str,
@@ -66,28 +77,88 @@ pub fn load_for_lookups<'a>(
 ) -> Result<Fib<24, 8>, Failure<'a>>
     requires { IsConfig config }
     ensures workers { IfOk result (λ fib. fib.config.workers ≡ config.workers) }
-    ensures loaded { IfOk result (λ fib. IsLoaded config routes.now fib.table) }
+    ensures rules { IfOk result (λ fib. fib.table.rules ≡ rules_of_routes routes.now) }
+    ensures readers { IfOk result (λ fib. fib.table.readers ≡ (opened config).readers) }
+
+    // The routes make a table in the order of the file too.
+    ensures loads { IfOk result (λ fib. (table : State Registry)
+        × IsLoaded config routes.now table) }
     ensures failure { IfErr result (EndsLoading config path.entry.now routes.now) }
 {
     let groups = groups_for(routes, config);
     let limits = Config { groups, ..config };
     match load_in_order(alloc, routes, limits) {
         Some(table) => Ok(table),
-        None => load(alloc, path, routes, limits),
+        None => Err(first_refusal(alloc, path, routes, limits)),
     }
 }
 
-// The table of the routes, put in by the order of their prefixes. None where a route is refused, or
-// memory; which one it was isn't told, since another may be the first of the file.
+// A table with the rules of the routes, put in by the order of their prefixes. None where a rule is
+// refused, or memory; which route it was isn't told, since another may be the first of the file.
 fn load_in_order(alloc: Global, routes: &[Route], config: Config) -> Option<Fib<24, 8>>
     requires { IsConfig config }
     ensures config { IfSome result (λ fib. fib.config ≡ config) }
-    ensures loaded { IfSome result (λ fib. IsLoaded config routes.now fib.table) }
+    ensures rules { IfSome result (λ fib. fib.table.rules ≡ rules_of_routes routes.now) }
+    ensures filled { IfSome result (λ fib. IsFilled config fib.table) }
 {
-    let Ok(sorted) = in_order(alloc, routes) else {
+    let Ok(mut table) = open(alloc, config) else {
         return None;
     };
-    load(alloc, "", &sorted, config).ok()
+    let mut rest = routes;
+    while !rest.is_empty() {
+        let (piece, later) = rest.split_at(rest.len().min(MOST_SORTED));
+        let Ok(()) = add_piece(alloc, &mut table, piece) else {
+            return None;
+        };
+        rest = later;
+    }
+    Some(table)
+}
+
+// Adds the rules of routes, at most as many as can be sorted.
+fn add_piece(alloc: Global, table: &mut Fib<24, 8>, routes: &[Route]) -> Result<(), Refusal>
+    requires few { length routes.now ≤ 2 ^ 26 }
+    requires filled { IsFilled table.old.config table.old.table }
+    ensures config { table.new.config ≡ table.old.config }
+    ensures rules { OnOk result (table.new.table.rules
+        ≡ rules_after table.old.table.rules (map addition_of routes.now)) }
+    ensures filled { OnOk result (IsFilled table.old.config table.new.table) }
+{
+    let Ok(rules) = rules_in_order(alloc, routes) else {
+        return Err(Refusal::Memory);
+    };
+    add_last(table, &rules)
+}
+
+// Adds rules, of those of one prefix that stand together just the last.
+fn add_last(table: &mut Fib<24, 8>, rules: &[Rule<24, 8>]) -> Result<(), Refusal>
+    requires filled { IsFilled table.old.config table.old.table }
+    ensures config { table.new.config ≡ table.old.config }
+    ensures rules { OnOk result
+        (table.new.table.rules ≡ with_rules table.old.table.rules rules.now) }
+    ensures filled { OnOk result (IsFilled table.old.config table.new.table) }
+{
+    let mut next = 0usize;
+    for (index, rule) in rules.iter().enumerate() {
+        if index >= next {
+            next = index.saturating_add(prefetch(table, &rules[index..]));
+        }
+        if is_replaced(rules, index) {
+            continue;
+        }
+        table.add(&rule.prefix, rule.hop)?;
+    }
+    Ok(())
+}
+
+// Whether the next rule is of the same prefix, and so takes the place of this one.
+fn is_replaced(rules: &[Rule<24, 8>], index: usize) -> bool
+    requires { index < length rules.now }
+    ensures { IsTrue result → (R : RuleMap)
+        → with_rules R (drop index rules.now) ≡ with_rules R (drop (index + 1) rules.now) }
+{
+    let after = index + 1;
+    after < rules.len() && rules[after].prefix == rules[index].prefix
 }
 
 // How many groups do for the routes: one for each that is longer than 24 bits, and one at least.
@@ -113,28 +184,30 @@ fn long_routes(routes: &[Route]) -> usize
         .count()
 }
 
-// What a refusal of the route on this line ends the run with.
-fn refused(path: &str, line: usize, refusal: Refusal) -> Failure<'_>
-    ensures memory { refusal ≡ Refusal.Memory → result ≡ Failure.Memory }
-    ensures other { refusal ≢ Refusal.Memory → result ≡ Failure.RefusedRoute path.entry line refusal }
-{
-    if refusal == Refusal::Memory {
-        return Failure::Memory;
+// A route or a rule, of whose prefix a table prefetches.
+trait Prefixed {
+    fn prefix(&self) -> &Prefix<24, 8>;
+}
+
+impl Prefixed for Route {
+    fn prefix(&self) -> &Prefix<24, 8> {
+        &self.prefix
     }
-    Failure::RefusedRoute {
-        path,
-        line,
-        refusal,
+}
+
+impl Prefixed for Rule<24, 8> {
+    fn prefix(&self) -> &Prefix<24, 8> {
+        &self.prefix
     }
 }
 
 // Prefetches for the next routes, and returns after how many of them to prefetch again. That is
 // sooner where few of them were covered yet, since then more words are stored on the way.
 #[inline(never)]
-fn prefetch(table: &Fib<24, 8>, routes: &[Route]) -> usize {
+fn prefetch<T: Prefixed>(table: &Fib<24, 8>, routes: &[T]) -> usize {
     let mut covered = 0usize;
     for route in routes.iter().take(AHEAD) {
-        covered = covered.wrapping_add(usize::from(table.prefetch(&route.prefix)));
+        covered = covered.wrapping_add(usize::from(table.prefetch(route.prefix())));
     }
     (AHEAD / 2).max(covered)
 }

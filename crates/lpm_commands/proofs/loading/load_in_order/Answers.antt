@@ -1,17 +1,17 @@
-use Rattle.std.proofs.Common.{Ok, Err, IfOk, IfSome, Result, sym, subst, List}
-use Rattle.std.specs.Result.{result_ok}
-use Rattle.route_text.specs.declared.routes.Route.{Route}
-use Rattle.lpm_commands.specs.Order.{IsReordering}
-use Rattle.lpm_commands.proofs.Ordered.{loaded_in_order}
+use Rattle.std.proofs.Common.{ap, sym, subst, map}
+use Rattle.lpm_rules.specs.Changes.{rules_after}
+use Rattle.fib.specs.Fib.{FibState}
+use Rattle.lpm_commands.specs.Loading.{addition_of}
+use Rattle.lpm_commands.specs.Filled.{IsFilled}
+use Rattle.lpm_commands.proofs.Filled.{filled_first}
 use Rattle.lpm_commands.proofs.loading.load_in_order.Goals as goal
 
--- what holds of a value holds of it where the error is dropped
-some_of : {T E : Type 0} (r : Result T E) (P Q : T → Type 0) → ((x : T) → P x → Q x) → IfOk r P → IfSome (result_ok r) Q
-some_of (Ok x) P Q more is = more x is
-some_of (Err e) P Q more is = tt
-
-pub returns-clause-loaded : goal.returns-clause-loaded
-returns-clause-loaded c =
-    let order = subst (λ (l : List Route). IsReordering c.args.routes.now l) (sym c.deref.ensures.value) c.in-Ok.ensures in
-    rw c.ok.ensures.value
-    (some_of c.load.result _ _ (λ fib loaded. loaded_in_order c.args.config c.args.routes.now c.deref.result.now fib.table order loaded) c.load.ensures.loaded)
+pub loop-rest-init : goal.loop-rest-init
+loop-rest-init c =
+    let is = c.in-Ok.ensures.opened in
+    let table = ap (λ (f : FibState). f.table) is in
+    record {
+      config = ap (λ (f : FibState). f.config) is;
+      filled = subst (IsFilled c.args.config) (sym table) (filled_first c.args.config);
+      rest = ap (λ (f : FibState). rules_after f.table.rules (map addition_of c.args.routes.now)) is;
+    }

@@ -1,16 +1,21 @@
--- A table of routes is that of the same routes in another order, in which those of one prefix keep
--- theirs.
-use Rattle.std.proofs.Common.{◌≡◌, ◌≢◌, ◌∙◌, ap, sym, subst, refl, ℕ, ◌+◌, ◌<◌, ◌≤◌, ◌^◌, ◌⊎◌, inl, inr, Bool, true, false, cond, Option, Some, None, List, [], ◌∷◌, Ok, length, arith}
-use Rattle.std.specs.Prelude.{IsSome, IsSomeAnd, is_some}
-use Rattle.std.specs.FinMap.{get, insert, empty, len}
+-- A table into which rules were put in any order, told by its end: the routes make a table in the
+-- order of the file too.
+use Rattle.std.proofs.Common.{◌≡◌, ◌≢◌, ◌∙◌, ap, sym, subst, refl, ℕ, ◌+◌, ◌<◌, ◌≤◌, ◌^◌, ◌⊎◌, inl, inr, Bool, true, false, cond, Option, Some, None, List, [], ◌∷◌, Ok, Err, length, get_or, take, map, arith}
+use Rattle.std.proofs.lemmas.List.{length-take-le}
+use Rattle.std.specs.Prelude.{IsSome, IsSomeAnd, IsTrue, is_some, nat_eq, ◌↔◌}
+use Rattle.std.specs.FinMap.{get, insert, empty, len, get-empty}
 use Rattle.std.specs.FinMap as rules
 use Rattle.std.specs.FinSet as set
 use Rattle.std.specs.Ordering.{nat_cmp}
 use Rattle.std.specs.Cmp.{nat_cmp_total}
 use Rattle.std.proofs.lemmas.Bool.{cases_lt, cases_eq, cases_Bool, ne_eqb, eq-eqb, false≢true}
 use Rattle.lpm_bits.specs.Network.{Network}
+use Rattle.lpm_limits.specs.declared.busy.Busy.{Busy}
 use Rattle.lpm_limits.specs.declared.config.Config.{Config}
-use Rattle.lpm_rules.specs.RuleMap.{RuleMap, network_cmp}
+use Rattle.lpm_limits.specs.declared.refusal.Refusal.{Refusal}
+use Rattle.lpm_limits.specs.declared.refusal.Refusal.TheVariants.{TooManyRules, Exhausted, NoGroups, Memory}
+use Rattle.lpm_rules.specs.RuleMap.{RuleMap, RuleList, LacksRoomFor, network_cmp}
+use Rattle.lpm_rules.specs.Changes.{rules_after}
 use Rattle.lpm_rules.specs.Deep.{IsDeepBlock, block_of, deep_blocks}
 use Rattle.lpm_rules.specs.declared.Put.{Put}
 use Rattle.lpm_rules.specs.declared.Put.TheVariants.{Added, Replaced, Unchanged}
@@ -20,22 +25,41 @@ use Rattle.lpm_rules.proofs.DeepChanges.{put_brings_block, deep_blocks_empty}
 use Rattle.lpm_rules.proofs.Views.{networks_total}
 use Rattle.qsbr.specs.Registry.{Registry}
 use Rattle.fib_model.specs.State.{State, HasTokens}
-use Rattle.fib_model.specs.Outcomes.{Adds, LacksGroup, groups_in_use}
+use Rattle.fib_model.specs.Outcomes.{Adds, LacksGroup, HoldsFront, groups_in_use}
 use Rattle.fib_model.specs.Counting.{counting, opened}
 use Rattle.route_text.specs.declared.routes.Route.{Route}
-use Rattle.lpm_commands.specs.Loading.{Loads, IsLoaded}
-use Rattle.lpm_commands.specs.Order.{IsReordering}
-use Rattle.lpm_commands.proofs.Loaded.{added_readers}
-use Rattle.lpm_commands.proofs.Reordered.{Made, changed, with_route, made_by, made_rules, same_made}
+use Rattle.lpm_commands.specs.Loading.{Loads, IsLoaded, IsFirstRefused, addition_of, rules_of_routes}
+use Rattle.lpm_commands.specs.Filled.{Fits, IsFilled, BringsGroup, Refuses}
+use Rattle.lpm_commands.proofs.Loaded.{added_rules, added_limbo, added_readers, rules_after-more, take_read, first_refused}
+
+-- ---- rules, and how many changes made them
+
+-- rules, and the number of changes so far
+abbrev Made : Type 0
+Made = RuleMap × ℕ
+
+-- 1 where a prefix that has this gets another hop, else 0
+abbrev changed : Option ℕ → ℕ → ℕ
+changed None h = 1
+changed (Some old) h = cond (nat_eq old h) 0 1
+
+-- after a route, and after routes
+abbrev with_route : Made → Route → Made
+with_route m r = (insert m.0 r.prefix r.hop, m.1 + changed (get m.0 r.prefix) r.hop)
+
+abbrev made_by : Made → List Route → Made
+made_by m [] = m
+made_by m (r ∷ routes) = made_by (with_route m r) routes
+
+-- the rules are those of these routes
+made_rules : (m : Made) (routes : List Route) → (made_by m routes).0 ≡ rules_after m.0 (map addition_of routes)
+made_rules m [] = refl
+made_rules m (r ∷ routes) = made_rules (with_route m r) routes
 
 -- ---- rules that a table of these limits can have
 
 abbrev in_use : RuleMap → ℕ
 in_use R = groups_in_use 24 8 R
-
-record Fits (c : Config) (R : RuleMap) : Type 0 where
-  rules : len R ≤ c.rules
-  groups : in_use R ≤ c.groups
 
 -- the second has at least as many rules, groups and changes as the first
 record Grows (m n : Made) : Type 0 where
@@ -188,94 +212,6 @@ module _ (c : Config) where
         groups = groups_new s p h none absent has fits.groups;
       }
 
-  -- ---- an accepted route
-
-  -- a change of one rule
-  reaches_by_change : (s t : State Registry) (r : Route) → changed (get s.rules r.prefix) r.hop ≡ 1 → HasTokens counting c s → t.rules ≡ insert s.rules r.prefix r.hop → t.begun ≡ s.begun + 1 → t.readers ≡ s.readers → t.limbo ≡ s.limbo → Fits c (insert s.rules r.prefix r.hop) → Reaches c s (r ∷ []) t
-  reaches_by_change s t r one has made begun readers limbo fits =
-      let last : t.begun ≡ s.begun + changed (get s.rules r.prefix) r.hop = omega (arith, one, begun) in
-      let versions = has.1 in
-      record {
-        made = λ i. (made i, last i);
-        readers = readers;
-        limbo = limbo;
-        fits = subst (Fits c) (sym made) fits;
-        tokens = λ more. (has.0, omega (arith, begun, versions));
-      }
-
-  reaches_one : (s t : State Registry) (r : Route) (put : Put) → s.limbo ≡ [] → Fits c s.rules → Adds counting 24 8 c s r.prefix r.hop (Ok put) t → Reaches c s (r ∷ []) t
-  reaches_one s t r Unchanged none fits adds =
-      let same = adds.1 in
-      let rules : t.rules ≡ insert s.rules r.prefix r.hop = ap (λ (x : State Registry). x.rules) same ∙ sym (insert_same s.rules r.prefix r.hop adds.0) in
-      let begun = ap (λ (x : State Registry). x.begun) same in
-      let zero_changes = changed_same (get s.rules r.prefix) r.hop adds.0 in
-      let last : t.begun ≡ s.begun + changed (get s.rules r.prefix) r.hop = omega (arith, begun, zero_changes) in
-      record {
-        made = λ i. (rules i, last i);
-        readers = ap (λ (x : State Registry). x.readers) same;
-        limbo = ap (λ (x : State Registry). x.limbo) same;
-        fits = subst (λ (x : State Registry). Fits c x.rules) (sym same) fits;
-        tokens = λ more. absurd (omega (arith, begun, more));
-      }
-  reaches_one s t r Replaced none fits adds =
-      reaches_by_change s t r
-      (changed_other (get s.rules r.prefix) r.hop adds.0)
-      adds.1
-      adds.3.0
-      adds.3.1
-      (added_readers c s t r.prefix r.hop Replaced none adds)
-      adds.4
-      (fits_known s.rules r.prefix r.hop (some_of (get s.rules r.prefix) (λ old. old ≢ r.hop) adds.0) fits)
-  reaches_one s t r Added none fits adds =
-      let has_group : ¬ LacksGroup 24 8 c s r.prefix = λ lacks. let front = sym none ∙ (adds.1.1.0 lacks).1 in absurd cc in
-      reaches_by_change s t r
-      (ap (λ (o : Option ℕ). changed o r.hop) adds.0.0)
-      adds.0.1
-      adds.2.0
-      adds.2.1
-      (added_readers c s t r.prefix r.hop Added none adds)
-      (adds.1.1.1 has_group).0
-      (fits_new s r.prefix r.hop none adds.0.0 adds.0.2 has_group fits)
-
-  -- ---- accepted routes
-
-  -- one more before others
-  reaches_more : (s t z : State Registry) (r : Route) (routes : List Route) → Reaches c s (r ∷ []) t → Reaches c t routes z → Reaches c s (r ∷ routes) z
-  reaches_more s t z r routes first rest = record {
-    made = rest.made ∙ ap (λ (m : Made). made_by m routes) first.made;
-    readers = rest.readers ∙ first.readers;
-    limbo = rest.limbo ∙ first.limbo;
-    fits = rest.fits;
-    tokens = λ more. elim (cases_lt s.begun t.begun) [
-      | inl one ↦
-          let before = first.tokens one in (
-            before.0,
-            elim (cases_lt t.begun z.begun) [
-              | inl later ↦ (rest.tokens later).1
-              | inr last ↦ let most = before.1 in omega (arith, last, most)
-            ],
-          )
-      | inr none ↦
-          let after = rest.tokens (omega (arith, more, none)) in
-          let same = ap (λ (x : Registry). x.token) first.readers in
-          let most = after.0 in
-          (omega (arith, same, most), after.1)
-    ];
-  }
-
-  -- what routes are loaded to, they reach
-  reaches : (s z : State Registry) (routes : List Route) → s.limbo ≡ [] → Fits c s.rules → Loads c s routes z → Reaches c s routes z
-  reaches s z [] none fits same = record {
-    made = ap made_of same;
-    readers = ap (λ (x : State Registry). x.readers) same;
-    limbo = ap (λ (x : State Registry). x.limbo) same;
-    fits = subst (λ (x : State Registry). Fits c x.rules) (sym same) fits;
-    tokens = λ more. let begun = ap (λ (x : State Registry). x.begun) same in absurd (omega (arith, begun, more));
-  }
-  reaches s z (r ∷ routes) none fits loads =
-      let first = reaches_one s loads.1 r loads.0 none fits loads.2 in
-      reaches_more s loads.1 z r routes first (reaches loads.1 z routes (first.limbo ∙ none) first.fits loads.3)
-
   -- ---- and back
 
   -- the table with this rule put in, as one more version
@@ -386,30 +322,189 @@ module _ (c : Config) where
 
 -- ---- a whole table
 
+-- no rules, and no group for them
+pub no_rules : ◌≡◌ {A = ℕ} (len (empty {K = Network} {X = ℕ} {R = network_cmp})) 0
+no_rules = rules.len-empty network_cmp ℕ
+
+pub none_in_use : in_use empty ≡ 0
+none_in_use = ap set.len (deep_blocks_empty 24 8) ∙ set.len-empty nat_cmp
+
 -- no rules fit any limits
 fits_empty : (c : Config) → Fits c empty
 fits_empty c =
-    let none = rules.len-empty network_cmp in
-    let shallow = ap set.len (deep_blocks_empty 24 8) ∙ set.len-empty nat_cmp in
+    let none = no_rules in
+    let shallow = none_in_use in
     record {
       rules = omega (arith, none);
       groups = omega (arith, shallow);
     }
 
--- the table of routes in another order is the table of the routes
-pub loaded_in_order : (c : Config) (xs ys : List Route) (table : State Registry) → IsReordering xs ys → IsLoaded c ys table → IsLoaded c xs table
-loaded_in_order c xs ys table reordering loaded =
-    let way = reaches c (opened c) table ys refl (fits_empty c) loaded.loads in
-    let made = way.made ∙ same_made (made_of (opened c)) xs ys reordering in
+-- a table that was just opened
+pub filled_first : (c : Config) → IsFilled c (opened c)
+filled_first c = record {
+  readers = refl;
+  limbo = refl;
+  fits = fits_empty c;
+  tokens = λ some. let none = no_rules in absurd (omega (arith, none, some));
+}
+
+-- one more rule
+pub filled_more : (c : Config) (s z : State Registry) (p : Network) (h : ℕ) (put : Put) → IsFilled c s → Adds counting 24 8 c s p h (Ok put) z → IsFilled c z
+filled_more c s z p h Unchanged filled adds = subst (IsFilled c) (sym adds.1) filled
+filled_more c s z p h Replaced filled adds =
+    let has = adds.1.0 in
+    let first = ap (λ (x : Registry). x.token) filled.readers in
     record {
-      loads = loads_back c (opened c) table xs refl (record {
-        made = made;
-        readers = way.readers;
-        limbo = way.limbo;
-        fits = way.fits;
-        tokens = way.tokens;
-      });
-      rules = ap (λ (m : Made). m.0) made ∙ made_rules (made_of (opened c)) xs;
-      readers = loaded.readers;
-      limbo = loaded.limbo;
+      readers = added_readers c s z p h Replaced filled.limbo adds ∙ filled.readers;
+      limbo = added_limbo c s z p h Replaced filled.limbo adds;
+      fits = subst (Fits c) (sym (added_rules c s z p h Replaced adds)) (fits_known c s.rules p h (some_of (get s.rules p) (λ old. old ≢ h) adds.0) filled.fits);
+      tokens = λ some. omega (arith, has, first);
     }
+filled_more c s z p h Added filled adds =
+    let has = adds.0.1.0 in
+    let first = ap (λ (x : Registry). x.token) filled.readers in
+    let has_group : ¬ LacksGroup 24 8 c s p = λ lacks. let front = sym filled.limbo ∙ (adds.1.1.0 lacks).1 in absurd cc in
+    record {
+      readers = added_readers c s z p h Added filled.limbo adds ∙ filled.readers;
+      limbo = added_limbo c s z p h Added filled.limbo adds;
+      fits = subst (Fits c) (sym (added_rules c s z p h Added adds)) (fits_new c s p h filled.limbo adds.0.0 adds.0.2 has_group filled.fits);
+      tokens = λ some. omega (arith, has, first);
+    }
+
+-- a route makes one change at most
+one_change : (o : Option ℕ) (h : ℕ) → changed o h ≤ 1
+one_change None h = omega arith
+one_change (Some old) h = elim (cases_Bool (nat_eq old h)) [
+  | inl same ↦ let none : changed (Some old) h ≡ 0 = ap {B = ℕ} (λ (t : Bool). cond t 0 1) same in omega (arith, none)
+  | inr other ↦ let one : changed (Some old) h ≡ 1 = ap {B = ℕ} (λ (t : Bool). cond t 0 1) other in omega (arith, one)
+]
+
+changes_at_most : (m : Made) (routes : List Route) → (made_by m routes).1 ≤ m.1 + length routes
+changes_at_most m [] = omega arith
+changes_at_most m (r ∷ routes) =
+    let rest = changes_at_most (with_route m r) routes in
+    let one = one_change (get m.0 r.prefix) r.hop in
+    omega (arith, rest, one)
+
+-- where something changed there are rules
+has_rules : (routes : List Route) → 0 < (made_by (empty, 0) routes).1 → 0 < len (made_by (empty, 0) routes).0
+has_rules [] some = absurd (omega (arith, some))
+has_rules (r ∷ routes) some =
+    let more = (grows (with_route (empty, 0) r) routes).rules in
+    let size = size_added empty r.prefix r.hop (get-empty network_cmp r.prefix) in
+    omega (arith, more, size)
+
+-- routes whose rules fit, with tokens for them, make a table by as many changes at most
+pub loads_fitting : (c : Config) (routes : List Route) → length routes ≤ 2 ^ 61 → Fits c (rules_of_routes routes) → (0 < len (rules_of_routes routes) → c.first_token + c.groups ≤ 2 ^ 62) → (t : State Registry) × IsLoaded c routes t × (t.begun ≤ length routes)
+loads_fitting c routes few fits lasts =
+    let m = made_by (empty, 0) routes in
+    let made = made_rules (empty, 0) routes in
+    let most : m.1 ≤ 0 + length routes = changes_at_most (empty, 0) routes in
+    let t : State Registry = record { rules = m.0; readers = (opened c).readers; limbo = []; begun = m.1 } in
+    let way : Reaches c (opened c) routes t = record {
+      made = refl;
+      readers = refl;
+      limbo = refl;
+      fits = subst (Fits c) (sym made) fits;
+      tokens = λ more. (lasts (subst (λ (R : RuleMap). 0 < len R) made (has_rules routes more)), omega (arith, most, few));
+    } in (
+      t,
+      record {
+        loads = loads_back c (opened c) t routes refl way;
+        rules = made;
+        readers = refl;
+        limbo = refl;
+      },
+      omega (arith, most),
+    )
+
+-- so do routes whose rules a table has
+pub loads_filled : (c : Config) (routes : List Route) (table : State Registry) → length routes ≤ 2 ^ 61 → table.rules ≡ rules_of_routes routes → IsFilled c table → (t : State Registry) × IsLoaded c routes t
+loads_filled c routes table few same filled =
+    let loaded = loads_fitting c routes few (subst (Fits c) same filled.fits) (subst (λ (R : RuleMap). 0 < len R → c.first_token + c.groups ≤ 2 ^ 62) same filled.tokens) in
+    (loaded.0, loaded.1)
+
+-- a table with these rules refuses a rule so
+pub refuses : (c : Config) (s : State Registry) (l : RuleList) (p : Network) (h : ℕ) (refusal : Refusal) → refusal ≢ Memory → s.rules ≡ l.rules → l.max ≡ c.rules → s.limbo ≡ [] → HasTokens counting c s → Refuses c.groups l p refusal → Adds counting 24 8 c s p h (Err refusal) s
+refuses c s l p h TooManyRules reason same max none has is =
+    let full = is.1 in
+    let size = ap (λ (R : RuleMap). len R) same in
+    (ap (λ (R : RuleMap). get R p) same ∙ is.0, has, omega (arith, full, size, max), refl)
+refuses c s l p h Memory reason same max none has is = absurd (reason refl)
+refuses c s l p h (NoGroups oldest) reason same max none has is =
+    let room = is.0.1 in
+    let size = ap (λ (R : RuleMap). len R) same in
+    let used = ap (λ (R : RuleMap). in_use R) same in
+    let full = is.2 in
+    let absent : get s.rules p ≡ None = ap (λ (R : RuleMap). get R p) same ∙ is.0.0 in
+    let front : (o : Option Busy) → o ≡ None → HoldsFront counting s o s.readers = λ o e. subst (λ (x : Option Busy). HoldsFront counting s x s.readers) (sym e) (none, refl) in (
+      (absent, has, omega (arith, room, size, max)),
+      record {
+        absent = absent;
+        long = is.1.0;
+        shallow = subst (λ (R : RuleMap). ¬ IsDeepBlock 24 8 R (block_of 8 p)) (sym same) is.1.1;
+        none_free = omega (arith, full, used);
+      },
+      front oldest is.3,
+      refl,
+    )
+refuses c s l p h refusal reason same max none has is = absurd is
+
+-- ---- the rules alone
+
+-- a rule that isn't refused for want of room
+pub put_fits : (l : RuleList) (p : Network) (h : ℕ) → len l.rules ≤ l.max → ¬ LacksRoomFor l p → len (insert l.rules p h) ≤ l.max
+put_fits l p h most room = by_cases (get l.rules p) refl where
+  by_cases : (o : Option ℕ) → get l.rules p ≡ o → len (insert l.rules p h) ≤ l.max
+  by_cases None absent = elim (cases_lt (len l.rules) l.max) [
+    | inl free ↦ let size = size_added l.rules p h absent in omega (arith, size, free)
+    | inr full ↦ absurd (room (absent, full))
+  ]
+  by_cases (Some old) here =
+      let size = size_known l.rules p h (ap is_some here) in
+      omega (arith, size, most)
+
+-- how many groups are in use with one more rule
+pub put_groups : (R : RuleMap) (p : Network) (h : ℕ) (b : Bool) → IsTrue b ↔ BringsGroup R p → in_use R + cond b 1 0 ≡ in_use (insert R p h)
+put_groups R p h true brings =
+    let is = brings.0 refl in
+    let one = new_group R p h is.0 is.1 in
+    omega (arith, one)
+put_groups R p h false brings =
+    let bring = put_brings_block 24 8 R p h in
+    let old = deep_blocks 24 8 R in
+    let same : in_use (insert R p h) ≡ in_use R = elim (cases_lt 24 p.len) [
+      | inr short ↦ ap set.len (bring.1 short)
+      | inl long ↦ elim (cases_Bool (set.contains old (block_of 8 p))) [
+        | inl here ↦ ap set.len (bring.0 long) ∙ (set.len-insert nat_cmp_total old (block_of 8 p) ∙ ap (λ (t : Bool). cond t (set.len old) (set.len old + 1)) here)
+        | inr away ↦
+            let shallow : ¬ IsDeepBlock 24 8 R (block_of 8 p) = λ deep. false≢true (sym away ∙ (has_deep_blocks 24 8 R (block_of 8 p)).1 deep) in
+            absurd (false≢true (brings.1 (long, shallow)))
+      ]
+    ] in
+    omega (arith, same)
+
+-- the rules of one route more
+pub rules_read : (routes : List Route) (i : ℕ) (r : Route) → i < length routes → r ≡ get_or routes i r → rules_of_routes (take (i + 1) routes) ≡ insert (rules_of_routes (take i routes)) r.prefix r.hop
+rules_read routes i r within read = ap rules_of_routes (take_read routes i r within read) ∙ rules_after-more empty (take i routes) r
+
+-- the first route that is refused stands at this place of the routes
+pub refused_at : (c : Config) (routes : List Route) (i : ℕ) (r : Route) (l : RuleList) (refusal : Refusal) → i < length routes → r ≡ get_or routes i r → length routes ≤ 2 ^ 61 → l.rules ≡ rules_of_routes (take i routes) → l.max ≡ c.rules → len l.rules ≤ l.max → in_use l.rules ≤ c.groups → (0 < length routes → c.first_token + c.groups ≤ 2 ^ 62) → refusal ≢ Memory → Refuses c.groups l r.prefix refusal → IsFirstRefused c routes r.line refusal
+refused_at c routes i r l refusal within read few same max most groups lasts reason is =
+    let before : length (take i routes) ≡ i = length-take-le i routes (omega (arith, within)) in
+    let fits : Fits c l.rules = record { rules = omega (arith, most, max); groups = groups } in
+    let have = lasts (omega (arith, within)) in
+    let loaded = loads_fitting c (take i routes) (omega (arith, before, within, few)) (subst (Fits c) same fits) (λ some. have) in
+    let t = loaded.0 in
+    let first = ap (λ (x : Registry). x.token) loaded.1.readers in
+    let changes = loaded.2 in
+    first_refused c routes i r c t t refusal within read refl loaded.1 reason
+    (refuses c t l r.prefix r.hop refusal reason (loaded.1.rules ∙ sym same) max loaded.1.limbo (omega (arith, have, first), omega (arith, changes, before, within, few)) is)
+
+-- without tokens the first route is refused
+pub exhausted_first : (c : Config) (routes : List Route) (r : Route) → 0 < length routes → r ≡ get_or routes 0 r → 2 ^ 62 < c.first_token + c.groups → IsFirstRefused c routes r.line Exhausted
+exhausted_first c routes r some read more =
+    let loaded : IsLoaded c [] (opened c) = record { loads = refl; rules = refl; readers = refl; limbo = refl } in
+    let none = get-empty network_cmp r.prefix in
+    first_refused c routes 0 r c (opened c) (opened c) Exhausted some read refl loaded (λ e. cc)
+    ((λ same. let never = sym none ∙ same in absurd cc), inl (omega (arith, more)), refl)

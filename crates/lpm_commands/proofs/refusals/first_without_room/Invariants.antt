@@ -1,0 +1,14 @@
+use Rattle.std.proofs.Common.{◌≡◌, ◌≤◌, take}
+use Rattle.std.specs.FinMap.{len}
+use Rattle.fib_model.specs.Outcomes.{groups_in_use}
+use Rattle.lpm_commands.specs.Loading.{rules_of_routes}
+use Rattle.lpm_commands.proofs.refusals.first_without_room.Given as goal
+
+abbrev pub invariant-loop-index : goal.invariant-loop-index
+invariant-loop-index l = record {
+  rules : l.rules.rules ≡ rules_of_routes (take l.index l.routes);
+  max : l.rules.max ≡ l.config.rules;
+  most : len l.rules.rules ≤ l.rules.max;
+  in_use : l.in_use ≡ groups_in_use 24 8 l.rules.rules;
+  few : l.in_use ≤ l.config.groups;
+}
