@@ -106,6 +106,20 @@ def cut(kind, words, files, name, text, ends):
         yield case(f"cut-{kind}-{count}", words, {**files, name: text[:count]}, refusing=False, **more)
 
 
+def repeated_cases():
+    """Lookups by files that repeat prefixes of many addresses. To store the words of each line would take minutes."""
+    same = "".join(f"0.0.0.0/0 {hop}\n" for hop in range(1, 3_001))
+    yield answered("one-prefix-repeated", same, "0.0.0.0 10.1.2.3", "3000 3000", refusing=False)
+    yield case("one-prefix-repeated-too-many", "lookup --rules 1 r a", {"r": f"{same}10.0.0.0/8 1\n", "a": ""}, 6,
+               err="lpmtool: r:3001: refused 3 TooManyRules\n", refusing=False)
+    # The last long route is of another block than the one with the group. Short ones need none.
+    yield case("one-prefix-repeated-no-group", "lookup --groups 1 r a",
+               {"r": f"{same}10.0.0.0/24 1\n10.0.0.0/25 1\n10.0.0.128/26 2\n10.0.1.0/25 2\n10.0.2.0/24 3\n", "a": ""}, 6,
+               err="lpmtool: r:3004: refused 7 NoGroups\n", refusing=False)
+    turns = "".join(f"0.0.0.0/{0 if hop % 2 else 8} {hop}\n" for hop in range(1, 3_001))
+    yield answered("two-prefixes-in-turn", turns, "0.1.2.3 1.0.0.0", "3000 2999", refusing=False)
+
+
 def large_cases():
     """The commands with files of over a megabyte and as many rules as fit just so: each answers, since memory is ample.
     Then a fault and a refusal in the last line of such a file."""
@@ -548,5 +562,6 @@ CASES = [
     *cut("update-file", "apply r u a", {"r": "", "a": ""}, "u", UPDATES + "add 10.0.0.0/8 1\nflush\n", [
         (12, "1: bad header"), (14, ""), (16, "2: bad word"), (29, "2: bad fields"), (31, "added\n"),
         (35, "3: bad word"), (37, "added\nflushed 1\n")]),
+    *repeated_cases(),
     *large_cases(),
 ]
