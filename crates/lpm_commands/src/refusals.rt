@@ -55,8 +55,8 @@ fn first_without_room<'a>(
     Failure::Memory
 }
 
-// Puts the rule of a route into the list of a table that has so many groups, and answers how many of
-// them are in use then; or why the table refuses it.
+// Puts the rule of a route into the list of a table that has so many groups, and answers how many
+// of them are in use then; or why the table refuses it.
 fn put(
     rules: &mut Rules<24, 8>,
     in_use: usize,
@@ -66,7 +66,8 @@ fn put(
     requires most { len rules.old.rules ≤ rules.old.max }
     requires in_use { in_use ≡ groups_in_use 24 8 rules.old.rules }
     requires few { in_use ≤ groups }
-    ensures put { IfOk result (λ n. rules.new ≡ with_rule rules.old route.now.prefix route.now.hop) }
+    ensures put { IfOk result
+        (λ n. rules.new ≡ with_rule rules.old route.now.prefix route.now.hop) }
     ensures most { IfOk result (λ n. len rules.new.rules ≤ rules.new.max) }
     ensures in_use { IfOk result (λ n. n ≡ groups_in_use 24 8 rules.new.rules) }
     ensures few { IfOk result (λ n. n ≤ groups) }
@@ -94,7 +95,8 @@ fn brings_group(rules: &Rules<24, 8>, route: &Route) -> bool
 /// What a refusal of the route on this line ends the run with.
 pub fn refused(path: &str, line: usize, refusal: Refusal) -> Failure<'_>
     ensures memory { refusal ≡ Refusal.Memory → result ≡ Failure.Memory }
-    ensures other { refusal ≢ Refusal.Memory → result ≡ Failure.RefusedRoute path.entry line refusal }
+    ensures other { refusal ≢ Refusal.Memory
+        → result ≡ Failure.RefusedRoute path.entry line refusal }
 {
     if refusal == Refusal::Memory {
         return Failure::Memory;
