@@ -25,8 +25,8 @@ pub record Fits (c : Config) (R : RuleMap) : Type 0 where
   pub rules : len R ≤ c.rules
   pub groups : groups_in_use 24 8 R ≤ c.groups
 
--- the table is as it was opened but for its rules, which fit; where it has some, the tokens last
--- for its groups
+-- the table is as it was opened but for its rules, which fit, and its versions; where it has rules,
+-- the tokens last for its groups
 pub record IsFilled (c : Config) (table : State Registry) : Type 0 where
   pub readers : table.readers ≡ (opened c).readers
   pub limbo : table.limbo ≡ []
