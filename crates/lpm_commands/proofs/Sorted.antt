@@ -10,7 +10,7 @@ use Rattle.lpm_rules.specs.RuleMap.{RuleMap, network_cmp}
 use Rattle.lpm_rules.specs.Changes.{rules_after}
 use Rattle.lpm_rules.specs.declared.Rule.{Rule}
 use Rattle.lpm_rules.proofs.Views.{networks_total, exact_networks}
-use Rattle.lpm_sweep.specs.Listed.{with_rules, rules_of}
+use Rattle.lpm_rules.specs.Listed.{with_rules, rules_of}
 use Rattle.route_text.specs.declared.routes.Route.{Route}
 use Rattle.lpm_commands.specs.Loading.{addition_of, rules_of_routes}
 use Rattle.lpm_commands.specs.Filled.{rule_of}

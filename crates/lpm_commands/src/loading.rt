@@ -3,7 +3,7 @@ ghost use Rattle.std.specs.Prelude.{◌≡◌, ◌+◌, ◌^◌, ◌<◌, ◌≤
 ghost use Rattle.lpm_limits.specs.Limits.{IsConfig, IsIn, groups_range};
 ghost use Rattle.lpm_rules.specs.RuleMap.{RuleMap};
 ghost use Rattle.lpm_rules.specs.Changes.{rules_after};
-ghost use Rattle.lpm_sweep.specs.Listed.{with_rules};
+ghost use Rattle.lpm_rules.specs.Listed.{with_rules};
 ghost use Rattle.qsbr.specs.Registry.{Registry};
 ghost use Rattle.fib_model.specs.State.{State};
 ghost use Rattle.fib_model.specs.Counting.{opened};

@@ -1,6 +1,6 @@
 //! The rules of routes in the order of their prefixes.
 ghost use Rattle.std.specs.Prelude.{◌≡◌, ◌^◌, ◌≤◌, IfOk, length, map};
-ghost use Rattle.lpm_sweep.specs.Listed.{rules_of};
+ghost use Rattle.lpm_rules.specs.Listed.{rules_of};
 ghost use Rattle.lpm_commands.specs.Loading.{rules_of_routes};
 ghost use Rattle.lpm_commands.specs.Filled.{rule_of};
 

@@ -7,3 +7,7 @@ pub mod Counts
 pub mod Blocks
 pub mod Deep
 pub mod DeepChanges
+pub mod Listed
+pub mod Counted
+pub mod Collected
+pub mod Pairs

@@ -3,3 +3,5 @@ pub mod Changes
 pub mod Longest
 pub mod Deep
 pub mod View
+pub mod Listed
+pub mod Collected

@@ -1,6 +1,7 @@
 //! Laws of rule lists. Each function does nothing: its contract is the law.
 
 ghost use Rattle.lpm_rules.specs.Changes.{LastAdditionDecides, LastDeletionDecides, LastFlushDecides, SparedIsKept};
+ghost use Rattle.lpm_rules.specs.Collected.{CollectedAreTheRules, CollectedIsOfLength};
 ghost use Rattle.lpm_rules.specs.Deep.{EmptyHasNoBlock, HasDeepBlocks, PutBringsBlock, RemoveDropsBlock};
 ghost use Rattle.lpm_rules.specs.Longest.{HasOneCover, HasOneLongestHop};
 ghost use Rattle.lpm_rules.specs.RuleMap.{PutUndoesRemove, RemoveUndoesPut};
@@ -63,4 +64,14 @@ pub fn last_deletion_decides()
 /// After the last flush a prefix has no rule, unless a later change is of that prefix.
 pub fn last_flush_decides()
     ensures { LastFlushDecides }
+{}
+
+/// A map that is collected from the rules of one length has what the rules have of that length.
+pub fn collected_is_of_length()
+    ensures { CollectedIsOfLength }
+{}
+
+/// The maps of all lengths, each collected from the rules of its length, have the rules.
+pub fn collected_are_the_rules()
+    ensures { CollectedAreTheRules }
 {}

@@ -13,7 +13,7 @@ use Rattle.lpm_rules.specs.Deep.{block_of, IsDeepBlock, deep_blocks}
 use Rattle.lpm_rules.specs.declared.Rule.{Rule}
 use Rattle.lpm_rules.proofs.Deep.{has_deep_blocks}
 use Rattle.lpm_rules.proofs.DeepChanges.{deep_blocks_insert, deep_blocks_insert_short}
-use Rattle.lpm_sweep.specs.Listed.{with_rules, rules_of}
+use Rattle.lpm_rules.specs.Listed.{with_rules, rules_of}
 
 same_bool : (a b : Bool) → (a ≡ true → b ≡ true) → (b ≡ true → a ≡ true) → a ≡ b
 same_bool true b to from = sym (to refl)

@@ -9,5 +9,3 @@ pub mod Room
 pub mod Linking
 pub mod Wholes
 pub mod Sorting
-pub mod Counted
-pub mod Collected

@@ -14,9 +14,10 @@ use Rattle.lpm_rules.specs.RuleMap.{RuleMap, network_cmp}
 use Rattle.lpm_rules.specs.declared.Rule.{Rule}
 use Rattle.lpm_rules.proofs.Changes.{insert_cases, insert_here}
 use Rattle.lpm_rules.proofs.Views.{networks_total, exact_networks}
-use Rattle.lpm_sweep.specs.Listed.{AreInOrder, AreReordered, place, prefix_at, rules_of}
+use Rattle.lpm_rules.specs.Listed.{AreInOrder, place, prefix_at, rules_of}
+use Rattle.lpm_sweep.specs.Listed.{AreReordered}
 use Rattle.lpm_sweep.specs.Keys.{AreKeys, AreTaken, hop_at, key_at}
-use Rattle.lpm_sweep.proofs.Lists.{prefix_read, rules_more}
+use Rattle.lpm_rules.proofs.Listed.{prefix_read, rules_more}
 
 same_network : (p q : Network) → p.bits ≡ q.bits → p.len ≡ q.len → p ≡ q
 same_network p q bits len i = record { bits = bits i; len = len i }

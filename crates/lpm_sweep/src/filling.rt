@@ -8,7 +8,7 @@ ghost use Rattle.lpm_entry.specs.declared.Entry.TheVariants.{Hop as EntryHop};
 ghost use Rattle.lpm_rules.specs.RuleMap.{RuleMap};
 ghost use Rattle.lpm_rules.specs.Deep.{IsDeepBlock};
 ghost use Rattle.lpm_sweep.specs.Frames.{held};
-ghost use Rattle.lpm_sweep.specs.Listed.{AreInOrder, AllUpTo, place, prefix_at, rules_of};
+ghost use Rattle.lpm_rules.specs.Listed.{AreInOrder, AllUpTo, place, prefix_at, rules_of};
 ghost use Rattle.lpm_sweep.specs.Filled.{IsFilling};
 
 use crate::frames::{Frame, Frames};

@@ -1,6 +1,6 @@
 //! Laws of the order of rules, and of swept words. Each function does nothing: its contract is the law.
 
-ghost use Rattle.lpm_sweep.specs.Laws.{CollectedAreTheRules, CollectedIsOfLength, NumberedAreTied, OrderIsByBits, RoomMayGrow};
+ghost use Rattle.lpm_sweep.specs.Laws.{NumberedAreTied, OrderIsByBits, RoomMayGrow};
 
 /// The order of prefixes is by their bits, and of those with the same bits by their length.
 pub fn order_is_by_bits()
@@ -16,14 +16,4 @@ pub fn numbered_are_tied()
 /// Words represent the same rules with room for more groups.
 pub fn room_may_grow()
     ensures { RoomMayGrow }
-{}
-
-/// A map that is collected from the rules of one length has what the rules have of that length.
-pub fn collected_is_of_length()
-    ensures { CollectedIsOfLength }
-{}
-
-/// The maps of all lengths, each collected from the rules of its length, have the rules.
-pub fn collected_are_the_rules()
-    ensures { CollectedAreTheRules }
 {}

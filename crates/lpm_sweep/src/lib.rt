@@ -5,17 +5,15 @@
 //! that are in the order of their prefixes, and puts each word last in its list. So each word is
 //! stored once, where adding the rules one by one stores a word again for each rule that covers it.
 //!
-//! [`in_order`] brings rules into that order, [`are_in_order`] says whether they are, and
-//! [`count_rules`] counts their prefixes. Nothing here changes a table that is in use.
+//! [`in_order`] brings rules into that order, and [`are_in_order`] says whether they are. Nothing
+//! here changes a table that is in use.
 #![tactic(auto)]
 
-mod counting;
 mod filling;
 mod frames;
 pub mod laws;
 mod ordering;
 mod sweeping;
 
-pub use counting::count_rules;
 pub use ordering::{MOST_SORTED, are_in_order, in_order};
 pub use sweeping::{Swept, sweep};

@@ -2,25 +2,16 @@
 
 ghost use Rattle.std.specs.Prelude.{◌≡◌, ℕ, ◌%◌, ◌^◌, ◌<◌, ◌≤◌, ◌↔◌, IsTrue, IfOk, length, slice_index};
 ghost use Rattle.lpm_sweep.specs.Keys.{AreKeys, AreTaken};
-ghost use Rattle.lpm_sweep.specs.Listed.{AreInOrder, AreReordered, place, rules_of};
+ghost use Rattle.lpm_rules.specs.Listed.{AreInOrder, place, rules_of};
+ghost use Rattle.lpm_sweep.specs.Listed.{AreReordered};
 
-use lpm_rules::Rule;
+use lpm_rules::{Rule, place_of};
 use std::alloc::{AllocError, Global};
 
 /// The greatest number of rules that [`in_order`] sorts: 2^26.
 ///
 /// It sorts numbers of 64 bits, of which 38 tell the prefix and 26 where the rule stands.
 pub const MOST_SORTED: usize = 1 << 26;
-
-/// Where the prefix of the rule stands in the order: by its bits, and then by its length.
-#[inline]
-pub(crate) fn place_of<const FIRST: u32, const SECOND: u32>(rule: &Rule<FIRST, SECOND>) -> u64
-    ensures value { result ≡ place rule.now.prefix }
-    ensures bound { result < 2 ^ 38 }
-    ensures len { rule.now.prefix.len ≤ 32 }
-{
-    u64::from(rule.prefix.bits()) * 64 + u64::from(rule.prefix.len())
-}
 
 /// Whether the rules are in the order of their prefixes: by the bits, and of those with the same
 /// bits by the length. Rules of one prefix may follow one another.

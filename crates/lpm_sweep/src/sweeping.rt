@@ -8,7 +8,7 @@ ghost use Rattle.lpm_rules.specs.RuleMap.{RuleMap};
 ghost use Rattle.lpm_rules.specs.Deep.{deep_blocks};
 ghost use Rattle.lpm_update.specs.Represents.{Represents};
 ghost use Rattle.lpm_sweep.specs.Frames.{held};
-ghost use Rattle.lpm_sweep.specs.Listed.{AreInOrder, AllUpTo, place, prefix_at, rules_of};
+ghost use Rattle.lpm_rules.specs.Listed.{AreInOrder, AllUpTo, place, prefix_at, rules_of};
 ghost use Rattle.lpm_sweep.specs.Swept.{IsSwept, AreNumbered, words_of};
 
 use crate::filling::{fill_group, word_of_rule};

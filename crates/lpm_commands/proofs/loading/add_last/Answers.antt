@@ -1,7 +1,7 @@
 use Rattle.std.proofs.Common.{◌∙◌, ap, sym, subst, ◌+◌, ◌<◌, Ok, drop, length, arith}
 use Rattle.lpm_limits.specs.declared.config.Config.{Config}
 use Rattle.lpm_rules.specs.RuleMap.{RuleMap}
-use Rattle.lpm_sweep.specs.Listed.{with_rules}
+use Rattle.lpm_rules.specs.Listed.{with_rules}
 use Rattle.fib_model.specs.Outcomes.{Adds}
 use Rattle.fib_model.specs.Counting.{counting}
 use Rattle.lpm_commands.proofs.Loaded.{added_rules}

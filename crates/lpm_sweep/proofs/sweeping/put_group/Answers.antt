@@ -5,10 +5,10 @@ use Rattle.lpm_entry.specs.declared.Entry.TheVariants.{Group}
 use Rattle.lpm_entry.specs.Words.{word_of}
 use Rattle.lpm_update.proofs.Places.{word_entry}
 use Rattle.lpm_sweep.specs.Frames.{held, word_at}
-use Rattle.lpm_sweep.specs.Listed.{prefix_at, rules_of}
+use Rattle.lpm_rules.specs.Listed.{prefix_at, rules_of}
 use Rattle.lpm_sweep.specs.Swept.{IsSwept, AreNumbered}
 use Rattle.lpm_sweep.proofs.Stacks.{under_end}
-use Rattle.lpm_sweep.proofs.Lists.{prefix_read}
+use Rattle.lpm_rules.proofs.Listed.{prefix_read}
 use Rattle.lpm_sweep.proofs.Sweeps.{swept_on, numbered_on}
 use Rattle.lpm_sweep.proofs.Linking.{starts, last_length, swept_group, numbered_group}
 use Rattle.lpm_sweep.proofs.DeepBlocks.{one_block_more}

@@ -13,10 +13,9 @@ use Rattle.lpm_update.proofs.Places.{block_low}
 use Rattle.lpm_update.specs.Represents.{Represents}
 use Rattle.std.proofs.lemmas.Grind.{common_steps}
 use Rattle.lpm_sweep.specs.Frames.{held}
-use Rattle.lpm_sweep.specs.Listed.{place, prefix_at, rules_of, AllUpTo}
+use Rattle.lpm_rules.specs.Listed.{place, prefix_at, rules_of, AllUpTo}
 use Rattle.lpm_sweep.specs.Swept.{IsSwept, AreNumbered}
-use Rattle.lpm_sweep.proofs.Orders.{up_to_insert, up_to_more}
-use Rattle.lpm_sweep.proofs.Lists.{prefix_read, rules_more}
+use Rattle.lpm_rules.proofs.Listed.{up_to_insert, up_to_more, prefix_read, rules_more}
 use Rattle.lpm_sweep.proofs.Sweeps.{swept_on, numbered_on}
 use Rattle.lpm_sweep.proofs.Wholes.{swept_none, numbered_none, swept_all}
 use Rattle.lpm_sweep.proofs.DeepBlocks.{more_blocks}

@@ -2,7 +2,7 @@ use Rattle.std.proofs.Common.{◌≡◌, ℕ, ◌-◌, ◌*◌, ◌^◌, ◌<◌
 use Rattle.std.specs.FinSet as set
 use Rattle.lpm_rules.specs.Deep.{deep_blocks}
 use Rattle.lpm_sweep.specs.Frames.{held}
-use Rattle.lpm_sweep.specs.Listed.{AllUpTo, place, prefix_at, rules_of}
+use Rattle.lpm_rules.specs.Listed.{AllUpTo, place, prefix_at, rules_of}
 use Rattle.lpm_sweep.specs.Swept.{IsSwept, AreNumbered}
 use Rattle.lpm_sweep.proofs.sweeping.sweep.Given as goal
 

@@ -1,11 +1,21 @@
-//! How many prefixes the rules of a list have.
+//! The order of prefixes, and how many prefixes the rules of a list have.
 
-ghost use Rattle.std.specs.Prelude.{◌≡◌};
+ghost use Rattle.std.specs.Prelude.{◌≡◌, ◌^◌, ◌<◌, ◌≤◌};
 ghost use Rattle.std.specs.FinMap as map;
-ghost use Rattle.lpm_sweep.specs.Listed.{AreInOrder, rules_of};
+ghost use Rattle.lpm_rules.specs.Listed.{AreInOrder, place, rules_of};
 
-use crate::ordering::place_of;
-use lpm_rules::Rule;
+use crate::Rule;
+
+/// Where the prefix of the rule stands in the order of prefixes: by its bits, and of those with the
+/// same bits by its length. Less than 2^38.
+#[inline]
+pub fn place_of<const FIRST: u32, const SECOND: u32>(rule: &Rule<FIRST, SECOND>) -> u64
+    ensures value { result ≡ place rule.now.prefix }
+    ensures bound { result < 2 ^ 38 }
+    ensures len { rule.now.prefix.len ≤ 32 }
+{
+    u64::from(rule.prefix.bits()) * 64 + u64::from(rule.prefix.len())
+}
 
 /// How many different prefixes the rules have, which are in the order of their prefixes: as many
 /// as a rule list holds after all of them were put in.

@@ -11,11 +11,11 @@ use Rattle.lpm_rules.proofs.Views.{networks_total, exact_networks, network_test,
 use Rattle.lpm_rules.specs.View.{rules_of_lengths}
 use Rattle.std.specs.BTreeMap.{BTreeMap, IsFromIterResult}
 use Rattle.std.specs.BTreeMap as tree
-use Rattle.lpm_sweep.proofs.Counted.{none_or}
+use Rattle.lpm_rules.proofs.Counted.{none_or}
 use Rattle.std.specs.Cmp.{unsigned_tied}
 use Rattle.std.specs.Prelude.{◌&&◌, map, filter}
-use Rattle.lpm_sweep.specs.Listed.{with_rules, rules_of}
-use Rattle.lpm_sweep.specs.Laws.{pairs_of}
+use Rattle.lpm_rules.specs.Listed.{with_rules, rules_of}
+use Rattle.lpm_rules.specs.Collected.{pairs_of}
 
 abbrev eq : ℕ → ℕ → Bool
 eq = eq_by_cmp nat_cmp

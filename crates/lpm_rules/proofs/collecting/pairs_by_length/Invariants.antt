@@ -1,0 +1,11 @@
+use Rattle.std.proofs.Common.{◌+◌, take}
+use Rattle.lpm_rules.specs.RuleMap.{AllNetworks}
+use Rattle.lpm_rules.specs.Listed.{rules_of}
+use Rattle.lpm_rules.specs.Collected.{ArePairs}
+use Rattle.lpm_rules.proofs.collecting.pairs_by_length.Given as goal
+
+abbrev pub invariant-loop-rule : goal.invariant-loop-rule
+invariant-loop-rule g l = record {
+  pairs : ArePairs (take l.rule-index l.rules) l.lists;
+  networks : AllNetworks (g.row.FIRST + g.row.SECOND) (rules_of (take l.rule-index l.rules));
+}
