@@ -1,9 +1,8 @@
 //! The rules of a list in a map for each length.
 
-ghost use Rattle.std.specs.Prelude.{◌≡◌, ℕ, ◌+◌, ◌<◌, IfOk, [], slice_index_or};
+ghost use Rattle.std.specs.Prelude.{◌≡◌, ◌+◌, IfOk, []};
 ghost use Rattle.std.specs.BTreeMap.{IsFromIterResult};
 ghost use Rattle.std.specs.Ordering.{nat_cmp};
-ghost use Rattle.lpm_bits.specs.Widths.{IsShape};
 ghost use Rattle.lpm_rules.specs.RuleMap.{AllNetworks};
 ghost use Rattle.lpm_rules.specs.Listed.{rules_of};
 ghost use Rattle.lpm_rules.specs.Collected.{ArePairs, AreCollected};
@@ -19,7 +18,6 @@ pub(crate) fn pairs_by_length<const FIRST: u32, const SECOND: u32>(
     alloc: Global,
     rules: &[Rule<FIRST, SECOND>],
 ) -> Result<[Vec<(u32, Hop)>; 33], AllocError>
-    requires { IsShape FIRST SECOND }
     ensures pairs { IfOk result (λ lists. ArePairs rules.now lists) }
     ensures networks { IfOk result (λ _. AllNetworks (FIRST + SECOND) (rules_of rules.now)) }
 {

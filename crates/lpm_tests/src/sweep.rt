@@ -1,4 +1,5 @@
-//! Swept words beside a rule list into which the same rules were put one by one.
+//! Swept words, and a rule list that is filled in bulk, beside a rule list into which the same rules
+//! were put one by one.
 
 ghost use Rattle.std.specs.Prelude.{◌+◌, ◌^◌, ◌<◌, ◌≤◌};
 ghost use Rattle.lpm_bits.specs.Widths.{IsShape};
@@ -6,8 +7,8 @@ ghost use Rattle.lpm_bits.specs.Widths.{IsShape};
 use super::asserting::assert_at;
 use lpm_bits::{Hop, Prefix, Shape};
 use lpm_entry::Entry;
-use lpm_rules::{Rule, Rules};
-use lpm_sweep::{MOST_SORTED, Swept, are_in_order, count_rules, in_order, sweep};
+use lpm_rules::{Put, Rule, RuleFault, Rules, count_rules, place_of};
+use lpm_sweep::{MOST_SORTED, Swept, are_in_order, in_order, sweep};
 use std::alloc::Global;
 use std::process::Abort;
 use std::test::Fail;
@@ -55,6 +56,25 @@ fn put_all<const FIRST: u32, const SECOND: u32>(
         let _put = list.put(&rule.prefix, rule.hop).expect(rt, "room");
     }
     list
+}
+
+// The list that is filled in bulk has the same rules of each length.
+fn assert_filled<const FIRST: u32, const SECOND: u32>(
+    rt: &impl Abort,
+    alloc: Global,
+    sorted: &[Rule<FIRST, SECOND>],
+    list: &Rules<FIRST, SECOND>,
+)
+    requires { IsShape FIRST SECOND }
+{
+    assert!(rt; are_in_order(sorted));
+    assert_at(rt, "prefixes", count_rules(sorted), list.len());
+    let filled = Rules::of_sorted(alloc, 0, sorted).expect(rt, "memory");
+    assert_at(rt, "rules", filled.len(), list.len());
+    for len in 0..33 {
+        let is_same = filled.of_length(len) == list.of_length(len);
+        assert_at(rt, len, is_same, true);
+    }
 }
 
 // The next hop that the words have for an address, by one read or two.
@@ -132,7 +152,6 @@ fn assert_sorted<const FIRST: u32, const SECOND: u32>(
     requires { IsShape FIRST SECOND }
 {
     assert!(rt; are_in_order(sorted));
-    assert_at(rt, "prefixes", count_rules(sorted), list.len());
     let deep = list.deep_blocks();
     assert!(rt; deep <= 65536);
     let swept = sweep(alloc, sorted, deep).expect(rt, "memory");
@@ -157,6 +176,7 @@ fn assert_swept<const FIRST: u32, const SECOND: u32>(
     assert!(rt; rules.len() <= MOST_SORTED);
     let sorted = in_order(alloc, rules).expect(rt, "memory");
     let list = put_all(rt, alloc, rules);
+    assert_filled(rt, alloc, &sorted, &list);
     assert_sorted(rt, alloc, &sorted, &list);
 }
 
@@ -166,9 +186,12 @@ fn assert_plain(rt: &impl Abort, alloc: Global, plain: &[Plain]) {
 }
 
 // So many rules of any prefixes and lengths, each of its own next hop.
-fn assert_drawn<const FIRST: u32, const SECOND: u32>(rt: &impl Abort, alloc: Global, count: u32)
+fn drawn<const FIRST: u32, const SECOND: u32>(
+    rt: &impl Abort,
+    alloc: Global,
+    count: u32,
+) -> Vec<Rule<FIRST, SECOND>>
     requires shape { IsShape FIRST SECOND }
-    requires count { count ≤ 10000 }
 {
     let mut random: u64 = 1;
     let mut plain: Vec<Plain> = Vec::new(alloc);
@@ -182,7 +205,13 @@ fn assert_drawn<const FIRST: u32, const SECOND: u32>(rt: &impl Abort, alloc: Glo
             .push((bits as u32, len as u32, hop))
             .expect(rt, "memory");
     }
-    let rules: Vec<Rule<FIRST, SECOND>> = rules_of(rt, alloc, &plain);
+    rules_of(rt, alloc, &plain)
+}
+
+fn assert_drawn<const FIRST: u32, const SECOND: u32>(rt: &impl Abort, alloc: Global, count: u32)
+    requires { IsShape FIRST SECOND }
+{
+    let rules: Vec<Rule<FIRST, SECOND>> = drawn(rt, alloc, count);
     assert_swept(rt, alloc, &rules);
 }
 
@@ -233,6 +262,41 @@ fn drawn_rules(rt: HostRuntime) {
     assert_drawn::<24, 8>(&rt, alloc, 5000);
 }
 
+#[test]
+fn filled_with_many(rt: HostRuntime) {
+    let alloc = rt.alloc();
+    let rules: Vec<Rule<24, 8>> = drawn(&rt, alloc, 100_000);
+    assert!(&rt; rules.len() <= MOST_SORTED);
+    let sorted = in_order(alloc, &rules).expect(&rt, "memory");
+    let list = put_all(&rt, alloc, &rules);
+    assert_filled(&rt, alloc, &sorted, &list);
+}
+
+// Of two rules of one prefix the last counts. The list has two rules where it has room for one, and
+// takes no third.
+#[test]
+fn filled_beyond_its_room(rt: HostRuntime) -> Result<(), Fail> {
+    let alloc = rt.alloc();
+    let rules: Vec<Rule<4, 4>> = rules_of(&rt, alloc, &[(0x10, 4, 7), (0x10, 4, 3), (0x12, 8, 5)]);
+    assert!(&rt; are_in_order(&rules));
+    let mut list = Rules::of_sorted(alloc, 1, &rules)?;
+    assert_eq!(&rt; list.len(), 2);
+    assert!(&rt; list.is_full());
+    assert_eq!(&rt; list.longest(0x11).map(|hop| hop.number()), Some(3));
+    assert_eq!(&rt; list.longest(0x12).map(|hop| hop.number()), Some(5));
+    let new: Rule<4, 4> = rule_of(&rt, (0x20, 4, 9));
+    assert_eq!(&rt; list.put(&new.prefix, new.hop), Err(RuleFault::TooManyRules));
+    let old: Rule<4, 4> = rule_of(&rt, (0x10, 4, 9));
+    assert_eq!(&rt; list.put(&old.prefix, old.hop), Ok(Put::Replaced));
+    Ok(())
+}
+
+#[test]
+fn place_in_the_order(rt: HostRuntime) {
+    let rule: Rule<4, 4> = rule_of(&rt, (0x12, 8, 5));
+    assert_eq!(&rt; place_of(&rule), 0x12 * 64 + 8);
+}
+
 // The example of the crate's page, with the words in full.
 #[test]
 fn words_of_an_example(rt: HostRuntime) -> Result<(), Fail> {
@@ -256,6 +320,6 @@ fn laws_are_called() {
     lpm_sweep::laws::order_is_by_bits();
     lpm_sweep::laws::numbered_are_tied();
     lpm_sweep::laws::room_may_grow();
-    lpm_sweep::laws::collected_is_of_length();
-    lpm_sweep::laws::collected_are_the_rules();
+    lpm_rules::laws::collected_is_of_length();
+    lpm_rules::laws::collected_are_the_rules();
 }
