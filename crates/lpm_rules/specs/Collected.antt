@@ -1,5 +1,5 @@
 -- Meaning: rules that are kept in a map for each length, each collected from the rules of its length
--- (this project's).
+-- (this project's); and this layer's own, the lists that they are collected from.
 use Rattle.std.specs.Prelude.{ℕ, ◌≡◌, ◌+◌, ◌<◌, ◌≤◌, slice_index_or, nat_eq, List, length, map, filter}
 use Rattle.std.specs.Ordering.{nat_cmp}
 use Rattle.std.specs.BTreeMap.{BTreeMap, IsFromIterResult}

@@ -148,8 +148,8 @@ impl<const FIRST: u32, const SECOND: u32> Rules<FIRST, SECOND> {
     /// counts.
     ///
     /// The list may have more than `max` rules, and all of them count: `max` refuses only what is
-    /// put in later. `AllocError` where memory is short. It takes about a tenth of the time of
-    /// [`Rules::put`] for each rule.
+    /// put in later. `AllocError` where memory is short. It is much faster than to [`Rules::put`] each
+    /// rule.
     pub fn of_sorted(
         alloc: Global,
         max: usize,

@@ -285,7 +285,10 @@ fn filled_beyond_its_room(rt: HostRuntime) -> Result<(), Fail> {
     assert_eq!(&rt; list.longest(0x11).map(|hop| hop.number()), Some(3));
     assert_eq!(&rt; list.longest(0x12).map(|hop| hop.number()), Some(5));
     let new: Rule<4, 4> = rule_of(&rt, (0x20, 4, 9));
-    assert_eq!(&rt; list.put(&new.prefix, new.hop), Err(RuleFault::TooManyRules));
+    assert_eq!(&rt;
+        list.put(&new.prefix, new.hop),
+        Err(RuleFault::TooManyRules)
+    );
     let old: Rule<4, 4> = rule_of(&rt, (0x10, 4, 9));
     assert_eq!(&rt; list.put(&old.prefix, old.hop), Ok(Put::Replaced));
     Ok(())
