@@ -54,6 +54,21 @@ impl<const FIRST: u32, const SECOND: u32> PlainCells<FIRST, SECOND> {
         })
     }
 
+    /// A table of these words: one for each block, and those of the groups, one group behind the
+    /// other. Each is that of an entry that may stand in its place. It takes no memory.
+    pub fn of_words(first_words: Vec<u32>, second_words: Vec<u32>) -> Self
+        requires shape { IsShape FIRST SECOND }
+        requires words { IsWords FIRST SECOND
+            (record { firsts = first_words.items; seconds = second_words.items }) }
+        ensures firsts { result.firsts ≡ first_words.items }
+        ensures seconds { result.seconds ≡ second_words.items }
+    {
+        PlainCells {
+            first_words,
+            second_words,
+        }
+    }
+
     /// How many words the groups have together.
     pub fn seconds(&self) -> usize
         ensures value { result ≡ length self.now.seconds }
