@@ -1,5 +1,5 @@
 -- `IsSound` through each change of the groups.
-use Rattle.std.proofs.Common.{◌≡◌, ◌≢◌, ℕ, ◌+◌, ◌-◌, ◌<◌, ◌≤◌, List, [], ◌∷◌, length, get_or, set, map, replicate, take, drop, min, zero, suc, refl, sym, ap, ◌∙◌, arith, eq-eqb, length-set, length-drop}
+use Rattle.std.proofs.Common.{◌≡◌, ◌≢◌, ℕ, ◌+◌, ◌-◌, ◌<◌, ◌≤◌, List, [], ◌∷◌, ◌++◌, length, get_or, set, map, replicate, take, drop, min, zero, suc, refl, sym, ap, ◌∙◌, arith, eq-eqb, length-set, length-drop}
 use Rattle.std.specs.Prelude.{slice_get, option_map, Some}
 use Rattle.std.proofs.lemmas.List.{map-set, take_all, length-map, get_or-drop}
 use Rattle.std.proofs.lemmas.Bool.{eqb-true}
@@ -11,7 +11,7 @@ use Rattle.lpm_groups.specs.declared.GroupState.TheVariants.{Free, Linked, Limbo
 use Rattle.lpm_groups.specs.States.{is_free, free_count, IsLinkedTo, IsLimboAt, IsLeastFree}
 use Rattle.lpm_groups.specs.Marks.{mark_of, IsSound}
 use Rattle.lpm_groups.proofs.Writes.{free_before_set, slice_get-set_same, slice_get-set_other}
-use Rattle.lpm_groups.proofs.Tallies.{count_by-cons, Takes-set, Retires-set, Releases-set, linked_count-replicate, limbo_count-replicate}
+use Rattle.lpm_groups.proofs.Tallies.{count_by-cons, Takes-set, Retires-set, Releases-set, linked_count-replicate, limbo_count-replicate, linked_count-of_blocks, limbo_count-of_blocks}
 
 -- the mark of a group by its state
 pub mark-at : (xs : List GroupState) (k : ℕ) (s : GroupState) → slice_get xs k ≡ Some s → get_or (map mark_of xs) k 0 ≡ mark_of s
@@ -129,4 +129,26 @@ IsSound-released xs ms h u l g t at =
           t.none_below k (omega arith) (sym (slice_get-set_other xs g k Free other) ∙ free);
       all_in_use = omega (arith, t.all_in_use, releases.linked);
       all_limbo = omega (arith, t.all_limbo, releases.limbo);
+    }
+
+-- the marks where the first groups are linked, and the others free
+map-mark_of-of_blocks : (bs : List ℕ) (n : ℕ) → map mark_of (map Linked bs ++ replicate n Free) ≡ replicate (length bs) 0 ++ replicate n 1
+map-mark_of-of_blocks [] n = map-mark_of-replicate n
+map-mark_of-of_blocks (b ∷ bs) n = ap (λ ms. 0 ∷ ms) (map-mark_of-of_blocks bs n)
+
+-- none of the first groups is free then
+used_below : (bs : List ℕ) (n k : ℕ) → k < length bs → slice_get (map Linked bs ++ replicate n Free) k ≢ Some Free
+used_below [] n k below = absurd (omega arith)
+used_below (b ∷ bs) n zero below = λ is. cc
+used_below (b ∷ bs) n (suc k) below = used_below bs n k (omega arith)
+
+pub IsSound-of_blocks : (bs : List ℕ) (n : ℕ) → length bs + n ≤ 65536 → IsSound (map Linked bs ++ replicate n Free) (replicate (length bs) 0 ++ replicate n 1) (length bs) (length bs) 0
+IsSound-of_blocks bs n few =
+    let all : length (map Linked bs ++ replicate n Free) ≡ length bs + n = grind (arith, common_steps) in record {
+      few = omega (arith, few, all);
+      marked = sym (map-mark_of-of_blocks bs n);
+      within = omega (arith, all);
+      none_below = used_below bs n;
+      all_in_use = sym (linked_count-of_blocks bs n);
+      all_limbo = sym (limbo_count-of_blocks bs n);
     }

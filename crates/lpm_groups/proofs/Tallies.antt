@@ -1,5 +1,5 @@
 -- How the counts of the states move as one of them is written.
-use Rattle.std.proofs.Common.{◌≡◌, ℕ, ◌+◌, ◌<◌, Bool, true, cond, List, [], ◌∷◌, length, get_or, set, replicate, zero, suc, refl, ap, ◌∙◌, arith}
+use Rattle.std.proofs.Common.{◌≡◌, ℕ, ◌+◌, ◌<◌, Bool, true, cond, List, [], ◌∷◌, ◌++◌, length, get_or, set, map, replicate, zero, suc, refl, ap, ◌∙◌, arith}
 use Rattle.std.specs.Prelude.{count_by, slice_get, Some}
 use Rattle.std.proofs.lemmas.List.Sums.{sum_by-cons, sum_by-set}
 use Rattle.std.proofs.lemmas.Option.{slice_get_within, get_or_from_slice_get}
@@ -84,3 +84,12 @@ linked_count-replicate (suc n) = omega (arith, count_by-cons is_linked Free (rep
 pub limbo_count-replicate : (n : ℕ) → limbo_count (replicate n Free) ≡ 0
 limbo_count-replicate zero = refl
 limbo_count-replicate (suc n) = omega (arith, count_by-cons is_limbo Free (replicate n Free), limbo_count-replicate n)
+
+-- the counts where the first groups are linked, and the others free
+pub linked_count-of_blocks : (bs : List ℕ) (n : ℕ) → linked_count (map Linked bs ++ replicate n Free) ≡ length bs
+linked_count-of_blocks [] n = linked_count-replicate n
+linked_count-of_blocks (b ∷ bs) n = omega (arith, count_by-cons is_linked (Linked b) (map Linked bs ++ replicate n Free), linked_count-of_blocks bs n)
+
+pub limbo_count-of_blocks : (bs : List ℕ) (n : ℕ) → limbo_count (map Linked bs ++ replicate n Free) ≡ 0
+limbo_count-of_blocks [] n = limbo_count-replicate n
+limbo_count-of_blocks (b ∷ bs) n = omega (arith, count_by-cons is_limbo (Linked b) (map Linked bs ++ replicate n Free), limbo_count-of_blocks bs n)

@@ -4,7 +4,7 @@
 //! `FIRST` bits. A group that was unlinked waits in limbo until no reader can still be in it.
 #![tactic(auto)]
 
-ghost use Rattle.std.specs.Prelude.{◌≡◌, ℕ, ◌+◌, ◌<◌, ◌≤◌, ◌↔◌, length, replicate, slice_get, slice_set, IsTrue, IfOk, IfSome, IfNone, IsNone};
+ghost use Rattle.std.specs.Prelude.{◌≡◌, ℕ, ◌+◌, ◌-◌, ◌<◌, ◌≤◌, ◌↔◌, ◌++◌, length, map, replicate, slice_get, slice_set, IsTrue, IfOk, IfSome, IfNone, IsNone};
 ghost use Rattle.lpm_groups.specs.States.{linked_count, limbo_count, free_count, IsLeastFree, IsLinkedAt, IsLimboAt};
 
 use memchr::memchr;
@@ -40,7 +40,7 @@ const USED: u8 = 0;
 
 /// The state of each group, in the order of the groups' numbers.
 ///
-/// Only `new` takes memory.
+/// Only `new` and `of_blocks` take memory.
 #[derive(Drop)]
 pub struct Groups {
     states: Vec<GroupState>,
@@ -80,6 +80,34 @@ impl Groups {
             marks,
             hint: 0,
             in_use: 0,
+            limbo: 0,
+        })
+    }
+
+    /// That many groups, at most 65,536: the first ones linked to these blocks in their order,
+    /// group 0 to the first of them, and those behind free; the error only where memory is short.
+    pub fn of_blocks(alloc: Global, blocks: &[usize], groups: usize) -> Result<Self, AllocError>
+        requires most { groups ≤ 65536 }
+        requires few { length blocks.now ≤ groups }
+        ensures states { IfOk result
+            (λ g. g ≡ map Linked blocks.now ++ replicate (groups - length blocks.now) Free) }
+        ensures count { IfOk result (λ g. length g ≡ groups) }
+        ensures in_use { IfOk result (λ g. linked_count g ≡ length blocks.now) }
+        ensures limbo { IfOk result (λ g. limbo_count g ≡ 0) }
+    {
+        let mut states = Vec::with_capacity(alloc, groups)?;
+        for block in blocks {
+            states.push(GroupState::Linked(*block))?;
+        }
+        states.resize(groups, GroupState::Free)?;
+        let mut marks = Vec::with_capacity(alloc, groups)?;
+        marks.resize(blocks.len(), USED)?;
+        marks.resize(groups, FREE)?;
+        Ok(Groups {
+            states,
+            marks,
+            hint: blocks.len(),
+            in_use: blocks.len(),
             limbo: 0,
         })
     }
