@@ -1,9 +1,12 @@
 ghost use Rattle.std.specs.Prelude.{◌<◌, length};
 
 use super::asserting::assert_at;
+use super::sweep::rules_of;
 use lpm_bits::Hop;
 use lpm_cells::{Cells, PlainCells};
 use lpm_entry::Entry;
+use lpm_rules::Rule;
+use lpm_sweep::{are_in_order, sweep};
 use std::process::Abort;
 use std::test::Fail;
 
@@ -63,5 +66,18 @@ fn reads_one_word_or_two(rt: HostRuntime) -> Result<(), Fail> {
     assert_at(&rt, "a group", group, Entry::Group(0));
     let five = Entry::of_word(cells.second(2)).hop();
     assert_at(&rt, "hop 5", five, Hop::new(5).ok());
+    Ok(())
+}
+
+// The same words as the test above stores, made by a sweep.
+#[test]
+fn takes_words_made_elsewhere(rt: HostRuntime) -> Result<(), Fail> {
+    let alloc = rt.alloc();
+    let rules: Vec<Rule<4, 4>> = rules_of(&rt, alloc, &[(0x12, 8, 5), (0x20, 4, 7)]);
+    assert!(&rt; are_in_order(&rules));
+    let swept = sweep(alloc, &rules, 1)?.expect(&rt, "groups that suffice");
+    let cells = PlainCells::<4, 4>::of_words(swept.first_words, swept.second_words);
+    assert_at(&rt, "second words", cells.seconds(), 16);
+    assert_hops(&rt, &cells);
     Ok(())
 }

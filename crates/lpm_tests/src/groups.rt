@@ -54,6 +54,24 @@ fn no_group_at_all(rt: HostRuntime) -> Result<(), Fail> {
     Ok(())
 }
 
+// Two groups that are linked from the beginning, and one behind them.
+#[test]
+fn first_groups_of_these_blocks(rt: HostRuntime) -> Result<(), Fail> {
+    let mut groups = Groups::of_blocks(rt.alloc(), &[7, 5], 3)?;
+    assert_counts(&rt, &groups, 2, 0, 1);
+    assert_at(&rt, "group 0", groups.state(0), GroupState::Linked(7));
+    assert_at(&rt, "group 1", groups.state(1), GroupState::Linked(5));
+    assert_at(&rt, "group 2", groups.state(2), GroupState::Free);
+
+    assert_at(&rt, "block 9", groups.take_least(9), Some(2));
+    assert_at(&rt, "block 4", groups.take_least(4), None);
+    move_on(&mut groups, 1);
+    move_on(&mut groups, 1);
+    assert_at(&rt, "block 4", groups.take_least(4), Some(1));
+    assert_counts(&rt, &groups, 3, 0, 0);
+    Ok(())
+}
+
 // What the model holds at a group after `move_on`.
 fn moved_on(state: GroupState) -> GroupState {
     match state {

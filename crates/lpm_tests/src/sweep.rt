@@ -14,7 +14,7 @@ use std::process::Abort;
 use std::test::Fail;
 
 // A rule as plain numbers: the bits of its prefix, its length and its next hop.
-type Plain = (u32, u32, u32);
+pub(crate) type Plain = (u32, u32, u32);
 
 fn rule_of<const FIRST: u32, const SECOND: u32>(
     rt: &impl Abort,
@@ -29,7 +29,7 @@ fn rule_of<const FIRST: u32, const SECOND: u32>(
     Rule { prefix, hop }
 }
 
-fn rules_of<const FIRST: u32, const SECOND: u32>(
+pub(crate) fn rules_of<const FIRST: u32, const SECOND: u32>(
     rt: &impl Abort,
     alloc: Global,
     plain: &[Plain],
