@@ -25,6 +25,14 @@ pub record FibState : Type 0 where
 abbrev pub fresh : Config → FibState
 fresh c = record { config = c; table = opened c }
 
+-- a table that was just opened with these rules, as version n
+abbrev pub opened_at : Config → RuleMap → ℕ → FibState
+opened_at c R n = record { config = c; table = record (opened c) { rules = R; begun = n } }
+
+-- the same, as version 0
+abbrev pub opened_with : Config → RuleMap → FibState
+opened_with c R = opened_at c R 0
+
 -- the table after a report of this worker
 abbrev pub told : Report → ℕ → FibState → FibState
 told report worker f =

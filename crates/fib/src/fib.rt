@@ -1,21 +1,23 @@
 //! The table.
 
-ghost use Rattle.std.specs.Prelude.{◌≡◌, ◌+◌, ◌^◌, ◌<◌, ◌≤◌, ◌↔◌, IsTrue, IfOk, IfErr, length};
+ghost use Rattle.std.specs.Prelude.{◌≡◌, ◌+◌, ◌^◌, ◌<◌, ◌≤◌, ◌↔◌, ◌⊎◌, IsTrue, IsNone, IfOk, IfErr, IfSome, length};
 ghost use Rattle.std.specs.FinMap as map;
 ghost use Rattle.lpm_bits.specs.Widths.{IsShape};
 ghost use Rattle.lpm_rules.specs.Longest.{IsLongestHop};
+ghost use Rattle.lpm_rules.specs.Listed.{AreInOrder, rules_of};
 ghost use Rattle.lpm_limits.specs.Limits.{IsConfig};
 ghost use Rattle.fib_model.specs.Outcomes.{groups_in_use, Adds, Deletes, Flushes, Frees};
 ghost use Rattle.fib_model.specs.Counting.{by_counters, counting};
-ghost use Rattle.fib.specs.Fib.{IsSound, fresh, table_of, told};
+ghost use Rattle.fib.specs.Fib.{IsSound, fresh, opened_at, opened_with, table_of, told};
 ghost use Rattle.fib_model.specs.declared.command.Report.TheVariants as report;
 
 use super::OpenError;
+use super::sorted::{parts_at, parts_of};
 use defer_queue::Reclaimed;
 use lpm_bits::{Hop, Prefix};
 use lpm_groups::Counts;
 use lpm_memory::PlainMemory;
-use lpm_rules::Put;
+use lpm_rules::{Put, Rule, Rules};
 use lpm_writer::{Ledger, add, delete, flush, open, reclaim};
 use qsbr::{Config, Refusal};
 use std::alloc::Global;
@@ -59,6 +61,80 @@ impl<const FIRST: u32, const SECOND: u32> Fib<FIRST, SECOND> {
     {
         let (ledger, memory) = open(alloc, config)?;
         Ok(Fib { ledger, memory })
+    }
+
+    /// Opens a table with the rules of a list, which is in the order of its prefixes
+    /// (`lpm_sweep::in_order` brings rules into it). Of the rules of one prefix the last counts. They
+    /// are there at once, in one sweep over the words: no change is counted, and all workers are
+    /// offline.
+    ///
+    /// `None` exactly where the limits don't suffice: the list has more rules than `config.rules`, or
+    /// rules longer than `FIRST` bits lie in more blocks than there are groups. It refuses limits out
+    /// of range, and ends with `Memory` where there is no room for the rules, the words, the groups or
+    /// the workers.
+    pub fn of_sorted(
+        alloc: Global,
+        config: Config,
+        rules: &[Rule<FIRST, SECOND>],
+    ) -> Result<Option<Self>, OpenError>
+        requires shape { IsShape FIRST SECOND }
+        requires sorted { AreInOrder rules.now }
+        ensures opened { IfOk result (λ o. IfSome o (λ fib.
+            fib ≡ opened_with config (rules_of rules.now))) }
+        ensures rules_fit { IfOk result (λ o. IfSome o (λ _.
+            map.len (rules_of rules.now) ≤ config.rules)) }
+        ensures groups_fit { IfOk result (λ o. IfSome o (λ _.
+            groups_in_use FIRST SECOND (rules_of rules.now) ≤ config.groups)) }
+        ensures none { IfOk result (λ o. IsNone o
+            → (config.rules < map.len (rules_of rules.now))
+            ⊎ (config.groups < groups_in_use FIRST SECOND (rules_of rules.now))) }
+        ensures limits { IfOk result (λ _. IsConfig config) }
+        ensures bad_config { IfErr result
+            (λ error. (error ≡ OpenError.BadConfig) ↔ (¬ IsConfig config)) }
+    {
+        config.check()?;
+        match parts_of(alloc, config, rules)? {
+            Some((ledger, memory)) => Ok(Some(Fib { ledger, memory })),
+            None => Ok(None),
+        }
+    }
+
+    /// Opens a table with these rules as version `versions`: as many changes have led to them. The
+    /// greatest version is 2^61. `sorted` is a list of the same rules in the order of its prefixes,
+    /// and the list takes at most `config.rules`.
+    ///
+    /// The rules are there at once, and all workers are offline, as in [`Fib::of_sorted`], which
+    /// refuses as this does.
+    pub fn of_rules(
+        alloc: Global,
+        config: Config,
+        rules: Rules<FIRST, SECOND>,
+        versions: u64,
+        sorted: &[Rule<FIRST, SECOND>],
+    ) -> Result<Option<Self>, OpenError>
+        requires shape { IsShape FIRST SECOND }
+        requires sorted { AreInOrder sorted.now }
+        requires same { rules.rules ≡ rules_of sorted.now }
+        requires max { rules.max ≡ config.rules }
+        requires count { versions ≤ 2 ^ 61 }
+        ensures opened { IfOk result (λ o. IfSome o (λ fib.
+            fib ≡ opened_at config rules.entry.rules versions)) }
+        ensures rules_fit { IfOk result (λ o. IfSome o (λ _.
+            map.len rules.entry.rules ≤ config.rules)) }
+        ensures groups_fit { IfOk result (λ o. IfSome o (λ _.
+            groups_in_use FIRST SECOND rules.entry.rules ≤ config.groups)) }
+        ensures none { IfOk result (λ o. IsNone o
+            → (config.rules < map.len rules.entry.rules)
+            ⊎ (config.groups < groups_in_use FIRST SECOND rules.entry.rules)) }
+        ensures limits { IfOk result (λ _. IsConfig config) }
+        ensures bad_config { IfErr result
+            (λ error. (error ≡ OpenError.BadConfig) ↔ (¬ IsConfig config)) }
+    {
+        config.check()?;
+        match parts_at(alloc, config, rules, versions, sorted)? {
+            Some((ledger, memory)) => Ok(Some(Fib { ledger, memory })),
+            None => Ok(None),
+        }
     }
 
     /// The writer's ledger and the memory of one thread, for a table that goes on in another memory.

@@ -6,6 +6,7 @@ mod commands;
 mod fib;
 mod lookups;
 mod replay;
+mod sorted;
 
 pub use fib::Fib;
 pub use lpm_writer::OpenError;

@@ -9,3 +9,4 @@ pub mod Room
 pub mod Linking
 pub mod Wholes
 pub mod Sorting
+pub mod Numbered

@@ -17,3 +17,5 @@ pub mod Awaiting
 pub mod Additions
 pub mod Opened
 pub mod StepsAlone
+pub mod Beginning
+pub mod Unchanged

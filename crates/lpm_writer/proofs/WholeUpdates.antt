@@ -20,10 +20,10 @@ use Rattle.lpm_writer.proofs.Keeping.{kept_quiet}
 even_done : (n : ℕ) → n % 2 ≡ 0 → (suc n) / 2 ≡ n / 2
 even_done n e = omega (arith, e)
 
-even_begun : (n : ℕ) → n % 2 ≡ 0 → (suc n + 1) / 2 ≡ suc ((n + 1) / 2)
+pub even_begun : (n : ℕ) → n % 2 ≡ 0 → (suc n + 1) / 2 ≡ suc ((n + 1) / 2)
 even_begun n e = omega (arith, e)
 
-even_same : (n : ℕ) → n % 2 ≡ 0 → (n + 1) / 2 ≡ n / 2
+pub even_same : (n : ℕ) → n % 2 ≡ 0 → (n + 1) / 2 ≡ n / 2
 even_same n e = omega (arith, e)
 
 not_next : (n : ℕ) → n % 2 ≡ 0 → n / 2 ≢ suc ((n + 1) / 2)

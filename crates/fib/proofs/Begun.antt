@@ -1,0 +1,89 @@
+-- A table that opens with the words that were swept for a list of rules, as any version.
+use Rattle.std.proofs.Common.{◌≡◌, ℕ, ◌^◌, ◌≤◌, inr, refl, ap, sym, subst, ◌∙◌, List, [], length, Option, Some, None, arith}
+use Rattle.std.specs.Prelude.{slice_get, replicate}
+use Rattle.std.proofs.lemmas.List.{length-replicate}
+use Rattle.lpm_bits.specs.Widths.{IsShape}
+use Rattle.lpm_groups.specs.declared.GroupState.{GroupState}
+use Rattle.lpm_groups.specs.declared.GroupState.TheVariants.{Free, Linked, Limbo}
+use Rattle.lpm_groups.specs.States.{limbo_count}
+use Rattle.lpm_limits.specs.Limits.{IsConfig}
+use Rattle.lpm_limits.specs.declared.config.Config.{Config}
+use Rattle.lpm_update.specs.Linked.{group_at}
+use Rattle.lpm_update.specs.Represents.{Represents}
+use Rattle.lpm_update.specs.Tied.{IsTied, HasGroupRoom}
+use Rattle.qsbr.specs.Counters.{Passes}
+use Rattle.lpm_trace.specs.Tables.{Setup, Status, Unused, Linked as LinkedTo, Retired}
+use Rattle.lpm_memory.specs.declared.plain.PlainMemory.{PlainMemory}
+use Rattle.lpm_writer.specs.declared.ledger.Ledger.{Ledger}
+use Rattle.lpm_writer.specs.declared.books.Books.{Books}
+use Rattle.lpm_writer.specs.Resting.{IsResting}
+use Rattle.lpm_writer.proofs.Beginning.{status_at_first, beginning, begins_resting}
+use Rattle.lpm_writer.proofs.Unchanged.{unchanging, unchanged, unchanged_stays, rests_after_unchanged}
+use Rattle.fib.specs.Fib.{IsSound}
+
+-- what is known at first of the group at a place of the list, or of one past its end
+abbrev status_in : Option GroupState → Status
+status_in None = Unused
+status_in (Some state) = status_at_first state
+
+known_in : (o : Option GroupState) (state : GroupState) → o ≡ Some state → status_in o ≡ status_at_first state
+known_in o state e = ap status_in e
+
+linked_retired : (b t : ℕ) → LinkedTo b ≡ Retired t → ⊥
+linked_retired b t e = cc
+
+unused_retired : (t : ℕ) → Unused ≡ Retired t → ⊥
+unused_retired t e = cc
+
+never_at_first : (state : GroupState) (t : ℕ) → status_at_first state ≡ Retired t → ⊥
+never_at_first Free t e = unused_retired t e
+never_at_first (Linked block) t e = linked_retired block t e
+never_at_first Limbo t e = unused_retired t e
+
+never_in : (o : Option GroupState) (t : ℕ) → status_in o ≡ Retired t → ⊥
+never_in None t e = unused_retired t e
+never_in (Some state) t e = never_at_first state t e
+
+module _ (f s : ℕ) (config : Config) (ledger : Ledger f s) (memory : PlainMemory f s) where
+  abbrev xs : List GroupState
+  xs = ledger.books.groups
+
+  abbrev setup : Represents f s ledger.rules.rules memory.cells → IsTied f xs (group_at memory.cells.firsts) → Setup
+  setup represents tied = beginning f s memory.cells ledger.rules.rules xs config memory.domain.token (λ g. status_in (slice_get xs g)) represents tied
+      (λ g state here. known_in (slice_get xs g) state here) (λ g x e. never_in (slice_get xs g) x e)
+
+  -- a ledger of these rules and groups and a memory of these words, to which as many updates led as the
+  -- ledger counts. Each of them can be one that left the rules as they were.
+  pub sound_begun : IsShape f s → IsConfig config → ledger.config ≡ config → ledger.rules.max ≡ config.rules
+      → ledger.versions ≤ 2 ^ 61 → ledger.books ≡ record { groups = xs; queue = record { items = []; capacity = length xs }; passed = 0 }
+      → length xs ≡ config.groups → HasGroupRoom s memory.cells xs → limbo_count xs ≡ 0
+      → memory.domain.counters ≡ replicate config.workers 0
+      → Represents f s ledger.rules.rules memory.cells → IsTied f xs (group_at memory.cells.firsts)
+      → IsSound f s ledger memory
+  sound_begun shape limits same max few books states room none counters represents tied =
+      let c = setup represents tied in
+      let b : Books = record { groups = xs; queue = record { items = []; capacity = length xs }; passed = 0 } in
+      let begins : IsResting f s c [] config ledger.rules b 0 =
+      begins_resting f s memory.cells ledger.rules.rules xs config memory.domain.token (λ g. status_in (slice_get xs g)) represents tied
+      (λ g state here. known_in (slice_get xs g) state here) (λ g x e. never_in (slice_get xs g) x e)
+      ledger.rules.max shape limits max states room none in
+      let change = unchanging f s ledger.rules.rules memory.cells represents in
+      let steps = unchanged change.0 ledger.versions in
+      let after = rests_after_unchanged f s c config ledger.rules b change.0 change.1 begins ledger.versions few in
+      let stays = unchanged_stays c change.0 ledger.versions in (
+        c,
+        steps,
+        record {
+          did = record {
+            first_bits = refl;
+            second_bits = refl;
+            workers = ap length counters ∙ length-replicate config.workers 0;
+            written = after.0;
+            words = sym stays.words;
+            token = sym stays.token;
+          };
+          rests = subst (λ (x : Books). IsResting f s c steps ledger.config ledger.rules x ledger.versions) (sym books)
+              (subst (λ (k : Config). IsResting f s c steps k ledger.rules b ledger.versions) (sym same) after.1);
+          passed = subst (λ p. Passes p memory.domain.counters) (sym stays.passed) (λ w low. inr (omega arith));
+        },
+      )

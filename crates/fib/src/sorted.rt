@@ -1,0 +1,205 @@
+//! The parts of a table that opens with rules.
+
+ghost use Rattle.std.specs.Prelude.{◌≡◌, ℕ, ◌-◌, ◌*◌, ◌^◌, ◌<◌, ◌≤◌, ◌⊎◌, [], ◌++◌, IfOk, IfSome, IsNone, length, map, replicate};
+ghost use Rattle.std.specs.FinMap as map;
+ghost use Rattle.lpm_bits.specs.Widths.{IsShape};
+ghost use Rattle.lpm_entry.specs.declared.Entry.TheVariants.{Miss};
+ghost use Rattle.lpm_entry.specs.Words.{word_of};
+ghost use Rattle.lpm_cells.specs.Table.{IsWords};
+ghost use Rattle.lpm_groups.specs.declared.GroupState.TheVariants.{Free, Linked};
+ghost use Rattle.lpm_limits.specs.Limits.{IsConfig};
+ghost use Rattle.lpm_rules.specs.RuleMap.{RuleMap};
+ghost use Rattle.lpm_rules.specs.Listed.{AreInOrder, rules_of};
+ghost use Rattle.lpm_update.specs.Represents.{Represents};
+ghost use Rattle.lpm_sweep.specs.Swept.{AreNumbered, words_of};
+ghost use Rattle.fib_model.specs.Outcomes.{groups_in_use};
+ghost use Rattle.fib_model.specs.Counting.{opened};
+ghost use Rattle.fib.specs.Fib.{IsSound, table_of};
+
+use defer_queue::DeferQueue;
+use lpm_cells::PlainCells;
+use lpm_entry::Entry;
+use lpm_groups::Groups;
+use lpm_memory::PlainMemory;
+use lpm_rules::{Rule, Rules, count_rules};
+use lpm_sweep::{Swept, sweep};
+use lpm_writer::{Books, Ledger};
+use qsbr::{Config, Domain};
+use std::alloc::{AllocError, Global};
+
+/// The words of groups, with misses behind them up to so many words.
+fn with_misses(mut words: Vec<u32>, count: usize) -> Result<Vec<u32>, AllocError>
+    requires { length words.items ≤ count }
+    ensures { IfOk result (λ v. v.items
+        ≡ words.items ++ replicate (count - length words.items) (word_of Miss)) }
+{
+    let miss = Entry::Miss.to_word() as u32;
+    words.resize(count, miss)?;
+    Ok(words)
+}
+
+/// The memory of a table of these words, with misses in the rest of its groups, and with all workers
+/// offline.
+fn memory_of<const FIRST: u32, const SECOND: u32>(
+    alloc: Global,
+    config: Config,
+    first_words: Vec<u32>,
+    second_words: Vec<u32>,
+) -> Result<PlainMemory<FIRST, SECOND>, AllocError>
+    requires shape { IsShape FIRST SECOND }
+    requires limits { IsConfig config }
+    requires room { length second_words.items ≤ config.groups * 2 ^ SECOND }
+    requires represents { (R : RuleMap) × Represents FIRST SECOND R
+        (record { firsts = first_words.items; seconds = second_words.items }) }
+    ensures firsts { IfOk result (λ m. m.cells.firsts ≡ first_words.items) }
+    ensures seconds { IfOk result (λ m. m.cells.seconds ≡ second_words.items
+        ++ replicate (config.groups * 2 ^ SECOND - length second_words.items) (word_of Miss)) }
+    ensures domain { IfOk result (λ m. m.domain ≡ record {
+      token = config.first_token;
+      counters = replicate config.workers 0;
+    }) }
+{
+    let second_words = with_misses(second_words, config.groups << SECOND)?;
+    let domain = Domain::new(alloc, config.workers, config.first_token)?;
+    let cells = PlainCells::of_words(first_words, second_words);
+    Ok(PlainMemory { cells, domain })
+}
+
+/// What a writer keeps of a table that opens with these rules, as this version, whose groups these
+/// blocks have.
+fn ledger_of<const FIRST: u32, const SECOND: u32>(
+    alloc: Global,
+    config: Config,
+    rules: Rules<FIRST, SECOND>,
+    versions: u64,
+    blocks: &[usize],
+) -> Result<Ledger<FIRST, SECOND>, AllocError>
+    requires limits { IsConfig config }
+    requires few { length blocks.now ≤ config.groups }
+    ensures { IfOk result (λ l. l ≡ record {
+      config = config;
+      rules = rules.entry;
+      books = record {
+        groups = map Linked blocks.now ++ replicate (config.groups - length blocks.now) Free;
+        queue = record { items = []; capacity = config.groups };
+        passed = 0;
+      };
+      versions = versions;
+    }) }
+{
+    let groups = Groups::of_blocks(alloc, blocks, config.groups)?;
+    let queue = DeferQueue::new(alloc, config.groups)?;
+    let books = Books {
+        groups,
+        queue,
+        passed: 0,
+    };
+    Ok(Ledger {
+        config,
+        rules,
+        books,
+        versions,
+    })
+}
+
+/// The ledger and the memory of a table that opens with these rules, as this version, and with the
+/// words that were swept for them.
+fn parts_with<const FIRST: u32, const SECOND: u32>(
+    alloc: Global,
+    config: Config,
+    rules: Rules<FIRST, SECOND>,
+    versions: u64,
+    swept: Swept,
+) -> Result<(Ledger<FIRST, SECOND>, PlainMemory<FIRST, SECOND>), AllocError>
+    requires shape { IsShape FIRST SECOND }
+    requires limits { IsConfig config }
+    requires max { rules.max ≡ config.rules }
+    requires count { versions ≤ 2 ^ 61 }
+    requires represents { Represents FIRST SECOND rules.rules (words_of swept) }
+    requires numbered { AreNumbered swept.first_words.items swept.blocks.items }
+    requires room { length swept.second_words.items
+        ≡ length swept.blocks.items * 2 ^ SECOND }
+    requires few { length swept.blocks.items ≤ config.groups }
+    ensures sound { IfOk result (λ t. IsSound FIRST SECOND t.0 t.1) }
+    ensures config { IfOk result (λ t. t.0.config ≡ config) }
+    ensures table { IfOk result (λ t. table_of t.0 t.1
+        ≡ record (opened config) { rules = rules.entry.rules; begun = versions }) }
+{
+    let Swept {
+        first_words,
+        second_words,
+        blocks,
+    } = swept;
+    let ledger = ledger_of(alloc, config, rules, versions, &blocks)?;
+    let memory = memory_of(alloc, config, first_words, second_words)?;
+    Ok((ledger, memory))
+}
+
+/// The ledger and the memory of a table that opens with the rules of a list, which is in the order of
+/// its prefixes. `None` exactly where the limits don't suffice for its rules, or for their groups.
+pub(crate) fn parts_of<const FIRST: u32, const SECOND: u32>(
+    alloc: Global,
+    config: Config,
+    rules: &[Rule<FIRST, SECOND>],
+) -> Result<Option<(Ledger<FIRST, SECOND>, PlainMemory<FIRST, SECOND>)>, AllocError>
+    requires shape { IsShape FIRST SECOND }
+    requires limits { IsConfig config }
+    requires sorted { AreInOrder rules.now }
+    ensures sound { IfOk result (λ o. IfSome o (λ t. IsSound FIRST SECOND t.0 t.1)) }
+    ensures config { IfOk result (λ o. IfSome o (λ t. t.0.config ≡ config)) }
+    ensures table { IfOk result (λ o. IfSome o (λ t. table_of t.0 t.1
+        ≡ record (opened config) { rules = rules_of rules.now })) }
+    ensures rules_fit { IfOk result (λ o. IfSome o (λ _.
+        map.len (rules_of rules.now) ≤ config.rules)) }
+    ensures groups_fit { IfOk result (λ o. IfSome o (λ _.
+        groups_in_use FIRST SECOND (rules_of rules.now) ≤ config.groups)) }
+    ensures none { IfOk result (λ o. IsNone o
+        → (config.rules < map.len (rules_of rules.now))
+        ⊎ (config.groups < groups_in_use FIRST SECOND (rules_of rules.now))) }
+{
+    if count_rules(rules) > config.rules {
+        return Ok(None);
+    }
+    let Some(swept) = sweep(alloc, rules, config.groups)? else {
+        return Ok(None);
+    };
+    let rules = Rules::of_sorted(alloc, config.rules, rules)?;
+    let parts = parts_with(alloc, config, rules, 0, swept)?;
+    Ok(Some(parts))
+}
+
+/// The same, as this version. The list has the rules of the rule list.
+pub(crate) fn parts_at<const FIRST: u32, const SECOND: u32>(
+    alloc: Global,
+    config: Config,
+    rules: Rules<FIRST, SECOND>,
+    versions: u64,
+    sorted: &[Rule<FIRST, SECOND>],
+) -> Result<Option<(Ledger<FIRST, SECOND>, PlainMemory<FIRST, SECOND>)>, AllocError>
+    requires shape { IsShape FIRST SECOND }
+    requires limits { IsConfig config }
+    requires sorted { AreInOrder sorted.now }
+    requires same { rules.rules ≡ rules_of sorted.now }
+    requires max { rules.max ≡ config.rules }
+    requires count { versions ≤ 2 ^ 61 }
+    ensures sound { IfOk result (λ o. IfSome o (λ t. IsSound FIRST SECOND t.0 t.1)) }
+    ensures config { IfOk result (λ o. IfSome o (λ t. t.0.config ≡ config)) }
+    ensures table { IfOk result (λ o. IfSome o (λ t. table_of t.0 t.1
+        ≡ record (opened config) { rules = rules.entry.rules; begun = versions })) }
+    ensures rules_fit { IfOk result (λ o. IfSome o (λ _.
+        map.len rules.entry.rules ≤ config.rules)) }
+    ensures groups_fit { IfOk result (λ o. IfSome o (λ _.
+        groups_in_use FIRST SECOND rules.entry.rules ≤ config.groups)) }
+    ensures none { IfOk result (λ o. IsNone o
+        → (config.rules < map.len rules.entry.rules)
+        ⊎ (config.groups < groups_in_use FIRST SECOND rules.entry.rules)) }
+{
+    if rules.len() > config.rules {
+        return Ok(None);
+    }
+    let Some(swept) = sweep(alloc, sorted, config.groups)? else {
+        return Ok(None);
+    };
+    let parts = parts_with(alloc, config, rules, versions, swept)?;
+    Ok(Some(parts))
+}
