@@ -8,3 +8,4 @@ pub mod AllFreed
 pub mod Begins
 pub mod Passes
 pub mod Waited
+pub mod Packing

@@ -1,35 +1,40 @@
 //! How the words of a running table are laid out, one behind the other.
 
-ghost use Rattle.std.specs.Prelude.{◌≡◌, ◌+◌, ◌<◌, ◌≤◌, ◌++◌, ◌∷◌, length, replicate, vec_len, vec_capacity, IfOk};
+ghost use Rattle.std.specs.Prelude.{◌≡◌, ◌+◌, ◌≤◌, ◌++◌, ◌∷◌, length, map, replicate, vec_len, IfOk, OnOk};
 ghost use Rattle.shared_words.specs.Layout.{packed, pair_at, pairs};
 
 use lpm_cells::PlainCells;
 use shared_words::pairs;
 use std::alloc::{AllocError, Global};
 
-/// The word that two neighbours share: the one at place `2 * k`, and the one behind it, or 0.
+/// The word that two neighbours share: the first is its low half, the second its high half.
 #[inline]
-fn pair_at(narrow: &[u32], k: usize) -> u64
-    requires { k < pairs (length narrow.now) }
-    ensures { result ≡ pair_at narrow.now k }
+fn joined(two: &[u32; 2]) -> u64
+    ensures { result ≡ pair_at two.now 0 }
 {
-    let low = u64::from(narrow[2 * k]);
-    if 2 * k + 1 >= narrow.len() {
-        return low;
-    }
-    low + u64::from(narrow[2 * k + 1]) * (1 << 32)
+    u64::from(two[0]) + u64::from(two[1]) * (1 << 32)
 }
 
-/// Puts the words that these of 32 bits share last, where there is room for them.
-fn pack(words: &mut Vec<u64>, narrow: &[u32])
-    requires room { vec_len words.old + pairs (length narrow.now) ≤ vec_capacity words.old }
-    ensures len { vec_len words.new ≡ vec_len words.old + pairs (length narrow.now) }
-    ensures items { words.new.items ≡ words.old.items ++ packed narrow.now }
-    ensures capacity { vec_capacity words.new ≡ vec_capacity words.old }
+/// Puts the words that these pairs of neighbours share last. The loop of `extend` becomes vector code.
+fn put_joined(words: &mut Vec<u64>, twos: &[[u32; 2]]) -> Result<(), AllocError>
+    ensures len { OnOk result (vec_len words.new ≡ vec_len words.old + length twos.now) }
+    ensures items { OnOk result (words.new.items
+        ≡ words.old.items ++ map (λ two. pair_at two 0) twos.now) }
 {
-    for k in 0..pairs(narrow.len()) {
-        words.push_reserved(pair_at(narrow, k));
+    words.extend(twos.iter().map(|two| joined(two)))
+}
+
+/// Puts the words that these of 32 bits share last. The last of an odd number of them has one for itself.
+fn pack(words: &mut Vec<u64>, narrow: &[u32]) -> Result<(), AllocError>
+    ensures len { OnOk result (vec_len words.new ≡ vec_len words.old + pairs (length narrow.now)) }
+    ensures items { OnOk result (words.new.items ≡ words.old.items ++ packed narrow.now) }
+{
+    let (twos, rest) = narrow.as_chunks::<2>();
+    put_joined(words, twos)?;
+    if let Some(last) = rest.first() {
+        words.push(u64::from(*last))?;
     }
+    Ok(())
 }
 
 /// The words that a running table begins with: the sequence, which is 0, the token, the words of the table of
@@ -51,8 +56,8 @@ pub(crate) fn lay<const FIRST: u32, const SECOND: u32>(
     let mut words = Vec::with_capacity(alloc, count)?;
     words.push_reserved(0);
     words.push_reserved(token);
-    pack(&mut words, firsts);
-    pack(&mut words, seconds);
+    pack(&mut words, firsts)?;
+    pack(&mut words, seconds)?;
     words.resize(count, 0)?;
     Ok(words)
 }
