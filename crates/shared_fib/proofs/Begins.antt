@@ -4,6 +4,7 @@ use Rattle.std.specs.Prelude.{option_map}
 use Rattle.std.specs.FinMap.{empty}
 use Rattle.std.proofs.lemmas.Option.{slice_get-map}
 use Rattle.atomic_table.specs.Seated.{TableId}
+use Rattle.lpm_bits.specs.Widths.{IsShape}
 use Rattle.lpm_cells.specs.Table.{Words}
 use Rattle.lpm_groups.specs.declared.GroupState.{GroupState}
 use Rattle.lpm_groups.specs.declared.GroupState.TheVariants.{Free, Linked as LinkedTo, Limbo}
@@ -23,42 +24,51 @@ use Rattle.lpm_writer.specs.Waiting.{tokens_of}
 use Rattle.fib.specs.Fib.{IsSound}
 use Rattle.shared_words.specs.declared.layout.Layout.{Layout}
 use Rattle.shared_words.specs.declared.view.View.{View}
-use Rattle.shared_words.specs.Opened.{setup_of, status_of}
+use Rattle.shared_words.specs.Opened.{Opened, setup_of, status_of}
+use Rattle.shared_words.specs.Layout.{opening_words}
 use Rattle.shared_words.specs.Rule.{writer_view}
 use Rattle.shared_words.specs.Seats.{IsOf}
 use Rattle.shared_memory.specs.declared.loaded.Loaded.{Loaded}
-use Rattle.shared_memory.specs.Loaded.{block_of, opened_of}
+use Rattle.shared_memory.specs.Loaded.{ArePacked, block_of, opened_by, opened_of}
+use Rattle.shared_memory.proofs.Unpacking.{opened_as_packed}
 use Rattle.shared_fib.specs.Running.{Identity, WriterState, IsAtRest, IsReady, opening_by, opens_with, setup}
 use Rattle.shared_fib.proofs.Live.{live_settled, live_rests, never_retired, none_some}
 
 -- ---- what was loaded
 
 module _ (f s : ℕ) (ledger : Ledger f s) (memory : PlainMemory f s) where
-  abbrev pub loads : Loaded f s
-  loads = record {
-    cells = memory.cells;
-    rules = ledger.rules;
-    groups = ledger.books.groups;
-    workers = ledger.config.workers;
-    token = memory.domain.token;
-  }
+  abbrev pub loads : Opened
+  loads = opened_of f s memory.cells ledger.rules.rules ledger.books.groups ledger.config.workers memory.domain.token
 
   -- the ledger of a table that goes on, before its first change
   abbrev pub first_kept : Ledger f s
   first_kept = record ledger { books = record ledger.books { passed = 0 }; versions = 0 }
 
   -- a ledger of what was loaded
-  pub kept_by : (config : Config) (queue : Queue) (l : Loaded f s) → config ≡ ledger.config → queue ≡ ledger.books.queue → l ≡ loads
+  pub kept_by : (config : Config) (queue : Queue) (l : Loaded f s) → config ≡ ledger.config → queue ≡ ledger.books.queue
+      → l.rules ≡ ledger.rules → l.groups ≡ ledger.books.groups
       → record { config = config; rules = l.rules; books = record { groups = l.groups; queue = queue; passed = 0 }; versions = 0 } ≡ first_kept
-  kept_by config queue l same waits is = λ i. record {
+  kept_by config queue l same waits rules groups = λ i. record {
     config = same i;
-    rules = ap (λ (x : Loaded f s). x.rules) is i;
-    books = record { groups = ap (λ (x : Loaded f s). x.groups) is i; queue = waits i; passed = 0 };
+    rules = rules i;
+    books = record { groups = groups i; queue = waits i; passed = 0 };
     versions = 0;
   }
 
-  pub token_within : (l : Loaded f s) → l ≡ loads → memory.domain.token ≤ 2 ^ 62 → l.token ≤ 2 ^ 62
-  token_within l is high = subst (λ (x : Loaded f s). x.token ≤ 2 ^ 62) (sym is) high
+  -- the words of a list that begins with this token
+  pub loaded_packed : (l : Loaded f s) (token : ℕ) → token ≡ memory.domain.token
+      → l.words.items ≡ opening_words (record loads { token = token }) → l.layout.firsts ≡ length memory.cells.firsts
+      → l.layout.seconds ≡ length memory.cells.seconds → l.layout.workers ≡ ledger.config.workers
+      → ArePacked loads l.words.items l.layout
+  loaded_packed l token same words firsts seconds workers = record {
+    words = words ∙ ap (λ (n : ℕ). opening_words (record loads { token = n })) same;
+    firsts = firsts;
+    seconds = seconds;
+    workers = workers;
+  }
+
+  pub token_within : (o : Opened) → o ≡ loads → memory.domain.token ≤ 2 ^ 62 → o.token ≤ 2 ^ 62
+  token_within o is high = subst (λ (x : Opened). x.token ≤ 2 ^ 62) (sym is) high
 
   module _ (sound : IsSound f s ledger memory) (none : ledger.books.queue.items ≡ []) where
     represents : Represents f s ledger.rules.rules memory.cells
@@ -70,7 +80,7 @@ module _ (f s : ℕ) (ledger : Ledger f s) (memory : PlainMemory f s) where
     room : HasGroupRoom s memory.cells ledger.books.groups
     room = subst (λ (t : Words). HasGroupRoom s t ledger.books.groups) (sym sound.2.did.words) sound.2.rests.room
 
-    settled : 0 < memory.domain.token → IsSettled (setup_of (opening_by f s loads))
+    settled : 0 < memory.domain.token → IsSettled (setup_of loads)
     settled = live_settled f s memory.cells ledger.rules.rules ledger.books.groups ledger.config memory.domain.token represents tied
 
     abbrev no_queue : Queue
@@ -79,26 +89,40 @@ module _ (f s : ℕ) (ledger : Ledger f s) (memory : PlainMemory f s) where
     same_queue : no_queue ≡ ledger.books.queue
     same_queue = λ i. record { items = sym none i; capacity = sym sound.2.rests.queued.room i }
 
-    rests : IsResting f s (setup_of (opening_by f s loads)) [] ledger.config ledger.rules first_kept.books 0
+    rests : IsResting f s (setup_of loads) [] ledger.config ledger.rules first_kept.books 0
     rests = subst
-        (λ (q : Queue). IsResting f s (setup_of (opening_by f s loads)) [] ledger.config ledger.rules
+        (λ (q : Queue). IsResting f s (setup_of loads) [] ledger.config ledger.rules
         (record { groups = ledger.books.groups; queue = q; passed = 0 }) 0)
         same_queue
         (live_rests f s memory.cells ledger.rules.rules ledger.books.groups ledger.config memory.domain.token represents tied
         ledger.rules.max sound.2.rests.shape sound.2.rests.limits sound.2.rests.max sound.2.rests.states room
         (sym sound.2.rests.queued.all ∙ ap length none))
 
-    pub few_workers : (l : Loaded f s) → l ≡ loads → l.workers ≤ 2048
-    few_workers l is = subst (λ (x : Loaded f s). x.workers ≤ 2048) (sym is) sound.2.rests.limits.workers.1
+    pub shaped : IsShape f s
+    shaped = sound.2.rests.shape
 
-    pub loaded_settled : (l : Loaded f s) → l ≡ loads → 0 < memory.domain.token → IsSettled (setup_of (opening_by f s l))
-    loaded_settled l is low = subst (λ (x : Loaded f s). IsSettled (setup_of (opening_by f s x))) (sym is) (settled low)
+    -- the words were packed for the table that was loaded
+    pub opens_loaded : (l : Loaded f s) → l.rules ≡ ledger.rules → l.groups ≡ ledger.books.groups
+        → 0 < memory.domain.token → ArePacked loads l.words.items l.layout → opening_by f s l ≡ loads
+    opens_loaded l rules groups low packed =
+        (λ i. opened_by f s l.words.items l.layout (rules i).rules (groups i))
+        ∙ opened_as_packed f s memory.cells ledger.rules.rules ledger.books.groups ledger.config.workers memory.domain.token
+        l.words.items l.layout packed (settled low) shaped.2
 
-    pub loaded_rests : (l : Loaded f s) (z : Ledger f s) → l ≡ loads → z ≡ first_kept
-        → IsResting f s (setup_of (opening_by f s l)) [] z.config z.rules z.books z.versions
-    loaded_rests l z is same =
-        subst (λ (y : Ledger f s). IsResting f s (setup_of (opening_by f s l)) [] y.config y.rules y.books y.versions) (sym same)
-        (subst (λ (x : Loaded f s). IsResting f s (setup_of (opening_by f s x)) [] ledger.config ledger.rules first_kept.books 0) (sym is) rests)
+    pub packs_loaded : (l : Loaded f s) → l.rules ≡ ledger.rules → l.groups ≡ ledger.books.groups
+        → 0 < memory.domain.token → ArePacked loads l.words.items l.layout
+        → ArePacked (opening_by f s l) l.words.items l.layout
+    packs_loaded l rules groups low packed =
+        subst (λ (o : Opened). ArePacked o l.words.items l.layout) (sym (opens_loaded l rules groups low packed)) packed
+
+    pub loaded_settled : (o : Opened) → o ≡ loads → 0 < memory.domain.token → IsSettled (setup_of o)
+    loaded_settled o is low = subst (λ (x : Opened). IsSettled (setup_of x)) (sym is) (settled low)
+
+    pub loaded_rests : (o : Opened) (z : Ledger f s) → o ≡ loads → z ≡ first_kept
+        → IsResting f s (setup_of o) [] z.config z.rules z.books z.versions
+    loaded_rests o z is same =
+        subst (λ (y : Ledger f s). IsResting f s (setup_of o) [] y.config y.rules y.books y.versions) (sym same)
+        (subst (λ (x : Opened). IsResting f s (setup_of x) [] ledger.config ledger.rules first_kept.books 0) (sym is) rests)
 
 -- ---- the table, and its writer once all passes are made
 
@@ -112,7 +136,7 @@ module _ (f s : ℕ) (key : Loaded f s) (words : TableId) (layout : Layout) (sea
   now_is = now ∙ ap (λ (x : View). record x { made = made }) view
 
   pub ready : (z : Ledger f s) → IsResting f s (setup_of (opening_by f s key)) [] z.config z.rules z.books z.versions
-      → key.token ≤ 2 ^ 62 → IsReady f s z w
+      → (opening_by f s key).token ≤ 2 ^ 62 → IsReady f s z w
   ready z rests high = subst (IsReady f s z) (sym now_is) (record { rests = rests; token = high })
 
   -- what a contract sees of the writer that has this seat and this ledger

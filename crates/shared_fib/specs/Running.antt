@@ -25,7 +25,7 @@ use Rattle.shared_words.specs.contracts.view.View as view_row
 use Rattle.shared_words.specs.Opened.{Opened, coded_opened, setup_of}
 use Rattle.shared_words.specs.Layout.{word_count}
 use Rattle.shared_memory.specs.declared.loaded.Loaded.{Loaded}
-use Rattle.shared_memory.specs.Loaded.{opened_of}
+use Rattle.shared_memory.specs.Loaded.{opened_by}
 use Rattle.shared_deeds.specs.Deeds.{GainsAll}
 
 -- ---- the table
@@ -41,7 +41,7 @@ setup id = setup_of id.opening
 
 -- what a table is opened with that goes on from what was loaded
 abbrev pub opening_by : (first second : ℕ) → Loaded first second → Opened
-opening_by first second l = opened_of first second l.cells l.rules.rules l.groups l.workers l.token
+opening_by first second l = opened_by first second l.words.items l.layout l.rules.rules l.groups
 
 -- the table is of these widths and has a word for each place
 pub record IsFitted (first second : ℕ) (id : Identity) (layout : Layout) : Type 0 where

@@ -4,7 +4,7 @@ ghost use Rattle.std.specs.Prelude.{◌≡◌, ◌+◌, ◌≤◌, ◌++◌, ◌
 ghost use Rattle.shared_words.specs.Layout.{packed, pair_at, pairs};
 
 use lpm_cells::PlainCells;
-use shared_words::pairs;
+use shared_words::{Layout, pairs};
 use std::alloc::{AllocError, Global};
 
 /// The word that two neighbours share: the first is its low half, the second its high half.
@@ -39,7 +39,7 @@ fn pack(words: &mut Vec<u64>, narrow: &[u32]) -> Result<(), AllocError>
 
 /// The words that a running table begins with: the sequence, which is 0, the token, the words of the table of
 /// one thread, and a counter for each worker, which is 0. The room for all is had at once.
-pub(crate) fn lay<const FIRST: u32, const SECOND: u32>(
+fn lay<const FIRST: u32, const SECOND: u32>(
     alloc: Global,
     cells: &PlainCells<FIRST, SECOND>,
     token: u64,
@@ -60,4 +60,24 @@ pub(crate) fn lay<const FIRST: u32, const SECOND: u32>(
     pack(&mut words, seconds)?;
     words.resize(count, 0)?;
     Ok(words)
+}
+
+/// The words that a running table begins with, and where each lies. Those of one thread are given up.
+pub(crate) fn pack_all<const FIRST: u32, const SECOND: u32>(
+    alloc: Global,
+    cells: PlainCells<FIRST, SECOND>,
+    token: u64,
+    workers: usize,
+) -> Result<(Vec<u64>, Layout), AllocError>
+    requires workers { workers ≤ 2048 }
+    ensures words { IfOk result (λ r. r.0.items
+        ≡ 0 ∷ token ∷ (packed cells.entry.firsts
+        ++ (packed cells.entry.seconds ++ replicate workers 0))) }
+    ensures firsts { IfOk result (λ r. r.1.firsts ≡ length cells.entry.firsts) }
+    ensures seconds { IfOk result (λ r. r.1.seconds ≡ length cells.entry.seconds) }
+    ensures workers { IfOk result (λ r. r.1.workers ≡ workers) }
+{
+    let layout = Layout::new(cells.first_words().len(), cells.seconds(), workers);
+    let words = lay(alloc, &cells, token, workers)?;
+    Ok((words, layout))
 }

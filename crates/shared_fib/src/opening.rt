@@ -10,11 +10,11 @@ ghost use Rattle.lpm_trace.specs.Tables.{IsSettled};
 ghost use Rattle.shared_words.specs.Opened.{setup_of};
 ghost use Rattle.shared_words.specs.Rule.{writer_view};
 ghost use Rattle.shared_words.specs.Seats.{IsOf};
-ghost use Rattle.shared_memory.specs.Loaded.{opened_of};
+ghost use Rattle.shared_memory.specs.Loaded.{ArePacked, opened_of};
 ghost use Rattle.lpm_writer.specs.Opening.{opening_setup};
 ghost use Rattle.shared_fib.specs.Running.{IsAtRest, IsFullBench, opening_by, opens_with, setup};
 
-use crate::laying::lay;
+use crate::laying::pack_all;
 use crate::table::Words;
 use crate::{Bench, SharedTable, Writer};
 use defer_queue::DeferQueue;
@@ -23,7 +23,7 @@ use lpm_memory::PlainMemory;
 use lpm_writer::{Books, Ledger, OpenError};
 use qsbr::Config;
 use shared_memory::Loaded;
-use shared_words::{Layout, WriterSeat};
+use shared_words::WriterSeat;
 use std::alloc::{AllocError, Global};
 
 /// The words of a table that goes on from this one, and the seat of its writer.
@@ -31,7 +31,9 @@ fn open_words<const FIRST: u32, const SECOND: u32>(
     alloc: Global,
     loaded: &Loaded<FIRST, SECOND>,
 ) -> Result<(Words<FIRST, SECOND>, WriterSeat), AllocError>
-    requires workers { loaded.now.workers ≤ 2048 }
+    requires shape { IsShape FIRST SECOND }
+    requires packed { ArePacked (opening_by FIRST SECOND loaded.now)
+        loaded.now.words.items loaded.now.layout }
     requires settled { IsSettled (setup_of (opening_by FIRST SECOND loaded.now)) }
     ensures key { IfOk result (λ r. r.0.board.shared.key ≡ loaded.now) }
     ensures own { IfOk result (λ r. IsOf r.0.board.shared.table_id
@@ -39,29 +41,27 @@ fn open_words<const FIRST: u32, const SECOND: u32>(
     ensures view { IfOk result
         (λ r. r.1.place.me.0 ≡ writer_view (opening_by FIRST SECOND loaded.now)) }
 {
-    let layout = Layout::new(
-        loaded.cells.first_words().len(),
-        loaded.cells.seconds(),
-        loaded.workers,
-    );
-    let words = lay(alloc, &loaded.cells, loaded.token, loaded.workers)?;
-    shared_words::open(alloc, &words, layout, loaded)
+    shared_words::open(alloc, loaded.words.as_slice(), loaded.layout, loaded)
 }
 
-/// The limits, the queue of the groups that wait, and what a running table is opened with.
+/// The limits, the queue of the groups that wait, and what a running table is opened with. The words of one
+/// thread are given up as soon as they are packed.
 fn load<const FIRST: u32, const SECOND: u32>(
+    alloc: Global,
     ledger: Ledger<FIRST, SECOND>,
     memory: PlainMemory<FIRST, SECOND>,
-) -> (Config, DeferQueue, Loaded<FIRST, SECOND>)
-    ensures config { result.0 ≡ ledger.entry.config }
-    ensures queue { result.1 ≡ ledger.entry.books.queue }
-    ensures loaded { result.2 ≡ record {
-      cells = memory.entry.cells;
-      rules = ledger.entry.rules;
-      groups = ledger.entry.books.groups;
-      workers = ledger.entry.config.workers;
-      token = memory.entry.domain.token;
-    } }
+) -> Result<(Config, DeferQueue, Loaded<FIRST, SECOND>), AllocError>
+    requires sound { IsSound FIRST SECOND ledger memory }
+    requires none { ledger.books.queue.items ≡ [] }
+    ensures config { IfOk result (λ r. r.0 ≡ ledger.entry.config) }
+    ensures queue { IfOk result (λ r. r.1 ≡ ledger.entry.books.queue) }
+    ensures rules { IfOk result (λ r. r.2.rules ≡ ledger.entry.rules) }
+    ensures groups { IfOk result (λ r. r.2.groups ≡ ledger.entry.books.groups) }
+    ensures opening { IfOk result (λ r. opening_by FIRST SECOND r.2 ≡ opened_of FIRST SECOND
+        memory.entry.cells ledger.entry.rules.rules ledger.entry.books.groups
+        ledger.entry.config.workers memory.entry.domain.token) }
+    ensures packed { IfOk result
+        (λ r. ArePacked (opening_by FIRST SECOND r.2) r.2.words.items r.2.layout) }
     ensures low { 1 ≤ memory.entry.domain.token }
     ensures high { memory.entry.domain.token ≤ 2 ^ 62 }
 {
@@ -77,14 +77,14 @@ fn load<const FIRST: u32, const SECOND: u32>(
         queue,
         passed: _,
     } = books;
+    let (words, layout) = pack_all(alloc, cells, domain.token(), config.workers)?;
     let loaded = Loaded {
-        cells,
+        words,
+        layout,
         rules,
         groups,
-        workers: config.workers,
-        token: domain.token(),
     };
-    (config, queue, loaded)
+    Ok((config, queue, loaded))
 }
 
 /// What the writer of a running table keeps at first: the rules that were loaded are version 0, and no token
@@ -132,7 +132,7 @@ fn begin<const FIRST: u32, const SECOND: u32>(
     ensures bench { IfOk result (λ r. IsFullBench r.0 r.2) }
     ensures rests { IfOk result (λ r. IsAtRest r.1) }
 {
-    let (config, queue, loaded) = load(ledger, memory);
+    let (config, queue, loaded) = load(alloc, ledger, memory)?;
     let (words, mut seat) = open_words(alloc, &loaded)?;
     let bench = Bench::full(alloc, &words, &mut seat)?;
     let ledger = first_ledger(config, queue, loaded);
@@ -161,8 +161,10 @@ pub fn open<const FIRST: u32, const SECOND: u32>(
 }
 
 /// Takes a table that was loaded on one thread, and goes on with it as a running one: its rules are version
-/// 0, no change of it is counted, and its words are copied. What waits in limbo is free again at once, since
-/// no worker is online.
+/// 0, and no change of it is counted. What waits in limbo is free again at once, since no worker is online.
+///
+/// Its words are packed into a list, and given up then. That list is copied into the running table's words,
+/// and given up in turn. So two lists of all words are held at once, and no third.
 ///
 /// The error is want of memory. Then the table is gone.
 pub fn go_live<const FIRST: u32, const SECOND: u32>(

@@ -4,7 +4,7 @@ ghost use Rattle.std.specs.Prelude.{◌≡◌, ◌^◌, ◌≤◌};
 ghost use Rattle.lpm_trace.specs.Tables.{tables, begun};
 ghost use Rattle.shared_words.specs.Opened.{setup_of};
 ghost use Rattle.shared_words.specs.Seats.{IsOf};
-ghost use Rattle.shared_memory.specs.Loaded.{opened_of};
+ghost use Rattle.shared_memory.specs.Loaded.{opened_by};
 ghost use Rattle.shared_memory.specs.Lent.{SharedDid, left_by};
 
 use crate::Loaded;
@@ -23,7 +23,7 @@ pub struct SharedMemory<'a, const FIRST: u32, const SECOND: u32> {
 impl<'a, const FIRST: u32, const SECOND: u32> Model for SharedMemory<'a, FIRST, SECOND> {
     ghost use Rattle.shared_memory.specs.Lent.{Lent, coded_lent, IsAt};
     ghost use Rattle.shared_words.specs.Seats.{IsOf};
-    ghost use Rattle.shared_memory.specs.Loaded.{opened_of};
+    ghost use Rattle.shared_memory.specs.Loaded.{opened_by};
 
     ghost Value = { Lent };
 
@@ -36,9 +36,9 @@ impl<'a, const FIRST: u32, const SECOND: u32> Model for SharedMemory<'a, FIRST, 
     } };
 
     ghost invariant = { λ a. IsOf a.table.now.board.shared.table_id
-        (opened_of FIRST SECOND a.table.now.board.shared.key.cells
-        a.table.now.board.shared.key.rules.rules a.table.now.board.shared.key.groups
-        a.table.now.board.shared.key.workers a.table.now.board.shared.key.token)
+        (opened_by FIRST SECOND a.table.now.board.shared.key.words.items
+        a.table.now.board.shared.key.layout
+        a.table.now.board.shared.key.rules.rules a.table.now.board.shared.key.groups)
         a.table.now.layout a.seat.now.place.table_id a.seat.now.place.me.0
         × IsAt a.seat.now.place.me.0 a.token };
 }
@@ -50,9 +50,9 @@ impl<'a, const FIRST: u32, const SECOND: u32> SharedMemory<'a, FIRST, SECOND> {
         seat: &'a mut WriterSeat,
     ) -> SharedMemory<'a, FIRST, SECOND>
         requires own { IsOf table.now.board.shared.table_id
-            (opened_of FIRST SECOND table.now.board.shared.key.cells
-            table.now.board.shared.key.rules.rules table.now.board.shared.key.groups
-            table.now.board.shared.key.workers table.now.board.shared.key.token)
+            (opened_by FIRST SECOND table.now.board.shared.key.words.items
+            table.now.board.shared.key.layout
+            table.now.board.shared.key.rules.rules table.now.board.shared.key.groups)
             table.now.layout seat.old.place.table_id seat.old.place.me.0 }
         requires token { (tables (setup_of seat.old.place.me.0.opening) seat.old.place.me.0.seen).token
             ≤ 2 ^ 62 }

@@ -1,19 +1,24 @@
 use Rattle.std.proofs.Common.{◌≡◌, ◌<◌, ap, sym, subst, ◌∙◌, lit<, arith}
 use Rattle.lpm_writer.specs.declared.ledger.Ledger.{Ledger}
+use Rattle.shared_words.specs.Opened.{Opened}
 use Rattle.shared_fib.specs.Running.{Identity, IsAtRest, IsFullBench, opening_by}
-use Rattle.shared_fib.proofs.Begins.{kept_by, few_workers, token_within, loaded_settled, loaded_rests, ready, opens, opening_rests}
+use Rattle.shared_fib.proofs.Begins.{kept_by, shaped, token_within, loaded_settled, loaded_rests, ready, opens, opening_rests}
 use Rattle.shared_fib.proofs.opening.begin.Goals as goal
 
 pub open_words-requires : goal.open_words-requires
 open_words-requires g c =
     let f = g.row.FIRST in
     let s = g.row.SECOND in
-    let load = c.load-queue in
+    let load = c.in_ok-config in
+    let o : Opened = opening_by f s load.loaded in
     let low : 0 < c.args.memory.domain.token = omega (arith, load.ensures.low) in (
       lit< tt,
       (
-        few_workers f s c.args.ledger c.args.memory c.requires.sound c.requires.none load.result.2 load.ensures.loaded,
-        loaded_settled f s c.args.ledger c.args.memory c.requires.sound c.requires.none load.result.2 load.ensures.loaded low,
+        shaped f s c.args.ledger c.args.memory c.requires.sound c.requires.none,
+        (
+          load.ensures.packed,
+          loaded_settled f s c.args.ledger c.args.memory c.requires.sound c.requires.none o load.ensures.opening low,
+        ),
       ),
     )
 
@@ -21,18 +26,19 @@ pub new-requires-2 : goal.new-requires-2
 new-requires-2 g c =
     let f = g.row.FIRST in
     let s = g.row.SECOND in
-    let load = c.load-queue in
+    let load = c.in_ok-config in
+    let o : Opened = opening_by f s load.loaded in
     let words = c.in_ok-words in
     let bench = c.in_ok-bench.ensures in
     let z = c.first_ledger-ledger.result in
-    let same = c.first_ledger-ledger.ensures ∙ kept_by f s c.args.ledger c.args.memory load.result.0 load.result.1 load.result.2
-    load.ensures.config load.ensures.queue load.ensures.loaded in
-    let rests = loaded_rests f s c.args.ledger c.args.memory c.requires.sound c.requires.none load.result.2 z load.ensures.loaded same in
-    let high = token_within f s c.args.ledger c.args.memory load.result.2 load.ensures.loaded load.ensures.high in (
+    let same = c.first_ledger-ledger.ensures ∙ kept_by f s c.args.ledger c.args.memory load.config load.queue load.loaded
+    load.ensures.config load.ensures.queue load.ensures.rules load.ensures.groups in
+    let rests = loaded_rests f s c.args.ledger c.args.memory c.requires.sound c.requires.none o z load.ensures.opening same in
+    let high = token_within f s c.args.ledger c.args.memory o load.ensures.opening load.ensures.high in (
       lit< tt,
       (
         lit< tt,
-        ready f s load.result.2 words.words.board.shared.table_id words.words.layout words.seat.place.table_id words.seat.place.me.0
+        ready f s load.loaded words.words.board.shared.table_id words.words.layout words.seat.place.table_id words.seat.place.me.0
             c.full.new.seat.place.me.0 bench.view.0 words.ensures.own words.ensures.view bench.view.1 z rests high,
       ),
     )
@@ -52,17 +58,18 @@ pub returns-clause-rests : goal.returns-clause-rests
 returns-clause-rests g c =
     let f = g.row.FIRST in
     let s = g.row.SECOND in
-    let load = c.load-queue in
+    let load = c.in_ok-config in
+    let o : Opened = opening_by f s load.loaded in
     let words = c.in_ok-words in
     let bench = c.in_ok-bench.ensures in
     let z = c.first_ledger-ledger.result in
     let first = c.first_ledger-ledger.ensures in
     let none = ap (λ (y : Ledger f s). y.books.queue.items) first ∙ (ap (λ q. q.items) load.ensures.queue ∙ c.requires.none) in
-    let opened = opens f s load.result.2 words.words.board.shared.table_id words.words.layout words.seat.place.table_id words.seat.place.me.0
+    let opened = opens f s load.loaded words.words.board.shared.table_id words.words.layout words.seat.place.table_id words.seat.place.me.0
     c.full.new.seat.place.me.0 bench.view.0 words.ensures.own words.ensures.view bench.view.1
     c.full.new.seat.place.table_id z bench.own none (ap (λ (y : Ledger f s). y.versions) first) in
     let low : 0 < c.args.memory.domain.token = omega (arith, load.ensures.low) in
-    let settled = loaded_settled f s c.args.ledger c.args.memory c.requires.sound c.requires.none load.result.2 load.ensures.loaded low in
-    let id : Identity = record { words = words.words.board.shared.table_id; opening = opening_by f s load.result.2 } in
+    let settled = loaded_settled f s c.args.ledger c.args.memory c.requires.sound c.requires.none o load.ensures.opening low in
+    let id : Identity = record { words = words.words.board.shared.table_id; opening = o } in
     subst IsAtRest (sym (c.new-2.ensures ∙ opened))
-    (opening_rests id z.config z.rules.rules (ap (λ (y : Ledger f s). y.rules.rules) first) settled)
+    (opening_rests id z.config z.rules.rules (ap (λ (y : Ledger f s). y.rules.rules) first ∙ ap (λ r. r.rules) load.ensures.rules ∙ sym (ap (λ (x : Opened). x.rules) load.ensures.opening)) settled)
