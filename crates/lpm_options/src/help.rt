@@ -33,8 +33,8 @@ Memory:
   64 MiB for the first table (2^24 words of 4 bytes), 1 KiB for each group, 15 to
   22 bytes for each rule, and 24 bytes for each line of the route file. `lookup`
   makes no more groups than the file has routes longer than 24 bits. It copies the
-  table into one that its workers share. While it does so it takes 192 MiB in place
-  of 64 MiB, and 3 KiB for each group. `storm` takes as much before it loads the
+  table into one that its workers share. While it does so it takes 128 MiB in place
+  of 64 MiB, and 2 KiB for each group. `storm` takes as much before it loads the
   routes, for all groups, and then 32 bytes for each answer. `migrate` makes no
   table.
 
@@ -64,7 +64,7 @@ nothing is printed. Give a greater number:
   --groups   at `refused 7 NoGroups`
   --workers  at `refused 8 NoWorkers`
 
-Memory: up to 192 MiB, 3 KiB for each group, and 15 to 22 bytes for each rule. No more
+Memory: up to 128 MiB, 2 KiB for each group, and 15 to 22 bytes for each rule. No more
 groups are made than there are routes longer than 24 bits.
 Exit status: 0 done, 2 words, 3 can't read or write, 4 a faulty file, 5 out of memory,
 6 refused. More in `lpmtool --help`.";
@@ -161,7 +161,7 @@ ends the run, nothing is printed:
   refused 5 BadConfig      more than 16777216 answers: give a smaller --rounds
   refused 12 NoThread      a thread can't be started: give a smaller --workers
 
-Memory: 192 MiB and 3 KiB for each group before the routes are loaded, and then
+Memory: 128 MiB and 2 KiB for each group before the routes are loaded, and then
 64 MiB, 1 KiB for each group, 15 to 22 bytes for each rule, and 32 bytes for
 each answer: up to 512 MiB for all answers.
 Exit status: 0 done, also where answers are wrong, 2 words, 3 can't read or
