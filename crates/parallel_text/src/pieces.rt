@@ -1,0 +1,128 @@
+//! Files that are read in pieces, whatever their lines spell.
+ghost use Rattle.std.specs.Prelude.{◌≡◌, ℕ, List, ◌+◌, ◌^◌, ◌<◌, ◌++◌, length, map};
+ghost use Rattle.std.specs.Prelude.{IfSome, IfOk, IfErr};
+ghost use Rattle.route_text.specs.declared.fault.FaultKind.{FaultKind};
+ghost use Rattle.route_text.specs.Lines.{lines};
+ghost use Rattle.route_text.specs.Files.{AreItems, IsFirstFault};
+ghost use Rattle.route_text.specs.Readings.{IsReadError};
+
+use crate::lines::{count_lines, line_end, share};
+use route_text::{Fault, ReadError};
+use std::alloc::{AllocError, Global};
+
+/// How many bytes a piece is to have at least, before its end is moved to that of a line.
+const LEAST_BYTES: usize = 65_536;
+
+/// A form of files, whose lines spell items. What a line spells where it stands later in a file is
+/// known from what it spells here.
+pub(crate) trait Form {
+    /// What a line spells.
+    type Item: Copy;
+
+    // Which item the number and the fields of a line spell.
+    ghost Spells: { ℕ → List (List ℕ) → Self.Item → Type 0 };
+
+    // Which fault the fields of a line have.
+    ghost HasFault: { List (List ℕ) → FaultKind → Type 0 };
+
+    // The item of a line that stands so many lines later.
+    ghost later: { ℕ → Self.Item → Self.Item };
+
+    /// The list, and then the items of a file as they are where its lines stand after the front.
+    fn append(
+        list: Vec<Self::Item>,
+        front: &[u8],
+        more: &[Self::Item],
+    ) -> Result<Vec<Self::Item>, AllocError>
+        requires { (back : List (List ℕ)) × AreItems Spells 1 back more.now
+            × (length front.now + length back < 2 ^ 63) }
+        ensures { IfOk result (λ v.
+            v.items ≡ list.items ++ map (later (length (lines front.now))) more.now) };
+
+    // What a line spells is known where it stands later.
+    ghost spells_later: { (k n : ℕ) (fs : List (List ℕ)) (item : Self.Item) → Spells n fs item
+        → Spells (n + k) fs (later k item) };
+}
+
+/// What two pieces of the bytes, cut where a line ends, come to.
+pub(crate) fn joined<F: Form>(
+    bytes: &[u8],
+    front: &[u8],
+    back: &[u8],
+    first: Result<Vec<F::Item>, ReadError>,
+    second: Result<Vec<F::Item>, ReadError>,
+) -> Result<Vec<F::Item>, ReadError>
+    requires cut { lines bytes.now ≡ lines front.now ++ lines back.now }
+    requires room { length front.now + length back.now < 2 ^ 63 }
+    requires front_list { IfOk first (λ v. AreItems F.Spells 1 (lines front.now) v.items) }
+    requires front_error { IfErr first
+        (IsReadError (IsFirstFault F.Spells F.HasFault 1 (lines front.now))) }
+    requires back_list { IfOk second (λ v. AreItems F.Spells 1 (lines back.now) v.items) }
+    requires back_error { IfErr second
+        (IsReadError (IsFirstFault F.Spells F.HasFault 1 (lines back.now))) }
+    ensures items { IfOk result (λ v. AreItems F.Spells 1 (lines bytes.now) v.items) }
+    ensures error { IfErr result
+        (IsReadError (IsFirstFault F.Spells F.HasFault 1 (lines bytes.now))) }
+{
+    let list = match first {
+        Ok(list) => list,
+        Err(error) => return Err(error),
+    };
+    match second {
+        Ok(more) => {
+            let all = F::append(list, front, &more)?;
+            Ok(all)
+        }
+        Err(error) => Err(later::<F>(bytes, front, back, error)),
+    }
+}
+
+/// The error of the bytes where that of the back piece is this one, and the front piece has none. The
+/// lines of a fault are counted from the front of all bytes.
+fn later<F: Form>(bytes: &[u8], front: &[u8], back: &[u8], error: ReadError) -> ReadError
+    requires cut { lines bytes.now ≡ lines front.now ++ lines back.now }
+    requires room { length front.now + length back.now < 2 ^ 63 }
+    requires front { (items : List F.Item) × AreItems F.Spells 1 (lines front.now) items }
+    requires error { IsReadError (IsFirstFault F.Spells F.HasFault 1 (lines back.now)) error }
+    ensures { IsReadError (IsFirstFault F.Spells F.HasFault 1 (lines bytes.now)) result }
+{
+    match error {
+        ReadError::Fault(fault) => ReadError::Fault(Fault {
+            line: fault.line + count_lines(front),
+            kind: fault.kind,
+        }),
+        ReadError::Memory => ReadError::Memory,
+    }
+}
+
+/// Two parts of a text, cut where a line ends, and on how many threads each of them is read.
+pub(crate) struct Halves<'a> {
+    pub(crate) front: &'a [u8],
+    pub(crate) few: usize,
+    pub(crate) back: &'a [u8],
+    pub(crate) more: usize,
+}
+
+/// The halves of a text that is worth more than one of so many threads: each has 64 KiB or about that
+/// for each of its threads.
+pub(crate) fn halved(bytes: &[u8], threads: usize) -> Option<Halves<'_>>
+    ensures cut { IfSome result (λ h. lines bytes.now ≡ lines h.front.now ++ lines h.back.now) }
+    ensures room { IfSome result (λ h. length h.front.now + length h.back.now ≡ length bytes.now) }
+    ensures few { IfSome result (λ h. h.few < threads) }
+    ensures more { IfSome result (λ h. h.more < threads) }
+{
+    let pieces = threads.min(bytes.len() / LEAST_BYTES);
+    if pieces < 2 {
+        return None;
+    }
+    let few = pieces / 2;
+    let more = pieces - few;
+    let end = line_end(bytes, share(bytes.len(), few, pieces));
+    let (front, back) = bytes.split_at(end);
+    Some(Halves {
+        front,
+        few,
+        back,
+        more,
+    })
+}
