@@ -5,7 +5,7 @@ ghost use Rattle.route_text.specs.Files.{AreRoutes, IsRoutesFault, AreAddresses,
 ghost use Rattle.route_text.specs.Updates.{AreUpdates, IsUpdatesFault};
 ghost use Rattle.route_text.specs.Updates.{AreOldUpdates, IsOldUpdatesFault, IsCountInRange};
 ghost use Rattle.route_text.specs.Readings.{IsReadError};
-ghost use Rattle.lpm_files.specs.Inputs.{address_file, input, Reads, EndsParsing, EndsReading};
+ghost use Rattle.lpm_files.specs.Inputs.{address_file, route_file, input, Reads, EndsParsing, EndsReading};
 
 use crate::failure::Failure;
 use crate::files::{Files, ReadFailure, read_file};
@@ -147,6 +147,31 @@ pub fn read_addresses_on<'a, R: Threads + Sync, F: Files>(
     };
     match parallel_text::read_addresses_on(rt, alloc, &bytes, threads) {
         Ok(addrs) => return Ok(addrs),
+        Err(ReadError::Fault(fault)) => return Err(Failure::Bad { path, fault }),
+        Err(ReadError::Memory) => return Err(Failure::Memory),
+    }
+}
+
+/// The routes of the file at the path, as `read_list::<Routes, F>` gives them. The file is read whole, and then
+/// parsed in pieces on at most so many threads.
+pub fn read_routes_on<'a, R: Threads + Sync, F: Files>(
+    rt: &R,
+    alloc: Global,
+    files: &F,
+    path: &'a str,
+    threads: usize,
+) -> Result<Vec<Route>, Failure<'a>>
+    ensures items { IfOk result (λ v.
+        Reads AreRoutes (F.bytes files.now path.entry.now) v.items) }
+    ensures failure { IfErr result (EndsReading
+        (route_file path.entry.now (F.bytes files.now path.entry.now))) }
+{
+    let bytes = match read_file(alloc, files, path) {
+        Ok(bytes) => bytes,
+        Err(failure) => return Err(unread(path, failure)),
+    };
+    match parallel_text::read_routes_on(rt, alloc, &bytes, threads) {
+        Ok(routes) => return Ok(routes),
         Err(ReadError::Fault(fault)) => return Err(Failure::Bad { path, fault }),
         Err(ReadError::Memory) => return Err(Failure::Memory),
     }

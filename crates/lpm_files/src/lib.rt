@@ -9,4 +9,6 @@ mod inputs;
 
 pub use failure::{Failure, USAGE};
 pub use files::{Files, put_text};
-pub use inputs::{Addresses, Form, OldUpdates, Routes, Updates, read_addresses_on, read_list};
+pub use inputs::{
+    Addresses, Form, OldUpdates, Routes, Updates, read_addresses_on, read_list, read_routes_on,
+};
