@@ -2,8 +2,8 @@
 
 use lpm_bits::Hop;
 use output_text::answers_text;
-use parallel_text::{answers_text_on, read_addresses_on};
-use route_text::{Fault, FaultKind, ReadError, read_addresses};
+use parallel_text::{answers_text_on, read_addresses_on, read_routes_on};
+use route_text::{Fault, FaultKind, ReadError, Route, read_addresses, read_routes};
 use std::alloc::{AllocError, Global};
 use std::process::Abort;
 use std::test::Fail;
@@ -15,8 +15,9 @@ const LINES: u32 = 40_000;
 // On how many threads it is read.
 const THREADS: [usize; 6] = [0, 1, 2, 3, 8, 1_000_000];
 
-// A line for each address. Each third ends in CR LF, each seventh is a comment, and the one of this number is bad.
-fn file(alloc: Global, bad: u32) -> Result<Vec<u8>, Fail> {
+// A line for each address, with this text after it. Each third ends in CR LF, each seventh is a comment, and the one of
+// this number is bad.
+fn file(alloc: Global, after: &str, bad: u32) -> Result<Vec<u8>, Fail> {
     let mut bytes = Vec::new(alloc);
     for number in 0..LINES {
         let mark = if number == bad {
@@ -28,7 +29,7 @@ fn file(alloc: Global, bad: u32) -> Result<Vec<u8>, Fail> {
         };
         let end = if number % 3 == 0 { "\r\n" } else { "\n" };
         let (third, last) = (number / 256, number % 256);
-        let line = format!(in alloc; "{mark}10.0.{third}.{last}{end}")?;
+        let line = format!(in alloc; "{mark}10.0.{third}.{last}{after}{end}")?;
         bytes.extend_from_slice(line.as_bytes())?;
     }
     Ok(bytes)
@@ -47,7 +48,7 @@ fn assert_list<R: Threads + Abort + Sync>(
 
 #[test]
 fn pieces_of_a_file(rt: HostRuntime) -> Result<(), Fail> {
-    let bytes = file(rt.alloc(), LINES)?;
+    let bytes = file(rt.alloc(), "", LINES)?;
     let list = read_addresses(rt.alloc(), &bytes).expect(&rt, "a list");
     for threads in THREADS {
         assert_list(&rt, rt.alloc(), &bytes, threads, &list);
@@ -74,9 +75,61 @@ fn assert_fault<R: Threads + Abort + Sync>(
 #[test]
 fn fault_in_a_piece(rt: HostRuntime) -> Result<(), Fail> {
     for bad in [1, 20_000, 39_998] {
-        let bytes = file(rt.alloc(), bad)?;
+        let bytes = file(rt.alloc(), "", bad)?;
         for threads in THREADS {
             assert_fault(&rt, rt.alloc(), &bytes, threads, bad as usize + 1);
+        }
+    }
+    Ok(())
+}
+
+// What stands after the address of each route.
+const ROUTE: &str = "/32 7";
+
+fn assert_routes<R: Threads + Abort + Sync>(
+    rt: &R,
+    alloc: Global,
+    bytes: &[u8],
+    threads: usize,
+    list: &[Route],
+) {
+    let found = read_routes_on(rt, alloc, bytes, threads).expect(rt, "a list");
+    assert!(rt; found.as_slice() == list, "{threads}");
+    let last = found.last().map(|route| route.line);
+    assert!(rt; last == Some(40_000), "{threads}");
+}
+
+#[test]
+fn pieces_of_routes(rt: HostRuntime) -> Result<(), Fail> {
+    let bytes = file(rt.alloc(), ROUTE, LINES)?;
+    let list = read_routes(rt.alloc(), &bytes).expect(&rt, "a list");
+    for threads in THREADS {
+        assert_routes(&rt, rt.alloc(), &bytes, threads, &list);
+    }
+    Ok(())
+}
+
+fn assert_route_fault<R: Threads + Abort + Sync>(
+    rt: &R,
+    alloc: Global,
+    bytes: &[u8],
+    threads: usize,
+    line: usize,
+) {
+    let fault = Fault {
+        line,
+        kind: FaultKind::Address,
+    };
+    let found = read_routes_on(rt, alloc, bytes, threads).err();
+    assert!(rt; found == Some(ReadError::Fault(fault)), "{line}, {threads}");
+}
+
+#[test]
+fn fault_in_a_piece_of_routes(rt: HostRuntime) -> Result<(), Fail> {
+    for bad in [1, 20_000, 39_998] {
+        let bytes = file(rt.alloc(), ROUTE, bad)?;
+        for threads in THREADS {
+            assert_route_fault(&rt, rt.alloc(), &bytes, threads, bad as usize + 1);
         }
     }
     Ok(())
