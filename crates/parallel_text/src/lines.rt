@@ -1,8 +1,8 @@
 //! Where lists and texts are cut, and how many lines a text has.
-ghost use Rattle.std.specs.Prelude.{◌≡◌, ◌+◌, ◌-◌, ◌*◌, ◌/◌, ◌<◌, ◌≤◌, ◌⊎◌, ◌∷◌, length, slice_index};
+ghost use Rattle.std.specs.Prelude.{◌≡◌, ◌+◌, ◌-◌, ◌*◌, ◌/◌, ◌<◌, ◌≤◌, ◌==◌, ◌⊎◌};
+ghost use Rattle.std.specs.Prelude.{count_by, length, slice_index};
 ghost use Rattle.route_text.specs.Lines.{lines};
 
-use bstr::ByteSlice;
 use memchr::memchr;
 
 /// About how many of `all` are in the first `few` of so many pieces.
@@ -28,28 +28,48 @@ pub(crate) fn line_end(bytes: &[u8], from: usize) -> usize
     }
 }
 
-/// The first line without its end, and what stands after it.
-fn next_line(bytes: &[u8]) -> (&[u8], &[u8])
-    requires { 0 < length bytes.now }
-    ensures { lines bytes.now ≡ result.0.now ∷ lines result.1.now }
+/// How many bytes a block has whose line feeds are counted in a byte, so that many bytes are compared
+/// at once.
+const BLOCK: usize = 192;
+
+/// How many line feeds the block has.
+fn block_feeds(block: &[u8]) -> u8
+    requires { length block.now ≤ BLOCK }
+    ensures { result ≡ count_by (λ b. b == 10) block.now }
 {
-    let mut lines = bytes.lines();
-    match lines.next() {
-        Some(line) => (line, lines.as_bytes()),
-        None => (bytes, bytes),
+    let mut count = 0;
+    for byte in block {
+        if *byte == b'\n' {
+            count += 1;
+        }
     }
+    count
+}
+
+/// How many line feeds the bytes have.
+fn feeds(bytes: &[u8]) -> usize
+    ensures { result ≡ count_by (λ b. b == 10) bytes.now }
+{
+    let mut count = 0;
+    let mut rest = bytes;
+    while !rest.is_empty() {
+        let (block, after) = rest.split_at(rest.len().min(BLOCK));
+        count += usize::from(block_feeds(block));
+        rest = after;
+    }
+    count
 }
 
 /// How many lines the bytes have.
 pub(crate) fn count_lines(bytes: &[u8]) -> usize
     ensures { result ≡ length (lines bytes.now) }
 {
-    let mut count = 0;
-    let mut rest = bytes;
-    while !rest.is_empty() {
-        let (_line, after) = next_line(rest);
-        count += 1;
-        rest = after;
+    let ended = feeds(bytes);
+    if bytes.is_empty() {
+        return ended;
     }
-    count
+    if bytes[bytes.len() - 1] == b'\n' {
+        return ended;
+    }
+    ended + 1
 }
