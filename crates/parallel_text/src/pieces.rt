@@ -13,8 +13,8 @@ use std::alloc::{AllocError, Global};
 /// How many bytes a piece is to have at least, before its end is moved to that of a line.
 const LEAST_BYTES: usize = 65_536;
 
-/// A form of files, whose lines spell items. What a line spells where it stands later in a file is
-/// known from what it spells here.
+/// A form of files, whose lines spell items. Where the same line stands later in a file, its item
+/// follows from the one here.
 pub(crate) trait Form {
     /// What a line spells.
     type Item: Copy;
@@ -28,7 +28,8 @@ pub(crate) trait Form {
     // The item of a line that stands so many lines later.
     ghost later: { ℕ → Self.Item → Self.Item };
 
-    /// The list, and then the items of a file as they are where its lines stand after the front.
+    /// The list, and then the items of a file as they are where its lines stand after the front. The
+    /// error is want of memory for the list.
     fn append(
         list: Vec<Self::Item>,
         front: &[u8],
@@ -39,7 +40,7 @@ pub(crate) trait Form {
         ensures { IfOk result (λ v.
             v.items ≡ list.items ++ map (later (length (lines front.now))) more.now) };
 
-    // What a line spells is known where it stands later.
+    // A line that stands later spells the item that `later` gives.
     ghost spells_later: { (k n : ℕ) (fs : List (List ℕ)) (item : Self.Item) → Spells n fs item
         → Spells (n + k) fs (later k item) };
 }
@@ -104,7 +105,7 @@ pub(crate) struct Halves<'a> {
 }
 
 /// The halves of a text that is worth more than one of so many threads: each has 64 KiB or about that
-/// for each of its threads.
+/// for each of its threads. `None` comes where one thread is to read it.
 pub(crate) fn halved(bytes: &[u8], threads: usize) -> Option<Halves<'_>>
     ensures cut { IfSome result (λ h. lines bytes.now ≡ lines h.front.now ++ lines h.back.now) }
     ensures room { IfSome result (λ h. length h.front.now + length h.back.now ≡ length bytes.now) }

@@ -37,7 +37,7 @@ impl Form for Routes {
     }
 }
 
-/// The list, and then the routes where their lines stand so many lines later.
+/// The list, and then the routes as they are where their lines stand so many lines later.
 fn append_later(list: Vec<Route>, lines: usize, more: &[Route]) -> Result<Vec<Route>, AllocError>
     requires { All (λ route. route.line + lines < 2 ^ 64) more.now }
     ensures { IfOk result (λ v. v.items ≡ list.items ++ map (later_route lines) more.now) }
