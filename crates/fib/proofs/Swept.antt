@@ -1,6 +1,6 @@
 -- A table that opens with swept words: its groups are linked to the swept blocks, and there is room for
 -- more of them.
-use Rattle.std.proofs.Common.{◌≡◌, ℕ, ◌+◌, ◌-◌, ◌*◌, ◌^◌, ◌<◌, ◌≤◌, refl, ap, sym, subst, ◌∙◌, List, [], ◌++◌, length, map, arith}
+use Rattle.std.proofs.Common.{◌≡◌, ℕ, ◌-◌, ◌*◌, ◌^◌, ◌≤◌, refl, ap, sym, subst, ◌∙◌, List, [], ◌++◌, length, map, arith}
 use Rattle.std.specs.Prelude.{replicate}
 use Rattle.std.proofs.Math.Nat.{mul-le-mul_right}
 use Rattle.std.proofs.lemmas.List.{length-replicate, length-append, length-map}
@@ -12,9 +12,8 @@ use Rattle.lpm_groups.proofs.Tallies.{limbo_count-of_blocks}
 use Rattle.lpm_limits.specs.Limits.{IsConfig}
 use Rattle.lpm_limits.specs.declared.config.Config.{Config}
 use Rattle.lpm_rules.specs.RuleMap.{RuleMap}
-use Rattle.lpm_update.specs.Linked.{group_at}
 use Rattle.lpm_update.specs.Represents.{Represents}
-use Rattle.lpm_update.specs.Tied.{IsTied, HasGroupRoom}
+use Rattle.lpm_update.specs.Tied.{HasGroupRoom}
 use Rattle.lpm_sweep.specs.Swept.{AreNumbered}
 use Rattle.lpm_sweep.proofs.Room.{room_grown}
 use Rattle.lpm_sweep.proofs.Numbered.{tied}

@@ -1,6 +1,4 @@
-use Rattle.std.proofs.Common.{◌≡◌, ℕ, ◌^◌, ◌*◌, ◌≤◌, length, lit<, sym, arith, rules}
-use Rattle.lpm_rules.specs.RuleMap.{RuleList}
-use Rattle.lpm_writer.specs.declared.ledger.Ledger.{Ledger}
+use Rattle.std.proofs.Common.{◌^◌, length, lit<, arith, rules}
 use Rattle.fib.proofs.Swept.{fewer_words, sound_swept}
 use Rattle.fib.proofs.sorted.parts_with.Goals as goal
 
