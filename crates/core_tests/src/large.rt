@@ -2,11 +2,13 @@
 //! memory is ample.
 
 use super::asserting::assert_at;
+use super::table::{assert_number, figures};
 use fib::{Fib, Replay};
 use fib_model::{Command, Outcome};
 use lpm_bits::{Hop, Prefix};
 use lpm_groups::Counts;
-use lpm_rules::Put;
+use lpm_rules::{Put, Rule, Rules};
+use lpm_sweep::are_in_order;
 use qsbr::Config;
 use std::alloc::{AllocError, Global};
 use std::process::Abort;
@@ -35,11 +37,26 @@ fn block(number: u32) -> u32 {
     number.saturating_add(65_536).wrapping_mul(256)
 }
 
-// The addition of the rule of this number, which is its next hop's too.
-fn addition(rt: &impl Abort, number: u32) -> Command<24, 8> {
+// The rule of this number, which is its next hop's too.
+fn rule(rt: &impl Abort, number: u32) -> Rule<24, 8> {
     let len = if is_half(number) { 25 } else { 24 };
     let prefix = Prefix::new(block(number), len).expect(rt, "a length");
-    Command::Add(prefix, Hop::new(number).expect(rt, "a next hop"))
+    let hop = Hop::new(number).expect(rt, "a next hop");
+    Rule { prefix, hop }
+}
+
+// The rules, which are in the order of their prefixes.
+fn rules(rt: &impl Abort, alloc: Global) -> Result<Vec<Rule<24, 8>>, AllocError> {
+    let mut rules = Vec::new(alloc);
+    for number in 0..MANY {
+        rules.push(rule(rt, number))?;
+    }
+    Ok(rules)
+}
+
+fn addition(rt: &impl Abort, number: u32) -> Command<24, 8> {
+    let Rule { prefix, hop } = rule(rt, number);
+    Command::Add(prefix, hop)
 }
 
 fn additions(rt: &impl Abort, alloc: Global) -> Result<Vec<Command<24, 8>>, AllocError> {
@@ -105,4 +122,39 @@ fn replay_of_many_routes(rt: HostRuntime) -> Result<(), Fail> {
     let commands = additions(&rt, rt.alloc())?;
     let addrs = addresses(rt.alloc())?;
     assert_replayed(&rt, rt.alloc(), &commands, &addrs)
+}
+
+// The table has all the rules, as this version, and answers both halves of each block.
+fn assert_opened(rt: &impl Abort, fib: &Fib<24, 8>, versions: u64) {
+    let counts = Counts {
+        in_use: 30_000,
+        limbo: 0,
+        free: 35_536,
+    };
+    assert_at(rt, "figures", figures(fib), (300_000, versions, counts, 1));
+    for number in 0..MANY {
+        let first = block(number);
+        assert_number(rt, "first", fib, first, Some(number));
+        assert_number(rt, "last of the first half", fib, first | 127, Some(number));
+        assert_number(rt, "second half", fib, first | 128, number_of(number));
+    }
+}
+
+#[test]
+fn many_routes_at_once(rt: HostRuntime) -> Result<(), Fail> {
+    let rules = rules(&rt, rt.alloc())?;
+    assert!(&rt; are_in_order(&rules));
+    let fib = Fib::of_sorted(rt.alloc(), LIMITS, &rules)?.expect(&rt, "room");
+    assert_opened(&rt, &fib, 0);
+    Ok(())
+}
+
+#[test]
+fn many_routes_as_a_version(rt: HostRuntime) -> Result<(), Fail> {
+    let rules = rules(&rt, rt.alloc())?;
+    assert!(&rt; are_in_order(&rules));
+    let list = Rules::of_sorted(rt.alloc(), LIMITS.rules, &rules)?;
+    let fib = Fib::of_rules(rt.alloc(), LIMITS, list, 300_000, &rules)?.expect(&rt, "room");
+    assert_opened(&rt, &fib, 300_000);
+    Ok(())
 }

@@ -12,4 +12,6 @@ mod large;
 #[cfg(test)]
 mod laws;
 #[cfg(test)]
+mod opened;
+#[cfg(test)]
 mod table;

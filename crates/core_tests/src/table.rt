@@ -14,7 +14,7 @@ use std::fmt::Debug;
 use std::process::Abort;
 use std::test::Fail;
 
-fn prefix<const FIRST: u32, const SECOND: u32>(
+pub(crate) fn prefix<const FIRST: u32, const SECOND: u32>(
     rt: &impl Abort,
     bits: u32,
     len: u32,
@@ -25,14 +25,14 @@ fn prefix<const FIRST: u32, const SECOND: u32>(
     Prefix::new(bits, len).expect(rt, "a length")
 }
 
-fn hop(rt: &impl Abort, number: u32) -> Hop {
+pub(crate) fn hop(rt: &impl Abort, number: u32) -> Hop {
     Hop::new(number).expect(rt, "a next hop")
 }
 
 // The rules, the versions, the groups and the token number.
-type Figures = (usize, u64, Counts, u64);
+pub(crate) type Figures = (usize, u64, Counts, u64);
 
-fn figures<const FIRST: u32, const SECOND: u32>(fib: &Fib<FIRST, SECOND>) -> Figures {
+pub(crate) fn figures<const FIRST: u32, const SECOND: u32>(fib: &Fib<FIRST, SECOND>) -> Figures {
     (fib.rules(), fib.versions(), fib.counts(), fib.token())
 }
 
@@ -61,13 +61,24 @@ fn assert_executed<R: Debug + Copy, const FIRST: u32, const SECOND: u32>(
 }
 
 // A lookup of the address finds the next hop of this number.
-fn assert_number(rt: &impl Abort, name: &str, fib: &Fib<24, 8>, addr: u32, number: Option<u32>) {
+pub(crate) fn assert_number(
+    rt: &impl Abort,
+    name: &str,
+    fib: &Fib<24, 8>,
+    addr: u32,
+    number: Option<u32>,
+) {
     assert!(rt; Shape::<24, 8>::is_addr(addr));
     let found = fib.lookup(addr).map(|hop| hop.number());
     assert_at(rt, (name, addr), found, number);
 }
 
-fn assert_numbers(rt: &impl Abort, name: &str, fib: &Fib<24, 8>, numbers: &[(u32, Option<u32>)]) {
+pub(crate) fn assert_numbers(
+    rt: &impl Abort,
+    name: &str,
+    fib: &Fib<24, 8>,
+    numbers: &[(u32, Option<u32>)],
+) {
     for (addr, number) in numbers {
         assert_number(rt, name, fib, *addr, *number);
     }
@@ -120,7 +131,7 @@ fn update_cases(rt: HostRuntime) -> Result<(), Fail> {
 }
 
 // The next of a fixed list of numbers without a pattern, below 65,536.
-fn draw(seed: &mut u32) -> u32 {
+pub(crate) fn draw(seed: &mut u32) -> u32 {
     *seed = seed.wrapping_mul(1_103_515_245).wrapping_add(12_345);
     *seed >> 16
 }
@@ -210,7 +221,7 @@ fn drawn_commands(rt: HostRuntime) -> Result<(), Fail> {
     Ok(())
 }
 
-fn add(rt: &impl Abort, bits: u32, len: u32, number: u32) -> Command<24, 8> {
+pub(crate) fn add(rt: &impl Abort, bits: u32, len: u32, number: u32) -> Command<24, 8> {
     Command::Add(prefix(rt, bits, len), hop(rt, number))
 }
 

@@ -152,8 +152,8 @@ pub fn read_addresses_on<'a, R: Threads + Sync, F: Files>(
     }
 }
 
-/// The routes of the file at the path, as `read_list::<Routes, F>` gives them. The file is read whole, and then
-/// parsed in pieces on at most so many threads.
+/// The routes of the file at the path, as `read_list::<Routes, F>` gives them. The file is read whole,
+/// and then parsed in pieces on at most so many threads.
 pub fn read_routes_on<'a, R: Threads + Sync, F: Files>(
     rt: &R,
     alloc: Global,
