@@ -1,8 +1,8 @@
 -- A table into which rules were put in any order, told by its end: the routes make a table in the
 -- order of the file too.
-use Rattle.std.proofs.Common.{◌≡◌, ◌≢◌, ◌∙◌, ap, sym, subst, refl, ℕ, ◌+◌, ◌<◌, ◌≤◌, ◌^◌, ◌⊎◌, inl, inr, Bool, true, false, cond, Option, Some, None, List, [], ◌∷◌, Ok, Err, length, get_or, take, map, arith}
-use Rattle.std.proofs.lemmas.List.{length-take-le}
-use Rattle.std.specs.Prelude.{IsSome, IsSomeAnd, IsTrue, is_some, nat_eq, ◌↔◌}
+use Rattle.std.proofs.Common.{◌≡◌, ◌≢◌, ◌∙◌, ap, sym, subst, refl, ℕ, ◌+◌, ◌<◌, ◌≤◌, ◌^◌, ◌⊎◌, inl, inr, Bool, true, false, cond, Option, Some, None, List, [], ◌∷◌, ◌++◌, Ok, Err, length, get_or, take, drop, map, arith}
+use Rattle.std.proofs.lemmas.List.{append_assoc, length-take-le, take-append-drop}
+use Rattle.std.specs.Prelude.{IfSome, IsSome, IsSomeAnd, IsTrue, is_some, nat_eq, ◌↔◌}
 use Rattle.std.specs.FinMap.{get, insert, empty, len, get-empty}
 use Rattle.std.specs.FinMap as rules
 use Rattle.std.specs.FinSet as set
@@ -27,27 +27,30 @@ use Rattle.qsbr.specs.Registry.{Registry}
 use Rattle.fib_model.specs.State.{State, HasTokens}
 use Rattle.fib_model.specs.Outcomes.{Adds, LacksGroup, HoldsFront, groups_in_use}
 use Rattle.fib_model.specs.Counting.{counting, opened}
+use Rattle.fib.specs.Fib.{FibState, opened_at, opened_with}
 use Rattle.route_text.specs.declared.routes.Route.{Route}
-use Rattle.lpm_commands.specs.Loading.{Loads, IsLoaded, IsFirstRefused, addition_of, rules_of_routes}
+use Rattle.lpm_files.specs.declared.failure.Failure.{Failure}
+use Rattle.lpm_files.specs.declared.failure.Failure.TheVariants as failures
+use Rattle.lpm_commands.specs.Loading.{Loads, IsLoaded, IsFirstRefused, EndsLoading, addition_of, rules_of_routes}
 use Rattle.lpm_commands.specs.Filled.{Fits, IsFilled, BringsGroup, Refuses}
 use Rattle.lpm_commands.proofs.Loaded.{added_rules, added_limbo, added_readers, rules_after-more, take_read, first_refused}
 
 -- ---- rules, and how many changes made them
 
 -- rules, and the number of changes so far
-abbrev Made : Type 0
+abbrev pub Made : Type 0
 Made = RuleMap × ℕ
 
 -- 1 where a prefix that has this gets another hop, else 0
-abbrev changed : Option ℕ → ℕ → ℕ
+abbrev pub changed : Option ℕ → ℕ → ℕ
 changed None h = 1
 changed (Some old) h = cond (nat_eq old h) 0 1
 
 -- after a route, and after routes
-abbrev with_route : Made → Route → Made
+abbrev pub with_route : Made → Route → Made
 with_route m r = (insert m.0 r.prefix r.hop, m.1 + changed (get m.0 r.prefix) r.hop)
 
-abbrev made_by : Made → List Route → Made
+abbrev pub made_by : Made → List Route → Made
 made_by m [] = m
 made_by m (r ∷ routes) = made_by (with_route m r) routes
 
@@ -55,6 +58,14 @@ made_by m (r ∷ routes) = made_by (with_route m r) routes
 made_rules : (m : Made) (routes : List Route) → (made_by m routes).0 ≡ rules_after m.0 (map addition_of routes)
 made_rules m [] = refl
 made_rules m (r ∷ routes) = made_rules (with_route m r) routes
+
+made-append : (m : Made) (xs : List Route) (r : Route) → made_by m (xs ++ r ∷ []) ≡ with_route (made_by m xs) r
+made-append m [] r = refl
+made-append m (x ∷ xs) r = made-append (with_route m x) xs r
+
+-- how many of the routes change a rule
+abbrev pub changes_of : List Route → ℕ
+changes_of routes = (made_by (empty, 0) routes).1
 
 -- ---- rules that a table of these limits can have
 
@@ -152,6 +163,14 @@ changed_same o h same = ap (λ (x : Option ℕ). changed x h) same ∙ ap {B = �
 changed_other : (o : Option ℕ) (h : ℕ) → IsSomeAnd o (λ old. old ≢ h) → changed o h ≡ 1
 changed_other None h other = refl
 changed_other (Some old) h other = ap {B = ℕ} (λ (t : Bool). cond t 0 1) (ne_eqb old h other)
+
+-- a route is there, or changes a rule
+changed_cases : (o : Option ℕ) (h : ℕ) → (o ≡ Some h) ⊎ ((o ≡ Some h → ⊥) × (changed o h ≡ 1))
+changed_cases None h = inr ((λ e. absurd cc), refl)
+changed_cases (Some old) h = elim (cases_eq old h) [
+  | inl same ↦ inl (ap Some same)
+  | inr other ↦ inr ((λ e. let inner : old ≡ h = cc in other inner), ap {B = ℕ} (λ (t : Bool). cond t 0 1) (ne_eqb old h other))
+]
 
 -- a prefix that has some hop has one
 some_of : (o : Option ℕ) (P : ℕ → Type 0) → IsSomeAnd o P → IsSome o
@@ -301,14 +320,6 @@ module _ (c : Config) where
         tokens = whole.tokens;
       }
 
-  -- a route is there, or changes a rule
-  changed_cases : (o : Option ℕ) (h : ℕ) → (o ≡ Some h) ⊎ ((o ≡ Some h → ⊥) × (changed o h ≡ 1))
-  changed_cases None h = inr ((λ e. absurd cc), refl)
-  changed_cases (Some old) h = elim (cases_eq old h) [
-    | inl same ↦ inl (ap Some same)
-    | inr other ↦ inr ((λ e. let inner : old ≡ h = cc in other inner), ap {B = ℕ} (λ (t : Bool). cond t 0 1) (ne_eqb old h other))
-  ]
-
   -- what routes reach, they are loaded to
   loads_back : (s z : State Registry) (routes : List Route) → s.limbo ≡ [] → Reaches c s routes z → Loads c s routes z
   loads_back s z [] none whole = no_routes s z whole
@@ -394,29 +405,36 @@ has_rules (r ∷ routes) some =
     let size = size_added empty r.prefix r.hop (get-empty network_cmp r.prefix) in
     omega (arith, more, size)
 
--- routes whose rules fit, with tokens for them, make a table by as many changes at most
-pub loads_fitting : (c : Config) (routes : List Route) → length routes ≤ 2 ^ 61 → Fits c (rules_of_routes routes) → (0 < len (rules_of_routes routes) → c.first_token + c.groups ≤ 2 ^ 62) → (t : State Registry) × IsLoaded c routes t × (t.begun ≤ length routes)
-loads_fitting c routes few fits lasts =
+-- the table of these routes, by its rules and the number of changes
+abbrev made_table : Config → List Route → State Registry
+made_table c routes =
     let m = made_by (empty, 0) routes in
+    record { rules = m.0; readers = (opened c).readers; limbo = []; begun = m.1 }
+
+-- routes whose rules fit, with tokens for them, make that table
+loaded_fitting : (c : Config) (routes : List Route) → length routes ≤ 2 ^ 61 → Fits c (rules_of_routes routes) → (0 < len (rules_of_routes routes) → c.first_token + c.groups ≤ 2 ^ 62) → IsLoaded c routes (made_table c routes)
+loaded_fitting c routes few fits lasts =
     let made = made_rules (empty, 0) routes in
-    let most : m.1 ≤ 0 + length routes = changes_at_most (empty, 0) routes in
-    let t : State Registry = record { rules = m.0; readers = (opened c).readers; limbo = []; begun = m.1 } in
-    let way : Reaches c (opened c) routes t = record {
+    let most : (made_by (empty, 0) routes).1 ≤ 0 + length routes = changes_at_most (empty, 0) routes in
+    let way : Reaches c (opened c) routes (made_table c routes) = record {
       made = refl;
       readers = refl;
       limbo = refl;
       fits = subst (Fits c) (sym made) fits;
       tokens = λ more. (lasts (subst (λ (R : RuleMap). 0 < len R) made (has_rules routes more)), omega (arith, most, few));
-    } in (
-      t,
-      record {
-        loads = loads_back c (opened c) t routes refl way;
-        rules = made;
-        readers = refl;
-        limbo = refl;
-      },
-      omega (arith, most),
-    )
+    } in
+    record {
+      loads = loads_back c (opened c) (made_table c routes) routes refl way;
+      rules = made;
+      readers = refl;
+      limbo = refl;
+    }
+
+-- by as many changes at most
+loads_fitting : (c : Config) (routes : List Route) → length routes ≤ 2 ^ 61 → Fits c (rules_of_routes routes) → (0 < len (rules_of_routes routes) → c.first_token + c.groups ≤ 2 ^ 62) → (t : State Registry) × IsLoaded c routes t × (t.begun ≤ length routes)
+loads_fitting c routes few fits lasts =
+    let most : (made_by (empty, 0) routes).1 ≤ 0 + length routes = changes_at_most (empty, 0) routes in
+    (made_table c routes, loaded_fitting c routes few fits lasts, omega (arith, most))
 
 -- so do routes whose rules a table has
 pub loads_filled : (c : Config) (routes : List Route) (table : State Registry) → length routes ≤ 2 ^ 61 → table.rules ≡ rules_of_routes routes → IsFilled c table → (t : State Registry) × IsLoaded c routes t
@@ -508,3 +526,77 @@ exhausted_first c routes r some read more =
     let none = get-empty network_cmp r.prefix in
     first_refused c routes 0 r c (opened c) (opened c) Exhausted some read refl loaded (λ e. cc)
     ((λ same. let never = sym none ∙ same in absurd cc), inl (omega (arith, more)), refl)
+
+-- ---- a table that opens with the rules of routes
+
+-- one route more, which changed a rule or not
+pub changes_read : (routes : List Route) (i : ℕ) (r : Route) (R : RuleMap) (put : Put) (n : ℕ) → i < length routes → r ≡ get_or routes i r → R ≡ rules_of_routes (take i routes)
+    → (put ≡ Unchanged) ↔ (get R r.prefix ≡ Some r.hop) → (put ≡ Unchanged → n ≡ 0) → (put ≢ Unchanged → n ≡ 1) → changes_of (take (i + 1) routes) ≡ changes_of (take i routes) + n
+changes_read routes i r R put n within read same is none one =
+    let xs = take i routes in
+    let more : changes_of (take (i + 1) routes) ≡ changes_of xs + changed (get (made_by (empty, 0) xs).0 r.prefix) r.hop =
+    ap changes_of (take_read routes i r within read) ∙ ap (λ (m : Made). m.1) (made-append (empty, 0) xs r) in
+    let by : ◌≡◌ {A = ℕ} (changed (get (made_by (empty, 0) xs).0 r.prefix) r.hop) (changed (get R r.prefix) r.hop) =
+    ap (λ (Q : RuleMap). changed (get Q r.prefix) r.hop) (made_rules (empty, 0) xs ∙ sym same) in
+    elim (changed_cases (get R r.prefix) r.hop) [
+      | inl here ↦ let no = none (is.1 here) in let zero_changes = changed_same (get R r.prefix) r.hop here in omega (arith, more, by, no, zero_changes)
+      | inr other ↦ let some = one (λ e. other.0 (is.0 e)) in let changes = other.1 in omega (arith, more, by, some, changes)
+    ]
+
+-- the number of changes is at most that of the routes
+pub changes_few : (routes : List Route) → changes_of routes ≤ length routes
+changes_few routes = let most : (made_by (empty, 0) routes).1 ≤ 0 + length routes = changes_at_most (empty, 0) routes in omega (arith, most)
+
+-- where there are rules there are routes
+pub lasts_for : (routes : List Route) (P : Type 0) → (0 < length routes → P) → 0 < len (rules_of_routes routes) → P
+lasts_for [] P lasts some = let none = no_rules in absurd (omega (arith, none, some))
+lasts_for (r ∷ routes) P lasts some = lasts (omega arith)
+
+-- the table of routes, by its rules and the number of changes
+pub loaded_as : (c : Config) (routes : List Route) (R : RuleMap) (n : ℕ) → length routes ≤ 2 ^ 61 → R ≡ rules_of_routes routes → n ≡ changes_of routes → Fits c R → (0 < length routes → c.first_token + c.groups ≤ 2 ^ 62)
+    → IsLoaded c routes (record (opened c) { rules = R; begun = n })
+loaded_as c routes R n few same count fits lasts =
+    let loaded = loaded_fitting c routes few (subst (Fits c) same fits) (lasts_for routes (c.first_token + c.groups ≤ 2 ^ 62) lasts) in
+    subst (λ (Q : RuleMap). IsLoaded c routes (record (opened c) { rules = Q; begun = n })) (made_rules (empty, 0) routes ∙ sym same)
+    (subst (λ k. IsLoaded c routes (record (opened c) { rules = (made_by (empty, 0) routes).0; begun = k })) (sym count) loaded)
+
+-- ---- routes behind those of which one is refused
+
+first_longer : (c : Config) (xs ys : List Route) (line : ℕ) (refusal : Refusal) → IsFirstRefused c xs line refusal → IsFirstRefused c (xs ++ ys) line refusal
+first_longer c xs ys line refusal is = record {
+  before = is.before;
+  route = is.route;
+  after = is.after ++ ys;
+  table = is.table;
+  split = ap (λ (l : List Route). l ++ ys) is.split ∙ append_assoc is.before (is.route ∷ is.after) ys;
+  number = is.number;
+  loaded = is.loaded;
+  reason = is.reason;
+  refused = is.refused;
+}
+
+ends_before : (c : Config) (file : List ℕ) (xs ys : List Route) (failure : Failure) → EndsLoading c file xs failure → EndsLoading c file (xs ++ ys) failure
+ends_before c file xs ys (failures.RefusedRoute path line refusal) ends = (ends.0, first_longer c xs ys line refusal ends.1)
+ends_before c file xs ys failures.Memory ends = tt
+ends_before c file xs ys failure ends = absurd ends
+
+-- a refusal of one of the first routes is that of all of them
+pub ends_longer : (c : Config) (file : List ℕ) (routes : List Route) (n : ℕ) (failure : Failure) → EndsLoading c file (take n routes) failure → EndsLoading c file routes failure
+ends_longer c file routes n failure ends =
+    subst (λ (l : List Route). EndsLoading c file l failure) (take-append-drop n routes) (ends_before c file (take n routes) (drop n routes) failure ends)
+
+-- ---- a table that opens with a list of rules
+
+-- it is filled where the tokens last for its rules
+pub opened_filled : (c : Config) (R : RuleMap) (o : Option FibState) → IfSome o (λ (f : FibState). f ≡ opened_with c R) → IfSome o (λ (f : FibState). len R ≤ c.rules) → IfSome o (λ (f : FibState). in_use R ≤ c.groups) → (0 < len R → c.first_token + c.groups ≤ 2 ^ 62) → IfSome o (λ (f : FibState). IsFilled c f.table)
+opened_filled c R None is rules groups lasts = tt
+opened_filled c R (Some f) is rules groups lasts = subst (λ (g : FibState). IsFilled c g.table) (sym is) (record {
+  readers = refl;
+  limbo = refl;
+  fits = record { rules = rules; groups = groups };
+  tokens = lasts;
+})
+
+-- the table with the rules and the versions of routes is that of the routes
+pub opened_loaded : (c : Config) (routes : List Route) (R : RuleMap) (n : ℕ) (f : FibState) → f ≡ opened_at c R n → IsLoaded c routes (record (opened c) { rules = R; begun = n }) → IsLoaded c routes f.table
+opened_loaded c routes R n f is loaded = subst (λ (g : FibState). IsLoaded c routes g.table) (sym is) loaded

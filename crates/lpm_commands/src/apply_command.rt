@@ -10,7 +10,7 @@ use crate::loading::load;
 use crate::updating::{text_of_outcomes, update};
 use bulk::Gate;
 use fib::Fib;
-use lpm_files::{Failure, Files, Routes, Updates, put_text, read_addresses_on, read_list};
+use lpm_files::{Failure, Files, Updates, put_text, read_addresses_on, read_list, read_routes_on};
 use qsbr::Config;
 use route_text::Order;
 use std::alloc::Global;
@@ -71,7 +71,7 @@ fn apply_text<'a, R: Threads + Sync, F: Files, G: Gate>(
         routes.entry.now updates.entry.now addresses.entry.now (F.bytes files.now)) }
     ensures unwritten { IfErr result (λ e. e ≢ Failure.CannotWrite) }
 {
-    let list = read_list::<Routes, F>(alloc, files, routes)?;
+    let list = read_routes_on(rt, alloc, files, routes, config.workers)?;
     let orders = read_list::<Updates, F>(alloc, files, updates)?;
     let addrs = read_addresses_on(rt, alloc, files, addresses, config.workers)?;
     let mut table = load(alloc, routes, &list, config)?;

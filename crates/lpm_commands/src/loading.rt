@@ -1,5 +1,5 @@
 //! A table of the routes of a file.
-ghost use Rattle.std.specs.Prelude.{◌≡◌, ◌+◌, ◌^◌, ◌<◌, ◌≤◌, IsTrue, IfOk, IfErr, IfSome, OnOk, OnSome, length, map, drop};
+ghost use Rattle.std.specs.Prelude.{◌≡◌, ◌+◌, ◌^◌, ◌<◌, ◌≤◌, IsTrue, IfOk, IfErr, IfSome, OnOk, length, map, take, drop};
 ghost use Rattle.lpm_limits.specs.Limits.{IsConfig, IsIn, groups_range};
 ghost use Rattle.lpm_rules.specs.RuleMap.{RuleMap};
 ghost use Rattle.lpm_rules.specs.Changes.{rules_after};
@@ -12,7 +12,7 @@ ghost use Rattle.lpm_commands.specs.Groups.{IsEnough, long_routes};
 ghost use Rattle.lpm_commands.specs.Filled.{IsFilled};
 
 use crate::ordering::rules_in_order;
-use crate::refusals::{first_refusal, refused};
+use crate::refusals::{Made, first_refusal, made_of, refused};
 use fib::{Fib, OpenError};
 use lpm_bits::Prefix;
 use lpm_files::Failure;
@@ -26,6 +26,9 @@ use std::alloc::Global;
 const AHEAD: usize = 64;
 
 /// A table with the routes put in one after another, of which the first refused one ends the run.
+///
+/// It opens with the rules of the first 2^26 routes, as the version that these make. So the words that
+/// are stored for them are those of the table, whatever the file repeats.
 pub fn load<'a>(
     alloc: Global,
     path: &'a str,
@@ -37,23 +40,59 @@ pub fn load<'a>(
     ensures loaded { IfOk result (λ fib. IsLoaded config routes.now fib.table) }
     ensures failure { IfErr result (EndsLoading config path.entry.now routes.now) }
 {
-    let mut table = open(alloc, config)?;
-    add_all(&mut table, path, routes)?;
+    let count = routes.len().min(MOST_SORTED);
+    let mut table = match open_loaded(alloc, path, &routes[..count], config) {
+        Ok(table) => table,
+        Err(failure) => return Err(failure),
+    };
+    add_from(&mut table, path, routes, count)?;
     Ok(table)
 }
 
-// Puts the routes into a table that was just opened, one after another.
-fn add_all<'a>(table: &mut Fib<24, 8>, path: &'a str, routes: &[Route]) -> Result<(), Failure<'a>>
-    requires new { table.old.table ≡ opened table.old.config }
+// The table of routes, at most as many as can be sorted, or the first refused one. It opens with their
+// rules, as the version that they make.
+fn open_loaded<'a>(
+    alloc: Global,
+    path: &'a str,
+    routes: &[Route],
+    config: Config,
+) -> Result<Fib<24, 8>, Failure<'a>>
+    requires limits { IsConfig config }
+    requires few { length routes.now ≤ 2 ^ 26 }
+    ensures config { IfOk result (λ fib. fib.config ≡ config) }
+    ensures loaded { IfOk result (λ fib. IsLoaded config routes.now fib.table) }
+    ensures failure { IfErr result (EndsLoading config path.entry.now routes.now) }
+{
+    let Made { rules, versions } = made_of(alloc, path, routes, config)?;
+    let Ok(sorted) = rules_in_order(alloc, routes) else {
+        return Err(Failure::Memory);
+    };
+    match Fib::of_rules(alloc, config, rules, versions, &sorted) {
+        Ok(Some(table)) => Ok(table),
+        Ok(None) | Err(OpenError::BadConfig) => unreachable!(),
+        Err(OpenError::Memory) => Err(Failure::Memory),
+    }
+}
+
+// Puts the routes from this place on into a table of those before it, one after another.
+fn add_from<'a>(
+    table: &mut Fib<24, 8>,
+    path: &'a str,
+    routes: &[Route],
+    from: usize,
+) -> Result<(), Failure<'a>>
+    requires within { from ≤ length routes.now }
+    requires before { IsLoaded table.old.config (take from routes.now) table.old.table }
     ensures config { table.new.config ≡ table.old.config }
     ensures loaded { OnOk result (IsLoaded table.old.config routes.now table.new.table) }
     ensures failure { IfErr result (EndsLoading table.old.config path.entry.now routes.now) }
 {
-    let mut next = 0usize;
-    for (index, route) in routes.iter().enumerate() {
+    let mut next = from;
+    for index in from..routes.len() {
         if index >= next {
             next = index.saturating_add(prefetch(table, &routes[index..]));
         }
+        let route = &routes[index];
         match table.add(&route.prefix, route.hop) {
             Ok(_) => {}
             Err(refusal) => return Err(refused(path, route.line, refusal)),
@@ -93,26 +132,50 @@ pub fn load_for_lookups<'a>(
     }
 }
 
-// A table with the rules of the routes, put in by the order of their prefixes. None where a rule is
-// refused, or memory; which route it was isn't told, since another may be the first of the file.
+// A table with the rules of the routes, which opens with those of the first 2^26 routes. None where a
+// rule is refused, or memory; which route it was isn't told, since another may be the first of the
+// file.
 fn load_in_order(alloc: Global, routes: &[Route], config: Config) -> Option<Fib<24, 8>>
     requires { IsConfig config }
     ensures config { IfSome result (λ fib. fib.config ≡ config) }
     ensures rules { IfSome result (λ fib. fib.table.rules ≡ rules_of_routes routes.now) }
     ensures filled { IfSome result (λ fib. IsFilled config fib.table) }
 {
-    let Ok(mut table) = open(alloc, config) else {
+    let (first, later) = routes.split_at(routes.len().min(MOST_SORTED));
+    let Some(mut table) = open_with(alloc, first, config) else {
         return None;
     };
-    let mut rest = routes;
+    let mut rest = later;
     while !rest.is_empty() {
-        let (piece, later) = rest.split_at(rest.len().min(MOST_SORTED));
+        let (piece, after) = rest.split_at(rest.len().min(MOST_SORTED));
         let Ok(()) = add_piece(alloc, &mut table, piece) else {
             return None;
         };
-        rest = later;
+        rest = after;
     }
     Some(table)
+}
+
+// A table that opens with the rules of routes, at most as many as can be sorted. None where they don't
+// fit, where the tokens don't last for them, or for want of memory.
+fn open_with(alloc: Global, routes: &[Route], config: Config) -> Option<Fib<24, 8>>
+    requires limits { IsConfig config }
+    requires few { length routes.now ≤ 2 ^ 26 }
+    ensures config { IfSome result (λ fib. fib.config ≡ config) }
+    ensures rules { IfSome result (λ fib. fib.table.rules ≡ rules_of_routes routes.now) }
+    ensures filled { IfSome result (λ fib. IsFilled config fib.table) }
+{
+    let lasts = config.first_token + config.groups as u64 <= Config::FIRST_TOKEN.last;
+    if !lasts && !routes.is_empty() {
+        return None;
+    }
+    let Ok(rules) = rules_in_order(alloc, routes) else {
+        return None;
+    };
+    let Ok(table) = Fib::of_sorted(alloc, config, &rules) else {
+        return None;
+    };
+    table
 }
 
 // Adds the rules of routes, at most as many as can be sorted.
@@ -210,17 +273,4 @@ fn prefetch<T: Prefixed>(table: &Fib<24, 8>, routes: &[T]) -> usize {
         covered = covered.wrapping_add(usize::from(table.prefetch(route.prefix())));
     }
     (AHEAD / 2).max(covered)
-}
-
-// A table of these limits without rules.
-fn open<'a>(alloc: Global, config: Config) -> Result<Fib<24, 8>, Failure<'a>>
-    requires { IsConfig config }
-    ensures opened { IfOk result (λ fib. fib ≡ record { config = config; table = opened config }) }
-    ensures failure { IfErr result (λ e. e ≡ Failure.Memory) }
-{
-    match Fib::open(alloc, config) {
-        Ok(table) => Ok(table),
-        Err(OpenError::Memory) => Err(Failure::Memory),
-        Err(OpenError::BadConfig) => unreachable!(),
-    }
 }

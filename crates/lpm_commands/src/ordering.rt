@@ -1,6 +1,6 @@
 //! The rules of routes in the order of their prefixes.
 ghost use Rattle.std.specs.Prelude.{◌≡◌, ◌^◌, ◌≤◌, IfOk, length, map};
-ghost use Rattle.lpm_rules.specs.Listed.{rules_of};
+ghost use Rattle.lpm_rules.specs.Listed.{AreInOrder, rules_of};
 ghost use Rattle.lpm_commands.specs.Loading.{rules_of_routes};
 ghost use Rattle.lpm_commands.specs.Filled.{rule_of};
 
@@ -15,7 +15,8 @@ use std::alloc::{AllocError, Global};
 /// At most `lpm_sweep::MOST_SORTED` routes.
 pub fn rules_in_order(alloc: Global, routes: &[Route]) -> Result<Vec<Rule<24, 8>>, AllocError>
     requires { length routes.now ≤ 2 ^ 26 }
-    ensures { IfOk result (λ v. rules_of v.items ≡ rules_of_routes routes.now) }
+    ensures ordered { IfOk result (λ v. AreInOrder v.items) }
+    ensures same { IfOk result (λ v. rules_of v.items ≡ rules_of_routes routes.now) }
 {
     let rules = rules_of_routes(alloc, routes)?;
     in_order(alloc, &rules)

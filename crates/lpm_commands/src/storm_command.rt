@@ -12,7 +12,7 @@ use crate::updating::command_of;
 use audit::storm_text;
 use bulk::Gate;
 use fib_model::Command;
-use lpm_files::{Addresses, Failure, Files, Routes, Updates, put_text, read_list};
+use lpm_files::{Addresses, Failure, Files, Updates, put_text, read_list, read_routes_on};
 use qsbr::{Config, Refusal};
 use route_text::{Order, Route};
 use std::alloc::{AllocError, Global};
@@ -90,7 +90,7 @@ fn whole_text<'a, R: Threads + Wait + Sync, F: Files, G: Gate>(
         routes.entry.now updates.entry.now addresses.entry.now (F.bytes files.now)) }
     ensures unwritten { IfErr result (λ e. e ≢ Failure.CannotWrite) }
 {
-    let list = read_list::<Routes, F>(alloc, files, routes)?;
+    let list = read_routes_on(rt, alloc, files, routes, config.workers)?;
     let orders = read_list::<Updates, F>(alloc, files, updates)?;
     let addrs = read_list::<Addresses, F>(alloc, files, addresses)?;
     text_over(

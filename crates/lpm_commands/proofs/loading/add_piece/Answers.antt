@@ -7,5 +7,5 @@ use Rattle.lpm_commands.proofs.loading.add_piece.Goals as goal
 
 pub returns-clause-rules : goal.returns-clause-rules
 returns-clause-rules c =
-    let same = ap (λ (l : List (Rule 24 8)). rules_of l) c.deref.ensures.value ∙ c.in-Ok.ensures in
+    let same = ap (λ (l : List (Rule 24 8)). rules_of l) c.deref.ensures.value ∙ c.in-Ok.ensures.same in
     IfOk-weaker c.add_last.result _ _ (λ x put. put ∙ over_routes c.args.table.now.table.rules c.deref.result.now c.args.routes.now same) c.add_last.ensures.rules

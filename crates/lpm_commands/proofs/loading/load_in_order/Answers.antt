@@ -1,17 +1,25 @@
-use Rattle.std.proofs.Common.{ap, sym, subst, map}
+use Rattle.std.proofs.Common.{◌∙◌, ap, sym, List, ◌++◌, map, take}
+use Rattle.std.proofs.lemmas.List.{take-append-drop}
+use Rattle.std.specs.FinMap.{empty}
+use Rattle.lpm_rules.specs.RuleMap.{RuleMap}
 use Rattle.lpm_rules.specs.Changes.{rules_after}
-use Rattle.fib.specs.Fib.{FibState}
-use Rattle.lpm_commands.specs.Loading.{addition_of}
-use Rattle.lpm_commands.specs.Filled.{IsFilled}
-use Rattle.lpm_commands.proofs.Filled.{filled_first}
+use Rattle.route_text.specs.declared.routes.Route.{Route}
+use Rattle.lpm_commands.specs.Loading.{addition_of, rules_of_routes}
+use Rattle.lpm_commands.proofs.Sorted.{rules_after-append}
 use Rattle.lpm_commands.proofs.loading.load_in_order.Goals as goal
 
 pub loop-rest-init : goal.loop-rest-init
 loop-rest-init c =
-    let is = c.in-Ok.ensures.opened in
-    let table = ap (λ (f : FibState). f.table) is in
+    let routes = c.args.routes.now in
+    let n = c.min.result in
+    let first = c.split_at.result.0.now in
+    let later = c.split_at.result.1.now in
+    let is = c.in-Some.ensures in
     record {
-      config = ap (λ (f : FibState). f.config) is;
-      filled = subst (IsFilled c.args.config) (sym table) (filled_first c.args.config);
-      rest = ap (λ (f : FibState). rules_after f.table.rules (map addition_of c.args.routes.now)) is;
+      config = is.config;
+      filled = is.filled;
+      rest = ap (λ (R : RuleMap). rules_after R (map addition_of later)) is.rules
+          ∙ (sym (rules_after-append empty first later)
+          ∙ ap rules_of_routes (ap (λ (l : List Route). l ++ later) c.split_at.ensures.front
+          ∙ (ap (λ (l : List Route). take n routes ++ l) c.split_at.ensures.back ∙ take-append-drop n routes)));
     }

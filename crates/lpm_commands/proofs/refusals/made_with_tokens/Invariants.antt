@@ -2,7 +2,8 @@ use Rattle.std.proofs.Common.{◌≡◌, ◌≤◌, take}
 use Rattle.std.specs.FinMap.{len}
 use Rattle.fib_model.specs.Outcomes.{groups_in_use}
 use Rattle.lpm_commands.specs.Loading.{rules_of_routes}
-use Rattle.lpm_commands.proofs.refusals.first_without_room.Given as goal
+use Rattle.lpm_commands.proofs.Filled.{changes_of}
+use Rattle.lpm_commands.proofs.refusals.made_with_tokens.Given as goal
 
 abbrev pub invariant-loop-index : goal.invariant-loop-index
 invariant-loop-index l = record {
@@ -11,4 +12,6 @@ invariant-loop-index l = record {
   most : len l.rules.rules ≤ l.rules.max;
   in_use : l.in_use ≡ groups_in_use 24 8 l.rules.rules;
   few : l.in_use ≤ l.config.groups;
+  count : l.versions ≤ l.index;
+  versions : l.versions ≡ changes_of (take l.index l.routes);
 }

@@ -1,6 +1,6 @@
 use Rattle.std.proofs.Common.{◌≡◌, take}
 use Rattle.lpm_commands.specs.Loading.{IsLoaded}
-use Rattle.lpm_commands.proofs.loading.add_all.Given as goal
+use Rattle.lpm_commands.proofs.loading.add_from.Given as goal
 
 abbrev pub invariant-loop-index : goal.invariant-loop-index
 invariant-loop-index l = record {

@@ -5,10 +5,10 @@ use Rattle.route_text.specs.declared.routes.Route.{Route}
 use Rattle.lpm_commands.specs.Loading.{IsFirstRefused}
 use Rattle.lpm_commands.proofs.Loaded.{refused_ends}
 use Rattle.lpm_commands.proofs.Filled.{exhausted_first}
-use Rattle.lpm_commands.proofs.refusals.first_refusal.Goals as goal
+use Rattle.lpm_commands.proofs.refusals.made_of.Goals as goal
 
-pub returns : goal.returns
-returns c =
+pub returns-clause-failure : goal.returns-clause-failure
+returns-clause-failure c =
     let some : 0 < length c.args.routes.now = grind (arith, common_steps) in
     let more : 2 ^ 62 < c.args.config.first_token + c.args.config.groups = omega arith in
     refused_ends _ _ _ _ _ _ c.refused.ensures.memory c.refused.ensures.other (λ reason. (

@@ -3,7 +3,7 @@ use Rattle.lpm_limits.specs.declared.config.Config.{Config}
 use Rattle.fib_model.specs.Outcomes.{Adds}
 use Rattle.fib_model.specs.Counting.{counting}
 use Rattle.lpm_commands.proofs.Loaded.{take_read, loaded_more, first_refused, refused_ends}
-use Rattle.lpm_commands.proofs.loading.add_all.Goals as goal
+use Rattle.lpm_commands.proofs.loading.add_from.Goals as goal
 
 pub loop-index-preserved : goal.loop-index-preserved
 loop-index-preserved c =
