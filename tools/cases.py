@@ -107,7 +107,7 @@ def cut(kind, words, files, name, text, ends):
 
 
 def repeated_cases():
-    """Lookups by files that repeat prefixes of many addresses. To store the words of each line would take minutes."""
+    """Runs over files that repeat prefixes of many addresses. To store the words of each line would take minutes."""
     same = "".join(f"0.0.0.0/0 {hop}\n" for hop in range(1, 3_001))
     yield answered("one-prefix-repeated", same, "0.0.0.0 10.1.2.3", "3000 3000", refusing=False)
     yield case("one-prefix-repeated-too-many", "lookup --rules 1 r a", {"r": f"{same}10.0.0.0/8 1\n", "a": ""}, 6,
@@ -118,6 +118,14 @@ def repeated_cases():
                err="lpmtool: r:3004: refused 7 NoGroups\n", refusing=False)
     turns = "".join(f"0.0.0.0/{0 if hop % 2 else 8} {hop}\n" for hop in range(1, 3_001))
     yield answered("two-prefixes-in-turn", turns, "0.1.2.3 1.0.0.0", "3000 2999", refusing=False)
+    # Each line has another hop, and so makes a version.
+    yield reported("one-prefix-repeated-report", "", "", (1, 3000, 0, 0, 256, 1), routes=same, refusing=False)
+    yield reported("two-prefixes-in-turn-report", "", "", (2, 3000, 0, 0, 256, 1), routes=turns, refusing=False)
+    yield applied("one-prefix-repeated-apply", "", "add 10.0.0.0/8 5\n", "added\n10.1.2.3 5\n11.0.0.0 3000\n",
+                  routes=same, addresses="10.1.2.3\n11.0.0.0\n", refusing=False)
+    yield case("one-prefix-repeated-report-too-many", "report --rules 1 r u",
+               {"r": f"{same}10.0.0.0/8 1\n", "u": UPDATES}, 6, err="lpmtool: r:3001: refused 3 TooManyRules\n",
+               refusing=False)
 
 
 def large_cases():
@@ -144,6 +152,11 @@ def large_cases():
     old, new = map(large.text, zip(*large.migrated()))
     yield migrated("large-migrate", old, UPDATES + new, refusing=False)
     yield fault("large-route-fault", f"{routes}x\n", f"{large.ROUTES + 1}: bad fields", refusing=False)
+    for first in (1, 40_000, large.ROUTES):
+        bad = routes.split("\n")
+        bad[first - 1], bad[large.ROUTES - 1] = "10.0.0.0/33 1", "x"
+        yield case(f"large-route-faults-{first}", "lookup --workers 3 r a", {"r": "\n".join(bad), "a": ""}, 4,
+                   err=f"lpmtool: r:{first}: bad {'fields' if first == large.ROUTES else 'length'}\n", refusing=False)
     # Each worker reads a piece of the file. The first fault wins, by its line in the whole file.
     for workers in (1, 3):
         yield case(f"large-address-fault-{workers}", f"lookup --workers {workers} r a", {"r": "", "a": f"{addresses}x\n"}, 4,
@@ -165,6 +178,11 @@ def large_cases():
     few = "".join(f"10.{number >> 8}.{number & 255}.255\n" for number in range(11_000))
     yield case("two-pieces-of-a-file", "lookup --workers 2 r a", {"r": "10.0.0.0/8 7\n", "a": few},
                out=few.replace("\n", " 7\n"))
+    # Routes of two pieces, the last one of each prefix in the second.
+    hops = {number % 16: number % 7 + 1 for number in range(300)}
+    alike = "".join(f"10.{number % 16}.0.0/16{' ' * 500}{number % 7 + 1}\n" for number in range(300))
+    yield case("two-pieces-of-routes", "lookup --workers 2 r a", {"r": alike, "a": "10.0.1.2\n10.8.0.0\n10.16.0.0\n"},
+               out=f"10.0.1.2 {hops[0]}\n10.8.0.0 {hops[8]}\n10.16.0.0 -\n")
     yield update_fault("large-update-fault", f"{UPDATES}{updates}x\n", f"{large.UPDATES + 2}: bad word", refusing=False)
     yield case("large-rules-load", f"report --rules {large.ROUTES - 1} --groups {large.GROUPS} r u",
                {"r": routes, "u": UPDATES}, 6, err=f"lpmtool: r:{large.ROUTES}: refused 3 TooManyRules\n",
