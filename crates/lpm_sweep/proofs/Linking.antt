@@ -1,6 +1,7 @@
 -- A new group behind the others, and the link to it.
 use Rattle.std.proofs.Common.{arith, ◌≡◌, ℕ, ◌+◌, ◌*◌, ◌/◌, ◌%◌, ◌^◌, ◌<◌, ◌≤◌, ◌⊎◌, inl, inr, refl, ap, sym, ◌∙◌, subst, List, [], ◌∷◌, ◌++◌, length, Some, get_or}
-use Rattle.std.specs.Prelude.{slice_index, slice_get, IsSome}
+use Rattle.std.specs.Prelude.{slice_index, slice_get, IsSome, max}
+use Rattle.std.proofs.lemmas.Grind.{same_number_lists}
 use Rattle.std.proofs.lemmas.Bool.{cases_lt}
 use Rattle.std.proofs.lemmas.Nat.{pow_pos, pow-add, shr_split, shr_high, mod_below}
 use Rattle.std.proofs.lemmas.List.{get_or_append_left}
@@ -16,12 +17,25 @@ use Rattle.lpm_update.specs.Best.{IsBest}
 use Rattle.lpm_update.specs.Linked.{IsLinkTo, group_at}
 use Rattle.lpm_update.proofs.Places.{word_entry, first_of_group}
 use Rattle.lpm_sweep.proofs.Room.{room_more, followed_kept}
+use Rattle.lpm_sweep.specs.Frames.{Fills}
 use Rattle.lpm_sweep.specs.Swept.{IsSwept, AreNumbered}
 use Rattle.lpm_sweep.specs.Filled.{IsFilling}
 
 pub last_length : (F : List ℕ) (x : ℕ) → length (F ++ x ∷ []) ≡ length F + 1
 last_length [] x = refl
 last_length (y ∷ F) x = let z = last_length F x in omega (arith, z)
+
+-- one word is put last
+pub put_last : (F G : List ℕ) (x n : ℕ) → length F ≡ n → length G ≡ max (length F) (n + 1) → Fills F G (λ _. x) → G ≡ F ++ x ∷ []
+put_last F G x n at long fills =
+    let size = last_length F x in
+    same_number_lists G (F ++ x ∷ []) (omega (arith, long, at, size))
+    (λ k h. elim (cases_lt k (length F)) [
+      | inl low ↦ fills.kept k low ∙ sym (get_or_append_left F (x ∷ []) 0 k low)
+      | inr high ↦
+          let last : length F ≡ k = omega (arith, high, h, long, at) in
+          fills.filled k high h ∙ sym (ap (slice_index (F ++ x ∷ [])) (sym last) ∙ get_or-append_seam F x [] 0)
+    ])
 
 no_room : (s n : ℕ) (S : List ℕ) → length S ≡ n * 2 ^ s → IsFirst s S (Group n) → ⊥
 no_room s n S whole h = let pos = pow_pos s in absurd (omega (arith, whole, h, pos))

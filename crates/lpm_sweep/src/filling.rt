@@ -12,6 +12,7 @@ ghost use Rattle.lpm_rules.specs.Listed.{AreInOrder, AllUpTo, place, prefix_at, 
 ghost use Rattle.lpm_sweep.specs.Filled.{IsFilling};
 
 use crate::frames::{Frame, Frames};
+use crate::word_list::WordList;
 use lpm_bits::Shape;
 use lpm_entry::Entry;
 use lpm_rules::Rule;
@@ -32,25 +33,25 @@ pub(crate) fn word_of_rule<const FIRST: u32, const SECOND: u32>(rule: &Rule<FIRS
 
 /// Puts the words of the group before the first address of the rule, which lies in the group's
 /// block and is longer than `FIRST` bits, and the rule over those that follow.
-fn put_deep<const FIRST: u32, const SECOND: u32>(
+fn put_deep<const FIRST: u32, const SECOND: u32, W: WordList>(
     rule: &Rule<FIRST, SECOND>,
     base: usize,
     frames: &mut Frames,
-    words: &mut Vec<u32>,
+    words: &mut W,
 ) -> Result<(), AllocError>
     requires shape { IsShape FIRST SECOND }
     requires small { base ≤ 2 ^ 60 }
     requires deep { FIRST < rule.now.prefix.len }
-    requires within { length words.old.items ≤ base + rule.now.prefix.bits % 2 ^ SECOND }
-    ensures len { OnOk result (length words.new.items
+    requires within { length (W.items words.old) ≤ base + rule.now.prefix.bits % 2 ^ SECOND }
+    ensures len { OnOk result (length (W.items words.new)
         ≡ base + rule.now.prefix.bits % 2 ^ SECOND) }
-    ensures kept { OnOk result ((k : ℕ) → k < length words.old.items
-        → slice_index words.new.items k ≡ slice_index words.old.items k) }
+    ensures kept { OnOk result ((k : ℕ) → k < length (W.items words.old)
+        → slice_index (W.items words.new) k ≡ slice_index (W.items words.old) k) }
     ensures fills { OnOk result ((R0 R : RuleMap) → AllUpTo R (place rule.now.prefix)
         → IsFilling FIRST SECOND (rule.now.prefix.bits / 2 ^ SECOND) base R0 R
-        words.old.items (held frames.old)
+        (W.items words.old) (held frames.old)
         → IsFilling FIRST SECOND (rule.now.prefix.bits / 2 ^ SECOND) base R0
-        (map.insert R rule.now.prefix rule.now.hop) words.new.items (held frames.new)) }
+        (map.insert R rule.now.prefix rule.now.hop) (W.items words.new) (held frames.new)) }
 {
     let bits = rule.prefix.bits();
     let len = rule.prefix.len();
@@ -64,39 +65,40 @@ fn put_deep<const FIRST: u32, const SECOND: u32>(
 
 /// Puts the words of a new group last, for the rules of a block from `from` on, which are longer
 /// than `FIRST` bits, and returns where the rules of later blocks begin.
-pub(crate) fn fill_group<const FIRST: u32, const SECOND: u32>(
+pub(crate) fn fill_group<const FIRST: u32, const SECOND: u32, W: WordList>(
     rules: &[Rule<FIRST, SECOND>],
     from: usize,
     block: usize,
     frames: &mut Frames,
-    words: &mut Vec<u32>,
+    words: &mut W,
 ) -> Result<usize, AllocError>
     requires shape { IsShape FIRST SECOND }
-    requires small { length words.old.items ≤ 2 ^ 59 }
+    requires small { length (W.items words.old) ≤ 2 ^ 59 }
     requires from { from < length rules.now }
     requires sorted { AreInOrder rules.now }
     requires deep { FIRST < (prefix_at rules.now from).len }
     requires block { (prefix_at rules.now from).bits / 2 ^ SECOND ≡ block }
     requires before { AllUpTo (rules_of (take from rules.now)) (place (prefix_at rules.now from)) }
-    requires starts { IsFilling FIRST SECOND block (length words.old.items)
+    requires starts { IsFilling FIRST SECOND block (length (W.items words.old))
         (rules_of (take from rules.now)) (rules_of (take from rules.now))
-        words.old.items (held frames.old) }
+        (W.items words.old) (held frames.old) }
     ensures onward { IfOk result (λ next. from < next) }
     ensures within { IfOk result (λ next. next ≤ length rules.now) }
-    ensures len { OnOk result (length words.new.items ≡ length words.old.items + 2 ^ SECOND) }
-    ensures kept { OnOk result ((k : ℕ) → k < length words.old.items
-        → slice_index words.new.items k ≡ slice_index words.old.items k) }
+    ensures len { OnOk result (length (W.items words.new)
+        ≡ length (W.items words.old) + 2 ^ SECOND) }
+    ensures kept { OnOk result ((k : ℕ) → k < length (W.items words.old)
+        → slice_index (W.items words.new) k ≡ slice_index (W.items words.old) k) }
     ensures later { IfOk result (λ next. (k : ℕ) → next ≤ k → k < length rules.now
         → (block + 1) * 2 ^ SECOND * 64 ≤ place (prefix_at rules.now k)) }
     ensures before { IfOk result (λ next. (k : ℕ) → next ≤ k → k < length rules.now
         → AllUpTo (rules_of (take next rules.now)) (place (prefix_at rules.now k))) }
-    ensures filled { IfOk result (λ next. IsFilling FIRST SECOND block (length words.old.items)
+    ensures filled { IfOk result (λ next. IsFilling FIRST SECOND block (length (W.items words.old))
         (rules_of (take from rules.now)) (rules_of (take next rules.now))
-        words.new.items (held frames.new)) }
+        (W.items words.new) (held frames.new)) }
     ensures deep { IfOk result (λ next.
         IsDeepBlock FIRST SECOND (rules_of (take next rules.now)) block) }
 {
-    let base = words.len();
+    let base = words.count();
     let mut next = from;
     while next < rules.len() {
         let rule = &rules[next];

@@ -1,8 +1,9 @@
 //! The words of the rules that cover a place, and the lists of words that they fill.
 
-ghost use Rattle.std.specs.Prelude.{◌≡◌, ℕ, ◌<◌, ◌≤◌, [], length, max, OnOk};
+ghost use Rattle.std.specs.Prelude.{◌≡◌, ℕ, ◌<◌, ◌≤◌, length, OnOk};
 ghost use Rattle.lpm_sweep.specs.Frames.{Fills, Agrees, Covers, held, rank};
 
+use crate::word_list::WordList;
 use std::alloc::{AllocError, Global};
 
 /// A word for the places of a list before an end: that of a rule, whose addresses end there.
@@ -19,18 +20,6 @@ pub(crate) struct Frames {
     pub(crate) top: Frame,
     pub(crate) below: Vec<Frame>,
     pub(crate) rest: u32,
-}
-
-/// Puts a word last until the list has so many.
-#[inline]
-fn fill(words: &mut Vec<u32>, to: usize, word: u32) -> Result<(), AllocError>
-    ensures fills { OnOk result (Fills words.old.items words.new.items (λ _. word)) }
-    ensures len { OnOk result (length words.new.items ≡ max (length words.old.items) to) }
-{
-    if words.len() < to {
-        words.resize(to, word)?;
-    }
-    Ok(())
 }
 
 impl Frames {
@@ -87,18 +76,23 @@ impl Frames {
     }
 
     /// Puts the words of the places before `to` last, and takes off the frames that end by then.
-    pub(crate) fn advance(&mut self, words: &mut Vec<u32>, to: usize) -> Result<(), AllocError>
-        requires within { length words.old.items ≤ to }
+    pub(crate) fn advance<W: WordList>(
+        &mut self,
+        words: &mut W,
+        to: usize,
+    ) -> Result<(), AllocError>
+        requires within { length (W.items words.old) ≤ to }
         requires small { to < usize.MAX }
-        ensures len { OnOk result (length words.new.items ≡ to) }
-        ensures fills { OnOk result (Fills words.old.items words.new.items (held self.old)) }
+        ensures len { OnOk result (length (W.items words.new) ≡ to) }
+        ensures fills { OnOk result (Fills (W.items words.old) (W.items words.new)
+            (held self.old)) }
         ensures frames { OnOk result (Agrees self.old self.new to) }
         ensures top { OnOk result (to < self.new.top.end) }
     {
         while self.top.end <= to {
-            fill(words, self.top.end, self.top.word)?;
+            words.fill(self.top.end, self.top.word)?;
             self.pop();
         }
-        fill(words, to, self.top.word)
+        words.fill(to, self.top.word)
     }
 }

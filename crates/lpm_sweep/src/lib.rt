@@ -4,6 +4,7 @@
 //! at Memory Access Speeds", INFOCOM 1998, section 3). [`sweep`] goes once, upwards, over rules
 //! that are in the order of their prefixes, and puts each word last in its list. So each word is
 //! stored once, where adding the rules one by one stores a word again for each rule that covers it.
+//! [`sweep_into`] puts the words into lists of the caller's, whatever keeps them ([`WordList`]).
 //!
 //! [`in_order`] brings rules into that order, and [`are_in_order`] says whether they are. Nothing
 //! here changes a table that is in use.
@@ -14,6 +15,8 @@ mod frames;
 pub mod laws;
 mod ordering;
 mod sweeping;
+mod word_list;
 
 pub use ordering::{MOST_SORTED, are_in_order, in_order};
-pub use sweeping::{Swept, sweep};
+pub use sweeping::{Swept, sweep, sweep_into};
+pub use word_list::WordList;

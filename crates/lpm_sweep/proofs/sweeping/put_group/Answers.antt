@@ -10,12 +10,13 @@ use Rattle.lpm_sweep.specs.Swept.{IsSwept, AreNumbered}
 use Rattle.lpm_sweep.proofs.Stacks.{under_end}
 use Rattle.lpm_rules.proofs.Listed.{prefix_read}
 use Rattle.lpm_sweep.proofs.Sweeps.{swept_on, numbered_on}
-use Rattle.lpm_sweep.proofs.Linking.{starts, last_length, swept_group, numbered_group}
+use Rattle.lpm_sweep.proofs.Linking.{starts, put_last, last_length, swept_group, numbered_group}
 use Rattle.lpm_sweep.proofs.DeepBlocks.{one_block_more}
 use Rattle.lpm_sweep.proofs.sweeping.put_group.Goals as goal
 
 pub fill_group-requires : goal.fill_group-requires
 fill_group-requires g c =
+    let items = g.W.WordList.items in
     let f = g.row.FIRST in
     let s = g.row.SECOND in
     let n = length c.args.blocks.now.items in
@@ -33,8 +34,8 @@ fill_group-requires g c =
     let size = mul-le n (2 ^ s) 65536 (2 ^ 32) (omega (arith, few)) (omega (arith, narrow)) in
     let top = c.advance.new.self.top in
     let over : held c.advance.new.self b ≡ top.word = under_end top b (word_at c.advance.new.self.rest c.advance.new.self.below.items b) c.in_ok-advance.ensures.top in
-    let long : length c.advance.new.words.items ≡ b = c.in_ok-advance.ensures.len in
-    let swept = swept_on f s n (rules_of (take c.args.from rs)) c.args.firsts.now.items c.advance.new.words.items c.args.seconds.now.items (held c.args.outer.now) (held c.advance.new.self)
+    let long : length (items c.advance.new.words) ≡ b = c.in_ok-advance.ensures.len in
+    let swept = swept_on f s n (rules_of (take c.args.from rs)) (items c.args.firsts.now) (items c.advance.new.words) (items c.args.seconds.now) (held c.args.outer.now) (held c.advance.new.self)
     (omega (arith, long, low))
     c.in_ok-advance.ensures.fills
     (λ k l. c.in_ok-advance.ensures.frames k (omega (arith, l, long)))
@@ -54,7 +55,7 @@ fill_group-requires g c =
                   block,
                   (
                     c.requires.before,
-                    starts f s n b (rules_of (take c.args.from rs)) c.advance.new.words.items c.args.seconds.now.items (held c.advance.new.self) (held c.reset.new.self) low long (λ k. c.reset.ensures k ∙ sym over) swept,
+                    starts f s n b (rules_of (take c.args.from rs)) (items c.advance.new.words) (items c.args.seconds.now) (held c.advance.new.self) (held c.reset.new.self) low long (λ k. c.reset.ensures k ∙ sym over) swept,
                   ),
                 ),
               ),
@@ -66,6 +67,7 @@ fill_group-requires g c =
 
 pub returns-clause-swept : goal.returns-clause-swept
 returns-clause-swept g c =
+    let items = g.W.WordList.items in
     let f = g.row.FIRST in
     let s = g.row.SECOND in
     let n = length c.args.blocks.now.items in
@@ -73,20 +75,21 @@ returns-clause-swept g c =
     let b = c.first_index-block.result in
     let low : b < 2 ^ f = c.first_index-block.ensures.bound in
     let few = c.requires.few in
-    let long : length c.advance.new.words.items ≡ b = c.in_ok-advance.ensures.len in
+    let long : length (items c.advance.new.words) ≡ b = c.in_ok-advance.ensures.len in
     let R = rules_of (take c.args.from rs) in
     let Q = rules_of (take c.in_ok-next.next rs) in
-    let swept = swept_on f s n R c.args.firsts.now.items c.advance.new.words.items c.args.seconds.now.items (held c.args.outer.now) (held c.advance.new.self)
+    let swept = swept_on f s n R (items c.args.firsts.now) (items c.advance.new.words) (items c.args.seconds.now) (held c.args.outer.now) (held c.advance.new.self)
     (omega (arith, long, low))
     c.in_ok-advance.ensures.fills
     (λ k l. c.in_ok-advance.ensures.frames k (omega (arith, l, long)))
     c.requires.swept in
+    let put : items c.fill.new.self ≡ items c.advance.new.words ++ c.to_word-link.result ∷ [] = put_last (items c.advance.new.words) (items c.fill.new.self) c.to_word-link.result b long c.in_ok-fill.ensures.len c.in_ok-fill.ensures.fills in
     let used : c.len.result ≡ n = grind (arith, common_steps) in
     let word : c.to_word-link.result ≡ word_of (Group n) = c.to_word-link.ensures.value ∙ ap (λ x. word_of (Group x)) used in
-    let count : length c.push-2.new.self.items ≡ n + 1 = ap {B = ℕ} (λ l. length l) c.in_ok-push-2.ensures.items ∙ last_length c.args.blocks.now.items b in
-    subst (λ m. IsSwept f s m Q (record { firsts = c.push.new.self.items; seconds = c.fill_group.new.words.items }) (held c.advance.new.self)) (sym count)
-    (subst (λ (F : List ℕ). IsSwept f s (n + 1) Q (record { firsts = F; seconds = c.fill_group.new.words.items }) (held c.advance.new.self)) (sym c.in_ok-push.ensures.items)
-    (swept_group f s n b R Q c.advance.new.words.items c.args.seconds.now.items c.fill_group.new.words.items (held c.advance.new.self) (held c.fill_group.new.frames) c.to_word-link.result
+    let count : length c.push.new.self.items ≡ n + 1 = ap {B = ℕ} (λ l. length l) c.in_ok-push.ensures.items ∙ last_length c.args.blocks.now.items b in
+    subst (λ m. IsSwept f s m Q (record { firsts = items c.fill.new.self; seconds = items c.fill_group.new.words }) (held c.advance.new.self)) (sym count)
+    (subst (λ (F : List ℕ). IsSwept f s (n + 1) Q (record { firsts = F; seconds = items c.fill_group.new.words }) (held c.advance.new.self)) (sym put)
+    (swept_group f s n b R Q (items c.advance.new.words) (items c.args.seconds.now) (items c.fill_group.new.words) (held c.advance.new.self) (held c.fill_group.new.frames) c.to_word-link.result
     low long (omega (arith, few)) word c.in_ok-next.ensures.len c.in_ok-next.ensures.kept c.in_ok-next.ensures.filled c.in_ok-next.ensures.deep swept))
 
 pub returns-clause-deep : goal.returns-clause-deep
@@ -103,6 +106,7 @@ returns-clause-deep g c =
 
 pub returns-clause-numbered : goal.returns-clause-numbered
 returns-clause-numbered g c =
+    let items = g.W.WordList.items in
     let f = g.row.FIRST in
     let s = g.row.SECOND in
     let n = length c.args.blocks.now.items in
@@ -110,16 +114,17 @@ returns-clause-numbered g c =
     let b = c.first_index-block.result in
     let low : b < 2 ^ f = c.first_index-block.ensures.bound in
     let few = c.requires.few in
-    let long : length c.advance.new.words.items ≡ b = c.in_ok-advance.ensures.len in
+    let long : length (items c.advance.new.words) ≡ b = c.in_ok-advance.ensures.len in
+    let put : items c.fill.new.self ≡ items c.advance.new.words ++ c.to_word-link.result ∷ [] = put_last (items c.advance.new.words) (items c.fill.new.self) c.to_word-link.result b long c.in_ok-fill.ensures.len c.in_ok-fill.ensures.fills in
     let used : c.len.result ≡ n = grind (arith, common_steps) in
     let word : c.to_word-link.result ≡ word_of (Group n) = c.to_word-link.ensures.value ∙ ap (λ x. word_of (Group x)) used in
     let small : n < 2 ^ 24 = omega (arith, few) in
-    let F = c.advance.new.words.items in
+    let F = items c.advance.new.words in
     let B = c.args.blocks.now.items in
-    subst (λ (x : List ℕ). AreNumbered x c.push-2.new.self.items) (sym c.in_ok-push.ensures.items)
-    (subst (λ (x : List ℕ). AreNumbered (F ++ c.to_word-link.result ∷ []) x) (sym c.in_ok-push-2.ensures.items)
+    subst (λ (x : List ℕ). AreNumbered x c.push.new.self.items) (sym put)
+    (subst (λ (x : List ℕ). AreNumbered (F ++ c.to_word-link.result ∷ []) x) (sym c.in_ok-push.ensures.items)
     (numbered_group f b n c.to_word-link.result F B long refl (word_entry (f + s) c.to_word-link.result (Group n) small word)
-    (numbered_on f s n (rules_of (take c.args.from rs)) c.args.firsts.now.items F c.args.seconds.now.items (held c.args.outer.now) (held c.advance.new.self)
+    (numbered_on f s n (rules_of (take c.args.from rs)) (items c.args.firsts.now) F (items c.args.seconds.now) (held c.args.outer.now) (held c.advance.new.self)
     (omega (arith, long, low))
     c.in_ok-advance.ensures.fills
     (λ k l. c.in_ok-advance.ensures.frames k (omega (arith, l, long)))

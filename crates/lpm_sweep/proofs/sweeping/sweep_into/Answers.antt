@@ -19,13 +19,14 @@ use Rattle.lpm_rules.proofs.Listed.{up_to_insert, up_to_more, prefix_read, rules
 use Rattle.lpm_sweep.proofs.Sweeps.{swept_on, numbered_on}
 use Rattle.lpm_sweep.proofs.Wholes.{swept_none, numbered_none, swept_all}
 use Rattle.lpm_sweep.proofs.DeepBlocks.{more_blocks}
-use Rattle.lpm_sweep.proofs.sweeping.sweep.Goals as goal
+use Rattle.lpm_sweep.proofs.sweeping.sweep_into.Goals as goal
 
 pub loop-next-init : goal.loop-next-init
 loop-next-init g c =
+    let items = g.W.WordList.items in
     let f = g.row.FIRST in
     let s = g.row.SECOND in
-    let none : c.in_ok-firsts.firsts.items ≡ [] = c.in_ok-firsts.ensures.items in
+    let none : items c.args.firsts.now ≡ [] = c.requires.no_firsts in
     let zero_words = ap {B = ℕ} (λ l. length l) none in
     record {
       within = omega arith;
@@ -34,14 +35,15 @@ loop-next-init g c =
       numbered = subst (λ (F : List ℕ). AreNumbered F c.new-blocks.result.items) (sym none) (subst (λ (B : List ℕ). AreNumbered [] B) (sym c.new-blocks.ensures.items) numbered_none);
       reached = λ k l h. subst (λ (F : List ℕ). length F * 2 ^ s * 64 ≤ place (prefix_at c.args.rules.now k)) (sym none) (omega arith);
       before = λ k l h q some. absurd (not_some (get-empty network_cmp q) some);
-      swept = subst (λ m. IsSwept f s m empty (record { firsts = c.in_ok-firsts.firsts.items; seconds = c.new-seconds.result.items }) (held c.new-outer.result)) (sym (ap {B = ℕ} (λ l. length l) c.new-blocks.ensures.items))
-          (subst (λ (F : List ℕ). IsSwept f s 0 empty (record { firsts = F; seconds = c.new-seconds.result.items }) (held c.new-outer.result)) (sym none)
-          (subst (λ (S : List ℕ). IsSwept f s 0 empty (record { firsts = []; seconds = S }) (held c.new-outer.result)) (sym c.new-seconds.ensures.items)
+      swept = subst (λ m. IsSwept f s m empty (record { firsts = items c.args.firsts.now; seconds = items c.args.seconds.now }) (held c.new-outer.result)) (sym (ap {B = ℕ} (λ l. length l) c.new-blocks.ensures.items))
+          (subst (λ (F : List ℕ). IsSwept f s 0 empty (record { firsts = F; seconds = items c.args.seconds.now }) (held c.new-outer.result)) (sym none)
+          (subst (λ (S : List ℕ). IsSwept f s 0 empty (record { firsts = []; seconds = S }) (held c.new-outer.result)) (sym c.requires.no_seconds)
           (swept_none f s (held c.new-outer.result) (λ k. c.new-outer.ensures k ∙ c.to_word-miss.ensures.value))));
     }
 
 pub put_short-requires : goal.put_short-requires
 put_short-requires g c =
+    let items = g.W.WordList.items in
     let f = g.row.FIRST in
     let s = g.row.SECOND in
     let rs = c.args.rules.now in
@@ -49,7 +51,7 @@ put_short-requires g c =
     let inv = c.loop-next.invariant in
     let p = c.index-rules-next.result.prefix in
     let read : prefix_at rs n ≡ p = prefix_read rs n c.index-rules-next.result c.loop-next-test.true c.index-rules-next.is in
-    let F = c.loop-next.firsts.items in
+    let F = items c.loop-next.firsts in
     let reach : length F * 2 ^ s * 64 ≤ place p = subst (λ q. length F * 2 ^ s * 64 ≤ place q) read (inv.reached n (omega arith) c.loop-next-test.true) in
     let short = c.bits-bits.ensures.network.0 in
     let fits = c.requires.shape.2 in
@@ -58,6 +60,7 @@ put_short-requires g c =
 
 pub loop-next-preserved-then-len : goal.loop-next-preserved-then-len
 loop-next-preserved-then-len g c =
+    let items = g.W.WordList.items in
     let f = g.row.FIRST in
     let s = g.row.SECOND in
     let rs = c.args.rules.now in
@@ -71,21 +74,22 @@ loop-next-preserved-then-len g c =
     let R = rules_of (take n rs) in
     let before : AllUpTo R (place p) = subst (λ q. AllUpTo R (place q)) read (inv.before n (omega arith) c.loop-next-test.true) in
     let test = c.loop-next-test.true in
-    let low : length c.put_short.new.words.items * 2 ^ s ≤ p.bits = subst (λ x. x * 2 ^ s ≤ p.bits) (sym c.in_ok-put_short.ensures.len) (block_low s p.bits) in
+    let low : length (items c.put_short.new.words) * 2 ^ s ≤ p.bits = subst (λ x. x * 2 ^ s ≤ p.bits) (sym c.in_ok-put_short.ensures.len) (block_low s p.bits) in
     record {
       within = omega (arith, test);
       few = inv.few;
       count = inv.count ∙ sym (ap (λ (x : RuleMap). set.len (deep_blocks f s x)) more ∙ ap set.len (deep_blocks_insert_short f s R p r.hop (subst (λ x. x ≤ f) c.len.ensures.value c.if-len.true)));
-      numbered = c.in_ok-put_short.ensures.numbered (length c.loop-next.blocks.items) R c.loop-next.seconds.items c.loop-next.blocks.items inv.swept inv.numbered;
+      numbered = c.in_ok-put_short.ensures.numbered (length c.loop-next.blocks.items) R (items c.loop-next.seconds) c.loop-next.blocks.items inv.swept inv.numbered;
       reached = λ k l h. let z = next k l h in omega (arith, z, low);
       before = λ k l h. subst (λ (x : RuleMap). AllUpTo x (place (prefix_at rs k))) (sym more)
           (up_to_more (insert R p r.hop) (place p) (place (prefix_at rs k)) (next k l h) (up_to_insert R p r.hop before));
-      swept = subst (λ (x : RuleMap). IsSwept f s (length c.loop-next.blocks.items) x (record { firsts = c.put_short.new.words.items; seconds = c.loop-next.seconds.items }) (held c.put_short.new.frames)) (sym more)
-          (c.in_ok-put_short.ensures.swept (length c.loop-next.blocks.items) R c.loop-next.seconds.items before inv.swept);
+      swept = subst (λ (x : RuleMap). IsSwept f s (length c.loop-next.blocks.items) x (record { firsts = items c.put_short.new.words; seconds = items c.loop-next.seconds }) (held c.put_short.new.frames)) (sym more)
+          (c.in_ok-put_short.ensures.swept (length c.loop-next.blocks.items) R (items c.loop-next.seconds) before inv.swept);
     }
 
 pub put_group-requires : goal.put_group-requires
 put_group-requires g c =
+    let items = g.W.WordList.items in
     let f = g.row.FIRST in
     let s = g.row.SECOND in
     let rs = c.args.rules.now in
@@ -93,7 +97,7 @@ put_group-requires g c =
     let inv = c.loop-next.invariant in
     let p = c.index-rules-next.result.prefix in
     let read : prefix_at rs n ≡ p = prefix_read rs n c.index-rules-next.result c.loop-next-test.true c.index-rules-next.is in
-    let F = c.loop-next.firsts.items in
+    let F = items c.loop-next.firsts in
     let reach : length F * 2 ^ s * 64 ≤ place p = subst (λ q. length F * 2 ^ s * 64 ≤ place q) read (inv.reached n (omega arith) c.loop-next-test.true) in
     let short = c.bits-bits.ensures.network.0 in
     let fits = c.requires.shape.2 in
@@ -125,6 +129,7 @@ put_group-requires g c =
 
 pub returns-clause-represents : goal.returns-clause-represents
 returns-clause-represents g c =
+    let items = g.W.WordList.items in
     let f = g.row.FIRST in
     let s = g.row.SECOND in
     let rs = c.args.rules.now in
@@ -132,11 +137,11 @@ returns-clause-represents g c =
     let inv = c.loop-next.invariant in
     let fits = c.requires.shape in
     let size : 1 * 2 ^ f % 18446744073709551616 ≡ 2 ^ f = one_shl f 64 (omega (arith, fits)) in
-    let long : length c.advance.new.words.items ≡ 2 ^ f = c.in_ok-advance.ensures.len ∙ size in
+    let long : length (items c.advance.new.words) ≡ 2 ^ f = c.in_ok-advance.ensures.len ∙ size in
     let all : take n rs ≡ rs = take_all n rs c.loop-next-test.false in
-    subst (λ (l : List (Rule f s)). Represents f s (rules_of l) (record { firsts = c.advance.new.words.items; seconds = c.loop-next.seconds.items })) all
-    (swept_all f s (length c.loop-next.blocks.items) (rules_of (take n rs)) c.advance.new.words.items c.loop-next.seconds.items (held c.advance.new.self) long
-    (swept_on f s (length c.loop-next.blocks.items) (rules_of (take n rs)) c.loop-next.firsts.items c.advance.new.words.items c.loop-next.seconds.items (held c.loop-next.outer) (held c.advance.new.self)
+    subst (λ (l : List (Rule f s)). Represents f s (rules_of l) (record { firsts = items c.advance.new.words; seconds = items c.loop-next.seconds })) all
+    (swept_all f s (length c.loop-next.blocks.items) (rules_of (take n rs)) (items c.advance.new.words) (items c.loop-next.seconds) (held c.advance.new.self) long
+    (swept_on f s (length c.loop-next.blocks.items) (rules_of (take n rs)) (items c.loop-next.firsts) (items c.advance.new.words) (items c.loop-next.seconds) (held c.loop-next.outer) (held c.advance.new.self)
     (omega (arith, long))
     c.in_ok-advance.ensures.fills
     (λ k l. c.in_ok-advance.ensures.frames k (omega (arith, l, c.in_ok-advance.ensures.len)))
@@ -144,6 +149,7 @@ returns-clause-represents g c =
 
 pub returns-clause-numbered : goal.returns-clause-numbered
 returns-clause-numbered g c =
+    let items = g.W.WordList.items in
     let f = g.row.FIRST in
     let s = g.row.SECOND in
     let n = length c.loop-next.blocks.items in
@@ -151,8 +157,8 @@ returns-clause-numbered g c =
     let inv = c.loop-next.invariant in
     let fits = c.requires.shape in
     let size : 1 * 2 ^ f % 18446744073709551616 ≡ 2 ^ f = one_shl f 64 (omega (arith, fits)) in
-    let long : length c.advance.new.words.items ≡ 2 ^ f = c.in_ok-advance.ensures.len ∙ size in
-    numbered_on f s n (rules_of (take c.loop-next.next rs)) c.loop-next.firsts.items c.advance.new.words.items c.loop-next.seconds.items (held c.loop-next.outer) (held c.advance.new.self)
+    let long : length (items c.advance.new.words) ≡ 2 ^ f = c.in_ok-advance.ensures.len ∙ size in
+    numbered_on f s n (rules_of (take c.loop-next.next rs)) (items c.loop-next.firsts) (items c.advance.new.words) (items c.loop-next.seconds) (held c.loop-next.outer) (held c.advance.new.self)
     (omega (arith, long))
     c.in_ok-advance.ensures.fills
     (λ k l. c.in_ok-advance.ensures.frames k (omega (arith, l, c.in_ok-advance.ensures.len)))
@@ -160,6 +166,7 @@ returns-clause-numbered g c =
 
 pub returns-clause-count : goal.returns-clause-count
 returns-clause-count g c =
+    let items = g.W.WordList.items in
     let f = g.row.FIRST in
     let s = g.row.SECOND in
     let rs = c.args.rules.now in
@@ -168,6 +175,7 @@ returns-clause-count g c =
 
 pub returns-then-used-groups-clause-none : goal.returns-then-used-groups-clause-none
 returns-then-used-groups-clause-none g c =
+    let items = g.W.WordList.items in
     let f = g.row.FIRST in
     let s = g.row.SECOND in
     let rs = c.args.rules.now in
@@ -176,7 +184,7 @@ returns-then-used-groups-clause-none g c =
     let r = c.index-rules-next.result in
     let p = r.prefix in
     let read : prefix_at rs n ≡ p = prefix_read rs n r c.loop-next-test.true c.index-rules-next.is in
-    let F = c.loop-next.firsts.items in
+    let F = items c.loop-next.firsts in
     let reach : length F * 2 ^ s * 64 ≤ place p = subst (λ q. length F * 2 ^ s * 64 ≤ place q) read (inv.reached n (omega arith) c.loop-next-test.true) in
     let short = c.bits-bits.ensures.network.0 in
     let fits = c.requires.shape.2 in
