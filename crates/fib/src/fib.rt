@@ -68,10 +68,10 @@ impl<const FIRST: u32, const SECOND: u32> Fib<FIRST, SECOND> {
     /// are there at once, in one sweep over the words: no change is counted, and all workers are
     /// offline.
     ///
-    /// `None` exactly where the limits don't suffice: the list has more rules than `config.rules`, or
-    /// rules longer than `FIRST` bits lie in more blocks than there are groups. It refuses limits out
-    /// of range, and ends with `Memory` where there is no room for the rules, the words, the groups or
-    /// the workers.
+    /// `None` exactly where the limits don't suffice: the rules have more than `config.rules` prefixes,
+    /// or rules longer than `FIRST` bits lie in more blocks than there are groups. It refuses limits
+    /// out of range, and ends with `Memory` where there is no room for the rules, the words, the groups
+    /// or the workers.
     pub fn of_sorted(
         alloc: Global,
         config: Config,

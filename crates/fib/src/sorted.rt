@@ -65,9 +65,13 @@ fn memory_of<const FIRST: u32, const SECOND: u32>(
     Ok(PlainMemory { cells, domain })
 }
 
-/// What a writer keeps of a table that opens with these rules, as this version, whose groups these
-/// blocks have.
-fn ledger_of<const FIRST: u32, const SECOND: u32>(
+/// What the writer of a table keeps beside its memory, where the table opens with these rules as
+/// version `versions`.
+///
+/// `blocks` says which block has each group, from group 0 on, as a sweep over the rules returns them
+/// (`lpm_sweep`). The other groups up to `config.groups` are free, none waits in limbo, and no check
+/// of a token has passed. `AllocError` where memory is short.
+pub fn opened_ledger<const FIRST: u32, const SECOND: u32>(
     alloc: Global,
     config: Config,
     rules: Rules<FIRST, SECOND>,
@@ -130,7 +134,7 @@ fn parts_with<const FIRST: u32, const SECOND: u32>(
         second_words,
         blocks,
     } = swept;
-    let ledger = ledger_of(alloc, config, rules, versions, &blocks)?;
+    let ledger = opened_ledger(alloc, config, rules, versions, &blocks)?;
     let memory = memory_of(alloc, config, first_words, second_words)?;
     Ok((ledger, memory))
 }
@@ -168,7 +172,9 @@ pub(crate) fn parts_of<const FIRST: u32, const SECOND: u32>(
     Ok(Some(parts))
 }
 
-/// The same, as this version. The list has the rules of the rule list.
+/// The ledger and the memory of a table that opens with the rules of a rule list, as version
+/// `versions`. `sorted` is a list of the same rules in the order of its prefixes. `None` exactly where
+/// the limits don't suffice for the rules, or for their groups.
 pub(crate) fn parts_at<const FIRST: u32, const SECOND: u32>(
     alloc: Global,
     config: Config,
