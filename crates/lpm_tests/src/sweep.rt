@@ -8,7 +8,7 @@ use super::asserting::assert_at;
 use lpm_bits::{Hop, Prefix, Shape};
 use lpm_entry::Entry;
 use lpm_rules::{Put, Rule, RuleFault, Rules, count_rules, place_of};
-use lpm_sweep::{MOST_SORTED, Swept, are_in_order, in_order, sweep};
+use lpm_sweep::{MOST_SORTED, Swept, are_in_order, in_order, sweep, sweep_into};
 use std::alloc::Global;
 use std::process::Abort;
 use std::test::Fail;
@@ -300,21 +300,38 @@ fn place_in_the_order(rt: HostRuntime) {
     assert_eq!(&rt; place_of(&rule), 0x12 * 64 + 8);
 }
 
-// The example of the crate's page, with the words in full.
+// The rules of the example on the crate's page.
+const EXAMPLE: [Plain; 3] = [(0, 0, 7), (4, 2, 1), (6, 3, 2)];
+
+// The words and the blocks of that example, in full.
+fn assert_example(rt: &impl Abort, firsts: &[u32], seconds: &[u32], blocks: &[usize]) {
+    let seven = 0x0100_0007;
+    assert_eq!(rt; firsts, [seven, 0x0300_0000, seven, seven].as_slice());
+    let group = [0x0900_0001, 0x0900_0001, 0x0d00_0002, 0x0d00_0002];
+    assert_eq!(rt; seconds, group.as_slice());
+    assert_eq!(rt; blocks, [1].as_slice());
+}
+
 #[test]
 fn words_of_an_example(rt: HostRuntime) -> Result<(), Fail> {
     let alloc = rt.alloc();
-    let rules: Vec<Rule<2, 2>> = rules_of(&rt, alloc, &[(0, 0, 7), (4, 2, 1), (6, 3, 2)]);
+    let rules: Vec<Rule<2, 2>> = rules_of(&rt, alloc, &EXAMPLE);
     assert!(&rt; are_in_order(&rules));
     let swept = sweep(alloc, &rules, 1)?.expect(&rt, "groups that suffice");
-    let seven = 0x0100_0007;
-    assert_eq!(&rt;
-        swept.first_words.as_slice(),
-        [seven, 0x0300_0000, seven, seven].as_slice()
-    );
-    let group = [0x0900_0001, 0x0900_0001, 0x0d00_0002, 0x0d00_0002];
-    assert_eq!(&rt; swept.second_words.as_slice(), group.as_slice());
-    assert_eq!(&rt; swept.blocks.as_slice(), [1].as_slice());
+    assert_example(&rt, &swept.first_words, &swept.second_words, &swept.blocks);
+    Ok(())
+}
+
+#[test]
+fn words_put_into_lists(rt: HostRuntime) -> Result<(), Fail> {
+    let alloc = rt.alloc();
+    let rules: Vec<Rule<2, 2>> = rules_of(&rt, alloc, &EXAMPLE);
+    assert!(&rt; are_in_order(&rules));
+    let mut firsts: Vec<u32> = Vec::new(alloc);
+    let mut seconds: Vec<u32> = Vec::new(alloc);
+    let blocks = sweep_into(alloc, &rules, 1, &mut firsts, &mut seconds)?;
+    let blocks = blocks.expect(&rt, "groups that suffice");
+    assert_example(&rt, &firsts, &seconds, &blocks);
     Ok(())
 }
 
