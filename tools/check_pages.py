@@ -426,7 +426,7 @@ def faults(page, program):
 Plant = namedtuple("Plant", "path old new told")
 WRONG_OUTPUT = "and not\n"
 PLANTS = [
-    Plant("README.md", "\nreclaimed 1\n", "\nreclaimed 2\n", WRONG_OUTPUT),
+    Plant("README.md", "\n10.1.1.128 6\n", "\n10.1.1.128 3\n", WRONG_OUTPUT),
     Plant("docs/FORMATS.md", "\nreclaimed 1\n", "\nreclaimed 2\n", WRONG_OUTPUT),
     Plant("README.md", "](docs/FORMATS.md#words)", "](docs/FORMAT.md#words)", "leads to no file: docs/FORMAT.md#words"),
     Plant("README.md", "](docs/FORMATS.md#words)", "](docs/FORMATS.md#word)", "no heading: docs/FORMATS.md#word"),
