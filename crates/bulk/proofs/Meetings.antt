@@ -5,17 +5,17 @@ use Rattle.std.specs.List.{flat_map}
 use Rattle.std.proofs.lemmas.Bool.{cases_eq, cases_lt}
 use Rattle.std.proofs.lemmas.List.{get_or_default}
 use Rattle.lpm_rules.specs.Longest.{AreLongestHops}
-use Rattle.lpm_trace.specs.declared.step.WorkerStep.TheVariants.{Meets}
-use Rattle.shared_words.specs.declared.view.Role.{Role}
-use Rattle.shared_words.specs.declared.view.View.{View}
+use Rattle.std.specs.Prelude.{false}
+use Rattle.lpm_trace.specs.declared.step.WriterStep.{WriterStep}
+use Rattle.lpm_trace.specs.declared.step.WorkerStep.{WorkerStep}
+use Rattle.lpm_trace.specs.Writer.{IsWritten}
 use Rattle.shared_words.specs.Rule.{IsLater}
-use Rattle.shared_words.specs.Seats.{Gains}
-use Rattle.shared_deeds.specs.Deeds.{GoesOn}
-use Rattle.shared_deeds.proofs.Deeds.{between, goes_on, later_trans}
-use Rattle.shared_fib.specs.Running.{Identity, WriterState, PassState, IsAtRest, IsOffline, identity_of, steps_of}
+use Rattle.shared_deeds.proofs.Deeds.{between, later_trans}
+use Rattle.shared_fib.specs.Running.{Identity, WriterState, IsAtRest, setup, steps_of}
+use Rattle.shared_fib.specs.Passes.{PassState, IsHistory, Makes}
 use Rattle.bulk.specs.declared.desk.Desk.{Desk}
 use Rattle.bulk.specs.Pieces.{piece_of}
-use Rattle.bulk.specs.Desks.{IsDeskOf, role_of, EachDesk, IsSameDesk, HasMet, AnswersAtRest, HasAnswered}
+use Rattle.bulk.specs.Desks.{IsDeskOf, worker_of, EachDesk, IsSameDesk, HasMet, AnswersAtRest, HasAnswered}
 use Rattle.bulk.proofs.Joined.{pieces_answered}
 use Rattle.bulk.proofs.Resting.{width_of, answers_within}
 
@@ -63,28 +63,28 @@ up_to_all R same i old new up k d lt = elim (cases_lt k i) [
 
 -- ---- whose desks they are
 
-roles_stay : (old new : List Desk) → length new ≡ length old → EachDesk (λ x y. role_of y ≡ role_of x) old new
-    → map role_of new ≡ map role_of old
-roles_stay [] [] len each = refl
-roles_stay [] (y ∷ new) len each = absurd (omega arith)
-roles_stay (x ∷ old) [] len each = absurd (omega arith)
-roles_stay (x ∷ old) (y ∷ new) len each =
-    ap₂ (λ (r : Role) (rs : List Role). r ∷ rs) (each 0 x (omega arith))
-    (roles_stay old new (omega arith) (λ k d lt. each (suc k) d (omega (arith, lt))))
+numbers_stay : (old new : List Desk) → length new ≡ length old → EachDesk (λ x y. worker_of y ≡ worker_of x) old new
+    → map worker_of new ≡ map worker_of old
+numbers_stay [] [] len each = refl
+numbers_stay [] (y ∷ new) len each = absurd (omega arith)
+numbers_stay (x ∷ old) [] len each = absurd (omega arith)
+numbers_stay (x ∷ old) (y ∷ new) len each =
+    ap₂ (λ (n : ℕ) (ns : List ℕ). n ∷ ns) (each 0 x (omega arith))
+    (numbers_stay old new (omega arith) (λ k d lt. each (suc k) d (omega (arith, lt))))
 
 -- desks that keep their passes are those of the same workers
-pub roles_kept : (old new : List Desk) → length new ≡ length old → EachDesk (λ x y. y.pass ≡ x.pass) old new
-    → map role_of new ≡ map role_of old
-roles_kept old new len kept =
-    roles_stay old new len (λ k d lt. ap (λ (p : PassState). p.view.role) (kept k d lt))
+pub numbers_kept : (old new : List Desk) → length new ≡ length old → EachDesk (λ x y. y.pass ≡ x.pass) old new
+    → map worker_of new ≡ map worker_of old
+numbers_kept old new len kept =
+    numbers_stay old new len (λ k d lt. ap (λ (p : PassState). p.worker) (kept k d lt))
 
 -- a desk that keeps its pass, which is offline, is the same
 kept_desk : (id : Identity) (old new : Desk) → IsDeskOf id old → new.pass ≡ old.pass → IsSameDesk old new
 kept_desk id old new was kept = record {
-  identity = ap identity_of kept;
-  role = ap (λ (p : PassState). p.view.role) kept;
-  offline = subst IsOffline (sym kept) was.offline;
-  later = subst (λ (p : PassState). IsLater old.pass.view.seen p.view.seen) (sym kept) ([], refl);
+  table = ap (λ (p : PassState). p.table) kept;
+  worker = ap (λ (p : PassState). p.worker) kept;
+  offline = ap (λ (p : PassState). p.online) kept ∙ was.offline;
+  later = subst (λ (p : PassState). IsLater old.pass.seen p.seen) (sym kept) ([], refl);
 }
 
 pub kept_desks : (id : Identity) (old new : List Desk) → All (IsDeskOf id) old
@@ -95,10 +95,10 @@ kept_desks id old new desks kept k d lt =
 -- a desk that stays the same, and then again
 same_twice : (a b c : Desk) → IsSameDesk a b → IsSameDesk b c → IsSameDesk a c
 same_twice a b c h k = record {
-  identity = k.identity ∙ h.identity;
-  role = k.role ∙ h.role;
+  table = k.table ∙ h.table;
+  worker = k.worker ∙ h.worker;
   offline = k.offline;
-  later = later_trans a.pass.view.seen b.pass.view.seen c.pass.view.seen h.later k.later;
+  later = later_trans a.pass.seen b.pass.seen c.pass.seen h.later k.later;
 }
 
 pub desks_twice : (old middle new : List Desk) → length middle ≡ length old → EachDesk IsSameDesk old middle
@@ -110,59 +110,52 @@ desks_twice old middle new len before after k d lt =
 -- ---- what a desk comes to
 
 -- a pass that meets the writer
-pub met : (w : WriterState) (old new : Desk) (number : ℕ)
-    → Gains (Meets number) (record old.pass.view { told = steps_of w }) new.pass.view
-    → identity_of new.pass ≡ identity_of old.pass → IsOffline new.pass → new.hops ≡ old.hops
-    → new.pass.view.seen ≡ steps_of w → IsAtRest w → HasMet w old new
-met w old new number step identity offline hops seen rests = record {
-  same = record {
-    identity = identity;
-    role = ap (λ (v : View). v.role) step.view;
-    offline = offline;
-    later = subst (IsLater old.pass.view.seen) (sym (ap (λ (v : View). v.seen) step.view)) step.later;
-  };
+pub met : (w : WriterState) (old new : Desk) (made : List (WorkerStep × ℕ)) → Makes made old.pass new.pass
+    → new.pass.online ≡ false → new.hops ≡ old.hops → new.pass.seen ≡ steps_of w → IsHistory new.pass → IsAtRest w
+    → HasMet w old new
+met w old new made step offline hops seen history rests = record {
+  same = record { table = step.table; worker = step.worker; offline = offline; later = step.seen };
   hops = hops;
   seen = seen;
+  history = history;
   rests = rests;
 }
 
--- a view that stays as it is
-pub goes_nowhere : (v : View) → GoesOn v v
-goes_nowhere v = record { same = refl; later = ([], refl) }
-
--- a pass that comes online with the view u, looks up until its view is v, and goes offline
-pub has_answered : (id : Identity) (addrs : List ℕ) (old new : Desk) (u v : View) → identity_of old.pass ≡ id
-    → identity_of new.pass ≡ id → IsOffline new.pass
-    → GoesOn old.pass.view u → GoesOn u v → GoesOn v new.pass.view
-    → AnswersAtRest id addrs new.hops.items u.seen v.seen → HasAnswered addrs old new
-has_answered id addrs old new u v was is offline comes looks leaves answers =
-    let first : View = old.pass.view in
-    let last : View = new.pass.view in
-    let on : GoesOn first last = goes_on first u last comes (goes_on u v last looks leaves) in
+-- a pass that comes online as p, looks up until it is q, and goes offline
+pub has_answered : (id : Identity) (addrs : List ℕ) (old new : Desk) (p q : PassState) (came left : List (WorkerStep × ℕ))
+    → old.pass.table ≡ id → new.pass.online ≡ false
+    → Makes came old.pass p → q.table ≡ id → q.worker ≡ p.worker → IsLater p.seen q.seen → Makes left q new.pass
+    → AnswersAtRest id addrs new.hops.items p.seen q.seen → HasAnswered addrs old new
+has_answered id addrs old new p q came left was offline comes own worker looks leaves answers =
+    let first : List WriterStep = old.pass.seen in
+    let last : List WriterStep = new.pass.seen in
     record {
       same = record {
-        identity = is ∙ sym was;
-        role = ap (λ (x : View). x.role) on.same;
+        table = leaves.table ∙ (own ∙ sym was);
+        worker = leaves.worker ∙ (worker ∙ comes.worker);
         offline = offline;
-        later = on.later;
+        later = later_trans first p.seen last comes.seen (later_trans p.seen q.seen last looks leaves.seen);
       };
-      answers = λ w of rest before after.
-          answers_within id addrs new.hops.items first.seen u.seen v.seen last.seen
-          comes.later looks.later leaves.later answers w (of ∙ was) rest before after;
+      answers = λ w of rest written before after.
+          answers_within id addrs new.hops.items first p.seen q.seen last
+          comes.seen looks leaves.seen answers w (of ∙ was) rest written before after;
     }
 
 -- ---- two meetings
 
 -- a desk that has met the writer, has answered, and has met the writer again
-answered_at_rest : (w : WriterState) (addrs : List ℕ) (a b c d : Desk) → identity_of a.pass ≡ w.identity
+answered_at_rest : (w : WriterState) (addrs : List ℕ) (a b c d : Desk) → a.pass.table ≡ w.identity
     → HasMet w a b → HasAnswered addrs b c → HasMet w c d
     → AreLongestHops (width_of w) w.table.rules addrs d.hops.items
 answered_at_rest w addrs a b c d is first answers last =
-    let again : d.pass.view.seen ≡ b.pass.view.seen = last.seen ∙ sym first.seen in
-    let seen : c.pass.view.seen ≡ steps_of w =
-    between b.pass.view.seen c.pass.view.seen d.pass.view.seen answers.same.later last.same.later again
+    let again : d.pass.seen ≡ b.pass.seen = last.seen ∙ sym first.seen in
+    let seen : c.pass.seen ≡ steps_of w =
+    between b.pass.seen c.pass.seen d.pass.seen answers.same.later last.same.later again
     ∙ first.seen in
-    rw last.hops (answers.answers w (sym (first.same.identity ∙ is)) first.rests first.seen seen)
+    let own : b.pass.table ≡ w.identity = first.same.table ∙ is in
+    let written : IsWritten (setup w.identity) (steps_of w) =
+    subst (λ (z : Identity × List WriterStep). IsWritten (setup z.0) z.1) (λ i. (own i, first.seen i)) first.history.written in
+    rw last.hops (answers.answers w (sym own) first.rests written first.seen seen)
 
 -- desks that have met the writer, have answered a piece each, and have met the writer again, which is as it was
 module _ (w z : WriterState) (same : z ≡ w) (xs : List ℕ) (ps qs rs ss : List Desk) (met_len : length qs ≡ length ps)
@@ -186,16 +179,16 @@ module _ (w z : WriterState) (same : z ≡ w) (xs : List ℕ) (ps qs rs ss : Lis
       (answers k d (omega (arith, lt))) in
       answered_at_rest w (piece_of xs (length ss) k)
       (get_or ps k d) (get_or qs k d) (get_or rs k d) (get_or ss k d)
-      ((desks k d (omega (arith, lt))).identity ∙ sym own)
+      ((desks k d (omega (arith, lt))).table ∙ sym own)
       (first k d (omega (arith, lt))) piece (again k d (omega (arith, lt))) in
       subst (λ (i : Identity). AreLongestHops (i.opening.first + i.opening.second) w.table.rules xs
       (flat_map (λ (d : Desk). d.hops.items) ss)) own
       (pieces_answered (λ (d : Desk). d.hops.items) (width_of w) w.table.rules xs ss (omega arith) each)
 
-  pub same_roles : map role_of ss ≡ map role_of ps
-  same_roles = roles_stay ps ss (last_len ∙ (answered_len ∙ met_len)) (λ k d lt.
-      (last k d (omega (arith, lt))).same.role
-      ∙ ((answers k d (omega (arith, lt))).same.role ∙ (first k d lt).same.role))
+  pub same_numbers : map worker_of ss ≡ map worker_of ps
+  same_numbers = numbers_stay ps ss (last_len ∙ (answered_len ∙ met_len)) (λ k d lt.
+      (last k d (omega (arith, lt))).same.worker
+      ∙ ((answers k d (omega (arith, lt))).same.worker ∙ (first k d lt).same.worker))
 
   pub same_desks : EachDesk IsSameDesk ps ss
   same_desks k d lt =

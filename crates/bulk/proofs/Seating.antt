@@ -6,11 +6,9 @@ use Rattle.std.specs.Prelude.{slice_set}
 use Rattle.std.specs.List.{range_with_len}
 use Rattle.std.proofs.lemmas.List.{map-append}
 use Rattle.std.proofs.lemmas.List.FromFn.{map-range_with_len_more}
-use Rattle.shared_words.specs.declared.view.Role.{Role}
-use Rattle.shared_words.specs.declared.view.Role.TheVariants.{Worker}
-use Rattle.shared_fib.specs.Running.{PassState}
+use Rattle.shared_fib.specs.Passes.{PassState}
 use Rattle.bulk.specs.declared.desk.Desk.{Desk}
-use Rattle.bulk.specs.Desks.{IsAtBench, role_of}
+use Rattle.bulk.specs.Desks.{IsAtBench, worker_of}
 
 -- what stands at another place stays after a store
 others_stay : {X : Type 0} (xs : List X) (i k : ℕ) (y : X) → k ≢ i → slice_get (slice_set xs i y) k ≡ slice_get xs k
@@ -45,11 +43,17 @@ one_more_seated passes i at before k low = elim (cases_lt k i) [
       ap (slice_get (slice_set passes i None)) here ∙ stands_here passes i (Some at.0) None at.1
 ]
 
+map-same : (xs : List ℕ) → map (λ n. n) xs ≡ xs
+map-same [] = refl
+map-same (x ∷ xs) = ap (λ (ys : List ℕ). x ∷ ys) (map-same xs)
+
 -- whose desks they are, with the next worker's
-pub one_more_role : (desks : List Desk) (desk : Desk) (worker : ℕ)
-    → map role_of desks ≡ map Worker (range_with_len 0 worker) → role_of desk ≡ Worker worker
-    → map role_of (desks ++ desk ∷ []) ≡ map Worker (range_with_len 0 (worker + 1))
-one_more_role desks desk worker so_far role =
-    map-append role_of desks (desk ∷ [])
-    ∙ (ap₂ (λ (a b : List Role). a ++ b) so_far (ap (λ (r : Role). r ∷ []) role)
-    ∙ sym (map-range_with_len_more Worker 0 worker worker (zero-add worker)))
+pub one_more_number : (desks : List Desk) (desk : Desk) (worker : ℕ)
+    → map worker_of desks ≡ range_with_len 0 worker → worker_of desk ≡ worker
+    → map worker_of (desks ++ desk ∷ []) ≡ range_with_len 0 (worker + 1)
+one_more_number desks desk worker so_far number =
+    map-append worker_of desks (desk ∷ [])
+    ∙ (ap₂ (λ (a b : List ℕ). a ++ b) so_far (ap (λ (n : ℕ). n ∷ []) number)
+    ∙ (ap (λ (xs : List ℕ). xs ++ worker ∷ []) (sym (map-same (range_with_len 0 worker)))
+    ∙ (sym (map-range_with_len_more (λ n. n) 0 worker worker (zero-add worker))
+    ∙ map-same (range_with_len 0 (worker + 1)))))

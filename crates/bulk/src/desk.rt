@@ -2,9 +2,8 @@
 
 ghost use Rattle.std.specs.Prelude.{◌≡◌, ◌<◌, ℕ, All, IfOk, OnErr, Some, None, map, slice_get, slice_set};
 ghost use Rattle.std.specs.List.{range_with_len};
-ghost use Rattle.shared_words.specs.declared.view.Role.TheVariants.{Worker};
-ghost use Rattle.shared_fib.specs.Running.{IsBenchOf, IsFullBench};
-ghost use Rattle.bulk.specs.Desks.{IsDeskOf, IsAtBench, role_of};
+ghost use Rattle.shared_fib.specs.Passes.{IsBenchOf, IsFullBench};
+ghost use Rattle.bulk.specs.Desks.{IsDeskOf, IsAtBench, worker_of};
 
 use lpm_bits::Hop;
 use shared_fib::{Bench, Pass, SharedTable};
@@ -47,7 +46,7 @@ fn seat<const FIRST: u32, const SECOND: u32>(
     requires own { IsBenchOf table.now bench.old }
     requires pass { IsAtBench bench.old worker }
     ensures desk { IsDeskOf table.now result }
-    ensures role { role_of result ≡ Worker worker }
+    ensures worker { worker_of result ≡ worker }
     ensures own { IsBenchOf table.now bench.new }
     ensures taken { bench.new ≡ slice_set bench.old worker None }
 {
@@ -69,7 +68,7 @@ pub fn seat_all<const FIRST: u32, const SECOND: u32>(
     requires full { IsFullBench table.now bench.old }
     requires workers { workers ≡ table.now.opening.workers }
     ensures desks { IfOk result (λ v. All (IsDeskOf table.now) v.items) }
-    ensures roles { IfOk result (λ v. map role_of v.items ≡ map Worker (range_with_len 0 workers)) }
+    ensures numbers { IfOk result (λ v. map worker_of v.items ≡ range_with_len 0 workers) }
     ensures own { IsBenchOf table.now bench.new }
     ensures seated { IfOk result (λ _. (worker : ℕ) → worker < workers
         → slice_get bench.new worker ≡ Some None) }

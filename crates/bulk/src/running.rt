@@ -1,13 +1,12 @@
 //! Many addresses, answered by a running table that its writer lets rest meanwhile.
 
-ghost use Rattle.std.specs.Prelude.{◌≡◌, ◌+◌, ◌^◌, ℕ, ◌<◌, ◌≤◌, ◌↔◌, ◌++◌, All, IfOk, OnOk, IsErrOf};
+ghost use Rattle.std.specs.Prelude.{◌≡◌, ◌+◌, ◌^◌, ℕ, ◌<◌, ◌≤◌, ◌↔◌, ◌++◌, true, All, IfOk, OnOk, IsErrOf};
 ghost use Rattle.std.specs.Prelude.{length, map, slice_index_or, vec_len, vec_capacity};
 ghost use Rattle.std.specs.List.{flat_map};
 ghost use Rattle.lpm_rules.specs.Longest.{AreLongestHops};
-ghost use Rattle.shared_deeds.specs.Deeds.{GoesOn};
-ghost use Rattle.shared_fib.specs.Running.{IsOnline, identity_of};
+ghost use Rattle.shared_words.specs.Rule.{IsLater};
 ghost use Rattle.bulk.specs.Pieces.{piece_of};
-ghost use Rattle.bulk.specs.Desks.{IsDeskOf, role_of, EachDesk, IsSameDesk, HaveRoom, HasMet, HasAnswered, AnswersAtRest};
+ghost use Rattle.bulk.specs.Desks.{IsDeskOf, worker_of, EachDesk, IsSameDesk, HaveRoom, HasMet, HasAnswered, AnswersAtRest};
 
 use super::pieces::{append, piece_at};
 use super::{BulkError, Desk, Gate};
@@ -50,7 +49,9 @@ fn meet<const FIRST: u32, const SECOND: u32>(
     ensures met { HasMet writer.old desk.old desk.new }
     ensures same { writer.new ≡ writer.old }
 {
+    writer.at_rest();
     desk.pass.meet(table, writer);
+    desk.pass.history();
 }
 
 /// Each desk's pass meets the writer.
@@ -79,15 +80,15 @@ fn look_up_each<G: Gate, const FIRST: u32, const SECOND: u32>(
     pass: &mut Pass,
     hops: &mut Vec<Option<Hop>>,
 )
-    requires own { identity_of pass.old ≡ table.now }
-    requires online { IsOnline pass.old }
+    requires own { pass.old.table ≡ table.now }
+    requires online { pass.old.online ≡ true }
     requires room { vec_len hops.old ≡ length addrs.now }
     requires addrs { All (λ a. a < 2 ^ (FIRST + SECOND)) addrs.now }
-    ensures own { identity_of pass.new ≡ table.now }
-    ensures online { IsOnline pass.new }
-    ensures rest { GoesOn pass.old.view pass.new.view }
-    ensures answers { AnswersAtRest table.now addrs.now hops.new.items pass.old.view.seen
-        pass.new.view.seen }
+    ensures own { pass.new.table ≡ table.now }
+    ensures worker { pass.new.worker ≡ pass.old.worker }
+    ensures online { pass.new.online ≡ true }
+    ensures later { IsLater pass.old.seen pass.new.seen }
+    ensures answers { AnswersAtRest table.now addrs.now hops.new.items pass.old.seen pass.new.seen }
 {
     for i in 0..addrs.len() {
         gate.at(number, i);
@@ -165,7 +166,7 @@ fn answer_at_rest<R: Threads + Sync, G: Gate, const FIRST: u32, const SECOND: u3
         (flat_map (λ d. d.hops.items) desks.new) }
     ensures same { writer.new ≡ writer.old }
     ensures desks { All (IsDeskOf table.now) desks.new }
-    ensures roles { map role_of desks.new ≡ map role_of desks.old }
+    ensures numbers { map worker_of desks.new ≡ map worker_of desks.old }
     ensures passes { EachDesk IsSameDesk desks.old desks.new }
 {
     table.has_widths();
@@ -208,7 +209,7 @@ pub fn bulk<R: Threads + Sync, G: Gate, const FIRST: u32, const SECOND: u32>(
     ensures workers { IsErrOf result BulkError.NoWorkers ↔ (length desks.old ≡ 0) }
     ensures same { writer.new ≡ writer.old }
     ensures desks { All (IsDeskOf table.now) desks.new }
-    ensures roles { map role_of desks.new ≡ map role_of desks.old }
+    ensures numbers { map worker_of desks.new ≡ map worker_of desks.old }
     ensures passes { EachDesk IsSameDesk desks.old desks.new }
 {
     if desks.is_empty() {

@@ -1,16 +1,15 @@
--- Meaning: each answer of a pass is that of a version which stood meanwhile, and no pass goes back in
--- versions (Gupta, Lin and McKeown, INFOCOM 1998, section 3: the answer of the longest match; this
--- project's otherwise).
-use Rattle.std.specs.Prelude.{ℕ, ◌≡◌, ◌≤◌, ◌⊎◌, List, length, slice_get, Option, Some}
+-- Meaning: no pass goes back in versions, and the rules of a version stay (Gupta, Lin and McKeown, INFOCOM
+-- 1998, section 3: the answer of the longest match; this project's otherwise).
+use Rattle.std.specs.Prelude.{ℕ, ◌≡◌, ◌≤◌, ◌⊎◌, List, ◌++◌, length, slice_get, Option, Some}
 use Rattle.lpm_trace.specs.declared.step.WriterStep.{WriterStep}
+use Rattle.lpm_trace.specs.declared.step.WorkerStep.{WorkerStep}
 use Rattle.lpm_trace.specs.Tables.{Setup, IsAnswer, done, begun, tables, tables_at}
-use Rattle.lpm_trace.specs.Workers.{Seen}
+use Rattle.lpm_trace.specs.Workers.{Seen, IsBetweenDeeds}
+use Rattle.lpm_trace.specs.Trace.{worker_by}
 use Rattle.lpm_trace.specs.Laws.{IsLegalAtPlace}
-use Rattle.shared_words.specs.declared.view.View.{View}
-use Rattle.shared_words.specs.Opened.{setup_of}
 use Rattle.shared_words.specs.Rule.{IsLater}
-use Rattle.shared_deeds.specs.Deeds.{LooksUp, LooksUpAll}
-use Rattle.shared_fib.specs.Running.{WriterState, IsAtRest, steps_of}
+use Rattle.shared_fib.specs.Running.{WriterState, IsAtRest, setup, steps_of}
+use Rattle.shared_fib.specs.Passes.{PassState, IsHistory, LooksUp, LooksUpAll}
 
 -- ---- versions
 
@@ -52,33 +51,33 @@ LookupsNeverGoBack = (c : Setup) (before after : List WriterStep) (earlier later
     → IsLater before after → length before ≤ later.first → earlier.addr ≡ later.addr
     → AreInOrder c after earlier later
 
--- ---- what a pass is told
+-- ---- one pass
 
--- between these views a pass has finished this lookup, alone or as one of several
-abbrev pub IsLookedUp : Seen → View → View → Type 0
-IsLookedUp seen v w =
-    ((addr : ℕ) × (hop : Option ℕ) × (lo : ℕ) × (hi : ℕ) × (h : LooksUp addr hop lo hi v w)
-    × (h.seen ≡ seen))
-    ⊎ ((addrs : List ℕ) × (hops : List (Option ℕ)) × (lo : ℕ) × (hi : ℕ) × (i : ℕ)
-    × (h : LooksUpAll addrs hops lo hi v w) × (slice_get h.seen i ≡ Some seen))
+-- the earlier lookup was finished with the older of a worker's steps, after which the worker was neither in
+-- a report nor in a lookup; the later one was finished since
+pub record IsFinishedSince (newer older : List (WorkerStep × ℕ)) (earlier later : Seen) : Type 0 where
+  pub rests : IsBetweenDeeds (worker_by older).phase
+  pub before : (i : ℕ) × (slice_get (worker_by older).finished i ≡ Some earlier)
+  pub since : List Seen
+  pub split : (worker_by (newer ++ older)).finished ≡ since ++ (worker_by older).finished
+  pub after : (i : ℕ) × (slice_get since i ≡ Some later)
 
--- each answer is that of a version which stood at a place of the lookup's span
-abbrev pub AnswersAreOfVersions : Type 0
-AnswersAreOfVersions = (seen : Seen) (v w : View) → IsLookedUp seen v w
-    → (k : ℕ) × IsOfVersion (setup_of v.opening) w.seen seen k
-
--- two lookups of one address never go back, where the second began with all that was seen in the first: so
--- it is for each two lookups of one pass
+-- of two lookups of one address that a pass has finished, the later one's version can be chosen not less
 abbrev pub PassesNeverGoBack : Type 0
-PassesNeverGoBack = (earlier later : Seen) (v w v' w' : View)
-    → IsLookedUp earlier v w → IsLookedUp later v' w' → earlier.addr ≡ later.addr
-    → v'.opening ≡ v.opening → IsLater w.seen v'.seen
-    → AreInOrder (setup_of v.opening) w'.seen earlier later
+PassesNeverGoBack = (p : PassState) (newer older : List (WorkerStep × ℕ)) (earlier later : Seen)
+    → IsHistory p → p.steps ≡ newer ++ older → IsFinishedSince newer older earlier later
+    → earlier.addr ≡ later.addr
+    → AreInOrder (setup p.table) p.seen earlier later
+
+-- a lookup of one address or of several, with this `lo` and `hi`
+abbrev pub IsLookedUp : ℕ → ℕ → PassState → PassState → Type 0
+IsLookedUp lo hi p q = ((addr : ℕ) × (hop : Option ℕ) × LooksUp addr hop lo hi p q)
+    ⊎ ((addrs : List ℕ) × (hops : List (Option ℕ)) × LooksUpAll addrs hops lo hi p q)
 
 -- a lookup of a pass that has met the writer, at rest, before and again after it, while the writer has made
 -- no step: `lo` and `hi` are both the number of the versions
 abbrev pub LookupsCountVersions : Type 0
-LookupsCountVersions = (writer : WriterState) (seen : Seen) (v w : View) → IsAtRest writer
-    → IsLookedUp seen v w → v.opening ≡ writer.identity.opening
-    → v.seen ≡ steps_of writer → w.seen ≡ steps_of writer
-    → (seen.lo ≡ writer.table.begun) × (seen.hi ≡ writer.table.begun)
+LookupsCountVersions = (writer : WriterState) (lo hi : ℕ) (p q : PassState) → IsAtRest writer
+    → IsLookedUp lo hi p q → IsHistory q → q.table ≡ writer.identity
+    → p.seen ≡ steps_of writer → q.seen ≡ steps_of writer
+    → (lo ≡ writer.table.begun) × (hi ≡ writer.table.begun)

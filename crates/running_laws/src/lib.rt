@@ -1,15 +1,8 @@
-//! What holds of the answers of a running table's passes. Each function does nothing: its contract is the
-//! law. The statement is in `specs/Laws.antt`.
+//! What holds of the lookups of a running table's passes, beyond the contract of each. Each function does
+//! nothing: its contract is the law. The statement is in `specs/Laws.antt`.
 #![tactic(auto)]
 
-ghost use Rattle.running_laws.specs.Laws.{AnswersAreOfVersions, VersionsStay};
-ghost use Rattle.running_laws.specs.Laws.{LookupsCountVersions, LookupsNeverGoBack, PassesNeverGoBack};
-
-/// Each answer of a pass is that of the longest match in the rules of a version. That version stood between
-/// the reads of the lookup's first and last word, and lies from `lo` to `hi`.
-pub fn answers_are_of_versions()
-    ensures { AnswersAreOfVersions }
-{}
+ghost use Rattle.running_laws.specs.Laws.{LookupsCountVersions, LookupsNeverGoBack, PassesNeverGoBack, VersionsStay};
 
 /// The rules of a version that was begun stay the same, whatever the writer does then.
 pub fn versions_stay()
@@ -22,8 +15,8 @@ pub fn lookups_never_go_back()
     ensures { LookupsNeverGoBack }
 {}
 
-/// Of two lookups of one address by one pass, the later one's version can be chosen not less than the
-/// earlier one's.
+/// Of two lookups of one address that a pass has finished, one call after the other, the later one's version
+/// can be chosen not less than the earlier one's.
 pub fn passes_never_go_back()
     ensures { PassesNeverGoBack }
 {}

@@ -18,8 +18,9 @@ use Rattle.lpm_trace.proofs.Traces.{oldest_all}
 use Rattle.shared_words.specs.declared.view.View.{View}
 use Rattle.shared_words.specs.Opened.{Opened, setup_of}
 use Rattle.shared_words.specs.Rule.{IsLater}
-use Rattle.shared_words.specs.Seats.{Gains}
-use Rattle.shared_deeds.specs.Deeds.{GainsAll, GoesOn, IsReadOn, LoadsAround, LoadsWords, LooksUp}
+use Rattle.shared_words.specs.Seats.{IsSound, Gains}
+use Rattle.shared_words.specs.Loads.{Found, IsReadOn, seen_of}
+use Rattle.shared_deeds.specs.Deeds.{GainsAll, GainsAt, GoesOn, LoadsAround, LoadsWords, LooksUp}
 
 -- ---- one step
 
@@ -52,27 +53,27 @@ pub gains_state : (r : WorkerStep) (v w : View) (g : Gains r v w)
 gains_state r v w g = ap (λ (x : View). worker_by x.own) g.view
 
 -- a step may come at the end of what the worker has seen by then of the writer's steps
-pub may_now : (s : WorkerStep) (v w : View) → Gains s v w
+pub may_now : (s : WorkerStep) (v w : View) → Gains s v w → IsSound w
     → MayRead (setup_of v.opening) (tables (setup_of v.opening) w.seen) (worker_by v.own) s
-may_now s v w g =
+may_now s v w g known =
     let c : Setup = setup_of v.opening in
-    let placed = subst (λ (x : View). ArePlaced (setup_of x.opening) x.seen x.own) g.view g.sound.placed in
+    let placed = subst (λ (x : View). ArePlaced (setup_of x.opening) x.seen x.own) g.view known.placed in
     let all : oldest (length g.seen) g.seen ≡ g.seen = oldest_all g.seen (length g.seen) (omega arith) in
     subst (λ (l : List WriterStep). MayRead c (tables c l) (worker_by v.own) s)
     (all ∙ sym (ap (λ (x : View). x.seen) g.view)) placed.0
 
 -- the two loads of the sequence tell how many updates were done and begun at their places
 pub around : (addrs : List ℕ) (low high lo hi : ℕ) (v b u w : View) (begins : Gains (Begins addrs low) v b)
-    (ends : Gains (Ends high) u w) → u.opening ≡ v.opening → lo ≡ done_at low → hi ≡ begun_at high
+    (ends : Gains (Ends high) u w) → IsSound b → IsSound w → u.opening ≡ v.opening → lo ≡ done_at low → hi ≡ begun_at high
     → LoadsAround addrs lo hi v b u w
-around addrs low high lo hi v b u w begins ends same lo_is hi_is = record {
+around addrs low high lo hi v b u w begins ends known_then known same lo_is hi_is = record {
   low = low;
   begins = begins;
   high = high;
   ends = ends;
-  done_then = lo_is ∙ ap done_at (may_now (Begins addrs low) v b begins).2;
+  done_then = lo_is ∙ ap done_at (may_now (Begins addrs low) v b begins known_then).2;
   begun_then = subst (λ (o : Opened). hi ≡ begun (tables (setup_of o) w.seen)) same
-      (hi_is ∙ ap begun_at (may_now (Ends high) u w ends).2);
+      (hi_is ∙ ap begun_at (may_now (Ends high) u w ends known).2);
 }
 
 -- what is loaded after the lookup began is loaded after what the worker had seen before
@@ -88,6 +89,11 @@ pub goes_after : (newer older : List WorkerStep) (u v w : View) → GainsAll new
 goes_after [] older u v w new old = subst (GainsAll older u) (sym new) old
 goes_after (s ∷ newer) older u v w new old = (new.0, goes_after newer older u v new.0 new.1 old, new.2)
 
+pub goes_at : (newer older : List (WorkerStep × ℕ)) (u v w : View) → GainsAt newer v w → GainsAt older u v
+    → GainsAt (newer ++ older) u w
+goes_at [] older u v w new old = subst (GainsAt older u) (sym new) old
+goes_at (s ∷ newer) older u v w new old = (new.0, goes_at newer older u v new.0 new.1 old, new.2, new.3)
+
 pub two_steps : (r s : WorkerStep) (v u w : View) → Gains r v u → Gains s u w → GainsAll (s ∷ r ∷ []) v w
 two_steps r s v u w first second = (u, (v, refl, first), second)
 
@@ -98,6 +104,10 @@ two_on r s v u w first second = goes_on v u w (gains_on r v u first) (gains_on s
 pub all_on : (steps : List WorkerStep) (v w : View) → GainsAll steps v w → GoesOn v w
 all_on [] v w same = subst (GoesOn v) (sym same) (record { same = refl; later = ([], refl) })
 all_on (s ∷ steps) v w more = goes_on v more.0 w (all_on steps v more.0 more.1) (gains_on s more.0 w more.2)
+
+pub all_at : (steps : List (WorkerStep × ℕ)) (v w : View) → GainsAt steps v w → GoesOn v w
+all_at [] v w same = subst (GoesOn v) (sym same) (record { same = refl; later = ([], refl) })
+all_at (s ∷ steps) v w more = goes_on v more.0 w (all_at steps v more.0 more.1) (gains_on s.0 more.0 w more.2)
 
 -- what was seen between two views that had seen the same
 pub between : (first middle last : List WriterStep) → IsLater first middle → IsLater middle last → last ≡ first
@@ -127,11 +137,11 @@ firsts_written c (Closes ∷ steps) = firsts_written c steps
 firsts_written c (BumpToken ∷ steps) = firsts_written c steps
 firsts_written c (LoadCounter token worker counter ∷ steps) = firsts_written c steps
 
-pub firsts_are : (r : WorkerStep) (v w : View) (first : ℕ) → Gains r v w → v.opening.first ≡ first
+pub firsts_are : (r : WorkerStep) (v w : View) (first : ℕ) → Gains r v w → IsSound w → v.opening.first ≡ first
     → length w.opening.firsts ≡ 2 ^ first
-firsts_are r v w first g is =
+firsts_are r v w first g known is =
     let firsts : length w.opening.firsts ≡ 2 ^ w.opening.first =
-    sym (firsts_written (setup_of w.opening) w.seen) ∙ g.sound.words.firsts_len in
+    sym (firsts_written (setup_of w.opening) w.seen) ∙ known.words.firsts_len in
     let same : w.opening.first ≡ first = ap (λ (x : View). x.opening.first) g.view ∙ is in
     firsts ∙ ap (λ n. 2 ^ n) same
 
@@ -173,9 +183,9 @@ words_fit u v w first second a b c d h k is_first is_second fit =
     )
 
 -- a word that answers is no group's
-alone : (e : Entry) → IsLast e → IsReadOn e None
-alone Miss last = refl
-alone (Hop hop depth) last = refl
+pub alone : (e : Entry) → IsLast e → IsReadOn e None (hop_in e)
+alone Miss last = (refl, refl)
+alone (Hop hop depth) last = (refl, refl)
 alone (Group group) last = absurd last
 
 pub answered : (now a : ℕ) (e : Entry) → IsLast e → read_first now a e ≡ Answered a (hop_in e) now now
@@ -190,13 +200,11 @@ module _ (addr : ℕ) (v : View) (unread : (worker_by v.own).probes ≡ Unread a
     one_word last =
         let now : ℕ = length first.seen in
         record {
-          word = word;
-          second = None;
-          steps = (v, refl, first);
+          found = record { addr = addr; hop = hop_in (entry_in word); word = word; first = now; second = None };
+          steps = (v, refl, first, refl);
           exact = alone (entry_in word) last;
+          answer = (refl, refl);
           rest = gains_on (LoadFirst word) v u first;
-          from = now;
-          until = now;
           after = later_longer v.seen first.seen first.later;
           state = gains_state (LoadFirst word) v u first
               ∙ ap (λ (ps : List Probe). record (worker_by v.own) { probes = ps })
@@ -215,13 +223,18 @@ module _ (addr : ℕ) (v : View) (unread : (worker_by v.own).probes ≡ Unread a
       -- the second word answers
       pub two_words : (last : ℕ) (w : View) → Gains (LoadSecond last) u w → LoadsWords addr last v w
       two_words last w second = record {
-        word = word;
-        second = Some last;
-        steps = (u, (v, refl, first), second);
-        exact = subst (λ (e : Entry). IsReadOn e (Some last)) (sym is) (last, refl);
+        found = record {
+          addr = addr;
+          hop = hop_in (entry_in last);
+          word = word;
+          first = length first.seen;
+          second = Some (last, length second.seen);
+        };
+        steps = (u, (v, refl, first, refl), second, refl);
+        exact = subst (λ (e : Entry). IsReadOn e (Some (last, length second.seen)) (hop_in (entry_in last))) (sym is)
+            ((last, length second.seen), refl, refl);
+        answer = (refl, refl);
         rest = goes_on v u w (gains_on (LoadFirst word) v u first) (gains_on (LoadSecond last) u w second);
-        from = length first.seen;
-        until = length second.seen;
         after = later_longer v.seen first.seen first.later;
         state = gains_state (LoadSecond last) u w second
             ∙ ap (λ (x : WorkerState). moved (length second.seen) x (LoadSecond last)) in_group;
@@ -230,16 +243,12 @@ module _ (addr : ℕ) (v : View) (unread : (worker_by v.own).probes ≡ Unread a
 -- ---- a lookup
 
 module _ (addr low last high : ℕ) (v b u w : View) (begins : Gains (Begins (addr ∷ []) low) v b)
-    (words : LoadsWords addr last b u) (ends : Gains (Ends high) u w) where
+    (words : LoadsWords addr last b u) (ends : Gains (Ends high) u w) (known_then : IsSound b) (known : IsSound w) where
+  abbrev answered_by : Found
+  answered_by = record words.found { addr = addr; hop = hop_in (entry_in last) }
+
   abbrev seen_by : Seen
-  seen_by = record {
-    addr = addr;
-    hop = hop_in (entry_in last);
-    first = words.from;
-    last = words.until;
-    lo = done_at low;
-    hi = begun_at high;
-  }
+  seen_by = seen_of (done_at low) (begun_at high) answered_by
 
   state : worker_by w.own ≡ record (worker_by v.own) {
     phase = Online;
@@ -251,7 +260,7 @@ module _ (addr low last high : ℕ) (v b u w : View) (begins : Gains (Begins (ad
       ∙ ap (λ (x : WorkerState). moved (length ends.seen) x (Ends high))
       (words.state
       ∙ ap (λ (x : WorkerState). record x {
-        probes = Answered addr (hop_in (entry_in last)) words.from words.until ∷ [];
+        probes = Answered addr (hop_in (entry_in last)) seen_by.first seen_by.last ∷ [];
       })
       (gains_state (Begins (addr ∷ []) low) v b begins))
 
@@ -266,29 +275,31 @@ module _ (addr low last high : ℕ) (v b u w : View) (begins : Gains (Begins (ad
   legal =
       let all : All (IsLegalAtPlace (setup_of v.opening) w.seen) (worker_by w.own).finished = subst
       (λ (o : Opened). All (IsLegalAtPlace (setup_of o) w.seen) (worker_by w.own).finished)
-      (ap (λ (x : View). x.opening) on.same) ends.sound.legal in
+      (ap (λ (x : View). x.opening) on.same) known.legal in
       All-head (IsLegalAtPlace (setup_of v.opening) w.seen) seen_by (worker_by v.own).finished
       (subst (All (IsLegalAtPlace (setup_of v.opening) w.seen)) finished all)
+
+  -- it is the lookup that the loads tell
+  same_found : answered_by ≡ words.found
+  same_found = λ i. record words.found { addr = sym words.answer.0 i; hop = sym words.answer.1 i }
 
   pub looked : (hop : Option ℕ) (lo hi : ℕ) → hop ≡ hop_in (entry_in last) → lo ≡ done_at low
       → hi ≡ begun_at high
       → LooksUp addr hop lo hi v w
   looked hop lo hi hop_is lo_is hi_is =
       let loaded : GoesOn v u = goes_on v b u (gains_on (Begins (addr ∷ []) low) v b begins) words.rest in
-      let opened : u.opening ≡ v.opening = ap (λ (x : View). x.opening) loaded.same in record {
+      let opened : u.opening ≡ v.opening = ap (λ (x : View). x.opening) loaded.same in
+      let seen_is : seen_by ≡ seen_of lo hi words.found = λ i. seen_of (sym lo_is i) (sym hi_is i) (same_found i) in record {
         started = b;
         loaded = u;
-        around = around (addr ∷ []) low high lo hi v b u w begins ends opened lo_is hi_is;
-        word = words.word;
-        second = words.second;
+        around = around (addr ∷ []) low high lo hi v b u w begins ends known_then known opened lo_is hi_is;
+        found = words.found;
         steps = words.steps;
         exact = words.exact;
+        answer = (words.answer.0, words.answer.1 ∙ sym hop_is);
         rest = on;
         online = ap (λ (x : WorkerState). x.phase) state;
-        seen = seen_by;
-        finished = finished;
-        answer = (refl, sym hop_is);
-        versions = (sym lo_is, sym hi_is);
+        finished = finished ∙ ap (λ (l : Seen). l ∷ (worker_by v.own).finished) seen_is;
         after = words.after;
-        legal = legal;
+        legal = subst (IsLegalAtPlace (setup_of v.opening) w.seen) seen_is legal;
       }

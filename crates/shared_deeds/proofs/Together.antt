@@ -1,5 +1,5 @@
 -- The steps of a lookup of four addresses.
-use Rattle.std.proofs.Common.{◌≡◌, ℕ, ◌+◌, ◌*◌, ◌%◌, ◌^◌, ◌≤◌, All, List, [], ◌∷◌, ◌++◌, map, length, Option, refl, sym, ap, subst, ◌∙◌, arith, length-append}
+use Rattle.std.proofs.Common.{◌≡◌, ℕ, ◌+◌, ◌*◌, ◌%◌, ◌^◌, ◌≤◌, All, List, [], ◌∷◌, ◌++◌, length, Option, Some, None, refl, sym, ap, subst, ◌∙◌, arith}
 use Rattle.std.proofs.lemmas.List.Elements.{All-nil, All-cons, All-head, All-tail}
 use Rattle.lpm_entry.specs.declared.Entry.{Entry}
 use Rattle.lpm_entry.specs.declared.Entry.TheVariants.{Miss, Hop, Group}
@@ -11,9 +11,10 @@ use Rattle.lpm_trace.specs.Workers.{Worker as WorkerState, Online, LookingUp, Un
 use Rattle.lpm_trace.specs.Laws.{IsLegalAtPlace}
 use Rattle.shared_words.specs.declared.view.View.{View}
 use Rattle.shared_words.specs.Opened.{Opened, setup_of}
-use Rattle.shared_words.specs.Seats.{Gains, IsSecondAt}
-use Rattle.shared_deeds.specs.Deeds.{GainsAll, GoesOn, LoadsFirsts, LoadsLast, IsNextWith, LooksUpAll, first_words, is_group}
-use Rattle.shared_deeds.proofs.Deeds.{gains_on, goes_on, gains_state, goes_after, around, later_longer, answered}
+use Rattle.shared_words.specs.Seats.{IsSound, Gains, IsSecondAt}
+use Rattle.shared_words.specs.Loads.{Found, IsReadOn, last_at, seen_of}
+use Rattle.shared_deeds.specs.Deeds.{GainsAt, GoesOn, LoadsFirsts, LoadsLast, IsNextWith, LooksUpAll, first_words, loads_first}
+use Rattle.shared_deeds.proofs.Deeds.{alone, gains_on, goes_at, goes_on, gains_state, around, later_longer, answered}
 
 -- ---- the probes of a lookup
 
@@ -101,7 +102,7 @@ module _ (a b c d : ℕ) (v v1 v2 v3 w : View) (x1 x2 x3 x4 : ℕ) (g1 : Gains (
       let l4 : length v.seen ≤ n4 = omega (arith, later_longer v.seen v3.seen o3.later, later_longer v3.seen g4.seen g4.later) in
       let is : ℕ → Type 0 = λ place. length v.seen ≤ place in
       record {
-        steps = (v3, (v2, (v1, (v, refl, g1), g2), g3), g4);
+        steps = (v3, (v2, (v1, (v, refl, g1, refl), g2, refl), g3, refl), g4, refl);
         rest = goes_on v v3 w o3 (gains_on (LoadFirst x4) v3 w g4);
         places = n1 ∷ n2 ∷ n3 ∷ n4 ∷ [];
         count = refl;
@@ -112,24 +113,17 @@ module _ (a b c d : ℕ) (v v1 v2 v3 w : View) (x1 x2 x3 x4 : ℕ) (g1 : Gains (
 
 -- ---- the words that answer
 
-none_group : (e : Entry) → IsLast e → 0 ≡ is_group e
-none_group Miss last = refl
-none_group (Hop hop depth) last = refl
-none_group (Group group) last = absurd last
-
 module _ (addr word : ℕ) (v : View) where
   pub no_second : IsLast (entry_in word) → LoadsLast addr word word v v
   no_second last = record {
-    seconds = [];
+    second = None;
     steps = refl;
-    exact = none_group (entry_in word) last;
+    exact = alone (entry_in word) last;
     rest = record { same = refl; later = ([], refl) };
-    state = λ next. (
-      next.first,
-      ap (λ (ps : List Probe). record (worker_by v.own) { probes = ps })
-          (next.split
-          ∙ ap (λ (p : Probe). next.before ++ p ∷ next.rest) (answered next.first addr (entry_in word) last)),
-    );
+    state = λ next.
+        ap (λ (ps : List Probe). record (worker_by v.own) { probes = ps })
+        (next.split
+        ∙ ap (λ (p : Probe). next.before ++ p ∷ next.rest) (answered next.first addr (entry_in word) last));
   }
 
   module _ (group : ℕ) (is : entry_in word ≡ Group group) where
@@ -148,17 +142,16 @@ module _ (addr word : ℕ) (v : View) where
 
     pub second_loaded : (last : ℕ) (w : View) → Gains (LoadSecond last) v w → LoadsLast addr word last v w
     second_loaded last w g = record {
-      seconds = last ∷ [];
-      steps = (v, refl, g);
-      exact = sym (ap is_group is);
+      second = Some (last, length g.seen);
+      steps = (v, refl, g, refl);
+      exact = subst (λ (e : Entry). IsReadOn e (Some (last, length g.seen)) (hop_in (entry_in last))) (sym is)
+          ((last, length g.seen), refl, refl);
       rest = gains_on (LoadSecond last) v w g;
-      state = λ next. (
-        length g.seen,
-        gains_state (LoadSecond last) v w g
-            ∙ ap (λ (ps : List Probe). record (worker_by v.own) { probes = ps })
-            (ap (second_read (length g.seen) (entry_in last)) (grouped next)
-            ∙ second_read_at addr group next.first next.rest (length g.seen) (entry_in last) next.before next.answered),
-      );
+      state = λ next.
+          gains_state (LoadSecond last) v w g
+          ∙ ap (λ (ps : List Probe). record (worker_by v.own) { probes = ps })
+          (ap (second_read (length g.seen) (entry_in last)) (grouped next)
+          ∙ second_read_at addr group next.first next.rest (length g.seen) (entry_in last) next.before next.answered);
     }
 
 -- ---- the whole lookup
@@ -173,8 +166,8 @@ four (n1 ∷ n2 ∷ n3 ∷ n4 ∷ n5 ∷ xs) count = absurd (omega (arith, count
 
 -- one word that answers, where those before have answers and those behind have first words
 last_stands : (r : WorkerState) (addr word last first : ℕ) (before rest : List Probe) (u s : View) → AreAnswered before
-    → AreBegun rest → Stands r (before ++ read_first first addr (entry_in word) ∷ rest) u → LoadsLast addr word last u s
-    → (until : ℕ) × Stands r (before ++ Answered addr (hop_in (entry_in last)) first until ∷ rest) s
+    → AreBegun rest → Stands r (before ++ read_first first addr (entry_in word) ∷ rest) u → (loads : LoadsLast addr word last u s)
+    → Stands r (before ++ Answered addr (hop_in (entry_in last)) first (last_at first loads.second) ∷ rest) s
 last_stands r addr word last first before rest u s done begun stands loads =
     let next : IsNextWith addr word (worker_by u.own).probes = record {
       before = before;
@@ -184,9 +177,8 @@ last_stands r addr word last first before rest u s done begun stands loads =
       begun = begun;
       split = ap (λ (x : WorkerState). x.probes) stands;
     } in
-    let t = loads.state next in
-    let probes : List Probe = before ++ Answered addr (hop_in (entry_in last)) first t.0 ∷ rest in
-    (t.0, t.1 ∙ ap (λ (x : WorkerState). record x { probes = probes }) stands)
+    let probes : List Probe = before ++ Answered addr (hop_in (entry_in last)) first (last_at first loads.second) ∷ rest in
+    loads.state next ∙ ap (λ (x : WorkerState). record x { probes = probes }) stands
 
 next_with : (r : WorkerState) (addr word first : ℕ) (before rest : List Probe) (u : View) → AreAnswered before
     → AreBegun rest → Stands r (before ++ read_first first addr (entry_in word) ∷ rest) u
@@ -204,10 +196,9 @@ looking_by : (r : WorkerState) (probes : List Probe) (u : View) → r.phase ≡ 
     → (worker_by u.own).phase ≡ LookingUp
 looking_by r probes u looking stands = ap (λ (x : WorkerState). x.phase) stands ∙ looking
 
-goes_seconds : (newer older : List ℕ) (u v w : View) → GainsAll (map LoadSecond newer) v w
-    → GainsAll (map LoadSecond older) u v → GainsAll (map LoadSecond (newer ++ older)) u w
-goes_seconds [] older u v w new old = subst (GainsAll (map LoadSecond older) u) (sym new) old
-goes_seconds (x ∷ newer) older u v w new old = (new.0, goes_seconds newer older u v new.0 new.1 old, new.2)
+all_of : (P : Found → Type 0) (a b c d : Found) → P a → P b → P c → P d → All P (a ∷ b ∷ c ∷ d ∷ [])
+all_of P a b c d p q r s =
+    All-cons P a (b ∷ c ∷ d ∷ []) p (All-cons P b (c ∷ d ∷ []) q (All-cons P c (d ∷ []) r (All-cons P d [] s (All-nil P))))
 
 pub same_four : {A : Type 0} {a b c d a' b' c' d' : A} → a' ≡ a → b' ≡ b → c' ≡ c → d' ≡ d
     → a' ∷ b' ∷ c' ∷ d' ∷ [] ≡ a ∷ b ∷ c ∷ d ∷ []
@@ -267,79 +258,81 @@ module _ (a b c d low : ℕ) (addrs : List ℕ) (same : addrs ≡ a ∷ b ∷ c 
     next_a = next_with r a x1 n1 [] (p2 ∷ p3 ∷ p4 ∷ []) f tt begun234 stands
 
     module _ (l1 : ℕ) (s1 : View) (one : LoadsLast a x1 l1 f s1) where
-      stands1 : (until : ℕ) × Stands r (Answered a (hop_in (entry_in l1)) n1 until ∷ p2 ∷ p3 ∷ p4 ∷ []) s1
+      stands1 : Stands r (Answered a (hop_in (entry_in l1)) n1 (last_at n1 one.second) ∷ p2 ∷ p3 ∷ p4 ∷ []) s1
       stands1 = last_stands r a x1 l1 n1 [] (p2 ∷ p3 ∷ p4 ∷ []) f s1 tt begun234 stands one
 
       abbrev q1 : Probe
-      q1 = Answered a (hop_in (entry_in l1)) n1 stands1.0
+      q1 = Answered a (hop_in (entry_in l1)) n1 (last_at n1 one.second)
 
       pub looking_b : (worker_by s1.own).phase ≡ LookingUp
-      looking_b = looking_by r (q1 ∷ p2 ∷ p3 ∷ p4 ∷ []) s1 looking stands1.1
+      looking_b = looking_by r (q1 ∷ p2 ∷ p3 ∷ p4 ∷ []) s1 looking stands1
 
       pub next_b : IsNextWith b x2 (worker_by s1.own).probes
-      next_b = next_with r b x2 n2 (q1 ∷ []) (p3 ∷ p4 ∷ []) s1 tt begun34 stands1.1
+      next_b = next_with r b x2 n2 (q1 ∷ []) (p3 ∷ p4 ∷ []) s1 tt begun34 stands1
 
       module _ (l2 : ℕ) (s2 : View) (two : LoadsLast b x2 l2 s1 s2) where
-        stands2 : (until : ℕ) × Stands r (q1 ∷ Answered b (hop_in (entry_in l2)) n2 until ∷ p3 ∷ p4 ∷ []) s2
-        stands2 = last_stands r b x2 l2 n2 (q1 ∷ []) (p3 ∷ p4 ∷ []) s1 s2 tt begun34 stands1.1 two
+        stands2 : Stands r (q1 ∷ Answered b (hop_in (entry_in l2)) n2 (last_at n2 two.second) ∷ p3 ∷ p4 ∷ []) s2
+        stands2 = last_stands r b x2 l2 n2 (q1 ∷ []) (p3 ∷ p4 ∷ []) s1 s2 tt begun34 stands1 two
 
         abbrev q2 : Probe
-        q2 = Answered b (hop_in (entry_in l2)) n2 stands2.0
+        q2 = Answered b (hop_in (entry_in l2)) n2 (last_at n2 two.second)
 
         pub looking_c : (worker_by s2.own).phase ≡ LookingUp
-        looking_c = looking_by r (q1 ∷ q2 ∷ p3 ∷ p4 ∷ []) s2 looking stands2.1
+        looking_c = looking_by r (q1 ∷ q2 ∷ p3 ∷ p4 ∷ []) s2 looking stands2
 
         pub next_c : IsNextWith c x3 (worker_by s2.own).probes
-        next_c = next_with r c x3 n3 (q1 ∷ q2 ∷ []) (p4 ∷ []) s2 tt begun4 stands2.1
+        next_c = next_with r c x3 n3 (q1 ∷ q2 ∷ []) (p4 ∷ []) s2 tt begun4 stands2
 
         module _ (l3 : ℕ) (s3 : View) (three : LoadsLast c x3 l3 s2 s3) where
-          stands3 : (until : ℕ) × Stands r (q1 ∷ q2 ∷ Answered c (hop_in (entry_in l3)) n3 until ∷ p4 ∷ []) s3
-          stands3 = last_stands r c x3 l3 n3 (q1 ∷ q2 ∷ []) (p4 ∷ []) s2 s3 tt begun4 stands2.1 three
+          stands3 : Stands r (q1 ∷ q2 ∷ Answered c (hop_in (entry_in l3)) n3 (last_at n3 three.second) ∷ p4 ∷ []) s3
+          stands3 = last_stands r c x3 l3 n3 (q1 ∷ q2 ∷ []) (p4 ∷ []) s2 s3 tt begun4 stands2 three
 
           abbrev q3 : Probe
-          q3 = Answered c (hop_in (entry_in l3)) n3 stands3.0
+          q3 = Answered c (hop_in (entry_in l3)) n3 (last_at n3 three.second)
 
           pub looking_d : (worker_by s3.own).phase ≡ LookingUp
-          looking_d = looking_by r (q1 ∷ q2 ∷ q3 ∷ p4 ∷ []) s3 looking stands3.1
+          looking_d = looking_by r (q1 ∷ q2 ∷ q3 ∷ p4 ∷ []) s3 looking stands3
 
           pub next_d : IsNextWith d x4 (worker_by s3.own).probes
-          next_d = next_with r d x4 n4 (q1 ∷ q2 ∷ q3 ∷ []) [] s3 tt tt stands3.1
+          next_d = next_with r d x4 n4 (q1 ∷ q2 ∷ q3 ∷ []) [] s3 tt tt stands3
 
           module _ (l4 : ℕ) (s4 : View) (last : LoadsLast d x4 l4 s3 s4) where
-            stands4 : (until : ℕ) × Stands r (q1 ∷ q2 ∷ q3 ∷ Answered d (hop_in (entry_in l4)) n4 until ∷ []) s4
-            stands4 = last_stands r d x4 l4 n4 (q1 ∷ q2 ∷ q3 ∷ []) [] s3 s4 tt tt stands3.1 last
+            stands4 : Stands r (q1 ∷ q2 ∷ q3 ∷ Answered d (hop_in (entry_in l4)) n4 (last_at n4 last.second) ∷ []) s4
+            stands4 = last_stands r d x4 l4 n4 (q1 ∷ q2 ∷ q3 ∷ []) [] s3 s4 tt tt stands3 last
 
             abbrev q4 : Probe
-            q4 = Answered d (hop_in (entry_in l4)) n4 stands4.0
+            q4 = Answered d (hop_in (entry_in l4)) n4 (last_at n4 last.second)
 
             pub looking_end : (worker_by s4.own).phase ≡ LookingUp
-            looking_end = looking_by r (q1 ∷ q2 ∷ q3 ∷ q4 ∷ []) s4 looking stands4.1
+            looking_end = looking_by r (q1 ∷ q2 ∷ q3 ∷ q4 ∷ []) s4 looking stands4
 
             pub all_answered : AreAnswered (worker_by s4.own).probes
-            all_answered = subst (λ (x : WorkerState). AreAnswered x.probes) (sym stands4.1) tt
+            all_answered = subst (λ (x : WorkerState). AreAnswered x.probes) (sym stands4) tt
 
-            module _ (high : ℕ) (w : View) (ends : Gains (Ends high) s4 w) where
-              abbrev seen : ℕ → ℕ → ℕ → ℕ → Seen
-              seen addr word first until = record {
-                addr = addr;
-                hop = hop_in (entry_in word);
-                first = first;
-                last = until;
-                lo = done_at low;
-                hi = begun_at high;
-              }
+            module _ (high : ℕ) (w : View) (ends : Gains (Ends high) s4 w) (known_then : IsSound v) (known : IsSound w) where
+              abbrev found1 : Found
+              found1 = record { addr = a; hop = hop_in (entry_in l1); word = x1; first = n1; second = one.second }
+
+              abbrev found2 : Found
+              found2 = record { addr = b; hop = hop_in (entry_in l2); word = x2; first = n2; second = two.second }
+
+              abbrev found3 : Found
+              found3 = record { addr = c; hop = hop_in (entry_in l3); word = x3; first = n3; second = three.second }
+
+              abbrev found4 : Found
+              found4 = record { addr = d; hop = hop_in (entry_in l4); word = x4; first = n4; second = last.second }
 
               abbrev seen1 : Seen
-              seen1 = seen a l1 n1 stands1.0
+              seen1 = seen_of (done_at low) (begun_at high) found1
 
               abbrev seen2 : Seen
-              seen2 = seen b l2 n2 stands2.0
+              seen2 = seen_of (done_at low) (begun_at high) found2
 
               abbrev seen3 : Seen
-              seen3 = seen c l3 n3 stands3.0
+              seen3 = seen_of (done_at low) (begun_at high) found3
 
               abbrev seen4 : Seen
-              seen4 = seen d l4 n4 stands4.0
+              seen4 = seen_of (done_at low) (begun_at high) found4
 
               state : worker_by w.own ≡ record (worker_by v0.own) {
                 phase = Online;
@@ -349,7 +342,7 @@ module _ (a b c d low : ℕ) (addrs : List ℕ) (same : addrs ≡ a ∷ b ∷ c 
               }
               state = gains_state (Ends high) s4 w ends
                   ∙ ap (λ (x : WorkerState). moved (length ends.seen) x (Ends high))
-                  (stands4.1
+                  (stands4
                   ∙ ap (λ (x : WorkerState). record x { probes = q1 ∷ q2 ∷ q3 ∷ q4 ∷ [] })
                   (gains_state (Begins (a ∷ b ∷ c ∷ d ∷ []) low) v0 v begins))
 
@@ -368,36 +361,33 @@ module _ (a b c d low : ℕ) (addrs : List ℕ) (same : addrs ≡ a ∷ b ∷ c 
               abbrev IsLegal : Seen → Type 0
               IsLegal = IsLegalAtPlace (setup_of v0.opening) w.seen
 
-              legal : All IsLegal (seen1 ∷ seen2 ∷ seen3 ∷ seen4 ∷ [])
+              abbrev IsFoundLegal : Found → Type 0
+              IsFoundLegal f = IsLegal (seen_of (done_at low) (begun_at high) f)
+
+              legal : All IsFoundLegal (found1 ∷ found2 ∷ found3 ∷ found4 ∷ [])
               legal =
                   let old : List Seen = (worker_by v0.own).finished in
                   let all : All IsLegal (worker_by w.own).finished = subst
                   (λ (o : Opened). All (IsLegalAtPlace (setup_of o) w.seen) (worker_by w.own).finished)
-                  (ap (λ (x : View). x.opening) on.same) ends.sound.legal in
+                  (ap (λ (x : View). x.opening) on.same) known.legal in
                   let h4 : All IsLegal (seen4 ∷ seen3 ∷ seen2 ∷ seen1 ∷ old) = subst (All IsLegal) finished all in
                   let h3 = All-tail IsLegal seen4 (seen3 ∷ seen2 ∷ seen1 ∷ old) h4 in
                   let h2 = All-tail IsLegal seen3 (seen2 ∷ seen1 ∷ old) h3 in
                   let h1 = All-tail IsLegal seen2 (seen1 ∷ old) h2 in
-                  All-cons IsLegal seen1 (seen2 ∷ seen3 ∷ seen4 ∷ []) (All-head IsLegal seen1 old h1)
-                  (All-cons IsLegal seen2 (seen3 ∷ seen4 ∷ []) (All-head IsLegal seen2 (seen1 ∷ old) h2)
-                  (All-cons IsLegal seen3 (seen4 ∷ []) (All-head IsLegal seen3 (seen2 ∷ seen1 ∷ old) h3)
-                  (All-cons IsLegal seen4 [] (All-head IsLegal seen4 (seen3 ∷ seen2 ∷ seen1 ∷ old) h4)
-                  (All-nil IsLegal))))
+                  all_of IsFoundLegal found1 found2 found3 found4 (All-head IsLegal seen1 old h1)
+                  (All-head IsLegal seen2 (seen1 ∷ old) h2) (All-head IsLegal seen3 (seen2 ∷ seen1 ∷ old) h3)
+                  (All-head IsLegal seen4 (seen3 ∷ seen2 ∷ seen1 ∷ old) h4)
 
-              abbrev IsAfter : Seen → Type 0
-              IsAfter s = length v.seen ≤ s.first
-
-              after : All IsAfter (seen1 ∷ seen2 ∷ seen3 ∷ seen4 ∷ [])
+              after : All (λ f. length v.seen ≤ f.first) (found1 ∷ found2 ∷ found3 ∷ found4 ∷ [])
               after =
                   let is : ℕ → Type 0 = λ place. length v.seen ≤ place in
                   let h1 : All is (n1 ∷ n2 ∷ n3 ∷ n4 ∷ []) = subst (All is) places_of.4 firsts.after in
                   let h2 = All-tail is n1 (n2 ∷ n3 ∷ n4 ∷ []) h1 in
                   let h3 = All-tail is n2 (n3 ∷ n4 ∷ []) h2 in
                   let h4 = All-tail is n3 (n4 ∷ []) h3 in
-                  All-cons IsAfter seen1 (seen2 ∷ seen3 ∷ seen4 ∷ []) (All-head is n1 (n2 ∷ n3 ∷ n4 ∷ []) h1)
-                  (All-cons IsAfter seen2 (seen3 ∷ seen4 ∷ []) (All-head is n2 (n3 ∷ n4 ∷ []) h2)
-                  (All-cons IsAfter seen3 (seen4 ∷ []) (All-head is n3 (n4 ∷ []) h3)
-                  (All-cons IsAfter seen4 [] (All-head is n4 [] h4) (All-nil IsAfter))))
+                  all_of (λ f. length v.seen ≤ f.first) found1 found2 found3 found4
+                  (All-head is n1 (n2 ∷ n3 ∷ n4 ∷ []) h1) (All-head is n2 (n3 ∷ n4 ∷ []) h2)
+                  (All-head is n3 (n4 ∷ []) h3) (All-head is n4 [] h4)
 
               opened : s4.opening ≡ v0.opening
               opened =
@@ -405,48 +395,33 @@ module _ (a b c d low : ℕ) (addrs : List ℕ) (same : addrs ≡ a ∷ b ∷ c 
                   (goes_on f s1 s4 one.rest (goes_on s1 s2 s4 two.rest (goes_on s2 s3 s4 three.rest last.rest)))) in
                   ap (λ (x : View). x.opening) loaded.same
 
+              firsts_on : GainsAt (loads_first (n1 ∷ n2 ∷ n3 ∷ n4 ∷ []) (x1 ∷ x2 ∷ x3 ∷ x4 ∷ [])) v f
+              firsts_on = subst (λ places. GainsAt (loads_first places (x1 ∷ x2 ∷ x3 ∷ x4 ∷ [])) v f) places_of.4 firsts.steps
+
               pub looked_together : (hops : List (Option ℕ)) (lo hi : ℕ)
                   → hops ≡ hop_in (entry_in l1) ∷ hop_in (entry_in l2) ∷ hop_in (entry_in l3) ∷ hop_in (entry_in l4) ∷ []
                   → lo ≡ done_at low → hi ≡ begun_at high
                   → LooksUpAll (a ∷ b ∷ c ∷ d ∷ []) hops lo hi v0 w
               looked_together hops lo hi hops_are lo_is hi_is =
-                  let is : Seen → Type 0 = λ s. (s.lo ≡ lo) × (s.hi ≡ hi) in
-                  let both : (done_at low ≡ lo) × (begun_at high ≡ hi) = (sym lo_is, sym hi_is) in
-                  let third : List ℕ = two.seconds ++ one.seconds in
-                  let fourth : List ℕ = three.seconds ++ third in
-                  let seconds : List ℕ = last.seconds ++ fourth in
-                  let seconds_on : GainsAll (map LoadSecond seconds) f s4 =
-                  goes_seconds last.seconds (three.seconds ++ (two.seconds ++ one.seconds)) f s3 s4 last.steps
-                  (goes_seconds three.seconds (two.seconds ++ one.seconds) f s2 s3 three.steps
-                  (goes_seconds two.seconds one.seconds f s1 s2 two.steps one.steps)) in
-                  record {
+                  let from_three = goes_at _ _ s2 s3 s4 last.steps three.steps in
+                  let from_two = goes_at _ _ s1 s2 s4 from_three two.steps in
+                  let seconds_on = goes_at _ _ f s1 s4 from_two one.steps in
+                  subst (λ (z : ℕ × ℕ). LooksUpAll (a ∷ b ∷ c ∷ d ∷ []) hops z.0 z.1 v0 w)
+                  (λ i. (sym lo_is i, sym hi_is i))
+                  (record {
                     started = v;
                     loaded = s4;
-                    around = around (a ∷ b ∷ c ∷ d ∷ []) low high lo hi v0 v s4 w begins ends opened lo_is hi_is;
-                    words = x4 ∷ x3 ∷ x2 ∷ x1 ∷ [];
-                    seconds = seconds;
-                    steps = goes_after (map LoadSecond seconds) (map LoadFirst (x4 ∷ x3 ∷ x2 ∷ x1 ∷ [])) v f s4
-                        seconds_on firsts.steps;
-                    each = refl;
-                    exact = omega (
-                      arith,
-                      length-append last.seconds fourth,
-                      length-append three.seconds third,
-                      length-append two.seconds one.seconds,
-                      last.exact,
-                      three.exact,
-                      two.exact,
-                      one.exact,
-                    );
-                    rest = on;
-                    online = ap (λ (x : WorkerState). x.phase) state;
-                    seen = seen1 ∷ seen2 ∷ seen3 ∷ seen4 ∷ [];
-                    finished = finished;
+                    around = around (a ∷ b ∷ c ∷ d ∷ []) low high (done_at low) (begun_at high) v0 v s4 w begins ends
+                        known_then known opened refl refl;
+                    found = found1 ∷ found2 ∷ found3 ∷ found4 ∷ [];
+                    steps = goes_at _ _ v f s4 seconds_on firsts_on;
+                    exact = all_of (λ f. IsReadOn (entry_in f.word) f.second f.hop) found1 found2 found3 found4
+                        one.exact two.exact three.exact last.exact;
                     addrs_are = refl;
                     hops_are = sym hops_are;
-                    versions = All-cons is seen1 (seen2 ∷ seen3 ∷ seen4 ∷ []) both
-                        (All-cons is seen2 (seen3 ∷ seen4 ∷ []) both
-                        (All-cons is seen3 (seen4 ∷ []) both (All-cons is seen4 [] both (All-nil is))));
+                    rest = on;
+                    online = ap (λ (x : WorkerState). x.phase) state;
+                    finished = finished;
                     after = after;
                     legal = legal;
-                  }
+                  })

@@ -1,7 +1,7 @@
 -- Meaning: what a whole deed of a worker gains its view: a report, or a lookup of one address (DPDK
 -- Programmer's Guide, "RCU Library": a worker comes online, is quiescent, goes offline; Gupta, Lin and
 -- McKeown, INFOCOM 1998, section 3: a lookup reads one word or two).
-use Rattle.std.specs.Prelude.{ℕ, ◌≡◌, ◌+◌, ◌≤◌, List, [], ◌∷◌, ◌++◌, All, map, reverse, length, Option, Some, None}
+use Rattle.std.specs.Prelude.{ℕ, ◌≡◌, ◌≤◌, List, [], ◌∷◌, ◌++◌, All, map, reverse, length, Option, Some, None}
 use Rattle.lpm_entry.specs.declared.Entry.{Entry}
 use Rattle.lpm_entry.specs.declared.Entry.TheVariants.{Miss, Hop, Group}
 use Rattle.lpm_entry.specs.Words.{entry_in, hop_in}
@@ -15,6 +15,7 @@ use Rattle.shared_words.specs.declared.view.View.{View}
 use Rattle.shared_words.specs.Opened.{setup_of}
 use Rattle.shared_words.specs.Rule.{IsLater}
 use Rattle.shared_words.specs.Seats.{Gains}
+use Rattle.shared_words.specs.Loads.{Found, IsReadOn, firsts_at, last_at, loads_at, second_load, seconds_at, seen_of}
 
 -- the view gains these steps, one after another, of which the newest stands first
 abbrev pub GainsAll : List WorkerStep → View → View → Type 0
@@ -26,16 +27,13 @@ pub record GoesOn (v w : View) : Type 0 where
   pub same : w ≡ record v { own = w.own; seen = w.seen }
   pub later : IsLater v.seen w.seen
 
--- the loads of an address's words: the first word, and the second word where it has one
-abbrev pub loads_of : ℕ → Option ℕ → List WorkerStep
-loads_of word None = LoadFirst word ∷ []
-loads_of word (Some second) = LoadSecond second ∷ LoadFirst word ∷ []
+-- the view gains these steps, each at its place: how many of the writer's steps the worker had seen then
+abbrev pub GainsAt : List (WorkerStep × ℕ) → View → View → Type 0
+GainsAt [] v w = w ≡ v
+GainsAt (s ∷ steps) v w =
+    (u : View) × GainsAt steps v u × (gains : Gains s.0 u w) × (s.1 ≡ length gains.seen)
 
--- a second word is loaded exactly where the first word is a group's
-abbrev pub IsReadOn : Entry → Option ℕ → Type 0
-IsReadOn Miss second = second ≡ None
-IsReadOn (Hop hop depth) second = second ≡ None
-IsReadOn (Group group) second = (word : ℕ) × (second ≡ Some word)
+-- ---- a lookup
 
 -- a lookup of these addresses begins and ends with a load of the sequence: `lo` is how many updates were
 -- done at the place of the first, and `hi` how many were begun at the place of the last
@@ -50,16 +48,15 @@ pub record LoadsAround (addrs : List ℕ) (lo hi : ℕ) (v started loaded w : Vi
 -- in a lookup of the address alone, its words are loaded, of which the last one answers, after all that
 -- the worker had seen of the writer's steps
 pub record LoadsWords (addr last : ℕ) (v w : View) : Type 0 where
-  pub word : ℕ
-  pub second : Option ℕ
-  pub steps : GainsAll (loads_of word second) v w
-  pub exact : IsReadOn (entry_in word) second
+  pub found : Found
+  pub steps : GainsAt (loads_at found.word found.first found.second) v w
+  pub exact : IsReadOn (entry_in found.word) found.second found.hop
+  pub answer : (found.addr ≡ addr) × (found.hop ≡ hop_in (entry_in last))
   pub rest : GoesOn v w
-  pub from : ℕ
-  pub until : ℕ
-  pub after : length v.seen ≤ from
-  pub state : worker_by w.own
-      ≡ record (worker_by v.own) { probes = Answered addr (hop_in (entry_in last)) from until ∷ [] }
+  pub after : length v.seen ≤ found.first
+  pub state : worker_by w.own ≡ record (worker_by v.own) {
+    probes = Answered addr (hop_in (entry_in last)) found.first (last_at found.first found.second) ∷ [];
+  }
 
 -- the address is looked up: the sequence is loaded, its words, and the sequence again. This is the
 -- worker's newest lookup. It is legal, and its words were loaded after all that the worker had seen of the
@@ -68,18 +65,15 @@ pub record LooksUp (addr : ℕ) (hop : Option ℕ) (lo hi : ℕ) (v w : View) : 
   pub started : View
   pub loaded : View
   pub around : LoadsAround (addr ∷ []) lo hi v started loaded w
-  pub word : ℕ
-  pub second : Option ℕ
-  pub steps : GainsAll (loads_of word second) started loaded
-  pub exact : IsReadOn (entry_in word) second
+  pub found : Found
+  pub steps : GainsAt (loads_at found.word found.first found.second) started loaded
+  pub exact : IsReadOn (entry_in found.word) found.second found.hop
+  pub answer : (found.addr ≡ addr) × (found.hop ≡ hop)
   pub rest : GoesOn v w
   pub online : (worker_by w.own).phase ≡ Online
-  pub seen : Seen
-  pub finished : (worker_by w.own).finished ≡ seen ∷ (worker_by v.own).finished
-  pub answer : (seen.addr ≡ addr) × (seen.hop ≡ hop)
-  pub versions : (seen.lo ≡ lo) × (seen.hi ≡ hi)
-  pub after : length started.seen ≤ seen.first
-  pub legal : IsLegalAtPlace (setup_of v.opening) w.seen seen
+  pub finished : (worker_by w.own).finished ≡ seen_of lo hi found ∷ (worker_by v.own).finished
+  pub after : length started.seen ≤ found.first
+  pub legal : IsLegalAtPlace (setup_of v.opening) w.seen (seen_of lo hi found)
 
 -- ---- a lookup of several addresses
 
@@ -89,12 +83,17 @@ first_words (n ∷ places) (a ∷ addrs) (word ∷ words) =
     read_first n a (entry_in word) ∷ first_words places addrs words
 first_words other addrs words = []
 
+-- the loads of first words at these places
+abbrev pub loads_first : List ℕ → List ℕ → List (WorkerStep × ℕ)
+loads_first (n ∷ places) (word ∷ words) = loads_first places words ++ (LoadFirst word, n) ∷ []
+loads_first other words = []
+
 -- the first words of the addresses are loaded, after all that the worker had seen of the writer's steps
 pub record LoadsFirsts (addrs words : List ℕ) (v w : View) : Type 0 where
-  pub steps : GainsAll (map LoadFirst (reverse words)) v w
-  pub rest : GoesOn v w
   pub places : List ℕ
   pub count : length places ≡ length addrs
+  pub steps : GainsAt (loads_first places words) v w
+  pub rest : GoesOn v w
   pub after : All (λ place. length v.seen ≤ place) places
   pub state : worker_by w.own
       ≡ record (worker_by v.own) { probes = first_words places addrs words }
@@ -108,26 +107,17 @@ pub record IsNextWith (addr word : ℕ) (probes : List Probe) : Type 0 where
   pub begun : AreBegun rest
   pub split : probes ≡ before ++ read_first first addr (entry_in word) ∷ rest
 
--- how many of these first words are a group's
-abbrev pub is_group : Entry → ℕ
-is_group Miss = 0
-is_group (Hop hop depth) = 0
-is_group (Group group) = 1
-
-abbrev pub groups_in : List ℕ → ℕ
-groups_in [] = 0
-groups_in (word ∷ words) = is_group (entry_in word) + groups_in words
-
 -- the word that answers is loaded, where that isn't the first word
 pub record LoadsLast (addr word last : ℕ) (v w : View) : Type 0 where
-  pub seconds : List ℕ
-  pub steps : GainsAll (map LoadSecond seconds) v w
-  pub exact : length seconds ≡ is_group (entry_in word)
+  pub second : Option (ℕ × ℕ)
+  pub steps : GainsAt (second_load second) v w
+  pub exact : IsReadOn (entry_in word) second (hop_in (entry_in last))
   pub rest : GoesOn v w
-  pub state : (next : IsNextWith addr word (worker_by v.own).probes) → (until : ℕ)
-      × (worker_by w.own ≡ record (worker_by v.own) {
-        probes = next.before ++ Answered addr (hop_in (entry_in last)) next.first until ∷ next.rest;
-      })
+  pub state : (next : IsNextWith addr word (worker_by v.own).probes)
+      → worker_by w.own ≡ record (worker_by v.own) {
+        probes = next.before
+            ++ Answered addr (hop_in (entry_in last)) next.first (last_at next.first second) ∷ next.rest;
+      }
 
 -- the addresses are looked up together: the sequence is loaded, a first word for each, a second word for
 -- each first word that is a group's, and the sequence again. These are the worker's newest lookups. Each
@@ -137,17 +127,14 @@ pub record LooksUpAll (addrs : List ℕ) (hops : List (Option ℕ)) (lo hi : ℕ
   pub started : View
   pub loaded : View
   pub around : LoadsAround addrs lo hi v started loaded w
-  pub words : List ℕ
-  pub seconds : List ℕ
-  pub steps : GainsAll (map LoadSecond seconds ++ map LoadFirst words) started loaded
-  pub each : length words ≡ length addrs
-  pub exact : length seconds ≡ groups_in words
+  pub found : List Found
+  pub steps : GainsAt (seconds_at found ++ firsts_at found) started loaded
+  pub exact : All (λ f. IsReadOn (entry_in f.word) f.second f.hop) found
+  pub addrs_are : map (λ (f : Found). f.addr) found ≡ addrs
+  pub hops_are : map (λ (f : Found). f.hop) found ≡ hops
   pub rest : GoesOn v w
   pub online : (worker_by w.own).phase ≡ Online
-  pub seen : List Seen
-  pub finished : (worker_by w.own).finished ≡ reverse seen ++ (worker_by v.own).finished
-  pub addrs_are : map (λ (s : Seen). s.addr) seen ≡ addrs
-  pub hops_are : map (λ (s : Seen). s.hop) seen ≡ hops
-  pub versions : All (λ s. (s.lo ≡ lo) × (s.hi ≡ hi)) seen
-  pub after : All (λ s. length started.seen ≤ s.first) seen
-  pub legal : All (IsLegalAtPlace (setup_of v.opening) w.seen) seen
+  pub finished : (worker_by w.own).finished
+      ≡ reverse (map (seen_of lo hi) found) ++ (worker_by v.own).finished
+  pub after : All (λ f. length started.seen ≤ f.first) found
+  pub legal : All (λ f. IsLegalAtPlace (setup_of v.opening) w.seen (seen_of lo hi f)) found

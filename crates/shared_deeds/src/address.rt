@@ -22,19 +22,22 @@ pub fn lookup<const FIRST: u32, const SECOND: u32, T: Opens>(
     addr: u32,
 ) -> Answer
     requires own { IsOf table.now.board.shared.table_id (T.opened table.now.board.shared.key)
-        table.now.layout seat.old.place.table_id seat.old.place.me.0 }
+        table.now.layout seat.old.table seat.old.view }
     requires shape { IsShape FIRST SECOND }
-    requires first { seat.old.place.me.0.opening.first ≡ FIRST }
-    requires second { seat.old.place.me.0.opening.second ≡ SECOND }
-    requires online { (worker_by seat.old.place.me.0.own).phase ≡ Online }
+    requires first { seat.old.view.opening.first ≡ FIRST }
+    requires second { seat.old.view.opening.second ≡ SECOND }
+    requires online { (worker_by seat.old.view.own).phase ≡ Online }
     requires addr { addr < 2 ^ (FIRST + SECOND) }
-    ensures own { seat.new.place.table_id ≡ seat.old.place.table_id }
+    ensures own { seat.new.table ≡ seat.old.table }
+    ensures worker { seat.new.worker ≡ seat.old.worker }
     ensures answer { LooksUp addr result.hop result.lo result.hi
-        seat.old.place.me.0 seat.new.place.me.0 }
+        seat.old.view seat.new.view }
 {
     let low = seat.begin_lookup(table, &[u64::from(addr)]);
+    seat.history();
     let word = load_words::<FIRST, SECOND, T>(seat, table, addr);
     let high = seat.end_lookup(table);
+    seat.history();
     Answer {
         hop: Entry::hop_of_last_word::<FIRST, SECOND>(word),
         lo: low / 2,
@@ -50,17 +53,18 @@ fn load_words<const FIRST: u32, const SECOND: u32, T: Opens>(
     addr: u32,
 ) -> u64
     requires own { IsOf table.now.board.shared.table_id (T.opened table.now.board.shared.key)
-        table.now.layout seat.old.place.table_id seat.old.place.me.0 }
+        table.now.layout seat.old.table seat.old.view }
     requires shape { IsShape FIRST SECOND }
-    requires first { seat.old.place.me.0.opening.first ≡ FIRST }
-    requires second { seat.old.place.me.0.opening.second ≡ SECOND }
-    requires firsts { length seat.old.place.me.0.opening.firsts ≡ 2 ^ FIRST }
+    requires first { seat.old.view.opening.first ≡ FIRST }
+    requires second { seat.old.view.opening.second ≡ SECOND }
+    requires firsts { length seat.old.view.opening.firsts ≡ 2 ^ FIRST }
     requires addr { addr < 2 ^ (FIRST + SECOND) }
-    requires looking { (worker_by seat.old.place.me.0.own).phase ≡ LookingUp }
-    requires unread { (worker_by seat.old.place.me.0.own).probes ≡ Unread addr ∷ [] }
-    ensures own { seat.new.place.table_id ≡ seat.old.place.table_id }
+    requires looking { (worker_by seat.old.view.own).phase ≡ LookingUp }
+    requires unread { (worker_by seat.old.view.own).probes ≡ Unread addr ∷ [] }
+    ensures own { seat.new.table ≡ seat.old.table }
+    ensures worker { seat.new.worker ≡ seat.old.worker }
     ensures last { IsLastWord (FIRST + SECOND) result }
-    ensures words { LoadsWords addr result seat.old.place.me.0 seat.new.place.me.0 }
+    ensures words { LoadsWords addr result seat.old.view seat.new.view }
 {
     let index = Shape::<FIRST, SECOND>::first_index(addr);
     let word = seat.load_first(table, index);

@@ -36,24 +36,27 @@ pub fn lookup4<const FIRST: u32, const SECOND: u32, T: Opens>(
     d: u32,
 ) -> FourAnswers
     requires own { IsOf table.now.board.shared.table_id (T.opened table.now.board.shared.key)
-        table.now.layout seat.old.place.table_id seat.old.place.me.0 }
+        table.now.layout seat.old.table seat.old.view }
     requires shape { IsShape FIRST SECOND }
-    requires first { seat.old.place.me.0.opening.first ≡ FIRST }
-    requires second { seat.old.place.me.0.opening.second ≡ SECOND }
-    requires online { (worker_by seat.old.place.me.0.own).phase ≡ Online }
+    requires first { seat.old.view.opening.first ≡ FIRST }
+    requires second { seat.old.view.opening.second ≡ SECOND }
+    requires online { (worker_by seat.old.view.own).phase ≡ Online }
     requires addrs { All (λ addr. addr < 2 ^ (FIRST + SECOND)) (a ∷ b ∷ c ∷ d ∷ []) }
-    ensures own { seat.new.place.table_id ≡ seat.old.place.table_id }
+    ensures own { seat.new.table ≡ seat.old.table }
+    ensures worker { seat.new.worker ≡ seat.old.worker }
     ensures answers { LooksUpAll (a ∷ b ∷ c ∷ d ∷ []) result.hops result.lo result.hi
-        seat.old.place.me.0 seat.new.place.me.0 }
+        seat.old.view seat.new.view }
 {
     let addrs = [u64::from(a), u64::from(b), u64::from(c), u64::from(d)];
     let low = seat.begin_lookup(table, &addrs);
+    seat.history();
     let (w, x, y, z) = load_firsts::<FIRST, SECOND, T>(seat, table, a, b, c, d);
     let w = load_last::<FIRST, SECOND, T>(seat, table, a, w);
     let x = load_last::<FIRST, SECOND, T>(seat, table, b, x);
     let y = load_last::<FIRST, SECOND, T>(seat, table, c, y);
     let z = load_last::<FIRST, SECOND, T>(seat, table, d, z);
     let high = seat.end_lookup(table);
+    seat.history();
     FourAnswers {
         hops: [
             Entry::hop_of_last_word::<FIRST, SECOND>(w),
@@ -77,22 +80,23 @@ fn load_firsts<const FIRST: u32, const SECOND: u32, T: Opens>(
     d: u32,
 ) -> (u64, u64, u64, u64)
     requires own { IsOf table.now.board.shared.table_id (T.opened table.now.board.shared.key)
-        table.now.layout seat.old.place.table_id seat.old.place.me.0 }
+        table.now.layout seat.old.table seat.old.view }
     requires shape { IsShape FIRST SECOND }
-    requires second { seat.old.place.me.0.opening.second ≡ SECOND }
-    requires firsts { length seat.old.place.me.0.opening.firsts ≡ 2 ^ FIRST }
+    requires second { seat.old.view.opening.second ≡ SECOND }
+    requires firsts { length seat.old.view.opening.firsts ≡ 2 ^ FIRST }
     requires addrs { All (λ addr. addr < 2 ^ (FIRST + SECOND)) (a ∷ b ∷ c ∷ d ∷ []) }
-    requires looking { (worker_by seat.old.place.me.0.own).phase ≡ LookingUp }
-    requires unread { (worker_by seat.old.place.me.0.own).probes
+    requires looking { (worker_by seat.old.view.own).phase ≡ LookingUp }
+    requires unread { (worker_by seat.old.view.own).probes
         ≡ Unread a ∷ Unread b ∷ Unread c ∷ Unread d ∷ [] }
-    ensures own { seat.new.place.table_id ≡ seat.old.place.table_id }
+    ensures own { seat.new.table ≡ seat.old.table }
+    ensures worker { seat.new.worker ≡ seat.old.worker }
     ensures words { All (IsFirstWord
-        (seat.old.place.me.0.opening.first + seat.old.place.me.0.opening.second)
-        seat.old.place.me.0.opening.second seat.old.place.me.0.opening.seconds)
+        (seat.old.view.opening.first + seat.old.view.opening.second)
+        seat.old.view.opening.second seat.old.view.opening.seconds)
         (result.0 ∷ result.1 ∷ result.2 ∷ result.3 ∷ []) }
     ensures loads { LoadsFirsts (a ∷ b ∷ c ∷ d ∷ [])
         (result.0 ∷ result.1 ∷ result.2 ∷ result.3 ∷ [])
-        seat.old.place.me.0 seat.new.place.me.0 }
+        seat.old.view seat.new.view }
 {
     let w = seat.load_first(table, Shape::<FIRST, SECOND>::first_index(a));
     let x = seat.load_first(table, Shape::<FIRST, SECOND>::first_index(b));
@@ -110,16 +114,17 @@ fn load_last<const FIRST: u32, const SECOND: u32, T: Opens>(
     word: u64,
 ) -> u64
     requires own { IsOf table.now.board.shared.table_id (T.opened table.now.board.shared.key)
-        table.now.layout seat.old.place.table_id seat.old.place.me.0 }
+        table.now.layout seat.old.table seat.old.view }
     requires shape { IsShape FIRST SECOND }
-    requires first { seat.old.place.me.0.opening.first ≡ FIRST }
-    requires second { seat.old.place.me.0.opening.second ≡ SECOND }
-    requires word { IsFirstWord (FIRST + SECOND) SECOND seat.old.place.me.0.opening.seconds word }
-    requires looking { (worker_by seat.old.place.me.0.own).phase ≡ LookingUp }
-    requires next { IsNextWith addr word (worker_by seat.old.place.me.0.own).probes }
-    ensures own { seat.new.place.table_id ≡ seat.old.place.table_id }
+    requires first { seat.old.view.opening.first ≡ FIRST }
+    requires second { seat.old.view.opening.second ≡ SECOND }
+    requires word { IsFirstWord (FIRST + SECOND) SECOND seat.old.view.opening.seconds word }
+    requires looking { (worker_by seat.old.view.own).phase ≡ LookingUp }
+    requires next { IsNextWith addr word (worker_by seat.old.view.own).probes }
+    ensures own { seat.new.table ≡ seat.old.table }
+    ensures worker { seat.new.worker ≡ seat.old.worker }
     ensures last { IsLastWord (FIRST + SECOND) result }
-    ensures loads { LoadsLast addr word result seat.old.place.me.0 seat.new.place.me.0 }
+    ensures loads { LoadsLast addr word result seat.old.view seat.new.view }
 {
     match Entry::group_of_word::<FIRST, SECOND>(word) {
         None => word,

@@ -13,14 +13,14 @@ use shared_words::{Opens, SharedWords, WorkerSeat};
 #[inline]
 pub fn online<T: Opens>(seat: &mut WorkerSeat, table: &SharedWords<T>)
     requires own { IsOf table.now.board.shared.table_id (T.opened table.now.board.shared.key)
-        table.now.layout seat.old.place.table_id seat.old.place.me.0 }
-    requires inside { seat.old.number < table.now.layout.workers }
-    requires offline { (worker_by seat.old.place.me.0.own).phase ≡ Offline }
-    ensures own { seat.new.place.table_id ≡ seat.old.place.table_id }
+        table.now.layout seat.old.table seat.old.view }
+    requires offline { (worker_by seat.old.view.own).phase ≡ Offline }
+    ensures own { seat.new.table ≡ seat.old.table }
+    ensures worker { seat.new.worker ≡ seat.old.worker }
     ensures steps { (token : ℕ) × GainsAll (StoreOnline token ∷ LoadOnline token ∷ [])
-        seat.old.place.me.0 seat.new.place.me.0 }
-    ensures rest { GoesOn seat.old.place.me.0 seat.new.place.me.0 }
-    ensures online { (worker_by seat.new.place.me.0.own).phase ≡ Online }
+        seat.old.view seat.new.view }
+    ensures rest { GoesOn seat.old.view seat.new.view }
+    ensures online { (worker_by seat.new.view.own).phase ≡ Online }
 {
     let token = seat.load_online(table);
     seat.store_online(table, token);
@@ -30,14 +30,14 @@ pub fn online<T: Opens>(seat: &mut WorkerSeat, table: &SharedWords<T>)
 #[inline]
 pub fn quiescent<T: Opens>(seat: &mut WorkerSeat, table: &SharedWords<T>)
     requires own { IsOf table.now.board.shared.table_id (T.opened table.now.board.shared.key)
-        table.now.layout seat.old.place.table_id seat.old.place.me.0 }
-    requires inside { seat.old.number < table.now.layout.workers }
-    requires online { (worker_by seat.old.place.me.0.own).phase ≡ Online }
-    ensures own { seat.new.place.table_id ≡ seat.old.place.table_id }
+        table.now.layout seat.old.table seat.old.view }
+    requires online { (worker_by seat.old.view.own).phase ≡ Online }
+    ensures own { seat.new.table ≡ seat.old.table }
+    ensures worker { seat.new.worker ≡ seat.old.worker }
     ensures steps { (token : ℕ) × GainsAll (StoreQuiescent token ∷ LoadQuiescent token ∷ [])
-        seat.old.place.me.0 seat.new.place.me.0 }
-    ensures rest { GoesOn seat.old.place.me.0 seat.new.place.me.0 }
-    ensures online { (worker_by seat.new.place.me.0.own).phase ≡ Online }
+        seat.old.view seat.new.view }
+    ensures rest { GoesOn seat.old.view seat.new.view }
+    ensures online { (worker_by seat.new.view.own).phase ≡ Online }
 {
     let token = seat.load_quiescent(table);
     seat.store_quiescent(table, token);
@@ -47,13 +47,13 @@ pub fn quiescent<T: Opens>(seat: &mut WorkerSeat, table: &SharedWords<T>)
 #[inline]
 pub fn offline<T: Opens>(seat: &mut WorkerSeat, table: &SharedWords<T>)
     requires own { IsOf table.now.board.shared.table_id (T.opened table.now.board.shared.key)
-        table.now.layout seat.old.place.table_id seat.old.place.me.0 }
-    requires inside { seat.old.number < table.now.layout.workers }
-    requires online { (worker_by seat.old.place.me.0.own).phase ≡ Online }
-    ensures own { seat.new.place.table_id ≡ seat.old.place.table_id }
-    ensures steps { GainsAll (StoreOffline ∷ []) seat.old.place.me.0 seat.new.place.me.0 }
-    ensures rest { GoesOn seat.old.place.me.0 seat.new.place.me.0 }
-    ensures offline { (worker_by seat.new.place.me.0.own).phase ≡ Offline }
+        table.now.layout seat.old.table seat.old.view }
+    requires online { (worker_by seat.old.view.own).phase ≡ Online }
+    ensures own { seat.new.table ≡ seat.old.table }
+    ensures worker { seat.new.worker ≡ seat.old.worker }
+    ensures steps { GainsAll (StoreOffline ∷ []) seat.old.view seat.new.view }
+    ensures rest { GoesOn seat.old.view seat.new.view }
+    ensures offline { (worker_by seat.new.view.own).phase ≡ Offline }
 {
     seat.store_offline(table);
 }

@@ -9,3 +9,6 @@ pub mod Begins
 pub mod Passes
 pub mod Waited
 pub mod Packing
+pub mod Versions
+pub mod Makes
+pub mod Lookups

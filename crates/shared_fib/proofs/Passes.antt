@@ -5,8 +5,9 @@ use Rattle.std.proofs.lemmas.List.{get_or_append_left, get_or_at}
 use Rattle.std.proofs.lemmas.Option.{slice_get_within, slice_get-get_or}
 use Rattle.atomic_table.specs.Seated.{TableId}
 use Rattle.shared_words.specs.declared.view.View.{View}
-use Rattle.shared_words.specs.Rule.{worker_view}
-use Rattle.shared_fib.specs.Running.{Identity, PassState, IsPassOf, IsFullBench}
+use Rattle.std.specs.Prelude.{false}
+use Rattle.shared_fib.specs.Running.{Identity}
+use Rattle.shared_fib.specs.Passes.{PassState, IsPassOf, IsFullBench}
 
 same_some : (p q : PassState) → Some (Some p) ≡ Some (Some q) → p ≡ q
 same_some p q e = cc
@@ -14,7 +15,13 @@ same_some p q e = cc
 module _ (words : TableId) (v : View) where
   -- the pass of worker k
   abbrev pub pass_of : ℕ → PassState
-  pass_of k = record { words = words; view = worker_view (record v { made = k }) }
+  pass_of k = record {
+    table = record { words = words; opening = v.opening };
+    worker = k;
+    online = false;
+    steps = [];
+    seen = v.seen;
+  }
 
   -- the passes of the first n workers
   abbrev pub AreMade : ℕ → List (Option PassState) → Type 0
@@ -39,7 +46,7 @@ module _ (words : TableId) (v : View) where
     is_of k p found =
         let low = slice_get_within passes k (Some p) found in
         subst (IsPassOf identity k) (sym (same_some p (pass_of k) (sym found ∙ here k (omega (arith, low, count)))))
-        (record { identity = refl; worker = refl; offline = refl })
+        (record { table = refl; worker = refl; offline = refl })
 
     pub full_bench : IsFullBench identity passes
     full_bench = ((count, is_of), λ k low. (pass_of k, here k low, refl))

@@ -4,7 +4,8 @@ use Rattle.std.specs.Prelude.{◌⊎◌, slice_set, unwrap_or}
 use Rattle.std.specs.Prelude.{◌<◌, slice_index_or}
 use Rattle.std.proofs.lemmas.List.{length-set}
 use Rattle.std.proofs.lemmas.Option.{slice_get_read}
-use Rattle.shared_fib.specs.Running.{Identity, PassState, IsBenchOf, IsPassOf}
+use Rattle.shared_fib.specs.Running.{Identity}
+use Rattle.shared_fib.specs.Passes.{PassState, IsBenchOf, IsPassOf}
 
 some_same : {X : Type 0} (x y : X) → Some x ≡ Some y → x ≡ y
 some_same x y e = ap (λ o. unwrap_or o x) e

@@ -1,3 +1,5 @@
 pub mod Running
 pub mod Passing
 pub mod Freeing
+pub mod Versions
+pub mod Passes

@@ -1,6 +1,6 @@
 -- Meaning: a running table, its writer and its passes, as their callers see them (DPDK Programmer's
 -- Guide, "RCU Library": each thread registers, comes online and reports; this project's otherwise).
-use Rattle.std.specs.Prelude.{ℕ, ◌≡◌, ◌≤◌, ◌<◌, ◌^◌, Bool, true, false, List, [], ◌∷◌, length, slice_get, Option, Some, None, refl}
+use Rattle.std.specs.Prelude.{ℕ, ◌≡◌, ◌≤◌, ◌<◌, ◌^◌, Bool, true, false, List, [], length, Option, Some, None, refl}
 use Rattle.std.specs.FinMap as map
 use Rattle.std.specs.Coded.{Coded, code_by, coded×, coded_ℕ, coded_list}
 use Rattle.atomic_table.specs.Seated.{TableId, table_id_coded}
@@ -11,7 +11,6 @@ use Rattle.fib_model.specs.State.{State}
 use Rattle.fib.specs.Fib.{coded_config}
 use Rattle.lpm_trace.specs.declared.step.WriterStep.{WriterStep}
 use Rattle.lpm_trace.specs.contracts.step.WriterStep as step_row
-use Rattle.lpm_trace.specs.declared.step.WorkerStep.TheVariants.{StoreOffline}
 use Rattle.lpm_trace.specs.Tables.{Setup, Tables, tables, addresses, answer, IsAnswer, done, begun}
 use Rattle.lpm_trace.specs.Trace.{worker_by}
 use Rattle.lpm_trace.specs.Workers.{Phase, Offline, Online}
@@ -20,13 +19,10 @@ use Rattle.lpm_writer.specs.Kept.{IsLimbo}
 use Rattle.lpm_writer.specs.Resting.{IsResting, state_of}
 use Rattle.shared_words.specs.declared.layout.Layout.{Layout}
 use Rattle.shared_words.specs.declared.view.View.{View}
-use Rattle.shared_words.specs.declared.view.Role.TheVariants.{Worker}
-use Rattle.shared_words.specs.contracts.view.View as view_row
 use Rattle.shared_words.specs.Opened.{Opened, coded_opened, setup_of}
 use Rattle.shared_words.specs.Layout.{word_count}
 use Rattle.shared_memory.specs.declared.loaded.Loaded.{Loaded}
 use Rattle.shared_memory.specs.Loaded.{opened_by}
-use Rattle.shared_deeds.specs.Deeds.{GainsAll}
 
 -- ---- the table
 
@@ -109,52 +105,13 @@ OnlySees v w = w ≡ record v { seen = w.seen }
 
 -- ---- its passes
 
--- the words that the worker reads, and what it knows
-pub record PassState : Type 0 where
-  pub words : TableId
-  pub view : View
-
-abbrev pub identity_of : PassState → Identity
-identity_of p = record { words = p.words; opening = p.view.opening }
-
-abbrev pub phase_of : PassState → Phase
-phase_of p = (worker_by p.view.own).phase
-
-abbrev pub IsOnline : PassState → Type 0
-IsOnline p = phase_of p ≡ Online
-
-abbrev pub IsOffline : PassState → Type 0
-IsOffline p = phase_of p ≡ Offline
-
 abbrev pub phase_by : Bool → Phase
 phase_by true = Online
 phase_by false = Offline
 
--- its number is one of the table's workers, and it is online or offline as the flag says
-pub record IsPass (number : ℕ) (v : View) (online : Bool) : Type 0 where
-  pub inside : number < v.opening.workers
-  pub phase : (worker_by v.own).phase ≡ phase_by online
-
--- the pass of worker k of this table, which is offline
-pub record IsPassOf (id : Identity) (k : ℕ) (p : PassState) : Type 0 where
-  pub identity : identity_of p ≡ id
-  pub worker : p.view.role ≡ Worker k
-  pub offline : IsOffline p
-
--- the passes that were not registered, by their numbers
-abbrev pub IsBenchOf : Identity → List (Option PassState) → Type 0
-IsBenchOf id passes = (length passes ≡ id.opening.workers)
-    × ((k : ℕ) (p : PassState) → slice_get passes k ≡ Some (Some p) → IsPassOf id k p)
-
--- each worker's pass is there, and has made no step
-abbrev pub IsFullBench : Identity → List (Option PassState) → Type 0
-IsFullBench id passes = IsBenchOf id passes
-    × ((k : ℕ) → k < id.opening.workers
-    → (p : PassState) × (slice_get passes k ≡ Some (Some p)) × (p.view.own ≡ []))
-
--- a pass that was online stores 0 in its counter; one that was offline does nothing
-abbrev pub Leaves : PassState → PassState → Type 0
-Leaves p q = (IsOnline p → GainsAll (StoreOffline ∷ []) p.view q.view) × (IsOffline p → q ≡ p)
+-- it is online or offline as the flag says
+abbrev pub IsPass : View → Bool → Type 0
+IsPass v online = (worker_by v.own).phase ≡ phase_by online
 
 -- the number of a next hop, or the default where there is none
 abbrev pub hop_or : ℕ → Option ℕ → ℕ
@@ -184,7 +141,3 @@ coded_writer =
       };
     })
     (λ _. refl)
-
-abbrev pub coded_pass : Coded PassState
-coded_pass = code_by (TableId × View) (coded× table_id_coded view_row.the_row.coded)
-    (λ p. (p.words, p.view)) (λ p. record { words = p.0; view = p.1 }) (λ _. refl)

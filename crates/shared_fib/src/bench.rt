@@ -1,10 +1,11 @@
 //! The passes that wait to be registered.
 
-ghost use Rattle.std.specs.Prelude.{◌≡◌, ℕ, ◌<◌, ◌≤◌, ◌↔◌, IfOk, IsErrOf, OnErr, None, Some, length, slice_get, slice_set};
-ghost use Rattle.shared_words.specs.declared.view.Role.TheVariants.{Worker};
-ghost use Rattle.shared_words.specs.Rule.{with_one_more, worker_view};
+ghost use Rattle.std.specs.Prelude.{◌≡◌, ℕ, ◌<◌, ◌≤◌, ◌↔◌, IfOk, IsErrOf, OnErr, None, Some, length, slice_get, slice_set, true, false, [], ◌∷◌};
+ghost use Rattle.lpm_trace.specs.declared.step.WorkerStep.TheVariants.{StoreOffline};
+ghost use Rattle.shared_words.specs.Rule.{with_one_more};
 ghost use Rattle.shared_words.specs.Seats.{IsOf};
-ghost use Rattle.shared_fib.specs.Running.{IsBenchOf, IsFullBench, IsPassOf, Leaves, PassState, identity_of, opening_by};
+ghost use Rattle.shared_fib.specs.Passes.{IsBenchOf, IsFullBench, IsPassOf, Makes, PassState};
+ghost use Rattle.shared_fib.specs.Running.{opening_by};
 
 use crate::table::Words;
 use crate::{Pass, SharedTable};
@@ -44,7 +45,7 @@ pub struct Bench {
 impl Model for Bench {
     ghost use Rattle.std.specs.Prelude.{List, Option};
     ghost use Rattle.std.specs.Coded.{coded_list, coded_option};
-    ghost use Rattle.shared_fib.specs.Running.{PassState, coded_pass};
+    ghost use Rattle.shared_fib.specs.Passes.{PassState, coded_pass};
 
     ghost Value = { List (Option PassState) };
 
@@ -67,8 +68,14 @@ fn next_pass<const FIRST: u32, const SECOND: u32>(
     ensures own { seat.new.place.table_id ≡ seat.old.place.table_id }
     ensures made { seat.new.place.me.0 ≡ with_one_more seat.old.place.me.0 }
     ensures pass { result ≡ record {
-      words = seat.old.place.table_id;
-      view = worker_view seat.old.place.me.0;
+      table = record {
+        words = seat.old.place.table_id;
+        opening = seat.old.place.me.0.opening;
+      };
+      worker = number;
+      online = false;
+      steps = [];
+      seen = seat.old.place.me.0.seen;
     } }
 {
     let worker = seat.next_worker(table, number);
@@ -136,10 +143,11 @@ impl Bench {
         mut pass: Pass,
     )
         requires own { IsBenchOf table.now self.old }
-        requires pass { identity_of pass ≡ table.now }
+        requires pass { pass.table ≡ table.now }
         ensures own { IsBenchOf table.now self.new }
-        ensures back { (worker : ℕ) × (p : PassState) × (pass.view.role ≡ Worker worker)
-            × Leaves pass p × (self.new ≡ slice_set self.old worker (Some p)) }
+        ensures back { (p : PassState) × (self.new ≡ slice_set self.old pass.worker (Some p))
+            × (pass.online ≡ true → (place : ℕ) × Makes ((StoreOffline, place) ∷ []) pass p)
+            × (pass.online ≡ false → p ≡ pass) }
     {
         pass.leave(table);
         let worker = pass.worker();

@@ -12,7 +12,8 @@ ghost use Rattle.shared_words.specs.Rule.{writer_view};
 ghost use Rattle.shared_words.specs.Seats.{IsOf};
 ghost use Rattle.shared_memory.specs.Loaded.{ArePacked, opened_of};
 ghost use Rattle.lpm_writer.specs.Opening.{opening_setup};
-ghost use Rattle.shared_fib.specs.Running.{IsAtRest, IsFullBench, opening_by, opens_with, setup};
+ghost use Rattle.shared_fib.specs.Passes.{IsFullBench};
+ghost use Rattle.shared_fib.specs.Running.{IsAtRest, opening_by, opens_with, setup};
 
 use crate::laying::pack_all;
 use crate::table::Words;

@@ -1,17 +1,16 @@
 //! The pass of a worker: its reports and its lookups.
 
-ghost use Rattle.std.specs.Prelude.{◌≡◌, ℕ, ◌+◌, ◌^◌, ◌<◌, ◌↔◌, All, IsTrue, List, Option, map, [], ◌∷◌};
+ghost use Rattle.std.specs.Prelude.{◌≡◌, ℕ, ◌+◌, ◌^◌, ◌<◌, All, List, Option, map, [], ◌∷◌, true, false};
 ghost use Rattle.lpm_trace.specs.declared.step.WorkerStep.TheVariants.{LoadOnline, StoreOnline, LoadQuiescent, StoreQuiescent, StoreOffline, Meets};
 ghost use Rattle.lpm_trace.specs.Trace.{worker_by};
 ghost use Rattle.lpm_trace.specs.Workers.{Offline};
-ghost use Rattle.shared_words.specs.declared.view.Role.TheVariants.{Worker};
-ghost use Rattle.shared_words.specs.Seats.{Gains};
-ghost use Rattle.shared_deeds.specs.Deeds.{GainsAll, GoesOn, LooksUp, LooksUpAll};
-ghost use Rattle.shared_fib.specs.Running.{IsAtRest, IsOffline, IsOnline, Leaves, hop_or, identity_of, steps_of};
+ghost use Rattle.shared_fib.specs.Passes.{IsHistory, LooksUp, LooksUpAll, Makes};
+ghost use Rattle.shared_fib.specs.Running.{IsAtRest, hop_or, steps_of};
 
 use crate::{SharedTable, Writer};
 use lpm_bits::Hop;
 use lpm_rules::Answer;
+use shared_deeds::FourAnswers;
 use shared_words::WorkerSeat;
 use std::marker::Model;
 
@@ -37,23 +36,35 @@ pub struct Pass {
 }
 
 impl Model for Pass {
-    ghost use Rattle.shared_fib.specs.Running.{PassState, coded_pass, IsPass};
+    ghost use Rattle.shared_fib.specs.Running.{IsPass};
+    ghost use Rattle.shared_fib.specs.Passes.{PassState, coded_pass};
 
     ghost Value = { PassState };
 
     ghost coded = { coded_pass };
 
-    ghost view = { λ p. record { words = p.seat.place.table_id; view = p.seat.place.me.0 } };
+    ghost view = { λ p. record {
+      table = record { words = p.seat.table; opening = p.seat.view.opening };
+      worker = p.seat.worker;
+      online = p.is_online;
+      steps = p.seat.view.own;
+      seen = p.seat.view.seen;
+    } };
 
-    ghost invariant = { λ p. IsPass p.seat.number p.seat.place.me.0 p.is_online };
+    ghost invariant = { λ p. IsPass p.seat.view p.is_online };
 }
 
 impl Pass {
     // The pass of a worker that is offline, which has this seat.
     pub(crate) fn new(seat: WorkerSeat) -> Self
-        requires inside { seat.number < seat.place.me.0.opening.workers }
-        requires offline { (worker_by seat.place.me.0.own).phase ≡ Offline }
-        ensures { result ≡ record { words = seat.place.table_id; view = seat.place.me.0 } }
+        requires offline { (worker_by seat.view.own).phase ≡ Offline }
+        ensures { result ≡ record {
+          table = record { words = seat.table; opening = seat.view.opening };
+          worker = seat.worker;
+          online = false;
+          steps = seat.view.own;
+          seen = seat.view.seen;
+        } }
     {
         Pass {
             seat,
@@ -63,17 +74,24 @@ impl Pass {
 
     /// The number of its worker.
     pub fn worker(&self) -> usize
-        ensures value { self.now.view.role ≡ Worker result }
-        ensures inside { result < self.now.view.opening.workers }
+        ensures value { result ≡ self.now.worker }
+        ensures inside { result < self.now.table.opening.workers }
     {
-        self.seat.number as usize
+        self.seat.number() as usize
+    }
+
+    /// Does nothing: its contract says what the steps of a pass are, and what it has seen.
+    #[inline]
+    pub fn history(&self)
+        ensures { IsHistory self.now }
+    {
+        self.seat.history();
     }
 
     /// Whether the pass is online: from a report that it is until one that it is offline.
     #[inline]
     pub fn is_online(&self) -> bool
-        ensures online { IsTrue result ↔ IsOnline self.now }
-        ensures offline { (¬ IsTrue result) ↔ IsOffline self.now }
+        ensures { result ≡ self.now.online }
     {
         self.is_online
     }
@@ -84,13 +102,12 @@ impl Pass {
         &mut self,
         table: &SharedTable<FIRST, SECOND>,
     )
-        requires own { identity_of self.old ≡ table.now }
-        requires offline { IsOffline self.old }
-        ensures own { identity_of self.new ≡ identity_of self.old }
-        ensures steps { (token : ℕ) × GainsAll (StoreOnline token ∷ LoadOnline token ∷ [])
-            self.old.view self.new.view }
-        ensures rest { GoesOn self.old.view self.new.view }
-        ensures online { IsOnline self.new }
+        requires own { self.old.table ≡ table.now }
+        requires offline { self.old.online ≡ false }
+        ensures own { self.new.table ≡ self.old.table }
+        ensures steps { (token : ℕ) × (first : ℕ) × (last : ℕ)
+            × Makes ((StoreOnline token, last) ∷ (LoadOnline token, first) ∷ []) self.old self.new }
+        ensures online { self.new.online ≡ true }
     {
         shared_deeds::online(&mut self.seat, &table.words);
         self.is_online = true;
@@ -102,12 +119,11 @@ impl Pass {
         &mut self,
         table: &SharedTable<FIRST, SECOND>,
     )
-        requires own { identity_of self.old ≡ table.now }
-        requires online { IsOnline self.old }
-        ensures own { identity_of self.new ≡ identity_of self.old }
-        ensures steps { GainsAll (StoreOffline ∷ []) self.old.view self.new.view }
-        ensures rest { GoesOn self.old.view self.new.view }
-        ensures offline { IsOffline self.new }
+        requires own { self.old.table ≡ table.now }
+        requires online { self.old.online ≡ true }
+        ensures own { self.new.table ≡ self.old.table }
+        ensures steps { (place : ℕ) × Makes ((StoreOffline, place) ∷ []) self.old self.new }
+        ensures offline { self.new.online ≡ false }
     {
         shared_deeds::offline(&mut self.seat, &table.words);
         self.is_online = false;
@@ -118,11 +134,13 @@ impl Pass {
         &mut self,
         table: &SharedTable<FIRST, SECOND>,
     )
-        requires own { identity_of self.old ≡ table.now }
-        ensures own { identity_of self.new ≡ identity_of self.old }
-        ensures worker { self.new.view.role ≡ self.old.view.role }
-        ensures leaves { Leaves self.old self.new }
-        ensures offline { IsOffline self.new }
+        requires own { self.old.table ≡ table.now }
+        ensures own { self.new.table ≡ self.old.table }
+        ensures worker { self.new.worker ≡ self.old.worker }
+        ensures leaves { self.old.online ≡ true
+            → (place : ℕ) × Makes ((StoreOffline, place) ∷ []) self.old self.new }
+        ensures stays { self.old.online ≡ false → self.new ≡ self.old }
+        ensures offline { self.new.online ≡ false }
     {
         if self.is_online() {
             self.offline(table);
@@ -135,13 +153,12 @@ impl Pass {
         &mut self,
         table: &SharedTable<FIRST, SECOND>,
     )
-        requires own { identity_of self.old ≡ table.now }
-        requires online { IsOnline self.old }
-        ensures own { identity_of self.new ≡ identity_of self.old }
-        ensures steps { (token : ℕ) × GainsAll (StoreQuiescent token ∷ LoadQuiescent token ∷ [])
-            self.old.view self.new.view }
-        ensures rest { GoesOn self.old.view self.new.view }
-        ensures online { IsOnline self.new }
+        requires own { self.old.table ≡ table.now }
+        requires online { self.old.online ≡ true }
+        ensures own { self.new.table ≡ self.old.table }
+        ensures steps { (token : ℕ) × (first : ℕ) × (last : ℕ)
+            × Makes ((StoreQuiescent token, last) ∷ (LoadQuiescent token, first) ∷ []) self.old self.new }
+        ensures online { self.new.online ≡ true }
     {
         shared_deeds::quiescent(&mut self.seat, &table.words);
     }
@@ -155,14 +172,16 @@ impl Pass {
         table: &SharedTable<FIRST, SECOND>,
         addr: u32,
     ) -> Answer
-        requires own { identity_of self.old ≡ table.now }
-        requires online { IsOnline self.old }
+        requires own { self.old.table ≡ table.now }
+        requires online { self.old.online ≡ true }
         requires addr { addr < 2 ^ (FIRST + SECOND) }
-        ensures own { identity_of self.new ≡ identity_of self.old }
-        ensures answer { LooksUp addr result.hop result.lo result.hi self.old.view self.new.view }
-        ensures online { IsOnline self.new }
+        ensures own { self.new.table ≡ self.old.table }
+        ensures answer { LooksUp addr result.hop result.lo result.hi self.old self.new }
+        ensures online { self.new.online ≡ true }
     {
-        shared_deeds::lookup::<FIRST, SECOND, _>(&mut self.seat, &table.words, addr)
+        let found = shared_deeds::lookup::<FIRST, SECOND, _>(&mut self.seat, &table.words, addr);
+        self.seat.history();
+        found
     }
 
     /// The next hops of four addresses, with `default` for an address that no rule covers, between two
@@ -174,18 +193,17 @@ impl Pass {
         addrs: [u32; 4],
         default: u32,
     ) -> FourHops
-        requires own { identity_of self.old ≡ table.now }
-        requires online { IsOnline self.old }
+        requires own { self.old.table ≡ table.now }
+        requires online { self.old.online ≡ true }
         requires addrs { All (λ addr. addr < 2 ^ (FIRST + SECOND)) addrs }
-        ensures own { identity_of self.new ≡ identity_of self.old }
+        ensures own { self.new.table ≡ self.old.table }
         ensures answers { (hops : List (Option ℕ))
-            × LooksUpAll addrs hops result.lo result.hi self.old.view self.new.view
+            × LooksUpAll addrs hops result.lo result.hi self.old self.new
             × (result.hops ≡ map (hop_or default) hops) }
-        ensures online { IsOnline self.new }
+        ensures online { self.new.online ≡ true }
     {
         let [a, b, c, d] = addrs;
-        let words = &table.words;
-        let found = shared_deeds::lookup4::<FIRST, SECOND, _>(&mut self.seat, words, a, b, c, d);
+        let found = self.four(table, a, b, c, d);
         let [w, x, y, z] = found.hops;
         FourHops {
             hops: [
@@ -199,6 +217,30 @@ impl Pass {
         }
     }
 
+    // The answers for four addresses, before the default stands in for a miss.
+    #[inline]
+    fn four<const FIRST: u32, const SECOND: u32>(
+        &mut self,
+        table: &SharedTable<FIRST, SECOND>,
+        a: u32,
+        b: u32,
+        c: u32,
+        d: u32,
+    ) -> FourAnswers
+        requires own { self.old.table ≡ table.now }
+        requires online { self.old.online ≡ true }
+        requires addrs { All (λ addr. addr < 2 ^ (FIRST + SECOND)) (a ∷ b ∷ c ∷ d ∷ []) }
+        ensures own { self.new.table ≡ self.old.table }
+        ensures answers { LooksUpAll (a ∷ b ∷ c ∷ d ∷ []) result.hops result.lo result.hi
+            self.old self.new }
+        ensures online { self.new.online ≡ true }
+    {
+        let words = &table.words;
+        let found = shared_deeds::lookup4::<FIRST, SECOND, _>(&mut self.seat, words, a, b, c, d);
+        self.seat.history();
+        found
+    }
+
     /// Loads the sequence once. Then this pass has seen all that the writer has done. The writer stays as it
     /// was.
     pub fn meet<const FIRST: u32, const SECOND: u32>(
@@ -206,16 +248,14 @@ impl Pass {
         table: &SharedTable<FIRST, SECOND>,
         writer: &mut Writer<FIRST, SECOND>,
     )
-        requires own { identity_of self.old ≡ table.now }
+        requires own { self.old.table ≡ table.now }
         requires writer { writer.old.identity ≡ table.now }
-        ensures own { identity_of self.new ≡ identity_of self.old }
-        ensures step { (number : ℕ) × Gains (Meets number)
-            (record self.old.view { told = steps_of writer.old }) self.new.view }
-        ensures all { self.new.view.seen ≡ steps_of writer.old }
+        ensures own { self.new.table ≡ self.old.table }
+        ensures step { (number : ℕ) × (place : ℕ) × Makes ((Meets number, place) ∷ []) self.old self.new }
+        ensures all { self.new.seen ≡ steps_of writer.old }
         ensures same { writer.new ≡ writer.old }
-        ensures rests { IsAtRest writer.old }
-        ensures online { IsOnline self.old → IsOnline self.new }
-        ensures offline { IsOffline self.old → IsOffline self.new }
+        ensures online { self.old.online ≡ true → self.new.online ≡ true }
+        ensures offline { self.old.online ≡ false → self.new.online ≡ false }
     {
         self.seat.meet(&table.words, &mut writer.seat);
     }

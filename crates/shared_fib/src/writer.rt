@@ -79,7 +79,6 @@ impl<const FIRST: u32, const SECOND: u32> Writer<FIRST, SECOND> {
             self.old.table prefix.now hop result self.new.table }
         ensures checked { (freed : List ℕ)
             × FreesChecked (setup table.now) self.old.table self.new.table freed }
-        ensures rests { IsAtRest self.new }
         ensures own { self.new.identity ≡ self.old.identity }
         ensures config { self.new.config ≡ self.old.config }
     {
@@ -101,7 +100,6 @@ impl<const FIRST: u32, const SECOND: u32> Writer<FIRST, SECOND> {
             self.old.table prefix.now result self.new.table }
         ensures checked { (freed : List ℕ)
             × FreesChecked (setup table.now) self.old.table self.new.table freed }
-        ensures rests { IsAtRest self.new }
         ensures own { self.new.identity ≡ self.old.identity }
         ensures config { self.new.config ≡ self.old.config }
     {
@@ -117,7 +115,6 @@ impl<const FIRST: u32, const SECOND: u32> Writer<FIRST, SECOND> {
             self.old.table result self.new.table }
         ensures checked { (freed : List ℕ)
             × FreesChecked (setup table.now) self.old.table self.new.table freed }
-        ensures rests { IsAtRest self.new }
         ensures own { self.new.identity ≡ self.old.identity }
         ensures config { self.new.config ≡ self.old.config }
     {
@@ -132,7 +129,6 @@ impl<const FIRST: u32, const SECOND: u32> Writer<FIRST, SECOND> {
             self.new.table }
         ensures checked { FreesChecked (setup table.now) self.old.table self.new.table
             (take result.freed self.old.table.limbo) }
-        ensures rests { IsAtRest self.new }
         ensures own { self.new.identity ≡ self.old.identity }
         ensures config { self.new.config ≡ self.old.config }
     {

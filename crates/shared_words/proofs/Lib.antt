@@ -4,3 +4,4 @@ pub mod Writing
 pub mod Workings
 pub mod Reading
 pub mod Meetings
+pub mod Seat

@@ -217,21 +217,22 @@ module _ (o : Opened) where
 
   gained_is : (s : St) (h : Holds o s) (id k : ℕ) (v : View) (r : WorkerStep) → get_elem? s.views id ≡ some v
       → v.role ≡ Worker k → MayRead (setup_of o) (after (setup_of o) h.steps).tables (worker_by v.own) r
-      → Gains r v (gained v r (writes h.steps))
+      → Gains r v (gained v r (writes h.steps)) × IsSound (gained v r (writes h.steps))
   gained_is s h id k v r at is may =
       let steps = h.steps in
       let mine = sits_of s h id k v at is in
-      let known : IsViewOf o steps h.seating id v = h.views id v at in
-      record {
-        seen = writes steps;
-        view = refl;
-        later = known.seen;
-        told = known.told;
-        sound = sound (gained v r (writes steps)) k (ByWorker k r ∷ steps) h.settled
+      let known : IsViewOf o steps h.seating id v = h.views id v at in (
+        record {
+          seen = writes steps;
+          view = refl;
+          later = known.seen;
+          told = known.told;
+        },
+        sound (gained v r (writes steps)) k (ByWorker k r ∷ steps) h.settled
             (may_come s h id k v r at is may, h.trace) mine.1 refl
             (ap (λ (xs : List (WorkerStep × ℕ)). (r, length (writes steps)) ∷ xs) mine.3
-            ∙ sym (own_more k r steps));
-      }
+            ∙ sym (own_more k r steps)),
+      )
 
   -- ---- the steps
 
@@ -261,7 +262,14 @@ module _ (o : Opened) where
         subst
             (λ (words : List ℕ). Holds o record { words = words; homes = s.homes; views = slice_set s.views id w })
             (sym (set-get_or s.words i 0)) kept,
-        ((refl, gained_is s h id k me.0 r at is read.0), read.1),
+        (
+          (
+            refl,
+            (gained_is s h id k me.0 r at is read.0).0,
+            (gained_is s h id k me.0 r at is read.0).1,
+          ),
+          read.1,
+        ),
       )
 
   -- a load that tells no more
@@ -287,5 +295,5 @@ module _ (o : Opened) where
         tt,
         worker_step s h id k me.0 r (slice_set s.words (counter_at o k) x) at is read
             (stored h.steps k x r s.words inside stores h.words),
-        (refl, gained_is s h id k me.0 r at is read),
+        (refl, (gained_is s h id k me.0 r at is read).0, (gained_is s h id k me.0 r at is read).1),
       )

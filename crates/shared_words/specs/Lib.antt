@@ -2,3 +2,4 @@ pub mod Opened
 pub mod Layout
 pub mod Rule
 pub mod Seats
+pub mod Loads

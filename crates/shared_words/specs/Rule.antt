@@ -17,7 +17,7 @@ use Rattle.shared_words.specs.Layout.{IsLaidOut}
 
 -- the list went on from there, the newest first
 abbrev pub IsLater : List WriterStep → List WriterStep → Type 0
-IsLater before after = (new : List WriterStep) × (after ≡ new ++ before)
+IsLater old now = (new : List WriterStep) × (now ≡ new ++ old)
 
 -- who sits where: the writer's seat, how many workers' seats were made, and the seat of each
 pub record Seating : Type 0 where

@@ -1,8 +1,9 @@
 -- Meaning: what one step of the table gains the view of its seat, and no other (DPDK Programmer's
 -- Guide, "RCU Library": a worker stores the token in its counter; the writer loads each counter).
-use Rattle.std.specs.Prelude.{ℕ, ◌≡◌, ◌≢◌, ◌+◌, ◌*◌, ◌/◌, ◌%◌, ◌^◌, ◌<◌, ◌≤◌, All, List, [], ◌∷◌, length, slice_index}
+use Rattle.std.specs.Prelude.{ℕ, ◌≡◌, ◌≢◌, ◌+◌, ◌*◌, ◌/◌, ◌%◌, ◌^◌, ◌<◌, ◌≤◌, All, List, [], ◌∷◌, length, slice_index, refl}
 use Rattle.std.specs.List.{AllPairs}
-use Rattle.atomic_table.specs.Seated.{TableId}
+use Rattle.std.specs.Coded.{Coded, code_by, coded×, coded_ℕ}
+use Rattle.atomic_table.specs.Seated.{TableId, table_id_coded}
 use Rattle.atomic_table.specs.Table.{Me, Step}
 use Rattle.lpm_trace.specs.declared.step.WriterStep.{WriterStep}
 use Rattle.lpm_trace.specs.declared.step.WorkerStep.{WorkerStep}
@@ -15,6 +16,8 @@ use Rattle.lpm_trace.specs.Workers.{Probe, Unread, InGroup, Answered}
 use Rattle.lpm_trace.specs.Laws.{IsLegalAtPlace, ArePlaced, IsChecked}
 use Rattle.lpm_cells.specs.Table.{IsWords, IsFirstWord}
 use Rattle.shared_words.specs.declared.view.View.{View}
+use Rattle.shared_words.specs.contracts.view.View as view_row
+use Rattle.shared_words.specs.declared.view.Role.TheVariants.{Worker as AsWorker}
 use Rattle.shared_words.specs.declared.layout.Layout.{Layout}
 use Rattle.shared_words.specs.Layout.{half, word_count, first_at, second_at, sequence_at, token_at}
 use Rattle.shared_words.specs.Opened.{Opened, setup_of}
@@ -92,10 +95,28 @@ pub record Gains (s : WorkerStep) (v w : View) : Type 0 where
   pub view : w ≡ record v { own = (s, length seen) ∷ v.own; seen = seen }
   pub later : IsLater v.seen seen
   pub told : IsLater v.told seen
-  pub sound : IsSound w
 
 abbrev pub WorkerGains : WorkerStep → Me (Unit {0}) View → Me (Unit {0}) View → Type 0
-WorkerGains s me me' = (me'.1 ≡ me.1) × Gains s me.0 me'.0
+WorkerGains s me me' = (me'.1 ≡ me.1) × Gains s me.0 me'.0 × IsSound me'.0
+
+-- what callers see of a worker's seat: at which table it is, and what it knows
+pub record WorkerAt : Type 0 where
+  pub table : TableId
+  pub worker : ℕ
+  pub view : View
+
+abbrev pub coded_worker : Coded WorkerAt
+coded_worker = code_by (TableId × (ℕ × View))
+    (coded× table_id_coded (coded× coded_ℕ view_row.the_row.coded))
+    (λ s. (s.table, (s.worker, s.view)))
+    (λ p. record { table = p.0; worker = p.1.0; view = p.1.1 }) (λ _. refl)
+
+-- it is the seat of the worker of this number, keeps nothing of its own, and what it knows is sound
+pub record IsWorkerSeat (number : ℕ) (me : Me (Unit {0}) View) : Type 0 where
+  pub alone : me.1 ≡ []
+  pub role : me.0.role ≡ AsWorker number
+  pub inside : number < me.0.opening.workers
+  pub sound : IsSound me.0
 
 -- it gains the load of a first word, which may stand in the first table
 abbrev pub WorkerGainsFirst : Me (Unit {0}) View → ℕ → Me (Unit {0}) View → Type 0

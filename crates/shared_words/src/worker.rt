@@ -10,7 +10,7 @@ ghost use Rattle.lpm_trace.specs.Workers.{Offline, ComingOnline, Online, Looking
 ghost use Rattle.shared_words.specs.declared.view.Role.TheVariants.{Worker as AsWorker};
 ghost use Rattle.shared_words.specs.Opened.{setup_of};
 ghost use Rattle.shared_words.specs.Layout.{first_at, pairs, second_at, sequence_at};
-ghost use Rattle.shared_words.specs.Seats.{IsOf, Gains, IsFirstAt, IsSecondAt};
+ghost use Rattle.shared_words.specs.Seats.{IsOf, IsSound, Gains, IsFirstAt, IsSecondAt};
 
 use crate::law::{
     BeginsLookup, Board, Compares, EndsLookup, Hears, LoadsFirst, LoadsOnline, LoadsQuiescent,
@@ -20,17 +20,31 @@ use crate::layout::{Layout, first_at, half};
 use crate::opening::Opens;
 use crate::words::SharedWords;
 use crate::writer::WriterSeat;
-use std::marker::Brand;
+use std::marker::{Brand, Model};
 
 /// The seat of the worker of this number. It knows each step that the worker has made.
 #[derive(Drop)]
 pub struct WorkerSeat {
-    /// The seat at the table of atomic words.
-    pub place: Place,
-    /// The worker's number, from 0.
-    pub number: u64,
-    pub ghost role: { place.me.0.role ≡ AsWorker number },
-    pub ghost alone: { place.me.1 ≡ [] },
+    // The seat at the table of atomic words.
+    pub(crate) place: Place,
+    // The worker's number, from 0.
+    pub(crate) number: u64,
+}
+
+impl Model for WorkerSeat {
+    ghost use Rattle.shared_words.specs.Seats.{WorkerAt, coded_worker, IsWorkerSeat};
+
+    ghost Value = { WorkerAt };
+
+    ghost coded = { coded_worker };
+
+    ghost view = { λ s. record {
+      table = s.place.table_id;
+      worker = s.number;
+      view = s.place.me.0;
+    } };
+
+    ghost invariant = { λ s. IsWorkerSeat s.number s.place.me };
 }
 
 // The caller picks the addresses. A signature with a const parameter would not let it.
@@ -51,6 +65,7 @@ fn begin_as<T: Opens, J: Picks>(
     requires addrs { All (λ a. a < addresses (setup_of place.old.me.0.opening)) addrs.now }
     ensures own { (place.new.table_id ≡ place.old.table_id) × (place.new.me.1 ≡ place.old.me.1) }
     ensures step { Gains (Begins addrs.now result) place.old.me.0 place.new.me.0 }
+    ensures sound { IsSound place.new.me.0 }
 {
     let _ = number;
     let _ = addrs;
@@ -76,6 +91,7 @@ fn load_first_as<T: Opens, J: Picks>(
     requires next { IsFirstAt place.old.me.0.opening.second i (worker_by place.old.me.0.own).probes }
     ensures own { (place.new.table_id ≡ place.old.table_id) × (place.new.me.1 ≡ place.old.me.1) }
     ensures step { Gains (FirstLoad result) place.old.me.0 place.new.me.0 }
+    ensures sound { IsSound place.new.me.0 }
     ensures word { IsFirstWord (place.old.me.0.opening.first + place.old.me.0.opening.second)
         place.old.me.0.opening.second place.old.me.0.opening.seconds result }
 {
@@ -103,6 +119,7 @@ fn load_second_as<T: Opens, J: Picks>(
     requires next { IsSecondAt place.old.me.0.opening.second j (worker_by place.old.me.0.own).probes }
     ensures own { (place.new.table_id ≡ place.old.table_id) × (place.new.me.1 ≡ place.old.me.1) }
     ensures step { Gains (SecondLoad result) place.old.me.0 place.new.me.0 }
+    ensures sound { IsSound place.new.me.0 }
     ensures word { IsLastWord (place.old.me.0.opening.first + place.old.me.0.opening.second) result }
 {
     let _ = number;
@@ -110,14 +127,33 @@ fn load_second_as<T: Opens, J: Picks>(
 }
 
 impl WorkerSeat {
+    /// The worker's number.
+    pub fn number(&self) -> u64
+        ensures worker { result ≡ self.now.worker }
+        ensures role { self.now.view.role ≡ AsWorker result }
+        ensures inside { result < self.now.view.opening.workers }
+    {
+        self.number
+    }
+
+    /// Does nothing: its contract says what the steps of a worker, and those that it has seen of the
+    /// writer, are.
+    #[inline]
+    pub fn history(&self)
+        ensures { IsSound self.now.view }
+    {
+        let _ = &self.place;
+    }
+
     /// In a report that the worker is online, loads the token.
     #[inline]
     pub fn load_online<T: Opens>(&mut self, table: &SharedWords<T>) -> u64
         requires own { IsOf table.now.board.shared.table_id (T.opened table.now.board.shared.key)
-            table.now.layout self.old.place.table_id self.old.place.me.0 }
-        requires offline { (worker_by self.old.place.me.0.own).phase ≡ Offline }
-        ensures own { self.new.place.table_id ≡ self.old.place.table_id }
-        ensures step { Gains (LoadOnline result) self.old.place.me.0 self.new.place.me.0 }
+            table.now.layout self.old.table self.old.view }
+        requires offline { (worker_by self.old.view.own).phase ≡ Offline }
+        ensures own { self.new.table ≡ self.old.table }
+        ensures worker { self.new.worker ≡ self.old.worker }
+        ensures step { Gains (LoadOnline result) self.old.view self.new.view }
     {
         let at = Layout::TOKEN;
         table.board.shared.load::<LoadsOnline>(&mut self.place, at)
@@ -127,11 +163,11 @@ impl WorkerSeat {
     #[inline]
     pub fn store_online<T: Opens>(&mut self, table: &SharedWords<T>, token: u64)
         requires own { IsOf table.now.board.shared.table_id (T.opened table.now.board.shared.key)
-            table.now.layout self.old.place.table_id self.old.place.me.0 }
-        requires inside { self.old.number < table.now.layout.workers }
-        requires loaded { (worker_by self.old.place.me.0.own).phase ≡ ComingOnline token }
-        ensures own { self.new.place.table_id ≡ self.old.place.table_id }
-        ensures step { Gains (StoreOnline token) self.old.place.me.0 self.new.place.me.0 }
+            table.now.layout self.old.table self.old.view }
+        requires loaded { (worker_by self.old.view.own).phase ≡ ComingOnline token }
+        ensures own { self.new.table ≡ self.old.table }
+        ensures worker { self.new.worker ≡ self.old.worker }
+        ensures step { Gains (StoreOnline token) self.old.view self.new.view }
     {
         let at = table.layout.counter_at(self.number as usize);
         table
@@ -144,10 +180,11 @@ impl WorkerSeat {
     #[inline]
     pub fn load_quiescent<T: Opens>(&mut self, table: &SharedWords<T>) -> u64
         requires own { IsOf table.now.board.shared.table_id (T.opened table.now.board.shared.key)
-            table.now.layout self.old.place.table_id self.old.place.me.0 }
-        requires online { (worker_by self.old.place.me.0.own).phase ≡ Online }
-        ensures own { self.new.place.table_id ≡ self.old.place.table_id }
-        ensures step { Gains (LoadQuiescent result) self.old.place.me.0 self.new.place.me.0 }
+            table.now.layout self.old.table self.old.view }
+        requires online { (worker_by self.old.view.own).phase ≡ Online }
+        ensures own { self.new.table ≡ self.old.table }
+        ensures worker { self.new.worker ≡ self.old.worker }
+        ensures step { Gains (LoadQuiescent result) self.old.view self.new.view }
     {
         let at = Layout::TOKEN;
         table
@@ -160,11 +197,11 @@ impl WorkerSeat {
     #[inline]
     pub fn store_quiescent<T: Opens>(&mut self, table: &SharedWords<T>, token: u64)
         requires own { IsOf table.now.board.shared.table_id (T.opened table.now.board.shared.key)
-            table.now.layout self.old.place.table_id self.old.place.me.0 }
-        requires inside { self.old.number < table.now.layout.workers }
-        requires loaded { (worker_by self.old.place.me.0.own).phase ≡ ReportingQuiescent token }
-        ensures own { self.new.place.table_id ≡ self.old.place.table_id }
-        ensures step { Gains (StoreQuiescent token) self.old.place.me.0 self.new.place.me.0 }
+            table.now.layout self.old.table self.old.view }
+        requires loaded { (worker_by self.old.view.own).phase ≡ ReportingQuiescent token }
+        ensures own { self.new.table ≡ self.old.table }
+        ensures worker { self.new.worker ≡ self.old.worker }
+        ensures step { Gains (StoreQuiescent token) self.old.view self.new.view }
     {
         let at = table.layout.counter_at(self.number as usize);
         table
@@ -177,11 +214,11 @@ impl WorkerSeat {
     #[inline]
     pub fn store_offline<T: Opens>(&mut self, table: &SharedWords<T>)
         requires own { IsOf table.now.board.shared.table_id (T.opened table.now.board.shared.key)
-            table.now.layout self.old.place.table_id self.old.place.me.0 }
-        requires inside { self.old.number < table.now.layout.workers }
-        requires online { (worker_by self.old.place.me.0.own).phase ≡ Online }
-        ensures own { self.new.place.table_id ≡ self.old.place.table_id }
-        ensures step { Gains StoreOffline self.old.place.me.0 self.new.place.me.0 }
+            table.now.layout self.old.table self.old.view }
+        requires online { (worker_by self.old.view.own).phase ≡ Online }
+        ensures own { self.new.table ≡ self.old.table }
+        ensures worker { self.new.worker ≡ self.old.worker }
+        ensures step { Gains StoreOffline self.old.view self.new.view }
     {
         let at = table.layout.counter_at(self.number as usize);
         table
@@ -194,11 +231,12 @@ impl WorkerSeat {
     #[inline]
     pub fn begin_lookup<T: Opens>(&mut self, table: &SharedWords<T>, addrs: &[u64]) -> u64
         requires own { IsOf table.now.board.shared.table_id (T.opened table.now.board.shared.key)
-            table.now.layout self.old.place.table_id self.old.place.me.0 }
-        requires online { (worker_by self.old.place.me.0.own).phase ≡ Online }
-        requires addrs { All (λ a. a < addresses (setup_of self.old.place.me.0.opening)) addrs.now }
-        ensures own { self.new.place.table_id ≡ self.old.place.table_id }
-        ensures step { Gains (Begins addrs.now result) self.old.place.me.0 self.new.place.me.0 }
+            table.now.layout self.old.table self.old.view }
+        requires online { (worker_by self.old.view.own).phase ≡ Online }
+        requires addrs { All (λ a. a < addresses (setup_of self.old.view.opening)) addrs.now }
+        ensures own { self.new.table ≡ self.old.table }
+        ensures worker { self.new.worker ≡ self.old.worker }
+        ensures step { Gains (Begins addrs.now result) self.old.view self.new.view }
     {
         let at = Layout::SEQUENCE;
         begin_as::<T, Brand>(&table.board, &mut self.place, at, self.number, addrs)
@@ -208,16 +246,17 @@ impl WorkerSeat {
     #[inline]
     pub fn load_first<T: Opens>(&mut self, table: &SharedWords<T>, i: usize) -> u64
         requires own { IsOf table.now.board.shared.table_id (T.opened table.now.board.shared.key)
-            table.now.layout self.old.place.table_id self.old.place.me.0 }
+            table.now.layout self.old.table self.old.view }
         requires index { i < table.now.layout.firsts }
-        requires looking { (worker_by self.old.place.me.0.own).phase ≡ LookingUp }
-        requires next { IsFirstAt self.old.place.me.0.opening.second i
-            (worker_by self.old.place.me.0.own).probes }
-        ensures own { self.new.place.table_id ≡ self.old.place.table_id }
-        ensures step { Gains (FirstLoad result) self.old.place.me.0 self.new.place.me.0 }
+        requires looking { (worker_by self.old.view.own).phase ≡ LookingUp }
+        requires next { IsFirstAt self.old.view.opening.second i
+            (worker_by self.old.view.own).probes }
+        ensures own { self.new.table ≡ self.old.table }
+        ensures worker { self.new.worker ≡ self.old.worker }
+        ensures step { Gains (FirstLoad result) self.old.view self.new.view }
         ensures word { IsFirstWord
-            (self.old.place.me.0.opening.first + self.old.place.me.0.opening.second)
-            self.old.place.me.0.opening.second self.old.place.me.0.opening.seconds result }
+            (self.old.view.opening.first + self.old.view.opening.second)
+            self.old.view.opening.second self.old.view.opening.seconds result }
     {
         load_first_as::<T, Brand>(&table.board, &mut self.place, self.number, first_at(i), i)
     }
@@ -226,16 +265,17 @@ impl WorkerSeat {
     #[inline]
     pub fn load_second<T: Opens>(&mut self, table: &SharedWords<T>, j: usize) -> u64
         requires own { IsOf table.now.board.shared.table_id (T.opened table.now.board.shared.key)
-            table.now.layout self.old.place.table_id self.old.place.me.0 }
+            table.now.layout self.old.table self.old.view }
         requires index { j < table.now.layout.seconds }
-        requires looking { (worker_by self.old.place.me.0.own).phase ≡ LookingUp }
-        requires begun { AreBegun (worker_by self.old.place.me.0.own).probes }
-        requires next { IsSecondAt self.old.place.me.0.opening.second j
-            (worker_by self.old.place.me.0.own).probes }
-        ensures own { self.new.place.table_id ≡ self.old.place.table_id }
-        ensures step { Gains (SecondLoad result) self.old.place.me.0 self.new.place.me.0 }
+        requires looking { (worker_by self.old.view.own).phase ≡ LookingUp }
+        requires begun { AreBegun (worker_by self.old.view.own).probes }
+        requires next { IsSecondAt self.old.view.opening.second j
+            (worker_by self.old.view.own).probes }
+        ensures own { self.new.table ≡ self.old.table }
+        ensures worker { self.new.worker ≡ self.old.worker }
+        ensures step { Gains (SecondLoad result) self.old.view self.new.view }
         ensures word { IsLastWord
-            (self.old.place.me.0.opening.first + self.old.place.me.0.opening.second) result }
+            (self.old.view.opening.first + self.old.view.opening.second) result }
     {
         let at = table.layout.second_at(j);
         load_second_as::<T, Brand>(&table.board, &mut self.place, self.number, at, j)
@@ -245,11 +285,12 @@ impl WorkerSeat {
     #[inline]
     pub fn end_lookup<T: Opens>(&mut self, table: &SharedWords<T>) -> u64
         requires own { IsOf table.now.board.shared.table_id (T.opened table.now.board.shared.key)
-            table.now.layout self.old.place.table_id self.old.place.me.0 }
-        requires looking { (worker_by self.old.place.me.0.own).phase ≡ LookingUp }
-        requires answered { AreAnswered (worker_by self.old.place.me.0.own).probes }
-        ensures own { self.new.place.table_id ≡ self.old.place.table_id }
-        ensures step { Gains (Ends result) self.old.place.me.0 self.new.place.me.0 }
+            table.now.layout self.old.table self.old.view }
+        requires looking { (worker_by self.old.view.own).phase ≡ LookingUp }
+        requires answered { AreAnswered (worker_by self.old.view.own).probes }
+        ensures own { self.new.table ≡ self.old.table }
+        ensures worker { self.new.worker ≡ self.old.worker }
+        ensures step { Gains (Ends result) self.old.view self.new.view }
     {
         let at = Layout::SEQUENCE;
         table.board.shared.load::<EndsLookup>(&mut self.place, at)
@@ -259,15 +300,16 @@ impl WorkerSeat {
     /// it was.
     pub fn meet<T: Opens>(&mut self, table: &SharedWords<T>, writer: &mut WriterSeat)
         requires own { IsOf table.now.board.shared.table_id (T.opened table.now.board.shared.key)
-            table.now.layout self.old.place.table_id self.old.place.me.0 }
-        requires between { IsBetweenDeeds (worker_by self.old.place.me.0.own).phase }
+            table.now.layout self.old.table self.old.view }
+        requires between { IsBetweenDeeds (worker_by self.old.view.own).phase }
         requires writer { IsOf table.now.board.shared.table_id (T.opened table.now.board.shared.key)
             table.now.layout writer.old.place.table_id writer.old.place.me.0 }
-        ensures own { self.new.place.table_id ≡ self.old.place.table_id }
+        ensures own { self.new.table ≡ self.old.table }
+        ensures worker { self.new.worker ≡ self.old.worker }
         ensures step { (number : ℕ) × Gains (Meets number)
-            (record self.old.place.me.0 { told = writer.old.place.me.0.seen })
-            self.new.place.me.0 }
-        ensures all { self.new.place.me.0.seen ≡ writer.old.place.me.0.seen }
+            (record self.old.view { told = writer.old.place.me.0.seen })
+            self.new.view }
+        ensures all { self.new.view.seen ≡ writer.old.place.me.0.seen }
         ensures writer { writer.new.place.me.0 ≡ writer.old.place.me.0 }
         ensures seat { writer.new.place.table_id ≡ writer.old.place.table_id }
     {

@@ -325,10 +325,11 @@ impl WriterSeat {
         requires worker { number < table.now.layout.workers }
         ensures own { self.new.place.table_id ≡ self.old.place.table_id }
         ensures made { self.new.place.me.0 ≡ with_one_more self.old.place.me.0 }
-        ensures seat { result.place.table_id ≡ self.old.place.table_id }
-        ensures view { result.place.me.0 ≡ worker_view self.old.place.me.0 }
-        ensures worker { result.number ≡ number }
+        ensures seat { result.table ≡ self.old.place.table_id }
+        ensures view { result.view ≡ worker_view self.old.place.me.0 }
+        ensures worker { result.worker ≡ number }
     {
+        let _ = self.sequence(table);
         let place = table.board.shared.split_seat::<NextWorker>(&mut self.place);
         WorkerSeat { place, number }
     }

@@ -1,4 +1,4 @@
-use Rattle.running_laws.proofs.Backwards.{passes_never_go_back as law}
+use Rattle.running_laws.proofs.Since.{passes_never_go_back as law}
 use Rattle.running_laws.proofs.passes_never_go_back.Goals as goal
 
 pub returns : goal.returns

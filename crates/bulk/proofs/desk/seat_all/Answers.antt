@@ -1,10 +1,9 @@
 use Rattle.std.proofs.Common.{◌≡◌, ℕ, ◌+◌, ◌<◌, List, All, map, slice_get, Some, None, ap, subst, sym, ◌∙◌, arith}
 use Rattle.std.specs.List.{range_with_len}
 use Rattle.std.proofs.lemmas.List.Elements.{All-nil, All-push}
-use Rattle.shared_words.specs.declared.view.Role.TheVariants.{Worker}
 use Rattle.bulk.specs.declared.desk.Desk.{Desk}
-use Rattle.bulk.specs.Desks.{IsDeskOf, role_of}
-use Rattle.bulk.proofs.Seating.{stays_at_bench, one_more_seated, one_more_role}
+use Rattle.bulk.specs.Desks.{IsDeskOf, worker_of}
+use Rattle.bulk.proofs.Seating.{stays_at_bench, one_more_seated, one_more_number}
 use Rattle.bulk.proofs.desk.seat_all.Goals as goal
 
 pub loop-worker-init : goal.loop-worker-init
@@ -17,7 +16,7 @@ loop-worker-init g c = record {
       (at.0, at.1);
   seated = λ k low. absurd (omega (arith, low));
   desks = subst (All (IsDeskOf c.args.table.now)) (sym {A = List Desk} c.in_ok-desks.ensures.items) (All-nil (IsDeskOf c.args.table.now));
-  roles = ap (map role_of) c.in_ok-desks.ensures.items;
+  numbers = ap (map worker_of) c.in_ok-desks.ensures.items;
 }
 
 pub seat-requires : goal.seat-requires
@@ -40,14 +39,14 @@ loop-worker-preserved g c =
           (known.waiting i (omega arith) c.loop-worker-test.true) known.seated k low);
       desks = subst (All (IsDeskOf c.args.table.now)) (sym {A = List Desk} pushed.items)
           (All-push (IsDeskOf c.args.table.now) c.loop-worker.desks.items c.seat.result known.desks c.seat.ensures.desk);
-      roles = ap (map role_of) pushed.items
-          ∙ one_more_role c.loop-worker.desks.items c.seat.result i known.roles c.seat.ensures.role;
+      numbers = ap (map worker_of) pushed.items
+          ∙ one_more_number c.loop-worker.desks.items c.seat.result i known.numbers c.seat.ensures.worker;
     }
 
-pub returns-clause-roles : goal.returns-clause-roles
-returns-clause-roles g c =
+pub returns-clause-numbers : goal.returns-clause-numbers
+returns-clause-numbers g c =
     let all : c.loop-worker.worker ≡ c.args.workers = omega arith in
-    c.loop-worker.invariant.roles ∙ ap (λ (n : ℕ). map Worker (range_with_len 0 n)) all
+    c.loop-worker.invariant.numbers ∙ ap (range_with_len 0) all
 
 pub returns-clause-seated : goal.returns-clause-seated
 returns-clause-seated g c =

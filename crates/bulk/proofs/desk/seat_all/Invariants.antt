@@ -1,9 +1,8 @@
 use Rattle.std.proofs.Common.{◌≡◌, ℕ, ◌<◌, ◌≤◌, All, map, vec_len}
 use Rattle.std.specs.Prelude.{vec_capacity, slice_get, Some, None}
 use Rattle.std.specs.List.{range_with_len}
-use Rattle.shared_words.specs.declared.view.Role.TheVariants.{Worker}
-use Rattle.shared_fib.specs.Running.{IsBenchOf}
-use Rattle.bulk.specs.Desks.{IsDeskOf, IsAtBench, role_of}
+use Rattle.shared_fib.specs.Passes.{IsBenchOf}
+use Rattle.bulk.specs.Desks.{IsDeskOf, IsAtBench, worker_of}
 use Rattle.bulk.proofs.desk.seat_all.Given as goal
 
 -- the workers so far have their desks, and the passes of the others are at the bench
@@ -15,5 +14,5 @@ invariant-loop-worker g l = record {
   waiting : (k : ℕ) → l.worker ≤ k → k < l.workers → IsAtBench l.bench k;
   seated : (k : ℕ) → k < l.worker → slice_get l.bench k ≡ Some None;
   desks : All (IsDeskOf l.table) l.desks.items;
-  roles : map role_of l.desks.items ≡ map Worker (range_with_len 0 l.worker);
+  numbers : map worker_of l.desks.items ≡ range_with_len 0 l.worker;
 }

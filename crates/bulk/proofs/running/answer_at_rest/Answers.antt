@@ -3,7 +3,7 @@ use Rattle.std.specs.List.{flat_map}
 use Rattle.lpm_rules.specs.Longest.{AreLongestHops}
 use Rattle.shared_fib.specs.Running.{Identity}
 use Rattle.bulk.specs.declared.desk.Desk.{Desk}
-use Rattle.bulk.proofs.Meetings.{longest, same_desks, same_roles}
+use Rattle.bulk.proofs.Meetings.{longest, same_desks, same_numbers}
 use Rattle.bulk.proofs.running.answer_at_rest.Goals as goal
 
 pub returns-clause-answers : goal.returns-clause-answers
@@ -19,9 +19,9 @@ returns-clause-answers g c =
     c.meet_all.ensures.met c.answer_all.ensures.answers c.meet_all-2.ensures.met
     id c.requires.own c.requires.desks c.requires.some)
 
-pub returns-clause-roles : goal.returns-clause-roles
-returns-clause-roles g c =
-    same_roles c.args.writer.now c.meet_all.new.writer c.meet_all.ensures.same c.args.addrs.now
+pub returns-clause-numbers : goal.returns-clause-numbers
+returns-clause-numbers g c =
+    same_numbers c.args.writer.now c.meet_all.new.writer c.meet_all.ensures.same c.args.addrs.now
     c.args.desks.now c.meet_all.new.desks c.answer_all.new.desks c.meet_all-2.new.desks
     c.meet_all.ensures.len c.answer_all.ensures.len c.meet_all-2.ensures.len
     c.meet_all.ensures.met c.answer_all.ensures.answers c.meet_all-2.ensures.met

@@ -6,11 +6,11 @@ use Rattle.shared_deeds.proofs.four_addresses.load_last.Goals as goal
 
 pub load_second-requires-clause-begun : goal.load_second-requires-clause-begun
 load_second-requires-clause-begun g c =
-    begun_with c.args.addr c.args.word c.args.seat.now.place.me.0 c.in-Some.group c.in-Some.ensures c.requires.next
+    begun_with c.args.addr c.args.word c.args.seat.now.view c.in-Some.group c.in-Some.ensures c.requires.next
 
 pub load_second-requires-clause-next : goal.load_second-requires-clause-next
 load_second-requires-clause-next g c =
-    let v = c.args.seat.now.place.me.0 in
+    let v = c.args.seat.now.view in
     let addr = c.args.addr in
     let group = c.in-Some.group in
     let second = g.row.SECOND in
@@ -22,9 +22,9 @@ load_second-requires-clause-next g c =
     second_with addr c.args.word v group c.in-Some.ensures v.opening.second _ there c.requires.next
 
 pub returns-in-None-clause-loads : goal.returns-in-None-clause-loads
-returns-in-None-clause-loads g c = no_second c.args.addr c.args.word c.args.seat.now.place.me.0 c.in-None.ensures
+returns-in-None-clause-loads g c = no_second c.args.addr c.args.word c.args.seat.now.view c.in-None.ensures
 
 pub returns-in-Some-clause-loads : goal.returns-in-Some-clause-loads
 returns-in-Some-clause-loads g c =
-    second_loaded c.args.addr c.args.word c.args.seat.now.place.me.0 c.in-Some.group c.in-Some.ensures _ _
+    second_loaded c.args.addr c.args.word c.args.seat.now.view c.in-Some.group c.in-Some.ensures _ _
     c.load_second.ensures.step

@@ -5,7 +5,7 @@ use Rattle.shared_deeds.proofs.four_addresses.lookup4.Goals as goal
 
 pub load_firsts-w-requires-clause-firsts : goal.load_firsts-w-requires-clause-firsts
 load_firsts-w-requires-clause-firsts g c =
-    firsts_are _ _ _ _ c.begin_lookup-low.ensures.step c.requires.first
+    firsts_are _ _ _ _ c.begin_lookup-low.ensures.step c.history.ensures c.requires.first
 
 pub load_last-w-requires-clause-word : goal.load_last-w-requires-clause-word
 load_last-w-requires-clause-word g c =
@@ -130,6 +130,6 @@ returns-clause-answers g c =
     _ _ c.load_last-x.ensures.loads
     _ _ c.load_last-y.ensures.loads
     _ _ c.load_last-z.ensures.loads
-    high _ c.end_lookup-high.ensures.step _ _ _
+    high _ c.end_lookup-high.ensures.step c.history.ensures c.history-2.ensures _ _ _
     (same_four c.hop_of_last_word.ensures c.hop_of_last_word-2.ensures c.hop_of_last_word-3.ensures
     c.hop_of_last_word-4.ensures) refl half

@@ -1,7 +1,8 @@
 use Rattle.std.proofs.Common.{◌≡◌, ◌<◌, ap, sym, subst, ◌∙◌, lit<, arith}
 use Rattle.lpm_writer.specs.declared.ledger.Ledger.{Ledger}
 use Rattle.shared_words.specs.Opened.{Opened}
-use Rattle.shared_fib.specs.Running.{Identity, IsAtRest, IsFullBench, opening_by}
+use Rattle.shared_fib.specs.Running.{Identity, IsAtRest, opening_by}
+use Rattle.shared_fib.specs.Passes.{IsFullBench}
 use Rattle.shared_fib.proofs.Begins.{kept_by, shaped, token_within, loaded_settled, loaded_rests, ready, opens, opening_rests}
 use Rattle.shared_fib.proofs.opening.begin.Goals as goal
 

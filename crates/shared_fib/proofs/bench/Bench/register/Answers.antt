@@ -1,6 +1,6 @@
 use Rattle.std.proofs.Common.{arith, ap, sym, subst, refl, ◌∙◌, List, Option, Some}
 use Rattle.std.specs.Prelude.{slice_set}
-use Rattle.shared_fib.specs.Running.{PassState, IsBenchOf}
+use Rattle.shared_fib.specs.Passes.{PassState, IsBenchOf}
 use Rattle.shared_fib.proofs.Seats.{stands_at, taken_off}
 use Rattle.shared_fib.proofs.bench.Bench.register.Goals as goal
 

@@ -1,6 +1,6 @@
-use Rattle.std.proofs.Common.{ap, sym, subst, ◌∙◌, List, Option, Some}
+use Rattle.std.proofs.Common.{◌≡◌, sym, subst, ◌∙◌, List, Option, Some}
 use Rattle.std.specs.Prelude.{slice_set}
-use Rattle.shared_fib.specs.Running.{PassState, IsBenchOf}
+use Rattle.shared_fib.specs.Passes.{PassState, IsBenchOf}
 use Rattle.shared_fib.proofs.Seats.{put_back}
 use Rattle.shared_fib.proofs.bench.Bench.unregister.Goals as goal
 
@@ -10,17 +10,17 @@ returns-clause-own g c =
     subst (λ (items : List (Option PassState)). IsBenchOf c.args.table.now (slice_set items c.worker-worker.result (Some p)))
     (sym c.self.view_is)
     (put_back c.args.table.now c.args.self.now c.worker-worker.result p c.requires.own (record {
-      identity = c.leave.ensures.own ∙ c.requires.pass;
-      worker = c.worker-worker.ensures.value;
+      table = c.leave.ensures.own ∙ c.requires.pass;
+      worker = sym c.worker-worker.ensures.value;
       offline = c.leave.ensures.offline;
     }))
 
 pub returns-clause-back : goal.returns-clause-back
 returns-clause-back g c =
-    let p = c.leave.new.self in (
-      c.worker-worker.result,
+    let p = c.leave.new.self in
+    let at : c.worker-worker.result ≡ c.args.pass.worker = c.worker-worker.ensures.value ∙ c.leave.ensures.worker in (
       p,
-      sym c.leave.ensures.worker ∙ c.worker-worker.ensures.value,
+      λ i. slice_set (c.self.view_is i) (at i) (Some p),
       c.leave.ensures.leaves,
-      ap (λ (items : List (Option PassState)). slice_set items c.worker-worker.result (Some p)) c.self.view_is,
+      c.leave.ensures.stays,
     )

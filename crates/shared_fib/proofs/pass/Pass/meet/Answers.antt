@@ -1,18 +1,16 @@
-use Rattle.std.proofs.Common.{subst, rules}
-use Rattle.shared_fib.specs.Running.{IsAtRest}
-use Rattle.shared_fib.proofs.Rests.{at_rest}
+use Rattle.std.proofs.Common.{rules, refl}
+use Rattle.shared_words.specs.Seats.{WorkerAt}
+use Rattle.shared_fib.proofs.Makes.{makes_one}
 use Rattle.shared_fib.proofs.pass.Pass.meet.Goals as goal
-
-pub returns-clause-step : goal.returns-clause-step
-returns-clause-step c = search rules
 
 pub returns-clause-all : goal.returns-clause-all
 returns-clause-all c = search rules
 
-pub returns-clause-rests : goal.returns-clause-rests
-returns-clause-rests g c =
-    let l = c.writer.inside.ledger in
-    let place = c.writer.inside.seat.place in
-    subst IsAtRest c.writer.view_is
-    (at_rest g.row.FIRST g.row.SECOND (record { words = place.table_id; opening = place.me.0.opening })
-    l.config l.rules place.me.0.seen l.books l.versions c.writer.invariant.rests)
+pub returns-clause-step : goal.returns-clause-step
+returns-clause-step g c =
+    let step = c.meet.ensures.step in
+    let seat = c.self.inside.seat in
+    let told : WorkerAt = record seat { view = record seat.view { told = c.writer.inside.seat.place.me.0.seen } } in
+    let one = makes_one c.self.inside.is_online _ _ told c.meet.new.self c.args.self.now c.self.view_is
+    c.meet.ensures.own c.meet.ensures.worker (told.view, refl, step.1) in
+    (step.0, one.0, one.1)

@@ -2,15 +2,7 @@ use Rattle.std.proofs.Common.{subst, take, rules}
 use Rattle.lpm_writer.specs.Resting.{state_of}
 use Rattle.shared_fib.specs.Freeing.{FreesChecked}
 use Rattle.shared_fib.specs.Running.{Identity, WriterState, setup}
-use Rattle.shared_fib.proofs.Rests.{at_rest}
 use Rattle.shared_fib.proofs.writer.Writer.reclaim.Goals as goal
-
-pub returns-clause-rests : goal.returns-clause-rests
-returns-clause-rests g c =
-    let l = c.reclaim_by.new.ledger in
-    let place = c.reclaim_by.new.seat.place in
-    at_rest g.row.FIRST g.row.SECOND (record { words = place.table_id; opening = place.me.0.opening })
-    l.config l.rules place.me.0.seen l.books l.versions c.reclaim_by.ensures.ready.rests
 
 pub returns-clause-checked : goal.returns-clause-checked
 returns-clause-checked g c =

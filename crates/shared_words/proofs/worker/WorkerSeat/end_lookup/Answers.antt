@@ -1,11 +1,16 @@
-use Rattle.std.proofs.Common.{refl, arith}
+use Rattle.std.proofs.Common.{refl, arith, sym, subst}
+use Rattle.lpm_trace.specs.Trace.{worker_by}
+use Rattle.lpm_trace.specs.Workers.{AreAnswered}
+use Rattle.shared_words.specs.Seats.{WorkerAt}
 use Rattle.shared_words.proofs.Reading.{ends_allowed}
+use Rattle.shared_words.proofs.Seat.{own_inside, phase_inside}
 use Rattle.shared_words.proofs.worker.WorkerSeat.end_lookup.Goals as goal
 
 pub load-requires : goal.load-requires
 load-requires g c =
-    let own = c.requires.own in (
+    let own = own_inside _ _ _ _ _ c.self.view_is c.requires.own in (
       own.same,
       omega (arith, own.words),
-      ends_allowed _ _ _ _ _ _ c.args.self.now.role refl c.requires.looking c.requires.answered,
+      ends_allowed _ _ _ _ _ _ c.self.invariant.role refl (phase_inside _ _ _ c.self.view_is c.requires.looking)
+          (subst (λ (s : WorkerAt). AreAnswered (worker_by s.view.own).probes) (sym c.self.view_is) c.requires.answered),
     )

@@ -1,11 +1,12 @@
 use Rattle.std.proofs.Common.{refl, arith}
 use Rattle.shared_words.proofs.Reading.{load_online_allowed}
+use Rattle.shared_words.proofs.Seat.{own_inside, phase_inside}
 use Rattle.shared_words.proofs.worker.WorkerSeat.load_online.Goals as goal
 
 pub load-requires : goal.load-requires
 load-requires g c =
-    let own = c.requires.own in (
+    let own = own_inside _ _ _ _ _ c.self.view_is c.requires.own in (
       own.same,
       omega (arith, own.words),
-      load_online_allowed _ _ _ _ _ _ c.args.self.now.role refl c.requires.offline,
+      load_online_allowed _ _ _ _ _ _ c.self.invariant.role refl (phase_inside _ _ _ c.self.view_is c.requires.offline),
     )

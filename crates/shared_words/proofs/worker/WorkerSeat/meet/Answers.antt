@@ -3,8 +3,10 @@ use Rattle.atomic_table.specs.Table.{Me}
 use Rattle.lpm_trace.specs.Workers.{IsBetweenDeeds}
 use Rattle.lpm_trace.specs.Trace.{worker_by}
 use Rattle.shared_words.specs.declared.view.View.{View}
+use Rattle.shared_words.specs.Seats.{WorkerAt}
 use Rattle.shared_words.proofs.Reading.{meets_allowed}
 use Rattle.shared_words.proofs.Meetings.{notes_split, notes_join, compares_allowed}
+use Rattle.shared_words.proofs.Seat.{own_inside}
 use Rattle.shared_words.proofs.worker.WorkerSeat.meet.Goals as goal
 
 pub split_seat-told-requires : goal.split_seat-told-requires
@@ -13,33 +15,34 @@ split_seat-told-requires g c =
 
 pub join_seat-requires : goal.join_seat-requires
 join_seat-requires g c =
-    let own = c.requires.own in
+    let own = own_inside _ _ _ _ _ c.self.view_is c.requires.own in
     (own.same, search rules, search rules, omega (arith, own.words), notes_join _ _ _ _ _)
 
 pub load-requires : goal.load-requires
 load-requires g c =
-    let own = c.requires.own in
-    let heard = c.join_seat.ensures.2 in (
+    let own = own_inside _ _ _ _ _ c.self.view_is c.requires.own in
+    let heard = c.join_seat.ensures.2 in
+    let between = subst (λ (s : WorkerAt). IsBetweenDeeds (worker_by s.view.own).phase) (sym c.self.view_is) c.requires.between in (
       search rules,
       omega (arith, own.words),
-      meets_allowed _ _ _ _ _ _ (ap {A = Me (Unit {0}) View} (λ m. m.0.role) heard ∙ c.args.self.now.role)
+      meets_allowed _ _ _ _ _ _ (ap {A = Me (Unit {0}) View} (λ m. m.0.role) heard ∙ c.self.invariant.role)
           refl
           (subst (λ (m : Me (Unit {0}) View). IsBetweenDeeds (worker_by m.0.own).phase)
-          (sym heard) c.requires.between),
+          (sym heard) between),
     )
 
 pub split_seat-told-requires-2 : goal.split_seat-told-requires-2
 split_seat-told-requires-2 g c =
-    let own = c.requires.own in (search rules, omega (arith, own.words), notes_split _ _ _)
+    let own = own_inside _ _ _ _ _ c.self.view_is c.requires.own in (search rules, omega (arith, own.words), notes_split _ _ _)
 
 pub join_seat-requires-2 : goal.join_seat-requires-2
 join_seat-requires-2 g c =
-    let own = c.requires.own in
+    let own = c.requires.writer in
     (search rules, search rules, search rules, omega (arith, own.words), notes_join _ _ _ _ _)
 
 pub load-requires-2 : goal.load-requires-2
 load-requires-2 g c =
-    let own = c.requires.own in (
+    let own = c.requires.writer in (
       search rules,
       omega (arith, own.words),
       compares_allowed _ _ _ _ _ (ap {A = Me (Unit {0}) View} (λ m. m.0.role) c.join_seat-2.ensures.2

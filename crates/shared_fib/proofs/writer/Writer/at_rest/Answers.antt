@@ -1,13 +1,10 @@
-use Rattle.std.proofs.Common.{subst, rules}
+use Rattle.std.proofs.Common.{subst}
 use Rattle.shared_fib.specs.Running.{IsAtRest}
 use Rattle.shared_fib.proofs.Rests.{at_rest}
-use Rattle.shared_fib.proofs.writer.Writer.versions.Goals as goal
+use Rattle.shared_fib.proofs.writer.Writer.at_rest.Goals as goal
 
-pub returns-clause-value : goal.returns-clause-value
-returns-clause-value c = search rules
-
-pub returns-clause-rests : goal.returns-clause-rests
-returns-clause-rests g c =
+pub returns : goal.returns
+returns g c =
     let l = c.self.inside.ledger in
     let place = c.self.inside.seat.place in
     subst IsAtRest c.self.view_is

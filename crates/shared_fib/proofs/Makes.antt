@@ -1,0 +1,224 @@
+-- What a seat gains is what its pass makes.
+use Rattle.std.proofs.Common.{ℕ, ◌≡◌, ◌≤◌, Bool, All, List, [], ◌∷◌, ◌++◌, length, get_or, Option, refl, ap, sym, subst, ◌∙◌, arith}
+use Rattle.std.proofs.lemmas.List.Elements.{All-cons, All-nil}
+use Rattle.atomic_table.specs.Seated.{TableId}
+use Rattle.lpm_entry.specs.Words.{entry_in}
+use Rattle.lpm_trace.specs.declared.step.WriterStep.{WriterStep}
+use Rattle.lpm_trace.specs.declared.step.WorkerStep.{WorkerStep}
+use Rattle.lpm_trace.specs.declared.step.WorkerStep.TheVariants.{Begins, Ends}
+use Rattle.lpm_trace.specs.Tables.{Setup, version, done, begun, oldest, tables, tables_at}
+use Rattle.lpm_trace.specs.Writer.{IsWritten}
+use Rattle.lpm_trace.specs.Workers.{Seen}
+use Rattle.lpm_trace.specs.Laws.{IsLegalAtPlace}
+use Rattle.lpm_trace.proofs.Traces.{oldest_all}
+use Rattle.lpm_trace.proofs.Promises.{versions_never_fall_at_places}
+use Rattle.shared_words.specs.declared.view.View.{View}
+use Rattle.shared_words.specs.Opened.{Opened, setup_of}
+use Rattle.shared_words.specs.Rule.{IsLater}
+use Rattle.shared_words.specs.Seats.{IsSound, Gains, WorkerAt}
+use Rattle.shared_words.specs.Loads.{Found, IsReadOn, firsts_at, loads_at, seconds_at, seen_of}
+use Rattle.shared_deeds.specs.Deeds.{GainsAll, GainsAt, GoesOn, LoadsAround, LooksUp as DeedLooksUp, LooksUpAll as DeedLooksUpAll}
+use Rattle.shared_deeds.proofs.Deeds.{all_at, gains_on, goes_at, goes_on, later_trans, later_longer}
+use Rattle.shared_fib.specs.Versions.{updates_begun, updates_done}
+use Rattle.shared_fib.specs.Passes.{PassState, Makes, IsAnswered, IsOfVersion, LooksUp, LooksUpAll}
+use Rattle.shared_fib.proofs.Versions.{beginning_of, counts, written_then, kept}
+
+-- what a view gains by these steps
+pub record Made (made : List (WorkerStep × ℕ)) (v w : View) : Type 0 where
+  pub own : w.own ≡ made ++ v.own
+  pub places : All (λ s. (length v.seen ≤ s.1) × (s.1 ≤ length w.seen)) made
+  pub seen : IsLater v.seen w.seen
+  pub opening : w.opening ≡ v.opening
+
+pub made_none : (v w : View) → w ≡ v → Made [] v w
+made_none v w same = record {
+  own = ap (λ (x : View). x.own) same;
+  places = All-nil (λ (s : WorkerStep × ℕ). (length v.seen ≤ s.1) × (s.1 ≤ length w.seen));
+  seen = subst (λ (x : View). IsLater v.seen x.seen) (sym same) ([], refl);
+  opening = ap (λ (x : View). x.opening) same;
+}
+
+-- one more step
+pub made_more : (made : List (WorkerStep × ℕ)) (s : WorkerStep) (v u w : View) → Made made v u → (g : Gains s u w)
+    → Made ((s, length g.seen) ∷ made) v w
+made_more made s v u w m g =
+    let on : GoesOn u w = gains_on s u w g in
+    let here : ℕ = length g.seen in
+    let same : w.seen ≡ g.seen = ap (λ (x : View). x.seen) g.view in
+    let is : WorkerStep × ℕ → Type 0 = λ x. (length v.seen ≤ x.1) × (x.1 ≤ length w.seen) in
+    let old : length v.seen ≤ length u.seen = later_longer v.seen u.seen m.seen in
+    let new_on : length u.seen ≤ length w.seen = later_longer u.seen w.seen on.later in
+    let count : length w.seen ≡ here = ap length same in
+    record {
+      own = ap (λ (x : View). x.own) g.view ∙ ap (λ (l : List (WorkerStep × ℕ)). (s, here) ∷ l) m.own;
+      places = All-cons is (s, here) made (omega (arith, old, new_on, count), omega (arith, count))
+          (λ i d low. let h = m.places i d low in (h.0, omega (arith, h.1, new_on)));
+      seen = later_trans v.seen u.seen w.seen m.seen on.later;
+      opening = ap (λ (x : View). x.opening) on.same ∙ m.opening;
+    }
+
+-- steps one after another, each at its place
+pub made_at : (steps : List (WorkerStep × ℕ)) (v w : View) → GainsAt steps v w → Made steps v w
+made_at [] v w same = made_none v w same
+made_at (s ∷ steps) v w more =
+    subst (λ (n : ℕ). Made ((s.0, n) ∷ steps) v w) (sym more.3)
+    (made_more steps s.0 v more.0 w (made_at steps v more.0 more.1) more.2)
+
+-- the pass of a seat
+abbrev pub state : WorkerAt → Bool → PassState
+state s online = record {
+  table = record { words = s.table; opening = s.view.opening };
+  worker = s.worker;
+  online = online;
+  steps = s.view.own;
+  seen = s.view.seen;
+}
+
+pub makes : (on on' : Bool) (made : List (WorkerStep × ℕ)) (s s' : WorkerAt) (p : PassState) → state s on ≡ p
+    → s'.table ≡ s.table → s'.worker ≡ s.worker → Made made s.view s'.view → Makes made p (state s' on')
+makes on on' made s s' p is table worker m =
+    subst (λ (q : PassState). Makes made q (state s' on')) is (record {
+      steps = m.own;
+      places = m.places;
+      seen = m.seen;
+      table = λ i. record { words = table i; opening = m.opening i };
+      worker = worker;
+    })
+
+-- one step, and two
+pub makes_one : (on on' : Bool) (r : WorkerStep) (s s' : WorkerAt) (p : PassState) → state s on ≡ p
+    → s'.table ≡ s.table → s'.worker ≡ s.worker → GainsAll (r ∷ []) s.view s'.view
+    → (place : ℕ) × Makes ((r, place) ∷ []) p (state s' on')
+makes_one on on' r s s' p is table worker g = (
+  length g.2.seen,
+  makes on on' ((r, length g.2.seen) ∷ []) s s' p is table worker
+      (made_more [] r s.view g.0 s'.view (made_none s.view g.0 g.1) g.2),
+)
+
+pub makes_two : (on on' : Bool) (r t : WorkerStep) (s s' : WorkerAt) (p : PassState) → state s on ≡ p
+    → s'.table ≡ s.table → s'.worker ≡ s.worker → GainsAll (t ∷ r ∷ []) s.view s'.view
+    → (first : ℕ) × (last : ℕ) × Makes ((t, last) ∷ (r, first) ∷ []) p (state s' on')
+makes_two on on' r t s s' p is table worker g =
+    let first : ℕ = length g.1.2.seen in (
+      first,
+      length g.2.seen,
+      makes on on' ((t, length g.2.seen) ∷ (r, first) ∷ []) s s' p is table worker
+          (made_more ((r, first) ∷ []) t s.view g.0 s'.view
+          (made_more [] r s.view g.1.0 g.0 (made_none s.view g.1.0 g.1.1) g.1.2) g.2),
+    )
+
+-- a legal lookup is that of a version
+pub of_version : (table : TableId) (o : Opened) (w_steps : List WriterStep) (l : Seen) → IsWritten (setup_of o) w_steps
+    → (h : IsLegalAtPlace (setup_of o) w_steps l)
+    → IsOfVersion (record { words = table; opening = o }) w_steps l.addr l.hop h.place
+    (version (tables_at (setup_of o) w_steps h.place) l.addr)
+of_version table o w_steps l written h =
+    let c : Setup = setup_of o in
+    let place : ℕ = h.place in
+    let stands = versions_never_fall_at_places c w_steps l.addr place place (omega arith) in
+    let then = counts c (oldest place w_steps) (written_then c w_steps place written) in
+    let rises = versions_never_fall_at_places c w_steps l.addr place (length w_steps) (omega (arith, h.to, h.within)) in
+    let last : version (tables_at c w_steps (length w_steps)) l.addr ≤ begun (tables c w_steps) = subst
+    (λ (xs : List WriterStep). version (tables_at c w_steps (length w_steps)) l.addr ≤ begun (tables c xs))
+    (oldest_all w_steps (length w_steps) (omega arith))
+    (versions_never_fall_at_places c w_steps l.addr (length w_steps) (length w_steps) (omega arith)).1 in
+    record {
+      rules = (tables c w_steps).history (version (tables_at c w_steps place) l.addr);
+      version = (kept c w_steps written).each (version (tables_at c w_steps place) l.addr) (omega (arith, rises.2, last));
+      within = omega (arith, h.to, h.within);
+      done = omega (arith, stands.0, then.done_is);
+      begun = omega (arith, stands.1, then.begun_is);
+      answers = h.answers;
+    }
+
+-- ---- a lookup
+
+-- an address with a legal lookup is answered by a version
+is_answered : (table : TableId) (o : Opened) (w_steps : List WriterStep) (lo hi : ℕ) (f : Found) → IsWritten (setup_of o) w_steps
+    → IsReadOn (entry_in f.word) f.second f.hop → IsLegalAtPlace (setup_of o) w_steps (seen_of lo hi f)
+    → IsAnswered (record { words = table; opening = o }) w_steps lo hi f
+is_answered table o w_steps lo hi f written exact h = record {
+  exact = exact;
+  place = h.place;
+  version = version (tables_at (setup_of o) w_steps h.place) f.addr;
+  answer = of_version table o w_steps (seen_of lo hi f) written h;
+  stood = (h.from, h.to);
+  within = (h.low, h.high);
+}
+
+-- the loads of the sequence round the loads of words
+module _ (addrs : List ℕ) (lo hi : ℕ) (v b u w : View) (around : LoadsAround addrs lo hi v b u w)
+    (loads : List (WorkerStep × ℕ)) (steps : GainsAt loads b u) (known : IsSound w) where
+  abbrev c : Setup
+  c = setup_of v.opening
+
+  abbrev all_steps : List (WorkerStep × ℕ)
+  all_steps = (Ends around.high, length w.seen) ∷ (loads ++ (Begins addrs around.low, length around.begins.seen) ∷ [])
+
+  made : Made all_steps v w
+  made = made_at all_steps v w (
+    u,
+    goes_at loads ((Begins addrs around.low, length around.begins.seen) ∷ []) v b u steps (v, refl, around.begins, refl),
+    around.ends,
+    ap (λ (x : View). length x.seen) around.ends.view,
+  )
+
+  written : IsWritten c w.seen
+  written = subst (λ (o : Opened). IsWritten (setup_of o) w.seen) made.opening known.written
+
+  done_then : lo ≡ updates_done (oldest (length around.begins.seen) w.seen)
+  done_then =
+      let on : GoesOn b w = goes_on b u w (all_at loads b u steps) (gains_on (Ends around.high) u w around.ends) in
+      let seen_is : b.seen ≡ around.begins.seen = ap (λ (x : View). x.seen) around.begins.view in
+      let then : oldest (length around.begins.seen) w.seen ≡ b.seen =
+      ap (λ (l : List WriterStep). oldest (length l) w.seen) (sym seen_is) ∙ beginning_of b.seen w.seen on.later in
+      around.done_then ∙ (ap (λ (l : List WriterStep). done (tables c l)) (sym then)
+      ∙ (counts c (oldest (length around.begins.seen) w.seen) (written_then c w.seen (length around.begins.seen) written)).done_is)
+
+  begun_then : hi ≡ updates_begun w.seen
+  begun_then = around.begun_then ∙ (counts c w.seen written).begun_is
+
+-- what a seat looks up its pass does
+pub looks_up : (on on' : Bool) (addr : ℕ) (hop : Option ℕ) (lo hi : ℕ) (s s' : WorkerAt) (p : PassState) → state s on ≡ p
+    → s'.table ≡ s.table → s'.worker ≡ s.worker → DeedLooksUp addr hop lo hi s.view s'.view → IsSound s'.view
+    → LooksUp addr hop lo hi p (state s' on')
+looks_up on on' addr hop lo hi s s' p is table worker d known =
+    let v : View = s.view in
+    let w : View = s'.view in
+    let a = d.around in
+    let loads : List (WorkerStep × ℕ) = loads_at d.found.word d.found.first d.found.second in
+    subst (λ (q : PassState). LooksUp addr hop lo hi q (state s' on')) is (record {
+      low = a.low;
+      begins = length a.begins.seen;
+      found = d.found;
+      high = a.high;
+      steps = makes on on' _ s s' (state s on) refl table worker (made (addr ∷ []) lo hi v d.started d.loaded w a loads d.steps known);
+      result = d.answer;
+      done_then = done_then (addr ∷ []) lo hi v d.started d.loaded w a loads d.steps known;
+      begun_then = begun_then (addr ∷ []) lo hi v d.started d.loaded w a loads d.steps known;
+      answer = is_answered s.table v.opening w.seen lo hi d.found
+          (written (addr ∷ []) lo hi v d.started d.loaded w a loads d.steps known) d.exact d.legal;
+    })
+
+-- and of several addresses
+pub looks_up_all : (on on' : Bool) (addrs : List ℕ) (hops : List (Option ℕ)) (lo hi : ℕ) (s s' : WorkerAt) (p : PassState)
+    → state s on ≡ p → s'.table ≡ s.table → s'.worker ≡ s.worker → DeedLooksUpAll addrs hops lo hi s.view s'.view
+    → IsSound s'.view → LooksUpAll addrs hops lo hi p (state s' on')
+looks_up_all on on' addrs hops lo hi s s' p is table worker d known =
+    let v : View = s.view in
+    let w : View = s'.view in
+    let a = d.around in
+    let loads : List (WorkerStep × ℕ) = seconds_at d.found ++ firsts_at d.found in
+    let lawful = written addrs lo hi v d.started d.loaded w a loads d.steps known in
+    subst (λ (q : PassState). LooksUpAll addrs hops lo hi q (state s' on')) is (record {
+      low = a.low;
+      begins = length a.begins.seen;
+      found = d.found;
+      high = a.high;
+      steps = makes on on' _ s s' (state s on) refl table worker (made addrs lo hi v d.started d.loaded w a loads d.steps known);
+      addrs_are = d.addrs_are;
+      hops_are = d.hops_are;
+      done_then = done_then addrs lo hi v d.started d.loaded w a loads d.steps known;
+      begun_then = begun_then addrs lo hi v d.started d.loaded w a loads d.steps known;
+      answers = λ k f low. is_answered s.table v.opening w.seen lo hi (get_or d.found k f) lawful (d.exact k f low) (d.legal k f low);
+    })
