@@ -1,5 +1,5 @@
 -- No pass goes back in versions.
-use Rattle.std.proofs.Common.{ℕ, ◌≡◌, ◌≤◌, inl, inr, ap, sym, subst, ◌∙◌, All, List, [], ◌∷◌, ◌++◌, length, slice_get, Option, Some, refl, arith, length-append}
+use Rattle.std.proofs.Common.{ℕ, ◌≡◌, ◌≤◌, inl, inr, ap, sym, subst, ◌∙◌, All, List, [], ◌∷◌, ◌++◌, length, slice_get, Some, refl, arith, length-append}
 use Rattle.std.proofs.lemmas.Option.{slice_get_within, get_or_from_slice_get}
 use Rattle.lpm_rules.specs.RuleMap.{RuleMap}
 use Rattle.lpm_trace.specs.declared.step.WriterStep.{WriterStep}

@@ -1,5 +1,5 @@
 -- The lookups of one pass, before a moment between its deeds and since.
-use Rattle.std.proofs.Common.{ℕ, zero, suc, ◌≡◌, ◌+◌, ◌≤◌, ◌<◌, All, List, [], ◌∷◌, ◌++◌, length, map, get_or, slice_get, Option, Some, None, refl, ap, sym, subst, ◌∙◌, arith, length-append}
+use Rattle.std.proofs.Common.{ℕ, zero, suc, ◌≡◌, ◌+◌, ◌≤◌, All, List, [], ◌∷◌, ◌++◌, length, map, get_or, slice_get, Some, None, refl, ap, sym, subst, ◌∙◌, arith, length-append}
 use Rattle.std.specs.List.{AllPairs}
 use Rattle.std.proofs.lemmas.List.{append_cancel_right, get_or_append_left, get_or_at, get_or-append-add}
 use Rattle.std.proofs.lemmas.List.Elements.{All-cons, All-head, All-nil, All-tail}
@@ -9,12 +9,11 @@ use Rattle.lpm_entry.specs.Words.{entry_in}
 use Rattle.lpm_trace.specs.declared.step.WriterStep.{WriterStep}
 use Rattle.lpm_trace.specs.declared.step.WorkerStep.{WorkerStep}
 use Rattle.lpm_trace.specs.declared.step.WorkerStep.TheVariants.{LoadOnline, StoreOnline, LoadQuiescent, StoreQuiescent, StoreOffline, Begins, LoadFirst, LoadSecond, Ends, Meets}
-use Rattle.lpm_trace.specs.Tables.{Setup, Tables, done_at, begun_at, tables_at}
+use Rattle.lpm_trace.specs.Tables.{Setup, Tables, begun_at, tables_at}
 use Rattle.lpm_trace.specs.Workers.{Worker, Phase, Offline, ComingOnline, Online, LookingUp, ReportingQuiescent, Probe, Unread, InGroup, Answered, Seen, MayRead, IsBetweenDeeds, moved, read_first, first_read, second_read, with_answers}
 use Rattle.lpm_trace.specs.Trace.{worker_by}
 use Rattle.lpm_trace.specs.Laws.{ArePlaced, IsLegalAtPlace}
 use Rattle.shared_fib.specs.Running.{setup}
-use Rattle.shared_fib.specs.Passes.{PassState, IsHistory}
 use Rattle.running_laws.specs.Laws.{IsFinishedSince, PassesNeverGoBack}
 use Rattle.running_laws.proofs.Backwards.{at_place, in_order}
 

@@ -1,7 +1,6 @@
 //! Lookups on threads of their own, while the writer changes the table on another.
-ghost use Rattle.std.specs.Prelude.{◌≡◌, ◌<◌};
+ghost use Rattle.std.specs.Prelude.{◌≡◌, ◌<◌, true};
 ghost use Rattle.std.specs.Thread.{IsSync};
-ghost use Rattle.shared_fib.specs.Running.{IsOnline, identity_of};
 
 use super::asserting::assert_at;
 use lpm_bits::{Hop, Prefix, Shape};
@@ -109,11 +108,11 @@ fn is_of_a_version(rules: &Rules, addr: u32, answer: &Answer) -> bool {
 
 // Looks one address up, and reports now and then that the worker is quiescent. Then another thread may run.
 fn look(table: &SharedTable<4, 4>, pass: &mut Pass, addr: u32, i: u64) -> Answer
-    requires own { identity_of pass.old ≡ table.now }
-    requires online { IsOnline pass.old }
+    requires own { pass.old.table ≡ table.now }
+    requires online { pass.old.online ≡ true }
     requires addr { addr < 256 }
-    ensures own { identity_of pass.new ≡ identity_of pass.old }
-    ensures online { IsOnline pass.new }
+    ensures own { pass.new.table ≡ pass.old.table }
+    ensures online { pass.new.online ≡ true }
 {
     let answer = pass.lookup(table, addr);
     if i % BETWEEN_REPORTS == BETWEEN_REPORTS - 1 {
@@ -134,8 +133,8 @@ struct Looked {
 
 // Looks up all addresses, again and again, until the last change is done, and goes offline.
 fn look_all(table: &SharedTable<4, 4>, pass: &mut Pass, rules: &Rules) -> Looked
-    requires own { identity_of pass.old ≡ table.now }
-    requires online { IsOnline pass.old }
+    requires own { pass.old.table ≡ table.now }
+    requires online { pass.old.online ≡ true }
 {
     let mut beside = 0u64;
     let mut saw_last = false;
@@ -166,16 +165,16 @@ fn look_beside<R: Threads + Sync>(
     other: &mut Pass,
     rules: &Rules,
 ) -> (Looked, Looked)
-    requires one { (identity_of one.old ≡ table.now) × IsOnline one.old }
-    requires other { (identity_of other.old ≡ table.now) × IsOnline other.old }
+    requires one { (one.old.table ≡ table.now) × (one.old.online ≡ true) }
+    requires other { (other.old.table ≡ table.now) × (other.old.online ≡ true) }
 {
     join(
         rt,
         || -> Looked
-            requires { (identity_of one.now ≡ table.now) × IsOnline one.now }
+            requires { (one.now.table ≡ table.now) × (one.now.online ≡ true) }
         { look_all(table, one, rules) },
         || -> Looked
-            requires { (identity_of other.now ≡ table.now) × IsOnline other.now }
+            requires { (other.now.table ≡ table.now) × (other.now.online ≡ true) }
         { look_all(table, other, rules) },
     )
 }
@@ -191,8 +190,8 @@ fn change_beside<R: Threads + Sync>(
     other: &mut Pass,
 ) -> (u64, (Looked, Looked))
     requires writer { writer.old.identity ≡ table.now }
-    requires one { (identity_of one.old ≡ table.now) × IsOnline one.old }
-    requires other { (identity_of other.old ≡ table.now) × IsOnline other.old }
+    requires one { (one.old.table ≡ table.now) × (one.old.online ≡ true) }
+    requires other { (other.old.table ≡ table.now) × (other.old.online ≡ true) }
 {
     join(
         rt,
@@ -201,8 +200,8 @@ fn change_beside<R: Threads + Sync>(
         { change_all(table, writer, rules) },
         || -> (Looked, Looked)
             requires sync { IsSync R.row }
-            requires one { (identity_of one.now ≡ table.now) × IsOnline one.now }
-            requires other { (identity_of other.now ≡ table.now) × IsOnline other.now }
+            requires one { (one.now.table ≡ table.now) × (one.now.online ≡ true) }
+            requires other { (other.now.table ≡ table.now) × (other.now.online ≡ true) }
         { look_beside(rt, table, one, other, rules) },
     )
 }

@@ -1,7 +1,7 @@
 //! Worked cases, on one thread.
-ghost use Rattle.std.specs.Prelude.{◌≡◌};
+ghost use Rattle.std.specs.Prelude.{◌≡◌, true, false};
 ghost use Rattle.lpm_bits.specs.Widths.{IsShape};
-ghost use Rattle.shared_fib.specs.Running.{IsBenchOf, IsOffline, IsOnline, identity_of};
+ghost use Rattle.shared_fib.specs.Passes.{IsBenchOf};
 
 use super::asserting::assert_at;
 use defer_queue::Reclaimed;
@@ -94,8 +94,8 @@ fn meet_and_look_up(
     pass: &mut Pass,
 )
     requires writer { writer.old.identity ≡ table.now }
-    requires pass { identity_of pass.old ≡ table.now }
-    requires offline { IsOffline pass.old }
+    requires pass { pass.old.table ≡ table.now }
+    requires offline { pass.old.online ≡ false }
 {
     add(rt, table, writer, (0x0a00_0000, 8, 1));
     pass.meet(table, writer);
@@ -233,9 +233,9 @@ fn hold_and_let_go(
     pass: &mut Pass,
 )
     requires writer { writer.old.identity ≡ table.now }
-    requires pass { identity_of pass.old ≡ table.now }
-    requires offline { IsOffline pass.old }
-    ensures pass { identity_of pass.new ≡ identity_of pass.old }
+    requires pass { pass.old.table ≡ table.now }
+    requires offline { pass.old.online ≡ false }
+    ensures pass { pass.new.table ≡ pass.old.table }
 {
     pass.online(table);
     add(rt, table, writer, FIRST_RULE);
@@ -286,8 +286,8 @@ fn hold_by_two(
     one: &mut Pass,
 )
     requires writer { writer.old.identity ≡ table.now }
-    requires zero { (identity_of zero.old ≡ table.now) × IsOffline zero.old }
-    requires one { (identity_of one.old ≡ table.now) × IsOffline one.old }
+    requires zero { (zero.old.table ≡ table.now) × (zero.old.online ≡ false) }
+    requires one { (one.old.table ≡ table.now) × (one.old.online ≡ false) }
 {
     add(rt, table, writer, FIRST_RULE);
     add(rt, table, writer, SECOND_RULE);
@@ -348,8 +348,8 @@ fn look_up_four(
     pass: &mut Pass,
 )
     requires writer { writer.old.identity ≡ table.now }
-    requires pass { identity_of pass.old ≡ table.now }
-    requires offline { IsOffline pass.old }
+    requires pass { pass.old.table ≡ table.now }
+    requires offline { pass.old.online ≡ false }
 {
     add_three(rt, table, writer);
     pass.online(table);
@@ -378,10 +378,10 @@ fn assert_hop(
     addr: u32,
     found: (Option<Hop>, u64),
 )
-    requires own { identity_of pass.old ≡ table.now }
-    requires online { IsOnline pass.old }
-    ensures own { identity_of pass.new ≡ identity_of pass.old }
-    ensures online { IsOnline pass.new }
+    requires own { pass.old.table ≡ table.now }
+    requires online { pass.old.online ≡ true }
+    ensures own { pass.new.table ≡ pass.old.table }
+    ensures online { pass.new.online ≡ true }
 {
     assert!(rt; Shape::<4, 4>::is_addr(addr));
     let answer = pass.lookup(table, addr);
@@ -398,8 +398,8 @@ fn look_up_and_delete(
     pass: &mut Pass,
 )
     requires writer { writer.old.identity ≡ table.now }
-    requires pass { identity_of pass.old ≡ table.now }
-    requires offline { IsOffline pass.old }
+    requires pass { pass.old.table ≡ table.now }
+    requires offline { pass.old.online ≡ false }
 {
     pass.online(table);
     assert_hop(rt, table, pass, 0x12, (Some(hop(rt, 5)), 0));

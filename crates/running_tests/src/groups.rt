@@ -1,7 +1,6 @@
 //! Changes under a group, each case by a table of one thread and by a running one: after each change the
 //! counts and every answer.
-ghost use Rattle.std.specs.Prelude.{◌≡◌, ◌<◌};
-ghost use Rattle.shared_fib.specs.Running.{IsOffline, IsOnline, identity_of};
+ghost use Rattle.std.specs.Prelude.{◌≡◌, ◌<◌, true, false};
 
 use super::asserting::assert_at;
 use fib::Fib;
@@ -218,10 +217,10 @@ fn change_table(
 }
 
 fn look_up_by_pass(rt: &impl Abort, table: &SharedTable<4, 4>, pass: &mut Pass, stage: &Stage)
-    requires own { identity_of pass.old ≡ table.now }
-    requires online { IsOnline pass.old }
-    ensures own { identity_of pass.new ≡ identity_of pass.old }
-    ensures online { IsOnline pass.new }
+    requires own { pass.old.table ≡ table.now }
+    requires online { pass.old.online ≡ true }
+    ensures own { pass.new.table ≡ pass.old.table }
+    ensures online { pass.new.online ≡ true }
 {
     let ((_, version, _), _) = stage.figures;
     for addr in 0..256u32 {
@@ -241,8 +240,8 @@ fn play_by_table(
     stages: &[Stage],
 )
     requires writer { writer.old.identity ≡ table.now }
-    requires pass { identity_of pass.old ≡ table.now }
-    requires offline { IsOffline pass.old }
+    requires pass { pass.old.table ≡ table.now }
+    requires offline { pass.old.online ≡ false }
 {
     pass.online(table);
     for stage in stages {

@@ -1,6 +1,5 @@
 //! 300,000 rules added by the writer of a running table, with all groups and workers that a table can have.
-ghost use Rattle.std.specs.Prelude.{◌≡◌, ◌<◌};
-ghost use Rattle.shared_fib.specs.Running.{IsOffline, identity_of};
+ghost use Rattle.std.specs.Prelude.{◌≡◌, ◌<◌, false};
 
 use super::asserting::assert_at;
 use lpm_bits::{Hop, Prefix};
@@ -57,8 +56,8 @@ fn add_all(rt: &impl Abort, table: &SharedTable<24, 8>, writer: &mut Writer<24, 
 
 // The first address of the second half of each block has the block's rule, where that is no half.
 fn look_all_up(rt: &impl Abort, table: &SharedTable<24, 8>, pass: &mut Pass)
-    requires own { identity_of pass.old ≡ table.now }
-    requires offline { IsOffline pass.old }
+    requires own { pass.old.table ≡ table.now }
+    requires offline { pass.old.online ≡ false }
 {
     pass.online(table);
     for number in 0..MANY {

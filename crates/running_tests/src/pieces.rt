@@ -1,7 +1,7 @@
 //! Many addresses, answered in pieces.
 ghost use Rattle.std.specs.Prelude.{◌≡◌, All};
 ghost use Rattle.bulk.specs.Desks.{IsDeskOf};
-ghost use Rattle.shared_fib.specs.Running.{IsFullBench};
+ghost use Rattle.shared_fib.specs.Passes.{IsFullBench};
 
 use super::asserting::assert_at;
 use bulk::{BulkError, Desk, Gate, Open, border, bulk, bulk_plain, seat_all};

@@ -4,9 +4,8 @@ use Rattle.std.specs.Prelude.{slice_set}
 use Rattle.std.proofs.lemmas.Bool.{cases_eq, cases_lt}
 use Rattle.std.proofs.lemmas.List.{get_or-append-add, get_or-map, get_or_append_left, length-append, length-map}
 use Rattle.std.proofs.lemmas.Option.{get_or_from_slice_get, slice_get_within}
-use Rattle.shared_words.specs.declared.view.View.{View}
-use Rattle.shared_fib.specs.Running.{PassState}
-use Rattle.storm.specs.Looking.{AreInSeats, AreOfWorkers, EachAt, IsUnused, views_of}
+use Rattle.shared_fib.specs.Passes.{PassState}
+use Rattle.storm.specs.Looking.{AreInSeats, AreOfWorkers, EachAt, IsUnused, passes_of}
 use Rattle.storm.specs.declared.looking.Worker.{Worker}
 
 -- the elements before place i have come to P, and the others are Q still
@@ -70,12 +69,12 @@ no_some : {X : Type 0} (x : X) → None ≡ Some x → ⊥
 no_some x e = cc
 
 -- what the passes of workers in their seats know
-pub of_workers : (workers : List Worker) → AreInSeats workers → AreOfWorkers (views_of workers)
+pub of_workers : (workers : List Worker) → AreInSeats workers → AreOfWorkers (passes_of workers)
 of_workers [] each k v at = absurd (no_some v at)
 of_workers (w ∷ workers) each k v at =
     let ws : List Worker = w ∷ workers in
-    let view : Worker → View = λ x. x.pass.view in
-    let low : k < length (map view ws) = slice_get_within (map view ws) k v at in
-    let below : k < length ws = omega (arith, low, length-map ws view) in
-    let here : get_or (map view ws) k v ≡ v = get_or_from_slice_get (map view ws) k v v at in
-    ap (λ (x : View). x.role) (sym here ∙ get_or-map view ws k w v below) ∙ each k w below
+    let pass : Worker → PassState = λ x. x.pass in
+    let low : k < length (map pass ws) = slice_get_within (map pass ws) k v at in
+    let below : k < length ws = omega (arith, low, length-map ws pass) in
+    let here : get_or (map pass ws) k v ≡ v = get_or_from_slice_get (map pass ws) k v v at in
+    ap (λ (x : PassState). x.worker) (sym here ∙ get_or-map pass ws k w v below) ∙ each k w below

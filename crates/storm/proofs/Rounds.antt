@@ -7,13 +7,13 @@ use Rattle.lpm_trace.specs.declared.step.WriterStep.{WriterStep}
 use Rattle.lpm_rules.specs.declared.Change.{Change}
 use Rattle.lpm_limits.specs.declared.config.Config.{Config}
 use Rattle.lpm_writer.specs.Opening.{opening_setup}
-use Rattle.shared_words.specs.declared.view.View.{View}
 use Rattle.shared_fib.specs.Running.{Identity, WriterState, setup, steps_of}
+use Rattle.shared_fib.specs.Passes.{PassState}
 use Rattle.audit.specs.Wrong.{IsOfSomeVersion}
 use Rattle.storm.specs.Changing.{HasVersions}
 use Rattle.storm.proofs.Versions.{answer_is_right}
 use Rattle.storm.specs.declared.looking.Worker.{Worker}
-use Rattle.storm.specs.Looking.{HasAnswered, HasLookedUp, IsOfAStandingVersion, answers_of_passes, answer_of, answers_by, answers_of_workers, lookups_of, times, views_of}
+use Rattle.storm.specs.Looking.{HasAnswered, HasLookedUp, IsOfAStandingVersion, answers_of_passes, answer_of, answers_by, answers_of_workers, lookups_of, times, passes_of}
 use Rattle.storm.proofs.Told.{addresses_same}
 
 pub one_more_round : (n : ℕ) (addrs before after : List ℕ) → before ≡ times n addrs → after ≡ before ++ addrs
@@ -52,22 +52,22 @@ module _ (id : Identity) (addrs : List ℕ) (rounds : ℕ) (w_steps : List Write
   -- the addresses of a worker's answers
   pub addresses_of : (w : Worker) → HasAnswered id addrs rounds w_steps w → map (λ x. x.0) w.answers.items ≡ times rounds addrs
   addresses_of w h =
-      ap (map (λ (x : ℕ × Answer). x.0)) h.answers ∙ (addresses_same w.pass.view ∙ h.looked.whole)
+      ap (map (λ (x : ℕ × Answer). x.0)) h.answers ∙ (addresses_same w.pass ∙ h.looked.whole)
 
   pub all_held : (workers : List Worker) → All (HasAnswered id addrs rounds w_steps) workers
-      → answers_of_workers workers ≡ answers_of_passes (views_of workers)
+      → answers_of_workers workers ≡ answers_of_passes (passes_of workers)
   all_held [] all = refl
   all_held (w ∷ workers) all =
-      let rest : answers_of_workers workers ≡ answers_of_passes (views_of workers) =
+      let rest : answers_of_workers workers ≡ answers_of_passes (passes_of workers) =
       all_held workers (All-tail (HasAnswered id addrs rounds w_steps) w workers all) in
       ap (λ (xs : List (ℕ × Answer)). xs ++ answers_of_workers workers) (All-head (HasAnswered id addrs rounds w_steps) w workers all).answers
-      ∙ ap (λ (xs : List (ℕ × Answer)). answers_by w.pass.view ++ xs) rest
+      ∙ ap (λ (xs : List (ℕ × Answer)). answers_by w.pass ++ xs) rest
 
   pub all_looked : (workers : List Worker) → All (HasAnswered id addrs rounds w_steps) workers
-      → All (HasLookedUp id addrs rounds w_steps) (views_of workers)
+      → All (HasLookedUp id addrs rounds w_steps) (passes_of workers)
   all_looked [] all = λ k d below. absurd (omega (arith, below))
   all_looked (w ∷ workers) all =
-      All-cons (HasLookedUp id addrs rounds w_steps) w.pass.view (views_of workers)
+      All-cons (HasLookedUp id addrs rounds w_steps) w.pass (passes_of workers)
       (All-head (HasAnswered id addrs rounds w_steps) w workers all).looked
       (all_looked workers (All-tail (HasAnswered id addrs rounds w_steps) w workers all))
 
@@ -85,13 +85,13 @@ module _ (id : Identity) (addrs : List ℕ) (rounds : ℕ) (w_steps : List Write
 
   -- ---- answers of versions
 
-  pub all_right : (f s : ℕ) (config : Config) (w : WriterState) (changes : List (Change f s)) (views : List View)
+  pub all_right : (f s : ℕ) (config : Config) (w : WriterState) (changes : List (Change f s)) (passes : List PassState)
       → setup id ≡ opening_setup f s config → w.identity ≡ id → HasVersions w changes → steps_of w ≡ w_steps
-      → All (HasLookedUp id addrs rounds w_steps) views → All (IsOfSomeVersion changes) (answers_of_passes views)
+      → All (HasLookedUp id addrs rounds w_steps) passes → All (IsOfSomeVersion changes) (answers_of_passes passes)
   all_right f s config w changes [] opening own has same all = λ k d below. absurd (omega (arith, below))
-  all_right f s config w changes (v ∷ views) opening own has same all =
-      let looked = All-head (HasLookedUp id addrs rounds w_steps) v views all in
-      let of = subst (λ (l : List WriterStep). All (IsOfAStandingVersion (setup id) l) (lookups_of v)) (sym same) looked.versions in
-      All-append (IsOfSomeVersion changes) (answers_by v) (answers_of_passes views)
-      (All-map (IsOfSomeVersion changes) answer_of (lookups_of v) (λ k d below. answer_is_right f s id config w changes _ opening own has (of k d below)))
-      (all_right f s config w changes views opening own has same (All-tail (HasLookedUp id addrs rounds w_steps) v views all))
+  all_right f s config w changes (p ∷ passes) opening own has same all =
+      let looked = All-head (HasLookedUp id addrs rounds w_steps) p passes all in
+      let of = subst (λ (l : List WriterStep). All (IsOfAStandingVersion (setup id) l) (lookups_of p)) (sym same) looked.versions in
+      All-append (IsOfSomeVersion changes) (answers_by p) (answers_of_passes passes)
+      (All-map (IsOfSomeVersion changes) answer_of (lookups_of p) (λ k d below. answer_is_right f s id config w changes _ opening own has (of k d below)))
+      (all_right f s config w changes passes opening own has same (All-tail (HasLookedUp id addrs rounds w_steps) p passes all))

@@ -1,9 +1,9 @@
 -- Lookups of a pass, as it goes on.
-use Rattle.std.proofs.Common.{◌≡◌, ◌≤◌, ℕ, List, [], ◌∷◌, ◌++◌, All, map, refl, inl, ap, sym, subst, ◌∙◌, length}
+use Rattle.std.proofs.Common.{◌≡◌, ◌≤◌, ℕ, List, [], ◌∷◌, ◌++◌, All, map, refl, ap, sym, subst, ◌∙◌, length}
 use Rattle.std.specs.Prelude.{reverse}
 use mathlib.Core.List.{reverse-cons, map-map}
 use Rattle.std.proofs.lemmas.List.{map-append}
-use Rattle.std.proofs.lemmas.List.Elements.{All-append, All-cons, All-nil}
+use Rattle.std.proofs.lemmas.List.Elements.{All-append, All-cons, All-head, All-nil}
 use Rattle.lpm_rules.specs.declared.Answer.{Answer}
 use Rattle.lpm_trace.specs.declared.step.WriterStep.{WriterStep}
 use Rattle.lpm_trace.specs.declared.step.WorkerStep.{WorkerStep}
@@ -11,20 +11,18 @@ use Rattle.lpm_trace.specs.declared.step.WorkerStep.TheVariants.{Meets}
 use Rattle.lpm_trace.specs.Tables.{Setup}
 use Rattle.lpm_trace.specs.Trace.{worker_by}
 use Rattle.lpm_trace.specs.Workers.{Seen, Worker as WorkerState, moved}
-use Rattle.lpm_trace.specs.Laws.{ArePlaced}
-use Rattle.shared_words.specs.declared.view.View.{View}
-use Rattle.shared_words.specs.Opened.{Opened, setup_of}
+use Rattle.lpm_trace.specs.Laws.{ArePlaced, IsLegalAtPlace}
 use Rattle.shared_words.specs.Rule.{IsLater}
-use Rattle.shared_words.specs.Seats.{Gains}
-use Rattle.shared_deeds.specs.Deeds.{GainsAll, LooksUp}
-use Rattle.shared_deeds.proofs.Deeds.{gains_on, gains_state}
+use Rattle.shared_words.specs.Loads.{seen_of}
 use Rattle.shared_fib.specs.Running.{Identity, setup}
-use Rattle.running_laws.proofs.Backwards.{answers_are_of_versions, of_version_still}
+use Rattle.shared_fib.specs.Passes.{PassState, IsHistory, LooksUp, Makes}
+use Rattle.shared_fib.proofs.Lookups.{finished_more}
+use Rattle.running_laws.proofs.Backwards.{of_shown, of_version_still, shown}
 use Rattle.storm.specs.Looking.{HasLookedUp, IsOfAStandingVersion, answer_of, answers_by, lookups_of, times}
 
 -- the answers are those of the pass, each of whose lookups is of a version
-abbrev pub AreTold : Setup → View → List (ℕ × Answer) → Type 0
-AreTold c v xs = (xs ≡ answers_by v) × All (IsOfAStandingVersion c v.seen) (lookups_of v)
+abbrev pub AreTold : Setup → PassState → List (ℕ × Answer) → Type 0
+AreTold c p xs = (xs ≡ answers_by p) × All (IsOfAStandingVersion c p.seen) (lookups_of p)
 
 versions_later : (c : Setup) (before after : List WriterStep) (xs : List Seen) → IsLater before after
     → All (IsOfAStandingVersion c before) xs → All (IsOfAStandingVersion c after) xs
@@ -32,87 +30,89 @@ versions_later c before after xs later all k d below =
     let h = all k d below in
     (h.0, of_version_still c before after later _ h.0 h.1)
 
--- a pass that has made no step has looked nothing up
-pub told_none : (c : Setup) (v : View) (xs : List (ℕ × Answer)) → v.own ≡ [] → xs ≡ [] → AreTold c v xs
-told_none c v xs unused none =
-    let nothing : lookups_of v ≡ [] = ap (λ (own : List (WorkerStep × ℕ)). reverse (worker_by own).finished) unused in (
-      none ∙ sym (ap (map answer_of) nothing),
-      subst (All (IsOfAStandingVersion c v.seen)) (sym nothing) (All-nil (IsOfAStandingVersion c v.seen)),
-    )
-
 -- steps that end no lookup leave the lookups as they are
-pub told_on : (c : Setup) (v w : View) (xs : List (ℕ × Answer)) → lookups_of w ≡ lookups_of v → IsLater v.seen w.seen
-    → AreTold c v xs → AreTold c w xs
-told_on c v w xs same later told = (
+pub told_on : (c : Setup) (p q : PassState) (xs : List (ℕ × Answer)) → lookups_of q ≡ lookups_of p → IsLater p.seen q.seen
+    → AreTold c p xs → AreTold c q xs
+told_on c p q xs same later told = (
   told.0 ∙ sym (ap (map answer_of) same),
-  subst (All (IsOfAStandingVersion c w.seen)) (sym same) (versions_later c v.seen w.seen (lookups_of v) later told.1),
+  subst (All (IsOfAStandingVersion c q.seen)) (sym same) (versions_later c p.seen q.seen (lookups_of p) later told.1),
 )
 
 -- the step ends no lookup
 abbrev pub EndsNone : WorkerStep → Type 0
 EndsNone s = (now : ℕ) (r : WorkerState) → (moved now r s).finished ≡ r.finished
 
-pub kept_by : (s : WorkerStep) (v w : View) → EndsNone s → Gains s v w → lookups_of w ≡ lookups_of v
-kept_by s v w none g =
-    ap (λ (r : WorkerState). reverse r.finished) (gains_state s v w g)
-    ∙ ap reverse (none (length g.seen) (worker_by v.own))
+abbrev finished_by : List (WorkerStep × ℕ) → List Seen
+finished_by steps = reverse (worker_by steps).finished
 
-pub kept_by_one : (s : WorkerStep) (v w : View) → EndsNone s → GainsAll (s ∷ []) v w → lookups_of w ≡ lookups_of v
-kept_by_one s v w none h = kept_by s h.0 w none h.2 ∙ ap lookups_of h.1
+pub kept_by_one : (s : WorkerStep) (place : ℕ) (p q : PassState) → EndsNone s → Makes ((s, place) ∷ []) p q
+    → lookups_of q ≡ lookups_of p
+kept_by_one s place p q none h = ap finished_by h.steps ∙ ap reverse (none place (worker_by p.steps))
 
-pub kept_by_two : (r s : WorkerStep) (v w : View) → EndsNone r → EndsNone s → GainsAll (s ∷ r ∷ []) v w
-    → lookups_of w ≡ lookups_of v
-kept_by_two r s v w first second h = kept_by s h.0 w second h.2 ∙ kept_by_one r v h.0 first h.1
+pub kept_by_two : (r s : WorkerStep) (first last : ℕ) (p q : PassState) → EndsNone r → EndsNone s
+    → Makes ((s, last) ∷ (r, first) ∷ []) p q → lookups_of q ≡ lookups_of p
+kept_by_two r s first last p q none_first none_second h =
+    ap finished_by h.steps
+    ∙ (ap reverse (none_second last (worker_by ((r, first) ∷ p.steps))) ∙ ap reverse (none_first first (worker_by p.steps)))
 
 -- ---- one lookup more
 
-module _ (v w : View) (addr : ℕ) (answer : Answer) (looks : LooksUp addr answer.hop answer.lo answer.hi v w) where
-  newest : lookups_of w ≡ lookups_of v ++ looks.seen ∷ []
-  newest = ap reverse looks.finished ∙ reverse-cons looks.seen (worker_by v.own).finished
+module _ (p q : PassState) (addr : ℕ) (answer : Answer) (looks : LooksUp addr answer.hop answer.lo answer.hi p q) (history : IsHistory q) where
+  abbrev seen : Seen
+  seen = seen_of answer.lo answer.hi (record looks.found { addr = addr })
 
-  answer_is : answer_of looks.seen ≡ (addr, answer)
-  answer_is = λ i. (looks.answer.0 i, record { hop = looks.answer.1 i; lo = looks.versions.0 i; hi = looks.versions.1 i })
+  finished : (worker_by q.steps).finished ≡ seen ∷ (worker_by p.steps).finished
+  finished = finished_more addr answer.hop answer.lo answer.hi p q looks history
 
-  answers_are : answers_by w ≡ answers_by v ++ (addr, answer) ∷ []
+  newest : lookups_of q ≡ lookups_of p ++ seen ∷ []
+  newest = ap reverse finished ∙ reverse-cons seen (worker_by p.steps).finished
+
+  answer_is : answer_of seen ≡ (addr, answer)
+  answer_is = λ i. (addr, record answer { hop = looks.result.1 i })
+
+  answers_are : answers_by q ≡ answers_by p ++ (addr, answer) ∷ []
   answers_are =
       ap (map answer_of) newest
-      ∙ (map-append answer_of (lookups_of v) (looks.seen ∷ [])
-      ∙ ap (λ (x : ℕ × Answer). answers_by v ++ x ∷ []) answer_is)
+      ∙ (map-append answer_of (lookups_of p) (seen ∷ [])
+      ∙ ap (λ (x : ℕ × Answer). answers_by p ++ x ∷ []) answer_is)
 
-  pub told_more : (c : Setup) (xs : List (ℕ × Answer)) → setup_of v.opening ≡ c → AreTold c v xs
-      → AreTold c w (xs ++ (addr, answer) ∷ [])
+  legal : IsLegalAtPlace (setup q.table) q.seen seen
+  legal = All-head (IsLegalAtPlace (setup q.table) q.seen) seen (worker_by p.steps).finished
+      (subst (All (IsLegalAtPlace (setup q.table) q.seen)) finished history.legal)
+
+  pub told_more : (c : Setup) (xs : List (ℕ × Answer)) → setup p.table ≡ c → AreTold c p xs
+      → AreTold c q (xs ++ (addr, answer) ∷ [])
   told_more c xs own told =
-      let of = answers_are_of_versions looks.seen v w (inl (addr, answer.hop, answer.lo, answer.hi, looks, refl)) in
-      let this : IsOfAStandingVersion c w.seen looks.seen = subst (λ (s : Setup). IsOfAStandingVersion s w.seen looks.seen) own of in
-      let before = versions_later c v.seen w.seen (lookups_of v) looks.rest.later told.1 in (
+      let same : setup q.table ≡ c = ap setup looks.steps.table ∙ own in
+      let here : IsLegalAtPlace c q.seen seen = subst (λ (s : Setup). IsLegalAtPlace s q.seen seen) same legal in
+      let this : IsOfAStandingVersion c q.seen seen = (shown c q.seen seen here, of_shown c q.seen seen here) in
+      let before = versions_later c p.seen q.seen (lookups_of p) looks.steps.seen told.1 in (
         ap (λ (ys : List (ℕ × Answer)). ys ++ (addr, answer) ∷ []) told.0 ∙ sym answers_are,
-        subst (All (IsOfAStandingVersion c w.seen)) (sym newest)
-            (All-append (IsOfAStandingVersion c w.seen) (lookups_of v) (looks.seen ∷ []) before
-            (All-cons (IsOfAStandingVersion c w.seen) looks.seen [] this (All-nil (IsOfAStandingVersion c w.seen)))),
+        subst (All (IsOfAStandingVersion c q.seen)) (sym newest)
+            (All-append (IsOfAStandingVersion c q.seen) (lookups_of p) (seen ∷ []) before
+            (All-cons (IsOfAStandingVersion c q.seen) seen [] this (All-nil (IsOfAStandingVersion c q.seen)))),
       )
 
 -- ---- a pass that meets the writer
 
 -- the addresses of a pass's answers are those of its lookups
-pub addresses_same : (v : View) → map (λ x. x.0) (answers_by v) ≡ map (λ s. s.addr) (lookups_of v)
-addresses_same v = map-map (λ (x : ℕ × Answer). x.0) answer_of (lookups_of v)
+pub addresses_same : (p : PassState) → map (λ x. x.0) (answers_by p) ≡ map (λ s. s.addr) (lookups_of p)
+addresses_same p = map-map (λ (x : ℕ × Answer). x.0) answer_of (lookups_of p)
 
-pub looked_up : (id : Identity) (addrs : List ℕ) (rounds : ℕ) (steps : List WriterStep) (n : ℕ) (v w : View) (xs : List (ℕ × Answer))
-    → Gains (Meets n) v w → w.opening ≡ id.opening → w.seen ≡ steps → AreTold (setup id) v xs → map (λ x. x.0) xs ≡ times rounds addrs
-    → (xs ≡ answers_by w) × HasLookedUp id addrs rounds steps w
-looked_up id addrs rounds steps n v w xs g own all told whole =
-    let on = gains_on (Meets n) v w g in
-    let after : AreTold (setup id) w xs =
-    told_on (setup id) v w xs (kept_by (Meets n) v w (λ now r. refl) g) on.later told in (
+pub looked_up : (id : Identity) (addrs : List ℕ) (rounds : ℕ) (steps : List WriterStep) (n place : ℕ) (p q : PassState) (xs : List (ℕ × Answer))
+    → Makes ((Meets n, place) ∷ []) p q → q.table ≡ id → q.seen ≡ steps → IsHistory q → AreTold (setup id) p xs
+    → map (λ x. x.0) xs ≡ times rounds addrs → (xs ≡ answers_by q) × HasLookedUp id addrs rounds steps q
+looked_up id addrs rounds steps n place p q xs made own all history told whole =
+    let after : AreTold (setup id) q xs =
+    told_on (setup id) p q xs (kept_by_one (Meets n) place p q (λ now r. refl) made) made.seen told in (
       after.0,
       record {
-        opening = own;
+        table = own;
         seen = all;
-        within = subst (λ (l : List WriterStep). All (λ step. step.1 ≤ length l) w.own) all g.sound.within;
-        rising = g.sound.rising;
-        placed = subst (λ (l : List WriterStep). ArePlaced (setup id) l w.own) all
-            (subst (λ (o : Opened). ArePlaced (setup_of o) w.seen w.own) own g.sound.placed);
-        whole = sym (addresses_same w) ∙ (ap (map (λ (x : ℕ × Answer). x.0)) (sym after.0) ∙ whole);
-        versions = subst (λ (l : List WriterStep). All (IsOfAStandingVersion (setup id) l) (lookups_of w)) all after.1;
+        within = subst (λ (l : List WriterStep). All (λ step. step.1 ≤ length l) q.steps) all history.within;
+        rising = history.rising;
+        placed = subst (λ (z : Identity × List WriterStep). ArePlaced (setup z.0) z.1 q.steps) (λ i. (own i, all i)) history.placed;
+        whole = sym (addresses_same q) ∙ (ap (map (λ (x : ℕ × Answer). x.0)) (sym after.0) ∙ whole);
+        versions = subst (λ (l : List WriterStep). All (IsOfAStandingVersion (setup id) l) (lookups_of q)) all after.1;
       },
     )

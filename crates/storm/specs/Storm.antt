@@ -7,12 +7,12 @@ use Rattle.lpm_writer.specs.Traced.{AnyMemory, by_steps, steps_alone}
 use Rattle.lpm_writer.specs.Synchronizing.{Synchronizes}
 use Rattle.defer_queue.specs.declared.Reclaimed.{Reclaimed}
 use Rattle.shared_fib.specs.Running.{Identity, IsAtRest, WriterState, left_by, setup, steps_of}
+use Rattle.shared_fib.specs.Passes.{PassState}
 use Rattle.audit.specs.declared.report.Report.{Report}
 use Rattle.audit.specs.declared.report.StormReport.{StormReport}
 use Rattle.audit.specs.Wrong.{AreWrong, IsOfSomeVersion}
 use Rattle.storm.specs.declared.plan.Plan.{Plan}
 use Rattle.storm.specs.Changing.{changes_by, refused_among}
-use Rattle.shared_words.specs.declared.view.View.{View}
 use Rattle.storm.specs.Looking.{AreOfWorkers, HasLookedUp, answers_of_passes}
 use Rattle.storm.specs.Plans.{HasMadeAll, answer_count}
 
@@ -47,7 +47,7 @@ pub record IsStorm {first second : ℕ} (p : Plan first second) (r : StormReport
   pub outcomes : List Outcome
   pub last : WriterState
   pub end : WriterState
-  pub passes : List View
+  pub passes : List PassState
   pub made : HasMadeAll p id outcomes last
   pub count : length passes ≡ p.config.workers
   pub workers : AreOfWorkers passes

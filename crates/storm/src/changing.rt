@@ -1,8 +1,8 @@
 //! The writer of a storm, and what its thread does.
 
-ghost use Rattle.std.specs.Prelude.{◌≡◌, ℕ, ◌+◌, ◌<◌, ◌≤◌, ◌++◌, ◌∷◌, [], List, All, IfErr, OnOk, length, vec_len, vec_capacity};
+ghost use Rattle.std.specs.Prelude.{◌≡◌, ◌+◌, ◌<◌, ◌≤◌, ◌++◌, ◌∷◌, [], All, IfErr, OnOk, length, vec_len, vec_capacity};
 ghost use Rattle.fib_model.specs.Outcomes.{Does};
-ghost use Rattle.shared_fib.specs.Running.{IsAtRest, setup};
+ghost use Rattle.shared_fib.specs.Running.{setup};
 ghost use Rattle.storm.specs.Changing.{HasMade, IsForWriter, by_own_steps};
 ghost use Rattle.storm.specs.Plans.{IsRefusedAt, IsUnderWay};
 
@@ -44,7 +44,6 @@ fn execute<const FIRST: u32, const SECOND: u32>(
     requires command { IsForWriter command.now }
     ensures does { Does (by_own_steps (setup table.now)) FIRST SECOND writer.old.config
         writer.old.table command.now result writer.new.table }
-    ensures rests { IsAtRest writer.new }
     ensures own { writer.new.identity ≡ writer.old.identity }
     ensures config { writer.new.config ≡ writer.old.config }
 {
@@ -97,6 +96,7 @@ fn record<const FIRST: u32, const SECOND: u32>(
         &mut recorder.writer,
         &updates.commands[index],
     );
+    recorder.writer.at_rest();
     note(&mut recorder.outcomes, &outcome);
     outcome
 }

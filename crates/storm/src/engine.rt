@@ -4,11 +4,11 @@ ghost use Rattle.std.specs.Prelude.{◌≡◌, ◌≢◌, ℕ, ◌+◌, ◌^◌,
 ghost use Rattle.std.specs.FinMap as map;
 ghost use Rattle.lpm_bits.specs.Widths.{IsShape};
 ghost use Rattle.lpm_writer.specs.Opening.{opening_setup};
-ghost use Rattle.shared_fib.specs.Running.{IsBenchOf, IsFullBench, IsOnline, identity_of, opens_with, setup};
+ghost use Rattle.shared_fib.specs.Passes.{IsBenchOf, IsFullBench};
+ghost use Rattle.shared_fib.specs.Running.{opens_with, setup};
 ghost use Rattle.bulk.specs.Desks.{IsAtBench};
 ghost use Rattle.storm.specs.Changing.{IsForWriter};
-ghost use Rattle.storm.specs.Looking.{AreInSeats, IsOver, IsReadyFor, IsUnused, role_of};
-ghost use Rattle.shared_words.specs.declared.view.Role.TheVariants.{Worker as OfWorker};
+ghost use Rattle.storm.specs.Looking.{AreInSeats, IsOver, IsReadyFor, IsUnused, number_of};
 ghost use Rattle.storm.specs.Plans.{EndsLoading, EndsStorm, EndsUnderWay, HasMadeAll, IsTooMuch, IsUnderWay, answer_count, limits_of, most_answers};
 ghost use Rattle.storm.specs.Storm.{IsStorm};
 
@@ -37,7 +37,7 @@ fn seat<const FIRST: u32, const SECOND: u32>(
     requires own { IsBenchOf table.now bench.old }
     requires pass { IsUnused bench.old number }
     ensures ready { IfOk result (IsReadyFor table.now room) }
-    ensures role { IfOk result (λ w. role_of w ≡ OfWorker number) }
+    ensures seat { IfOk result (λ w. number_of w ≡ number) }
     ensures own { IsBenchOf table.now bench.new }
     ensures taken { IfOk result (λ _. bench.new ≡ slice_set bench.old number None) }
 {
@@ -63,7 +63,7 @@ fn seat_all<const FIRST: u32, const SECOND: u32>(
     requires full { IsFullBench table.now bench.old }
     requires count { count ≤ table.now.opening.workers }
     ensures ready { IfOk result (λ v. All (IsReadyFor table.now room) v.items) }
-    ensures roles { IfOk result (λ v. AreInSeats v.items) }
+    ensures seats { IfOk result (λ v. AreInSeats v.items) }
     ensures len { IfOk result (λ v. vec_len v ≡ count) }
     ensures own { IfOk result (λ _. IsBenchOf table.now bench.new) }
     ensures others { IfOk result (λ _. (k : ℕ) → count ≤ k → k < table.now.opening.workers
@@ -84,7 +84,7 @@ fn seat_stuck<const FIRST: u32, const SECOND: u32>(
 ) -> Option<Pass>
     requires own { IsBenchOf table.now bench.old }
     requires pass { plan.now.has_stuck_worker ≡ true → IsAtBench bench.old plan.now.config.workers }
-    ensures { IfSome result (λ p. (identity_of p ≡ table.now) × IsOnline p) }
+    ensures { IfSome result (λ p. (p.table ≡ table.now) × (p.online ≡ true)) }
 {
     if !plan.has_stuck_worker {
         return None;
@@ -146,7 +146,7 @@ fn finish<R: Threads + Wait + Sync, const FIRST: u32, const SECOND: u32>(
         recorder.old.outcomes.items recorder.old.writer }
     requires over { All (IsOver table.now plan.now.addrs.now plan.now.rounds) workers.old }
     requires done { All (λ w. w.is_done ≡ true) workers.old }
-    requires roles { AreInSeats workers.old }
+    requires seats { AreInSeats workers.old }
     requires len { length workers.old ≡ plan.now.config.workers }
     requires some { 0 < plan.now.config.workers }
     requires answers { (answers ≡ answer_count plan.now) × (answers ≤ most_answers) }

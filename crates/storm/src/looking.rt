@@ -1,8 +1,7 @@
 //! The workers of a storm, and what their threads do.
 
-ghost use Rattle.std.specs.Prelude.{◌≡◌, ℕ, ◌+◌, ◌*◌, ◌^◌, ◌<◌, ◌≤◌, ◌++◌, [], All, IsTrue, length, map, vec_len, vec_capacity};
-ghost use Rattle.shared_fib.specs.Running.{IsOffline, IsOnline, identity_of};
-ghost use Rattle.storm.specs.Looking.{IsOver, IsReadyFor, HoldsItsAnswers, role_of, times};
+ghost use Rattle.std.specs.Prelude.{◌≡◌, ◌+◌, ◌*◌, ◌^◌, ◌<◌, ◌≤◌, ◌++◌, [], All, IsTrue, true, length, map, vec_len, vec_capacity};
+ghost use Rattle.storm.specs.Looking.{IsOver, IsReadyFor, HoldsItsAnswers, number_of, times};
 
 use bulk::Gate;
 use lpm_rules::Answer;
@@ -41,15 +40,15 @@ fn look_once<G: Gate, const FIRST: u32, const SECOND: u32>(
     from: usize,
     worker: &mut Worker,
 ) -> bool
-    requires own { identity_of worker.old.pass ≡ lookups.now.table.now }
-    requires online { IsOnline worker.old.pass }
+    requires own { worker.old.pass.table ≡ lookups.now.table.now }
+    requires online { worker.old.pass.online ≡ true }
     requires addrs { All (λ a. a < 2 ^ (FIRST + SECOND)) lookups.now.addrs.now }
     requires room { vec_len worker.old.answers + length lookups.now.addrs.now ≤ vec_capacity worker.old.answers }
     requires numbers { from + length lookups.now.addrs.now < 2 ^ 64 }
     requires told { HoldsItsAnswers lookups.now.table.now worker.old }
-    ensures own { identity_of worker.new.pass ≡ identity_of worker.old.pass }
-    ensures online { IsOnline worker.new.pass }
-    ensures role { role_of worker.new ≡ role_of worker.old }
+    ensures own { worker.new.pass.table ≡ worker.old.pass.table }
+    ensures online { worker.new.pass.online ≡ true }
+    ensures seat { number_of worker.new ≡ number_of worker.old }
     ensures told { HoldsItsAnswers lookups.now.table.now worker.new }
     ensures whole { IsTrue result → map (λ x. x.0) worker.new.answers.items
         ≡ map (λ x. x.0) worker.old.answers.items ++ lookups.now.addrs.now }
@@ -62,6 +61,7 @@ fn look_once<G: Gate, const FIRST: u32, const SECOND: u32>(
         gate.at(lookups.number, from + i);
         let addr = lookups.addrs[i];
         let answer = worker.pass.lookup(lookups.table, addr);
+        worker.pass.history();
         worker.answers.push_reserved((addr, answer));
     }
     true
@@ -73,15 +73,15 @@ fn look_rounds<G: Gate, const FIRST: u32, const SECOND: u32>(
     gate: &G,
     worker: &mut Worker,
 ) -> bool
-    requires own { identity_of worker.old.pass ≡ lookups.now.table.now }
-    requires online { IsOnline worker.old.pass }
+    requires own { worker.old.pass.table ≡ lookups.now.table.now }
+    requires online { worker.old.pass.online ≡ true }
     requires addrs { All (λ a. a < 2 ^ (FIRST + SECOND)) lookups.now.addrs.now }
     requires told { HoldsItsAnswers lookups.now.table.now worker.old }
     requires empty { worker.old.answers.items ≡ [] }
     requires room { lookups.now.rounds * length lookups.now.addrs.now ≤ vec_capacity worker.old.answers }
-    ensures own { identity_of worker.new.pass ≡ identity_of worker.old.pass }
-    ensures online { IsOnline worker.new.pass }
-    ensures role { role_of worker.new ≡ role_of worker.old }
+    ensures own { worker.new.pass.table ≡ worker.old.pass.table }
+    ensures online { worker.new.pass.online ≡ true }
+    ensures seat { number_of worker.new ≡ number_of worker.old }
     ensures told { HoldsItsAnswers lookups.now.table.now worker.new }
     ensures whole { IsTrue result
         → map (λ x. x.0) worker.new.answers.items ≡ times lookups.now.rounds lookups.now.addrs.now }
@@ -105,7 +105,7 @@ pub fn work<G: Gate, const FIRST: u32, const SECOND: u32>(
     requires ready { IsReadyFor lookups.now.table.now (lookups.now.rounds * length lookups.now.addrs.now) worker }
     requires addrs { All (λ a. a < 2 ^ (FIRST + SECOND)) lookups.now.addrs.now }
     ensures over { IsOver lookups.now.table.now lookups.now.addrs.now lookups.now.rounds result }
-    ensures role { role_of result ≡ role_of worker }
+    ensures seat { number_of result ≡ number_of worker }
 {
     worker.pass.online(lookups.table);
     worker.is_done = look_rounds(lookups, gate, &mut worker);

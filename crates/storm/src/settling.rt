@@ -4,7 +4,7 @@ ghost use Rattle.std.specs.Prelude.{◌≡◌, ◌+◌, ◌^◌, ◌<◌, [], �
 ghost use Rattle.shared_fib.specs.Running.{left_by, setup, steps_of};
 ghost use Rattle.audit.specs.Wrong.{AreWrong};
 ghost use Rattle.storm.specs.Changing.{changes_by, change_by, is_refused, refused_among};
-ghost use Rattle.storm.specs.Looking.{AreInSeats, HasAnswered, IsOver, answers_of_workers, role_of};
+ghost use Rattle.storm.specs.Looking.{AreInSeats, HasAnswered, IsOver, answers_of_workers, number_of};
 ghost use Rattle.storm.specs.Storm.{IsCountOf, Settles};
 
 use crate::looking::Worker;
@@ -29,12 +29,13 @@ fn meet<const FIRST: u32, const SECOND: u32>(
     requires over { IsOver table.now addrs.now rounds worker.old }
     requires done { worker.old.is_done ≡ true }
     ensures same { writer.new ≡ writer.old }
-    ensures role { role_of worker.new ≡ role_of worker.old }
+    ensures seat { number_of worker.new ≡ number_of worker.old }
     ensures answered { HasAnswered table.now addrs.now rounds (steps_of writer.old) worker.new }
 {
     let _ = addrs;
     let _ = rounds;
     worker.pass.meet(table, writer);
+    worker.pass.history();
 }
 
 /// Each worker's pass meets the writer.
@@ -48,9 +49,9 @@ pub fn meet_all<const FIRST: u32, const SECOND: u32>(
     requires own { writer.old.identity ≡ table.now }
     requires over { All (IsOver table.now addrs.now rounds) workers.old }
     requires done { All (λ w. w.is_done ≡ true) workers.old }
-    requires roles { AreInSeats workers.old }
+    requires seats { AreInSeats workers.old }
     ensures same { writer.new ≡ writer.old }
-    ensures roles { AreInSeats workers.new }
+    ensures seats { AreInSeats workers.new }
     ensures len { length workers.new ≡ length workers.old }
     ensures answered { All (HasAnswered table.now addrs.now rounds (steps_of writer.old)) workers.new }
 {
@@ -77,6 +78,7 @@ pub fn settle<R: Wait, const FIRST: u32, const SECOND: u32>(
     writer.synchronize(rt, table)?;
     let waiting = writer.counts().limbo;
     let _ = writer.reclaim(table, waiting);
+    writer.at_rest();
     Ok(())
 }
 

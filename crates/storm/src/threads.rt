@@ -6,8 +6,7 @@
 ghost use Rattle.std.specs.Prelude.{◌≡◌, ◌≢◌, ◌⊎◌, ◌+◌, ◌*◌, ◌^◌, ◌<◌, ◌≤◌, All, IfErr, IfOk, IfSome, IsTrue, length, true, vec_capacity, vec_len};
 ghost use Rattle.std.specs.Thread.{IsSync};
 ghost use Rattle.storm.specs.Changing.{IsForWriter};
-ghost use Rattle.storm.specs.Looking.{AreInSeats, EachAt, IsOver, IsReadyFor, role_of};
-ghost use Rattle.shared_words.specs.declared.view.Role.TheVariants.{Worker as OfWorker};
+ghost use Rattle.storm.specs.Looking.{AreInSeats, EachAt, IsOver, IsReadyFor, number_of};
 ghost use Rattle.storm.specs.Plans.{IsUnderWay};
 ghost use Rattle.storm.specs.Threads.{AreLookups, AreUpdates};
 
@@ -26,7 +25,7 @@ use std::thread::{Promise, PromisedHandle, Scope, Threads};
 
 impl<'a, const FIRST: u32, const SECOND: u32> Promise<Worker> for Lookups<'a, FIRST, SECOND> {
     ghost kept_by = { λ p r. IsOver p.table.now p.addrs.now p.rounds r
-        × (role_of r ≡ OfWorker p.number) };
+        × (number_of r ≡ p.number) };
 }
 
 impl<'a, const FIRST: u32, const SECOND: u32> Promise<Recorder<FIRST, SECOND>>
@@ -57,7 +56,7 @@ fn start_worker<'s, E, G: Gate, const FIRST: u32, const SECOND: u32>(
     worker: Worker,
 ) -> Option<WorkerHandle<'s, FIRST, SECOND>>
     requires ready { IsReadyFor table.now (rounds * length addrs.now) worker }
-    requires role { role_of worker ≡ OfWorker number }
+    requires seat { number_of worker ≡ number }
     requires addrs { All (λ a. a < 2 ^ (FIRST + SECOND)) addrs.now }
     ensures lookups { IfSome result (λ h. AreLookups table.now addrs.now rounds h.promise) }
     ensures number { IfSome result (λ h. h.promise.number ≡ number) }
@@ -73,10 +72,10 @@ fn start_worker<'s, E, G: Gate, const FIRST: u32, const SECOND: u32>(
         promise,
         move || -> Worker
             requires ready { IsReadyFor table.now (rounds * length addrs.now) worker }
-            requires role { role_of worker ≡ OfWorker number }
+            requires seat { number_of worker ≡ number }
             requires addrs { All (λ a. a < 2 ^ (FIRST + SECOND)) addrs.now }
             ensures over { IsOver table.entry.now addrs.entry.now rounds result }
-            ensures role { role_of result ≡ OfWorker number }
+            ensures seat { number_of result ≡ number }
         {
             let lookups = Lookups {
                 table,
@@ -158,7 +157,7 @@ fn start_workers<'s, E, G: Gate, const FIRST: u32, const SECOND: u32>(
     handles: &mut Vec<WorkerHandle<'s, FIRST, SECOND>>,
 ) -> bool
     requires workers { All (IsReadyFor table.now (rounds * length addrs.now)) workers.items }
-    requires roles { AreInSeats workers.items }
+    requires seats { AreInSeats workers.items }
     requires addrs { All (λ a. a < 2 ^ (FIRST + SECOND)) addrs.now }
     requires none { vec_len handles.old ≡ 0 }
     requires room { vec_len workers ≤ vec_capacity handles.old }
@@ -192,7 +191,7 @@ fn join_workers<'s, R: Threads, const FIRST: u32, const SECOND: u32>(
     requires none { vec_len ended ≡ 0 }
     requires room { vec_len handles ≤ vec_capacity ended }
     ensures over { All (IsOver table.now addrs.now rounds) result.items }
-    ensures roles { AreInSeats result.items }
+    ensures seats { AreInSeats result.items }
     ensures len { vec_len result ≡ vec_len handles.entry }
 {
     let _ = table;
@@ -230,7 +229,7 @@ fn run_in<'s, E, R: Threads + Sync, G: Gate, const FIRST: u32, const SECOND: u32
     ended: Vec<Worker>,
 ) -> Result<Ended<FIRST, SECOND>, AllocError>
     requires workers { All (IsReadyFor table.now (rounds * length addrs.now)) workers.items }
-    requires roles { AreInSeats workers.items }
+    requires seats { AreInSeats workers.items }
     requires addrs { All (λ a. a < 2 ^ (FIRST + SECOND)) addrs.now }
     requires under_way { IsUnderWay table.now limits commands.now loaded
         recorder.outcomes.items recorder.writer }
@@ -240,7 +239,7 @@ fn run_in<'s, E, R: Threads + Sync, G: Gate, const FIRST: u32, const SECOND: u32
     requires none { vec_len ended ≡ 0 }
     requires room { vec_len workers ≤ vec_capacity ended }
     ensures over { IfOk result (λ e. All (IsOver table.now addrs.now rounds) e.workers.items) }
-    ensures roles { IfOk result (λ e. AreInSeats e.workers.items) }
+    ensures seats { IfOk result (λ e. AreInSeats e.workers.items) }
     ensures all { IfOk result (λ e. IfSome e.recorder (λ r. vec_len e.workers ≡ vec_len workers)) }
     ensures under_way { IfOk result (λ e. IfSome e.recorder (λ r.
         IsUnderWay table.now limits commands.now loaded r.outcomes.items r.writer)) }
@@ -289,7 +288,7 @@ fn in_scope<'a, R: Threads + Wait + Sync, G: Gate, const FIRST: u32, const SECON
     ended: Vec<Worker>,
 ) -> Result<Ended<FIRST, SECOND>, AllocError>
     requires workers { All (IsReadyFor table.now (rounds * length addrs.now)) workers.items }
-    requires roles { AreInSeats workers.items }
+    requires seats { AreInSeats workers.items }
     requires addrs { All (λ a. a < 2 ^ (FIRST + SECOND)) addrs.now }
     requires under_way { IsUnderWay table.now limits commands.now loaded
         recorder.outcomes.items recorder.writer }
@@ -299,7 +298,7 @@ fn in_scope<'a, R: Threads + Wait + Sync, G: Gate, const FIRST: u32, const SECON
     requires none { vec_len ended ≡ 0 }
     requires room { vec_len workers ≤ vec_capacity ended }
     ensures over { IfOk result (λ e. All (IsOver table.now addrs.now rounds) e.workers.items) }
-    ensures roles { IfOk result (λ e. AreInSeats e.workers.items) }
+    ensures seats { IfOk result (λ e. AreInSeats e.workers.items) }
     ensures all { IfOk result (λ e. IfSome e.recorder (λ r. vec_len e.workers ≡ vec_len workers)) }
     ensures under_way { IfOk result (λ e. IfSome e.recorder (λ r.
         IsUnderWay table.now limits commands.now loaded r.outcomes.items r.writer)) }
@@ -310,7 +309,7 @@ fn in_scope<'a, R: Threads + Wait + Sync, G: Gate, const FIRST: u32, const SECON
         |scope| -> Result<Ended<FIRST, SECOND>, AllocError>
             requires sync { IsSync R.row }
             requires workers { All (IsReadyFor table.now (rounds * length addrs.now)) workers.items }
-            requires roles { AreInSeats workers.items }
+            requires seats { AreInSeats workers.items }
             requires addrs { All (λ a. a < 2 ^ (FIRST + SECOND)) addrs.now }
             requires under_way { IsUnderWay table.now limits commands.now loaded
                 recorder.outcomes.items recorder.writer }
@@ -321,7 +320,7 @@ fn in_scope<'a, R: Threads + Wait + Sync, G: Gate, const FIRST: u32, const SECON
             requires room { vec_len workers ≤ vec_capacity ended }
             ensures over { IfOk result (λ e.
                 All (IsOver table.entry.now addrs.entry.now rounds) e.workers.items) }
-            ensures roles { IfOk result (λ e. AreInSeats e.workers.items) }
+            ensures seats { IfOk result (λ e. AreInSeats e.workers.items) }
             ensures all { IfOk result (λ e.
                 IfSome e.recorder (λ r. vec_len e.workers ≡ vec_len workers)) }
             ensures under_way { IfOk result (λ e. IfSome e.recorder (λ r.
@@ -353,7 +352,7 @@ pub fn run_threads<'a, R: Threads + Wait + Sync, G: Gate, const FIRST: u32, cons
     recorder: Recorder<FIRST, SECOND>,
 ) -> Result<(Vec<Worker>, Recorder<FIRST, SECOND>), StormError>
     requires workers { All (IsReadyFor table.now (rounds * length addrs.now)) workers.items }
-    requires roles { AreInSeats workers.items }
+    requires seats { AreInSeats workers.items }
     requires addrs { All (λ a. a < 2 ^ (FIRST + SECOND)) addrs.now }
     requires under_way { IsUnderWay table.now limits commands.now loaded
         recorder.outcomes.items recorder.writer }
@@ -361,7 +360,7 @@ pub fn run_threads<'a, R: Threads + Wait + Sync, G: Gate, const FIRST: u32, cons
     requires outcomes { length commands.now ≤ vec_capacity recorder.outcomes }
     requires commands { All IsForWriter commands.now }
     ensures over { IfOk result (λ r. All (IsOver table.now addrs.now rounds) r.0.items) }
-    ensures roles { IfOk result (λ r. AreInSeats r.0.items) }
+    ensures seats { IfOk result (λ r. AreInSeats r.0.items) }
     ensures done { IfOk result (λ r. All (λ w. w.is_done ≡ true) r.0.items) }
     ensures len { IfOk result (λ r. vec_len r.0 ≡ vec_len workers) }
     ensures under_way { IfOk result (λ r. IsUnderWay table.now limits commands.now loaded

@@ -24,4 +24,4 @@ returns-clause-made g c =
     c.args.recorder.now.writer c.execute-outcome.new.writer (omega (arith, here, c.requires.index))
     (c.index-updates-index.is ∙ ap (λ (n : ℕ). get_or commands n command) (sym here))
     c.requires.made does c.execute-outcome.ensures.own c.execute-outcome.ensures.config
-    (subst IsForWriter (sym c.index-updates-index.is) (c.requires.commands c.args.index command c.requires.index)) c.execute-outcome.ensures.rests)
+    (subst IsForWriter (sym c.index-updates-index.is) (c.requires.commands c.args.index command c.requires.index)) c.at_rest.ensures)

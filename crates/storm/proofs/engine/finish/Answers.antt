@@ -7,7 +7,7 @@ use Rattle.audit.specs.Wrong.{AreWrong}
 use Rattle.fib_model.specs.declared.command.Outcome.{Outcome}
 use Rattle.std.proofs.lemmas.List.{length-map}
 use Rattle.storm.specs.Changing.{changes_by, refused_among}
-use Rattle.storm.specs.Looking.{answers_of_passes, answers_of_workers, times, views_of}
+use Rattle.storm.specs.Looking.{answers_of_passes, answers_of_workers, times, passes_of}
 use Rattle.storm.specs.declared.looking.Worker.{Worker}
 use Rattle.storm.specs.Plans.{limits_of}
 use Rattle.storm.specs.Storm.{Settles}
@@ -66,7 +66,7 @@ returns-clause-storm g c =
     c.in_ok-wrong.ensures in
     let made = c.requires.made.under_way.made in
     let looked = all_looked id plan.addrs.now plan.rounds steps workers answered in
-    let right = all_right id plan.addrs.now plan.rounds steps f s (limits_of plan) writer history (views_of workers) made.opening made.identity made.versions refl looked in
+    let right = all_right id plan.addrs.now plan.rounds steps f s (limits_of plan) writer history (passes_of workers) made.opening made.identity made.versions refl looked in
     let counted = subst (λ (xs : List (ℕ × Answer)). AreWrong history xs c.in_ok-wrong.wrong) held wrong in
     let settled = subst (λ (w : WriterState). Settles id w c.settle.new.writer) c.meet_all.ensures.same c.in-Ok.ensures.settles in
     record {
@@ -74,17 +74,17 @@ returns-clause-storm g c =
       outcomes = outcomes;
       last = writer;
       end = c.settle.new.writer;
-      passes = views_of workers;
+      passes = passes_of workers;
       made = c.requires.made;
-      count = length-map workers (λ (w : Worker). w.pass.view) ∙ as_many;
-      workers = of_workers workers c.meet_all.ensures.roles;
+      count = length-map workers (λ (w : Worker). w.pass) ∙ as_many;
+      workers = of_workers workers c.meet_all.ensures.seats;
       looked = looked;
       right = right;
       settles = settled;
       answered = c.requires.answers.0;
       refused = c.count_refused.ensures ∙ ap refused_among c.deref-3.ensures.value;
       counted = counted;
-      wrong = none_wrong f s history (answers_of_passes (views_of workers)) c.in_ok-wrong.wrong right counted;
+      wrong = none_wrong f s history (answers_of_passes (passes_of workers)) c.in_ok-wrong.wrong right counted;
       limbo = c.report_of.ensures.counts.limbo ∙ ap (λ (l : List ℕ). length l) settled.emptied;
       counts = c.report_of.ensures.counts;
     }

@@ -39,5 +39,5 @@ finish-requires-after_bounds g c κs within =
     let over = subst (All (IsOver id plan.addrs.now plan.rounds)) (sym slice) ran.over in
     let done = subst (λ (ws : List Worker). All (λ w. w.is_done ≡ true) ws) (sym slice) ran.done in
     let len : length c.as_mut_slice-workers.result.now ≡ plan.config.workers = omega (arith, c.as_mut_slice-workers.ensures.len, ran.len, c.in_ok-workers.ensures.len) in
-    let roles = subst AreInSeats (sym slice) ran.roles in
-    (lit< tt, (lit< tt, (lit< tt, (made, (over, (done, (roles, (len, (c.requires.some, (c.requires.answers, c.requires.addrs))))))))))
+    let numbers = subst AreInSeats (sym slice) ran.seats in
+    (lit< tt, (lit< tt, (lit< tt, (made, (over, (done, (numbers, (len, (c.requires.some, (c.requires.answers, c.requires.addrs))))))))))

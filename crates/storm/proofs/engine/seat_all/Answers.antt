@@ -1,7 +1,6 @@
 use Rattle.std.proofs.Common.{◌≡◌, length, ℕ, ◌+◌, List, All, ap, subst, sym, ◌∙◌, arith, lit<}
 use Rattle.std.proofs.lemmas.List.Elements.{All-nil, All-push}
-use Rattle.storm.specs.Looking.{AreInSeats, IsReadyFor, role_of}
-use Rattle.shared_words.specs.declared.view.Role.TheVariants as roles
+use Rattle.storm.specs.Looking.{AreInSeats, IsReadyFor, number_of}
 use Rattle.storm.specs.declared.looking.Worker.{Worker}
 use Rattle.storm.proofs.Meetings.{each_push, stays_unused}
 use Rattle.std.proofs.lemmas.Grind.{common_steps}
@@ -38,8 +37,8 @@ loop-number-preserved g c =
       ready = subst (All (IsReadyFor c.args.table.now c.args.room)) (sym {A = List Worker} pushed.items)
           (All-push (IsReadyFor c.args.table.now c.args.room) c.loop-number.workers.items c.in_ok-seat.field-0 known.ready c.in_ok-seat.ensures.ready);
       seats = subst AreInSeats (sym {A = List Worker} pushed.items)
-          (each_push (λ k w. role_of w ≡ roles.Worker k) c.loop-number.workers.items c.in_ok-seat.field-0 known.seats
-          (c.in_ok-seat.ensures.role ∙ ap roles.Worker place));
+          (each_push (λ k w. number_of w ≡ k) c.loop-number.workers.items c.in_ok-seat.field-0 known.seats
+          (c.in_ok-seat.ensures.seat ∙ place));
     }
 
 pub returns-clause-others : goal.returns-clause-others

@@ -1,5 +1,5 @@
 use Rattle.std.proofs.Common.{◌≡◌, ℕ, ◌<◌, ◌≤◌, All, vec_len, vec_capacity}
-use Rattle.shared_fib.specs.Running.{IsBenchOf}
+use Rattle.shared_fib.specs.Passes.{IsBenchOf}
 use Rattle.storm.specs.Looking.{AreInSeats, IsReadyFor, IsUnused}
 use Rattle.storm.proofs.engine.seat_all.Given as goal
 

@@ -1,7 +1,6 @@
 use Rattle.std.proofs.Common.{◌∙◌, ◌++◌, [], ◌∷◌, ℕ, List, ap, sym, rules, map, take, append_assoc, get_or}
 use Rattle.std.proofs.lemmas.List.{map-append, take_more}
 use Rattle.lpm_rules.specs.declared.Answer.{Answer}
-use Rattle.shared_words.specs.declared.view.View.{View}
 use Rattle.shared_fib.specs.Running.{setup}
 use Rattle.storm.proofs.Told.{told_more}
 use Rattle.storm.proofs.looking.look_once.Goals as goal
@@ -14,12 +13,12 @@ loop-i-preserved g c =
     let was = c.loop-i.invariant in
     let addrs = c.args.lookups.now.addrs.now in
     let id = c.args.lookups.now.table.now in
-    let more = told_more c.loop-i.worker.pass.view c.lookup-answer.new.self.view _ c.lookup-answer.result c.lookup-answer.ensures.answer
-    (setup id) c.loop-i.worker.answers.items (ap setup (was.own ∙ c.requires.own)) (was.told.answers, was.told.versions) in
+    let more = told_more c.loop-i.worker.pass c.lookup-answer.new.self _ c.lookup-answer.result c.lookup-answer.ensures.answer
+    c.history.ensures (setup id) c.loop-i.worker.answers.items (ap setup (was.own ∙ c.requires.own)) (was.told.answers, was.told.versions) in
     record {
       own = c.lookup-answer.ensures.own ∙ was.own;
       online = c.lookup-answer.ensures.online;
-      role = ap (λ (v : View). v.role) c.lookup-answer.ensures.answer.rest.same ∙ was.role;
+      seat = c.lookup-answer.ensures.answer.steps.worker ∙ was.seat;
       len = search rules;
       told = record { answers = c.push_reserved.ensures.items ∙ more.0; versions = more.1 };
       whole = ap (map address_of) c.push_reserved.ensures.items

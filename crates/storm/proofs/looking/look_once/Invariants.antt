@@ -1,13 +1,13 @@
 use Rattle.std.proofs.Common.{◌≡◌, ◌+◌, ◌≤◌, ◌++◌, map, take, vec_len, vec_capacity}
-use Rattle.shared_fib.specs.Running.{IsOnline, identity_of}
-use Rattle.storm.specs.Looking.{HoldsItsAnswers, role_of}
+use Rattle.std.specs.Prelude.{true}
+use Rattle.storm.specs.Looking.{HoldsItsAnswers, number_of}
 use Rattle.storm.proofs.looking.look_once.Given as goal
 
 abbrev pub invariant-loop-i : goal.invariant-loop-i
 invariant-loop-i g l = record {
-  own : identity_of l.worker.pass ≡ identity_of l.fn.worker.pass;
-  online : IsOnline l.worker.pass;
-  role : role_of l.worker ≡ role_of l.fn.worker;
+  own : l.worker.pass.table ≡ l.fn.worker.pass.table;
+  online : l.worker.pass.online ≡ true;
+  seat : number_of l.worker ≡ number_of l.fn.worker;
   len : vec_len l.worker.answers ≡ vec_len l.fn.worker.answers + l.i;
   told : HoldsItsAnswers l.lookups.table.now l.worker;
   whole : map (λ x. x.0) l.worker.answers.items ≡ map (λ x. x.0) l.fn.worker.answers.items ++ take l.i l.lookups.addrs.now;

@@ -1,6 +1,5 @@
-use Rattle.std.proofs.Common.{◌≡◌, ◌+◌, ◌∙◌, ap, refl, arith, rules, map}
+use Rattle.std.proofs.Common.{◌≡◌, ◌+◌, ◌∙◌, refl, arith, rules, map}
 use Rattle.lpm_trace.specs.declared.step.WorkerStep.TheVariants.{LoadQuiescent, StoreQuiescent}
-use Rattle.shared_words.specs.declared.view.View.{View}
 use Rattle.shared_fib.specs.Running.{setup}
 use Rattle.storm.specs.Looking.{times}
 use Rattle.storm.proofs.Told.{kept_by_two, told_on}
@@ -15,16 +14,16 @@ loop-round-preserved g c =
     let made = c.look_once.new.worker in
     let all : map (λ x. x.0) made.answers.items ≡ times (c.loop-round.round + 1) addrs =
     one_more_round c.loop-round.round addrs _ _ was.whole (c.if-not-look_once.ensures.whole refl) in
-    let before = made.pass.view in
-    let after = c.quiescent.new.self.view in
+    let before = made.pass in
+    let after = c.quiescent.new.self in
     let steps = c.quiescent.ensures.steps in
-    let same = kept_by_two (LoadQuiescent steps.0) (StoreQuiescent steps.0) before after (λ now r. refl) (λ now r. refl) steps.1 in
-    let told = told_on (setup id) before after made.answers.items same c.quiescent.ensures.rest.later
+    let same = kept_by_two (LoadQuiescent steps.0) (StoreQuiescent steps.0) steps.1 steps.2 before after (λ now r. refl) (λ now r. refl) steps.3 in
+    let told = told_on (setup id) before after made.answers.items same steps.3.seen
     (c.look_once.ensures.told.answers, c.look_once.ensures.told.versions) in
     record {
       own = c.quiescent.ensures.own ∙ c.look_once.ensures.own ∙ was.own;
       online = c.quiescent.ensures.online;
-      role = ap (λ (v : View). v.role) c.quiescent.ensures.rest.same ∙ c.look_once.ensures.role ∙ was.role;
+      seat = steps.3.worker ∙ c.look_once.ensures.seat ∙ was.seat;
       len = let e = length_rounds (c.loop-round.round + 1) addrs made.answers.items all in omega (arith, e);
       told = record { answers = told.0; versions = told.1 };
       whole = all;

@@ -1,7 +1,6 @@
 use Rattle.std.proofs.Common.{◌≡◌, ◌<◌, ◌∙◌, true, arith, length, length-set, subst}
 use Rattle.shared_fib.specs.Running.{WriterState, steps_of}
-use Rattle.storm.specs.Looking.{HasAnswered, IsOver, role_of}
-use Rattle.shared_words.specs.declared.view.Role.TheVariants as roles
+use Rattle.storm.specs.Looking.{HasAnswered, IsOver, number_of}
 use Rattle.storm.specs.declared.looking.Worker.{Worker}
 use Rattle.storm.proofs.Meetings.{each_set, one_more}
 use Rattle.storm.proofs.settling.meet_all.Goals as goal
@@ -18,8 +17,8 @@ loop-number-preserved g c =
     record {
       same = c.meet.ensures.same ∙ was.same;
       len = length-set c.loop-number.workers c.loop-number.number worker ∙ was.len;
-      seats = each_set (λ k w. role_of w ≡ roles.Worker k) c.loop-number.workers c.loop-number.number worker low was.seats
-          (c.meet.ensures.role ∙ was.seats c.loop-number.number c.index-workers-number.result low);
+      seats = each_set (λ k w. number_of w ≡ k) c.loop-number.workers c.loop-number.number worker low was.seats
+          (c.meet.ensures.seat ∙ was.seats c.loop-number.number c.index-workers-number.result low);
       met = one_more (HasAnswered id addrs rounds (steps_of c.args.writer.now)) (λ (w : Worker). IsOver id addrs rounds w × (w.is_done ≡ true))
           c.loop-number.number c.loop-number.workers worker low was.met now;
     }

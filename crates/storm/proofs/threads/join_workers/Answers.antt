@@ -1,11 +1,10 @@
-use Rattle.std.proofs.Common.{◌≡◌, ◌+◌, ◌∙◌, ap, arith, ℕ, All, List, [], ◌∷◌, rules, sym, subst}
+use Rattle.std.proofs.Common.{◌≡◌, ◌+◌, ◌∙◌, arith, ℕ, All, List, [], ◌∷◌, rules, sym, subst}
 use Rattle.std.proofs.lemmas.List.Elements.{All-append, All-cons}
 use Rattle.shared_fib.specs.Running.{Identity}
 use Rattle.storm.specs.Looking.{IsOver}
 use Rattle.storm.specs.Threads.{AreLookups}
 use Rattle.storm.specs.declared.looking.Worker.{Worker}
-use Rattle.storm.specs.Looking.{AreInSeats, role_of}
-use Rattle.shared_words.specs.declared.view.Role.TheVariants as roles
+use Rattle.storm.specs.Looking.{AreInSeats, number_of}
 use Rattle.storm.proofs.Meetings.{each_push}
 use Rattle.storm.proofs.threads.join_workers.Goals as goal
 
@@ -20,14 +19,14 @@ loop-handle-preserved g c =
     let at_addrs = subst (λ (xs : List ℕ). IsOver c.args.table.now xs c.in-Some.handle.promise.rounds c.join.result)
     next.list at_table in
     let this : over c.join.result = subst (λ (n : ℕ). IsOver c.args.table.now c.args.addrs.now n c.join.result) next.times at_addrs in
-    let role = c.join.ensures.1 in
+    let seat = c.join.ensures.1 in
     record {
       rest = λ k d below. let h = was.rest (k + 1) d in grind rules;
       count = search rules;
       room = search rules;
       seats = subst AreInSeats (sym c.push_reserved.ensures.items)
-          (each_push (λ k w. role_of w ≡ roles.Worker k) c.loop-handle.ended.items c.join.result was.seats
-          (role ∙ ap roles.Worker (let h = was.numbers 0 c.in-Some.handle in grind (rules, arith))));
+          (each_push (λ k w. number_of w ≡ k) c.loop-handle.ended.items c.join.result was.seats
+          (seat ∙ (let h = was.numbers 0 c.in-Some.handle in grind (rules, arith))));
       numbers = λ k d below. let h = was.numbers (k + 1) d in grind (rules, arith);
       ended = subst (λ (xs : List Worker). All over xs) (sym c.push_reserved.ensures.items)
           (All-append over c.loop-handle.ended.items (c.join.result ∷ []) was.ended (All-cons over c.join.result [] this (λ k d below. search rules)));

@@ -1,9 +1,22 @@
-use Rattle.std.proofs.Common.{◌≡◌, ◌+◌, arith, All, [], ◌∷◌, rules, sym, subst}
+use Rattle.std.proofs.Common.{◌≡◌, ◌+◌, arith, lit<, All, [], ◌∷◌, rules, sym, subst}
 use Rattle.std.proofs.lemmas.List.Elements.{All-append, All-cons}
 use Rattle.storm.specs.Threads.{AreLookups}
 use Rattle.storm.specs.Looking.{EachAt}
 use Rattle.storm.proofs.Meetings.{each_push}
 use Rattle.storm.proofs.threads.start_workers.Goals as goal
+
+pub start_worker-requires-after_bounds : goal.start_worker-requires-after_bounds
+start_worker-requires-after_bounds g c κs within =
+    let was = c.loop-worker.invariant in (
+      lit< tt,
+      (
+        lit< tt,
+        (
+          let h = was.rest 0 c.in-Some.worker in grind rules,
+          (let h = was.seats 0 c.in-Some.worker in grind (rules, arith), c.requires.addrs),
+        ),
+      ),
+    )
 
 pub loop-worker-preserved : goal.loop-worker-preserved
 loop-worker-preserved g c =

@@ -1,7 +1,6 @@
 use Rattle.std.proofs.Common.{◌≡◌, ◌+◌, ◌*◌, ◌≤◌, All, length, vec_len, vec_capacity}
 use Rattle.std.specs.Vec.Iter.{into_iter_items, into_iter_len}
-use Rattle.storm.specs.Looking.{EachAt, IsReadyFor, role_of}
-use Rattle.shared_words.specs.declared.view.Role.TheVariants as roles
+use Rattle.storm.specs.Looking.{EachAt, IsReadyFor, number_of}
 use Rattle.storm.specs.Threads.{AreLookups}
 use Rattle.storm.proofs.threads.start_workers.Given as goal
 
@@ -11,7 +10,7 @@ invariant-loop-worker g l = record {
   count : l.number + into_iter_len l.worker-iterator ≡ vec_len l.fn.workers;
   len : vec_len l.handles ≡ l.number;
   room : vec_len l.fn.workers ≤ vec_capacity l.handles;
-  seats : EachAt (λ k w. role_of w ≡ roles.Worker (l.number + k)) (into_iter_items l.worker-iterator);
+  seats : EachAt (λ k w. number_of w ≡ l.number + k) (into_iter_items l.worker-iterator);
   numbers : EachAt (λ k h. h.promise.number ≡ k) l.handles.items;
   started : All (λ h. AreLookups l.table l.addrs l.rounds h.promise) l.handles.items;
 }
