@@ -1,10 +1,9 @@
 //! Addresses that are read in pieces.
 ghost use Rattle.std.specs.Thread.{IsSync};
-ghost use Rattle.std.specs.Prelude.{◌≡◌, ◌++◌, IfOk, IfErr};
+ghost use Rattle.std.specs.Prelude.{◌≡◌, [], ◌∷◌, ◌++◌, IfOk, IfErr};
 ghost use Rattle.route_text.specs.Files.{AreAddresses, IsAddressesFault};
 ghost use Rattle.route_text.specs.Files.{SpellsAddress, HasAddressFault};
 ghost use Rattle.route_text.specs.Readings.{IsReadError};
-ghost use Rattle.parallel_text.specs.Later.{address_later};
 
 use crate::pieces::{Form, Halves, halved, joined};
 use route_text::{ReadError, read_addresses};
@@ -23,7 +22,11 @@ impl Form for Addresses {
 
     ghost later = { λ _ addr. addr };
 
-    ghost spells_later = { address_later };
+    ghost spells_later = { λ k n. elim [
+      | [] ↦ λ addr is. is
+      | a ∷ [] ↦ λ addr is. is
+      | a ∷ b ∷ fs ↦ λ addr is. is
+    ] };
 
     fn append(list: Vec<u32>, _front: &[u8], more: &[u32]) -> Result<Vec<u32>, AllocError>
         ensures { IfOk result (λ v. v.items ≡ list.items ++ more.now) }

@@ -1,11 +1,12 @@
 //! Routes that are read in pieces.
+ghost use Rattle.std.proofs.Common.{ap};
 ghost use Rattle.std.specs.Thread.{IsSync};
-ghost use Rattle.std.specs.Prelude.{◌≡◌, ℕ, List, ◌+◌, ◌^◌, ◌<◌, ◌++◌, All, IfOk, IfErr, length, map};
+ghost use Rattle.std.specs.Prelude.{◌≡◌, ℕ, List, [], ◌∷◌, ◌+◌, ◌^◌, ◌<◌, ◌++◌, All, IfOk, IfErr, length, map};
 ghost use Rattle.route_text.specs.Lines.{lines};
 ghost use Rattle.route_text.specs.Files.{AreItems};
 ghost use Rattle.route_text.specs.Files.{AreRoutes, IsRoutesFault, SpellsRoute, HasRouteFault};
 ghost use Rattle.route_text.specs.Readings.{IsReadError};
-ghost use Rattle.parallel_text.specs.Later.{later_route, route_later};
+ghost use Rattle.parallel_text.specs.Later.{later_route};
 
 use crate::lines::count_lines;
 use crate::pieces::{Form, Halves, halved, joined};
@@ -25,7 +26,12 @@ impl Form for Routes {
 
     ghost later = { later_route };
 
-    ghost spells_later = { route_later };
+    ghost spells_later = { λ k n. elim [
+      | [] ↦ λ route is. is
+      | p ∷ [] ↦ λ route is. is
+      | p ∷ h ∷ [] ↦ λ route is. (ap (λ m. m + k) is.0, is.1, is.2)
+      | p ∷ h ∷ f ∷ fs ↦ λ route is. is
+    ] };
 
     fn append(list: Vec<Route>, front: &[u8], more: &[Route]) -> Result<Vec<Route>, AllocError>
         requires { (back : List (List ℕ)) × AreItems SpellsRoute 1 back more.now
