@@ -1,1 +1,2 @@
 pub mod Unpacking
+pub mod Pairing

@@ -1,3 +1,4 @@
 pub mod Loaded
 pub mod Lent
 pub mod LentLaws
+pub mod Pairs

@@ -7,7 +7,9 @@
 
 mod loaded;
 mod memory;
+mod pairs;
 mod shared;
 
 pub use loaded::Loaded;
+pub use pairs::Pairs;
 pub use shared::SharedMemory;
