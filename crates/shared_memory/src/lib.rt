@@ -5,6 +5,7 @@
 //! over them as it runs over any memory, and each of its steps is one atomic step of the table.
 #![tactic(auto)]
 
+mod filling;
 mod loaded;
 mod memory;
 mod pairs;

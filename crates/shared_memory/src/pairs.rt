@@ -1,20 +1,19 @@
 //! A list of table words that is packed while it is made.
 
-ghost use Rattle.std.specs.Prelude.{◌≡◌, ◌+◌, ◌-◌, ◌*◌, ◌%◌, ◌^◌, ◌<◌, ◌≤◌, [], ◌∷◌, ◌++◌, IfOk, OnOk, length, max, replicate};
-ghost use Rattle.lpm_sweep.specs.Frames.{Fills};
+ghost use Rattle.std.specs.Prelude.{◌≡◌, ◌+◌, ◌-◌, ◌*◌, ◌%◌, ◌^◌, ◌<◌, ◌≤◌, [], ◌∷◌, ◌++◌, IfOk, OnOk, length, replicate};
 ghost use Rattle.shared_words.specs.Layout.{packed};
 
 use std::alloc::{AllocError, Global};
 use std::marker::Model;
 
 /// A list of table words of 32 bits, of which two neighbours share a word of 64 bits. So a running table has
-/// them, and the list is packed as it is filled.
+/// them, and the list is packed while a sweep fills it (`WordList` of `lpm_sweep`).
 ///
 /// Two words of 64 bits lie before them, in which a running table has its sequence and its token.
 #[derive(Drop)]
 pub struct Pairs {
     words: Vec<u64>,
-    count: usize,
+    pub(crate) count: usize,
 }
 
 impl Model for Pairs {
@@ -39,17 +38,9 @@ impl Pairs {
         Ok(Pairs { words, count: 0 })
     }
 
-    /// How many table words the list has.
-    #[inline]
-    pub fn count(&self) -> usize
-        ensures { result ≡ length self.now }
-    {
-        self.count
-    }
-
     /// Puts a table word last where their number is odd, into the half that is left over behind them.
     #[inline]
-    fn even_out(&mut self, word: u32)
+    pub(crate) fn even_out(&mut self, word: u32)
         ensures { self.new ≡ self.old ++ replicate (length self.old % 2) word }
     {
         if self.count % 2 == 1 {
@@ -61,7 +52,7 @@ impl Pairs {
 
     /// Puts a table word last so many times two times, behind an even number of them.
     #[inline]
-    fn put_pairs(&mut self, pairs: usize, word: u32) -> Result<(), AllocError>
+    pub(crate) fn put_pairs(&mut self, pairs: usize, word: u32) -> Result<(), AllocError>
         requires even { length self.old % 2 ≡ 0 }
         requires small { length self.old + 2 * pairs < 2 ^ 64 }
         ensures { OnOk result (self.new ≡ self.old ++ replicate (2 * pairs) word) }
@@ -76,7 +67,7 @@ impl Pairs {
 
     /// Puts a table word last where so many are one more than an even number that the list has.
     #[inline]
-    fn put_last(&mut self, to: usize, word: u32) -> Result<(), AllocError>
+    pub(crate) fn put_last(&mut self, to: usize, word: u32) -> Result<(), AllocError>
         requires even { length self.old % 2 ≡ 0 }
         requires one { to ≤ length self.old + 1 }
         ensures { OnOk result (self.new ≡ self.old ++ replicate (to - length self.old) word) }
@@ -84,31 +75,6 @@ impl Pairs {
         if self.count < to {
             self.words.push(u64::from(word))?;
             self.count += 1;
-        }
-        Ok(())
-    }
-
-    /// Puts a table word last until the list has as many as this, which are more than it had.
-    fn grow(&mut self, to: usize, word: u32) -> Result<(), AllocError>
-        requires more { length self.old < to }
-        ensures fills { OnOk result (Fills self.old self.new (λ _. word)) }
-        ensures len { OnOk result (length self.new ≡ to) }
-    {
-        self.even_out(word);
-        let pairs = (to - self.count()) / 2;
-        self.put_pairs(pairs, word)?;
-        self.put_last(to, word)?;
-        Ok(())
-    }
-
-    /// Puts a table word last until the list has as many as this.
-    #[inline]
-    pub fn fill(&mut self, to: usize, word: u32) -> Result<(), AllocError>
-        ensures fills { OnOk result (Fills self.old self.new (λ _. word)) }
-        ensures len { OnOk result (length self.new ≡ max (length self.old) to) }
-    {
-        if self.count() < to {
-            self.grow(to, word)?;
         }
         Ok(())
     }
