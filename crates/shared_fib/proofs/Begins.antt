@@ -4,7 +4,6 @@ use Rattle.std.specs.Prelude.{option_map}
 use Rattle.std.specs.FinMap.{empty}
 use Rattle.std.proofs.lemmas.Option.{slice_get-map}
 use Rattle.atomic_table.specs.Seated.{TableId}
-use Rattle.lpm_bits.specs.Widths.{IsShape}
 use Rattle.lpm_cells.specs.Table.{Words}
 use Rattle.lpm_groups.specs.declared.GroupState.{GroupState}
 use Rattle.lpm_groups.specs.declared.GroupState.TheVariants.{Free, Linked as LinkedTo, Limbo}
@@ -31,6 +30,7 @@ use Rattle.shared_words.specs.Seats.{IsOf}
 use Rattle.shared_memory.specs.declared.loaded.Loaded.{Loaded}
 use Rattle.shared_memory.specs.Loaded.{ArePacked, block_of, opened_by, opened_of}
 use Rattle.shared_memory.proofs.Unpacking.{opened_as_packed}
+use Rattle.shared_fib.specs.Loading.{IsLoaded}
 use Rattle.shared_fib.specs.Running.{Identity, WriterState, IsAtRest, IsReady, opening_by, opens_with, setup}
 use Rattle.shared_fib.proofs.Live.{live_settled, live_rests, never_retired, none_some}
 
@@ -45,7 +45,7 @@ module _ (f s : ℕ) (ledger : Ledger f s) (memory : PlainMemory f s) where
   first_kept = record ledger { books = record ledger.books { passed = 0 }; versions = 0 }
 
   -- a ledger of what was loaded
-  pub kept_by : (config : Config) (queue : Queue) (l : Loaded f s) → config ≡ ledger.config → queue ≡ ledger.books.queue
+  kept_by : (config : Config) (queue : Queue) (l : Loaded f s) → config ≡ ledger.config → queue ≡ ledger.books.queue
       → l.rules ≡ ledger.rules → l.groups ≡ ledger.books.groups
       → record { config = config; rules = l.rules; books = record { groups = l.groups; queue = queue; passed = 0 }; versions = 0 } ≡ first_kept
   kept_by config queue l same waits rules groups = λ i. record {
@@ -67,7 +67,7 @@ module _ (f s : ℕ) (ledger : Ledger f s) (memory : PlainMemory f s) where
     workers = workers;
   }
 
-  pub token_within : (o : Opened) → o ≡ loads → memory.domain.token ≤ 2 ^ 62 → o.token ≤ 2 ^ 62
+  token_within : (o : Opened) → o ≡ loads → memory.domain.token ≤ 2 ^ 62 → o.token ≤ 2 ^ 62
   token_within o is high = subst (λ (x : Opened). x.token ≤ 2 ^ 62) (sym is) high
 
   module _ (sound : IsSound f s ledger memory) (none : ledger.books.queue.items ≡ []) where
@@ -98,31 +98,45 @@ module _ (f s : ℕ) (ledger : Ledger f s) (memory : PlainMemory f s) where
         ledger.rules.max sound.2.rests.shape sound.2.rests.limits sound.2.rests.max sound.2.rests.states room
         (sym sound.2.rests.queued.all ∙ ap length none))
 
-    pub shaped : IsShape f s
-    shaped = sound.2.rests.shape
-
     -- the words were packed for the table that was loaded
     pub opens_loaded : (l : Loaded f s) → l.rules ≡ ledger.rules → l.groups ≡ ledger.books.groups
         → 0 < memory.domain.token → ArePacked loads l.words.items l.layout → opening_by f s l ≡ loads
     opens_loaded l rules groups low packed =
         (λ i. opened_by f s l.words.items l.layout (rules i).rules (groups i))
         ∙ opened_as_packed f s memory.cells ledger.rules.rules ledger.books.groups ledger.config.workers memory.domain.token
-        l.words.items l.layout packed (settled low) shaped.2
+        l.words.items l.layout packed (settled low) sound.2.rests.shape.2
 
-    pub packs_loaded : (l : Loaded f s) → l.rules ≡ ledger.rules → l.groups ≡ ledger.books.groups
+    packs_loaded : (l : Loaded f s) → l.rules ≡ ledger.rules → l.groups ≡ ledger.books.groups
         → 0 < memory.domain.token → ArePacked loads l.words.items l.layout
         → ArePacked (opening_by f s l) l.words.items l.layout
     packs_loaded l rules groups low packed =
         subst (λ (o : Opened). ArePacked o l.words.items l.layout) (sym (opens_loaded l rules groups low packed)) packed
 
-    pub loaded_settled : (o : Opened) → o ≡ loads → 0 < memory.domain.token → IsSettled (setup_of o)
+    loaded_settled : (o : Opened) → o ≡ loads → 0 < memory.domain.token → IsSettled (setup_of o)
     loaded_settled o is low = subst (λ (x : Opened). IsSettled (setup_of x)) (sym is) (settled low)
 
-    pub loaded_rests : (o : Opened) (z : Ledger f s) → o ≡ loads → z ≡ first_kept
+    loaded_rests : (o : Opened) (z : Ledger f s) → o ≡ loads → z ≡ first_kept
         → IsResting f s (setup_of o) [] z.config z.rules z.books z.versions
     loaded_rests o z is same =
         subst (λ (y : Ledger f s). IsResting f s (setup_of o) [] y.config y.rules y.books y.versions) (sym same)
         (subst (λ (x : Opened). IsResting f s (setup_of x) [] ledger.config ledger.rules first_kept.books 0) (sym is) rests)
+
+    -- a running table may go on from it
+    pub loaded_is : (config : Config) (queue : Queue) (l : Loaded f s) → config ≡ ledger.config → queue ≡ ledger.books.queue
+        → l.rules ≡ ledger.rules → l.groups ≡ ledger.books.groups → 0 < memory.domain.token
+        → memory.domain.token ≤ 2 ^ 62 → ArePacked loads l.words.items l.layout → IsLoaded f s config queue l
+    loaded_is config queue l same waits rules groups low high packed =
+        let is = opens_loaded l rules groups low packed in
+        record {
+          shape = sound.2.rests.shape;
+          packed = packs_loaded l rules groups low packed;
+          settled = loaded_settled (opening_by f s l) is low;
+          token = token_within (opening_by f s l) is high;
+          none = ap (λ (q : Queue). q.items) waits ∙ none;
+          rests = loaded_rests (opening_by f s l)
+              (record { config = config; rules = l.rules; books = record { groups = l.groups; queue = queue; passed = 0 }; versions = 0 })
+              is (kept_by config queue l same waits rules groups);
+        }
 
 -- ---- the table, and its writer once all passes are made
 

@@ -12,3 +12,4 @@ pub mod Packing
 pub mod Versions
 pub mod Makes
 pub mod Lookups
+pub mod Sorted

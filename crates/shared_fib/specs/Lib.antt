@@ -3,3 +3,4 @@ pub mod Passing
 pub mod Freeing
 pub mod Versions
 pub mod Passes
+pub mod Loading

@@ -12,6 +12,7 @@ ghost use Rattle.shared_words.specs.Rule.{writer_view};
 ghost use Rattle.shared_words.specs.Seats.{IsOf};
 ghost use Rattle.shared_memory.specs.Loaded.{ArePacked, opened_of};
 ghost use Rattle.lpm_writer.specs.Opening.{opening_setup};
+ghost use Rattle.shared_fib.specs.Loading.{IsLoaded};
 ghost use Rattle.shared_fib.specs.Passes.{IsFullBench};
 ghost use Rattle.shared_fib.specs.Running.{IsAtRest, opening_by, opens_with, setup};
 
@@ -55,16 +56,11 @@ fn load<const FIRST: u32, const SECOND: u32>(
     requires sound { IsSound FIRST SECOND ledger memory }
     requires none { ledger.books.queue.items ≡ [] }
     ensures config { IfOk result (λ r. r.0 ≡ ledger.entry.config) }
-    ensures queue { IfOk result (λ r. r.1 ≡ ledger.entry.books.queue) }
     ensures rules { IfOk result (λ r. r.2.rules ≡ ledger.entry.rules) }
-    ensures groups { IfOk result (λ r. r.2.groups ≡ ledger.entry.books.groups) }
     ensures opening { IfOk result (λ r. opening_by FIRST SECOND r.2 ≡ opened_of FIRST SECOND
         memory.entry.cells ledger.entry.rules.rules ledger.entry.books.groups
         ledger.entry.config.workers memory.entry.domain.token) }
-    ensures packed { IfOk result
-        (λ r. ArePacked (opening_by FIRST SECOND r.2) r.2.words.items r.2.layout) }
-    ensures low { 1 ≤ memory.entry.domain.token }
-    ensures high { memory.entry.domain.token ≤ 2 ^ 62 }
+    ensures loaded { IfOk result (λ r. IsLoaded FIRST SECOND r.0 r.1 r.2) }
 {
     let PlainMemory { cells, domain } = memory;
     let Ledger {
@@ -116,6 +112,29 @@ fn first_ledger<const FIRST: u32, const SECOND: u32>(
     }
 }
 
+/// A running table of these limits that goes on from what was loaded, with the queue of the groups that wait,
+/// which is empty.
+pub(crate) fn go_on<const FIRST: u32, const SECOND: u32>(
+    alloc: Global,
+    config: Config,
+    queue: DeferQueue,
+    loaded: Loaded<FIRST, SECOND>,
+) -> Result<(SharedTable<FIRST, SECOND>, Writer<FIRST, SECOND>, Bench), AllocError>
+    requires { IsLoaded FIRST SECOND config queue loaded }
+    ensures opening { IfOk result (λ r. r.0.opening ≡ opening_by FIRST SECOND loaded.entry) }
+    ensures opened { IfOk result (λ r. r.1 ≡ opens_with r.0 config loaded.entry.rules.rules) }
+    ensures token { IfOk result (λ r. r.0.opening.token
+        ≡ (opening_by FIRST SECOND loaded.entry).token) }
+    ensures workers { IfOk result (λ r. r.0.opening.workers ≡ loaded.entry.layout.workers) }
+    ensures bench { IfOk result (λ r. IsFullBench r.0 r.2) }
+    ensures rests { IfOk result (λ r. IsAtRest r.1) }
+{
+    let (words, mut seat) = open_words(alloc, &loaded)?;
+    let bench = Bench::full(alloc, &words, &mut seat)?;
+    let ledger = first_ledger(config, queue, loaded);
+    Ok((SharedTable::new(words), Writer::new(ledger, seat), bench))
+}
+
 /// A running table that goes on from these parts, where no group waits.
 fn begin<const FIRST: u32, const SECOND: u32>(
     alloc: Global,
@@ -134,10 +153,7 @@ fn begin<const FIRST: u32, const SECOND: u32>(
     ensures rests { IfOk result (λ r. IsAtRest r.1) }
 {
     let (config, queue, loaded) = load(alloc, ledger, memory)?;
-    let (words, mut seat) = open_words(alloc, &loaded)?;
-    let bench = Bench::full(alloc, &words, &mut seat)?;
-    let ledger = first_ledger(config, queue, loaded);
-    Ok((SharedTable::new(words), Writer::new(ledger, seat), bench))
+    go_on(alloc, config, queue, loaded)
 }
 
 /// A running table without rules, its writer, and a pass for each worker, all offline. It refuses limits
@@ -165,7 +181,8 @@ pub fn open<const FIRST: u32, const SECOND: u32>(
 /// 0, and no change of it is counted. What waits in limbo is free again at once, since no worker is online.
 ///
 /// Its words are packed into a list, and given up then. That list is copied into the running table's words,
-/// and given up in turn. So two lists of all words are held at once, and no third.
+/// and given up in turn. So two lists of all words are held at once, and no third. A table whose rules are
+/// known in order needs no `Fib` before it: [`open_sorted`](crate::open_sorted) sweeps them into the list.
 ///
 /// The error is want of memory. Then the table is gone.
 pub fn go_live<const FIRST: u32, const SECOND: u32>(

@@ -1,76 +1,29 @@
-use Rattle.std.proofs.Common.{◌≡◌, ◌<◌, ap, sym, subst, ◌∙◌, lit<, arith}
-use Rattle.lpm_writer.specs.declared.ledger.Ledger.{Ledger}
+use Rattle.std.proofs.Common.{ℕ, ◌≡◌, IfOk, ap, subst, lit<}
+use Rattle.lpm_limits.specs.declared.config.Config.{Config}
+use Rattle.lpm_rules.specs.RuleMap.{RuleMap, RuleList}
 use Rattle.shared_words.specs.Opened.{Opened}
-use Rattle.shared_fib.specs.Running.{Identity, IsAtRest, opening_by}
-use Rattle.shared_fib.specs.Passes.{IsFullBench}
-use Rattle.shared_fib.proofs.Begins.{kept_by, shaped, token_within, loaded_settled, loaded_rests, ready, opens, opening_rests}
+use Rattle.shared_fib.specs.Running.{opens_with}
 use Rattle.shared_fib.proofs.opening.begin.Goals as goal
 
-pub open_words-requires : goal.open_words-requires
-open_words-requires g c =
-    let f = g.row.FIRST in
-    let s = g.row.SECOND in
-    let load = c.in_ok-config in
-    let o : Opened = opening_by f s load.loaded in
-    let low : 0 < c.args.memory.domain.token = omega (arith, load.ensures.low) in (
-      lit< tt,
-      (
-        shaped f s c.args.ledger c.args.memory c.requires.sound c.requires.none,
-        (
-          load.ensures.packed,
-          loaded_settled f s c.args.ledger c.args.memory c.requires.sound c.requires.none o load.ensures.opening low,
-        ),
-      ),
-    )
+pub go_on-requires : goal.go_on-requires
+go_on-requires g c = (lit< tt, (lit< tt, (lit< tt, c.in_ok-config.ensures.loaded)))
 
-pub new-requires-2 : goal.new-requires-2
-new-requires-2 g c =
-    let f = g.row.FIRST in
-    let s = g.row.SECOND in
-    let load = c.in_ok-config in
-    let o : Opened = opening_by f s load.loaded in
-    let words = c.in_ok-words in
-    let bench = c.in_ok-bench.ensures in
-    let z = c.first_ledger-ledger.result in
-    let same = c.first_ledger-ledger.ensures ∙ kept_by f s c.args.ledger c.args.memory load.config load.queue load.loaded
-    load.ensures.config load.ensures.queue load.ensures.rules load.ensures.groups in
-    let rests = loaded_rests f s c.args.ledger c.args.memory c.requires.sound c.requires.none o z load.ensures.opening same in
-    let high = token_within f s c.args.ledger c.args.memory o load.ensures.opening load.ensures.high in (
-      lit< tt,
-      (
-        lit< tt,
-        ready f s load.loaded words.words.board.shared.table_id words.words.layout words.seat.place.table_id words.seat.place.me.0
-            c.full.new.seat.place.me.0 bench.view.0 words.ensures.own words.ensures.view bench.view.1 z rests high,
-      ),
-    )
+pub returns-clause-opening : goal.returns-clause-opening
+returns-clause-opening g c =
+    subst (λ (o : Opened). IfOk c.go_on.result (λ r. r.0.opening ≡ o)) c.in_ok-config.ensures.opening c.go_on.ensures.opening
 
-pub returns-clause-bench : goal.returns-clause-bench
-returns-clause-bench g c =
-    let f = g.row.FIRST in
-    let s = g.row.SECOND in
-    let words = c.in_ok-words.ensures in
-    let here : c.in_ok-words.seat.place.me.0.opening ≡ opening_by f s c.in_ok-words.words.board.shared.key =
-    words.own.opening_is ∙ ap (opening_by f s) (sym words.key) in
-    let same : record { words = c.in_ok-words.seat.place.table_id; opening = c.in_ok-words.seat.place.me.0.opening } ≡ c.new.result =
-    (λ i. record { words = words.own.same i; opening = here i }) ∙ sym c.new.ensures in
-    subst (λ (id : Identity). IsFullBench id c.in_ok-bench.bench) same c.in_ok-bench.ensures.full
+pub returns-clause-opened : goal.returns-clause-opened
+returns-clause-opened g c =
+    let load = c.in_ok-config.ensures in
+    subst (λ (z : Config × RuleMap). IfOk c.go_on.result (λ r. r.1 ≡ opens_with r.0 z.0 z.1))
+    (λ i. (load.config i, ap (λ (l : RuleList). l.rules) load.rules i)) c.go_on.ensures.opened
 
-pub returns-clause-rests : goal.returns-clause-rests
-returns-clause-rests g c =
-    let f = g.row.FIRST in
-    let s = g.row.SECOND in
-    let load = c.in_ok-config in
-    let o : Opened = opening_by f s load.loaded in
-    let words = c.in_ok-words in
-    let bench = c.in_ok-bench.ensures in
-    let z = c.first_ledger-ledger.result in
-    let first = c.first_ledger-ledger.ensures in
-    let none = ap (λ (y : Ledger f s). y.books.queue.items) first ∙ (ap (λ q. q.items) load.ensures.queue ∙ c.requires.none) in
-    let opened = opens f s load.loaded words.words.board.shared.table_id words.words.layout words.seat.place.table_id words.seat.place.me.0
-    c.full.new.seat.place.me.0 bench.view.0 words.ensures.own words.ensures.view bench.view.1
-    c.full.new.seat.place.table_id z bench.own none (ap (λ (y : Ledger f s). y.versions) first) in
-    let low : 0 < c.args.memory.domain.token = omega (arith, load.ensures.low) in
-    let settled = loaded_settled f s c.args.ledger c.args.memory c.requires.sound c.requires.none o load.ensures.opening low in
-    let id : Identity = record { words = words.words.board.shared.table_id; opening = o } in
-    subst IsAtRest (sym (c.new-2.ensures ∙ opened))
-    (opening_rests id z.config z.rules.rules (ap (λ (y : Ledger f s). y.rules.rules) first ∙ ap (λ r. r.rules) load.ensures.rules ∙ sym (ap (λ (x : Opened). x.rules) load.ensures.opening)) settled)
+pub returns-clause-token : goal.returns-clause-token
+returns-clause-token g c =
+    subst (λ (n : ℕ). IfOk c.go_on.result (λ r. r.0.opening.token ≡ n))
+    (ap (λ (o : Opened). o.token) c.in_ok-config.ensures.opening) c.go_on.ensures.token
+
+pub returns-clause-workers : goal.returns-clause-workers
+returns-clause-workers g c =
+    subst (λ (n : ℕ). IfOk c.go_on.result (λ r. r.0.opening.workers ≡ n))
+    (ap (λ (o : Opened). o.workers) c.in_ok-config.ensures.opening) c.go_on.ensures.workers

@@ -1,6 +1,6 @@
-use Rattle.std.proofs.Common.{◌≡◌, ◌<◌, refl, rules, arith}
+use Rattle.std.proofs.Common.{◌≡◌, ◌^◌, ◌<◌, ◌≤◌, refl, rules, arith}
 use Rattle.shared_memory.specs.declared.loaded.Loaded.{Loaded}
-use Rattle.shared_fib.proofs.Begins.{loaded_packed, opens_loaded, packs_loaded}
+use Rattle.shared_fib.proofs.Begins.{loaded_packed, opens_loaded, loaded_is}
 use Rattle.shared_fib.proofs.opening.load.Goals as goal
 
 pub returns-clause-opening : goal.returns-clause-opening
@@ -19,12 +19,13 @@ returns-clause-opening g c =
     opens_loaded f s c.args.ledger c.args.memory c.requires.sound c.requires.none l refl refl low
     (loaded_packed f s c.args.ledger c.args.memory l c.token.result same made.words made.firsts made.seconds made.workers)
 
-pub returns-clause-packed : goal.returns-clause-packed
-returns-clause-packed g c =
+pub returns-clause-loaded : goal.returns-clause-loaded
+returns-clause-loaded g c =
     let f = g.row.FIRST in
     let s = g.row.SECOND in
     let made = c.in_ok-words.ensures in
     let low : 0 < c.args.memory.domain.token = search (rules, arith) in
+    let high : c.args.memory.domain.token ≤ 2 ^ 62 = search (rules, arith) in
     let same : c.token.result ≡ c.args.memory.domain.token = search rules in
     let l : Loaded f s = record {
       words = c.in_ok-words.words;
@@ -32,5 +33,6 @@ returns-clause-packed g c =
       rules = c.args.ledger.rules;
       groups = c.args.ledger.books.groups;
     } in
-    packs_loaded f s c.args.ledger c.args.memory c.requires.sound c.requires.none l refl refl low
+    loaded_is f s c.args.ledger c.args.memory c.requires.sound c.requires.none c.args.ledger.config c.args.ledger.books.queue l
+    refl refl refl refl low high
     (loaded_packed f s c.args.ledger c.args.memory l c.token.result same made.words made.firsts made.seconds made.workers)

@@ -1,0 +1,194 @@
+//! How a running table begins with the rules of a list.
+
+ghost use Rattle.std.specs.Prelude.{◌≡◌, ◌↔◌, ◌⊎◌, ◌+◌, ◌-◌, ◌*◌, ◌^◌, ◌<◌, ◌≤◌, ◌++◌, ◌∷◌, IfOk, IfErr, IfSome, IsNone, length, replicate};
+ghost use Rattle.std.specs.FinMap as map;
+ghost use Rattle.lpm_bits.specs.Widths.{IsShape};
+ghost use Rattle.lpm_limits.specs.Limits.{IsConfig};
+ghost use Rattle.lpm_rules.specs.Listed.{AreInOrder, rules_of};
+ghost use Rattle.fib_model.specs.Outcomes.{groups_in_use};
+ghost use Rattle.shared_words.specs.Layout.{packed};
+ghost use Rattle.shared_fib.specs.Loading.{AreSwept, IsLoaded};
+ghost use Rattle.shared_fib.specs.Passes.{IsFullBench};
+ghost use Rattle.shared_fib.specs.Running.{IsAtRest, opening_by, opens_with};
+
+use crate::opening::go_on;
+use crate::{Bench, SharedTable, Writer};
+use defer_queue::DeferQueue;
+use fib::opened_ledger;
+use lpm_rules::{Rule, Rules, count_rules};
+use lpm_sweep::{WordList, sweep_into};
+use lpm_writer::{Books, Ledger, OpenError};
+use qsbr::Config;
+use shared_memory::{Loaded, Pairs};
+use shared_words::{Layout, pairs};
+use std::alloc::{AllocError, Global};
+
+/// The words that a running table begins with: the sequence, which is 0, the token, the table words of these
+/// lists, misses up to so many second words, and a counter for each worker, which is 0. A miss is the word 0.
+fn lay_swept(
+    firsts: Pairs,
+    seconds: &Pairs,
+    second_count: usize,
+    token: u64,
+    workers: usize,
+) -> Result<Vec<u64>, AllocError>
+    requires firsts { length firsts ≤ 2 ^ 32 }
+    requires seconds { length seconds.now ≤ second_count }
+    requires second_count { second_count ≤ 2 ^ 48 }
+    requires workers { workers ≤ 2048 }
+    ensures { IfOk result (λ words. words.items ≡ 0 ∷ token ∷ (packed firsts
+        ++ (packed (seconds.now ++ replicate (second_count - length seconds.now) 0)
+        ++ replicate workers 0))) }
+{
+    let count = 2 + pairs(firsts.count()) + pairs(second_count) + workers;
+    let mut words = firsts.into_words(token);
+    words.extend_from_slice(seconds.shared())?;
+    words.resize(count, 0)?;
+    Ok(words)
+}
+
+/// The words that a running table with the rules of a list begins with, and the block of each group. `None`
+/// exactly where the rules need more groups than there are.
+///
+/// The first words are swept into a list that has room for all words. The second words, whose number isn't
+/// known before, are put behind them once they are swept.
+fn sweep_words<const FIRST: u32, const SECOND: u32>(
+    alloc: Global,
+    config: Config,
+    rules: &[Rule<FIRST, SECOND>],
+) -> Result<Option<(Vec<u64>, Vec<usize>)>, AllocError>
+    requires shape { IsShape FIRST SECOND }
+    requires limits { IsConfig config }
+    requires sorted { AreInOrder rules.now }
+    ensures swept { IfOk result (λ o. IfSome o (λ t.
+        AreSwept FIRST SECOND config (rules_of rules.now) t.0.items t.1.items)) }
+    ensures fit { IfOk result (λ o. IfSome o (λ _.
+        groups_in_use FIRST SECOND (rules_of rules.now) ≤ config.groups)) }
+    ensures none { IfOk result (λ o. IsNone o
+        → config.groups < groups_in_use FIRST SECOND (rules_of rules.now)) }
+{
+    let second_count = config.groups << SECOND;
+    let room = (1 << FIRST) + second_count + config.workers * 2;
+    let mut firsts = Pairs::new(alloc, room)?;
+    let mut seconds = Pairs::new(alloc, 0)?;
+    let Some(blocks) = sweep_into(alloc, rules, config.groups, &mut firsts, &mut seconds)? else {
+        return Ok(None);
+    };
+    let token = config.first_token;
+    let words = lay_swept(firsts, &seconds, second_count, token, config.workers)?;
+    Ok(Some((words, blocks)))
+}
+
+/// What a running table with the rules of a list is opened with, and the queue of the groups that wait, which
+/// is empty. These words were swept for the rules, and these blocks have groups.
+fn load_swept<const FIRST: u32, const SECOND: u32>(
+    alloc: Global,
+    config: Config,
+    rules: &[Rule<FIRST, SECOND>],
+    words: Vec<u64>,
+    blocks: &[usize],
+) -> Result<(DeferQueue, Loaded<FIRST, SECOND>), AllocError>
+    requires shape { IsShape FIRST SECOND }
+    requires limits { IsConfig config }
+    requires sorted { AreInOrder rules.now }
+    requires swept { AreSwept FIRST SECOND config (rules_of rules.now) words.items blocks.now }
+    ensures loaded { IfOk result (λ t. IsLoaded FIRST SECOND config t.0 t.1) }
+    ensures rules { IfOk result (λ t. t.1.rules.rules ≡ rules_of rules.now) }
+    ensures token { IfOk result (λ t. (opening_by FIRST SECOND t.1).token ≡ config.first_token) }
+    ensures workers { IfOk result (λ t. t.1.layout.workers ≡ config.workers) }
+{
+    let rules = Rules::of_sorted(alloc, config.rules, rules)?;
+    let ledger = opened_ledger(alloc, config, rules, 0, blocks)?;
+    let Ledger {
+        config: _,
+        rules,
+        books,
+        versions: _,
+    } = ledger;
+    let Books {
+        groups,
+        queue,
+        passed: _,
+    } = books;
+    let layout = Layout::new(1 << FIRST, config.groups << SECOND, config.workers);
+    let loaded = Loaded {
+        words,
+        layout,
+        rules,
+        groups,
+    };
+    Ok((queue, loaded))
+}
+
+/// The same, where the limits suffice for the rules and for their groups, and `None` exactly where they don't.
+fn load_sorted<const FIRST: u32, const SECOND: u32>(
+    alloc: Global,
+    config: Config,
+    rules: &[Rule<FIRST, SECOND>],
+) -> Result<Option<(DeferQueue, Loaded<FIRST, SECOND>)>, AllocError>
+    requires shape { IsShape FIRST SECOND }
+    requires limits { IsConfig config }
+    requires sorted { AreInOrder rules.now }
+    ensures loaded { IfOk result (λ o. IfSome o (λ t. IsLoaded FIRST SECOND config t.0 t.1)) }
+    ensures rules { IfOk result (λ o. IfSome o (λ t. t.1.rules.rules ≡ rules_of rules.now)) }
+    ensures token { IfOk result (λ o. IfSome o (λ t.
+        (opening_by FIRST SECOND t.1).token ≡ config.first_token)) }
+    ensures workers { IfOk result (λ o. IfSome o (λ t. t.1.layout.workers ≡ config.workers)) }
+    ensures rules_fit { IfOk result (λ o. IfSome o (λ _.
+        map.len (rules_of rules.now) ≤ config.rules)) }
+    ensures groups_fit { IfOk result (λ o. IfSome o (λ _.
+        groups_in_use FIRST SECOND (rules_of rules.now) ≤ config.groups)) }
+    ensures none { IfOk result (λ o. IsNone o
+        → (config.rules < map.len (rules_of rules.now))
+        ⊎ (config.groups < groups_in_use FIRST SECOND (rules_of rules.now))) }
+{
+    if count_rules(rules) > config.rules {
+        return Ok(None);
+    }
+    let Some((words, blocks)) = sweep_words(alloc, config, rules)? else {
+        return Ok(None);
+    };
+    let loaded = load_swept(alloc, config, rules, words, &blocks)?;
+    Ok(Some(loaded))
+}
+
+/// A running table with the rules of a list, which is in the order of its prefixes (see `in_order` of
+/// `lpm_sweep`), its writer, and a pass for each worker, all offline. Of the rules of one prefix the last
+/// counts. The rules are there at once, as version 0: no change is counted.
+///
+/// One sweep over the rules writes the words as the running table has them. So this is faster than to open a
+/// `Fib` with the list and to let that go live ([`go_live`](crate::go_live)), and needs less memory.
+///
+/// `None` exactly where the limits don't suffice: the rules have more than `config.rules` prefixes, or rules
+/// longer than `FIRST` bits lie in more blocks than there are groups. It refuses limits out of range, and ends
+/// with `Memory` where there is no room for the rules, the words, the groups or the workers.
+pub fn open_sorted<const FIRST: u32, const SECOND: u32>(
+    alloc: Global,
+    config: Config,
+    rules: &[Rule<FIRST, SECOND>],
+) -> Result<Option<(SharedTable<FIRST, SECOND>, Writer<FIRST, SECOND>, Bench)>, OpenError>
+    requires shape { IsShape FIRST SECOND }
+    requires sorted { AreInOrder rules.now }
+    ensures opened { IfOk result (λ o. IfSome o (λ r.
+        r.1 ≡ opens_with r.0 config (rules_of rules.now))) }
+    ensures token { IfOk result (λ o. IfSome o (λ r. r.0.opening.token ≡ config.first_token)) }
+    ensures workers { IfOk result (λ o. IfSome o (λ r. r.0.opening.workers ≡ config.workers)) }
+    ensures bench { IfOk result (λ o. IfSome o (λ r. IsFullBench r.0 r.2)) }
+    ensures rests { IfOk result (λ o. IfSome o (λ r. IsAtRest r.1)) }
+    ensures rules_fit { IfOk result (λ o. IfSome o (λ _.
+        map.len (rules_of rules.now) ≤ config.rules)) }
+    ensures groups_fit { IfOk result (λ o. IfSome o (λ _.
+        groups_in_use FIRST SECOND (rules_of rules.now) ≤ config.groups)) }
+    ensures none { IfOk result (λ o. IsNone o
+        → (config.rules < map.len (rules_of rules.now))
+        ⊎ (config.groups < groups_in_use FIRST SECOND (rules_of rules.now))) }
+    ensures limits { IfOk result (λ _. IsConfig config) }
+    ensures bad_config { IfErr result
+        (λ error. (error ≡ OpenError.BadConfig) ↔ (¬ IsConfig config)) }
+{
+    config.check()?;
+    let Some((queue, loaded)) = load_sorted(alloc, config, rules)? else {
+        return Ok(None);
+    };
+    Ok(Some(go_on(alloc, config, queue, loaded)?))
+}
