@@ -1,6 +1,6 @@
 -- How answering by a running table ends.
 use Rattle.std.proofs.Common.{◌≡◌, ◌∙◌, ℕ, List, Result, Ok, Err, length, map, ap, sym, subst, refl}
-use Rattle.std.specs.Prelude.{IfErr, IsErrAnd, IsErrOf}
+use Rattle.std.specs.Prelude.{IfOk, IfErr, IsErrAnd, IsErrOf}
 use Rattle.std.specs.List.{range_with_len}
 use Rattle.std.proofs.lemmas.List.{length-map}
 use Rattle.std.proofs.lemmas.List.FromFn.{length-map-range_with_len}
@@ -30,6 +30,11 @@ as_many_desks desks workers roles = sym (length-map desks role_of) ∙ (ap lengt
 pub failure_leads : (T : Type 0) (r : Result T Failure) (P Q : Failure → Type 0) → IsErrAnd r P → ((e : Failure) → P e → Q e) → IfErr r Q
 failure_leads T (Ok x) P Q known leads = tt
 failure_leads T (Err e) P Q known leads = leads e known
+
+-- two things that are known of a value lead to a third
+pub both_lead : (T : Type 0) (r : Result T Failure) (P Q S : T → Type 0) → IfOk r P → IfOk r Q → ((v : T) → P v → Q v → S v) → IfOk r S
+both_lead T (Ok v) P Q S one other leads = leads v one other
+both_lead T (Err e) P Q S one other leads = tt
 
 -- addresses that were not answered end the run so
 pub ends_answering : (T : Type 0) (workers : ℕ) (error : BulkError) (failure : Failure) → failure ≡ ending_of error → (IsErrOf {T = T} (Err error) NoWorkers → workers ≡ 0) → EndsAnswering workers failure

@@ -18,11 +18,11 @@ pub is_read : {Item : Type 0} (known : Option (List ℕ)) (Lists : List ℕ → 
 is_read known Lists items reads = (reads.0, reads.1, (items, reads.2))
 
 -- a lookup ends where its addresses are answered
-pub ends_lookup : (c : Config) (workers : ℕ) (routes addresses : List ℕ) (bytes : List ℕ → Option (List ℕ)) (list : List Route) (addrs : List ℕ) (table : State Registry) (e : Failure) → workers ≡ c.workers → Reads AreRoutes (bytes routes) list → Reads AreAddresses (bytes addresses) addrs → IsLoaded c list table → EndsAnswering workers e → EndsLookup c routes addresses bytes e
-ends_lookup c workers routes addresses bytes list addrs table e many are_routes are_addrs loaded ends =
+pub ends_lookup : (c : Config) (routes addresses : List ℕ) (bytes : List ℕ → Option (List ℕ)) (list : List Route) (addrs : List ℕ) (table : State Registry) (e : Failure) → Reads AreRoutes (bytes routes) list → Reads AreAddresses (bytes addresses) addrs → IsLoaded c list table → EndsAnswering c.workers e → EndsLookup c routes addresses bytes e
+ends_lookup c routes addresses bytes list addrs table e are_routes are_addrs loaded ends =
     let read : AreRead (lookup_files routes addresses bytes) = (is_read (bytes routes) AreRoutes list are_routes, (is_read (bytes addresses) AreAddresses addrs are_addrs, tt)) in
     let table : HasTable c (bytes routes) = (list, (table, are_routes, loaded)) in
-    inr (inr (inl (read, table, subst (λ (n : ℕ). EndsAnswering n e) many ends)))
+    inr (inr (inl (read, table, ends)))
 
 -- an apply ends where its addresses are answered
 pub ends_apply : (c d : Config) (routes updates addresses : List ℕ) (bytes : List ℕ → Option (List ℕ)) (list : List Route) (orders : List Order) (addrs : List ℕ) (table : State Registry) (e : Failure) → d ≡ c → Reads AreRoutes (bytes routes) list → Reads AreUpdates (bytes updates) orders → Reads AreAddresses (bytes addresses) addrs → IsLoaded c list table → EndsAnswering d.workers e → EndsApply c routes updates addresses bytes e

@@ -436,11 +436,15 @@ loads_fitting c routes few fits lasts =
     let most : (made_by (empty, 0) routes).1 ≤ 0 + length routes = changes_at_most (empty, 0) routes in
     (made_table c routes, loaded_fitting c routes few fits lasts, omega (arith, most))
 
+-- told by the rules alone
+pub loads_by_rules : (c : Config) (routes : List Route) (R : RuleMap) → length routes ≤ 2 ^ 61 → R ≡ rules_of_routes routes → Fits c R → (0 < len R → c.first_token + c.groups ≤ 2 ^ 62) → (t : State Registry) × IsLoaded c routes t
+loads_by_rules c routes R few same fits lasts =
+    let loaded = loads_fitting c routes few (subst (Fits c) same fits) (subst (λ (Q : RuleMap). 0 < len Q → c.first_token + c.groups ≤ 2 ^ 62) same lasts) in
+    (loaded.0, loaded.1)
+
 -- so do routes whose rules a table has
 pub loads_filled : (c : Config) (routes : List Route) (table : State Registry) → length routes ≤ 2 ^ 61 → table.rules ≡ rules_of_routes routes → IsFilled c table → (t : State Registry) × IsLoaded c routes t
-loads_filled c routes table few same filled =
-    let loaded = loads_fitting c routes few (subst (Fits c) same filled.fits) (subst (λ (R : RuleMap). 0 < len R → c.first_token + c.groups ≤ 2 ^ 62) same filled.tokens) in
-    (loaded.0, loaded.1)
+loads_filled c routes table few same filled = loads_by_rules c routes table.rules few same filled.fits filled.tokens
 
 -- a table with these rules refuses a rule so
 pub refuses : (c : Config) (s : State Registry) (l : RuleList) (p : Network) (h : ℕ) (refusal : Refusal) → refusal ≢ Memory → s.rules ≡ l.rules → l.max ≡ c.rules → s.limbo ≡ [] → HasTokens counting c s → Refuses c.groups l p refusal → Adds counting 24 8 c s p h (Err refusal) s

@@ -2,6 +2,7 @@ pub mod Loaded
 pub mod Groups
 pub mod Filled
 pub mod Sorted
+pub mod Needed
 pub mod Updated
 pub mod Answered
 pub mod Texts

@@ -1,17 +1,17 @@
 //! The text of the answers to addresses, by a table of one thread or by a running one.
-ghost use Rattle.std.specs.Prelude.{◌≡◌, ◌<◌, ℕ, IfOk, IfErr};
+ghost use Rattle.std.specs.Prelude.{◌≡◌, ◌<◌, IfOk, IfErr};
 ghost use Rattle.lpm_rules.specs.Longest.{AreLongestHops};
-ghost use Rattle.fib_model.specs.Counting.{by_counters};
 ghost use Rattle.shared_fib.specs.Running.{IsFullBench};
-ghost use Rattle.lpm_commands.specs.Lookup.{IsAnswered, EndsAnswering, ending_of};
+ghost use Rattle.lpm_commands.specs.Lookup.{IsAnswerText, IsAnswered, EndsAnswering, ending_of};
 
+use crate::loading::Running;
 use bulk::{BulkError, Gate, bulk, bulk_plain, seat_all};
 use fib::Fib;
 use lpm_bits::Hop;
 use lpm_files::Failure;
 use parallel_text::answers_text_on;
 use qsbr::Refusal;
-use shared_fib::{Bench, SharedTable, Writer, go_live};
+use shared_fib::{Bench, SharedTable, Writer};
 use std::alloc::Global;
 use std::thread::Threads;
 
@@ -36,45 +36,50 @@ pub fn text_of_answers<'a, R: Threads + Sync, G: Gate>(
     Ok(answers_text_on(rt, alloc, addrs, &hops, workers)?)
 }
 
-/// A line for each address with its answer by the running table that this one becomes. Each of its
-/// workers answers a piece of the addresses by its own pass, on its own thread. The lines are written on
-/// as many threads.
-///
-/// No worker may be online yet.
+/// A line for each address with its answer by a running table that was just opened. Each of its workers
+/// answers a piece of the addresses by its own pass, on its own thread. The lines are written on as many
+/// threads, when the table is gone.
 pub fn text_of_live_answers<'a, R: Threads + Sync, G: Gate>(
     rt: &R,
     alloc: Global,
-    fib: Fib<24, 8>,
+    running: Running,
+    workers: usize,
     addrs: &[u32],
     gate: &G,
 ) -> Result<Vec<u8>, Failure<'a>>
-    requires offline { (worker : ℕ) → worker < fib.config.workers
-        → ¬ by_counters.is_online fib.table.readers worker }
-    ensures text { IfOk result (λ v.
-        IsAnswered fib.config fib.table.rules addrs.now v.items) }
-    ensures failure { IfErr result (EndsAnswering fib.config.workers) }
+    requires own { running.writer.identity ≡ running.table }
+    requires full { IsFullBench running.table running.bench }
+    requires workers { workers ≡ running.table.opening.workers }
+    ensures workers { IfOk result (λ v. 0 < workers) }
+    ensures text { IfOk result (λ v. IsAnswerText running.writer.table.rules addrs.now v.items) }
+    ensures failure { IfErr result (EndsAnswering workers) }
 {
-    let workers = fib.config().workers;
-    let hops = live_hops(rt, alloc, fib, addrs, gate)?;
+    let hops = live_hops(rt, alloc, running, workers, addrs, gate)?;
     Ok(answers_text_on(rt, alloc, addrs, &hops, workers)?)
 }
 
-// The next hops of the addresses by the running table that this one becomes.
+// The next hops of the addresses by this table, which is gone then.
 fn live_hops<'a, R: Threads + Sync, G: Gate>(
     rt: &R,
     alloc: Global,
-    fib: Fib<24, 8>,
+    running: Running,
+    workers: usize,
     addrs: &[u32],
     gate: &G,
 ) -> Result<Vec<Option<Hop>>, Failure<'a>>
-    requires offline { (worker : ℕ) → worker < fib.config.workers
-        → ¬ by_counters.is_online fib.table.readers worker }
-    ensures workers { IfOk result (λ v. 0 < fib.config.workers) }
-    ensures hops { IfOk result (λ v. AreLongestHops 32 fib.table.rules addrs.now v.items) }
-    ensures failure { IfErr result (EndsAnswering fib.config.workers) }
+    requires own { running.writer.identity ≡ running.table }
+    requires full { IsFullBench running.table running.bench }
+    requires workers { workers ≡ running.table.opening.workers }
+    ensures workers { IfOk result (λ v. 0 < workers) }
+    ensures hops { IfOk result (λ v.
+        AreLongestHops 32 running.writer.table.rules addrs.now v.items) }
+    ensures failure { IfErr result (EndsAnswering workers) }
 {
-    let workers = fib.config().workers;
-    let (table, mut writer, mut bench) = go_live(alloc, fib)?;
+    let Running {
+        table,
+        mut writer,
+        mut bench,
+    } = running;
     desk_hops(
         rt,
         alloc,

@@ -1,25 +1,27 @@
 //! A table of the routes of a file.
 ghost use Rattle.std.specs.Prelude.{◌≡◌, ◌+◌, ◌^◌, ◌<◌, ◌≤◌, IsTrue, IfOk, IfErr, IfSome, OnOk, length, map, take, drop};
+ghost use Rattle.std.specs.FinMap.{len};
 ghost use Rattle.lpm_limits.specs.Limits.{IsConfig, IsIn, groups_range};
 ghost use Rattle.lpm_rules.specs.RuleMap.{RuleMap};
 ghost use Rattle.lpm_rules.specs.Changes.{rules_after};
-ghost use Rattle.lpm_rules.specs.Listed.{with_rules};
+ghost use Rattle.lpm_rules.specs.Listed.{AreInOrder, rules_of, with_rules};
 ghost use Rattle.qsbr.specs.Registry.{Registry};
 ghost use Rattle.fib_model.specs.State.{State};
-ghost use Rattle.fib_model.specs.Counting.{opened};
+ghost use Rattle.shared_fib.specs.Running.{IsFullBench};
 ghost use Rattle.lpm_commands.specs.Loading.{IsLoaded, EndsLoading, addition_of, rules_of_routes};
 ghost use Rattle.lpm_commands.specs.Groups.{IsEnough, long_routes};
-ghost use Rattle.lpm_commands.specs.Filled.{IsFilled};
+ghost use Rattle.lpm_commands.specs.Filled.{Fits, IsFilled};
 
-use crate::ordering::rules_in_order;
+use crate::ordering::{count_groups, rules_in_order};
 use crate::refusals::{Made, first_refusal, made_of, refused};
 use fib::{Fib, OpenError};
 use lpm_bits::Prefix;
 use lpm_files::Failure;
-use lpm_rules::Rule;
+use lpm_rules::{Rule, count_rules};
 use lpm_sweep::MOST_SORTED;
 use qsbr::{Config, Refusal};
 use route_text::Route;
+use shared_fib::{Bench, SharedTable, Writer, go_live, open_sorted};
 use std::alloc::Global;
 
 // For how many routes words are loaded ahead.
@@ -101,35 +103,107 @@ fn add_from<'a>(
     Ok(())
 }
 
-/// A table with the rules of the routes, and with no more groups than these can need, so it is for
-/// lookups alone. `config.groups` is the most.
+/// A running table with its one writer, and with the passes of its workers.
+#[derive(Drop)]
+pub struct Running {
+    pub table: SharedTable<24, 8>,
+    pub writer: Writer<24, 8>,
+    pub bench: Bench,
+}
+
+/// A running table with the rules of the routes, and with no more groups than these can need, so it is
+/// for lookups alone. `config.groups` is the most. No pass is handed out yet.
 ///
 /// A running table has words for each group, needed or not: fewer groups take less memory and time.
-/// The rules are put in by the order of their prefixes, each prefix once, so the words that are
-/// stored are bounded by those of the table, whatever the file repeats. Where that is refused, the
-/// first refused route of the file is told without a table.
-pub fn load_for_lookups<'a>(
+/// It opens with the rules in the order of their prefixes, so each word is stored once, whatever the
+/// file repeats. Only the rules of routes behind the first 2^26 are added one after another. The routes
+/// are dropped before the words are copied. Where the rules are refused, the first refused route of the
+/// file is told without a table.
+pub fn open_for_lookups<'a>(
     alloc: Global,
     path: &'a str,
-    routes: &[Route],
+    routes: Vec<Route>,
     config: Config,
-) -> Result<Fib<24, 8>, Failure<'a>>
+) -> Result<Running, Failure<'a>>
     requires { IsConfig config }
-    ensures workers { IfOk result (λ fib. fib.config.workers ≡ config.workers) }
-    ensures rules { IfOk result (λ fib. fib.table.rules ≡ rules_of_routes routes.now) }
-    ensures readers { IfOk result (λ fib. fib.table.readers ≡ (opened config).readers) }
+    ensures workers { IfOk result (λ r. r.table.opening.workers ≡ config.workers) }
+    ensures own { IfOk result (λ r. r.writer.identity ≡ r.table) }
+    ensures full { IfOk result (λ r. IsFullBench r.table r.bench) }
+    ensures rules { IfOk result (λ r. r.writer.table.rules ≡ rules_of_routes routes.items) }
 
     // The routes make a table in the order of the file too.
-    ensures loads { IfOk result (λ fib. (table : State Registry)
-        × IsLoaded config routes.now table) }
-    ensures failure { IfErr result (EndsLoading config path.entry.now routes.now) }
+    ensures loads { IfOk result (λ _. (table : State Registry)
+        × IsLoaded config routes.items table) }
+    ensures failure { IfErr result (EndsLoading config path.entry.now routes.items) }
 {
-    let groups = groups_for(routes, config);
+    let groups = groups_for(&routes, config);
     let limits = Config { groups, ..config };
-    match load_in_order(alloc, routes, limits) {
-        Some(table) => Ok(table),
-        None => Err(first_refusal(alloc, path, routes, limits)),
+    if routes.len() <= MOST_SORTED {
+        open_at_once(alloc, path, routes, limits)
+    } else {
+        open_and_add(alloc, path, routes, limits)
     }
+}
+
+// The running table of at most 2^26 routes, which opens with all their rules at once.
+fn open_at_once<'a>(
+    alloc: Global,
+    path: &'a str,
+    routes: Vec<Route>,
+    config: Config,
+) -> Result<Running, Failure<'a>>
+    requires limits { IsConfig config }
+    requires few { length routes.items ≤ 2 ^ 26 }
+    ensures workers { IfOk result (λ r. r.table.opening.workers ≡ config.workers) }
+    ensures own { IfOk result (λ r. r.writer.identity ≡ r.table) }
+    ensures full { IfOk result (λ r. IsFullBench r.table r.bench) }
+    ensures rules { IfOk result (λ r. r.writer.table.rules ≡ rules_of_routes routes.items) }
+    ensures loads { IfOk result (λ _. (table : State Registry)
+        × IsLoaded config routes.items table) }
+    ensures failure { IfErr result (EndsLoading config path.entry.now routes.items) }
+{
+    let Some(rules) = fitting_rules(alloc, &routes, config) else {
+        return Err(first_refusal(alloc, path, &routes, config));
+    };
+    drop(routes);
+    match open_sorted(alloc, config, &rules) {
+        Ok(Some((table, writer, bench))) => Ok(Running {
+            table,
+            writer,
+            bench,
+        }),
+        Ok(None) | Err(OpenError::BadConfig) => unreachable!(),
+        Err(OpenError::Memory) => Err(Failure::Memory),
+    }
+}
+
+// The running table of more routes: a table of one thread opens with the rules of the first 2^26, the
+// others are added, and it goes live then.
+fn open_and_add<'a>(
+    alloc: Global,
+    path: &'a str,
+    routes: Vec<Route>,
+    config: Config,
+) -> Result<Running, Failure<'a>>
+    requires { IsConfig config }
+    ensures workers { IfOk result (λ r. r.table.opening.workers ≡ config.workers) }
+    ensures own { IfOk result (λ r. r.writer.identity ≡ r.table) }
+    ensures full { IfOk result (λ r. IsFullBench r.table r.bench) }
+    ensures rules { IfOk result (λ r. r.writer.table.rules ≡ rules_of_routes routes.items) }
+    ensures loads { IfOk result (λ _. (table : State Registry)
+        × IsLoaded config routes.items table) }
+    ensures failure { IfErr result (EndsLoading config path.entry.now routes.items) }
+{
+    let Some(fib) = load_in_order(alloc, &routes, config) else {
+        return Err(first_refusal(alloc, path, &routes, config));
+    };
+    drop(routes);
+    let (table, writer, bench) = go_live(alloc, fib)?;
+    Ok(Running {
+        table,
+        writer,
+        bench,
+    })
 }
 
 // A table with the rules of the routes, which opens with those of the first 2^26 routes. None where a
@@ -165,6 +239,26 @@ fn open_with(alloc: Global, routes: &[Route], config: Config) -> Option<Fib<24, 
     ensures rules { IfSome result (λ fib. fib.table.rules ≡ rules_of_routes routes.now) }
     ensures filled { IfSome result (λ fib. IsFilled config fib.table) }
 {
+    let Some(rules) = fitting_rules(alloc, routes, config) else {
+        return None;
+    };
+    let Ok(table) = Fib::of_sorted(alloc, config, &rules) else {
+        return None;
+    };
+    table
+}
+
+// The rules of routes in the order of their prefixes, at most as many as can be sorted. None where they
+// don't fit, where the tokens don't last for them, or for want of memory.
+fn fitting_rules(alloc: Global, routes: &[Route], config: Config) -> Option<Vec<Rule<24, 8>>>
+    requires limits { IsConfig config }
+    requires few { length routes.now ≤ 2 ^ 26 }
+    ensures ordered { IfSome result (λ v. AreInOrder v.items) }
+    ensures same { IfSome result (λ v. rules_of v.items ≡ rules_of_routes routes.now) }
+    ensures fits { IfSome result (λ v. Fits config (rules_of v.items)) }
+    ensures tokens { IfSome result (λ v. 0 < len (rules_of v.items)
+        → config.first_token + config.groups ≤ 2 ^ 62) }
+{
     let lasts = config.first_token + config.groups as u64 <= Config::FIRST_TOKEN.last;
     if !lasts && !routes.is_empty() {
         return None;
@@ -172,10 +266,10 @@ fn open_with(alloc: Global, routes: &[Route], config: Config) -> Option<Fib<24, 
     let Ok(rules) = rules_in_order(alloc, routes) else {
         return None;
     };
-    let Ok(table) = Fib::of_sorted(alloc, config, &rules) else {
+    if count_rules(&rules) > config.rules || count_groups(&rules) > config.groups {
         return None;
-    };
-    table
+    }
+    Some(rules)
 }
 
 // Adds the rules of routes, at most as many as can be sorted.

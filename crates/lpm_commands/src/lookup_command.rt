@@ -2,19 +2,13 @@
 ghost use Rattle.std.specs.Prelude.{◌≡◌, ◌≢◌, IfOk, IfErr, OnOk, IsErrOf};
 ghost use Rattle.lpm_limits.specs.Limits.{IsConfig};
 ghost use Rattle.lpm_files.specs.Output.{Writes, WritesBeginning};
-ghost use Rattle.qsbr.specs.Registry.{Registry};
-ghost use Rattle.fib_model.specs.State.{State};
-ghost use Rattle.fib_model.specs.Counting.{opened};
-ghost use Rattle.lpm_commands.specs.Loading.{IsLoaded, EndsLoading, rules_of_routes};
 ghost use Rattle.lpm_commands.specs.Lookup.{IsLookupText, EndsLookup};
 
 use crate::answers::text_of_live_answers;
-use crate::loading::load_for_lookups;
+use crate::loading::open_for_lookups;
 use bulk::Gate;
-use fib::Fib;
 use lpm_files::{Failure, Files, put_text, read_addresses_on, read_routes_on};
 use qsbr::Config;
-use route_text::Route;
 use std::alloc::Global;
 use std::io::Write;
 use std::thread::Threads;
@@ -72,25 +66,6 @@ fn lookup_text<'a, R: Threads + Sync, F: Files, G: Gate>(
 {
     let list = read_routes_on(rt, alloc, files, routes, config.workers)?;
     let addrs = read_addresses_on(rt, alloc, files, addresses, config.workers)?;
-    let table = table_of(alloc, routes, list, config)?;
-    text_of_live_answers(rt, alloc, table, &addrs, gate)
-}
-
-// The table of the routes, as `load_for_lookups` makes it. They are dropped here, since going live
-// takes the most memory.
-fn table_of<'a>(
-    alloc: Global,
-    path: &'a str,
-    routes: Vec<Route>,
-    config: Config,
-) -> Result<Fib<24, 8>, Failure<'a>>
-    requires { IsConfig config }
-    ensures workers { IfOk result (λ fib. fib.config.workers ≡ config.workers) }
-    ensures rules { IfOk result (λ fib. fib.table.rules ≡ rules_of_routes routes.items) }
-    ensures readers { IfOk result (λ fib. fib.table.readers ≡ (opened config).readers) }
-    ensures loads { IfOk result (λ fib. (table : State Registry)
-        × IsLoaded config routes.items table) }
-    ensures failure { IfErr result (EndsLoading config path.entry.now routes.items) }
-{
-    load_for_lookups(alloc, path, &routes, config)
+    let running = open_for_lookups(alloc, routes, list, config)?;
+    text_of_live_answers(rt, alloc, running, config.workers, &addrs, gate)
 }

@@ -1,8 +1,9 @@
-//! The rules of routes in the order of their prefixes.
-ghost use Rattle.std.specs.Prelude.{◌≡◌, ◌^◌, ◌≤◌, IfOk, length, map};
-ghost use Rattle.lpm_rules.specs.Listed.{AreInOrder, rules_of};
+//! The rules of routes in the order of their prefixes, and how many groups these need.
+ghost use Rattle.std.specs.Prelude.{◌≡◌, ◌^◌, ◌<◌, ◌≤◌, ◌↔◌, IsTrue, IfOk, length, map, take};
+ghost use Rattle.lpm_rules.specs.Listed.{AreInOrder, prefix_at, rules_of};
+ghost use Rattle.fib_model.specs.Outcomes.{groups_in_use};
 ghost use Rattle.lpm_commands.specs.Loading.{rules_of_routes};
-ghost use Rattle.lpm_commands.specs.Filled.{rule_of};
+ghost use Rattle.lpm_commands.specs.Filled.{BringsGroup, rule_of};
 
 use lpm_rules::Rule;
 use lpm_sweep::in_order;
@@ -34,4 +35,39 @@ fn rules_of_routes(alloc: Global, routes: &[Route]) -> Result<Vec<Rule<24, 8>>, 
         })?;
     }
     Ok(rules)
+}
+
+/// How many groups the rules need, which are in the order of their prefixes: as many as there are blocks
+/// with a rule longer than 24 bits.
+pub fn count_groups(rules: &[Rule<24, 8>]) -> usize
+    requires { AreInOrder rules.now }
+    ensures { result ≡ groups_in_use 24 8 (rules_of rules.now) }
+{
+    let mut count = 0usize;
+    for index in 0..rules.len() {
+        count += usize::from(begins_block(rules, index));
+    }
+    count
+}
+
+// Whether the rule is longer than 24 bits, and none such lies in its block before it. That would be the
+// one just before, since the rules are in order.
+fn begins_block(rules: &[Rule<24, 8>], index: usize) -> bool
+    requires sorted { AreInOrder rules.now }
+    requires within { index < length rules.now }
+    ensures { IsTrue result
+        ↔ BringsGroup (rules_of (take index rules.now)) (prefix_at rules.now index) }
+{
+    let prefix = &rules[index].prefix;
+    if prefix.len() <= 24 {
+        return false;
+    }
+    if index == 0 {
+        return true;
+    }
+    let before = &rules[index - 1].prefix;
+    if before.bits() >> 8 != prefix.bits() >> 8 {
+        return true;
+    }
+    before.len() <= 24
 }

@@ -23,7 +23,8 @@ pub struct Made {
 }
 
 /// The rules of the routes, and how many of these changed a rule: those of a table of these limits into
-/// which they are put one after another. Or what the first refused route ends the run with.
+/// which they are put one after another. Or what the first refused route ends the run with, or `Memory`
+/// where the rule list can't grow.
 ///
 /// It keeps the rules alone, and no words: it takes time and memory for the routes, however many
 /// words they would store.
@@ -107,7 +108,7 @@ fn versions_by(put: Put) -> u64
     }
 }
 
-// Puts the rule of a route into the list of a table that has so many groups, and answers how many
+// Puts the rule of a route into the list of a table that has so many groups, and returns how many
 // of them are in use then, and what it did; or why the table refuses it.
 fn put(
     rules: &mut Rules<24, 8>,

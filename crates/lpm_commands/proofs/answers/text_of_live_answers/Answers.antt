@@ -9,4 +9,4 @@ answers_text_on-requires g c = (search rules, rw c.deref.ensures.value (length-A
 pub returns-clause-text : goal.returns-clause-text
 returns-clause-text g c =
     let written = c.in_ok-answers_text_on.ensures ∙ ap (answer_lines c.args.addrs.now) c.deref.ensures.value in
-    (c.in_ok-hops.ensures.workers, (c.in_ok-hops.hops.items, c.in_ok-hops.ensures.hops, written))
+    (c.in_ok-hops.hops.items, c.in_ok-hops.ensures.hops, written)
