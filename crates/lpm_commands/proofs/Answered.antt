@@ -3,15 +3,14 @@ use Rattle.std.proofs.Common.{◌≡◌, ◌∙◌, ℕ, List, Result, Ok, Err, 
 use Rattle.std.specs.Prelude.{IfOk, IfErr, IsErrAnd, IsErrOf}
 use Rattle.std.specs.List.{range_with_len}
 use Rattle.std.proofs.lemmas.List.{length-map}
-use Rattle.std.proofs.lemmas.List.FromFn.{length-map-range_with_len}
+use Rattle.std.proofs.lemmas.List.FromFn.{length-range_with_len}
 use Rattle.lpm_limits.specs.declared.config.Config.{Config}
 use Rattle.lpm_rules.specs.RuleMap.{RuleMap}
-use Rattle.shared_words.specs.declared.view.Role.TheVariants.{Worker}
 use Rattle.shared_fib.specs.Running.{Identity, WriterState, opens_with}
 use Rattle.bulk.specs.declared.bulk_error.BulkError.{BulkError}
 use Rattle.bulk.specs.declared.bulk_error.BulkError.TheVariants.{NoWorkers, Memory}
 use Rattle.bulk.specs.declared.desk.Desk.{Desk}
-use Rattle.bulk.specs.Desks.{role_of}
+use Rattle.bulk.specs.Desks.{worker_of}
 use Rattle.lpm_files.specs.declared.failure.Failure.{Failure}
 use Rattle.lpm_commands.specs.Lookup.{ending_of, EndsAnswering}
 
@@ -23,8 +22,8 @@ pub has_rules : (id : Identity) (c : Config) (R : RuleMap) (w : WriterState) →
 has_rules id c R w opened = ap (λ (v : WriterState). v.table.rules) opened
 
 -- there are as many desks as workers
-pub as_many_desks : (desks : List Desk) (workers : ℕ) → map role_of desks ≡ map Worker (range_with_len 0 workers) → length desks ≡ workers
-as_many_desks desks workers roles = sym (length-map desks role_of) ∙ (ap length roles ∙ length-map-range_with_len Worker 0 workers)
+pub as_many_desks : (desks : List Desk) (workers : ℕ) → map worker_of desks ≡ range_with_len 0 workers → length desks ≡ workers
+as_many_desks desks workers numbers = sym (length-map desks worker_of) ∙ (ap length numbers ∙ length-range_with_len 0 workers)
 
 -- what is known of a failure leads to what is to be shown of it
 pub failure_leads : (T : Type 0) (r : Result T Failure) (P Q : Failure → Type 0) → IsErrAnd r P → ((e : Failure) → P e → Q e) → IfErr r Q

@@ -1,7 +1,7 @@
 //! The text of the answers to addresses, by a table of one thread or by a running one.
 ghost use Rattle.std.specs.Prelude.{◌≡◌, ◌<◌, IfOk, IfErr};
 ghost use Rattle.lpm_rules.specs.Longest.{AreLongestHops};
-ghost use Rattle.shared_fib.specs.Running.{IsFullBench};
+ghost use Rattle.shared_fib.specs.Passes.{IsFullBench};
 ghost use Rattle.lpm_commands.specs.Lookup.{IsAnswerText, IsAnswered, EndsAnswering, ending_of};
 
 use crate::loading::Running;

@@ -7,7 +7,7 @@ ghost use Rattle.lpm_rules.specs.Changes.{rules_after};
 ghost use Rattle.lpm_rules.specs.Listed.{AreInOrder, rules_of, with_rules};
 ghost use Rattle.qsbr.specs.Registry.{Registry};
 ghost use Rattle.fib_model.specs.State.{State};
-ghost use Rattle.shared_fib.specs.Running.{IsFullBench};
+ghost use Rattle.shared_fib.specs.Passes.{IsFullBench};
 ghost use Rattle.lpm_commands.specs.Loading.{IsLoaded, EndsLoading, addition_of, rules_of_routes};
 ghost use Rattle.lpm_commands.specs.Groups.{IsEnough, long_routes};
 ghost use Rattle.lpm_commands.specs.Filled.{Fits, IsFilled};
