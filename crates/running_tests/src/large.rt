@@ -1,12 +1,15 @@
-//! 300,000 rules added by the writer of a running table, with all groups and workers that a table can have.
-ghost use Rattle.std.specs.Prelude.{◌≡◌, ◌<◌, false};
+//! 300,000 rules, added by the writer of a running table or there from the start, with all groups and workers
+//! that a table can have.
+ghost use Rattle.std.specs.Prelude.{◌≡◌, ◌<◌, false, true};
 
 use super::asserting::assert_at;
 use lpm_bits::{Hop, Prefix};
 use lpm_groups::Counts;
-use lpm_rules::Put;
+use lpm_rules::{Put, Rule};
+use lpm_sweep::are_in_order;
 use qsbr::Config;
-use shared_fib::{Pass, SharedTable, Writer, open};
+use shared_fib::{Pass, SharedTable, Writer, open, open_sorted};
+use std::alloc::{AllocError, Global};
 use std::process::Abort;
 use std::test::Fail;
 
@@ -33,14 +36,28 @@ fn block(number: u32) -> u32 {
     number.saturating_add(65_536).wrapping_mul(256)
 }
 
-// Adds the rule of this number, which is its next hop's too.
+// The rule of this number, which is its next hop's too.
+fn rule(rt: &impl Abort, number: u32) -> Rule<24, 8> {
+    let len = if is_half(number) { 25 } else { 24 };
+    let prefix = Prefix::new(block(number), len).expect(rt, "a length");
+    let hop = Hop::new(number).expect(rt, "a next hop");
+    Rule { prefix, hop }
+}
+
+// The rules, which are in the order of their prefixes.
+fn rules(rt: &impl Abort, alloc: Global) -> Result<Vec<Rule<24, 8>>, AllocError> {
+    let mut rules = Vec::new(alloc);
+    for number in 0..MANY {
+        rules.push(rule(rt, number))?;
+    }
+    Ok(rules)
+}
+
 fn add(rt: &impl Abort, table: &SharedTable<24, 8>, writer: &mut Writer<24, 8>, number: u32)
     requires own { writer.old.identity ≡ table.now }
     ensures own { writer.new.identity ≡ writer.old.identity }
 {
-    let len = if is_half(number) { 25 } else { 24 };
-    let prefix = Prefix::new(block(number), len).expect(rt, "a length");
-    let hop = Hop::new(number).expect(rt, "a next hop");
+    let Rule { prefix, hop } = rule(rt, number);
     let put = writer.add(table, &prefix, hop);
     assert_at(rt, number, put, Ok(Put::Added));
 }
@@ -58,6 +75,8 @@ fn add_all(rt: &impl Abort, table: &SharedTable<24, 8>, writer: &mut Writer<24, 
 fn look_all_up(rt: &impl Abort, table: &SharedTable<24, 8>, pass: &mut Pass)
     requires own { pass.old.table ≡ table.now }
     requires offline { pass.old.online ≡ false }
+    ensures own { pass.new.table ≡ pass.old.table }
+    ensures online { pass.new.online ≡ true }
 {
     pass.online(table);
     for number in 0..MANY {
@@ -68,11 +87,29 @@ fn look_all_up(rt: &impl Abort, table: &SharedTable<24, 8>, pass: &mut Pass)
     }
 }
 
-fn assert_figures(rt: &impl Abort, table: &SharedTable<24, 8>, writer: &mut Writer<24, 8>)
+// The first address of each block, and the last one of its first half, have the block's rule.
+fn look_first_halves_up(rt: &impl Abort, table: &SharedTable<24, 8>, pass: &mut Pass)
+    requires own { pass.old.table ≡ table.now }
+    requires online { pass.old.online ≡ true }
+{
+    for number in 0..MANY {
+        let first = pass.lookup(table, block(number)).hop;
+        let last = pass.lookup(table, block(number) | 127).hop;
+        let found = (first.map(|hop| hop.number()), last.map(|hop| hop.number()));
+        assert_at(rt, number, found, (Some(number), Some(number)));
+    }
+}
+
+fn assert_figures(
+    rt: &impl Abort,
+    table: &SharedTable<24, 8>,
+    writer: &mut Writer<24, 8>,
+    versions: u64,
+)
     requires own { writer.old.identity ≡ table.now }
 {
     let sizes = (writer.rules(), writer.versions(), writer.token(table));
-    assert_at(rt, "rules, versions, token", sizes, (300_000, 300_000, 1));
+    assert_at(rt, "rules, versions, token", sizes, (300_000, versions, 1));
     let Counts {
         in_use,
         limbo,
@@ -86,8 +123,21 @@ fn assert_figures(rt: &impl Abort, table: &SharedTable<24, 8>, writer: &mut Writ
 fn many_routes(rt: HostRuntime) -> Result<(), Fail> {
     let (table, mut writer, mut bench) = open::<24, 8>(rt.alloc(), LIMITS)?;
     add_all(&rt, &table, &mut writer);
-    assert_figures(&rt, &table, &mut writer);
+    assert_figures(&rt, &table, &mut writer, 300_000);
     let mut pass = bench.register(&table, 2_047).expect(&rt, "a pass");
     look_all_up(&rt, &table, &mut pass);
+    Ok(())
+}
+
+#[test]
+fn many_routes_at_once(rt: HostRuntime) -> Result<(), Fail> {
+    let rules = rules(&rt, rt.alloc())?;
+    assert!(&rt; are_in_order(&rules));
+    let opened = open_sorted(rt.alloc(), LIMITS, &rules)?;
+    let (table, mut writer, mut bench) = opened.expect(&rt, "room");
+    assert_figures(&rt, &table, &mut writer, 0);
+    let mut pass = bench.register(&table, 2_047).expect(&rt, "a pass");
+    look_all_up(&rt, &table, &mut pass);
+    look_first_halves_up(&rt, &table, &mut pass);
     Ok(())
 }

@@ -14,3 +14,5 @@ mod groups;
 mod large;
 #[cfg(test)]
 mod pieces;
+#[cfg(test)]
+mod sorted;
