@@ -1,7 +1,7 @@
 //! The workers and the writer of a running table.
 
-ghost use Rattle.std.specs.Prelude.{◌≡◌};
-ghost use Rattle.shared_fib.specs.Running.{IsBenchOf, IsOffline, IsOnline, identity_of};
+ghost use Rattle.std.specs.Prelude.{◌≡◌, true, false};
+ghost use Rattle.shared_fib.specs.Passes.{IsBenchOf};
 
 use anyhow::Result;
 use fib::Fib;
@@ -40,8 +40,8 @@ pub(crate) struct Reader<'a> {
     pub(crate) sum: u64,
     pub(crate) took: Duration,
     pieces: [Duration; PIECES],
-    ghost own: { identity_of pass ≡ table.now },
-    ghost offline: { IsOffline pass },
+    ghost own: { pass.table ≡ table.now },
+    ghost offline: { pass.online ≡ false },
 }
 
 impl<'a> Reader<'a> {
@@ -104,10 +104,10 @@ fn sum_in_a_way(
     addresses: Addresses<'_>,
     way: Way,
 ) -> u64
-    requires own { identity_of pass.old ≡ table.now }
-    requires online { IsOnline pass.old }
-    ensures own { identity_of pass.new ≡ table.now }
-    ensures online { IsOnline pass.new }
+    requires own { pass.old.table ≡ table.now }
+    requires online { pass.old.online ≡ true }
+    ensures own { pass.new.table ≡ table.now }
+    ensures online { pass.new.online ≡ true }
 {
     match (addresses, way) {
         (Addresses::Listed(addrs), Way::Single) => sum_of(table, pass, addrs),
@@ -126,10 +126,10 @@ fn sum_by_pieces<R: Clock>(
     addrs: &[u32],
     pieces: &mut [Duration],
 ) -> u64
-    requires own { identity_of pass.old ≡ table.now }
-    requires online { IsOnline pass.old }
-    ensures own { identity_of pass.new ≡ table.now }
-    ensures online { IsOnline pass.new }
+    requires own { pass.old.table ≡ table.now }
+    requires online { pass.old.online ≡ true }
+    ensures own { pass.new.table ≡ table.now }
+    ensures online { pass.new.online ≡ true }
 {
     let mut sum = 0u64;
     let mut left = addrs;
@@ -153,10 +153,10 @@ fn time_since<R: Clock>(rt: &R, start: io::Result<Instant>) -> Duration {
 
 /// The sum of the next hops of these addresses, with a report now and then that the worker is quiescent.
 fn sum_reporting(table: &SharedTable<24, 8>, pass: &mut Pass, addrs: &[u32]) -> u64
-    requires own { identity_of pass.old ≡ table.now }
-    requires online { IsOnline pass.old }
-    ensures own { identity_of pass.new ≡ table.now }
-    ensures online { IsOnline pass.new }
+    requires own { pass.old.table ≡ table.now }
+    requires online { pass.old.online ≡ true }
+    ensures own { pass.new.table ≡ table.now }
+    ensures online { pass.new.online ≡ true }
 {
     let mut sum = 0u64;
     for some in addrs.chunks(BETWEEN_REPORTS) {
@@ -169,10 +169,10 @@ fn sum_reporting(table: &SharedTable<24, 8>, pass: &mut Pass, addrs: &[u32]) -> 
 /// The sum of the next hops of these addresses, looked up one by one.
 #[inline(never)]
 fn sum_of(table: &SharedTable<24, 8>, pass: &mut Pass, addrs: &[u32]) -> u64
-    requires own { identity_of pass.old ≡ table.now }
-    requires online { IsOnline pass.old }
-    ensures own { identity_of pass.new ≡ table.now }
-    ensures online { IsOnline pass.new }
+    requires own { pass.old.table ≡ table.now }
+    requires online { pass.old.online ≡ true }
+    ensures own { pass.new.table ≡ table.now }
+    ensures online { pass.new.online ≡ true }
 {
     let mut sum = 0u64;
     for addr in addrs {
@@ -185,10 +185,10 @@ fn sum_of(table: &SharedTable<24, 8>, pass: &mut Pass, addrs: &[u32]) -> u64
 /// The sum of the next hops of the ascending addresses from this place on, before that one.
 #[inline(never)]
 fn sum_ascending(table: &SharedTable<24, 8>, pass: &mut Pass, from: u32, to: u32) -> u64
-    requires own { identity_of pass.old ≡ table.now }
-    requires online { IsOnline pass.old }
-    ensures own { identity_of pass.new ≡ table.now }
-    ensures online { IsOnline pass.new }
+    requires own { pass.old.table ≡ table.now }
+    requires online { pass.old.online ≡ true }
+    ensures own { pass.new.table ≡ table.now }
+    ensures online { pass.new.online ≡ true }
 {
     let mut sum = 0u64;
     for place in from..to {
@@ -202,10 +202,10 @@ fn sum_ascending(table: &SharedTable<24, 8>, pass: &mut Pass, from: u32, to: u32
 /// out.
 #[inline(never)]
 fn sum_by_fours(table: &SharedTable<24, 8>, pass: &mut Pass, addrs: &[u32]) -> u64
-    requires own { identity_of pass.old ≡ table.now }
-    requires online { IsOnline pass.old }
-    ensures own { identity_of pass.new ≡ table.now }
-    ensures online { IsOnline pass.new }
+    requires own { pass.old.table ≡ table.now }
+    requires online { pass.old.online ≡ true }
+    ensures own { pass.new.table ≡ table.now }
+    ensures online { pass.new.online ≡ true }
 {
     let mut sum = 0u64;
     for four in addrs.chunks_exact(4) {

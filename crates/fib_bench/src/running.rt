@@ -2,7 +2,7 @@
 
 ghost use Rattle.std.specs.Prelude.{◌≡◌, ◌<◌, ℕ, IfOk, IsTrue, OnOk, length, vec_len};
 ghost use Rattle.fib_model.specs.Counting.{by_counters};
-ghost use Rattle.shared_fib.specs.Running.{IsBenchOf};
+ghost use Rattle.shared_fib.specs.Passes.{IsBenchOf};
 
 use crate::crowd::print_at_once;
 use crate::passes::{Changer, Reader, Way};

@@ -1,5 +1,5 @@
 use Rattle.std.proofs.Common.{◌≡◌, length}
-use Rattle.shared_fib.specs.Running.{IsBenchOf}
+use Rattle.shared_fib.specs.Passes.{IsBenchOf}
 use Rattle.fib_bench.proofs.running.readers_of.Given as goal
 
 -- the bench is that of the table, and each worker before this one has a reader
