@@ -15,8 +15,11 @@ const LINES: u32 = 40_000;
 // On how many threads it is read.
 const THREADS: [usize; 6] = [0, 1, 2, 3, 8, 1_000_000];
 
-// A line for each address, with this text after it. Each third ends in CR LF, each seventh is a comment, and the one of
-// this number is bad.
+// The numbers of the lines that are bad, from 0 on: one of the first, of the middle and of the last.
+const BAD: [u32; 3] = [1, 20_000, 39_998];
+
+// A line for each address, with this text after it. Each third ends in CR LF, each seventh is a comment,
+// and the one of this number is bad.
 fn file(alloc: Global, after: &str, bad: u32) -> Result<Vec<u8>, Fail> {
     let mut bytes = Vec::new(alloc);
     for number in 0..LINES {
@@ -72,13 +75,19 @@ fn assert_fault<R: Threads + Abort + Sync>(
     assert!(rt; found == Some(ReadError::Fault(fault)), "{line}, {threads}");
 }
 
+// Whatever the number of threads, the fault is that of the bad address.
+fn assert_faults<R: Threads + Abort + Sync>(rt: &R, alloc: Global, bad: u32) -> Result<(), Fail> {
+    let bytes = file(alloc, "", bad)?;
+    for threads in THREADS {
+        assert_fault(rt, alloc, &bytes, threads, bad as usize + 1);
+    }
+    Ok(())
+}
+
 #[test]
 fn fault_in_a_piece(rt: HostRuntime) -> Result<(), Fail> {
-    for bad in [1, 20_000, 39_998] {
-        let bytes = file(rt.alloc(), "", bad)?;
-        for threads in THREADS {
-            assert_fault(&rt, rt.alloc(), &bytes, threads, bad as usize + 1);
-        }
+    for bad in BAD {
+        assert_faults(&rt, rt.alloc(), bad)?;
     }
     Ok(())
 }
@@ -124,13 +133,23 @@ fn assert_route_fault<R: Threads + Abort + Sync>(
     assert!(rt; found == Some(ReadError::Fault(fault)), "{line}, {threads}");
 }
 
+// Whatever the number of threads, the fault is that of the route with the bad address.
+fn assert_route_faults<R: Threads + Abort + Sync>(
+    rt: &R,
+    alloc: Global,
+    bad: u32,
+) -> Result<(), Fail> {
+    let bytes = file(alloc, ROUTE, bad)?;
+    for threads in THREADS {
+        assert_route_fault(rt, alloc, &bytes, threads, bad as usize + 1);
+    }
+    Ok(())
+}
+
 #[test]
 fn fault_in_a_piece_of_routes(rt: HostRuntime) -> Result<(), Fail> {
-    for bad in [1, 20_000, 39_998] {
-        let bytes = file(rt.alloc(), ROUTE, bad)?;
-        for threads in THREADS {
-            assert_route_fault(&rt, rt.alloc(), &bytes, threads, bad as usize + 1);
-        }
+    for bad in BAD {
+        assert_route_faults(&rt, rt.alloc(), bad)?;
     }
     Ok(())
 }
