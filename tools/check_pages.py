@@ -431,7 +431,7 @@ PLANTS = [
     Plant("README.md", "](docs/FORMATS.md#words)", "](docs/FORMAT.md#words)", "leads to no file: docs/FORMAT.md#words"),
     Plant("README.md", "](docs/FORMATS.md#words)", "](docs/FORMATS.md#word)", "no heading: docs/FORMATS.md#word"),
     Plant("README.md", "the crate `fib`", "the crate `fibs`", "no such crate: fibs"),
-    Plant("docs/ARCHITECTURE.md", "| `qsbr` |", "| `rcu` |", "no such crate: rcu"),
+    Plant("docs/ARCHITECTURE.md", "[`qsbr`]", "[`rcu`]", "no such crate: rcu"),
     Plant("docs/TRUSTED.md", "`IsStorm`", "`IsTempest`", "IsTempest"),
     Plant("docs/TRUSTED.md", "`IsDeepBlock`,", "`IsLongest`,", "not in the files of this row: IsLongest"),
     Plant("docs/TRUSTED.md", "Registry`, `Counters`", "Registry`, `Counts`", "no such file: qsbr/specs/Counts"),
@@ -440,7 +440,7 @@ PLANTS = [
     Plant("crates/fib/README.md", "`groups_fit`", "`groups_match`", "groups_match"),
     Plant("crates/fib/README.md", "(`specs/Replay.antt`)", "(`specs/Again.antt`)", "no such file: specs/Again.antt"),
     Plant("README.md", "Hop::new(2)", "Hop::of(2)", "no such call: Hop::of"),
-    Plant("docs/ARCHITECTURE.md", "`Fib::of_sorted`", "`Fib::of_listed`", "no such call: Fib::of_listed"),
+    Plant("docs/ARCHITECTURE.md", "`Fib::delete`", "`Fib::forget`", "no such call: Fib::forget"),
 ]
 
 
