@@ -166,7 +166,7 @@ fn open_at_once<'a>(
         return Err(first_refusal(alloc, path, &routes, config));
     };
     drop(routes);
-    match open_sorted(alloc, config, &rules) {
+    match open_sorted(alloc, config, rules) {
         Ok(Some((table, writer, bench))) => Ok(Running {
             table,
             writer,

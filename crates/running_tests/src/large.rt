@@ -133,7 +133,7 @@ fn many_routes(rt: HostRuntime) -> Result<(), Fail> {
 fn many_routes_at_once(rt: HostRuntime) -> Result<(), Fail> {
     let rules = rules(&rt, rt.alloc())?;
     assert!(&rt; are_in_order(&rules));
-    let opened = open_sorted(rt.alloc(), LIMITS, &rules)?;
+    let opened = open_sorted(rt.alloc(), LIMITS, rules)?;
     let (table, mut writer, mut bench) = opened.expect(&rt, "room");
     assert_figures(&rt, &table, &mut writer, 0);
     let mut pass = bench.register(&table, 2_047).expect(&rt, "a pass");

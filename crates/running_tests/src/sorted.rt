@@ -273,7 +273,7 @@ fn play(rt: &impl Abort, table: &SharedTable<24, 8>, writer: &mut Writer<24, 8>,
 fn routes_at_once(rt: HostRuntime) -> Result<(), Fail> {
     let rules = listed::<24, 8>(&rt, rt.alloc(), &ROUTES)?;
     assert!(&rt; are_in_order(&rules));
-    let opened = open_sorted(rt.alloc(), LIMITS, &rules)?;
+    let opened = open_sorted(rt.alloc(), LIMITS, rules)?;
     let (table, mut writer, mut bench) = opened.expect(&rt, "room");
     let mut pass = bench.register(&table, 0).expect(&rt, "a pass");
     play(&rt, &table, &mut writer, &mut pass);
@@ -282,8 +282,9 @@ fn routes_at_once(rt: HostRuntime) -> Result<(), Fail> {
 
 // A table opens within these limits, or it doesn't.
 fn assert_opens(rt: &impl Abort, alloc: Global, config: Config, rules: &[Rule<4, 4>], opens: bool) {
-    assert!(rt; are_in_order(rules));
-    let table = open_sorted(alloc, config, rules).expect(rt, "memory");
+    assert!(rt; rules.len() <= MOST_SORTED);
+    let sorted = in_order(alloc, rules).expect(rt, "memory");
+    let table = open_sorted(alloc, config, sorted).expect(rt, "memory");
     assert_at(rt, config, table.is_some(), opens);
 }
 
@@ -346,9 +347,10 @@ fn bad_limits() -> [Config; 6] {
 }
 
 fn assert_all_bad(rt: &impl Abort, alloc: Global, configs: &[Config], rules: &[Rule<4, 4>]) {
-    assert!(rt; are_in_order(rules));
+    assert!(rt; rules.len() <= MOST_SORTED);
     for config in configs {
-        let refused = open_sorted(alloc, *config, rules).err();
+        let sorted = in_order(alloc, rules).expect(rt, "memory");
+        let refused = open_sorted(alloc, *config, sorted).err();
         assert_at(rt, *config, refused, Some(OpenError::BadConfig));
     }
 }
@@ -418,7 +420,7 @@ fn assert_list(rt: &impl Abort, alloc: Global, rules: &[Rule<4, 4>]) -> Result<(
     assert!(rt; rules.len() <= MOST_SORTED);
     let sorted = in_order(alloc, rules)?;
     let fib = Fib::of_sorted(alloc, AMPLE, &sorted)?.expect(rt, "room");
-    let opened = open_sorted(alloc, AMPLE, &sorted)?;
+    let opened = open_sorted(alloc, AMPLE, sorted)?;
     let (table, mut writer, mut bench) = opened.expect(rt, "room");
     let mut pass = bench.register(&table, 0).expect(rt, "a pass");
     assert_same(rt, &fib, &table, &mut writer, &mut pass);

@@ -120,35 +120,36 @@ fn load_swept<const FIRST: u32, const SECOND: u32>(
     Ok((queue, loaded))
 }
 
-/// The same, where the limits suffice for the rules and for their groups, and `None` exactly where they don't.
+/// The same, where the limits suffice for the rules and for their groups, and `None` exactly where they don't. The
+/// list is given up then.
 fn load_sorted<const FIRST: u32, const SECOND: u32>(
     alloc: Global,
     config: Config,
-    rules: &[Rule<FIRST, SECOND>],
+    rules: Vec<Rule<FIRST, SECOND>>,
 ) -> Result<Option<(DeferQueue, Loaded<FIRST, SECOND>)>, AllocError>
     requires shape { IsShape FIRST SECOND }
     requires limits { IsConfig config }
-    requires sorted { AreInOrder rules.now }
+    requires sorted { AreInOrder rules.items }
     ensures loaded { IfOk result (λ o. IfSome o (λ t. IsLoaded FIRST SECOND config t.0 t.1)) }
-    ensures rules { IfOk result (λ o. IfSome o (λ t. t.1.rules.rules ≡ rules_of rules.now)) }
+    ensures rules { IfOk result (λ o. IfSome o (λ t. t.1.rules.rules ≡ rules_of rules.entry.items)) }
     ensures token { IfOk result (λ o. IfSome o (λ t.
         (opening_by FIRST SECOND t.1).token ≡ config.first_token)) }
     ensures workers { IfOk result (λ o. IfSome o (λ t. t.1.layout.workers ≡ config.workers)) }
     ensures rules_fit { IfOk result (λ o. IfSome o (λ _.
-        map.len (rules_of rules.now) ≤ config.rules)) }
+        map.len (rules_of rules.entry.items) ≤ config.rules)) }
     ensures groups_fit { IfOk result (λ o. IfSome o (λ _.
-        groups_in_use FIRST SECOND (rules_of rules.now) ≤ config.groups)) }
+        groups_in_use FIRST SECOND (rules_of rules.entry.items) ≤ config.groups)) }
     ensures none { IfOk result (λ o. IsNone o
-        → (config.rules < map.len (rules_of rules.now))
-        ⊎ (config.groups < groups_in_use FIRST SECOND (rules_of rules.now))) }
+        → (config.rules < map.len (rules_of rules.entry.items))
+        ⊎ (config.groups < groups_in_use FIRST SECOND (rules_of rules.entry.items))) }
 {
-    if count_rules(rules) > config.rules {
+    if count_rules(&rules) > config.rules {
         return Ok(None);
     }
-    let Some((words, blocks)) = sweep_words(alloc, config, rules)? else {
+    let Some((words, blocks)) = sweep_words(alloc, config, &rules)? else {
         return Ok(None);
     };
-    let loaded = load_swept(alloc, config, rules, words, &blocks)?;
+    let loaded = load_swept(alloc, config, &rules, words, &blocks)?;
     Ok(Some(loaded))
 }
 
@@ -156,8 +157,9 @@ fn load_sorted<const FIRST: u32, const SECOND: u32>(
 /// `lpm_sweep`), its writer, and a pass for each worker, all offline. Of the rules of one prefix the last
 /// counts. The rules are there at once, as version 0: no change is counted.
 ///
-/// One sweep over the rules writes the words as the running table has them. So this is faster than to open a
-/// `Fib` with the list and to let that go live ([`go_live`](crate::go_live)), and needs less memory.
+/// One sweep over the rules writes the words as the running table has them, two neighbours in each, where
+/// [`go_live`](crate::go_live) packs those of a `Fib`. The list is given up before the words are copied into the
+/// table, which takes the most memory.
 ///
 /// `None` exactly where the limits don't suffice: the rules have more than `config.rules` prefixes, or rules
 /// longer than `FIRST` bits lie in more blocks than there are groups. It refuses limits out of range, and ends
@@ -165,23 +167,23 @@ fn load_sorted<const FIRST: u32, const SECOND: u32>(
 pub fn open_sorted<const FIRST: u32, const SECOND: u32>(
     alloc: Global,
     config: Config,
-    rules: &[Rule<FIRST, SECOND>],
+    rules: Vec<Rule<FIRST, SECOND>>,
 ) -> Result<Option<(SharedTable<FIRST, SECOND>, Writer<FIRST, SECOND>, Bench)>, OpenError>
     requires shape { IsShape FIRST SECOND }
-    requires sorted { AreInOrder rules.now }
+    requires sorted { AreInOrder rules.items }
     ensures opened { IfOk result (λ o. IfSome o (λ r.
-        r.1 ≡ opens_with r.0 config (rules_of rules.now))) }
+        r.1 ≡ opens_with r.0 config (rules_of rules.entry.items))) }
     ensures token { IfOk result (λ o. IfSome o (λ r. r.0.opening.token ≡ config.first_token)) }
     ensures workers { IfOk result (λ o. IfSome o (λ r. r.0.opening.workers ≡ config.workers)) }
     ensures bench { IfOk result (λ o. IfSome o (λ r. IsFullBench r.0 r.2)) }
     ensures rests { IfOk result (λ o. IfSome o (λ r. IsAtRest r.1)) }
     ensures rules_fit { IfOk result (λ o. IfSome o (λ _.
-        map.len (rules_of rules.now) ≤ config.rules)) }
+        map.len (rules_of rules.entry.items) ≤ config.rules)) }
     ensures groups_fit { IfOk result (λ o. IfSome o (λ _.
-        groups_in_use FIRST SECOND (rules_of rules.now) ≤ config.groups)) }
+        groups_in_use FIRST SECOND (rules_of rules.entry.items) ≤ config.groups)) }
     ensures none { IfOk result (λ o. IsNone o
-        → (config.rules < map.len (rules_of rules.now))
-        ⊎ (config.groups < groups_in_use FIRST SECOND (rules_of rules.now))) }
+        → (config.rules < map.len (rules_of rules.entry.items))
+        ⊎ (config.groups < groups_in_use FIRST SECOND (rules_of rules.entry.items))) }
     ensures limits { IfOk result (λ _. IsConfig config) }
     ensures bad_config { IfErr result
         (λ error. (error ≡ OpenError.BadConfig) ↔ (¬ IsConfig config)) }
