@@ -1,5 +1,5 @@
 #!/usr/bin/env python3
-"""Checks that the manual page says what the program takes.
+"""Checks that the manual page and the completions say what the program takes.
 
     tools/check_install.py [--passed N]
 
@@ -7,9 +7,16 @@ What fails is printed, and makes the exit status 1. Checked are
 
 - options: docs/FORMATS.md and the manual page docs/man/lpmtool.1 have the options of crates/lpm_options, each with its
   range and default, the commands with their files, and the same exit statuses, and no others.
-- form: mandoc's lint has nothing to say of the manual page. This is checked only where mandoc is installed.
+- words: the completions of each shell have these commands and options, and no others.
+- completion: bash offers the options of a command that aren't given yet, as many files as the command wants, and
+  neither where a number is wanted.
+- form: mandoc's lint has nothing to say of the manual page, and zsh and fish read their completions. Each is checked
+  only where that program is installed.
+
+Not seen: what zsh and fish offer at a place.
 """
 import argparse
+import functools
 import pathlib
 import re
 import shutil
@@ -19,7 +26,27 @@ from collections import namedtuple
 
 TOP = pathlib.Path(__file__).resolve().parent.parent
 MANUAL = "docs/man/lpmtool.1"
+FOLDER = "tools/completions"
+# The completions of each shell, and how an option and a command are written there.
+SHELLS = {
+    "bash": ("lpmtool.bash", r"--(\w+)", r'commands="([a-z ]+)"'),
+    "zsh": ("_lpmtool", r"--(\w+)", r"(?m)^        '(\w+):"),
+    "fish": ("lpmtool.fish", r"complete .* -l (\w+)", r"-a (\w+) -d"),
+}
 SECONDS = 60  # for one run
+# Prints what bash offers for each line: the words, or `FILES` where it completes files by itself.
+TRY_BASH = """
+compopt() { by_itself=""; }
+source "$1"
+while IFS= read -r line; do
+    IFS=" " read -r -a COMP_WORDS <<< "$line"
+    [[ $line != *" " ]] || COMP_WORDS+=("")
+    COMP_CWORD=$((${#COMP_WORDS[@]} - 1)) by_itself=FILES
+    _lpmtool
+    echo "${COMPREPLY[*]:-$by_itself}"
+done
+complete -p lpmtool
+"""
 
 Command = namedtuple("Command", "files options")  # the names of both, in order
 
@@ -30,8 +57,8 @@ def text_of(path):
 
 def run(words, **given):
     """Runs a program; returns its status, and what it wrote on either output."""
-    ran = subprocess.run(words, timeout=SECONDS, text=True, stdin=subprocess.DEVNULL, stdout=subprocess.PIPE,
-                         stderr=subprocess.STDOUT, **given)
+    given = {"input": "", "cwd": TOP, **given}
+    ran = subprocess.run(words, timeout=SECONDS, text=True, stdout=subprocess.PIPE, stderr=subprocess.STDOUT, **given)
     return ran.returncode, ran.stdout
 
 
@@ -43,7 +70,8 @@ BODIES = dict(re.findall(r"(?ms)^(?:pub\(crate\) )?fn (\w+).*?^\{\n(.*?)^\}", SO
 
 def spelled_out(name):
     """The body of a function of the source, with the bodies of those that it calls where it calls them."""
-    return re.sub(r"\b(\w+)\(", lambda call: call[0] + (spelled_out(call[1]) if call[1] in BODIES else ""), BODIES[name])
+    return re.sub(r"\w+\(", lambda call: call[0] + (spelled_out(call[0][:-1]) if call[0][:-1] in BODIES else ""),
+                  BODIES[name])
 
 
 def commands():
@@ -58,8 +86,9 @@ def commands():
 def options():
     """Each option with the first and the last number that it takes, and its default; a flag has none."""
     places = {"": SOURCE, "Config::": text_of("crates/lpm_limits/src/config.rt")}
-    ranges = {prefix + name: (first.replace("_", ""), last.replace("_", "")) for prefix, text in places.items()
-              for name, first, last in re.findall(r"const (\w+): Range = Range \{\s*first: (\w+),\s*last: (\w+),", text)}
+    pattern = r"const (\w+): Range = Range \{\s*first: (\w+),\s*last: (\w+),"
+    ranges = {prefix + name: (first.replace("_", ""), last.replace("_", ""))
+              for prefix, text in places.items() for name, first, last in re.findall(pattern, text)}
     numbers = re.findall(r'with_number\(\s*alloc,\s*made,\s*"(\w+)",\s*([\w:]+),\s*"(\d+)"', SOURCE)
     found = {name: (*ranges[where], default) for name, where, default in numbers}
     return {**found, **dict.fromkeys(re.findall(r'with_flag\(alloc, made, "(\w+)"', SOURCE))}
@@ -104,14 +133,58 @@ def check_manual():
 
 
 def check_form():
-    status, told = run(["mandoc", "-Tlint", "-Wwarning", MANUAL], cwd=TOP)
+    status, told = run(["mandoc", "-Tlint", "-Wwarning", MANUAL])
     if status or told:
         yield f"{MANUAL}: {told}"
 
 
+# ---- the completions
+
+def check_words():
+    wanted = {"commands": {*commands(), "help"}, "options": {*options(), "help", "version"}}
+    for name, option, command in SHELLS.values():
+        text = re.sub(r"(?m)^\s*#.*", "", text_of(f"{FOLDER}/{name}"))
+        named = set(" ".join(re.findall(command, text)).split()) | {"help"}
+        for kind, got in (("commands", named), ("options", set(re.findall(option, text)))):
+            if got != wanted[kind]:
+                yield f"{FOLDER}/{name}: {kind} that are missing or gone: {sorted(got ^ wanted[kind])}"
+
+
+def lines():
+    """Command lines that end where a word is completed, each with what bash offers there."""
+    names = [*commands(), "help"]
+    found = {"lpmtool ": names, "lpmtool help ": names, "lpmtool st": ["storm"], "lpmtool -": ["--help", "--version"],
+             "lpmtool help lookup ": [], "lpmtool storm --rounds 5 --stuck --r": ["--rules"],
+             "lpmtool lookup --groups=10 --g": [], "lpmtool lookup --groups = 10 --g": [],
+             "lpmtool lookup --groups ": [], "lpmtool lookup --groups = ": [], "lpmtool lookup --groups =": [],
+             "lpmtool lookup --groups 10 - ": ["FILES"], "lpmtool lookup --groups 10 a b ": [],
+             "lpmtool apply -- --rules ": ["FILES"], "lpmtool apply -- --r": ["FILES"]}
+    for name, command in commands().items():
+        found[f"lpmtool {name} --"] = [f"--{it}" for it in (*command.options, "help")]
+        found[f"lpmtool {name}{' file' * (len(command.files) - 1)} "] = ["FILES"]
+        found[f"lpmtool {name}{' file' * len(command.files)} "] = []
+    return found
+
+
+def check_bash():
+    _, told = run(["bash", "-c", TRY_BASH, "bash", f"{FOLDER}/lpmtool.bash"], input="\n".join([*lines(), ""]))
+    *offers, registered = told.splitlines()
+    if len(offers) != len(lines()) or registered != "complete -o default -F _lpmtool lpmtool":
+        yield f"bash: {told}"
+    yield from differences("bash", {line: sorted(it) for line, it in lines().items()},
+                           {line: sorted(it.split()) for line, it in zip(lines(), offers)})
+
+
+def check_syntax(shell):
+    status, told = run([shell, "-n", f"{FOLDER}/{SHELLS[shell][0]}"])
+    if status or told:
+        yield f"{shell}: {told}"
+
+
 def checks():
-    found = [check_formats, check_manual]
-    return found + [check_form] * bool(shutil.which("mandoc"))
+    found = [check_formats, check_manual, check_words, check_bash]
+    found += [check_form] * bool(shutil.which("mandoc"))
+    return found + [functools.partial(check_syntax, shell) for shell in ("zsh", "fish") if shutil.which(shell)]
 
 
 def main():
