@@ -1,7 +1,7 @@
 #!/usr/bin/env python3
-"""Checks that the manual page and the completions say what the program takes.
+"""Checks that the manual page and the completions say what the program takes, and tools/install.sh.
 
-    tools/check_install.py [--passed N]
+    tools/check_install.py [--program PATH] [--passed N]
 
 What fails is printed, and makes the exit status 1. Checked are
 
@@ -10,21 +10,28 @@ What fails is printed, and makes the exit status 1. Checked are
 - words: the completions of each shell have these commands and options, and no others.
 - completion: bash offers the options of a command that aren't given yet, as many files as the command wants, and
   neither where a number is wanted.
+- installing: from a copy of the repository's files under a folder, the program runs and each file is in place, with
+  DESTDIR too. After --uninstall nothing is left but what was there before. Where nothing is built it says so.
 - form: mandoc's lint has nothing to say of the manual page, and zsh and fish read their completions. Each is checked
   only where that program is installed.
 
-Not seen: what zsh and fish offer at a place.
+The program that is installed is the built one, or a stand-in where none is there. Not seen: what zsh and fish offer at
+a place, and whether the shells look for their completions where these are put.
 """
 import argparse
+import contextlib
 import functools
+import os
 import pathlib
 import re
 import shutil
 import subprocess
 import sys
+import tempfile
 from collections import namedtuple
 
 TOP = pathlib.Path(__file__).resolve().parent.parent
+PROGRAM = "crates/lpmtool/out/lpmtool"
 MANUAL = "docs/man/lpmtool.1"
 FOLDER = "tools/completions"
 # The completions of each shell, and how an option and a command are written there.
@@ -65,6 +72,7 @@ def run(words, **given):
 # ---- what the program takes, by its source
 
 SOURCE = text_of("crates/lpm_options/src/commands.rt")
+VERSION = re.search(r'VERSION: &str = "([\d.]+)"', SOURCE)[1]
 BODIES = dict(re.findall(r"(?ms)^(?:pub\(crate\) )?fn (\w+).*?^\{\n(.*?)^\}", SOURCE))
 
 
@@ -181,20 +189,114 @@ def check_syntax(shell):
         yield f"{shell}: {told}"
 
 
-def checks():
-    found = [check_formats, check_manual, check_words, check_bash]
+# ---- tools/install.sh
+
+PLACES = {
+    "bin/lpmtool": PROGRAM,
+    "share/man/man1/lpmtool.1": MANUAL,
+    "share/bash-completion/completions/lpmtool": f"{FOLDER}/lpmtool.bash",
+    "share/zsh/site-functions/_lpmtool": f"{FOLDER}/_lpmtool",
+    "share/fish/vendor_completions.d/lpmtool.fish": f"{FOLDER}/lpmtool.fish",
+}
+NOTES = "share/lpmtool/folders"  # which folders were made
+
+
+@contextlib.contextmanager
+def copied(program):
+    """A new folder with `top`, a copy of what is installed, with the program or without one."""
+    with tempfile.TemporaryDirectory(prefix="check install ") as folder:
+        top = pathlib.Path(folder, "top")
+        for path in ["tools/install.sh", *PLACES.values()]:
+            (top / path).parent.mkdir(parents=True, exist_ok=True)
+            if path != PROGRAM:
+                shutil.copy(TOP / path, top / path)
+        if program and program.exists():
+            shutil.copy(program, top / PROGRAM)
+        elif program:
+            (top / PROGRAM).write_text(f"#!/bin/sh\n[ $1 = --version ] && echo lpmtool {VERSION}\n")
+        yield pathlib.Path(folder)
+
+
+def install(folder, *words, **given):
+    return run(["sh", "top/tools/install.sh", *words], cwd=folder, **given)
+
+
+def tree(folder):
+    """The files and folders under a folder."""
+    return sorted(str(path.relative_to(folder)) for path in folder.rglob("*"))
+
+
+def misplaced(root, top):
+    """What is wrong with the installed files under a folder."""
+    files = {it for it in tree(root) if not (root / it).is_dir()}
+    if files != {*PLACES, NOTES}:
+        yield f"installed are {sorted(files)}"
+        return
+    for place, path in PLACES.items():
+        mode = 0o755 if path == PROGRAM else 0o644
+        if (root / place).read_bytes() != (top / path).read_bytes() or (root / place).stat().st_mode & 0o777 != mode:
+            yield f"installed at {place} is another file, or its mode isn't {mode:o}"
+    status, told = run([root / "bin/lpmtool", "--version"])
+    if (status, told) != (0, f"lpmtool {VERSION}\n"):
+        yield f"the installed program ends with {status} and prints {told}"
+
+
+def check_round(program, is_staged):
+    """Installs twice and uninstalls, in a new folder and where another's are, in which another file comes meanwhile."""
+    for others, later in (([], []), (["bin", "share/man/man1"], ["share/zsh", "share/zsh/later"])):
+        with copied(program) as folder:
+            prefix, stage = folder / "new", f"{folder}/stage" if is_staged else ""
+            place, given = pathlib.Path(f"{stage}{prefix}"), {"env": {**os.environ, "DESTDIR": stage}}
+            for other in others:
+                (place / other).mkdir(parents=True)
+            wanted = sorted({*tree(place), *later})
+            told = [install(folder, "--prefix", "new", **given) for _ in range(2)]
+            yield from misplaced(place, folder / "top")
+            for other in later[-1:]:
+                (place / other).touch()
+            told.append(install(folder, "--prefix=new", "--uninstall", **given))
+            if any(status for status, _ in told) or tree(place) != wanted:
+                yield f"after --uninstall there is {tree(place)}, wanted {wanted}: {told}"
+            if is_staged and prefix.exists():
+                yield f"with DESTDIR there is {prefix}"
+
+
+def check_not_built():
+    with copied(None) as folder:
+        status, told = install(folder, "--prefix", "new")
+        if status != 1 or "cd crates/lpmtool && rt run -- --help" not in told or (folder / "new").exists():
+            yield f"with no program it ends with {status}: {told}{tree(folder)}"
+
+
+def check_refused_words(program):
+    for words in (["--prefix"], ["--prefix="], ["--prefix", ""], ["--uninstal"], ["--prefix", "new", "more"]):
+        with copied(program) as folder:
+            status, told = install(folder, *words)
+            if status != 2 or "usage:" not in told or (folder / "new").exists():
+                yield f"{words} ends with {status}: {told}"
+
+
+def checks(program):
+    found = [check_formats, check_manual, check_words, check_bash, check_not_built]
+    found += [functools.partial(check_round, program, is_staged) for is_staged in (False, True)]
+    found.append(functools.partial(check_refused_words, program))
     found += [check_form] * bool(shutil.which("mandoc"))
     return found + [functools.partial(check_syntax, shell) for shell in ("zsh", "fish") if shutil.which(shell)]
 
 
 def main():
     asked = argparse.ArgumentParser(description=__doc__, formatter_class=argparse.RawDescriptionHelpFormatter)
+    asked.add_argument("--program", type=pathlib.Path, default=TOP / PROGRAM, help="the program that is installed")
     asked.add_argument("--passed", type=int, default=0, metavar="N",
                        help="what the last line, `N passed, M failed`, counts as passed already")
     asked = asked.parse_args()
+    os.environ.pop("DESTDIR", None)
     passed, failed = asked.passed, 0
-    for check in checks():
-        faults = list(check())
+    for check in checks(asked.program):
+        try:
+            faults = list(check())
+        except (OSError, subprocess.TimeoutExpired) as error:
+            faults = [error]
         for fault in faults:
             print(fault)
         passed, failed = passed + (not faults), failed + bool(faults)
