@@ -1,5 +1,5 @@
 #!/usr/bin/env python3
-"""Checks that the manual page and the completions say what the program takes, and tools/install.sh.
+"""Checks that the manual page and the completions say what the program takes; tools/install.sh; and tools/lpmtool.
 
     tools/check_install.py [--program PATH] [--passed N]
 
@@ -12,6 +12,8 @@ What fails is printed, and makes the exit status 1. Checked are
   neither where a number is wanted.
 - installing: from a copy of the repository's files under a folder, the program runs and each file is in place, with
   DESTDIR too. After --uninstall nothing is left but what was there before. Where nothing is built it says so.
+- the first look: tools/lpmtool is the built program, and answers the addresses of examples/. Where nothing is built it
+  says that what follows is unproved, and hands words and files to `rt try`, of which a stand-in takes note here.
 - form: mandoc's lint has nothing to say of the manual page, and zsh and fish read their completions. Each is checked
   only where that program is installed.
 
@@ -33,6 +35,7 @@ from collections import namedtuple
 TOP = pathlib.Path(__file__).resolve().parent.parent
 PROGRAM = "crates/lpmtool/out/lpmtool"
 MANUAL = "docs/man/lpmtool.1"
+FIRST_LOOK = "tools/lpmtool"
 FOLDER = "tools/completions"
 # The completions of each shell, and how an option and a command are written there.
 SHELLS = {
@@ -201,19 +204,24 @@ PLACES = {
 NOTES = "share/lpmtool/folders"  # which folders were made
 
 
+def put_script(path, line):
+    path.write_text(f"#!/bin/sh\n{line}\n")
+    path.chmod(0o755)
+
+
 @contextlib.contextmanager
 def copied(program):
     """A new folder with `top`, a copy of what is installed, with the program or without one."""
     with tempfile.TemporaryDirectory(prefix="check install ") as folder:
         top = pathlib.Path(folder, "top")
-        for path in ["tools/install.sh", *PLACES.values()]:
+        for path in ["tools/install.sh", FIRST_LOOK, *PLACES.values()]:
             (top / path).parent.mkdir(parents=True, exist_ok=True)
             if path != PROGRAM:
                 shutil.copy(TOP / path, top / path)
         if program and program.exists():
             shutil.copy(program, top / PROGRAM)
         elif program:
-            (top / PROGRAM).write_text(f"#!/bin/sh\n[ $1 = --version ] && echo lpmtool {VERSION}\n")
+            put_script(top / PROGRAM, f"[ $1 = --version ] && echo lpmtool {VERSION}")
         yield pathlib.Path(folder)
 
 
@@ -276,10 +284,44 @@ def check_refused_words(program):
                 yield f"{words} ends with {status}: {told}"
 
 
+# ---- tools/lpmtool
+
+def check_first_look(program):
+    """What it prints from another folder, with the built program or the stand-in for it."""
+    with copied(program) as folder:
+        status, told = run(["top/" + FIRST_LOOK, "--version"], cwd=folder)
+        if (status, told) != (0, f"lpmtool {VERSION}\n"):
+            yield f"{FIRST_LOOK} --version ends with {status} and prints {told}"
+        if program.exists():
+            words = [f"top/{FIRST_LOOK}", "lookup", TOP / "examples/routes.txt", TOP / "examples/addresses.txt"]
+            if run(words, cwd=folder) != (0, text_of("examples/answers.txt")):
+                yield f"{FIRST_LOOK} doesn't answer examples/addresses.txt as examples/answers.txt has it"
+
+
+def check_unproved_look():
+    """What it hands to `rt try`, which a stand-in prints, with the folder that it is run in."""
+    with copied(None) as folder:
+        for name in ("routes.txt", "new/routes.txt", "a=b"):
+            (folder / name).parent.mkdir(exist_ok=True)
+            (folder / name).touch()
+        put_script(folder / "rt", 'pwd; printf "%s\\n" "$@"')
+        given = {"cwd": folder / "new", "env": {**os.environ, "PATH": f"{folder}:{os.environ['PATH']}"}}
+        words = ["storm", "--rounds", "5", "routes.txt", "../routes.txt", "./../a=b", "-", "none"]
+        status, told = run([folder / "top" / FIRST_LOOK, *words], **given)
+        data = [f"routes.txt={folder}/new/routes.txt", f"file5/routes.txt={folder}/routes.txt", f"file6/a-b={folder}/a=b"]
+        wanted = [f"{folder}/top/crates/lpmtool", "try", "lpmtool", *(it for name in data for it in ("--data", name)),
+                  "--", *words[:4], "file5/routes.txt", "file6/a-b", "-", "none"]
+        if status or "unproved" not in told or "rt run" not in told or told.splitlines()[2:] != wanted:
+            yield f"{FIRST_LOOK}, with nothing built, ends with {status}: {told}"
+        status, told = run([sys.executable, folder / "top" / FIRST_LOOK, "help"], env={**os.environ, "PATH": ""})
+        if not status or "the kit's rt isn't on the path" not in told:
+            yield f"{FIRST_LOOK}, with no rt on the path, ends with {status}: {told}"
+
+
 def checks(program):
-    found = [check_formats, check_manual, check_words, check_bash, check_not_built]
+    found = [check_formats, check_manual, check_words, check_bash, check_not_built, check_unproved_look]
     found += [functools.partial(check_round, program, is_staged) for is_staged in (False, True)]
-    found.append(functools.partial(check_refused_words, program))
+    found += [functools.partial(it, program) for it in (check_refused_words, check_first_look)]
     found += [check_form] * bool(shutil.which("mandoc"))
     return found + [functools.partial(check_syntax, shell) for shell in ("zsh", "fish") if shutil.which(shell)]
 
