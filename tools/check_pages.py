@@ -439,7 +439,7 @@ PLANTS = [
     Plant("crates/lpm_sweep/README.md", "`AreNumbered`", "`AreCounted`", "AreCounted"),
     Plant("crates/fib/README.md", "`groups_fit`", "`groups_match`", "groups_match"),
     Plant("crates/fib/README.md", "(`specs/Replay.antt`)", "(`specs/Again.antt`)", "no such file: specs/Again.antt"),
-    Plant("README.md", "Hop::new(2)", "Hop::of(2)", "no such call: Hop::of"),
+    Plant("crates/storm/README.md", "storm::run(", "storm::begin(", "no such call: storm::begin"),
     Plant("docs/ARCHITECTURE.md", "`Fib::delete`", "`Fib::forget`", "no such call: Fib::forget"),
 ]
 
