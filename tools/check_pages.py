@@ -17,6 +17,8 @@ Each fault is printed as `FILE:LINE: what`, and any makes the exit status 1. Che
 - crates: names in the columns of CRATES, and those behind the word crate or crates, stand in crates.txt.
 - definitions: beside a column File each name in a column Definitions stands in the files of its row, in a file that the
   row names besides, or in a crate that it names.
+- figures: each table of tools/bench.py stands in docs/BENCHMARKS.md as its data have it, and the figures are what
+  tools/plots.py draws of them.
 - calls: the last name of `A::b` is a member of a type or trait `A`, or stands in a module or crate `A`; also in blocks
   of rust.
 - names: those in the columns of NAMES, and in prose those with an underscore or with two capitals (`IsStorm`), are
@@ -40,8 +42,13 @@ import sys
 import tempfile
 from collections import namedtuple
 
+sys.dont_write_bytecode = True
+import bench
+import plots
+
 TOP = pathlib.Path(__file__).resolve().parent.parent
 PROGRAM = TOP / "crates/lpmtool/out/lpmtool"
+BENCHMARKS = "docs/BENCHMARKS.md"
 SECONDS = 60  # for the commands of one block
 END = "---- what the command before printed ends here"
 CRATES = {"Crate"}
@@ -397,6 +404,18 @@ def check_calls(page):
             yield Fault(page.path, line, f"no such call: {call}")
 
 
+def check_figures(page):
+    if page.path != BENCHMARKS:
+        return
+    for name in bench.COMMANDS:
+        if bench.table(name) not in page.text:
+            yield Fault(page.path, 1, f"not the table that `tools/bench.py {name} --show` prints")
+    for name, plot in plots.FIGURES.items():
+        path = bench.DATA / f"{name}.svg"
+        if not path.exists() or path.read_text() != plots.drawn(plot()):
+            yield Fault(page.path, 1, f"not the figure that tools/plots.py draws: {name}.svg")
+
+
 def is_telling(word):
     """Whether a word in prose can only be a name: with an underscore, or with two capitals and small letters."""
     return "_" in word.strip("_") or bool(re.fullmatch(r"(?:[A-Z][a-z0-9]+){2,}\w*", word))
@@ -416,7 +435,7 @@ def check_names(page):
 def faults(page, program):
     """All faults of a page. Without a program nothing is run."""
     runs = check_runs(page, program) if program else []
-    checks = (check_links, check_paths, check_crates, check_files, check_calls, check_names)
+    checks = (check_links, check_paths, check_crates, check_files, check_figures, check_calls, check_names)
     return [*runs, *(fault for check in checks for fault in check(page))]
 
 
@@ -440,6 +459,8 @@ PLANTS = [
     Plant("crates/fib/README.md", "`groups_fit`", "`groups_match`", "groups_match"),
     Plant("crates/fib/README.md", "(`specs/Replay.antt`)", "(`specs/Again.antt`)", "no such file: specs/Again.antt"),
     Plant("crates/storm/README.md", "storm::run(", "storm::begin(", "no such call: storm::begin"),
+    Plant("docs/BENCHMARKS.md", "| 1,000,000 |", "| 1,000,001 |", "not the table that `tools/bench.py job"),
+    Plant("docs/BENCHMARKS.md", "figures/job.svg", "figures/jobs.svg", "leads to no file: figures/jobs.svg"),
     Plant("docs/ARCHITECTURE.md", "`Fib::delete`", "`Fib::forget`", "no such call: Fib::forget"),
 ]
 
