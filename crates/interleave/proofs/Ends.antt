@@ -1,26 +1,20 @@
 -- A whole run: from the opening to what it shows.
-use Rattle.std.proofs.Common.{◌≡◌, ℕ, refl, ap, sym, subst, ◌∙◌, List, [], ◌++◌, length, map, reverse}
+use Rattle.std.proofs.Common.{◌≡◌, ℕ, refl, ap, sym, subst, ◌∙◌, List, [], ◌++◌, length, reverse}
 use Rattle.std.specs.FinMap.{empty}
 use Rattle.lpm_rules.specs.RuleMap.{RuleMap, network_cmp}
-use Rattle.lpm_limits.specs.Limits.{IsConfig}
 use Rattle.lpm_limits.specs.declared.config.Config.{Config}
 use Rattle.lpm_rules.specs.declared.Change.{Change}
 use Rattle.lpm_trace.specs.declared.kind.Actor.{Actor}
 use Rattle.lpm_trace.specs.declared.kind.Deed.{Deed}
 use Rattle.lpm_trace.specs.declared.step.WriterStep.{WriterStep}
-use Rattle.lpm_trace.specs.declared.step.TraceStep.TheVariants.{Writer}
 use Rattle.lpm_trace.specs.Trace.{writes}
-use Rattle.world_memory.specs.Runs.{seen_of}
 use Rattle.world_memory.specs.Schedule.{HasEnded, IsScheduled, writer_items}
 use Rattle.world_memory.specs.View.{script_at}
 use Rattle.world_memory.specs.World.{IsOpening, IsPlayedOut}
-use Rattle.world_memory.proofs.Seeing.{seen_finished}
 use Rattle.lpm_writer.specs.Opening.{opening_setup}
-use Rattle.lpm_writer.proofs.Opened.{settled}
 use Rattle.interleave.specs.declared.trace.Trace.{Trace}
 use Rattle.interleave.specs.Replies.{Kept}
 use Rattle.interleave.specs.Runs.{IsPerformed, IsRun, opening_kept}
-use Rattle.interleave.proofs.Lawful.{lawful, older_trace}
 
 pub opens : (f s : ℕ) (config : Config) (workers : ℕ) → workers ≡ config.workers → IsOpening f s config.groups workers config.first_token (opening_setup f s config)
 opens f s config workers as_many = record {
@@ -39,14 +33,13 @@ nothing_yet rules limbo begun r l b =
     ∙ ap {B = Kept} (λ x. record { rules = empty {R = network_cmp}; readers = []; limbo = x; begun = begun }) l
     ∙ ap {B = Kept} (λ x. record { rules = empty {R = network_cmp}; readers = []; limbo = []; begun = x }) b
 
-pub run_ends : (f s : ℕ) (config : Config) → IsConfig config → (script : List (Change f s)) (scripts : List (List Deed)) → length scripts ≡ config.workers → (schedule : List Actor)
+pub run_ends : (f s : ℕ) (config : Config) (script : List (Change f s)) (scripts : List (List Deed)) → length scripts ≡ config.workers → (schedule : List Actor)
     (steps : List WriterStep) (shown : Trace)
     → IsPerformed (opening_setup f s config) f s config (writer_items schedule) opening_kept script shown.replies.items steps
     → IsPlayedOut (opening_setup f s config) scripts schedule steps shown.steps.items shown.lookups.items
     → IsRun f s config script (script_at scripts) schedule shown
-run_ends f s config limits script scripts as_many schedule steps shown performed played =
+run_ends f s config script scripts as_many schedule steps shown performed played =
     let c = opening_setup f s config in
-    let start = settled f s config limits in
     record {
       steps = played.trace;
       beyond = played.beyond;
@@ -60,6 +53,4 @@ run_ends f s config limits script scripts as_many schedule steps shown performed
           (subst (λ xs. IsScheduled (HasEnded (length scripts) (script_at scripts) (λ earlier. writes earlier ≡ xs)) (reverse schedule) played.trace) played.split played.made);
       shows_steps = played.shown;
       shows_lookups = played.finished;
-      shows_finished = λ worker. ap (seen_of worker) played.finished ∙ seen_finished worker played.trace;
-      lawful = lawful c played.trace start (older_trace c (map Writer played.beyond) played.trace played.may_come);
     }

@@ -12,7 +12,7 @@ use Rattle.world_memory.specs.Schedule.{writer_items}
 use Rattle.world_memory.specs.View.{WorldView}
 use Rattle.world_memory.specs.World.{WorldDid, Reaches, setting}
 use Rattle.interleave.specs.declared.reply.Reply.{Reply}
-use Rattle.interleave.specs.Replies.{Kept, HasTokensLeft, Waits, Answers, kept}
+use Rattle.interleave.specs.Replies.{Kept, HasTokensLeft, Waits, Answers, IsAtRest, kept}
 use Rattle.interleave.specs.Runs.{IsPerformed}
 use Rattle.interleave.proofs.Performing.{HasPerformed, performed_none, performed_more, performed_all, performed_before, performed_within, waits_longer}
 
@@ -25,6 +25,15 @@ module _ (f s : ℕ) where
 
   abbrev pub kept_in : Ledger f s → List WriterStep → Kept
   kept_in l steps = kept l.rules steps l.books l.versions
+
+  -- a ledger that rests is at rest by the steps that it has made
+  pub at_rest : (c : Setup) (steps : List WriterStep) (l : Ledger f s) → Rests c steps l → IsAtRest f s c (kept_in l steps)
+  at_rest c steps l rests = record {
+    begun = rests.versions;
+    rules = rests.version;
+    represents = rests.represents;
+    limbo = is_limbo c (tables c steps) l.books.groups l.books.queue.items rests.keeps.kept;
+  }
 
   -- from m0 and l0 these changes were answered so, which led to m and l
   abbrev pub HasAnswered : WorldView → Ledger f s → List (Change f s) → List Reply → WorldView → Ledger f s → Type 0
@@ -100,7 +109,7 @@ module _ (f s : ℕ) where
             now.1,
             now.2,
             performed_more c f s l0.config n (kept_in l0 []) done replies (kept_in l h.0) change reply (kept_in l' now.0) h.3 (low c h.0 h.1) high
-                (subst (λ x. Answers c f s x (kept_in l h.0) change reply (kept_in l' now.0)) config now.3, (now.2.version, now.2.versions), is_limbo c (tables c now.0) l'.books.groups l'.books.queue.items now.2.keeps.kept),
+                (subst (λ x. Answers c f s x (kept_in l h.0) change reply (kept_in l' now.0)) config now.3, at_rest c now.0 l' now.2),
           )
         where
           not_true : false ≡ true → ⊥
@@ -114,7 +123,7 @@ module _ (f s : ℕ) where
             now.0,
             now.1,
             performed_within c f s l0.config n (kept_in l0 []) done left replies (kept_in l h.0) change now.0 h.3 (low c h.0 h.1) over
-                (inl (reply, kept_in l' now.0, (subst (λ x. Answers c f s x (kept_in l h.0) change reply (kept_in l' now.0)) config now.3, (now.2.version, now.2.versions), is_limbo c (tables c now.0) l'.books.groups l'.books.queue.items now.2.keeps.kept), refl)),
+                (inl (reply, kept_in l' now.0, (subst (λ x. Answers c f s x (kept_in l h.0) change reply (kept_in l' now.0)) config now.3, at_rest c now.0 l' now.2), refl)),
           )
 
       pub ends_waiting : n ≤ tries → HasCome y l change tries None m' l' → HasEnded m0 l0 (done ++ change ∷ left) replies m'

@@ -1,2 +1,3 @@
 pub mod Replies
+pub mod Laws
 pub mod Runs

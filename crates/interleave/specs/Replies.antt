@@ -9,6 +9,7 @@ use Rattle.lpm_rules.specs.declared.Change.TheVariants.{Add, Delete, Flush, Recl
 use Rattle.lpm_trace.specs.declared.step.WriterStep.{WriterStep}
 use Rattle.lpm_trace.specs.declared.step.WriterStep.TheVariants.{BumpToken}
 use Rattle.lpm_trace.specs.Tables.{Setup, tables, done}
+use Rattle.lpm_update.specs.Represents.{Represents}
 use Rattle.fib_model.specs.State.{State}
 use Rattle.fib_model.specs.Outcomes.{Adds, Deletes, Flushes, Frees}
 use Rattle.lpm_rules.specs.RuleMap.{RuleList}
@@ -36,10 +37,14 @@ next_token c steps = suc ((tables c steps).token)
 abbrev pub Waits : Setup → ℕ → List WriterStep → List WriterStep → Type 0
 Waits c n x z = AreStopped AnyMemory c n (steps_alone (BumpToken ∷ x)) (next_token c x) (steps_alone z)
 
--- the rules are those of the last version that the steps made, and each update that was begun is done
-abbrev pub IsUpToDate : Setup → Kept → Type 0
-IsUpToDate c s = ((tables c s.readers).history (done (tables c s.readers)) ≡ s.rules)
-    × (s.begun ≡ done (tables c s.readers))
+-- what a writer keeps between its changes is what its steps say: each update that was begun is done,
+-- the rules are those of the last version, the words represent them (so the groups linked are the
+-- blocks of rules longer than f bits), and these groups wait in limbo
+pub record IsAtRest (f g : ℕ) (c : Setup) (s : Kept) : Type 0 where
+  pub begun : s.begun ≡ done (tables c s.readers)
+  pub rules : (tables c s.readers).history (done (tables c s.readers)) ≡ s.rules
+  pub represents : Represents f g s.rules (tables c s.readers).words
+  pub limbo : IsLimbo c (tables c s.readers) s.limbo
 
 -- there are tokens for all groups; a synchronize takes no version
 abbrev pub HasTokensLeft : Setup → Config → Kept → Type 0
@@ -65,5 +70,4 @@ Answers c f g config s change reply z = ⊥
 -- the change came out so, and what is kept then is what the steps say
 abbrev pub CameOut : Setup → (first second : ℕ) → Config → Kept → Change first second → Reply → Kept
     → Type 0
-CameOut c f g config s change reply z = Answers c f g config s change reply z
-    × IsUpToDate c z × IsLimbo c (tables c z.readers) z.limbo
+CameOut c f g config s change reply z = Answers c f g config s change reply z × IsAtRest f g c z

@@ -1,9 +1,8 @@
--- Meaning: traces of one writer's changes and of workers' deeds, what holds of them, and a run of the pure
--- world by a schedule (DPDK Programmer's Guide, "LPM Library" and "RCU Library", for the groups in limbo;
--- this project's otherwise).
-use Rattle.std.specs.Prelude.{ℕ, ◌≡◌, ◌≢◌, ◌<◌, ◌≤◌, ◌⊎◌, All, List, [], ◌∷◌, ◌++◌, length, map, reverse}
+-- Meaning: a run of the pure world: a trace of the writer's changes and of the workers' deeds by a
+-- schedule, with its outcomes and its lookups (DPDK Programmer's Guide, "LPM Library" and "RCU
+-- Library", for the groups in limbo; this project's otherwise). What holds of every trace is in `Laws`.
+use Rattle.std.specs.Prelude.{ℕ, ◌≡◌, ◌≢◌, ◌<◌, ◌≤◌, ◌⊎◌, List, [], ◌∷◌, ◌++◌, length, map, reverse}
 use Rattle.std.specs.FinMap.{empty}
-use Rattle.reader_intervals.specs.Intervals.{Interval, IsReaderInterval, Holds}
 use Rattle.lpm_limits.specs.declared.config.Config.{Config}
 use Rattle.lpm_limits.specs.Limits.{IsConfig}
 use Rattle.lpm_rules.specs.declared.Change.{Change}
@@ -13,16 +12,17 @@ use Rattle.lpm_trace.specs.declared.kind.Deed.{Deed}
 use Rattle.lpm_trace.specs.declared.step.WriterStep.{WriterStep}
 use Rattle.lpm_trace.specs.declared.step.TraceStep.{TraceStep}
 use Rattle.lpm_trace.specs.declared.step.TraceStep.TheVariants.{Writer}
-use Rattle.lpm_trace.specs.Tables.{Setup, addresses, answer, IsAnswer, done, begun}
+use Rattle.lpm_trace.specs.Tables.{Setup, IsSettled}
 use Rattle.lpm_trace.specs.Trace.{IsTrace, writes, worker_of}
-use Rattle.lpm_trace.specs.Laws.{Stands, version_at, IsLegal, IsMonotone, Unlinks, Fills, by_steps, at_moment, rules_of_version}
+use Rattle.world_workers.specs.declared.seen.Seen.{Seen}
 use Rattle.world_workers.specs.Shown.{seen_by}
 use Rattle.world_memory.specs.Runs.{all_shown, all_seen, seen_of}
 use Rattle.world_memory.specs.Schedule.{HasEnded, IsScheduled, AreScripted, writer_items}
 use Rattle.lpm_writer.specs.Opening.{opening_setup}
 use Rattle.interleave.specs.declared.reply.Reply.{Reply}
 use Rattle.interleave.specs.declared.trace.Trace.{Trace}
-use Rattle.interleave.specs.Replies.{Kept, HasTokensLeft, Waits, CameOut}
+use Rattle.interleave.specs.Replies.{Kept, HasTokensLeft, Waits, CameOut, IsAtRest}
+use Rattle.interleave.specs.Laws.{IsLawful}
 
 -- ---- the writer's script
 
@@ -86,41 +86,6 @@ pub record IsTraceOf (f g : ℕ) (config : Config) (script : List (Change f g))
   pub performed : IsPerformed (opening_setup f g config) f g config n opening_kept script replies
       (beyond ++ writes steps)
 
--- ---- what holds of a trace
-
--- no reader interval holds both a step that unlinks a group and a later store into it
-abbrev pub ReusesLawfully : Setup → List TraceStep → Type 0
-ReusesLawfully c steps = (newer between older : List TraceStep) (unlinks fills : WriterStep) (group : ℕ)
-    → steps ≡ newer ++ Writer fills ∷ (between ++ Writer unlinks ∷ older)
-    → Unlinks c older unlinks group → Fills c fills group
-    → (i : Interval) → IsReaderInterval by_steps steps i
-    → Holds i (length older) → ¬ Holds i (length (between ++ Writer unlinks ∷ older))
-
--- at each moment at which no update runs, the words answer by the rules of the last version
-abbrev pub RestsSettled : Setup → List TraceStep → Type 0
-RestsSettled c steps = (t : ℕ) → done (at_moment c steps t) ≡ begun (at_moment c steps t)
-    → (a : ℕ) → a < addresses c
-    → IsAnswer c (rules_of_version c steps (done (at_moment c steps t))) a
-    (answer c (at_moment c steps t).words a)
-
--- each finished lookup is legal, and answers by the version that its address shows at a moment of its
--- span; that version stands, and never falls; reuse is lawful; and at rest the words answer by the last
--- version
-pub record IsLawful (c : Setup) (steps : List TraceStep) : Type 0 where
-  pub legal : (worker : ℕ) → All (IsLegal c steps) (worker_of worker steps).finished
-  pub monotone : (worker : ℕ) → All (IsMonotone c steps) (worker_of worker steps).finished
-  pub versions : (a t u : ℕ) → t ≤ u → Stands c steps t (version_at c steps a t)
-      × (version_at c steps a t ≤ version_at c steps a u)
-  pub reuse : ReusesLawfully c steps
-  pub rest : RestsSettled c steps
-
--- each trace of changes and deeds is lawful, with limits in range
-abbrev pub TracesAreLawful : Type 0
-TracesAreLawful = (f g : ℕ) (config : Config) (script : List (Change f g)) (scripts : ℕ → List Deed)
-    (n : ℕ) (replies : List Reply) (beyond : List WriterStep) (steps : List TraceStep)
-    → IsConfig config → IsTraceOf f g config script scripts n replies beyond steps
-    → IsLawful (opening_setup f g config) steps
-
 -- ---- the run
 
 -- a trace was made by these scripts and this schedule, and that is what the run shows of it
@@ -129,6 +94,7 @@ pub record IsRun (f g : ℕ) (config : Config) (script : List (Change f g))
   -- the steps of the run, and those that the writer's last change still needs, the newest first
   pub steps : List TraceStep
   pub beyond : List WriterStep
+  -- they are a trace of these changes and deeds, and each reply is what came of its change
   pub trace : IsTraceOf f g config script scripts (writer_items schedule) shown.replies.items beyond
       steps
   -- the writer was cut short by the schedule's end alone; this follows from `scheduled`, too
@@ -137,9 +103,28 @@ pub record IsRun (f g : ℕ) (config : Config) (script : List (Change f g))
   pub scheduled : IsScheduled
       (HasEnded config.workers scripts (λ earlier. writes earlier ≡ beyond ++ writes steps))
       (reverse schedule) steps
+  -- each step, and each finished lookup and no other
   pub shows_steps : shown.steps.items ≡ all_shown (opening_setup f g config) steps
   pub shows_lookups : shown.lookups.items ≡ all_seen steps
-  -- of each worker these are the lookups that it has finished, and no others
-  pub shows_finished : (worker : ℕ) → seen_of worker shown.lookups.items
-      ≡ reverse (map (seen_by worker) (worker_of worker steps).finished)
-  pub lawful : IsLawful (opening_setup f g config) steps
+
+-- ---- what holds of a run
+
+-- of each worker the lookups shown are those that it has finished, and no others, in order
+abbrev pub ShowsFinished : List TraceStep → List Seen → Type 0
+ShowsFinished steps lookups = (worker : ℕ) → seen_of worker lookups
+    ≡ reverse (map (seen_by worker) (worker_of worker steps).finished)
+
+-- a table that was just opened with limits in range is one that traces begin with, and is at rest
+abbrev pub OpeningsAreSettled : Type 0
+OpeningsAreSettled = (f g : ℕ) (config : Config) → IsConfig config
+    → IsSettled (opening_setup f g config) × IsAtRest f g (opening_setup f g config) opening_kept
+
+-- the steps of each run are lawful, it shows what its workers have finished, and after the last change
+-- that was answered the table is at rest: the groups linked are the blocks of its rules
+abbrev pub RunsAreLawful : Type 0
+RunsAreLawful = (f g : ℕ) (config : Config) (script : List (Change f g)) (scripts : ℕ → List Deed)
+    (schedule : List Actor) (shown : Trace) → IsConfig config
+    → (run : IsRun f g config script scripts schedule shown)
+    → IsLawful (opening_setup f g config) run.steps
+    × ShowsFinished run.steps shown.lookups.items
+    × IsAtRest f g (opening_setup f g config) run.trace.performed.last

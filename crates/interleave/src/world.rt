@@ -29,6 +29,9 @@ impl<const FIRST: u32, const SECOND: u32> World<FIRST, SECOND> {
     /// its actor. An actor that is done makes none, and neither does a worker that isn't there. A change
     /// without steps is answered at the writer's next item.
     ///
+    /// The steps are a trace of these changes and deeds; the rest of the result is what came of the
+    /// changes, and the finished lookups. [`laws`](crate::laws) says what holds of every trace.
+    ///
     /// There are as many scripts as the limits say workers, and `script_ok` takes each. It refuses limits
     /// out of range, and ends with `Memory` where there is no room for the table, the rules or what the
     /// run shows.

@@ -52,5 +52,5 @@ returns-clause-runs g c =
     let out' = subst (λ x. IsPlayedOut opening scripts x done.0 z.steps z.seen) schedule_is out in
     let out'' = subst (λ x. IsPlayedOut opening scripts schedule done.0 x z.seen) (sym c.into_record-steps.ensures.steps) out' in
     let out3 = subst (λ x. IsPlayedOut opening scripts schedule done.0 c.into_record-steps.result.0.items x) (sym c.into_record-steps.ensures.seen) out'' in
-    run_ends f s config told.in_range c.args.changes.now scripts (length-map c.args.scripts.now (λ script. script.items) ∙ c.requires.workers) schedule done.0
+    run_ends f s config c.args.changes.now scripts (length-map c.args.scripts.now (λ script. script.items) ∙ c.requires.workers) schedule done.0
     (record { steps = c.into_record-steps.result.0; replies = c.in_ok-replies.replies; lookups = c.into_record-steps.result.1 }) performed'' out3
