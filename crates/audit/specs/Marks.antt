@@ -2,6 +2,7 @@
 use Rattle.std.specs.Prelude.{ℕ, ◌+◌, ◌↔◌, ⊤, Bool, List, IsTrue}
 use Rattle.std.specs.List.{AllZip}
 use Rattle.lpm_bits.specs.Network.{Covers}
+use Rattle.lpm_rules.specs.RuleMap.{RuleMap}
 use Rattle.lpm_rules.specs.declared.Answer.{Answer}
 use Rattle.lpm_rules.specs.declared.Change.{Change}
 use Rattle.lpm_rules.specs.declared.Change.TheVariants.{Add, Delete, Flush, Reclaim, Synchronize}
@@ -16,7 +17,7 @@ Touches a (Reclaim n) = ⊥
 Touches a Synchronize = ⊥
 
 -- each mark says whether a version explains the answer at its place
-abbrev pub AreMarks : {first second : ℕ} → List (Change first second) → List (ℕ × Answer)
+abbrev pub AreMarks : {first second : ℕ} → RuleMap → List (Change first second) → List (ℕ × Answer)
     → List Bool → Type 0
-AreMarks history answers marks =
-    AllZip (λ x mark. IsTrue mark ↔ IsOfSomeVersion history x) answers marks
+AreMarks R history answers marks =
+    AllZip (λ x mark. IsTrue mark ↔ IsOfSomeVersion R history x) answers marks

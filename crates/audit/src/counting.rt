@@ -1,6 +1,7 @@
 //! How many answers of lookups no version of the rules explains.
 
-ghost use Rattle.std.specs.Prelude.{ℕ, ◌≡◌, ◌+◌, ◌^◌, ◌<◌, ◌≤◌, ◌↔◌, IfOk, IsTrue, All, length, not, count_by};
+ghost use Rattle.std.specs.Prelude.{ℕ, ◌≡◌, ◌+◌, ◌^◌, ◌<◌, ◌≤◌, ◌↔◌, IfOk, IsTrue, All, length, not, count_by, drop};
+ghost use Rattle.std.specs.FinMap as map;
 ghost use Rattle.lpm_rules.specs.Longest.{IsLongestHop};
 ghost use Rattle.audit.specs.Wrong.{version_of, IsOfSomeVersion, AreWrong};
 ghost use Rattle.audit.specs.Marks.{Touches, AreMarks};
@@ -56,56 +57,71 @@ impl<'a, const FIRST: u32, const SECOND: u32> Past<'a, FIRST, SECOND> {
         false
     }
 
-    // Whether a version explains the answer for an address.
-    fn explains(&self, addr: u32, answer: &Answer) -> bool
-        requires { addr < 2 ^ (FIRST + SECOND) }
-        ensures { IsTrue result ↔ IsOfSomeVersion self.now (addr, answer.now) }
+    // Whether a version from `start` on explains the answer for an address. It counts its versions from there.
+    fn explains(&self, start: usize, addr: u32, answer: &Answer) -> bool
+        requires start { start ≤ length self.now }
+        requires addr { addr < 2 ^ (FIRST + SECOND) }
+        ensures { IsTrue result ↔ IsOfSomeVersion (version_of self.now start) (drop start self.now)
+            (addr, answer.now) }
     {
-        let versions = self.history().len();
+        let versions = self.history().len() - start;
         if answer.lo > versions as u64 {
             return false;
         }
         let last = answer.hi.min(versions as u64);
-        self.some_gives(addr, answer, answer.lo as usize, last as usize)
+        self.some_gives(
+            addr,
+            answer,
+            start + answer.lo as usize,
+            start + last as usize,
+        )
     }
 
-    // For each answer whether a version explains it.
+    // For each answer whether a version from `start` on explains it.
     fn marks<R: Threads + Sync>(
         &self,
         rt: &R,
         alloc: Global,
+        start: usize,
         answers: &[(u32, Answer)],
     ) -> Result<Vec<bool>, AllocError>
-        requires { All (λ x. x.0 < 2 ^ (FIRST + SECOND)) answers.now }
-        ensures { IfOk result (λ v. AreMarks self.now answers.now v.items) }
+        requires start { start ≤ length self.now }
+        requires addrs { All (λ x. x.0 < 2 ^ (FIRST + SECOND)) answers.now }
+        ensures { IfOk result (λ v. AreMarks (version_of self.now start) (drop start self.now)
+            answers.now v.items) }
     {
         answers
             .par_iter()
             .map(
                 |x: &(u32, Answer)| -> bool
-                    requires { x.now.0 < 2 ^ (FIRST + SECOND) }
-                    ensures { IsTrue result ↔ IsOfSomeVersion self.entry.now x.now }
-                { self.explains(x.0, &x.1) },
+                    requires start { start ≤ length self.now }
+                    requires addr { x.now.0 < 2 ^ (FIRST + SECOND) }
+                    ensures { IsTrue result ↔ IsOfSomeVersion (version_of self.entry.now start)
+                        (drop start self.entry.now) x.now }
+                { self.explains(start, x.0, &x.1) },
             )
             .collect(rt, alloc)
     }
 
-    /// How many of the answers are wrong: those that no version of the history explains.
+    /// How many of the answers are wrong: those that no version of the history from `start` on explains.
     ///
     /// Each answer is for its address, and may be of a version from `lo` to `hi`, of those that the
-    /// history has. The answers are looked at on as many threads as there are processors.
+    /// history has. It counts them from version `start` of the history, which is its version 0. The answers
+    /// are looked at on as many threads as there are processors.
     ///
     /// `AllocError` comes where room for a mark an answer is refused.
     pub fn count_wrong<R: Threads + Sync>(
         &self,
         rt: &R,
         alloc: Global,
+        start: usize,
         answers: &[(u32, Answer)],
     ) -> Result<u64, AllocError>
-        requires { All (λ x. x.0 < 2 ^ (FIRST + SECOND)) answers.now }
-        ensures { IfOk result (AreWrong self.now answers.now) }
+        requires start { start ≤ length self.now }
+        requires addrs { All (λ x. x.0 < 2 ^ (FIRST + SECOND)) answers.now }
+        ensures { IfOk result (AreWrong (version_of self.now start) (drop start self.now) answers.now) }
     {
-        let marks = self.marks(rt, alloc, answers)?;
+        let marks = self.marks(rt, alloc, start, answers)?;
         Ok(count_false(&marks))
     }
 }
@@ -130,8 +146,8 @@ pub fn wrong<R: Threads + Sync, const FIRST: u32, const SECOND: u32>(
     answers: &[(u32, Answer)],
 ) -> Result<u64, AllocError>
     requires { All (λ x. x.0 < 2 ^ (FIRST + SECOND)) answers.now }
-    ensures { IfOk result (AreWrong history.now answers.now) }
+    ensures { IfOk result (AreWrong map.empty history.now answers.now) }
 {
     let past = Past::new(alloc, history)?;
-    past.count_wrong(rt, alloc, answers)
+    past.count_wrong(rt, alloc, 0, answers)
 }
