@@ -1,6 +1,5 @@
 -- The versions of the writer are those of the accepted changes.
 use Rattle.std.proofs.Common.{arith, ◌≡◌, ◌+◌, ◌≤◌, ℕ, zero, suc, inl, inr, refl, ap, ◌∙◌, sym, subst, List, [], ◌∷◌, ◌++◌, length, length-append}
-use Rattle.std.specs.FinMap.{empty}
 use Rattle.std.proofs.lemmas.Bool.{cases_lt}
 use Rattle.std.proofs.lemmas.List.{take-append-le, take_all}
 use Rattle.lpm_limits.specs.declared.config.Config.{Config}
@@ -21,13 +20,14 @@ use Rattle.lpm_trace.specs.declared.step.WriterStep.{WriterStep}
 use Rattle.lpm_trace.specs.Tables.{Setup, Tables, begun, tables}
 use Rattle.lpm_trace.specs.Workers.{Seen}
 use Rattle.lpm_trace.proofs.Traces.{begun_grows}
-use Rattle.lpm_writer.specs.Opening.{opening_setup}
+use Rattle.lpm_writer.specs.Making.{HasWidths}
 use Rattle.shared_words.specs.Rule.{IsLater}
 use Rattle.shared_fib.specs.Running.{Identity, IsAtRest, WriterState, left_by, opens_with, setup, steps_of}
 use Rattle.running_laws.proofs.Backwards.{versions_stay}
-use Rattle.audit.specs.Wrong.{IsOfSomeVersion, version_of}
+use Rattle.audit.specs.Wrong.{IsOfSomeVersion, version_from}
 use Rattle.storm.specs.Changing.{HasVersions, IsForWriter, by_own_steps, change_by}
 use Rattle.storm.specs.Looking.{IsOfAStandingVersion, answer_of}
+use Rattle.storm.specs.Storm.{Settles}
 use Rattle.storm.proofs.Later.{command_later, steps_go_on}
 
 -- ---- one command
@@ -81,31 +81,36 @@ comes {X} k f g c s z (command.Reclaim max) (outcome.Reclaimed r) mine d =
 comes k f g c s z (command.Reclaim max) other mine d = absurd d
 comes k f g c s z (command.Report report w) out mine d = absurd mine
 
+-- settling makes no version
+pub settled_versions : (id : Identity) (last end : WriterState) → Settles id last end → end.table.begun ≡ last.table.begun
+settled_versions id last end settled =
+    ap (λ (x : State (List WriterStep)). x.begun) settled.frees.1 ∙ ap (λ (w : WriterState). w.table.begun) settled.same
+
 -- ---- the versions, command by command
 
 module _ (f g : ℕ) where
-  pub versions_none : (id : Identity) (config : Config) → setup id ≡ opening_setup f g config
-      → HasVersions {first = f} {second = g} (opens_with id config empty) []
-  versions_none id config opening = record {
+  pub versions_none : (id : Identity) (config : Config)
+      → HasVersions {first = f} {second = g} id.opening.rules (opens_with id config id.opening.rules) []
+  versions_none id config = record {
     count = refl;
     begun = refl;
     rules = refl;
-    each = λ k low. ap (λ (c : Setup). c.rules) opening ∙ sym (ap (rules_after empty) (take_all k [] (omega arith)));
+    each = λ k low. sym (ap (λ (l : List (Change f g)). rules_after id.opening.rules l) (take_all k [] (omega arith)));
   }
 
   -- the rules after all changes are those of the last version
-  all_changes : (changes : List (Change f g)) (k : ℕ) → length changes ≤ k → version_of changes k ≡ rules_after empty changes
-  all_changes changes k le = ap (rules_after empty) (take_all k changes le)
+  all_changes : (R : RuleMap) (changes : List (Change f g)) (k : ℕ) → length changes ≤ k → version_from R changes k ≡ rules_after R changes
+  all_changes R changes k le = ap (rules_after R) (take_all k changes le)
 
-  module _ (id : Identity) (w z : WriterState) (before change : List (Change f g)) (has : HasVersions w before)
+  module _ (R : RuleMap) (id : Identity) (w z : WriterState) (before change : List (Change f g)) (has : HasVersions R w before)
       (own : w.identity ≡ id) (own' : z.identity ≡ id) (later : IsLater (steps_of w) (steps_of z)) (rests : IsAtRest z)
       (came : Comes w.table z.table change) where
     count_now : z.table.begun ≡ length (before ++ change)
     count_now = let e : z.table.begun ≡ w.table.begun + length change = came.begun in omega (arith, e, has.count, length-append before change)
 
-    rules_now : z.table.rules ≡ rules_after empty (before ++ change)
+    rules_now : z.table.rules ≡ rules_after R (before ++ change)
     rules_now =
-        came.rules ∙ (ap (λ (R : RuleMap). rules_after R change) has.rules ∙ sym (rules_after-append f g empty before change))
+        came.rules ∙ (ap (λ (Q : RuleMap). rules_after Q change) has.rules ∙ sym (rules_after-append f g R before change))
 
     -- the table's state after the steps before, whichever of its names is used
     left_before : left_by w ≡ tables (setup id) (steps_of w)
@@ -114,21 +119,21 @@ module _ (f g : ℕ) where
     left_now : left_by z ≡ tables (setup id) (steps_of z)
     left_now = ap (λ (i : Identity). tables (setup i) (steps_of z)) own'
 
-    old_version : (k : ℕ) → k ≤ length before → (left_by z).history k ≡ version_of (before ++ change) k
+    old_version : (k : ℕ) → k ≤ length before → (left_by z).history k ≡ version_from R (before ++ change) k
     old_version k low =
         let begun_k : k ≤ begun (tables (setup id) (steps_of w)) =
         subst (λ (t : Tables). k ≤ begun t) left_before (omega (arith, low, has.begun)) in
         ap (λ (t : Tables). t.history k) left_now
         ∙ (versions_stay (setup id) (steps_of w) (steps_of z) k later begun_k
         ∙ (ap (λ (t : Tables). t.history k) (sym left_before)
-        ∙ (has.each k low ∙ sym (ap (rules_after empty) (take-append-le k before change low)))))
+        ∙ (has.each k low ∙ sym (ap (rules_after R) (take-append-le k before change low)))))
 
-    new_version : (k : ℕ) → k ≡ z.table.begun → (left_by z).history k ≡ version_of (before ++ change) k
+    new_version : (k : ℕ) → k ≡ z.table.begun → (left_by z).history k ≡ version_from R (before ++ change) k
     new_version k here =
         ap (λ (n : ℕ). (left_by z).history n) here
-        ∙ (rests.rules ∙ (rules_now ∙ sym (all_changes (before ++ change) k (omega (arith, here, count_now)))))
+        ∙ (rests.rules ∙ (rules_now ∙ sym (all_changes R (before ++ change) k (omega (arith, here, count_now)))))
 
-    versions_more : HasVersions z (before ++ change)
+    versions_more : HasVersions R z (before ++ change)
     versions_more = record {
       count = count_now;
       begun = rests.begun ∙ count_now;
@@ -139,36 +144,36 @@ module _ (f g : ℕ) where
       ];
     }
 
-  pub versions_next : (id : Identity) (config : Config) (w z : WriterState) (before : List (Change f g)) (order : Command f g) (out : Outcome)
-      → HasVersions w before → w.identity ≡ id → z.identity ≡ id → IsForWriter order → IsAtRest z
-      → Does (by_own_steps (setup id)) f g config w.table order out z.table → HasVersions z (before ++ change_by order out)
-  versions_next id config w z before order out has own own' mine rests does =
+  pub versions_next : (R : RuleMap) (id : Identity) (config : Config) (w z : WriterState) (before : List (Change f g)) (order : Command f g) (out : Outcome)
+      → HasVersions R w before → w.identity ≡ id → z.identity ≡ id → IsForWriter order → IsAtRest z
+      → Does (by_own_steps (setup id)) f g config w.table order out z.table → HasVersions R z (before ++ change_by order out)
+  versions_next R id config w z before order out has own own' mine rests does =
       let keeping : Keeping (List WriterStep) = by_own_steps (setup id) in
-      versions_more id w z before (change_by order out) has own own'
+      versions_more R id w z before (change_by order out) has own own'
       (command_later keeping (steps_go_on (setup id)) f g config w.table z.table order out mine does) rests
       (comes keeping f g config w.table z.table order out mine does)
 
   -- ---- answers
 
   -- a lookup of a version by the writer's steps answers by a version of the accepted changes
-  pub answer_is_right : (id : Identity) (config : Config) (w : WriterState) (changes : List (Change f g)) (seen : Seen)
-      → setup id ≡ opening_setup f g config → w.identity ≡ id → HasVersions w changes
-      → IsOfAStandingVersion (setup id) (steps_of w) seen → IsOfSomeVersion changes (answer_of seen)
-  answer_is_right id config w changes seen opening own has of =
+  pub answer_is_right : (R : RuleMap) (id : Identity) (w : WriterState) (changes : List (Change f g)) (seen : Seen)
+      → HasWidths f g (setup id) → w.identity ≡ id → HasVersions R w changes
+      → IsOfAStandingVersion (setup id) (steps_of w) seen → IsOfSomeVersion R changes (answer_of seen)
+  answer_is_right R id w changes seen widths own has of =
       let c : Setup = setup id in
       let k : ℕ = of.0 in
       let h = of.1 in
       let left : left_by w ≡ tables c (steps_of w) = ap (λ (i : Identity). tables (setup i) (steps_of w)) own in
       let begun_k : k ≤ begun (tables c (steps_of w)) = omega (arith, h.stands.1, begun_grows c (steps_of w) h.place) in
       let within : k ≤ length changes = subst (λ (n : ℕ). k ≤ n) has.begun (subst (λ (t : Tables). k ≤ begun t) (sym left) begun_k) in
-      let rules : (tables c (steps_of w)).history k ≡ version_of changes k =
+      let rules : (tables c (steps_of w)).history k ≡ version_from R changes k =
       ap (λ (t : Tables). t.history k) (sym left) ∙ has.each k within in
-      let width : c.first + c.second ≡ f + g = ap (λ (s : Setup). s.first + s.second) opening in
+      let width : c.first + c.second ≡ f + g = omega (arith, widths.0, widths.1) in
       record {
         k = k;
         from = h.low;
         to = h.high;
         within = within;
-        answers = subst (λ (n : ℕ). IsLongestHop n (version_of changes k) seen.addr seen.hop) width
-            (subst (λ (R : RuleMap). IsLongestHop (c.first + c.second) R seen.addr seen.hop) rules h.answers);
+        answers = subst (λ (n : ℕ). IsLongestHop n (version_from R changes k) seen.addr seen.hop) width
+            (subst (λ (Q : RuleMap). IsLongestHop (c.first + c.second) Q seen.addr seen.hop) rules h.answers);
       }

@@ -2,9 +2,10 @@
 -- which of them made a version (DPDK Programmer's Guide, "LPM Library", "Addition" and "Deletion"; that an
 -- unchanged rule makes no version is this project's).
 use Rattle.std.specs.Prelude.{ℕ, suc, ◌≡◌, ◌≤◌, Bool, true, false, List, [], ◌∷◌, ◌++◌, length, count_by}
-use Rattle.std.specs.FinMap.{empty}
 use Rattle.lpm_limits.specs.declared.config.Config.{Config}
+use Rattle.lpm_rules.specs.RuleMap.{RuleMap}
 use Rattle.lpm_rules.specs.Changes.{rules_after}
+use Rattle.lpm_rules.specs.declared.Rule.{Rule}
 use Rattle.lpm_rules.specs.declared.Change.{Change}
 use Rattle.lpm_rules.specs.declared.Change.TheVariants as change
 use Rattle.lpm_rules.specs.declared.Put.TheVariants.{Added, Replaced}
@@ -16,10 +17,10 @@ use Rattle.fib_model.specs.State.{Keeping}
 use Rattle.fib_model.specs.Outcomes.{Runs, logged}
 use Rattle.lpm_trace.specs.declared.step.WriterStep.{WriterStep}
 use Rattle.lpm_trace.specs.Tables.{Setup, begun}
-use Rattle.lpm_writer.specs.Opening.{opening_setup}
+use Rattle.lpm_writer.specs.Making.{HasWidths}
 use Rattle.lpm_writer.specs.Traced.{by_steps}
-use Rattle.shared_fib.specs.Running.{Identity, WriterState, left_by, opens_with, setup}
-use Rattle.audit.specs.Wrong.{version_of}
+use Rattle.shared_fib.specs.Running.{Identity, IsAtRest, WriterState, left_by, opens_with, setup}
+use Rattle.audit.specs.Wrong.{version_from}
 
 -- the writer's steps stand for what the readers reported; no report is made to the writer itself
 abbrev pub by_own_steps : Setup → Keeping (List WriterStep)
@@ -43,6 +44,10 @@ change_by (command.Delete p) (outcome.Deleted h) = change.Delete p ∷ []
 change_by command.Flush (outcome.Flushed (suc n)) = change.Flush ∷ []
 change_by other outcome = []
 
+-- the change that puts a rule in
+abbrev pub addition_of : {first second : ℕ} → Rule first second → Change first second
+addition_of r = change.Add r.prefix r.hop
+
 -- the accepted changes of these commands, in order, by what came of each
 abbrev pub changes_by : {first second : ℕ} → List (Command first second) → List Outcome
     → List (Change first second)
@@ -51,34 +56,39 @@ changes_by (command ∷ commands) [] = []
 changes_by (command ∷ commands) (outcome ∷ outcomes) =
     change_by command outcome ++ changes_by commands outcomes
 
--- the versions of the writer are those of these changes: as many were begun, its rules are those after all
--- of them, and for each k the rules of version k are those after the first k, from no rules on
-pub record HasVersions {first second : ℕ} (w : WriterState) (changes : List (Change first second))
-    : Type 0 where
+-- the versions of the writer are those of these changes, from the rules R on: as many were begun, its rules
+-- are those after all of them, and for each k the rules of version k are those after the first k
+pub record HasVersions {first second : ℕ} (R : RuleMap) (w : WriterState)
+    (changes : List (Change first second)) : Type 0 where
   pub count : w.table.begun ≡ length changes
   pub begun : begun (left_by w) ≡ length changes
-  pub rules : w.table.rules ≡ rules_after empty changes
-  pub each : (k : ℕ) → k ≤ length changes → (left_by w).history k ≡ version_of changes k
+  pub rules : w.table.rules ≡ rules_after R changes
+  pub each : (k : ℕ) → k ≤ length changes → (left_by w).history k ≡ version_from R changes k
+
+-- the table was opened with these limits, and with its rules as version 0: by these its words answer each
+-- address
+pub record IsOpened (first second : ℕ) (config : Config) (id : Identity) : Type 0 where
+  pub widths : HasWidths first second (setup id)
+  pub token : id.opening.token ≡ config.first_token
+  pub workers : id.opening.workers ≡ config.workers
+  pub rests : IsAtRest (opens_with id config id.opening.rules)
 
 -- a table was opened with these limits; then its writer made as many of these commands as there are
 -- outcomes, in order, which came out so, and left it like this, with the versions of the accepted changes
+-- from the table's first rules on
 pub record HasMade {first second : ℕ} (id : Identity) (config : Config)
     (commands : List (Command first second)) (outcomes : List Outcome) (w : WriterState) : Type 0 where
-  pub opening : setup id ≡ opening_setup first second config
+  pub opened : IsOpened first second config id
   pub identity : w.identity ≡ id
   pub limits : w.config ≡ config
   pub some : length outcomes ≤ length commands
-  pub runs : Runs (by_own_steps (setup id)) first second config (opens_with id config empty).table
-      (logged [] commands outcomes) w.table
-  pub versions : HasVersions w (changes_by commands outcomes)
+  pub runs : Runs (by_own_steps (setup id)) first second config
+      (opens_with id config id.opening.rules).table (logged [] commands outcomes) w.table
+  pub versions : HasVersions id.opening.rules w (changes_by commands outcomes)
 
 abbrev pub is_refused : Outcome → Bool
 is_refused (outcome.Refused refusal) = true
 is_refused other = false
-
--- the command was accepted
-abbrev pub IsAccepted : Outcome → Type 0
-IsAccepted o = is_refused o ≡ false
 
 -- how many of the commands were refused
 abbrev pub refused_among : List Outcome → ℕ

@@ -3,6 +3,7 @@ use Rattle.std.specs.Prelude.{ℕ, ◌≡◌, ◌+◌, List, [], All, length}
 use Rattle.std.specs.FinMap.{len}
 use Rattle.fib_model.specs.declared.command.Outcome.{Outcome}
 use Rattle.fib_model.specs.Outcomes.{Frees, groups_in_use}
+use Rattle.lpm_rules.specs.Listed.{rules_of}
 use Rattle.lpm_writer.specs.Traced.{AnyMemory, by_steps, steps_alone}
 use Rattle.lpm_writer.specs.Synchronizing.{Synchronizes}
 use Rattle.defer_queue.specs.declared.Reclaimed.{Reclaimed}
@@ -40,8 +41,8 @@ pub record IsCountOf (first second : ℕ) (w : WriterState) (r : Report) : Type 
   pub token : r.token ≡ (left_by w).token
 
 -- A storm of this plan came out so. The pass of each worker has looked the whole list up in each round. Each
--- answer is the longest match in a version of the accepted changes, from its `lo` to its `hi`. So none is
--- wrong. In the end no group waits.
+-- answer is the longest match in a version from its `lo` to its `hi`: those of the accepted changes, from the
+-- rules of the plan on. So none is wrong. In the end no group waits.
 pub record IsStorm {first second : ℕ} (p : Plan first second) (r : StormReport) : Type 0 where
   pub id : Identity
   pub outcomes : List Outcome
@@ -52,11 +53,14 @@ pub record IsStorm {first second : ℕ} (p : Plan first second) (r : StormReport
   pub count : length passes ≡ p.config.workers
   pub workers : AreOfWorkers passes
   pub looked : All (HasLookedUp id p.addrs.now p.rounds (steps_of last)) passes
-  pub right : All (IsOfSomeVersion (changes_by p.commands.now outcomes)) (answers_of_passes passes)
+  pub right : All (IsOfSomeVersion (rules_of p.rules.now) (changes_by p.commands.now outcomes))
+      (answers_of_passes passes)
   pub settles : Settles id last end
   pub answered : r.answers ≡ answer_count p
   pub refused : r.refused ≡ refused_among outcomes
-  pub counted : AreWrong (changes_by p.commands.now outcomes) (answers_of_passes passes) r.wrong
+  pub versions : r.table.versions ≡ length (changes_by p.commands.now outcomes)
+  pub counted : AreWrong (rules_of p.rules.now) (changes_by p.commands.now outcomes)
+      (answers_of_passes passes) r.wrong
   pub wrong : r.wrong ≡ 0
   pub limbo : r.table.limbo ≡ 0
   pub counts : IsCountOf first second end r.table

@@ -15,8 +15,7 @@ pub record AreLookups {first second : ℕ} (id : Identity) (addrs : List ℕ) (r
 
 -- these commands, by this table of these limits
 pub record AreUpdates {first second : ℕ} (id : Identity) (limits : Config)
-    (commands : List (Command first second)) (loaded : ℕ) (u : Updates first second) : Type 0 where
+    (commands : List (Command first second)) (u : Updates first second) : Type 0 where
   pub table : u.table.now ≡ id
   pub limited : u.limits ≡ limits
   pub list : u.commands.now ≡ commands
-  pub early : u.loaded ≡ loaded

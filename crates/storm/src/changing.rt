@@ -1,10 +1,9 @@
 //! The writer of a storm, and what its thread does.
 
-ghost use Rattle.std.specs.Prelude.{◌≡◌, ◌+◌, ◌<◌, ◌≤◌, ◌++◌, ◌∷◌, [], All, IfErr, OnOk, length, vec_len, vec_capacity};
+ghost use Rattle.std.specs.Prelude.{◌≡◌, ◌<◌, ◌≤◌, ◌++◌, ◌∷◌, [], All, length, vec_len, vec_capacity};
 ghost use Rattle.fib_model.specs.Outcomes.{Does};
 ghost use Rattle.shared_fib.specs.Running.{setup};
 ghost use Rattle.storm.specs.Changing.{HasMade, IsForWriter, by_own_steps};
-ghost use Rattle.storm.specs.Plans.{IsRefusedAt, IsUnderWay};
 
 use bulk::Gate;
 use fib_model::{Command, Outcome};
@@ -12,8 +11,8 @@ use qsbr::{Config, Refusal};
 use shared_fib::{SharedTable, Writer};
 use std::sync::atomic::{AtomicBool, Ordering};
 
-/// What the writer of a storm is to do. It looks at `stop` before each command that its thread makes, and
-/// ends early where that is set.
+/// What the writer of a storm is to do. It looks at `stop` before each command, and ends early where
+/// that is set.
 #[derive(Clone, Copy)]
 pub struct Updates<'a, const FIRST: u32, const SECOND: u32> {
     pub table: &'a SharedTable<FIRST, SECOND>,
@@ -21,8 +20,6 @@ pub struct Updates<'a, const FIRST: u32, const SECOND: u32> {
     pub limits: Config,
     /// The commands, in their order. None is a report of a worker.
     pub commands: &'a [Command<FIRST, SECOND>],
-    /// How many of the commands are made before a thread starts.
-    pub loaded: usize,
     pub stop: &'a AtomicBool,
 }
 
@@ -101,55 +98,27 @@ fn record<const FIRST: u32, const SECOND: u32>(
     outcome
 }
 
-/// Makes the commands of the plan that come before the threads. The first refused one ends that, and is
-/// returned with its place.
-pub fn load<const FIRST: u32, const SECOND: u32>(
-    updates: &Updates<'_, FIRST, SECOND>,
-    recorder: &mut Recorder<FIRST, SECOND>,
-) -> Result<(), (usize, Refusal)>
-    requires made { HasMade updates.now.table.now updates.now.limits updates.now.commands.now
-        recorder.old.outcomes.items recorder.old.writer }
-    requires none { recorder.old.outcomes.items ≡ [] }
-    requires loaded { updates.now.loaded ≤ length updates.now.commands.now }
-    requires room { length updates.now.commands.now ≤ vec_capacity recorder.old.outcomes }
-    requires commands { All IsForWriter updates.now.commands.now }
-    ensures under_way { OnOk result (IsUnderWay updates.now.table.now updates.now.limits
-        updates.now.commands.now updates.now.loaded recorder.new.outcomes.items recorder.new.writer) }
-    ensures all { OnOk result (vec_len recorder.new.outcomes ≡ updates.now.loaded) }
-    ensures room { length updates.now.commands.now ≤ vec_capacity recorder.new.outcomes }
-    ensures refused { IfErr result (λ e. IsRefusedAt updates.now.limits
-        updates.now.commands.now updates.now.loaded e.0 e.1) }
-{
-    for index in 0..updates.loaded {
-        if let Outcome::Refused(refusal) = record(updates, recorder, index) {
-            return Err((index, refusal));
-        }
-    }
-    Ok(())
-}
-
-/// What the thread of the writer does: it makes the commands that are left, each after the gate. There the
-/// writer's number is that after all workers of the table, and the first of these commands is number 0. It
-/// ends early where it is told to stop, and where a command wants memory that isn't there; then it tells the
-/// workers to stop.
+/// What the thread of the writer does: it makes the commands, each after the gate. There the writer's number
+/// is that after all workers of the table, and the first command is number 0. It ends early where it is told
+/// to stop, and where a command wants memory that isn't there; then it tells the workers to stop.
 pub fn change_all<G: Gate, const FIRST: u32, const SECOND: u32>(
     updates: &Updates<'_, FIRST, SECOND>,
     gate: &G,
     mut recorder: Recorder<FIRST, SECOND>,
 ) -> Recorder<FIRST, SECOND>
-    requires under_way { IsUnderWay updates.now.table.now updates.now.limits updates.now.commands.now
-        updates.now.loaded recorder.outcomes.items recorder.writer }
-    requires loaded { vec_len recorder.outcomes ≡ updates.now.loaded }
+    requires made { HasMade updates.now.table.now updates.now.limits updates.now.commands.now
+        recorder.outcomes.items recorder.writer }
+    requires new { vec_len recorder.outcomes ≡ 0 }
     requires room { length updates.now.commands.now ≤ vec_capacity recorder.outcomes }
     requires commands { All IsForWriter updates.now.commands.now }
-    ensures under_way { IsUnderWay updates.now.table.now updates.now.limits updates.now.commands.now
-        updates.now.loaded result.outcomes.items result.writer }
+    ensures made { HasMade updates.now.table.now updates.now.limits updates.now.commands.now
+        result.outcomes.items result.writer }
 {
-    for index in updates.loaded..updates.commands.len() {
+    for index in 0..updates.commands.len() {
         if updates.stop.load(Ordering::SeqCst) {
             return recorder;
         }
-        gate.at(updates.limits.workers, index - updates.loaded);
+        gate.at(updates.limits.workers, index);
         let outcome = record(updates, &mut recorder, index);
         if outcome == Outcome::Refused(Refusal::Memory) {
             updates.stop.store(true, Ordering::SeqCst);

@@ -1,26 +1,24 @@
-//! A storm from the opening of its table to its report.
+//! A storm on its table, to its report.
 
-ghost use Rattle.std.specs.Prelude.{◌≡◌, ◌≢◌, ℕ, ◌+◌, ◌^◌, ◌<◌, ◌≤◌, ◌↔◌, All, IfOk, IfErr, IfSome, IsErrOf, None, true, length, slice_set, vec_len, vec_capacity};
-ghost use Rattle.std.specs.FinMap as map;
-ghost use Rattle.lpm_bits.specs.Widths.{IsShape};
-ghost use Rattle.lpm_writer.specs.Opening.{opening_setup};
+ghost use Rattle.std.specs.Prelude.{◌≡◌, ℕ, ◌+◌, ◌^◌, ◌<◌, ◌≤◌, All, IfOk, IfErr, IfSome, None, true, length, slice_set, vec_len, vec_capacity};
+ghost use Rattle.lpm_rules.specs.Listed.{rules_of};
 ghost use Rattle.shared_fib.specs.Passes.{IsBenchOf, IsFullBench};
-ghost use Rattle.shared_fib.specs.Running.{opens_with, setup};
+ghost use Rattle.shared_fib.specs.Running.{opens_with};
 ghost use Rattle.bulk.specs.Desks.{IsAtBench};
-ghost use Rattle.storm.specs.Changing.{IsForWriter};
+ghost use Rattle.storm.specs.Changing.{HasMade, IsForWriter};
 ghost use Rattle.storm.specs.Looking.{AreInSeats, IsOver, IsReadyFor, IsUnused, number_of};
-ghost use Rattle.storm.specs.Plans.{EndsLoading, EndsStorm, EndsUnderWay, HasMadeAll, IsTooMuch, IsUnderWay, answer_count, limits_of, most_answers};
+ghost use Rattle.storm.specs.Plans.{EndsStorm, HasMadeAll, IsInRange, answer_count, limits_of, most_answers};
 ghost use Rattle.storm.specs.Storm.{IsStorm};
 
-use crate::changing::{Recorder, Updates, load};
+use crate::changing::Recorder;
 use crate::looking::Worker;
-use crate::plan::{Plan, StormError, limits_for};
-use crate::settling::{accepted, count_refused, count_wrong, meet_all, report_of, settle};
+use crate::plan::{Plan, StormError};
+use crate::settling::{count_refused, count_wrong, history_of, meet_all, report_of, settle};
 use crate::threads::run_threads;
 use audit::StormReport;
 use bulk::Gate;
-use qsbr::{Config, Refusal};
-use shared_fib::{Bench, OpenError, Pass, SharedTable, Writer, open};
+use qsbr::Config;
+use shared_fib::{Bench, Pass, SharedTable, Writer};
 use std::alloc::{AllocError, Global};
 use std::sync::Wait;
 use std::sync::atomic::AtomicBool;
@@ -96,40 +94,27 @@ fn seat_stuck<const FIRST: u32, const SECOND: u32>(
     Some(pass)
 }
 
-/// The writer after the commands that are made before the threads, with room for what comes of all.
-fn load_all<const FIRST: u32, const SECOND: u32>(
+/// The writer of a table that was just opened, with room for what comes of all commands of the plan.
+fn begin<const FIRST: u32, const SECOND: u32>(
     alloc: Global,
-    updates: &Updates<'_, FIRST, SECOND>,
+    table: &SharedTable<FIRST, SECOND>,
+    limits: Config,
+    plan: &Plan<'_, FIRST, SECOND>,
     writer: Writer<FIRST, SECOND>,
-) -> Result<Recorder<FIRST, SECOND>, StormError>
-    requires new { writer ≡ opens_with updates.now.table.now updates.now.limits map.empty }
-    requires opening { setup updates.now.table.now ≡ opening_setup FIRST SECOND updates.now.limits }
-    requires commands { All IsForWriter updates.now.commands.now }
-    requires loaded { updates.now.loaded ≤ length updates.now.commands.now }
-    ensures under_way { IfOk result (λ r. IsUnderWay updates.now.table.now updates.now.limits
-        updates.now.commands.now updates.now.loaded r.outcomes.items r.writer) }
-    ensures loaded { IfOk result (λ r. vec_len r.outcomes ≡ updates.now.loaded) }
-    ensures room { IfOk result (λ r. length updates.now.commands.now ≤ vec_capacity r.outcomes) }
-    ensures failure { IfErr result
-        (EndsLoading updates.now.limits updates.now.commands.now updates.now.loaded) }
+) -> Result<Recorder<FIRST, SECOND>, AllocError>
+    requires new { writer ≡ opens_with table.now limits (rules_of plan.now.rules.now) }
+    requires token { table.now.opening.token ≡ limits.first_token }
+    requires workers { table.now.opening.workers ≡ limits.workers }
+    ensures made { IfOk result (λ r. HasMade table.now limits plan.now.commands.now
+        r.outcomes.items r.writer) }
+    ensures rules { IfOk result (λ _. table.now.opening.rules ≡ rules_of plan.now.rules.now) }
+    ensures none { IfOk result (λ r. vec_len r.outcomes ≡ 0) }
+    ensures room { IfOk result (λ r. length plan.now.commands.now ≤ vec_capacity r.outcomes) }
 {
-    let outcomes = Vec::with_capacity(alloc, updates.commands.len())?;
-    let mut recorder = Recorder { writer, outcomes };
-    match load(updates, &mut recorder) {
-        Ok(()) => Ok(recorder),
-        Err((index, refusal)) => Err(refused(index, refusal)),
-    }
-}
-
-/// What a refusal of the command at this place ends the storm with.
-fn refused(index: usize, refusal: Refusal) -> StormError
-    ensures memory { refusal ≡ Refusal.Memory → result ≡ StormError.Memory }
-    ensures other { refusal ≢ Refusal.Memory → result ≡ StormError.Refused index refusal }
-{
-    if refusal == Refusal::Memory {
-        return StormError::Memory;
-    }
-    StormError::Refused { index, refusal }
+    table.has_widths();
+    writer.at_rest();
+    let outcomes = Vec::with_capacity(alloc, plan.commands.len())?;
+    Ok(Recorder { writer, outcomes })
 }
 
 /// What came of a storm whose threads have ended.
@@ -154,15 +139,16 @@ fn finish<R: Threads + Wait + Sync, const FIRST: u32, const SECOND: u32>(
     ensures storm { IfOk result (IsStorm plan.now) }
     ensures wrong { IfOk result (λ r. r.wrong ≡ 0) }
     ensures limbo { IfOk result (λ r. r.table.limbo ≡ 0) }
-    ensures failure { IfErr result (EndsUnderWay plan.now) }
+    ensures versions { IfOk result (λ r. r.table.versions ≤ length plan.now.commands.now) }
+    ensures failure { IfErr result (EndsStorm plan.now) }
 {
     let writer = &mut recorder.writer;
     meet_all(table, writer, workers, plan.addrs, plan.rounds);
     let Ok(()) = settle(rt, table, writer) else {
         return Err(StormError::Exhausted);
     };
-    let history = accepted(alloc, plan.commands, &recorder.outcomes)?;
-    let wrong = count_wrong(rt, alloc, &history, workers)?;
+    let history = history_of(alloc, plan.rules, plan.commands, &recorder.outcomes)?;
+    let wrong = count_wrong(rt, alloc, &history, plan.rules.len(), workers)?;
     Ok(StormReport {
         answers: answers as u64,
         refused: count_refused(&recorder.outcomes),
@@ -171,42 +157,48 @@ fn finish<R: Threads + Wait + Sync, const FIRST: u32, const SECOND: u32>(
     })
 }
 
-/// A storm over a table that was just opened.
-fn run_over<R: Threads + Wait + Sync, G: Gate, const FIRST: u32, const SECOND: u32>(
+/// Runs a storm on a table that was just opened with the limits and the rules of the plan. It starts a thread
+/// for each worker and one for the writer. Each worker goes online, looks all addresses up, round after round
+/// with a report of a quiescent state after each, and goes offline. The writer makes the commands meanwhile.
+/// When all have ended, it synchronizes and reclaims all that waits, and every answer is held against the
+/// versions of the rules, of which those of the plan are version 0. None is wrong, and nothing waits in limbo
+/// then. The report counts the versions that the commands made.
+///
+/// Worker `k` calls the gate as `at(k, i)` directly before its lookup `i`, from 0 over all rounds. The writer,
+/// whose number is that after all workers of the table, calls it directly before its command `i`. A stuck
+/// worker calls none.
+///
+/// The limits are those of [`Plan::table_limits`], which refuses a plan that can't be run. All room for answers
+/// is made before a thread starts. Want of memory, in a thread too, and a thread that can't be started end all
+/// threads. `Exhausted` comes where fewer tokens than groups are left in the end.
+pub fn run<R: Threads + Wait + Sync, G: Gate, const FIRST: u32, const SECOND: u32>(
     rt: &R,
     alloc: Global,
-    table: &SharedTable<FIRST, SECOND>,
-    limits: Config,
     plan: &Plan<'_, FIRST, SECOND>,
-    gate: &G,
+    table: &SharedTable<FIRST, SECOND>,
     writer: Writer<FIRST, SECOND>,
     bench: &mut Bench,
-    answers: usize,
+    gate: &G,
 ) -> Result<StormReport, StormError>
-    requires new { writer ≡ opens_with table.now limits map.empty }
-    requires opening { setup table.now ≡ opening_setup FIRST SECOND limits }
-    requires limits { limits ≡ limits_of plan.now }
+    requires in_range { IsInRange plan.now }
+    requires new { writer ≡ opens_with table.now (limits_of plan.now) (rules_of plan.now.rules.now) }
+    requires token { table.now.opening.token ≡ plan.now.config.first_token }
+    requires workers { table.now.opening.workers ≡ (limits_of plan.now).workers }
     requires full { IsFullBench table.now bench.old }
-    requires workers { table.now.opening.workers ≡ limits.workers }
     requires commands { All IsForWriter plan.now.commands.now }
-    requires loaded { plan.now.loaded ≤ length plan.now.commands.now }
     requires addrs { All (λ a. a < 2 ^ (FIRST + SECOND)) plan.now.addrs.now }
-    requires some { 0 < plan.now.config.workers }
-    requires answers { (answers ≡ answer_count plan.now) × (answers ≤ most_answers) }
     ensures storm { IfOk result (IsStorm plan.now) }
     ensures wrong { IfOk result (λ r. r.wrong ≡ 0) }
     ensures limbo { IfOk result (λ r. r.table.limbo ≡ 0) }
-    ensures failure { IfErr result (EndsUnderWay plan.now) }
+    ensures versions { IfOk result (λ r. r.table.versions ≤ length plan.now.commands.now) }
+    ensures failure { IfErr result (EndsStorm plan.now) }
 {
-    let stop = AtomicBool::new(false);
-    let updates = Updates {
-        table,
-        limits,
-        commands: plan.commands,
-        loaded: plan.loaded,
-        stop: &stop,
+    let limits = plan.limits();
+    let Some(answers) = plan.answers() else {
+        unreachable!();
     };
-    let recorder = load_all(alloc, &updates, writer)?;
+    let stop = AtomicBool::new(false);
+    let recorder = begin(alloc, table, limits, plan, writer)?;
     let room = plan.rounds * plan.addrs.len();
     let workers = seat_all(alloc, table, bench, plan.config.workers, room)?;
     let stuck = seat_stuck(table, bench, plan);
@@ -216,7 +208,6 @@ fn run_over<R: Threads + Wait + Sync, G: Gate, const FIRST: u32, const SECOND: u
         table,
         limits,
         plan.commands,
-        plan.loaded,
         plan.addrs,
         plan.rounds,
         &stop,
@@ -229,45 +220,4 @@ fn run_over<R: Threads + Wait + Sync, G: Gate, const FIRST: u32, const SECOND: u
     }
     let workers = workers.as_mut_slice();
     finish(rt, alloc, table, plan, workers, &mut recorder, answers)
-}
-
-/// Opens a table, makes the first commands, and then starts a thread for each worker and one for the writer.
-/// Each worker goes online, looks all addresses up, round after round with a report of a quiescent state
-/// after each, and goes offline. The writer makes the other commands meanwhile. When all have ended, it
-/// synchronizes and reclaims all that waits, and every answer is held against the versions of the rules. None
-/// is wrong, and nothing waits in limbo then.
-///
-/// Worker `k` calls the gate as `at(k, i)` directly before its lookup `i`, from 0 over all rounds. The
-/// writer, whose number is that after all workers of the table, calls it directly before its update `i`: of
-/// the commands that its thread makes the one with so many before it. A stuck worker calls none.
-///
-/// All room for answers is made before a thread starts. The refusals, in the order of the checks: no
-/// workers; limits out of range or more than `MOST_ANSWERS` answers; a command before the threads that is
-/// refused. Want of memory, in a thread too, and a thread that can't be started end all threads.
-pub fn run<R: Threads + Wait + Sync, G: Gate, const FIRST: u32, const SECOND: u32>(
-    rt: &R,
-    alloc: Global,
-    plan: &Plan<'_, FIRST, SECOND>,
-    gate: &G,
-) -> Result<StormReport, StormError>
-    requires shape { IsShape FIRST SECOND }
-    requires commands { All IsForWriter plan.now.commands.now }
-    requires loaded { plan.now.loaded ≤ length plan.now.commands.now }
-    requires addrs { All (λ a. a < 2 ^ (FIRST + SECOND)) plan.now.addrs.now }
-    ensures storm { IfOk result (IsStorm plan.now) }
-    ensures wrong { IfOk result (λ r. r.wrong ≡ 0) }
-    ensures limbo { IfOk result (λ r. r.table.limbo ≡ 0) }
-    ensures no_workers { IsErrOf result StormError.NoWorkers ↔ (plan.now.config.workers ≡ 0) }
-    ensures too_much { IsErrOf result StormError.BadConfig
-        ↔ ((0 < plan.now.config.workers) × IsTooMuch plan.now) }
-    ensures failure { IfErr result (EndsStorm plan.now) }
-{
-    let (limits, answers) = limits_for(plan)?;
-    match open(alloc, limits) {
-        Ok((table, writer, mut bench)) => run_over(
-            rt, alloc, &table, limits, plan, gate, writer, &mut bench, answers,
-        ),
-        Err(OpenError::BadConfig) => Err(StormError::BadConfig),
-        Err(OpenError::Memory) => Err(StormError::Memory),
-    }
 }

@@ -1,11 +1,12 @@
 //! What a storm is to do, and why it came to nothing.
 
-ghost use Rattle.std.specs.Prelude.{◌≡◌, ◌^◌, ◌<◌, ◌≤◌, ◌⊎◌, IfOk, IfErr, IfSome, IsNone};
-ghost use Rattle.storm.specs.Plans.{IsTooMuch, answer_count, limits_of, most_answers};
+ghost use Rattle.std.specs.Prelude.{◌≡◌, ◌^◌, ◌<◌, ◌≤◌, IfOk, IfErr, IfSome, IsNone};
+ghost use Rattle.storm.specs.Plans.{EndsBefore, IsInRange, answer_count, limits_of, most_answers};
 ghost use Rattle.storm.specs.declared.plan.StormError.TheVariants.{Memory as IsMemory};
 
 use fib_model::Command;
-use qsbr::{Config, Refusal};
+use lpm_rules::Rule;
+use qsbr::Config;
 use std::alloc::AllocError;
 use std::error::Error;
 use std::fmt;
@@ -21,11 +22,11 @@ pub struct Plan<'a, const FIRST: u32, const SECOND: u32> {
     /// Whether there is one worker more, which is online from before the first update until after the last
     /// and looks nothing up.
     pub has_stuck_worker: bool,
-    /// The commands of the writer, in their order. None is a report of a worker.
+    /// The rules that the table was opened with, which are its version 0. Of those of one prefix the last
+    /// counts.
+    pub rules: &'a [Rule<FIRST, SECOND>],
+    /// The updates: the commands that the writer's thread makes, in their order. None is a report of a worker.
     pub commands: &'a [Command<FIRST, SECOND>],
-    /// How many of the commands are made before a thread starts. None of these may be refused. The others
-    /// are the updates, which the writer's thread makes.
-    pub loaded: usize,
     /// The addresses that each worker looks up, in their order.
     pub addrs: &'a [u32],
     /// How often each worker looks all of them up.
@@ -33,12 +34,52 @@ pub struct Plan<'a, const FIRST: u32, const SECOND: u32> {
 }
 
 impl<'a, const FIRST: u32, const SECOND: u32> Plan<'a, FIRST, SECOND> {
-    /// The workers of the table: those that look up, and the stuck one.
-    pub(crate) fn table_workers(&self) -> usize
+    // The limits of the table: its workers are those that look up, and the stuck one.
+    pub(crate) fn limits(&self) -> Config
         requires { self.now.config.workers < 2 ^ 32 }
-        ensures { result ≡ (limits_of self.now).workers }
+        ensures { result ≡ limits_of self.now }
     {
-        self.config.workers + usize::from(self.has_stuck_worker)
+        Config {
+            workers: self.config.workers + usize::from(self.has_stuck_worker),
+            ..self.config
+        }
+    }
+
+    // How many answers are asked for; none where they are more than `MOST_ANSWERS`.
+    pub(crate) fn answers(&self) -> Option<usize>
+        requires { 0 < self.now.config.workers }
+        ensures some { IfSome result (λ n. (n ≡ answer_count self.now) × (n ≤ most_answers)) }
+        ensures none { IsNone result → most_answers < answer_count self.now }
+    {
+        let of_worker = self.rounds.checked_mul(self.addrs.len())?;
+        let of_all = self.config.workers.checked_mul(of_worker)?;
+        if of_all > MOST_ANSWERS {
+            return None;
+        }
+        Some(of_all)
+    }
+
+    /// The limits of the table that the storm is to run on: it has one worker more where one is stuck. The
+    /// rules of the plan and its commands aren't looked at, so this can come before the table is opened.
+    ///
+    /// The refusals, in the order of the checks: `NoWorkers`; and `BadConfig`, where a limit is out of range or
+    /// more than `MOST_ANSWERS` answers are asked for.
+    pub fn table_limits(&self) -> Result<Config, StormError>
+        ensures limits { IfOk result (λ c. c ≡ limits_of self.now) }
+        ensures in_range { IfOk result (λ _. IsInRange self.now) }
+        ensures failure { IfErr result (EndsBefore self.now) }
+    {
+        if self.config.workers == 0 {
+            return Err(StormError::NoWorkers);
+        }
+        if self.config.check().is_err() {
+            return Err(StormError::BadConfig);
+        }
+        let limits = self.limits();
+        if limits.check().is_err() || self.answers().is_none() {
+            return Err(StormError::BadConfig);
+        }
+        Ok(limits)
     }
 }
 
@@ -49,13 +90,6 @@ pub enum StormError {
     NoWorkers,
     /// A limit is out of range, or more answers are asked for than `MOST_ANSWERS`.
     BadConfig,
-    /// A command that is made before the threads start was refused, for another reason than want of memory.
-    Refused {
-        /// Its place among the commands.
-        index: usize,
-        /// Why it was refused.
-        refusal: Refusal,
-    },
     /// Fewer tokens than groups are left for the last synchronize.
     Exhausted,
     /// A thread couldn't be started.
@@ -69,7 +103,6 @@ impl fmt::Display for StormError {
         match self {
             StormError::NoWorkers => f.write_str("no workers"),
             StormError::BadConfig => f.write_str("a limit is outside its range"),
-            StormError::Refused { index, refusal } => write!(f, "command {index}: {refusal}"),
             StormError::Exhausted => f.write_str("no token is left"),
             StormError::NoThread => f.write_str("a thread couldn't be started"),
             StormError::Memory => f.write_str("out of memory"),
@@ -85,46 +118,4 @@ impl From<AllocError> for StormError {
     fn from(_error: AllocError) -> Self {
         Self::Memory
     }
-}
-
-/// How many answers are asked for; none where they are more than `MOST_ANSWERS`.
-fn count_answers<const FIRST: u32, const SECOND: u32>(
-    plan: &Plan<'_, FIRST, SECOND>,
-) -> Option<usize>
-    requires { 0 < plan.now.config.workers }
-    ensures some { IfSome result (λ n. (n ≡ answer_count plan.now) × (n ≤ most_answers)) }
-    ensures none { IsNone result → most_answers < answer_count plan.now }
-{
-    let of_worker = plan.rounds.checked_mul(plan.addrs.len())?;
-    let of_all = plan.config.workers.checked_mul(of_worker)?;
-    if of_all > MOST_ANSWERS {
-        return None;
-    }
-    Some(of_all)
-}
-
-/// The limits of the table, and how many answers are asked for.
-pub(crate) fn limits_for<const FIRST: u32, const SECOND: u32>(
-    plan: &Plan<'_, FIRST, SECOND>,
-) -> Result<(Config, usize), StormError>
-    ensures limits { IfOk result (λ r. r.0 ≡ limits_of plan.now) }
-    ensures answers { IfOk result (λ r. (r.1 ≡ answer_count plan.now) × (r.1 ≤ most_answers)) }
-    ensures some { IfOk result (λ _. 0 < plan.now.config.workers) }
-    ensures failure { IfErr result (λ e. ((e ≡ StormError.NoWorkers) × (plan.now.config.workers ≡ 0))
-        ⊎ ((e ≡ StormError.BadConfig) × (0 < plan.now.config.workers) × IsTooMuch plan.now)) }
-{
-    if plan.config.workers == 0 {
-        return Err(StormError::NoWorkers);
-    }
-    if plan.config.check().is_err() {
-        return Err(StormError::BadConfig);
-    }
-    let Some(answers) = count_answers(plan) else {
-        return Err(StormError::BadConfig);
-    };
-    let limits = Config {
-        workers: plan.table_workers(),
-        ..plan.config
-    };
-    Ok((limits, answers))
 }

@@ -1,16 +1,16 @@
 //! What a storm does when its threads have ended.
 
-ghost use Rattle.std.specs.Prelude.{◌≡◌, ◌+◌, ◌^◌, ◌<◌, [], ◌∷◌, true, All, IfOk, MatchOption, OnErr, OnOk, length};
+ghost use Rattle.std.specs.Prelude.{◌≡◌, ◌+◌, ◌^◌, ◌<◌, ◌≤◌, [], ◌∷◌, ◌++◌, true, All, IfOk, MatchOption, OnErr, OnOk, length, map, drop};
 ghost use Rattle.shared_fib.specs.Running.{left_by, setup, steps_of};
-ghost use Rattle.audit.specs.Wrong.{AreWrong};
-ghost use Rattle.storm.specs.Changing.{changes_by, change_by, is_refused, refused_among};
+ghost use Rattle.audit.specs.Wrong.{AreWrong, version_of};
+ghost use Rattle.storm.specs.Changing.{addition_of, changes_by, change_by, is_refused, refused_among};
 ghost use Rattle.storm.specs.Looking.{AreInSeats, HasAnswered, IsOver, answers_of_workers, number_of};
 ghost use Rattle.storm.specs.Storm.{IsCountOf, Settles};
 
 use crate::looking::Worker;
 use audit::{Past, Report};
 use fib_model::{Command, Outcome};
-use lpm_rules::{Change, Put};
+use lpm_rules::{Change, Put, Rule};
 use lpm_writer::Exhausted;
 use shared_fib::{SharedTable, Writer};
 use std::alloc::{AllocError, Global};
@@ -134,21 +134,50 @@ fn change_of<const FIRST: u32, const SECOND: u32>(
     }
 }
 
-/// The changes that made a version of the rule list, in order.
-pub fn accepted<const FIRST: u32, const SECOND: u32>(
+/// The changes that put the rules in, one after another.
+fn additions<const FIRST: u32, const SECOND: u32>(
     alloc: Global,
+    rules: &[Rule<FIRST, SECOND>],
+) -> Result<Vec<Change<FIRST, SECOND>>, AllocError>
+    ensures { IfOk result (λ v. v.items ≡ map addition_of rules.now) }
+{
+    let mut changes = Vec::with_capacity(alloc, rules.len())?;
+    for rule in rules {
+        changes.push(Change::Add(rule.prefix, rule.hop))?;
+    }
+    Ok(changes)
+}
+
+/// Adds the changes that made a version of the rule list, in order.
+fn push_accepted<const FIRST: u32, const SECOND: u32>(
+    changes: &mut Vec<Change<FIRST, SECOND>>,
     commands: &[Command<FIRST, SECOND>],
     outcomes: &[Outcome],
-) -> Result<Vec<Change<FIRST, SECOND>>, AllocError>
+) -> Result<(), AllocError>
     requires { length outcomes.now ≡ length commands.now }
-    ensures { IfOk result (λ v. v.items ≡ changes_by commands.now outcomes.now) }
+    ensures { OnOk result (changes.new.items ≡ changes.old.items ++ changes_by commands.now outcomes.now) }
 {
-    let mut changes = Vec::with_capacity(alloc, commands.len())?;
     for index in 0..commands.len() {
         if let Some(change) = change_of(&commands[index], &outcomes[index]) {
             changes.push(change)?;
         }
     }
+    Ok(())
+}
+
+/// The changes that put the first rules in, and then those that made a version of the rule list, in order.
+pub fn history_of<const FIRST: u32, const SECOND: u32>(
+    alloc: Global,
+    rules: &[Rule<FIRST, SECOND>],
+    commands: &[Command<FIRST, SECOND>],
+    outcomes: &[Outcome],
+) -> Result<Vec<Change<FIRST, SECOND>>, AllocError>
+    requires { length outcomes.now ≡ length commands.now }
+    ensures { IfOk result (λ v. v.items
+        ≡ map addition_of rules.now ++ changes_by commands.now outcomes.now) }
+{
+    let mut changes = additions(alloc, rules)?;
+    push_accepted(&mut changes, commands, outcomes)?;
     Ok(changes)
 }
 
@@ -176,21 +205,24 @@ pub fn count_refused(outcomes: &[Outcome]) -> u64
         .count() as u64
 }
 
-/// How many of the workers' answers are of no version of these changes.
+/// How many of the workers' answers are of no version of these changes, from this version on.
 pub fn count_wrong<R: Threads + Sync, const FIRST: u32, const SECOND: u32>(
     rt: &R,
     alloc: Global,
     history: &[Change<FIRST, SECOND>],
+    start: usize,
     workers: &[Worker],
 ) -> Result<u64, AllocError>
+    requires start { start ≤ length history.now }
     requires addrs { All (λ w. All (λ x. x.0 < 2 ^ (FIRST + SECOND)) w.answers.items) workers.now }
     requires few { length (answers_of_workers workers.now) < 2 ^ 63 }
-    ensures { IfOk result (AreWrong history.now (answers_of_workers workers.now)) }
+    ensures { IfOk result (AreWrong (version_of history.now start) (drop start history.now)
+        (answers_of_workers workers.now)) }
 {
     let past = Past::new(alloc, history)?;
     let mut wrong = 0u64;
     for worker in workers {
-        wrong += past.count_wrong(rt, alloc, &worker.answers)?;
+        wrong += past.count_wrong(rt, alloc, start, &worker.answers)?;
     }
     Ok(wrong)
 }

@@ -5,9 +5,8 @@
 
 ghost use Rattle.std.specs.Prelude.{◌≡◌, ◌≢◌, ◌⊎◌, ◌+◌, ◌*◌, ◌^◌, ◌<◌, ◌≤◌, All, IfErr, IfOk, IfSome, IsTrue, length, true, vec_capacity, vec_len};
 ghost use Rattle.std.specs.Thread.{IsSync};
-ghost use Rattle.storm.specs.Changing.{IsForWriter};
+ghost use Rattle.storm.specs.Changing.{HasMade, IsForWriter};
 ghost use Rattle.storm.specs.Looking.{AreInSeats, EachAt, IsOver, IsReadyFor, number_of};
-ghost use Rattle.storm.specs.Plans.{IsUnderWay};
 ghost use Rattle.storm.specs.Threads.{AreLookups, AreUpdates};
 
 use crate::changing::{Recorder, Updates, change_all};
@@ -30,7 +29,7 @@ impl<'a, const FIRST: u32, const SECOND: u32> Promise<Worker> for Lookups<'a, FI
 
 impl<'a, const FIRST: u32, const SECOND: u32> Promise<Recorder<FIRST, SECOND>>
     for Updates<'a, FIRST, SECOND> {
-    ghost kept_by = { λ p r. IsUnderWay p.table.now p.limits p.commands.now p.loaded
+    ghost kept_by = { λ p r. HasMade p.table.now p.limits p.commands.now
         r.outcomes.items r.writer };
 }
 
@@ -99,41 +98,38 @@ fn start_writer<'s, E, G: Gate, const FIRST: u32, const SECOND: u32>(
     table: &'s SharedTable<FIRST, SECOND>,
     limits: Config,
     commands: &'s [Command<FIRST, SECOND>],
-    loaded: usize,
     stop: &'s AtomicBool,
     gate: &'s G,
     recorder: Recorder<FIRST, SECOND>,
 ) -> Option<WriterHandle<'s, FIRST, SECOND>>
-    requires under_way { IsUnderWay table.now limits commands.now loaded
+    requires made { HasMade table.now limits commands.now
         recorder.outcomes.items recorder.writer }
-    requires loaded { vec_len recorder.outcomes ≡ loaded }
+    requires new { vec_len recorder.outcomes ≡ 0 }
     requires room { length commands.now ≤ vec_capacity recorder.outcomes }
     requires commands { All IsForWriter commands.now }
-    ensures { IfSome result (λ h. AreUpdates table.now limits commands.now loaded h.promise) }
+    ensures { IfSome result (λ h. AreUpdates table.now limits commands.now h.promise) }
 {
     let promise = Updates {
         table,
         limits,
         commands,
-        loaded,
         stop,
     };
     let started = scope.spawn_with(
         promise,
         move || -> Recorder<FIRST, SECOND>
-            requires under_way { IsUnderWay table.now limits commands.now loaded
+            requires made { HasMade table.now limits commands.now
                 recorder.outcomes.items recorder.writer }
-            requires loaded { vec_len recorder.outcomes ≡ loaded }
+            requires new { vec_len recorder.outcomes ≡ 0 }
             requires room { length commands.now ≤ vec_capacity recorder.outcomes }
             requires commands { All IsForWriter commands.now }
-            ensures { IsUnderWay table.entry.now limits commands.entry.now loaded
+            ensures { HasMade table.entry.now limits commands.entry.now
                 result.outcomes.items result.writer }
         {
             let updates = Updates {
                 table,
                 limits,
                 commands,
-                loaded,
                 stop,
             };
             change_all(&updates, gate, recorder)
@@ -219,7 +215,6 @@ fn run_in<'s, E, R: Threads + Sync, G: Gate, const FIRST: u32, const SECOND: u32
     table: &'s SharedTable<FIRST, SECOND>,
     limits: Config,
     commands: &'s [Command<FIRST, SECOND>],
-    loaded: usize,
     addrs: &'s [u32],
     rounds: usize,
     stop: &'s AtomicBool,
@@ -231,9 +226,9 @@ fn run_in<'s, E, R: Threads + Sync, G: Gate, const FIRST: u32, const SECOND: u32
     requires workers { All (IsReadyFor table.now (rounds * length addrs.now)) workers.items }
     requires seats { AreInSeats workers.items }
     requires addrs { All (λ a. a < 2 ^ (FIRST + SECOND)) addrs.now }
-    requires under_way { IsUnderWay table.now limits commands.now loaded
+    requires made { HasMade table.now limits commands.now
         recorder.outcomes.items recorder.writer }
-    requires loaded { vec_len recorder.outcomes ≡ loaded }
+    requires new { vec_len recorder.outcomes ≡ 0 }
     requires outcomes { length commands.now ≤ vec_capacity recorder.outcomes }
     requires commands { All IsForWriter commands.now }
     requires none { vec_len ended ≡ 0 }
@@ -241,8 +236,8 @@ fn run_in<'s, E, R: Threads + Sync, G: Gate, const FIRST: u32, const SECOND: u32
     ensures over { IfOk result (λ e. All (IsOver table.now addrs.now rounds) e.workers.items) }
     ensures seats { IfOk result (λ e. AreInSeats e.workers.items) }
     ensures all { IfOk result (λ e. IfSome e.recorder (λ r. vec_len e.workers ≡ vec_len workers)) }
-    ensures under_way { IfOk result (λ e. IfSome e.recorder (λ r.
-        IsUnderWay table.now limits commands.now loaded r.outcomes.items r.writer)) }
+    ensures made { IfOk result (λ e. IfSome e.recorder (λ r.
+        HasMade table.now limits commands.now r.outcomes.items r.writer)) }
 {
     let mut handles = Vec::with_capacity(alloc, workers.len())?;
     let mut changed = None;
@@ -256,7 +251,7 @@ fn run_in<'s, E, R: Threads + Sync, G: Gate, const FIRST: u32, const SECOND: u32
         workers,
         &mut handles,
     ) {
-        let started = start_writer(scope, table, limits, commands, loaded, stop, gate, recorder);
+        let started = start_writer(scope, table, limits, commands, stop, gate, recorder);
         if let Some(handle) = started {
             changed = Some(handle.join(rt));
         }
@@ -278,7 +273,6 @@ fn in_scope<'a, R: Threads + Wait + Sync, G: Gate, const FIRST: u32, const SECON
     table: &'a SharedTable<FIRST, SECOND>,
     limits: Config,
     commands: &'a [Command<FIRST, SECOND>],
-    loaded: usize,
     addrs: &'a [u32],
     rounds: usize,
     stop: &'a AtomicBool,
@@ -290,9 +284,9 @@ fn in_scope<'a, R: Threads + Wait + Sync, G: Gate, const FIRST: u32, const SECON
     requires workers { All (IsReadyFor table.now (rounds * length addrs.now)) workers.items }
     requires seats { AreInSeats workers.items }
     requires addrs { All (λ a. a < 2 ^ (FIRST + SECOND)) addrs.now }
-    requires under_way { IsUnderWay table.now limits commands.now loaded
+    requires made { HasMade table.now limits commands.now
         recorder.outcomes.items recorder.writer }
-    requires loaded { vec_len recorder.outcomes ≡ loaded }
+    requires new { vec_len recorder.outcomes ≡ 0 }
     requires outcomes { length commands.now ≤ vec_capacity recorder.outcomes }
     requires commands { All IsForWriter commands.now }
     requires none { vec_len ended ≡ 0 }
@@ -300,8 +294,8 @@ fn in_scope<'a, R: Threads + Wait + Sync, G: Gate, const FIRST: u32, const SECON
     ensures over { IfOk result (λ e. All (IsOver table.now addrs.now rounds) e.workers.items) }
     ensures seats { IfOk result (λ e. AreInSeats e.workers.items) }
     ensures all { IfOk result (λ e. IfSome e.recorder (λ r. vec_len e.workers ≡ vec_len workers)) }
-    ensures under_way { IfOk result (λ e. IfSome e.recorder (λ r.
-        IsUnderWay table.now limits commands.now loaded r.outcomes.items r.writer)) }
+    ensures made { IfOk result (λ e. IfSome e.recorder (λ r.
+        HasMade table.now limits commands.now r.outcomes.items r.writer)) }
 {
     thread::scope(
         thread::scope_env(),
@@ -311,9 +305,9 @@ fn in_scope<'a, R: Threads + Wait + Sync, G: Gate, const FIRST: u32, const SECON
             requires workers { All (IsReadyFor table.now (rounds * length addrs.now)) workers.items }
             requires seats { AreInSeats workers.items }
             requires addrs { All (λ a. a < 2 ^ (FIRST + SECOND)) addrs.now }
-            requires under_way { IsUnderWay table.now limits commands.now loaded
+            requires made { HasMade table.now limits commands.now
                 recorder.outcomes.items recorder.writer }
-            requires loaded { vec_len recorder.outcomes ≡ loaded }
+            requires new { vec_len recorder.outcomes ≡ 0 }
             requires outcomes { length commands.now ≤ vec_capacity recorder.outcomes }
             requires commands { All IsForWriter commands.now }
             requires none { vec_len ended ≡ 0 }
@@ -323,13 +317,13 @@ fn in_scope<'a, R: Threads + Wait + Sync, G: Gate, const FIRST: u32, const SECON
             ensures seats { IfOk result (λ e. AreInSeats e.workers.items) }
             ensures all { IfOk result (λ e.
                 IfSome e.recorder (λ r. vec_len e.workers ≡ vec_len workers)) }
-            ensures under_way { IfOk result (λ e. IfSome e.recorder (λ r.
-                IsUnderWay table.entry.now limits commands.entry.now loaded
+            ensures made { IfOk result (λ e. IfSome e.recorder (λ r.
+                HasMade table.entry.now limits commands.entry.now
                 r.outcomes.items r.writer)) }
         {
             run_in(
-                scope, rt, alloc, table, limits, commands, loaded, addrs, rounds, stop, gate,
-                workers, recorder, ended,
+                scope, rt, alloc, table, limits, commands, addrs, rounds, stop, gate, workers,
+                recorder, ended,
             )
         },
     )
@@ -343,7 +337,6 @@ pub fn run_threads<'a, R: Threads + Wait + Sync, G: Gate, const FIRST: u32, cons
     table: &'a SharedTable<FIRST, SECOND>,
     limits: Config,
     commands: &'a [Command<FIRST, SECOND>],
-    loaded: usize,
     addrs: &'a [u32],
     rounds: usize,
     stop: &'a AtomicBool,
@@ -354,16 +347,16 @@ pub fn run_threads<'a, R: Threads + Wait + Sync, G: Gate, const FIRST: u32, cons
     requires workers { All (IsReadyFor table.now (rounds * length addrs.now)) workers.items }
     requires seats { AreInSeats workers.items }
     requires addrs { All (λ a. a < 2 ^ (FIRST + SECOND)) addrs.now }
-    requires under_way { IsUnderWay table.now limits commands.now loaded
+    requires made { HasMade table.now limits commands.now
         recorder.outcomes.items recorder.writer }
-    requires loaded { vec_len recorder.outcomes ≡ loaded }
+    requires new { vec_len recorder.outcomes ≡ 0 }
     requires outcomes { length commands.now ≤ vec_capacity recorder.outcomes }
     requires commands { All IsForWriter commands.now }
     ensures over { IfOk result (λ r. All (IsOver table.now addrs.now rounds) r.0.items) }
     ensures seats { IfOk result (λ r. AreInSeats r.0.items) }
     ensures done { IfOk result (λ r. All (λ w. w.is_done ≡ true) r.0.items) }
     ensures len { IfOk result (λ r. vec_len r.0 ≡ vec_len workers) }
-    ensures under_way { IfOk result (λ r. IsUnderWay table.now limits commands.now loaded
+    ensures made { IfOk result (λ r. HasMade table.now limits commands.now
         r.1.outcomes.items r.1.writer) }
     ensures all { IfOk result (λ r. vec_len r.1.outcomes ≡ length commands.now) }
     ensures had_memory { IfOk result (λ r.
@@ -372,8 +365,7 @@ pub fn run_threads<'a, R: Threads + Wait + Sync, G: Gate, const FIRST: u32, cons
 {
     let ended = Vec::with_capacity(alloc, workers.len())?;
     let Ended { workers, recorder } = in_scope(
-        rt, alloc, table, limits, commands, loaded, addrs, rounds, stop, gate, workers, recorder,
-        ended,
+        rt, alloc, table, limits, commands, addrs, rounds, stop, gate, workers, recorder, ended,
     )?;
     let Some(recorder) = recorder else {
         return Err(StormError::NoThread);

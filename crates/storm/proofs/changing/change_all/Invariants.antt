@@ -1,11 +1,11 @@
 use Rattle.std.proofs.Common.{◌≡◌, ◌≤◌, length, vec_len, vec_capacity}
-use Rattle.storm.specs.Plans.{IsUnderWay}
+use Rattle.storm.specs.Changing.{HasMade}
 use Rattle.storm.proofs.changing.change_all.Given as goal
 
 -- the commands before this place were made
 abbrev pub invariant-loop-index : goal.invariant-loop-index
 invariant-loop-index g l = record {
-  under_way : IsUnderWay l.updates.table.now l.updates.limits l.updates.commands.now l.updates.loaded l.recorder.outcomes.items l.recorder.writer;
+  made : HasMade l.updates.table.now l.updates.limits l.updates.commands.now l.recorder.outcomes.items l.recorder.writer;
   len : vec_len l.recorder.outcomes ≡ l.index;
   room : length l.updates.commands.now ≤ vec_capacity l.recorder.outcomes;
 }

@@ -3,14 +3,14 @@ use Rattle.std.specs.Prelude.{cond}
 use Rattle.lpm_limits.specs.declared.config.Config.{Config}
 use Rattle.storm.specs.declared.looking.Worker.{Worker}
 use Rattle.storm.specs.Looking.{AreInSeats, IsOver}
-use Rattle.storm.specs.Plans.{HasMadeAll, IsUnderWay}
-use Rattle.storm.proofs.engine.run_over.Goals as goal
+use Rattle.storm.specs.Changing.{HasMade}
+use Rattle.storm.specs.Plans.{HasMadeAll}
+use Rattle.storm.proofs.engine.run.Goals as goal
 
 pub seat_stuck-stuck-requires : goal.seat_stuck-stuck-requires
 seat_stuck-stuck-requires g c =
     let plan = c.args.plan.now in
-    let seats : c.args.table.now.opening.workers ≡ plan.config.workers + cond plan.has_stuck_worker 1 0 =
-    c.requires.workers ∙ ap (λ (k : Config). k.workers) c.requires.limits in (
+    let seats : c.args.table.now.opening.workers ≡ plan.config.workers + cond plan.has_stuck_worker 1 0 = c.requires.workers in (
       lit< tt,
       (
         lit< tt,
@@ -31,8 +31,9 @@ finish-requires-after_bounds g c κs within =
     let recorder = c.in_ok-workers-2.recorder in
     let slice = c.as_mut_slice-workers.ensures.value in
     let made : HasMadeAll plan id recorder.outcomes.items recorder.writer = record {
-      under_way = subst (λ (k : Config). IsUnderWay id k plan.commands.now plan.loaded recorder.outcomes.items recorder.writer)
-          c.requires.limits ran.under_way;
+      made = subst (λ (k : Config). HasMade id k plan.commands.now recorder.outcomes.items recorder.writer)
+          c.limits-limits.ensures ran.made;
+      rules = c.in_ok-recorder.ensures.rules;
       all = omega (arith, ran.all);
       had_memory = ran.had_memory;
     } in
@@ -40,4 +41,4 @@ finish-requires-after_bounds g c κs within =
     let done = subst (λ (ws : List Worker). All (λ w. w.is_done ≡ true) ws) (sym slice) ran.done in
     let len : length c.as_mut_slice-workers.result.now ≡ plan.config.workers = omega (arith, c.as_mut_slice-workers.ensures.len, ran.len, c.in_ok-workers.ensures.len) in
     let numbers = subst AreInSeats (sym slice) ran.seats in
-    (lit< tt, (lit< tt, (lit< tt, (made, (over, (done, (numbers, (len, (c.requires.some, (c.requires.answers, c.requires.addrs))))))))))
+    (lit< tt, (lit< tt, (lit< tt, (made, (over, (done, (numbers, (len, (c.requires.in_range.some, (c.in-Some.ensures.some, c.requires.addrs))))))))))
