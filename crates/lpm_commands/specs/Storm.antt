@@ -1,10 +1,13 @@
 -- Meaning: the command `storm` (this project's program: each worker looks all addresses up, round
 -- after round, while the writer makes the updates; then every answer is held against the versions
 -- of the rules).
-use Rattle.std.specs.Prelude.{ℕ, ◌≡◌, ◌⊎◌, Bool, true, false, List, ◌∷◌, ◌++◌, Option, length, map}
+use Rattle.std.specs.Prelude.{ℕ, ◌≡◌, ◌+◌, ◌⊎◌, Bool, true, false, List, Option, map}
 use Rattle.std.specs.Prelude.{filter}
 use Rattle.lpm_limits.specs.declared.config.Config.{Config}
 use Rattle.lpm_limits.specs.declared.refusal.Refusal.TheVariants as refusals
+use Rattle.lpm_rules.specs.Listed.{rules_of}
+use Rattle.qsbr.specs.Registry.{Registry}
+use Rattle.fib_model.specs.State.{State}
 use Rattle.fib_model.specs.declared.command.Command.{Command}
 use Rattle.route_text.specs.declared.routes.Route.{Route}
 use Rattle.route_text.specs.declared.orders.Order.{Order}
@@ -16,12 +19,14 @@ use Rattle.audit.specs.Report.{storm_lines}
 use Rattle.storm.specs.declared.plan.Plan.{Plan}
 use Rattle.storm.specs.declared.plan.StormError.{StormError}
 use Rattle.storm.specs.declared.plan.StormError.TheVariants as errors
-use Rattle.storm.specs.Plans.{EndsStorm}
+use Rattle.storm.specs.Plans.{EndsBefore, EndsStorm, IsInRange, limits_of}
 use Rattle.storm.specs.Storm.{IsStorm}
 use Rattle.lpm_files.specs.declared.failure.Failure.{Failure}
 use Rattle.lpm_files.specs.declared.failure.Failure.TheVariants as failures
 use Rattle.lpm_files.specs.Inputs.{Reads, AreRead, EndsAtOne}
-use Rattle.lpm_commands.specs.Updating.{command_of, loading_of}
+use Rattle.lpm_commands.specs.Updating.{command_of}
+use Rattle.lpm_commands.specs.Loading.{EndsLoading, IsLoaded}
+use Rattle.lpm_commands.specs.Filled.{rule_of}
 use Rattle.lpm_commands.specs.Apply.{apply_files}
 
 -- the order is one for the writer: a worker of a storm reports by itself
@@ -31,31 +36,49 @@ is_change (orders.Offline worker) = false
 is_change (orders.Quiescent worker) = false
 is_change order = true
 
--- the commands of the writer: the routes are added, and then the updates are made, but for the
--- reports of workers
-abbrev pub storm_commands : List Route → List Order → List (Command 24 8)
-storm_commands list orders = map loading_of list ++ map command_of (filter is_change orders)
+-- the commands of the writer: those of the updates, but for the reports of workers
+abbrev pub storm_commands : List Order → List (Command 24 8)
+storm_commands orders = map command_of (filter is_change orders)
 
--- the plan of a storm on a table of these limits, in so many rounds, with a stuck worker or not:
--- the routes come before the threads
+-- the plan of a storm on a table of these limits, in so many rounds, with a stuck worker or not: the
+-- table has the rules of the routes before the threads start
 pub record IsPlanOf (c : Config) (rounds : ℕ) (is_stuck : Bool) (list : List Route)
     (orders : List Order) (addrs : List ℕ) (plan : Plan 24 8) : Type 0 where
   pub limits : plan.config ≡ c
   pub stuck : plan.has_stuck_worker ≡ is_stuck
-  pub commands : plan.commands.now ≡ storm_commands list orders
-  pub loaded : plan.loaded ≡ length list
+  pub rules : plan.rules.now ≡ map rule_of list
+  pub commands : plan.commands.now ≡ storm_commands orders
   pub addresses : plan.addrs.now ≡ addrs
   pub times : plan.rounds ≡ rounds
 
--- the text is the report of a storm of this plan, and its line of wrong answers is `wrong 0`
-abbrev pub IsTextOf : Plan 24 8 → List ℕ → Type 0
-IsTextOf plan text = (report : StormReport)
-    × IsStorm plan report × (report.wrong ≡ 0) × (text ≡ storm_lines report)
+-- the report, with so many versions more
+abbrev pub with_versions : ℕ → StormReport → StormReport
+with_versions n r = record r { table = record r.table { versions = n + r.table.versions } }
+
+-- the text is the report of a storm of this plan, with so many versions more, and its line of wrong
+-- answers is `wrong 0`
+abbrev pub IsTextOf : Plan 24 8 → ℕ → List ℕ → Type 0
+IsTextOf plan n text = (report : StormReport)
+    × IsStorm plan report × (report.wrong ≡ 0) × (text ≡ storm_lines (with_versions n report))
+
+-- the routes make a table of the plan's limits, none is refused; it has the rules of the plan, and this is
+-- how many of the routes made a version
+abbrev pub AreLoaded : Plan 24 8 → List Route → ℕ → Type 0
+AreLoaded plan list n = (table : State Registry) × IsLoaded (limits_of plan) list table
+    × (table.rules ≡ rules_of plan.rules.now) × (table.begun ≡ n)
+
+-- the text is the report of a storm of this plan, which can be run, on the table of these routes; the
+-- versions that these made are counted too
+pub record IsTextAfter (plan : Plan 24 8) (list : List Route) (text : List ℕ) : Type 0 where
+  pub in_range : IsInRange plan
+  pub versions : ℕ
+  pub loaded : AreLoaded plan list versions
+  pub came : IsTextOf plan versions text
 
 -- the text is the report of a storm of these routes, updates and addresses
 abbrev pub IsTextOver : Config → ℕ → Bool → List Route → List Order → List ℕ → List ℕ → Type 0
 IsTextOver c rounds is_stuck list orders addrs text = (plan : Plan 24 8)
-    × IsPlanOf c rounds is_stuck list orders addrs plan × IsTextOf plan text
+    × IsPlanOf c rounds is_stuck list orders addrs plan × IsTextAfter plan list text
 
 -- the text is the report of a storm of what the files list; their bytes are known, or not
 pub record IsStormText (c : Config) (rounds : ℕ) (is_stuck : Bool)
@@ -68,28 +91,31 @@ pub record IsStormText (c : Config) (rounds : ℕ) (is_stuck : Bool)
   pub are_addrs : Reads AreAddresses addresses addrs
   pub came : IsTextOver c rounds is_stuck list orders addrs text
 
--- the line is that of the route at this place
-abbrev pub IsLineAt : List Route → ℕ → ℕ → Type 0
-IsLineAt list index line = (before : List Route) × ((route : Route) × ((after : List Route)
-    × (list ≡ before ++ route ∷ after) × (index ≡ length before) × (line ≡ route.line)))
+-- what a storm that came to nothing ends the run with
+abbrev pub ending_of : StormError → Failure
+ending_of errors.NoWorkers = failures.Refused refusals.NoWorkers
+ending_of errors.BadConfig = failures.Refused refusals.BadConfig
+ending_of errors.Exhausted = failures.Refused refusals.Exhausted
+ending_of errors.NoThread = failures.Refused refusals.NoThread
+ending_of errors.Memory = failures.Memory
 
--- what a storm that came to nothing ends the run with: a refused route is told by its line of the
--- file of this path
-abbrev pub IsEndingOf : List ℕ → List Route → StormError → Failure → Type 0
-IsEndingOf file list errors.NoWorkers failure = failure ≡ failures.Refused refusals.NoWorkers
-IsEndingOf file list errors.BadConfig failure = failure ≡ failures.Refused refusals.BadConfig
-IsEndingOf file list (errors.Refused index why) (failures.RefusedRoute path line refusal) =
-    (path.now ≡ file) × IsLineAt list index line × (refusal ≡ why)
-IsEndingOf file list (errors.Refused index why) failure = ⊥
-IsEndingOf file list errors.Exhausted failure = failure ≡ failures.Refused refusals.Exhausted
-IsEndingOf file list errors.NoThread failure = failure ≡ failures.Refused refusals.NoThread
-IsEndingOf file list errors.Memory failure = failure ≡ failures.Memory
+-- the storm of this plan ends so, on its table
+abbrev pub EndsRunning : Plan 24 8 → Failure → Type 0
+EndsRunning plan failure =
+    (error : StormError) × EndsStorm plan error × (failure ≡ ending_of error)
 
--- the storm of this plan, whose first commands are the routes of the file of this path, ends so: memory
--- is wanted, or it comes to nothing
+-- the storm of this plan, which can be run, ends so: by loading the routes of the file of this path, else
+-- on the table that these make
+abbrev pub EndsAfter : Plan 24 8 → List ℕ → List Route → Failure → Type 0
+EndsAfter plan file list failure = EndsLoading (limits_of plan) file list failure
+    ⊎ (((n : ℕ) × AreLoaded plan list n) × EndsRunning plan failure)
+
+-- the storm of this plan ends so: memory is wanted; else it comes to nothing before its table is opened;
+-- else by its routes, or on its table
 abbrev pub EndsBy : Plan 24 8 → List ℕ → List Route → Failure → Type 0
 EndsBy plan file list failure = (failure ≡ failures.Memory)
-    ⊎ ((error : StormError) × EndsStorm plan error × IsEndingOf file list error failure)
+    ⊎ ((error : StormError) × EndsBefore plan error × (failure ≡ ending_of error))
+    ⊎ (IsInRange plan × EndsAfter plan file list failure)
 
 -- the storm of these routes, updates and addresses ends so
 abbrev pub EndsOver : Config → ℕ → Bool → List ℕ → List Route → List Order → List ℕ → Failure

@@ -8,6 +8,7 @@ ghost use Rattle.lpm_rules.specs.Listed.{AreInOrder, rules_of, with_rules};
 ghost use Rattle.qsbr.specs.Registry.{Registry};
 ghost use Rattle.fib_model.specs.State.{State};
 ghost use Rattle.shared_fib.specs.Passes.{IsFullBench};
+ghost use Rattle.shared_fib.specs.Running.{opens_with};
 ghost use Rattle.lpm_commands.specs.Loading.{IsLoaded, EndsLoading, addition_of, rules_of_routes};
 ghost use Rattle.lpm_commands.specs.Groups.{IsEnough, long_routes};
 ghost use Rattle.lpm_commands.specs.Filled.{Fits, IsFilled};
@@ -143,6 +144,42 @@ pub fn open_for_lookups<'a>(
     } else {
         open_and_add(alloc, path, routes, limits)
     }
+}
+
+/// A running table with the rules of the routes and with all groups, so that it can be changed, and how many of
+/// the routes made a version. No pass is handed out yet.
+///
+/// The rules are version 0 of the running table, which counts its versions from there. A table of one thread
+/// is loaded, as [`load`] says, and goes live. So each word is stored once, whatever the file repeats.
+pub fn open_for_changes<'a>(
+    alloc: Global,
+    path: &'a str,
+    routes: &[Route],
+    config: Config,
+) -> Result<(Running, u64), Failure<'a>>
+    requires { IsConfig config }
+    ensures opened { IfOk result (λ r.
+        r.0.writer ≡ opens_with r.0.table config (rules_of_routes routes.now)) }
+    ensures token { IfOk result (λ r. r.0.table.opening.token ≡ config.first_token) }
+    ensures workers { IfOk result (λ r. r.0.table.opening.workers ≡ config.workers) }
+    ensures full { IfOk result (λ r. IsFullBench r.0.table r.0.bench) }
+    ensures loaded { IfOk result (λ r. (table : State Registry)
+        × IsLoaded config routes.now table × (table.begun ≡ r.1)) }
+    ensures few { IfOk result (λ r. r.1 ≤ length routes.now) }
+    ensures failure { IfErr result (EndsLoading config path.entry.now routes.now) }
+{
+    let fib = match load(alloc, path, routes, config) {
+        Ok(fib) => fib,
+        Err(failure) => return Err(failure),
+    };
+    let versions = fib.versions();
+    let (table, writer, bench) = go_live(alloc, fib)?;
+    let running = Running {
+        table,
+        writer,
+        bench,
+    };
+    Ok((running, versions))
 }
 
 // The running table of at most 2^26 routes, which opens with all their rules at once.

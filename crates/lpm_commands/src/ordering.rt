@@ -23,8 +23,8 @@ pub fn rules_in_order(alloc: Global, routes: &[Route]) -> Result<Vec<Rule<24, 8>
     in_order(alloc, &rules)
 }
 
-// The rules of the routes, as they stand.
-fn rules_of_routes(alloc: Global, routes: &[Route]) -> Result<Vec<Rule<24, 8>>, AllocError>
+/// The rules of the routes, as they stand.
+pub fn rules_of_routes(alloc: Global, routes: &[Route]) -> Result<Vec<Rule<24, 8>>, AllocError>
     ensures { IfOk result (λ v. v.items ≡ map rule_of routes.now) }
 {
     let mut rules = Vec::with_capacity(alloc, routes.len())?;

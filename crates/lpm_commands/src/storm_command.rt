@@ -1,15 +1,21 @@
 //! `storm`: how many answers of lookups beside a writer were wrong.
-ghost use Rattle.std.specs.Prelude.{◌≡◌, ◌≢◌, ◌<◌, ◌≤◌, ◌^◌, ◌++◌, ℕ, All, length, map, filter};
+ghost use Rattle.std.specs.Prelude.{◌≡◌, ◌≢◌, ◌+◌, ◌<◌, ◌^◌, ◌⊎◌, All};
 ghost use Rattle.std.specs.Prelude.{IfOk, IfErr, OnOk, IsErrOf};
-ghost use Rattle.lpm_limits.specs.declared.refusal.Refusal.{Refusal};
+ghost use Rattle.lpm_rules.specs.Listed.{rules_of};
+ghost use Rattle.shared_fib.specs.Passes.{IsFullBench};
+ghost use Rattle.shared_fib.specs.Running.{opens_with};
 ghost use Rattle.lpm_files.specs.Output.{Writes, WritesBeginning};
 ghost use Rattle.storm.specs.Changing.{IsForWriter};
-ghost use Rattle.lpm_commands.specs.Updating.{command_of, loading_of};
-ghost use Rattle.lpm_commands.specs.Storm.{IsStormText, IsTextOf, IsTextOver, IsEndingOf};
-ghost use Rattle.lpm_commands.specs.Storm.{EndsBy, EndsOver, EndsStormRun, is_change, storm_commands};
+ghost use Rattle.storm.specs.Plans.{IsInRange, limits_of};
+ghost use Rattle.lpm_commands.specs.Loading.{rules_of_routes};
+ghost use Rattle.lpm_commands.specs.Updating.{command_of};
+ghost use Rattle.lpm_commands.specs.Storm.{IsStormText, IsTextAfter, IsTextOf, IsTextOver, ending_of, with_versions};
+ghost use Rattle.lpm_commands.specs.Storm.{EndsAfter, EndsBy, EndsOver, EndsRunning, EndsStormRun, is_change, storm_commands};
 
+use crate::loading::{Running, open_for_changes};
+use crate::ordering::rules_of_routes;
 use crate::updating::command_of;
-use audit::storm_text;
+use audit::{Report, StormReport, storm_text};
 use bulk::Gate;
 use fib_model::Command;
 use lpm_files::{Addresses, Failure, Files, Updates, put_text, read_list, read_routes_on};
@@ -23,11 +29,13 @@ use storm::{Plan, StormError, run};
 
 /// Writes how many answers there were beside the updates, how many of these were refused and how many
 /// answers were wrong, and then the report of the table in the end. Each worker of the table looks all
-/// addresses up, `rounds` times, on a thread of its own, while one more thread makes the updates of the
-/// routes but for the reports of workers. The threads call the gate as `storm::run` says.
+/// addresses up, `rounds` times, on a thread of its own, while one more thread makes the updates but
+/// for the reports of workers. The threads call the gate as `storm::run` says.
 ///
-/// Each file is read and parsed before the next, and all before the table is opened. The text is
-/// formed whole before it is written. A refused update doesn't stop the file.
+/// Each file is read and parsed before the next, and all before the table is opened. Then no workers, a limit
+/// out of range and too many answers are refused, and then a route. The table opens with the rules of the
+/// routes, and the versions that these made are counted in the report. The text is formed whole before it is
+/// written. A refused update doesn't stop the file.
 pub fn storm<'a, R: Threads + Wait + Sync, F: Files, G: Gate, W: Write>(
     rt: &R,
     alloc: Global,
@@ -126,20 +134,21 @@ fn text_over<'a, R: Threads + Wait + Sync, G: Gate>(
     ensures failure { IfErr result (EndsOver config rounds has_stuck_worker
         path.entry.now routes.now orders.now addrs.now) }
 {
-    let commands = commands_of(alloc, routes, orders)?;
+    let rules = rules_of_routes(alloc, routes)?;
+    let commands = changes_of(alloc, orders)?;
     let plan = Plan {
         config,
         has_stuck_worker,
+        rules: &rules,
         commands: &commands,
-        loaded: routes.len(),
         addrs,
         rounds,
     };
     text_of(rt, alloc, &plan, path, routes, gate)
 }
 
-// The text of the report of a storm of this plan. The commands before its threads are the routes of the
-// file of this path.
+// The text of the report of a storm of this plan. Its rules are those of the routes of the file of this
+// path.
 fn text_of<'a, R: Threads + Wait + Sync, G: Gate>(
     rt: &R,
     alloc: Global,
@@ -148,24 +157,91 @@ fn text_of<'a, R: Threads + Wait + Sync, G: Gate>(
     routes: &[Route],
     gate: &G,
 ) -> Result<Vec<u8>, Failure<'a>>
+    requires rules { rules_of plan.now.rules.now ≡ rules_of_routes routes.now }
     requires commands { All IsForWriter plan.now.commands.now }
-    requires early { plan.now.loaded ≤ length plan.now.commands.now }
-    requires loaded { plan.now.loaded ≡ length routes.now }
     requires addrs { All (λ a. a < 2 ^ 32) plan.now.addrs.now }
-    ensures text { IfOk result (λ v. IsTextOf plan.now v.items) }
+    ensures text { IfOk result (λ v. IsTextAfter plan.now routes.now v.items) }
     ensures failure { IfErr result (EndsBy plan.now path.entry.now routes.now) }
 {
-    match run(rt, alloc, plan, gate) {
-        Ok(report) => Ok(storm_text(alloc, &report)?),
-        Err(error) => Err(ending_of(error, path, routes)),
+    match plan.table_limits() {
+        Ok(limits) => text_after(rt, alloc, plan, path, routes, limits, gate),
+        Err(error) => Err(ending_of(error)),
+    }
+}
+
+// The text of the report of a storm of this plan on the table of the routes, which has these limits.
+fn text_after<'a, R: Threads + Wait + Sync, G: Gate>(
+    rt: &R,
+    alloc: Global,
+    plan: &Plan<'_, 24, 8>,
+    path: &'a str,
+    routes: &[Route],
+    limits: Config,
+    gate: &G,
+) -> Result<Vec<u8>, Failure<'a>>
+    requires in_range { IsInRange plan.now }
+    requires limits { limits ≡ limits_of plan.now }
+    requires rules { rules_of plan.now.rules.now ≡ rules_of_routes routes.now }
+    requires commands { All IsForWriter plan.now.commands.now }
+    requires addrs { All (λ a. a < 2 ^ 32) plan.now.addrs.now }
+    ensures text { IfOk result (λ v. IsTextAfter plan.now routes.now v.items) }
+    ensures failure { IfErr result (EndsAfter plan.now path.entry.now routes.now) }
+{
+    match open_for_changes(alloc, path, routes, limits) {
+        Ok((running, versions)) => text_on(rt, alloc, plan, running, versions, gate),
+        Err(failure) => Err(failure),
+    }
+}
+
+// The text of the report of a storm of this plan on its table, where so many versions more are counted.
+fn text_on<'a, R: Threads + Wait + Sync, G: Gate>(
+    rt: &R,
+    alloc: Global,
+    plan: &Plan<'_, 24, 8>,
+    running: Running,
+    versions: u64,
+    gate: &G,
+) -> Result<Vec<u8>, Failure<'a>>
+    requires in_range { IsInRange plan.now }
+    requires new { running.writer
+        ≡ opens_with running.table (limits_of plan.now) (rules_of plan.now.rules.now) }
+    requires token { running.table.opening.token ≡ plan.now.config.first_token }
+    requires workers { running.table.opening.workers ≡ (limits_of plan.now).workers }
+    requires full { IsFullBench running.table running.bench }
+    requires commands { All IsForWriter plan.now.commands.now }
+    requires addrs { All (λ a. a < 2 ^ 32) plan.now.addrs.now }
+    requires few { versions < 2 ^ 63 }
+    ensures text { IfOk result (λ v. IsTextOf plan.now versions v.items) }
+    ensures failure { IfErr result (λ e. (e ≡ Failure.Memory) ⊎ EndsRunning plan.now e) }
+{
+    let Running {
+        table,
+        writer,
+        mut bench,
+    } = running;
+    match run(rt, alloc, plan, &table, writer, &mut bench, gate) {
+        Ok(report) => Ok(storm_text(alloc, &with_versions(report, versions))?),
+        Err(error) => Err(ending_of(error)),
+    }
+}
+
+// The report, with so many versions more.
+fn with_versions(report: StormReport, versions: u64) -> StormReport
+    requires { versions + report.table.versions < 2 ^ 64 }
+    ensures { result ≡ with_versions versions report }
+{
+    StormReport {
+        table: Report {
+            versions: versions + report.table.versions,
+            ..report.table
+        },
+        ..report
     }
 }
 
 // What a storm that came to nothing ends the run with.
-fn ending_of<'a>(error: StormError, path: &'a str, routes: &[Route]) -> Failure<'a>
-    requires { (index : ℕ) → (why : Refusal) → error ≡ StormError.Refused index why
-        → index < length routes.now }
-    ensures { IsEndingOf path.entry.now routes.now error result }
+fn ending_of<'a>(error: StormError) -> Failure<'a>
+    ensures { result ≡ ending_of error }
 {
     match error {
         StormError::NoWorkers => Failure::Refused {
@@ -173,11 +249,6 @@ fn ending_of<'a>(error: StormError, path: &'a str, routes: &[Route]) -> Failure<
         },
         StormError::BadConfig => Failure::Refused {
             refusal: Refusal::BadConfig,
-        },
-        StormError::Refused { index, refusal } => Failure::RefusedRoute {
-            path,
-            line: routes[index].line,
-            refusal,
         },
         StormError::Exhausted => Failure::Refused {
             refusal: Refusal::Exhausted,
@@ -189,41 +260,17 @@ fn ending_of<'a>(error: StormError, path: &'a str, routes: &[Route]) -> Failure<
     }
 }
 
-// The commands of the writer: the routes are added, and then the updates are made.
-fn commands_of(
-    alloc: Global,
-    routes: &[Route],
-    orders: &[Order],
-) -> Result<Vec<Command<24, 8>>, AllocError>
-    ensures { IfOk result (λ v. v.items ≡ storm_commands routes.now orders.now) }
+// The commands that the updates ask for, but for the reports of workers.
+fn changes_of(alloc: Global, orders: &[Order]) -> Result<Vec<Command<24, 8>>, AllocError>
+    ensures { IfOk result (λ v. v.items ≡ storm_commands orders.now) }
 {
-    let mut commands = additions_of(alloc, routes)?;
-    push_changes(&mut commands, orders)?;
-    Ok(commands)
-}
-
-// The commands that add the routes.
-fn additions_of(alloc: Global, routes: &[Route]) -> Result<Vec<Command<24, 8>>, AllocError>
-    ensures { IfOk result (λ v. v.items ≡ map loading_of routes.now) }
-{
-    let mut commands = Vec::with_capacity(alloc, routes.len())?;
-    for route in routes {
-        commands.push(Command::Add(route.prefix, route.hop))?;
-    }
-    Ok(commands)
-}
-
-// Adds the commands that the updates ask for, but for the reports of workers.
-fn push_changes(commands: &mut Vec<Command<24, 8>>, orders: &[Order]) -> Result<(), AllocError>
-    ensures { OnOk result (commands.new.items
-        ≡ commands.old.items ++ map command_of (filter is_change orders.now)) }
-{
+    let mut commands = Vec::new(alloc);
     for order in orders {
         if is_change(order) {
             commands.push(command_of(order))?;
         }
     }
-    Ok(())
+    Ok(commands)
 }
 
 // Whether the update is one for the writer: a worker of a storm reports by itself.

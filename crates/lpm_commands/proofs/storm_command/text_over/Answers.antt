@@ -1,19 +1,29 @@
-use Rattle.std.proofs.Common.{◌∙◌, refl, inr}
+use Rattle.std.proofs.Common.{◌∙◌, ap, refl, inr, List}
 use Rattle.std.proofs.lemmas.Result.{IfOk-weaker, IfErr-weaker}
+use Rattle.lpm_rules.specs.declared.Rule.{Rule}
+use Rattle.lpm_rules.specs.Listed.{rules_of}
 use Rattle.lpm_commands.proofs.Storms.{for_writer, is_plan}
+use Rattle.lpm_commands.proofs.Sorted.{same_rules}
 use Rattle.lpm_commands.proofs.storm_command.text_over.Goals as goal
+
+pub text_of-requires-clause-rules : goal.text_of-requires-clause-rules
+text_of-requires-clause-rules g c κs within =
+    let rules = c.deref.ensures.value ∙ c.in_ok-rules.ensures in
+    ap (λ (l : List (Rule 24 8)). rules_of l) rules ∙ same_rules c.args.routes.now
 
 pub text_of-requires-clause-commands : goal.text_of-requires-clause-commands
 text_of-requires-clause-commands g c κs within =
-    let same = c.deref.ensures.value ∙ c.in_ok-commands.ensures in
-    rw same (for_writer c.args.routes.now c.args.orders.now)
+    let same = c.deref-2.ensures.value ∙ c.in_ok-commands.ensures in
+    rw same (for_writer c.args.orders.now)
 
 pub returns-clause-text : goal.returns-clause-text
 returns-clause-text g c =
-    let same = c.deref.ensures.value ∙ c.in_ok-commands.ensures in
-    IfOk-weaker c.text_of.result _ _ (λ v came. (_, is_plan c.args.routes.now c.args.orders.now c.args.addrs.now _ same refl refl, came)) c.text_of.ensures.text
+    let rules = c.deref.ensures.value ∙ c.in_ok-rules.ensures in
+    let commands = c.deref-2.ensures.value ∙ c.in_ok-commands.ensures in
+    IfOk-weaker c.text_of.result _ _ (λ v came. (_, is_plan c.args.routes.now c.args.orders.now c.args.addrs.now _ rules commands refl, came)) c.text_of.ensures.text
 
 pub returns-clause-failure : goal.returns-clause-failure
 returns-clause-failure g c =
-    let same = c.deref.ensures.value ∙ c.in_ok-commands.ensures in
-    IfErr-weaker c.text_of.result _ _ (λ e ends. inr (_, is_plan c.args.routes.now c.args.orders.now c.args.addrs.now _ same refl refl, ends)) c.text_of.ensures.failure
+    let rules = c.deref.ensures.value ∙ c.in_ok-rules.ensures in
+    let commands = c.deref-2.ensures.value ∙ c.in_ok-commands.ensures in
+    IfErr-weaker c.text_of.result _ _ (λ e ends. inr (_, is_plan c.args.routes.now c.args.orders.now c.args.addrs.now _ rules commands refl, ends)) c.text_of.ensures.failure
