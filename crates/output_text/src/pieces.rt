@@ -26,7 +26,7 @@ pub(crate) fn put_holder(text: &mut Vec<u8>, worker: usize, counter: u64) -> Res
 }
 
 /// Adds the address as four octets.
-fn put_octets(text: &mut Vec<u8>, addr: u32) -> Result<(), AllocError>
+pub(crate) fn put_octets(text: &mut Vec<u8>, addr: u32) -> Result<(), AllocError>
     ensures { OnOk result (text.new.items ≡ text.old.items ++ address_text addr) }
 {
     let mut octets = [0; ADDRESS_ROOM];
