@@ -11,10 +11,11 @@ What fails is printed, and makes the exit status 1. Checked are
 - completion: bash offers the options of a command that aren't given yet, as many files as the command wants, and
   neither where a number is wanted.
 - installing: from a copy of the repository's files under a folder, the program runs and each file is in place, with
-  DESTDIR too. After --uninstall nothing is left but what was there before. Where nothing is built it says so.
+  DESTDIR too, and with the library for C programs and without it. After --uninstall nothing is left but what was there
+  before. Where nothing is built it says so.
 - the first look: tools/lpmtool is the built program, and answers the addresses of examples/. Where nothing is built it
   says that what follows is unproved, and hands words and files to `rt try`, of which a stand-in takes note here.
-- form: mandoc's lint has nothing to say of the manual page, and zsh and fish read their completions. Each is checked
+- form: mandoc's lint has nothing to say of the manual pages, and zsh and fish read their completions. Each is checked
   only where that program is installed.
 
 The program that is installed is the built one, or a stand-in where none is there. Not seen: what zsh and fish offer at
@@ -36,6 +37,9 @@ TOP = pathlib.Path(__file__).resolve().parent.parent
 PROGRAM = "crates/lpmtool/out/lpmtool"
 MANUAL = "docs/man/lpmtool.1"
 FIRST_LOOK = "tools/lpmtool"
+ARCHIVE = "c/out/libsaxiko.a"
+HEADER = "c/saxiko.h"
+LIBRARY_MANUAL = "docs/man/saxiko.3"
 FOLDER = "tools/completions"
 # The completions of each shell, and how an option and a command are written there.
 SHELLS = {
@@ -144,9 +148,10 @@ def check_manual():
 
 
 def check_form():
-    status, told = run(["mandoc", "-Tlint", "-Wwarning", MANUAL])
-    if status or told:
-        yield f"{MANUAL}: {told}"
+    for manual in (MANUAL, LIBRARY_MANUAL):
+        status, told = run(["mandoc", "-Tlint", "-Wwarning", manual])
+        if status or told:
+            yield f"{manual}: {told}"
 
 
 # ---- the completions
@@ -201,6 +206,13 @@ PLACES = {
     "share/zsh/site-functions/_lpmtool": f"{FOLDER}/_lpmtool",
     "share/fish/vendor_completions.d/lpmtool.fish": f"{FOLDER}/lpmtool.fish",
 }
+LIBRARY = {
+    "lib/libsaxiko.a": ARCHIVE,
+    "include/saxiko.h": HEADER,
+    "lib/pkgconfig/saxiko.pc": "c/out/saxiko.pc",
+    "share/man/man3/saxiko.3": LIBRARY_MANUAL,
+}
+BUILT = (PROGRAM, ARCHIVE, "c/out/saxiko.pc")  # not in the repository
 NOTES = "share/lpmtool/folders"  # which folders were made
 
 
@@ -210,14 +222,16 @@ def put_script(path, line):
 
 
 @contextlib.contextmanager
-def copied(program):
-    """A new folder with `top`, a copy of what is installed, with the program or without one."""
+def copied(program, has_library=False):
+    """A new folder with `top`, a copy of what is installed, with the program and the library or without them."""
     with tempfile.TemporaryDirectory(prefix="check install ") as folder:
         top = pathlib.Path(folder, "top")
-        for path in ["tools/install.sh", FIRST_LOOK, *PLACES.values()]:
+        for path in ["tools/install.sh", FIRST_LOOK, "c/saxiko.pc.in", *PLACES.values(), *LIBRARY.values()]:
             (top / path).parent.mkdir(parents=True, exist_ok=True)
-            if path != PROGRAM:
+            if path not in BUILT:
                 shutil.copy(TOP / path, top / path)
+        if has_library:
+            (top / ARCHIVE).write_text("!<arch>\n")
         if program and program.exists():
             shutil.copy(program, top / PROGRAM)
         elif program:
@@ -234,13 +248,14 @@ def tree(folder):
     return sorted(str(path.relative_to(folder)) for path in folder.rglob("*"))
 
 
-def misplaced(root, top):
+def misplaced(root, top, has_library):
     """What is wrong with the installed files under a folder."""
     files = {it for it in tree(root) if not (root / it).is_dir()}
-    if files != {*PLACES, NOTES}:
+    places = {**PLACES, **(LIBRARY if has_library else {})}
+    if files != {*places, NOTES}:
         yield f"installed are {sorted(files)}"
         return
-    for place, path in PLACES.items():
+    for place, path in places.items():
         mode = 0o755 if path == PROGRAM else 0o644
         if (root / place).read_bytes() != (top / path).read_bytes() or (root / place).stat().st_mode & 0o777 != mode:
             yield f"installed at {place} is another file, or its mode isn't {mode:o}"
@@ -251,15 +266,18 @@ def misplaced(root, top):
 
 def check_round(program, is_staged):
     """Installs twice and uninstalls, in a new folder and where another's are, in which another file comes meanwhile."""
-    for others, later in (([], []), (["bin", "share/man/man1"], ["share/zsh", "share/zsh/later"])):
-        with copied(program) as folder:
+    for others, later, has_library in (([], [], False), ([], [], True),
+                                       (["bin", "share/man/man1"], ["share/zsh", "share/zsh/later"], True)):
+        with copied(program, has_library) as folder:
             prefix, stage = folder / "new", f"{folder}/stage" if is_staged else ""
             place, given = pathlib.Path(f"{stage}{prefix}"), {"env": {**os.environ, "DESTDIR": stage}}
             for other in others:
                 (place / other).mkdir(parents=True)
             wanted = sorted({*tree(place), *later})
             told = [install(folder, "--prefix", "new", **given) for _ in range(2)]
-            yield from misplaced(place, folder / "top")
+            yield from misplaced(place, folder / "top", has_library)
+            if has_library and f"prefix={prefix}\n" not in (place / "lib/pkgconfig/saxiko.pc").read_text():
+                yield f"saxiko.pc has another prefix than {prefix}"
             for other in later[-1:]:
                 (place / other).touch()
             told.append(install(folder, "--prefix=new", "--uninstall", **given))

@@ -56,7 +56,8 @@ NAMES = {"Call", "Contract", "Definition", "Definitions", "Defined in", "Defined
          "Gives back, and by which definition"}
 VARIES = "<!-- varies -->"
 LOCAL = ("src", "specs", "proofs", "must-fail")
-ROOTS = ("crates", "docs", "tools", "examples", ".ci")
+ROOTS = ("c", "crates", "docs", "tools", "examples", ".ci")
+HEADER = TOP / "c/saxiko.h"
 # Names that pages rightly cite and that aren't declared here, each with where it comes from.
 ELSEWHERE = {
     **dict.fromkeys("requires ensures".split(), "words of Rattle"),
@@ -81,7 +82,7 @@ def crates():
     """Each crate with the crates that it stands on, the kit's too."""
     lines = (TOP / "crates.txt").read_text().splitlines()
     pairs = (line.split(":") for line in lines if line and not line.startswith("#"))
-    return {name: set(rest.split()) for name, rest in pairs}
+    return {name.split()[0]: set(rest.split()) for name, rest in pairs}
 
 
 @functools.cache
@@ -171,8 +172,8 @@ def crate_of(path):
 
 
 def elsewhere(page):
-    """The names on a page that aren't declared here."""
-    return set(ELSEWHERE) | (GONE if page.path == "CHANGELOG.md" else set())
+    """The names on a page that aren't declared here; those of C are in the header."""
+    return set(ELSEWHERE) | set(re.findall(r"\w+", HEADER.read_text())) | (GONE if page.path == "CHANGELOG.md" else set())
 
 
 # ---- what a page has

@@ -1,5 +1,6 @@
 #!/bin/sh
-# Puts the built lpmtool, its manual page and its completions under a folder, or takes them away again:
+# Puts the built lpmtool, its manual page and its completions under a folder, with the library for C programs where that
+# is built, or takes them away again:
 #
 #     tools/install.sh [--prefix DIR] [--uninstall]
 #
@@ -19,6 +20,11 @@ docs/man/lpmtool.1 644 share/man/man1/lpmtool.1
 tools/completions/lpmtool.bash 644 share/bash-completion/completions/lpmtool
 tools/completions/_lpmtool 644 share/zsh/site-functions/_lpmtool
 tools/completions/lpmtool.fish 644 share/fish/vendor_completions.d/lpmtool.fish"
+archive=c/out/libsaxiko.a
+library="$archive 644 lib/libsaxiko.a
+c/saxiko.h 644 include/saxiko.h
+c/out/saxiko.pc 644 lib/pkgconfig/saxiko.pc
+docs/man/saxiko.3 644 share/man/man3/saxiko.3"
 
 refuse() {
     printf '%s\n' "$@" >&2
@@ -43,11 +49,24 @@ put() {
     mv -f "$root/$3.new" "$root/$3"
 }
 
+# What pkg-config is told of the library.
+describe() {
+    version=$(sed -n 's/^#define SAXIKO_VERSION "\(.*\)"$/\1/p' "$top/c/saxiko.h")
+    sed "s|@PREFIX@|$prefix|; s|@VERSION@|$version|" "$top/c/saxiko.pc.in" > "$top/c/out/saxiko.pc"
+}
+
 install_all() {
     if [ ! -f "$top/$program" ]; then
         printf '%s\n' "$program isn't there: lpmtool isn't built. With the kit's rt on the path, from the top:" \
             "    cd crates/lpmtool && rt run -- --help" >&2
         exit 1
+    fi
+    if [ -f "$top/$archive" ]; then
+        describe
+        files="$files
+$library"
+    else
+        echo "$archive isn't there, so the library for C programs isn't installed: tools/build_c.py makes it"
     fi
     mkdir -p "$root"
     made=""
@@ -72,7 +91,7 @@ END
 }
 
 uninstall_all() {
-    for place in $(printf '%s\n' "$files" | sed 's/.* //'); do
+    for place in $(printf '%s\n' "$files" "$library" | sed 's/.* //'); do
         rm -f "$root/$place"
     done
     if [ -f "$root/$notes" ]; then

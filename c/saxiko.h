@@ -1,0 +1,143 @@
+/* saxiko.h: the IPv4 longest-prefix-match table of software routers (DIR-24-8).
+ *
+ * Link with libsaxiko.a, which needs nothing but the C library: saxiko.pc names it for pkg-config.
+ *
+ * Addresses are in host byte order, as in rte_lpm: 10.1.2.3 is 0x0a010203. A rule is a prefix, which is an address with
+ * a depth of 0 to 32 bits, and its next hop, a number from 0 to SAXIKO_HOP_MAX. The bits of the address past the depth
+ * do not count.
+ *
+ * Handles are memory of the caller: a struct that is zero at first, as SAXIKO_CLOSED sets it. Opening a handle takes
+ * memory of its own, which closing it frees; closing one that is closed does nothing. No field of a handle is read or
+ * written but by these calls, and no handle is copied.
+ *
+ * What calls return: 0 or more where they are done, and else an error number of Linux, below 0. An error leaves all as
+ * it was: the rules, the handles and what the pointers point to, unless the call says otherwise. A pointer that is null
+ * or a handle that is closed is -EINVAL in every call. saxiko_strerror has a text for each status.
+ *
+ * Threads: one call at a time on a handle. A handle may go to another thread by the start or the join of a thread, by a
+ * lock, or by a sequentially consistent atomic. Calls on different handles may run at once, also where both are of one
+ * running table. No call waits, sleeps or takes a lock. None may be made from a signal handler, or in the child of a
+ * fork of a process with threads. */
+#ifndef SAXIKO_H
+#define SAXIKO_H
+
+#include <errno.h>
+#include <stdbool.h>
+#include <stddef.h>
+#include <stdint.h>
+
+#ifdef __cplusplus
+extern "C" {
+#endif
+
+#define SAXIKO_VERSION "2.0.0"
+
+/* The greatest next hop, and the greatest depth of a prefix. */
+#define SAXIKO_HOP_MAX 0xffffffu
+#define SAXIKO_DEPTH_MAX 32
+
+/* A handle that is closed. */
+#define SAXIKO_CLOSED { NULL, false }
+
+/* The limits of a table. A limit out of its range is -EINVAL. A group has the answers for one block of 256 addresses
+ * that has a rule longer than 24 bits (a tbl8 of rte_lpm). */
+struct saxiko_config {
+    uint32_t rules;       /* the greatest number of rules: 1 to 16777216 */
+    uint32_t groups;      /* the number of groups: 1 to 65536 */
+    uint32_t readers;     /* the number of readers of a running table: 0 to 2048. A table of one thread has none */
+    uint32_t threshold;   /* where more than so many groups wait, giving one more up reclaims first: 0 to 65536 */
+    uint32_t reclaim_max; /* the most groups that such a reclaim frees: 1 to 65536 */
+};
+
+/* The limits that lpmtool has where no option gives another. */
+#define SAXIKO_DEFAULTS { 1048576, 256, 1, 32, 16 }
+
+/* What a table counts. Groups in use, waiting and free are all its groups together. */
+struct saxiko_counts {
+    uint64_t rules;
+    uint64_t versions;       /* the changes that made a version of the rules */
+    uint64_t token;          /* 1 at first, and for each group that was given up one more */
+    uint64_t groups_in_use;
+    uint64_t groups_waiting; /* given up, and not free until no reader can hold them */
+    uint64_t groups_free;
+};
+
+/* A route of a list that is loaded: a prefix and its next hop. */
+struct saxiko_route {
+    uint32_t addr;
+    uint32_t hop;  /* at most SAXIKO_HOP_MAX */
+    uint8_t depth; /* at most SAXIKO_DEPTH_MAX */
+};
+
+/* What an add returns where it is done. */
+enum {
+    SAXIKO_UNCHANGED = 0, /* the prefix had this very rule */
+    SAXIKO_ADDED = 1,     /* the prefix had no rule */
+    SAXIKO_REPLACED = 2   /* the prefix had a rule with another next hop */
+};
+
+/* The text of what a call returned, in English. It is never freed. From any thread. */
+const char *saxiko_strerror(int32_t status);
+
+/* ---- a table of one thread: it is changed and asked by the thread that has the handle */
+
+struct saxiko_table {
+    void *at;
+    bool is_open;
+};
+
+/* Opens a table without rules. Its memory is 64 MB for the first 24 bits, 1 KB for each group, and what the rules take.
+ * `config->readers` doesn't count here.
+ * -EINVAL: a limit is out of its range. -EBUSY: the handle is open. -ENOMEM. */
+int32_t saxiko_table_open(struct saxiko_table *table, const struct saxiko_config *config);
+
+/* Opens a table with the rules of these routes, in any order, at once and as version 0. Of routes of one prefix the last
+ * counts. It is faster than an add for each.
+ * -EDOM: a route has a greater depth or next hop than there is, and `*bad` is then the place of the first such.
+ * -EINVAL: a limit is out of its range. -ENOSPC: the limits don't suffice for the rules or their groups. -E2BIG: more than
+ * 2^26 routes. -EBUSY: the handle is open. -ENOMEM. With a length of 0 `routes` may be null. */
+int32_t saxiko_table_load(struct saxiko_table *table, const struct saxiko_config *config,
+                          const struct saxiko_route *routes, size_t routes_len, size_t *bad);
+
+/* Frees the table, and closes the handle. */
+void saxiko_table_close(struct saxiko_table *table);
+
+/* Adds a rule, or gives the prefix's rule another next hop. It returns SAXIKO_ADDED, SAXIKO_REPLACED or
+ * SAXIKO_UNCHANGED. -EINVAL: a depth above 32, or a next hop above SAXIKO_HOP_MAX. -ENOSPC: there are as many rules as
+ * `rules` allows, or no group is free. -ENOMEM. -EOVERFLOW: 2^61 versions were made, or 2^62 tokens. */
+int32_t saxiko_table_add(struct saxiko_table *table, uint32_t addr, uint8_t depth, uint32_t hop);
+
+/* Deletes the rule of a prefix, and stores the next hop that it had.
+ * -ENOENT: the prefix has no rule. -EINVAL: a depth above 32. -EOVERFLOW as in add. */
+int32_t saxiko_table_delete(struct saxiko_table *table, uint32_t addr, uint8_t depth, uint32_t *hop);
+
+/* Deletes all rules as one version, and stores how many there were. -EOVERFLOW as in add. */
+int32_t saxiko_table_flush(struct saxiko_table *table, size_t *rules);
+
+/* Stores the next hop of the rule of this very prefix. -ENOENT: it has none. -EINVAL: a depth above 32. */
+int32_t saxiko_table_get(struct saxiko_table *table, uint32_t addr, uint8_t depth, uint32_t *hop);
+
+/* Stores the next hop of the longest rule that covers the address. -ENOENT: no rule covers it.
+ * It is inline, so that where a pointer is known not to be null that isn't tested. */
+int32_t saxiko_proved_table_lookup(struct saxiko_table *table, uint32_t addr, uint32_t *hop);
+inline int32_t saxiko_table_lookup(struct saxiko_table *table, uint32_t addr, uint32_t *hop) {
+    return table && hop ? saxiko_proved_table_lookup(table, addr, hop) : -EINVAL;
+}
+
+/* Stores for each address the next hop of the longest rule that covers it, and `absent`, which is any number, for one
+ * that no rule covers. -EINVAL: `addrs_len` isn't `hops_len`. With lengths of 0 the pointers may be null. */
+int32_t saxiko_table_lookup_bulk(struct saxiko_table *table, const uint32_t *addrs, size_t addrs_len,
+                                 uint32_t *hops, size_t hops_len, uint32_t absent);
+
+/* Counts rules, versions and groups. */
+int32_t saxiko_table_counts(struct saxiko_table *table, struct saxiko_counts *counts);
+
+/* Frees at most `max` groups that wait, the oldest first, and stores how many. In a table of one thread nothing holds
+ * a group, so that an add that lacks one takes the oldest that waits by itself. */
+int32_t saxiko_table_reclaim(struct saxiko_table *table, size_t max, size_t *freed);
+
+#ifdef __cplusplus
+}
+#endif
+
+#endif

@@ -1,0 +1,65 @@
+-- Meaning: tables that open with the routes of a list (DPDK Programmer's Guide, "LPM Library", "Addition": a rule
+-- for a prefix that has one takes its place).
+use Rattle.std.specs.Prelude.{ℕ, ℤ, ◌≡◌, ◌<◌, ◌≤◌, ◌^◌, ◌⊎◌, All, List, Option, Some, None, IsSomeAnd, length, map, slice_get, take}
+use Rattle.std.specs.FinMap.{len}
+use Rattle.lpm_bits.specs.Network.{prefix_of}
+use Rattle.lpm_rules.specs.RuleMap.{RuleMap}
+use Rattle.lpm_rules.specs.Listed.{rules_of}
+use Rattle.lpm_rules.specs.declared.Rule.{Rule}
+use Rattle.lpm_limits.specs.Limits.{IsConfig}
+use Rattle.lpm_limits.specs.declared.config.Config.{Config}
+use Rattle.fib_model.specs.Outcomes.{groups_in_use}
+use Rattle.fib.specs.Fib.{FibState, opened_with}
+use Rattle.saxiko_c.specs.Status.{done, no_memory, busy, invalid, no_space, too_big, out_of_domain}
+use Rattle.saxiko_c.specs.Table.{IsBad}
+use Rattle.saxiko_c.specs.declared.records.SaxikoRoute.{SaxikoRoute}
+
+-- the rule that a route gives
+abbrev pub rule_of : SaxikoRoute → Rule 24 8
+rule_of route = record { prefix = prefix_of 32 route.depth route.addr; hop = route.hop }
+
+-- it gives none
+abbrev pub IsBadRoute : SaxikoRoute → Type 0
+IsBadRoute route = IsBad route.depth route.hop
+
+-- the rules that routes give: a prefix that comes more than once has its last hop
+abbrev pub rules_of_routes : List SaxikoRoute → RuleMap
+rules_of_routes routes = rules_of (map rule_of routes)
+
+-- the first route that gives no rule stands here
+pub record IsFirstBad (routes : List SaxikoRoute) (place : ℕ) : Type 0 where
+  pub bad : IsSomeAnd (slice_get routes place) IsBadRoute
+  pub before : All (λ route. ¬ IsBadRoute route) (take place routes)
+
+-- the routes were not read: EDOM and the place of the first that gives no rule, or ENOMEM
+abbrev pub IsUnread : List SaxikoRoute → ℕ → ℕ → ℤ → Type 0
+IsUnread routes before after status =
+    ((status ≡ out_of_domain) × IsFirstBad routes after)
+    ⊎ ((status ≡ no_memory) × (after ≡ before))
+
+-- the limits don't suffice for the rules, or for their groups
+abbrev pub IsTooSmall : Config → RuleMap → Type 0
+IsTooSmall c R = (c.rules < len R) ⊎ (c.groups < groups_in_use 24 8 R)
+
+-- no table was opened: E2BIG, or as IsUnread says, or else EINVAL, ENOSPC or ENOMEM
+abbrev pub IsUnloaded : Config → List SaxikoRoute → ℕ → ℕ → ℤ → Type 0
+IsUnloaded c routes before after status =
+    ((status ≡ too_big) × (2 ^ 26 < length routes) × (after ≡ before))
+    ⊎ (IsUnread routes before after status
+    ⊎ ((after ≡ before)
+    × (((status ≡ invalid) × ¬ IsConfig c)
+    ⊎ ((status ≡ no_space) × IsConfig c × IsTooSmall c (rules_of_routes routes)))))
+
+-- the table has the rules of the routes, as version 0
+pub record IsLoaded (c : Config) (routes : List SaxikoRoute) (before after : ℕ) (f : FibState) : Type 0 where
+  pub table : f ≡ opened_with c (rules_of_routes routes)
+  pub limits : IsConfig c
+  pub rules_fit : len (rules_of_routes routes) ≤ c.rules
+  pub groups_fit : groups_in_use 24 8 (rules_of_routes routes) ≤ c.groups
+  pub unchanged : after ≡ before
+
+-- a closed handle has a table with the rules then; an open one stays as it is
+abbrev pub Loads : Config → List SaxikoRoute → ℕ → ℕ → Option FibState → ℤ → Option FibState → Type 0
+Loads c routes before after (Some f) status kept = (status ≡ busy) × (after ≡ before) × (kept ≡ Some f)
+Loads c routes before after None status None = IsUnloaded c routes before after status
+Loads c routes before after None status (Some f) = (status ≡ done) × IsLoaded c routes before after f

@@ -1,0 +1,23 @@
+-- What a handle owns: nothing, or a box with a table.
+use Rattle.std.specs.Prelude.{Bool, true, false, Option, Some, None}
+use base.Fml.{Fml, fsep, feq}
+use base.Stored.{Coded}
+use denote.RattleType.{RattleType}
+use denote.RawPtr.{Ptr}
+use denote.Param.{number}
+use Rattle.std.specs.Coded.{coded_option}
+use Rattle.std.specs.Box.Ownership.{box_owns}
+use Rattle.std.specs.Global.{Global}
+use Rattle.std_heap.specs.contracts.GlobalAllocator.TheImpl.{ghosts}
+use Rattle.fib.specs.Fib.{FibState, coded_fib_state}
+use Rattle.fib.specs.contracts.fib.Fib.{the_row}
+
+abbrev pub fib_row : RattleType
+fib_row = the_row (number 24) (number 8)
+
+abbrev pub coded_kept : Coded (Option FibState)
+coded_kept = coded_option coded_fib_state
+
+abbrev pub handle_owns : Global → Ptr → Bool → Option FibState → Fml
+handle_owns alloc at flag None = feq Bool flag false
+handle_owns alloc at flag (Some x) = fsep (feq Bool flag true) (box_owns (ghosts.dealloc_token alloc) fib_row at x)

@@ -1,0 +1,83 @@
+-- Meaning: what calls answer, 0 or more, or an error number of Linux below 0 (errno(3); DPDK Programmer's
+-- Guide, "LPM Library"; which refusal has which number is this project's).
+use Rattle.std.specs.Prelude.{ℤ, pos, negsuc, Option, Some, None, Result, Ok, Err}
+use Rattle.lpm_rules.specs.declared.Put.{Put}
+use Rattle.lpm_rules.specs.declared.Put.TheVariants.{Added, Replaced, Unchanged}
+use Rattle.lpm_limits.specs.declared.refusal.Refusal.{Refusal}
+use Rattle.lpm_limits.specs.declared.refusal.Refusal.TheVariants.{BadLength, BadHop, TooManyRules, NoSuchRule, BadConfig, Exhausted, NoGroups, NoWorkers, Memory, NoSuchWorker, Taken, NoThread, NotOnline, AlreadyOnline}
+
+-- the call is done
+abbrev pub done : ℤ
+done = pos 0
+
+-- EPERM is 1, ENOENT 2, E2BIG 7, EAGAIN 11, ENOMEM 12, EBUSY 16, EINVAL 22, ENOSPC 28, EDOM 33, EOVERFLOW 75,
+-- EALREADY 114
+abbrev pub not_permitted : ℤ
+not_permitted = negsuc 0
+
+abbrev pub no_entry : ℤ
+no_entry = negsuc 1
+
+abbrev pub too_big : ℤ
+too_big = negsuc 6
+
+abbrev pub again : ℤ
+again = negsuc 10
+
+abbrev pub no_memory : ℤ
+no_memory = negsuc 11
+
+abbrev pub busy : ℤ
+busy = negsuc 15
+
+abbrev pub invalid : ℤ
+invalid = negsuc 21
+
+abbrev pub no_space : ℤ
+no_space = negsuc 27
+
+abbrev pub out_of_domain : ℤ
+out_of_domain = negsuc 32
+
+abbrev pub overflow : ℤ
+overflow = negsuc 74
+
+abbrev pub already : ℤ
+already = negsuc 113
+
+-- a group is lacking: a reader holds the oldest that waits, or none waits
+abbrev pub lacking : {A : Type 0} → Option A → ℤ
+lacking None = no_space
+lacking (Some holder) = busy
+
+-- how a refusal is answered
+abbrev pub refused : Refusal → ℤ
+refused BadLength = invalid
+refused BadHop = invalid
+refused TooManyRules = no_space
+refused NoSuchRule = no_entry
+refused BadConfig = invalid
+refused Exhausted = overflow
+refused (NoGroups oldest) = lacking oldest
+refused NoWorkers = invalid
+refused Memory = no_memory
+refused NoSuchWorker = invalid
+refused Taken = busy
+refused NoThread = again
+refused NotOnline = not_permitted
+refused AlreadyOnline = already
+
+-- how an add that was done is answered
+abbrev pub put_status : Put → ℤ
+put_status Unchanged = pos 0
+put_status Added = pos 1
+put_status Replaced = pos 2
+
+abbrev pub add_status : Result Put Refusal → ℤ
+add_status (Ok put) = put_status put
+add_status (Err refusal) = refused refusal
+
+-- how a call is answered that is done or refused
+abbrev pub status_of : {T : Type 0} → Result T Refusal → ℤ
+status_of (Ok result) = done
+status_of (Err refusal) = refused refusal

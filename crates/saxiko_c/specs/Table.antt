@@ -1,0 +1,112 @@
+-- Meaning: the calls of a table of one thread, by the status that they answer (DPDK Programmer's Guide,
+-- "LPM Library").
+use Rattle.std.specs.Prelude.{ℕ, ℤ, ◌≡◌, ◌+◌, ◌≤◌, ◌<◌, ◌⊎◌, ◌↔◌, ◌≢◌, Option, Some, None, Result, Ok, Err, slice_index, List, length}
+use Rattle.std.specs.FinMap.{get, len}
+use Rattle.lpm_bits.specs.Network.{prefix_of}
+use Rattle.lpm_rules.specs.RuleMap.{RuleMap}
+use Rattle.lpm_rules.specs.Longest.{IsLongestHop}
+use Rattle.lpm_rules.specs.declared.Put.{Put}
+use Rattle.lpm_limits.specs.Limits.{IsConfig}
+use Rattle.lpm_limits.specs.declared.config.Config.{Config}
+use Rattle.lpm_limits.specs.declared.refusal.Refusal.{Refusal}
+use Rattle.defer_queue.specs.declared.Reclaimed.{Reclaimed}
+use Rattle.fib_model.specs.Counting.{counting}
+use Rattle.fib_model.specs.Outcomes.{groups_in_use, Adds, Deletes, Flushes, Frees}
+use Rattle.fib.specs.Fib.{FibState, fresh}
+use Rattle.fib.specs.Lookups.{IsHopOrDefault}
+use Rattle.saxiko_c.specs.Status.{done, no_entry, no_memory, busy, invalid, add_status, status_of}
+use Rattle.saxiko_c.specs.declared.records.SaxikoCounts.{SaxikoCounts}
+
+-- ---- opening
+
+-- no table was opened: EINVAL exactly where a limit is out of range, and else ENOMEM
+abbrev pub IsUnopened : Config → ℤ → Type 0
+IsUnopened c status =
+    ((status ≡ invalid) ⊎ (status ≡ no_memory)) × ((status ≡ invalid) ↔ (¬ IsConfig c))
+
+-- a closed handle has a table without rules then; an open one stays as it is
+abbrev pub Opens : Config → Option FibState → ℤ → Option FibState → Type 0
+Opens c (Some f) status after = (status ≡ busy) × (after ≡ Some f)
+Opens c None status None = IsUnopened c status
+Opens c None status (Some f) = (status ≡ done) × (f ≡ fresh c) × IsConfig c
+
+-- ---- changes
+
+-- a prefix length or a next hop that no rule has
+abbrev pub IsBad : ℕ → ℕ → Type 0
+IsBad depth hop = (32 < depth) ⊎ (16777216 ≤ hop)
+
+-- the rule of this prefix has this next hop then
+abbrev pub AddsRule : ℕ → ℕ → ℕ → FibState → ℤ → FibState → Type 0
+AddsRule addr depth hop f status g =
+    (IsBad depth hop × (status ≡ invalid) × (g ≡ f))
+    ⊎ ((depth ≤ 32) × (hop < 16777216)
+    × (r : Result Put Refusal) × Adds counting 24 8 f.config f.table (prefix_of 32 depth addr) hop r g.table
+    × (g.config ≡ f.config) × (status ≡ add_status r))
+
+-- a number is stored where the call is done
+abbrev pub Stores : Result ℕ Refusal → ℕ → ℕ → Type 0
+Stores (Ok number) before after = after ≡ number
+Stores (Err refusal) before after = after ≡ before
+
+-- this prefix has no rule then; the next hop that it had is stored
+abbrev pub DeletesRule : ℕ → ℕ → ℕ → ℕ → FibState → ℤ → FibState → Type 0
+DeletesRule addr depth before after f status g =
+    ((32 < depth) × (status ≡ invalid) × (after ≡ before) × (g ≡ f))
+    ⊎ ((depth ≤ 32)
+    × (r : Result ℕ Refusal) × Deletes counting 24 8 f.config f.table (prefix_of 32 depth addr) r g.table
+    × Stores r before after × (g.config ≡ f.config) × (status ≡ status_of r))
+
+-- there is no rule then; how many there were is stored
+abbrev pub FlushesRules : ℕ → ℕ → FibState → ℤ → FibState → Type 0
+FlushesRules before after f status g =
+    (r : Result ℕ Refusal) × Flushes counting 24 8 f.config f.table r g.table
+    × Stores r before after × (g.config ≡ f.config) × (status ≡ status_of r)
+
+-- at most `max` groups that wait are free then; how many is stored
+abbrev pub FreesGroups : ℕ → ℕ → FibState → ℤ → FibState → Type 0
+FreesGroups max freed f status g =
+    (r : Reclaimed) × Frees counting f.table max r g.table
+    × (freed ≡ r.freed) × (g.config ≡ f.config) × (status ≡ done)
+
+-- ---- questions
+
+-- the next hop is stored, or it is ENOENT where there is none
+abbrev pub Tells : Option ℕ → ℤ → ℕ → ℕ → Type 0
+Tells None status before after = (status ≡ no_entry) × (after ≡ before)
+Tells (Some hop) status before after = (status ≡ done) × (after ≡ hop)
+
+-- the next hop of the longest rule that covers the address
+abbrev pub Finds : ℕ → ℕ → ℕ → FibState → ℤ → Type 0
+Finds addr before after f status =
+    (x : Option ℕ) × IsLongestHop 32 f.table.rules addr x × Tells x status before after
+
+-- the next hop of the rule of this very prefix
+abbrev pub Gets : ℕ → ℕ → ℕ → ℕ → FibState → ℤ → Type 0
+Gets addr depth before after f status =
+    ((32 < depth) × (status ≡ invalid) × (after ≡ before))
+    ⊎ ((depth ≤ 32) × Tells (get f.table.rules (prefix_of 32 depth addr)) status before after)
+
+-- each address's next hop, or the default
+abbrev pub AnswersAll : RuleMap → ℕ → List ℕ → List ℕ → Type 0
+AnswersAll R default addrs hops =
+    (i : ℕ) → i < length addrs → IsHopOrDefault 32 R default (slice_index addrs i) (slice_index hops i)
+
+-- as many next hops as addresses are stored, or it is EINVAL where there isn't as much room
+abbrev pub FindsAll : ℕ → List ℕ → List ℕ → List ℕ → FibState → ℤ → Type 0
+FindsAll default addrs before after f status =
+    ((length addrs ≢ length before) × (status ≡ invalid) × (after ≡ before))
+    ⊎ ((length addrs ≡ length before) × (status ≡ done) × (length after ≡ length addrs)
+    × AnswersAll f.table.rules default addrs after)
+
+-- rules, versions, token and groups are counted
+pub record IsCounted (f : FibState) (c : SaxikoCounts) : Type 0 where
+  pub rules : c.rules ≡ len f.table.rules
+  pub versions : c.versions ≡ f.table.begun
+  pub token : c.token ≡ f.table.readers.token
+  pub in_use : c.groups_in_use ≡ groups_in_use 24 8 f.table.rules
+  pub waiting : c.groups_waiting ≡ length f.table.limbo
+  pub all : c.groups_in_use + c.groups_waiting + c.groups_free ≡ f.config.groups
+
+abbrev pub Counts : SaxikoCounts → FibState → ℤ → Type 0
+Counts c f status = (status ≡ done) × IsCounted f c

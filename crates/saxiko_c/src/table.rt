@@ -1,0 +1,143 @@
+//! What the calls do with a table of one thread.
+
+ghost use Rattle.std.specs.Prelude.{◌≡◌, ◌+◌, MatchResult};
+ghost use Rattle.lpm_limits.specs.Limits.{IsConfig};
+ghost use Rattle.fib.specs.Fib.{fresh};
+ghost use Rattle.fib.specs.Lookups.{IsHopOrDefault};
+ghost use Rattle.saxiko_c.specs.Status.{done};
+ghost use Rattle.saxiko_c.specs.Table.{AddsRule, Counts, DeletesRule, Finds, FindsAll, FlushesRules, FreesGroups, Gets, IsCounted, IsUnopened};
+
+use crate::records::SaxikoCounts;
+use crate::status::{EINVAL, ENOENT, ENOMEM, of_put, of_refusal};
+use fib::{Fib, OpenError};
+use lpm_bits::{Hop, Prefix};
+use lpm_limits::Config;
+use std::alloc::Global;
+
+pub(crate) fn open(alloc: Global, config: Config) -> Result<Box<Fib<24, 8>>, i32>
+    ensures { MatchResult result (λ b. (b.value ≡ fresh config) × IsConfig config)
+        (IsUnopened config) }
+{
+    match Fib::open(alloc, config) {
+        Ok(fib) => match Box::new(alloc, fib) {
+            Ok(boxed) => Ok(boxed),
+            Err(_) => Err(ENOMEM),
+        },
+        Err(OpenError::BadConfig) => Err(EINVAL),
+        Err(OpenError::Memory) => Err(ENOMEM),
+    }
+}
+
+pub(crate) fn add(fib: &mut Fib<24, 8>, addr: u32, depth: u8, hop: u32) -> i32
+    ensures { AddsRule addr depth hop fib.old result fib.new }
+{
+    match (Prefix::new(addr, u32::from(depth)), Hop::new(hop)) {
+        (Ok(prefix), Ok(hop)) => match fib.add(&prefix, hop) {
+            Ok(put) => of_put(put),
+            Err(refusal) => of_refusal(refusal),
+        },
+        _ => EINVAL,
+    }
+}
+
+pub(crate) fn delete(fib: &mut Fib<24, 8>, addr: u32, depth: u8, hop: &mut u32) -> i32
+    ensures { DeletesRule addr depth hop.old hop.new fib.old result fib.new }
+{
+    match Prefix::new(addr, u32::from(depth)) {
+        Ok(prefix) => match fib.delete(&prefix) {
+            Ok(deleted) => {
+                *hop = deleted.number();
+                0
+            }
+            Err(refusal) => of_refusal(refusal),
+        },
+        Err(_) => EINVAL,
+    }
+}
+
+pub(crate) fn flush(fib: &mut Fib<24, 8>, rules: &mut usize) -> i32
+    ensures { FlushesRules rules.old rules.new fib.old result fib.new }
+{
+    match fib.flush() {
+        Ok(flushed) => {
+            *rules = flushed;
+            0
+        }
+        Err(refusal) => of_refusal(refusal),
+    }
+}
+
+pub(crate) fn reclaim(fib: &mut Fib<24, 8>, max: usize, freed: &mut usize) -> i32
+    ensures { FreesGroups max freed.new fib.old result fib.new }
+{
+    let reclaimed = fib.reclaim(max);
+    *freed = reclaimed.freed;
+    0
+}
+
+#[inline]
+pub(crate) fn lookup(fib: &Fib<24, 8>, addr: u32, hop: &mut u32) -> i32
+    ensures { Finds addr hop.old hop.new fib.now result }
+{
+    match fib.lookup(addr) {
+        Some(found) => {
+            *hop = found.number();
+            0
+        }
+        None => ENOENT,
+    }
+}
+
+pub(crate) fn get(fib: &Fib<24, 8>, addr: u32, depth: u8, hop: &mut u32) -> i32
+    ensures { Gets addr depth hop.old hop.new fib.now result }
+{
+    match Prefix::new(addr, u32::from(depth)) {
+        Ok(prefix) => match fib.get(&prefix) {
+            Some(found) => {
+                *hop = found.number();
+                0
+            }
+            None => ENOENT,
+        },
+        Err(_) => EINVAL,
+    }
+}
+
+#[inline]
+fn hop_or(fib: &Fib<24, 8>, addr: u32, default: u32) -> u32
+    ensures { IsHopOrDefault 32 fib.now.table.rules default addr result }
+{
+    match fib.lookup(addr) {
+        Some(hop) => hop.number(),
+        None => default,
+    }
+}
+
+#[inline]
+pub(crate) fn lookup_all(fib: &Fib<24, 8>, addrs: &[u32], hops: &mut [u32], default: u32) -> i32
+    ensures { FindsAll default addrs.now hops.old hops.new fib.now result }
+{
+    if addrs.len() != hops.len() {
+        return EINVAL;
+    }
+    let mut i = 0;
+    while i < hops.len() {
+        hops[i] = hop_or(fib, addrs[i], default);
+        i += 1;
+    }
+    0
+}
+
+pub(crate) fn count(fib: &Fib<24, 8>) -> SaxikoCounts
+    ensures { IsCounted fib.now result }
+{
+    let groups = fib.counts();
+    SaxikoCounts {
+        rules: fib.rules() as u64,
+        versions: fib.versions(),
+        token: fib.token(),
+        groups_in_use: groups.in_use as u64,
+        groups_waiting: groups.limbo as u64,
+        groups_free: groups.free as u64,
+    }
+}

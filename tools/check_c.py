@@ -1,0 +1,168 @@
+#!/usr/bin/env python3
+"""Checks the C library: the header, the archive, and C programs over them.
+
+    tools/check_c.py [--passed N]
+
+What fails is printed, and makes the exit status 1. The archive is made anew by tools/build_c.py. Checked are
+
+- header: saxiko.h compiles without a warning as C99, C11 and C++11, in front of all other headers.
+- archive: it has each call that the header declares, and needs no more of others than the page of the crate names.
+- calls: c/tests/calls.c tries each call with what it refuses; as it is, with the sanitizers of addresses and of
+  undefined behaviour, and under valgrind.
+- manual: docs/man/saxiko.3 has the calls of the header, with their parameters.
+- bench: by valgrind's count, a lookup by a handle takes at most MORE instructions more than one over plain words.
+
+Without a C and a C++ compiler, valgrind or their libraries it says what to install, and fails.
+"""
+import argparse
+import os
+import pathlib
+import re
+import shlex
+import shutil
+import subprocess
+import sys
+import tempfile
+
+import build_c
+
+TOP = pathlib.Path(__file__).resolve().parent.parent
+ARCHIVE = build_c.OUT / "libsaxiko.a"
+MANUAL = TOP / "docs/man/saxiko.3"
+PAGE = TOP / "crates/saxiko_c/README.md"
+SANITIZERS = ["-g", "-fsanitize=address,undefined", "-fno-sanitize-recover=all"]
+VALGRIND = ["valgrind", "--quiet", "--error-exitcode=99", "--leak-check=full", "--errors-for-leak-kinds=definite,indirect"]
+TOOLS = {"g++": "g++", "valgrind": "valgrind", "ar": "binutils", "nm": "binutils"}
+SECONDS = 300  # for one run
+MORE = 12  # instructions
+LOOKUPS = 10000  # of the bench
+
+
+def run(words, **given):
+    """Runs a program; returns its status, and what it wrote on either output."""
+    given = {"cwd": TOP, "timeout": SECONDS, **given}
+    ran = subprocess.run([str(word) for word in words], text=True, stdin=subprocess.DEVNULL, stdout=subprocess.PIPE,
+                         stderr=subprocess.STDOUT, **given)
+    return ran.returncode, ran.stdout
+
+
+def compiler():
+    return shlex.split(os.environ.get("CC") or "cc")
+
+
+def compiled(folder, source, *flags):
+    """The program of one C file over the archive."""
+    program = pathlib.Path(folder, f"{pathlib.Path(source).stem}{len(list(pathlib.Path(folder).iterdir()))}")
+    words = [*compiler(), *build_c.WARNINGS, "-O2", *flags, "-Ic", source, ARCHIVE, "-pthread", "-o", program]
+    status, told = run(words)
+    if status or told:
+        raise OSError(f"{source}: {told}")
+    return program
+
+
+# ---- the checks: each gives what is wrong
+
+def check_header(folder):
+    for words in ([*compiler(), "-std=c99", "-xc"], [*compiler(), "-std=c11", "-xc"], ["g++", "-std=c++11", "-xc++"]):
+        source = pathlib.Path(folder, "header.c")
+        source.write_text('#include "saxiko.h"\nstruct saxiko_table table = SAXIKO_CLOSED;\n'
+                          "struct saxiko_config config = SAXIKO_DEFAULTS;\n")
+        status, told = run([*words, "-Ic", "-Wall", "-Wextra", "-Wpedantic", "-Werror", "-c", source, "-o", "/dev/null"])
+        if status or told:
+            yield f"{words}: {told}"
+
+
+def check_archive(folder):
+    declared = set(re.findall(r"\b(saxiko_\w+)\(", re.sub(r"(?s)/\*.*?\*/", "", (TOP / "c/saxiko.h").read_text())))
+    status, told = run(["nm", ARCHIVE])
+    have = set(re.findall(r"(?m)^\S+ T (saxiko_\w+)$", told))
+    missing = {name for name in declared ^ have if not name.startswith("saxiko_proved_")}
+    if status or missing:
+        yield f"the header and the archive differ in {sorted(missing)}"
+    named = set(re.findall(r"`(\w+)`", re.search(r"(?s)The archive needs (.*?), and no other name", PAGE.read_text())[1]))
+    needed = build_c.undefined(ARCHIVE)
+    if not needed <= named:
+        yield f"the archive needs {sorted(needed - named)}, which {PAGE.relative_to(TOP)} doesn't name"
+
+
+def check_manual(folder):
+    text = re.sub(r"(?s)/\*.*?\*/", "", (TOP / "c/saxiko.h").read_text())
+    declared = {name: " ".join(words.split()) for name, words in re.findall(r"\b(saxiko_\w+)\(([^()]*)\)(?:;| \{)", text)
+                if "proved" not in name}
+    calls = re.findall(r'(?m)^\.Fn (saxiko_\w+) (".*")$', MANUAL.read_text())
+    told = {name: ", ".join(re.findall(r'"([^"]*)"', words)) for name, words in calls}
+    if declared != told:
+        yield f"{MANUAL.relative_to(TOP)}: the calls differ from the header's in {sorted(set(declared.items()) ^ set(told.items()))}"
+
+
+def ways(folder, source):
+    """A program as it is, with sanitizers, and under valgrind."""
+    plain = compiled(folder, source)
+    yield "as it is", [plain]
+    yield "with sanitizers", [compiled(folder, source, *SANITIZERS)]
+    yield "under valgrind", [*VALGRIND, plain]
+
+
+def check_program(folder, source, wanted):
+    for name, words in ways(folder, source):
+        status, told = run(words)
+        if status or not re.fullmatch(wanted, told):
+            yield f"{source} {name} ends with {status}: {told}"
+
+
+def check_calls(folder):
+    return check_program(folder, "c/tests/calls.c", r"calls: \d+ checked, 0 wrong\n")
+
+
+def instructions(folder, program, way):
+    """How many instructions the lookups of one way take."""
+    words = ["valgrind", "--tool=callgrind", f"--callgrind-out-file={folder}/callgrind", f"--toggle-collect=by_{way}*",
+             program, way]
+    status, told = run(words)
+    found = re.search(r"Collected : (\d+)", told)
+    if status or not found:
+        raise OSError(f"{way} ends with {status}: {told}")
+    return int(found[1]), re.search(r"(?m)^(\d+)$", told)[1]
+
+
+def check_bench(folder):
+    program = compiled(folder, "c/tests/bench.c")
+    counted = {way: instructions(folder, program, way) for way in ("words", "handle")}
+    each = {way: count / LOOKUPS for way, (count, _) in counted.items()}
+    print(f"instructions of a lookup: {each['words']:.1f} over plain words, {each['handle']:.1f} by a handle")
+    if counted["words"][1] != counted["handle"][1]:
+        yield f"the answers differ: {counted}"
+    if each["handle"] > each["words"] + MORE:
+        yield f"a lookup by a handle takes more than {MORE} instructions more"
+
+
+CHECKS = [check_header, check_archive, check_manual, check_calls, check_bench]
+
+
+def main():
+    asked = argparse.ArgumentParser(description=__doc__, formatter_class=argparse.RawDescriptionHelpFormatter)
+    asked.add_argument("--passed", type=int, default=0, metavar="N",
+                       help="what the last line, `N passed, M failed`, counts as passed already")
+    asked = asked.parse_args()
+    lacking = sorted({package for tool, package in TOOLS.items() if not shutil.which(tool)})
+    passed, failed = asked.passed, 0
+    if lacking:
+        print(f"install {' '.join(lacking)}, as by `apt-get install {' '.join(lacking)}`")
+        print(f"{passed} passed, 1 failed")
+        return 1
+    build_c.main()
+    for check in CHECKS:
+        with tempfile.TemporaryDirectory(prefix="check_c ") as folder:
+            try:
+                faults = list(check(folder))
+            except (OSError, subprocess.TimeoutExpired) as error:
+                faults = [error]
+        for fault in faults:
+            print(f"{check.__name__}: {fault}")
+        passed, failed = passed + (not faults), failed + bool(faults)
+    print(f"{passed} passed, {failed} failed")
+    return 1 if failed else 0
+
+
+if __name__ == "__main__":
+    sys.exit(main())
