@@ -123,6 +123,11 @@ def repeated_cases():
     yield reported("two-prefixes-in-turn-report", "", "", (2, 3000, 0, 0, 256, 1), routes=turns, refusing=False)
     yield applied("one-prefix-repeated-apply", "", "add 10.0.0.0/8 5\n", "added\n10.1.2.3 5\n11.0.0.0 3000\n",
                   routes=same, addresses="10.1.2.3\n11.0.0.0\n", refusing=False)
+    yield stormed("one-prefix-repeated-storm", "", "add 10.0.0.0/8 5\n", (2, 0, 0, 2, 3001, 0, 0, 256, 2), routes=same,
+                  addresses="10.1.2.3\n11.0.0.0\n", refusing=False)
+    yield case("one-prefix-repeated-storm-too-many", "storm --rules 1 r u a",
+               {"r": f"{same}10.0.0.0/8 1\n", "u": UPDATES, "a": ""}, 6, err="lpmtool: r:3001: refused 3 TooManyRules\n",
+               refusing=False)
     yield case("one-prefix-repeated-report-too-many", "report --rules 1 r u",
                {"r": f"{same}10.0.0.0/8 1\n", "u": UPDATES}, 6, err="lpmtool: r:3001: refused 3 TooManyRules\n",
                refusing=False)
@@ -400,6 +405,8 @@ CASES = [
             refusing=False),
     stormed("storm-no-addresses", "--rounds 1000000", STORM, (0, 0, 0, 3, 5, 1, 0, 255, 3), RT, refusing=False),
     stormed("storm-no-updates", "--workers 2", "", (8, 0, 0, 3, 3, 1, 0, 255, 2), RT, THREE_ROUTES, refusing=False),
+    stormed("storm-unchanged-route", "", "", (1, 0, 0, 1, 2, 0, 0, 256, 2),
+            "10.0.0.0/8 1\n10.0.0.0/8 1\n10.0.0.0/8 2\n", "10.0.0.0\n", refusing=False),
     stormed("storm-skips-reports", "", SKIPPED, (4, 0, 0, 0, 4, 0, 0, 256, 3), RT, THREE_ROUTES, refusing=False),
     stormed("storm-refused-updates", "", OUTCOMES, (4, 1, 0, 0, 3, 0, 0, 256, 2), "", THREE_ROUTES, refusing=False),
     stormed("storm-many-updates", "--workers 3 --rounds 5000 --stuck", STORM * 100,

@@ -1,6 +1,6 @@
 //! The count of wrong answers: worked cases, a slow program beside it, and a long history.
 
-ghost use Rattle.std.specs.Prelude.{◌^◌, ◌<◌, All};
+ghost use Rattle.std.specs.Prelude.{◌^◌, ◌<◌, ◌≤◌, All, length};
 
 use audit::{Past, wrong};
 use lpm_bits::{Hop, Prefix};
@@ -71,14 +71,18 @@ fn count(
     wrong(rt, alloc, history, answers)
 }
 
-fn count_half(
+// The answers count their versions from version `start` on.
+fn count_from(
     rt: &(impl Threads + Sync),
     alloc: Global,
     past: &Past<24, 8>,
+    start: usize,
     answers: &[(u32, Answer)],
-) -> Result<u64, AllocError> {
+) -> Result<u64, AllocError>
+    requires { start ≤ length past.now }
+{
     read_addresses(answers);
-    past.count_wrong(rt, alloc, answers)
+    past.count_wrong(rt, alloc, start, answers)
 }
 
 // So many of the rows for the address are wrong.
@@ -323,6 +327,23 @@ fn long_answers(rt: &impl Abort, alloc: Global) -> Result<Vec<(u32, Answer)>, Al
     Ok(answers)
 }
 
+// Version 2, with the next hop 2, is version 0 of these answers, and the history ends with their version 1. The
+// first and the third are right.
+#[test]
+fn counts_from_a_later_version(rt: HostRuntime) -> Result<(), Fail> {
+    let history = [
+        add(&rt, 0x0a00_0000, 8, 1),
+        add(&rt, 0x0a00_0000, 8, 2),
+        add(&rt, 0x0a00_0000, 8, 3),
+    ];
+    let rows = [(2, 0, 0), (1, 0, 1), (3, 1, 5), (3, 0, 0), (3, 2, 9)];
+    let answers = answers_for(&rt, rt.alloc(), ADDR, &rows)?;
+    let past = Past::new(rt.alloc(), &history)?;
+    let found = count_from(&rt, rt.alloc(), &past, 2, &answers)?;
+    assert_eq!(&rt; found, 3);
+    Ok(())
+}
+
 // One index serves both halves of the answers.
 #[test]
 fn counts_over_a_long_history(rt: HostRuntime) -> Result<(), Fail> {
@@ -332,8 +353,8 @@ fn counts_over_a_long_history(rt: HostRuntime) -> Result<(), Fail> {
     assert_eq!(&rt; count(&rt, rt.alloc(), &history, &answers)?, 1_000);
     let past = Past::new(rt.alloc(), &history)?;
     let (front, back) = answers.split_at(1_500);
-    let first = count_half(&rt, rt.alloc(), &past, front)?;
-    let second = count_half(&rt, rt.alloc(), &past, back)?;
+    let first = count_from(&rt, rt.alloc(), &past, 0, front)?;
+    let second = count_from(&rt, rt.alloc(), &past, 0, back)?;
     assert_eq!(&rt; (first, second), (500, 500));
     Ok(())
 }
