@@ -1,0 +1,3 @@
+mod Benches
+mod Opened
+mod Pieces
