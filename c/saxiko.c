@@ -2,6 +2,8 @@
  * same names with `proved` take no null. */
 #include "saxiko.h"
 
+#include <stdatomic.h>
+
 /* The proved part has these numbers of Linux. */
 _Static_assert(EPERM == 1 && ENOENT == 2 && E2BIG == 7 && ENOMEM == 12 && EBUSY == 16 && EINVAL == 22 && ENOSPC == 28,
                "error numbers");
@@ -21,6 +23,29 @@ DECLARE(table_get, struct saxiko_table *, uint32_t, uint8_t, uint32_t *);
 DECLARE(table_lookup_bulk, struct saxiko_table *, const uint32_t *, size_t, uint32_t *, size_t, uint32_t);
 DECLARE(table_counts, struct saxiko_table *, struct saxiko_counts *);
 DECLARE(table_reclaim, struct saxiko_table *, size_t, size_t *);
+
+DECLARE(writer_open, struct saxiko_writer *, const struct saxiko_config *);
+void saxiko_proved_writer_close(struct saxiko_writer *);
+DECLARE(writer_add, struct saxiko_writer *, uint32_t, uint8_t, uint32_t);
+DECLARE(writer_delete, struct saxiko_writer *, uint32_t, uint8_t, uint32_t *);
+DECLARE(writer_flush, struct saxiko_writer *, size_t *);
+DECLARE(writer_get, struct saxiko_writer *, uint32_t, uint8_t, uint32_t *);
+DECLARE(writer_counts, struct saxiko_writer *, struct saxiko_counts *);
+DECLARE(writer_reclaim, struct saxiko_writer *, size_t, size_t *, struct saxiko_held *);
+DECLARE(reader_register, struct saxiko_writer *, struct saxiko_reader *, uint32_t);
+DECLARE(reader_unregister, struct saxiko_writer *, struct saxiko_reader *);
+void saxiko_proved_reader_close(struct saxiko_reader *);
+DECLARE(reader_online, struct saxiko_reader *);
+DECLARE(reader_offline, struct saxiko_reader *);
+DECLARE(reader_quiescent, struct saxiko_reader *);
+DECLARE(reader_lookup_bulk, struct saxiko_reader *, const uint32_t *, size_t, uint32_t *, size_t, uint32_t);
+
+/* The number of the next table. The proved part has no such number: it asks that a reader is given back to the table
+ * that it was registered at. */
+static uint64_t next_number(void) {
+    static atomic_uint_least64_t numbers;
+    return atomic_fetch_add(&numbers, 1) + 1;
+}
 
 /* What stands for no addresses, hops or routes: a slice is never at null. */
 static uint32_t none[1];
@@ -75,4 +100,80 @@ int32_t saxiko_table_counts(struct saxiko_table *table, struct saxiko_counts *co
 
 int32_t saxiko_table_reclaim(struct saxiko_table *table, size_t max, size_t *freed) {
     return table && freed ? saxiko_proved_table_reclaim(table, max, freed) : -EINVAL;
+}
+
+int32_t saxiko_writer_open(struct saxiko_writer *writer, const struct saxiko_config *config) {
+    int32_t status = writer && config ? saxiko_proved_writer_open(writer, config) : -EINVAL;
+    if (status == 0)
+        writer->number = next_number();
+    return status;
+}
+
+void saxiko_writer_close(struct saxiko_writer *writer) {
+    if (writer)
+        saxiko_proved_writer_close(writer);
+}
+
+int32_t saxiko_writer_add(struct saxiko_writer *writer, uint32_t addr, uint8_t depth, uint32_t hop) {
+    return writer ? saxiko_proved_writer_add(writer, addr, depth, hop) : -EINVAL;
+}
+
+int32_t saxiko_writer_delete(struct saxiko_writer *writer, uint32_t addr, uint8_t depth, uint32_t *hop) {
+    return writer && hop ? saxiko_proved_writer_delete(writer, addr, depth, hop) : -EINVAL;
+}
+
+int32_t saxiko_writer_flush(struct saxiko_writer *writer, size_t *rules) {
+    return writer && rules ? saxiko_proved_writer_flush(writer, rules) : -EINVAL;
+}
+
+int32_t saxiko_writer_get(struct saxiko_writer *writer, uint32_t addr, uint8_t depth, uint32_t *hop) {
+    return writer && hop ? saxiko_proved_writer_get(writer, addr, depth, hop) : -EINVAL;
+}
+
+int32_t saxiko_writer_counts(struct saxiko_writer *writer, struct saxiko_counts *counts) {
+    return writer && counts ? saxiko_proved_writer_counts(writer, counts) : -EINVAL;
+}
+
+int32_t saxiko_writer_reclaim(struct saxiko_writer *writer, size_t max, size_t *freed, struct saxiko_held *held) {
+    struct saxiko_held unasked;
+    return writer && freed ? saxiko_proved_writer_reclaim(writer, max, freed, held ? held : &unasked) : -EINVAL;
+}
+
+int32_t saxiko_reader_register(struct saxiko_writer *writer, struct saxiko_reader *reader, uint32_t number) {
+    int32_t status = writer && reader ? saxiko_proved_reader_register(writer, reader, number) : -EINVAL;
+    if (status == 0)
+        reader->number = writer->number;
+    return status;
+}
+
+int32_t saxiko_reader_unregister(struct saxiko_writer *writer, struct saxiko_reader *reader) {
+    if (!writer || !reader || (writer->is_open && reader->is_open && writer->number != reader->number))
+        return -EINVAL;
+    return saxiko_proved_reader_unregister(writer, reader);
+}
+
+void saxiko_reader_close(struct saxiko_reader *reader) {
+    if (reader)
+        saxiko_proved_reader_close(reader);
+}
+
+int32_t saxiko_reader_online(struct saxiko_reader *reader) {
+    return reader ? saxiko_proved_reader_online(reader) : -EINVAL;
+}
+
+int32_t saxiko_reader_offline(struct saxiko_reader *reader) {
+    return reader ? saxiko_proved_reader_offline(reader) : -EINVAL;
+}
+
+int32_t saxiko_reader_quiescent(struct saxiko_reader *reader) {
+    return reader ? saxiko_proved_reader_quiescent(reader) : -EINVAL;
+}
+
+extern inline int32_t saxiko_reader_lookup(struct saxiko_reader *reader, uint32_t addr, uint32_t *hop);
+
+int32_t saxiko_reader_lookup_bulk(struct saxiko_reader *reader, const uint32_t *addrs, size_t addrs_len,
+                                  uint32_t *hops, size_t hops_len, uint32_t absent) {
+    if (!reader || is_missing(addrs, addrs_len) || is_missing(hops, hops_len))
+        return -EINVAL;
+    return saxiko_proved_reader_lookup_bulk(reader, addrs ? addrs : none, addrs_len, hops ? hops : none, hops_len, absent);
 }

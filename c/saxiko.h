@@ -37,7 +37,7 @@ extern "C" {
 #define SAXIKO_DEPTH_MAX 32
 
 /* A handle that is closed. */
-#define SAXIKO_CLOSED { NULL, false }
+#define SAXIKO_CLOSED { NULL, false, 0 }
 
 /* The limits of a table. A limit out of its range is -EINVAL. A group has the answers for one block of 256 addresses
  * that has a rule longer than 24 bits (a tbl8 of rte_lpm). */
@@ -84,6 +84,7 @@ const char *saxiko_strerror(int32_t status);
 struct saxiko_table {
     void *at;
     bool is_open;
+    uint64_t number; /* not used: all handles have one form */
 };
 
 /* Opens a table without rules. Its memory is 64 MB for the first 24 bits, 1 KB for each group, and what the rules take.
@@ -135,6 +136,86 @@ int32_t saxiko_table_counts(struct saxiko_table *table, struct saxiko_counts *co
 /* Frees at most `max` groups that wait, the oldest first, and stores how many. In a table of one thread nothing holds
  * a group, so that an add that lacks one takes the oldest that waits by itself. */
 int32_t saxiko_table_reclaim(struct saxiko_table *table, size_t max, size_t *freed);
+
+/* ---- a running table: one thread changes it, and readers look up on their own threads meanwhile, with no lock
+ *
+ * A group that is given up isn't written again until no reader can hold it. Each reader says when it holds nothing that
+ * it looked up before: it reports a quiescent state, as after each burst of packets, or goes offline before it waits for
+ * anything. A reader that stays online without a report keeps groups from being free (rte_rcu_qsbr of DPDK). */
+
+/* The writer: for one thread at a time, the one that changes the table. */
+struct saxiko_writer {
+    void *at;
+    bool is_open;
+    uint64_t number; /* which table */
+};
+
+/* A reader: for the thread that looks up. Two readers may be used at once, and beside the writer. */
+struct saxiko_reader {
+    void *at;
+    bool is_open;
+    uint64_t number; /* which table */
+};
+
+/* The reader that keeps the oldest group that waits from being free, and the token of its last report. */
+struct saxiko_held {
+    uint64_t reader;
+    uint64_t counter;
+};
+
+/* What a reclaim returns, beside 0, where a reader holds the next group that waits. */
+#define SAXIKO_HELD 1
+
+/* Opens a running table without rules, and its writer. Refused as saxiko_table_open. */
+int32_t saxiko_writer_open(struct saxiko_writer *writer, const struct saxiko_config *config);
+
+/* Frees the writer. Its readers go on: the table is freed with the last handle of it that is closed. */
+void saxiko_writer_close(struct saxiko_writer *writer);
+
+/* As the calls of a table, while readers look up. -EBUSY of an add: a group is lacking, and a reader holds the oldest that
+ * waits, so that it can be tried again once that one has reported; -ENOSPC, where none waits. */
+int32_t saxiko_writer_add(struct saxiko_writer *writer, uint32_t addr, uint8_t depth, uint32_t hop);
+int32_t saxiko_writer_delete(struct saxiko_writer *writer, uint32_t addr, uint8_t depth, uint32_t *hop);
+int32_t saxiko_writer_flush(struct saxiko_writer *writer, size_t *rules);
+int32_t saxiko_writer_get(struct saxiko_writer *writer, uint32_t addr, uint8_t depth, uint32_t *hop);
+int32_t saxiko_writer_counts(struct saxiko_writer *writer, struct saxiko_counts *counts);
+
+/* Frees at most `max` groups that wait, the oldest first, up to one that a reader holds, and stores how many. It returns
+ * SAXIKO_HELD where a reader holds the next one, which `held` names then; `held` may be null. */
+int32_t saxiko_writer_reclaim(struct saxiko_writer *writer, size_t max, size_t *freed, struct saxiko_held *held);
+
+/* Opens a reader of this number, from 0 to `readers` - 1, which is offline. The writer's thread calls it, and may hand
+ * the handle to another thread. -EINVAL: there is no such number. -EBUSY: the number has a reader, or the reader's handle
+ * is open. -ENOMEM. */
+int32_t saxiko_reader_register(struct saxiko_writer *writer, struct saxiko_reader *reader, uint32_t number);
+
+/* Takes the reader offline, if it is online, and closes its handle; its number is free for another. The writer's thread
+ * calls it, once the reader's thread no longer uses the handle. -EINVAL: the reader is one of another table. */
+int32_t saxiko_reader_unregister(struct saxiko_writer *writer, struct saxiko_reader *reader);
+
+/* Takes the reader offline, if it is online, and closes its handle, also without the writer. Its number stays in use. */
+void saxiko_reader_close(struct saxiko_reader *reader);
+
+/* The reader is online: it may look up, and may hold groups. -EALREADY: it is. */
+int32_t saxiko_reader_online(struct saxiko_reader *reader);
+
+/* The reader is offline: it holds nothing. Before anything that may wait. -EPERM: it is. */
+int32_t saxiko_reader_offline(struct saxiko_reader *reader);
+
+/* The reader holds nothing that it looked up before. Once for each burst. -EPERM: the reader is offline. */
+int32_t saxiko_reader_quiescent(struct saxiko_reader *reader);
+
+/* Stores the next hop of the longest rule that covers the address, in a version of the rules that stood during the call.
+ * -ENOENT: no rule covered it. -EPERM: the reader is offline. */
+int32_t saxiko_proved_reader_lookup(struct saxiko_reader *reader, uint32_t addr, uint32_t *hop);
+inline int32_t saxiko_reader_lookup(struct saxiko_reader *reader, uint32_t addr, uint32_t *hop) {
+    return reader && hop ? saxiko_proved_reader_lookup(reader, addr, hop) : -EINVAL;
+}
+
+/* As saxiko_table_lookup_bulk, where each address's answer is that of a version that stood during the call. Two answers
+ * need not be of one version. -EINVAL: `addrs_len` isn't `hops_len`. -EPERM: the reader is offline. */
+int32_t saxiko_reader_lookup_bulk(struct saxiko_reader *reader, const uint32_t *addrs, size_t addrs_len,
+                                  uint32_t *hops, size_t hops_len, uint32_t absent);
 
 #ifdef __cplusplus
 }

@@ -9,6 +9,8 @@ What fails is printed, and makes the exit status 1. The archive is made anew by 
 - archive: it has each call that the header declares, and needs no more of others than the page of the crate names.
 - calls: c/tests/calls.c tries each call with what it refuses; as it is, with the sanitizers of addresses and of
   undefined behaviour, and under valgrind.
+- threads: c/tests/forwarder_threads.c looks up on three threads while a fourth changes routes, in the same three ways.
+- example: examples/forwarder.c prints what examples/forwarder.txt says.
 - manual: docs/man/saxiko.3 has the calls of the header, with their parameters.
 - bench: by valgrind's count, a lookup by a handle takes at most MORE instructions more than one over plain words.
 
@@ -31,7 +33,8 @@ ARCHIVE = build_c.OUT / "libsaxiko.a"
 MANUAL = TOP / "docs/man/saxiko.3"
 PAGE = TOP / "crates/saxiko_c/README.md"
 SANITIZERS = ["-g", "-fsanitize=address,undefined", "-fno-sanitize-recover=all"]
-VALGRIND = ["valgrind", "--quiet", "--error-exitcode=99", "--leak-check=full", "--errors-for-leak-kinds=definite,indirect"]
+VALGRIND = ["valgrind", "--quiet", "--error-exitcode=99", "--fair-sched=yes", "--leak-check=full",
+            "--errors-for-leak-kinds=definite,indirect"]
 TOOLS = {"g++": "g++", "valgrind": "valgrind", "ar": "binutils", "nm": "binutils"}
 SECONDS = 300  # for one run
 MORE = 12  # instructions
@@ -114,6 +117,19 @@ def check_calls(folder):
     return check_program(folder, "c/tests/calls.c", r"calls: \d+ checked, 0 wrong\n")
 
 
+def check_threads(folder):
+    return check_program(folder, "c/tests/forwarder_threads.c", r"forwarder_threads: \d+ checked, 0 wrong\n")
+
+
+def check_example(folder):
+    program = compiled(folder, "examples/forwarder.c")
+    files = [f"examples/{name}.txt" for name in ("routes", "updates", "addresses")]
+    status, told = run([program, *files])
+    wanted = (TOP / "examples/forwarder.txt").read_text()
+    if (status, told) != (0, wanted):
+        yield f"examples/forwarder.c ends with {status}: {told}"
+
+
 def instructions(folder, program, way):
     """How many instructions the lookups of one way take."""
     words = ["valgrind", "--tool=callgrind", f"--callgrind-out-file={folder}/callgrind", f"--toggle-collect=by_{way}*",
@@ -136,7 +152,7 @@ def check_bench(folder):
         yield f"a lookup by a handle takes more than {MORE} instructions more"
 
 
-CHECKS = [check_header, check_archive, check_manual, check_calls, check_bench]
+CHECKS = [check_header, check_archive, check_manual, check_calls, check_threads, check_example, check_bench]
 
 
 def main():

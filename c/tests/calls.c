@@ -1,6 +1,8 @@
 /* Each call of saxiko.h with what it refuses. */
 #include "calls_table.h"
 
+#include "calls_running.h"
+
 static void texts(void) {
     static const int32_t statuses[] = {0, 1, 2, -EPERM, -ENOENT, -E2BIG, -ENOMEM, -EBUSY, -EINVAL, -ENOSPC, -EDOM,
                                        -EOVERFLOW, -EALREADY};
@@ -12,6 +14,7 @@ static void texts(void) {
 
 int main(void) {
     table_calls();
+    running_calls();
     texts();
     return end_of_checks("calls");
 }

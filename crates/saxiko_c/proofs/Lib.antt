@@ -1,3 +1,7 @@
 pub mod Values
 pub mod TableHandles
 pub mod Fills
+pub mod Bursts
+pub mod Benches
+pub mod WriterHandles
+pub mod ReaderHandles

@@ -2,6 +2,8 @@ pub mod Calls
 pub mod Limits
 pub mod Loads
 pub mod Owned
+pub mod Owners
+pub mod Running
 pub mod Status
 pub mod Table
 pub use Rattle.fib.specs.Fib

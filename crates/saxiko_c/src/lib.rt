@@ -1,4 +1,4 @@
-//! The table for C programs: that of one thread.
+//! The table for C programs: that of one thread, and the running one.
 //!
 //! C holds a table by a handle, memory of its own that is all zero while the handle is closed. Each call is
 //! handed the handle; `saxiko.h` says who may call what.
@@ -6,13 +6,28 @@
 
 mod loading;
 mod loose;
+mod owner;
+mod reader;
+mod reader_handle;
 mod records;
+mod running;
+mod running_calls;
 mod status;
 mod table;
 mod table_calls;
 mod table_handle;
+mod writer_handle;
 
-pub use records::{SaxikoConfig, SaxikoCounts, SaxikoRoute};
+pub use reader_handle::SaxikoReader;
+pub use records::{SaxikoConfig, SaxikoCounts, SaxikoHeld, SaxikoRoute};
+pub use running_calls::{
+    saxiko_proved_reader_close, saxiko_proved_reader_lookup, saxiko_proved_reader_lookup_bulk,
+    saxiko_proved_reader_offline, saxiko_proved_reader_online, saxiko_proved_reader_quiescent,
+    saxiko_proved_reader_register, saxiko_proved_reader_unregister, saxiko_proved_writer_add,
+    saxiko_proved_writer_close, saxiko_proved_writer_counts, saxiko_proved_writer_delete,
+    saxiko_proved_writer_flush, saxiko_proved_writer_get, saxiko_proved_writer_open,
+    saxiko_proved_writer_reclaim,
+};
 pub use table_calls::{
     saxiko_proved_table_add, saxiko_proved_table_close, saxiko_proved_table_counts,
     saxiko_proved_table_delete, saxiko_proved_table_flush, saxiko_proved_table_get,
@@ -20,3 +35,4 @@ pub use table_calls::{
     saxiko_proved_table_open, saxiko_proved_table_reclaim,
 };
 pub use table_handle::SaxikoTable;
+pub use writer_handle::SaxikoWriter;

@@ -66,3 +66,13 @@ pub struct SaxikoCounts {
     /// The groups that are free.
     pub groups_free: u64,
 }
+
+/// The reader that keeps a group from being free: `struct saxiko_held` in C.
+#[repr(C)]
+#[derive(Clone, Copy)]
+pub struct SaxikoHeld {
+    /// The number of the reader.
+    pub reader: u64,
+    /// The token of its last report.
+    pub counter: u64,
+}

@@ -1,0 +1,22 @@
+use Rattle.std.proofs.Common.{◌≡◌, ap, sym, subst, ◌∙◌}
+use Rattle.lpm_writer.specs.Opening.{opening_setup}
+use Rattle.shared_fib.specs.Passes.{IsBenchOf, IsFullBench}
+use Rattle.shared_fib.specs.Running.{Identity, WriterState, setup}
+use Rattle.saxiko_c.specs.Owners.{OwnerState}
+use Rattle.saxiko_c.proofs.owner.Owner.open.Goals as goal
+
+pub new-requires-in-Ok-new-clause-bench : goal.new-requires-in-Ok-new-clause-bench
+new-requires-in-Ok-new-clause-bench c =
+    subst (λ (i : Identity). IsBenchOf i c.in-Ok.bench) (sym c.in-Ok-new.ensures.ok) c.in-Ok.ensures.bench.0
+
+pub returns-in-Ok-new-clause-opening : goal.returns-in-Ok-new-clause-opening
+returns-in-Ok-new-clause-opening c =
+    let own = ap (λ (o : OwnerState). o.writer.identity) c.new-in-Ok-new.ensures
+    ∙ ap (λ (w : WriterState). w.identity) c.in-Ok.ensures.opened in
+    subst (λ (i : Identity). setup i ≡ opening_setup 24 8 c.args.config) (sym own) c.in-Ok.ensures.opening
+
+pub returns-in-Ok-new-clause-bench : goal.returns-in-Ok-new-clause-bench
+returns-in-Ok-new-clause-bench c =
+    let own = ap (λ (w : WriterState). w.identity) c.in-Ok.ensures.opened in
+    subst (λ (o : OwnerState). IsFullBench o.writer.identity o.bench) (sym c.new-in-Ok-new.ensures)
+    (subst (λ (i : Identity). IsFullBench i c.in-Ok.bench) (sym own) c.in-Ok.ensures.bench)

@@ -1,0 +1,214 @@
+-- Meaning: the calls of a running table, by the status that they answer (DPDK Programmer's Guide, "LPM Library" and
+-- "RCU Library").
+use Rattle.std.specs.Prelude.{ℕ, ℤ, ⊤, ◌≡◌, ◌≢◌, ◌+◌, ◌≤◌, ◌<◌, ◌⊎◌, true, false, pos, List, [], ◌∷◌, ◌++◌, Option, Some, None, Result, length, slice_get, slice_set, take}
+use Rattle.std.specs.FinMap.{get, len, empty}
+use Rattle.lpm_bits.specs.Network.{prefix_of}
+use Rattle.lpm_rules.specs.declared.Put.{Put}
+use Rattle.lpm_limits.specs.Limits.{IsConfig}
+use Rattle.lpm_limits.specs.declared.config.Config.{Config}
+use Rattle.lpm_limits.specs.declared.busy.Busy.{Busy}
+use Rattle.lpm_limits.specs.declared.refusal.Refusal.{Refusal}
+use Rattle.defer_queue.specs.declared.Reclaimed.{Reclaimed}
+use Rattle.fib_model.specs.Outcomes.{groups_in_use}
+use Rattle.fib_model.specs.Outcomes as outcomes
+use Rattle.lpm_trace.specs.declared.step.WorkerStep.TheVariants.{LoadOnline, StoreOnline, LoadQuiescent, StoreQuiescent, StoreOffline}
+use Rattle.lpm_writer.specs.Opening.{opening_setup}
+use Rattle.lpm_writer.specs.Traced.{by_steps}
+use Rattle.shared_fib.specs.Freeing.{FreesChecked}
+use Rattle.shared_fib.specs.Passes.{PassState, IsFullBench, IsPassOf, LooksUp, Makes}
+use Rattle.shared_fib.specs.Running.{hop_or, left_by, opens_with, setup}
+use Rattle.saxiko_c.specs.Owners.{OwnerState}
+use Rattle.saxiko_c.specs.Status.{done, no_memory, busy, invalid, not_permitted, already, add_status, status_of}
+use Rattle.saxiko_c.specs.Table.{IsBad, IsUnopened, Stores, Tells}
+use Rattle.saxiko_c.specs.declared.records.SaxikoCounts.{SaxikoCounts}
+use Rattle.saxiko_c.specs.declared.records.SaxikoHeld.{SaxikoHeld}
+
+-- ---- the writer
+
+-- a table without rules, of which no reader is handed out
+pub record IsOpened (c : Config) (o : OwnerState) : Type 0 where
+  pub opened : o.writer ≡ opens_with o.writer.identity c empty
+  pub setup : setup o.writer.identity ≡ opening_setup 24 8 c
+  pub workers : o.writer.identity.opening.workers ≡ c.workers
+  pub bench : IsFullBench o.writer.identity o.bench
+  pub limits : IsConfig c
+
+-- a closed handle has such a table then; an open one stays as it is
+abbrev pub Opens : Config → Option OwnerState → ℤ → Option OwnerState → Type 0
+Opens c (Some o) status after = (status ≡ busy) × (after ≡ Some o)
+Opens c None status None = IsUnopened c status
+Opens c None status (Some o) = (status ≡ done) × IsOpened c o
+
+-- the table's rules alone were changed, and each group that was freed was checked after it was given up
+pub record Changes (o p : OwnerState) : Type 0 where
+  pub own : p.writer.identity ≡ o.writer.identity
+  pub config : p.writer.config ≡ o.writer.config
+  pub bench : p.bench ≡ o.bench
+  pub checked : (freed : List ℕ)
+      × FreesChecked (setup o.writer.identity) o.writer.table p.writer.table freed
+
+abbrev pub AddsTo : ℕ → ℕ → ℕ → OwnerState → ℤ → OwnerState → Type 0
+AddsTo addr depth hop o status p =
+    (IsBad depth hop × (status ≡ invalid) × (p ≡ o))
+    ⊎ ((depth ≤ 32) × (hop < 16777216) × (r : Result Put Refusal)
+    × outcomes.Adds (by_steps (setup o.writer.identity)) 24 8 o.writer.config o.writer.table
+    (prefix_of 32 depth addr) hop r p.writer.table
+    × Changes o p × (status ≡ add_status r))
+
+abbrev pub DeletesFrom : ℕ → ℕ → ℕ → ℕ → OwnerState → ℤ → OwnerState → Type 0
+DeletesFrom addr depth before after o status p =
+    ((32 < depth) × (status ≡ invalid) × (after ≡ before) × (p ≡ o))
+    ⊎ ((depth ≤ 32) × (r : Result ℕ Refusal)
+    × outcomes.Deletes (by_steps (setup o.writer.identity)) 24 8 o.writer.config o.writer.table
+    (prefix_of 32 depth addr) r p.writer.table
+    × Stores r before after × Changes o p × (status ≡ status_of r))
+
+abbrev pub Flushes : ℕ → ℕ → OwnerState → ℤ → OwnerState → Type 0
+Flushes before after o status p = (r : Result ℕ Refusal)
+    × outcomes.Flushes (by_steps (setup o.writer.identity)) 24 8 o.writer.config o.writer.table r p.writer.table
+    × Stores r before after × Changes o p × (status ≡ status_of r)
+
+-- the reader that stopped a reclaim is named
+abbrev pub Names : Option Busy → SaxikoHeld → ℤ → SaxikoHeld → Type 0
+Names None before status after = (status ≡ done) × (after ≡ before)
+Names (Some busy) before status after =
+    (status ≡ pos 1) × (after ≡ record { reader = busy.worker; counter = busy.counter })
+
+abbrev pub FreesHeld : ℕ → ℕ → SaxikoHeld → SaxikoHeld → OwnerState → ℤ → OwnerState → Type 0
+FreesHeld max freed before after o status p = (r : Reclaimed)
+    × outcomes.Frees (by_steps (setup o.writer.identity)) o.writer.table max r p.writer.table
+    × FreesChecked (setup o.writer.identity) o.writer.table p.writer.table (take r.freed o.writer.table.limbo)
+    × (freed ≡ r.freed) × Names r.stopped before status after
+    × (p.writer.identity ≡ o.writer.identity) × (p.writer.config ≡ o.writer.config) × (p.bench ≡ o.bench)
+
+abbrev pub GetsFrom : ℕ → ℕ → ℕ → ℕ → OwnerState → ℤ → Type 0
+GetsFrom addr depth before after o status =
+    ((32 < depth) × (status ≡ invalid) × (after ≡ before))
+    ⊎ ((depth ≤ 32) × Tells (get o.writer.table.rules (prefix_of 32 depth addr)) status before after)
+
+-- rules, versions, token and groups are counted
+pub record IsCountedIn (o : OwnerState) (c : SaxikoCounts) : Type 0 where
+  pub rules : c.rules ≡ len o.writer.table.rules
+  pub versions : c.versions ≡ o.writer.table.begun
+  pub token : c.token ≡ (left_by o.writer).token
+  pub in_use : c.groups_in_use ≡ groups_in_use 24 8 o.writer.table.rules
+  pub waiting : c.groups_waiting ≡ length o.writer.table.limbo
+  pub all : c.groups_in_use + c.groups_waiting + c.groups_free ≡ o.writer.config.groups
+
+abbrev pub Counts : SaxikoCounts → OwnerState → ℤ → Type 0
+Counts c o status = (status ≡ done) × IsCountedIn o c
+
+-- ---- readers
+
+-- the reader of this number was at the bench, and is handed out
+pub record IsRegistered (number : ℕ) (o : OwnerState) (reader : PassState) (p : OwnerState) : Type 0 where
+  pub of : IsPassOf o.writer.identity number reader
+  pub was : slice_get o.bench number ≡ Some (Some reader)
+  pub handed : p.bench ≡ slice_set o.bench number None
+  pub same : p.writer ≡ o.writer
+
+-- no reader was handed out: EINVAL exactly where there is no such number, EBUSY exactly where it has a reader, or ENOMEM
+abbrev pub IsUnregistered : ℕ → OwnerState → ℤ → OwnerState → Type 0
+IsUnregistered number o status p = (p ≡ o)
+    × (((status ≡ invalid) × (o.writer.identity.opening.workers ≤ number))
+    ⊎ (((status ≡ busy) × (slice_get o.bench number ≡ Some None))
+    ⊎ (status ≡ no_memory)))
+
+-- a closed handle has the reader then
+abbrev pub Registers : ℕ → Option OwnerState → Option PassState → ℤ → Option OwnerState → Option PassState → Type 0
+Registers number None kept status p reader = (status ≡ invalid) × (p ≡ None) × (reader ≡ kept)
+Registers number (Some o) (Some kept) status p reader =
+    (status ≡ busy) × (p ≡ Some o) × (reader ≡ Some kept)
+Registers number (Some o) None status None reader = ⊥
+Registers number (Some o) None status (Some p) None = IsUnregistered number o status p
+Registers number (Some o) None status (Some p) (Some reader) =
+    (status ≡ done) × IsRegistered number o reader p
+
+-- the reader is at the bench then, offline
+abbrev pub GivesBack : PassState → OwnerState → ℤ → OwnerState → Type 0
+GivesBack reader o status p = (status ≡ done) × (left : PassState)
+    × (p.bench ≡ slice_set o.bench reader.worker (Some left))
+    × (reader.online ≡ true → (place : ℕ) × Makes ((StoreOffline, place) ∷ []) reader left)
+    × (reader.online ≡ false → left ≡ reader)
+    × (p.writer ≡ o.writer)
+
+abbrev pub Unregisters : Option OwnerState → Option PassState → ℤ → Option OwnerState → Option PassState → Type 0
+Unregisters None kept status p reader = (status ≡ invalid) × (p ≡ None) × (reader ≡ kept)
+Unregisters (Some o) None status p reader = (status ≡ invalid) × (p ≡ Some o) × (reader ≡ None)
+Unregisters (Some o) (Some kept) status None reader = ⊥
+Unregisters (Some o) (Some kept) status (Some p) reader = (reader ≡ None) × GivesBack kept o status p
+
+-- both handles are of one table, where both are open
+abbrev pub AreOfOneTable : Option OwnerState → Option PassState → Type 0
+AreOfOneTable (Some o) (Some reader) = reader.table ≡ o.writer.identity
+AreOfOneTable None reader = ⊤
+AreOfOneTable (Some o) None = ⊤
+
+abbrev pub GoesOnline : PassState → ℤ → PassState → Type 0
+GoesOnline p status q =
+    ((p.online ≡ true) × (status ≡ already) × (q ≡ p))
+    ⊎ ((p.online ≡ false) × (status ≡ done) × (q.online ≡ true)
+    × (token : ℕ) × (first : ℕ) × (last : ℕ)
+    × Makes ((StoreOnline token, last) ∷ (LoadOnline token, first) ∷ []) p q)
+
+abbrev pub GoesOffline : PassState → ℤ → PassState → Type 0
+GoesOffline p status q =
+    ((p.online ≡ false) × (status ≡ not_permitted) × (q ≡ p))
+    ⊎ ((p.online ≡ true) × (status ≡ done) × (q.online ≡ false)
+    × (place : ℕ) × Makes ((StoreOffline, place) ∷ []) p q)
+
+abbrev pub Quiesces : PassState → ℤ → PassState → Type 0
+Quiesces p status q =
+    ((p.online ≡ false) × (status ≡ not_permitted) × (q ≡ p))
+    ⊎ ((p.online ≡ true) × (status ≡ done) × (q.online ≡ true)
+    × (token : ℕ) × (first : ℕ) × (last : ℕ)
+    × Makes ((StoreQuiescent token, last) ∷ (LoadQuiescent token, first) ∷ []) p q)
+
+-- the longest rule's next hop in a version that stood while the words were loaded
+abbrev pub Finds : ℕ → ℕ → ℕ → PassState → ℤ → PassState → Type 0
+Finds addr before after p status q = (lo : ℕ) × (hi : ℕ) × (x : Option ℕ)
+    × LooksUp addr x lo hi p q × (q.online ≡ true) × Tells x status before after
+
+-- the same by a reader that is online; by another it is EPERM
+abbrev pub FindsIn : ℕ → ℕ → ℕ → PassState → ℤ → PassState → Type 0
+FindsIn addr before after p status q =
+    ((p.online ≡ false) × (status ≡ not_permitted) × (after ≡ before) × (q ≡ p))
+    ⊎ ((p.online ≡ true) × Finds addr before after p status q)
+
+-- ---- lookups of many addresses
+
+-- an address that was looked up, its next hop, and between which versions that lies
+pub record Lookup : Type 0 where
+  pub addr : ℕ
+  pub hop : Option ℕ
+  pub lo : ℕ
+  pub hi : ℕ
+
+-- the addresses of lookups, of which the newest stands first, and their next hops or the default
+abbrev pub addrs_of : List Lookup → List ℕ
+addrs_of [] = []
+addrs_of (l ∷ ls) = addrs_of ls ++ (l.addr ∷ [])
+
+abbrev pub hops_of : ℕ → List Lookup → List ℕ
+hops_of default [] = []
+hops_of default (l ∷ ls) = hops_of default ls ++ (hop_or default l.hop ∷ [])
+
+-- the lookups are made, one directly after the other
+abbrev pub LooksUpInTurn : List Lookup → PassState → PassState → Type 0
+LooksUpInTurn [] p q = q ≡ p
+LooksUpInTurn (l ∷ ls) p q = (r : PassState) × LooksUpInTurn ls p r × LooksUp l.addr l.hop l.lo l.hi r q
+
+-- each address is looked up, and its next hop, or the default, is stored
+pub record FindsEach (default : ℕ) (addrs hops : List ℕ) (p q : PassState) : Type 0 where
+  pub lookups : List Lookup
+  pub addrs_are : addrs_of lookups ≡ addrs
+  pub hops_are : hops_of default lookups ≡ hops
+  pub steps : LooksUpInTurn lookups p q
+
+-- the same by a reader that is online, with as much room as addresses; else it is EPERM or EINVAL
+abbrev pub FindsAllIn : ℕ → List ℕ → List ℕ → List ℕ → PassState → ℤ → PassState → Type 0
+FindsAllIn default addrs before after p status q =
+    ((p.online ≡ false) × (status ≡ not_permitted) × (after ≡ before) × (q ≡ p))
+    ⊎ (((p.online ≡ true) × (length addrs ≢ length before) × (status ≡ invalid) × (after ≡ before) × (q ≡ p))
+    ⊎ ((p.online ≡ true) × (length addrs ≡ length before) × (status ≡ done) × (q.online ≡ true)
+    × FindsEach default addrs after p q))

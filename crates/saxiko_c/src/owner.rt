@@ -1,0 +1,227 @@
+//! The owner of a running table.
+
+ghost use Rattle.std.specs.Prelude.{◌≡◌, ◌+◌, ◌^◌, ◌≤◌, ◌↔◌, ℕ, IfOk, IfErr, IsErrOf, OnErr, List, take, length, slice_get, slice_set, Some, None, [], ◌∷◌, true, false};
+ghost use Rattle.std.specs.FinMap as map;
+ghost use Rattle.std.specs.Arc.{arc_value};
+ghost use Rattle.fib_model.specs.Outcomes.{Adds, Deletes, Flushes, Frees, groups_in_use};
+ghost use Rattle.lpm_limits.specs.Limits.{IsConfig};
+ghost use Rattle.lpm_trace.specs.declared.step.WorkerStep.TheVariants.{StoreOffline};
+ghost use Rattle.lpm_writer.specs.Opening.{opening_setup};
+ghost use Rattle.lpm_writer.specs.Traced.{by_steps};
+ghost use Rattle.shared_fib.specs.Freeing.{FreesChecked};
+ghost use Rattle.shared_fib.specs.Passes.{IsBenchOf, IsFullBench, IsPassOf, Makes, PassState};
+ghost use Rattle.shared_fib.specs.Running.{left_by, opens_with, setup};
+
+use crate::reader::Reader;
+use defer_queue::Reclaimed;
+use lpm_bits::{Hop, Prefix};
+use lpm_groups::Counts;
+use lpm_limits::{Config, Refusal};
+use lpm_rules::Put;
+use shared_fib::{Bench, OpenError, RegisterError, SharedTable, Writer, open};
+use std::alloc::Global;
+use std::marker::Model;
+use std::sync::Arc;
+
+/// The owner of a running table: it changes the table, and hands its readers out. It keeps the table that its writer and
+/// its bench are of.
+#[derive(Drop)]
+pub struct Owner {
+    table: Arc<SharedTable<24, 8>>,
+    writer: Writer<24, 8>,
+    bench: Bench,
+}
+
+impl Model for Owner {
+    ghost use Rattle.std.specs.Prelude.{◌≡◌};
+    ghost use Rattle.std.specs.Arc.{arc_value};
+    ghost use Rattle.shared_fib.specs.Passes.{IsBenchOf};
+    ghost use Rattle.saxiko_c.specs.Owners.{OwnerState, coded_owner};
+
+    ghost Value = { OwnerState };
+
+    ghost coded = { coded_owner };
+
+    ghost view = { λ o. record { writer = o.writer; bench = o.bench } };
+
+    ghost invariant = { λ o. (o.writer.identity ≡ arc_value o.table)
+        × IsBenchOf (arc_value o.table) o.bench };
+}
+
+impl Owner {
+    // The owner of this table, with its writer and its bench.
+    fn new(table: Arc<SharedTable<24, 8>>, writer: Writer<24, 8>, bench: Bench) -> Self
+        requires own { writer.identity ≡ arc_value table }
+        requires bench { IsBenchOf (arc_value table) bench }
+        ensures { result ≡ record { writer = writer; bench = bench } }
+    {
+        Owner {
+            table,
+            writer,
+            bench,
+        }
+    }
+
+    /// A running table without rules, with a reader for each worker, all offline. It refuses limits out of range, and
+    /// ends with `Memory` where there is no room for the words, the groups or the workers.
+    pub fn open(alloc: Global, config: Config) -> Result<Self, OpenError>
+        ensures opening { IfOk result
+            (λ owner. setup owner.writer.identity ≡ opening_setup 24 8 config) }
+        ensures opened { IfOk result
+            (λ owner. owner.writer ≡ opens_with owner.writer.identity config map.empty) }
+        ensures workers { IfOk result (λ owner. owner.writer.identity.opening.workers ≡ config.workers) }
+        ensures bench { IfOk result (λ owner. IsFullBench owner.writer.identity owner.bench) }
+        ensures limits { IfOk result (λ _. IsConfig config) }
+        ensures bad_config { IfErr result
+            (λ error. (error ≡ OpenError.BadConfig) ↔ (¬ IsConfig config)) }
+    {
+        match open::<24, 8>(alloc, config) {
+            Ok((table, writer, bench)) => match Arc::new(alloc, table) {
+                Ok(table) => Ok(Owner::new(table, writer, bench)),
+                Err(_) => Err(OpenError::Memory),
+            },
+            Err(error) => Err(error),
+        }
+    }
+
+    /// The reader of the worker of this number, which is offline.
+    ///
+    /// The refusals: `NoSuchWorker`, where the table has no such worker; `Taken`, where its reader is handed out and not
+    /// given back yet; and `Memory`, where there are 2^63 readers.
+    pub fn register(&mut self, worker: usize) -> Result<Reader, Refusal>
+        ensures reader { IfOk result (IsPassOf self.old.writer.identity worker) }
+        ensures registered { IfOk result (λ p. (slice_get self.old.bench worker ≡ Some (Some p))
+            × (self.new.bench ≡ slice_set self.old.bench worker None)) }
+        ensures no_such_worker { IsErrOf result Refusal.NoSuchWorker
+            → (self.old.writer.identity.opening.workers ≤ worker) }
+        ensures taken { IsErrOf result Refusal.Taken → (slice_get self.old.bench worker ≡ Some None) }
+        ensures unchanged { OnErr result (self.new ≡ self.old) }
+        ensures same { self.new.writer ≡ self.old.writer }
+    {
+        let Ok(table) = Arc::try_clone(&self.table) else {
+            return Err(Refusal::Memory);
+        };
+        match self.bench.register(&*self.table, worker) {
+            Ok(pass) => Ok(Reader::new(table, pass)),
+            Err(RegisterError::NoSuchWorker) => Err(Refusal::NoSuchWorker),
+            Err(RegisterError::Taken) => Err(Refusal::Taken),
+        }
+    }
+
+    /// Takes a reader back, so that its number can be registered again. One that is online goes offline first.
+    pub fn unregister(&mut self, reader: Reader)
+        requires own { reader.table ≡ self.old.writer.identity }
+        ensures back { (p : PassState)
+            × (self.new.bench ≡ slice_set self.old.bench reader.worker (Some p))
+            × (reader.online ≡ true → (place : ℕ) × Makes ((StoreOffline, place) ∷ []) reader p)
+            × (reader.online ≡ false → p ≡ reader) }
+        ensures same { self.new.writer ≡ self.old.writer }
+    {
+        self.bench.unregister(&*self.table, reader.into_pass());
+    }
+
+    /// Adds a rule, or gives the prefix's rule another next hop. A rule that is there already stays, and is
+    /// `Unchanged`, whatever else holds.
+    ///
+    /// A rule longer than 24 bits that is the first in its block of 256 addresses takes a group. Where none is free, it
+    /// takes the oldest in limbo, once its check has passed.
+    ///
+    /// The refusals, in the order of the checks: `Exhausted`; `TooManyRules` and `Memory`, where a new rule has no
+    /// room; and `NoGroups`, where a rule longer than 24 bits is the first in its block, no group is free, and the
+    /// oldest in limbo is held or there is none. It names the worker that holds that one.
+    pub fn add(&mut self, prefix: &Prefix<24, 8>, hop: Hop) -> Result<Put, Refusal>
+        ensures adds { Adds (by_steps (setup self.old.writer.identity)) 24 8 self.old.writer.config
+            self.old.writer.table prefix.now hop result self.new.writer.table }
+        ensures checked { (freed : List ℕ) × FreesChecked (setup self.old.writer.identity)
+            self.old.writer.table self.new.writer.table freed }
+        ensures own { self.new.writer.identity ≡ self.old.writer.identity }
+        ensures config { self.new.writer.config ≡ self.old.writer.config }
+        ensures bench { self.new.bench ≡ self.old.bench }
+    {
+        self.writer.add(&*self.table, prefix, hop)
+    }
+
+    /// Deletes the rule of this prefix, and returns its next hop. Its addresses go to the longest rule that is shorter
+    /// and covers it, where there is one. A block that loses its last rule longer than 24 bits gives its group up;
+    /// where more than the threshold wait in limbo, some are reclaimed first.
+    ///
+    /// The refusals: `NoSuchRule`, where the prefix has no rule, and else `Exhausted`.
+    pub fn delete(&mut self, prefix: &Prefix<24, 8>) -> Result<Hop, Refusal>
+        ensures deletes { Deletes (by_steps (setup self.old.writer.identity)) 24 8
+            self.old.writer.config self.old.writer.table prefix.now result self.new.writer.table }
+        ensures checked { (freed : List ℕ) × FreesChecked (setup self.old.writer.identity)
+            self.old.writer.table self.new.writer.table freed }
+        ensures own { self.new.writer.identity ≡ self.old.writer.identity }
+        ensures config { self.new.writer.config ≡ self.old.writer.config }
+        ensures bench { self.new.bench ≡ self.old.bench }
+    {
+        self.writer.delete(&*self.table, prefix)
+    }
+
+    /// Deletes all rules, as one version, and returns how many there were. With none nothing changes, and else
+    /// `Exhausted` is the only refusal. The groups are given up and reclaimed as by `delete`, one after another.
+    pub fn flush(&mut self) -> Result<usize, Refusal>
+        ensures flushes { Flushes (by_steps (setup self.old.writer.identity)) 24 8
+            self.old.writer.config self.old.writer.table result self.new.writer.table }
+        ensures checked { (freed : List ℕ) × FreesChecked (setup self.old.writer.identity)
+            self.old.writer.table self.new.writer.table freed }
+        ensures own { self.new.writer.identity ≡ self.old.writer.identity }
+        ensures config { self.new.writer.config ≡ self.old.writer.config }
+        ensures bench { self.new.bench ≡ self.old.bench }
+    {
+        self.writer.flush(&*self.table)
+    }
+
+    /// Frees groups that wait in limbo, from the oldest on: at most `max`, up to the first that a worker holds. It
+    /// returns how many were freed, and the worker that stopped it.
+    pub fn reclaim(&mut self, max: usize) -> Reclaimed
+        ensures frees { Frees (by_steps (setup self.old.writer.identity)) self.old.writer.table max
+            result self.new.writer.table }
+        ensures checked { FreesChecked (setup self.old.writer.identity) self.old.writer.table
+            self.new.writer.table (take result.freed self.old.writer.table.limbo) }
+        ensures own { self.new.writer.identity ≡ self.old.writer.identity }
+        ensures config { self.new.writer.config ≡ self.old.writer.config }
+        ensures bench { self.new.bench ≡ self.old.bench }
+    {
+        self.writer.reclaim(&*self.table, max)
+    }
+
+    /// The next hop of the rule of this very prefix; none where it has no rule.
+    pub fn get(&self, prefix: &Prefix<24, 8>) -> Option<Hop>
+        ensures { result ≡ map.get self.now.writer.table.rules prefix.now }
+    {
+        self.writer.get(prefix)
+    }
+
+    /// The number of rules.
+    pub fn rules(&self) -> usize
+        ensures { result ≡ map.len self.now.writer.table.rules }
+    {
+        self.writer.rules()
+    }
+
+    /// The number of changes that made a version of the rule list, since the table was opened.
+    pub fn versions(&self) -> u64
+        ensures { result ≡ self.now.writer.table.begun }
+    {
+        self.writer.versions()
+    }
+
+    /// The token number: that of the opening and, for each group that was given up and each synchronize, one more.
+    pub fn token(&mut self) -> u64
+        ensures same { self.new ≡ self.old }
+        ensures value { result ≡ (left_by self.old.writer).token }
+        ensures within { result ≤ 2 ^ 62 }
+    {
+        self.writer.token(&*self.table)
+    }
+
+    /// How many groups are in use, in limbo and free.
+    pub fn counts(&self) -> Counts
+        ensures in_use { result.in_use ≡ groups_in_use 24 8 self.now.writer.table.rules }
+        ensures limbo { result.limbo ≡ length self.now.writer.table.limbo }
+        ensures all { result.in_use + result.limbo + result.free ≡ self.now.writer.config.groups }
+    {
+        self.writer.counts()
+    }
+}

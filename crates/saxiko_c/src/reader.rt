@@ -1,0 +1,124 @@
+//! A reader of a running table.
+
+ghost use Rattle.std.specs.Prelude.{◌≡◌, ℕ, [], ◌∷◌, true, false};
+ghost use Rattle.std.specs.Arc.{arc_value};
+ghost use Rattle.lpm_trace.specs.declared.step.WorkerStep.TheVariants.{LoadOnline, StoreOnline, LoadQuiescent, StoreQuiescent, StoreOffline};
+ghost use Rattle.shared_fib.specs.Passes.{LooksUp, Makes};
+
+use lpm_rules::Answer;
+use shared_fib::{Pass, SharedTable};
+use std::marker::Model;
+use std::sync::Arc;
+
+/// A reader of a running table: the pass of one worker, and the table that it reads. One that is dropped goes offline
+/// first.
+pub struct Reader {
+    pub(crate) table: Arc<SharedTable<24, 8>>,
+    pub(crate) pass: Pass,
+}
+
+impl Model for Reader {
+    ghost use Rattle.std.specs.Prelude.{◌≡◌};
+    ghost use Rattle.std.specs.Arc.{arc_value};
+    ghost use Rattle.shared_fib.specs.Passes.{PassState, coded_pass};
+
+    ghost Value = { PassState };
+
+    ghost coded = { coded_pass };
+
+    ghost view = { λ r. r.pass };
+
+    ghost invariant = { λ r. r.pass.table ≡ arc_value r.table };
+}
+
+impl Drop for Reader {
+    fn drop(self) {
+        let Reader { table, mut pass } = self;
+        if pass.is_online() {
+            pass.offline(&*table);
+        }
+    }
+}
+
+impl Reader {
+    // The reader with this pass.
+    pub(crate) fn new(table: Arc<SharedTable<24, 8>>, pass: Pass) -> Self
+        requires own { pass.table ≡ arc_value table }
+        ensures { result ≡ pass }
+    {
+        Reader { table, pass }
+    }
+
+    // Its pass.
+    pub(crate) fn into_pass(self) -> Pass
+        ensures { result ≡ self }
+    {
+        let Reader { table: _, pass } = self;
+        pass
+    }
+
+    /// Whether the reader is online: from a report that it is until one that it is offline.
+    #[inline]
+    pub fn is_online(&self) -> bool
+        ensures { result ≡ self.now.online }
+    {
+        self.pass.is_online()
+    }
+
+    /// The reader is online: from now on it may look up, and may hold each group that is given up. One that is online
+    /// already stays as it is.
+    #[inline]
+    pub fn online(&mut self)
+        ensures own { self.new.table ≡ self.old.table }
+        ensures steps { self.old.online ≡ false → (token : ℕ) × (first : ℕ) × (last : ℕ)
+            × Makes ((StoreOnline token, last) ∷ (LoadOnline token, first) ∷ []) self.old self.new }
+        ensures stays { self.old.online ≡ true → self.new ≡ self.old }
+        ensures online { self.new.online ≡ true }
+    {
+        if !self.pass.is_online() {
+            self.pass.online(&*self.table);
+        }
+    }
+
+    /// The reader is offline: it holds no group. One that is offline already stays as it is.
+    #[inline]
+    pub fn offline(&mut self)
+        ensures own { self.new.table ≡ self.old.table }
+        ensures steps { self.old.online ≡ true
+            → (place : ℕ) × Makes ((StoreOffline, place) ∷ []) self.old self.new }
+        ensures stays { self.old.online ≡ false → self.new ≡ self.old }
+        ensures offline { self.new.online ≡ false }
+    {
+        if self.pass.is_online() {
+            self.pass.offline(&*self.table);
+        }
+    }
+
+    /// The reader has ended its lookups so far: it holds no group that was given up before. One that is offline stays
+    /// as it is.
+    #[inline]
+    pub fn quiescent(&mut self)
+        ensures own { self.new.table ≡ self.old.table }
+        ensures steps { self.old.online ≡ true → (token : ℕ) × (first : ℕ) × (last : ℕ)
+            × Makes ((StoreQuiescent token, last) ∷ (LoadQuiescent token, first) ∷ []) self.old self.new }
+        ensures stays { self.old.online ≡ false → self.new ≡ self.old }
+        ensures online { self.new.online ≡ self.old.online }
+    {
+        if self.pass.is_online() {
+            self.pass.quiescent(&*self.table);
+        }
+    }
+
+    /// The next hop of the longest rule that covers the address, of a version that stood while its words were loaded.
+    /// That version lies from `lo`, how many updates were done when the lookup began, to `hi`, how many were begun when
+    /// it ended.
+    #[inline]
+    pub fn lookup(&mut self, addr: u32) -> Answer
+        requires online { self.old.online ≡ true }
+        ensures own { self.new.table ≡ self.old.table }
+        ensures answer { LooksUp addr result.hop result.lo result.hi self.old self.new }
+        ensures online { self.new.online ≡ true }
+    {
+        self.pass.lookup(&*self.table, addr)
+    }
+}

@@ -1,0 +1,254 @@
+//! What the calls do with a running table.
+
+ghost use Rattle.std.specs.Prelude.{◌≡◌, MatchResult, length, true};
+ghost use Rattle.shared_fib.specs.Passes.{LooksUp};
+ghost use Rattle.shared_fib.specs.Running.{hop_or};
+ghost use Rattle.saxiko_c.specs.Running.{AddsTo, DeletesFrom, Finds, FindsAllIn, FindsEach, FindsIn, Flushes, FreesHeld, GetsFrom, GivesBack, GoesOffline, GoesOnline, IsCountedIn, IsOpened, IsRegistered, IsUnregistered, Lookup, Quiesces};
+ghost use Rattle.saxiko_c.specs.Table.{IsUnopened};
+
+use crate::owner::Owner;
+use crate::reader::Reader;
+use crate::records::{SaxikoCounts, SaxikoHeld};
+use crate::status::{EALREADY, EBUSY, EINVAL, ENOENT, ENOMEM, EPERM, of_put, of_refusal};
+use lpm_bits::{Hop, Prefix};
+use lpm_limits::{Config, Refusal};
+use shared_fib::OpenError;
+use std::alloc::Global;
+
+pub(crate) fn open(alloc: Global, config: Config) -> Result<Box<Owner>, i32>
+    ensures { MatchResult result (λ b. IsOpened config b.value) (IsUnopened config) }
+{
+    match Owner::open(alloc, config) {
+        Ok(owner) => match Box::new(alloc, owner) {
+            Ok(boxed) => Ok(boxed),
+            Err(_) => Err(ENOMEM),
+        },
+        Err(OpenError::BadConfig) => Err(EINVAL),
+        Err(OpenError::Memory) => Err(ENOMEM),
+    }
+}
+
+pub(crate) fn add(owner: &mut Owner, addr: u32, depth: u8, hop: u32) -> i32
+    ensures { AddsTo addr depth hop owner.old result owner.new }
+{
+    match (Prefix::new(addr, u32::from(depth)), Hop::new(hop)) {
+        (Ok(prefix), Ok(hop)) => match owner.add(&prefix, hop) {
+            Ok(put) => of_put(put),
+            Err(refusal) => of_refusal(refusal),
+        },
+        _ => EINVAL,
+    }
+}
+
+pub(crate) fn delete(owner: &mut Owner, addr: u32, depth: u8, hop: &mut u32) -> i32
+    ensures { DeletesFrom addr depth hop.old hop.new owner.old result owner.new }
+{
+    match Prefix::new(addr, u32::from(depth)) {
+        Ok(prefix) => match owner.delete(&prefix) {
+            Ok(deleted) => {
+                *hop = deleted.number();
+                0
+            }
+            Err(refusal) => of_refusal(refusal),
+        },
+        Err(_) => EINVAL,
+    }
+}
+
+pub(crate) fn flush(owner: &mut Owner, rules: &mut usize) -> i32
+    ensures { Flushes rules.old rules.new owner.old result owner.new }
+{
+    match owner.flush() {
+        Ok(flushed) => {
+            *rules = flushed;
+            0
+        }
+        Err(refusal) => of_refusal(refusal),
+    }
+}
+
+/// Returns 1 where a reader holds the next group that waits.
+pub(crate) fn reclaim(
+    owner: &mut Owner,
+    max: usize,
+    freed: &mut usize,
+    held: &mut SaxikoHeld,
+) -> i32
+    ensures { FreesHeld max freed.new held.old held.new owner.old result owner.new }
+{
+    let reclaimed = owner.reclaim(max);
+    *freed = reclaimed.freed;
+    match reclaimed.stopped {
+        Some(busy) => {
+            *held = SaxikoHeld {
+                reader: busy.worker as u64,
+                counter: busy.counter,
+            };
+            1
+        }
+        None => 0,
+    }
+}
+
+pub(crate) fn get(owner: &Owner, addr: u32, depth: u8, hop: &mut u32) -> i32
+    ensures { GetsFrom addr depth hop.old hop.new owner.now result }
+{
+    match Prefix::new(addr, u32::from(depth)) {
+        Ok(prefix) => match owner.get(&prefix) {
+            Some(found) => {
+                *hop = found.number();
+                0
+            }
+            None => ENOENT,
+        },
+        Err(_) => EINVAL,
+    }
+}
+
+pub(crate) fn count(owner: &mut Owner) -> SaxikoCounts
+    ensures counted { IsCountedIn owner.old result }
+    ensures same { owner.new ≡ owner.old }
+{
+    let groups = owner.counts();
+    SaxikoCounts {
+        rules: owner.rules() as u64,
+        versions: owner.versions(),
+        token: owner.token(),
+        groups_in_use: groups.in_use as u64,
+        groups_waiting: groups.limbo as u64,
+        groups_free: groups.free as u64,
+    }
+}
+
+/// The reader of this number. Where there is no memory for it, its number is free again.
+pub(crate) fn register(alloc: Global, owner: &mut Owner, number: usize) -> Result<Box<Reader>, i32>
+    ensures { MatchResult result (λ b. IsRegistered number owner.old b.value owner.new)
+        (λ status. IsUnregistered number owner.old status owner.new) }
+{
+    match owner.register(number) {
+        Ok(reader) => match Box::new(alloc, reader) {
+            Ok(boxed) => Ok(boxed),
+            Err(failed) => {
+                owner.unregister(failed.value);
+                Err(ENOMEM)
+            }
+        },
+        Err(Refusal::NoSuchWorker) => Err(EINVAL),
+        Err(Refusal::Taken) => Err(EBUSY),
+        Err(_) => Err(ENOMEM),
+    }
+}
+
+/// Takes the reader back: it is offline then.
+pub(crate) fn unregister(owner: &mut Owner, reader: Reader) -> i32
+    requires own { reader.table ≡ owner.old.writer.identity }
+    ensures { GivesBack reader owner.old result owner.new }
+{
+    owner.unregister(reader);
+    0
+}
+
+pub(crate) fn online(reader: &mut Reader) -> i32
+    ensures { GoesOnline reader.old result reader.new }
+{
+    if reader.is_online() {
+        return EALREADY;
+    }
+    reader.online();
+    0
+}
+
+pub(crate) fn offline(reader: &mut Reader) -> i32
+    ensures { GoesOffline reader.old result reader.new }
+{
+    if !reader.is_online() {
+        return EPERM;
+    }
+    reader.offline();
+    0
+}
+
+#[inline]
+pub(crate) fn quiescent(reader: &mut Reader) -> i32
+    ensures { Quiesces reader.old result reader.new }
+{
+    if !reader.is_online() {
+        return EPERM;
+    }
+    reader.quiescent();
+    0
+}
+
+#[inline]
+fn find(reader: &mut Reader, addr: u32, hop: &mut u32) -> i32
+    requires online { reader.old.online ≡ true }
+    ensures { Finds addr hop.old hop.new reader.old result reader.new }
+{
+    match reader.lookup(addr).hop {
+        Some(found) => {
+            *hop = found.number();
+            0
+        }
+        None => ENOENT,
+    }
+}
+
+#[inline]
+pub(crate) fn lookup(reader: &mut Reader, addr: u32, hop: &mut u32) -> i32
+    ensures { FindsIn addr hop.old hop.new reader.old result reader.new }
+{
+    if !reader.is_online() {
+        return EPERM;
+    }
+    find(reader, addr, hop)
+}
+
+/// The number of a next hop, or the default where there is none.
+#[inline]
+fn number_or(hop: Option<Hop>, default: u32) -> u32
+    ensures { result ≡ hop_or default hop }
+{
+    match hop {
+        Some(hop) => hop.number(),
+        None => default,
+    }
+}
+
+/// The next hop of the address, or the default.
+#[inline]
+fn find_or(reader: &mut Reader, addr: u32, default: u32) -> u32
+    requires online { reader.old.online ≡ true }
+    ensures online { reader.new.online ≡ true }
+    ensures found { (l : Lookup) × (l.addr ≡ addr) × LooksUp l.addr l.hop l.lo l.hi reader.old reader.new
+        × (result ≡ hop_or default l.hop) }
+{
+    let answer = reader.lookup(addr);
+    number_or(answer.hop, default)
+}
+
+/// The next hops of as many addresses as there is room for.
+fn find_all(reader: &mut Reader, addrs: &[u32], hops: &mut [u32], default: u32)
+    requires online { reader.old.online ≡ true }
+    requires sizes { length addrs.now ≡ length hops.old }
+    ensures online { reader.new.online ≡ true }
+    ensures found { FindsEach default addrs.now hops.new reader.old reader.new }
+{
+    let mut i = 0;
+    while i < hops.len() {
+        hops[i] = find_or(reader, addrs[i], default);
+        i += 1;
+    }
+}
+
+pub(crate) fn lookup_all(reader: &mut Reader, addrs: &[u32], hops: &mut [u32], default: u32) -> i32
+    ensures { FindsAllIn default addrs.now hops.old hops.new reader.old result reader.new }
+{
+    if !reader.is_online() {
+        return EPERM;
+    }
+    if addrs.len() != hops.len() {
+        return EINVAL;
+    }
+    find_all(reader, addrs, hops, default);
+    0
+}

@@ -1,0 +1,375 @@
+//! The calls of the writer and of the readers of a running table.
+
+ghost use Rattle.std.specs.Prelude.{◌≡◌, ⊤, None, Some, MatchOption};
+ghost use Rattle.saxiko_c.specs.Calls.{Asks, Calls};
+ghost use Rattle.saxiko_c.specs.Limits.{config_of};
+ghost use Rattle.saxiko_c.specs.Running.{AddsTo, AreOfOneTable, Counts, DeletesFrom, FindsAllIn, FindsIn, Flushes, FreesHeld, GetsFrom, GoesOffline, GoesOnline, Opens, Quiesces, Registers, Unregisters};
+
+use crate::loose::Loose;
+use crate::owner::Owner;
+use crate::reader::Reader;
+use crate::reader_handle::SaxikoReader;
+use crate::records::{SaxikoConfig, SaxikoCounts, SaxikoHeld};
+use crate::running;
+use crate::status::{EBUSY, EINVAL};
+use crate::writer_handle::SaxikoWriter;
+use std::alloc::Global;
+use std::mem;
+
+/// Takes the owner out of the handle, which is closed then.
+#[inline]
+fn take_owner(alloc: Global, handle: &mut SaxikoWriter) -> Option<Box<Owner>>
+    ensures out { MatchOption result (handle.old.kept ≡ None) (λ b. handle.old.kept ≡ Some b.value) }
+    ensures closed { handle.new.kept ≡ None }
+{
+    let old = mem::replace(handle, SaxikoWriter::closed(alloc));
+    match old.into_loose() {
+        Some(loose) => Some(loose.into_box()),
+        None => None,
+    }
+}
+
+/// Puts an owner into the handle, which is closed.
+#[inline]
+fn put_owner(handle: &mut SaxikoWriter, owner: Box<Owner>)
+    ensures { handle.new.kept ≡ Some owner.value }
+{
+    mem::forget(mem::replace(handle, SaxikoWriter::of(Loose::of(owner))));
+}
+
+/// Takes the reader out of the handle, which is closed then.
+#[inline]
+fn take_reader(alloc: Global, handle: &mut SaxikoReader) -> Option<Box<Reader>>
+    ensures out { MatchOption result (handle.old.kept ≡ None) (λ b. handle.old.kept ≡ Some b.value) }
+    ensures closed { handle.new.kept ≡ None }
+{
+    let old = mem::replace(handle, SaxikoReader::closed(alloc));
+    match old.into_loose() {
+        Some(loose) => Some(loose.into_box()),
+        None => None,
+    }
+}
+
+/// Puts a reader into the handle, which is closed.
+#[inline]
+fn put_reader(handle: &mut SaxikoReader, reader: Box<Reader>)
+    ensures { handle.new.kept ≡ Some reader.value }
+{
+    mem::forget(mem::replace(handle, SaxikoReader::of(Loose::of(reader))));
+}
+
+/// Opens a running table without rules in a closed handle.
+#[unsafe(no_mangle)]
+pub extern "C" fn saxiko_proved_writer_open(
+    alloc: Global,
+    handle: &mut SaxikoWriter,
+    config: &SaxikoConfig,
+) -> i32
+    ensures { Opens (config_of config.now config.now.readers) handle.old.kept result handle.new.kept }
+{
+    match take_owner(alloc, handle) {
+        Some(owner) => {
+            put_owner(handle, owner);
+            EBUSY
+        }
+        None => match running::open(alloc, config.with_readers(config.readers)) {
+            Ok(owner) => {
+                put_owner(handle, owner);
+                0
+            }
+            Err(status) => status,
+        },
+    }
+}
+
+/// Frees the writer; the table is freed with the last handle of it.
+#[unsafe(no_mangle)]
+pub extern "C" fn saxiko_proved_writer_close(alloc: Global, handle: &mut SaxikoWriter)
+    ensures { handle.new.kept ≡ None }
+{
+    *handle = SaxikoWriter::closed(alloc);
+}
+
+/// Adds a rule, or gives the prefix's rule another next hop.
+#[unsafe(no_mangle)]
+pub extern "C" fn saxiko_proved_writer_add(
+    alloc: Global,
+    handle: &mut SaxikoWriter,
+    addr: u32,
+    depth: u8,
+    hop: u32,
+) -> i32
+    ensures { Calls (AddsTo addr depth hop) ⊤ handle.old.kept result handle.new.kept }
+{
+    match take_owner(alloc, handle) {
+        Some(mut owner) => {
+            let status = running::add(&mut owner, addr, depth, hop);
+            put_owner(handle, owner);
+            status
+        }
+        None => EINVAL,
+    }
+}
+
+/// Deletes the rule of a prefix, and stores the next hop that it had.
+#[unsafe(no_mangle)]
+pub extern "C" fn saxiko_proved_writer_delete(
+    alloc: Global,
+    handle: &mut SaxikoWriter,
+    addr: u32,
+    depth: u8,
+    hop: &mut u32,
+) -> i32
+    ensures { Calls (DeletesFrom addr depth hop.old hop.new) (hop.new ≡ hop.old)
+        handle.old.kept result handle.new.kept }
+{
+    match take_owner(alloc, handle) {
+        Some(mut owner) => {
+            let status = running::delete(&mut owner, addr, depth, hop);
+            put_owner(handle, owner);
+            status
+        }
+        None => EINVAL,
+    }
+}
+
+/// Deletes all rules, and stores how many there were.
+#[unsafe(no_mangle)]
+pub extern "C" fn saxiko_proved_writer_flush(
+    alloc: Global,
+    handle: &mut SaxikoWriter,
+    rules: &mut usize,
+) -> i32
+    ensures { Calls (Flushes rules.old rules.new) (rules.new ≡ rules.old)
+        handle.old.kept result handle.new.kept }
+{
+    match take_owner(alloc, handle) {
+        Some(mut owner) => {
+            let status = running::flush(&mut owner, rules);
+            put_owner(handle, owner);
+            status
+        }
+        None => EINVAL,
+    }
+}
+
+/// Frees at most `max` groups that wait, the oldest first, and stores how many; it is 1 where a reader holds
+/// the next one, which is named then.
+#[unsafe(no_mangle)]
+pub extern "C" fn saxiko_proved_writer_reclaim(
+    alloc: Global,
+    handle: &mut SaxikoWriter,
+    max: usize,
+    freed: &mut usize,
+    held: &mut SaxikoHeld,
+) -> i32
+    ensures { Calls (FreesHeld max freed.new held.old held.new)
+        ((freed.new ≡ freed.old) × (held.new ≡ held.old)) handle.old.kept result handle.new.kept }
+{
+    match take_owner(alloc, handle) {
+        Some(mut owner) => {
+            let status = running::reclaim(&mut owner, max, freed, held);
+            put_owner(handle, owner);
+            status
+        }
+        None => EINVAL,
+    }
+}
+
+/// Stores the next hop of the rule of this very prefix.
+#[unsafe(no_mangle)]
+pub extern "C" fn saxiko_proved_writer_get(
+    alloc: Global,
+    handle: &mut SaxikoWriter,
+    addr: u32,
+    depth: u8,
+    hop: &mut u32,
+) -> i32
+    ensures found { Asks (GetsFrom addr depth hop.old hop.new) (hop.new ≡ hop.old) handle.old.kept result }
+    ensures same { handle.new.kept ≡ handle.old.kept }
+{
+    match take_owner(alloc, handle) {
+        Some(owner) => {
+            let status = running::get(&owner, addr, depth, hop);
+            put_owner(handle, owner);
+            status
+        }
+        None => EINVAL,
+    }
+}
+
+/// Stores how many rules, versions and groups there are, and the token.
+#[unsafe(no_mangle)]
+pub extern "C" fn saxiko_proved_writer_counts(
+    alloc: Global,
+    handle: &mut SaxikoWriter,
+    counts: &mut SaxikoCounts,
+) -> i32
+    ensures counted { Asks (Counts counts.new) (counts.new ≡ counts.old) handle.old.kept result }
+    ensures same { handle.new.kept ≡ handle.old.kept }
+{
+    match take_owner(alloc, handle) {
+        Some(mut owner) => {
+            *counts = running::count(&mut owner);
+            put_owner(handle, owner);
+            0
+        }
+        None => EINVAL,
+    }
+}
+
+/// Hands the reader of this number out in a closed handle; it is offline.
+#[unsafe(no_mangle)]
+pub extern "C" fn saxiko_proved_reader_register(
+    alloc: Global,
+    writer: &mut SaxikoWriter,
+    reader: &mut SaxikoReader,
+    number: u32,
+) -> i32
+    ensures { Registers number writer.old.kept reader.old.kept result writer.new.kept reader.new.kept }
+{
+    let Some(mut owner) = take_owner(alloc, writer) else {
+        return EINVAL;
+    };
+    if let Some(open) = take_reader(alloc, reader) {
+        put_reader(reader, open);
+        put_owner(writer, owner);
+        return EBUSY;
+    }
+    let status = register(alloc, &mut owner, reader, number);
+    put_owner(writer, owner);
+    status
+}
+
+/// Hands the reader of this number out in a handle that is closed.
+fn register(alloc: Global, owner: &mut Owner, reader: &mut SaxikoReader, number: u32) -> i32
+    requires closed { reader.old.kept ≡ None }
+    ensures { Registers number (Some owner.old) reader.old.kept result (Some owner.new) reader.new.kept }
+{
+    match running::register(alloc, owner, number as usize) {
+        Ok(registered) => {
+            put_reader(reader, registered);
+            0
+        }
+        Err(status) => status,
+    }
+}
+
+/// Takes the reader back: it is offline then, its handle is closed, and its number is free. Both handles are
+/// of one table.
+#[unsafe(no_mangle)]
+pub extern "C" fn saxiko_proved_reader_unregister(
+    alloc: Global,
+    writer: &mut SaxikoWriter,
+    reader: &mut SaxikoReader,
+) -> i32
+    requires one_table { AreOfOneTable writer.old.kept reader.old.kept }
+    ensures { Unregisters writer.old.kept reader.old.kept result writer.new.kept reader.new.kept }
+{
+    let Some(mut owner) = take_owner(alloc, writer) else {
+        return EINVAL;
+    };
+    let Some(open) = take_reader(alloc, reader) else {
+        put_owner(writer, owner);
+        return EINVAL;
+    };
+    let status = running::unregister(&mut owner, Box::into_inner(open));
+    put_owner(writer, owner);
+    status
+}
+
+/// Takes the reader offline, and closes its handle; its number stays in use.
+#[unsafe(no_mangle)]
+pub extern "C" fn saxiko_proved_reader_close(alloc: Global, handle: &mut SaxikoReader)
+    ensures { handle.new.kept ≡ None }
+{
+    *handle = SaxikoReader::closed(alloc);
+}
+
+/// The reader goes online.
+#[unsafe(no_mangle)]
+pub extern "C" fn saxiko_proved_reader_online(alloc: Global, handle: &mut SaxikoReader) -> i32
+    ensures { Calls GoesOnline ⊤ handle.old.kept result handle.new.kept }
+{
+    match take_reader(alloc, handle) {
+        Some(mut reader) => {
+            let status = running::online(&mut reader);
+            put_reader(handle, reader);
+            status
+        }
+        None => EINVAL,
+    }
+}
+
+/// The reader goes offline.
+#[unsafe(no_mangle)]
+pub extern "C" fn saxiko_proved_reader_offline(alloc: Global, handle: &mut SaxikoReader) -> i32
+    ensures { Calls GoesOffline ⊤ handle.old.kept result handle.new.kept }
+{
+    match take_reader(alloc, handle) {
+        Some(mut reader) => {
+            let status = running::offline(&mut reader);
+            put_reader(handle, reader);
+            status
+        }
+        None => EINVAL,
+    }
+}
+
+/// The reader holds nothing that it looked up before.
+#[unsafe(no_mangle)]
+pub extern "C" fn saxiko_proved_reader_quiescent(alloc: Global, handle: &mut SaxikoReader) -> i32
+    ensures { Calls Quiesces ⊤ handle.old.kept result handle.new.kept }
+{
+    match take_reader(alloc, handle) {
+        Some(mut reader) => {
+            let status = running::quiescent(&mut reader);
+            put_reader(handle, reader);
+            status
+        }
+        None => EINVAL,
+    }
+}
+
+/// Stores the next hop of the longest rule that covers the address.
+#[unsafe(no_mangle)]
+pub extern "C" fn saxiko_proved_reader_lookup(
+    alloc: Global,
+    handle: &mut SaxikoReader,
+    addr: u32,
+    hop: &mut u32,
+) -> i32
+    ensures { Calls (FindsIn addr hop.old hop.new) (hop.new ≡ hop.old) handle.old.kept result
+        handle.new.kept }
+{
+    match take_reader(alloc, handle) {
+        Some(mut reader) => {
+            let status = running::lookup(&mut reader, addr, hop);
+            put_reader(handle, reader);
+            status
+        }
+        None => EINVAL,
+    }
+}
+
+/// Stores the next hops of many addresses, with `default` where no rule covers one.
+#[unsafe(no_mangle)]
+pub extern "C" fn saxiko_proved_reader_lookup_bulk(
+    alloc: Global,
+    handle: &mut SaxikoReader,
+    addrs: &[u32],
+    hops: &mut [u32],
+    default: u32,
+) -> i32
+    ensures { Calls (FindsAllIn default addrs.now hops.old hops.new) (hops.new ≡ hops.old)
+        handle.old.kept result handle.new.kept }
+{
+    match take_reader(alloc, handle) {
+        Some(mut reader) => {
+            let status = running::lookup_all(&mut reader, addrs, hops, default);
+            put_reader(handle, reader);
+            status
+        }
+        None => EINVAL,
+    }
+}
