@@ -5,7 +5,7 @@
 
 What fails is printed, and makes the exit status 1. The archive is made anew by tools/build_c.py. Checked are
 
-- header: saxiko.h compiles without a warning as C99, C11 and C++11, in front of all other headers.
+- headers: saxiko.h and saxiko_rte_lpm.h compile without a warning as C99, C11 and C++11, in front of all others.
 - archive: it has each call that the header declares, and needs no more of others than the page of the crate names.
 - calls: c/tests/calls.c tries each call with what it refuses; as it is, with the sanitizers of addresses and of
   undefined behaviour, and under valgrind.
@@ -68,7 +68,7 @@ def compiled(folder, source, *flags):
 def check_header(folder):
     for words in ([*compiler(), "-std=c99", "-xc"], [*compiler(), "-std=c11", "-xc"], ["g++", "-std=c++11", "-xc++"]):
         source = pathlib.Path(folder, "header.c")
-        source.write_text('#include "saxiko.h"\nstruct saxiko_table table = SAXIKO_CLOSED;\n'
+        source.write_text('#include "saxiko_rte_lpm.h"\n#include "saxiko.h"\nstruct saxiko_table table = SAXIKO_CLOSED;\n'
                           "struct saxiko_config config = SAXIKO_DEFAULTS;\n")
         status, told = run([*words, "-Ic", "-Wall", "-Wextra", "-Wpedantic", "-Werror", "-c", source, "-o", "/dev/null"])
         if status or told:

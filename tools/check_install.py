@@ -209,6 +209,7 @@ PLACES = {
 LIBRARY = {
     "lib/libsaxiko.a": ARCHIVE,
     "include/saxiko.h": HEADER,
+    "include/saxiko_rte_lpm.h": "c/saxiko_rte_lpm.h",
     "lib/pkgconfig/saxiko.pc": "c/out/saxiko.pc",
     "share/man/man3/saxiko.3": LIBRARY_MANUAL,
 }

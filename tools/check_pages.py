@@ -57,7 +57,7 @@ NAMES = {"Call", "Contract", "Definition", "Definitions", "Defined in", "Defined
 VARIES = "<!-- varies -->"
 LOCAL = ("src", "specs", "proofs", "must-fail")
 ROOTS = ("c", "crates", "docs", "tools", "examples", ".ci")
-HEADER = TOP / "c/saxiko.h"
+HEADERS = [TOP / "c/saxiko.h", TOP / "c/saxiko_rte_lpm.h"]
 # Names that pages rightly cite and that aren't declared here, each with where it comes from.
 ELSEWHERE = {
     **dict.fromkeys("requires ensures".split(), "words of Rattle"),
@@ -172,8 +172,8 @@ def crate_of(path):
 
 
 def elsewhere(page):
-    """The names on a page that aren't declared here; those of C are in the header."""
-    return set(ELSEWHERE) | set(re.findall(r"\w+", HEADER.read_text())) | (GONE if page.path == "CHANGELOG.md" else set())
+    """The names on a page that aren't declared here; those of C are in the headers."""
+    return set(ELSEWHERE) | {name for it in HEADERS for name in re.findall(r"\w+", it.read_text())} | (GONE if page.path == "CHANGELOG.md" else set())
 
 
 # ---- what a page has

@@ -23,6 +23,7 @@ tools/completions/lpmtool.fish 644 share/fish/vendor_completions.d/lpmtool.fish"
 archive=c/out/libsaxiko.a
 library="$archive 644 lib/libsaxiko.a
 c/saxiko.h 644 include/saxiko.h
+c/saxiko_rte_lpm.h 644 include/saxiko_rte_lpm.h
 c/out/saxiko.pc 644 lib/pkgconfig/saxiko.pc
 docs/man/saxiko.3 644 share/man/man3/saxiko.3"
 

@@ -1,6 +1,7 @@
 /* Each call of saxiko.h with what it refuses. */
 #include "calls_table.h"
 
+#include "calls_rte_lpm.h"
 #include "calls_running.h"
 
 static void texts(void) {
@@ -15,6 +16,7 @@ static void texts(void) {
 int main(void) {
     table_calls();
     running_calls();
+    rte_lpm_calls();
     texts();
     return end_of_checks("calls");
 }

@@ -1,0 +1,50 @@
+/* The calls with the names of rte_lpm, and what they return. */
+#include "check.h"
+#include "saxiko_rte_lpm.h"
+
+static int64_t rte_found(struct rte_lpm *lpm, uint32_t addr) {
+    uint32_t hop = UNTOUCHED;
+    int status = rte_lpm_lookup(lpm, addr, &hop);
+    return status != 0 ? status : (int64_t)hop;
+}
+
+static void rte_lpm_calls(void) {
+    struct rte_lpm_config config = {2, 1, 0}, bad = {2, 0, 0};
+    uint32_t addrs[4] = {A(10, 1, 1, 200), A(10, 1, 1, 1), 0, A(9, 0, 0, 0)}, hops[4] = {0, 0, 0, 0}, hop = UNTOUCHED;
+    struct rte_lpm *lpm = rte_lpm_create("table", 0, &config);
+    errno = 0;
+    CHECK(rte_lpm_create("table", 0, &bad) == NULL, 1);
+    CHECK(errno, EINVAL);
+    CHECK(rte_lpm_create("table", 0, NULL) == NULL, 1);
+    CHECK(lpm != NULL, 1);
+    CHECK(rte_lpm_add(lpm, A(10, 1, 1, 128), 25, 3), 0);
+    CHECK(rte_lpm_add(lpm, A(10, 1, 1, 128), 25, 4), 0);
+    CHECK(rte_lpm_add(lpm, A(10, 1, 2, 128), 25, 4), -ENOSPC);
+    CHECK(rte_lpm_add(lpm, 0, 33, 4), -EINVAL);
+    CHECK(rte_lpm_add(NULL, 0, 1, 4), -EINVAL);
+    CHECK(rte_lpm_add(lpm, A(10, 0, 0, 0), 8, 5), 0);
+    CHECK(rte_lpm_add(lpm, A(11, 0, 0, 0), 8, 5), -ENOSPC);
+    CHECK(rte_lpm_is_rule_present(lpm, A(10, 1, 1, 128), 25, &hop), 1);
+    CHECK(hop, 4);
+    CHECK(rte_lpm_is_rule_present(lpm, A(10, 1, 1, 128), 26, &hop), 0);
+    CHECK(rte_lpm_is_rule_present(lpm, 0, 33, &hop), -EINVAL);
+    CHECK(rte_found(lpm, A(10, 1, 1, 129)), 4);
+    CHECK(rte_found(lpm, A(11, 1, 1, 129)), -ENOENT);
+    CHECK(rte_found(NULL, 0), -EINVAL);
+    CHECK(rte_lpm_lookup_bulk(lpm, addrs, hops, 4), 0);
+    CHECK(hops[0], RTE_LPM_LOOKUP_SUCCESS | 4);
+    CHECK(hops[1], RTE_LPM_LOOKUP_SUCCESS | 5);
+    CHECK(hops[2], 0);
+    CHECK(rte_lpm_lookup_bulk(NULL, addrs, hops, 4), -EINVAL);
+    rte_lpm_lookupx4(lpm, addrs, hops, 77);
+    CHECK(hops[0], 4);
+    CHECK(hops[3], 77);
+    CHECK(rte_lpm_delete(lpm, A(10, 0, 0, 0), 8), 0);
+    CHECK(rte_lpm_delete(lpm, A(10, 0, 0, 0), 8), -EINVAL);
+    CHECK(rte_lpm_delete(NULL, 0, 0), -EINVAL);
+    rte_lpm_delete_all(lpm);
+    rte_lpm_delete_all(NULL);
+    CHECK(rte_found(lpm, A(10, 1, 1, 129)), -ENOENT);
+    rte_lpm_free(lpm);
+    rte_lpm_free(NULL);
+}
