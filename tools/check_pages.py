@@ -19,6 +19,7 @@ Each fault is printed as `FILE:LINE: what`, and any makes the exit status 1. Che
   row names besides, or in a crate that it names.
 - figures: each table of tools/bench.py stands in docs/BENCHMARKS.md as its data have it, and the figures are what
   tools/plots.py draws of them.
+- excerpts: where a path stands behind the language of a fenced block, each line of the block is a line of that file.
 - calls: the last name of `A::b` is a member of a type or trait `A`, or stands in a module or crate `A`; also in blocks
   of rust.
 - names: those in the columns of NAMES, and in prose those with an underscore or with two capitals (`IsStorm`), are
@@ -392,10 +393,24 @@ def check_files(page):
                 yield Fault(page.path, row.line, f"not in the files of this row: {name}")
 
 
+def check_excerpts(page):
+    for block in blocks(page):
+        _, _, path = block.kind.partition(" ")
+        if not path:
+            continue
+        if not (TOP / path).is_file():
+            yield Fault(page.path, block.line - 1, f"no such file: {path}")
+            continue
+        there = {line.strip() for line in (TOP / path).read_text().splitlines()}
+        for at, line in enumerate(block.lines, block.line):
+            if line.strip() not in there | {""}:
+                yield Fault(page.path, at, f"no such line in {path}: {line.strip()}")
+
+
 def check_calls(page):
     found = [(mark.line, re.sub(r"\(.*\)$|<[^<>]*>", "", mark.text)) for mark in marks(page)]
     for block in blocks(page):
-        for at, line in enumerate(block.lines if block.kind == "rust" else [], block.line):
+        for at, line in enumerate(block.lines if block.kind.startswith("rust") else [], block.line):
             found += [(at, call) for call in re.findall(r"\w+(?:::\w+)+", re.sub(r"::<[^<>]*>|//.*", "", line))]
     for line, call in found:
         if not re.fullmatch(r"[A-Za-z_]\w*(::[A-Za-z_]\w*)+", call) or call in elsewhere(page):
@@ -436,7 +451,8 @@ def check_names(page):
 def faults(page, program):
     """All faults of a page. Without a program nothing is run."""
     runs = check_runs(page, program) if program else []
-    checks = (check_links, check_paths, check_crates, check_files, check_figures, check_calls, check_names)
+    checks = (check_links, check_paths, check_crates, check_files, check_figures, check_excerpts, check_calls,
+              check_names)
     return [*runs, *(fault for check in checks for fault in check(page))]
 
 
@@ -450,7 +466,7 @@ PLANTS = [
     Plant("docs/FORMATS.md", "\nreclaimed 1\n", "\nreclaimed 2\n", WRONG_OUTPUT),
     Plant("README.md", "](docs/FORMATS.md#words)", "](docs/FORMAT.md#words)", "leads to no file: docs/FORMAT.md#words"),
     Plant("README.md", "](docs/FORMATS.md#words)", "](docs/FORMATS.md#word)", "no heading: docs/FORMATS.md#word"),
-    Plant("README.md", "the crate `fib`", "the crate `fibs`", "no such crate: fibs"),
+    Plant("README.md", "the crate `saxiko`", "the crate `saxikos`", "no such crate: saxikos"),
     Plant("docs/ARCHITECTURE.md", "[`qsbr`]", "[`rcu`]", "no such crate: rcu"),
     Plant("docs/TRUSTED.md", "`IsStorm`", "`IsTempest`", "IsTempest"),
     Plant("docs/TRUSTED.md", "`IsDeepBlock`,", "`IsLongest`,", "not in the files of this row: IsLongest"),
@@ -459,7 +475,7 @@ PLANTS = [
     Plant("crates/lpm_sweep/README.md", "`AreNumbered`", "`AreCounted`", "AreCounted"),
     Plant("crates/fib/README.md", "`groups_fit`", "`groups_match`", "groups_match"),
     Plant("crates/fib/README.md", "(`specs/Replay.antt`)", "(`specs/Again.antt`)", "no such file: specs/Again.antt"),
-    Plant("crates/storm/README.md", "storm::run(", "storm::begin(", "no such call: storm::begin"),
+    Plant("crates/storm/README.md", "storm::run(", "storm::rain(", "no such call: storm::rain"),
     Plant("docs/BENCHMARKS.md", "| 1,000,000 |", "| 1,000,001 |", "not the table that `tools/bench.py job"),
     Plant("docs/BENCHMARKS.md", "figures/job.svg", "figures/jobs.svg", "leads to no file: figures/jobs.svg"),
     Plant("docs/ARCHITECTURE.md", "`Fib::delete`", "`Fib::forget`", "no such call: Fib::forget"),
@@ -477,6 +493,8 @@ SAMPLES = [
     ("`Mutex::lock`, `crates/NAME/src`, [here](#there)\n\n## There\n", None),
     ("`docs/DECISION.md`", "no such file: docs/DECISION.md"),
     ("|Crate|\n|---|\n|`atomic_table`|\n", "no such crate: atomic_table"),
+    ("```c examples/forwarder.c\n#include <saxiko.h>\n```\n", None),
+    ("```c examples/forwarder.c\n#include <saxiko2.h>\n```\n", "no such line in examples/forwarder.c: #include"),
 ]
 
 
