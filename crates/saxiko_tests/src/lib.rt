@@ -1,0 +1,9 @@
+//! The tests of the facade. They name no other crate, as a program that uses it.
+#![tactic(auto)]
+
+#[cfg(test)]
+mod large;
+#[cfg(test)]
+mod running;
+#[cfg(test)]
+mod single;
