@@ -4,9 +4,9 @@
     tools/build_c.py
 
 Needs the kit's rt on the path, a C compiler (CC, or cc) and ar. It makes c/out/libsaxiko.a, and before it
-crates/saxiko_c/out/libsaxiko_c.a, where that isn't there or is older than what it is made of. The libraries below the
-crate must stand in their out/: `rt ci`, or `rt lib` in crates/saxiko_c, makes them. What is made is held against NEEDED,
-the names that the archive leaves to others.
+crates/saxiko_c/out/libsaxiko_c.a, where that isn't there or is older than what it is made of. That proves the crate, over
+the libraries that `rt ci` or `rt lib` has left in the out/ of the crates below; where one isn't there, `rt lib` makes all
+of them. What is made is held against NEEDED, the names that the archive leaves to others.
 """
 import os
 import pathlib
@@ -61,9 +61,9 @@ def prove_and_build():
     """Makes the static library of the crate, which proves it, over the libraries that stand in out/."""
     rtlib = kit()
     crate = rtlib.Crate(str(CRATE), str(TOP), {})
-    lacking = [it.name for it in crate.below() if not os.path.isdir(it.rlib)]
-    if lacking:
-        sys.exit(f"not built: {' '.join(lacking)}. At the top run `rt ci`, or `rt lib` in crates/saxiko_c")
+    if not all(os.path.isdir(it.rlib) for it in crate.below()):
+        run(["rt", "lib"], cwd=CRATE)
+        return
     sources = newest(*(CRATE / it for it in ("src", "specs", "proofs")), *(pathlib.Path(it.rlib) for it in crate.below()))
     if PROVED.is_file() and PROVED.stat().st_mtime >= sources:
         return
