@@ -1,3 +1,4 @@
 pub mod Owned
 pub mod Bursts
 pub mod Texts
+pub mod Matches

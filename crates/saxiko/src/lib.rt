@@ -7,6 +7,7 @@
 mod bursts;
 mod hop;
 mod loading;
+mod matches;
 mod owner;
 mod prefix;
 mod reader;
