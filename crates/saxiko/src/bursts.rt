@@ -1,6 +1,6 @@
 //! Lookups of a burst of addresses by a reader.
 
-ghost use Rattle.std.specs.Prelude.{◌≡◌, ◌+◌, ◌≤◌, ◌<◌, ◌++◌, ◌∷◌, [], ℕ, List, Option, length, min, map, take, drop, true};
+ghost use Rattle.std.specs.Prelude.{◌≡◌, ◌+◌, ◌≤◌, ◌<◌, ◌++◌, ℕ, List, Option, length, min, map, take, drop, true};
 ghost use Rattle.shared_fib.specs.Running.{hop_or};
 ghost use Rattle.shared_fib.specs.Passes.{LooksUpAll};
 ghost use Rattle.saxiko.specs.Bursts.{LooksUpBurst};

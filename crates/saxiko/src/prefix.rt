@@ -1,6 +1,6 @@
 //! Prefixes of IPv4 addresses.
 
-ghost use Rattle.std.specs.Prelude.{◌≡◌, ◌<◌, ◌≤◌, ◌↔◌, ◌^◌, IsTrue, IfOk, IsErr};
+ghost use Rattle.std.specs.Prelude.{◌≡◌, ◌<◌, ◌≤◌, ◌↔◌, IsTrue, IfOk, IsErr};
 ghost use Rattle.lpm_bits.specs.Network.{Covers, IsNetwork, prefix_of};
 
 use lpm_bits::BadLength;

@@ -2,9 +2,9 @@
 
 ghost use Rattle.std.specs.Prelude.{◌≡◌, ◌<◌, ℕ, [], ◌∷◌, true, false, Option, List, map};
 ghost use Rattle.std.specs.Arc.{arc_value};
-ghost use Rattle.lpm_trace.specs.declared.step.WorkerStep.TheVariants.{LoadOnline, StoreOnline, LoadQuiescent, StoreQuiescent, StoreOffline, Meets};
+ghost use Rattle.lpm_trace.specs.declared.step.WorkerStep.TheVariants.{LoadOnline, StoreOnline, LoadQuiescent, StoreQuiescent, StoreOffline};
 ghost use Rattle.shared_fib.specs.Passes.{IsHistory, LooksUp, LooksUpAll, Makes};
-ghost use Rattle.shared_fib.specs.Running.{hop_or, steps_of};
+ghost use Rattle.shared_fib.specs.Running.{hop_or};
 
 use crate::Hop;
 use shared_fib::{FourHops, Pass, SharedTable};

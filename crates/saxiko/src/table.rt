@@ -1,6 +1,6 @@
 //! The table of one thread.
 
-ghost use Rattle.std.specs.Prelude.{IsOk, Err, MatchResult, Result, ◌^◌, ◌≡◌, ◌+◌, ◌≤◌, ◌↔◌, IfOk, IfErr, IsTrue, length};
+ghost use Rattle.std.specs.Prelude.{IsOk, Err, MatchResult, Result, ◌^◌, ◌≡◌, ◌+◌, ◌≤◌, ◌↔◌, IfOk, IfErr, length};
 ghost use Rattle.std.specs.FinMap as map;
 ghost use Rattle.lpm_rules.specs.Longest.{IsLongestHop};
 ghost use Rattle.lpm_limits.specs.Limits.{IsConfig};

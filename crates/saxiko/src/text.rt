@@ -1,6 +1,6 @@
 //! Prefixes and next hops as people write them.
 
-ghost use Rattle.std.specs.Prelude.{◌≡◌, IfOk, IfSome, Some, decimal};
+ghost use Rattle.std.specs.Prelude.{IfOk, IfSome, Some, decimal};
 ghost use Rattle.std.specs.Net.Grammar.{IsNumber};
 ghost use Rattle.saxiko.specs.Texts.{IsPrefixText, prefix_text};
 
