@@ -57,6 +57,7 @@ fn a_burst_is_answered_between_two_versions(rt: HostRuntime) {
     assert!(rt; burst.lo == 0);
     assert!(rt; burst.hi == 0);
     assert!(rt; hops == [2, 9, 1, 2, 1, 9, 7, 7]);
+    assert!(rt; owner.lookup_rule(0x0a01_8081) == Some(rules[0]));
     assert!(rt; owner.insert(&wide, two) == Ok(Some(one)));
     reader.online();
     let burst = reader.lookup_bulk(&addrs[4..], 8, &mut hops);

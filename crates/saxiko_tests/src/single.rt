@@ -35,6 +35,9 @@ fn a_table_of_rules_answers_in_bulk(rt: HostRuntime) {
     let table = Table::of_rules(rt.alloc(), limits(), &rules)
         .expect(&rt, "open")
         .expect(&rt, "fits");
+    assert!(rt; table.lookup_rule(0x0a01_8081) == Some(rules[0]));
+    assert!(rt; table.lookup_rule(0x0a01_807f) == Some(rules[1]));
+    assert!(rt; table.lookup_rule(0x0b00_0000) == None);
     let addrs = [0x0a01_8081, 0x0b00_0000, 0x0a00_0000];
     let mut hops = [7u32; 5];
     assert!(rt; table.lookup_bulk(&addrs, 9, &mut hops) == 3);
