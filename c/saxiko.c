@@ -25,6 +25,7 @@ DECLARE(table_counts, struct saxiko_table *, struct saxiko_counts *);
 DECLARE(table_reclaim, struct saxiko_table *, size_t, size_t *);
 
 DECLARE(writer_open, struct saxiko_writer *, const struct saxiko_config *);
+DECLARE(writer_load, struct saxiko_writer *, const struct saxiko_config *, const struct saxiko_route *, size_t, size_t *);
 void saxiko_proved_writer_close(struct saxiko_writer *);
 DECLARE(writer_add, struct saxiko_writer *, uint32_t, uint8_t, uint32_t);
 DECLARE(writer_delete, struct saxiko_writer *, uint32_t, uint8_t, uint32_t *);
@@ -104,6 +105,16 @@ int32_t saxiko_table_reclaim(struct saxiko_table *table, size_t max, size_t *fre
 
 int32_t saxiko_writer_open(struct saxiko_writer *writer, const struct saxiko_config *config) {
     int32_t status = writer && config ? saxiko_proved_writer_open(writer, config) : -EINVAL;
+    if (status == 0)
+        writer->number = next_number();
+    return status;
+}
+
+int32_t saxiko_writer_load(struct saxiko_writer *writer, const struct saxiko_config *config,
+                           const struct saxiko_route *routes, size_t routes_len, size_t *bad) {
+    if (!writer || !config || !bad || is_missing(routes, routes_len))
+        return -EINVAL;
+    int32_t status = saxiko_proved_writer_load(writer, config, routes ? routes : &no_route, routes_len, bad);
     if (status == 0)
         writer->number = next_number();
     return status;

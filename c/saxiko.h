@@ -169,6 +169,10 @@ struct saxiko_held {
 /* Opens a running table without rules, and its writer. Refused as saxiko_table_open. */
 int32_t saxiko_writer_open(struct saxiko_writer *writer, const struct saxiko_config *config);
 
+/* The same with the rules of these routes. Refused as saxiko_table_load. */
+int32_t saxiko_writer_load(struct saxiko_writer *writer, const struct saxiko_config *config,
+                           const struct saxiko_route *routes, size_t routes_len, size_t *bad);
+
 /* Frees the writer. Its readers go on: the table is freed with the last handle of it that is closed. */
 void saxiko_writer_close(struct saxiko_writer *writer);
 

@@ -210,10 +210,53 @@ static void running_limits_checked(void) {
     saxiko_reader_close(&reader);
 }
 
+/* A list of routes is loaded, and readers answer by it. What is refused opens nothing. */
+static void running_loads(void) {
+    struct saxiko_route routes[4] = {{A(10, 1, 1, 200), 4, 32}, {0, 1, 0}, {A(10, 1, 1, 129), 3, 25}, {7, 2, 0}};
+    struct saxiko_config config = running_limits, bad_limits = running_limits;
+    struct saxiko_writer writer = SAXIKO_CLOSED, another = SAXIKO_CLOSED;
+    struct saxiko_reader reader = SAXIKO_CLOSED;
+    size_t bad = UNTOUCHED;
+    bad_limits.readers = 2049;
+    CHECK(saxiko_writer_load(&writer, &config, routes, 4, &bad), 0);
+    check_writer(&writer, __LINE__, 3, 1, 0, 1, 0);
+    CHECK(writer_held(&writer, 0, 0), 2);
+    CHECK(saxiko_writer_load(&writer, &config, routes, 4, &bad), -EBUSY);
+    CHECK(saxiko_reader_register(&writer, &reader, 1), 0);
+    CHECK(saxiko_reader_online(&reader), 0);
+    CHECK(read_hop(&reader, A(10, 1, 1, 200)), 4);
+    CHECK(read_hop(&reader, A(10, 1, 1, 128)), 3);
+    CHECK(read_hop(&reader, A(10, 1, 1, 127)), 2);
+    CHECK(saxiko_writer_load(&another, &bad_limits, routes, 4, &bad), -EINVAL);
+    config.rules = 2;
+    CHECK(saxiko_writer_load(&another, &config, routes, 4, &bad), -ENOSPC);
+    config = running_limits;
+    config.groups = 1;
+    routes[1].addr = A(10, 1, 2, 0);
+    routes[1].depth = 26;
+    CHECK(saxiko_writer_load(&another, &config, routes, 4, &bad), -ENOSPC);
+    CHECK(saxiko_writer_load(NULL, &config, routes, 4, &bad), -EINVAL);
+    CHECK(saxiko_writer_load(&another, NULL, routes, 4, &bad), -EINVAL);
+    CHECK(saxiko_writer_load(&another, &config, NULL, 4, &bad), -EINVAL);
+    CHECK(saxiko_writer_load(&another, &config, routes, 4, NULL), -EINVAL);
+    CHECK(bad, UNTOUCHED);
+    routes[2].depth = 33;
+    CHECK(saxiko_writer_load(&another, &config, routes, 4, &bad), -EDOM);
+    CHECK(bad, 2);
+    CHECK(another.is_open, 0);
+    CHECK(saxiko_writer_load(&another, &running_limits, NULL, 0, &bad), 0);
+    check_writer(&another, __LINE__, 0, 0, 0, 2, 0);
+    CHECK(saxiko_reader_unregister(&another, &reader), -EINVAL);
+    CHECK(saxiko_reader_unregister(&writer, &reader), 0);
+    saxiko_writer_close(&writer);
+    saxiko_writer_close(&another);
+}
+
 static void running_calls(void) {
     struct saxiko_writer writer = SAXIKO_CLOSED;
     struct saxiko_reader reader = SAXIKO_CLOSED;
     running_limits_checked();
+    running_loads();
     CHECK(saxiko_writer_open(&writer, &running_limits), 0);
     readers(&writer, &reader);
     running_missing(&writer, &reader);

@@ -1,6 +1,7 @@
 pub mod Calls
 pub mod Limits
 pub mod Loads
+pub mod Opened
 pub mod Owned
 pub mod Owners
 pub mod Running

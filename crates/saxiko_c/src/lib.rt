@@ -25,8 +25,8 @@ pub use running_calls::{
     saxiko_proved_reader_offline, saxiko_proved_reader_online, saxiko_proved_reader_quiescent,
     saxiko_proved_reader_register, saxiko_proved_reader_unregister, saxiko_proved_writer_add,
     saxiko_proved_writer_close, saxiko_proved_writer_counts, saxiko_proved_writer_delete,
-    saxiko_proved_writer_flush, saxiko_proved_writer_get, saxiko_proved_writer_open,
-    saxiko_proved_writer_reclaim,
+    saxiko_proved_writer_flush, saxiko_proved_writer_get, saxiko_proved_writer_load,
+    saxiko_proved_writer_open, saxiko_proved_writer_reclaim,
 };
 pub use table_calls::{
     saxiko_proved_table_add, saxiko_proved_table_close, saxiko_proved_table_counts,

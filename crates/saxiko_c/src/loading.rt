@@ -28,7 +28,11 @@ fn one_rule(route: SaxikoRoute) -> Option<Rule<24, 8>>
 }
 
 /// The rules of routes, in their order. Where one is none, `bad` is the place of the first such.
-fn read(alloc: Global, routes: &[SaxikoRoute], bad: &mut usize) -> Result<Vec<Rule<24, 8>>, i32>
+pub(crate) fn read(
+    alloc: Global,
+    routes: &[SaxikoRoute],
+    bad: &mut usize,
+) -> Result<Vec<Rule<24, 8>>, i32>
     ensures { MatchResult result
         (λ v. (v.items ≡ map rule_of routes.now) × (bad.new ≡ bad.old))
         (λ status. IsUnread routes.now bad.old bad.new status) }

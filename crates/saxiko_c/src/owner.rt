@@ -1,6 +1,6 @@
 //! The owner of a running table.
 
-ghost use Rattle.std.specs.Prelude.{◌≡◌, ◌+◌, ◌^◌, ◌≤◌, ◌↔◌, ℕ, IfOk, IfErr, IsErrOf, OnErr, List, take, length, slice_get, slice_set, Some, None, [], ◌∷◌, true, false};
+ghost use Rattle.std.specs.Prelude.{◌≡◌, ◌+◌, ◌^◌, ◌≤◌, ◌↔◌, ℕ, IfOk, IfErr, IfSome, IsNone, IsErrOf, OnErr, List, take, length, slice_get, slice_set, Some, None, [], ◌∷◌, true, false};
 ghost use Rattle.std.specs.FinMap as map;
 ghost use Rattle.std.specs.Arc.{arc_value};
 ghost use Rattle.fib_model.specs.Outcomes.{Adds, Deletes, Flushes, Frees, groups_in_use};
@@ -8,6 +8,9 @@ ghost use Rattle.lpm_limits.specs.Limits.{IsConfig};
 ghost use Rattle.lpm_trace.specs.declared.step.WorkerStep.TheVariants.{StoreOffline};
 ghost use Rattle.lpm_writer.specs.Opening.{opening_setup};
 ghost use Rattle.lpm_writer.specs.Traced.{by_steps};
+ghost use Rattle.lpm_rules.specs.Listed.{AreInOrder, rules_of};
+ghost use Rattle.saxiko_c.specs.Loads.{IsTooSmall};
+ghost use Rattle.saxiko_c.specs.Opened.{IsOpenedWith};
 ghost use Rattle.shared_fib.specs.Freeing.{FreesChecked};
 ghost use Rattle.shared_fib.specs.Passes.{IsBenchOf, IsFullBench, IsPassOf, Makes, PassState};
 ghost use Rattle.shared_fib.specs.Running.{left_by, opens_with, setup};
@@ -17,8 +20,8 @@ use defer_queue::Reclaimed;
 use lpm_bits::{Hop, Prefix};
 use lpm_groups::Counts;
 use lpm_limits::{Config, Refusal};
-use lpm_rules::Put;
-use shared_fib::{Bench, OpenError, RegisterError, SharedTable, Writer, open};
+use lpm_rules::{Put, Rule};
+use shared_fib::{Bench, OpenError, RegisterError, SharedTable, Writer, open, open_sorted};
 use std::alloc::Global;
 use std::marker::Model;
 use std::sync::Arc;
@@ -80,6 +83,32 @@ impl Owner {
                 Ok(table) => Ok(Owner::new(table, writer, bench)),
                 Err(_) => Err(OpenError::Memory),
             },
+            Err(error) => Err(error),
+        }
+    }
+
+    /// A running table with the rules of a list, which is in the order of its prefixes, as version 0. `None` exactly where
+    /// the limits don't suffice for its rules or their groups. It refuses limits out of range, and ends with `Memory`
+    /// where there is no room.
+    pub fn open_sorted(
+        alloc: Global,
+        config: Config,
+        rules: Vec<Rule<24, 8>>,
+    ) -> Result<Option<Self>, OpenError>
+        requires sorted { AreInOrder rules.items }
+        ensures opened { IfOk result (λ o. IfSome o
+            (IsOpenedWith config (rules_of rules.items))) }
+        ensures none { IfOk result (λ o. IsNone o → IsTooSmall config (rules_of rules.items)) }
+        ensures limits { IfOk result (λ _. IsConfig config) }
+        ensures bad_config { IfErr result
+            (λ error. (error ≡ OpenError.BadConfig) ↔ (¬ IsConfig config)) }
+    {
+        match open_sorted::<24, 8>(alloc, config, rules) {
+            Ok(Some((table, writer, bench))) => match Arc::new(alloc, table) {
+                Ok(table) => Ok(Some(Owner::new(table, writer, bench))),
+                Err(_) => Err(OpenError::Memory),
+            },
+            Ok(None) => Ok(None),
             Err(error) => Err(error),
         }
     }

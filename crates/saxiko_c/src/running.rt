@@ -3,15 +3,21 @@
 ghost use Rattle.std.specs.Prelude.{◌≡◌, MatchResult, length, true};
 ghost use Rattle.shared_fib.specs.Passes.{LooksUp};
 ghost use Rattle.shared_fib.specs.Running.{hop_or};
+ghost use Rattle.saxiko_c.specs.Loads.{IsUnloaded, rules_of_routes};
+ghost use Rattle.saxiko_c.specs.Opened.{IsOpenedWith};
 ghost use Rattle.saxiko_c.specs.Running.{AddsTo, DeletesFrom, Finds, FindsAllIn, FindsEach, FindsIn, Flushes, FreesHeld, GetsFrom, GivesBack, GoesOffline, GoesOnline, IsCountedIn, IsOpened, IsRegistered, IsUnregistered, Lookup, Quiesces};
 ghost use Rattle.saxiko_c.specs.Table.{IsUnopened};
 
+use crate::loading::read;
 use crate::owner::Owner;
 use crate::reader::Reader;
-use crate::records::{SaxikoCounts, SaxikoHeld};
-use crate::status::{EALREADY, EBUSY, EINVAL, ENOENT, ENOMEM, EPERM, of_put, of_refusal};
+use crate::records::{SaxikoCounts, SaxikoHeld, SaxikoRoute};
+use crate::status::{
+    E2BIG, EALREADY, EBUSY, EINVAL, ENOENT, ENOMEM, ENOSPC, EPERM, of_put, of_refusal,
+};
 use lpm_bits::{Hop, Prefix};
 use lpm_limits::{Config, Refusal};
+use lpm_sweep::{MOST_SORTED, in_order};
 use shared_fib::OpenError;
 use std::alloc::Global;
 
@@ -23,6 +29,38 @@ pub(crate) fn open(alloc: Global, config: Config) -> Result<Box<Owner>, i32>
             Ok(boxed) => Ok(boxed),
             Err(_) => Err(ENOMEM),
         },
+        Err(OpenError::BadConfig) => Err(EINVAL),
+        Err(OpenError::Memory) => Err(ENOMEM),
+    }
+}
+
+/// A running table with the rules of these routes: of those of one prefix the last counts.
+pub(crate) fn load(
+    alloc: Global,
+    config: Config,
+    routes: &[SaxikoRoute],
+    bad: &mut usize,
+) -> Result<Box<Owner>, i32>
+    ensures { MatchResult result
+        (λ b. (bad.new ≡ bad.old) × IsOpenedWith config (rules_of_routes routes.now) b.value)
+        (λ status. IsUnloaded config routes.now bad.old bad.new status) }
+{
+    if routes.len() > MOST_SORTED {
+        return Err(E2BIG);
+    }
+    let rules = match read(alloc, routes, bad) {
+        Ok(rules) => rules,
+        Err(status) => return Err(status),
+    };
+    let Ok(sorted) = in_order(alloc, &rules) else {
+        return Err(ENOMEM);
+    };
+    match Owner::open_sorted(alloc, config, sorted) {
+        Ok(Some(owner)) => match Box::new(alloc, owner) {
+            Ok(boxed) => Ok(boxed),
+            Err(_) => Err(ENOMEM),
+        },
+        Ok(None) => Err(ENOSPC),
         Err(OpenError::BadConfig) => Err(EINVAL),
         Err(OpenError::Memory) => Err(ENOMEM),
     }

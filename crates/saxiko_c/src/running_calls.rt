@@ -3,13 +3,14 @@
 ghost use Rattle.std.specs.Prelude.{◌≡◌, ⊤, None, Some, MatchOption};
 ghost use Rattle.saxiko_c.specs.Calls.{Asks, Calls};
 ghost use Rattle.saxiko_c.specs.Limits.{config_of};
+ghost use Rattle.saxiko_c.specs.Opened.{LoadsRunning};
 ghost use Rattle.saxiko_c.specs.Running.{AddsTo, AreOfOneTable, Counts, DeletesFrom, FindsAllIn, FindsIn, Flushes, FreesHeld, GetsFrom, GoesOffline, GoesOnline, Opens, Quiesces, Registers, Unregisters};
 
 use crate::loose::Loose;
 use crate::owner::Owner;
 use crate::reader::Reader;
 use crate::reader_handle::SaxikoReader;
-use crate::records::{SaxikoConfig, SaxikoCounts, SaxikoHeld};
+use crate::records::{SaxikoConfig, SaxikoCounts, SaxikoHeld, SaxikoRoute};
 use crate::running;
 use crate::status::{EBUSY, EINVAL};
 use crate::writer_handle::SaxikoWriter;
@@ -73,6 +74,34 @@ pub extern "C" fn saxiko_proved_writer_open(
             EBUSY
         }
         None => match running::open(alloc, config.with_readers(config.readers)) {
+            Ok(owner) => {
+                put_owner(handle, owner);
+                0
+            }
+            Err(status) => status,
+        },
+    }
+}
+
+/// Opens a running table with the rules of these routes in a closed handle. Of those of one prefix the last counts.
+/// `bad` is the place of the first route that gives no rule, where one is.
+#[unsafe(no_mangle)]
+pub extern "C" fn saxiko_proved_writer_load(
+    alloc: Global,
+    handle: &mut SaxikoWriter,
+    config: &SaxikoConfig,
+    routes: &[SaxikoRoute],
+    bad: &mut usize,
+) -> i32
+    ensures { LoadsRunning (config_of config.now config.now.readers) routes.now bad.old bad.new
+        handle.old.kept result handle.new.kept }
+{
+    match take_owner(alloc, handle) {
+        Some(owner) => {
+            put_owner(handle, owner);
+            EBUSY
+        }
+        None => match running::load(alloc, config.with_readers(config.readers), routes, bad) {
             Ok(owner) => {
                 put_owner(handle, owner);
                 0

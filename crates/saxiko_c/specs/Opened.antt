@@ -1,0 +1,29 @@
+-- Meaning: a running table that opens with the routes of a list (this project's).
+use Rattle.std.specs.Prelude.{ℕ, ℤ, ◌≡◌, ◌≤◌, Option, Some, None, List}
+use Rattle.std.specs.FinMap.{len}
+use Rattle.lpm_rules.specs.RuleMap.{RuleMap}
+use Rattle.lpm_limits.specs.Limits.{IsConfig}
+use Rattle.lpm_limits.specs.declared.config.Config.{Config}
+use Rattle.fib_model.specs.Outcomes.{groups_in_use}
+use Rattle.shared_fib.specs.Passes.{IsFullBench}
+use Rattle.shared_fib.specs.Running.{opens_with}
+use Rattle.saxiko_c.specs.Owners.{OwnerState}
+use Rattle.saxiko_c.specs.Status.{done, busy}
+use Rattle.saxiko_c.specs.Loads.{IsUnloaded, rules_of_routes}
+use Rattle.saxiko_c.specs.declared.records.SaxikoRoute.{SaxikoRoute}
+
+-- a table with these rules as version 0, of which no reader is handed out
+pub record IsOpenedWith (c : Config) (R : RuleMap) (o : OwnerState) : Type 0 where
+  pub opened : o.writer ≡ opens_with o.writer.identity c R
+  pub workers : o.writer.identity.opening.workers ≡ c.workers
+  pub bench : IsFullBench o.writer.identity o.bench
+  pub limits : IsConfig c
+  pub rules_fit : len R ≤ c.rules
+  pub groups_fit : groups_in_use 24 8 R ≤ c.groups
+
+-- a closed handle has a table with the rules of the routes then; an open one stays as it is
+abbrev pub LoadsRunning : Config → List SaxikoRoute → ℕ → ℕ → Option OwnerState → ℤ → Option OwnerState → Type 0
+LoadsRunning c routes before after (Some o) status kept = (status ≡ busy) × (after ≡ before) × (kept ≡ Some o)
+LoadsRunning c routes before after None status None = IsUnloaded c routes before after status
+LoadsRunning c routes before after None status (Some o) =
+    (status ≡ done) × (after ≡ before) × IsOpenedWith c (rules_of_routes routes) o
