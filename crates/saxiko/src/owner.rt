@@ -274,7 +274,6 @@ impl Owner {
           table = record self.old.writer.table { readers = steps_of self.new.writer };
         } }
         ensures unchanged { OnErr result (self.new ≡ self.old) }
-        ensures rests { IsAtRest self.new.writer }
         ensures bench { self.new.bench ≡ self.old.bench }
     {
         self.writer.synchronize(rt, &*self.table)
