@@ -9,3 +9,5 @@ pub mod Texts
 pub mod Ends
 pub mod Storms
 pub mod Known
+pub mod Found
+pub mod Explained

@@ -3,6 +3,8 @@ pub mod Groups
 pub mod Filled
 pub mod Updating
 pub mod Lookup
+pub mod Covering
+pub mod Explain
 pub mod Apply
 pub mod Report
 pub mod Storm

@@ -1,0 +1,108 @@
+//! `explain`: the rules and the words of a table behind the answers to addresses.
+ghost use Rattle.std.specs.Prelude.{◌≡◌, ◌≢◌, ◌++◌, List, ℕ, IfOk, IfErr, OnOk, IsErrOf};
+ghost use Rattle.lpm_limits.specs.Limits.{IsConfig};
+ghost use Rattle.lpm_files.specs.Output.{Writes, WritesBeginning};
+ghost use Rattle.lpm_commands.specs.Explain.{IsExplanation, AreExplanations, ExplainsBy};
+ghost use Rattle.lpm_commands.specs.Explain.{IsExplainText, EndsExplain};
+
+use crate::covering::{covering_rules, reading};
+use crate::loading::load;
+use fib::Fib;
+use lpm_cells::PlainCells;
+use lpm_files::{Failure, Files, Routes, put_text, read_list};
+use lpm_rules::Rules;
+use output_text::put_explanation;
+use qsbr::Config;
+use std::alloc::{AllocError, Global};
+use std::io::Write;
+
+/// Writes for each address what explains its answer by the routes: the rule that answers, the shorter
+/// rules that cover the address, and the words of the table that a lookup reads.
+///
+/// The file is read and parsed before a route is loaded. The text is formed whole before it is written.
+pub fn explain<'a, F: Files, W: Write>(
+    alloc: Global,
+    files: &F,
+    routes: &'a str,
+    addrs: &[u32],
+    config: Config,
+    out: &mut W,
+) -> Result<(), Failure<'a>>
+    requires { IsConfig config }
+    ensures done { OnOk result (Writes
+        (IsExplainText config (F.bytes files.now routes.entry.now) addrs.now)
+        (W.contents out.old) (W.contents out.new)) }
+
+    // Only a failed write leaves something written, a beginning of that text.
+    ensures beginning { IsErrOf result Failure.CannotWrite → WritesBeginning
+        (IsExplainText config (F.bytes files.now routes.entry.now) addrs.now)
+        (W.contents out.old) (W.contents out.new) }
+    ensures untouched { IfErr result (λ e. e ≢ Failure.CannotWrite → out.new ≡ out.old) }
+    ensures failure { IfErr result (EndsExplain config routes.entry.now (F.bytes files.now)) }
+{
+    let text = whole_text(alloc, files, routes, addrs, config)?;
+    put_text(out, &text)
+}
+
+// The whole text, before anything is written.
+fn whole_text<'a, F: Files>(
+    alloc: Global,
+    files: &F,
+    routes: &'a str,
+    addrs: &[u32],
+    config: Config,
+) -> Result<Vec<u8>, Failure<'a>>
+    requires { IsConfig config }
+    ensures text { IfOk result (λ v.
+        IsExplainText config (F.bytes files.now routes.entry.now) addrs.now v.items) }
+    ensures failure { IfErr result (EndsExplain config routes.entry.now (F.bytes files.now)) }
+    ensures unwritten { IfErr result (λ e. e ≢ Failure.CannotWrite) }
+{
+    let list = read_list::<Routes, F>(alloc, files, routes)?;
+    let table = load(alloc, routes, &list, config)?;
+    match text_of_table(alloc, table, addrs) {
+        Ok(text) => Ok(text),
+        Err(_) => Err(Failure::Memory),
+    }
+}
+
+// The text that explains the answers of this table, which is gone then.
+fn text_of_table(alloc: Global, table: Fib<24, 8>, addrs: &[u32]) -> Result<Vec<u8>, AllocError>
+    ensures { IfOk result (λ v. ExplainsBy table.table.rules addrs.now v.items) }
+{
+    let (ledger, memory) = table.into_parts();
+    explanations(alloc, &ledger.rules, &memory.cells, addrs)
+}
+
+// The text that explains the answers by these rules, and by the words of their table.
+fn explanations(
+    alloc: Global,
+    rules: &Rules<24, 8>,
+    cells: &PlainCells<24, 8>,
+    addrs: &[u32],
+) -> Result<Vec<u8>, AllocError>
+    ensures { IfOk result (λ v.
+        AreExplanations rules.now.rules cells.now addrs.now v.items) }
+{
+    let mut text = Vec::new(alloc);
+    for addr in addrs {
+        put_explained(alloc, &mut text, rules, cells, *addr)?;
+    }
+    Ok(text)
+}
+
+// Adds what explains the answer to the address.
+fn put_explained(
+    alloc: Global,
+    text: &mut Vec<u8>,
+    rules: &Rules<24, 8>,
+    cells: &PlainCells<24, 8>,
+    addr: u32,
+) -> Result<(), AllocError>
+    ensures { OnOk result ((here : List ℕ)
+        × IsExplanation rules.now.rules cells.now addr here
+        × (text.new.items ≡ text.old.items ++ here)) }
+{
+    let found = covering_rules(alloc, rules, addr)?;
+    put_explanation(text, addr, &found, reading(cells, addr))
+}
