@@ -50,6 +50,16 @@ def answered(name, routes, addresses, hops, words="", **more):
     return case(name, f"lookup {words} r a", {"r": routes, "a": "".join(lines)}, out=out, **more)
 
 
+def explained(name, routes, addresses, out, words="", **more):
+    """An `explain` of these addresses."""
+    return case(name, f"explain {words} r {addresses}", {"r": routes}, out=out, **more)
+
+
+def no_address(name, words, number, word, **more):
+    """An `explain` whose address at this place is none. The route file isn't read."""
+    return case(name, words, status=2, err=f"lpmtool: ADDRESS {number}, `{word}`: bad address\n", **more)
+
+
 def applied(name, words, lines, out, routes="", addresses="", **more):
     """An `apply` of these update lines."""
     files = {"r": routes, "u": UPDATES + lines, "a": addresses}
@@ -144,6 +154,8 @@ def large_cases():
     for workers in (1, 3):
         yield case(f"large-lookup-{workers}", f"lookup {limits} --workers {workers} r a", {"r": routes, "a": addresses},
                    out=answers, refusing=False)
+    asked, told = large.explained(table)
+    yield explained("large-explain", routes, " ".join(asked), "\n".join([*told, ""]), limits, refusing=False)
     yield reported("large-load", limits, "", table.numbers(), **plain)
     updates, outcomes = map(large.text, large.changed(table))
     told = outcomes + large.text(large.answers(table))
@@ -284,6 +296,51 @@ MIXED_ANSWERS = """10.0.0.1 1
 17.0.0.1 8
 18.0.0.1 -
 """
+# The group of 10.1.1.0 is the second, since those of a table are numbered in the order of its blocks.
+NESTED_LONG = "10.1.1.128/25 3\n0.0.0.0/0 9\n10.1.1.200/32 16777215\n9.0.0.64/26 5\n10.0.0.0/8 1\n10.1.0.0/16 2\n"
+LONG_EXPLAINED = """address 10.1.1.200
+hop 16777215
+rule 10.1.1.200/32
+cover 10.1.1.128/25 3
+cover 10.1.0.0/16 2
+cover 10.0.0.0/8 1
+cover 0.0.0.0/0 9
+tbl24 655617 0x03000001
+group 1
+tbl8 456 0x81ffffff
+"""
+IN_A_GROUP = """address 10.1.1.127
+hop 2
+rule 10.1.0.0/16
+cover 10.0.0.0/8 1
+cover 0.0.0.0/0 9
+tbl24 655617 0x03000001
+group 1
+tbl8 383 0x41000002
+"""
+SHORT_EXPLAINED = """address 10.1.2.3
+hop 2
+rule 10.1.0.0/16
+cover 10.0.0.0/8 1
+tbl24 655618 0x41000002
+"""
+NOT_COVERED = """address 192.0.2.1
+hop -
+rule -
+tbl24 12582914 0x00000000
+"""
+MISS_IN_A_GROUP = """address 10.0.0.1
+hop -
+rule -
+tbl24 655360 0x03000000
+group 0
+tbl8 1 0x00000000
+"""
+LAST_ADDRESS = """address 255.255.255.255
+hop 9
+rule 0.0.0.0/0
+tbl24 16777215 0x01000009
+"""
 FOUR_ROUTES, FOUR_ADDRESSES = "10.0.0.0/8 1\n" * 4, "10.0.0.0\n" * 4
 LACKING = "the following required arguments were not provided:\n"
 TWICE_GIVEN = "cannot be used multiple times"
@@ -292,6 +349,13 @@ NO_ADDRESSES = """error: the following required arguments were not provided:
   <ADDRESSES>
 
 Usage: lpmtool lookup <ROUTES> <ADDRESSES>
+
+For more information, try '--help'.
+"""
+NO_ADDRESS = """error: the following required arguments were not provided:
+  <ADDRESS>...
+
+Usage: lpmtool explain <ROUTES> <ADDRESS>...
 
 For more information, try '--help'.
 """
@@ -345,12 +409,28 @@ CASES = [
     helped("help", "--help", "program.txt"),
     helped("short-help", "-h", "program-short.txt", refusing=False),
     helped("lookup-help", "lookup --help", "lookup.txt"),
+    helped("explain-help", "explain --help", "explain.txt", refusing=False),
     helped("apply-help", "apply --help", "apply.txt", refusing=False),
     helped("report-help", "report --help", "report.txt", refusing=False),
     helped("migrate-help", "migrate --help", "migrate.txt", refusing=False),
     helped("storm-help", "storm --help", "storm.txt", refusing=False),
     case("lookup-short-help", "lookup -h", out=Has("Usage: lpmtool lookup"), refusing=False),
     case("version", "--version", out="lpmtool 2.0.0\n"),
+    # What explains an answer: the rules that cover the address, and the words that a lookup reads.
+    explained("explain", TWO_SHORT, "10.1.2.3", SHORT_EXPLAINED),
+    explained("explain-in-a-group", NESTED_LONG, "10.1.1.200", LONG_EXPLAINED),
+    explained("explain-two", NESTED_LONG, "10.1.1.127 10.1.1.200", IN_A_GROUP + LONG_EXPLAINED, refusing=False),
+    explained("explain-twice", TWO_SHORT, "10.1.2.3 10.1.2.3", SHORT_EXPLAINED * 2, refusing=False),
+    explained("explain-no-match", TWO_SHORT, "192.0.2.1", NOT_COVERED),
+    explained("explain-no-match-first", TWO_SHORT, "192.0.2.1 10.1.2.3", NOT_COVERED + SHORT_EXPLAINED, refusing=False),
+    explained("explain-empty-table", "", "192.0.2.1", NOT_COVERED, refusing=False),
+    explained("explain-miss-in-a-group", "10.0.0.2/31 7\n", "10.0.0.1", MISS_IN_A_GROUP, refusing=False),
+    explained("explain-default-route", "0.0.0.0/0 9\n", "255.255.255.255", LAST_ADDRESS, refusing=False),
+    explained("explain-later-hop", "10.1.0.0/16 7\n" + TWO_SHORT, "10.1.2.3", SHORT_EXPLAINED, "--rules 2 --groups 1",
+              refusing=False),
+    case("explain-standard-input", "explain - 10.1.2.3", stdin=TWO_SHORT, out=SHORT_EXPLAINED, refusing=False),
+    case("explain-options-last", "explain r 10.1.2.3 --rules=2 192.0.2.1", {"r": TWO_SHORT},
+         out=SHORT_EXPLAINED + NOT_COVERED, refusing=False),
     # Updates. A refused update stops nothing, and the status is 0.
     applied("delete-then-reclaim", "", "del 10.1.1.128/25\n", "deleted 3\n10.1.1.128 2\n", RT, "10.1.1.128"),
     applied("outcomes", "", OUTCOMES, "added\nunchanged\nreplaced\ndeleted 2\nrefused 4 NoSuchRule\n"),
@@ -429,6 +509,17 @@ CASES = [
     *(case(f"two-standard-inputs-{number}", words, status=2, err=TWO_INPUTS, refusing=False)
       for number, words in enumerate((
           "apply - - a", "apply - u -", "apply - - -", "report -- - -", "storm - - a", "storm - u -", "storm r - -"))),
+    case("explain-no-address", "explain r", status=2, err=NO_ADDRESS),
+    no_address("explain-bad-address", "explain r 10.1.2", 1, "10.1.2"),
+    no_address("explain-second-bad-address", "explain r 10.1.2.3 10.1.2.256 x", 2, "10.1.2.256", refusing=False),
+    *(no_address(f"explain-bad-address-{number}", ["explain", "r", word], 1, word, refusing=False)
+      for number, word in enumerate((
+          "", " 10.1.2.3", "10.1.2.3 ", "10.1.2.3\n", "10.01.2.3", "10.1.2.3.4", "10.1.2.3/32", "10.1.2.-3", "#", "r"))),
+    refused("explain-workers", "explain r 10.1.2.3 --workers 1", "unexpected argument '--workers' found"),
+    refused("explain-threshold", "explain r 10.1.2.3 --threshold 1", "unexpected argument '--threshold' found"),
+    refused("explain-max", "explain r 10.1.2.3 --max 1", "unexpected argument '--max' found"),
+    refused("explain-groups-0", "explain r 10.1.2.3 --groups 0", "invalid value '0' for '--groups <N>'"),
+    refused("explain-no-file", "explain", f"{LACKING}  <ROUTES>\n  <ADDRESS>...\n"),
     refused("option-first", "--rules 7 lookup r a", "unexpected argument '--rules' found"),
     refused("deep", "lookup r a --deep", "unexpected argument '--deep' found"),
     refused("apply-two-files", "apply r u", f"{LACKING}  <ADDRESSES>"),
@@ -467,6 +558,10 @@ CASES = [
     case("no-address-file", "lookup r a", {"r": RT}, 3, err="lpmtool: cannot read a\n"),
     case("no-files", "lookup r a", status=3, err="lpmtool: cannot read r\n"),
     case("folder", "lookup . a", {"a": "1.2.3.4"}, 3, err="lpmtool: cannot read .\n"),
+    case("explain-no-route-file", "explain r 10.1.2.3", status=3, err="lpmtool: cannot read r\n"),
+    case("lookup-of-an-address", "lookup r 10.1.2.3", {"r": RT}, 3, err="lpmtool: cannot read 10.1.2.3\n",
+         refusing=False),
+    case("explain-full", "explain r 10.1.2.3", {"r": RT}, 3, err="lpmtool: cannot write\n", full=True),
     case("no-update-file", "apply r u a", {"r": RT}, 3, err="lpmtool: cannot read u\n"),
     case("migrate-no-file", "migrate old", status=3, err="lpmtool: cannot read old\n"),
     case("full", "lookup r a", {"r": RT, "a": FIVE}, 3, err="lpmtool: cannot write\n", full=True),
@@ -497,6 +592,8 @@ CASES = [
       for number, line in enumerate(("10.0.0.256", "10.0.0.01", "10.0.0.1000", "10.0.0.1\r\r", "10.0.0\r.1"))),
     case("bad-standard-input", "lookup - a", {"a": ""}, 4, err="lpmtool: -:2: bad fields\n", stdin="\n10.0.0.0/8\n"),
     case("bad-address", "lookup r a", {"r": RT, "a": "1.2.3.4\n1.2.3\n"}, 4, err="lpmtool: a:2: bad address\n"),
+    case("explain-bad-route", "explain r 10.1.2.3", {"r": "10.0.0.0/8 1\n10.0.0.0/33 1\n"}, 4,
+         err="lpmtool: r:2: bad length\n"),
     case("first-file-first", "lookup r a", {"r": "x", "a": "x"}, 4, err="lpmtool: r:1: bad fields\n"),
     case("one-address-a-line", "lookup r a", {"r": "", "a": "1.2.3.4 1.2.3.4\n"}, 4, err="lpmtool: a:1: bad fields\n",
          refusing=False),
@@ -543,6 +640,10 @@ CASES = [
     # A route is refused, or there is no worker to answer.
     case("one-rule-load", "lookup --rules 1 r a", {"r": TWO_SHORT, "a": "10.0.0.0"}, 6,
          err="lpmtool: r:2: refused 3 TooManyRules\n"),
+    case("one-rule-explain", "explain --rules 1 r 10.0.0.0", {"r": TWO_SHORT}, 6,
+         err="lpmtool: r:2: refused 3 TooManyRules\n"),
+    case("one-group-explain", "explain --groups 1 r 10.0.0.0", {"r": TWO_BLOCKS_DOWN}, 6,
+         err="lpmtool: r:2: refused 7 NoGroups\n", refusing=False),
     case("one-group-load", "lookup --groups 1 r a", {"r": TWO_BLOCKS, "a": "10.0.0.0"}, 6,
          err="lpmtool: r:2: refused 7 NoGroups\n"),
     case("refusal-after-comment", "lookup --rules 1 r a",

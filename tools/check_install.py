@@ -6,7 +6,7 @@
 What fails is printed, and makes the exit status 1. Checked are
 
 - options: docs/FORMATS.md and the manual page docs/man/lpmtool.1 have the options of crates/lpm_options, each with its
-  range and default, the commands with their files, and the same exit statuses, and no others.
+  range and default, the commands with their operands, and the same exit statuses, and no others.
 - words: the completions of each shell have these commands and options, and no others.
 - completion: bash offers the options of a command that aren't given yet, as many files as the command wants, and
   neither where a number is wanted.
@@ -62,7 +62,9 @@ done
 complete -p lpmtool
 """
 
-Command = namedtuple("Command", "files options")  # the names of both, in order
+# The names, in order: what a command wants, which of these are files, and its options.
+Command = namedtuple("Command", "operands files options")
+WORDS = {"ADDRESS"}  # what is wanted as one word or more, and is no file
 
 
 def text_of(path):
@@ -90,11 +92,12 @@ def spelled_out(name):
 
 
 def commands():
-    """Each command with its files and options."""
+    """Each command with its operands, files and options."""
     found = {}
     for body in (spelled_out(name) for name in BODIES if name.endswith("_command") and '"' in BODIES[name]):
         name, *options = re.findall(r'"([a-z]+)"', body)
-        found[name] = Command(re.findall(r'"([A-Z]{2,})"', body), options)
+        operands = re.findall(r'"([A-Z]{2,})"', body)
+        found[name] = Command(operands, [it for it in operands if it not in WORDS], options)
     return found
 
 
@@ -121,9 +124,14 @@ def check_formats():
     text = text_of("docs/FORMATS.md")
     rows = re.findall(r"(?m)^\| `--(\w+)(?: N)?` \|[^|\n]*\| (\d*) ?\| (\d*) ?\| ([\w ]+) \|$", text)
     yield from differences("docs/FORMATS.md", options(), {name: tuple(it) if it[0] else None for name, *it in rows})
-    lines = re.findall(r"(?m)^\| `lpmtool (\w+) ([A-Z ]+)` \|", text)
-    yield from differences("docs/FORMATS.md", {name: it.files for name, it in commands().items()},
-                           {name: files.split() for name, files in lines})
+    lines = re.findall(r"(?m)^\| `lpmtool (\w+) ([A-Z. ]+)` \|", text)
+    wanted = {name: [it + ".." * (it in WORDS) for it in command.operands] for name, command in commands().items()}
+    yield from differences("docs/FORMATS.md", wanted, {name: operands.split() for name, operands in lines})
+
+
+def in_manual(command):
+    """The operands of a command as the manual page has them."""
+    return " ".join(it.lower() + " ..." * (it in WORDS) for it in command.operands)
 
 
 def check_manual():
@@ -132,19 +140,19 @@ def check_manual():
              re.findall(r"(?ms)^\.It Fl -(\w+).*?\n(.*?)(?=^\.(?:It|El))", text)}
     numbers = {name: re.search(r"from (\d+) to (\d+)\b.* The default is (\d+)\.", it) for name, it in items.items()}
     yield from differences(MANUAL, options(), {name: it and it.groups() for name, it in numbers.items()})
-    wanted = {name: [file.lower() for file in it.files] for name, it in commands().items()}
-    wanted["help"] = ["command"]
+    wanted = {name: in_manual(it) for name, it in commands().items()}
+    wanted["help"] = "command"
     lines = re.findall(r"(?m)^\.It Cm (\w+) (?:Op )?Ar (.*)", text)
-    yield from differences(MANUAL, wanted, {name: files.split() for name, files in lines})
+    yield from differences(MANUAL, wanted, dict(lines))
     statuses = re.findall(r"(?m)^\.It (\d)$", text)
     told = set(re.findall(r"(?m)^\| (\d) \| .* \|$", text_of("docs/FORMATS.md").split("## Exit statuses")[1]))
     if statuses != sorted(told):
         yield f"{MANUAL}: the exit statuses {statuses}, wanted {sorted(told)}"
     synopsis = text.split(".Sh DESCRIPTION")[0]
     for name, command in commands().items():
-        place = rf"\.Cm {name}\n(?:\.Op .*\n)*\.Ar {' '.join(command.files).lower()}\n"
+        place = rf"\.Cm {name}\n(?:\.Op .*\n)*\.Ar {re.escape(in_manual(command))}\n"
         if not re.search(place, synopsis):
-            yield f"{MANUAL}: the synopsis lacks {name} with its files"
+            yield f"{MANUAL}: the synopsis lacks {name} with its operands"
 
 
 def check_form():

@@ -74,9 +74,25 @@ class Table:
         freed = min(self.most, self.limbo) if self.limbo > self.threshold else 0
         self.limbo, self.free, self.token = self.limbo - freed + 1, self.free + freed, self.token + 1
 
-    def hop(self, bits):
+    def covering(self, bits):
+        """The prefixes of the rules that cover an address, the longest first."""
         prefixes = ((network(bits, length), length) for length in (25, 24, 16, 8))
-        return next((str(self.rules[prefix]) for prefix in prefixes if prefix in self.rules), "-")
+        return [prefix for prefix in prefixes if prefix in self.rules]
+
+    def hop(self, bits):
+        return next((str(self.rules[prefix]) for prefix in self.covering(bits)), "-")
+
+    def explained(self, bits, blocks):
+        """The lines of `explain`, where groups have the numbers of these blocks."""
+        found, block = self.covering(bits), bits >> 8
+        lines = [f"hop {self.hop(bits)}", f"rule {line(found[0]) if found else '-'}"]
+        lines += [f"cover {line(prefix, self.rules[prefix])}" for prefix in found[1:]]
+        word = f"{(found[0][1] << 26) + (1 << 24) + self.rules[found[0]] if found else 0:#010x}"
+        if not self.deep[block]:
+            return [f"address {address(bits)}", *lines, f"tbl24 {block} {word}"]
+        group = blocks.index(block)
+        lines += [f"tbl24 {block} {(3 << 24) + group:#010x}", f"group {group}", f"tbl8 {group * 256 + bits % 256} {word}"]
+        return [f"address {address(bits)}", *lines]
 
     def numbers(self):
         in_use = sum(count > 0 for count in self.deep.values())
@@ -142,6 +158,14 @@ def storm_addresses():
 
 def answers(table):
     return [f"{address(bits)} {table.hop(bits)}" for bits in map(looked_up, range(ADDRESSES))]
+
+
+def explained(table):
+    """A hundred addresses, and what `explain` prints for them. A table that is opened numbers its groups in the order
+    of their blocks."""
+    blocks = sorted(block for block, count in table.deep.items() if count)
+    asked = [looked_up(number * 997) for number in range(100)]
+    return [address(bits) for bits in asked], [line for bits in asked for line in table.explained(bits, blocks)]
 
 
 def migrated():

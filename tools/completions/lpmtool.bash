@@ -2,7 +2,7 @@
 
 _lpmtool() {
     local IFS=$' \t\n' word=${COMP_WORDS[COMP_CWORD]} limits="--rules --groups --workers --threshold --max"
-    local commands="lookup apply report storm migrate" command="" options="" files=0 is_value="" is_end="" at one
+    local commands="lookup explain apply report storm migrate" command="" options="" files=0 is_value="" is_end="" at one
     # what stands before the word: the command, the options that are left, and how many files are
     for ((at = 1; at < COMP_CWORD; at++)); do
         one=${COMP_WORDS[at]}
@@ -13,6 +13,7 @@ _lpmtool() {
             command=$one
             case $command in
                 lookup | report) files=2 options=" $limits --help " ;;
+                explain) files=1 options=" --rules --groups --help " ;;
                 apply) files=3 options=" $limits --help " ;;
                 storm) files=3 options=" $limits --rounds --stuck --help " ;;
                 migrate) files=1 options=" --help " ;;

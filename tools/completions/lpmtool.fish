@@ -1,6 +1,6 @@
 # Completion of lpmtool for fish: its commands, the options of a command, and its files.
 
-set -l commands lookup apply report storm migrate
+set -l commands lookup explain apply report storm migrate
 set -l tables lookup apply report storm
 
 complete -c lpmtool -f
@@ -8,6 +8,7 @@ complete -c lpmtool -n 'not __fish_seen_subcommand_from help' -s h -l help -d 'P
 complete -c lpmtool -n __fish_use_subcommand -s V -l version -d 'Print the version'
 
 complete -c lpmtool -n __fish_use_subcommand -a lookup -d 'Print the next hop of each address'
+complete -c lpmtool -n __fish_use_subcommand -a explain -d 'Print the rules and the words behind each answer'
 complete -c lpmtool -n __fish_use_subcommand -a apply -d 'Print the outcome of each update, then the next hops'
 complete -c lpmtool -n __fish_use_subcommand -a report -d 'Print what the table holds after the updates'
 complete -c lpmtool -n __fish_use_subcommand -a storm -d 'Look addresses up beside the updates'
@@ -15,8 +16,8 @@ complete -c lpmtool -n __fish_use_subcommand -a migrate -d 'Print an update file
 complete -c lpmtool -n __fish_use_subcommand -a help -d 'Print the help of a command'
 complete -c lpmtool -n '__fish_seen_subcommand_from help' -a "$commands"
 
-complete -c lpmtool -n "__fish_seen_subcommand_from $tables" -l rules -x -d 'The most rules that the table holds'
-complete -c lpmtool -n "__fish_seen_subcommand_from $tables" -l groups -x -d 'The number of groups'
+complete -c lpmtool -n "__fish_seen_subcommand_from $tables explain" -l rules -x -d 'The most rules that the table holds'
+complete -c lpmtool -n "__fish_seen_subcommand_from $tables explain" -l groups -x -d 'The number of groups'
 complete -c lpmtool -n "__fish_seen_subcommand_from $tables" -l workers -x -d 'The number of workers'
 complete -c lpmtool -n "__fish_seen_subcommand_from $tables" -l threshold -x -d 'How many groups may wait in limbo'
 complete -c lpmtool -n "__fish_seen_subcommand_from $tables" -l max -x -d 'The most groups that a change frees'

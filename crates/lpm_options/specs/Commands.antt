@@ -33,6 +33,10 @@ program_workers = range 0 1024
 abbrev pub storm_rounds : Range
 storm_rounds = range 1 1000000
 
+-- addresses, one word each, and at least one
+abbrev pub addresses_rule : Rule
+addresses_rule = record (file_rule (codes "ADDRESS")) { action = Some actions.Append }
+
 abbrev pub rules_rule : Rule
 rules_rule = number_rule (codes "rules") rules_range (decimal default_config.rules)
 
@@ -54,9 +58,13 @@ rounds_rule = number_rule (codes "rounds") storm_rounds (codes "1")
 abbrev pub stuck_rule : Rule
 stuck_rule = flag_rule (codes "stuck")
 
+-- the options that say how much the table holds
+abbrev pub with_room : App → App
+with_room app = with_rule (with_rule app rules_rule) groups_rule
+
 -- the options that say how much the table holds, and who reads it
 abbrev pub with_sizes : App → App
-with_sizes app = with_rule (with_rule (with_rule app rules_rule) groups_rule) workers_rule
+with_sizes app = with_rule (with_room app) workers_rule
 
 -- the options that say when a change reclaims, and how much
 abbrev pub with_reclaiming : App → App
@@ -82,6 +90,10 @@ with_three_files name = with_limits
 abbrev pub lookup_app : App
 lookup_app = with_limits (with_files (codes "lookup") (codes "ROUTES") (codes "ADDRESSES"))
 
+abbrev pub explain_app : App
+explain_app = with_room
+    (with_rule (with_file (new_app (codes "explain")) (codes "ROUTES")) addresses_rule)
+
 abbrev pub apply_app : App
 apply_app = with_three_files (codes "apply")
 
@@ -106,6 +118,8 @@ with_command app command = with_subcommand app command.top
 unfoldable pub the_app : App
 the_app = with_command
     (with_command
-    (with_command (with_command (with_command program_app lookup_app) apply_app) report_app)
+    (with_command
+    (with_command (with_command (with_command program_app lookup_app) explain_app) apply_app)
+    report_app)
     storm_app)
     migrate_app

@@ -1,5 +1,5 @@
 //! What the parser's matches ask for.
-ghost use Rattle.std.specs.Prelude.{◌↔◌, ◌<◌, ◌^◌, ℕ, IsTrue, IfSome, IsNone, codes};
+ghost use Rattle.std.specs.Prelude.{◌≢◌, ◌↔◌, ◌<◌, ◌^◌, ℕ, IsTrue, IfSome, IsNone, codes};
 ghost use Rattle.clap.specs.Words.{Text, rows_of, found_of};
 ghost use Rattle.lpm_limits.specs.Limits.{IsIn};
 ghost use Rattle.lpm_options.specs.Asked.{HasFile, HasNumber, HasFlag, HaveFiles, AreLimits, Asks};
@@ -11,8 +11,9 @@ use crate::commands::{ROUNDS, WORKERS};
 use clap::ArgMatches;
 use lpm_limits::{Config, Range};
 
-/// What the matches of the command of this name ask for.
+/// What the matches of the command of this name ask for, which isn't `explain`.
 pub(crate) fn command_line<'a>(name: &'a str, found: &ArgMatches<'a>) -> Option<CommandLine<'a>>
+    requires { name.now ≢ codes "explain" }
     ensures asked { IfSome result (Asks name.entry.now (rows_of (found_of found.now))) }
     ensures in_range { IfSome result IsInRange }
     ensures none { IsNone result → (line : CommandLine)
@@ -114,8 +115,8 @@ fn migrate_line<'a>(found: &ArgMatches<'a>) -> Option<CommandLine<'a>>
 }
 
 /// Whether two of the command's files are standard input.
-pub(crate) fn has_two_standard_inputs(line: CommandLine<'_>) -> bool
-    ensures { IsTrue result ↔ HasTwoStandardInputs line.entry }
+pub(crate) fn has_two_standard_inputs(line: &CommandLine<'_>) -> bool
+    ensures { IsTrue result ↔ HasTwoStandardInputs line.now }
 {
     match line {
         CommandLine::Lookup {
@@ -140,7 +141,7 @@ pub(crate) fn has_two_standard_inputs(line: CommandLine<'_>) -> bool
             addresses,
             ..
         } => are_two_standard_inputs(routes, updates, addresses),
-        CommandLine::Migrate { .. } => false,
+        CommandLine::Explain { .. } | CommandLine::Migrate { .. } => false,
     }
 }
 
@@ -194,7 +195,7 @@ fn number_within(found: &ArgMatches<'_>, id: &str, range: Range) -> Option<usize
 }
 
 // The number of the option.
-fn number_of(found: &ArgMatches<'_>, id: &str) -> Option<usize>
+pub(crate) fn number_of(found: &ArgMatches<'_>, id: &str) -> Option<usize>
     ensures number { IfSome result (HasNumber (rows_of (found_of found.now)) id.now) }
     ensures none { IsNone result → (n : ℕ)
         → HasNumber (rows_of (found_of found.now)) id.now n → n < 2 ^ 64 → ⊥ }
@@ -224,7 +225,7 @@ fn files_of<'a>(found: &ArgMatches<'a>) -> Option<(&'a str, &'a str, &'a str)>
 }
 
 // The path of the file.
-fn path_of<'a>(found: &ArgMatches<'a>, id: &str) -> Option<&'a str>
+pub(crate) fn path_of<'a>(found: &ArgMatches<'a>, id: &str) -> Option<&'a str>
     ensures file { IfSome result (λ path. HasFile (rows_of (found_of found.now)) id.now path.now) }
     ensures none { IsNone result → (path : Text)
         → HasFile (rows_of (found_of found.now)) id.now path → ⊥ }

@@ -3,9 +3,9 @@ ghost use Rattle.std.specs.Prelude.{◌≡◌, IfOk, codes, true, false};
 ghost use Rattle.clap.specs.Words.{App, app_of, rule_of, new_app, with_rule};
 ghost use Rattle.lpm_options.specs.Commands.{file_rule, number_rule, flag_rule, program_app};
 ghost use Rattle.lpm_options.specs.Commands.{with_command, with_file};
-ghost use Rattle.lpm_options.specs.Commands.{lookup_app, apply_app, report_app, storm_app};
-ghost use Rattle.lpm_options.specs.Commands.{migrate_app};
-ghost use Rattle.lpm_options.specs.Commands.{with_limits, with_sizes, with_reclaiming, the_app};
+ghost use Rattle.lpm_options.specs.Commands.{lookup_app, explain_app, apply_app, report_app, storm_app};
+ghost use Rattle.lpm_options.specs.Commands.{migrate_app, addresses_rule};
+ghost use Rattle.lpm_options.specs.Commands.{with_limits, with_room, with_sizes, with_reclaiming, the_app};
 
 use crate::help;
 use clap::builder::ValueParser;
@@ -37,6 +37,7 @@ pub(crate) fn whole_command<'a>(alloc: Global) -> Made<'a>
 {
     let made = Ok(program(alloc));
     let made = with_command(made, lookup_command(alloc));
+    let made = with_command(made, explain_command(alloc));
     let made = with_command(made, apply_command(alloc));
     let made = with_command(made, report_command(alloc));
     let made = with_command(made, storm_command(alloc));
@@ -72,6 +73,15 @@ fn lookup_command<'a>(alloc: Global) -> Made<'a>
     let made = bare_command(alloc, "lookup", help::LOOKUP, help::AFTER_LOOKUP);
     let made = with_file(alloc, Ok(made), "ROUTES", help::ROUTES);
     with_last_file(alloc, made, "ADDRESSES", help::ADDRESSES)
+}
+
+fn explain_command<'a>(alloc: Global) -> Made<'a>
+    ensures { IfOk result (λ c. app_of c ≡ explain_app) }
+{
+    let made = bare_command(alloc, "explain", help::EXPLAIN, help::AFTER_EXPLAIN);
+    let made = with_file(alloc, Ok(made), "ROUTES", help::ROUTES);
+    let made = with_addresses(alloc, made);
+    with_room(alloc, made)
 }
 
 fn apply_command<'a>(alloc: Global) -> Made<'a>
@@ -122,6 +132,14 @@ fn with_file<'a>(alloc: Global, made: Made<'a>, id: &'a str, help: &'a str) -> M
     made?.arg(file(alloc, id, help))
 }
 
+// The command with addresses as words, at least one.
+fn with_addresses<'a>(alloc: Global, made: Made<'a>) -> Made<'a>
+    ensures { (app : App) → IfOk made.entry (λ c. app_of c ≡ app)
+        → IfOk result (λ c. app_of c ≡ with_rule app addresses_rule) }
+{
+    made?.arg(addresses(alloc))
+}
+
 fn with_routes_and_updates<'a>(alloc: Global, made: Made<'a>) -> Made<'a>
     ensures { (app : App) → IfOk made.entry (λ c. app_of c ≡ app)
         → IfOk result (λ c. app_of c ≡ with_file (with_file app (codes "ROUTES"))
@@ -160,13 +178,21 @@ fn with_limits<'a>(alloc: Global, made: Made<'a>) -> Made<'a>
     with_reclaiming(alloc, made)
 }
 
+// The options that say how much the table holds.
+fn with_room<'a>(alloc: Global, made: Made<'a>) -> Made<'a>
+    ensures { (app : App) → IfOk made.entry (λ c. app_of c ≡ app)
+        → IfOk result (λ c. app_of c ≡ with_room app) }
+{
+    let made = with_number(alloc, made, "rules", Config::RULES, "1048576", help::RULES);
+    with_number(alloc, made, "groups", Config::GROUPS, "256", help::GROUPS)
+}
+
 // The options that say how much the table holds, and who reads it.
 fn with_sizes<'a>(alloc: Global, made: Made<'a>) -> Made<'a>
     ensures { (app : App) → IfOk made.entry (λ c. app_of c ≡ app)
         → IfOk result (λ c. app_of c ≡ with_sizes app) }
 {
-    let made = with_number(alloc, made, "rules", Config::RULES, "1048576", help::RULES);
-    let made = with_number(alloc, made, "groups", Config::GROUPS, "256", help::GROUPS);
+    let made = with_room(alloc, made);
     with_number(alloc, made, "workers", WORKERS, "1", help::WORKERS)
 }
 
@@ -216,6 +242,17 @@ fn file<'a>(alloc: Global, id: &'a str, help: &'a str) -> Arg<'a>
     ensures plain { result.global ≡ false }
 {
     Arg::new(alloc, id).required(true).help(help)
+}
+
+// The addresses that `explain` wants, the words after its file.
+fn addresses<'a>(alloc: Global) -> Arg<'a>
+    ensures rule { rule_of result ≡ addresses_rule }
+    ensures plain { result.global ≡ false }
+{
+    Arg::new(alloc, "ADDRESS")
+        .required(true)
+        .action(ArgAction::Append)
+        .help(help::ADDRESS)
 }
 
 // An option that takes a number of the range.

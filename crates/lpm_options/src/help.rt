@@ -64,8 +64,43 @@ nothing is printed. Give a greater number:
   --groups   at `refused 7 NoGroups`
   --workers  at `refused 8 NoWorkers`
 
+ADDRESSES is a file, and an address in its place is taken for the path of one. For
+addresses that are words of the command line, and for the rules behind an answer:
+  lpmtool explain routes.txt 10.1.2.3
+
 Memory: up to 128 MiB, 2 KiB for each group, and 15 to 22 bytes for each rule. No more
 groups are made than there are routes longer than 24 bits.
+Exit status: 0 done, 2 words, 3 can't read or write, 4 a faulty file, 5 out of memory,
+6 refused. More in `lpmtool --help`.";
+
+pub(crate) const EXPLAIN: &str =
+    "Prints for each address the rule that answers, shorter ones, and the words of the table";
+
+pub(crate) const AFTER_EXPLAIN: &str = "\
+Example:
+  lpmtool explain routes.txt 10.1.1.128 192.0.2.1
+
+Output, these lines for the first address:
+  address 10.1.1.128
+  hop 3                    the next hop, or `-` where no rule contains the address
+  rule 10.1.1.128/25       the longest rule that contains it, or `-`
+  cover 10.1.0.0/16 2      each shorter rule that contains it, with its next hop,
+  cover 10.0.0.0/8 1       the longest first
+  tbl24 655617 0x03000000  the first word that a lookup reads: its place and the word
+  group 0                  the group that this word names: no line where it names none
+  tbl8 128 0x65000003      the second word that a lookup reads, in that group: likewise
+And these for the second, which no rule contains:
+  address 192.0.2.1
+  hop -
+  rule -
+  tbl24 12582914 0x00000000
+
+The path `-` is standard input. Each ADDRESS is checked before the file is read. Where a
+route is refused, nothing is printed. Give a greater number:
+  --rules   at `refused 3 TooManyRules`
+  --groups  at `refused 7 NoGroups`
+
+Memory: 64 MiB, 1 KiB for each group, and 15 to 22 bytes for each rule.
 Exit status: 0 done, 2 words, 3 can't read or write, 4 a faulty file, 5 out of memory,
 6 refused. More in `lpmtool --help`.";
 
@@ -193,6 +228,8 @@ The route file. Each line is a prefix and a next hop, as `10.0.0.0/8 5`.
 A prefix that stands twice has the later next hop";
 
 pub(crate) const ADDRESSES: &str = "The address file. Each line is an address, as `10.1.2.3`";
+
+pub(crate) const ADDRESS: &str = "An address, as `10.1.2.3`. More than one can be given";
 
 pub(crate) const UPDATES: &str = "\
 The update file. The first line is `lpm-updates 2`. Each line after it is an

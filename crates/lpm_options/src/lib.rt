@@ -9,19 +9,21 @@ ghost use Rattle.lpm_options.specs.Asked.{IsAskedBy, IsInRange, HasTwoStandardIn
 
 mod asked;
 mod commands;
+mod explain;
 mod help;
 
 use asked::{command_line, has_two_standard_inputs};
 use clap::error::ErrorKind;
 use clap::{ArgMatches, Error};
 use commands::whole_command;
+use explain::explain_line;
 use lpm_limits::Config;
 use std::alloc::Global;
 use std::convert::AsStr;
 use std::fmt;
 
 /// What the words of a command line ask for. The path `-` is standard input.
-#[derive(Clone, Copy)]
+#[derive(Drop)]
 pub enum CommandLine<'a> {
     /// `lookup`: the next hop of each address, by the routes.
     Lookup {
@@ -30,6 +32,15 @@ pub enum CommandLine<'a> {
         /// The path of the address file.
         addresses: &'a str,
         /// The limits of the table.
+        config: Config,
+    },
+    /// `explain`: what the table of the routes says of each address.
+    Explain {
+        /// The path of the route file.
+        routes: &'a str,
+        /// The addresses, in the order of their words.
+        addresses: Vec<u32>,
+        /// The limits of the table. It has one worker.
         config: Config,
     },
     /// `apply`: the outcome of each update of the routes, then the next hop of each address.
@@ -79,7 +90,7 @@ pub enum CommandLine<'a> {
 
 /// Why words are no command line.
 #[derive(Debug, Drop)]
-pub enum Refused {
+pub enum Refused<'a> {
     /// The parser doesn't accept them, or they ask for help or for the version: its error has the
     /// text to show.
     Usage(Error),
@@ -87,16 +98,26 @@ pub enum Refused {
     Memory,
     /// The parser accepted them, and its matches lack a command, a file or a number in range.
     NoCommand,
+    /// The parser accepted them, and a word of `explain` is no address, as an address file has it.
+    BadAddress {
+        /// The place of the word among the addresses, from 1.
+        number: usize,
+        /// The word, the first that is none.
+        word: &'a str,
+    },
     /// The parser accepted them, and two of the files are `-`: standard input has one file.
     TwoStandardInputs,
 }
 
-impl fmt::Display for Refused {
+impl fmt::Display for Refused<'_> {
     fn fmt<W: fmt::Write>(&self, f: &mut fmt::Formatter<W>) -> fmt::Result {
         match self {
             Refused::Usage(error) => write!(f, "{error}"),
             Refused::Memory => f.write_str("out of memory"),
             Refused::NoCommand => f.write_str("no command"),
+            Refused::BadAddress { number, word } => {
+                write!(f, "ADDRESS {number}, `{word}`: bad address")
+            }
             Refused::TwoStandardInputs => f.write_str("only one file can be standard input, `-`"),
         }
     }
@@ -106,7 +127,7 @@ impl fmt::Display for Refused {
 ///
 /// Where the words ask for help or for the version, that is a `Usage` whose error doesn't go to
 /// standard error.
-pub fn options<'a, S: AsStr>(alloc: Global, words: &'a [S]) -> Result<CommandLine<'a>, Refused>
+pub fn options<'a, S: AsStr>(alloc: Global, words: &'a [S]) -> Result<CommandLine<'a>, Refused<'a>>
     ensures asked { IfOk result (IsAskedBy (subcommand_of the_app (map S.text words.entry.now))) }
     ensures in_range { IfOk result IsInRange }
     ensures one_input { IfOk result (λ line. HasTwoStandardInputs line → ⊥) }
@@ -117,13 +138,13 @@ pub fn options<'a, S: AsStr>(alloc: Global, words: &'a [S]) -> Result<CommandLin
         return Err(Refused::Memory);
     };
     match command.try_get_matches_from(words) {
-        Ok(matches) => line_of(&matches),
+        Ok(matches) => line_of(alloc, &matches),
         Err(error) => Err(refusal(error)),
     }
 }
 
 // The command line of matches, in which the parser found no fault.
-fn line_of<'a>(matches: &ArgMatches<'a>) -> Result<CommandLine<'a>, Refused>
+fn line_of<'a>(alloc: Global, matches: &ArgMatches<'a>) -> Result<CommandLine<'a>, Refused<'a>>
     ensures asked { IfOk result (IsAskedBy (subcommand_rows_of matches.now)) }
     ensures in_range { IfOk result IsInRange }
     ensures one_input { IfOk result (λ line. HasTwoStandardInputs line → ⊥) }
@@ -132,17 +153,20 @@ fn line_of<'a>(matches: &ArgMatches<'a>) -> Result<CommandLine<'a>, Refused>
     let Some((name, found)) = matches.subcommand() else {
         return Err(Refused::NoCommand);
     };
+    if name == "explain" {
+        return explain_line(alloc, found);
+    }
     let Some(line) = command_line(name, found) else {
         return Err(Refused::NoCommand);
     };
-    if has_two_standard_inputs(line) {
+    if has_two_standard_inputs(&line) {
         return Err(Refused::TwoStandardInputs);
     }
     Ok(line)
 }
 
 // The refusal of words at which the parser gives this error.
-fn refusal(error: Error) -> Refused
+fn refusal<'a>(error: Error) -> Refused<'a>
     ensures { (faults : Kinds) (matches : Option (Text × List Row))
         → HasKind faults error → IsRefusalBy faults matches result }
 {

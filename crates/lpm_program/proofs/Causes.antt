@@ -2,7 +2,7 @@
 use Rattle.std.proofs.Common.{◌≢◌, inl, inr, ℕ, List, Option}
 use Rattle.clap.specs.Words.{Text, subcommand_of, fault_of, kind_of}
 use Rattle.lpm_options.specs.declared.Refused.{Refused}
-use Rattle.lpm_options.specs.declared.Refused.TheVariants.{Usage, Memory, NoCommand, TwoStandardInputs}
+use Rattle.lpm_options.specs.declared.Refused.TheVariants.{Usage, Memory, NoCommand, BadAddress, TwoStandardInputs}
 use Rattle.lpm_options.specs.Commands.{the_app}
 use Rattle.lpm_options.specs.Asked.{IsRefusalBy}
 use Rattle.lpm_program.specs.Run.{IsRequest, EndsRefused, AsksForHelp, IsCause}
@@ -12,6 +12,7 @@ pub asks_for_help : (words : List Text) (why : Refused) → IsRequest why → Is
 asks_for_help words (Usage error) request by = (kind_of error, request, by)
 asks_for_help words Memory request by = absurd request
 asks_for_help words NoCommand request by = absurd request
+asks_for_help words (BadAddress number word) request by = absurd request
 asks_for_help words TwoStandardInputs request by = absurd request
 
 -- refused words are a cause of the status that they end with

@@ -13,6 +13,7 @@ use Rattle.lpm_options.specs.Asked.{IsAskedBy, IsRefusalBy}
 use Rattle.lpm_files.specs.declared.failure.Failure.{Failure}
 use Rattle.lpm_files.specs.Output.{Writes, WritesBeginning}
 use Rattle.lpm_commands.specs.Lookup.{IsLookupText, EndsLookup}
+use Rattle.lpm_commands.specs.Explain.{IsExplainText, EndsExplain}
 use Rattle.lpm_commands.specs.Apply.{IsApplyText, EndsApply}
 use Rattle.lpm_commands.specs.Report.{IsReportText, EndsReport}
 use Rattle.lpm_commands.specs.Storm.{IsStormText, EndsStormRun}
@@ -23,6 +24,8 @@ use Rattle.lpm_files.specs.Status.{status_of}
 abbrev pub IsOutput : CommandLine → (List ℕ → Option (List ℕ)) → List ℕ → Type 0
 IsOutput (commands.Lookup routes addresses config) bytes =
     IsLookupText config (bytes routes.now) (bytes addresses.now)
+IsOutput (commands.Explain routes addresses config) bytes =
+    IsExplainText config (bytes routes.now) addresses.items
 IsOutput (commands.Apply routes updates addresses config) bytes =
     IsApplyText config (bytes routes.now) (bytes updates.now) (bytes addresses.now)
 IsOutput (commands.Report routes updates config) bytes =
@@ -36,6 +39,8 @@ IsOutput (commands.Migrate old) bytes = IsMigrateText (bytes old.now)
 abbrev pub EndsCommand : CommandLine → (List ℕ → Option (List ℕ)) → Failure → Type 0
 EndsCommand (commands.Lookup routes addresses config) bytes failure =
     EndsLookup config routes.now addresses.now bytes failure
+EndsCommand (commands.Explain routes addresses config) bytes failure =
+    EndsExplain config routes.now bytes failure
 EndsCommand (commands.Apply routes updates addresses config) bytes failure =
     EndsApply config routes.now updates.now addresses.now bytes failure
 EndsCommand (commands.Report routes updates config) bytes failure =

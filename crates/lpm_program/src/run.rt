@@ -10,7 +10,7 @@ ghost use Rattle.lpm_files.specs.Status.{status_of};
 
 use bulk::Open;
 use clap::Error;
-use lpm_commands::{apply, lookup, migrate, report, storm};
+use lpm_commands::{apply, explain, lookup, migrate, report, storm};
 use lpm_files::{Failure, Files, USAGE};
 use lpm_options::{CommandLine, Refused, options};
 use std::alloc::Global;
@@ -74,6 +74,11 @@ fn perform<'a, R: Threads + Wait + Sync, F: Files, O: Write>(
             addresses,
             config,
         } => lookup(rt, alloc, files, routes, addresses, config, &Open, out),
+        CommandLine::Explain {
+            routes,
+            addresses,
+            config,
+        } => explain(alloc, files, routes, &addresses, config, out),
         CommandLine::Apply {
             routes,
             updates,
@@ -124,13 +129,17 @@ pub fn refuse_words<E: Write>(kind: io::ErrorKind, err: &mut E) -> u8
 }
 
 // Tells why the words are no command line, and returns the exit status.
-fn refuse<O: Write, E: Write>(refused: &Refused, out: &mut O, err: &mut E) -> u8
+fn refuse<O: Write, E: Write>(refused: &Refused<'_>, out: &mut O, err: &mut E) -> u8
     ensures cause { EndsRefused refused.now result }
     ensures untouched { result ≢ 0 → result ≢ 3 → out.new ≡ out.old }
 {
     match refused {
         Refused::Usage(error) => show(error, out, err),
         Refused::Memory => fail(Failure::Memory, err),
+        Refused::BadAddress { number, word } => {
+            let _ = writeln!(err, "lpmtool: ADDRESS {number}, `{word}`: bad address");
+            USAGE
+        }
         Refused::TwoStandardInputs => {
             let _ = writeln!(err, "lpmtool: only one file can be `-`, standard input");
             USAGE

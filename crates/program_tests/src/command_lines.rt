@@ -1,8 +1,8 @@
 //! The tests of `lpm_options`: what words of the command line ask for.
 
-use super::asserting::assert_at;
+use super::asserting::{assert_at, assert_shown};
 use lpm_limits::Config;
-use lpm_options::{CommandLine, options};
+use lpm_options::{CommandLine, Refused, options};
 use std::alloc::Global;
 use std::process::Abort;
 use std::test::Fail;
@@ -25,13 +25,16 @@ fn numbers_of(config: Config) -> Numbers {
 // The command's name, its files and its numbers; no file and no number is empty and 0.
 type Line<'a> = (&'static str, [&'a str; 3], Numbers);
 
-fn parts<'a>(line: CommandLine<'a>) -> Line<'a> {
-    match line {
+fn parts<'a>(line: &CommandLine<'a>) -> Line<'a> {
+    match *line {
         CommandLine::Lookup {
             routes,
             addresses,
             config,
         } => ("lookup", [routes, addresses, ""], numbers_of(config)),
+        CommandLine::Explain { routes, config, .. } => {
+            ("explain", [routes, "", ""], numbers_of(config))
+        }
         CommandLine::Apply {
             routes,
             updates,
@@ -65,7 +68,7 @@ fn assert_asks(
     wanted: Line<'_>,
 ) -> Result<(), Fail> {
     let line = options(alloc, words).map_err(|_| "refused")?;
-    assert_at(rt, words, parts(line), wanted);
+    assert_at(rt, words, parts(&line), wanted);
     Ok(())
 }
 
@@ -242,8 +245,8 @@ fn report_with_its_defaults_and_each_option(rt: HostRuntime) -> Result<(), Fail>
 }
 
 // The rounds of a storm, and whether it has a stuck worker.
-fn storm_parts(line: CommandLine<'_>) -> Option<(usize, bool)> {
-    match line {
+fn storm_parts(line: &CommandLine<'_>) -> Option<(usize, bool)> {
+    match *line {
         CommandLine::Storm {
             rounds,
             has_stuck_worker,
@@ -357,11 +360,11 @@ const STORMS: [AskedStorm; 11] = [
 fn assert_storm(rt: &impl Abort, alloc: Global, row: &AskedStorm) -> Result<(), Fail> {
     let (words, numbers, rounds, has_stuck_worker) = *row;
     let line = options(alloc, words).map_err(|_| "refused")?;
-    assert_at(rt, words, parts(line), ("storm", ["r", "u", "a"], numbers));
+    assert_at(rt, words, parts(&line), ("storm", ["r", "u", "a"], numbers));
     assert_at(
         rt,
         words,
-        storm_parts(line),
+        storm_parts(&line),
         Some((rounds, has_stuck_worker)),
     );
     Ok(())
@@ -373,6 +376,85 @@ fn storm_with_its_defaults_and_each_option(rt: HostRuntime) -> Result<(), Fail> 
         assert_storm(&rt, rt.alloc(), row)?;
     }
     Ok(())
+}
+
+const EXPLAINS: [Asked; 4] = [
+    (&["lpmtool", "explain", "r", "10.1.2.3"], DEFAULTS),
+    (
+        &[
+            "lpmtool", "explain", "--rules", "2", "r", "0.0.0.0", "1.2.3.4",
+        ],
+        [2, 256, 1, 32, 16],
+    ),
+    (
+        &[
+            "lpmtool",
+            "explain",
+            "r",
+            "0.0.0.0",
+            "--groups=3",
+            "1.2.3.4",
+        ],
+        [1_048_576, 3, 1, 32, 16],
+    ),
+    (
+        &["lpmtool", "explain", "--", "r", "255.255.255.255"],
+        DEFAULTS,
+    ),
+];
+
+#[test]
+fn explain_with_its_defaults_and_each_option(rt: HostRuntime) -> Result<(), Fail> {
+    all_ask(&rt, rt.alloc(), "explain", ["r", "", ""], &EXPLAINS)
+}
+
+// The words ask for an explanation of these addresses.
+fn assert_addresses(rt: &impl Abort, line: &CommandLine<'_>, wanted: &[u32]) {
+    match line {
+        CommandLine::Explain { addresses, .. } => {
+            assert!(rt; addresses.as_slice() == wanted);
+        }
+        _ => assert!(rt; false, "another command"),
+    }
+}
+
+#[test]
+fn explain_has_addresses(rt: HostRuntime) -> Result<(), Fail> {
+    let words = [
+        "lpmtool",
+        "explain",
+        "r",
+        "10.1.2.3",
+        "0.0.0.0",
+        "--rules",
+        "7",
+        "255.255.255.255",
+        "10.1.2.3",
+    ];
+    let line = options(rt.alloc(), &words).map_err(|_| "refused")?;
+    assert_addresses(&rt, &line, &[0x0a01_0203, 0, 0xffff_ffff, 0x0a01_0203]);
+    Ok(())
+}
+
+// The place of the first word that is no address, and the word.
+fn bad_address<'a>(refused: &Refused<'a>) -> Option<(usize, &'a str)> {
+    match *refused {
+        Refused::BadAddress { number, word } => Some((number, word)),
+        _ => None,
+    }
+}
+
+#[test]
+fn explain_names_the_word_that_is_no_address(rt: HostRuntime) -> Result<(), Fail> {
+    let words = ["lpmtool", "explain", "r", "1.2.3.4", "1.2.3.256", "x"];
+    let refused = options(rt.alloc(), &words).err().ok_or("accepted")?;
+    assert_at(&rt, (), bad_address(&refused), Some((2, "1.2.3.256")));
+    assert_shown(
+        &rt,
+        rt.alloc(),
+        &refused,
+        "ADDRESS 2, `1.2.3.256`: bad address",
+    )
 }
 
 const MIGRATES: [Asked; 2] = [

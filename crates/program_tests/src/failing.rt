@@ -24,6 +24,8 @@ const FILES: [Named<'static>; 4] = [
 
 const LOOKUP: &str = "lpmtool lookup r a";
 
+const EXPLAIN: &str = "lpmtool explain r 10.1.1.1";
+
 const APPLY: &str = "lpmtool apply r u a";
 
 const REPORT: &str = "lpmtool report r u";
@@ -34,9 +36,10 @@ const MIGRATE: &str = "lpmtool migrate o";
 
 // A command, and each of its files with the number of reads that are made of it: one for each byte,
 // and one that finds the end.
-static READS: [(&str, &str, usize); 11] = [
+static READS: [(&str, &str, usize); 12] = [
     (LOOKUP, "r", 14),
     (LOOKUP, "a", 19),
+    (EXPLAIN, "r", 14),
     (APPLY, "r", 14),
     (APPLY, "u", 21),
     (APPLY, "a", 19),
@@ -92,8 +95,13 @@ fn reads_that_fail(rt: HostRuntime) -> Result<(), Fail> {
 }
 
 // A command, its text, and the number of writes of at most three bytes that it takes.
-static WRITES: [(&str, &str, usize); 4] = [
+static WRITES: [(&str, &str, usize); 5] = [
     (LOOKUP, "10.1.1.1 1\n11.0.0.0 -\n", 8),
+    (
+        EXPLAIN,
+        "address 10.1.1.1\nhop 1\nrule 10.0.0.0/8\ntbl24 655617 0x21000001\n",
+        21,
+    ),
     (APPLY, "flushed 1\n10.1.1.1 -\n11.0.0.0 -\n", 11),
     (
         REPORT,

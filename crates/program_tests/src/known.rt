@@ -2,13 +2,14 @@
 ghost use Rattle.std.specs.Prelude.{Some, ◌≡◌, ◌++◌, true, false, ℕ, List};
 ghost use Rattle.lpm_limits.specs.Limits.{IsConfig};
 ghost use Rattle.lpm_commands.specs.Lookup.{IsLookupText};
+ghost use Rattle.lpm_commands.specs.Explain.{IsExplainText};
 ghost use Rattle.lpm_commands.specs.Apply.{IsApplyText};
 ghost use Rattle.lpm_commands.specs.Report.{IsReportText};
 ghost use Rattle.lpm_commands.specs.Storm.{IsStormText};
 ghost use Rattle.lpm_commands.specs.Migrate.{IsMigrateText};
 
 use bulk::{Gate, Open};
-use lpm_commands::{apply, lookup, migrate, report, storm};
+use lpm_commands::{apply, explain, lookup, migrate, report, storm};
 use lpm_files::Files;
 use qsbr::Config;
 use std::alloc::Global;
@@ -71,6 +72,23 @@ pub(crate) fn known_lookup<R: Threads + Sync, G: Gate>(
 {
     let files = Paths { alloc };
     lookup(rt, alloc, &files, routes, addresses, config, gate, out).is_ok()
+}
+
+/// `explain` where the bytes are known.
+fn known_explain(
+    alloc: Global,
+    routes: &str,
+    addrs: &[u32],
+    config: Config,
+    out: &mut Vec<u8>,
+) -> bool
+    requires { IsConfig config }
+    ensures { result ≡ true → (text : List ℕ)
+        × IsExplainText config (Some routes.now) addrs.now text
+        × (out.new.items ≡ out.old.items ++ text) }
+{
+    let files = Paths { alloc };
+    explain(alloc, &files, routes, addrs, config, out).is_ok()
 }
 
 /// `apply` where the bytes are known.
@@ -154,8 +172,11 @@ const ADDRESSES: &str = "10.1.1.128\n";
 
 const OLD: &str = "del 1.2.3.4/8\n";
 
-// What the five commands write, one after the other.
-const TEXT: &str = "10.1.1.128 3\ndeleted 3\n10.1.1.128 1\n\
+// What the six commands write, one after the other.
+const TEXT: &str = "10.1.1.128 3\n\
+    address 10.1.1.128\nhop 3\nrule 10.1.1.128/25\ncover 10.0.0.0/8 1\n\
+    tbl24 655617 0x03000000\ngroup 0\ntbl8 128 0x65000003\n\
+    deleted 3\n10.1.1.128 1\n\
     rules 1\nversions 3\nin use 0\nlimbo 1\nfree 255\ntoken 2\n\
     answers 2\nrefused 0\nwrong 0\n\
     rules 1\nversions 3\nin use 0\nlimbo 0\nfree 256\ntoken 3\n\
@@ -167,11 +188,12 @@ pub(crate) fn assert_wrote(rt: &impl Abort, is_done: bool, out: &[u8], text: &st
     assert_eq!(rt; str::from_utf8(out), Ok(text));
 }
 
-// Runs the five commands. Which of them were done.
-fn run_each<R: Threads + Wait + Sync>(rt: &R, alloc: Global, out: &mut Vec<u8>) -> [bool; 5] {
+// Runs the six commands. Which of them were done.
+fn run_each<R: Threads + Wait + Sync>(rt: &R, alloc: Global, out: &mut Vec<u8>) -> [bool; 6] {
     let config = Config::default();
     [
         known_lookup(rt, alloc, ROUTES, ADDRESSES, config, &Open, out),
+        known_explain(alloc, ROUTES, &[0x0a01_0180], config, out),
         known_apply(rt, alloc, ROUTES, UPDATES, ADDRESSES, config, &Open, out),
         known_report(alloc, ROUTES, UPDATES, config, out),
         known_storm(rt, alloc, ROUTES, UPDATES, ADDRESSES, config, 2, &Open, out),
@@ -183,5 +205,5 @@ fn run_each<R: Threads + Wait + Sync>(rt: &R, alloc: Global, out: &mut Vec<u8>) 
 fn known_bytes_in_and_out(rt: HostRuntime) {
     let mut out = Vec::new(rt.alloc());
     let done = run_each(&rt, rt.alloc(), &mut out);
-    assert_wrote(&rt, done == [true; 5], &out, TEXT);
+    assert_wrote(&rt, done == [true; 6], &out, TEXT);
 }

@@ -13,6 +13,8 @@ mod cases;
 #[cfg(test)]
 mod command_lines;
 #[cfg(test)]
+mod explaining;
+#[cfg(test)]
 mod failing;
 #[cfg(test)]
 mod fakes;

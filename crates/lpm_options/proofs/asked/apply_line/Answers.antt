@@ -5,11 +5,11 @@ use Rattle.lpm_options.proofs.asked.apply_line.Goals as goal
 
 pub returns-in_err-routes-clause-none : goal.returns-in_err-routes-clause-none
 returns-in_err-routes-clause-none c = λ _ line asks.
-    no_files (codes "apply") (rows_of (found_of c.args.found.now)) line asks (λ e. absurd cc) (λ e. absurd cc) (λ e. absurd cc) (c.in_err-routes.ensures.none (search rules))
+    no_files (codes "apply") (rows_of (found_of c.args.found.now)) line asks (λ e. absurd cc) (λ e. absurd cc) (λ e. absurd cc) (λ e. absurd cc) (c.in_err-routes.ensures.none (search rules))
 
 pub returns-in_err-config-clause-none : goal.returns-in_err-config-clause-none
 returns-in_err-config-clause-none c = λ _ line asks.
-    let limits = limits_of (codes "apply") (rows_of (found_of c.args.found.now)) line asks (λ e. absurd cc) in
+    let limits = limits_of (codes "apply") (rows_of (found_of c.args.found.now)) line asks (λ e. absurd cc) (λ e. absurd cc) in
     c.in_err-config.ensures.none (search rules) limits.0 limits.1
 
 pub returns-clause-asked : goal.returns-clause-asked

@@ -5,7 +5,7 @@ use Rattle.lpm_options.proofs.asked.lookup_line.Goals as goal
 
 pub returns-in_err-config-clause-none : goal.returns-in_err-config-clause-none
 returns-in_err-config-clause-none c = λ _ line asks.
-    let limits = limits_of (codes "lookup") (rows_of (found_of c.args.found.now)) line asks (λ e. absurd cc) in
+    let limits = limits_of (codes "lookup") (rows_of (found_of c.args.found.now)) line asks (λ e. absurd cc) (λ e. absurd cc) in
     c.in_err-config.ensures.none (search rules) limits.0 limits.1
 
 pub returns-clause-asked : goal.returns-clause-asked

@@ -3,4 +3,4 @@ use Rattle.lpm_options.proofs.commands.with_sizes.Goals as goal
 
 pub returns : goal.returns
 unfolding digits
-returns c = λ app made. c.with_number.ensures _ (c.with_number-made-2.ensures _ (c.with_number-made.ensures app made))
+returns c = λ app made. c.with_number.ensures _ (c.with_room-made.ensures app made)

@@ -9,6 +9,15 @@ returns-in-Lookup-clause-begun g c = rw c.in-Lookup.is c.lookup.ensures.beginnin
 pub returns-in-Lookup-clause-failure : goal.returns-in-Lookup-clause-failure
 returns-in-Lookup-clause-failure g c = rw c.in-Lookup.is c.lookup.ensures.failure
 
+pub returns-in-Explain-clause-done : goal.returns-in-Explain-clause-done
+returns-in-Explain-clause-done g c = rw (c.in-Explain.is, ← c.deref.ensures.value) c.explain.ensures.done
+
+pub returns-in-Explain-clause-begun : goal.returns-in-Explain-clause-begun
+returns-in-Explain-clause-begun g c = rw (c.in-Explain.is, ← c.deref.ensures.value) c.explain.ensures.beginning
+
+pub returns-in-Explain-clause-failure : goal.returns-in-Explain-clause-failure
+returns-in-Explain-clause-failure g c = rw c.in-Explain.is c.explain.ensures.failure
+
 pub returns-in-Apply-clause-done : goal.returns-in-Apply-clause-done
 returns-in-Apply-clause-done g c = rw c.in-Apply.is c.apply.ensures.done
 

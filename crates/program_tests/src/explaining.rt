@@ -1,0 +1,127 @@
+//! What explains an answer: the rules that cover an address, and the words that its lookup reads.
+
+use super::asserting::assert_at;
+use super::cases::assert_ends;
+use super::fakes::whole;
+use lpm_bits::{Hop, Prefix};
+use lpm_cells::{Cells, PlainCells};
+use lpm_commands::{covering_rules, reading};
+use lpm_entry::Entry;
+use lpm_rules::{Rule, Rules};
+use output_text::{Reading, SecondWord};
+use std::alloc::Global;
+use std::process::Abort;
+use std::test::Fail;
+
+// Rules of addresses of eight bits: bits, length and next hop.
+const RULES: [(u32, u32, u32); 6] = [
+    (0xa0, 3, 1),
+    (0x00, 0, 2),
+    (0xa6, 8, 3),
+    (0xa0, 4, 4),
+    (0xb0, 4, 5),
+    (0xa4, 6, 6),
+];
+
+// An address, and the lengths and next hops of the rules that cover it.
+static COVERED: [(u32, &[(u32, u32)]); 5] = [
+    (0xa6, &[(8, 3), (6, 6), (4, 4), (3, 1), (0, 2)]),
+    (0xa7, &[(6, 6), (4, 4), (3, 1), (0, 2)]),
+    (0xa8, &[(4, 4), (3, 1), (0, 2)]),
+    (0xbf, &[(4, 5), (3, 1), (0, 2)]),
+    (0xff, &[(0, 2)]),
+];
+
+fn rule(rt: &impl Abort, bits: u32, len: u32, hop: u32) -> Rule<4, 4> {
+    Rule {
+        prefix: Prefix::new(bits, len).expect(rt, "a length"),
+        hop: Hop::new(hop).expect(rt, "a next hop"),
+    }
+}
+
+fn put_all(rt: &impl Abort, rules: &mut Rules<4, 4>) {
+    for (bits, len, hop) in &RULES {
+        let new = rule(rt, *bits, *len, *hop);
+        rules.put(&new.prefix, new.hop).expect(rt, "room");
+    }
+}
+
+// The rules are those of these lengths and next hops, and each is a prefix of the address.
+fn assert_rules(rt: &impl Abort, addr: u32, found: &[Rule<4, 4>], wanted: &[(u32, u32)]) {
+    assert_eq!(rt; found.len(), wanted.len());
+    for (got, (len, hop)) in found.iter().zip(wanted) {
+        assert_at(rt, addr, *got, rule(rt, addr, *len, *hop));
+    }
+}
+
+#[test]
+fn all_rules_that_cover(rt: HostRuntime) -> Result<(), Fail> {
+    let mut rules = Rules::new(rt.alloc(), 6);
+    put_all(&rt, &mut rules);
+    for (addr, wanted) in &COVERED {
+        let found = covering_rules(rt.alloc(), &rules, *addr)?;
+        assert_rules(&rt, *addr, &found, wanted);
+    }
+    Ok(())
+}
+
+#[test]
+fn no_rule_covers(rt: HostRuntime) -> Result<(), Fail> {
+    let rules = Rules::<4, 4>::new(rt.alloc(), 6);
+    assert!(rt; covering_rules(rt.alloc(), &rules, 0xa6)?.is_empty());
+    Ok(())
+}
+
+#[test]
+fn one_word_or_two(rt: HostRuntime) -> Result<(), Fail> {
+    let mut cells = PlainCells::<4, 4>::new(rt.alloc(), 2)?;
+    let group = Entry::Group(1).to_word();
+    cells.set_first(0xa, group);
+    let hop = Hop::new(5).expect(&rt, "a next hop");
+    let word = Entry::Hop { hop, depth: 7 }.to_word();
+    cells.set_second(0x16, word);
+    let second = SecondWord {
+        group: 1,
+        index: 0x16,
+        word: 0x1d00_0005,
+    };
+    let two = Reading {
+        index: 0xa,
+        word: 0x0300_0001,
+        second: Some(second),
+    };
+    let one = Reading {
+        index: 0xb,
+        word: 0,
+        second: None,
+    };
+    assert_at(&rt, 0xa6, reading(&cells, 0xa6), two);
+    assert_at(&rt, 0xb6, reading(&cells, 0xb6), one);
+    Ok(())
+}
+
+// How many routes the file has.
+const MANY: u32 = 100_000;
+
+// A route for each block from 1.0.0.0 on, with its number as the next hop.
+fn many_routes(alloc: Global) -> Result<Vec<u8>, Fail> {
+    let mut bytes = Vec::new(alloc);
+    for number in 0..MANY {
+        let block = number.saturating_add(65_536);
+        let (a, b, c) = (block / 65_536, block / 256 % 256, block % 256);
+        let line = format!(in alloc; "{a}.{b}.{c}.0/24 {number}\n")?;
+        bytes.extend_from_slice(line.as_bytes())?;
+    }
+    Ok(bytes)
+}
+
+const AMONG_MANY: &str = "address 1.0.0.255\nhop 0\nrule 1.0.0.0/24\ntbl24 65536 0x61000000\n\
+    address 2.134.159.0\nhop 99999\nrule 2.134.159.0/24\ntbl24 165535 0x6101869f\n";
+
+#[test]
+fn explains_among_many_routes(rt: HostRuntime) -> Result<(), Fail> {
+    let routes = many_routes(rt.alloc())?;
+    let files = [("r", routes.as_slice())];
+    let line = "lpmtool explain r 1.0.0.255 2.134.159.0";
+    assert_ends(&rt, line, line, &whole(&files), (0, AMONG_MANY, ""))
+}
