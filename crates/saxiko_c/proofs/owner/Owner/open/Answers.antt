@@ -20,3 +20,6 @@ returns-in-Ok-new-clause-bench c =
     let own = ap (λ (w : WriterState). w.identity) c.in-Ok.ensures.opened in
     subst (λ (o : OwnerState). IsFullBench o.writer.identity o.bench) (sym c.new-in-Ok-new.ensures)
     (subst (λ (i : Identity). IsFullBench i c.in-Ok.bench) (sym own) c.in-Ok.ensures.bench)
+
+pub returns-in-Err-new-clause-bad_config : goal.returns-in-Err-new-clause-bad_config
+returns-in-Err-new-clause-bad_config c = (λ bad. cc bad, λ no. absurd (no c.in-Ok.ensures.limits))
