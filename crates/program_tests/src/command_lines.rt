@@ -67,7 +67,9 @@ fn assert_asks(
     words: &[&str],
     wanted: Line<'_>,
 ) -> Result<(), Fail> {
-    let line = options(alloc, words).map_err(|_| "refused")?;
+    let Ok(line) = options(alloc, words) else {
+        panic!(rt; "refused");
+    };
     assert_at(rt, words, parts(&line), wanted);
     Ok(())
 }
@@ -359,7 +361,9 @@ const STORMS: [AskedStorm; 11] = [
 // The row's words ask for this storm.
 fn assert_storm(rt: &impl Abort, alloc: Global, row: &AskedStorm) -> Result<(), Fail> {
     let (words, numbers, rounds, has_stuck_worker) = *row;
-    let line = options(alloc, words).map_err(|_| "refused")?;
+    let Ok(line) = options(alloc, words) else {
+        panic!(rt; "refused");
+    };
     assert_at(rt, words, parts(&line), ("storm", ["r", "u", "a"], numbers));
     assert_at(
         rt,
@@ -431,7 +435,9 @@ fn explain_has_addresses(rt: HostRuntime) -> Result<(), Fail> {
         "255.255.255.255",
         "10.1.2.3",
     ];
-    let line = options(rt.alloc(), &words).map_err(|_| "refused")?;
+    let Ok(line) = options(rt.alloc(), &words) else {
+        panic!(rt; "refused");
+    };
     assert_addresses(&rt, &line, &[0x0a01_0203, 0, 0xffff_ffff, 0x0a01_0203]);
     Ok(())
 }

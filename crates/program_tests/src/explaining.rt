@@ -1,14 +1,11 @@
-//! What explains an answer: the rules that cover an address, and the words that its lookup reads.
+//! What explains an answer: the rules that cover an address.
 
 use super::asserting::assert_at;
 use super::cases::assert_ends;
 use super::fakes::whole;
 use lpm_bits::{Hop, Prefix};
-use lpm_cells::{Cells, PlainCells};
-use lpm_commands::{covering_rules, reading};
-use lpm_entry::Entry;
+use lpm_commands::covering_rules;
 use lpm_rules::{Rule, Rules};
-use output_text::{Reading, SecondWord};
 use std::alloc::Global;
 use std::process::Abort;
 use std::test::Fail;
@@ -33,6 +30,7 @@ static COVERED: [(u32, &[(u32, u32)]); 5] = [
 ];
 
 fn rule(rt: &impl Abort, bits: u32, len: u32, hop: u32) -> Rule<4, 4> {
+    assert!(rt; bits < 256);
     Rule {
         prefix: Prefix::new(bits, len).expect(rt, "a length"),
         hop: Hop::new(hop).expect(rt, "a next hop"),
@@ -69,34 +67,6 @@ fn all_rules_that_cover(rt: HostRuntime) -> Result<(), Fail> {
 fn no_rule_covers(rt: HostRuntime) -> Result<(), Fail> {
     let rules = Rules::<4, 4>::new(rt.alloc(), 6);
     assert!(rt; covering_rules(rt.alloc(), &rules, 0xa6)?.is_empty());
-    Ok(())
-}
-
-#[test]
-fn one_word_or_two(rt: HostRuntime) -> Result<(), Fail> {
-    let mut cells = PlainCells::<4, 4>::new(rt.alloc(), 2)?;
-    let group = Entry::Group(1).to_word();
-    cells.set_first(0xa, group);
-    let hop = Hop::new(5).expect(&rt, "a next hop");
-    let word = Entry::Hop { hop, depth: 7 }.to_word();
-    cells.set_second(0x16, word);
-    let second = SecondWord {
-        group: 1,
-        index: 0x16,
-        word: 0x1d00_0005,
-    };
-    let two = Reading {
-        index: 0xa,
-        word: 0x0300_0001,
-        second: Some(second),
-    };
-    let one = Reading {
-        index: 0xb,
-        word: 0,
-        second: None,
-    };
-    assert_at(&rt, 0xa6, reading(&cells, 0xa6), two);
-    assert_at(&rt, 0xb6, reading(&cells, 0xb6), one);
     Ok(())
 }
 
