@@ -13,10 +13,32 @@ static void texts(void) {
     CHECK(strcmp(saxiko_strerror(INT32_MIN), "unknown status"), 0);
 }
 
+/* Both tables open with a list of many routes: one for each block from 1.0.0.0 on. */
+static void many_routes(void) {
+    enum { MANY = 300000 };
+    static struct saxiko_route routes[MANY];
+    struct saxiko_config config = SAXIKO_DEFAULTS;
+    struct saxiko_table table = SAXIKO_CLOSED;
+    struct saxiko_writer writer = SAXIKO_CLOSED;
+    uint32_t hop = 0;
+    size_t bad;
+    for (uint32_t k = 0; k < MANY; k++)
+        routes[k] = (struct saxiko_route){.addr = 0x01000000 + k * 256, .hop = k, .depth = 24};
+    CHECK(saxiko_table_load(&table, &config, routes, MANY, &bad), 0);
+    CHECK(saxiko_table_lookup(&table, routes[MANY - 1].addr + 9, &hop), 0);
+    CHECK(hop, MANY - 1);
+    saxiko_table_close(&table);
+    CHECK(saxiko_writer_load(&writer, &config, routes, MANY, &bad), 0);
+    CHECK(saxiko_writer_get(&writer, routes[MANY - 1].addr, 24, &hop), 0);
+    CHECK(hop, MANY - 1);
+    saxiko_writer_close(&writer);
+}
+
 int main(void) {
     table_calls();
     running_calls();
     rte_lpm_calls();
     texts();
+    many_routes();
     return end_of_checks("calls");
 }
