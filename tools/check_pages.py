@@ -22,6 +22,7 @@ Each fault is printed as `FILE:LINE: what`, and any makes the exit status 1. Che
 - excerpts: where a path stands behind the language of a fenced block, each line of the block is a line of that file.
 - calls: the last name of `A::b` is a member of a type or trait `A`, or stands in a module or crate `A`; also in blocks
   of rust.
+- the kit: `logic SUM` in backticks is how the line of `rt version` ends; looked at where commands are run.
 - names: those in the columns of NAMES, and in prose those with an underscore or with two capitals (`IsStorm`), are
   declared: as a function, a type or its part, a clause, a module or a definition in src or specs, as a must-fail edit,
   or a crate. On a crate's page that is: in this crate, in one that it stands on, or in one that the page names.
@@ -292,6 +293,19 @@ def check_runs(page, program):
     for block in blocks(page):
         if commands(block):
             yield from check_block(page, block, program)
+    yield from check_kit(page)
+
+
+@functools.cache
+def kit():
+    """The line that `rt version` prints."""
+    return subprocess.run(["rt", "version"], stdout=subprocess.PIPE, text=True).stdout.strip()
+
+
+def check_kit(page):
+    for mark in marks(page):
+        if re.fullmatch("logic [0-9a-f]+", mark.text) and not kit().endswith(f" {mark.text}"):
+            yield Fault(page.path, mark.line, f"`rt version` prints `{kit()}`, which doesn't end with `{mark.text}`")
 
 
 def check_links(page):
@@ -461,7 +475,9 @@ def faults(page, program):
 # A page, a text that stands on it, what stands there in its place, and what the fault says of it.
 Plant = namedtuple("Plant", "path old new told")
 WRONG_OUTPUT = "and not\n"
+WRONG_KIT = "which doesn't end with"
 PLANTS = [
+    Plant("README.md", "`logic ", "`logic 0", WRONG_KIT),
     Plant("README.md", "\n10.1.1.128 6\n", "\n10.1.1.128 3\n", WRONG_OUTPUT),
     Plant("docs/FORMATS.md", "\nreclaimed 1\n", "\nreclaimed 2\n", WRONG_OUTPUT),
     Plant("README.md", "](docs/FORMATS.md#words)", "](docs/FORMAT.md#words)", "leads to no file: docs/FORMAT.md#words"),
@@ -529,8 +545,8 @@ def check_page(page, program):
 
 def self_test(program):
     """Whether each planted fault is found, and each page that is made up is judged rightly."""
-    # (a wrong output is planted on a page only where a program is there to run)
-    plants = [it for it in PLANTS if program or it.told != WRONG_OUTPUT]
+    # (a wrong output or kit is planted on a page only where commands are run)
+    plants = [it for it in PLANTS if program or it.told not in (WRONG_OUTPUT, WRONG_KIT)]
     judged = [(f"{it.path}: {it.new!r} for {it.old!r} isn't found", is_found(it, program)) for it in plants]
     judged += [(f"a page that is made up is misjudged: {text!r}", is_judged(text, told)) for text, told in SAMPLES]
     for text, is_well in judged:
