@@ -9,17 +9,17 @@ What fails is printed, and makes the exit status 1. Checked are
   range and default, the commands with their operands, and the same exit statuses, and no others.
 - words: the completions of each shell have these commands and options, and no others.
 - completion: bash offers the options of a command that aren't given yet, as many files as the command wants, and
-  neither where a number is wanted.
+  neither where a number is wanted. fish offers the commands, and the options of each.
 - installing: from a copy of the repository's files under a folder, the program runs and each file is in place, with
   DESTDIR too, and with the library for C programs and without it. After --uninstall nothing is left but what was there
   before. Where nothing is built it says so.
 - the first look: tools/lpmtool is the built program, and answers the addresses of examples/. Where nothing is built it
   says that what follows is unproved, and hands words and files to `rt try`, of which a stand-in takes note here.
-- form: mandoc's lint has nothing to say of the manual pages, and zsh and fish read their completions. Each is checked
-  only where that program is installed.
+- form: mandoc's lint has nothing to say of the manual pages, man shows them without a warning, and zsh and fish read
+  their completions. Each is checked only where that program is installed.
 
-The program that is installed is the built one, or a stand-in where none is there. Not seen: what zsh and fish offer at
-a place, and whether the shells look for their completions where these are put.
+The program that is installed is the built one, or a stand-in where none is there. Not seen: what zsh offers at a place,
+where fish offers files, and whether the shells look for their completions where these are put.
 """
 import argparse
 import contextlib
@@ -61,6 +61,17 @@ while IFS= read -r line; do
 done
 complete -p lpmtool
 """
+
+# Prints what fish offers for each line.
+TRY_FISH = r"""
+source $argv[1]
+while read line
+    set offers (complete -C $line | string replace -r "\t.*" "")
+    printf "%s\n" "$offers"
+end
+"""
+# man's warnings, without the page.
+TRY_MAN = 'LC_ALL=C.UTF-8 man --warnings -l "$1" 2>&1 > /dev/null'
 
 # The names, in order: what a command wants, which of these are files, and its options.
 Command = namedtuple("Command", "operands files options")
@@ -162,6 +173,13 @@ def check_form():
             yield f"{manual}: {told}"
 
 
+def check_shown():
+    for manual in (MANUAL, LIBRARY_MANUAL):
+        status, told = run(["sh", "-c", TRY_MAN, "sh", manual])
+        if status or told:
+            yield f"man of {manual} ends with {status}: {told}"
+
+
 # ---- the completions
 
 def check_words():
@@ -197,6 +215,18 @@ def check_bash():
         yield f"bash: {told}"
     yield from differences("bash", {line: sorted(it) for line, it in lines().items()},
                            {line: sorted(it.split()) for line, it in zip(lines(), offers)})
+
+
+def check_fish():
+    wanted = {"lpmtool ": [*commands(), "help"], "lpmtool help ": [*commands(), "help"], "lpmtool help lookup ": []}
+    wanted |= {f"lpmtool {name} --": [f"--{it}" for it in (*command.options, "help")]
+               for name, command in commands().items()}
+    words = ["fish", "--no-config", "-c", TRY_FISH, f"{FOLDER}/lpmtool.fish"]
+    _, told = run(words, input="".join(f"{line}\n" for line in wanted))
+    if len(told.splitlines()) != len(wanted):
+        yield f"fish: {told}"
+    yield from differences("fish", {line: sorted(it) for line, it in wanted.items()},
+                           {line: sorted(it.split()) for line, it in zip(wanted, told.splitlines())})
 
 
 def check_syntax(shell):
@@ -349,7 +379,8 @@ def checks(program):
     found = [check_formats, check_manual, check_words, check_bash, check_not_built, check_unproved_look]
     found += [functools.partial(check_round, program, is_staged) for is_staged in (False, True)]
     found += [functools.partial(it, program) for it in (check_refused_words, check_first_look)]
-    found += [check_form] * bool(shutil.which("mandoc"))
+    for check, name in ((check_form, "mandoc"), (check_shown, "man"), (check_fish, "fish")):
+        found += [check] * bool(shutil.which(name))
     return found + [functools.partial(check_syntax, shell) for shell in ("zsh", "fish") if shutil.which(shell)]
 
 

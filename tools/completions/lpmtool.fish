@@ -14,7 +14,7 @@ complete -c lpmtool -n __fish_use_subcommand -a report -d 'Print what the table 
 complete -c lpmtool -n __fish_use_subcommand -a storm -d 'Look addresses up beside the updates'
 complete -c lpmtool -n __fish_use_subcommand -a migrate -d 'Print an update file of version 1 as one of version 2'
 complete -c lpmtool -n __fish_use_subcommand -a help -d 'Print the help of a command'
-complete -c lpmtool -n '__fish_seen_subcommand_from help' -a "$commands"
+complete -c lpmtool -n '__fish_seen_subcommand_from help; and test (count (commandline -opc)) = 2' -a "$commands help"
 
 complete -c lpmtool -n "__fish_seen_subcommand_from $tables explain" -l rules -x -d 'The most rules that the table holds'
 complete -c lpmtool -n "__fish_seen_subcommand_from $tables explain" -l groups -x -d 'The number of groups'
