@@ -12,7 +12,7 @@ What fails is printed, and makes the exit status 1. Checked are
   neither where a number is wanted. fish offers the commands, and the options of each.
 - installing: from a copy of the repository's files under a folder, the program runs and each file is in place, with
   DESTDIR too, and with the library for C programs and without it. After --uninstall nothing is left but what was there
-  before. Where nothing is built it says so.
+  before. Where nothing is built it says so. pkg-config, where it is installed, tells the library's folders and version.
 - the first look: tools/lpmtool is the built program, and answers the addresses of examples/. Where nothing is built it
   says that what follows is unproved, and hands words and files to `rt try`, of which a stand-in takes note here.
 - form: mandoc's lint has nothing to say of the manual pages, man shows them without a warning, and zsh and fish read
@@ -27,6 +27,7 @@ import functools
 import os
 import pathlib
 import re
+import shlex
 import shutil
 import subprocess
 import sys
@@ -326,6 +327,18 @@ def check_round(program, is_staged):
                 yield f"with DESTDIR there is {prefix}"
 
 
+def check_pkg_config(program):
+    """What pkg-config tells of the installed library."""
+    with copied(program, has_library=True) as folder:
+        install(folder, "--prefix", "new")
+        given = {"env": {**os.environ, "PKG_CONFIG_PATH": f"{folder}/new/lib/pkgconfig"}}
+        _, version = run(["pkg-config", "--modversion", "saxiko"], **given)
+        _, flags = run(["pkg-config", "--cflags", "--libs", "saxiko"], **given)
+        wanted = [f"-I{folder}/new/include", f"-L{folder}/new/lib", "-lsaxiko"]
+        if version != f"{VERSION}\n" or shlex.split(flags) != wanted:
+            yield f"pkg-config tells version {version} and flags {flags}"
+
+
 def check_not_built():
     with copied(None) as folder:
         status, told = install(folder, "--prefix", "new")
@@ -379,6 +392,7 @@ def checks(program):
     found = [check_formats, check_manual, check_words, check_bash, check_not_built, check_unproved_look]
     found += [functools.partial(check_round, program, is_staged) for is_staged in (False, True)]
     found += [functools.partial(it, program) for it in (check_refused_words, check_first_look)]
+    found += [functools.partial(check_pkg_config, program)] * bool(shutil.which("pkg-config"))
     for check, name in ((check_form, "mandoc"), (check_shown, "man"), (check_fish, "fish")):
         found += [check] * bool(shutil.which(name))
     return found + [functools.partial(check_syntax, shell) for shell in ("zsh", "fish") if shutil.which(shell)]
