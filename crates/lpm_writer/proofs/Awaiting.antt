@@ -20,6 +20,7 @@ use Rattle.lpm_writer.specs.Resting.{IsResting}
 use Rattle.lpm_writer.specs.Synchronizing.{IsAwaited, IsWaiting, AreStopped, Synchronizes}
 use Rattle.lpm_writer.proofs.Checks.{HasPassed, quiet_on, check_passes, check_stops}
 use Rattle.lpm_writer.proofs.Keeping.{kept_quiet}
+use Rattle.lpm_writer.proofs.Once.{nothing_bumped, after_check}
 use Rattle.lpm_writer.proofs.Rests.{even_not, rests_quiet}
 
 -- ---- the token is started
@@ -78,6 +79,7 @@ module _ (f s : ℕ) (c : Setup) (config : Config) (rules : RuleList) (books : B
         passed = refl;
         unpassed = omega (arith, low);
         due = awaited_started c steps written rest.between.idle;
+        once = (nothing_bumped steps).once rest.between.once;
       }
 
   module _ (steps : List WriterStep) (wait : IsWaiting f s c steps config rules books begun) where
@@ -118,6 +120,7 @@ module _ (f s : ℕ) (c : Setup) (config : Config) (rules : RuleList) (books : B
               awaited = λ some. (stop.again (tables c steps).token (wait.due.awaited some)).1 ∙ ap Some (sym t);
               next = first (eqb (tables c later).scan.token (tables c later).token) (tables c later).scan.next stop.next;
             };
+            once = (after_check does c (m, steps) (tables c steps).token (Err busy) (z, later) checks).once wait.once;
           }
         where
           first : (b : Bool) (n : ℕ) → n ≡ 0 → cond b n 0 ≡ 0
@@ -132,7 +135,8 @@ module _ (f s : ℕ) (c : Setup) (config : Config) (rules : RuleList) (books : B
           let rest = wait.rested in
           let more : (tables c wait.older).passed ≤ (tables c later).passed = let a = wait.passed in let b = pass.more in omega (arith, a, b) in
           let k = kept_quiet c (tables c wait.older) (tables c later) (tables c wait.older).token books.groups books.queue.items None quiet.groups more rest.keeps.kept in
-          rests_quiet f s c wait.older later config rules books (record books { passed = passed }) begun rest quiet (idle pass) (record {
+          rests_quiet f s c wait.older later config rules books (record books { passed = passed }) begun rest quiet (idle pass)
+          ((after_check does c (m, steps) (tables c steps).token (Ok tt) (z, later) checks).once wait.once) (record {
             kept = record {
               free = k.free;
               linked = k.linked;

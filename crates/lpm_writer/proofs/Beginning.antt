@@ -73,7 +73,7 @@ module _ (f s : ℕ) (t : Words) (R : RuleMap) (xs : List GroupState) (config : 
     shape = shape;
     widths = (refl, refl);
     workers = refl;
-    between = record { idle = record { duty = refl; awaited = refl }; even = refl; clear = λ a low. refl };
+    between = record { idle = record { duty = refl; awaited = refl }; even = refl; clear = λ a low. refl; once = tt };
     version = refl;
     represents = represents;
     tied = tied;

@@ -1,6 +1,7 @@
 pub mod Limbo
 pub mod Loading
 pub mod Checks
+pub mod Once
 pub mod Keeping
 pub mod Freeing
 pub mod Reclaims

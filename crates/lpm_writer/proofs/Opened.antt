@@ -66,7 +66,7 @@ opened_rests f s config shape limits =
       shape = shape;
       widths = (refl, refl);
       workers = refl;
-      between = record { idle = record { duty = refl; awaited = refl }; even = refl; clear = λ a low. refl };
+      between = record { idle = record { duty = refl; awaited = refl }; even = refl; clear = λ a low. refl; once = tt };
       version = refl;
       represents = new.0;
       tied = new.1;

@@ -24,10 +24,12 @@ use Rattle.lpm_writer.specs.declared.books.Books.{Books}
 use Rattle.lpm_writer.specs.Waiting.{IsFreed, IsQueued, tokens_of}
 use Rattle.lpm_writer.specs.Traced.{by_writer}
 use Rattle.lpm_writer.specs.Kept.{IsIdle, IsQuiet, IsStill, Keeps}
+use Rattle.lpm_writer.specs.Stores.{StoresOnce}
 use Rattle.lpm_writer.specs.Taking.{MayTake}
 use Rattle.lpm_writer.specs.Making.{filling, unless_linked, HasWidths, IsTakenBy, answer_after}
 use Rattle.lpm_writer.specs.Changing.{IsBetween, MayChange, HasChanged}
 use Rattle.lpm_writer.specs.Resting.{IsResting, state_of}
+use Rattle.lpm_writer.proofs.Once.{StoresNothing}
 use Rattle.lpm_writer.proofs.UpdateRuns.{fit}
 
 -- a change that fills no group
@@ -176,15 +178,16 @@ even_not n p q = omega (arith, p, q)
 pub between_take : (c : Setup) (steps : List WriterStep) (books : Books) → IsBetween c steps → Keeps c steps books.groups books.queue.items books.passed None → MayTake c steps books
 between_take c steps books between keeps = record { keeps = keeps; idle = between.idle; rests = even_not (tables c steps).sequence between.even }
 
-between_quiet : (c : Setup) (steps later : List WriterStep) → IsBetween c steps → IsQuiet (tables c steps) (tables c later) → IsIdle c later → IsBetween c later
-between_quiet c steps later between quiet idle = record {
+between_quiet : (c : Setup) (steps later : List WriterStep) → IsBetween c steps → IsQuiet (tables c steps) (tables c later) → IsIdle c later → StoresOnce later → IsBetween c later
+between_quiet c steps later between quiet idle once = record {
   idle = idle;
   even = ap (λ n. n % 2) quiet.sequence ∙ between.even;
   clear = λ a low. ap (λ t. t a) quiet.turned ∙ between.clear a low;
+  once = once;
 }
 
-pub between_still : (c : Setup) (steps later : List WriterStep) → IsBetween c steps → IsStill c steps later → IsBetween c later
-between_still c steps later between still = between_quiet c steps later between still.quiet still.idle
+pub between_still : (c : Setup) (steps later : List WriterStep) → IsBetween c steps → IsStill c steps later → StoresNothing steps later → IsBetween c later
+between_still c steps later between still nothing = between_quiet c steps later between still.quiet still.idle (nothing.once between.once)
 
 version_quiet : (c : Setup) (steps later : List WriterStep) (R : RuleMap) → (tables c steps).history (done (tables c steps)) ≡ R → IsQuiet (tables c steps) (tables c later) → (tables c later).history (done (tables c later)) ≡ R
 version_quiet c steps later R version quiet =
@@ -195,14 +198,14 @@ version_still c steps later R version still = version_quiet c steps later R vers
 
 -- the token may be another
 pub rests_quiet : (f s : ℕ) (c : Setup) (steps later : List WriterStep) (config : Config) (rules : RuleList) (books new : Books) (begun : ℕ) → IsResting f s c steps config rules books begun
-    → IsQuiet (tables c steps) (tables c later) → IsIdle c later → Keeps c later new.groups new.queue.items new.passed None → IsTied f new.groups (group_at (tables c steps).words.firsts)
+    → IsQuiet (tables c steps) (tables c later) → IsIdle c later → StoresOnce later → Keeps c later new.groups new.queue.items new.passed None → IsTied f new.groups (group_at (tables c steps).words.firsts)
     → IsQueued new.groups new.queue → length new.groups ≡ length books.groups → IsResting f s c later config rules new begun
-rests_quiet f s c steps later config rules books new begun rest q idle keeps tied queued states =
+rests_quiet f s c steps later config rules books new begun rest q idle once keeps tied queued states =
     record {
       shape = rest.shape;
       widths = rest.widths;
       workers = rest.workers;
-      between = between_quiet c steps later rest.between q idle;
+      between = between_quiet c steps later rest.between q idle once;
       version = version_quiet c steps later rules.rules rest.version q;
       represents = subst (Represents f s rules.rules) (sym q.words) rest.represents;
       tied = subst (λ (W : Words). IsTied f new.groups (group_at W.firsts)) (sym q.words) tied;
@@ -220,10 +223,10 @@ rests_quiet f s c steps later config rules books new begun rest q idle keeps tie
     }
 
 pub rests_still : (f s : ℕ) (c : Setup) (steps later : List WriterStep) (config : Config) (rules : RuleList) (books new : Books) (begun : ℕ) → IsResting f s c steps config rules books begun
-    → IsStill c steps later → Keeps c later new.groups new.queue.items new.passed None → IsTied f new.groups (group_at (tables c steps).words.firsts) → IsQueued new.groups new.queue
+    → IsStill c steps later → StoresNothing steps later → Keeps c later new.groups new.queue.items new.passed None → IsTied f new.groups (group_at (tables c steps).words.firsts) → IsQueued new.groups new.queue
     → length new.groups ≡ length books.groups → IsResting f s c later config rules new begun
-rests_still f s c steps later config rules books new begun rest still keeps tied queued states =
-    rests_quiet f s c steps later config rules books new begun rest still.quiet still.idle keeps tied queued states
+rests_still f s c steps later config rules books new begun rest still nothing keeps tied queued states =
+    rests_quiet f s c steps later config rules books new begun rest still.quiet still.idle (nothing.once rest.between.once) keeps tied queued states
 
 -- groups that no block has were freed
 pub tied_freed : (f n : ℕ) (xs ys : List GroupState) (items : List (ℕ × ℕ)) (L : ℕ → Option ℕ) → IsFreed xs items n ys → IsTied f xs L → IsTied f ys L

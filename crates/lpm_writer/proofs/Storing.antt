@@ -3,6 +3,7 @@ use Rattle.std.proofs.Common.{arith, ◌≡◌, ◌≢◌, ℕ, suc, ◌+◌, �
 use Rattle.std.specs.Prelude.{slice_get, slice_set}
 use Rattle.std.proofs.lemmas.Bool.{cases_eq}
 use Rattle.std.proofs.lemmas.Nat.{pow_pos}
+use Rattle.std.proofs.lemmas.List.Elements.{All-cons}
 use Rattle.std.proofs.lemmas.Option.{slice_get_within}
 use Rattle.lpm_entry.specs.declared.Entry.{Entry}
 use Rattle.lpm_entry.specs.declared.Entry.TheVariants.{Miss, Hop, Group}
@@ -24,7 +25,7 @@ use Rattle.lpm_update.specs.Linked.{IsLinkTo, group_at}
 use Rattle.lpm_update.specs.Runs.{HasCome}
 use Rattle.lpm_update.specs.Step.{Steps}
 use Rattle.lpm_update.specs.Tied.{IsTied}
-use Rattle.lpm_update.specs.Update.{IsUnderWay, IsNextFirst, IsNextSecond, IsNextUnlink, IsOnward, IsOver, HasGroups, group_held}
+use Rattle.lpm_update.specs.Update.{IsUnderWay, IsNextFirst, IsNextSecond, IsNextUnlink, IsOnward, IsOver, HasGroups, HasPassedFirst, HasPassedSecond, group_held}
 use Rattle.lpm_update.proofs.Groups.{group_set_same, here_is, last_none}
 use Rattle.update_laws.proofs.Onward.{by_kind}
 use Rattle.lpm_update.proofs.Places.{word_entry}
@@ -38,11 +39,13 @@ use Rattle.lpm_trace.proofs.Basics.{with_at-same, with_at-other}
 use Rattle.lpm_writer.specs.declared.books.Books.{Books}
 use Rattle.lpm_writer.specs.Waiting.{AreWaiting}
 use Rattle.lpm_writer.specs.Kept.{AreAfter, AreRising, AreRetired, AreBelow, IsAmong, AreKept, HasUnlinked, IsIdle, IsQuiet, Keeps}
-use Rattle.lpm_writer.specs.Making.{filling, unless_linked, IsTakenBy, IsMaking, answer_after}
+use Rattle.lpm_writer.specs.Stores.{since_opened}
+use Rattle.lpm_writer.specs.Making.{filling, unless_linked, IsTakenBy, HasPassedStore, HasPassedStores, IsMaking, answer_after}
 use Rattle.lpm_writer.proofs.Limbo.{absent_other, linked_limbo}
 use Rattle.lpm_writer.proofs.Keeping.{kept_quiet}
 use Rattle.lpm_writer.proofs.NextStores.{none_some, filling_same, second_kind, IsFirstKind}
 use Rattle.lpm_writer.proofs.Answering.{turned_on}
+use Rattle.lpm_writer.proofs.Once.{IsStoreOf, StoresNothing, passed_on, new_word}
 
 -- ---- the group that is filled
 
@@ -299,13 +302,19 @@ has_unlinked c steps books v b g x keeps idle link last none here waits =
 -- ---- the update that runs, after a store
 
 module _ (c : Setup) (steps : List WriterStep) (u : Plan) (t : Words) (v : Plan) (m : IsMaking c steps u t v) (v' : Plan) (did : Did) where
+  abbrev w : Words
+  w = (tables c steps).words
+
   pub making_first : (i x : ℕ) → Steps c.first c.second v (tables c steps).words did v' (with_first (tables c steps).words i x)
       → StoreMoves c.first c.second v (tables c steps).words (with_first (tables c steps).words i x)
-      → IsTakenBy v' (course c steps).taken → IsMaking c (StoreFirst i x ∷ steps) u t v'
-  making_first i x st sm taken = record {
+      → IsTakenBy v' (course c steps).taken → IsStoreOf (StoreFirst i x) did → HasPassedFirst c.second v' i → IsMaking c (StoreFirst i x ∷ steps) u t v'
+  making_first i x st sm taken is passed = record {
     come = run_goes_on c.first c.second u t did v v' (tables c steps).words (with_first (tables c steps).words i x) m.come st;
     updating = m.updating;
     taken = taken;
+    passed = All-cons (HasPassedStore c.second v' (with_first w i x).firsts) (StoreFirst i x) (since_opened steps) passed
+        (passed_on c.first c.second v v' w (with_first w i x) did m.come.table m.come.under_way st steps m.passed);
+    once = (new_word c.first c.second v v' w (with_first w i x) did m.come.table m.come.under_way st steps m.passed (StoreFirst i x) is, m.once);
     old = m.old;
     new = m.new;
     turned = turned_on c steps u t v m (with_first (tables c steps).words i x) sm;
@@ -313,11 +322,15 @@ module _ (c : Setup) (steps : List WriterStep) (u : Plan) (t : Words) (v : Plan)
 
   pub making_second : (j x : ℕ) → Steps c.first c.second v (tables c steps).words did v' (with_second (tables c steps).words j x)
       → StoreMoves c.first c.second v (tables c steps).words (with_second (tables c steps).words j x)
-      → IsTakenBy v' (course c (StoreSecond j x ∷ steps)).taken → IsMaking c (StoreSecond j x ∷ steps) u t v'
-  making_second j x st sm taken = record {
+      → IsTakenBy v' (course c (StoreSecond j x ∷ steps)).taken → IsStoreOf (StoreSecond j x) did → HasPassedSecond c.second v' (tables c steps).words.firsts j
+      → IsMaking c (StoreSecond j x ∷ steps) u t v'
+  making_second j x st sm taken is passed = record {
     come = run_goes_on c.first c.second u t did v v' (tables c steps).words (with_second (tables c steps).words j x) m.come st;
     updating = m.updating;
     taken = taken;
+    passed = All-cons (HasPassedStore c.second v' w.firsts) (StoreSecond j x) (since_opened steps) passed
+        (passed_on c.first c.second v v' w (with_second w j x) did m.come.table m.come.under_way st steps m.passed);
+    once = (new_word c.first c.second v v' w (with_second w j x) did m.come.table m.come.under_way st steps m.passed (StoreSecond j x) is, m.once);
     old = m.old;
     new = m.new;
     turned = turned_on c steps u t v m (with_second (tables c steps).words j x) sm;
@@ -357,11 +370,13 @@ has_linked c steps states items passed (Flush u) taken is k none keeps tied = su
 
 -- checks leave the update as it is
 pub making_quiet : (c : Setup) (steps later : List WriterStep) (u : Plan) (t : Words) (v : Plan) → IsQuiet (tables c steps) (tables c later) → (course c later).taken ≡ (course c steps).taken
-    → IsMaking c steps u t v → IsMaking c later u t v
-making_quiet c steps later u t v q same m = record {
+    → StoresNothing steps later → IsMaking c steps u t v → IsMaking c later u t v
+making_quiet c steps later u t v q same nothing m = record {
   come = subst (HasCome c.first c.second u t v) (sym q.words) m.come;
   updating = subst (λ n. n % 2 ≡ 1) (sym q.sequence) m.updating;
   taken = subst (IsTakenBy v) (sym same) m.taken;
+  passed = subst (λ (W : Words). HasPassedStores c.second v W.firsts later) (sym q.words) (nothing.passed c.second v (tables c steps).words.firsts m.passed);
+  once = nothing.once m.once;
   old = λ a low. subst (λ n. IsAnswer c ((tables c later).history (done_at n)) a (answer c t a)) (sym q.sequence) (subst (λ h. IsAnswer c (h (done (tables c steps))) a (answer c t a)) (sym q.history) (m.old a low));
   new = λ a low. subst (λ n. IsAnswer c ((tables c later).history (begun_at n)) a (answer_after c u t a)) (sym q.sequence) (subst (λ h. IsAnswer c (h (begun (tables c steps))) a (answer_after c u t a)) (sym q.history) (m.new a low));
   turned = λ a low now. ap (λ W. answer c W a) q.words ∙ m.turned a low (ap (λ f. f a) (sym q.turned) ∙ now);

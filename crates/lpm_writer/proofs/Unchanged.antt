@@ -155,6 +155,7 @@ module _ (f s : ℕ) (c : Setup) (config : Config) (rules : RuleList) (books : B
             idle = record { duty = rest.between.idle.duty; awaited = rest.between.idle.awaited };
             even = back w.sequence even;
             clear = λ a low. refl;
+            once = (λ n d low same. same, (λ n d low same. same, rest.between.once));
           };
           version = ap z.history number ∙ with_at-same w.history (suc (begun w)) (rules_by (w.history (begun w)) change) ∙ next_rules;
           represents = rest.represents;

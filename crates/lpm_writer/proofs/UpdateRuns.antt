@@ -28,6 +28,7 @@ use Rattle.lpm_writer.specs.Waiting.{AreWaiting, tokens_of}
 use Rattle.lpm_writer.specs.Traced.{Traced, UnlinksNone, Retires, by_writer}
 use Rattle.lpm_writer.specs.Kept.{HasUnlinked, HasRetired, IsIdle, Keeps}
 use Rattle.lpm_writer.specs.Making.{filling, HasWidths, IsMaking, MayMake, HasMade, HasUnlinkedSome}
+use Rattle.lpm_writer.proofs.Once.{store_first, store_unlink, store_second, after_retire}
 use Rattle.lpm_writer.proofs.NextStores.{filling_same, first_kind, unlink_kind}
 use Rattle.lpm_writer.proofs.Answering.{may_store_first, may_store_second, may_unlink, may_close}
 use Rattle.lpm_writer.proofs.Storing.{none_filling, over_filling, taken_first, taken_unlink, unlink_filling, taken_by_second, has_linked, keeps_first, keeps_second, has_unlinked, making_first, making_second, making_quiet}
@@ -158,7 +159,8 @@ module _ {M : Type 0} (words : M → Words) (newest count : M → ℕ) (did : M 
           follows m (StoreFirst i x) z c later goes now.1 (allows_first c steps d may i x n),
           record {
             widths = r.widths;
-            making = making_first c later u (tables c steps).words v r.making v' (First i) i x st' sm (taken_first c.first c.second v v' w.words i x (course c later).taken st'.onward n' r.making.taken);
+            making = making_first c later u (tables c steps).words v r.making v' (First i) i x st' sm (taken_first c.first c.second v v' w.words i x (course c later).taken st'.onward n' r.making.taken)
+                (store_first i x) st'.passed;
             idle = record { duty = due_last (first_entry w.words i) kind.old; awaited = r.idle.awaited };
             keeps = subst (Keeps c (StoreFirst i x ∷ later) new.groups new.queue.items new.passed) (sym none)
                 (keeps_first c later new.groups new.queue.items new.passed v r.keeps i x kind c.first (tied_on c steps d may tied) low_block waits);
@@ -184,7 +186,8 @@ module _ {M : Type 0} (words : M → Words) (newest count : M → ℕ) (did : M 
           record {
             widths = r.widths;
             making = making_second c later u (tables c steps).words v r.making v' (Second j) j x st' sm
-                (taken_by_second c later new.groups new.queue.items new.passed u (tables c steps).words v v' r.making r.keeps (tied_on c steps d may tied) j x st'.onward n');
+                (taken_by_second c later new.groups new.queue.items new.passed u (tables c steps).words v v' r.making r.keeps (tied_on c steps d may tied) j x st'.onward n')
+                (store_second j x) st'.passed;
             idle = record { duty = r.idle.duty; awaited = r.idle.awaited };
             keeps = keeps_second c later new.groups new.queue.items new.passed v r.keeps j x v' st'.onward;
             sequence = r.sequence;
@@ -225,13 +228,14 @@ module _ {M : Type 0} (words : M → Words) (newest count : M → ℕ) (did : M 
           let q = done.2 in
           let fills = unlink_filling c.first c.second v v' w.words b g x (tables c done.0).words.firsts st'.onward n' in
           let making = making_first c now.0 u (tables c steps).words v r.making v' (Unlinked b g) b x st' sm
-          (taken_unlink c.first c.second v v' w.words b g x (course c now.0).taken st'.onward n' r.making.taken) in
+          (taken_unlink c.first c.second v v' w.words b g x (course c now.0).taken st'.onward n' r.making.taken) (store_unlink b x g) st'.passed in
           let k = r.unlinked in (
             done.0,
             done.1,
             record {
               widths = r.widths;
-              making = making_quiet c (StoreFirst b x ∷ now.0) done.0 u (tables c steps).words v' q.quiet q.taken making;
+              making = making_quiet c (StoreFirst b x ∷ now.0) done.0 u (tables c steps).words v' q.quiet q.taken
+                  (after_retire does c config (z, StoreFirst b x ∷ now.0) (tokens_of new.queue.items) (y, done.0) (tokens_of last.queue.items) done.4) making;
               idle = q.idle;
               keeps = subst (Keeps c done.0 last.groups last.queue.items last.passed) (sym fills) done.3;
               sequence = q.quiet.sequence ∙ r.sequence;
@@ -275,6 +279,7 @@ module _ {M : Type 0} (words : M → Words) (newest count : M → ℕ) (did : M 
           record {
             may_close = may_close c now.0 u (tables c steps).words v r.making v' come r.idle over linked;
             idle = r.idle;
+            once = r.making.once;
             keeps = subst (Keeps c now.0 new.groups new.queue.items new.passed) none_yet r.keeps;
             sequence = r.sequence;
             history = r.history;

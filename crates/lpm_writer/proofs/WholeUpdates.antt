@@ -1,5 +1,6 @@
 -- A whole update, from its first step to its last.
 use Rattle.std.proofs.Common.{arith, ◌≡◌, ◌≢◌, ℕ, suc, ◌+◌, ◌/◌, ◌%◌, Bool, true, false, refl, sym, ap, subst, ◌∙◌, List, ◌∷◌, None}
+use Rattle.std.proofs.lemmas.List.Elements.{All-nil}
 use Rattle.lpm_limits.specs.declared.config.Config.{Config}
 use Rattle.lpm_rules.specs.RuleMap.{RuleMap}
 use Rattle.lpm_update.specs.declared.update.Plan.{Plan}
@@ -11,7 +12,7 @@ use Rattle.lpm_trace.specs.Tables.{Setup, Tables, tables, answer, IsAnswer, done
 use Rattle.lpm_trace.specs.Writer.{MayStep}
 use Rattle.lpm_trace.proofs.Basics.{with_at-same, with_at-other}
 use Rattle.lpm_writer.specs.declared.books.Books.{Books}
-use Rattle.lpm_writer.specs.Making.{filling, answer_after, MayMake, HasMade}
+use Rattle.lpm_writer.specs.Making.{HasPassedStore, filling, answer_after, MayMake, HasMade}
 use Rattle.lpm_writer.specs.Changing.{MayChange, HasChanged}
 use Rattle.lpm_writer.proofs.Keeping.{kept_quiet}
 
@@ -53,6 +54,8 @@ after_open f s c steps u change books m =
         come = run_begins c.first c.second u w.words m.table m.begun;
         updating = omega (arith, even);
         taken = m.fresh;
+        passed = All-nil (HasPassedStore c.second u w.words.firsts);
+        once = (λ n d low same. same, m.between.once);
         old = λ a low. subst (λ (r : RuleMap). IsAnswer c r a (answer c w.words a)) (sym at_done) (m.old a low);
         new = λ a low. subst (λ (r : RuleMap). IsAnswer c r a (answer_after c u w.words a)) (sym at_begun) (m.new a low);
         turned = λ a low now. absurd (truth (w.turned a) (m.between.clear a low) now);
@@ -78,6 +81,7 @@ after_close does f s config c steps u change old new m x y z later may opens mad
         idle = record { duty = made.idle.duty; awaited = made.idle.awaited };
         even = ap (λ k. suc k % 2) seq ∙ back n even;
         clear = λ a low. refl;
+        once = (λ n d low same. same, made.once);
       };
       keeps = record { kept = kept_quiet c v (tables c (Closes ∷ later)) v.token new.groups new.queue.items None refl (omega arith) made.keeps.kept; remembers = made.keeps.remembers };
       rules = ap v.history number ∙ ap (λ (h : ℕ → RuleMap). h (suc (begun w))) made.history ∙ with_at-same w.history (suc (begun w)) (rules_by (w.history (begun w)) change)

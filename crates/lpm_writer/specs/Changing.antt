@@ -15,13 +15,16 @@ use Rattle.lpm_writer.specs.declared.books.Books.{Books}
 use Rattle.lpm_writer.specs.Waiting.{tokens_of}
 use Rattle.lpm_writer.specs.Traced.{by_writer}
 use Rattle.lpm_writer.specs.Kept.{IsIdle, Keeps}
+use Rattle.lpm_writer.specs.Stores.{StoresOnce}
 use Rattle.lpm_writer.specs.Making.{HasWidths, IsTakenBy, answer_after, filling}
 
--- no update runs, nothing is due of the writer, and no address has turned
+-- no update runs, nothing is due of the writer, no address has turned, and in none of the updates that
+-- are done was a word stored twice
 pub record IsBetween (c : Setup) (steps : List WriterStep) : Type 0 where
   pub idle : IsIdle c steps
   pub even : (tables c steps).sequence % 2 ≡ 0
   pub clear : (a : ℕ) → a < addresses c → (tables c steps).turned a ≡ false
+  pub once : StoresOnce steps
 
 -- the update u by this change of the rules may be made
 pub record MayChange (first second : ℕ) (c : Setup) (steps : List WriterStep) (u : Plan)

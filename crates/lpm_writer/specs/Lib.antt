@@ -1,6 +1,7 @@
 pub mod Waiting
 pub mod Traced
 pub mod Kept
+pub mod Stores
 pub mod Making
 pub mod Taking
 pub mod Changing

@@ -12,6 +12,7 @@ use Rattle.lpm_trace.specs.Writer.{course}
 use Rattle.lpm_writer.specs.declared.books.Books.{Books}
 use Rattle.lpm_writer.specs.Traced.{Traced, Goes, Checks, tables_of}
 use Rattle.lpm_writer.specs.Kept.{IsIdle, IsQuiet}
+use Rattle.lpm_writer.specs.Stores.{StoresOnce}
 use Rattle.lpm_writer.specs.Resting.{IsResting}
 
 -- a check of the newest token is due, from worker 0 on; where there are no workers nothing is due
@@ -32,6 +33,7 @@ pub record IsWaiting (first second : ℕ) (c : Setup) (steps : List WriterStep) 
   pub passed : (tables c steps).passed ≡ (tables c older).passed
   pub unpassed : (tables c steps).passed < (tables c steps).token
   pub due : IsAwaited c steps
+  pub once : StoresOnce steps
 
 -- n checks of the token were made one after another, and a worker stopped each
 abbrev pub AreStopped : {M : Type 0} → (M → WriterStep → M → Type 0) → Setup → ℕ → Traced M → ℕ

@@ -10,7 +10,7 @@ use Rattle.update_laws.proofs.Next.{next_store as next}
 pub use Rattle.update_laws.proofs.Runs.{run_begins, run_goes_on, run_ends, no_word_twice}
 pub use Rattle.update_laws.proofs.Next.{next_store, next_first, next_second, next_unlink}
 pub use Rattle.update_laws.proofs.Turns.{answers_turn_once, from_same, end_same, rewrite_same}
-pub use Rattle.update_laws.proofs.Once.{held_same}
+pub use Rattle.update_laws.proofs.Once.{held_same, passed_stays, not_twice}
 pub use Rattle.lpm_update.proofs.Rules.{best_hop}
 pub use Rattle.update_laws.proofs.Blank.{blank}
 pub use Rattle.update_laws.proofs.DeepCounts.{linked_deep}

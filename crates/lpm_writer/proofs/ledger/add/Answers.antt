@@ -18,6 +18,7 @@ use Rattle.lpm_writer.specs.Changing.{MayChange, HasChanged}
 use Rattle.lpm_writer.specs.Taking.{Finds}
 use Rattle.lpm_writer.specs.Traced.{by_writer}
 use Rattle.lpm_writer.specs.Resting.{IsResting, state_of}
+use Rattle.lpm_writer.proofs.Once.{after_find}
 use Rattle.lpm_writer.proofs.Rests.{few_begun, linked_resting, between_take, between_still, version_still, may_change, has_tokens, rests_after, rests_still}
 use Rattle.lpm_writer.proofs.Additions.{absent, found_states, found_fits, found_tied, found_fills, found_adds, none_adds, put_room, taken_back}
 use Rattle.lpm_writer.proofs.ledger.add.Goals as goal
@@ -64,6 +65,7 @@ change-requires g c =
     let W1 = (tables r.0 found.0).words in
     let same : W1 ≡ W = found.2.quiet.words in
     let finds = subst (λ (V : Words). Finds t f s V.firsts p x l.books (Ok group) (y, found.0) mid) (met.shows m r.0 r.1 began).0 found.4 in
+    let nothing = after_find k.does r.0 f s W.firsts p x l.books (Ok group) (y, found.0) mid finds in
     let u = c.add-update.result in
     let represents = subst (Represents f s l.rules.rules) (sym same) r.3.represents in
     let fits = subst (λ V. AddFits f s l.rules.rules p V group) (sym same) (found_fits f s r.0 r.1 l.config l.rules l.books l.versions r.3 p low t x group (y, found.0) mid finds) in
@@ -82,7 +84,7 @@ change-requires g c =
         found.0,
         found.1,
         subst (λ change. MayChange f s r.0 found.0 u change mid) (sym c.putting-rule.ensures)
-            (may_change f s r.0 found.0 l.rules.rules (insert l.rules.rules p h) u (Puts p.bits p.len h) group mid r.3.widths (between_still r.0 r.1 found.0 r.3.between found.2) few
+            (may_change f s r.0 found.0 l.rules.rules (insert l.rules.rules p h) u (Puts p.bits p.len h) group mid r.3.widths (between_still r.0 r.1 found.0 r.3.between found.2 nothing) few
             (version_still r.0 r.1 found.0 l.rules.rules r.3.version found.2) represents begun.0 begun.1 refl (c.bits-bits.ensures.network, subst (λ n. n < 2 ^ 24) c.number-number.ensures.value c.number-number.ensures.bound) fills found.3),
       );
       tied = subst (λ (V : Words). IsTied f mid.groups (group_held u V.firsts)) (sym (now.0 ∙ same)) tied;
@@ -118,6 +120,7 @@ returns-in-Ok-group_for g c = record {
       let W1 = (tables setup found.0).words in
       let same : W1 ≡ W = found.2.quiet.words in
       let finds = subst (λ (V : Words). Finds t f s V.firsts p x l.books (Ok group) (y, found.0) mid) (met.shows m setup steps began).0 found.4 in
+      let nothing = after_find k.does setup f s W.firsts p x l.books (Ok group) (y, found.0) mid finds in
       let u = c.add-update.result in
       let represents = subst (Represents f s l.rules.rules) (sym same) rest.represents in
       let fits = subst (λ V. AddFits f s l.rules.rules p V group) (sym same) (found_fits f s setup steps l.config l.rules l.books l.versions rest p low t x group (y, found.0) mid finds) in
@@ -128,7 +131,7 @@ returns-in-Ok-group_for g c = record {
       let version = version_still setup steps found.0 l.rules.rules rest.version found.2 in
       let left = has_tokens t l.config (state_of l.rules.rules x l.books l.versions) c.is_exhausted.result c.if-is_exhausted.false (c.is_exhausted.ensures setup steps did) in
       let few = few_begun l.versions (done (tables setup found.0)) (rest.versions ∙ sym (ap done_at found.2.quiet.sequence)) left.1 in
-      let may = may_change f s setup found.0 l.rules.rules (insert l.rules.rules p h) u change group mid rest.widths (between_still setup steps found.0 rest.between found.2) few
+      let may = may_change f s setup found.0 l.rules.rules (insert l.rules.rules p h) u change group mid rest.widths (between_still setup steps found.0 rest.between found.2 nothing) few
       version represents begun.0 begun.1 refl (c.bits-bits.ensures.network, subst (λ n. n < 2 ^ 24) c.number-number.ensures.value c.number-number.ensures.bound) fills found.3 in
       let made = c.change.ensures.changed setup found.0 found.1 (subst (λ ch. MayChange f s setup found.0 u ch mid) (sym c.putting-rule.ensures) may) in
       let changed = subst (λ ch. HasChanged k.does setup l.config ch y found.0 mid z made.0 new) c.putting-rule.ensures made.2 in
@@ -175,13 +178,14 @@ returns-in-Err g c = record {
       let y = c.group_for.new.memory in
       let found = c.in-Err.ensures.finds setup steps began (between_take setup steps l.books rest.between rest.keeps) in
       let finds = subst (λ (V : Words). Finds t f s V.firsts p x l.books (Err oldest) (y, found.0) mid) (met.shows m setup steps began).0 found.4 in
+      let nothing = after_find k.does setup f s (tables setup steps).words.firsts p x l.books (Err oldest) (y, found.0) mid finds in
       let none = absent f s setup steps l.config l.rules l.books l.versions rest p low finds.0 in
       let back = taken_back l.rules p h c.put.new.self c.remove.new.self c.remove.result put.ok none c.remove.ensures.hop c.remove.ensures.ok in
       let room = put_room l.rules.rules p h l.rules.max c.in-Ok.put put.unchanged.0 put.replaced.0 (λ e. put.new.0 (inl e)) none in
       let left = has_tokens t l.config (state_of l.rules.rules x l.books l.versions) c.is_exhausted.result c.if-is_exhausted.false (c.is_exhausted.ensures setup steps did) in
       let stays = c.in-Err.ensures.unchanged in
       let tied = subst (λ xs. IsTied f xs (group_at (tables setup steps).words.firsts)) (sym stays.0) rest.tied in
-      let after = rests_still f s setup steps found.0 l.config l.rules l.books mid l.versions rest found.2 found.3 tied c.in-Err.ensures.queued (ap length stays.0) in
+      let after = rests_still f s setup steps found.0 l.config l.rules l.books mid l.versions rest found.2 nothing found.3 tied c.in-Err.ensures.queued (ap length stays.0) in
       let adds = none_adds f s setup steps l.config l.rules l.books l.versions rest p low t x h oldest (y, found.0) mid finds stays.1 room left in (
         found.0,
         found.1,

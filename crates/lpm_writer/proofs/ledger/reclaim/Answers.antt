@@ -2,10 +2,11 @@ use Rattle.std.proofs.Common.{◌≤◌, refl, sym, subst, [], length, None}
 use Rattle.defer_queue.specs.Limbo.{Limbo as Queue}
 use Rattle.lpm_update.specs.Linked.{group_at}
 use Rattle.lpm_trace.specs.Tables.{tables}
-use Rattle.lpm_writer.specs.Waiting.{AreWaiting, IsQueued}
+use Rattle.lpm_writer.specs.Waiting.{AreWaiting, IsQueued, tokens_of}
 use Rattle.lpm_writer.proofs.Freeing.{freed_within}
 use Rattle.lpm_writer.proofs.Limbo.{freed_queue}
 use Rattle.lpm_writer.proofs.TakesOne.{no_tail, without_tail, may_reclaim}
+use Rattle.lpm_writer.proofs.Once.{after_reclaim}
 use Rattle.lpm_writer.proofs.Rests.{between_take, rests_still, tied_freed}
 use Rattle.lpm_writer.proofs.ledger.reclaim.Goals as goal
 
@@ -29,7 +30,8 @@ returns-clause-frees g c = λ setup steps did rest.
     let queued = subst (IsQueued y.groups) (sym r.ensures.queue) (freed_queue x.groups y.groups x.queue r.result.freed rest.queued within r.ensures.freed waits) in (
       done.0,
       done.1,
-      rests_still f s setup steps done.0 l.config l.rules x y l.versions rest done.2 (without_tail setup done.0 y.groups y.queue.items y.passed None done.3)
+      rests_still f s setup steps done.0 l.config l.rules x y l.versions rest done.2
+          (after_reclaim g.M.Memory.does setup (c.args.memory.now, steps) c.args.max (tokens_of x.queue.items) r.result.freed r.result.stopped (tokens_of y.queue.items) (r.new.memory, done.0) done.4) (without_tail setup done.0 y.groups y.queue.items y.passed None done.3)
           (tied_freed f r.result.freed x.groups y.groups x.queue.items (group_at (tables setup steps).words.firsts) r.ensures.freed rest.tied) queued r.ensures.freed.as_many,
       (done.4, refl),
     )
