@@ -121,7 +121,7 @@ module _ (f s : ℕ) (c : Setup) (steps : List WriterStep) (config : Config) (ru
     is_false false h = refl
 
     -- after the group was taken, as many groups are linked as the new list has deep blocks
-    found_linked : (h : ℕ) (group : Option ℕ) (z : X) (mid : Books) → Finds t f s (tables c steps).words.firsts p x books (Ok group) z mid → linked_count mid.groups ≡ groups_in_use f s (insert rules.rules p h)
+    pub found_linked : (h : ℕ) (group : Option ℕ) (z : X) (mid : Books) → Finds t f s (tables c steps).words.firsts p x books (Ok group) z mid → linked_count mid.groups ≡ groups_in_use f s (insert rules.rules p h)
     found_linked h None z mid found =
         let brings = put_brings_block f s rules.rules p h in
         let was = ap (λ (b : Books). linked_count b.groups) found.0 ∙ linked_resting f s c steps config rules books begun rest in

@@ -16,6 +16,7 @@ pub mod WholeUpdates
 pub mod Rests
 pub mod Awaiting
 pub mod Additions
+pub mod Least
 pub mod Opened
 pub mod StepsAlone
 pub mod Beginning

@@ -37,6 +37,7 @@ pub record IsUnderWayAt {M : Type 0} (words : M → Words) (newest : M → ℕ) 
   pub queued : IsQueued new.groups new.queue
   pub states : length new.groups ≡ length old.groups
   pub fewer : linked_count new.groups ≤ linked_count old.groups
+  pub stays : linked_count new.groups ≡ linked_count old.groups → new.groups ≡ old.groups
   pub token : newest m + linked_count new.groups ≡ newest first + linked_count old.groups
   pub runs : Runs did does f s config first old u m new v
 
@@ -62,6 +63,7 @@ module _ {M : Type 0} (words : M → Words) (newest count : M → ℕ) (did : M 
         queued = queued;
         states = refl;
         fewer = omega arith;
+        stays = λ _. refl;
         token = refl;
         runs = runs;
       }
@@ -110,6 +112,7 @@ module _ {M : Type 0} (words : M → Words) (newest count : M → ℕ) (did : M 
           queued = k.queued;
           states = k.states;
           fewer = k.fewer;
+          stays = k.stays;
           token = ap (λ n. n + linked_count new.groups) token ∙ k.token;
           runs = run_first words newest count did does follows shows f s config first old u m new v k.runs z v' i x st st.stored.0 st.stored.1 goes k.tied k.queued.waiting;
         }
@@ -127,6 +130,7 @@ module _ {M : Type 0} (words : M → Words) (newest count : M → ℕ) (did : M 
           queued = k.queued;
           states = k.states;
           fewer = k.fewer;
+          stays = k.stays;
           token = ap (λ n. n + linked_count new.groups) token ∙ k.token;
           runs = run_second words newest count did does follows shows f s config first old u m new v k.runs z v' j x st st.stored.0 st.stored.1 goes k.tied;
         }
@@ -177,6 +181,7 @@ module _ {M : Type 0} (words : M → Words) (newest count : M → ℕ) (did : M 
             queued = queued;
             states = states ∙ k.states;
             fewer = omega (arith, linked, fewer);
+            stays = λ as_many. absurd (omega (arith, linked, fewer, as_many));
             token = omega (arith, linked, known, token);
             runs = run_unlinked words newest count did does follows shows f s config first old u m new v k.runs z v' i n x st st.stored.0 st.stored.1 (first_stored m i x z sets) gone k.queued.waiting y last one
                 retires;

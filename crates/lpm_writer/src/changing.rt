@@ -50,6 +50,8 @@ pub(crate) fn change<const FIRST: u32, const SECOND: u32, M: Memory>(
     ensures queued { IsQueued books.new.groups books.new.queue }
     ensures states { length books.new.groups ≡ length books.old.groups }
     ensures fewer { linked_count books.new.groups ≤ linked_count books.old.groups }
+    ensures stays { linked_count books.new.groups ≡ linked_count books.old.groups
+        → books.new.groups ≡ books.old.groups }
 {
     memory.open(rule_change);
     run::<FIRST, SECOND, M>(update, memory, books, config);

@@ -9,7 +9,7 @@ ghost use Rattle.lpm_trace.specs.Tables.{Setup};
 ghost use Rattle.lpm_writer.specs.Waiting.{IsQueued, IsTaken};
 ghost use Rattle.lpm_writer.specs.Traced.{by_writer};
 ghost use Rattle.lpm_writer.specs.Kept.{IsStill, Keeps};
-ghost use Rattle.lpm_writer.specs.Taking.{MayTake, Finds, NeedsGroup, found_by};
+ghost use Rattle.lpm_writer.specs.Taking.{LinksLeast, MayTake, Finds, NeedsGroup, found_by};
 
 use super::Books;
 use super::waiting::take;
@@ -54,6 +54,7 @@ pub(crate) fn group_for<const FIRST: u32, const SECOND: u32, M: Memory>(
         × Keeps c later books.new.groups books.new.queue.items books.new.passed (found_by result)
         × Finds (by_writer M.does c) FIRST SECOND (M.words memory.old).firsts prefix.now
         (memory.old, steps) books.old result (memory.new, later) books.new }
+    ensures least { LinksLeast books.old.groups books.new.groups }
     ensures unchanged { OnErr result ((books.new.groups ≡ books.old.groups)
         × (books.new.queue ≡ books.old.queue)) }
     ensures queued { IsQueued books.new.groups books.new.queue }

@@ -7,6 +7,7 @@ ghost use Rattle.fib_model.specs.Outcomes.{Adds, Deletes, Flushes, Frees};
 ghost use Rattle.lpm_trace.specs.declared.step.RuleChange.TheVariants.{Put as Puts, TakeOut as TakesOut};
 ghost use Rattle.lpm_trace.specs.declared.step.WriterStep.{WriterStep};
 ghost use Rattle.lpm_trace.specs.Tables.{Setup};
+ghost use Rattle.lpm_writer.specs.Taking.{LinksLeast};
 ghost use Rattle.lpm_writer.specs.Traced.{by_writer};
 ghost use Rattle.lpm_writer.specs.Resting.{IsResting, state_of};
 
@@ -128,6 +129,7 @@ pub fn add<const FIRST: u32, const SECOND: u32, M: Memory>(
         (state_of ledger.old.rules.rules (memory.old, steps) ledger.old.books ledger.old.versions)
         prefix.now hop result
         (state_of ledger.new.rules.rules (memory.new, later) ledger.new.books ledger.new.versions) }
+    ensures least { LinksLeast ledger.old.books.groups ledger.new.books.groups }
     ensures config { ledger.new.config ≡ ledger.old.config }
 {
     let _bits = prefix.bits();

@@ -45,6 +45,8 @@ pub(crate) fn run<const FIRST: u32, const SECOND: u32, M: Memory>(
     ensures queued { IsQueued books.new.groups books.new.queue }
     ensures states { length books.new.groups ≡ length books.old.groups }
     ensures fewer { linked_count books.new.groups ≤ linked_count books.old.groups }
+    ensures stays { linked_count books.new.groups ≡ linked_count books.old.groups
+        → books.new.groups ≡ books.old.groups }
 {
     let mut update = update;
     while let Some(group) = update.run::<FIRST, SECOND, M>(memory) {

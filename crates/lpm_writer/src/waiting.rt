@@ -9,7 +9,7 @@ ghost use Rattle.fib_model.specs.Reclaiming.{MakesRoom, Reclaims};
 ghost use Rattle.lpm_writer.specs.Waiting.{AreWaiting, IsFreed, IsQueued, IsTaken, tokens_of};
 ghost use Rattle.lpm_writer.specs.Traced.{by_writer, Retires};
 ghost use Rattle.lpm_writer.specs.Kept.{HasUnlinked, HasRetired, IsStill, Keeps, MayReclaim};
-ghost use Rattle.lpm_writer.specs.Taking.{MayTake, Takes, taken_by};
+ghost use Rattle.lpm_writer.specs.Taking.{LinksLeast, MayTake, Takes, taken_by};
 
 use super::Books;
 use super::asking::check;
@@ -129,6 +129,7 @@ pub(crate) fn take<M: Memory>(
         × Takes (by_writer M.does c) (memory.old, steps) books.old result
         (memory.new, later) books.new }
     ensures linked { IfOk result (λ g. IsTaken books.old.groups g block books.new.groups) }
+    ensures least { LinksLeast books.old.groups books.new.groups }
     ensures unchanged { OnErr result ((books.new.groups ≡ books.old.groups)
         × (books.new.queue ≡ books.old.queue)) }
     ensures queued { IsQueued books.new.groups books.new.queue }

@@ -7,6 +7,8 @@ use Rattle.lpm_writer.proofs.Freeing.{freed_within}
 use Rattle.lpm_writer.proofs.Reclaims.{still_same}
 use Rattle.lpm_writer.proofs.Keeping.{keeps_taken}
 use Rattle.lpm_writer.proofs.Limbo.{taken_from, taken_queue, taken_after, freed_queue, still_free}
+use Rattle.lpm_writer.specs.Taking.{LinksLeast}
+use Rattle.lpm_writer.proofs.Least.{least_linked, least_freed, least_same}
 use Rattle.lpm_writer.proofs.TakesOne.{reclaims_one, reclaims_none, no_tail, without_tail, may_reclaim}
 use Rattle.lpm_writer.proofs.waiting.take.Goals as goal
 
@@ -27,6 +29,12 @@ returns-in-Some-clause-linked g c =
     let x = c.args.books.now in
     let n = c.in-Some.group in
     subst (λ ys. IsTaken x.groups n c.args.block ys) (sym c.in-Some.ensures.linked) (taken_from x.groups n c.args.block c.in-Some.ensures.least.free)
+
+pub returns-in-Some-clause-least : goal.returns-in-Some-clause-least
+returns-in-Some-clause-least g c =
+    let x = c.args.books.now in
+    let n = c.in-Some.group in
+    subst (LinksLeast x.groups) (sym c.in-Some.ensures.linked) (least_linked x.groups n c.args.block c.in-Some.ensures.least)
 
 pub returns-in-Some-clause-queued : goal.returns-in-Some-clause-queued
 returns-in-Some-clause-queued g c =
@@ -71,6 +79,17 @@ returns-in-Some-take_least-clause-linked g c =
     taken_after x.groups r.new.books.groups c.take_least-2.new.self x.queue.items r.result.freed n c.args.block freed
     (subst (λ ys. IsTaken r.new.books.groups n c.args.block ys) (sym now.linked) (taken_from r.new.books.groups n c.args.block now.least.free))
 
+pub returns-in-Some-take_least-clause-least : goal.returns-in-Some-take_least-clause-least
+returns-in-Some-take_least-clause-least g c =
+    let x = c.args.books.now in
+    let r = c.reclaim-reclaimed in
+    let ys = r.new.books.groups in
+    let n = c.in-Some-take_least.group in
+    let now = c.in-Some-take_least.ensures in
+    let freed = subst (λ xs. IsFreed xs x.queue.items r.result.freed ys) c.in_default.ensures.unchanged r.ensures.freed in
+    least_freed x.groups ys c.take_least-2.new.self x.queue.items r.result.freed freed
+    (subst (LinksLeast ys) (sym now.linked) (least_linked ys n c.args.block now.least))
+
 pub returns-in-Some-take_least-clause-queued : goal.returns-in-Some-take_least-clause-queued
 returns-in-Some-take_least-clause-queued g c =
     let x = c.args.books.now in
@@ -114,3 +133,10 @@ returns-in-None-clause-unchanged g c =
     let freed = subst (λ ys. IsFreed ys x.queue.items r.result.freed r.new.books.groups) c.in_default.ensures.unchanged r.ensures.freed in
     let zero : r.result.freed ≡ 0 = omega (arith, freed.free, still) in
     (c.in-None.ensures.unchanged ∙ r.ensures.unchanged zero ∙ c.in_default.ensures.unchanged, r.ensures.queue ∙ ap (λ n. record x.queue { items = drop n x.queue.items }) zero)
+
+pub returns-in-None-clause-least : goal.returns-in-None-clause-least
+returns-in-None-clause-least g c =
+    let x = c.args.books.now in
+    let r = c.reclaim-reclaimed in
+    let freed = subst (λ xs. IsFreed xs x.queue.items r.result.freed r.new.books.groups) c.in_default.ensures.unchanged r.ensures.freed in
+    subst (LinksLeast x.groups) (sym c.in-None.ensures.unchanged) (least_freed x.groups r.new.books.groups r.new.books.groups x.queue.items r.result.freed freed (least_same r.new.books.groups))
