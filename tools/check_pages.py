@@ -21,10 +21,10 @@ Each fault is printed as `FILE:LINE: what`, and any makes the exit status 1. Che
   tools/plots.py draws of them.
 - excerpts: where a path stands behind the language of a fenced block, each line of the block is a line of that file.
 - calls: the last name of `A::b` is a member of a type or trait `A`, or stands in a module or crate `A`; also in blocks
-  of rust.
+  of rust and in figures, which are blocks of text.
 - the kit: `logic SUM` in backticks is how the line of `rt version` ends; looked at where commands are run.
-- names: those in the columns of NAMES, and in prose those with an underscore or with two capitals (`IsStorm`), are
-  declared: as a function, a type or its part, a clause, a module or a definition in src or specs, as a must-fail edit,
+- names: those in the columns of NAMES, and in prose and figures those with an underscore or two capitals (`IsStorm`)
+  are declared: as a function, a type or its part, a clause, a module or a definition in src or specs, as a must-fail edit,
   or a crate. On a crate's page that is: in this crate, in one that it stands on, or in one that the page names.
 
 Not seen: whether a sentence is true; commands without `$` (they prove, take long, or need files of the reader's own),
@@ -57,6 +57,7 @@ CRATES = {"Crate"}
 NAMES = {"Call", "Contract", "Definition", "Definitions", "Defined in", "Defined by", "Law", "Function", "Decider",
          "Gives back, and by which definition"}
 VARIES = "<!-- varies -->"
+FIGURE = "text"  # behind the fence of a block that is a figure
 LOCAL = ("src", "specs", "proofs", "must-fail")
 ROOTS = ("c", "crates", "docs", "tools", "examples", ".ci")
 HEADERS = [TOP / "c/saxiko.h", TOP / "c/saxiko_rte_lpm.h"]
@@ -424,7 +425,7 @@ def check_excerpts(page):
 def check_calls(page):
     found = [(mark.line, re.sub(r"\(.*\)$|<[^<>]*>", "", mark.text)) for mark in marks(page)]
     for block in blocks(page):
-        for at, line in enumerate(block.lines if block.kind.startswith("rust") else [], block.line):
+        for at, line in enumerate(block.lines if block.kind.startswith(("rust", FIGURE)) else [], block.line):
             found += [(at, call) for call in re.findall(r"\w+(?:::\w+)+", re.sub(r"::<[^<>]*>|//.*", "", line))]
     for line, call in found:
         if not re.fullmatch(r"[A-Za-z_]\w*(::[A-Za-z_]\w*)+", call) or call in elsewhere(page):
@@ -457,6 +458,9 @@ def check_names(page):
     for row in rows(page):
         for column in NAMES & set(row.cells):
             words += [(row.line, word) for word in re.findall(r"`([^`]+)`", row.cells[column])]
+    for block in blocks(page):
+        for at, line in enumerate(block.lines if block.kind == FIGURE else [], block.line):
+            words += [(at, word) for word in re.findall(r"\w+", line) if is_telling(word)]
     for line, word in sorted(set(words)):
         if re.fullmatch(r"[A-Za-z_]\w*'?", word) and word not in known:
             yield Fault(page.path, line, f"declared nowhere that this page speaks of: {word}")
@@ -495,6 +499,8 @@ PLANTS = [
     Plant("docs/BENCHMARKS.md", "| 1,000,000 |", "| 1,000,001 |", "not the table that `tools/bench.py job"),
     Plant("docs/BENCHMARKS.md", "figures/job.svg", "figures/jobs.svg", "leads to no file: figures/jobs.svg"),
     Plant("docs/ARCHITECTURE.md", "`Fib::delete`", "`Fib::forget`", "no such call: Fib::forget"),
+    Plant("docs/ARCHITECTURE.md", "Update::delete  ", "Update::forget  ", "no such call: Update::forget"),
+    Plant("docs/ARCHITECTURE.md", "take_front, ", "take_oldest, ", "take_oldest"),
 ]
 
 
