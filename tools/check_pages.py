@@ -17,6 +17,7 @@ Each fault is printed as `FILE:LINE: what`, and any makes the exit status 1. Che
 - crates: names in the columns of CRATES, and those behind the word crate or crates, stand in crates.txt.
 - definitions: beside a column File each name in a column Definitions stands in the files of its row, in a file that the
   row names besides, or in a crate that it names.
+- clauses: beside a column Call, the clauses that a column Contract names are those of the row's calls.
 - figures: each table of tools/bench.py stands in docs/BENCHMARKS.md as its data have it, and the figures are what
   tools/plots.py draws of them.
 - excerpts: where a path stands behind the language of a fenced block, each line of the block is a line of that file.
@@ -24,13 +25,13 @@ Each fault is printed as `FILE:LINE: what`, and any makes the exit status 1. Che
   of rust and in figures, which are blocks of text.
 - the kit: `logic SUM` in backticks is how the line of `rt version` ends; looked at where commands are run.
 - names: those in the columns of NAMES, and in prose and figures those with an underscore or two capitals (`IsStorm`)
-  are declared: as a function, a type or its part, a clause, a module or a definition in src or specs, as a must-fail edit,
-  or a crate. On a crate's page that is: in this crate, in one that it stands on, or in one that the page names.
+  are declared: as a function, a type or its part, a clause, a module or a definition in src or specs, as a must-fail
+  edit, or a crate. On a crate's page that is: in this crate, in one that it stands on, or in one that the page names.
 
 Not seen: whether a sentence is true; commands without `$` (they prove, take long, or need files of the reader's own),
 and the exit status of a command; that a block of rust compiles; links to other hosts; a name in prose that is one plain
-word; a clause that moved to another function of the same crates; in docs and README.md, a name that stands somewhere
-and means another thing by now.
+word; in prose, a clause that moved to another function of the same crates; in docs and README.md, a name that stands
+somewhere and means another thing by now.
 
 `--self-test` plants faults in copies of pages, and wants each to be found, by the check that is there to find it.
 """
@@ -130,6 +131,18 @@ def declared(crate):
     here = TOP / "crates" / crate
     found = {path.stem for path in sources(crate)} | {path.stem for path in here.glob("must-fail/*.edit")}
     return found.union(*(declared_by(source(path), path.suffix == ".antt") for path in sources(crate)))
+
+
+@functools.cache
+def clauses(crate):
+    """For each name of functions of a crate the clauses of their contracts."""
+    found = {}
+    # (a contract ends where the body begins, or the next function, or where a trait ends)
+    pattern = r"(?ms)^( *)(?:pub\S* )?(?:const )?fn (\w+)(.*?)(?=^\1[{}]|^ *(?:pub\S* )?(?:const )?fn |\Z)"
+    for path in (path for path in sources(crate) if path.suffix == ".rt"):
+        for _, name, contract in re.findall(pattern, source(path)):
+            found.setdefault(name, set()).update(re.findall(r"\b(?:ensures|requires) (\w+) \{", contract))
+    return found
 
 
 @functools.cache
@@ -408,6 +421,24 @@ def check_files(page):
                 yield Fault(page.path, row.line, f"not in the files of this row: {name}")
 
 
+def check_clauses(page):
+    crate = crate_of(page.path)
+    if crate not in crates():
+        return
+    reached = {crate, *crates()[crate]} & set(crates())
+    fields = set().union(*(declared_by(source(path), True) for path in sources(crate) if path.suffix == ".antt"))
+    for row in rows(page):
+        if not {"Call", "Contract"} <= set(row.cells):
+            continue
+        named = re.findall(r"`([^`]+)`", row.cells["Call"] + row.cells["Contract"])
+        calls = {re.sub(r"[(<].*", "", name).split("::")[-1] for name in named}
+        theirs = set().union(*(clauses(it).get(call, set()) for it in reached for call in calls))
+        others = set().union(*clauses(crate).values()) - theirs - fields - set(clauses(crate))
+        for name in re.findall(r"`(\w+)`", row.cells["Contract"]):
+            if theirs and name in others:
+                yield Fault(page.path, row.line, f"no clause of these calls: {name}")
+
+
 def check_excerpts(page):
     for block in blocks(page):
         _, _, path = block.kind.partition(" ")
@@ -469,8 +500,8 @@ def check_names(page):
 def faults(page, program):
     """All faults of a page. Without a program nothing is run."""
     runs = check_runs(page, program) if program else []
-    checks = (check_links, check_paths, check_crates, check_files, check_figures, check_excerpts, check_calls,
-              check_names)
+    checks = (check_links, check_paths, check_crates, check_files, check_clauses, check_figures, check_excerpts,
+              check_calls, check_names)
     return [*runs, *(fault for check in checks for fault in check(page))]
 
 
@@ -494,6 +525,8 @@ PLANTS = [
     Plant("docs/TRUSTED.md", "`audit/specs/Wrong`", "`audit/specs/Right`", "no such file: audit/specs/Right"),
     Plant("crates/lpm_sweep/README.md", "`AreNumbered`", "`AreCounted`", "AreCounted"),
     Plant("crates/fib/README.md", "`groups_fit`", "`groups_match`", "groups_match"),
+    Plant("crates/bulk/README.md", "`bulk_plain` | `workers`", "`bulk_plain` | `desks`",
+          "no clause of these calls: desks"),
     Plant("crates/fib/README.md", "(`specs/Replay.antt`)", "(`specs/Again.antt`)", "no such file: specs/Again.antt"),
     Plant("crates/storm/README.md", "storm::run(", "storm::rain(", "no such call: storm::rain"),
     Plant("docs/BENCHMARKS.md", "| 1,000,000 |", "| 1,000,001 |", "not the table that `tools/bench.py job"),
