@@ -19,7 +19,7 @@ Each fault is printed as `FILE:LINE: what`, and any makes the exit status 1. Che
   row names besides, or in a crate that it names.
 - clauses: beside a column Call, the clauses that a column Contract names are those of the row's calls.
 - figures: each table of tools/bench.py stands in docs/BENCHMARKS.md as its data have it, and the figures are what
-  tools/plots.py draws of them.
+  tools/plots.py draws of them; each number below the heading Performance of README.md stands in docs/BENCHMARKS.md.
 - excerpts: where a path stands behind the language of a fenced block, each line of the block is a line of that file.
 - calls: the last name of `A::b` is a member of a type or trait `A`, or stands in a module or crate `A`; also in blocks
   of rust and in figures, which are blocks of text.
@@ -52,6 +52,7 @@ import plots
 TOP = pathlib.Path(__file__).resolve().parent.parent
 PROGRAM = TOP / "crates/lpmtool/out/lpmtool"
 BENCHMARKS = "docs/BENCHMARKS.md"
+NUMBER = r"\d(?:[\d,.]*\d)?"
 SECONDS = 60  # for the commands of one block
 END = "---- what the command before printed ends here"
 CRATES = {"Crate"}
@@ -189,7 +190,8 @@ def crate_of(path):
 
 def elsewhere(page):
     """The names on a page that aren't declared here; those of C are in the headers."""
-    return set(ELSEWHERE) | {name for it in HEADERS for name in re.findall(r"\w+", it.read_text())} | (GONE if page.path == "CHANGELOG.md" else set())
+    of_headers = {name for it in HEADERS for name in re.findall(r"\w+", it.read_text())}
+    return set(ELSEWHERE) | of_headers | (GONE if page.path == "CHANGELOG.md" else set())
 
 
 # ---- what a page has
@@ -466,7 +468,19 @@ def check_calls(page):
             yield Fault(page.path, line, f"no such call: {call}")
 
 
+def check_performance(page):
+    measured = set(re.findall(NUMBER, (TOP / BENCHMARKS).read_text()))
+    heading = ""
+    for at, line in enumerate(page.text.splitlines(), 1):
+        heading = line if line.startswith("#") else heading
+        for number in re.findall(NUMBER, line if heading == "## Performance" else ""):
+            if number not in measured:
+                yield Fault(page.path, at, f"no number of {BENCHMARKS}: {number}")
+
+
 def check_figures(page):
+    if page.path == "README.md":
+        yield from check_performance(page)
     if page.path != BENCHMARKS:
         return
     for name in bench.COMMANDS:
@@ -530,6 +544,7 @@ PLANTS = [
     Plant("crates/fib/README.md", "(`specs/Replay.antt`)", "(`specs/Again.antt`)", "no such file: specs/Again.antt"),
     Plant("crates/storm/README.md", "storm::run(", "storm::rain(", "no such call: storm::rain"),
     Plant("docs/BENCHMARKS.md", "| 1,000,000 |", "| 1,000,001 |", "not the table that `tools/bench.py job"),
+    Plant("README.md", "takes 19.71 ns", "takes 18.71 ns", "no number of docs/BENCHMARKS.md: 18.71"),
     Plant("docs/BENCHMARKS.md", "figures/job.svg", "figures/jobs.svg", "leads to no file: figures/jobs.svg"),
     Plant("docs/ARCHITECTURE.md", "`Fib::delete`", "`Fib::forget`", "no such call: Fib::forget"),
     Plant("docs/ARCHITECTURE.md", "Update::delete  ", "Update::forget  ", "no such call: Update::forget"),
