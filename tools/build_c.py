@@ -21,7 +21,7 @@ PROVED = CRATE / "out/libsaxiko_c.a"
 PARTS = ("heap", "saxiko", "strerror")
 OUT = TOP / "c/out"
 # What a program that links with the archive has to have: all of it is in the C library.
-NEEDED = {"malloc", "realloc", "free", "memcpy", "memmove", "memset", "memcmp"}
+NEEDED = {"malloc", "posix_memalign", "realloc", "free", "madvise", "memcpy", "memmove", "memset", "memcmp"}
 WARNINGS = ["-std=c11", "-Wall", "-Wextra", "-Wpedantic", "-Werror"]
 
 

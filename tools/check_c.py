@@ -7,6 +7,7 @@ What fails is printed, and makes the exit status 1. The archive is made anew by 
 
 - headers: saxiko.h and saxiko_rte_lpm.h compile without a warning as C99, C11 and C++11, in front of all others.
 - archive: it has each call that the header declares, and needs no more of others than the page of the crate names.
+- heap: c/tests/heap.c asks for small and large blocks as the proved part does; in the same three ways as the calls.
 - calls: c/tests/calls.c tries each call with what it refuses; as it is, with the sanitizers of addresses and of
   undefined behaviour, and under valgrind.
 - threads: c/tests/forwarder_threads.c looks up on three threads while a fourth changes routes, in the same three ways.
@@ -36,6 +37,7 @@ SANITIZERS = ["-g", "-fsanitize=address,undefined", "-fno-sanitize-recover=all"]
 VALGRIND = ["valgrind", "--quiet", "--error-exitcode=99", "--fair-sched=yes", "--leak-check=full",
             "--errors-for-leak-kinds=definite,indirect"]
 TOOLS = {"g++": "g++", "valgrind": "valgrind", "ar": "binutils", "nm": "binutils"}
+REFUSED = r"==\d+==WARNING: AddressSanitizer failed to allocate 0x2000000000000000 bytes"  # as the test wants it
 SECONDS = 300  # for one run
 MORE = 12  # instructions
 LOOKUPS = 10000  # of the bench
@@ -117,6 +119,10 @@ def check_calls(folder):
     return check_program(folder, "c/tests/calls.c", r"calls: \d+ checked, 0 wrong\n")
 
 
+def check_heap(folder):
+    return check_program(folder, "c/tests/heap.c", rf"({REFUSED}\n)*heap: \d+ checked, 0 wrong\n")
+
+
 def check_threads(folder):
     return check_program(folder, "c/tests/forwarder_threads.c", r"forwarder_threads: \d+ checked, 0 wrong\n")
 
@@ -152,7 +158,7 @@ def check_bench(folder):
         yield f"a lookup by a handle takes more than {MORE} instructions more"
 
 
-CHECKS = [check_header, check_archive, check_manual, check_calls, check_threads, check_example, check_bench]
+CHECKS = [check_header, check_archive, check_manual, check_heap, check_calls, check_threads, check_example, check_bench]
 
 
 def main():

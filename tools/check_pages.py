@@ -70,6 +70,7 @@ ELSEWHERE = {
     **dict.fromkeys("FinMap FinSet Appends AllocError".split(), "the kit's standard library"),
     **dict.fromkeys("lines_of without_terminator subcommand_of fault_of".split(), "bstr and clap of the kit"),
     "lpm_perf": "a test of DPDK",
+    "posix_memalign": "the C library",
 }
 GONE = {"Fib::run", "Misreport", "lpm_table"}  # as CHANGELOG.md tells, which alone may name them
 
