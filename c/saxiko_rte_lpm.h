@@ -1,13 +1,19 @@
-/* saxiko_rte_lpm.h: the calls of DPDK's rte_lpm, with its error values, over a table of one thread of saxiko.h.
+/* saxiko_rte_lpm.h: the calls of DPDK's rte_lpm, with its error values, over a table of one thread of saxiko.h. Include
+ * it instead of rte_lpm.h.
  *
- * What differs from DPDK: a prefix of depth 0 is a rule, the default route. One thread has the table, for changes and
- * lookups: lookups beside changes are those of saxiko_reader_lookup. Names and sockets are not kept. Include it instead
- * of rte_lpm.h. */
+ * What differs from DPDK:
+ * - A prefix of depth 0 is a rule, the default route.
+ * - Next hops have 24 bits, and a greater one is refused.
+ * - `number_tbl8s` is 1 to 65536, and `max_rules` at most 16777216. Names and sockets are not kept.
+ * - One thread has the table, for changes and lookups, and then a group (a tbl8) that is given up can be used again at
+ *   once. Lookups beside changes are those of saxiko_reader_lookup, where it waits until no reader can hold it.
+ * - Errors of rte_lpm_create are in errno. */
 #ifndef SAXIKO_RTE_LPM_H
 #define SAXIKO_RTE_LPM_H
 
 #include "saxiko.h"
 
+#include <emmintrin.h>
 #include <stdlib.h>
 
 #define RTE_LPM_MAX_DEPTH 32
@@ -72,23 +78,29 @@ static inline int rte_lpm_is_rule_present(struct rte_lpm *lpm, uint32_t ip, uint
     return status == 0 ? 1 : status == -ENOENT ? 0 : status;
 }
 
+/* The handle of a table that is looked up: DPDK has it const there, and what it answers by doesn't change. */
+static inline struct saxiko_table *rte_lpm_table(const struct rte_lpm *lpm) {
+    return lpm ? &((struct rte_lpm *)lpm)->table : NULL;
+}
+
 /* 0, -ENOENT or -EINVAL. */
-static inline int rte_lpm_lookup(struct rte_lpm *lpm, uint32_t ip, uint32_t *next_hop) {
-    return saxiko_table_lookup(lpm ? &lpm->table : NULL, ip, next_hop);
+static inline int rte_lpm_lookup(const struct rte_lpm *lpm, uint32_t ip, uint32_t *next_hop) {
+    return saxiko_table_lookup(rte_lpm_table(lpm), ip, next_hop);
 }
 
 /* Stores for each address its next hop with the bit RTE_LPM_LOOKUP_SUCCESS, or 0. */
-static inline int rte_lpm_lookup_bulk(struct rte_lpm *lpm, const uint32_t *ips, uint32_t *next_hops, unsigned n) {
-    int32_t status = saxiko_table_lookup_bulk(lpm ? &lpm->table : NULL, ips, n, next_hops, n, UINT32_MAX);
+static inline int rte_lpm_lookup_bulk(const struct rte_lpm *lpm, const uint32_t *ips, uint32_t *next_hops, unsigned n) {
+    int32_t status = saxiko_table_lookup_bulk(rte_lpm_table(lpm), ips, n, next_hops, n, UINT32_MAX);
     for (unsigned k = 0; status == 0 && k < n; k++)
         next_hops[k] = next_hops[k] == UINT32_MAX ? 0 : next_hops[k] | RTE_LPM_LOOKUP_SUCCESS;
     return status;
 }
 
-/* Stores the next hops of four addresses, and `defv` for one that no rule covers. DPDK hands the addresses over in a
- * vector of 128 bits, which is four numbers in memory. */
-static inline void rte_lpm_lookupx4(struct rte_lpm *lpm, const uint32_t ips[4], uint32_t hop[4], uint32_t defv) {
-    saxiko_table_lookup_bulk(lpm ? &lpm->table : NULL, ips, 4, hop, 4, defv);
+/* Stores the next hops of the four addresses of a vector (xmm_t of DPDK), and `defv` for one that no rule covers. */
+static inline void rte_lpm_lookupx4(const struct rte_lpm *lpm, __m128i ip, uint32_t hop[4], uint32_t defv) {
+    uint32_t ips[4];
+    _mm_storeu_si128((__m128i *)(void *)ips, ip);
+    saxiko_table_lookup_bulk(rte_lpm_table(lpm), ips, 4, hop, 4, defv);
 }
 
 #endif
