@@ -16,8 +16,8 @@
  *
  * Threads: one call at a time on a handle. A handle may go to another thread by the start or the join of a thread, by a
  * lock, or by a sequentially consistent atomic. Calls on different handles may run at once, also where both are of one
- * running table. No call waits, sleeps or takes a lock. None may be made from a signal handler, or in the child of a
- * fork of a process with threads. */
+ * running table. A handle's thread is the one that has it: each call says on whose thread it is made. No call waits,
+ * sleeps or takes a lock. None may be made from a signal handler, or in the child of a fork of a process with threads. */
 #ifndef SAXIKO_H
 #define SAXIKO_H
 
@@ -79,7 +79,7 @@ enum {
 /* The text of what a call returned, in English. It is never freed. From any thread. */
 const char *saxiko_strerror(int32_t status);
 
-/* ---- a table of one thread: it is changed and asked by the thread that has the handle */
+/* ---- a table of one thread: it is changed and asked by the thread that has its handle */
 
 struct saxiko_table {
     void *at;
@@ -89,52 +89,56 @@ struct saxiko_table {
 
 /* Opens a table without rules. Its memory is 64 MB for the first 24 bits, 1 KB for each group, and what the rules take.
  * `config->readers` doesn't count here.
- * -EINVAL: a limit is out of its range. -EBUSY: the handle is open. -ENOMEM. */
+ * -EINVAL: a limit is out of its range. -EBUSY: the handle is open. -ENOMEM. On any thread, which is the table's then. */
 int32_t saxiko_table_open(struct saxiko_table *table, const struct saxiko_config *config);
 
 /* Opens a table with the rules of these routes, in any order, at once and as version 0. Of routes of one prefix the last
  * counts. It is faster than an add for each.
  * -EDOM: a route has a greater depth or next hop than there is, and `*bad` is then the place of the first such.
  * -EINVAL: a limit is out of its range. -ENOSPC: the limits don't suffice for the rules or their groups. -E2BIG: more than
- * 2^26 routes. -EBUSY: the handle is open. -ENOMEM. With a length of 0 `routes` may be null. */
+ * 2^26 routes. -EBUSY: the handle is open. -ENOMEM. With a length of 0 `routes` may be null. On any thread, which is the
+ * table's then. */
 int32_t saxiko_table_load(struct saxiko_table *table, const struct saxiko_config *config,
                           const struct saxiko_route *routes, size_t routes_len, size_t *bad);
 
-/* Frees the table, and closes the handle. */
+/* Frees the table, and closes the handle. On the table's thread. */
 void saxiko_table_close(struct saxiko_table *table);
 
 /* Adds a rule, or gives the prefix's rule another next hop. It returns SAXIKO_ADDED, SAXIKO_REPLACED or
  * SAXIKO_UNCHANGED. -EINVAL: a depth above 32, or a next hop above SAXIKO_HOP_MAX. -ENOSPC: there are as many rules as
- * `rules` allows, or no group is free. -ENOMEM. -EOVERFLOW: 2^61 versions were made, or 2^62 tokens. */
+ * `rules` allows, or no group is free. -ENOMEM. -EOVERFLOW: 2^61 versions were made, or 2^62 tokens. On the table's
+ * thread. */
 int32_t saxiko_table_add(struct saxiko_table *table, uint32_t addr, uint8_t depth, uint32_t hop);
 
 /* Deletes the rule of a prefix, and stores the next hop that it had.
- * -ENOENT: the prefix has no rule. -EINVAL: a depth above 32. -EOVERFLOW as in add. */
+ * -ENOENT: the prefix has no rule. -EINVAL: a depth above 32. -EOVERFLOW as in add. On the table's thread. */
 int32_t saxiko_table_delete(struct saxiko_table *table, uint32_t addr, uint8_t depth, uint32_t *hop);
 
-/* Deletes all rules as one version, and stores how many there were. -EOVERFLOW as in add. */
+/* Deletes all rules as one version, and stores how many there were. -EOVERFLOW as in add. On the table's thread. */
 int32_t saxiko_table_flush(struct saxiko_table *table, size_t *rules);
 
-/* Stores the next hop of the rule of this very prefix. -ENOENT: it has none. -EINVAL: a depth above 32. */
+/* Stores the next hop of the rule of this very prefix. -ENOENT: it has none. -EINVAL: a depth above 32. On the table's
+ * thread. */
 int32_t saxiko_table_get(struct saxiko_table *table, uint32_t addr, uint8_t depth, uint32_t *hop);
 
 /* Stores the next hop of the longest rule that covers the address. -ENOENT: no rule covers it.
- * It is inline, so that where a pointer is known not to be null that isn't tested. */
+ * It is inline, so that where a pointer is known not to be null that isn't tested. On the table's thread. */
 int32_t saxiko_proved_table_lookup(struct saxiko_table *table, uint32_t addr, uint32_t *hop);
 inline int32_t saxiko_table_lookup(struct saxiko_table *table, uint32_t addr, uint32_t *hop) {
     return table && hop ? saxiko_proved_table_lookup(table, addr, hop) : -EINVAL;
 }
 
 /* Stores for each address the next hop of the longest rule that covers it, and `absent`, which is any number, for one
- * that no rule covers. -EINVAL: `addrs_len` isn't `hops_len`. With lengths of 0 the pointers may be null. */
+ * that no rule covers. -EINVAL: `addrs_len` isn't `hops_len`. With lengths of 0 the pointers may be null. On the table's
+ * thread. */
 int32_t saxiko_table_lookup_bulk(struct saxiko_table *table, const uint32_t *addrs, size_t addrs_len,
                                  uint32_t *hops, size_t hops_len, uint32_t absent);
 
-/* Counts rules, versions and groups. */
+/* Counts rules, versions and groups. On the table's thread. */
 int32_t saxiko_table_counts(struct saxiko_table *table, struct saxiko_counts *counts);
 
 /* Frees at most `max` groups that wait, the oldest first, and stores how many. In a table of one thread nothing holds
- * a group, so that an add that lacks one takes the oldest that waits by itself. */
+ * a group, so that an add that lacks one takes the oldest that waits by itself. On the table's thread. */
 int32_t saxiko_table_reclaim(struct saxiko_table *table, size_t max, size_t *freed);
 
 /* ---- a running table: one thread changes it, and readers look up on their own threads meanwhile, with no lock
@@ -166,18 +170,20 @@ struct saxiko_held {
 /* What a reclaim returns, beside 0, where a reader holds the next group that waits. */
 #define SAXIKO_HELD 1
 
-/* Opens a running table without rules, and its writer. Refused as saxiko_table_open. */
+/* Opens a running table without rules, and its writer. Refused as saxiko_table_open. On any thread, which is the writer's
+ * then. */
 int32_t saxiko_writer_open(struct saxiko_writer *writer, const struct saxiko_config *config);
 
-/* The same with the rules of these routes. Refused as saxiko_table_load. */
+/* The same with the rules of these routes. Refused as saxiko_table_load. On any thread, which is the writer's then. */
 int32_t saxiko_writer_load(struct saxiko_writer *writer, const struct saxiko_config *config,
                            const struct saxiko_route *routes, size_t routes_len, size_t *bad);
 
-/* Frees the writer. Its readers go on: the table is freed with the last handle of it that is closed. */
+/* Frees the writer. Its readers go on: the table is freed with the last handle of it that is closed. On the writer's
+ * thread. */
 void saxiko_writer_close(struct saxiko_writer *writer);
 
 /* As the calls of a table, while readers look up. -EBUSY of an add: a group is lacking, and a reader holds the oldest that
- * waits, so that it can be tried again once that one has reported; -ENOSPC, where none waits. */
+ * waits, so that it can be tried again once that one has reported; -ENOSPC, where none waits. On the writer's thread. */
 int32_t saxiko_writer_add(struct saxiko_writer *writer, uint32_t addr, uint8_t depth, uint32_t hop);
 int32_t saxiko_writer_delete(struct saxiko_writer *writer, uint32_t addr, uint8_t depth, uint32_t *hop);
 int32_t saxiko_writer_flush(struct saxiko_writer *writer, size_t *rules);
@@ -185,7 +191,7 @@ int32_t saxiko_writer_get(struct saxiko_writer *writer, uint32_t addr, uint8_t d
 int32_t saxiko_writer_counts(struct saxiko_writer *writer, struct saxiko_counts *counts);
 
 /* Frees at most `max` groups that wait, the oldest first, up to one that a reader holds, and stores how many. It returns
- * SAXIKO_HELD where a reader holds the next one, which `held` names then; `held` may be null. */
+ * SAXIKO_HELD where a reader holds the next one, which `held` names then; `held` may be null. On the writer's thread. */
 int32_t saxiko_writer_reclaim(struct saxiko_writer *writer, size_t max, size_t *freed, struct saxiko_held *held);
 
 /* Opens a reader of this number, from 0 to `readers` - 1, which is offline. The writer's thread calls it, and may hand
@@ -197,27 +203,30 @@ int32_t saxiko_reader_register(struct saxiko_writer *writer, struct saxiko_reade
  * calls it, once the reader's thread no longer uses the handle. -EINVAL: the reader is one of another table. */
 int32_t saxiko_reader_unregister(struct saxiko_writer *writer, struct saxiko_reader *reader);
 
-/* Takes the reader offline, if it is online, and closes its handle, also without the writer. Its number stays in use. */
+/* Takes the reader offline, if it is online, and closes its handle, also without the writer. Its number stays in use. On
+ * the reader's thread. */
 void saxiko_reader_close(struct saxiko_reader *reader);
 
-/* The reader is online: it may look up, and may hold groups. -EALREADY: it is. */
+/* The reader is online: it may look up, and may hold groups. -EALREADY: it is. On the reader's thread. */
 int32_t saxiko_reader_online(struct saxiko_reader *reader);
 
-/* The reader is offline: it holds nothing. Before anything that may wait. -EPERM: it is. */
+/* The reader is offline: it holds nothing. Before anything that may wait. -EPERM: it is. On the reader's thread. */
 int32_t saxiko_reader_offline(struct saxiko_reader *reader);
 
-/* The reader holds nothing that it looked up before. Once for each burst. -EPERM: the reader is offline. */
+/* The reader holds nothing that it looked up before. Once for each burst. -EPERM: the reader is offline. On the reader's
+ * thread. */
 int32_t saxiko_reader_quiescent(struct saxiko_reader *reader);
 
 /* Stores the next hop of the longest rule that covers the address, in a version of the rules that stood during the call.
- * -ENOENT: no rule covered it. -EPERM: the reader is offline. */
+ * -ENOENT: no rule covered it. -EPERM: the reader is offline. On the reader's thread. */
 int32_t saxiko_proved_reader_lookup(struct saxiko_reader *reader, uint32_t addr, uint32_t *hop);
 inline int32_t saxiko_reader_lookup(struct saxiko_reader *reader, uint32_t addr, uint32_t *hop) {
     return reader && hop ? saxiko_proved_reader_lookup(reader, addr, hop) : -EINVAL;
 }
 
 /* As saxiko_table_lookup_bulk, where each address's answer is that of a version that stood during the call. Two answers
- * need not be of one version. -EINVAL: `addrs_len` isn't `hops_len`. -EPERM: the reader is offline. */
+ * need not be of one version. -EINVAL: `addrs_len` isn't `hops_len`. -EPERM: the reader is offline. On the reader's
+ * thread. */
 int32_t saxiko_reader_lookup_bulk(struct saxiko_reader *reader, const uint32_t *addrs, size_t addrs_len,
                                   uint32_t *hops, size_t hops_len, uint32_t absent);
 
