@@ -10,6 +10,7 @@ What fails is printed, and makes the exit status 1. The archive is made anew by 
 - heap: c/tests/heap.c asks for small and large blocks as the proved part does; in the same three ways as the calls.
 - calls: c/tests/calls.c tries each call with what it refuses; as it is, with the sanitizers of addresses and of
   undefined behaviour, and under valgrind.
+- memory: c/tests/refused.c refuses memory to each call, from each allocation on in turn; in the same three ways.
 - threads: c/tests/forwarder_threads.c looks up on three threads while a fourth changes routes, in the same three ways.
 - example: examples/forwarder.c prints what examples/forwarder.txt says.
 - manual: docs/man/saxiko.3 has the calls of the header, with their parameters.
@@ -33,11 +34,13 @@ TOP = pathlib.Path(__file__).resolve().parent.parent
 ARCHIVE = build_c.OUT / "libsaxiko.a"
 MANUAL = TOP / "docs/man/saxiko.3"
 PAGE = TOP / "crates/saxiko_c/README.md"
+PARTS = [f"c/{part}.c" for part in build_c.PARTS]
 SANITIZERS = ["-g", "-fsanitize=address,undefined", "-fno-sanitize-recover=all"]
 VALGRIND = ["valgrind", "--quiet", "--error-exitcode=99", "--fair-sched=yes", "--leak-check=full",
             "--errors-for-leak-kinds=definite,indirect"]
 TOOLS = {"g++": "g++", "valgrind": "valgrind", "ar": "binutils", "nm": "binutils"}
 REFUSED = r"==\d+==WARNING: AddressSanitizer failed to allocate 0x2000000000000000 bytes"  # as the test wants it
+ASKED_HERE = ["-Wl,--wrap=rattle_alloc,--wrap=rattle_realloc"]  # the proved part asks that program for memory
 SECONDS = 300  # for one run
 MORE = 12  # instructions
 LOOKUPS = 10000  # of the bench
@@ -55,13 +58,13 @@ def compiler():
     return shlex.split(os.environ.get("CC") or "cc")
 
 
-def compiled(folder, source, *flags):
-    """The program of one C file over the archive."""
-    program = pathlib.Path(folder, f"{pathlib.Path(source).stem}{len(list(pathlib.Path(folder).iterdir()))}")
-    words = [*compiler(), *build_c.WARNINGS, "-O2", *flags, "-Ic", source, ARCHIVE, "-pthread", "-o", program]
+def compiled(folder, sources, *flags):
+    """The program of C files over the archive. What these have isn't taken from it."""
+    program = pathlib.Path(folder, f"program{len(list(pathlib.Path(folder).iterdir()))}")
+    words = [*compiler(), *build_c.WARNINGS, "-O2", *flags, "-Ic", *sources, ARCHIVE, "-pthread", "-o", program]
     status, told = run(words)
     if status or told:
-        raise OSError(f"{source}: {told}")
+        raise OSError(f"{sources[0]}: {told}")
     return program
 
 
@@ -100,16 +103,16 @@ def check_manual(folder):
         yield f"{MANUAL.relative_to(TOP)}: the calls differ from the header's in {sorted(set(declared.items()) ^ set(told.items()))}"
 
 
-def ways(folder, source):
-    """A program as it is, with sanitizers, and under valgrind."""
-    plain = compiled(folder, source)
+def ways(folder, source, *flags):
+    """A program as it is, with sanitizers, and under valgrind. The library's own C parts have the sanitizers too."""
+    plain = compiled(folder, [source], *flags)
     yield "as it is", [plain]
-    yield "with sanitizers", [compiled(folder, source, *SANITIZERS)]
+    yield "with sanitizers", [compiled(folder, [source, *PARTS], *SANITIZERS, *flags)]
     yield "under valgrind", [*VALGRIND, plain]
 
 
-def check_program(folder, source, wanted):
-    for name, words in ways(folder, source):
+def check_program(folder, source, wanted, *flags):
+    for name, words in ways(folder, source, *flags):
         status, told = run(words)
         if status or not re.fullmatch(wanted, told):
             yield f"{source} {name} ends with {status}: {told}"
@@ -117,6 +120,10 @@ def check_program(folder, source, wanted):
 
 def check_calls(folder):
     return check_program(folder, "c/tests/calls.c", r"calls: \d+ checked, 0 wrong\n")
+
+
+def check_memory(folder):
+    return check_program(folder, "c/tests/refused.c", r"refused: \d+ checked, 0 wrong\n", *ASKED_HERE)
 
 
 def check_heap(folder):
@@ -128,7 +135,7 @@ def check_threads(folder):
 
 
 def check_example(folder):
-    program = compiled(folder, "examples/forwarder.c")
+    program = compiled(folder, ["examples/forwarder.c"])
     files = [f"examples/{name}.txt" for name in ("routes", "updates", "addresses")]
     status, told = run([program, *files])
     wanted = (TOP / "examples/forwarder.txt").read_text()
@@ -148,7 +155,7 @@ def instructions(folder, program, way):
 
 
 def check_bench(folder):
-    program = compiled(folder, "c/tests/bench.c")
+    program = compiled(folder, ["c/tests/bench.c"])
     counted = {way: instructions(folder, program, way) for way in ("words", "handle")}
     each = {way: count / LOOKUPS for way, (count, _) in counted.items()}
     print(f"instructions of a lookup: {each['words']:.1f} over plain words, {each['handle']:.1f} by a handle")
@@ -158,7 +165,8 @@ def check_bench(folder):
         yield f"a lookup by a handle takes more than {MORE} instructions more"
 
 
-CHECKS = [check_header, check_archive, check_manual, check_heap, check_calls, check_threads, check_example, check_bench]
+CHECKS = [check_header, check_archive, check_manual, check_heap, check_calls, check_memory, check_threads, check_example,
+          check_bench]
 
 
 def main():

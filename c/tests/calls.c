@@ -1,4 +1,7 @@
 /* Each call of saxiko.h with what it refuses. */
+#define _DEFAULT_SOURCE
+#include <sys/mman.h>
+
 #include "calls_table.h"
 
 #include "calls_rte_lpm.h"
@@ -11,6 +14,23 @@ static void texts(void) {
         CHECK(strcmp(saxiko_strerror(statuses[k]), "unknown status") != 0, 1);
     CHECK(strcmp(saxiko_strerror(-9999), "unknown status"), 0);
     CHECK(strcmp(saxiko_strerror(INT32_MIN), "unknown status"), 0);
+}
+
+/* A list that is too long to be sorted opens neither table. No page of it is ever touched. */
+static void too_many_routes(void) {
+    const size_t length = ((size_t)1 << 26) + 1;
+    struct saxiko_config config = SAXIKO_DEFAULTS;
+    struct saxiko_table table = SAXIKO_CLOSED;
+    struct saxiko_writer writer = SAXIKO_CLOSED;
+    size_t bad = UNTOUCHED;
+    struct saxiko_route *routes = mmap(NULL, length * sizeof *routes, PROT_READ,
+                                       MAP_PRIVATE | MAP_ANONYMOUS | MAP_NORESERVE, -1, 0);
+    CHECK(routes != MAP_FAILED, 1);
+    CHECK(saxiko_table_load(&table, &config, routes, length, &bad), -E2BIG);
+    CHECK(saxiko_writer_load(&writer, &config, routes, length, &bad), -E2BIG);
+    CHECK(bad, UNTOUCHED);
+    CHECK(table.is_open || writer.is_open, 0);
+    munmap(routes, length * sizeof *routes);
 }
 
 /* Both tables open with a list of many routes: one for each block from 1.0.0.0 on. */
@@ -40,5 +60,6 @@ int main(void) {
     rte_lpm_calls();
     texts();
     many_routes();
+    too_many_routes();
     return end_of_checks("calls");
 }

@@ -48,11 +48,12 @@ static void running_missing(struct saxiko_writer *open_writer, struct saxiko_rea
     struct saxiko_reader reader = SAXIKO_CLOSED;
     struct saxiko_writer *no_writer[] = {NULL, &writer};
     struct saxiko_reader *no_reader[] = {NULL, &reader};
-    struct saxiko_counts counts;
+    struct saxiko_counts counts, untouched;
     struct saxiko_held held = {UNTOUCHED, UNTOUCHED};
     uint32_t hop = UNTOUCHED, addrs[2] = {0, 1}, hops[2] = {UNTOUCHED, UNTOUCHED};
     size_t number = UNTOUCHED;
     memset(&counts, 0xa5, sizeof counts);
+    untouched = counts;
     saxiko_writer_close(NULL);
     saxiko_writer_close(&writer);
     saxiko_reader_close(NULL);
@@ -84,13 +85,27 @@ static void running_missing(struct saxiko_writer *open_writer, struct saxiko_rea
     CHECK(saxiko_reader_lookup(open_reader, 0, NULL), -EINVAL);
     CHECK(saxiko_reader_lookup_bulk(open_reader, NULL, 2, hops, 2, 7), -EINVAL);
     CHECK(saxiko_reader_lookup_bulk(open_reader, addrs, 2, NULL, 2, 7), -EINVAL);
+    CHECK(saxiko_reader_lookup_bulk(open_reader, addrs, 1, hops, 2, 7), -EINVAL);
+    CHECK(saxiko_reader_lookup_bulk(open_reader, addrs, 2, hops, 1, 7), -EINVAL);
     CHECK(hop, UNTOUCHED);
     CHECK(number, UNTOUCHED);
     CHECK(held.reader, UNTOUCHED);
+    CHECK(held.counter, UNTOUCHED);
     CHECK(hops[0], UNTOUCHED);
     CHECK(hops[1], UNTOUCHED);
-    CHECK(counts.rules, 0xa5a5a5a5a5a5a5a5u);
+    CHECK(memcmp(&counts, &untouched, sizeof counts), 0);
     CHECK(writer.is_open || reader.is_open, 0);
+}
+
+/* An offline reader looks nothing up. */
+static void offline_reads(struct saxiko_reader *reader) {
+    uint32_t addrs[2] = {0, 1}, hops[2] = {UNTOUCHED, UNTOUCHED};
+    CHECK(read_hop(reader, 0), -EPERM);
+    CHECK(saxiko_reader_lookup_bulk(reader, addrs, 2, hops, 2, 7), -EPERM);
+    CHECK(hops[0], UNTOUCHED);
+    CHECK(hops[1], UNTOUCHED);
+    CHECK(saxiko_reader_quiescent(reader), -EPERM);
+    CHECK(saxiko_reader_offline(reader), -EPERM);
 }
 
 /* Readers come, report and go. */
@@ -102,9 +117,7 @@ static void readers(struct saxiko_writer *writer, struct saxiko_reader *reader) 
     CHECK(saxiko_reader_register(writer, reader, 1), -EBUSY);
     CHECK(saxiko_reader_register(writer, &other, 0), -EBUSY);
     CHECK(saxiko_reader_register(writer, &other, 1), 0);
-    CHECK(read_hop(reader, 0), -EPERM);
-    CHECK(saxiko_reader_quiescent(reader), -EPERM);
-    CHECK(saxiko_reader_offline(reader), -EPERM);
+    offline_reads(reader);
     CHECK(saxiko_reader_online(reader), 0);
     CHECK(saxiko_reader_online(reader), -EALREADY);
     CHECK(saxiko_reader_quiescent(reader), 0);
@@ -146,6 +159,8 @@ static void holding(struct saxiko_writer *writer, struct saxiko_reader *reader) 
     CHECK(held.reader, 0);
     CHECK(held.counter, 1);
     CHECK(saxiko_writer_add(writer, A(10, 1, 3, 0), 26, 5), -EBUSY);
+    check_writer(writer, __LINE__, 1, 1, 1, 0, 3);
+    CHECK(writer_held(writer, A(10, 1, 3, 0), 26), -ENOENT);
     CHECK(saxiko_writer_reclaim(writer, 2, &freed, NULL), SAXIKO_HELD);
     CHECK(saxiko_reader_quiescent(reader), 0);
     held.reader = UNTOUCHED;

@@ -87,10 +87,11 @@ static void limits(void) {
 /* A null pointer in each place, and each call on a closed handle. */
 static void missing(struct saxiko_table *open) {
     struct saxiko_table table = SAXIKO_CLOSED;
-    struct saxiko_counts counts;
+    struct saxiko_counts counts, untouched;
     uint32_t hop = UNTOUCHED, addrs[2] = {0, 1}, hops[2] = {UNTOUCHED, UNTOUCHED};
     size_t number = UNTOUCHED;
     memset(&counts, 0xa5, sizeof counts);
+    untouched = counts;
     saxiko_table_close(NULL);
     saxiko_table_close(&table);
     CHECK(saxiko_table_open(NULL, &small), -EINVAL);
@@ -121,7 +122,7 @@ static void missing(struct saxiko_table *open) {
     CHECK(number, UNTOUCHED);
     CHECK(hops[0], UNTOUCHED);
     CHECK(hops[1], UNTOUCHED);
-    CHECK(counts.rules, 0xa5a5a5a5a5a5a5a5u);
+    CHECK(memcmp(&counts, &untouched, sizeof counts), 0);
     CHECK(table.is_open, 0);
 }
 
