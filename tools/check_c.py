@@ -14,7 +14,8 @@ What fails is printed, and makes the exit status 1. The archive is made anew by 
 - threads: c/tests/forwarder_threads.c looks up on three threads while a fourth changes routes, in the same three ways.
 - example: examples/forwarder.c prints what examples/forwarder.txt says.
 - manual: docs/man/saxiko.3 has the calls of the header, with their parameters.
-- bench: by valgrind's count, a lookup by a handle takes at most MORE instructions more than one over plain words.
+- bench: by valgrind's count, a lookup by a handle takes at most MORE instructions more than one over plain words, one of
+  many at once no more than one by itself, and a reader's of many at most RATIO times those of a table's.
 
 Without a C and a C++ compiler, valgrind or their libraries it says what to install, and fails.
 """
@@ -43,6 +44,7 @@ REFUSED = r"==\d+==WARNING: AddressSanitizer failed to allocate 0x20000000000000
 ASKED_HERE = ["-Wl,--wrap=rattle_alloc,--wrap=rattle_realloc"]  # the proved part asks that program for memory
 SECONDS = 300  # for one run
 MORE = 12  # instructions
+RATIO = 1.3
 LOOKUPS = 10000  # of the bench
 
 
@@ -144,25 +146,30 @@ def check_example(folder):
 
 
 def instructions(folder, program, way):
-    """How many instructions the lookups of one way take."""
+    """How many instructions a lookup takes in one way, and what all answers add up to."""
     words = ["valgrind", "--tool=callgrind", f"--callgrind-out-file={folder}/callgrind", f"--toggle-collect=by_{way}*",
              program, way]
     status, told = run(words)
     found = re.search(r"Collected : (\d+)", told)
     if status or not found:
         raise OSError(f"{way} ends with {status}: {told}")
-    return int(found[1]), re.search(r"(?m)^(\d+)$", told)[1]
+    return int(found[1]) / LOOKUPS, re.search(r"(?m)^(\d+)$", told)[1]
 
 
 def check_bench(folder):
     program = compiled(folder, ["c/tests/bench.c"])
-    counted = {way: instructions(folder, program, way) for way in ("words", "handle")}
-    each = {way: count / LOOKUPS for way, (count, _) in counted.items()}
-    print(f"instructions of a lookup: {each['words']:.1f} over plain words, {each['handle']:.1f} by a handle")
-    if counted["words"][1] != counted["handle"][1]:
+    counted = {way: instructions(folder, program, way) for way in ("words", "handle", "table_bulk", "reader_bulk")}
+    words, handle, table, reader = (count for count, _ in counted.values())
+    print(f"instructions of a lookup: {words:.1f} over plain words, {handle:.1f} by a handle; of many at once, "
+          f"{table:.1f} by a table and {reader:.1f} by a reader")
+    if len({answers for _, answers in counted.values()}) > 1:
         yield f"the answers differ: {counted}"
-    if each["handle"] > each["words"] + MORE:
+    if handle > words + MORE:
         yield f"a lookup by a handle takes more than {MORE} instructions more"
+    if table > handle:
+        yield "a lookup of many at once takes more instructions than one by itself"
+    if reader > RATIO * table:
+        yield f"a reader's lookup of many takes more than {RATIO} times the instructions of a table's"
 
 
 CHECKS = [check_header, check_archive, check_manual, check_heap, check_calls, check_memory, check_threads, check_example,

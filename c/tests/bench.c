@@ -1,5 +1,5 @@
-/* Lookups by a handle, and over plain words, for a count of their instructions: `bench handle` and `bench words` look up
- * the same addresses, in `by_handle` and in `by_words`. */
+/* Lookups for a count of their instructions: `bench WAY` looks up the same addresses in the function `by_WAY`: over plain
+ * words, by the handle of a table, and many at once by a table and by a reader. */
 #include "saxiko.h"
 
 #include <stdio.h>
@@ -37,26 +37,82 @@ __attribute__((noipa)) static uint32_t by_handle(struct saxiko_table *table, con
     return sum;
 }
 
-int main(int count, char **words) {
-    static const struct saxiko_config config = {100, 2, 0, 32, 16};
-    static uint32_t addrs[LOOKUPS];
-    struct saxiko_table table = SAXIKO_CLOSED;
+__attribute__((noipa)) static void by_table_bulk(struct saxiko_table *table, const uint32_t *addrs, uint32_t *hops) {
+    saxiko_table_lookup_bulk(table, addrs, LOOKUPS, hops, LOOKUPS, 7);
+}
+
+__attribute__((noipa)) static void by_reader_bulk(struct saxiko_reader *reader, const uint32_t *addrs, uint32_t *hops) {
+    saxiko_reader_lookup_bulk(reader, addrs, LOOKUPS, hops, LOOKUPS, 7);
+}
+
+static uint32_t sum_of(const uint32_t *hops) {
+    uint32_t sum = 0;
+    for (int k = 0; k < LOOKUPS; k++)
+        sum += hops[k];
+    return sum;
+}
+
+/* Half of 10.0.1 has 5, all else of 10.0 has 3. */
+static const struct saxiko_route routes[] = {{0x0a000000, 3, 16}, {0x0a000180, 5, 25}};
+
+static uint32_t in_words(const uint32_t *addrs) {
     struct words plain = {calloc(FIRSTS, 4), calloc(256, 4)};
-    if (count != 2 || !plain.firsts || !plain.seconds || saxiko_table_open(&table, &config) != 0)
-        return 1;
-    /* half of 10.0.1 has 5, all else of 10.0 has 3 */
-    for (uint32_t k = 0; k < 256; k++) {
-        plain.firsts[0x0a0000 | k] = IS_HIT | 3;
-        plain.seconds[k] = k < 128 ? IS_HIT | 3 : IS_HIT | 5;
+    uint32_t sum = 0;
+    if (plain.firsts && plain.seconds) {
+        for (uint32_t k = 0; k < 256; k++) {
+            plain.firsts[0x0a0000 | k] = IS_HIT | 3;
+            plain.seconds[k] = k < 128 ? IS_HIT | 3 : IS_HIT | 5;
+        }
+        plain.firsts[0x0a0001] = IS_GROUP | 0;
+        sum = by_words(&plain, addrs);
     }
-    plain.firsts[0x0a0001] = IS_GROUP | 0;
-    saxiko_table_add(&table, 0x0a000000, 16, 3);
-    saxiko_table_add(&table, 0x0a000180, 25, 5);
-    for (uint32_t k = 0; k < LOOKUPS; k++)
-        addrs[k] = 0x0a000000 + k * 7 % 1024;
-    printf("%u\n", strcmp(words[1], "handle") == 0 ? by_handle(&table, addrs) : by_words(&plain, addrs));
-    saxiko_table_close(&table);
     free(plain.firsts);
     free(plain.seconds);
+    return sum;
+}
+
+static uint32_t in_table(const char *way, const uint32_t *addrs, uint32_t *hops) {
+    static const struct saxiko_config config = {100, 2, 0, 32, 16};
+    struct saxiko_table table = SAXIKO_CLOSED;
+    size_t bad;
+    uint32_t sum = 0;
+    if (saxiko_table_load(&table, &config, routes, 2, &bad) != 0)
+        return 0;
+    if (strcmp(way, "handle") == 0) {
+        sum = by_handle(&table, addrs);
+    } else {
+        by_table_bulk(&table, addrs, hops);
+        sum = sum_of(hops);
+    }
+    saxiko_table_close(&table);
+    return sum;
+}
+
+static uint32_t in_running_table(const uint32_t *addrs, uint32_t *hops) {
+    static const struct saxiko_config config = {100, 2, 1, 32, 16};
+    struct saxiko_writer writer = SAXIKO_CLOSED;
+    struct saxiko_reader reader = SAXIKO_CLOSED;
+    size_t bad;
+    if (saxiko_writer_load(&writer, &config, routes, 2, &bad) != 0 || saxiko_reader_register(&writer, &reader, 0) != 0
+        || saxiko_reader_online(&reader) != 0)
+        return 0;
+    by_reader_bulk(&reader, addrs, hops);
+    saxiko_reader_close(&reader);
+    saxiko_writer_close(&writer);
+    return sum_of(hops);
+}
+
+int main(int count, char **words) {
+    static uint32_t addrs[LOOKUPS], hops[LOOKUPS];
+    for (uint32_t k = 0; k < LOOKUPS; k++)
+        addrs[k] = 0x0a000000 + k * 7 % 1024;
+    if (count != 2)
+        return 1;
+    if (strcmp(words[1], "words") == 0)
+        printf("%u\n", in_words(addrs));
+    else if (strcmp(words[1], "reader_bulk") == 0)
+        printf("%u\n", in_running_table(addrs, hops));
+    else
+        printf("%u\n", in_table(words[1], addrs, hops));
     return 0;
 }
