@@ -3,7 +3,7 @@ use Rattle.std.proofs.Common.{◌≡◌, ap, sym, subst, ◌∙◌, List, Option
 use Rattle.lpm_limits.specs.declared.config.Config.{Config}
 use Rattle.lpm_rules.specs.RuleMap.{RuleMap}
 use Rattle.shared_fib.specs.Passes.{PassState, IsFullBench}
-use Rattle.shared_fib.specs.Running.{Identity, IsAtRest, WriterState, opens_with}
+use Rattle.shared_fib.specs.Running.{Identity, WriterState, opens_with}
 use Rattle.saxiko.specs.Owned.{OwnerState}
 
 -- it is the owner of this table, which was just opened with these rules
@@ -11,12 +11,11 @@ pub record OpensAs (table : Identity) (config : Config) (rules : RuleMap) (o : O
   pub identity : o.writer.identity ≡ table
   pub writer : o.writer ≡ opens_with o.writer.identity config rules
   pub bench : IsFullBench o.writer.identity o.bench
-  pub rests : IsAtRest o.writer
 
 pub opens_as : (table : Identity) (config : Config) (rules : RuleMap) (w : WriterState) (b : List (Option PassState)) (o : OwnerState)
-    → o ≡ record { writer = w; bench = b } → w ≡ opens_with table config rules → IsFullBench table b → IsAtRest w
+    → o ≡ record { writer = w; bench = b } → w ≡ opens_with table config rules → IsFullBench table b
     → OpensAs table config rules o
-opens_as table config rules w b o is opened full rests =
+opens_as table config rules w b o is opened full =
     let same : o.writer ≡ w = ap (λ (x : OwnerState). x.writer) is in
     let identity : o.writer.identity ≡ table = ap (λ (x : WriterState). x.identity) (same ∙ opened) in
     let bench : o.bench ≡ b = ap (λ (x : OwnerState). x.bench) is in
@@ -24,5 +23,4 @@ opens_as table config rules w b o is opened full rests =
       identity = identity;
       writer = same ∙ opened ∙ ap (λ (i : Identity). opens_with i config rules) (sym identity);
       bench = subst (λ (z : Identity × List (Option PassState)). IsFullBench z.0 z.1) (λ i. (sym identity i, sym bench i)) full;
-      rests = subst IsAtRest (sym same) rests;
     }

@@ -7,7 +7,7 @@ ghost use Rattle.lpm_rules.specs.Listed.{AreInOrder, rules_of};
 ghost use Rattle.fib_model.specs.Outcomes.{groups_in_use};
 ghost use Rattle.fib.specs.Fib.{opened_with};
 ghost use Rattle.shared_fib.specs.Passes.{IsFullBench};
-ghost use Rattle.shared_fib.specs.Running.{IsAtRest, opens_with};
+ghost use Rattle.shared_fib.specs.Running.{opens_with};
 
 use crate::rule::Inner;
 use crate::{Config, OpenError, Owner, Rule, Table};
@@ -98,7 +98,6 @@ impl Owner {
             owner.writer.identity.opening.workers ≡ config.workers)) }
         ensures bench { IfOk result (λ o. IfSome o (λ owner.
             IsFullBench owner.writer.identity owner.bench)) }
-        ensures rests { IfOk result (λ o. IfSome o (λ owner. IsAtRest owner.writer)) }
         ensures rules_fit { IfOk result (λ o. IfSome o (λ _.
             map.len (rules_of rules.now) ≤ config.rules)) }
         ensures groups_fit { IfOk result (λ o. IfSome o (λ _.

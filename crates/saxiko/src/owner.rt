@@ -99,7 +99,6 @@ impl Owner {
         ensures token { IfOk result (λ owner. owner.writer.identity.opening.token ≡ config.first_token) }
         ensures workers { IfOk result (λ owner. owner.writer.identity.opening.workers ≡ config.workers) }
         ensures bench { IfOk result (λ owner. IsFullBench owner.writer.identity owner.bench) }
-        ensures rests { IfOk result (λ owner. IsAtRest owner.writer) }
         ensures limits { IfOk result (λ _. IsConfig config) }
         ensures bad_config { IfErr result
             (λ error. (error ≡ OpenError.BadConfig) ↔ (¬ IsConfig config)) }

@@ -21,8 +21,7 @@ pub fn lookup<const FIRST: u32, const SECOND: u32, T: Opens>(
     table: &SharedWords<T>,
     addr: u32,
 ) -> Answer
-    requires own { IsOf table.now.board.shared.table_id (T.opened table.now.board.shared.key)
-        table.now.layout seat.old.table seat.old.view }
+    requires own { IsOf table.now seat.old.table seat.old.view }
     requires shape { IsShape FIRST SECOND }
     requires first { seat.old.view.opening.first ≡ FIRST }
     requires second { seat.old.view.opening.second ≡ SECOND }
@@ -52,8 +51,7 @@ fn load_words<const FIRST: u32, const SECOND: u32, T: Opens>(
     table: &SharedWords<T>,
     addr: u32,
 ) -> u64
-    requires own { IsOf table.now.board.shared.table_id (T.opened table.now.board.shared.key)
-        table.now.layout seat.old.table seat.old.view }
+    requires own { IsOf table.now seat.old.table seat.old.view }
     requires shape { IsShape FIRST SECOND }
     requires first { seat.old.view.opening.first ≡ FIRST }
     requires second { seat.old.view.opening.second ≡ SECOND }

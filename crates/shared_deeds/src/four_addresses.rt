@@ -35,8 +35,7 @@ pub fn lookup4<const FIRST: u32, const SECOND: u32, T: Opens>(
     c: u32,
     d: u32,
 ) -> FourAnswers
-    requires own { IsOf table.now.board.shared.table_id (T.opened table.now.board.shared.key)
-        table.now.layout seat.old.table seat.old.view }
+    requires own { IsOf table.now seat.old.table seat.old.view }
     requires shape { IsShape FIRST SECOND }
     requires first { seat.old.view.opening.first ≡ FIRST }
     requires second { seat.old.view.opening.second ≡ SECOND }
@@ -79,8 +78,7 @@ fn load_firsts<const FIRST: u32, const SECOND: u32, T: Opens>(
     c: u32,
     d: u32,
 ) -> (u64, u64, u64, u64)
-    requires own { IsOf table.now.board.shared.table_id (T.opened table.now.board.shared.key)
-        table.now.layout seat.old.table seat.old.view }
+    requires own { IsOf table.now seat.old.table seat.old.view }
     requires shape { IsShape FIRST SECOND }
     requires second { seat.old.view.opening.second ≡ SECOND }
     requires firsts { length seat.old.view.opening.firsts ≡ 2 ^ FIRST }
@@ -113,8 +111,7 @@ fn load_last<const FIRST: u32, const SECOND: u32, T: Opens>(
     addr: u32,
     word: u64,
 ) -> u64
-    requires own { IsOf table.now.board.shared.table_id (T.opened table.now.board.shared.key)
-        table.now.layout seat.old.table seat.old.view }
+    requires own { IsOf table.now seat.old.table seat.old.view }
     requires shape { IsShape FIRST SECOND }
     requires first { seat.old.view.opening.first ≡ FIRST }
     requires second { seat.old.view.opening.second ≡ SECOND }

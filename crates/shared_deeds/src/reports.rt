@@ -12,8 +12,7 @@ use shared_words::{Opens, SharedWords, WorkerSeat};
 /// Reports that the worker is online: stores the token that it loads in the worker's counter.
 #[inline]
 pub fn online<T: Opens>(seat: &mut WorkerSeat, table: &SharedWords<T>)
-    requires own { IsOf table.now.board.shared.table_id (T.opened table.now.board.shared.key)
-        table.now.layout seat.old.table seat.old.view }
+    requires own { IsOf table.now seat.old.table seat.old.view }
     requires offline { (worker_by seat.old.view.own).phase ≡ Offline }
     ensures own { seat.new.table ≡ seat.old.table }
     ensures worker { seat.new.worker ≡ seat.old.worker }
@@ -29,8 +28,7 @@ pub fn online<T: Opens>(seat: &mut WorkerSeat, table: &SharedWords<T>)
 /// Reports that the worker is quiescent: stores the token that it loads in the worker's counter.
 #[inline]
 pub fn quiescent<T: Opens>(seat: &mut WorkerSeat, table: &SharedWords<T>)
-    requires own { IsOf table.now.board.shared.table_id (T.opened table.now.board.shared.key)
-        table.now.layout seat.old.table seat.old.view }
+    requires own { IsOf table.now seat.old.table seat.old.view }
     requires online { (worker_by seat.old.view.own).phase ≡ Online }
     ensures own { seat.new.table ≡ seat.old.table }
     ensures worker { seat.new.worker ≡ seat.old.worker }
@@ -46,8 +44,7 @@ pub fn quiescent<T: Opens>(seat: &mut WorkerSeat, table: &SharedWords<T>)
 /// Reports that the worker is offline: stores 0 in the worker's counter.
 #[inline]
 pub fn offline<T: Opens>(seat: &mut WorkerSeat, table: &SharedWords<T>)
-    requires own { IsOf table.now.board.shared.table_id (T.opened table.now.board.shared.key)
-        table.now.layout seat.old.table seat.old.view }
+    requires own { IsOf table.now seat.old.table seat.old.view }
     requires online { (worker_by seat.old.view.own).phase ≡ Online }
     ensures own { seat.new.table ≡ seat.old.table }
     ensures worker { seat.new.worker ≡ seat.old.worker }

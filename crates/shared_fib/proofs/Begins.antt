@@ -8,7 +8,6 @@ use Rattle.lpm_cells.specs.Table.{Words}
 use Rattle.lpm_groups.specs.declared.GroupState.{GroupState}
 use Rattle.lpm_groups.specs.declared.GroupState.TheVariants.{Free, Linked as LinkedTo, Limbo}
 use Rattle.lpm_limits.specs.declared.config.Config.{Config}
-use Rattle.lpm_rules.specs.RuleMap.{RuleMap}
 use Rattle.lpm_update.specs.Linked.{group_at}
 use Rattle.lpm_update.specs.Represents.{Represents}
 use Rattle.lpm_update.specs.Tied.{IsTied, HasGroupRoom}
@@ -21,18 +20,17 @@ use Rattle.lpm_writer.specs.Opening.{opening_setup}
 use Rattle.lpm_writer.specs.Resting.{IsResting, state_of}
 use Rattle.lpm_writer.specs.Waiting.{tokens_of}
 use Rattle.fib.specs.Fib.{IsSound}
-use Rattle.shared_words.specs.declared.layout.Layout.{Layout}
 use Rattle.shared_words.specs.declared.view.View.{View}
 use Rattle.shared_words.specs.Opened.{Opened, setup_of, status_of}
 use Rattle.shared_words.specs.Layout.{opening_words}
 use Rattle.shared_words.specs.Rule.{writer_view}
-use Rattle.shared_words.specs.Seats.{IsOf}
+use Rattle.shared_words.specs.Seats.{IsOf, WordsAt}
 use Rattle.shared_memory.specs.declared.loaded.Loaded.{Loaded}
 use Rattle.shared_memory.specs.Loaded.{ArePacked, block_of, opened_by, opened_of}
 use Rattle.shared_memory.proofs.Unpacking.{opened_as_packed}
 use Rattle.shared_fib.specs.Loading.{IsLoaded}
-use Rattle.shared_fib.specs.Running.{Identity, WriterState, IsAtRest, IsReady, opening_by, opens_with, setup}
-use Rattle.shared_fib.proofs.Live.{live_settled, live_rests, never_retired, none_some}
+use Rattle.shared_fib.specs.Running.{Identity, WriterState, IsReady, opening_by, opens_with}
+use Rattle.shared_fib.proofs.Live.{live_settled, live_rests, none_some}
 
 -- ---- what was loaded
 
@@ -140,11 +138,11 @@ module _ (f s : ℕ) (ledger : Ledger f s) (memory : PlainMemory f s) where
 
 -- ---- the table, and its writer once all passes are made
 
-module _ (f s : ℕ) (key : Loaded f s) (words : TableId) (layout : Layout) (seat : TableId) (v w : View) (made : ℕ)
-    (own : IsOf words (opening_by f s key) layout seat v) (view : v ≡ writer_view (opening_by f s key))
+module _ (f s : ℕ) (key : Loaded f s) (words : WordsAt) (seat : TableId) (v w : View) (made : ℕ)
+    (is : words.opening ≡ opening_by f s key) (own : IsOf words seat v) (view : v ≡ writer_view (opening_by f s key))
     (now : w ≡ record v { made = made }) where
   abbrev pub identity_by : Identity
-  identity_by = record { words = words; opening = opening_by f s key }
+  identity_by = record { words = words.table; opening = words.opening }
 
   now_is : w ≡ record (writer_view (opening_by f s key)) { made = made }
   now_is = now ∙ ap (λ (x : View). record x { made = made }) view
@@ -163,16 +161,18 @@ module _ (f s : ℕ) (key : Loaded f s) (words : TableId) (layout : Layout) (sea
 
   pub opens : (after : TableId) (z : Ledger f s) → after ≡ seat → z.books.queue.items ≡ [] → z.versions ≡ 0
       → state_by after z ≡ opens_with identity_by z.config z.rules.rules
-  opens after z same none new = λ i. record {
-    identity = record { words = (same ∙ own.same) i; opening = ap (λ (x : View). x.opening) now_is i };
-    config = z.config;
-    table = record {
-      rules = z.rules.rules;
-      readers = ap (λ (x : View). x.seen) now_is i;
-      limbo = ap tokens_of none i;
-      begun = new i;
-    };
-  }
+  opens after z same none new =
+      let opening : w.opening ≡ words.opening = ap (λ (x : View). x.opening) now_is ∙ sym is in
+      λ i. record {
+        identity = record { words = (same ∙ own.same) i; opening = opening i };
+        config = z.config;
+        table = record {
+          rules = z.rules.rules;
+          readers = ap (λ (x : View). x.seen) now_is i;
+          limbo = ap tokens_of none i;
+          begun = new i;
+        };
+      }
 
 -- ---- a table without rules
 
@@ -206,23 +206,3 @@ opens_blank f s config ledger memory did rests same none = λ i. record {
     unused : (g : ℕ) → status_of (slice_get (map block_of ledger.books.groups) g) ≡ Unused
     unused g = ap status_of (slice_get-map block_of ledger.books.groups g)
         ∙ no_block (slice_get ledger.books.groups g) (λ b at. no_link b (rests.keeps.kept.linked g b at (λ e. none_some g e)))
-
--- a writer whose table was just opened is at rest
-pub opening_rests : (id : Identity) (config : Config) (R : RuleMap) → R ≡ id.opening.rules → IsSettled (setup id)
-    → IsAtRest (opens_with id config R)
-opening_rests id config R same settled =
-    subst (λ (x : RuleMap). IsAtRest (opens_with id config x)) (sym same)
-    (record {
-      done = refl;
-      begun = refl;
-      rules = refl;
-      answers = settled.answers;
-      limbo = record {
-        items = [];
-        tokens = refl;
-        rising = tt;
-        retired = tt;
-        linked = λ g b is. tt;
-        all = λ some g t is. absurd (never_retired (slice_get id.opening.blocks g) t is);
-      };
-    })

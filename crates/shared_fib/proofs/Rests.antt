@@ -7,6 +7,7 @@ use Rattle.lpm_update.specs.Represents.{Represents}
 use Rattle.update_laws.proofs.Promises.{best_hop}
 use Rattle.lpm_trace.specs.declared.step.WriterStep.{WriterStep}
 use Rattle.lpm_trace.specs.Tables.{Setup, tables, begun_at, done_at}
+use Rattle.lpm_trace.specs.Writer.{IsWritten}
 use Rattle.lpm_writer.specs.declared.books.Books.{Books}
 use Rattle.lpm_writer.specs.Resting.{IsResting, state_of}
 use Rattle.lpm_writer.proofs.Keeping.{is_limbo}
@@ -22,13 +23,14 @@ writer_of id config rules steps books begun =
     record { identity = id; config = config; table = state_of rules.rules steps books begun }
 
 pub at_rest : (f s : ℕ) (id : Identity) (config : Config) (rules : RuleList) (steps : List WriterStep)
-    (books : Books) (begun : ℕ) → IsResting f s (setup id) steps config rules books begun
+    (books : Books) (begun : ℕ) → IsWritten (setup id) steps → IsResting f s (setup id) steps config rules books begun
     → IsAtRest (writer_of id config rules steps books begun)
-at_rest f s id config rules steps books begun rests =
+at_rest f s id config rules steps books begun written rests =
     let c : Setup = setup id in
     let w = tables c steps in
     let represents = fit (λ a b. Represents a b rules.rules w.words) f s c rests.widths rests.represents in
     record {
+      written = written;
       done = sym rests.versions;
       begun = even_begun w.sequence rests.between.even ∙ sym rests.versions;
       rules = ap (λ n. w.history n) rests.versions ∙ rests.version;

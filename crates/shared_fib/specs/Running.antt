@@ -12,6 +12,7 @@ use Rattle.fib.specs.Fib.{coded_config}
 use Rattle.lpm_trace.specs.declared.step.WriterStep.{WriterStep}
 use Rattle.lpm_trace.specs.contracts.step.WriterStep as step_row
 use Rattle.lpm_trace.specs.Tables.{Setup, Tables, tables, addresses, answer, IsAnswer, done, begun}
+use Rattle.lpm_trace.specs.Writer.{IsWritten}
 use Rattle.lpm_trace.specs.Trace.{worker_by}
 use Rattle.lpm_trace.specs.Workers.{Phase, Offline, Online}
 use Rattle.lpm_writer.specs.declared.ledger.Ledger.{Ledger}
@@ -66,9 +67,11 @@ steps_of w = w.table.readers
 abbrev pub left_by : WriterState → Tables
 left_by w = tables (setup w.identity) (steps_of w)
 
--- no update runs; the versions are those that were done, the rules are those of the last one, and by
--- them the words answer each address; the groups that wait are those that the steps retired
+-- each of the writer's steps might come after those before it, and no update runs; the versions are those
+-- that were done, the rules are those of the last one, and by them the words answer each address; the groups
+-- that wait are those that the steps retired
 pub record IsAtRest (w : WriterState) : Type 0 where
+  pub written : IsWritten (setup w.identity) (steps_of w)
   pub done : done (left_by w) ≡ w.table.begun
   pub begun : begun (left_by w) ≡ w.table.begun
   pub rules : (left_by w).history w.table.begun ≡ w.table.rules

@@ -5,7 +5,6 @@ ghost use Rattle.lpm_trace.specs.declared.step.WorkerStep.TheVariants.{StoreOffl
 ghost use Rattle.shared_words.specs.Rule.{with_one_more};
 ghost use Rattle.shared_words.specs.Seats.{IsOf};
 ghost use Rattle.shared_fib.specs.Passes.{IsBenchOf, IsFullBench, IsPassOf, Makes, PassState};
-ghost use Rattle.shared_fib.specs.Running.{opening_by};
 
 use crate::table::Words;
 use crate::{Pass, SharedTable};
@@ -60,22 +59,20 @@ fn next_pass<const FIRST: u32, const SECOND: u32>(
     seat: &mut WriterSeat,
     number: u64,
 ) -> Pass
-    requires own { IsOf table.now.board.shared.table_id
-        (opening_by FIRST SECOND table.now.board.shared.key) table.now.layout
-        seat.old.place.table_id seat.old.place.me.0 }
-    requires number { seat.old.place.me.0.made ≡ number }
+    requires own { IsOf table.now seat.old.table seat.old.view }
+    requires number { seat.old.view.made ≡ number }
     requires worker { number < table.now.layout.workers }
-    ensures own { seat.new.place.table_id ≡ seat.old.place.table_id }
-    ensures made { seat.new.place.me.0 ≡ with_one_more seat.old.place.me.0 }
+    ensures own { seat.new.table ≡ seat.old.table }
+    ensures made { seat.new.view ≡ with_one_more seat.old.view }
     ensures pass { result ≡ record {
       table = record {
-        words = seat.old.place.table_id;
-        opening = seat.old.place.me.0.opening;
+        words = seat.old.table;
+        opening = seat.old.view.opening;
       };
       worker = number;
       online = false;
       steps = [];
-      seen = seat.old.place.me.0.seen;
+      seen = seat.old.view.seen;
     } }
 {
     let worker = seat.next_worker(table, number);
@@ -89,18 +86,16 @@ impl Bench {
         table: &Words<FIRST, SECOND>,
         seat: &mut WriterSeat,
     ) -> Result<Self, AllocError>
-        requires own { IsOf table.now.board.shared.table_id
-            (opening_by FIRST SECOND table.now.board.shared.key) table.now.layout
-            seat.old.place.table_id seat.old.place.me.0 }
-        requires none { seat.old.place.me.0.made ≡ 0 }
-        ensures own { seat.new.place.table_id ≡ seat.old.place.table_id }
-        ensures view { (made : ℕ) × (seat.new.place.me.0 ≡ record seat.old.place.me.0 { made = made }) }
+        requires own { IsOf table.now seat.old.table seat.old.view }
+        requires none { seat.old.view.made ≡ 0 }
+        ensures own { seat.new.table ≡ seat.old.table }
+        ensures view { (made : ℕ) × (seat.new.view ≡ record seat.old.view { made = made }) }
         ensures full { IfOk result (IsFullBench (record {
-          words = seat.old.place.table_id;
-          opening = seat.old.place.me.0.opening;
+          words = seat.old.table;
+          opening = seat.old.view.opening;
         })) }
     {
-        let workers = table.layout.workers;
+        let workers = table.workers();
         let mut passes = Vec::with_capacity(alloc, workers)?;
         for worker in 0..workers {
             let pass = next_pass(table, seat, worker as u64);

@@ -8,7 +8,7 @@ ghost use Rattle.shared_words.specs.Opened.{setup_of};
 ghost use Rattle.shared_memory.specs.Lent.{SharedDid};
 ghost use Rattle.shared_words.specs.Seats.{IsOf};
 ghost use Rattle.shared_fib.specs.Freeing.{FreesChecked};
-ghost use Rattle.shared_fib.specs.Running.{IsReady, OnlySees, RestsBy, opening_by, state_by};
+ghost use Rattle.shared_fib.specs.Running.{IsReady, OnlySees, RestsBy, state_by};
 
 use crate::table::Words;
 use defer_queue::Reclaimed;
@@ -20,9 +20,6 @@ use shared_memory::SharedMemory;
 use shared_words::WriterSeat;
 
 // Beside what the command comes to, each says that the memory holds the seat that it held.
-//
-// The look at the sequence that ends a command is no step. It tells that each token that has passed was
-// checked.
 
 pub(crate) fn add_over<const FIRST: u32, const SECOND: u32>(
     ledger: &mut Ledger<FIRST, SECOND>,
@@ -51,24 +48,22 @@ pub(crate) fn add_by<const FIRST: u32, const SECOND: u32>(
     prefix: &Prefix<FIRST, SECOND>,
     hop: Hop,
 ) -> Result<Put, Refusal>
-    requires own { IsOf table.now.board.shared.table_id
-        (opening_by FIRST SECOND table.now.board.shared.key) table.now.layout
-        seat.old.place.table_id seat.old.place.me.0 }
-    requires ready { IsReady FIRST SECOND ledger.old seat.old.place.me.0 }
-    ensures adds { Adds (by_steps (setup_of seat.old.place.me.0.opening)) FIRST SECOND
-        ledger.old.config (state_by ledger.old seat.old.place.me.0) prefix.now hop result
-        (state_by ledger.new seat.new.place.me.0) }
-    ensures ready { IsReady FIRST SECOND ledger.new seat.new.place.me.0 }
-    ensures seat { seat.new.place.table_id ≡ seat.old.place.table_id }
-    ensures view { OnlySees seat.old.place.me.0 seat.new.place.me.0 }
-    ensures checked { (freed : List ℕ) × FreesChecked (setup_of seat.old.place.me.0.opening)
-        (state_by ledger.old seat.old.place.me.0) (state_by ledger.new seat.new.place.me.0) freed }
+    requires own { IsOf table.now seat.old.table seat.old.view }
+    requires ready { IsReady FIRST SECOND ledger.old seat.old.view }
+    ensures adds { Adds (by_steps (setup_of seat.old.view.opening)) FIRST SECOND
+        ledger.old.config (state_by ledger.old seat.old.view) prefix.now hop result
+        (state_by ledger.new seat.new.view) }
+    ensures ready { IsReady FIRST SECOND ledger.new seat.new.view }
+    ensures seat { seat.new.table ≡ seat.old.table }
+    ensures view { OnlySees seat.old.view seat.new.view }
+    ensures checked { (freed : List ℕ) × FreesChecked (setup_of seat.old.view.opening)
+        (state_by ledger.old seat.old.view) (state_by ledger.new seat.new.view) freed }
     ensures config { ledger.new.config ≡ ledger.old.config }
 {
     let mut memory = SharedMemory::new(table, seat);
     let came = add_over(ledger, &mut memory, prefix, hop);
     memory.done();
-    let _ = seat.sequence(table);
+    seat.history();
     came
 }
 
@@ -97,24 +92,22 @@ pub(crate) fn delete_by<const FIRST: u32, const SECOND: u32>(
     table: &Words<FIRST, SECOND>,
     prefix: &Prefix<FIRST, SECOND>,
 ) -> Result<Hop, Refusal>
-    requires own { IsOf table.now.board.shared.table_id
-        (opening_by FIRST SECOND table.now.board.shared.key) table.now.layout
-        seat.old.place.table_id seat.old.place.me.0 }
-    requires ready { IsReady FIRST SECOND ledger.old seat.old.place.me.0 }
-    ensures deletes { Deletes (by_steps (setup_of seat.old.place.me.0.opening)) FIRST SECOND
-        ledger.old.config (state_by ledger.old seat.old.place.me.0) prefix.now result
-        (state_by ledger.new seat.new.place.me.0) }
-    ensures ready { IsReady FIRST SECOND ledger.new seat.new.place.me.0 }
-    ensures seat { seat.new.place.table_id ≡ seat.old.place.table_id }
-    ensures view { OnlySees seat.old.place.me.0 seat.new.place.me.0 }
-    ensures checked { (freed : List ℕ) × FreesChecked (setup_of seat.old.place.me.0.opening)
-        (state_by ledger.old seat.old.place.me.0) (state_by ledger.new seat.new.place.me.0) freed }
+    requires own { IsOf table.now seat.old.table seat.old.view }
+    requires ready { IsReady FIRST SECOND ledger.old seat.old.view }
+    ensures deletes { Deletes (by_steps (setup_of seat.old.view.opening)) FIRST SECOND
+        ledger.old.config (state_by ledger.old seat.old.view) prefix.now result
+        (state_by ledger.new seat.new.view) }
+    ensures ready { IsReady FIRST SECOND ledger.new seat.new.view }
+    ensures seat { seat.new.table ≡ seat.old.table }
+    ensures view { OnlySees seat.old.view seat.new.view }
+    ensures checked { (freed : List ℕ) × FreesChecked (setup_of seat.old.view.opening)
+        (state_by ledger.old seat.old.view) (state_by ledger.new seat.new.view) freed }
     ensures config { ledger.new.config ≡ ledger.old.config }
 {
     let mut memory = SharedMemory::new(table, seat);
     let came = delete_over(ledger, &mut memory, prefix);
     memory.done();
-    let _ = seat.sequence(table);
+    seat.history();
     came
 }
 
@@ -141,24 +134,22 @@ pub(crate) fn flush_by<const FIRST: u32, const SECOND: u32>(
     seat: &mut WriterSeat,
     table: &Words<FIRST, SECOND>,
 ) -> Result<usize, Refusal>
-    requires own { IsOf table.now.board.shared.table_id
-        (opening_by FIRST SECOND table.now.board.shared.key) table.now.layout
-        seat.old.place.table_id seat.old.place.me.0 }
-    requires ready { IsReady FIRST SECOND ledger.old seat.old.place.me.0 }
-    ensures flushes { Flushes (by_steps (setup_of seat.old.place.me.0.opening)) FIRST SECOND
-        ledger.old.config (state_by ledger.old seat.old.place.me.0) result
-        (state_by ledger.new seat.new.place.me.0) }
-    ensures ready { IsReady FIRST SECOND ledger.new seat.new.place.me.0 }
-    ensures seat { seat.new.place.table_id ≡ seat.old.place.table_id }
-    ensures view { OnlySees seat.old.place.me.0 seat.new.place.me.0 }
-    ensures checked { (freed : List ℕ) × FreesChecked (setup_of seat.old.place.me.0.opening)
-        (state_by ledger.old seat.old.place.me.0) (state_by ledger.new seat.new.place.me.0) freed }
+    requires own { IsOf table.now seat.old.table seat.old.view }
+    requires ready { IsReady FIRST SECOND ledger.old seat.old.view }
+    ensures flushes { Flushes (by_steps (setup_of seat.old.view.opening)) FIRST SECOND
+        ledger.old.config (state_by ledger.old seat.old.view) result
+        (state_by ledger.new seat.new.view) }
+    ensures ready { IsReady FIRST SECOND ledger.new seat.new.view }
+    ensures seat { seat.new.table ≡ seat.old.table }
+    ensures view { OnlySees seat.old.view seat.new.view }
+    ensures checked { (freed : List ℕ) × FreesChecked (setup_of seat.old.view.opening)
+        (state_by ledger.old seat.old.view) (state_by ledger.new seat.new.view) freed }
     ensures config { ledger.new.config ≡ ledger.old.config }
 {
     let mut memory = SharedMemory::new(table, seat);
     let came = flush_over(ledger, &mut memory);
     memory.done();
-    let _ = seat.sequence(table);
+    seat.history();
     came
 }
 
@@ -186,24 +177,22 @@ pub(crate) fn reclaim_by<const FIRST: u32, const SECOND: u32>(
     table: &Words<FIRST, SECOND>,
     max: usize,
 ) -> Reclaimed
-    requires own { IsOf table.now.board.shared.table_id
-        (opening_by FIRST SECOND table.now.board.shared.key) table.now.layout
-        seat.old.place.table_id seat.old.place.me.0 }
-    requires ready { IsReady FIRST SECOND ledger.old seat.old.place.me.0 }
-    ensures frees { Frees (by_steps (setup_of seat.old.place.me.0.opening))
-        (state_by ledger.old seat.old.place.me.0) max result
-        (state_by ledger.new seat.new.place.me.0) }
-    ensures ready { IsReady FIRST SECOND ledger.new seat.new.place.me.0 }
-    ensures seat { seat.new.place.table_id ≡ seat.old.place.table_id }
-    ensures view { OnlySees seat.old.place.me.0 seat.new.place.me.0 }
-    ensures checked { FreesChecked (setup_of seat.old.place.me.0.opening)
-        (state_by ledger.old seat.old.place.me.0) (state_by ledger.new seat.new.place.me.0)
+    requires own { IsOf table.now seat.old.table seat.old.view }
+    requires ready { IsReady FIRST SECOND ledger.old seat.old.view }
+    ensures frees { Frees (by_steps (setup_of seat.old.view.opening))
+        (state_by ledger.old seat.old.view) max result
+        (state_by ledger.new seat.new.view) }
+    ensures ready { IsReady FIRST SECOND ledger.new seat.new.view }
+    ensures seat { seat.new.table ≡ seat.old.table }
+    ensures view { OnlySees seat.old.view seat.new.view }
+    ensures checked { FreesChecked (setup_of seat.old.view.opening)
+        (state_by ledger.old seat.old.view) (state_by ledger.new seat.new.view)
         (take result.freed (tokens_of ledger.old.books.queue.items)) }
     ensures config { ledger.new.config ≡ ledger.old.config }
 {
     let mut memory = SharedMemory::new(table, seat);
     let came = reclaim_over(ledger, &mut memory, max);
     memory.done();
-    let _ = seat.sequence(table);
+    seat.history();
     came
 }

@@ -14,7 +14,7 @@ ghost use Rattle.shared_memory.specs.Loaded.{ArePacked, opened_of};
 ghost use Rattle.lpm_writer.specs.Opening.{opening_setup};
 ghost use Rattle.shared_fib.specs.Loading.{IsLoaded};
 ghost use Rattle.shared_fib.specs.Passes.{IsFullBench};
-ghost use Rattle.shared_fib.specs.Running.{IsAtRest, opening_by, opens_with, setup};
+ghost use Rattle.shared_fib.specs.Running.{opening_by, opens_with, setup};
 
 use crate::laying::pack_all;
 use crate::table::Words;
@@ -37,11 +37,10 @@ fn open_words<const FIRST: u32, const SECOND: u32>(
     requires packed { ArePacked (opening_by FIRST SECOND loaded.now)
         loaded.now.words.items loaded.now.layout }
     requires settled { IsSettled (setup_of (opening_by FIRST SECOND loaded.now)) }
-    ensures key { IfOk result (λ r. r.0.board.shared.key ≡ loaded.now) }
-    ensures own { IfOk result (λ r. IsOf r.0.board.shared.table_id
-        (opening_by FIRST SECOND loaded.now) r.0.layout r.1.place.table_id r.1.place.me.0) }
+    ensures opening { IfOk result (λ r. r.0.opening ≡ opening_by FIRST SECOND loaded.now) }
+    ensures own { IfOk result (λ r. IsOf r.0 r.1.table r.1.view) }
     ensures view { IfOk result
-        (λ r. r.1.place.me.0 ≡ writer_view (opening_by FIRST SECOND loaded.now)) }
+        (λ r. r.1.view ≡ writer_view (opening_by FIRST SECOND loaded.now)) }
 {
     shared_words::open(alloc, loaded.words.as_slice(), loaded.layout, loaded)
 }
@@ -127,7 +126,6 @@ pub(crate) fn go_on<const FIRST: u32, const SECOND: u32>(
         ≡ (opening_by FIRST SECOND loaded.entry).token) }
     ensures workers { IfOk result (λ r. r.0.opening.workers ≡ loaded.entry.layout.workers) }
     ensures bench { IfOk result (λ r. IsFullBench r.0 r.2) }
-    ensures rests { IfOk result (λ r. IsAtRest r.1) }
 {
     let (words, mut seat) = open_words(alloc, &loaded)?;
     let bench = Bench::full(alloc, &words, &mut seat)?;
@@ -150,7 +148,6 @@ fn begin<const FIRST: u32, const SECOND: u32>(
     ensures token { IfOk result (λ r. r.0.opening.token ≡ memory.entry.domain.token) }
     ensures workers { IfOk result (λ r. r.0.opening.workers ≡ ledger.entry.config.workers) }
     ensures bench { IfOk result (λ r. IsFullBench r.0 r.2) }
-    ensures rests { IfOk result (λ r. IsAtRest r.1) }
 {
     let (config, queue, loaded) = load(alloc, ledger, memory)?;
     go_on(alloc, config, queue, loaded)
@@ -168,7 +165,6 @@ pub fn open<const FIRST: u32, const SECOND: u32>(
     ensures token { IfOk result (λ r. r.0.opening.token ≡ config.first_token) }
     ensures workers { IfOk result (λ r. r.0.opening.workers ≡ config.workers) }
     ensures bench { IfOk result (λ r. IsFullBench r.0 r.2) }
-    ensures rests { IfOk result (λ r. IsAtRest r.1) }
     ensures limits { IfOk result (λ _. IsConfig config) }
     ensures bad_config { IfErr result
         (λ error. (error ≡ OpenError.BadConfig) ↔ (¬ IsConfig config)) }
@@ -195,7 +191,6 @@ pub fn go_live<const FIRST: u32, const SECOND: u32>(
     ensures token { IfOk result (λ r. r.0.opening.token ≡ fib.entry.table.readers.token) }
     ensures workers { IfOk result (λ r. r.0.opening.workers ≡ fib.entry.config.workers) }
     ensures bench { IfOk result (λ r. IsFullBench r.0 r.2) }
-    ensures rests { IfOk result (λ r. IsAtRest r.1) }
 {
     let waiting = fib.counts().limbo;
     let _ = fib.reclaim(waiting);

@@ -9,7 +9,7 @@ ghost use Rattle.fib_model.specs.Outcomes.{groups_in_use};
 ghost use Rattle.shared_words.specs.Layout.{packed};
 ghost use Rattle.shared_fib.specs.Loading.{AreSwept, IsLoaded};
 ghost use Rattle.shared_fib.specs.Passes.{IsFullBench};
-ghost use Rattle.shared_fib.specs.Running.{IsAtRest, opening_by, opens_with};
+ghost use Rattle.shared_fib.specs.Running.{opening_by, opens_with};
 
 use crate::opening::go_on;
 use crate::{Bench, SharedTable, Writer};
@@ -176,7 +176,6 @@ pub fn open_sorted<const FIRST: u32, const SECOND: u32>(
     ensures token { IfOk result (λ o. IfSome o (λ r. r.0.opening.token ≡ config.first_token)) }
     ensures workers { IfOk result (λ o. IfSome o (λ r. r.0.opening.workers ≡ config.workers)) }
     ensures bench { IfOk result (λ o. IfSome o (λ r. IsFullBench r.0 r.2)) }
-    ensures rests { IfOk result (λ o. IfSome o (λ r. IsAtRest r.1)) }
     ensures rules_fit { IfOk result (λ o. IfSome o (λ _.
         map.len (rules_of rules.entry.items) ≤ config.rules)) }
     ensures groups_fit { IfOk result (λ o. IfSome o (λ _.

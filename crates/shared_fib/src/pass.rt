@@ -5,7 +5,7 @@ ghost use Rattle.lpm_trace.specs.declared.step.WorkerStep.TheVariants.{LoadOnlin
 ghost use Rattle.lpm_trace.specs.Trace.{worker_by};
 ghost use Rattle.lpm_trace.specs.Workers.{Offline};
 ghost use Rattle.shared_fib.specs.Passes.{IsHistory, LooksUp, LooksUpAll, Makes};
-ghost use Rattle.shared_fib.specs.Running.{IsAtRest, hop_or, steps_of};
+ghost use Rattle.shared_fib.specs.Running.{hop_or, steps_of};
 
 use crate::{SharedTable, Writer};
 use lpm_bits::Hop;

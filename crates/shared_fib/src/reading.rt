@@ -26,12 +26,13 @@ impl<const FIRST: u32, const SECOND: u32> Writer<FIRST, SECOND> {
         self.ledger.rules.len()
     }
 
-    /// Does nothing: its contract says that the table is at rest between two commands.
+    /// Does nothing: its contract says that the table is at rest between two commands, and that the steps
+    /// which led there are lawful.
     #[inline]
     pub fn at_rest(&self)
         ensures { IsAtRest self.now }
     {
-        let _ = &self.seat;
+        self.seat.history();
     }
 
     /// The number of changes that made a version of the rule list, since the table was opened.

@@ -9,7 +9,7 @@ ghost use Rattle.shared_words.specs.Opened.{setup_of};
 ghost use Rattle.shared_words.specs.Seats.{IsOf};
 ghost use Rattle.shared_memory.specs.Lent.{SharedDid, left_by_view};
 ghost use Rattle.shared_fib.specs.Passing.{PassesAtLast};
-ghost use Rattle.shared_fib.specs.Running.{IsAtRest, IsReady, OnlySees, RestsBy, left_by, opening_by, setup, steps_of};
+ghost use Rattle.shared_fib.specs.Running.{IsReady, OnlySees, RestsBy, left_by, setup, steps_of};
 
 use crate::table::Words;
 use crate::{SharedTable, Writer};
@@ -85,36 +85,33 @@ fn synchronize_by<const FIRST: u32, const SECOND: u32, R: Wait>(
     seat: &mut WriterSeat,
     table: &Words<FIRST, SECOND>,
 ) -> Result<(), Exhausted>
-    requires own { IsOf table.now.board.shared.table_id
-        (opening_by FIRST SECOND table.now.board.shared.key) table.now.layout
-        seat.old.place.table_id seat.old.place.me.0 }
-    requires ready { IsReady FIRST SECOND ledger.old seat.old.place.me.0 }
+    requires own { IsOf table.now seat.old.table seat.old.view }
+    requires ready { IsReady FIRST SECOND ledger.old seat.old.view }
     ensures exhausted { IsErr result
-        ↔ (2 ^ 62 < (left_by_view seat.old.place.me.0).token + ledger.old.config.groups) }
+        ↔ (2 ^ 62 < (left_by_view seat.old.view).token + ledger.old.config.groups) }
     ensures synchronizes { OnOk result (Synchronizes AnyMemory
-        (setup_of seat.old.place.me.0.opening)
-        (steps_alone seat.old.place.me.0.seen) (steps_alone seat.new.place.me.0.seen)) }
-    ensures started { OnOk result ((left_by_view seat.new.place.me.0).token
-        ≡ (left_by_view seat.old.place.me.0).token + 1) }
-    ensures checked { OnOk result (IsChecked (setup_of seat.new.place.me.0.opening)
-        seat.new.place.me.0.seen (left_by_view seat.new.place.me.0).token) }
+        (setup_of seat.old.view.opening)
+        (steps_alone seat.old.view.seen) (steps_alone seat.new.view.seen)) }
+    ensures started { OnOk result ((left_by_view seat.new.view).token
+        ≡ (left_by_view seat.old.view).token + 1) }
+    ensures checked { OnOk result (IsChecked (setup_of seat.new.view.opening)
+        seat.new.view.seen (left_by_view seat.new.view).token) }
     ensures queued { OnOk result (0 < ledger.old.config.workers
-        → All (λ token. token ≤ (left_by_view seat.new.place.me.0).passed)
+        → All (λ token. token ≤ (left_by_view seat.new.view).passed)
         (tokens_of ledger.new.books.queue.items)) }
-    ensures ready { IsReady FIRST SECOND ledger.new seat.new.place.me.0 }
+    ensures ready { IsReady FIRST SECOND ledger.new seat.new.view }
     ensures same { ledger.new ≡ record ledger.old {
       books = record ledger.old.books { passed = ledger.new.books.passed };
     } }
     ensures unchanged { OnErr result (ledger.new ≡ ledger.old) }
-    ensures untouched { OnErr result (seat.new.place.me.0 ≡ seat.old.place.me.0) }
-    ensures seat { seat.new.place.table_id ≡ seat.old.place.table_id }
-    ensures view { OnlySees seat.old.place.me.0 seat.new.place.me.0 }
+    ensures untouched { OnErr result (seat.new.view ≡ seat.old.view) }
+    ensures seat { seat.new.table ≡ seat.old.table }
+    ensures view { OnlySees seat.old.view seat.new.view }
 {
     let mut memory = SharedMemory::new(table, seat);
     let came = synchronize_over(rt, ledger, &mut memory);
     memory.done();
-    // This look is no step. It tells that each token that has passed was checked.
-    let _ = seat.sequence(table);
+    seat.history();
     came
 }
 
@@ -144,7 +141,6 @@ impl<const FIRST: u32, const SECOND: u32> Writer<FIRST, SECOND> {
           table = record self.old.table { readers = steps_of self.new };
         } }
         ensures unchanged { OnErr result (self.new ≡ self.old) }
-        ensures rests { IsAtRest self.new }
     {
         synchronize_by(rt, &mut self.ledger, &mut self.seat, &table.words)
     }

@@ -2,7 +2,7 @@
 
 ghost use Rattle.std.specs.Prelude.{◌≡◌};
 ghost use Rattle.lpm_writer.specs.Making.{HasWidths};
-ghost use Rattle.shared_fib.specs.Running.{IsFitted, opening_by, setup};
+ghost use Rattle.shared_fib.specs.Running.{IsFitted, setup};
 
 use shared_memory::Loaded;
 use shared_words::SharedWords;
@@ -18,20 +18,20 @@ pub struct SharedTable<const FIRST: u32, const SECOND: u32> {
 }
 
 impl<const FIRST: u32, const SECOND: u32> Model for SharedTable<FIRST, SECOND> {
-    ghost use Rattle.shared_fib.specs.Running.{Identity, coded_identity, IsFitted, opening_by};
+    ghost use Rattle.shared_fib.specs.Running.{Identity, coded_identity, IsFitted};
 
     ghost Value = { Identity };
 
     ghost coded = { coded_identity };
 
     ghost view = { λ t. record {
-      words = t.words.board.shared.table_id;
-      opening = opening_by FIRST SECOND t.words.board.shared.key;
+      words = t.words.table;
+      opening = t.words.opening;
     } };
 
     ghost invariant = { λ t. IsFitted FIRST SECOND (record {
-      words = t.words.board.shared.table_id;
-      opening = opening_by FIRST SECOND t.words.board.shared.key;
+      words = t.words.table;
+      opening = t.words.opening;
     }) t.words.layout };
 }
 
@@ -39,12 +39,12 @@ impl<const FIRST: u32, const SECOND: u32> SharedTable<FIRST, SECOND> {
     // The table of these words.
     pub(crate) fn new(words: Words<FIRST, SECOND>) -> Self
         requires { IsFitted FIRST SECOND (record {
-          words = words.board.shared.table_id;
-          opening = opening_by FIRST SECOND words.board.shared.key;
+          words = words.table;
+          opening = words.opening;
         }) words.layout }
         ensures { result ≡ record {
-          words = words.entry.board.shared.table_id;
-          opening = opening_by FIRST SECOND words.entry.board.shared.key;
+          words = words.entry.table;
+          opening = words.entry.opening;
         } }
     {
         SharedTable { words }

@@ -4,7 +4,7 @@ ghost use Rattle.std.specs.Prelude.{ℕ, ◌≡◌, List, take};
 ghost use Rattle.fib_model.specs.Outcomes.{Adds, Deletes, Flushes, Frees};
 ghost use Rattle.lpm_writer.specs.Traced.{by_steps};
 ghost use Rattle.shared_fib.specs.Freeing.{FreesChecked};
-ghost use Rattle.shared_fib.specs.Running.{IsAtRest, IsReady, setup, state_by};
+ghost use Rattle.shared_fib.specs.Running.{IsReady, setup, state_by};
 
 use crate::SharedTable;
 use crate::commands::{add_by, delete_by, flush_by, reclaim_by};
@@ -37,22 +37,22 @@ impl<const FIRST: u32, const SECOND: u32> Model for Writer<FIRST, SECOND> {
     ghost coded = { coded_writer };
 
     ghost view = { λ w. record {
-      identity = record { words = w.seat.place.table_id; opening = w.seat.place.me.0.opening };
+      identity = record { words = w.seat.table; opening = w.seat.view.opening };
       config = w.ledger.config;
-      table = state_by w.ledger w.seat.place.me.0;
+      table = state_by w.ledger w.seat.view;
     } };
 
-    ghost invariant = { λ w. IsReady FIRST SECOND w.ledger w.seat.place.me.0 };
+    ghost invariant = { λ w. IsReady FIRST SECOND w.ledger w.seat.view };
 }
 
 impl<const FIRST: u32, const SECOND: u32> Writer<FIRST, SECOND> {
     // The writer that keeps this ledger, and has this seat.
     pub(crate) fn new(ledger: Ledger<FIRST, SECOND>, seat: WriterSeat) -> Self
-        requires { IsReady FIRST SECOND ledger seat.place.me.0 }
+        requires { IsReady FIRST SECOND ledger seat.view }
         ensures { result ≡ record {
-          identity = record { words = seat.place.table_id; opening = seat.place.me.0.opening };
+          identity = record { words = seat.table; opening = seat.view.opening };
           config = ledger.entry.config;
-          table = state_by ledger.entry seat.place.me.0;
+          table = state_by ledger.entry seat.view;
         } }
     {
         Writer { ledger, seat }

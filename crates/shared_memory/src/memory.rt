@@ -69,7 +69,7 @@ impl<'a, const FIRST: u32, const SECOND: u32> Memory for SharedMemory<'a, FIRST,
 
     #[inline]
     fn workers(&self) -> usize {
-        self.table.layout.workers
+        self.table.workers()
     }
 
     #[inline]

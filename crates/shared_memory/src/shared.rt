@@ -4,7 +4,6 @@ ghost use Rattle.std.specs.Prelude.{◌≡◌, ◌^◌, ◌≤◌};
 ghost use Rattle.lpm_trace.specs.Tables.{tables, begun};
 ghost use Rattle.shared_words.specs.Opened.{setup_of};
 ghost use Rattle.shared_words.specs.Seats.{IsOf};
-ghost use Rattle.shared_memory.specs.Loaded.{opened_by};
 ghost use Rattle.shared_memory.specs.Lent.{SharedDid, left_by};
 
 use crate::Loaded;
@@ -23,7 +22,6 @@ pub struct SharedMemory<'a, const FIRST: u32, const SECOND: u32> {
 impl<'a, const FIRST: u32, const SECOND: u32> Model for SharedMemory<'a, FIRST, SECOND> {
     ghost use Rattle.shared_memory.specs.Lent.{Lent, coded_lent, IsAt};
     ghost use Rattle.shared_words.specs.Seats.{IsOf};
-    ghost use Rattle.shared_memory.specs.Loaded.{opened_by};
 
     ghost Value = { Lent };
 
@@ -31,16 +29,12 @@ impl<'a, const FIRST: u32, const SECOND: u32> Model for SharedMemory<'a, FIRST, 
 
     ghost view = { λ a. record {
       name = a.seat.ghost_name;
-      table = a.seat.now.place.table_id;
-      view = a.seat.now.place.me.0;
+      table = a.seat.now.table;
+      view = a.seat.now.view;
     } };
 
-    ghost invariant = { λ a. IsOf a.table.now.board.shared.table_id
-        (opened_by FIRST SECOND a.table.now.board.shared.key.words.items
-        a.table.now.board.shared.key.layout
-        a.table.now.board.shared.key.rules.rules a.table.now.board.shared.key.groups)
-        a.table.now.layout a.seat.now.place.table_id a.seat.now.place.me.0
-        × IsAt a.seat.now.place.me.0 a.token };
+    ghost invariant = { λ a. IsOf a.table.now a.seat.now.table a.seat.now.view
+        × IsAt a.seat.now.view a.token };
 }
 
 impl<'a, const FIRST: u32, const SECOND: u32> SharedMemory<'a, FIRST, SECOND> {
@@ -49,20 +43,17 @@ impl<'a, const FIRST: u32, const SECOND: u32> SharedMemory<'a, FIRST, SECOND> {
         table: &'a SharedWords<Loaded<FIRST, SECOND>>,
         seat: &'a mut WriterSeat,
     ) -> SharedMemory<'a, FIRST, SECOND>
-        requires own { IsOf table.now.board.shared.table_id
-            (opened_by FIRST SECOND table.now.board.shared.key.words.items
-            table.now.board.shared.key.layout
-            table.now.board.shared.key.rules.rules table.now.board.shared.key.groups)
-            table.now.layout seat.old.place.table_id seat.old.place.me.0 }
-        requires token { (tables (setup_of seat.old.place.me.0.opening) seat.old.place.me.0.seen).token
+        requires own { IsOf table.now seat.old.table seat.old.view }
+        requires token { (tables (setup_of seat.old.view.opening) seat.old.view.seen).token
             ≤ 2 ^ 62 }
-        requires updates { begun (tables (setup_of seat.old.place.me.0.opening)
-            seat.old.place.me.0.seen) ≤ 2 ^ 61 }
+        requires updates { begun (tables (setup_of seat.old.view.opening)
+            seat.old.view.seen) ≤ 2 ^ 61 }
         ensures name { result.name ≡ seat.entry.ghost_name }
-        ensures table { result.table ≡ seat.old.place.table_id }
-        ensures view { result.view ≡ seat.old.place.me.0 }
-        ensures did { SharedDid result (setup_of seat.old.place.me.0.opening) seat.old.place.me.0.seen }
+        ensures table { result.table ≡ seat.old.table }
+        ensures view { result.view ≡ seat.old.view }
+        ensures did { SharedDid result (setup_of seat.old.view.opening) seat.old.view.seen }
     {
+        seat.history();
         let token = seat.token(table);
         SharedMemory { table, seat, token }
     }
@@ -70,8 +61,8 @@ impl<'a, const FIRST: u32, const SECOND: u32> SharedMemory<'a, FIRST, SECOND> {
     /// The seat, which has made the steps of all that was called.
     pub fn done(self) -> &'a mut WriterSeat
         ensures name { result.ghost_name ≡ self.entry.name }
-        ensures table { result.now.place.table_id ≡ self.entry.table }
-        ensures view { result.now.place.me.0 ≡ self.entry.view }
+        ensures table { result.now.table ≡ self.entry.table }
+        ensures view { result.now.view ≡ self.entry.view }
         ensures token { (left_by self.entry).token ≤ 2 ^ 62 }
         ensures updates { begun (left_by self.entry) ≤ 2 ^ 61 }
     {

@@ -14,7 +14,7 @@ use Rattle.lpm_trace.specs.declared.step.TraceStep.{TraceStep}
 use Rattle.lpm_trace.specs.declared.step.TraceStep.TheVariants.{Writer as ByWriter}
 use Rattle.lpm_trace.specs.Tables.{Tables, IsSettled, tables, written}
 use Rattle.lpm_trace.specs.Course.{coursed}
-use Rattle.lpm_trace.specs.Trace.{World, apply, after, writes, own}
+use Rattle.lpm_trace.specs.Trace.{World, IsTrace, apply, after, writes, own}
 use Rattle.lpm_trace.specs.Writer.{MayStep, Finds as FindsCounter}
 use Rattle.lpm_trace.proofs.Traces.{tables_of}
 use Rattle.lpm_trace.proofs.Promises.{writer_is_alone, writer_goes_on, passed_is_checked, words_are_entries}
@@ -24,7 +24,7 @@ use Rattle.shared_words.specs.declared.view.View.{View}
 use Rattle.shared_words.specs.Opened.{Opened, setup_of}
 use Rattle.shared_words.specs.Layout.{IsLaidOut, half, first_at, second_at, sequence_at, token_at, counter_at, opening_words}
 use Rattle.shared_words.specs.Rule.{IsLater, Seating, Sits, IsViewOf, Holds, writer_view, worker_view, with_one_more}
-use Rattle.shared_words.specs.Seats.{WriterGains, IsFoundAt, KeepsFirst, KeepsSecond, WriterLooks, with_step}
+use Rattle.shared_words.specs.Seats.{AreLawful, WriterGains, IsFoundAt, KeepsFirst, KeepsSecond, WriterLooks, with_step}
 use Rattle.shared_words.proofs.Laying.{firsts_length, seconds_length, lays_first, lays_second, lays_sequence, lays_token, lays_none, lays_opening}
 
 abbrev St : Type 0
@@ -126,19 +126,36 @@ module _ (o : Opened) where
   unread s i views h =
       subst (λ (ws : List ℕ). Holds o (with_words s ws views)) (sym (set-get_or s.words i 0)) h
 
+  -- the writer's steps of a trace are lawful
+  lawful_in : (steps : List TraceStep) → IsSettled (setup_of o) → IsTrace (setup_of o) steps
+      → AreLawful o (writes steps)
+  lawful_in steps settled trace =
+      let c = setup_of o in
+      let now : (world_by steps).tables ≡ tables_by (writes steps) = tables_of c steps in record {
+        written = writer_is_alone c steps trace;
+        words = subst (λ (z : Tables). IsWords o.first o.second z.words) now (words_are_entries c steps settled trace);
+        checked = λ token pos low. passed_is_checked c steps token trace pos
+            (subst (λ (z : Tables). token ≤ z.passed) (sym now) low);
+      }
+
+  -- and those of its view, with one more that may come next
+  lawful_after : (s : St) (h : Holds o s) (v : View) (step : WriterStep) → v.opening ≡ o → v.seen ≡ writes h.steps
+      → MayStep (setup_of o) v.seen step → FindsCounter (setup_of o) h.steps step
+      → AreLawful v.opening (step ∷ v.seen)
+  lawful_after s h v step opening seen may found =
+      let c = setup_of o in
+      let may' = subst (λ (z : List WriterStep). MayStep c z step) seen may in
+      subst (λ (z : Opened × List WriterStep). AreLawful z.0 (step ∷ z.1)) (λ i. (sym opening i, sym seen i))
+      (lawful_in (ByWriter step ∷ h.steps) h.settled (writer_goes_on c h.steps step h.trace may' found))
+
   -- what the writer finds at a place
   finds : (s : St) (h : Holds o s) (at : ℕ) → IsFoundAt o (writes h.steps) at (slice_index s.words at)
   finds s h at =
       let c = setup_of o in
       let now : (world_by h.steps).tables ≡ tables_by (writes h.steps) = tables_of c h.steps in
-      let entries = words_are_entries c h.steps h.settled h.trace in
       let found : (k : ℕ) → at ≡ k → slice_index s.words at ≡ slice_index s.words k =
       λ k e. ap (slice_index s.words) e in
       record {
-        written = writer_is_alone c h.steps h.trace;
-        words = subst (λ (z : Tables). IsWords o.first o.second z.words) now entries;
-        checked = λ token pos low. passed_is_checked c h.steps token h.trace pos
-            (subst (λ (z : Tables). token ≤ z.passed) (sym now) low);
         first = λ i lt place. ap (half i) (found (first_at i) place) ∙ h.words.firsts i lt
             ∙ ap (λ (z : Tables). slice_index z.words.firsts i) now;
         second = λ j lt place. ap (half j) (found (second_at o j) place) ∙ h.words.seconds j lt
@@ -170,7 +187,7 @@ module _ (o : Opened) where
           keeps,
           tt,
           writer_step s h id me.0 step (slice_set s.words at n) here was may' (found h.steps) laid,
-          refl,
+          (refl, lawful_after s h me.0 step mine.1 mine.2 may' (found h.steps)),
         )
 
     pub first_allowed : (i x n : ℕ) → at ≡ first_at i → half i n ≡ x
@@ -258,7 +275,7 @@ module _ (o : Opened) where
           tt,
           unread s at (slice_set s.views id (with_step me.0 load))
               (writer_step s h id me.0 load s.words here was may' found laid),
-          refl,
+          (refl, lawful_after s h me.0 load mine.1 mine.2 may' found),
         )
 
     -- a load of a word that the writer alone changes
@@ -358,6 +375,10 @@ module _ (o : Opened) where
           | inr e ↦ subst (λ (z : ℕ × View). K z.0 z.1) (λ i. (sym e.0 i, e.1 i)) new
         ];
       }
+
+  -- the writer's steps of a new table, which are none, are lawful
+  pub none_lawful : IsSettled (setup_of o) → AreLawful o []
+  none_lawful settled = lawful_in [] settled tt
 
   -- ---- the table at the start
 

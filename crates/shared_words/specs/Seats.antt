@@ -17,24 +17,37 @@ use Rattle.lpm_trace.specs.Laws.{IsLegalAtPlace, ArePlaced, IsChecked}
 use Rattle.lpm_cells.specs.Table.{IsWords, IsFirstWord}
 use Rattle.shared_words.specs.declared.view.View.{View}
 use Rattle.shared_words.specs.contracts.view.View as view_row
-use Rattle.shared_words.specs.declared.view.Role.TheVariants.{Worker as AsWorker}
+use Rattle.shared_words.specs.declared.view.Role.TheVariants.{Worker as AsWorker, Writer as AsWriter}
 use Rattle.shared_words.specs.declared.layout.Layout.{Layout}
+use Rattle.shared_words.specs.contracts.layout.Layout as layout_row
 use Rattle.shared_words.specs.Layout.{half, word_count, first_at, second_at, sequence_at, token_at}
-use Rattle.shared_words.specs.Opened.{Opened, setup_of}
+use Rattle.shared_words.specs.Opened.{Opened, coded_opened, setup_of}
 use Rattle.shared_words.specs.Rule.{IsLater}
 
--- a seat at a table that was opened so: its view says the same, and the table has a word for each place
+-- what callers see of the words: which table of atomic words it is, what it was opened with, and where each
+-- word lies in it
+pub record WordsAt : Type 0 where
+  pub table : TableId
+  pub opening : Opened
+  pub layout : Layout
+
+abbrev pub coded_words : Coded WordsAt
+coded_words = code_by (TableId × (Opened × Layout))
+    (coded× table_id_coded (coded× coded_opened layout_row.the_row.coded))
+    (λ w. (w.table, (w.opening, w.layout)))
+    (λ p. record { table = p.0; opening = p.1.0; layout = p.1.1 }) (λ _. refl)
+
+-- a seat at these words: its view says what they were opened with, and the table has a word for each place
 -- and addresses of at most 32 bits
-pub record IsOf (table : TableId) (opening : Opened) (layout : Layout) (seat : TableId) (v : View)
-    : Type 0 where
-  pub same : seat ≡ table
-  pub opening_is : v.opening ≡ opening
-  pub widths : opening.first + opening.second ≤ 32
-  pub firsts : layout.firsts ≡ length opening.firsts
-  pub seconds : layout.seconds ≡ length opening.seconds
-  pub workers : layout.workers ≡ opening.workers
-  pub words : table.words ≡ word_count opening
-  pub low : word_count opening < 2 ^ 63
+pub record IsOf (w : WordsAt) (seat : TableId) (v : View) : Type 0 where
+  pub same : seat ≡ w.table
+  pub opening_is : v.opening ≡ w.opening
+  pub widths : w.opening.first + w.opening.second ≤ 32
+  pub firsts : w.layout.firsts ≡ length w.opening.firsts
+  pub seconds : w.layout.seconds ≡ length w.opening.seconds
+  pub workers : w.layout.workers ≡ w.opening.workers
+  pub words : w.table.words ≡ word_count w.opening
+  pub low : word_count w.opening < 2 ^ 63
 
 -- ---- the writer
 
@@ -42,20 +55,40 @@ pub record IsOf (table : TableId) (opening : Opened) (layout : Layout) (seat : T
 abbrev pub with_step : View → WriterStep → View
 with_step v s = record v { seen = s ∷ v.seen }
 
--- the writer's step is made
-abbrev pub WriterGains : WriterStep → Me (Unit {0}) View → Me (Unit {0}) View → Type 0
-WriterGains s me me' = me' ≡ (with_step me.0 s, me.1)
-
 -- each token up to the greatest that has passed was checked
 abbrev pub AreChecked : Opened → List WriterStep → Type 0
 AreChecked o seen = (token : ℕ) → 0 < token → token ≤ (tables (setup_of o) seen).passed
     → IsChecked (setup_of o) seen token
 
--- a load of a word that the writer alone changes is no step, and finds what its own steps left
-pub record IsFoundAt (o : Opened) (seen : List WriterStep) (at word : ℕ) : Type 0 where
+-- the writer's steps: each might come after those before it, they leave entries, and each token that has
+-- passed was checked
+pub record AreLawful (o : Opened) (seen : List WriterStep) : Type 0 where
   pub written : IsWritten (setup_of o) seen
   pub words : IsWords o.first o.second (tables (setup_of o) seen).words
   pub checked : AreChecked o seen
+
+-- the writer's step is made, and its steps are lawful then
+abbrev pub WriterGains : WriterStep → Me (Unit {0}) View → Me (Unit {0}) View → Type 0
+WriterGains s me me' = (me' ≡ (with_step me.0 s, me.1)) × AreLawful me'.0.opening me'.0.seen
+
+-- what callers see of the writer's seat: at which table it is, and what it knows
+pub record WriterAt : Type 0 where
+  pub table : TableId
+  pub view : View
+
+abbrev pub coded_writer : Coded WriterAt
+coded_writer = code_by (TableId × View) (coded× table_id_coded view_row.the_row.coded)
+    (λ s. (s.table, s.view)) (λ p. record { table = p.0; view = p.1 }) (λ _. refl)
+
+-- it is the writer's seat, was told of nothing and keeps nothing of its own, and its steps are lawful
+pub record IsWriterSeat (me : Me (Unit {0}) View) : Type 0 where
+  pub alone : me.1 ≡ []
+  pub role : me.0.role ≡ AsWriter
+  pub told : me.0.told ≡ []
+  pub lawful : AreLawful me.0.opening me.0.seen
+
+-- a load of a word that the writer alone changes is no step, and finds what its own steps left
+pub record IsFoundAt (o : Opened) (seen : List WriterStep) (at word : ℕ) : Type 0 where
   pub first : (i : ℕ) → i < length o.firsts → at ≡ first_at i
       → half i word ≡ slice_index (tables (setup_of o) seen).words.firsts i
   pub second : (j : ℕ) → j < length o.seconds → at ≡ second_at o j

@@ -13,14 +13,39 @@ use crate::opening::Opens;
 use crate::writer::WriterSeat;
 use atomic_table::Table;
 use std::alloc::{AllocError, Global};
+use std::marker::Model;
 
 /// The words of a shared table. Each step on them is made through a seat.
 #[derive(Drop)]
 pub struct SharedWords<T: Opens> {
-    /// The table of atomic words.
-    pub board: Board<T>,
-    /// Where each word lies in it.
-    pub layout: Layout,
+    // The table of atomic words.
+    pub(crate) board: Board<T>,
+    // Where each word lies in it.
+    pub(crate) layout: Layout,
+}
+
+impl<T: Opens> Model for SharedWords<T> {
+    ghost use Rattle.shared_words.specs.Seats.{WordsAt, coded_words};
+
+    ghost Value = { WordsAt };
+
+    ghost coded = { coded_words };
+
+    ghost view = { λ s. record {
+      table = s.board.shared.table_id;
+      opening = T.opened s.board.shared.key;
+      layout = s.layout;
+    } };
+}
+
+impl<T: Opens> SharedWords<T> {
+    /// How many workers there are, each with a counter.
+    #[inline]
+    pub fn workers(&self) -> usize
+        ensures { result ≡ self.now.layout.workers }
+    {
+        self.layout.workers
+    }
 }
 
 /// A table of these words, which are copied, and the seat of its writer; the error only where memory is
@@ -37,10 +62,10 @@ pub fn open<T: Opens>(
     requires seconds { layout.seconds ≡ length (T.opened opening.now).seconds }
     requires workers { layout.workers ≡ (T.opened opening.now).workers }
     requires widths { (T.opened opening.now).first + (T.opened opening.now).second ≤ 32 }
-    ensures key { IfOk result (λ r. (r.0.board.shared.key ≡ opening.now) × (r.0.layout ≡ layout)) }
-    ensures own { IfOk result (λ r. IsOf r.0.board.shared.table_id (T.opened opening.now) layout
-        r.1.place.table_id r.1.place.me.0) }
-    ensures view { IfOk result (λ r. r.1.place.me.0 ≡ writer_view (T.opened opening.now)) }
+    ensures opening { IfOk result (λ r. r.0.opening ≡ T.opened opening.now) }
+    ensures layout { IfOk result (λ r. r.0.layout ≡ layout) }
+    ensures own { IfOk result (λ r. IsOf r.0 r.1.table r.1.view) }
+    ensures view { IfOk result (λ r. r.1.view ≡ writer_view (T.opened opening.now)) }
 {
     let (board, place) = Table::of_words(alloc, words, opening)?;
     Ok((SharedWords { board, layout }, WriterSeat { place }))

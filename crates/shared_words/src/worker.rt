@@ -148,8 +148,7 @@ impl WorkerSeat {
     /// In a report that the worker is online, loads the token.
     #[inline]
     pub fn load_online<T: Opens>(&mut self, table: &SharedWords<T>) -> u64
-        requires own { IsOf table.now.board.shared.table_id (T.opened table.now.board.shared.key)
-            table.now.layout self.old.table self.old.view }
+        requires own { IsOf table.now self.old.table self.old.view }
         requires offline { (worker_by self.old.view.own).phase ≡ Offline }
         ensures own { self.new.table ≡ self.old.table }
         ensures worker { self.new.worker ≡ self.old.worker }
@@ -162,8 +161,7 @@ impl WorkerSeat {
     /// In that report, stores the loaded token into the worker's counter.
     #[inline]
     pub fn store_online<T: Opens>(&mut self, table: &SharedWords<T>, token: u64)
-        requires own { IsOf table.now.board.shared.table_id (T.opened table.now.board.shared.key)
-            table.now.layout self.old.table self.old.view }
+        requires own { IsOf table.now self.old.table self.old.view }
         requires loaded { (worker_by self.old.view.own).phase ≡ ComingOnline token }
         ensures own { self.new.table ≡ self.old.table }
         ensures worker { self.new.worker ≡ self.old.worker }
@@ -179,8 +177,7 @@ impl WorkerSeat {
     /// In a quiescent report, loads the token.
     #[inline]
     pub fn load_quiescent<T: Opens>(&mut self, table: &SharedWords<T>) -> u64
-        requires own { IsOf table.now.board.shared.table_id (T.opened table.now.board.shared.key)
-            table.now.layout self.old.table self.old.view }
+        requires own { IsOf table.now self.old.table self.old.view }
         requires online { (worker_by self.old.view.own).phase ≡ Online }
         ensures own { self.new.table ≡ self.old.table }
         ensures worker { self.new.worker ≡ self.old.worker }
@@ -196,8 +193,7 @@ impl WorkerSeat {
     /// In that report, stores the loaded token into the worker's counter.
     #[inline]
     pub fn store_quiescent<T: Opens>(&mut self, table: &SharedWords<T>, token: u64)
-        requires own { IsOf table.now.board.shared.table_id (T.opened table.now.board.shared.key)
-            table.now.layout self.old.table self.old.view }
+        requires own { IsOf table.now self.old.table self.old.view }
         requires loaded { (worker_by self.old.view.own).phase ≡ ReportingQuiescent token }
         ensures own { self.new.table ≡ self.old.table }
         ensures worker { self.new.worker ≡ self.old.worker }
@@ -213,8 +209,7 @@ impl WorkerSeat {
     /// Stores 0 in the worker's counter: it is offline.
     #[inline]
     pub fn store_offline<T: Opens>(&mut self, table: &SharedWords<T>)
-        requires own { IsOf table.now.board.shared.table_id (T.opened table.now.board.shared.key)
-            table.now.layout self.old.table self.old.view }
+        requires own { IsOf table.now self.old.table self.old.view }
         requires online { (worker_by self.old.view.own).phase ≡ Online }
         ensures own { self.new.table ≡ self.old.table }
         ensures worker { self.new.worker ≡ self.old.worker }
@@ -230,8 +225,7 @@ impl WorkerSeat {
     /// Loads the sequence: a lookup of these addresses begins.
     #[inline]
     pub fn begin_lookup<T: Opens>(&mut self, table: &SharedWords<T>, addrs: &[u64]) -> u64
-        requires own { IsOf table.now.board.shared.table_id (T.opened table.now.board.shared.key)
-            table.now.layout self.old.table self.old.view }
+        requires own { IsOf table.now self.old.table self.old.view }
         requires online { (worker_by self.old.view.own).phase ≡ Online }
         requires addrs { All (λ a. a < addresses (setup_of self.old.view.opening)) addrs.now }
         ensures own { self.new.table ≡ self.old.table }
@@ -245,8 +239,7 @@ impl WorkerSeat {
     /// Loads the first word of the next address, which lies at place `i`.
     #[inline]
     pub fn load_first<T: Opens>(&mut self, table: &SharedWords<T>, i: usize) -> u64
-        requires own { IsOf table.now.board.shared.table_id (T.opened table.now.board.shared.key)
-            table.now.layout self.old.table self.old.view }
+        requires own { IsOf table.now self.old.table self.old.view }
         requires index { i < table.now.layout.firsts }
         requires looking { (worker_by self.old.view.own).phase ≡ LookingUp }
         requires next { IsFirstAt self.old.view.opening.second i
@@ -264,8 +257,7 @@ impl WorkerSeat {
     /// Loads the second word of the next address that has a group, which lies at place `j`.
     #[inline]
     pub fn load_second<T: Opens>(&mut self, table: &SharedWords<T>, j: usize) -> u64
-        requires own { IsOf table.now.board.shared.table_id (T.opened table.now.board.shared.key)
-            table.now.layout self.old.table self.old.view }
+        requires own { IsOf table.now self.old.table self.old.view }
         requires index { j < table.now.layout.seconds }
         requires looking { (worker_by self.old.view.own).phase ≡ LookingUp }
         requires begun { AreBegun (worker_by self.old.view.own).probes }
@@ -284,8 +276,7 @@ impl WorkerSeat {
     /// Loads the sequence: the lookup, of which each address has its answer, ends.
     #[inline]
     pub fn end_lookup<T: Opens>(&mut self, table: &SharedWords<T>) -> u64
-        requires own { IsOf table.now.board.shared.table_id (T.opened table.now.board.shared.key)
-            table.now.layout self.old.table self.old.view }
+        requires own { IsOf table.now self.old.table self.old.view }
         requires looking { (worker_by self.old.view.own).phase ≡ LookingUp }
         requires answered { AreAnswered (worker_by self.old.view.own).probes }
         ensures own { self.new.table ≡ self.old.table }
@@ -299,19 +290,16 @@ impl WorkerSeat {
     /// Loads the sequence once. Then this worker has seen all that the writer has done. The writer stays as
     /// it was.
     pub fn meet<T: Opens>(&mut self, table: &SharedWords<T>, writer: &mut WriterSeat)
-        requires own { IsOf table.now.board.shared.table_id (T.opened table.now.board.shared.key)
-            table.now.layout self.old.table self.old.view }
+        requires own { IsOf table.now self.old.table self.old.view }
         requires between { IsBetweenDeeds (worker_by self.old.view.own).phase }
-        requires writer { IsOf table.now.board.shared.table_id (T.opened table.now.board.shared.key)
-            table.now.layout writer.old.place.table_id writer.old.place.me.0 }
+        requires writer { IsOf table.now writer.old.table writer.old.view }
         ensures own { self.new.table ≡ self.old.table }
         ensures worker { self.new.worker ≡ self.old.worker }
         ensures step { (number : ℕ) × Gains (Meets number)
-            (record self.old.view { told = writer.old.place.me.0.seen })
+            (record self.old.view { told = writer.old.view.seen })
             self.new.view }
-        ensures all { self.new.view.seen ≡ writer.old.place.me.0.seen }
-        ensures writer { writer.new.place.me.0 ≡ writer.old.place.me.0 }
-        ensures seat { writer.new.place.table_id ≡ writer.old.place.table_id }
+        ensures all { self.new.view.seen ≡ writer.old.view.seen }
+        ensures same { writer.new ≡ writer.old }
     {
         let at = Layout::SEQUENCE;
         let shared = &table.board.shared;

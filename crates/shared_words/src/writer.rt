@@ -3,13 +3,12 @@
 ghost use Rattle.std.specs.Prelude.{◌≡◌, ℕ, ◌+◌, ◌<◌, length, slice_index, []};
 ghost use Rattle.lpm_trace.specs.declared.step.WriterStep.TheVariants.{StoreFirst, StoreSecond, Opens as OpensUpdate, Closes, BumpToken, LoadCounter};
 ghost use Rattle.lpm_trace.specs.Tables.{tables};
-ghost use Rattle.lpm_trace.specs.Writer.{IsWritten, MayStep};
+ghost use Rattle.lpm_trace.specs.Writer.{MayStep};
 ghost use Rattle.shared_words.specs.declared.view.Role.TheVariants.{Writer as AsWriter};
 ghost use Rattle.shared_words.specs.Opened.{setup_of};
-ghost use Rattle.lpm_cells.specs.Table.{IsWords};
 ghost use Rattle.shared_words.specs.Layout.{half, first_at, second_at, sequence_at, counter_at};
 ghost use Rattle.shared_words.specs.Rule.{with_one_more, worker_view};
-ghost use Rattle.shared_words.specs.Seats.{IsOf, KeepsFirst, KeepsSecond, AreChecked, with_step};
+ghost use Rattle.shared_words.specs.Seats.{IsOf, KeepsFirst, KeepsSecond, AreLawful, with_step};
 
 use crate::law::{
     Board, BumpsToken, ClosesUpdates, LoadsCounter, Looks, NextWorker, OpensUpdates, Picks, Place,
@@ -20,16 +19,25 @@ use crate::opening::Opens;
 use crate::words::SharedWords;
 use crate::worker::WorkerSeat;
 use lpm_trace::RuleChange;
-use std::marker::Brand;
+use std::marker::{Brand, Model};
 
 /// The seat of the one writer. It knows each step that the writer has made.
 #[derive(Drop)]
 pub struct WriterSeat {
-    /// The seat at the table of atomic words.
-    pub place: Place,
-    pub ghost role: { place.me.0.role ≡ AsWriter },
-    pub ghost told: { place.me.0.told ≡ [] },
-    pub ghost alone: { place.me.1 ≡ [] },
+    // The seat at the table of atomic words.
+    pub(crate) place: Place,
+}
+
+impl Model for WriterSeat {
+    ghost use Rattle.shared_words.specs.Seats.{WriterAt, coded_writer, IsWriterSeat};
+
+    ghost Value = { WriterAt };
+
+    ghost coded = { coded_writer };
+
+    ghost view = { λ s. record { table = s.place.table_id; view = s.place.me.0 } };
+
+    ghost invariant = { λ s. IsWriterSeat s.place.me };
 }
 
 // The calls that follow pick what a step carries beside its word. A signature with a const parameter would
@@ -55,6 +63,7 @@ fn store_first_as<T: Opens, J: Picks>(
     requires kept { KeepsFirst place.old.me.0.opening place.old.me.0.seen i shared }
     ensures own { (place.new.table_id ≡ place.old.table_id) × (place.new.me.1 ≡ place.old.me.1) }
     ensures step { place.new.me.0 ≡ with_step place.old.me.0 (StoreFirst i word) }
+    ensures lawful { AreLawful place.new.me.0.opening place.new.me.0.seen }
 {
     let _ = i;
     let _ = word;
@@ -81,6 +90,7 @@ fn store_second_as<T: Opens, J: Picks>(
     requires kept { KeepsSecond place.old.me.0.opening place.old.me.0.seen j shared }
     ensures own { (place.new.table_id ≡ place.old.table_id) × (place.new.me.1 ≡ place.old.me.1) }
     ensures step { place.new.me.0 ≡ with_step place.old.me.0 (StoreSecond j word) }
+    ensures lawful { AreLawful place.new.me.0.opening place.new.me.0.seen }
 {
     let _ = j;
     let _ = word;
@@ -105,6 +115,7 @@ fn open_as<T: Opens, J: Picks>(
         (OpensUpdate change.now) }
     ensures own { (place.new.table_id ≡ place.old.table_id) × (place.new.me.1 ≡ place.old.me.1) }
     ensures step { place.new.me.0 ≡ with_step place.old.me.0 (OpensUpdate change.now) }
+    ensures lawful { AreLawful place.new.me.0.opening place.new.me.0.seen }
 {
     let _ = change;
     board.shared.store::<OpensUpdates<J>>(place, at, number)
@@ -128,6 +139,7 @@ fn load_counter_as<T: Opens, J: Picks>(
         (LoadCounter token worker counter) }
     ensures own { (place.new.table_id ≡ place.old.table_id) × (place.new.me.1 ≡ place.old.me.1) }
     ensures step { place.new.me.0 ≡ with_step place.old.me.0 (LoadCounter token worker result) }
+    ensures lawful { AreLawful place.new.me.0.opening place.new.me.0.seen }
 {
     let _ = token;
     let _ = worker;
@@ -135,16 +147,23 @@ fn load_counter_as<T: Opens, J: Picks>(
 }
 
 impl WriterSeat {
+    /// Does nothing: its contract says what the writer's steps are.
+    #[inline]
+    pub fn history(&self)
+        ensures { AreLawful self.now.view.opening self.now.view.seen }
+    {
+        let _ = &self.place;
+    }
+
     /// Stores a first word: one store of the shared word in which it stands, beside its neighbour as this
     /// writer left it.
     #[inline]
     pub fn store_first<T: Opens>(&mut self, table: &SharedWords<T>, i: usize, word: u64)
-        requires own { IsOf table.now.board.shared.table_id (T.opened table.now.board.shared.key)
-            table.now.layout self.old.place.table_id self.old.place.me.0 }
-        requires may { MayStep (setup_of self.old.place.me.0.opening) self.old.place.me.0.seen
+        requires own { IsOf table.now self.old.table self.old.view }
+        requires may { MayStep (setup_of self.old.view.opening) self.old.view.seen
             (StoreFirst i word) }
-        ensures own { self.new.place.table_id ≡ self.old.place.table_id }
-        ensures step { self.new.place.me.0 ≡ with_step self.old.place.me.0 (StoreFirst i word) }
+        ensures own { self.new.table ≡ self.old.table }
+        ensures step { self.new.view ≡ with_step self.old.view (StoreFirst i word) }
     {
         let at = first_at(i);
         let found = table.board.shared.load::<Looks>(&mut self.place, at);
@@ -156,12 +175,11 @@ impl WriterSeat {
     /// writer left it.
     #[inline]
     pub fn store_second<T: Opens>(&mut self, table: &SharedWords<T>, j: usize, word: u64)
-        requires own { IsOf table.now.board.shared.table_id (T.opened table.now.board.shared.key)
-            table.now.layout self.old.place.table_id self.old.place.me.0 }
-        requires may { MayStep (setup_of self.old.place.me.0.opening) self.old.place.me.0.seen
+        requires own { IsOf table.now self.old.table self.old.view }
+        requires may { MayStep (setup_of self.old.view.opening) self.old.view.seen
             (StoreSecond j word) }
-        ensures own { self.new.place.table_id ≡ self.old.place.table_id }
-        ensures step { self.new.place.me.0 ≡ with_step self.old.place.me.0 (StoreSecond j word) }
+        ensures own { self.new.table ≡ self.old.table }
+        ensures step { self.new.view ≡ with_step self.old.view (StoreSecond j word) }
     {
         let at = table.layout.second_at(j);
         let found = table.board.shared.load::<Looks>(&mut self.place, at);
@@ -177,14 +195,13 @@ impl WriterSeat {
         change: &RuleChange,
         number: u64,
     )
-        requires own { IsOf table.now.board.shared.table_id (T.opened table.now.board.shared.key)
-            table.now.layout self.old.place.table_id self.old.place.me.0 }
-        requires next { number ≡ (tables (setup_of self.old.place.me.0.opening)
-            self.old.place.me.0.seen).sequence + 1 }
-        requires may { MayStep (setup_of self.old.place.me.0.opening) self.old.place.me.0.seen
+        requires own { IsOf table.now self.old.table self.old.view }
+        requires next { number ≡ (tables (setup_of self.old.view.opening)
+            self.old.view.seen).sequence + 1 }
+        requires may { MayStep (setup_of self.old.view.opening) self.old.view.seen
             (OpensUpdate change.now) }
-        ensures own { self.new.place.table_id ≡ self.old.place.table_id }
-        ensures step { self.new.place.me.0 ≡ with_step self.old.place.me.0 (OpensUpdate change.now) }
+        ensures own { self.new.table ≡ self.old.table }
+        ensures step { self.new.view ≡ with_step self.old.view (OpensUpdate change.now) }
     {
         let at = Layout::SEQUENCE;
         open_as::<T, Brand>(&table.board, &mut self.place, at, change, number);
@@ -193,14 +210,13 @@ impl WriterSeat {
     /// Stores the next number of the sequence: the update is done.
     #[inline]
     pub fn close_update<T: Opens>(&mut self, table: &SharedWords<T>, number: u64)
-        requires own { IsOf table.now.board.shared.table_id (T.opened table.now.board.shared.key)
-            table.now.layout self.old.place.table_id self.old.place.me.0 }
-        requires next { number ≡ (tables (setup_of self.old.place.me.0.opening)
-            self.old.place.me.0.seen).sequence + 1 }
-        requires may { MayStep (setup_of self.old.place.me.0.opening) self.old.place.me.0.seen
+        requires own { IsOf table.now self.old.table self.old.view }
+        requires next { number ≡ (tables (setup_of self.old.view.opening)
+            self.old.view.seen).sequence + 1 }
+        requires may { MayStep (setup_of self.old.view.opening) self.old.view.seen
             (Closes) }
-        ensures own { self.new.place.table_id ≡ self.old.place.table_id }
-        ensures step { self.new.place.me.0 ≡ with_step self.old.place.me.0 (Closes) }
+        ensures own { self.new.table ≡ self.old.table }
+        ensures step { self.new.view ≡ with_step self.old.view (Closes) }
     {
         let at = Layout::SEQUENCE;
         table
@@ -212,14 +228,13 @@ impl WriterSeat {
     /// Stores the next token.
     #[inline]
     pub fn bump_token<T: Opens>(&mut self, table: &SharedWords<T>, token: u64)
-        requires own { IsOf table.now.board.shared.table_id (T.opened table.now.board.shared.key)
-            table.now.layout self.old.place.table_id self.old.place.me.0 }
-        requires next { token ≡ (tables (setup_of self.old.place.me.0.opening)
-            self.old.place.me.0.seen).token + 1 }
-        requires may { MayStep (setup_of self.old.place.me.0.opening) self.old.place.me.0.seen
+        requires own { IsOf table.now self.old.table self.old.view }
+        requires next { token ≡ (tables (setup_of self.old.view.opening)
+            self.old.view.seen).token + 1 }
+        requires may { MayStep (setup_of self.old.view.opening) self.old.view.seen
             (BumpToken) }
-        ensures own { self.new.place.table_id ≡ self.old.place.table_id }
-        ensures step { self.new.place.me.0 ≡ with_step self.old.place.me.0 (BumpToken) }
+        ensures own { self.new.table ≡ self.old.table }
+        ensures step { self.new.view ≡ with_step self.old.view (BumpToken) }
     {
         let at = Layout::TOKEN;
         table
@@ -236,13 +251,12 @@ impl WriterSeat {
         token: u64,
         worker: usize,
     ) -> u64
-        requires own { IsOf table.now.board.shared.table_id (T.opened table.now.board.shared.key)
-            table.now.layout self.old.place.table_id self.old.place.me.0 }
+        requires own { IsOf table.now self.old.table self.old.view }
         requires worker { worker < table.now.layout.workers }
-        requires may { (counter : ℕ) → MayStep (setup_of self.old.place.me.0.opening)
-            self.old.place.me.0.seen (LoadCounter token worker counter) }
-        ensures own { self.new.place.table_id ≡ self.old.place.table_id }
-        ensures step { self.new.place.me.0 ≡ with_step self.old.place.me.0 (LoadCounter token worker result) }
+        requires may { (counter : ℕ) → MayStep (setup_of self.old.view.opening)
+            self.old.view.seen (LoadCounter token worker counter) }
+        ensures own { self.new.table ≡ self.old.table }
+        ensures step { self.new.view ≡ with_step self.old.view (LoadCounter token worker result) }
     {
         let at = table.layout.counter_at(worker);
         load_counter_as::<T, Brand>(&table.board, &mut self.place, at, token, worker)
@@ -251,12 +265,11 @@ impl WriterSeat {
     /// The first word at place `i`, which this writer alone changes. It is no step.
     #[inline]
     pub fn first<T: Opens>(&mut self, table: &SharedWords<T>, i: usize) -> u64
-        requires own { IsOf table.now.board.shared.table_id (T.opened table.now.board.shared.key)
-            table.now.layout self.old.place.table_id self.old.place.me.0 }
+        requires own { IsOf table.now self.old.table self.old.view }
         requires index { i < table.now.layout.firsts }
         ensures same { self.new ≡ self.old }
-        ensures value { result ≡ slice_index (tables (setup_of self.old.place.me.0.opening)
-            self.old.place.me.0.seen).words.firsts i }
+        ensures value { result ≡ slice_index (tables (setup_of self.old.view.opening)
+            self.old.view.seen).words.firsts i }
     {
         let shared = table
             .board
@@ -268,31 +281,24 @@ impl WriterSeat {
     /// The second word at place `j`, which this writer alone changes. It is no step.
     #[inline]
     pub fn second<T: Opens>(&mut self, table: &SharedWords<T>, j: usize) -> u64
-        requires own { IsOf table.now.board.shared.table_id (T.opened table.now.board.shared.key)
-            table.now.layout self.old.place.table_id self.old.place.me.0 }
+        requires own { IsOf table.now self.old.table self.old.view }
         requires index { j < table.now.layout.seconds }
         ensures same { self.new ≡ self.old }
-        ensures value { result ≡ slice_index (tables (setup_of self.old.place.me.0.opening)
-            self.old.place.me.0.seen).words.seconds j }
+        ensures value { result ≡ slice_index (tables (setup_of self.old.view.opening)
+            self.old.view.seen).words.seconds j }
     {
         let at = table.layout.second_at(j);
         let shared = table.board.shared.load::<Looks>(&mut self.place, at);
         half(j, shared)
     }
 
-    /// The sequence, which this writer alone changes. It is no step. Each of the writer's steps might come
-    /// after those before it, the words are entries, and each token that has passed was checked.
+    /// The sequence, which this writer alone changes. It is no step.
     #[inline]
     pub fn sequence<T: Opens>(&mut self, table: &SharedWords<T>) -> u64
-        requires own { IsOf table.now.board.shared.table_id (T.opened table.now.board.shared.key)
-            table.now.layout self.old.place.table_id self.old.place.me.0 }
+        requires own { IsOf table.now self.old.table self.old.view }
         ensures same { self.new ≡ self.old }
-        ensures value { result ≡ (tables (setup_of self.old.place.me.0.opening)
-            self.old.place.me.0.seen).sequence }
-        ensures written { IsWritten (setup_of self.old.place.me.0.opening) self.old.place.me.0.seen }
-        ensures words { IsWords self.old.place.me.0.opening.first self.old.place.me.0.opening.second
-            (tables (setup_of self.old.place.me.0.opening) self.old.place.me.0.seen).words }
-        ensures checked { AreChecked self.old.place.me.0.opening self.old.place.me.0.seen }
+        ensures value { result ≡ (tables (setup_of self.old.view.opening)
+            self.old.view.seen).sequence }
     {
         table
             .board
@@ -300,16 +306,13 @@ impl WriterSeat {
             .load::<Looks>(&mut self.place, Layout::SEQUENCE)
     }
 
-    /// The token, which this writer alone changes. It is no step. Each of the writer's steps might come
-    /// after those before it.
+    /// The token, which this writer alone changes. It is no step.
     #[inline]
     pub fn token<T: Opens>(&mut self, table: &SharedWords<T>) -> u64
-        requires own { IsOf table.now.board.shared.table_id (T.opened table.now.board.shared.key)
-            table.now.layout self.old.place.table_id self.old.place.me.0 }
+        requires own { IsOf table.now self.old.table self.old.view }
         ensures same { self.new ≡ self.old }
-        ensures value { result ≡ (tables (setup_of self.old.place.me.0.opening)
-            self.old.place.me.0.seen).token }
-        ensures written { IsWritten (setup_of self.old.place.me.0.opening) self.old.place.me.0.seen }
+        ensures value { result ≡ (tables (setup_of self.old.view.opening)
+            self.old.view.seen).token }
     {
         table
             .board
@@ -319,17 +322,15 @@ impl WriterSeat {
 
     /// The seat of the next worker, which is offline and has made no step.
     pub fn next_worker<T: Opens>(&mut self, table: &SharedWords<T>, number: u64) -> WorkerSeat
-        requires own { IsOf table.now.board.shared.table_id (T.opened table.now.board.shared.key)
-            table.now.layout self.old.place.table_id self.old.place.me.0 }
-        requires number { self.old.place.me.0.made ≡ number }
+        requires own { IsOf table.now self.old.table self.old.view }
+        requires number { self.old.view.made ≡ number }
         requires worker { number < table.now.layout.workers }
-        ensures own { self.new.place.table_id ≡ self.old.place.table_id }
-        ensures made { self.new.place.me.0 ≡ with_one_more self.old.place.me.0 }
-        ensures seat { result.table ≡ self.old.place.table_id }
-        ensures view { result.view ≡ worker_view self.old.place.me.0 }
+        ensures own { self.new.table ≡ self.old.table }
+        ensures made { self.new.view ≡ with_one_more self.old.view }
+        ensures seat { result.table ≡ self.old.table }
+        ensures view { result.view ≡ worker_view self.old.view }
         ensures worker { result.worker ≡ number }
     {
-        let _ = self.sequence(table);
         let place = table.board.shared.split_seat::<NextWorker>(&mut self.place);
         WorkerSeat { place, number }
     }

@@ -1,11 +1,9 @@
-use Rattle.std.proofs.Common.{refl, rules, subst, sym}
+use Rattle.std.proofs.Common.{refl, rules}
 use Rattle.fib_model.specs.Outcomes.{Flushes}
 use Rattle.lpm_writer.specs.Traced.{by_steps}
 use Rattle.lpm_writer.specs.Resting.{state_of}
 use Rattle.shared_words.specs.declared.view.View.{View}
-use Rattle.shared_words.specs.declared.writer.WriterSeat.{WriterSeat}
 use Rattle.shared_words.specs.Opened.{setup_of}
-use Rattle.shared_words.specs.Seats.{AreChecked}
 use Rattle.shared_fib.specs.Running.{OnlySees}
 use Rattle.shared_fib.proofs.Checked.{looked, frees_checked}
 use Rattle.shared_fib.proofs.Freed.{flushes_leave}
@@ -17,17 +15,14 @@ returns-clause-checked g c =
     let d = g.row.SECOND in
     let old = c.args.ledger.now in
     let new = c.flush_over-came.new.ledger in
-    let v : View = c.args.seat.now.place.me.0 in
-    let w : View = c.sequence.new.self.place.me.0 in
+    let v : View = c.args.seat.now.view in
+    let w : View = c.seat-1.given.0.view in
     let s = state_of old.rules.rules v.seen old.books old.versions in
     let z = state_of new.rules.rules w.seen new.books new.versions in
     let came = c.flush_over-came.result in
     let outcome : Flushes (by_steps (setup_of v.opening)) f d old.config s came z = search rules in
     let sees : OnlySees v w = search rules in
-    let known : AreChecked w.opening w.seen =
-    subst (λ (s : WriterSeat). AreChecked s.place.me.0.opening s.place.me.0.seen)
-    (sym c.sequence.ensures.same) c.sequence.ensures.checked in
-    let checked = looked v w sees known in
+    let checked = looked v w sees c.history.ensures.checked in
     let left = flushes_leave (setup_of v.opening) f d old.config s came z outcome in
     let kept = c.requires.ready.rests.keeps.kept in (
       left.1,

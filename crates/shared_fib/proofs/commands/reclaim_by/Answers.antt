@@ -1,11 +1,9 @@
-use Rattle.std.proofs.Common.{refl, rules, subst, sym}
+use Rattle.std.proofs.Common.{refl, rules}
 use Rattle.fib_model.specs.Outcomes.{Frees}
 use Rattle.lpm_writer.specs.Traced.{by_steps}
 use Rattle.lpm_writer.specs.Resting.{state_of}
 use Rattle.shared_words.specs.declared.view.View.{View}
-use Rattle.shared_words.specs.declared.writer.WriterSeat.{WriterSeat}
 use Rattle.shared_words.specs.Opened.{setup_of}
-use Rattle.shared_words.specs.Seats.{AreChecked}
 use Rattle.shared_fib.specs.Running.{OnlySees}
 use Rattle.shared_fib.proofs.Checked.{looked, frees_checked}
 use Rattle.shared_fib.proofs.Freed.{reclaims_leave}
@@ -15,17 +13,14 @@ pub returns-clause-checked : goal.returns-clause-checked
 returns-clause-checked g c =
     let old = c.args.ledger.now in
     let new = c.reclaim_over-came.new.ledger in
-    let v : View = c.args.seat.now.place.me.0 in
-    let w : View = c.sequence.new.self.place.me.0 in
+    let v : View = c.args.seat.now.view in
+    let w : View = c.seat-1.given.0.view in
     let freed = c.reclaim_over-came.result in
     let frees : Frees (by_steps (setup_of v.opening))
     (state_of old.rules.rules v.seen old.books old.versions) c.args.max freed
     (state_of new.rules.rules w.seen new.books new.versions) = search rules in
     let sees : OnlySees v w = search rules in
-    let known : AreChecked w.opening w.seen =
-    subst (λ (s : WriterSeat). AreChecked s.place.me.0.opening s.place.me.0.seen)
-    (sym c.sequence.ensures.same) c.sequence.ensures.checked in
-    let checked = looked v w sees known in
+    let checked = looked v w sees c.history.ensures.checked in
     let s = state_of old.rules.rules v.seen old.books old.versions in
     let z = state_of new.rules.rules w.seen new.books new.versions in
     let rests = c.requires.ready.rests in

@@ -1,4 +1,4 @@
-use Rattle.std.proofs.Common.{◌≡◌, length, ap, ◌∙◌, arith, rules}
+use Rattle.std.proofs.Common.{◌≡◌, length, ap, ◌∙◌, arith}
 use Rattle.shared_words.specs.Opened.{Opened}
 use Rattle.shared_words.specs.Layout.{word_count}
 use Rattle.shared_words.proofs.Laying.{opening_count}
@@ -9,9 +9,6 @@ pub of_words-requires : goal.of_words-requires
 of_words-requires g c =
     let o : Opened = g.T.Opens.opened c.args.opening.now in
     opens o c.args.words.now c.requires.words c.requires.settled c.requires.widths
-
-pub returns-clause-key : goal.returns-clause-key
-returns-clause-key c = search rules
 
 pub returns-clause-own : goal.returns-clause-own
 returns-clause-own g c =

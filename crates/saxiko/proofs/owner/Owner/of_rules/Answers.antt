@@ -2,7 +2,7 @@ use Rattle.std.proofs.Common.{◌≡◌, subst, List, Option}
 use Rattle.std.specs.Prelude.{IfSome}
 use Rattle.lpm_rules.specs.Listed.{rules_of}
 use Rattle.shared_fib.specs.Passes.{PassState, IsFullBench}
-use Rattle.shared_fib.specs.Running.{Identity, IsAtRest, WriterState, opens_with}
+use Rattle.shared_fib.specs.Running.{Identity, WriterState, opens_with}
 use Rattle.saxiko.proofs.Opened.{opens_as}
 use Rattle.saxiko.proofs.owner.Owner.of_rules.Goals as goal
 
@@ -13,6 +13,5 @@ returns-in_ok-of_opened-in-Some-clause-bench c =
     let table = c.in_ok-table.ensures in
     let opened = subst (λ (o : Option (Identity × WriterState × List (Option PassState))). IfSome o (λ r. r.1 ≡ opens_with r.0 config rules)) c.in-Some.is table.opened in
     let full = subst (λ (o : Option (Identity × WriterState × List (Option PassState))). IfSome o (λ r. IsFullBench r.0 r.2)) c.in-Some.is table.bench in
-    let rests = subst (λ (o : Option (Identity × WriterState × List (Option PassState))). IfSome o (λ r. IsAtRest r.1)) c.in-Some.is table.rests in
     let owner = c.in_ok-of_opened-in-Some in
-    (opens_as c.in-Some.table config rules c.in-Some.writer c.in-Some.bench owner.field-0 owner.ensures.ok opened full rests).bench
+    (opens_as c.in-Some.table config rules c.in-Some.writer c.in-Some.bench owner.field-0 owner.ensures.ok opened full).bench

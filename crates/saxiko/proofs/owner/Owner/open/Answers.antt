@@ -10,43 +10,36 @@ pub returns-clause-opening : goal.returns-clause-opening
 returns-clause-opening c =
     let r = c.in_ok-table in
     let opens : (o : OwnerState) → o ≡ record { writer = r.writer; bench = r.bench } → OpensAs r.table c.args.config map.empty o =
-    λ o is. opens_as r.table c.args.config map.empty r.writer r.bench o is r.ensures.opened r.ensures.bench r.ensures.rests in
+    λ o is. opens_as r.table c.args.config map.empty r.writer r.bench o is r.ensures.opened r.ensures.bench in
     IfOk-weaker c.of_opened.result _ _ (λ o is. ap setup (opens o is).identity ∙ r.ensures.opening) c.of_opened.ensures.ok
 
 pub returns-clause-opened : goal.returns-clause-opened
 returns-clause-opened c =
     let r = c.in_ok-table in
     let opens : (o : OwnerState) → o ≡ record { writer = r.writer; bench = r.bench } → OpensAs r.table c.args.config map.empty o =
-    λ o is. opens_as r.table c.args.config map.empty r.writer r.bench o is r.ensures.opened r.ensures.bench r.ensures.rests in
+    λ o is. opens_as r.table c.args.config map.empty r.writer r.bench o is r.ensures.opened r.ensures.bench in
     IfOk-weaker c.of_opened.result _ _ (λ o is. (opens o is).writer) c.of_opened.ensures.ok
 
 pub returns-clause-token : goal.returns-clause-token
 returns-clause-token c =
     let r = c.in_ok-table in
     let opens : (o : OwnerState) → o ≡ record { writer = r.writer; bench = r.bench } → OpensAs r.table c.args.config map.empty o =
-    λ o is. opens_as r.table c.args.config map.empty r.writer r.bench o is r.ensures.opened r.ensures.bench r.ensures.rests in
+    λ o is. opens_as r.table c.args.config map.empty r.writer r.bench o is r.ensures.opened r.ensures.bench in
     IfOk-weaker c.of_opened.result _ _ (λ o is. ap (λ (i : Identity). i.opening.token) (opens o is).identity ∙ r.ensures.token) c.of_opened.ensures.ok
 
 pub returns-clause-workers : goal.returns-clause-workers
 returns-clause-workers c =
     let r = c.in_ok-table in
     let opens : (o : OwnerState) → o ≡ record { writer = r.writer; bench = r.bench } → OpensAs r.table c.args.config map.empty o =
-    λ o is. opens_as r.table c.args.config map.empty r.writer r.bench o is r.ensures.opened r.ensures.bench r.ensures.rests in
+    λ o is. opens_as r.table c.args.config map.empty r.writer r.bench o is r.ensures.opened r.ensures.bench in
     IfOk-weaker c.of_opened.result _ _ (λ o is. ap (λ (i : Identity). i.opening.workers) (opens o is).identity ∙ r.ensures.workers) c.of_opened.ensures.ok
 
 pub returns-clause-bench : goal.returns-clause-bench
 returns-clause-bench c =
     let r = c.in_ok-table in
     let opens : (o : OwnerState) → o ≡ record { writer = r.writer; bench = r.bench } → OpensAs r.table c.args.config map.empty o =
-    λ o is. opens_as r.table c.args.config map.empty r.writer r.bench o is r.ensures.opened r.ensures.bench r.ensures.rests in
+    λ o is. opens_as r.table c.args.config map.empty r.writer r.bench o is r.ensures.opened r.ensures.bench in
     IfOk-weaker c.of_opened.result _ _ (λ o is. (opens o is).bench) c.of_opened.ensures.ok
-
-pub returns-clause-rests : goal.returns-clause-rests
-returns-clause-rests c =
-    let r = c.in_ok-table in
-    let opens : (o : OwnerState) → o ≡ record { writer = r.writer; bench = r.bench } → OpensAs r.table c.args.config map.empty o =
-    λ o is. opens_as r.table c.args.config map.empty r.writer r.bench o is r.ensures.opened r.ensures.bench r.ensures.rests in
-    IfOk-weaker c.of_opened.result _ _ (λ o is. (opens o is).rests) c.of_opened.ensures.ok
 
 pub returns-clause-limits : goal.returns-clause-limits
 returns-clause-limits c = IfOk-weaker c.of_opened.result _ _ (λ o is. c.in_ok-table.ensures.limits) c.of_opened.ensures.ok

@@ -8,7 +8,7 @@ abbrev pub invariant-loop-worker : goal.invariant-loop-worker
 invariant-loop-worker g l = record {
   len : vec_len l.passes ≡ l.worker;
   capacity : vec_capacity l.passes ≡ l.workers;
-  table : l.seat.place.table_id ≡ l.fn.seat.place.table_id;
-  view : l.seat.place.me.0 ≡ record l.fn.seat.place.me.0 { made = l.worker };
-  made : AreMade l.fn.seat.place.table_id l.fn.seat.place.me.0 l.worker l.passes.items;
+  table : l.seat.table ≡ l.fn.seat.table;
+  view : l.seat.view ≡ record l.fn.seat.view { made = l.worker };
+  made : AreMade l.fn.seat.table l.fn.seat.view l.worker l.passes.items;
 }

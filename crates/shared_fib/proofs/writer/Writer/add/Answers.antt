@@ -7,7 +7,7 @@ use Rattle.shared_fib.proofs.writer.Writer.add.Goals as goal
 pub returns-clause-checked : goal.returns-clause-checked
 returns-clause-checked g c =
     let l = c.add_by.new.ledger in
-    let z = state_of l.rules.rules c.add_by.new.seat.place.me.0.seen l.books l.versions in
+    let z = state_of l.rules.rules c.add_by.new.seat.view.seen l.books l.versions in
     subst (λ (id : Identity). (freed : List ℕ) × FreesChecked (setup id) c.args.self.now.table z freed)
     c.requires.own
     (subst (λ (y : WriterState). (freed : List ℕ) × FreesChecked (setup y.identity) y.table z freed)

@@ -10,7 +10,7 @@ returns-clause-in_use g c =
     let f = g.row.FIRST in
     let s = g.row.SECOND in
     let l = c.self.inside.ledger in
-    let v = c.self.inside.seat.place.me.0 in
+    let v = c.self.inside.seat.view in
     c.counts.ensures.in_use
     ∙ linked_resting f s (setup_of v.opening) v.seen l.config l.rules l.books l.versions c.self.invariant.rests
     ∙ ap (λ (y : WriterState). groups_in_use f s y.table.rules) c.self.view_is

@@ -7,7 +7,7 @@ use Rattle.shared_fib.proofs.writer.Writer.reclaim.Goals as goal
 pub returns-clause-checked : goal.returns-clause-checked
 returns-clause-checked g c =
     let l = c.reclaim_by.new.ledger in
-    let z = state_of l.rules.rules c.reclaim_by.new.seat.place.me.0.seen l.books l.versions in
+    let z = state_of l.rules.rules c.reclaim_by.new.seat.view.seen l.books l.versions in
     let freed = c.reclaim_by.result.freed in
     let s = c.args.self.now.table in
     subst (λ (id : Identity). FreesChecked (setup id) s z (take freed s.limbo)) c.requires.own

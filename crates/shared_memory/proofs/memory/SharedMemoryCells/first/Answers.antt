@@ -6,7 +6,7 @@ use Rattle.shared_memory.proofs.memory.SharedMemoryCells.first.Goals as goal
 
 pub first-requires-clause-index : goal.first-requires-clause-index
 first-requires-clause-index g c =
-    let v = c.self.inside.seat.now.place.me.0 in
+    let v = c.self.inside.seat.now.view in
     let own = c.self.invariant.0 in
     let stays = firsts_length (setup_of v.opening) v.seen in
     let len = ap (λ (o : Opened). length o.firsts) own.opening_is in

@@ -6,7 +6,7 @@ use Rattle.shared_memory.proofs.memory.SharedMemoryCells.second.Goals as goal
 
 pub second-requires-clause-index : goal.second-requires-clause-index
 second-requires-clause-index g c =
-    let v = c.self.inside.seat.now.place.me.0 in
+    let v = c.self.inside.seat.now.view in
     let own = c.self.invariant.0 in
     let stays = seconds_length (setup_of v.opening) v.seen in
     let len = ap (λ (o : Opened). length o.seconds) own.opening_is in

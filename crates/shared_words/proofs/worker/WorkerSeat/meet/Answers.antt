@@ -6,21 +6,21 @@ use Rattle.shared_words.specs.declared.view.View.{View}
 use Rattle.shared_words.specs.Seats.{WorkerAt}
 use Rattle.shared_words.proofs.Reading.{meets_allowed}
 use Rattle.shared_words.proofs.Meetings.{notes_split, notes_join, compares_allowed}
-use Rattle.shared_words.proofs.Seat.{own_inside}
+use Rattle.shared_words.proofs.Seat.{own_inside, writer_inside}
 use Rattle.shared_words.proofs.worker.WorkerSeat.meet.Goals as goal
 
 pub split_seat-told-requires : goal.split_seat-told-requires
 split_seat-told-requires g c =
-    let own = c.requires.writer in (own.same, omega (arith, own.words), notes_split _ _ _)
+    let own = writer_inside _ _ _ _ c.table.view_is c.writer.view_is c.requires.writer in (own.same, omega (arith, own.words), notes_split _ _ _)
 
 pub join_seat-requires : goal.join_seat-requires
 join_seat-requires g c =
-    let own = own_inside _ _ _ _ _ c.self.view_is c.requires.own in
+    let own = own_inside _ _ _ _ c.table.view_is c.self.view_is c.requires.own in
     (own.same, search rules, search rules, omega (arith, own.words), notes_join _ _ _ _ _)
 
 pub load-requires : goal.load-requires
 load-requires g c =
-    let own = own_inside _ _ _ _ _ c.self.view_is c.requires.own in
+    let own = own_inside _ _ _ _ c.table.view_is c.self.view_is c.requires.own in
     let heard = c.join_seat.ensures.2 in
     let between = subst (λ (s : WorkerAt). IsBetweenDeeds (worker_by s.view.own).phase) (sym c.self.view_is) c.requires.between in (
       search rules,
@@ -33,21 +33,21 @@ load-requires g c =
 
 pub split_seat-told-requires-2 : goal.split_seat-told-requires-2
 split_seat-told-requires-2 g c =
-    let own = own_inside _ _ _ _ _ c.self.view_is c.requires.own in (search rules, omega (arith, own.words), notes_split _ _ _)
+    let own = own_inside _ _ _ _ c.table.view_is c.self.view_is c.requires.own in (search rules, omega (arith, own.words), notes_split _ _ _)
 
 pub join_seat-requires-2 : goal.join_seat-requires-2
 join_seat-requires-2 g c =
-    let own = c.requires.writer in
+    let own = writer_inside _ _ _ _ c.table.view_is c.writer.view_is c.requires.writer in
     (search rules, search rules, search rules, omega (arith, own.words), notes_join _ _ _ _ _)
 
 pub load-requires-2 : goal.load-requires-2
 load-requires-2 g c =
-    let own = c.requires.writer in (
+    let own = writer_inside _ _ _ _ c.table.view_is c.writer.view_is c.requires.writer in (
       search rules,
       omega (arith, own.words),
       compares_allowed _ _ _ _ _ (ap {A = Me (Unit {0}) View} (λ m. m.0.role) c.join_seat-2.ensures.2
           ∙ (ap {A = Me (Unit {0}) View} (λ m. m.0.role) c.split_seat-told.ensures.2
-          ∙ c.args.writer.now.role)),
+          ∙ c.writer.invariant.role)),
     )
 
 pub returns-clause-step : goal.returns-clause-step

@@ -5,9 +5,9 @@ use Rattle.shared_words.proofs.worker.WorkerSeat.store_online.Goals as goal
 
 pub store-requires : goal.store-requires
 store-requires g c =
-    let own = own_inside _ _ _ _ _ c.self.view_is c.requires.own in
+    let own = own_inside _ _ _ _ c.table.view_is c.self.view_is c.requires.own in
     let at = c.counter_at-at.ensures in
-    let inside = number_inside _ _ _ _ _ _ own c.self.invariant in (
+    let inside = number_inside _ _ _ _ own c.self.invariant in (
       own.same,
       omega (arith, at, own.firsts, own.seconds, own.workers, own.words, inside),
       store_online_allowed _ _ _ _ _ _ c.self.invariant.role c.args.token

@@ -1,18 +1,16 @@
-use Rattle.std.proofs.Common.{◌<◌, arith, ap, ◌∙◌}
+use Rattle.std.proofs.Common.{◌<◌, arith, ap}
 use Rattle.shared_words.specs.Opened.{Opened}
-use Rattle.shared_words.specs.declared.writer.WriterSeat.{WriterSeat}
+use Rattle.shared_words.specs.Seats.{WordsAt, WriterAt}
+use Rattle.shared_words.proofs.Seat.{writer_inside}
 use Rattle.shared_words.proofs.Writing.{next_worker_allowed}
 use Rattle.shared_words.proofs.writer.WriterSeat.next_worker.Goals as goal
 
 pub split_seat-place-requires : goal.split_seat-place-requires
 split_seat-place-requires g c =
-    let o : Opened = g.T.Opens.opened c.args.table.now.board.shared.key in
-    let seat = c.sequence.new.self in
-    let own = c.requires.own in
-    let same = c.sequence.ensures.same in
-    let room : seat.place.me.0.made < o.workers =
-    omega (arith, ap (λ (s : WriterSeat). s.place.me.0.made) same, c.requires.number, c.requires.worker, own.workers) in (
-      ap (λ (s : WriterSeat). s.place.table_id) same ∙ own.same,
-      omega (arith, own.words),
-      next_worker_allowed o _ seat.place.me.0 seat.role room,
-    )
+    let o : Opened = g.T.Opens.opened c.table.inside.board.shared.key in
+    let v = c.self.inside.place.me.0 in
+    let own = writer_inside _ _ _ _ c.table.view_is c.self.view_is c.requires.own in
+    let made = ap (λ (s : WriterAt). s.view.made) c.self.view_is in
+    let layout = ap (λ (w : WordsAt). w.layout.workers) c.table.view_is in
+    let room : v.made < o.workers = omega (arith, made, layout, c.requires.number, c.requires.worker, own.workers) in
+    (own.same, omega (arith, own.words), next_worker_allowed o _ v c.self.invariant.role room)

@@ -4,6 +4,7 @@ use Rattle.lpm_trace.specs.Writer.{MayStep}
 use Rattle.shared_words.specs.declared.view.View.{View}
 use Rattle.shared_words.specs.Opened.{Opened, setup_of}
 use Rattle.shared_words.proofs.Laying.{firsts_length}
+use Rattle.shared_words.proofs.Seat.{writer_inside, may_inside}
 use Rattle.shared_words.proofs.Writing.{looks_allowed}
 use Rattle.shared_words.proofs.writer.WriterSeat.store_first.Goals as goal
 
@@ -16,20 +17,22 @@ inside o v i word is may =
 
 pub load-found-requires : goal.load-found-requires
 load-found-requires g c =
-    let o : Opened = g.T.Opens.opened c.args.table.now.board.shared.key in
-    let seat = c.args.self.now in
-    let own = c.requires.own in
-    let low = inside o seat.place.me.0 c.args.i c.args.word own.opening_is c.requires.may in (
+    let o : Opened = g.T.Opens.opened c.table.inside.board.shared.key in
+    let seat = c.self.inside in
+    let own = writer_inside _ _ _ _ c.table.view_is c.self.view_is c.requires.own in
+    let low = inside o seat.place.me.0 c.args.i c.args.word own.opening_is
+    (may_inside (StoreFirst c.args.i c.args.word) _ _ c.self.view_is c.requires.may) in (
       own.same,
       omega (arith, c.first_at-at.ensures, own.words, low),
-      looks_allowed o _ _ _ seat.place.me seat.role,
+      looks_allowed o _ _ _ seat.place.me c.self.invariant.role,
     )
 
 pub store_first_as-requires-clause-own : goal.store_first_as-requires-clause-own
 store_first_as-requires-clause-own g c =
-    let o : Opened = g.T.Opens.opened c.args.table.now.board.shared.key in
-    let own = c.requires.own in
-    let low = inside o c.args.self.now.place.me.0 c.args.i c.args.word own.opening_is c.requires.may in
+    let o : Opened = g.T.Opens.opened c.table.inside.board.shared.key in
+    let own = writer_inside _ _ _ _ c.table.view_is c.self.view_is c.requires.own in
+    let low = inside o c.self.inside.place.me.0 c.args.i c.args.word own.opening_is
+    (may_inside (StoreFirst c.args.i c.args.word) _ _ c.self.view_is c.requires.may) in
     (grind (arith, own), omega (arith, c.first_at-at.ensures, own.words, low))
 
 pub store_first_as-requires-clause-place : goal.store_first_as-requires-clause-place

@@ -4,7 +4,9 @@ use Rattle.lpm_trace.specs.declared.step.WriterStep.TheVariants.{StoreSecond}
 use Rattle.lpm_trace.specs.Writer.{MayStep}
 use Rattle.shared_words.specs.declared.view.View.{View}
 use Rattle.shared_words.specs.Opened.{Opened, setup_of}
+use Rattle.shared_words.specs.Seats.{WordsAt}
 use Rattle.shared_words.proofs.Laying.{seconds_length}
+use Rattle.shared_words.proofs.Seat.{writer_inside, may_inside}
 use Rattle.shared_words.proofs.Writing.{looks_allowed}
 use Rattle.shared_words.proofs.writer.WriterSeat.store_second.Goals as goal
 
@@ -17,27 +19,29 @@ inside o v j word is may =
 
 pub second_at-at-requires : goal.second_at-at-requires
 second_at-at-requires g c =
-    let o : Opened = g.T.Opens.opened c.args.table.now.board.shared.key in
     let own = c.requires.own in
-    let low = inside o c.args.self.now.place.me.0 c.args.j c.args.word own.opening_is c.requires.may in
-    omega (arith, own.firsts, own.low, low)
+    let layout = ap (λ (w : WordsAt). w.layout.firsts) c.table.view_is in
+    let low = inside c.args.table.now.opening c.args.self.now.view c.args.j c.args.word own.opening_is c.requires.may in
+    omega (arith, layout, own.firsts, own.low, low)
 
 pub load-found-requires : goal.load-found-requires
 load-found-requires g c =
-    let o : Opened = g.T.Opens.opened c.args.table.now.board.shared.key in
-    let seat = c.args.self.now in
-    let own = c.requires.own in
-    let low = inside o seat.place.me.0 c.args.j c.args.word own.opening_is c.requires.may in (
+    let o : Opened = g.T.Opens.opened c.table.inside.board.shared.key in
+    let seat = c.self.inside in
+    let own = writer_inside _ _ _ _ c.table.view_is c.self.view_is c.requires.own in
+    let low = inside o seat.place.me.0 c.args.j c.args.word own.opening_is
+    (may_inside (StoreSecond c.args.j c.args.word) _ _ c.self.view_is c.requires.may) in (
       own.same,
       omega (arith, c.second_at-at.ensures, own.firsts, own.words, low),
-      looks_allowed o _ _ _ seat.place.me seat.role,
+      looks_allowed o _ _ _ seat.place.me c.self.invariant.role,
     )
 
 pub store_second_as-requires-clause-own : goal.store_second_as-requires-clause-own
 store_second_as-requires-clause-own g c =
-    let o : Opened = g.T.Opens.opened c.args.table.now.board.shared.key in
-    let own = c.requires.own in
-    let low = inside o c.args.self.now.place.me.0 c.args.j c.args.word own.opening_is c.requires.may in
+    let o : Opened = g.T.Opens.opened c.table.inside.board.shared.key in
+    let own = writer_inside _ _ _ _ c.table.view_is c.self.view_is c.requires.own in
+    let low = inside o c.self.inside.place.me.0 c.args.j c.args.word own.opening_is
+    (may_inside (StoreSecond c.args.j c.args.word) _ _ c.self.view_is c.requires.may) in
     (grind (arith, own), omega (arith, c.second_at-at.ensures, own.firsts, own.words, low))
 
 pub store_second_as-requires-clause-place : goal.store_second_as-requires-clause-place
