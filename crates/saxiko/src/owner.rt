@@ -12,6 +12,7 @@ ghost use Rattle.lpm_trace.specs.Laws.{IsChecked};
 ghost use Rattle.lpm_writer.specs.Opening.{opening_setup};
 ghost use Rattle.lpm_writer.specs.Synchronizing.{Synchronizes};
 ghost use Rattle.lpm_writer.specs.Traced.{AnyMemory, by_steps, steps_alone};
+ghost use Rattle.shared_words.specs.Rule.{IsLater};
 ghost use Rattle.shared_fib.specs.Freeing.{FreesChecked};
 ghost use Rattle.shared_fib.specs.Passes.{IsBenchOf, IsFullBench, IsPassOf, Makes, PassState};
 ghost use Rattle.shared_fib.specs.Running.{IsAtRest, left_by, opens_with, setup, steps_of};
@@ -174,6 +175,7 @@ impl Owner {
             self.old.writer.table prefix.now hop result self.new.writer.table }
         ensures checked { (freed : List ℕ) × FreesChecked (setup self.old.writer.identity)
             self.old.writer.table self.new.writer.table freed }
+        ensures later { IsLater (steps_of self.old.writer) (steps_of self.new.writer) }
         ensures own { self.new.writer.identity ≡ self.old.writer.identity }
         ensures config { self.new.writer.config ≡ self.old.writer.config }
         ensures bench { self.new.bench ≡ self.old.bench }
@@ -192,6 +194,7 @@ impl Owner {
             self.old.writer.table prefix.now hop put self.new.writer.table }
         ensures checked { (freed : List ℕ) × FreesChecked (setup self.old.writer.identity)
             self.old.writer.table self.new.writer.table freed }
+        ensures later { IsLater (steps_of self.old.writer) (steps_of self.new.writer) }
         ensures own { self.new.writer.identity ≡ self.old.writer.identity }
         ensures config { self.new.writer.config ≡ self.old.writer.config }
         ensures bench { self.new.bench ≡ self.old.bench }
@@ -213,6 +216,7 @@ impl Owner {
             self.old.writer.config self.old.writer.table prefix.now result self.new.writer.table }
         ensures checked { (freed : List ℕ) × FreesChecked (setup self.old.writer.identity)
             self.old.writer.table self.new.writer.table freed }
+        ensures later { IsLater (steps_of self.old.writer) (steps_of self.new.writer) }
         ensures own { self.new.writer.identity ≡ self.old.writer.identity }
         ensures config { self.new.writer.config ≡ self.old.writer.config }
         ensures bench { self.new.bench ≡ self.old.bench }
@@ -231,6 +235,7 @@ impl Owner {
             self.old.writer.config self.old.writer.table result self.new.writer.table }
         ensures checked { (freed : List ℕ) × FreesChecked (setup self.old.writer.identity)
             self.old.writer.table self.new.writer.table freed }
+        ensures later { IsLater (steps_of self.old.writer) (steps_of self.new.writer) }
         ensures own { self.new.writer.identity ≡ self.old.writer.identity }
         ensures config { self.new.writer.config ≡ self.old.writer.config }
         ensures bench { self.new.bench ≡ self.old.bench }
@@ -245,6 +250,7 @@ impl Owner {
             result self.new.writer.table }
         ensures checked { FreesChecked (setup self.old.writer.identity) self.old.writer.table
             self.new.writer.table (take result.freed self.old.writer.table.limbo) }
+        ensures later { IsLater (steps_of self.old.writer) (steps_of self.new.writer) }
         ensures own { self.new.writer.identity ≡ self.old.writer.identity }
         ensures config { self.new.writer.config ≡ self.old.writer.config }
         ensures bench { self.new.bench ≡ self.old.bench }
@@ -269,6 +275,7 @@ impl Owner {
             (steps_of self.new.writer) (left_by self.new.writer).token) }
         ensures queued { OnOk result (0 < self.old.writer.config.workers
             → All (λ token. token ≤ (left_by self.new.writer).passed) self.new.writer.table.limbo) }
+        ensures later { IsLater (steps_of self.old.writer) (steps_of self.new.writer) }
         ensures same { self.new.writer ≡ record self.old.writer {
           table = record self.old.writer.table { readers = steps_of self.new.writer };
         } }

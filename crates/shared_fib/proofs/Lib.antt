@@ -13,3 +13,4 @@ pub mod Versions
 pub mod Makes
 pub mod Lookups
 pub mod Sorted
+pub mod Later

@@ -6,6 +6,7 @@ ghost use Rattle.lpm_writer.specs.Traced.{by_steps};
 ghost use Rattle.lpm_writer.specs.Waiting.{tokens_of};
 ghost use Rattle.shared_words.specs.Opened.{setup_of};
 ghost use Rattle.shared_memory.specs.Lent.{SharedDid};
+ghost use Rattle.shared_words.specs.Rule.{IsLater};
 ghost use Rattle.shared_words.specs.Seats.{IsOf};
 ghost use Rattle.shared_fib.specs.Freeing.{FreesChecked};
 ghost use Rattle.shared_fib.specs.Running.{IsReady, OnlySees, RestsBy, state_by};
@@ -56,6 +57,7 @@ pub(crate) fn add_by<const FIRST: u32, const SECOND: u32>(
     ensures ready { IsReady FIRST SECOND ledger.new seat.new.view }
     ensures seat { seat.new.table ≡ seat.old.table }
     ensures view { OnlySees seat.old.view seat.new.view }
+    ensures later { IsLater seat.old.view.seen seat.new.view.seen }
     ensures checked { (freed : List ℕ) × FreesChecked (setup_of seat.old.view.opening)
         (state_by ledger.old seat.old.view) (state_by ledger.new seat.new.view) freed }
     ensures config { ledger.new.config ≡ ledger.old.config }
@@ -100,6 +102,7 @@ pub(crate) fn delete_by<const FIRST: u32, const SECOND: u32>(
     ensures ready { IsReady FIRST SECOND ledger.new seat.new.view }
     ensures seat { seat.new.table ≡ seat.old.table }
     ensures view { OnlySees seat.old.view seat.new.view }
+    ensures later { IsLater seat.old.view.seen seat.new.view.seen }
     ensures checked { (freed : List ℕ) × FreesChecked (setup_of seat.old.view.opening)
         (state_by ledger.old seat.old.view) (state_by ledger.new seat.new.view) freed }
     ensures config { ledger.new.config ≡ ledger.old.config }
@@ -142,6 +145,7 @@ pub(crate) fn flush_by<const FIRST: u32, const SECOND: u32>(
     ensures ready { IsReady FIRST SECOND ledger.new seat.new.view }
     ensures seat { seat.new.table ≡ seat.old.table }
     ensures view { OnlySees seat.old.view seat.new.view }
+    ensures later { IsLater seat.old.view.seen seat.new.view.seen }
     ensures checked { (freed : List ℕ) × FreesChecked (setup_of seat.old.view.opening)
         (state_by ledger.old seat.old.view) (state_by ledger.new seat.new.view) freed }
     ensures config { ledger.new.config ≡ ledger.old.config }
@@ -185,6 +189,7 @@ pub(crate) fn reclaim_by<const FIRST: u32, const SECOND: u32>(
     ensures ready { IsReady FIRST SECOND ledger.new seat.new.view }
     ensures seat { seat.new.table ≡ seat.old.table }
     ensures view { OnlySees seat.old.view seat.new.view }
+    ensures later { IsLater seat.old.view.seen seat.new.view.seen }
     ensures checked { FreesChecked (setup_of seat.old.view.opening)
         (state_by ledger.old seat.old.view) (state_by ledger.new seat.new.view)
         (take result.freed (tokens_of ledger.old.books.queue.items)) }

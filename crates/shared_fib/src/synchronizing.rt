@@ -6,6 +6,7 @@ ghost use Rattle.lpm_writer.specs.Traced.{AnyMemory, steps_alone};
 ghost use Rattle.lpm_writer.specs.Waiting.{tokens_of};
 ghost use Rattle.lpm_writer.specs.Synchronizing.{IsWaiting, Synchronizes};
 ghost use Rattle.shared_words.specs.Opened.{setup_of};
+ghost use Rattle.shared_words.specs.Rule.{IsLater};
 ghost use Rattle.shared_words.specs.Seats.{IsOf};
 ghost use Rattle.shared_memory.specs.Lent.{SharedDid, left_by_view};
 ghost use Rattle.shared_fib.specs.Passing.{PassesAtLast};
@@ -107,6 +108,7 @@ fn synchronize_by<const FIRST: u32, const SECOND: u32, R: Wait>(
     ensures untouched { OnErr result (seat.new.view ≡ seat.old.view) }
     ensures seat { seat.new.table ≡ seat.old.table }
     ensures view { OnlySees seat.old.view seat.new.view }
+    ensures later { IsLater seat.old.view.seen seat.new.view.seen }
 {
     let mut memory = SharedMemory::new(table, seat);
     let came = synchronize_over(rt, ledger, &mut memory);
@@ -140,6 +142,7 @@ impl<const FIRST: u32, const SECOND: u32> Writer<FIRST, SECOND> {
         ensures same { self.new ≡ record self.old {
           table = record self.old.table { readers = steps_of self.new };
         } }
+        ensures later { IsLater (steps_of self.old) (steps_of self.new) }
         ensures unchanged { OnErr result (self.new ≡ self.old) }
     {
         synchronize_by(rt, &mut self.ledger, &mut self.seat, &table.words)

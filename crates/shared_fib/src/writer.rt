@@ -3,8 +3,9 @@
 ghost use Rattle.std.specs.Prelude.{ℕ, ◌≡◌, List, take};
 ghost use Rattle.fib_model.specs.Outcomes.{Adds, Deletes, Flushes, Frees};
 ghost use Rattle.lpm_writer.specs.Traced.{by_steps};
+ghost use Rattle.shared_words.specs.Rule.{IsLater};
 ghost use Rattle.shared_fib.specs.Freeing.{FreesChecked};
-ghost use Rattle.shared_fib.specs.Running.{IsReady, setup, state_by};
+ghost use Rattle.shared_fib.specs.Running.{IsReady, setup, state_by, steps_of};
 
 use crate::SharedTable;
 use crate::commands::{add_by, delete_by, flush_by, reclaim_by};
@@ -79,6 +80,7 @@ impl<const FIRST: u32, const SECOND: u32> Writer<FIRST, SECOND> {
             self.old.table prefix.now hop result self.new.table }
         ensures checked { (freed : List ℕ)
             × FreesChecked (setup table.now) self.old.table self.new.table freed }
+        ensures later { IsLater (steps_of self.old) (steps_of self.new) }
         ensures own { self.new.identity ≡ self.old.identity }
         ensures config { self.new.config ≡ self.old.config }
     {
@@ -100,6 +102,7 @@ impl<const FIRST: u32, const SECOND: u32> Writer<FIRST, SECOND> {
             self.old.table prefix.now result self.new.table }
         ensures checked { (freed : List ℕ)
             × FreesChecked (setup table.now) self.old.table self.new.table freed }
+        ensures later { IsLater (steps_of self.old) (steps_of self.new) }
         ensures own { self.new.identity ≡ self.old.identity }
         ensures config { self.new.config ≡ self.old.config }
     {
@@ -115,6 +118,7 @@ impl<const FIRST: u32, const SECOND: u32> Writer<FIRST, SECOND> {
             self.old.table result self.new.table }
         ensures checked { (freed : List ℕ)
             × FreesChecked (setup table.now) self.old.table self.new.table freed }
+        ensures later { IsLater (steps_of self.old) (steps_of self.new) }
         ensures own { self.new.identity ≡ self.old.identity }
         ensures config { self.new.config ≡ self.old.config }
     {
@@ -129,6 +133,7 @@ impl<const FIRST: u32, const SECOND: u32> Writer<FIRST, SECOND> {
             self.new.table }
         ensures checked { FreesChecked (setup table.now) self.old.table self.new.table
             (take result.freed self.old.table.limbo) }
+        ensures later { IsLater (steps_of self.old) (steps_of self.new) }
         ensures own { self.new.identity ≡ self.old.identity }
         ensures config { self.new.config ≡ self.old.config }
     {

@@ -1,171 +1,28 @@
 -- The writer's steps go on from command to command.
-use Rattle.std.proofs.Common.{◌≡◌, ◌-◌, ℕ, zero, suc, inl, inr, refl, ap, List, [], ◌∷◌, length, Option, Some, None, Result, Ok, Err, arith}
-use Rattle.std.proofs.lemmas.Bool.{cases_lt}
-use Rattle.std.specs.FinMap.{get}
-use Rattle.lpm_limits.specs.declared.busy.Busy.{Busy}
+use Rattle.std.proofs.Common.{ℕ, List, Ok, Err}
 use Rattle.lpm_limits.specs.declared.config.Config.{Config}
-use Rattle.lpm_limits.specs.declared.refusal.Refusal.TheVariants.{TooManyRules, NoSuchRule, Exhausted, NoGroups, Memory}
-use Rattle.lpm_bits.specs.Network.{Network}
-use Rattle.lpm_rules.specs.RuleMap.{RuleMap}
-use Rattle.lpm_rules.specs.declared.Put.TheVariants.{Added, Replaced, Unchanged}
-use Rattle.defer_queue.specs.Reclaims as queue
 use Rattle.fib_model.specs.declared.command.Command.{Command}
 use Rattle.fib_model.specs.declared.command.Command.TheVariants as command
 use Rattle.fib_model.specs.declared.command.Outcome.{Outcome}
 use Rattle.fib_model.specs.declared.command.Outcome.TheVariants as outcome
-use Rattle.fib_model.specs.State.{State, Transitions, Keeping}
-use Rattle.fib_model.specs.Outcomes.{Does, HoldsFront, Shrinks, TakesGroup, Updates, groups_in_use}
-use Rattle.fib_model.specs.Reclaiming.{Reclaims, MakesRoom, Unlinks, UnlinksOne}
-use Rattle.fib_model.proofs.Frozen.{lacks_or_not}
+use Rattle.fib_model.specs.State.{State, Keeping}
+use Rattle.fib_model.specs.Outcomes.{Does}
 use Rattle.lpm_trace.specs.declared.step.WriterStep.{WriterStep}
-use Rattle.lpm_trace.specs.declared.step.WriterStep.TheVariants.{StoreFirst, Opens, Closes, BumpToken, LoadCounter}
-use Rattle.lpm_trace.specs.Tables.{Setup}
-use Rattle.lpm_writer.specs.Traced.{AnyMemory, Asks, Checks, Goes, Loads, Stores, StoresAndCloses, StoresOverLink, Traced, by_steps, steps_alone}
 use Rattle.shared_words.specs.Rule.{IsLater}
-use Rattle.shared_deeds.proofs.Deeds.{later_trans}
+use Rattle.shared_fib.proofs.Later.{GoOn, adds_later, deletes_later, flushes_later, frees_later}
 use Rattle.storm.specs.Changing.{IsForWriter}
-
--- the steps of a memory that isn't looked at
-abbrev Alone : Type 0
-Alone = Traced (Unit {0})
-
-pub later_same : (xs ys : List WriterStep) → ys ≡ xs → IsLater xs ys
-later_same xs ys same = ([], same)
-
--- ---- the parts of a change
-
-goes : (x z : Alone) (s : WriterStep) → Goes AnyMemory x s z → IsLater x.1 z.1
-goes x z s h = (s ∷ [], h.1)
-
-loads : (n : ℕ) (x : Alone) (token : ℕ) (z : Alone) → Loads AnyMemory n x token z → IsLater x.1 z.1
-loads zero x token z same = later_same x.1 z.1 (ap (λ (y : Alone). y.1) same)
-loads (suc n) x token z h =
-    later_trans x.1 h.0.1 z.1 (loads n x token h.0 h.2) (goes h.0 z (LoadCounter token n h.1) h.4)
-
-asks : (workers : ℕ) (x : Alone) (token : ℕ) (r : Result (Unit {0}) Busy) (z : Alone)
-    → Asks AnyMemory workers x token r z → IsLater x.1 z.1
-asks workers x token (Ok passed) z h = loads workers x token z h
-asks workers x token (Err busy) z h =
-    later_trans x.1 h.0.1 z.1 (loads busy.worker x token h.0 h.1)
-    (goes h.0 z (LoadCounter token busy.worker busy.counter) h.5)
-
-checks : (c : Setup) (x : Alone) (token : ℕ) (r : Result (Unit {0}) Busy) (z : Alone)
-    → Checks AnyMemory c x token r z → IsLater x.1 z.1
-checks c x token r z (inl h) = later_same x.1 z.1 (ap (λ (y : Alone). y.1) h.2)
-checks c x token r z (inr h) = asks c.workers x token r z h.1
-
-stores : (c : Setup) (n : ℕ) (x z : Alone) → Stores AnyMemory c n x z → IsLater x.1 z.1
-stores c zero x z same = later_same x.1 z.1 (ap (λ (y : Alone). y.1) same)
-stores c (suc n) x z h = later_trans x.1 h.0.1 z.1 (stores c n x h.0 h.2) (goes h.0 z h.1 h.4)
-
-stores_over_link : (c : Setup) (x : Alone) (name : ℕ) (z : Alone) → StoresOverLink AnyMemory c x name z → IsLater x.1 z.1
-stores_over_link c x name z h =
-    later_trans x.1 h.1.1 z.1 (stores c h.0 x h.1 h.6)
-    (later_trans h.1.1 h.2.1 z.1 (goes h.1 h.2 (StoreFirst h.3 h.4) h.8) (goes h.2 z BumpToken h.9))
-
-stores_and_closes : (c : Setup) (x z : Alone) → StoresAndCloses AnyMemory c x z → IsLater x.1 z.1
-stores_and_closes c x z h = later_trans x.1 h.1.1 z.1 (stores c h.0 x h.1 h.2) (goes h.1 z Closes h.3)
-
--- each part of a change goes on from the steps before it
-pub record GoOn (t : Transitions (List WriterStep)) : Type 0 where
-  pub checks : (x : List WriterStep) (name : ℕ) (r : Result (Unit {0}) Busy) (z : List WriterStep) → t.checks x name r z → IsLater x z
-  pub begins : (x z : List WriterStep) → t.begins x z → IsLater x z
-  pub unlinks : (x : List WriterStep) (name : ℕ) (z : List WriterStep) → t.unlinks x name z → IsLater x z
-  pub ends : (x z : List WriterStep) → t.ends x z → IsLater x z
-
-pub steps_go_on : (c : Setup) → GoOn (by_steps c)
-steps_go_on c = record {
-  checks = λ x name r z h. checks c (steps_alone x) name r (steps_alone z) h;
-  begins = λ x z h. (Opens h.0 ∷ [], h.1);
-  unlinks = λ x name z h. stores_over_link c (steps_alone x) name (steps_alone z) h;
-  ends = λ x z h. stores_and_closes c (steps_alone x) (steps_alone z) h;
-}
-
--- ---- a command
-
-module _ (t : Transitions (List WriterStep)) (on : GoOn t) where
-  freed_front : (n : ℕ) (items : List ℕ) (s : List WriterStep) (left : List ℕ) (z : List WriterStep)
-      → queue.FreesFront t.checks (λ y name w. w ≡ y) n items s left z → IsLater s z
-  freed_front zero items s left z h = later_same s z h.1
-  freed_front (suc n) [] s left z h = absurd h
-  freed_front (suc n) (item ∷ rest) s left z h =
-      later_trans s h.0 z (on.checks s item (Ok tt) h.0 h.2)
-      (later_trans h.0 h.1 z (later_same h.0 h.1 h.3) (freed_front n rest h.1 left z h.4))
-
-  freeing_ended : (max n : ℕ) (left : List ℕ) (s : List WriterStep) (stopped : Option Busy) (z : List WriterStep)
-      → queue.Ends t.checks (λ y name w. w ≡ y) max n left s stopped z → IsLater s z
-  freeing_ended max n left s None z h = later_same s z h.1
-  freeing_ended max n [] s (Some busy) z h = absurd h
-  freeing_ended max n (item ∷ rest) s (Some busy) z h = on.checks s item (Err busy) z h.1
-
-  reclaimed : (x : List WriterStep) (max : ℕ) (limbo : List ℕ) (freed : ℕ) (stopped : Option Busy) (left : List ℕ) (z : List WriterStep)
-      → Reclaims t x max limbo freed stopped left z → IsLater x z
-  reclaimed x max limbo freed stopped left z h =
-      later_trans x h.last z (freed_front freed limbo x left h.last h.front) (freeing_ended max freed left h.last stopped z h.end)
-
-  made_room : (c : Config) (x : List WriterStep) (limbo left : List ℕ) (z : List WriterStep) → MakesRoom t c x limbo left z → IsLater x z
-  made_room c x limbo left z h = elim (cases_lt c.threshold (length limbo)) [
-    | inl over ↦ let r = h.0 over in reclaimed x c.reclaim_max limbo r.0 r.1 left z r.2
-    | inr within ↦ later_same x z (h.1 (omega (arith, within))).1
-  ]
-
-  unlinked : (c : Config) (n : ℕ) (x : List WriterStep) (limbo : List ℕ) (z : List WriterStep) (limbo' : List ℕ)
-      → Unlinks t c n x limbo z limbo' → IsLater x z
-  unlinked c zero x limbo z limbo' h = later_same x z h.0
-  unlinked c (suc n) x limbo z limbo' h =
-      let one : UnlinksOne t c h.0 h.1 z limbo' = h.3 in
-      later_trans x h.0 z (unlinked c n x limbo h.0 h.1 h.2)
-      (later_trans h.0 one.1 z (on.unlinks h.0 one.0 one.1 one.3) (made_room c one.1 h.1 one.2 z one.4))
-
-  updated : (x z : List WriterStep) → Updates t x z → IsLater x z
-  updated x z h = later_trans x h.0 z (on.begins x h.0 h.1) (on.ends h.0 z h.2)
-
-  took_group : (f g : ℕ) (c : Config) (s : State (List WriterStep)) (p : Network) (left : List ℕ) (y : List WriterStep)
-      → TakesGroup t f g c s p left y → get s.rules p ≡ None → IsLater s.readers y
-  took_group f g c s p left y h absent = elim (lacks_or_not f g c s p absent) [
-    | inl lacks ↦ let taken = h.0 lacks in on.checks s.readers taken.0 (Ok tt) y taken.2
-    | inr has ↦ later_same s.readers y (h.1 has).1
-  ]
-
-  held_front : (s : State (List WriterStep)) (oldest : Option Busy) (y : List WriterStep) → HoldsFront t s oldest y → IsLater s.readers y
-  held_front s None y h = later_same s.readers y h.1
-  held_front s (Some busy) y h = on.checks s.readers h.0 (Err busy) y h.2
-
-  shrunk : (f g : ℕ) (c : Config) (s : State (List WriterStep)) (R : RuleMap) (z : State (List WriterStep))
-      → Shrinks t f g c s R z → IsLater s.readers z.readers
-  shrunk f g c s R z h =
-      let h1 = h.1 in
-      later_trans s.readers h1.0 z.readers (on.begins s.readers h1.0 h1.2)
-      (later_trans h1.0 h1.1 z.readers
-      (unlinked c (groups_in_use f g s.rules - groups_in_use f g R) h1.0 s.limbo h1.1 z.limbo h1.3) (on.ends h1.1 z.readers h1.4))
-
-same_state : (s z : State (List WriterStep)) → z ≡ s → IsLater s.readers z.readers
-same_state s z same = later_same s.readers z.readers (ap (λ (x : State (List WriterStep)). x.readers) same)
 
 pub command_later : (k : Keeping (List WriterStep)) → GoOn k.changes → (f g : ℕ) (c : Config) (s z : State (List WriterStep))
     → (order : Command f g) (out : Outcome) → IsForWriter order → Does k f g c s order out z → IsLater s.readers z.readers
-command_later k on f g c s z (command.Add p h) (outcome.Put Added) mine d =
-    let d1 = d.1 in
-    later_trans s.readers d1.0 z.readers (took_group k.changes on f g c s p z.limbo d1.0 d1.1 d.0.0) (updated k.changes on d1.0 z.readers d1.2)
-command_later k on f g c s z (command.Add p h) (outcome.Put Replaced) mine d = updated k.changes on s.readers z.readers d.2
-command_later k on f g c s z (command.Add p h) (outcome.Put Unchanged) mine d = same_state s z d.1
-command_later k on f g c s z (command.Add p h) (outcome.Refused TooManyRules) mine d = same_state s z d.3
-command_later k on f g c s z (command.Add p h) (outcome.Refused Exhausted) mine d = same_state s z d.2
-command_later k on f g c s z (command.Add p h) (outcome.Refused (NoGroups oldest)) mine d = held_front k.changes on s oldest z.readers d.2
-command_later k on f g c s z (command.Add p h) (outcome.Refused Memory) mine d = same_state s z d.1
-command_later k on f g c s z (command.Add p h) (outcome.Refused other) mine d = absurd d
+command_later k on f g c s z (command.Add p h) (outcome.Put put) mine d = adds_later k.changes on f g c s z p h (Ok put) d
+command_later k on f g c s z (command.Add p h) (outcome.Refused refusal) mine d = adds_later k.changes on f g c s z p h (Err refusal) d
 command_later k on f g c s z (command.Add p h) other mine d = absurd d
-command_later k on f g c s z (command.Delete p) (outcome.Deleted h) mine d = shrunk k.changes on f g c s _ z d.1
-command_later k on f g c s z (command.Delete p) (outcome.Refused NoSuchRule) mine d = same_state s z d.1
-command_later k on f g c s z (command.Delete p) (outcome.Refused Exhausted) mine d = same_state s z d.2
-command_later k on f g c s z (command.Delete p) (outcome.Refused other) mine d = absurd d
+command_later k on f g c s z (command.Delete p) (outcome.Deleted h) mine d = deletes_later k.changes on f g c s z p (Ok h) d
+command_later k on f g c s z (command.Delete p) (outcome.Refused refusal) mine d = deletes_later k.changes on f g c s z p (Err refusal) d
 command_later k on f g c s z (command.Delete p) other mine d = absurd d
-command_later k on f g c s z command.Flush (outcome.Flushed zero) mine d = same_state s z (d.1 refl)
-command_later k on f g c s z command.Flush (outcome.Flushed (suc n)) mine d = shrunk k.changes on f g c s _ z (d.2 (omega arith))
-command_later k on f g c s z command.Flush (outcome.Refused Exhausted) mine d = same_state s z d.2
-command_later k on f g c s z command.Flush (outcome.Refused other) mine d = absurd d
+command_later k on f g c s z command.Flush (outcome.Flushed n) mine d = flushes_later k.changes on f g c s z (Ok n) d
+command_later k on f g c s z command.Flush (outcome.Refused refusal) mine d = flushes_later k.changes on f g c s z (Err refusal) d
 command_later k on f g c s z command.Flush other mine d = absurd d
-command_later k on f g c s z (command.Reclaim max) (outcome.Reclaimed r) mine d =
-    reclaimed k.changes on s.readers max s.limbo r.freed r.stopped z.limbo z.readers d.0
+command_later k on f g c s z (command.Reclaim max) (outcome.Reclaimed r) mine d = frees_later k.changes on s z max r d
 command_later k on f g c s z (command.Reclaim max) other mine d = absurd d
 command_later k on f g c s z (command.Report report w) out mine d = absurd mine

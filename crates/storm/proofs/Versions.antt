@@ -28,7 +28,8 @@ use Rattle.audit.specs.Wrong.{IsOfSomeVersion, version_from}
 use Rattle.storm.specs.Changing.{HasVersions, IsForWriter, by_own_steps, change_by}
 use Rattle.storm.specs.Looking.{IsOfAStandingVersion, answer_of}
 use Rattle.storm.specs.Storm.{Settles}
-use Rattle.storm.proofs.Later.{command_later, steps_go_on}
+use Rattle.shared_fib.proofs.Later.{steps_go_on}
+use Rattle.storm.proofs.Later.{command_later}
 
 -- ---- one command
 

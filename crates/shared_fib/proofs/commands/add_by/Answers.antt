@@ -7,6 +7,7 @@ use Rattle.shared_words.specs.Opened.{setup_of}
 use Rattle.shared_fib.specs.Running.{OnlySees}
 use Rattle.shared_fib.proofs.Checked.{looked, frees_checked}
 use Rattle.shared_fib.proofs.Freed.{adds_leave}
+use Rattle.shared_fib.proofs.Later.{steps_go_on, adds_later}
 use Rattle.shared_fib.proofs.commands.add_by.Goals as goal
 
 pub returns-clause-checked : goal.returns-clause-checked
@@ -29,3 +30,17 @@ returns-clause-checked g c =
       frees_checked v.opening s z _ old.books.queue.items left.0 left.1 kept.retired refl left.2
           checked,
     )
+
+pub returns-clause-later : goal.returns-clause-later
+returns-clause-later g c =
+    let f = g.row.FIRST in
+    let d = g.row.SECOND in
+    let old = c.args.ledger.now in
+    let new = c.add_over-came.new.ledger in
+    let v : View = c.args.seat.now.view in
+    let w : View = c.seat-1.given.0.view in
+    let s = state_of old.rules.rules v.seen old.books old.versions in
+    let z = state_of new.rules.rules w.seen new.books new.versions in
+    let came = c.add_over-came.result in
+    let outcome : Adds (by_steps (setup_of v.opening)) f d old.config s c.args.prefix.now c.args.hop came z = search rules in
+    adds_later (by_steps (setup_of v.opening)) (steps_go_on (setup_of v.opening)) f d old.config s z c.args.prefix.now c.args.hop came outcome

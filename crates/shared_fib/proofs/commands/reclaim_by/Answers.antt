@@ -7,6 +7,7 @@ use Rattle.shared_words.specs.Opened.{setup_of}
 use Rattle.shared_fib.specs.Running.{OnlySees}
 use Rattle.shared_fib.proofs.Checked.{looked, frees_checked}
 use Rattle.shared_fib.proofs.Freed.{reclaims_leave}
+use Rattle.shared_fib.proofs.Later.{steps_go_on, frees_later}
 use Rattle.shared_fib.proofs.commands.reclaim_by.Goals as goal
 
 pub returns-clause-checked : goal.returns-clause-checked
@@ -27,3 +28,15 @@ returns-clause-checked g c =
     frees_checked v.opening s z _ old.books.queue.items 0 _ rests.keeps.kept.retired refl
     (reclaims_leave (setup_of v.opening) v.seen w.seen c.args.max s.limbo freed.freed freed.stopped
     z.limbo frees.0) checked
+
+pub returns-clause-later : goal.returns-clause-later
+returns-clause-later g c =
+    let old = c.args.ledger.now in
+    let new = c.reclaim_over-came.new.ledger in
+    let v : View = c.args.seat.now.view in
+    let w : View = c.seat-1.given.0.view in
+    let freed = c.reclaim_over-came.result in
+    let frees : Frees (by_steps (setup_of v.opening))
+    (state_of old.rules.rules v.seen old.books old.versions) c.args.max freed
+    (state_of new.rules.rules w.seen new.books new.versions) = search rules in
+    frees_later (by_steps (setup_of v.opening)) (steps_go_on (setup_of v.opening)) _ _ c.args.max freed frees

@@ -1,5 +1,5 @@
-use Rattle.std.proofs.Common.{rules}
-use Rattle.std.specs.Prelude.{OnOk}
+use Rattle.std.proofs.Common.{◌≡◌, rules}
+use Rattle.std.specs.Prelude.{OnErr, OnOk}
 use Rattle.std.proofs.lemmas.Result.{on_ok_weaker}
 use Rattle.lpm_writer.specs.Synchronizing.{Synchronizes}
 use Rattle.lpm_writer.specs.Traced.{AnyMemory, steps_alone}
@@ -7,6 +7,7 @@ use Rattle.shared_words.specs.declared.view.View.{View}
 use Rattle.shared_words.specs.Opened.{setup_of}
 use Rattle.shared_fib.specs.Running.{OnlySees}
 use Rattle.shared_fib.proofs.Checked.{looked, synchronize_checked}
+use Rattle.shared_fib.proofs.Later.{synchronized_later}
 use Rattle.shared_fib.proofs.synchronizing.synchronize_by.Goals as goal
 
 pub returns-clause-started : goal.returns-clause-started
@@ -28,3 +29,12 @@ returns-clause-checked g c =
     let came : OnOk c.synchronize_over-came.result (Synchronizes AnyMemory (setup_of v.opening)
     (steps_alone v.seen) (steps_alone w.seen)) = search rules in
     on_ok_weaker c.synchronize_over-came.result (λ h. (synchronize_checked v w sees h checked).checked) came
+
+pub returns-clause-later : goal.returns-clause-later
+returns-clause-later g c =
+    let v : View = c.args.seat.now.view in
+    let w : View = c.seat-1.given.0.view in
+    let came : OnOk c.synchronize_over-came.result (Synchronizes AnyMemory (setup_of v.opening)
+    (steps_alone v.seen) (steps_alone w.seen)) = search rules in
+    let untouched : OnErr c.synchronize_over-came.result (w ≡ v) = search rules in
+    synchronized_later (setup_of v.opening) v w c.synchronize_over-came.result untouched came

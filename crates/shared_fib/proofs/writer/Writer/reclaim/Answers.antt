@@ -1,7 +1,8 @@
 use Rattle.std.proofs.Common.{subst, take, rules}
 use Rattle.lpm_writer.specs.Resting.{state_of}
+use Rattle.shared_words.specs.Rule.{IsLater}
 use Rattle.shared_fib.specs.Freeing.{FreesChecked}
-use Rattle.shared_fib.specs.Running.{Identity, WriterState, setup}
+use Rattle.shared_fib.specs.Running.{Identity, WriterState, setup, steps_of}
 use Rattle.shared_fib.proofs.writer.Writer.reclaim.Goals as goal
 
 pub returns-clause-checked : goal.returns-clause-checked
@@ -16,3 +17,7 @@ returns-clause-checked g c =
 
 pub returns-clause-frees : goal.returns-clause-frees
 returns-clause-frees g c = search rules
+
+pub returns-clause-later : goal.returns-clause-later
+returns-clause-later g c =
+    subst (λ (y : WriterState). IsLater (steps_of y) c.reclaim_by.new.seat.view.seen) c.self.view_is c.reclaim_by.ensures.later
