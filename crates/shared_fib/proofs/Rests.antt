@@ -36,4 +36,5 @@ at_rest f s id config rules steps books begun written rests =
       rules = ap (λ n. w.history n) rests.versions ∙ rests.version;
       answers = λ a low. best_hop (c.first + c.second) rules.rules a (entry_at c.second w.words a) (represents.best a low);
       limbo = is_limbo c w books.groups books.queue.items rests.keeps.kept;
+      once = rests.between.once;
     }

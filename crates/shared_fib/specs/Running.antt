@@ -17,6 +17,7 @@ use Rattle.lpm_trace.specs.Trace.{worker_by}
 use Rattle.lpm_trace.specs.Workers.{Phase, Offline, Online}
 use Rattle.lpm_writer.specs.declared.ledger.Ledger.{Ledger}
 use Rattle.lpm_writer.specs.Kept.{IsLimbo}
+use Rattle.lpm_writer.specs.Stores.{StoresOnce}
 use Rattle.lpm_writer.specs.Resting.{IsResting, state_of}
 use Rattle.shared_words.specs.declared.layout.Layout.{Layout}
 use Rattle.shared_words.specs.declared.view.View.{View}
@@ -69,7 +70,7 @@ left_by w = tables (setup w.identity) (steps_of w)
 
 -- each of the writer's steps might come after those before it, and no update runs; the versions are those
 -- that were done, the rules are those of the last one, and by them the words answer each address; the groups
--- that wait are those that the steps retired
+-- that wait are those that the steps retired; and in no update was a word stored twice
 pub record IsAtRest (w : WriterState) : Type 0 where
   pub written : IsWritten (setup w.identity) (steps_of w)
   pub done : done (left_by w) ≡ w.table.begun
@@ -79,6 +80,7 @@ pub record IsAtRest (w : WriterState) : Type 0 where
       → IsAnswer (setup w.identity) w.table.rules a
       (answer (setup w.identity) (left_by w).words a)
   pub limbo : IsLimbo (setup w.identity) (left_by w) w.table.limbo
+  pub once : StoresOnce (steps_of w)
 
 -- the writer of a table that was just opened with these rules
 abbrev pub opens_with : Identity → Config → RuleMap → WriterState
