@@ -88,7 +88,7 @@ looked v w sees are =
     subst (λ (o : Opened). AreChecked o w.seen) (ap (λ (x : View). x.opening) sees) are
 
 -- each of these tokens was started, and has passed
-each_checked : (o : Opened) (steps : List WriterStep) (freed : List ℕ) → All (λ t. 0 < t) freed
+pub each_checked : (o : Opened) (steps : List WriterStep) (freed : List ℕ) → All (λ t. 0 < t) freed
     → (0 < (setup_of o).workers → All (λ t. t ≤ (tables (setup_of o) steps).passed) freed)
     → AreChecked o steps → All (IsChecked (setup_of o) steps) freed
 each_checked o steps freed past passed checked i d within = elim (cases_lt 0 (setup_of o).workers) [

@@ -14,3 +14,4 @@ pub mod Makes
 pub mod Lookups
 pub mod Sorted
 pub mod Later
+pub mod GracePeriods

@@ -4,3 +4,4 @@ pub mod Freeing
 pub mod Versions
 pub mod Passes
 pub mod Loading
+pub mod GracePeriods

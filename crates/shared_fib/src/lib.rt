@@ -7,6 +7,7 @@
 
 mod bench;
 mod commands;
+mod grace;
 mod laying;
 mod opening;
 mod opening_sorted;
@@ -17,6 +18,7 @@ mod table;
 mod writer;
 
 pub use bench::{Bench, RegisterError};
+pub use grace::{GracePeriod, Held, NotStarted};
 pub use lpm_rules::Answer;
 pub use lpm_writer::{Exhausted, OpenError};
 pub use opening::{go_live, open};

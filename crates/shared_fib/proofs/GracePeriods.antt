@@ -1,0 +1,77 @@
+-- What the start of a grace period and a check of its token leave.
+use Rattle.std.proofs.Common.{arith, ℕ, suc, ◌≡◌, ◌+◌, ◌<◌, ◌≤◌, ap, ◌∙◌, List, [], ◌∷◌, Result, Ok, Err}
+use Rattle.std.specs.Prelude.{OnOk, OnErr}
+use Rattle.std.proofs.lemmas.List.Elements.{All-nil, All-cons, All-head}
+use Rattle.lpm_limits.specs.declared.busy.Busy.{Busy}
+use Rattle.lpm_trace.specs.declared.step.WriterStep.{WriterStep}
+use Rattle.lpm_trace.specs.declared.step.WriterStep.TheVariants.{BumpToken}
+use Rattle.lpm_trace.specs.Tables.{Setup, tables}
+use Rattle.lpm_trace.specs.Laws.{IsChecked}
+use Rattle.lpm_writer.specs.Traced.{AnyMemory, Checks, steps_alone}
+use Rattle.lpm_writer.proofs.Checks.{check_passes, check_stops}
+use Rattle.shared_words.specs.declared.view.View.{View}
+use Rattle.shared_words.specs.Opened.{Opened, setup_of}
+use Rattle.shared_words.specs.Seats.{AreChecked}
+use Rattle.shared_memory.specs.Lent.{left_by_view}
+use Rattle.shared_fib.specs.Running.{OnlySees, WriterState, left_by, steps_of}
+use Rattle.shared_fib.proofs.Checked.{each_checked, looked}
+
+-- what follows from either outcome
+pub either : {X Y : Type 0} {A B P : Type 0} (r : Result X Y) → OnOk r A → OnErr r B → (A → P) → (B → P) → P
+either (Ok x) a b f g = f a
+either (Err e) a b f g = g b
+
+pub on_ok_then : {X Y : Type 0} {A P : Type 0} (r : Result X Y) → OnOk r A → (A → P) → OnOk r P
+on_ok_then (Ok x) a f = f a
+on_ok_then (Err e) a f = tt
+
+-- two facts of a result that is `Ok`, as one
+pub on_ok_both : {X Y : Type 0} {A B P : Type 0} (r : Result X Y) → OnOk r A → OnOk r B → (A → B → P) → OnOk r P
+on_ok_both (Ok x) a b f = f a b
+on_ok_both (Err e) a b f = tt
+
+pub on_err_then : {X Y : Type 0} {A P : Type 0} (r : Result X Y) → OnErr r A → (A → P) → OnErr r P
+on_err_then (Ok x) a f = tt
+on_err_then (Err e) a f = f a
+
+-- a token is started
+pub one_more_token : (x z : WriterState)
+    → z ≡ record x { table = record x.table { readers = BumpToken ∷ steps_of x } }
+    → (left_by z).token ≡ (left_by x).token + 1
+one_more_token x z same =
+    let step : suc (left_by x).token ≡ (left_by x).token + 1 = omega arith in
+    ap (λ (y : WriterState). (left_by y).token) same ∙ step
+
+-- the newest token stays, whatever came of its check
+pub token_stays : (c : Setup) (x z : List WriterStep) (r : Result (Unit {0}) Busy)
+    → Checks AnyMemory c (steps_alone x) (tables c x).token r (steps_alone z)
+    → (tables c z).token ≡ (tables c x).token
+token_stays c x z (Ok u) h = (check_passes AnyMemory c (steps_alone x) (tables c x).token (steps_alone z) h).token
+token_stays c x z (Err busy) h = (check_stops AnyMemory c (steps_alone x) (tables c x).token busy (steps_alone z) h).token
+
+-- where its check has passed, it was checked
+pub newest_passed : (o : Opened) (x z : List WriterStep) (r : Result (Unit {0}) Busy) → 0 < (tables (setup_of o) x).token
+    → AreChecked o z
+    → Checks AnyMemory (setup_of o) (steps_alone x) (tables (setup_of o) x).token r (steps_alone z)
+    → OnOk r (IsChecked (setup_of o) z (tables (setup_of o) x).token)
+newest_passed o x z (Err busy) past are h = tt
+newest_passed o x z (Ok u) past are h =
+    let c : Setup = setup_of o in
+    let t : ℕ = (tables c x).token in
+    let passed = check_passes AnyMemory c (steps_alone x) t (steps_alone z) h in
+    All-head (IsChecked c z) t [] (each_checked o z (t ∷ [])
+    (All-cons (λ u. 0 < u) t [] past (All-nil (λ u. 0 < u)))
+    (λ some. All-cons (λ u. u ≤ (tables c z).passed) t [] (passed.passed some) (All-nil (λ u. u ≤ (tables c z).passed)))
+    are)
+
+-- the same of a seat that made the check
+module _ (v w : View) (sees : OnlySees v w) (r : Result (Unit {0}) Busy)
+    (h : Checks AnyMemory (setup_of v.opening) (steps_alone v.seen) (left_by_view v).token r (steps_alone w.seen)) where
+  pub seat_token_stays : (left_by_view w).token ≡ (left_by_view v).token
+  seat_token_stays =
+      ap (λ (x : View). (tables (setup_of x.opening) w.seen).token) sees
+      ∙ token_stays (setup_of v.opening) v.seen w.seen r h
+
+  pub seat_passed : 0 < (left_by_view v).token → AreChecked w.opening w.seen
+      → OnOk r (IsChecked (setup_of v.opening) w.seen (left_by_view v).token)
+  seat_passed past are = newest_passed v.opening v.seen w.seen r past (looked v w sees are) h

@@ -1,0 +1,53 @@
+use Rattle.std.proofs.Common.{arith, rules, ◌≤◌, ◌^◌, ◌<◌}
+use Rattle.std.specs.Prelude.{OnOk, OnErr}
+use Rattle.lpm_trace.specs.Tables.{tables, begun}
+use Rattle.lpm_writer.specs.Traced.{AnyMemory, Checks, steps_alone}
+use Rattle.shared_words.specs.declared.view.View.{View}
+use Rattle.shared_words.specs.Opened.{setup_of}
+use Rattle.shared_words.specs.Seats.{AreChecked}
+use Rattle.shared_memory.specs.Lent.{left_by_view}
+use Rattle.shared_fib.specs.GracePeriods.{WaitsBy}
+use Rattle.shared_fib.specs.Running.{OnlySees, RestsBy}
+use Rattle.shared_fib.proofs.GracePeriods.{on_ok_then, on_err_then, seat_passed, seat_token_stays}
+use Rattle.shared_fib.proofs.grace.check_by.Goals as goal
+
+pub returns-clause-token : goal.returns-clause-token
+returns-clause-token g c =
+    let v : View = c.args.seat.now.view in
+    let w : View = c.seat-1.given.0.view in
+    let r = c.check_over-came.result in
+    let sees : OnlySees v w = search rules in
+    let came : Checks AnyMemory (setup_of v.opening) (steps_alone v.seen) (left_by_view v).token r (steps_alone w.seen) =
+    search rules in
+    seat_token_stays v w sees r came
+
+pub returns-clause-checked : goal.returns-clause-checked
+returns-clause-checked g c =
+    let v : View = c.args.seat.now.view in
+    let w : View = c.seat-1.given.0.view in
+    let r = c.check_over-came.result in
+    let sees : OnlySees v w = search rules in
+    let came : Checks AnyMemory (setup_of v.opening) (steps_alone v.seen) (left_by_view v).token r (steps_alone w.seen) =
+    search rules in
+    let known : AreChecked w.opening w.seen = c.history.ensures.checked in
+    let past : 0 < (left_by_view v).token = omega (arith, c.requires.waits.waits.started) in
+    seat_passed v w sees r came past known
+
+pub returns-clause-ready : goal.returns-clause-ready
+returns-clause-ready g c =
+    let w : View = c.seat-1.given.0.view in
+    let l = c.check_over-came.new.ledger in
+    let r = c.check_over-came.result in
+    let rests : OnOk r (RestsBy g.row.FIRST g.row.SECOND l w) = search rules in
+    let low : (tables (setup_of w.opening) w.seen).token ≤ 2 ^ 62 = search rules in
+    on_ok_then r rests (λ rest. record { rests = rest; token = low })
+
+pub returns-clause-waits : goal.returns-clause-waits
+returns-clause-waits g c =
+    let w : View = c.seat-1.given.0.view in
+    let l = c.check_over-came.new.ledger in
+    let r = c.check_over-came.result in
+    let waits : OnErr r (WaitsBy g.row.FIRST g.row.SECOND l w) = search rules in
+    let low : (tables (setup_of w.opening) w.seen).token ≤ 2 ^ 62 = search rules in
+    let few : begun (tables (setup_of w.opening) w.seen) ≤ 2 ^ 61 = search rules in
+    on_err_then r waits (λ wait. record { waits = wait; token = low; updates = few })

@@ -1,0 +1,243 @@
+//! A grace period that doesn't block: a token is started, and checked again whenever the program likes.
+
+ghost use Rattle.std.specs.Prelude.{◌≡◌, ◌+◌, ◌^◌, ◌<◌, ◌≤◌, ◌↔◌, ◌∷◌, All, IfErr, IfOk, IsErr, OnErr, OnOk, Ok, Err};
+ghost use Rattle.lpm_trace.specs.declared.step.WriterStep.TheVariants.{BumpToken};
+ghost use Rattle.lpm_trace.specs.Laws.{IsChecked};
+ghost use Rattle.lpm_writer.specs.Traced.{AnyMemory, Checks, steps_alone};
+ghost use Rattle.lpm_writer.specs.Waiting.{tokens_of};
+ghost use Rattle.shared_words.specs.Opened.{setup_of};
+ghost use Rattle.shared_words.specs.Seats.{IsOf, with_step};
+ghost use Rattle.shared_memory.specs.Lent.{SharedDid, left_by_view};
+ghost use Rattle.shared_fib.specs.GracePeriods.{IsInGrace, WaitsBy};
+ghost use Rattle.shared_fib.specs.Running.{IsReady, OnlySees, RestsBy, left_by, setup, state_by, steps_of};
+
+use crate::table::Words;
+use crate::{SharedTable, Writer};
+use lpm_writer::{Exhausted, Ledger, check_synchronize, start_synchronize};
+use qsbr::Busy;
+use shared_memory::SharedMemory;
+use shared_words::WriterSeat;
+use std::marker::Model;
+
+/// The writer of a running table while a grace period lasts: a token was started, and no check of it has
+/// passed. The check gives the writer back once it passes; until then there are no changes.
+#[derive(Drop)]
+pub struct GracePeriod<const FIRST: u32, const SECOND: u32> {
+    ledger: Ledger<FIRST, SECOND>,
+    seat: WriterSeat,
+}
+
+impl<const FIRST: u32, const SECOND: u32> Model for GracePeriod<FIRST, SECOND> {
+    ghost use Rattle.shared_fib.specs.GracePeriods.{IsInGrace};
+    ghost use Rattle.shared_fib.specs.Running.{WriterState, coded_writer, state_by};
+
+    ghost Value = { WriterState };
+
+    ghost coded = { coded_writer };
+
+    ghost view = { λ g. record {
+      identity = record { words = g.seat.table; opening = g.seat.view.opening };
+      config = g.ledger.config;
+      table = state_by g.ledger g.seat.view;
+    } };
+
+    ghost invariant = { λ g. IsInGrace FIRST SECOND g.ledger g.seat.view };
+}
+
+/// A grace period that wasn't started: fewer tokens than groups are left.
+#[derive(Drop)]
+pub struct NotStarted<const FIRST: u32, const SECOND: u32> {
+    /// The writer as it was.
+    pub writer: Writer<FIRST, SECOND>,
+}
+
+/// A grace period that isn't over: a worker holds what was given up before it.
+#[derive(Drop)]
+pub struct Held<const FIRST: u32, const SECOND: u32> {
+    /// The grace period, which goes on.
+    pub period: GracePeriod<FIRST, SECOND>,
+    /// The first worker that holds the token.
+    pub busy: Busy,
+}
+
+fn start_over<const FIRST: u32, const SECOND: u32>(
+    ledger: &Ledger<FIRST, SECOND>,
+    memory: &mut SharedMemory<'_, FIRST, SECOND>,
+) -> Result<(), Exhausted>
+    requires did { SharedDid memory.old (setup_of memory.old.view.opening) memory.old.view.seen }
+    requires rests { RestsBy FIRST SECOND ledger.now memory.old.view }
+    ensures exhausted { IsErr result
+        ↔ (2 ^ 62 < (left_by_view memory.old.view).token + ledger.now.config.groups) }
+    ensures started { OnOk result (memory.new.view ≡ with_step memory.old.view BumpToken) }
+    ensures waits { OnOk result (WaitsBy FIRST SECOND ledger.now memory.new.view) }
+    ensures untouched { OnErr result (memory.new ≡ memory.old) }
+    ensures name { memory.new.name ≡ memory.old.name }
+    ensures table { memory.new.table ≡ memory.old.table }
+{
+    start_synchronize(ledger, memory)
+}
+
+fn start_by<const FIRST: u32, const SECOND: u32>(
+    ledger: &Ledger<FIRST, SECOND>,
+    seat: &mut WriterSeat,
+    table: &Words<FIRST, SECOND>,
+) -> Result<(), Exhausted>
+    requires own { IsOf table.now seat.old.table seat.old.view }
+    requires ready { IsReady FIRST SECOND ledger.now seat.old.view }
+    ensures exhausted { IsErr result
+        ↔ (2 ^ 62 < (left_by_view seat.old.view).token + ledger.now.config.groups) }
+    ensures started { OnOk result
+        (seat.new.view ≡ with_step seat.old.view BumpToken) }
+    ensures waits { OnOk result (IsInGrace FIRST SECOND ledger.now seat.new.view) }
+    ensures untouched { OnErr result (seat.new.view ≡ seat.old.view) }
+    ensures seat { seat.new.table ≡ seat.old.table }
+{
+    let mut memory = SharedMemory::new(table, seat);
+    let came = start_over(ledger, &mut memory);
+    memory.done();
+    came
+}
+
+fn check_over<const FIRST: u32, const SECOND: u32>(
+    ledger: &mut Ledger<FIRST, SECOND>,
+    memory: &mut SharedMemory<'_, FIRST, SECOND>,
+) -> Result<(), Busy>
+    requires did { SharedDid memory.old (setup_of memory.old.view.opening) memory.old.view.seen }
+    requires waits { WaitsBy FIRST SECOND ledger.old memory.old.view }
+    ensures checks { Checks AnyMemory (setup_of memory.old.view.opening)
+        (steps_alone memory.old.view.seen) (left_by_view memory.old.view).token result
+        (steps_alone memory.new.view.seen) }
+    ensures queued { OnOk result (0 < ledger.old.config.workers
+        → All (λ token. token ≤ (left_by_view memory.new.view).passed)
+        (tokens_of ledger.new.books.queue.items)) }
+    ensures rests { OnOk result (RestsBy FIRST SECOND ledger.new memory.new.view) }
+    ensures waits { OnErr result (WaitsBy FIRST SECOND ledger.new memory.new.view) }
+    ensures same { ledger.new ≡ record ledger.old {
+      books = record ledger.old.books { passed = ledger.new.books.passed };
+    } }
+    ensures name { memory.new.name ≡ memory.old.name }
+    ensures table { memory.new.table ≡ memory.old.table }
+    ensures view { OnlySees memory.old.view memory.new.view }
+{
+    check_synchronize(ledger, memory)
+}
+
+fn check_by<const FIRST: u32, const SECOND: u32>(
+    ledger: &mut Ledger<FIRST, SECOND>,
+    seat: &mut WriterSeat,
+    table: &Words<FIRST, SECOND>,
+) -> Result<(), Busy>
+    requires own { IsOf table.now seat.old.table seat.old.view }
+    requires waits { IsInGrace FIRST SECOND ledger.old seat.old.view }
+    ensures checks { Checks AnyMemory (setup_of seat.old.view.opening)
+        (steps_alone seat.old.view.seen) (left_by_view seat.old.view).token result
+        (steps_alone seat.new.view.seen) }
+    ensures token { (left_by_view seat.new.view).token
+        ≡ (left_by_view seat.old.view).token }
+    ensures checked { OnOk result (IsChecked (setup_of seat.old.view.opening)
+        seat.new.view.seen (left_by_view seat.old.view).token) }
+    ensures queued { OnOk result (0 < ledger.old.config.workers
+        → All (λ token. token ≤ (left_by_view seat.new.view).passed)
+        (tokens_of ledger.new.books.queue.items)) }
+    ensures ready { OnOk result (IsReady FIRST SECOND ledger.new seat.new.view) }
+    ensures waits { OnErr result (IsInGrace FIRST SECOND ledger.new seat.new.view) }
+    ensures same { ledger.new ≡ record ledger.old {
+      books = record ledger.old.books { passed = ledger.new.books.passed };
+    } }
+    ensures seat { seat.new.table ≡ seat.old.table }
+    ensures view { OnlySees seat.old.view seat.new.view }
+{
+    let mut memory = SharedMemory::new(table, seat);
+    let came = check_over(ledger, &mut memory);
+    memory.done();
+    seat.history();
+    came
+}
+
+impl<const FIRST: u32, const SECOND: u32> Writer<FIRST, SECOND> {
+    /// Starts a grace period: a token, which the program then checks as often as it likes. It never waits.
+    /// Readers go on meanwhile; the writer is back once a check has passed.
+    ///
+    /// The error, which gives the writer back as it was, comes exactly where fewer tokens than groups are
+    /// left.
+    pub fn start(
+        self,
+        table: &SharedTable<FIRST, SECOND>,
+    ) -> Result<GracePeriod<FIRST, SECOND>, NotStarted<FIRST, SECOND>>
+        requires own { self.identity ≡ table.now }
+        ensures exhausted { IsErr result
+            ↔ (2 ^ 62 < (left_by self.entry).token + self.entry.config.groups) }
+        ensures starts { IfOk result (λ period. period ≡ record self.entry {
+          table = record self.entry.table { readers = BumpToken ∷ steps_of self.entry };
+        }) }
+        ensures started { IfOk result
+            (λ period. (left_by period).token ≡ (left_by self.entry).token + 1) }
+        ensures unchanged { IfErr result (λ not_started. not_started.writer ≡ self.entry) }
+    {
+        let Writer { ledger, mut seat } = self;
+        match start_by(&ledger, &mut seat, &table.words) {
+            Ok(()) => Ok(GracePeriod::new(ledger, seat)),
+            Err(Exhausted) => Err(NotStarted {
+                writer: Writer::new(ledger, seat),
+            }),
+        }
+    }
+}
+
+impl<const FIRST: u32, const SECOND: u32> GracePeriod<FIRST, SECOND> {
+    // The grace period of this ledger and this seat.
+    fn new(ledger: Ledger<FIRST, SECOND>, seat: WriterSeat) -> Self
+        requires { IsInGrace FIRST SECOND ledger seat.view }
+        ensures { result ≡ record {
+          identity = record { words = seat.table; opening = seat.view.opening };
+          config = ledger.entry.config;
+          table = state_by ledger.entry seat.view;
+        } }
+    {
+        GracePeriod { ledger, seat }
+    }
+
+    /// Checks the token once: it loads each worker's counter, up to the first that is neither 0 nor at
+    /// least the token. It never waits.
+    ///
+    /// Where all let the token pass the grace period is over, and the writer is back: each worker's counter
+    /// was loaded after the token was there, and no group that was queued before is held at any later
+    /// check. The error gives the grace period back, and names the worker that holds the token.
+    pub fn check(
+        self,
+        table: &SharedTable<FIRST, SECOND>,
+    ) -> Result<Writer<FIRST, SECOND>, Held<FIRST, SECOND>>
+        requires own { self.identity ≡ table.now }
+        ensures passes { IfOk result (λ writer. Checks AnyMemory (setup table.now)
+            (steps_alone (steps_of self.entry)) (left_by self.entry).token (Ok tt)
+            (steps_alone (steps_of writer))) }
+        ensures checked { IfOk result (λ writer. IsChecked (setup table.now) (steps_of writer)
+            (left_by self.entry).token) }
+        ensures queued { IfOk result (λ writer. 0 < self.entry.config.workers
+            → All (λ token. token ≤ (left_by writer).passed) writer.table.limbo) }
+        ensures same { IfOk result (λ writer. writer ≡ record self.entry {
+          table = record self.entry.table { readers = steps_of writer };
+        }) }
+        ensures token { IfOk result (λ writer. (left_by writer).token ≡ (left_by self.entry).token) }
+        ensures stopped { IfErr result (λ held. Checks AnyMemory (setup table.now)
+            (steps_alone (steps_of self.entry)) (left_by self.entry).token (Err held.busy)
+            (steps_alone (steps_of held.period))) }
+        ensures goes_on { IfErr result (λ held. held.period ≡ record self.entry {
+          table = record self.entry.table { readers = steps_of held.period };
+        }) }
+        ensures waits { IfErr result
+            (λ held. (left_by held.period).token ≡ (left_by self.entry).token) }
+    {
+        let GracePeriod {
+            mut ledger,
+            mut seat,
+        } = self;
+        match check_by(&mut ledger, &mut seat, &table.words) {
+            Ok(()) => Ok(Writer::new(ledger, seat)),
+            Err(busy) => Err(Held {
+                period: GracePeriod::new(ledger, seat),
+                busy,
+            }),
+        }
+    }
+}
