@@ -11,3 +11,4 @@ pub mod Listed
 pub mod Counted
 pub mod Collected
 pub mod Pairs
+pub mod NextRules

@@ -5,3 +5,4 @@ pub mod Deep
 pub mod View
 pub mod Listed
 pub mod Collected
+pub mod Walking
