@@ -5,6 +5,7 @@ ghost use Rattle.std.specs.FinMap as map;
 ghost use Rattle.lpm_bits.specs.Widths.{IsShape};
 ghost use Rattle.lpm_rules.specs.Longest.{IsLongestHop};
 ghost use Rattle.lpm_rules.specs.Listed.{AreInOrder, rules_of};
+ghost use Rattle.lpm_rules.specs.Walking.{IsNextRule};
 ghost use Rattle.lpm_limits.specs.Limits.{IsConfig};
 ghost use Rattle.fib_model.specs.Outcomes.{groups_in_use, Adds, Deletes, Flushes, Frees};
 ghost use Rattle.fib_model.specs.Counting.{by_counters, counting};
@@ -152,6 +153,14 @@ impl<const FIRST: u32, const SECOND: u32> Fib<FIRST, SECOND> {
         ensures { result ≡ map.get self.now.table.rules prefix.now }
     {
         self.ledger.rules.get(prefix)
+    }
+
+    /// The rule that comes next after a prefix in the order of prefixes, whether the prefix has a
+    /// rule or not; the first rule for `None`. It searches the rule list for each length.
+    pub fn next_rule(&self, after: Option<Prefix<FIRST, SECOND>>) -> Option<Rule<FIRST, SECOND>>
+        ensures { IsNextRule self.now.table.rules after.entry result }
+    {
+        self.ledger.rules.next_rule(after)
     }
 
     /// The number of rules.
