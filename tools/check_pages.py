@@ -67,7 +67,7 @@ HEADERS = [TOP / "c/saxiko.h", TOP / "c/saxiko_rte_lpm.h"]
 ELSEWHERE = {
     **dict.fromkeys("requires ensures".split(), "words of Rattle"),
     **dict.fromkeys("Mutex::lock Mutex::try_lock try_lock yield_now std::thread".split(), "the kit's standard library"),
-    **dict.fromkeys("FinMap FinSet Appends AllocError".split(), "the kit's standard library"),
+    **dict.fromkeys("FinMap FinSet Appends AllocError Ipv4Addr".split(), "the kit's standard library"),
     **dict.fromkeys("lines_of without_terminator subcommand_of fault_of".split(), "bstr and clap of the kit"),
     "lpm_perf": "a test of DPDK",
     "posix_memalign": "the C library",
