@@ -4,11 +4,13 @@ ghost use Rattle.std.specs.Prelude.{◌≡◌, ◌+◌, ◌^◌, ◌≤◌, leng
 ghost use Rattle.std.specs.FinMap as map;
 ghost use Rattle.fib_model.specs.Outcomes.{groups_in_use};
 ghost use Rattle.lpm_limits.specs.Limits.{IsConfig};
+ghost use Rattle.lpm_rules.specs.Walking.{IsNextRule};
 ghost use Rattle.shared_fib.specs.Running.{IsAtRest, left_by};
 
 use crate::{SharedTable, Writer};
 use lpm_bits::{Hop, Prefix};
 use lpm_groups::Counts;
+use lpm_rules::Rule;
 use qsbr::Config;
 
 impl<const FIRST: u32, const SECOND: u32> Writer<FIRST, SECOND> {
@@ -17,6 +19,14 @@ impl<const FIRST: u32, const SECOND: u32> Writer<FIRST, SECOND> {
         ensures { result ≡ map.get self.now.table.rules prefix.now }
     {
         self.ledger.rules.get(prefix)
+    }
+
+    /// The rule that comes next after a prefix in the order of prefixes, whether the prefix has a rule or
+    /// not; the first rule for `None`. It searches the rule list for each length.
+    pub fn next_rule(&self, after: Option<Prefix<FIRST, SECOND>>) -> Option<Rule<FIRST, SECOND>>
+        ensures { IsNextRule self.now.table.rules after.entry result }
+    {
+        self.ledger.rules.next_rule(after)
     }
 
     /// The number of rules.
