@@ -4,6 +4,7 @@
 //! while each reader looks up on a thread of its own, with no lock.
 #![tactic(auto)]
 
+mod address;
 mod bursts;
 mod hop;
 mod loading;
@@ -15,6 +16,7 @@ mod rule;
 mod table;
 mod table_lookups;
 mod text;
+mod walk;
 
 pub use bursts::Burst;
 pub use defer_queue::Reclaimed;

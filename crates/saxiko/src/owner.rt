@@ -38,7 +38,7 @@ use std::sync::{Arc, Wait};
 #[derive(Drop)]
 pub struct Owner {
     table: Arc<SharedTable<24, 8>>,
-    writer: Writer<24, 8>,
+    pub(crate) writer: Writer<24, 8>,
     bench: Bench,
 }
 

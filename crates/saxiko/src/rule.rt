@@ -55,4 +55,17 @@ impl Rule {
             hop: self.hop.inner(),
         }
     }
+
+    // The rule that was found in the layers below.
+    pub(crate) fn of_found(found: Option<Inner>) -> Option<Self>
+        ensures { result ≡ found }
+    {
+        match found {
+            Some(inner) => Some(Rule {
+                prefix: Prefix::of_inner(&inner.prefix),
+                hop: Hop::of_inner(inner.hop),
+            }),
+            None => None,
+        }
+    }
 }
