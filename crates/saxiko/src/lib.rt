@@ -6,6 +6,7 @@
 
 mod address;
 mod bursts;
+mod grace;
 mod hop;
 mod loading;
 mod matches;
@@ -20,6 +21,7 @@ mod walk;
 
 pub use bursts::Burst;
 pub use defer_queue::Reclaimed;
+pub use grace::{GracePeriod, Held, NotStarted};
 pub use hop::Hop;
 pub use lpm_bits::{BadHop, BadLength};
 pub use lpm_groups::Counts;

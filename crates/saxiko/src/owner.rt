@@ -37,9 +37,9 @@ use std::sync::{Arc, Wait};
 /// counter was loaded after that token was there, and was 0 or at least the token.
 #[derive(Drop)]
 pub struct Owner {
-    table: Arc<SharedTable<24, 8>>,
+    pub(crate) table: Arc<SharedTable<24, 8>>,
     pub(crate) writer: Writer<24, 8>,
-    bench: Bench,
+    pub(crate) bench: Bench,
 }
 
 impl Model for Owner {
@@ -60,7 +60,7 @@ impl Model for Owner {
 
 impl Owner {
     // The owner of this table, with its writer and its bench.
-    fn new(table: Arc<SharedTable<24, 8>>, writer: Writer<24, 8>, bench: Bench) -> Self
+    pub(crate) fn new(table: Arc<SharedTable<24, 8>>, writer: Writer<24, 8>, bench: Bench) -> Self
         requires own { writer.identity ≡ arc_value table }
         requires bench { IsBenchOf (arc_value table) bench }
         ensures { result ≡ record { writer = writer; bench = bench } }

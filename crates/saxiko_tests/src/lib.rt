@@ -2,6 +2,8 @@
 #![tactic(auto)]
 
 #[cfg(test)]
+mod grace;
+#[cfg(test)]
 mod large;
 #[cfg(test)]
 mod running;
