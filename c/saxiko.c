@@ -20,6 +20,8 @@ DECLARE(table_add, struct saxiko_table *, uint32_t, uint8_t, uint32_t);
 DECLARE(table_delete, struct saxiko_table *, uint32_t, uint8_t, uint32_t *);
 DECLARE(table_flush, struct saxiko_table *, size_t *);
 DECLARE(table_get, struct saxiko_table *, uint32_t, uint8_t, uint32_t *);
+DECLARE(table_first_rule, struct saxiko_table *, struct saxiko_route *);
+DECLARE(table_next_rule, struct saxiko_table *, uint32_t, uint8_t, struct saxiko_route *);
 DECLARE(table_lookup_bulk, struct saxiko_table *, const uint32_t *, size_t, uint32_t *, size_t, uint32_t);
 DECLARE(table_counts, struct saxiko_table *, struct saxiko_counts *);
 DECLARE(table_reclaim, struct saxiko_table *, size_t, size_t *);
@@ -31,6 +33,8 @@ DECLARE(writer_add, struct saxiko_writer *, uint32_t, uint8_t, uint32_t);
 DECLARE(writer_delete, struct saxiko_writer *, uint32_t, uint8_t, uint32_t *);
 DECLARE(writer_flush, struct saxiko_writer *, size_t *);
 DECLARE(writer_get, struct saxiko_writer *, uint32_t, uint8_t, uint32_t *);
+DECLARE(writer_first_rule, struct saxiko_writer *, struct saxiko_route *);
+DECLARE(writer_next_rule, struct saxiko_writer *, uint32_t, uint8_t, struct saxiko_route *);
 DECLARE(writer_counts, struct saxiko_writer *, struct saxiko_counts *);
 DECLARE(writer_reclaim, struct saxiko_writer *, size_t, size_t *, struct saxiko_held *);
 DECLARE(reader_register, struct saxiko_writer *, struct saxiko_reader *, uint32_t);
@@ -86,6 +90,14 @@ int32_t saxiko_table_get(struct saxiko_table *table, uint32_t addr, uint8_t dept
     return table && hop ? saxiko_proved_table_get(table, addr, depth, hop) : -EINVAL;
 }
 
+int32_t saxiko_table_next_rule(struct saxiko_table *table, const struct saxiko_route *after,
+                               struct saxiko_route *rule) {
+    if (!table || !rule)
+        return -EINVAL;
+    return after ? saxiko_proved_table_next_rule(table, after->addr, after->depth, rule)
+                 : saxiko_proved_table_first_rule(table, rule);
+}
+
 extern inline int32_t saxiko_table_lookup(struct saxiko_table *table, uint32_t addr, uint32_t *hop);
 
 int32_t saxiko_table_lookup_bulk(struct saxiko_table *table, const uint32_t *addrs, size_t addrs_len,
@@ -139,6 +151,14 @@ int32_t saxiko_writer_flush(struct saxiko_writer *writer, size_t *rules) {
 
 int32_t saxiko_writer_get(struct saxiko_writer *writer, uint32_t addr, uint8_t depth, uint32_t *hop) {
     return writer && hop ? saxiko_proved_writer_get(writer, addr, depth, hop) : -EINVAL;
+}
+
+int32_t saxiko_writer_next_rule(struct saxiko_writer *writer, const struct saxiko_route *after,
+                                struct saxiko_route *rule) {
+    if (!writer || !rule)
+        return -EINVAL;
+    return after ? saxiko_proved_writer_next_rule(writer, after->addr, after->depth, rule)
+                 : saxiko_proved_writer_first_rule(writer, rule);
 }
 
 int32_t saxiko_writer_counts(struct saxiko_writer *writer, struct saxiko_counts *counts) {

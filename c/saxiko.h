@@ -62,7 +62,7 @@ struct saxiko_counts {
     uint64_t groups_free;
 };
 
-/* A route of a list that is loaded: a prefix and its next hop. */
+/* A route, of a list that is loaded or as a walk stores it: a prefix and its next hop. */
 struct saxiko_route {
     uint32_t addr;
     uint32_t hop;  /* at most SAXIKO_HOP_MAX */
@@ -120,6 +120,13 @@ int32_t saxiko_table_flush(struct saxiko_table *table, size_t *rules);
 /* Stores the next hop of the rule of this very prefix. -ENOENT: it has none. -EINVAL: a depth above 32. On the table's
  * thread. */
 int32_t saxiko_table_get(struct saxiko_table *table, uint32_t addr, uint8_t depth, uint32_t *hop);
+
+/* Stores the rule that comes next after the prefix of `after`, or the first rule where `after` is null. Rules are in the
+ * order of their addresses, and of one address the rule of the lower depth comes first. The prefix of `after` need not
+ * have a rule, so that a walk goes on while rules come and go, and its hop doesn't count. `rule` may be `after`.
+ * -ENOENT: no rule comes after it. -EINVAL: a depth above 32. */
+int32_t saxiko_table_next_rule(struct saxiko_table *table, const struct saxiko_route *after,
+                               struct saxiko_route *rule);
 
 /* Stores the next hop of the longest rule that covers the address. -ENOENT: no rule covers it.
  * It is inline, so that where a pointer is known not to be null that isn't tested. On the table's thread. */
@@ -188,6 +195,8 @@ int32_t saxiko_writer_add(struct saxiko_writer *writer, uint32_t addr, uint8_t d
 int32_t saxiko_writer_delete(struct saxiko_writer *writer, uint32_t addr, uint8_t depth, uint32_t *hop);
 int32_t saxiko_writer_flush(struct saxiko_writer *writer, size_t *rules);
 int32_t saxiko_writer_get(struct saxiko_writer *writer, uint32_t addr, uint8_t depth, uint32_t *hop);
+int32_t saxiko_writer_next_rule(struct saxiko_writer *writer, const struct saxiko_route *after,
+                                struct saxiko_route *rule);
 int32_t saxiko_writer_counts(struct saxiko_writer *writer, struct saxiko_counts *counts);
 
 /* Frees at most `max` groups that wait, the oldest first, up to one that a reader holds, and stores how many. It returns

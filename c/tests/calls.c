@@ -6,6 +6,7 @@
 
 #include "calls_rte_lpm.h"
 #include "calls_running.h"
+#include "calls_walk.h"
 
 static void texts(void) {
     static const int32_t statuses[] = {0, 1, 2, -EPERM, -ENOENT, -E2BIG, -ENOMEM, -EBUSY, -EINVAL, -ENOSPC, -EDOM,
@@ -57,6 +58,7 @@ static void many_routes(void) {
 int main(void) {
     table_calls();
     running_calls();
+    walk_calls();
     rte_lpm_calls();
     texts();
     many_routes();

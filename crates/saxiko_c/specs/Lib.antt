@@ -7,4 +7,5 @@ pub mod Owners
 pub mod Running
 pub mod Status
 pub mod Table
+pub mod Walking
 pub use Rattle.fib.specs.Fib

@@ -16,6 +16,8 @@ mod status;
 mod table;
 mod table_calls;
 mod table_handle;
+mod walk;
+mod walk_calls;
 mod writer_handle;
 
 pub use reader_handle::SaxikoReader;
@@ -35,4 +37,8 @@ pub use table_calls::{
     saxiko_proved_table_open, saxiko_proved_table_reclaim,
 };
 pub use table_handle::SaxikoTable;
+pub use walk_calls::{
+    saxiko_proved_table_first_rule, saxiko_proved_table_next_rule, saxiko_proved_writer_first_rule,
+    saxiko_proved_writer_next_rule,
+};
 pub use writer_handle::SaxikoWriter;

@@ -9,6 +9,7 @@ ghost use Rattle.lpm_trace.specs.declared.step.WorkerStep.TheVariants.{StoreOffl
 ghost use Rattle.lpm_writer.specs.Opening.{opening_setup};
 ghost use Rattle.lpm_writer.specs.Traced.{by_steps};
 ghost use Rattle.lpm_rules.specs.Listed.{AreInOrder, rules_of};
+ghost use Rattle.lpm_rules.specs.Walking.{IsNextRule};
 ghost use Rattle.saxiko_c.specs.Loads.{IsTooSmall};
 ghost use Rattle.saxiko_c.specs.Opened.{IsOpenedWith};
 ghost use Rattle.shared_fib.specs.Freeing.{FreesChecked};
@@ -220,6 +221,14 @@ impl Owner {
         ensures { result ≡ map.get self.now.writer.table.rules prefix.now }
     {
         self.writer.get(prefix)
+    }
+
+    /// The rule that comes next after a prefix in the order of prefixes, whether the prefix has a rule or not; the
+    /// first rule for `None`.
+    pub fn next_rule(&self, after: Option<Prefix<24, 8>>) -> Option<Rule<24, 8>>
+        ensures { IsNextRule self.now.writer.table.rules after result }
+    {
+        self.writer.next_rule(after)
     }
 
     /// The number of rules.

@@ -19,7 +19,7 @@ use std::mem;
 
 /// Takes the owner out of the handle, which is closed then.
 #[inline]
-fn take_owner(alloc: Global, handle: &mut SaxikoWriter) -> Option<Box<Owner>>
+pub(crate) fn take_owner(alloc: Global, handle: &mut SaxikoWriter) -> Option<Box<Owner>>
     ensures out { MatchOption result (handle.old.kept ≡ None) (λ b. handle.old.kept ≡ Some b.value) }
     ensures closed { handle.new.kept ≡ None }
 {
@@ -32,7 +32,7 @@ fn take_owner(alloc: Global, handle: &mut SaxikoWriter) -> Option<Box<Owner>>
 
 /// Puts an owner into the handle, which is closed.
 #[inline]
-fn put_owner(handle: &mut SaxikoWriter, owner: Box<Owner>)
+pub(crate) fn put_owner(handle: &mut SaxikoWriter, owner: Box<Owner>)
     ensures { handle.new.kept ≡ Some owner.value }
 {
     mem::forget(mem::replace(handle, SaxikoWriter::of(Loose::of(owner))));

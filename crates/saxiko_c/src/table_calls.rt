@@ -17,7 +17,7 @@ use std::mem;
 
 /// Takes the table out of the handle, which is closed then.
 #[inline]
-fn take(alloc: Global, handle: &mut SaxikoTable) -> Option<Box<Fib<24, 8>>>
+pub(crate) fn take(alloc: Global, handle: &mut SaxikoTable) -> Option<Box<Fib<24, 8>>>
     ensures out { MatchOption result (handle.old.table ≡ None) (λ b. handle.old.table ≡ Some b.value) }
     ensures closed { handle.new.table ≡ None }
 {
@@ -30,7 +30,7 @@ fn take(alloc: Global, handle: &mut SaxikoTable) -> Option<Box<Fib<24, 8>>>
 
 /// Puts a table into the handle.
 #[inline]
-fn put(handle: &mut SaxikoTable, table: Box<Fib<24, 8>>)
+pub(crate) fn put(handle: &mut SaxikoTable, table: Box<Fib<24, 8>>)
     ensures { handle.new.table ≡ Some table.value }
 {
     // What was there is a closed handle, which has nothing to free.

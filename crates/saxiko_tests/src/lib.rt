@@ -9,3 +9,5 @@ mod large;
 mod running;
 #[cfg(test)]
 mod single;
+#[cfg(test)]
+mod walk;

@@ -2,6 +2,7 @@
 
 use saxiko::{Config, Hop, ParseError, Prefix, Put, Refusal, Rule, Table};
 use std::convert::AsStr;
+use std::net::Ipv4Addr;
 
 fn limits() -> Config {
     Config {
@@ -55,4 +56,12 @@ fn texts_are_read_and_written(rt: HostRuntime) {
     assert!(rt; "10.1.2.3/+8".parse::<Prefix>() == Err(ParseError::BadLength));
     assert!(rt; "7".parse::<Hop>() == Ok(Hop::new(7).expect(&rt, "hop")));
     assert!(rt; "16777216".parse::<Hop>() == Err(ParseError::BadHop));
+}
+
+#[test]
+fn prefixes_are_of_addresses(rt: HostRuntime) {
+    let prefix = Prefix::of_ipv4(Ipv4Addr::new(10, 1, 2, 3), 25).expect(&rt, "prefix");
+    assert!(rt; prefix == Prefix::new(0x0a01_0200, 25).expect(&rt, "prefix"));
+    assert!(rt; prefix.to_ipv4() == Ipv4Addr::new(10, 1, 2, 0));
+    assert!(rt; Prefix::of_ipv4(Ipv4Addr::BROADCAST, 33).is_err());
 }

@@ -1,0 +1,57 @@
+//! What the calls of a walk over the rules do.
+
+ghost use Rattle.saxiko_c.specs.Walking.{FindsFirst, FindsNext, TellsRule};
+
+use crate::owner::Owner;
+use crate::records::SaxikoRoute;
+use crate::status::{EINVAL, ENOENT};
+use fib::Fib;
+use lpm_bits::Prefix;
+use lpm_rules::Rule;
+
+/// Stores the route of a rule that was found.
+fn tell(found: Option<Rule<24, 8>>, rule: &mut SaxikoRoute) -> i32
+    ensures { TellsRule found rule.old rule.new result }
+{
+    match found {
+        Some(found) => {
+            *rule = SaxikoRoute {
+                addr: found.prefix.bits(),
+                hop: found.hop.number(),
+                depth: found.prefix.len() as u8,
+            };
+            0
+        }
+        None => ENOENT,
+    }
+}
+
+pub(crate) fn first_of_table(fib: &Fib<24, 8>, rule: &mut SaxikoRoute) -> i32
+    ensures { FindsFirst rule.old rule.new fib.now.table.rules result }
+{
+    tell(fib.next_rule(None), rule)
+}
+
+pub(crate) fn next_of_table(fib: &Fib<24, 8>, addr: u32, depth: u8, rule: &mut SaxikoRoute) -> i32
+    ensures { FindsNext addr depth rule.old rule.new fib.now.table.rules result }
+{
+    match Prefix::new(addr, u32::from(depth)) {
+        Ok(prefix) => tell(fib.next_rule(Some(prefix)), rule),
+        Err(_) => EINVAL,
+    }
+}
+
+pub(crate) fn first_of_writer(owner: &Owner, rule: &mut SaxikoRoute) -> i32
+    ensures { FindsFirst rule.old rule.new owner.now.writer.table.rules result }
+{
+    tell(owner.next_rule(None), rule)
+}
+
+pub(crate) fn next_of_writer(owner: &Owner, addr: u32, depth: u8, rule: &mut SaxikoRoute) -> i32
+    ensures { FindsNext addr depth rule.old rule.new owner.now.writer.table.rules result }
+{
+    match Prefix::new(addr, u32::from(depth)) {
+        Ok(prefix) => tell(owner.next_rule(Some(prefix)), rule),
+        Err(_) => EINVAL,
+    }
+}

@@ -1,0 +1,102 @@
+//! The calls of a walk over the rules in the order of their prefixes.
+
+ghost use Rattle.std.specs.Prelude.{◌≡◌};
+ghost use Rattle.saxiko_c.specs.Calls.{Asks};
+ghost use Rattle.saxiko_c.specs.Walking.{FindsFirst, FindsNext};
+
+use crate::records::SaxikoRoute;
+use crate::running_calls::{put_owner, take_owner};
+use crate::status::EINVAL;
+use crate::table_calls::{put, take};
+use crate::table_handle::SaxikoTable;
+use crate::walk;
+use crate::writer_handle::SaxikoWriter;
+use std::alloc::Global;
+
+/// Stores the first rule of a table.
+#[unsafe(no_mangle)]
+pub extern "C" fn saxiko_proved_table_first_rule(
+    alloc: Global,
+    handle: &mut SaxikoTable,
+    rule: &mut SaxikoRoute,
+) -> i32
+    ensures found { Asks (λ f. FindsFirst rule.old rule.new f.table.rules) (rule.new ≡ rule.old)
+        handle.old.table result }
+    ensures same { handle.new.table ≡ handle.old.table }
+{
+    match take(alloc, handle) {
+        Some(fib) => {
+            let status = walk::first_of_table(&fib, rule);
+            put(handle, fib);
+            status
+        }
+        None => EINVAL,
+    }
+}
+
+/// Stores the rule of a table that comes next after a prefix.
+#[unsafe(no_mangle)]
+pub extern "C" fn saxiko_proved_table_next_rule(
+    alloc: Global,
+    handle: &mut SaxikoTable,
+    addr: u32,
+    depth: u8,
+    rule: &mut SaxikoRoute,
+) -> i32
+    ensures found { Asks (λ f. FindsNext addr depth rule.old rule.new f.table.rules)
+        (rule.new ≡ rule.old) handle.old.table result }
+    ensures same { handle.new.table ≡ handle.old.table }
+{
+    match take(alloc, handle) {
+        Some(fib) => {
+            let status = walk::next_of_table(&fib, addr, depth, rule);
+            put(handle, fib);
+            status
+        }
+        None => EINVAL,
+    }
+}
+
+/// Stores the first rule of a running table.
+#[unsafe(no_mangle)]
+pub extern "C" fn saxiko_proved_writer_first_rule(
+    alloc: Global,
+    handle: &mut SaxikoWriter,
+    rule: &mut SaxikoRoute,
+) -> i32
+    ensures found { Asks (λ o. FindsFirst rule.old rule.new o.writer.table.rules) (rule.new ≡ rule.old)
+        handle.old.kept result }
+    ensures same { handle.new.kept ≡ handle.old.kept }
+{
+    match take_owner(alloc, handle) {
+        Some(owner) => {
+            let status = walk::first_of_writer(&owner, rule);
+            put_owner(handle, owner);
+            status
+        }
+        None => EINVAL,
+    }
+}
+
+/// Stores the rule of a running table that comes next after a prefix.
+#[unsafe(no_mangle)]
+pub extern "C" fn saxiko_proved_writer_next_rule(
+    alloc: Global,
+    handle: &mut SaxikoWriter,
+    addr: u32,
+    depth: u8,
+    rule: &mut SaxikoRoute,
+) -> i32
+    ensures found { Asks (λ o. FindsNext addr depth rule.old rule.new o.writer.table.rules)
+        (rule.new ≡ rule.old) handle.old.kept result }
+    ensures same { handle.new.kept ≡ handle.old.kept }
+{
+    match take_owner(alloc, handle) {
+        Some(owner) => {
+            let status = walk::next_of_writer(&owner, addr, depth, rule);
+            put_owner(handle, owner);
+            status
+        }
+        None => EINVAL,
+    }
+}
