@@ -74,6 +74,7 @@ opening_rests f g config = record {
     linked = λ group block linked. tt;
     all = λ some group token waits. absurd (not_retired token waits);
   };
+  once = tt;
 }
   where
     not_retired : (token : ℕ) → Unused ≡ Retired token → ⊥

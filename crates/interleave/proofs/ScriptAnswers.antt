@@ -33,6 +33,7 @@ module _ (f s : ℕ) where
     rules = rests.version;
     represents = rests.represents;
     limbo = is_limbo c (tables c steps) l.books.groups l.books.queue.items rests.keeps.kept;
+    once = rests.between.once;
   }
 
   -- from m0 and l0 these changes were answered so, which led to m and l

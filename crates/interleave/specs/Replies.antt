@@ -17,6 +17,7 @@ use Rattle.lpm_writer.specs.declared.books.Books.{Books}
 use Rattle.lpm_writer.specs.Traced.{by_steps, AnyMemory, steps_alone}
 use Rattle.lpm_writer.specs.Resting.{state_of}
 use Rattle.lpm_writer.specs.Kept.{IsLimbo}
+use Rattle.lpm_writer.specs.Stores.{StoresOnce}
 use Rattle.lpm_writer.specs.Synchronizing.{AreStopped, Synchronizes}
 use Rattle.interleave.specs.declared.reply.Reply.{Reply}
 use Rattle.interleave.specs.declared.reply.Reply.TheVariants.{Put, Deleted, Flushed, Reclaimed, Synchronized, Refused}
@@ -39,12 +40,14 @@ Waits c n x z = AreStopped AnyMemory c n (steps_alone (BumpToken ∷ x)) (next_t
 
 -- what a writer keeps between its changes is what its steps say: each update that was begun is done,
 -- the rules are those of the last version, the words represent them (so the groups linked are the
--- blocks of rules longer than f bits), and these groups wait in limbo
+-- blocks of rules longer than f bits), these groups wait in limbo, and in no update was a word stored
+-- twice
 pub record IsAtRest (f g : ℕ) (c : Setup) (s : Kept) : Type 0 where
   pub begun : s.begun ≡ done (tables c s.readers)
   pub rules : (tables c s.readers).history (done (tables c s.readers)) ≡ s.rules
   pub represents : Represents f g s.rules (tables c s.readers).words
   pub limbo : IsLimbo c (tables c s.readers) s.limbo
+  pub once : StoresOnce s.readers
 
 -- there are tokens for all groups; a synchronize takes no version
 abbrev pub HasTokensLeft : Setup → Config → Kept → Type 0
