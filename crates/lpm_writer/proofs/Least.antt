@@ -90,9 +90,11 @@ module _ (f s : ℕ) (c : Setup) (later : List WriterStep) (config : Config) (ru
 pub takes_least : (f s : ℕ) (c : Setup) (steps later : List WriterStep) (config config' : Config) (rules rules' : RuleList) (books new : Books) (begun begun' : ℕ)
     → IsResting f s c steps config rules books begun → IsResting f s c later config' rules' new begun' → LinksLeast books.groups new.groups
     → TakesLeast c (state_of rules.rules steps books begun) (state_of rules'.rules later new begun')
-takes_least f s c steps later config config' rules rules' books new begun begun' before after least block group lower has had_not below =
-    let at = is_linked_to f s c later config' rules' new begun' after block group has in
-    elim (least group block at) [
-      | inl was ↦ absurd (had_not (has_group f s c steps config rules books begun before block group was))
-      | inr none ↦ all_below f s c later config' rules' new begun' after group block lower at none below
-    ]
+takes_least f s c steps later config config' rules rules' books new begun begun' before after links = record {
+  least = λ block group lower has had_not below.
+      let at = is_linked_to f s c later config' rules' new begun' after block group has in
+      elim (links group block at) [
+        | inl was ↦ absurd (had_not (has_group f s c steps config rules books begun before block group was))
+        | inr none ↦ all_below f s c later config' rules' new begun' after group block lower at none below
+      ];
+}

@@ -2,13 +2,14 @@
 -- tbl8 group is taken, and else the defer queue is reclaimed first).
 use Rattle.std.specs.Prelude.{ℕ, ◌≡◌, ◌/◌, ◌^◌, ◌<◌, ◌≤◌, ◌⊎◌, IsSome, List, [], ◌∷◌, slice_get, Option, Some, None, MatchOption, Result, Ok, Err, Contains}
 use Rattle.lpm_bits.specs.Network.{Network}
+use Rattle.lpm_entry.specs.Words.{group_in}
 use Rattle.lpm_groups.specs.declared.GroupState.{GroupState}
 use Rattle.lpm_groups.specs.States.{free_count, IsLeastFree, IsFreeAt, IsLinkedTo}
 use Rattle.lpm_limits.specs.declared.busy.Busy.{Busy}
 use Rattle.lpm_update.specs.Linked.{group_at}
 use Rattle.fib_model.specs.State.{State, Transitions}
 use Rattle.lpm_trace.specs.declared.step.WriterStep.{WriterStep}
-use Rattle.lpm_trace.specs.Tables.{Setup, Retired, tables, IsUpdating}
+use Rattle.lpm_trace.specs.Tables.{Setup, Retired, tables, first_entry, IsUpdating}
 use Rattle.lpm_writer.specs.declared.books.Books.{Books}
 use Rattle.lpm_writer.specs.Waiting.{IsTaken, tokens_of}
 use Rattle.lpm_writer.specs.Kept.{IsIdle, Keeps}
@@ -73,7 +74,7 @@ LinksLeast old new = (group block : ℕ) → IsLinkedTo new group block
 -- after these steps the block has this group, by its word
 abbrev pub HasGroup : Setup → List WriterStep → ℕ → ℕ → Type 0
 HasGroup c steps block group =
-    (block < 2 ^ c.first) × (group_at (tables c steps).words.firsts block ≡ Some group)
+    (block < 2 ^ c.first) × (group_in (first_entry (tables c steps).words block) ≡ Some group)
 
 -- the group isn't free: a block has it, or it waits in limbo, under the token of its unlinking
 abbrev pub IsOccupied : Setup → State (List WriterStep) → ℕ → Type 0
@@ -82,7 +83,7 @@ IsOccupied c s group = ((block : ℕ) × HasGroup c s.readers block group)
 
 -- A block that gets a group in a command, which leads from s to z, gets the least that is free: each
 -- group of a lower number is occupied.
-abbrev pub TakesLeast : Setup → State (List WriterStep) → State (List WriterStep) → Type 0
-TakesLeast c s z = (block group lower : ℕ)
-    → HasGroup c z.readers block group → ¬ HasGroup c s.readers block group
-    → lower < group → IsOccupied c z lower
+pub record TakesLeast (c : Setup) (s z : State (List WriterStep)) : Type 0 where
+  pub least : (block group lower : ℕ)
+      → HasGroup c z.readers block group → ¬ HasGroup c s.readers block group
+      → lower < group → IsOccupied c z lower
