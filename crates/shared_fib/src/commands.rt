@@ -2,6 +2,7 @@
 
 ghost use Rattle.std.specs.Prelude.{ℕ, ◌≡◌, List, take};
 ghost use Rattle.fib_model.specs.Outcomes.{Adds, Deletes, Flushes, Frees};
+ghost use Rattle.lpm_writer.specs.Taking.{TakesLeast};
 ghost use Rattle.lpm_writer.specs.Traced.{by_steps};
 ghost use Rattle.lpm_writer.specs.Waiting.{tokens_of};
 ghost use Rattle.shared_words.specs.Opened.{setup_of};
@@ -33,6 +34,8 @@ pub(crate) fn add_over<const FIRST: u32, const SECOND: u32>(
     ensures adds { Adds (by_steps (setup_of memory.old.view.opening)) FIRST SECOND ledger.old.config
         (state_by ledger.old memory.old.view) prefix.now hop result
         (state_by ledger.new memory.new.view) }
+    ensures least { TakesLeast (setup_of memory.old.view.opening)
+        (state_by ledger.old memory.old.view) (state_by ledger.new memory.new.view) }
     ensures rests { RestsBy FIRST SECOND ledger.new memory.new.view }
     ensures name { memory.new.name ≡ memory.old.name }
     ensures table { memory.new.table ≡ memory.old.table }
@@ -54,6 +57,8 @@ pub(crate) fn add_by<const FIRST: u32, const SECOND: u32>(
     ensures adds { Adds (by_steps (setup_of seat.old.view.opening)) FIRST SECOND
         ledger.old.config (state_by ledger.old seat.old.view) prefix.now hop result
         (state_by ledger.new seat.new.view) }
+    ensures least { TakesLeast (setup_of seat.old.view.opening)
+        (state_by ledger.old seat.old.view) (state_by ledger.new seat.new.view) }
     ensures ready { IsReady FIRST SECOND ledger.new seat.new.view }
     ensures seat { seat.new.table ≡ seat.old.table }
     ensures view { OnlySees seat.old.view seat.new.view }

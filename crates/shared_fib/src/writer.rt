@@ -2,6 +2,7 @@
 
 ghost use Rattle.std.specs.Prelude.{ℕ, ◌≡◌, List, take};
 ghost use Rattle.fib_model.specs.Outcomes.{Adds, Deletes, Flushes, Frees};
+ghost use Rattle.lpm_writer.specs.Taking.{TakesLeast};
 ghost use Rattle.lpm_writer.specs.Traced.{by_steps};
 ghost use Rattle.shared_words.specs.Rule.{IsLater};
 ghost use Rattle.shared_fib.specs.Freeing.{FreesChecked};
@@ -62,8 +63,8 @@ impl<const FIRST: u32, const SECOND: u32> Writer<FIRST, SECOND> {
     /// Adds a rule, or gives the prefix's rule another next hop. A rule that is there already stays, and is
     /// `Unchanged`, whatever else holds.
     ///
-    /// A rule longer than `FIRST` bits that is the first in its block takes a group. Where none is free, it
-    /// takes the oldest in limbo, once its check has passed.
+    /// A rule longer than `FIRST` bits that is the first in its block takes the free group of the least
+    /// number. Where none is free, it takes the oldest in limbo, once its check has passed.
     ///
     /// The refusals, in the order of the checks: `Exhausted`; `TooManyRules` and `Memory`, where a new
     /// rule has no room; and `NoGroups`, where a rule longer than `FIRST` bits is the first in its block,
@@ -78,6 +79,7 @@ impl<const FIRST: u32, const SECOND: u32> Writer<FIRST, SECOND> {
         requires own { self.old.identity ≡ table.now }
         ensures adds { Adds (by_steps (setup table.now)) FIRST SECOND self.old.config
             self.old.table prefix.now hop result self.new.table }
+        ensures least { TakesLeast (setup table.now) self.old.table self.new.table }
         ensures checked { (freed : List ℕ)
             × FreesChecked (setup table.now) self.old.table self.new.table freed }
         ensures later { IsLater (steps_of self.old) (steps_of self.new) }

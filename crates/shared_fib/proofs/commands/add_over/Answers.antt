@@ -2,8 +2,10 @@ use Rattle.std.proofs.Common.{◌≡◌, ap, List}
 use Rattle.lpm_trace.specs.declared.step.WriterStep.{WriterStep}
 use Rattle.lpm_trace.specs.Tables.{Setup}
 use Rattle.fib_model.specs.Outcomes.{Adds}
+use Rattle.lpm_writer.specs.Taking.{TakesLeast}
 use Rattle.lpm_writer.specs.Traced.{by_steps}
 use Rattle.lpm_writer.specs.Resting.{IsResting, state_of}
+use Rattle.lpm_writer.proofs.Least.{takes_least}
 use Rattle.shared_words.specs.Opened.{setup_of}
 use Rattle.shared_memory.specs.Lent.{Lent}
 use Rattle.shared_fib.proofs.Seated.{Kept, kept, added, only_sees, rests_after, outcome_after}
@@ -26,10 +28,16 @@ returns g c =
     let Outcome : List WriterStep → Type 0 = λ later. Adds (by_steps setup) f s old.config
     (state_of old.rules.rules m.view.seen old.books old.versions) c.args.prefix.now c.args.hop c.add.result
     (state_of new.rules.rules later new.books new.versions) in
+    let Least : List WriterStep → Type 0 = λ later. TakesLeast setup
+    (state_of old.rules.rules m.view.seen old.books old.versions)
+    (state_of new.rules.rules later new.books new.versions) in
+    let least = takes_least f s setup m.view.seen came.0 old.config new.config old.rules new.rules
+    old.books new.books old.versions new.versions c.requires.rests came.2 c.add.ensures.least in
     let Rests : Setup → List WriterStep → Type 0 = λ by later.
     IsResting f s by later new.config new.rules new.books new.versions in
     record {
       adds = outcome_after Outcome z setup came.0 came.1 all.0;
+      least = outcome_after Least z setup came.0 came.1 least;
       rests = rests_after Rests z setup came.0 came.1 came.2;
       name = ap (λ (k : Kept). k.0) same;
       table = ap (λ (k : Kept). k.1.0) same;
