@@ -11,6 +11,7 @@ ghost use Rattle.lpm_trace.specs.declared.step.WorkerStep.TheVariants.{StoreOffl
 ghost use Rattle.lpm_trace.specs.Laws.{IsChecked};
 ghost use Rattle.lpm_writer.specs.Opening.{opening_setup};
 ghost use Rattle.lpm_writer.specs.Synchronizing.{Synchronizes};
+ghost use Rattle.lpm_writer.specs.Taking.{TakesLeast};
 ghost use Rattle.lpm_writer.specs.Traced.{AnyMemory, by_steps, steps_alone};
 ghost use Rattle.shared_words.specs.Rule.{IsLater};
 ghost use Rattle.shared_fib.specs.Freeing.{FreesChecked};
@@ -164,8 +165,8 @@ impl Owner {
     /// Adds a rule, or gives the prefix's rule another next hop. A rule that is there already stays, and is
     /// `Unchanged`, whatever else holds.
     ///
-    /// A rule longer than 24 bits that is the first in its block of 256 addresses takes a group. Where none
-    /// is free, it takes the oldest in limbo, once its check has passed.
+    /// A rule longer than 24 bits that is the first in its block of 256 addresses takes the free group of
+    /// the least number. Where none is free, it takes the oldest in limbo, once its check has passed.
     ///
     /// The refusals, in the order of the checks: `Exhausted`; `TooManyRules` and `Memory`, where a new rule
     /// has no room; and `NoGroups`, where a rule longer than 24 bits is the first in its block, no group is
@@ -173,6 +174,8 @@ impl Owner {
     pub fn add(&mut self, prefix: &Prefix, hop: Hop) -> Result<Put, Refusal>
         ensures adds { Adds (by_steps (setup self.old.writer.identity)) 24 8 self.old.writer.config
             self.old.writer.table prefix.now hop result self.new.writer.table }
+        ensures least { TakesLeast (setup self.old.writer.identity)
+            self.old.writer.table self.new.writer.table }
         ensures checked { (freed : List ℕ) × FreesChecked (setup self.old.writer.identity)
             self.old.writer.table self.new.writer.table freed }
         ensures later { IsLater (steps_of self.old.writer) (steps_of self.new.writer) }
@@ -192,6 +195,8 @@ impl Owner {
             × MatchResult result (λ _. IsOk put) (λ error. put ≡ Err error)
             × Adds (by_steps (setup self.old.writer.identity)) 24 8 self.old.writer.config
             self.old.writer.table prefix.now hop put self.new.writer.table }
+        ensures least { TakesLeast (setup self.old.writer.identity)
+            self.old.writer.table self.new.writer.table }
         ensures checked { (freed : List ℕ) × FreesChecked (setup self.old.writer.identity)
             self.old.writer.table self.new.writer.table freed }
         ensures later { IsLater (steps_of self.old.writer) (steps_of self.new.writer) }

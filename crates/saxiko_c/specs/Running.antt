@@ -13,6 +13,7 @@ use Rattle.fib_model.specs.Outcomes.{groups_in_use}
 use Rattle.fib_model.specs.Outcomes as outcomes
 use Rattle.lpm_trace.specs.declared.step.WorkerStep.TheVariants.{LoadOnline, StoreOnline, LoadQuiescent, StoreQuiescent, StoreOffline}
 use Rattle.lpm_writer.specs.Opening.{opening_setup}
+use Rattle.lpm_writer.specs.Taking.{TakesLeast}
 use Rattle.lpm_writer.specs.Traced.{by_steps}
 use Rattle.shared_fib.specs.Freeing.{FreesChecked}
 use Rattle.shared_fib.specs.Passes.{PassState, IsFullBench, IsPassOf, LooksUp, Makes}
@@ -53,6 +54,7 @@ AddsTo addr depth hop o status p =
     ⊎ ((depth ≤ 32) × (hop < 16777216) × (r : Result Put Refusal)
     × outcomes.Adds (by_steps (setup o.writer.identity)) 24 8 o.writer.config o.writer.table
     (prefix_of 32 depth addr) hop r p.writer.table
+    × TakesLeast (setup o.writer.identity) o.writer.table p.writer.table
     × Changes o p × (status ≡ add_status r))
 
 abbrev pub DeletesFrom : ℕ → ℕ → ℕ → ℕ → OwnerState → ℤ → OwnerState → Type 0

@@ -7,6 +7,7 @@ ghost use Rattle.fib_model.specs.Outcomes.{Adds, Deletes, Flushes, Frees, groups
 ghost use Rattle.lpm_limits.specs.Limits.{IsConfig};
 ghost use Rattle.lpm_trace.specs.declared.step.WorkerStep.TheVariants.{StoreOffline};
 ghost use Rattle.lpm_writer.specs.Opening.{opening_setup};
+ghost use Rattle.lpm_writer.specs.Taking.{TakesLeast};
 ghost use Rattle.lpm_writer.specs.Traced.{by_steps};
 ghost use Rattle.lpm_rules.specs.Listed.{AreInOrder, rules_of};
 ghost use Rattle.lpm_rules.specs.Walking.{IsNextRule};
@@ -153,8 +154,8 @@ impl Owner {
     /// Adds a rule, or gives the prefix's rule another next hop. A rule that is there already stays, and is
     /// `Unchanged`, whatever else holds.
     ///
-    /// A rule longer than 24 bits that is the first in its block of 256 addresses takes a group. Where none is free, it
-    /// takes the oldest in limbo, once its check has passed.
+    /// A rule longer than 24 bits that is the first in its block of 256 addresses takes the free group of the least
+    /// number. Where none is free, it takes the oldest in limbo, once its check has passed.
     ///
     /// The refusals, in the order of the checks: `Exhausted`; `TooManyRules` and `Memory`, where a new rule has no
     /// room; and `NoGroups`, where a rule longer than 24 bits is the first in its block, no group is free, and the
@@ -162,6 +163,8 @@ impl Owner {
     pub fn add(&mut self, prefix: &Prefix<24, 8>, hop: Hop) -> Result<Put, Refusal>
         ensures adds { Adds (by_steps (setup self.old.writer.identity)) 24 8 self.old.writer.config
             self.old.writer.table prefix.now hop result self.new.writer.table }
+        ensures least { TakesLeast (setup self.old.writer.identity)
+            self.old.writer.table self.new.writer.table }
         ensures checked { (freed : List ℕ) × FreesChecked (setup self.old.writer.identity)
             self.old.writer.table self.new.writer.table freed }
         ensures own { self.new.writer.identity ≡ self.old.writer.identity }
