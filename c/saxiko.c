@@ -5,9 +5,9 @@
 #include <stdatomic.h>
 
 /* The proved part has these numbers of Linux. */
-_Static_assert(EPERM == 1 && ENOENT == 2 && E2BIG == 7 && ENOMEM == 12 && EBUSY == 16 && EINVAL == 22 && ENOSPC == 28,
+_Static_assert(EPERM == 1 && ENOENT == 2 && E2BIG == 7 && EAGAIN == 11 && ENOMEM == 12 && EBUSY == 16,
                "error numbers");
-_Static_assert(EDOM == 33 && EOVERFLOW == 75 && EALREADY == 114, "error numbers");
+_Static_assert(EINVAL == 22 && ENOSPC == 28 && EDOM == 33 && EOVERFLOW == 75 && EALREADY == 114, "error numbers");
 /* It has these layouts. */
 _Static_assert(sizeof(bool) == 1 && sizeof(size_t) == 8, "an x86-64 of Linux");
 
@@ -37,6 +37,8 @@ DECLARE(writer_first_rule, struct saxiko_writer *, struct saxiko_route *);
 DECLARE(writer_next_rule, struct saxiko_writer *, uint32_t, uint8_t, struct saxiko_route *);
 DECLARE(writer_counts, struct saxiko_writer *, struct saxiko_counts *);
 DECLARE(writer_reclaim, struct saxiko_writer *, size_t, size_t *, struct saxiko_held *);
+DECLARE(writer_start, struct saxiko_writer *);
+DECLARE(writer_check, struct saxiko_writer *, struct saxiko_held *);
 DECLARE(reader_register, struct saxiko_writer *, struct saxiko_reader *, uint32_t);
 DECLARE(reader_unregister, struct saxiko_writer *, struct saxiko_reader *);
 void saxiko_proved_reader_close(struct saxiko_reader *);
@@ -168,6 +170,15 @@ int32_t saxiko_writer_counts(struct saxiko_writer *writer, struct saxiko_counts 
 int32_t saxiko_writer_reclaim(struct saxiko_writer *writer, size_t max, size_t *freed, struct saxiko_held *held) {
     struct saxiko_held unasked;
     return writer && freed ? saxiko_proved_writer_reclaim(writer, max, freed, held ? held : &unasked) : -EINVAL;
+}
+
+int32_t saxiko_writer_start(struct saxiko_writer *writer) {
+    return writer ? saxiko_proved_writer_start(writer) : -EINVAL;
+}
+
+int32_t saxiko_writer_check(struct saxiko_writer *writer, struct saxiko_held *held) {
+    struct saxiko_held unasked;
+    return writer ? saxiko_proved_writer_check(writer, held ? held : &unasked) : -EINVAL;
 }
 
 int32_t saxiko_reader_register(struct saxiko_writer *writer, struct saxiko_reader *reader, uint32_t number) {

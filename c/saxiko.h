@@ -56,7 +56,7 @@ struct saxiko_config {
 struct saxiko_counts {
     uint64_t rules;
     uint64_t versions;       /* the changes that made a version of the rules */
-    uint64_t token;          /* 1 at first, and for each group that was given up one more */
+    uint64_t token;          /* 1 at first, and for each group that was given up and each grace period one more */
     uint64_t groups_in_use;
     uint64_t groups_waiting; /* given up, and not free until no reader can hold them */
     uint64_t groups_free;
@@ -168,13 +168,15 @@ struct saxiko_reader {
     uint64_t number; /* which table */
 };
 
-/* The reader that keeps the oldest group that waits from being free, and the token of its last report. */
+/* The reader that keeps the oldest group that waits from being free, or a grace period from being over, and the token of
+ * its last report. */
 struct saxiko_held {
     uint64_t reader;
     uint64_t counter;
 };
 
-/* What a reclaim returns, beside 0, where a reader holds the next group that waits. */
+/* What a reclaim or a check returns, beside 0, where a reader holds the next group that waits, or may hold what was given
+ * up before the grace period. */
 #define SAXIKO_HELD 1
 
 /* Opens a running table without rules, and its writer. Refused as saxiko_table_open. On any thread, which is the writer's
@@ -202,6 +204,16 @@ int32_t saxiko_writer_counts(struct saxiko_writer *writer, struct saxiko_counts 
 /* Frees at most `max` groups that wait, the oldest first, up to one that a reader holds, and stores how many. It returns
  * SAXIKO_HELD where a reader holds the next one, which `held` names then; `held` may be null. On the writer's thread. */
 int32_t saxiko_writer_reclaim(struct saxiko_writer *writer, size_t max, size_t *freed, struct saxiko_held *held);
+
+/* Starts a grace period, which is over once each reader has reported or was offline, as rte_rcu_qsbr_start. While it lasts
+ * the table isn't changed: add, delete, flush, reclaim, get and counts of the writer are -EAGAIN. All calls of readers, and
+ * closing, are as ever. -EALREADY: a grace period lasts. -EOVERFLOW: fewer tokens of 2^62 are left than there are groups. */
+int32_t saxiko_writer_start(struct saxiko_writer *writer);
+
+/* Checks once whether the grace period is over, as rte_rcu_qsbr_check does where it is not to wait. It is 0 where no reader
+ * can hold what was given up before: the table can be changed again. It returns SAXIKO_HELD where a reader may, which `held`
+ * names then; `held` may be null. -EPERM: no grace period lasts. */
+int32_t saxiko_writer_check(struct saxiko_writer *writer, struct saxiko_held *held);
 
 /* Opens a reader of this number, from 0 to `readers` - 1, which is offline. The writer's thread calls it, and may hand
  * the handle to another thread. -EINVAL: there is no such number. -EBUSY: the number has a reader, or the reader's handle

@@ -9,8 +9,8 @@
 #include "calls_walk.h"
 
 static void texts(void) {
-    static const int32_t statuses[] = {0, 1, 2, -EPERM, -ENOENT, -E2BIG, -ENOMEM, -EBUSY, -EINVAL, -ENOSPC, -EDOM,
-                                       -EOVERFLOW, -EALREADY};
+    static const int32_t statuses[] = {0, 1, 2, -EPERM, -ENOENT, -E2BIG, -EAGAIN, -ENOMEM, -EBUSY, -EINVAL, -ENOSPC,
+                                       -EDOM, -EOVERFLOW, -EALREADY};
     for (size_t k = 0; k < sizeof statuses / sizeof *statuses; k++)
         CHECK(strcmp(saxiko_strerror(statuses[k]), "unknown status") != 0, 1);
     CHECK(strcmp(saxiko_strerror(-9999), "unknown status"), 0);

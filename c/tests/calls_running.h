@@ -67,6 +67,8 @@ static void running_missing(struct saxiko_writer *open_writer, struct saxiko_rea
         CHECK(saxiko_writer_get(no_writer[k], 0, 0, &hop), -EINVAL);
         CHECK(saxiko_writer_counts(no_writer[k], &counts), -EINVAL);
         CHECK(saxiko_writer_reclaim(no_writer[k], 1, &number, &held), -EINVAL);
+        CHECK(saxiko_writer_start(no_writer[k]), -EINVAL);
+        CHECK(saxiko_writer_check(no_writer[k], &held), -EINVAL);
         CHECK(saxiko_reader_register(no_writer[k], &reader, 0), -EINVAL);
         CHECK(saxiko_reader_unregister(no_writer[k], open_reader), -EINVAL);
         CHECK(saxiko_reader_unregister(open_writer, no_reader[k]), -EINVAL);
@@ -170,6 +172,71 @@ static void holding(struct saxiko_writer *writer, struct saxiko_reader *reader) 
     CHECK(saxiko_writer_add(writer, A(10, 1, 3, 0), 26, 5), SAXIKO_ADDED);
     CHECK(saxiko_writer_add(writer, A(10, 1, 4, 0), 27, 6), -ENOSPC);
     check_writer(writer, __LINE__, 2, 2, 0, 0, 4);
+}
+
+/* While a grace period lasts the writer changes and tells nothing; readers go on. */
+static void waiting(struct saxiko_writer *writer, struct saxiko_reader *reader) {
+    struct saxiko_held held = {UNTOUCHED, UNTOUCHED};
+    struct saxiko_counts counts = {UNTOUCHED, 0, 0, 0, 0, 0};
+    size_t number = UNTOUCHED;
+    CHECK(saxiko_writer_start(writer), -EALREADY);
+    CHECK(saxiko_writer_open(writer, &running_limits), -EBUSY);
+    CHECK(saxiko_writer_add(writer, 0, 0, 1), -EAGAIN);
+    CHECK(writer_deleted(writer, A(10, 1, 1, 128), 25), -EAGAIN);
+    CHECK(saxiko_writer_flush(writer, &number), -EAGAIN);
+    CHECK(saxiko_writer_reclaim(writer, 2, &number, &held), -EAGAIN);
+    CHECK(writer_held(writer, A(10, 1, 1, 128), 25), -EAGAIN);
+    CHECK(saxiko_writer_counts(writer, &counts), -EAGAIN);
+    CHECK(number, UNTOUCHED);
+    CHECK(held.reader, UNTOUCHED);
+    CHECK(counts.rules, UNTOUCHED);
+    CHECK(read_hop(reader, A(10, 1, 1, 128)), 3);
+}
+
+/* A grace period is over once the reader that was online has reported, or is offline. */
+static void grace_periods(struct saxiko_writer *writer, struct saxiko_reader *reader) {
+    struct saxiko_held held = {UNTOUCHED, UNTOUCHED};
+    struct saxiko_counts counts;
+    CHECK(saxiko_writer_check(writer, &held), -EPERM);
+    CHECK(held.reader, UNTOUCHED);
+    CHECK(saxiko_writer_start(writer), 0);
+    waiting(writer, reader);
+    CHECK(saxiko_writer_check(writer, NULL), SAXIKO_HELD);
+    CHECK(saxiko_writer_check(writer, &held), SAXIKO_HELD);
+    CHECK(held.reader, 0);
+    CHECK(held.counter, 2);
+    CHECK(saxiko_reader_quiescent(reader), 0);
+    held.reader = UNTOUCHED;
+    CHECK(saxiko_writer_check(writer, &held), 0);
+    CHECK(held.reader, UNTOUCHED);
+    CHECK(saxiko_writer_check(writer, &held), -EPERM);
+    CHECK(saxiko_writer_start(writer), 0);
+    CHECK(saxiko_reader_offline(reader), 0);
+    CHECK(saxiko_writer_check(writer, NULL), 0);
+    CHECK(saxiko_reader_online(reader), 0);
+    check_writer(writer, __LINE__, 2, 2, 0, 0, 4);
+    CHECK(saxiko_writer_counts(writer, &counts), 0);
+    CHECK(counts.token, 4);
+}
+
+/* Readers come and go while a grace period lasts, and a writer may be closed in one. */
+static void readers_in_grace(void) {
+    struct saxiko_writer writer = SAXIKO_CLOSED;
+    struct saxiko_reader reader = SAXIKO_CLOSED;
+    CHECK(saxiko_writer_open(&writer, &running_limits), 0);
+    CHECK(saxiko_writer_start(&writer), 0);
+    CHECK(saxiko_reader_register(&writer, &reader, 1), 0);
+    CHECK(saxiko_reader_unregister(&writer, &reader), 0);
+    CHECK(saxiko_writer_check(&writer, NULL), 0);
+    CHECK(saxiko_reader_register(&writer, &reader, 1), 0);
+    CHECK(saxiko_reader_online(&reader), 0);
+    CHECK(saxiko_writer_start(&writer), 0);
+    CHECK(saxiko_writer_check(&writer, NULL), SAXIKO_HELD);
+    CHECK(saxiko_reader_unregister(&writer, &reader), 0);
+    CHECK(saxiko_writer_check(&writer, NULL), 0);
+    CHECK(saxiko_writer_start(&writer), 0);
+    saxiko_writer_close(&writer);
+    CHECK(saxiko_writer_check(&writer, NULL), -EINVAL);
 }
 
 static void writer_changes(struct saxiko_writer *writer, struct saxiko_reader *reader) {
@@ -277,6 +344,8 @@ static void running_calls(void) {
     running_missing(&writer, &reader);
     foreign(&writer, &reader);
     holding(&writer, &reader);
+    grace_periods(&writer, &reader);
+    readers_in_grace();
     writer_changes(&writer, &reader);
     /* The reader goes on without the writer. */
     CHECK(saxiko_writer_add(&writer, A(10, 0, 0, 0), 8, 1), SAXIKO_ADDED);

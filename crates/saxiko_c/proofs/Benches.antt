@@ -15,9 +15,9 @@ set_back {X} xs k x y e =
 -- the owner is as it was before
 pub as_before : (o p q : OwnerState) (k : ℕ) (reader given left : PassState) → given ≡ reader → reader.worker ≡ k
     → reader.online ≡ false → slice_get o.bench k ≡ Some (Some reader) → p.bench ≡ set o.bench k None
-    → p.writer ≡ o.writer → q.bench ≡ set p.bench given.worker (Some left)
-    → (given.online ≡ false → left ≡ given) → q.writer ≡ p.writer → q ≡ o
-as_before o p q k reader given left same worker offline was handed pw back leaves qw =
+    → p.writer ≡ o.writer → p.waits ≡ o.waits → q.bench ≡ set p.bench given.worker (Some left)
+    → (given.online ≡ false → left ≡ given) → q.writer ≡ p.writer → q.waits ≡ p.waits → q ≡ o
+as_before o p q k reader given left same worker offline was handed pw ps back leaves qw qs =
     let at : given.worker ≡ k = ap (λ (r : PassState). r.worker) same ∙ worker in
     let is : left ≡ reader = leaves (ap (λ (r : PassState). r.online) same ∙ offline) ∙ same in
     let bench : q.bench ≡ o.bench = back
@@ -26,4 +26,5 @@ as_before o p q k reader given left same worker offline was handed pw back leave
     ∙ ap (λ (xs : List (Option PassState)). set xs k (Some reader)) handed
     ∙ set_back o.bench k None (Some reader) was in
     let writer = qw ∙ pw in
-    λ i. record { writer = writer i; bench = bench i }
+    let waits = qs ∙ ps in
+    λ i. record { writer = writer i; waits = waits i; bench = bench i }

@@ -1,10 +1,12 @@
 pub mod Calls
+pub mod Grace
 pub mod Limits
 pub mod Loads
 pub mod Opened
 pub mod Owned
 pub mod Owners
 pub mod Running
+pub mod Stages
 pub mod Status
 pub mod Table
 pub mod Walking

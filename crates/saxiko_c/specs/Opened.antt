@@ -1,5 +1,5 @@
 -- Meaning: a running table that opens with the routes of a list (this project's).
-use Rattle.std.specs.Prelude.{ℕ, ℤ, ◌≡◌, ◌≤◌, Option, Some, None, List}
+use Rattle.std.specs.Prelude.{ℕ, ℤ, ◌≡◌, ◌≤◌, false, Option, Some, None, List}
 use Rattle.std.specs.FinMap.{len}
 use Rattle.lpm_rules.specs.RuleMap.{RuleMap}
 use Rattle.lpm_limits.specs.Limits.{IsConfig}
@@ -12,10 +12,11 @@ use Rattle.saxiko_c.specs.Status.{done, busy}
 use Rattle.saxiko_c.specs.Loads.{IsUnloaded, rules_of_routes}
 use Rattle.saxiko_c.specs.declared.records.SaxikoRoute.{SaxikoRoute}
 
--- a table with these rules as version 0, of which no reader is handed out
+-- a table with these rules as version 0, of which no reader is handed out, and no grace period lasts
 pub record IsOpenedWith (c : Config) (R : RuleMap) (o : OwnerState) : Type 0 where
   pub opened : o.writer ≡ opens_with o.writer.identity c R
   pub workers : o.writer.identity.opening.workers ≡ c.workers
+  pub at_rest : o.waits ≡ false
   pub bench : IsFullBench o.writer.identity o.bench
   pub limits : IsConfig c
   pub rules_fit : len R ≤ c.rules

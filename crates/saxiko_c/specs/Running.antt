@@ -26,11 +26,12 @@ use Rattle.saxiko_c.specs.declared.records.SaxikoHeld.{SaxikoHeld}
 
 -- ---- the writer
 
--- a table without rules, of which no reader is handed out
+-- a table without rules, of which no reader is handed out, and no grace period lasts
 pub record IsOpened (c : Config) (o : OwnerState) : Type 0 where
   pub opened : o.writer ≡ opens_with o.writer.identity c empty
   pub setup : setup o.writer.identity ≡ opening_setup 24 8 c
   pub workers : o.writer.identity.opening.workers ≡ c.workers
+  pub at_rest : o.waits ≡ false
   pub bench : IsFullBench o.writer.identity o.bench
   pub limits : IsConfig c
 
@@ -108,6 +109,7 @@ pub record IsRegistered (number : ℕ) (o : OwnerState) (reader : PassState) (p 
   pub was : slice_get o.bench number ≡ Some (Some reader)
   pub handed : p.bench ≡ slice_set o.bench number None
   pub same : p.writer ≡ o.writer
+  pub stage : p.waits ≡ o.waits
 
 -- no reader was handed out: EINVAL exactly where there is no such number, EBUSY exactly where it has a reader, or ENOMEM
 abbrev pub IsUnregistered : ℕ → OwnerState → ℤ → OwnerState → Type 0
@@ -133,6 +135,7 @@ GivesBack reader o status p = (status ≡ done) × (left : PassState)
     × (reader.online ≡ true → (place : ℕ) × Makes ((StoreOffline, place) ∷ []) reader left)
     × (reader.online ≡ false → left ≡ reader)
     × (p.writer ≡ o.writer)
+    × (p.waits ≡ o.waits)
 
 abbrev pub Unregisters : Option OwnerState → Option PassState → ℤ → Option OwnerState → Option PassState → Type 0
 Unregisters None kept status p reader = (status ≡ invalid) × (p ≡ None) × (reader ≡ kept)

@@ -4,6 +4,8 @@
 //! handed the handle; `saxiko.h` says who may call what.
 #![tactic(auto)]
 
+mod grace;
+mod grace_calls;
 mod loading;
 mod loose;
 mod owner;
@@ -12,6 +14,7 @@ mod reader_handle;
 mod records;
 mod running;
 mod running_calls;
+mod stage;
 mod status;
 mod table;
 mod table_calls;
@@ -20,6 +23,7 @@ mod walk;
 mod walk_calls;
 mod writer_handle;
 
+pub use grace_calls::{saxiko_proved_writer_check, saxiko_proved_writer_start};
 pub use reader_handle::SaxikoReader;
 pub use records::{SaxikoConfig, SaxikoCounts, SaxikoHeld, SaxikoRoute};
 pub use running_calls::{

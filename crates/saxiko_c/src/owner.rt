@@ -18,6 +18,7 @@ ghost use Rattle.shared_fib.specs.Passes.{IsBenchOf, IsFullBench, IsPassOf, Make
 ghost use Rattle.shared_fib.specs.Running.{left_by, opens_with, setup};
 
 use crate::reader::Reader;
+use crate::stage::Stage;
 use defer_queue::Reclaimed;
 use lpm_bits::{Hop, Prefix};
 use lpm_groups::Counts;
@@ -29,11 +30,11 @@ use std::marker::Model;
 use std::sync::Arc;
 
 /// The owner of a running table: it changes the table, and hands its readers out. It keeps the table that its writer and
-/// its bench are of.
+/// its bench are of. While a grace period lasts the table isn't changed.
 #[derive(Drop)]
 pub struct Owner {
-    table: Arc<SharedTable<24, 8>>,
-    writer: Writer<24, 8>,
+    pub(crate) table: Arc<SharedTable<24, 8>>,
+    pub(crate) stage: Stage,
     bench: Bench,
 }
 
@@ -42,14 +43,19 @@ impl Model for Owner {
     ghost use Rattle.std.specs.Arc.{arc_value};
     ghost use Rattle.shared_fib.specs.Passes.{IsBenchOf};
     ghost use Rattle.saxiko_c.specs.Owners.{OwnerState, coded_owner};
+    ghost use Rattle.saxiko_c.specs.Stages.{IsStageOf, waits_in, writer_in};
 
     ghost Value = { OwnerState };
 
     ghost coded = { coded_owner };
 
-    ghost view = { λ o. record { writer = o.writer; bench = o.bench } };
+    ghost view = { λ o. record {
+      writer = writer_in (arc_value o.table) o.stage;
+      waits = waits_in o.stage;
+      bench = o.bench;
+    } };
 
-    ghost invariant = { λ o. (o.writer.identity ≡ arc_value o.table)
+    ghost invariant = { λ o. IsStageOf (arc_value o.table) o.stage
         × IsBenchOf (arc_value o.table) o.bench };
 }
 
@@ -58,11 +64,11 @@ impl Owner {
     fn new(table: Arc<SharedTable<24, 8>>, writer: Writer<24, 8>, bench: Bench) -> Self
         requires own { writer.identity ≡ arc_value table }
         requires bench { IsBenchOf (arc_value table) bench }
-        ensures { result ≡ record { writer = writer; bench = bench } }
+        ensures { result ≡ record { writer = writer; waits = false; bench = bench } }
     {
         Owner {
             table,
-            writer,
+            stage: Stage::AtRest(writer),
             bench,
         }
     }
@@ -75,6 +81,7 @@ impl Owner {
         ensures opened { IfOk result
             (λ owner. owner.writer ≡ opens_with owner.writer.identity config map.empty) }
         ensures workers { IfOk result (λ owner. owner.writer.identity.opening.workers ≡ config.workers) }
+        ensures at_rest { IfOk result (λ owner. owner.waits ≡ false) }
         ensures bench { IfOk result (λ owner. IsFullBench owner.writer.identity owner.bench) }
         ensures limits { IfOk result (λ _. IsConfig config) }
         ensures bad_config { IfErr result
@@ -128,6 +135,7 @@ impl Owner {
         ensures taken { IsErrOf result Refusal.Taken → (slice_get self.old.bench worker ≡ Some None) }
         ensures unchanged { OnErr result (self.new ≡ self.old) }
         ensures same { self.new.writer ≡ self.old.writer }
+        ensures stage { self.new.waits ≡ self.old.waits }
     {
         let Ok(table) = Arc::try_clone(&self.table) else {
             return Err(Refusal::Memory);
@@ -147,6 +155,7 @@ impl Owner {
             × (reader.online ≡ true → (place : ℕ) × Makes ((StoreOffline, place) ∷ []) reader p)
             × (reader.online ≡ false → p ≡ reader) }
         ensures same { self.new.writer ≡ self.old.writer }
+        ensures stage { self.new.waits ≡ self.old.waits }
     {
         self.bench.unregister(&*self.table, reader.into_pass());
     }
@@ -161,6 +170,7 @@ impl Owner {
     /// room; and `NoGroups`, where a rule longer than 24 bits is the first in its block, no group is free, and the
     /// oldest in limbo is held or there is none. It names the worker that holds that one.
     pub fn add(&mut self, prefix: &Prefix<24, 8>, hop: Hop) -> Result<Put, Refusal>
+        requires at_rest { self.old.waits ≡ false }
         ensures adds { Adds (by_steps (setup self.old.writer.identity)) 24 8 self.old.writer.config
             self.old.writer.table prefix.now hop result self.new.writer.table }
         ensures least { TakesLeast (setup self.old.writer.identity)
@@ -169,9 +179,13 @@ impl Owner {
             self.old.writer.table self.new.writer.table freed }
         ensures own { self.new.writer.identity ≡ self.old.writer.identity }
         ensures config { self.new.writer.config ≡ self.old.writer.config }
+        ensures at_rest { self.new.waits ≡ false }
         ensures bench { self.new.bench ≡ self.old.bench }
     {
-        self.writer.add(&*self.table, prefix, hop)
+        match &mut self.stage {
+            Stage::AtRest(writer) => writer.add(&*self.table, prefix, hop),
+            _ => unreachable!(),
+        }
     }
 
     /// Deletes the rule of this prefix, and returns its next hop. Its addresses go to the longest rule that is shorter
@@ -180,89 +194,128 @@ impl Owner {
     ///
     /// The refusals: `NoSuchRule`, where the prefix has no rule, and else `Exhausted`.
     pub fn delete(&mut self, prefix: &Prefix<24, 8>) -> Result<Hop, Refusal>
+        requires at_rest { self.old.waits ≡ false }
         ensures deletes { Deletes (by_steps (setup self.old.writer.identity)) 24 8
             self.old.writer.config self.old.writer.table prefix.now result self.new.writer.table }
         ensures checked { (freed : List ℕ) × FreesChecked (setup self.old.writer.identity)
             self.old.writer.table self.new.writer.table freed }
         ensures own { self.new.writer.identity ≡ self.old.writer.identity }
         ensures config { self.new.writer.config ≡ self.old.writer.config }
+        ensures at_rest { self.new.waits ≡ false }
         ensures bench { self.new.bench ≡ self.old.bench }
     {
-        self.writer.delete(&*self.table, prefix)
+        match &mut self.stage {
+            Stage::AtRest(writer) => writer.delete(&*self.table, prefix),
+            _ => unreachable!(),
+        }
     }
 
     /// Deletes all rules, as one version, and returns how many there were. With none nothing changes, and else
     /// `Exhausted` is the only refusal. The groups are given up and reclaimed as by `delete`, one after another.
     pub fn flush(&mut self) -> Result<usize, Refusal>
+        requires at_rest { self.old.waits ≡ false }
         ensures flushes { Flushes (by_steps (setup self.old.writer.identity)) 24 8
             self.old.writer.config self.old.writer.table result self.new.writer.table }
         ensures checked { (freed : List ℕ) × FreesChecked (setup self.old.writer.identity)
             self.old.writer.table self.new.writer.table freed }
         ensures own { self.new.writer.identity ≡ self.old.writer.identity }
         ensures config { self.new.writer.config ≡ self.old.writer.config }
+        ensures at_rest { self.new.waits ≡ false }
         ensures bench { self.new.bench ≡ self.old.bench }
     {
-        self.writer.flush(&*self.table)
+        match &mut self.stage {
+            Stage::AtRest(writer) => writer.flush(&*self.table),
+            _ => unreachable!(),
+        }
     }
 
     /// Frees groups that wait in limbo, from the oldest on: at most `max`, up to the first that a worker holds. It
     /// returns how many were freed, and the worker that stopped it.
     pub fn reclaim(&mut self, max: usize) -> Reclaimed
+        requires at_rest { self.old.waits ≡ false }
         ensures frees { Frees (by_steps (setup self.old.writer.identity)) self.old.writer.table max
             result self.new.writer.table }
         ensures checked { FreesChecked (setup self.old.writer.identity) self.old.writer.table
             self.new.writer.table (take result.freed self.old.writer.table.limbo) }
         ensures own { self.new.writer.identity ≡ self.old.writer.identity }
         ensures config { self.new.writer.config ≡ self.old.writer.config }
+        ensures at_rest { self.new.waits ≡ false }
         ensures bench { self.new.bench ≡ self.old.bench }
     {
-        self.writer.reclaim(&*self.table, max)
+        match &mut self.stage {
+            Stage::AtRest(writer) => writer.reclaim(&*self.table, max),
+            _ => unreachable!(),
+        }
     }
 
     /// The next hop of the rule of this very prefix; none where it has no rule.
     pub fn get(&self, prefix: &Prefix<24, 8>) -> Option<Hop>
+        requires at_rest { self.now.waits ≡ false }
         ensures { result ≡ map.get self.now.writer.table.rules prefix.now }
     {
-        self.writer.get(prefix)
+        match &self.stage {
+            Stage::AtRest(writer) => writer.get(prefix),
+            _ => unreachable!(),
+        }
     }
 
     /// The rule that comes next after a prefix in the order of prefixes, whether the prefix has a rule or not; the
     /// first rule for `None`.
     pub fn next_rule(&self, after: Option<Prefix<24, 8>>) -> Option<Rule<24, 8>>
+        requires at_rest { self.now.waits ≡ false }
         ensures { IsNextRule self.now.writer.table.rules after result }
     {
-        self.writer.next_rule(after)
+        match &self.stage {
+            Stage::AtRest(writer) => writer.next_rule(after),
+            _ => unreachable!(),
+        }
     }
 
     /// The number of rules.
     pub fn rules(&self) -> usize
+        requires at_rest { self.now.waits ≡ false }
         ensures { result ≡ map.len self.now.writer.table.rules }
     {
-        self.writer.rules()
+        match &self.stage {
+            Stage::AtRest(writer) => writer.rules(),
+            _ => unreachable!(),
+        }
     }
 
     /// The number of changes that made a version of the rule list, since the table was opened.
     pub fn versions(&self) -> u64
+        requires at_rest { self.now.waits ≡ false }
         ensures { result ≡ self.now.writer.table.begun }
     {
-        self.writer.versions()
+        match &self.stage {
+            Stage::AtRest(writer) => writer.versions(),
+            _ => unreachable!(),
+        }
     }
 
     /// The token number: that of the opening and, for each group that was given up and each synchronize, one more.
     pub fn token(&mut self) -> u64
+        requires at_rest { self.old.waits ≡ false }
         ensures same { self.new ≡ self.old }
         ensures value { result ≡ (left_by self.old.writer).token }
         ensures within { result ≤ 2 ^ 62 }
     {
-        self.writer.token(&*self.table)
+        match &mut self.stage {
+            Stage::AtRest(writer) => writer.token(&*self.table),
+            _ => unreachable!(),
+        }
     }
 
     /// How many groups are in use, in limbo and free.
     pub fn counts(&self) -> Counts
+        requires at_rest { self.now.waits ≡ false }
         ensures in_use { result.in_use ≡ groups_in_use 24 8 self.now.writer.table.rules }
         ensures limbo { result.limbo ≡ length self.now.writer.table.limbo }
         ensures all { result.in_use + result.limbo + result.free ≡ self.now.writer.config.groups }
     {
-        self.writer.counts()
+        match &self.stage {
+            Stage::AtRest(writer) => writer.counts(),
+            _ => unreachable!(),
+        }
     }
 }

@@ -57,7 +57,7 @@ pub struct SaxikoCounts {
     pub rules: u64,
     /// The changes that made a version of the rule list.
     pub versions: u64,
-    /// The token: 1, and for each group that was given up one more.
+    /// The token: 1, and for each group that was given up and each grace period one more.
     pub token: u64,
     /// The groups that rules longer than 24 bits use.
     pub groups_in_use: u64,
@@ -67,7 +67,7 @@ pub struct SaxikoCounts {
     pub groups_free: u64,
 }
 
-/// The reader that keeps a group from being free: `struct saxiko_held` in C.
+/// The reader that keeps a group from being free, or a grace period from being over: `struct saxiko_held` in C.
 #[repr(C)]
 #[derive(Clone, Copy)]
 pub struct SaxikoHeld {

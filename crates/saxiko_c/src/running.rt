@@ -1,11 +1,12 @@
 //! What the calls do with a running table.
 
-ghost use Rattle.std.specs.Prelude.{◌≡◌, MatchResult, length, true};
+ghost use Rattle.std.specs.Prelude.{◌≡◌, ⊤, MatchResult, length, true, false};
 ghost use Rattle.shared_fib.specs.Passes.{LooksUp};
 ghost use Rattle.shared_fib.specs.Running.{hop_or};
+ghost use Rattle.saxiko_c.specs.Grace.{AsksAtRest, AtRest};
 ghost use Rattle.saxiko_c.specs.Loads.{IsUnloaded, rules_of_routes};
 ghost use Rattle.saxiko_c.specs.Opened.{IsOpenedWith};
-ghost use Rattle.saxiko_c.specs.Running.{AddsTo, DeletesFrom, Finds, FindsAllIn, FindsEach, FindsIn, Flushes, FreesHeld, GetsFrom, GivesBack, GoesOffline, GoesOnline, IsCountedIn, IsOpened, IsRegistered, IsUnregistered, Lookup, Quiesces};
+ghost use Rattle.saxiko_c.specs.Running.{AddsTo, Counts, DeletesFrom, Finds, FindsAllIn, FindsEach, FindsIn, Flushes, FreesHeld, GetsFrom, GivesBack, GoesOffline, GoesOnline, IsCountedIn, IsOpened, IsRegistered, IsUnregistered, Lookup, Quiesces};
 ghost use Rattle.saxiko_c.specs.Table.{IsUnopened};
 
 use crate::loading::read;
@@ -13,7 +14,7 @@ use crate::owner::Owner;
 use crate::reader::Reader;
 use crate::records::{SaxikoCounts, SaxikoHeld, SaxikoRoute};
 use crate::status::{
-    E2BIG, EALREADY, EBUSY, EINVAL, ENOENT, ENOMEM, ENOSPC, EPERM, of_put, of_refusal,
+    E2BIG, EAGAIN, EALREADY, EBUSY, EINVAL, ENOENT, ENOMEM, ENOSPC, EPERM, of_put, of_refusal,
 };
 use lpm_bits::{Hop, Prefix};
 use lpm_limits::{Config, Refusal};
@@ -67,8 +68,11 @@ pub(crate) fn load(
 }
 
 pub(crate) fn add(owner: &mut Owner, addr: u32, depth: u8, hop: u32) -> i32
-    ensures { AddsTo addr depth hop owner.old result owner.new }
+    ensures { AtRest (AddsTo addr depth hop) ⊤ owner.old result owner.new }
 {
+    if owner.is_waiting() {
+        return EAGAIN;
+    }
     match (Prefix::new(addr, u32::from(depth)), Hop::new(hop)) {
         (Ok(prefix), Ok(hop)) => match owner.add(&prefix, hop) {
             Ok(put) => of_put(put),
@@ -79,8 +83,12 @@ pub(crate) fn add(owner: &mut Owner, addr: u32, depth: u8, hop: u32) -> i32
 }
 
 pub(crate) fn delete(owner: &mut Owner, addr: u32, depth: u8, hop: &mut u32) -> i32
-    ensures { DeletesFrom addr depth hop.old hop.new owner.old result owner.new }
+    ensures { AtRest (DeletesFrom addr depth hop.old hop.new) (hop.new ≡ hop.old)
+        owner.old result owner.new }
 {
+    if owner.is_waiting() {
+        return EAGAIN;
+    }
     match Prefix::new(addr, u32::from(depth)) {
         Ok(prefix) => match owner.delete(&prefix) {
             Ok(deleted) => {
@@ -94,8 +102,12 @@ pub(crate) fn delete(owner: &mut Owner, addr: u32, depth: u8, hop: &mut u32) -> 
 }
 
 pub(crate) fn flush(owner: &mut Owner, rules: &mut usize) -> i32
-    ensures { Flushes rules.old rules.new owner.old result owner.new }
+    ensures { AtRest (Flushes rules.old rules.new) (rules.new ≡ rules.old)
+        owner.old result owner.new }
 {
+    if owner.is_waiting() {
+        return EAGAIN;
+    }
     match owner.flush() {
         Ok(flushed) => {
             *rules = flushed;
@@ -112,8 +124,12 @@ pub(crate) fn reclaim(
     freed: &mut usize,
     held: &mut SaxikoHeld,
 ) -> i32
-    ensures { FreesHeld max freed.new held.old held.new owner.old result owner.new }
+    ensures { AtRest (FreesHeld max freed.new held.old held.new)
+        ((freed.new ≡ freed.old) × (held.new ≡ held.old)) owner.old result owner.new }
 {
+    if owner.is_waiting() {
+        return EAGAIN;
+    }
     let reclaimed = owner.reclaim(max);
     *freed = reclaimed.freed;
     match reclaimed.stopped {
@@ -129,8 +145,11 @@ pub(crate) fn reclaim(
 }
 
 pub(crate) fn get(owner: &Owner, addr: u32, depth: u8, hop: &mut u32) -> i32
-    ensures { GetsFrom addr depth hop.old hop.new owner.now result }
+    ensures { AsksAtRest (GetsFrom addr depth hop.old hop.new) (hop.new ≡ hop.old) owner.now result }
 {
+    if owner.is_waiting() {
+        return EAGAIN;
+    }
     match Prefix::new(addr, u32::from(depth)) {
         Ok(prefix) => match owner.get(&prefix) {
             Some(found) => {
@@ -143,7 +162,8 @@ pub(crate) fn get(owner: &Owner, addr: u32, depth: u8, hop: &mut u32) -> i32
     }
 }
 
-pub(crate) fn count(owner: &mut Owner) -> SaxikoCounts
+fn count(owner: &mut Owner) -> SaxikoCounts
+    requires at_rest { owner.old.waits ≡ false }
     ensures counted { IsCountedIn owner.old result }
     ensures same { owner.new ≡ owner.old }
 {
@@ -156,6 +176,17 @@ pub(crate) fn count(owner: &mut Owner) -> SaxikoCounts
         groups_waiting: groups.limbo as u64,
         groups_free: groups.free as u64,
     }
+}
+
+pub(crate) fn counts(owner: &mut Owner, counts: &mut SaxikoCounts) -> i32
+    ensures counted { AsksAtRest (Counts counts.new) (counts.new ≡ counts.old) owner.old result }
+    ensures same { owner.new ≡ owner.old }
+{
+    if owner.is_waiting() {
+        return EAGAIN;
+    }
+    *counts = count(owner);
+    0
 }
 
 /// The reader of this number. Where there is no memory for it, its number is free again.

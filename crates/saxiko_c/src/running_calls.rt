@@ -2,6 +2,7 @@
 
 ghost use Rattle.std.specs.Prelude.{◌≡◌, ⊤, None, Some, MatchOption};
 ghost use Rattle.saxiko_c.specs.Calls.{Asks, Calls};
+ghost use Rattle.saxiko_c.specs.Grace.{AsksAtRest, AtRest};
 ghost use Rattle.saxiko_c.specs.Limits.{config_of};
 ghost use Rattle.saxiko_c.specs.Opened.{LoadsRunning};
 ghost use Rattle.saxiko_c.specs.Running.{AddsTo, AreOfOneTable, Counts, DeletesFrom, FindsAllIn, FindsIn, Flushes, FreesHeld, GetsFrom, GoesOffline, GoesOnline, Opens, Quiesces, Registers, Unregisters};
@@ -128,7 +129,7 @@ pub extern "C" fn saxiko_proved_writer_add(
     depth: u8,
     hop: u32,
 ) -> i32
-    ensures { Calls (AddsTo addr depth hop) ⊤ handle.old.kept result handle.new.kept }
+    ensures { Calls (AtRest (AddsTo addr depth hop) ⊤) ⊤ handle.old.kept result handle.new.kept }
 {
     match take_owner(alloc, handle) {
         Some(mut owner) => {
@@ -149,8 +150,8 @@ pub extern "C" fn saxiko_proved_writer_delete(
     depth: u8,
     hop: &mut u32,
 ) -> i32
-    ensures { Calls (DeletesFrom addr depth hop.old hop.new) (hop.new ≡ hop.old)
-        handle.old.kept result handle.new.kept }
+    ensures { Calls (AtRest (DeletesFrom addr depth hop.old hop.new) (hop.new ≡ hop.old))
+        (hop.new ≡ hop.old) handle.old.kept result handle.new.kept }
 {
     match take_owner(alloc, handle) {
         Some(mut owner) => {
@@ -169,8 +170,8 @@ pub extern "C" fn saxiko_proved_writer_flush(
     handle: &mut SaxikoWriter,
     rules: &mut usize,
 ) -> i32
-    ensures { Calls (Flushes rules.old rules.new) (rules.new ≡ rules.old)
-        handle.old.kept result handle.new.kept }
+    ensures { Calls (AtRest (Flushes rules.old rules.new) (rules.new ≡ rules.old))
+        (rules.new ≡ rules.old) handle.old.kept result handle.new.kept }
 {
     match take_owner(alloc, handle) {
         Some(mut owner) => {
@@ -192,8 +193,9 @@ pub extern "C" fn saxiko_proved_writer_reclaim(
     freed: &mut usize,
     held: &mut SaxikoHeld,
 ) -> i32
-    ensures { Calls (FreesHeld max freed.new held.old held.new)
-        ((freed.new ≡ freed.old) × (held.new ≡ held.old)) handle.old.kept result handle.new.kept }
+    ensures { let unchanged = (freed.new ≡ freed.old) × (held.new ≡ held.old) in
+        Calls (AtRest (FreesHeld max freed.new held.old held.new) unchanged) unchanged
+        handle.old.kept result handle.new.kept }
 {
     match take_owner(alloc, handle) {
         Some(mut owner) => {
@@ -214,7 +216,8 @@ pub extern "C" fn saxiko_proved_writer_get(
     depth: u8,
     hop: &mut u32,
 ) -> i32
-    ensures found { Asks (GetsFrom addr depth hop.old hop.new) (hop.new ≡ hop.old) handle.old.kept result }
+    ensures found { Asks (AsksAtRest (GetsFrom addr depth hop.old hop.new) (hop.new ≡ hop.old))
+        (hop.new ≡ hop.old) handle.old.kept result }
     ensures same { handle.new.kept ≡ handle.old.kept }
 {
     match take_owner(alloc, handle) {
@@ -234,14 +237,15 @@ pub extern "C" fn saxiko_proved_writer_counts(
     handle: &mut SaxikoWriter,
     counts: &mut SaxikoCounts,
 ) -> i32
-    ensures counted { Asks (Counts counts.new) (counts.new ≡ counts.old) handle.old.kept result }
+    ensures counted { Asks (AsksAtRest (Counts counts.new) (counts.new ≡ counts.old))
+        (counts.new ≡ counts.old) handle.old.kept result }
     ensures same { handle.new.kept ≡ handle.old.kept }
 {
     match take_owner(alloc, handle) {
         Some(mut owner) => {
-            *counts = running::count(&mut owner);
+            let status = running::counts(&mut owner, counts);
             put_owner(handle, owner);
-            0
+            status
         }
         None => EINVAL,
     }

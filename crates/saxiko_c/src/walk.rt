@@ -1,10 +1,12 @@
 //! What the calls of a walk over the rules do.
 
+ghost use Rattle.std.specs.Prelude.{◌≡◌};
+ghost use Rattle.saxiko_c.specs.Grace.{AsksAtRest};
 ghost use Rattle.saxiko_c.specs.Walking.{FindsFirst, FindsNext, TellsRule};
 
 use crate::owner::Owner;
 use crate::records::SaxikoRoute;
-use crate::status::{EINVAL, ENOENT};
+use crate::status::{EAGAIN, EINVAL, ENOENT};
 use fib::Fib;
 use lpm_bits::Prefix;
 use lpm_rules::Rule;
@@ -42,14 +44,22 @@ pub(crate) fn next_of_table(fib: &Fib<24, 8>, addr: u32, depth: u8, rule: &mut S
 }
 
 pub(crate) fn first_of_writer(owner: &Owner, rule: &mut SaxikoRoute) -> i32
-    ensures { FindsFirst rule.old rule.new owner.now.writer.table.rules result }
+    ensures { AsksAtRest (λ o. FindsFirst rule.old rule.new o.writer.table.rules)
+        (rule.new ≡ rule.old) owner.now result }
 {
+    if owner.is_waiting() {
+        return EAGAIN;
+    }
     tell(owner.next_rule(None), rule)
 }
 
 pub(crate) fn next_of_writer(owner: &Owner, addr: u32, depth: u8, rule: &mut SaxikoRoute) -> i32
-    ensures { FindsNext addr depth rule.old rule.new owner.now.writer.table.rules result }
+    ensures { AsksAtRest (λ o. FindsNext addr depth rule.old rule.new o.writer.table.rules)
+        (rule.new ≡ rule.old) owner.now result }
 {
+    if owner.is_waiting() {
+        return EAGAIN;
+    }
     match Prefix::new(addr, u32::from(depth)) {
         Ok(prefix) => tell(owner.next_rule(Some(prefix)), rule),
         Err(_) => EINVAL,

@@ -2,6 +2,7 @@
 
 ghost use Rattle.std.specs.Prelude.{◌≡◌};
 ghost use Rattle.saxiko_c.specs.Calls.{Asks};
+ghost use Rattle.saxiko_c.specs.Grace.{AsksAtRest};
 ghost use Rattle.saxiko_c.specs.Walking.{FindsFirst, FindsNext};
 
 use crate::records::SaxikoRoute;
@@ -64,8 +65,8 @@ pub extern "C" fn saxiko_proved_writer_first_rule(
     handle: &mut SaxikoWriter,
     rule: &mut SaxikoRoute,
 ) -> i32
-    ensures found { Asks (λ o. FindsFirst rule.old rule.new o.writer.table.rules) (rule.new ≡ rule.old)
-        handle.old.kept result }
+    ensures found { Asks (AsksAtRest (λ o. FindsFirst rule.old rule.new o.writer.table.rules)
+        (rule.new ≡ rule.old)) (rule.new ≡ rule.old) handle.old.kept result }
     ensures same { handle.new.kept ≡ handle.old.kept }
 {
     match take_owner(alloc, handle) {
@@ -87,8 +88,8 @@ pub extern "C" fn saxiko_proved_writer_next_rule(
     depth: u8,
     rule: &mut SaxikoRoute,
 ) -> i32
-    ensures found { Asks (λ o. FindsNext addr depth rule.old rule.new o.writer.table.rules)
-        (rule.new ≡ rule.old) handle.old.kept result }
+    ensures found { Asks (AsksAtRest (λ o. FindsNext addr depth rule.old rule.new o.writer.table.rules)
+        (rule.new ≡ rule.old)) (rule.new ≡ rule.old) handle.old.kept result }
     ensures same { handle.new.kept ≡ handle.old.kept }
 {
     match take_owner(alloc, handle) {

@@ -9,6 +9,7 @@ returns-in-Ok-new c =
       opened = known.opened;
       setup = known.opening;
       workers = known.workers;
+      at_rest = known.at_rest;
       bench = known.bench;
       limits = known.limits;
     })

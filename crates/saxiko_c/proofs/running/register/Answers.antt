@@ -8,6 +8,7 @@ returns-in-Err-new c =
     let back = c.unregister.ensures.back in (
       as_before c.args.owner.now c.register.new.self c.unregister.new.self c.args.number c.in-Ok.reader
           c.in-Err-new.failed.value back.0 c.in-Err-new.ensures.value_returned known.reader.worker known.reader.offline
-          known.registered.0 known.registered.1 known.same back.1 back.3 c.unregister.ensures.same,
+          known.registered.0 known.registered.1 known.same known.stage back.1 back.3 c.unregister.ensures.same
+          c.unregister.ensures.stage,
       inr (inr refl),
     )

@@ -1,4 +1,4 @@
-use Rattle.std.proofs.Common.{◌≡◌, ◌≤◌, List, Option, ap, sym, subst, ◌∙◌}
+use Rattle.std.proofs.Common.{◌≡◌, ◌≤◌, List, Option, refl, ap, sym, subst, ◌∙◌}
 use Rattle.std.specs.FinMap.{len}
 use Rattle.lpm_rules.specs.Listed.{rules_of}
 use Rattle.fib_model.specs.Outcomes.{groups_in_use}
@@ -24,6 +24,7 @@ returns-in-Ok-clause-opened c =
     subst (IsOpenedWith config rules) (sym c.new-in-Ok.ensures) (record {
       opened = opened ∙ ap (λ (i : Identity). opens_with i config rules) (sym own);
       workers = ap (λ (i : Identity). i.opening.workers) own ∙ workers;
+      at_rest = refl;
       bench = subst (λ (i : Identity). IsFullBench i c.in-Ok-Some.bench) (sym own) bench;
       limits = known.limits;
       rules_fit = at_some (λ (r : Parts). len rules ≤ config.rules) is known.rules_fit;

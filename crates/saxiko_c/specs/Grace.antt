@@ -1,0 +1,72 @@
+-- Meaning: a grace period of a running table: a token is started, and checked until each reader has let it pass (DPDK
+-- Programmer's Guide, "RCU Library": rte_rcu_qsbr_start and rte_rcu_qsbr_check; that the writer changes nothing
+-- meanwhile is this project's).
+use Rattle.std.specs.Prelude.{ℤ, ◌≡◌, ◌+◌, ◌^◌, ◌<◌, ◌≤◌, ◌⊎◌, ◌∷◌, All, true, false, Option, Some, None, OnErr, OnOk, Result, Ok, Err}
+use Rattle.lpm_limits.specs.declared.busy.Busy.{Busy}
+use Rattle.lpm_trace.specs.declared.step.WriterStep.TheVariants.{BumpToken}
+use Rattle.lpm_trace.specs.Laws.{IsChecked as WasChecked}
+use Rattle.lpm_writer.specs.Traced.{AnyMemory, Checks, steps_alone}
+use Rattle.shared_fib.specs.Running.{left_by, setup, steps_of}
+use Rattle.saxiko_c.specs.Owners.{OwnerState}
+use Rattle.saxiko_c.specs.Running.{Names}
+use Rattle.saxiko_c.specs.Status.{done, again, already, not_permitted, overflow}
+use Rattle.saxiko_c.specs.declared.records.SaxikoHeld.{SaxikoHeld}
+
+-- ---- the other calls of the writer
+
+-- a call that may change the table; while a grace period lasts it is EAGAIN, and nothing changes
+abbrev pub AtRest : (OwnerState → ℤ → OwnerState → Type 0) → (unchanged : Type 0) → OwnerState → ℤ → OwnerState → Type 0
+AtRest call unchanged o status p =
+    ((o.waits ≡ true) × (status ≡ again) × (p ≡ o) × unchanged)
+    ⊎ ((o.waits ≡ false) × (p.waits ≡ false) × call o status p)
+
+-- a call that only asks; while a grace period lasts it is EAGAIN, and nothing is told
+abbrev pub AsksAtRest : (OwnerState → ℤ → Type 0) → (unchanged : Type 0) → OwnerState → ℤ → Type 0
+AsksAtRest ask unchanged o status =
+    ((o.waits ≡ true) × (status ≡ again) × unchanged)
+    ⊎ ((o.waits ≡ false) × ask o status)
+
+-- ---- its start
+
+-- one step was made, which starts a token
+pub record IsStarted (o p : OwnerState) : Type 0 where
+  pub writer : p.writer ≡ record o.writer {
+    table = record o.writer.table { readers = BumpToken ∷ steps_of o.writer };
+  }
+  pub waits : p.waits ≡ true
+  pub bench : p.bench ≡ o.bench
+
+-- it is EALREADY where a grace period lasts, and EOVERFLOW where fewer tokens than groups are left
+abbrev pub Starts : OwnerState → ℤ → OwnerState → Type 0
+Starts o status p =
+    ((o.waits ≡ true) × (status ≡ already) × (p ≡ o))
+    ⊎ (((o.waits ≡ false) × (2 ^ 62 < (left_by o.writer).token + o.writer.config.groups)
+    × (status ≡ overflow) × (p ≡ o))
+    ⊎ ((o.waits ≡ false) × ((left_by o.writer).token + o.writer.config.groups ≤ 2 ^ 62)
+    × (status ≡ done) × IsStarted o p))
+
+-- ---- its checks
+
+-- the reader that stopped a check
+abbrev pub stopped_by : Result (Unit {0}) Busy → Option Busy
+stopped_by (Ok passed) = None
+stopped_by (Err busy) = Some busy
+
+-- a check was made, and the grace period is over where it has passed
+pub record IsChecked (o : OwnerState) (r : Result (Unit {0}) Busy) (p : OwnerState) : Type 0 where
+  pub checks : Checks AnyMemory (setup o.writer.identity) (steps_alone (steps_of o.writer))
+      (left_by o.writer).token r (steps_alone (steps_of p.writer))
+  pub over : OnOk r (p.waits ≡ false)
+  pub lasts : OnErr r (p.waits ≡ true)
+  pub checked : OnOk r (WasChecked (setup o.writer.identity) (steps_of p.writer) (left_by o.writer).token)
+  pub queued : OnOk r (0 < o.writer.config.workers
+      → All (λ token. token ≤ (left_by p.writer).passed) p.writer.table.limbo)
+  pub same : p.writer ≡ record o.writer { table = record o.writer.table { readers = steps_of p.writer } }
+  pub bench : p.bench ≡ o.bench
+
+-- it is EPERM where no grace period lasts
+abbrev pub ChecksOnce : SaxikoHeld → SaxikoHeld → OwnerState → ℤ → OwnerState → Type 0
+ChecksOnce before after o status p =
+    ((o.waits ≡ false) × (status ≡ not_permitted) × (after ≡ before) × (p ≡ o))
+    ⊎ ((o.waits ≡ true) × (r : Result (Unit {0}) Busy) × IsChecked o r p
+    × Names (stopped_by r) before status after)

@@ -1,0 +1,122 @@
+//! A grace period: a token is started, and checked again whenever the program likes.
+
+ghost use Rattle.std.specs.Prelude.{◌≡◌, ◌+◌, ◌^◌, ◌<◌, ◌≤◌, ◌↔◌, ◌∷◌, All, IsErr, OnErr, OnOk, true, false};
+ghost use Rattle.lpm_trace.specs.declared.step.WriterStep.TheVariants.{BumpToken};
+ghost use Rattle.lpm_trace.specs.Laws.{IsChecked};
+ghost use Rattle.lpm_writer.specs.Traced.{AnyMemory, Checks, steps_alone};
+ghost use Rattle.shared_fib.specs.Running.{left_by, setup, steps_of};
+ghost use Rattle.saxiko_c.specs.Grace.{ChecksOnce, Starts};
+
+use crate::owner::Owner;
+use crate::records::SaxikoHeld;
+use crate::stage::Stage;
+use crate::status::{EALREADY, EOVERFLOW, EPERM};
+use lpm_limits::Busy;
+use shared_fib::{Exhausted, Held, NotStarted};
+use std::mem;
+
+impl Owner {
+    /// Whether a grace period lasts.
+    pub(crate) fn is_waiting(&self) -> bool
+        ensures { result ≡ self.now.waits }
+    {
+        match &self.stage {
+            Stage::AtRest(_) => false,
+            Stage::Waiting(_) => true,
+            Stage::Moving => unreachable!(),
+        }
+    }
+
+    /// Starts a grace period: from then on the table isn't changed, until a check has passed.
+    ///
+    /// `Exhausted` where fewer tokens than groups are left; nothing was written then.
+    pub(crate) fn start(&mut self) -> Result<(), Exhausted>
+        requires at_rest { self.old.waits ≡ false }
+        ensures exhausted { IsErr result
+            ↔ (2 ^ 62 < (left_by self.old.writer).token + self.old.writer.config.groups) }
+        ensures starts { OnOk result (self.new.writer ≡ record self.old.writer {
+          table = record self.old.writer.table { readers = BumpToken ∷ steps_of self.old.writer };
+        }) }
+        ensures waits { OnOk result (self.new.waits ≡ true) }
+        ensures bench { self.new.bench ≡ self.old.bench }
+        ensures unchanged { OnErr result (self.new ≡ self.old) }
+    {
+        let Stage::AtRest(writer) = mem::replace(&mut self.stage, Stage::Moving) else {
+            unreachable!()
+        };
+        match writer.start(&*self.table) {
+            Ok(period) => {
+                self.stage = Stage::Waiting(period);
+                Ok(())
+            }
+            Err(NotStarted { writer }) => {
+                self.stage = Stage::AtRest(writer);
+                Err(Exhausted)
+            }
+        }
+    }
+
+    /// Checks the token once. Where no reader holds it the grace period is over. The error is the first reader that
+    /// does: the grace period lasts.
+    pub(crate) fn check(&mut self) -> Result<(), Busy>
+        requires waits { self.old.waits ≡ true }
+        ensures checks { Checks AnyMemory (setup self.old.writer.identity)
+            (steps_alone (steps_of self.old.writer)) (left_by self.old.writer).token result
+            (steps_alone (steps_of self.new.writer)) }
+        ensures over { OnOk result (self.new.waits ≡ false) }
+        ensures lasts { OnErr result (self.new.waits ≡ true) }
+        ensures checked { OnOk result (IsChecked (setup self.old.writer.identity)
+            (steps_of self.new.writer) (left_by self.old.writer).token) }
+        ensures queued { OnOk result (0 < self.old.writer.config.workers
+            → All (λ token. token ≤ (left_by self.new.writer).passed) self.new.writer.table.limbo) }
+        ensures same { self.new.writer ≡ record self.old.writer {
+          table = record self.old.writer.table { readers = steps_of self.new.writer };
+        } }
+        ensures bench { self.new.bench ≡ self.old.bench }
+    {
+        let Stage::Waiting(period) = mem::replace(&mut self.stage, Stage::Moving) else {
+            unreachable!()
+        };
+        match period.check(&*self.table) {
+            Ok(writer) => {
+                self.stage = Stage::AtRest(writer);
+                Ok(())
+            }
+            Err(Held { period, busy }) => {
+                self.stage = Stage::Waiting(period);
+                Err(busy)
+            }
+        }
+    }
+}
+
+pub(crate) fn start(owner: &mut Owner) -> i32
+    ensures { Starts owner.old result owner.new }
+{
+    if owner.is_waiting() {
+        return EALREADY;
+    }
+    match owner.start() {
+        Ok(()) => 0,
+        Err(Exhausted) => EOVERFLOW,
+    }
+}
+
+/// Returns 1 where a reader holds the token, and names it.
+pub(crate) fn check(owner: &mut Owner, held: &mut SaxikoHeld) -> i32
+    ensures { ChecksOnce held.old held.new owner.old result owner.new }
+{
+    if !owner.is_waiting() {
+        return EPERM;
+    }
+    match owner.check() {
+        Ok(()) => 0,
+        Err(busy) => {
+            *held = SaxikoHeld {
+                reader: busy.worker as u64,
+                counter: busy.counter,
+            };
+            1
+        }
+    }
+}
