@@ -168,15 +168,15 @@ struct saxiko_reader {
     uint64_t number; /* which table */
 };
 
-/* The reader that keeps the oldest group that waits from being free, or a grace period from being over, and the token of
- * its last report. */
+/* The reader that keeps the oldest group that waits from being free, or a grace period from being over, and the token
+ * of its last report. */
 struct saxiko_held {
     uint64_t reader;
     uint64_t counter;
 };
 
-/* What a reclaim or a check returns, beside 0, where a reader holds the next group that waits, or may hold what was given
- * up before the grace period. */
+/* What a reclaim or a check returns, beside 0, where a reader holds the next group that waits, or may hold what was
+ * given up before the grace period. */
 #define SAXIKO_HELD 1
 
 /* Opens a running table without rules, and its writer. Refused as saxiko_table_open. On any thread, which is the writer's
@@ -191,8 +191,9 @@ int32_t saxiko_writer_load(struct saxiko_writer *writer, const struct saxiko_con
  * thread. */
 void saxiko_writer_close(struct saxiko_writer *writer);
 
-/* As the calls of a table, while readers look up. -EBUSY of an add: a group is lacking, and a reader holds the oldest that
- * waits, so that it can be tried again once that one has reported; -ENOSPC, where none waits. On the writer's thread. */
+/* As the calls of a table, while readers look up. -EBUSY of an add: a group is lacking, and a reader holds the oldest
+ * that waits, so that it can be tried again once that one has reported; -ENOSPC, where none waits. -EAGAIN: a grace
+ * period lasts (saxiko_writer_start). On the writer's thread. */
 int32_t saxiko_writer_add(struct saxiko_writer *writer, uint32_t addr, uint8_t depth, uint32_t hop);
 int32_t saxiko_writer_delete(struct saxiko_writer *writer, uint32_t addr, uint8_t depth, uint32_t *hop);
 int32_t saxiko_writer_flush(struct saxiko_writer *writer, size_t *rules);
@@ -205,14 +206,15 @@ int32_t saxiko_writer_counts(struct saxiko_writer *writer, struct saxiko_counts 
  * SAXIKO_HELD where a reader holds the next one, which `held` names then; `held` may be null. On the writer's thread. */
 int32_t saxiko_writer_reclaim(struct saxiko_writer *writer, size_t max, size_t *freed, struct saxiko_held *held);
 
-/* Starts a grace period, which is over once each reader has reported or was offline, as rte_rcu_qsbr_start. While it lasts
- * the table isn't changed: add, delete, flush, reclaim, get and counts of the writer are -EAGAIN. All calls of readers, and
- * closing, are as ever. -EALREADY: a grace period lasts. -EOVERFLOW: fewer tokens of 2^62 are left than there are groups. */
+/* Starts a grace period, which is over once each reader has reported or was offline, as rte_rcu_qsbr_start. While it
+ * lasts the table isn't changed: add, delete, flush, reclaim, get, next_rule and counts of the writer are -EAGAIN. All
+ * calls of readers, and closing, are as ever. -EALREADY: a grace period lasts. -EOVERFLOW: fewer tokens of 2^62 are left
+ * than there are groups. On the writer's thread. */
 int32_t saxiko_writer_start(struct saxiko_writer *writer);
 
-/* Checks once whether the grace period is over, as rte_rcu_qsbr_check does where it is not to wait. It is 0 where no reader
- * can hold what was given up before: the table can be changed again. It returns SAXIKO_HELD where a reader may, which `held`
- * names then; `held` may be null. -EPERM: no grace period lasts. */
+/* Checks once whether the grace period is over, as rte_rcu_qsbr_check does where it is not to wait. It is 0 where no
+ * reader can hold what was given up before: the table can be changed again. It returns SAXIKO_HELD where a reader may,
+ * which `held` names then; `held` may be null. -EPERM: no grace period lasts. On the writer's thread. */
 int32_t saxiko_writer_check(struct saxiko_writer *writer, struct saxiko_held *held);
 
 /* Opens a reader of this number, from 0 to `readers` - 1, which is offline. The writer's thread calls it, and may hand
