@@ -196,7 +196,7 @@ ends the run, nothing is printed:
   refused 5 BadConfig      more than 16777216 answers: give a smaller --rounds
   refused 12 NoThread      a thread can't be started: give a smaller --workers
 
-Memory: 128 MiB and 2 KiB for each group before the routes are loaded, and then
+Memory: 128 MiB and 2 KiB for each group while the table is opened, and then
 64 MiB, 1 KiB for each group, 15 to 22 bytes for each rule, and 32 bytes for
 each answer: up to 512 MiB for all answers.
 Exit status: 0 done, also where answers are wrong, 2 words, 3 can't read or

@@ -1,4 +1,4 @@
--- What a handle owns: nothing, or a box with a table.
+-- This layer's own: what a handle owns: nothing, or a box with a table.
 use Rattle.std.specs.Prelude.{Bool, true, false, Option, Some, None}
 use base.Fml.{Fml, fsep, feq}
 use base.Stored.{Coded}
