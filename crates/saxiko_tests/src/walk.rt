@@ -12,7 +12,7 @@ fn rule<R: Abort>(rt: &R, text: &str, number: u32) -> Rule {
 }
 
 // Rules in their order: of the least and the greatest length, one in another, and many with one address.
-fn in_order<R: Abort>(rt: &R) -> [Rule; 12] {
+fn rules_in_order<R: Abort>(rt: &R) -> [Rule; 12] {
     [
         rule(rt, "0.0.0.0/0", 1),
         rule(rt, "0.0.0.0/1", 2),
@@ -31,34 +31,36 @@ fn in_order<R: Abort>(rt: &R) -> [Rule; 12] {
 
 #[test]
 fn a_table_is_walked_in_order(rt: HostRuntime) {
-    let rules = in_order(&rt);
+    let array = rules_in_order(&rt);
+    let rules = &array[..];
     let mut table = Table::open(rt.alloc(), Config::default()).expect(&rt, "open");
     assert!(rt; table.next_rule(None) == None);
     for rule in rules.iter().rev() {
         assert!(rt; table.add(&rule.prefix(), rule.hop()) == Ok(Put::Added));
     }
     let mut last = None;
-    for rule in &rules {
+    for rule in rules {
         assert!(rt; last < Some(rule.prefix()));
         assert!(rt; table.next_rule(last) == Some(*rule));
         last = Some(rule.prefix());
     }
     assert!(rt; table.next_rule(last) == None);
-    let between = Some(prefix(&rt, "10.0.0.64/26"));
-    assert!(rt; table.next_rule(between) == Some(rules[7]));
+    let between = prefix(&rt, "10.0.0.64/26");
+    assert!(rt; table.next_rule(Some(between)) == Some(rules[7]));
     assert!(rt; table.delete(&rules[7].prefix()) == Ok(rules[7].hop()));
-    assert!(rt; table.next_rule(between) == Some(rules[8]));
+    assert!(rt; table.next_rule(Some(between)) == Some(rules[8]));
     assert!(rt; table.next_rule(Some(rules[7].prefix())) == Some(rules[8]));
 }
 
 #[test]
 fn an_owner_walks_on_while_rules_change(rt: HostRuntime) {
-    let rules = in_order(&rt);
-    let mut owner = Owner::of_rules(rt.alloc(), Config::default(), &rules)
+    let array = rules_in_order(&rt);
+    let rules = &array[..];
+    let mut owner = Owner::of_rules(rt.alloc(), Config::default(), rules)
         .expect(&rt, "open")
         .expect(&rt, "fits");
     let mut last = None;
-    for rule in &rules {
+    for rule in rules {
         assert!(rt; owner.next_rule(last) == Some(*rule));
         last = Some(rule.prefix());
     }
@@ -67,4 +69,20 @@ fn an_owner_walks_on_while_rules_change(rt: HostRuntime) {
     assert!(rt; owner.add(&added.prefix(), added.hop()) == Ok(Put::Added));
     assert!(rt; owner.next_rule(Some(rules[8].prefix())) == Some(added));
     assert!(rt; owner.next_rule(Some(added.prefix())) == Some(rules[9]));
+}
+
+#[test]
+fn a_walk_is_a_bounded_loop(rt: HostRuntime) {
+    let array = rules_in_order(&rt);
+    let table = Table::of_rules(rt.alloc(), Config::default(), &array[..])
+        .expect(&rt, "open")
+        .expect(&rt, "fits");
+    let mut last = None;
+    for _ in 0..table.rules() {
+        let Some(rule) = table.next_rule(last) else {
+            break;
+        };
+        assert!(rt; table.get(&rule.prefix()) == Some(rule.hop()));
+        last = Some(rule.prefix());
+    }
 }
