@@ -1,7 +1,7 @@
 pub mod Values
 pub mod TableHandles
 pub mod Fills
-pub mod Bursts
+pub mod Pieces
 pub mod Benches
 pub mod Options
 pub mod WriterHandles

@@ -1,6 +1,6 @@
 -- Meaning: the calls of a running table, by the status that they answer (DPDK Programmer's Guide, "LPM Library" and
 -- "RCU Library").
-use Rattle.std.specs.Prelude.{ℕ, ℤ, ⊤, ◌≡◌, ◌≢◌, ◌+◌, ◌≤◌, ◌<◌, ◌⊎◌, true, false, pos, List, [], ◌∷◌, ◌++◌, Option, Some, None, Result, length, slice_get, slice_set, take}
+use Rattle.std.specs.Prelude.{ℕ, ℤ, ⊤, ◌≡◌, ◌≢◌, ◌+◌, ◌≤◌, ◌<◌, ◌⊎◌, true, false, pos, List, [], ◌∷◌, ◌++◌, Option, Some, None, Result, length, map, slice_get, slice_set, take}
 use Rattle.std.specs.FinMap.{get, len, empty}
 use Rattle.lpm_bits.specs.Network.{prefix_of}
 use Rattle.lpm_rules.specs.declared.Put.{Put}
@@ -16,7 +16,7 @@ use Rattle.lpm_writer.specs.Opening.{opening_setup}
 use Rattle.lpm_writer.specs.Taking.{TakesLeast}
 use Rattle.lpm_writer.specs.Traced.{by_steps}
 use Rattle.shared_fib.specs.Freeing.{FreesChecked}
-use Rattle.shared_fib.specs.Passes.{PassState, IsFullBench, IsPassOf, LooksUp, Makes}
+use Rattle.shared_fib.specs.Passes.{PassState, IsFullBench, IsPassOf, LooksUp, LooksUpAll, Makes}
 use Rattle.shared_fib.specs.Running.{hop_or, left_by, opens_with, setup}
 use Rattle.saxiko_c.specs.Owners.{OwnerState}
 use Rattle.saxiko_c.specs.Status.{done, no_memory, busy, invalid, not_permitted, already, add_status, status_of}
@@ -182,26 +182,26 @@ FindsIn addr before after p status q =
 
 -- ---- lookups of many addresses
 
--- an address that was looked up, its next hop, and between which versions that lies
+-- addresses that were looked up together, their next hops, and between which versions these lie
 pub record Lookup : Type 0 where
-  pub addr : ℕ
-  pub hop : Option ℕ
+  pub addrs : List ℕ
+  pub hops : List (Option ℕ)
   pub lo : ℕ
   pub hi : ℕ
 
 -- the addresses of lookups, of which the newest stands first, and their next hops or the default
 abbrev pub addrs_of : List Lookup → List ℕ
 addrs_of [] = []
-addrs_of (l ∷ ls) = addrs_of ls ++ (l.addr ∷ [])
+addrs_of (l ∷ ls) = addrs_of ls ++ l.addrs
 
 abbrev pub hops_of : ℕ → List Lookup → List ℕ
 hops_of default [] = []
-hops_of default (l ∷ ls) = hops_of default ls ++ (hop_or default l.hop ∷ [])
+hops_of default (l ∷ ls) = hops_of default ls ++ map (hop_or default) l.hops
 
 -- the lookups are made, one directly after the other
 abbrev pub LooksUpInTurn : List Lookup → PassState → PassState → Type 0
 LooksUpInTurn [] p q = q ≡ p
-LooksUpInTurn (l ∷ ls) p q = (r : PassState) × LooksUpInTurn ls p r × LooksUp l.addr l.hop l.lo l.hi r q
+LooksUpInTurn (l ∷ ls) p q = (r : PassState) × LooksUpInTurn ls p r × LooksUpAll l.addrs l.hops l.lo l.hi r q
 
 -- each address is looked up, and its next hop, or the default, is stored
 pub record FindsEach (default : ℕ) (addrs hops : List ℕ) (p q : PassState) : Type 0 where

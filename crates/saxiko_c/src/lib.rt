@@ -4,6 +4,7 @@
 //! handed the handle; `saxiko.h` says who may call what.
 #![tactic(auto)]
 
+mod bursts;
 mod grace;
 mod grace_calls;
 mod loading;

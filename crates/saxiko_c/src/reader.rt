@@ -1,12 +1,13 @@
 //! A reader of a running table.
 
-ghost use Rattle.std.specs.Prelude.{◌≡◌, ℕ, [], ◌∷◌, true, false};
+ghost use Rattle.std.specs.Prelude.{◌≡◌, ℕ, [], ◌∷◌, true, false, Option, List, map};
 ghost use Rattle.std.specs.Arc.{arc_value};
 ghost use Rattle.lpm_trace.specs.declared.step.WorkerStep.TheVariants.{LoadOnline, StoreOnline, LoadQuiescent, StoreQuiescent, StoreOffline};
-ghost use Rattle.shared_fib.specs.Passes.{LooksUp, Makes};
+ghost use Rattle.shared_fib.specs.Passes.{LooksUp, LooksUpAll, Makes};
+ghost use Rattle.shared_fib.specs.Running.{hop_or};
 
 use lpm_rules::Answer;
-use shared_fib::{Pass, SharedTable};
+use shared_fib::{FourHops, Pass, SharedTable};
 use std::marker::Model;
 use std::sync::Arc;
 
@@ -120,5 +121,19 @@ impl Reader {
         ensures online { self.new.online ≡ true }
     {
         self.pass.lookup(&*self.table, addr)
+    }
+
+    /// The next hops of four addresses, with `default` for an address that no rule covers, between two loads of the
+    /// sequence for all of them.
+    #[inline]
+    pub fn lookup4(&mut self, addrs: [u32; 4], default: u32) -> FourHops
+        requires online { self.old.online ≡ true }
+        ensures own { self.new.table ≡ self.old.table }
+        ensures answers { (hops : List (Option ℕ))
+            × LooksUpAll addrs hops result.lo result.hi self.old self.new
+            × (result.hops ≡ map (hop_or default) hops) }
+        ensures online { self.new.online ≡ true }
+    {
+        self.pass.lookup4(&*self.table, addrs, default)
     }
 }

@@ -1,14 +1,14 @@
 //! What the calls do with a running table.
 
-ghost use Rattle.std.specs.Prelude.{◌≡◌, ⊤, MatchResult, length, true, false};
-ghost use Rattle.shared_fib.specs.Passes.{LooksUp};
+ghost use Rattle.std.specs.Prelude.{◌≡◌, ⊤, MatchResult, true, false};
 ghost use Rattle.shared_fib.specs.Running.{hop_or};
 ghost use Rattle.saxiko_c.specs.Grace.{AsksAtRest, AtRest};
 ghost use Rattle.saxiko_c.specs.Loads.{IsUnloaded, rules_of_routes};
 ghost use Rattle.saxiko_c.specs.Opened.{IsOpenedWith};
-ghost use Rattle.saxiko_c.specs.Running.{AddsTo, Counts, DeletesFrom, Finds, FindsAllIn, FindsEach, FindsIn, Flushes, FreesHeld, GetsFrom, GivesBack, GoesOffline, GoesOnline, IsCountedIn, IsOpened, IsRegistered, IsUnregistered, Lookup, Quiesces};
+ghost use Rattle.saxiko_c.specs.Running.{AddsTo, Counts, DeletesFrom, Finds, FindsAllIn, FindsIn, Flushes, FreesHeld, GetsFrom, GivesBack, GoesOffline, GoesOnline, IsCountedIn, IsOpened, IsRegistered, IsUnregistered, Quiesces};
 ghost use Rattle.saxiko_c.specs.Table.{IsUnopened};
 
+use crate::bursts::find_all;
 use crate::loading::read;
 use crate::owner::Owner;
 use crate::reader::Reader;
@@ -274,38 +274,12 @@ pub(crate) fn lookup(reader: &mut Reader, addr: u32, hop: &mut u32) -> i32
 
 /// The number of a next hop, or the default where there is none.
 #[inline]
-fn number_or(hop: Option<Hop>, default: u32) -> u32
+pub(crate) fn number_or(hop: Option<Hop>, default: u32) -> u32
     ensures { result ≡ hop_or default hop }
 {
     match hop {
         Some(hop) => hop.number(),
         None => default,
-    }
-}
-
-/// The next hop of the address, or the default.
-#[inline]
-fn find_or(reader: &mut Reader, addr: u32, default: u32) -> u32
-    requires online { reader.old.online ≡ true }
-    ensures online { reader.new.online ≡ true }
-    ensures found { (l : Lookup) × (l.addr ≡ addr) × LooksUp l.addr l.hop l.lo l.hi reader.old reader.new
-        × (result ≡ hop_or default l.hop) }
-{
-    let answer = reader.lookup(addr);
-    number_or(answer.hop, default)
-}
-
-/// The next hops of as many addresses as there is room for.
-fn find_all(reader: &mut Reader, addrs: &[u32], hops: &mut [u32], default: u32)
-    requires online { reader.old.online ≡ true }
-    requires sizes { length addrs.now ≡ length hops.old }
-    ensures online { reader.new.online ≡ true }
-    ensures found { FindsEach default addrs.now hops.new reader.old reader.new }
-{
-    let mut i = 0;
-    while i < hops.len() {
-        hops[i] = find_or(reader, addrs[i], default);
-        i += 1;
     }
 }
 
