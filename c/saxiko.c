@@ -17,11 +17,13 @@ DECLARE(table_open, struct saxiko_table *, const struct saxiko_config *);
 DECLARE(table_load, struct saxiko_table *, const struct saxiko_config *, const struct saxiko_route *, size_t, size_t *);
 void saxiko_proved_table_close(struct saxiko_table *);
 DECLARE(table_add, struct saxiko_table *, uint32_t, uint8_t, uint32_t);
+DECLARE(table_insert, struct saxiko_table *, uint32_t, uint8_t, uint32_t, uint32_t *);
 DECLARE(table_delete, struct saxiko_table *, uint32_t, uint8_t, uint32_t *);
 DECLARE(table_flush, struct saxiko_table *, size_t *);
 DECLARE(table_get, struct saxiko_table *, uint32_t, uint8_t, uint32_t *);
 DECLARE(table_first_rule, struct saxiko_table *, struct saxiko_route *);
 DECLARE(table_next_rule, struct saxiko_table *, uint32_t, uint8_t, struct saxiko_route *);
+DECLARE(table_lookup_rule, struct saxiko_table *, uint32_t, struct saxiko_route *);
 DECLARE(table_lookup_bulk, struct saxiko_table *, const uint32_t *, size_t, uint32_t *, size_t, uint32_t);
 DECLARE(table_counts, struct saxiko_table *, struct saxiko_counts *);
 DECLARE(table_reclaim, struct saxiko_table *, size_t, size_t *);
@@ -30,11 +32,13 @@ DECLARE(writer_open, struct saxiko_writer *, const struct saxiko_config *);
 DECLARE(writer_load, struct saxiko_writer *, const struct saxiko_config *, const struct saxiko_route *, size_t, size_t *);
 void saxiko_proved_writer_close(struct saxiko_writer *);
 DECLARE(writer_add, struct saxiko_writer *, uint32_t, uint8_t, uint32_t);
+DECLARE(writer_insert, struct saxiko_writer *, uint32_t, uint8_t, uint32_t, uint32_t *);
 DECLARE(writer_delete, struct saxiko_writer *, uint32_t, uint8_t, uint32_t *);
 DECLARE(writer_flush, struct saxiko_writer *, size_t *);
 DECLARE(writer_get, struct saxiko_writer *, uint32_t, uint8_t, uint32_t *);
 DECLARE(writer_first_rule, struct saxiko_writer *, struct saxiko_route *);
 DECLARE(writer_next_rule, struct saxiko_writer *, uint32_t, uint8_t, struct saxiko_route *);
+DECLARE(writer_lookup_rule, struct saxiko_writer *, uint32_t, struct saxiko_route *);
 DECLARE(writer_counts, struct saxiko_writer *, struct saxiko_counts *);
 DECLARE(writer_reclaim, struct saxiko_writer *, size_t, size_t *, struct saxiko_held *);
 DECLARE(writer_start, struct saxiko_writer *);
@@ -80,6 +84,10 @@ int32_t saxiko_table_add(struct saxiko_table *table, uint32_t addr, uint8_t dept
     return table ? saxiko_proved_table_add(table, addr, depth, hop) : -EINVAL;
 }
 
+int32_t saxiko_table_insert(struct saxiko_table *table, uint32_t addr, uint8_t depth, uint32_t hop, uint32_t *old) {
+    return table && old ? saxiko_proved_table_insert(table, addr, depth, hop, old) : -EINVAL;
+}
+
 int32_t saxiko_table_delete(struct saxiko_table *table, uint32_t addr, uint8_t depth, uint32_t *hop) {
     return table && hop ? saxiko_proved_table_delete(table, addr, depth, hop) : -EINVAL;
 }
@@ -98,6 +106,10 @@ int32_t saxiko_table_next_rule(struct saxiko_table *table, const struct saxiko_r
         return -EINVAL;
     return after ? saxiko_proved_table_next_rule(table, after->addr, after->depth, rule)
                  : saxiko_proved_table_first_rule(table, rule);
+}
+
+int32_t saxiko_table_lookup_rule(struct saxiko_table *table, uint32_t addr, struct saxiko_route *rule) {
+    return table && rule ? saxiko_proved_table_lookup_rule(table, addr, rule) : -EINVAL;
 }
 
 extern inline int32_t saxiko_table_lookup(struct saxiko_table *table, uint32_t addr, uint32_t *hop);
@@ -143,6 +155,10 @@ int32_t saxiko_writer_add(struct saxiko_writer *writer, uint32_t addr, uint8_t d
     return writer ? saxiko_proved_writer_add(writer, addr, depth, hop) : -EINVAL;
 }
 
+int32_t saxiko_writer_insert(struct saxiko_writer *writer, uint32_t addr, uint8_t depth, uint32_t hop, uint32_t *old) {
+    return writer && old ? saxiko_proved_writer_insert(writer, addr, depth, hop, old) : -EINVAL;
+}
+
 int32_t saxiko_writer_delete(struct saxiko_writer *writer, uint32_t addr, uint8_t depth, uint32_t *hop) {
     return writer && hop ? saxiko_proved_writer_delete(writer, addr, depth, hop) : -EINVAL;
 }
@@ -161,6 +177,10 @@ int32_t saxiko_writer_next_rule(struct saxiko_writer *writer, const struct saxik
         return -EINVAL;
     return after ? saxiko_proved_writer_next_rule(writer, after->addr, after->depth, rule)
                  : saxiko_proved_writer_first_rule(writer, rule);
+}
+
+int32_t saxiko_writer_lookup_rule(struct saxiko_writer *writer, uint32_t addr, struct saxiko_route *rule) {
+    return writer && rule ? saxiko_proved_writer_lookup_rule(writer, addr, rule) : -EINVAL;
 }
 
 int32_t saxiko_writer_counts(struct saxiko_writer *writer, struct saxiko_counts *counts) {

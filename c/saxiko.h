@@ -62,7 +62,7 @@ struct saxiko_counts {
     uint64_t groups_free;
 };
 
-/* A route, of a list that is loaded or as a walk stores it: a prefix and its next hop. */
+/* A route, of a list that is loaded or as a rule is told: a prefix and its next hop. */
 struct saxiko_route {
     uint32_t addr;
     uint32_t hop;  /* at most SAXIKO_HOP_MAX */
@@ -110,6 +110,10 @@ void saxiko_table_close(struct saxiko_table *table);
  * thread. */
 int32_t saxiko_table_add(struct saxiko_table *table, uint32_t addr, uint8_t depth, uint32_t hop);
 
+/* As add, and stores the next hop that the prefix had, where it had a rule; where it had none `*old` stays as it was. It
+ * returns what add returns. On the table's thread. */
+int32_t saxiko_table_insert(struct saxiko_table *table, uint32_t addr, uint8_t depth, uint32_t hop, uint32_t *old);
+
 /* Deletes the rule of a prefix, and stores the next hop that it had.
  * -ENOENT: the prefix has no rule. -EINVAL: a depth above 32. -EOVERFLOW as in add. On the table's thread. */
 int32_t saxiko_table_delete(struct saxiko_table *table, uint32_t addr, uint8_t depth, uint32_t *hop);
@@ -134,6 +138,11 @@ int32_t saxiko_proved_table_lookup(struct saxiko_table *table, uint32_t addr, ui
 inline int32_t saxiko_table_lookup(struct saxiko_table *table, uint32_t addr, uint32_t *hop) {
     return table && hop ? saxiko_proved_table_lookup(table, addr, hop) : -EINVAL;
 }
+
+/* Stores the longest rule that covers the address: its prefix, with the bits past the depth 0, and its next hop. It
+ * searches the rules of each depth, so it takes longer than lookup. -ENOENT: no rule covers the address. On the table's
+ * thread. */
+int32_t saxiko_table_lookup_rule(struct saxiko_table *table, uint32_t addr, struct saxiko_route *rule);
 
 /* Stores for each address the next hop of the longest rule that covers it, and `absent`, which is any number, for one
  * that no rule covers. -EINVAL: `addrs_len` isn't `hops_len`. With lengths of 0 the pointers may be null. On the table's
@@ -191,15 +200,17 @@ int32_t saxiko_writer_load(struct saxiko_writer *writer, const struct saxiko_con
  * thread. */
 void saxiko_writer_close(struct saxiko_writer *writer);
 
-/* As the calls of a table, while readers look up. -EBUSY of an add: a group is lacking, and a reader holds the oldest
- * that waits, so that it can be tried again once that one has reported; -ENOSPC, where none waits. -EAGAIN: a grace
+/* As the calls of a table, while readers look up. -EBUSY of an add or insert: a group is lacking, and a reader holds the
+ * oldest that waits, so that it can be tried again once that one has reported; -ENOSPC, where none waits. -EAGAIN: a grace
  * period lasts (saxiko_writer_start). On the writer's thread. */
 int32_t saxiko_writer_add(struct saxiko_writer *writer, uint32_t addr, uint8_t depth, uint32_t hop);
+int32_t saxiko_writer_insert(struct saxiko_writer *writer, uint32_t addr, uint8_t depth, uint32_t hop, uint32_t *old);
 int32_t saxiko_writer_delete(struct saxiko_writer *writer, uint32_t addr, uint8_t depth, uint32_t *hop);
 int32_t saxiko_writer_flush(struct saxiko_writer *writer, size_t *rules);
 int32_t saxiko_writer_get(struct saxiko_writer *writer, uint32_t addr, uint8_t depth, uint32_t *hop);
 int32_t saxiko_writer_next_rule(struct saxiko_writer *writer, const struct saxiko_route *after,
                                 struct saxiko_route *rule);
+int32_t saxiko_writer_lookup_rule(struct saxiko_writer *writer, uint32_t addr, struct saxiko_route *rule);
 int32_t saxiko_writer_counts(struct saxiko_writer *writer, struct saxiko_counts *counts);
 
 /* Frees at most `max` groups that wait, the oldest first, up to one that a reader holds, and stores how many. It returns
@@ -207,9 +218,9 @@ int32_t saxiko_writer_counts(struct saxiko_writer *writer, struct saxiko_counts 
 int32_t saxiko_writer_reclaim(struct saxiko_writer *writer, size_t max, size_t *freed, struct saxiko_held *held);
 
 /* Starts a grace period, which is over once each reader has reported or was offline, as rte_rcu_qsbr_start. While it
- * lasts the table isn't changed: add, delete, flush, reclaim, get, next_rule and counts of the writer are -EAGAIN. All
- * calls of readers, and closing, are as ever. -EALREADY: a grace period lasts. -EOVERFLOW: fewer tokens of 2^62 are left
- * than there are groups. On the writer's thread. */
+ * lasts the table isn't changed: add, insert, delete, flush, reclaim, get, lookup_rule, next_rule and counts of the writer
+ * are -EAGAIN. All calls of readers, and closing, are as ever. -EALREADY: a grace period lasts. -EOVERFLOW: fewer tokens
+ * of 2^62 are left than there are groups. On the writer's thread. */
 int32_t saxiko_writer_start(struct saxiko_writer *writer);
 
 /* Checks once whether the grace period is over, as rte_rcu_qsbr_check does where it is not to wait. It is 0 where no

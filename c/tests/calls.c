@@ -5,6 +5,7 @@
 #include "calls_table.h"
 
 #include "calls_rte_lpm.h"
+#include "calls_rules.h"
 #include "calls_running.h"
 #include "calls_walk.h"
 
@@ -59,6 +60,7 @@ int main(void) {
     table_calls();
     running_calls();
     walk_calls();
+    rules_calls();
     rte_lpm_calls();
     texts();
     many_routes();

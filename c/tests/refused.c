@@ -43,13 +43,16 @@ static struct saxiko_reader reader = SAXIKO_CLOSED;
 static struct saxiko_route routes[MANY];
 static uint32_t next;
 static size_t bad = 77;
+static uint32_t old = 77;
 
 static int32_t open_table(void) { return saxiko_table_open(&table, &limits); }
 static int32_t load_table(void) { return saxiko_table_load(&table, &limits, routes, MANY, &bad); }
 static int32_t add_to_table(void) { return saxiko_table_add(&table, routes[next].addr, 24, next); }
+static int32_t insert_in_table(void) { return saxiko_table_insert(&table, routes[next].addr, 24, next, &old); }
 static int32_t open_writer(void) { return saxiko_writer_open(&writer, &limits); }
 static int32_t load_writer(void) { return saxiko_writer_load(&writer, &limits, routes, MANY, &bad); }
 static int32_t add_to_writer(void) { return saxiko_writer_add(&writer, routes[next].addr, 24, next); }
+static int32_t insert_by_writer(void) { return saxiko_writer_insert(&writer, routes[next].addr, 24, next, &old); }
 static int32_t register_reader(void) { return saxiko_reader_register(&writer, &reader, 0); }
 
 /* How many rules there are, or the error. */
@@ -83,6 +86,7 @@ static int refusals(int32_t (*call)(void), int64_t (*look)(void), int32_t wanted
             return tries;
         CHECK(look(), before);
         CHECK(bad, 77);
+        CHECK(old, 77);
     }
     return TRIES;
 }
@@ -90,6 +94,7 @@ static int refusals(int32_t (*call)(void), int64_t (*look)(void), int32_t wanted
 /* Calls of a table that take no memory. */
 static void without_memory(void) {
     uint32_t addrs[2] = {routes[0].addr, 0}, hops[2] = {0, 0}, hop = 0;
+    struct saxiko_route rule = {0, 0, 0};
     size_t count = 0;
     granted = 0;
     CHECK(saxiko_table_lookup(&table, routes[9].addr, &hop), 0);
@@ -97,6 +102,10 @@ static void without_memory(void) {
     CHECK(saxiko_table_lookup_bulk(&table, addrs, 2, hops, 2, 7), 0);
     CHECK(hops[1], 7);
     CHECK(saxiko_table_get(&table, routes[9].addr, 24, &hop), 0);
+    CHECK(saxiko_table_lookup_rule(&table, routes[9].addr + 9, &rule), 0);
+    CHECK(rule.hop, 9);
+    CHECK(saxiko_table_insert(&table, routes[9].addr, 24, 11, &hop), SAXIKO_REPLACED);
+    CHECK(hop, 9);
     CHECK(saxiko_table_add(&table, routes[9].addr, 24, 10), SAXIKO_REPLACED);
     CHECK(saxiko_table_delete(&table, routes[9].addr, 24, &hop), 0);
     CHECK(hop, 10);
@@ -109,6 +118,7 @@ static void without_memory(void) {
 
 static void running_without_memory(void) {
     uint32_t addrs[2] = {routes[0].addr, 0}, hops[2] = {0, 0}, hop = 0;
+    struct saxiko_route rule = {0, 0, 0};
     size_t count = 0;
     granted = 0;
     CHECK(saxiko_reader_online(&reader), 0);
@@ -118,6 +128,10 @@ static void running_without_memory(void) {
     CHECK(hops[1], 7);
     CHECK(saxiko_reader_quiescent(&reader), 0);
     CHECK(saxiko_writer_get(&writer, routes[9].addr, 24, &hop), 0);
+    CHECK(saxiko_writer_lookup_rule(&writer, routes[9].addr + 9, &rule), 0);
+    CHECK(rule.hop, 9);
+    CHECK(saxiko_writer_insert(&writer, routes[9].addr, 24, 11, &hop), SAXIKO_REPLACED);
+    CHECK(hop, 9);
     CHECK(saxiko_writer_add(&writer, routes[9].addr, 24, 10), SAXIKO_REPLACED);
     CHECK(saxiko_writer_delete(&writer, routes[9].addr, 24, &hop), 0);
     CHECK(hop, 10);
@@ -130,25 +144,31 @@ static void running_without_memory(void) {
     granted = TRIES;
 }
 
-int main(void) {
+/* A table is opened, and rules come one by one. */
+static void one_by_one(int32_t (*open)(void), int32_t (*call)(void), int64_t (*look)(void)) {
     int refused = 0;
+    CHECK(refusals(open, look, 0) > 0, 1);
+    for (next = 0; next < MANY; next++)
+        refused += refusals(call, look, SAXIKO_ADDED);
+    CHECK(refused > 0, 1);
+}
+
+int main(void) {
     for (uint32_t k = 0; k < MANY; k++)
         routes[k] = (struct saxiko_route){.addr = 0x0a000000 + (k * 7919 % MANY) * 256, .hop = k, .depth = 24};
     CHECK(refusals(load_table, rules_of_table, 0) > 0, 1);
     CHECK(rules_of_table(), MANY);
     saxiko_table_close(&table);
-    CHECK(refusals(open_table, rules_of_table, 0) > 0, 1);
-    for (next = 0; next < MANY; next++)
-        refused += refusals(add_to_table, rules_of_table, SAXIKO_ADDED);
-    CHECK(refused > 0, 1);
+    one_by_one(open_table, insert_in_table, rules_of_table);
+    saxiko_table_close(&table);
+    one_by_one(open_table, add_to_table, rules_of_table);
     without_memory();
     CHECK(refusals(load_writer, rules_of_writer, 0) > 0, 1);
     CHECK(rules_of_writer(), MANY);
     saxiko_writer_close(&writer);
-    CHECK(refusals(open_writer, rules_of_writer, 0) > 0, 1);
-    for (next = 0, refused = 0; next < MANY; next++)
-        refused += refusals(add_to_writer, rules_of_writer, SAXIKO_ADDED);
-    CHECK(refused > 0, 1);
+    one_by_one(open_writer, insert_by_writer, rules_of_writer);
+    saxiko_writer_close(&writer);
+    one_by_one(open_writer, add_to_writer, rules_of_writer);
     CHECK(refusals(register_reader, report_of_reader, 0) > 0, 1);
     running_without_memory();
     return end_of_checks("refused");

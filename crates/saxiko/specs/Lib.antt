@@ -1,4 +1,3 @@
 pub mod Owned
 pub mod Bursts
 pub mod Texts
-pub mod Matches

@@ -2,7 +2,7 @@
 
 ghost use Rattle.std.specs.Prelude.{◌≡◌, ◌≤◌};
 ghost use Rattle.lpm_bits.specs.Network.{prefix_of};
-ghost use Rattle.saxiko.specs.Matches.{IsMatch};
+ghost use Rattle.shared_fib.specs.Matches.{IsMatch};
 
 use crate::{Owner, Prefix, Rule, Table};
 

@@ -1,7 +1,9 @@
 pub mod Calls
 pub mod Grace
+pub mod Inserting
 pub mod Limits
 pub mod Loads
+pub mod Matching
 pub mod Opened
 pub mod Owned
 pub mod Owners

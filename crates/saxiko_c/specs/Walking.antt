@@ -5,17 +5,9 @@ use Rattle.lpm_bits.specs.Network.{Network, prefix_of}
 use Rattle.lpm_rules.specs.RuleMap.{RuleMap}
 use Rattle.lpm_rules.specs.Walking.{IsNextRule}
 use Rattle.lpm_rules.specs.declared.Rule.{Rule}
-use Rattle.saxiko_c.specs.Status.{done, no_entry, invalid}
+use Rattle.saxiko_c.specs.Matching.{TellsRule}
+use Rattle.saxiko_c.specs.Status.{invalid}
 use Rattle.saxiko_c.specs.declared.records.SaxikoRoute.{SaxikoRoute}
-
--- the route of a rule
-abbrev pub route_of : Rule 24 8 → SaxikoRoute
-route_of rule = record { addr = rule.prefix.bits; hop = rule.hop; depth = rule.prefix.len }
-
--- the rule's route is stored, or it is ENOENT where there is none
-abbrev pub TellsRule : Option (Rule 24 8) → SaxikoRoute → SaxikoRoute → ℤ → Type 0
-TellsRule None before after status = (status ≡ no_entry) × (after ≡ before)
-TellsRule (Some rule) before after status = (status ≡ done) × (after ≡ route_of rule)
 
 -- the rule that comes next after the prefix
 abbrev pub WalksOn : Option Network → SaxikoRoute → SaxikoRoute → RuleMap → ℤ → Type 0

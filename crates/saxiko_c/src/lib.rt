@@ -7,8 +7,12 @@
 mod bursts;
 mod grace;
 mod grace_calls;
+mod inserting;
+mod inserting_calls;
 mod loading;
 mod loose;
+mod matches;
+mod matches_calls;
 mod owner;
 mod reader;
 mod reader_handle;
@@ -25,6 +29,8 @@ mod walk_calls;
 mod writer_handle;
 
 pub use grace_calls::{saxiko_proved_writer_check, saxiko_proved_writer_start};
+pub use inserting_calls::{saxiko_proved_table_insert, saxiko_proved_writer_insert};
+pub use matches_calls::{saxiko_proved_table_lookup_rule, saxiko_proved_writer_lookup_rule};
 pub use reader_handle::SaxikoReader;
 pub use records::{SaxikoConfig, SaxikoCounts, SaxikoHeld, SaxikoRoute};
 pub use running_calls::{

@@ -37,7 +37,7 @@ impl SaxikoConfig {
     }
 }
 
-/// A route, of a list that is loaded or as a walk stores it: `struct saxiko_route` in C.
+/// A route, of a list that is loaded or as a rule is told: `struct saxiko_route` in C.
 #[repr(C)]
 #[derive(Clone, Copy)]
 pub struct SaxikoRoute {

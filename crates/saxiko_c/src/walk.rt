@@ -2,31 +2,14 @@
 
 ghost use Rattle.std.specs.Prelude.{◌≡◌};
 ghost use Rattle.saxiko_c.specs.Grace.{AsksAtRest};
-ghost use Rattle.saxiko_c.specs.Walking.{FindsFirst, FindsNext, TellsRule};
+ghost use Rattle.saxiko_c.specs.Walking.{FindsFirst, FindsNext};
 
+use crate::matches::tell;
 use crate::owner::Owner;
 use crate::records::SaxikoRoute;
-use crate::status::{EAGAIN, EINVAL, ENOENT};
+use crate::status::{EAGAIN, EINVAL};
 use fib::Fib;
 use lpm_bits::Prefix;
-use lpm_rules::Rule;
-
-/// Stores the route of a rule that was found.
-fn tell(found: Option<Rule<24, 8>>, rule: &mut SaxikoRoute) -> i32
-    ensures { TellsRule found rule.old rule.new result }
-{
-    match found {
-        Some(found) => {
-            *rule = SaxikoRoute {
-                addr: found.prefix.bits(),
-                hop: found.hop.number(),
-                depth: found.prefix.len() as u8,
-            };
-            0
-        }
-        None => ENOENT,
-    }
-}
 
 pub(crate) fn first_of_table(fib: &Fib<24, 8>, rule: &mut SaxikoRoute) -> i32
     ensures { FindsFirst rule.old rule.new fib.now.table.rules result }

@@ -5,3 +5,4 @@ pub mod Versions
 pub mod Passes
 pub mod Loading
 pub mod GracePeriods
+pub mod Matches

@@ -1,0 +1,63 @@
+//! What the adds that tell the replaced next hop do.
+
+ghost use Rattle.std.specs.Prelude.{◌≡◌};
+ghost use Rattle.saxiko_c.specs.Grace.{AtRest};
+ghost use Rattle.saxiko_c.specs.Inserting.{InsertsRule, InsertsTo};
+
+use crate::owner::Owner;
+use crate::running::number_or;
+use crate::status::{EAGAIN, EINVAL, of_put, of_refusal};
+use fib::Fib;
+use lpm_bits::{Hop, Prefix};
+
+pub(crate) fn insert_in_table(
+    fib: &mut Fib<24, 8>,
+    addr: u32,
+    depth: u8,
+    hop: u32,
+    had: &mut u32,
+) -> i32
+    ensures { InsertsRule addr depth hop had.old had.new fib.old result fib.new }
+{
+    match (Prefix::new(addr, u32::from(depth)), Hop::new(hop)) {
+        (Ok(prefix), Ok(hop)) => {
+            let replaced = fib.get(&prefix);
+            match fib.add(&prefix, hop) {
+                Ok(put) => {
+                    *had = number_or(replaced, *had);
+                    of_put(put)
+                }
+                Err(refusal) => of_refusal(refusal),
+            }
+        }
+        _ => EINVAL,
+    }
+}
+
+pub(crate) fn insert_by_writer(
+    owner: &mut Owner,
+    addr: u32,
+    depth: u8,
+    hop: u32,
+    had: &mut u32,
+) -> i32
+    ensures { AtRest (InsertsTo addr depth hop had.old had.new) (had.new ≡ had.old)
+        owner.old result owner.new }
+{
+    if owner.is_waiting() {
+        return EAGAIN;
+    }
+    match (Prefix::new(addr, u32::from(depth)), Hop::new(hop)) {
+        (Ok(prefix), Ok(hop)) => {
+            let replaced = owner.get(&prefix);
+            match owner.add(&prefix, hop) {
+                Ok(put) => {
+                    *had = number_or(replaced, *had);
+                    of_put(put)
+                }
+                Err(refusal) => of_refusal(refusal),
+            }
+        }
+        _ => EINVAL,
+    }
+}
