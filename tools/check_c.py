@@ -16,6 +16,7 @@ What fails is printed, and makes the exit status 1. The archive is made anew by 
 - manual: docs/man/saxiko.3 has the calls of the header, with their parameters.
 - bench: by valgrind's count, a lookup by a handle takes at most MORE instructions more than one over plain words, one of
   many at once no more than one by itself, and a reader's of many at most RATIO times those of a table's.
+- pages: c/tests/pages.c gets the same answers on small pages and on huge ones; it prints what lookups take on each.
 
 Without a C and a C++ compiler, valgrind or their libraries it says what to install, and fails.
 """
@@ -172,8 +173,15 @@ def check_bench(folder):
         yield f"a reader's lookup of many takes more than {RATIO} times the instructions of a table's"
 
 
+def check_pages(folder):
+    status, told = run([compiled(folder, ["c/tests/pages.c"])])
+    print(told, end="")
+    if status:
+        yield f"c/tests/pages.c ends with {status}"
+
+
 CHECKS = [check_header, check_archive, check_manual, check_heap, check_calls, check_memory, check_threads, check_example,
-          check_bench]
+          check_bench, check_pages]
 
 
 def main():
