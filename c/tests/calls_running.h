@@ -178,15 +178,23 @@ static void holding(struct saxiko_writer *writer, struct saxiko_reader *reader) 
 static void waiting(struct saxiko_writer *writer, struct saxiko_reader *reader) {
     struct saxiko_held held = {UNTOUCHED, UNTOUCHED};
     struct saxiko_counts counts = {UNTOUCHED, 0, 0, 0, 0, 0};
+    struct saxiko_route rule = {UNTOUCHED, UNTOUCHED, 77};
     size_t number = UNTOUCHED;
+    uint32_t old = UNTOUCHED;
     CHECK(saxiko_writer_start(writer), -EALREADY);
     CHECK(saxiko_writer_open(writer, &running_limits), -EBUSY);
     CHECK(saxiko_writer_add(writer, 0, 0, 1), -EAGAIN);
+    CHECK(saxiko_writer_insert(writer, 0, 0, 1, &old), -EAGAIN);
     CHECK(writer_deleted(writer, A(10, 1, 1, 128), 25), -EAGAIN);
     CHECK(saxiko_writer_flush(writer, &number), -EAGAIN);
     CHECK(saxiko_writer_reclaim(writer, 2, &number, &held), -EAGAIN);
     CHECK(writer_held(writer, A(10, 1, 1, 128), 25), -EAGAIN);
+    CHECK(saxiko_writer_lookup_rule(writer, A(10, 1, 1, 128), &rule), -EAGAIN);
+    CHECK(saxiko_writer_next_rule(writer, NULL, &rule), -EAGAIN);
+    CHECK(saxiko_writer_next_rule(writer, &rule, &rule), -EAGAIN);
     CHECK(saxiko_writer_counts(writer, &counts), -EAGAIN);
+    CHECK(old, UNTOUCHED);
+    CHECK(rule.addr == UNTOUCHED && rule.hop == UNTOUCHED && rule.depth == 77, 1);
     CHECK(number, UNTOUCHED);
     CHECK(held.reader, UNTOUCHED);
     CHECK(counts.rules, UNTOUCHED);
