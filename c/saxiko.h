@@ -128,7 +128,7 @@ int32_t saxiko_table_get(struct saxiko_table *table, uint32_t addr, uint8_t dept
 /* Stores the rule that comes next after the prefix of `after`, or the first rule where `after` is null. Rules are in the
  * order of their addresses, and of one address the rule of the lower depth comes first. The prefix of `after` need not
  * have a rule, so that a walk goes on while rules come and go, and its hop doesn't count. `rule` may be `after`.
- * -ENOENT: no rule comes after it. -EINVAL: a depth above 32. */
+ * -ENOENT: no rule comes after it. -EINVAL: a depth above 32. On the table's thread. */
 int32_t saxiko_table_next_rule(struct saxiko_table *table, const struct saxiko_route *after,
                                struct saxiko_route *rule);
 

@@ -5,8 +5,10 @@
  * - A prefix of depth 0 is a rule, the default route.
  * - Next hops have 24 bits, and a greater one is refused.
  * - `number_tbl8s` is 1 to 65536, and `max_rules` at most 16777216. Names and sockets are not kept.
- * - One thread has the table, for changes and lookups, and then a group (a tbl8) that is given up can be used again at
- *   once. Lookups beside changes are those of saxiko_reader_lookup, where it waits until no reader can hold it.
+ * - One thread has the table and makes all calls of it, so that a group (a tbl8) that is given up can be used again at
+ *   once. DPDK lets many threads look up at once, and these calls don't: lookups on other threads, also beside changes,
+ *   are those of saxiko_reader_lookup, where a group waits until no reader can hold it.
+ * - rte_lpm_lookup_bulk stores a next hop with RTE_LPM_LOOKUP_SUCCESS, and no bits above that.
  * - Errors of rte_lpm_create are in errno. */
 #ifndef SAXIKO_RTE_LPM_H
 #define SAXIKO_RTE_LPM_H

@@ -6,6 +6,7 @@
 What fails is printed, and makes the exit status 1. The archive is made anew by tools/build_c.py. Checked are
 
 - headers: saxiko.h and saxiko_rte_lpm.h compile without a warning as C99, C11 and C++11, in front of all others.
+- comments: in saxiko.h the comment of each call, or of the calls that stand together, says on which thread it is made.
 - archive: it has each call that the header declares, and needs no more of others than the page of the crate names.
 - heap: c/tests/heap.c asks for small and large blocks as the proved part does; in the same three ways as the calls.
 - calls: c/tests/calls.c tries each call with what it refuses; as it is, with the sanitizers of addresses and of
@@ -81,6 +82,13 @@ def check_header(folder):
         status, told = run([*words, "-Ic", "-Wall", "-Wextra", "-Wpedantic", "-Werror", "-c", source, "-o", "/dev/null"])
         if status or told:
             yield f"{words}: {told}"
+
+
+def check_comments(folder):
+    for part in (TOP / "c/saxiko.h").read_text().split("\n\n"):
+        calls = re.findall(r"(?m)^(?:inline )?\w[\w ]*[ *](saxiko_\w+)\(", part)
+        if calls and not re.match(r"/\*(?:(?!\*/)[\s\S])*\bthread\b", part):
+            yield f"c/saxiko.h: no comment says on which thread {calls[0]} is made"
 
 
 def check_archive(folder):
@@ -180,7 +188,7 @@ def check_pages(folder):
         yield f"c/tests/pages.c ends with {status}"
 
 
-CHECKS = [check_header, check_archive, check_manual, check_heap, check_calls, check_memory, check_threads, check_example,
+CHECKS = [check_header, check_comments, check_archive, check_manual, check_heap, check_calls, check_memory, check_threads, check_example,
           check_bench, check_pages]
 
 
