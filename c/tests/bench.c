@@ -6,6 +6,13 @@
 #include <stdlib.h>
 #include <string.h>
 
+/* A function that is compiled by itself. */
+#ifdef __clang__
+#define ALONE __attribute__((noinline))
+#else
+#define ALONE __attribute__((noipa))
+#endif
+
 enum { LOOKUPS = 10000, FIRSTS = 1 << 24, IS_GROUP = 1 << 25, IS_HIT = 1 << 24 };
 
 struct words {
@@ -13,7 +20,7 @@ struct words {
 };
 
 /* One word, or two where the first is that of a group: a function of its own, as that of a library is. */
-__attribute__((noipa)) static int32_t word_lookup(const struct words *words, uint32_t addr, uint32_t *hop) {
+ALONE static int32_t word_lookup(const struct words *words, uint32_t addr, uint32_t *hop) {
     uint32_t word = words->firsts[addr >> 8];
     if (word & IS_GROUP)
         word = words->seconds[(word & 0xffff) << 8 | (addr & 0xff)];
@@ -23,25 +30,25 @@ __attribute__((noipa)) static int32_t word_lookup(const struct words *words, uin
     return 0;
 }
 
-__attribute__((noipa)) static uint32_t by_words(const struct words *words, const uint32_t *addrs) {
+ALONE static uint32_t by_words(const struct words *words, const uint32_t *addrs) {
     uint32_t sum = 0, hop = 0;
     for (int k = 0; k < LOOKUPS; k++)
         sum += word_lookup(words, addrs[k], &hop) == 0 ? hop : 7;
     return sum;
 }
 
-__attribute__((noipa)) static uint32_t by_handle(struct saxiko_table *table, const uint32_t *addrs) {
+ALONE static uint32_t by_handle(struct saxiko_table *table, const uint32_t *addrs) {
     uint32_t sum = 0, hop = 0;
     for (int k = 0; k < LOOKUPS; k++)
         sum += saxiko_table_lookup(table, addrs[k], &hop) == 0 ? hop : 7;
     return sum;
 }
 
-__attribute__((noipa)) static void by_table_bulk(struct saxiko_table *table, const uint32_t *addrs, uint32_t *hops) {
+ALONE static void by_table_bulk(struct saxiko_table *table, const uint32_t *addrs, uint32_t *hops) {
     saxiko_table_lookup_bulk(table, addrs, LOOKUPS, hops, LOOKUPS, 7);
 }
 
-__attribute__((noipa)) static void by_reader_bulk(struct saxiko_reader *reader, const uint32_t *addrs, uint32_t *hops) {
+ALONE static void by_reader_bulk(struct saxiko_reader *reader, const uint32_t *addrs, uint32_t *hops) {
     saxiko_reader_lookup_bulk(reader, addrs, LOOKUPS, hops, LOOKUPS, 7);
 }
 

@@ -10,6 +10,13 @@
 #include <sys/prctl.h>
 #include <time.h>
 
+/* A function that is compiled by itself. */
+#ifdef __clang__
+#define ALONE __attribute__((noinline))
+#else
+#define ALONE __attribute__((noipa))
+#endif
+
 enum { ROUTES = 100000, LOOKUPS = 1000000, ROUNDS = 61, FIRSTS = 1 << 24, HUGE_PAGE = 1 << 21 };
 
 /* The same routes twice. All have at most 24 bits, so that a lookup reads one word. */
@@ -49,7 +56,7 @@ static void open_place(struct place *place, int is_huge) {
             place->words[k] = UINT32_MAX;
 }
 
-__attribute__((noipa)) static int32_t word_lookup(const uint32_t *words, uint32_t addr, uint32_t *hop) {
+ALONE static int32_t word_lookup(const uint32_t *words, uint32_t addr, uint32_t *hop) {
     uint32_t word = words[addr >> 8];
     if (word == UINT32_MAX)
         return -ENOENT;
@@ -57,14 +64,14 @@ __attribute__((noipa)) static int32_t word_lookup(const uint32_t *words, uint32_
     return 0;
 }
 
-__attribute__((noipa)) static uint32_t by_words(struct place *place, uint32_t addr) {
+ALONE static uint32_t by_words(struct place *place, uint32_t addr) {
     uint32_t sum = 0, hop = 0;
     for (int k = 0; k < LOOKUPS; k++, addr = drawn(addr))
         sum += word_lookup(place->words, addr, &hop) == 0 ? hop : 7;
     return sum;
 }
 
-__attribute__((noipa)) static uint32_t by_handle(struct place *place, uint32_t addr) {
+ALONE static uint32_t by_handle(struct place *place, uint32_t addr) {
     uint32_t sum = 0, hop = 0;
     for (int k = 0; k < LOOKUPS; k++, addr = drawn(addr))
         sum += saxiko_table_lookup(&place->table, addr, &hop) == 0 ? hop : 7;
