@@ -8,18 +8,18 @@ What fails is printed, and makes the exit status 1. Checked are
 - options: docs/FORMATS.md and the manual page docs/man/lpmtool.1 have the options of crates/lpm_options, each with its
   range and default, the commands with their operands, and the same exit statuses, and no others.
 - words: the completions of each shell have these commands and options, and no others.
-- completion: bash offers the options of a command that aren't given yet, as many files as the command wants, and
-  neither where a number is wanted. fish offers the commands, and the options of each.
+- completion: bash, zsh and fish offer the commands, the options of each, as many files as it wants, and neither where a
+  number is wanted. bash and zsh offer no option that is given already.
 - installing: from a copy of the repository's files under a folder, the program runs and each file is in place, with
   DESTDIR too, and with the library for C programs and without it. After --uninstall nothing is left but what was there
   before. Where nothing is built it says so. pkg-config, where it is installed, tells the library's folders and version.
 - the first look: tools/lpmtool is the built program, and answers the addresses of examples/. Where nothing is built it
   says that what follows is unproved, and hands words and files to `rt try`, of which a stand-in takes note here.
-- form: mandoc's lint has nothing to say of the manual pages, man shows them without a warning, and zsh and fish read
-  their completions. Each is checked only where that program is installed.
+- form: mandoc's lint has nothing to say of the manual pages, and man shows them without a warning.
 
-The program that is installed is the built one, or a stand-in where none is there. Not seen: what zsh offers at a place,
-where fish offers files, and whether the shells look for their completions where these are put.
+What needs mandoc, man, zsh, fish or pkg-config is checked only where that is installed; what isn't is told. The program
+that is installed is the built one, or a stand-in where none is there. Not seen: whether the shells look for their
+completions where these are put.
 """
 import argparse
 import contextlib
@@ -70,6 +70,32 @@ while read line
     set offers (complete -C $line | string replace -r "\t.*" "")
     printf "%s\n" "$offers"
 end
+"""
+
+# Prints what zsh offers for each line: a zsh at a terminal of its own is handed the line, and then a key of its own that
+# takes note of what would be offered.
+TRY_ZSH = r"""
+zmodload zsh/zpty || exit
+export told=$PWD/.told
+mkfifo $told
+exec {told_at}<> $told
+zpty shell zsh -f -i
+zpty -w shell "fpath=(${(q)1} \$fpath); autoload -Uz compinit; compinit -u -D"
+zpty -w shell "zstyle ':completion:*' completer _complete"
+zpty -w shell 'compadd() {
+    local -a hits
+    if [[ " ${(j: :)@[1,(i)(-|--)]}" == *" -"[OAD]" "* ]]; then builtin compadd "$@"; return; fi
+    builtin compadd -O hits "$@"
+    offers+=($hits)
+}'
+zpty -w shell 'tell() { typeset -gaU offers; offers=(); _main_complete; print -r -- "$offers" > $told }'
+zpty -w shell 'zle -C tell complete-word tell; bindkey "^T" tell; print > $told'
+read -r -t 20 -u $told_at || exit
+while IFS= read -r line; do
+    zpty -w -n shell $'\x15'$line$'\x14'
+    read -r -t 20 -u $told_at offers || exit
+    print -r -- $offers
+done
 """
 # man's warnings, without the page.
 TRY_MAN = 'LC_ALL=C.UTF-8 man --warnings -l "$1" 2>&1 > /dev/null'
@@ -169,9 +195,11 @@ def check_manual():
 
 def check_form():
     for manual in (MANUAL, LIBRARY_MANUAL):
-        status, told = run(["mandoc", "-Tlint", "-Wwarning", manual])
-        if status or told:
-            yield f"{manual}: {told}"
+        _, told = run(["mandoc", "-Tlint", manual])
+        # whether a page that it names is installed is the system's
+        for line in told.splitlines():
+            if "referenced manual not found" not in line:
+                yield line
 
 
 def check_shown():
@@ -218,22 +246,33 @@ def check_bash():
                            {line: sorted(it.split()) for line, it in zip(lines(), offers)})
 
 
-def check_fish():
-    wanted = {"lpmtool ": [*commands(), "help"], "lpmtool help ": [*commands(), "help"], "lpmtool help lookup ": []}
-    wanted |= {f"lpmtool {name} --": [f"--{it}" for it in (*command.options, "help")]
-               for name, command in commands().items()}
-    words = ["fish", "--no-config", "-c", TRY_FISH, f"{FOLDER}/lpmtool.fish"]
-    _, told = run(words, input="".join(f"{line}\n" for line in wanted))
-    if len(told.splitlines()) != len(wanted):
-        yield f"fish: {told}"
-    yield from differences("fish", {line: sorted(it) for line, it in wanted.items()},
+def check_shell(name, words, more):
+    """What fish or zsh offers in a folder with the file `FILES`."""
+    # what bash parts, and where it leaves files to the shell, is its own
+    wanted = {line: it for line, it in lines().items() if " = " not in line and "=" != line.strip()[-1]}
+    wanted = {**wanted, "lpmtool -": ["--help", "--version", "-V", "-h"], "lpmtool apply -- --r": [], **more}
+    with tempfile.TemporaryDirectory(prefix="check install ") as folder:
+        pathlib.Path(folder, "FILES").touch()
+        status, told = run(words, input="".join(f"{line}\n" for line in wanted), cwd=folder)
+    if status or len(told.splitlines()) != len(wanted):
+        yield f"{name} ends with {status}: {told}"
+    yield from differences(name, {line: sorted(it) for line, it in wanted.items()},
                            {line: sorted(it.split()) for line, it in zip(wanted, told.splitlines())})
 
 
-def check_syntax(shell):
-    status, told = run([shell, "-n", f"{FOLDER}/{SHELLS[shell][0]}"])
-    if status or told:
-        yield f"{shell}: {told}"
+def check_fish():
+    # it offers an option again that is given already
+    more = {"lpmtool storm --rounds 5 --stuck --r": ["--rounds", "--rules"], "lpmtool lookup --groups=10 --g": ["--groups"]}
+    yield from check_shell("fish", ["fish", "--no-config", "-c", TRY_FISH, TOP / FOLDER / "lpmtool.fish"], more)
+
+
+def check_zsh():
+    # where all files are there, it offers the options that are left
+    more = {f"lpmtool {name}{' file' * len(command.files)} ": [*(f"--{it}" for it in (*command.options, "help")), "-h"]
+            for name, command in commands().items() if command.operands == command.files}
+    more["lpmtool lookup --groups 10 a b "] = [f"--{it}" for it in (*commands()["lookup"].options, "help")
+                                               if it != "groups"] + ["-h"]
+    yield from check_shell("zsh", ["zsh", "-f", "-c", TRY_ZSH, "zsh", TOP / FOLDER], more)
 
 
 # ---- tools/install.sh
@@ -389,13 +428,14 @@ def check_unproved_look():
 
 
 def checks(program):
+    """The checks that can be made here, and what isn't checked for want of a program."""
     found = [check_formats, check_manual, check_words, check_bash, check_not_built, check_unproved_look]
     found += [functools.partial(check_round, program, is_staged) for is_staged in (False, True)]
     found += [functools.partial(it, program) for it in (check_refused_words, check_first_look)]
-    found += [functools.partial(check_pkg_config, program)] * bool(shutil.which("pkg-config"))
-    for check, name in ((check_form, "mandoc"), (check_shown, "man"), (check_fish, "fish")):
-        found += [check] * bool(shutil.which(name))
-    return found + [functools.partial(check_syntax, shell) for shell in ("zsh", "fish") if shutil.which(shell)]
+    optional = {"mandoc": check_form, "man": check_shown, "zsh": check_zsh, "fish": check_fish,
+                "pkg-config": functools.partial(check_pkg_config, program)}
+    lacking = [name for name in optional if not shutil.which(name)]
+    return found + [check for name, check in optional.items() if name not in lacking], lacking
 
 
 def main():
@@ -406,7 +446,10 @@ def main():
     asked = asked.parse_args()
     os.environ.pop("DESTDIR", None)
     passed, failed = asked.passed, 0
-    for check in checks(asked.program):
+    found, lacking = checks(asked.program)
+    if lacking:
+        print(f"not installed, so what needs them isn't checked: {', '.join(lacking)}")
+    for check in found:
         try:
             faults = list(check())
         except (OSError, subprocess.TimeoutExpired) as error:
