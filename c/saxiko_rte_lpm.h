@@ -21,6 +21,11 @@
 #define RTE_LPM_MAX_DEPTH 32
 #define RTE_LPM_LOOKUP_SUCCESS 0x01000000u
 
+/* Four addresses, as DPDK's rte_vect.h has them. */
+#ifndef _RTE_VECT_X86_H_
+typedef __m128i xmm_t;
+#endif
+
 struct rte_lpm_config {
     uint32_t max_rules;
     uint32_t number_tbl8s;
@@ -98,8 +103,8 @@ static inline int rte_lpm_lookup_bulk(const struct rte_lpm *lpm, const uint32_t 
     return status;
 }
 
-/* Stores the next hops of the four addresses of a vector (xmm_t of DPDK), and `defv` for one that no rule covers. */
-static inline void rte_lpm_lookupx4(const struct rte_lpm *lpm, __m128i ip, uint32_t hop[4], uint32_t defv) {
+/* Stores the next hops of the four addresses of a vector, and `defv` for one that no rule covers. */
+static inline void rte_lpm_lookupx4(const struct rte_lpm *lpm, xmm_t ip, uint32_t hop[4], uint32_t defv) {
     uint32_t ips[4];
     _mm_storeu_si128((__m128i *)(void *)ips, ip);
     saxiko_table_lookup_bulk(rte_lpm_table(lpm), ips, 4, hop, 4, defv);

@@ -27,7 +27,7 @@ static void rte_lpm_limits(void) {
 static void rte_lpm_bulks(const struct rte_lpm *lpm) {
     uint32_t addrs[4] = {A(10, 1, 1, 200), A(10, 1, 1, 1), 0, A(9, 0, 0, 0)};
     uint32_t hops[5] = {7, 7, 7, 7, UNTOUCHED};
-    __m128i vector = _mm_loadu_si128((const __m128i *)(const void *)addrs);
+    xmm_t vector = _mm_loadu_si128((const __m128i *)(const void *)addrs);
     CHECK(rte_lpm_lookup_bulk(lpm, addrs, hops, 4), 0);
     CHECK(hops[0], RTE_LPM_LOOKUP_SUCCESS | 4);
     CHECK(hops[1], RTE_LPM_LOOKUP_SUCCESS | 5);
