@@ -15,6 +15,8 @@ What fails is printed, and makes the exit status 1. The archive is made anew by 
 - threads: c/tests/forwarder_threads.c looks up on three threads while a fourth changes routes, in the same three ways.
 - example: examples/forwarder.c prints what examples/forwarder.txt says.
 - manual: docs/man/saxiko.3 has the calls of the header, with their parameters.
+- installed: the program of that page, in C and in C++, finds the library that tools/install.sh has put under a folder, and
+  prints its answer.
 - bench: by valgrind's count, a lookup by a handle takes at most MORE instructions more than one over plain words, one of
   many at once no more than one by itself, and a reader's of many at most RATIO times those of a table's.
 - pages: c/tests/pages.c gets the same answers on small pages and on huge ones; it prints what lookups take on each.
@@ -31,7 +33,9 @@ import subprocess
 import sys
 import tempfile
 
+sys.dont_write_bytecode = True
 import build_c
+import check_install
 
 TOP = pathlib.Path(__file__).resolve().parent.parent
 ARCHIVE = build_c.OUT / "libsaxiko.a"
@@ -154,6 +158,22 @@ def check_example(folder):
         yield f"examples/forwarder.c ends with {status}: {told}"
 
 
+def check_installed(folder):
+    page = re.search(r"(?s)\.Bd -literal\n(.*?)\.Ed\n", MANUAL.read_text())[1].replace("\\e", "\\")
+    source, program = pathlib.Path(folder, "page.c"), pathlib.Path(folder, "page")
+    source.write_text(page)
+    with check_install.copied(pathlib.Path(folder, "none"), has_library=True) as place:
+        shutil.copyfile(ARCHIVE, place / "top" / check_install.ARCHIVE)
+        status, told = check_install.install(place, "--prefix", "new", env={**os.environ, "DESTDIR": ""})
+        if status:
+            yield f"tools/install.sh ends with {status}: {told}"
+        flags = [f"-I{place}/new/include", f"-L{place}/new/lib", "-lsaxiko"]  # what pkg-config tells
+        for words in ([*compiler(), *build_c.WARNINGS, "-xc"], ["g++", "-std=c++11", *build_c.WARNINGS[1:], "-xc++"]):
+            status, told = run([*words, source, "-xnone", *flags, "-o", program])
+            if status or told or run([program]) != (0, "2\n"):
+                yield f"{words} of the program of {MANUAL.relative_to(TOP)}: {told}"
+
+
 def instructions(folder, program, way):
     """How many instructions a lookup takes in one way, and what all answers add up to."""
     words = ["valgrind", "--tool=callgrind", f"--callgrind-out-file={folder}/callgrind", f"--toggle-collect=by_{way}*",
@@ -188,8 +208,8 @@ def check_pages(folder):
         yield f"c/tests/pages.c ends with {status}"
 
 
-CHECKS = [check_header, check_comments, check_archive, check_manual, check_heap, check_calls, check_memory, check_threads, check_example,
-          check_bench, check_pages]
+CHECKS = [check_header, check_comments, check_archive, check_manual, check_heap, check_calls, check_memory, check_threads,
+          check_example, check_installed, check_bench, check_pages]
 
 
 def main():
