@@ -17,6 +17,7 @@ Each fault is printed as `FILE:LINE: what`, and any makes the exit status 1. Che
 - crates: names in the columns of CRATES, and those behind the word crate or crates, stand in crates.txt.
 - definitions: beside a column File each name in a column Definitions stands in the files of its row, in a file that the
   row names besides, or in a crate that it names.
+- meanings: each file of specs that begins with *Meaning* is named in docs/TRUSTED.md, in a row of its crate.
 - clauses: beside a column Call, the clauses that a column Contract names are those of the row's calls.
 - figures: each table of tools/bench.py stands in docs/BENCHMARKS.md as its data have it, and the figures are what
   tools/plots.py draws of them; each number below the heading Performance of README.md stands in docs/BENCHMARKS.md.
@@ -52,6 +53,7 @@ import plots
 TOP = pathlib.Path(__file__).resolve().parent.parent
 PROGRAM = TOP / "crates/lpmtool/out/lpmtool"
 BENCHMARKS = "docs/BENCHMARKS.md"
+TRUSTED = "docs/TRUSTED.md"
 NUMBER = r"\d(?:[\d,.]*\d)?"
 SECONDS = 60  # for the commands of one block
 END = "---- what the command before printed ends here"
@@ -424,6 +426,20 @@ def check_files(page):
                 yield Fault(page.path, row.line, f"not in the files of this row: {name}")
 
 
+def check_meanings(page):
+    if page.path != TRUSTED:
+        return
+    named = set()
+    for row in (it for it in rows(page) if {"File", "Definitions"} <= set(it.cells)):
+        files = [path.split("/") for path in files_of(row.cells["File"])]
+        names = re.findall(r"`([^`]+)`", row.cells["Definitions"])
+        named |= {(file[0], name) for file in files for name in [file[-1], *names]}
+    for path in sorted(TOP.glob("crates/*/specs/*.antt")):
+        crate = path.parent.parent.name
+        if path.read_text().startswith("-- Meaning") and (crate, path.stem) not in named:
+            yield Fault(page.path, 1, f"not named, though it has a meaning: {crate}/specs/{path.stem}")
+
+
 def check_clauses(page):
     crate = crate_of(page.path)
     if crate not in crates():
@@ -515,8 +531,8 @@ def check_names(page):
 def faults(page, program):
     """All faults of a page. Without a program nothing is run."""
     runs = check_runs(page, program) if program else []
-    checks = (check_links, check_paths, check_crates, check_files, check_clauses, check_figures, check_excerpts,
-              check_calls, check_names)
+    checks = (check_links, check_paths, check_crates, check_files, check_meanings, check_clauses, check_figures,
+              check_excerpts, check_calls, check_names)
     return [*runs, *(fault for check in checks for fault in check(page))]
 
 
@@ -538,6 +554,7 @@ PLANTS = [
     Plant("docs/TRUSTED.md", "`IsDeepBlock`,", "`IsLongest`,", "not in the files of this row: IsLongest"),
     Plant("docs/TRUSTED.md", "Registry`, `Counters`", "Registry`, `Counts`", "no such file: qsbr/specs/Counts"),
     Plant("docs/TRUSTED.md", "`audit/specs/Wrong`", "`audit/specs/Right`", "no such file: audit/specs/Right"),
+    Plant("docs/TRUSTED.md", "`Walking`, ", "", "though it has a meaning: saxiko_c/specs/Walking"),
     Plant("crates/lpm_sweep/README.md", "`AreNumbered`", "`AreCounted`", "AreCounted"),
     Plant("crates/fib/README.md", "`groups_fit`", "`groups_match`", "groups_match"),
     Plant("crates/bulk/README.md", "`bulk_plain` | `workers`", "`bulk_plain` | `desks`",
