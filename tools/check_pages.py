@@ -21,7 +21,8 @@ Each fault is printed as `FILE:LINE: what`, and any makes the exit status 1. Che
 - clauses: beside a column Call, the clauses that a column Contract names are those of the row's calls.
 - figures: each table of tools/bench.py stands in docs/BENCHMARKS.md as its data have it, and the figures are what
   tools/plots.py draws of them; each number below the heading Performance of README.md stands in docs/BENCHMARKS.md.
-- excerpts: where a path stands behind the language of a fenced block, each line of the block is a line of that file.
+- excerpts: where a path stands behind the language of a fenced block, each line of the block is a line of that file, or
+  has `..` between such lines.
 - calls: the last name of `A::b` is a member of a type or trait `A`, or stands in a module or crate `A`; also in blocks
   of rust and in figures, which are blocks of text.
 - the kit: `logic SUM` in backticks is how the line of `rt version` ends; looked at where commands are run.
@@ -468,8 +469,9 @@ def check_excerpts(page):
             continue
         there = {line.strip() for line in (TOP / path).read_text().splitlines()}
         for at, line in enumerate(block.lines, block.line):
-            if line.strip() not in there | {""}:
-                yield Fault(page.path, at, f"no such line in {path}: {line.strip()}")
+            for part in line.split(" .. "):
+                if part.strip() not in there | {""}:
+                    yield Fault(page.path, at, f"no such line in {path}: {part.strip()}")
 
 
 def check_calls(page):
@@ -583,6 +585,8 @@ SAMPLES = [
     ("|Crate|\n|---|\n|`atomic_table`|\n", "no such crate: atomic_table"),
     ("```c examples/forwarder.c\n#include <saxiko.h>\n```\n", None),
     ("```c examples/forwarder.c\n#include <saxiko2.h>\n```\n", "no such line in examples/forwarder.c: #include"),
+    ("```c examples/forwarder.c\nstruct traffic { .. size_t count; .. };\n```\n", None),
+    ("```c examples/forwarder.c\nstruct traffic { .. size_t counts; .. };\n```\n", "forwarder.c: size_t counts;"),
 ]
 
 
