@@ -5,7 +5,7 @@ use lpm_trace::{Actor, Deed, Kind, Step};
 use std::alloc::{AllocError, Global};
 use std::process::Abort;
 use std::test::Fail;
-use trace_reference::{
+use world_reference::{
     PlainRule, Seen, Setting, Versions, deeds_are_done, deeds_are_sound, is_legal,
     loads_are_stores, lookups, never_falls, reuse_is_lawful, writes_in_order,
 };

@@ -1,4 +1,4 @@
-//! The tests of the slow programs that decide what holds of a trace (`trace_reference`). They call what is
+//! The tests of the slow programs that decide what holds of a trace (`world_reference`). They call what is
 //! public alone, so they stand here: a crate with a test is proved twice.
 #![tactic(auto)]
 

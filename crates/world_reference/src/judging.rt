@@ -1,11 +1,14 @@
 //! Whether the trace of a run is what its plan leads to, by plain deciders.
 
-use super::JudgeError;
+use super::answers::{self, is_legal, never_falls};
+use super::deeds::deeds_are_done;
+use super::memory::loads_are_stores;
+use super::order::writes_in_order;
+use super::reuse::reuse_is_lawful;
 use super::slow_writer::SlowWriter;
+use super::{JudgeError, Plan, Setting, Versions};
 use interleave::{Actor, Deed, Kind, Seen, Step, Trace};
 use std::alloc::{AllocError, Global};
-use trace_reference::{self as reference, Setting, Versions};
-use world_plans::Plan;
 
 fn setting_of<const FIRST: u32, const SECOND: u32>(plan: &Plan<FIRST, SECOND>) -> Setting {
     Setting {
@@ -125,11 +128,11 @@ fn lookups_by(
     alloc: Global,
     lookups: &[Seen],
     worker: usize,
-) -> Result<Vec<reference::Seen>, AllocError> {
+) -> Result<Vec<answers::Seen>, AllocError> {
     let mut own = Vec::new(alloc);
     for seen in lookups {
         if seen.worker == worker {
-            own.push(reference::Seen {
+            own.push(answers::Seen {
                 addr: seen.addr,
                 hop: seen.hop.map(|hop| hop.number()),
                 first: seen.first,
@@ -147,14 +150,14 @@ fn are_lawful(
     setting: &Setting,
     versions: &Versions,
     steps: &[Step],
-    lookups: &[reference::Seen],
+    lookups: &[answers::Seen],
 ) -> bool {
     for seen in lookups {
-        if !reference::is_legal(setting, versions, steps, seen) {
+        if !is_legal(setting, versions, steps, seen) {
             return false;
         }
     }
-    reference::never_falls(setting, versions, steps, lookups)
+    never_falls(setting, versions, steps, lookups)
 }
 
 // Within an update the stores to first words go upwards, and so do those to words of one group.
@@ -227,7 +230,7 @@ fn judge_deeds<const FIRST: u32, const SECOND: u32>(
     let items = items_of(&plan.schedule, Actor::Worker(worker));
     let is_whole = count_others(&own) == length_of_all(script);
     accept(own.len() == items || is_whole, JudgeError::Deeds(worker))?;
-    let are_done = reference::deeds_are_done(alloc, &setting_of(plan), steps, worker, script)?;
+    let are_done = deeds_are_done(alloc, &setting_of(plan), steps, worker, script)?;
     accept(are_done, JudgeError::Deeds(worker))
 }
 
@@ -244,7 +247,7 @@ fn judge_worker<const FIRST: u32, const SECOND: u32>(
     let setting = setting_of(plan);
     let steps = &trace.steps;
     judge_deeds(alloc, plan, steps, worker, script)?;
-    let lookups = reference::lookups(alloc, &setting, steps, worker, script)?;
+    let lookups = answers::lookups(alloc, &setting, steps, worker, script)?;
     let shown = lookups_by(alloc, &trace.lookups, worker)?;
     accept(shown == lookups, JudgeError::Lookups(worker))?;
     let are_lawful = are_lawful(&setting, versions, steps, &lookups);
@@ -279,13 +282,10 @@ fn judge_steps<const FIRST: u32, const SECOND: u32>(
 ) -> Result<(), JudgeError> {
     let setting = setting_of(plan);
     accept(follows(&plan.schedule, steps), JudgeError::Schedule)?;
-    let loads = reference::loads_are_stores(&setting, steps);
+    let loads = loads_are_stores(&setting, steps);
     accept(loads, JudgeError::Loads)?;
     accept(stores_go_upwards(&setting, steps), JudgeError::Stores)?;
-    accept(
-        reference::reuse_is_lawful(&setting, steps),
-        JudgeError::Reuse,
-    )
+    accept(reuse_is_lawful(&setting, steps), JudgeError::Reuse)
 }
 
 /// Whether the trace is what the plan leads to: its steps follow the schedule and the rules of traces,
@@ -300,7 +300,7 @@ pub fn judge<const FIRST: u32, const SECOND: u32>(
     let steps = &trace.steps;
     judge_steps(plan, steps)?;
     let versions = judge_writer(alloc, plan, trace)?;
-    let writes = reference::writes_in_order(alloc, &setting_of(plan), &versions, steps)?;
+    let writes = writes_in_order(alloc, &setting_of(plan), &versions, steps)?;
     accept(writes, JudgeError::Writes)?;
     judge_workers(alloc, plan, trace, &versions)
 }

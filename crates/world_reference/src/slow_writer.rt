@@ -1,7 +1,7 @@
 //! A slow writer. It goes through the writer's own steps of a run and tells, from them and the changes
 //! alone, what comes of each change and which rules stand in each version.
 
-use super::JudgeError;
+use super::{JudgeError, PlainRule, Versions};
 use defer_queue::Reclaimed;
 use interleave::{Change, Kind, Reply, Step};
 use lpm_bits::{Hop, Prefix};
@@ -10,7 +10,6 @@ use lpm_rules::Put;
 use qsbr::{Busy, Config, Refusal};
 use std::alloc::{AllocError, AllocFailed, Global};
 use std::collections::VecDeque;
-use trace_reference::{PlainRule, Versions};
 
 // Why a change has no reply.
 #[derive(Clone, Copy)]

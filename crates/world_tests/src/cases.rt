@@ -13,7 +13,7 @@ use qsbr::{Busy, Config, Refusal};
 use std::alloc::Global;
 use std::process::Abort;
 use std::test::Fail;
-use trace_reference::{Setting, version_at};
+use world_reference::{Setting, version_at};
 
 const TWO_GROUPS: Config = Config {
     groups: 2,

@@ -10,7 +10,7 @@ use qsbr::{Busy, Config, Refusal};
 use std::alloc::{AllocError, Global};
 use std::process::Abort;
 use std::test::Fail;
-use world_plans::Plan;
+use world_reference::Plan;
 
 const WRITER: Actor = Actor::Writer;
 

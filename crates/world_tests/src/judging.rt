@@ -9,8 +9,7 @@ use qsbr::Config;
 use std::alloc::{AllocError, Global};
 use std::process::Abort;
 use std::test::Fail;
-use world_plans::Plan;
-use world_reference::{JudgeError, judge};
+use world_reference::{JudgeError, Plan, judge};
 
 // The run is accepted; else the message tells the number of its plan. Want of memory is an error.
 fn assert_judged(

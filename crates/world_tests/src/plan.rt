@@ -9,7 +9,7 @@ use lpm_bits::{Hop, Prefix, Shape};
 use qsbr::Config;
 use std::alloc::{AllocError, Global};
 use std::process::Abort;
-use world_plans::Plan;
+use world_reference::Plan;
 
 // One group and one worker; all else by default.
 pub(crate) const ONE_GROUP: Config = Config {

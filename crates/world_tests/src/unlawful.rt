@@ -7,8 +7,7 @@ use qsbr::Config;
 use std::alloc::Global;
 use std::process::Abort;
 use std::test::Fail;
-use world_plans::Plan;
-use world_reference::{JudgeError, judge};
+use world_reference::{JudgeError, Plan, judge};
 
 const TWO_GROUPS: Config = Config {
     groups: 2,

@@ -5,7 +5,7 @@ use super::{FIVE, Fault, GROUP, SEVEN, assert_refused, without};
 use lpm_trace::{Actor, Deed, Kind, Step};
 use std::alloc::{AllocError, Global};
 use std::test::Fail;
-use trace_reference::{
+use world_reference::{
     PlainRule, Setting, Versions, deeds_are_done, loads_are_stores, reuse_is_lawful,
     writes_in_order,
 };

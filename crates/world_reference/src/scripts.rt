@@ -4,7 +4,7 @@ ghost use Rattle.std.specs.Prelude.{◌≡◌, ◌+◌, ◌^◌, ◌≤◌, All,
 ghost use Rattle.lpm_bits.specs.Widths.{IsShape};
 ghost use Rattle.lpm_trace.specs.declared.kind.Deed.{Deed};
 ghost use Rattle.world_workers.specs.Scripts.{IsSound, IsSoundFrom};
-ghost use Rattle.world_plans.specs.Plans.{HasDeeds};
+ghost use Rattle.world_reference.specs.Plans.{HasDeeds};
 
 use super::draw::Draw;
 use interleave::Deed;

@@ -1,7 +1,7 @@
 use Rattle.std.proofs.Common.{◌≡◌, ◌+◌, ◌^◌, All, length}
 use Rattle.world_workers.specs.Scripts.{IsSound}
-use Rattle.world_plans.specs.Plans.{HasDeeds}
-use Rattle.world_plans.proofs.scripts.draw_scripts.Given as goal
+use Rattle.world_reference.specs.Plans.{HasDeeds}
+use Rattle.world_reference.proofs.scripts.draw_scripts.Given as goal
 
 -- there is a sound script, of as many deeds as are wanted, for each worker so far
 abbrev pub invariant-loop : goal.invariant-loop

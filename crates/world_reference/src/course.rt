@@ -1,6 +1,6 @@
 //! How far the writer has come: where each group stands, and what the writer has to do next.
 
-use crate::Setting;
+use super::Setting;
 use std::alloc::{AllocError, Global};
 
 /// Where a group stands.

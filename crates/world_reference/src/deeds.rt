@@ -1,7 +1,7 @@
 //! The deeds of a worker, and the steps that they are made of.
 
-use crate::Setting;
-use crate::memory::group_in;
+use super::Setting;
+use super::memory::group_in;
 use lpm_trace::{Actor, Deed, Kind, Step};
 use std::alloc::{AllocError, Global};
 

@@ -1,7 +1,7 @@
 //! Whether groups are used again only after their grace period, by reader intervals alone.
 
-use crate::Setting;
-use crate::memory::{Word, unlinked_by, value_at};
+use super::Setting;
+use super::memory::{Word, unlinked_by, value_at};
 use lpm_trace::{Actor, Kind, Step};
 
 /// What a step is to the reader intervals of a worker.

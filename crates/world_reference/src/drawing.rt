@@ -3,7 +3,7 @@
 ghost use Rattle.std.specs.Prelude.{◌≡◌, All, IfOk, length};
 ghost use Rattle.lpm_bits.specs.Widths.{IsShape};
 ghost use Rattle.lpm_limits.specs.Limits.{IsConfig};
-ghost use Rattle.world_plans.specs.Plans.{HasDeeds, IsSoundPlan};
+ghost use Rattle.world_reference.specs.Plans.{HasDeeds, IsSoundPlan};
 
 use super::Plan;
 use super::changes::draw_changes;

@@ -1,9 +1,9 @@
 //! The lookups of a worker, and whether an answer is one of a version that stood meanwhile.
 
-use crate::Setting;
-use crate::deeds::{Numbered, addresses_of, group_read, length_of, own_steps};
-use crate::memory::hop_in;
-use crate::versions::{Versions, begun, done, is_answer, version_at};
+use super::Setting;
+use super::deeds::{Numbered, addresses_of, group_read, length_of, own_steps};
+use super::memory::hop_in;
+use super::versions::{Versions, begun, done, is_answer, version_at};
 use lpm_trace::{Deed, Step};
 use std::alloc::{AllocError, Global};
 

@@ -1,8 +1,8 @@
 //! The versions of the rules: which stand at a moment, and what they answer.
 
-use crate::Setting;
-use crate::memory::answer_at;
-use crate::setting::power_of_two;
+use super::Setting;
+use super::memory::answer_at;
+use super::setting::power_of_two;
 use lpm_trace::{Kind, Step};
 
 /// A rule: the bits of its prefix, how many of them count, and the number of its next hop.

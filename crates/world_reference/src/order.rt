@@ -1,9 +1,9 @@
 //! Whether the writer's steps come in an order that its commands allow.
 
-use crate::Setting;
-use crate::course::{Course, Linking};
-use crate::memory::{Word, answer_at, entry_of, group_in, unlinked_by, value_at};
-use crate::versions::{Versions, begun, done, has_turned, is_answer, is_updating};
+use super::Setting;
+use super::course::{Course, Linking};
+use super::memory::{Word, answer_at, entry_of, group_in, unlinked_by, value_at};
+use super::versions::{Versions, begun, done, has_turned, is_answer, is_updating};
 use lpm_trace::{Kind, Step};
 use std::alloc::{AllocError, Global};
 

@@ -1,6 +1,6 @@
 //! The words that all share, as the list of steps tells their values.
 
-use crate::Setting;
+use super::Setting;
 use lpm_entry::Entry;
 use lpm_trace::{Actor, Kind, Step};
 

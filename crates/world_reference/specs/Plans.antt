@@ -2,7 +2,7 @@
 use Rattle.std.specs.Prelude.{◌≡◌, ℕ, ◌+◌, ◌^◌, ◌≤◌, All, List, length}
 use Rattle.lpm_trace.specs.declared.kind.Deed.{Deed}
 use Rattle.world_workers.specs.Scripts.{IsSound}
-use Rattle.world_plans.specs.declared.plan.Plan.{Plan}
+use Rattle.world_reference.specs.declared.plan.Plan.{Plan}
 
 -- a run can be made by the plan: each worker has a script that it can go through
 pub record IsSoundPlan (first second : ℕ) (plan : Plan first second) : Type 0 where
