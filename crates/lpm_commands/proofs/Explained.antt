@@ -13,8 +13,8 @@ use Rattle.fib_model.specs.State.{State}
 use Rattle.fib.specs.Fib.{IsSound, table_of}
 use Rattle.route_text.specs.declared.routes.Route.{Route}
 use Rattle.route_text.specs.Files.{AreRoutes}
-use Rattle.output_text.specs.declared.explanations.Reading.{Reading}
-use Rattle.output_text.specs.Explaining.{explanation_lines}
+use Rattle.route_text.specs.declared.explanations.Reading.{Reading}
+use Rattle.route_text.specs.Explaining.{explanation_lines}
 use Rattle.lpm_files.specs.Inputs.{Reads}
 use Rattle.lpm_commands.specs.Loading.{IsLoaded, rules_of_routes}
 use Rattle.lpm_commands.specs.Covering.{AreCovering, IsAnsweredByFirst, reading_of}

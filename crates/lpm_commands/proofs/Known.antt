@@ -8,7 +8,7 @@ use Rattle.lpm_limits.specs.Refusals.{row_of}
 use Rattle.lpm_rules.specs.declared.Put.TheVariants as puts
 use Rattle.fib_model.specs.declared.command.Outcome.{Outcome}
 use Rattle.fib_model.specs.declared.command.Outcome.TheVariants as outcomes
-use Rattle.output_text.specs.Texts.{HasKnownNumber}
+use Rattle.route_text.specs.Texts.{HasKnownNumber}
 use Rattle.lpm_commands.specs.Updating.{told_of}
 
 -- a refusal's number is one from 1 to 14

@@ -12,7 +12,7 @@ use Rattle.route_text.specs.declared.routes.Route.{Route}
 use Rattle.route_text.specs.declared.orders.Order.{Order}
 use Rattle.route_text.specs.Files.{AreRoutes, AreAddresses}
 use Rattle.route_text.specs.Updates.{AreUpdates}
-use Rattle.output_text.specs.Texts.{outcome_lines}
+use Rattle.route_text.specs.Texts.{outcome_lines}
 use Rattle.lpm_files.specs.declared.failure.Failure.{Failure}
 use Rattle.lpm_files.specs.declared.failure.Failure.TheVariants.{CannotWrite}
 use Rattle.lpm_files.specs.Inputs.{Input, Reads, route_file, update_file, address_file}

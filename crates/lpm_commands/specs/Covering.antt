@@ -14,8 +14,8 @@ use Rattle.lpm_cells.specs.Table.{Words}
 use Rattle.lpm_rules.specs.RuleMap.{RuleMap}
 use Rattle.lpm_rules.specs.Longest.{IsLongest, IsLongestHop}
 use Rattle.lpm_rules.specs.declared.Rule.{Rule}
-use Rattle.output_text.specs.declared.explanations.Reading.{Reading}
-use Rattle.output_text.specs.declared.explanations.SecondWord.{SecondWord}
+use Rattle.route_text.specs.declared.explanations.Reading.{Reading}
+use Rattle.route_text.specs.declared.explanations.SecondWord.{SecondWord}
 
 -- the rules that cover the address: all of them, nothing else, and the longest first
 pub record AreCovering {first second : ℕ} (width : ℕ) (R : RuleMap) (a : ℕ)

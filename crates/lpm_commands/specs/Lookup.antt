@@ -11,7 +11,7 @@ use Rattle.bulk.specs.declared.bulk_error.BulkError.TheVariants as bulks
 use Rattle.fib_model.specs.State.{State}
 use Rattle.route_text.specs.declared.routes.Route.{Route}
 use Rattle.route_text.specs.Files.{AreRoutes, AreAddresses}
-use Rattle.output_text.specs.Texts.{answer_lines}
+use Rattle.route_text.specs.Texts.{answer_lines}
 use Rattle.lpm_files.specs.declared.failure.Failure.{Failure}
 use Rattle.lpm_files.specs.declared.failure.Failure.TheVariants.{CannotWrite, Memory, Refused}
 use Rattle.lpm_files.specs.Inputs.{Input, Reads, route_file, address_file}

@@ -3,7 +3,7 @@
 use Rattle.std.specs.Prelude.{ℕ, ◌≡◌, ◌⊎◌, List, [], ◌∷◌, Option}
 use Rattle.route_text.specs.declared.orders.Order.{Order}
 use Rattle.route_text.specs.Updates.{AreOldUpdates}
-use Rattle.output_text.specs.Texts.{update_lines}
+use Rattle.route_text.specs.Texts.{update_lines}
 use Rattle.lpm_files.specs.declared.failure.Failure.{Failure}
 use Rattle.lpm_files.specs.declared.failure.Failure.TheVariants.{CannotWrite}
 use Rattle.lpm_files.specs.Inputs.{Reads, old_update_file, EndsAtOne}

@@ -22,8 +22,8 @@ use Rattle.fib_model.specs.Textbook.{by_intervals, beginning}
 use Rattle.route_text.specs.declared.routes.Route.{Route}
 use Rattle.route_text.specs.declared.orders.Order.{Order}
 use Rattle.route_text.specs.declared.orders.Order.TheVariants as orders
-use Rattle.output_text.specs.declared.outcomes.Outcome.{Outcome as Told}
-use Rattle.output_text.specs.declared.outcomes.Outcome.TheVariants as told
+use Rattle.route_text.specs.declared.outcomes.Outcome.{Outcome as Told}
+use Rattle.route_text.specs.declared.outcomes.Outcome.TheVariants as told
 
 -- the command that an order asks for
 abbrev pub command_of : Order → Command 24 8

@@ -12,7 +12,7 @@ use lpm_bits::{Prefix, Shape};
 use lpm_cells::PlainCells;
 use lpm_entry::Entry;
 use lpm_rules::{Rule, Rules};
-use output_text::{Reading, SecondWord};
+use route_text::{Reading, SecondWord};
 use std::alloc::{AllocError, Global};
 
 /// All rules that cover an address, the longest first: that one answers. Where no rule covers the

@@ -11,7 +11,7 @@ use fib::Fib;
 use lpm_cells::PlainCells;
 use lpm_files::{Failure, Files, Routes, put_text, read_list};
 use lpm_rules::Rules;
-use output_text::put_explanation;
+use route_text::put_explanation;
 use qsbr::Config;
 use std::alloc::{AllocError, Global};
 use std::io::Write;

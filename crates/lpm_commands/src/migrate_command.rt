@@ -4,7 +4,7 @@ ghost use Rattle.lpm_files.specs.Output.{Writes, WritesBeginning};
 ghost use Rattle.lpm_commands.specs.Migrate.{IsMigrateText, EndsMigrate};
 
 use lpm_files::{Failure, Files, OldUpdates, put_text, read_list};
-use output_text::updates_text;
+use route_text::updates_text;
 use std::alloc::Global;
 use std::io::Write;
 

@@ -1,6 +1,6 @@
 //! Updates of a table, one after another, and what came of each.
 ghost use Rattle.std.specs.Prelude.{◌≡◌, ◌≢◌, false, map, IfOk, All};
-ghost use Rattle.output_text.specs.Texts.{outcome_lines};
+ghost use Rattle.route_text.specs.Texts.{outcome_lines};
 ghost use Rattle.lpm_commands.specs.Updating.{ComesOut, command_of, told_of};
 ghost use Rattle.lpm_commands.specs.Updating.{holder_of, pair_of};
 ghost use Rattle.lpm_limits.specs.declared.refusal.Refusal.TheVariants.{Memory};
@@ -9,9 +9,8 @@ use defer_queue::Reclaimed;
 use fib::Fib;
 use fib_model::{Command, Outcome, Report};
 use lpm_rules::Put;
-use output_text::outcomes_text;
+use route_text::{Order, outcomes_text};
 use qsbr::{Busy, Refusal};
-use route_text::Order;
 use std::alloc::{AllocError, Global};
 
 /// Does the updates one after another, and returns what came of each. A refused one doesn't stop the
@@ -82,42 +81,42 @@ pub fn text_of_outcomes(alloc: Global, outcomes: &[Outcome]) -> Result<Vec<u8>, 
     outcomes_text(alloc, &told)
 }
 
-fn told_of(outcome: &Outcome) -> output_text::Outcome
+fn told_of(outcome: &Outcome) -> route_text::Outcome
     ensures { result ≡ told_of outcome.now }
 {
     match outcome {
         Outcome::Put(put) => return told_put(*put),
-        Outcome::Deleted(hop) => return output_text::Outcome::Deleted(*hop),
-        Outcome::Flushed(count) => return output_text::Outcome::Flushed(*count),
+        Outcome::Deleted(hop) => return route_text::Outcome::Deleted(*hop),
+        Outcome::Flushed(count) => return route_text::Outcome::Flushed(*count),
         Outcome::Reclaimed(reclaimed) => return told_reclaimed(reclaimed),
-        Outcome::Told => return output_text::Outcome::Told,
+        Outcome::Told => return route_text::Outcome::Told,
         Outcome::Refused(refusal) => return told_refusal(*refusal),
     }
 }
 
-fn told_put(put: Put) -> output_text::Outcome
+fn told_put(put: Put) -> route_text::Outcome
     ensures { result ≡ told_of (Outcome.Put put) }
 {
     match put {
-        Put::Added => output_text::Outcome::Added,
-        Put::Replaced => output_text::Outcome::Replaced,
-        Put::Unchanged => output_text::Outcome::Unchanged,
+        Put::Added => route_text::Outcome::Added,
+        Put::Replaced => route_text::Outcome::Replaced,
+        Put::Unchanged => route_text::Outcome::Unchanged,
     }
 }
 
-fn told_reclaimed(reclaimed: &Reclaimed) -> output_text::Outcome
+fn told_reclaimed(reclaimed: &Reclaimed) -> route_text::Outcome
     ensures { result ≡ told_of (Outcome.Reclaimed reclaimed.now) }
 {
-    output_text::Outcome::Reclaimed {
+    route_text::Outcome::Reclaimed {
         freed: reclaimed.freed,
         stopped: pair_of(reclaimed.stopped),
     }
 }
 
-fn told_refusal(refusal: Refusal) -> output_text::Outcome
+fn told_refusal(refusal: Refusal) -> route_text::Outcome
     ensures { result ≡ told_of (Outcome.Refused refusal) }
 {
-    output_text::Outcome::Refused {
+    route_text::Outcome::Refused {
         number: u32::from(refusal.number()),
         busy: holder_of(refusal),
     }

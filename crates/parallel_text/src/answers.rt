@@ -1,11 +1,11 @@
 //! The text of answers, which is written in pieces.
 ghost use Rattle.std.specs.Thread.{IsSync};
 ghost use Rattle.std.specs.Prelude.{◌≡◌, IfOk, length};
-ghost use Rattle.output_text.specs.Texts.{answer_lines};
+ghost use Rattle.route_text.specs.Texts.{answer_lines};
 
 use crate::lines::share;
 use lpm_bits::Hop;
-use output_text::answers_text;
+use route_text::answers_text;
 use std::alloc::{AllocError, Global};
 use std::thread::{Threads, join};
 
@@ -57,7 +57,7 @@ fn text_of_pieces<R: Threads + Sync>(
     Ok(text)
 }
 
-/// A line for each address with its hop, as `output_text::answers_text` writes them, written in
+/// A line for each address with its hop, as `route_text::answers_text` writes them, written in
 /// pieces on at most so many threads. One of less than 4,096 answers isn't worth a thread. Where a
 /// thread can't be had its piece is written by the thread that asks.
 ///

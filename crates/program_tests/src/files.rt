@@ -3,7 +3,7 @@
 
 use super::asserting::{assert_at, assert_shown};
 use lpm_bits::{BadHop, Hop, Prefix};
-use output_text::{Outcome, answers_text, outcomes_text, updates_text};
+use route_text::{Outcome, answers_text, outcomes_text, updates_text};
 use route_text::{
     Fault, FaultKind, Order, ReadError, Route, read_addresses, read_routes, read_updates,
 };

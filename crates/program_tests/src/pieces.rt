@@ -1,9 +1,8 @@
 //! A file that is read, and a text that is written, in pieces on threads: as one thread does it.
 
 use lpm_bits::Hop;
-use output_text::answers_text;
+use route_text::{Fault, FaultKind, ReadError, Route, answers_text, read_addresses, read_routes};
 use parallel_text::{answers_text_on, read_addresses_on, read_routes_on};
-use route_text::{Fault, FaultKind, ReadError, Route, read_addresses, read_routes};
 use std::alloc::{AllocError, Global};
 use std::process::Abort;
 use std::test::Fail;

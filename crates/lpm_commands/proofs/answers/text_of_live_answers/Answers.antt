@@ -1,6 +1,6 @@
 use Rattle.std.proofs.Common.{rules, ◌∙◌, ap}
 use Rattle.lpm_rules.proofs.Longest.{length-AreLongestHops}
-use Rattle.output_text.specs.Texts.{answer_lines}
+use Rattle.route_text.specs.Texts.{answer_lines}
 use Rattle.lpm_commands.proofs.answers.text_of_live_answers.Goals as goal
 
 pub answers_text_on-requires : goal.answers_text_on-requires

@@ -1,6 +1,6 @@
 use Rattle.std.proofs.Common.{◌++◌, List, ℕ, Option, sym, ap₂, ◌∙◌}
-use Rattle.output_text.specs.Texts.{answer_lines}
-use Rattle.output_text.proofs.Answering.{parted}
+use Rattle.route_text.specs.Texts.{answer_lines}
+use Rattle.route_text.proofs.Answering.{parted}
 use Rattle.parallel_text.proofs.answers.+fn-text_of_pieces-join+arg2+fn-text_of_pieces-join+arg3+text_of_pieces.Goals as goal
 
 pub returns : goal.returns

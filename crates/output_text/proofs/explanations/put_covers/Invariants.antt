@@ -1,6 +1,0 @@
-use Rattle.std.proofs.Common.{◌≡◌, ◌++◌, drop}
-use Rattle.output_text.specs.Explaining.{cover_lines}
-use Rattle.output_text.proofs.explanations.put_covers.Given as goal
-
-abbrev pub invariant-loop-rule : goal.invariant-loop-rule
-invariant-loop-rule l = l.text.items ++ cover_lines (drop l.rule-index l.rules) ≡ l.fn.text.items ++ cover_lines l.rules

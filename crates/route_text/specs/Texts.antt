@@ -1,0 +1,108 @@
+-- Meaning: the texts of answers, updates and outcomes (this project's file format: each line is
+-- ended by LF).
+use Rattle.std.specs.Prelude.{ℕ, ◌≤◌, ◌/◌, ◌%◌, ◌^◌, ⊤, List, [], ◌∷◌, ◌++◌, Option, Some, None}
+use Rattle.std.specs.Prelude.{codes, decimal}
+use Rattle.lpm_bits.specs.Network.{Network}
+use Rattle.lpm_limits.specs.Refusals.{name_of}
+use Rattle.route_text.specs.declared.orders.Order.{Order}
+use Rattle.route_text.specs.declared.orders.Order.TheVariants as orders
+use Rattle.route_text.specs.declared.outcomes.Outcome.{Outcome}
+use Rattle.route_text.specs.declared.outcomes.Outcome.TheVariants as outcomes
+use Rattle.route_text.specs.Fields.{dotted}
+use Rattle.route_text.specs.Updates.{header}
+
+-- the four octets as decimals
+abbrev pub address_text : ℕ → List ℕ
+address_text a = dotted (a / 2 ^ 24) (a / 2 ^ 16 % 256) (a / 2 ^ 8 % 256) (a % 256)
+
+-- the hop as a decimal, or `-` for a miss
+abbrev pub hop_text : Option ℕ → List ℕ
+hop_text None = 45 ∷ []
+hop_text (Some hop) = decimal hop
+
+abbrev pub answer_line : ℕ → Option ℕ → List ℕ
+answer_line addr hop = address_text addr ++ 32 ∷ [] ++ hop_text hop ++ 10 ∷ []
+
+-- a line for each address with its hop
+unfoldable pub answer_lines : List ℕ → List (Option ℕ) → List ℕ
+answer_lines [] hops = []
+answer_lines (a ∷ addrs) [] = []
+answer_lines (a ∷ addrs) (hop ∷ hops) = answer_line a hop ++ answer_lines addrs hops
+
+-- an address, a slash and a length
+abbrev pub prefix_text : Network → List ℕ
+prefix_text prefix = address_text prefix.bits ++ codes "/" ++ decimal prefix.len
+
+abbrev pub addition_text : Network → ℕ → List ℕ
+addition_text prefix hop = codes "add " ++ prefix_text prefix ++ codes " " ++ decimal hop
+
+abbrev pub deletion_text : Network → List ℕ
+deletion_text prefix = codes "del " ++ prefix_text prefix
+
+-- the word and its fields, with one space between neighbours
+abbrev pub update_text : Order → List ℕ
+update_text (orders.Add prefix hop) = addition_text prefix hop
+update_text (orders.Del prefix) = deletion_text prefix
+update_text orders.Flush = codes "flush"
+update_text (orders.Reclaim count) = codes "reclaim " ++ decimal count
+update_text (orders.Online worker) = codes "online " ++ decimal worker
+update_text (orders.Offline worker) = codes "offline " ++ decimal worker
+update_text (orders.Quiescent worker) = codes "quiescent " ++ decimal worker
+
+abbrev pub update_line : Order → List ℕ
+update_line order = update_text order ++ 10 ∷ []
+
+unfoldable pub lines_of_updates : List Order → List ℕ
+lines_of_updates [] = []
+lines_of_updates (order ∷ more) = update_line order ++ lines_of_updates more
+
+-- an update file of version 2: the header, and then a line for each update
+abbrev pub update_lines : List Order → List ℕ
+update_lines updates = header ++ 10 ∷ [] ++ lines_of_updates updates
+
+-- a worker and the counter that was loaded
+abbrev pub holder_text : ℕ → ℕ → List ℕ
+holder_text worker counter = codes " worker " ++ decimal worker ++ codes " counter " ++ decimal counter
+
+abbrev pub stopped_text : Option (ℕ × ℕ) → List ℕ
+stopped_text None = []
+stopped_text (Some holder) = codes " stopped" ++ holder_text holder.0 holder.1
+
+abbrev pub busy_text : Option (ℕ × ℕ) → List ℕ
+busy_text None = []
+busy_text (Some holder) = holder_text holder.0 holder.1
+
+abbrev pub reclaimed_text : ℕ → Option (ℕ × ℕ) → List ℕ
+reclaimed_text freed stopped = codes "reclaimed " ++ decimal freed ++ stopped_text stopped
+
+-- the name of a refusal, if the number is one's
+abbrev pub name_text : Option (List ℕ) → List ℕ
+name_text None = []
+name_text (Some name) = name
+
+abbrev pub refused_text : ℕ → Option (ℕ × ℕ) → List ℕ
+refused_text number busy = codes "refused " ++ decimal number ++ codes " " ++ name_text (name_of number)
+    ++ busy_text busy
+
+abbrev pub outcome_text : Outcome → List ℕ
+outcome_text outcomes.Added = codes "added"
+outcome_text outcomes.Replaced = codes "replaced"
+outcome_text outcomes.Unchanged = codes "unchanged"
+outcome_text (outcomes.Deleted hop) = codes "deleted " ++ decimal hop
+outcome_text (outcomes.Flushed rules) = codes "flushed " ++ decimal rules
+outcome_text (outcomes.Reclaimed freed stopped) = reclaimed_text freed stopped
+outcome_text outcomes.Told = codes "ok"
+outcome_text (outcomes.Refused number busy) = refused_text number busy
+
+abbrev pub outcome_line : Outcome → List ℕ
+outcome_line outcome = outcome_text outcome ++ 10 ∷ []
+
+-- a line for each outcome
+unfoldable pub outcome_lines : List Outcome → List ℕ
+outcome_lines [] = []
+outcome_lines (outcome ∷ more) = outcome_line outcome ++ outcome_lines more
+
+-- a refusal's number is one that there is
+abbrev pub HasKnownNumber : Outcome → Type 0
+HasKnownNumber (outcomes.Refused number busy) = (1 ≤ number) × (number ≤ 14)
+HasKnownNumber _ = ⊤
