@@ -11,8 +11,8 @@ use fib::Fib;
 use lpm_cells::PlainCells;
 use lpm_files::{Failure, Files, Routes, put_text, read_list};
 use lpm_rules::Rules;
-use route_text::put_explanation;
 use qsbr::Config;
+use route_text::put_explanation;
 use std::alloc::{AllocError, Global};
 use std::io::Write;
 

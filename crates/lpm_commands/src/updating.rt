@@ -9,8 +9,8 @@ use defer_queue::Reclaimed;
 use fib::Fib;
 use fib_model::{Command, Outcome, Report};
 use lpm_rules::Put;
-use route_text::{Order, outcomes_text};
 use qsbr::{Busy, Refusal};
+use route_text::{Order, outcomes_text};
 use std::alloc::{AllocError, Global};
 
 /// Does the updates one after another, and returns what came of each. A refused one doesn't stop the

@@ -1,3 +1,4 @@
 pub mod Output
 pub mod Inputs
 pub mod Status
+pub mod Later

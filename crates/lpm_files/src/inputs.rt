@@ -7,8 +7,10 @@ ghost use Rattle.route_text.specs.Updates.{AreOldUpdates, IsOldUpdatesFault, IsC
 ghost use Rattle.route_text.specs.Readings.{IsReadError};
 ghost use Rattle.lpm_files.specs.Inputs.{address_file, route_file, input, Reads, EndsParsing, EndsReading};
 
+use crate::addresses::parse_addresses_on;
 use crate::failure::Failure;
 use crate::files::{Files, ReadFailure, read_file};
+use crate::routes::parse_routes_on;
 use route_text::{
     Order, ReadError, Route, read_addresses, read_routes, read_updates, read_updates_v1,
 };
@@ -145,7 +147,7 @@ pub fn read_addresses_on<'a, R: Threads + Sync, F: Files>(
         Ok(bytes) => bytes,
         Err(failure) => return Err(unread(path, failure)),
     };
-    match parallel_text::read_addresses_on(rt, alloc, &bytes, threads) {
+    match parse_addresses_on(rt, alloc, &bytes, threads) {
         Ok(addrs) => return Ok(addrs),
         Err(ReadError::Fault(fault)) => return Err(Failure::Bad { path, fault }),
         Err(ReadError::Memory) => return Err(Failure::Memory),
@@ -170,7 +172,7 @@ pub fn read_routes_on<'a, R: Threads + Sync, F: Files>(
         Ok(bytes) => bytes,
         Err(failure) => return Err(unread(path, failure)),
     };
-    match parallel_text::read_routes_on(rt, alloc, &bytes, threads) {
+    match parse_routes_on(rt, alloc, &bytes, threads) {
         Ok(routes) => return Ok(routes),
         Err(ReadError::Fault(fault)) => return Err(Failure::Bad { path, fault }),
         Err(ReadError::Memory) => return Err(Failure::Memory),

@@ -3,9 +3,9 @@
 
 use super::asserting::{assert_at, assert_shown};
 use lpm_bits::{BadHop, Hop, Prefix};
-use route_text::{Outcome, answers_text, outcomes_text, updates_text};
 use route_text::{
-    Fault, FaultKind, Order, ReadError, Route, read_addresses, read_routes, read_updates,
+    Fault, FaultKind, Order, Outcome, ReadError, Route, answers_text, outcomes_text,
+    read_addresses, read_routes, read_updates, updates_text,
 };
 use std::alloc::Global;
 use std::process::Abort;

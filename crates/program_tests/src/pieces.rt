@@ -1,8 +1,8 @@
 //! A file that is read, and a text that is written, in pieces on threads: as one thread does it.
 
 use lpm_bits::Hop;
+use lpm_files::{answers_text_on, parse_addresses_on, parse_routes_on};
 use route_text::{Fault, FaultKind, ReadError, Route, answers_text, read_addresses, read_routes};
-use parallel_text::{answers_text_on, read_addresses_on, read_routes_on};
 use std::alloc::{AllocError, Global};
 use std::process::Abort;
 use std::test::Fail;
@@ -44,7 +44,7 @@ fn assert_list<R: Threads + Abort + Sync>(
     threads: usize,
     list: &[u32],
 ) {
-    let found = read_addresses_on(rt, alloc, bytes, threads).expect(rt, "a list");
+    let found = parse_addresses_on(rt, alloc, bytes, threads).expect(rt, "a list");
     assert!(rt; found.as_slice() == list, "{threads}");
 }
 
@@ -70,7 +70,7 @@ fn assert_fault<R: Threads + Abort + Sync>(
         line,
         kind: FaultKind::Address,
     };
-    let found = read_addresses_on(rt, alloc, bytes, threads).err();
+    let found = parse_addresses_on(rt, alloc, bytes, threads).err();
     assert!(rt; found == Some(ReadError::Fault(fault)), "{line}, {threads}");
 }
 
@@ -101,7 +101,7 @@ fn assert_routes<R: Threads + Abort + Sync>(
     threads: usize,
     list: &[Route],
 ) {
-    let found = read_routes_on(rt, alloc, bytes, threads).expect(rt, "a list");
+    let found = parse_routes_on(rt, alloc, bytes, threads).expect(rt, "a list");
     assert!(rt; found.as_slice() == list, "{threads}");
     let last = found.last().map(|route| route.line);
     assert!(rt; last == Some(40_000), "{threads}");
@@ -128,7 +128,7 @@ fn assert_route_fault<R: Threads + Abort + Sync>(
         line,
         kind: FaultKind::Address,
     };
-    let found = read_routes_on(rt, alloc, bytes, threads).err();
+    let found = parse_routes_on(rt, alloc, bytes, threads).err();
     assert!(rt; found == Some(ReadError::Fault(fault)), "{line}, {threads}");
 }
 

@@ -7,9 +7,9 @@ ghost use Rattle.route_text.specs.Values.{IsSound};
 ghost use Rattle.route_text.specs.declared.orders.Order.{Order};
 ghost use Rattle.route_text.specs.declared.orders.Order.TheVariants as orders;
 
+use crate::Order;
 use crate::pieces::{put_named, put_prefix};
 use lpm_bits::{Hop, Prefix};
-use crate::Order;
 use std::alloc::{AllocError, Global};
 
 /// Adds an addition.

@@ -1,0 +1,103 @@
+//! Routes that are read in pieces.
+ghost use Rattle.std.proofs.Common.{ap};
+ghost use Rattle.std.specs.Thread.{IsSync};
+ghost use Rattle.std.specs.Prelude.{◌≡◌, ℕ, List, [], ◌∷◌, ◌+◌, ◌^◌, ◌<◌, ◌++◌, All, IfOk, IfErr, length, map};
+ghost use Rattle.route_text.specs.Lines.{lines};
+ghost use Rattle.route_text.specs.Files.{AreItems};
+ghost use Rattle.route_text.specs.Files.{AreRoutes, IsRoutesFault, SpellsRoute, HasRouteFault};
+ghost use Rattle.route_text.specs.Readings.{IsReadError};
+ghost use Rattle.lpm_files.specs.Later.{later_route};
+
+use crate::lines::count_lines;
+use crate::pieces::{Form, Halves, halved, joined};
+use route_text::{ReadError, Route, read_routes};
+use std::alloc::{AllocError, Global};
+use std::thread::{Threads, join};
+
+/// Route files. A route has the number of its line.
+struct Routes;
+
+impl Form for Routes {
+    type Item = Route;
+
+    ghost Spells = { SpellsRoute };
+
+    ghost HasFault = { HasRouteFault };
+
+    ghost later = { later_route };
+
+    ghost spells_later = { λ k n. elim [
+      | [] ↦ λ route is. is
+      | p ∷ [] ↦ λ route is. is
+      | p ∷ h ∷ [] ↦ λ route is. (ap (λ m. m + k) is.0, is.1, is.2)
+      | p ∷ h ∷ f ∷ fs ↦ λ route is. is
+    ] };
+
+    fn append(list: Vec<Route>, front: &[u8], more: &[Route]) -> Result<Vec<Route>, AllocError>
+        requires { (back : List (List ℕ)) × AreItems SpellsRoute 1 back more.now
+            × (length front.now + length back < 2 ^ 63) }
+        ensures { IfOk result (λ v.
+            v.items ≡ list.items ++ map (later_route (length (lines front.now))) more.now) }
+    {
+        append_later(list, count_lines(front), more)
+    }
+}
+
+/// The list, and then the routes as they are where their lines stand so many lines later.
+fn append_later(list: Vec<Route>, lines: usize, more: &[Route]) -> Result<Vec<Route>, AllocError>
+    requires { All (λ route. route.line + lines < 2 ^ 64) more.now }
+    ensures { IfOk result (λ v. v.items ≡ list.items ++ map (later_route lines) more.now) }
+{
+    let mut list = list;
+    list.reserve(more.len())?;
+    for route in more {
+        list.push_reserved(Route {
+            line: route.line + lines,
+            prefix: route.prefix,
+            hop: route.hop,
+        });
+    }
+    Ok(list)
+}
+
+/// The routes of the file, as `route_text::read_routes` gives them, read in pieces on at most so many
+/// threads. The pieces are cut where lines end, and have 64 KiB or about that. Where a thread can't be
+/// had its piece is read by the thread that asks.
+///
+/// The errors: the first fault of the file, by its line in the whole file, or want of memory for the
+/// list or a piece of it.
+pub fn parse_routes_on<R: Threads + Sync>(
+    rt: &R,
+    alloc: Global,
+    bytes: &[u8],
+    threads: usize,
+) -> Result<Vec<Route>, ReadError>
+    ensures routes { IfOk result (λ v. AreRoutes bytes.now v.items) }
+    ensures error { IfErr result (IsReadError (IsRoutesFault bytes.now)) }
+{
+    let Some(
+        Halves {
+            front,
+            few,
+            back,
+            more,
+        },
+    ) = halved(bytes, threads)
+    else {
+        return read_routes(alloc, bytes);
+    };
+    let (first, second) = join(
+        rt,
+        || -> Result<Vec<Route>, ReadError>
+            requires { IsSync R.row }
+            ensures routes { IfOk result (λ v. AreRoutes front.entry.now v.items) }
+            ensures error { IfErr result (IsReadError (IsRoutesFault front.entry.now)) }
+        { parse_routes_on(rt, alloc, front, few) },
+        || -> Result<Vec<Route>, ReadError>
+            requires { IsSync R.row }
+            ensures routes { IfOk result (λ v. AreRoutes back.entry.now v.items) }
+            ensures error { IfErr result (IsReadError (IsRoutesFault back.entry.now)) }
+        { parse_routes_on(rt, alloc, back, more) },
+    );
+    joined::<Routes>(bytes, front, back, first, second)
+}

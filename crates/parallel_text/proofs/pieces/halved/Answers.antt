@@ -1,9 +1,0 @@
-use Rattle.std.proofs.Common.{◌++◌, List, ℕ, sym, ap, ap₂, ◌∙◌}
-use Rattle.route_text.specs.Lines.{lines}
-use Rattle.parallel_text.proofs.Joined.{cut_lines}
-use Rattle.parallel_text.proofs.pieces.halved.Goals as goal
-
-pub returns-clause-cut : goal.returns-clause-cut
-returns-clause-cut c =
-    let cut = cut_lines c.args.bytes.now c.line_end-end.result c.line_end-end.ensures.within c.line_end-end.ensures.ends in
-    cut ∙ ap₂ (λ (a b : List (List ℕ)). a ++ b) (ap lines (sym c.split_at.ensures.front)) (ap lines (sym c.split_at.ensures.back))
