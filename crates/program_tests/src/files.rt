@@ -1,4 +1,4 @@
-//! The tests of `route_text` and `output_text`: files of routes, addresses and updates, and the texts of what
+//! The tests of `route_text`: files of routes, addresses and updates, and the texts of what
 //! comes out.
 
 use super::asserting::{assert_at, assert_shown};
