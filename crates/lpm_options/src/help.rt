@@ -34,8 +34,8 @@ Memory:
   22 bytes for each rule, and 24 bytes for each line of the route file. `lookup`
   makes no more groups than the file has routes longer than 24 bits. It copies the
   table into one that its workers share. While it does so it takes 128 MiB in place
-  of 64 MiB, and 2 KiB for each group. `storm` takes as much before it loads the
-  routes, for all groups, and then 32 bytes for each answer. `migrate` makes no
+  of 64 MiB, and 2 KiB for each group. `storm` takes as much once the routes are
+  loaded, for all groups, and then 32 bytes for each answer. `migrate` makes no
   table.
 
 Exit status:
