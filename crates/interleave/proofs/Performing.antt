@@ -1,54 +1,47 @@
 -- The writer's script, change by change: what was answered so far, and how a run ends.
-use Rattle.std.proofs.Common.{arith, ◌≡◌, ℕ, zero, suc, ◌+◌, ◌<◌, ◌≤◌, inl, inr, refl, ap, sym, subst, ◌∙◌, List, [], ◌∷◌, ◌++◌, length, map, reverse, Result, Ok, Err}
+use Rattle.std.proofs.Common.{arith, ◌≡◌, ℕ, zero, suc, ◌+◌, ◌<◌, ◌≤◌, inl, inr, refl, ap, sym, ◌∙◌, List, [], ◌∷◌, ◌++◌, length, map, reverse, Result, Ok, Err}
 use Rattle.std.proofs.lemmas.List.{reverse-append, append-nil}
 use Rattle.lpm_limits.specs.declared.busy.Busy.{Busy}
 use Rattle.lpm_limits.specs.declared.config.Config.{Config}
 use Rattle.lpm_rules.specs.declared.Change.{Change}
 use Rattle.lpm_trace.specs.declared.step.WriterStep.{WriterStep}
-use Rattle.lpm_trace.specs.declared.step.WriterStep.TheVariants.{BumpToken, LoadCounter}
+use Rattle.lpm_trace.specs.declared.step.WriterStep.TheVariants.{BumpToken}
 use Rattle.lpm_trace.specs.Tables.{Setup}
-use Rattle.lpm_writer.specs.Traced.{Traced, Goes, Loads, Checks, AnyMemory, steps_alone}
-use Rattle.lpm_writer.specs.Synchronizing.{AreStopped}
+use Rattle.lpm_writer.specs.Steps.{AreStopped, Checks, Loads}
 use Rattle.interleave.specs.declared.reply.Reply.{Reply}
 use Rattle.interleave.specs.Replies.{Kept, Waits, CameOut, next_token}
 use Rattle.interleave.specs.Runs.{HaveComeOut, IsUnderWay, IsPerformed}
 
 -- ---- how long a wait is
 
-abbrev Alone : Type 0
-Alone = Traced (Unit {0})
-
-goes_longer : (x z : Alone) (s : WriterStep) → Goes AnyMemory x s z → length z.1 ≡ suc (length x.1)
-goes_longer x z s h = ap length h.1
-
-loads_longer : (n : ℕ) (x z : Alone) (token : ℕ) → Loads AnyMemory n x token z → length x.1 ≤ length z.1
-loads_longer zero x z token h = subst (λ (t : Alone). length x.1 ≤ length t.1) (sym h) (omega (arith))
+loads_longer : (n : ℕ) (x z : List WriterStep) (token : ℕ) → Loads n x token z → length x ≤ length z
+loads_longer zero x z token h = omega (arith, ap length h)
 loads_longer (suc n) x z token h =
     let before = loads_longer n x h.0 token h.2 in
-    let now = goes_longer h.0 z (LoadCounter token n h.1) h.4 in
+    let now : length z ≡ suc (length h.0) = ap length h.4 in
     omega (arith, before, now)
 
-stop_longer : (c : Setup) (x z : Alone) (token : ℕ) (busy : Busy) → Checks AnyMemory c x token (Err busy) z → length x.1 < length z.1
-stop_longer c x z token busy (inl h) = absurd (no_pass busy h.1)
+stop_longer : (workers : ℕ) (x z : List WriterStep) (token : ℕ) (busy : Busy) → Checks workers x token (Err busy) z → length x < length z
+stop_longer workers x z token busy (inl h) = absurd (no_pass busy h.1)
   where
     no_pass : (b : Busy) → ◌≡◌ {A = Result (Unit {0}) Busy} (Err b) (Ok tt) → ⊥
     no_pass b e = cc
-stop_longer c x z token busy (inr h) =
+stop_longer workers x z token busy (inr h) =
     let ask = h.1 in
     let before = loads_longer busy.worker x ask.0 token ask.1 in
-    let now = goes_longer ask.0 z (LoadCounter token busy.worker busy.counter) ask.5 in
+    let now : length z ≡ suc (length ask.0) = ap length ask.5 in
     omega (arith, before, now)
 
-stops_longer : (c : Setup) (n : ℕ) (x z : Alone) (token : ℕ) → AreStopped AnyMemory c n x token z → length x.1 + n ≤ length z.1
-stops_longer c zero x z token h = subst (λ (t : Alone). length x.1 + 0 ≤ length t.1) (sym h) (omega (arith))
-stops_longer c (suc n) x z token h =
-    let before = stops_longer c n x h.0 token h.2 in
-    let now = stop_longer c h.0 z token h.1 h.3 in
+stops_longer : (workers n : ℕ) (x z : List WriterStep) (token : ℕ) → AreStopped workers n x token z → length x + n ≤ length z
+stops_longer workers zero x z token h = omega (arith, ap length h)
+stops_longer workers (suc n) x z token h =
+    let before = stops_longer workers n x h.0 token h.2 in
+    let now = stop_longer workers h.0 z token h.1 h.3 in
     omega (arith, before, now)
 
 pub waits_longer : (c : Setup) (n : ℕ) (x z : List WriterStep) → Waits c n x z → length x + n < length z
 waits_longer c n x z h =
-    let longer = stops_longer c n (steps_alone (BumpToken ∷ x)) (steps_alone z) (next_token c x) h in
+    let longer = stops_longer c.workers n (BumpToken ∷ x) z (next_token c x) h in
     omega (arith, longer)
 
 -- ---- the script

@@ -1,5 +1,5 @@
 -- A synchronize that goes on: a token was started, and a worker stopped each check of it so far.
-use Rattle.std.proofs.Common.{◌≡◌, ℕ, suc, ap, ◌∙◌, subst, List, Err}
+use Rattle.std.proofs.Common.{arith, ◌≡◌, ℕ, suc, ap, ◌∙◌, subst, List, Err}
 use Rattle.lpm_limits.specs.declared.busy.Busy.{Busy}
 use Rattle.lpm_limits.specs.declared.config.Config.{Config}
 use Rattle.lpm_rules.specs.RuleMap.{RuleList}
@@ -7,7 +7,8 @@ use Rattle.lpm_trace.specs.declared.step.WriterStep.{WriterStep}
 use Rattle.lpm_trace.specs.declared.step.WriterStep.TheVariants.{BumpToken}
 use Rattle.lpm_trace.specs.Tables.{Setup, tables}
 use Rattle.lpm_writer.specs.declared.books.Books.{Books}
-use Rattle.lpm_writer.specs.Traced.{Goes, Checks, steps_alone}
+use Rattle.lpm_trace.proofs.Counts.{token_is}
+use Rattle.lpm_writer.specs.Traced.{Goes, Checks}
 use Rattle.lpm_writer.specs.Resting.{IsResting}
 use Rattle.lpm_writer.specs.Synchronizing.{IsWaiting}
 use Rattle.lpm_writer.proofs.Checks.{check_stops}
@@ -28,7 +29,8 @@ module _ {M : Type 0} (did : M → Setup → List WriterStep → Type 0) (first 
       → HasWaited m config rules books begun 0 z
   waited_none does m z config rules books begun starts c steps did_it rests =
       let s = starts c steps did_it rests in
-      (s.0, s.1, s.3, ap (λ w. (tables c w).token) s.2.1, ap steps_alone s.2.1)
+      let token : (tables c s.0).token ≡ suc (tables c steps).token = ap (λ w. (tables c w).token) s.2.1 in
+      (s.0, s.1, s.3, omega (arith, token, token_is c steps), s.2.1)
 
   pub waited_more : (does : M → WriterStep → M → Type 0) (m y z : M) (config : Config) (rules : RuleList) (books : Books) (begun n token : ℕ) (busy : Busy)
       → HasWaited m config rules books begun n y
@@ -45,5 +47,5 @@ module _ {M : Type 0} (did : M → Setup → List WriterStep → Type 0) (first 
         now.1,
         now.3,
         (check_stops does c (y, so_far.0) (next_token c steps) busy (z, now.0) check).token ∙ so_far.3,
-        (steps_alone so_far.0, busy, so_far.4, checks_alone M does c (y, so_far.0) (z, now.0) (next_token c steps) (Err busy) check),
+        (so_far.0, busy, so_far.4, checks_alone M does c (y, so_far.0) (z, now.0) (next_token c steps) (Err busy) check),
       )

@@ -1,24 +1,24 @@
 -- Meaning: what comes of a change of the writer's script, by the writer's steps alone (DPDK
 -- Programmer's Guide, "LPM Library" and "RCU Library": a synchronize waits until each reader has left
 -- a token behind).
-use Rattle.std.specs.Prelude.{ℕ, suc, ◌≡◌, ◌≢◌, ◌+◌, ◌^◌, ◌≤◌, List, ◌∷◌, Ok, Err}
+use Rattle.std.specs.Prelude.{ℕ, ◌≡◌, ◌≢◌, ◌+◌, ◌^◌, ◌≤◌, List, ◌∷◌, Ok, Err}
 use Rattle.lpm_limits.specs.declared.config.Config.{Config}
 use Rattle.lpm_limits.specs.declared.refusal.Refusal.TheVariants.{Exhausted, Memory}
 use Rattle.lpm_rules.specs.declared.Change.{Change}
 use Rattle.lpm_rules.specs.declared.Change.TheVariants.{Add, Delete, Flush, Reclaim, Synchronize}
 use Rattle.lpm_trace.specs.declared.step.WriterStep.{WriterStep}
 use Rattle.lpm_trace.specs.declared.step.WriterStep.TheVariants.{BumpToken}
+use Rattle.lpm_trace.specs.Counts.{token_after}
 use Rattle.lpm_trace.specs.Tables.{Setup, tables, done}
 use Rattle.lpm_update.specs.Represents.{Represents}
 use Rattle.fib_model.specs.State.{State}
 use Rattle.fib_model.specs.Outcomes.{Adds, Deletes, Flushes, Frees}
 use Rattle.lpm_rules.specs.RuleMap.{RuleList}
 use Rattle.lpm_writer.specs.declared.books.Books.{Books}
-use Rattle.lpm_writer.specs.Traced.{by_steps, AnyMemory, steps_alone}
+use Rattle.lpm_writer.specs.Steps.{by_steps_from, AreStopped, Synchronizes}
 use Rattle.lpm_writer.specs.Resting.{state_of}
 use Rattle.lpm_writer.specs.Kept.{IsLimbo}
 use Rattle.lpm_writer.specs.Stores.{StoresOnce}
-use Rattle.lpm_writer.specs.Synchronizing.{AreStopped, Synchronizes}
 use Rattle.interleave.specs.declared.reply.Reply.{Reply}
 use Rattle.interleave.specs.declared.reply.Reply.TheVariants.{Put, Deleted, Flushed, Reclaimed, Synchronized, Refused}
 
@@ -32,11 +32,11 @@ kept rules steps books begun = state_of rules.rules steps books begun
 
 -- the token that is started next after these steps
 abbrev pub next_token : Setup → List WriterStep → ℕ
-next_token c steps = suc ((tables c steps).token)
+next_token c steps = token_after c.token steps + 1
 
 -- a token was started, and a worker stopped each of n checks of it
 abbrev pub Waits : Setup → ℕ → List WriterStep → List WriterStep → Type 0
-Waits c n x z = AreStopped AnyMemory c n (steps_alone (BumpToken ∷ x)) (next_token c x) (steps_alone z)
+Waits c n x z = AreStopped c.workers n (BumpToken ∷ x) (next_token c x) z
 
 -- what a writer keeps between its changes is what its steps say: each update that was begun is done,
 -- the rules are those of the last version, the words represent them (so the groups linked are the
@@ -51,21 +51,21 @@ pub record IsAtRest (f g : ℕ) (c : Setup) (s : Kept) : Type 0 where
 
 -- there are tokens for all groups; a synchronize takes no version
 abbrev pub HasTokensLeft : Setup → Config → Kept → Type 0
-HasTokensLeft c config s = (tables c s.readers).token + config.groups ≤ 2 ^ 62
+HasTokensLeft c config s = token_after c.token s.readers + config.groups ≤ 2 ^ 62
 
 -- the change came out so, and left z; want of memory ends the run, and is no reply
 abbrev pub Answers : Setup → (first second : ℕ) → Config → Kept → Change first second → Reply → Kept
     → Type 0
-Answers c f g config s (Add p h) (Put put) z = Adds (by_steps c) f g config s p h (Ok put) z
+Answers c f g config s (Add p h) (Put put) z = Adds (by_steps_from c.workers c.token) f g config s p h (Ok put) z
 Answers c f g config s (Add p h) (Refused r) z = (r ≢ Memory)
-    × Adds (by_steps c) f g config s p h (Err r) z
-Answers c f g config s (Delete p) (Deleted h) z = Deletes (by_steps c) f g config s p (Ok h) z
-Answers c f g config s (Delete p) (Refused r) z = Deletes (by_steps c) f g config s p (Err r) z
-Answers c f g config s Flush (Flushed n) z = Flushes (by_steps c) f g config s (Ok n) z
-Answers c f g config s Flush (Refused r) z = Flushes (by_steps c) f g config s (Err r) z
-Answers c f g config s (Reclaim max) (Reclaimed r) z = Frees (by_steps c) s max r z
+    × Adds (by_steps_from c.workers c.token) f g config s p h (Err r) z
+Answers c f g config s (Delete p) (Deleted h) z = Deletes (by_steps_from c.workers c.token) f g config s p (Ok h) z
+Answers c f g config s (Delete p) (Refused r) z = Deletes (by_steps_from c.workers c.token) f g config s p (Err r) z
+Answers c f g config s Flush (Flushed n) z = Flushes (by_steps_from c.workers c.token) f g config s (Ok n) z
+Answers c f g config s Flush (Refused r) z = Flushes (by_steps_from c.workers c.token) f g config s (Err r) z
+Answers c f g config s (Reclaim max) (Reclaimed r) z = Frees (by_steps_from c.workers c.token) s max r z
 Answers c f g config s Synchronize Synchronized z = HasTokensLeft c config s
-    × Synchronizes AnyMemory c (steps_alone s.readers) (steps_alone z.readers)
+    × Synchronizes c.workers c.token s.readers z.readers
     × (z ≡ record s { readers = z.readers })
 Answers c f g config s Synchronize (Refused Exhausted) z = ¬ HasTokensLeft c config s × (z ≡ s)
 Answers c f g config s change reply z = ⊥

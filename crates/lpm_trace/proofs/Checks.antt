@@ -9,9 +9,11 @@ use Rattle.lpm_trace.specs.declared.step.TraceStep.TheVariants.{Writer, Worker a
 use Rattle.lpm_trace.specs.Tables.{Setup, Tables, lets_pass, tables, IsNextChecked, MayWrite}
 use Rattle.lpm_trace.specs.Trace.{after, IsTrace, writes}
 use Rattle.lpm_trace.specs.Laws.{IsAskedFor, IsChecked, PassedIsChecked}
+use Rattle.lpm_trace.specs.Counts.{passed_after}
 use Rattle.lpm_trace.proofs.Traces.{tables_of}
+use Rattle.lpm_trace.proofs.Counts.{token_is, passed_is}
 
-asked_still : (c : Setup) (s : WriterStep) (ws : List WriterStep) (token k : ℕ) → IsAskedFor c ws token k → IsAskedFor c (s ∷ ws) token k
+asked_still : (c : Setup) (s : WriterStep) (ws : List WriterStep) (token k : ℕ) → IsAskedFor c.token ws token k → IsAskedFor c.token (s ∷ ws) token k
 asked_still c s ws token k asked = record {
   newer = s ∷ asked.newer;
   older = asked.older;
@@ -21,47 +23,47 @@ asked_still c s ws token k asked = record {
   passes = asked.passes;
 }
 
-asked_now : (c : Setup) (ws : List WriterStep) (token k counter : ℕ) → token ≤ (tables c ws).token → lets_pass token counter ≡ true → IsAskedFor c (LoadCounter token k counter ∷ ws) token k
-asked_now c ws token k counter le passes = record { newer = []; older = ws; counter = counter; split = refl; started = le; passes = passes }
+asked_now : (c : Setup) (ws : List WriterStep) (token k counter : ℕ) → token ≤ (tables c ws).token → lets_pass token counter ≡ true → IsAskedFor c.token (LoadCounter token k counter ∷ ws) token k
+asked_now c ws token k counter le passes = record { newer = []; older = ws; counter = counter; split = refl; started = omega (arith, le, token_is c ws); passes = passes }
 
 -- the workers below the next one were asked in the check that runs, and the greatest token that has
 -- passed was checked
 record Asked (c : Setup) (ws : List WriterStep) : Type 0 where
-  pub scanned : (k : ℕ) → k < (tables c ws).scan.next → IsAskedFor c ws (tables c ws).scan.token k
-  pub passed : ((tables c ws).passed ≡ 0) ⊎ IsChecked c ws (tables c ws).passed
+  pub scanned : (k : ℕ) → k < (tables c ws).scan.next → IsAskedFor c.token ws (tables c ws).scan.token k
+  pub passed : ((tables c ws).passed ≡ 0) ⊎ IsChecked c.workers c.token ws (tables c ws).passed
 
-checked_still : (c : Setup) (s : WriterStep) (ws : List WriterStep) (token : ℕ) → IsChecked c ws token → IsChecked c (s ∷ ws) token
+checked_still : (c : Setup) (s : WriterStep) (ws : List WriterStep) (token : ℕ) → IsChecked c.workers c.token ws token → IsChecked c.workers c.token (s ∷ ws) token
 checked_still c s ws token h = record { checked = h.checked; later = h.later; each = λ k lt. asked_still c s ws h.checked k (h.each k lt) }
 
-passed_still : (c : Setup) (s : WriterStep) (ws : List WriterStep) (passed : ℕ) → (passed ≡ 0) ⊎ IsChecked c ws passed → (passed ≡ 0) ⊎ IsChecked c (s ∷ ws) passed
+passed_still : (c : Setup) (s : WriterStep) (ws : List WriterStep) (passed : ℕ) → (passed ≡ 0) ⊎ IsChecked c.workers c.token ws passed → (passed ≡ 0) ⊎ IsChecked c.workers c.token (s ∷ ws) passed
 passed_still c s ws passed (inl none) = inl none
 passed_still c s ws passed (inr h) = inr (checked_still c s ws passed h)
 
 -- a step that is no load of a counter
 asked_quiet : (c : Setup) (s : WriterStep) (ws : List WriterStep) → Asked c ws → (tables c (s ∷ ws)).scan ≡ (tables c ws).scan → (tables c (s ∷ ws)).passed ≡ (tables c ws).passed → Asked c (s ∷ ws)
 asked_quiet c s ws asked scan passed = record {
-  scanned = subst (λ z. (k : ℕ) → k < z.next → IsAskedFor c (s ∷ ws) z.token k) (sym scan) (λ k lt. asked_still c s ws (tables c ws).scan.token k (asked.scanned k lt));
-  passed = subst (λ n. (n ≡ 0) ⊎ IsChecked c (s ∷ ws) n) (sym passed) (passed_still c s ws (tables c ws).passed asked.passed);
+  scanned = subst (λ z. (k : ℕ) → k < z.next → IsAskedFor c.token (s ∷ ws) z.token k) (sym scan) (λ k lt. asked_still c s ws (tables c ws).scan.token k (asked.scanned k lt));
+  passed = subst (λ n. (n ≡ 0) ⊎ IsChecked c.workers c.token (s ∷ ws) n) (sym passed) (passed_still c s ws (tables c ws).passed asked.passed);
 }
 
 scanned_more : (c : Setup) (ws : List WriterStep) (token k0 counter : ℕ) → Asked c ws → token ≤ (tables c ws).token → IsNextChecked (tables c ws).scan token k0 → lets_pass token counter ≡ true
-    → (k : ℕ) → k < suc k0 → IsAskedFor c (LoadCounter token k0 counter ∷ ws) token k
+    → (k : ℕ) → k < suc k0 → IsAskedFor c.token (LoadCounter token k0 counter ∷ ws) token k
 scanned_more c ws token k0 counter asked le next passes k lt =
     let s : WriterStep = LoadCounter token k0 counter in
     elim (eqb_tells k k0) [
-      | inl same ↦ subst (IsAskedFor c (s ∷ ws) token) (sym same.1) (asked_now c ws token k0 counter le passes)
+      | inl same ↦ subst (IsAskedFor c.token (s ∷ ws) token) (sym same.1) (asked_now c ws token k0 counter le passes)
       | inr other ↦ elim next [
         | inl first ↦ absurd (other.1 (omega (arith, first, lt)))
         | inr going ↦
             let below : k < (tables c ws).scan.next = omega (arith, going.0, lt, other.1) in
-            asked_still c s ws token k (subst (λ t. IsAskedFor c ws t k) going.1 (asked.scanned k below))
+            asked_still c s ws token k (subst (λ t. IsAskedFor c.token ws t k) going.1 (asked.scanned k below))
       ]
     ]
 
 counter_asked : (c : Setup) (ws : List WriterStep) (token k0 counter : ℕ) → Asked c ws → token ≤ (tables c ws).token → IsNextChecked (tables c ws).scan token k0 → (b : Bool) → lets_pass token counter ≡ b
-    → ((k : ℕ) → k < cond b (suc k0) 0 → IsAskedFor c (LoadCounter token k0 counter ∷ ws) token k)
+    → ((k : ℕ) → k < cond b (suc k0) 0 → IsAskedFor c.token (LoadCounter token k0 counter ∷ ws) token k)
     × ((cond (b && eqb (suc k0) c.workers) (max (tables c ws).passed token) (tables c ws).passed ≡ 0)
-    ⊎ IsChecked c (LoadCounter token k0 counter ∷ ws) (cond (b && eqb (suc k0) c.workers) (max (tables c ws).passed token) (tables c ws).passed))
+    ⊎ IsChecked c.workers c.token (LoadCounter token k0 counter ∷ ws) (cond (b && eqb (suc k0) c.workers) (max (tables c ws).passed token) (tables c ws).passed))
 counter_asked c ws token k0 counter asked le next false passes = (λ k lt. absurd (omega (arith, lt)), passed_still c (LoadCounter token k0 counter) ws (tables c ws).passed asked.passed)
 counter_asked c ws token k0 counter asked le next true passes =
     let s : WriterStep = LoadCounter token k0 counter in
@@ -69,14 +71,14 @@ counter_asked c ws token k0 counter asked le next true passes =
     let more = scanned_more c ws token k0 counter asked le next passes in (
       more,
       elim (eqb_tells (suc k0) c.workers) [
-        | inl last ↦ subst (λ b. (cond b (max w.passed token) w.passed ≡ 0) ⊎ IsChecked c (s ∷ ws) (cond b (max w.passed token) w.passed)) (sym last.0)
+        | inl last ↦ subst (λ b. (cond b (max w.passed token) w.passed ≡ 0) ⊎ IsChecked c.workers c.token (s ∷ ws) (cond b (max w.passed token) w.passed)) (sym last.0)
             (elim (cases_lt w.passed token) [
               | inl greater ↦ inr (record { checked = token; later = omega (arith, greater); each = λ k lt. more k (omega (arith, lt, last.1)) })
               | inr stays ↦
                   let same : max w.passed token ≡ w.passed = omega (arith, stays) in
-                  subst (λ n. (n ≡ 0) ⊎ IsChecked c (s ∷ ws) n) (sym same) (passed_still c s ws w.passed asked.passed)
+                  subst (λ n. (n ≡ 0) ⊎ IsChecked c.workers c.token (s ∷ ws) n) (sym same) (passed_still c s ws w.passed asked.passed)
             ])
-        | inr more_workers ↦ subst (λ b. (cond b (max w.passed token) w.passed ≡ 0) ⊎ IsChecked c (s ∷ ws) (cond b (max w.passed token) w.passed)) (sym more_workers.0) (passed_still c s ws w.passed asked.passed)
+        | inr more_workers ↦ subst (λ b. (cond b (max w.passed token) w.passed ≡ 0) ⊎ IsChecked c.workers c.token (s ∷ ws) (cond b (max w.passed token) w.passed)) (sym more_workers.0) (passed_still c s ws w.passed asked.passed)
       ],
     )
 
@@ -99,7 +101,7 @@ asked_trace c (ByWorker k s ∷ steps) trace = asked_trace c steps trace.1
 
 pub passed_is_checked : PassedIsChecked
 passed_is_checked c steps token trace some le =
-    let same : (after c steps).tables.passed ≡ (tables c (writes steps)).passed = ap (λ w. w.passed) (tables_of c steps) in
+    let same : (tables c (writes steps)).passed ≡ passed_after c.workers (writes steps) = passed_is c (writes steps) in
     elim (asked_trace c steps trace).passed [
       | inl none ↦ absurd (omega (arith, none, same, some, le))
       | inr h ↦ record { checked = h.checked; later = omega (arith, h.later, same, le); each = h.each }

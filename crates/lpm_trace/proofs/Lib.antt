@@ -4,6 +4,7 @@ pub mod Good
 pub mod Writing
 pub mod Checking
 pub mod Reading
+pub mod Counts
 pub mod Traces
 pub mod Moments
 pub mod Grace

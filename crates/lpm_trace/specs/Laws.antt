@@ -15,6 +15,7 @@ use Rattle.lpm_trace.specs.declared.step.WorkerStep.TheVariants.{LoadOnline, Sto
 use Rattle.lpm_trace.specs.declared.step.TraceStep.{TraceStep}
 use Rattle.lpm_trace.specs.declared.step.TraceStep.TheVariants.{Writer, Worker as ByWorker}
 use Rattle.lpm_trace.specs.Tables.{Setup, Tables, IsSettled, addresses, answer, IsAnswer, done, begun, version, lets_pass, oldest, tables, tables_at, first_entry}
+use Rattle.lpm_trace.specs.Counts.{token_after, passed_after}
 use Rattle.lpm_trace.specs.Workers.{Seen, MayRead}
 use Rattle.lpm_trace.specs.Trace.{MayCome, after, IsTrace, writes, own, worker_by, worker_of}
 
@@ -114,27 +115,28 @@ ReuseIsLawful = (c : Setup) (newer between older : List TraceStep) (unlinks fill
 
 -- ---- checks
 
--- among these steps of the writer the worker's counter was loaded in a check of the token, after the
--- token was there, and let it pass
-pub record IsAskedFor (c : Setup) (w_steps : List WriterStep) (token worker : ℕ) : Type 0 where
+-- among these steps of the writer, which began with the token `start`, the worker's counter was loaded in
+-- a check of the token, after the token was there, and let it pass
+pub record IsAskedFor (start : ℕ) (w_steps : List WriterStep) (token worker : ℕ) : Type 0 where
   pub newer : List WriterStep
   pub older : List WriterStep
   pub counter : ℕ
   pub split : w_steps ≡ newer ++ LoadCounter token worker counter ∷ older
-  pub started : token ≤ (tables c older).token
+  pub started : token ≤ token_after start older
   pub passes : lets_pass token counter ≡ true
 
 -- a token passes as its check, or that of a later one, has: each worker's counter was loaded after that
 -- token was there, and was 0 or at least the token
-pub record IsChecked (c : Setup) (w_steps : List WriterStep) (token : ℕ) : Type 0 where
+pub record IsChecked (workers start : ℕ) (w_steps : List WriterStep) (token : ℕ) : Type 0 where
   pub checked : ℕ
   pub later : token ≤ checked
-  pub each : (worker : ℕ) → worker < c.workers → IsAskedFor c w_steps checked worker
+  pub each : (worker : ℕ) → worker < workers → IsAskedFor start w_steps checked worker
 
 -- each token up to the greatest that has passed was checked
 abbrev pub PassedIsChecked : Type 0
 PassedIsChecked = (c : Setup) (steps : List TraceStep) (token : ℕ) → IsTrace c steps
-    → 0 < token → token ≤ (after c steps).tables.passed → IsChecked c (writes steps) token
+    → 0 < token → token ≤ passed_after c.workers (writes steps)
+    → IsChecked c.workers c.token (writes steps) token
 
 -- ---- rest
 

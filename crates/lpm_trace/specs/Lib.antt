@@ -1,4 +1,5 @@
 pub mod Tables
+pub mod Counts
 pub mod Course
 pub mod Workers
 pub mod Trace

@@ -1,5 +1,5 @@
 -- A synchronize that waits: what its token and its checks leave.
-use Rattle.std.proofs.Common.{arith, ◌≡◌, ℕ, zero, suc, ◌<◌, ◌≤◌, inl, inr, refl, sym, ap, subst, ◌∙◌, Bool, true, false, cond, eqb, eq-eqb, max, List, [], ◌∷◌, Some, None}
+use Rattle.std.proofs.Common.{arith, ◌≡◌, ℕ, suc, ◌<◌, ◌≤◌, inl, inr, refl, sym, ap, subst, ◌∙◌, Bool, true, false, cond, eqb, eq-eqb, max, List, [], ◌∷◌, Some, None}
 use Rattle.std.specs.Prelude.{◌&&◌, All, Result, Ok, Err, OnOk, OnErr}
 use Rattle.std.proofs.lemmas.Bool.{cases_eq}
 use Rattle.std.proofs.lemmas.Bool.Decides.{eqb_tells}
@@ -13,11 +13,11 @@ use Rattle.lpm_trace.specs.Tables.{Setup, Tables, Status, tables, lets_pass}
 use Rattle.lpm_trace.specs.Course.{Course, Check, bumped, IsAsked, IsBumped as MayBump}
 use Rattle.lpm_trace.specs.Writer.{course, IsWritten, MayStep}
 use Rattle.lpm_writer.specs.declared.books.Books.{Books}
-use Rattle.lpm_writer.specs.Traced.{Traced, Goes, Checks, tables_of}
+use Rattle.lpm_writer.specs.Traced.{Checks}
 use Rattle.lpm_writer.specs.Kept.{AreRetired, IsIdle, MayAsk, Remembers}
 use Rattle.lpm_writer.specs.Changing.{IsBetween}
 use Rattle.lpm_writer.specs.Resting.{IsResting}
-use Rattle.lpm_writer.specs.Synchronizing.{IsAwaited, IsWaiting, AreStopped, Synchronizes}
+use Rattle.lpm_writer.specs.Synchronizing.{IsAwaited, IsWaiting}
 use Rattle.lpm_writer.proofs.Checks.{HasPassed, quiet_on, check_passes, check_stops}
 use Rattle.lpm_writer.proofs.Keeping.{kept_quiet}
 use Rattle.lpm_writer.proofs.Once.{nothing_bumped, after_check}
@@ -164,26 +164,3 @@ module _ (f s : ℕ) (c : Setup) (config : Config) (rules : RuleList) (books : B
           → OnOk r (IsResting f s c later config rules (record books { passed = passed }) begun) × OnErr r (IsWaiting f s c later config rules (record books { passed = passed }) begun)
       checked (Ok u) passed checks known same = (rests_again passed checks known, tt)
       checked (Err busy) passed checks known same = (tt, subst (λ p. IsWaiting f s c later config rules (record books { passed = p }) begun) (sym same) (waits_on busy checks))
-
--- ---- a whole synchronize
-
-module _ {M : Type 0} (does : M → WriterStep → M → Type 0) (c : Setup) where
-  -- one more check of the token is stopped
-  pub stopped_more : (n : ℕ) (x : Traced M) (t : ℕ) (y z : Traced M) (busy : Busy) → AreStopped does c n x t y → Checks does c y t (Err busy) z → AreStopped does c (suc n) x t z
-  stopped_more n x t y z busy before checks = (y, busy, before, checks)
-
-  -- the checks of a synchronize start no token
-  pub stopped_token : (n : ℕ) (x : Traced M) (t : ℕ) (z : Traced M) → AreStopped does c n x t z → (tables_of c z).token ≡ (tables_of c x).token
-  stopped_token zero x t z h = ap (λ (y : Traced M). (tables_of c y).token) h
-  stopped_token (suc n) x t z h = (check_stops does c h.0 t h.1 z h.3).token ∙ stopped_token n x t h.0 h.2
-
-  -- a token that is started, checks of the newest token that are stopped, and one that passes
-  pub synchronizes : (x y : Traced M) (n : ℕ) (w z : Traced M) → Goes does x BumpToken y → AreStopped does c n y (tables_of c y).token w → Checks does c w (tables_of c w).token (Ok tt) z → Synchronizes does c x z
-  synchronizes x y n w z starts stopped passes = record {
-    begun = y;
-    last = w;
-    stops = n;
-    starts = starts;
-    stopped = stopped;
-    passes = subst (λ t. Checks does c w t (Ok tt) z) (stopped_token n y (tables_of c y).token w stopped) passes;
-  }

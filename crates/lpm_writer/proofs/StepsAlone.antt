@@ -1,10 +1,13 @@
 -- The writer's steps by themselves: a change of a memory is one by its steps, whatever the memory. And what no step
 -- changes of a memory, no change does.
-use Rattle.std.proofs.Common.{◌≡◌, ℕ, zero, suc, inl, inr, refl, ap, sym, ◌∙◌, subst, List, [], ◌∷◌, Result, Ok, Err}
+use Rattle.std.proofs.Common.{arith, ◌≡◌, ℕ, zero, suc, inl, inr, refl, ap, sym, ◌∙◌, subst, All, List, [], ◌∷◌, ◌++◌, Result, Ok, Err}
+use Rattle.std.proofs.lemmas.List.Elements.{All-nil, All-cons}
 use Rattle.lpm_limits.specs.declared.busy.Busy.{Busy}
 use Rattle.lpm_trace.specs.declared.step.WriterStep.{WriterStep}
-use Rattle.lpm_trace.specs.declared.step.WriterStep.TheVariants.{StoreFirst, Opens, Closes, BumpToken, LoadCounter}
-use Rattle.lpm_trace.specs.Tables.{Setup, tables}
+use Rattle.lpm_trace.specs.declared.step.WriterStep.TheVariants.{StoreFirst, StoreSecond, Opens, Closes, BumpToken, LoadCounter}
+use Rattle.lpm_trace.specs.Tables.{Setup, Tables, tables}
+use Rattle.lpm_trace.specs.Counts.{token_after}
+use Rattle.lpm_trace.proofs.Counts.{token_is, passed_is}
 use Rattle.lpm_bits.specs.Network.{Network}
 use Rattle.lpm_limits.specs.declared.config.Config.{Config}
 use Rattle.lpm_limits.specs.declared.refusal.Refusal.{Refusal}
@@ -14,7 +17,10 @@ use Rattle.fib_model.specs.State.{State}
 use Rattle.fib_model.specs.Outcomes.{Adds, Deletes, Flushes, Frees}
 use Rattle.fib_model.proofs.Carrying.{Carries, AreNamed, AreFollowed, Follows, beside}
 use Rattle.fib_model.proofs.Carried.{changes_carry_over}
-use Rattle.lpm_writer.specs.Traced.{Traced, Goes, Loads, Asks, Checks, Stores, StoresOverLink, StoresAndCloses, by_writer, by_steps, steps_alone, AnyMemory}
+use Rattle.lpm_writer.specs.Steps as by_steps
+use Rattle.lpm_writer.specs.Steps.{IsStore, AreStopped, by_steps_from}
+use Rattle.lpm_writer.specs.Traced.{Traced, Goes, Loads, Asks, Checks, UnlinksNone, Stores, StoresOverLink, StoresAndCloses, by_writer, tables_of}
+use Rattle.lpm_writer.proofs.Checks.{HasPassed, HasStopped, check_passes, check_stops}
 
 named_same : (ms : List ℕ) → AreNamed (λ m n. n ≡ m) ms ms
 named_same [] = tt
@@ -26,49 +32,58 @@ named_is [] (n ∷ ns) h = absurd h
 named_is (m ∷ ms) [] h = absurd h
 named_is (m ∷ ms) (n ∷ ns) h = ap (λ x. x ∷ ns) h.0 ∙ ap (λ xs. m ∷ xs) (named_is ms ns h.1)
 
+-- z has some stores more than x
+abbrev HasStored : List WriterStep → List WriterStep → Type 0
+HasStored x z = (added : List WriterStep) × All IsStore added × (z ≡ added ++ x)
+
+-- stores, and then one more, and what was there before
+more_stores : (x y z : List WriterStep) (s : WriterStep) → IsStore s → HasStored x y → z ≡ s ∷ y → HasStored x z
+more_stores x y z s store h is =
+    (s ∷ h.0, All-cons IsStore s h.0 store h.1, is ∙ ap (λ l. s ∷ l) h.2)
+
+is_store : (w : Tables) (s : WriterStep) → UnlinksNone w s → IsStore s
+is_store w (StoreFirst i x) h = tt
+is_store w (StoreSecond j x) h = tt
+is_store w (Opens change) h = absurd h
+is_store w Closes h = absurd h
+is_store w BumpToken h = absurd h
+is_store w (LoadCounter token worker counter) h = absurd h
+
 module _ (M : Type 0) (does : M → WriterStep → M → Type 0) (c : Setup) where
-  abbrev alone : Traced M → Traced (Unit {0})
-  alone x = steps_alone x.1
+  same : (x z : Traced M) → z ≡ x → z.1 ≡ x.1
+  same x z e = ap (λ (t : Traced M). t.1) e
 
-  goes : (x z : Traced M) (s : WriterStep) → Goes does x s z → Goes AnyMemory (alone x) s (alone z)
-  goes x z s h = (tt, h.1)
-
-  same : (x z : Traced M) → z ≡ x → alone z ≡ alone x
-  same x z e = ap alone e
-
-  loads : (n : ℕ) (x z : Traced M) (token : ℕ) → Loads does n x token z → Loads AnyMemory n (alone x) token (alone z)
+  loads : (n : ℕ) (x z : Traced M) (token : ℕ) → Loads does n x token z → by_steps.Loads n x.1 token z.1
   loads zero x z token h = same x z h
-  loads (suc n) x z token h = (alone h.0, h.1, loads n x h.0 token h.2, h.3, goes h.0 z (LoadCounter token n h.1) h.4)
+  loads (suc n) x z token h = (h.0.1, h.1, loads n x h.0 token h.2, h.3, h.4.1)
 
-  asks : (workers : ℕ) (x z : Traced M) (token : ℕ) (r : Result (Unit {0}) Busy) → Asks does workers x token r z → Asks AnyMemory workers (alone x) token r (alone z)
+  asks : (workers : ℕ) (x z : Traced M) (token : ℕ) (r : Result (Unit {0}) Busy) → Asks does workers x token r z → by_steps.Asks workers x.1 token r z.1
   asks workers x z token (Ok passed) h = loads workers x z token h
-  asks workers x z token (Err busy) h = (alone h.0, loads busy.worker x h.0 token h.1, h.2, h.3, h.4, goes h.0 z (LoadCounter token busy.worker busy.counter) h.5)
+  asks workers x z token (Err busy) h = (h.0.1, loads busy.worker x h.0 token h.1, h.2, h.3, h.4, h.5.1)
 
-  pub checks_alone : (x z : Traced M) (token : ℕ) (r : Result (Unit {0}) Busy) → Checks does c x token r z → Checks AnyMemory c (alone x) token r (alone z)
-  checks_alone x z token r (inl h) = inl (h.0, h.1, same x z h.2)
-  checks_alone x z token r (inr h) = inr (h.0, asks c.workers x z token r h.1)
+  pub checks_alone : (x z : Traced M) (token : ℕ) (r : Result (Unit {0}) Busy) → Checks does c x token r z → by_steps.Checks c.workers x.1 token r z.1
+  checks_alone x z token r (inl h) = inl (omega (arith, h.0, passed_is c x.1), h.1, same x z h.2)
+  checks_alone x z token r (inr h) = inr ((λ some. let low = h.0 some in omega (arith, low, passed_is c x.1)), asks c.workers x z token r h.1)
 
-  stores : (n : ℕ) (x z : Traced M) → Stores does c n x z → Stores AnyMemory c n (alone x) (alone z)
-  stores zero x z h = same x z h
-  stores (suc n) x z h = (alone h.0, h.1, stores n x h.0 h.2, h.3, goes h.0 z h.1 h.4)
+  stores : (n : ℕ) (x z : Traced M) → Stores does c n x z → HasStored x.1 z.1
+  stores zero x z h = ([], All-nil IsStore, same x z h)
+  stores (suc n) x z h = more_stores x.1 h.0.1 z.1 h.1 (is_store (tables_of c h.0) h.1 h.3) (stores n x h.0 h.2) h.4.1
 
-  over_link : (x z : Traced M) (name : ℕ) → StoresOverLink does c x name z → StoresOverLink AnyMemory c (alone x) name (alone z)
-  over_link x z name h = (
-    h.0,
-    alone h.1,
-    alone h.2,
-    h.3,
-    h.4,
-    h.5,
-    stores h.0 x h.1 h.6,
-    h.7,
-    goes h.1 h.2 (StoreFirst h.3 h.4) h.8,
-    goes h.2 z BumpToken h.9,
-    h.10,
-  )
+  over_link : (x z : Traced M) (name : ℕ) → StoresOverLink does c x name z → (by_steps_from c.workers c.token).unlinks x.1 name z.1
+  over_link x z name h =
+      let before = stores h.0 x h.1 h.6 in (
+        before.0,
+        h.3,
+        h.4,
+        before.1,
+        h.9.1 ∙ ap (λ l. BumpToken ∷ l) (h.8.1 ∙ ap (λ l. StoreFirst h.3 h.4 ∷ l) before.2),
+        h.10 ∙ token_is c z.1,
+      )
 
-  closes : (x z : Traced M) → StoresAndCloses does c x z → StoresAndCloses AnyMemory c (alone x) (alone z)
-  closes x z h = (h.0, alone h.1, stores h.0 x h.1 h.2, goes h.1 z Closes h.3)
+  closes : (x z : Traced M) → StoresAndCloses does c x z → (by_steps_from c.workers c.token).ends x.1 z.1
+  closes x z h =
+      let before = stores h.0 x h.1 h.2 in
+      (before.0, before.1, h.3.1 ∙ ap (λ l. Closes ∷ l) before.2)
 
   -- what no step changes
   module _ (F : Type 0) (fixed : M → F) (stays : (m : M) (s : WriterStep) (z : M) → does m s z → fixed z ≡ fixed m) where
@@ -108,13 +123,13 @@ module _ (M : Type 0) (does : M → WriterStep → M → Type 0) (c : Setup) whe
       abbrev pub HasName : Traced M → List WriterStep → ℕ → ℕ → Type 0
       HasName x y m n = n ≡ m
 
-      steps_carry : Carries (by_writer does c) (by_steps c) IsOfSteps HasName
+      steps_carry : Carries (by_writer does c) (by_steps_from c.workers c.token) IsOfSteps HasName
       steps_carry = record {
-        token = λ x y e. ap (λ w. (tables c w).token) e.0;
+        token = λ x y e. ap (token_after c.token) e.0 ∙ sym (token_is c x.1);
         checks = λ x z y m n r e name h. (
           z.1,
-          subst (λ t. Checks AnyMemory c (steps_alone y) t r (alone z)) (sym name)
-              (subst (λ w. Checks AnyMemory c (steps_alone w) m r (alone z)) (sym e.0) (checks_alone x z m r h)),
+          subst (λ t. by_steps.Checks c.workers y t r z.1) (sym name)
+              (subst (λ w. by_steps.Checks c.workers w m r z.1) (sym e.0) (checks_alone x z m r h)),
           ((refl, checks_fixed x z m r h ∙ e.1), λ a b k. k),
         );
         begins = λ x z y e h. (
@@ -125,13 +140,13 @@ module _ (M : Type 0) (does : M → WriterStep → M → Type 0) (c : Setup) whe
         unlinks = λ x z y m e h. (
           z.1,
           m,
-          subst (λ w. StoresOverLink AnyMemory c (steps_alone w) m (alone z)) (sym e.0) (over_link x z m h),
+          subst (λ w. (by_steps_from c.workers c.token).unlinks w m z.1) (sym e.0) (over_link x z m h),
           refl,
           ((refl, over_link_fixed x z m h ∙ e.1), λ a b k. k),
         );
         ends = λ x z y e h. (
           z.1,
-          subst (λ w. StoresAndCloses AnyMemory c (steps_alone w) (alone z)) (sym e.0) (closes x z h),
+          subst (λ w. (by_steps_from c.workers c.token).ends w z.1) (sym e.0) (closes x z h),
           ((refl, closes_fixed x z h ∙ e.1), λ a b k. k),
         );
       }
@@ -145,17 +160,46 @@ module _ (M : Type 0) (does : M → WriterStep → M → Type 0) (c : Setup) whe
       told_alone z D h = (subst (λ l. D (beside z z.readers.1 l)) (named_is z.limbo h.1 h.4) (subst (λ w. D (beside z w h.1)) h.3.0 h.2), h.3.1)
 
       module _ (f g : ℕ) (config : Config) (s z : State (Traced M)) (at : fixed s.readers.0 ≡ kind) where
-        followed : AreFollowed (by_writer does c) (by_steps c) IsOfSteps HasName f g config s (beside s s.readers.1 s.limbo)
-        followed = changes_carry_over (Traced M) (List WriterStep) (by_writer does c) (by_steps c) IsOfSteps HasName steps_carry f g config s s.readers.1 s.limbo (refl, at) (named_same s.limbo)
+        followed : AreFollowed (by_writer does c) (by_steps_from c.workers c.token) IsOfSteps HasName f g config s (beside s s.readers.1 s.limbo)
+        followed = changes_carry_over (Traced M) (List WriterStep) (by_writer does c) (by_steps_from c.workers c.token) IsOfSteps HasName steps_carry f g config s s.readers.1 s.limbo (refl, at) (named_same s.limbo)
 
-        pub adds_alone : (p : Network) (h : ℕ) (r : Result Put Refusal) → Adds (by_writer does c) f g config s p h r z → Adds (by_steps c) f g config (state_alone s) p h r (state_alone z) × (fixed z.readers.0 ≡ kind)
-        adds_alone p h r d = told_alone z (Adds (by_steps c) f g config (state_alone s) p h r) (followed.adds z p h r d)
+        pub adds_alone : (p : Network) (h : ℕ) (r : Result Put Refusal) → Adds (by_writer does c) f g config s p h r z → Adds (by_steps_from c.workers c.token) f g config (state_alone s) p h r (state_alone z) × (fixed z.readers.0 ≡ kind)
+        adds_alone p h r d = told_alone z (Adds (by_steps_from c.workers c.token) f g config (state_alone s) p h r) (followed.adds z p h r d)
 
-        pub deletes_alone : (p : Network) (r : Result ℕ Refusal) → Deletes (by_writer does c) f g config s p r z → Deletes (by_steps c) f g config (state_alone s) p r (state_alone z) × (fixed z.readers.0 ≡ kind)
-        deletes_alone p r d = told_alone z (Deletes (by_steps c) f g config (state_alone s) p r) (followed.deletes z p r d)
+        pub deletes_alone : (p : Network) (r : Result ℕ Refusal) → Deletes (by_writer does c) f g config s p r z → Deletes (by_steps_from c.workers c.token) f g config (state_alone s) p r (state_alone z) × (fixed z.readers.0 ≡ kind)
+        deletes_alone p r d = told_alone z (Deletes (by_steps_from c.workers c.token) f g config (state_alone s) p r) (followed.deletes z p r d)
 
-        pub flushes_alone : (r : Result ℕ Refusal) → Flushes (by_writer does c) f g config s r z → Flushes (by_steps c) f g config (state_alone s) r (state_alone z) × (fixed z.readers.0 ≡ kind)
-        flushes_alone r d = told_alone z (Flushes (by_steps c) f g config (state_alone s) r) (followed.flushes z r d)
+        pub flushes_alone : (r : Result ℕ Refusal) → Flushes (by_writer does c) f g config s r z → Flushes (by_steps_from c.workers c.token) f g config (state_alone s) r (state_alone z) × (fixed z.readers.0 ≡ kind)
+        flushes_alone r d = told_alone z (Flushes (by_steps_from c.workers c.token) f g config (state_alone s) r) (followed.flushes z r d)
 
-        pub frees_alone : (max : ℕ) (r : Reclaimed) → Frees (by_writer does c) s max r z → Frees (by_steps c) (state_alone s) max r (state_alone z) × (fixed z.readers.0 ≡ kind)
-        frees_alone max r d = told_alone z (Frees (by_steps c) (state_alone s) max r) (followed.frees z max r d)
+        pub frees_alone : (max : ℕ) (r : Reclaimed) → Frees (by_writer does c) s max r z → Frees (by_steps_from c.workers c.token) (state_alone s) max r (state_alone z) × (fixed z.readers.0 ≡ kind)
+        frees_alone max r d = told_alone z (Frees (by_steps_from c.workers c.token) (state_alone s) max r) (followed.frees z max r d)
+
+-- ---- what a check by the steps alone leaves
+
+abbrev AnyMemory : Unit {0} → WriterStep → Unit {0} → Type 0
+AnyMemory m s z = Unit {0}
+
+module _ (c : Setup) where
+  loads_of : (n : ℕ) (x z : List WriterStep) (token : ℕ) → by_steps.Loads n x token z → Loads AnyMemory n (tt, x) token (tt, z)
+  loads_of zero x z token h = ap (λ l. (tt, l)) h
+  loads_of (suc n) x z token h = ((tt, h.0), h.1, loads_of n x h.0 token h.2, h.3, (tt, h.4))
+
+  asks_of : (workers : ℕ) (x z : List WriterStep) (token : ℕ) (r : Result (Unit {0}) Busy) → by_steps.Asks workers x token r z → Asks AnyMemory workers (tt, x) token r (tt, z)
+  asks_of workers x z token (Ok passed) h = loads_of workers x z token h
+  asks_of workers x z token (Err busy) h = ((tt, h.0), loads_of busy.worker x h.0 token h.1, h.2, h.3, h.4, (tt, h.5))
+
+  checks_of : (x z : List WriterStep) (token : ℕ) (r : Result (Unit {0}) Busy) → by_steps.Checks c.workers x token r z → Checks AnyMemory c (tt, x) token r (tt, z)
+  checks_of x z token r (inl h) = inl (omega (arith, h.0, passed_is c x), h.1, ap (λ l. (tt, l)) h.2)
+  checks_of x z token r (inr h) = inr ((λ some. let low = h.0 some in omega (arith, low, passed_is c x)), asks_of c.workers x z token r h.1)
+
+  pub steps_passed : (x : List WriterStep) (token : ℕ) (z : List WriterStep) → by_steps.Checks c.workers x token (Ok tt) z → HasPassed c x token z
+  steps_passed x token z h = check_passes AnyMemory c (tt, x) token (tt, z) (checks_of x z token (Ok tt) h)
+
+  pub steps_stopped : (x : List WriterStep) (token : ℕ) (busy : Busy) (z : List WriterStep) → by_steps.Checks c.workers x token (Err busy) z → HasStopped c x z
+  steps_stopped x token busy z h = check_stops AnyMemory c (tt, x) token busy (tt, z) (checks_of x z token (Err busy) h)
+
+  -- checks that are stopped start no token
+  pub stopped_token : (n : ℕ) (x : List WriterStep) (token : ℕ) (z : List WriterStep) → AreStopped c.workers n x token z → (tables c z).token ≡ (tables c x).token
+  stopped_token zero x token z h = ap (λ l. (tables c l).token) h
+  stopped_token (suc n) x token z h = (steps_stopped h.0 token h.1 z h.3).token ∙ stopped_token n x token h.0 h.2

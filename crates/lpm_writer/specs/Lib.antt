@@ -1,4 +1,5 @@
 pub mod Waiting
+pub mod Steps
 pub mod Traced
 pub mod Kept
 pub mod Stores

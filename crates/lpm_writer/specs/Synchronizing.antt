@@ -1,16 +1,13 @@
--- Meaning: a synchronize (DPDK Programmer's Guide, "RCU Library", and `rte_rcu_qsbr_synchronize` of
--- its API: a token is started, and its check is made again until each reader has let it pass).
-use Rattle.std.specs.Prelude.{ℕ, zero, suc, ◌≡◌, ◌<◌, List, Some, Ok, Err}
-use Rattle.lpm_limits.specs.declared.busy.Busy.{Busy}
+-- This layer's own: a ledger whose token was started, before a check of it has passed (DPDK Programmer's
+-- Guide, "RCU Library", and `rte_rcu_qsbr_synchronize` of its API).
+use Rattle.std.specs.Prelude.{ℕ, suc, ◌≡◌, ◌<◌, List, Some}
 use Rattle.lpm_limits.specs.declared.config.Config.{Config}
 use Rattle.lpm_rules.specs.RuleMap.{RuleList}
 use Rattle.lpm_trace.specs.declared.step.WriterStep.{WriterStep}
-use Rattle.lpm_trace.specs.declared.step.WriterStep.TheVariants.{BumpToken}
 use Rattle.lpm_trace.specs.Tables.{Setup, tables}
 use Rattle.lpm_trace.specs.Course.{Check, next_asked}
 use Rattle.lpm_trace.specs.Writer.{course}
 use Rattle.lpm_writer.specs.declared.books.Books.{Books}
-use Rattle.lpm_writer.specs.Traced.{Traced, Goes, Checks, tables_of}
 use Rattle.lpm_writer.specs.Kept.{IsIdle, IsQuiet}
 use Rattle.lpm_writer.specs.Stores.{StoresOnce}
 use Rattle.lpm_writer.specs.Resting.{IsResting}
@@ -34,20 +31,3 @@ pub record IsWaiting (first second : ℕ) (c : Setup) (steps : List WriterStep) 
   pub unpassed : (tables c steps).passed < (tables c steps).token
   pub due : IsAwaited c steps
   pub once : StoresOnce steps
-
--- n checks of the token were made one after another, and a worker stopped each
-abbrev pub AreStopped : {M : Type 0} → (M → WriterStep → M → Type 0) → Setup → ℕ → Traced M → ℕ
-    → Traced M → Type 0
-AreStopped does c zero x token z = z ≡ x
-AreStopped {M} does c (suc n) x token z = (y : Traced M) × (busy : Busy)
-    × AreStopped does c n x token y × Checks does c y token (Err busy) z
-
--- a token is started, some checks of it are stopped, and then one passes
-pub record Synchronizes {M : Type 0} (does : M → WriterStep → M → Type 0) (c : Setup)
-    (x z : Traced M) : Type 0 where
-  pub begun : Traced M
-  pub last : Traced M
-  pub stops : ℕ
-  pub starts : Goes does x BumpToken begun
-  pub stopped : AreStopped does c stops begun (tables_of c begun).token last
-  pub passes : Checks does c last (tables_of c begun).token (Ok tt) z

@@ -1,15 +1,14 @@
 -- This layer's own: how a group is taken for a block (DPDK Programmer's Guide, "LPM Library": a free
 -- tbl8 group is taken, and else the defer queue is reclaimed first).
-use Rattle.std.specs.Prelude.{ℕ, ◌≡◌, ◌/◌, ◌^◌, ◌<◌, ◌≤◌, ◌⊎◌, IsSome, List, [], ◌∷◌, slice_get, Option, Some, None, MatchOption, Result, Ok, Err, Contains}
+use Rattle.std.specs.Prelude.{ℕ, ◌≡◌, ◌/◌, ◌^◌, ◌<◌, ◌≤◌, ◌⊎◌, IsSome, List, [], ◌∷◌, slice_get, Option, Some, None, MatchOption, Result, Ok, Err}
 use Rattle.lpm_bits.specs.Network.{Network}
-use Rattle.lpm_entry.specs.Words.{group_in}
 use Rattle.lpm_groups.specs.declared.GroupState.{GroupState}
 use Rattle.lpm_groups.specs.States.{free_count, IsLeastFree, IsFreeAt, IsLinkedTo}
 use Rattle.lpm_limits.specs.declared.busy.Busy.{Busy}
 use Rattle.lpm_update.specs.Linked.{group_at}
-use Rattle.fib_model.specs.State.{State, Transitions}
+use Rattle.fib_model.specs.State.{Transitions}
 use Rattle.lpm_trace.specs.declared.step.WriterStep.{WriterStep}
-use Rattle.lpm_trace.specs.Tables.{Setup, Retired, tables, first_entry, IsUpdating}
+use Rattle.lpm_trace.specs.Tables.{Setup, tables, IsUpdating}
 use Rattle.lpm_writer.specs.declared.books.Books.{Books}
 use Rattle.lpm_writer.specs.Waiting.{IsTaken, tokens_of}
 use Rattle.lpm_writer.specs.Kept.{IsIdle, Keeps}
@@ -70,20 +69,3 @@ HasNoneFreeBelow states group = (lower : ℕ) → lower < group → ¬ IsFreeAt 
 abbrev pub LinksLeast : List GroupState → List GroupState → Type 0
 LinksLeast old new = (group block : ℕ) → IsLinkedTo new group block
     → IsLinkedTo old group block ⊎ HasNoneFreeBelow new group
-
--- after these steps the block has this group, by its word
-abbrev pub HasGroup : Setup → List WriterStep → ℕ → ℕ → Type 0
-HasGroup c steps block group =
-    (block < 2 ^ c.first) × (group_in (first_entry (tables c steps).words block) ≡ Some group)
-
--- the group isn't free: a block has it, or it waits in limbo, under the token of its unlinking
-abbrev pub IsOccupied : Setup → State (List WriterStep) → ℕ → Type 0
-IsOccupied c s group = ((block : ℕ) × HasGroup c s.readers block group)
-    ⊎ ((token : ℕ) × Contains s.limbo token × ((tables c s.readers).groups group ≡ Retired token))
-
--- A block that gets a group in a command, which leads from s to z, gets the least that is free: each
--- group of a lower number is occupied.
-pub record TakesLeast (c : Setup) (s z : State (List WriterStep)) : Type 0 where
-  pub least : (block group lower : ℕ)
-      → HasGroup c z.readers block group → ¬ HasGroup c s.readers block group
-      → lower < group → IsOccupied c z lower

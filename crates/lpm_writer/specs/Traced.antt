@@ -1,6 +1,5 @@
--- Meaning: a memory together with the writer's steps that led to it, and the parts of a
--- change as what they lead to (DPDK Programmer's Guide, "RCU Library": a check asks one reader after
--- another; the order within an update is this project's).
+-- This layer's own: a memory together with the writer's steps that led to it, and the parts of a change as
+-- what they lead to; by the steps alone they stand in `Steps`.
 use Rattle.std.specs.Prelude.{ℕ, zero, suc, ◌≡◌, ◌<◌, ◌≤◌, ◌⊎◌, true, List, [], ◌∷◌, ◌++◌, Some, None, Result, Ok, Err}
 use Rattle.lpm_entry.specs.Words.{group_in}
 use Rattle.lpm_limits.specs.declared.busy.Busy.{Busy}
@@ -87,24 +86,6 @@ by_writer does c = record {
   unlinks = StoresOverLink does c;
   ends = StoresAndCloses does c;
   token = λ x. (tables_of c x).token;
-}
-
--- the writer's steps by themselves, on whatever memory they were made
-abbrev pub steps_alone : List WriterStep → Traced (Unit {0})
-steps_alone steps = (tt, steps)
-
-abbrev pub AnyMemory : Unit {0} → WriterStep → Unit {0} → Type 0
-AnyMemory m s z = Unit {0}
-
--- the parts of a change, by the writer's steps alone
-abbrev pub by_steps : Setup → Transitions (List WriterStep)
-by_steps c = record {
-  checks = λ x token result z.
-      Checks AnyMemory c (steps_alone x) token result (steps_alone z);
-  begins = λ x z. (change : RuleChange) × (z ≡ Opens change ∷ x);
-  unlinks = λ x name z. StoresOverLink AnyMemory c (steps_alone x) name (steps_alone z);
-  ends = λ x z. StoresAndCloses AnyMemory c (steps_alone x) (steps_alone z);
-  token = λ x. (tables c x).token;
 }
 
 -- a token was started for a group that was just unlinked, room was made in limbo, and the group went

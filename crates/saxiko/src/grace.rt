@@ -4,9 +4,9 @@ ghost use Rattle.std.specs.Prelude.{◌≡◌, ◌+◌, ◌^◌, ◌<◌, ◌≤
 ghost use Rattle.std.specs.Arc.{arc_value};
 ghost use Rattle.lpm_trace.specs.declared.step.WriterStep.TheVariants.{BumpToken};
 ghost use Rattle.lpm_trace.specs.Laws.{IsChecked};
-ghost use Rattle.lpm_writer.specs.Traced.{AnyMemory, Checks, steps_alone};
+ghost use Rattle.lpm_writer.specs.Steps.{Checks};
 ghost use Rattle.shared_fib.specs.Passes.{IsBenchOf};
-ghost use Rattle.shared_fib.specs.Running.{left_by, setup, steps_of};
+ghost use Rattle.shared_fib.specs.Running.{left_by, steps_of};
 
 use crate::{Busy, Owner};
 use shared_fib::{Bench, SharedTable};
@@ -111,10 +111,10 @@ impl GracePeriod {
     /// after the token was there, and no group that was queued before is held at any later check. The error
     /// gives the grace period back, and names the reader that holds the token.
     pub fn check(self) -> Result<Owner, Held>
-        ensures passes { IfOk result (λ owner. Checks AnyMemory (setup self.writer.identity)
-            (steps_alone (steps_of self.writer)) (left_by self.writer).token (Ok tt)
-            (steps_alone (steps_of owner.writer))) }
-        ensures checked { IfOk result (λ owner. IsChecked (setup self.writer.identity)
+        ensures passes { IfOk result (λ owner. Checks self.writer.identity.opening.workers
+            (steps_of self.writer) (left_by self.writer).token (Ok tt)
+            (steps_of owner.writer)) }
+        ensures checked { IfOk result (λ owner. IsChecked self.writer.identity.opening.workers self.writer.identity.opening.token
             (steps_of owner.writer) (left_by self.writer).token) }
         ensures queued { IfOk result (λ owner. 0 < self.writer.config.workers
             → All (λ token. token ≤ (left_by owner.writer).passed) owner.writer.table.limbo) }
@@ -124,9 +124,9 @@ impl GracePeriod {
         ensures token { IfOk result
             (λ owner. (left_by owner.writer).token ≡ (left_by self.writer).token) }
         ensures bench { IfOk result (λ owner. owner.bench ≡ self.bench) }
-        ensures stopped { IfErr result (λ held. Checks AnyMemory (setup self.writer.identity)
-            (steps_alone (steps_of self.writer)) (left_by self.writer).token (Err held.busy)
-            (steps_alone (steps_of held.period.writer))) }
+        ensures stopped { IfErr result (λ held. Checks self.writer.identity.opening.workers
+            (steps_of self.writer) (left_by self.writer).token (Err held.busy)
+            (steps_of held.period.writer)) }
         ensures goes_on { IfErr result (λ held. held.period.writer ≡ record self.writer {
           table = record self.writer.table { readers = steps_of held.period.writer };
         }) }

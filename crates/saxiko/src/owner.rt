@@ -10,13 +10,12 @@ ghost use Rattle.lpm_rules.specs.declared.Put.{Put};
 ghost use Rattle.lpm_trace.specs.declared.step.WorkerStep.TheVariants.{StoreOffline, Meets};
 ghost use Rattle.lpm_trace.specs.Laws.{IsChecked};
 ghost use Rattle.lpm_writer.specs.Opening.{opening_setup};
-ghost use Rattle.lpm_writer.specs.Synchronizing.{Synchronizes};
-ghost use Rattle.lpm_writer.specs.Taking.{TakesLeast};
-ghost use Rattle.lpm_writer.specs.Traced.{AnyMemory, by_steps, steps_alone};
+ghost use Rattle.lpm_writer.specs.Steps.{Synchronizes};
+ghost use Rattle.shared_fib.specs.Taking.{TakesLeast};
 ghost use Rattle.shared_words.specs.Rule.{IsLater};
 ghost use Rattle.shared_fib.specs.Freeing.{FreesChecked};
 ghost use Rattle.shared_fib.specs.Passes.{IsBenchOf, IsFullBench, IsPassOf, Makes, PassState};
-ghost use Rattle.shared_fib.specs.Running.{IsAtRest, left_by, opens_with, setup, steps_of};
+ghost use Rattle.shared_fib.specs.Running.{IsAtRest, by_steps, left_by, opens_with, setup, steps_of};
 
 use crate::{Hop, Prefix, Reader};
 use defer_queue::Reclaimed;
@@ -121,6 +120,7 @@ impl Owner {
             ↔ (self.old.writer.identity.opening.workers ≤ worker) }
         ensures taken { IsErrOf result Refusal.Taken ↔ (slice_get self.old.bench worker ≡ Some None) }
         ensures unchanged { OnErr result (self.new ≡ self.old) }
+        ensures own { IsBenchOf self.new.writer.identity self.new.bench }
         ensures same { self.new.writer ≡ self.old.writer }
     {
         match self.bench.register(&*self.table, worker) {
@@ -144,6 +144,7 @@ impl Owner {
             × (self.new.bench ≡ slice_set self.old.bench reader.worker (Some p))
             × (reader.online ≡ true → (place : ℕ) × Makes ((StoreOffline, place) ∷ []) reader p)
             × (reader.online ≡ false → p ≡ reader) }
+        ensures own { IsBenchOf self.new.writer.identity self.new.bench }
         ensures same { self.new.writer ≡ self.old.writer }
     {
         self.bench.unregister(&*self.table, reader.into_pass());
@@ -172,11 +173,11 @@ impl Owner {
     /// has no room; and `NoGroups`, where a rule longer than 24 bits is the first in its block, no group is
     /// free, and the oldest in limbo is held or there is none. It names the worker that holds that one.
     pub fn add(&mut self, prefix: &Prefix, hop: Hop) -> Result<Put, Refusal>
-        ensures adds { Adds (by_steps (setup self.old.writer.identity)) 24 8 self.old.writer.config
+        ensures adds { Adds (by_steps self.old.writer.identity.opening) 24 8 self.old.writer.config
             self.old.writer.table prefix.now hop result self.new.writer.table }
-        ensures least { TakesLeast (setup self.old.writer.identity)
+        ensures least { TakesLeast self.old.writer.identity.opening
             self.old.writer.table self.new.writer.table }
-        ensures checked { (freed : List ℕ) × FreesChecked (setup self.old.writer.identity)
+        ensures checked { (freed : List ℕ) × FreesChecked self.old.writer.identity.opening
             self.old.writer.table self.new.writer.table freed }
         ensures later { IsLater (steps_of self.old.writer) (steps_of self.new.writer) }
         ensures own { self.new.writer.identity ≡ self.old.writer.identity }
@@ -193,11 +194,11 @@ impl Owner {
             (λ old. old ≡ map.get self.old.writer.table.rules prefix.now) }
         ensures adds { (put : Result Put Refusal)
             × MatchResult result (λ _. IsOk put) (λ error. put ≡ Err error)
-            × Adds (by_steps (setup self.old.writer.identity)) 24 8 self.old.writer.config
+            × Adds (by_steps self.old.writer.identity.opening) 24 8 self.old.writer.config
             self.old.writer.table prefix.now hop put self.new.writer.table }
-        ensures least { TakesLeast (setup self.old.writer.identity)
+        ensures least { TakesLeast self.old.writer.identity.opening
             self.old.writer.table self.new.writer.table }
-        ensures checked { (freed : List ℕ) × FreesChecked (setup self.old.writer.identity)
+        ensures checked { (freed : List ℕ) × FreesChecked self.old.writer.identity.opening
             self.old.writer.table self.new.writer.table freed }
         ensures later { IsLater (steps_of self.old.writer) (steps_of self.new.writer) }
         ensures own { self.new.writer.identity ≡ self.old.writer.identity }
@@ -217,9 +218,9 @@ impl Owner {
     ///
     /// The refusals: `NoSuchRule`, where the prefix has no rule, and else `Exhausted`.
     pub fn delete(&mut self, prefix: &Prefix) -> Result<Hop, Refusal>
-        ensures deletes { Deletes (by_steps (setup self.old.writer.identity)) 24 8
+        ensures deletes { Deletes (by_steps self.old.writer.identity.opening) 24 8
             self.old.writer.config self.old.writer.table prefix.now result self.new.writer.table }
-        ensures checked { (freed : List ℕ) × FreesChecked (setup self.old.writer.identity)
+        ensures checked { (freed : List ℕ) × FreesChecked self.old.writer.identity.opening
             self.old.writer.table self.new.writer.table freed }
         ensures later { IsLater (steps_of self.old.writer) (steps_of self.new.writer) }
         ensures own { self.new.writer.identity ≡ self.old.writer.identity }
@@ -236,9 +237,9 @@ impl Owner {
     /// else `Exhausted` is the only refusal. The groups are given up and reclaimed as by `delete`, one
     /// after another.
     pub fn flush(&mut self) -> Result<usize, Refusal>
-        ensures flushes { Flushes (by_steps (setup self.old.writer.identity)) 24 8
+        ensures flushes { Flushes (by_steps self.old.writer.identity.opening) 24 8
             self.old.writer.config self.old.writer.table result self.new.writer.table }
-        ensures checked { (freed : List ℕ) × FreesChecked (setup self.old.writer.identity)
+        ensures checked { (freed : List ℕ) × FreesChecked self.old.writer.identity.opening
             self.old.writer.table self.new.writer.table freed }
         ensures later { IsLater (steps_of self.old.writer) (steps_of self.new.writer) }
         ensures own { self.new.writer.identity ≡ self.old.writer.identity }
@@ -251,9 +252,9 @@ impl Owner {
     /// Frees groups that wait in limbo, from the oldest on: at most `max`, up to the first that a worker
     /// holds. It returns how many were freed, and the worker that stopped it.
     pub fn reclaim(&mut self, max: usize) -> Reclaimed
-        ensures frees { Frees (by_steps (setup self.old.writer.identity)) self.old.writer.table max
+        ensures frees { Frees (by_steps self.old.writer.identity.opening) self.old.writer.table max
             result self.new.writer.table }
-        ensures checked { FreesChecked (setup self.old.writer.identity) self.old.writer.table
+        ensures checked { FreesChecked self.old.writer.identity.opening self.old.writer.table
             self.new.writer.table (take result.freed self.old.writer.table.limbo) }
         ensures later { IsLater (steps_of self.old.writer) (steps_of self.new.writer) }
         ensures own { self.new.writer.identity ≡ self.old.writer.identity }
@@ -272,11 +273,11 @@ impl Owner {
     pub fn synchronize<R: Wait>(&mut self, rt: &R) -> Result<(), Exhausted>
         ensures exhausted { IsErr result
             ↔ (2 ^ 62 < (left_by self.old.writer).token + self.old.writer.config.groups) }
-        ensures synchronizes { OnOk result (Synchronizes AnyMemory (setup self.old.writer.identity)
-            (steps_alone (steps_of self.old.writer)) (steps_alone (steps_of self.new.writer))) }
+        ensures synchronizes { OnOk result (Synchronizes self.old.writer.identity.opening.workers self.old.writer.identity.opening.token
+            (steps_of self.old.writer) (steps_of self.new.writer)) }
         ensures started { OnOk result
             ((left_by self.new.writer).token ≡ (left_by self.old.writer).token + 1) }
-        ensures checked { OnOk result (IsChecked (setup self.old.writer.identity)
+        ensures checked { OnOk result (IsChecked self.old.writer.identity.opening.workers self.old.writer.identity.opening.token
             (steps_of self.new.writer) (left_by self.new.writer).token) }
         ensures queued { OnOk result (0 < self.old.writer.config.workers
             → All (λ token. token ≤ (left_by self.new.writer).passed) self.new.writer.table.limbo) }

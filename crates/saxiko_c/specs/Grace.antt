@@ -5,8 +5,8 @@ use Rattle.std.specs.Prelude.{ℤ, ◌≡◌, ◌+◌, ◌^◌, ◌<◌, ◌≤�
 use Rattle.lpm_limits.specs.declared.busy.Busy.{Busy}
 use Rattle.lpm_trace.specs.declared.step.WriterStep.TheVariants.{BumpToken}
 use Rattle.lpm_trace.specs.Laws.{IsChecked as WasChecked}
-use Rattle.lpm_writer.specs.Traced.{AnyMemory, Checks, steps_alone}
-use Rattle.shared_fib.specs.Running.{left_by, setup, steps_of}
+use Rattle.lpm_writer.specs.Steps.{Checks}
+use Rattle.shared_fib.specs.Running.{left_by, steps_of}
 use Rattle.saxiko_c.specs.Owners.{OwnerState}
 use Rattle.saxiko_c.specs.Running.{Names}
 use Rattle.saxiko_c.specs.Status.{done, again, already, not_permitted, overflow}
@@ -33,6 +33,7 @@ pub record IsStarted (o p : OwnerState) : Type 0 where
   pub writer : p.writer ≡ record o.writer {
     table = record o.writer.table { readers = BumpToken ∷ steps_of o.writer };
   }
+  pub started : (left_by p.writer).token ≡ (left_by o.writer).token + 1
   pub waits : p.waits ≡ true
   pub bench : p.bench ≡ o.bench
 
@@ -54,11 +55,13 @@ stopped_by (Err busy) = Some busy
 
 -- a check was made, and the grace period is over where it has passed
 pub record IsChecked (o : OwnerState) (r : Result (Unit {0}) Busy) (p : OwnerState) : Type 0 where
-  pub checks : Checks AnyMemory (setup o.writer.identity) (steps_alone (steps_of o.writer))
-      (left_by o.writer).token r (steps_alone (steps_of p.writer))
+  pub checks : Checks o.writer.identity.opening.workers (steps_of o.writer)
+      (left_by o.writer).token r (steps_of p.writer)
   pub over : OnOk r (p.waits ≡ false)
   pub lasts : OnErr r (p.waits ≡ true)
-  pub checked : OnOk r (WasChecked (setup o.writer.identity) (steps_of p.writer) (left_by o.writer).token)
+  pub token : (left_by p.writer).token ≡ (left_by o.writer).token
+  pub checked : OnOk r (WasChecked o.writer.identity.opening.workers
+      o.writer.identity.opening.token (steps_of p.writer) (left_by o.writer).token)
   pub queued : OnOk r (0 < o.writer.config.workers
       → All (λ token. token ≤ (left_by p.writer).passed) p.writer.table.limbo)
   pub same : p.writer ≡ record o.writer { table = record o.writer.table { readers = steps_of p.writer } }

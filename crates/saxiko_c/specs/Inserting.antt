@@ -7,9 +7,8 @@ use Rattle.lpm_limits.specs.declared.refusal.Refusal.{Refusal}
 use Rattle.fib_model.specs.Counting.{counting}
 use Rattle.fib_model.specs.Outcomes.{Adds}
 use Rattle.fib.specs.Fib.{FibState}
-use Rattle.lpm_writer.specs.Taking.{TakesLeast}
-use Rattle.lpm_writer.specs.Traced.{by_steps}
-use Rattle.shared_fib.specs.Running.{hop_or, setup}
+use Rattle.shared_fib.specs.Taking.{TakesLeast}
+use Rattle.shared_fib.specs.Running.{by_steps, hop_or}
 use Rattle.saxiko_c.specs.Owners.{OwnerState}
 use Rattle.saxiko_c.specs.Running.{Changes}
 use Rattle.saxiko_c.specs.Status.{invalid, add_status}
@@ -34,8 +33,8 @@ abbrev pub InsertsTo : ℕ → ℕ → ℕ → ℕ → ℕ → OwnerState → �
 InsertsTo addr depth hop before after o status p =
     (IsBad depth hop × (status ≡ invalid) × (after ≡ before) × (p ≡ o))
     ⊎ ((depth ≤ 32) × (hop < 16777216) × (r : Result Put Refusal)
-    × Adds (by_steps (setup o.writer.identity)) 24 8 o.writer.config o.writer.table
+    × Adds (by_steps o.writer.identity.opening) 24 8 o.writer.config o.writer.table
     (prefix_of 32 depth addr) hop r p.writer.table
-    × TakesLeast (setup o.writer.identity) o.writer.table p.writer.table
+    × TakesLeast o.writer.identity.opening o.writer.table p.writer.table
     × StoresOld r (get o.writer.table.rules (prefix_of 32 depth addr)) before after
     × Changes o p × (status ≡ add_status r))

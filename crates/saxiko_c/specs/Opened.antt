@@ -15,6 +15,7 @@ use Rattle.saxiko_c.specs.declared.records.SaxikoRoute.{SaxikoRoute}
 -- a table with these rules as version 0, of which no reader is handed out, and no grace period lasts
 pub record IsOpenedWith (c : Config) (R : RuleMap) (o : OwnerState) : Type 0 where
   pub opened : o.writer ≡ opens_with o.writer.identity c R
+  pub token : o.writer.identity.opening.token ≡ c.first_token
   pub workers : o.writer.identity.opening.workers ≡ c.workers
   pub at_rest : o.waits ≡ false
   pub bench : IsFullBench o.writer.identity o.bench

@@ -13,11 +13,11 @@ use Rattle.fib_model.specs.Outcomes.{groups_in_use}
 use Rattle.fib_model.specs.Outcomes as outcomes
 use Rattle.lpm_trace.specs.declared.step.WorkerStep.TheVariants.{LoadOnline, StoreOnline, LoadQuiescent, StoreQuiescent, StoreOffline}
 use Rattle.lpm_writer.specs.Opening.{opening_setup}
-use Rattle.lpm_writer.specs.Taking.{TakesLeast}
-use Rattle.lpm_writer.specs.Traced.{by_steps}
+use Rattle.shared_fib.specs.Taking.{TakesLeast}
 use Rattle.shared_fib.specs.Freeing.{FreesChecked}
-use Rattle.shared_fib.specs.Passes.{PassState, IsFullBench, IsPassOf, LooksUp, LooksUpAll, Makes}
-use Rattle.shared_fib.specs.Running.{hop_or, left_by, opens_with, setup}
+use Rattle.shared_fib.specs.Passes.{PassState, IsBenchOf, IsFullBench, IsPassOf, LooksUp, LooksUpAll, Makes}
+use Rattle.shared_words.specs.Rule.{IsLater}
+use Rattle.shared_fib.specs.Running.{by_steps, hop_or, left_by, opens_with, setup, steps_of}
 use Rattle.saxiko_c.specs.Owners.{OwnerState}
 use Rattle.saxiko_c.specs.Status.{done, no_memory, busy, invalid, not_permitted, already, add_status, status_of}
 use Rattle.saxiko_c.specs.Table.{IsBad, IsUnopened, Stores, Tells}
@@ -30,6 +30,7 @@ use Rattle.saxiko_c.specs.declared.records.SaxikoHeld.{SaxikoHeld}
 pub record IsOpened (c : Config) (o : OwnerState) : Type 0 where
   pub opened : o.writer ≡ opens_with o.writer.identity c empty
   pub setup : setup o.writer.identity ≡ opening_setup 24 8 c
+  pub token : o.writer.identity.opening.token ≡ c.first_token
   pub workers : o.writer.identity.opening.workers ≡ c.workers
   pub at_rest : o.waits ≡ false
   pub bench : IsFullBench o.writer.identity o.bench
@@ -41,34 +42,36 @@ Opens c (Some o) status after = (status ≡ busy) × (after ≡ Some o)
 Opens c None status None = IsUnopened c status
 Opens c None status (Some o) = (status ≡ done) × IsOpened c o
 
--- the table's rules alone were changed, and each group that was freed was checked after it was given up
+-- the table's rules alone were changed, by steps that come after the earlier ones, and each group that was
+-- freed was checked after it was given up
 pub record Changes (o p : OwnerState) : Type 0 where
   pub own : p.writer.identity ≡ o.writer.identity
   pub config : p.writer.config ≡ o.writer.config
   pub bench : p.bench ≡ o.bench
+  pub later : IsLater (steps_of o.writer) (steps_of p.writer)
   pub checked : (freed : List ℕ)
-      × FreesChecked (setup o.writer.identity) o.writer.table p.writer.table freed
+      × FreesChecked o.writer.identity.opening o.writer.table p.writer.table freed
 
 abbrev pub AddsTo : ℕ → ℕ → ℕ → OwnerState → ℤ → OwnerState → Type 0
 AddsTo addr depth hop o status p =
     (IsBad depth hop × (status ≡ invalid) × (p ≡ o))
     ⊎ ((depth ≤ 32) × (hop < 16777216) × (r : Result Put Refusal)
-    × outcomes.Adds (by_steps (setup o.writer.identity)) 24 8 o.writer.config o.writer.table
+    × outcomes.Adds (by_steps o.writer.identity.opening) 24 8 o.writer.config o.writer.table
     (prefix_of 32 depth addr) hop r p.writer.table
-    × TakesLeast (setup o.writer.identity) o.writer.table p.writer.table
+    × TakesLeast o.writer.identity.opening o.writer.table p.writer.table
     × Changes o p × (status ≡ add_status r))
 
 abbrev pub DeletesFrom : ℕ → ℕ → ℕ → ℕ → OwnerState → ℤ → OwnerState → Type 0
 DeletesFrom addr depth before after o status p =
     ((32 < depth) × (status ≡ invalid) × (after ≡ before) × (p ≡ o))
     ⊎ ((depth ≤ 32) × (r : Result ℕ Refusal)
-    × outcomes.Deletes (by_steps (setup o.writer.identity)) 24 8 o.writer.config o.writer.table
+    × outcomes.Deletes (by_steps o.writer.identity.opening) 24 8 o.writer.config o.writer.table
     (prefix_of 32 depth addr) r p.writer.table
     × Stores r before after × Changes o p × (status ≡ status_of r))
 
 abbrev pub Flushes : ℕ → ℕ → OwnerState → ℤ → OwnerState → Type 0
 Flushes before after o status p = (r : Result ℕ Refusal)
-    × outcomes.Flushes (by_steps (setup o.writer.identity)) 24 8 o.writer.config o.writer.table r p.writer.table
+    × outcomes.Flushes (by_steps o.writer.identity.opening) 24 8 o.writer.config o.writer.table r p.writer.table
     × Stores r before after × Changes o p × (status ≡ status_of r)
 
 -- the reader that stopped a reclaim is named
@@ -79,8 +82,9 @@ Names (Some busy) before status after =
 
 abbrev pub FreesHeld : ℕ → ℕ → SaxikoHeld → SaxikoHeld → OwnerState → ℤ → OwnerState → Type 0
 FreesHeld max freed before after o status p = (r : Reclaimed)
-    × outcomes.Frees (by_steps (setup o.writer.identity)) o.writer.table max r p.writer.table
-    × FreesChecked (setup o.writer.identity) o.writer.table p.writer.table (take r.freed o.writer.table.limbo)
+    × outcomes.Frees (by_steps o.writer.identity.opening) o.writer.table max r p.writer.table
+    × FreesChecked o.writer.identity.opening o.writer.table p.writer.table (take r.freed o.writer.table.limbo)
+    × IsLater (steps_of o.writer) (steps_of p.writer)
     × (freed ≡ r.freed) × Names r.stopped before status after
     × (p.writer.identity ≡ o.writer.identity) × (p.writer.config ≡ o.writer.config) × (p.bench ≡ o.bench)
 
@@ -111,7 +115,7 @@ pub record IsRegistered (number : ℕ) (o : OwnerState) (reader : PassState) (p 
   pub same : p.writer ≡ o.writer
   pub stage : p.waits ≡ o.waits
 
--- no reader was handed out: EINVAL exactly where there is no such number, EBUSY exactly where it has a reader, or ENOMEM
+-- no reader was handed out: EINVAL only where there is no such number, EBUSY only where it has a reader, or ENOMEM
 abbrev pub IsUnregistered : ℕ → OwnerState → ℤ → OwnerState → Type 0
 IsUnregistered number o status p = (p ≡ o)
     × (((status ≡ invalid) × (o.writer.identity.opening.workers ≤ number))
@@ -128,12 +132,13 @@ Registers number (Some o) None status (Some p) None = IsUnregistered number o st
 Registers number (Some o) None status (Some p) (Some reader) =
     (status ≡ done) × IsRegistered number o reader p
 
--- the reader is at the bench then, offline
+-- the reader is at the bench then, and those at the bench are offline
 abbrev pub GivesBack : PassState → OwnerState → ℤ → OwnerState → Type 0
 GivesBack reader o status p = (status ≡ done) × (left : PassState)
     × (p.bench ≡ slice_set o.bench reader.worker (Some left))
     × (reader.online ≡ true → (place : ℕ) × Makes ((StoreOffline, place) ∷ []) reader left)
     × (reader.online ≡ false → left ≡ reader)
+    × IsBenchOf p.writer.identity p.bench
     × (p.writer ≡ o.writer)
     × (p.waits ≡ o.waits)
 

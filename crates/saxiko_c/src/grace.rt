@@ -3,8 +3,8 @@
 ghost use Rattle.std.specs.Prelude.{◌≡◌, ◌+◌, ◌^◌, ◌<◌, ◌≤◌, ◌↔◌, ◌∷◌, All, IsErr, OnErr, OnOk, true, false};
 ghost use Rattle.lpm_trace.specs.declared.step.WriterStep.TheVariants.{BumpToken};
 ghost use Rattle.lpm_trace.specs.Laws.{IsChecked};
-ghost use Rattle.lpm_writer.specs.Traced.{AnyMemory, Checks, steps_alone};
-ghost use Rattle.shared_fib.specs.Running.{left_by, setup, steps_of};
+ghost use Rattle.lpm_writer.specs.Steps.{Checks};
+ghost use Rattle.shared_fib.specs.Running.{left_by, steps_of};
 ghost use Rattle.saxiko_c.specs.Grace.{ChecksOnce, Starts};
 
 use crate::owner::Owner;
@@ -37,6 +37,8 @@ impl Owner {
         ensures starts { OnOk result (self.new.writer ≡ record self.old.writer {
           table = record self.old.writer.table { readers = BumpToken ∷ steps_of self.old.writer };
         }) }
+        ensures started { OnOk result
+            ((left_by self.new.writer).token ≡ (left_by self.old.writer).token + 1) }
         ensures waits { OnOk result (self.new.waits ≡ true) }
         ensures bench { self.new.bench ≡ self.old.bench }
         ensures unchanged { OnErr result (self.new ≡ self.old) }
@@ -60,13 +62,15 @@ impl Owner {
     /// does: the grace period lasts.
     pub(crate) fn check(&mut self) -> Result<(), Busy>
         requires waits { self.old.waits ≡ true }
-        ensures checks { Checks AnyMemory (setup self.old.writer.identity)
-            (steps_alone (steps_of self.old.writer)) (left_by self.old.writer).token result
-            (steps_alone (steps_of self.new.writer)) }
+        ensures checks { Checks self.old.writer.identity.opening.workers
+            (steps_of self.old.writer) (left_by self.old.writer).token result
+            (steps_of self.new.writer) }
         ensures over { OnOk result (self.new.waits ≡ false) }
         ensures lasts { OnErr result (self.new.waits ≡ true) }
-        ensures checked { OnOk result (IsChecked (setup self.old.writer.identity)
-            (steps_of self.new.writer) (left_by self.old.writer).token) }
+        ensures token { (left_by self.new.writer).token ≡ (left_by self.old.writer).token }
+        ensures checked { OnOk result (IsChecked self.old.writer.identity.opening.workers
+            self.old.writer.identity.opening.token (steps_of self.new.writer)
+            (left_by self.old.writer).token) }
         ensures queued { OnOk result (0 < self.old.writer.config.workers
             → All (λ token. token ≤ (left_by self.new.writer).passed) self.new.writer.table.limbo) }
         ensures same { self.new.writer ≡ record self.old.writer {

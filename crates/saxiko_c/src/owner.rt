@@ -7,15 +7,15 @@ ghost use Rattle.fib_model.specs.Outcomes.{Adds, Deletes, Flushes, Frees, groups
 ghost use Rattle.lpm_limits.specs.Limits.{IsConfig};
 ghost use Rattle.lpm_trace.specs.declared.step.WorkerStep.TheVariants.{StoreOffline};
 ghost use Rattle.lpm_writer.specs.Opening.{opening_setup};
-ghost use Rattle.lpm_writer.specs.Taking.{TakesLeast};
-ghost use Rattle.lpm_writer.specs.Traced.{by_steps};
+ghost use Rattle.shared_fib.specs.Taking.{TakesLeast};
 ghost use Rattle.lpm_rules.specs.Listed.{AreInOrder, rules_of};
 ghost use Rattle.lpm_rules.specs.Walking.{IsNextRule};
 ghost use Rattle.saxiko_c.specs.Loads.{IsTooSmall};
 ghost use Rattle.saxiko_c.specs.Opened.{IsOpenedWith};
 ghost use Rattle.shared_fib.specs.Freeing.{FreesChecked};
 ghost use Rattle.shared_fib.specs.Passes.{IsBenchOf, IsFullBench, IsPassOf, Makes, PassState};
-ghost use Rattle.shared_fib.specs.Running.{left_by, opens_with, setup};
+ghost use Rattle.shared_words.specs.Rule.{IsLater};
+ghost use Rattle.shared_fib.specs.Running.{by_steps, left_by, opens_with, setup, steps_of};
 
 use crate::reader::Reader;
 use crate::stage::Stage;
@@ -80,6 +80,7 @@ impl Owner {
             (λ owner. setup owner.writer.identity ≡ opening_setup 24 8 config) }
         ensures opened { IfOk result
             (λ owner. owner.writer ≡ opens_with owner.writer.identity config map.empty) }
+        ensures token { IfOk result (λ owner. owner.writer.identity.opening.token ≡ config.first_token) }
         ensures workers { IfOk result (λ owner. owner.writer.identity.opening.workers ≡ config.workers) }
         ensures at_rest { IfOk result (λ owner. owner.waits ≡ false) }
         ensures bench { IfOk result (λ owner. IsFullBench owner.writer.identity owner.bench) }
@@ -154,6 +155,7 @@ impl Owner {
             × (self.new.bench ≡ slice_set self.old.bench reader.worker (Some p))
             × (reader.online ≡ true → (place : ℕ) × Makes ((StoreOffline, place) ∷ []) reader p)
             × (reader.online ≡ false → p ≡ reader) }
+        ensures own { IsBenchOf self.new.writer.identity self.new.bench }
         ensures same { self.new.writer ≡ self.old.writer }
         ensures stage { self.new.waits ≡ self.old.waits }
     {
@@ -171,12 +173,13 @@ impl Owner {
     /// oldest in limbo is held or there is none. It names the worker that holds that one.
     pub fn add(&mut self, prefix: &Prefix<24, 8>, hop: Hop) -> Result<Put, Refusal>
         requires at_rest { self.old.waits ≡ false }
-        ensures adds { Adds (by_steps (setup self.old.writer.identity)) 24 8 self.old.writer.config
+        ensures adds { Adds (by_steps self.old.writer.identity.opening) 24 8 self.old.writer.config
             self.old.writer.table prefix.now hop result self.new.writer.table }
-        ensures least { TakesLeast (setup self.old.writer.identity)
+        ensures least { TakesLeast self.old.writer.identity.opening
             self.old.writer.table self.new.writer.table }
-        ensures checked { (freed : List ℕ) × FreesChecked (setup self.old.writer.identity)
+        ensures checked { (freed : List ℕ) × FreesChecked self.old.writer.identity.opening
             self.old.writer.table self.new.writer.table freed }
+        ensures later { IsLater (steps_of self.old.writer) (steps_of self.new.writer) }
         ensures own { self.new.writer.identity ≡ self.old.writer.identity }
         ensures config { self.new.writer.config ≡ self.old.writer.config }
         ensures at_rest { self.new.waits ≡ false }
@@ -195,10 +198,11 @@ impl Owner {
     /// The refusals: `NoSuchRule`, where the prefix has no rule, and else `Exhausted`.
     pub fn delete(&mut self, prefix: &Prefix<24, 8>) -> Result<Hop, Refusal>
         requires at_rest { self.old.waits ≡ false }
-        ensures deletes { Deletes (by_steps (setup self.old.writer.identity)) 24 8
+        ensures deletes { Deletes (by_steps self.old.writer.identity.opening) 24 8
             self.old.writer.config self.old.writer.table prefix.now result self.new.writer.table }
-        ensures checked { (freed : List ℕ) × FreesChecked (setup self.old.writer.identity)
+        ensures checked { (freed : List ℕ) × FreesChecked self.old.writer.identity.opening
             self.old.writer.table self.new.writer.table freed }
+        ensures later { IsLater (steps_of self.old.writer) (steps_of self.new.writer) }
         ensures own { self.new.writer.identity ≡ self.old.writer.identity }
         ensures config { self.new.writer.config ≡ self.old.writer.config }
         ensures at_rest { self.new.waits ≡ false }
@@ -214,10 +218,11 @@ impl Owner {
     /// `Exhausted` is the only refusal. The groups are given up and reclaimed as by `delete`, one after another.
     pub fn flush(&mut self) -> Result<usize, Refusal>
         requires at_rest { self.old.waits ≡ false }
-        ensures flushes { Flushes (by_steps (setup self.old.writer.identity)) 24 8
+        ensures flushes { Flushes (by_steps self.old.writer.identity.opening) 24 8
             self.old.writer.config self.old.writer.table result self.new.writer.table }
-        ensures checked { (freed : List ℕ) × FreesChecked (setup self.old.writer.identity)
+        ensures checked { (freed : List ℕ) × FreesChecked self.old.writer.identity.opening
             self.old.writer.table self.new.writer.table freed }
+        ensures later { IsLater (steps_of self.old.writer) (steps_of self.new.writer) }
         ensures own { self.new.writer.identity ≡ self.old.writer.identity }
         ensures config { self.new.writer.config ≡ self.old.writer.config }
         ensures at_rest { self.new.waits ≡ false }
@@ -233,10 +238,11 @@ impl Owner {
     /// returns how many were freed, and the worker that stopped it.
     pub fn reclaim(&mut self, max: usize) -> Reclaimed
         requires at_rest { self.old.waits ≡ false }
-        ensures frees { Frees (by_steps (setup self.old.writer.identity)) self.old.writer.table max
+        ensures frees { Frees (by_steps self.old.writer.identity.opening) self.old.writer.table max
             result self.new.writer.table }
-        ensures checked { FreesChecked (setup self.old.writer.identity) self.old.writer.table
+        ensures checked { FreesChecked self.old.writer.identity.opening self.old.writer.table
             self.new.writer.table (take result.freed self.old.writer.table.limbo) }
+        ensures later { IsLater (steps_of self.old.writer) (steps_of self.new.writer) }
         ensures own { self.new.writer.identity ≡ self.old.writer.identity }
         ensures config { self.new.writer.config ≡ self.old.writer.config }
         ensures at_rest { self.new.waits ≡ false }

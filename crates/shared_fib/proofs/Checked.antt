@@ -1,5 +1,5 @@
 -- Each group that a command frees was checked after it was retired, and so was the token of a synchronize.
-use Rattle.std.proofs.Common.{ℕ, suc, ◌≡◌, ◌+◌, ◌<◌, ◌≤◌, inl, inr, ap, sym, subst, ◌∙◌, All, List, [], ◌∷◌, ◌++◌, get_or, slice_get, arith}
+use Rattle.std.proofs.Common.{ℕ, suc, ◌≡◌, ◌+◌, ◌<◌, ◌≤◌, inl, inr, ap, sym, subst, All, List, [], ◌∷◌, ◌++◌, get_or, slice_get, arith}
 use Rattle.std.proofs.lemmas.Bool.{cases_lt}
 use Rattle.std.specs.List.{range_with_len}
 use Rattle.std.proofs.lemmas.List.{length-append, get_or_append_left}
@@ -14,10 +14,10 @@ use Rattle.lpm_trace.specs.declared.step.WriterStep.TheVariants.{StoreFirst, Sto
 use Rattle.lpm_trace.specs.Tables.{Setup, Tables, Status, Linked, Retired, tables, retired, linked, first_entry}
 use Rattle.lpm_trace.specs.Laws.{IsChecked}
 use Rattle.lpm_trace.proofs.Basics.{with_at_case}
-use Rattle.lpm_writer.specs.Traced.{AnyMemory, steps_alone}
-use Rattle.lpm_writer.specs.Synchronizing.{Synchronizes}
-use Rattle.lpm_writer.proofs.Awaiting.{stopped_token}
-use Rattle.lpm_writer.proofs.Checks.{check_passes}
+use Rattle.lpm_trace.specs.Counts.{token_after}
+use Rattle.lpm_trace.proofs.Counts.{token_is, passed_is}
+use Rattle.lpm_writer.specs.Steps.{Synchronizes}
+use Rattle.lpm_writer.proofs.StepsAlone.{steps_passed, stopped_token}
 use Rattle.lpm_writer.specs.Kept.{AreRetired}
 use Rattle.lpm_writer.specs.Waiting.{tokens_of}
 use Rattle.shared_words.specs.declared.view.View.{View}
@@ -90,9 +90,11 @@ looked v w sees are =
 -- each of these tokens was started, and has passed
 pub each_checked : (o : Opened) (steps : List WriterStep) (freed : List ℕ) → All (λ t. 0 < t) freed
     → (0 < (setup_of o).workers → All (λ t. t ≤ (tables (setup_of o) steps).passed) freed)
-    → AreChecked o steps → All (IsChecked (setup_of o) steps) freed
+    → AreChecked o steps → All (IsChecked o.workers o.token steps) freed
 each_checked o steps freed past passed checked i d within = elim (cases_lt 0 (setup_of o).workers) [
-  | inl some ↦ checked (get_or freed i d) (past i d within) (passed some i d within)
+  | inl some ↦
+      let low = passed some i d within in
+      checked (get_or freed i d) (past i d within) (omega (arith, low, passed_is (setup_of o) steps))
   | inr none ↦ record {
     checked = get_or freed i d;
     later = omega arith;
@@ -114,7 +116,7 @@ pub frees_checked : (o : Opened) (s z : State (List WriterStep)) (token : ℕ) (
     (n : ℕ) (freed : List ℕ)
     → AreRetired (tables (setup_of o) s.readers).groups token items → s.limbo ≡ tokens_of items
     → Leaves (setup_of o) s.readers z.readers s.limbo n freed z.limbo → AreChecked o z.readers
-    → FreesChecked (setup_of o) s z freed
+    → FreesChecked o s z freed
 frees_checked o s z token items n freed are same h checked =
     let c : Setup = setup_of o in
     let t : ℕ = (tables c s.readers).token in
@@ -125,10 +127,11 @@ frees_checked o s z token items n freed are same h checked =
     All-append (λ t. 0 < t) s.limbo (range_with_len (t + 1) n) waited (started_past t n) in
     let past : All (λ t. 0 < t) freed =
     all_front (λ t. 0 < t) freed z.limbo (subst (All (λ t. 0 < t)) h.queue all) in
+    let old : t ≡ token_after o.token s.readers = token_is c s.readers in
     record {
       started = n;
-      token = h.token;
-      queue = h.queue;
+      token = omega (arith, h.token, old, token_is c z.readers);
+      queue = subst (λ u. s.limbo ++ range_with_len (u + 1) n ≡ freed ++ z.limbo) old h.queue;
       checked = each_checked o z.readers freed past h.passed checked;
     }
 
@@ -137,31 +140,31 @@ frees_checked o s z token items n freed are same h checked =
 -- the token that a synchronize starts is the newest then, and was checked
 pub record IsNewestChecked (x : List WriterStep) (c d : Setup) (z : List WriterStep) : Type 0 where
   pub started : (tables d z).token ≡ (tables c x).token + 1
-  pub checked : IsChecked d z (tables d z).token
+  pub checked : IsChecked d.workers d.token z (tables d z).token
 
 newest_checked : (o : Opened) (x z : List WriterStep)
-    → Synchronizes AnyMemory (setup_of o) (steps_alone x) (steps_alone z) → AreChecked o z
-    → IsNewestChecked x (setup_of o) (setup_of o) z
+    → Synchronizes o.workers o.token x z → AreChecked o z → IsNewestChecked x (setup_of o) (setup_of o) z
 newest_checked o x z h are =
     let c : Setup = setup_of o in
-    let t : ℕ = (tables c h.begun.1).token in
+    let t : ℕ = token_after o.token (BumpToken ∷ x) in
     let newest : ℕ = (tables c z).token in
-    let begun : t ≡ suc (tables c x).token = ap (λ y. (tables c y).token) h.starts.1 in
-    let stopped = stopped_token AnyMemory c h.stops h.begun t h.last h.stopped in
-    let passed = check_passes AnyMemory c h.last t (steps_alone z) h.passes in
-    let last : newest ≡ t = passed.token ∙ stopped in
+    let before : (tables c x).token ≡ token_after o.token x = token_is c x in
+    let stopped : (tables c h.last).token ≡ suc (tables c x).token =
+    stopped_token c h.stops (BumpToken ∷ x) t h.last h.stopped in
+    let passed = steps_passed c h.last t z h.passes in
+    let last : newest ≡ t = omega (arith, passed.token, stopped, before) in
     let past : All (λ u. 0 < u) (newest ∷ []) =
-    All-cons (λ u. 0 < u) newest [] (omega (arith, begun, last)) (All-nil (λ u. 0 < u)) in
+    All-cons (λ u. 0 < u) newest [] (omega (arith, last)) (All-nil (λ u. 0 < u)) in
     let all = each_checked o z (newest ∷ []) past
     (λ some. All-cons (λ u. u ≤ (tables c z).passed) newest [] (omega (arith, last, passed.passed some))
     (All-nil (λ u. u ≤ (tables c z).passed))) are in
     record {
-      started = omega (arith, begun, last);
-      checked = All-head (IsChecked c z) newest [] all;
+      started = omega (arith, before, last);
+      checked = All-head (IsChecked o.workers o.token z) newest [] all;
     }
 
 pub synchronize_checked : (v w : View) → OnlySees v w
-    → Synchronizes AnyMemory (setup_of v.opening) (steps_alone v.seen) (steps_alone w.seen)
+    → Synchronizes v.opening.workers v.opening.token v.seen w.seen
     → AreChecked v.opening w.seen
     → IsNewestChecked v.seen (setup_of v.opening) (setup_of w.opening) w.seen
 synchronize_checked v w sees h are =

@@ -3,7 +3,7 @@ use Rattle.std.proofs.Common.{ℕ, zero, suc, ◌≡◌, ◌+◌, ◌-◌, ◌<�
 use Rattle.std.specs.List.{range_with_len}
 use Rattle.std.proofs.lemmas.Bool.{cases_lt}
 use Rattle.std.proofs.lemmas.List.{length-take, get_or-take, take-append-drop}
-use Rattle.std.proofs.lemmas.List.Elements.{All-nil, All-append, All-cons}
+use Rattle.std.proofs.lemmas.List.Elements.{All-nil, All-append, All-cons, All-head, All-tail}
 use Rattle.std.proofs.lemmas.Option.{same_Some, slice_get-get_or}
 use Rattle.lpm_bits.specs.Network.{Network}
 use Rattle.lpm_limits.specs.declared.busy.Busy.{Busy}
@@ -23,8 +23,9 @@ use Rattle.std.specs.FinMap.{get, remove, empty}
 use Rattle.lpm_trace.specs.declared.step.WriterStep.{WriterStep}
 use Rattle.lpm_trace.specs.declared.step.WriterStep.TheVariants.{StoreFirst, StoreSecond, Opens, Closes, BumpToken, LoadCounter}
 use Rattle.lpm_trace.specs.Tables.{Setup, tables}
-use Rattle.lpm_writer.specs.Traced.{Traced, AnyMemory, Stores, UnlinksNone, steps_alone, by_steps}
-use Rattle.lpm_writer.proofs.Checks.{check_passes, check_stops}
+use Rattle.lpm_trace.proofs.Counts.{token_is}
+use Rattle.lpm_writer.specs.Steps.{IsStore, by_steps_from}
+use Rattle.lpm_writer.proofs.StepsAlone.{steps_passed, steps_stopped}
 
 -- ---- the tokens that a reclaim let pass
 
@@ -50,19 +51,19 @@ record HasChecked (c : Setup) (x z : List WriterStep) : Type 0 where
   more : (tables c x).passed ≤ (tables c z).passed
 
 module _ (c : Setup) (limbo : List ℕ) where
-  passes_on : (n : ℕ) (x z : List WriterStep) → Passes (by_steps c) n limbo x z → HasChecked c x z
+  passes_on : (n : ℕ) (x z : List WriterStep) → Passes (by_steps_from c.workers c.token) n limbo x z → HasChecked c x z
   passes_on zero x z h =
       subst (HasChecked c x) (sym h) (record { token = refl; more = omega arith })
   passes_on (suc n) x z h =
-      let passed = check_passes AnyMemory c (steps_alone h.0) h.1 (steps_alone z) h.4 in
+      let passed = steps_passed c h.0 h.1 z h.4 in
       let before = passes_on n x h.0 h.2 in
       record { token = passed.token ∙ before.token; more = omega (arith, passed.more, before.more) }
 
-  passes_below : 0 < c.workers → (n : ℕ) (x z : List WriterStep) → Passes (by_steps c) n limbo x z
+  passes_below : 0 < c.workers → (n : ℕ) (x z : List WriterStep) → Passes (by_steps_from c.workers c.token) n limbo x z
       → HavePassed n limbo (tables c z).passed
   passes_below some zero x z h i t low at = absurd (omega (arith, low))
   passes_below some (suc n) x z h i t low at =
-      let passed = check_passes AnyMemory c (steps_alone h.0) h.1 (steps_alone z) h.4 in
+      let passed = steps_passed c h.0 h.1 z h.4 in
       elim (cases_lt i n) [
         | inl below ↦
             let before : t ≤ (tables c h.0).passed = passes_below some n x h.0 h.2 i t below at in
@@ -102,8 +103,7 @@ module _ (c : Setup) where
   keeps_on : (x y z : List WriterStep) → Keeps x y → Keeps y z → Keeps x z
   keeps_on x y z h k = (k.0 ∙ h.0, k.1 ∙ h.1)
 
-  plain_keeps : (steps : List WriterStep) (s : WriterStep) → UnlinksNone (tables c steps) s
-      → Keeps steps (s ∷ steps)
+  plain_keeps : (steps : List WriterStep) (s : WriterStep) → IsStore s → Keeps steps (s ∷ steps)
   plain_keeps steps (StoreFirst i w) h = (refl, refl)
   plain_keeps steps (StoreSecond j w) h = (refl, refl)
   plain_keeps steps (Opens change) h = absurd h
@@ -131,20 +131,20 @@ module _ (c : Setup) where
   }
 
   reclaims_on : (x z : List WriterStep) (max : ℕ) (limbo : List ℕ) (freed : ℕ) (stopped : Option Busy)
-      (left : List ℕ) (h : Reclaims (by_steps c) x max limbo freed stopped left z)
+      (left : List ℕ) (h : Reclaims (by_steps_from c.workers c.token) x max limbo freed stopped left z)
       → ((tables c z).token ≡ (tables c h.last).token) × ((tables c z).passed ≡ (tables c h.last).passed)
   reclaims_on x z max limbo freed None left h =
       (ap (λ y. (tables c y).token) h.end.0, ap (λ y. (tables c y).passed) h.end.0)
   reclaims_on x z max limbo freed (Some busy) left h =
       let stop = h.end.1 in
-      let stays = check_stops AnyMemory c (steps_alone h.last) stop.0 busy (steps_alone z) stop.2 in
+      let stays = steps_stopped c h.last stop.0 busy z stop.2 in
       (stays.token, stays.passed)
 
   pub reclaims_leave : (x z : List WriterStep) (max : ℕ) (limbo : List ℕ) (freed : ℕ) (stopped : Option Busy)
-      (left : List ℕ) → model.Reclaims (by_steps c) x max limbo freed stopped left z
+      (left : List ℕ) → model.Reclaims (by_steps_from c.workers c.token) x max limbo freed stopped left z
       → Leaves c x z limbo 0 (take freed limbo) left
   reclaims_leave x z max limbo freed stopped left reclaims =
-      let h = by_places (by_steps c) x max limbo freed stopped left z reclaims in
+      let h = by_places (by_steps_from c.workers c.token) x max limbo freed stopped left z reclaims in
       let end = reclaims_on x z max limbo freed stopped left h in
       let on = passes_on c limbo freed x h.last h.passed in
       front_leaves x z limbo freed left
@@ -154,36 +154,33 @@ module _ (c : Setup) where
 
   -- ---- the stores of an update
 
-  stores_keep : (n : ℕ) (x z : Traced (Unit {0})) → Stores AnyMemory c n x z → Keeps x.1 z.1
-  stores_keep zero x z h = subst (λ (y : Traced (Unit {0})). Keeps x.1 y.1) (sym h) (refl, refl)
-  stores_keep (suc n) x z h =
-      keeps_on x.1 h.0.1 z.1 (stores_keep n x h.0 h.2)
-      (subst (Keeps h.0.1) (sym h.4.1) (plain_keeps h.0.1 h.1 h.3))
+  stores_keep : (x stores : List WriterStep) → All IsStore stores → Keeps x (stores ++ x)
+  stores_keep x [] all = (refl, refl)
+  stores_keep x (s ∷ stores) all =
+      keeps_on x (stores ++ x) (s ∷ (stores ++ x)) (stores_keep x stores (All-tail IsStore s stores all))
+      (plain_keeps (stores ++ x) s (All-head IsStore s stores all))
 
-  begins_keep : (x z : List WriterStep) → (by_steps c).begins x z → Keeps x z
+  begins_keep : (x z : List WriterStep) → (by_steps_from c.workers c.token).begins x z → Keeps x z
   begins_keep x z h = subst (Keeps x) (sym h.1) (refl, refl)
 
-  ends_keep : (x z : List WriterStep) → (by_steps c).ends x z → Keeps x z
-  ends_keep x z h =
-      keeps_on x h.1.1 z (stores_keep h.0 (steps_alone x) h.1 h.2)
-      (subst (Keeps h.1.1) (sym h.3.1) (refl, refl))
+  ends_keep : (x z : List WriterStep) → (by_steps_from c.workers c.token).ends x z → Keeps x z
+  ends_keep x z h = subst (Keeps x) (sym h.2) (stores_keep x h.0 h.1)
 
   -- the token that is started for a group that was unlinked
-  unlinks_one : (x : List WriterStep) (name : ℕ) (z : List WriterStep) → (by_steps c).unlinks x name z
+  unlinks_one : (x : List WriterStep) (name : ℕ) (z : List WriterStep)
+      → (by_steps_from c.workers c.token).unlinks x name z
       → (name ≡ (tables c x).token + 1) × ((tables c z).token ≡ (tables c x).token + 1)
       × ((tables c z).passed ≡ (tables c x).passed)
   unlinks_one x name z h =
-      let stores = stores_keep h.0 (steps_alone x) h.1 h.6 in
-      let link : Keeps h.1.1 h.2.1 = subst (Keeps h.1.1) (sym h.8.1) (refl, refl) in
-      let both = keeps_on x h.1.1 h.2.1 stores link in
-      let more : (tables c z).token ≡ suc (tables c h.2.1).token = ap (λ y. (tables c y).token) h.9.1 in
-      let now : (tables c z).token ≡ (tables c x).token + 1 = omega (arith, more, both.0) in
-      (h.10 ∙ now, now, ap (λ y. (tables c y).passed) h.9.1 ∙ both.1)
+      let stores = stores_keep x h.0 h.3 in
+      let more : (tables c z).token ≡ suc (tables c (h.0 ++ x)).token = ap (λ y. (tables c y).token) h.4 in
+      let now : (tables c z).token ≡ (tables c x).token + 1 = omega (arith, more, stores.0) in
+      (h.5 ∙ sym (token_is c z) ∙ now, now, ap (λ y. (tables c y).passed) h.4 ∙ stores.1)
 
   -- ---- groups that are unlinked
 
   room_leaves : (config : Config) (x : List WriterStep) (limbo left : List ℕ) (z : List WriterStep)
-      → MakesRoom (by_steps c) config x limbo left z → (freed : List ℕ) × Leaves c x z limbo 0 freed left
+      → MakesRoom (by_steps_from c.workers c.token) config x limbo left z → (freed : List ℕ) × Leaves c x z limbo 0 freed left
   room_leaves config x limbo left z h = elim (cases_lt config.threshold (length limbo)) [
     | inl above ↦
         let made = h.0 above in
@@ -200,7 +197,7 @@ module _ (c : Setup) where
   more_freed x z freed more all i d within = omega (arith, more, all i d within)
 
   one_leaves : (config : Config) (n : ℕ) (x y z : List WriterStep) (limbo freed waiting limbo' : List ℕ)
-      → Leaves c x y limbo n freed waiting → UnlinksOne (by_steps c) config y waiting z limbo'
+      → Leaves c x y limbo n freed waiting → UnlinksOne (by_steps_from c.workers c.token) config y waiting z limbo'
       → (all : List ℕ) × Leaves c x z limbo (suc n) all limbo'
   one_leaves config n x y z limbo freed waiting limbo' before h =
       let name : ℕ = h.0 in
@@ -230,7 +227,7 @@ module _ (c : Setup) where
       )
 
   unlinks_leave : (config : Config) (n : ℕ) (x : List WriterStep) (limbo : List ℕ) (z : List WriterStep)
-      (limbo' : List ℕ) → Unlinks (by_steps c) config n x limbo z limbo'
+      (limbo' : List ℕ) → Unlinks (by_steps_from c.workers c.token) config n x limbo z limbo'
       → (freed : List ℕ) × Leaves c x z limbo n freed limbo'
   unlinks_leave config zero x limbo z limbo' h =
       let on : HasChecked c x z =
@@ -262,7 +259,7 @@ module _ (c : Setup) where
       (0, [], none_leaves s.readers s.readers s.limbo (record { token = refl; more = omega arith }))
 
   shrinks_leave : (f g : ℕ) (config : Config) (s : State (List WriterStep)) (R : RuleMap)
-      (z : State (List WriterStep)) → Shrinks (by_steps c) f g config s R z → SomeLeave s z
+      (z : State (List WriterStep)) → Shrinks (by_steps_from c.workers c.token) f g config s R z → SomeLeave s z
   shrinks_leave f g config s R z h =
       let run = h.1 in
       let n : ℕ = groups_in_use f g s.rules - groups_in_use f g R in
@@ -275,31 +272,31 @@ module _ (c : Setup) where
 
   pub deletes_leave : (f g : ℕ) (config : Config) (s : State (List WriterStep)) (p : Network)
       (result : Result ℕ Refusal) (z : State (List WriterStep))
-      → Deletes (by_steps c) f g config s p result z → SomeLeave s z
+      → Deletes (by_steps_from c.workers c.token) f g config s p result z → SomeLeave s z
   deletes_leave f g config s p (Ok hop) z h = shrinks_leave f g config s (remove s.rules p) z h.1
   deletes_leave f g config s p (Err NoSuchRule) z h = nothing_leaves s z h.1
   deletes_leave f g config s p (Err Exhausted) z h = nothing_leaves s z h.2
   deletes_leave f g config s p (Err other) z h = absurd h
 
   pub flushes_leave : (f g : ℕ) (config : Config) (s : State (List WriterStep)) (result : Result ℕ Refusal)
-      (z : State (List WriterStep)) → Flushes (by_steps c) f g config s result z → SomeLeave s z
+      (z : State (List WriterStep)) → Flushes (by_steps_from c.workers c.token) f g config s result z → SomeLeave s z
   flushes_leave f g config s (Ok zero) z h = nothing_leaves s z (h.1 refl)
   flushes_leave f g config s (Ok (suc n)) z h = shrinks_leave f g config s empty z (h.2 (omega arith))
   flushes_leave f g config s (Err Exhausted) z h = nothing_leaves s z h.2
   flushes_leave f g config s (Err other) z h = absurd h
 
   -- an update that unlinks no group
-  update_keeps : (x z : List WriterStep) → Updates (by_steps c) x z → Keeps x z
+  update_keeps : (x z : List WriterStep) → Updates (by_steps_from c.workers c.token) x z → Keeps x z
   update_keeps x z h = keeps_on x h.0 z (begins_keep x h.0 h.1) (ends_keep h.0 z h.2)
 
   -- the group that an add takes from the front of limbo
   take_leaves : (f g : ℕ) (config : Config) (s : State (List WriterStep)) (p : Network) (left : List ℕ)
-      (y : List WriterStep) → get s.rules p ≡ None → TakesGroup (by_steps c) f g config s p left y
+      (y : List WriterStep) → get s.rules p ≡ None → TakesGroup (by_steps_from c.workers c.token) f g config s p left y
       → (freed : List ℕ) × Leaves c s.readers y s.limbo 0 freed left
   take_leaves f g config s p left y absent h = elim (lacks_or_not f g config s p absent) [
     | inl lacks ↦
         let is = h.0 lacks in
-        let checked = check_passes AnyMemory c (steps_alone s.readers) is.0 (steps_alone y) is.2 in (
+        let checked = steps_passed c s.readers is.0 y is.2 in (
           is.0 ∷ [],
           record {
             queue = append-nil s.limbo ∙ is.1;
@@ -318,16 +315,16 @@ module _ (c : Setup) where
 
   -- the check of the front of limbo that a worker stopped, where there is one
   front_checked : (s : State (List WriterStep)) (oldest : Option Busy) (y : List WriterStep)
-      → HoldsFront (by_steps c) s oldest y → HasChecked c s.readers y
+      → HoldsFront (by_steps_from c.workers c.token) s oldest y → HasChecked c s.readers y
   front_checked s None y h =
       subst (HasChecked c s.readers) (sym h.1) (record { token = refl; more = omega arith })
   front_checked s (Some busy) y h =
-      let stays = check_stops AnyMemory c (steps_alone s.readers) h.0 busy (steps_alone y) h.2 in
+      let stays = steps_stopped c s.readers h.0 busy y h.2 in
       record { token = stays.token; more = omega (arith, stays.passed) }
 
   pub adds_leave : (f g : ℕ) (config : Config) (s : State (List WriterStep)) (p : Network) (hop : ℕ)
       (result : Result Put Refusal) (z : State (List WriterStep))
-      → Adds (by_steps c) f g config s p hop result z → SomeLeave s z
+      → Adds (by_steps_from c.workers c.token) f g config s p hop result z → SomeLeave s z
   adds_leave f g config s p hop (Ok Unchanged) z h = nothing_leaves s z h.1
   adds_leave f g config s p hop (Ok Replaced) z h =
       let same = update_keeps s.readers z.readers h.2 in

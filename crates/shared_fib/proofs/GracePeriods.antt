@@ -7,8 +7,8 @@ use Rattle.lpm_trace.specs.declared.step.WriterStep.{WriterStep}
 use Rattle.lpm_trace.specs.declared.step.WriterStep.TheVariants.{BumpToken}
 use Rattle.lpm_trace.specs.Tables.{Setup, tables}
 use Rattle.lpm_trace.specs.Laws.{IsChecked}
-use Rattle.lpm_writer.specs.Traced.{AnyMemory, Checks, steps_alone}
-use Rattle.lpm_writer.proofs.Checks.{check_passes, check_stops}
+use Rattle.lpm_writer.specs.Steps.{Checks}
+use Rattle.lpm_writer.proofs.StepsAlone.{steps_passed, steps_stopped}
 use Rattle.shared_words.specs.declared.view.View.{View}
 use Rattle.shared_words.specs.Opened.{Opened, setup_of}
 use Rattle.shared_words.specs.Seats.{AreChecked}
@@ -44,34 +44,34 @@ one_more_token x z same =
 
 -- the newest token stays, whatever came of its check
 pub token_stays : (c : Setup) (x z : List WriterStep) (r : Result (Unit {0}) Busy)
-    → Checks AnyMemory c (steps_alone x) (tables c x).token r (steps_alone z)
+    → Checks c.workers x (tables c x).token r z
     → (tables c z).token ≡ (tables c x).token
-token_stays c x z (Ok u) h = (check_passes AnyMemory c (steps_alone x) (tables c x).token (steps_alone z) h).token
-token_stays c x z (Err busy) h = (check_stops AnyMemory c (steps_alone x) (tables c x).token busy (steps_alone z) h).token
+token_stays c x z (Ok u) h = (steps_passed c x (tables c x).token z h).token
+token_stays c x z (Err busy) h = (steps_stopped c x (tables c x).token busy z h).token
 
 -- where its check has passed, it was checked
 pub newest_passed : (o : Opened) (x z : List WriterStep) (r : Result (Unit {0}) Busy) → 0 < (tables (setup_of o) x).token
     → AreChecked o z
-    → Checks AnyMemory (setup_of o) (steps_alone x) (tables (setup_of o) x).token r (steps_alone z)
-    → OnOk r (IsChecked (setup_of o) z (tables (setup_of o) x).token)
+    → Checks o.workers x (tables (setup_of o) x).token r z
+    → OnOk r (IsChecked o.workers o.token z (tables (setup_of o) x).token)
 newest_passed o x z (Err busy) past are h = tt
 newest_passed o x z (Ok u) past are h =
     let c : Setup = setup_of o in
     let t : ℕ = (tables c x).token in
-    let passed = check_passes AnyMemory c (steps_alone x) t (steps_alone z) h in
-    All-head (IsChecked c z) t [] (each_checked o z (t ∷ [])
+    let passed = steps_passed c x t z h in
+    All-head (IsChecked o.workers o.token z) t [] (each_checked o z (t ∷ [])
     (All-cons (λ u. 0 < u) t [] past (All-nil (λ u. 0 < u)))
     (λ some. All-cons (λ u. u ≤ (tables c z).passed) t [] (passed.passed some) (All-nil (λ u. u ≤ (tables c z).passed)))
     are)
 
 -- the same of a seat that made the check
 module _ (v w : View) (sees : OnlySees v w) (r : Result (Unit {0}) Busy)
-    (h : Checks AnyMemory (setup_of v.opening) (steps_alone v.seen) (left_by_view v).token r (steps_alone w.seen)) where
+    (h : Checks v.opening.workers v.seen (left_by_view v).token r w.seen) where
   pub seat_token_stays : (left_by_view w).token ≡ (left_by_view v).token
   seat_token_stays =
       ap (λ (x : View). (tables (setup_of x.opening) w.seen).token) sees
       ∙ token_stays (setup_of v.opening) v.seen w.seen r h
 
   pub seat_passed : 0 < (left_by_view v).token → AreChecked w.opening w.seen
-      → OnOk r (IsChecked (setup_of v.opening) w.seen (left_by_view v).token)
+      → OnOk r (IsChecked v.opening.workers v.opening.token w.seen (left_by_view v).token)
   seat_passed past are = newest_passed v.opening v.seen w.seen r past (looked v w sees are) h

@@ -19,53 +19,31 @@ use Rattle.fib_model.specs.Reclaiming.{Reclaims, MakesRoom, Unlinks, UnlinksOne}
 use Rattle.fib_model.proofs.Frozen.{lacks_or_not}
 use Rattle.lpm_trace.specs.declared.step.WriterStep.{WriterStep}
 use Rattle.lpm_trace.specs.declared.step.WriterStep.TheVariants.{StoreFirst, Opens, Closes, BumpToken, LoadCounter}
-use Rattle.lpm_trace.specs.Tables.{Setup, tables}
-use Rattle.lpm_writer.specs.Traced.{AnyMemory, Asks, Checks, Goes, Loads, Stores, StoresAndCloses, StoresOverLink, Traced, by_steps, steps_alone}
-use Rattle.lpm_writer.specs.Synchronizing.{AreStopped, Synchronizes}
+use Rattle.lpm_trace.specs.Counts.{token_after}
+use Rattle.lpm_writer.specs.Steps.{AreStopped, Asks, Checks, Loads, Synchronizes, by_steps_from}
 use Rattle.shared_words.specs.declared.view.View.{View}
 use Rattle.shared_words.specs.Rule.{IsLater}
 use Rattle.shared_deeds.proofs.Deeds.{later_trans}
-
--- the steps of a memory that isn't looked at
-abbrev Alone : Type 0
-Alone = Traced (Unit {0})
 
 pub later_same : (xs ys : List WriterStep) → ys ≡ xs → IsLater xs ys
 later_same xs ys same = ([], same)
 
 -- ---- the parts of a change
 
-goes : (x z : Alone) (s : WriterStep) → Goes AnyMemory x s z → IsLater x.1 z.1
-goes x z s h = (s ∷ [], h.1)
+loads : (n : ℕ) (x : List WriterStep) (token : ℕ) (z : List WriterStep) → Loads n x token z → IsLater x z
+loads zero x token z same = later_same x z same
+loads (suc n) x token z h = later_trans x h.0 z (loads n x token h.0 h.2) (LoadCounter token n h.1 ∷ [], h.4)
 
-loads : (n : ℕ) (x : Alone) (token : ℕ) (z : Alone) → Loads AnyMemory n x token z → IsLater x.1 z.1
-loads zero x token z same = later_same x.1 z.1 (ap (λ (y : Alone). y.1) same)
-loads (suc n) x token z h =
-    later_trans x.1 h.0.1 z.1 (loads n x token h.0 h.2) (goes h.0 z (LoadCounter token n h.1) h.4)
-
-asks : (workers : ℕ) (x : Alone) (token : ℕ) (r : Result (Unit {0}) Busy) (z : Alone)
-    → Asks AnyMemory workers x token r z → IsLater x.1 z.1
+asks : (workers : ℕ) (x : List WriterStep) (token : ℕ) (r : Result (Unit {0}) Busy) (z : List WriterStep)
+    → Asks workers x token r z → IsLater x z
 asks workers x token (Ok passed) z h = loads workers x token z h
 asks workers x token (Err busy) z h =
-    later_trans x.1 h.0.1 z.1 (loads busy.worker x token h.0 h.1)
-    (goes h.0 z (LoadCounter token busy.worker busy.counter) h.5)
+    later_trans x h.0 z (loads busy.worker x token h.0 h.1) (LoadCounter token busy.worker busy.counter ∷ [], h.5)
 
-checks : (c : Setup) (x : Alone) (token : ℕ) (r : Result (Unit {0}) Busy) (z : Alone)
-    → Checks AnyMemory c x token r z → IsLater x.1 z.1
-checks c x token r z (inl h) = later_same x.1 z.1 (ap (λ (y : Alone). y.1) h.2)
-checks c x token r z (inr h) = asks c.workers x token r z h.1
-
-stores : (c : Setup) (n : ℕ) (x z : Alone) → Stores AnyMemory c n x z → IsLater x.1 z.1
-stores c zero x z same = later_same x.1 z.1 (ap (λ (y : Alone). y.1) same)
-stores c (suc n) x z h = later_trans x.1 h.0.1 z.1 (stores c n x h.0 h.2) (goes h.0 z h.1 h.4)
-
-stores_over_link : (c : Setup) (x : Alone) (name : ℕ) (z : Alone) → StoresOverLink AnyMemory c x name z → IsLater x.1 z.1
-stores_over_link c x name z h =
-    later_trans x.1 h.1.1 z.1 (stores c h.0 x h.1 h.6)
-    (later_trans h.1.1 h.2.1 z.1 (goes h.1 h.2 (StoreFirst h.3 h.4) h.8) (goes h.2 z BumpToken h.9))
-
-stores_and_closes : (c : Setup) (x z : Alone) → StoresAndCloses AnyMemory c x z → IsLater x.1 z.1
-stores_and_closes c x z h = later_trans x.1 h.1.1 z.1 (stores c h.0 x h.1 h.2) (goes h.1 z Closes h.3)
+checks : (workers : ℕ) (x : List WriterStep) (token : ℕ) (r : Result (Unit {0}) Busy) (z : List WriterStep)
+    → Checks workers x token r z → IsLater x z
+checks workers x token r z (inl h) = later_same x z h.2
+checks workers x token r z (inr h) = asks workers x token r z h.1
 
 -- each part of a change goes on from the steps before it
 pub record GoOn (t : Transitions (List WriterStep)) : Type 0 where
@@ -74,12 +52,12 @@ pub record GoOn (t : Transitions (List WriterStep)) : Type 0 where
   pub unlinks : (x : List WriterStep) (name : ℕ) (z : List WriterStep) → t.unlinks x name z → IsLater x z
   pub ends : (x z : List WriterStep) → t.ends x z → IsLater x z
 
-pub steps_go_on : (c : Setup) → GoOn (by_steps c)
-steps_go_on c = record {
-  checks = λ x name r z h. checks c (steps_alone x) name r (steps_alone z) h;
+pub steps_go_on : (workers start : ℕ) → GoOn (by_steps_from workers start)
+steps_go_on workers start = record {
+  checks = λ x name r z h. checks workers x name r z h;
   begins = λ x z h. (Opens h.0 ∷ [], h.1);
-  unlinks = λ x name z h. stores_over_link c (steps_alone x) name (steps_alone z) h;
-  ends = λ x z h. stores_and_closes c (steps_alone x) (steps_alone z) h;
+  unlinks = λ x name z h. (BumpToken ∷ StoreFirst h.1 h.2 ∷ h.0, h.4);
+  ends = λ x z h. (Closes ∷ h.0, h.2);
 }
 
 -- ---- a command
@@ -176,20 +154,20 @@ frees_later t on s z max r d = reclaimed t on s.readers max s.limbo r.freed r.st
 
 -- ---- a synchronize
 
-stops : (c : Setup) (n : ℕ) (x : Alone) (token : ℕ) (z : Alone) → AreStopped AnyMemory c n x token z → IsLater x.1 z.1
-stops c zero x token z same = later_same x.1 z.1 (ap (λ (y : Alone). y.1) same)
-stops c (suc n) x token z h =
-    later_trans x.1 h.0.1 z.1 (stops c n x token h.0 h.2) (checks c h.0 token (Err h.1) z h.3)
+stops : (workers n : ℕ) (x : List WriterStep) (token : ℕ) (z : List WriterStep) → AreStopped workers n x token z → IsLater x z
+stops workers zero x token z same = later_same x z same
+stops workers (suc n) x token z h =
+    later_trans x h.0 z (stops workers n x token h.0 h.2) (checks workers h.0 token (Err h.1) z h.3)
 
-pub synchronizes_later : (c : Setup) (x z : List WriterStep) → Synchronizes AnyMemory c (steps_alone x) (steps_alone z) → IsLater x z
-synchronizes_later c x z h =
-    let token : ℕ = (tables c h.begun.1).token in
-    later_trans x h.begun.1 z (goes (steps_alone x) h.begun BumpToken h.starts)
-    (later_trans h.begun.1 h.last.1 z (stops c h.stops h.begun token h.last h.stopped)
-    (checks c h.last token (Ok tt) (steps_alone z) h.passes))
+pub synchronizes_later : (workers start : ℕ) (x z : List WriterStep) → Synchronizes workers start x z → IsLater x z
+synchronizes_later workers start x z h =
+    let token : ℕ = token_after start (BumpToken ∷ x) in
+    later_trans x (BumpToken ∷ x) z (BumpToken ∷ [], refl)
+    (later_trans (BumpToken ∷ x) h.last z (stops workers h.stops (BumpToken ∷ x) token h.last h.stopped)
+    (checks workers h.last token (Ok tt) z h.passes))
 
 -- one that was refused made no step
-pub synchronized_later : {E : Type 0} (c : Setup) (v w : View) (r : Result (Unit {0}) E) → OnErr r (w ≡ v)
-    → OnOk r (Synchronizes AnyMemory c (steps_alone v.seen) (steps_alone w.seen)) → IsLater v.seen w.seen
-synchronized_later c v w (Ok done) same h = synchronizes_later c v.seen w.seen h
-synchronized_later c v w (Err none) same h = later_same v.seen w.seen (ap (λ (x : View). x.seen) same)
+pub synchronized_later : {E : Type 0} (workers start : ℕ) (v w : View) (r : Result (Unit {0}) E) → OnErr r (w ≡ v)
+    → OnOk r (Synchronizes workers start v.seen w.seen) → IsLater v.seen w.seen
+synchronized_later workers start v w (Ok done) same h = synchronizes_later workers start v.seen w.seen h
+synchronized_later workers start v w (Err none) same h = later_same v.seen w.seen (ap (λ (x : View). x.seen) same)

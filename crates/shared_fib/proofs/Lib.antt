@@ -3,6 +3,7 @@ pub mod Live
 pub mod Rests
 pub mod Seats
 pub mod Freed
+pub mod Taking
 pub mod Checked
 pub mod AllFreed
 pub mod Begins

@@ -13,7 +13,8 @@ use Rattle.defer_queue.specs.declared.Reclaimed.{Reclaimed}
 use Rattle.fib_model.specs.Outcomes.{Adds, Deletes, Flushes, Frees}
 use Rattle.lpm_writer.specs.declared.books.Books.{Books}
 use Rattle.fib_model.specs.State.{State}
-use Rattle.lpm_writer.specs.Traced.{Traced, by_writer, by_steps}
+use Rattle.lpm_writer.specs.Steps.{by_steps_from}
+use Rattle.lpm_writer.specs.Traced.{Traced, by_writer}
 use Rattle.lpm_writer.specs.Resting.{state_of}
 use Rattle.lpm_writer.proofs.StepsAlone.{adds_alone, deletes_alone, flushes_alone, frees_alone}
 use Rattle.shared_words.specs.declared.view.View.{View}
@@ -57,22 +58,22 @@ module _ (first second : ℕ) (c : Setup) (config : Config) (m z : Lent) (steps 
 
   pub added : (p : Network) (h : ℕ) (r : Result Put Refusal)
       → Adds (by_writer does_in c) first second config before p h r then
-      → Adds (by_steps c) first second config before_alone p h r then_alone × StaysKept
+      → Adds (by_steps_from c.workers c.token) first second config before_alone p h r then_alone × StaysKept
   added = adds_alone Lent does_in c Kept kept stays (kept m) first second config before then refl
 
   pub deleted : (p : Network) (r : Result ℕ Refusal)
       → Deletes (by_writer does_in c) first second config before p r then
-      → Deletes (by_steps c) first second config before_alone p r then_alone × StaysKept
+      → Deletes (by_steps_from c.workers c.token) first second config before_alone p r then_alone × StaysKept
   deleted = deletes_alone Lent does_in c Kept kept stays (kept m) first second config before then refl
 
   pub flushed : (r : Result ℕ Refusal)
       → Flushes (by_writer does_in c) first second config before r then
-      → Flushes (by_steps c) first second config before_alone r then_alone × StaysKept
+      → Flushes (by_steps_from c.workers c.token) first second config before_alone r then_alone × StaysKept
   flushed = flushes_alone Lent does_in c Kept kept stays (kept m) first second config before then refl
 
   pub freed : (max : ℕ) (r : Reclaimed)
       → Frees (by_writer does_in c) before max r then
-      → Frees (by_steps c) before_alone max r then_alone × StaysKept
+      → Frees (by_steps_from c.workers c.token) before_alone max r then_alone × StaysKept
   freed = frees_alone Lent does_in c Kept kept stays (kept m) first second config before then refl
 
 -- the memory's steps are these, and it has kept the rest
@@ -88,3 +89,7 @@ rests_after K z c later did rests =
 pub outcome_after : (K : List WriterStep → Type 0) (z : Lent) (c : Setup) (later : List WriterStep)
     → SharedDid z c later → K later → K z.view.seen
 outcome_after K z c later did outcome = subst K did.steps_are outcome
+
+-- what holds by what a memory knew and knows, does by what its seat knew and knows
+pub by_seat : (K : View → View → Type 0) (m n v w : View) → m ≡ v → n ≡ w → K m n → K v w
+by_seat K m n v w old new h = subst (λ (x : View). K x w) old (subst (K m) new h)

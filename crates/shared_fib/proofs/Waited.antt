@@ -1,6 +1,6 @@
 -- A synchronize over the memory of a running table is one by the writer's steps: a token is started, and its checks
 -- are stopped until one passes.
-use Rattle.std.proofs.Common.{◌≡◌, ◌<◌, ◌≤◌, ℕ, suc, refl, ap, sym, ◌∙◌, subst, List, Result, Ok, Err}
+use Rattle.std.proofs.Common.{◌≡◌, ◌<◌, ◌≤◌, ℕ, suc, refl, sym, ◌∙◌, subst, List, ◌∷◌, Result, Ok, Err}
 use Rattle.std.specs.Prelude.{All}
 use Rattle.std.proofs.lemmas.List.Elements.{All-map}
 use Rattle.lpm_limits.specs.declared.busy.Busy.{Busy}
@@ -10,12 +10,14 @@ use Rattle.lpm_trace.specs.declared.step.WriterStep.{WriterStep}
 use Rattle.lpm_trace.specs.declared.step.WriterStep.TheVariants.{BumpToken}
 use Rattle.lpm_trace.specs.Tables.{Setup, tables}
 use Rattle.lpm_writer.specs.declared.books.Books.{Books}
-use Rattle.lpm_writer.specs.Traced.{Checks, AnyMemory, steps_alone}
+use Rattle.lpm_trace.specs.Counts.{token_after}
+use Rattle.lpm_trace.proofs.Counts.{token_is}
+use Rattle.lpm_writer.specs.Steps as by_steps
+use Rattle.lpm_writer.specs.Steps.{AreStopped, Synchronizes}
+use Rattle.lpm_writer.specs.Traced.{Checks}
 use Rattle.lpm_writer.specs.Waiting.{tokens_of}
 use Rattle.lpm_writer.specs.Resting.{IsResting}
-use Rattle.lpm_writer.specs.Synchronizing.{AreStopped, Synchronizes}
-use Rattle.lpm_writer.proofs.StepsAlone.{checks_alone, checks_fixed}
-use Rattle.lpm_writer.proofs.Awaiting.{stopped_token}
+use Rattle.lpm_writer.proofs.StepsAlone.{checks_alone, checks_fixed, stopped_token}
 use Rattle.shared_words.specs.declared.view.View.{View}
 use Rattle.shared_words.specs.Opened.{setup_of}
 use Rattle.shared_memory.specs.Lent.{Lent, SharedDid, SharedDoes, left_by}
@@ -28,8 +30,7 @@ pub record HasWaited (m z : Lent) : Type 0 where
   pub stops : ℕ
   pub did : SharedDid z (setup_of m.view.opening) z.view.seen
   pub same : kept z ≡ kept m
-  pub stopped : AreStopped AnyMemory (setup_of m.view.opening) stops (steps_alone m.view.seen)
-      (left_by m).token (steps_alone z.view.seen)
+  pub stopped : AreStopped m.view.opening.workers stops m.view.seen (left_by m).token z.view.seen
 
 module _ (m : Lent) where
   abbrev c : Setup
@@ -45,14 +46,13 @@ module _ (m : Lent) where
 
     token_same : (left_by y).token ≡ (left_by m).token
     token_same = (shared_shows y c y.view.seen so_far.did).1
-        ∙ stopped_token AnyMemory c so_far.stops (steps_alone m.view.seen) (left_by m).token
-        (steps_alone y.view.seen) so_far.stopped
+        ∙ stopped_token c so_far.stops m.view.seen (left_by m).token y.view.seen so_far.stopped
 
     alone : (r : Result (Unit {0}) Busy) → IsChecked r
-        → Checks AnyMemory c (steps_alone y.view.seen) (left_by m).token r (steps_alone z.view.seen)
+        → by_steps.Checks c.workers y.view.seen (left_by m).token r z.view.seen
     alone r checks =
-        subst (λ t. Checks AnyMemory c (steps_alone y.view.seen) t r (steps_alone z.view.seen)) token_same
-        (subst (λ l. Checks AnyMemory c (steps_alone y.view.seen) (left_by y).token r (steps_alone l))
+        subst (λ t. by_steps.Checks c.workers y.view.seen t r z.view.seen) token_same
+        (subst (λ l. by_steps.Checks c.workers y.view.seen (left_by y).token r l)
         did.steps_are (checks_alone Lent does_in c (y, y.view.seen) (z, later) (left_by y).token r checks))
 
     pub still : (r : Result (Unit {0}) Busy) → IsChecked r → kept z ≡ kept m
@@ -65,26 +65,29 @@ module _ (m : Lent) where
       stops = suc so_far.stops;
       did = subst (λ l. SharedDid z c l) did.steps_are did;
       same = still (Err busy) checks;
-      stopped = (steps_alone y.view.seen, busy, so_far.stopped, alone (Err busy) checks);
+      stopped = (y.view.seen, busy, so_far.stopped, alone (Err busy) checks);
     }
 
     pub at_last : IsChecked (Ok tt) → PassesAtLast c m.view.seen z.view.seen
     at_last checks = (so_far.stops, y.view.seen, so_far.stopped, alone (Ok tt) checks)
 
 -- a token was started, and a check of it passed at last
+passes_at_last : (c : Setup) (x z : List WriterStep) → PassesAtLast c (BumpToken ∷ x) z → Synchronizes c.workers c.token x z
+passes_at_last c x z h =
+    let token : (tables c (BumpToken ∷ x)).token ≡ token_after c.token (BumpToken ∷ x) = token_is c (BumpToken ∷ x) in
+    record {
+      last = h.1;
+      stops = h.0;
+      stopped = subst (λ t. AreStopped c.workers h.0 (BumpToken ∷ x) t h.1) token h.2;
+      passes = subst (λ t. by_steps.Checks c.workers h.1 t (Ok tt) z) token h.3;
+    }
+
 pub synchronized : (m z : Lent) (later : List WriterStep) → SharedDoes BumpToken m z
     → PassesAtLast (setup_of z.view.opening) z.view.seen later
-    → Synchronizes AnyMemory (setup_of m.view.opening) (steps_alone m.view.seen) (steps_alone later)
+    → Synchronizes m.view.opening.workers m.view.opening.token m.view.seen later
 synchronized m z later does passes =
-    subst (λ c. Synchronizes AnyMemory c (steps_alone m.view.seen) (steps_alone later))
-    (ap (λ (v : View). setup_of v.opening) does.view) (record {
-      begun = steps_alone z.view.seen;
-      last = steps_alone passes.1;
-      stops = passes.0;
-      starts = (tt, ap (λ (v : View). v.seen) does.view);
-      stopped = passes.2;
-      passes = passes.3;
-    })
+    passes_at_last (setup_of m.view.opening) m.view.seen later
+    (subst (λ (v : View). PassesAtLast (setup_of v.opening) v.seen later) does.view passes)
 
 -- no group that waits is held by a token that hasn't passed
 pub queued_passed : (first second : ℕ) (c : Setup) (steps : List WriterStep) (config : Config)

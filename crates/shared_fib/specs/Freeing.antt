@@ -5,16 +5,18 @@ use Rattle.std.specs.Prelude.{ℕ, ◌≡◌, ◌+◌, All, List, ◌++◌}
 use Rattle.std.specs.List.{range_with_len}
 use Rattle.fib_model.specs.State.{State}
 use Rattle.lpm_trace.specs.declared.step.WriterStep.{WriterStep}
-use Rattle.lpm_trace.specs.Tables.{Setup, tables}
+use Rattle.lpm_trace.specs.Counts.{token_after}
 use Rattle.lpm_trace.specs.Laws.{IsChecked}
+use Rattle.shared_words.specs.Opened.{Opened}
 
 -- In a command that leads from s to z the limbo list is a queue. Each group that is unlinked goes last
 -- into it, by the token that is started for it; those that are freed leave it at the front, and by the
 -- steps in z each of them was checked.
-pub record FreesChecked (c : Setup) (s z : State (List WriterStep)) (freed : List ℕ) : Type 0 where
+pub record FreesChecked (opening : Opened) (s z : State (List WriterStep)) (freed : List ℕ)
+    : Type 0 where
   -- how many tokens were started
   pub started : ℕ
-  pub token : (tables c z.readers).token ≡ (tables c s.readers).token + started
-  pub queue : s.limbo ++ range_with_len ((tables c s.readers).token + 1) started
+  pub token : token_after opening.token z.readers ≡ token_after opening.token s.readers + started
+  pub queue : s.limbo ++ range_with_len (token_after opening.token s.readers + 1) started
       ≡ freed ++ z.limbo
-  pub checked : All (IsChecked c z.readers) freed
+  pub checked : All (IsChecked opening.workers opening.token z.readers) freed

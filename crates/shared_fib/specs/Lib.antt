@@ -1,6 +1,7 @@
 pub mod Running
 pub mod Passing
 pub mod Freeing
+pub mod Taking
 pub mod Versions
 pub mod Passes
 pub mod Loading

@@ -4,11 +4,10 @@
 use Rattle.std.specs.Prelude.{ℕ, List, Ok}
 use Rattle.lpm_trace.specs.declared.step.WriterStep.{WriterStep}
 use Rattle.lpm_trace.specs.Tables.{Setup, tables}
-use Rattle.lpm_writer.specs.Traced.{Checks, AnyMemory, steps_alone}
-use Rattle.lpm_writer.specs.Synchronizing.{AreStopped}
+use Rattle.lpm_writer.specs.Steps.{AreStopped, Checks}
 
 -- after the steps x some checks of the newest token were stopped, and then one passed; z are the steps then
 abbrev pub PassesAtLast : Setup → List WriterStep → List WriterStep → Type 0
 PassesAtLast c x z = (stops : ℕ) × (last : List WriterStep)
-    × AreStopped AnyMemory c stops (steps_alone x) (tables c x).token (steps_alone last)
-    × Checks AnyMemory c (steps_alone last) (tables c x).token (Ok tt) (steps_alone z)
+    × AreStopped c.workers stops x (tables c x).token last
+    × Checks c.workers last (tables c x).token (Ok tt) z

@@ -7,7 +7,7 @@ use Rattle.atomic_table.specs.Seated.{TableId, table_id_coded}
 use Rattle.lpm_bits.specs.Widths.{IsShape}
 use Rattle.lpm_limits.specs.declared.config.Config.{Config}
 use Rattle.lpm_rules.specs.RuleMap.{RuleMap, coded_network}
-use Rattle.fib_model.specs.State.{State}
+use Rattle.fib_model.specs.State.{State, Transitions}
 use Rattle.fib.specs.Fib.{coded_config}
 use Rattle.lpm_trace.specs.declared.step.WriterStep.{WriterStep}
 use Rattle.lpm_trace.specs.contracts.step.WriterStep as step_row
@@ -16,6 +16,7 @@ use Rattle.lpm_trace.specs.Writer.{IsWritten}
 use Rattle.lpm_trace.specs.Trace.{worker_by}
 use Rattle.lpm_trace.specs.Workers.{Phase, Offline, Online}
 use Rattle.lpm_writer.specs.declared.ledger.Ledger.{Ledger}
+use Rattle.lpm_writer.specs.Steps.{by_steps_from}
 use Rattle.lpm_writer.specs.Kept.{IsLimbo}
 use Rattle.lpm_writer.specs.Stores.{StoresOnce}
 use Rattle.lpm_writer.specs.Resting.{IsResting, state_of}
@@ -60,6 +61,10 @@ pub record WriterState : Type 0 where
   pub identity : Identity
   pub config : Config
   pub table : State (List WriterStep)
+
+-- the parts of a change of the table that was opened so, by its writer's steps
+unfoldable pub by_steps : Opened → Transitions (List WriterStep)
+by_steps opening = by_steps_from opening.workers opening.token
 
 -- the writer's steps so far, and what they leave
 abbrev pub steps_of : WriterState → List WriterStep

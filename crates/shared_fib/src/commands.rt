@@ -2,15 +2,14 @@
 
 ghost use Rattle.std.specs.Prelude.{ℕ, ◌≡◌, List, take};
 ghost use Rattle.fib_model.specs.Outcomes.{Adds, Deletes, Flushes, Frees};
-ghost use Rattle.lpm_writer.specs.Taking.{TakesLeast};
-ghost use Rattle.lpm_writer.specs.Traced.{by_steps};
 ghost use Rattle.lpm_writer.specs.Waiting.{tokens_of};
 ghost use Rattle.shared_words.specs.Opened.{setup_of};
 ghost use Rattle.shared_memory.specs.Lent.{SharedDid};
 ghost use Rattle.shared_words.specs.Rule.{IsLater};
 ghost use Rattle.shared_words.specs.Seats.{IsOf};
 ghost use Rattle.shared_fib.specs.Freeing.{FreesChecked};
-ghost use Rattle.shared_fib.specs.Running.{IsReady, OnlySees, RestsBy, state_by};
+ghost use Rattle.shared_fib.specs.Running.{IsReady, OnlySees, RestsBy, by_steps, state_by};
+ghost use Rattle.shared_fib.specs.Taking.{TakesLeast};
 
 use crate::table::Words;
 use defer_queue::Reclaimed;
@@ -31,10 +30,10 @@ pub(crate) fn add_over<const FIRST: u32, const SECOND: u32>(
 ) -> Result<Put, Refusal>
     requires did { SharedDid memory.old (setup_of memory.old.view.opening) memory.old.view.seen }
     requires rests { RestsBy FIRST SECOND ledger.old memory.old.view }
-    ensures adds { Adds (by_steps (setup_of memory.old.view.opening)) FIRST SECOND ledger.old.config
+    ensures adds { Adds (by_steps memory.old.view.opening) FIRST SECOND ledger.old.config
         (state_by ledger.old memory.old.view) prefix.now hop result
         (state_by ledger.new memory.new.view) }
-    ensures least { TakesLeast (setup_of memory.old.view.opening)
+    ensures least { TakesLeast memory.old.view.opening
         (state_by ledger.old memory.old.view) (state_by ledger.new memory.new.view) }
     ensures rests { RestsBy FIRST SECOND ledger.new memory.new.view }
     ensures name { memory.new.name ≡ memory.old.name }
@@ -54,16 +53,16 @@ pub(crate) fn add_by<const FIRST: u32, const SECOND: u32>(
 ) -> Result<Put, Refusal>
     requires own { IsOf table.now seat.old.table seat.old.view }
     requires ready { IsReady FIRST SECOND ledger.old seat.old.view }
-    ensures adds { Adds (by_steps (setup_of seat.old.view.opening)) FIRST SECOND
+    ensures adds { Adds (by_steps seat.old.view.opening) FIRST SECOND
         ledger.old.config (state_by ledger.old seat.old.view) prefix.now hop result
         (state_by ledger.new seat.new.view) }
-    ensures least { TakesLeast (setup_of seat.old.view.opening)
+    ensures least { TakesLeast seat.old.view.opening
         (state_by ledger.old seat.old.view) (state_by ledger.new seat.new.view) }
     ensures ready { IsReady FIRST SECOND ledger.new seat.new.view }
     ensures seat { seat.new.table ≡ seat.old.table }
     ensures view { OnlySees seat.old.view seat.new.view }
     ensures later { IsLater seat.old.view.seen seat.new.view.seen }
-    ensures checked { (freed : List ℕ) × FreesChecked (setup_of seat.old.view.opening)
+    ensures checked { (freed : List ℕ) × FreesChecked seat.old.view.opening
         (state_by ledger.old seat.old.view) (state_by ledger.new seat.new.view) freed }
     ensures config { ledger.new.config ≡ ledger.old.config }
 {
@@ -81,7 +80,7 @@ pub(crate) fn delete_over<const FIRST: u32, const SECOND: u32>(
 ) -> Result<Hop, Refusal>
     requires did { SharedDid memory.old (setup_of memory.old.view.opening) memory.old.view.seen }
     requires rests { RestsBy FIRST SECOND ledger.old memory.old.view }
-    ensures deletes { Deletes (by_steps (setup_of memory.old.view.opening)) FIRST SECOND
+    ensures deletes { Deletes (by_steps memory.old.view.opening) FIRST SECOND
         ledger.old.config (state_by ledger.old memory.old.view) prefix.now result
         (state_by ledger.new memory.new.view) }
     ensures rests { RestsBy FIRST SECOND ledger.new memory.new.view }
@@ -101,14 +100,14 @@ pub(crate) fn delete_by<const FIRST: u32, const SECOND: u32>(
 ) -> Result<Hop, Refusal>
     requires own { IsOf table.now seat.old.table seat.old.view }
     requires ready { IsReady FIRST SECOND ledger.old seat.old.view }
-    ensures deletes { Deletes (by_steps (setup_of seat.old.view.opening)) FIRST SECOND
+    ensures deletes { Deletes (by_steps seat.old.view.opening) FIRST SECOND
         ledger.old.config (state_by ledger.old seat.old.view) prefix.now result
         (state_by ledger.new seat.new.view) }
     ensures ready { IsReady FIRST SECOND ledger.new seat.new.view }
     ensures seat { seat.new.table ≡ seat.old.table }
     ensures view { OnlySees seat.old.view seat.new.view }
     ensures later { IsLater seat.old.view.seen seat.new.view.seen }
-    ensures checked { (freed : List ℕ) × FreesChecked (setup_of seat.old.view.opening)
+    ensures checked { (freed : List ℕ) × FreesChecked seat.old.view.opening
         (state_by ledger.old seat.old.view) (state_by ledger.new seat.new.view) freed }
     ensures config { ledger.new.config ≡ ledger.old.config }
 {
@@ -125,7 +124,7 @@ pub(crate) fn flush_over<const FIRST: u32, const SECOND: u32>(
 ) -> Result<usize, Refusal>
     requires did { SharedDid memory.old (setup_of memory.old.view.opening) memory.old.view.seen }
     requires rests { RestsBy FIRST SECOND ledger.old memory.old.view }
-    ensures flushes { Flushes (by_steps (setup_of memory.old.view.opening)) FIRST SECOND
+    ensures flushes { Flushes (by_steps memory.old.view.opening) FIRST SECOND
         ledger.old.config (state_by ledger.old memory.old.view) result
         (state_by ledger.new memory.new.view) }
     ensures rests { RestsBy FIRST SECOND ledger.new memory.new.view }
@@ -144,14 +143,14 @@ pub(crate) fn flush_by<const FIRST: u32, const SECOND: u32>(
 ) -> Result<usize, Refusal>
     requires own { IsOf table.now seat.old.table seat.old.view }
     requires ready { IsReady FIRST SECOND ledger.old seat.old.view }
-    ensures flushes { Flushes (by_steps (setup_of seat.old.view.opening)) FIRST SECOND
+    ensures flushes { Flushes (by_steps seat.old.view.opening) FIRST SECOND
         ledger.old.config (state_by ledger.old seat.old.view) result
         (state_by ledger.new seat.new.view) }
     ensures ready { IsReady FIRST SECOND ledger.new seat.new.view }
     ensures seat { seat.new.table ≡ seat.old.table }
     ensures view { OnlySees seat.old.view seat.new.view }
     ensures later { IsLater seat.old.view.seen seat.new.view.seen }
-    ensures checked { (freed : List ℕ) × FreesChecked (setup_of seat.old.view.opening)
+    ensures checked { (freed : List ℕ) × FreesChecked seat.old.view.opening
         (state_by ledger.old seat.old.view) (state_by ledger.new seat.new.view) freed }
     ensures config { ledger.new.config ≡ ledger.old.config }
 {
@@ -169,7 +168,7 @@ pub(crate) fn reclaim_over<const FIRST: u32, const SECOND: u32>(
 ) -> Reclaimed
     requires did { SharedDid memory.old (setup_of memory.old.view.opening) memory.old.view.seen }
     requires rests { RestsBy FIRST SECOND ledger.old memory.old.view }
-    ensures frees { Frees (by_steps (setup_of memory.old.view.opening))
+    ensures frees { Frees (by_steps memory.old.view.opening)
         (state_by ledger.old memory.old.view) max result (state_by ledger.new memory.new.view) }
     ensures rests { RestsBy FIRST SECOND ledger.new memory.new.view }
     ensures name { memory.new.name ≡ memory.old.name }
@@ -188,14 +187,14 @@ pub(crate) fn reclaim_by<const FIRST: u32, const SECOND: u32>(
 ) -> Reclaimed
     requires own { IsOf table.now seat.old.table seat.old.view }
     requires ready { IsReady FIRST SECOND ledger.old seat.old.view }
-    ensures frees { Frees (by_steps (setup_of seat.old.view.opening))
+    ensures frees { Frees (by_steps seat.old.view.opening)
         (state_by ledger.old seat.old.view) max result
         (state_by ledger.new seat.new.view) }
     ensures ready { IsReady FIRST SECOND ledger.new seat.new.view }
     ensures seat { seat.new.table ≡ seat.old.table }
     ensures view { OnlySees seat.old.view seat.new.view }
     ensures later { IsLater seat.old.view.seen seat.new.view.seen }
-    ensures checked { FreesChecked (setup_of seat.old.view.opening)
+    ensures checked { FreesChecked seat.old.view.opening
         (state_by ledger.old seat.old.view) (state_by ledger.new seat.new.view)
         (take result.freed (tokens_of ledger.old.books.queue.items)) }
     ensures config { ledger.new.config ≡ ledger.old.config }

@@ -3,13 +3,13 @@
 ghost use Rattle.std.specs.Prelude.{◌≡◌, ◌+◌, ◌^◌, ◌<◌, ◌≤◌, ◌↔◌, ◌∷◌, All, IfErr, IfOk, IsErr, OnErr, OnOk, Ok, Err};
 ghost use Rattle.lpm_trace.specs.declared.step.WriterStep.TheVariants.{BumpToken};
 ghost use Rattle.lpm_trace.specs.Laws.{IsChecked};
-ghost use Rattle.lpm_writer.specs.Traced.{AnyMemory, Checks, steps_alone};
+ghost use Rattle.lpm_writer.specs.Steps.{Checks};
 ghost use Rattle.lpm_writer.specs.Waiting.{tokens_of};
 ghost use Rattle.shared_words.specs.Opened.{setup_of};
 ghost use Rattle.shared_words.specs.Seats.{IsOf, with_step};
 ghost use Rattle.shared_memory.specs.Lent.{SharedDid, left_by_view};
 ghost use Rattle.shared_fib.specs.GracePeriods.{IsInGrace, WaitsBy};
-ghost use Rattle.shared_fib.specs.Running.{IsReady, OnlySees, RestsBy, left_by, setup, state_by, steps_of};
+ghost use Rattle.shared_fib.specs.Running.{IsReady, OnlySees, RestsBy, left_by, state_by, steps_of};
 
 use crate::table::Words;
 use crate::{SharedTable, Writer};
@@ -104,9 +104,8 @@ fn check_over<const FIRST: u32, const SECOND: u32>(
 ) -> Result<(), Busy>
     requires did { SharedDid memory.old (setup_of memory.old.view.opening) memory.old.view.seen }
     requires waits { WaitsBy FIRST SECOND ledger.old memory.old.view }
-    ensures checks { Checks AnyMemory (setup_of memory.old.view.opening)
-        (steps_alone memory.old.view.seen) (left_by_view memory.old.view).token result
-        (steps_alone memory.new.view.seen) }
+    ensures checks { Checks memory.old.view.opening.workers memory.old.view.seen
+        (left_by_view memory.old.view).token result memory.new.view.seen }
     ensures queued { OnOk result (0 < ledger.old.config.workers
         → All (λ token. token ≤ (left_by_view memory.new.view).passed)
         (tokens_of ledger.new.books.queue.items)) }
@@ -129,13 +128,12 @@ fn check_by<const FIRST: u32, const SECOND: u32>(
 ) -> Result<(), Busy>
     requires own { IsOf table.now seat.old.table seat.old.view }
     requires waits { IsInGrace FIRST SECOND ledger.old seat.old.view }
-    ensures checks { Checks AnyMemory (setup_of seat.old.view.opening)
-        (steps_alone seat.old.view.seen) (left_by_view seat.old.view).token result
-        (steps_alone seat.new.view.seen) }
+    ensures checks { Checks seat.old.view.opening.workers seat.old.view.seen
+        (left_by_view seat.old.view).token result seat.new.view.seen }
     ensures token { (left_by_view seat.new.view).token
         ≡ (left_by_view seat.old.view).token }
-    ensures checked { OnOk result (IsChecked (setup_of seat.old.view.opening)
-        seat.new.view.seen (left_by_view seat.old.view).token) }
+    ensures checked { OnOk result (IsChecked seat.old.view.opening.workers
+        seat.old.view.opening.token seat.new.view.seen (left_by_view seat.old.view).token) }
     ensures queued { OnOk result (0 < ledger.old.config.workers
         → All (λ token. token ≤ (left_by_view seat.new.view).passed)
         (tokens_of ledger.new.books.queue.items)) }
@@ -208,20 +206,18 @@ impl<const FIRST: u32, const SECOND: u32> GracePeriod<FIRST, SECOND> {
         table: &SharedTable<FIRST, SECOND>,
     ) -> Result<Writer<FIRST, SECOND>, Held<FIRST, SECOND>>
         requires own { self.identity ≡ table.now }
-        ensures passes { IfOk result (λ writer. Checks AnyMemory (setup table.now)
-            (steps_alone (steps_of self.entry)) (left_by self.entry).token (Ok tt)
-            (steps_alone (steps_of writer))) }
-        ensures checked { IfOk result (λ writer. IsChecked (setup table.now) (steps_of writer)
-            (left_by self.entry).token) }
+        ensures passes { IfOk result (λ writer. Checks table.now.opening.workers (steps_of self.entry)
+            (left_by self.entry).token (Ok tt) (steps_of writer)) }
+        ensures checked { IfOk result (λ writer. IsChecked table.now.opening.workers
+            table.now.opening.token (steps_of writer) (left_by self.entry).token) }
         ensures queued { IfOk result (λ writer. 0 < self.entry.config.workers
             → All (λ token. token ≤ (left_by writer).passed) writer.table.limbo) }
         ensures same { IfOk result (λ writer. writer ≡ record self.entry {
           table = record self.entry.table { readers = steps_of writer };
         }) }
         ensures token { IfOk result (λ writer. (left_by writer).token ≡ (left_by self.entry).token) }
-        ensures stopped { IfErr result (λ held. Checks AnyMemory (setup table.now)
-            (steps_alone (steps_of self.entry)) (left_by self.entry).token (Err held.busy)
-            (steps_alone (steps_of held.period))) }
+        ensures stopped { IfErr result (λ held. Checks table.now.opening.workers (steps_of self.entry)
+            (left_by self.entry).token (Err held.busy) (steps_of held.period)) }
         ensures goes_on { IfErr result (λ held. held.period ≡ record self.entry {
           table = record self.entry.table { readers = steps_of held.period };
         }) }

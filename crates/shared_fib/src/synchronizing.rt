@@ -2,15 +2,15 @@
 
 ghost use Rattle.std.specs.Prelude.{◌≡◌, ◌+◌, ◌^◌, ◌<◌, ◌≤◌, ◌↔◌, All, IsErr, OnOk, OnErr};
 ghost use Rattle.lpm_trace.specs.Laws.{IsChecked};
-ghost use Rattle.lpm_writer.specs.Traced.{AnyMemory, steps_alone};
 ghost use Rattle.lpm_writer.specs.Waiting.{tokens_of};
-ghost use Rattle.lpm_writer.specs.Synchronizing.{IsWaiting, Synchronizes};
+ghost use Rattle.lpm_writer.specs.Steps.{Synchronizes};
+ghost use Rattle.lpm_writer.specs.Synchronizing.{IsWaiting};
 ghost use Rattle.shared_words.specs.Opened.{setup_of};
 ghost use Rattle.shared_words.specs.Rule.{IsLater};
 ghost use Rattle.shared_words.specs.Seats.{IsOf};
 ghost use Rattle.shared_memory.specs.Lent.{SharedDid, left_by_view};
 ghost use Rattle.shared_fib.specs.Passing.{PassesAtLast};
-ghost use Rattle.shared_fib.specs.Running.{IsReady, OnlySees, RestsBy, left_by, setup, steps_of};
+ghost use Rattle.shared_fib.specs.Running.{IsReady, OnlySees, RestsBy, left_by, steps_of};
 
 use crate::table::Words;
 use crate::{SharedTable, Writer};
@@ -60,8 +60,8 @@ fn synchronize_over<const FIRST: u32, const SECOND: u32, R: Wait>(
     requires rests { RestsBy FIRST SECOND ledger.old memory.old.view }
     ensures exhausted { IsErr result
         ↔ (2 ^ 62 < (left_by_view memory.old.view).token + ledger.old.config.groups) }
-    ensures synchronizes { OnOk result (Synchronizes AnyMemory (setup_of memory.old.view.opening)
-        (steps_alone memory.old.view.seen) (steps_alone memory.new.view.seen)) }
+    ensures synchronizes { OnOk result (Synchronizes memory.old.view.opening.workers
+        memory.old.view.opening.token memory.old.view.seen memory.new.view.seen) }
     ensures queued { OnOk result (0 < ledger.old.config.workers
         → All (λ token. token ≤ (left_by_view memory.new.view).passed)
         (tokens_of ledger.new.books.queue.items)) }
@@ -90,13 +90,12 @@ fn synchronize_by<const FIRST: u32, const SECOND: u32, R: Wait>(
     requires ready { IsReady FIRST SECOND ledger.old seat.old.view }
     ensures exhausted { IsErr result
         ↔ (2 ^ 62 < (left_by_view seat.old.view).token + ledger.old.config.groups) }
-    ensures synchronizes { OnOk result (Synchronizes AnyMemory
-        (setup_of seat.old.view.opening)
-        (steps_alone seat.old.view.seen) (steps_alone seat.new.view.seen)) }
+    ensures synchronizes { OnOk result (Synchronizes seat.old.view.opening.workers
+        seat.old.view.opening.token seat.old.view.seen seat.new.view.seen) }
     ensures started { OnOk result ((left_by_view seat.new.view).token
         ≡ (left_by_view seat.old.view).token + 1) }
-    ensures checked { OnOk result (IsChecked (setup_of seat.new.view.opening)
-        seat.new.view.seen (left_by_view seat.new.view).token) }
+    ensures checked { OnOk result (IsChecked seat.new.view.opening.workers
+        seat.new.view.opening.token seat.new.view.seen (left_by_view seat.new.view).token) }
     ensures queued { OnOk result (0 < ledger.old.config.workers
         → All (λ token. token ≤ (left_by_view seat.new.view).passed)
         (tokens_of ledger.new.books.queue.items)) }
@@ -132,11 +131,11 @@ impl<const FIRST: u32, const SECOND: u32> Writer<FIRST, SECOND> {
         requires own { self.old.identity ≡ table.now }
         ensures exhausted { IsErr result
             ↔ (2 ^ 62 < (left_by self.old).token + self.old.config.groups) }
-        ensures synchronizes { OnOk result (Synchronizes AnyMemory (setup table.now)
-            (steps_alone (steps_of self.old)) (steps_alone (steps_of self.new))) }
+        ensures synchronizes { OnOk result (Synchronizes table.now.opening.workers
+            table.now.opening.token (steps_of self.old) (steps_of self.new)) }
         ensures started { OnOk result ((left_by self.new).token ≡ (left_by self.old).token + 1) }
-        ensures checked { OnOk result (IsChecked (setup table.now) (steps_of self.new)
-            (left_by self.new).token) }
+        ensures checked { OnOk result (IsChecked table.now.opening.workers
+            table.now.opening.token (steps_of self.new) (left_by self.new).token) }
         ensures queued { OnOk result (0 < self.old.config.workers
             → All (λ token. token ≤ (left_by self.new).passed) self.new.table.limbo) }
         ensures same { self.new ≡ record self.old {

@@ -2,11 +2,10 @@
 
 ghost use Rattle.std.specs.Prelude.{ℕ, ◌≡◌, List, take};
 ghost use Rattle.fib_model.specs.Outcomes.{Adds, Deletes, Flushes, Frees};
-ghost use Rattle.lpm_writer.specs.Taking.{TakesLeast};
-ghost use Rattle.lpm_writer.specs.Traced.{by_steps};
 ghost use Rattle.shared_words.specs.Rule.{IsLater};
 ghost use Rattle.shared_fib.specs.Freeing.{FreesChecked};
-ghost use Rattle.shared_fib.specs.Running.{IsReady, setup, state_by, steps_of};
+ghost use Rattle.shared_fib.specs.Running.{IsReady, by_steps, state_by, steps_of};
+ghost use Rattle.shared_fib.specs.Taking.{TakesLeast};
 
 use crate::SharedTable;
 use crate::commands::{add_by, delete_by, flush_by, reclaim_by};
@@ -77,11 +76,11 @@ impl<const FIRST: u32, const SECOND: u32> Writer<FIRST, SECOND> {
         hop: Hop,
     ) -> Result<Put, Refusal>
         requires own { self.old.identity ≡ table.now }
-        ensures adds { Adds (by_steps (setup table.now)) FIRST SECOND self.old.config
+        ensures adds { Adds (by_steps table.now.opening) FIRST SECOND self.old.config
             self.old.table prefix.now hop result self.new.table }
-        ensures least { TakesLeast (setup table.now) self.old.table self.new.table }
+        ensures least { TakesLeast table.now.opening self.old.table self.new.table }
         ensures checked { (freed : List ℕ)
-            × FreesChecked (setup table.now) self.old.table self.new.table freed }
+            × FreesChecked table.now.opening self.old.table self.new.table freed }
         ensures later { IsLater (steps_of self.old) (steps_of self.new) }
         ensures own { self.new.identity ≡ self.old.identity }
         ensures config { self.new.config ≡ self.old.config }
@@ -100,10 +99,10 @@ impl<const FIRST: u32, const SECOND: u32> Writer<FIRST, SECOND> {
         prefix: &Prefix<FIRST, SECOND>,
     ) -> Result<Hop, Refusal>
         requires own { self.old.identity ≡ table.now }
-        ensures deletes { Deletes (by_steps (setup table.now)) FIRST SECOND self.old.config
+        ensures deletes { Deletes (by_steps table.now.opening) FIRST SECOND self.old.config
             self.old.table prefix.now result self.new.table }
         ensures checked { (freed : List ℕ)
-            × FreesChecked (setup table.now) self.old.table self.new.table freed }
+            × FreesChecked table.now.opening self.old.table self.new.table freed }
         ensures later { IsLater (steps_of self.old) (steps_of self.new) }
         ensures own { self.new.identity ≡ self.old.identity }
         ensures config { self.new.config ≡ self.old.config }
@@ -116,10 +115,10 @@ impl<const FIRST: u32, const SECOND: u32> Writer<FIRST, SECOND> {
     /// another.
     pub fn flush(&mut self, table: &SharedTable<FIRST, SECOND>) -> Result<usize, Refusal>
         requires own { self.old.identity ≡ table.now }
-        ensures flushes { Flushes (by_steps (setup table.now)) FIRST SECOND self.old.config
+        ensures flushes { Flushes (by_steps table.now.opening) FIRST SECOND self.old.config
             self.old.table result self.new.table }
         ensures checked { (freed : List ℕ)
-            × FreesChecked (setup table.now) self.old.table self.new.table freed }
+            × FreesChecked table.now.opening self.old.table self.new.table freed }
         ensures later { IsLater (steps_of self.old) (steps_of self.new) }
         ensures own { self.new.identity ≡ self.old.identity }
         ensures config { self.new.config ≡ self.old.config }
@@ -131,9 +130,9 @@ impl<const FIRST: u32, const SECOND: u32> Writer<FIRST, SECOND> {
     /// holds. It returns how many were freed, and the worker that stopped it.
     pub fn reclaim(&mut self, table: &SharedTable<FIRST, SECOND>, max: usize) -> Reclaimed
         requires own { self.old.identity ≡ table.now }
-        ensures frees { Frees (by_steps (setup table.now)) self.old.table max result
+        ensures frees { Frees (by_steps table.now.opening) self.old.table max result
             self.new.table }
-        ensures checked { FreesChecked (setup table.now) self.old.table self.new.table
+        ensures checked { FreesChecked table.now.opening self.old.table self.new.table
             (take result.freed self.old.table.limbo) }
         ensures later { IsLater (steps_of self.old) (steps_of self.new) }
         ensures own { self.new.identity ≡ self.old.identity }

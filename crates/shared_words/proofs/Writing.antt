@@ -134,8 +134,7 @@ module _ (o : Opened) where
       let now : (world_by steps).tables ≡ tables_by (writes steps) = tables_of c steps in record {
         written = writer_is_alone c steps trace;
         words = subst (λ (z : Tables). IsWords o.first o.second z.words) now (words_are_entries c steps settled trace);
-        checked = λ token pos low. passed_is_checked c steps token trace pos
-            (subst (λ (z : Tables). token ≤ z.passed) (sym now) low);
+        checked = λ token pos low. passed_is_checked c steps token trace pos low;
       }
 
   -- and those of its view, with one more that may come next

@@ -13,6 +13,7 @@ use Rattle.lpm_trace.specs.Tables.{tables}
 use Rattle.lpm_trace.specs.Writer.{IsWritten}
 use Rattle.lpm_trace.specs.Trace.{worker_by}
 use Rattle.lpm_trace.specs.Workers.{Probe, Unread, InGroup, Answered}
+use Rattle.lpm_trace.specs.Counts.{passed_after}
 use Rattle.lpm_trace.specs.Laws.{IsLegalAtPlace, ArePlaced, IsChecked}
 use Rattle.lpm_cells.specs.Table.{IsWords, IsFirstWord}
 use Rattle.shared_words.specs.declared.view.View.{View}
@@ -57,8 +58,8 @@ with_step v s = record v { seen = s ∷ v.seen }
 
 -- each token up to the greatest that has passed was checked
 abbrev pub AreChecked : Opened → List WriterStep → Type 0
-AreChecked o seen = (token : ℕ) → 0 < token → token ≤ (tables (setup_of o) seen).passed
-    → IsChecked (setup_of o) seen token
+AreChecked o seen = (token : ℕ) → 0 < token → token ≤ passed_after o.workers seen
+    → IsChecked o.workers o.token seen token
 
 -- the writer's steps: each might come after those before it, they leave entries, and each token that has
 -- passed was checked

@@ -10,7 +10,8 @@ use Rattle.fib_model.specs.State.{State}
 use Rattle.fib_model.specs.Outcomes.{Frees}
 use Rattle.lpm_trace.specs.declared.step.WriterStep.{WriterStep}
 use Rattle.lpm_trace.specs.Tables.{Setup, tables}
-use Rattle.lpm_writer.specs.Traced.{Traced, by_steps}
+use Rattle.lpm_trace.proofs.Counts.{passed_is}
+use Rattle.lpm_writer.specs.Steps.{by_steps_from}
 
 module _ (c : Setup) (some : 0 < c.workers) where
   -- these tokens have passed after the steps x
@@ -19,9 +20,9 @@ module _ (c : Setup) (some : 0 < c.workers) where
 
   -- a check of a token that has passed loads nothing, and passes
   passes : (x : List WriterStep) (token : ℕ) (r : Result (Unit {0}) Busy) (z : List WriterStep) → token ≤ (tables c x).passed
-      → (by_steps c).checks x token r z → (r ≡ Ok tt) × (z ≡ x)
-  passes x token r z has (inl h) = (h.1, ap (λ (y : Traced (Unit {0})). y.1) h.2)
-  passes x token r z has (inr h) = let late = h.0 some in absurd (omega (arith, has, late))
+      → (by_steps_from c.workers c.token).checks x token r z → (r ≡ Ok tt) × (z ≡ x)
+  passes x token r z has (inl h) = (h.1, h.2)
+  passes x token r z has (inr h) = let late = h.0 some in absurd (omega (arith, has, late, passed_is c x))
 
   -- what is left of the queue after the first n were freed
   record IsLeft (x : List WriterStep) (n : ℕ) (items left : List ℕ) (y : List WriterStep) : Type 0 where
@@ -30,7 +31,7 @@ module _ (c : Setup) (some : 0 < c.workers) where
     passed : HavePassed x left
 
   front : (n : ℕ) (items : List ℕ) (x left : _) (y : List WriterStep) → HavePassed x items
-      → queue.FreesFront (by_steps c).checks (λ y name w. w ≡ y) n items x left y → IsLeft x n items left y
+      → queue.FreesFront (by_steps_from c.workers c.token).checks (λ y name w. w ≡ y) n items x left y → IsLeft x n items left y
   front zero items x left y has h = record {
     same = h.1;
     count = let e : length left ≡ length items = ap (λ (l : List ℕ). length l) h.0 in omega (arith, e);
@@ -50,7 +51,7 @@ module _ (c : Setup) (some : 0 < c.workers) where
       }
 
   none_left : (max n : ℕ) (left : List ℕ) (y : List WriterStep) (stopped : Option Busy) (z : List WriterStep) → HavePassed y left
-      → length left + n ≡ max → queue.Ends (by_steps c).checks (λ y name w. w ≡ y) max n left y stopped z → left ≡ []
+      → length left + n ≡ max → queue.Ends (by_steps_from c.workers c.token).checks (λ y name w. w ≡ y) max n left y stopped z → left ≡ []
   none_left max n left y None z has count (inl most, same) = nil_from_length left (omega (arith, most, count))
   none_left max n left y None z has count (inr none, same) = none
   none_left max n [] y (Some busy) z has count h = refl
@@ -62,7 +63,7 @@ module _ (c : Setup) (some : 0 < c.workers) where
       not_both busy e = cc
 
   pub emptied : (s z : State (List WriterStep)) (r : Reclaimed) → HavePassed s.readers s.limbo
-      → Frees (by_steps c) s (length s.limbo) r z → z.limbo ≡ []
+      → Frees (by_steps_from c.workers c.token) s (length s.limbo) r z → z.limbo ≡ []
   emptied s z r has h =
       let k = h.0 in
       let left : IsLeft s.readers r.freed s.limbo z.limbo k.last = front r.freed s.limbo s.readers z.limbo k.last has k.front in

@@ -58,23 +58,23 @@ module _ (f s : ℕ) where
         identity = refl;
         limits = refl;
         some = omega arith;
-        runs = subst (λ (log : Log f s). Runs (by_own_steps (setup id)) f s config first.table log first.table) (sym (logged_none [] cs)) refl;
+        runs = subst (λ (log : Log f s). Runs (by_own_steps id.opening) f s config first.table log first.table) (sym (logged_none [] cs)) refl;
         versions = subst (HasVersions id.opening.rules first) (sym (no_changes cs)) (versions_none f s id config);
       } in
       subst (HasMade id config cs os) (sym is) (subst (λ (l : List Outcome). HasMade id config cs l first) (sym none) nothing)
 
   pub made_next : (id : Identity) (config : Config) (cs : List (Command f s)) (os : List Outcome) (c : Command f s) (o : Outcome)
       (w z : WriterState) → length os < length cs → c ≡ get_or cs (length os) c → HasMade id config cs os w
-      → Does (by_own_steps (setup id)) f s w.config w.table c o z.table → z.identity ≡ w.identity → z.config ≡ w.config
+      → Does (by_own_steps id.opening) f s w.config w.table c o z.table → z.identity ≡ w.identity → z.config ≡ w.config
       → IsForWriter c → IsAtRest z → HasMade id config cs (os ++ o ∷ []) z
   made_next id config cs os c o w z low at h does own limits mine rests = record {
     opened = h.opened;
     identity = own ∙ h.identity;
     limits = limits ∙ h.limits;
     some = omega (arith, low, length-append os (o ∷ []));
-    runs = subst (λ (log : Log f s). Runs (by_own_steps (setup id)) f s config (opens_with id config id.opening.rules).table log z.table)
+    runs = subst (λ (log : Log f s). Runs (by_own_steps id.opening) f s config (opens_with id config id.opening.rules).table log z.table)
         (sym (logged_next [] cs os c o low at))
-        (w.table, h.runs, subst (λ (k : Config). Does (by_own_steps (setup id)) f s k w.table c o z.table) h.limits does);
+        (w.table, h.runs, subst (λ (k : Config). Does (by_own_steps id.opening) f s k w.table c o z.table) h.limits does);
     versions = subst (HasVersions id.opening.rules z) (sym (changes_then cs os c o low at))
         (versions_next f s id.opening.rules id w.config w z (changes_by cs os) c o h.versions h.identity (own ∙ h.identity) mine rests does);
   }

@@ -22,7 +22,7 @@ use Rattle.lpm_trace.specs.Workers.{Seen}
 use Rattle.lpm_trace.proofs.Traces.{begun_grows}
 use Rattle.lpm_writer.specs.Making.{HasWidths}
 use Rattle.shared_words.specs.Rule.{IsLater}
-use Rattle.shared_fib.specs.Running.{Identity, IsAtRest, WriterState, left_by, opens_with, setup, steps_of}
+use Rattle.shared_fib.specs.Running.{Identity, IsAtRest, WriterState, left_by, opens_with, setup, steps_of, by_steps}
 use Rattle.running_laws.proofs.Backwards.{versions_stay}
 use Rattle.audit.specs.Wrong.{IsOfSomeVersion, version_from}
 use Rattle.storm.specs.Changing.{HasVersions, IsForWriter, by_own_steps, change_by}
@@ -147,11 +147,12 @@ module _ (f g : ℕ) where
 
   pub versions_next : (R : RuleMap) (id : Identity) (config : Config) (w z : WriterState) (before : List (Change f g)) (order : Command f g) (out : Outcome)
       → HasVersions R w before → w.identity ≡ id → z.identity ≡ id → IsForWriter order → IsAtRest z
-      → Does (by_own_steps (setup id)) f g config w.table order out z.table → HasVersions R z (before ++ change_by order out)
+      → Does (by_own_steps id.opening) f g config w.table order out z.table → HasVersions R z (before ++ change_by order out)
+  unfolding by_steps
   versions_next R id config w z before order out has own own' mine rests does =
-      let keeping : Keeping (List WriterStep) = by_own_steps (setup id) in
+      let keeping : Keeping (List WriterStep) = by_own_steps id.opening in
       versions_more R id w z before (change_by order out) has own own'
-      (command_later keeping (steps_go_on (setup id)) f g config w.table z.table order out mine does) rests
+      (command_later keeping (steps_go_on id.opening.workers id.opening.token) f g config w.table z.table order out mine does) rests
       (comes keeping f g config w.table z.table order out mine does)
 
   -- ---- answers

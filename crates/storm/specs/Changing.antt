@@ -16,16 +16,16 @@ use Rattle.fib_model.specs.declared.command.Outcome.TheVariants as outcome
 use Rattle.fib_model.specs.State.{Keeping}
 use Rattle.fib_model.specs.Outcomes.{Runs, logged}
 use Rattle.lpm_trace.specs.declared.step.WriterStep.{WriterStep}
-use Rattle.lpm_trace.specs.Tables.{Setup, begun}
+use Rattle.lpm_trace.specs.Tables.{begun}
 use Rattle.lpm_writer.specs.Making.{HasWidths}
-use Rattle.lpm_writer.specs.Traced.{by_steps}
-use Rattle.shared_fib.specs.Running.{Identity, IsAtRest, WriterState, left_by, opens_with, setup}
+use Rattle.shared_words.specs.Opened.{Opened}
+use Rattle.shared_fib.specs.Running.{Identity, IsAtRest, WriterState, by_steps, left_by, opens_with, setup}
 use Rattle.audit.specs.Wrong.{version_from}
 
 -- the writer's steps stand for what the readers reported; no report is made to the writer itself
-abbrev pub by_own_steps : Setup → Keeping (List WriterStep)
-by_own_steps c = record {
-  changes = by_steps c;
+abbrev pub by_own_steps : Opened → Keeping (List WriterStep)
+by_own_steps opening = record {
+  changes = by_steps opening;
   is_online = λ steps worker. ⊥;
   told = λ report worker steps. steps;
 }
@@ -82,7 +82,7 @@ pub record HasMade {first second : ℕ} (id : Identity) (config : Config)
   pub identity : w.identity ≡ id
   pub limits : w.config ≡ config
   pub some : length outcomes ≤ length commands
-  pub runs : Runs (by_own_steps (setup id)) first second config
+  pub runs : Runs (by_own_steps id.opening) first second config
       (opens_with id config id.opening.rules).table (logged [] commands outcomes) w.table
   pub versions : HasVersions id.opening.rules w (changes_by commands outcomes)
 

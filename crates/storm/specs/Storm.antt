@@ -4,10 +4,9 @@ use Rattle.std.specs.FinMap.{len}
 use Rattle.fib_model.specs.declared.command.Outcome.{Outcome}
 use Rattle.fib_model.specs.Outcomes.{Frees, groups_in_use}
 use Rattle.lpm_rules.specs.Listed.{rules_of}
-use Rattle.lpm_writer.specs.Traced.{AnyMemory, by_steps, steps_alone}
-use Rattle.lpm_writer.specs.Synchronizing.{Synchronizes}
+use Rattle.lpm_writer.specs.Steps.{Synchronizes}
 use Rattle.defer_queue.specs.declared.Reclaimed.{Reclaimed}
-use Rattle.shared_fib.specs.Running.{Identity, IsAtRest, WriterState, left_by, setup, steps_of}
+use Rattle.shared_fib.specs.Running.{Identity, IsAtRest, WriterState, by_steps, left_by, steps_of}
 use Rattle.shared_fib.specs.Passes.{PassState}
 use Rattle.audit.specs.declared.report.Report.{Report}
 use Rattle.audit.specs.declared.report.StormReport.{StormReport}
@@ -22,10 +21,10 @@ use Rattle.storm.specs.Plans.{HasMadeAll, answer_count}
 pub record Settles (id : Identity) (last end : WriterState) : Type 0 where
   pub passed : WriterState
   pub reclaimed : Reclaimed
-  pub synchronizes : Synchronizes AnyMemory (setup id) (steps_alone (steps_of last))
-      (steps_alone (steps_of passed))
+  pub synchronizes : Synchronizes id.opening.workers id.opening.token (steps_of last)
+      (steps_of passed)
   pub same : passed ≡ record last { table = record last.table { readers = steps_of passed } }
-  pub frees : Frees (by_steps (setup id)) passed.table (length last.table.limbo) reclaimed end.table
+  pub frees : Frees (by_steps id.opening) passed.table (length last.table.limbo) reclaimed end.table
   pub identity : end.identity ≡ id
   pub config : end.config ≡ last.config
   pub rests : IsAtRest end

@@ -39,7 +39,7 @@ fn execute<const FIRST: u32, const SECOND: u32>(
 ) -> Outcome
     requires own { writer.old.identity ≡ table.now }
     requires command { IsForWriter command.now }
-    ensures does { Does (by_own_steps (setup table.now)) FIRST SECOND writer.old.config
+    ensures does { Does (by_own_steps table.now.opening) FIRST SECOND writer.old.config
         writer.old.table command.now result writer.new.table }
     ensures own { writer.new.identity ≡ writer.old.identity }
     ensures config { writer.new.config ≡ writer.old.config }

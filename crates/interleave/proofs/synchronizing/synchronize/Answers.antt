@@ -1,8 +1,8 @@
-use Rattle.std.proofs.Common.{arith, ◌≡◌, ◌+◌, ◌^◌, inl, inr, true, false, refl, ap, sym, subst, ◌∙◌, ◌∷◌, add-one, Ok, Err}
+use Rattle.std.proofs.Common.{arith, ◌≡◌, ◌+◌, ◌^◌, inl, inr, true, false, refl, ap, sym, subst, ◌∙◌, add-one, Ok, Err}
 use Rattle.std.proofs.lemmas.Bool.{cases_lt}
-use Rattle.lpm_trace.specs.declared.step.WriterStep.TheVariants.{BumpToken}
 use Rattle.lpm_writer.specs.declared.ledger.Ledger.{Ledger}
-use Rattle.lpm_writer.specs.Traced.{Checks, steps_alone}
+use Rattle.lpm_trace.proofs.Counts.{token_is}
+use Rattle.lpm_writer.specs.Traced.{Checks}
 use Rattle.lpm_writer.specs.Synchronizing.{IsWaiting}
 use Rattle.lpm_writer.proofs.StepsAlone.{checks_alone, checks_fixed}
 use Rattle.world_memory.specs.View.{WorldView}
@@ -53,13 +53,11 @@ returns-in-Ok-clause-replies g c = λ setup steps did rests.
       (
         elim (cases_lt (2 ^ 62) (c.args.memory.now.token + c.args.ledger.now.config.groups)) [
           | inl over ↦ absurd (not_true (c.in_default.ensures.exhausted.1 over))
-          | inr within ↦ omega (arith, within, token)
+          | inr within ↦ omega (arith, within, token, token_is setup steps)
         ],
         record {
-          begun = steps_alone (BumpToken ∷ steps);
-          last = steps_alone so_far.0;
+          last = so_far.0;
           stops = c.loop-check._check;
-          starts = (tt, refl);
           stopped = so_far.4;
           passes = checks_alone WorldView (does_in f s) setup (y, so_far.0) (z, now.0) (next_token setup steps) (Ok tt) check;
         },
@@ -110,7 +108,18 @@ returns-clause-replies g c = λ setup steps did rests.
     let token = (world_shows g.row.FIRST g.row.SECOND c.args.memory.now setup steps did).1 in (
       elim (cases_lt (2 ^ 62) (c.args.memory.now.token + c.args.ledger.now.config.groups)) [
         | inl over ↦ absurd (not_true (c.in_default.ensures.exhausted.1 over))
-        | inr within ↦ omega (arith, within, token)
+        | inr within ↦ omega (arith, within, token, token_is setup steps)
       ],
       (so_far.0, so_far.1, subst (λ n. Waits setup n steps so_far.0) all so_far.4),
+    )
+
+pub returns-in-Err-clause-replies : goal.returns-in-Err-clause-replies
+returns-in-Err-clause-replies g c = λ setup steps did rests.
+    let token = (world_shows g.row.FIRST g.row.SECOND c.args.memory.now setup steps did).1 in
+    let over = c.in-Err.ensures.exhausted.0 refl in
+    let memory = c.in-Err.ensures.unchanged in (
+      steps,
+      subst (λ m. WorldDid g.row.FIRST g.row.SECOND m setup steps) (sym memory) did,
+      rests,
+      ((λ left. absurd (omega (arith, left, over, token, token_is setup steps))), refl),
     )

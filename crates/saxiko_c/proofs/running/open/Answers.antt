@@ -8,6 +8,7 @@ returns-in-Ok-new c =
     subst (IsOpened c.args.config) (sym c.in-Ok-new.ensures.ok) (record {
       opened = known.opened;
       setup = known.opening;
+      token = known.token;
       workers = known.workers;
       at_rest = known.at_rest;
       bench = known.bench;

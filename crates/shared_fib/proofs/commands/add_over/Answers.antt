@@ -2,16 +2,17 @@ use Rattle.std.proofs.Common.{◌≡◌, ap, List}
 use Rattle.lpm_trace.specs.declared.step.WriterStep.{WriterStep}
 use Rattle.lpm_trace.specs.Tables.{Setup}
 use Rattle.fib_model.specs.Outcomes.{Adds}
-use Rattle.lpm_writer.specs.Taking.{TakesLeast}
-use Rattle.lpm_writer.specs.Traced.{by_steps}
 use Rattle.lpm_writer.specs.Resting.{IsResting, state_of}
-use Rattle.lpm_writer.proofs.Least.{takes_least}
 use Rattle.shared_words.specs.Opened.{setup_of}
 use Rattle.shared_memory.specs.Lent.{Lent}
+use Rattle.shared_fib.specs.Running.{by_steps}
+use Rattle.shared_fib.specs.Taking.{TakesLeast}
+use Rattle.shared_fib.proofs.Taking.{takes_least}
 use Rattle.shared_fib.proofs.Seated.{Kept, kept, added, only_sees, rests_after, outcome_after}
 use Rattle.shared_fib.proofs.commands.add_over.Goals as goal
 
 pub returns : goal.returns
+unfolding by_steps
 returns g c =
     let f = g.row.FIRST in
     let s = g.row.SECOND in
@@ -25,13 +26,13 @@ returns g c =
     old.rules.rules new.rules.rules old.books new.books old.versions new.versions
     c.args.prefix.now c.args.hop c.add.result came.3 in
     let same : kept z ≡ kept m = all.1 in
-    let Outcome : List WriterStep → Type 0 = λ later. Adds (by_steps setup) f s old.config
+    let Outcome : List WriterStep → Type 0 = λ later. Adds (by_steps m.view.opening) f s old.config
     (state_of old.rules.rules m.view.seen old.books old.versions) c.args.prefix.now c.args.hop c.add.result
     (state_of new.rules.rules later new.books new.versions) in
-    let Least : List WriterStep → Type 0 = λ later. TakesLeast setup
+    let Least : List WriterStep → Type 0 = λ later. TakesLeast m.view.opening
     (state_of old.rules.rules m.view.seen old.books old.versions)
     (state_of new.rules.rules later new.books new.versions) in
-    let least = takes_least f s setup m.view.seen came.0 old.config new.config old.rules new.rules
+    let least = takes_least f s m.view.opening m.view.seen came.0 old.config new.config old.rules new.rules
     old.books new.books old.versions new.versions c.requires.rests came.2 c.add.ensures.least in
     let Rests : Setup → List WriterStep → Type 0 = λ by later.
     IsResting f s by later new.config new.rules new.books new.versions in

@@ -2,14 +2,15 @@ use Rattle.std.proofs.Common.{◌≡◌, ap, List}
 use Rattle.lpm_trace.specs.declared.step.WriterStep.{WriterStep}
 use Rattle.lpm_trace.specs.Tables.{Setup}
 use Rattle.fib_model.specs.Outcomes.{Deletes}
-use Rattle.lpm_writer.specs.Traced.{by_steps}
 use Rattle.lpm_writer.specs.Resting.{IsResting, state_of}
 use Rattle.shared_words.specs.Opened.{setup_of}
 use Rattle.shared_memory.specs.Lent.{Lent}
+use Rattle.shared_fib.specs.Running.{by_steps}
 use Rattle.shared_fib.proofs.Seated.{Kept, kept, deleted, only_sees, rests_after, outcome_after}
 use Rattle.shared_fib.proofs.commands.delete_over.Goals as goal
 
 pub returns : goal.returns
+unfolding by_steps
 returns g c =
     let f = g.row.FIRST in
     let s = g.row.SECOND in
@@ -23,7 +24,7 @@ returns g c =
     old.rules.rules new.rules.rules old.books new.books old.versions new.versions
     c.args.prefix.now c.delete.result came.3 in
     let same : kept z ≡ kept m = all.1 in
-    let Outcome : List WriterStep → Type 0 = λ later. Deletes (by_steps setup) f s old.config
+    let Outcome : List WriterStep → Type 0 = λ later. Deletes (by_steps m.view.opening) f s old.config
     (state_of old.rules.rules m.view.seen old.books old.versions) c.args.prefix.now c.delete.result
     (state_of new.rules.rules later new.books new.versions) in
     let Rests : Setup → List WriterStep → Type 0 = λ by later.

@@ -1,7 +1,7 @@
 use Rattle.std.proofs.Common.{arith, rules, ◌≤◌, ◌^◌, ◌<◌}
 use Rattle.std.specs.Prelude.{OnOk, OnErr}
 use Rattle.lpm_trace.specs.Tables.{tables, begun}
-use Rattle.lpm_writer.specs.Traced.{AnyMemory, Checks, steps_alone}
+use Rattle.lpm_writer.specs.Steps.{Checks}
 use Rattle.shared_words.specs.declared.view.View.{View}
 use Rattle.shared_words.specs.Opened.{setup_of}
 use Rattle.shared_words.specs.Seats.{AreChecked}
@@ -17,7 +17,7 @@ returns-clause-token g c =
     let w : View = c.seat-1.given.0.view in
     let r = c.check_over-came.result in
     let sees : OnlySees v w = search rules in
-    let came : Checks AnyMemory (setup_of v.opening) (steps_alone v.seen) (left_by_view v).token r (steps_alone w.seen) =
+    let came : Checks v.opening.workers v.seen (left_by_view v).token r w.seen =
     search rules in
     seat_token_stays v w sees r came
 
@@ -27,7 +27,7 @@ returns-clause-checked g c =
     let w : View = c.seat-1.given.0.view in
     let r = c.check_over-came.result in
     let sees : OnlySees v w = search rules in
-    let came : Checks AnyMemory (setup_of v.opening) (steps_alone v.seen) (left_by_view v).token r (steps_alone w.seen) =
+    let came : Checks v.opening.workers v.seen (left_by_view v).token r w.seen =
     search rules in
     let known : AreChecked w.opening w.seen = c.history.ensures.checked in
     let past : 0 < (left_by_view v).token = omega (arith, c.requires.waits.waits.started) in

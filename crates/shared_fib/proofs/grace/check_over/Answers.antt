@@ -4,7 +4,7 @@ use Rattle.lpm_trace.specs.Tables.{Setup}
 use Rattle.lpm_writer.specs.declared.ledger.Ledger.{Ledger}
 use Rattle.lpm_writer.specs.Resting.{IsResting}
 use Rattle.lpm_writer.specs.Synchronizing.{IsWaiting}
-use Rattle.lpm_writer.specs.Traced.{AnyMemory, Checks, steps_alone}
+use Rattle.lpm_writer.specs.Steps.{Checks}
 use Rattle.lpm_writer.proofs.StepsAlone.{checks_alone, checks_fixed}
 use Rattle.shared_words.specs.Opened.{setup_of}
 use Rattle.shared_memory.specs.Lent.{Lent, left_by}
@@ -32,7 +32,7 @@ returns g c =
     let same : kept z ≡ kept m =
     checks_fixed Lent does_in setup Kept kept stays (m, m.view.seen) (z, came.0) (left_by m).token r came.2 in
     let Came : List WriterStep → Type 0 = λ later.
-    Checks AnyMemory setup (steps_alone m.view.seen) (left_by m).token r (steps_alone later) in
+    Checks m.view.opening.workers m.view.seen (left_by m).token r later in
     let Rests : Setup → List WriterStep → Type 0 = λ by later.
     IsResting f s by later new.config new.rules new.books new.versions in
     let Waits : Setup → List WriterStep → Type 0 = λ by later.

@@ -1,10 +1,8 @@
 use Rattle.std.proofs.Common.{◌≡◌, rules}
 use Rattle.std.specs.Prelude.{OnErr, OnOk}
 use Rattle.std.proofs.lemmas.Result.{on_ok_weaker}
-use Rattle.lpm_writer.specs.Synchronizing.{Synchronizes}
-use Rattle.lpm_writer.specs.Traced.{AnyMemory, steps_alone}
+use Rattle.lpm_writer.specs.Steps.{Synchronizes}
 use Rattle.shared_words.specs.declared.view.View.{View}
-use Rattle.shared_words.specs.Opened.{setup_of}
 use Rattle.shared_fib.specs.Running.{OnlySees}
 use Rattle.shared_fib.proofs.Checked.{looked, synchronize_checked}
 use Rattle.shared_fib.proofs.Later.{synchronized_later}
@@ -16,8 +14,7 @@ returns-clause-started g c =
     let w : View = c.seat-1.given.0.view in
     let sees : OnlySees v w = search rules in
     let checked = looked v w sees c.history.ensures.checked in
-    let came : OnOk c.synchronize_over-came.result (Synchronizes AnyMemory (setup_of v.opening)
-    (steps_alone v.seen) (steps_alone w.seen)) = search rules in
+    let came : OnOk c.synchronize_over-came.result (Synchronizes v.opening.workers v.opening.token v.seen w.seen) = search rules in
     on_ok_weaker c.synchronize_over-came.result (λ h. (synchronize_checked v w sees h checked).started) came
 
 pub returns-clause-checked : goal.returns-clause-checked
@@ -26,15 +23,13 @@ returns-clause-checked g c =
     let w : View = c.seat-1.given.0.view in
     let sees : OnlySees v w = search rules in
     let checked = looked v w sees c.history.ensures.checked in
-    let came : OnOk c.synchronize_over-came.result (Synchronizes AnyMemory (setup_of v.opening)
-    (steps_alone v.seen) (steps_alone w.seen)) = search rules in
+    let came : OnOk c.synchronize_over-came.result (Synchronizes v.opening.workers v.opening.token v.seen w.seen) = search rules in
     on_ok_weaker c.synchronize_over-came.result (λ h. (synchronize_checked v w sees h checked).checked) came
 
 pub returns-clause-later : goal.returns-clause-later
 returns-clause-later g c =
     let v : View = c.args.seat.now.view in
     let w : View = c.seat-1.given.0.view in
-    let came : OnOk c.synchronize_over-came.result (Synchronizes AnyMemory (setup_of v.opening)
-    (steps_alone v.seen) (steps_alone w.seen)) = search rules in
+    let came : OnOk c.synchronize_over-came.result (Synchronizes v.opening.workers v.opening.token v.seen w.seen) = search rules in
     let untouched : OnErr c.synchronize_over-came.result (w ≡ v) = search rules in
-    synchronized_later (setup_of v.opening) v w c.synchronize_over-came.result untouched came
+    synchronized_later v.opening.workers v.opening.token v w c.synchronize_over-came.result untouched came

@@ -1,4 +1,4 @@
-use Rattle.std.proofs.Common.{arith, lit<, ℕ, ◌≡◌, ◌+◌, ◌∙◌, ap, subst, sym, true, All, Bool, List, length}
+use Rattle.std.proofs.Common.{arith, lit<, ℕ, ◌≡◌, ◌+◌, ap, subst, sym, true, All, Bool, List, length}
 use Rattle.std.specs.Prelude.{cond}
 use Rattle.lpm_limits.specs.declared.config.Config.{Config}
 use Rattle.storm.specs.declared.looking.Worker.{Worker}

@@ -1,7 +1,5 @@
-use Rattle.std.proofs.Common.{◌≡◌, ◌∙◌, ◌++◌, ◌∷◌, [], List, take, ap, sym, append_assoc}
-use Rattle.std.proofs.lemmas.List.{take_all}
+use Rattle.std.proofs.Common.{◌∙◌, ◌++◌, ◌∷◌, [], List, take, ap, sym, append_assoc}
 use Rattle.lpm_rules.specs.declared.Change.{Change}
-use Rattle.fib_model.specs.declared.command.Outcome.{Outcome}
 use Rattle.storm.specs.Changing.{changes_by}
 use Rattle.storm.proofs.Counts.{changes_next, append_nil}
 use Rattle.storm.proofs.settling.push_accepted.Goals as goal

@@ -2,12 +2,12 @@ use Rattle.std.proofs.Common.{ℕ, ◌≡◌, ◌<◌, ◌≤◌, length, ap, �
 use Rattle.std.specs.Prelude.{All}
 use Rattle.lpm_trace.specs.Tables.{tables}
 use Rattle.fib_model.specs.Outcomes.{Frees}
-use Rattle.lpm_writer.specs.Traced.{by_steps}
-use Rattle.shared_fib.specs.Running.{Identity, WriterState, setup, steps_of}
+use Rattle.shared_fib.specs.Running.{Identity, WriterState, by_steps, setup, steps_of}
 use Rattle.storm.proofs.Emptied.{emptied}
 use Rattle.storm.proofs.settling.settle.Goals as goal
 
 pub returns-clause-settles : goal.returns-clause-settles
+unfolding by_steps
 returns-clause-settles g c =
     let id = c.args.table.now in
     let passed = c.synchronize.new.self in
@@ -17,14 +17,14 @@ returns-clause-settles g c =
     let queued = subst (λ (i : Identity). All (λ token. token ≤ (tables (setup i) (steps_of passed)).passed) passed.table.limbo)
     own (told.queued c.requires.some) in
     let some : 0 < (setup id).workers = subst (λ (n : ℕ). 0 < n) (sym c.requires.workers) c.requires.some in
-    let all = subst (λ (n : ℕ). Frees (by_steps (setup id)) passed.table n c.reclaim.result c.reclaim.new.self.table)
+    let all = subst (λ (n : ℕ). Frees (by_steps id.opening) passed.table n c.reclaim.result c.reclaim.new.self.table)
     c.counts-waiting.ensures.limbo c.reclaim.ensures.frees in
     record {
       passed = passed;
       reclaimed = c.reclaim.result;
       synchronizes = told.synchronizes;
       same = told.same;
-      frees = subst (λ (n : ℕ). Frees (by_steps (setup id)) passed.table n c.reclaim.result c.reclaim.new.self.table)
+      frees = subst (λ (n : ℕ). Frees (by_steps id.opening) passed.table n c.reclaim.result c.reclaim.new.self.table)
           limbo c.reclaim.ensures.frees;
       identity = c.reclaim.ensures.own ∙ own;
       config = c.reclaim.ensures.config ∙ ap (λ (w : WriterState). w.config) told.same;

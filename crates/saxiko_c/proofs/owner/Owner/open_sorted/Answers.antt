@@ -18,11 +18,13 @@ returns-in-Ok-clause-opened c =
     let is = c.in-Ok-Some.field-0-is in
     let known = c.in-Ok-Some.ensures in
     let opened = at_some (λ (r : Parts). r.1 ≡ opens_with r.0 config rules) is known.opened in
+    let token = at_some (λ (r : Parts). r.0.opening.token ≡ config.first_token) is known.token in
     let workers = at_some (λ (r : Parts). r.0.opening.workers ≡ config.workers) is known.workers in
     let bench = at_some (λ (r : Parts). IsFullBench r.0 r.2) is known.bench in
     let own = ap (λ (w : WriterState). w.identity) opened in
     subst (IsOpenedWith config rules) (sym c.new-in-Ok.ensures) (record {
       opened = opened ∙ ap (λ (i : Identity). opens_with i config rules) (sym own);
+      token = ap (λ (i : Identity). i.opening.token) own ∙ token;
       workers = ap (λ (i : Identity). i.opening.workers) own ∙ workers;
       at_rest = refl;
       bench = subst (λ (i : Identity). IsFullBench i c.in-Ok-Some.bench) (sym own) bench;

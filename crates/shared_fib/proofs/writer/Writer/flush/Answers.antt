@@ -1,17 +1,29 @@
 use Rattle.std.proofs.Common.{ℕ, List, subst}
+use Rattle.fib_model.specs.Outcomes.{Flushes}
 use Rattle.lpm_writer.specs.Resting.{state_of}
 use Rattle.shared_words.specs.Rule.{IsLater}
 use Rattle.shared_fib.specs.Freeing.{FreesChecked}
-use Rattle.shared_fib.specs.Running.{Identity, WriterState, setup, steps_of}
+use Rattle.shared_fib.specs.Running.{Identity, WriterState, steps_of, by_steps}
 use Rattle.shared_fib.proofs.writer.Writer.flush.Goals as goal
+
+pub returns-clause-flushes : goal.returns-clause-flushes
+returns-clause-flushes g c =
+    let f = g.row.FIRST in
+    let d = g.row.SECOND in
+    let l = c.flush_by.new.ledger in
+    let z = state_of l.rules.rules c.flush_by.new.seat.view.seen l.books l.versions in
+    subst (λ (id : Identity). Flushes (by_steps id.opening) f d c.args.self.now.config c.args.self.now.table
+    c.flush_by.result z) c.requires.own
+    (subst (λ (y : WriterState). Flushes (by_steps y.identity.opening) f d y.config y.table c.flush_by.result z)
+    c.self.view_is c.flush_by.ensures.flushes)
 
 pub returns-clause-checked : goal.returns-clause-checked
 returns-clause-checked g c =
     let l = c.flush_by.new.ledger in
     let z = state_of l.rules.rules c.flush_by.new.seat.view.seen l.books l.versions in
-    subst (λ (id : Identity). (freed : List ℕ) × FreesChecked (setup id) c.args.self.now.table z freed)
+    subst (λ (id : Identity). (freed : List ℕ) × FreesChecked id.opening c.args.self.now.table z freed)
     c.requires.own
-    (subst (λ (y : WriterState). (freed : List ℕ) × FreesChecked (setup y.identity) y.table z freed)
+    (subst (λ (y : WriterState). (freed : List ℕ) × FreesChecked y.identity.opening y.table z freed)
     c.self.view_is c.flush_by.ensures.checked)
 
 pub returns-clause-later : goal.returns-clause-later

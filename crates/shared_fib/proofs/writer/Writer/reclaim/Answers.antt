@@ -2,7 +2,7 @@ use Rattle.std.proofs.Common.{subst, take, rules}
 use Rattle.lpm_writer.specs.Resting.{state_of}
 use Rattle.shared_words.specs.Rule.{IsLater}
 use Rattle.shared_fib.specs.Freeing.{FreesChecked}
-use Rattle.shared_fib.specs.Running.{Identity, WriterState, setup, steps_of}
+use Rattle.shared_fib.specs.Running.{Identity, WriterState, steps_of}
 use Rattle.shared_fib.proofs.writer.Writer.reclaim.Goals as goal
 
 pub returns-clause-checked : goal.returns-clause-checked
@@ -11,8 +11,8 @@ returns-clause-checked g c =
     let z = state_of l.rules.rules c.reclaim_by.new.seat.view.seen l.books l.versions in
     let freed = c.reclaim_by.result.freed in
     let s = c.args.self.now.table in
-    subst (λ (id : Identity). FreesChecked (setup id) s z (take freed s.limbo)) c.requires.own
-    (subst (λ (y : WriterState). FreesChecked (setup y.identity) y.table z (take freed y.table.limbo))
+    subst (λ (id : Identity). FreesChecked id.opening s z (take freed s.limbo)) c.requires.own
+    (subst (λ (y : WriterState). FreesChecked y.identity.opening y.table z (take freed y.table.limbo))
     c.self.view_is c.reclaim_by.ensures.checked)
 
 pub returns-clause-frees : goal.returns-clause-frees

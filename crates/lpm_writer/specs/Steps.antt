@@ -1,0 +1,64 @@
+-- Meaning: the parts of a change, by the writer's steps alone, of which the newest stands first (DPDK
+-- Programmer's Guide, "RCU Library": a check asks one reader after another, and a synchronize checks the token
+-- that it starts until each reader has let it pass; the order within an update is this project's).
+use Rattle.std.specs.Prelude.{ℕ, zero, suc, ◌≡◌, ◌<◌, ◌≤◌, ◌⊎◌, true, List, ◌∷◌, ◌++◌, Result, Ok, Err}
+use Rattle.std.specs.List.{All}
+use Rattle.lpm_limits.specs.declared.busy.Busy.{Busy}
+use Rattle.lpm_trace.specs.declared.step.RuleChange.{RuleChange}
+use Rattle.lpm_trace.specs.declared.step.WriterStep.{WriterStep}
+use Rattle.lpm_trace.specs.declared.step.WriterStep.TheVariants.{StoreFirst, StoreSecond, Opens, Closes, BumpToken, LoadCounter}
+use Rattle.lpm_trace.specs.Tables.{lets_pass}
+use Rattle.lpm_trace.specs.Counts.{token_after, passed_after}
+use Rattle.fib_model.specs.State.{Transitions}
+
+-- the counters of the workers below n were loaded, in a check of the token, and each let it pass
+abbrev pub Loads : ℕ → List WriterStep → ℕ → List WriterStep → Type 0
+Loads zero x token z = z ≡ x
+Loads (suc n) x token z = (y : List WriterStep) × (counter : ℕ) × Loads n x token y
+    × (lets_pass token counter ≡ true) × (z ≡ LoadCounter token n counter ∷ y)
+
+-- the workers were asked one after another: all let the token pass, or the first that didn't stopped
+-- the check
+abbrev pub Asks : ℕ → List WriterStep → ℕ → Result (Unit {0}) Busy → List WriterStep → Type 0
+Asks workers x token (Ok passed) z = Loads workers x token z
+Asks workers x token (Err busy) z = (y : List WriterStep) × Loads busy.worker x token y
+    × (busy.worker < workers) × (0 < busy.counter) × (busy.counter < token)
+    × (z ≡ LoadCounter token busy.worker busy.counter ∷ y)
+
+-- a check of a token: one that isn't above the greatest that has passed passes without a load, and for
+-- any other the workers are asked
+abbrev pub Checks : ℕ → List WriterStep → ℕ → Result (Unit {0}) Busy → List WriterStep → Type 0
+Checks workers x token result z =
+    ((token ≤ passed_after workers x) × (result ≡ Ok tt) × (z ≡ x))
+    ⊎ ((0 < workers → passed_after workers x < token) × Asks workers x token result z)
+
+-- the step stores a word
+abbrev pub IsStore : WriterStep → Type 0
+IsStore (StoreFirst i x) = Unit {0}
+IsStore (StoreSecond j x) = Unit {0}
+IsStore other = ⊥
+
+-- The parts of a change, by the steps of a writer with so many workers, which began with the token `start`.
+-- A group is unlinked by the last of some stores, and the token that is started next is its name.
+abbrev pub by_steps_from : (workers start : ℕ) → Transitions (List WriterStep)
+by_steps_from workers start = record {
+  checks = Checks workers;
+  begins = λ x z. (change : RuleChange) × (z ≡ Opens change ∷ x);
+  unlinks = λ x name z. (stores : List WriterStep) × (block : ℕ) × (word : ℕ) × All IsStore stores
+      × (z ≡ BumpToken ∷ StoreFirst block word ∷ (stores ++ x)) × (name ≡ token_after start z);
+  ends = λ x z. (stores : List WriterStep) × All IsStore stores × (z ≡ Closes ∷ (stores ++ x));
+  token = token_after start;
+}
+
+-- n checks of the token were made one after another, and a worker stopped each
+abbrev pub AreStopped : (workers : ℕ) → ℕ → List WriterStep → ℕ → List WriterStep → Type 0
+AreStopped workers zero x token z = z ≡ x
+AreStopped workers (suc n) x token z = (y : List WriterStep) × (busy : Busy)
+    × AreStopped workers n x token y × Checks workers y token (Err busy) z
+
+-- a token is started, some checks of it are stopped, and then one passes
+pub record Synchronizes (workers start : ℕ) (x z : List WriterStep) : Type 0 where
+  pub last : List WriterStep
+  pub stops : ℕ
+  pub stopped : AreStopped workers stops (BumpToken ∷ x) (token_after start (BumpToken ∷ x)) last
+  pub passes : Checks workers last (token_after start (BumpToken ∷ x)) (Ok tt) z
