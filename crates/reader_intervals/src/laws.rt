@@ -9,7 +9,7 @@ pub fn runs_after_one_more<E>()
 {}
 
 /// Once no worker holds what was given up at a place, no reader interval holds both that place and
-/// a later one, whatever events follow. From then on the memory may be used again.
+/// one from then on, whatever events follow. From then on the memory may be used again.
 pub fn grace_period_is_over<E>()
     ensures { GracePeriodIsOver E }
 {}
