@@ -1,20 +1,21 @@
 -- The law of every trace, and what it says of a run.
-use Rattle.std.proofs.Common.{arith, ◌≡◌, ℕ, ◌*◌, ◌^◌, ◌≤◌, refl, ap, sym, subst, ◌∙◌, List, [], ◌∷◌, ◌++◌, length, map, leb, cond, Bool, true, false}
+use Rattle.std.proofs.Common.{arith, ◌≡◌, ℕ, ◌*◌, ◌^◌, ◌<◌, ◌≤◌, refl, ap, sym, subst, ◌∙◌, List, [], ◌∷◌, ◌++◌, length, map, leb, cond, Bool, true, false}
+use Rattle.lpm_trace.specs.declared.step.WriterStep.{WriterStep}
 use Rattle.lpm_trace.specs.declared.step.TraceStep.{TraceStep}
 use Rattle.lpm_trace.specs.declared.step.TraceStep.TheVariants.{Writer}
 use Rattle.lpm_limits.specs.declared.config.Config.{Config}
-use Rattle.lpm_trace.specs.Tables.{Setup, Tables, Unused, Retired, IsSettled, IsAnswer, answer, done, begun, oldest, tables, tables_at}
+use Rattle.lpm_trace.specs.Tables.{Setup, Tables, Unused, Retired, IsSettled, IsAnswer, addresses, answer, done, begun, oldest, tables, tables_at}
 use Rattle.lpm_trace.specs.Trace.{after, IsTrace, writes}
-use Rattle.lpm_trace.specs.Laws.{at_moment, by_steps}
+use Rattle.lpm_trace.specs.Laws.{at_moment, by_steps, rules_of_version, Unlinks, Fills}
 use Rattle.lpm_trace.proofs.Traces.{tables_of, history_at}
 use Rattle.lpm_trace.proofs.Moments.{count, writes_oldest}
-use Rattle.lpm_trace.proofs.Promises.{lookups_are_legal, lookups_are_monotone, versions_never_fall, reuse_is_lawful, rest_answers}
-use Rattle.reader_intervals.specs.Intervals.{IsReaderInterval}
+use Rattle.lpm_trace.proofs.Promises.{lookups_are_legal, versions_never_fall, reuse_is_lawful, rest_answers}
+use Rattle.reader_intervals.specs.Intervals.{Interval, IsReaderInterval, Holds}
 use Rattle.lpm_writer.specs.Opening.{opening_setup}
 use Rattle.lpm_writer.proofs.Opened.{settled}
 use Rattle.world_memory.specs.Runs.{seen_of}
 use Rattle.world_memory.proofs.Seeing.{seen_finished}
-use Rattle.interleave.specs.Laws.{RestsSettled, ReusesLawfully, TracesAreLawful}
+use Rattle.interleave.specs.Laws.{TracesAreLawful}
 use Rattle.update_laws.proofs.Promises.{blank}
 use Rattle.lpm_rules.specs.declared.Change.{Change}
 use Rattle.world_memory.specs.Schedule.{writer_items}
@@ -36,7 +37,8 @@ pub older_trace : (c : Setup) (newer steps : List TraceStep) → IsTrace c (newe
 older_trace c [] steps trace = trace
 older_trace c (s ∷ newer) steps trace = older_trace c newer steps trace.1
 
-rests : (c : Setup) (steps : List TraceStep) → IsSettled c → IsTrace c steps → RestsSettled c steps
+rests : (c : Setup) (steps : List TraceStep) → IsSettled c → IsTrace c steps → (t : ℕ) → done (at_moment c steps t) ≡ begun (at_moment c steps t)
+    → (a : ℕ) → a < addresses c → IsAnswer c (rules_of_version c steps (done (at_moment c steps t))) a (answer c (at_moment c steps t).words a)
 rests c steps start trace t still a low =
     let now = oldest t steps in
     let is : (after c now).tables ≡ at_moment c steps t = tables_of c now in
@@ -48,7 +50,10 @@ rests c steps start trace t still a low =
     let old = history_at c (writes steps) (count steps t) (done (at_moment c steps t)) within in
     subst (λ R. IsAnswer c R a (answer c (at_moment c steps t).words a)) (sym (old ∙ ap (λ (w : Tables). w.history (done (at_moment c steps t))) then)) there
 
-reuses : (c : Setup) (steps : List TraceStep) → IsSettled c → IsTrace c steps → ReusesLawfully c steps
+reuses : (c : Setup) (steps : List TraceStep) → IsSettled c → IsTrace c steps
+    → (newer between older : List TraceStep) (unlinks fills : WriterStep) (group : ℕ) → steps ≡ newer ++ Writer fills ∷ (between ++ Writer unlinks ∷ older)
+    → Unlinks c older unlinks group → Fills c fills group → (i : Interval) → IsReaderInterval by_steps steps i
+    → Holds i (length older) → ¬ Holds i (length (between ++ Writer unlinks ∷ older))
 reuses c steps start trace newer between older unlinks fills group is unlinked filled i interval holds =
     reuse_is_lawful c newer between older unlinks fills group start (subst (IsTrace c) is trace) unlinked filled i (subst (λ x. IsReaderInterval by_steps x i) is interval) holds
 
@@ -58,7 +63,6 @@ traces_are_lawful c steps start trace = record {
   legal = λ worker. lookups_are_legal c steps worker start trace;
   reuse = reuses c steps start trace;
   versions = λ a t u later. versions_never_fall c steps a t u later;
-  monotone = λ worker. lookups_are_monotone c steps worker start trace;
 }
 
 opening_rests : (f g : ℕ) (config : Config) → IsAtRest f g (opening_setup f g config) opening_kept

@@ -7,9 +7,9 @@ use Rattle.reader_intervals.specs.Intervals.{Interval, IsReaderInterval, Holds}
 use Rattle.lpm_trace.specs.declared.step.WriterStep.{WriterStep}
 use Rattle.lpm_trace.specs.declared.step.TraceStep.{TraceStep}
 use Rattle.lpm_trace.specs.declared.step.TraceStep.TheVariants.{Writer}
-use Rattle.lpm_trace.specs.Tables.{Setup, IsSettled, addresses, answer, IsAnswer, done, begun}
+use Rattle.lpm_trace.specs.Tables.{Setup, IsSettled, addresses, answer, IsAnswer, done, begun, version}
 use Rattle.lpm_trace.specs.Trace.{IsTrace, worker_of}
-use Rattle.lpm_trace.specs.Laws.{Stands, version_at, IsLegal, IsMonotone, Unlinks, Fills, by_steps, at_moment, rules_of_version}
+use Rattle.lpm_trace.specs.Laws.{Stands, IsLegal, Unlinks, Fills, by_steps, at_moment, rules_of_version}
 
 -- ---- a step
 -- One load or one store of one word, by the writer or by a worker: `TraceStep` of `lpm_trace/src/step`.
@@ -24,19 +24,13 @@ use Rattle.lpm_trace.specs.Laws.{Stands, version_at, IsLegal, IsMonotone, Unlink
 -- ---- a version
 -- Version k is the rules after the changes of the first k updates (`rules_of_version`). It stands at a
 -- moment where its update was begun, and the next one wasn't done (`Stands`). Both are of
--- `lpm_trace/specs/Laws`.
-
--- at each moment at which no update runs, the words answer by the rules of the last version
-abbrev pub RestsSettled : Setup → List TraceStep → Type 0
-RestsSettled c steps = (t : ℕ) → done (at_moment c steps t) ≡ begun (at_moment c steps t)
-    → (a : ℕ) → a < addresses c
-    → IsAnswer c (rules_of_version c steps (done (at_moment c steps t))) a
-    (answer c (at_moment c steps t).words a)
+-- `lpm_trace/specs/Laws`. An address shows a version at each moment (`version` of
+-- `lpm_trace/specs/Tables`).
 
 -- ---- a legal lookup
--- The hop is that of the longest match in the rules of a version that stood at a moment from the load
--- of the first word to that of the last, and that version lies from `lo` to `hi` (`IsLegal` of
--- `lpm_trace/specs/Laws`).
+-- The hop is that of the longest match in the rules of the version that its address shows at a moment
+-- from the load of the first word to that of the last. That version stands then, and it lies from `lo` to
+-- `hi` (`IsLegal` of `lpm_trace/specs/Laws`).
 
 -- ---- grace
 -- A step unlinks a group where it stores over the word that links it, and fills one where it stores
@@ -44,31 +38,26 @@ RestsSettled c steps = (t : ℕ) → done (at_moment c steps t) ≡ begun (at_mo
 -- worker is online, or from the load of the token in a quiescent one, to the next such load, or to the
 -- report that it is offline (`by_steps` there). No token and no counter is looked at.
 
--- no reader interval holds both a step that unlinks a group and a later store into it
-abbrev pub ReusesLawfully : Setup → List TraceStep → Type 0
-ReusesLawfully c steps = (newer between older : List TraceStep) (unlinks fills : WriterStep) (group : ℕ)
-    → steps ≡ newer ++ Writer fills ∷ (between ++ Writer unlinks ∷ older)
-    → Unlinks c older unlinks group → Fills c fills group
-    → (i : Interval) → IsReaderInterval by_steps steps i
-    → Holds i (length older) → ¬ Holds i (length (between ++ Writer unlinks ∷ older))
-
--- ---- no going back
--- An address shows a version at each moment (`version_at`), and a lookup answers by the version that
--- its address shows at a moment of its span (`IsMonotone`). Both are of `lpm_trace/specs/Laws`.
-
 -- ---- the law
 
 pub record IsLawful (c : Setup) (steps : List TraceStep) : Type 0 where
-  -- where no update runs, the words answer by the last version
-  pub rest : RestsSettled c steps
+  -- at each moment at which no update runs, the words answer by the rules of the last version
+  pub rest : (t : ℕ) → done (at_moment c steps t) ≡ begun (at_moment c steps t)
+      → (a : ℕ) → a < addresses c
+      → IsAnswer c (rules_of_version c steps (done (at_moment c steps t))) a
+      (answer c (at_moment c steps t).words a)
   -- each lookup that a worker has finished is legal
   pub legal : (worker : ℕ) → All (IsLegal c steps) (worker_of worker steps).finished
-  -- no group is rewritten within its grace period
-  pub reuse : ReusesLawfully c steps
-  -- the version that an address shows stands, and never falls; and by such versions lookups answer
-  pub versions : (a t u : ℕ) → t ≤ u → Stands c steps t (version_at c steps a t)
-      × (version_at c steps a t ≤ version_at c steps a u)
-  pub monotone : (worker : ℕ) → All (IsMonotone c steps) (worker_of worker steps).finished
+  -- no group is rewritten within its grace period: no reader interval holds both a step that unlinks a
+  -- group and a later store into it
+  pub reuse : (newer between older : List TraceStep) (unlinks fills : WriterStep) (group : ℕ)
+      → steps ≡ newer ++ Writer fills ∷ (between ++ Writer unlinks ∷ older)
+      → Unlinks c older unlinks group → Fills c fills group
+      → (i : Interval) → IsReaderInterval by_steps steps i
+      → Holds i (length older) → ¬ Holds i (length (between ++ Writer unlinks ∷ older))
+  -- no going back: the version that an address shows, by which lookups answer, stands and never falls
+  pub versions : (a t u : ℕ) → t ≤ u → Stands c steps t (version (at_moment c steps t) a)
+      × (version (at_moment c steps t) a ≤ version (at_moment c steps u) a)
 
 -- each trace is lawful, whatever table it begins with, and whatever makes its steps
 abbrev pub TracesAreLawful : Type 0

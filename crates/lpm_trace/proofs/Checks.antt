@@ -6,7 +6,7 @@ use Rattle.lpm_trace.specs.declared.step.WriterStep.{WriterStep}
 use Rattle.lpm_trace.specs.declared.step.WriterStep.TheVariants.{StoreFirst, StoreSecond, Opens, Closes, BumpToken, LoadCounter}
 use Rattle.lpm_trace.specs.declared.step.TraceStep.{TraceStep}
 use Rattle.lpm_trace.specs.declared.step.TraceStep.TheVariants.{Writer, Worker as ByWorker}
-use Rattle.lpm_trace.specs.Tables.{Setup, Tables, lets_pass, tables, IsNextChecked, MayWrite}
+use Rattle.lpm_trace.specs.Tables.{Setup, Tables, lets_pass, tables, MayWrite}
 use Rattle.lpm_trace.specs.Trace.{after, IsTrace, writes}
 use Rattle.lpm_trace.specs.Laws.{IsAskedFor, IsChecked, PassedIsChecked}
 use Rattle.lpm_trace.specs.Counts.{passed_after}
@@ -46,7 +46,7 @@ asked_quiet c s ws asked scan passed = record {
   passed = subst (λ n. (n ≡ 0) ⊎ IsChecked c.workers c.token (s ∷ ws) n) (sym passed) (passed_still c s ws (tables c ws).passed asked.passed);
 }
 
-scanned_more : (c : Setup) (ws : List WriterStep) (token k0 counter : ℕ) → Asked c ws → token ≤ (tables c ws).token → IsNextChecked (tables c ws).scan token k0 → lets_pass token counter ≡ true
+scanned_more : (c : Setup) (ws : List WriterStep) (token k0 counter : ℕ) → Asked c ws → token ≤ (tables c ws).token → ((k0 ≡ 0) ⊎ (((tables c ws).scan.next ≡ k0) × ((tables c ws).scan.token ≡ token))) → lets_pass token counter ≡ true
     → (k : ℕ) → k < suc k0 → IsAskedFor c.token (LoadCounter token k0 counter ∷ ws) token k
 scanned_more c ws token k0 counter asked le next passes k lt =
     let s : WriterStep = LoadCounter token k0 counter in
@@ -60,7 +60,7 @@ scanned_more c ws token k0 counter asked le next passes k lt =
       ]
     ]
 
-counter_asked : (c : Setup) (ws : List WriterStep) (token k0 counter : ℕ) → Asked c ws → token ≤ (tables c ws).token → IsNextChecked (tables c ws).scan token k0 → (b : Bool) → lets_pass token counter ≡ b
+counter_asked : (c : Setup) (ws : List WriterStep) (token k0 counter : ℕ) → Asked c ws → token ≤ (tables c ws).token → ((k0 ≡ 0) ⊎ (((tables c ws).scan.next ≡ k0) × ((tables c ws).scan.token ≡ token))) → (b : Bool) → lets_pass token counter ≡ b
     → ((k : ℕ) → k < cond b (suc k0) 0 → IsAskedFor c.token (LoadCounter token k0 counter ∷ ws) token k)
     × ((cond (b && eqb (suc k0) c.workers) (max (tables c ws).passed token) (tables c ws).passed ≡ 0)
     ⊎ IsChecked c.workers c.token (LoadCounter token k0 counter ∷ ws) (cond (b && eqb (suc k0) c.workers) (max (tables c ws).passed token) (tables c ws).passed))

@@ -14,7 +14,7 @@ use Rattle.lpm_trace.specs.declared.step.TraceStep.TheVariants.{Writer, Worker a
 use Rattle.lpm_trace.specs.Tables.{Setup, Tables, IsSettled, first_entry, stamped, oldest, tables}
 use Rattle.lpm_trace.specs.Workers.{Worker, moved, MayRead, IsRunning}
 use Rattle.lpm_trace.specs.Trace.{after, IsTrace, writes}
-use Rattle.lpm_trace.specs.Laws.{begins_by, ends_by, by_steps, Unlinks, ReuseIsLawful}
+use Rattle.lpm_trace.specs.Laws.{begins, ends, by_steps, Unlinks, ReuseIsLawful}
 use Rattle.lpm_trace.proofs.Basics.{with_at-same}
 use Rattle.lpm_trace.proofs.Writing.{stamped_le, stamped_ge}
 use Rattle.lpm_trace.proofs.Traces.{oldest_old, oldest_all, clock_length, tables_of, after_grace}
@@ -23,7 +23,7 @@ use Rattle.lpm_trace.proofs.Moments.{count, count_old, count_le}
 -- ---- a reader interval that runs
 
 -- the step with which an interval begins
-begun_runs : (s : WorkerStep) (k worker now : ℕ) (r : Worker) → IsTrue (begins_by k s worker) → IsRunning (moved now r s).phase × ((moved now r s).since ≡ now)
+begun_runs : (s : WorkerStep) (k worker now : ℕ) (r : Worker) → IsTrue (begins worker (ByWorker k s)) → IsRunning (moved now r s).phase × ((moved now r s).since ≡ now)
 begun_runs (LoadOnline token) k worker now r does = cc does
 begun_runs (StoreOnline token) k worker now r does = (tt, refl)
 begun_runs (LoadQuiescent token) k worker now r does = (tt, refl)
@@ -36,7 +36,7 @@ begun_runs (Ends sequence) k worker now r does = cc does
 begun_runs (Meets sequence) k worker now r does = cc does
 
 -- a step that ends none
-kept_runs : (c : Setup) (w : Tables) (r : Worker) (s : WorkerStep) (k worker now : ℕ) → worker ≡ k → MayRead c w r s → ¬ IsTrue (ends_by k s worker) → IsRunning r.phase
+kept_runs : (c : Setup) (w : Tables) (r : Worker) (s : WorkerStep) (k worker now : ℕ) → worker ≡ k → MayRead c w r s → ¬ IsTrue (ends worker (ByWorker k s)) → IsRunning r.phase
     → IsRunning (moved now r s).phase × ((moved now r s).since ≡ r.since)
 kept_runs c w r (LoadOnline token) k worker now same may lasts run = absurd (subst IsRunning may.0 run)
 kept_runs c w r (StoreOnline token) k worker now same may lasts run = absurd (subst IsRunning may run)
@@ -50,7 +50,7 @@ kept_runs c w r (Ends sequence) k worker now same may lasts run = (tt, refl)
 kept_runs c w r (Meets sequence) k worker now same may lasts run = (run, refl)
 
 -- a step of another worker begins no interval of this one
-not_begun : (s : WorkerStep) (k worker : ℕ) → eqb worker k ≡ false → IsTrue (begins_by k s worker) → ⊥
+not_begun : (s : WorkerStep) (k worker : ℕ) → eqb worker k ≡ false → IsTrue (begins worker (ByWorker k s)) → ⊥
 not_begun (LoadOnline token) k worker other does = cc does
 not_begun (StoreOnline token) k worker other does = cc (other, does)
 not_begun (LoadQuiescent token) k worker other does = cc (other, does)

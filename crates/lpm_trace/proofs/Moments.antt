@@ -14,7 +14,7 @@ use Rattle.lpm_trace.specs.declared.step.TraceStep.TheVariants.{Writer, Worker a
 use Rattle.lpm_trace.specs.Tables.{Setup, IsAnswer, begun_at, version, oldest, tables, tables_at}
 use Rattle.lpm_trace.specs.Workers.{Worker, Probe, Unread, InGroup, Answered, Seen, read_first, first_read, second_read, with_answers, moved}
 use Rattle.lpm_trace.specs.Trace.{after, writes, worker_of}
-use Rattle.lpm_trace.specs.Laws.{IsLegalAtPlace, at_moment, rules_of_version, version_at, IsLegal, IsMonotone, LookupsAreLegal, LookupsAreMonotone, VersionsNeverFall}
+use Rattle.lpm_trace.specs.Laws.{IsLegalAtPlace, at_moment, rules_of_version, IsLegal, LookupsAreLegal, VersionsNeverFall}
 use Rattle.lpm_trace.proofs.Basics.{Each, each_all}
 use Rattle.lpm_trace.proofs.Versions.{version_ge, version_le}
 use Rattle.lpm_trace.proofs.Traces.{oldest_old, oldest_new, oldest_all, clock_length, tables_of, rising, all_right}
@@ -266,6 +266,7 @@ legal c steps s n same right =
       from = m.after;
       to = m.before;
       within = same.5.1;
+      shown = refl;
       stands = (version_ge (at_moment c steps m.moment) n.addr, version_le (at_moment c steps m.moment) n.addr);
       answers = subst (λ v. IsAnswer c (rules_of_version c steps v) n.addr n.hop) shown
           (subst (λ a. IsAnswer c (rules_of_version c steps (version (tables_at c (writes steps) right.place) s.addr)) a n.hop) same.0
@@ -274,31 +275,10 @@ legal c steps s n same right =
       high = omega (arith, same.3, right.high, shown);
     }
 
-monotone : (c : Setup) (steps : List TraceStep) (s n : Seen) → SeenAgrees steps s n → IsLegalAtPlace c (writes steps) s → IsMonotone c steps n
-monotone c steps s n same right =
-    let m = span_moment steps s n same right.place right.from right.to in
-    let at : tables_at c (writes steps) right.place ≡ at_moment c steps m.moment = at_place c steps m.moment right.place m.is in
-    let shown : version (tables_at c (writes steps) right.place) s.addr ≡ version_at c steps n.addr m.moment = ap (λ w. version w s.addr) at ∙ ap (version (at_moment c steps m.moment)) same.0 in
-    record {
-      moment = m.moment;
-      from = m.after;
-      to = m.before;
-      within = same.5.1;
-      answers = subst (λ v. IsAnswer c (rules_of_version c steps v) n.addr n.hop) shown
-          (subst (λ a. IsAnswer c (rules_of_version c steps (version (tables_at c (writes steps) right.place) s.addr)) a n.hop) same.0
-          (subst (λ h. IsAnswer c (rules_of_version c steps (version (tables_at c (writes steps) right.place) s.addr)) s.addr h) same.1 right.answers));
-    }
-
 pub lookups_are_legal : LookupsAreLegal
 lookups_are_legal c steps k settled trace =
     each_all (IsLegal c steps) (worker_of k steps).finished
     (zip_each (SeenAgrees steps) (IsLegalAtPlace c (writes steps)) (IsLegal c steps) (legal c steps) ((after c steps).workers k).finished (worker_of k steps).finished
-    (clocks_agree c steps k).finished (all_right c settled steps trace k))
-
-pub lookups_are_monotone : LookupsAreMonotone
-lookups_are_monotone c steps k settled trace =
-    each_all (IsMonotone c steps) (worker_of k steps).finished
-    (zip_each (SeenAgrees steps) (IsLegalAtPlace c (writes steps)) (IsMonotone c steps) (monotone c steps) ((after c steps).workers k).finished (worker_of k steps).finished
     (clocks_agree c steps k).finished (all_right c settled steps trace k))
 
 pub versions_never_fall : VersionsNeverFall

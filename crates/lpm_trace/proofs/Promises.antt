@@ -5,7 +5,7 @@ use Rattle.lpm_trace.specs.Trace.{after}
 use Rattle.lpm_trace.specs.Laws.{RestAnswers}
 use Rattle.lpm_trace.proofs.Versions.{Shows, version_ge, version_le}
 use Rattle.lpm_trace.proofs.Traces.{tables_of, shows_tables}
-pub use Rattle.lpm_trace.proofs.Moments.{lookups_are_legal, lookups_are_monotone, versions_never_fall}
+pub use Rattle.lpm_trace.proofs.Moments.{lookups_are_legal, versions_never_fall}
 pub use Rattle.lpm_trace.proofs.Grace.{reuse_is_lawful}
 pub use Rattle.lpm_trace.proofs.Alone.{writer_is_alone, writer_goes_on}
 pub use Rattle.lpm_trace.proofs.Checks.{passed_is_checked}

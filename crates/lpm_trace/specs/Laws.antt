@@ -11,7 +11,7 @@ use Rattle.reader_intervals.specs.Intervals.{Reporting, Interval, IsReaderInterv
 use Rattle.lpm_trace.specs.declared.step.WriterStep.{WriterStep}
 use Rattle.lpm_trace.specs.declared.step.WriterStep.TheVariants.{StoreFirst, StoreSecond, LoadCounter}
 use Rattle.lpm_trace.specs.declared.step.WorkerStep.{WorkerStep}
-use Rattle.lpm_trace.specs.declared.step.WorkerStep.TheVariants.{LoadOnline, StoreOnline, LoadQuiescent, StoreQuiescent, StoreOffline, Begins, LoadFirst, LoadSecond, Ends, Meets}
+use Rattle.lpm_trace.specs.declared.step.WorkerStep.TheVariants.{StoreOnline, LoadQuiescent, StoreOffline}
 use Rattle.lpm_trace.specs.declared.step.TraceStep.{TraceStep}
 use Rattle.lpm_trace.specs.declared.step.TraceStep.TheVariants.{Writer, Worker as ByWorker}
 use Rattle.lpm_trace.specs.Tables.{Setup, Tables, IsSettled, addresses, answer, IsAnswer, done, begun, version, lets_pass, oldest, tables, tables_at, first_entry}
@@ -33,14 +33,16 @@ Stands c steps t k = (done (at_moment c steps t) ≤ k) × (k ≤ begun (at_mome
 abbrev pub rules_of_version : Setup → List TraceStep → ℕ → RuleMap
 rules_of_version c steps k = (tables c (writes steps)).history k
 
--- a finished lookup is legal: its answer is that of a version that stood at a moment from the read
--- of its first word to the read of its last one, and that version lies from `lo` to `hi`
+-- a finished lookup is legal: its answer is that of the version which its address shows at a moment from
+-- the read of its first word to the read of its last one. That version stands at that moment, and it lies
+-- from `lo` to `hi`.
 pub record IsLegal (c : Setup) (steps : List TraceStep) (seen : Seen) : Type 0 where
   pub moment : ℕ
   pub chosen : ℕ
   pub from : seen.first ≤ moment
   pub to : moment ≤ seen.last
   pub within : seen.last ≤ length steps
+  pub shown : chosen ≡ version (at_moment c steps moment) seen.addr
   pub stands : Stands c steps moment chosen
   pub answers : IsAnswer c (rules_of_version c steps chosen) seen.addr seen.hop
   pub low : seen.lo ≤ chosen
@@ -54,39 +56,17 @@ LookupsAreLegal = (c : Setup) (steps : List TraceStep) (worker : ℕ) → IsSett
 
 -- a reader interval of the worker begins with the step: its counter is stored in a report that it is
 -- online, or the token is loaded in a quiescent report
-abbrev pub begins_by : ℕ → WorkerStep → ℕ → Bool
-begins_by k (LoadOnline token) worker = false
-begins_by k (StoreOnline token) worker = eqb worker k
-begins_by k (LoadQuiescent token) worker = eqb worker k
-begins_by k (StoreQuiescent token) worker = false
-begins_by k StoreOffline worker = false
-begins_by k (Begins addrs sequence) worker = false
-begins_by k (LoadFirst word) worker = false
-begins_by k (LoadSecond word) worker = false
-begins_by k (Ends sequence) worker = false
-begins_by k (Meets sequence) worker = false
+abbrev pub begins : ℕ → TraceStep → Bool
+begins worker (ByWorker k (StoreOnline token)) = eqb worker k
+begins worker (ByWorker k (LoadQuiescent token)) = eqb worker k
+begins worker other = false
 
 -- a reader interval of the worker ends with the step: the token is loaded in a quiescent report, or 0
 -- is stored
-abbrev pub ends_by : ℕ → WorkerStep → ℕ → Bool
-ends_by k (LoadOnline token) worker = false
-ends_by k (StoreOnline token) worker = false
-ends_by k (LoadQuiescent token) worker = eqb worker k
-ends_by k (StoreQuiescent token) worker = false
-ends_by k StoreOffline worker = eqb worker k
-ends_by k (Begins addrs sequence) worker = false
-ends_by k (LoadFirst word) worker = false
-ends_by k (LoadSecond word) worker = false
-ends_by k (Ends sequence) worker = false
-ends_by k (Meets sequence) worker = false
-
-abbrev pub begins : ℕ → TraceStep → Bool
-begins worker (Writer s) = false
-begins worker (ByWorker k s) = begins_by k s worker
-
 abbrev pub ends : ℕ → TraceStep → Bool
-ends worker (Writer s) = false
-ends worker (ByWorker k s) = ends_by k s worker
+ends worker (ByWorker k (LoadQuiescent token)) = eqb worker k
+ends worker (ByWorker k StoreOffline) = eqb worker k
+ends worker other = false
 
 abbrev pub by_steps : Reporting TraceStep
 by_steps = record { begins = begins; ends = ends }
@@ -150,28 +130,12 @@ RestAnswers = (c : Setup) (steps : List TraceStep) → IsSettled c → IsTrace c
 
 -- ---- versions
 
--- the version that an address shows at a moment. That it is told by counting which address has turned
--- matters to no law: it is the function of which the promise says that there is one.
-abbrev pub version_at : Setup → List TraceStep → ℕ → ℕ → ℕ
-version_at c steps a t = version (at_moment c steps t) a
-
--- the version that an address shows stands, and never falls
+-- The version that an address shows (`version`) stands at each moment, and never falls. With the answers
+-- above, of two lookups of one address the later one's version can be chosen not less.
 abbrev pub VersionsNeverFall : Type 0
 VersionsNeverFall = (c : Setup) (steps : List TraceStep) (a t u : ℕ) → t ≤ u
-    → Stands c steps t (version_at c steps a t) × (version_at c steps a t ≤ version_at c steps a u)
-
--- a finished lookup answers by the version that its address shows at a moment of its span
-pub record IsMonotone (c : Setup) (steps : List TraceStep) (seen : Seen) : Type 0 where
-  pub moment : ℕ
-  pub from : seen.first ≤ moment
-  pub to : moment ≤ seen.last
-  pub within : seen.last ≤ length steps
-  pub answers : IsAnswer c (rules_of_version c steps (version_at c steps seen.addr moment))
-      seen.addr seen.hop
-
-abbrev pub LookupsAreMonotone : Type 0
-LookupsAreMonotone = (c : Setup) (steps : List TraceStep) (worker : ℕ) → IsSettled c → IsTrace c steps
-    → All (IsMonotone c steps) (worker_of worker steps).finished
+    → Stands c steps t (version (at_moment c steps t) a)
+    × (version (at_moment c steps t) a ≤ version (at_moment c steps u) a)
 
 -- ---- what a worker knows of its own steps
 

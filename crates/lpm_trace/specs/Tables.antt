@@ -87,7 +87,8 @@ abbrev pub begun : Tables → ℕ
 begun w = begun_at w.sequence
 
 -- the version that an address shows: `done` until its answer has changed in the update that runs,
--- and `begun` from that store on
+-- and `begun` from that store on. That it is told by which address has turned matters to no law: it is the
+-- function of which the promise says that there is one.
 abbrev pub version : Tables → ℕ → ℕ
 version w a = cond (w.turned a) (begun w) (done w)
 
@@ -226,11 +227,6 @@ Moves c w z = (a : ℕ) → a < addresses c → (answer c z a ≡ answer c w.wor
     ⊎ ((w.turned a ≡ false) × IsAnswer c (w.history (done w)) a (answer c w.words a)
     × IsAnswer c (w.history (begun w)) a (answer c z a))
 
--- the check of a token begins at worker 0, and goes on at the worker after the last one that let the
--- token pass
-abbrev pub IsNextChecked : Scan → ℕ → ℕ → Type 0
-IsNextChecked scan token worker = (worker ≡ 0) ⊎ ((scan.next ≡ worker) × (scan.token ≡ token))
-
 -- the change is one of a prefix whose host bits are cleared, to a next hop of 24 bits
 abbrev pub IsChange : ℕ → RuleChange → Type 0
 IsChange width (Put bits len hop) =
@@ -238,7 +234,8 @@ IsChange width (Put bits len hop) =
 IsChange width (TakeOut bits len) = IsNetwork width (record { bits = bits; len = len })
 IsChange width Clear = ⊤
 
--- the writer's step may come next, where the workers' counters are these
+-- the writer's step may come next, where the workers' counters are these; the check of a token begins at
+-- worker 0, and goes on at the worker after the last one that let the token pass
 abbrev pub MayWrite : Setup → (ℕ → ℕ) → Tables → WriterStep → Type 0
 MayWrite c counters w (StoreFirst i x) =
     IsUpdating w × (i < length w.words.firsts)
@@ -256,7 +253,7 @@ MayWrite c counters w Closes =
 MayWrite c counters w BumpToken = ⊤
 MayWrite c counters w (LoadCounter token worker counter) =
     (counter ≡ counters worker) × (worker < c.workers) × (token ≤ w.token)
-    × IsNextChecked w.scan token worker
+    × ((worker ≡ 0) ⊎ ((w.scan.next ≡ worker) × (w.scan.token ≡ token)))
 
 -- what a trace begins with: a token that isn't 0, words of entries that answer by the rules, and each
 -- group that stands in them known as linked. Other groups can be known as linked too: no first word

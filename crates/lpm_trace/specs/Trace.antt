@@ -14,9 +14,6 @@ pub record World : Type 0 where
   pub course : Course
   pub workers : ℕ → Worker
 
-abbrev pub start : Setup → World
-start c = record { tables = opening c; course = beginning; workers = λ k. unstarted }
-
 -- the world after a step. A worker's clock is the number of the writer's steps.
 abbrev pub apply : Setup → World → TraceStep → World
 apply c w (Writer s) = record w {
@@ -34,7 +31,7 @@ MayCome c w (ByWorker k s) = (k < c.workers) × MayRead c w.tables (w.workers k)
 
 -- the world after these steps
 abbrev pub after : Setup → List TraceStep → World
-after c [] = start c
+after c [] = record { tables = opening c; course = beginning; workers = λ k. unstarted }
 after c (s ∷ steps) = apply c (after c steps) s
 
 -- each step may come after those before it

@@ -1,14 +1,14 @@
 //! What holds of each trace. Each function does nothing: its contract is the law.
 
 ghost use Rattle.lpm_trace.specs.Laws.{LookupsAreLegal, ReuseIsLawful, RestAnswers};
-ghost use Rattle.lpm_trace.specs.Laws.{VersionsNeverFall, LookupsAreMonotone};
+ghost use Rattle.lpm_trace.specs.Laws.{VersionsNeverFall};
 ghost use Rattle.lpm_trace.specs.Laws.{OwnLookupsAreLegal, OwnStepsArePlaced, PlacesNeverFall, TraceGrows};
 ghost use Rattle.lpm_trace.specs.Laws.{VersionsNeverFallAtPlaces, PassedIsChecked};
 ghost use Rattle.lpm_trace.specs.Laws.{WordsAreEntries};
 ghost use Rattle.lpm_trace.specs.Writer.{WriterIsAlone, WriterGoesOn};
 
-/// Each finished lookup answers by a rule list that stood at a moment between its first and its last
-/// read of a word, and its number lies from `lo` to `hi`.
+/// Each finished lookup answers by the version that its address shows at a moment between its first and
+/// its last read of a word. That rule list stood then, and its number lies from `lo` to `hi`.
 pub fn lookups_are_legal()
     ensures { LookupsAreLegal }
 {}
@@ -23,15 +23,10 @@ pub fn rest_answers()
     ensures { RestAnswers }
 {}
 
-/// The version that an address shows stands at each moment, and never falls.
+/// The version that an address shows stands at each moment, and never falls. So of two lookups of one
+/// address, one after the other, the later one's version can be chosen not less.
 pub fn versions_never_fall()
     ensures { VersionsNeverFall }
-{}
-
-/// Each finished lookup answers by the version that its address shows at a moment between its first
-/// and its last read of a word.
-pub fn lookups_are_monotone()
-    ensures { LookupsAreMonotone }
 {}
 
 /// What a worker's own steps leave, by their places, is its state in the trace, and each of its finished

@@ -1,5 +1,5 @@
 -- The words that were packed for a table are unpacked again.
-use Rattle.std.proofs.Common.{◌≡◌, ℕ, ◌+◌, ◌/◌, ◌<◌, ◌≤◌, List, length, map, slice_index, ap, ◌∙◌, arith}
+use Rattle.std.proofs.Common.{◌≡◌, ℕ, ◌+◌, ◌/◌, ◌<◌, ◌≤◌, List, [], length, map, slice_index, ap, ◌∙◌, arith}
 use Rattle.std.specs.List.{range_with_len}
 use Rattle.std.proofs.lemmas.List.{ext_get_or}
 use Rattle.std.proofs.lemmas.List.FromFn.{length-map-range_with_len, get_or-map-range_with_len}
@@ -8,7 +8,7 @@ use Rattle.lpm_entry.proofs.Reading.{word_below}
 use Rattle.lpm_groups.specs.declared.GroupState.{GroupState}
 use Rattle.lpm_rules.specs.RuleMap.{RuleMap}
 use Rattle.lpm_trace.specs.Tables.{IsSettled}
-use Rattle.lpm_trace.specs.Trace.{start}
+use Rattle.lpm_trace.specs.Trace.{after}
 use Rattle.shared_words.specs.declared.layout.Layout.{Layout}
 use Rattle.shared_words.specs.Opened.{Opened, setup_of, words_of}
 use Rattle.shared_words.specs.Layout.{IsLaidOut, half, pairs, first_at, second_at, token_at, opening_words}
@@ -25,7 +25,7 @@ listed f n xs many is =
 
 module _ (o : Opened) (words : List ℕ) (layout : Layout) (packed : ArePacked o words layout)
     (settled : IsSettled (setup_of o)) (widths : o.first + o.second ≤ 32) where
-  lays : IsLaidOut o (opening_words o) (start (setup_of o))
+  lays : IsLaidOut o (opening_words o) (after (setup_of o) [])
   lays = lays_opening o
       (λ i lt. word_below (o.first + o.second) _ widths (settled.words.first_words i lt).0)
       (λ j lt. word_below (o.first + o.second) _ widths (settled.words.second_words j lt).0)

@@ -6,7 +6,7 @@ use Rattle.lpm_trace.specs.declared.step.WriterStep.TheVariants.{StoreFirst, Sto
 use Rattle.lpm_trace.specs.declared.step.TraceStep.TheVariants.{Writer as ByWriter}
 use Rattle.lpm_trace.specs.Tables.{Setup, Tables, tables, written}
 use Rattle.lpm_trace.specs.Course.{Course}
-use Rattle.lpm_trace.specs.Trace.{World, apply, start}
+use Rattle.lpm_trace.specs.Trace.{World, apply, after}
 use Rattle.shared_words.specs.Opened.{Opened, setup_of}
 use Rattle.shared_words.specs.Layout.{IsLaidOut, word_count, half, pairs, packed, first_at, second_at, sequence_at, token_at, counter_at, opening_words}
 use Rattle.shared_words.proofs.Halves.{half_stored, packed_half, packed_length}
@@ -181,7 +181,7 @@ opening_count o =
 -- the words at the start, where each is one of 32 bits
 pub lays_opening : (o : Opened) → ((i : ℕ) → i < length o.firsts → slice_index o.firsts i < 2 ^ 32)
     → ((j : ℕ) → j < length o.seconds → slice_index o.seconds j < 2 ^ 32)
-    → IsLaidOut o (opening_words o) (start (setup_of o))
+    → IsLaidOut o (opening_words o) (after (setup_of o) [])
 lays_opening o small_first small_second =
     let firsts : List ℕ = packed o.firsts in
     let seconds : List ℕ = packed o.seconds in
