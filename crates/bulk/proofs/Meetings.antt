@@ -10,7 +10,7 @@ use Rattle.lpm_trace.specs.declared.step.WriterStep.{WriterStep}
 use Rattle.lpm_trace.specs.declared.step.WorkerStep.{WorkerStep}
 use Rattle.lpm_trace.specs.Writer.{IsWritten}
 use Rattle.shared_words.specs.Rule.{IsLater}
-use Rattle.shared_deeds.proofs.Deeds.{between, later_trans}
+use Rattle.shared_words.proofs.Deeds.{between, later_trans}
 use Rattle.shared_fib.specs.Running.{Identity, WriterState, IsAtRest, setup, steps_of}
 use Rattle.shared_fib.specs.Passes.{PassState, IsHistory, Makes}
 use Rattle.bulk.specs.declared.desk.Desk.{Desk}

@@ -8,7 +8,7 @@ use Rattle.lpm_trace.specs.Tables.{Setup, oldest, tables}
 use Rattle.lpm_trace.specs.Writer.{IsWritten}
 use Rattle.lpm_trace.proofs.Traces.{oldest_all}
 use Rattle.shared_words.specs.Rule.{IsLater}
-use Rattle.shared_deeds.proofs.Deeds.{between, later_trans}
+use Rattle.shared_words.proofs.Deeds.{between, later_trans}
 use Rattle.shared_fib.specs.Running.{Identity, WriterState, IsAtRest, setup, steps_of}
 use Rattle.shared_fib.specs.Versions.{updates_begun, updates_done}
 use Rattle.shared_fib.specs.Passes.{PassState, IsOfVersion, LooksUp}

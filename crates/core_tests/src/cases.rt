@@ -5,8 +5,7 @@
 ghost use Rattle.std.specs.Prelude.{◌≤◌, ◌<◌};
 
 use defer_queue::Reclaimed;
-use fib_model::{Command, Outcome, Report};
-use fib_reference::Account;
+use fib_model::{Account, Command, Outcome, Report};
 use lpm_bits::{Hop, Prefix};
 use lpm_rules::Put;
 use qsbr::{Busy, Config, Refusal};

@@ -1,7 +1,7 @@
 #[test]
 fn laws_of_intervals_are_called() {
-    reader_intervals::laws::runs_after_one_more::<u32>();
-    reader_intervals::laws::grace_period_is_over::<u32>();
+    qsbr::intervals::runs_after_one_more::<u32>();
+    qsbr::intervals::grace_period_is_over::<u32>();
 }
 
 #[test]

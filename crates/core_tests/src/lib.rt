@@ -1,5 +1,5 @@
 //! The tests of `fib`, and of the definitions and the slow program that it is compared with (`fib_model`,
-//! `fib_reference`, `reader_intervals`). They call what is public alone, so they stand here: a crate with
+//! `qsbr`). They call what is public alone, so they stand here: a crate with
 //! a test is proved twice.
 #![tactic(auto)]
 

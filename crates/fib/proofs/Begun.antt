@@ -13,7 +13,7 @@ use Rattle.lpm_update.specs.Represents.{Represents}
 use Rattle.lpm_update.specs.Tied.{IsTied, HasGroupRoom}
 use Rattle.qsbr.specs.Counters.{Passes}
 use Rattle.lpm_trace.specs.Tables.{Setup, Status, Unused, Linked as LinkedTo, Retired}
-use Rattle.lpm_memory.specs.declared.plain.PlainMemory.{PlainMemory}
+use Rattle.lpm_writer.specs.declared.plain_memory.PlainMemory.{PlainMemory}
 use Rattle.lpm_writer.specs.declared.ledger.Ledger.{Ledger}
 use Rattle.lpm_writer.specs.declared.books.Books.{Books}
 use Rattle.lpm_writer.specs.Resting.{IsResting}

@@ -13,8 +13,8 @@ use Rattle.lpm_trace.specs.declared.step.WriterStep.{WriterStep}
 use Rattle.lpm_trace.specs.declared.step.WriterStep.TheVariants.{StoreFirst, StoreSecond, Opens, Closes, BumpToken, LoadCounter}
 use Rattle.lpm_trace.specs.Tables.{Setup, tables, lets_pass}
 use Rattle.lpm_trace.specs.Writer.{IsWritten}
-use Rattle.lpm_memory.specs.declared.plain.PlainMemory.{PlainMemory}
-use Rattle.lpm_memory.specs.Plain.{PlainDoes}
+use Rattle.lpm_writer.specs.declared.plain_memory.PlainMemory.{PlainMemory}
+use Rattle.lpm_writer.specs.Plain.{PlainDoes}
 use Rattle.lpm_writer.specs.Traced.{Traced, Goes, Loads, Checks, Stores, UnlinksNone, by_writer}
 
 -- ---- counters and tokens

@@ -18,7 +18,7 @@ use Rattle.lpm_sweep.specs.Swept.{AreNumbered}
 use Rattle.lpm_sweep.proofs.Room.{room_grown}
 use Rattle.lpm_sweep.proofs.Numbered.{tied}
 use Rattle.qsbr.specs.Registry.{Registry}
-use Rattle.lpm_memory.specs.declared.plain.PlainMemory.{PlainMemory}
+use Rattle.lpm_writer.specs.declared.plain_memory.PlainMemory.{PlainMemory}
 use Rattle.lpm_writer.specs.declared.ledger.Ledger.{Ledger}
 use Rattle.lpm_writer.specs.declared.books.Books.{Books}
 use Rattle.fib.specs.Fib.{IsSound}

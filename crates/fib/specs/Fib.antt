@@ -11,8 +11,8 @@ use Rattle.fib_model.specs.Counting.{by_counters, opened}
 use Rattle.fib_model.specs.State.{State}
 use Rattle.lpm_trace.specs.declared.step.WriterStep.{WriterStep}
 use Rattle.lpm_trace.specs.Tables.{Setup, tables}
-use Rattle.lpm_memory.specs.declared.plain.PlainMemory.{PlainMemory}
-use Rattle.lpm_memory.specs.Plain.{PlainDid}
+use Rattle.lpm_writer.specs.declared.plain_memory.PlainMemory.{PlainMemory}
+use Rattle.lpm_writer.specs.Plain.{PlainDid}
 use Rattle.lpm_writer.specs.declared.ledger.Ledger.{Ledger}
 use Rattle.lpm_writer.specs.Resting.{IsResting, state_of}
 

@@ -3,8 +3,8 @@
 ghost use Rattle.std.specs.Prelude.{◌≡◌, ℕ, ◌-◌, ◌*◌, ◌^◌, ◌<◌, ◌≤◌, ◌⊎◌, [], ◌++◌, IfOk, IfSome, IsNone, length, map, replicate};
 ghost use Rattle.std.specs.FinMap as map;
 ghost use Rattle.lpm_bits.specs.Widths.{IsShape};
-ghost use Rattle.lpm_entry.specs.declared.Entry.TheVariants.{Miss};
-ghost use Rattle.lpm_entry.specs.Words.{word_of};
+ghost use Rattle.lpm_cells.specs.declared.entry.Entry.TheVariants.{Miss};
+ghost use Rattle.lpm_cells.specs.Words.{word_of};
 ghost use Rattle.lpm_cells.specs.Table.{IsWords};
 ghost use Rattle.lpm_groups.specs.declared.GroupState.TheVariants.{Free, Linked};
 ghost use Rattle.lpm_limits.specs.Limits.{IsConfig};
@@ -17,13 +17,11 @@ ghost use Rattle.fib_model.specs.Counting.{opened};
 ghost use Rattle.fib.specs.Fib.{IsSound, table_of};
 
 use defer_queue::DeferQueue;
-use lpm_cells::PlainCells;
-use lpm_entry::Entry;
+use lpm_cells::{Entry, PlainCells};
 use lpm_groups::Groups;
-use lpm_memory::PlainMemory;
 use lpm_rules::{Rule, Rules, count_rules};
 use lpm_sweep::{Swept, sweep};
-use lpm_writer::{Books, Ledger};
+use lpm_writer::{Books, Ledger, PlainMemory};
 use qsbr::{Config, Domain};
 use std::alloc::{AllocError, Global};
 

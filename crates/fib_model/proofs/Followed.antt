@@ -10,7 +10,7 @@ use Rattle.fib_model.specs.declared.command.Outcome.TheVariants as outcome
 use Rattle.fib_model.specs.declared.command.Report.{Report}
 use Rattle.fib_model.specs.declared.command.Report.TheVariants as kinds
 use Rattle.fib_model.specs.declared.event.Event.{Event}
-use Rattle.reader_intervals.specs.Intervals.{IsRunningSince}
+use Rattle.qsbr.specs.Intervals.{IsRunningSince}
 use Rattle.fib_model.specs.Intervals.{by_reports}
 use Rattle.fib_model.specs.State.{State}
 use Rattle.fib_model.specs.Outcomes.{MayReport, Reports, Does, Log, Runs}

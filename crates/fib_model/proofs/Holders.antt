@@ -11,11 +11,11 @@ use Rattle.fib_model.specs.declared.command.Report.{Report}
 use Rattle.fib_model.specs.declared.command.Report.TheVariants as kinds
 use Rattle.fib_model.specs.declared.event.Event.{Event}
 use Rattle.fib_model.specs.declared.event.Event.TheVariants.{Online, Offline, Quiescent, Unlinking}
-use Rattle.reader_intervals.specs.Places.{event_at}
-use Rattle.reader_intervals.specs.Intervals.{IsRunningSince, IsHeldByWorker}
+use Rattle.qsbr.specs.Places.{event_at}
+use Rattle.qsbr.specs.Intervals.{IsRunningSince, IsHeldByWorker}
 use Rattle.fib_model.specs.Intervals.{begins, ends, by_reports, is_unlinking, unlinkings_before, unlinkings}
-use Rattle.reader_intervals.proofs.Places.{at_new, at_old, at_within, before_mono, before_old, before_next, count_more, count_same}
-use Rattle.reader_intervals.proofs.Running.{since_within, since_new, since_kept, since_cases, held_start, start_held}
+use Rattle.qsbr.proofs.Places.{at_new, at_old, at_within, before_mono, before_old, before_next, count_more, count_same}
+use Rattle.qsbr.proofs.Running.{since_within, since_new, since_kept, since_cases, held_start, start_held}
 use Rattle.fib_model.specs.Counting.{by_counters, counter_of, opened}
 use Rattle.fib_model.specs.Textbook.{event_of}
 use Rattle.fib_model.proofs.Frozen.{IsUnheld, counted, listed}

@@ -12,3 +12,6 @@ pub mod TidyRuns
 pub mod Unheld
 pub mod Unique
 pub mod Same
+pub mod Scans
+pub mod Fronts
+pub mod Pushed

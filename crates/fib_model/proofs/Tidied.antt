@@ -5,9 +5,9 @@ use Rattle.fib_model.specs.declared.event.Event.{Event}
 use Rattle.fib_model.specs.declared.event.Event.TheVariants.{Online, Offline, Quiescent, Unlinking}
 use Rattle.fib_model.specs.declared.command.Report.{Report}
 use Rattle.fib_model.specs.declared.command.Report.TheVariants as kinds
-use Rattle.reader_intervals.specs.Intervals.{IsRunningSince, IsTidy}
+use Rattle.qsbr.specs.Intervals.{IsRunningSince, IsTidy}
 use Rattle.fib_model.specs.Intervals.{by_reports}
-use Rattle.reader_intervals.proofs.Running.{tidy_more}
+use Rattle.qsbr.proofs.Running.{tidy_more}
 use Rattle.fib_model.specs.Textbook.{event_of}
 
 pub tidy_unlinked : (workers : ℕ) (E : List Event) → IsTidy by_reports workers E → IsTidy by_reports workers (Unlinking ∷ E)

@@ -15,7 +15,7 @@ use Rattle.fib_model.specs.declared.event.Event.{Event}
 use Rattle.fib_model.specs.State.{State}
 use Rattle.fib_model.specs.Outcomes.{Reports, Does, Log, Runs}
 use Rattle.fib_model.specs.Textbook.{by_intervals, beginning}
-use Rattle.reader_intervals.specs.Intervals.{IsTidy}
+use Rattle.qsbr.specs.Intervals.{IsTidy}
 use Rattle.fib_model.specs.Intervals.{by_reports}
 use Rattle.fib_model.proofs.Tidied.{tidy_unlinked, tidy_told}
 use Rattle.fib_model.proofs.Followed.{fresh}

@@ -4,9 +4,9 @@ use Rattle.std.proofs.lemmas.Bool.{cases_lt}
 use Rattle.lpm_limits.specs.declared.busy.Busy.{Busy}
 use Rattle.lpm_limits.specs.declared.config.Config.{Config}
 use Rattle.fib_model.specs.declared.event.Event.{Event}
-use Rattle.reader_intervals.specs.Intervals.{IsRunningSince, IsHeldByWorker, IsTidy}
+use Rattle.qsbr.specs.Intervals.{IsRunningSince, IsHeldByWorker, IsTidy}
 use Rattle.fib_model.specs.Intervals.{by_reports, unlinkings_before}
-use Rattle.reader_intervals.proofs.Running.{held_start}
+use Rattle.qsbr.proofs.Running.{held_start}
 use Rattle.fib_model.specs.Textbook.{IsFirstHolder}
 use Rattle.fib_model.proofs.Frozen.{IsUnheld, listed}
 use Rattle.fib_model.specs.Laws.{UnheldByNone}

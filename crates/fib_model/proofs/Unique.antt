@@ -7,9 +7,9 @@ use Rattle.lpm_limits.specs.declared.busy.Busy.{Busy}
 use Rattle.lpm_limits.specs.declared.config.Config.{Config}
 use Rattle.fib_model.specs.declared.event.Event.{Event}
 use Rattle.fib_model.specs.declared.event.Event.TheVariants.{Unlinking}
-use Rattle.reader_intervals.specs.Intervals.{IsRunningSince}
+use Rattle.qsbr.specs.Intervals.{IsRunningSince}
 use Rattle.fib_model.specs.Intervals.{by_reports}
-use Rattle.reader_intervals.proofs.Running.{held_start}
+use Rattle.qsbr.proofs.Running.{held_start}
 use Rattle.fib_model.specs.Textbook.{IsFirstHolder}
 use Rattle.fib_model.proofs.Frozen.{IsUnheld, Reclaims, MakesRoom, Unlinks, listed}
 

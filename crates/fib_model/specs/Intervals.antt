@@ -2,8 +2,8 @@
 -- (DPDK Programmer's Guide, "RCU Library": a reader comes online, reports quiescent states and goes
 -- offline; this project's otherwise).
 use Rattle.std.specs.Prelude.{ℕ, ◌==◌, Bool, true, false, List, length}
-use Rattle.reader_intervals.specs.Intervals.{Reporting}
-use Rattle.reader_intervals.specs.Places.{count_before}
+use Rattle.qsbr.specs.Intervals.{Reporting}
+use Rattle.qsbr.specs.Places.{count_before}
 use Rattle.fib_model.specs.declared.event.Event.{Event}
 use Rattle.fib_model.specs.declared.event.Event.TheVariants.{Online, Offline, Quiescent, Unlinking}
 

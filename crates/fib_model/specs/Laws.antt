@@ -7,7 +7,7 @@ use Rattle.lpm_limits.specs.Limits.{IsConfig}
 use Rattle.qsbr.specs.Registry.{Registry}
 use Rattle.fib_model.specs.declared.command.Outcome.TheVariants.{Refused}
 use Rattle.fib_model.specs.declared.event.Event.{Event}
-use Rattle.reader_intervals.specs.Intervals.{IsHeldByWorker}
+use Rattle.qsbr.specs.Intervals.{IsHeldByWorker}
 use Rattle.fib_model.specs.Intervals.{by_reports}
 use Rattle.fib_model.specs.State.{State}
 use Rattle.fib_model.specs.Outcomes.{Log, Runs}

@@ -6,3 +6,4 @@ pub mod Intervals
 pub mod Textbook
 pub mod History
 pub mod Laws
+pub mod Expected

@@ -8,7 +8,7 @@ use Rattle.fib_model.specs.declared.command.Report.{Report}
 use Rattle.fib_model.specs.declared.command.Report.TheVariants as report
 use Rattle.fib_model.specs.declared.event.Event.{Event}
 use Rattle.fib_model.specs.declared.event.Event.TheVariants.{Online, Offline, Quiescent, Unlinking}
-use Rattle.reader_intervals.specs.Intervals.{IsRunningSince, IsHeldByWorker}
+use Rattle.qsbr.specs.Intervals.{IsRunningSince, IsHeldByWorker}
 use Rattle.fib_model.specs.Intervals.{by_reports, unlinkings_before, unlinkings}
 use Rattle.fib_model.specs.State.{State, Transitions, Keeping, looks}
 

@@ -1,11 +1,21 @@
 //! What a table of one thread does, command by command, in the words of the standard: the order of
 //! checks, what waits in limbo and for whom, and which versions there were. The table itself is the
-//! crate `fib`, and a slow program that computes the same outcomes is the crate `fib_reference`.
+//! crate `fib`.
+//!
+//! `expected` is a slow program that computes the same outcomes. It keeps the list of all events, and
+//! goes over that list for each question. The tests of the table compare its outcomes with these, and
+//! both with cases that were worked out by hand.
 #![tactic(auto)]
 
 mod command;
 mod event;
+mod intervals;
 pub mod laws;
+mod outcomes;
+mod plain;
+mod waiting;
 
 pub use command::{Command, Outcome, Report};
 pub use event::Event;
+pub use outcomes::expected;
+pub use plain::Account;

@@ -8,9 +8,9 @@ use Rattle.lpm_trace.specs.declared.kind.Actor.{Actor}
 use Rattle.lpm_trace.specs.declared.kind.Deed.{Deed}
 use Rattle.lpm_trace.specs.declared.step.WriterStep.{WriterStep}
 use Rattle.lpm_trace.specs.Trace.{writes}
-use Rattle.world_memory.specs.Schedule.{HasEnded, IsScheduled, writer_items}
-use Rattle.world_memory.specs.View.{script_at}
-use Rattle.world_memory.specs.World.{IsOpening, IsPlayedOut}
+use Rattle.interleave.specs.Schedule.{HasEnded, IsScheduled, writer_items}
+use Rattle.interleave.specs.View.{script_at}
+use Rattle.interleave.specs.World.{IsOpening, IsPlayedOut}
 use Rattle.lpm_writer.specs.Opening.{opening_setup}
 use Rattle.interleave.specs.declared.trace.Trace.{Trace}
 use Rattle.interleave.specs.Replies.{Kept}

@@ -10,15 +10,15 @@ use Rattle.lpm_trace.specs.Laws.{at_moment, by_steps, rules_of_version, Unlinks,
 use Rattle.lpm_trace.proofs.Traces.{tables_of, history_at}
 use Rattle.lpm_trace.proofs.Moments.{count, writes_oldest}
 use Rattle.lpm_trace.proofs.Promises.{lookups_are_legal, versions_never_fall, reuse_is_lawful, rest_answers}
-use Rattle.reader_intervals.specs.Intervals.{Interval, IsReaderInterval, Holds}
+use Rattle.qsbr.specs.Intervals.{Interval, IsReaderInterval, Holds}
 use Rattle.lpm_writer.specs.Opening.{opening_setup}
 use Rattle.lpm_writer.proofs.Opened.{settled}
-use Rattle.world_memory.specs.Runs.{seen_of}
-use Rattle.world_memory.proofs.Seeing.{seen_finished}
+use Rattle.interleave.specs.Record.{seen_of}
+use Rattle.interleave.proofs.Seeing.{seen_finished}
 use Rattle.interleave.specs.Laws.{TracesAreLawful}
-use Rattle.update_laws.proofs.Promises.{blank}
+use Rattle.lpm_update.proofs.Promises.{blank}
 use Rattle.lpm_rules.specs.declared.Change.{Change}
-use Rattle.world_memory.specs.Schedule.{writer_items}
+use Rattle.interleave.specs.Schedule.{writer_items}
 use Rattle.interleave.specs.declared.reply.Reply.{Reply}
 use Rattle.interleave.specs.Replies.{Kept, IsAtRest}
 use Rattle.interleave.specs.Runs.{HaveComeOut, OpeningsAreSettled, RunsAreLawful, opening_kept}

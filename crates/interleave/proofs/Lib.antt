@@ -4,3 +4,17 @@ pub mod Performing
 pub mod Settings
 pub mod ScriptAnswers
 pub mod Ends
+pub mod Timeless
+pub mod Items
+pub mod Turning
+pub mod Writing
+pub mod Inside
+pub mod Reaching
+pub mod Beginning
+pub mod Stepping
+pub mod Seeing
+pub mod Probes
+pub mod Deeds
+pub mod Lookups
+pub mod Ranges
+pub mod Steps

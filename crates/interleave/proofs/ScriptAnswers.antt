@@ -8,9 +8,9 @@ use Rattle.lpm_trace.specs.Tables.{Setup, tables}
 use Rattle.lpm_writer.specs.declared.ledger.Ledger.{Ledger}
 use Rattle.lpm_writer.specs.Resting.{IsResting}
 use Rattle.lpm_writer.proofs.Keeping.{is_limbo}
-use Rattle.world_memory.specs.Schedule.{writer_items}
-use Rattle.world_memory.specs.View.{WorldView}
-use Rattle.world_memory.specs.World.{WorldDid, Reaches, setting}
+use Rattle.interleave.specs.Schedule.{writer_items}
+use Rattle.interleave.specs.View.{WorldView}
+use Rattle.interleave.specs.World.{WorldDid, Reaches, setting}
 use Rattle.interleave.specs.declared.reply.Reply.{Reply}
 use Rattle.interleave.specs.Replies.{Kept, HasTokensLeft, Waits, Answers, IsAtRest, kept}
 use Rattle.interleave.specs.Runs.{IsPerformed}

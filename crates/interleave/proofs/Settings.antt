@@ -3,8 +3,8 @@ use Rattle.std.proofs.Common.{◌≡◌, ℕ, List}
 use Rattle.lpm_trace.specs.declared.kind.Actor.{Actor}
 use Rattle.lpm_trace.specs.declared.kind.Deed.{Deed}
 use Rattle.lpm_trace.specs.declared.step.WriterStep.{WriterStep}
-use Rattle.world_memory.specs.View.{WorldView}
-use Rattle.world_memory.specs.World.{WorldDoes, setting}
+use Rattle.interleave.specs.View.{WorldView}
+use Rattle.interleave.specs.World.{WorldDoes, setting}
 
 abbrev pub does_in : ℕ → ℕ → WorldView → WriterStep → WorldView → Type 0
 does_in first second m s z = WorldDoes first second s m z

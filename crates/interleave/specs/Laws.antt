@@ -3,7 +3,7 @@
 -- Library": memory is used again after a grace period alone; that an update makes one version is this
 -- project's). Each section says where the definitions stand that it rests on.
 use Rattle.std.specs.Prelude.{ℕ, ◌≡◌, ◌<◌, ◌≤◌, All, List, ◌∷◌, ◌++◌, length}
-use Rattle.reader_intervals.specs.Intervals.{Interval, IsReaderInterval, Holds}
+use Rattle.qsbr.specs.Intervals.{Interval, IsReaderInterval, Holds}
 use Rattle.lpm_trace.specs.declared.step.WriterStep.{WriterStep}
 use Rattle.lpm_trace.specs.declared.step.TraceStep.{TraceStep}
 use Rattle.lpm_trace.specs.declared.step.TraceStep.TheVariants.{Writer}

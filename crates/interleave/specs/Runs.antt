@@ -14,10 +14,10 @@ use Rattle.lpm_trace.specs.declared.step.TraceStep.{TraceStep}
 use Rattle.lpm_trace.specs.declared.step.TraceStep.TheVariants.{Writer}
 use Rattle.lpm_trace.specs.Tables.{Setup, IsSettled}
 use Rattle.lpm_trace.specs.Trace.{IsTrace, writes, worker_of}
-use Rattle.world_workers.specs.declared.seen.Seen.{Seen}
-use Rattle.world_workers.specs.Shown.{seen_by}
-use Rattle.world_memory.specs.Runs.{all_shown, all_seen, seen_of}
-use Rattle.world_memory.specs.Schedule.{HasEnded, IsScheduled, AreScripted, writer_items}
+use Rattle.interleave.specs.declared.seen.Seen.{Seen}
+use Rattle.interleave.specs.Shown.{seen_by}
+use Rattle.interleave.specs.Record.{all_shown, all_seen, seen_of}
+use Rattle.interleave.specs.Schedule.{HasEnded, IsScheduled, AreScripted, writer_items}
 use Rattle.lpm_writer.specs.Opening.{opening_setup}
 use Rattle.interleave.specs.declared.reply.Reply.{Reply}
 use Rattle.interleave.specs.declared.trace.Trace.{Trace}

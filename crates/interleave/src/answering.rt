@@ -5,19 +5,19 @@ ghost use Rattle.lpm_trace.specs.declared.step.WriterStep.{WriterStep};
 ghost use Rattle.lpm_trace.specs.Tables.{Setup};
 ghost use Rattle.lpm_writer.specs.Resting.{IsResting};
 ghost use Rattle.lpm_rules.specs.declared.Change.TheVariants.{Synchronize};
-ghost use Rattle.world_memory.specs.Schedule.{writer_items};
-ghost use Rattle.world_memory.specs.World.{WorldDid, setting};
+ghost use Rattle.interleave.specs.Schedule.{writer_items};
+ghost use Rattle.interleave.specs.World.{WorldDid, setting};
 ghost use Rattle.interleave.specs.declared.run_error.RunError.TheVariants.{Memory as IsMemory};
 ghost use Rattle.interleave.specs.Replies.{HasTokensLeft, Waits, Answers, kept};
 ghost use Rattle.interleave.specs.Runs.{IsPerformed};
 
 use super::synchronizing::synchronize;
 use super::{Reply, RunError};
+use crate::WorldMemory;
 use lpm_rules::Change;
 use lpm_writer::{Ledger, add, delete, flush, reclaim};
 use qsbr::Refusal;
 use std::alloc::Global;
-use world_memory::WorldMemory;
 
 /// Makes a change, and returns its reply; none where it is a synchronize of which a worker has stopped
 /// so many checks. The error is that an add found no room.

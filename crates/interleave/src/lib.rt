@@ -3,16 +3,28 @@
 
 mod answering;
 pub mod laws;
+mod memory;
+mod opening;
+mod probe;
 mod reply;
 mod run_error;
+mod script;
+mod seen;
+mod shared;
 mod synchronizing;
 mod trace;
+mod worker;
 mod world;
+mod world_memory;
 
 pub use lpm_rules::Change;
 pub use lpm_trace::{Actor, Deed, Kind, Step};
 pub use reply::Reply;
 pub use run_error::RunError;
+pub use script::script_ok;
+pub use seen::Seen;
+use shared::Shared;
 pub use trace::Trace;
+use worker::Worker;
 pub use world::World;
-pub use world_workers::{Seen, script_ok};
+use world_memory::WorldMemory;

@@ -5,13 +5,13 @@ ghost use Rattle.lpm_trace.specs.declared.step.WriterStep.{WriterStep};
 ghost use Rattle.lpm_trace.specs.Tables.{Setup};
 ghost use Rattle.lpm_writer.specs.Resting.{IsResting};
 ghost use Rattle.lpm_rules.specs.declared.Change.TheVariants.{Synchronize};
-ghost use Rattle.world_memory.specs.World.{WorldDid, setting};
+ghost use Rattle.interleave.specs.World.{WorldDid, setting};
 ghost use Rattle.interleave.specs.Replies.{HasTokensLeft, Waits, Answers, kept};
 
 use super::Reply;
+use crate::WorldMemory;
 use lpm_writer::{Exhausted, Ledger, check_synchronize, start_synchronize};
 use qsbr::Refusal;
-use world_memory::WorldMemory;
 
 /// Starts a token and checks it, at most so many times, until its check passes. No reply where a worker
 /// stopped each of these checks.

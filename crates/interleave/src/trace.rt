@@ -1,8 +1,8 @@
 //! What a run shows.
 
 use super::Reply;
+use crate::Seen;
 use lpm_trace::Step;
-use world_workers::Seen;
 
 /// What a run shows. A change without a reply, and what comes after it in the writer's script, needed
 /// more steps than the schedule has items for the writer.

@@ -4,21 +4,21 @@ ghost use Rattle.std.specs.Prelude.{◌≡◌, ℕ, ◌+◌, ◌^◌, ◌↔◌,
 ghost use Rattle.std.specs.FinMap.{empty};
 ghost use Rattle.lpm_bits.specs.Widths.{IsShape};
 ghost use Rattle.lpm_limits.specs.Limits.{IsConfig};
-ghost use Rattle.world_workers.specs.Scripts.{IsSound};
+ghost use Rattle.interleave.specs.Scripts.{IsSound};
 ghost use Rattle.lpm_writer.specs.Opening.{opening_setup};
 ghost use Rattle.lpm_writer.specs.Resting.{IsResting};
-ghost use Rattle.world_memory.specs.View.{script_at};
+ghost use Rattle.interleave.specs.View.{script_at};
 ghost use Rattle.interleave.specs.declared.run_error.RunError.TheVariants.{BadConfig as IsBadConfig, Memory as IsMemory};
 ghost use Rattle.interleave.specs.Runs.{IsRun};
 
 use super::answering::answer_all;
 use super::{RunError, Trace};
+use crate::WorldMemory;
 use lpm_rules::Change;
 use lpm_trace::{Actor, Deed};
 use lpm_writer::Ledger;
 use qsbr::Config;
 use std::alloc::Global;
-use world_memory::WorldMemory;
 
 /// The pure world of a table whose addresses have `FIRST` and `SECOND` bits: no threads, and each step
 /// where the schedule says.

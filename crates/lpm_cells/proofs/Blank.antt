@@ -1,8 +1,8 @@
 use Rattle.std.proofs.Common.{arith, ◌≡◌, ℕ, ◌+◌, ◌^◌, ◌<◌, length, get_or, refl, ap, sym, ◌∙◌, subst}
 use Rattle.std.specs.Prelude.{replicate, List}
 use Rattle.std.proofs.lemmas.List.{get_or-replicate, length-replicate}
-use Rattle.lpm_entry.proofs.Reading.{entry_in_zero}
-use Rattle.lpm_entry.specs.Words.{IsLastWord}
+use Rattle.lpm_cells.proofs.Reading.{entry_in_zero}
+use Rattle.lpm_cells.specs.Words.{IsLastWord}
 use Rattle.lpm_cells.specs.Table.{IsWords, IsFirstWord}
 
 zero_first : (w s : ℕ) (seconds : List ℕ) → IsFirstWord w s seconds 0

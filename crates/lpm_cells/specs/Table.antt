@@ -2,9 +2,9 @@
 -- section 3: a lookup reads the first table at the address's first bits, and where it finds a
 -- group there, the group's entry at the last bits).
 use Rattle.std.specs.Prelude.{ℕ, ◌≡◌, ◌+◌, ◌*◌, ◌/◌, ◌%◌, ◌^◌, ◌≤◌, ◌<◌, List, length, slice_index, slice_set}
-use Rattle.lpm_entry.specs.Words.{IsWord, IsLastWord, entry_in}
-use Rattle.lpm_entry.specs.declared.Entry.{Entry}
-use Rattle.lpm_entry.specs.declared.Entry.TheVariants.{Miss, Hop, Group}
+use Rattle.lpm_cells.specs.Words.{IsWord, IsLastWord, entry_in}
+use Rattle.lpm_cells.specs.declared.entry.Entry.{Entry}
+use Rattle.lpm_cells.specs.declared.entry.Entry.TheVariants.{Miss, Hop, Group}
 
 -- the words of a table: those of the first table, and those of the groups one behind the other
 pub record Words : Type 0 where

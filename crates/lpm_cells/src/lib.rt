@@ -4,11 +4,13 @@
 //! `2^SECOND` words of the second list from `g * 2^SECOND` on.
 #![tactic(auto)]
 
+mod entry;
 mod plain;
 
 ghost use Rattle.std.specs.Prelude.{◌≡◌, ℕ, ◌<◌, length, slice_index};
 ghost use Rattle.lpm_cells.specs.Table.{Words, with_first, with_second};
 
+pub use entry::Entry;
 pub use plain::PlainCells;
 
 /// The words of a table. One writer loads and stores them, one word at a time.

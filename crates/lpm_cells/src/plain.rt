@@ -3,12 +3,12 @@
 ghost use Rattle.std.specs.Prelude.{◌≡◌, ℕ, ◌+◌, ◌*◌, ◌^◌, ◌<◌, ◌≤◌, ◌↔◌, length, slice_index, replicate, IfOk, IsTrue};
 ghost use Rattle.lpm_bits.specs.Widths.{IsShape};
 ghost use Rattle.lpm_cells.specs.Table.{IsFirstWord, IsWords, entry_at, with_first, with_second};
-ghost use Rattle.lpm_entry.specs.Words.{IsLastWord, entry_in, hop_in, word_of};
-ghost use Rattle.lpm_entry.specs.declared.Entry.TheVariants.{Group, Miss};
+ghost use Rattle.lpm_cells.specs.Words.{IsLastWord, entry_in, hop_in, word_of};
+ghost use Rattle.lpm_cells.specs.declared.entry.Entry.TheVariants.{Group, Miss};
 
 use super::Cells;
+use crate::Entry;
 use lpm_bits::{Hop, Shape};
-use lpm_entry::Entry;
 use std::alloc::{AllocError, Global};
 use std::marker::Model;
 

@@ -5,7 +5,7 @@ use Rattle.lpm_limits.specs.declared.config.Config.{Config}
 use Rattle.lpm_cells.specs.Table.{Words}
 use Rattle.lpm_rules.specs.RuleMap.{RuleMap}
 use Rattle.lpm_rules.specs.declared.Rule.{Rule}
-use Rattle.lpm_memory.specs.declared.plain.PlainMemory.{PlainMemory}
+use Rattle.lpm_writer.specs.declared.plain_memory.PlainMemory.{PlainMemory}
 use Rattle.lpm_update.specs.Represents.{Represents}
 use Rattle.lpm_writer.specs.declared.ledger.Ledger.{Ledger}
 use Rattle.qsbr.specs.Registry.{Registry}

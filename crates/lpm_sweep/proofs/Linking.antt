@@ -8,8 +8,8 @@ use Rattle.std.proofs.lemmas.List.{get_or_append_left}
 use Rattle.std.proofs.lemmas.Option.{slice_get-get_or, slice_get_within}
 use Rattle.std.proofs.Math.Seq.{get_or-append_seam}
 use Rattle.std.proofs.Math.Nat.{mul-le-mul_right}
-use Rattle.lpm_entry.specs.declared.Entry.TheVariants.{Group}
-use Rattle.lpm_entry.specs.Words.{IsLastWord, word_of, entry_in, group_in}
+use Rattle.lpm_cells.specs.declared.entry.Entry.TheVariants.{Group}
+use Rattle.lpm_cells.specs.Words.{IsLastWord, word_of, entry_in, group_in}
 use Rattle.lpm_cells.specs.Table.{IsFirst, IsFirstWord, HasRoom, followed, entry_at}
 use Rattle.lpm_rules.specs.RuleMap.{RuleMap}
 use Rattle.lpm_rules.specs.Deep.{IsDeepBlock}

@@ -1,8 +1,8 @@
 -- This layer's own: a group that is filled upwards, for the rules of one block that are longer than
 -- FIRST bits.
 use Rattle.std.specs.Prelude.{ℕ, ◌≢◌, ◌+◌, ◌*◌, ◌/◌, ◌^◌, ◌<◌, ◌≤◌, List, length, slice_index}
-use Rattle.lpm_entry.specs.Words.{IsLastWord, entry_in}
-use Rattle.lpm_entry.specs.declared.Entry.{Entry}
+use Rattle.lpm_cells.specs.Words.{IsLastWord, entry_in}
+use Rattle.lpm_cells.specs.declared.entry.Entry.{Entry}
 use Rattle.lpm_rules.specs.RuleMap.{RuleMap, AllNetworks}
 use Rattle.lpm_rules.specs.Deep.{IsDeepBlock}
 use Rattle.lpm_update.specs.Best.{IsBest}

@@ -6,8 +6,8 @@ use Rattle.lpm_bits.specs.Network.{Network}
 use Rattle.lpm_rules.specs.RuleMap.{RuleMap}
 use Rattle.lpm_rules.specs.Listed.{place}
 use Rattle.lpm_groups.specs.declared.GroupState.TheVariants.{Free, Linked}
-use Rattle.lpm_entry.specs.declared.Entry.TheVariants.{Miss}
-use Rattle.lpm_entry.specs.Words.{word_of}
+use Rattle.lpm_cells.specs.declared.entry.Entry.TheVariants.{Miss}
+use Rattle.lpm_cells.specs.Words.{word_of}
 use Rattle.lpm_update.specs.Represents.{Represents}
 use Rattle.lpm_update.specs.Linked.{group_at}
 use Rattle.lpm_update.specs.Tied.{IsTied}

@@ -1,6 +1,6 @@
 -- This layer's own: the words of the first blocks, for the rules that begin in them or before.
 use Rattle.std.specs.Prelude.{ℕ, ◌≡◌, ◌+◌, ◌*◌, ◌/◌, ◌^◌, ◌<◌, ◌≤◌, ◌↔◌, IsSome, Some, List, length, slice_index, slice_get}
-use Rattle.lpm_entry.specs.Words.{IsLastWord, entry_in}
+use Rattle.lpm_cells.specs.Words.{IsLastWord, entry_in}
 use Rattle.lpm_cells.specs.Table.{Words, IsFirstWord, entry_at}
 use Rattle.lpm_rules.specs.RuleMap.{RuleMap, AllNetworks}
 use Rattle.lpm_rules.specs.Deep.{IsDeepBlock}

@@ -3,8 +3,8 @@
 ghost use Rattle.std.specs.Prelude.{◌≡◌, ℕ, ◌+◌, ◌*◌, ◌/◌, ◌%◌, ◌^◌, ◌<◌, ◌≤◌, length, slice_index, take, IfOk, OnOk};
 ghost use Rattle.std.specs.FinMap as map;
 ghost use Rattle.lpm_bits.specs.Widths.{IsShape};
-ghost use Rattle.lpm_entry.specs.Words.{word_of};
-ghost use Rattle.lpm_entry.specs.declared.Entry.TheVariants.{Hop as EntryHop};
+ghost use Rattle.lpm_cells.specs.Words.{word_of};
+ghost use Rattle.lpm_cells.specs.declared.entry.Entry.TheVariants.{Hop as EntryHop};
 ghost use Rattle.lpm_rules.specs.RuleMap.{RuleMap};
 ghost use Rattle.lpm_rules.specs.Deep.{IsDeepBlock};
 ghost use Rattle.lpm_sweep.specs.Frames.{held};
@@ -14,7 +14,7 @@ ghost use Rattle.lpm_sweep.specs.Filled.{IsFilling};
 use crate::frames::{Frame, Frames};
 use crate::word_list::WordList;
 use lpm_bits::Shape;
-use lpm_entry::Entry;
+use lpm_cells::Entry;
 use lpm_rules::Rule;
 use std::alloc::AllocError;
 

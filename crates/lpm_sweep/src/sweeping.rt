@@ -15,7 +15,7 @@ use crate::filling::{fill_group, word_of_rule};
 use crate::frames::{Frame, Frames};
 use crate::word_list::WordList;
 use lpm_bits::Shape;
-use lpm_entry::Entry;
+use lpm_cells::Entry;
 use lpm_rules::Rule;
 use std::alloc::{AllocError, Global};
 

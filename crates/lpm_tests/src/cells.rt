@@ -3,8 +3,7 @@ ghost use Rattle.std.specs.Prelude.{◌<◌, length};
 use super::asserting::assert_at;
 use super::sweep::rules_of;
 use lpm_bits::Hop;
-use lpm_cells::{Cells, PlainCells};
-use lpm_entry::Entry;
+use lpm_cells::{Cells, Entry, PlainCells};
 use lpm_rules::Rule;
 use lpm_sweep::{are_in_order, sweep};
 use std::process::Abort;
@@ -53,7 +52,7 @@ fn assert_hops(rt: &impl Abort, cells: &PlainCells<4, 4>) {
 }
 
 #[test]
-#[tactic(auto, unfolding(lpm_entry::specs::Words::entry_in))]
+#[tactic(auto, unfolding(lpm_cells::specs::Words::entry_in))]
 fn reads_one_word_or_two(rt: HostRuntime) -> Result<(), Fail> {
     let mut cells = PlainCells::<4, 4>::new(rt.alloc(), 1)?;
     assert_at(&rt, "second words", cells.seconds(), 16);

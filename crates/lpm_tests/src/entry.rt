@@ -1,6 +1,6 @@
 use super::asserting::assert_at;
 use lpm_bits::{BadHop, Hop};
-use lpm_entry::Entry;
+use lpm_cells::Entry;
 use std::process::Abort;
 use std::test::Fail;
 

@@ -6,7 +6,7 @@ ghost use Rattle.lpm_bits.specs.Widths.{IsShape};
 
 use super::asserting::assert_at;
 use lpm_bits::{Hop, Prefix, Shape};
-use lpm_entry::Entry;
+use lpm_cells::Entry;
 use lpm_rules::{Put, Rule, RuleFault, Rules, count_rules, place_of};
 use lpm_sweep::{MOST_SORTED, Swept, are_in_order, in_order, sweep, sweep_into};
 use std::alloc::Global;

@@ -311,16 +311,16 @@ fn order_under_a_group(rt: HostRuntime) -> Result<(), Fail> {
 
 #[test]
 fn laws_are_called() {
-    update_laws::run_begins();
-    update_laws::run_goes_on();
-    update_laws::run_ends();
-    update_laws::no_word_twice();
-    update_laws::next_store();
-    update_laws::answers_turn_once();
-    update_laws::best_is_longest();
-    update_laws::blank_represents();
-    update_laws::linked_are_deep();
-    update_laws::tied_same();
-    update_laws::tied_gone();
-    update_laws::tied_taken();
+    lpm_update::run_begins();
+    lpm_update::run_goes_on();
+    lpm_update::run_ends();
+    lpm_update::no_word_twice();
+    lpm_update::next_store();
+    lpm_update::answers_turn_once();
+    lpm_update::best_is_longest();
+    lpm_update::blank_represents();
+    lpm_update::linked_are_deep();
+    lpm_update::tied_same();
+    lpm_update::tied_gone();
+    lpm_update::tied_taken();
 }

@@ -2,8 +2,8 @@
 -- answered x to the address a, and lo updates were done. Hi t hi: then hi updates or fewer were begun.
 use Rattle.std.proofs.Common.{◌≡◌, ℕ, ◌+◌, ◌*◌, ◌/◌, ◌%◌, ◌^◌, ◌<◌, ◌≤◌, ◌⊎◌, List, [], slice_index, Option, arith}
 use Rattle.std.specs.Bool.{⊤}
-use Rattle.lpm_entry.specs.declared.Entry.TheVariants.{Group}
-use Rattle.lpm_entry.specs.Words.{entry_in, hop_in}
+use Rattle.lpm_cells.specs.declared.entry.Entry.TheVariants.{Group}
+use Rattle.lpm_cells.specs.Words.{entry_in, hop_in}
 use Rattle.lpm_trace.specs.Tables.{Setup, Tables, Status, Unused, Linked, Retired, addresses, answer, done, begun, first_entry}
 use Rattle.lpm_trace.specs.Workers.{Worker, Phase, Offline, ComingOnline, Online, LookingUp, ReportingQuiescent, Probe, Unread, InGroup, Answered, Seen, IsRunning}
 use Rattle.lpm_trace.proofs.Basics.{Each, each_map}

@@ -2,9 +2,9 @@
 -- store into it.
 use Rattle.std.proofs.Common.{◌≡◌, ℕ, suc, ◌/◌, ◌^◌, ◌≤◌, inl, inr, true, false, cond, eqb, eq-eqb, IsTrue, List, [], ◌∷◌, ◌++◌, length, refl, sym, ap, subst, ◌∙◌, append_assoc, length-append, arith}
 use Rattle.std.proofs.lemmas.Bool.Decides.{eqb_tells}
-use Rattle.reader_intervals.specs.Intervals.{Interval, IsReaderInterval, Holds, IsRunningSince, IsHeldByWorker}
-use Rattle.reader_intervals.proofs.Running.{since_within, since_cases, held_start}
-use Rattle.reader_intervals.proofs.Grace.{grace_period_is_over}
+use Rattle.qsbr.specs.Intervals.{Interval, IsReaderInterval, Holds, IsRunningSince, IsHeldByWorker}
+use Rattle.qsbr.proofs.Running.{since_within, since_cases, held_start}
+use Rattle.qsbr.proofs.Grace.{grace_period_is_over}
 use Rattle.lpm_trace.specs.declared.step.WriterStep.{WriterStep}
 use Rattle.lpm_trace.specs.declared.step.WriterStep.TheVariants.{StoreFirst, StoreSecond, Opens, Closes, BumpToken, LoadCounter}
 use Rattle.lpm_trace.specs.declared.step.WorkerStep.{WorkerStep}

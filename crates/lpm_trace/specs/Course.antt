@@ -2,9 +2,9 @@
 -- token is started for what was given up, and a check asks one reader after another; the order
 -- within an update is this project's).
 use Rattle.std.specs.Prelude.{◌≡◌, ℕ, suc, ◌/◌, ◌^◌, ◌<◌, ◌≤◌, ◌⊎◌, ⊤, Bool, true, false, cond, eqb, Option, Some, None}
-use Rattle.lpm_entry.specs.declared.Entry.{Entry}
-use Rattle.lpm_entry.specs.declared.Entry.TheVariants.{Miss, Hop, Group}
-use Rattle.lpm_entry.specs.Words.{entry_in, group_in}
+use Rattle.lpm_cells.specs.declared.entry.Entry.{Entry}
+use Rattle.lpm_cells.specs.declared.entry.Entry.TheVariants.{Miss, Hop, Group}
+use Rattle.lpm_cells.specs.Words.{entry_in, group_in}
 use Rattle.lpm_trace.specs.declared.step.WriterStep.{WriterStep}
 use Rattle.lpm_trace.specs.declared.step.WriterStep.TheVariants.{StoreFirst, StoreSecond, Opens, Closes, BumpToken, LoadCounter}
 use Rattle.lpm_trace.specs.Tables.{Setup, Tables, Status, Unused, Linked, Retired, IsUpdating, lets_pass, first_entry}

@@ -3,11 +3,11 @@
 -- project's otherwise).
 use Rattle.std.specs.Prelude.{◌≡◌, ◌≢◌, ℕ, ◌/◌, ◌^◌, ◌<◌, ◌≤◌, ◌↔◌, ⊤, eqb, Bool, true, false, All, List, [], ◌∷◌, ◌++◌, length}
 use Rattle.std.specs.List.{AllPairs}
-use Rattle.lpm_entry.specs.declared.Entry.TheVariants.{Group}
-use Rattle.lpm_entry.specs.Words.{entry_in}
+use Rattle.lpm_cells.specs.declared.entry.Entry.TheVariants.{Group}
+use Rattle.lpm_cells.specs.Words.{entry_in}
 use Rattle.lpm_cells.specs.Table.{IsWords}
 use Rattle.lpm_rules.specs.RuleMap.{RuleMap}
-use Rattle.reader_intervals.specs.Intervals.{Reporting, Interval, IsReaderInterval, Holds}
+use Rattle.qsbr.specs.Intervals.{Reporting, Interval, IsReaderInterval, Holds}
 use Rattle.lpm_trace.specs.declared.step.WriterStep.{WriterStep}
 use Rattle.lpm_trace.specs.declared.step.WriterStep.TheVariants.{StoreFirst, StoreSecond, LoadCounter}
 use Rattle.lpm_trace.specs.declared.step.WorkerStep.{WorkerStep}

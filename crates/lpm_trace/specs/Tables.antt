@@ -4,9 +4,9 @@
 -- any more; "RCU Library": a token for what was given up, and a check of each reader's counter).
 use Rattle.std.specs.Prelude.{◌≡◌, ℕ, suc, ◌+◌, ◌/◌, ◌%◌, ◌^◌, ◌<◌, ◌≤◌, ◌⊎◌, ⊤, Bool, true, false, cond, ◌&&◌, leb, eqb, max, List, [], ◌∷◌, length, slice_index, Option, Some, None}
 use Rattle.std.specs.FinMap.{insert, remove, empty}
-use Rattle.lpm_entry.specs.declared.Entry.{Entry}
-use Rattle.lpm_entry.specs.declared.Entry.TheVariants.{Miss, Hop, Group}
-use Rattle.lpm_entry.specs.Words.{IsLastWord, entry_in, hop_in}
+use Rattle.lpm_cells.specs.declared.entry.Entry.{Entry}
+use Rattle.lpm_cells.specs.declared.entry.Entry.TheVariants.{Miss, Hop, Group}
+use Rattle.lpm_cells.specs.Words.{IsLastWord, entry_in, hop_in}
 use Rattle.lpm_bits.specs.Network.{IsNetwork}
 use Rattle.lpm_cells.specs.Table.{Words, IsFirstWord, IsWords, with_first, with_second, entry_at}
 use Rattle.lpm_rules.specs.RuleMap.{RuleMap, AllNetworks}

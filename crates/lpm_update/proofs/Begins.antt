@@ -8,9 +8,9 @@ use Rattle.lpm_bits.specs.Network.{Network, IsNetwork}
 use Rattle.lpm_rules.specs.RuleMap.{RuleMap, AllNetworks}
 use Rattle.lpm_rules.specs.Deep.{IsDeepBlock}
 use Rattle.lpm_rules.proofs.Changes.{networks_insert, networks_remove}
-use Rattle.lpm_entry.specs.declared.Entry.{Entry}
-use Rattle.lpm_entry.specs.declared.Entry.TheVariants.{Hop, Group}
-use Rattle.lpm_entry.specs.Words.{entry_in, IsLast}
+use Rattle.lpm_cells.specs.declared.entry.Entry.{Entry}
+use Rattle.lpm_cells.specs.declared.entry.Entry.TheVariants.{Hop, Group}
+use Rattle.lpm_cells.specs.Words.{entry_in, IsLast}
 use Rattle.lpm_cells.specs.Table.{entry_at, Words}
 use Rattle.lpm_update.specs.declared.rewrite.Kind.TheVariants.{Add, Delete}
 use Rattle.lpm_update.specs.declared.rewrite.Rewrite.{Rewrite}

@@ -7,8 +7,8 @@ use Rattle.lpm_bits.specs.Network.{Network, Covers, IsNetwork}
 use Rattle.lpm_rules.specs.RuleMap.{RuleMap, AllNetworks}
 use Rattle.lpm_rules.proofs.Longest.{same_length}
 use Rattle.lpm_rules.proofs.Changes.{remove_cases, remove_here}
-use Rattle.lpm_entry.specs.declared.Entry.{Entry}
-use Rattle.lpm_entry.specs.declared.Entry.TheVariants.{Miss, Hop, Group}
+use Rattle.lpm_cells.specs.declared.entry.Entry.{Entry}
+use Rattle.lpm_cells.specs.declared.entry.Entry.TheVariants.{Miss, Hop, Group}
 use Rattle.lpm_update.specs.declared.rewrite.Kind.TheVariants.{Delete}
 use Rattle.lpm_update.specs.Rewrite.{changed}
 use Rattle.lpm_update.specs.Best.{IsBest, IsCoverEntry}

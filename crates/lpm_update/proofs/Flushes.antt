@@ -4,9 +4,9 @@ use Rattle.std.specs.Prelude.{slice_index}
 use Rattle.std.proofs.lemmas.Bool.{cases_lt}
 use Rattle.std.proofs.lemmas.Nat.{pow-add}
 use Rattle.std.proofs.Math.Nat.{mul-le-mul_right}
-use Rattle.lpm_entry.specs.declared.Entry.{Entry}
-use Rattle.lpm_entry.specs.declared.Entry.TheVariants.{Miss, Hop, Group}
-use Rattle.lpm_entry.specs.Words.{entry_in, word_of, IsLast, IsLastWord}
+use Rattle.lpm_cells.specs.declared.entry.Entry.{Entry}
+use Rattle.lpm_cells.specs.declared.entry.Entry.TheVariants.{Miss, Hop, Group}
+use Rattle.lpm_cells.specs.Words.{entry_in, word_of, IsLast, IsLastWord}
 use Rattle.lpm_cells.specs.Table.{Words, entry_at, followed, with_first}
 use Rattle.lpm_update.specs.declared.Did.TheVariants.{First, Unlinked, Done}
 use Rattle.lpm_update.specs.declared.flush.Flush.{Flush as FlushData}

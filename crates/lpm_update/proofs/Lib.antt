@@ -14,3 +14,12 @@ pub mod Outcomes
 pub mod Beginning
 pub mod Begins
 pub mod Advancing
+pub mod Onward
+pub mod Turns
+pub mod Once
+pub mod Next
+pub mod Runs
+pub mod Ties
+pub mod Blank
+pub mod DeepCounts
+pub mod Promises

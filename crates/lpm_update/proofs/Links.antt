@@ -6,9 +6,9 @@ use Rattle.std.proofs.Math.ListN.{length-set}
 use Rattle.std.proofs.Math.Pow.{pow_mono}
 use Rattle.std.proofs.lemmas.Nat.{pow_pos, mod_below, shr_split, same_from_place}
 use Rattle.std.proofs.lemmas.Bool.{cases_lt, cases_eq, le-leb, le-ltb, lt-ltb, lt-leb}
-use Rattle.lpm_entry.specs.declared.Entry.{Entry}
-use Rattle.lpm_entry.specs.declared.Entry.TheVariants.{Group}
-use Rattle.lpm_entry.specs.Words.{IsEntry, IsLast, IsLastWord, word_of, entry_in, group_in}
+use Rattle.lpm_cells.specs.declared.entry.Entry.{Entry}
+use Rattle.lpm_cells.specs.declared.entry.Entry.TheVariants.{Group}
+use Rattle.lpm_cells.specs.Words.{IsEntry, IsLast, IsLastWord, word_of, entry_in, group_in}
 use Rattle.lpm_cells.specs.Table.{Words, HasRoom, entry_at, followed, with_first, with_second}
 use Rattle.lpm_update.specs.declared.Did.TheVariants.{First, Second}
 use Rattle.lpm_update.specs.declared.rewrite.Rewrite.{Rewrite}

@@ -7,8 +7,8 @@ use Rattle.lpm_bits.specs.Network.{Network, Covers, IsNetwork}
 use Rattle.lpm_rules.specs.RuleMap.{RuleMap, AllNetworks, network_cmp}
 use Rattle.lpm_rules.specs.Deep.{IsDeepBlock}
 use Rattle.lpm_rules.proofs.Changes.{insert_cases, insert_here, remove_cases, not_some}
-use Rattle.lpm_entry.specs.declared.Entry.{Entry}
-use Rattle.lpm_entry.specs.declared.Entry.TheVariants.{Hop}
+use Rattle.lpm_cells.specs.declared.entry.Entry.{Entry}
+use Rattle.lpm_cells.specs.declared.entry.Entry.TheVariants.{Hop}
 use Rattle.lpm_update.specs.declared.rewrite.Kind.TheVariants.{Add, Delete}
 use Rattle.lpm_update.specs.declared.rewrite.Rewrite.{Rewrite}
 use Rattle.lpm_update.specs.Rewrite.{changed}

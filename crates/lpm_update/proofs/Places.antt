@@ -3,15 +3,15 @@ use Rattle.std.specs.Prelude.{slice_index, slice_set}
 use Rattle.std.proofs.lemmas.List.{get_or-set_same, get_or-set_other}
 use Rattle.std.proofs.lemmas.Nat.{pow_pos, mod_below, shr_high, shr_split, same_from_place}
 use Rattle.std.proofs.lemmas.Bool.{cases_lt, cases_eq}
-use Rattle.lpm_entry.specs.declared.Entry.{Entry}
-use Rattle.lpm_entry.specs.declared.Entry.TheVariants.{Miss, Hop, Group}
-use Rattle.lpm_entry.specs.Words.{IsEntry, word_of, entry_in, IsLast, IsLastWord, IsWord}
+use Rattle.lpm_cells.specs.declared.entry.Entry.{Entry}
+use Rattle.lpm_cells.specs.declared.entry.Entry.TheVariants.{Miss, Hop, Group}
+use Rattle.lpm_cells.specs.Words.{IsEntry, word_of, entry_in, IsLast, IsLastWord, IsWord}
 use Rattle.lpm_cells.specs.Table.{Words, IsWords, IsFirst, IsFirstWord, HasRoom, entry_at, followed, with_first, with_second}
 use Rattle.lpm_update.specs.Rewrite.{replaces, changed, Stands, Skips}
 use Rattle.lpm_update.specs.RewriteRange.{IsWhole}
 use Rattle.lpm_update.specs.Linked.{IsTable, IsLinkTo}
 use Rattle.std.proofs.Math.ListN.{length-set}
-use Rattle.lpm_entry.proofs.Reading.{entry_in-word_of}
+use Rattle.lpm_cells.proofs.Reading.{entry_in-word_of}
 use Rattle.std.proofs.Math.Nat.{mul-le-mul_right}
 use Rattle.lpm_update.specs.declared.rewrite.Rewrite.{Rewrite}
 

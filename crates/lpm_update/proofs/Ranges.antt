@@ -2,7 +2,7 @@ use Rattle.std.proofs.Common.{arith, ◌≡◌, ℕ, suc, ◌+◌, ◌-◌, ◌*
 use Rattle.std.proofs.lemmas.Bool.{cases_lt}
 use Rattle.std.proofs.lemmas.Nat.{pow-add}
 use Rattle.std.proofs.Math.Nat.{mul-le-mul_right, mul_assoc}
-use Rattle.lpm_entry.specs.Words.{IsEntry, IsLast}
+use Rattle.lpm_cells.specs.Words.{IsEntry, IsLast}
 use Rattle.lpm_update.specs.Linked.{IsLinkTo}
 use Rattle.lpm_update.specs.RewriteRange.{IsWhole, IsRewriting}
 use Rattle.lpm_update.specs.declared.rewrite.Rewrite.{Rewrite}

@@ -5,13 +5,13 @@ use Rattle.std.proofs.lemmas.Bool.{leb-true, leb-false}
 use Rattle.lpm_bits.specs.Network.{Network, Covers, IsNetwork}
 use Rattle.lpm_rules.specs.RuleMap.{RuleMap}
 use Rattle.lpm_rules.proofs.Changes.{insert_cases, insert_here}
-use Rattle.lpm_entry.specs.declared.Entry.{Entry}
-use Rattle.lpm_entry.specs.declared.Entry.TheVariants.{Miss, Hop, Group}
+use Rattle.lpm_cells.specs.declared.entry.Entry.{Entry}
+use Rattle.lpm_cells.specs.declared.entry.Entry.TheVariants.{Miss, Hop, Group}
 use Rattle.lpm_update.specs.Rewrite.{changed}
 use Rattle.lpm_update.specs.declared.rewrite.Kind.TheVariants.{Add}
 use Rattle.lpm_update.specs.Best.{IsBest}
 use Rattle.lpm_rules.specs.Longest.{IsLongestHop}
-use Rattle.lpm_entry.specs.Words.{hop_in}
+use Rattle.lpm_cells.specs.Words.{hop_in}
 use Rattle.lpm_update.proofs.Places.{block_low, block_high, block_of}
 
 -- a longest rule that stays the longest

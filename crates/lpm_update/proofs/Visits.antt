@@ -4,9 +4,9 @@ use Rattle.std.specs.Prelude.{slice_index}
 use Rattle.std.proofs.lemmas.Nat.{pow_pos, shl_whole, mod_below}
 use Rattle.std.proofs.lemmas.List.{get_or_past}
 use Rattle.lpm_bits.specs.Widths.{IsShape}
-use Rattle.lpm_entry.specs.declared.Entry.TheVariants.{Miss, Group}
-use Rattle.lpm_entry.specs.Words.{IsEntry, IsLast, IsWord, IsLastWord, word_of, entry_in}
-use Rattle.lpm_entry.proofs.Reading.{entry_in_zero}
+use Rattle.lpm_cells.specs.declared.entry.Entry.TheVariants.{Miss, Group}
+use Rattle.lpm_cells.specs.Words.{IsEntry, IsLast, IsWord, IsLastWord, word_of, entry_in}
+use Rattle.lpm_cells.proofs.Reading.{entry_in_zero}
 use Rattle.lpm_cells.specs.Table.{Words, entry_at, followed, with_first, with_second}
 use Rattle.lpm_update.specs.declared.Did.TheVariants.{First, Second, Done}
 use Rattle.lpm_update.specs.declared.rewrite.Rewrite.{Rewrite}

@@ -5,8 +5,8 @@ use Rattle.std.specs.FinMap.{get}
 use Rattle.lpm_bits.specs.Network.{Network, Covers}
 use Rattle.lpm_rules.specs.RuleMap.{RuleMap}
 use Rattle.lpm_rules.specs.Longest.{IsUncovered, IsCoverRule}
-use Rattle.lpm_entry.specs.declared.Entry.{Entry}
-use Rattle.lpm_entry.specs.declared.Entry.TheVariants.{Miss, Hop, Group}
+use Rattle.lpm_cells.specs.declared.entry.Entry.{Entry}
+use Rattle.lpm_cells.specs.declared.entry.Entry.TheVariants.{Miss, Hop, Group}
 
 -- e is the entry of the longest rule of R that covers a, a miss where no rule does
 abbrev pub IsBest : ℕ → RuleMap → ℕ → Entry → Type 0

@@ -1,8 +1,8 @@
 -- This layer's own: a flush stores a miss in each first word that isn't one, upwards (DPDK
 -- Programmer's Guide, "LPM Library": all rules are deleted).
 use Rattle.std.specs.Prelude.{ℕ, ◌≡◌, ◌≢◌, ◌≤◌, ◌<◌, ◌^◌, List, slice_index}
-use Rattle.lpm_entry.specs.Words.{entry_in, word_of}
-use Rattle.lpm_entry.specs.declared.Entry.TheVariants.{Miss}
+use Rattle.lpm_cells.specs.Words.{entry_in, word_of}
+use Rattle.lpm_cells.specs.declared.entry.Entry.TheVariants.{Miss}
 use Rattle.lpm_update.specs.declared.rewrite.Kind.TheVariants.{Flush}
 use Rattle.lpm_update.specs.declared.rewrite.Rewrite.{Rewrite}
 

@@ -10,3 +10,4 @@ pub mod Update
 pub mod Step
 pub mod Tied
 pub mod Runs
+pub mod Laws

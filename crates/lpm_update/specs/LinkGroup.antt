@@ -2,9 +2,9 @@
 -- "LPM Library", "Addition": a new group's entries are set to those of the rule that covered the
 -- block, then the rule's own, and the first entry is made to point at it last).
 use Rattle.std.specs.Prelude.{ℕ, Bool, ◌≡◌, ◌+◌, ◌*◌, ◌^◌, ◌≤◌, ◌<◌, nat_le, nat_lt, ◌&&◌, if◌then◌else◌, List, slice_index}
-use Rattle.lpm_entry.specs.Words.{IsEntry, IsLast, word_of, entry_in}
-use Rattle.lpm_entry.specs.declared.Entry.{Entry}
-use Rattle.lpm_entry.specs.declared.Entry.TheVariants.{Group}
+use Rattle.lpm_cells.specs.Words.{IsEntry, IsLast, word_of, entry_in}
+use Rattle.lpm_cells.specs.declared.entry.Entry.{Entry}
+use Rattle.lpm_cells.specs.declared.entry.Entry.TheVariants.{Group}
 use Rattle.lpm_cells.specs.Table.{Words, HasRoom}
 use Rattle.lpm_update.specs.Linked.{IsLinkTo}
 use Rattle.lpm_update.specs.Rewrite.{changed}

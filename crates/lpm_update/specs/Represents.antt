@@ -2,7 +2,7 @@
 -- into another (DPDK Programmer's Guide, "LPM Library", "Addition" and "Deletion").
 use Rattle.std.specs.Prelude.{ℕ, Bool, true, false, ◌+◌, ◌/◌, ◌^◌, ◌<◌, ◌↔◌, IsSome, List, Option, Some, None, ◌==◌, if◌then◌else◌}
 use Rattle.lpm_bits.specs.Network.{Network}
-use Rattle.lpm_entry.specs.declared.Entry.{Entry}
+use Rattle.lpm_cells.specs.declared.entry.Entry.{Entry}
 use Rattle.lpm_cells.specs.Table.{Words, HasRoom, entry_at}
 use Rattle.lpm_rules.specs.RuleMap.{RuleMap, AllNetworks}
 use Rattle.lpm_rules.specs.Deep.{IsDeepBlock}

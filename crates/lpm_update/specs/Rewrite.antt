@@ -2,9 +2,9 @@
 -- Library": an added rule takes the entries of shorter rules, a deleted rule's entries go to the
 -- longest rule that is shorter).
 use Rattle.std.specs.Prelude.{ℕ, Bool, true, false, ◌≡◌, ◌≤◌, ◌<◌, ◌==◌, ◌&&◌, nat_le, if◌then◌else◌}
-use Rattle.lpm_entry.specs.declared.Entry.{Entry}
-use Rattle.lpm_entry.specs.declared.Entry.TheVariants.{Miss, Hop, Group}
-use Rattle.lpm_entry.specs.Words.{IsLastWord, entry_in, word_of}
+use Rattle.lpm_cells.specs.declared.entry.Entry.{Entry}
+use Rattle.lpm_cells.specs.declared.entry.Entry.TheVariants.{Miss, Hop, Group}
+use Rattle.lpm_cells.specs.Words.{IsLastWord, entry_in, word_of}
 use Rattle.lpm_cells.specs.Table.{Words, entry_at}
 use Rattle.lpm_update.specs.declared.rewrite.Kind.{Kind}
 use Rattle.lpm_update.specs.declared.rewrite.Kind.TheVariants.{Add, Delete, Flush}

@@ -3,7 +3,7 @@
 -- project's).
 use Rattle.std.specs.Prelude.{ℕ, ◌≡◌, ◌+◌, ◌-◌, ◌*◌, ◌/◌, ◌%◌, ◌^◌, ◌≤◌, ◌<◌, true, List, slice_index}
 use Rattle.lpm_bits.specs.Network.{Network}
-use Rattle.lpm_entry.specs.Words.{IsEntry, IsLast, word_of, entry_in}
+use Rattle.lpm_cells.specs.Words.{IsEntry, IsLast, word_of, entry_in}
 use Rattle.lpm_cells.specs.Table.{Words, with_first, with_second}
 use Rattle.lpm_update.specs.Linked.{IsLinkTo}
 use Rattle.lpm_update.specs.Rewrite.{replaces, Skips}

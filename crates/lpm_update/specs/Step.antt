@@ -1,7 +1,7 @@
 -- Meaning: one step of a change: the store of one word, or none where the change is done (this
 -- project's).
 use Rattle.std.specs.Prelude.{ℕ, ◌≡◌, ◌≢◌, ◌<◌, List, slice_index, Option}
-use Rattle.lpm_entry.specs.declared.Entry.{Entry}
+use Rattle.lpm_cells.specs.declared.entry.Entry.{Entry}
 use Rattle.lpm_cells.specs.Table.{Words, with_first, with_second}
 use Rattle.lpm_update.specs.declared.Did.{Did}
 use Rattle.lpm_update.specs.declared.Did.TheVariants.{First, Second, Unlinked, Done}

@@ -3,8 +3,8 @@
 -- Guide, "LPM Library", "Deletion": a group whose entries are all alike is merged back into the
 -- first table).
 use Rattle.std.specs.Prelude.{ℕ, ◌≡◌, ◌+◌, ◌*◌, ◌/◌, ◌^◌, ◌≤◌, ◌<◌, slice_index}
-use Rattle.lpm_entry.specs.Words.{entry_in}
-use Rattle.lpm_entry.specs.declared.Entry.{Entry}
+use Rattle.lpm_cells.specs.Words.{entry_in}
+use Rattle.lpm_cells.specs.declared.entry.Entry.{Entry}
 use Rattle.lpm_cells.specs.Table.{Words}
 use Rattle.lpm_update.specs.Linked.{IsLinkTo}
 use Rattle.lpm_update.specs.Rewrite.{Stands}

@@ -3,8 +3,7 @@
 ghost use Rattle.std.specs.Prelude.{◌≡◌};
 
 use super::Did;
-use lpm_cells::Cells;
-use lpm_entry::Entry;
+use lpm_cells::{Cells, Entry};
 
 /// The removal of all rules: each first word becomes a miss, upwards from place `next` on. No word
 /// of a group is stored.

@@ -2,6 +2,7 @@
 #![tactic(auto)]
 
 mod flush;
+pub mod laws;
 mod link_group;
 mod rewrite;
 mod rewrite_range;

@@ -4,8 +4,7 @@ ghost use Rattle.std.specs.Prelude.{◌≡◌};
 
 use super::{Did, Kind, Rewrite};
 use lpm_bits::{Hop, Prefix, Shape};
-use lpm_cells::Cells;
-use lpm_entry::Entry;
+use lpm_cells::{Cells, Entry};
 
 /// The addition of a rule longer than `FIRST` bits to a block that has no group: the words of a
 /// free group are stored, upwards, and then the group is linked to the block.
@@ -24,8 +23,8 @@ impl LinkGroup {
     ghost use Rattle.std.specs.Prelude.{◌≡◌, ℕ, ◌+◌, ◌-◌, ◌/◌, ◌^◌, ◌<◌, None, slice_index};
     ghost use Rattle.lpm_bits.specs.Widths.{IsShape};
     ghost use Rattle.lpm_cells.specs.Table.{Words};
-    ghost use Rattle.lpm_entry.specs.declared.Entry.TheVariants.{Hop as EntryHop};
-    ghost use Rattle.lpm_entry.specs.Words.{IsEntry, IsLast, IsLastWord, entry_in, word_of};
+    ghost use Rattle.lpm_cells.specs.declared.entry.Entry.TheVariants.{Hop as EntryHop};
+    ghost use Rattle.lpm_cells.specs.Words.{IsEntry, IsLast, IsLastWord, entry_in, word_of};
     ghost use Rattle.lpm_update.specs.declared.rewrite.Kind.TheVariants.{Add};
     ghost use Rattle.lpm_update.specs.declared.update.Plan.TheVariants.{Link};
     ghost use Rattle.lpm_update.specs.Linked.{IsTable};

@@ -2,7 +2,7 @@
 
 ghost use Rattle.std.specs.Prelude.{◌≡◌};
 
-use lpm_entry::Entry;
+use lpm_cells::Entry;
 
 /// The changes of a rule list.
 #[derive(Clone, Copy)]
@@ -36,7 +36,7 @@ pub(crate) struct WordRewrite {
 
 impl Rewrite {
     ghost use Rattle.std.specs.Prelude.{ℕ, ◌≤◌};
-    ghost use Rattle.lpm_entry.specs.Words.{IsEntry};
+    ghost use Rattle.lpm_cells.specs.Words.{IsEntry};
     ghost use Rattle.lpm_update.specs.Rewrite.{IsOnWords};
 
     /// What the change does to words.

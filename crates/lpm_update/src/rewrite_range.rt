@@ -4,8 +4,7 @@ ghost use Rattle.std.specs.Prelude.{◌≡◌};
 
 use super::{Did, Kind, Rewrite, WordRewrite};
 use lpm_bits::{Hop, Prefix, Shape};
-use lpm_cells::Cells;
-use lpm_entry::Entry;
+use lpm_cells::{Cells, Entry};
 use lpm_rules::Rule;
 
 /// The addresses from `from` up to, not including, `end`, whose entries become what `rewrite` makes
@@ -21,8 +20,8 @@ pub(crate) struct RewriteRange {
 impl RewriteRange {
     ghost use Rattle.std.specs.Prelude.{◌≡◌, ℕ, ◌+◌, ◌-◌, ◌*◌, ◌/◌, ◌%◌, ◌^◌, ◌<◌, ◌≤◌, None, MatchOption};
     ghost use Rattle.lpm_bits.specs.Widths.{IsShape};
-    ghost use Rattle.lpm_entry.specs.declared.Entry.TheVariants.{Hop as EntryHop};
-    ghost use Rattle.lpm_entry.specs.Words.{IsEntry, IsLast};
+    ghost use Rattle.lpm_cells.specs.declared.entry.Entry.TheVariants.{Hop as EntryHop};
+    ghost use Rattle.lpm_cells.specs.Words.{IsEntry, IsLast};
     ghost use Rattle.lpm_rules.specs.RuleMap.{RuleMap};
     ghost use Rattle.lpm_rules.specs.Longest.{IsUncovered, IsCoverRule};
     ghost use Rattle.lpm_update.specs.declared.Did.TheVariants.{Done};
@@ -201,7 +200,7 @@ impl RewriteRange {
 
 ghost use Rattle.std.specs.Prelude.{ℕ, ◌+◌, MatchOption};
 ghost use Rattle.lpm_bits.specs.Network.{Network};
-ghost use Rattle.lpm_entry.specs.Words.{IsEntry, IsLast};
+ghost use Rattle.lpm_cells.specs.Words.{IsEntry, IsLast};
 ghost use Rattle.lpm_rules.specs.RuleMap.{RuleMap};
 ghost use Rattle.lpm_rules.specs.Longest.{IsUncovered, IsCoverRule};
 ghost use Rattle.lpm_update.specs.Best.{IsCoverEntry};

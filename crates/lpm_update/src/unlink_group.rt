@@ -2,15 +2,14 @@
 
 ghost use Rattle.std.specs.Prelude.{◌≡◌, ℕ, ◌+◌, ◌*◌, ◌^◌, ◌<◌, slice_index};
 ghost use Rattle.lpm_bits.specs.Widths.{IsShape};
-ghost use Rattle.lpm_entry.specs.declared.Entry.{Entry};
-ghost use Rattle.lpm_entry.specs.Words.{entry_in};
+ghost use Rattle.lpm_cells.specs.declared.entry.Entry.{Entry};
+ghost use Rattle.lpm_cells.specs.Words.{entry_in};
 ghost use Rattle.lpm_cells.specs.Table.{with_first};
 ghost use Rattle.lpm_update.specs.Linked.{IsTable, IsLinkTo};
 ghost use Rattle.lpm_update.specs.UnlinkGroup.{IsUnlinkStore, IsOneEntry};
 
 use super::{Did, RewriteRange};
-use lpm_cells::Cells;
-use lpm_entry::Entry;
+use lpm_cells::{Cells, Entry};
 
 /// The deletion of the last rule of a block that is longer than `FIRST` bits: its range is
 /// rewritten, and then the block's group is unlinked.

@@ -28,7 +28,7 @@ use Rattle.lpm_update.specs.Linked.{group_at}
 use Rattle.lpm_update.specs.Represents.{AddFits, held_with}
 use Rattle.lpm_update.specs.Tied.{IsTied}
 use Rattle.lpm_update.specs.Update.{FillsFor, group_held}
-use Rattle.update_laws.proofs.Promises.{tied_same, tied_taken}
+use Rattle.lpm_update.proofs.Promises.{tied_same, tied_taken}
 use Rattle.fib_model.specs.State.{State, Transitions, HasTokens}
 use Rattle.fib_model.specs.Reclaiming.{Unlinks}
 use Rattle.fib_model.specs.Outcomes.{groups_in_use, LacksGroup, TakesGroup, Adds}

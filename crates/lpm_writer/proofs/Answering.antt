@@ -1,20 +1,20 @@
 -- The answers of an update that runs, and which of its stores may come next.
 use Rattle.std.proofs.Common.{◌≡◌, ℕ, ◌+◌, ◌<◌, ◌⊎◌, inl, inr, Bool, true, false, cond, eq-eqb, refl, sym, ap, subst, ◌∙◌, List, Option, Some, None}
-use Rattle.lpm_entry.specs.declared.Entry.{Entry}
-use Rattle.lpm_entry.specs.declared.Entry.TheVariants.{Miss, Hop, Group}
-use Rattle.lpm_entry.specs.Words.{IsLast, entry_in, group_in, hop_in}
+use Rattle.lpm_cells.specs.declared.entry.Entry.{Entry}
+use Rattle.lpm_cells.specs.declared.entry.Entry.TheVariants.{Miss, Hop, Group}
+use Rattle.lpm_cells.specs.Words.{IsLast, entry_in, group_in, hop_in}
 use Rattle.lpm_cells.specs.Table.{Words, entry_at, with_first, with_second}
 use Rattle.lpm_groups.specs.declared.GroupState.{GroupState}
 use Rattle.lpm_update.specs.declared.update.Plan.{Plan}
 use Rattle.lpm_update.specs.LinkGroup.{final_entry}
-use Rattle.update_laws.specs.Laws.{StoreMoves}
+use Rattle.lpm_update.specs.Laws.{StoreMoves}
 use Rattle.lpm_update.specs.Runs.{HasCome}
 use Rattle.lpm_update.specs.Tied.{IsTied}
 use Rattle.lpm_update.specs.Update.{IsNextFirst, IsNextSecond, IsNextUnlink, IsOnward, IsOver, entry_after, from_of, end_of, rewrite_of, group_held}
-use Rattle.update_laws.proofs.Next.{next_store, next_first, next_second, next_unlink}
-use Rattle.update_laws.proofs.Turns.{from_same, end_same, rewrite_same}
+use Rattle.lpm_update.proofs.Next.{next_store, next_first, next_second, next_unlink}
+use Rattle.lpm_update.proofs.Turns.{from_same, end_same, rewrite_same}
 use Rattle.lpm_update.proofs.Groups.{last_none}
-use Rattle.update_laws.proofs.Runs.{over_entries}
+use Rattle.lpm_update.proofs.Runs.{over_entries}
 use Rattle.lpm_trace.specs.declared.step.WriterStep.{WriterStep}
 use Rattle.lpm_trace.specs.declared.step.WriterStep.TheVariants.{StoreFirst, StoreSecond, Closes}
 use Rattle.lpm_trace.specs.Tables.{Setup, Tables, Status, Unused, Linked, Retired, tables, addresses, answer, IsAnswer, done, begun, is_same, turned_by, IsFree, MayFill, MayLink, Moves}

@@ -4,9 +4,9 @@ use Rattle.std.proofs.Common.{◌≡◌, ℕ, ◌+◌, ◌^◌, ◌<◌, ◌≤�
 use Rattle.std.proofs.lemmas.Bool.{cases_lt}
 use Rattle.std.proofs.lemmas.List.{get_or_past}
 use Rattle.lpm_bits.specs.Widths.{IsShape}
-use Rattle.lpm_entry.specs.declared.Entry.TheVariants.{Miss, Group}
-use Rattle.lpm_entry.specs.Words.{entry_in, group_in}
-use Rattle.lpm_entry.proofs.Reading.{entry_in_zero}
+use Rattle.lpm_cells.specs.declared.entry.Entry.TheVariants.{Miss, Group}
+use Rattle.lpm_cells.specs.Words.{entry_in, group_in}
+use Rattle.lpm_cells.proofs.Reading.{entry_in_zero}
 use Rattle.lpm_cells.specs.Table.{Words, entry_at}
 use Rattle.lpm_groups.specs.declared.GroupState.{GroupState}
 use Rattle.lpm_groups.specs.declared.GroupState.TheVariants.{Free, Linked, Limbo}
@@ -17,7 +17,7 @@ use Rattle.lpm_rules.specs.RuleMap.{RuleMap}
 use Rattle.lpm_update.specs.Linked.{group_at}
 use Rattle.lpm_update.specs.Represents.{Represents}
 use Rattle.lpm_update.specs.Tied.{IsTied, HasGroupRoom}
-use Rattle.update_laws.proofs.Promises.{best_hop}
+use Rattle.lpm_update.proofs.Promises.{best_hop}
 use Rattle.lpm_trace.specs.Tables.{Setup, Status, Unused, Linked as LinkedTo, Retired, IsFree, IsSettled}
 use Rattle.lpm_writer.specs.Resting.{IsResting}
 

@@ -15,12 +15,12 @@ use Rattle.lpm_update.specs.Runs.{HasCome, Leads, RunsOn, AllowsAlong}
 use Rattle.lpm_update.specs.Step.{Steps, AllowsNext}
 use Rattle.lpm_update.specs.Tied.{IsTied, SameLinksBut}
 use Rattle.lpm_update.specs.Update.{group_held}
-use Rattle.update_laws.proofs.Promises.{run_goes_on, run_ends, tied_same, tied_gone}
+use Rattle.lpm_update.proofs.Promises.{run_goes_on, run_ends, tied_same, tied_gone}
 use Rattle.lpm_trace.specs.declared.step.WriterStep.{WriterStep}
 use Rattle.lpm_trace.specs.declared.step.WriterStep.TheVariants.{StoreFirst, StoreSecond}
 use Rattle.lpm_trace.specs.Tables.{Setup, tables}
 use Rattle.lpm_trace.specs.Writer.{MayStep}
-use Rattle.lpm_memory.specs.Steps.{MayBeNext}
+use Rattle.lpm_writer.specs.MemorySteps.{MayBeNext}
 use Rattle.lpm_writer.specs.declared.books.Books.{Books}
 use Rattle.lpm_writer.specs.Waiting.{IsQueued, tokens_of}
 use Rattle.lpm_writer.specs.Traced.{Retires}

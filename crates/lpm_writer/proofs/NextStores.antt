@@ -1,9 +1,9 @@
 -- The next store of a change, by what it is of.
 use Rattle.std.proofs.Common.{arith, ◌≡◌, ◌≢◌, ℕ, ◌+◌, ◌/◌, ◌%◌, ◌^◌, ◌<◌, ◌≤◌, ◌⊎◌, inl, inr, refl, sym, ap, subst, ◌∙◌, List, slice_index, Option, Some, None}
 use Rattle.std.proofs.lemmas.Nat.{pow_pos, mod_below, div-mul-add, shr_below}
-use Rattle.lpm_entry.specs.declared.Entry.{Entry}
-use Rattle.lpm_entry.specs.declared.Entry.TheVariants.{Miss, Hop, Group}
-use Rattle.lpm_entry.specs.Words.{IsLast, entry_in, group_in}
+use Rattle.lpm_cells.specs.declared.entry.Entry.{Entry}
+use Rattle.lpm_cells.specs.declared.entry.Entry.TheVariants.{Miss, Hop, Group}
+use Rattle.lpm_cells.specs.Words.{IsLast, entry_in, group_in}
 use Rattle.lpm_cells.specs.Table.{Words}
 use Rattle.lpm_update.specs.declared.link_group.LinkGroup.{LinkGroup}
 use Rattle.lpm_update.specs.declared.rewrite_range.RewriteRange.{RewriteRange}
@@ -16,7 +16,7 @@ use Rattle.std.proofs.lemmas.Bool.{cases_eq}
 use Rattle.lpm_update.proofs.Groups.{last_none, here_is, there_is}
 use Rattle.lpm_update.proofs.Places.{word_entry}
 use Rattle.lpm_update.proofs.Unlinks.{some_group, unlink_word}
-use Rattle.update_laws.proofs.Onward.{by_kind}
+use Rattle.lpm_update.proofs.Onward.{by_kind}
 use Rattle.lpm_writer.specs.Making.{filling, unless_linked, IsTakenBy}
 
 none_last : (e : Entry) → group_in e ≡ None → IsLast e

@@ -16,7 +16,7 @@ use Rattle.lpm_update.specs.Linked.{IsTable}
 use Rattle.lpm_update.specs.Runs.{IsSameWord}
 use Rattle.lpm_update.specs.Step.{Steps, HasPassed}
 use Rattle.lpm_update.specs.Update.{IsUnderWay}
-use Rattle.update_laws.proofs.Promises.{passed_stays, not_twice}
+use Rattle.lpm_update.proofs.Promises.{passed_stays, not_twice}
 use Rattle.lpm_trace.specs.declared.step.WriterStep.{WriterStep}
 use Rattle.lpm_trace.specs.declared.step.WriterStep.TheVariants.{StoreFirst, StoreSecond, Opens, Closes, BumpToken, LoadCounter}
 use Rattle.lpm_trace.specs.Tables.{Setup}

@@ -4,17 +4,17 @@ use Rattle.std.proofs.lemmas.Bool.{cases_lt}
 use Rattle.std.proofs.lemmas.List.{get_or-replicate, length-replicate, get_or_past}
 use Rattle.std.specs.FinMap.{empty}
 use Rattle.lpm_bits.specs.Widths.{IsShape}
-use Rattle.lpm_entry.specs.declared.Entry.TheVariants.{Miss, Group}
-use Rattle.lpm_entry.specs.Words.{entry_in, group_in, word_of}
-use Rattle.lpm_entry.proofs.Reading.{entry_in_zero}
+use Rattle.lpm_cells.specs.declared.entry.Entry.TheVariants.{Miss, Group}
+use Rattle.lpm_cells.specs.Words.{entry_in, group_in, word_of}
+use Rattle.lpm_cells.proofs.Reading.{entry_in_zero}
 use Rattle.lpm_cells.specs.Table.{entry_at}
 use Rattle.lpm_groups.specs.declared.GroupState.TheVariants.{Free}
 use Rattle.lpm_groups.proofs.Tallies.{limbo_count-replicate}
 use Rattle.lpm_limits.specs.Limits.{IsConfig}
 use Rattle.lpm_limits.specs.declared.config.Config.{Config}
 use Rattle.lpm_rules.specs.RuleMap.{network_cmp}
-use Rattle.update_laws.specs.Laws.{blank_words}
-use Rattle.update_laws.proofs.Promises.{blank, best_hop}
+use Rattle.lpm_update.specs.Laws.{blank_words}
+use Rattle.lpm_update.proofs.Promises.{blank, best_hop}
 use Rattle.lpm_trace.specs.Tables.{Unused, Retired, IsSettled}
 use Rattle.lpm_writer.specs.declared.books.Books.{Books}
 use Rattle.lpm_writer.specs.Opening.{opening_setup}

@@ -13,7 +13,7 @@ use Rattle.lpm_update.specs.Linked.{group_at}
 use Rattle.lpm_update.specs.Represents.{Represents, IsBegun, TurnsInto}
 use Rattle.lpm_update.specs.Tied.{IsTied}
 use Rattle.lpm_update.specs.Update.{FillsFor, entry_after, group_held}
-use Rattle.update_laws.proofs.Promises.{best_hop, linked_deep, tied_same}
+use Rattle.lpm_update.proofs.Promises.{best_hop, linked_deep, tied_same}
 use Rattle.fib_model.specs.State.{State, Transitions, IsExhausted, HasTokens}
 use Rattle.fib_model.specs.Reclaiming.{Unlinks}
 use Rattle.fib_model.specs.Outcomes.{groups_in_use, Shrinks}

@@ -5,9 +5,9 @@ use Rattle.std.proofs.lemmas.Bool.{cases_eq}
 use Rattle.std.proofs.lemmas.Nat.{pow_pos}
 use Rattle.std.proofs.lemmas.List.Elements.{All-cons}
 use Rattle.std.proofs.lemmas.Option.{slice_get_within}
-use Rattle.lpm_entry.specs.declared.Entry.{Entry}
-use Rattle.lpm_entry.specs.declared.Entry.TheVariants.{Miss, Hop, Group}
-use Rattle.lpm_entry.specs.Words.{IsLast, entry_in, group_in}
+use Rattle.lpm_cells.specs.declared.entry.Entry.{Entry}
+use Rattle.lpm_cells.specs.declared.entry.Entry.TheVariants.{Miss, Hop, Group}
+use Rattle.lpm_cells.specs.Words.{IsLast, entry_in, group_in}
 use Rattle.lpm_cells.specs.Table.{Words, with_first, with_second}
 use Rattle.lpm_groups.specs.declared.GroupState.{GroupState}
 use Rattle.lpm_groups.specs.declared.GroupState.TheVariants.{Free, Linked as LinkedTo, Limbo}
@@ -20,16 +20,16 @@ use Rattle.lpm_update.specs.declared.rewrite_range.RewriteRange.{RewriteRange}
 use Rattle.lpm_update.specs.declared.unlink_group.UnlinkGroup.{UnlinkGroup}
 use Rattle.lpm_update.specs.declared.update.Plan.{Plan}
 use Rattle.lpm_update.specs.declared.update.Plan.TheVariants.{Range, Link, Unlink, Flush}
-use Rattle.update_laws.specs.Laws.{StoreMoves}
+use Rattle.lpm_update.specs.Laws.{StoreMoves}
 use Rattle.lpm_update.specs.Linked.{IsLinkTo, group_at}
 use Rattle.lpm_update.specs.Runs.{HasCome}
 use Rattle.lpm_update.specs.Step.{Steps}
 use Rattle.lpm_update.specs.Tied.{IsTied}
 use Rattle.lpm_update.specs.Update.{IsUnderWay, IsNextFirst, IsNextSecond, IsNextUnlink, IsOnward, IsOver, HasGroups, HasPassedFirst, HasPassedSecond, group_held}
 use Rattle.lpm_update.proofs.Groups.{group_set_same, here_is, last_none}
-use Rattle.update_laws.proofs.Onward.{by_kind}
+use Rattle.lpm_update.proofs.Onward.{by_kind}
 use Rattle.lpm_update.proofs.Places.{word_entry}
-use Rattle.update_laws.proofs.Runs.{run_goes_on}
+use Rattle.lpm_update.proofs.Runs.{run_goes_on}
 use Rattle.lpm_trace.specs.declared.step.WriterStep.{WriterStep}
 use Rattle.lpm_trace.specs.declared.step.WriterStep.TheVariants.{StoreFirst, StoreSecond}
 use Rattle.lpm_trace.specs.Tables.{Setup, Tables, Status, Unused, Linked, Retired, tables, with_at, linked, retired, IsFree, IsAnswer, answer, done, begun, done_at, begun_at}

@@ -7,9 +7,9 @@ use Rattle.std.specs.FinMap.Entries.{find}
 use Rattle.std.specs.Ordering.{is_eq}
 use Rattle.std.specs.Cmp.{tied_itself}
 use Rattle.lpm_bits.specs.Network.{Network, Covers}
-use Rattle.lpm_entry.specs.declared.Entry.{Entry}
-use Rattle.lpm_entry.specs.declared.Entry.TheVariants.{Miss, Hop, Group}
-use Rattle.lpm_entry.specs.Words.{entry_in}
+use Rattle.lpm_cells.specs.declared.entry.Entry.{Entry}
+use Rattle.lpm_cells.specs.declared.entry.Entry.TheVariants.{Miss, Hop, Group}
+use Rattle.lpm_cells.specs.Words.{entry_in}
 use Rattle.lpm_limits.specs.declared.config.Config.{Config}
 use Rattle.lpm_cells.specs.Table.{Words, entry_at, followed}
 use Rattle.lpm_rules.specs.RuleMap.{RuleMap, RuleList, AllNetworks, network_cmp}
@@ -17,7 +17,7 @@ use Rattle.lpm_rules.proofs.Changes.{insert_same}
 use Rattle.lpm_rules.proofs.Views.{networks_total}
 use Rattle.lpm_update.specs.Best.{IsBest}
 use Rattle.lpm_update.specs.Represents.{Represents}
-use Rattle.update_laws.proofs.Promises.{best_hop}
+use Rattle.lpm_update.proofs.Promises.{best_hop}
 use Rattle.lpm_trace.specs.declared.step.RuleChange.{RuleChange}
 use Rattle.lpm_trace.specs.declared.step.RuleChange.TheVariants.{Put, Clear}
 use Rattle.lpm_trace.specs.declared.step.WriterStep.{WriterStep}

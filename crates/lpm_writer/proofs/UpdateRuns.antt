@@ -1,8 +1,8 @@
 -- An update that runs over a memory, from store to store.
 use Rattle.std.proofs.Common.{arith, ◌≡◌, ℕ, suc, ◌+◌, ◌-◌, ◌^◌, ◌<◌, refl, sym, ap, subst, ◌∙◌, List, ◌∷◌, Option, None, add-one}
-use Rattle.lpm_entry.specs.declared.Entry.{Entry}
-use Rattle.lpm_entry.specs.declared.Entry.TheVariants.{Miss, Hop, Group}
-use Rattle.lpm_entry.specs.Words.{IsLast, group_in}
+use Rattle.lpm_cells.specs.declared.entry.Entry.{Entry}
+use Rattle.lpm_cells.specs.declared.entry.Entry.TheVariants.{Miss, Hop, Group}
+use Rattle.lpm_cells.specs.Words.{IsLast, group_in}
 use Rattle.lpm_cells.specs.Table.{Words, with_first, with_second}
 use Rattle.lpm_groups.specs.States.{IsLinkedTo, linked_count}
 use Rattle.lpm_limits.specs.declared.config.Config.{Config}
@@ -15,8 +15,8 @@ use Rattle.lpm_update.specs.Update.{IsNextFirst, IsNextSecond, IsNextUnlink, IsO
 use Rattle.lpm_update.specs.Linked.{group_at}
 use Rattle.lpm_update.specs.Runs.{HasCome}
 use Rattle.lpm_update.proofs.Groups.{last_none}
-use Rattle.update_laws.proofs.Runs.{run_goes_on}
-use Rattle.update_laws.proofs.Next.{next_store, next_first}
+use Rattle.lpm_update.proofs.Runs.{run_goes_on}
+use Rattle.lpm_update.proofs.Next.{next_store, next_first}
 use Rattle.lpm_trace.specs.declared.step.WriterStep.{WriterStep}
 use Rattle.lpm_trace.specs.declared.step.WriterStep.TheVariants.{StoreFirst, StoreSecond}
 use Rattle.lpm_trace.specs.Tables.{Setup, Tables, tables, first_entry}

@@ -4,7 +4,7 @@ use Rattle.std.proofs.lemmas.List.Elements.{All-nil}
 use Rattle.lpm_limits.specs.declared.config.Config.{Config}
 use Rattle.lpm_rules.specs.RuleMap.{RuleMap}
 use Rattle.lpm_update.specs.declared.update.Plan.{Plan}
-use Rattle.update_laws.proofs.Runs.{run_begins}
+use Rattle.lpm_update.proofs.Runs.{run_begins}
 use Rattle.lpm_trace.specs.declared.step.RuleChange.{RuleChange}
 use Rattle.lpm_trace.specs.declared.step.WriterStep.{WriterStep}
 use Rattle.lpm_trace.specs.declared.step.WriterStep.TheVariants.{Opens, Closes}

@@ -9,3 +9,6 @@ pub mod Changing
 pub mod Resting
 pub mod Synchronizing
 pub mod Opening
+pub mod MemorySteps
+pub mod Plain
+pub mod PlainLaws

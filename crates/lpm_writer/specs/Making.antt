@@ -1,7 +1,7 @@
 -- This layer's own: an update that runs, by the words and by the writer's steps (this project's).
 use Rattle.std.specs.Prelude.{ℕ, ◌≡◌, ◌+◌, ◌-◌, ◌<◌, ◌⊎◌, ⊤, true, List, Option, Some, None}
 use Rattle.std.specs.List.{All}
-use Rattle.lpm_entry.specs.Words.{hop_in}
+use Rattle.lpm_cells.specs.Words.{hop_in}
 use Rattle.lpm_cells.specs.Table.{Words, entry_at}
 use Rattle.lpm_update.specs.declared.update.Plan.{Plan}
 use Rattle.lpm_update.specs.declared.update.Plan.TheVariants.{Range, Link, Unlink, Flush}

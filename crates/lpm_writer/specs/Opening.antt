@@ -2,7 +2,7 @@
 use Rattle.std.specs.Prelude.{ℕ, ◌*◌, ◌^◌}
 use Rattle.std.specs.FinMap.{empty}
 use Rattle.lpm_limits.specs.declared.config.Config.{Config}
-use Rattle.update_laws.specs.Laws.{blank_words}
+use Rattle.lpm_update.specs.Laws.{blank_words}
 use Rattle.lpm_trace.specs.Tables.{Setup, Unused}
 
 -- no rules, words that are all misses, and groups that were never linked

@@ -1,7 +1,7 @@
 -- This layer's own: a memory together with the writer's steps that led to it, and the parts of a change as
 -- what they lead to; by the steps alone they stand in `Steps`.
 use Rattle.std.specs.Prelude.{ℕ, zero, suc, ◌≡◌, ◌<◌, ◌≤◌, ◌⊎◌, true, List, [], ◌∷◌, ◌++◌, Some, None, Result, Ok, Err}
-use Rattle.lpm_entry.specs.Words.{group_in}
+use Rattle.lpm_cells.specs.Words.{group_in}
 use Rattle.lpm_limits.specs.declared.busy.Busy.{Busy}
 use Rattle.lpm_limits.specs.declared.config.Config.{Config}
 use Rattle.lpm_trace.specs.declared.step.RuleChange.{RuleChange}

@@ -6,7 +6,7 @@ ghost use Rattle.lpm_trace.specs.Tables.{Setup};
 ghost use Rattle.lpm_writer.specs.Traced.{Asks, Checks};
 ghost use Rattle.lpm_writer.specs.Kept.{MayAsk, Remembers};
 
-use lpm_memory::Memory;
+use crate::Memory;
 use qsbr::Busy;
 
 /// Loads the counter of one worker after another, up to the first that hasn't left the token behind.

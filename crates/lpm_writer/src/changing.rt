@@ -15,7 +15,7 @@ ghost use Rattle.lpm_writer.specs.Changing.{MayChange, HasChanged};
 
 use super::Books;
 use super::running::run;
-use lpm_memory::Memory;
+use crate::Memory;
 use lpm_trace::RuleChange;
 use lpm_update::Update;
 use qsbr::Config;

@@ -13,9 +13,9 @@ ghost use Rattle.lpm_writer.specs.Taking.{LinksLeast, MayTake, Finds, NeedsGroup
 
 use super::Books;
 use super::waiting::take;
+use crate::Memory;
 use lpm_bits::{Prefix, Shape};
-use lpm_entry::Entry;
-use lpm_memory::Memory;
+use lpm_cells::Entry;
 use qsbr::Busy;
 
 /// Whether the block of the prefix's first address has a group.

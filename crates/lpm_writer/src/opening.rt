@@ -5,14 +5,14 @@ ghost use Rattle.std.specs.FinMap as map;
 ghost use Rattle.lpm_bits.specs.Widths.{IsShape};
 ghost use Rattle.lpm_limits.specs.Limits.{IsConfig};
 ghost use Rattle.lpm_trace.specs.Tables.{IsSettled};
-ghost use Rattle.lpm_memory.specs.Plain.{PlainDid};
+ghost use Rattle.lpm_writer.specs.Plain.{PlainDid};
 ghost use Rattle.lpm_writer.specs.Opening.{opening_setup};
 ghost use Rattle.lpm_writer.specs.Resting.{IsResting};
 
 use super::{Books, Ledger, OpenError};
+use crate::PlainMemory;
 use defer_queue::DeferQueue;
 use lpm_groups::Groups;
-use lpm_memory::PlainMemory;
 use lpm_rules::Rules;
 use qsbr::Config;
 use std::alloc::Global;

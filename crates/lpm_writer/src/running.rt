@@ -15,7 +15,7 @@ ghost use Rattle.lpm_writer.specs.Making.{MayMake, HasMade};
 
 use super::Books;
 use super::waiting::retire;
-use lpm_memory::Memory;
+use crate::Memory;
 use lpm_update::Update;
 use qsbr::Config;
 

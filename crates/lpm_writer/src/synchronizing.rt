@@ -13,7 +13,7 @@ ghost use Rattle.lpm_writer.specs.Synchronizing.{IsWaiting};
 use super::Exhausted;
 use super::asking::check;
 use super::ledger::{Ledger, is_out_of_tokens};
-use lpm_memory::Memory;
+use crate::Memory;
 use qsbr::Busy;
 
 /// Starts the token of a synchronize. From then on the ledger waits, until `check_synchronize` has

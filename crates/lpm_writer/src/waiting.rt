@@ -13,8 +13,8 @@ ghost use Rattle.lpm_writer.specs.Taking.{LinksLeast, MayTake, Takes, taken_by};
 
 use super::Books;
 use super::asking::check;
+use crate::Memory;
 use defer_queue::Reclaimed;
-use lpm_memory::Memory;
 use qsbr::{Busy, Config};
 
 /// Frees groups from the oldest in limbo on, at most `max`, up to the first that a worker holds.

@@ -6,6 +6,8 @@
 //! What was given up under a token may be used again once each counter is 0 or at least that token.
 #![tactic(auto)]
 
+pub mod intervals;
+
 ghost use Rattle.std.specs.Prelude.{◌≡◌, ℕ, ◌+◌, ◌^◌, ◌<◌, ◌≤◌, ◌↔◌, IsTrue, IfOk};
 ghost use Rattle.std.specs.Prelude.{length, replicate, slice_index};
 ghost use Rattle.qsbr.specs.Laws.{OlderPasses, NoneHolds, OneIsFirst};

@@ -11,7 +11,7 @@ use Rattle.fib_model.specs.Counting.{counting, IsFirstByCounter}
 use Rattle.fib_model.specs.Outcomes.{Frees}
 use Rattle.fib_model.proofs.ByPlaces.{Passes, Reclaims, by_places}
 use Rattle.lpm_limits.specs.declared.config.Config.{Config}
-use Rattle.lpm_memory.specs.declared.plain.PlainMemory.{PlainMemory}
+use Rattle.lpm_writer.specs.declared.plain_memory.PlainMemory.{PlainMemory}
 use Rattle.lpm_writer.specs.declared.ledger.Ledger.{Ledger}
 use Rattle.lpm_writer.specs.Waiting.{tokens_of}
 use Rattle.fib.specs.Fib.{FibState, IsSound, table_of}

@@ -12,10 +12,10 @@ use Rattle.lpm_update.specs.Linked.{group_at}
 use Rattle.lpm_update.specs.Represents.{Represents}
 use Rattle.lpm_update.specs.Tied.{IsTied, HasGroupRoom}
 use Rattle.defer_queue.specs.Limbo.{Limbo as Queue}
-use Rattle.lpm_memory.specs.declared.plain.PlainMemory.{PlainMemory}
+use Rattle.lpm_writer.specs.declared.plain_memory.PlainMemory.{PlainMemory}
 use Rattle.lpm_trace.specs.Tables.{IsSettled, Unused, Linked}
 use Rattle.lpm_writer.specs.declared.ledger.Ledger.{Ledger}
-use Rattle.lpm_memory.specs.Plain.{PlainDid}
+use Rattle.lpm_writer.specs.Plain.{PlainDid}
 use Rattle.lpm_writer.specs.Opening.{opening_setup}
 use Rattle.lpm_writer.specs.Resting.{IsResting, state_of}
 use Rattle.lpm_writer.specs.Waiting.{tokens_of}
@@ -25,9 +25,9 @@ use Rattle.shared_words.specs.Opened.{Opened, setup_of, status_of}
 use Rattle.shared_words.specs.Layout.{opening_words}
 use Rattle.shared_words.specs.Rule.{writer_view}
 use Rattle.shared_words.specs.Seats.{IsOf, WordsAt}
-use Rattle.shared_memory.specs.declared.loaded.Loaded.{Loaded}
-use Rattle.shared_memory.specs.Loaded.{ArePacked, block_of, opened_by, opened_of}
-use Rattle.shared_memory.proofs.Unpacking.{opened_as_packed}
+use Rattle.shared_fib.specs.declared.loaded.Loaded.{Loaded}
+use Rattle.shared_fib.specs.Loaded.{ArePacked, block_of, opened_by, opened_of}
+use Rattle.shared_fib.proofs.Unpacking.{opened_as_packed}
 use Rattle.shared_fib.specs.Loading.{IsLoaded}
 use Rattle.shared_fib.specs.Running.{Identity, WriterState, IsReady, opening_by, opens_with}
 use Rattle.shared_fib.proofs.Live.{live_settled, live_rests, none_some}

@@ -12,7 +12,7 @@ use Rattle.lpm_writer.proofs.StepsAlone.{steps_passed, steps_stopped}
 use Rattle.shared_words.specs.declared.view.View.{View}
 use Rattle.shared_words.specs.Opened.{Opened, setup_of}
 use Rattle.shared_words.specs.Seats.{AreChecked}
-use Rattle.shared_memory.specs.Lent.{left_by_view}
+use Rattle.shared_fib.specs.Lent.{left_by_view}
 use Rattle.shared_fib.specs.Running.{OnlySees, WriterState, left_by, steps_of}
 use Rattle.shared_fib.proofs.Checked.{each_checked, looked}
 

@@ -23,7 +23,7 @@ use Rattle.lpm_trace.specs.Counts.{token_after}
 use Rattle.lpm_writer.specs.Steps.{AreStopped, Asks, Checks, Loads, Synchronizes, by_steps_from}
 use Rattle.shared_words.specs.declared.view.View.{View}
 use Rattle.shared_words.specs.Rule.{IsLater}
-use Rattle.shared_deeds.proofs.Deeds.{later_trans}
+use Rattle.shared_words.proofs.Deeds.{later_trans}
 
 pub later_same : (xs ys : List WriterStep) → ys ≡ xs → IsLater xs ys
 later_same xs ys same = ([], same)

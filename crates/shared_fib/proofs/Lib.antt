@@ -16,3 +16,7 @@ pub mod Lookups
 pub mod Sorted
 pub mod Later
 pub mod GracePeriods
+pub mod Backwards
+pub mod Since
+pub mod Unpacking
+pub mod Pairing

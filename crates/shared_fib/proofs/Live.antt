@@ -18,7 +18,7 @@ use Rattle.lpm_trace.specs.Tables.{Status, Unused, Linked as LinkedTo, Retired, 
 use Rattle.lpm_writer.specs.Resting.{IsResting}
 use Rattle.lpm_writer.proofs.Beginning.{status_at_first, begins_settled, begins_resting}
 use Rattle.shared_words.specs.Opened.{Opened, status_of, setup_of}
-use Rattle.shared_memory.specs.Loaded.{block_of, opened_of}
+use Rattle.shared_fib.specs.Loaded.{block_of, opened_of}
 
 pub none_some : (g : ℕ) → None ≡ Some g → ⊥
 none_some g e = cc

@@ -2,7 +2,7 @@
 use Rattle.std.proofs.Common.{ℕ, ◌≡◌, ◌≤◌, Bool, All, List, [], ◌∷◌, ◌++◌, length, get_or, Option, refl, ap, sym, subst, ◌∙◌, arith}
 use Rattle.std.proofs.lemmas.List.Elements.{All-cons, All-nil}
 use Rattle.atomic_table.specs.Seated.{TableId}
-use Rattle.lpm_entry.specs.Words.{entry_in}
+use Rattle.lpm_cells.specs.Words.{entry_in}
 use Rattle.lpm_trace.specs.declared.step.WriterStep.{WriterStep}
 use Rattle.lpm_trace.specs.declared.step.WorkerStep.{WorkerStep}
 use Rattle.lpm_trace.specs.declared.step.WorkerStep.TheVariants.{Begins, Ends}
@@ -17,8 +17,8 @@ use Rattle.shared_words.specs.Opened.{Opened, setup_of}
 use Rattle.shared_words.specs.Rule.{IsLater}
 use Rattle.shared_words.specs.Seats.{IsSound, Gains, WorkerAt}
 use Rattle.shared_words.specs.Loads.{Found, IsReadOn, firsts_at, loads_at, seconds_at, seen_of}
-use Rattle.shared_deeds.specs.Deeds.{GainsAll, GainsAt, GoesOn, LoadsAround, LooksUp as DeedLooksUp, LooksUpAll as DeedLooksUpAll}
-use Rattle.shared_deeds.proofs.Deeds.{all_at, gains_on, goes_at, goes_on, later_trans, later_longer}
+use Rattle.shared_words.specs.Deeds.{GainsAll, GainsAt, GoesOn, LoadsAround, LooksUp as DeedLooksUp, LooksUpAll as DeedLooksUpAll}
+use Rattle.shared_words.proofs.Deeds.{all_at, gains_on, goes_at, goes_on, later_trans, later_longer}
 use Rattle.shared_fib.specs.Versions.{updates_begun, updates_done}
 use Rattle.shared_fib.specs.Passes.{PassState, Makes, IsAnswered, IsOfVersion, LooksUp, LooksUpAll}
 use Rattle.shared_fib.proofs.Versions.{beginning_of, counts, written_then, kept}

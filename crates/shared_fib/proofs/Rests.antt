@@ -4,7 +4,7 @@ use Rattle.lpm_cells.specs.Table.{entry_at}
 use Rattle.lpm_limits.specs.declared.config.Config.{Config}
 use Rattle.lpm_rules.specs.RuleMap.{RuleList}
 use Rattle.lpm_update.specs.Represents.{Represents}
-use Rattle.update_laws.proofs.Promises.{best_hop}
+use Rattle.lpm_update.proofs.Promises.{best_hop}
 use Rattle.lpm_trace.specs.declared.step.WriterStep.{WriterStep}
 use Rattle.lpm_trace.specs.Tables.{Setup, tables, begun_at, done_at}
 use Rattle.lpm_trace.specs.Writer.{IsWritten}

@@ -19,7 +19,7 @@ use Rattle.lpm_writer.specs.Resting.{state_of}
 use Rattle.lpm_writer.proofs.StepsAlone.{adds_alone, deletes_alone, flushes_alone, frees_alone}
 use Rattle.shared_words.specs.declared.view.View.{View}
 use Rattle.shared_words.specs.Opened.{setup_of}
-use Rattle.shared_memory.specs.Lent.{Lent, SharedDid, SharedDoes}
+use Rattle.shared_fib.specs.Lent.{Lent, SharedDid, SharedDoes}
 use Rattle.shared_fib.specs.Running.{OnlySees}
 
 -- the step leads from the first memory to the second

@@ -9,13 +9,13 @@ use Rattle.lpm_limits.specs.Limits.{IsConfig}
 use Rattle.lpm_limits.specs.declared.config.Config.{Config}
 use Rattle.lpm_rules.specs.RuleMap.{RuleMap}
 use Rattle.defer_queue.specs.Limbo.{Limbo as Queue}
-use Rattle.lpm_memory.specs.declared.plain.PlainMemory.{PlainMemory}
+use Rattle.lpm_writer.specs.declared.plain_memory.PlainMemory.{PlainMemory}
 use Rattle.lpm_writer.specs.declared.ledger.Ledger.{Ledger}
 use Rattle.fib.specs.Fib.{IsSound}
 use Rattle.fib.proofs.Swept.{fewer_words, sound_swept, ledger, memory}
 use Rattle.shared_words.specs.Layout.{pairs, pair_at, packed}
 use Rattle.shared_words.proofs.Halves.{packed_length}
-use Rattle.shared_memory.specs.declared.loaded.Loaded.{Loaded}
+use Rattle.shared_fib.specs.declared.loaded.Loaded.{Loaded}
 use Rattle.shared_fib.specs.Loading.{IsLoaded, AreSwept}
 use Rattle.shared_fib.proofs.Begins.{loaded_packed, loaded_is}
 

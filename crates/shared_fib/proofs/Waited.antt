@@ -20,8 +20,8 @@ use Rattle.lpm_writer.specs.Resting.{IsResting}
 use Rattle.lpm_writer.proofs.StepsAlone.{checks_alone, checks_fixed, stopped_token}
 use Rattle.shared_words.specs.declared.view.View.{View}
 use Rattle.shared_words.specs.Opened.{setup_of}
-use Rattle.shared_memory.specs.Lent.{Lent, SharedDid, SharedDoes, left_by}
-use Rattle.shared_memory.specs.LentLaws.{shared_shows}
+use Rattle.shared_fib.specs.Lent.{Lent, SharedDid, SharedDoes, left_by}
+use Rattle.shared_fib.specs.LentLaws.{shared_shows}
 use Rattle.shared_fib.specs.Passing.{PassesAtLast}
 use Rattle.shared_fib.proofs.Seated.{Kept, kept, does_in, stays}
 

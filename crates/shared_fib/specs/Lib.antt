@@ -7,3 +7,8 @@ pub mod Passes
 pub mod Loading
 pub mod GracePeriods
 pub mod Matches
+pub mod Laws
+pub mod Loaded
+pub mod Lent
+pub mod LentLaws
+pub mod Pairs

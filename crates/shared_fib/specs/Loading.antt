@@ -1,8 +1,8 @@
 -- This layer's own: what a running table may be opened with, and the words that a sweep over its rules makes.
 use Rattle.std.specs.Prelude.{ℕ, ◌≡◌, ◌-◌, ◌*◌, ◌^◌, ◌≤◌, List, [], ◌∷◌, ◌++◌, length, replicate}
 use Rattle.lpm_bits.specs.Widths.{IsShape}
-use Rattle.lpm_entry.specs.declared.Entry.TheVariants.{Miss}
-use Rattle.lpm_entry.specs.Words.{word_of}
+use Rattle.lpm_cells.specs.declared.entry.Entry.TheVariants.{Miss}
+use Rattle.lpm_cells.specs.Words.{word_of}
 use Rattle.lpm_limits.specs.declared.config.Config.{Config}
 use Rattle.lpm_rules.specs.RuleMap.{RuleMap}
 use Rattle.lpm_update.specs.Represents.{Represents}
@@ -12,8 +12,8 @@ use Rattle.lpm_trace.specs.Tables.{IsSettled}
 use Rattle.lpm_writer.specs.Resting.{IsResting}
 use Rattle.shared_words.specs.Opened.{setup_of}
 use Rattle.shared_words.specs.Layout.{packed}
-use Rattle.shared_memory.specs.declared.loaded.Loaded.{Loaded}
-use Rattle.shared_memory.specs.Loaded.{ArePacked}
+use Rattle.shared_fib.specs.declared.loaded.Loaded.{Loaded}
+use Rattle.shared_fib.specs.Loaded.{ArePacked}
 use Rattle.shared_fib.specs.Running.{opening_by}
 
 -- a running table of these limits may go on from what was loaded: no group waits, and its writer rests

@@ -4,7 +4,7 @@
 use Rattle.std.specs.Prelude.{ℕ, ◌≡◌, ◌+◌, ◌≤◌, ◌<◌, Bool, false, All, List, [], ◌∷◌, ◌++◌, length, map, slice_get, Option, Some, refl}
 use Rattle.std.specs.List.{AllPairs}
 use Rattle.std.specs.Coded.{Coded, code_by, coded×, coded_ℕ, coded_bool, coded_list}
-use Rattle.lpm_entry.specs.Words.{entry_in}
+use Rattle.lpm_cells.specs.Words.{entry_in}
 use Rattle.lpm_rules.specs.RuleMap.{RuleMap}
 use Rattle.lpm_rules.specs.Longest.{IsLongestHop}
 use Rattle.lpm_trace.specs.declared.step.WriterStep.{WriterStep}

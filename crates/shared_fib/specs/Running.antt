@@ -24,8 +24,8 @@ use Rattle.shared_words.specs.declared.layout.Layout.{Layout}
 use Rattle.shared_words.specs.declared.view.View.{View}
 use Rattle.shared_words.specs.Opened.{Opened, coded_opened, setup_of}
 use Rattle.shared_words.specs.Layout.{word_count}
-use Rattle.shared_memory.specs.declared.loaded.Loaded.{Loaded}
-use Rattle.shared_memory.specs.Loaded.{opened_by}
+use Rattle.shared_fib.specs.declared.loaded.Loaded.{Loaded}
+use Rattle.shared_fib.specs.Loaded.{opened_by}
 
 -- ---- the table
 

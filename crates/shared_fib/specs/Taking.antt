@@ -2,8 +2,8 @@
 -- has is free, and one that was given up is free once it was reclaimed; that the least is taken is this
 -- project's).
 use Rattle.std.specs.Prelude.{ℕ, ◌≡◌, ◌+◌, ◌<◌, ◌⊎◌, List, ◌∷◌, ◌++◌, length, Contains}
-use Rattle.lpm_entry.specs.declared.Entry.TheVariants.{Group}
-use Rattle.lpm_entry.specs.Words.{entry_in}
+use Rattle.lpm_cells.specs.declared.entry.Entry.TheVariants.{Group}
+use Rattle.lpm_cells.specs.Words.{entry_in}
 use Rattle.fib_model.specs.State.{State}
 use Rattle.lpm_trace.specs.declared.step.WriterStep.{WriterStep}
 use Rattle.lpm_trace.specs.declared.step.WriterStep.TheVariants.{StoreFirst}

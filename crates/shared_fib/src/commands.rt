@@ -4,20 +4,20 @@ ghost use Rattle.std.specs.Prelude.{ℕ, ◌≡◌, List, take};
 ghost use Rattle.fib_model.specs.Outcomes.{Adds, Deletes, Flushes, Frees};
 ghost use Rattle.lpm_writer.specs.Waiting.{tokens_of};
 ghost use Rattle.shared_words.specs.Opened.{setup_of};
-ghost use Rattle.shared_memory.specs.Lent.{SharedDid};
+ghost use Rattle.shared_fib.specs.Lent.{SharedDid};
 ghost use Rattle.shared_words.specs.Rule.{IsLater};
 ghost use Rattle.shared_words.specs.Seats.{IsOf};
 ghost use Rattle.shared_fib.specs.Freeing.{FreesChecked};
 ghost use Rattle.shared_fib.specs.Running.{IsReady, OnlySees, RestsBy, by_steps, state_by};
 ghost use Rattle.shared_fib.specs.Taking.{TakesLeast};
 
+use crate::SharedMemory;
 use crate::table::Words;
 use defer_queue::Reclaimed;
 use lpm_bits::{Hop, Prefix};
 use lpm_rules::Put;
 use lpm_writer::{Ledger, add, delete, flush, reclaim};
 use qsbr::Refusal;
-use shared_memory::SharedMemory;
 use shared_words::WriterSeat;
 
 // Beside what the command comes to, each says that the memory holds the seat that it held.

@@ -7,15 +7,14 @@ ghost use Rattle.lpm_writer.specs.Steps.{Checks};
 ghost use Rattle.lpm_writer.specs.Waiting.{tokens_of};
 ghost use Rattle.shared_words.specs.Opened.{setup_of};
 ghost use Rattle.shared_words.specs.Seats.{IsOf, with_step};
-ghost use Rattle.shared_memory.specs.Lent.{SharedDid, left_by_view};
+ghost use Rattle.shared_fib.specs.Lent.{SharedDid, left_by_view};
 ghost use Rattle.shared_fib.specs.GracePeriods.{IsInGrace, WaitsBy};
 ghost use Rattle.shared_fib.specs.Running.{IsReady, OnlySees, RestsBy, left_by, state_by, steps_of};
 
 use crate::table::Words;
-use crate::{SharedTable, Writer};
+use crate::{SharedMemory, SharedTable, Writer};
 use lpm_writer::{Exhausted, Ledger, check_synchronize, start_synchronize};
 use qsbr::Busy;
-use shared_memory::SharedMemory;
 use shared_words::WriterSeat;
 use std::marker::Model;
 

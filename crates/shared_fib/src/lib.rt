@@ -7,22 +7,31 @@
 
 mod bench;
 mod commands;
+mod filling;
 mod grace;
+pub mod laws;
 mod laying;
+mod loaded;
+mod memory;
 mod opening;
 mod opening_sorted;
+mod pairs;
 mod pass;
 mod reading;
+mod shared;
 mod synchronizing;
 mod table;
 mod writer;
 
 pub use bench::{Bench, RegisterError};
 pub use grace::{GracePeriod, Held, NotStarted};
+use loaded::Loaded;
 pub use lpm_rules::Answer;
 pub use lpm_writer::{Exhausted, OpenError};
 pub use opening::{go_live, open};
 pub use opening_sorted::open_sorted;
+use pairs::Pairs;
 pub use pass::{FourHops, Pass};
+use shared::SharedMemory;
 pub use table::SharedTable;
 pub use writer::Writer;

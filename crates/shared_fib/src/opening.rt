@@ -10,7 +10,7 @@ ghost use Rattle.lpm_trace.specs.Tables.{IsSettled};
 ghost use Rattle.shared_words.specs.Opened.{setup_of};
 ghost use Rattle.shared_words.specs.Rule.{writer_view};
 ghost use Rattle.shared_words.specs.Seats.{IsOf};
-ghost use Rattle.shared_memory.specs.Loaded.{ArePacked, opened_of};
+ghost use Rattle.shared_fib.specs.Loaded.{ArePacked, opened_of};
 ghost use Rattle.lpm_writer.specs.Opening.{opening_setup};
 ghost use Rattle.shared_fib.specs.Loading.{IsLoaded};
 ghost use Rattle.shared_fib.specs.Passes.{IsFullBench};
@@ -18,13 +18,11 @@ ghost use Rattle.shared_fib.specs.Running.{opening_by, opens_with, setup};
 
 use crate::laying::pack_all;
 use crate::table::Words;
-use crate::{Bench, SharedTable, Writer};
+use crate::{Bench, Loaded, SharedTable, Writer};
 use defer_queue::DeferQueue;
 use fib::Fib;
-use lpm_memory::PlainMemory;
-use lpm_writer::{Books, Ledger, OpenError};
+use lpm_writer::{Books, Ledger, OpenError, PlainMemory};
 use qsbr::Config;
-use shared_memory::Loaded;
 use shared_words::WriterSeat;
 use std::alloc::{AllocError, Global};
 

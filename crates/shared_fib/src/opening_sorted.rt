@@ -12,14 +12,13 @@ ghost use Rattle.shared_fib.specs.Passes.{IsFullBench};
 ghost use Rattle.shared_fib.specs.Running.{opening_by, opens_with};
 
 use crate::opening::go_on;
-use crate::{Bench, SharedTable, Writer};
+use crate::{Bench, Loaded, Pairs, SharedTable, Writer};
 use defer_queue::DeferQueue;
 use fib::opened_ledger;
 use lpm_rules::{Rule, Rules, count_rules};
 use lpm_sweep::{WordList, sweep_into};
 use lpm_writer::{Books, Ledger, OpenError};
 use qsbr::Config;
-use shared_memory::{Loaded, Pairs};
 use shared_words::{Layout, pairs};
 use std::alloc::{AllocError, Global};
 

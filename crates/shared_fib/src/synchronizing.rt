@@ -8,14 +8,13 @@ ghost use Rattle.lpm_writer.specs.Synchronizing.{IsWaiting};
 ghost use Rattle.shared_words.specs.Opened.{setup_of};
 ghost use Rattle.shared_words.specs.Rule.{IsLater};
 ghost use Rattle.shared_words.specs.Seats.{IsOf};
-ghost use Rattle.shared_memory.specs.Lent.{SharedDid, left_by_view};
+ghost use Rattle.shared_fib.specs.Lent.{SharedDid, left_by_view};
 ghost use Rattle.shared_fib.specs.Passing.{PassesAtLast};
 ghost use Rattle.shared_fib.specs.Running.{IsReady, OnlySees, RestsBy, left_by, steps_of};
 
 use crate::table::Words;
-use crate::{SharedTable, Writer};
+use crate::{SharedMemory, SharedTable, Writer};
 use lpm_writer::{Exhausted, Ledger, check_synchronize, start_synchronize};
-use shared_memory::SharedMemory;
 use shared_words::WriterSeat;
 use std::sync::Wait;
 use std::thread::yield_now;

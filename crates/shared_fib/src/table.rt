@@ -4,7 +4,7 @@ ghost use Rattle.std.specs.Prelude.{◌≡◌};
 ghost use Rattle.lpm_writer.specs.Making.{HasWidths};
 ghost use Rattle.shared_fib.specs.Running.{IsFitted, setup};
 
-use shared_memory::Loaded;
+use crate::Loaded;
 use shared_words::SharedWords;
 use std::marker::Model;
 

@@ -5,3 +5,5 @@ pub mod Workings
 pub mod Reading
 pub mod Meetings
 pub mod Seat
+pub mod Deeds
+pub mod Together

@@ -6,7 +6,7 @@ use lib.ListN.{get_elem?}
 use Rattle.atomic_table.specs.Table.{State, Me, step, keeps, Allows, Splits, opening}
 use Rattle.atomic_table.proofs.Lists.{at_set, set_again}
 use Rattle.lpm_cells.specs.Table.{IsWords}
-use Rattle.lpm_entry.proofs.Reading.{word_below}
+use Rattle.lpm_cells.proofs.Reading.{word_below}
 use Rattle.lpm_trace.specs.declared.step.RuleChange.{RuleChange}
 use Rattle.lpm_trace.specs.declared.step.WriterStep.{WriterStep}
 use Rattle.lpm_trace.specs.declared.step.WriterStep.TheVariants.{StoreFirst, StoreSecond, Opens, Closes, BumpToken, LoadCounter}

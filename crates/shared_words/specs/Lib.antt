@@ -3,3 +3,4 @@ pub mod Layout
 pub mod Rule
 pub mod Seats
 pub mod Loads
+pub mod Deeds

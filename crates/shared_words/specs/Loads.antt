@@ -1,9 +1,9 @@
 -- Meaning: what a lookup loads for an address, and which hop that gives (Gupta, Lin and McKeown, INFOCOM 1998,
 -- section 3: a lookup reads one word or two; the place of a load is this project's).
 use Rattle.std.specs.Prelude.{ℕ, ◌≡◌, List, [], ◌∷◌, ◌++◌, Option, Some, None}
-use Rattle.lpm_entry.specs.declared.Entry.{Entry}
-use Rattle.lpm_entry.specs.declared.Entry.TheVariants.{Miss, Hop, Group}
-use Rattle.lpm_entry.specs.Words.{entry_in, hop_in}
+use Rattle.lpm_cells.specs.declared.entry.Entry.{Entry}
+use Rattle.lpm_cells.specs.declared.entry.Entry.TheVariants.{Miss, Hop, Group}
+use Rattle.lpm_cells.specs.Words.{entry_in, hop_in}
 use Rattle.lpm_trace.specs.declared.step.WorkerStep.{WorkerStep}
 use Rattle.lpm_trace.specs.declared.step.WorkerStep.TheVariants.{LoadFirst, LoadSecond}
 use Rattle.lpm_trace.specs.Workers.{Seen}

@@ -8,7 +8,7 @@ use Rattle.atomic_table.specs.Table.{Me, Step}
 use Rattle.lpm_trace.specs.declared.step.WriterStep.{WriterStep}
 use Rattle.lpm_trace.specs.declared.step.WorkerStep.{WorkerStep}
 use Rattle.lpm_trace.specs.declared.step.WorkerStep.TheVariants.{LoadFirst, LoadSecond}
-use Rattle.lpm_entry.specs.Words.{IsLastWord}
+use Rattle.lpm_cells.specs.Words.{IsLastWord}
 use Rattle.lpm_trace.specs.Tables.{tables}
 use Rattle.lpm_trace.specs.Writer.{IsWritten}
 use Rattle.lpm_trace.specs.Trace.{worker_by}

@@ -10,16 +10,22 @@
 //! No call here waits, and none but `open` takes memory.
 #![tactic(auto)]
 
+mod address;
+mod four_addresses;
 mod law;
 mod layout;
 mod opening;
+mod reports;
 mod view;
 mod words;
 mod worker;
 mod writer;
 
+pub use address::lookup;
+pub use four_addresses::{FourAnswers, lookup4};
 pub use layout::{Layout, pairs};
 pub use opening::{Opening, Opens};
+pub use reports::{offline, online, quiescent};
 pub use view::{Role, View};
 pub use words::{SharedWords, open};
 pub use worker::WorkerSeat;

@@ -1,7 +1,7 @@
 //! The seat of a worker.
 
 ghost use Rattle.std.specs.Prelude.{◌≡◌, ℕ, ◌+◌, ◌<◌, All, [], length};
-ghost use Rattle.lpm_entry.specs.Words.{IsLastWord};
+ghost use Rattle.lpm_cells.specs.Words.{IsLastWord};
 ghost use Rattle.lpm_cells.specs.Table.{IsFirstWord};
 ghost use Rattle.lpm_trace.specs.declared.step.WorkerStep.TheVariants.{LoadOnline, StoreOnline, LoadQuiescent, StoreQuiescent, StoreOffline, Begins, LoadFirst as FirstLoad, LoadSecond as SecondLoad, Ends, Meets};
 ghost use Rattle.lpm_trace.specs.Tables.{addresses};

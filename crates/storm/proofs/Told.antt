@@ -17,7 +17,7 @@ use Rattle.shared_words.specs.Loads.{seen_of}
 use Rattle.shared_fib.specs.Running.{Identity, setup}
 use Rattle.shared_fib.specs.Passes.{PassState, IsHistory, LooksUp, Makes}
 use Rattle.shared_fib.proofs.Lookups.{finished_more}
-use Rattle.running_laws.proofs.Backwards.{of_shown, of_version_still, shown}
+use Rattle.shared_fib.proofs.Backwards.{of_shown, of_version_still, shown}
 use Rattle.storm.specs.Looking.{HasLookedUp, IsOfAStandingVersion, answer_of, answers_by, lookups_of, times}
 
 -- the answers are those of the pass, each of whose lookups is of a version

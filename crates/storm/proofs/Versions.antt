@@ -23,7 +23,7 @@ use Rattle.lpm_trace.proofs.Traces.{begun_grows}
 use Rattle.lpm_writer.specs.Making.{HasWidths}
 use Rattle.shared_words.specs.Rule.{IsLater}
 use Rattle.shared_fib.specs.Running.{Identity, IsAtRest, WriterState, left_by, opens_with, setup, steps_of, by_steps}
-use Rattle.running_laws.proofs.Backwards.{versions_stay}
+use Rattle.shared_fib.proofs.Backwards.{versions_stay}
 use Rattle.audit.specs.Wrong.{IsOfSomeVersion, version_from}
 use Rattle.storm.specs.Changing.{HasVersions, IsForWriter, by_own_steps, change_by}
 use Rattle.storm.specs.Looking.{IsOfAStandingVersion, answer_of}

@@ -9,7 +9,7 @@ use Rattle.lpm_trace.specs.Tables.{Setup}
 use Rattle.lpm_trace.specs.Trace.{worker_by}
 use Rattle.lpm_trace.specs.Workers.{Seen}
 use Rattle.lpm_trace.specs.Laws.{ArePlaced}
-use Rattle.running_laws.specs.Laws.{IsOfVersion}
+use Rattle.shared_fib.specs.Laws.{IsOfVersion}
 use Rattle.shared_fib.specs.Running.{Identity, setup}
 use Rattle.shared_fib.specs.Passes.{PassState}
 use Rattle.storm.specs.declared.looking.Worker.{Worker}

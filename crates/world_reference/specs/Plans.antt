@@ -1,7 +1,7 @@
 -- This layer's own: plans of runs (this project's).
 use Rattle.std.specs.Prelude.{◌≡◌, ℕ, ◌+◌, ◌^◌, ◌≤◌, All, List, length}
 use Rattle.lpm_trace.specs.declared.kind.Deed.{Deed}
-use Rattle.world_workers.specs.Scripts.{IsSound}
+use Rattle.interleave.specs.Scripts.{IsSound}
 use Rattle.world_reference.specs.declared.plan.Plan.{Plan}
 
 -- a run can be made by the plan: each worker has a script that it can go through

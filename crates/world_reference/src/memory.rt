@@ -1,7 +1,7 @@
 //! The words that all share, as the list of steps tells their values.
 
 use super::Setting;
-use lpm_entry::Entry;
+use lpm_cells::Entry;
 use lpm_trace::{Actor, Kind, Step};
 
 /// One of the words that all share.

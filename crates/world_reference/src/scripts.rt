@@ -3,7 +3,7 @@
 ghost use Rattle.std.specs.Prelude.{◌≡◌, ◌+◌, ◌^◌, ◌≤◌, All, IfOk, List, ◌∷◌, length};
 ghost use Rattle.lpm_bits.specs.Widths.{IsShape};
 ghost use Rattle.lpm_trace.specs.declared.kind.Deed.{Deed};
-ghost use Rattle.world_workers.specs.Scripts.{IsSound, IsSoundFrom};
+ghost use Rattle.interleave.specs.Scripts.{IsSound, IsSoundFrom};
 ghost use Rattle.world_reference.specs.Plans.{HasDeeds};
 
 use super::draw::Draw;

@@ -5,7 +5,7 @@ use super::{JudgeError, PlainRule, Versions};
 use defer_queue::Reclaimed;
 use interleave::{Change, Kind, Reply, Step};
 use lpm_bits::{Hop, Prefix};
-use lpm_entry::Entry;
+use lpm_cells::Entry;
 use lpm_rules::Put;
 use qsbr::{Busy, Config, Refusal};
 use std::alloc::{AllocError, AllocFailed, Global};

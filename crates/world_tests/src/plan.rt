@@ -2,7 +2,7 @@
 
 ghost use Rattle.std.specs.Prelude.{◌+◌, ◌^◌, All, IsTrue};
 ghost use Rattle.lpm_bits.specs.Widths.{IsShape};
-ghost use Rattle.world_workers.specs.Scripts.{IsSound};
+ghost use Rattle.interleave.specs.Scripts.{IsSound};
 
 use interleave::{Actor, Change, Deed, RunError, Trace, World, script_ok};
 use lpm_bits::{Hop, Prefix, Shape};

@@ -1,6 +1,6 @@
 use Rattle.std.proofs.Common.{◌<◌, [], length, take, refl, ◌∙◌, arith}
 use Rattle.std.proofs.lemmas.List.{take_more, take_more_set}
-use Rattle.shared_deeds.proofs.Deeds.{later_trans}
+use Rattle.shared_words.proofs.Deeds.{later_trans}
 use Rattle.bulk.proofs.Resting.{answers_more}
 use Rattle.bulk.proofs.running.look_up_each.Goals as goal
 

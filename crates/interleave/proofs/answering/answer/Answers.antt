@@ -6,8 +6,8 @@ use Rattle.lpm_writer.specs.Traced.{Traced}
 use Rattle.lpm_trace.specs.declared.step.WriterStep.{WriterStep}
 use Rattle.lpm_writer.specs.Resting.{IsResting, state_of}
 use Rattle.lpm_writer.proofs.StepsAlone.{adds_alone, deletes_alone, flushes_alone, frees_alone}
-use Rattle.world_memory.specs.View.{WorldView}
-use Rattle.world_memory.specs.World.{WorldDid, setting}
+use Rattle.interleave.specs.View.{WorldView}
+use Rattle.interleave.specs.World.{WorldDid, setting}
 use Rattle.interleave.specs.declared.reply.Reply.{Reply}
 use Rattle.interleave.specs.declared.reply.Reply.TheVariants.{Put, Deleted, Flushed, Reclaimed, Refused}
 use Rattle.interleave.specs.Replies.{Answers, kept}

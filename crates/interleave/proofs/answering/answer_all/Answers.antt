@@ -3,8 +3,8 @@ use Rattle.std.specs.Prelude.{is_ok, not, if◌then◌else◌}
 use Rattle.std.proofs.lemmas.List.{take_more, take_all, take-append-drop}
 use Rattle.lpm_trace.specs.declared.kind.Actor.{Actor}
 use Rattle.lpm_trace.specs.declared.kind.Actor.TheVariants.{Writer as WriterActor, Worker as WorkerActor}
-use Rattle.world_memory.specs.Schedule.{writer_items}
-use Rattle.world_memory.proofs.Reaching.{setting_stays}
+use Rattle.interleave.specs.Schedule.{writer_items}
+use Rattle.interleave.proofs.Reaching.{setting_stays}
 use Rattle.interleave.proofs.ScriptAnswers.{HasAnswered, HasEnded, HasCome, IsLate, answered_more, ends_all, ends_before, ends_late, ends_waiting}
 use Rattle.interleave.proofs.answering.answer_all.Goals as goal
 

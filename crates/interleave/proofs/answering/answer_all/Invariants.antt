@@ -1,5 +1,5 @@
 use Rattle.std.proofs.Common.{◌≡◌, take}
-use Rattle.world_memory.specs.World.{setting}
+use Rattle.interleave.specs.World.{setting}
 use Rattle.interleave.proofs.ScriptAnswers.{HasAnswered}
 use Rattle.interleave.proofs.answering.answer_all.Given as goal
 

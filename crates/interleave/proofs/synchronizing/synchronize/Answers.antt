@@ -5,9 +5,9 @@ use Rattle.lpm_trace.proofs.Counts.{token_is}
 use Rattle.lpm_writer.specs.Traced.{Checks}
 use Rattle.lpm_writer.specs.Synchronizing.{IsWaiting}
 use Rattle.lpm_writer.proofs.StepsAlone.{checks_alone, checks_fixed}
-use Rattle.world_memory.specs.View.{WorldView}
-use Rattle.world_memory.specs.World.{WorldDid, setting}
-use Rattle.world_memory.specs.WorldLaws.{world_shows}
+use Rattle.interleave.specs.View.{WorldView}
+use Rattle.interleave.specs.World.{WorldDid, setting}
+use Rattle.interleave.specs.WorldLaws.{world_shows}
 use Rattle.interleave.specs.Replies.{Waits, kept, next_token}
 use Rattle.interleave.proofs.Settings.{Setting, does_in, stays}
 use Rattle.interleave.proofs.Waited.{waited_none, waited_more}

@@ -1,5 +1,5 @@
 use Rattle.std.proofs.Common.{◌≡◌}
-use Rattle.world_memory.specs.World.{WorldDid, setting}
+use Rattle.interleave.specs.World.{WorldDid, setting}
 use Rattle.interleave.proofs.Waited.{HasWaited}
 use Rattle.interleave.proofs.synchronizing.synchronize.Given as goal
 

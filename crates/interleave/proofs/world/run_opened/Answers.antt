@@ -2,8 +2,8 @@ use Rattle.std.proofs.Common.{arith, ◌≡◌, ◌≤◌, ap, sym, subst, ◌�
 use Rattle.std.proofs.lemmas.List.{length-map}
 use Rattle.lpm_writer.specs.Opening.{opening_setup}
 use Rattle.lpm_writer.specs.Waiting.{tokens_of}
-use Rattle.world_memory.specs.Schedule.{writer_items}
-use Rattle.world_memory.specs.World.{IsPlayedOut}
+use Rattle.interleave.specs.Schedule.{writer_items}
+use Rattle.interleave.specs.World.{IsPlayedOut}
 use Rattle.interleave.specs.Replies.{kept}
 use Rattle.interleave.specs.Runs.{IsPerformed}
 use Rattle.interleave.proofs.Ends.{opens, nothing_yet, run_ends}

@@ -1,8 +1,8 @@
 use Rattle.std.proofs.Common.{arith, ◌≡◌, ℕ, ◌+◌, ◌/◌, ◌^◌, ◌<◌, ap, sym, ◌∙◌, subst, length, lit<, take, List, [], ◌∷◌, ◌++◌, refl}
 use Rattle.std.proofs.lemmas.Nat.{mul-le, pow_below}
 use Rattle.std.proofs.lemmas.Grind.{common_steps}
-use Rattle.lpm_entry.specs.declared.Entry.TheVariants.{Group}
-use Rattle.lpm_entry.specs.Words.{word_of}
+use Rattle.lpm_cells.specs.declared.entry.Entry.TheVariants.{Group}
+use Rattle.lpm_cells.specs.Words.{word_of}
 use Rattle.lpm_update.proofs.Places.{word_entry}
 use Rattle.lpm_sweep.specs.Frames.{held, word_at}
 use Rattle.lpm_rules.specs.Listed.{prefix_at, rules_of}

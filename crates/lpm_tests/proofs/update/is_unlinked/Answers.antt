@@ -1,7 +1,7 @@
 use Rattle.std.proofs.Common.{arith, ◌≡◌, inl, inr, subst}
 use Rattle.std.proofs.lemmas.Bool.{cases_lt}
 use Rattle.lpm_update.specs.Linked.{IsLinkTo}
-use Rattle.update_laws.proofs.Promises.{past_group}
+use Rattle.lpm_update.proofs.Promises.{past_group}
 use Rattle.lpm_tests.proofs.update.is_unlinked.Goals as goal
 
 pub loop-block-preserved : goal.loop-block-preserved

@@ -1,6 +1,6 @@
 use Rattle.std.proofs.Common.{subst}
 use Rattle.lpm_update.specs.Step.{Steps}
-use Rattle.update_laws.proofs.Promises.{plain_allows, run_goes_on, run_ends}
+use Rattle.lpm_update.proofs.Promises.{plain_allows, run_goes_on, run_ends}
 use Rattle.lpm_tests.proofs.update.record.Goals as goal
 
 pub step-requires-clause-allows : goal.step-requires-clause-allows

@@ -1,6 +1,6 @@
 use Rattle.std.proofs.Common.{ap, sym, ◌∙◌, subst, ◌≡◌, ◌*◌, ◌^◌, ◌<◌, ◌%◌, length}
 use Rattle.std.specs.Prelude.{slice_index}
-use Rattle.lpm_entry.specs.Words.{entry_in}
+use Rattle.lpm_cells.specs.Words.{entry_in}
 use Rattle.lpm_cells.specs.Table.{with_first}
 use Rattle.lpm_update.specs.Linked.{IsLinkTo}
 use Rattle.lpm_update.specs.UnlinkGroup.{IsUnlinkStore}

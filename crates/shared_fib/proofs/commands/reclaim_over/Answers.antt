@@ -4,7 +4,7 @@ use Rattle.lpm_trace.specs.Tables.{Setup}
 use Rattle.fib_model.specs.Outcomes.{Frees}
 use Rattle.lpm_writer.specs.Resting.{IsResting, state_of}
 use Rattle.shared_words.specs.Opened.{setup_of}
-use Rattle.shared_memory.specs.Lent.{Lent}
+use Rattle.shared_fib.specs.Lent.{Lent}
 use Rattle.shared_fib.specs.Running.{by_steps}
 use Rattle.shared_fib.proofs.Seated.{Kept, kept, freed, only_sees, rests_after, outcome_after}
 use Rattle.shared_fib.proofs.commands.reclaim_over.Goals as goal

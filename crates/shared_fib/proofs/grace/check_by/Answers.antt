@@ -5,7 +5,7 @@ use Rattle.lpm_writer.specs.Steps.{Checks}
 use Rattle.shared_words.specs.declared.view.View.{View}
 use Rattle.shared_words.specs.Opened.{setup_of}
 use Rattle.shared_words.specs.Seats.{AreChecked}
-use Rattle.shared_memory.specs.Lent.{left_by_view}
+use Rattle.shared_fib.specs.Lent.{left_by_view}
 use Rattle.shared_fib.specs.GracePeriods.{WaitsBy}
 use Rattle.shared_fib.specs.Running.{OnlySees, RestsBy}
 use Rattle.shared_fib.proofs.GracePeriods.{on_ok_then, on_err_then, seat_passed, seat_token_stays}

@@ -7,7 +7,7 @@ use Rattle.lpm_writer.specs.Synchronizing.{IsWaiting}
 use Rattle.lpm_writer.specs.Steps.{Checks}
 use Rattle.lpm_writer.proofs.StepsAlone.{checks_alone, checks_fixed}
 use Rattle.shared_words.specs.Opened.{setup_of}
-use Rattle.shared_memory.specs.Lent.{Lent, left_by}
+use Rattle.shared_fib.specs.Lent.{Lent, left_by}
 use Rattle.shared_fib.proofs.Seated.{Kept, kept, does_in, stays, only_sees, rests_after, outcome_after}
 use Rattle.shared_fib.proofs.Waited.{queued_passed}
 use Rattle.shared_fib.proofs.GracePeriods.{on_ok_then, on_ok_both, on_err_then}

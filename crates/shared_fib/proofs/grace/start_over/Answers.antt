@@ -3,7 +3,7 @@ use Rattle.lpm_trace.specs.declared.step.WriterStep.{WriterStep}
 use Rattle.lpm_trace.specs.Tables.{Setup}
 use Rattle.lpm_writer.specs.Synchronizing.{IsWaiting}
 use Rattle.shared_words.specs.Opened.{setup_of}
-use Rattle.shared_memory.specs.Lent.{Lent}
+use Rattle.shared_fib.specs.Lent.{Lent}
 use Rattle.shared_fib.proofs.Seated.{rests_after}
 use Rattle.shared_fib.proofs.GracePeriods.{either, on_ok_then}
 use Rattle.shared_fib.proofs.grace.start_over.Goals as goal

@@ -1,5 +1,5 @@
 use Rattle.std.proofs.Common.{◌≡◌, ◌^◌, ◌<◌, ◌≤◌, refl, rules, arith}
-use Rattle.shared_memory.specs.declared.loaded.Loaded.{Loaded}
+use Rattle.shared_fib.specs.declared.loaded.Loaded.{Loaded}
 use Rattle.shared_fib.proofs.Begins.{loaded_packed, opens_loaded, loaded_is}
 use Rattle.shared_fib.proofs.opening.load.Goals as goal
 

@@ -1,5 +1,5 @@
 use Rattle.std.proofs.Common.{refl, arith, rules}
-use Rattle.shared_memory.specs.declared.loaded.Loaded.{Loaded}
+use Rattle.shared_fib.specs.declared.loaded.Loaded.{Loaded}
 use Rattle.lpm_rules.specs.Listed.{rules_of}
 use Rattle.shared_fib.proofs.Sorted.{few_firsts, few_seconds, swept_loaded}
 use Rattle.shared_fib.proofs.opening_sorted.load_swept.Goals as goal

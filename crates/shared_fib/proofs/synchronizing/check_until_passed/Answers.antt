@@ -5,7 +5,7 @@ use Rattle.lpm_writer.specs.declared.ledger.Ledger.{Ledger}
 use Rattle.lpm_writer.specs.Resting.{IsResting}
 use Rattle.lpm_writer.specs.Synchronizing.{IsWaiting}
 use Rattle.shared_words.specs.Opened.{setup_of}
-use Rattle.shared_memory.specs.Lent.{Lent}
+use Rattle.shared_fib.specs.Lent.{Lent}
 use Rattle.shared_fib.proofs.Seated.{Kept, kept, only_sees, rests_after, outcome_after}
 use Rattle.shared_fib.proofs.Waited.{not_yet, still, once_more, at_last, queued_passed}
 use Rattle.shared_fib.proofs.synchronizing.check_until_passed.Goals as goal

@@ -4,7 +4,7 @@ use Rattle.lpm_trace.specs.Tables.{Setup}
 use Rattle.lpm_writer.specs.Synchronizing.{IsWaiting}
 use Rattle.shared_words.specs.declared.view.View.{View}
 use Rattle.shared_words.specs.Opened.{setup_of}
-use Rattle.shared_memory.specs.Lent.{Lent, SharedDid}
+use Rattle.shared_fib.specs.Lent.{Lent, SharedDid}
 use Rattle.shared_fib.proofs.Seated.{rests_after}
 use Rattle.shared_fib.proofs.Waited.{synchronized}
 use Rattle.shared_fib.proofs.synchronizing.synchronize_over.Goals as goal

@@ -1,5 +1,5 @@
 use Rattle.std.proofs.Common.{◌≡◌, ◌+◌, ◌^◌, All, length}
-use Rattle.world_workers.specs.Scripts.{IsSound}
+use Rattle.interleave.specs.Scripts.{IsSound}
 use Rattle.world_reference.specs.Plans.{HasDeeds}
 use Rattle.world_reference.proofs.scripts.draw_scripts.Given as goal
 

@@ -1,6 +1,6 @@
 use Rattle.std.proofs.Common.{◌+◌, ◌^◌, [], subst}
 use Rattle.std.proofs.lemmas.List.{append-nil}
-use Rattle.world_workers.specs.Scripts.{IsSound}
+use Rattle.interleave.specs.Scripts.{IsSound}
 use Rattle.world_reference.proofs.scripts.script.Goals as goal
 
 pub returns-clause-sound : goal.returns-clause-sound

@@ -1,6 +1,6 @@
 use Rattle.std.proofs.Common.{◌≡◌, ◌+◌, ◌^◌, List, ◌++◌, length}
 use Rattle.lpm_trace.specs.declared.kind.Deed.{Deed}
-use Rattle.world_workers.specs.Scripts.{IsSound, IsSoundFrom}
+use Rattle.interleave.specs.Scripts.{IsSound, IsSoundFrom}
 use Rattle.world_reference.proofs.scripts.script.Given as goal
 
 abbrev pub invariant-loop : goal.invariant-loop

@@ -2,7 +2,7 @@ use Rattle.std.proofs.Common.{arith, ◌+◌, ◌^◌, take, ◌≡◌}
 use Rattle.std.proofs.lemmas.Grind.{common_steps}
 use Rattle.std.proofs.lemmas.List.{take_all}
 use Rattle.std.proofs.lemmas.List.Elements.{All-more}
-use Rattle.world_workers.specs.Scripts.{IsSound}
+use Rattle.interleave.specs.Scripts.{IsSound}
 use Rattle.world_tests.proofs.plan.are_sound.Goals as goal
 
 pub loop-script-preserved : goal.loop-script-preserved

@@ -1,5 +1,5 @@
 use Rattle.std.proofs.Common.{◌+◌, ◌^◌, All, take}
-use Rattle.world_workers.specs.Scripts.{IsSound}
+use Rattle.interleave.specs.Scripts.{IsSound}
 use Rattle.world_tests.proofs.plan.are_sound.Given as goal
 
 -- the scripts so far are sound

@@ -1,8 +1,8 @@
 use Rattle.std.proofs.Common.{sym, subst, ◌+◌, ◌∙◌, ap}
 use Rattle.lpm_cells.specs.Table.{entry_at}
-use Rattle.lpm_entry.specs.Words.{hop_in}
+use Rattle.lpm_cells.specs.Words.{hop_in}
 use Rattle.lpm_rules.specs.Longest.{IsLongestHop}
-use Rattle.update_laws.proofs.Promises.{best_hop}
+use Rattle.lpm_update.proofs.Promises.{best_hop}
 use Rattle.fib.specs.Fib.{FibState}
 use Rattle.fib.proofs.fib.Fib.lookup.Goals as goal
 

@@ -1,8 +1,8 @@
 use Rattle.std.proofs.Common.{sym, ap, ◌∙◌, subst, ◌≡◌}
 use Rattle.lpm_update.specs.Represents.{Represents}
 use Rattle.lpm_rules.specs.RuleMap.{RuleList}
-use Rattle.update_laws.specs.Laws.{blank_words}
-use Rattle.update_laws.proofs.Promises.{blank}
+use Rattle.lpm_update.specs.Laws.{blank_words}
+use Rattle.lpm_update.proofs.Promises.{blank}
 use Rattle.lpm_tests.proofs.update.Table.open.Goals as goal
 
 pub invariant_of-result : goal.invariant_of-result

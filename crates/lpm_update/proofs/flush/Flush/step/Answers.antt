@@ -1,7 +1,7 @@
 use Rattle.std.proofs.Common.{arith, ap, sym, ◌∙◌, subst, ◌≡◌, ◌^◌, ◌<◌, ◌+◌, length}
 use Rattle.std.specs.Prelude.{slice_index}
 use Rattle.std.proofs.lemmas.Nat.{one_shl}
-use Rattle.lpm_entry.specs.Words.{entry_in, group_in}
+use Rattle.lpm_cells.specs.Words.{entry_in, group_in}
 use Rattle.lpm_cells.specs.Table.{with_first}
 use Rattle.lpm_update.specs.declared.Did.TheVariants.{First, Unlinked, Done}
 use Rattle.lpm_update.specs.declared.update.Plan.TheVariants.{Flush}

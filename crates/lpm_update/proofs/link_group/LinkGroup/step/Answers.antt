@@ -1,7 +1,7 @@
 use Rattle.std.proofs.Common.{refl, arith, ap, sym, ◌∙◌, subst, ◌≡◌, ◌+◌, ◌*◌, ◌^◌, ◌%◌, ◌<◌}
 use Rattle.std.specs.Prelude.{slice_index}
 use Rattle.std.proofs.lemmas.Nat.{one_shl, shl_whole}
-use Rattle.lpm_entry.specs.Words.{entry_in, word_of}
+use Rattle.lpm_cells.specs.Words.{entry_in, word_of}
 use Rattle.lpm_cells.specs.Table.{with_second}
 use Rattle.lpm_update.specs.declared.Did.TheVariants.{First, Second}
 use Rattle.lpm_update.specs.declared.update.Plan.TheVariants.{Link}

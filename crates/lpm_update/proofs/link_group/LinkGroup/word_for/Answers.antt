@@ -1,5 +1,5 @@
 use Rattle.std.proofs.Common.{◌+◌, ◌≡◌, ap, sym, ◌∙◌, cond, true, false, arith}
-use Rattle.lpm_entry.specs.Words.{entry_in, word_of}
+use Rattle.lpm_cells.specs.Words.{entry_in, word_of}
 use Rattle.lpm_update.specs.Rewrite.{changed, replaces}
 use Rattle.lpm_update.proofs.Links.{range_true, range_low, range_high}
 use Rattle.lpm_update.proofs.link_group.LinkGroup.word_for.Goals as goal

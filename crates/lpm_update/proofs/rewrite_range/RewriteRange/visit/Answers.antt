@@ -1,7 +1,7 @@
 use Rattle.std.proofs.Common.{rules, ap, sym, ◌∙◌, subst, arith, ◌≡◌, ◌+◌, ◌*◌, ◌^◌, ◌<◌, ◌/◌, ◌%◌, length, true, false}
 use Rattle.std.specs.Prelude.{slice_index}
 use Rattle.std.proofs.lemmas.Nat.{one_shl}
-use Rattle.lpm_entry.specs.Words.{IsLast, entry_in}
+use Rattle.lpm_cells.specs.Words.{IsLast, entry_in}
 use Rattle.lpm_cells.specs.Table.{with_first, with_second}
 use Rattle.lpm_update.specs.Linked.{IsLinkTo}
 use Rattle.lpm_update.specs.Rewrite.{replaces}

@@ -1,0 +1,49 @@
+-- This layer's own: what the plain program keeps, and what it answers (this project's).
+use Rattle.std.specs.Prelude.{ℕ, ◌≡◌, ◌-◌, List, [], length, reverse}
+use Rattle.std.specs.FinMap.{len}
+use Rattle.lpm_rules.specs.RuleMap.{RuleMap}
+use Rattle.lpm_limits.specs.declared.config.Config.{Config}
+use Rattle.fib_model.specs.declared.command.Command.{Command}
+use Rattle.fib_model.specs.declared.event.Event.{Event}
+use Rattle.fib_model.specs.declared.plain.Account.{Account}
+use Rattle.fib_model.specs.declared.plain.Plain.{Plain}
+use Rattle.fib_model.specs.declared.waiting.Waiting.{Waiting}
+use Rattle.qsbr.specs.Intervals.{IsTidy}
+use Rattle.fib_model.specs.Intervals.{by_reports}
+use Rattle.fib_model.specs.State.{State}
+use Rattle.fib_model.specs.Outcomes.{Runs, logged, groups_in_use}
+use Rattle.fib_model.specs.Textbook.{textbook, by_intervals, beginning}
+
+-- the events, the newest first
+abbrev pub events_of : Waiting → List Event
+events_of w = reverse w.events.items
+
+-- workers that take turns made these reports
+abbrev pub IsSound : Config → Waiting → Type 0
+IsSound c w = IsTidy by_reports c.workers (events_of w)
+
+-- the state with these rules, after so many updates
+abbrev pub state_with : RuleMap → ℕ → Waiting → State (List Event)
+state_with rules begun w = record {
+  rules = rules;
+  readers = events_of w;
+  limbo = w.limbo.items;
+  begun = begun;
+}
+
+abbrev pub state_of : {first second : ℕ} → Plain first second → State (List Event)
+state_of p = state_with p.rules.rules p.begun p.waiting
+
+-- what a run of these commands has come to: the outcome of each, and the counts at its end
+pub record IsAccount (first second : ℕ) (c : Config) (commands : List (Command first second))
+    (a : Account) : Type 0 where
+  pub state : State (List Event)
+  pub runs : Runs (by_intervals c) first second c beginning
+      (logged [] commands a.outcomes.items) state
+  pub each : length a.outcomes.items ≡ length commands
+  pub rules : a.rules ≡ len state.rules
+  pub versions : a.versions ≡ state.begun
+  pub in_use : a.in_use ≡ groups_in_use first second state.rules
+  pub limbo : a.limbo ≡ length state.limbo
+  pub free : a.free ≡ c.groups - groups_in_use first second state.rules - length state.limbo
+  pub token : a.token ≡ (textbook c).token state.readers

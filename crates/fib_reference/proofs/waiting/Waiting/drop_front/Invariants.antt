@@ -1,9 +1,0 @@
-use Rattle.std.proofs.Common.{◌≡◌, drop}
-use Rattle.fib_reference.proofs.waiting.Waiting.drop_front.Given as goal
-
--- so many are gone
-abbrev pub invariant-loop-taken : goal.invariant-loop-taken
-invariant-loop-taken l = record {
-  limbo : l.self.limbo.items ≡ drop l._taken l.fn.self.limbo.items;
-  events : l.self.events ≡ l.fn.self.events;
-}

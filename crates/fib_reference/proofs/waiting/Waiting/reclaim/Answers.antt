@@ -1,5 +1,0 @@
-use Rattle.defer_queue.proofs.Fronts.{Reclaims-within}
-use Rattle.fib_reference.proofs.waiting.Waiting.reclaim.Goals as goal
-
-pub drop_front-requires : goal.drop_front-requires
-drop_front-requires c = Reclaims-within c.front-reclaimed.ensures

@@ -1,5 +1,0 @@
-use Rattle.std.proofs.Common.{rules}
-use Rattle.lpm_entry.proofs.Entry.group_of_word.Goals as goal
-
-pub returns : goal.returns
-returns c = search rules

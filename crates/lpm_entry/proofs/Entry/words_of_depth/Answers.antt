@@ -1,5 +1,0 @@
-use Rattle.std.proofs.Common.{rules}
-use Rattle.lpm_entry.proofs.Entry.words_of_depth.Goals as goal
-
-pub returns-clause-greatest : goal.returns-clause-greatest
-returns-clause-greatest c = search rules

@@ -1,0 +1,56 @@
+-- Meaning: reader intervals (DPDK Programmer's Guide, "RCU Library": a grace period lasts until
+-- each reader that may hold a reference has been in a quiescent state; the intervals between a
+-- reader's quiescent states are those in which it may hold one). No token or counter is looked
+-- at.
+use Rattle.std.specs.Prelude.{ℕ, ◌≡◌, ◌<◌, ◌≤◌, Bool, IsTrue, List, Option, None, IsSomeAnd, MatchOption}
+use Rattle.qsbr.specs.Places.{event_at}
+
+-- which events begin a reader interval of a worker, and which end one; an event can do both
+pub record Reporting (E : Type 0) : Type 0 where
+  pub begins : ℕ → E → Bool
+  pub ends : ℕ → E → Bool
+
+-- a reader interval of the worker begins at the place
+abbrev pub BeginsAt : {E : Type 0} → Reporting E → List E → ℕ → ℕ → Type 0
+BeginsAt r events worker place =
+    IsSomeAnd (event_at events place) (λ event. IsTrue (r.begins worker event))
+
+-- a reader interval of the worker ends at the place
+abbrev pub EndsAt : {E : Type 0} → Reporting E → List E → ℕ → ℕ → Type 0
+EndsAt r events worker place =
+    IsSomeAnd (event_at events place) (λ event. IsTrue (r.ends worker event))
+
+-- from one place to another; to none while it runs
+pub record Interval : Type 0 where
+  pub worker : ℕ
+  pub start : ℕ
+  pub end : Option ℕ
+
+-- it begins at an event that begins one, and ends at the next event after it that ends one
+pub record IsReaderInterval {E : Type 0} (r : Reporting E) (events : List E) (i : Interval)
+    : Type 0 where
+  pub begins : BeginsAt r events i.worker i.start
+  pub ends : MatchOption i.end
+      ((place : ℕ) → i.start < place → ¬ EndsAt r events i.worker place)
+      (λ end. (i.start < end) × EndsAt r events i.worker end
+      × ((place : ℕ) → i.start < place → place < end → ¬ EndsAt r events i.worker place))
+
+-- it holds what lies after its beginning and, where it has an end, before its end
+abbrev pub Holds : Interval → ℕ → Type 0
+Holds i place = (i.start < place) × MatchOption i.end (Unit {0}) (λ end. place < end)
+
+-- a running reader interval of the worker began at `start`
+abbrev pub IsRunningSince : {E : Type 0} → Reporting E → List E → ℕ → ℕ → Type 0
+IsRunningSince r events worker start =
+    IsReaderInterval r events (record { worker = worker; start = start; end = None })
+
+-- a running reader interval of the worker holds the place
+abbrev pub IsHeldByWorker : {E : Type 0} → Reporting E → List E → ℕ → ℕ → Type 0
+IsHeldByWorker r events place worker = (i : Interval) × (i.worker ≡ worker) × (i.end ≡ None)
+    × IsReaderInterval r events i × Holds i place
+
+-- workers take turns: each has at most one running reader interval, and a number past the workers
+-- has none
+pub record IsTidy {E : Type 0} (r : Reporting E) (workers : ℕ) (events : List E) : Type 0 where
+  pub one : (w s t : ℕ) → IsRunningSince r events w s → IsRunningSince r events w t → s ≡ t
+  pub others : (w s : ℕ) → workers ≤ w → ¬ IsRunningSince r events w s

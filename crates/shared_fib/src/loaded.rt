@@ -1,0 +1,22 @@
+//! What a running table is opened with.
+
+use lpm_groups::Groups;
+use lpm_rules::Rules;
+use shared_words::{Layout, Opens};
+
+/// What a running table takes over of a table of one thread, once no worker looks up any more: its words
+/// and the newest token, as the list of shared words has them, where each of them lies, the rules and the
+/// groups. A running table goes on from it.
+#[derive(Drop)]
+pub struct Loaded<const FIRST: u32, const SECOND: u32> {
+    pub words: Vec<u64>,
+    pub layout: Layout,
+    pub rules: Rules<FIRST, SECOND>,
+    pub groups: Groups,
+}
+
+impl<const FIRST: u32, const SECOND: u32> Opens for Loaded<FIRST, SECOND> {
+    ghost use Rattle.shared_fib.specs.Loaded.{opened_by};
+
+    ghost opened = { λ l. opened_by FIRST SECOND l.words.items l.layout l.rules.rules l.groups };
+}

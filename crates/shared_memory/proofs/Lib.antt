@@ -1,2 +1,0 @@
-pub mod Unpacking
-pub mod Pairing

@@ -1,5 +1,0 @@
-use Rattle.shared_memory.proofs.Pairing.{count_is}
-use Rattle.shared_memory.proofs.filling.PairsWordList.count.Goals as goal
-
-pub returns : goal.returns
-returns c = count_is c.self.inside.count c.self.inside.words.items c.args.self.now c.self.view_is

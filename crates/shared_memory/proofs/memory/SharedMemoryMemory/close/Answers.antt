@@ -1,5 +1,0 @@
-use Rattle.std.proofs.Common.{rules}
-use Rattle.shared_memory.proofs.memory.SharedMemoryMemory.close.Goals as goal
-
-pub close_update-requires-clause-next : goal.close_update-requires-clause-next
-close_update-requires-clause-next c = search rules

@@ -1,5 +1,0 @@
-use Rattle.std.proofs.Common.{rules}
-use Rattle.shared_memory.proofs.memory.SharedMemoryMemory.workers.Goals as goal
-
-pub returns : goal.returns
-returns c = search rules

@@ -1,4 +1,0 @@
-pub mod Loaded
-pub mod Lent
-pub mod LentLaws
-pub mod Pairs

@@ -1,0 +1,305 @@
+-- Steps of a worker one after another.
+use Rattle.std.proofs.Common.{◌≡◌, ℕ, ◌+◌, ◌^◌, ◌≤◌, All, List, [], ◌∷◌, ◌++◌, length, Option, Some, None, refl, sym, ap, subst, ◌∙◌, arith, append_assoc, length-set, length-append}
+use Rattle.std.proofs.lemmas.List.{nil_from_length}
+use Rattle.std.proofs.lemmas.List.Elements.{All-head, All-tail}
+use Rattle.lpm_cells.specs.Table.{IsFirstWord}
+use Rattle.lpm_cells.specs.declared.entry.Entry.{Entry}
+use Rattle.lpm_cells.specs.declared.entry.Entry.TheVariants.{Miss, Hop, Group}
+use Rattle.lpm_cells.specs.Words.{entry_in, hop_in, IsLast}
+use Rattle.lpm_trace.specs.declared.step.WriterStep.{WriterStep}
+use Rattle.lpm_trace.specs.declared.step.WriterStep.TheVariants.{StoreFirst, StoreSecond, Opens, Closes, BumpToken, LoadCounter}
+use Rattle.lpm_trace.specs.declared.step.WorkerStep.{WorkerStep}
+use Rattle.lpm_trace.specs.declared.step.WorkerStep.TheVariants.{Begins, LoadFirst, LoadSecond, Ends}
+use Rattle.lpm_trace.specs.Tables.{Setup, oldest, tables, done_at, begun_at, begun}
+use Rattle.lpm_trace.specs.Trace.{worker_by}
+use Rattle.lpm_trace.specs.Workers.{Worker as WorkerState, Online, Unread, InGroup, Answered, Seen, Probe, moved, read_first, first_read, MayRead}
+use Rattle.lpm_trace.specs.Laws.{IsLegalAtPlace, ArePlaced}
+use Rattle.lpm_trace.proofs.Traces.{oldest_all}
+use Rattle.shared_words.specs.declared.view.View.{View}
+use Rattle.shared_words.specs.Opened.{Opened, setup_of}
+use Rattle.shared_words.specs.Rule.{IsLater}
+use Rattle.shared_words.specs.Seats.{IsSound, Gains}
+use Rattle.shared_words.specs.Loads.{Found, IsReadOn, seen_of}
+use Rattle.shared_words.specs.Deeds.{GainsAll, GainsAt, GoesOn, LoadsAround, LoadsWords, LooksUp}
+
+-- ---- one step
+
+pub later_trans : (xs ys zs : List WriterStep) → IsLater xs ys → IsLater ys zs → IsLater xs zs
+later_trans xs ys zs h k =
+    (k.0 ++ h.0, k.1 ∙ (ap (λ (zs : List WriterStep). k.0 ++ zs) h.1 ∙ sym (append_assoc k.0 h.0 xs)))
+
+-- a view that gains a step goes on, and its worker's state is moved
+pub gains_on : (r : WorkerStep) (v w : View) → Gains r v w → GoesOn v w
+gains_on r v w g =
+    let same : w.seen ≡ g.seen = ap (λ (x : View). x.seen) g.view in
+    let mine : w.own ≡ (r, length g.seen) ∷ v.own = ap (λ (x : View). x.own) g.view in
+    record {
+      same = g.view ∙ ap (λ (z : List (WorkerStep × ℕ) × List WriterStep). record v { own = z.0; seen = z.1 })
+          (λ i. (sym mine i, sym same i));
+      later = subst (IsLater v.seen) (sym same) g.later;
+    }
+
+pub later_longer : (xs ys : List WriterStep) → IsLater xs ys → length xs ≤ length ys
+later_longer xs ys h = omega (arith, ap length h.1, length-append h.0 xs)
+
+pub goes_on : (u v w : View) → GoesOn u v → GoesOn v w → GoesOn u w
+goes_on u v w h k = record {
+  same = k.same ∙ ap (λ (x : View). record x { own = w.own; seen = w.seen }) h.same;
+  later = later_trans u.seen v.seen w.seen h.later k.later;
+}
+
+pub gains_state : (r : WorkerStep) (v w : View) (g : Gains r v w)
+    → worker_by w.own ≡ moved (length g.seen) (worker_by v.own) r
+gains_state r v w g = ap (λ (x : View). worker_by x.own) g.view
+
+-- a step may come at the end of what the worker has seen by then of the writer's steps
+pub may_now : (s : WorkerStep) (v w : View) → Gains s v w → IsSound w
+    → MayRead (setup_of v.opening) (tables (setup_of v.opening) w.seen) (worker_by v.own) s
+may_now s v w g known =
+    let c : Setup = setup_of v.opening in
+    let placed = subst (λ (x : View). ArePlaced (setup_of x.opening) x.seen x.own) g.view known.placed in
+    let all : oldest (length g.seen) g.seen ≡ g.seen = oldest_all g.seen (length g.seen) (omega arith) in
+    subst (λ (l : List WriterStep). MayRead c (tables c l) (worker_by v.own) s)
+    (all ∙ sym (ap (λ (x : View). x.seen) g.view)) placed.0
+
+-- the two loads of the sequence tell how many updates were done and begun at their places
+pub around : (addrs : List ℕ) (low high lo hi : ℕ) (v b u w : View) (begins : Gains (Begins addrs low) v b)
+    (ends : Gains (Ends high) u w) → IsSound b → IsSound w → u.opening ≡ v.opening → lo ≡ done_at low → hi ≡ begun_at high
+    → LoadsAround addrs lo hi v b u w
+around addrs low high lo hi v b u w begins ends known_then known same lo_is hi_is = record {
+  low = low;
+  begins = begins;
+  high = high;
+  ends = ends;
+  done_then = lo_is ∙ ap done_at (may_now (Begins addrs low) v b begins known_then).2;
+  begun_then = subst (λ (o : Opened). hi ≡ begun (tables (setup_of o) w.seen)) same
+      (hi_is ∙ ap begun_at (may_now (Ends high) u w ends known).2);
+}
+
+-- what is loaded after the lookup began is loaded after what the worker had seen before
+pub after_all : (addrs : List ℕ) (lo hi first : ℕ) (v b u w : View) → LoadsAround addrs lo hi v b u w
+    → length b.seen ≤ first → length v.seen ≤ first
+after_all addrs lo hi first v b u w h le =
+    let begun : GoesOn v b = gains_on (Begins addrs h.low) v b h.begins in
+    omega (arith, later_longer v.seen b.seen begun.later, le)
+
+-- steps one after another
+pub goes_after : (newer older : List WorkerStep) (u v w : View) → GainsAll newer v w → GainsAll older u v
+    → GainsAll (newer ++ older) u w
+goes_after [] older u v w new old = subst (GainsAll older u) (sym new) old
+goes_after (s ∷ newer) older u v w new old = (new.0, goes_after newer older u v new.0 new.1 old, new.2)
+
+pub goes_at : (newer older : List (WorkerStep × ℕ)) (u v w : View) → GainsAt newer v w → GainsAt older u v
+    → GainsAt (newer ++ older) u w
+goes_at [] older u v w new old = subst (GainsAt older u) (sym new) old
+goes_at (s ∷ newer) older u v w new old = (new.0, goes_at newer older u v new.0 new.1 old, new.2, new.3)
+
+pub two_steps : (r s : WorkerStep) (v u w : View) → Gains r v u → Gains s u w → GainsAll (s ∷ r ∷ []) v w
+two_steps r s v u w first second = (u, (v, refl, first), second)
+
+pub two_on : (r s : WorkerStep) (v u w : View) → Gains r v u → Gains s u w → GoesOn v w
+two_on r s v u w first second = goes_on v u w (gains_on r v u first) (gains_on s u w second)
+
+-- a view that gains steps goes on
+pub all_on : (steps : List WorkerStep) (v w : View) → GainsAll steps v w → GoesOn v w
+all_on [] v w same = subst (GoesOn v) (sym same) (record { same = refl; later = ([], refl) })
+all_on (s ∷ steps) v w more = goes_on v more.0 w (all_on steps v more.0 more.1) (gains_on s more.0 w more.2)
+
+pub all_at : (steps : List (WorkerStep × ℕ)) (v w : View) → GainsAt steps v w → GoesOn v w
+all_at [] v w same = subst (GoesOn v) (sym same) (record { same = refl; later = ([], refl) })
+all_at (s ∷ steps) v w more = goes_on v more.0 w (all_at steps v more.0 more.1) (gains_on s.0 more.0 w more.2)
+
+-- what was seen between two views that had seen the same
+pub between : (first middle last : List WriterStep) → IsLater first middle → IsLater middle last → last ≡ first
+    → middle ≡ first
+between first middle last old new same =
+    let none : length old.0 ≡ 0 = omega (
+      arith,
+      ap length old.1,
+      ap length new.1,
+      ap length same,
+      length-append old.0 first,
+      length-append new.0 middle,
+    ) in
+    old.1 ∙ ap (λ (l : List WriterStep). l ++ first) (nil_from_length old.0 none)
+
+-- ---- the words of an address
+
+-- each step of the writer leaves the number of the first words
+firsts_written : (c : Setup) (steps : List WriterStep)
+    → length (tables c steps).words.firsts ≡ length c.words.firsts
+firsts_written c [] = refl
+firsts_written c (StoreFirst i x ∷ steps) =
+    length-set (tables c steps).words.firsts i x ∙ firsts_written c steps
+firsts_written c (StoreSecond j x ∷ steps) = firsts_written c steps
+firsts_written c (Opens change ∷ steps) = firsts_written c steps
+firsts_written c (Closes ∷ steps) = firsts_written c steps
+firsts_written c (BumpToken ∷ steps) = firsts_written c steps
+firsts_written c (LoadCounter token worker counter ∷ steps) = firsts_written c steps
+
+pub firsts_are : (r : WorkerStep) (v w : View) (first : ℕ) → Gains r v w → IsSound w → v.opening.first ≡ first
+    → length w.opening.firsts ≡ 2 ^ first
+firsts_are r v w first g known is =
+    let firsts : length w.opening.firsts ≡ 2 ^ w.opening.first =
+    sym (firsts_written (setup_of w.opening) w.seen) ∙ known.words.firsts_len in
+    let same : w.opening.first ≡ first = ap (λ (x : View). x.opening.first) g.view ∙ is in
+    firsts ∙ ap (λ n. 2 ^ n) same
+
+-- a word that may stand in the first table still may after more steps
+word_fits : (u v w : View) (first second n : ℕ) → GoesOn u v → GoesOn v w
+    → u.opening.first ≡ first → u.opening.second ≡ second
+    → IsFirstWord (v.opening.first + v.opening.second) v.opening.second v.opening.seconds n
+    → IsFirstWord (first + second) second w.opening.seconds n
+word_fits u v w first second n h k is_first is_second fit =
+    let same : w.opening ≡ v.opening = ap (λ (x : View). x.opening) k.same in
+    let f : v.opening.first ≡ first = ap (λ (x : View). x.opening.first) h.same ∙ is_first in
+    let s : v.opening.second ≡ second = ap (λ (x : View). x.opening.second) h.same ∙ is_second in
+    subst (λ (o : Opened). IsFirstWord (first + second) second o.seconds n) (sym same)
+    (subst (λ m. IsFirstWord (first + m) m v.opening.seconds n) s
+    (subst (λ m. IsFirstWord (m + v.opening.second) v.opening.second v.opening.seconds n) f fit))
+
+-- what holds of each of four
+pub all_four : (P : ℕ → Type 0) (a b c d : ℕ) → All P (a ∷ b ∷ c ∷ d ∷ []) → P a × P b × P c × P d
+all_four P a b c d all =
+    let all2 = All-tail P a (b ∷ c ∷ d ∷ []) all in
+    let all3 = All-tail P b (c ∷ d ∷ []) all2 in
+    let all4 = All-tail P c (d ∷ []) all3 in
+    (All-head P a (b ∷ c ∷ d ∷ []) all, All-head P b (c ∷ d ∷ []) all2, All-head P c (d ∷ []) all3, All-head P d [] all4)
+
+-- four words that may stand in the first table still may after more steps
+pub words_fit : (u v w : View) (first second a b c d : ℕ) → GoesOn u v → GoesOn v w
+    → u.opening.first ≡ first → u.opening.second ≡ second
+    → All (IsFirstWord (v.opening.first + v.opening.second) v.opening.second v.opening.seconds) (a ∷ b ∷ c ∷ d ∷ [])
+    → IsFirstWord (first + second) second w.opening.seconds a
+    × IsFirstWord (first + second) second w.opening.seconds b
+    × IsFirstWord (first + second) second w.opening.seconds c
+    × IsFirstWord (first + second) second w.opening.seconds d
+words_fit u v w first second a b c d h k is_first is_second fit =
+    let fits = all_four (IsFirstWord (v.opening.first + v.opening.second) v.opening.second v.opening.seconds) a b c d fit in (
+      word_fits u v w first second a h k is_first is_second fits.0,
+      word_fits u v w first second b h k is_first is_second fits.1,
+      word_fits u v w first second c h k is_first is_second fits.2,
+      word_fits u v w first second d h k is_first is_second fits.3,
+    )
+
+-- a word that answers is no group's
+pub alone : (e : Entry) → IsLast e → IsReadOn e None (hop_in e)
+alone Miss last = (refl, refl)
+alone (Hop hop depth) last = (refl, refl)
+alone (Group group) last = absurd last
+
+pub answered : (now a : ℕ) (e : Entry) → IsLast e → read_first now a e ≡ Answered a (hop_in e) now now
+answered now a Miss last = refl
+answered now a (Hop hop depth) last = refl
+answered now a (Group group) last = absurd last
+
+module _ (addr : ℕ) (v : View) (unread : (worker_by v.own).probes ≡ Unread addr ∷ []) where
+  module _ (word : ℕ) (u : View) (first : Gains (LoadFirst word) v u) where
+    -- the first word answers
+    pub one_word : IsLast (entry_in word) → LoadsWords addr word v u
+    one_word last =
+        let now : ℕ = length first.seen in
+        record {
+          found = record { addr = addr; hop = hop_in (entry_in word); word = word; first = now; second = None };
+          steps = (v, refl, first, refl);
+          exact = alone (entry_in word) last;
+          answer = (refl, refl);
+          rest = gains_on (LoadFirst word) v u first;
+          after = later_longer v.seen first.seen first.later;
+          state = gains_state (LoadFirst word) v u first
+              ∙ ap (λ (ps : List Probe). record (worker_by v.own) { probes = ps })
+              (ap (first_read now (entry_in word)) unread
+              ∙ ap (λ (p : Probe). p ∷ []) (answered now addr (entry_in word) last));
+        }
+
+    module _ (group : ℕ) (is : entry_in word ≡ Group group) where
+      in_group : worker_by u.own
+          ≡ record (worker_by v.own) { probes = InGroup addr group (length first.seen) ∷ [] }
+      in_group = gains_state (LoadFirst word) v u first
+          ∙ ap (λ (ps : List Probe). record (worker_by v.own) { probes = ps })
+          (ap (first_read (length first.seen) (entry_in word)) unread
+          ∙ ap (λ (e : Entry). read_first (length first.seen) addr e ∷ []) is)
+
+      -- the second word answers
+      pub two_words : (last : ℕ) (w : View) → Gains (LoadSecond last) u w → LoadsWords addr last v w
+      two_words last w second = record {
+        found = record {
+          addr = addr;
+          hop = hop_in (entry_in last);
+          word = word;
+          first = length first.seen;
+          second = Some (last, length second.seen);
+        };
+        steps = (u, (v, refl, first, refl), second, refl);
+        exact = subst (λ (e : Entry). IsReadOn e (Some (last, length second.seen)) (hop_in (entry_in last))) (sym is)
+            ((last, length second.seen), refl, refl);
+        answer = (refl, refl);
+        rest = goes_on v u w (gains_on (LoadFirst word) v u first) (gains_on (LoadSecond last) u w second);
+        after = later_longer v.seen first.seen first.later;
+        state = gains_state (LoadSecond last) u w second
+            ∙ ap (λ (x : WorkerState). moved (length second.seen) x (LoadSecond last)) in_group;
+      }
+
+-- ---- a lookup
+
+module _ (addr low last high : ℕ) (v b u w : View) (begins : Gains (Begins (addr ∷ []) low) v b)
+    (words : LoadsWords addr last b u) (ends : Gains (Ends high) u w) (known_then : IsSound b) (known : IsSound w) where
+  abbrev answered_by : Found
+  answered_by = record words.found { addr = addr; hop = hop_in (entry_in last) }
+
+  abbrev seen_by : Seen
+  seen_by = seen_of (done_at low) (begun_at high) answered_by
+
+  state : worker_by w.own ≡ record (worker_by v.own) {
+    phase = Online;
+    lo = done_at low;
+    probes = [];
+    finished = seen_by ∷ (worker_by v.own).finished;
+  }
+  state = gains_state (Ends high) u w ends
+      ∙ ap (λ (x : WorkerState). moved (length ends.seen) x (Ends high))
+      (words.state
+      ∙ ap (λ (x : WorkerState). record x {
+        probes = Answered addr (hop_in (entry_in last)) seen_by.first seen_by.last ∷ [];
+      })
+      (gains_state (Begins (addr ∷ []) low) v b begins))
+
+  on : GoesOn v w
+  on = goes_on v b w (gains_on (Begins (addr ∷ []) low) v b begins)
+      (goes_on b u w words.rest (gains_on (Ends high) u w ends))
+
+  finished : (worker_by w.own).finished ≡ seen_by ∷ (worker_by v.own).finished
+  finished = ap (λ (x : WorkerState). x.finished) state
+
+  legal : IsLegalAtPlace (setup_of v.opening) w.seen seen_by
+  legal =
+      let all : All (IsLegalAtPlace (setup_of v.opening) w.seen) (worker_by w.own).finished = subst
+      (λ (o : Opened). All (IsLegalAtPlace (setup_of o) w.seen) (worker_by w.own).finished)
+      (ap (λ (x : View). x.opening) on.same) known.legal in
+      All-head (IsLegalAtPlace (setup_of v.opening) w.seen) seen_by (worker_by v.own).finished
+      (subst (All (IsLegalAtPlace (setup_of v.opening) w.seen)) finished all)
+
+  -- it is the lookup that the loads tell
+  same_found : answered_by ≡ words.found
+  same_found = λ i. record words.found { addr = sym words.answer.0 i; hop = sym words.answer.1 i }
+
+  pub looked : (hop : Option ℕ) (lo hi : ℕ) → hop ≡ hop_in (entry_in last) → lo ≡ done_at low
+      → hi ≡ begun_at high
+      → LooksUp addr hop lo hi v w
+  looked hop lo hi hop_is lo_is hi_is =
+      let loaded : GoesOn v u = goes_on v b u (gains_on (Begins (addr ∷ []) low) v b begins) words.rest in
+      let opened : u.opening ≡ v.opening = ap (λ (x : View). x.opening) loaded.same in
+      let seen_is : seen_by ≡ seen_of lo hi words.found = λ i. seen_of (sym lo_is i) (sym hi_is i) (same_found i) in record {
+        started = b;
+        loaded = u;
+        around = around (addr ∷ []) low high lo hi v b u w begins ends known_then known opened lo_is hi_is;
+        found = words.found;
+        steps = words.steps;
+        exact = words.exact;
+        answer = (words.answer.0, words.answer.1 ∙ sym hop_is);
+        rest = on;
+        online = ap (λ (x : WorkerState). x.phase) state;
+        finished = finished ∙ ap (λ (l : Seen). l ∷ (worker_by v.own).finished) seen_is;
+        after = words.after;
+        legal = subst (IsLegalAtPlace (setup_of v.opening) w.seen) seen_is legal;
+      }

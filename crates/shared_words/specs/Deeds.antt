@@ -1,0 +1,140 @@
+-- Meaning: what a whole deed of a worker gains its view: a report, or a lookup of one address (DPDK
+-- Programmer's Guide, "RCU Library": a worker comes online, is quiescent, goes offline; Gupta, Lin and
+-- McKeown, INFOCOM 1998, section 3: a lookup reads one word or two).
+use Rattle.std.specs.Prelude.{ℕ, ◌≡◌, ◌≤◌, List, [], ◌∷◌, ◌++◌, All, map, reverse, length, Option, Some, None}
+use Rattle.lpm_cells.specs.declared.entry.Entry.{Entry}
+use Rattle.lpm_cells.specs.declared.entry.Entry.TheVariants.{Miss, Hop, Group}
+use Rattle.lpm_cells.specs.Words.{entry_in, hop_in}
+use Rattle.lpm_trace.specs.declared.step.WorkerStep.{WorkerStep}
+use Rattle.lpm_trace.specs.declared.step.WorkerStep.TheVariants.{Begins, LoadFirst, LoadSecond, Ends}
+use Rattle.lpm_trace.specs.Tables.{tables, done, begun}
+use Rattle.lpm_trace.specs.Workers.{Online, Probe, Answered, Seen, AreBegun, AreAnswered, read_first}
+use Rattle.lpm_trace.specs.Trace.{worker_by}
+use Rattle.lpm_trace.specs.Laws.{IsLegalAtPlace}
+use Rattle.shared_words.specs.declared.view.View.{View}
+use Rattle.shared_words.specs.Opened.{setup_of}
+use Rattle.shared_words.specs.Rule.{IsLater}
+use Rattle.shared_words.specs.Seats.{Gains}
+use Rattle.shared_words.specs.Loads.{Found, IsReadOn, firsts_at, last_at, loads_at, second_load, seconds_at, seen_of}
+
+-- the view gains these steps, one after another, of which the newest stands first
+abbrev pub GainsAll : List WorkerStep → View → View → Type 0
+GainsAll [] v w = w ≡ v
+GainsAll (s ∷ steps) v w = (u : View) × GainsAll steps v u × Gains s u w
+
+-- nothing else of the view changes, and what it has seen of the writer's steps goes on
+pub record GoesOn (v w : View) : Type 0 where
+  pub same : w ≡ record v { own = w.own; seen = w.seen }
+  pub later : IsLater v.seen w.seen
+
+-- the view gains these steps, each at its place: how many of the writer's steps the worker had seen then
+abbrev pub GainsAt : List (WorkerStep × ℕ) → View → View → Type 0
+GainsAt [] v w = w ≡ v
+GainsAt (s ∷ steps) v w =
+    (u : View) × GainsAt steps v u × (gains : Gains s.0 u w) × (s.1 ≡ length gains.seen)
+
+-- ---- a lookup
+
+-- a lookup of these addresses begins and ends with a load of the sequence: `lo` is how many updates were
+-- done at the place of the first, and `hi` how many were begun at the place of the last
+pub record LoadsAround (addrs : List ℕ) (lo hi : ℕ) (v started loaded w : View) : Type 0 where
+  pub low : ℕ
+  pub begins : Gains (Begins addrs low) v started
+  pub high : ℕ
+  pub ends : Gains (Ends high) loaded w
+  pub done_then : lo ≡ done (tables (setup_of v.opening) started.seen)
+  pub begun_then : hi ≡ begun (tables (setup_of v.opening) w.seen)
+
+-- in a lookup of the address alone, its words are loaded, of which the last one answers, after all that
+-- the worker had seen of the writer's steps
+pub record LoadsWords (addr last : ℕ) (v w : View) : Type 0 where
+  pub found : Found
+  pub steps : GainsAt (loads_at found.word found.first found.second) v w
+  pub exact : IsReadOn (entry_in found.word) found.second found.hop
+  pub answer : (found.addr ≡ addr) × (found.hop ≡ hop_in (entry_in last))
+  pub rest : GoesOn v w
+  pub after : length v.seen ≤ found.first
+  pub state : worker_by w.own ≡ record (worker_by v.own) {
+    probes = Answered addr (hop_in (entry_in last)) found.first (last_at found.first found.second) ∷ [];
+  }
+
+-- the address is looked up: the sequence is loaded, its words, and the sequence again. This is the
+-- worker's newest lookup. It is legal, and its words were loaded after all that the worker had seen of the
+-- writer's steps when it began.
+pub record LooksUp (addr : ℕ) (hop : Option ℕ) (lo hi : ℕ) (v w : View) : Type 0 where
+  pub started : View
+  pub loaded : View
+  pub around : LoadsAround (addr ∷ []) lo hi v started loaded w
+  pub found : Found
+  pub steps : GainsAt (loads_at found.word found.first found.second) started loaded
+  pub exact : IsReadOn (entry_in found.word) found.second found.hop
+  pub answer : (found.addr ≡ addr) × (found.hop ≡ hop)
+  pub rest : GoesOn v w
+  pub online : (worker_by w.own).phase ≡ Online
+  pub finished : (worker_by w.own).finished ≡ seen_of lo hi found ∷ (worker_by v.own).finished
+  pub after : length started.seen ≤ found.first
+  pub legal : IsLegalAtPlace (setup_of v.opening) w.seen (seen_of lo hi found)
+
+-- ---- a lookup of several addresses
+
+-- the addresses with their first words, each of which was read at its place
+abbrev pub first_words : List ℕ → List ℕ → List ℕ → List Probe
+first_words (n ∷ places) (a ∷ addrs) (word ∷ words) =
+    read_first n a (entry_in word) ∷ first_words places addrs words
+first_words other addrs words = []
+
+-- the loads of first words at these places
+abbrev pub loads_first : List ℕ → List ℕ → List (WorkerStep × ℕ)
+loads_first (n ∷ places) (word ∷ words) = loads_first places words ++ (LoadFirst word, n) ∷ []
+loads_first other words = []
+
+-- the first words of the addresses are loaded, after all that the worker had seen of the writer's steps
+pub record LoadsFirsts (addrs words : List ℕ) (v w : View) : Type 0 where
+  pub places : List ℕ
+  pub count : length places ≡ length addrs
+  pub steps : GainsAt (loads_first places words) v w
+  pub rest : GoesOn v w
+  pub after : All (λ place. length v.seen ≤ place) places
+  pub state : worker_by w.own
+      ≡ record (worker_by v.own) { probes = first_words places addrs words }
+
+-- the next address without its answer is this one, with this first word
+pub record IsNextWith (addr word : ℕ) (probes : List Probe) : Type 0 where
+  pub before : List Probe
+  pub rest : List Probe
+  pub first : ℕ
+  pub answered : AreAnswered before
+  pub begun : AreBegun rest
+  pub split : probes ≡ before ++ read_first first addr (entry_in word) ∷ rest
+
+-- the word that answers is loaded, where that isn't the first word
+pub record LoadsLast (addr word last : ℕ) (v w : View) : Type 0 where
+  pub second : Option (ℕ × ℕ)
+  pub steps : GainsAt (second_load second) v w
+  pub exact : IsReadOn (entry_in word) second (hop_in (entry_in last))
+  pub rest : GoesOn v w
+  pub state : (next : IsNextWith addr word (worker_by v.own).probes)
+      → worker_by w.own ≡ record (worker_by v.own) {
+        probes = next.before
+            ++ Answered addr (hop_in (entry_in last)) next.first (last_at next.first second) ∷ next.rest;
+      }
+
+-- the addresses are looked up together: the sequence is loaded, a first word for each, a second word for
+-- each first word that is a group's, and the sequence again. These are the worker's newest lookups. Each
+-- is legal, and its words were loaded after all that the worker had seen of the writer's steps when they
+-- began.
+pub record LooksUpAll (addrs : List ℕ) (hops : List (Option ℕ)) (lo hi : ℕ) (v w : View) : Type 0 where
+  pub started : View
+  pub loaded : View
+  pub around : LoadsAround addrs lo hi v started loaded w
+  pub found : List Found
+  pub steps : GainsAt (seconds_at found ++ firsts_at found) started loaded
+  pub exact : All (λ f. IsReadOn (entry_in f.word) f.second f.hop) found
+  pub addrs_are : map (λ (f : Found). f.addr) found ≡ addrs
+  pub hops_are : map (λ (f : Found). f.hop) found ≡ hops
+  pub rest : GoesOn v w
+  pub online : (worker_by w.own).phase ≡ Online
+  pub finished : (worker_by w.own).finished
+      ≡ reverse (map (seen_of lo hi) found) ++ (worker_by v.own).finished
+  pub after : All (λ f. length started.seen ≤ f.first) found
+  pub legal : All (λ f. IsLegalAtPlace (setup_of v.opening) w.seen (seen_of lo hi f)) found

@@ -1,0 +1,77 @@
+//! The lookup of an address.
+
+ghost use Rattle.std.specs.Prelude.{◌≡◌, ℕ, ◌+◌, ◌^◌, ◌<◌, length, [], ◌∷◌};
+ghost use Rattle.lpm_bits.specs.Widths.{IsShape};
+ghost use Rattle.lpm_cells.specs.Words.{IsLastWord};
+ghost use Rattle.lpm_trace.specs.Trace.{worker_by};
+ghost use Rattle.lpm_trace.specs.Workers.{Online, LookingUp, Unread};
+ghost use Rattle.shared_words.specs.Seats.{IsOf};
+ghost use Rattle.shared_words.specs.Deeds.{LoadsWords, LooksUp};
+
+use crate::{Opens, SharedWords, WorkerSeat};
+use lpm_bits::{Hop, Shape};
+use lpm_cells::Entry;
+use lpm_rules::Answer;
+
+/// The next hop of the longest rule that covers the address, as a version has it that stood while the
+/// words were loaded.
+#[inline]
+pub fn lookup<const FIRST: u32, const SECOND: u32, T: Opens>(
+    seat: &mut WorkerSeat,
+    table: &SharedWords<T>,
+    addr: u32,
+) -> Answer
+    requires own { IsOf table.now seat.old.table seat.old.view }
+    requires shape { IsShape FIRST SECOND }
+    requires first { seat.old.view.opening.first ≡ FIRST }
+    requires second { seat.old.view.opening.second ≡ SECOND }
+    requires online { (worker_by seat.old.view.own).phase ≡ Online }
+    requires addr { addr < 2 ^ (FIRST + SECOND) }
+    ensures own { seat.new.table ≡ seat.old.table }
+    ensures worker { seat.new.worker ≡ seat.old.worker }
+    ensures answer { LooksUp addr result.hop result.lo result.hi
+        seat.old.view seat.new.view }
+{
+    let low = seat.begin_lookup(table, &[u64::from(addr)]);
+    seat.history();
+    let word = load_words::<FIRST, SECOND, T>(seat, table, addr);
+    let high = seat.end_lookup(table);
+    seat.history();
+    Answer {
+        hop: Entry::hop_of_last_word::<FIRST, SECOND>(word),
+        lo: low / 2,
+        hi: high / 2 + high % 2,
+    }
+}
+
+/// Loads the words of an address that is looked up alone. It returns the one that answers.
+#[inline]
+fn load_words<const FIRST: u32, const SECOND: u32, T: Opens>(
+    seat: &mut WorkerSeat,
+    table: &SharedWords<T>,
+    addr: u32,
+) -> u64
+    requires own { IsOf table.now seat.old.table seat.old.view }
+    requires shape { IsShape FIRST SECOND }
+    requires first { seat.old.view.opening.first ≡ FIRST }
+    requires second { seat.old.view.opening.second ≡ SECOND }
+    requires firsts { length seat.old.view.opening.firsts ≡ 2 ^ FIRST }
+    requires addr { addr < 2 ^ (FIRST + SECOND) }
+    requires looking { (worker_by seat.old.view.own).phase ≡ LookingUp }
+    requires unread { (worker_by seat.old.view.own).probes ≡ Unread addr ∷ [] }
+    ensures own { seat.new.table ≡ seat.old.table }
+    ensures worker { seat.new.worker ≡ seat.old.worker }
+    ensures last { IsLastWord (FIRST + SECOND) result }
+    ensures words { LoadsWords addr result seat.old.view seat.new.view }
+{
+    let index = Shape::<FIRST, SECOND>::first_index(addr);
+    let word = seat.load_first(table, index);
+    match Entry::group_of_word::<FIRST, SECOND>(word) {
+        None => word,
+        Some(group) => {
+            let base = (group as usize) << SECOND;
+            let index = base + Shape::<FIRST, SECOND>::second_index(addr);
+            seat.load_second(table, index)
+        }
+    }
+}

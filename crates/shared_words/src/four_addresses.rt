@@ -1,0 +1,134 @@
+//! The lookup of four addresses together.
+
+ghost use Rattle.std.specs.Prelude.{◌≡◌, ℕ, ◌+◌, ◌^◌, ◌<◌, All, length, [], ◌∷◌};
+ghost use Rattle.lpm_bits.specs.Widths.{IsShape};
+ghost use Rattle.lpm_cells.specs.Table.{IsFirstWord};
+ghost use Rattle.lpm_cells.specs.Words.{IsLastWord};
+ghost use Rattle.lpm_trace.specs.Trace.{worker_by};
+ghost use Rattle.lpm_trace.specs.Workers.{Online, LookingUp, Unread};
+ghost use Rattle.shared_words.specs.Seats.{IsOf};
+ghost use Rattle.shared_words.specs.Deeds.{LoadsFirsts, LoadsLast, LooksUpAll, IsNextWith};
+
+use crate::{Opens, SharedWords, WorkerSeat};
+use lpm_bits::{Hop, Shape};
+use lpm_cells::Entry;
+
+/// What a lookup of four addresses answers, in their order. Each answer is that of a version from `lo` to
+/// `hi`, and no two need be of one version.
+#[derive(Clone, Copy)]
+pub struct FourAnswers {
+    /// The next hops of the longest rules that cover the addresses; none where no rule does.
+    pub hops: [Option<Hop>; 4],
+    /// How many updates were done when the lookup began.
+    pub lo: u64,
+    /// How many updates were begun when it ended.
+    pub hi: u64,
+}
+
+/// The next hops of four addresses, between two loads of the sequence for all of them.
+#[inline]
+pub fn lookup4<const FIRST: u32, const SECOND: u32, T: Opens>(
+    seat: &mut WorkerSeat,
+    table: &SharedWords<T>,
+    a: u32,
+    b: u32,
+    c: u32,
+    d: u32,
+) -> FourAnswers
+    requires own { IsOf table.now seat.old.table seat.old.view }
+    requires shape { IsShape FIRST SECOND }
+    requires first { seat.old.view.opening.first ≡ FIRST }
+    requires second { seat.old.view.opening.second ≡ SECOND }
+    requires online { (worker_by seat.old.view.own).phase ≡ Online }
+    requires addrs { All (λ addr. addr < 2 ^ (FIRST + SECOND)) (a ∷ b ∷ c ∷ d ∷ []) }
+    ensures own { seat.new.table ≡ seat.old.table }
+    ensures worker { seat.new.worker ≡ seat.old.worker }
+    ensures answers { LooksUpAll (a ∷ b ∷ c ∷ d ∷ []) result.hops result.lo result.hi
+        seat.old.view seat.new.view }
+{
+    let addrs = [u64::from(a), u64::from(b), u64::from(c), u64::from(d)];
+    let low = seat.begin_lookup(table, &addrs);
+    seat.history();
+    let (w, x, y, z) = load_firsts::<FIRST, SECOND, T>(seat, table, a, b, c, d);
+    let w = load_last::<FIRST, SECOND, T>(seat, table, a, w);
+    let x = load_last::<FIRST, SECOND, T>(seat, table, b, x);
+    let y = load_last::<FIRST, SECOND, T>(seat, table, c, y);
+    let z = load_last::<FIRST, SECOND, T>(seat, table, d, z);
+    let high = seat.end_lookup(table);
+    seat.history();
+    FourAnswers {
+        hops: [
+            Entry::hop_of_last_word::<FIRST, SECOND>(w),
+            Entry::hop_of_last_word::<FIRST, SECOND>(x),
+            Entry::hop_of_last_word::<FIRST, SECOND>(y),
+            Entry::hop_of_last_word::<FIRST, SECOND>(z),
+        ],
+        lo: low / 2,
+        hi: high / 2 + high % 2,
+    }
+}
+
+/// Loads the first words of the addresses of a lookup.
+#[inline]
+fn load_firsts<const FIRST: u32, const SECOND: u32, T: Opens>(
+    seat: &mut WorkerSeat,
+    table: &SharedWords<T>,
+    a: u32,
+    b: u32,
+    c: u32,
+    d: u32,
+) -> (u64, u64, u64, u64)
+    requires own { IsOf table.now seat.old.table seat.old.view }
+    requires shape { IsShape FIRST SECOND }
+    requires second { seat.old.view.opening.second ≡ SECOND }
+    requires firsts { length seat.old.view.opening.firsts ≡ 2 ^ FIRST }
+    requires addrs { All (λ addr. addr < 2 ^ (FIRST + SECOND)) (a ∷ b ∷ c ∷ d ∷ []) }
+    requires looking { (worker_by seat.old.view.own).phase ≡ LookingUp }
+    requires unread { (worker_by seat.old.view.own).probes
+        ≡ Unread a ∷ Unread b ∷ Unread c ∷ Unread d ∷ [] }
+    ensures own { seat.new.table ≡ seat.old.table }
+    ensures worker { seat.new.worker ≡ seat.old.worker }
+    ensures words { All (IsFirstWord
+        (seat.old.view.opening.first + seat.old.view.opening.second)
+        seat.old.view.opening.second seat.old.view.opening.seconds)
+        (result.0 ∷ result.1 ∷ result.2 ∷ result.3 ∷ []) }
+    ensures loads { LoadsFirsts (a ∷ b ∷ c ∷ d ∷ [])
+        (result.0 ∷ result.1 ∷ result.2 ∷ result.3 ∷ [])
+        seat.old.view seat.new.view }
+{
+    let w = seat.load_first(table, Shape::<FIRST, SECOND>::first_index(a));
+    let x = seat.load_first(table, Shape::<FIRST, SECOND>::first_index(b));
+    let y = seat.load_first(table, Shape::<FIRST, SECOND>::first_index(c));
+    let z = seat.load_first(table, Shape::<FIRST, SECOND>::first_index(d));
+    (w, x, y, z)
+}
+
+/// Loads the word that answers the next address, where that isn't its first word. It returns the word.
+#[inline]
+fn load_last<const FIRST: u32, const SECOND: u32, T: Opens>(
+    seat: &mut WorkerSeat,
+    table: &SharedWords<T>,
+    addr: u32,
+    word: u64,
+) -> u64
+    requires own { IsOf table.now seat.old.table seat.old.view }
+    requires shape { IsShape FIRST SECOND }
+    requires first { seat.old.view.opening.first ≡ FIRST }
+    requires second { seat.old.view.opening.second ≡ SECOND }
+    requires word { IsFirstWord (FIRST + SECOND) SECOND seat.old.view.opening.seconds word }
+    requires looking { (worker_by seat.old.view.own).phase ≡ LookingUp }
+    requires next { IsNextWith addr word (worker_by seat.old.view.own).probes }
+    ensures own { seat.new.table ≡ seat.old.table }
+    ensures worker { seat.new.worker ≡ seat.old.worker }
+    ensures last { IsLastWord (FIRST + SECOND) result }
+    ensures loads { LoadsLast addr word result seat.old.view seat.new.view }
+{
+    match Entry::group_of_word::<FIRST, SECOND>(word) {
+        None => word,
+        Some(group) => {
+            let base = (group as usize) << SECOND;
+            let index = base + Shape::<FIRST, SECOND>::second_index(addr);
+            seat.load_second(table, index)
+        }
+    }
+}

@@ -1,9 +1,0 @@
-pub mod Onward
-pub mod Turns
-pub mod Once
-pub mod Next
-pub mod Runs
-pub mod Ties
-pub mod Blank
-pub mod DeepCounts
-pub mod Promises

@@ -1,5 +1,0 @@
-use Rattle.std.proofs.Common.{rules}
-use Rattle.world_workers.proofs.probe.Probe.of_first.Goals as goal
-
-pub returns-in-Miss : goal.returns-in-Miss
-returns-in-Miss c = search rules

@@ -1,5 +1,0 @@
-use Rattle.std.proofs.Common.{rules}
-use Rattle.world_workers.proofs.worker.Worker.counter.Goals as goal
-
-pub returns : goal.returns
-returns c = search rules

@@ -1,5 +1,0 @@
-use Rattle.std.proofs.Common.{rules}
-use Rattle.world_workers.proofs.worker.Worker.look_up.Goals as goal
-
-pub returns-clause-lo : goal.returns-clause-lo
-returns-clause-lo c = search rules

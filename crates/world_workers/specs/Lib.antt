@@ -1,3 +1,0 @@
-pub mod Scripts
-pub mod Shown
-pub mod Machine
