@@ -1,6 +1,6 @@
 //! Checks of a token: whether some worker may still hold what was given up under it.
 
-ghost use Rattle.std.specs.Prelude.{◌≡◌, ◌<◌, ◌≤◌, ℕ, List, OnOk, OnErr};
+ghost use Rattle.std.specs.Prelude.{◌≡◌, ◌<◌, ◌≤◌, ◌↔◌, ℕ, List, IsTrue, OnOk, OnErr};
 ghost use Rattle.lpm_trace.specs.declared.step.WriterStep.{WriterStep};
 ghost use Rattle.lpm_trace.specs.Tables.{Setup};
 ghost use Rattle.lpm_writer.specs.Traced.{Asks, Checks};
@@ -8,6 +8,14 @@ ghost use Rattle.lpm_writer.specs.Kept.{MayAsk, Remembers};
 
 use crate::Memory;
 use qsbr::Busy;
+
+/// Whether a worker with this counter may still hold what was given up under the token: it is online, and
+/// has loaded no token as new.
+fn holds(counter: u64, token: u64) -> bool
+    ensures { IsTrue result ↔ ((0 < counter) × (counter < token)) }
+{
+    counter != 0 && counter < token
+}
 
 /// Loads the counter of one worker after another, up to the first that hasn't left the token behind.
 pub(crate) fn ask<M: Memory>(memory: &mut M, token: u64) -> Result<(), Busy>
@@ -20,7 +28,7 @@ pub(crate) fn ask<M: Memory>(memory: &mut M, token: u64) -> Result<(), Busy>
 {
     for worker in 0..memory.workers() {
         let counter = memory.load_counter(token, worker);
-        if counter != 0 && counter < token {
+        if holds(counter, token) {
             return Err(Busy { worker, counter });
         }
     }

@@ -1,4 +1,5 @@
-use Rattle.std.proofs.Common.{arith, ◌≡◌, ◌≢◌, ℕ, ◌<◌, ◌≤◌, ◌⊎◌, ◌∷◌, inl, inr, refl, subst}
+use Rattle.std.proofs.Common.{arith, ◌≡◌, ◌<◌, ◌≤◌, ◌⊎◌, ◌∷◌, inl, inr, refl, subst}
+use Rattle.std.proofs.lemmas.Bool.{cases_lt}
 use Rattle.lpm_trace.specs.declared.step.WriterStep.TheVariants.{LoadCounter}
 use Rattle.lpm_writer.specs.Traced.{Loads}
 use Rattle.lpm_writer.proofs.Loading.{asked_none, asked_more, passes_by}
@@ -22,26 +23,30 @@ load_counter-counter-requires-clause-may g c = λ counter.
     let old = (g.met.M.Memory.shows c.args.memory.now may.0 may.1 may.2).2 in
     (may.0, so_far.0, so_far.1, so_far.3 (omega (arith, c.loop-worker-test.true, c.workers-worker-end.ensures, old)) counter)
 
-pub returns-then-counter-token : goal.returns-then-counter-token
-returns-then-counter-token g c = record {
+pub returns-then-holds : goal.returns-then-holds
+returns-then-holds g c = record {
   asks = λ s steps did may.
       let so_far = c.loop-worker.invariant.asked s steps did may in
       let old = (g.met.M.Memory.shows c.args.memory.now s steps did).2 in
       let below : c.loop-worker.worker < s.workers = omega (arith, c.loop-worker-test.true, c.workers-worker-end.ensures, old) in
       let does = c.load_counter-counter.ensures.does in
+      let held = c.holds.ensures.0 c.if-holds.true in
       let next = LoadCounter c.args.token c.loop-worker.worker c.load_counter-counter.result in (
         next ∷ so_far.0,
         g.met.M.Memory.follows c.loop-worker.memory next c.load_counter-counter.new.self s so_far.0 does so_far.1 (so_far.3 below c.load_counter-counter.result),
-        ((c.loop-worker.memory, so_far.0), so_far.2, below, some c.load_counter-counter.result c.if-counter-ne0.true, c.if-counter-token.true, (does, refl)),
+        ((c.loop-worker.memory, so_far.0), so_far.2, below, held.0, held.1, (does, refl)),
       );
 }
-  where
-    some : (n : ℕ) → n ≢ 0 → 0 < n
-    some n h = omega (arith, h)
 
 pub loop-worker-preserved : goal.loop-worker-preserved
 loop-worker-preserved g c =
-    let passes : (c.load_counter-counter.result ≡ 0) ⊎ (c.args.token ≤ c.load_counter-counter.result) = elim c.else-counter-ne0.either [ inl h ↦ inr h.1 | inr h ↦ inl h ] in
+    let passes : (c.load_counter-counter.result ≡ 0) ⊎ (c.args.token ≤ c.load_counter-counter.result) = elim (cases_lt 0 c.load_counter-counter.result) [
+      | inl some ↦ elim (cases_lt c.load_counter-counter.result c.args.token) [
+        | inl older ↦ absurd (cc (c.if-holds.false, c.holds.ensures.1 (some, older)))
+        | inr newer ↦ inr newer
+      ]
+      | inr none ↦ inl (omega (arith, none))
+    ] in
     record {
       asked = asked_more g.M.Memory.did g.M.Memory.does g.met.M.Memory.follows c.args.memory.now c.args.token c.loop-worker.worker c.loop-worker.memory c.load_counter-counter.result c.load_counter-counter.new.self
           c.loop-worker.invariant.asked c.load_counter-counter.ensures.does (passes_by c.args.token c.load_counter-counter.result passes)
