@@ -6,7 +6,7 @@ ghost use Rattle.lpm_trace.specs.declared.step.WriterStep.TheVariants.{BumpToken
 ghost use Rattle.lpm_trace.specs.Laws.{IsChecked};
 ghost use Rattle.lpm_writer.specs.Steps.{Checks};
 ghost use Rattle.shared_fib.specs.Passes.{IsBenchOf};
-ghost use Rattle.shared_fib.specs.Running.{left_by, steps_of};
+ghost use Rattle.shared_fib.specs.Running.{passed_of, steps_of, token_of};
 
 use crate::{Busy, Owner};
 use shared_fib::{Bench, SharedTable};
@@ -63,12 +63,12 @@ impl Owner {
     /// left.
     pub fn start(self) -> Result<GracePeriod, NotStarted>
         ensures exhausted { IsErr result
-            ↔ (2 ^ 62 < (left_by self.writer).token + self.writer.config.groups) }
+            ↔ (2 ^ 62 < token_of self.writer + self.writer.config.groups) }
         ensures starts { IfOk result (λ period. period.writer ≡ record self.writer {
           table = record self.writer.table { readers = BumpToken ∷ steps_of self.writer };
         }) }
         ensures started { IfOk result
-            (λ period. (left_by period.writer).token ≡ (left_by self.writer).token + 1) }
+            (λ period. token_of period.writer ≡ token_of self.writer + 1) }
         ensures bench { IfOk result (λ period. period.bench ≡ self.bench) }
         ensures unchanged { IfErr result (λ not_started. not_started.owner ≡ self) }
     {
@@ -112,26 +112,26 @@ impl GracePeriod {
     /// gives the grace period back, and names the reader that holds the token.
     pub fn check(self) -> Result<Owner, Held>
         ensures passes { IfOk result (λ owner. Checks self.writer.identity.opening.workers
-            (steps_of self.writer) (left_by self.writer).token (Ok tt)
+            (steps_of self.writer) (token_of self.writer) (Ok tt)
             (steps_of owner.writer)) }
         ensures checked { IfOk result (λ owner. IsChecked self.writer.identity.opening.workers self.writer.identity.opening.token
-            (steps_of owner.writer) (left_by self.writer).token) }
+            (steps_of owner.writer) (token_of self.writer)) }
         ensures queued { IfOk result (λ owner. 0 < self.writer.config.workers
-            → All (λ token. token ≤ (left_by owner.writer).passed) owner.writer.table.limbo) }
+            → All (λ token. token ≤ passed_of owner.writer) owner.writer.table.limbo) }
         ensures same { IfOk result (λ owner. owner.writer ≡ record self.writer {
           table = record self.writer.table { readers = steps_of owner.writer };
         }) }
         ensures token { IfOk result
-            (λ owner. (left_by owner.writer).token ≡ (left_by self.writer).token) }
+            (λ owner. token_of owner.writer ≡ token_of self.writer) }
         ensures bench { IfOk result (λ owner. owner.bench ≡ self.bench) }
         ensures stopped { IfErr result (λ held. Checks self.writer.identity.opening.workers
-            (steps_of self.writer) (left_by self.writer).token (Err held.busy)
+            (steps_of self.writer) (token_of self.writer) (Err held.busy)
             (steps_of held.period.writer)) }
         ensures goes_on { IfErr result (λ held. held.period.writer ≡ record self.writer {
           table = record self.writer.table { readers = steps_of held.period.writer };
         }) }
         ensures waits { IfErr result
-            (λ held. (left_by held.period.writer).token ≡ (left_by self.writer).token) }
+            (λ held. token_of held.period.writer ≡ token_of self.writer) }
         ensures bench_stays { IfErr result (λ held. held.period.bench ≡ self.bench) }
     {
         let GracePeriod {

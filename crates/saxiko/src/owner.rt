@@ -15,7 +15,7 @@ ghost use Rattle.shared_fib.specs.Taking.{TakesLeast};
 ghost use Rattle.shared_words.specs.Rule.{IsLater};
 ghost use Rattle.shared_fib.specs.Freeing.{FreesChecked};
 ghost use Rattle.shared_fib.specs.Passes.{IsBenchOf, IsFullBench, IsPassOf, Makes, PassState};
-ghost use Rattle.shared_fib.specs.Running.{IsAtRest, by_steps, left_by, opens_with, setup, steps_of};
+ghost use Rattle.shared_fib.specs.Running.{IsAtRest, by_steps, opens_with, passed_of, setup, steps_of, token_of};
 
 use crate::{Hop, Prefix, Reader};
 use defer_queue::Reclaimed;
@@ -272,15 +272,15 @@ impl Owner {
     /// `Exhausted` where fewer tokens than groups are left; nothing was written then.
     pub fn synchronize<R: Wait>(&mut self, rt: &R) -> Result<(), Exhausted>
         ensures exhausted { IsErr result
-            ↔ (2 ^ 62 < (left_by self.old.writer).token + self.old.writer.config.groups) }
+            ↔ (2 ^ 62 < token_of self.old.writer + self.old.writer.config.groups) }
         ensures synchronizes { OnOk result (Synchronizes self.old.writer.identity.opening.workers self.old.writer.identity.opening.token
             (steps_of self.old.writer) (steps_of self.new.writer)) }
         ensures started { OnOk result
-            ((left_by self.new.writer).token ≡ (left_by self.old.writer).token + 1) }
+            (token_of self.new.writer ≡ token_of self.old.writer + 1) }
         ensures checked { OnOk result (IsChecked self.old.writer.identity.opening.workers self.old.writer.identity.opening.token
-            (steps_of self.new.writer) (left_by self.new.writer).token) }
+            (steps_of self.new.writer) (token_of self.new.writer)) }
         ensures queued { OnOk result (0 < self.old.writer.config.workers
-            → All (λ token. token ≤ (left_by self.new.writer).passed) self.new.writer.table.limbo) }
+            → All (λ token. token ≤ passed_of self.new.writer) self.new.writer.table.limbo) }
         ensures later { IsLater (steps_of self.old.writer) (steps_of self.new.writer) }
         ensures same { self.new.writer ≡ record self.old.writer {
           table = record self.old.writer.table { readers = steps_of self.new.writer };
@@ -324,7 +324,7 @@ impl Owner {
     /// one more.
     pub fn token(&mut self) -> u64
         ensures same { self.new ≡ self.old }
-        ensures value { result ≡ (left_by self.old.writer).token }
+        ensures value { result ≡ token_of self.old.writer }
         ensures within { result ≤ 2 ^ 62 }
     {
         self.writer.token(&*self.table)

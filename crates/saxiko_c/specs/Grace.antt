@@ -6,7 +6,7 @@ use Rattle.lpm_limits.specs.declared.busy.Busy.{Busy}
 use Rattle.lpm_trace.specs.declared.step.WriterStep.TheVariants.{BumpToken}
 use Rattle.lpm_trace.specs.Laws.{IsChecked as WasChecked}
 use Rattle.lpm_writer.specs.Steps.{Checks}
-use Rattle.shared_fib.specs.Running.{left_by, steps_of}
+use Rattle.shared_fib.specs.Running.{passed_of, steps_of, token_of}
 use Rattle.saxiko_c.specs.Owners.{OwnerState}
 use Rattle.saxiko_c.specs.Running.{Names}
 use Rattle.saxiko_c.specs.Status.{done, again, already, not_permitted, overflow}
@@ -33,7 +33,7 @@ pub record IsStarted (o p : OwnerState) : Type 0 where
   pub writer : p.writer ≡ record o.writer {
     table = record o.writer.table { readers = BumpToken ∷ steps_of o.writer };
   }
-  pub started : (left_by p.writer).token ≡ (left_by o.writer).token + 1
+  pub started : token_of p.writer ≡ token_of o.writer + 1
   pub waits : p.waits ≡ true
   pub bench : p.bench ≡ o.bench
 
@@ -41,9 +41,9 @@ pub record IsStarted (o p : OwnerState) : Type 0 where
 abbrev pub Starts : OwnerState → ℤ → OwnerState → Type 0
 Starts o status p =
     ((o.waits ≡ true) × (status ≡ already) × (p ≡ o))
-    ⊎ (((o.waits ≡ false) × (2 ^ 62 < (left_by o.writer).token + o.writer.config.groups)
+    ⊎ (((o.waits ≡ false) × (2 ^ 62 < token_of o.writer + o.writer.config.groups)
     × (status ≡ overflow) × (p ≡ o))
-    ⊎ ((o.waits ≡ false) × ((left_by o.writer).token + o.writer.config.groups ≤ 2 ^ 62)
+    ⊎ ((o.waits ≡ false) × (token_of o.writer + o.writer.config.groups ≤ 2 ^ 62)
     × (status ≡ done) × IsStarted o p))
 
 -- ---- its checks
@@ -56,14 +56,14 @@ stopped_by (Err busy) = Some busy
 -- a check was made, and the grace period is over where it has passed
 pub record IsChecked (o : OwnerState) (r : Result (Unit {0}) Busy) (p : OwnerState) : Type 0 where
   pub checks : Checks o.writer.identity.opening.workers (steps_of o.writer)
-      (left_by o.writer).token r (steps_of p.writer)
+      (token_of o.writer) r (steps_of p.writer)
   pub over : OnOk r (p.waits ≡ false)
   pub lasts : OnErr r (p.waits ≡ true)
-  pub token : (left_by p.writer).token ≡ (left_by o.writer).token
+  pub token : token_of p.writer ≡ token_of o.writer
   pub checked : OnOk r (WasChecked o.writer.identity.opening.workers
-      o.writer.identity.opening.token (steps_of p.writer) (left_by o.writer).token)
+      o.writer.identity.opening.token (steps_of p.writer) (token_of o.writer))
   pub queued : OnOk r (0 < o.writer.config.workers
-      → All (λ token. token ≤ (left_by p.writer).passed) p.writer.table.limbo)
+      → All (λ token. token ≤ passed_of p.writer) p.writer.table.limbo)
   pub same : p.writer ≡ record o.writer { table = record o.writer.table { readers = steps_of p.writer } }
   pub bench : p.bench ≡ o.bench
 

@@ -17,7 +17,7 @@ use Rattle.shared_fib.specs.Taking.{TakesLeast}
 use Rattle.shared_fib.specs.Freeing.{FreesChecked}
 use Rattle.shared_fib.specs.Passes.{PassState, IsBenchOf, IsFullBench, IsPassOf, LooksUp, LooksUpAll, Makes}
 use Rattle.shared_words.specs.Rule.{IsLater}
-use Rattle.shared_fib.specs.Running.{by_steps, hop_or, left_by, opens_with, setup, steps_of}
+use Rattle.shared_fib.specs.Running.{by_steps, hop_or, opens_with, setup, steps_of, token_of}
 use Rattle.saxiko_c.specs.Owners.{OwnerState}
 use Rattle.saxiko_c.specs.Status.{done, no_memory, busy, invalid, not_permitted, already, add_status, status_of}
 use Rattle.saxiko_c.specs.Table.{IsBad, IsUnopened, Stores, Tells}
@@ -97,7 +97,7 @@ GetsFrom addr depth before after o status =
 pub record IsCountedIn (o : OwnerState) (c : SaxikoCounts) : Type 0 where
   pub rules : c.rules ≡ len o.writer.table.rules
   pub versions : c.versions ≡ o.writer.table.begun
-  pub token : c.token ≡ (left_by o.writer).token
+  pub token : c.token ≡ token_of o.writer
   pub in_use : c.groups_in_use ≡ groups_in_use 24 8 o.writer.table.rules
   pub waiting : c.groups_waiting ≡ length o.writer.table.limbo
   pub all : c.groups_in_use + c.groups_waiting + c.groups_free ≡ o.writer.config.groups

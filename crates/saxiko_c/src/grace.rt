@@ -4,7 +4,7 @@ ghost use Rattle.std.specs.Prelude.{◌≡◌, ◌+◌, ◌^◌, ◌<◌, ◌≤
 ghost use Rattle.lpm_trace.specs.declared.step.WriterStep.TheVariants.{BumpToken};
 ghost use Rattle.lpm_trace.specs.Laws.{IsChecked};
 ghost use Rattle.lpm_writer.specs.Steps.{Checks};
-ghost use Rattle.shared_fib.specs.Running.{left_by, steps_of};
+ghost use Rattle.shared_fib.specs.Running.{passed_of, steps_of, token_of};
 ghost use Rattle.saxiko_c.specs.Grace.{ChecksOnce, Starts};
 
 use crate::owner::Owner;
@@ -33,12 +33,12 @@ impl Owner {
     pub(crate) fn start(&mut self) -> Result<(), Exhausted>
         requires at_rest { self.old.waits ≡ false }
         ensures exhausted { IsErr result
-            ↔ (2 ^ 62 < (left_by self.old.writer).token + self.old.writer.config.groups) }
+            ↔ (2 ^ 62 < token_of self.old.writer + self.old.writer.config.groups) }
         ensures starts { OnOk result (self.new.writer ≡ record self.old.writer {
           table = record self.old.writer.table { readers = BumpToken ∷ steps_of self.old.writer };
         }) }
         ensures started { OnOk result
-            ((left_by self.new.writer).token ≡ (left_by self.old.writer).token + 1) }
+            (token_of self.new.writer ≡ token_of self.old.writer + 1) }
         ensures waits { OnOk result (self.new.waits ≡ true) }
         ensures bench { self.new.bench ≡ self.old.bench }
         ensures unchanged { OnErr result (self.new ≡ self.old) }
@@ -63,16 +63,16 @@ impl Owner {
     pub(crate) fn check(&mut self) -> Result<(), Busy>
         requires waits { self.old.waits ≡ true }
         ensures checks { Checks self.old.writer.identity.opening.workers
-            (steps_of self.old.writer) (left_by self.old.writer).token result
+            (steps_of self.old.writer) (token_of self.old.writer) result
             (steps_of self.new.writer) }
         ensures over { OnOk result (self.new.waits ≡ false) }
         ensures lasts { OnErr result (self.new.waits ≡ true) }
-        ensures token { (left_by self.new.writer).token ≡ (left_by self.old.writer).token }
+        ensures token { token_of self.new.writer ≡ token_of self.old.writer }
         ensures checked { OnOk result (IsChecked self.old.writer.identity.opening.workers
             self.old.writer.identity.opening.token (steps_of self.new.writer)
-            (left_by self.old.writer).token) }
+            (token_of self.old.writer)) }
         ensures queued { OnOk result (0 < self.old.writer.config.workers
-            → All (λ token. token ≤ (left_by self.new.writer).passed) self.new.writer.table.limbo) }
+            → All (λ token. token ≤ passed_of self.new.writer) self.new.writer.table.limbo) }
         ensures same { self.new.writer ≡ record self.old.writer {
           table = record self.old.writer.table { readers = steps_of self.new.writer };
         } }

@@ -15,7 +15,7 @@ ghost use Rattle.saxiko_c.specs.Opened.{IsOpenedWith};
 ghost use Rattle.shared_fib.specs.Freeing.{FreesChecked};
 ghost use Rattle.shared_fib.specs.Passes.{IsBenchOf, IsFullBench, IsPassOf, Makes, PassState};
 ghost use Rattle.shared_words.specs.Rule.{IsLater};
-ghost use Rattle.shared_fib.specs.Running.{by_steps, left_by, opens_with, setup, steps_of};
+ghost use Rattle.shared_fib.specs.Running.{by_steps, opens_with, setup, steps_of, token_of};
 
 use crate::reader::Reader;
 use crate::stage::Stage;
@@ -303,7 +303,7 @@ impl Owner {
     pub fn token(&mut self) -> u64
         requires at_rest { self.old.waits ≡ false }
         ensures same { self.new ≡ self.old }
-        ensures value { result ≡ (left_by self.old.writer).token }
+        ensures value { result ≡ token_of self.old.writer }
         ensures within { result ≤ 2 ^ 62 }
     {
         match &mut self.stage {

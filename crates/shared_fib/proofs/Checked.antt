@@ -139,27 +139,27 @@ frees_checked o s z token items n freed are same h checked =
 
 -- the token that a synchronize starts is the newest then, and was checked
 pub record IsNewestChecked (x : List WriterStep) (c d : Setup) (z : List WriterStep) : Type 0 where
-  pub started : (tables d z).token ≡ (tables c x).token + 1
-  pub checked : IsChecked d.workers d.token z (tables d z).token
+  pub started : token_after d.token z ≡ token_after c.token x + 1
+  pub checked : IsChecked d.workers d.token z (token_after d.token z)
 
 newest_checked : (o : Opened) (x z : List WriterStep)
     → Synchronizes o.workers o.token x z → AreChecked o z → IsNewestChecked x (setup_of o) (setup_of o) z
 newest_checked o x z h are =
     let c : Setup = setup_of o in
     let t : ℕ = token_after o.token (BumpToken ∷ x) in
-    let newest : ℕ = (tables c z).token in
+    let newest : ℕ = token_after o.token z in
     let before : (tables c x).token ≡ token_after o.token x = token_is c x in
     let stopped : (tables c h.last).token ≡ suc (tables c x).token =
     stopped_token c h.stops (BumpToken ∷ x) t h.last h.stopped in
     let passed = steps_passed c h.last t z h.passes in
-    let last : newest ≡ t = omega (arith, passed.token, stopped, before) in
+    let last : newest ≡ t = omega (arith, passed.token, stopped, before, token_is c z) in
     let past : All (λ u. 0 < u) (newest ∷ []) =
     All-cons (λ u. 0 < u) newest [] (omega (arith, last)) (All-nil (λ u. 0 < u)) in
     let all = each_checked o z (newest ∷ []) past
     (λ some. All-cons (λ u. u ≤ (tables c z).passed) newest [] (omega (arith, last, passed.passed some))
     (All-nil (λ u. u ≤ (tables c z).passed))) are in
     record {
-      started = omega (arith, before, last);
+      started = last;
       checked = All-head (IsChecked o.workers o.token z) newest [] all;
     }
 

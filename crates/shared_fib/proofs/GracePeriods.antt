@@ -1,19 +1,21 @@
 -- What the start of a grace period and a check of its token leave.
-use Rattle.std.proofs.Common.{arith, ℕ, suc, ◌≡◌, ◌+◌, ◌<◌, ◌≤◌, ap, ◌∙◌, List, [], ◌∷◌, Result, Ok, Err}
+use Rattle.std.proofs.Common.{arith, ℕ, suc, ◌≡◌, ◌+◌, ◌<◌, ◌≤◌, ap, sym, ◌∙◌, List, [], ◌∷◌, Result, Ok, Err}
 use Rattle.std.specs.Prelude.{OnOk, OnErr}
 use Rattle.std.proofs.lemmas.List.Elements.{All-nil, All-cons, All-head}
 use Rattle.lpm_limits.specs.declared.busy.Busy.{Busy}
 use Rattle.lpm_trace.specs.declared.step.WriterStep.{WriterStep}
 use Rattle.lpm_trace.specs.declared.step.WriterStep.TheVariants.{BumpToken}
 use Rattle.lpm_trace.specs.Tables.{Setup, tables}
+use Rattle.lpm_trace.specs.Counts.{token_after}
+use Rattle.lpm_trace.proofs.Counts.{token_is}
 use Rattle.lpm_trace.specs.Laws.{IsChecked}
 use Rattle.lpm_writer.specs.Steps.{Checks}
 use Rattle.lpm_writer.proofs.StepsAlone.{steps_passed, steps_stopped}
 use Rattle.shared_words.specs.declared.view.View.{View}
 use Rattle.shared_words.specs.Opened.{Opened, setup_of}
 use Rattle.shared_words.specs.Seats.{AreChecked}
-use Rattle.shared_fib.specs.Lent.{left_by_view}
-use Rattle.shared_fib.specs.Running.{OnlySees, WriterState, left_by, steps_of}
+use Rattle.shared_fib.specs.Lent.{token_by}
+use Rattle.shared_fib.specs.Running.{OnlySees, WriterState, steps_of, token_of}
 use Rattle.shared_fib.proofs.Checked.{each_checked, looked}
 
 -- what follows from either outcome
@@ -37,27 +39,25 @@ on_err_then (Err e) a f = f a
 -- a token is started
 pub one_more_token : (x z : WriterState)
     → z ≡ record x { table = record x.table { readers = BumpToken ∷ steps_of x } }
-    → (left_by z).token ≡ (left_by x).token + 1
-one_more_token x z same =
-    let step : suc (left_by x).token ≡ (left_by x).token + 1 = omega arith in
-    ap (λ (y : WriterState). (left_by y).token) same ∙ step
+    → token_of z ≡ token_of x + 1
+one_more_token x z same = ap (λ (y : WriterState). token_of y) same
 
 -- the newest token stays, whatever came of its check
 pub token_stays : (c : Setup) (x z : List WriterStep) (r : Result (Unit {0}) Busy)
-    → Checks c.workers x (tables c x).token r z
-    → (tables c z).token ≡ (tables c x).token
-token_stays c x z (Ok u) h = (steps_passed c x (tables c x).token z h).token
-token_stays c x z (Err busy) h = (steps_stopped c x (tables c x).token busy z h).token
+    → Checks c.workers x (token_after c.token x) r z
+    → token_after c.token z ≡ token_after c.token x
+token_stays c x z (Ok u) h = sym (token_is c z) ∙ (steps_passed c x (token_after c.token x) z h).token ∙ token_is c x
+token_stays c x z (Err busy) h = sym (token_is c z) ∙ (steps_stopped c x (token_after c.token x) busy z h).token ∙ token_is c x
 
 -- where its check has passed, it was checked
-pub newest_passed : (o : Opened) (x z : List WriterStep) (r : Result (Unit {0}) Busy) → 0 < (tables (setup_of o) x).token
+pub newest_passed : (o : Opened) (x z : List WriterStep) (r : Result (Unit {0}) Busy) → 0 < token_after o.token x
     → AreChecked o z
-    → Checks o.workers x (tables (setup_of o) x).token r z
-    → OnOk r (IsChecked o.workers o.token z (tables (setup_of o) x).token)
+    → Checks o.workers x (token_after o.token x) r z
+    → OnOk r (IsChecked o.workers o.token z (token_after o.token x))
 newest_passed o x z (Err busy) past are h = tt
 newest_passed o x z (Ok u) past are h =
     let c : Setup = setup_of o in
-    let t : ℕ = (tables c x).token in
+    let t : ℕ = token_after o.token x in
     let passed = steps_passed c x t z h in
     All-head (IsChecked o.workers o.token z) t [] (each_checked o z (t ∷ [])
     (All-cons (λ u. 0 < u) t [] past (All-nil (λ u. 0 < u)))
@@ -66,12 +66,12 @@ newest_passed o x z (Ok u) past are h =
 
 -- the same of a seat that made the check
 module _ (v w : View) (sees : OnlySees v w) (r : Result (Unit {0}) Busy)
-    (h : Checks v.opening.workers v.seen (left_by_view v).token r w.seen) where
-  pub seat_token_stays : (left_by_view w).token ≡ (left_by_view v).token
+    (h : Checks v.opening.workers v.seen (token_by v) r w.seen) where
+  pub seat_token_stays : token_by w ≡ token_by v
   seat_token_stays =
-      ap (λ (x : View). (tables (setup_of x.opening) w.seen).token) sees
+      ap (λ (x : View). token_after x.opening.token w.seen) sees
       ∙ token_stays (setup_of v.opening) v.seen w.seen r h
 
-  pub seat_passed : 0 < (left_by_view v).token → AreChecked w.opening w.seen
-      → OnOk r (IsChecked v.opening.workers v.opening.token w.seen (left_by_view v).token)
+  pub seat_passed : 0 < token_by v → AreChecked w.opening w.seen
+      → OnOk r (IsChecked v.opening.workers v.opening.token w.seen (token_by v))
   seat_passed past are = newest_passed v.opening v.seen w.seen r past (looked v w sees are) h

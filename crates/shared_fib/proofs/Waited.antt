@@ -1,7 +1,7 @@
 -- A synchronize over the memory of a running table is one by the writer's steps: a token is started, and its checks
 -- are stopped until one passes.
-use Rattle.std.proofs.Common.{◌≡◌, ◌<◌, ◌≤◌, ℕ, suc, refl, sym, ◌∙◌, subst, List, ◌∷◌, Result, Ok, Err}
-use Rattle.std.specs.Prelude.{All}
+use Rattle.std.proofs.Common.{◌≡◌, ◌+◌, ◌^◌, ◌<◌, ◌≤◌, ℕ, suc, refl, sym, ◌∙◌, subst, List, ◌∷◌, Result, Ok, Err}
+use Rattle.std.specs.Prelude.{All, ◌↔◌}
 use Rattle.std.proofs.lemmas.List.Elements.{All-map}
 use Rattle.lpm_limits.specs.declared.busy.Busy.{Busy}
 use Rattle.lpm_limits.specs.declared.config.Config.{Config}
@@ -10,8 +10,8 @@ use Rattle.lpm_trace.specs.declared.step.WriterStep.{WriterStep}
 use Rattle.lpm_trace.specs.declared.step.WriterStep.TheVariants.{BumpToken}
 use Rattle.lpm_trace.specs.Tables.{Setup, tables}
 use Rattle.lpm_writer.specs.declared.books.Books.{Books}
-use Rattle.lpm_trace.specs.Counts.{token_after}
-use Rattle.lpm_trace.proofs.Counts.{token_is}
+use Rattle.lpm_trace.specs.Counts.{token_after, passed_after}
+use Rattle.lpm_trace.proofs.Counts.{token_is, passed_is}
 use Rattle.lpm_writer.specs.Steps as by_steps
 use Rattle.lpm_writer.specs.Steps.{AreStopped, Synchronizes}
 use Rattle.lpm_writer.specs.Traced.{Checks}
@@ -95,8 +95,13 @@ pub queued_passed : (first second : ℕ) (c : Setup) (steps : List WriterStep) (
     → IsResting first second c steps config rules books begun
     → All (λ (item : ℕ × ℕ). item.1 ≤ books.passed) books.queue.items
     → 0 < config.workers
-    → All (λ token. token ≤ (tables c steps).passed) (tokens_of books.queue.items)
+    → All (λ token. token ≤ passed_after c.workers steps) (tokens_of books.queue.items)
 queued_passed first second c steps config rules books begun rests queued some =
-    let passed = rests.keeps.remembers (subst (λ n. 0 < n) (sym rests.workers) some) in
-    All-map (λ token. token ≤ (tables c steps).passed) (λ (item : ℕ × ℕ). item.1) books.queue.items
+    let passed = rests.keeps.remembers (subst (λ n. 0 < n) (sym rests.workers) some) ∙ passed_is c steps in
+    All-map (λ token. token ≤ passed_after c.workers steps) (λ (item : ℕ × ℕ). item.1) books.queue.items
     (subst (λ p. All (λ (item : ℕ × ℕ). item.1 ≤ p) books.queue.items) passed queued)
+
+-- a refusal for want of tokens, by their count
+pub exhausted_by : (c : Setup) (steps : List WriterStep) (P : Type 0) (groups : ℕ)
+    → P ↔ (2 ^ 62 < (tables c steps).token + groups) → P ↔ (2 ^ 62 < token_after c.token steps + groups)
+exhausted_by c steps P groups h = subst (λ t. P ↔ (2 ^ 62 < t + groups)) (token_is c steps) h

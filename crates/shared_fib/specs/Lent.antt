@@ -5,6 +5,7 @@ use Rattle.std.specs.Coded.{Coded, code_by, coded×, coded_ℕ}
 use Rattle.atomic_table.specs.Seated.{TableId, table_id_coded}
 use Rattle.lpm_trace.specs.declared.step.WriterStep.{WriterStep}
 use Rattle.lpm_trace.specs.Tables.{Setup, Tables, tables, begun}
+use Rattle.lpm_trace.specs.Counts.{token_after, passed_after}
 use Rattle.lpm_trace.specs.Writer.{IsWritten, MayStep}
 use Rattle.shared_words.specs.declared.view.View.{View}
 use Rattle.shared_words.specs.contracts.view.View as view_row
@@ -27,6 +28,13 @@ coded_lent =
 -- what the steps of the view leave
 abbrev pub left_by_view : View → Tables
 left_by_view v = tables (setup_of v.opening) v.seen
+
+-- the token, and the greatest that has passed, by the steps of the view
+abbrev pub token_by : View → ℕ
+token_by v = token_after v.opening.token v.seen
+
+abbrev pub passed_by : View → ℕ
+passed_by v = passed_after v.opening.workers v.seen
 
 abbrev pub left_by : Lent → Tables
 left_by m = left_by_view m.view

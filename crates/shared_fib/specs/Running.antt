@@ -12,6 +12,7 @@ use Rattle.fib.specs.Fib.{coded_config}
 use Rattle.lpm_trace.specs.declared.step.WriterStep.{WriterStep}
 use Rattle.lpm_trace.specs.contracts.step.WriterStep as step_row
 use Rattle.lpm_trace.specs.Tables.{Setup, Tables, tables, addresses, answer, IsAnswer, done, begun}
+use Rattle.lpm_trace.specs.Counts.{token_after, passed_after}
 use Rattle.lpm_trace.specs.Writer.{IsWritten}
 use Rattle.lpm_trace.specs.Trace.{worker_by}
 use Rattle.lpm_trace.specs.Workers.{Phase, Offline, Online}
@@ -62,16 +63,24 @@ pub record WriterState : Type 0 where
   pub config : Config
   pub table : State (List WriterStep)
 
--- the parts of a change of the table that was opened so, by its writer's steps
-unfoldable pub by_steps : Opened → Transitions (List WriterStep)
-by_steps opening = by_steps_from opening.workers opening.token
-
--- the writer's steps so far, and what they leave
+-- the writer's steps so far
 abbrev pub steps_of : WriterState → List WriterStep
 steps_of w = w.table.readers
 
+-- the token, and the greatest whose check has passed
+abbrev pub token_of : WriterState → ℕ
+token_of w = token_after w.identity.opening.token (steps_of w)
+
+abbrev pub passed_of : WriterState → ℕ
+passed_of w = passed_after w.identity.opening.workers (steps_of w)
+
+-- what they leave
 abbrev pub left_by : WriterState → Tables
 left_by w = tables (setup w.identity) (steps_of w)
+
+-- the parts of a change of the table that was opened so, by its writer's steps
+unfoldable pub by_steps : Opened → Transitions (List WriterStep)
+by_steps opening = by_steps_from opening.workers opening.token
 
 -- each of the writer's steps might come after those before it, and no update runs; the versions are those
 -- that were done, the rules are those of the last one, and by them the words answer each address; the groups

@@ -7,9 +7,9 @@ ghost use Rattle.lpm_writer.specs.Steps.{Checks};
 ghost use Rattle.lpm_writer.specs.Waiting.{tokens_of};
 ghost use Rattle.shared_words.specs.Opened.{setup_of};
 ghost use Rattle.shared_words.specs.Seats.{IsOf, with_step};
-ghost use Rattle.shared_fib.specs.Lent.{SharedDid, left_by_view};
+ghost use Rattle.shared_fib.specs.Lent.{SharedDid, passed_by, token_by};
 ghost use Rattle.shared_fib.specs.GracePeriods.{IsInGrace, WaitsBy};
-ghost use Rattle.shared_fib.specs.Running.{IsReady, OnlySees, RestsBy, left_by, state_by, steps_of};
+ghost use Rattle.shared_fib.specs.Running.{IsReady, OnlySees, RestsBy, passed_of, state_by, steps_of, token_of};
 
 use crate::table::Words;
 use crate::{SharedMemory, SharedTable, Writer};
@@ -66,7 +66,7 @@ fn start_over<const FIRST: u32, const SECOND: u32>(
     requires did { SharedDid memory.old (setup_of memory.old.view.opening) memory.old.view.seen }
     requires rests { RestsBy FIRST SECOND ledger.now memory.old.view }
     ensures exhausted { IsErr result
-        ↔ (2 ^ 62 < (left_by_view memory.old.view).token + ledger.now.config.groups) }
+        ↔ (2 ^ 62 < token_by memory.old.view + ledger.now.config.groups) }
     ensures started { OnOk result (memory.new.view ≡ with_step memory.old.view BumpToken) }
     ensures waits { OnOk result (WaitsBy FIRST SECOND ledger.now memory.new.view) }
     ensures untouched { OnErr result (memory.new ≡ memory.old) }
@@ -84,7 +84,7 @@ fn start_by<const FIRST: u32, const SECOND: u32>(
     requires own { IsOf table.now seat.old.table seat.old.view }
     requires ready { IsReady FIRST SECOND ledger.now seat.old.view }
     ensures exhausted { IsErr result
-        ↔ (2 ^ 62 < (left_by_view seat.old.view).token + ledger.now.config.groups) }
+        ↔ (2 ^ 62 < token_by seat.old.view + ledger.now.config.groups) }
     ensures started { OnOk result
         (seat.new.view ≡ with_step seat.old.view BumpToken) }
     ensures waits { OnOk result (IsInGrace FIRST SECOND ledger.now seat.new.view) }
@@ -104,9 +104,9 @@ fn check_over<const FIRST: u32, const SECOND: u32>(
     requires did { SharedDid memory.old (setup_of memory.old.view.opening) memory.old.view.seen }
     requires waits { WaitsBy FIRST SECOND ledger.old memory.old.view }
     ensures checks { Checks memory.old.view.opening.workers memory.old.view.seen
-        (left_by_view memory.old.view).token result memory.new.view.seen }
+        (token_by memory.old.view) result memory.new.view.seen }
     ensures queued { OnOk result (0 < ledger.old.config.workers
-        → All (λ token. token ≤ (left_by_view memory.new.view).passed)
+        → All (λ token. token ≤ passed_by memory.new.view)
         (tokens_of ledger.new.books.queue.items)) }
     ensures rests { OnOk result (RestsBy FIRST SECOND ledger.new memory.new.view) }
     ensures waits { OnErr result (WaitsBy FIRST SECOND ledger.new memory.new.view) }
@@ -128,13 +128,13 @@ fn check_by<const FIRST: u32, const SECOND: u32>(
     requires own { IsOf table.now seat.old.table seat.old.view }
     requires waits { IsInGrace FIRST SECOND ledger.old seat.old.view }
     ensures checks { Checks seat.old.view.opening.workers seat.old.view.seen
-        (left_by_view seat.old.view).token result seat.new.view.seen }
-    ensures token { (left_by_view seat.new.view).token
-        ≡ (left_by_view seat.old.view).token }
+        (token_by seat.old.view) result seat.new.view.seen }
+    ensures token { token_by seat.new.view
+        ≡ token_by seat.old.view }
     ensures checked { OnOk result (IsChecked seat.old.view.opening.workers
-        seat.old.view.opening.token seat.new.view.seen (left_by_view seat.old.view).token) }
+        seat.old.view.opening.token seat.new.view.seen (token_by seat.old.view)) }
     ensures queued { OnOk result (0 < ledger.old.config.workers
-        → All (λ token. token ≤ (left_by_view seat.new.view).passed)
+        → All (λ token. token ≤ passed_by seat.new.view)
         (tokens_of ledger.new.books.queue.items)) }
     ensures ready { OnOk result (IsReady FIRST SECOND ledger.new seat.new.view) }
     ensures waits { OnErr result (IsInGrace FIRST SECOND ledger.new seat.new.view) }
@@ -163,12 +163,12 @@ impl<const FIRST: u32, const SECOND: u32> Writer<FIRST, SECOND> {
     ) -> Result<GracePeriod<FIRST, SECOND>, NotStarted<FIRST, SECOND>>
         requires own { self.identity ≡ table.now }
         ensures exhausted { IsErr result
-            ↔ (2 ^ 62 < (left_by self.entry).token + self.entry.config.groups) }
+            ↔ (2 ^ 62 < token_of self.entry + self.entry.config.groups) }
         ensures starts { IfOk result (λ period. period ≡ record self.entry {
           table = record self.entry.table { readers = BumpToken ∷ steps_of self.entry };
         }) }
         ensures started { IfOk result
-            (λ period. (left_by period).token ≡ (left_by self.entry).token + 1) }
+            (λ period. token_of period ≡ token_of self.entry + 1) }
         ensures unchanged { IfErr result (λ not_started. not_started.writer ≡ self.entry) }
     {
         let Writer { ledger, mut seat } = self;
@@ -206,22 +206,22 @@ impl<const FIRST: u32, const SECOND: u32> GracePeriod<FIRST, SECOND> {
     ) -> Result<Writer<FIRST, SECOND>, Held<FIRST, SECOND>>
         requires own { self.identity ≡ table.now }
         ensures passes { IfOk result (λ writer. Checks table.now.opening.workers (steps_of self.entry)
-            (left_by self.entry).token (Ok tt) (steps_of writer)) }
+            (token_of self.entry) (Ok tt) (steps_of writer)) }
         ensures checked { IfOk result (λ writer. IsChecked table.now.opening.workers
-            table.now.opening.token (steps_of writer) (left_by self.entry).token) }
+            table.now.opening.token (steps_of writer) (token_of self.entry)) }
         ensures queued { IfOk result (λ writer. 0 < self.entry.config.workers
-            → All (λ token. token ≤ (left_by writer).passed) writer.table.limbo) }
+            → All (λ token. token ≤ passed_of writer) writer.table.limbo) }
         ensures same { IfOk result (λ writer. writer ≡ record self.entry {
           table = record self.entry.table { readers = steps_of writer };
         }) }
-        ensures token { IfOk result (λ writer. (left_by writer).token ≡ (left_by self.entry).token) }
+        ensures token { IfOk result (λ writer. token_of writer ≡ token_of self.entry) }
         ensures stopped { IfErr result (λ held. Checks table.now.opening.workers (steps_of self.entry)
-            (left_by self.entry).token (Err held.busy) (steps_of held.period)) }
+            (token_of self.entry) (Err held.busy) (steps_of held.period)) }
         ensures goes_on { IfErr result (λ held. held.period ≡ record self.entry {
           table = record self.entry.table { readers = steps_of held.period };
         }) }
         ensures waits { IfErr result
-            (λ held. (left_by held.period).token ≡ (left_by self.entry).token) }
+            (λ held. token_of held.period ≡ token_of self.entry) }
     {
         let GracePeriod {
             mut ledger,

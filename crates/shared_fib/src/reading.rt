@@ -5,7 +5,7 @@ ghost use Rattle.std.specs.FinMap as map;
 ghost use Rattle.fib_model.specs.Outcomes.{groups_in_use};
 ghost use Rattle.lpm_limits.specs.Limits.{IsConfig};
 ghost use Rattle.lpm_rules.specs.Walking.{IsNextRule};
-ghost use Rattle.shared_fib.specs.Running.{IsAtRest, left_by};
+ghost use Rattle.shared_fib.specs.Running.{IsAtRest, token_of};
 
 use crate::{SharedTable, Writer};
 use lpm_bits::{Hop, Prefix};
@@ -56,7 +56,7 @@ impl<const FIRST: u32, const SECOND: u32> Writer<FIRST, SECOND> {
     pub fn token(&mut self, table: &SharedTable<FIRST, SECOND>) -> u64
         requires own { self.old.identity ≡ table.now }
         ensures same { self.new ≡ self.old }
-        ensures value { result ≡ (left_by self.old).token }
+        ensures value { result ≡ token_of self.old }
         ensures within { result ≤ 2 ^ 62 }
     {
         self.seat.token(&table.words)

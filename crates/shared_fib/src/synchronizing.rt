@@ -8,9 +8,9 @@ ghost use Rattle.lpm_writer.specs.Synchronizing.{IsWaiting};
 ghost use Rattle.shared_words.specs.Opened.{setup_of};
 ghost use Rattle.shared_words.specs.Rule.{IsLater};
 ghost use Rattle.shared_words.specs.Seats.{IsOf};
-ghost use Rattle.shared_fib.specs.Lent.{SharedDid, left_by_view};
+ghost use Rattle.shared_fib.specs.Lent.{SharedDid, passed_by, token_by};
 ghost use Rattle.shared_fib.specs.Passing.{PassesAtLast};
-ghost use Rattle.shared_fib.specs.Running.{IsReady, OnlySees, RestsBy, left_by, steps_of};
+ghost use Rattle.shared_fib.specs.Running.{IsReady, OnlySees, RestsBy, passed_of, steps_of, token_of};
 
 use crate::table::Words;
 use crate::{SharedMemory, SharedTable, Writer};
@@ -31,7 +31,7 @@ fn check_until_passed<const FIRST: u32, const SECOND: u32, R: Wait>(
     ensures passes { PassesAtLast (setup_of memory.old.view.opening) memory.old.view.seen
         memory.new.view.seen }
     ensures queued { 0 < ledger.old.config.workers
-        → All (λ token. token ≤ (left_by_view memory.new.view).passed)
+        → All (λ token. token ≤ passed_by memory.new.view)
         (tokens_of ledger.new.books.queue.items) }
     ensures rests { RestsBy FIRST SECOND ledger.new memory.new.view }
     ensures same { ledger.new ≡ record ledger.old {
@@ -58,11 +58,11 @@ fn synchronize_over<const FIRST: u32, const SECOND: u32, R: Wait>(
     requires did { SharedDid memory.old (setup_of memory.old.view.opening) memory.old.view.seen }
     requires rests { RestsBy FIRST SECOND ledger.old memory.old.view }
     ensures exhausted { IsErr result
-        ↔ (2 ^ 62 < (left_by_view memory.old.view).token + ledger.old.config.groups) }
+        ↔ (2 ^ 62 < token_by memory.old.view + ledger.old.config.groups) }
     ensures synchronizes { OnOk result (Synchronizes memory.old.view.opening.workers
         memory.old.view.opening.token memory.old.view.seen memory.new.view.seen) }
     ensures queued { OnOk result (0 < ledger.old.config.workers
-        → All (λ token. token ≤ (left_by_view memory.new.view).passed)
+        → All (λ token. token ≤ passed_by memory.new.view)
         (tokens_of ledger.new.books.queue.items)) }
     ensures rests { RestsBy FIRST SECOND ledger.new memory.new.view }
     ensures same { ledger.new ≡ record ledger.old {
@@ -88,15 +88,15 @@ fn synchronize_by<const FIRST: u32, const SECOND: u32, R: Wait>(
     requires own { IsOf table.now seat.old.table seat.old.view }
     requires ready { IsReady FIRST SECOND ledger.old seat.old.view }
     ensures exhausted { IsErr result
-        ↔ (2 ^ 62 < (left_by_view seat.old.view).token + ledger.old.config.groups) }
+        ↔ (2 ^ 62 < token_by seat.old.view + ledger.old.config.groups) }
     ensures synchronizes { OnOk result (Synchronizes seat.old.view.opening.workers
         seat.old.view.opening.token seat.old.view.seen seat.new.view.seen) }
-    ensures started { OnOk result ((left_by_view seat.new.view).token
-        ≡ (left_by_view seat.old.view).token + 1) }
+    ensures started { OnOk result (token_by seat.new.view
+        ≡ token_by seat.old.view + 1) }
     ensures checked { OnOk result (IsChecked seat.new.view.opening.workers
-        seat.new.view.opening.token seat.new.view.seen (left_by_view seat.new.view).token) }
+        seat.new.view.opening.token seat.new.view.seen (token_by seat.new.view)) }
     ensures queued { OnOk result (0 < ledger.old.config.workers
-        → All (λ token. token ≤ (left_by_view seat.new.view).passed)
+        → All (λ token. token ≤ passed_by seat.new.view)
         (tokens_of ledger.new.books.queue.items)) }
     ensures ready { IsReady FIRST SECOND ledger.new seat.new.view }
     ensures same { ledger.new ≡ record ledger.old {
@@ -129,14 +129,14 @@ impl<const FIRST: u32, const SECOND: u32> Writer<FIRST, SECOND> {
     ) -> Result<(), Exhausted>
         requires own { self.old.identity ≡ table.now }
         ensures exhausted { IsErr result
-            ↔ (2 ^ 62 < (left_by self.old).token + self.old.config.groups) }
+            ↔ (2 ^ 62 < token_of self.old + self.old.config.groups) }
         ensures synchronizes { OnOk result (Synchronizes table.now.opening.workers
             table.now.opening.token (steps_of self.old) (steps_of self.new)) }
-        ensures started { OnOk result ((left_by self.new).token ≡ (left_by self.old).token + 1) }
+        ensures started { OnOk result (token_of self.new ≡ token_of self.old + 1) }
         ensures checked { OnOk result (IsChecked table.now.opening.workers
-            table.now.opening.token (steps_of self.new) (left_by self.new).token) }
+            table.now.opening.token (steps_of self.new) (token_of self.new)) }
         ensures queued { OnOk result (0 < self.old.config.workers
-            → All (λ token. token ≤ (left_by self.new).passed) self.new.table.limbo) }
+            → All (λ token. token ≤ passed_of self.new) self.new.table.limbo) }
         ensures same { self.new ≡ record self.old {
           table = record self.old.table { readers = steps_of self.new };
         } }

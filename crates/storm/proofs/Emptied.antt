@@ -9,20 +9,20 @@ use Rattle.defer_queue.specs.declared.Reclaimed.{Reclaimed}
 use Rattle.fib_model.specs.State.{State}
 use Rattle.fib_model.specs.Outcomes.{Frees}
 use Rattle.lpm_trace.specs.declared.step.WriterStep.{WriterStep}
-use Rattle.lpm_trace.specs.Tables.{Setup, tables}
-use Rattle.lpm_trace.proofs.Counts.{passed_is}
+use Rattle.lpm_trace.specs.Tables.{Setup}
+use Rattle.lpm_trace.specs.Counts.{passed_after}
 use Rattle.lpm_writer.specs.Steps.{by_steps_from}
 
 module _ (c : Setup) (some : 0 < c.workers) where
   -- these tokens have passed after the steps x
   abbrev HavePassed : List WriterStep → List ℕ → Type 0
-  HavePassed x tokens = All (λ token. token ≤ (tables c x).passed) tokens
+  HavePassed x tokens = All (λ token. token ≤ passed_after c.workers x) tokens
 
   -- a check of a token that has passed loads nothing, and passes
-  passes : (x : List WriterStep) (token : ℕ) (r : Result (Unit {0}) Busy) (z : List WriterStep) → token ≤ (tables c x).passed
+  passes : (x : List WriterStep) (token : ℕ) (r : Result (Unit {0}) Busy) (z : List WriterStep) → token ≤ passed_after c.workers x
       → (by_steps_from c.workers c.token).checks x token r z → (r ≡ Ok tt) × (z ≡ x)
   passes x token r z has (inl h) = (h.1, h.2)
-  passes x token r z has (inr h) = let late = h.0 some in absurd (omega (arith, has, late, passed_is c x))
+  passes x token r z has (inr h) = let late = h.0 some in absurd (omega (arith, has, late))
 
   -- what is left of the queue after the first n were freed
   record IsLeft (x : List WriterStep) (n : ℕ) (items left : List ℕ) (y : List WriterStep) : Type 0 where
@@ -39,7 +39,7 @@ module _ (c : Setup) (some : 0 < c.workers) where
   }
   front (suc n) [] x left y has h = absurd h
   front (suc n) (item ∷ rest) x left y has h =
-      let P = λ (token : ℕ). token ≤ (tables c x).passed in
+      let P = λ (token : ℕ). token ≤ passed_after c.workers x in
       let here = passes x item (Ok tt) h.0 (All-head P item rest has) h.2 in
       let still : h.1 ≡ x = h.3 ∙ here.1 in
       let then : IsLeft h.1 n rest left y =
@@ -56,7 +56,7 @@ module _ (c : Setup) (some : 0 < c.workers) where
   none_left max n left y None z has count (inr none, same) = none
   none_left max n [] y (Some busy) z has count h = refl
   none_left max n (item ∷ rest) y (Some busy) z has count h =
-      let P = λ (token : ℕ). token ≤ (tables c y).passed in
+      let P = λ (token : ℕ). token ≤ passed_after c.workers y in
       absurd (not_both busy (passes y item (Err busy) z (All-head P item rest has) h.1).0)
     where
       not_both : (busy : Busy) → ◌≡◌ {A = Result (Unit {0}) Busy} (Err busy) (Ok tt) → ⊥

@@ -7,7 +7,7 @@ use Rattle.lpm_limits.specs.Limits.{IsConfig}
 use Rattle.lpm_rules.specs.Listed.{rules_of}
 use Rattle.fib_model.specs.declared.command.Outcome.{Outcome}
 use Rattle.fib_model.specs.declared.command.Outcome.TheVariants as outcome
-use Rattle.shared_fib.specs.Running.{Identity, WriterState, left_by}
+use Rattle.shared_fib.specs.Running.{Identity, WriterState, token_of}
 use Rattle.storm.specs.declared.plan.Plan.{Plan}
 use Rattle.storm.specs.declared.plan.StormError.{StormError}
 use Rattle.storm.specs.declared.plan.StormError.TheVariants as errors
@@ -50,7 +50,7 @@ pub record LacksTokens {first second : ℕ} (p : Plan first second) : Type 0 whe
   pub outcomes : List Outcome
   pub last : WriterState
   pub made : HasMadeAll p id outcomes last
-  pub tokens : 2 ^ 62 < (left_by last).token + p.config.groups
+  pub tokens : 2 ^ 62 < token_of last + p.config.groups
 
 -- before its table is opened a storm of this plan comes to nothing so
 abbrev pub EndsBefore : {first second : ℕ} → Plan first second → StormError → Type 0

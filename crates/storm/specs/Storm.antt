@@ -6,7 +6,7 @@ use Rattle.fib_model.specs.Outcomes.{Frees, groups_in_use}
 use Rattle.lpm_rules.specs.Listed.{rules_of}
 use Rattle.lpm_writer.specs.Steps.{Synchronizes}
 use Rattle.defer_queue.specs.declared.Reclaimed.{Reclaimed}
-use Rattle.shared_fib.specs.Running.{Identity, IsAtRest, WriterState, by_steps, left_by, steps_of}
+use Rattle.shared_fib.specs.Running.{Identity, IsAtRest, WriterState, by_steps, steps_of, token_of}
 use Rattle.shared_fib.specs.Passes.{PassState}
 use Rattle.audit.specs.declared.report.Report.{Report}
 use Rattle.audit.specs.declared.report.StormReport.{StormReport}
@@ -37,7 +37,7 @@ pub record IsCountOf (first second : ℕ) (w : WriterState) (r : Report) : Type 
   pub in_use : r.in_use ≡ groups_in_use first second w.table.rules
   pub limbo : r.limbo ≡ length w.table.limbo
   pub groups : r.in_use + r.limbo + r.free ≡ w.config.groups
-  pub token : r.token ≡ (left_by w).token
+  pub token : r.token ≡ token_of w
 
 -- A storm of this plan came out so. The pass of each worker has looked the whole list up in each round. Each
 -- answer is the longest match in a version from its `lo` to its `hi`: those of the accepted changes, from the

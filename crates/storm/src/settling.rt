@@ -1,7 +1,7 @@
 //! What a storm does when its threads have ended.
 
 ghost use Rattle.std.specs.Prelude.{◌≡◌, ◌+◌, ◌^◌, ◌<◌, ◌≤◌, [], ◌∷◌, ◌++◌, true, All, IfOk, MatchOption, OnErr, OnOk, length, map, drop};
-ghost use Rattle.shared_fib.specs.Running.{left_by, setup, steps_of};
+ghost use Rattle.shared_fib.specs.Running.{setup, steps_of, token_of};
 ghost use Rattle.audit.specs.Wrong.{AreWrong, version_of};
 ghost use Rattle.storm.specs.Changing.{addition_of, changes_by, change_by, is_refused, refused_among};
 ghost use Rattle.storm.specs.Looking.{AreInSeats, HasAnswered, IsOver, answers_of_workers, number_of};
@@ -73,7 +73,7 @@ pub fn settle<R: Wait, const FIRST: u32, const SECOND: u32>(
     ensures own { writer.new.identity ≡ writer.old.identity }
     ensures config { writer.new.config ≡ writer.old.config }
     ensures exhausted { OnErr result
-        (2 ^ 62 < (left_by writer.old).token + writer.old.config.groups) }
+        (2 ^ 62 < token_of writer.old + writer.old.config.groups) }
 {
     writer.synchronize(rt, table)?;
     let waiting = writer.counts().limbo;

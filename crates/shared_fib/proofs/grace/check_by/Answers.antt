@@ -5,7 +5,8 @@ use Rattle.lpm_writer.specs.Steps.{Checks}
 use Rattle.shared_words.specs.declared.view.View.{View}
 use Rattle.shared_words.specs.Opened.{setup_of}
 use Rattle.shared_words.specs.Seats.{AreChecked}
-use Rattle.shared_fib.specs.Lent.{left_by_view}
+use Rattle.lpm_trace.proofs.Counts.{token_is}
+use Rattle.shared_fib.specs.Lent.{token_by}
 use Rattle.shared_fib.specs.GracePeriods.{WaitsBy}
 use Rattle.shared_fib.specs.Running.{OnlySees, RestsBy}
 use Rattle.shared_fib.proofs.GracePeriods.{on_ok_then, on_err_then, seat_passed, seat_token_stays}
@@ -17,7 +18,7 @@ returns-clause-token g c =
     let w : View = c.seat-1.given.0.view in
     let r = c.check_over-came.result in
     let sees : OnlySees v w = search rules in
-    let came : Checks v.opening.workers v.seen (left_by_view v).token r w.seen =
+    let came : Checks v.opening.workers v.seen (token_by v) r w.seen =
     search rules in
     seat_token_stays v w sees r came
 
@@ -27,10 +28,10 @@ returns-clause-checked g c =
     let w : View = c.seat-1.given.0.view in
     let r = c.check_over-came.result in
     let sees : OnlySees v w = search rules in
-    let came : Checks v.opening.workers v.seen (left_by_view v).token r w.seen =
+    let came : Checks v.opening.workers v.seen (token_by v) r w.seen =
     search rules in
     let known : AreChecked w.opening w.seen = c.history.ensures.checked in
-    let past : 0 < (left_by_view v).token = omega (arith, c.requires.waits.waits.started) in
+    let past : 0 < token_by v = omega (arith, c.requires.waits.waits.started, token_is (setup_of v.opening) v.seen) in
     seat_passed v w sees r came past known
 
 pub returns-clause-ready : goal.returns-clause-ready

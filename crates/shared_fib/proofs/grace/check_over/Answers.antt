@@ -1,6 +1,7 @@
 use Rattle.std.proofs.Common.{arith, ◌≡◌, ◌<◌, ap, sym, subst, List}
 use Rattle.lpm_trace.specs.declared.step.WriterStep.{WriterStep}
 use Rattle.lpm_trace.specs.Tables.{Setup}
+use Rattle.lpm_trace.proofs.Counts.{token_is}
 use Rattle.lpm_writer.specs.declared.ledger.Ledger.{Ledger}
 use Rattle.lpm_writer.specs.Resting.{IsResting}
 use Rattle.lpm_writer.specs.Synchronizing.{IsWaiting}
@@ -39,8 +40,9 @@ returns g c =
     IsWaiting f s by later new.config new.rules new.books new.versions in
     let some_new = subst (λ (l : Ledger f s). 0 < l.config.workers) (sym known.same) in
     record {
-      checks = outcome_after Came z setup came.0 came.1
-          (checks_alone Lent does_in setup (m, m.view.seen) (z, came.0) (left_by m).token r came.2);
+      checks = subst (λ t. Checks m.view.opening.workers m.view.seen t r z.view.seen) (token_is setup m.view.seen)
+          (outcome_after Came z setup came.0 came.1
+          (checks_alone Lent does_in setup (m, m.view.seen) (z, came.0) (left_by m).token r came.2));
       queued = on_ok_both r came.3 known.queued (λ rests queued some.
           queued_passed f s (setup_of z.view.opening) z.view.seen new.config new.rules new.books new.versions
           (rests_after Rests z setup came.0 came.1 rests) queued (some_new some));

@@ -1,6 +1,7 @@
 use Rattle.std.proofs.Common.{arith, ap, List}
 use Rattle.lpm_trace.specs.declared.step.WriterStep.{WriterStep}
 use Rattle.lpm_trace.specs.Tables.{Setup}
+use Rattle.shared_fib.proofs.Waited.{exhausted_by}
 use Rattle.lpm_writer.specs.Synchronizing.{IsWaiting}
 use Rattle.shared_words.specs.Opened.{setup_of}
 use Rattle.shared_fib.specs.Lent.{Lent}
@@ -24,7 +25,7 @@ returns g c =
     let Waits : Setup → List WriterStep → Type 0 = λ by later.
     IsWaiting g.row.FIRST g.row.SECOND by later l.config l.rules l.books l.versions in
     record {
-      exhausted = known.exhausted;
+      exhausted = exhausted_by setup m.view.seen _ l.config.groups known.exhausted;
       started = on_ok_then r known.starts (λ starts.
           (starts setup m.view.seen c.requires.did c.requires.rests).2.0.view);
       waits = on_ok_then r known.starts (λ starts.

@@ -1,4 +1,5 @@
-use Rattle.std.proofs.Common.{arith, ap, ◌∙◌, List}
+use Rattle.std.proofs.Common.{arith, rules, refl, ap, ◌∙◌, List}
+use Rattle.std.specs.Prelude.{IsErr}
 use Rattle.lpm_trace.specs.declared.step.WriterStep.{WriterStep}
 use Rattle.lpm_trace.specs.Tables.{Setup}
 use Rattle.lpm_writer.specs.Synchronizing.{IsWaiting}
@@ -6,7 +7,7 @@ use Rattle.shared_words.specs.declared.view.View.{View}
 use Rattle.shared_words.specs.Opened.{setup_of}
 use Rattle.shared_fib.specs.Lent.{Lent, SharedDid}
 use Rattle.shared_fib.proofs.Seated.{rests_after}
-use Rattle.shared_fib.proofs.Waited.{synchronized}
+use Rattle.shared_fib.proofs.Waited.{exhausted_by, synchronized}
 use Rattle.shared_fib.proofs.synchronizing.synchronize_over.Goals as goal
 
 pub start_synchronize-requires : goal.start_synchronize-requires
@@ -26,6 +27,14 @@ check_until_passed-requires g c =
     let did = rests_after (SharedDid z) z setup started.0 started.1 started.1 in
     (omega arith, (omega arith, (did, rests_after Waits z setup started.0 started.1 started.3)))
 
+pub returns-in_err-start_synchronize-clause-exhausted : goal.returns-in_err-start_synchronize-clause-exhausted
+returns-in_err-start_synchronize-clause-exhausted g c =
+    let m : Lent = c.args.memory.now in
+    let refused : IsErr c.from_residual.result = search rules in
+    let known = exhausted_by (setup_of m.view.opening) m.view.seen _ c.args.ledger.now.config.groups
+    c.in_err-start_synchronize.ensures.exhausted in
+    (λ _. known.0 refl, λ _. refused)
+
 pub returns : goal.returns
 returns g c =
     let m : Lent = c.args.memory.now in
@@ -37,7 +46,7 @@ returns g c =
     let passed = c.check_until_passed.ensures in
     let after : View → View = λ v. record v { seen = z.view.seen } in
     record {
-      exhausted = c.in_ok-start_synchronize.ensures.exhausted;
+      exhausted = exhausted_by setup m.view.seen _ c.args.ledger.now.config.groups c.in_ok-start_synchronize.ensures.exhausted;
       synchronizes = synchronized m y z.view.seen does passed.passes;
       queued = passed.queued;
       rests = passed.rests;

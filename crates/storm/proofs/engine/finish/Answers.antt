@@ -4,7 +4,7 @@ use Rattle.lpm_rules.specs.RuleMap.{RuleMap}
 use Rattle.lpm_rules.specs.Listed.{rules_of}
 use Rattle.lpm_rules.specs.declared.Answer.{Answer}
 use Rattle.lpm_rules.specs.declared.Change.{Change}
-use Rattle.shared_fib.specs.Running.{WriterState, left_by, steps_of}
+use Rattle.shared_fib.specs.Running.{WriterState, steps_of, token_of}
 use Rattle.audit.specs.Wrong.{AreWrong, version_of}
 use Rattle.fib_model.specs.declared.command.Outcome.{Outcome}
 use Rattle.std.proofs.lemmas.List.{length-map}
@@ -21,13 +21,13 @@ use Rattle.storm.proofs.engine.finish.Goals as goal
 pub returns-in_default-clause-failure : goal.returns-in_default-clause-failure
 returns-in_default-clause-failure g c =
     let writer = c.args.recorder.now.writer in
-    let tokens = subst (λ (w : WriterState). 2 ^ 62 < (left_by w).token + w.config.groups) c.meet_all.ensures.same c.in_default.ensures.exhausted in
+    let tokens = subst (λ (w : WriterState). 2 ^ 62 < token_of w + w.config.groups) c.meet_all.ensures.same c.in_default.ensures.exhausted in
     record {
       id = c.args.table.now;
       outcomes = c.args.recorder.now.outcomes.items;
       last = writer;
       made = c.requires.made;
-      tokens = subst (λ (k : Config). 2 ^ 62 < (left_by writer).token + k.groups) c.requires.made.made.limits tokens;
+      tokens = subst (λ (k : Config). 2 ^ 62 < token_of writer + k.groups) c.requires.made.made.limits tokens;
     }
 
 pub count_wrong-requires-after_bounds : goal.count_wrong-requires-after_bounds

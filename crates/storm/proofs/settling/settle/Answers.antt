@@ -1,6 +1,6 @@
 use Rattle.std.proofs.Common.{ℕ, ◌≡◌, ◌<◌, ◌≤◌, length, ap, ◌∙◌, sym, subst}
 use Rattle.std.specs.Prelude.{All}
-use Rattle.lpm_trace.specs.Tables.{tables}
+use Rattle.lpm_trace.specs.Counts.{passed_after}
 use Rattle.fib_model.specs.Outcomes.{Frees}
 use Rattle.shared_fib.specs.Running.{Identity, WriterState, by_steps, setup, steps_of}
 use Rattle.storm.proofs.Emptied.{emptied}
@@ -14,7 +14,7 @@ returns-clause-settles g c =
     let told = c.in_ok-synchronize.ensures in
     let limbo = c.counts-waiting.ensures.limbo ∙ ap (λ (w : WriterState). length w.table.limbo) told.same in
     let own : passed.identity ≡ id = ap (λ (w : WriterState). w.identity) told.same ∙ c.requires.own in
-    let queued = subst (λ (i : Identity). All (λ token. token ≤ (tables (setup i) (steps_of passed)).passed) passed.table.limbo)
+    let queued = subst (λ (i : Identity). All (λ token. token ≤ passed_after i.opening.workers (steps_of passed)) passed.table.limbo)
     own (told.queued c.requires.some) in
     let some : 0 < (setup id).workers = subst (λ (n : ℕ). 0 < n) (sym c.requires.workers) c.requires.some in
     let all = subst (λ (n : ℕ). Frees (by_steps id.opening) passed.table n c.reclaim.result c.reclaim.new.self.table)
