@@ -50,6 +50,9 @@ DECLARE(reader_online, struct saxiko_reader *);
 DECLARE(reader_offline, struct saxiko_reader *);
 DECLARE(reader_quiescent, struct saxiko_reader *);
 DECLARE(reader_lookup_bulk, struct saxiko_reader *, const uint32_t *, size_t, uint32_t *, size_t, uint32_t);
+DECLARE(reader_lookup_span, struct saxiko_reader *, uint32_t, uint32_t *, struct saxiko_span *);
+DECLARE(reader_lookup_bulk_span, struct saxiko_reader *, const uint32_t *, size_t, uint32_t *, size_t, uint32_t,
+        struct saxiko_span *);
 
 /* The number of the next table. The proved part has no such number: it asks that a reader is given back to the table
  * that it was registered at. */
@@ -238,4 +241,17 @@ int32_t saxiko_reader_lookup_bulk(struct saxiko_reader *reader, const uint32_t *
     if (!reader || is_missing(addrs, addrs_len) || is_missing(hops, hops_len))
         return -EINVAL;
     return saxiko_proved_reader_lookup_bulk(reader, addrs ? addrs : none, addrs_len, hops ? hops : none, hops_len, absent);
+}
+
+int32_t saxiko_reader_lookup_span(struct saxiko_reader *reader, uint32_t addr, uint32_t *hop,
+                                  struct saxiko_span *span) {
+    return reader && hop && span ? saxiko_proved_reader_lookup_span(reader, addr, hop, span) : -EINVAL;
+}
+
+int32_t saxiko_reader_lookup_bulk_span(struct saxiko_reader *reader, const uint32_t *addrs, size_t addrs_len,
+                                       uint32_t *hops, size_t hops_len, uint32_t absent, struct saxiko_span *span) {
+    if (!reader || !span || is_missing(addrs, addrs_len) || is_missing(hops, hops_len))
+        return -EINVAL;
+    return saxiko_proved_reader_lookup_bulk_span(reader, addrs ? addrs : none, addrs_len, hops ? hops : none, hops_len,
+                                                 absent, span);
 }

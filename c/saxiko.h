@@ -184,6 +184,14 @@ struct saxiko_held {
     uint64_t counter;
 };
 
+/* The versions that answers of a reader lie between: `lo` changes were done when the call began, and `hi` were begun when
+ * it ended. A version is the rules after so many changes since the table was opened, and `versions` of
+ * saxiko_writer_counts is how many there were. Where `lo` is `hi` it is known which version answered. */
+struct saxiko_span {
+    uint64_t lo;
+    uint64_t hi;
+};
+
 /* What a reclaim or a check returns, beside 0, where a reader holds the next group that waits, or may hold what was
  * given up before the grace period. */
 #define SAXIKO_HELD 1
@@ -263,6 +271,14 @@ inline int32_t saxiko_reader_lookup(struct saxiko_reader *reader, uint32_t addr,
  * thread. */
 int32_t saxiko_reader_lookup_bulk(struct saxiko_reader *reader, const uint32_t *addrs, size_t addrs_len,
                                   uint32_t *hops, size_t hops_len, uint32_t absent);
+
+/* The same two, which also store the versions that the answer lies between, or all answers of the list do: also for
+ * -ENOENT. The addresses of a list are looked up one by one; of an empty one `lo` is UINT64_MAX and `hi` is 0. Refused as
+ * they are; nothing is stored then. On the reader's thread. */
+int32_t saxiko_reader_lookup_span(struct saxiko_reader *reader, uint32_t addr, uint32_t *hop,
+                                  struct saxiko_span *span);
+int32_t saxiko_reader_lookup_bulk_span(struct saxiko_reader *reader, const uint32_t *addrs, size_t addrs_len,
+                                       uint32_t *hops, size_t hops_len, uint32_t absent, struct saxiko_span *span);
 
 #ifdef __cplusplus
 }

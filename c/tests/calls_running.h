@@ -50,6 +50,7 @@ static void running_missing(struct saxiko_writer *open_writer, struct saxiko_rea
     struct saxiko_reader *no_reader[] = {NULL, &reader};
     struct saxiko_counts counts, untouched;
     struct saxiko_held held = {UNTOUCHED, UNTOUCHED};
+    struct saxiko_span span = {UNTOUCHED, UNTOUCHED};
     uint32_t hop = UNTOUCHED, addrs[2] = {0, 1}, hops[2] = {UNTOUCHED, UNTOUCHED};
     size_t number = UNTOUCHED;
     memset(&counts, 0xa5, sizeof counts);
@@ -77,6 +78,8 @@ static void running_missing(struct saxiko_writer *open_writer, struct saxiko_rea
         CHECK(saxiko_reader_quiescent(no_reader[k]), -EINVAL);
         CHECK(saxiko_reader_lookup(no_reader[k], 0, &hop), -EINVAL);
         CHECK(saxiko_reader_lookup_bulk(no_reader[k], addrs, 2, hops, 2, 7), -EINVAL);
+        CHECK(saxiko_reader_lookup_span(no_reader[k], 0, &hop, &span), -EINVAL);
+        CHECK(saxiko_reader_lookup_bulk_span(no_reader[k], addrs, 2, hops, 2, 7, &span), -EINVAL);
     }
     CHECK(saxiko_reader_register(open_writer, NULL, 1), -EINVAL);
     CHECK(saxiko_writer_delete(open_writer, 0, 0, NULL), -EINVAL);
@@ -89,10 +92,18 @@ static void running_missing(struct saxiko_writer *open_writer, struct saxiko_rea
     CHECK(saxiko_reader_lookup_bulk(open_reader, addrs, 2, NULL, 2, 7), -EINVAL);
     CHECK(saxiko_reader_lookup_bulk(open_reader, addrs, 1, hops, 2, 7), -EINVAL);
     CHECK(saxiko_reader_lookup_bulk(open_reader, addrs, 2, hops, 1, 7), -EINVAL);
+    CHECK(saxiko_reader_lookup_span(open_reader, 0, NULL, &span), -EINVAL);
+    CHECK(saxiko_reader_lookup_span(open_reader, 0, &hop, NULL), -EINVAL);
+    CHECK(saxiko_reader_lookup_bulk_span(open_reader, NULL, 2, hops, 2, 7, &span), -EINVAL);
+    CHECK(saxiko_reader_lookup_bulk_span(open_reader, addrs, 2, NULL, 2, 7, &span), -EINVAL);
+    CHECK(saxiko_reader_lookup_bulk_span(open_reader, addrs, 2, hops, 2, 7, NULL), -EINVAL);
+    CHECK(saxiko_reader_lookup_bulk_span(open_reader, addrs, 1, hops, 2, 7, &span), -EINVAL);
     CHECK(hop, UNTOUCHED);
     CHECK(number, UNTOUCHED);
     CHECK(held.reader, UNTOUCHED);
     CHECK(held.counter, UNTOUCHED);
+    CHECK(span.lo, UNTOUCHED);
+    CHECK(span.hi, UNTOUCHED);
     CHECK(hops[0], UNTOUCHED);
     CHECK(hops[1], UNTOUCHED);
     CHECK(memcmp(&counts, &untouched, sizeof counts), 0);
@@ -102,8 +113,13 @@ static void running_missing(struct saxiko_writer *open_writer, struct saxiko_rea
 /* An offline reader looks nothing up. */
 static void offline_reads(struct saxiko_reader *reader) {
     uint32_t addrs[2] = {0, 1}, hops[2] = {UNTOUCHED, UNTOUCHED};
+    struct saxiko_span span = {UNTOUCHED, UNTOUCHED};
     CHECK(read_hop(reader, 0), -EPERM);
     CHECK(saxiko_reader_lookup_bulk(reader, addrs, 2, hops, 2, 7), -EPERM);
+    CHECK(saxiko_reader_lookup_span(reader, 0, hops, &span), -EPERM);
+    CHECK(saxiko_reader_lookup_bulk_span(reader, addrs, 2, hops, 2, 7, &span), -EPERM);
+    CHECK(span.lo, UNTOUCHED);
+    CHECK(span.hi, UNTOUCHED);
     CHECK(hops[0], UNTOUCHED);
     CHECK(hops[1], UNTOUCHED);
     CHECK(saxiko_reader_quiescent(reader), -EPERM);
@@ -247,6 +263,33 @@ static void readers_in_grace(void) {
     CHECK(saxiko_writer_check(&writer, NULL), -EINVAL);
 }
 
+/* At rest the versions of an answer are the version that the table has. */
+static void spans(struct saxiko_writer *writer, struct saxiko_reader *reader) {
+    uint32_t addrs[6] = {A(10, 1, 1, 128), 0, A(10, 1, 3, 1), 1, 2, A(10, 1, 1, 128)}, hops[6], hop = UNTOUCHED;
+    struct saxiko_counts counts;
+    struct saxiko_span span = {UNTOUCHED, UNTOUCHED};
+    CHECK(saxiko_writer_counts(writer, &counts), 0);
+    CHECK(saxiko_reader_lookup_span(reader, A(10, 1, 1, 128), &hop, &span), 0);
+    CHECK(hop, 3);
+    CHECK(span.lo, counts.versions);
+    CHECK(span.hi, counts.versions);
+    CHECK(saxiko_reader_lookup_bulk_span(reader, addrs, 6, hops, 6, 7, &span), 0);
+    for (int k = 0; k < 6; k++) {
+        uint32_t alone = 7;
+        int32_t found = saxiko_reader_lookup(reader, addrs[k], &alone);
+        CHECK(found == 0 || found == -ENOENT, 1);
+        CHECK(hops[k], alone);
+    }
+    CHECK(span.lo, counts.versions);
+    CHECK(span.hi, counts.versions);
+    hops[0] = UNTOUCHED;
+    CHECK(saxiko_reader_lookup_bulk_span(reader, addrs, 2, hops, 3, 7, &span), -EINVAL);
+    CHECK(hops[0], UNTOUCHED);
+    CHECK(span.lo, counts.versions);
+    CHECK(saxiko_reader_lookup_bulk_span(reader, NULL, 0, NULL, 0, 7, &span), 0);
+    CHECK(span.lo == UINT64_MAX && span.hi == 0, 1);
+}
+
 static void writer_changes(struct saxiko_writer *writer, struct saxiko_reader *reader) {
     uint32_t addrs[3] = {A(10, 1, 1, 128), 0, A(10, 1, 3, 1)}, hops[4] = {1, 1, 1, UNTOUCHED};
     size_t rules = UNTOUCHED;
@@ -272,6 +315,7 @@ static void writer_changes(struct saxiko_writer *writer, struct saxiko_reader *r
     CHECK(saxiko_reader_lookup_bulk(reader, addrs, 2, hops, 3, 0), -EINVAL);
     CHECK(hops[0], UNTOUCHED);
     CHECK(saxiko_reader_lookup_bulk(reader, NULL, 0, NULL, 0, 0), 0);
+    spans(writer, reader);
     CHECK(saxiko_writer_flush(writer, &rules), 0);
     CHECK(rules, 4);
     CHECK(saxiko_writer_flush(writer, &rules), 0);

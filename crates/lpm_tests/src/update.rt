@@ -311,16 +311,16 @@ fn order_under_a_group(rt: HostRuntime) -> Result<(), Fail> {
 
 #[test]
 fn laws_are_called() {
-    lpm_update::run_begins();
-    lpm_update::run_goes_on();
-    lpm_update::run_ends();
-    lpm_update::no_word_twice();
-    lpm_update::next_store();
-    lpm_update::answers_turn_once();
-    lpm_update::best_is_longest();
-    lpm_update::blank_represents();
-    lpm_update::linked_are_deep();
-    lpm_update::tied_same();
-    lpm_update::tied_gone();
-    lpm_update::tied_taken();
+    lpm_update::laws::run_begins();
+    lpm_update::laws::run_goes_on();
+    lpm_update::laws::run_ends();
+    lpm_update::laws::no_word_twice();
+    lpm_update::laws::next_store();
+    lpm_update::laws::answers_turn_once();
+    lpm_update::laws::best_is_longest();
+    lpm_update::laws::blank_represents();
+    lpm_update::laws::linked_are_deep();
+    lpm_update::laws::tied_same();
+    lpm_update::laws::tied_gone();
+    lpm_update::laws::tied_taken();
 }

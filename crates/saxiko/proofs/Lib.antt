@@ -1,3 +1,2 @@
 mod Benches
 mod Opened
-mod Pieces

@@ -5,7 +5,6 @@
 #![tactic(auto)]
 
 mod address;
-mod bursts;
 mod grace;
 mod hop;
 mod loading;
@@ -19,7 +18,6 @@ mod table_lookups;
 mod text;
 mod walk;
 
-pub use bursts::Burst;
 pub use defer_queue::Reclaimed;
 pub use grace::{GracePeriod, Held, NotStarted};
 pub use hop::Hop;
@@ -31,6 +29,6 @@ pub use prefix::Prefix;
 pub use qsbr::{BadConfig, Busy, Config, Range, Refusal};
 pub use reader::{Answer, Reader};
 pub use rule::Rule;
-pub use shared_fib::{Exhausted, FourHops, OpenError};
+pub use shared_fib::{Burst, Exhausted, FourHops, OpenError};
 pub use table::Table;
 pub use text::ParseError;

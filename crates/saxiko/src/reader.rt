@@ -1,13 +1,14 @@
 //! A reader of a running table.
 
-ghost use Rattle.std.specs.Prelude.{◌≡◌, ◌<◌, ℕ, [], ◌∷◌, true, false, Option, List, map};
+ghost use Rattle.std.specs.Prelude.{◌≡◌, ◌<◌, ℕ, [], ◌∷◌, true, false, Option, List, drop, length, map, min, take};
 ghost use Rattle.std.specs.Arc.{arc_value};
 ghost use Rattle.lpm_trace.specs.declared.step.WorkerStep.TheVariants.{LoadOnline, StoreOnline, LoadQuiescent, StoreQuiescent, StoreOffline};
+ghost use Rattle.shared_fib.specs.Bursts.{LooksUpBurst};
 ghost use Rattle.shared_fib.specs.Passes.{IsHistory, LooksUp, LooksUpAll, Makes};
 ghost use Rattle.shared_fib.specs.Running.{hop_or};
 
 use crate::Hop;
-use shared_fib::{FourHops, Pass, SharedTable};
+use shared_fib::{Burst, FourHops, Pass, SharedTable};
 use std::marker::Model;
 use std::sync::Arc;
 
@@ -175,5 +176,27 @@ impl Reader {
         ensures online { self.new.online ≡ true }
     {
         self.pass.lookup4(&*self.table, addrs, default)
+    }
+
+    /// Looks addresses up, and puts their next hops into `hops`, in their order, with `default` for an
+    /// address that no rule covers. It answers as many addresses as both lists have room for, and returns
+    /// how many those are, with the versions that the answers lie between. What stands behind them in
+    /// `hops` stays.
+    ///
+    /// The addresses are looked up in fours, each by the loads of `lookup4`, and those that are left one by
+    /// one.
+    #[inline]
+    pub fn lookup_bulk(&mut self, addrs: &[u32], default: u32, hops: &mut [u32]) -> Burst
+        requires online { self.old.online ≡ true }
+        ensures own { self.new.table ≡ self.old.table }
+        ensures count { result.count ≡ min (length addrs.now) (length hops.old) }
+        ensures answers { (found : List (Option ℕ))
+            × LooksUpBurst (take result.count addrs.now) found result.lo result.hi self.old self.new
+            × (take result.count hops.new ≡ map (hop_or default) found) }
+        ensures len { length hops.new ≡ length hops.old }
+        ensures rest { drop result.count hops.new ≡ drop result.count hops.old }
+        ensures online { self.new.online ≡ true }
+    {
+        self.pass.lookup_bulk(&*self.table, addrs, default, hops)
     }
 }

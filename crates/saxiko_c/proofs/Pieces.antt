@@ -1,52 +1,43 @@
 -- Lookups of many addresses, one piece after another.
-use Rattle.std.proofs.Common.{ℕ, ◌≡◌, ◌≤◌, List, [], ◌∷◌, ◌++◌, Option, None, Some, length, map, take, refl, ap, sym, ◌∙◌, subst}
+use Rattle.std.proofs.Common.{ℕ, ◌≡◌, ◌-◌, ◌^◌, ◌≤◌, List, [], ◌++◌, Option, length, map, take, refl, sym, ◌∙◌, subst}
+use Rattle.std.specs.Prelude.{min, max}
 use Rattle.std.proofs.lemmas.List.{take_all}
-use Rattle.std.proofs.lemmas.List.Elements.{All-cons, All-nil}
-use Rattle.lpm_trace.specs.declared.step.WorkerStep.{WorkerStep}
-use Rattle.lpm_trace.specs.declared.step.WorkerStep.TheVariants.{Begins, Ends, LoadFirst}
-use Rattle.shared_words.specs.Loads.{loads_at, second_load}
-use Rattle.shared_fib.specs.Passes.{PassState, LooksUp, LooksUpAll, Makes, IsAnswered}
+use Rattle.shared_fib.specs.Bursts.{LooksUpBurst, Piece}
+use Rattle.shared_fib.specs.Passes.{PassState, LooksUpAll}
 use Rattle.shared_fib.specs.Running.{hop_or}
-use Rattle.saxiko_c.specs.Running.{FindsEach, Lookup}
+use Rattle.shared_fib.proofs.Pieces.{burst_after}
+use Rattle.saxiko_c.specs.Running.{FindsEach}
+use Rattle.saxiko_c.specs.declared.records.SaxikoSpan.{SaxikoSpan}
+
+-- no address was looked up
+pub none_found : (default : ℕ) (p : PassState) → (span : SaxikoSpan) × FindsEach default [] [] span p p
+none_found default p = (
+  record { lo = 2 ^ 64 - 1; hi = 0 },
+  ([], record { pieces = []; addrs_are = refl; hops_are = refl; lo_is = refl; hi_is = refl; steps = refl }, refl),
+)
 
 -- the next piece is looked up, and its answers are stored
 pub one_more : (default : ℕ) (addrs hops new : List ℕ) (at next : ℕ) (p q r : PassState)
-    → FindsEach default (take at addrs) (take at hops) p q
-    → ((l : Lookup) × LooksUpAll l.addrs l.hops l.lo l.hi q r
+    → ((span : SaxikoSpan) × FindsEach default (take at addrs) (take at hops) span p q)
+    → ((l : Piece) × LooksUpAll l.addrs l.hops l.lo l.hi q r
     × (take next addrs ≡ take at addrs ++ l.addrs) × (take next new ≡ take at hops ++ map (hop_or default) l.hops))
-    → FindsEach default (take next addrs) (take next new) p r
-one_more default addrs hops new at next p q r found w = record {
-  lookups = w.0 ∷ found.lookups;
-  addrs_are = ap (λ (xs : List ℕ). xs ++ w.0.addrs) found.addrs_are ∙ sym w.2;
-  hops_are = ap (λ (xs : List ℕ). xs ++ map (hop_or default) w.0.hops) found.hops_are ∙ sym w.3;
-  steps = (q, found.steps, w.1);
-}
+    → (span : SaxikoSpan) × FindsEach default (take next addrs) (take next new) span p r
+one_more default addrs hops new at next p q r so w =
+    let lo : ℕ = min so.0.lo w.0.lo in
+    let hi : ℕ = max so.0.hi w.0.hi in (
+      record { lo = lo; hi = hi },
+      burst_after default addrs hops new at next so.0.lo so.0.hi w.0.lo w.0.hi lo hi p q r so.1
+          (w.0.addrs, w.0.hops, w.1, w.2, w.3) refl refl,
+    )
 
 -- all addresses were looked up
-pub all_found : (default : ℕ) (addrs hops : List ℕ) (i : ℕ) (p q : PassState) → length addrs ≤ i → length hops ≤ i
-    → FindsEach default (take i addrs) (take i hops) p q → FindsEach default addrs hops p q
-all_found default addrs hops i p q few few_hops found =
-    subst (λ (xs : List ℕ). FindsEach default xs hops p q) (take_all i addrs few)
-    (subst (λ (ys : List ℕ). FindsEach default (take i addrs) ys p q) (take_all i hops few_hops) found)
-
-loads_same : (word first : ℕ) (second : Option (ℕ × ℕ))
-    → second_load second ++ (LoadFirst word, first) ∷ [] ≡ loads_at word first second
-loads_same word first None = refl
-loads_same word first (Some s) = refl
-
--- a lookup of one address is one of a list of one address
-pub one_alone : (addr : ℕ) (hop : Option ℕ) (lo hi : ℕ) (p q : PassState)
-    → LooksUp addr hop lo hi p q → LooksUpAll (addr ∷ []) (hop ∷ []) lo hi p q
-one_alone addr hop lo hi p q h = record {
-  low = h.low;
-  begins = h.begins;
-  found = h.found ∷ [];
-  high = h.high;
-  steps = subst (λ (loads : List (WorkerStep × ℕ)). Makes ((Ends h.high, length q.seen) ∷ (loads ++ (Begins (addr ∷ []) h.low, h.begins) ∷ [])) p q)
-      (sym (loads_same h.found.word h.found.first h.found.second)) h.steps;
-  addrs_are = ap (λ (a : ℕ). a ∷ []) h.result.0;
-  hops_are = ap (λ (x : Option ℕ). x ∷ []) h.result.1;
-  done_then = h.done_then;
-  begun_then = h.begun_then;
-  answers = All-cons (IsAnswered p.table q.seen lo hi) h.found [] h.answer (All-nil (IsAnswered p.table q.seen lo hi));
-}
+pub all_found : (default : ℕ) (addrs hops : List ℕ) (n lo hi : ℕ) (p q : PassState)
+    → length addrs ≤ n → length hops ≤ n
+    → ((found : List (Option ℕ)) × LooksUpBurst (take n addrs) found lo hi p q
+    × (take n hops ≡ map (hop_or default) found))
+    → (found : List (Option ℕ)) × LooksUpBurst addrs found lo hi p q × (hops ≡ map (hop_or default) found)
+all_found default addrs hops n lo hi p q few few_hops h = (
+  h.0,
+  subst (λ (xs : List ℕ). LooksUpBurst xs h.0 lo hi p q) (take_all n addrs few) h.1,
+  sym (take_all n hops few_hops) ∙ h.2,
+)

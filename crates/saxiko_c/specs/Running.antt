@@ -1,6 +1,6 @@
 -- Meaning: the calls of a running table, by the status that they answer (DPDK Programmer's Guide, "LPM Library" and
 -- "RCU Library").
-use Rattle.std.specs.Prelude.{ℕ, ℤ, ⊤, ◌≡◌, ◌≢◌, ◌+◌, ◌≤◌, ◌<◌, ◌⊎◌, true, false, pos, List, [], ◌∷◌, ◌++◌, Option, Some, None, Result, length, map, slice_get, slice_set, take}
+use Rattle.std.specs.Prelude.{ℕ, ℤ, ⊤, ◌≡◌, ◌≢◌, ◌+◌, ◌≤◌, ◌<◌, ◌⊎◌, true, false, pos, List, [], ◌∷◌, Option, Some, None, Result, length, map, slice_get, slice_set, take}
 use Rattle.std.specs.FinMap.{get, len, empty}
 use Rattle.lpm_bits.specs.Network.{prefix_of}
 use Rattle.lpm_rules.specs.declared.Put.{Put}
@@ -15,14 +15,16 @@ use Rattle.lpm_trace.specs.declared.step.WorkerStep.TheVariants.{LoadOnline, Sto
 use Rattle.lpm_writer.specs.Opening.{opening_setup}
 use Rattle.shared_fib.specs.Taking.{TakesLeast}
 use Rattle.shared_fib.specs.Freeing.{FreesChecked}
-use Rattle.shared_fib.specs.Passes.{PassState, IsBenchOf, IsFullBench, IsPassOf, LooksUp, LooksUpAll, Makes}
+use Rattle.shared_fib.specs.Bursts.{LooksUpBurst}
+use Rattle.shared_fib.specs.Passes.{PassState, IsBenchOf, IsFullBench, IsPassOf, LooksUp, Makes}
 use Rattle.shared_words.specs.Rule.{IsLater}
-use Rattle.shared_fib.specs.Running.{by_steps, hop_or, opens_with, setup, steps_of, token_of}
+use Rattle.shared_fib.specs.Running.{IsAtRest, by_steps, hop_or, opens_with, setup, steps_of, token_of}
 use Rattle.saxiko_c.specs.Owners.{OwnerState}
 use Rattle.saxiko_c.specs.Status.{done, no_memory, busy, invalid, not_permitted, already, add_status, status_of}
 use Rattle.saxiko_c.specs.Table.{IsBad, IsUnopened, Stores, Tells}
 use Rattle.saxiko_c.specs.declared.records.SaxikoCounts.{SaxikoCounts}
 use Rattle.saxiko_c.specs.declared.records.SaxikoHeld.{SaxikoHeld}
+use Rattle.saxiko_c.specs.declared.records.SaxikoSpan.{SaxikoSpan}
 
 -- ---- the writer
 
@@ -102,8 +104,10 @@ pub record IsCountedIn (o : OwnerState) (c : SaxikoCounts) : Type 0 where
   pub waiting : c.groups_waiting ≡ length o.writer.table.limbo
   pub all : c.groups_in_use + c.groups_waiting + c.groups_free ≡ o.writer.config.groups
 
+-- and the table is at rest: by its rules the words answer each address, and each of the writer's steps so far
+-- might come after those before it
 abbrev pub Counts : SaxikoCounts → OwnerState → ℤ → Type 0
-Counts c o status = (status ≡ done) × IsCountedIn o c
+Counts c o status = (status ≡ done) × IsCountedIn o c × IsAtRest o.writer
 
 -- ---- readers
 
@@ -185,35 +189,22 @@ FindsIn addr before after p status q =
     ((p.online ≡ false) × (status ≡ not_permitted) × (after ≡ before) × (q ≡ p))
     ⊎ ((p.online ≡ true) × Finds addr before after p status q)
 
+-- the same, between the versions that are stored
+abbrev pub FindsBetween : ℕ → ℕ → ℕ → SaxikoSpan → PassState → ℤ → PassState → Type 0
+FindsBetween addr before after span p status q = (x : Option ℕ)
+    × LooksUp addr x span.lo span.hi p q × (q.online ≡ true) × Tells x status before after
+
+abbrev pub FindsWithin : ℕ → ℕ → ℕ → SaxikoSpan → SaxikoSpan → PassState → ℤ → PassState → Type 0
+FindsWithin addr before after old span p status q =
+    ((p.online ≡ false) × (status ≡ not_permitted) × (after ≡ before) × (span ≡ old) × (q ≡ p))
+    ⊎ ((p.online ≡ true) × FindsBetween addr before after span p status q)
+
 -- ---- lookups of many addresses
 
--- addresses that were looked up together, their next hops, and between which versions these lie
-pub record Lookup : Type 0 where
-  pub addrs : List ℕ
-  pub hops : List (Option ℕ)
-  pub lo : ℕ
-  pub hi : ℕ
-
--- the addresses of lookups, of which the newest stands first, and their next hops or the default
-abbrev pub addrs_of : List Lookup → List ℕ
-addrs_of [] = []
-addrs_of (l ∷ ls) = addrs_of ls ++ l.addrs
-
-abbrev pub hops_of : ℕ → List Lookup → List ℕ
-hops_of default [] = []
-hops_of default (l ∷ ls) = hops_of default ls ++ map (hop_or default) l.hops
-
--- the lookups are made, one directly after the other
-abbrev pub LooksUpInTurn : List Lookup → PassState → PassState → Type 0
-LooksUpInTurn [] p q = q ≡ p
-LooksUpInTurn (l ∷ ls) p q = (r : PassState) × LooksUpInTurn ls p r × LooksUpAll l.addrs l.hops l.lo l.hi r q
-
--- each address is looked up, and its next hop, or the default, is stored
-pub record FindsEach (default : ℕ) (addrs hops : List ℕ) (p q : PassState) : Type 0 where
-  pub lookups : List Lookup
-  pub addrs_are : addrs_of lookups ≡ addrs
-  pub hops_are : hops_of default lookups ≡ hops
-  pub steps : LooksUpInTurn lookups p q
+-- each address is looked up, between the versions of the span, and its next hop, or the default, is stored
+abbrev pub FindsEach : ℕ → List ℕ → List ℕ → SaxikoSpan → PassState → PassState → Type 0
+FindsEach default addrs hops span p q = (found : List (Option ℕ))
+    × LooksUpBurst addrs found span.lo span.hi p q × (hops ≡ map (hop_or default) found)
 
 -- the same by a reader that is online, with as much room as addresses; else it is EPERM or EINVAL
 abbrev pub FindsAllIn : ℕ → List ℕ → List ℕ → List ℕ → PassState → ℤ → PassState → Type 0
@@ -221,4 +212,14 @@ FindsAllIn default addrs before after p status q =
     ((p.online ≡ false) × (status ≡ not_permitted) × (after ≡ before) × (q ≡ p))
     ⊎ (((p.online ≡ true) × (length addrs ≢ length before) × (status ≡ invalid) × (after ≡ before) × (q ≡ p))
     ⊎ ((p.online ≡ true) × (length addrs ≡ length before) × (status ≡ done) × (q.online ≡ true)
-    × FindsEach default addrs after p q))
+    × (span : SaxikoSpan) × FindsEach default addrs after span p q))
+
+-- the same, and the span is stored
+abbrev pub FindsAllWithin : ℕ → List ℕ → List ℕ → List ℕ → SaxikoSpan → SaxikoSpan → PassState → ℤ
+    → PassState → Type 0
+FindsAllWithin default addrs before after old span p status q =
+    ((p.online ≡ false) × (status ≡ not_permitted) × (after ≡ before) × (span ≡ old) × (q ≡ p))
+    ⊎ (((p.online ≡ true) × (length addrs ≢ length before) × (status ≡ invalid) × (after ≡ before)
+    × (span ≡ old) × (q ≡ p))
+    ⊎ ((p.online ≡ true) × (length addrs ≡ length before) × (status ≡ done) × (q.online ≡ true)
+    × FindsEach default addrs after span p q))

@@ -32,9 +32,10 @@ pub use grace_calls::{saxiko_proved_writer_check, saxiko_proved_writer_start};
 pub use inserting_calls::{saxiko_proved_table_insert, saxiko_proved_writer_insert};
 pub use matches_calls::{saxiko_proved_table_lookup_rule, saxiko_proved_writer_lookup_rule};
 pub use reader_handle::SaxikoReader;
-pub use records::{SaxikoConfig, SaxikoCounts, SaxikoHeld, SaxikoRoute};
+pub use records::{SaxikoConfig, SaxikoCounts, SaxikoHeld, SaxikoRoute, SaxikoSpan};
 pub use running_calls::{
     saxiko_proved_reader_close, saxiko_proved_reader_lookup, saxiko_proved_reader_lookup_bulk,
+    saxiko_proved_reader_lookup_bulk_span, saxiko_proved_reader_lookup_span,
     saxiko_proved_reader_offline, saxiko_proved_reader_online, saxiko_proved_reader_quiescent,
     saxiko_proved_reader_register, saxiko_proved_reader_unregister, saxiko_proved_writer_add,
     saxiko_proved_writer_close, saxiko_proved_writer_counts, saxiko_proved_writer_delete,

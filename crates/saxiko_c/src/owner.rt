@@ -15,7 +15,7 @@ ghost use Rattle.saxiko_c.specs.Opened.{IsOpenedWith};
 ghost use Rattle.shared_fib.specs.Freeing.{FreesChecked};
 ghost use Rattle.shared_fib.specs.Passes.{IsBenchOf, IsFullBench, IsPassOf, Makes, PassState};
 ghost use Rattle.shared_words.specs.Rule.{IsLater};
-ghost use Rattle.shared_fib.specs.Running.{by_steps, opens_with, setup, steps_of, token_of};
+ghost use Rattle.shared_fib.specs.Running.{IsAtRest, by_steps, opens_with, setup, steps_of, token_of};
 
 use crate::reader::Reader;
 use crate::stage::Stage;
@@ -75,7 +75,7 @@ impl Owner {
 
     /// A running table without rules, with a reader for each worker, all offline. It refuses limits out of range, and
     /// ends with `Memory` where there is no room for the words, the groups or the workers.
-    pub fn open(alloc: Global, config: Config) -> Result<Self, OpenError>
+    pub(crate) fn open(alloc: Global, config: Config) -> Result<Self, OpenError>
         ensures opening { IfOk result
             (λ owner. setup owner.writer.identity ≡ opening_setup 24 8 config) }
         ensures opened { IfOk result
@@ -100,7 +100,7 @@ impl Owner {
     /// A running table with the rules of a list, which is in the order of its prefixes, as version 0. `None` exactly where
     /// the limits don't suffice for its rules or their groups. It refuses limits out of range, and ends with `Memory`
     /// where there is no room.
-    pub fn open_sorted(
+    pub(crate) fn open_sorted(
         alloc: Global,
         config: Config,
         rules: Vec<Rule<24, 8>>,
@@ -127,7 +127,7 @@ impl Owner {
     ///
     /// The refusals: `NoSuchWorker`, where the table has no such worker; `Taken`, where its reader is handed out and not
     /// given back yet; and `Memory`, where there are 2^63 readers.
-    pub fn register(&mut self, worker: usize) -> Result<Reader, Refusal>
+    pub(crate) fn register(&mut self, worker: usize) -> Result<Reader, Refusal>
         ensures reader { IfOk result (IsPassOf self.old.writer.identity worker) }
         ensures registered { IfOk result (λ p. (slice_get self.old.bench worker ≡ Some (Some p))
             × (self.new.bench ≡ slice_set self.old.bench worker None)) }
@@ -149,7 +149,7 @@ impl Owner {
     }
 
     /// Takes a reader back, so that its number can be registered again. One that is online goes offline first.
-    pub fn unregister(&mut self, reader: Reader)
+    pub(crate) fn unregister(&mut self, reader: Reader)
         requires own { reader.table ≡ self.old.writer.identity }
         ensures back { (p : PassState)
             × (self.new.bench ≡ slice_set self.old.bench reader.worker (Some p))
@@ -171,7 +171,7 @@ impl Owner {
     /// The refusals, in the order of the checks: `Exhausted`; `TooManyRules` and `Memory`, where a new rule has no
     /// room; and `NoGroups`, where a rule longer than 24 bits is the first in its block, no group is free, and the
     /// oldest in limbo is held or there is none. It names the worker that holds that one.
-    pub fn add(&mut self, prefix: &Prefix<24, 8>, hop: Hop) -> Result<Put, Refusal>
+    pub(crate) fn add(&mut self, prefix: &Prefix<24, 8>, hop: Hop) -> Result<Put, Refusal>
         requires at_rest { self.old.waits ≡ false }
         ensures adds { Adds (by_steps self.old.writer.identity.opening) 24 8 self.old.writer.config
             self.old.writer.table prefix.now hop result self.new.writer.table }
@@ -196,7 +196,7 @@ impl Owner {
     /// where more than the threshold wait in limbo, some are reclaimed first.
     ///
     /// The refusals: `NoSuchRule`, where the prefix has no rule, and else `Exhausted`.
-    pub fn delete(&mut self, prefix: &Prefix<24, 8>) -> Result<Hop, Refusal>
+    pub(crate) fn delete(&mut self, prefix: &Prefix<24, 8>) -> Result<Hop, Refusal>
         requires at_rest { self.old.waits ≡ false }
         ensures deletes { Deletes (by_steps self.old.writer.identity.opening) 24 8
             self.old.writer.config self.old.writer.table prefix.now result self.new.writer.table }
@@ -216,7 +216,7 @@ impl Owner {
 
     /// Deletes all rules, as one version, and returns how many there were. With none nothing changes, and else
     /// `Exhausted` is the only refusal. The groups are given up and reclaimed as by `delete`, one after another.
-    pub fn flush(&mut self) -> Result<usize, Refusal>
+    pub(crate) fn flush(&mut self) -> Result<usize, Refusal>
         requires at_rest { self.old.waits ≡ false }
         ensures flushes { Flushes (by_steps self.old.writer.identity.opening) 24 8
             self.old.writer.config self.old.writer.table result self.new.writer.table }
@@ -236,7 +236,7 @@ impl Owner {
 
     /// Frees groups that wait in limbo, from the oldest on: at most `max`, up to the first that a worker holds. It
     /// returns how many were freed, and the worker that stopped it.
-    pub fn reclaim(&mut self, max: usize) -> Reclaimed
+    pub(crate) fn reclaim(&mut self, max: usize) -> Reclaimed
         requires at_rest { self.old.waits ≡ false }
         ensures frees { Frees (by_steps self.old.writer.identity.opening) self.old.writer.table max
             result self.new.writer.table }
@@ -255,7 +255,7 @@ impl Owner {
     }
 
     /// The next hop of the rule of this very prefix; none where it has no rule.
-    pub fn get(&self, prefix: &Prefix<24, 8>) -> Option<Hop>
+    pub(crate) fn get(&self, prefix: &Prefix<24, 8>) -> Option<Hop>
         requires at_rest { self.now.waits ≡ false }
         ensures { result ≡ map.get self.now.writer.table.rules prefix.now }
     {
@@ -267,7 +267,7 @@ impl Owner {
 
     /// The rule that comes next after a prefix in the order of prefixes, whether the prefix has a rule or not; the
     /// first rule for `None`.
-    pub fn next_rule(&self, after: Option<Prefix<24, 8>>) -> Option<Rule<24, 8>>
+    pub(crate) fn next_rule(&self, after: Option<Prefix<24, 8>>) -> Option<Rule<24, 8>>
         requires at_rest { self.now.waits ≡ false }
         ensures { IsNextRule self.now.writer.table.rules after result }
     {
@@ -278,7 +278,7 @@ impl Owner {
     }
 
     /// The number of rules.
-    pub fn rules(&self) -> usize
+    pub(crate) fn rules(&self) -> usize
         requires at_rest { self.now.waits ≡ false }
         ensures { result ≡ map.len self.now.writer.table.rules }
     {
@@ -288,8 +288,20 @@ impl Owner {
         }
     }
 
+    /// Does nothing: its contract says that the table is at rest between two changes.
+    #[inline]
+    pub(crate) fn at_rest(&self)
+        requires at_rest { self.now.waits ≡ false }
+        ensures { IsAtRest self.now.writer }
+    {
+        match &self.stage {
+            Stage::AtRest(writer) => writer.at_rest(),
+            _ => unreachable!(),
+        }
+    }
+
     /// The number of changes that made a version of the rule list, since the table was opened.
-    pub fn versions(&self) -> u64
+    pub(crate) fn versions(&self) -> u64
         requires at_rest { self.now.waits ≡ false }
         ensures { result ≡ self.now.writer.table.begun }
     {
@@ -300,7 +312,7 @@ impl Owner {
     }
 
     /// The token number: that of the opening and, for each group that was given up and each synchronize, one more.
-    pub fn token(&mut self) -> u64
+    pub(crate) fn token(&mut self) -> u64
         requires at_rest { self.old.waits ≡ false }
         ensures same { self.new ≡ self.old }
         ensures value { result ≡ token_of self.old.writer }
@@ -313,7 +325,7 @@ impl Owner {
     }
 
     /// How many groups are in use, in limbo and free.
-    pub fn counts(&self) -> Counts
+    pub(crate) fn counts(&self) -> Counts
         requires at_rest { self.now.waits ≡ false }
         ensures in_use { result.in_use ≡ groups_in_use 24 8 self.now.writer.table.rules }
         ensures limbo { result.limbo ≡ length self.now.writer.table.limbo }

@@ -60,7 +60,7 @@ impl Reader {
 
     /// Whether the reader is online: from a report that it is until one that it is offline.
     #[inline]
-    pub fn is_online(&self) -> bool
+    pub(crate) fn is_online(&self) -> bool
         ensures { result ≡ self.now.online }
     {
         self.pass.is_online()
@@ -69,7 +69,7 @@ impl Reader {
     /// The reader is online: from now on it may look up, and may hold each group that is given up. One that is online
     /// already stays as it is.
     #[inline]
-    pub fn online(&mut self)
+    pub(crate) fn online(&mut self)
         ensures own { self.new.table ≡ self.old.table }
         ensures steps { self.old.online ≡ false → (token : ℕ) × (first : ℕ) × (last : ℕ)
             × Makes ((StoreOnline token, last) ∷ (LoadOnline token, first) ∷ []) self.old self.new }
@@ -83,7 +83,7 @@ impl Reader {
 
     /// The reader is offline: it holds no group. One that is offline already stays as it is.
     #[inline]
-    pub fn offline(&mut self)
+    pub(crate) fn offline(&mut self)
         ensures own { self.new.table ≡ self.old.table }
         ensures steps { self.old.online ≡ true
             → (place : ℕ) × Makes ((StoreOffline, place) ∷ []) self.old self.new }
@@ -98,7 +98,7 @@ impl Reader {
     /// The reader has ended its lookups so far: it holds no group that was given up before. One that is offline stays
     /// as it is.
     #[inline]
-    pub fn quiescent(&mut self)
+    pub(crate) fn quiescent(&mut self)
         ensures own { self.new.table ≡ self.old.table }
         ensures steps { self.old.online ≡ true → (token : ℕ) × (first : ℕ) × (last : ℕ)
             × Makes ((StoreQuiescent token, last) ∷ (LoadQuiescent token, first) ∷ []) self.old self.new }
@@ -114,7 +114,7 @@ impl Reader {
     /// That version lies from `lo`, how many updates were done when the lookup began, to `hi`, how many were begun when
     /// it ended.
     #[inline]
-    pub fn lookup(&mut self, addr: u32) -> Answer
+    pub(crate) fn lookup(&mut self, addr: u32) -> Answer
         requires online { self.old.online ≡ true }
         ensures own { self.new.table ≡ self.old.table }
         ensures answer { LooksUp addr result.hop result.lo result.hi self.old self.new }
@@ -126,7 +126,7 @@ impl Reader {
     /// The next hops of four addresses, with `default` for an address that no rule covers, between two loads of the
     /// sequence for all of them.
     #[inline]
-    pub fn lookup4(&mut self, addrs: [u32; 4], default: u32) -> FourHops
+    pub(crate) fn lookup4(&mut self, addrs: [u32; 4], default: u32) -> FourHops
         requires online { self.old.online ≡ true }
         ensures own { self.new.table ≡ self.old.table }
         ensures answers { (hops : List (Option ℕ))

@@ -67,6 +67,16 @@ pub struct SaxikoCounts {
     pub groups_free: u64,
 }
 
+/// The versions that answers lie between: `struct saxiko_span` in C.
+#[repr(C)]
+#[derive(Clone, Copy)]
+pub struct SaxikoSpan {
+    /// How many changes were done when the lookup began.
+    pub lo: u64,
+    /// How many changes were begun when it ended.
+    pub hi: u64,
+}
+
 /// The reader that keeps a group from being free, or a grace period from being over: `struct saxiko_held` in C.
 #[repr(C)]
 #[derive(Clone, Copy)]

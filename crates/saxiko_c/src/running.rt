@@ -1,18 +1,18 @@
 //! What the calls do with a running table.
 
 ghost use Rattle.std.specs.Prelude.{◌≡◌, ⊤, MatchResult, true, false};
-ghost use Rattle.shared_fib.specs.Running.{hop_or};
+ghost use Rattle.shared_fib.specs.Running.{IsAtRest, hop_or};
 ghost use Rattle.saxiko_c.specs.Grace.{AsksAtRest, AtRest};
 ghost use Rattle.saxiko_c.specs.Loads.{IsUnloaded, rules_of_routes};
 ghost use Rattle.saxiko_c.specs.Opened.{IsOpenedWith};
-ghost use Rattle.saxiko_c.specs.Running.{AddsTo, Counts, DeletesFrom, Finds, FindsAllIn, FindsIn, Flushes, FreesHeld, GetsFrom, GivesBack, GoesOffline, GoesOnline, IsCountedIn, IsOpened, IsRegistered, IsUnregistered, Quiesces};
+ghost use Rattle.saxiko_c.specs.Running.{AddsTo, Counts, DeletesFrom, Finds, FindsAllIn, FindsAllWithin, FindsBetween, FindsIn, FindsWithin, Flushes, FreesHeld, GetsFrom, GivesBack, GoesOffline, GoesOnline, IsCountedIn, IsOpened, IsRegistered, IsUnregistered, Quiesces};
 ghost use Rattle.saxiko_c.specs.Table.{IsUnopened};
 
-use crate::bursts::find_all;
+use crate::bursts::{find_all, find_all_within};
 use crate::loading::read;
 use crate::owner::Owner;
 use crate::reader::Reader;
-use crate::records::{SaxikoCounts, SaxikoHeld, SaxikoRoute};
+use crate::records::{SaxikoCounts, SaxikoHeld, SaxikoRoute, SaxikoSpan};
 use crate::status::{
     E2BIG, EAGAIN, EALREADY, EBUSY, EINVAL, ENOENT, ENOMEM, ENOSPC, EPERM, of_put, of_refusal,
 };
@@ -165,8 +165,10 @@ pub(crate) fn get(owner: &Owner, addr: u32, depth: u8, hop: &mut u32) -> i32
 fn count(owner: &mut Owner) -> SaxikoCounts
     requires at_rest { owner.old.waits ≡ false }
     ensures counted { IsCountedIn owner.old result }
+    ensures rests { IsAtRest owner.old.writer }
     ensures same { owner.new ≡ owner.old }
 {
+    owner.at_rest();
     let groups = owner.counts();
     SaxikoCounts {
         rules: owner.rules() as u64,
@@ -272,6 +274,41 @@ pub(crate) fn lookup(reader: &mut Reader, addr: u32, hop: &mut u32) -> i32
     find(reader, addr, hop)
 }
 
+/// Stores the next hop, and the versions that the answer lies between.
+#[inline]
+fn find_within(reader: &mut Reader, addr: u32, hop: &mut u32, span: &mut SaxikoSpan) -> i32
+    requires online { reader.old.online ≡ true }
+    ensures { FindsBetween addr hop.old hop.new span.new reader.old result reader.new }
+{
+    let answer = reader.lookup(addr);
+    *span = SaxikoSpan {
+        lo: answer.lo,
+        hi: answer.hi,
+    };
+    match answer.hop {
+        Some(found) => {
+            *hop = found.number();
+            0
+        }
+        None => ENOENT,
+    }
+}
+
+#[inline]
+pub(crate) fn lookup_within(
+    reader: &mut Reader,
+    addr: u32,
+    hop: &mut u32,
+    span: &mut SaxikoSpan,
+) -> i32
+    ensures { FindsWithin addr hop.old hop.new span.old span.new reader.old result reader.new }
+{
+    if !reader.is_online() {
+        return EPERM;
+    }
+    find_within(reader, addr, hop, span)
+}
+
 /// The number of a next hop, or the default where there is none.
 #[inline]
 pub(crate) fn number_or(hop: Option<Hop>, default: u32) -> u32
@@ -283,6 +320,7 @@ pub(crate) fn number_or(hop: Option<Hop>, default: u32) -> u32
     }
 }
 
+/// Looks up as many addresses as there are next hops, whatever version each answer is of.
 pub(crate) fn lookup_all(reader: &mut Reader, addrs: &[u32], hops: &mut [u32], default: u32) -> i32
     ensures { FindsAllIn default addrs.now hops.old hops.new reader.old result reader.new }
 {
@@ -293,5 +331,26 @@ pub(crate) fn lookup_all(reader: &mut Reader, addrs: &[u32], hops: &mut [u32], d
         return EINVAL;
     }
     find_all(reader, addrs, hops, default);
+    0
+}
+
+/// The same, and stores the versions that the answers lie between.
+pub(crate) fn lookup_all_within(
+    reader: &mut Reader,
+    addrs: &[u32],
+    hops: &mut [u32],
+    default: u32,
+    span: &mut SaxikoSpan,
+) -> i32
+    ensures { FindsAllWithin default addrs.now hops.old hops.new span.old span.new reader.old result
+        reader.new }
+{
+    if !reader.is_online() {
+        return EPERM;
+    }
+    if addrs.len() != hops.len() {
+        return EINVAL;
+    }
+    find_all_within(reader, addrs, hops, default, span);
     0
 }

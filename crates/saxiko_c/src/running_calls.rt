@@ -5,13 +5,13 @@ ghost use Rattle.saxiko_c.specs.Calls.{Asks, Calls};
 ghost use Rattle.saxiko_c.specs.Grace.{AsksAtRest, AtRest};
 ghost use Rattle.saxiko_c.specs.Limits.{config_of};
 ghost use Rattle.saxiko_c.specs.Opened.{LoadsRunning};
-ghost use Rattle.saxiko_c.specs.Running.{AddsTo, AreOfOneTable, Counts, DeletesFrom, FindsAllIn, FindsIn, Flushes, FreesHeld, GetsFrom, GoesOffline, GoesOnline, Opens, Quiesces, Registers, Unregisters};
+ghost use Rattle.saxiko_c.specs.Running.{AddsTo, AreOfOneTable, Counts, DeletesFrom, FindsAllIn, FindsAllWithin, FindsIn, FindsWithin, Flushes, FreesHeld, GetsFrom, GoesOffline, GoesOnline, Opens, Quiesces, Registers, Unregisters};
 
 use crate::loose::Loose;
 use crate::owner::Owner;
 use crate::reader::Reader;
 use crate::reader_handle::SaxikoReader;
-use crate::records::{SaxikoConfig, SaxikoCounts, SaxikoHeld, SaxikoRoute};
+use crate::records::{SaxikoConfig, SaxikoCounts, SaxikoHeld, SaxikoRoute, SaxikoSpan};
 use crate::running;
 use crate::status::{EBUSY, EINVAL};
 use crate::writer_handle::SaxikoWriter;
@@ -385,6 +385,28 @@ pub extern "C" fn saxiko_proved_reader_lookup(
     }
 }
 
+/// Stores the next hop of the longest rule that covers the address, and the versions that it lies between.
+#[unsafe(no_mangle)]
+pub extern "C" fn saxiko_proved_reader_lookup_span(
+    alloc: Global,
+    handle: &mut SaxikoReader,
+    addr: u32,
+    hop: &mut u32,
+    span: &mut SaxikoSpan,
+) -> i32
+    ensures { Calls (FindsWithin addr hop.old hop.new span.old span.new)
+        ((hop.new ≡ hop.old) × (span.new ≡ span.old)) handle.old.kept result handle.new.kept }
+{
+    match take_reader(alloc, handle) {
+        Some(mut reader) => {
+            let status = running::lookup_within(&mut reader, addr, hop, span);
+            put_reader(handle, reader);
+            status
+        }
+        None => EINVAL,
+    }
+}
+
 /// Stores the next hops of many addresses, with `default` where no rule covers one.
 #[unsafe(no_mangle)]
 pub extern "C" fn saxiko_proved_reader_lookup_bulk(
@@ -400,6 +422,30 @@ pub extern "C" fn saxiko_proved_reader_lookup_bulk(
     match take_reader(alloc, handle) {
         Some(mut reader) => {
             let status = running::lookup_all(&mut reader, addrs, hops, default);
+            put_reader(handle, reader);
+            status
+        }
+        None => EINVAL,
+    }
+}
+
+/// Stores the next hops of many addresses, with `default` where no rule covers one, and the versions that they lie
+/// between.
+#[unsafe(no_mangle)]
+pub extern "C" fn saxiko_proved_reader_lookup_bulk_span(
+    alloc: Global,
+    handle: &mut SaxikoReader,
+    addrs: &[u32],
+    hops: &mut [u32],
+    default: u32,
+    span: &mut SaxikoSpan,
+) -> i32
+    ensures { Calls (FindsAllWithin default addrs.now hops.old hops.new span.old span.new)
+        ((hops.new ≡ hops.old) × (span.new ≡ span.old)) handle.old.kept result handle.new.kept }
+{
+    match take_reader(alloc, handle) {
+        Some(mut reader) => {
+            let status = running::lookup_all_within(&mut reader, addrs, hops, default, span);
             put_reader(handle, reader);
             status
         }

@@ -20,3 +20,4 @@ pub mod Backwards
 pub mod Since
 pub mod Unpacking
 pub mod Pairing
+pub mod Pieces

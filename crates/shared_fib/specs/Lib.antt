@@ -12,3 +12,4 @@ pub mod Loaded
 pub mod Lent
 pub mod LentLaws
 pub mod Pairs
+pub mod Bursts

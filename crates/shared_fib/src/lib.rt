@@ -6,6 +6,7 @@
 #![tactic(auto)]
 
 mod bench;
+mod bursts;
 mod commands;
 mod filling;
 mod grace;
@@ -24,6 +25,7 @@ mod table;
 mod writer;
 
 pub use bench::{Bench, RegisterError};
+pub use bursts::Burst;
 pub use grace::{GracePeriod, Held, NotStarted};
 use loaded::Loaded;
 pub use lpm_rules::Answer;

@@ -28,6 +28,10 @@ pub struct FourHops {
 /// The pass of a worker, by which it reports and looks up. A pass keeps what its worker has seen.
 ///
 /// No call of a pass waits or takes memory, and each lookup has an answer.
+///
+/// A pass that is dropped makes no report. Where it was online, it holds each group that is given up from
+/// then on, for ever; and its number stays taken. [`Bench::unregister`](crate::Bench::unregister) takes it
+/// back.
 #[derive(Drop)]
 pub struct Pass {
     pub(crate) seat: WorkerSeat,
@@ -262,7 +266,7 @@ impl Pass {
 
 /// The number of a next hop, or the default where there is none.
 #[inline]
-fn number_or(hop: Option<Hop>, default: u32) -> u32
+pub(crate) fn number_or(hop: Option<Hop>, default: u32) -> u32
     ensures { result ≡ hop_or default hop }
 {
     match hop {

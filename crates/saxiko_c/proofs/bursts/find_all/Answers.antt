@@ -1,5 +1,5 @@
-use Rattle.std.proofs.Common.{◌≤◌, [], length, refl, arith, ◌∙◌}
-use Rattle.saxiko_c.proofs.Pieces.{all_found, one_more}
+use Rattle.std.proofs.Common.{◌≤◌, length, refl, arith, ◌∙◌}
+use Rattle.saxiko_c.proofs.Pieces.{all_found, none_found, one_more}
 use Rattle.saxiko_c.proofs.bursts.find_all.Goals as goal
 
 pub loop-at-init : goal.loop-at-init
@@ -7,7 +7,7 @@ loop-at-init c = record {
   bound = omega arith;
   sizes = refl;
   online = c.requires.online;
-  found = record { lookups = []; addrs_are = refl; hops_are = refl; steps = refl };
+  found = none_found c.args.default c.args.reader.now;
 }
 
 pub loop-at-preserved : goal.loop-at-preserved
@@ -28,4 +28,4 @@ returns-clause-found c =
     let known = c.loop-at.invariant in
     let few : length c.loop-at.hops ≤ at = omega (arith, c.loop-at-test.false) in
     let few_addrs : length c.args.addrs.now ≤ at = omega (arith, few, known.sizes, c.requires.sizes) in
-    all_found c.args.default c.args.addrs.now c.loop-at.hops at _ _ few_addrs few known.found
+    (known.found.0, all_found c.args.default c.args.addrs.now c.loop-at.hops at known.found.0.lo known.found.0.hi _ _ few_addrs few known.found.1)
