@@ -11,6 +11,9 @@ use std::alloc::{AllocError, Global};
 
 /// The pass of a worker, with room for the next hops of a piece. A thread of `bulk` answers with one. It
 /// keeps its room from call to call.
+///
+/// A desk that is dropped drops its pass: no report is made, and the worker's number stays taken.
+/// [`into_pass`](Desk::into_pass) gives the pass back.
 #[derive(Drop)]
 pub struct Desk {
     pub(crate) pass: Pass,
