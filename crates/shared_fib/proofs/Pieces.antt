@@ -8,7 +8,7 @@ use Rattle.lpm_trace.specs.declared.step.WorkerStep.TheVariants.{Begins, Ends, L
 use Rattle.shared_words.specs.Loads.{loads_at, second_load}
 use Rattle.shared_fib.specs.Running.{hop_or}
 use Rattle.shared_fib.specs.Passes.{PassState, LooksUp, LooksUpAll, Makes, IsAnswered}
-use Rattle.saxiko.specs.Bursts.{LooksUpBurst}
+use Rattle.shared_fib.specs.Bursts.{LooksUpBurst}
 
 -- a burst of one piece more
 pub one_more : (addrs piece : List ℕ) (hops found : List (Option ℕ)) (lo hi first last : ℕ) (p r q : PassState)

@@ -1,7 +1,7 @@
 use Rattle.std.proofs.Common.{arith, rules, ◌≡◌, ◌∙◌}
 use Rattle.std.specs.Prelude.{min, max}
-use Rattle.saxiko.proofs.Pieces.{burst_after, rest_after}
-use Rattle.saxiko.proofs.reader.Reader.lookup_bulk.Goals as goal
+use Rattle.shared_fib.proofs.Pieces.{burst_after, rest_after}
+use Rattle.shared_fib.proofs.pass.Pass.lookup_bulk.Goals as goal
 
 pub loop-burst-preserved : goal.loop-burst-preserved
 loop-burst-preserved c =

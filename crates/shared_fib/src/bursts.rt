@@ -1,11 +1,12 @@
-//! Lookups of a burst of addresses by a reader.
+//! Lookups of a burst of addresses by a pass.
 
 ghost use Rattle.std.specs.Prelude.{◌≡◌, ◌+◌, ◌≤◌, ◌<◌, ◌++◌, ℕ, List, Option, length, min, map, take, drop, true};
 ghost use Rattle.shared_fib.specs.Running.{hop_or};
 ghost use Rattle.shared_fib.specs.Passes.{LooksUpAll};
-ghost use Rattle.saxiko.specs.Bursts.{LooksUpBurst};
+ghost use Rattle.shared_fib.specs.Bursts.{LooksUpBurst};
 
-use crate::{Hop, Reader};
+use crate::pass::number_or;
+use crate::{Pass, SharedTable};
 
 /// How a burst of addresses was answered. Each answer is that of a version from `lo` to `hi`, and no two
 /// need be of one version.
@@ -43,18 +44,7 @@ fn put_four(hops: &mut [u32], at: usize, four: [u32; 4])
     hops[at + 3] = d;
 }
 
-/// The number of a next hop, or the default where there is none.
-#[inline]
-fn number_or(hop: Option<Hop>, default: u32) -> u32
-    ensures { result ≡ hop_or default hop }
-{
-    match hop {
-        Some(hop) => hop.number(),
-        None => default,
-    }
-}
-
-impl Reader {
+impl Pass {
     /// Looks addresses up, and puts their next hops into `hops`, in their order, with `default` for an
     /// address that no rule covers. It answers as many addresses as both lists have room for, and returns
     /// how many those are, with the versions that the answers lie between. What stands behind them in
@@ -63,13 +53,21 @@ impl Reader {
     /// The addresses are looked up in fours, each by the loads of `lookup4`, and those that are left one by
     /// one.
     #[inline]
-    pub fn lookup_bulk(&mut self, addrs: &[u32], default: u32, hops: &mut [u32]) -> Burst
+    pub fn lookup_bulk(
+        &mut self,
+        table: &SharedTable<24, 8>,
+        addrs: &[u32],
+        default: u32,
+        hops: &mut [u32],
+    ) -> Burst
+        requires own { self.old.table ≡ table.now }
         requires online { self.old.online ≡ true }
         ensures own { self.new.table ≡ self.old.table }
         ensures count { result.count ≡ min (length addrs.now) (length hops.old) }
         ensures answers { (found : List (Option ℕ))
             × LooksUpBurst (take result.count addrs.now) found result.lo result.hi self.old self.new
             × (take result.count hops.new ≡ map (hop_or default) found) }
+        ensures len { length hops.new ≡ length hops.old }
         ensures rest { drop result.count hops.new ≡ drop result.count hops.old }
         ensures online { self.new.online ≡ true }
     {
@@ -80,7 +78,7 @@ impl Reader {
             hi: 0,
         };
         while burst.count < end {
-            let piece = self.lookup_piece(addrs, default, hops, burst.count, end);
+            let piece = self.lookup_piece(table, addrs, default, hops, burst.count, end);
             burst = Burst {
                 count: piece.count,
                 lo: burst.lo.min(piece.lo),
@@ -95,12 +93,14 @@ impl Reader {
     #[inline]
     fn lookup_piece(
         &mut self,
+        table: &SharedTable<24, 8>,
         addrs: &[u32],
         default: u32,
         hops: &mut [u32],
         at: usize,
         end: usize,
     ) -> Burst
+        requires own { self.old.table ≡ table.now }
         requires online { self.old.online ≡ true }
         requires some { at < end }
         requires addrs { end ≤ length addrs.now }
@@ -117,7 +117,7 @@ impl Reader {
         ensures online { self.new.online ≡ true }
     {
         if end - at < 4 {
-            let answer = self.lookup(addrs[at]);
+            let answer = self.lookup(table, addrs[at]);
             hops[at] = number_or(answer.hop, default);
             return Burst {
                 count: at + 1,
@@ -125,7 +125,7 @@ impl Reader {
                 hi: answer.hi,
             };
         }
-        let four = self.lookup4(four_at(addrs, at), default);
+        let four = self.lookup4(table, four_at(addrs, at), default);
         put_four(hops, at, four.hops);
         Burst {
             count: at + 4,
