@@ -98,6 +98,7 @@ static void running_missing(struct saxiko_writer *open_writer, struct saxiko_rea
     CHECK(saxiko_reader_lookup_bulk_span(open_reader, addrs, 2, NULL, 2, 7, &span), -EINVAL);
     CHECK(saxiko_reader_lookup_bulk_span(open_reader, addrs, 2, hops, 2, 7, NULL), -EINVAL);
     CHECK(saxiko_reader_lookup_bulk_span(open_reader, addrs, 1, hops, 2, 7, &span), -EINVAL);
+    CHECK(saxiko_reader_lookup_bulk_span(open_reader, addrs, 2, hops, 1, 7, &span), -EINVAL);
     CHECK(hop, UNTOUCHED);
     CHECK(number, UNTOUCHED);
     CHECK(held.reader, UNTOUCHED);
@@ -286,8 +287,27 @@ static void spans(struct saxiko_writer *writer, struct saxiko_reader *reader) {
     CHECK(saxiko_reader_lookup_bulk_span(reader, addrs, 2, hops, 3, 7, &span), -EINVAL);
     CHECK(hops[0], UNTOUCHED);
     CHECK(span.lo, counts.versions);
+    CHECK(span.hi, counts.versions);
     CHECK(saxiko_reader_lookup_bulk_span(reader, NULL, 0, NULL, 0, 7, &span), 0);
     CHECK(span.lo == UINT64_MAX && span.hi == 0, 1);
+}
+
+/* So are those of a miss. */
+static void spans_of_misses(struct saxiko_writer *writer, struct saxiko_reader *reader) {
+    uint32_t addrs[5] = {0, 1, 2, 3, UINT32_MAX}, hops[5], hop = UNTOUCHED;
+    struct saxiko_counts counts;
+    struct saxiko_span span = {UNTOUCHED, UNTOUCHED};
+    CHECK(saxiko_writer_counts(writer, &counts), 0);
+    CHECK(saxiko_reader_lookup_span(reader, 0, &hop, &span), -ENOENT);
+    CHECK(hop, UNTOUCHED);
+    CHECK(span.lo, counts.versions);
+    CHECK(span.hi, counts.versions);
+    span.lo = span.hi = UNTOUCHED;
+    CHECK(saxiko_reader_lookup_bulk_span(reader, addrs, 5, hops, 5, 7, &span), 0);
+    for (int k = 0; k < 5; k++)
+        CHECK(hops[k], 7);
+    CHECK(span.lo, counts.versions);
+    CHECK(span.hi, counts.versions);
 }
 
 static void writer_changes(struct saxiko_writer *writer, struct saxiko_reader *reader) {
@@ -321,6 +341,7 @@ static void writer_changes(struct saxiko_writer *writer, struct saxiko_reader *r
     CHECK(saxiko_writer_flush(writer, &rules), 0);
     CHECK(rules, 0);
     CHECK(read_hop(reader, A(9, 0, 0, 0)), -ENOENT);
+    spans_of_misses(writer, reader);
     check_writer(writer, __LINE__, 0, 0, 2, 0, 8);
 }
 

@@ -26,7 +26,8 @@ static uint32_t base(uint32_t block) { return 0x0a000000u | block << 8; }
 
 /* A burst of random packets in the blocks, whose answers are checked. */
 static void burst(struct lane *lane) {
-    uint32_t addrs[BURST], hops[BURST];
+    uint32_t addrs[BURST], hops[BURST], hop;
+    struct saxiko_span span;
     for (int k = 0; k < BURST; k++) {
         lane->seed = lane->seed * 1103515245u + 12345u;
         addrs[k] = base((lane->seed >> 8) % BLOCKS) | lane->seed >> 24;
@@ -37,6 +38,8 @@ static void burst(struct lane *lane) {
         uint32_t block = addrs[k] >> 8 & 0xff;
         lane->wrong += !(hops[k] == 1 || ((addrs[k] & 0x80) != 0 && hops[k] == 100 + block));
     }
+    if (saxiko_reader_lookup_span(&lane->reader, addrs[0], &hop, &span) != 0 || span.lo > span.hi)
+        lane->wrong++;
     lane->looked_up += BURST;
 }
 
