@@ -10,7 +10,7 @@ use Rattle.std.proofs.lemmas.Grind.{flat_map-append}
 use Rattle.std.proofs.Math.Seq.{take-add}
 use Rattle.std.proofs.Math.Nat.{mul-div_cancel_left, div-mul-le_self}
 use Rattle.std.proofs.lemmas.Nat.{le-div}
-use Rattle.bulk.specs.Pieces.{border_before, piece_of, first_pieces}
+use Rattle.bulk.specs.Pieces.{piece_start_before, piece_of, first_pieces}
 
 -- the borders rise
 pub rises : (k n w : ℕ) → 0 < w → k * n / w ≤ (k + 1) * n / w
@@ -27,8 +27,8 @@ more xs before from to le e =
 
 -- one more of the first pieces
 first_pieces-more : (xs : List ℕ) (w k : ℕ) → 0 < w
-    → flat_map (λ l. l) (first_pieces xs w k) ≡ take (border_before k (length xs) w) xs
-    → flat_map (λ l. l) (first_pieces xs w (k + 1)) ≡ take (border_before (k + 1) (length xs) w) xs
+    → flat_map (λ l. l) (first_pieces xs w k) ≡ take (piece_start_before k (length xs) w) xs
+    → flat_map (λ l. l) (first_pieces xs w (k + 1)) ≡ take (piece_start_before (k + 1) (length xs) w) xs
 first_pieces-more xs w k pos e =
     ap (flat_map (λ l. l)) (map-range_with_len_more (piece_of xs w) 0 k k (zero-add k))
     ∙ (flat_map-append (λ l. l) (first_pieces xs w k) (piece_of xs w k ∷ [])
@@ -37,13 +37,13 @@ first_pieces-more xs w k pos e =
 
 -- the first pieces are what stands before the next border
 pub first_pieces-joined : (xs : List ℕ) (w k : ℕ) → 0 < w
-    → flat_map (λ l. l) (first_pieces xs w k) ≡ take (border_before k (length xs) w) xs
+    → flat_map (λ l. l) (first_pieces xs w k) ≡ take (piece_start_before k (length xs) w) xs
 first_pieces-joined xs w zero pos =
-    let start : 0 ≡ border_before 0 (length xs) w = omega arith in
+    let start : 0 ≡ piece_start_before 0 (length xs) w = omega arith in
     ap (λ n. take n xs) start
 first_pieces-joined xs w (suc k) pos =
     let next : k + 1 ≡ suc k = omega arith in
-    subst (λ n. flat_map (λ l. l) (first_pieces xs w n) ≡ take (border_before n (length xs) w) xs) next
+    subst (λ n. flat_map (λ l. l) (first_pieces xs w n) ≡ take (piece_start_before n (length xs) w) xs) next
     (first_pieces-more xs w k pos (first_pieces-joined xs w k pos))
 
 -- all pieces are the whole list

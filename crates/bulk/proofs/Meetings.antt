@@ -11,7 +11,7 @@ use Rattle.lpm_trace.specs.declared.step.WorkerStep.{WorkerStep}
 use Rattle.lpm_trace.specs.Writer.{IsWritten}
 use Rattle.shared_words.specs.Rule.{IsLater}
 use Rattle.shared_words.proofs.Deeds.{between, later_trans}
-use Rattle.shared_fib.specs.Running.{Identity, WriterState, IsAtRest, setup, steps_of}
+use Rattle.shared_fib.specs.Running.{Identity, WriterState, IsAtRest, initial_state, steps_of}
 use Rattle.shared_fib.specs.Passes.{PassState, IsHistory, Makes}
 use Rattle.bulk.specs.declared.desk.Desk.{Desk}
 use Rattle.bulk.specs.Pieces.{piece_of}
@@ -153,8 +153,8 @@ answered_at_rest w addrs a b c d is first answers last =
     between b.pass.seen c.pass.seen d.pass.seen answers.same.later last.same.later again
     ∙ first.seen in
     let own : b.pass.table ≡ w.identity = first.same.table ∙ is in
-    let written : IsWritten (setup w.identity) (steps_of w) =
-    subst (λ (z : Identity × List WriterStep). IsWritten (setup z.0) z.1) (λ i. (own i, first.seen i)) first.history.written in
+    let written : IsWritten (initial_state w.identity) (steps_of w) =
+    subst (λ (z : Identity × List WriterStep). IsWritten (initial_state z.0) z.1) (λ i. (own i, first.seen i)) first.history.written in
     rw last.hops (answers.answers w (sym own) first.rests written first.seen seen)
 
 -- desks that have met the writer, have answered a piece each, and have met the writer again, which is as it was
@@ -167,7 +167,7 @@ module _ (w z : WriterState) (same : z ≡ w) (xs : List ℕ) (ps qs rs ss : Lis
   again = subst (λ (x : WriterState). EachDesk (HasMet x) rs ss) same last
 
   pub longest : (id : Identity) → w.identity ≡ id → All (IsDeskOf id) ps → 0 < length ps
-      → AreLongestHops (id.opening.first + id.opening.second) w.table.rules xs
+      → AreLongestHops (id.initial.first + id.initial.second) w.table.rules xs
       (flat_map (λ (d : Desk). d.hops.items) ss)
   longest id own desks some =
       let count : length ss ≡ length qs = last_len ∙ answered_len in
@@ -181,7 +181,7 @@ module _ (w z : WriterState) (same : z ≡ w) (xs : List ℕ) (ps qs rs ss : Lis
       (get_or ps k d) (get_or qs k d) (get_or rs k d) (get_or ss k d)
       ((desks k d (omega (arith, lt))).table ∙ sym own)
       (first k d (omega (arith, lt))) piece (again k d (omega (arith, lt))) in
-      subst (λ (i : Identity). AreLongestHops (i.opening.first + i.opening.second) w.table.rules xs
+      subst (λ (i : Identity). AreLongestHops (i.initial.first + i.initial.second) w.table.rules xs
       (flat_map (λ (d : Desk). d.hops.items) ss)) own
       (pieces_answered (λ (d : Desk). d.hops.items) (width_of w) w.table.rules xs ss (omega arith) each)
 

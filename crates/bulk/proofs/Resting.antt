@@ -4,12 +4,12 @@ use Rattle.lpm_rules.specs.RuleMap.{RuleMap}
 use Rattle.lpm_rules.specs.Longest.{IsLongestHop}
 use Rattle.lpm_rules.proofs.Longest.{AreLongestHops-append}
 use Rattle.lpm_trace.specs.declared.step.WriterStep.{WriterStep}
-use Rattle.lpm_trace.specs.Tables.{Setup, oldest, tables}
+use Rattle.lpm_trace.specs.States.{InitialState, oldest, state_after}
 use Rattle.lpm_trace.specs.Writer.{IsWritten}
 use Rattle.lpm_trace.proofs.Traces.{oldest_all}
 use Rattle.shared_words.specs.Rule.{IsLater}
 use Rattle.shared_words.proofs.Deeds.{between, later_trans}
-use Rattle.shared_fib.specs.Running.{Identity, WriterState, IsAtRest, setup, steps_of}
+use Rattle.shared_fib.specs.Running.{Identity, WriterState, IsAtRest, initial_state, steps_of}
 use Rattle.shared_fib.specs.Versions.{updates_begun, updates_done}
 use Rattle.shared_fib.specs.Passes.{PassState, IsOfVersion, LooksUp}
 use Rattle.shared_fib.proofs.Versions.{counts, version_is}
@@ -17,14 +17,14 @@ use Rattle.shared_fib.proofs.Lookups.{words_after}
 use Rattle.bulk.specs.Desks.{AnswersAtRest}
 
 abbrev pub width_of : WriterState → ℕ
-width_of w = w.identity.opening.first + w.identity.opening.second
+width_of w = w.identity.initial.first + w.identity.initial.second
 
 -- the answer of a version that stood after all steps of a writer that rests
-rests_answer : (w : WriterState) (addr : ℕ) (hop : Option ℕ) (place k : ℕ) → IsAtRest w → IsWritten (setup w.identity) (steps_of w)
+rests_answer : (w : WriterState) (addr : ℕ) (hop : Option ℕ) (place k : ℕ) → IsAtRest w → IsWritten (initial_state w.identity) (steps_of w)
     → IsOfVersion w.identity (steps_of w) addr hop place k → length (steps_of w) ≤ place
     → IsLongestHop (width_of w) w.table.rules addr hop
 rests_answer w addr hop place k rest written of late =
-    let c : Setup = setup w.identity in
+    let c : InitialState = initial_state w.identity in
     let steps : List WriterStep = steps_of w in
     let all : oldest place steps ≡ steps = oldest_all steps place late in
     let now = counts c steps written in
@@ -40,12 +40,12 @@ rests_answer w addr hop place k rest written of late =
       rest.begun,
     ) in
     let rules : of.rules ≡ w.table.rules =
-    sym (version_is c steps k of.rules written of.version).1 ∙ (ap (tables c steps).history last ∙ rest.rules) in
+    sym (version_is c steps k of.rules written of.version).1 ∙ (ap (state_after c steps).history last ∙ rest.rules) in
     subst (λ (R : RuleMap). IsLongestHop (width_of w) R addr hop) rules of.answers
 
 -- a lookup between whose ends a writer that rests has done nothing
 looked_up : (w : WriterState) (addr : ℕ) (hop : Option ℕ) (lo hi : ℕ) (p q : PassState) → IsAtRest w
-    → IsWritten (setup w.identity) (steps_of w) → LooksUp addr hop lo hi p q → p.table ≡ w.identity
+    → IsWritten (initial_state w.identity) (steps_of w) → LooksUp addr hop lo hi p q → p.table ≡ w.identity
     → p.seen ≡ steps_of w → q.seen ≡ steps_of w → IsLongestHop (width_of w) w.table.rules addr hop
 looked_up w addr hop lo hi p q rest written looks own before after =
     let f = looks.found in

@@ -5,7 +5,7 @@ use Rattle.lpm_rules.specs.Longest.{AreLongestHops}
 use Rattle.lpm_trace.specs.declared.step.WriterStep.{WriterStep}
 use Rattle.lpm_trace.specs.Writer.{IsWritten}
 use Rattle.shared_words.specs.Rule.{IsLater}
-use Rattle.shared_fib.specs.Running.{Identity, WriterState, IsAtRest, setup, steps_of}
+use Rattle.shared_fib.specs.Running.{Identity, WriterState, IsAtRest, initial_state, steps_of}
 use Rattle.shared_fib.specs.Passes.{PassState, IsHistory}
 use Rattle.bulk.specs.declared.desk.Desk.{Desk}
 use Rattle.bulk.specs.Pieces.{piece_of}
@@ -53,8 +53,8 @@ pub record HasMet (w : WriterState) (old new : Desk) : Type 0 where
 -- they are the next hops by its rules
 abbrev pub AnswersAtRest : Identity → List ℕ → List (Option ℕ) → List WriterStep → List WriterStep → Type 0
 AnswersAtRest id addrs hops before after = (w : WriterState) → w.identity ≡ id → IsAtRest w
-    → IsWritten (setup w.identity) (steps_of w) → before ≡ steps_of w → after ≡ steps_of w
-    → AreLongestHops (w.identity.opening.first + w.identity.opening.second) w.table.rules addrs hops
+    → IsWritten (initial_state w.identity) (steps_of w) → before ≡ steps_of w → after ≡ steps_of w
+    → AreLongestHops (w.identity.initial.first + w.identity.initial.second) w.table.rules addrs hops
 
 -- it has answered these addresses
 pub record HasAnswered (addrs : List ℕ) (old new : Desk) : Type 0 where

@@ -3,14 +3,14 @@ use Rattle.std.specs.Prelude.{ℕ, ◌+◌, ◌-◌, ◌*◌, ◌/◌, List, len
 use Rattle.std.specs.List.{range_with_len}
 
 -- how many of n addresses stand before piece k of w: the quotient of k * n by w
-abbrev pub border_before : ℕ → ℕ → ℕ → ℕ
-border_before k n w = k * n / w
+abbrev pub piece_start_before : ℕ → ℕ → ℕ → ℕ
+piece_start_before k n w = k * n / w
 
 -- piece k of w: the addresses from its border up to, and not including, the next one
 abbrev pub piece_of : List ℕ → ℕ → ℕ → List ℕ
 piece_of addrs w k =
-    let from = border_before k (length addrs) w in
-    let to = border_before (k + 1) (length addrs) w in
+    let from = piece_start_before k (length addrs) w in
+    let to = piece_start_before (k + 1) (length addrs) w in
     take (to - from) (drop from addrs)
 
 -- the first k of w pieces, in their order

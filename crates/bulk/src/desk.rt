@@ -69,7 +69,7 @@ pub fn seat_all<const FIRST: u32, const SECOND: u32>(
     workers: usize,
 ) -> Result<Vec<Desk>, AllocError>
     requires full { IsFullBench table.now bench.old }
-    requires workers { workers ≡ table.now.opening.workers }
+    requires workers { workers ≡ table.now.initial.workers }
     ensures desks { IfOk result (λ v. All (IsDeskOf table.now) v.items) }
     ensures numbers { IfOk result (λ v. map worker_of v.items ≡ range_with_len 0 workers) }
     ensures own { IsBenchOf table.now bench.new }

@@ -15,6 +15,6 @@ mod running;
 pub use bulk_error::BulkError;
 pub use desk::{Desk, seat_all};
 pub use gate::{Gate, Open};
-pub use pieces::border;
+pub use pieces::piece_start;
 pub use plain::bulk_plain;
 pub use running::bulk;

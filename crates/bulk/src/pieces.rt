@@ -2,7 +2,7 @@
 
 ghost use Rattle.std.specs.Prelude.{◌≡◌, ◌+◌, ◌^◌, ◌<◌, ◌≤◌, ◌++◌, All, IfOk, length, map, vec_len, vec_capacity};
 ghost use Rattle.std.specs.List.{flat_map};
-ghost use Rattle.bulk.specs.Pieces.{border_before, piece_of, first_pieces};
+ghost use Rattle.bulk.specs.Pieces.{piece_start_before, piece_of, first_pieces};
 
 use lpm_bits::Hop;
 use std::alloc::{AllocError, Global};
@@ -17,10 +17,10 @@ pub struct Piece<'a> {
 
 /// How many of `addrs` addresses stand before piece number `piece` of as many pieces as workers,
 /// counted from 0. Piece `k` goes from border `k` up to, and not including, border `k + 1`.
-pub fn border(piece: usize, addrs: usize, workers: usize) -> usize
+pub fn piece_start(piece: usize, addrs: usize, workers: usize) -> usize
     requires workers { 0 < workers }
     requires piece { piece ≤ workers }
-    ensures exact { result ≡ border_before piece addrs workers }
+    ensures exact { result ≡ piece_start_before piece addrs workers }
     ensures within { result ≤ addrs }
 {
     (piece as u128 * addrs as u128 / workers as u128) as usize
@@ -31,8 +31,8 @@ pub fn piece_at(addrs: &[u32], workers: usize, number: usize) -> &[u32]
     requires { number < workers }
     ensures { result.now ≡ piece_of addrs.now workers number }
 {
-    let from = border(number, addrs.len(), workers);
-    let to = border(number + 1, addrs.len(), workers);
+    let from = piece_start(number, addrs.len(), workers);
+    let to = piece_start(number + 1, addrs.len(), workers);
     &addrs[from..to]
 }
 

@@ -12,10 +12,10 @@ use Rattle.lpm_update.specs.Linked.{group_at}
 use Rattle.lpm_update.specs.Represents.{Represents}
 use Rattle.lpm_update.specs.Tied.{IsTied, HasGroupRoom}
 use Rattle.qsbr.specs.Counters.{Passes}
-use Rattle.lpm_trace.specs.Tables.{Setup, Status, Unused, Linked as LinkedTo, Retired}
+use Rattle.lpm_trace.specs.States.{InitialState, Status, Unused, Linked as LinkedTo, Retired}
 use Rattle.lpm_writer.specs.declared.plain_memory.PlainMemory.{PlainMemory}
-use Rattle.lpm_writer.specs.declared.ledger.Ledger.{Ledger}
-use Rattle.lpm_writer.specs.declared.books.Books.{Books}
+use Rattle.lpm_writer.specs.declared.control.ControlState.{ControlState}
+use Rattle.lpm_writer.specs.declared.pool.GroupPool.{GroupPool}
 use Rattle.lpm_writer.specs.Resting.{IsResting}
 use Rattle.lpm_writer.proofs.Beginning.{status_at_first, beginning, begins_resting}
 use Rattle.lpm_writer.proofs.Unchanged.{unchanging, unchanged, unchanged_stays, rests_after_unchanged}
@@ -44,33 +44,33 @@ never_in : (o : Option GroupState) (t : ℕ) → status_in o ≡ Retired t → �
 never_in None t e = unused_retired t e
 never_in (Some state) t e = never_at_first state t e
 
-module _ (f s : ℕ) (config : Config) (ledger : Ledger f s) (memory : PlainMemory f s) where
+module _ (f s : ℕ) (config : Config) (control : ControlState f s) (memory : PlainMemory f s) where
   abbrev xs : List GroupState
-  xs = ledger.books.groups
+  xs = control.pool.groups
 
-  abbrev setup : Represents f s ledger.rules.rules memory.cells → IsTied f xs (group_at memory.cells.firsts) → Setup
-  setup represents tied = beginning f s memory.cells ledger.rules.rules xs config memory.domain.token (λ g. status_in (slice_get xs g)) represents tied
+  abbrev setup : Represents f s control.rules.rules memory.cells → IsTied f xs (group_at memory.cells.firsts) → InitialState
+  setup represents tied = beginning f s memory.cells control.rules.rules xs config memory.domain.token (λ g. status_in (slice_get xs g)) represents tied
       (λ g state here. known_in (slice_get xs g) state here) (λ g x e. never_in (slice_get xs g) x e)
 
   -- a ledger of these rules and groups and a memory of these words, to which as many updates led as the
   -- ledger counts. Each of them can be one that left the rules as they were.
-  pub sound_begun : IsShape f s → IsConfig config → ledger.config ≡ config → ledger.rules.max ≡ config.rules
-      → ledger.versions ≤ 2 ^ 61 → ledger.books ≡ record { groups = xs; queue = record { items = []; capacity = length xs }; passed = 0 }
+  pub sound_begun : IsShape f s → IsConfig config → control.config ≡ config → control.rules.max ≡ config.rules
+      → control.versions ≤ 2 ^ 61 → control.pool ≡ record { groups = xs; queue = record { items = []; capacity = length xs }; passed = 0 }
       → length xs ≡ config.groups → HasGroupRoom s memory.cells xs → limbo_count xs ≡ 0
       → memory.domain.counters ≡ replicate config.workers 0
-      → Represents f s ledger.rules.rules memory.cells → IsTied f xs (group_at memory.cells.firsts)
-      → IsSound f s ledger memory
-  sound_begun shape limits same max few books states room none counters represents tied =
+      → Represents f s control.rules.rules memory.cells → IsTied f xs (group_at memory.cells.firsts)
+      → IsSound f s control memory
+  sound_begun shape limits same max few pool states room none counters represents tied =
       let c = setup represents tied in
-      let b : Books = record { groups = xs; queue = record { items = []; capacity = length xs }; passed = 0 } in
-      let begins : IsResting f s c [] config ledger.rules b 0 =
-      begins_resting f s memory.cells ledger.rules.rules xs config memory.domain.token (λ g. status_in (slice_get xs g)) represents tied
+      let b : GroupPool = record { groups = xs; queue = record { items = []; capacity = length xs }; passed = 0 } in
+      let begins : IsResting f s c [] config control.rules b 0 =
+      begins_resting f s memory.cells control.rules.rules xs config memory.domain.token (λ g. status_in (slice_get xs g)) represents tied
       (λ g state here. known_in (slice_get xs g) state here) (λ g x e. never_in (slice_get xs g) x e)
-      ledger.rules.max shape limits max states room none in
-      let change = unchanging f s ledger.rules.rules memory.cells represents in
-      let steps = unchanged change.0 ledger.versions in
-      let after = rests_after_unchanged f s c config ledger.rules b change.0 change.1 begins ledger.versions few in
-      let stays = unchanged_stays c change.0 ledger.versions in (
+      control.rules.max shape limits max states room none in
+      let change = unchanging f s control.rules.rules memory.cells represents in
+      let steps = unchanged change.0 control.versions in
+      let after = rests_after_unchanged f s c config control.rules b change.0 change.1 begins control.versions few in
+      let stays = unchanged_stays c change.0 control.versions in (
         c,
         steps,
         record {
@@ -82,8 +82,8 @@ module _ (f s : ℕ) (config : Config) (ledger : Ledger f s) (memory : PlainMemo
             words = sym stays.words;
             token = sym stays.token;
           };
-          rests = subst (λ (x : Books). IsResting f s c steps ledger.config ledger.rules x ledger.versions) (sym books)
-              (subst (λ (k : Config). IsResting f s c steps k ledger.rules b ledger.versions) (sym same) after.1);
+          rests = subst (λ (x : GroupPool). IsResting f s c steps control.config control.rules x control.versions) (sym pool)
+              (subst (λ (k : Config). IsResting f s c steps k control.rules b control.versions) (sym same) after.1);
           passed = subst (λ p. Passes p memory.domain.counters) (sym stays.passed) (λ w low. inr (omega arith));
         },
       )

@@ -11,14 +11,14 @@ use Rattle.qsbr.specs.Registry.{Registry, with_counter}
 use Rattle.defer_queue.specs.declared.Reclaimed.{Reclaimed}
 use Rattle.fib_model.specs.State.{State}
 use Rattle.fib_model.specs.Outcomes.{Adds, Deletes, Flushes, Frees}
-use Rattle.fib_model.specs.Counting.{counting}
+use Rattle.fib_model.specs.Counting.{counter_transitions}
 use Rattle.fib_model.proofs.Carrying.{AreFollowed, AreNamed, Follows, beside}
 use Rattle.fib_model.proofs.Carried.{changes_carry_over}
 use Rattle.lpm_trace.specs.declared.step.WriterStep.{WriterStep}
-use Rattle.lpm_trace.specs.Tables.{Setup, tables}
+use Rattle.lpm_trace.specs.States.{InitialState, state_after}
 use Rattle.lpm_writer.specs.declared.plain_memory.PlainMemory.{PlainMemory}
 use Rattle.lpm_writer.specs.Plain.{PlainDid}
-use Rattle.lpm_writer.specs.declared.ledger.Ledger.{Ledger}
+use Rattle.lpm_writer.specs.declared.control.ControlState.{ControlState}
 use Rattle.lpm_writer.specs.Resting.{IsResting, state_of}
 use Rattle.lpm_writer.specs.Traced.{Traced, by_writer}
 use Rattle.fib.specs.Fib.{IsSound, table_of}
@@ -38,24 +38,24 @@ one_name (m ∷ ms) (n ∷ ns) h = ap (λ x. x ∷ ns) (sym h.0) ∙ ap (λ xs. 
 
 -- ---- changes
 
-module _ (f s : ℕ) (old : Ledger f s) (m : PlainMemory f s) (known : IsSound f s old m) (new : Ledger f s) (z : PlainMemory f s) where
-  abbrev c : Setup
+module _ (f s : ℕ) (old : ControlState f s) (m : PlainMemory f s) (known : IsSound f s old m) (new : ControlState f s) (z : PlainMemory f s) where
+  abbrev c : InitialState
   c = known.0
 
   abbrev S : State (Traced (PlainMemory f s))
-  S = state_of old.rules.rules (m, known.1) old.books old.versions
+  S = state_of old.rules.rules (m, known.1) old.pool old.versions
 
-  followed : AreFollowed (by_writer (does f s c) c) counting (Shows f s c) (same_name f s c) f s old.config S (table_of old m)
+  followed : AreFollowed (by_writer (does f s c) c) counter_transitions (Shows f s c) (same_name f s c) f s old.config S (table_of old m)
   followed =
       let k = known.2 in
-      changes_carry_over (Traced (PlainMemory f s)) Registry (by_writer (does f s c) c) counting (Shows f s c) (same_name f s c) (carries f s c) f s old.config S m.domain S.limbo
+      changes_carry_over (Traced (PlainMemory f s)) Registry (by_writer (does f s c) c) counter_transitions (Shows f s c) (same_name f s c) (carries f s c) f s old.config S m.domain S.limbo
       (record { domain = refl; workers = k.did.workers; token = sym k.did.token; passed = k.passed }) (same_names S.limbo)
 
   -- what a command of the writer leaves is kept, and comes out the same by token and counters
-  after : (later : List WriterStep) (D : State Registry → Type 0) → PlainDid f s z.cells z.domain c later → IsResting f s c later new.config new.rules new.books new.versions
-      → Follows (Shows f s c) (same_name f s c) (state_of new.rules.rules (z, later) new.books new.versions) D → IsSound f s new z × D (table_of new z)
+  after : (later : List WriterStep) (D : State Registry → Type 0) → PlainDid f s z.cells z.domain c later → IsResting f s c later new.config new.rules new.pool new.versions
+      → Follows (Shows f s c) (same_name f s c) (state_of new.rules.rules (z, later) new.pool new.versions) D → IsSound f s new z × D (table_of new z)
   after later D did rests h =
-      let Z : State (Traced (PlainMemory f s)) = state_of new.rules.rules (z, later) new.books new.versions in
+      let Z : State (Traced (PlainMemory f s)) = state_of new.rules.rules (z, later) new.pool new.versions in
       let shows : Shows f s c (z, later) h.0 = h.3 in
       let limbo : h.1 ≡ Z.limbo = one_name Z.limbo h.1 h.4 in (
         (
@@ -64,35 +64,35 @@ module _ (f s : ℕ) (old : Ledger f s) (m : PlainMemory f s) (known : IsSound f
           record {
             did = did;
             rests = rests;
-            passed = subst (λ (r : Registry). Passes (tables c later).passed r.counters) (sym shows.domain) shows.passed;
+            passed = subst (λ (r : Registry). Passes (state_after c later).passed r.counters) (sym shows.domain) shows.passed;
           },
         ),
         subst (λ l. D (beside Z z.domain l)) limbo (subst (λ r. D (beside Z r h.1)) (sym shows.domain) h.2),
       )
 
   pub adds : (p : Network) (h : ℕ) (r : Result Put Refusal)
-      → ((later : List WriterStep) × PlainDid f s z.cells z.domain c later × IsResting f s c later new.config new.rules new.books new.versions
-      × Adds (by_writer (does f s c) c) f s old.config S p h r (state_of new.rules.rules (z, later) new.books new.versions))
-      → IsSound f s new z × Adds counting f s old.config (table_of old m) p h r (table_of new z)
-  adds p h r e = after e.0 (Adds counting f s old.config (table_of old m) p h r) e.1 e.2 (followed.adds (state_of new.rules.rules (z, e.0) new.books new.versions) p h r e.3)
+      → ((later : List WriterStep) × PlainDid f s z.cells z.domain c later × IsResting f s c later new.config new.rules new.pool new.versions
+      × Adds (by_writer (does f s c) c) f s old.config S p h r (state_of new.rules.rules (z, later) new.pool new.versions))
+      → IsSound f s new z × Adds counter_transitions f s old.config (table_of old m) p h r (table_of new z)
+  adds p h r e = after e.0 (Adds counter_transitions f s old.config (table_of old m) p h r) e.1 e.2 (followed.adds (state_of new.rules.rules (z, e.0) new.pool new.versions) p h r e.3)
 
   pub deletes : (p : Network) (r : Result ℕ Refusal)
-      → ((later : List WriterStep) × PlainDid f s z.cells z.domain c later × IsResting f s c later new.config new.rules new.books new.versions
-      × Deletes (by_writer (does f s c) c) f s old.config S p r (state_of new.rules.rules (z, later) new.books new.versions))
-      → IsSound f s new z × Deletes counting f s old.config (table_of old m) p r (table_of new z)
-  deletes p r e = after e.0 (Deletes counting f s old.config (table_of old m) p r) e.1 e.2 (followed.deletes (state_of new.rules.rules (z, e.0) new.books new.versions) p r e.3)
+      → ((later : List WriterStep) × PlainDid f s z.cells z.domain c later × IsResting f s c later new.config new.rules new.pool new.versions
+      × Deletes (by_writer (does f s c) c) f s old.config S p r (state_of new.rules.rules (z, later) new.pool new.versions))
+      → IsSound f s new z × Deletes counter_transitions f s old.config (table_of old m) p r (table_of new z)
+  deletes p r e = after e.0 (Deletes counter_transitions f s old.config (table_of old m) p r) e.1 e.2 (followed.deletes (state_of new.rules.rules (z, e.0) new.pool new.versions) p r e.3)
 
   pub flushes : (r : Result ℕ Refusal)
-      → ((later : List WriterStep) × PlainDid f s z.cells z.domain c later × IsResting f s c later new.config new.rules new.books new.versions
-      × Flushes (by_writer (does f s c) c) f s old.config S r (state_of new.rules.rules (z, later) new.books new.versions))
-      → IsSound f s new z × Flushes counting f s old.config (table_of old m) r (table_of new z)
-  flushes r e = after e.0 (Flushes counting f s old.config (table_of old m) r) e.1 e.2 (followed.flushes (state_of new.rules.rules (z, e.0) new.books new.versions) r e.3)
+      → ((later : List WriterStep) × PlainDid f s z.cells z.domain c later × IsResting f s c later new.config new.rules new.pool new.versions
+      × Flushes (by_writer (does f s c) c) f s old.config S r (state_of new.rules.rules (z, later) new.pool new.versions))
+      → IsSound f s new z × Flushes counter_transitions f s old.config (table_of old m) r (table_of new z)
+  flushes r e = after e.0 (Flushes counter_transitions f s old.config (table_of old m) r) e.1 e.2 (followed.flushes (state_of new.rules.rules (z, e.0) new.pool new.versions) r e.3)
 
   pub frees : (max : ℕ) (r : Reclaimed)
-      → ((later : List WriterStep) × PlainDid f s z.cells z.domain c later × IsResting f s c later new.config new.rules new.books new.versions
-      × Frees (by_writer (does f s c) c) S max r (state_of new.rules.rules (z, later) new.books new.versions))
-      → IsSound f s new z × Frees counting (table_of old m) max r (table_of new z)
-  frees max r e = after e.0 (Frees counting (table_of old m) max r) e.1 e.2 (followed.frees (state_of new.rules.rules (z, e.0) new.books new.versions) max r e.3)
+      → ((later : List WriterStep) × PlainDid f s z.cells z.domain c later × IsResting f s c later new.config new.rules new.pool new.versions
+      × Frees (by_writer (does f s c) c) S max r (state_of new.rules.rules (z, later) new.pool new.versions))
+      → IsSound f s new z × Frees counter_transitions (table_of old m) max r (table_of new z)
+  frees max r e = after e.0 (Frees counter_transitions (table_of old m) max r) e.1 e.2 (followed.frees (state_of new.rules.rules (z, e.0) new.pool new.versions) max r e.3)
 
 -- ---- reports
 
@@ -106,7 +106,7 @@ passes_with token counters w counter past h i low =
     ]
 
 -- a worker stored this counter
-reported : (f s : ℕ) (old : Ledger f s) (m : PlainMemory f s) (w counter : ℕ) (known : IsSound f s old m) → IsPast (tables known.0 known.1).passed counter
+reported : (f s : ℕ) (old : ControlState f s) (m : PlainMemory f s) (w counter : ℕ) (known : IsSound f s old m) → IsPast (state_after known.0 known.1).passed counter
     → IsSound f s old (record m { domain = with_counter m.domain w counter })
 reported f s old m w counter known past =
     let k = known.2 in
@@ -123,23 +123,23 @@ reported f s old m w counter known past =
           token = d.token;
         };
         rests = k.rests;
-        passed = passes_with (tables known.0 known.1).passed m.domain.counters w counter past k.passed;
+        passed = passes_with (state_after known.0 known.1).passed m.domain.counters w counter past k.passed;
       },
     )
 
 -- the newest token
-pub reported_token : (f s : ℕ) (old : Ledger f s) (m : PlainMemory f s) (w : ℕ) (z : Registry) → IsSound f s old m → z ≡ with_counter m.domain w m.domain.token → IsSound f s old (record m { domain = z })
+pub reported_token : (f s : ℕ) (old : ControlState f s) (m : PlainMemory f s) (w : ℕ) (z : Registry) → IsSound f s old m → z ≡ with_counter m.domain w m.domain.token → IsSound f s old (record m { domain = z })
 reported_token f s old m w z known is =
     let within = passed_within known.0 known.1 known.2.did.written in
     let token = known.2.did.token in
     subst (λ d. IsSound f s old (record m { domain = d })) (sym is) (reported f s old m w m.domain.token known (inr (omega (arith, within, token))))
 
-pub reported_none : (f s : ℕ) (old : Ledger f s) (m : PlainMemory f s) (w : ℕ) (z : Registry) → IsSound f s old m → z ≡ with_counter m.domain w 0 → IsSound f s old (record m { domain = z })
+pub reported_none : (f s : ℕ) (old : ControlState f s) (m : PlainMemory f s) (w : ℕ) (z : Registry) → IsSound f s old m → z ≡ with_counter m.domain w 0 → IsSound f s old (record m { domain = z })
 reported_none f s old m w z known is = subst (λ d. IsSound f s old (record m { domain = d })) (sym is) (reported f s old m w 0 known (inl refl))
 
 -- ---- a new table
 
 -- no token has passed yet
-pub sound_new : (f s : ℕ) (c : Setup) (ledger : Ledger f s) (m : PlainMemory f s) → PlainDid f s m.cells m.domain c []
-    → IsResting f s c [] ledger.config ledger.rules ledger.books ledger.versions → IsSound f s ledger m
-sound_new f s c ledger m did rests = (c, [], record { did = did; rests = rests; passed = λ w low. inr (omega arith) })
+pub sound_new : (f s : ℕ) (c : InitialState) (control : ControlState f s) (m : PlainMemory f s) → PlainDid f s m.cells m.domain c []
+    → IsResting f s c [] control.config control.rules control.pool control.versions → IsSound f s control m
+sound_new f s c control m did rests = (c, [], record { did = did; rests = rests; passed = λ w low. inr (omega arith) })

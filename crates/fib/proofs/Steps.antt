@@ -7,11 +7,11 @@ use Rattle.qsbr.specs.Counters.{IsPast, Passes}
 use Rattle.qsbr.specs.Registry.{Registry}
 use Rattle.lpm_limits.specs.declared.busy.Busy.{Busy}
 use Rattle.fib_model.specs.State.{looks}
-use Rattle.fib_model.specs.Counting.{counting, IsFirstByCounter}
+use Rattle.fib_model.specs.Counting.{counter_transitions, IsFirstByCounter}
 use Rattle.fib_model.proofs.Carrying.{Carries, IsCarried}
 use Rattle.lpm_trace.specs.declared.step.WriterStep.{WriterStep}
-use Rattle.lpm_trace.specs.declared.step.WriterStep.TheVariants.{StoreFirst, StoreSecond, Opens, Closes, BumpToken, LoadCounter}
-use Rattle.lpm_trace.specs.Tables.{Setup, tables, lets_pass}
+use Rattle.lpm_trace.specs.declared.step.WriterStep.TheVariants.{StoreFirst, StoreSecond, BeginUpdate, EndUpdate, BumpToken, LoadCounter}
+use Rattle.lpm_trace.specs.States.{InitialState, state_after, lets_pass}
 use Rattle.lpm_trace.specs.Writer.{IsWritten}
 use Rattle.lpm_writer.specs.declared.plain_memory.PlainMemory.{PlainMemory}
 use Rattle.lpm_writer.specs.Plain.{PlainDoes}
@@ -41,7 +41,7 @@ not_past token counter some behind (inr p) = omega (arith, p, behind)
 
 -- ---- a memory, by its token and its counters
 
-module _ (first second : ℕ) (c : Setup) where
+module _ (first second : ℕ) (c : InitialState) where
   abbrev Memory : Type 0
   Memory = PlainMemory first second
 
@@ -53,31 +53,31 @@ module _ (first second : ℕ) (c : Setup) where
   pub record Shows (x : Traced Memory) (r : Registry) : Type 0 where
     pub domain : x.0.domain ≡ r
     pub workers : length r.counters ≡ c.workers
-    pub token : (tables c x.1).token ≡ r.token
-    pub passed : Passes (tables c x.1).passed r.counters
+    pub token : (state_after c x.1).token ≡ r.token
+    pub passed : Passes (state_after c x.1).passed r.counters
 
   -- a step that starts no token and loads no counter
   abbrev Leaves : WriterStep → Type 0
   Leaves (StoreFirst i w) = Unit {0}
   Leaves (StoreSecond j w) = Unit {0}
-  Leaves (Opens change) = Unit {0}
-  Leaves Closes = Unit {0}
+  Leaves (BeginUpdate change) = Unit {0}
+  Leaves EndUpdate = Unit {0}
   Leaves BumpToken = ⊥
   Leaves (LoadCounter token worker counter) = ⊥
 
-  leaves_token : (s : WriterStep) (steps : List WriterStep) → Leaves s → ((tables c (s ∷ steps)).token ≡ (tables c steps).token) × ((tables c (s ∷ steps)).passed ≡ (tables c steps).passed)
+  leaves_token : (s : WriterStep) (steps : List WriterStep) → Leaves s → ((state_after c (s ∷ steps)).token ≡ (state_after c steps).token) × ((state_after c (s ∷ steps)).passed ≡ (state_after c steps).passed)
   leaves_token (StoreFirst i w) steps h = (refl, refl)
   leaves_token (StoreSecond j w) steps h = (refl, refl)
-  leaves_token (Opens change) steps h = (refl, refl)
-  leaves_token Closes steps h = (refl, refl)
+  leaves_token (BeginUpdate change) steps h = (refl, refl)
+  leaves_token EndUpdate steps h = (refl, refl)
   leaves_token BumpToken steps h = absurd h
   leaves_token (LoadCounter token worker counter) steps h = absurd h
 
   leaves_domain : (m z : Memory) (s : WriterStep) → Leaves s → does m s z → z.domain ≡ m.domain
   leaves_domain m z (StoreFirst i w) h d = d.reports
   leaves_domain m z (StoreSecond j w) h d = d.reports
-  leaves_domain m z (Opens change) h d = d.reports
-  leaves_domain m z Closes h d = d.reports
+  leaves_domain m z (BeginUpdate change) h d = d.reports
+  leaves_domain m z EndUpdate h d = d.reports
   leaves_domain m z BumpToken h d = absurd h
   leaves_domain m z (LoadCounter token worker counter) h d = absurd h
 
@@ -87,25 +87,25 @@ module _ (first second : ℕ) (c : Setup) where
       record {
         domain = leaves_domain x.0 z.0 s h goes.0 ∙ k.domain;
         workers = k.workers;
-        token = ap (λ steps. (tables c steps).token) goes.1 ∙ same.0 ∙ k.token;
-        passed = subst (λ p. Passes p r.counters) (sym (ap (λ steps. (tables c steps).passed) goes.1 ∙ same.1)) k.passed;
+        token = ap (λ steps. (state_after c steps).token) goes.1 ∙ same.0 ∙ k.token;
+        passed = subst (λ p. Passes p r.counters) (sym (ap (λ steps. (state_after c steps).passed) goes.1 ∙ same.1)) k.passed;
       }
 
   bumps : (x z : Traced Memory) (r : Registry) → Shows x r → Goes does x BumpToken z → Shows z (record r { token = r.token + 1 })
   bumps x z r k goes = record {
     domain = goes.0.reports ∙ ap (λ (d : Registry). record d { token = d.token + 1 }) k.domain;
     workers = k.workers;
-    token = ap (λ steps. (tables c steps).token) goes.1 ∙ rw add-one (ap suc k.token);
-    passed = subst (λ p. Passes p r.counters) (sym (ap (λ steps. (tables c steps).passed) goes.1)) k.passed;
+    token = ap (λ steps. (state_after c steps).token) goes.1 ∙ rw add-one (ap suc k.token);
+    passed = subst (λ p. Passes p r.counters) (sym (ap (λ steps. (state_after c steps).passed) goes.1)) k.passed;
   }
 
   -- ---- stores
 
-  plain_leaves : (x : Traced Memory) (s : WriterStep) → UnlinksNone (tables c x.1) s → Leaves s
+  plain_leaves : (x : Traced Memory) (s : WriterStep) → UnlinksNone (state_after c x.1) s → Leaves s
   plain_leaves x (StoreFirst i w) h = tt
   plain_leaves x (StoreSecond j w) h = tt
-  plain_leaves x (Opens change) h = absurd h
-  plain_leaves x Closes h = absurd h
+  plain_leaves x (BeginUpdate change) h = absurd h
+  plain_leaves x EndUpdate h = absurd h
   plain_leaves x BumpToken h = absurd h
   plain_leaves x (LoadCounter token worker counter) h = absurd h
 
@@ -142,9 +142,9 @@ module _ (first second : ℕ) (c : Setup) where
         record {
           domain = goes.0.reports ∙ k.domain;
           workers = k.workers;
-          token = ap (λ steps. (tables c steps).token) goes.1 ∙ k.token;
-          passed = subst (λ steps. Passes (tables c steps).passed r.counters) (sym goes.1)
-              (passed_now n token (tables c y.1).passed r k.workers k.passed through (lets_pass token counter) (λ e. subst (IsPast token) found (lets_past token counter e)));
+          token = ap (λ steps. (state_after c steps).token) goes.1 ∙ k.token;
+          passed = subst (λ steps. Passes (state_after c steps).passed r.counters) (sym goes.1)
+              (passed_now n token (state_after c y.1).passed r k.workers k.passed through (lets_pass token counter) (λ e. subst (IsPast token) found (lets_past token counter e)));
         },
         found,
       )
@@ -164,7 +164,7 @@ module _ (first second : ℕ) (c : Setup) where
 
   checked : (x z : Traced Memory) (r : Registry) (token : ℕ) (result : Result (Unit {0}) Busy) → Shows x r → Checks does c x token result z → looks IsFirstByCounter r token result r × Shows z r
   checked x z r token result k (inl h) =
-      let old : Passes token r.counters = λ w low. older_past token (tables c x.1).passed (slice_index r.counters w) h.0 (k.passed w low) in
+      let old : Passes token r.counters = λ w low. older_past token (state_after c x.1).passed (slice_index r.counters w) h.0 (k.passed w low) in
       (subst (λ a. looks IsFirstByCounter r token a r) (sym h.1) (none_holds token r old, refl), subst (λ y. Shows y r) (sym h.2) k)
   checked x z r token (Ok passed) k (inr h) =
       let all = asked c.workers token x z r k h.1 in
@@ -201,13 +201,13 @@ module _ (first second : ℕ) (c : Setup) where
   kept : (x z : Traced Memory) (r w : Registry) → Shows z w → IsCarried Shows same_name x r z w
   kept x z r w k = (k, λ m n e. e)
 
-  pub carries : Carries (by_writer does c) counting Shows same_name
+  pub carries : Carries (by_writer does c) counter_transitions Shows same_name
   carries = record {
     token = λ x r k. sym k.token;
     checks = λ x z r m n result k e h.
         let now = checked x z r m result k h in
         (r, subst (λ u. looks IsFirstByCounter r u result r) e now.0, kept x z r r now.1);
-    begins = λ x z r k h. (r, refl, kept x z r r (stays x z r (Opens h.0) tt k h.1));
+    begins = λ x z r k h. (r, refl, kept x z r r (stays x z r (BeginUpdate h.0) tt k h.1));
     unlinks = λ x z r m k h.
         let p = stored h.0 x h.1 r k h.6 in
         let q = stays h.1 h.2 r (StoreFirst h.3 h.4) tt p h.8 in
@@ -216,19 +216,19 @@ module _ (first second : ℕ) (c : Setup) where
         (w, r.token + 1, (refl, refl), h.10 ∙ now.token, kept x z r w now);
     ends = λ x z r k h.
         let p = stored h.0 x h.1 r k h.2 in
-        (r, refl, kept x z r r (stays h.1 z r Closes tt p h.3));
+        (r, refl, kept x z r r (stays h.1 z r EndUpdate tt p h.3));
   }
 
 -- no token has passed that wasn't started
-pub passed_within : (c : Setup) (steps : List WriterStep) → IsWritten c steps → (tables c steps).passed ≤ (tables c steps).token
+pub passed_within : (c : InitialState) (steps : List WriterStep) → IsWritten c steps → (state_after c steps).passed ≤ (state_after c steps).token
 passed_within c [] h = omega arith
 passed_within c (StoreFirst i w ∷ steps) h = passed_within c steps h.1
 passed_within c (StoreSecond j w ∷ steps) h = passed_within c steps h.1
-passed_within c (Opens change ∷ steps) h = passed_within c steps h.1
-passed_within c (Closes ∷ steps) h = passed_within c steps h.1
+passed_within c (BeginUpdate change ∷ steps) h = passed_within c steps h.1
+passed_within c (EndUpdate ∷ steps) h = passed_within c steps h.1
 passed_within c (BumpToken ∷ steps) h = let le = passed_within c steps h.1 in omega (arith, le)
 passed_within c (LoadCounter token worker counter ∷ steps) h =
-    within (lets_pass token counter && eqb (suc worker) c.workers) (tables c steps).passed token (tables c steps).token (passed_within c steps h.1) h.0.0.2
+    within (lets_pass token counter && eqb (suc worker) c.workers) (state_after c steps).passed token (state_after c steps).token (passed_within c steps h.1) h.0.0.2
   where
     within : (b : Bool) (p t n : ℕ) → p ≤ n → t ≤ n → cond b (max p t) p ≤ n
     within true p t n le new = max-le le new

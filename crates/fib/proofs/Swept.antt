@@ -19,8 +19,8 @@ use Rattle.lpm_sweep.proofs.Room.{room_grown}
 use Rattle.lpm_sweep.proofs.Numbered.{tied}
 use Rattle.qsbr.specs.Registry.{Registry}
 use Rattle.lpm_writer.specs.declared.plain_memory.PlainMemory.{PlainMemory}
-use Rattle.lpm_writer.specs.declared.ledger.Ledger.{Ledger}
-use Rattle.lpm_writer.specs.declared.books.Books.{Books}
+use Rattle.lpm_writer.specs.declared.control.ControlState.{ControlState}
+use Rattle.lpm_writer.specs.declared.pool.GroupPool.{GroupPool}
 use Rattle.fib.specs.Fib.{IsSound}
 use Rattle.fib.proofs.Begun.{sound_begun}
 
@@ -41,11 +41,11 @@ module _ (f s : ℕ) (config : Config) (R : RuleMap) (versions : ℕ) (blocks F 
   abbrev pub words : Words
   words = record { firsts = F; seconds = S ++ replicate more 0 }
 
-  abbrev pub books : Books
-  books = record { groups = groups; queue = record { items = []; capacity = config.groups }; passed = 0 }
+  abbrev pub pool : GroupPool
+  pool = record { groups = groups; queue = record { items = []; capacity = config.groups }; passed = 0 }
 
-  abbrev pub ledger : Ledger f s
-  ledger = record { config = config; rules = record { rules = R; max = config.rules }; books = books; versions = versions }
+  abbrev pub control : ControlState f s
+  control = record { config = config; rules = record { rules = R; max = config.rules }; pool = pool; versions = versions }
 
   abbrev pub domain : Registry
   domain = record { token = config.first_token; counters = replicate config.workers 0 }
@@ -75,21 +75,21 @@ module _ (f s : ℕ) (config : Config) (R : RuleMap) (versions : ℕ) (blocks F 
       words = long ∙ ap (λ n. n * 2 ^ s) (sym size);
     }
 
-    same_books : books ≡ record { groups = groups; queue = record { items = []; capacity = length groups }; passed = 0 }
+    same_books : pool ≡ record { groups = groups; queue = record { items = []; capacity = length groups }; passed = 0 }
     same_books = λ i. record { groups = groups; queue = record { items = []; capacity = sym size i }; passed = 0 }
 
-    sound : IsSound f s ledger memory
-    sound = sound_begun f s config ledger memory shape limits refl refl count same_books size has_room
+    sound : IsSound f s control memory
+    sound = sound_begun f s config control memory shape limits refl refl count same_books size has_room
         (limbo_count-of_blocks blocks free) refl
         (room_grown f s more R F S represents)
         (tied free blocks f F represents.table.words.firsts_len numbered)
 
     -- a ledger and a memory that are such
-    pub sound_swept : (l : Ledger f s) (m : PlainMemory f s) → l ≡ ledger → m.cells.firsts ≡ F
+    pub sound_swept : (l : ControlState f s) (m : PlainMemory f s) → l ≡ control → m.cells.firsts ≡ F
         → m.cells.seconds ≡ S ++ replicate more 0 → m.domain ≡ domain → IsSound f s l m
     sound_swept l m same firsts seconds reports =
         let is : memory ≡ m = λ i. record {
           cells = record { firsts = sym firsts i; seconds = sym seconds i };
           domain = sym reports i;
         } in
-        subst (λ (z : Ledger f s). IsSound f s z m) (sym same) (subst (λ (z : PlainMemory f s). IsSound f s ledger z) is sound)
+        subst (λ (z : ControlState f s). IsSound f s z m) (sym same) (subst (λ (z : PlainMemory f s). IsSound f s control z) is sound)

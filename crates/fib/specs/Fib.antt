@@ -7,13 +7,13 @@ use Rattle.qsbr.specs.Counters.{Passes}
 use Rattle.qsbr.specs.Registry.{Registry}
 use Rattle.lpm_limits.specs.declared.config.Config.{Config}
 use Rattle.fib_model.specs.declared.command.Report.{Report}
-use Rattle.fib_model.specs.Counting.{by_counters, opened}
+use Rattle.fib_model.specs.Counting.{by_counters, initial_by_counters}
 use Rattle.fib_model.specs.State.{State}
 use Rattle.lpm_trace.specs.declared.step.WriterStep.{WriterStep}
-use Rattle.lpm_trace.specs.Tables.{Setup, tables}
+use Rattle.lpm_trace.specs.States.{InitialState, state_after}
 use Rattle.lpm_writer.specs.declared.plain_memory.PlainMemory.{PlainMemory}
 use Rattle.lpm_writer.specs.Plain.{PlainDid}
-use Rattle.lpm_writer.specs.declared.ledger.Ledger.{Ledger}
+use Rattle.lpm_writer.specs.declared.control.ControlState.{ControlState}
 use Rattle.lpm_writer.specs.Resting.{IsResting, state_of}
 
 -- the limits, and what outcomes depend on; an unlinking that waits goes by its token
@@ -22,40 +22,40 @@ pub record FibState : Type 0 where
   pub table : State Registry
 
 -- a table that was just opened
-abbrev pub fresh : Config → FibState
-fresh c = record { config = c; table = opened c }
+abbrev pub initial_fib : Config → FibState
+initial_fib c = record { config = c; table = initial_by_counters c }
 
 -- a table that was just opened with these rules, as version n
-abbrev pub opened_at : Config → RuleMap → ℕ → FibState
-opened_at c R n = record { config = c; table = record (opened c) { rules = R; begun = n } }
+abbrev pub initial_fib_at : Config → RuleMap → ℕ → FibState
+initial_fib_at c R n = record { config = c; table = record (initial_by_counters c) { rules = R; begun = n } }
 
 -- the same, as version 0
-abbrev pub opened_with : Config → RuleMap → FibState
-opened_with c R = opened_at c R 0
+abbrev pub initial_fib_with : Config → RuleMap → FibState
+initial_fib_with c R = initial_fib_at c R 0
 
 -- the table after a report of this worker
-abbrev pub told : Report → ℕ → FibState → FibState
-told report worker f =
+abbrev pub state_after_report : Report → ℕ → FibState → FibState
+state_after_report report worker f =
     let readers = by_counters.told report worker f.table.readers in
     record f { table = record f.table { readers = readers } }
 
 -- what outcomes depend on, by the writer's ledger and the memory
-abbrev pub table_of : {first second : ℕ} → Ledger first second → PlainMemory first second
+abbrev pub table_of : {first second : ℕ} → ControlState first second → PlainMemory first second
     → State Registry
-table_of ledger memory = state_of ledger.rules.rules memory.domain ledger.books ledger.versions
+table_of control memory = state_of control.rules.rules memory.domain control.pool control.versions
 
 -- these steps of the writer may have led from the opening to the memory, and after them the ledger
 -- rests; no worker holds what was given up under a token whose check has passed
-pub record IsKept (first second : ℕ) (c : Setup) (steps : List WriterStep)
-    (ledger : Ledger first second) (memory : PlainMemory first second) : Type 0 where
+pub record IsKept (first second : ℕ) (c : InitialState) (steps : List WriterStep)
+    (control : ControlState first second) (memory : PlainMemory first second) : Type 0 where
   pub did : PlainDid first second memory.cells memory.domain c steps
-  pub rests : IsResting first second c steps ledger.config ledger.rules ledger.books ledger.versions
-  pub passed : Passes (tables c steps).passed memory.domain.counters
+  pub rests : IsResting first second c steps control.config control.rules control.pool control.versions
+  pub passed : Passes (state_after c steps).passed memory.domain.counters
 
 -- some opening and steps have led here
-abbrev pub IsSound : (first second : ℕ) → Ledger first second → PlainMemory first second → Type 0
-IsSound first second ledger memory =
-    (c : Setup) × (steps : List WriterStep) × IsKept first second c steps ledger memory
+abbrev pub IsSound : (first second : ℕ) → ControlState first second → PlainMemory first second → Type 0
+IsSound first second control memory =
+    (c : InitialState) × (steps : List WriterStep) × IsKept first second c steps control memory
 
 -- ---- a state as pairs, which comparisons of tables go by
 

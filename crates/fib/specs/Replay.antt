@@ -10,9 +10,9 @@ use Rattle.fib_model.specs.declared.command.Command.{Command}
 use Rattle.fib_model.specs.declared.command.Outcome.{Outcome}
 use Rattle.fib_model.specs.declared.event.Event.{Event}
 use Rattle.fib_model.specs.State.{State}
-use Rattle.fib_model.specs.Outcomes.{Log, Runs, logged, groups_in_use}
-use Rattle.fib_model.specs.Counting.{by_counters, opened}
-use Rattle.fib_model.specs.Textbook.{textbook, by_intervals, beginning}
+use Rattle.fib_model.specs.Outcomes.{Log, Runs, log_after, groups_in_use}
+use Rattle.fib_model.specs.Counting.{by_counters, initial_by_counters}
+use Rattle.fib_model.specs.Textbook.{textbook, by_intervals, initial_by_events}
 use Rattle.fib_model.specs.History.{history, last_of}
 use Rattle.fib_model.specs.Laws.{Agrees}
 use Rattle.fib.specs.declared.replay.Replay.{Replay}
@@ -22,9 +22,9 @@ use Rattle.fib.specs.declared.replay.Replay.{Replay}
 abbrev pub GoesOn : (first second : ℕ) → Config → State Registry → List (Command first second)
     → List Outcome → State Registry → Type 0
 GoesOn first second c x commands outcomes z =
-    (log : Log first second) → Runs by_counters first second c (opened c) log x
+    (log : Log first second) → Runs by_counters first second c (initial_by_counters c) log x
     → (y : State (List Event))
-    × Runs (by_intervals c) first second c beginning (logged log commands outcomes) y × Agrees c z y
+    × Runs (by_intervals c) first second c initial_by_events (log_after log commands outcomes) y × Agrees c z y
 
 -- a table of these limits that is so answers the addresses and counts like this
 pub record IsAsked (first second : ℕ) (c : Config) (z : State Registry) (addrs : List ℕ) (r : Replay)
@@ -42,7 +42,7 @@ pub record IsAsked (first second : ℕ) (c : Config) (z : State Registry) (addrs
 pub record IsReplay (first second : ℕ) (c : Config) (log : Log first second) (addrs : List ℕ)
     (r : Replay) : Type 0 where
   pub state : State (List Event)
-  pub runs : Runs (by_intervals c) first second c beginning log state
+  pub runs : Runs (by_intervals c) first second c initial_by_events log state
   pub hops : AreLongestHops (first + second) (last_of (history log)) addrs r.hops.items
   pub rules : r.rules ≡ len (last_of (history log))
   pub versions : r.versions ≡ length (history log)

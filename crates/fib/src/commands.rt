@@ -1,7 +1,7 @@
 //! Commands to a table, one and many.
 
 ghost use Rattle.std.specs.Prelude.{◌≡◌, ℕ, [], ◌∷◌, List, length, IfOk, OnErr};
-ghost use Rattle.fib_model.specs.Outcomes.{Does, Reports, Runs, logged};
+ghost use Rattle.fib_model.specs.Outcomes.{Does, Reports, Runs, log_after};
 ghost use Rattle.fib_model.specs.Counting.{by_counters};
 ghost use Rattle.fib.specs.Replay.{GoesOn};
 
@@ -65,7 +65,7 @@ impl<const FIRST: u32, const SECOND: u32> Fib<FIRST, SECOND> {
     ) -> Result<Vec<Outcome>, AllocError>
         ensures as_many { IfOk result (λ v. length v.items ≡ length commands.now) }
         ensures runs { IfOk result (λ v. Runs by_counters FIRST SECOND self.old.config
-            self.old.table (logged [] commands.now v.items) self.new.table) }
+            self.old.table (log_after [] commands.now v.items) self.new.table) }
         ensures textbook { IfOk result (λ v. GoesOn FIRST SECOND self.old.config self.old.table
             commands.now v.items self.new.table) }
         ensures config { self.new.config ≡ self.old.config }

@@ -8,8 +8,8 @@ ghost use Rattle.lpm_rules.specs.Listed.{AreInOrder, rules_of};
 ghost use Rattle.lpm_rules.specs.Walking.{IsNextRule};
 ghost use Rattle.lpm_limits.specs.Limits.{IsConfig};
 ghost use Rattle.fib_model.specs.Outcomes.{groups_in_use, Adds, Deletes, Flushes, Frees};
-ghost use Rattle.fib_model.specs.Counting.{by_counters, counting};
-ghost use Rattle.fib.specs.Fib.{IsSound, fresh, opened_at, opened_with, table_of, told};
+ghost use Rattle.fib_model.specs.Counting.{by_counters, counter_transitions};
+ghost use Rattle.fib.specs.Fib.{IsSound, initial_fib, initial_fib_at, initial_fib_with, table_of, state_after_report};
 ghost use Rattle.fib_model.specs.declared.command.Report.TheVariants as report;
 
 use super::OpenError;
@@ -18,7 +18,7 @@ use defer_queue::Reclaimed;
 use lpm_bits::{Hop, Prefix};
 use lpm_groups::Counts;
 use lpm_rules::{Put, Rule, Rules};
-use lpm_writer::{Ledger, PlainMemory, add, delete, flush, open, reclaim};
+use lpm_writer::{ControlState, PlainMemory, add, delete, flush, open, reclaim};
 use qsbr::{Config, Refusal};
 use std::alloc::Global;
 use std::marker::Model;
@@ -30,7 +30,7 @@ use std::marker::Model;
 /// `Exhausted` where fewer tokens than groups are left, or no version.
 #[derive(Drop)]
 pub struct Fib<const FIRST: u32, const SECOND: u32> {
-    ledger: Ledger<FIRST, SECOND>,
+    control: ControlState<FIRST, SECOND>,
     memory: PlainMemory<FIRST, SECOND>,
 }
 
@@ -42,11 +42,11 @@ impl<const FIRST: u32, const SECOND: u32> Model for Fib<FIRST, SECOND> {
     ghost coded = { coded_fib_state };
 
     ghost view = { λ a. record {
-      config = a.ledger.config;
-      table = table_of a.ledger a.memory;
+      config = a.control.config;
+      table = table_of a.control a.memory;
     } };
 
-    ghost invariant = { λ a. IsSound FIRST SECOND a.ledger a.memory };
+    ghost invariant = { λ a. IsSound FIRST SECOND a.control a.memory };
 }
 
 impl<const FIRST: u32, const SECOND: u32> Fib<FIRST, SECOND> {
@@ -54,13 +54,13 @@ impl<const FIRST: u32, const SECOND: u32> Fib<FIRST, SECOND> {
     /// ends with `Memory` where there is no room for the words, the groups or the workers.
     pub fn open(alloc: Global, config: Config) -> Result<Self, OpenError>
         requires { IsShape FIRST SECOND }
-        ensures opened { IfOk result (λ fib. fib ≡ fresh config) }
+        ensures opened { IfOk result (λ fib. fib ≡ initial_fib config) }
         ensures limits { IfOk result (λ _. IsConfig config) }
         ensures bad_config { IfErr result
             (λ error. (error ≡ OpenError.BadConfig) ↔ (¬ IsConfig config)) }
     {
-        let (ledger, memory) = open(alloc, config)?;
-        Ok(Fib { ledger, memory })
+        let (control, memory) = open(alloc, config)?;
+        Ok(Fib { control, memory })
     }
 
     /// Opens a table with the rules of a list, which is in the order of its prefixes
@@ -80,7 +80,7 @@ impl<const FIRST: u32, const SECOND: u32> Fib<FIRST, SECOND> {
         requires shape { IsShape FIRST SECOND }
         requires sorted { AreInOrder rules.now }
         ensures opened { IfOk result (λ o. IfSome o (λ fib.
-            fib ≡ opened_with config (rules_of rules.now))) }
+            fib ≡ initial_fib_with config (rules_of rules.now))) }
         ensures rules_fit { IfOk result (λ o. IfSome o (λ _.
             map.len (rules_of rules.now) ≤ config.rules)) }
         ensures groups_fit { IfOk result (λ o. IfSome o (λ _.
@@ -94,7 +94,7 @@ impl<const FIRST: u32, const SECOND: u32> Fib<FIRST, SECOND> {
     {
         config.check()?;
         match parts_of(alloc, config, rules)? {
-            Some((ledger, memory)) => Ok(Some(Fib { ledger, memory })),
+            Some((control, memory)) => Ok(Some(Fib { control, memory })),
             None => Ok(None),
         }
     }
@@ -118,7 +118,7 @@ impl<const FIRST: u32, const SECOND: u32> Fib<FIRST, SECOND> {
         requires max { rules.max ≡ config.rules }
         requires count { versions ≤ 2 ^ 61 }
         ensures opened { IfOk result (λ o. IfSome o (λ fib.
-            fib ≡ opened_at config rules.entry.rules versions)) }
+            fib ≡ initial_fib_at config rules.entry.rules versions)) }
         ensures rules_fit { IfOk result (λ o. IfSome o (λ _.
             map.len rules.entry.rules ≤ config.rules)) }
         ensures groups_fit { IfOk result (λ o. IfSome o (λ _.
@@ -132,26 +132,26 @@ impl<const FIRST: u32, const SECOND: u32> Fib<FIRST, SECOND> {
     {
         config.check()?;
         match parts_at(alloc, config, rules, versions, sorted)? {
-            Some((ledger, memory)) => Ok(Some(Fib { ledger, memory })),
+            Some((control, memory)) => Ok(Some(Fib { control, memory })),
             None => Ok(None),
         }
     }
 
     /// The writer's ledger and the memory of one thread, for a table that goes on in another memory.
-    pub fn into_parts(self) -> (Ledger<FIRST, SECOND>, PlainMemory<FIRST, SECOND>)
+    pub fn into_parts(self) -> (ControlState<FIRST, SECOND>, PlainMemory<FIRST, SECOND>)
         ensures sound { IsSound FIRST SECOND result.0 result.1 }
         ensures config { result.0.config ≡ self.entry.config }
         ensures table { table_of result.0 result.1 ≡ self.entry.table }
     {
-        let Fib { ledger, memory } = self;
-        (ledger, memory)
+        let Fib { control, memory } = self;
+        (control, memory)
     }
 
     /// The next hop of the rule of this very prefix; none where it has no rule.
     pub fn get(&self, prefix: &Prefix<FIRST, SECOND>) -> Option<Hop>
         ensures { result ≡ map.get self.now.table.rules prefix.now }
     {
-        self.ledger.rules.get(prefix)
+        self.control.rules.get(prefix)
     }
 
     /// The rule that comes next after a prefix in the order of prefixes, whether the prefix has a
@@ -159,21 +159,21 @@ impl<const FIRST: u32, const SECOND: u32> Fib<FIRST, SECOND> {
     pub fn next_rule(&self, after: Option<Prefix<FIRST, SECOND>>) -> Option<Rule<FIRST, SECOND>>
         ensures { IsNextRule self.now.table.rules after.entry result }
     {
-        self.ledger.rules.next_rule(after)
+        self.control.rules.next_rule(after)
     }
 
     /// The number of rules.
     pub fn rules(&self) -> usize
         ensures { result ≡ map.len self.now.table.rules }
     {
-        self.ledger.rules.len()
+        self.control.rules.len()
     }
 
     /// The number of changes that made a version of the rule list.
     pub fn versions(&self) -> u64
         ensures { result ≡ self.now.table.begun }
     {
-        self.ledger.versions
+        self.control.versions
     }
 
     /// The token number: the first token and, for each unlinking, one more.
@@ -189,7 +189,7 @@ impl<const FIRST: u32, const SECOND: u32> Fib<FIRST, SECOND> {
         ensures value { result ≡ self.now.config }
         ensures limits { IsConfig result }
     {
-        self.ledger.config
+        self.control.config
     }
 
     /// How many groups are in use, in limbo and free.
@@ -198,7 +198,7 @@ impl<const FIRST: u32, const SECOND: u32> Fib<FIRST, SECOND> {
         ensures limbo { result.limbo ≡ length self.now.table.limbo }
         ensures all { result.in_use + result.limbo + result.free ≡ self.now.config.groups }
     {
-        self.ledger.books.groups.counts()
+        self.control.pool.groups.counts()
     }
 
     /// The next hop of the longest rule that covers the address, by one read or two.
@@ -218,11 +218,11 @@ impl<const FIRST: u32, const SECOND: u32> Fib<FIRST, SECOND> {
     /// its block, no group is free, and the oldest in limbo is held or there is none. It names the
     /// worker that holds that one. After a refusal the table is as it was.
     pub fn add(&mut self, prefix: &Prefix<FIRST, SECOND>, hop: Hop) -> Result<Put, Refusal>
-        ensures adds { Adds counting FIRST SECOND self.old.config self.old.table
+        ensures adds { Adds counter_transitions FIRST SECOND self.old.config self.old.table
             prefix.now hop result self.new.table }
         ensures config { self.new.config ≡ self.old.config }
     {
-        add(&mut self.ledger, &mut self.memory, prefix, hop)
+        add(&mut self.control, &mut self.memory, prefix, hop)
     }
 
     /// Deletes the rule of this prefix, and returns its next hop. Its addresses go to the longest
@@ -230,30 +230,30 @@ impl<const FIRST: u32, const SECOND: u32> Fib<FIRST, SECOND> {
     ///
     /// The refusals: `NoSuchRule`, where the prefix has no rule, and else `Exhausted`.
     pub fn delete(&mut self, prefix: &Prefix<FIRST, SECOND>) -> Result<Hop, Refusal>
-        ensures deletes { Deletes counting FIRST SECOND self.old.config self.old.table
+        ensures deletes { Deletes counter_transitions FIRST SECOND self.old.config self.old.table
             prefix.now result self.new.table }
         ensures config { self.new.config ≡ self.old.config }
     {
-        delete(&mut self.ledger, &mut self.memory, prefix)
+        delete(&mut self.control, &mut self.memory, prefix)
     }
 
     /// Deletes all rules, as one version, and returns how many there were. With none nothing
     /// changes, and else `Exhausted` is the only refusal.
     pub fn flush(&mut self) -> Result<usize, Refusal>
-        ensures flushes { Flushes counting FIRST SECOND self.old.config self.old.table
+        ensures flushes { Flushes counter_transitions FIRST SECOND self.old.config self.old.table
             result self.new.table }
         ensures config { self.new.config ≡ self.old.config }
     {
-        flush(&mut self.ledger, &mut self.memory)
+        flush(&mut self.control, &mut self.memory)
     }
 
     /// Frees groups that wait in limbo, from the oldest on: at most `max`, up to the first that a
     /// worker holds. It returns how many were freed, and the worker that stopped it.
     pub fn reclaim(&mut self, max: usize) -> Reclaimed
-        ensures frees { Frees counting self.old.table max result self.new.table }
+        ensures frees { Frees counter_transitions self.old.table max result self.new.table }
         ensures config { self.new.config ≡ self.old.config }
     {
-        reclaim(&mut self.ledger, &mut self.memory, max)
+        reclaim(&mut self.control, &mut self.memory, max)
     }
 
     /// Whether the worker is online.
@@ -268,7 +268,7 @@ impl<const FIRST: u32, const SECOND: u32> Fib<FIRST, SECOND> {
     pub fn online(&mut self, worker: usize)
         requires worker { worker < self.old.config.workers }
         requires offline { ¬ by_counters.is_online self.old.table.readers worker }
-        ensures { self.new ≡ told report.Online worker self.old }
+        ensures { self.new ≡ state_after_report report.Online worker self.old }
     {
         self.memory.domain.online(worker);
     }
@@ -277,7 +277,7 @@ impl<const FIRST: u32, const SECOND: u32> Fib<FIRST, SECOND> {
     pub fn offline(&mut self, worker: usize)
         requires worker { worker < self.old.config.workers }
         requires online { by_counters.is_online self.old.table.readers worker }
-        ensures { self.new ≡ told report.Offline worker self.old }
+        ensures { self.new ≡ state_after_report report.Offline worker self.old }
     {
         self.memory.domain.offline(worker);
     }
@@ -286,7 +286,7 @@ impl<const FIRST: u32, const SECOND: u32> Fib<FIRST, SECOND> {
     pub fn quiescent(&mut self, worker: usize)
         requires worker { worker < self.old.config.workers }
         requires online { by_counters.is_online self.old.table.readers worker }
-        ensures { self.new ≡ told report.Quiescent worker self.old }
+        ensures { self.new ≡ state_after_report report.Quiescent worker self.old }
     {
         self.memory.domain.quiescent(worker);
     }

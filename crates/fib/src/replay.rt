@@ -3,7 +3,7 @@
 ghost use Rattle.std.specs.Prelude.{◌≡◌, ◌+◌, ◌^◌, ◌<◌, ◌↔◌, [], All, IfErr, IfOk, length};
 ghost use Rattle.lpm_bits.specs.Widths.{IsShape};
 ghost use Rattle.lpm_limits.specs.Limits.{IsConfig};
-ghost use Rattle.fib_model.specs.Outcomes.{logged};
+ghost use Rattle.fib_model.specs.Outcomes.{log_after};
 ghost use Rattle.fib.specs.Replay.{GoesOn, IsAsked, IsReplay};
 
 use super::{Fib, OpenError};
@@ -45,7 +45,7 @@ impl<const FIRST: u32, const SECOND: u32> Fib<FIRST, SECOND> {
         requires addrs { All (λ a. a < 2 ^ (FIRST + SECOND)) addrs.now }
         ensures as_many { IfOk result (λ r. length r.outcomes.items ≡ length commands.now) }
         ensures replay { IfOk result (λ r. IsReplay FIRST SECOND config
-            (logged [] commands.now r.outcomes.items) addrs.now r) }
+            (log_after [] commands.now r.outcomes.items) addrs.now r) }
         ensures limits { IfOk result (λ _. IsConfig config) }
         ensures bad_config { IfErr result
             (λ error. (error ≡ OpenError.BadConfig) ↔ (¬ IsConfig config)) }

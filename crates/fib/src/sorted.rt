@@ -13,7 +13,7 @@ ghost use Rattle.lpm_rules.specs.Listed.{AreInOrder, rules_of};
 ghost use Rattle.lpm_update.specs.Represents.{Represents};
 ghost use Rattle.lpm_sweep.specs.Swept.{AreNumbered, words_of};
 ghost use Rattle.fib_model.specs.Outcomes.{groups_in_use};
-ghost use Rattle.fib_model.specs.Counting.{opened};
+ghost use Rattle.fib_model.specs.Counting.{initial_by_counters};
 ghost use Rattle.fib.specs.Fib.{IsSound, table_of};
 
 use defer_queue::DeferQueue;
@@ -21,7 +21,7 @@ use lpm_cells::{Entry, PlainCells};
 use lpm_groups::Groups;
 use lpm_rules::{Rule, Rules, count_rules};
 use lpm_sweep::{Swept, sweep};
-use lpm_writer::{Books, Ledger, PlainMemory};
+use lpm_writer::{ControlState, GroupPool, PlainMemory};
 use qsbr::{Config, Domain};
 use std::alloc::{AllocError, Global};
 
@@ -75,13 +75,13 @@ pub fn opened_ledger<const FIRST: u32, const SECOND: u32>(
     rules: Rules<FIRST, SECOND>,
     versions: u64,
     blocks: &[usize],
-) -> Result<Ledger<FIRST, SECOND>, AllocError>
+) -> Result<ControlState<FIRST, SECOND>, AllocError>
     requires limits { IsConfig config }
     requires few { length blocks.now ≤ config.groups }
     ensures { IfOk result (λ l. l ≡ record {
       config = config;
       rules = rules.entry;
-      books = record {
+      pool = record {
         groups = map Linked blocks.now ++ replicate (config.groups - length blocks.now) Free;
         queue = record { items = []; capacity = config.groups };
         passed = 0;
@@ -91,15 +91,15 @@ pub fn opened_ledger<const FIRST: u32, const SECOND: u32>(
 {
     let groups = Groups::of_blocks(alloc, blocks, config.groups)?;
     let queue = DeferQueue::new(alloc, config.groups)?;
-    let books = Books {
+    let pool = GroupPool {
         groups,
         queue,
         passed: 0,
     };
-    Ok(Ledger {
+    Ok(ControlState {
         config,
         rules,
-        books,
+        pool,
         versions,
     })
 }
@@ -112,7 +112,7 @@ fn parts_with<const FIRST: u32, const SECOND: u32>(
     rules: Rules<FIRST, SECOND>,
     versions: u64,
     swept: Swept,
-) -> Result<(Ledger<FIRST, SECOND>, PlainMemory<FIRST, SECOND>), AllocError>
+) -> Result<(ControlState<FIRST, SECOND>, PlainMemory<FIRST, SECOND>), AllocError>
     requires shape { IsShape FIRST SECOND }
     requires limits { IsConfig config }
     requires max { rules.max ≡ config.rules }
@@ -125,16 +125,16 @@ fn parts_with<const FIRST: u32, const SECOND: u32>(
     ensures sound { IfOk result (λ t. IsSound FIRST SECOND t.0 t.1) }
     ensures config { IfOk result (λ t. t.0.config ≡ config) }
     ensures table { IfOk result (λ t. table_of t.0 t.1
-        ≡ record (opened config) { rules = rules.entry.rules; begun = versions }) }
+        ≡ record (initial_by_counters config) { rules = rules.entry.rules; begun = versions }) }
 {
     let Swept {
         first_words,
         second_words,
         blocks,
     } = swept;
-    let ledger = opened_ledger(alloc, config, rules, versions, &blocks)?;
+    let control = opened_ledger(alloc, config, rules, versions, &blocks)?;
     let memory = memory_of(alloc, config, first_words, second_words)?;
-    Ok((ledger, memory))
+    Ok((control, memory))
 }
 
 /// The ledger and the memory of a table that opens with the rules of a list, which is in the order of
@@ -143,14 +143,14 @@ pub(crate) fn parts_of<const FIRST: u32, const SECOND: u32>(
     alloc: Global,
     config: Config,
     rules: &[Rule<FIRST, SECOND>],
-) -> Result<Option<(Ledger<FIRST, SECOND>, PlainMemory<FIRST, SECOND>)>, AllocError>
+) -> Result<Option<(ControlState<FIRST, SECOND>, PlainMemory<FIRST, SECOND>)>, AllocError>
     requires shape { IsShape FIRST SECOND }
     requires limits { IsConfig config }
     requires sorted { AreInOrder rules.now }
     ensures sound { IfOk result (λ o. IfSome o (λ t. IsSound FIRST SECOND t.0 t.1)) }
     ensures config { IfOk result (λ o. IfSome o (λ t. t.0.config ≡ config)) }
     ensures table { IfOk result (λ o. IfSome o (λ t. table_of t.0 t.1
-        ≡ record (opened config) { rules = rules_of rules.now })) }
+        ≡ record (initial_by_counters config) { rules = rules_of rules.now })) }
     ensures rules_fit { IfOk result (λ o. IfSome o (λ _.
         map.len (rules_of rules.now) ≤ config.rules)) }
     ensures groups_fit { IfOk result (λ o. IfSome o (λ _.
@@ -179,7 +179,7 @@ pub(crate) fn parts_at<const FIRST: u32, const SECOND: u32>(
     rules: Rules<FIRST, SECOND>,
     versions: u64,
     sorted: &[Rule<FIRST, SECOND>],
-) -> Result<Option<(Ledger<FIRST, SECOND>, PlainMemory<FIRST, SECOND>)>, AllocError>
+) -> Result<Option<(ControlState<FIRST, SECOND>, PlainMemory<FIRST, SECOND>)>, AllocError>
     requires shape { IsShape FIRST SECOND }
     requires limits { IsConfig config }
     requires sorted { AreInOrder sorted.now }
@@ -189,7 +189,7 @@ pub(crate) fn parts_at<const FIRST: u32, const SECOND: u32>(
     ensures sound { IfOk result (λ o. IfSome o (λ t. IsSound FIRST SECOND t.0 t.1)) }
     ensures config { IfOk result (λ o. IfSome o (λ t. t.0.config ≡ config)) }
     ensures table { IfOk result (λ o. IfSome o (λ t. table_of t.0 t.1
-        ≡ record (opened config) { rules = rules.entry.rules; begun = versions })) }
+        ≡ record (initial_by_counters config) { rules = rules.entry.rules; begun = versions })) }
     ensures rules_fit { IfOk result (λ o. IfSome o (λ _.
         map.len rules.entry.rules ≤ config.rules)) }
     ensures groups_fit { IfOk result (λ o. IfSome o (λ _.

@@ -14,8 +14,8 @@ use Rattle.qsbr.specs.Intervals.{IsRunningSince}
 use Rattle.fib_model.specs.Intervals.{by_reports}
 use Rattle.fib_model.specs.State.{State}
 use Rattle.fib_model.specs.Outcomes.{MayReport, Reports, Does, Log, Runs}
-use Rattle.fib_model.specs.Counting.{counting, by_counters, opened}
-use Rattle.fib_model.specs.Textbook.{textbook, by_intervals, beginning, event_of}
+use Rattle.fib_model.specs.Counting.{counter_transitions, by_counters, initial_by_counters}
+use Rattle.fib_model.specs.Textbook.{textbook, by_intervals, initial_by_events, event_of}
 use Rattle.fib_model.specs.Laws.{Agrees, CountersTellIntervals}
 use Rattle.fib_model.proofs.Holders.{Shows, IsName, online, held, shows_opened, shows_told}
 use Rattle.fib_model.proofs.Carrying.{Follows, AreFollowed, AreNamed, beside}
@@ -65,8 +65,8 @@ reports c s z E ps report w other shows names d = absurd d
 -- ---- runs
 
 module _ (f g : ℕ) (c : Config) (s z : State Registry) (E : List Event) (ps : List ℕ) (shows : Shows c s.readers E) (names : AreNamed (IsName c.first_token E) s.limbo ps) where
-  followed_by : AreFollowed counting (textbook c) (Shows c) (Names c) f g c s (beside s E ps)
-  followed_by = changes_carry_over Registry (List Event) counting (textbook c) (Shows c) (Names c) (counters_carry c) f g c s E ps shows names
+  followed_by : AreFollowed counter_transitions (textbook c) (Shows c) (Names c) f g c s (beside s E ps)
+  followed_by = changes_carry_over Registry (List Event) counter_transitions (textbook c) (Shows c) (Names c) (counters_carry c) f g c s E ps shows names
 
   step : (command : Command f g) (outcome : Outcome) → Does by_counters f g c s command outcome z → Tells c z (Does (by_intervals c) f g c (beside s E ps) command outcome)
   step (command.Add p h) (outcome.Put put) d = followed_by.adds z p h (Ok put) d
@@ -82,9 +82,9 @@ module _ (f g : ℕ) (c : Config) (s z : State Registry) (E : List Event) (ps : 
   step (command.Reclaim max) other d = absurd d
   step (command.Report report w) o d = reports c s z E ps report w o shows names d
 
-followed : (f g : ℕ) (c : Config) (log : Log f g) (z : State Registry) → 1 ≤ c.first_token → Runs by_counters f g c (opened c) log z
-    → Tells c z (Runs (by_intervals c) f g c beginning log)
-followed f g c [] z first r = subst (λ (x : State Registry). Tells c x (Runs (by_intervals c) f g c beginning [])) (sym r) ([], [], refl, shows_opened c first, tt)
+followed : (f g : ℕ) (c : Config) (log : Log f g) (z : State Registry) → 1 ≤ c.first_token → Runs by_counters f g c (initial_by_counters c) log z
+    → Tells c z (Runs (by_intervals c) f g c initial_by_events log)
+followed f g c [] z first r = subst (λ (x : State Registry). Tells c x (Runs (by_intervals c) f g c initial_by_events [])) (sym r) ([], [], refl, shows_opened c first, tt)
 followed f g c (done ∷ log) z first r =
     let before = followed f g c log r.0 first r.1 in
     let now = step f g c r.0 z before.0 before.1 before.3 before.4 done.0 done.1 r.2 in

@@ -16,7 +16,7 @@ use Rattle.qsbr.specs.Intervals.{IsRunningSince, IsHeldByWorker}
 use Rattle.fib_model.specs.Intervals.{begins, ends, by_reports, is_unlinking, unlinkings_before, unlinkings}
 use Rattle.qsbr.proofs.Places.{at_new, at_old, at_within, before_mono, before_old, before_next, count_more, count_same}
 use Rattle.qsbr.proofs.Running.{since_within, since_new, since_kept, since_cases, held_start, start_held}
-use Rattle.fib_model.specs.Counting.{by_counters, counter_of, opened}
+use Rattle.fib_model.specs.Counting.{by_counters, counter_of, initial_by_counters}
 use Rattle.fib_model.specs.Textbook.{event_of}
 use Rattle.fib_model.proofs.Frozen.{IsUnheld, counted, listed}
 
@@ -203,7 +203,7 @@ unheld c r E token place shows name none busy h = none busy ((held c r E token p
 
 -- ---- the beginning, an unlinking, a report
 
-pub shows_opened : (c : Config) → 1 ≤ c.first_token → Shows c (opened c).readers []
+pub shows_opened : (c : Config) → 1 ≤ c.first_token → Shows c (initial_by_counters c).readers []
 shows_opened c first = record {
   first = first;
   token = omega arith;

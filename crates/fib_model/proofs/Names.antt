@@ -5,7 +5,7 @@ use Rattle.lpm_limits.specs.declared.busy.Busy.{Busy}
 use Rattle.lpm_limits.specs.declared.config.Config.{Config}
 use Rattle.fib_model.specs.declared.event.Event.{Event}
 use Rattle.fib_model.specs.declared.event.Event.TheVariants.{Unlinking}
-use Rattle.fib_model.specs.Counting.{counting}
+use Rattle.fib_model.specs.Counting.{counter_transitions}
 use Rattle.fib_model.specs.Textbook.{textbook}
 use Rattle.fib_model.proofs.Carrying.{Carries, IsCarried, AreNamed}
 use Rattle.fib_model.proofs.Carried.{named_kept}
@@ -21,12 +21,12 @@ names_newer c e E ts ps = named_kept (IsName c.first_token E) (IsName c.first_to
 same : (c : Config) (r z : Registry) (E : List Event) → Shows c r E → z ≡ r → IsCarried (Shows c) (Names c) r E z E
 same c r z E shows is = (subst (λ x. Shows c x E) (sym is) shows, λ token place name. name)
 
-checks : (c : Config) (r z : Registry) (E : List Event) (token place : ℕ) (a : Result (Unit {0}) Busy) → Shows c r E → IsName c.first_token E token place → counting.checks r token a z
+checks : (c : Config) (r z : Registry) (E : List Event) (token place : ℕ) (a : Result (Unit {0}) Busy) → Shows c r E → IsName c.first_token E token place → counter_transitions.checks r token a z
     → (F : List Event) × (textbook c).checks E place a F × IsCarried (Shows c) (Names c) r E z F
 checks c r z E token place (Ok passed) shows name d = (E, (unheld c r E token place shows name d.0, refl), same c r z E shows d.1)
 checks c r z E token place (Err busy) shows name d = (E, ((held c r E token place busy shows name).0 d.0, refl), same c r z E shows d.1)
 
-unlinks : (c : Config) (r z : Registry) (E : List Event) (token : ℕ) → Shows c r E → counting.unlinks r token z
+unlinks : (c : Config) (r z : Registry) (E : List Event) (token : ℕ) → Shows c r E → counter_transitions.unlinks r token z
     → (F : List Event) × (place : ℕ) × (textbook c).unlinks E place F × IsName c.first_token F token place × IsCarried (Shows c) (Names c) r E z F
 unlinks c r z E token shows d = (
   Unlinking ∷ E,
@@ -36,7 +36,7 @@ unlinks c r z E token shows d = (
   (subst (λ x. Shows c x (Unlinking ∷ E)) (sym d.1) (shows_unlinked c r E shows), name_newer c.first_token Unlinking E),
 )
 
-pub counters_carry : (c : Config) → Carries counting (textbook c) (Shows c) (Names c)
+pub counters_carry : (c : Config) → Carries counter_transitions (textbook c) (Shows c) (Names c)
 counters_carry c = record {
   token = λ r E shows. shows.token;
   checks = λ r z E token place a. checks c r z E token place a;

@@ -14,7 +14,7 @@ use Rattle.fib_model.specs.declared.command.Report.{Report}
 use Rattle.fib_model.specs.declared.event.Event.{Event}
 use Rattle.fib_model.specs.State.{State}
 use Rattle.fib_model.specs.Outcomes.{Reports, Does, Log, Runs}
-use Rattle.fib_model.specs.Textbook.{by_intervals, beginning}
+use Rattle.fib_model.specs.Textbook.{by_intervals, initial_by_events}
 use Rattle.qsbr.specs.Intervals.{IsTidy}
 use Rattle.fib_model.specs.Intervals.{by_reports}
 use Rattle.fib_model.proofs.Tidied.{tidy_unlinked, tidy_told}
@@ -75,6 +75,6 @@ step f g c s z (command.Reclaim max) (outcome.Reclaimed r) tidy d = same c s z t
 step f g c s z (command.Reclaim max) other tidy d = absurd d
 step f g c s z (command.Report report w) o tidy d = reports c s z report w o tidy d
 
-pub tidy_run : (f g : ℕ) (c : Config) (log : Log f g) (z : State (List Event)) → Runs (by_intervals c) f g c beginning log z → IsTidyState c z
+pub tidy_run : (f g : ℕ) (c : Config) (log : Log f g) (z : State (List Event)) → Runs (by_intervals c) f g c initial_by_events log z → IsTidyState c z
 tidy_run f g c [] z r = subst (IsTidy by_reports c.workers) (sym (ap (λ x. x.readers) r)) record { one = λ w s t a b. absurd a.begins; others = λ w s high a. a.begins }
 tidy_run f g c (done ∷ log) z r = step f g c r.0 z done.0 done.1 (tidy_run f g c log r.0 r.1) r.2

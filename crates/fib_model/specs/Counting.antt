@@ -24,8 +24,8 @@ IsFirstByCounter r token busy = IsFirstHolding token r.counters busy.worker
     × (busy.counter ≡ slice_index r.counters busy.worker)
 
 -- an unlinking goes by the token that is started for it; else a change leaves token and counters
-abbrev pub counting : Transitions Registry
-counting = record {
+abbrev pub counter_transitions : Transitions Registry
+counter_transitions = record {
   checks = looks IsFirstByCounter;
   begins = λ r z. z ≡ r;
   unlinks = λ r name z. (name ≡ r.token + 1) × (z ≡ record r { token = r.token + 1 });
@@ -35,14 +35,14 @@ counting = record {
 
 abbrev pub by_counters : Keeping Registry
 by_counters = record {
-  changes = counting;
+  changes = counter_transitions;
   is_online = λ r w. IsOnline r.counters w;
   told = λ report w r. record r { counters = slice_set r.counters w (counter_of report r.token) };
 }
 
 -- a table that was just opened
-abbrev pub opened : Config → State Registry
-opened c = record {
+abbrev pub initial_by_counters : Config → State Registry
+initial_by_counters c = record {
   rules = empty;
   readers = record { token = c.first_token; counters = replicate c.workers 0 };
   limbo = [];

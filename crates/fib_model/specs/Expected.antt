@@ -11,8 +11,8 @@ use Rattle.fib_model.specs.declared.waiting.Waiting.{Waiting}
 use Rattle.qsbr.specs.Intervals.{IsTidy}
 use Rattle.fib_model.specs.Intervals.{by_reports}
 use Rattle.fib_model.specs.State.{State}
-use Rattle.fib_model.specs.Outcomes.{Runs, logged, groups_in_use}
-use Rattle.fib_model.specs.Textbook.{textbook, by_intervals, beginning}
+use Rattle.fib_model.specs.Outcomes.{Runs, log_after, groups_in_use}
+use Rattle.fib_model.specs.Textbook.{textbook, by_intervals, initial_by_events}
 
 -- the events, the newest first
 abbrev pub events_of : Waiting → List Event
@@ -38,8 +38,8 @@ state_of p = state_with p.rules.rules p.begun p.waiting
 pub record IsAccount (first second : ℕ) (c : Config) (commands : List (Command first second))
     (a : Account) : Type 0 where
   pub state : State (List Event)
-  pub runs : Runs (by_intervals c) first second c beginning
-      (logged [] commands a.outcomes.items) state
+  pub runs : Runs (by_intervals c) first second c initial_by_events
+      (log_after [] commands a.outcomes.items) state
   pub each : length a.outcomes.items ≡ length commands
   pub rules : a.rules ≡ len state.rules
   pub versions : a.versions ≡ state.begun

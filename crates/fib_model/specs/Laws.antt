@@ -11,20 +11,20 @@ use Rattle.qsbr.specs.Intervals.{IsHeldByWorker}
 use Rattle.fib_model.specs.Intervals.{by_reports}
 use Rattle.fib_model.specs.State.{State}
 use Rattle.fib_model.specs.Outcomes.{Log, Runs}
-use Rattle.fib_model.specs.Counting.{counting, by_counters, opened}
-use Rattle.fib_model.specs.Textbook.{textbook, by_intervals, beginning}
+use Rattle.fib_model.specs.Counting.{counter_transitions, by_counters, initial_by_counters}
+use Rattle.fib_model.specs.Textbook.{textbook, by_intervals, initial_by_events}
 use Rattle.fib_model.specs.History.{history, last_of}
 
 -- the rules are the last version, and the updates begun are as many as the versions
 abbrev pub RulesAreLastVersion : Type 0
 RulesAreLastVersion = (first second : ℕ) (c : Config) (log : Log first second)
-    (z : State (List Event)) → Runs (by_intervals c) first second c beginning log z
+    (z : State (List Event)) → Runs (by_intervals c) first second c initial_by_events log z
     → (z.rules ≡ last_of (history log)) × (z.begun ≡ length (history log))
 
 -- the same of a run by counters
 abbrev pub RulesAreLastVersionByCounters : Type 0
 RulesAreLastVersionByCounters = (first second : ℕ) (c : Config) (log : Log first second)
-    (z : State Registry) → Runs by_counters first second c (opened c) log z
+    (z : State Registry) → Runs by_counters first second c (initial_by_counters c) log z
     → (z.rules ≡ last_of (history log)) × (z.begun ≡ length (history log))
 
 -- after a run a check of an unlinking passes exactly where no worker's running interval holds it
@@ -32,7 +32,7 @@ RulesAreLastVersionByCounters = (first second : ℕ) (c : Config) (log : Log fir
 -- to it)
 abbrev pub UnheldByNone : Type 0
 UnheldByNone = (first second : ℕ) (c : Config) (log : Log first second) (z : State (List Event))
-    → Runs (by_intervals c) first second c beginning log z
+    → Runs (by_intervals c) first second c initial_by_events log z
     → (place : ℕ) → (textbook c).checks z.readers place (Ok tt) z.readers
     ↔ ((w : ℕ) → ¬ IsHeldByWorker by_reports z.readers place w)
 
@@ -43,8 +43,8 @@ OutcomesAreUnique = (first second : ℕ) (c : Config) (log log' : Log first seco
     (z z' : State (List Event))
     → map (λ done. done.0) log ≡ map (λ done. done.0) log'
     → All (λ done. done.1 ≢ Refused Memory) log → All (λ done. done.1 ≢ Refused Memory) log'
-    → Runs (by_intervals c) first second c beginning log z
-    → Runs (by_intervals c) first second c beginning log' z'
+    → Runs (by_intervals c) first second c initial_by_events log z
+    → Runs (by_intervals c) first second c initial_by_events log' z'
     → (log ≡ log') × (z ≡ z')
 
 -- what counters say and what reader intervals say is the same: of the rules, the versions, the
@@ -57,12 +57,12 @@ pub record Agrees (c : Config) (z : State Registry) (y : State (List Event)) : T
       → by_counters.is_online z.readers w ↔ (by_intervals c).is_online y.readers w
   pub waiting : length y.limbo ≡ length z.limbo
   pub held : (place : ℕ) → place < length z.limbo → (busy : Busy)
-      → counting.checks z.readers (slice_index z.limbo place) (Err busy) z.readers
+      → counter_transitions.checks z.readers (slice_index z.limbo place) (Err busy) z.readers
       ↔ (textbook c).checks y.readers (slice_index y.limbo place) (Err busy) y.readers
 
 -- a run by counters is one by reader intervals, with the same outcomes
 abbrev pub CountersTellIntervals : Type 0
 CountersTellIntervals = (first second : ℕ) (c : Config) (log : Log first second)
     (z : State Registry) → IsConfig c
-    → Runs by_counters first second c (opened c) log z
-    → (y : State (List Event)) × Runs (by_intervals c) first second c beginning log y × Agrees c z y
+    → Runs by_counters first second c (initial_by_counters c) log z
+    → (y : State (List Event)) × Runs (by_intervals c) first second c initial_by_events log y × Agrees c z y

@@ -165,9 +165,9 @@ Runs {X} k first second c opening (done ∷ log) z = (s : State X)
     × Runs k first second c opening log s × Does k first second c s done.0 done.1 z
 
 -- the log after these commands, in order, and their outcomes
-abbrev pub logged : {first second : ℕ} → Log first second → List (Command first second)
+abbrev pub log_after : {first second : ℕ} → Log first second → List (Command first second)
     → List Outcome → Log first second
-logged log [] outcomes = log
-logged log (command ∷ commands) [] = log
-logged log (command ∷ commands) (outcome ∷ outcomes) =
-    logged ((command, outcome) ∷ log) commands outcomes
+log_after log [] outcomes = log
+log_after log (command ∷ commands) [] = log
+log_after log (command ∷ commands) (outcome ∷ outcomes) =
+    log_after ((command, outcome) ∷ log) commands outcomes

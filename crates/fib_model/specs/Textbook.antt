@@ -44,5 +44,5 @@ by_intervals c = record {
 }
 
 -- nothing has happened
-abbrev pub beginning : State (List Event)
-beginning = record { rules = empty; readers = []; limbo = []; begun = 0 }
+abbrev pub initial_by_events : State (List Event)
+initial_by_events = record { rules = empty; readers = []; limbo = []; begun = 0 }

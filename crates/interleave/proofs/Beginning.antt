@@ -6,11 +6,11 @@ use Rattle.lpm_cells.specs.Words.{word_of}
 use Rattle.lpm_cells.specs.declared.entry.Entry.TheVariants.{Miss}
 use Rattle.lpm_trace.specs.declared.kind.Actor.{Actor}
 use Rattle.lpm_trace.specs.declared.kind.Deed.{Deed}
-use Rattle.lpm_trace.specs.Tables.{Setup}
+use Rattle.lpm_trace.specs.States.{InitialState}
 use Rattle.interleave.specs.declared.worker.Worker.{Worker as Machine}
 use Rattle.interleave.specs.Scripts.{IsSound}
 use Rattle.interleave.specs.View.{WorldView, script_at}
-use Rattle.interleave.specs.World.{WorldDid, AreAt, AreNew, IsOpening}
+use Rattle.interleave.specs.World.{WorldDid, AreAt, AreNew, IsInitial}
 
 -- a memory before its first step
 abbrev pub unused : Words → ℕ → List Machine → List (List Deed) → List Actor → WorldView
@@ -27,8 +27,8 @@ unused words token machines scripts schedule = record {
   stopped = false;
 }
 
-pub begins : (first second groups token : ℕ) (words : Words) (machines : List Machine) (scripts : List (List Deed)) (schedule : List Actor) (c : Setup)
-    → IsOpening first second groups (length scripts) token c
+pub begins : (first second groups token : ℕ) (words : Words) (machines : List Machine) (scripts : List (List Deed)) (schedule : List Actor) (c : InitialState)
+    → IsInitial first second groups (length scripts) token c
     → words.firsts ≡ replicate (2 ^ first) (word_of Miss) → words.seconds ≡ replicate (groups * 2 ^ second) (word_of Miss)
     → AreNew (length scripts) machines → All (IsSound (2 ^ (first + second))) scripts
     → WorldDid first second (unused words token machines scripts schedule) c []

@@ -6,7 +6,7 @@ use Rattle.lpm_trace.specs.declared.kind.Deed.TheVariants as deed
 use Rattle.lpm_trace.specs.declared.kind.Kind.TheVariants as kind
 use Rattle.lpm_trace.specs.declared.kind.Step.{Step}
 use Rattle.lpm_trace.specs.declared.step.WorkerStep.TheVariants as step
-use Rattle.lpm_trace.specs.Tables.{Setup, Tables, addresses, done_at}
+use Rattle.lpm_trace.specs.States.{InitialState, TableState, addresses, done_at}
 use Rattle.lpm_trace.specs.Workers.{Worker, Phase, Offline, ComingOnline, Online, LookingUp, ReportingQuiescent, IsBetweenDeeds, Unread}
 use Rattle.interleave.specs.declared.probe.Probe.TheVariants as probe
 use Rattle.interleave.specs.declared.worker.Phase.TheVariants as phase
@@ -34,12 +34,12 @@ probes_unread [] = refl
 probes_unread (a ∷ addrs) = ap (λ ps. Unread a ∷ ps) (probes_unread addrs)
 
 -- a worker that stands between two deeds makes the first step of the deed
-abbrev pub IsBegun : Setup → Tables → ℕ → ℕ → Worker → List Deed → Machine → Machine → Step → Deed → Type 0
+abbrev pub IsBegun : InitialState → TableState → ℕ → ℕ → Worker → List Deed → Machine → Machine → Step → Deed → Type 0
 IsBegun c w k now r left m new shown deed = Shows m r → IsBetweenDeeds r.phase
     → IsSoundFrom (addresses c) (is_online r.phase) (deed ∷ left)
     → BeginsDeed c w k now r deed left new shown
 
-module _ (c : Setup) (w : Tables) (k now : ℕ) (r : Worker) (left : List Deed) (m : Machine) where
+module _ (c : InitialState) (w : TableState) (k now : ℕ) (r : Worker) (left : List Deed) (m : Machine) where
   pub online_begun : (token : ℕ) (shown : Step) → w.token ≡ token → shown ≡ step_of_worker k kind.LoadToken 0 token
       → IsBegun c w k now r left m (record m { phase = phase.ComingOnline token }) shown deed.Online
   online_begun token shown same is shows between sound = record {

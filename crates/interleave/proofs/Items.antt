@@ -8,16 +8,16 @@ use Rattle.lpm_trace.specs.declared.step.TraceStep.{TraceStep}
 use Rattle.lpm_trace.specs.declared.step.TraceStep.TheVariants.{Writer, Worker as ByWorker}
 use Rattle.lpm_trace.specs.Trace.{writes}
 use Rattle.interleave.specs.Schedule.{IsBy, HasEnded, IsScheduled, writer_items}
-use Rattle.interleave.specs.World.{used}
+use Rattle.interleave.specs.World.{used_items}
 
 -- the last item that is used up is the newest
-pub used_more : (schedule : List Actor) (next : ℕ) (item : Actor) → next < length schedule → get_or schedule next item ≡ item → used schedule (suc next) ≡ item ∷ used schedule next
+pub used_more : (schedule : List Actor) (next : ℕ) (item : Actor) → next < length schedule → get_or schedule next item ≡ item → used_items schedule (suc next) ≡ item ∷ used_items schedule next
 used_more schedule next item left is =
     ap (λ n. reverse (take n schedule)) (sym (add-one next))
     ∙ ap reverse (take_more schedule next item left ∙ ap (λ x. take next schedule ++ x ∷ []) is)
     ∙ reverse-append (take next schedule) (item ∷ [])
 
-pub used_all : (schedule : List Actor) (next : ℕ) → next ≡ length schedule → used schedule next ≡ reverse schedule
+pub used_all : (schedule : List Actor) (next : ℕ) → next ≡ length schedule → used_items schedule next ≡ reverse schedule
 used_all schedule next all = ap reverse (take_all next schedule (omega (arith, all)))
 
 items_of : (xs ys : List Actor) → writer_items (xs ++ ys) ≡ writer_items xs + writer_items ys
@@ -42,20 +42,20 @@ items_reversed (x ∷ xs) =
     ∙ sym (more_items x xs)
 
 -- of the used items, the writer's are among those of the schedule
-pub items_used : (schedule : List Actor) (next : ℕ) → writer_items (used schedule next) + writer_items (drop next schedule) ≡ writer_items schedule
+pub items_used : (schedule : List Actor) (next : ℕ) → writer_items (used_items schedule next) + writer_items (drop next schedule) ≡ writer_items schedule
 items_used schedule next =
     ap (λ n. n + writer_items (drop next schedule)) (items_reversed (take next schedule))
     ∙ sym (items_of (take next schedule) (drop next schedule))
     ∙ ap writer_items (take-append-drop next schedule)
 
 -- the next item is the writer's: not all of the writer's items are used up
-pub items_left : (schedule : List Actor) (next : ℕ) → next < length schedule → ((other : Actor) → get_or schedule next other ≡ WriterActor) → writer_items (used schedule next) < writer_items schedule
+pub items_left : (schedule : List Actor) (next : ℕ) → next < length schedule → ((other : Actor) → get_or schedule next other ≡ WriterActor) → writer_items (used_items schedule next) < writer_items schedule
 items_left schedule next left item =
     let first : drop next schedule ≡ WriterActor ∷ drop (suc next) schedule = drop-cons schedule next WriterActor left ∙ ap (λ x. x ∷ drop (suc next) schedule) (item WriterActor) in
     let one = ap writer_items first in
     omega (arith, items_used schedule next, one)
 
-pub items_all : (schedule : List Actor) (next : ℕ) → next ≡ length schedule → writer_items (used schedule next) ≡ writer_items schedule
+pub items_all : (schedule : List Actor) (next : ℕ) → next ≡ length schedule → writer_items (used_items schedule next) ≡ writer_items schedule
 items_all schedule next all = ap writer_items (used_all schedule next all) ∙ items_reversed schedule
 
 writes_one : (step : TraceStep) (earlier : List TraceStep) → IsBy WriterActor step → length (writes (step ∷ earlier)) ≡ suc (length (writes earlier))
@@ -112,5 +112,5 @@ items_few [] = omega arith
 items_few (WriterActor ∷ xs) = omega (arith, items_few xs)
 items_few (WorkerActor k ∷ xs) = omega (arith, items_few xs)
 
-pub used_few : (schedule : List Actor) (next : ℕ) → writer_items (used schedule next) ≤ next
-used_few schedule next = omega (arith, items_few (used schedule next), length-reverse (take next schedule), length-take next schedule)
+pub used_few : (schedule : List Actor) (next : ℕ) → writer_items (used_items schedule next) ≤ next
+used_few schedule next = omega (arith, items_few (used_items schedule next), length-reverse (take next schedule), length-take next schedule)

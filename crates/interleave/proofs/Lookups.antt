@@ -8,7 +8,7 @@ use Rattle.lpm_cells.specs.Words.{entry_in}
 use Rattle.lpm_trace.specs.declared.kind.Kind.TheVariants as kind
 use Rattle.lpm_trace.specs.declared.kind.Step.{Step}
 use Rattle.lpm_trace.specs.declared.step.WorkerStep.TheVariants as step
-use Rattle.lpm_trace.specs.Tables.{Setup, Tables, begun_at}
+use Rattle.lpm_trace.specs.States.{InitialState, TableState, begun_at}
 use Rattle.lpm_trace.specs.Workers.{Worker, LookingUp, AreBegun, AreAnswered, read_first, first_read, second_read, IsNextFirst, IsNextSecond, with_answers, Probe as TraceProbe}
 use Rattle.interleave.specs.declared.probe.Grouped.{Grouped}
 use Rattle.interleave.specs.declared.probe.Probe.{Probe}
@@ -23,13 +23,13 @@ use Rattle.interleave.specs.Machine.{Shows, Makes, ContinuesDeed, IsInRange, IsO
 -- ---- the next address, by the place where it stands
 
 module _ (a : ℕ) (after : List Probe) where
-  next_first_is : (c : Setup) (before : List Probe) → AreBegun (probes_of before) → next_first c (probes_of (before ++ Unread a ∷ after)) ≡ a / 2 ^ c.second
+  next_first_is : (c : InitialState) (before : List Probe) → AreBegun (probes_of before) → next_first c (probes_of (before ++ Unread a ∷ after)) ≡ a / 2 ^ c.second
   next_first_is c [] b = refl
   next_first_is c (Unread x ∷ before) b = absurd b
   next_first_is c (InGroup x g f ∷ before) b = next_first_is c before b
   next_first_is c (Answered x h f l ∷ before) b = next_first_is c before b
 
-  is_next_first : (c : Setup) (w : Tables) (word : ℕ) → word ≡ slice_index w.words.firsts (a / 2 ^ c.second) → (before : List Probe) → AreBegun (probes_of before)
+  is_next_first : (c : InitialState) (w : TableState) (word : ℕ) → word ≡ slice_index w.words.firsts (a / 2 ^ c.second) → (before : List Probe) → AreBegun (probes_of before)
       → IsNextFirst c w word (probes_of (before ++ Unread a ∷ after))
   is_next_first c w word is [] b = is
   is_next_first c w word is (Unread x ∷ before) b = absurd b
@@ -44,13 +44,13 @@ module _ (a : ℕ) (after : List Probe) where
   first_read_is now e p is (Answered x h f l ∷ before) b = ap (λ ps. probe_of (Answered x h f l) ∷ ps) (first_read_is now e p is before b)
 
 module _ (a g f : ℕ) (after : List Probe) where
-  next_second_is : (c : Setup) (before : List Probe) → AreAnswered (probes_of before) → next_second c (probes_of (before ++ InGroup a g f ∷ after)) ≡ g * 2 ^ c.second + a % 2 ^ c.second
+  next_second_is : (c : InitialState) (before : List Probe) → AreAnswered (probes_of before) → next_second c (probes_of (before ++ InGroup a g f ∷ after)) ≡ g * 2 ^ c.second + a % 2 ^ c.second
   next_second_is c [] b = refl
   next_second_is c (Unread x ∷ before) b = absurd b
   next_second_is c (InGroup x y z ∷ before) b = absurd b
   next_second_is c (Answered x h y z ∷ before) b = next_second_is c before b
 
-  is_next_second : (c : Setup) (w : Tables) (word : ℕ) → word ≡ slice_index w.words.seconds (g * 2 ^ c.second + a % 2 ^ c.second) → (before : List Probe) → AreAnswered (probes_of before)
+  is_next_second : (c : InitialState) (w : TableState) (word : ℕ) → word ≡ slice_index w.words.seconds (g * 2 ^ c.second + a % 2 ^ c.second) → (before : List Probe) → AreAnswered (probes_of before)
       → IsNextSecond c w word (probes_of (before ++ InGroup a g f ∷ after))
   is_next_second c w word is [] b = is
   is_next_second c w word is (Unread x ∷ before) b = absurd b
@@ -73,7 +73,7 @@ pub record HasProbes (m new : Machine) (items : List Probe) : Type 0 where
   pub lo : new.lo ≡ m.lo
   pub probes : new.probes.items ≡ items
 
-module _ (c : Setup) (w : Tables) (k now : ℕ) (r : Worker) (m new : Machine) (first second : ℕ) (words : Words) (sequence token : ℕ) (shown : Step) (of : IsOf first second words sequence token c w) (shows : Shows m r) (doing : r.phase ≡ LookingUp) where
+module _ (c : InitialState) (w : TableState) (k now : ℕ) (r : Worker) (m new : Machine) (first second : ℕ) (words : Words) (sequence token : ℕ) (shown : Step) (of : IsOf first second words sequence token c w) (shows : Shows m r) (doing : r.phase ≡ LookingUp) where
   pub first_made : (place a word : ℕ) (p : Probe) → IsNextUnread m.probes.items place a → probe_of p ≡ read_first now a (entry_in word) → HasProbes m new (slice_set m.probes.items place p)
       → word ≡ slice_index words.firsts (a / 2 ^ second) → shown ≡ step_of_worker k kind.LoadFirst (a / 2 ^ second) word → Makes c w k now r (step.LoadFirst word) new shown
   first_made place a word p next read has is told =
@@ -117,7 +117,7 @@ module _ (c : Setup) (w : Tables) (k now : ℕ) (r : Worker) (m new : Machine) (
 
 -- ---- the end of a lookup
 
-module _ (c : Setup) (w : Tables) (k now : ℕ) (r : Worker) (m new : Machine) (sequence : ℕ) (shown : Step) (before after : List Noted) where
+module _ (c : InitialState) (w : TableState) (k now : ℕ) (r : Worker) (m new : Machine) (sequence : ℕ) (shown : Step) (before after : List Noted) where
   pub ended : AreAnswered (probes_of m.probes.items) → w.sequence ≡ sequence → Shows m r → r.phase ≡ LookingUp
       → new.counter ≡ m.counter → new.phase ≡ phase.Online → new.lo ≡ m.lo → new.probes.items ≡ [] → shown ≡ step_of_worker k kind.LoadSequence 0 sequence
       → after ≡ before ++ noted k m.lo (begun_at sequence) m.probes.items → ContinuesDeed c w k now r new shown before after

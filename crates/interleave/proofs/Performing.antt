@@ -6,10 +6,10 @@ use Rattle.lpm_limits.specs.declared.config.Config.{Config}
 use Rattle.lpm_rules.specs.declared.Change.{Change}
 use Rattle.lpm_trace.specs.declared.step.WriterStep.{WriterStep}
 use Rattle.lpm_trace.specs.declared.step.WriterStep.TheVariants.{BumpToken}
-use Rattle.lpm_trace.specs.Tables.{Setup}
+use Rattle.lpm_trace.specs.States.{InitialState}
 use Rattle.lpm_writer.specs.Steps.{AreStopped, Checks, Loads}
 use Rattle.interleave.specs.declared.reply.Reply.{Reply}
-use Rattle.interleave.specs.Replies.{Kept, Waits, CameOut, next_token}
+use Rattle.interleave.specs.Replies.{StateBySteps, Waits, CameOut, next_token}
 use Rattle.interleave.specs.Runs.{HaveComeOut, IsUnderWay, IsPerformed}
 
 -- ---- how long a wait is
@@ -39,16 +39,16 @@ stops_longer workers (suc n) x z token h =
     let now = stop_longer workers h.0 z token h.1 h.3 in
     omega (arith, before, now)
 
-pub waits_longer : (c : Setup) (n : ℕ) (x z : List WriterStep) → Waits c n x z → length x + n < length z
+pub waits_longer : (c : InitialState) (n : ℕ) (x z : List WriterStep) → Waits c n x z → length x + n < length z
 waits_longer c n x z h =
     let longer = stops_longer c.workers n (BumpToken ∷ x) z (next_token c x) h in
     omega (arith, longer)
 
 -- ---- the script
 
-module _ (c : Setup) (f g : ℕ) (config : Config) (n : ℕ) (opening : Kept) where
+module _ (c : InitialState) (f g : ℕ) (config : Config) (n : ℕ) (opening : StateBySteps) where
   -- these changes were answered so, and left `last`
-  pub record HasPerformed (changes : List (Change f g)) (replies : List Reply) (last : Kept) : Type 0 where
+  pub record HasPerformed (changes : List (Change f g)) (replies : List Reply) (last : StateBySteps) : Type 0 where
     pub log : List (Change f g × Reply)
     pub changes_are : changes ≡ reverse (map (λ entry. entry.0) log)
     pub replies_are : replies ≡ reverse (map (λ entry. entry.1) log)
@@ -57,7 +57,7 @@ module _ (c : Setup) (f g : ℕ) (config : Config) (n : ℕ) (opening : Kept) wh
   pub performed_none : HasPerformed [] [] opening
   performed_none = record { log = []; changes_are = refl; replies_are = refl; answered = refl }
 
-  pub performed_more : (changes : List (Change f g)) (replies : List Reply) (last : Kept) (change : Change f g) (reply : Reply) (z : Kept)
+  pub performed_more : (changes : List (Change f g)) (replies : List Reply) (last : StateBySteps) (change : Change f g) (reply : Reply) (z : StateBySteps)
       → HasPerformed changes replies last → length last.readers < n → length z.readers ≤ n → CameOut c f g config last change reply z
       → HasPerformed (changes ++ change ∷ []) (replies ++ reply ∷ []) z
   performed_more changes replies last change reply z h low high answers = record {
@@ -67,7 +67,7 @@ module _ (c : Setup) (f g : ℕ) (config : Config) (n : ℕ) (opening : Kept) wh
     answered = (last, h.answered, low, high, answers);
   }
 
-  pub performed_all : (changes : List (Change f g)) (replies : List Reply) (last : Kept) → HasPerformed changes replies last → IsPerformed c f g config n opening changes replies last.readers
+  pub performed_all : (changes : List (Change f g)) (replies : List Reply) (last : StateBySteps) → HasPerformed changes replies last → IsPerformed c f g config n opening changes replies last.readers
   performed_all changes replies last h = record {
     log = h.log;
     left = [];
@@ -78,7 +78,7 @@ module _ (c : Setup) (f g : ℕ) (config : Config) (n : ℕ) (opening : Kept) wh
     unanswered = refl;
   }
 
-  pub performed_before : (changes left : List (Change f g)) (replies : List Reply) (last : Kept) (change : Change f g) → HasPerformed changes replies last → n ≤ length last.readers
+  pub performed_before : (changes left : List (Change f g)) (replies : List Reply) (last : StateBySteps) (change : Change f g) → HasPerformed changes replies last → n ≤ length last.readers
       → IsPerformed c f g config n opening (changes ++ change ∷ left) replies last.readers
   performed_before changes left replies last change h none = record {
     log = h.log;
@@ -90,7 +90,7 @@ module _ (c : Setup) (f g : ℕ) (config : Config) (n : ℕ) (opening : Kept) wh
     unanswered = inl (none, refl);
   }
 
-  pub performed_within : (changes left : List (Change f g)) (replies : List Reply) (last : Kept) (change : Change f g) (steps : List WriterStep) → HasPerformed changes replies last
+  pub performed_within : (changes left : List (Change f g)) (replies : List Reply) (last : StateBySteps) (change : Change f g) (steps : List WriterStep) → HasPerformed changes replies last
       → length last.readers < n → n < length steps → IsUnderWay c f g config last change steps
       → IsPerformed c f g config n opening (changes ++ change ∷ left) replies steps
   performed_within changes left replies last change steps h low high way = record {

@@ -3,9 +3,9 @@ use Rattle.std.proofs.Common.{arith, ◌≡◌, ℕ, zero, suc, ◌+◌, ◌<◌
 use Rattle.std.proofs.Math.Seq.{split_at}
 use Rattle.std.proofs.lemmas.List.{take_more, append-nil, map-append, reverse-append}
 use Rattle.lpm_cells.specs.Words.{entry_in, hop_in}
-use Rattle.lpm_trace.specs.Workers.{AreBegun, AreAnswered, Seen, Worker, moved, with_answers, Probe as TraceProbe}
+use Rattle.lpm_trace.specs.Workers.{AreBegun, AreAnswered, Seen, Worker, worker_by_step, with_answers, Probe as TraceProbe}
 use Rattle.lpm_trace.specs.Workers as T
-use Rattle.lpm_trace.specs.Tables.{begun_at}
+use Rattle.lpm_trace.specs.States.{begun_at}
 use Rattle.lpm_trace.specs.declared.step.WorkerStep.{WorkerStep}
 use Rattle.lpm_trace.specs.declared.step.WorkerStep.TheVariants as step
 use Rattle.interleave.specs.declared.seen.Seen.{Seen as Noted}
@@ -128,7 +128,7 @@ noted_none k lo hi xs i d p old before inside is not was =
 -- ---- the lookups that are finished
 
 -- a step's come before those of the steps before it
-pub finished_then : (now : ℕ) (r : Worker) (s : WorkerStep) → (moved now r s).finished ≡ finished_by r s ++ r.finished
+pub finished_then : (now : ℕ) (r : Worker) (s : WorkerStep) → (worker_by_step now r s).finished ≡ finished_by r s ++ r.finished
 finished_then now r (step.LoadOnline token) = refl
 finished_then now r (step.StoreOnline token) = refl
 finished_then now r (step.LoadQuiescent token) = refl

@@ -8,9 +8,9 @@ use Rattle.lpm_cells.specs.declared.entry.Entry.{Entry}
 use Rattle.lpm_cells.specs.declared.entry.Entry.TheVariants.{Miss, Hop, Group}
 use Rattle.lpm_cells.specs.Words.{entry_in}
 use Rattle.lpm_trace.specs.declared.step.WorkerStep.{WorkerStep}
-use Rattle.lpm_trace.specs.declared.step.WorkerStep.TheVariants.{LoadOnline, StoreOnline, LoadQuiescent, StoreQuiescent, StoreOffline, Begins, LoadFirst, LoadSecond, Ends, Meets}
-use Rattle.lpm_trace.specs.Tables.{Setup, Tables, addresses}
-use Rattle.lpm_trace.specs.Workers.{Worker, Probe, Unread, InGroup, Answered, first_read, second_read, read_first, moved, MayRead, IsNextFirst}
+use Rattle.lpm_trace.specs.declared.step.WorkerStep.TheVariants.{LoadOnline, StoreOnline, LoadQuiescent, StoreQuiescent, StoreOffline, BeginLookup, LoadFirst, LoadSecond, EndLookup, MeetWriter}
+use Rattle.lpm_trace.specs.States.{InitialState, TableState, addresses}
+use Rattle.lpm_trace.specs.Workers.{Worker, Probe, Unread, InGroup, Answered, first_read, second_read, read_first, worker_by_step, MayRead, IsNextFirst}
 use Rattle.interleave.specs.Machine.{IsInRange}
 
 div_below : (a first second : ℕ) → a < 2 ^ (first + second) → a / 2 ^ second < 2 ^ first
@@ -46,7 +46,7 @@ module _ (first second : ℕ) (words : Words) where
   second_kept now e (Answered a h f l ∷ ps) all =
       All-cons InRange (Answered a h f l) (second_read now e ps) tt (second_kept now e ps (All-tail InRange (Answered a h f l) ps all))
 
-  module _ (ok : IsWords first second words) (c : Setup) (w : Tables) (same_second : c.second ≡ second) (same_first : c.first ≡ first) (same_words : w.words ≡ words) where
+  module _ (ok : IsWords first second words) (c : InitialState) (w : TableState) (same_second : c.second ≡ second) (same_first : c.first ≡ first) (same_words : w.words ≡ words) where
     -- the next first word is one that may stand there
     first_word : (word : ℕ) (ps : List Probe) → IsNextFirst c w word ps → All InRange ps → IsFirst second words.seconds (entry_in word)
     first_word word [] next all = absurd next
@@ -60,15 +60,15 @@ module _ (first second : ℕ) (words : Words) where
     wide_is : addresses c ≡ 2 ^ (first + second)
     wide_is = ap (λ n. 2 ^ (n + c.second)) same_first ∙ ap (λ n. 2 ^ (first + n)) same_second
 
-    pub kept : (now : ℕ) (r : Worker) (s : WorkerStep) → MayRead c w r s → All InRange r.probes → All InRange (moved now r s).probes
+    pub kept : (now : ℕ) (r : Worker) (s : WorkerStep) → MayRead c w r s → All InRange r.probes → All InRange (worker_by_step now r s).probes
     kept now r (LoadOnline t) may all = all
     kept now r (StoreOnline t) may all = all
     kept now r (LoadQuiescent t) may all = all
     kept now r (StoreQuiescent t) may all = all
     kept now r StoreOffline may all = all
-    kept now r (Begins addrs x) may all =
+    kept now r (BeginLookup addrs x) may all =
         All-map InRange Unread addrs (subst (λ n. All (λ a. a < n) addrs) wide_is may.1)
     kept now r (LoadFirst word) may all = first_kept now (entry_in word) (first_word word r.probes may.1 all) r.probes all
     kept now r (LoadSecond word) may all = second_kept now (entry_in word) r.probes all
-    kept now r (Ends x) may all = All-nil InRange
-    kept now r (Meets x) may all = all
+    kept now r (EndLookup x) may all = All-nil InRange
+    kept now r (MeetWriter x) may all = all

@@ -6,12 +6,12 @@ use Rattle.lpm_trace.specs.declared.kind.Actor.TheVariants.{Writer as WriterActo
 use Rattle.lpm_trace.specs.declared.step.WriterStep.{WriterStep}
 use Rattle.lpm_trace.specs.declared.step.TraceStep.{TraceStep}
 use Rattle.lpm_trace.specs.declared.step.TraceStep.TheVariants.{Writer, Worker as ByWorker}
-use Rattle.lpm_trace.specs.Tables.{Setup}
+use Rattle.lpm_trace.specs.States.{InitialState}
 use Rattle.lpm_trace.specs.Trace.{IsTrace, writes}
 use Rattle.interleave.specs.Scripts.{AreOf, steps_by}
 use Rattle.interleave.specs.Schedule.{HasEnded, IsScheduled, AreScripted, writer_items}
 use Rattle.interleave.specs.View.{WorldView, script_at}
-use Rattle.interleave.specs.World.{setting, IsWorld, IsDoneAfter, IsWritersTurn, WorldDid, Reaches, StaysShared, TakesTurn, IsPlayedOut, with_beyond, used}
+use Rattle.interleave.specs.World.{scripts_and_schedule, IsWorld, IsDoneAfter, IsWritersTurn, WorldDid, Reaches, StaysShared, TakesTurn, IsPlayedOut, with_beyond, used_items}
 use Rattle.interleave.proofs.Items.{one_each, one_at_most, items_left, items_all, items_used, used_all, makes_still}
 use Rattle.interleave.proofs.Turning.{passed_by, turn_passes}
 use Rattle.interleave.proofs.Writing.{none_beyond}
@@ -27,7 +27,7 @@ shared_more v y z p q = record {
 }
 
 -- where an item is left, the writer has done nothing beyond the trace
-pub within : (first second : ℕ) (y : WorldView) (c : Setup) (whole : Option (List WriterStep)) (trace : List TraceStep) (beyond : List WriterStep)
+pub within : (first second : ℕ) (y : WorldView) (c : InitialState) (whole : Option (List WriterStep)) (trace : List TraceStep) (beyond : List WriterStep)
     → IsWorld first second y c whole trace beyond → y.next < length y.schedule → IsWorld first second y c whole trace []
 within first second y c whole trace beyond world left =
     subst (IsWorld first second y c whole trace) (none_beyond first second y c whole trace beyond world left) world
@@ -40,11 +40,11 @@ reach_more first second v y z reaches left turn c steps did =
     (later.0, [], later.1, now.3 ∙ ap (λ xs. xs ++ writes now.0) none ∙ sym later.2)
 
 -- each of the writer's used items has made a step
-made_each : (first second : ℕ) (y : WorldView) (c : Setup) (trace : List TraceStep) (beyond : List WriterStep) → IsWorld first second y c None trace beyond
-    → length (writes trace) ≡ writer_items (used y.schedule y.next)
-made_each first second y c trace beyond world = one_each (length y.scripts) (script_at y.scripts) (used y.schedule y.next) trace world.made
+made_each : (first second : ℕ) (y : WorldView) (c : InitialState) (trace : List TraceStep) (beyond : List WriterStep) → IsWorld first second y c None trace beyond
+    → length (writes trace) ≡ writer_items (used_items y.schedule y.next)
+made_each first second y c trace beyond world = one_each (length y.scripts) (script_at y.scripts) (used_items y.schedule y.next) trace world.made
 
-pub some_left : (first second : ℕ) (y : WorldView) (c : Setup) (steps : List WriterStep) → WorldDid first second y c steps → IsWritersTurn y → length steps < writer_items y.schedule
+pub some_left : (first second : ℕ) (y : WorldView) (c : InitialState) (steps : List WriterStep) → WorldDid first second y c steps → IsWritersTurn y → length steps < writer_items y.schedule
 some_left first second y c steps did turn =
     let none = none_beyond first second y c None did.0 did.1 did.2 turn.left in
     let same : length steps ≡ length (writes did.0) = ap length (did.3 ∙ ap (λ xs. xs ++ writes did.0) none) in
@@ -54,7 +54,7 @@ at_least : (xs ys : List WriterStep) → length ys ≤ length (xs ++ ys)
 at_least [] ys = omega arith
 at_least (x ∷ xs) ys = omega (arith, at_least xs ys)
 
-pub none_left : (first second : ℕ) (y : WorldView) (c : Setup) (steps : List WriterStep) → WorldDid first second y c steps → y.next ≡ length y.schedule → writer_items y.schedule ≤ length steps
+pub none_left : (first second : ℕ) (y : WorldView) (c : InitialState) (steps : List WriterStep) → WorldDid first second y c steps → y.next ≡ length y.schedule → writer_items y.schedule ≤ length steps
 none_left first second y c steps did all =
     let same : length steps ≡ length (did.1 ++ writes did.0) = ap length did.3 in
     omega (arith, same, at_least did.1 (writes did.0), made_each first second y c did.0 did.1 did.2, items_all y.schedule y.next all)
@@ -63,7 +63,7 @@ none_left first second y c steps did all =
 
 -- the writer's steps are made, whatever they were, and the workers go on taking their turns
 abbrev pub PlaysOn : ℕ → ℕ → WorldView → WorldView → Type 0
-PlaysOn first second v z = (c : Setup) (steps : List WriterStep) → WorldDid first second v c steps
+PlaysOn first second v z = (c : InitialState) (steps : List WriterStep) → WorldDid first second v c steps
     → (trace : List TraceStep) × (beyond : List WriterStep)
     × IsWorld first second z c (Some steps) trace beyond × (steps ≡ beyond ++ writes trace)
     × (beyond ≢ [] → length (writes trace) ≡ writer_items z.schedule)
@@ -81,7 +81,7 @@ plays_start first second v c steps did =
         words_are = world.words_are;
         token_is = world.token_is;
         sequence_is = world.sequence_is;
-        made = makes_still (length v.scripts) (script_at v.scripts) (IsDoneAfter None) (IsDoneAfter (Some steps)) (λ earlier never. absurd never) (used v.schedule v.next) did.0 world.made;
+        made = makes_still (length v.scripts) (script_at v.scripts) (IsDoneAfter None) (IsDoneAfter (Some steps)) (λ earlier never. absurd never) (used_items v.schedule v.next) did.0 world.made;
         shown = world.shown;
         finished = world.finished;
         at = world.at;
@@ -116,12 +116,12 @@ plays_pass first second v y next more plays turn c steps did =
 
 -- ---- the end
 
-trace_within : (c : Setup) (beyond : List WriterStep) (trace : List TraceStep) → IsTrace c (with_beyond beyond trace) → IsTrace c trace
+trace_within : (c : InitialState) (beyond : List WriterStep) (trace : List TraceStep) → IsTrace c (with_beyond beyond trace) → IsTrace c trace
 trace_within c [] trace may = may
 trace_within c (s ∷ beyond) trace may = trace_within c beyond trace may.1
 
 -- a worker that isn't there makes no step
-no_steps : (c : Setup) (k : ℕ) → c.workers ≤ k → (trace : List TraceStep) → IsTrace c trace → steps_by k trace ≡ []
+no_steps : (c : InitialState) (k : ℕ) → c.workers ≤ k → (trace : List TraceStep) → IsTrace c trace → steps_by k trace ≡ []
 no_steps c k out [] may = refl
 no_steps c k out (Writer s ∷ trace) may = no_steps c k out trace may.1
 no_steps c k out (ByWorker j s ∷ trace) may = elim (eqb_tells k j) [
@@ -129,7 +129,7 @@ no_steps c k out (ByWorker j s ∷ trace) may = elim (eqb_tells k j) [
   | inr h ↦ subst (λ b. cond b (s ∷ steps_by k trace) (steps_by k trace) ≡ []) (sym h.0) (no_steps c k out trace may.1)
 ]
 
-scripted : (first second : ℕ) (z : WorldView) (c : Setup) (whole : Option (List WriterStep)) (trace : List TraceStep) (beyond : List WriterStep)
+scripted : (first second : ℕ) (z : WorldView) (c : InitialState) (whole : Option (List WriterStep)) (trace : List TraceStep) (beyond : List WriterStep)
     → IsWorld first second z c whole trace beyond → AreScripted (script_at z.scripts) trace
 scripted first second z c whole trace beyond world k = elim (cases_lt k (length z.scripts)) [
   | inl inside ↦ let here = (world.at k inside).2 in record { begun = here.begun; left = here.left; cut = here.cut; made = here.made }
@@ -141,7 +141,7 @@ scripted first second z c whole trace beyond world k = elim (cases_lt k (length 
   }
 ]
 
-pub plays_end : (first second : ℕ) (v z : WorldView) → PlaysOn first second v z → z.next ≡ length z.schedule → (c : Setup) (steps : List WriterStep) → WorldDid first second v c steps
+pub plays_end : (first second : ℕ) (v z : WorldView) → PlaysOn first second v z → z.next ≡ length z.schedule → (c : InitialState) (steps : List WriterStep) → WorldDid first second v c steps
     → IsPlayedOut c z.scripts z.schedule steps z.steps z.seen
 plays_end first second v z plays all c steps did =
     let now = plays c steps did in
@@ -154,7 +154,7 @@ plays_end first second v z plays all c steps did =
       may_come = world.may_come;
       few = omega (
         arith,
-        one_at_most (length z.scripts) (script_at z.scripts) (IsDoneAfter (Some steps)) (used z.schedule z.next) now.0 world.made,
+        one_at_most (length z.scripts) (script_at z.scripts) (IsDoneAfter (Some steps)) (used_items z.schedule z.next) now.0 world.made,
         items_all z.schedule z.next all,
       );
       at_end = now.4;
@@ -167,13 +167,13 @@ plays_end first second v z plays all c steps did =
 -- ---- whether the schedule ended before the writer's last step
 
 -- the scripts and the schedule stay where the workers take turns
-pub setting_stays : (v z : WorldView) → StaysShared v z → setting z ≡ setting v
+pub setting_stays : (v z : WorldView) → StaysShared v z → scripts_and_schedule z ≡ scripts_and_schedule v
 setting_stays v z stays = ap (λ xs. (xs, z.schedule)) stays.scripts ∙ ap (λ xs. (v.scripts, xs)) stays.schedule
 
 no_both : (b : Bool) → b ≡ true → b ≡ false → ⊥
 no_both b is_true is_false = cc
 
-pub stopped_late : (first second : ℕ) (v : WorldView) (c : Setup) (steps : List WriterStep) → WorldDid first second v c steps
+pub stopped_late : (first second : ℕ) (v : WorldView) (c : InitialState) (steps : List WriterStep) → WorldDid first second v c steps
     → v.stopped ≡ true ↔ (writer_items v.schedule < length steps)
 stopped_late first second v c steps did = go did.1 did.2 did.3
   where

@@ -4,53 +4,53 @@ use Rattle.std.proofs.lemmas.Bool.{cases_lt}
 use Rattle.lpm_rules.specs.declared.Change.{Change}
 use Rattle.lpm_rules.specs.declared.Change.TheVariants.{Synchronize}
 use Rattle.lpm_trace.specs.declared.step.WriterStep.{WriterStep}
-use Rattle.lpm_trace.specs.Tables.{Setup, tables}
-use Rattle.lpm_writer.specs.declared.ledger.Ledger.{Ledger}
+use Rattle.lpm_trace.specs.States.{InitialState, state_after}
+use Rattle.lpm_writer.specs.declared.control.ControlState.{ControlState}
 use Rattle.lpm_writer.specs.Resting.{IsResting}
 use Rattle.lpm_writer.proofs.Keeping.{is_limbo}
 use Rattle.interleave.specs.Schedule.{writer_items}
 use Rattle.interleave.specs.View.{WorldView}
-use Rattle.interleave.specs.World.{WorldDid, Reaches, setting}
+use Rattle.interleave.specs.World.{WorldDid, Reaches, scripts_and_schedule}
 use Rattle.interleave.specs.declared.reply.Reply.{Reply}
-use Rattle.interleave.specs.Replies.{Kept, HasTokensLeft, Waits, Answers, IsAtRest, kept}
+use Rattle.interleave.specs.Replies.{StateBySteps, HasTokensLeft, Waits, Answers, IsAtRest, state_by_steps}
 use Rattle.interleave.specs.Runs.{IsPerformed}
 use Rattle.interleave.proofs.Performing.{HasPerformed, performed_none, performed_more, performed_all, performed_before, performed_within, waits_longer}
 
-items_same : (v z : WorldView) → setting z ≡ setting v → writer_items z.schedule ≡ writer_items v.schedule
+items_same : (v z : WorldView) → scripts_and_schedule z ≡ scripts_and_schedule v → writer_items z.schedule ≡ writer_items v.schedule
 items_same v z e = ap (λ x. writer_items x.1) e
 
 module _ (f s : ℕ) where
-  abbrev pub Rests : Setup → List WriterStep → Ledger f s → Type 0
-  Rests c steps l = IsResting f s c steps l.config l.rules l.books l.versions
+  abbrev pub Rests : InitialState → List WriterStep → ControlState f s → Type 0
+  Rests c steps l = IsResting f s c steps l.config l.rules l.pool l.versions
 
-  abbrev pub kept_in : Ledger f s → List WriterStep → Kept
-  kept_in l steps = kept l.rules steps l.books l.versions
+  abbrev pub kept_in : ControlState f s → List WriterStep → StateBySteps
+  kept_in l steps = state_by_steps l.rules steps l.pool l.versions
 
   -- a ledger that rests is at rest by the steps that it has made
-  pub at_rest : (c : Setup) (steps : List WriterStep) (l : Ledger f s) → Rests c steps l → IsAtRest f s c (kept_in l steps)
+  pub at_rest : (c : InitialState) (steps : List WriterStep) (l : ControlState f s) → Rests c steps l → IsAtRest f s c (kept_in l steps)
   at_rest c steps l rests = record {
     begun = rests.versions;
     rules = rests.version;
     represents = rests.represents;
-    limbo = is_limbo c (tables c steps) l.books.groups l.books.queue.items rests.keeps.kept;
+    limbo = is_limbo c (state_after c steps) l.pool.groups l.pool.queue.items rests.keeps.kept;
     once = rests.between.once;
   }
 
   -- from m0 and l0 these changes were answered so, which led to m and l
-  abbrev pub HasAnswered : WorldView → Ledger f s → List (Change f s) → List Reply → WorldView → Ledger f s → Type 0
-  HasAnswered m0 l0 done replies m l = (c : Setup) → WorldDid f s m0 c [] → Rests c [] l0
+  abbrev pub HasAnswered : WorldView → ControlState f s → List (Change f s) → List Reply → WorldView → ControlState f s → Type 0
+  HasAnswered m0 l0 done replies m l = (c : InitialState) → WorldDid f s m0 c [] → Rests c [] l0
       → (steps : List WriterStep) × WorldDid f s m c steps × Rests c steps l
       × HasPerformed c f s l0.config (writer_items m0.schedule) (kept_in l0 []) done replies (kept_in l steps)
 
   -- from m0 and l0 the script was performed so, which led to m
-  abbrev pub HasEnded : WorldView → Ledger f s → List (Change f s) → List Reply → WorldView → Type 0
-  HasEnded m0 l0 changes replies m = (c : Setup) → WorldDid f s m0 c [] → Rests c [] l0
+  abbrev pub HasEnded : WorldView → ControlState f s → List (Change f s) → List Reply → WorldView → Type 0
+  HasEnded m0 l0 changes replies m = (c : InitialState) → WorldDid f s m0 c [] → Rests c [] l0
       → (steps : List WriterStep) × WorldDid f s m c steps
       × IsPerformed c f s l0.config (writer_items m0.schedule) (kept_in l0 []) changes replies steps
 
   -- a change was answered so, or waits
-  abbrev pub HasCome : WorldView → Ledger f s → Change f s → ℕ → Option Reply → WorldView → Ledger f s → Type 0
-  HasCome m l change tries came m' l' = (c : Setup) (steps : List WriterStep) → WorldDid f s m c steps → Rests c steps l
+  abbrev pub HasCome : WorldView → ControlState f s → Change f s → ℕ → Option Reply → WorldView → ControlState f s → Type 0
+  HasCome m l change tries came m' l' = (c : InitialState) (steps : List WriterStep) → WorldDid f s m c steps → Rests c steps l
       → MatchOption came ((change ≡ Synchronize) × HasTokensLeft c l.config (kept_in l steps)
       × ((later : List WriterStep) × WorldDid f s m' c later × Waits c tries steps later))
       (λ reply. (later : List WriterStep) × WorldDid f s m' c later × Rests c later l'
@@ -58,17 +58,17 @@ module _ (f s : ℕ) where
 
   -- the writer has an item left for its next step, or hasn't
   abbrev pub IsLeft : WorldView → Bool → Type 0
-  IsLeft m left = (c : Setup) (steps : List WriterStep) → WorldDid f s m c steps → (left ≡ true ↔ (length steps < writer_items m.schedule))
+  IsLeft m left = (c : InitialState) (steps : List WriterStep) → WorldDid f s m c steps → (left ≡ true ↔ (length steps < writer_items m.schedule))
 
   -- the schedule has ended before the writer's last step, or hasn't
   abbrev pub IsLate : WorldView → Bool → Type 0
-  IsLate m late = (c : Setup) (steps : List WriterStep) → WorldDid f s m c steps → (late ≡ true ↔ (writer_items m.schedule < length steps))
+  IsLate m late = (c : InitialState) (steps : List WriterStep) → WorldDid f s m c steps → (late ≡ true ↔ (writer_items m.schedule < length steps))
 
-  pub answered_none : (m : WorldView) (l : Ledger f s) → HasAnswered m l [] [] m l
+  pub answered_none : (m : WorldView) (l : ControlState f s) → HasAnswered m l [] [] m l
   answered_none m l c did rests = ([], did, rests, performed_none c f s l.config (writer_items m.schedule) (kept_in l []))
 
-  module _ (m0 : WorldView) (l0 : Ledger f s) (done : List (Change f s)) (replies : List Reply) (m y : WorldView) (l : Ledger f s) (answered : HasAnswered m0 l0 done replies m l)
-      (same : setting m ≡ setting m0) (reaches : Reaches f s m y) where
+  module _ (m0 : WorldView) (l0 : ControlState f s) (done : List (Change f s)) (replies : List Reply) (m y : WorldView) (l : ControlState f s) (answered : HasAnswered m0 l0 done replies m l)
+      (same : scripts_and_schedule m ≡ scripts_and_schedule m0) (reaches : Reaches f s m y) where
     abbrev n : ℕ
     n = writer_items m0.schedule
 
@@ -91,11 +91,11 @@ module _ (f s : ℕ) where
         not_true : false ≡ true → ⊥
         not_true e = cc
 
-    module _ (change : Change f s) (left : List (Change f s)) (tries : ℕ) (m' : WorldView) (l' : Ledger f s) (config : l.config ≡ l0.config) (is_left : IsLeft m true) (still : setting m' ≡ setting m0) where
-      abbrev pub begins : (c : Setup) (steps : List WriterStep) → WorldDid f s m c steps → Type 0
+    module _ (change : Change f s) (left : List (Change f s)) (tries : ℕ) (m' : WorldView) (l' : ControlState f s) (config : l.config ≡ l0.config) (is_left : IsLeft m true) (still : scripts_and_schedule m' ≡ scripts_and_schedule m0) where
+      abbrev pub begins : (c : InitialState) (steps : List WriterStep) → WorldDid f s m c steps → Type 0
       begins c steps did = length steps < n
 
-      low : (c : Setup) (steps : List WriterStep) → WorldDid f s m c steps → length steps < n
+      low : (c : InitialState) (steps : List WriterStep) → WorldDid f s m c steps → length steps < n
       low c steps did = let some = (is_left c steps did).0 refl in omega (arith, some, items_same m0 m same)
 
       pub answered_more : (reply : Reply) → HasCome y l change tries (Some reply) m' l' → IsLate m' false → HasAnswered m0 l0 (done ++ change ∷ []) (replies ++ reply ∷ []) m' l'

@@ -5,7 +5,7 @@ use Rattle.std.proofs.lemmas.List.{append-nil, map-append, reverse-append}
 use Rattle.std.proofs.lemmas.List.Elements.{filter-append}
 use Rattle.lpm_trace.specs.declared.step.TraceStep.{TraceStep}
 use Rattle.lpm_trace.specs.declared.step.TraceStep.TheVariants.{Writer, Worker as ByWorker}
-use Rattle.lpm_trace.specs.Workers.{moved, Seen as Finished}
+use Rattle.lpm_trace.specs.Workers.{worker_by_step, Seen as Finished}
 use Rattle.lpm_trace.specs.Trace.{worker_of}
 use Rattle.interleave.specs.declared.seen.Seen.{Seen}
 use Rattle.interleave.specs.Shown.{finished_by, seen_by}
@@ -42,14 +42,14 @@ seen_finished k (ByWorker j s ∷ steps) =
       | inl h ↦
           let own = finished_by r s in
           let same : seen_of k (by k) ≡ by k = ap (seen_of k) (map_reverse k own) ∙ mine k (reverse own) ∙ sym (map_reverse k own) in
-          let all : reverse (map (seen_by k) (moved now r s).finished) ≡ was ++ by k =
+          let all : reverse (map (seen_by k) (worker_by_step now r s).finished) ≡ was ++ by k =
           ap (λ xs. reverse (map (seen_by k) xs)) (finished_then now r s) ∙ ap reverse (map-append (seen_by k) own r.finished) ∙ reverse-append (map (seen_by k) own) (map (seen_by k) r.finished) in
-          subst (λ b. seen_of k (shown ++ by j) ≡ reverse (map (seen_by k) (cond b (moved now r s) r).finished)) (sym h.0)
-          (subst (λ i. seen_of k (shown ++ by i) ≡ reverse (map (seen_by k) (moved now r s).finished)) h.1
+          subst (λ b. seen_of k (shown ++ by j) ≡ reverse (map (seen_by k) (cond b (worker_by_step now r s) r).finished)) (sym h.0)
+          (subst (λ i. seen_of k (shown ++ by i) ≡ reverse (map (seen_by k) (worker_by_step now r s).finished)) h.1
           (split k ∙ ap (λ xs. was ++ xs) same ∙ sym all))
       | inr h ↦
           let ended = finished_by (worker_of j steps) s in
           let none : seen_of k (by j) ≡ [] = ap (seen_of k) (map_reverse j ended) ∙ others k j h.0 (reverse ended) in
-          subst (λ b. seen_of k (shown ++ by j) ≡ reverse (map (seen_by k) (cond b (moved now r s) r).finished)) (sym h.0)
+          subst (λ b. seen_of k (shown ++ by j) ≡ reverse (map (seen_by k) (cond b (worker_by_step now r s) r).finished)) (sym h.0)
           (split j ∙ ap (λ xs. was ++ xs) none ∙ append-nil was)
     ]

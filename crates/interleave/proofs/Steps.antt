@@ -7,8 +7,8 @@ use Rattle.lpm_trace.specs.declared.kind.Kind.TheVariants as kind
 use Rattle.lpm_trace.specs.declared.kind.Step.{Step}
 use Rattle.lpm_trace.specs.declared.step.WorkerStep.{WorkerStep}
 use Rattle.lpm_trace.specs.declared.step.WorkerStep.TheVariants as step
-use Rattle.lpm_trace.specs.Tables.{Setup, Tables, addresses}
-use Rattle.lpm_trace.specs.Workers.{Worker, Online, IsBetweenDeeds, moved, MayRead}
+use Rattle.lpm_trace.specs.States.{InitialState, TableState, addresses}
+use Rattle.lpm_trace.specs.Workers.{Worker, Online, IsBetweenDeeds, worker_by_step, MayRead}
 use Rattle.interleave.specs.declared.seen.Seen.{Seen as Noted}
 use Rattle.interleave.specs.declared.worker.Phase.TheVariants as phase
 use Rattle.interleave.specs.declared.worker.Worker.{Worker as Machine}
@@ -43,7 +43,7 @@ is_between m r shows at = elim at [
   | inr e ↦ subst IsBetweenDeeds (sym (shows.phase ∙ ap phase_of e)) tt
 ]
 
-goes_on_online : (c : Setup) (w : Tables) (now : ℕ) (r : Worker) (s : WorkerStep) → GoesOn s → MayRead c w r s → is_online (moved now r s).phase ≡ is_online r.phase
+goes_on_online : (c : InitialState) (w : TableState) (now : ℕ) (r : Worker) (s : WorkerStep) → GoesOn s → MayRead c w r s → is_online (worker_by_step now r s).phase ≡ is_online r.phase
 goes_on_online c w now r (step.LoadOnline t) goes may = absurd goes
 goes_on_online c w now r (step.StoreOnline t) goes may = ap is_online (sym may)
 goes_on_online c w now r (step.LoadQuiescent t) goes may = absurd goes
@@ -55,9 +55,9 @@ goes_on_online c w now r (step.LoadSecond x) goes may = refl
 goes_on_online c w now r (step.Ends x) goes may = ap is_online (sym may.0)
 goes_on_online c w now r (step.Meets x) goes may = absurd goes
 
-module _ (first second : ℕ) (words : Words) (sequence token : ℕ) (c : Setup) (w : Tables) (k now : ℕ) (script : List Deed) (r : Worker) (own : List WorkerStep) (m : Machine)
+module _ (first second : ℕ) (words : Words) (sequence token : ℕ) (c : InitialState) (w : TableState) (k now : ℕ) (script : List Deed) (r : Worker) (own : List WorkerStep) (m : Machine)
     (ok : IsWords first second words) (of : IsOf first second words sequence token c w) (at : IsAt first second (length words.seconds) m script r own) where
-  in_range_then : (s : WorkerStep) → MayRead c w r s → All (IsInRange (2 ^ (first + second)) second (length words.seconds)) (moved now r s).probes
+  in_range_then : (s : WorkerStep) → MayRead c w r s → All (IsInRange (2 ^ (first + second)) second (length words.seconds)) (worker_by_step now r s).probes
   in_range_then s may =
       kept first second words ok c w of.second_width of.first_width of.words_are now r s may at.in_range
 
@@ -87,7 +87,7 @@ module _ (first second : ℕ) (words : Words) (sequence token : ℕ) (c : Setup)
             cut = cut_more script at.begun at.left next.0 d at.cut next.1;
             count = let e = at.count in omega (arith, e, count);
             made = inr (d, at.begun, refl, b.begins, at.made);
-            sound = subst (λ n. IsSoundFrom n (is_online (moved now r b.made).phase) next.0) wide_is b.sound;
+            sound = subst (λ n. IsSoundFrom n (is_online (worker_by_step now r b.made).phase) next.0) wide_is b.sound;
             in_range = in_range_then b.made b.makes.may;
           };
           shown = b.makes.shown;

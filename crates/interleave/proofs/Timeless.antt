@@ -5,11 +5,11 @@ use Rattle.lpm_cells.specs.declared.entry.Entry.{Entry}
 use Rattle.lpm_cells.specs.declared.entry.Entry.TheVariants.{Miss, Hop, Group}
 use Rattle.lpm_cells.specs.Words.{entry_in, hop_in}
 use Rattle.lpm_trace.specs.declared.step.WorkerStep.{WorkerStep}
-use Rattle.lpm_trace.specs.declared.step.WorkerStep.TheVariants.{LoadOnline, StoreOnline, LoadQuiescent, StoreQuiescent, StoreOffline, Begins, LoadFirst, LoadSecond, Ends, Meets}
+use Rattle.lpm_trace.specs.declared.step.WorkerStep.TheVariants.{LoadOnline, StoreOnline, LoadQuiescent, StoreQuiescent, StoreOffline, BeginLookup, LoadFirst, LoadSecond, EndLookup, MeetWriter}
 use Rattle.lpm_trace.specs.declared.step.TraceStep.{TraceStep}
 use Rattle.lpm_trace.specs.declared.step.TraceStep.TheVariants.{Writer, Worker as ByWorker}
-use Rattle.lpm_trace.specs.Tables.{Setup, Tables}
-use Rattle.lpm_trace.specs.Workers.{Worker, Probe, Unread, InGroup, Answered, IsBetweenDeeds, read_first, first_read, second_read, moved, IsNextFirst, IsNextSecond, AreBegun, AreAnswered, MayRead}
+use Rattle.lpm_trace.specs.States.{InitialState, TableState}
+use Rattle.lpm_trace.specs.Workers.{Worker, Probe, Unread, InGroup, Answered, IsBetweenDeeds, read_first, first_read, second_read, worker_by_step, IsNextFirst, IsNextSecond, AreBegun, AreAnswered, MayRead}
 use Rattle.lpm_trace.specs.Trace.{after, worker_of}
 
 -- how far each address has come, but for when
@@ -48,13 +48,13 @@ pub record AreAlike (r q : Worker) : Type 0 where
   pub phase : r.phase ≡ q.phase
   pub probes : all_timeless r.probes ≡ all_timeless q.probes
 
-moved_alike : (n m : ℕ) (r q : Worker) → AreAlike r q → (s : WorkerStep) → AreAlike (moved n r s) (moved m q s)
+moved_alike : (n m : ℕ) (r q : Worker) → AreAlike r q → (s : WorkerStep) → AreAlike (worker_by_step n r s) (worker_by_step m q s)
 moved_alike n m r q h (LoadOnline token) = record { counter = h.counter; phase = refl; probes = h.probes }
 moved_alike n m r q h (StoreOnline token) = record { counter = refl; phase = refl; probes = h.probes }
 moved_alike n m r q h (LoadQuiescent token) = record { counter = h.counter; phase = refl; probes = h.probes }
 moved_alike n m r q h (StoreQuiescent token) = record { counter = refl; phase = refl; probes = h.probes }
 moved_alike n m r q h StoreOffline = record { counter = refl; phase = refl; probes = h.probes }
-moved_alike n m r q h (Begins addrs sequence) = record { counter = h.counter; phase = refl; probes = refl }
+moved_alike n m r q h (BeginLookup addrs sequence) = record { counter = h.counter; phase = refl; probes = refl }
 moved_alike n m r q h (LoadFirst word) = record {
   counter = h.counter;
   phase = h.phase;
@@ -65,27 +65,27 @@ moved_alike n m r q h (LoadSecond word) = record {
   phase = h.phase;
   probes = second_timeless n (entry_in word) r.probes ∙ ap (λ ps. all_timeless (second_read 0 (entry_in word) ps)) h.probes ∙ sym (second_timeless m (entry_in word) q.probes);
 }
-moved_alike n m r q h (Ends sequence) = record { counter = h.counter; phase = refl; probes = refl }
-moved_alike n m r q h (Meets sequence) = h
+moved_alike n m r q h (EndLookup sequence) = record { counter = h.counter; phase = refl; probes = refl }
+moved_alike n m r q h (MeetWriter sequence) = h
 
 -- a worker, by the two clocks
-pub workers_alike : (c : Setup) (steps : List TraceStep) (k : ℕ) → AreAlike (worker_of k steps) ((after c steps).workers k)
+pub workers_alike : (c : InitialState) (steps : List TraceStep) (k : ℕ) → AreAlike (worker_of k steps) ((after c steps).workers k)
 workers_alike c [] k = record { counter = refl; phase = refl; probes = refl }
 workers_alike c (Writer s ∷ steps) k = workers_alike c steps k
 workers_alike c (ByWorker j s ∷ steps) k =
     let w = (after c steps).workers in
-    let clock = (after c steps).tables.clock in
+    let clock = (after c steps).state.clock in
     elim (eqb_tells k j) [
-      | inl h ↦ subst (λ b. AreAlike (cond b (moved (suc (length steps)) (worker_of k steps) s) (worker_of k steps)) (cond b (moved clock (w j) s) (w k))) (sym h.0)
-          (subst (λ i. AreAlike (moved (suc (length steps)) (worker_of k steps) s) (moved clock (w i) s)) h.1
+      | inl h ↦ subst (λ b. AreAlike (cond b (worker_by_step (suc (length steps)) (worker_of k steps) s) (worker_of k steps)) (cond b (worker_by_step clock (w j) s) (w k))) (sym h.0)
+          (subst (λ i. AreAlike (worker_by_step (suc (length steps)) (worker_of k steps) s) (worker_by_step clock (w i) s)) h.1
           (moved_alike (suc (length steps)) clock (worker_of k steps) (w k) (workers_alike c steps k) s))
-      | inr h ↦ subst (λ b. AreAlike (cond b (moved (suc (length steps)) (worker_of k steps) s) (worker_of k steps)) (cond b (moved clock (w j) s) (w k))) (sym h.0)
+      | inr h ↦ subst (λ b. AreAlike (cond b (worker_by_step (suc (length steps)) (worker_of k steps) s) (worker_of k steps)) (cond b (worker_by_step clock (w j) s) (w k))) (sym h.0)
           (workers_alike c steps k)
     ]
 
 -- ---- which step may come next
 
-module _ (c : Setup) (w : Tables) (word : ℕ) where
+module _ (c : InitialState) (w : TableState) (word : ℕ) where
   first_to : (ps : List Probe) → IsNextFirst c w word ps → IsNextFirst c w word (all_timeless ps)
   first_to [] h = h
   first_to (Unread a ∷ ps) h = h
@@ -134,13 +134,13 @@ answered_from (Unread a ∷ ps) h = h
 answered_from (InGroup a g f ∷ ps) h = h
 answered_from (Answered a x f l ∷ ps) h = answered_from ps h
 
-pub may_alike : (c : Setup) (w : Tables) (r q : Worker) → AreAlike r q → (s : WorkerStep) → MayRead c w r s → MayRead c w q s
+pub may_alike : (c : InitialState) (w : TableState) (r q : Worker) → AreAlike r q → (s : WorkerStep) → MayRead c w r s → MayRead c w q s
 may_alike c w r q h (LoadOnline token) may = (sym h.phase ∙ may.0, may.1)
 may_alike c w r q h (StoreOnline token) may = sym h.phase ∙ may
 may_alike c w r q h (LoadQuiescent token) may = (sym h.phase ∙ may.0, may.1)
 may_alike c w r q h (StoreQuiescent token) may = sym h.phase ∙ may
 may_alike c w r q h StoreOffline may = sym h.phase ∙ may
-may_alike c w r q h (Begins addrs sequence) may = (sym h.phase ∙ may.0, may.1, may.2)
+may_alike c w r q h (BeginLookup addrs sequence) may = (sym h.phase ∙ may.0, may.1, may.2)
 may_alike c w r q h (LoadFirst word) may =
     (sym h.phase ∙ may.0, first_from c w word q.probes (subst (IsNextFirst c w word) h.probes (first_to c w word r.probes may.1)))
 may_alike c w r q h (LoadSecond word) may = (
@@ -148,6 +148,6 @@ may_alike c w r q h (LoadSecond word) may = (
   begun_from q.probes (subst AreBegun h.probes (begun_to r.probes may.1)),
   second_from c w word q.probes (subst (IsNextSecond c w word) h.probes (second_to c w word r.probes may.2)),
 )
-may_alike c w r q h (Ends sequence) may =
+may_alike c w r q h (EndLookup sequence) may =
     (sym h.phase ∙ may.0, answered_from q.probes (subst AreAnswered h.probes (answered_to r.probes may.1)), may.2)
-may_alike c w r q h (Meets sequence) may = (subst IsBetweenDeeds h.phase may.0, may.1)
+may_alike c w r q h (MeetWriter sequence) may = (subst IsBetweenDeeds h.phase may.0, may.1)

@@ -9,13 +9,13 @@ use Rattle.lpm_trace.specs.declared.kind.Actor.TheVariants.{Worker as WorkerActo
 use Rattle.lpm_trace.specs.declared.kind.Deed.{Deed}
 use Rattle.lpm_trace.specs.declared.kind.Step.{Step}
 use Rattle.lpm_trace.specs.declared.step.WriterStep.{WriterStep}
-use Rattle.lpm_trace.specs.declared.step.WriterStep.TheVariants.{StoreFirst, StoreSecond, Opens, Closes, BumpToken, LoadCounter}
+use Rattle.lpm_trace.specs.declared.step.WriterStep.TheVariants.{StoreFirst, StoreSecond, BeginUpdate, EndUpdate, BumpToken, LoadCounter}
 use Rattle.lpm_trace.specs.declared.step.WorkerStep.{WorkerStep}
 use Rattle.lpm_trace.specs.declared.step.TraceStep.{TraceStep}
 use Rattle.lpm_trace.specs.declared.step.TraceStep.TheVariants.{Worker as ByWorker}
-use Rattle.lpm_trace.specs.Tables.{Setup, tables, begun_at}
-use Rattle.lpm_trace.specs.declared.step.WorkerStep.TheVariants.{LoadOnline, StoreOnline, LoadQuiescent, StoreQuiescent, StoreOffline, Begins, LoadFirst, LoadSecond, Ends, Meets}
-use Rattle.lpm_trace.specs.Workers.{Worker, Probe, Unread, InGroup, Answered, Seen as Finished, with_answers, moved, MayRead}
+use Rattle.lpm_trace.specs.States.{InitialState, state_after, begun_at}
+use Rattle.lpm_trace.specs.declared.step.WorkerStep.TheVariants.{LoadOnline, StoreOnline, LoadQuiescent, StoreQuiescent, StoreOffline, BeginLookup, LoadFirst, LoadSecond, EndLookup, MeetWriter}
+use Rattle.lpm_trace.specs.Workers.{Worker, Probe, Unread, InGroup, Answered, Seen as Finished, with_answers, worker_by_step, MayRead}
 use Rattle.lpm_trace.specs.Trace.{after, MayCome, writes, worker_of}
 use Rattle.lpm_trace.proofs.Traces.{tables_of}
 use Rattle.interleave.specs.declared.seen.Seen.{Seen}
@@ -26,41 +26,41 @@ use Rattle.interleave.specs.Shown.{finished_by, seen_by}
 use Rattle.interleave.specs.Record.{all_shown}
 use Rattle.interleave.specs.Schedule.{HasEnded, IsScheduled}
 use Rattle.interleave.specs.View.{WorldView, script_at}
-use Rattle.interleave.specs.World.{IsWorld, IsDoneAfter, AreAt, used}
+use Rattle.interleave.specs.World.{IsWorld, IsDoneAfter, AreAt, used_items}
 use Rattle.interleave.proofs.Items.{used_more}
 use Rattle.interleave.proofs.Timeless.{workers_alike, may_alike}
 
 -- there are as many second words as there were at the opening
-seconds_stay : (c : Setup) (steps : List WriterStep) → length (tables c steps).words.seconds ≡ length c.words.seconds
+seconds_stay : (c : InitialState) (steps : List WriterStep) → length (state_after c steps).words.seconds ≡ length c.words.seconds
 seconds_stay c [] = refl
 seconds_stay c (StoreFirst i x ∷ steps) = seconds_stay c steps
-seconds_stay c (StoreSecond j x ∷ steps) = length-set (tables c steps).words.seconds j x ∙ seconds_stay c steps
-seconds_stay c (Opens change ∷ steps) = seconds_stay c steps
-seconds_stay c (Closes ∷ steps) = seconds_stay c steps
+seconds_stay c (StoreSecond j x ∷ steps) = length-set (state_after c steps).words.seconds j x ∙ seconds_stay c steps
+seconds_stay c (BeginUpdate change ∷ steps) = seconds_stay c steps
+seconds_stay c (EndUpdate ∷ steps) = seconds_stay c steps
 seconds_stay c (BumpToken ∷ steps) = seconds_stay c steps
 seconds_stay c (LoadCounter token worker counter ∷ steps) = seconds_stay c steps
 
-shown_steps : (c : Setup) (steps : List TraceStep) → length (all_shown c steps) ≡ length steps
+shown_steps : (c : InitialState) (steps : List TraceStep) → length (all_shown c steps) ≡ length steps
 shown_steps c [] = refl
 shown_steps c (s ∷ steps) = length-append (all_shown c steps) _ ∙ add-one (length (all_shown c steps)) ∙ ap suc (shown_steps c steps)
 
 -- the workers where worker k, which is m now, has made one more step
 at_moved : (first second seconds : ℕ) (machines : List Machine) (scripts : List (List Deed)) (steps : List TraceStep) (k : ℕ) (s : WorkerStep) (m : Machine)
     → AreAt first second seconds machines scripts steps → k < length machines
-    → IsAt first second seconds m (script_at scripts k) (moved (suc (length steps)) (worker_of k steps) s) (s ∷ steps_by k steps)
+    → IsAt first second seconds m (script_at scripts k) (worker_by_step (suc (length steps)) (worker_of k steps) s) (s ∷ steps_by k steps)
     → AreAt first second seconds (slice_set machines k m) scripts (ByWorker k s ∷ steps)
 at_moved first second seconds machines scripts steps k s m at inside here = λ j lt. elim (eqb_tells j k) [
   | inl h ↦ (
     m,
     λ other. ap (λ i. get_or (slice_set machines k m) i other) h.1 ∙ get_or-set_same machines k m other inside,
-    subst (λ b. IsAt first second seconds m (script_at scripts j) (cond b (moved (suc (length steps)) (worker_of j steps) s) (worker_of j steps)) (cond b (s ∷ steps_by j steps) (steps_by j steps))) (sym h.0)
-        (subst (λ i. IsAt first second seconds m (script_at scripts i) (moved (suc (length steps)) (worker_of i steps) s) (s ∷ steps_by i steps)) (sym h.1) here),
+    subst (λ b. IsAt first second seconds m (script_at scripts j) (cond b (worker_by_step (suc (length steps)) (worker_of j steps) s) (worker_of j steps)) (cond b (s ∷ steps_by j steps) (steps_by j steps))) (sym h.0)
+        (subst (λ i. IsAt first second seconds m (script_at scripts i) (worker_by_step (suc (length steps)) (worker_of i steps) s) (s ∷ steps_by i steps)) (sym h.1) here),
   )
   | inr h ↦
       let was = at j lt in (
         was.0,
         λ other. get_or-set_other machines k j m other h.1 ∙ was.1 other,
-        subst (λ b. IsAt first second seconds was.0 (script_at scripts j) (cond b (moved (suc (length steps)) (worker_of j steps) s) (worker_of j steps)) (cond b (s ∷ steps_by j steps) (steps_by j steps))) (sym h.0) was.2,
+        subst (λ b. IsAt first second seconds was.0 (script_at scripts j) (cond b (worker_by_step (suc (length steps)) (worker_of j steps) s) (worker_of j steps)) (cond b (s ∷ steps_by j steps) (steps_by j steps))) (sym h.0) was.2,
       )
 ]
 
@@ -77,7 +77,7 @@ moved_by v next k m step seen = record v {
   seen = seen;
 }
 
-pub turn_passes : (first second : ℕ) (v : WorldView) (c : Setup) (whole : Option (List WriterStep)) (trace : List TraceStep) (item : Actor) (next : ℕ) → next ≡ suc v.next
+pub turn_passes : (first second : ℕ) (v : WorldView) (c : InitialState) (whole : Option (List WriterStep)) (trace : List TraceStep) (item : Actor) (next : ℕ) → next ≡ suc v.next
     → v.next < length v.schedule → get_or v.schedule v.next item ≡ item
     → HasEnded (length v.scripts) (script_at v.scripts) (IsDoneAfter whole) item trace
     → IsWorld first second v c whole trace [] → IsWorld first second (passed_by v next) c whole trace []
@@ -89,7 +89,7 @@ turn_passes first second v c whole trace item next more left is ended world = re
   words_are = world.words_are;
   token_is = world.token_is;
   sequence_is = world.sequence_is;
-  made = subst (λ items. IsScheduled (HasEnded (length v.scripts) (script_at v.scripts) (IsDoneAfter whole)) items trace) (sym (ap (used v.schedule) more ∙ used_more v.schedule v.next item left is)) (inl (ended, world.made));
+  made = subst (λ items. IsScheduled (HasEnded (length v.scripts) (script_at v.scripts) (IsDoneAfter whole)) items trace) (sym (ap (used_items v.schedule) more ∙ used_more v.schedule v.next item left is)) (inl (ended, world.made));
   shown = world.shown;
   finished = world.finished;
   at = world.at;
@@ -99,8 +99,8 @@ turn_passes first second v c whole trace item next more left is ended world = re
 }
 
 -- the tables that the workers read
-pub is_of : (first second : ℕ) (v : WorldView) (c : Setup) (whole : Option (List WriterStep)) (trace : List TraceStep) → IsWorld first second v c whole trace []
-    → IsOf first second v.words v.sequence v.token c (tables c (writes trace))
+pub is_of : (first second : ℕ) (v : WorldView) (c : InitialState) (whole : Option (List WriterStep)) (trace : List TraceStep) → IsWorld first second v c whole trace []
+    → IsOf first second v.words v.sequence v.token c (state_after c (writes trace))
 is_of first second v c whole trace world = record {
   first_width = world.first_bits;
   second_width = world.second_bits;
@@ -109,12 +109,12 @@ is_of first second v c whole trace world = record {
   token_is = sym world.token_is;
 }
 
-words_of : (first second : ℕ) (v : WorldView) (c : Setup) (whole : Option (List WriterStep)) (trace : List TraceStep) → IsWorld first second v c whole trace []
+words_of : (first second : ℕ) (v : WorldView) (c : InitialState) (whole : Option (List WriterStep)) (trace : List TraceStep) → IsWorld first second v c whole trace []
     → length v.words.seconds ≡ length c.words.seconds
 words_of first second v c whole trace world = ap (λ (x : Words). length x.seconds) world.words_are ∙ seconds_stay c (writes trace)
 
 -- where a worker stands
-pub stands : (first second : ℕ) (v : WorldView) (c : Setup) (whole : Option (List WriterStep)) (trace : List TraceStep) → IsWorld first second v c whole trace []
+pub stands : (first second : ℕ) (v : WorldView) (c : InitialState) (whole : Option (List WriterStep)) (trace : List TraceStep) → IsWorld first second v c whole trace []
     → (k : ℕ) (m other : Machine) (script : List Deed) → k < length v.scripts → m ≡ get_or v.machines k other → script ≡ script_at v.scripts k
     → IsAt first second (length v.words.seconds) m script (worker_of k trace) (steps_by k trace)
 stands first second v c whole trace world k m other script inside is same =
@@ -136,11 +136,11 @@ finished_few r (StoreOnline token) = omega arith
 finished_few r (LoadQuiescent token) = omega arith
 finished_few r (StoreQuiescent token) = omega arith
 finished_few r StoreOffline = omega arith
-finished_few r (Begins addrs sequence) = omega arith
+finished_few r (BeginLookup addrs sequence) = omega arith
 finished_few r (LoadFirst word) = omega arith
 finished_few r (LoadSecond word) = omega arith
-finished_few r (Ends sequence) = omega (arith, answers_few r.lo (begun_at sequence) r.probes [])
-finished_few r (Meets sequence) = omega arith
+finished_few r (EndLookup sequence) = omega (arith, answers_few r.lo (begun_at sequence) r.probes [])
+finished_few r (MeetWriter sequence) = omega arith
 
 -- a step finishes at most four lookups
 pub four_at_most : (first second seconds : ℕ) (m : Machine) (script : List Deed) (r : Worker) (own : List WorkerStep) (k : ℕ) (s : WorkerStep) (before later : List Seen)
@@ -154,18 +154,18 @@ four_at_most first second seconds m script r own k s before later at noted =
     ∙ ap (λ n. length before + n) (length-reverse (map (seen_by k) (finished_by r s)) ∙ length-map (finished_by r s) (seen_by k)) in
     omega (arith, probes, len, more, finished_few r s, at.few)
 
-pub turn_moves : (first second : ℕ) (v : WorldView) (c : Setup) (whole : Option (List WriterStep)) (trace : List TraceStep) (k next now : ℕ) (script : List Deed) (m : Machine) (step : Step) (seen : List Seen)
+pub turn_moves : (first second : ℕ) (v : WorldView) (c : InitialState) (whole : Option (List WriterStep)) (trace : List TraceStep) (k next now : ℕ) (script : List Deed) (m : Machine) (step : Step) (seen : List Seen)
     → next ≡ suc v.next → now ≡ suc (length v.steps) → script ≡ script_at v.scripts k
     → v.next < length v.schedule → get_or v.schedule v.next (WorkerActor k) ≡ WorkerActor k → k < length v.scripts → length v.machines ≡ length v.scripts
     → IsWorld first second v c whole trace []
-    → Advances first second (length v.words.seconds) c (tables c (writes trace)) k now script (worker_of k trace) (steps_by k trace) m step v.seen seen
+    → Advances first second (length v.words.seconds) c (state_after c (writes trace)) k now script (worker_of k trace) (steps_by k trace) m step v.seen seen
     → (later : List TraceStep) × IsWorld first second (moved_by v next k m step seen) c whole later [] × (writes later ≡ writes trace)
 turn_moves first second v c whole trace k next now script m step seen more when same left is inside as_many world adv =
     let s : WorkerStep = adv.made in
     let later : List TraceStep = ByWorker k s ∷ trace in
     let machines : k < length v.machines = omega arith in
     let time : now ≡ suc (length trace) = when ∙ ap suc (ap length world.shown ∙ shown_steps c trace) in
-    let read : MayRead c (tables c (writes trace)) ((after c trace).workers k) s = may_alike c (tables c (writes trace)) (worker_of k trace) ((after c trace).workers k) (workers_alike c trace k) s adv.may in
+    let read : MayRead c (state_after c (writes trace)) ((after c trace).workers k) s = may_alike c (state_after c (writes trace)) (worker_of k trace) ((after c trace).workers k) (workers_alike c trace k) s adv.may in
     let may : MayCome c (after c trace) (ByWorker k s) = (subst (λ n. k < n) (sym world.workers) inside, subst (λ w. MayRead c w ((after c trace).workers k) s) (sym (tables_of c trace)) read) in (
       later,
       record {
@@ -176,13 +176,13 @@ turn_moves first second v c whole trace k next now script m step seen more when 
         words_are = world.words_are;
         token_is = world.token_is;
         sequence_is = world.sequence_is;
-        made = subst (λ items. IsScheduled (HasEnded (length v.scripts) (script_at v.scripts) (IsDoneAfter whole)) items later) (sym (ap (used v.schedule) more ∙ used_more v.schedule v.next (WorkerActor k) left is)) (inr (ByWorker k s, trace, refl, refl, world.made));
+        made = subst (λ items. IsScheduled (HasEnded (length v.scripts) (script_at v.scripts) (IsDoneAfter whole)) items later) (sym (ap (used_items v.schedule) more ∙ used_more v.schedule v.next (WorkerActor k) left is)) (inr (ByWorker k s, trace, refl, refl, world.made));
         shown = ap (λ xs. xs ++ step ∷ []) world.shown ∙ ap (λ x. all_shown c trace ++ x ∷ []) adv.shown;
         finished = adv.noted ∙ ap (λ xs. xs ++ reverse (map (seen_by k) (finished_by (worker_of k trace) s))) world.finished;
         at = at_moved first second (length c.words.seconds) v.machines v.scripts trace k s m world.at machines
-            (subst (λ n. IsAt first second n m (script_at v.scripts k) (moved (suc (length trace)) (worker_of k trace) s) (s ∷ steps_by k trace)) (words_of first second v c whole trace world)
-            (subst (λ x. IsAt first second (length v.words.seconds) m x (moved (suc (length trace)) (worker_of k trace) s) (s ∷ steps_by k trace)) same
-            (subst (λ n. IsAt first second (length v.words.seconds) m script (moved n (worker_of k trace) s) (s ∷ steps_by k trace)) time adv.at)));
+            (subst (λ n. IsAt first second n m (script_at v.scripts k) (worker_by_step (suc (length trace)) (worker_of k trace) s) (s ∷ steps_by k trace)) (words_of first second v c whole trace world)
+            (subst (λ x. IsAt first second (length v.words.seconds) m x (worker_by_step (suc (length trace)) (worker_of k trace) s) (s ∷ steps_by k trace)) same
+            (subst (λ n. IsAt first second (length v.words.seconds) m script (worker_by_step n (worker_of k trace) s) (s ∷ steps_by k trace)) time adv.at)));
         at_end = λ some. absurd (some refl);
         late = λ some. absurd (some refl);
         in_time = world.in_time;

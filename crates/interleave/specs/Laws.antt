@@ -7,7 +7,7 @@ use Rattle.qsbr.specs.Intervals.{Interval, IsReaderInterval, Holds}
 use Rattle.lpm_trace.specs.declared.step.WriterStep.{WriterStep}
 use Rattle.lpm_trace.specs.declared.step.TraceStep.{TraceStep}
 use Rattle.lpm_trace.specs.declared.step.TraceStep.TheVariants.{Writer}
-use Rattle.lpm_trace.specs.Tables.{Setup, IsSettled, addresses, answer, IsAnswer, done, begun, version}
+use Rattle.lpm_trace.specs.States.{InitialState, IsSettled, addresses, answer, IsAnswer, updates_done_in, updates_begun_in, version}
 use Rattle.lpm_trace.specs.Trace.{IsTrace, worker_of}
 use Rattle.lpm_trace.specs.Laws.{Stands, IsLegal, Unlinks, Fills, by_steps, at_moment, rules_of_version}
 
@@ -17,15 +17,15 @@ use Rattle.lpm_trace.specs.Laws.{Stands, IsLegal, Unlinks, Fills, by_steps, at_m
 -- ---- a trace
 -- Steps of which each may come after those before it, the newest first: `IsTrace` of
 -- `lpm_trace/specs/Trace`. A load gives what the word was left with, a worker makes the steps of
--- reports and lookups, and the writer those of updates and checks in its own order (`Course`). A table
--- begins with words that answer by its rules (`IsSettled` of `lpm_trace/specs/Tables`). Moment t is the
+-- reports and lookups, and the writer those of updates and checks in its own order (`WriterProgress`). A table
+-- begins with words that answer by its rules (`IsSettled` of `lpm_trace/specs/TableState`). Moment t is the
 -- state after the first t steps (`at_moment`).
 
 -- ---- a version
 -- Version k is the rules after the changes of the first k updates (`rules_of_version`). It stands at a
 -- moment where its update was begun, and the next one wasn't done (`Stands`). Both are of
 -- `lpm_trace/specs/Laws`. An address shows a version at each moment (`version` of
--- `lpm_trace/specs/Tables`).
+-- `lpm_trace/specs/TableState`).
 
 -- ---- a legal lookup
 -- The hop is that of the longest match in the rules of the version that its address shows at a moment
@@ -40,11 +40,11 @@ use Rattle.lpm_trace.specs.Laws.{Stands, IsLegal, Unlinks, Fills, by_steps, at_m
 
 -- ---- the law
 
-pub record IsLawful (c : Setup) (steps : List TraceStep) : Type 0 where
+pub record IsLawful (c : InitialState) (steps : List TraceStep) : Type 0 where
   -- at each moment at which no update runs, the words answer by the rules of the last version
-  pub rest : (t : ℕ) → done (at_moment c steps t) ≡ begun (at_moment c steps t)
+  pub rest : (t : ℕ) → updates_done_in (at_moment c steps t) ≡ updates_begun_in (at_moment c steps t)
       → (a : ℕ) → a < addresses c
-      → IsAnswer c (rules_of_version c steps (done (at_moment c steps t))) a
+      → IsAnswer c (rules_of_version c steps (updates_done_in (at_moment c steps t))) a
       (answer c (at_moment c steps t).words a)
   -- each lookup that a worker has finished is legal
   pub legal : (worker : ℕ) → All (IsLegal c steps) (worker_of worker steps).finished
@@ -61,4 +61,4 @@ pub record IsLawful (c : Setup) (steps : List TraceStep) : Type 0 where
 
 -- each trace is lawful, whatever table it begins with, and whatever makes its steps
 abbrev pub TracesAreLawful : Type 0
-TracesAreLawful = (c : Setup) (steps : List TraceStep) → IsSettled c → IsTrace c steps → IsLawful c steps
+TracesAreLawful = (c : InitialState) (steps : List TraceStep) → IsSettled c → IsTrace c steps → IsLawful c steps

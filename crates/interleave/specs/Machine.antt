@@ -6,8 +6,8 @@ use Rattle.lpm_cells.specs.Table.{Words}
 use Rattle.lpm_trace.specs.declared.kind.Deed.{Deed}
 use Rattle.lpm_trace.specs.declared.kind.Step.{Step}
 use Rattle.lpm_trace.specs.declared.step.WorkerStep.{WorkerStep}
-use Rattle.lpm_trace.specs.Tables.{Setup, Tables, addresses}
-use Rattle.lpm_trace.specs.Workers.{Worker, Phase, Probe, Unread, InGroup, Answered, Offline, ComingOnline, Online, LookingUp, ReportingQuiescent, AreBegun, AreAnswered, moved, MayRead}
+use Rattle.lpm_trace.specs.States.{InitialState, TableState, addresses}
+use Rattle.lpm_trace.specs.Workers.{Worker, Phase, Probe, Unread, InGroup, Answered, Offline, ComingOnline, Online, LookingUp, ReportingQuiescent, AreBegun, AreAnswered, worker_by_step, MayRead}
 use Rattle.interleave.specs.declared.probe.Probe.{Probe as OwnProbe}
 use Rattle.interleave.specs.declared.probe.Probe.TheVariants as probe
 use Rattle.interleave.specs.declared.probe.Grouped.{Grouped}
@@ -91,8 +91,8 @@ pub record IsAt (first second seconds : ℕ) (machine : Machine) (script : List 
   pub in_range : All (IsInRange (2 ^ (first + second)) second seconds) r.probes
 
 -- the tables hold these words, this sequence and this token
-pub record IsOf (first second : ℕ) (words : Words) (sequence token : ℕ) (c : Setup)
-    (w : Tables) : Type 0 where
+pub record IsOf (first second : ℕ) (words : Words) (sequence token : ℕ) (c : InitialState)
+    (w : TableState) : Type 0 where
   pub first_width : c.first ≡ first
   pub second_width : c.second ≡ second
   pub words_are : w.words ≡ words
@@ -100,19 +100,19 @@ pub record IsOf (first second : ℕ) (words : Words) (sequence token : ℕ) (c :
   pub token_is : w.token ≡ token
 
 -- worker k makes this step at the time `now`, and r is what its earlier steps left
-pub record Makes (c : Setup) (w : Tables) (k now : ℕ) (r : Worker) (s : WorkerStep)
+pub record Makes (c : InitialState) (w : TableState) (k now : ℕ) (r : Worker) (s : WorkerStep)
     (machine : Machine) (step : Step) : Type 0 where
   pub may : MayRead c w r s
-  pub shows : Shows machine (moved now r s)
+  pub shows : Shows machine (worker_by_step now r s)
   pub shown : step ≡ shown_by c k r s
 
 -- worker k makes the first step of the deed, from which the rest of its script is sound still
-pub record BeginsDeed (c : Setup) (w : Tables) (k now : ℕ) (r : Worker) (deed : Deed)
+pub record BeginsDeed (c : InitialState) (w : TableState) (k now : ℕ) (r : Worker) (deed : Deed)
     (left : List Deed) (machine : Machine) (step : Step) : Type 0 where
   pub made : WorkerStep
   pub begins : BeginsWith deed made
   pub makes : Makes c w k now r made machine step
-  pub sound : IsSoundFrom (addresses c) (is_online (moved now r made).phase) left
+  pub sound : IsSoundFrom (addresses c) (is_online (worker_by_step now r made).phase) left
   pub unfinished : finished_by r made ≡ []
 
 -- the lookups that the step finishes come after those that were finished before, the oldest first
@@ -120,7 +120,7 @@ abbrev pub IsNoted : ℕ → Worker → WorkerStep → List Seen → List Seen �
 IsNoted k r s before after = after ≡ before ++ reverse (map (seen_by k) (finished_by r s))
 
 -- worker k goes on with a deed that has begun
-pub record ContinuesDeed (c : Setup) (w : Tables) (k now : ℕ) (r : Worker) (machine : Machine)
+pub record ContinuesDeed (c : InitialState) (w : TableState) (k now : ℕ) (r : Worker) (machine : Machine)
     (step : Step) (before after : List Seen) : Type 0 where
   pub made : WorkerStep
   pub goes : GoesOn made
@@ -128,11 +128,11 @@ pub record ContinuesDeed (c : Setup) (w : Tables) (k now : ℕ) (r : Worker) (ma
   pub noted : IsNoted k r made before after
 
 -- worker k makes the next step of its script
-pub record Advances (first second seconds : ℕ) (c : Setup) (w : Tables) (k now : ℕ)
+pub record Advances (first second seconds : ℕ) (c : InitialState) (w : TableState) (k now : ℕ)
     (script : List Deed) (r : Worker) (own : List WorkerStep) (machine : Machine) (step : Step)
     (before after : List Seen) : Type 0 where
   pub made : WorkerStep
   pub may : MayRead c w r made
-  pub at : IsAt first second seconds machine script (moved now r made) (made ∷ own)
+  pub at : IsAt first second seconds machine script (worker_by_step now r made) (made ∷ own)
   pub shown : step ≡ shown_by c k r made
   pub noted : IsNoted k r made before after

@@ -7,10 +7,10 @@ use Rattle.lpm_trace.specs.declared.kind.Kind.{Kind}
 use Rattle.lpm_trace.specs.declared.kind.Kind.TheVariants as kind
 use Rattle.lpm_trace.specs.declared.kind.Step.{Step}
 use Rattle.lpm_trace.specs.declared.step.WriterStep.{WriterStep}
-use Rattle.lpm_trace.specs.declared.step.WriterStep.TheVariants.{StoreFirst, StoreSecond, Opens, Closes, BumpToken, LoadCounter}
+use Rattle.lpm_trace.specs.declared.step.WriterStep.TheVariants.{StoreFirst, StoreSecond, BeginUpdate, EndUpdate, BumpToken, LoadCounter}
 use Rattle.lpm_trace.specs.declared.step.TraceStep.{TraceStep}
 use Rattle.lpm_trace.specs.declared.step.TraceStep.TheVariants.{Writer, Worker as ByWorker}
-use Rattle.lpm_trace.specs.Tables.{Setup}
+use Rattle.lpm_trace.specs.States.{InitialState}
 use Rattle.lpm_trace.specs.Trace.{after, worker_of}
 use Rattle.interleave.specs.declared.seen.Seen.{Seen}
 use Rattle.interleave.specs.Shown.{shown_by, finished_by, seen_by}
@@ -24,22 +24,22 @@ step_of_writer kind index value =
 abbrev pub shown_write : ℕ → ℕ → WriterStep → Step
 shown_write sequence token (StoreFirst i word) = step_of_writer kind.StoreFirst i word
 shown_write sequence token (StoreSecond j word) = step_of_writer kind.StoreSecond j word
-shown_write sequence token (Opens change) = step_of_writer kind.BumpSequence 0 (suc sequence)
-shown_write sequence token Closes = step_of_writer kind.BumpSequence 0 (suc sequence)
+shown_write sequence token (BeginUpdate change) = step_of_writer kind.BumpSequence 0 (suc sequence)
+shown_write sequence token EndUpdate = step_of_writer kind.BumpSequence 0 (suc sequence)
 shown_write sequence token BumpToken = step_of_writer kind.BumpToken 0 (suc token)
 shown_write sequence token (LoadCounter checked worker counter) =
     step_of_writer kind.LoadCounter worker counter
 
 -- a step as a run shows it, after these earlier ones
-abbrev pub shown : Setup → List TraceStep → TraceStep → Step
-shown c earlier (Writer s) =
-    shown_write (after c earlier).tables.sequence (after c earlier).tables.token s
-shown c earlier (ByWorker k s) = shown_by c k (worker_of k earlier) s
+abbrev pub step_shown : InitialState → List TraceStep → TraceStep → Step
+step_shown c earlier (Writer s) =
+    shown_write (after c earlier).state.sequence (after c earlier).state.token s
+step_shown c earlier (ByWorker k s) = shown_by c k (worker_of k earlier) s
 
 -- all steps of a trace as a run shows them, the oldest first
-abbrev pub all_shown : Setup → List TraceStep → List Step
+abbrev pub all_shown : InitialState → List TraceStep → List Step
 all_shown c [] = []
-all_shown c (s ∷ steps) = all_shown c steps ++ shown c steps s ∷ []
+all_shown c (s ∷ steps) = all_shown c steps ++ step_shown c steps s ∷ []
 
 -- the lookups that a step finishes, after these earlier ones, in the order of their addresses
 abbrev pub seen_in : List TraceStep → TraceStep → List Seen

@@ -12,16 +12,16 @@ use Rattle.lpm_trace.specs.declared.kind.Deed.{Deed}
 use Rattle.lpm_trace.specs.declared.step.WriterStep.{WriterStep}
 use Rattle.lpm_trace.specs.declared.step.TraceStep.{TraceStep}
 use Rattle.lpm_trace.specs.declared.step.TraceStep.TheVariants.{Writer}
-use Rattle.lpm_trace.specs.Tables.{Setup, IsSettled}
+use Rattle.lpm_trace.specs.States.{InitialState, IsSettled}
 use Rattle.lpm_trace.specs.Trace.{IsTrace, writes, worker_of}
 use Rattle.interleave.specs.declared.seen.Seen.{Seen}
 use Rattle.interleave.specs.Shown.{seen_by}
 use Rattle.interleave.specs.Record.{all_shown, all_seen, seen_of}
 use Rattle.interleave.specs.Schedule.{HasEnded, IsScheduled, AreScripted, writer_items}
-use Rattle.lpm_writer.specs.Opening.{opening_setup}
+use Rattle.lpm_writer.specs.Blank.{blank_state}
 use Rattle.interleave.specs.declared.reply.Reply.{Reply}
 use Rattle.interleave.specs.declared.trace.Trace.{Trace}
-use Rattle.interleave.specs.Replies.{Kept, HasTokensLeft, Waits, CameOut, IsAtRest}
+use Rattle.interleave.specs.Replies.{StateBySteps, HasTokensLeft, Waits, CameOut, IsAtRest}
 use Rattle.interleave.specs.Laws.{IsLawful}
 
 -- ---- the writer's script
@@ -29,23 +29,23 @@ use Rattle.interleave.specs.Laws.{IsLawful}
 -- n items of the schedule are the writer's: a change is begun where one is left for it, and answered
 -- where its last step has one. So the changes of the log, each with its reply and the newest first,
 -- were answered one after another, and left z.
-abbrev pub HaveComeOut : Setup → (f g : ℕ) → Config → ℕ → Kept → List (Change f g × Reply) → Kept
+abbrev pub HaveComeOut : InitialState → (f g : ℕ) → Config → ℕ → StateBySteps → List (Change f g × Reply) → StateBySteps
     → Type 0
 HaveComeOut c f g config n opening [] z = z ≡ opening
-HaveComeOut c f g config n opening (entry ∷ log) z = (s : Kept)
+HaveComeOut c f g config n opening (entry ∷ log) z = (s : StateBySteps)
     × HaveComeOut c f g config n opening log s
     × (length s.readers < n) × (length z.readers ≤ n)
     × CameOut c f g config s entry.0 entry.1 z
 
 -- with these steps the change would come out in some way, or a synchronize, for which there were tokens,
 -- would wait on
-abbrev pub IsUnderWay : Setup → (f g : ℕ) → Config → Kept → Change f g → List WriterStep → Type 0
+abbrev pub IsUnderWay : InitialState → (f g : ℕ) → Config → StateBySteps → Change f g → List WriterStep → Type 0
 IsUnderWay c f g config s change steps =
-    ((reply : Reply) × (z : Kept) × CameOut c f g config s change reply z × (z.readers ≡ steps))
+    ((reply : Reply) × (z : StateBySteps) × CameOut c f g config s change reply z × (z.readers ≡ steps))
     ⊎ ((change ≡ Synchronize) × HasTokensLeft c config s × ((tries : ℕ) × Waits c tries s.readers steps))
 
 -- of the changes that are left the first wasn't begun, or would need more than the writer's items
-abbrev pub AreUnanswered : Setup → (f g : ℕ) → Config → ℕ → Kept → List (Change f g) → List WriterStep
+abbrev pub AreUnanswered : InitialState → (f g : ℕ) → Config → ℕ → StateBySteps → List (Change f g) → List WriterStep
     → Type 0
 AreUnanswered c f g config n s [] steps = steps ≡ s.readers
 AreUnanswered c f g config n s (change ∷ left) steps =
@@ -54,11 +54,11 @@ AreUnanswered c f g config n s (change ∷ left) steps =
 
 -- the changes of the script were answered in order, as far as the writer's items lead; `steps` are the
 -- writer's, with those that the last change still needs
-pub record IsPerformed (c : Setup) (f g : ℕ) (config : Config) (n : ℕ) (opening : Kept)
+pub record IsPerformed (c : InitialState) (f g : ℕ) (config : Config) (n : ℕ) (opening : StateBySteps)
     (script : List (Change f g)) (replies : List Reply) (steps : List WriterStep) : Type 0 where
   pub log : List (Change f g × Reply)
   pub left : List (Change f g)
-  pub last : Kept
+  pub last : StateBySteps
   pub script_is : script ≡ reverse (map (λ entry. entry.0) log) ++ left
   pub replies_are : replies ≡ reverse (map (λ entry. entry.1) log)
   pub answered : HaveComeOut c f g config n opening log last
@@ -67,8 +67,8 @@ pub record IsPerformed (c : Setup) (f g : ℕ) (config : Config) (n : ℕ) (open
 -- ---- traces of changes and deeds
 
 -- there are no rules, no steps were made, no group waits, and no update was begun
-abbrev pub opening_kept : Kept
-opening_kept = record { rules = empty; readers = []; limbo = []; begun = 0 }
+abbrev pub initial_state_by_steps : StateBySteps
+initial_state_by_steps = record { rules = empty; readers = []; limbo = []; begun = 0 }
 
 -- the steps, the newest first, of a writer that makes these changes one after another, and of workers that do
 -- the deeds of their scripts, on a table that was just opened. n items of a schedule are the writer's, and
@@ -81,9 +81,9 @@ opening_kept = record { rules = empty; readers = []; limbo = []; begun = 0 }
 pub record IsTraceOf (f g : ℕ) (config : Config) (script : List (Change f g))
     (scripts : ℕ → List Deed) (n : ℕ) (replies : List Reply) (beyond : List WriterStep)
     (steps : List TraceStep) : Type 0 where
-  pub may_come : IsTrace (opening_setup f g config) (map Writer beyond ++ steps)
+  pub may_come : IsTrace (blank_state f g config) (map Writer beyond ++ steps)
   pub scripted : AreScripted scripts steps
-  pub performed : IsPerformed (opening_setup f g config) f g config n opening_kept script replies
+  pub performed : IsPerformed (blank_state f g config) f g config n initial_state_by_steps script replies
       (beyond ++ writes steps)
 
 -- ---- the run
@@ -104,7 +104,7 @@ pub record IsRun (f g : ℕ) (config : Config) (script : List (Change f g))
       (HasEnded config.workers scripts (λ earlier. writes earlier ≡ beyond ++ writes steps))
       (reverse schedule) steps
   -- each step, and each finished lookup and no other
-  pub shows_steps : shown.steps.items ≡ all_shown (opening_setup f g config) steps
+  pub shows_steps : shown.steps.items ≡ all_shown (blank_state f g config) steps
   pub shows_lookups : shown.lookups.items ≡ all_seen steps
 
 -- ---- what holds of a run
@@ -115,9 +115,9 @@ ShowsFinished steps lookups = (worker : ℕ) → seen_of worker lookups
     ≡ reverse (map (seen_by worker) (worker_of worker steps).finished)
 
 -- a table that was just opened with limits in range is one that traces begin with, and is at rest
-abbrev pub OpeningsAreSettled : Type 0
-OpeningsAreSettled = (f g : ℕ) (config : Config) → IsConfig config
-    → IsSettled (opening_setup f g config) × IsAtRest f g (opening_setup f g config) opening_kept
+abbrev pub InitialStatesAreSettled : Type 0
+InitialStatesAreSettled = (f g : ℕ) (config : Config) → IsConfig config
+    → IsSettled (blank_state f g config) × IsAtRest f g (blank_state f g config) initial_state_by_steps
 
 -- the steps of each run are lawful, it shows what its workers have finished, and after the last change
 -- that was answered the table is at rest: the groups linked are the blocks of its rules
@@ -125,6 +125,6 @@ abbrev pub RunsAreLawful : Type 0
 RunsAreLawful = (f g : ℕ) (config : Config) (script : List (Change f g)) (scripts : ℕ → List Deed)
     (schedule : List Actor) (shown : Trace) → IsConfig config
     → (run : IsRun f g config script scripts schedule shown)
-    → IsLawful (opening_setup f g config) run.steps
+    → IsLawful (blank_state f g config) run.steps
     × ShowsFinished run.steps shown.lookups.items
-    × IsAtRest f g (opening_setup f g config) run.trace.performed.last
+    × IsAtRest f g (blank_state f g config) run.trace.performed.last

@@ -5,7 +5,7 @@ use Rattle.std.specs.Prelude.{◌≡◌, ℕ, ◌<◌, ◌⊎◌, ⊤, Bool, tru
 use Rattle.lpm_trace.specs.declared.kind.Deed.{Deed}
 use Rattle.lpm_trace.specs.declared.kind.Deed.TheVariants.{Online, Offline, Quiescent, Lookup, Lookup4, Meet}
 use Rattle.lpm_trace.specs.declared.step.WorkerStep.{WorkerStep}
-use Rattle.lpm_trace.specs.declared.step.WorkerStep.TheVariants.{LoadOnline, StoreOnline, LoadQuiescent, StoreQuiescent, StoreOffline, Begins, LoadFirst, LoadSecond, Ends, Meets}
+use Rattle.lpm_trace.specs.declared.step.WorkerStep.TheVariants.{LoadOnline, StoreOnline, LoadQuiescent, StoreQuiescent, StoreOffline, BeginLookup, LoadFirst, LoadSecond, EndLookup, MeetWriter}
 use Rattle.lpm_trace.specs.declared.step.TraceStep.{TraceStep}
 use Rattle.lpm_trace.specs.declared.step.TraceStep.TheVariants.{Writer as ByWriter, Worker as ByWorker}
 use Rattle.lpm_trace.specs.Workers.{Worker, IsBetweenDeeds}
@@ -33,9 +33,9 @@ abbrev pub BeginsWith : Deed → WorkerStep → Type 0
 BeginsWith Online (LoadOnline token) = ⊤
 BeginsWith Offline StoreOffline = ⊤
 BeginsWith Quiescent (LoadQuiescent token) = ⊤
-BeginsWith (Lookup addr) (Begins addrs sequence) = addrs ≡ addr ∷ []
-BeginsWith (Lookup4 four) (Begins addrs sequence) = addrs ≡ four
-BeginsWith Meet (Meets sequence) = ⊤
+BeginsWith (Lookup addr) (BeginLookup addrs sequence) = addrs ≡ addr ∷ []
+BeginsWith (Lookup4 four) (BeginLookup addrs sequence) = addrs ≡ four
+BeginsWith Meet (MeetWriter sequence) = ⊤
 BeginsWith deed step = ⊥
 
 -- the step goes on with a deed that has begun
@@ -45,11 +45,11 @@ GoesOn (StoreOnline token) = ⊤
 GoesOn (LoadQuiescent token) = ⊥
 GoesOn (StoreQuiescent token) = ⊤
 GoesOn StoreOffline = ⊥
-GoesOn (Begins addrs sequence) = ⊥
+GoesOn (BeginLookup addrs sequence) = ⊥
 GoesOn (LoadFirst word) = ⊤
 GoesOn (LoadSecond word) = ⊤
-GoesOn (Ends sequence) = ⊤
-GoesOn (Meets sequence) = ⊥
+GoesOn (EndLookup sequence) = ⊤
+GoesOn (MeetWriter sequence) = ⊥
 
 -- the steps are those of these deeds, of which the last may be unfinished; both lists have the
 -- newest first

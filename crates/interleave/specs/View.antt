@@ -6,7 +6,7 @@ use Rattle.lpm_trace.specs.declared.kind.Actor.{Actor}
 use Rattle.lpm_trace.specs.declared.kind.Deed.{Deed}
 use Rattle.lpm_trace.specs.declared.kind.Step.{Step}
 use Rattle.lpm_trace.specs.declared.step.WriterStep.{WriterStep}
-use Rattle.lpm_trace.specs.declared.step.WriterStep.TheVariants.{StoreFirst, StoreSecond, Opens, Closes, BumpToken}
+use Rattle.lpm_trace.specs.declared.step.WriterStep.TheVariants.{StoreFirst, StoreSecond, BeginUpdate, EndUpdate, BumpToken}
 use Rattle.interleave.specs.declared.seen.Seen.{Seen}
 use Rattle.interleave.specs.declared.worker.Worker.{Worker as Machine}
 use Rattle.interleave.specs.Record.{shown_write}
@@ -56,13 +56,13 @@ token_by token other = token
 
 -- the sequence after a step of the writer
 abbrev pub sequence_by : ℕ → WriterStep → ℕ
-sequence_by sequence (Opens change) = suc sequence
-sequence_by sequence Closes = suc sequence
+sequence_by sequence (BeginUpdate change) = suc sequence
+sequence_by sequence EndUpdate = suc sequence
 sequence_by sequence other = sequence
 
 -- a step of the writer that uses up an item, and is recorded
-abbrev pub recorded : WorldView → WriterStep → WorldView
-recorded v s = record v {
+abbrev pub with_recorded_step : WorldView → WriterStep → WorldView
+with_recorded_step v s = record v {
   words = words_by v.words s;
   sequence = sequence_by v.sequence s;
   token = token_by v.token s;
@@ -71,8 +71,8 @@ recorded v s = record v {
 }
 
 -- a step of the writer after the schedule's end: nothing is recorded
-abbrev pub unrecorded : WorldView → WriterStep → WorldView
-unrecorded v s = record v {
+abbrev pub with_unrecorded_step : WorldView → WriterStep → WorldView
+with_unrecorded_step v s = record v {
   words = words_by v.words s;
   token = token_by v.token s;
   stopped = true;

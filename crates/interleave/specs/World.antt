@@ -11,8 +11,8 @@ use Rattle.lpm_trace.specs.declared.step.TraceStep.{TraceStep}
 use Rattle.lpm_trace.specs.declared.step.TraceStep.TheVariants.{Writer}
 use Rattle.lpm_cells.specs.Words.{word_of}
 use Rattle.lpm_cells.specs.declared.entry.Entry.TheVariants.{Miss}
-use Rattle.lpm_trace.specs.Tables.{Setup, tables}
-use Rattle.lpm_trace.specs.Workers.{unstarted}
+use Rattle.lpm_trace.specs.States.{InitialState, state_after}
+use Rattle.lpm_trace.specs.Workers.{initial_worker}
 use Rattle.lpm_trace.specs.Trace.{IsTrace, writes, worker_of}
 use Rattle.lpm_trace.specs.Writer.{MayStep}
 use Rattle.interleave.specs.declared.seen.Seen.{Seen}
@@ -33,8 +33,8 @@ abbrev pub with_beyond : List WriterStep → List TraceStep → List TraceStep
 with_beyond beyond steps = map Writer beyond ++ steps
 
 -- the items that are used up, the newest first
-abbrev pub used : List Actor → ℕ → List Actor
-used schedule next = reverse (take next schedule)
+abbrev pub used_items : List Actor → ℕ → List Actor
+used_items schedule next = reverse (take next schedule)
 
 -- this is worker k
 abbrev pub IsWorker : List Machine → ℕ → Machine → Type 0
@@ -49,17 +49,17 @@ AreAt first second seconds machines scripts steps =
 -- from the opening c the used items made the trace, and beyond its end the writer made the steps
 -- `beyond`; the shared words are what both leave. `whole` tells the writer's steps where it has no more
 -- to make; there is none until then
-pub record IsWorld (first second : ℕ) (v : WorldView) (c : Setup) (whole : Option (List WriterStep))
+pub record IsWorld (first second : ℕ) (v : WorldView) (c : InitialState) (whole : Option (List WriterStep))
     (trace : List TraceStep) (beyond : List WriterStep) : Type 0 where
   pub first_bits : c.first ≡ first
   pub second_bits : c.second ≡ second
   pub workers : c.workers ≡ length v.scripts
   pub may_come : IsTrace c (with_beyond beyond trace)
-  pub words_are : v.words ≡ (tables c (beyond ++ writes trace)).words
-  pub token_is : v.token ≡ (tables c (beyond ++ writes trace)).token
-  pub sequence_is : v.sequence ≡ (tables c (writes trace)).sequence
+  pub words_are : v.words ≡ (state_after c (beyond ++ writes trace)).words
+  pub token_is : v.token ≡ (state_after c (beyond ++ writes trace)).token
+  pub sequence_is : v.sequence ≡ (state_after c (writes trace)).sequence
   pub made : IsScheduled (HasEnded (length v.scripts) (script_at v.scripts) (IsDoneAfter whole))
-      (used v.schedule v.next) trace
+      (used_items v.schedule v.next) trace
   pub shown : v.steps ≡ all_shown c trace
   pub finished : v.seen ≡ all_seen trace
   pub at : AreAt first second (length c.words.seconds) v.machines v.scripts trace
@@ -68,20 +68,20 @@ pub record IsWorld (first second : ℕ) (v : WorldView) (c : Setup) (whole : Opt
   pub in_time : beyond ≡ [] → v.stopped ≡ false
 
 -- from the opening c the writer's steps so far may be these
-abbrev pub WorldDid : ℕ → ℕ → WorldView → Setup → List WriterStep → Type 0
+abbrev pub WorldDid : ℕ → ℕ → WorldView → InitialState → List WriterStep → Type 0
 WorldDid first second v c steps =
     (trace : List TraceStep) × (beyond : List WriterStep)
     × IsWorld first second v c None trace beyond × (steps ≡ beyond ++ writes trace)
 
 -- the scripts and the schedule
-abbrev pub setting : WorldView → List (List Deed) × List Actor
-setting v = (v.scripts, v.schedule)
+abbrev pub scripts_and_schedule : WorldView → List (List Deed) × List Actor
+scripts_and_schedule v = (v.scripts, v.schedule)
 
 -- wherever the writer's step may come next in the first memory, it leads to the second, which has the
 -- same scripts and schedule
 abbrev pub WorldDoes : ℕ → ℕ → WriterStep → WorldView → WorldView → Type 0
-WorldDoes first second s v z = (setting z ≡ setting v)
-    × ((c : Setup) (steps : List WriterStep) → WorldDid first second v c steps → MayStep c steps s
+WorldDoes first second s v z = (scripts_and_schedule z ≡ scripts_and_schedule v)
+    × ((c : InitialState) (steps : List WriterStep) → WorldDid first second v c steps → MayStep c steps s
     → WorldDid first second z c (s ∷ steps))
 
 -- the words, the sequence and the token stay, and so do the scripts and the schedule
@@ -96,14 +96,14 @@ pub record StaysShared (v z : WorldView) : Type 0 where
 -- one more item is used up, and made a step of a worker, or none: the writer's steps stay
 abbrev pub TakesTurn : ℕ → ℕ → WorldView → WorldView → Type 0
 TakesTurn first second v z =
-    (c : Setup) (whole : Option (List WriterStep)) (trace : List TraceStep)
+    (c : InitialState) (whole : Option (List WriterStep)) (trace : List TraceStep)
     → IsWorld first second v c whole trace []
     → (later : List TraceStep) × IsWorld first second z c whole later []
     × (writes later ≡ writes trace)
 
 -- the writer's steps stay, whatever they were, where the workers have taken turns
 abbrev pub Reaches : ℕ → ℕ → WorldView → WorldView → Type 0
-Reaches first second v z = (c : Setup) (steps : List WriterStep) → WorldDid first second v c steps
+Reaches first second v z = (c : InitialState) (steps : List WriterStep) → WorldDid first second v c steps
     → WorldDid first second z c steps
 
 -- the next item is the writer's
@@ -115,7 +115,7 @@ pub record IsWritersTurn (v : WorldView) : Type 0 where
 abbrev pub IsNew : Machine → Type 0
 IsNew machine = (first second seconds : ℕ) (script : List Deed)
     → IsSound (2 ^ (first + second)) script
-    → IsAt first second seconds machine script unstarted []
+    → IsAt first second seconds machine script initial_worker []
 
 -- so many workers are before their first steps
 abbrev pub AreNew : ℕ → List Machine → Type 0
@@ -124,7 +124,7 @@ AreNew count machines = (k : ℕ) → k < count → (machine : Machine) × IsWor
 
 -- an opening of these widths, with room for the groups, so many workers and this token, in which each
 -- word is a miss
-pub record IsOpening (first second groups workers token : ℕ) (c : Setup) : Type 0 where
+pub record IsInitial (first second groups workers token : ℕ) (c : InitialState) : Type 0 where
   pub first_bits : c.first ≡ first
   pub second_bits : c.second ≡ second
   pub worker_count : c.workers ≡ workers
@@ -135,7 +135,7 @@ pub record IsOpening (first second groups workers token : ℕ) (c : Setup) : Typ
 -- the writer's steps of a command are made, and the workers have taken the rest of their turns: the
 -- schedule made the trace, which was recorded; the writer's own steps are those of the trace, and
 -- those that the command made after the schedule's end
-pub record IsPlayedOut (c : Setup) (scripts : List (List Deed)) (schedule : List Actor)
+pub record IsPlayedOut (c : InitialState) (scripts : List (List Deed)) (schedule : List Actor)
     (steps : List WriterStep) (record_steps : List Step) (record_seen : List Seen) : Type 0 where
   pub trace : List TraceStep
   pub beyond : List WriterStep

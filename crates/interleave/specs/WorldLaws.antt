@@ -3,7 +3,7 @@ use Rattle.std.specs.Prelude.{◌≡◌, ℕ, List, [], ◌∷◌, ◌++◌, len
 use Rattle.std.proofs.Common.{refl, sym, ap, subst, ◌∙◌}
 use Rattle.lpm_trace.specs.declared.step.WriterStep.{WriterStep}
 use Rattle.lpm_trace.specs.declared.step.TraceStep.{TraceStep}
-use Rattle.lpm_trace.specs.Tables.{Setup, tables}
+use Rattle.lpm_trace.specs.States.{InitialState, state_after}
 use Rattle.lpm_trace.specs.Trace.{writes}
 use Rattle.lpm_trace.specs.Writer.{IsWritten}
 use Rattle.lpm_trace.proofs.Alone.{writer_is_alone}
@@ -16,17 +16,17 @@ pub writes_beyond : (beyond : List WriterStep) (trace : List TraceStep)
 writes_beyond [] trace = refl
 writes_beyond (s ∷ beyond) trace = ap (λ xs. s ∷ xs) (writes_beyond beyond trace)
 
-pub world_shows : (first second : ℕ) (v : WorldView) (c : Setup) (steps : List WriterStep)
+pub world_shows : (first second : ℕ) (v : WorldView) (c : InitialState) (steps : List WriterStep)
     → WorldDid first second v c steps
-    → (v.words ≡ (tables c steps).words) × (v.token ≡ (tables c steps).token) × (length v.scripts ≡ c.workers)
+    → (v.words ≡ (state_after c steps).words) × (v.token ≡ (state_after c steps).token) × (length v.scripts ≡ c.workers)
 world_shows first second v c steps did =
     let world = did.2 in (
-      world.words_are ∙ ap (λ xs. (tables c xs).words) (sym did.3),
-      world.token_is ∙ ap (λ xs. (tables c xs).token) (sym did.3),
+      world.words_are ∙ ap (λ xs. (state_after c xs).words) (sym did.3),
+      world.token_is ∙ ap (λ xs. (state_after c xs).token) (sym did.3),
       sym world.workers,
     )
 
-pub world_written : (first second : ℕ) (v : WorldView) (c : Setup) (steps : List WriterStep)
+pub world_written : (first second : ℕ) (v : WorldView) (c : InitialState) (steps : List WriterStep)
     → WorldDid first second v c steps → IsWritten c steps
 world_written first second v c steps did =
     subst (IsWritten c) (writes_beyond did.1 did.0 ∙ sym did.3)

@@ -1,7 +1,7 @@
 //! What holds of each trace, and of each run. The functions do nothing: their contracts are the laws.
 
 ghost use Rattle.interleave.specs.Laws.{TracesAreLawful};
-ghost use Rattle.interleave.specs.Runs.{OpeningsAreSettled, RunsAreLawful};
+ghost use Rattle.interleave.specs.Runs.{InitialStatesAreSettled, RunsAreLawful};
 
 /// Whatever makes the steps of a trace, in whatever order they come: at rest the words answer by the last
 /// version, each lookup answers by a rule list that stood between its first and last read, no group is
@@ -11,8 +11,8 @@ pub fn traces_are_lawful()
 {}
 
 /// A table that was just opened with limits in range is one that a trace may begin with, and is at rest.
-pub fn openings_are_settled()
-    ensures { OpeningsAreSettled }
+pub fn initial_states_are_settled()
+    ensures { InitialStatesAreSettled }
 {}
 
 /// Whatever changes a writer makes and whatever deeds its workers do, by whatever schedule: the steps

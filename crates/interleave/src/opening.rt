@@ -2,9 +2,9 @@
 
 ghost use Rattle.std.specs.Prelude.{◌≡◌, ◌+◌, ◌*◌, ◌^◌, ◌<◌, ◌≤◌, [], All, IfOk, map, length, vec_len};
 ghost use Rattle.lpm_bits.specs.Widths.{IsShape};
-ghost use Rattle.lpm_trace.specs.Tables.{Setup};
+ghost use Rattle.lpm_trace.specs.States.{InitialState};
 ghost use Rattle.interleave.specs.Scripts.{IsSound};
-ghost use Rattle.interleave.specs.World.{IsOpening, AreNew, WorldDid};
+ghost use Rattle.interleave.specs.World.{IsInitial, AreNew, WorldDid};
 
 use super::WorldMemory;
 use crate::{Shared, Worker};
@@ -38,8 +38,8 @@ impl<'a, const FIRST: u32, const SECOND: u32> WorldMemory<'a, FIRST, SECOND> {
         requires groups { groups ≤ 65536 }
         requires token { first_token ≤ 2 ^ 62 }
         requires sound { All (λ script. IsSound (2 ^ (FIRST + SECOND)) script.items) scripts.now }
-        ensures did { IfOk result (λ memory. (c : Setup)
-            → IsOpening FIRST SECOND groups (length scripts.now) first_token c
+        ensures did { IfOk result (λ memory. (c : InitialState)
+            → IsInitial FIRST SECOND groups (length scripts.now) first_token c
             → WorldDid FIRST SECOND memory c []) }
         ensures scripts { IfOk result (λ memory.
             memory.scripts ≡ map (λ script. script.items) scripts.now) }

@@ -7,8 +7,8 @@ ghost use Rattle.lpm_trace.specs.declared.kind.Deed.{Deed};
 ghost use Rattle.lpm_trace.specs.declared.kind.Kind.TheVariants as kind;
 ghost use Rattle.lpm_trace.specs.declared.step.WorkerStep.{WorkerStep};
 ghost use Rattle.lpm_trace.specs.declared.step.WorkerStep.TheVariants.{LoadFirst, LoadSecond};
-ghost use Rattle.lpm_trace.specs.Tables.{Setup, Tables, addresses, done_at};
-ghost use Rattle.lpm_trace.specs.Workers.{Worker as TraceWorker, AreBegun, AreAnswered, IsBetweenDeeds, unstarted, LookingUp};
+ghost use Rattle.lpm_trace.specs.States.{InitialState, TableState, addresses, done_at};
+ghost use Rattle.lpm_trace.specs.Workers.{Worker as TraceWorker, AreBegun, AreAnswered, IsBetweenDeeds, initial_worker, LookingUp};
 ghost use Rattle.interleave.specs.Scripts.{IsSound, IsSoundFrom, IsDone};
 ghost use Rattle.interleave.specs.Shown.{step_of_worker};
 ghost use Rattle.interleave.specs.declared.probe.Probe.TheVariants as probe;
@@ -64,7 +64,7 @@ impl Worker {
     pub fn new(alloc: Global) -> Result<Self, AllocError>
         ensures { IfOk result (λ worker. (first second seconds : ℕ) (script : List Deed)
             → IsSound (2 ^ (first + second)) script
-            → IsAt first second seconds worker script unstarted []) }
+            → IsAt first second seconds worker script initial_worker []) }
     {
         let probes = Vec::with_capacity(alloc, 4)?;
         Ok(Worker {
@@ -104,7 +104,7 @@ impl Worker {
         ensures ended { IfNone result ((r : TraceWorker) (own : List WorkerStep)
             → IsAt FIRST SECOND (length shared.old.cells.seconds) self.old script.now r own
             → IsDone script.now r own) }
-        ensures step { IfSome result (λ step. (c : Setup) (w : Tables) (r : TraceWorker)
+        ensures step { IfSome result (λ step. (c : InitialState) (w : TableState) (r : TraceWorker)
             (own : List WorkerStep)
             → IsOf FIRST SECOND shared.old.cells shared.old.sequence shared.old.token c w
             → IsAt FIRST SECOND (length shared.old.cells.seconds) self.old script.now r own
@@ -155,7 +155,7 @@ impl Worker {
         ensures begun { self.new.begun ≡ self.old.begun }
         ensures room { 4 ≤ vec_capacity self.new.probes }
         ensures few { vec_len self.new.probes ≤ 4 }
-        ensures step { (c : Setup) (w : Tables) (now : ℕ) (r : TraceWorker) (left : List Deed)
+        ensures step { (c : InitialState) (w : TableState) (now : ℕ) (r : TraceWorker) (left : List Deed)
             → IsOf FIRST SECOND shared.now.cells shared.now.sequence shared.now.token c w
             → Shows self.old r → IsBetweenDeeds r.phase
             → IsSoundFrom (addresses c) (is_online r.phase) (deed ∷ left)
@@ -216,7 +216,7 @@ impl Worker {
         ensures room { vec_capacity self.new.probes ≡ vec_capacity self.old.probes }
         ensures few { vec_len self.new.probes ≤ vec_len self.old.probes }
         ensures capacity { vec_capacity seen.old ≤ vec_capacity seen.new }
-        ensures step { (c : Setup) (w : Tables) (r : TraceWorker)
+        ensures step { (c : InitialState) (w : TableState) (r : TraceWorker)
             → IsOf FIRST SECOND shared.old.cells shared.old.sequence shared.old.token c w
             → Shows self.old r → r.phase ≡ LookingUp
             → ContinuesDeed c w number now r self.new result seen.old.items seen.new.items }
@@ -247,7 +247,7 @@ impl Worker {
         ensures begun { self.new.begun ≡ self.old.begun }
         ensures room { vec_capacity self.new.probes ≡ vec_capacity self.old.probes }
         ensures few { vec_len self.new.probes ≡ vec_len self.old.probes }
-        ensures step { (c : Setup) (w : Tables) (r : TraceWorker)
+        ensures step { (c : InitialState) (w : TableState) (r : TraceWorker)
             → IsOf FIRST SECOND shared.old.cells shared.old.sequence shared.old.token c w
             → Shows self.old r → r.phase ≡ LookingUp
             → let word = slice_index shared.old.cells.firsts (addr / 2 ^ SECOND) in
@@ -276,7 +276,7 @@ impl Worker {
         ensures begun { self.new.begun ≡ self.old.begun }
         ensures room { vec_capacity self.new.probes ≡ vec_capacity self.old.probes }
         ensures few { vec_len self.new.probes ≡ vec_len self.old.probes }
-        ensures step { (c : Setup) (w : Tables) (r : TraceWorker)
+        ensures step { (c : InitialState) (w : TableState) (r : TraceWorker)
             → IsOf FIRST SECOND shared.old.cells shared.old.sequence shared.old.token c w
             → Shows self.old r → r.phase ≡ LookingUp
             → let index = found.now.group * 2 ^ SECOND + found.now.addr % 2 ^ SECOND in
@@ -303,7 +303,7 @@ impl Worker {
         ensures room { vec_capacity self.new.probes ≡ vec_capacity self.old.probes }
         ensures few { vec_len self.new.probes ≡ 0 }
         ensures capacity { vec_capacity seen.old ≤ vec_capacity seen.new }
-        ensures step { (c : Setup) (w : Tables) (now : ℕ) (r : TraceWorker) → w.sequence ≡ sequence
+        ensures step { (c : InitialState) (w : TableState) (now : ℕ) (r : TraceWorker) → w.sequence ≡ sequence
             → Shows self.old r → r.phase ≡ LookingUp
             → ContinuesDeed c w number now r self.new result seen.old.items seen.new.items }
     {

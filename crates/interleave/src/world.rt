@@ -5,7 +5,7 @@ ghost use Rattle.std.specs.FinMap.{empty};
 ghost use Rattle.lpm_bits.specs.Widths.{IsShape};
 ghost use Rattle.lpm_limits.specs.Limits.{IsConfig};
 ghost use Rattle.interleave.specs.Scripts.{IsSound};
-ghost use Rattle.lpm_writer.specs.Opening.{opening_setup};
+ghost use Rattle.lpm_writer.specs.Blank.{blank_state};
 ghost use Rattle.lpm_writer.specs.Resting.{IsResting};
 ghost use Rattle.interleave.specs.View.{script_at};
 ghost use Rattle.interleave.specs.declared.run_error.RunError.TheVariants.{BadConfig as IsBadConfig, Memory as IsMemory};
@@ -16,7 +16,7 @@ use super::{RunError, Trace};
 use crate::WorldMemory;
 use lpm_rules::Change;
 use lpm_trace::{Actor, Deed};
-use lpm_writer::Ledger;
+use lpm_writer::ControlState;
 use qsbr::Config;
 use std::alloc::Global;
 
@@ -50,35 +50,35 @@ impl<const FIRST: u32, const SECOND: u32> World<FIRST, SECOND> {
         ensures limits { IfOk result (λ _. IsConfig config) }
         ensures bad_config { IfErr result (λ error. (error ≡ IsBadConfig) ↔ (¬ IsConfig config)) }
     {
-        let mut ledger = Ledger::new(alloc, config)?;
-        run_opened(alloc, &mut ledger, changes, scripts, schedule)
+        let mut control = ControlState::new(alloc, config)?;
+        run_opened(alloc, &mut control, changes, scripts, schedule)
     }
 }
 
 /// Runs the changes and the deeds on a table that was just opened.
 fn run_opened<const FIRST: u32, const SECOND: u32>(
     alloc: Global,
-    ledger: &mut Ledger<FIRST, SECOND>,
+    control: &mut ControlState<FIRST, SECOND>,
     changes: &[Change<FIRST, SECOND>],
     scripts: &[Vec<Deed>],
     schedule: &[Actor],
 ) -> Result<Trace, RunError>
     requires shape { IsShape FIRST SECOND }
-    requires in_range { IsConfig ledger.old.config }
-    requires workers { length scripts.now ≡ ledger.old.config.workers }
+    requires in_range { IsConfig control.old.config }
+    requires workers { length scripts.now ≡ control.old.config.workers }
     requires sound { All (λ script. IsSound (2 ^ (FIRST + SECOND)) script.items) scripts.now }
-    requires rests { IsResting FIRST SECOND (opening_setup FIRST SECOND ledger.old.config) []
-        ledger.old.config ledger.old.rules ledger.old.books ledger.old.versions }
-    requires rules { ledger.old.rules.rules ≡ empty }
-    requires queue { ledger.old.books.queue.items ≡ [] }
-    requires versions { ledger.old.versions ≡ 0 }
-    ensures runs { IfOk result (λ trace. IsRun FIRST SECOND ledger.old.config changes.now
+    requires rests { IsResting FIRST SECOND (blank_state FIRST SECOND control.old.config) []
+        control.old.config control.old.rules control.old.pool control.old.versions }
+    requires rules { control.old.rules.rules ≡ empty }
+    requires queue { control.old.pool.queue.items ≡ [] }
+    requires versions { control.old.versions ≡ 0 }
+    ensures runs { IfOk result (λ trace. IsRun FIRST SECOND control.old.config changes.now
         (script_at (map (λ script. script.items) scripts.now)) schedule.now trace) }
     ensures memory { IfErr result (λ error. error ≡ IsMemory) }
 {
-    let config = ledger.config;
+    let config = control.config;
     let mut memory = WorldMemory::new(alloc, config.groups, config.first_token, scripts, schedule)?;
-    let replies = answer_all(alloc, ledger, &mut memory, changes, schedule.len())?;
+    let replies = answer_all(alloc, control, &mut memory, changes, schedule.len())?;
     memory.play_out();
     let (steps, lookups) = memory.into_record();
     Ok(Trace {

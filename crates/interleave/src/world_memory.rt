@@ -6,7 +6,7 @@ ghost use Rattle.lpm_trace.specs.declared.kind.Actor.TheVariants.{Worker as Work
 ghost use Rattle.lpm_trace.specs.declared.kind.Kind.TheVariants as kind;
 ghost use Rattle.lpm_trace.specs.declared.step.TraceStep.{TraceStep};
 ghost use Rattle.lpm_trace.specs.declared.step.WriterStep.{WriterStep};
-ghost use Rattle.lpm_trace.specs.Tables.{Setup};
+ghost use Rattle.lpm_trace.specs.States.{InitialState};
 ghost use Rattle.interleave.specs.Record.{step_of_writer};
 ghost use Rattle.interleave.specs.Schedule.{writer_items};
 ghost use Rattle.interleave.specs.World.{IsWorld, WorldDid, Reaches, StaysShared, IsWritersTurn, IsPlayedOut, TakesTurn};
@@ -75,7 +75,7 @@ impl<'a, const FIRST: u32, const SECOND: u32> WorldMemory<'a, FIRST, SECOND> {
         requires left { self.old.next < length self.old.schedule }
         requires item { (other : Actor)
             → slice_index_or self.old.schedule self.old.next other ≡ WorkerActor worker }
-        requires known { (c : Setup) × (whole : Option (List WriterStep)) × (trace : List TraceStep)
+        requires known { (c : InitialState) × (whole : Option (List WriterStep)) × (trace : List TraceStep)
             × IsWorld FIRST SECOND self.old c whole trace [] }
         ensures shared { StaysShared self.old self.new }
         ensures next { self.new.next ≡ suc self.old.next }
@@ -97,13 +97,13 @@ impl<'a, const FIRST: u32, const SECOND: u32> WorldMemory<'a, FIRST, SECOND> {
     /// Lets the workers take their turns up to the writer's next item, and returns whether there is one.
     /// It isn't used up.
     pub fn reach(&mut self) -> bool
-        requires known { (c : Setup) × (steps : List WriterStep)
+        requires known { (c : InitialState) × (steps : List WriterStep)
             × WorldDid FIRST SECOND self.old c steps }
         ensures shared { StaysShared self.old self.new }
         ensures reaches { Reaches FIRST SECOND self.old self.new }
         ensures found { MatchBool result (IsWritersTurn self.new)
             (self.new.next ≡ length self.new.schedule) }
-        ensures left { (c : Setup) (steps : List WriterStep) → WorldDid FIRST SECOND self.old c steps
+        ensures left { (c : InitialState) (steps : List WriterStep) → WorldDid FIRST SECOND self.old c steps
             → (IsTrue result ↔ length steps < writer_items self.old.schedule) }
     {
         while self.next < self.schedule.len() {
@@ -117,7 +117,7 @@ impl<'a, const FIRST: u32, const SECOND: u32> WorldMemory<'a, FIRST, SECOND> {
 
     /// Whether the schedule ended before the writer's last step.
     pub fn is_stopped(&self) -> bool
-        ensures { (c : Setup) (steps : List WriterStep) → WorldDid FIRST SECOND self.now c steps
+        ensures { (c : InitialState) (steps : List WriterStep) → WorldDid FIRST SECOND self.now c steps
             → (IsTrue result ↔ writer_items self.now.schedule < length steps) }
     {
         self.stopped
@@ -167,10 +167,10 @@ impl<'a, const FIRST: u32, const SECOND: u32> WorldMemory<'a, FIRST, SECOND> {
 
     /// Lets the workers take the rest of their turns, where the writer has no step left.
     pub fn play_out(&mut self)
-        requires known { (c : Setup) × (steps : List WriterStep)
+        requires known { (c : InitialState) × (steps : List WriterStep)
             × WorldDid FIRST SECOND self.old c steps }
         ensures shared { StaysShared self.old self.new }
-        ensures played { (c : Setup) (steps : List WriterStep) → WorldDid FIRST SECOND self.old c steps
+        ensures played { (c : InitialState) (steps : List WriterStep) → WorldDid FIRST SECOND self.old c steps
             → IsPlayedOut c self.new.scripts self.new.schedule steps self.new.steps self.new.seen }
     {
         while self.next < self.schedule.len() {

@@ -13,13 +13,13 @@ abbrev pub Covers : ℕ → Network → ℕ → Type 0
 Covers width p a = a / 2 ^ (width - p.len) ≡ p.bits / 2 ^ (width - p.len)
 
 -- an address of `width` bits with all but its first `len` bits cleared
-abbrev pub masked : ℕ → ℕ → ℕ → ℕ
-masked width len a = a / 2 ^ (width - len) * 2 ^ (width - len)
+abbrev pub network_bits : ℕ → ℕ → ℕ → ℕ
+network_bits width len a = a / 2 ^ (width - len) * 2 ^ (width - len)
 
 -- the prefix of that length that covers the address
 abbrev pub prefix_of : ℕ → ℕ → ℕ → Network
-prefix_of width len a = record { bits = masked width len a; len = len }
+prefix_of width len a = record { bits = network_bits width len a; len = len }
 
 -- a prefix of addresses of `width` bits, whose host bits are 0
 abbrev pub IsNetwork : ℕ → Network → Type 0
-IsNetwork width p = (p.len ≤ width) × (p.bits < 2 ^ width) × (masked width p.len p.bits ≡ p.bits)
+IsNetwork width p = (p.len ≤ width) × (p.bits < 2 ^ width) × (network_bits width p.len p.bits ≡ p.bits)

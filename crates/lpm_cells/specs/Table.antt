@@ -43,12 +43,12 @@ pub record IsWords (first second : ℕ) (t : Words) : Type 0 where
 
 -- the entry that a lookup ends at, where it read `e` in the first table and would go on to place
 -- `r` of a group
-abbrev pub followed : ℕ → List ℕ → ℕ → Entry → Entry
-followed second seconds r Miss = Miss
-followed second seconds r (Hop hop depth) = Hop hop depth
-followed second seconds r (Group group) = entry_in (slice_index seconds (group * 2 ^ second + r))
+abbrev pub last_entry : ℕ → List ℕ → ℕ → Entry → Entry
+last_entry second seconds r Miss = Miss
+last_entry second seconds r (Hop hop depth) = Hop hop depth
+last_entry second seconds r (Group group) = entry_in (slice_index seconds (group * 2 ^ second + r))
 
 -- the entry that the words have for an address
 abbrev pub entry_at : ℕ → Words → ℕ → Entry
 entry_at second t a =
-    followed second t.seconds (a % 2 ^ second) (entry_in (slice_index t.firsts (a / 2 ^ second)))
+    last_entry second t.seconds (a % 2 ^ second) (entry_in (slice_index t.firsts (a / 2 ^ second)))

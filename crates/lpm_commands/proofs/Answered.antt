@@ -6,7 +6,7 @@ use Rattle.std.proofs.lemmas.List.{length-map}
 use Rattle.std.proofs.lemmas.List.FromFn.{length-range_with_len}
 use Rattle.lpm_limits.specs.declared.config.Config.{Config}
 use Rattle.lpm_rules.specs.RuleMap.{RuleMap}
-use Rattle.shared_fib.specs.Running.{Identity, WriterState, opens_with}
+use Rattle.shared_fib.specs.Running.{Identity, WriterState, initial_writer}
 use Rattle.bulk.specs.declared.bulk_error.BulkError.{BulkError}
 use Rattle.bulk.specs.declared.bulk_error.BulkError.TheVariants.{NoWorkers, Memory}
 use Rattle.bulk.specs.declared.desk.Desk.{Desk}
@@ -15,10 +15,10 @@ use Rattle.lpm_files.specs.declared.failure.Failure.{Failure}
 use Rattle.lpm_commands.specs.Lookup.{ending_of, EndsAnswering}
 
 -- a writer at its opening is that of this table, and has these rules
-pub is_of : (id : Identity) (c : Config) (R : RuleMap) (w : WriterState) → w ≡ opens_with id c R → w.identity ≡ id
+pub is_of : (id : Identity) (c : Config) (R : RuleMap) (w : WriterState) → w ≡ initial_writer id c R → w.identity ≡ id
 is_of id c R w opened = ap (λ (v : WriterState). v.identity) opened
 
-pub has_rules : (id : Identity) (c : Config) (R : RuleMap) (w : WriterState) → w ≡ opens_with id c R → w.table.rules ≡ R
+pub has_rules : (id : Identity) (c : Config) (R : RuleMap) (w : WriterState) → w ≡ initial_writer id c R → w.table.rules ≡ R
 has_rules id c R w opened = ap (λ (v : WriterState). v.table.rules) opened
 
 -- there are as many desks as workers

@@ -7,7 +7,7 @@ use Rattle.lpm_rules.specs.RuleMap.{RuleMap}
 use Rattle.lpm_rules.specs.declared.Rule.{Rule}
 use Rattle.lpm_writer.specs.declared.plain_memory.PlainMemory.{PlainMemory}
 use Rattle.lpm_update.specs.Represents.{Represents}
-use Rattle.lpm_writer.specs.declared.ledger.Ledger.{Ledger}
+use Rattle.lpm_writer.specs.declared.control.ControlState.{ControlState}
 use Rattle.qsbr.specs.Registry.{Registry}
 use Rattle.fib_model.specs.State.{State}
 use Rattle.fib.specs.Fib.{IsSound, table_of}
@@ -50,13 +50,13 @@ explained_by R t a rules slice reading old new same covering answered is written
     (explanation_lines a slice reading, explanation, written)
 
 -- the words of a table represent its rules
-represented : (ledger : Ledger 24 8) (memory : PlainMemory 24 8) → IsSound 24 8 ledger memory → Represents 24 8 ledger.rules.rules memory.cells
-represented ledger memory sound = subst (Represents 24 8 ledger.rules.rules) (sym sound.2.did.words) sound.2.rests.represents
+represented : (control : ControlState 24 8) (memory : PlainMemory 24 8) → IsSound 24 8 control memory → Represents 24 8 control.rules.rules memory.cells
+represented control memory sound = subst (Represents 24 8 control.rules.rules) (sym sound.2.did.words) sound.2.rests.represents
 
 -- the answers are explained by the rules of the table and by the words that represent them
-pub explains_by : (ledger : Ledger 24 8) (memory : PlainMemory 24 8) (table : State Registry) (addrs text : List ℕ) → IsSound 24 8 ledger memory → table_of ledger memory ≡ table → AreExplanations ledger.rules.rules memory.cells addrs text → ExplainsBy table.rules addrs text
-explains_by ledger memory table addrs text sound same told =
-    let explained : ExplainsBy ledger.rules.rules addrs text = (memory.cells, represented ledger memory sound, told) in
+pub explains_by : (control : ControlState 24 8) (memory : PlainMemory 24 8) (table : State Registry) (addrs text : List ℕ) → IsSound 24 8 control memory → table_of control memory ≡ table → AreExplanations control.rules.rules memory.cells addrs text → ExplainsBy table.rules addrs text
+explains_by control memory table addrs text sound same told =
+    let explained : ExplainsBy control.rules.rules addrs text = (memory.cells, represented control memory sound, told) in
     subst (λ (R : RuleMap). ExplainsBy R addrs text) (ap (λ (s : State Registry). s.rules) same) explained
 
 -- the explanations by the rules of the routes, which make a table

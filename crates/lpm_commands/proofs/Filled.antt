@@ -26,8 +26,8 @@ use Rattle.lpm_rules.proofs.Views.{networks_total}
 use Rattle.qsbr.specs.Registry.{Registry}
 use Rattle.fib_model.specs.State.{State, HasTokens}
 use Rattle.fib_model.specs.Outcomes.{Adds, LacksGroup, HoldsFront, groups_in_use}
-use Rattle.fib_model.specs.Counting.{counting, opened}
-use Rattle.fib.specs.Fib.{FibState, opened_at, opened_with}
+use Rattle.fib_model.specs.Counting.{counter_transitions, initial_by_counters}
+use Rattle.fib.specs.Fib.{FibState, initial_fib_at, initial_fib_with}
 use Rattle.route_text.specs.declared.routes.Route.{Route}
 use Rattle.lpm_files.specs.declared.failure.Failure.{Failure}
 use Rattle.lpm_files.specs.declared.failure.Failure.TheVariants as failures
@@ -254,7 +254,7 @@ module _ (c : Config) where
   grown s z routes way = subst (Grows (made_of s)) (sym way.made) (grows (made_of s) routes)
 
   -- so there are tokens for a change on the way, and a group where its rule needs one
-  has_tokens : (s z : State Registry) (r : Route) (routes : List Route) → Reaches c s (r ∷ routes) z → Reaches c (changed_to s r) routes z → HasTokens counting c s
+  has_tokens : (s z : State Registry) (r : Route) (routes : List Route) → Reaches c s (r ∷ routes) z → Reaches c (changed_to s r) routes z → HasTokens counter_transitions c s
   has_tokens s z r routes whole rest =
       let later = (grown (changed_to s r) z routes rest).changes in
       let lasts = whole.tokens (omega (arith, later)) in
@@ -271,7 +271,7 @@ module _ (c : Config) where
       absurd (omega (arith, later, most, one, full, zero_limbo))
 
   -- the route is accepted where it changes a rule
-  adds_changed : (s z : State Registry) (r : Route) (routes : List Route) (o : Option ℕ) → get s.rules r.prefix ≡ o → (o ≡ Some r.hop → ⊥) → s.limbo ≡ [] → Reaches c s (r ∷ routes) z → Reaches c (changed_to s r) routes z → (put : Put) × Adds counting 24 8 c s r.prefix r.hop (Ok put) (changed_to s r)
+  adds_changed : (s z : State Registry) (r : Route) (routes : List Route) (o : Option ℕ) → get s.rules r.prefix ≡ o → (o ≡ Some r.hop → ⊥) → s.limbo ≡ [] → Reaches c s (r ∷ routes) z → Reaches c (changed_to s r) routes z → (put : Put) × Adds counter_transitions 24 8 c s r.prefix r.hop (Ok put) (changed_to s r)
   adds_changed s z r routes None absent other none whole rest =
       let later = (grown (changed_to s r) z routes rest).rules in
       let most = rest.fits.rules in
@@ -351,7 +351,7 @@ fits_empty c =
     }
 
 -- a table that was just opened
-pub filled_first : (c : Config) → IsFilled c (opened c)
+pub filled_first : (c : Config) → IsFilled c (initial_by_counters c)
 filled_first c = record {
   readers = refl;
   limbo = refl;
@@ -360,7 +360,7 @@ filled_first c = record {
 }
 
 -- one more rule
-pub filled_more : (c : Config) (s z : State Registry) (p : Network) (h : ℕ) (put : Put) → IsFilled c s → Adds counting 24 8 c s p h (Ok put) z → IsFilled c z
+pub filled_more : (c : Config) (s z : State Registry) (p : Network) (h : ℕ) (put : Put) → IsFilled c s → Adds counter_transitions 24 8 c s p h (Ok put) z → IsFilled c z
 filled_more c s z p h Unchanged filled adds = subst (IsFilled c) (sym adds.1) filled
 filled_more c s z p h Replaced filled adds =
     let has = adds.1.0 in
@@ -409,14 +409,14 @@ has_rules (r ∷ routes) some =
 abbrev made_table : Config → List Route → State Registry
 made_table c routes =
     let m = made_by (empty, 0) routes in
-    record { rules = m.0; readers = (opened c).readers; limbo = []; begun = m.1 }
+    record { rules = m.0; readers = (initial_by_counters c).readers; limbo = []; begun = m.1 }
 
 -- routes whose rules fit, with tokens for them, make that table
 loaded_fitting : (c : Config) (routes : List Route) → length routes ≤ 2 ^ 61 → Fits c (rules_of_routes routes) → (0 < len (rules_of_routes routes) → c.first_token + c.groups ≤ 2 ^ 62) → IsLoaded c routes (made_table c routes)
 loaded_fitting c routes few fits lasts =
     let made = made_rules (empty, 0) routes in
     let most : (made_by (empty, 0) routes).1 ≤ 0 + length routes = changes_at_most (empty, 0) routes in
-    let way : Reaches c (opened c) routes (made_table c routes) = record {
+    let way : Reaches c (initial_by_counters c) routes (made_table c routes) = record {
       made = refl;
       readers = refl;
       limbo = refl;
@@ -424,7 +424,7 @@ loaded_fitting c routes few fits lasts =
       tokens = λ more. (lasts (subst (λ (R : RuleMap). 0 < len R) made (has_rules routes more)), omega (arith, most, few));
     } in
     record {
-      loads = loads_back c (opened c) (made_table c routes) routes refl way;
+      loads = loads_back c (initial_by_counters c) (made_table c routes) routes refl way;
       rules = made;
       readers = refl;
       limbo = refl;
@@ -447,7 +447,7 @@ pub loads_filled : (c : Config) (routes : List Route) (table : State Registry) �
 loads_filled c routes table few same filled = loads_by_rules c routes table.rules few same filled.fits filled.tokens
 
 -- a table with these rules refuses a rule so
-pub refuses : (c : Config) (s : State Registry) (l : RuleList) (p : Network) (h : ℕ) (refusal : Refusal) → refusal ≢ Memory → s.rules ≡ l.rules → l.max ≡ c.rules → s.limbo ≡ [] → HasTokens counting c s → Refuses c.groups l p refusal → Adds counting 24 8 c s p h (Err refusal) s
+pub refuses : (c : Config) (s : State Registry) (l : RuleList) (p : Network) (h : ℕ) (refusal : Refusal) → refusal ≢ Memory → s.rules ≡ l.rules → l.max ≡ c.rules → s.limbo ≡ [] → HasTokens counter_transitions c s → Refuses c.groups l p refusal → Adds counter_transitions 24 8 c s p h (Err refusal) s
 refuses c s l p h TooManyRules reason same max none has is =
     let full = is.1 in
     let size = ap (λ (R : RuleMap). len R) same in
@@ -459,7 +459,7 @@ refuses c s l p h (NoGroups oldest) reason same max none has is =
     let used = ap (λ (R : RuleMap). in_use R) same in
     let full = is.2 in
     let absent : get s.rules p ≡ None = ap (λ (R : RuleMap). get R p) same ∙ is.0.0 in
-    let front : (o : Option Busy) → o ≡ None → HoldsFront counting s o s.readers = λ o e. subst (λ (x : Option Busy). HoldsFront counting s x s.readers) (sym e) (none, refl) in (
+    let front : (o : Option Busy) → o ≡ None → HoldsFront counter_transitions s o s.readers = λ o e. subst (λ (x : Option Busy). HoldsFront counter_transitions s x s.readers) (sym e) (none, refl) in (
       (absent, has, omega (arith, room, size, max)),
       record {
         absent = absent;
@@ -526,9 +526,9 @@ refused_at c routes i r l refusal within read few same max most groups lasts rea
 -- without tokens the first route is refused
 pub exhausted_first : (c : Config) (routes : List Route) (r : Route) → 0 < length routes → r ≡ get_or routes 0 r → 2 ^ 62 < c.first_token + c.groups → IsFirstRefused c routes r.line Exhausted
 exhausted_first c routes r some read more =
-    let loaded : IsLoaded c [] (opened c) = record { loads = refl; rules = refl; readers = refl; limbo = refl } in
+    let loaded : IsLoaded c [] (initial_by_counters c) = record { loads = refl; rules = refl; readers = refl; limbo = refl } in
     let none = get-empty network_cmp r.prefix in
-    first_refused c routes 0 r c (opened c) (opened c) Exhausted some read refl loaded (λ e. cc)
+    first_refused c routes 0 r c (initial_by_counters c) (initial_by_counters c) Exhausted some read refl loaded (λ e. cc)
     ((λ same. let never = sym none ∙ same in absurd cc), inl (omega (arith, more)), refl)
 
 -- ---- a table that opens with the rules of routes
@@ -558,11 +558,11 @@ lasts_for (r ∷ routes) P lasts some = lasts (omega arith)
 
 -- the table of routes, by its rules and the number of changes
 pub loaded_as : (c : Config) (routes : List Route) (R : RuleMap) (n : ℕ) → length routes ≤ 2 ^ 61 → R ≡ rules_of_routes routes → n ≡ changes_of routes → Fits c R → (0 < length routes → c.first_token + c.groups ≤ 2 ^ 62)
-    → IsLoaded c routes (record (opened c) { rules = R; begun = n })
+    → IsLoaded c routes (record (initial_by_counters c) { rules = R; begun = n })
 loaded_as c routes R n few same count fits lasts =
     let loaded = loaded_fitting c routes few (subst (Fits c) same fits) (lasts_for routes (c.first_token + c.groups ≤ 2 ^ 62) lasts) in
-    subst (λ (Q : RuleMap). IsLoaded c routes (record (opened c) { rules = Q; begun = n })) (made_rules (empty, 0) routes ∙ sym same)
-    (subst (λ k. IsLoaded c routes (record (opened c) { rules = (made_by (empty, 0) routes).0; begun = k })) (sym count) loaded)
+    subst (λ (Q : RuleMap). IsLoaded c routes (record (initial_by_counters c) { rules = Q; begun = n })) (made_rules (empty, 0) routes ∙ sym same)
+    (subst (λ k. IsLoaded c routes (record (initial_by_counters c) { rules = (made_by (empty, 0) routes).0; begun = k })) (sym count) loaded)
 
 -- ---- routes behind those of which one is refused
 
@@ -592,7 +592,7 @@ ends_longer c file routes n failure ends =
 -- ---- a table that opens with a list of rules
 
 -- it is filled where the tokens last for its rules
-pub opened_filled : (c : Config) (R : RuleMap) (o : Option FibState) → IfSome o (λ (f : FibState). f ≡ opened_with c R) → IfSome o (λ (f : FibState). len R ≤ c.rules) → IfSome o (λ (f : FibState). in_use R ≤ c.groups) → (0 < len R → c.first_token + c.groups ≤ 2 ^ 62) → IfSome o (λ (f : FibState). IsFilled c f.table)
+pub opened_filled : (c : Config) (R : RuleMap) (o : Option FibState) → IfSome o (λ (f : FibState). f ≡ initial_fib_with c R) → IfSome o (λ (f : FibState). len R ≤ c.rules) → IfSome o (λ (f : FibState). in_use R ≤ c.groups) → (0 < len R → c.first_token + c.groups ≤ 2 ^ 62) → IfSome o (λ (f : FibState). IsFilled c f.table)
 opened_filled c R None is rules groups lasts = tt
 opened_filled c R (Some f) is rules groups lasts = subst (λ (g : FibState). IsFilled c g.table) (sym is) (record {
   readers = refl;
@@ -602,5 +602,5 @@ opened_filled c R (Some f) is rules groups lasts = subst (λ (g : FibState). IsF
 })
 
 -- the table with the rules and the versions of routes is that of the routes
-pub opened_loaded : (c : Config) (routes : List Route) (R : RuleMap) (n : ℕ) (f : FibState) → f ≡ opened_at c R n → IsLoaded c routes (record (opened c) { rules = R; begun = n }) → IsLoaded c routes f.table
+pub opened_loaded : (c : Config) (routes : List Route) (R : RuleMap) (n : ℕ) (f : FibState) → f ≡ initial_fib_at c R n → IsLoaded c routes (record (initial_by_counters c) { rules = R; begun = n }) → IsLoaded c routes f.table
 opened_loaded c routes R n f is loaded = subst (λ (g : FibState). IsLoaded c routes g.table) (sym is) loaded

@@ -8,7 +8,7 @@ use Rattle.std.specs.List.{All, AllPairs, Contains}
 use Rattle.std.proofs.lemmas.Bool.{cases_eq}
 use Rattle.std.proofs.lemmas.List.Elements.{All-nil, All-push, All-head, Contains-push, Contains-append_left}
 use Rattle.std.proofs.lemmas.List.Quantifiers.{all_pairs_push}
-use Rattle.lpm_bits.specs.Network.{Network, Covers, masked}
+use Rattle.lpm_bits.specs.Network.{Network, Covers, network_bits}
 use Rattle.lpm_rules.specs.RuleMap.{RuleMap, AllNetworks}
 use Rattle.lpm_rules.specs.declared.Rule.{Rule}
 use Rattle.lpm_rules.proofs.Longest.{network_at, covers_masked}
@@ -36,11 +36,11 @@ none_found {first} {second} width R a nets = record {
 }
 
 -- the rule of a length that covers an address is the one of its prefix
-rule_at : (width : ℕ) (R : RuleMap) (a len : ℕ) (p : Network) (hop : ℕ) → AllNetworks width R → get R p ≡ Some hop → Covers width p a → p.len ≡ len → p ≡ record { bits = masked width len a; len = len }
-rule_at width R a len p hop nets is cov e = network_at width a p (nets p (some_of R p hop is)) cov ∙ ap (λ n. record { bits = masked width n a; len = n }) e
+rule_at : (width : ℕ) (R : RuleMap) (a len : ℕ) (p : Network) (hop : ℕ) → AllNetworks width R → get R p ≡ Some hop → Covers width p a → p.len ≡ len → p ≡ record { bits = network_bits width len a; len = len }
+rule_at width R a len p hop nets is cov e = network_at width a p (nets p (some_of R p hop is)) cov ∙ ap (λ n. record { bits = network_bits width n a; len = n }) e
 
 -- no rule of the next length covers the address
-pub found_none : {first second : ℕ} (width : ℕ) (R : RuleMap) (a host : ℕ) (rs : List (Rule first second)) → AllNetworks width R → host ≤ width → get R (record { bits = masked width (width - host) a; len = width - host }) ≡ None
+pub found_none : {first second : ℕ} (width : ℕ) (R : RuleMap) (a host : ℕ) (rs : List (Rule first second)) → AllNetworks width R → host ≤ width → get R (record { bits = network_bits width (width - host) a; len = width - host }) ≡ None
     → AreFound width R a host rs → AreFound width R a (host + 1) rs
 found_none width R a host rs nets within none old = record {
   rules = old.rules;
@@ -63,7 +63,7 @@ same_hop : (x y : ℕ) (o : Option ℕ) → o ≡ Some x → o ≡ Some y → x 
 same_hop x y o e f = let both = sym e ∙ f in cc
 
 -- this rule of the next length covers the address
-pub found_one : {first second : ℕ} (width : ℕ) (R : RuleMap) (a host : ℕ) (rs : List (Rule first second)) (r : Rule first second) → AllNetworks width R → host ≤ width → r.prefix ≡ record { bits = masked width (width - host) a; len = width - host } → get R r.prefix ≡ Some r.hop
+pub found_one : {first second : ℕ} (width : ℕ) (R : RuleMap) (a host : ℕ) (rs : List (Rule first second)) (r : Rule first second) → AllNetworks width R → host ≤ width → r.prefix ≡ record { bits = network_bits width (width - host) a; len = width - host } → get R r.prefix ≡ Some r.hop
     → AreFound width R a host rs → AreFound width R a (host + 1) (rs ++ r ∷ [])
 found_one {first} {second} width R a host rs r nets within prefix rule old =
     let long : r.prefix.len ≡ width - host = ap (λ (p : Network). p.len) prefix in
@@ -83,7 +83,7 @@ found_one {first} {second} width R a host rs r nets within prefix rule old =
 
 -- the rule of the next length, where there is one
 pub found_next : {first second : ℕ} (width : ℕ) (R : RuleMap) (a host : ℕ) (rs new : List (Rule first second)) (o : Option (Rule first second)) → AllNetworks width R → host ≤ width
-    → MatchOption o (get R (record { bits = masked width (width - host) a; len = width - host }) ≡ None) (λ (r : Rule first second). (r.prefix ≡ record { bits = masked width (width - host) a; len = width - host }) × (get R r.prefix ≡ Some r.hop))
+    → MatchOption o (get R (record { bits = network_bits width (width - host) a; len = width - host }) ≡ None) (λ (r : Rule first second). (r.prefix ≡ record { bits = network_bits width (width - host) a; len = width - host }) × (get R r.prefix ≡ Some r.hop))
     → new ≡ rs ++ option_to_list o → AreFound width R a host rs → AreFound width R a (host + 1) new
 found_next {first} {second} width R a host rs new None nets within none grown old = subst (λ (l : List (Rule first second)). AreFound width R a (host + 1) l) (sym (grown ∙ append-nil rs)) (found_none width R a host rs nets within none old)
 found_next {first} {second} width R a host rs new (Some r) nets within is grown old = subst (λ (l : List (Rule first second)). AreFound width R a (host + 1) l) (sym grown) (found_one width R a host rs r nets within is.0 is.1 old)

@@ -19,7 +19,7 @@ use Rattle.lpm_rules.proofs.DeepChanges.{put_brings_block, deep_blocks_empty}
 use Rattle.qsbr.specs.Registry.{Registry}
 use Rattle.fib_model.specs.State.{State, HasTokens}
 use Rattle.fib_model.specs.Outcomes.{Adds, LacksGroup, groups_in_use}
-use Rattle.fib_model.specs.Counting.{counting, opened}
+use Rattle.fib_model.specs.Counting.{counter_transitions, initial_by_counters}
 use Rattle.route_text.specs.declared.routes.Route.{Route}
 use Rattle.lpm_files.specs.declared.failure.Failure.{Failure}
 use Rattle.lpm_files.specs.declared.failure.Failure.TheVariants as failures
@@ -89,7 +89,7 @@ module _ (c : Config) (n : ℕ) (fewer : n ≤ c.groups) (lasts : c.first_token 
   abbrev d : Config
   d = record c { groups = n }
 
-  tokens : (s : State Registry) → s.readers.token ≡ c.first_token → HasTokens counting d s → HasTokens counting c s
+  tokens : (s : State Registry) → s.readers.token ≡ c.first_token → HasTokens counter_transitions d s → HasTokens counter_transitions c s
   tokens s first has = (omega (arith, first, lasts), has.1)
 
   lacks_fewer : (s : State Registry) (p : Network) → LacksGroup 24 8 c s p → LacksGroup 24 8 d s p
@@ -100,7 +100,7 @@ module _ (c : Config) (n : ℕ) (fewer : n ≤ c.groups) (lasts : c.first_token 
     none_free = let none = lacks.none_free in omega (arith, fewer, none);
   }
 
-  added : (s z : State Registry) (p : Network) (h : ℕ) (put : Put) → s.readers.token ≡ c.first_token → s.limbo ≡ [] → Adds counting 24 8 d s p h (Ok put) z → Adds counting 24 8 c s p h (Ok put) z
+  added : (s z : State Registry) (p : Network) (h : ℕ) (put : Put) → s.readers.token ≡ c.first_token → s.limbo ≡ [] → Adds counter_transitions 24 8 d s p h (Ok put) z → Adds counter_transitions 24 8 c s p h (Ok put) z
   added s z p h Unchanged first none adds = adds
   added s z p h Replaced first none adds = (adds.0, tokens s first adds.1, adds.2, adds.3, adds.4)
   added s z p h Added first none adds =
@@ -131,13 +131,13 @@ module _ (c : Config) (n : ℕ) (fewer : n ≤ c.groups) (lasts : c.first_token 
 
   is_loaded : (routes : List Route) (table : State Registry) → IsLoaded d routes table → IsLoaded c routes table
   is_loaded routes table loaded = record {
-    loads = loads (opened c) table routes refl refl loaded.loads;
+    loads = loads (initial_by_counters c) table routes refl refl loaded.loads;
     rules = loaded.rules;
     readers = loaded.readers;
     limbo = loaded.limbo;
   }
 
-  refuses : (s : State Registry) (p : Network) (h : ℕ) (refusal : Refusal) → s.readers.token ≡ c.first_token → s.limbo ≡ [] → (24 < p.len → groups_in_use 24 8 s.rules < n) → Adds counting 24 8 d s p h (Err refusal) s → Adds counting 24 8 c s p h (Err refusal) s
+  refuses : (s : State Registry) (p : Network) (h : ℕ) (refusal : Refusal) → s.readers.token ≡ c.first_token → s.limbo ≡ [] → (24 < p.len → groups_in_use 24 8 s.rules < n) → Adds counter_transitions 24 8 d s p h (Err refusal) s → Adds counter_transitions 24 8 c s p h (Err refusal) s
   refuses s p h TooManyRules first none some adds = (adds.0, tokens s first adds.1, adds.2, adds.3)
   refuses s p h Exhausted first none some adds = (
     adds.0,

@@ -9,7 +9,7 @@ use Rattle.lpm_rules.specs.declared.Put.TheVariants.{Added, Replaced, Unchanged}
 use Rattle.qsbr.specs.Registry.{Registry}
 use Rattle.fib_model.specs.State.{State}
 use Rattle.fib_model.specs.Outcomes.{Adds}
-use Rattle.fib_model.specs.Counting.{counting, opened}
+use Rattle.fib_model.specs.Counting.{counter_transitions, initial_by_counters}
 use Rattle.route_text.specs.declared.routes.Route.{Route}
 use Rattle.route_text.specs.declared.orders.Order.{Order}
 use Rattle.route_text.specs.declared.orders.Order.TheVariants as orders
@@ -75,7 +75,7 @@ is_plan list orders addrs plan rules commands same = record {
 -- ---- the table of the routes
 
 -- each route makes at most one version
-one_version : (c : Config) (s z : State Registry) (p : Network) (h : ℕ) (put : Put) → Adds counting 24 8 c s p h (Ok put) z → z.begun ≤ s.begun + 1
+one_version : (c : Config) (s z : State Registry) (p : Network) (h : ℕ) (put : Put) → Adds counter_transitions 24 8 c s p h (Ok put) z → z.begun ≤ s.begun + 1
 one_version c s z p h Unchanged adds = let same = ap (λ (x : State Registry). x.begun) adds.1 in omega (arith, same)
 one_version c s z p h Replaced adds = let more = adds.3.1 in omega (arith, more)
 one_version c s z p h Added adds = let more = adds.2.1 in omega (arith, more)
@@ -88,7 +88,7 @@ few_versions c s z (r ∷ list) loads =
     omega (arith, one, rest)
 
 pub versions_within : (c : Config) (list : List Route) (table : State Registry) → IsLoaded c list table → table.begun ≤ length list
-versions_within c list table loaded = let few = few_versions c (opened c) table list loaded.loads in omega (arith, few)
+versions_within c list table loaded = let few = few_versions c (initial_by_counters c) table list loaded.loads in omega (arith, few)
 
 -- the routes make a table of the limits of the plan, which has its rules
 pub are_loaded : (plan : Plan 24 8) (c : Config) (list : List Route) (n : ℕ) → c ≡ limits_of plan → rules_of plan.rules.now ≡ rules_of_routes list → (table : State Registry) → IsLoaded c list table → table.begun ≡ n → AreLoaded plan list n

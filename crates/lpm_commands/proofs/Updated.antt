@@ -8,8 +8,8 @@ use Rattle.fib_model.specs.declared.command.Outcome.{Outcome}
 use Rattle.fib_model.specs.declared.command.Outcome.TheVariants as outcomes
 use Rattle.fib_model.specs.declared.event.Event.{Event}
 use Rattle.fib_model.specs.State.{State}
-use Rattle.fib_model.specs.Outcomes.{Log, Runs, logged, groups_in_use}
-use Rattle.fib_model.specs.Counting.{by_counters, opened}
+use Rattle.fib_model.specs.Outcomes.{Log, Runs, log_after, groups_in_use}
+use Rattle.fib_model.specs.Counting.{by_counters, initial_by_counters}
 use Rattle.fib_model.specs.History.{history, last_of}
 use Rattle.fib_model.specs.Laws.{Agrees}
 use Rattle.fib_model.proofs.Versions.{rules_are_last_version}
@@ -22,8 +22,8 @@ use Rattle.lpm_commands.specs.Updating.{command_of, loading_of, ComesOut, IsUpda
 use Rattle.lpm_commands.specs.Report.{IsCountOf, IsReportOf}
 
 -- the additions of the routes are a log
-loads_run : (c : Config) (log : Log 24 8) (s z : State Registry) (routes : List Route) → Runs by_counters 24 8 c (opened c) log s → Loads c s routes z → (loaded : List Put) × (length loaded ≡ length routes) × Runs by_counters 24 8 c (opened c) (logged log (map loading_of routes) (map outcomes.Put loaded)) z
-loads_run c log s z [] runs same = ([], refl, subst (Runs by_counters 24 8 c (opened c) log) (sym same) runs)
+loads_run : (c : Config) (log : Log 24 8) (s z : State Registry) (routes : List Route) → Runs by_counters 24 8 c (initial_by_counters c) log s → Loads c s routes z → (loaded : List Put) × (length loaded ≡ length routes) × Runs by_counters 24 8 c (initial_by_counters c) (log_after log (map loading_of routes) (map outcomes.Put loaded)) z
+loads_run c log s z [] runs same = ([], refl, subst (Runs by_counters 24 8 c (initial_by_counters c) log) (sym same) runs)
 loads_run c log s z (r ∷ routes) runs loads =
     let rest = loads_run c ((loading_of r, outcomes.Put loads.0) ∷ log) loads.1 z routes (s, runs, loads.2) loads.3 in
     (loads.0 ∷ rest.0, ap suc rest.1, rest.2)
@@ -31,10 +31,10 @@ loads_run c log s z (r ∷ routes) runs loads =
 -- the routes and the updates that came out so after them
 pub updated : (c : Config) (routes : List Route) (list : List Order) (came : List Outcome) (x z : State Registry) → IsLoaded c routes x → ComesOut c x list came z → (log : Log 24 8) × ((state : State (List Event)) × IsUpdated c routes list came log state × Agrees c z state)
 updated c routes list came x z loaded comes =
-    let first = loads_run c [] (opened c) x routes refl loaded.loads in
-    let log = logged [] (map loading_of routes) (map outcomes.Put first.0) in
+    let first = loads_run c [] (initial_by_counters c) x routes refl loaded.loads in
+    let log = log_after [] (map loading_of routes) (map outcomes.Put first.0) in
     let told = comes.goes_on log first.2 in (
-      logged log (map command_of list) came,
+      log_after log (map command_of list) came,
       (
         told.0,
         record {

@@ -13,7 +13,7 @@ use Rattle.lpm_rules.specs.declared.Rule.{Rule}
 use Rattle.qsbr.specs.Registry.{Registry}
 use Rattle.fib_model.specs.State.{State}
 use Rattle.fib_model.specs.Outcomes.{groups_in_use}
-use Rattle.fib_model.specs.Counting.{opened}
+use Rattle.fib_model.specs.Counting.{initial_by_counters}
 use Rattle.route_text.specs.declared.routes.Route.{Route}
 
 -- the rule that a route puts in
@@ -28,7 +28,7 @@ pub record Fits (c : Config) (R : RuleMap) : Type 0 where
 -- the table is as it was opened but for its rules, which fit, and its versions; where it has rules,
 -- the tokens last for its groups
 pub record IsFilled (c : Config) (table : State Registry) : Type 0 where
-  pub readers : table.readers ≡ (opened c).readers
+  pub readers : table.readers ≡ (initial_by_counters c).readers
   pub limbo : table.limbo ≡ []
   pub fits : Fits c table.rules
   pub tokens : 0 < len table.rules → c.first_token + c.groups ≤ 2 ^ 62

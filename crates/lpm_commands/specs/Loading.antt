@@ -13,7 +13,7 @@ use Rattle.lpm_rules.specs.declared.Put.{Put}
 use Rattle.qsbr.specs.Registry.{Registry}
 use Rattle.fib_model.specs.State.{State}
 use Rattle.fib_model.specs.Outcomes.{Adds}
-use Rattle.fib_model.specs.Counting.{counting, opened}
+use Rattle.fib_model.specs.Counting.{counter_transitions, initial_by_counters}
 use Rattle.route_text.specs.declared.routes.Route.{Route}
 use Rattle.route_text.specs.Files.{AreRoutes}
 use Rattle.lpm_files.specs.declared.failure.Failure.{Failure}
@@ -24,7 +24,7 @@ use Rattle.lpm_files.specs.Inputs.{Reads}
 abbrev pub Loads : Config → State Registry → List Route → State Registry → Type 0
 Loads c s [] z = z ≡ s
 Loads c s (route ∷ more) z = (put : Put) × (t : State Registry)
-    × Adds counting 24 8 c s route.prefix route.hop (Ok put) t
+    × Adds counter_transitions 24 8 c s route.prefix route.hop (Ok put) t
     × Loads c t more z
 
 -- the change that a route asks for
@@ -38,9 +38,9 @@ rules_of_routes routes = rules_after empty (map addition_of routes)
 -- the table of these routes; it has their rules, its readers are as they were at first, and no
 -- group is in limbo
 pub record IsLoaded (c : Config) (routes : List Route) (table : State Registry) : Type 0 where
-  pub loads : Loads c (opened c) routes table
+  pub loads : Loads c (initial_by_counters c) routes table
   pub rules : table.rules ≡ rules_of_routes routes
-  pub readers : table.readers ≡ (opened c).readers
+  pub readers : table.readers ≡ (initial_by_counters c).readers
   pub limbo : table.limbo ≡ []
 
 -- the routes before the one on this line make a table, which refuses that one for another reason
@@ -55,7 +55,7 @@ pub record IsFirstRefused (c : Config) (routes : List Route) (line : ℕ) (refus
   pub number : line ≡ route.line
   pub loaded : IsLoaded c before table
   pub reason : refusal ≢ Memory
-  pub refused : Adds counting 24 8 c table route.prefix route.hop (Err refusal) table
+  pub refused : Adds counter_transitions 24 8 c table route.prefix route.hop (Err refusal) table
 
 -- loading the routes of the file of this path ends so
 abbrev pub EndsLoading : Config → List ℕ → List Route → Failure → Type 0

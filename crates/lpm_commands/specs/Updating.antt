@@ -17,8 +17,8 @@ use Rattle.fib_model.specs.declared.event.Event.{Event}
 use Rattle.qsbr.specs.Registry.{Registry}
 use Rattle.fib.specs.Replay.{GoesOn}
 use Rattle.fib_model.specs.State.{State}
-use Rattle.fib_model.specs.Outcomes.{Log, Runs, logged}
-use Rattle.fib_model.specs.Textbook.{by_intervals, beginning}
+use Rattle.fib_model.specs.Outcomes.{Log, Runs, log_after}
+use Rattle.fib_model.specs.Textbook.{by_intervals, initial_by_events}
 use Rattle.route_text.specs.declared.routes.Route.{Route}
 use Rattle.route_text.specs.declared.orders.Order.{Order}
 use Rattle.route_text.specs.declared.orders.Order.TheVariants as orders
@@ -77,6 +77,6 @@ pub record IsUpdated (c : Config) (routes : List Route) (list : List Order)
   pub all_routes : length loaded ≡ length routes
   pub all_orders : length came ≡ length list
   pub had_memory : All (λ outcome. outcome ≢ outcomes.Refused Memory) came
-  pub logs : log ≡ logged (logged [] (map loading_of routes) (map outcomes.Put loaded))
+  pub logs : log ≡ log_after (log_after [] (map loading_of routes) (map outcomes.Put loaded))
       (map command_of list) came
-  pub runs : Runs (by_intervals c) 24 8 c beginning log state
+  pub runs : Runs (by_intervals c) 24 8 c initial_by_events log state

@@ -48,7 +48,7 @@ pub fn text_of_live_answers<'a, R: Threads + Sync, G: Gate>(
 ) -> Result<Vec<u8>, Failure<'a>>
     requires own { running.writer.identity ≡ running.table }
     requires full { IsFullBench running.table running.bench }
-    requires workers { workers ≡ running.table.opening.workers }
+    requires workers { workers ≡ running.table.initial.workers }
     ensures workers { IfOk result (λ v. 0 < workers) }
     ensures text { IfOk result (λ v. IsAnswerText running.writer.table.rules addrs.now v.items) }
     ensures failure { IfErr result (EndsAnswering workers) }
@@ -68,7 +68,7 @@ fn live_hops<'a, R: Threads + Sync, G: Gate>(
 ) -> Result<Vec<Option<Hop>>, Failure<'a>>
     requires own { running.writer.identity ≡ running.table }
     requires full { IsFullBench running.table running.bench }
-    requires workers { workers ≡ running.table.opening.workers }
+    requires workers { workers ≡ running.table.initial.workers }
     ensures workers { IfOk result (λ v. 0 < workers) }
     ensures hops { IfOk result (λ v.
         AreLongestHops 32 running.writer.table.rules addrs.now v.items) }
@@ -104,7 +104,7 @@ fn desk_hops<'a, R: Threads + Sync, G: Gate>(
 ) -> Result<Vec<Option<Hop>>, Failure<'a>>
     requires own { writer.old.identity ≡ table.now }
     requires full { IsFullBench table.now bench.old }
-    requires workers { workers ≡ table.now.opening.workers }
+    requires workers { workers ≡ table.now.initial.workers }
     ensures workers { IfOk result (λ v. 0 < workers) }
     ensures hops { IfOk result (λ v. AreLongestHops 32 writer.old.table.rules addrs.now v.items) }
     ensures failure { IfErr result (EndsAnswering workers) }

@@ -70,8 +70,8 @@ fn whole_text<'a, F: Files>(
 fn text_of_table(alloc: Global, table: Fib<24, 8>, addrs: &[u32]) -> Result<Vec<u8>, AllocError>
     ensures { IfOk result (λ v. ExplainsBy table.table.rules addrs.now v.items) }
 {
-    let (ledger, memory) = table.into_parts();
-    explanations(alloc, &ledger.rules, &memory.cells, addrs)
+    let (control, memory) = table.into_parts();
+    explanations(alloc, &control.rules, &memory.cells, addrs)
 }
 
 // The text that explains the answers by these rules, and by the words of their table.

@@ -8,7 +8,7 @@ ghost use Rattle.lpm_rules.specs.Listed.{AreInOrder, rules_of, with_rules};
 ghost use Rattle.qsbr.specs.Registry.{Registry};
 ghost use Rattle.fib_model.specs.State.{State};
 ghost use Rattle.shared_fib.specs.Passes.{IsFullBench};
-ghost use Rattle.shared_fib.specs.Running.{opens_with};
+ghost use Rattle.shared_fib.specs.Running.{initial_writer};
 ghost use Rattle.lpm_commands.specs.Loading.{IsLoaded, EndsLoading, addition_of, rules_of_routes};
 ghost use Rattle.lpm_commands.specs.Groups.{IsEnough, long_routes};
 ghost use Rattle.lpm_commands.specs.Filled.{Fits, IsFilled};
@@ -127,7 +127,7 @@ pub fn open_for_lookups<'a>(
     config: Config,
 ) -> Result<Running, Failure<'a>>
     requires { IsConfig config }
-    ensures workers { IfOk result (λ r. r.table.opening.workers ≡ config.workers) }
+    ensures workers { IfOk result (λ r. r.table.initial.workers ≡ config.workers) }
     ensures own { IfOk result (λ r. r.writer.identity ≡ r.table) }
     ensures full { IfOk result (λ r. IsFullBench r.table r.bench) }
     ensures rules { IfOk result (λ r. r.writer.table.rules ≡ rules_of_routes routes.items) }
@@ -159,9 +159,9 @@ pub fn open_for_changes<'a>(
 ) -> Result<(Running, u64), Failure<'a>>
     requires { IsConfig config }
     ensures opened { IfOk result (λ r.
-        r.0.writer ≡ opens_with r.0.table config (rules_of_routes routes.now)) }
-    ensures token { IfOk result (λ r. r.0.table.opening.token ≡ config.first_token) }
-    ensures workers { IfOk result (λ r. r.0.table.opening.workers ≡ config.workers) }
+        r.0.writer ≡ initial_writer r.0.table config (rules_of_routes routes.now)) }
+    ensures token { IfOk result (λ r. r.0.table.initial.token ≡ config.first_token) }
+    ensures workers { IfOk result (λ r. r.0.table.initial.workers ≡ config.workers) }
     ensures full { IfOk result (λ r. IsFullBench r.0.table r.0.bench) }
     ensures loaded { IfOk result (λ r. (table : State Registry)
         × IsLoaded config routes.now table × (table.begun ≡ r.1)) }
@@ -191,7 +191,7 @@ fn open_at_once<'a>(
 ) -> Result<Running, Failure<'a>>
     requires limits { IsConfig config }
     requires few { length routes.items ≤ 2 ^ 26 }
-    ensures workers { IfOk result (λ r. r.table.opening.workers ≡ config.workers) }
+    ensures workers { IfOk result (λ r. r.table.initial.workers ≡ config.workers) }
     ensures own { IfOk result (λ r. r.writer.identity ≡ r.table) }
     ensures full { IfOk result (λ r. IsFullBench r.table r.bench) }
     ensures rules { IfOk result (λ r. r.writer.table.rules ≡ rules_of_routes routes.items) }
@@ -223,7 +223,7 @@ fn open_and_add<'a>(
     config: Config,
 ) -> Result<Running, Failure<'a>>
     requires { IsConfig config }
-    ensures workers { IfOk result (λ r. r.table.opening.workers ≡ config.workers) }
+    ensures workers { IfOk result (λ r. r.table.initial.workers ≡ config.workers) }
     ensures own { IfOk result (λ r. r.writer.identity ≡ r.table) }
     ensures full { IfOk result (λ r. IsFullBench r.table r.bench) }
     ensures rules { IfOk result (λ r. r.writer.table.rules ≡ rules_of_routes routes.items) }

@@ -3,7 +3,7 @@ ghost use Rattle.std.specs.Prelude.{◌≡◌, ◌≢◌, ◌+◌, ◌<◌, ◌^
 ghost use Rattle.std.specs.Prelude.{IfOk, IfErr, OnOk, IsErrOf};
 ghost use Rattle.lpm_rules.specs.Listed.{rules_of};
 ghost use Rattle.shared_fib.specs.Passes.{IsFullBench};
-ghost use Rattle.shared_fib.specs.Running.{opens_with};
+ghost use Rattle.shared_fib.specs.Running.{initial_writer};
 ghost use Rattle.lpm_files.specs.Output.{Writes, WritesBeginning};
 ghost use Rattle.storm.specs.Changing.{IsForWriter};
 ghost use Rattle.storm.specs.Plans.{IsInRange, limits_of};
@@ -204,9 +204,9 @@ fn text_on<'a, R: Threads + Wait + Sync, G: Gate>(
 ) -> Result<Vec<u8>, Failure<'a>>
     requires in_range { IsInRange plan.now }
     requires new { running.writer
-        ≡ opens_with running.table (limits_of plan.now) (rules_of plan.now.rules.now) }
-    requires token { running.table.opening.token ≡ plan.now.config.first_token }
-    requires workers { running.table.opening.workers ≡ (limits_of plan.now).workers }
+        ≡ initial_writer running.table (limits_of plan.now) (rules_of plan.now.rules.now) }
+    requires token { running.table.initial.token ≡ plan.now.config.first_token }
+    requires workers { running.table.initial.workers ≡ (limits_of plan.now).workers }
     requires full { IsFullBench running.table running.bench }
     requires commands { All IsForWriter plan.now.commands.now }
     requires addrs { All (λ a. a < 2 ^ 32) plan.now.addrs.now }

@@ -18,7 +18,7 @@ use std::alloc::Global;
 use std::thread::Threads;
 
 /// A form of files, whose bytes list items.
-pub trait Form {
+pub trait FileKind {
     /// What a line of the file says.
     type Item: Copy;
 
@@ -42,7 +42,7 @@ pub trait Form {
 /// Route files: a prefix and its next hop a line.
 pub struct Routes;
 
-impl Form for Routes {
+impl FileKind for Routes {
     type Item = Route;
 
     ghost Lists = { AreRoutes };
@@ -59,7 +59,7 @@ impl Form for Routes {
 /// Address files: an address a line.
 pub struct Addresses;
 
-impl Form for Addresses {
+impl FileKind for Addresses {
     type Item = u32;
 
     ghost Lists = { AreAddresses };
@@ -76,7 +76,7 @@ impl Form for Addresses {
 /// Update files of version 2, which begin with their header.
 pub struct Updates;
 
-impl Form for Updates {
+impl FileKind for Updates {
     type Item = Order;
 
     ghost Lists = { AreUpdates };
@@ -93,7 +93,7 @@ impl Form for Updates {
 /// Update files of version 1, which have no header.
 pub struct OldUpdates;
 
-impl Form for OldUpdates {
+impl FileKind for OldUpdates {
     type Item = Order;
 
     ghost Lists = { AreOldUpdates };
@@ -111,7 +111,7 @@ impl Form for OldUpdates {
 ///
 /// `CannotRead` comes where the file can't be opened or a read of it fails, `Bad` where its bytes have
 /// a fault, and `Memory` where a growth is refused: in opening, in reading or in parsing.
-pub fn read_list<'a, L: Form, F: Files>(
+pub fn read_list<'a, L: FileKind, F: Files>(
     alloc: Global,
     files: &F,
     path: &'a str,
@@ -180,7 +180,7 @@ pub fn read_routes_on<'a, R: Threads + Sync, F: Files>(
 }
 
 // The items of these bytes of the file at the path. Want of memory here isn't a failed read.
-fn parsed<'a, L: Form>(
+fn parsed<'a, L: FileKind>(
     alloc: Global,
     path: &'a str,
     bytes: &[u8],

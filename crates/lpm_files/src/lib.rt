@@ -20,6 +20,6 @@ pub use answers::answers_text_on;
 pub use failure::{Failure, USAGE};
 pub use files::{Files, put_text};
 pub use inputs::{
-    Addresses, Form, OldUpdates, Routes, Updates, read_addresses_on, read_list, read_routes_on,
+    Addresses, FileKind, OldUpdates, Routes, Updates, read_addresses_on, read_list, read_routes_on,
 };
 pub use routes::parse_routes_on;

@@ -3,7 +3,7 @@ use Rattle.std.specs.Prelude.{IsSome}
 use Rattle.std.specs.FinMap.{get}
 use Rattle.std.proofs.lemmas.Bool.{cases_eq}
 use Rattle.std.proofs.lemmas.Nat.{shl-shr}
-use Rattle.lpm_bits.specs.Network.{Network, Covers, IsNetwork, masked}
+use Rattle.lpm_bits.specs.Network.{Network, Covers, IsNetwork, network_bits}
 use Rattle.lpm_rules.specs.RuleMap.{RuleMap, AllNetworks}
 use Rattle.lpm_rules.specs.Longest.{IsLongestHop, AreLongestHops, IsCoverRule, HasOneLongestHop, HasOneCover}
 use Rattle.lpm_rules.proofs.Changes.{not_some}
@@ -12,36 +12,36 @@ pair_eq : (a b c d : ℕ) → a ≡ c → b ≡ d → ◌≡◌ {A = ℕ × ℕ}
 pair_eq a b c d p q = cc
 
 -- the one prefix of a length that covers an address
-pub network_at : (width a : ℕ) (q : Network) → IsNetwork width q → Covers width q a → q ≡ record { bits = masked width q.len a; len = q.len }
+pub network_at : (width a : ℕ) (q : Network) → IsNetwork width q → Covers width q a → q ≡ record { bits = network_bits width q.len a; len = q.len }
 network_at width a q n c =
-    let bits : q.bits ≡ masked width q.len a = sym n.2 ∙ ap (λ x. x * 2 ^ (width - q.len)) (sym c) in
+    let bits : q.bits ≡ network_bits width q.len a = sym n.2 ∙ ap (λ x. x * 2 ^ (width - q.len)) (sym c) in
     ap (λ (x : ℕ × ℕ). record { bits = x.0; len = x.1 }) (pair_eq q.bits q.len _ _ bits refl)
 
 -- the prefix of each length covers the address that it was made of
-pub covers_masked : (width len a : ℕ) → Covers width (record { bits = masked width len a; len = len }) a
+pub covers_masked : (width len a : ℕ) → Covers width (record { bits = network_bits width len a; len = len }) a
 covers_masked width len a = sym (shl-shr (a / 2 ^ (width - len)) (width - len))
 
 -- two rules of one length that cover an address are one
 pub same_length : (width a : ℕ) (p q : Network) → IsNetwork width p → IsNetwork width q → Covers width p a → Covers width q a → p.len ≡ q.len → p ≡ q
 same_length width a p q np nq cp cq e =
-    network_at width a p np cp ∙ ap (λ n. record { bits = masked width n a; len = n }) e ∙ sym (network_at width a q nq cq)
+    network_at width a p np cp ∙ ap (λ n. record { bits = network_bits width n a; len = n }) e ∙ sym (network_at width a q nq cq)
 
 -- no rule of that length covers the address, so the rules that do are shorter
-pub shorter : (width a host : ℕ) (R : RuleMap) → AllNetworks width R → host ≤ width → get R (record { bits = masked width (width - host) a; len = width - host }) ≡ None
+pub shorter : (width a host : ℕ) (R : RuleMap) → AllNetworks width R → host ≤ width → get R (record { bits = network_bits width (width - host) a; len = width - host }) ≡ None
     → ((q : Network) → IsSome (get R q) → Covers width q a → q.len + host ≤ width)
     → (q : Network) → IsSome (get R q) → Covers width q a → q.len + (host + 1) ≤ width
 shorter width a host R nets l none old q some cov =
     let z = old q some cov in
     elim (cases_eq q.len (width - host)) [
-      | inl e ↦ absurd (not_some (ap (get R) (network_at width a q (nets q some) cov) ∙ ap (λ n. get R (record { bits = masked width n a; len = n })) e ∙ none) some)
+      | inl e ↦ absurd (not_some (ap (get R) (network_at width a q (nets q some) cov) ∙ ap (λ n. get R (record { bits = network_bits width n a; len = n })) e ∙ none) some)
       | inr n ↦ omega (arith, z, n)
     ]
 
 -- a rule of that length covers the address, and is the longest
-pub found : (width a host : ℕ) (R : RuleMap) (h : ℕ) → host ≤ width → get R (record { bits = masked width (width - host) a; len = width - host }) ≡ Some h
+pub found : (width a host : ℕ) (R : RuleMap) (h : ℕ) → host ≤ width → get R (record { bits = network_bits width (width - host) a; len = width - host }) ≡ Some h
     → ((q : Network) → IsSome (get R q) → Covers width q a → q.len + host ≤ width) → IsLongestHop width R a (Some h)
 found width a host R h l some old = (
-  record { bits = masked width (width - host) a; len = width - host },
+  record { bits = network_bits width (width - host) a; len = width - host },
   some,
   record {
     covers = covers_masked width (width - host) a;
@@ -90,18 +90,18 @@ one_cover width R p (Some x) (Some y) nets lx ly =
     ap (λ (c : Network × ℕ). Some c) (pair_of x.0 y.0 x.1 y.1 same.0 same.1)
 
 -- no rule of this length covers p
-pub shorter_cover : (width len n : ℕ) (R : RuleMap) (p : Network) → AllNetworks width R → n ≤ len → len ≤ width → get R (record { bits = masked width (len - n) p.bits; len = len - n }) ≡ None
+pub shorter_cover : (width len n : ℕ) (R : RuleMap) (p : Network) → AllNetworks width R → n ≤ len → len ≤ width → get R (record { bits = network_bits width (len - n) p.bits; len = len - n }) ≡ None
     → ((q : Network) → IsSome (get R q) → q.len < len → Covers width q p.bits → q.len + n ≤ len)
     → (q : Network) → IsSome (get R q) → q.len < len → Covers width q p.bits → q.len + (n + 1) ≤ len
 shorter_cover width len n R p nets l w none old q some short cov =
     let z = old q some short cov in
     elim (cases_eq q.len (len - n)) [
-      | inl e ↦ absurd (not_some (ap (get R) (network_at width p.bits q (nets q some) cov) ∙ ap (λ k. get R (record { bits = masked width k p.bits; len = k })) e ∙ none) some)
+      | inl e ↦ absurd (not_some (ap (get R) (network_at width p.bits q (nets q some) cov) ∙ ap (λ k. get R (record { bits = network_bits width k p.bits; len = k })) e ∙ none) some)
       | inr k ↦ omega (arith, z, k)
     ]
 
 -- the rule of this length that covers p is its cover
-pub found_cover : (width n : ℕ) (R : RuleMap) (p c : Network) (h : ℕ) → 1 ≤ n → n ≤ p.len → c ≡ record { bits = masked width (p.len - n) p.bits; len = p.len - n } → get R c ≡ Some h
+pub found_cover : (width n : ℕ) (R : RuleMap) (p c : Network) (h : ℕ) → 1 ≤ n → n ≤ p.len → c ≡ record { bits = network_bits width (p.len - n) p.bits; len = p.len - n } → get R c ≡ Some h
     → ((q : Network) → IsSome (get R q) → q.len < p.len → Covers width q p.bits → q.len + n ≤ p.len) → IsCoverRule width R p c h
 found_cover width n R p c h least most is rule old =
     let long : c.len ≡ p.len - n = ap (λ q. q.len) is in

@@ -10,7 +10,7 @@ use Rattle.std.proofs.Math.Seq.{get_or-append_seam}
 use Rattle.std.proofs.Math.Nat.{mul-le-mul_right}
 use Rattle.lpm_cells.specs.declared.entry.Entry.TheVariants.{Group}
 use Rattle.lpm_cells.specs.Words.{IsLastWord, word_of, entry_in, group_in}
-use Rattle.lpm_cells.specs.Table.{IsFirst, IsFirstWord, HasRoom, followed, entry_at}
+use Rattle.lpm_cells.specs.Table.{IsFirst, IsFirstWord, HasRoom, last_entry, entry_at}
 use Rattle.lpm_rules.specs.RuleMap.{RuleMap}
 use Rattle.lpm_rules.specs.Deep.{IsDeepBlock}
 use Rattle.lpm_update.specs.Best.{IsBest}
@@ -93,13 +93,13 @@ module _ (f s n b : ℕ) (R R' : RuleMap) (F S T : List ℕ) (v u : ℕ → ℕ)
 
   entry_kept : (a : ℕ) → a / 2 ^ s < b → entry_at s (record { firsts = linked_words; seconds = T }) a ≡ entry_at s (record { firsts = F; seconds = S }) a
   entry_kept a h =
-      ap (λ x. followed s T (a % 2 ^ s) (entry_in x)) (before (a / 2 ^ s) h)
+      ap (λ x. last_entry s T (a % 2 ^ s) (entry_in x)) (before (a / 2 ^ s) h)
       ∙ followed_kept s S T (a % 2 ^ s) (entry_in (slice_index F (a / 2 ^ s))) (mod_below a (2 ^ s) (pow_pos s)) kept (swept.first_words (a / 2 ^ s) (in_old (a / 2 ^ s) h)).1
 
   entry_new : (a : ℕ) → a / 2 ^ s ≡ b → entry_at s (record { firsts = linked_words; seconds = T }) a ≡ entry_in (slice_index T (length S + a % 2 ^ s))
   entry_new a e =
-      ap (λ k. followed s T (a % 2 ^ s) (entry_in (slice_index linked_words k))) e
-      ∙ (ap (followed s T (a % 2 ^ s)) reads ∙ ap (λ x. entry_in (slice_index T (x + a % 2 ^ s))) (sym room))
+      ap (λ k. last_entry s T (a % 2 ^ s) (entry_in (slice_index linked_words k))) e
+      ∙ (ap (last_entry s T (a % 2 ^ s)) reads ∙ ap (λ x. entry_in (slice_index T (x + a % 2 ^ s))) (sym room))
 
   last_or_before : (i : ℕ) → i < length linked_words → (i < b) ⊎ (i ≡ b)
   last_or_before i h = elim (cases_lt i b) [

@@ -7,7 +7,7 @@ use Rattle.std.proofs.lemmas.Nat.{pow_pos, mod_below, shr_below}
 use Rattle.lpm_cells.specs.declared.entry.Entry.{Entry}
 use Rattle.lpm_cells.specs.declared.entry.Entry.TheVariants.{Miss, Hop, Group}
 use Rattle.lpm_cells.specs.Words.{IsLastWord, entry_in}
-use Rattle.lpm_cells.specs.Table.{IsFirst, followed}
+use Rattle.lpm_cells.specs.Table.{IsFirst, last_entry}
 use Rattle.lpm_rules.specs.RuleMap.{RuleMap}
 use Rattle.lpm_update.specs.Best.{IsBest}
 use Rattle.lpm_update.specs.Represents.{Represents}
@@ -20,7 +20,7 @@ room_more s S T (Hop n d) l h = tt
 room_more s S T (Group g) l h = omega (arith, l, h)
 
 -- what a lookup reads in the groups that were there
-pub followed_kept : (s : ℕ) (S T : List ℕ) (r : ℕ) (e : Entry) → r < 2 ^ s → ((k : ℕ) → k < length S → slice_index T k ≡ slice_index S k) → IsFirst s S e → followed s T r e ≡ followed s S r e
+pub followed_kept : (s : ℕ) (S T : List ℕ) (r : ℕ) (e : Entry) → r < 2 ^ s → ((k : ℕ) → k < length S → slice_index T k ≡ slice_index S k) → IsFirst s S e → last_entry s T r e ≡ last_entry s S r e
 followed_kept s S T r Miss low kept h = refl
 followed_kept s S T r (Hop n d) low kept h = refl
 followed_kept s S T r (Group g) low kept h = ap entry_in (kept (g * 2 ^ s + r) (omega (arith, low, h)))

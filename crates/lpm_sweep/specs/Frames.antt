@@ -14,16 +14,16 @@ word_at rest [] k = rest
 word_at rest (f ∷ fs) k = word_at (under f k rest) fs k
 
 -- the word that the frames give to a place
-abbrev pub held : Frames → ℕ → ℕ
-held fs k = under fs.top k (word_at fs.rest fs.below.items k)
+abbrev pub word_by_frames : Frames → ℕ → ℕ
+word_by_frames fs k = under fs.top k (word_at fs.rest fs.below.items k)
 
 -- from a place on the frames give the same words
 abbrev pub Agrees : Frames → Frames → ℕ → Type 0
-Agrees old new from = (k : ℕ) → from ≤ k → held new k ≡ held old k
+Agrees old new from = (k : ℕ) → from ≤ k → word_by_frames new k ≡ word_by_frames old k
 
 -- the frame lies over the old ones
 abbrev pub Covers : Frame → Frames → Frames → Type 0
-Covers f old new = (k : ℕ) → held new k ≡ under f k (held old k)
+Covers f old new = (k : ℕ) → word_by_frames new k ≡ under f k (word_by_frames old k)
 
 -- words were put last, each by its place
 pub record Fills (old new : List ℕ) (w : ℕ → ℕ) : Type 0 where

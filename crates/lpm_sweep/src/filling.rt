@@ -7,7 +7,7 @@ ghost use Rattle.lpm_cells.specs.Words.{word_of};
 ghost use Rattle.lpm_cells.specs.declared.entry.Entry.TheVariants.{Hop as EntryHop};
 ghost use Rattle.lpm_rules.specs.RuleMap.{RuleMap};
 ghost use Rattle.lpm_rules.specs.Deep.{IsDeepBlock};
-ghost use Rattle.lpm_sweep.specs.Frames.{held};
+ghost use Rattle.lpm_sweep.specs.Frames.{word_by_frames};
 ghost use Rattle.lpm_rules.specs.Listed.{AreInOrder, AllUpTo, place, prefix_at, rules_of};
 ghost use Rattle.lpm_sweep.specs.Filled.{IsFilling};
 
@@ -49,9 +49,9 @@ fn put_deep<const FIRST: u32, const SECOND: u32, W: WordList>(
         → slice_index (W.items words.new) k ≡ slice_index (W.items words.old) k) }
     ensures fills { OnOk result ((R0 R : RuleMap) → AllUpTo R (place rule.now.prefix)
         → IsFilling FIRST SECOND (rule.now.prefix.bits / 2 ^ SECOND) base R0 R
-        (W.items words.old) (held frames.old)
+        (W.items words.old) (word_by_frames frames.old)
         → IsFilling FIRST SECOND (rule.now.prefix.bits / 2 ^ SECOND) base R0
-        (map.insert R rule.now.prefix rule.now.hop) (W.items words.new) (held frames.new)) }
+        (map.insert R rule.now.prefix rule.now.hop) (W.items words.new) (word_by_frames frames.new)) }
 {
     let bits = rule.prefix.bits();
     let len = rule.prefix.len();
@@ -81,7 +81,7 @@ pub(crate) fn fill_group<const FIRST: u32, const SECOND: u32, W: WordList>(
     requires before { AllUpTo (rules_of (take from rules.now)) (place (prefix_at rules.now from)) }
     requires starts { IsFilling FIRST SECOND block (length (W.items words.old))
         (rules_of (take from rules.now)) (rules_of (take from rules.now))
-        (W.items words.old) (held frames.old) }
+        (W.items words.old) (word_by_frames frames.old) }
     ensures onward { IfOk result (λ next. from < next) }
     ensures within { IfOk result (λ next. next ≤ length rules.now) }
     ensures len { OnOk result (length (W.items words.new)
@@ -94,7 +94,7 @@ pub(crate) fn fill_group<const FIRST: u32, const SECOND: u32, W: WordList>(
         → AllUpTo (rules_of (take next rules.now)) (place (prefix_at rules.now k))) }
     ensures filled { IfOk result (λ next. IsFilling FIRST SECOND block (length (W.items words.old))
         (rules_of (take from rules.now)) (rules_of (take next rules.now))
-        (W.items words.new) (held frames.new)) }
+        (W.items words.new) (word_by_frames frames.new)) }
     ensures deep { IfOk result (λ next.
         IsDeepBlock FIRST SECOND (rules_of (take next rules.now)) block) }
 {

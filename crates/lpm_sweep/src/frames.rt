@@ -1,7 +1,7 @@
 //! The words of the rules that cover a place, and the lists of words that they fill.
 
 ghost use Rattle.std.specs.Prelude.{◌≡◌, ℕ, ◌<◌, ◌≤◌, length, OnOk};
-ghost use Rattle.lpm_sweep.specs.Frames.{Fills, Agrees, Covers, held, rank};
+ghost use Rattle.lpm_sweep.specs.Frames.{Fills, Agrees, Covers, word_by_frames, rank};
 
 use crate::word_list::WordList;
 use std::alloc::{AllocError, Global};
@@ -25,7 +25,7 @@ pub(crate) struct Frames {
 impl Frames {
     /// No frame over this word. It takes no memory.
     pub(crate) fn new(alloc: Global, rest: u32) -> Frames
-        ensures { (k : ℕ) → held result k ≡ rest }
+        ensures { (k : ℕ) → word_by_frames result k ≡ rest }
     {
         Frames {
             top: Frame {
@@ -40,7 +40,7 @@ impl Frames {
     /// Takes all frames off, and goes on over this word.
     #[inline]
     pub(crate) fn reset(&mut self, rest: u32)
-        ensures { (k : ℕ) → held self.new k ≡ rest }
+        ensures { (k : ℕ) → word_by_frames self.new k ≡ rest }
     {
         self.below.clear();
         self.rest = rest;
@@ -85,7 +85,7 @@ impl Frames {
         requires small { to < usize.MAX }
         ensures len { OnOk result (length (W.items words.new) ≡ to) }
         ensures fills { OnOk result (Fills (W.items words.old) (W.items words.new)
-            (held self.old)) }
+            (word_by_frames self.old)) }
         ensures frames { OnOk result (Agrees self.old self.new to) }
         ensures top { OnOk result (to < self.new.top.end) }
     {

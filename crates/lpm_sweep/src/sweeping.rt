@@ -7,7 +7,7 @@ ghost use Rattle.lpm_bits.specs.Widths.{IsShape};
 ghost use Rattle.lpm_rules.specs.RuleMap.{RuleMap};
 ghost use Rattle.lpm_rules.specs.Deep.{deep_blocks};
 ghost use Rattle.lpm_update.specs.Represents.{Represents};
-ghost use Rattle.lpm_sweep.specs.Frames.{held};
+ghost use Rattle.lpm_sweep.specs.Frames.{word_by_frames};
 ghost use Rattle.lpm_rules.specs.Listed.{AreInOrder, AllUpTo, place, prefix_at, rules_of};
 ghost use Rattle.lpm_sweep.specs.Swept.{IsSwept, AreNumbered, words_of};
 
@@ -46,12 +46,12 @@ fn put_short<const FIRST: u32, const SECOND: u32, W: WordList>(
     ensures swept { OnOk result ((groups : ℕ) (R : RuleMap) (seconds : List ℕ)
         → AllUpTo R (place rule.now.prefix)
         → IsSwept FIRST SECOND groups R
-        (record { firsts = W.items words.old; seconds = seconds }) (held frames.old)
+        (record { firsts = W.items words.old; seconds = seconds }) (word_by_frames frames.old)
         → IsSwept FIRST SECOND groups (map.insert R rule.now.prefix rule.now.hop)
-        (record { firsts = W.items words.new; seconds = seconds }) (held frames.new)) }
+        (record { firsts = W.items words.new; seconds = seconds }) (word_by_frames frames.new)) }
     ensures numbered { OnOk result ((groups : ℕ) (R : RuleMap) (seconds blocks : List ℕ)
         → IsSwept FIRST SECOND groups R
-        (record { firsts = W.items words.old; seconds = seconds }) (held frames.old)
+        (record { firsts = W.items words.old; seconds = seconds }) (word_by_frames frames.old)
         → AreNumbered (W.items words.old) blocks → AreNumbered (W.items words.new) blocks) }
 {
     let bits = rule.prefix.bits();
@@ -85,7 +85,7 @@ fn put_group<const FIRST: u32, const SECOND: u32, W: WordList>(
     requires before { AllUpTo (rules_of (take from rules.now)) (place (prefix_at rules.now from)) }
     requires numbered { AreNumbered (W.items firsts.old) blocks.old.items }
     requires swept { IsSwept FIRST SECOND (length blocks.old.items) (rules_of (take from rules.now))
-        (record { firsts = W.items firsts.old; seconds = W.items seconds.old }) (held outer.old) }
+        (record { firsts = W.items firsts.old; seconds = W.items seconds.old }) (word_by_frames outer.old) }
     ensures onward { IfOk result (λ next. from < next) }
     ensures within { IfOk result (λ next. next ≤ length rules.now) }
     ensures later { IfOk result (λ next. (k : ℕ) → next ≤ k → k < length rules.now
@@ -99,7 +99,7 @@ fn put_group<const FIRST: u32, const SECOND: u32, W: WordList>(
     ensures numbered { OnOk result (AreNumbered (W.items firsts.new) blocks.new.items) }
     ensures swept { IfOk result (λ next. IsSwept FIRST SECOND (length blocks.new.items)
         (rules_of (take next rules.now))
-        (record { firsts = W.items firsts.new; seconds = W.items seconds.new }) (held outer.new)) }
+        (record { firsts = W.items firsts.new; seconds = W.items seconds.new }) (word_by_frames outer.new)) }
 {
     let rule = &rules[from];
     let bits = rule.prefix.bits();

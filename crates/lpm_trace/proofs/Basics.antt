@@ -3,7 +3,7 @@
 use Rattle.std.proofs.Common.{◌≡◌, ℕ, ◌≢◌, ◌<◌, inl, inr, cond, eq-eqb, List, [], ◌∷◌, length, slice_index, slice_set, All, refl, sym, ap, subst, ◌∙◌, get_or-set_same, get_or-set_other}
 use Rattle.std.proofs.lemmas.Bool.Decides.{eqb_tells}
 use Rattle.std.proofs.lemmas.List.Elements.{All-nil, All-cons}
-use Rattle.lpm_trace.specs.Tables.{with_at}
+use Rattle.lpm_trace.specs.States.{with_at}
 
 -- a fact of f with x at i, by whether j is i
 pub with_at_case : {A : Type 0} (P : A → Type 0) (f : ℕ → A) (i : ℕ) (x : A) (j : ℕ) → (j ≡ i → P x) → (j ≢ i → P (f j)) → P (with_at f i x j)

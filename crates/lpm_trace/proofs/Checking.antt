@@ -2,27 +2,27 @@
 use Rattle.std.proofs.Common.{◌≡◌, ℕ, suc, ◌+◌, ◌/◌, ◌<◌, ◌≤◌, ◌≢◌, ◌⊎◌, inl, inr, Bool, true, false, cond, ◌&&◌, eqb, max, sym, ap, subst, ◌∙◌, arith}
 use Rattle.std.proofs.lemmas.Bool.Decides.{eqb_tells, leb_tells}
 use Rattle.lpm_trace.specs.declared.step.WriterStep.TheVariants.{LoadCounter}
-use Rattle.lpm_trace.specs.Tables.{Setup, Tables, addresses, Status, Unused, Linked, Retired, answer, done, begun, written, lets_pass, MayWrite}
+use Rattle.lpm_trace.specs.States.{InitialState, TableState, addresses, Status, Unused, Linked, Retired, answer, updates_done_in, updates_begun_in, state_by_step, lets_pass, MayWrite}
 use Rattle.lpm_trace.specs.Workers.{Worker, Phase}
 use Rattle.lpm_rules.specs.RuleMap.{RuleMap}
 use Rattle.lpm_trace.proofs.Good.{Told, HeldAs, Good, worker_stays, running_counter}
 
 -- the tables with the words and the groups as they were
-abbrev pub quiet : Tables → ℕ → (ℕ → RuleMap) → (ℕ → Bool) → ℕ → Tables
-quiet w sequence history turned token = record w { clock = suc w.clock; sequence = sequence; history = history; turned = turned; token = token }
+abbrev pub quiet : TableState → ℕ → (ℕ → RuleMap) → (ℕ → Bool) → ℕ → TableState
+quiet w sequence history answer_changed token = record w { clock = suc w.clock; sequence = sequence; history = history; answer_changed = answer_changed; token = token }
 
-pub keeps_quiet : (c : Setup) (A : Told) (Hi : ℕ → ℕ → Type 0) (w : Tables) (workers : ℕ → Worker) → Good c A Hi w workers
-    → (sequence : ℕ) (history : ℕ → RuleMap) (turned : ℕ → Bool) (token : ℕ) → w.token ≤ token → w.sequence ≤ sequence
+pub keeps_quiet : (c : InitialState) (A : Told) (Hi : ℕ → ℕ → Type 0) (w : TableState) (workers : ℕ → Worker) → Good c A Hi w workers
+    → (sequence : ℕ) (history : ℕ → RuleMap) (answer_changed : ℕ → Bool) (token : ℕ) → w.token ≤ token → w.sequence ≤ sequence
     → ((a lo : ℕ) → a < addresses c → lo ≤ sequence / 2 → A (suc w.clock) a lo (answer c w.words a)) → ((t : ℕ) → t ≤ suc w.clock → Hi t ((sequence + 1) / 2))
-    → Good c A Hi (quiet w sequence history turned token) workers
-keeps_quiet c A Hi w workers good sequence history turned token more on now below = record {
+    → Good c A Hi (quiet w sequence history answer_changed token) workers
+keeps_quiet c A Hi w workers good sequence history answer_changed token more on now below = record {
   token = omega (arith, more, good.token);
   passed = omega (arith, more, good.passed);
   scan = omega (arith, more, good.scan);
   unlinked = λ x. omega (arith, good.unlinked x);
   linked = good.linked;
   workers_ok = λ k. let ok = good.workers_ok k in
-      worker_stays c A Hi w (quiet w sequence history turned token) k (workers k) (omega arith) more (omega (arith, on)) ok.grace
+      worker_stays c A Hi w (quiet w sequence history answer_changed token) k (workers k) (omega arith) more (omega (arith, on)) ok.grace
       (λ a g f half. record {
         inside = half.inside;
         running = half.running;
@@ -45,7 +45,7 @@ lets_pass_tells token value = elim (eqb_tells value 0) [
 ]
 
 -- a check that passes one more worker passes none that holds the group back
-held_passed : (c : Setup) (w : Tables) (k k0 token value T counter : ℕ) → 0 < counter → k < c.workers → counter < T
+held_passed : (c : InitialState) (w : TableState) (k k0 token value T counter : ℕ) → 0 < counter → k < c.workers → counter < T
     → ((k ≡ k0) → value ≡ counter) → (value ≡ 0) ⊎ (token ≤ value)
     → (k0 ≡ 0) ⊎ ((w.scan.next ≡ k0) × (w.scan.token ≡ token)) → (T ≤ w.scan.token → w.scan.next ≤ k) → T ≤ token → suc k0 ≤ k
 held_passed c w k k0 token value T counter some inside below same pass order before le =
@@ -59,8 +59,8 @@ held_passed c w k k0 token value T counter some inside below same pass order bef
     ] in
     omega (arith, reached, other)
 
-held_counted : (c : Setup) (w : Tables) (k k0 token value counter : ℕ) (p : Phase) → 0 < counter → k < c.workers → ((k ≡ k0) → value ≡ counter)
-    → (k0 ≡ 0) ⊎ ((w.scan.next ≡ k0) × (w.scan.token ≡ token)) → (s : Status) → HeldAs w k counter p s → HeldAs (written c w (LoadCounter token k0 value)) k counter p s
+held_counted : (c : InitialState) (w : TableState) (k k0 token value counter : ℕ) (p : Phase) → 0 < counter → k < c.workers → ((k ≡ k0) → value ≡ counter)
+    → (k0 ≡ 0) ⊎ ((w.scan.next ≡ k0) × (w.scan.token ≡ token)) → (s : Status) → HeldAs w k counter p s → HeldAs (state_by_step c w (LoadCounter token k0 value)) k counter p s
 held_counted c w k k0 token value counter p some inside same order Unused h = h
 held_counted c w k k0 token value counter p some inside same order (Linked block) h = h
 held_counted c w k k0 token value counter p some inside same order (Retired T) h = elim (lets_pass_tells token value) [
@@ -91,10 +91,10 @@ passed_counted : (b : Bool) (x y n : ℕ) → x ≤ n → y ≤ n → cond b (ma
 passed_counted true x y n h g = omega (arith, h, g)
 passed_counted false x y n h g = h
 
-pub keeps_counter : (c : Setup) (A : Told) (Hi : ℕ → ℕ → Type 0) (w : Tables) (workers : ℕ → Worker) → Good c A Hi w workers
+pub keeps_counter : (c : InitialState) (A : Told) (Hi : ℕ → ℕ → Type 0) (w : TableState) (workers : ℕ → Worker) → Good c A Hi w workers
     → (token k0 value : ℕ) → MayWrite c (λ k. (workers k).counter) w (LoadCounter token k0 value)
-    → ((a lo : ℕ) → a < addresses c → lo ≤ done w → A (suc w.clock) a lo (answer c w.words a)) → ((t : ℕ) → t ≤ suc w.clock → Hi t (begun w))
-    → Good c A Hi (written c w (LoadCounter token k0 value)) workers
+    → ((a lo : ℕ) → a < addresses c → lo ≤ updates_done_in w → A (suc w.clock) a lo (answer c w.words a)) → ((t : ℕ) → t ≤ suc w.clock → Hi t (updates_begun_in w))
+    → Good c A Hi (state_by_step c w (LoadCounter token k0 value)) workers
 keeps_counter c A Hi w workers good token k0 value may now below = record {
   token = good.token;
   passed = passed_counted (lets_pass token value && eqb (suc k0) c.workers) w.passed token w.token good.passed may.2;
@@ -102,7 +102,7 @@ keeps_counter c A Hi w workers good token k0 value may now below = record {
   unlinked = λ x. omega (arith, good.unlinked x);
   linked = good.linked;
   workers_ok = λ k. let ok = good.workers_ok k in
-      worker_stays c A Hi w (written c w (LoadCounter token k0 value)) k (workers k) (omega arith) (omega arith) (omega arith)
+      worker_stays c A Hi w (state_by_step c w (LoadCounter token k0 value)) k (workers k) (omega arith) (omega arith) (omega arith)
       (λ run g lt. held_counted c w k k0 token value (workers k).counter (workers k).phase (running_counter w.token (workers k).counter (workers k).phase run ok.loaded) (ok.inside run)
       (λ e. may.0 ∙ ap (λ x. (workers x).counter) (sym e)) may.3 (w.groups g) (ok.grace run g lt))
       (λ a g f half. record {

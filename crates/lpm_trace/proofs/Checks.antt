@@ -3,17 +3,17 @@ use Rattle.std.proofs.Common.{◌≡◌, ℕ, suc, ◌<◌, ◌≤◌, ◌⊎◌
 use Rattle.std.proofs.lemmas.Bool.Decides.{eqb_tells}
 use Rattle.std.proofs.lemmas.Bool.{cases_lt}
 use Rattle.lpm_trace.specs.declared.step.WriterStep.{WriterStep}
-use Rattle.lpm_trace.specs.declared.step.WriterStep.TheVariants.{StoreFirst, StoreSecond, Opens, Closes, BumpToken, LoadCounter}
+use Rattle.lpm_trace.specs.declared.step.WriterStep.TheVariants.{StoreFirst, StoreSecond, BeginUpdate, EndUpdate, BumpToken, LoadCounter}
 use Rattle.lpm_trace.specs.declared.step.TraceStep.{TraceStep}
 use Rattle.lpm_trace.specs.declared.step.TraceStep.TheVariants.{Writer, Worker as ByWorker}
-use Rattle.lpm_trace.specs.Tables.{Setup, Tables, lets_pass, tables, MayWrite}
+use Rattle.lpm_trace.specs.States.{InitialState, TableState, lets_pass, state_after, MayWrite}
 use Rattle.lpm_trace.specs.Trace.{after, IsTrace, writes}
 use Rattle.lpm_trace.specs.Laws.{IsAskedFor, IsChecked, PassedIsChecked}
 use Rattle.lpm_trace.specs.Counts.{passed_after}
 use Rattle.lpm_trace.proofs.Traces.{tables_of}
 use Rattle.lpm_trace.proofs.Counts.{token_is, passed_is}
 
-asked_still : (c : Setup) (s : WriterStep) (ws : List WriterStep) (token k : ℕ) → IsAskedFor c.token ws token k → IsAskedFor c.token (s ∷ ws) token k
+asked_still : (c : InitialState) (s : WriterStep) (ws : List WriterStep) (token k : ℕ) → IsAskedFor c.token ws token k → IsAskedFor c.token (s ∷ ws) token k
 asked_still c s ws token k asked = record {
   newer = s ∷ asked.newer;
   older = asked.older;
@@ -23,30 +23,30 @@ asked_still c s ws token k asked = record {
   passes = asked.passes;
 }
 
-asked_now : (c : Setup) (ws : List WriterStep) (token k counter : ℕ) → token ≤ (tables c ws).token → lets_pass token counter ≡ true → IsAskedFor c.token (LoadCounter token k counter ∷ ws) token k
+asked_now : (c : InitialState) (ws : List WriterStep) (token k counter : ℕ) → token ≤ (state_after c ws).token → lets_pass token counter ≡ true → IsAskedFor c.token (LoadCounter token k counter ∷ ws) token k
 asked_now c ws token k counter le passes = record { newer = []; older = ws; counter = counter; split = refl; started = omega (arith, le, token_is c ws); passes = passes }
 
 -- the workers below the next one were asked in the check that runs, and the greatest token that has
 -- passed was checked
-record Asked (c : Setup) (ws : List WriterStep) : Type 0 where
-  pub scanned : (k : ℕ) → k < (tables c ws).scan.next → IsAskedFor c.token ws (tables c ws).scan.token k
-  pub passed : ((tables c ws).passed ≡ 0) ⊎ IsChecked c.workers c.token ws (tables c ws).passed
+record Asked (c : InitialState) (ws : List WriterStep) : Type 0 where
+  pub scanned : (k : ℕ) → k < (state_after c ws).scan.next → IsAskedFor c.token ws (state_after c ws).scan.token k
+  pub passed : ((state_after c ws).passed ≡ 0) ⊎ IsChecked c.workers c.token ws (state_after c ws).passed
 
-checked_still : (c : Setup) (s : WriterStep) (ws : List WriterStep) (token : ℕ) → IsChecked c.workers c.token ws token → IsChecked c.workers c.token (s ∷ ws) token
+checked_still : (c : InitialState) (s : WriterStep) (ws : List WriterStep) (token : ℕ) → IsChecked c.workers c.token ws token → IsChecked c.workers c.token (s ∷ ws) token
 checked_still c s ws token h = record { checked = h.checked; later = h.later; each = λ k lt. asked_still c s ws h.checked k (h.each k lt) }
 
-passed_still : (c : Setup) (s : WriterStep) (ws : List WriterStep) (passed : ℕ) → (passed ≡ 0) ⊎ IsChecked c.workers c.token ws passed → (passed ≡ 0) ⊎ IsChecked c.workers c.token (s ∷ ws) passed
+passed_still : (c : InitialState) (s : WriterStep) (ws : List WriterStep) (passed : ℕ) → (passed ≡ 0) ⊎ IsChecked c.workers c.token ws passed → (passed ≡ 0) ⊎ IsChecked c.workers c.token (s ∷ ws) passed
 passed_still c s ws passed (inl none) = inl none
 passed_still c s ws passed (inr h) = inr (checked_still c s ws passed h)
 
 -- a step that is no load of a counter
-asked_quiet : (c : Setup) (s : WriterStep) (ws : List WriterStep) → Asked c ws → (tables c (s ∷ ws)).scan ≡ (tables c ws).scan → (tables c (s ∷ ws)).passed ≡ (tables c ws).passed → Asked c (s ∷ ws)
+asked_quiet : (c : InitialState) (s : WriterStep) (ws : List WriterStep) → Asked c ws → (state_after c (s ∷ ws)).scan ≡ (state_after c ws).scan → (state_after c (s ∷ ws)).passed ≡ (state_after c ws).passed → Asked c (s ∷ ws)
 asked_quiet c s ws asked scan passed = record {
-  scanned = subst (λ z. (k : ℕ) → k < z.next → IsAskedFor c.token (s ∷ ws) z.token k) (sym scan) (λ k lt. asked_still c s ws (tables c ws).scan.token k (asked.scanned k lt));
-  passed = subst (λ n. (n ≡ 0) ⊎ IsChecked c.workers c.token (s ∷ ws) n) (sym passed) (passed_still c s ws (tables c ws).passed asked.passed);
+  scanned = subst (λ z. (k : ℕ) → k < z.next → IsAskedFor c.token (s ∷ ws) z.token k) (sym scan) (λ k lt. asked_still c s ws (state_after c ws).scan.token k (asked.scanned k lt));
+  passed = subst (λ n. (n ≡ 0) ⊎ IsChecked c.workers c.token (s ∷ ws) n) (sym passed) (passed_still c s ws (state_after c ws).passed asked.passed);
 }
 
-scanned_more : (c : Setup) (ws : List WriterStep) (token k0 counter : ℕ) → Asked c ws → token ≤ (tables c ws).token → ((k0 ≡ 0) ⊎ (((tables c ws).scan.next ≡ k0) × ((tables c ws).scan.token ≡ token))) → lets_pass token counter ≡ true
+scanned_more : (c : InitialState) (ws : List WriterStep) (token k0 counter : ℕ) → Asked c ws → token ≤ (state_after c ws).token → ((k0 ≡ 0) ⊎ (((state_after c ws).scan.next ≡ k0) × ((state_after c ws).scan.token ≡ token))) → lets_pass token counter ≡ true
     → (k : ℕ) → k < suc k0 → IsAskedFor c.token (LoadCounter token k0 counter ∷ ws) token k
 scanned_more c ws token k0 counter asked le next passes k lt =
     let s : WriterStep = LoadCounter token k0 counter in
@@ -55,19 +55,19 @@ scanned_more c ws token k0 counter asked le next passes k lt =
       | inr other ↦ elim next [
         | inl first ↦ absurd (other.1 (omega (arith, first, lt)))
         | inr going ↦
-            let below : k < (tables c ws).scan.next = omega (arith, going.0, lt, other.1) in
+            let below : k < (state_after c ws).scan.next = omega (arith, going.0, lt, other.1) in
             asked_still c s ws token k (subst (λ t. IsAskedFor c.token ws t k) going.1 (asked.scanned k below))
       ]
     ]
 
-counter_asked : (c : Setup) (ws : List WriterStep) (token k0 counter : ℕ) → Asked c ws → token ≤ (tables c ws).token → ((k0 ≡ 0) ⊎ (((tables c ws).scan.next ≡ k0) × ((tables c ws).scan.token ≡ token))) → (b : Bool) → lets_pass token counter ≡ b
+counter_asked : (c : InitialState) (ws : List WriterStep) (token k0 counter : ℕ) → Asked c ws → token ≤ (state_after c ws).token → ((k0 ≡ 0) ⊎ (((state_after c ws).scan.next ≡ k0) × ((state_after c ws).scan.token ≡ token))) → (b : Bool) → lets_pass token counter ≡ b
     → ((k : ℕ) → k < cond b (suc k0) 0 → IsAskedFor c.token (LoadCounter token k0 counter ∷ ws) token k)
-    × ((cond (b && eqb (suc k0) c.workers) (max (tables c ws).passed token) (tables c ws).passed ≡ 0)
-    ⊎ IsChecked c.workers c.token (LoadCounter token k0 counter ∷ ws) (cond (b && eqb (suc k0) c.workers) (max (tables c ws).passed token) (tables c ws).passed))
-counter_asked c ws token k0 counter asked le next false passes = (λ k lt. absurd (omega (arith, lt)), passed_still c (LoadCounter token k0 counter) ws (tables c ws).passed asked.passed)
+    × ((cond (b && eqb (suc k0) c.workers) (max (state_after c ws).passed token) (state_after c ws).passed ≡ 0)
+    ⊎ IsChecked c.workers c.token (LoadCounter token k0 counter ∷ ws) (cond (b && eqb (suc k0) c.workers) (max (state_after c ws).passed token) (state_after c ws).passed))
+counter_asked c ws token k0 counter asked le next false passes = (λ k lt. absurd (omega (arith, lt)), passed_still c (LoadCounter token k0 counter) ws (state_after c ws).passed asked.passed)
 counter_asked c ws token k0 counter asked le next true passes =
     let s : WriterStep = LoadCounter token k0 counter in
-    let w : Tables = tables c ws in
+    let w : TableState = state_after c ws in
     let more = scanned_more c ws token k0 counter asked le next passes in (
       more,
       elim (eqb_tells (suc k0) c.workers) [
@@ -82,17 +82,17 @@ counter_asked c ws token k0 counter asked le next true passes =
       ],
     )
 
-asked_more : (c : Setup) (counters : ℕ → ℕ) (ws : List WriterStep) (s : WriterStep) → Asked c ws → MayWrite c counters (tables c ws) s → Asked c (s ∷ ws)
+asked_more : (c : InitialState) (counters : ℕ → ℕ) (ws : List WriterStep) (s : WriterStep) → Asked c ws → MayWrite c counters (state_after c ws) s → Asked c (s ∷ ws)
 asked_more c counters ws (StoreFirst i x) asked may = asked_quiet c (StoreFirst i x) ws asked refl refl
 asked_more c counters ws (StoreSecond j x) asked may = asked_quiet c (StoreSecond j x) ws asked refl refl
-asked_more c counters ws (Opens change) asked may = asked_quiet c (Opens change) ws asked refl refl
-asked_more c counters ws Closes asked may = asked_quiet c Closes ws asked refl refl
+asked_more c counters ws (BeginUpdate change) asked may = asked_quiet c (BeginUpdate change) ws asked refl refl
+asked_more c counters ws EndUpdate asked may = asked_quiet c EndUpdate ws asked refl refl
 asked_more c counters ws BumpToken asked may = asked_quiet c BumpToken ws asked refl refl
 asked_more c counters ws (LoadCounter token k0 counter) asked may =
     let both = counter_asked c ws token k0 counter asked may.2 may.3 (lets_pass token counter) refl in
     record { scanned = both.0; passed = both.1 }
 
-asked_trace : (c : Setup) (steps : List TraceStep) → IsTrace c steps → Asked c (writes steps)
+asked_trace : (c : InitialState) (steps : List TraceStep) → IsTrace c steps → Asked c (writes steps)
 asked_trace c [] trace = record { scanned = λ k lt. absurd (omega (arith, lt)); passed = inl refl }
 asked_trace c (Writer s ∷ steps) trace =
     asked_more c (λ k. ((after c steps).workers k).counter) (writes steps) s (asked_trace c steps trace.1)
@@ -101,7 +101,7 @@ asked_trace c (ByWorker k s ∷ steps) trace = asked_trace c steps trace.1
 
 pub passed_is_checked : PassedIsChecked
 passed_is_checked c steps token trace some le =
-    let same : (tables c (writes steps)).passed ≡ passed_after c.workers (writes steps) = passed_is c (writes steps) in
+    let same : (state_after c (writes steps)).passed ≡ passed_after c.workers (writes steps) = passed_is c (writes steps) in
     elim (asked_trace c steps trace).passed [
       | inl none ↦ absurd (omega (arith, none, same, some, le))
       | inr h ↦ record { checked = h.checked; later = omega (arith, h.later, same, le); each = h.each }

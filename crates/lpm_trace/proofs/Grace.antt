@@ -6,13 +6,13 @@ use Rattle.qsbr.specs.Intervals.{Interval, IsReaderInterval, Holds, IsRunningSin
 use Rattle.qsbr.proofs.Running.{since_within, since_cases, held_start}
 use Rattle.qsbr.proofs.Grace.{grace_period_is_over}
 use Rattle.lpm_trace.specs.declared.step.WriterStep.{WriterStep}
-use Rattle.lpm_trace.specs.declared.step.WriterStep.TheVariants.{StoreFirst, StoreSecond, Opens, Closes, BumpToken, LoadCounter}
+use Rattle.lpm_trace.specs.declared.step.WriterStep.TheVariants.{StoreFirst, StoreSecond, BeginUpdate, EndUpdate, BumpToken, LoadCounter}
 use Rattle.lpm_trace.specs.declared.step.WorkerStep.{WorkerStep}
-use Rattle.lpm_trace.specs.declared.step.WorkerStep.TheVariants.{LoadOnline, StoreOnline, LoadQuiescent, StoreQuiescent, StoreOffline, Begins, LoadFirst, LoadSecond, Ends, Meets}
+use Rattle.lpm_trace.specs.declared.step.WorkerStep.TheVariants.{LoadOnline, StoreOnline, LoadQuiescent, StoreQuiescent, StoreOffline, BeginLookup, LoadFirst, LoadSecond, EndLookup, MeetWriter}
 use Rattle.lpm_trace.specs.declared.step.TraceStep.{TraceStep}
 use Rattle.lpm_trace.specs.declared.step.TraceStep.TheVariants.{Writer, Worker as ByWorker}
-use Rattle.lpm_trace.specs.Tables.{Setup, Tables, IsSettled, first_entry, stamped, oldest, tables}
-use Rattle.lpm_trace.specs.Workers.{Worker, moved, MayRead, IsRunning}
+use Rattle.lpm_trace.specs.States.{InitialState, TableState, IsSettled, first_entry, with_stamp, oldest, state_after}
+use Rattle.lpm_trace.specs.Workers.{Worker, worker_by_step, MayRead, IsRunning}
 use Rattle.lpm_trace.specs.Trace.{after, IsTrace, writes}
 use Rattle.lpm_trace.specs.Laws.{begins, ends, by_steps, Unlinks, ReuseIsLawful}
 use Rattle.lpm_trace.proofs.Basics.{with_at-same}
@@ -23,31 +23,31 @@ use Rattle.lpm_trace.proofs.Moments.{count, count_old, count_le}
 -- ---- a reader interval that runs
 
 -- the step with which an interval begins
-begun_runs : (s : WorkerStep) (k worker now : ℕ) (r : Worker) → IsTrue (begins worker (ByWorker k s)) → IsRunning (moved now r s).phase × ((moved now r s).since ≡ now)
+begun_runs : (s : WorkerStep) (k worker now : ℕ) (r : Worker) → IsTrue (begins worker (ByWorker k s)) → IsRunning (worker_by_step now r s).phase × ((worker_by_step now r s).since ≡ now)
 begun_runs (LoadOnline token) k worker now r does = cc does
 begun_runs (StoreOnline token) k worker now r does = (tt, refl)
 begun_runs (LoadQuiescent token) k worker now r does = (tt, refl)
 begun_runs (StoreQuiescent token) k worker now r does = cc does
 begun_runs StoreOffline k worker now r does = cc does
-begun_runs (Begins addrs sequence) k worker now r does = cc does
+begun_runs (BeginLookup addrs sequence) k worker now r does = cc does
 begun_runs (LoadFirst word) k worker now r does = cc does
 begun_runs (LoadSecond word) k worker now r does = cc does
-begun_runs (Ends sequence) k worker now r does = cc does
-begun_runs (Meets sequence) k worker now r does = cc does
+begun_runs (EndLookup sequence) k worker now r does = cc does
+begun_runs (MeetWriter sequence) k worker now r does = cc does
 
 -- a step that ends none
-kept_runs : (c : Setup) (w : Tables) (r : Worker) (s : WorkerStep) (k worker now : ℕ) → worker ≡ k → MayRead c w r s → ¬ IsTrue (ends worker (ByWorker k s)) → IsRunning r.phase
-    → IsRunning (moved now r s).phase × ((moved now r s).since ≡ r.since)
+kept_runs : (c : InitialState) (w : TableState) (r : Worker) (s : WorkerStep) (k worker now : ℕ) → worker ≡ k → MayRead c w r s → ¬ IsTrue (ends worker (ByWorker k s)) → IsRunning r.phase
+    → IsRunning (worker_by_step now r s).phase × ((worker_by_step now r s).since ≡ r.since)
 kept_runs c w r (LoadOnline token) k worker now same may lasts run = absurd (subst IsRunning may.0 run)
 kept_runs c w r (StoreOnline token) k worker now same may lasts run = absurd (subst IsRunning may run)
 kept_runs c w r (LoadQuiescent token) k worker now same may lasts run = absurd (lasts (eq-eqb worker k same))
 kept_runs c w r (StoreQuiescent token) k worker now same may lasts run = (tt, refl)
 kept_runs c w r StoreOffline k worker now same may lasts run = absurd (lasts (eq-eqb worker k same))
-kept_runs c w r (Begins addrs sequence) k worker now same may lasts run = (tt, refl)
+kept_runs c w r (BeginLookup addrs sequence) k worker now same may lasts run = (tt, refl)
 kept_runs c w r (LoadFirst word) k worker now same may lasts run = (run, refl)
 kept_runs c w r (LoadSecond word) k worker now same may lasts run = (run, refl)
-kept_runs c w r (Ends sequence) k worker now same may lasts run = (tt, refl)
-kept_runs c w r (Meets sequence) k worker now same may lasts run = (run, refl)
+kept_runs c w r (EndLookup sequence) k worker now same may lasts run = (tt, refl)
+kept_runs c w r (MeetWriter sequence) k worker now same may lasts run = (run, refl)
 
 -- a step of another worker begins no interval of this one
 not_begun : (s : WorkerStep) (k worker : ℕ) → eqb worker k ≡ false → IsTrue (begins worker (ByWorker k s)) → ⊥
@@ -56,17 +56,17 @@ not_begun (StoreOnline token) k worker other does = cc (other, does)
 not_begun (LoadQuiescent token) k worker other does = cc (other, does)
 not_begun (StoreQuiescent token) k worker other does = cc does
 not_begun StoreOffline k worker other does = cc does
-not_begun (Begins addrs sequence) k worker other does = cc does
+not_begun (BeginLookup addrs sequence) k worker other does = cc does
 not_begun (LoadFirst word) k worker other does = cc does
 not_begun (LoadSecond word) k worker other does = cc does
-not_begun (Ends sequence) k worker other does = cc does
-not_begun (Meets sequence) k worker other does = cc does
+not_begun (EndLookup sequence) k worker other does = cc does
+not_begun (MeetWriter sequence) k worker other does = cc does
 
 -- the worker's state knows the interval that runs, and how many steps the writer had made before it
-abbrev KnowsInterval : Setup → List TraceStep → ℕ → Worker → ℕ → Type 0
+abbrev KnowsInterval : InitialState → List TraceStep → ℕ → Worker → ℕ → Type 0
 KnowsInterval c steps k r start = IsRunning r.phase × (r.since ≡ count steps start)
 
-running_since : (c : Setup) (steps : List TraceStep) → IsTrace c steps → (k start : ℕ) → IsRunningSince by_steps steps k start → KnowsInterval c steps k ((after c steps).workers k) start
+running_since : (c : InitialState) (steps : List TraceStep) → IsTrace c steps → (k start : ℕ) → IsRunningSince by_steps steps k start → KnowsInterval c steps k ((after c steps).workers k) start
 running_since c [] trace k start runs = let within = since_within by_steps [] k start runs in absurd (omega (arith, within))
 running_since c (Writer s ∷ steps) trace k start runs = elim (since_cases by_steps (Writer s) steps k start runs) [
   | inl new ↦ absurd (let does : false ≡ true = new.1 in cc does)
@@ -78,11 +78,11 @@ running_since c (Writer s ∷ steps) trace k start runs = elim (since_cases by_s
 ]
 running_since c (ByWorker j s ∷ steps) trace k start runs =
     let w = (after c steps).workers in
-    let now = (after c steps).tables.clock in
+    let now = (after c steps).state.clock in
     let clock : now ≡ length (writes steps) = ap (λ t. t.clock) (tables_of c steps) ∙ clock_length c (writes steps) in
     let whole : count (ByWorker j s ∷ steps) (length steps) ≡ length (writes steps) = count_old (ByWorker j s) steps (length steps) (omega arith) ∙ ap (λ l. length (writes l)) (oldest_all steps (length steps) (omega arith)) in
     elim (eqb_tells k j) [
-      | inl h ↦ subst (λ b. KnowsInterval c (ByWorker j s ∷ steps) k (cond b (moved now (w j) s) (w k)) start) (sym h.0)
+      | inl h ↦ subst (λ b. KnowsInterval c (ByWorker j s ∷ steps) k (cond b (worker_by_step now (w j) s) (w k)) start) (sym h.0)
           (elim (since_cases by_steps (ByWorker j s) steps k start runs) [
             | inl new ↦
                 let begun = begun_runs s j k now (w j) new.1 in
@@ -92,11 +92,11 @@ running_since c (ByWorker j s ∷ steps) trace k start runs =
                 let within = since_within by_steps steps k start old.0 in
                 let was = running_since c steps trace.1 k start old.0 in
                 let mine : KnowsInterval c steps k (w j) start = subst (λ i. KnowsInterval c steps k (w i) start) h.1 was in
-                let kept = kept_runs c (after c steps).tables (w j) s j k now h.1 trace.0.1 old.1 mine.0 in
+                let kept = kept_runs c (after c steps).state (w j) s j k now h.1 trace.0.1 old.1 mine.0 in
                 let same = count_old (ByWorker j s) steps start (omega (arith, within)) in
                 (kept.0, kept.1 ∙ mine.1 ∙ sym same)
           ])
-      | inr h ↦ subst (λ b. KnowsInterval c (ByWorker j s ∷ steps) k (cond b (moved now (w j) s) (w k)) start) (sym h.0)
+      | inr h ↦ subst (λ b. KnowsInterval c (ByWorker j s ∷ steps) k (cond b (worker_by_step now (w j) s) (w k)) start) (sym h.0)
           (elim (since_cases by_steps (ByWorker j s) steps k start runs) [
             | inl new ↦ absurd (not_begun s j k h.0 new.1)
             | inr old ↦
@@ -109,35 +109,35 @@ running_since c (ByWorker j s ∷ steps) trace k start runs =
 
 -- ---- a group that was unlinked
 
-unlinked_le : (c : Setup) (ws : List WriterStep) (g : ℕ) → (tables c ws).unlinked g ≤ (tables c ws).clock
+unlinked_le : (c : InitialState) (ws : List WriterStep) (g : ℕ) → (state_after c ws).unlinked g ≤ (state_after c ws).clock
 unlinked_le c [] g = omega arith
-unlinked_le c (StoreFirst i x ∷ ws) g = stamped_le (first_entry (tables c ws).words i) (suc (tables c ws).clock) (tables c ws).unlinked (λ h. let le = unlinked_le c ws h in omega (arith, le)) g
+unlinked_le c (StoreFirst i x ∷ ws) g = stamped_le (first_entry (state_after c ws).words i) (suc (state_after c ws).clock) (state_after c ws).unlinked (λ h. let le = unlinked_le c ws h in omega (arith, le)) g
 unlinked_le c (StoreSecond j x ∷ ws) g = let le = unlinked_le c ws g in omega (arith, le)
-unlinked_le c (Opens change ∷ ws) g = let le = unlinked_le c ws g in omega (arith, le)
-unlinked_le c (Closes ∷ ws) g = let le = unlinked_le c ws g in omega (arith, le)
+unlinked_le c (BeginUpdate change ∷ ws) g = let le = unlinked_le c ws g in omega (arith, le)
+unlinked_le c (EndUpdate ∷ ws) g = let le = unlinked_le c ws g in omega (arith, le)
 unlinked_le c (BumpToken ∷ ws) g = let le = unlinked_le c ws g in omega (arith, le)
 unlinked_le c (LoadCounter token worker counter ∷ ws) g = let le = unlinked_le c ws g in omega (arith, le)
 
-unlinked_grows : (c : Setup) (ws : List WriterStep) (s : WriterStep) (g : ℕ) → (tables c ws).unlinked g ≤ (tables c (s ∷ ws)).unlinked g
-unlinked_grows c ws (StoreFirst i x) g = let le = unlinked_le c ws g in stamped_ge (first_entry (tables c ws).words i) (suc (tables c ws).clock) (tables c ws).unlinked g (omega (arith, le))
+unlinked_grows : (c : InitialState) (ws : List WriterStep) (s : WriterStep) (g : ℕ) → (state_after c ws).unlinked g ≤ (state_after c (s ∷ ws)).unlinked g
+unlinked_grows c ws (StoreFirst i x) g = let le = unlinked_le c ws g in stamped_ge (first_entry (state_after c ws).words i) (suc (state_after c ws).clock) (state_after c ws).unlinked g (omega (arith, le))
 unlinked_grows c ws (StoreSecond j x) g = omega arith
-unlinked_grows c ws (Opens change) g = omega arith
-unlinked_grows c ws Closes g = omega arith
+unlinked_grows c ws (BeginUpdate change) g = omega arith
+unlinked_grows c ws EndUpdate g = omega arith
 unlinked_grows c ws BumpToken g = omega arith
 unlinked_grows c ws (LoadCounter token worker counter) g = omega arith
 
-unlinked_now : (c : Setup) (older : List TraceStep) (s : WriterStep) (g : ℕ) → Unlinks c older s g → (tables c (s ∷ writes older)).unlinked g ≡ suc (length (writes older))
+unlinked_now : (c : InitialState) (older : List TraceStep) (s : WriterStep) (g : ℕ) → Unlinks c older s g → (state_after c (s ∷ writes older)).unlinked g ≡ suc (length (writes older))
 unlinked_now c older (StoreFirst i x) g unlinks =
-    let w = tables c (writes older) in
-    subst (λ e. stamped e (suc w.clock) w.unlinked g ≡ suc (length (writes older))) (sym unlinks.0) (with_at-same w.unlinked g (suc w.clock) ∙ ap suc (clock_length c (writes older)))
+    let w = state_after c (writes older) in
+    subst (λ e. with_stamp e (suc w.clock) w.unlinked g ≡ suc (length (writes older))) (sym unlinks.0) (with_at-same w.unlinked g (suc w.clock) ∙ ap suc (clock_length c (writes older)))
 unlinked_now c older (StoreSecond j x) g unlinks = absurd unlinks
-unlinked_now c older (Opens change) g unlinks = absurd unlinks
-unlinked_now c older Closes g unlinks = absurd unlinks
+unlinked_now c older (BeginUpdate change) g unlinks = absurd unlinks
+unlinked_now c older EndUpdate g unlinks = absurd unlinks
 unlinked_now c older BumpToken g unlinks = absurd unlinks
 unlinked_now c older (LoadCounter token worker counter) g unlinks = absurd unlinks
 
-unlinked_since : (c : Setup) (between older : List TraceStep) (s : WriterStep) (g : ℕ) → Unlinks c older s g
-    → suc (length (writes older)) ≤ (tables c (writes (between ++ Writer s ∷ older))).unlinked g
+unlinked_since : (c : InitialState) (between older : List TraceStep) (s : WriterStep) (g : ℕ) → Unlinks c older s g
+    → suc (length (writes older)) ≤ (state_after c (writes (between ++ Writer s ∷ older))).unlinked g
 unlinked_since c [] older s g unlinks = let now = unlinked_now c older s g unlinks in omega (arith, now)
 unlinked_since c (Writer t ∷ between) older s g unlinks =
     let was = unlinked_since c between older s g unlinks in
@@ -153,24 +153,24 @@ oldest_older (x ∷ newer) older n le =
     let len = length-append newer older in
     oldest_old x (newer ++ older) n (omega (arith, le, len)) ∙ oldest_older newer older n le
 
-older_trace : (c : Setup) (newer older : List TraceStep) → IsTrace c (newer ++ older) → IsTrace c older
+older_trace : (c : InitialState) (newer older : List TraceStep) → IsTrace c (newer ++ older) → IsTrace c older
 older_trace c [] older trace = trace
 older_trace c (s ∷ newer) older trace = older_trace c newer older trace.1
 
 -- at the store into the group, no worker holds the unlinking
-not_held : (c : Setup) → IsSettled c → (between older : List TraceStep) (unlinks : WriterStep) (j x g : ℕ) → IsTrace c (Writer (StoreSecond j x) ∷ (between ++ Writer unlinks ∷ older))
+not_held : (c : InitialState) → IsSettled c → (between older : List TraceStep) (unlinks : WriterStep) (j x g : ℕ) → IsTrace c (Writer (StoreSecond j x) ∷ (between ++ Writer unlinks ∷ older))
     → Unlinks c older unlinks g → j / 2 ^ c.second ≡ g → (k : ℕ) → ¬ IsHeldByWorker by_steps (between ++ Writer unlinks ∷ older) (length older) k
 not_held c settled between older unlinks j x g trace is same k held =
     let base : List TraceStep = between ++ Writer unlinks ∷ older in
     let start = held_start by_steps base (length older) k held in
     let knows = running_since c base trace.1 k start.0 start.1 in
     let since = after_grace c settled base trace.1 j x trace.0 k knows.0 in
-    let late : suc (length (writes older)) ≤ (tables c (writes base)).unlinked (j / 2 ^ c.second) = subst (λ h. suc (length (writes older)) ≤ (tables c (writes base)).unlinked h) (sym same) (unlinked_since c between older unlinks g is) in
+    let late : suc (length (writes older)) ≤ (state_after c (writes base)).unlinked (j / 2 ^ c.second) = subst (λ h. suc (length (writes older)) ≤ (state_after c (writes base)).unlinked h) (sym same) (unlinked_since c between older unlinks g is) in
     let one : between ++ Writer unlinks ∷ older ≡ (between ++ Writer unlinks ∷ []) ++ older = sym (append_assoc between (Writer unlinks ∷ []) older) in
     let early : count base start.0 ≡ count older start.0 = ap (λ l. count l start.0) one ∙ ap (λ l. length (writes l)) (oldest_older (between ++ Writer unlinks ∷ []) older start.0 (omega (arith, start.2))) in
     omega (arith, since, late, knows.1, early, count_le older start.0)
 
-reuse : (c : Setup) (newer between older : List TraceStep) (unlinks : WriterStep) (j x g : ℕ) → IsSettled c → IsTrace c (newer ++ Writer (StoreSecond j x) ∷ (between ++ Writer unlinks ∷ older))
+reuse : (c : InitialState) (newer between older : List TraceStep) (unlinks : WriterStep) (j x g : ℕ) → IsSettled c → IsTrace c (newer ++ Writer (StoreSecond j x) ∷ (between ++ Writer unlinks ∷ older))
     → Unlinks c older unlinks g → j / 2 ^ c.second ≡ g → (i : Interval) → IsReaderInterval by_steps (newer ++ Writer (StoreSecond j x) ∷ (between ++ Writer unlinks ∷ older)) i
     → Holds i (length older) → ¬ Holds i (length (between ++ Writer unlinks ∷ older))
 reuse c newer between older unlinks j x g settled trace is same i interval =
@@ -187,7 +187,7 @@ reuse c newer between older unlinks j x g settled trace is same i interval =
 pub reuse_is_lawful : ReuseIsLawful
 reuse_is_lawful c newer between older unlinks (StoreFirst i x) g settled trace is fills = absurd fills
 reuse_is_lawful c newer between older unlinks (StoreSecond j x) g settled trace is fills = reuse c newer between older unlinks j x g settled trace is fills
-reuse_is_lawful c newer between older unlinks (Opens change) g settled trace is fills = absurd fills
-reuse_is_lawful c newer between older unlinks Closes g settled trace is fills = absurd fills
+reuse_is_lawful c newer between older unlinks (BeginUpdate change) g settled trace is fills = absurd fills
+reuse_is_lawful c newer between older unlinks EndUpdate g settled trace is fills = absurd fills
 reuse_is_lawful c newer between older unlinks BumpToken g settled trace is fills = absurd fills
 reuse_is_lawful c newer between older unlinks (LoadCounter token worker counter) g settled trace is fills = absurd fills

@@ -8,11 +8,11 @@ use Rattle.lpm_cells.specs.declared.entry.Entry.{Entry}
 use Rattle.lpm_cells.specs.declared.entry.Entry.TheVariants.{Miss, Hop, Group}
 use Rattle.lpm_cells.specs.Words.{entry_in}
 use Rattle.lpm_trace.specs.declared.step.WorkerStep.{WorkerStep}
-use Rattle.lpm_trace.specs.declared.step.WorkerStep.TheVariants.{LoadOnline, StoreOnline, LoadQuiescent, StoreQuiescent, StoreOffline, Begins, LoadFirst, LoadSecond, Ends, Meets}
+use Rattle.lpm_trace.specs.declared.step.WorkerStep.TheVariants.{LoadOnline, StoreOnline, LoadQuiescent, StoreQuiescent, StoreOffline, BeginLookup, LoadFirst, LoadSecond, EndLookup, MeetWriter}
 use Rattle.lpm_trace.specs.declared.step.TraceStep.{TraceStep}
 use Rattle.lpm_trace.specs.declared.step.TraceStep.TheVariants.{Writer, Worker as ByWorker}
-use Rattle.lpm_trace.specs.Tables.{Setup, IsAnswer, begun_at, version, oldest, tables, tables_at}
-use Rattle.lpm_trace.specs.Workers.{Worker, Probe, Unread, InGroup, Answered, Seen, read_first, first_read, second_read, with_answers, moved}
+use Rattle.lpm_trace.specs.States.{InitialState, IsAnswer, begun_at, version, oldest, state_after, state_at}
+use Rattle.lpm_trace.specs.Workers.{Worker, Probe, Unread, InGroup, Answered, Seen, read_first, first_read, second_read, with_answers, worker_by_step}
 use Rattle.lpm_trace.specs.Trace.{after, writes, worker_of}
 use Rattle.lpm_trace.specs.Laws.{IsLegalAtPlace, at_moment, rules_of_version, IsLegal, LookupsAreLegal, VersionsNeverFall}
 use Rattle.lpm_trace.proofs.Basics.{Each, each_all}
@@ -210,34 +210,34 @@ module _ (steps : List TraceStep) (place number : ℕ) (time : IsTime steps plac
   waits_agree [] = tt
   waits_agree (a ∷ addrs) = (refl, waits_agree addrs)
 
-  moves_agree : (p n : Worker) → Agrees steps p n → (s : WorkerStep) → Agrees steps (moved place p s) (moved number n s)
+  moves_agree : (p n : Worker) → Agrees steps p n → (s : WorkerStep) → Agrees steps (worker_by_step place p s) (worker_by_step number n s)
   moves_agree p n h (LoadOnline token) = record { lo = h.lo; probes = h.probes; finished = h.finished }
   moves_agree p n h (StoreOnline token) = record { lo = h.lo; probes = h.probes; finished = h.finished }
   moves_agree p n h (LoadQuiescent token) = record { lo = h.lo; probes = h.probes; finished = h.finished }
   moves_agree p n h (StoreQuiescent token) = record { lo = h.lo; probes = h.probes; finished = h.finished }
   moves_agree p n h StoreOffline = record { lo = h.lo; probes = h.probes; finished = h.finished }
-  moves_agree p n h (Begins addrs sequence) = record { lo = refl; probes = waits_agree addrs; finished = h.finished }
+  moves_agree p n h (BeginLookup addrs sequence) = record { lo = refl; probes = waits_agree addrs; finished = h.finished }
   moves_agree p n h (LoadFirst word) = record { lo = h.lo; probes = first_agrees (entry_in word) p.probes n.probes h.probes; finished = h.finished }
   moves_agree p n h (LoadSecond word) = record { lo = h.lo; probes = second_agrees (entry_in word) p.probes n.probes h.probes; finished = h.finished }
-  moves_agree p n h (Ends sequence) = record { lo = h.lo; probes = tt; finished = answers_agree p.lo n.lo (begun_at sequence) h.lo p.probes n.probes h.probes p.finished n.finished h.finished }
-  moves_agree p n h (Meets sequence) = h
+  moves_agree p n h (EndLookup sequence) = record { lo = h.lo; probes = tt; finished = answers_agree p.lo n.lo (begun_at sequence) h.lo p.probes n.probes h.probes p.finished n.finished h.finished }
+  moves_agree p n h (MeetWriter sequence) = h
 
 -- each worker, by the two clocks
-clocks_agree : (c : Setup) (steps : List TraceStep) (k : ℕ) → Agrees steps ((after c steps).workers k) (worker_of k steps)
+clocks_agree : (c : InitialState) (steps : List TraceStep) (k : ℕ) → Agrees steps ((after c steps).workers k) (worker_of k steps)
 clocks_agree c [] k = record { lo = refl; probes = tt; finished = tt }
 clocks_agree c (Writer s ∷ steps) k = agrees_stays (Writer s) steps ((after c steps).workers k) (worker_of k steps) (clocks_agree c steps k)
 clocks_agree c (ByWorker j s ∷ steps) k =
     let w = (after c steps).workers in
     let more = ByWorker j s ∷ steps in
     let here = clocks_agree c steps k in
-    let clock : (after c steps).tables.clock ≡ length (writes steps) = ap (λ t. t.clock) (tables_of c steps) ∙ clock_length c (writes steps) in
+    let clock : (after c steps).state.clock ≡ length (writes steps) = ap (λ t. t.clock) (tables_of c steps) ∙ clock_length c (writes steps) in
     let count_all : count more (suc (length steps)) ≡ length (writes steps) = ap (λ l. length (writes l)) (oldest_all more (suc (length steps)) (omega arith)) in
     elim (eqb_tells k j) [
-      | inl h ↦ subst (λ b. Agrees more (cond b (moved (after c steps).tables.clock (w j) s) (w k)) (cond b (moved (suc (length steps)) (worker_of k steps) s) (worker_of k steps))) (sym h.0)
-          (subst (λ i. Agrees more (moved (after c steps).tables.clock (w i) s) (moved (suc (length steps)) (worker_of k steps) s)) h.1
-          (moves_agree more (after c steps).tables.clock (suc (length steps)) (clock ∙ sym count_all, omega arith) (λ n le. omega (arith, le))
+      | inl h ↦ subst (λ b. Agrees more (cond b (worker_by_step (after c steps).state.clock (w j) s) (w k)) (cond b (worker_by_step (suc (length steps)) (worker_of k steps) s) (worker_of k steps))) (sym h.0)
+          (subst (λ i. Agrees more (worker_by_step (after c steps).state.clock (w i) s) (worker_by_step (suc (length steps)) (worker_of k steps) s)) h.1
+          (moves_agree more (after c steps).state.clock (suc (length steps)) (clock ∙ sym count_all, omega arith) (λ n le. omega (arith, le))
           (w k) (worker_of k steps) (agrees_stays (ByWorker j s) steps (w k) (worker_of k steps) here) s))
-      | inr h ↦ subst (λ b. Agrees more (cond b (moved (after c steps).tables.clock (w j) s) (w k)) (cond b (moved (suc (length steps)) (worker_of k steps) s) (worker_of k steps))) (sym h.0)
+      | inr h ↦ subst (λ b. Agrees more (cond b (worker_by_step (after c steps).state.clock (w j) s) (w k)) (cond b (worker_by_step (suc (length steps)) (worker_of k steps) s) (worker_of k steps))) (sym h.0)
           (agrees_stays (ByWorker j s) steps (w k) (worker_of k steps) here)
     ]
 
@@ -251,15 +251,15 @@ span_moment steps s n same place from to =
     subst (λ l. IsMoment steps n.first l place) whole
     (moment_from steps n.first d place (omega (arith, same.4.0, from)) (subst (λ l. place ≤ count steps l) (sym whole) (omega (arith, same.5.0, to))))
 
-at_place : (c : Setup) (steps : List TraceStep) (n place : ℕ) → count steps n ≡ place → tables_at c (writes steps) place ≡ at_moment c steps n
-at_place c steps n place is = ap (tables_at c (writes steps)) (sym is) ∙ ap (tables c) (writes_oldest steps n)
+at_place : (c : InitialState) (steps : List TraceStep) (n place : ℕ) → count steps n ≡ place → state_at c (writes steps) place ≡ at_moment c steps n
+at_place c steps n place is = ap (state_at c (writes steps)) (sym is) ∙ ap (state_after c) (writes_oldest steps n)
 
-legal : (c : Setup) (steps : List TraceStep) (s n : Seen) → SeenAgrees steps s n → IsLegalAtPlace c (writes steps) s → IsLegal c steps n
+legal : (c : InitialState) (steps : List TraceStep) (s n : Seen) → SeenAgrees steps s n → IsLegalAtPlace c (writes steps) s → IsLegal c steps n
 legal c steps s n same right =
     let m = span_moment steps s n same right.place right.from right.to in
-    let at : tables_at c (writes steps) right.place ≡ at_moment c steps m.moment = at_place c steps m.moment right.place m.is in
+    let at : state_at c (writes steps) right.place ≡ at_moment c steps m.moment = at_place c steps m.moment right.place m.is in
     let k = version (at_moment c steps m.moment) n.addr in
-    let shown : version (tables_at c (writes steps) right.place) s.addr ≡ k = ap (λ w. version w s.addr) at ∙ ap (version (at_moment c steps m.moment)) same.0 in
+    let shown : version (state_at c (writes steps) right.place) s.addr ≡ k = ap (λ w. version w s.addr) at ∙ ap (version (at_moment c steps m.moment)) same.0 in
     record {
       moment = m.moment;
       chosen = k;
@@ -269,8 +269,8 @@ legal c steps s n same right =
       shown = refl;
       stands = (version_ge (at_moment c steps m.moment) n.addr, version_le (at_moment c steps m.moment) n.addr);
       answers = subst (λ v. IsAnswer c (rules_of_version c steps v) n.addr n.hop) shown
-          (subst (λ a. IsAnswer c (rules_of_version c steps (version (tables_at c (writes steps) right.place) s.addr)) a n.hop) same.0
-          (subst (λ h. IsAnswer c (rules_of_version c steps (version (tables_at c (writes steps) right.place) s.addr)) s.addr h) same.1 right.answers));
+          (subst (λ a. IsAnswer c (rules_of_version c steps (version (state_at c (writes steps) right.place) s.addr)) a n.hop) same.0
+          (subst (λ h. IsAnswer c (rules_of_version c steps (version (state_at c (writes steps) right.place) s.addr)) s.addr h) same.1 right.answers));
       low = omega (arith, same.2, right.low, shown);
       high = omega (arith, same.3, right.high, shown);
     }
@@ -290,5 +290,5 @@ versions_never_fall c steps a t u le =
     let then = at_place c steps u (count steps u) refl in (
       (version_ge (at_moment c steps t) a, version_le (at_moment c steps t) a),
       subst (λ w. version w a ≤ version (at_moment c steps u) a) now
-          (subst (λ w. version (tables_at c (writes steps) (count steps t)) a ≤ version w a) then (rising c (writes steps) (count steps t) (count steps u) a more)),
+          (subst (λ w. version (state_at c (writes steps) (count steps t)) a ≤ version w a) then (rising c (writes steps) (count steps t) (count steps u) a more)),
     )

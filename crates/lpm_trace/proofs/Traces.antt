@@ -3,11 +3,11 @@ use Rattle.std.proofs.Common.{◌≡◌, ℕ, suc, ◌/◌, ◌^◌, ◌<◌, �
 use Rattle.std.proofs.lemmas.Bool.Decides.{leb_tells}
 use Rattle.std.proofs.lemmas.Bool.{cases_lt}
 use Rattle.lpm_trace.specs.declared.step.WriterStep.{WriterStep}
-use Rattle.lpm_trace.specs.declared.step.WriterStep.TheVariants.{StoreFirst, StoreSecond, Opens, Closes, BumpToken, LoadCounter}
+use Rattle.lpm_trace.specs.declared.step.WriterStep.TheVariants.{StoreFirst, StoreSecond, BeginUpdate, EndUpdate, BumpToken, LoadCounter}
 use Rattle.lpm_trace.specs.declared.step.TraceStep.{TraceStep}
 use Rattle.lpm_trace.specs.declared.step.TraceStep.TheVariants.{Writer, Worker as ByWorker}
-use Rattle.lpm_trace.specs.Tables.{Setup, Tables, IsSettled, addresses, with_at, answer, IsAnswer, done, begun, version, rules_by, written, opening, oldest, tables, tables_at, MayWrite}
-use Rattle.lpm_trace.specs.Workers.{Worker, Probe, Unread, InGroup, Answered, Seen, unstarted, moved, MayRead, IsRunning}
+use Rattle.lpm_trace.specs.States.{InitialState, TableState, IsSettled, addresses, with_at, answer, IsAnswer, updates_done_in, updates_begun_in, version, rules_by, state_by_step, starting_state, oldest, state_after, state_at, MayWrite}
+use Rattle.lpm_trace.specs.Workers.{Worker, Probe, Unread, InGroup, Answered, Seen, initial_worker, worker_by_step, MayRead, IsRunning}
 use Rattle.lpm_trace.specs.Trace.{MayCome, after, IsTrace, writes}
 use Rattle.lpm_trace.specs.Laws.{IsLegalAtPlace}
 use Rattle.lpm_trace.proofs.Basics.{Each, each_map, with_at_case}
@@ -34,45 +34,45 @@ pub oldest_all : {A : Type 0} (xs : List A) (t : ℕ) → length xs ≤ t → ol
 oldest_all [] t le = refl
 oldest_all (s ∷ xs) t le = oldest_new s xs t (omega (arith, le))
 
-pub clock_length : (c : Setup) (ws : List WriterStep) → (tables c ws).clock ≡ length ws
+pub clock_length : (c : InitialState) (ws : List WriterStep) → (state_after c ws).clock ≡ length ws
 clock_length c [] = refl
-clock_length c (s ∷ ws) = tick c (tables c ws) s ∙ ap suc (clock_length c ws)
+clock_length c (s ∷ ws) = tick c (state_after c ws) s ∙ ap suc (clock_length c ws)
 
-pub at_old : (c : Setup) (s : WriterStep) (ws : List WriterStep) (t : ℕ) → t ≤ length ws → tables_at c (s ∷ ws) t ≡ tables_at c ws t
-at_old c s ws t le = ap (tables c) (oldest_old s ws t le)
+pub at_old : (c : InitialState) (s : WriterStep) (ws : List WriterStep) (t : ℕ) → t ≤ length ws → state_at c (s ∷ ws) t ≡ state_at c ws t
+at_old c s ws t le = ap (state_after c) (oldest_old s ws t le)
 
-pub at_new : (c : Setup) (s : WriterStep) (ws : List WriterStep) (t : ℕ) → length ws < t → tables_at c (s ∷ ws) t ≡ tables c (s ∷ ws)
-at_new c s ws t lt = ap (tables c) (oldest_new s ws t lt)
+pub at_new : (c : InitialState) (s : WriterStep) (ws : List WriterStep) (t : ℕ) → length ws < t → state_at c (s ∷ ws) t ≡ state_after c (s ∷ ws)
+at_new c s ws t lt = ap (state_after c) (oldest_new s ws t lt)
 
-pub at_now : (c : Setup) (ws : List WriterStep) → tables_at c ws (length ws) ≡ tables c ws
-at_now c ws = ap (tables c) (oldest_all ws (length ws) (omega arith))
+pub at_now : (c : InitialState) (ws : List WriterStep) → state_at c ws (length ws) ≡ state_after c ws
+at_now c ws = ap (state_after c) (oldest_all ws (length ws) (omega arith))
 
 -- what the workers do changes no table
-pub tables_of : (c : Setup) (steps : List TraceStep) → (after c steps).tables ≡ tables c (writes steps)
+pub tables_of : (c : InitialState) (steps : List TraceStep) → (after c steps).state ≡ state_after c (writes steps)
 tables_of c [] = refl
-tables_of c (Writer s ∷ steps) = ap (λ w. written c w s) (tables_of c steps)
+tables_of c (Writer s ∷ steps) = ap (λ w. state_by_step c w s) (tables_of c steps)
 tables_of c (ByWorker k s ∷ steps) = tables_of c steps
 
-abbrev pub told_by : Setup → List WriterStep → Told
-told_by c ws t a lo x = (answer c (tables_at c ws t).words a ≡ x) × (lo ≤ done (tables_at c ws t))
+abbrev pub told_by : InitialState → List WriterStep → Told
+told_by c ws t a lo x = (answer c (state_at c ws t).words a ≡ x) × (lo ≤ updates_done_in (state_at c ws t))
 
-abbrev pub hi_by : Setup → List WriterStep → ℕ → ℕ → Type 0
-hi_by c ws t hi = begun (tables_at c ws t) ≤ hi
+abbrev pub hi_by : InitialState → List WriterStep → ℕ → ℕ → Type 0
+hi_by c ws t hi = updates_begun_in (state_at c ws t) ≤ hi
 
 -- one step of the writer keeps what holds
-keeps : (c : Setup) (A : Told) (Hi : ℕ → ℕ → Type 0) (w : Tables) (workers : ℕ → Worker) → Good c A Hi w workers
+keeps : (c : InitialState) (A : Told) (Hi : ℕ → ℕ → Type 0) (w : TableState) (workers : ℕ → Worker) → Good c A Hi w workers
     → (s : WriterStep) → MayWrite c (λ k. (workers k).counter) w s
-    → ((a lo : ℕ) → a < addresses c → lo ≤ done (written c w s) → A (suc w.clock) a lo (answer c (written c w s).words a)) → ((t : ℕ) → t ≤ suc w.clock → Hi t (begun (written c w s)))
-    → Good c A Hi (written c w s) workers
+    → ((a lo : ℕ) → a < addresses c → lo ≤ updates_done_in (state_by_step c w s) → A (suc w.clock) a lo (answer c (state_by_step c w s).words a)) → ((t : ℕ) → t ≤ suc w.clock → Hi t (updates_begun_in (state_by_step c w s)))
+    → Good c A Hi (state_by_step c w s) workers
 keeps c A Hi w workers good (StoreFirst i x) may now below = keeps_first c A Hi w workers good i x may.1 may.3 now below
 keeps c A Hi w workers good (StoreSecond j x) may now below = keeps_second c A Hi w workers good j x may.3 now below
-keeps c A Hi w workers good (Opens change) may now below = keeps_quiet c A Hi w workers good (suc w.sequence) (with_at w.history (suc (begun w)) (rules_by (w.history (begun w)) change)) w.turned w.token (omega arith) (omega arith) now below
-keeps c A Hi w workers good Closes may now below = keeps_quiet c A Hi w workers good (suc w.sequence) w.history (λ a. false) w.token (omega arith) (omega arith) now below
-keeps c A Hi w workers good BumpToken may now below = keeps_quiet c A Hi w workers good w.sequence w.history w.turned (suc w.token) (omega arith) (omega arith) now below
+keeps c A Hi w workers good (BeginUpdate change) may now below = keeps_quiet c A Hi w workers good (suc w.sequence) (with_at w.history (suc (updates_begun_in w)) (rules_by (w.history (updates_begun_in w)) change)) w.answer_changed w.token (omega arith) (omega arith) now below
+keeps c A Hi w workers good EndUpdate may now below = keeps_quiet c A Hi w workers good (suc w.sequence) w.history (λ a. false) w.token (omega arith) (omega arith) now below
+keeps c A Hi w workers good BumpToken may now below = keeps_quiet c A Hi w workers good w.sequence w.history w.answer_changed (suc w.token) (omega arith) (omega arith) now below
 keeps c A Hi w workers good (LoadCounter token worker counter) may now below = keeps_counter c A Hi w workers good token worker counter may now below
 
 -- what was told stays told
-good_more : (c : Setup) (A B : Told) (HA HB : ℕ → ℕ → Type 0) (w : Tables) (workers : ℕ → Worker)
+good_more : (c : InitialState) (A B : Told) (HA HB : ℕ → ℕ → Type 0) (w : TableState) (workers : ℕ → Worker)
     → ((t a lo : ℕ) (x : Option ℕ) → t ≤ w.clock → A t a lo x → B t a lo x) → ((t hi : ℕ) → t ≤ w.clock → HA t hi → HB t hi)
     → Good c A HA w workers → Good c B HB w workers
 good_more c A B HA HB w workers more up good = record {
@@ -95,7 +95,7 @@ good_more c A B HA HB w workers more up good = record {
         (λ s h. (h.0, h.1, (h.2.0, h.2.1, h.2.2, more h.2.0 s.addr s.lo s.hop (omega (arith, h.1, h.2.2)) h.2.3, up h.2.0 s.hi (omega (arith, h.1, h.2.2)) h.2.4))) (workers k).finished ok.finished;
   };
   now = λ a lo lt le. more w.clock a lo (answer c w.words a) (omega arith) (good.now a lo lt le);
-  below = λ t le. up t (begun w) le (good.below t le);
+  below = λ t le. up t (updates_begun_in w) le (good.below t le);
 }
   where
     probe_more : (since lo : ℕ) (phase : _) (p : Probe) → ProbeOk c A w since lo phase p → ProbeOk c B w since lo phase p
@@ -113,17 +113,17 @@ good_more c A B HA HB w workers more up good = record {
     }
     probe_more since lo phase (Answered a y f l) h = (h.0, h.1, (h.2.0, h.2.1, h.2.2, more h.2.0 a lo y (omega (arith, h.1, h.2.2)) h.2.3))
 
-pub begun_grows : (c : Setup) (ws : List WriterStep) (t : ℕ) → begun (tables_at c ws t) ≤ begun (tables c ws)
+pub begun_grows : (c : InitialState) (ws : List WriterStep) (t : ℕ) → updates_begun_in (state_at c ws t) ≤ updates_begun_in (state_after c ws)
 begun_grows c [] t = omega arith
 begun_grows c (s ∷ ws) t = elim (cases_lt (length ws) t) [
-  | inl h ↦ subst (λ w. begun w ≤ begun (tables c (s ∷ ws))) (sym (at_new c s ws t h)) (omega arith)
-  | inr h ↦ subst (λ w. begun w ≤ begun (tables c (s ∷ ws))) (sym (at_old c s ws t h)) (omega (arith, begun_grows c ws t, sequence_grows c (tables c ws) s))
+  | inl h ↦ subst (λ w. updates_begun_in w ≤ updates_begun_in (state_after c (s ∷ ws))) (sym (at_new c s ws t h)) (omega arith)
+  | inr h ↦ subst (λ w. updates_begun_in w ≤ updates_begun_in (state_after c (s ∷ ws))) (sym (at_old c s ws t h)) (omega (arith, begun_grows c ws t, sequence_grows c (state_after c ws) s))
 ]
 
-unstarted_ok : (c : Setup) (k : ℕ) → WorkerOk c (told_by c []) (hi_by c []) (opening c) k unstarted
+unstarted_ok : (c : InitialState) (k : ℕ) → WorkerOk c (told_by c []) (hi_by c []) (starting_state c) k initial_worker
 unstarted_ok c k = record { inside = λ run. absurd run; counter = omega arith; loaded = tt; since = omega arith; grace = λ run. absurd run; idle = refl; low = tt; probes = tt; finished = tt }
 
-start_good : (c : Setup) → IsSettled c → Good c (told_by c []) (hi_by c []) (opening c) (after c []).workers
+start_good : (c : InitialState) → IsSettled c → Good c (told_by c []) (hi_by c []) (starting_state c) (after c []).workers
 start_good c settled = record {
   token = settled.token;
   passed = omega arith;
@@ -136,55 +136,55 @@ start_good c settled = record {
 }
 
 -- a step of the writer
-good_write : (c : Setup) (ws : List WriterStep) (workers : ℕ → Worker) → Good c (told_by c ws) (hi_by c ws) (tables c ws) workers
-    → (s : WriterStep) → MayWrite c (λ k. (workers k).counter) (tables c ws) s → Good c (told_by c (s ∷ ws)) (hi_by c (s ∷ ws)) (tables c (s ∷ ws)) workers
+good_write : (c : InitialState) (ws : List WriterStep) (workers : ℕ → Worker) → Good c (told_by c ws) (hi_by c ws) (state_after c ws) workers
+    → (s : WriterStep) → MayWrite c (λ k. (workers k).counter) (state_after c ws) s → Good c (told_by c (s ∷ ws)) (hi_by c (s ∷ ws)) (state_after c (s ∷ ws)) workers
 good_write c ws workers good s may =
-    let w = tables c ws in
+    let w = state_after c ws in
     let len : w.clock ≡ length ws = clock_length c ws in
-    let new : tables_at c (s ∷ ws) (suc w.clock) ≡ tables c (s ∷ ws) = at_new c s ws (suc w.clock) (omega (arith, len)) in
-    let moved : Good c (told_by c (s ∷ ws)) (hi_by c (s ∷ ws)) w workers = good_more c (told_by c ws) (told_by c (s ∷ ws)) (hi_by c ws) (hi_by c (s ∷ ws)) w workers
-    (λ t a lo x le h. subst (λ v. (answer c v.words a ≡ x) × (lo ≤ done v)) (sym (at_old c s ws t (omega (arith, le, len)))) h)
-    (λ t hi le h. subst (λ v. begun v ≤ hi) (sym (at_old c s ws t (omega (arith, le, len)))) h) good in
-    keeps c (told_by c (s ∷ ws)) (hi_by c (s ∷ ws)) w workers moved s may
-    (λ a lo lt le. subst (λ v. (answer c v.words a ≡ answer c (written c w s).words a) × (lo ≤ done v)) (sym new) (refl, le))
+    let new : state_at c (s ∷ ws) (suc w.clock) ≡ state_after c (s ∷ ws) = at_new c s ws (suc w.clock) (omega (arith, len)) in
+    let worker_by_step : Good c (told_by c (s ∷ ws)) (hi_by c (s ∷ ws)) w workers = good_more c (told_by c ws) (told_by c (s ∷ ws)) (hi_by c ws) (hi_by c (s ∷ ws)) w workers
+    (λ t a lo x le h. subst (λ v. (answer c v.words a ≡ x) × (lo ≤ updates_done_in v)) (sym (at_old c s ws t (omega (arith, le, len)))) h)
+    (λ t hi le h. subst (λ v. updates_begun_in v ≤ hi) (sym (at_old c s ws t (omega (arith, le, len)))) h) good in
+    keeps c (told_by c (s ∷ ws)) (hi_by c (s ∷ ws)) w workers worker_by_step s may
+    (λ a lo lt le. subst (λ v. (answer c v.words a ≡ answer c (state_by_step c w s).words a) × (lo ≤ updates_done_in v)) (sym new) (refl, le))
     (λ t le. begun_grows c (s ∷ ws) t)
 
-pub good_trace : (c : Setup) → IsSettled c → (steps : List TraceStep) → IsTrace c steps
-    → Good c (told_by c (writes steps)) (hi_by c (writes steps)) (tables c (writes steps)) (after c steps).workers
+pub good_trace : (c : InitialState) → IsSettled c → (steps : List TraceStep) → IsTrace c steps
+    → Good c (told_by c (writes steps)) (hi_by c (writes steps)) (state_after c (writes steps)) (after c steps).workers
 good_trace c settled [] trace = start_good c settled
 good_trace c settled (Writer s ∷ steps) trace =
     good_write c (writes steps) (after c steps).workers (good_trace c settled steps trace.1) s
     (subst (λ w. MayWrite c (λ k. ((after c steps).workers k).counter) w s) (tables_of c steps) trace.0.0)
 good_trace c settled (ByWorker k s ∷ steps) trace =
     let good = good_trace c settled steps trace.1 in
-    let w = tables c (writes steps) in
+    let w = state_after c (writes steps) in
     let A : Told = told_by c (writes steps) in
     let Hi : ℕ → ℕ → Type 0 = hi_by c (writes steps) in
     let r = (after c steps).workers k in
-    let ok : WorkerOk c A Hi w k (moved w.clock r s) = worker_moves c A Hi w (after c steps).workers good k trace.0.0 r (good.workers_ok k) s (subst (λ v. MayRead c v ((after c steps).workers k) s) (tables_of c steps) trace.0.1) in
+    let ok : WorkerOk c A Hi w k (worker_by_step w.clock r s) = worker_moves c A Hi w (after c steps).workers good k trace.0.0 r (good.workers_ok k) s (subst (λ v. MayRead c v ((after c steps).workers k) s) (tables_of c steps) trace.0.1) in
     record {
       token = good.token;
       passed = good.passed;
       scan = good.scan;
       unlinked = good.unlinked;
       linked = good.linked;
-      workers_ok = λ j. subst (λ v. WorkerOk c A Hi w j (with_at (after c steps).workers k (moved v.clock r s) j)) (sym (tables_of c steps))
-          (with_at_case (WorkerOk c A Hi w j) (after c steps).workers k (moved w.clock r s) j
-          (λ e. subst (λ x. WorkerOk c A Hi w x (moved w.clock r s)) (sym e) ok)
+      workers_ok = λ j. subst (λ v. WorkerOk c A Hi w j (with_at (after c steps).workers k (worker_by_step v.clock r s) j)) (sym (tables_of c steps))
+          (with_at_case (WorkerOk c A Hi w j) (after c steps).workers k (worker_by_step w.clock r s) j
+          (λ e. subst (λ x. WorkerOk c A Hi w x (worker_by_step w.clock r s)) (sym e) ok)
           (λ ne. good.workers_ok j));
       now = good.now;
       below = good.below;
     }
 
 -- what the words show, after the writer's steps and after the first t of them
-pub shows_tables : (c : Setup) → IsSettled c → (steps : List TraceStep) → IsTrace c steps → Shows c (tables c (writes steps))
+pub shows_tables : (c : InitialState) → IsSettled c → (steps : List TraceStep) → IsTrace c steps → Shows c (state_after c (writes steps))
 shows_tables c settled [] trace = opening_shows c settled
 shows_tables c settled (Writer s ∷ steps) trace =
-    keeps_shows c (λ k. ((after c steps).workers k).counter) (tables c (writes steps)) (shows_tables c settled steps trace.1) s
+    keeps_shows c (λ k. ((after c steps).workers k).counter) (state_after c (writes steps)) (shows_tables c settled steps trace.1) s
     (subst (λ w. MayWrite c (λ k. ((after c steps).workers k).counter) w s) (tables_of c steps) trace.0.0)
 shows_tables c settled (ByWorker k s ∷ steps) trace = shows_tables c settled steps trace.1
 
-pub shows_at : (c : Setup) → IsSettled c → (steps : List TraceStep) → IsTrace c steps → (t : ℕ) → Shows c (tables_at c (writes steps) t)
+pub shows_at : (c : InitialState) → IsSettled c → (steps : List TraceStep) → IsTrace c steps → (t : ℕ) → Shows c (state_at c (writes steps) t)
 shows_at c settled [] trace t = opening_shows c settled
 shows_at c settled (Writer s ∷ steps) trace t = elim (cases_lt (length (writes steps)) t) [
   | inl h ↦ subst (Shows c) (sym (at_new c s (writes steps) t h)) (shows_tables c settled (Writer s ∷ steps) trace)
@@ -192,38 +192,38 @@ shows_at c settled (Writer s ∷ steps) trace t = elim (cases_lt (length (writes
 ]
 shows_at c settled (ByWorker k s ∷ steps) trace t = shows_at c settled steps trace.1 t
 
-pub history_at : (c : Setup) (ws : List WriterStep) (t k : ℕ) → k ≤ begun (tables_at c ws t) → (tables c ws).history k ≡ (tables_at c ws t).history k
+pub history_at : (c : InitialState) (ws : List WriterStep) (t k : ℕ) → k ≤ updates_begun_in (state_at c ws t) → (state_after c ws).history k ≡ (state_at c ws t).history k
 history_at c [] t k le = refl
 history_at c (s ∷ ws) t k le = elim (cases_lt (length ws) t) [
   | inl h ↦ ap (λ w. w.history k) (sym (at_new c s ws t h))
   | inr h ↦
-      let le' : k ≤ begun (tables_at c ws t) = subst (λ w. k ≤ begun w) (at_old c s ws t h) le in
-      history_stays c (tables c ws) s k (omega (arith, le', begun_grows c ws t)) ∙ history_at c ws t k le' ∙ ap (λ w. w.history k) (sym (at_old c s ws t h))
+      let le' : k ≤ updates_begun_in (state_at c ws t) = subst (λ w. k ≤ updates_begun_in w) (at_old c s ws t h) le in
+      history_stays c (state_after c ws) s k (omega (arith, le', begun_grows c ws t)) ∙ history_at c ws t k le' ∙ ap (λ w. w.history k) (sym (at_old c s ws t h))
 ]
 
 -- the version that an address shows never falls
-pub rising : (c : Setup) (ws : List WriterStep) (t u a : ℕ) → t ≤ u
-    → version (tables_at c ws t) a ≤ version (tables_at c ws u) a
+pub rising : (c : InitialState) (ws : List WriterStep) (t u a : ℕ) → t ≤ u
+    → version (state_at c ws t) a ≤ version (state_at c ws u) a
 rising c [] t u a le = omega arith
 rising c (s ∷ ws) t u a le = elim (cases_lt (length ws) u) [
-  | inl last ↦ subst (λ w. version (tables_at c (s ∷ ws) t) a ≤ version w a) (sym (at_new c s ws u last)) (elim (cases_lt (length ws) t) [
-    | inl h ↦ subst (λ w. version w a ≤ version (tables c (s ∷ ws)) a) (sym (at_new c s ws t h)) (omega arith)
-    | inr h ↦ subst (λ w. version w a ≤ version (tables c (s ∷ ws)) a) (sym (at_old c s ws t h))
-        (let up : version (tables_at c ws t) a ≤ version (tables_at c ws (length ws)) a = rising c ws t (length ws) a h in
-        let up' : version (tables_at c ws t) a ≤ version (tables c ws) a = subst (λ w. version (tables_at c ws t) a ≤ version w a) (at_now c ws) up in
-        omega (arith, up', rises c (tables c ws) s a))
+  | inl last ↦ subst (λ w. version (state_at c (s ∷ ws) t) a ≤ version w a) (sym (at_new c s ws u last)) (elim (cases_lt (length ws) t) [
+    | inl h ↦ subst (λ w. version w a ≤ version (state_after c (s ∷ ws)) a) (sym (at_new c s ws t h)) (omega arith)
+    | inr h ↦ subst (λ w. version w a ≤ version (state_after c (s ∷ ws)) a) (sym (at_old c s ws t h))
+        (let up : version (state_at c ws t) a ≤ version (state_at c ws (length ws)) a = rising c ws t (length ws) a h in
+        let up' : version (state_at c ws t) a ≤ version (state_after c ws) a = subst (λ w. version (state_at c ws t) a ≤ version w a) (at_now c ws) up in
+        omega (arith, up', rises c (state_after c ws) s a))
   ])
-  | inr h ↦ subst (λ w. version (tables_at c (s ∷ ws) t) a ≤ version w a) (sym (at_old c s ws u h))
-      (subst (λ w. version w a ≤ version (tables_at c ws u) a) (sym (at_old c s ws t (omega (arith, le, h)))) (rising c ws t u a le))
+  | inr h ↦ subst (λ w. version (state_at c (s ∷ ws) t) a ≤ version w a) (sym (at_old c s ws u h))
+      (subst (λ w. version w a ≤ version (state_at c ws u) a) (sym (at_old c s ws t (omega (arith, le, h)))) (rising c ws t u a le))
 ]
 
-right : (c : Setup) → IsSettled c → (steps : List TraceStep) → IsTrace c steps → (s : Seen) → FinishedOk c (told_by c (writes steps)) (hi_by c (writes steps)) (tables c (writes steps)).clock s → IsLegalAtPlace c (writes steps) s
+right : (c : InitialState) → IsSettled c → (steps : List TraceStep) → IsTrace c steps → (s : Seen) → FinishedOk c (told_by c (writes steps)) (hi_by c (writes steps)) (state_after c (writes steps)).clock s → IsLegalAtPlace c (writes steps) s
 right c settled steps trace s h =
     let t = h.2.0 in
     let ws = writes steps in
-    let w = tables_at c ws t in
+    let w = state_at c ws t in
     let shown : IsAnswer c (w.history (version w s.addr)) s.addr (answer c w.words s.addr) = (shows_at c settled steps trace t).shown s.addr h.0 in
-    let kept : (tables c ws).history (version w s.addr) ≡ w.history (version w s.addr) = history_at c ws t (version w s.addr) (version_le w s.addr) in
+    let kept : (state_after c ws).history (version w s.addr) ≡ w.history (version w s.addr) = history_at c ws t (version w s.addr) (version_le w s.addr) in
     record {
       place = t;
       from = h.2.1;
@@ -234,16 +234,16 @@ right c settled steps trace s h =
       high = omega (arith, h.2.4, version_le w s.addr);
     }
 
-pub all_right : (c : Setup) → IsSettled c → (steps : List TraceStep) → IsTrace c steps → (k : ℕ) → Each (IsLegalAtPlace c (writes steps)) ((after c steps).workers k).finished
+pub all_right : (c : InitialState) → IsSettled c → (steps : List TraceStep) → IsTrace c steps → (k : ℕ) → Each (IsLegalAtPlace c (writes steps)) ((after c steps).workers k).finished
 all_right c settled steps trace k =
-    each_map (FinishedOk c (told_by c (writes steps)) (hi_by c (writes steps)) (tables c (writes steps)).clock) (IsLegalAtPlace c (writes steps)) (right c settled steps trace)
+    each_map (FinishedOk c (told_by c (writes steps)) (hi_by c (writes steps)) (state_after c (writes steps)).clock) (IsLegalAtPlace c (writes steps)) (right c settled steps trace)
     ((after c steps).workers k).finished ((good_trace c settled steps trace).workers_ok k).finished
 
 -- a store into a group: each reader interval that runs began after the group was unlinked
-pub after_grace : (c : Setup) → IsSettled c → (steps : List TraceStep) → IsTrace c steps → (j x : ℕ) → MayCome c (after c steps) (Writer (StoreSecond j x))
-    → (k : ℕ) → IsRunning ((after c steps).workers k).phase → (tables c (writes steps)).unlinked (j / 2 ^ c.second) ≤ ((after c steps).workers k).since
+pub after_grace : (c : InitialState) → IsSettled c → (steps : List TraceStep) → IsTrace c steps → (j x : ℕ) → MayCome c (after c steps) (Writer (StoreSecond j x))
+    → (k : ℕ) → IsRunning ((after c steps).workers k).phase → (state_after c (writes steps)).unlinked (j / 2 ^ c.second) ≤ ((after c steps).workers k).since
 after_grace c settled steps trace j x may k run =
-    let w = tables c (writes steps) in
+    let w = state_after c (writes steps) in
     let r = (after c steps).workers k in
     let g = j / 2 ^ c.second in
     let ok = (good_trace c settled steps trace).workers_ok k in

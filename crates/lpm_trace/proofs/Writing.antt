@@ -6,42 +6,42 @@ use Rattle.std.proofs.Common.{get_or-set_other}
 use Rattle.lpm_cells.specs.declared.entry.Entry.{Entry}
 use Rattle.lpm_cells.specs.declared.entry.Entry.TheVariants.{Miss, Hop, Group}
 use Rattle.lpm_cells.specs.Words.{entry_in, hop_in}
-use Rattle.lpm_cells.specs.Table.{with_first, followed}
+use Rattle.lpm_cells.specs.Table.{with_first, last_entry}
 use Rattle.lpm_trace.specs.declared.step.WriterStep.TheVariants.{StoreFirst, StoreSecond}
-use Rattle.lpm_trace.specs.Tables.{Setup, Tables, Status, Unused, Linked, Retired, addresses, answer, done, begun, first_entry, written, linked, retired, stamped, MayLink, MayFill, IsFree}
+use Rattle.lpm_trace.specs.States.{InitialState, TableState, Status, Unused, Linked, Retired, addresses, answer, updates_done_in, updates_begun_in, first_entry, state_by_step, with_linked, with_retired, with_stamp, MayLink, MayFill, IsFree}
 use Rattle.lpm_trace.specs.Workers.{Worker, Phase, Offline, ComingOnline, Online, LookingUp, ReportingQuiescent, IsRunning}
 use Rattle.lpm_trace.proofs.Basics.{with_at_case, with_at-same, with_at-other, set_case}
 use Rattle.lpm_trace.proofs.Good.{Told, LoadedAs, IsStaleAs, HeldAs, second_place, HalfOk, WorkerOk, Good, worker_stays}
 
 -- a group that is held is not free
-pub held_not_free : (c : Setup) (w : Tables) (k counter : ℕ) (p : Phase) → k < c.workers → (s : Status) → HeldAs w k counter p s → IsFree c w.passed s → ⊥
+pub held_not_free : (c : InitialState) (w : TableState) (k counter : ℕ) (p : Phase) → k < c.workers → (s : Status) → HeldAs w k counter p s → IsFree c w.passed s → ⊥
 held_not_free c w k counter p inside Unused held free = held
 held_not_free c w k counter p inside (Linked block) held free = held
 held_not_free c w k counter p inside (Retired token) held (inl h) = omega (arith, held.2, h)
 held_not_free c w k counter p inside (Retired token) held (inr h) = omega (arith, inside, h)
 
-pub held_not_filled : (c : Setup) (w : Tables) (k counter : ℕ) (p : Phase) → k < c.workers → (s : Status) → HeldAs w k counter p s → MayFill c w.passed s → ⊥
+pub held_not_filled : (c : InitialState) (w : TableState) (k counter : ℕ) (p : Phase) → k < c.workers → (s : Status) → HeldAs w k counter p s → MayFill c w.passed s → ⊥
 held_not_filled c w k counter p inside Unused held free = held
 held_not_filled c w k counter p inside (Linked block) held free = held
 held_not_filled c w k counter p inside (Retired token) held (inl h) = omega (arith, held.2, h)
 held_not_filled c w k counter p inside (Retired token) held (inr h) = omega (arith, inside, h)
 
-free_not_linked : (c : Setup) (passed : ℕ) (s : Status) (i : ℕ) → s ≡ Linked i → IsFree c passed s → ⊥
+free_not_linked : (c : InitialState) (passed : ℕ) (s : Status) (i : ℕ) → s ≡ Linked i → IsFree c passed s → ⊥
 free_not_linked c passed Unused i e free = cc
 free_not_linked c passed (Linked block) i e free = free
 free_not_linked c passed (Retired token) i e free = cc
 
-stamped_later : (old : Entry) (now n : ℕ) (unlinked : ℕ → ℕ) (g : ℕ) → n < now → n < unlinked g → n < stamped old now unlinked g
+stamped_later : (old : Entry) (now n : ℕ) (unlinked : ℕ → ℕ) (g : ℕ) → n < now → n < unlinked g → n < with_stamp old now unlinked g
 stamped_later Miss now n unlinked g lt h = h
 stamped_later (Hop hop depth) now n unlinked g lt h = h
 stamped_later (Group group) now n unlinked g lt h = with_at_case (λ x. n < x) unlinked group now g (λ _. lt) (λ _. h)
 
-pub stamped_le : (old : Entry) (now : ℕ) (unlinked : ℕ → ℕ) → ((g : ℕ) → unlinked g ≤ now) → (g : ℕ) → stamped old now unlinked g ≤ now
+pub stamped_le : (old : Entry) (now : ℕ) (unlinked : ℕ → ℕ) → ((g : ℕ) → unlinked g ≤ now) → (g : ℕ) → with_stamp old now unlinked g ≤ now
 stamped_le Miss now unlinked h g = h g
 stamped_le (Hop hop depth) now unlinked h g = h g
 stamped_le (Group group) now unlinked h g = with_at_case (λ x. x ≤ now) unlinked group now g (λ _. omega arith) (λ _. h g)
 
-pub stamped_ge : (old : Entry) (now : ℕ) (unlinked : ℕ → ℕ) (g : ℕ) → unlinked g ≤ now → unlinked g ≤ stamped old now unlinked g
+pub stamped_ge : (old : Entry) (now : ℕ) (unlinked : ℕ → ℕ) (g : ℕ) → unlinked g ≤ now → unlinked g ≤ with_stamp old now unlinked g
 stamped_ge Miss now unlinked g h = omega arith
 stamped_ge (Hop hop depth) now unlinked g h = omega arith
 stamped_ge (Group group) now unlinked g h = with_at_case (λ x. unlinked g ≤ x) unlinked group now g (λ _. h) (λ _. omega arith)
@@ -55,13 +55,13 @@ stale_next token counter LookingUp h = tt
 stale_next token counter (ReportingQuiescent loaded) h = omega (arith, h.2)
 
 -- the place of an address in a group is one of that group
-place_in_group : (c : Setup) (a g : ℕ) → second_place c a g / 2 ^ c.second ≡ g
+place_in_group : (c : InitialState) (a g : ℕ) → second_place c a g / 2 ^ c.second ≡ g
 place_in_group c a g = div-mul-add g (2 ^ c.second) (a % 2 ^ c.second) (mod-lt a (pow_pos c.second))
 
-module _ (c : Setup) (A : Told) (Hi : ℕ → ℕ → Type 0) (w : Tables) (workers : ℕ → Worker) (good : Good c A Hi w workers) where
+module _ (c : InitialState) (A : Told) (Hi : ℕ → ℕ → Type 0) (w : TableState) (workers : ℕ → Worker) (good : Good c A Hi w workers) where
   module _ (k : ℕ) (r : Worker) (ok : WorkerOk c A Hi w k r) where
     -- an unlinking: the group is held by every worker whose reader interval runs
-    held_retired : IsRunning r.phase → (old : Entry) (g : ℕ) → r.since < stamped old (suc w.clock) w.unlinked g → HeldAs w k r.counter r.phase (retired old (suc w.token) w.groups g)
+    held_retired : IsRunning r.phase → (old : Entry) (g : ℕ) → r.since < with_stamp old (suc w.clock) w.unlinked g → HeldAs w k r.counter r.phase (with_retired old (suc w.token) w.groups g)
     held_retired run Miss g lt = ok.grace run g lt
     held_retired run (Hop hop depth) g lt = ok.grace run g lt
     held_retired run (Group group) g lt =
@@ -70,7 +70,7 @@ module _ (c : Setup) (A : Told) (Hi : ℕ → ℕ → Type 0) (w : Tables) (work
         (λ ne. ok.grace run g (subst (λ n. r.since < n) (with_at-other w.unlinked group (suc w.clock) g ne) lt))
 
     held_taken : IsRunning r.phase → (i group : ℕ) → IsFree c w.passed (w.groups group) → (old : Entry) → first_entry w.words i ≡ old
-        → r.since < stamped old (suc w.clock) w.unlinked group → ⊥
+        → r.since < with_stamp old (suc w.clock) w.unlinked group → ⊥
     held_taken run i group free Miss is lt = held_not_free c w k r.counter r.phase (ok.inside run) (w.groups group) (ok.grace run group lt) free
     held_taken run i group free (Hop hop depth) is lt = held_not_free c w k r.counter r.phase (ok.inside run) (w.groups group) (ok.grace run group lt) free
     held_taken run i group free (Group g) is lt = held_not_free c w k r.counter r.phase (ok.inside run) (w.groups group)
@@ -79,16 +79,16 @@ module _ (c : Setup) (A : Told) (Hi : ℕ → ℕ → Type 0) (w : Tables) (work
 
     -- the store of a first word: what is held stays held
     held_linked : IsRunning r.phase → (i : ℕ) (e : Entry) → MayLink c w e
-        → (g : ℕ) → r.since < stamped (first_entry w.words i) (suc w.clock) w.unlinked g → HeldAs w k r.counter r.phase (linked e i (retired (first_entry w.words i) (suc w.token) w.groups) g)
+        → (g : ℕ) → r.since < with_stamp (first_entry w.words i) (suc w.clock) w.unlinked g → HeldAs w k r.counter r.phase (with_linked e i (with_retired (first_entry w.words i) (suc w.token) w.groups) g)
     held_linked run i Miss may g lt = held_retired run (first_entry w.words i) g lt
     held_linked run i (Hop hop depth) may g lt = held_retired run (first_entry w.words i) g lt
     held_linked run i (Group group) may g lt =
-        with_at_case (HeldAs w k r.counter r.phase) (retired (first_entry w.words i) (suc w.token) w.groups) group (Linked i) g
-        (λ e. held_taken run i group may (first_entry w.words i) refl (subst (λ x. r.since < stamped (first_entry w.words i) (suc w.clock) w.unlinked x) e lt))
+        with_at_case (HeldAs w k r.counter r.phase) (with_retired (first_entry w.words i) (suc w.token) w.groups) group (Linked i) g
+        (λ e. held_taken run i group may (first_entry w.words i) refl (subst (λ x. r.since < with_stamp (first_entry w.words i) (suc w.clock) w.unlinked x) e lt))
         (λ ne. held_retired run (first_entry w.words i) g lt)
 
     half_first : (i x : ℕ) → i < length w.words.firsts → (a g f : ℕ)
-        → HalfOk c A w r.since r.lo r.phase a g f → HalfOk c A (written c w (StoreFirst i x)) r.since r.lo r.phase a g f
+        → HalfOk c A w r.since r.lo r.phase a g f → HalfOk c A (state_by_step c w (StoreFirst i x)) r.since r.lo r.phase a g f
     half_first i x inside a g f half =
         let came : f ≤ w.clock = half.came in
         record {
@@ -98,12 +98,12 @@ module _ (c : Setup) (A : Told) (Hi : ℕ → ℕ → Type 0) (w : Tables) (work
           came = omega (arith, came);
           low = half.low;
           value = elim half.value [
-            | inl h ↦ set_case (λ y. (entry_in y ≡ Group g) ⊎ ((f < stamped (first_entry w.words i) (suc w.clock) w.unlinked g)
+            | inl h ↦ set_case (λ y. (entry_in y ≡ Group g) ⊎ ((f < with_stamp (first_entry w.words i) (suc w.clock) w.unlinked g)
                 × ((t : ℕ) × (f ≤ t) × (t ≤ suc w.clock) × A t a r.lo (hop_in (entry_in (slice_index w.words.seconds (second_place c a g)))))))
                 w.words.firsts i x (a / 2 ^ c.second) inside
                 (λ same. inr (
-                  subst (λ old. f < stamped old (suc w.clock) w.unlinked g) (sym h ∙ ap (first_entry w.words) same) (subst (λ n. f < n) (sym (with_at-same w.unlinked g (suc w.clock))) (omega (arith, came))),
-                  (w.clock, came, omega arith, subst (λ y. A w.clock a r.lo (hop_in (followed c.second w.words.seconds (a % 2 ^ c.second) y))) h (good.now a r.lo half.inside half.low)),
+                  subst (λ old. f < with_stamp old (suc w.clock) w.unlinked g) (sym h ∙ ap (first_entry w.words) same) (subst (λ n. f < n) (sym (with_at-same w.unlinked g (suc w.clock))) (omega (arith, came))),
+                  (w.clock, came, omega arith, subst (λ y. A w.clock a r.lo (hop_in (last_entry c.second w.words.seconds (a % 2 ^ c.second) y))) h (good.now a r.lo half.inside half.low)),
                 ))
                 (λ ne. inl h)
             | inr h ↦ inr (stamped_later (first_entry w.words i) (suc w.clock) f w.unlinked g (omega (arith, came)) h.0, (h.1.0, h.1.1, omega (arith, h.1.2), h.1.3))
@@ -111,7 +111,7 @@ module _ (c : Setup) (A : Told) (Hi : ℕ → ℕ → Type 0) (w : Tables) (work
         }
 
     half_second : (j x : ℕ) → MayFill c w.passed (w.groups (j / 2 ^ c.second)) → (a g f : ℕ)
-        → HalfOk c A w r.since r.lo r.phase a g f → HalfOk c A (written c w (StoreSecond j x)) r.since r.lo r.phase a g f
+        → HalfOk c A w r.since r.lo r.phase a g f → HalfOk c A (state_by_step c w (StoreSecond j x)) r.since r.lo r.phase a g f
     half_second j x may a g f half = record {
       inside = half.inside;
       running = half.running;
@@ -137,29 +137,29 @@ module _ (c : Setup) (A : Told) (Hi : ℕ → ℕ → Type 0) (w : Tables) (work
     }
 
   linked_first : (i x : ℕ) → i < length w.words.firsts → MayLink c w (entry_in x) → (j g : ℕ) → first_entry (with_first w.words i x) j ≡ Group g
-      → linked (entry_in x) i (retired (first_entry w.words i) (suc w.token) w.groups) g ≡ Linked j
-  linked_first i x inside may j g = set_case (λ y. entry_in y ≡ Group g → linked (entry_in x) i (retired (first_entry w.words i) (suc w.token) w.groups) g ≡ Linked j) w.words.firsts i x j inside
-      (λ same is. subst (λ e. linked e i (retired (first_entry w.words i) (suc w.token) w.groups) g ≡ Linked j) (sym is) (with_at-same (retired (first_entry w.words i) (suc w.token) w.groups) g (Linked i) ∙ ap Linked (sym same)))
+      → with_linked (entry_in x) i (with_retired (first_entry w.words i) (suc w.token) w.groups) g ≡ Linked j
+  linked_first i x inside may j g = set_case (λ y. entry_in y ≡ Group g → with_linked (entry_in x) i (with_retired (first_entry w.words i) (suc w.token) w.groups) g ≡ Linked j) w.words.firsts i x j inside
+      (λ same is. subst (λ e. with_linked e i (with_retired (first_entry w.words i) (suc w.token) w.groups) g ≡ Linked j) (sym is) (with_at-same (with_retired (first_entry w.words i) (suc w.token) w.groups) g (Linked i) ∙ ap Linked (sym same)))
       (λ ne is.
       let was : w.groups g ≡ Linked j = good.linked j g is in
-      let kept : (old : Entry) → first_entry w.words i ≡ old → retired old (suc w.token) w.groups g ≡ Linked j = λ old. elim old as (λ o. first_entry w.words i ≡ o → retired o (suc w.token) w.groups g ≡ Linked j) [
+      let kept : (old : Entry) → first_entry w.words i ≡ old → with_retired old (suc w.token) w.groups g ≡ Linked j = λ old. elim old as (λ o. first_entry w.words i ≡ o → with_retired o (suc w.token) w.groups g ≡ Linked j) [
         | Miss ↦ λ _. was
         | Hop hop depth ↦ λ _. was
         | Group g0 ↦ λ here. with_at_case (λ s. s ≡ Linked j) w.groups g0 (Retired (suc w.token)) g
             (λ e0. absurd (ne (let again : w.groups g ≡ Linked i = good.linked i g (here ∙ ap Group (sym e0)) in cc (was, again))))
             (λ _. was)
       ] in
-      elim (entry_in x) as (λ e. MayLink c w e → linked e i (retired (first_entry w.words i) (suc w.token) w.groups) g ≡ Linked j) [
+      elim (entry_in x) as (λ e. MayLink c w e → with_linked e i (with_retired (first_entry w.words i) (suc w.token) w.groups) g ≡ Linked j) [
         | Miss ↦ λ _. kept (first_entry w.words i) refl
         | Hop hop depth ↦ λ _. kept (first_entry w.words i) refl
-        | Group g1 ↦ λ free. with_at_case (λ s. s ≡ Linked j) (retired (first_entry w.words i) (suc w.token) w.groups) g1 (Linked i) g
+        | Group g1 ↦ λ free. with_at_case (λ s. s ≡ Linked j) (with_retired (first_entry w.words i) (suc w.token) w.groups) g1 (Linked i) g
             (λ e1. absurd (free_not_linked c w.passed (w.groups g1) j (ap w.groups (sym e1) ∙ was) free))
             (λ _. kept (first_entry w.words i) refl)
       ] may)
 
   pub keeps_first : (i x : ℕ) → i < length w.words.firsts → MayLink c w (entry_in x)
-      → ((a lo : ℕ) → a < addresses c → lo ≤ done w → A (suc w.clock) a lo (answer c (written c w (StoreFirst i x)).words a)) → ((t : ℕ) → t ≤ suc w.clock → Hi t (begun w))
-      → Good c A Hi (written c w (StoreFirst i x)) workers
+      → ((a lo : ℕ) → a < addresses c → lo ≤ updates_done_in w → A (suc w.clock) a lo (answer c (state_by_step c w (StoreFirst i x)).words a)) → ((t : ℕ) → t ≤ suc w.clock → Hi t (updates_begun_in w))
+      → Good c A Hi (state_by_step c w (StoreFirst i x)) workers
   keeps_first i x inside may now below = record {
     token = good.token;
     passed = good.passed;
@@ -167,15 +167,15 @@ module _ (c : Setup) (A : Told) (Hi : ℕ → ℕ → Type 0) (w : Tables) (work
     unlinked = stamped_le (first_entry w.words i) (suc w.clock) w.unlinked (λ g. omega (arith, good.unlinked g));
     linked = linked_first i x inside may;
     workers_ok = λ k. let ok = good.workers_ok k in
-        worker_stays c A Hi w (written c w (StoreFirst i x)) k (workers k) (omega arith) (omega arith) (omega arith)
+        worker_stays c A Hi w (state_by_step c w (StoreFirst i x)) k (workers k) (omega arith) (omega arith) (omega arith)
         (λ run g lt. held_linked k (workers k) ok run i (entry_in x) may g lt) (half_first k (workers k) ok i x inside) ok;
     now = now;
     below = below;
   }
 
   pub keeps_second : (j x : ℕ) → MayFill c w.passed (w.groups (j / 2 ^ c.second))
-      → ((a lo : ℕ) → a < addresses c → lo ≤ done w → A (suc w.clock) a lo (answer c (written c w (StoreSecond j x)).words a)) → ((t : ℕ) → t ≤ suc w.clock → Hi t (begun w))
-      → Good c A Hi (written c w (StoreSecond j x)) workers
+      → ((a lo : ℕ) → a < addresses c → lo ≤ updates_done_in w → A (suc w.clock) a lo (answer c (state_by_step c w (StoreSecond j x)).words a)) → ((t : ℕ) → t ≤ suc w.clock → Hi t (updates_begun_in w))
+      → Good c A Hi (state_by_step c w (StoreSecond j x)) workers
   keeps_second j x may now below = record {
     token = good.token;
     passed = good.passed;
@@ -183,7 +183,7 @@ module _ (c : Setup) (A : Told) (Hi : ℕ → ℕ → Type 0) (w : Tables) (work
     unlinked = λ g. omega (arith, good.unlinked g);
     linked = good.linked;
     workers_ok = λ k. let ok = good.workers_ok k in
-        worker_stays c A Hi w (written c w (StoreSecond j x)) k (workers k) (omega arith) (omega arith) (omega arith)
+        worker_stays c A Hi w (state_by_step c w (StoreSecond j x)) k (workers k) (omega arith) (omega arith) (omega arith)
         ok.grace (half_second k (workers k) ok j x may) ok;
     now = now;
     below = below;

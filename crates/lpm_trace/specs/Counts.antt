@@ -4,7 +4,7 @@
 use Rattle.std.specs.Prelude.{ℕ, suc, ◌+◌, cond, eqb, ◌&&◌, max, List, [], ◌∷◌, slice_index}
 use Rattle.lpm_trace.specs.declared.step.WriterStep.{WriterStep}
 use Rattle.lpm_trace.specs.declared.step.WriterStep.TheVariants.{StoreFirst, BumpToken, LoadCounter}
-use Rattle.lpm_trace.specs.Tables.{lets_pass}
+use Rattle.lpm_trace.specs.States.{lets_pass}
 
 -- the token, where it began with `start`
 abbrev pub token_after : ℕ → List WriterStep → ℕ

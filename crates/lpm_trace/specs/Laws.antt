@@ -14,29 +14,29 @@ use Rattle.lpm_trace.specs.declared.step.WorkerStep.{WorkerStep}
 use Rattle.lpm_trace.specs.declared.step.WorkerStep.TheVariants.{StoreOnline, LoadQuiescent, StoreOffline}
 use Rattle.lpm_trace.specs.declared.step.TraceStep.{TraceStep}
 use Rattle.lpm_trace.specs.declared.step.TraceStep.TheVariants.{Writer, Worker as ByWorker}
-use Rattle.lpm_trace.specs.Tables.{Setup, Tables, IsSettled, addresses, answer, IsAnswer, done, begun, version, lets_pass, oldest, tables, tables_at, first_entry}
+use Rattle.lpm_trace.specs.States.{InitialState, TableState, IsSettled, addresses, answer, IsAnswer, updates_done_in, updates_begun_in, version, lets_pass, oldest, state_after, state_at, first_entry}
 use Rattle.lpm_trace.specs.Counts.{token_after, passed_after}
 use Rattle.lpm_trace.specs.Workers.{Seen, MayRead}
-use Rattle.lpm_trace.specs.Trace.{MayCome, after, IsTrace, writes, own, worker_by, worker_of}
+use Rattle.lpm_trace.specs.Trace.{MayCome, after, IsTrace, writes, own_steps, worker_by, worker_of}
 
 -- ---- answers
 
 -- the tables at a moment: after the first t steps
-abbrev pub at_moment : Setup → List TraceStep → ℕ → Tables
-at_moment c steps t = tables c (writes (oldest t steps))
+abbrev pub at_moment : InitialState → List TraceStep → ℕ → TableState
+at_moment c steps t = state_after c (writes (oldest t steps))
 
 -- version k stands at moment t: its update was begun, and the next one isn't done
-abbrev pub Stands : Setup → List TraceStep → ℕ → ℕ → Type 0
-Stands c steps t k = (done (at_moment c steps t) ≤ k) × (k ≤ begun (at_moment c steps t))
+abbrev pub Stands : InitialState → List TraceStep → ℕ → ℕ → Type 0
+Stands c steps t k = (updates_done_in (at_moment c steps t) ≤ k) × (k ≤ updates_begun_in (at_moment c steps t))
 
 -- the rules of version k
-abbrev pub rules_of_version : Setup → List TraceStep → ℕ → RuleMap
-rules_of_version c steps k = (tables c (writes steps)).history k
+abbrev pub rules_of_version : InitialState → List TraceStep → ℕ → RuleMap
+rules_of_version c steps k = (state_after c (writes steps)).history k
 
 -- a finished lookup is legal: its answer is that of the version which its address shows at a moment from
 -- the read of its first word to the read of its last one. That version stands at that moment, and it lies
 -- from `lo` to `hi`.
-pub record IsLegal (c : Setup) (steps : List TraceStep) (seen : Seen) : Type 0 where
+pub record IsLegal (c : InitialState) (steps : List TraceStep) (seen : Seen) : Type 0 where
   pub moment : ℕ
   pub chosen : ℕ
   pub from : seen.first ≤ moment
@@ -49,7 +49,7 @@ pub record IsLegal (c : Setup) (steps : List TraceStep) (seen : Seen) : Type 0 w
   pub high : chosen ≤ seen.hi
 
 abbrev pub LookupsAreLegal : Type 0
-LookupsAreLegal = (c : Setup) (steps : List TraceStep) (worker : ℕ) → IsSettled c → IsTrace c steps
+LookupsAreLegal = (c : InitialState) (steps : List TraceStep) (worker : ℕ) → IsSettled c → IsTrace c steps
     → All (IsLegal c steps) (worker_of worker steps).finished
 
 -- ---- reuse
@@ -73,20 +73,20 @@ by_steps = record { begins = begins; ends = ends }
 
 -- after the steps `older`, a store of the first word of block i unlinks group g: it replaces the
 -- word of that group by another entry's
-abbrev pub Unlinks : Setup → List TraceStep → WriterStep → ℕ → Type 0
+abbrev pub Unlinks : InitialState → List TraceStep → WriterStep → ℕ → Type 0
 Unlinks c older (StoreFirst i x) g =
-    (first_entry (tables c (writes older)).words i ≡ Group g) × (entry_in x ≢ Group g)
+    (first_entry (state_after c (writes older)).words i ≡ Group g) × (entry_in x ≢ Group g)
 Unlinks c older s g = ⊥
 
 -- a store into group g
-abbrev pub Fills : Setup → WriterStep → ℕ → Type 0
+abbrev pub Fills : InitialState → WriterStep → ℕ → Type 0
 Fills c (StoreSecond j x) g = j / 2 ^ c.second ≡ g
 Fills c s g = ⊥
 
 -- no group is rewritten within its grace period: no reader interval holds both a step that unlinks a
 -- group and a later one that stores into it
 abbrev pub ReuseIsLawful : Type 0
-ReuseIsLawful = (c : Setup) (newer between older : List TraceStep) (unlinks fills : WriterStep) (g : ℕ)
+ReuseIsLawful = (c : InitialState) (newer between older : List TraceStep) (unlinks fills : WriterStep) (g : ℕ)
     → IsSettled c → IsTrace c (newer ++ Writer fills ∷ (between ++ Writer unlinks ∷ older))
     → Unlinks c older unlinks g → Fills c fills g
     → (i : Interval)
@@ -114,7 +114,7 @@ pub record IsChecked (workers start : ℕ) (w_steps : List WriterStep) (token : 
 
 -- each token up to the greatest that has passed was checked
 abbrev pub PassedIsChecked : Type 0
-PassedIsChecked = (c : Setup) (steps : List TraceStep) (token : ℕ) → IsTrace c steps
+PassedIsChecked = (c : InitialState) (steps : List TraceStep) (token : ℕ) → IsTrace c steps
     → 0 < token → token ≤ passed_after c.workers (writes steps)
     → IsChecked c.workers c.token (writes steps) token
 
@@ -122,18 +122,18 @@ PassedIsChecked = (c : Setup) (steps : List TraceStep) (token : ℕ) → IsTrace
 
 -- where no update runs, the words answer by the rules of the last version
 abbrev pub RestAnswers : Type 0
-RestAnswers = (c : Setup) (steps : List TraceStep) → IsSettled c → IsTrace c steps
-    → done (after c steps).tables ≡ begun (after c steps).tables
+RestAnswers = (c : InitialState) (steps : List TraceStep) → IsSettled c → IsTrace c steps
+    → updates_done_in (after c steps).state ≡ updates_begun_in (after c steps).state
     → (a : ℕ) → a < addresses c
-    → IsAnswer c ((after c steps).tables.history (done (after c steps).tables)) a
-    (answer c (after c steps).tables.words a)
+    → IsAnswer c ((after c steps).state.history (updates_done_in (after c steps).state)) a
+    (answer c (after c steps).state.words a)
 
 -- ---- versions
 
 -- The version that an address shows (`version`) stands at each moment, and never falls. With the answers
 -- above, of two lookups of one address the later one's version can be chosen not less.
 abbrev pub VersionsNeverFall : Type 0
-VersionsNeverFall = (c : Setup) (steps : List TraceStep) (a t u : ℕ) → t ≤ u
+VersionsNeverFall = (c : InitialState) (steps : List TraceStep) (a t u : ℕ) → t ≤ u
     → Stands c steps t (version (at_moment c steps t) a)
     × (version (at_moment c steps t) a ≤ version (at_moment c steps u) a)
 
@@ -142,60 +142,60 @@ VersionsNeverFall = (c : Setup) (steps : List TraceStep) (a t u : ℕ) → t ≤
 -- a finished lookup is legal at a place: its answer is that of the version that its address shows when
 -- the writer has made so many steps, from the read of its first word to the read of its last one. That
 -- version lies from `lo` to `hi`. Here `first` and `last` are places.
-pub record IsLegalAtPlace (c : Setup) (w_steps : List WriterStep) (seen : Seen) : Type 0 where
+pub record IsLegalAtPlace (c : InitialState) (w_steps : List WriterStep) (seen : Seen) : Type 0 where
   pub place : ℕ
   pub from : seen.first ≤ place
   pub to : place ≤ seen.last
   pub within : seen.last ≤ length w_steps
   pub answers : IsAnswer c
-      ((tables c w_steps).history (version (tables_at c w_steps place) seen.addr))
+      ((state_after c w_steps).history (version (state_at c w_steps place) seen.addr))
       seen.addr seen.hop
-  pub low : seen.lo ≤ version (tables_at c w_steps place) seen.addr
-  pub high : version (tables_at c w_steps place) seen.addr ≤ seen.hi
+  pub low : seen.lo ≤ version (state_at c w_steps place) seen.addr
+  pub high : version (state_at c w_steps place) seen.addr ≤ seen.hi
 
 -- what a worker's own steps leave, by their places, is its state, and its lookups are legal
 abbrev pub OwnLookupsAreLegal : Type 0
-OwnLookupsAreLegal = (c : Setup) (steps : List TraceStep) (worker : ℕ)
+OwnLookupsAreLegal = (c : InitialState) (steps : List TraceStep) (worker : ℕ)
     → IsSettled c → IsTrace c steps
-    → ((after c steps).workers worker ≡ worker_by (own worker steps))
-    × All (IsLegalAtPlace c (writes steps)) (worker_by (own worker steps)).finished
+    → ((after c steps).workers worker ≡ worker_by (own_steps worker steps))
+    × All (IsLegalAtPlace c (writes steps)) (worker_by (own_steps worker steps)).finished
 
 -- each of a worker's own steps may come where the writer has made as many of these steps as its place says,
 -- after the worker's own steps before it. So each load finds what the writer had left at its place.
-abbrev pub ArePlaced : Setup → List WriterStep → List (WorkerStep × ℕ) → Type 0
+abbrev pub ArePlaced : InitialState → List WriterStep → List (WorkerStep × ℕ) → Type 0
 ArePlaced c w_steps [] = ⊤
 ArePlaced c w_steps (s ∷ steps) =
-    MayRead c (tables_at c w_steps s.1) (worker_by steps) s.0 × ArePlaced c w_steps steps
+    MayRead c (state_at c w_steps s.1) (worker_by steps) s.0 × ArePlaced c w_steps steps
 
 -- the own steps of a trace's worker are such
 abbrev pub OwnStepsArePlaced : Type 0
-OwnStepsArePlaced = (c : Setup) (steps : List TraceStep) (worker : ℕ) → IsTrace c steps
-    → ArePlaced c (writes steps) (own worker steps)
+OwnStepsArePlaced = (c : InitialState) (steps : List TraceStep) (worker : ℕ) → IsTrace c steps
+    → ArePlaced c (writes steps) (own_steps worker steps)
 
 -- the version that an address shows stands at each place, and never falls
 abbrev pub VersionsNeverFallAtPlaces : Type 0
-VersionsNeverFallAtPlaces = (c : Setup) (w_steps : List WriterStep) (a t u : ℕ) → t ≤ u
-    → (done (tables_at c w_steps t) ≤ version (tables_at c w_steps t) a)
-    × (version (tables_at c w_steps t) a ≤ begun (tables_at c w_steps t))
-    × (version (tables_at c w_steps t) a ≤ version (tables_at c w_steps u) a)
+VersionsNeverFallAtPlaces = (c : InitialState) (w_steps : List WriterStep) (a t u : ℕ) → t ≤ u
+    → (updates_done_in (state_at c w_steps t) ≤ version (state_at c w_steps t) a)
+    × (version (state_at c w_steps t) a ≤ updates_begun_in (state_at c w_steps t))
+    × (version (state_at c w_steps t) a ≤ version (state_at c w_steps u) a)
 
 -- the places of a worker's own steps never fall, and none is past the number of the writer's steps
 abbrev pub PlacesNeverFall : Type 0
 PlacesNeverFall = (worker : ℕ) (steps : List TraceStep)
-    → AllPairs (λ later earlier. earlier.1 ≤ later.1) (own worker steps)
-    × All (λ step. step.1 ≤ length (writes steps)) (own worker steps)
+    → AllPairs (λ later earlier. earlier.1 ≤ later.1) (own_steps worker steps)
+    × All (λ step. step.1 ≤ length (writes steps)) (own_steps worker steps)
 
 -- ---- words
 
 -- each word stays that of an entry that may stand at its place
 abbrev pub WordsAreEntries : Type 0
-WordsAreEntries = (c : Setup) (steps : List TraceStep) → IsSettled c → IsTrace c steps
-    → IsWords c.first c.second (after c steps).tables.words
+WordsAreEntries = (c : InitialState) (steps : List TraceStep) → IsSettled c → IsTrace c steps
+    → IsWords c.first c.second (after c steps).state.words
 
 -- ---- traces
 
 -- a step that may come next makes a trace one longer, and the steps before the newest make a trace:
 -- so traces are defined
 abbrev pub TraceGrows : Type 0
-TraceGrows = (c : Setup) (step : TraceStep) (steps : List TraceStep)
+TraceGrows = (c : InitialState) (step : TraceStep) (steps : List TraceStep)
     → IsTrace c (step ∷ steps) ↔ (MayCome c (after c steps) step × IsTrace c steps)

@@ -1,6 +1,6 @@
-pub mod Tables
+pub mod States
 pub mod Counts
-pub mod Course
+pub mod Progress
 pub mod Workers
 pub mod Trace
 pub mod Laws

@@ -8,8 +8,8 @@ use Rattle.lpm_cells.specs.declared.entry.Entry.{Entry}
 use Rattle.lpm_cells.specs.declared.entry.Entry.TheVariants.{Miss, Hop, Group}
 use Rattle.lpm_cells.specs.Words.{entry_in, hop_in}
 use Rattle.lpm_trace.specs.declared.step.WorkerStep.{WorkerStep}
-use Rattle.lpm_trace.specs.declared.step.WorkerStep.TheVariants.{LoadOnline, StoreOnline, LoadQuiescent, StoreQuiescent, StoreOffline, Begins, LoadFirst, LoadSecond, Ends, Meets}
-use Rattle.lpm_trace.specs.Tables.{Setup, Tables, addresses, done_at, begun_at}
+use Rattle.lpm_trace.specs.declared.step.WorkerStep.TheVariants.{LoadOnline, StoreOnline, LoadQuiescent, StoreQuiescent, StoreOffline, BeginLookup, LoadFirst, LoadSecond, EndLookup, MeetWriter}
+use Rattle.lpm_trace.specs.States.{InitialState, TableState, addresses, done_at, begun_at}
 
 -- What a worker is doing. In the two reports it has loaded a token that it hasn't stored yet.
 pub data Phase : Type 0 where
@@ -47,8 +47,8 @@ pub record Worker : Type 0 where
   pub finished : List Seen
 
 -- a worker before its first step
-abbrev pub unstarted : Worker
-unstarted = record { counter = 0; phase = Offline; since = 0; lo = 0; probes = []; finished = [] }
+abbrev pub initial_worker : Worker
+initial_worker = record { counter = 0; phase = Offline; since = 0; lo = 0; probes = []; finished = [] }
 
 -- an address whose first word is this entry's
 abbrev pub read_first : ℕ → ℕ → Entry → Probe
@@ -79,34 +79,34 @@ with_answers lo hi (Answered a h f l ∷ rest) seen = with_answers lo hi rest
     (record { addr = a; hop = h; first = f; last = l; lo = lo; hi = hi } ∷ seen)
 
 -- the worker after a step of its own at the time `now`
-abbrev pub moved : ℕ → Worker → WorkerStep → Worker
-moved now r (LoadOnline token) = record r { phase = ComingOnline token }
-moved now r (StoreOnline token) = record r { counter = token; phase = Online; since = now }
-moved now r (LoadQuiescent token) = record r { phase = ReportingQuiescent token; since = now }
-moved now r (StoreQuiescent token) = record r { counter = token; phase = Online }
-moved now r StoreOffline = record r { counter = 0; phase = Offline }
-moved now r (Begins addrs sequence) =
+abbrev pub worker_by_step : ℕ → Worker → WorkerStep → Worker
+worker_by_step now r (LoadOnline token) = record r { phase = ComingOnline token }
+worker_by_step now r (StoreOnline token) = record r { counter = token; phase = Online; since = now }
+worker_by_step now r (LoadQuiescent token) = record r { phase = ReportingQuiescent token; since = now }
+worker_by_step now r (StoreQuiescent token) = record r { counter = token; phase = Online }
+worker_by_step now r StoreOffline = record r { counter = 0; phase = Offline }
+worker_by_step now r (BeginLookup addrs sequence) =
     record r { phase = LookingUp; lo = done_at sequence; probes = map Unread addrs }
-moved now r (LoadFirst word) = record r { probes = first_read now (entry_in word) r.probes }
-moved now r (LoadSecond word) = record r { probes = second_read now (entry_in word) r.probes }
-moved now r (Ends sequence) = record r {
+worker_by_step now r (LoadFirst word) = record r { probes = first_read now (entry_in word) r.probes }
+worker_by_step now r (LoadSecond word) = record r { probes = second_read now (entry_in word) r.probes }
+worker_by_step now r (EndLookup sequence) = record r {
   phase = Online;
   probes = [];
   finished = with_answers r.lo (begun_at sequence) r.probes r.finished;
 }
-moved now r (Meets sequence) = r
+worker_by_step now r (MeetWriter sequence) = r
 
 -- ---- which step may come next
 
 -- the word is the first word of the next address
-abbrev pub IsNextFirst : Setup → Tables → ℕ → List Probe → Type 0
+abbrev pub IsNextFirst : InitialState → TableState → ℕ → List Probe → Type 0
 IsNextFirst c w word [] = ⊥
 IsNextFirst c w word (Unread a ∷ rest) = word ≡ slice_index w.words.firsts (a / 2 ^ c.second)
 IsNextFirst c w word (InGroup a g f ∷ rest) = IsNextFirst c w word rest
 IsNextFirst c w word (Answered a h f l ∷ rest) = IsNextFirst c w word rest
 
 -- the word is the second word of the next address that has a group
-abbrev pub IsNextSecond : Setup → Tables → ℕ → List Probe → Type 0
+abbrev pub IsNextSecond : InitialState → TableState → ℕ → List Probe → Type 0
 IsNextSecond c w word [] = ⊥
 IsNextSecond c w word (Unread a ∷ rest) = ⊥
 IsNextSecond c w word (InGroup a g f ∷ rest) =
@@ -136,20 +136,20 @@ IsBetweenDeeds LookingUp = ⊥
 IsBetweenDeeds (ReportingQuiescent loaded) = ⊥
 
 -- the worker's step may come next, where the tables are these
-abbrev pub MayRead : Setup → Tables → Worker → WorkerStep → Type 0
+abbrev pub MayRead : InitialState → TableState → Worker → WorkerStep → Type 0
 MayRead c w r (LoadOnline token) = (r.phase ≡ Offline) × (token ≡ w.token)
 MayRead c w r (StoreOnline token) = r.phase ≡ ComingOnline token
 MayRead c w r (LoadQuiescent token) = (r.phase ≡ Online) × (token ≡ w.token)
 MayRead c w r (StoreQuiescent token) = r.phase ≡ ReportingQuiescent token
 MayRead c w r StoreOffline = r.phase ≡ Online
-MayRead c w r (Begins addrs sequence) =
+MayRead c w r (BeginLookup addrs sequence) =
     (r.phase ≡ Online) × All (λ a. a < addresses c) addrs × (sequence ≡ w.sequence)
 MayRead c w r (LoadFirst word) = (r.phase ≡ LookingUp) × IsNextFirst c w word r.probes
 MayRead c w r (LoadSecond word) =
     (r.phase ≡ LookingUp) × AreBegun r.probes × IsNextSecond c w word r.probes
-MayRead c w r (Ends sequence) =
+MayRead c w r (EndLookup sequence) =
     (r.phase ≡ LookingUp) × AreAnswered r.probes × (sequence ≡ w.sequence)
-MayRead c w r (Meets sequence) = IsBetweenDeeds r.phase × (sequence ≡ w.sequence)
+MayRead c w r (MeetWriter sequence) = IsBetweenDeeds r.phase × (sequence ≡ w.sequence)
 
 -- a reader interval runs
 abbrev pub IsRunning : Phase → Type 0

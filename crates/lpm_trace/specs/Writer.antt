@@ -7,42 +7,42 @@ use Rattle.lpm_trace.specs.declared.step.WriterStep.{WriterStep}
 use Rattle.lpm_trace.specs.declared.step.WriterStep.TheVariants.{LoadCounter}
 use Rattle.lpm_trace.specs.declared.step.TraceStep.{TraceStep}
 use Rattle.lpm_trace.specs.declared.step.TraceStep.TheVariants.{Writer}
-use Rattle.lpm_trace.specs.Tables.{Setup, tables, MayWrite}
-use Rattle.lpm_trace.specs.Course.{Course, beginning, coursed, Follows}
+use Rattle.lpm_trace.specs.States.{InitialState, state_after, MayWrite}
+use Rattle.lpm_trace.specs.Progress.{WriterProgress, initial_progress, progress_by_step, Follows}
 use Rattle.lpm_trace.specs.Trace.{after, IsTrace, writes}
 
 -- the writer's course after these steps of its own
-abbrev pub course : Setup → List WriterStep → Course
-course c [] = beginning
-course c (s ∷ steps) = coursed c (tables c steps) (course c steps) s
+abbrev pub progress_after : InitialState → List WriterStep → WriterProgress
+progress_after c [] = initial_progress
+progress_after c (s ∷ steps) = progress_by_step c (state_after c steps) (progress_after c steps) s
 
 -- the counter that a step found: that of a load is what it loaded
-abbrev pub found : WriterStep → ℕ → ℕ
-found (LoadCounter token worker counter) k = counter
-found other k = 0
+abbrev pub counter_found : WriterStep → ℕ → ℕ
+counter_found (LoadCounter token worker counter) k = counter
+counter_found other k = 0
 
 -- the step may come next after these of the writer, where a load finds what it says
-abbrev pub MayStep : Setup → List WriterStep → WriterStep → Type 0
-MayStep c steps s = MayWrite c (found s) (tables c steps) s
-    × Follows c (tables c steps) (course c steps) s
+abbrev pub MayStep : InitialState → List WriterStep → WriterStep → Type 0
+MayStep c steps s = MayWrite c (counter_found s) (state_after c steps) s
+    × Follows c (state_after c steps) (progress_after c steps) s
 
 -- each step may come after those before it
-abbrev pub IsWritten : Setup → List WriterStep → Type 0
+abbrev pub IsWritten : InitialState → List WriterStep → Type 0
 IsWritten c [] = ⊤
 IsWritten c (s ∷ steps) = MayStep c steps s × IsWritten c steps
 
 -- the step finds the counters as they are after this trace
-abbrev pub Finds : Setup → List TraceStep → WriterStep → Type 0
+abbrev pub Finds : InitialState → List TraceStep → WriterStep → Type 0
 Finds c steps (LoadCounter token worker counter) =
     counter ≡ ((after c steps).workers worker).counter
 Finds c steps other = ⊤
 
 -- the writer's steps of a trace may come one after another by themselves
 abbrev pub WriterIsAlone : Type 0
-WriterIsAlone = (c : Setup) (steps : List TraceStep) → IsTrace c steps → IsWritten c (writes steps)
+WriterIsAlone = (c : InitialState) (steps : List TraceStep) → IsTrace c steps → IsWritten c (writes steps)
 
 -- what may come next after the writer's own steps may come next in the trace, where a load finds the
 -- worker's counter
 abbrev pub WriterGoesOn : Type 0
-WriterGoesOn = (c : Setup) (steps : List TraceStep) (s : WriterStep) → IsTrace c steps
+WriterGoesOn = (c : InitialState) (steps : List TraceStep) (s : WriterStep) → IsTrace c steps
     → MayStep c (writes steps) s → Finds c steps s → IsTrace c (Writer s ∷ steps)

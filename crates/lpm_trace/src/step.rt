@@ -22,9 +22,9 @@ pub enum WriterStep {
     /// A second word is stored: its index and the word.
     StoreSecond(u64, u64),
     /// The sequence is bumped: the update of this change begins.
-    Opens(RuleChange),
+    BeginUpdate(RuleChange),
     /// The sequence is bumped: the update is done.
-    Closes,
+    EndUpdate,
     /// The token is bumped.
     BumpToken,
     /// In a check of a token, the counter of a worker is loaded: the token, the worker, the counter.
@@ -44,15 +44,15 @@ pub enum WorkerStep {
     /// In a report that it is offline, it stores 0 in its counter.
     StoreOffline,
     /// It loads the sequence: a lookup of these addresses begins.
-    Begins(LinkedList<u64>, u64),
+    BeginLookup(LinkedList<u64>, u64),
     /// It loads the first word of the next address.
     LoadFirst(u64),
     /// It loads the second word of the next address that has a group.
     LoadSecond(u64),
     /// It loads the sequence: the lookup ends.
-    Ends(u64),
+    EndLookup(u64),
     /// It loads the sequence to meet the writer.
-    Meets(u64),
+    MeetWriter(u64),
 }
 
 /// A step of the writer, or of the worker of this number.

@@ -9,7 +9,7 @@ use Rattle.lpm_rules.proofs.Changes.{not_some, networks_empty}
 use Rattle.lpm_cells.specs.declared.entry.Entry.TheVariants.{Miss, Group}
 use Rattle.lpm_cells.specs.Words.{entry_in, group_in, word_of}
 use Rattle.lpm_cells.proofs.Reading.{entry_in_zero}
-use Rattle.lpm_cells.specs.Table.{entry_at, followed}
+use Rattle.lpm_cells.specs.Table.{entry_at, last_entry}
 use Rattle.lpm_cells.proofs.Blank.{blank as blank_cells}
 use Rattle.lpm_update.specs.Best.{IsBest}
 use Rattle.lpm_update.specs.Linked.{IsLinkTo}
@@ -31,7 +31,7 @@ no_group n i g e =
     cc
 
 blank_miss : (s n m a : ℕ) → entry_at s (blank_words n m) a ≡ Miss
-blank_miss s n m a = ap (followed s (replicate m (word_of Miss)) (a % 2 ^ s)) (miss_at n (a / 2 ^ s))
+blank_miss s n m a = ap (last_entry s (replicate m (word_of Miss)) (a % 2 ^ s)) (miss_at n (a / 2 ^ s))
 
 pub blank : BlankRepresents
 blank f s m n = (

@@ -10,7 +10,7 @@ use Rattle.lpm_rules.proofs.Changes.{remove_cases, remove_here}
 use Rattle.lpm_cells.specs.declared.entry.Entry.{Entry}
 use Rattle.lpm_cells.specs.declared.entry.Entry.TheVariants.{Miss, Hop, Group}
 use Rattle.lpm_update.specs.declared.rewrite.Kind.TheVariants.{Delete}
-use Rattle.lpm_update.specs.Rewrite.{changed}
+use Rattle.lpm_update.specs.Rewrite.{rewritten_entry}
 use Rattle.lpm_update.specs.Best.{IsBest, IsCoverEntry}
 
 none_some : {x : Option ℕ} → x ≡ None → IsSome x → ⊥
@@ -96,7 +96,7 @@ del_hop width R p a v d e true z nets n c b k = to_cover width R p a v e nets n 
 del_hop width R p a v d e false z nets n c b k = kept_rule width R p a v d (λ q. eq_not d p.len q z) b
 
 pub del_covered : (width : ℕ) (R : RuleMap) (p : Network) (a : ℕ) (old new : Entry) → AllNetworks width R → IsNetwork width p → Covers width p a → IsCoverEntry width R p new → IsBest width R a old
-    → IsBest width (remove R p) a (changed (record { kind = Delete; depth = p.len; entry = new }) old)
+    → IsBest width (remove R p) a (rewritten_entry (record { kind = Delete; depth = p.len; entry = new }) old)
 del_covered width R p a Miss new nets n c k b = gone_miss width R p a b
 del_covered width R p a (Hop v d) new nets n c k b = del_hop width R p a v d new (nat_eq d p.len) refl nets n c b k
 del_covered width R p a (Group g) new nets n c k b = absurd b

@@ -7,19 +7,19 @@ use Rattle.std.proofs.Math.Nat.{mul-le-mul_right}
 use Rattle.lpm_cells.specs.declared.entry.Entry.{Entry}
 use Rattle.lpm_cells.specs.declared.entry.Entry.TheVariants.{Miss, Hop, Group}
 use Rattle.lpm_cells.specs.Words.{entry_in, word_of, IsLast, IsLastWord}
-use Rattle.lpm_cells.specs.Table.{Words, entry_at, followed, with_first}
+use Rattle.lpm_cells.specs.Table.{Words, entry_at, last_entry, with_first}
 use Rattle.lpm_update.specs.declared.Did.TheVariants.{First, Unlinked, Done}
 use Rattle.lpm_update.specs.declared.flush.Flush.{Flush as FlushData}
 use Rattle.lpm_update.specs.declared.update.Plan.TheVariants.{Flush}
-use Rattle.lpm_update.specs.Rewrite.{changed, Stands}
+use Rattle.lpm_update.specs.Rewrite.{rewritten_entry, Stands}
 use Rattle.lpm_update.specs.Linked.{IsTable, group_at}
-use Rattle.lpm_update.specs.Flush.{flushed, AllMiss, IsFlushStore}
+use Rattle.lpm_update.specs.Flush.{rewrite_to_miss, AllMiss, IsFlushStore}
 use Rattle.lpm_update.specs.Update.{IsNextFirst, IsNextUnlink}
 use Rattle.lpm_update.specs.Step.{Steps}
 use Rattle.lpm_update.proofs.Places.{block_low, block_high, block_of, first_same, first_other, first_word, last_word, word_entry, table_first, stored_first}
 use Rattle.lpm_update.proofs.Groups.{gives_up, keeps_groups, flush_groups, flushed_by, misses_groups}
 
-pub flushed_miss : (e : Entry) → changed flushed e ≡ Miss
+pub flushed_miss : (e : Entry) → rewritten_entry rewrite_to_miss e ≡ Miss
 flushed_miss Miss = refl
 flushed_miss (Hop hop depth) = refl
 flushed_miss (Group group) = refl
@@ -41,21 +41,21 @@ above_block s a m h = elim (cases_lt (a / 2 ^ s) m) [
 ]
 
 -- over words that are misses
-skip_misses : (s n m : ℕ) (W : Words) (E : ℕ → Entry) → n ≤ m → AllMiss W.firsts n m → Stands s 0 (n * 2 ^ s) flushed W E → Stands s 0 (m * 2 ^ s) flushed W E
+skip_misses : (s n m : ℕ) (W : Words) (E : ℕ → Entry) → n ≤ m → AllMiss W.firsts n m → Stands s 0 (n * 2 ^ s) rewrite_to_miss W E → Stands s 0 (m * 2 ^ s) rewrite_to_miss W E
 skip_misses s n m W E l misses t =
     let le = mul-le-mul_right (2 ^ s) l in
     record {
       before = λ a h. absurd (omega (arith, h));
       done = λ a low h. elim (cases_lt a (n * 2 ^ s)) [
         | inl below ↦ t.done a low below
-        | inr above ↦ ap (followed s W.seconds (a % 2 ^ s)) (misses (a / 2 ^ s) (above_block s a n above) (below_block s a m h)) ∙ sym (flushed_miss (E a))
+        | inr above ↦ ap (last_entry s W.seconds (a % 2 ^ s)) (misses (a / 2 ^ s) (above_block s a n above) (below_block s a m h)) ∙ sym (flushed_miss (E a))
       ];
       todo = λ a h. t.todo a (omega (arith, le, h));
     }
 
 -- a store of a miss
-store_miss : (s i w : ℕ) (W : Words) (E : ℕ → Entry) → i < length W.firsts → entry_in w ≡ Miss → Stands s 0 (i * 2 ^ s) flushed W E
-    → Stands s 0 ((i + 1) * 2 ^ s) flushed (with_first W i w) E
+store_miss : (s i w : ℕ) (W : Words) (E : ℕ → Entry) → i < length W.firsts → entry_in w ≡ Miss → Stands s 0 (i * 2 ^ s) rewrite_to_miss W E
+    → Stands s 0 ((i + 1) * 2 ^ s) rewrite_to_miss (with_first W i w) E
 store_miss s i w W E within miss t =
     let one : (i + 1) * 2 ^ s ≡ i * 2 ^ s + 2 ^ s = omega arith in
     let other : (a : ℕ) → a / 2 ^ s ≢ i → entry_at s (with_first W i w) a ≡ entry_at s W a = λ a n. first_other s W i w a n in
@@ -89,7 +89,7 @@ module _ (f s : ℕ) (u : FlushData) (W : Words) (t : IsTable f s W) where
     within : i < length W.firsts
     within = subst (λ k. i < k) (sym t.words.firsts_len) n.high
 
-    stands : (E : ℕ → Entry) → Stands s 0 (u.next * 2 ^ s) flushed W E → Stands s 0 ((i + 1) * 2 ^ s) flushed (with_first W i w) E
+    stands : (E : ℕ → Entry) → Stands s 0 (u.next * 2 ^ s) rewrite_to_miss W E → Stands s 0 ((i + 1) * 2 ^ s) rewrite_to_miss (with_first W i w) E
     stands E st = store_miss s i w W E within (miss_word (f + s) w n.word) (skip_misses s u.next i W E n.low n.skipped st)
 
     further : u.next ≤ i + 1

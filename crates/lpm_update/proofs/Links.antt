@@ -9,14 +9,14 @@ use Rattle.std.proofs.lemmas.Bool.{cases_lt, cases_eq, le-leb, le-ltb, lt-ltb, l
 use Rattle.lpm_cells.specs.declared.entry.Entry.{Entry}
 use Rattle.lpm_cells.specs.declared.entry.Entry.TheVariants.{Group}
 use Rattle.lpm_cells.specs.Words.{IsEntry, IsLast, IsLastWord, word_of, entry_in, group_in}
-use Rattle.lpm_cells.specs.Table.{Words, HasRoom, entry_at, followed, with_first, with_second}
+use Rattle.lpm_cells.specs.Table.{Words, HasRoom, entry_at, last_entry, with_first, with_second}
 use Rattle.lpm_update.specs.declared.Did.TheVariants.{First, Second}
 use Rattle.lpm_update.specs.declared.rewrite.Rewrite.{Rewrite}
 use Rattle.lpm_update.specs.declared.link_group.LinkGroup.{LinkGroup}
 use Rattle.lpm_update.specs.declared.update.Plan.TheVariants.{Link}
-use Rattle.lpm_update.specs.Rewrite.{replaces, changed, Stands}
+use Rattle.lpm_update.specs.Rewrite.{replaces, rewritten_entry, Stands}
 use Rattle.lpm_update.specs.Linked.{IsTable, IsLinkTo, group_at}
-use Rattle.lpm_update.specs.LinkGroup.{IsLinking, IsFillStore, IsLinkStore, filled_entry, in_range, reached}
+use Rattle.lpm_update.specs.LinkGroup.{IsLinking, IsFillStore, IsLinkStore, filled_entry, in_range, reach_of_link}
 use Rattle.lpm_update.specs.Update.{IsNextFirst, IsNextSecond}
 use Rattle.lpm_update.specs.Step.{Steps}
 use Rattle.lpm_update.proofs.Places.{table_second, block_of, second_other, first_other, first_word, first_of_group, last_word, word_entry, words_first, followed_last, stored_first, stored_second}
@@ -41,9 +41,9 @@ stands_unseen s from at c W E g r w h free t = record {
 pub linked_in : (s : ℕ) (W : Words) (b g w a : ℕ) → b < length W.firsts → entry_in w ≡ Group g → a / 2 ^ s ≡ b
     → entry_at s (with_first W b w) a ≡ entry_in (slice_index W.seconds (g * 2 ^ s + a % 2 ^ s))
 linked_in s W b g w a h e p =
-    ap (λ k. followed s W.seconds (a % 2 ^ s) (entry_in (slice_index (slice_set W.firsts b w) k))) p
-    ∙ ap (λ x. followed s W.seconds (a % 2 ^ s) (entry_in x)) (get_or-set_same W.firsts b w 0 h)
-    ∙ ap (followed s W.seconds (a % 2 ^ s)) e
+    ap (λ k. last_entry s W.seconds (a % 2 ^ s) (entry_in (slice_index (slice_set W.firsts b w) k))) p
+    ∙ ap (λ x. last_entry s W.seconds (a % 2 ^ s) (entry_in x)) (get_or-set_same W.firsts b w 0 h)
+    ∙ ap (last_entry s W.seconds (a % 2 ^ s)) e
 
 pub range_true : (from end a : ℕ) (x y : Entry) → from ≤ a → a < end → cond (in_range from end a) x y ≡ x
 range_true from end a x y l h = ap (λ b. cond (b && nat_lt a end) x y) (le-leb from a l) ∙ ap (λ b. cond b x y) (lt-ltb a end h)
@@ -60,22 +60,22 @@ range_high from end a x y h = ap (λ b. cond (nat_le from a && b) x y) (le-ltb a
 
 pub stands_link : (s from end : ℕ) (c : Rewrite) (W : Words) (E : ℕ → Entry) (b g w : ℕ) → b < length W.firsts → entry_in w ≡ Group g → IsLast (entry_in (slice_index W.firsts b))
     → b * 2 ^ s ≤ from → from ≤ end → end ≤ b * 2 ^ s + 2 ^ s
-    → ((r : ℕ) → r < 2 ^ s → entry_in (slice_index W.seconds (g * 2 ^ s + r)) ≡ cond (in_range from end (b * 2 ^ s + r)) (changed c (entry_in (slice_index W.firsts b))) (entry_in (slice_index W.firsts b)))
+    → ((r : ℕ) → r < 2 ^ s → entry_in (slice_index W.seconds (g * 2 ^ s + r)) ≡ cond (in_range from end (b * 2 ^ s + r)) (rewritten_entry c (entry_in (slice_index W.firsts b))) (entry_in (slice_index W.firsts b)))
     → Stands s from from c W E → Stands s from end c (with_first W b w) E
 stands_link s from end c W E b g w h e l low mid high fill t =
     let old : (a : ℕ) → entry_at s W a ≡ E a = λ a. elim (cases_lt a from) [ inl p ↦ t.before a p | inr p ↦ t.todo a p ] in
     let out : (a : ℕ) → a / 2 ^ s ≢ b → entry_at s (with_first W b w) a ≡ E a = λ a n. first_other s W b w a n ∙ old a in
     let was : (a : ℕ) → a / 2 ^ s ≡ b → E a ≡ entry_in (slice_index W.firsts b) = λ a p.
-    sym (old a) ∙ ap (λ x. followed s W.seconds (a % 2 ^ s) (entry_in (slice_index W.firsts x))) p ∙ followed_last s W.seconds (a % 2 ^ s) _ l in
-    let new : (a : ℕ) → a / 2 ^ s ≡ b → entry_at s (with_first W b w) a ≡ cond (in_range from end a) (changed c (E a)) (E a) = λ a p.
+    sym (old a) ∙ ap (λ x. last_entry s W.seconds (a % 2 ^ s) (entry_in (slice_index W.firsts x))) p ∙ followed_last s W.seconds (a % 2 ^ s) _ l in
+    let new : (a : ℕ) → a / 2 ^ s ≡ b → entry_at s (with_first W b w) a ≡ cond (in_range from end a) (rewritten_entry c (E a)) (E a) = λ a p.
     let place : b * 2 ^ s + a % 2 ^ s ≡ a = ap (λ x. x * 2 ^ s + a % 2 ^ s) (sym p) ∙ shr_split a s in
     linked_in s W b g w a h e p ∙ fill (a % 2 ^ s) (mod_below a (2 ^ s) (pow_pos s))
-    ∙ ap (λ x. cond (in_range from end x) (changed c (entry_in (slice_index W.firsts b))) (entry_in (slice_index W.firsts b))) place
-    ∙ ap (λ x. cond (in_range from end a) (changed c x) x) (sym (was a p)) in
+    ∙ ap (λ x. cond (in_range from end x) (rewritten_entry c (entry_in (slice_index W.firsts b))) (entry_in (slice_index W.firsts b))) place
+    ∙ ap (λ x. cond (in_range from end a) (rewritten_entry c x) x) (sym (was a p)) in
     record {
-      before = λ a p. elim (cases_eq (a / 2 ^ s) b) [ inl q ↦ new a q ∙ range_low from end a (changed c (E a)) (E a) p | inr n ↦ out a n ];
-      done = λ a p q. new a (block_of s a b (omega (arith, low, p)) (omega (arith, high, q))) ∙ range_true from end a (changed c (E a)) (E a) p q;
-      todo = λ a p. elim (cases_eq (a / 2 ^ s) b) [ inl q ↦ new a q ∙ range_high from end a (changed c (E a)) (E a) p | inr n ↦ out a n ];
+      before = λ a p. elim (cases_eq (a / 2 ^ s) b) [ inl q ↦ new a q ∙ range_low from end a (rewritten_entry c (E a)) (E a) p | inr n ↦ out a n ];
+      done = λ a p q. new a (block_of s a b (omega (arith, low, p)) (omega (arith, high, q))) ∙ range_true from end a (rewritten_entry c (E a)) (E a) p q;
+      todo = λ a p. elim (cases_eq (a / 2 ^ s) b) [ inl q ↦ new a q ∙ range_high from end a (rewritten_entry c (E a)) (E a) p | inr n ↦ out a n ];
     }
 
 same_group : (i g : ℕ) → Group i ≡ Group g → i ≡ g
@@ -112,16 +112,16 @@ cond_has P true x y p q = p
 cond_has P false x y p q = q
 
 pub filled_has : (P : Entry → Type 0) (s : ℕ) (u : LinkGroup) (r : ℕ) (old : Entry) → P u.rewrite.entry → P old → P (filled_entry s u r old)
-filled_has P s u r old p q = cond_has P (in_range u.from u.end (u.block * 2 ^ s + r)) (changed u.rewrite old) old (cond_has P (replaces u.rewrite old) u.rewrite.entry old p q) q
+filled_has P s u r old p q = cond_has P (in_range u.from u.end (u.block * 2 ^ s + r)) (rewritten_entry u.rewrite old) old (cond_has P (replaces u.rewrite old) u.rewrite.entry old p q) q
 
 -- the change after a store
 abbrev pub next_place : LinkGroup → LinkGroup
 next_place u = record u { next = u.next + 1 }
 
-pub reached_low : (s : ℕ) (u : LinkGroup) → u.next ≤ 2 ^ s → reached s u ≡ u.from
+pub reached_low : (s : ℕ) (u : LinkGroup) → u.next ≤ 2 ^ s → reach_of_link s u ≡ u.from
 reached_low s u h = unlinked_yet s u.next u.from u.end h
 
-pub reached_high : (s : ℕ) (u : LinkGroup) → 2 ^ s < u.next → reached s u ≡ u.end
+pub reached_high : (s : ℕ) (u : LinkGroup) → 2 ^ s < u.next → reach_of_link s u ≡ u.end
 reached_high s u h = linked_now s u.next u.from u.end h
 
 module _ (f s : ℕ) (u : LinkGroup) (W : Words) (t : IsTable f s W) (k : IsLinking f s u W) where

@@ -11,9 +11,9 @@ use Rattle.lpm_cells.specs.declared.entry.Entry.{Entry}
 use Rattle.lpm_cells.specs.declared.entry.Entry.TheVariants.{Hop}
 use Rattle.lpm_update.specs.declared.rewrite.Kind.TheVariants.{Add, Delete}
 use Rattle.lpm_update.specs.declared.rewrite.Rewrite.{Rewrite}
-use Rattle.lpm_update.specs.Rewrite.{changed}
+use Rattle.lpm_update.specs.Rewrite.{rewritten_entry}
 use Rattle.lpm_update.specs.LinkGroup.{final_entry}
-use Rattle.lpm_update.specs.Flush.{flushed}
+use Rattle.lpm_update.specs.Flush.{rewrite_to_miss}
 use Rattle.lpm_update.specs.Best.{IsBest, AllBest, IsCoverEntry}
 use Rattle.lpm_update.specs.Represents.{HasDeepGroups}
 use Rattle.lpm_update.proofs.Rules.{add_covered, add_other, covers_range, range_covers}
@@ -24,13 +24,13 @@ use Rattle.lpm_update.proofs.Flushes.{flushed_miss}
 -- ---- entries
 
 -- what holds of the entries inside and outside the range holds of all
-by_range : (width : ℕ) (R' : RuleMap) (from end a : ℕ) (c : Rewrite) (e : Entry) → (from ≤ a → a < end → IsBest width R' a (changed c e)) → ((a < from) ⊎ (end ≤ a) → IsBest width R' a e)
+by_range : (width : ℕ) (R' : RuleMap) (from end a : ℕ) (c : Rewrite) (e : Entry) → (from ≤ a → a < end → IsBest width R' a (rewritten_entry c e)) → ((a < from) ⊎ (end ≤ a) → IsBest width R' a e)
     → IsBest width R' a (final_entry from end c a e)
 by_range width R' from end a c e inside outside = elim (cases_lt a from) [
-  | inl below ↦ subst (IsBest width R' a) (sym (range_low from end a (changed c e) e below)) (outside (inl below))
+  | inl below ↦ subst (IsBest width R' a) (sym (range_low from end a (rewritten_entry c e) e below)) (outside (inl below))
   | inr above ↦ elim (cases_lt a end) [
-    | inl below ↦ subst (IsBest width R' a) (sym (range_true from end a (changed c e) e above below)) (inside above below)
-    | inr past ↦ subst (IsBest width R' a) (sym (range_high from end a (changed c e) e past)) (outside (inr past))
+    | inl below ↦ subst (IsBest width R' a) (sym (range_true from end a (rewritten_entry c e) e above below)) (inside above below)
+    | inr past ↦ subst (IsBest width R' a) (sym (range_high from end a (rewritten_entry c e) e past)) (outside (inr past))
   ]
 ]
 
@@ -50,8 +50,8 @@ delete_best width R p e E nets n cover best a low = by_range width (remove R p) 
     (λ above below. del_covered width R p a (E a) e nets n (covers_range width p a n above below) cover (best a low))
     (λ out. del_other width R p a (E a) (not_covered width p a n out) (best a low))
 
-pub flush_best : (width : ℕ) (E : ℕ → Entry) → AllBest width (empty {R = network_cmp}) (λ a. final_entry 0 (2 ^ width) flushed a (E a))
-flush_best width E a low = subst (IsBest width empty a) (sym (range_true 0 (2 ^ width) a (changed flushed (E a)) (E a) (omega arith) low ∙ flushed_miss (E a)))
+pub flush_best : (width : ℕ) (E : ℕ → Entry) → AllBest width (empty {R = network_cmp}) (λ a. final_entry 0 (2 ^ width) rewrite_to_miss a (E a))
+flush_best width E a low = subst (IsBest width empty a) (sym (range_true 0 (2 ^ width) a (rewritten_entry rewrite_to_miss (E a)) (E a) (omega arith) low ∙ flushed_miss (E a)))
     (λ q some cov. not_some (get-empty network_cmp q) some)
 
 -- ---- groups

@@ -6,8 +6,8 @@ use Rattle.std.proofs.lemmas.Bool.{cases_lt, cases_eq}
 use Rattle.lpm_cells.specs.declared.entry.Entry.{Entry}
 use Rattle.lpm_cells.specs.declared.entry.Entry.TheVariants.{Miss, Hop, Group}
 use Rattle.lpm_cells.specs.Words.{IsEntry, word_of, entry_in, IsLast, IsLastWord, IsWord}
-use Rattle.lpm_cells.specs.Table.{Words, IsWords, IsFirst, IsFirstWord, HasRoom, entry_at, followed, with_first, with_second}
-use Rattle.lpm_update.specs.Rewrite.{replaces, changed, Stands, Skips}
+use Rattle.lpm_cells.specs.Table.{Words, IsWords, IsFirst, IsFirstWord, HasRoom, entry_at, last_entry, with_first, with_second}
+use Rattle.lpm_update.specs.Rewrite.{replaces, rewritten_entry, Stands, Skips}
 use Rattle.lpm_update.specs.RewriteRange.{IsWhole}
 use Rattle.lpm_update.specs.Linked.{IsTable, IsLinkTo}
 use Rattle.std.proofs.Math.ListN.{length-set}
@@ -30,31 +30,31 @@ block_of s a i l h =
 
 -- ---- one write
 
-pub followed_last : (s : ℕ) (S : List ℕ) (r : ℕ) (e : Entry) → IsLast e → followed s S r e ≡ e
+pub followed_last : (s : ℕ) (S : List ℕ) (r : ℕ) (e : Entry) → IsLast e → last_entry s S r e ≡ e
 followed_last s S r Miss h = refl
 followed_last s S r (Hop n d) h = refl
 followed_last s S r (Group g) h = absurd h
 
 pub first_same : (s : ℕ) (W : Words) (i w a : ℕ) → i < length W.firsts → a / 2 ^ s ≡ i → IsLast (entry_in w) → entry_at s (with_first W i w) a ≡ entry_in w
 first_same s W i w a h e l =
-    ap (λ k. followed s W.seconds (a % 2 ^ s) (entry_in (slice_index (slice_set W.firsts i w) k))) e
-    ∙ ap (λ x. followed s W.seconds (a % 2 ^ s) (entry_in x)) (get_or-set_same W.firsts i w 0 h)
+    ap (λ k. last_entry s W.seconds (a % 2 ^ s) (entry_in (slice_index (slice_set W.firsts i w) k))) e
+    ∙ ap (λ x. last_entry s W.seconds (a % 2 ^ s) (entry_in x)) (get_or-set_same W.firsts i w 0 h)
     ∙ followed_last s W.seconds (a % 2 ^ s) (entry_in w) l
 
 pub first_other : (s : ℕ) (W : Words) (i w a : ℕ) → a / 2 ^ s ≢ i → entry_at s (with_first W i w) a ≡ entry_at s W a
-first_other s W i w a n = ap (λ x. followed s W.seconds (a % 2 ^ s) (entry_in x)) (get_or-set_other W.firsts i (a / 2 ^ s) w 0 n)
+first_other s W i w a n = ap (λ x. last_entry s W.seconds (a % 2 ^ s) (entry_in x)) (get_or-set_other W.firsts i (a / 2 ^ s) w 0 n)
 
 pub second_same : (s : ℕ) (W : Words) (g j w a : ℕ) → entry_in (slice_index W.firsts (a / 2 ^ s)) ≡ Group g → j ≡ g * 2 ^ s + a % 2 ^ s → j < length W.seconds
     → entry_at s (with_second W j w) a ≡ entry_in w
 second_same s W g j w a e p h =
-    ap (followed s (slice_set W.seconds j w) (a % 2 ^ s)) e
+    ap (last_entry s (slice_set W.seconds j w) (a % 2 ^ s)) e
     ∙ ap (λ k. entry_in (slice_index (slice_set W.seconds j w) k)) (sym p)
     ∙ ap entry_in (get_or-set_same W.seconds j w 0 h)
 
 pub in_group : (s : ℕ) (W : Words) (g a : ℕ) → entry_in (slice_index W.firsts (a / 2 ^ s)) ≡ Group g → entry_at s W a ≡ entry_in (slice_index W.seconds (g * 2 ^ s + a % 2 ^ s))
-in_group s W g a e = ap (followed s W.seconds (a % 2 ^ s)) e
+in_group s W g a e = ap (last_entry s W.seconds (a % 2 ^ s)) e
 
-followed_other : (s : ℕ) (S : List ℕ) (r j w : ℕ) (e : Entry) → ((g : ℕ) → e ≡ Group g → g * 2 ^ s + r ≡ j → ⊥) → followed s (slice_set S j w) r e ≡ followed s S r e
+followed_other : (s : ℕ) (S : List ℕ) (r j w : ℕ) (e : Entry) → ((g : ℕ) → e ≡ Group g → g * 2 ^ s + r ≡ j → ⊥) → last_entry s (slice_set S j w) r e ≡ last_entry s S r e
 followed_other s S r j w Miss n = refl
 followed_other s S r j w (Hop m d) n = refl
 followed_other s S r j w (Group g) n = ap entry_in (get_or-set_other S j (g * 2 ^ s + r) w 0 (n g refl))
@@ -65,10 +65,10 @@ second_other s W j w a n = followed_other s W.seconds (a % 2 ^ s) j w (entry_in 
 
 -- ---- an update that goes on
 
-pub changed_taken : (c : Rewrite) (e : Entry) → replaces c e ≡ true → changed c e ≡ c.entry
+pub changed_taken : (c : Rewrite) (e : Entry) → replaces c e ≡ true → rewritten_entry c e ≡ c.entry
 changed_taken c e h = ap (λ b. cond b c.entry e) h
 
-pub changed_kept : (c : Rewrite) (e : Entry) → replaces c e ≡ false → changed c e ≡ e
+pub changed_kept : (c : Rewrite) (e : Entry) → replaces c e ≡ false → rewritten_entry c e ≡ e
 changed_kept c e h = ap (λ b. cond b c.entry e) h
 
 -- over addresses that keep their entries
@@ -77,7 +77,7 @@ stands_skip s from at next c W E l k t = record {
   before = t.before;
   done = λ a p q. elim (cases_lt a at) [
     | inl h ↦ t.done a p h
-    | inr h ↦ t.todo a h ∙ sym (ap (changed c) (sym (t.todo a h)) ∙ changed_kept c _ (k a h q) ∙ t.todo a h)
+    | inr h ↦ t.todo a h ∙ sym (ap (rewritten_entry c) (sym (t.todo a h)) ∙ changed_kept c _ (k a h q) ∙ t.todo a h)
   ];
   todo = λ a p. t.todo a (omega arith);
 }
@@ -99,7 +99,7 @@ stands_first s from at c W E i w o e h l k r m t =
         | inr above ↦
             let here = block_of s a i above q in
             let was : entry_at s W a ≡ entry_in (slice_index W.firsts i) =
-            ap (λ x. followed s W.seconds (a % 2 ^ s) (entry_in (slice_index W.firsts x))) here ∙ followed_last s W.seconds (a % 2 ^ s) _ l in
+            ap (λ x. last_entry s W.seconds (a % 2 ^ s) (entry_in (slice_index W.firsts x))) here ∙ followed_last s W.seconds (a % 2 ^ s) _ l in
             let is : E a ≡ entry_in (slice_index W.firsts i) = sym (t.todo a (omega (arith, e, above))) ∙ was in
             first_same s W i w a h here (subst IsLast (sym r) m) ∙ r ∙ sym (changed_taken c (E a) (ap (replaces c) is ∙ k))
       ];
@@ -124,7 +124,7 @@ stands_second s from at c W E g j w o e p h once k r t =
         | inl below ↦ other a (λ z. absurd (omega (arith, z, below))) ∙ t.done a q below
         | inr above ↦
             let z : a ≡ at = omega (arith, above, l) in
-            subst (λ x. entry_at s (with_second W j w) x ≡ changed c (E x)) (sym z)
+            subst (λ x. entry_at s (with_second W j w) x ≡ rewritten_entry c (E x)) (sym z)
             (second_same s W g j w at e p h ∙ r
             ∙ sym (changed_taken c (E at) (ap (replaces c) (sym (t.todo at (omega arith)) ∙ in_group s W g at e ∙ ap (λ x. entry_in (slice_index W.seconds x)) (sym p)) ∙ k)))
       ];

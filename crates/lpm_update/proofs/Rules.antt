@@ -7,7 +7,7 @@ use Rattle.lpm_rules.specs.RuleMap.{RuleMap}
 use Rattle.lpm_rules.proofs.Changes.{insert_cases, insert_here}
 use Rattle.lpm_cells.specs.declared.entry.Entry.{Entry}
 use Rattle.lpm_cells.specs.declared.entry.Entry.TheVariants.{Miss, Hop, Group}
-use Rattle.lpm_update.specs.Rewrite.{changed}
+use Rattle.lpm_update.specs.Rewrite.{rewritten_entry}
 use Rattle.lpm_update.specs.declared.rewrite.Kind.TheVariants.{Add}
 use Rattle.lpm_update.specs.Best.{IsBest}
 use Rattle.lpm_rules.specs.Longest.{IsLongestHop}
@@ -52,7 +52,7 @@ hop_by width R p h a v d false e c b = kept_hop width R p h a v d (λ _. leb-fal
 
 -- an address that the new rule covers
 pub add_covered : (width : ℕ) (R : RuleMap) (p : Network) (h a : ℕ) (e : Entry) → Covers width p a → IsBest width R a e
-    → IsBest width (insert R p h) a (changed (record { kind = Add; depth = p.len; entry = Hop h p.len }) e)
+    → IsBest width (insert R p h) a (rewritten_entry (record { kind = Add; depth = p.len; entry = Hop h p.len }) e)
 add_covered width R p h a Miss c b = new_hop width R p h a 0 (omega arith) c (λ q some cov. absurd (b q some cov))
 add_covered width R p h a (Hop v d) c b = hop_by width R p h a v d (nat_le d p.len) refl c b
 add_covered width R p h a (Group g) c b = absurd b

@@ -10,8 +10,8 @@ use Rattle.lpm_update.specs.declared.link_group.LinkGroup.{LinkGroup}
 use Rattle.lpm_update.specs.declared.rewrite.Rewrite.{Rewrite}
 use Rattle.lpm_update.specs.declared.update.Plan.{Plan}
 use Rattle.lpm_update.specs.declared.update.Plan.TheVariants.{Range, Link, Unlink, Flush}
-use Rattle.lpm_update.specs.Rewrite.{changed, Stands}
-use Rattle.lpm_update.specs.LinkGroup.{final_entry, reached}
+use Rattle.lpm_update.specs.Rewrite.{rewritten_entry, Stands}
+use Rattle.lpm_update.specs.LinkGroup.{final_entry, reach_of_link}
 use Rattle.lpm_update.specs.Update.{IsUnderWay, IsOnward, from_of, end_of, reached_of, rewrite_of, group_after}
 use Rattle.lpm_update.specs.Laws.{AnswersTurnOnce, Moves}
 use Rattle.lpm_update.proofs.Links.{range_true, reached_low, reached_high}
@@ -19,19 +19,19 @@ use Rattle.lpm_update.proofs.Onward.{by_kind}
 
 -- ---- where the change has come
 
-above_from : (s : ℕ) (u : LinkGroup) → u.from ≤ u.end → u.from ≤ reached s u
+above_from : (s : ℕ) (u : LinkGroup) → u.from ≤ u.end → u.from ≤ reach_of_link s u
 above_from s u r = elim (cases_lt (2 ^ s) u.next) [
   | inl past ↦ omega (arith, r, reached_high s u past)
   | inr before ↦ omega (arith, reached_low s u before)
 ]
 
-below_end : (s : ℕ) (u : LinkGroup) → u.from ≤ u.end → reached s u ≤ u.end
+below_end : (s : ℕ) (u : LinkGroup) → u.from ≤ u.end → reach_of_link s u ≤ u.end
 below_end s u r = elim (cases_lt (2 ^ s) u.next) [
   | inl past ↦ omega (arith, reached_high s u past)
   | inr before ↦ omega (arith, r, reached_low s u before)
 ]
 
-reached_link : (s : ℕ) (u v : LinkGroup) → u.from ≤ u.end → IsOnward (Link u) (Link v) → reached s u ≤ reached s v
+reached_link : (s : ℕ) (u v : LinkGroup) → u.from ≤ u.end → IsOnward (Link u) (Link v) → reach_of_link s u ≤ reach_of_link s v
 reached_link s u v r o =
     let n = o.1 in
     let from : v.from ≡ u.from = ap (λ (z : LinkGroup). z.from) o.0 in
@@ -88,7 +88,7 @@ turns s from at next end c W W' E a on within t t' = elim (cases_lt a from) [
   | inr above ↦ elim (cases_lt a at) [
     | inl done ↦ inl (t'.done a above (omega (arith, done, on)) ∙ sym (t.done a above done))
     | inr todo ↦ elim (cases_lt a next) [
-      | inl now ↦ inr (t.todo a todo, t'.done a above now ∙ sym (range_true from end a (changed c (E a)) (E a) above (omega (arith, now, within))))
+      | inl now ↦ inr (t.todo a todo, t'.done a above now ∙ sym (range_true from end a (rewritten_entry c (E a)) (E a) above (omega (arith, now, within))))
       | inr later ↦ inl (t'.todo a later ∙ sym (t.todo a todo))
     ]
   ]

@@ -8,7 +8,7 @@ use Rattle.lpm_cells.specs.declared.entry.Entry.TheVariants.{Group}
 use Rattle.lpm_cells.specs.Words.{entry_in}
 use Rattle.lpm_cells.specs.Table.{entry_at, Words}
 use Rattle.lpm_update.specs.declared.rewrite.Rewrite.{Rewrite}
-use Rattle.lpm_update.specs.Rewrite.{changed, Stands}
+use Rattle.lpm_update.specs.Rewrite.{rewritten_entry, Stands}
 use Rattle.lpm_update.specs.LinkGroup.{final_entry}
 use Rattle.lpm_update.proofs.Places.{in_group}
 use Rattle.lpm_update.proofs.Links.{range_true, range_low, range_high}
@@ -16,10 +16,10 @@ use Rattle.lpm_update.proofs.Links.{range_true, range_low, range_high}
 -- at the end each address has its final entry
 pub stands_final : (s from end : ℕ) (c : Rewrite) (W : Words) (E : ℕ → Entry) → Stands s from end c W E → (a : ℕ) → entry_at s W a ≡ final_entry from end c a (E a)
 stands_final s from end c W E t a = elim (cases_lt a from) [
-  | inl below ↦ t.before a below ∙ sym (range_low from end a (changed c (E a)) (E a) below)
+  | inl below ↦ t.before a below ∙ sym (range_low from end a (rewritten_entry c (E a)) (E a) below)
   | inr above ↦ elim (cases_lt a end) [
-    | inl inside ↦ t.done a above inside ∙ sym (range_true from end a (changed c (E a)) (E a) above inside)
-    | inr past ↦ t.todo a past ∙ sym (range_high from end a (changed c (E a)) (E a) past)
+    | inl inside ↦ t.done a above inside ∙ sym (range_true from end a (rewritten_entry c (E a)) (E a) above inside)
+    | inr past ↦ t.todo a past ∙ sym (range_high from end a (rewritten_entry c (E a)) (E a) past)
   ]
 ]
 

@@ -7,7 +7,7 @@ use Rattle.lpm_bits.specs.Widths.{IsShape}
 use Rattle.lpm_cells.specs.declared.entry.Entry.TheVariants.{Miss, Group}
 use Rattle.lpm_cells.specs.Words.{IsEntry, IsLast, IsWord, IsLastWord, word_of, entry_in}
 use Rattle.lpm_cells.proofs.Reading.{entry_in_zero}
-use Rattle.lpm_cells.specs.Table.{Words, entry_at, followed, with_first, with_second}
+use Rattle.lpm_cells.specs.Table.{Words, entry_at, last_entry, with_first, with_second}
 use Rattle.lpm_update.specs.declared.Did.TheVariants.{First, Second, Done}
 use Rattle.lpm_update.specs.declared.rewrite.Rewrite.{Rewrite}
 use Rattle.lpm_update.specs.declared.rewrite_range.RewriteRange.{RewriteRange}
@@ -115,7 +115,7 @@ module _ (f s : ℕ) (u : RewriteRange) (W : Words) (i : ℕ) (more : u.at < u.e
           subst (λ x. IsRewriting f s u.from x u.end u.rewrite W.firsts) (omega (arith, b, e)) (past_first f s u.from u.at u.end u.rewrite W.firsts i (omega (arith, b)) (omega (arith, b, more)) l k),
           λ a low high.
               let here = block_of s a i (omega (arith, b, low)) (omega (arith, b, e, high)) in
-              ap (replaces u.rewrite) (ap (λ x. followed s W.seconds (a % 2 ^ s) (entry_in (slice_index W.firsts x))) here ∙ followed_last s W.seconds (a % 2 ^ s) _ l) ∙ kept,
+              ap (replaces u.rewrite) (ap (λ x. last_entry s W.seconds (a % 2 ^ s) (entry_in (slice_index W.firsts x))) here ∙ followed_last s W.seconds (a % 2 ^ s) _ l) ∙ kept,
         );
       })
 

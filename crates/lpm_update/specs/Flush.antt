@@ -7,8 +7,8 @@ use Rattle.lpm_update.specs.declared.rewrite.Kind.TheVariants.{Flush}
 use Rattle.lpm_update.specs.declared.rewrite.Rewrite.{Rewrite}
 
 -- every entry becomes a miss
-abbrev pub flushed : Rewrite
-flushed = record { kind = Flush; depth = 0; entry = Miss }
+abbrev pub rewrite_to_miss : Rewrite
+rewrite_to_miss = record { kind = Flush; depth = 0; entry = Miss }
 
 -- the first words from place `low` to `high` are misses
 abbrev pub AllMiss : List ℕ → ℕ → ℕ → Type 0

@@ -7,7 +7,7 @@ use Rattle.lpm_cells.specs.declared.entry.Entry.{Entry}
 use Rattle.lpm_cells.specs.declared.entry.Entry.TheVariants.{Group}
 use Rattle.lpm_cells.specs.Table.{Words, HasRoom}
 use Rattle.lpm_update.specs.Linked.{IsLinkTo}
-use Rattle.lpm_update.specs.Rewrite.{changed}
+use Rattle.lpm_update.specs.Rewrite.{rewritten_entry}
 use Rattle.lpm_update.specs.declared.rewrite.Rewrite.{Rewrite}
 use Rattle.lpm_update.specs.declared.link_group.LinkGroup.{LinkGroup}
 
@@ -17,11 +17,11 @@ in_range from end a = nat_le from a && nat_lt a end
 
 -- the entry of an address after the change, where `e` is its entry before
 abbrev pub final_entry : ℕ → ℕ → Rewrite → ℕ → Entry → Entry
-final_entry from end c a e = if in_range from end a then changed c e else e
+final_entry from end c a e = if in_range from end a then rewritten_entry c e else e
 
 -- how far the change has come for readers of the words: the link is the one store that they see
-abbrev pub reached : ℕ → LinkGroup → ℕ
-reached second u = if nat_le u.next (2 ^ second) then u.from else u.end
+abbrev pub reach_of_link : ℕ → LinkGroup → ℕ
+reach_of_link second u = if nat_le u.next (2 ^ second) then u.from else u.end
 
 -- the entry that place r of the group gets, where the block had entry `old`
 abbrev pub filled_entry : ℕ → LinkGroup → ℕ → Entry → Entry

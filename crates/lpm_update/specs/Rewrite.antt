@@ -34,14 +34,14 @@ pub record IsOnWords (width : ℕ) (c : Rewrite) (on : WordRewrite) : Type 0 whe
   pub word : on.word ≡ word_of c.entry
 
 -- what becomes of an entry in the range
-abbrev pub changed : Rewrite → Entry → Entry
-changed c e = if replaces c e then c.entry else e
+abbrev pub rewritten_entry : Rewrite → Entry → Entry
+rewritten_entry c e = if replaces c e then c.entry else e
 
 -- each address from `from` to `at` has its new entry, each other one its old, where E has the
 -- entries before the change
 pub record Stands (second from at : ℕ) (c : Rewrite) (t : Words) (E : ℕ → Entry) : Type 0 where
   pub before : (a : ℕ) → a < from → entry_at second t a ≡ E a
-  pub done : (a : ℕ) → from ≤ a → a < at → entry_at second t a ≡ changed c (E a)
+  pub done : (a : ℕ) → from ≤ a → a < at → entry_at second t a ≡ rewritten_entry c (E a)
   pub todo : (a : ℕ) → at ≤ a → entry_at second t a ≡ E a
 
 -- the addresses from `low` to `high` keep their entries

@@ -9,9 +9,9 @@ use Rattle.lpm_update.specs.declared.update.Plan.TheVariants.{Range, Link, Unlin
 use Rattle.lpm_update.specs.Rewrite.{Stands, Skips}
 use Rattle.lpm_update.specs.Linked.{IsLinkTo, group_at}
 use Rattle.lpm_update.specs.RewriteRange.{IsRewriting, IsFurther, IsFirstStore, IsSecondStore}
-use Rattle.lpm_update.specs.LinkGroup.{IsLinking, IsFillStore, IsLinkStore, reached, final_entry}
+use Rattle.lpm_update.specs.LinkGroup.{IsLinking, IsFillStore, IsLinkStore, reach_of_link, final_entry}
 use Rattle.lpm_update.specs.UnlinkGroup.{IsUnlinking, IsUnlinkStore}
-use Rattle.lpm_update.specs.Flush.{flushed, IsFlushStore}
+use Rattle.lpm_update.specs.Flush.{rewrite_to_miss, IsFlushStore}
 
 -- the first address of the range
 abbrev pub from_of : Plan → ℕ
@@ -30,7 +30,7 @@ end_of width (Flush u) = 2 ^ width
 -- past the addresses that answer as after the change
 abbrev pub reached_of : ℕ → Plan → ℕ
 reached_of second (Range u) = u.at
-reached_of second (Link u) = reached second u
+reached_of second (Link u) = reach_of_link second u
 reached_of second (Unlink u) = u.range.at
 reached_of second (Flush u) = u.next * 2 ^ second
 
@@ -39,7 +39,7 @@ abbrev pub rewrite_of : Plan → Rewrite
 rewrite_of (Range u) = u.rewrite
 rewrite_of (Link u) = u.rewrite
 rewrite_of (Unlink u) = u.range.rewrite
-rewrite_of (Flush u) = flushed
+rewrite_of (Flush u) = rewrite_to_miss
 
 -- the entry of an address after the change
 abbrev pub entry_after : ℕ → Plan → (ℕ → Entry) → ℕ → Entry

@@ -33,10 +33,10 @@ use Rattle.fib_model.specs.State.{State, Transitions, HasTokens}
 use Rattle.fib_model.specs.Reclaiming.{Unlinks}
 use Rattle.fib_model.specs.Outcomes.{groups_in_use, LacksGroup, TakesGroup, Adds}
 use Rattle.lpm_trace.specs.declared.step.WriterStep.{WriterStep}
-use Rattle.lpm_trace.specs.Tables.{Setup, tables}
-use Rattle.lpm_writer.specs.declared.books.Books.{Books}
+use Rattle.lpm_trace.specs.States.{InitialState, state_after}
+use Rattle.lpm_writer.specs.declared.pool.GroupPool.{GroupPool}
 use Rattle.lpm_writer.specs.Waiting.{tokens_of}
-use Rattle.lpm_writer.specs.Making.{filling, IsTakenBy}
+use Rattle.lpm_writer.specs.Making.{group_to_fill, IsTakenBy}
 use Rattle.lpm_writer.specs.Taking.{Finds, NeedsGroup}
 use Rattle.lpm_writer.specs.Changing.{Changes}
 use Rattle.lpm_writer.specs.Resting.{IsResting, state_of}
@@ -70,44 +70,44 @@ taken_back old p h mid new (Ok hop) put none m out =
     out ∙ ap (λ (x : RuleList). without_rule x p) put ∙ ap (λ R. record { rules = R; max = old.max }) (remove_insert old.rules p h none)
 taken_back old p h mid new (Err e) put none m out = absurd (some_here (get mid.rules p) h (ap (λ (x : RuleList). get x.rules p) put ∙ insert_here old.rules p h) m)
 
-module _ (f s : ℕ) (c : Setup) (steps : List WriterStep) (config : Config) (rules : RuleList) (books : Books) (begun : ℕ) (rest : IsResting f s c steps config rules books begun)
+module _ (f s : ℕ) (c : InitialState) (steps : List WriterStep) (config : Config) (rules : RuleList) (pool : GroupPool) (begun : ℕ) (rest : IsResting f s c steps config rules pool begun)
     (p : Network) (low : p.bits / 2 ^ s < 2 ^ f) where
   -- a block with a group is deep, and one without isn't
-  deep : IsSome (group_at (tables c steps).words.firsts (p.bits / 2 ^ s)) → IsDeepBlock f s rules.rules (block_of s p)
+  deep : IsSome (group_at (state_after c steps).words.firsts (p.bits / 2 ^ s)) → IsDeepBlock f s rules.rules (block_of s p)
   deep some = (rest.represents.groups (p.bits / 2 ^ s) low).0 some
 
-  shallow : group_at (tables c steps).words.firsts (p.bits / 2 ^ s) ≡ None → ¬ IsDeepBlock f s rules.rules (block_of s p)
+  shallow : group_at (state_after c steps).words.firsts (p.bits / 2 ^ s) ≡ None → ¬ IsDeepBlock f s rules.rules (block_of s p)
   shallow none there = not_some none ((rest.represents.groups (p.bits / 2 ^ s) low).1 there)
 
   -- a rule that needs a group isn't there
-  pub absent : NeedsGroup f s (tables c steps).words.firsts p → get rules.rules p ≡ None
+  pub absent : NeedsGroup f s (state_after c steps).words.firsts p → get rules.rules p ≡ None
   absent needs = no_some (get rules.rules p) (λ some. shallow needs.1 (p, some, needs.0, refl))
 
   -- the free groups, those that wait and the deep blocks are as many as the groups
-  all_groups : free_count books.groups + length books.queue.items + groups_in_use f s rules.rules ≡ config.groups
-  all_groups = omega (arith, linked_resting f s c steps config rules books begun rest, counts-total books.groups, rest.queued.all, rest.states)
+  all_groups : free_count pool.groups + length pool.queue.items + groups_in_use f s rules.rules ≡ config.groups
+  all_groups = omega (arith, linked_resting f s c steps config rules pool begun rest, counts-total pool.groups, rest.queued.all, rest.states)
 
   module _ {X : Type 0} (t : Transitions X) (x : X) where
-    lacks : NeedsGroup f s (tables c steps).words.firsts p → free_count books.groups ≡ 0 → LacksGroup f s config (state_of rules.rules x books begun) p
+    lacks : NeedsGroup f s (state_after c steps).words.firsts p → free_count pool.groups ≡ 0 → LacksGroup f s config (state_of rules.rules x pool begun) p
     lacks needs empty = record {
       absent = absent needs;
       long = needs.0;
       shallow = shallow needs.1;
-      none_free = omega (arith, all_groups, empty, length-map books.queue.items (λ item. item.1));
+      none_free = omega (arith, all_groups, empty, length-map pool.queue.items (λ item. item.1));
     }
 
-    takes_group : (group : Option ℕ) (z : X) (mid : Books) → Finds t f s (tables c steps).words.firsts p x books (Ok group) z mid
-        → TakesGroup t f s config (state_of rules.rules x books begun) p (tokens_of mid.queue.items) z
+    takes_group : (group : Option ℕ) (z : X) (mid : GroupPool) → Finds t f s (state_after c steps).words.firsts p x pool (Ok group) z mid
+        → TakesGroup t f s config (state_of rules.rules x pool begun) p (tokens_of mid.queue.items) z
     takes_group None z mid found = (
       (λ k. absurd (elim found.2 [
         | inl short ↦ let long = k.long in omega (arith, short, long)
         | inr some ↦ k.shallow (deep some)
       ])),
-      (λ _. (ap (λ (b : Books). tokens_of b.queue.items) found.0, found.1)),
+      (λ _. (ap (λ (b : GroupPool). tokens_of b.queue.items) found.0, found.1)),
     )
     takes_group (Some g) z mid found = (
-      (λ k. found.2.1 (let none = k.none_free in omega (arith, all_groups, length-map books.queue.items (λ item. item.1), none))),
-      (λ enough. elim (cases_eq (free_count books.groups) 0) [
+      (λ k. found.2.1 (let none = k.none_free in omega (arith, all_groups, length-map pool.queue.items (λ item. item.1), none))),
+      (λ enough. elim (cases_eq (free_count pool.groups) 0) [
         | inl empty ↦ absurd (enough (lacks found.0 empty))
         | inr some ↦ let k = found.2.0 (omega (arith, some)) in (k.1, k.2)
       ]),
@@ -121,10 +121,10 @@ module _ (f s : ℕ) (c : Setup) (steps : List WriterStep) (config : Config) (ru
     is_false false h = refl
 
     -- after the group was taken, as many groups are linked as the new list has deep blocks
-    pub found_linked : (h : ℕ) (group : Option ℕ) (z : X) (mid : Books) → Finds t f s (tables c steps).words.firsts p x books (Ok group) z mid → linked_count mid.groups ≡ groups_in_use f s (insert rules.rules p h)
+    pub found_linked : (h : ℕ) (group : Option ℕ) (z : X) (mid : GroupPool) → Finds t f s (state_after c steps).words.firsts p x pool (Ok group) z mid → linked_count mid.groups ≡ groups_in_use f s (insert rules.rules p h)
     found_linked h None z mid found =
         let brings = put_brings_block f s rules.rules p h in
-        let was = ap (λ (b : Books). linked_count b.groups) found.0 ∙ linked_resting f s c steps config rules books begun rest in
+        let was = ap (λ (b : GroupPool). linked_count b.groups) found.0 ∙ linked_resting f s c steps config rules pool begun rest in
         elim (cases_lt f p.len) [
           | inr short ↦ was ∙ sym (ap set.len (brings.1 short))
           | inl long ↦ elim found.2 [
@@ -138,43 +138,43 @@ module _ (f s : ℕ) (c : Setup) (steps : List WriterStep) (config : Config) (ru
         let brings = put_brings_block f s rules.rules p h in
         let size = set.len-insert nat_cmp_total (deep_blocks f s rules.rules) (block_of s p) in
         let none = is_false (set.contains (deep_blocks f s rules.rules) (block_of s p)) (λ e. shallow found.0.1 ((has_deep_blocks f s rules.rules (block_of s p)).0 e)) in
-        found.1.linked ∙ ap (λ k. k + 1) (linked_resting f s c steps config rules books begun rest)
+        found.1.linked ∙ ap (λ k. k + 1) (linked_resting f s c steps config rules pool begun rest)
         ∙ sym (ap set.len (brings.0 found.0.0) ∙ size ∙ ap (λ b. cond b (groups_in_use f s rules.rules) (groups_in_use f s rules.rules + 1)) none)
 
     -- ---- the change that adds the rule
 
-    pub found_states : (group : Option ℕ) (z : X) (mid : Books) → Finds t f s (tables c steps).words.firsts p x books (Ok group) z mid → length mid.groups ≡ length books.groups
-    found_states None z mid found = ap (λ (b : Books). length b.groups) found.0
+    pub found_states : (group : Option ℕ) (z : X) (mid : GroupPool) → Finds t f s (state_after c steps).words.firsts p x pool (Ok group) z mid → length mid.groups ≡ length pool.groups
+    found_states None z mid found = ap (λ (b : GroupPool). length b.groups) found.0
     found_states (Some g) z mid found = found.1.as_many
 
-    pub found_long : (group : Option ℕ) (z : X) (mid : Books) → Finds t f s (tables c steps).words.firsts p x books (Ok group) z mid → IsSome group → f < p.len
+    pub found_long : (group : Option ℕ) (z : X) (mid : GroupPool) → Finds t f s (state_after c steps).words.firsts p x pool (Ok group) z mid → IsSome group → f < p.len
     found_long None z mid found some = absurd cc
     found_long (Some g) z mid found some = found.0.0
 
-    fresh_group : (g : ℕ) (z : X) (mid : Books) → Finds t f s (tables c steps).words.firsts p x books (Ok (Some g)) z mid → g < length books.groups
+    fresh_group : (g : ℕ) (z : X) (mid : GroupPool) → Finds t f s (state_after c steps).words.firsts p x pool (Ok (Some g)) z mid → g < length pool.groups
     fresh_group g z mid found = subst (λ n. g < n) found.1.as_many (slice_get_within mid.groups g (Linked (p.bits / 2 ^ s)) found.1.here)
 
-    pub found_fits : (group : Option ℕ) (z : X) (mid : Books) → Finds t f s (tables c steps).words.firsts p x books (Ok group) z mid → AddFits f s rules.rules p (tables c steps).words group
+    pub found_fits : (group : Option ℕ) (z : X) (mid : GroupPool) → Finds t f s (state_after c steps).words.firsts p x pool (Ok group) z mid → AddFits f s rules.rules p (state_after c steps).words group
     found_fits None z mid found = λ long. elim found.2 [
       | inl short ↦ absurd (omega (arith, short, long))
       | inr some ↦ deep some
     ]
     found_fits (Some g) z mid found =
-        (found.0.0, shallow found.0.1, (tied_taken f s (tables c steps).words books.groups g rest.represents.table rest.room rest.tied (fresh_group g z mid found) found.1.unlinked).0)
+        (found.0.0, shallow found.0.1, (tied_taken f s (state_after c steps).words pool.groups g rest.represents.table rest.room rest.tied (fresh_group g z mid found) found.1.unlinked).0)
 
-    pub found_tied : (group : Option ℕ) (z : X) (mid : Books) (u : Plan) → Finds t f s (tables c steps).words.firsts p x books (Ok group) z mid
-        → ((firsts : List ℕ) (i : ℕ) → group_held u firsts i ≡ held_with group (p.bits / 2 ^ s) firsts i) → IsTied f mid.groups (group_held u (tables c steps).words.firsts)
-    found_tied None z mid u found held = subst (λ (b : Books). IsTied f b.groups (group_held u (tables c steps).words.firsts)) (sym found.0)
-        (tied_same f books.groups (group_at (tables c steps).words.firsts) (group_held u (tables c steps).words.firsts) (λ i _. held (tables c steps).words.firsts i) rest.tied)
+    pub found_tied : (group : Option ℕ) (z : X) (mid : GroupPool) (u : Plan) → Finds t f s (state_after c steps).words.firsts p x pool (Ok group) z mid
+        → ((firsts : List ℕ) (i : ℕ) → group_held u firsts i ≡ held_with group (p.bits / 2 ^ s) firsts i) → IsTied f mid.groups (group_held u (state_after c steps).words.firsts)
+    found_tied None z mid u found held = subst (λ (b : GroupPool). IsTied f b.groups (group_held u (state_after c steps).words.firsts)) (sym found.0)
+        (tied_same f pool.groups (group_at (state_after c steps).words.firsts) (group_held u (state_after c steps).words.firsts) (λ i _. held (state_after c steps).words.firsts i) rest.tied)
     found_tied (Some g) z mid u found held =
-        let taken = tied_taken f s (tables c steps).words books.groups g rest.represents.table rest.room rest.tied (fresh_group g z mid found) found.1.unlinked in
-        tied_same f mid.groups (held_with (Some g) (p.bits / 2 ^ s) (tables c steps).words.firsts) (group_held u (tables c steps).words.firsts) (λ i _. held (tables c steps).words.firsts i)
+        let taken = tied_taken f s (state_after c steps).words pool.groups g rest.represents.table rest.room rest.tied (fresh_group g z mid found) found.1.unlinked in
+        tied_same f mid.groups (held_with (Some g) (p.bits / 2 ^ s) (state_after c steps).words.firsts) (group_held u (state_after c steps).words.firsts) (λ i _. held (state_after c steps).words.firsts i)
         (taken.1 mid.groups (p.bits / 2 ^ s) low found.0.1 found.1.here found.1.others)
 
-    pub found_fills : (group : Option ℕ) (z : X) (mid : Books) (u : Plan) → Finds t f s (tables c steps).words.firsts p x books (Ok group) z mid → FillsFor u group (p.bits / 2 ^ s)
-        → (filling u (tables c steps).words.firsts ≡ group) × IsTakenBy u None
-    found_fills None z mid u found fills = none_fills u (p.bits / 2 ^ s) (tables c steps).words.firsts fills
-    found_fills (Some g) z mid u found fills = some_fills u g (p.bits / 2 ^ s) (tables c steps).words.firsts fills found.0.1
+    pub found_fills : (group : Option ℕ) (z : X) (mid : GroupPool) (u : Plan) → Finds t f s (state_after c steps).words.firsts p x pool (Ok group) z mid → FillsFor u group (p.bits / 2 ^ s)
+        → (group_to_fill u (state_after c steps).words.firsts ≡ group) × IsTakenBy u None
+    found_fills None z mid u found fills = none_fills u (p.bits / 2 ^ s) (state_after c steps).words.firsts fills
+    found_fills (Some g) z mid u found fills = some_fills u g (p.bits / 2 ^ s) (state_after c steps).words.firsts fills found.0.1
 
     -- ---- outcomes
 
@@ -183,10 +183,10 @@ module _ (f s : ℕ) (c : Setup) (steps : List WriterStep) (config : Config) (ru
     none_unlinked (suc n) y z limbo limbo' e u = absurd (omega (arith, e))
 
     -- an add that was made with the group that was found for it
-    pub found_adds : (h : ℕ) (put : Put) (group : Option ℕ) (y z : X) (mid new : Books) (rules' : RuleList) → Finds t f s (tables c steps).words.firsts p x books (Ok group) y mid
+    pub found_adds : (h : ℕ) (put : Put) (group : Option ℕ) (y z : X) (mid new : GroupPool) (rules' : RuleList) → Finds t f s (state_after c steps).words.firsts p x pool (Ok group) y mid
         → Changes t config y mid z new → linked_count new.groups ≡ groups_in_use f s rules'.rules → rules'.rules ≡ insert rules.rules p h
         → put ≢ Unchanged → (Ok' put ≡ Ok' Replaced → IsSomeAnd (get rules.rules p) (λ old. old ≢ h)) → (Ok' put ≡ Ok' Added → (get rules.rules p ≡ None) × (len rules.rules < rules.max))
-        → HasTokens t config (state_of rules.rules x books begun) → Adds t f s config (state_of rules.rules x books begun) p h (Ok put) (state_of rules'.rules z new (begun + 1))
+        → HasTokens t config (state_of rules.rules x pool begun) → Adds t f s config (state_of rules.rules x pool begun) p h (Ok put) (state_of rules'.rules z new (begun + 1))
     found_adds h put group y z mid new rules' found changes linked made other replaced added left =
         let none = none_unlinked (linked_count mid.groups - linked_count new.groups) changes.opened changes.last (tokens_of mid.queue.items) (tokens_of new.queue.items)
         (omega (arith, linked ∙ ap (groups_in_use f s) made, found_linked h group y mid found)) changes.unlinks in
@@ -194,22 +194,22 @@ module _ (f s : ℕ) (c : Setup) (steps : List WriterStep) (config : Config) (ru
         by_put put other replaced added takes (changes.opened, changes.begins, subst (λ l. t.ends l z) none.0 changes.ends) none.1
       where
         S : State X
-        S = state_of rules.rules x books begun
+        S = state_of rules.rules x pool begun
 
         by_put : (put : Put) → put ≢ Unchanged → (Ok' put ≡ Ok' Replaced → IsSomeAnd (get rules.rules p) (λ old. old ≢ h)) → (Ok' put ≡ Ok' Added → (get rules.rules p ≡ None) × (len rules.rules < rules.max))
-            → TakesGroup t f s config (state_of rules.rules x books begun) p (tokens_of mid.queue.items) y → ((k : X) × t.begins y k × t.ends k z) → tokens_of new.queue.items ≡ tokens_of mid.queue.items
-            → Adds t f s config (state_of rules.rules x books begun) p h (Ok put) (state_of rules'.rules z new (begun + 1))
+            → TakesGroup t f s config (state_of rules.rules x pool begun) p (tokens_of mid.queue.items) y → ((k : X) × t.begins y k × t.ends k z) → tokens_of new.queue.items ≡ tokens_of mid.queue.items
+            → Adds t f s config (state_of rules.rules x pool begun) p h (Ok put) (state_of rules'.rules z new (begun + 1))
         by_put Unchanged other r a takes updates same = absurd (other refl)
         by_put Replaced other r a takes updates same =
             let still = takes.1 (λ k. some_none (get rules.rules p) (λ old. old ≢ h) (r refl) k.absent) in
             (r refl, left, (updates.0, subst (λ q. t.begins q updates.0) still.1 updates.1, updates.2), (made, refl), same ∙ still.0)
         by_put Added other r a takes updates same =
             let k = a refl in
-            ((k.0, left, subst (λ m. len rules.rules < m) rest.max k.1), (y, subst (λ l. TakesGroup t f s config (state_of rules.rules x books begun) p l y) (sym same) takes, updates), (made, refl))
+            ((k.0, left, subst (λ m. len rules.rules < m) rest.max k.1), (y, subst (λ l. TakesGroup t f s config (state_of rules.rules x pool begun) p l y) (sym same) takes, updates), (made, refl))
 
     -- an add that finds no group
-    pub none_adds : (h : ℕ) (oldest : Option Busy) (z : X) (mid : Books) → Finds t f s (tables c steps).words.firsts p x books (Err oldest) z mid → mid.queue ≡ books.queue → len rules.rules < rules.max
-        → HasTokens t config (state_of rules.rules x books begun) → Adds t f s config (state_of rules.rules x books begun) p h (Err (NoGroups oldest)) (state_of rules.rules z mid begun)
+    pub none_adds : (h : ℕ) (oldest : Option Busy) (z : X) (mid : GroupPool) → Finds t f s (state_after c steps).words.firsts p x pool (Err oldest) z mid → mid.queue ≡ pool.queue → len rules.rules < rules.max
+        → HasTokens t config (state_of rules.rules x pool begun) → Adds t f s config (state_of rules.rules x pool begun) p h (Err (NoGroups oldest)) (state_of rules.rules z mid begun)
     none_adds h oldest z mid found same room left = (
       (absent found.0, left, subst (λ m. len rules.rules < m) rest.max room),
       lacks found.0 found.1.0,

@@ -18,7 +18,7 @@ use Rattle.lpm_update.specs.Linked.{group_at}
 use Rattle.lpm_update.specs.Represents.{Represents}
 use Rattle.lpm_update.specs.Tied.{IsTied, HasGroupRoom}
 use Rattle.lpm_update.proofs.Promises.{best_hop}
-use Rattle.lpm_trace.specs.Tables.{Setup, Status, Unused, Linked as LinkedTo, Retired, IsFree, IsSettled}
+use Rattle.lpm_trace.specs.States.{InitialState, Status, Unused, Linked as LinkedTo, Retired, IsFree, IsSettled}
 use Rattle.lpm_writer.specs.Resting.{IsResting}
 
 no_group : (g : ℕ) → Miss ≡ Group g → ⊥
@@ -42,7 +42,7 @@ module _ (f s : ℕ) (t : Words) (R : RuleMap) (xs : List GroupState) (config : 
     (groups : ℕ → Status) (represents : Represents f s R t) (tied : IsTied f xs (group_at t.firsts))
     (known : (g : ℕ) (state : GroupState) → slice_get xs g ≡ Some state → groups g ≡ status_at_first state)
     (never : (g x : ℕ) → groups g ≡ Retired x → ⊥) where
-  abbrev pub beginning : Setup
+  abbrev pub beginning : InitialState
   beginning = record {
     first = f;
     second = s;
@@ -73,7 +73,7 @@ module _ (f s : ℕ) (t : Words) (R : RuleMap) (xs : List GroupState) (config : 
     shape = shape;
     widths = (refl, refl);
     workers = refl;
-    between = record { idle = record { duty = refl; awaited = refl }; even = refl; clear = λ a low. refl; once = tt };
+    between = record { idle = record { next_step = refl; awaited = refl }; even = refl; clear = λ a low. refl; once = tt };
     version = refl;
     represents = represents;
     tied = tied;

@@ -5,42 +5,42 @@ use Rattle.std.proofs.lemmas.Bool.Decides.{eqb_tells}
 use Rattle.lpm_limits.specs.declared.busy.Busy.{Busy}
 use Rattle.lpm_trace.specs.declared.step.WriterStep.{WriterStep}
 use Rattle.lpm_trace.specs.declared.step.WriterStep.TheVariants.{LoadCounter}
-use Rattle.lpm_trace.specs.Tables.{Setup, Tables, tables, lets_pass}
-use Rattle.lpm_trace.specs.Course.{Course, Nothing, Check, check_passed, check_stopped}
-use Rattle.lpm_trace.specs.Writer.{course}
+use Rattle.lpm_trace.specs.States.{InitialState, TableState, state_after, lets_pass}
+use Rattle.lpm_trace.specs.Progress.{WriterProgress, Nothing, Check, progress_after_pass, progress_after_stop}
+use Rattle.lpm_trace.specs.Writer.{progress_after}
 use Rattle.lpm_writer.specs.Traced.{Traced, Goes, Loads, Asks, Checks}
-use Rattle.lpm_writer.specs.Kept.{IsQuiet, IsIdle}
+use Rattle.lpm_writer.specs.Matching.{SameTables, HasNothingDue}
 use Rattle.lpm_writer.proofs.Loading.{go_on, stops_by}
 
-pub quiet_same : (w : Tables) → IsQuiet w w
-quiet_same w = record { words = refl; sequence = refl; history = refl; turned = refl; groups = refl }
+pub quiet_same : (w : TableState) → SameTables w w
+quiet_same w = record { words = refl; sequence = refl; history = refl; answer_changed = refl; groups = refl }
 
-pub quiet_on : (w y z : Tables) → IsQuiet w y → IsQuiet y z → IsQuiet w z
+pub quiet_on : (w y z : TableState) → SameTables w y → SameTables y z → SameTables w z
 quiet_on w y z a b = record {
   words = b.words ∙ a.words;
   sequence = b.sequence ∙ a.sequence;
   history = b.history ∙ a.history;
-  turned = b.turned ∙ a.turned;
+  answer_changed = b.answer_changed ∙ a.answer_changed;
   groups = b.groups ∙ a.groups;
 }
 
 -- the course is the same but for what is due and for a synchronize that is over
-pub record IsLike (x z : Course) : Type 0 where
+pub record IsLike (x z : WriterProgress) : Type 0 where
   pub reclaims : z.reclaims ≡ x.reclaims
   pub taken : z.taken ≡ x.taken
 
 -- what the loads of some workers' counters leave
-record Loaded (c : Setup) (steps later : List WriterStep) : Type 0 where
-  quiet : IsQuiet (tables c steps) (tables c later)
-  token : (tables c later).token ≡ (tables c steps).token
-  passed : (tables c later).passed ≡ (tables c steps).passed
-  awaited : (course c later).awaited ≡ (course c steps).awaited
-  like : IsLike (course c steps) (course c later)
+record Loaded (c : InitialState) (steps later : List WriterStep) : Type 0 where
+  quiet : SameTables (state_after c steps) (state_after c later)
+  token : (state_after c later).token ≡ (state_after c steps).token
+  passed : (state_after c later).passed ≡ (state_after c steps).passed
+  awaited : (progress_after c later).awaited ≡ (progress_after c steps).awaited
+  like : IsLike (progress_after c steps) (progress_after c later)
 
-module _ {M : Type 0} (does : M → WriterStep → M → Type 0) (c : Setup) where
+module _ {M : Type 0} (does : M → WriterStep → M → Type 0) (c : InitialState) where
   loaded : (n : ℕ) (x : Traced M) (t : ℕ) (z : Traced M) → n < c.workers → Loads does n x t z → Loaded c x.1 z.1
   loaded zero x t z few h = subst (λ (y : Traced M). Loaded c x.1 y.1) (sym h) (record {
-    quiet = quiet_same (tables c x.1);
+    quiet = quiet_same (state_after c x.1);
     token = refl;
     passed = refl;
     awaited = refl;
@@ -50,19 +50,19 @@ module _ {M : Type 0} (does : M → WriterStep → M → Type 0) (c : Setup) whe
       let y = h.0 in
       let v = h.1 in
       let before = loaded n x t y (omega (arith, few)) h.2 in
-      let on = go_on c (course c y.1) t n v h.3 few in
+      let on = go_on c (progress_after c y.1) t n v h.3 few in
       subst (Loaded c x.1) (sym h.4.1) (record {
         quiet = record {
           words = before.quiet.words;
           sequence = before.quiet.sequence;
           history = before.quiet.history;
-          turned = before.quiet.turned;
+          answer_changed = before.quiet.answer_changed;
           groups = before.quiet.groups;
         };
         token = before.token;
-        passed = not_last n v few (lets_pass t v) (tables c y.1).passed t ∙ before.passed;
-        awaited = ap (λ (k : Course). k.awaited) on ∙ before.awaited;
-        like = record { reclaims = ap (λ (k : Course). k.reclaims) on ∙ before.like.reclaims; taken = ap (λ (k : Course). k.taken) on ∙ before.like.taken };
+        passed = not_last n v few (lets_pass t v) (state_after c y.1).passed t ∙ before.passed;
+        awaited = ap (λ (k : WriterProgress). k.awaited) on ∙ before.awaited;
+        like = record { reclaims = ap (λ (k : WriterProgress). k.reclaims) on ∙ before.like.reclaims; taken = ap (λ (k : WriterProgress). k.taken) on ∙ before.like.taken };
       })
     where
       not_last : (k v : ℕ) → suc k < c.workers → (b : _) (p t : ℕ) → cond (b && eqb (suc k) c.workers) (max p t) p ≡ p
@@ -74,42 +74,42 @@ module _ {M : Type 0} (does : M → WriterStep → M → Type 0) (c : Setup) whe
 
   -- the last worker's counter was loaded and let the token pass
   last_passed : (k t v : ℕ) (y z : Traced M) → suc k ≡ c.workers → lets_pass t v ≡ true → Goes does y (LoadCounter t k v) z
-      → ((tables c z.1).passed ≡ max (tables c y.1).passed t) × (course c z.1 ≡ check_passed (course c y.1))
-  last_passed k t v y z all pass goes = subst (λ steps. ((tables c steps).passed ≡ max (tables c y.1).passed t) × (course c steps ≡ check_passed (course c y.1))) (sym goes.1) (
-    ap (λ b. cond (b && eqb (suc k) c.workers) (max (tables c y.1).passed t) (tables c y.1).passed) pass ∙ ap (λ b. cond b (max (tables c y.1).passed t) (tables c y.1).passed) (eq-eqb (suc k) c.workers all),
-    ap (λ b. cond b (cond (eqb (suc k) c.workers) (check_passed (course c y.1)) (record (course c y.1) { duty = Check t })) (check_stopped (course c y.1) (course c y.1).awaited)) pass
-        ∙ ap (λ b. cond b (check_passed (course c y.1)) (record (course c y.1) { duty = Check t })) (eq-eqb (suc k) c.workers all),
+      → ((state_after c z.1).passed ≡ max (state_after c y.1).passed t) × (progress_after c z.1 ≡ progress_after_pass (progress_after c y.1))
+  last_passed k t v y z all pass goes = subst (λ steps. ((state_after c steps).passed ≡ max (state_after c y.1).passed t) × (progress_after c steps ≡ progress_after_pass (progress_after c y.1))) (sym goes.1) (
+    ap (λ b. cond (b && eqb (suc k) c.workers) (max (state_after c y.1).passed t) (state_after c y.1).passed) pass ∙ ap (λ b. cond b (max (state_after c y.1).passed t) (state_after c y.1).passed) (eq-eqb (suc k) c.workers all),
+    ap (λ b. cond b (cond (eqb (suc k) c.workers) (progress_after_pass (progress_after c y.1)) (record (progress_after c y.1) { next_step = Check t })) (progress_after_stop (progress_after c y.1) (progress_after c y.1).awaited)) pass
+        ∙ ap (λ b. cond b (progress_after_pass (progress_after c y.1)) (record (progress_after c y.1) { next_step = Check t })) (eq-eqb (suc k) c.workers all),
   )
 
 -- what a check that has passed leaves
-pub record HasPassed (c : Setup) (steps : List WriterStep) (t : ℕ) (later : List WriterStep) : Type 0 where
-  pub quiet : IsQuiet (tables c steps) (tables c later)
-  pub token : (tables c later).token ≡ (tables c steps).token
-  pub more : (tables c steps).passed ≤ (tables c later).passed
-  pub passed : 0 < c.workers → t ≤ (tables c later).passed
-  pub idle : IsIdle c steps → IsIdle c later
+pub record HasPassed (c : InitialState) (steps : List WriterStep) (t : ℕ) (later : List WriterStep) : Type 0 where
+  pub quiet : SameTables (state_after c steps) (state_after c later)
+  pub token : (state_after c later).token ≡ (state_after c steps).token
+  pub more : (state_after c steps).passed ≤ (state_after c later).passed
+  pub passed : 0 < c.workers → t ≤ (state_after c later).passed
+  pub idle : HasNothingDue c steps → HasNothingDue c later
   -- where the workers were asked nothing is due, whatever was
-  pub over : 0 < c.workers → (tables c steps).passed < t → IsIdle c later
-  pub like : IsLike (course c steps) (course c later)
+  pub over : 0 < c.workers → (state_after c steps).passed < t → HasNothingDue c later
+  pub like : IsLike (progress_after c steps) (progress_after c later)
 
 -- what a check that a worker has stopped leaves
-pub record HasStopped (c : Setup) (steps later : List WriterStep) : Type 0 where
-  pub quiet : IsQuiet (tables c steps) (tables c later)
-  pub token : (tables c later).token ≡ (tables c steps).token
-  pub passed : (tables c later).passed ≡ (tables c steps).passed
-  pub idle : IsIdle c steps → IsIdle c later
-  pub taken : IsIdle c steps → (course c later).taken ≡ (course c steps).taken
+pub record HasStopped (c : InitialState) (steps later : List WriterStep) : Type 0 where
+  pub quiet : SameTables (state_after c steps) (state_after c later)
+  pub token : (state_after c later).token ≡ (state_after c steps).token
+  pub passed : (state_after c later).passed ≡ (state_after c steps).passed
+  pub idle : HasNothingDue c steps → HasNothingDue c later
+  pub taken : HasNothingDue c steps → (progress_after c later).taken ≡ (progress_after c steps).taken
   -- a token that is waited for is checked again, from worker 0 on
-  pub again : (t : ℕ) → (course c steps).awaited ≡ Some t → ((course c later).duty ≡ Check t) × ((course c later).awaited ≡ Some t)
-  pub next : (tables c later).scan.next ≡ 0
+  pub again : (t : ℕ) → (progress_after c steps).awaited ≡ Some t → ((progress_after c later).next_step ≡ Check t) × ((progress_after c later).awaited ≡ Some t)
+  pub next : (state_after c later).scan.next ≡ 0
 
 ok_err : (busy : Busy) (r : Result (Unit {0}) Busy) → r ≡ Err busy → r ≡ Ok tt → ⊥
 ok_err busy r p q = cc
 
-module _ {M : Type 0} (does : M → WriterStep → M → Type 0) (c : Setup) where
+module _ {M : Type 0} (does : M → WriterStep → M → Type 0) (c : InitialState) where
   all_passed : (n : ℕ) (x : Traced M) (t : ℕ) (z : Traced M) → n ≡ c.workers → Loads does n x t z → HasPassed c x.1 t z.1
   all_passed zero x t z none h = subst (λ (y : Traced M). HasPassed c x.1 t y.1) (sym h) (record {
-    quiet = quiet_same (tables c x.1);
+    quiet = quiet_same (state_after c x.1);
     token = refl;
     more = omega arith;
     passed = λ some. absurd (omega (arith, none, some));
@@ -121,21 +121,21 @@ module _ {M : Type 0} (does : M → WriterStep → M → Type 0) (c : Setup) whe
       let y = h.0 in
       let before = loaded does c n x t y (omega (arith, all)) h.2 in
       let end = last_passed does c n t h.1 y z all h.3 h.4 in
-      let quiet : IsQuiet (tables c y.1) (tables c z.1) = subst (λ steps. IsQuiet (tables c y.1) (tables c steps)) (sym h.4.1) (record { words = refl; sequence = refl; history = refl; turned = refl; groups = refl }) in
-      let idle : IsIdle c z.1 = record { duty = ap (λ (k : Course). k.duty) end.1; awaited = ap (λ (k : Course). k.awaited) end.1 } in
+      let quiet : SameTables (state_after c y.1) (state_after c z.1) = subst (λ steps. SameTables (state_after c y.1) (state_after c steps)) (sym h.4.1) (record { words = refl; sequence = refl; history = refl; answer_changed = refl; groups = refl }) in
+      let idle : HasNothingDue c z.1 = record { next_step = ap (λ (k : WriterProgress). k.next_step) end.1; awaited = ap (λ (k : WriterProgress). k.awaited) end.1 } in
       record {
-        quiet = quiet_on (tables c x.1) (tables c y.1) (tables c z.1) before.quiet quiet;
-        token = subst (λ steps. (tables c steps).token ≡ (tables c y.1).token) (sym h.4.1) refl ∙ before.token;
-        more = subst (λ p. p ≤ (tables c z.1).passed) before.passed (subst (λ p. (tables c y.1).passed ≤ p) (sym end.0) (omega arith));
+        quiet = quiet_on (state_after c x.1) (state_after c y.1) (state_after c z.1) before.quiet quiet;
+        token = subst (λ steps. (state_after c steps).token ≡ (state_after c y.1).token) (sym h.4.1) refl ∙ before.token;
+        more = subst (λ p. p ≤ (state_after c z.1).passed) before.passed (subst (λ p. (state_after c y.1).passed ≤ p) (sym end.0) (omega arith));
         passed = λ _. subst (λ p. t ≤ p) (sym end.0) (omega arith);
         idle = λ _. idle;
         over = λ _ _. idle;
-        like = record { reclaims = ap (λ (k : Course). k.reclaims) end.1 ∙ before.like.reclaims; taken = ap (λ (k : Course). k.taken) end.1 ∙ before.like.taken };
+        like = record { reclaims = ap (λ (k : WriterProgress). k.reclaims) end.1 ∙ before.like.reclaims; taken = ap (λ (k : WriterProgress). k.taken) end.1 ∙ before.like.taken };
       }
 
   pub check_passes : (x : Traced M) (t : ℕ) (z : Traced M) → Checks does c x t (Ok tt) z → HasPassed c x.1 t z.1
   check_passes x t z (inl h) = subst (λ (y : Traced M). HasPassed c x.1 t y.1) (sym h.2) (record {
-    quiet = quiet_same (tables c x.1);
+    quiet = quiet_same (state_after c x.1);
     token = refl;
     more = omega arith;
     passed = λ _. h.0;
@@ -150,21 +150,21 @@ module _ {M : Type 0} (does : M → WriterStep → M → Type 0) (c : Setup) whe
       let y = h.0 in
       let before = loaded does c busy.worker x t y h.2 h.1 in
       let stop = stops_by t busy.counter h.3 h.4 in
-      let k : Course = course c y.1 in
-      let end : course c z.1 ≡ check_stopped k k.awaited = subst (λ steps. course c steps ≡ check_stopped k k.awaited) (sym h.5.1)
-      (ap (λ b. cond b (cond (eqb (suc busy.worker) c.workers) (check_passed k) (record k { duty = Check t })) (check_stopped k k.awaited)) stop) in
-      let quiet : IsQuiet (tables c y.1) (tables c z.1) = subst (λ steps. IsQuiet (tables c y.1) (tables c steps)) (sym h.5.1) (record { words = refl; sequence = refl; history = refl; turned = refl; groups = refl }) in
-      let over : IsIdle c x.1 → course c z.1 ≡ record k { duty = Nothing; reclaims = false } = λ i. end ∙ ap (check_stopped k) (before.awaited ∙ i.awaited) in
+      let k : WriterProgress = progress_after c y.1 in
+      let end : progress_after c z.1 ≡ progress_after_stop k k.awaited = subst (λ steps. progress_after c steps ≡ progress_after_stop k k.awaited) (sym h.5.1)
+      (ap (λ b. cond b (cond (eqb (suc busy.worker) c.workers) (progress_after_pass k) (record k { next_step = Check t })) (progress_after_stop k k.awaited)) stop) in
+      let quiet : SameTables (state_after c y.1) (state_after c z.1) = subst (λ steps. SameTables (state_after c y.1) (state_after c steps)) (sym h.5.1) (record { words = refl; sequence = refl; history = refl; answer_changed = refl; groups = refl }) in
+      let over : HasNothingDue c x.1 → progress_after c z.1 ≡ record k { next_step = Nothing; reclaims = false } = λ i. end ∙ ap (progress_after_stop k) (before.awaited ∙ i.awaited) in
       record {
-        quiet = quiet_on (tables c x.1) (tables c y.1) (tables c z.1) before.quiet quiet;
-        token = subst (λ steps. (tables c steps).token ≡ (tables c y.1).token) (sym h.5.1) refl ∙ before.token;
-        passed = subst (λ steps. (tables c steps).passed ≡ (tables c y.1).passed) (sym h.5.1) (ap (λ b. cond (b && eqb (suc busy.worker) c.workers) (max (tables c y.1).passed t) (tables c y.1).passed) stop) ∙ before.passed;
-        idle = λ i. record { duty = ap (λ (k : Course). k.duty) (over i); awaited = ap (λ (k : Course). k.awaited) (over i) ∙ before.awaited ∙ i.awaited };
-        taken = λ i. ap (λ (k : Course). k.taken) (over i) ∙ before.like.taken;
+        quiet = quiet_on (state_after c x.1) (state_after c y.1) (state_after c z.1) before.quiet quiet;
+        token = subst (λ steps. (state_after c steps).token ≡ (state_after c y.1).token) (sym h.5.1) refl ∙ before.token;
+        passed = subst (λ steps. (state_after c steps).passed ≡ (state_after c y.1).passed) (sym h.5.1) (ap (λ b. cond (b && eqb (suc busy.worker) c.workers) (max (state_after c y.1).passed t) (state_after c y.1).passed) stop) ∙ before.passed;
+        idle = λ i. record { next_step = ap (λ (k : WriterProgress). k.next_step) (over i); awaited = ap (λ (k : WriterProgress). k.awaited) (over i) ∙ before.awaited ∙ i.awaited };
+        taken = λ i. ap (λ (k : WriterProgress). k.taken) (over i) ∙ before.like.taken;
         again = λ u e.
-            let on = end ∙ ap (check_stopped k) (before.awaited ∙ e) in
-            (ap (λ (k : Course). k.duty) on, ap (λ (k : Course). k.awaited) on ∙ before.awaited ∙ e);
-        next = subst (λ steps. (tables c steps).scan.next ≡ 0) (sym h.5.1) (ap (λ b. cond b (suc busy.worker) 0) stop);
+            let on = end ∙ ap (progress_after_stop k) (before.awaited ∙ e) in
+            (ap (λ (k : WriterProgress). k.next_step) on, ap (λ (k : WriterProgress). k.awaited) on ∙ before.awaited ∙ e);
+        next = subst (λ steps. (state_after c steps).scan.next ≡ 0) (sym h.5.1) (ap (λ b. cond b (suc busy.worker) 0) stop);
       }
 
   pub check_stops : (x : Traced M) (t : ℕ) (busy : Busy) (z : Traced M) → Checks does c x t (Err busy) z → HasStopped c x.1 z.1
@@ -172,22 +172,22 @@ module _ {M : Type 0} (does : M → WriterStep → M → Type 0) (c : Setup) whe
   check_stops x t busy z (inr h) = stopped x t busy z h.1
 
   -- all workers let a token pass that is above the greatest that had passed: it is the greatest then
-  pub asked_all : (x : Traced M) (t : ℕ) (z : Traced M) → (tables c x.1).passed ≤ t → Loads does c.workers x t z → 0 < c.workers → t ≡ (tables c z.1).passed
+  pub asked_all : (x : Traced M) (t : ℕ) (z : Traced M) → (state_after c x.1).passed ≤ t → Loads does c.workers x t z → 0 < c.workers → t ≡ (state_after c z.1).passed
   asked_all x t z below h some = last c.workers refl h
     where
-      last : (n : ℕ) → n ≡ c.workers → Loads does n x t z → t ≡ (tables c z.1).passed
+      last : (n : ℕ) → n ≡ c.workers → Loads does n x t z → t ≡ (state_after c z.1).passed
       last zero all h = absurd (omega (arith, all, some))
       last (suc n) all h =
           let end = last_passed does c n t h.1 h.0 z all h.3 h.4 in
           let before = loaded does c n x t h.0 (omega (arith, all)) h.2 in
-          let old : (tables c h.0.1).passed ≤ t = subst (λ p. p ≤ t) (sym before.passed) below in
+          let old : (state_after c h.0.1).passed ≤ t = subst (λ p. p ≤ t) (sym before.passed) below in
           omega (arith, end.0, old)
 
   -- what the workers answered to a token that is above the greatest that had passed
-  pub asked_ok : (x : Traced M) (t : ℕ) (r : Result (Unit {0}) Busy) (z : Traced M) → (tables c x.1).passed ≤ t → IsOk r → Asks does c.workers x t r z → 0 < c.workers → t ≡ (tables c z.1).passed
+  pub asked_ok : (x : Traced M) (t : ℕ) (r : Result (Unit {0}) Busy) (z : Traced M) → (state_after c x.1).passed ≤ t → IsOk r → Asks does c.workers x t r z → 0 < c.workers → t ≡ (state_after c z.1).passed
   asked_ok x t (Ok u) z below ok h some = asked_all x t z below h some
   asked_ok x t (Err busy) z below ok h some = absurd cc
 
-  pub asked_err : (x : Traced M) (t : ℕ) (r : Result (Unit {0}) Busy) (z : Traced M) → ¬ IsOk r → Asks does c.workers x t r z → (tables c z.1).passed ≡ (tables c x.1).passed
+  pub asked_err : (x : Traced M) (t : ℕ) (r : Result (Unit {0}) Busy) (z : Traced M) → ¬ IsOk r → Asks does c.workers x t r z → (state_after c z.1).passed ≡ (state_after c x.1).passed
   asked_err x t (Ok u) z err h = absurd (err refl)
   asked_err x t (Err busy) z err h = (stopped x t busy z h).passed

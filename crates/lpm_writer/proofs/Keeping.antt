@@ -9,23 +9,23 @@ use Rattle.lpm_groups.specs.declared.GroupState.TheVariants.{Free, Linked as Lin
 use Rattle.lpm_groups.specs.States.{IsLimboAt, IsFreeAt}
 use Rattle.lpm_groups.proofs.Writes.{slice_get-set_same, slice_get-set_other}
 use Rattle.lpm_trace.specs.declared.step.WriterStep.{WriterStep}
-use Rattle.lpm_trace.specs.Tables.{Setup, Tables, Status, Unused, Linked, Retired, tables, IsFree, IsUpdating}
-use Rattle.lpm_trace.specs.Course.{IsOldest, IsAsked}
-use Rattle.lpm_trace.specs.Writer.{course}
-use Rattle.lpm_writer.specs.Kept.{AreAfter, AreRetired, AreBelow, IsAmong, AreKept, IsLimbo, MayReclaim, MayAsk, Remembers, Keeps}
+use Rattle.lpm_trace.specs.States.{InitialState, TableState, Status, Unused, Linked, Retired, state_after, IsFree, IsUpdating}
+use Rattle.lpm_trace.specs.Progress.{IsOldest, IsAsked}
+use Rattle.lpm_trace.specs.Writer.{progress_after}
+use Rattle.lpm_writer.specs.Matching.{AreAfter, AreRetired, AreBelow, IsAmong, GroupsMatchState, IsLimbo, MayReclaim, MayAsk, Remembers, GroupsMatchSteps}
 use Rattle.lpm_writer.specs.Waiting.{tokens_of}
 use Rattle.lpm_writer.proofs.Checks.{HasPassed, HasStopped}
 
 -- ---- where more tokens have passed
 
-free_more : (c : Setup) (p q : ℕ) (s : Status) → p ≤ q → IsFree c p s → IsFree c q s
+free_more : (c : InitialState) (p q : ℕ) (s : Status) → p ≤ q → IsFree c p s → IsFree c q s
 free_more c p q Unused le h = tt
 free_more c p q (Linked block) le h = h
 free_more c p q (Retired token) le (inl h) = inl (omega (arith, h, le))
 free_more c p q (Retired token) le (inr h) = inr h
 
-pub kept_quiet : (c : Setup) (w z : Tables) (token : ℕ) (states : List GroupState) (items : List (ℕ × ℕ)) (held : Option ℕ) → z.groups ≡ w.groups → w.passed ≤ z.passed
-    → AreKept c w token states items held → AreKept c z token states items held
+pub kept_quiet : (c : InitialState) (w z : TableState) (token : ℕ) (states : List GroupState) (items : List (ℕ × ℕ)) (held : Option ℕ) → z.groups ≡ w.groups → w.passed ≤ z.passed
+    → GroupsMatchState c w token states items held → GroupsMatchState c z token states items held
 kept_quiet c w z token states items held same more k = record {
   free = λ g at. free_more c w.passed z.passed (z.groups g) more (subst (λ f. IsFree c w.passed (f g)) (sym same) (k.free g at));
   linked = λ g b at other. ap (λ f. f g) same ∙ k.linked g b at other;
@@ -38,11 +38,11 @@ kept_quiet c w z token states items held same more k = record {
   ];
 }
 
-pub keeps_stopped : (c : Setup) (steps later : List WriterStep) (states : List GroupState) (items : List (ℕ × ℕ)) (passed : ℕ) (held : Option ℕ)
-    → HasStopped c steps later → Keeps c steps states items passed held → Keeps c later states items passed held
+pub keeps_stopped : (c : InitialState) (steps later : List WriterStep) (states : List GroupState) (items : List (ℕ × ℕ)) (passed : ℕ) (held : Option ℕ)
+    → HasStopped c steps later → GroupsMatchSteps c steps states items passed held → GroupsMatchSteps c later states items passed held
 keeps_stopped c steps later states items passed held stop k = record {
-  kept = subst (λ t. AreKept c (tables c later) t states items held) (sym stop.token)
-      (kept_quiet c (tables c steps) (tables c later) (tables c steps).token states items held stop.quiet.groups (subst (λ p. (tables c steps).passed ≤ p) (sym stop.passed) (omega arith)) k.kept);
+  kept = subst (λ t. GroupsMatchState c (state_after c later) t states items held) (sym stop.token)
+      (kept_quiet c (state_after c steps) (state_after c later) (state_after c steps).token states items held stop.quiet.groups (subst (λ p. (state_after c steps).passed ≤ p) (sym stop.passed) (omega arith)) k.kept);
   remembers = λ some. k.remembers some ∙ sym stop.passed;
 }
 
@@ -55,10 +55,10 @@ after_among t g u (item ∷ items) h (inl e) = subst (λ x. t < x) (sym e.1) h.0
 after_among t g u (item ∷ items) h (inr at) = after_among t g u items h.1 at
 
 -- the oldest item's check may begin
-pub may_ask : (c : Setup) (steps : List WriterStep) (states : List GroupState) (g t : ℕ) (rest tail : List (ℕ × ℕ)) (passed : ℕ) (held : Option ℕ)
-    → Keeps c steps states ((g, t) ∷ rest ++ tail) passed held → MayReclaim c steps ((g, t) ∷ rest) → passed < t → MayAsk c steps t
+pub may_ask : (c : InitialState) (steps : List WriterStep) (states : List GroupState) (g t : ℕ) (rest tail : List (ℕ × ℕ)) (passed : ℕ) (held : Option ℕ)
+    → GroupsMatchSteps c steps states ((g, t) ∷ rest ++ tail) passed held → MayReclaim c steps ((g, t) ∷ rest) → passed < t → MayAsk c steps t
 may_ask c steps states g t rest tail passed held k may more some counter =
-    let w : Tables = tables c steps in
+    let w : TableState = state_after c steps in
     let known = k.remembers some in
     let oldest : IsOldest w t = record {
       group = g;
@@ -70,7 +70,7 @@ may_ask c steps states g t rest tail passed held k may more some counter =
       ];
       before = λ up. (may.before up).0;
     } in
-    ((refl, some, k.kept.retired.1, inl refl), subst (λ d. IsAsked w (course c steps) t 0 d) (sym may.idle.duty) (refl, oldest, may.updating))
+    ((refl, some, k.kept.retired.1, inl refl), subst (λ d. IsAsked w (progress_after c steps) t 0 d) (sym may.idle.next_step) (refl, oldest, may.updating))
   where
     first : (other u : ℕ) → IsAmong other u ((g, t) ∷ rest ++ tail) → t ≤ u
     first other u (inl e) = subst (λ x. t ≤ x) (sym e.1) (omega arith)
@@ -80,15 +80,15 @@ free_is : (b : ℕ) (x : Option GroupState) → x ≡ Some Free → x ≡ Some (
 free_is b x p q = cc
 
 -- the front has passed its check, and is freed
-pub keeps_freed : (c : Setup) (steps later : List WriterStep) (states : List GroupState) (g t : ℕ) (items : List (ℕ × ℕ)) (passed passed' : ℕ) (held : Option ℕ)
-    → Keeps c steps states ((g, t) ∷ items) passed held → HasPassed c steps t later → Remembers c later passed' → IsLimboAt states g
-    → Keeps c later (slice_set states g Free) items passed' held
+pub keeps_freed : (c : InitialState) (steps later : List WriterStep) (states : List GroupState) (g t : ℕ) (items : List (ℕ × ℕ)) (passed passed' : ℕ) (held : Option ℕ)
+    → GroupsMatchSteps c steps states ((g, t) ∷ items) passed held → HasPassed c steps t later → Remembers c later passed' → IsLimboAt states g
+    → GroupsMatchSteps c later (slice_set states g Free) items passed' held
 keeps_freed c steps later states g t items passed passed' held k pass known limbo =
-    let z : Tables = tables c later in
-    let old = kept_quiet c (tables c steps) z (tables c steps).token states ((g, t) ∷ items) held pass.quiet.groups pass.more k.kept in
+    let z : TableState = state_after c later in
+    let old = kept_quiet c (state_after c steps) z (state_after c steps).token states ((g, t) ∷ items) held pass.quiet.groups pass.more k.kept in
     let inside = slice_get_within states g Limbo limbo in
     record {
-      kept = subst (λ u. AreKept c z u (slice_set states g Free) items held) (sym pass.token) (record {
+      kept = subst (λ u. GroupsMatchState c z u (slice_set states g Free) items held) (sym pass.token) (record {
         free = λ h at. elim (cases_eq h g) [
           | inl e ↦ subst (λ x. IsFree c z.passed (z.groups x)) (sym e) (subst (IsFree c z.passed) (sym old.retired.0) (let p = pass.passed in is_free p))
           | inr ne ↦ old.free h (sym (slice_get-set_other states g h Free ne) ∙ at)
@@ -109,26 +109,26 @@ keeps_freed c steps later states g t items passed passed' held k pass known limb
       remembers = known;
     }
   where
-    is_free : (0 < c.workers → t ≤ (tables c later).passed) → (t ≤ (tables c later).passed) ⊎ (c.workers ≡ 0)
+    is_free : (0 < c.workers → t ≤ (state_after c later).passed) → (t ≤ (state_after c later).passed) ⊎ (c.workers ≡ 0)
     is_free p = elim (cases_eq c.workers 0) [
       | inl none ↦ inr none
       | inr some ↦ inl (p (omega (arith, some)))
     ]
 
 -- the next check of the reclaim may begin
-pub reclaims_on : (c : Setup) (steps later : List WriterStep) (g t : ℕ) (rest : List (ℕ × ℕ)) → MayReclaim c steps ((g, t) ∷ rest) → HasPassed c steps t later → MayReclaim c later rest
+pub reclaims_on : (c : InitialState) (steps later : List WriterStep) (g t : ℕ) (rest : List (ℕ × ℕ)) → MayReclaim c steps ((g, t) ∷ rest) → HasPassed c steps t later → MayReclaim c later rest
 reclaims_on c steps later g t rest may pass = record {
   idle = pass.idle may.idle;
   updating = λ up. pass.like.reclaims ∙ may.updating (was up);
   before = λ up. subst (λ u. AreBelow u rest) (sym pass.token) (may.before (was up)).1;
 }
   where
-    was : IsUpdating (tables c later) → IsUpdating (tables c steps)
+    was : IsUpdating (state_after c later) → IsUpdating (state_after c steps)
     was up = subst (λ q. q % 2 ≡ 1) pass.quiet.sequence up
 
 -- a free group is taken for a block
-pub keeps_taken : (c : Setup) (steps : List WriterStep) (states : List GroupState) (items : List (ℕ × ℕ)) (passed g b : ℕ)
-    → Keeps c steps states items passed None → IsFreeAt states g → Keeps c steps (slice_set states g (LinkedTo b)) items passed (Some g)
+pub keeps_taken : (c : InitialState) (steps : List WriterStep) (states : List GroupState) (items : List (ℕ × ℕ)) (passed g b : ℕ)
+    → GroupsMatchSteps c steps states items passed None → IsFreeAt states g → GroupsMatchSteps c steps (slice_set states g (LinkedTo b)) items passed (Some g)
 keeps_taken c steps states items passed g b k free =
     let here = slice_get-set_same states g (LinkedTo b) (slice_get_within states g Free free) in
     record {
@@ -141,7 +141,7 @@ keeps_taken c steps states items passed g b k free =
           | inl e ↦ absurd (apart (ap Some (sym e)))
           | inr ne ↦ k.kept.linked h other (sym (slice_get-set_other states g h (LinkedTo b) ne) ∙ at) (λ q. absurd cc)
         ];
-        taken = λ h q. subst (λ x. IsFree c (tables c steps).passed ((tables c steps).groups x)) (same_taken g h q) (k.kept.free g free);
+        taken = λ h q. subst (λ x. IsFree c (state_after c steps).passed ((state_after c steps).groups x)) (same_taken g h q) (k.kept.free g free);
         rising = k.kept.rising;
         retired = k.kept.retired;
         all = k.kept.all;
@@ -155,7 +155,7 @@ keeps_taken c steps states items passed g b k free =
 -- ---- the groups that wait
 
 -- they are those of the queue
-pub is_limbo : (c : Setup) (w : Tables) (states : List GroupState) (items : List (ℕ × ℕ)) → AreKept c w w.token states items None
+pub is_limbo : (c : InitialState) (w : TableState) (states : List GroupState) (items : List (ℕ × ℕ)) → GroupsMatchState c w w.token states items None
     → IsLimbo c w (tokens_of items)
 is_limbo c w states items kept = record {
   items = items;

@@ -18,20 +18,20 @@ use Rattle.lpm_update.specs.Update.{group_held}
 use Rattle.lpm_update.proofs.Promises.{run_goes_on, run_ends, tied_same, tied_gone}
 use Rattle.lpm_trace.specs.declared.step.WriterStep.{WriterStep}
 use Rattle.lpm_trace.specs.declared.step.WriterStep.TheVariants.{StoreFirst, StoreSecond}
-use Rattle.lpm_trace.specs.Tables.{Setup, tables}
+use Rattle.lpm_trace.specs.States.{InitialState, state_after}
 use Rattle.lpm_trace.specs.Writer.{MayStep}
 use Rattle.lpm_writer.specs.MemorySteps.{MayBeNext}
-use Rattle.lpm_writer.specs.declared.books.Books.{Books}
+use Rattle.lpm_writer.specs.declared.pool.GroupPool.{GroupPool}
 use Rattle.lpm_writer.specs.Waiting.{IsQueued, tokens_of}
 use Rattle.lpm_writer.specs.Traced.{Retires}
-use Rattle.lpm_writer.specs.Kept.{HasUnlinked, HasRetired, Keeps}
+use Rattle.lpm_writer.specs.Matching.{HasUnlinked, HasRetired, GroupsMatchSteps}
 use Rattle.lpm_writer.specs.Making.{MayMake, HasMade}
 use Rattle.lpm_writer.proofs.Limbo.{some_linked, few_linked}
 use Rattle.lpm_writer.proofs.UpdateRuns.{Runs, run_begins, begun_come, allows_first, allows_second, allows_unlink, run_first, run_second, unlinked_on, run_unlinked, run_ended}
 
 -- the change u of the first memory has come to v
-pub record IsUnderWayAt {M : Type 0} (words : M → Words) (newest : M → ℕ) (did : M → Setup → List WriterStep → Type 0) (does : M → WriterStep → M → Type 0) (f s : ℕ) (config : Config)
-    (first : M) (old : Books) (u : Plan) (m : M) (new : Books) (v : Plan) : Type 0 where
+pub record IsUnderWayAt {M : Type 0} (words : M → Words) (newest : M → ℕ) (did : M → InitialState → List WriterStep → Type 0) (does : M → WriterStep → M → Type 0) (f s : ℕ) (config : Config)
+    (first : M) (old : GroupPool) (u : Plan) (m : M) (new : GroupPool) (v : Plan) : Type 0 where
   pub come : HasCome f s u (words first) v (words m)
   pub tied : IsTied f new.groups (group_held v (words m).firsts)
   pub queued : IsQueued new.groups new.queue
@@ -41,17 +41,17 @@ pub record IsUnderWayAt {M : Type 0} (words : M → Words) (newest : M → ℕ) 
   pub token : newest m + linked_count new.groups ≡ newest first + linked_count old.groups
   pub runs : Runs did does f s config first old u m new v
 
-module _ {M : Type 0} (words : M → Words) (newest count : M → ℕ) (did : M → Setup → List WriterStep → Type 0) (does : M → WriterStep → M → Type 0)
-    (follows : (m : M) (s : WriterStep) (z : M) (c : Setup) (steps : List WriterStep) → does m s z → did m c steps → MayStep c steps s → did z c (s ∷ steps))
-    (shows : (m : M) (c : Setup) (steps : List WriterStep) → did m c steps → (words m ≡ (tables c steps).words) × (newest m ≡ (tables c steps).token) × (count m ≡ c.workers))
+module _ {M : Type 0} (words : M → Words) (newest count : M → ℕ) (did : M → InitialState → List WriterStep → Type 0) (does : M → WriterStep → M → Type 0)
+    (follows : (m : M) (s : WriterStep) (z : M) (c : InitialState) (steps : List WriterStep) → does m s z → did m c steps → MayStep c steps s → did z c (s ∷ steps))
+    (shows : (m : M) (c : InitialState) (steps : List WriterStep) → did m c steps → (words m ≡ (state_after c steps).words) × (newest m ≡ (state_after c steps).token) × (count m ≡ c.workers))
     (P Q : M → ℕ → ℕ → M → Type 0) (may_set_first may_set_second : M → ℕ → ℕ → Type 0)
     (may_first : (m : M) (i w : ℕ) → MayBeNext did m (StoreFirst i w) → may_set_first m i w)
     (may_second : (m : M) (i w : ℕ) → MayBeNext did m (StoreSecond i w) → may_set_second m i w)
     (first_stored : (m : M) (i w : ℕ) (z : M) → P m i w z → does m (StoreFirst i w) z)
     (second_stored : (m : M) (i w : ℕ) (z : M) → Q m i w z → does m (StoreSecond i w) z)
-    (f s : ℕ) (config : Config) (first : M) (old : Books) (u : Plan)
-    (begun : (c : Setup) × (steps : List WriterStep) × did first c steps × MayMake f s c steps u old) where
-  abbrev At : M → Books → Plan → Type 0
+    (f s : ℕ) (config : Config) (first : M) (old : GroupPool) (u : Plan)
+    (begun : (c : InitialState) × (steps : List WriterStep) × did first c steps × MayMake f s c steps u old) where
+  abbrev At : M → GroupPool → Plan → Type 0
   At m new v = IsUnderWayAt words newest did does f s config first old u m new v
 
   pub at_first : IsTied f old.groups (group_held u (words first).firsts) → IsQueued old.groups old.queue → At first old u
@@ -68,7 +68,7 @@ module _ {M : Type 0} (words : M → Words) (newest count : M → ℕ) (did : M 
         runs = runs;
       }
 
-  module _ (m : M) (new : Books) (v : Plan) (k : At m new v) where
+  module _ (m : M) (new : GroupPool) (v : Plan) (k : At m new v) where
     allows : AllowsNext f s v (words m) (may_set_first m) (may_set_second m)
     allows =
         let now = k.runs begun.0 begun.1 begun.2 begun.3 in
@@ -94,7 +94,7 @@ module _ {M : Type 0} (words : M → Words) (newest count : M → ℕ) (did : M 
         }
 
     -- the same token after a step that bumps none
-    same_token : (z : M) (later : List WriterStep) → did z begun.0 later → (tables begun.0 later).token ≡ (tables begun.0 (k.runs begun.0 begun.1 begun.2 begun.3).0).token → newest z ≡ newest m
+    same_token : (z : M) (later : List WriterStep) → did z begun.0 later → (state_after begun.0 later).token ≡ (state_after begun.0 (k.runs begun.0 begun.1 begun.2 begun.3).0).token → newest z ≡ newest m
     same_token z later now same =
         let was = k.runs begun.0 begun.1 begun.2 begun.3 in
         (shows z begun.0 later now).1 ∙ same ∙ sym (shows m begun.0 was.0 was.1).1
@@ -156,12 +156,12 @@ module _ {M : Type 0} (words : M → Words) (newest count : M → ℕ) (did : M 
           let token : newest z ≡ newest m = same_token z _ after_store.0 refl in
           omega (arith, some_linked new.groups n i gone, k.token, token, few_linked old.groups, tokens)
 
-      unlinked_steps : (c : Setup) × (steps : List WriterStep) × (held : Option ℕ) × did z c steps × HasUnlinked c steps new n held
+      unlinked_steps : (c : InitialState) × (steps : List WriterStep) × (held : Option ℕ) × did z c steps × HasUnlinked c steps new n held
       unlinked_steps = (begun.0, StoreFirst i (slice_index (words z).firsts i) ∷ (k.runs begun.0 begun.1 begun.2 begun.3).0, None, after_store.0, after_store.1)
 
-      on_retired : (y : M) (last : Books)
-          → ((c : Setup) (steps : List WriterStep) (held : Option ℕ) → did z c steps → HasUnlinked c steps new n held
-          → (later : List WriterStep) × did y c later × HasRetired c steps later × Keeps c later last.groups last.queue.items last.passed held
+      on_retired : (y : M) (last : GroupPool)
+          → ((c : InitialState) (steps : List WriterStep) (held : Option ℕ) → did z c steps → HasUnlinked c steps new n held
+          → (later : List WriterStep) × did y c later × HasRetired c steps later × GroupsMatchSteps c later last.groups last.queue.items last.passed held
           × Retires does c config (z, steps) (tokens_of new.queue.items) (y, later) (tokens_of last.queue.items))
           → IsQueued last.groups last.queue → length last.groups ≡ length new.groups → linked_count last.groups + 1 ≡ linked_count new.groups → SameLinksBut n new.groups last.groups
           → ((b : ℕ) → IsLinkedTo last.groups n b → ⊥) → At y last v'
@@ -189,7 +189,7 @@ module _ {M : Type 0} (words : M → Words) (newest count : M → ℕ) (did : M 
 
     -- nothing is left to store
     module _ (v' : Plan) (st : Steps f s v (words m) Done v' (words m)) where
-      all_made : (c : Setup) (steps : List WriterStep) → did first c steps → MayMake f s c steps u old → (later : List WriterStep) × did m c later × HasMade does c config first steps old m later new
+      all_made : (c : InitialState) (steps : List WriterStep) → did first c steps → MayMake f s c steps u old → (later : List WriterStep) × did m c later × HasMade does c config first steps old m later new
       all_made = run_ended words newest count did does follows shows f s config first old u m new v k.runs m v' st k.tied
 
       all_represents : (R R' : RuleMap) → Represents f s R (words first) → TurnsInto f s u R R' → Represents f s R' (words m) × IsTied f new.groups (group_at (words m).firsts)
@@ -199,18 +199,18 @@ module _ {M : Type 0} (words : M → Words) (newest count : M → ℕ) (did : M 
           (end.0, tied_same f new.groups _ (group_at (words m).firsts) end.1 (tied_same f new.groups _ (group_held v' (words m).firsts) st.held k.tied))
 
   -- stores one after another, none of which unlinks a group
-  on_leads : (new : Books) (m : M) (v : Plan) → At m new v → (dids : List Did) (v' : Plan) (z : M) → Leads words P Q f s v m dids v' z → At z new v'
+  on_leads : (new : GroupPool) (m : M) (v : Plan) → At m new v → (dids : List Did) (v' : Plan) (z : M) → Leads words P Q f s v m dids v' z → At z new v'
   on_leads new m v k [] v' z h = subst (λ p. At z new p) (sym h.0) (subst (λ y. At y new v) (sym h.1) k)
   on_leads new m v k (First i ∷ before) v' z h = on_first h.1 new h.0 (on_leads new m v k before h.0 h.1 h.2) i v' z h.4 h.5
   on_leads new m v k (Second j ∷ before) v' z h = on_second h.1 new h.0 (on_leads new m v k before h.0 h.1 h.2) j v' z h.4 h.5
   on_leads new m v k (Unlinked b g ∷ before) v' z h = absurd h.3
   on_leads new m v k (Done ∷ before) v' z h = absurd h.3
 
-  pub allows_along : (m : M) (new : Books) (v : Plan) → At m new v → AllowsAlong words P Q may_set_first may_set_second f s v m
+  pub allows_along : (m : M) (new : GroupPool) (v : Plan) → At m new v → AllowsAlong words P Q may_set_first may_set_second f s v m
   allows_along m new v k dids v' z h = allows z new v' (on_leads new m v k dids v' z h)
 
   -- a run of stores up to the one that unlinks a group
-  module _ (m : M) (new : Books) (v : Plan) (k : At m new v) (n : ℕ) (v' : Plan) (z : M) (h : RunsOn words P Q f s v m (Some n) v' z) where
+  module _ (m : M) (new : GroupPool) (v : Plan) (k : At m new v) (n : ℕ) (v' : Plan) (z : M) (h : RunsOn words P Q f s v m (Some n) v' z) where
     now : At h.2 new h.1
     now = on_leads new m v k h.0 h.1 h.2 h.4
 
@@ -220,23 +220,23 @@ module _ {M : Type 0} (words : M → Words) (newest count : M → ℕ) (did : M 
     pub run_token : newest first + length old.groups ≤ 2 ^ 62 → newest z < 2 ^ 62
     run_token = unlinked_token h.2 new h.1 now h.3 n v' z h.5 h.6
 
-    pub run_steps : (c : Setup) × (steps : List WriterStep) × (held : Option ℕ) × did z c steps × HasUnlinked c steps new n held
+    pub run_steps : (c : InitialState) × (steps : List WriterStep) × (held : Option ℕ) × did z c steps × HasUnlinked c steps new n held
     run_steps = unlinked_steps h.2 new h.1 now h.3 n v' z h.5 h.6
 
-    pub run_retired : (y : M) (last : Books)
-        → ((c : Setup) (steps : List WriterStep) (held : Option ℕ) → did z c steps → HasUnlinked c steps new n held
-        → (later : List WriterStep) × did y c later × HasRetired c steps later × Keeps c later last.groups last.queue.items last.passed held
+    pub run_retired : (y : M) (last : GroupPool)
+        → ((c : InitialState) (steps : List WriterStep) (held : Option ℕ) → did z c steps → HasUnlinked c steps new n held
+        → (later : List WriterStep) × did y c later × HasRetired c steps later × GroupsMatchSteps c later last.groups last.queue.items last.passed held
         × Retires does c config (z, steps) (tokens_of new.queue.items) (y, later) (tokens_of last.queue.items))
         → IsQueued last.groups last.queue → length last.groups ≡ length new.groups → linked_count last.groups + 1 ≡ linked_count new.groups → SameLinksBut n new.groups last.groups
         → ((b : ℕ) → IsLinkedTo last.groups n b → ⊥) → At y last v'
     run_retired = on_retired h.2 new h.1 now h.3 n v' z h.5 h.6
 
   -- a run of all stores that are left
-  module _ (m : M) (new : Books) (v : Plan) (k : At m new v) (v' : Plan) (z : M) (h : RunsOn words P Q f s v m None v' z) where
+  module _ (m : M) (new : GroupPool) (v : Plan) (k : At m new v) (v' : Plan) (z : M) (h : RunsOn words P Q f s v m None v' z) where
     end : At z new h.1
     end = on_leads new m v k h.0 h.1 z h.2
 
-    pub run_made : (c : Setup) (steps : List WriterStep) → did first c steps → MayMake f s c steps u old → (later : List WriterStep) × did z c later × HasMade does c config first steps old z later new
+    pub run_made : (c : InitialState) (steps : List WriterStep) → did first c steps → MayMake f s c steps u old → (later : List WriterStep) × did z c later × HasMade does c config first steps old z later new
     run_made = all_made z new h.1 end v' h.3
 
     pub run_represents : (R R' : RuleMap) → Represents f s R (words first) → TurnsInto f s u R R' → Represents f s R' (words z) × IsTied f new.groups (group_at (words z).firsts)

@@ -17,7 +17,7 @@ use Rattle.lpm_update.proofs.Groups.{last_none, here_is, there_is}
 use Rattle.lpm_update.proofs.Places.{word_entry}
 use Rattle.lpm_update.proofs.Unlinks.{some_group, unlink_word}
 use Rattle.lpm_update.proofs.Onward.{by_kind}
-use Rattle.lpm_writer.specs.Making.{filling, unless_linked, IsTakenBy}
+use Rattle.lpm_writer.specs.Making.{group_to_fill, unless_linked, IsTakenBy}
 
 none_last : (e : Entry) → group_in e ≡ None → IsLast e
 none_last Miss h = tt
@@ -31,8 +31,8 @@ none_some o g p q = cc
 -- which a lookup ends, or by that of the group that the change fills
 pub record IsFirstKind (v : Plan) (T : Words) (i x : ℕ) : Type 0 where
   pub old : IsLast (entry_in (slice_index T.firsts i))
-  pub new : (IsLast (entry_in x) × (filling v T.firsts ≡ None))
-      ⊎ ((g : ℕ) × (entry_in x ≡ Group g) × (filling v T.firsts ≡ Some g) × (group_held v T.firsts i ≡ Some g)
+  pub new : (IsLast (entry_in x) × (group_to_fill v T.firsts ≡ None))
+      ⊎ ((g : ℕ) × (entry_in x ≡ Group g) × (group_to_fill v T.firsts ≡ Some g) × (group_held v T.firsts i ≡ Some g)
       × ((taken : Option ℕ) → IsTakenBy v taken → taken ≡ Some g)
       × ((b : ℕ) → group_held v T.firsts b ≡ Some g → b ≡ i))
 
@@ -86,11 +86,11 @@ module _ (f s : ℕ) where
   pub record IsSecondKind (v : Plan) (T : Words) (j : ℕ) : Type 0 where
     pub group : ℕ
     pub place : j / 2 ^ s ≡ group
-    pub kind : ((b : ℕ) × (b < 2 ^ f) × (group_held v T.firsts b ≡ Some group) × (filling v T.firsts ≡ None))
-        ⊎ ((filling v T.firsts ≡ Some group) × ((taken : Option ℕ) → IsTakenBy v taken → (taken ≡ None) ⊎ (taken ≡ Some group)))
+    pub kind : ((b : ℕ) × (b < 2 ^ f) × (group_held v T.firsts b ≡ Some group) × (group_to_fill v T.firsts ≡ None))
+        ⊎ ((group_to_fill v T.firsts ≡ Some group) × ((taken : Option ℕ) → IsTakenBy v taken → (taken ≡ None) ⊎ (taken ≡ Some group)))
 
   range_kind : (v : Plan) (u : RewriteRange) (T : Words) (g y j x : ℕ) → u.end ≤ 2 ^ (f + s) → IsSecondStore s u.at u.end u.rewrite T g y j x
-      → ((b : ℕ) → group_held v T.firsts b ≡ group_at T.firsts b) → filling v T.firsts ≡ None → IsSecondKind v T j
+      → ((b : ℕ) → group_held v T.firsts b ≡ group_at T.firsts b) → group_to_fill v T.firsts ≡ None → IsSecondKind v T j
   range_kind v u T g y j x fits n held none = record {
     group = g;
     place = ap (λ p. p / 2 ^ s) n.place ∙ div-mul-add g (2 ^ s) (y % 2 ^ s) (mod_below y (2 ^ s) (pow_pos s));
@@ -116,7 +116,7 @@ module _ (f s : ℕ) where
 
   -- the store that unlinks a group replaces its word by one at which a lookup ends
   pub unlink_kind : (v : Plan) (T : Words) (b g x : ℕ) → IsTable f s T → IsUnderWay f s v T → IsNextUnlink f s v T b g x
-      → IsLinkTo T.firsts b g × IsLast (entry_in x) × (filling v T.firsts ≡ None) × (group_held v T.firsts b ≡ Some g)
+      → IsLinkTo T.firsts b g × IsLast (entry_in x) × (group_to_fill v T.firsts ≡ None) × (group_held v T.firsts b ≡ Some g)
   unlink_kind (Range u) T b g x t k n = absurd n
   unlink_kind (Link u) T b g x t k n = absurd n
   unlink_kind (Unlink u) T b g x t k n =
@@ -130,7 +130,7 @@ same_link : (u v : LinkGroup) → IsOnward (Link u) (Link v) → (v.block ≡ u.
 same_link u v o = (ap (λ (z : LinkGroup). z.block) o.0, ap (λ (z : LinkGroup). z.group) o.0)
 
 -- where the words of the first table stay
-pub filling_same : (u v : Plan) (F : List ℕ) → IsOnward u v → filling v F ≡ filling u F
-filling_same u v F = by_kind (λ x y. filling y F ≡ filling x F) (λ x y o. refl)
+pub filling_same : (u v : Plan) (F : List ℕ) → IsOnward u v → group_to_fill v F ≡ group_to_fill u F
+filling_same u v F = by_kind (λ x y. group_to_fill y F ≡ group_to_fill x F) (λ x y o. refl)
     (λ x y o. let e = same_link x y o in ap (λ b. unless_linked (group_at F b) y.group) e.0 ∙ ap (unless_linked (group_at F x.block)) e.1)
     (λ x y o. refl) (λ x y o. refl) u v

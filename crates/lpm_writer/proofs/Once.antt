@@ -18,11 +18,11 @@ use Rattle.lpm_update.specs.Step.{Steps, HasPassed}
 use Rattle.lpm_update.specs.Update.{IsUnderWay}
 use Rattle.lpm_update.proofs.Promises.{passed_stays, not_twice}
 use Rattle.lpm_trace.specs.declared.step.WriterStep.{WriterStep}
-use Rattle.lpm_trace.specs.declared.step.WriterStep.TheVariants.{StoreFirst, StoreSecond, Opens, Closes, BumpToken, LoadCounter}
-use Rattle.lpm_trace.specs.Tables.{Setup}
+use Rattle.lpm_trace.specs.declared.step.WriterStep.TheVariants.{StoreFirst, StoreSecond, BeginUpdate, EndUpdate, BumpToken, LoadCounter}
+use Rattle.lpm_trace.specs.States.{InitialState}
 use Rattle.defer_queue.specs.Reclaims as queue
 use Rattle.fib_model.specs.Reclaiming.{Reclaims, MakesRoom}
-use Rattle.lpm_writer.specs.declared.books.Books.{Books}
+use Rattle.lpm_writer.specs.declared.pool.GroupPool.{GroupPool}
 use Rattle.lpm_writer.specs.Traced.{Traced, Loads, Asks, Checks, Retires, by_writer}
 use Rattle.lpm_writer.specs.Taking.{Takes, Finds}
 use Rattle.lpm_writer.specs.Stores.{StoreSameWord, since_opened, StoresOnce}
@@ -39,16 +39,16 @@ as_did other = Done
 passed_did : (s : ℕ) (v : Plan) (F : List ℕ) (e : WriterStep) → HasPassedStore s v F e → HasPassed s (as_did e) v F
 passed_did s v F (StoreFirst i x) h = h
 passed_did s v F (StoreSecond j x) h = h
-passed_did s v F (Opens change) h = tt
-passed_did s v F Closes h = tt
+passed_did s v F (BeginUpdate change) h = tt
+passed_did s v F EndUpdate h = tt
 passed_did s v F BumpToken h = tt
 passed_did s v F (LoadCounter t w k) h = tt
 
 did_passed : (s : ℕ) (v : Plan) (F : List ℕ) (e : WriterStep) → HasPassed s (as_did e) v F → HasPassedStore s v F e
 did_passed s v F (StoreFirst i x) h = h
 did_passed s v F (StoreSecond j x) h = h
-did_passed s v F (Opens change) h = tt
-did_passed s v F Closes h = tt
+did_passed s v F (BeginUpdate change) h = tt
+did_passed s v F EndUpdate h = tt
 did_passed s v F BumpToken h = tt
 did_passed s v F (LoadCounter t w k) h = tt
 
@@ -59,24 +59,24 @@ IsStoreOf step did = (e : WriterStep) → StoreSameWord step e → IsSameWord (a
 pub store_first : (i x : ℕ) → IsStoreOf (StoreFirst i x) (First i)
 store_first i x (StoreFirst k y) h = sym h
 store_first i x (StoreSecond k y) h = absurd h
-store_first i x (Opens change) h = absurd h
-store_first i x Closes h = absurd h
+store_first i x (BeginUpdate change) h = absurd h
+store_first i x EndUpdate h = absurd h
 store_first i x BumpToken h = absurd h
 store_first i x (LoadCounter t w k) h = absurd h
 
 pub store_unlink : (i x g : ℕ) → IsStoreOf (StoreFirst i x) (Unlinked i g)
 store_unlink i x g (StoreFirst k y) h = sym h
 store_unlink i x g (StoreSecond k y) h = absurd h
-store_unlink i x g (Opens change) h = absurd h
-store_unlink i x g Closes h = absurd h
+store_unlink i x g (BeginUpdate change) h = absurd h
+store_unlink i x g EndUpdate h = absurd h
 store_unlink i x g BumpToken h = absurd h
 store_unlink i x g (LoadCounter t w k) h = absurd h
 
 pub store_second : (j x : ℕ) → IsStoreOf (StoreSecond j x) (Second j)
 store_second j x (StoreFirst k y) h = absurd h
 store_second j x (StoreSecond k y) h = sym h
-store_second j x (Opens change) h = absurd h
-store_second j x Closes h = absurd h
+store_second j x (BeginUpdate change) h = absurd h
+store_second j x EndUpdate h = absurd h
 store_second j x BumpToken h = absurd h
 store_second j x (LoadCounter t w k) h = absurd h
 
@@ -119,7 +119,7 @@ nothing_loaded steps t w k = record {
   passed = λ s v F h. All-cons (HasPassedStore s v F) (LoadCounter t w k) (since_opened steps) tt h;
 }
 
-module _ {M : Type 0} (does : M → WriterStep → M → Type 0) (c : Setup) where
+module _ {M : Type 0} (does : M → WriterStep → M → Type 0) (c : InitialState) where
   stays : (x z : Traced M) → z ≡ x → StoresNothing x.1 z.1
   stays x z e = subst (λ (y : Traced M). StoresNothing x.1 y.1) (sym e) (nothing_same x.1)
 
@@ -162,7 +162,7 @@ module _ {M : Type 0} (does : M → WriterStep → M → Type 0) (c : Setup) whe
   after_retire config x limbo z left h =
       nothing_on x.1 h.0.1 z.1 (subst (StoresNothing x.1) (sym h.2.1) (nothing_bumped x.1)) (room config h.0 limbo h.1 z h.3)
 
-  takes : (x : Traced M) (old : Books) (r : Result ℕ (Option Busy)) (z : Traced M) (new : Books) → Takes (by_writer does c) x old r z new → StoresNothing x.1 z.1
+  takes : (x : Traced M) (old : GroupPool) (r : Result ℕ (Option Busy)) (z : Traced M) (new : GroupPool) → Takes (by_writer does c) x old r z new → StoresNothing x.1 z.1
   takes x old (Ok g) z new h = elim (cases_eq (free_count old.groups) 0) [
     | inl none ↦ let k = h.1 none in after_check x k.0 (Ok tt) z k.2
     | inr some ↦ stays x z (h.0 (omega (arith, some))).2
@@ -170,7 +170,7 @@ module _ {M : Type 0} (does : M → WriterStep → M → Type 0) (c : Setup) whe
   takes x old (Err None) z new h = stays x z h.1.1
   takes x old (Err (Some busy)) z new h = after_check x h.1.0 (Err busy) z h.1.2
 
-  pub after_find : (f s : ℕ) (firsts : List ℕ) (p : Network) (x : Traced M) (old : Books) (r : Result (Option ℕ) (Option Busy)) (z : Traced M) (new : Books)
+  pub after_find : (f s : ℕ) (firsts : List ℕ) (p : Network) (x : Traced M) (old : GroupPool) (r : Result (Option ℕ) (Option Busy)) (z : Traced M) (new : GroupPool)
       → Finds (by_writer does c) f s firsts p x old r z new → StoresNothing x.1 z.1
   after_find f s firsts p x old (Ok None) z new h = stays x z h.1
   after_find f s firsts p x old (Ok (Some g)) z new h = takes x old (Ok g) z new h.2

@@ -15,9 +15,9 @@ use Rattle.lpm_limits.specs.declared.config.Config.{Config}
 use Rattle.lpm_rules.specs.RuleMap.{network_cmp}
 use Rattle.lpm_update.specs.Laws.{blank_words}
 use Rattle.lpm_update.proofs.Promises.{blank, best_hop}
-use Rattle.lpm_trace.specs.Tables.{Unused, Retired, IsSettled}
-use Rattle.lpm_writer.specs.declared.books.Books.{Books}
-use Rattle.lpm_writer.specs.Opening.{opening_setup}
+use Rattle.lpm_trace.specs.States.{Unused, Retired, IsSettled}
+use Rattle.lpm_writer.specs.declared.pool.GroupPool.{GroupPool}
+use Rattle.lpm_writer.specs.Blank.{blank_state}
 use Rattle.lpm_writer.specs.Resting.{IsResting}
 
 miss_at : (n i : ℕ) → entry_in (slice_index (replicate n (word_of Miss)) i) ≡ Miss
@@ -38,7 +38,7 @@ none_some g e = cc
 not_retired : (t : ℕ) → Unused ≡ Retired t → ⊥
 not_retired t e = cc
 
-pub settled : (f s : ℕ) (config : Config) → IsConfig config → IsSettled (opening_setup f s config)
+pub settled : (f s : ℕ) (config : Config) → IsConfig config → IsSettled (blank_state f s config)
 settled f s config limits =
     let represents = (blank f s (config.groups * 2 ^ s) config.groups).0 in
     record {
@@ -50,7 +50,7 @@ settled f s config limits =
     }
 
 -- the books of a new table
-abbrev pub new_books : Config → Books
+abbrev pub new_books : Config → GroupPool
 new_books c = record {
   groups = replicate c.groups Free;
   queue = record { items = []; capacity = c.groups };
@@ -58,7 +58,7 @@ new_books c = record {
 }
 
 pub opened_rests : (f s : ℕ) (config : Config) → IsShape f s → IsConfig config
-    → IsResting f s (opening_setup f s config) [] config (record { rules = empty {R = network_cmp}; max = config.rules }) (new_books config) 0
+    → IsResting f s (blank_state f s config) [] config (record { rules = empty {R = network_cmp}; max = config.rules }) (new_books config) 0
 opened_rests f s config shape limits =
     let new = blank f s (config.groups * 2 ^ s) config.groups in
     let groups = length-replicate config.groups Free in
@@ -66,7 +66,7 @@ opened_rests f s config shape limits =
       shape = shape;
       widths = (refl, refl);
       workers = refl;
-      between = record { idle = record { duty = refl; awaited = refl }; even = refl; clear = λ a low. refl; once = tt };
+      between = record { idle = record { next_step = refl; awaited = refl }; even = refl; clear = λ a low. refl; once = tt };
       version = refl;
       represents = new.0;
       tied = new.1;

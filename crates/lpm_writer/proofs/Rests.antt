@@ -19,21 +19,21 @@ use Rattle.fib_model.specs.Reclaiming.{Unlinks}
 use Rattle.fib_model.specs.Outcomes.{groups_in_use, Shrinks}
 use Rattle.lpm_trace.specs.declared.step.RuleChange.{RuleChange}
 use Rattle.lpm_trace.specs.declared.step.WriterStep.{WriterStep}
-use Rattle.lpm_trace.specs.Tables.{Setup, Tables, tables, answer, IsAnswer, IsChange, done, done_at, rules_by}
-use Rattle.lpm_writer.specs.declared.books.Books.{Books}
+use Rattle.lpm_trace.specs.States.{InitialState, TableState, state_after, answer, IsAnswer, IsChange, updates_done_in, done_at, rules_by}
+use Rattle.lpm_writer.specs.declared.pool.GroupPool.{GroupPool}
 use Rattle.lpm_writer.specs.Waiting.{IsFreed, IsQueued, tokens_of}
 use Rattle.lpm_writer.specs.Traced.{by_writer}
-use Rattle.lpm_writer.specs.Kept.{IsIdle, IsQuiet, IsStill, Keeps}
+use Rattle.lpm_writer.specs.Matching.{HasNothingDue, SameTables, OnlyChecks, GroupsMatchSteps}
 use Rattle.lpm_writer.specs.Stores.{StoresOnce}
 use Rattle.lpm_writer.specs.Taking.{MayTake}
-use Rattle.lpm_writer.specs.Making.{filling, unless_linked, HasWidths, IsTakenBy, answer_after}
+use Rattle.lpm_writer.specs.Making.{group_to_fill, unless_linked, HasWidths, IsTakenBy, answer_after}
 use Rattle.lpm_writer.specs.Changing.{IsBetween, MayChange, HasChanged}
 use Rattle.lpm_writer.specs.Resting.{IsResting, state_of}
 use Rattle.lpm_writer.proofs.Once.{StoresNothing}
 use Rattle.lpm_writer.proofs.UpdateRuns.{fit}
 
 -- a change that fills no group
-pub none_fills : (u : Plan) (block : ℕ) (F : List ℕ) → FillsFor u None block → (filling u F ≡ None) × IsTakenBy u None
+pub none_fills : (u : Plan) (block : ℕ) (F : List ℕ) → FillsFor u None block → (group_to_fill u F ≡ None) × IsTakenBy u None
 none_fills (Range u) block F h = (refl, refl)
 none_fills (Link u) block F h = absurd (none_is u.group h.0)
   where
@@ -43,7 +43,7 @@ none_fills (Unlink u) block F h = (refl, refl)
 none_fills (Flush u) block F h = (refl, refl)
 
 -- a change that fills a group for a block that has none
-pub some_fills : (u : Plan) (g block : ℕ) (F : List ℕ) → FillsFor u (Some g) block → group_at F block ≡ None → (filling u F ≡ Some g) × IsTakenBy u None
+pub some_fills : (u : Plan) (g block : ℕ) (F : List ℕ) → FillsFor u (Some g) block → group_at F block ≡ None → (group_to_fill u F ≡ Some g) × IsTakenBy u None
 some_fills (Range u) g block F h none = absurd (some_is g h)
   where
     some_is : (g : ℕ) → Some g ≡ None → ⊥
@@ -63,12 +63,12 @@ some_fills (Flush u) g block F h none = absurd (some_is g h)
 pub few_begun : (begun ended : ℕ) → begun ≡ ended → begun < 2 ^ 61 → ended < 2 ^ 61
 few_begun begun ended e low = subst (λ n. n < 2 ^ 61) e low
 
-pub may_change : (f s : ℕ) (c : Setup) (steps : List WriterStep) (rules R : RuleMap) (u : Plan) (change : RuleChange) (held : Option ℕ) (now : Books) → HasWidths f s c → IsBetween c steps → done (tables c steps) < 2 ^ 61
-    → (tables c steps).history (done (tables c steps)) ≡ rules → Represents f s rules (tables c steps).words → IsBegun f s u (tables c steps).words → TurnsInto f s u rules R → rules_by rules change ≡ R
-    → IsChange (f + s) change → (filling u (tables c steps).words.firsts ≡ held) × IsTakenBy u None
-    → Keeps c steps now.groups now.queue.items now.passed held → MayChange f s c steps u change now
+pub may_change : (f s : ℕ) (c : InitialState) (steps : List WriterStep) (rules R : RuleMap) (u : Plan) (change : RuleChange) (held : Option ℕ) (now : GroupPool) → HasWidths f s c → IsBetween c steps → updates_done_in (state_after c steps) < 2 ^ 61
+    → (state_after c steps).history (updates_done_in (state_after c steps)) ≡ rules → Represents f s rules (state_after c steps).words → IsBegun f s u (state_after c steps).words → TurnsInto f s u rules R → rules_by rules change ≡ R
+    → IsChange (f + s) change → (group_to_fill u (state_after c steps).words.firsts ≡ held) × IsTakenBy u None
+    → GroupsMatchSteps c steps now.groups now.queue.items now.passed held → MayChange f s c steps u change now
 may_change f s c steps rules R u change held now widths between few version represented may turns makes sound fills keeps =
-    let w : Tables = tables c steps in
+    let w : TableState = state_after c steps in
     let represents = fit (λ a b. Represents a b rules w.words) f s c widths represented in
     let turns' = fit (λ a b. TurnsInto a b u rules R) f s c widths turns in
     record {
@@ -82,16 +82,16 @@ may_change f s c steps rules R u change held now widths between few version repr
       old = λ a low. subst (λ r. IsAnswer c r a (answer c w.words a)) (sym version) (best_hop (c.first + c.second) rules a (entry_at c.second w.words a) (represents.best a low));
       new = λ a low. subst (λ r. IsAnswer c r a (answer_after c u w.words a)) (sym (ap (λ r. rules_by r change) version ∙ makes))
           (best_hop (c.first + c.second) R a (entry_after (c.first + c.second) u (entry_at c.second w.words) a) (turns'.best (entry_at c.second w.words) represents.best a low));
-      keeps = subst (λ o. Keeps c steps now.groups now.queue.items now.passed o) (sym fills.0) keeps;
+      keeps = subst (λ o. GroupsMatchSteps c steps now.groups now.queue.items now.passed o) (sym fills.0) keeps;
     }
 
-module _ (f s : ℕ) (c : Setup) (steps : List WriterStep) (config : Config) (rules : RuleList) (books : Books) (begun : ℕ) (rest : IsResting f s c steps config rules books begun) where
-  module _ {M : Type 0} (does : M → WriterStep → M → Type 0) (m z : M) (mid later : List WriterStep) (change : RuleChange) (now new : Books) (rules' : RuleList)
+module _ (f s : ℕ) (c : InitialState) (steps : List WriterStep) (config : Config) (rules : RuleList) (pool : GroupPool) (begun : ℕ) (rest : IsResting f s c steps config rules pool begun) where
+  module _ {M : Type 0} (does : M → WriterStep → M → Type 0) (m z : M) (mid later : List WriterStep) (change : RuleChange) (now new : GroupPool) (rules' : RuleList)
       (made : HasChanged does c config change m mid now z later new) where
     -- what is kept after the update
-    pub rests_after : (tables c mid).history (done (tables c mid)) ≡ rules.rules → begun ≡ done (tables c mid) → Represents f s rules'.rules (tables c later).words → IsTied f new.groups (group_at (tables c later).words.firsts)
-        → length (tables c later).words.seconds ≡ length (tables c steps).words.seconds
-        → IsQueued new.groups new.queue → length new.groups ≡ length books.groups → rules_by rules.rules change ≡ rules'.rules → rules'.max ≡ rules.max → begun < 2 ^ 61
+    pub rests_after : (state_after c mid).history (updates_done_in (state_after c mid)) ≡ rules.rules → begun ≡ updates_done_in (state_after c mid) → Represents f s rules'.rules (state_after c later).words → IsTied f new.groups (group_at (state_after c later).words.firsts)
+        → length (state_after c later).words.seconds ≡ length (state_after c steps).words.seconds
+        → IsQueued new.groups new.queue → length new.groups ≡ length pool.groups → rules_by rules.rules change ≡ rules'.rules → rules'.max ≡ rules.max → begun < 2 ^ 61
         → IsResting f s c later config rules' new (begun + 1)
     rests_after version number represents tied sizes queued states makes max few = record {
       shape = rest.shape;
@@ -115,8 +115,8 @@ module _ (f s : ℕ) (c : Setup) (steps : List WriterStep) (config : Config) (ru
     }
 
   -- as many groups are linked as there are deep blocks
-  pub linked_resting : linked_count books.groups ≡ groups_in_use f s rules.rules
-  linked_resting = linked_deep f s rules.rules (tables c steps).words books.groups rest.represents rest.tied
+  pub linked_resting : linked_count pool.groups ≡ groups_in_use f s rules.rules
+  linked_resting = linked_deep f s rules.rules (state_after c steps).words pool.groups rest.represents rest.tied
 
 -- ---- tokens and versions
 
@@ -137,70 +137,70 @@ has_tokens t config S b off k = (
 
 -- ---- after an update
 
-module _ {M : Type 0} (words : M → Words) (newest count : M → ℕ) (did : M → Setup → List WriterStep → Type 0) (does : M → WriterStep → M → Type 0)
-    (shows : (m : M) (c : Setup) (steps : List WriterStep) → did m c steps → (words m ≡ (tables c steps).words) × (newest m ≡ (tables c steps).token) × (count m ≡ c.workers))
-    (f s : ℕ) (c : Setup) (steps : List WriterStep) (config : Config) (rules : RuleList) (books : Books) (begun : ℕ) (rest : IsResting f s c steps config rules books begun)
+module _ {M : Type 0} (words : M → Words) (newest count : M → ℕ) (did : M → InitialState → List WriterStep → Type 0) (does : M → WriterStep → M → Type 0)
+    (shows : (m : M) (c : InitialState) (steps : List WriterStep) → did m c steps → (words m ≡ (state_after c steps).words) × (newest m ≡ (state_after c steps).token) × (count m ≡ c.workers))
+    (f s : ℕ) (c : InitialState) (steps : List WriterStep) (config : Config) (rules : RuleList) (pool : GroupPool) (begun : ℕ) (rest : IsResting f s c steps config rules pool begun)
     (m : M) (did_m : did m c steps) where
   -- each block has the group that is held for it
-  pub tied_held : (u : Plan) → ((firsts : List ℕ) (i : ℕ) → group_held u firsts i ≡ group_at firsts i) → IsTied f books.groups (group_held u (words m).firsts)
-  tied_held u held = subst (λ (W : Words). IsTied f books.groups (group_held u W.firsts)) (sym (shows m c steps did_m).0)
-      (tied_same f books.groups (group_at (tables c steps).words.firsts) (group_held u (tables c steps).words.firsts) (λ i low. held (tables c steps).words.firsts i) rest.tied)
+  pub tied_held : (u : Plan) → ((firsts : List ℕ) (i : ℕ) → group_held u firsts i ≡ group_at firsts i) → IsTied f pool.groups (group_held u (words m).firsts)
+  tied_held u held = subst (λ (W : Words). IsTied f pool.groups (group_held u W.firsts)) (sym (shows m c steps did_m).0)
+      (tied_same f pool.groups (group_at (state_after c steps).words.firsts) (group_held u (state_after c steps).words.firsts) (λ i low. held (state_after c steps).words.firsts i) rest.tied)
 
-  pub rests_then : (z : M) (later : List WriterStep) (change : RuleChange) (now new : Books) (rules' : RuleList) (u : Plan) → did z c later → HasChanged does c config change m steps now z later new
+  pub rests_then : (z : M) (later : List WriterStep) (change : RuleChange) (now new : GroupPool) (rules' : RuleList) (u : Plan) → did z c later → HasChanged does c config change m steps now z later new
       → ((R R' : RuleMap) → Represents f s R (words m) → TurnsInto f s u R R' → Represents f s R' (words z) × IsTied f new.groups (group_at (words z).firsts))
-      → length (words z).seconds ≡ length (words m).seconds → IsQueued new.groups new.queue → length new.groups ≡ length books.groups
+      → length (words z).seconds ≡ length (words m).seconds → IsQueued new.groups new.queue → length new.groups ≡ length pool.groups
       → TurnsInto f s u rules.rules rules'.rules → rules_by rules.rules change ≡ rules'.rules → rules'.max ≡ rules.max → begun < 2 ^ 61 → IsResting f s c later config rules' new (begun + 1)
   rests_then z later change now new rules' u did_z made represents sizes queued states turns makes max few =
       let old = (shows m c steps did_m).0 in
       let now_seen = (shows z c later did_z).0 in
       let end = represents rules.rules rules'.rules (subst (Represents f s rules.rules) (sym old) rest.represents) turns in
-      rests_after f s c steps config rules books begun rest does m z steps later change now new rules' made rest.version rest.versions
+      rests_after f s c steps config rules pool begun rest does m z steps later change now new rules' made rest.version rest.versions
       (subst (Represents f s rules'.rules) now_seen end.0)
       (subst (λ (W : Words). IsTied f new.groups (group_at W.firsts)) now_seen end.1)
       (ap (λ (W : Words). length W.seconds) (sym now_seen) ∙ sizes ∙ ap (λ (W : Words). length W.seconds) old)
       queued states makes max few
 
   -- a change to fewer rules that was made
-  pub shrinks_then : (z : M) (later : List WriterStep) (change : RuleChange) (new : Books) (rules' : RuleList) (R : RuleMap) → HasChanged does c config change m steps books z later new
-      → IsResting f s c later config rules' new (begun + 1) → rules'.rules ≡ R → HasTokens (by_writer does c) config (state_of rules.rules (m, steps) books begun)
-      → Shrinks (by_writer does c) f s config (state_of rules.rules (m, steps) books begun) R (state_of rules'.rules (z, later) new (begun + 1))
+  pub shrinks_then : (z : M) (later : List WriterStep) (change : RuleChange) (new : GroupPool) (rules' : RuleList) (R : RuleMap) → HasChanged does c config change m steps pool z later new
+      → IsResting f s c later config rules' new (begun + 1) → rules'.rules ≡ R → HasTokens (by_writer does c) config (state_of rules.rules (m, steps) pool begun)
+      → Shrinks (by_writer does c) f s config (state_of rules.rules (m, steps) pool begun) R (state_of rules'.rules (z, later) new (begun + 1))
   shrinks_then z later change new rules' R made after gone tokens =
       let k = made.changes in
-      let same : linked_count books.groups - linked_count new.groups ≡ groups_in_use f s rules.rules - groups_in_use f s R =
-      omega (arith, linked_resting f s c steps config rules books begun rest, linked_resting f s c later config rules' new (begun + 1) after, ap (groups_in_use f s) gone) in
-      (tokens, (k.opened, k.last, k.begins, subst (λ n. Unlinks (by_writer does c) config n k.opened (tokens_of books.queue.items) k.last (tokens_of new.queue.items)) same k.unlinks, k.ends), (gone, refl))
+      let same : linked_count pool.groups - linked_count new.groups ≡ groups_in_use f s rules.rules - groups_in_use f s R =
+      omega (arith, linked_resting f s c steps config rules pool begun rest, linked_resting f s c later config rules' new (begun + 1) after, ap (groups_in_use f s) gone) in
+      (tokens, (k.opened, k.last, k.begins, subst (λ n. Unlinks (by_writer does c) config n k.opened (tokens_of pool.queue.items) k.last (tokens_of new.queue.items)) same k.unlinks, k.ends), (gone, refl))
 
 -- ---- after checks alone
 
 pub even_not : (n : ℕ) → n % 2 ≡ 0 → n % 2 ≡ 1 → ⊥
 even_not n p q = omega (arith, p, q)
 
-pub between_take : (c : Setup) (steps : List WriterStep) (books : Books) → IsBetween c steps → Keeps c steps books.groups books.queue.items books.passed None → MayTake c steps books
-between_take c steps books between keeps = record { keeps = keeps; idle = between.idle; rests = even_not (tables c steps).sequence between.even }
+pub between_take : (c : InitialState) (steps : List WriterStep) (pool : GroupPool) → IsBetween c steps → GroupsMatchSteps c steps pool.groups pool.queue.items pool.passed None → MayTake c steps pool
+between_take c steps pool between keeps = record { keeps = keeps; idle = between.idle; rests = even_not (state_after c steps).sequence between.even }
 
-between_quiet : (c : Setup) (steps later : List WriterStep) → IsBetween c steps → IsQuiet (tables c steps) (tables c later) → IsIdle c later → StoresOnce later → IsBetween c later
+between_quiet : (c : InitialState) (steps later : List WriterStep) → IsBetween c steps → SameTables (state_after c steps) (state_after c later) → HasNothingDue c later → StoresOnce later → IsBetween c later
 between_quiet c steps later between quiet idle once = record {
   idle = idle;
   even = ap (λ n. n % 2) quiet.sequence ∙ between.even;
-  clear = λ a low. ap (λ t. t a) quiet.turned ∙ between.clear a low;
+  clear = λ a low. ap (λ t. t a) quiet.answer_changed ∙ between.clear a low;
   once = once;
 }
 
-pub between_still : (c : Setup) (steps later : List WriterStep) → IsBetween c steps → IsStill c steps later → StoresNothing steps later → IsBetween c later
+pub between_still : (c : InitialState) (steps later : List WriterStep) → IsBetween c steps → OnlyChecks c steps later → StoresNothing steps later → IsBetween c later
 between_still c steps later between still nothing = between_quiet c steps later between still.quiet still.idle (nothing.once between.once)
 
-version_quiet : (c : Setup) (steps later : List WriterStep) (R : RuleMap) → (tables c steps).history (done (tables c steps)) ≡ R → IsQuiet (tables c steps) (tables c later) → (tables c later).history (done (tables c later)) ≡ R
+version_quiet : (c : InitialState) (steps later : List WriterStep) (R : RuleMap) → (state_after c steps).history (updates_done_in (state_after c steps)) ≡ R → SameTables (state_after c steps) (state_after c later) → (state_after c later).history (updates_done_in (state_after c later)) ≡ R
 version_quiet c steps later R version quiet =
-    ap (λ n. (tables c later).history (done_at n)) quiet.sequence ∙ ap (λ h. h (done (tables c steps))) quiet.history ∙ version
+    ap (λ n. (state_after c later).history (done_at n)) quiet.sequence ∙ ap (λ h. h (updates_done_in (state_after c steps))) quiet.history ∙ version
 
-pub version_still : (c : Setup) (steps later : List WriterStep) (R : RuleMap) → (tables c steps).history (done (tables c steps)) ≡ R → IsStill c steps later → (tables c later).history (done (tables c later)) ≡ R
+pub version_still : (c : InitialState) (steps later : List WriterStep) (R : RuleMap) → (state_after c steps).history (updates_done_in (state_after c steps)) ≡ R → OnlyChecks c steps later → (state_after c later).history (updates_done_in (state_after c later)) ≡ R
 version_still c steps later R version still = version_quiet c steps later R version still.quiet
 
 -- the token may be another
-pub rests_quiet : (f s : ℕ) (c : Setup) (steps later : List WriterStep) (config : Config) (rules : RuleList) (books new : Books) (begun : ℕ) → IsResting f s c steps config rules books begun
-    → IsQuiet (tables c steps) (tables c later) → IsIdle c later → StoresOnce later → Keeps c later new.groups new.queue.items new.passed None → IsTied f new.groups (group_at (tables c steps).words.firsts)
-    → IsQueued new.groups new.queue → length new.groups ≡ length books.groups → IsResting f s c later config rules new begun
-rests_quiet f s c steps later config rules books new begun rest q idle once keeps tied queued states =
+pub rests_quiet : (f s : ℕ) (c : InitialState) (steps later : List WriterStep) (config : Config) (rules : RuleList) (pool new : GroupPool) (begun : ℕ) → IsResting f s c steps config rules pool begun
+    → SameTables (state_after c steps) (state_after c later) → HasNothingDue c later → StoresOnce later → GroupsMatchSteps c later new.groups new.queue.items new.passed None → IsTied f new.groups (group_at (state_after c steps).words.firsts)
+    → IsQueued new.groups new.queue → length new.groups ≡ length pool.groups → IsResting f s c later config rules new begun
+rests_quiet f s c steps later config rules pool new begun rest q idle once keeps tied queued states =
     record {
       shape = rest.shape;
       widths = rest.widths;
@@ -222,11 +222,11 @@ rests_quiet f s c steps later config rules books new begun rest q idle once keep
       updates = rest.updates;
     }
 
-pub rests_still : (f s : ℕ) (c : Setup) (steps later : List WriterStep) (config : Config) (rules : RuleList) (books new : Books) (begun : ℕ) → IsResting f s c steps config rules books begun
-    → IsStill c steps later → StoresNothing steps later → Keeps c later new.groups new.queue.items new.passed None → IsTied f new.groups (group_at (tables c steps).words.firsts) → IsQueued new.groups new.queue
-    → length new.groups ≡ length books.groups → IsResting f s c later config rules new begun
-rests_still f s c steps later config rules books new begun rest still nothing keeps tied queued states =
-    rests_quiet f s c steps later config rules books new begun rest still.quiet still.idle (nothing.once rest.between.once) keeps tied queued states
+pub rests_still : (f s : ℕ) (c : InitialState) (steps later : List WriterStep) (config : Config) (rules : RuleList) (pool new : GroupPool) (begun : ℕ) → IsResting f s c steps config rules pool begun
+    → OnlyChecks c steps later → StoresNothing steps later → GroupsMatchSteps c later new.groups new.queue.items new.passed None → IsTied f new.groups (group_at (state_after c steps).words.firsts) → IsQueued new.groups new.queue
+    → length new.groups ≡ length pool.groups → IsResting f s c later config rules new begun
+rests_still f s c steps later config rules pool new begun rest still nothing keeps tied queued states =
+    rests_quiet f s c steps later config rules pool new begun rest still.quiet still.idle (nothing.once rest.between.once) keeps tied queued states
 
 -- groups that no block has were freed
 pub tied_freed : (f n : ℕ) (xs ys : List GroupState) (items : List (ℕ × ℕ)) (L : ℕ → Option ℕ) → IsFreed xs items n ys → IsTied f xs L → IsTied f ys L

@@ -4,8 +4,8 @@ use Rattle.std.proofs.Common.{arith, ◌≡◌, ℕ, zero, suc, inl, inr, refl, 
 use Rattle.std.proofs.lemmas.List.Elements.{All-nil, All-cons}
 use Rattle.lpm_limits.specs.declared.busy.Busy.{Busy}
 use Rattle.lpm_trace.specs.declared.step.WriterStep.{WriterStep}
-use Rattle.lpm_trace.specs.declared.step.WriterStep.TheVariants.{StoreFirst, StoreSecond, Opens, Closes, BumpToken, LoadCounter}
-use Rattle.lpm_trace.specs.Tables.{Setup, Tables, tables}
+use Rattle.lpm_trace.specs.declared.step.WriterStep.TheVariants.{StoreFirst, StoreSecond, BeginUpdate, EndUpdate, BumpToken, LoadCounter}
+use Rattle.lpm_trace.specs.States.{InitialState, TableState, state_after}
 use Rattle.lpm_trace.specs.Counts.{token_after}
 use Rattle.lpm_trace.proofs.Counts.{token_is, passed_is}
 use Rattle.lpm_bits.specs.Network.{Network}
@@ -19,7 +19,7 @@ use Rattle.fib_model.proofs.Carrying.{Carries, AreNamed, AreFollowed, Follows, b
 use Rattle.fib_model.proofs.Carried.{changes_carry_over}
 use Rattle.lpm_writer.specs.Steps as by_steps
 use Rattle.lpm_writer.specs.Steps.{IsStore, AreStopped, by_steps_from}
-use Rattle.lpm_writer.specs.Traced.{Traced, Goes, Loads, Asks, Checks, UnlinksNone, Stores, StoresOverLink, StoresAndCloses, by_writer, tables_of}
+use Rattle.lpm_writer.specs.Traced.{Traced, Goes, Loads, Asks, Checks, UnlinksNone, Stores, StoresOverLink, StoresAndCloses, by_writer, state_of_traced}
 use Rattle.lpm_writer.proofs.Checks.{HasPassed, HasStopped, check_passes, check_stops}
 
 named_same : (ms : List ℕ) → AreNamed (λ m n. n ≡ m) ms ms
@@ -41,15 +41,15 @@ more_stores : (x y z : List WriterStep) (s : WriterStep) → IsStore s → HasSt
 more_stores x y z s store h is =
     (s ∷ h.0, All-cons IsStore s h.0 store h.1, is ∙ ap (λ l. s ∷ l) h.2)
 
-is_store : (w : Tables) (s : WriterStep) → UnlinksNone w s → IsStore s
+is_store : (w : TableState) (s : WriterStep) → UnlinksNone w s → IsStore s
 is_store w (StoreFirst i x) h = tt
 is_store w (StoreSecond j x) h = tt
-is_store w (Opens change) h = absurd h
-is_store w Closes h = absurd h
+is_store w (BeginUpdate change) h = absurd h
+is_store w EndUpdate h = absurd h
 is_store w BumpToken h = absurd h
 is_store w (LoadCounter token worker counter) h = absurd h
 
-module _ (M : Type 0) (does : M → WriterStep → M → Type 0) (c : Setup) where
+module _ (M : Type 0) (does : M → WriterStep → M → Type 0) (c : InitialState) where
   same : (x z : Traced M) → z ≡ x → z.1 ≡ x.1
   same x z e = ap (λ (t : Traced M). t.1) e
 
@@ -67,7 +67,7 @@ module _ (M : Type 0) (does : M → WriterStep → M → Type 0) (c : Setup) whe
 
   stores : (n : ℕ) (x z : Traced M) → Stores does c n x z → HasStored x.1 z.1
   stores zero x z h = ([], All-nil IsStore, same x z h)
-  stores (suc n) x z h = more_stores x.1 h.0.1 z.1 h.1 (is_store (tables_of c h.0) h.1 h.3) (stores n x h.0 h.2) h.4.1
+  stores (suc n) x z h = more_stores x.1 h.0.1 z.1 h.1 (is_store (state_of_traced c h.0) h.1 h.3) (stores n x h.0 h.2) h.4.1
 
   over_link : (x z : Traced M) (name : ℕ) → StoresOverLink does c x name z → (by_steps_from c.workers c.token).unlinks x.1 name z.1
   over_link x z name h =
@@ -83,7 +83,7 @@ module _ (M : Type 0) (does : M → WriterStep → M → Type 0) (c : Setup) whe
   closes : (x z : Traced M) → StoresAndCloses does c x z → (by_steps_from c.workers c.token).ends x.1 z.1
   closes x z h =
       let before = stores h.0 x h.1 h.2 in
-      (before.0, before.1, h.3.1 ∙ ap (λ l. Closes ∷ l) before.2)
+      (before.0, before.1, h.3.1 ∙ ap (λ l. EndUpdate ∷ l) before.2)
 
   -- what no step changes
   module _ (F : Type 0) (fixed : M → F) (stays : (m : M) (s : WriterStep) (z : M) → does m s z → fixed z ≡ fixed m) where
@@ -113,7 +113,7 @@ module _ (M : Type 0) (does : M → WriterStep → M → Type 0) (c : Setup) whe
     over_link_fixed x z name h = goes_fixed h.2 z BumpToken h.9 ∙ (goes_fixed h.1 h.2 (StoreFirst h.3 h.4) h.8 ∙ stores_fixed h.0 x h.1 h.6)
 
     closes_fixed : (x z : Traced M) → StoresAndCloses does c x z → fixed z.0 ≡ fixed x.0
-    closes_fixed x z h = goes_fixed h.1 z Closes h.3 ∙ stores_fixed h.0 x h.1 h.2
+    closes_fixed x z h = goes_fixed h.1 z EndUpdate h.3 ∙ stores_fixed h.0 x h.1 h.2
 
     -- these are the steps of a memory with its steps, and it is of the kind f
     module _ (kind : F) where
@@ -134,8 +134,8 @@ module _ (M : Type 0) (does : M → WriterStep → M → Type 0) (c : Setup) whe
         );
         begins = λ x z y e h. (
           z.1,
-          (h.0, h.1.1 ∙ ap (λ w. Opens h.0 ∷ w) (sym e.0)),
-          ((refl, goes_fixed x z (Opens h.0) h.1 ∙ e.1), λ a b k. k),
+          (h.0, h.1.1 ∙ ap (λ w. BeginUpdate h.0 ∷ w) (sym e.0)),
+          ((refl, goes_fixed x z (BeginUpdate h.0) h.1 ∙ e.1), λ a b k. k),
         );
         unlinks = λ x z y m e h. (
           z.1,
@@ -180,7 +180,7 @@ module _ (M : Type 0) (does : M → WriterStep → M → Type 0) (c : Setup) whe
 abbrev AnyMemory : Unit {0} → WriterStep → Unit {0} → Type 0
 AnyMemory m s z = Unit {0}
 
-module _ (c : Setup) where
+module _ (c : InitialState) where
   loads_of : (n : ℕ) (x z : List WriterStep) (token : ℕ) → by_steps.Loads n x token z → Loads AnyMemory n (tt, x) token (tt, z)
   loads_of zero x z token h = ap (λ l. (tt, l)) h
   loads_of (suc n) x z token h = ((tt, h.0), h.1, loads_of n x h.0 token h.2, h.3, (tt, h.4))
@@ -200,6 +200,6 @@ module _ (c : Setup) where
   steps_stopped x token busy z h = check_stops AnyMemory c (tt, x) token busy (tt, z) (checks_of x z token (Err busy) h)
 
   -- checks that are stopped start no token
-  pub stopped_token : (n : ℕ) (x : List WriterStep) (token : ℕ) (z : List WriterStep) → AreStopped c.workers n x token z → (tables c z).token ≡ (tables c x).token
-  stopped_token zero x token z h = ap (λ l. (tables c l).token) h
+  pub stopped_token : (n : ℕ) (x : List WriterStep) (token : ℕ) (z : List WriterStep) → AreStopped c.workers n x token z → (state_after c z).token ≡ (state_after c x).token
+  stopped_token zero x token z h = ap (λ l. (state_after c l).token) h
   stopped_token (suc n) x token z h = (steps_stopped h.0 token h.1 z h.3).token ∙ stopped_token n x token h.0 h.2

@@ -6,9 +6,9 @@ use Rattle.fib_model.specs.State.{Transitions}
 use Rattle.fib_model.specs.Reclaiming.{Reclaims}
 use Rattle.lpm_groups.specs.declared.GroupState.{GroupState}
 use Rattle.lpm_trace.specs.declared.step.WriterStep.{WriterStep}
-use Rattle.lpm_trace.specs.Tables.{Setup}
-use Rattle.lpm_writer.specs.declared.books.Books.{Books}
-use Rattle.lpm_writer.specs.Kept.{Keeps, MayReclaim}
+use Rattle.lpm_trace.specs.States.{InitialState}
+use Rattle.lpm_writer.specs.declared.pool.GroupPool.{GroupPool}
+use Rattle.lpm_writer.specs.Matching.{GroupsMatchSteps, MayReclaim}
 use Rattle.lpm_writer.specs.Taking.{MayTake}
 
 module _ {X : Type 0} (t : Transitions X) where
@@ -40,13 +40,13 @@ module _ {X : Type 0} (t : Transitions X) where
 
 -- ---- what a reclaim asks and leaves between updates
 
-pub no_tail : (c : Setup) (steps : List WriterStep) (states : List GroupState) (items : List (ℕ × ℕ)) (passed : ℕ) (held : Option ℕ)
-    → Keeps c steps states items passed held → Keeps c steps states (items ++ []) passed held
-no_tail c steps states items passed held k = subst (λ xs. Keeps c steps states xs passed held) (sym (append-nil items)) k
+pub no_tail : (c : InitialState) (steps : List WriterStep) (states : List GroupState) (items : List (ℕ × ℕ)) (passed : ℕ) (held : Option ℕ)
+    → GroupsMatchSteps c steps states items passed held → GroupsMatchSteps c steps states (items ++ []) passed held
+no_tail c steps states items passed held k = subst (λ xs. GroupsMatchSteps c steps states xs passed held) (sym (append-nil items)) k
 
-pub without_tail : (c : Setup) (steps : List WriterStep) (states : List GroupState) (items : List (ℕ × ℕ)) (passed : ℕ) (held : Option ℕ)
-    → Keeps c steps states (items ++ []) passed held → Keeps c steps states items passed held
-without_tail c steps states items passed held k = subst (λ xs. Keeps c steps states xs passed held) (append-nil items) k
+pub without_tail : (c : InitialState) (steps : List WriterStep) (states : List GroupState) (items : List (ℕ × ℕ)) (passed : ℕ) (held : Option ℕ)
+    → GroupsMatchSteps c steps states (items ++ []) passed held → GroupsMatchSteps c steps states items passed held
+without_tail c steps states items passed held k = subst (λ xs. GroupsMatchSteps c steps states xs passed held) (append-nil items) k
 
-pub may_reclaim : (c : Setup) (steps : List WriterStep) (books : Books) → MayTake c steps books → MayReclaim c steps books.queue.items
-may_reclaim c steps books may = record { idle = may.idle; updating = λ up. absurd (may.rests up); before = λ up. absurd (may.rests up) }
+pub may_reclaim : (c : InitialState) (steps : List WriterStep) (pool : GroupPool) → MayTake c steps pool → MayReclaim c steps pool.queue.items
+may_reclaim c steps pool may = record { idle = may.idle; updating = λ up. absurd (may.rests up); before = λ up. absurd (may.rests up) }

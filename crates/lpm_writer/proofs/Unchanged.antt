@@ -11,7 +11,7 @@ use Rattle.lpm_cells.specs.declared.entry.Entry.{Entry}
 use Rattle.lpm_cells.specs.declared.entry.Entry.TheVariants.{Miss, Hop, Group}
 use Rattle.lpm_cells.specs.Words.{entry_in}
 use Rattle.lpm_limits.specs.declared.config.Config.{Config}
-use Rattle.lpm_cells.specs.Table.{Words, entry_at, followed}
+use Rattle.lpm_cells.specs.Table.{Words, entry_at, last_entry}
 use Rattle.lpm_rules.specs.RuleMap.{RuleMap, RuleList, AllNetworks, network_cmp}
 use Rattle.lpm_rules.proofs.Changes.{insert_same}
 use Rattle.lpm_rules.proofs.Views.{networks_total}
@@ -21,11 +21,11 @@ use Rattle.lpm_update.proofs.Promises.{best_hop}
 use Rattle.lpm_trace.specs.declared.step.RuleChange.{RuleChange}
 use Rattle.lpm_trace.specs.declared.step.RuleChange.TheVariants.{Put, Clear}
 use Rattle.lpm_trace.specs.declared.step.WriterStep.{WriterStep}
-use Rattle.lpm_trace.specs.declared.step.WriterStep.TheVariants.{Opens, Closes}
-use Rattle.lpm_trace.specs.Tables.{Setup, Tables, tables, answer, IsAnswer, IsChange, begun, rules_by}
+use Rattle.lpm_trace.specs.declared.step.WriterStep.TheVariants.{BeginUpdate, EndUpdate}
+use Rattle.lpm_trace.specs.States.{InitialState, TableState, state_after, answer, IsAnswer, IsChange, updates_begun_in, rules_by}
 use Rattle.lpm_trace.specs.Writer.{MayStep, IsWritten}
 use Rattle.lpm_trace.proofs.Basics.{with_at-same}
-use Rattle.lpm_writer.specs.declared.books.Books.{Books}
+use Rattle.lpm_writer.specs.declared.pool.GroupPool.{GroupPool}
 use Rattle.lpm_writer.specs.Resting.{IsResting}
 use Rattle.lpm_writer.proofs.Keeping.{kept_quiet}
 use Rattle.lpm_writer.proofs.UpdateRuns.{fit}
@@ -48,7 +48,7 @@ read_small w = by_tests (w / 2 ^ 24 % 4 == 3) (w / 2 ^ 24 % 4 == 1)
     by_tests false true = omega arith
     by_tests false false = tt
 
-followed_small : (s : ℕ) (S : List ℕ) (r : ℕ) (e : Entry) → IsSmall e → IsSmall (followed s S r e)
+followed_small : (s : ℕ) (S : List ℕ) (r : ℕ) (e : Entry) → IsSmall e → IsSmall (last_entry s S r e)
 followed_small s S r Miss h = tt
 followed_small s S r (Hop hop depth) h = h
 followed_small s S r (Group group) h = read_small (slice_index S (group * 2 ^ s + r))
@@ -96,42 +96,42 @@ back n e = omega (arith, e)
 -- n updates of one change, none of which stores a word
 abbrev pub unchanged : RuleChange → ℕ → List WriterStep
 unchanged change zero = []
-unchanged change (suc n) = Closes ∷ Opens change ∷ unchanged change n
+unchanged change (suc n) = EndUpdate ∷ BeginUpdate change ∷ unchanged change n
 
 -- the words, the token and the checks stay
-pub record Stays (c : Setup) (w : Tables) : Type 0 where
+pub record Stays (c : InitialState) (w : TableState) : Type 0 where
   pub words : w.words ≡ c.words
   pub token : w.token ≡ c.token
   pub passed : w.passed ≡ 0
 
-pub unchanged_stays : (c : Setup) (change : RuleChange) (n : ℕ) → Stays c (tables c (unchanged change n))
+pub unchanged_stays : (c : InitialState) (change : RuleChange) (n : ℕ) → Stays c (state_after c (unchanged change n))
 unchanged_stays c change zero = record { words = refl; token = refl; passed = refl }
 unchanged_stays c change (suc n) =
     let before = unchanged_stays c change n in
     record { words = before.words; token = before.token; passed = before.passed }
 
-module _ (f s : ℕ) (c : Setup) (config : Config) (rules : RuleList) (books : Books) (change : RuleChange)
+module _ (f s : ℕ) (c : InitialState) (config : Config) (rules : RuleList) (pool : GroupPool) (change : RuleChange)
     (is : IsUnchanging (f + s) rules.rules change) where
-  module _ (steps : List WriterStep) (n : ℕ) (rest : IsResting f s c steps config rules books n) where
-    abbrev w : Tables
-    w = tables c steps
+  module _ (steps : List WriterStep) (n : ℕ) (rest : IsResting f s c steps config rules pool n) where
+    abbrev w : TableState
+    w = state_after c steps
 
     -- the rules that the change leads to are those that were there
-    next_rules : rules_by (w.history (begun w)) change ≡ rules.rules
+    next_rules : rules_by (w.history (updates_begun_in w)) change ≡ rules.rules
     next_rules = ap (λ k. rules_by (w.history k) change) (even_same w.sequence rest.between.even) ∙ ap (λ r. rules_by r change) rest.version ∙ is.same
 
     -- the next update may begin
-    opens_unchanged : MayStep c steps (Opens change)
-    opens_unchanged = ((rest.between.even, fit (λ a b. IsChange (a + b) change) f s c rest.widths is.sound), rest.between.idle.duty)
+    opens_unchanged : MayStep c steps (BeginUpdate change)
+    opens_unchanged = ((rest.between.even, fit (λ a b. IsChange (a + b) change) f s c rest.widths is.sound), rest.between.idle.next_step)
 
-    abbrev z : Tables
-    z = tables c (Opens change ∷ steps)
+    abbrev z : TableState
+    z = state_after c (BeginUpdate change ∷ steps)
 
-    begun_rules : z.history (begun z) ≡ rules.rules
-    begun_rules = ap z.history (even_begun w.sequence rest.between.even) ∙ with_at-same w.history (suc (begun w)) (rules_by (w.history (begun w)) change) ∙ next_rules
+    begun_rules : z.history (updates_begun_in z) ≡ rules.rules
+    begun_rules = ap z.history (even_begun w.sequence rest.between.even) ∙ with_at-same w.history (suc (updates_begun_in w)) (rules_by (w.history (updates_begun_in w)) change) ∙ next_rules
 
     -- and may end at once
-    closes_unchanged : MayStep c (Opens change ∷ steps) Closes
+    closes_unchanged : MayStep c (BeginUpdate change ∷ steps) EndUpdate
     closes_unchanged =
         let even = rest.between.even in
         let represents = fit (λ a b. Represents a b rules.rules w.words) f s c rest.widths rest.represents in (
@@ -139,11 +139,11 @@ module _ (f s : ℕ) (c : Setup) (config : Config) (rules : RuleList) (books : B
             omega (arith, even),
             λ a low. subst (λ (r : RuleMap). IsAnswer c r a (answer c w.words a)) (sym begun_rules) (best_hop (c.first + c.second) rules.rules a (entry_at c.second w.words a) (represents.best a low)),
           ),
-          (rest.between.idle.duty, tt),
+          (rest.between.idle.next_step, tt),
         )
 
     -- there the writer rests again
-    rests_unchanged : n < 2 ^ 61 → IsResting f s c (Closes ∷ Opens change ∷ steps) config rules books (suc n)
+    rests_unchanged : n < 2 ^ 61 → IsResting f s c (EndUpdate ∷ BeginUpdate change ∷ steps) config rules pool (suc n)
     rests_unchanged few =
         let even = rest.between.even in
         let number = twice w.sequence even in
@@ -152,18 +152,18 @@ module _ (f s : ℕ) (c : Setup) (config : Config) (rules : RuleList) (books : B
           widths = rest.widths;
           workers = rest.workers;
           between = record {
-            idle = record { duty = rest.between.idle.duty; awaited = rest.between.idle.awaited };
+            idle = record { next_step = rest.between.idle.next_step; awaited = rest.between.idle.awaited };
             even = back w.sequence even;
             clear = λ a low. refl;
             once = (λ n d low same. same, (λ n d low same. same, rest.between.once));
           };
-          version = ap z.history number ∙ with_at-same w.history (suc (begun w)) (rules_by (w.history (begun w)) change) ∙ next_rules;
+          version = ap z.history number ∙ with_at-same w.history (suc (updates_begun_in w)) (rules_by (w.history (updates_begun_in w)) change) ∙ next_rules;
           represents = rest.represents;
           tied = rest.tied;
           room = rest.room;
           queued = rest.queued;
           keeps = record {
-            kept = kept_quiet c w (tables c (Closes ∷ Opens change ∷ steps)) w.token books.groups books.queue.items None refl (omega arith) rest.keeps.kept;
+            kept = kept_quiet c w (state_after c (EndUpdate ∷ BeginUpdate change ∷ steps)) w.token pool.groups pool.queue.items None refl (omega arith) rest.keeps.kept;
             remembers = rest.keeps.remembers;
           };
           limits = rest.limits;
@@ -174,8 +174,8 @@ module _ (f s : ℕ) (c : Setup) (config : Config) (rules : RuleList) (books : B
         }
 
   -- where a writer rests that made no step, it may rest after n such updates
-  pub rests_after_unchanged : IsResting f s c [] config rules books 0 → (n : ℕ) → n ≤ 2 ^ 61
-      → IsWritten c (unchanged change n) × IsResting f s c (unchanged change n) config rules books n
+  pub rests_after_unchanged : IsResting f s c [] config rules pool 0 → (n : ℕ) → n ≤ 2 ^ 61
+      → IsWritten c (unchanged change n) × IsResting f s c (unchanged change n) config rules pool n
   rests_after_unchanged first zero few = (tt, first)
   rests_after_unchanged first (suc n) few =
       let before = rests_after_unchanged first n (omega (arith, few)) in

@@ -19,49 +19,49 @@ use Rattle.lpm_update.proofs.Runs.{run_goes_on}
 use Rattle.lpm_update.proofs.Next.{next_store, next_first}
 use Rattle.lpm_trace.specs.declared.step.WriterStep.{WriterStep}
 use Rattle.lpm_trace.specs.declared.step.WriterStep.TheVariants.{StoreFirst, StoreSecond}
-use Rattle.lpm_trace.specs.Tables.{Setup, Tables, tables, first_entry}
-use Rattle.lpm_trace.specs.Course.{Nothing, due_after}
-use Rattle.lpm_trace.specs.Writer.{course, MayStep}
-use Rattle.lpm_writer.specs.declared.books.Books.{Books}
+use Rattle.lpm_trace.specs.States.{InitialState, TableState, state_after, first_entry}
+use Rattle.lpm_trace.specs.Progress.{Nothing, next_after_store}
+use Rattle.lpm_trace.specs.Writer.{progress_after, MayStep}
+use Rattle.lpm_writer.specs.declared.pool.GroupPool.{GroupPool}
 use Rattle.fib_model.specs.Reclaiming.{Unlinks}
 use Rattle.lpm_writer.specs.Waiting.{AreWaiting, tokens_of}
 use Rattle.lpm_writer.specs.Traced.{Traced, UnlinksNone, Retires, by_writer}
-use Rattle.lpm_writer.specs.Kept.{HasUnlinked, HasRetired, IsIdle, Keeps}
-use Rattle.lpm_writer.specs.Making.{filling, HasWidths, IsMaking, MayMake, HasMade, HasUnlinkedSome}
+use Rattle.lpm_writer.specs.Matching.{HasUnlinked, HasRetired, HasNothingDue, GroupsMatchSteps}
+use Rattle.lpm_writer.specs.Making.{group_to_fill, HasWidths, IsMaking, MayMake, HasMade, HasUnlinkedSome}
 use Rattle.lpm_writer.proofs.Once.{store_first, store_unlink, store_second, after_retire}
 use Rattle.lpm_writer.proofs.NextStores.{filling_same, first_kind, unlink_kind}
 use Rattle.lpm_writer.proofs.Answering.{may_store_first, may_store_second, may_unlink, may_close}
 use Rattle.lpm_writer.proofs.Storing.{none_filling, over_filling, taken_first, taken_unlink, unlink_filling, taken_by_second, has_linked, keeps_first, keeps_second, has_unlinked, making_first, making_second, making_quiet}
 
-due_last : (e : Entry) → IsLast e → due_after e ≡ Nothing
+due_last : (e : Entry) → IsLast e → next_after_store e ≡ Nothing
 due_last Miss h = refl
 due_last (Hop hop depth) h = refl
 due_last (Group g) h = absurd h
 
 -- what is said by a table's widths
-pub fit : (P : ℕ → ℕ → Type 0) (f s : ℕ) (c : Setup) → HasWidths f s c → P f s → P c.first c.second
+pub fit : (P : ℕ → ℕ → Type 0) (f s : ℕ) (c : InitialState) → HasWidths f s c → P f s → P c.first c.second
 fit P f s c w p = subst (λ a. P a c.second) (sym w.0) (subst (λ b. P f b) (sym w.1) p)
 
 -- an update that has come to v by these steps
-pub record IsRunning {M : Type 0} (does : M → WriterStep → M → Type 0) (f s : ℕ) (config : Config) (c : Setup) (m : M) (steps : List WriterStep) (old : Books) (u : Plan)
-    (z : M) (later : List WriterStep) (new : Books) (v : Plan) : Type 0 where
+pub record IsRunning {M : Type 0} (does : M → WriterStep → M → Type 0) (f s : ℕ) (config : Config) (c : InitialState) (m : M) (steps : List WriterStep) (old : GroupPool) (u : Plan)
+    (z : M) (later : List WriterStep) (new : GroupPool) (v : Plan) : Type 0 where
   pub widths : HasWidths f s c
-  pub making : IsMaking c later u (tables c steps).words v
-  pub idle : IsIdle c later
-  pub keeps : Keeps c later new.groups new.queue.items new.passed (filling v (tables c later).words.firsts)
-  pub sequence : (tables c later).sequence ≡ (tables c steps).sequence
-  pub history : (tables c later).history ≡ (tables c steps).history
+  pub making : IsMaking c later u (state_after c steps).words v
+  pub idle : HasNothingDue c later
+  pub keeps : GroupsMatchSteps c later new.groups new.queue.items new.passed (group_to_fill v (state_after c later).words.firsts)
+  pub sequence : (state_after c later).sequence ≡ (state_after c steps).sequence
+  pub history : (state_after c later).history ≡ (state_after c steps).history
   pub unlinked : HasUnlinkedSome does c config (m, steps) old (z, later) new
 
 -- whatever the opening and the steps were, an update that may begin has come to v
-abbrev pub Runs : {M : Type 0} → (M → Setup → List WriterStep → Type 0) → (M → WriterStep → M → Type 0) → ℕ → ℕ → Config → M → Books → Plan → M → Books → Plan → Type 0
-Runs did does f s config first old u z new v = (c : Setup) (steps : List WriterStep) → did first c steps → MayMake f s c steps u old
+abbrev pub Runs : {M : Type 0} → (M → InitialState → List WriterStep → Type 0) → (M → WriterStep → M → Type 0) → ℕ → ℕ → Config → M → GroupPool → Plan → M → GroupPool → Plan → Type 0
+Runs did does f s config first old u z new v = (c : InitialState) (steps : List WriterStep) → did first c steps → MayMake f s c steps u old
     → (later : List WriterStep) × did z c later × IsRunning does f s config c first steps old u z later new v
 
-module _ {M : Type 0} (words : M → Words) (newest count : M → ℕ) (did : M → Setup → List WriterStep → Type 0) (does : M → WriterStep → M → Type 0)
-    (follows : (m : M) (s : WriterStep) (z : M) (c : Setup) (steps : List WriterStep) → does m s z → did m c steps → MayStep c steps s → did z c (s ∷ steps))
-    (shows : (m : M) (c : Setup) (steps : List WriterStep) → did m c steps → (words m ≡ (tables c steps).words) × (newest m ≡ (tables c steps).token) × (count m ≡ c.workers))
-    (f s : ℕ) (config : Config) (first : M) (old : Books) (u : Plan) where
+module _ {M : Type 0} (words : M → Words) (newest count : M → ℕ) (did : M → InitialState → List WriterStep → Type 0) (does : M → WriterStep → M → Type 0)
+    (follows : (m : M) (s : WriterStep) (z : M) (c : InitialState) (steps : List WriterStep) → does m s z → did m c steps → MayStep c steps s → did z c (s ∷ steps))
+    (shows : (m : M) (c : InitialState) (steps : List WriterStep) → did m c steps → (words m ≡ (state_after c steps).words) × (newest m ≡ (state_after c steps).token) × (count m ≡ c.workers))
+    (f s : ℕ) (config : Config) (first : M) (old : GroupPool) (u : Plan) where
   pub run_begins : Runs did does f s config first old u first old u
   run_begins c steps d may = (
     steps,
@@ -82,56 +82,56 @@ module _ {M : Type 0} (words : M → Words) (newest count : M → ℕ) (did : M 
     },
   )
     where
-      none_unlinked : (c : Setup) (x : Traced M) → Unlinks (by_writer does c) config (linked_count old.groups - linked_count old.groups) x (tokens_of old.queue.items) x (tokens_of old.queue.items)
+      none_unlinked : (c : InitialState) (x : Traced M) → Unlinks (by_writer does c) config (linked_count old.groups - linked_count old.groups) x (tokens_of old.queue.items) x (tokens_of old.queue.items)
       none_unlinked c x =
           let e : 0 ≡ linked_count old.groups - linked_count old.groups = omega arith in
           subst (λ n. Unlinks (by_writer does c) config n x (tokens_of old.queue.items) x (tokens_of old.queue.items)) e (refl, refl)
 
-  module _ (m : M) (new : Books) (v : Plan) (runs : Runs did does f s config first old u m new v) (z : M) (v' : Plan) where
-    module _ (c : Setup) (steps : List WriterStep) (d : did first c steps) (may : MayMake f s c steps u old) where
+  module _ (m : M) (new : GroupPool) (v : Plan) (runs : Runs did does f s config first old u m new v) (z : M) (v' : Plan) where
+    module _ (c : InitialState) (steps : List WriterStep) (d : did first c steps) (may : MayMake f s c steps u old) where
       -- the words of the memory are those that the steps leave
-      seen : words m ≡ (tables c (runs c steps d may).0).words
+      seen : words m ≡ (state_after c (runs c steps d may).0).words
       seen = let now = runs c steps d may in (shows m c now.0 now.1).0
 
-      next_first_on : (i x : ℕ) → IsNextFirst f s v (words m) i x → IsNextFirst c.first c.second v (tables c (runs c steps d may).0).words i x
-      next_first_on i x n = fit (λ a b. IsNextFirst a b v (tables c (runs c steps d may).0).words i x) f s c may.widths (subst (λ W. IsNextFirst f s v W i x) seen n)
+      next_first_on : (i x : ℕ) → IsNextFirst f s v (words m) i x → IsNextFirst c.first c.second v (state_after c (runs c steps d may).0).words i x
+      next_first_on i x n = fit (λ a b. IsNextFirst a b v (state_after c (runs c steps d may).0).words i x) f s c may.widths (subst (λ W. IsNextFirst f s v W i x) seen n)
 
-      next_second_on : (j x : ℕ) → IsNextSecond s v (words m) j x → IsNextSecond c.second v (tables c (runs c steps d may).0).words j x
-      next_second_on j x n = fit (λ a b. IsNextSecond b v (tables c (runs c steps d may).0).words j x) f s c may.widths (subst (λ W. IsNextSecond s v W j x) seen n)
+      next_second_on : (j x : ℕ) → IsNextSecond s v (words m) j x → IsNextSecond c.second v (state_after c (runs c steps d may).0).words j x
+      next_second_on j x n = fit (λ a b. IsNextSecond b v (state_after c (runs c steps d may).0).words j x) f s c may.widths (subst (λ W. IsNextSecond s v W j x) seen n)
 
-      next_unlink_on : (b g x : ℕ) → IsNextUnlink f s v (words m) b g x → IsNextUnlink c.first c.second v (tables c (runs c steps d may).0).words b g x
-      next_unlink_on b g x n = fit (λ a b'. IsNextUnlink a b' v (tables c (runs c steps d may).0).words b g x) f s c may.widths (subst (λ W. IsNextUnlink f s v W b g x) seen n)
+      next_unlink_on : (b g x : ℕ) → IsNextUnlink f s v (words m) b g x → IsNextUnlink c.first c.second v (state_after c (runs c steps d may).0).words b g x
+      next_unlink_on b g x n = fit (λ a b'. IsNextUnlink a b' v (state_after c (runs c steps d may).0).words b g x) f s c may.widths (subst (λ W. IsNextUnlink f s v W b g x) seen n)
 
-      tied_on : IsTied f new.groups (group_held v (words m).firsts) → IsTied c.first new.groups (group_held v (tables c (runs c steps d may).0).words.firsts)
-      tied_on t = subst (λ a. IsTied a new.groups (group_held v (tables c (runs c steps d may).0).words.firsts)) (sym may.widths.0) (subst (λ (W : Words). IsTied f new.groups (group_held v W.firsts)) seen t)
+      tied_on : IsTied f new.groups (group_held v (words m).firsts) → IsTied c.first new.groups (group_held v (state_after c (runs c steps d may).0).words.firsts)
+      tied_on t = subst (λ a. IsTied a new.groups (group_held v (state_after c (runs c steps d may).0).words.firsts)) (sym may.widths.0) (subst (λ (W : Words). IsTied f new.groups (group_held v W.firsts)) seen t)
 
       steps_first : (did_it : Did) (i x : ℕ) → Steps f s v (words m) did_it v' (words z) → words z ≡ with_first (words m) i x
-          → Steps c.first c.second v (tables c (runs c steps d may).0).words did_it v' (with_first (tables c (runs c steps d may).0).words i x)
-      steps_first did_it i x st e = fit (λ a b. Steps a b v (tables c (runs c steps d may).0).words did_it v' (with_first (tables c (runs c steps d may).0).words i x)) f s c may.widths
+          → Steps c.first c.second v (state_after c (runs c steps d may).0).words did_it v' (with_first (state_after c (runs c steps d may).0).words i x)
+      steps_first did_it i x st e = fit (λ a b. Steps a b v (state_after c (runs c steps d may).0).words did_it v' (with_first (state_after c (runs c steps d may).0).words i x)) f s c may.widths
           (subst (λ W. Steps f s v W did_it v' (with_first W i x)) seen (subst (λ W. Steps f s v (words m) did_it v' W) e st))
 
       steps_second : (did_it : Did) (j x : ℕ) → Steps f s v (words m) did_it v' (words z) → words z ≡ with_second (words m) j x
-          → Steps c.first c.second v (tables c (runs c steps d may).0).words did_it v' (with_second (tables c (runs c steps d may).0).words j x)
-      steps_second did_it j x st e = fit (λ a b. Steps a b v (tables c (runs c steps d may).0).words did_it v' (with_second (tables c (runs c steps d may).0).words j x)) f s c may.widths
+          → Steps c.first c.second v (state_after c (runs c steps d may).0).words did_it v' (with_second (state_after c (runs c steps d may).0).words j x)
+      steps_second did_it j x st e = fit (λ a b. Steps a b v (state_after c (runs c steps d may).0).words did_it v' (with_second (state_after c (runs c steps d may).0).words j x)) f s c may.widths
           (subst (λ W. Steps f s v W did_it v' (with_second W j x)) seen (subst (λ W. Steps f s v (words m) did_it v' W) e st))
 
       pub allows_first : (i x : ℕ) → IsNextFirst f s v (words m) i x → MayStep c (runs c steps d may).0 (StoreFirst i x)
       allows_first i x n =
           let r = (runs c steps d may).2 in
-          may_store_first c (runs c steps d may).0 u (tables c steps).words v r.making new.groups new.queue.items new.passed r.keeps r.idle i x (next_first_on i x n)
+          may_store_first c (runs c steps d may).0 u (state_after c steps).words v r.making new.groups new.queue.items new.passed r.keeps r.idle i x (next_first_on i x n)
 
       pub allows_second : IsTied f new.groups (group_held v (words m).firsts) → (j x : ℕ) → IsNextSecond s v (words m) j x → MayStep c (runs c steps d may).0 (StoreSecond j x)
       allows_second tied j x n =
           let r = (runs c steps d may).2 in
-          may_store_second c (runs c steps d may).0 u (tables c steps).words v r.making new.groups new.queue.items new.passed r.keeps r.idle (tied_on tied) j x (next_second_on j x n)
+          may_store_second c (runs c steps d may).0 u (state_after c steps).words v r.making new.groups new.queue.items new.passed r.keeps r.idle (tied_on tied) j x (next_second_on j x n)
 
       pub allows_unlink : (b g x : ℕ) → IsNextUnlink f s v (words m) b g x → MayStep c (runs c steps d may).0 (StoreFirst b x)
       allows_unlink b g x n =
           let r = (runs c steps d may).2 in
-          may_unlink c (runs c steps d may).0 u (tables c steps).words v r.making new.groups new.queue.items new.passed r.keeps r.idle b g x (next_unlink_on b g x n)
+          may_unlink c (runs c steps d may).0 u (state_after c steps).words v r.making new.groups new.queue.items new.passed r.keeps r.idle b g x (next_unlink_on b g x n)
 
     -- one more store, which unlinks no group
-    one_more : (c : Setup) (x : Traced M) (later : List WriterStep) (step : WriterStep) (k : HasUnlinkedSome does c config x old (m, later) new) → UnlinksNone (tables c later) step → does m step z
+    one_more : (c : InitialState) (x : Traced M) (later : List WriterStep) (step : WriterStep) (k : HasUnlinkedSome does c config x old (m, later) new) → UnlinksNone (state_after c later) step → does m step z
         → HasUnlinkedSome does c config x old (z, step ∷ later) new
     one_more c x later step k plain goes = record {
       last = k.last;
@@ -146,7 +146,7 @@ module _ {M : Type 0} (words : M → Words) (newest count : M → ℕ) (did : M 
         let now = runs c steps d may in
         let later = now.0 in
         let r = now.2 in
-        let w : Tables = tables c later in
+        let w : TableState = state_after c later in
         let n' = next_first_on c steps d may i x n in
         let st' = steps_first c steps d may (First i) i x st e in
         let under = r.making.come.under_way in
@@ -159,10 +159,10 @@ module _ {M : Type 0} (words : M → Words) (newest count : M → ℕ) (did : M 
           follows m (StoreFirst i x) z c later goes now.1 (allows_first c steps d may i x n),
           record {
             widths = r.widths;
-            making = making_first c later u (tables c steps).words v r.making v' (First i) i x st' sm (taken_first c.first c.second v v' w.words i x (course c later).taken st'.onward n' r.making.taken)
+            making = making_first c later u (state_after c steps).words v r.making v' (First i) i x st' sm (taken_first c.first c.second v v' w.words i x (progress_after c later).taken st'.onward n' r.making.taken)
                 (store_first i x) st'.passed;
-            idle = record { duty = due_last (first_entry w.words i) kind.old; awaited = r.idle.awaited };
-            keeps = subst (Keeps c (StoreFirst i x ∷ later) new.groups new.queue.items new.passed) (sym none)
+            idle = record { next_step = due_last (first_entry w.words i) kind.old; awaited = r.idle.awaited };
+            keeps = subst (GroupsMatchSteps c (StoreFirst i x ∷ later) new.groups new.queue.items new.passed) (sym none)
                 (keeps_first c later new.groups new.queue.items new.passed v r.keeps i x kind c.first (tied_on c steps d may tied) low_block waits);
             sequence = r.sequence;
             history = r.history;
@@ -176,7 +176,7 @@ module _ {M : Type 0} (words : M → Words) (newest count : M → ℕ) (did : M 
         let now = runs c steps d may in
         let later = now.0 in
         let r = now.2 in
-        let w : Tables = tables c later in
+        let w : TableState = state_after c later in
         let n' = next_second_on c steps d may j x n in
         let st' = steps_second c steps d may (Second j) j x st e in
         let under = r.making.come.under_way in
@@ -185,10 +185,10 @@ module _ {M : Type 0} (words : M → Words) (newest count : M → ℕ) (did : M 
           follows m (StoreSecond j x) z c later goes now.1 (allows_second c steps d may tied j x n),
           record {
             widths = r.widths;
-            making = making_second c later u (tables c steps).words v r.making v' (Second j) j x st' sm
-                (taken_by_second c later new.groups new.queue.items new.passed u (tables c steps).words v v' r.making r.keeps (tied_on c steps d may tied) j x st'.onward n')
+            making = making_second c later u (state_after c steps).words v r.making v' (Second j) j x st' sm
+                (taken_by_second c later new.groups new.queue.items new.passed u (state_after c steps).words v v' r.making r.keeps (tied_on c steps d may tied) j x st'.onward n')
                 (store_second j x) st'.passed;
-            idle = record { duty = r.idle.duty; awaited = r.idle.awaited };
+            idle = record { next_step = r.idle.next_step; awaited = r.idle.awaited };
             keeps = keeps_second c later new.groups new.queue.items new.passed v r.keeps j x v' st'.onward;
             sequence = r.sequence;
             history = r.history;
@@ -200,24 +200,24 @@ module _ {M : Type 0} (words : M → Words) (newest count : M → ℕ) (did : M 
 
     module _ (b g x : ℕ) (st : Steps f s v (words m) (Unlinked b g) v' (words z)) (n : IsNextUnlink f s v (words m) b g x) (e : words z ≡ with_first (words m) b x) (goes : does m (StoreFirst b x) z)
         (here : IsLinkedTo new.groups g b) (waits : AreWaiting new.groups new.queue.items) where
-      pub unlinked_on : (c : Setup) (steps : List WriterStep) (d : did first c steps) (may : MayMake f s c steps u old)
+      pub unlinked_on : (c : InitialState) (steps : List WriterStep) (d : did first c steps) (may : MayMake f s c steps u old)
           → did z c (StoreFirst b x ∷ (runs c steps d may).0) × HasUnlinked c (StoreFirst b x ∷ (runs c steps d may).0) new g None
       unlinked_on c steps d may =
           let now = runs c steps d may in
           let r = now.2 in
-          let kind = unlink_kind c.first c.second v (tables c now.0).words b g x r.making.come.table r.making.come.under_way (next_unlink_on c steps d may b g x n) in (
+          let kind = unlink_kind c.first c.second v (state_after c now.0).words b g x r.making.come.table r.making.come.under_way (next_unlink_on c steps d may b g x n) in (
             follows m (StoreFirst b x) z c now.0 goes now.1 (allows_unlink c steps d may b g x n),
             has_unlinked c now.0 new v b g x r.keeps r.idle kind.0 kind.1 kind.2 here waits,
           )
 
-      pub run_unlinked : (y : M) (last : Books) → suc (linked_count old.groups - linked_count new.groups) ≡ linked_count old.groups - linked_count last.groups
-          → ((c : Setup) (steps : List WriterStep) (held : Option ℕ) → did z c steps → HasUnlinked c steps new g held
-          → (later : List WriterStep) × did y c later × HasRetired c steps later × Keeps c later last.groups last.queue.items last.passed held
+      pub run_unlinked : (y : M) (last : GroupPool) → suc (linked_count old.groups - linked_count new.groups) ≡ linked_count old.groups - linked_count last.groups
+          → ((c : InitialState) (steps : List WriterStep) (held : Option ℕ) → did z c steps → HasUnlinked c steps new g held
+          → (later : List WriterStep) × did y c later × HasRetired c steps later × GroupsMatchSteps c later last.groups last.queue.items last.passed held
           × Retires does c config (z, steps) (tokens_of new.queue.items) (y, later) (tokens_of last.queue.items)) → Runs did does f s config first old u y last v'
       run_unlinked y last one retires c steps d may =
           let now = runs c steps d may in
           let r = now.2 in
-          let w : Tables = tables c now.0 in
+          let w : TableState = state_after c now.0 in
           let n' = next_unlink_on c steps d may b g x n in
           let under = r.making.come.under_way in
           let st' = steps_first c steps d may (Unlinked b g) b x st e in
@@ -226,18 +226,18 @@ module _ {M : Type 0} (words : M → Words) (newest count : M → ℕ) (did : M 
           let unlinked = unlinked_on c steps d may in
           let done = retires c (StoreFirst b x ∷ now.0) None unlinked.0 unlinked.1 in
           let q = done.2 in
-          let fills = unlink_filling c.first c.second v v' w.words b g x (tables c done.0).words.firsts st'.onward n' in
-          let making = making_first c now.0 u (tables c steps).words v r.making v' (Unlinked b g) b x st' sm
-          (taken_unlink c.first c.second v v' w.words b g x (course c now.0).taken st'.onward n' r.making.taken) (store_unlink b x g) st'.passed in
+          let fills = unlink_filling c.first c.second v v' w.words b g x (state_after c done.0).words.firsts st'.onward n' in
+          let making = making_first c now.0 u (state_after c steps).words v r.making v' (Unlinked b g) b x st' sm
+          (taken_unlink c.first c.second v v' w.words b g x (progress_after c now.0).taken st'.onward n' r.making.taken) (store_unlink b x g) st'.passed in
           let k = r.unlinked in (
             done.0,
             done.1,
             record {
               widths = r.widths;
-              making = making_quiet c (StoreFirst b x ∷ now.0) done.0 u (tables c steps).words v' q.quiet q.taken
+              making = making_quiet c (StoreFirst b x ∷ now.0) done.0 u (state_after c steps).words v' q.quiet q.taken
                   (after_retire does c config (z, StoreFirst b x ∷ now.0) (tokens_of new.queue.items) (y, done.0) (tokens_of last.queue.items) done.4) making;
               idle = q.idle;
-              keeps = subst (Keeps c done.0 last.groups last.queue.items last.passed) (sym fills) done.3;
+              keeps = subst (GroupsMatchSteps c done.0 last.groups last.queue.items last.passed) (sym fills) done.3;
               sequence = q.quiet.sequence ∙ r.sequence;
               history = q.quiet.history ∙ r.history;
               unlinked = record {
@@ -248,7 +248,7 @@ module _ {M : Type 0} (words : M → Words) (newest count : M → ℕ) (did : M 
                   tokens_of new.queue.items,
                   k.unlinks,
                   (
-                    (tables c done.4.0.1).token,
+                    (state_after c done.4.0.1).token,
                     done.4.0,
                     done.4.1,
                     (k.stores, (m, now.0), (z, StoreFirst b x ∷ now.0), b, x, g, k.since, ap group_in kind.0, (goes, refl), done.4.2, refl),
@@ -262,25 +262,25 @@ module _ {M : Type 0} (words : M → Words) (newest count : M → ℕ) (did : M 
           )
 
     -- nothing is left to store
-    pub run_ended : Steps f s v (words m) Done v' (words m) → IsTied f new.groups (group_held v (words m).firsts) → (c : Setup) (steps : List WriterStep) → did first c steps → MayMake f s c steps u old
+    pub run_ended : Steps f s v (words m) Done v' (words m) → IsTied f new.groups (group_held v (words m).firsts) → (c : InitialState) (steps : List WriterStep) → did first c steps → MayMake f s c steps u old
         → (later : List WriterStep) × did m c later × HasMade does c config first steps old m later new
     run_ended st tied c steps d may =
         let now = runs c steps d may in
         let r = now.2 in
-        let w : Tables = tables c now.0 in
+        let w : TableState = state_after c now.0 in
         let st' = fit (λ a b. Steps a b v w.words Done v' w.words) f s c may.widths (subst (λ W. Steps f s v W Done v' W) (seen c steps d may) st) in
-        let come = run_goes_on c.first c.second u (tables c steps).words Done v v' w.words w.words r.making.come st' in
+        let come = run_goes_on c.first c.second u (state_after c steps).words Done v v' w.words w.words r.making.come st' in
         let over : IsOver c.first c.second v' = st'.stored.1 in
-        let none = over_filling c.first c.second v' w.words (group_at (tables c steps).words.firsts) come.under_way over come.groups in
+        let none = over_filling c.first c.second v' w.words (group_at (state_after c steps).words.firsts) come.under_way over come.groups in
         let none_yet = sym (filling_same v v' w.words.firsts st'.onward) ∙ none in
-        let linked = has_linked c now.0 new.groups new.queue.items new.passed v (course c now.0).taken r.making.taken r.making.come.under_way none_yet r.keeps (tied_on c steps d may tied) in (
+        let linked = has_linked c now.0 new.groups new.queue.items new.passed v (progress_after c now.0).taken r.making.taken r.making.come.under_way none_yet r.keeps (tied_on c steps d may tied) in (
           now.0,
           now.1,
           record {
-            may_close = may_close c now.0 u (tables c steps).words v r.making v' come r.idle over linked;
+            may_close = may_close c now.0 u (state_after c steps).words v r.making v' come r.idle over linked;
             idle = r.idle;
             once = r.making.once;
-            keeps = subst (Keeps c now.0 new.groups new.queue.items new.passed) none_yet r.keeps;
+            keeps = subst (GroupsMatchSteps c now.0 new.groups new.queue.items new.passed) none_yet r.keeps;
             sequence = r.sequence;
             history = r.history;
             unlinked = r.unlinked;
@@ -288,8 +288,8 @@ module _ {M : Type 0} (words : M → Words) (newest count : M → ℕ) (did : M 
         )
 
     -- the words of the memory, as an update that begins has them
-    pub begun_come : (c : Setup) (steps : List WriterStep) → did first c steps → MayMake f s c steps u old → HasCome f s u (words first) u (words first)
+    pub begun_come : (c : InitialState) (steps : List WriterStep) → did first c steps → MayMake f s c steps u old → HasCome f s u (words first) u (words first)
     begun_come c steps d may =
         let e = (shows first c steps d).0 in
-        subst (λ W. HasCome f s u W u W) (sym e) (subst (λ a. HasCome a s u (tables c steps).words u (tables c steps).words) may.widths.0
-        (subst (λ b. HasCome c.first b u (tables c steps).words u (tables c steps).words) may.widths.1 may.making.come))
+        subst (λ W. HasCome f s u W u W) (sym e) (subst (λ a. HasCome a s u (state_after c steps).words u (state_after c steps).words) may.widths.0
+        (subst (λ b. HasCome c.first b u (state_after c steps).words u (state_after c steps).words) may.widths.1 may.making.come))

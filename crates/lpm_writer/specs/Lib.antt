@@ -1,14 +1,14 @@
 pub mod Waiting
 pub mod Steps
 pub mod Traced
-pub mod Kept
+pub mod Matching
 pub mod Stores
 pub mod Making
 pub mod Taking
 pub mod Changing
 pub mod Resting
 pub mod Synchronizing
-pub mod Opening
+pub mod Blank
 pub mod MemorySteps
 pub mod Plain
 pub mod PlainLaws

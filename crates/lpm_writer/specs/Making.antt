@@ -11,14 +11,14 @@ use Rattle.lpm_update.specs.Update.{HasPassedFirst, HasPassedSecond, entry_after
 use Rattle.lpm_groups.specs.States.{linked_count}
 use Rattle.lpm_limits.specs.declared.config.Config.{Config}
 use Rattle.lpm_trace.specs.declared.step.WriterStep.{WriterStep}
-use Rattle.lpm_trace.specs.declared.step.WriterStep.TheVariants.{StoreFirst, StoreSecond, Closes}
-use Rattle.lpm_trace.specs.Tables.{Setup, tables, addresses, answer, IsAnswer, IsUpdating, done, begun}
-use Rattle.lpm_trace.specs.Writer.{course, MayStep}
-use Rattle.lpm_writer.specs.declared.books.Books.{Books}
+use Rattle.lpm_trace.specs.declared.step.WriterStep.TheVariants.{StoreFirst, StoreSecond, EndUpdate}
+use Rattle.lpm_trace.specs.States.{InitialState, state_after, addresses, answer, IsAnswer, IsUpdating, updates_done_in, updates_begun_in}
+use Rattle.lpm_trace.specs.Writer.{progress_after, MayStep}
+use Rattle.lpm_writer.specs.declared.pool.GroupPool.{GroupPool}
 use Rattle.fib_model.specs.Reclaiming.{Unlinks}
 use Rattle.lpm_writer.specs.Waiting.{tokens_of}
 use Rattle.lpm_writer.specs.Traced.{Traced, Stores, by_writer}
-use Rattle.lpm_writer.specs.Kept.{IsIdle, Keeps}
+use Rattle.lpm_writer.specs.Matching.{HasNothingDue, GroupsMatchSteps}
 use Rattle.lpm_writer.specs.Stores.{since_opened, StoresOnce}
 
 -- the group, where the block has none
@@ -27,11 +27,11 @@ unless_linked None group = Some group
 unless_linked (Some other) group = None
 
 -- the group that the change fills for a block, and has not linked yet
-abbrev pub filling : Plan → List ℕ → Option ℕ
-filling (Range u) firsts = None
-filling (Link u) firsts = unless_linked (group_at firsts u.block) u.group
-filling (Unlink u) firsts = None
-filling (Flush u) firsts = None
+abbrev pub group_to_fill : Plan → List ℕ → Option ℕ
+group_to_fill (Range u) firsts = None
+group_to_fill (Link u) firsts = unless_linked (group_at firsts u.block) u.group
+group_to_fill (Unlink u) firsts = None
+group_to_fill (Flush u) firsts = None
 
 -- the update took the group that the change links, once a word of it is stored, and no other
 abbrev pub IsTakenBy : Plan → Option ℕ → Type 0
@@ -41,7 +41,7 @@ IsTakenBy (Unlink u) taken = taken ≡ None
 IsTakenBy (Flush u) taken = taken ≡ None
 
 -- the answer that an address has after the change u of the words t
-abbrev pub answer_after : Setup → Plan → Words → ℕ → Option ℕ
+abbrev pub answer_after : InitialState → Plan → Words → ℕ → Option ℕ
 answer_after c u t a = hop_in (entry_after (c.first + c.second) u (entry_at c.second t) a)
 
 -- the change has passed the word that the step stored
@@ -56,40 +56,40 @@ HasPassedStores second v firsts steps =
     All (HasPassedStore second v firsts) (since_opened steps)
 
 -- an update that began as u on the words t has come to v
-pub record IsMaking (c : Setup) (steps : List WriterStep) (u : Plan) (t : Words) (v : Plan)
+pub record IsMaking (c : InitialState) (steps : List WriterStep) (u : Plan) (t : Words) (v : Plan)
     : Type 0 where
-  pub come : HasCome c.first c.second u t v (tables c steps).words
-  pub updating : IsUpdating (tables c steps)
-  pub taken : IsTakenBy v (course c steps).taken
+  pub come : HasCome c.first c.second u t v (state_after c steps).words
+  pub updating : IsUpdating (state_after c steps)
+  pub taken : IsTakenBy v (progress_after c steps).taken
   -- it goes on past each word that it stores, so it stores none twice
-  pub passed : HasPassedStores c.second v (tables c steps).words.firsts steps
+  pub passed : HasPassedStores c.second v (state_after c steps).words.firsts steps
   pub once : StoresOnce steps
   -- the answers before and after are those of the versions that are done and begun
   pub old : (a : ℕ) → a < addresses c
-      → IsAnswer c ((tables c steps).history (done (tables c steps))) a (answer c t a)
+      → IsAnswer c ((state_after c steps).history (updates_done_in (state_after c steps))) a (answer c t a)
   pub new : (a : ℕ) → a < addresses c
-      → IsAnswer c ((tables c steps).history (begun (tables c steps))) a (answer_after c u t a)
+      → IsAnswer c ((state_after c steps).history (updates_begun_in (state_after c steps))) a (answer_after c u t a)
   -- an address that has changed has its new answer
-  pub turned : (a : ℕ) → a < addresses c → (tables c steps).turned a ≡ true
-      → answer c (tables c steps).words a ≡ answer_after c u t a
+  pub answer_changed : (a : ℕ) → a < addresses c → (state_after c steps).answer_changed a ≡ true
+      → answer c (state_after c steps).words a ≡ answer_after c u t a
 
 -- the table has these widths
-abbrev pub HasWidths : ℕ → ℕ → Setup → Type 0
+abbrev pub HasWidths : ℕ → ℕ → InitialState → Type 0
 HasWidths first second c = (c.first ≡ first) × (c.second ≡ second)
 
 -- the update u may begin on these words
-pub record MayMake (first second : ℕ) (c : Setup) (steps : List WriterStep) (u : Plan)
-    (books : Books) : Type 0 where
+pub record MayMake (first second : ℕ) (c : InitialState) (steps : List WriterStep) (u : Plan)
+    (pool : GroupPool) : Type 0 where
   pub widths : HasWidths first second c
-  pub making : IsMaking c steps u (tables c steps).words u
-  pub idle : IsIdle c steps
-  pub keeps : Keeps c steps books.groups books.queue.items books.passed
-      (filling u (tables c steps).words.firsts)
+  pub making : IsMaking c steps u (state_after c steps).words u
+  pub idle : HasNothingDue c steps
+  pub keeps : GroupsMatchSteps c steps pool.groups pool.queue.items pool.passed
+      (group_to_fill u (state_after c steps).words.firsts)
 
 -- the groups that an update gave up went into limbo one after another, with stores before each and
 -- after the last
-pub record HasUnlinkedSome {M : Type 0} (does : M → WriterStep → M → Type 0) (c : Setup)
-    (config : Config) (x : Traced M) (old : Books) (z : Traced M) (new : Books) : Type 0 where
+pub record HasUnlinkedSome {M : Type 0} (does : M → WriterStep → M → Type 0) (c : InitialState)
+    (config : Config) (x : Traced M) (old : GroupPool) (z : Traced M) (new : GroupPool) : Type 0 where
   pub last : Traced M
   pub stores : ℕ
   pub unlinks : Unlinks (by_writer does c) config
@@ -98,13 +98,13 @@ pub record HasUnlinkedSome {M : Type 0} (does : M → WriterStep → M → Type 
   pub since : Stores does c stores last z
 
 -- all stores of the update are made, and it may be done next
-pub record HasMade {M : Type 0} (does : M → WriterStep → M → Type 0) (c : Setup) (config : Config)
-    (m : M) (steps : List WriterStep) (old : Books) (z : M) (later : List WriterStep)
-    (new : Books) : Type 0 where
-  pub may_close : MayStep c later Closes
-  pub idle : IsIdle c later
+pub record HasMade {M : Type 0} (does : M → WriterStep → M → Type 0) (c : InitialState) (config : Config)
+    (m : M) (steps : List WriterStep) (old : GroupPool) (z : M) (later : List WriterStep)
+    (new : GroupPool) : Type 0 where
+  pub may_close : MayStep c later EndUpdate
+  pub idle : HasNothingDue c later
   pub once : StoresOnce later
-  pub keeps : Keeps c later new.groups new.queue.items new.passed None
-  pub sequence : (tables c later).sequence ≡ (tables c steps).sequence
-  pub history : (tables c later).history ≡ (tables c steps).history
+  pub keeps : GroupsMatchSteps c later new.groups new.queue.items new.passed None
+  pub sequence : (state_after c later).sequence ≡ (state_after c steps).sequence
+  pub history : (state_after c later).history ≡ (state_after c steps).history
   pub unlinked : HasUnlinkedSome does c config (m, steps) old (z, later) new

@@ -4,18 +4,18 @@ use Rattle.lpm_cells.specs.Table.{Words, with_first, with_second}
 use Rattle.qsbr.specs.Registry.{Registry}
 use Rattle.lpm_trace.specs.declared.step.WriterStep.{WriterStep}
 use Rattle.lpm_trace.specs.declared.step.WriterStep.TheVariants.{StoreFirst, StoreSecond, BumpToken, LoadCounter}
-use Rattle.lpm_trace.specs.Tables.{Setup, tables}
+use Rattle.lpm_trace.specs.States.{InitialState, state_after}
 use Rattle.lpm_trace.specs.Writer.{IsWritten}
 
 -- the words and the token are those that these steps leave, each of which might come
-pub record PlainDid (first second : ℕ) (t : Words) (r : Registry) (c : Setup)
+pub record PlainDid (first second : ℕ) (t : Words) (r : Registry) (c : InitialState)
     (steps : List WriterStep) : Type 0 where
   pub first_bits : c.first ≡ first
   pub second_bits : c.second ≡ second
   pub workers : length r.counters ≡ c.workers
   pub written : IsWritten c steps
-  pub words : t ≡ (tables c steps).words
-  pub token : r.token ≡ (tables c steps).token
+  pub words : t ≡ (state_after c steps).words
+  pub token : r.token ≡ (state_after c steps).token
 
 -- the words after a step
 abbrev pub words_by : Words → WriterStep → Words

@@ -9,34 +9,34 @@ use Rattle.lpm_update.specs.Represents.{Represents}
 use Rattle.lpm_update.specs.Tied.{IsTied, HasGroupRoom}
 use Rattle.fib_model.specs.State.{State}
 use Rattle.lpm_trace.specs.declared.step.WriterStep.{WriterStep}
-use Rattle.lpm_trace.specs.Tables.{Setup, tables, done}
-use Rattle.lpm_writer.specs.declared.books.Books.{Books}
+use Rattle.lpm_trace.specs.States.{InitialState, state_after, updates_done_in}
+use Rattle.lpm_writer.specs.declared.pool.GroupPool.{GroupPool}
 use Rattle.lpm_writer.specs.Waiting.{IsQueued, tokens_of}
-use Rattle.lpm_writer.specs.Kept.{Keeps}
+use Rattle.lpm_writer.specs.Matching.{GroupsMatchSteps}
 use Rattle.lpm_writer.specs.Making.{HasWidths}
 use Rattle.lpm_writer.specs.Changing.{IsBetween}
 
 -- what outcomes depend on, by what a writer keeps
-abbrev pub state_of : {X : Type 0} → RuleMap → X → Books → ℕ → State X
-state_of R x books begun =
-    record { rules = R; readers = x; limbo = tokens_of books.queue.items; begun = begun }
+abbrev pub state_of : {X : Type 0} → RuleMap → X → GroupPool → ℕ → State X
+state_of R x pool begun =
+    record { rules = R; readers = x; limbo = tokens_of pool.queue.items; begun = begun }
 
 -- no update runs; the words represent the rules, which are those of the last version; each group has
 -- one state, which the steps say; and all sizes are those of the limits
-pub record IsResting (first second : ℕ) (c : Setup) (steps : List WriterStep) (config : Config)
-    (rules : RuleList) (books : Books) (begun : ℕ) : Type 0 where
+pub record IsResting (first second : ℕ) (c : InitialState) (steps : List WriterStep) (config : Config)
+    (rules : RuleList) (pool : GroupPool) (begun : ℕ) : Type 0 where
   pub shape : IsShape first second
   pub widths : HasWidths first second c
   pub workers : c.workers ≡ config.workers
   pub between : IsBetween c steps
-  pub version : (tables c steps).history (done (tables c steps)) ≡ rules.rules
-  pub represents : Represents first second rules.rules (tables c steps).words
-  pub tied : IsTied first books.groups (group_at (tables c steps).words.firsts)
-  pub room : HasGroupRoom second (tables c steps).words books.groups
-  pub queued : IsQueued books.groups books.queue
-  pub keeps : Keeps c steps books.groups books.queue.items books.passed None
+  pub version : (state_after c steps).history (updates_done_in (state_after c steps)) ≡ rules.rules
+  pub represents : Represents first second rules.rules (state_after c steps).words
+  pub tied : IsTied first pool.groups (group_at (state_after c steps).words.firsts)
+  pub room : HasGroupRoom second (state_after c steps).words pool.groups
+  pub queued : IsQueued pool.groups pool.queue
+  pub keeps : GroupsMatchSteps c steps pool.groups pool.queue.items pool.passed None
   pub limits : IsConfig config
   pub max : rules.max ≡ config.rules
-  pub states : length books.groups ≡ config.groups
-  pub versions : begun ≡ done (tables c steps)
+  pub states : length pool.groups ≡ config.groups
+  pub versions : begun ≡ updates_done_in (state_after c steps)
   pub updates : begun ≤ 2 ^ 61

@@ -6,8 +6,8 @@ use Rattle.std.specs.List.{All}
 use Rattle.lpm_limits.specs.declared.busy.Busy.{Busy}
 use Rattle.lpm_trace.specs.declared.step.RuleChange.{RuleChange}
 use Rattle.lpm_trace.specs.declared.step.WriterStep.{WriterStep}
-use Rattle.lpm_trace.specs.declared.step.WriterStep.TheVariants.{StoreFirst, StoreSecond, Opens, Closes, BumpToken, LoadCounter}
-use Rattle.lpm_trace.specs.Tables.{lets_pass}
+use Rattle.lpm_trace.specs.declared.step.WriterStep.TheVariants.{StoreFirst, StoreSecond, BeginUpdate, EndUpdate, BumpToken, LoadCounter}
+use Rattle.lpm_trace.specs.States.{lets_pass}
 use Rattle.lpm_trace.specs.Counts.{token_after, passed_after}
 use Rattle.fib_model.specs.State.{Transitions}
 
@@ -43,10 +43,10 @@ IsStore other = ⊥
 abbrev pub by_steps_from : (workers start : ℕ) → Transitions (List WriterStep)
 by_steps_from workers start = record {
   checks = Checks workers;
-  begins = λ x z. (change : RuleChange) × (z ≡ Opens change ∷ x);
+  begins = λ x z. (change : RuleChange) × (z ≡ BeginUpdate change ∷ x);
   unlinks = λ x name z. (stores : List WriterStep) × (block : ℕ) × (word : ℕ) × All IsStore stores
       × (z ≡ BumpToken ∷ StoreFirst block word ∷ (stores ++ x)) × (name ≡ token_after start z);
-  ends = λ x z. (stores : List WriterStep) × All IsStore stores × (z ≡ Closes ∷ (stores ++ x));
+  ends = λ x z. (stores : List WriterStep) × All IsStore stores × (z ≡ EndUpdate ∷ (stores ++ x));
   token = token_after start;
 }
 

@@ -2,7 +2,7 @@
 use Rattle.std.specs.Prelude.{◌≡◌, ⊤, List, [], ◌∷◌}
 use Rattle.std.specs.List.{All}
 use Rattle.lpm_trace.specs.declared.step.WriterStep.{WriterStep}
-use Rattle.lpm_trace.specs.declared.step.WriterStep.TheVariants.{StoreFirst, StoreSecond, Opens}
+use Rattle.lpm_trace.specs.declared.step.WriterStep.TheVariants.{StoreFirst, StoreSecond, BeginUpdate}
 
 -- both steps store the same word of a table
 abbrev pub StoreSameWord : WriterStep → WriterStep → Type 0
@@ -13,7 +13,7 @@ StoreSameWord s t = ⊥
 -- the steps since the newest update was opened, the newest first
 abbrev pub since_opened : List WriterStep → List WriterStep
 since_opened [] = []
-since_opened (Opens change ∷ steps) = []
+since_opened (BeginUpdate change ∷ steps) = []
 since_opened (s ∷ steps) = s ∷ since_opened steps
 
 -- in no update is a word stored twice

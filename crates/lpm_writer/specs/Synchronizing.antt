@@ -4,30 +4,30 @@ use Rattle.std.specs.Prelude.{ℕ, suc, ◌≡◌, ◌<◌, List, Some}
 use Rattle.lpm_limits.specs.declared.config.Config.{Config}
 use Rattle.lpm_rules.specs.RuleMap.{RuleList}
 use Rattle.lpm_trace.specs.declared.step.WriterStep.{WriterStep}
-use Rattle.lpm_trace.specs.Tables.{Setup, tables}
-use Rattle.lpm_trace.specs.Course.{Check, next_asked}
-use Rattle.lpm_trace.specs.Writer.{course}
-use Rattle.lpm_writer.specs.declared.books.Books.{Books}
-use Rattle.lpm_writer.specs.Kept.{IsIdle, IsQuiet}
+use Rattle.lpm_trace.specs.States.{InitialState, state_after}
+use Rattle.lpm_trace.specs.Progress.{Check, next_asked}
+use Rattle.lpm_trace.specs.Writer.{progress_after}
+use Rattle.lpm_writer.specs.declared.pool.GroupPool.{GroupPool}
+use Rattle.lpm_writer.specs.Matching.{HasNothingDue, SameTables}
 use Rattle.lpm_writer.specs.Stores.{StoresOnce}
 use Rattle.lpm_writer.specs.Resting.{IsResting}
 
 -- a check of the newest token is due, from worker 0 on; where there are no workers nothing is due
-pub record IsAwaited (c : Setup) (steps : List WriterStep) : Type 0 where
-  pub alone : c.workers ≡ 0 → IsIdle c steps
-  pub duty : 0 < c.workers → (course c steps).duty ≡ Check (tables c steps).token
-  pub awaited : 0 < c.workers → (course c steps).awaited ≡ Some (tables c steps).token
-  pub next : next_asked (tables c steps) (tables c steps).token ≡ 0
+pub record IsAwaited (c : InitialState) (steps : List WriterStep) : Type 0 where
+  pub alone : c.workers ≡ 0 → HasNothingDue c steps
+  pub next_step : 0 < c.workers → (progress_after c steps).next_step ≡ Check (state_after c steps).token
+  pub awaited : 0 < c.workers → (progress_after c steps).awaited ≡ Some (state_after c steps).token
+  pub next : next_asked (state_after c steps) (state_after c steps).token ≡ 0
 
 -- The ledger rested after some steps. After these a token was started besides, and no check of it has
 -- passed; all else is as it was.
-pub record IsWaiting (first second : ℕ) (c : Setup) (steps : List WriterStep) (config : Config)
-    (rules : RuleList) (books : Books) (begun : ℕ) : Type 0 where
+pub record IsWaiting (first second : ℕ) (c : InitialState) (steps : List WriterStep) (config : Config)
+    (rules : RuleList) (pool : GroupPool) (begun : ℕ) : Type 0 where
   pub older : List WriterStep
-  pub rested : IsResting first second c older config rules books begun
-  pub quiet : IsQuiet (tables c older) (tables c steps)
-  pub started : (tables c steps).token ≡ suc (tables c older).token
-  pub passed : (tables c steps).passed ≡ (tables c older).passed
-  pub unpassed : (tables c steps).passed < (tables c steps).token
+  pub rested : IsResting first second c older config rules pool begun
+  pub quiet : SameTables (state_after c older) (state_after c steps)
+  pub started : (state_after c steps).token ≡ suc (state_after c older).token
+  pub passed : (state_after c steps).passed ≡ (state_after c older).passed
+  pub unpassed : (state_after c steps).passed < (state_after c steps).token
   pub due : IsAwaited c steps
   pub once : StoresOnce steps

@@ -8,16 +8,16 @@ use Rattle.lpm_limits.specs.declared.busy.Busy.{Busy}
 use Rattle.lpm_update.specs.Linked.{group_at}
 use Rattle.fib_model.specs.State.{Transitions}
 use Rattle.lpm_trace.specs.declared.step.WriterStep.{WriterStep}
-use Rattle.lpm_trace.specs.Tables.{Setup, tables, IsUpdating}
-use Rattle.lpm_writer.specs.declared.books.Books.{Books}
+use Rattle.lpm_trace.specs.States.{InitialState, state_after, IsUpdating}
+use Rattle.lpm_writer.specs.declared.pool.GroupPool.{GroupPool}
 use Rattle.lpm_writer.specs.Waiting.{IsTaken, tokens_of}
-use Rattle.lpm_writer.specs.Kept.{IsIdle, Keeps}
+use Rattle.lpm_writer.specs.Matching.{HasNothingDue, GroupsMatchSteps}
 
 -- no update runs, and nothing is due
-pub record MayTake (c : Setup) (steps : List WriterStep) (books : Books) : Type 0 where
-  pub keeps : Keeps c steps books.groups books.queue.items books.passed None
-  pub idle : IsIdle c steps
-  pub rests : ¬ IsUpdating (tables c steps)
+pub record MayTake (c : InitialState) (steps : List WriterStep) (pool : GroupPool) : Type 0 where
+  pub keeps : GroupsMatchSteps c steps pool.groups pool.queue.items pool.passed None
+  pub idle : HasNothingDue c steps
+  pub rests : ¬ IsUpdating (state_after c steps)
 
 -- the group that was taken
 abbrev pub taken_by : Result ℕ (Option Busy) → Option ℕ
@@ -26,7 +26,7 @@ taken_by (Err oldest) = None
 
 -- the least free group is taken; where none is free, the oldest in limbo once its check has passed.
 -- No group is taken where none is free, and none waits or a worker stops the check of the oldest.
-abbrev pub Takes : {X : Type 0} → Transitions X → X → Books → Result ℕ (Option Busy) → X → Books
+abbrev pub Takes : {X : Type 0} → Transitions X → X → GroupPool → Result ℕ (Option Busy) → X → GroupPool
     → Type 0
 Takes t x old (Ok group) z new =
     (0 < free_count old.groups → IsLeastFree old.groups group
@@ -50,8 +50,8 @@ found_by (Err oldest) = None
 
 -- a rule that needs no new group finds none, and one that needs one takes it for its block; where none
 -- can be taken the rule needs one
-abbrev pub Finds : {X : Type 0} → Transitions X → ℕ → ℕ → List ℕ → Network → X → Books
-    → Result (Option ℕ) (Option Busy) → X → Books → Type 0
+abbrev pub Finds : {X : Type 0} → Transitions X → ℕ → ℕ → List ℕ → Network → X → GroupPool
+    → Result (Option ℕ) (Option Busy) → X → GroupPool → Type 0
 Finds t first second firsts p x old (Ok None) z new = (new ≡ old) × (z ≡ x)
     × ((p.len ≤ first) ⊎ IsSome (group_at firsts (p.bits / 2 ^ second)))
 Finds t first second firsts p x old (Ok (Some group)) z new = NeedsGroup first second firsts p

@@ -6,8 +6,8 @@ use Rattle.lpm_limits.specs.declared.busy.Busy.{Busy}
 use Rattle.lpm_limits.specs.declared.config.Config.{Config}
 use Rattle.lpm_trace.specs.declared.step.RuleChange.{RuleChange}
 use Rattle.lpm_trace.specs.declared.step.WriterStep.{WriterStep}
-use Rattle.lpm_trace.specs.declared.step.WriterStep.TheVariants.{StoreFirst, StoreSecond, Opens, Closes, BumpToken, LoadCounter}
-use Rattle.lpm_trace.specs.Tables.{Setup, Tables, tables, lets_pass, first_entry}
+use Rattle.lpm_trace.specs.declared.step.WriterStep.TheVariants.{StoreFirst, StoreSecond, BeginUpdate, EndUpdate, BumpToken, LoadCounter}
+use Rattle.lpm_trace.specs.States.{InitialState, TableState, state_after, lets_pass, first_entry}
 use Rattle.fib_model.specs.State.{Transitions}
 use Rattle.fib_model.specs.Reclaiming.{MakesRoom}
 
@@ -16,8 +16,8 @@ abbrev pub Traced : Type 0 → Type 0
 Traced M = M × List WriterStep
 
 -- what the writer's steps leave
-abbrev pub tables_of : {M : Type 0} → Setup → Traced M → Tables
-tables_of c x = tables c x.1
+abbrev pub state_of_traced : {M : Type 0} → InitialState → Traced M → TableState
+state_of_traced c x = state_after c x.1
 
 -- one more step leads from x to z
 abbrev pub Goes : {M : Type 0} → (M → WriterStep → M → Type 0) → Traced M → WriterStep → Traced M
@@ -42,56 +42,56 @@ Asks {M} does workers x token (Err busy) z = (y : Traced M) × Loads does busy.w
 
 -- a check of a token: one that isn't above the greatest that has passed passes without a load, and for
 -- any other the workers are asked
-abbrev pub Checks : {M : Type 0} → (M → WriterStep → M → Type 0) → Setup → Traced M → ℕ
+abbrev pub Checks : {M : Type 0} → (M → WriterStep → M → Type 0) → InitialState → Traced M → ℕ
     → Result (Unit {0}) Busy → Traced M → Type 0
 Checks does c x token result z =
-    ((token ≤ (tables_of c x).passed) × (result ≡ Ok tt) × (z ≡ x))
-    ⊎ ((0 < c.workers → (tables_of c x).passed < token) × Asks does c.workers x token result z)
+    ((token ≤ (state_of_traced c x).passed) × (result ≡ Ok tt) × (z ≡ x))
+    ⊎ ((0 < c.workers → (state_of_traced c x).passed < token) × Asks does c.workers x token result z)
 
 -- the step stores a word, and not over one that links a group
-abbrev pub UnlinksNone : Tables → WriterStep → Type 0
+abbrev pub UnlinksNone : TableState → WriterStep → Type 0
 UnlinksNone w (StoreFirst i x) = group_in (first_entry w.words i) ≡ None
 UnlinksNone w (StoreSecond j x) = Unit {0}
 UnlinksNone w other = ⊥
 
 -- n stores one after another, none of which unlinks a group
-abbrev pub Stores : {M : Type 0} → (M → WriterStep → M → Type 0) → Setup → ℕ → Traced M → Traced M
+abbrev pub Stores : {M : Type 0} → (M → WriterStep → M → Type 0) → InitialState → ℕ → Traced M → Traced M
     → Type 0
 Stores does c zero x z = z ≡ x
 Stores {M} does c (suc n) x z = (y : Traced M) × (s : WriterStep) × Stores does c n x y
-    × UnlinksNone (tables_of c y) s × Goes does y s z
+    × UnlinksNone (state_of_traced c y) s × Goes does y s z
 
 -- after some stores a word that links a group is stored over, and a token is started for the group:
 -- that is the name of the unlinking
-abbrev pub StoresOverLink : {M : Type 0} → (M → WriterStep → M → Type 0) → Setup → Traced M → ℕ
+abbrev pub StoresOverLink : {M : Type 0} → (M → WriterStep → M → Type 0) → InitialState → Traced M → ℕ
     → Traced M → Type 0
 StoresOverLink {M} does c x name z =
     (n : ℕ) × (p : Traced M) × (q : Traced M) × (i : ℕ) × (w : ℕ) × (g : ℕ)
-    × Stores does c n x p × (group_in (first_entry (tables_of c p).words i) ≡ Some g)
+    × Stores does c n x p × (group_in (first_entry (state_of_traced c p).words i) ≡ Some g)
     × Goes does p (StoreFirst i w) q × Goes does q BumpToken z
-    × (name ≡ (tables_of c z).token)
+    × (name ≡ (state_of_traced c z).token)
 
 -- after some stores the update is done
-abbrev pub StoresAndCloses : {M : Type 0} → (M → WriterStep → M → Type 0) → Setup → Traced M
+abbrev pub StoresAndCloses : {M : Type 0} → (M → WriterStep → M → Type 0) → InitialState → Traced M
     → Traced M → Type 0
 StoresAndCloses {M} does c x z =
-    (n : ℕ) × (y : Traced M) × Stores does c n x y × Goes does y Closes z
+    (n : ℕ) × (y : Traced M) × Stores does c n x y × Goes does y EndUpdate z
 
 -- the parts of a change, by the writer's steps
-abbrev pub by_writer : {M : Type 0} → (M → WriterStep → M → Type 0) → Setup
+abbrev pub by_writer : {M : Type 0} → (M → WriterStep → M → Type 0) → InitialState
     → Transitions (Traced M)
 by_writer does c = record {
   checks = Checks does c;
-  begins = λ x z. (change : RuleChange) × Goes does x (Opens change) z;
+  begins = λ x z. (change : RuleChange) × Goes does x (BeginUpdate change) z;
   unlinks = StoresOverLink does c;
   ends = StoresAndCloses does c;
-  token = λ x. (tables_of c x).token;
+  token = λ x. (state_of_traced c x).token;
 }
 
 -- a token was started for a group that was just unlinked, room was made in limbo, and the group went
 -- last into it
-abbrev pub Retires : {M : Type 0} → (M → WriterStep → M → Type 0) → Setup → Config → Traced M
+abbrev pub Retires : {M : Type 0} → (M → WriterStep → M → Type 0) → InitialState → Config → Traced M
     → List ℕ → Traced M → List ℕ → Type 0
 Retires {M} does c config x limbo z limbo' = (y : Traced M) × (left : List ℕ)
     × Goes does x BumpToken y × MakesRoom (by_writer does c) config y limbo left z
-    × (limbo' ≡ left ++ (tables_of c y).token ∷ [])
+    × (limbo' ≡ left ++ (state_of_traced c y).token ∷ [])

@@ -2,9 +2,9 @@
 
 ghost use Rattle.std.specs.Prelude.{◌≡◌, ◌<◌, ◌≤◌, ◌↔◌, ℕ, List, IsTrue, OnOk, OnErr};
 ghost use Rattle.lpm_trace.specs.declared.step.WriterStep.{WriterStep};
-ghost use Rattle.lpm_trace.specs.Tables.{Setup};
+ghost use Rattle.lpm_trace.specs.States.{InitialState};
 ghost use Rattle.lpm_writer.specs.Traced.{Asks, Checks};
-ghost use Rattle.lpm_writer.specs.Kept.{MayAsk, Remembers};
+ghost use Rattle.lpm_writer.specs.Matching.{MayAsk, Remembers};
 
 use crate::Memory;
 use qsbr::Busy;
@@ -19,9 +19,9 @@ fn holds(counter: u64, token: u64) -> bool
 
 /// Loads the counter of one worker after another, up to the first that hasn't left the token behind.
 pub(crate) fn ask<M: Memory>(memory: &mut M, token: u64) -> Result<(), Busy>
-    requires may { (c : Setup) × (steps : List WriterStep)
+    requires may { (c : InitialState) × (steps : List WriterStep)
         × M.did memory.old c steps × MayAsk c steps token }
-    ensures asks { (c : Setup) (steps : List WriterStep)
+    ensures asks { (c : InitialState) (steps : List WriterStep)
         → M.did memory.old c steps → MayAsk c steps token
         → (later : List WriterStep) × M.did memory.new c later
         × Asks M.does c.workers (memory.old, steps) token result (memory.new, later) }
@@ -38,9 +38,9 @@ pub(crate) fn ask<M: Memory>(memory: &mut M, token: u64) -> Result<(), Busy>
 /// Whether no worker holds any more what was given up under the token; else the first that does. No
 /// counter is loaded for a token that isn't above the greatest that has passed.
 pub(crate) fn check<M: Memory>(memory: &mut M, passed: &mut u64, token: u64) -> Result<(), Busy>
-    requires may { (c : Setup) × (steps : List WriterStep)
+    requires may { (c : InitialState) × (steps : List WriterStep)
         × M.did memory.old c steps × (passed.old < token → MayAsk c steps token) }
-    ensures checks { (c : Setup) (steps : List WriterStep)
+    ensures checks { (c : InitialState) (steps : List WriterStep)
         → M.did memory.old c steps → Remembers c steps passed.old
         → (passed.old < token → MayAsk c steps token)
         → (later : List WriterStep) × M.did memory.new c later

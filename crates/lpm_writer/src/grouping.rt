@@ -5,13 +5,13 @@ ghost use Rattle.lpm_bits.specs.Widths.{IsShape};
 ghost use Rattle.lpm_cells.specs.Table.{IsWords};
 ghost use Rattle.lpm_update.specs.Linked.{group_at};
 ghost use Rattle.lpm_trace.specs.declared.step.WriterStep.{WriterStep};
-ghost use Rattle.lpm_trace.specs.Tables.{Setup};
+ghost use Rattle.lpm_trace.specs.States.{InitialState};
 ghost use Rattle.lpm_writer.specs.Waiting.{IsQueued, IsTaken};
 ghost use Rattle.lpm_writer.specs.Traced.{by_writer};
-ghost use Rattle.lpm_writer.specs.Kept.{IsStill, Keeps};
+ghost use Rattle.lpm_writer.specs.Matching.{OnlyChecks, GroupsMatchSteps};
 ghost use Rattle.lpm_writer.specs.Taking.{LinksLeast, MayTake, Finds, NeedsGroup, found_by};
 
-use super::Books;
+use super::GroupPool;
 use super::waiting::take;
 use crate::Memory;
 use lpm_bits::{Prefix, Shape};
@@ -41,23 +41,23 @@ pub(crate) fn group_for<const FIRST: u32, const SECOND: u32, M: Memory>(
     prefix: &Prefix<FIRST, SECOND>,
     linked: bool,
     memory: &mut M,
-    books: &mut Books,
+    pool: &mut GroupPool,
 ) -> Result<Option<u32>, Option<Busy>>
     requires linked { IsTrue linked
         ↔ IsSome (group_at (M.words memory.old).firsts (prefix.now.bits / 2 ^ SECOND)) }
-    requires queued { IsQueued books.old.groups books.old.queue }
-    requires rests { (c : Setup) × (steps : List WriterStep) × M.did memory.old c steps
-        × MayTake c steps books.old }
-    ensures finds { (c : Setup) (steps : List WriterStep) → M.did memory.old c steps
-        → MayTake c steps books.old
-        → (later : List WriterStep) × M.did memory.new c later × IsStill c steps later
-        × Keeps c later books.new.groups books.new.queue.items books.new.passed (found_by result)
+    requires queued { IsQueued pool.old.groups pool.old.queue }
+    requires rests { (c : InitialState) × (steps : List WriterStep) × M.did memory.old c steps
+        × MayTake c steps pool.old }
+    ensures finds { (c : InitialState) (steps : List WriterStep) → M.did memory.old c steps
+        → MayTake c steps pool.old
+        → (later : List WriterStep) × M.did memory.new c later × OnlyChecks c steps later
+        × GroupsMatchSteps c later pool.new.groups pool.new.queue.items pool.new.passed (found_by result)
         × Finds (by_writer M.does c) FIRST SECOND (M.words memory.old).firsts prefix.now
-        (memory.old, steps) books.old result (memory.new, later) books.new }
-    ensures least { LinksLeast books.old.groups books.new.groups }
-    ensures unchanged { OnErr result ((books.new.groups ≡ books.old.groups)
-        × (books.new.queue ≡ books.old.queue)) }
-    ensures queued { IsQueued books.new.groups books.new.queue }
+        (memory.old, steps) pool.old result (memory.new, later) pool.new }
+    ensures least { LinksLeast pool.old.groups pool.new.groups }
+    ensures unchanged { OnErr result ((pool.new.groups ≡ pool.old.groups)
+        × (pool.new.queue ≡ pool.old.queue)) }
+    ensures queued { IsQueued pool.new.groups pool.new.queue }
 {
     let bits = prefix.bits();
     if prefix.len() <= FIRST {
@@ -67,7 +67,7 @@ pub(crate) fn group_for<const FIRST: u32, const SECOND: u32, M: Memory>(
         return Ok(None);
     }
     let block = Shape::<FIRST, SECOND>::first_index(bits);
-    match take(books, memory, block) {
+    match take(pool, memory, block) {
         Ok(group) => return Ok(Some(group)),
         Err(oldest) => return Err(oldest),
     }

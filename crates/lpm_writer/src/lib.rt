@@ -2,24 +2,24 @@
 #![tactic(auto)]
 
 mod asking;
-mod books;
 mod changing;
+mod control;
 mod exhausted;
 mod grouping;
-mod ledger;
 mod memory;
 mod open_error;
 mod opening;
 mod plain_memory;
+mod pool;
 mod running;
 mod synchronizing;
 mod waiting;
 
-pub use books::Books;
+pub use control::{ControlState, add, delete, flush, reclaim};
 pub use exhausted::Exhausted;
-pub use ledger::{Ledger, add, delete, flush, reclaim};
 pub use memory::Memory;
 pub use open_error::OpenError;
 pub use opening::open;
 pub use plain_memory::PlainMemory;
+pub use pool::GroupPool;
 pub use synchronizing::{check_synchronize, start_synchronize};

@@ -6,8 +6,8 @@
 
 ghost use Rattle.std.specs.Prelude.{◌≡◌, ℕ, ◌+◌, ◌^◌, ◌<◌, ◌≤◌, List, ◌∷◌};
 ghost use Rattle.lpm_trace.specs.declared.step.WriterStep.{WriterStep};
-ghost use Rattle.lpm_trace.specs.declared.step.WriterStep.TheVariants.{StoreFirst, StoreSecond, Opens, Closes, BumpToken, LoadCounter};
-ghost use Rattle.lpm_trace.specs.Tables.{Setup, tables, done};
+ghost use Rattle.lpm_trace.specs.declared.step.WriterStep.TheVariants.{StoreFirst, StoreSecond, BeginUpdate, EndUpdate, BumpToken, LoadCounter};
+ghost use Rattle.lpm_trace.specs.States.{InitialState, state_after, updates_done_in};
 ghost use Rattle.lpm_trace.specs.Writer.{IsWritten, MayStep};
 ghost use Rattle.lpm_writer.specs.MemorySteps.{MayBeNext};
 
@@ -25,7 +25,7 @@ pub trait Memory: Cells {
     ghost newest: { Self → ℕ };
 
     // from this opening the writer's steps so far may be these
-    ghost did: { Self → Setup → List WriterStep → Type 0 };
+    ghost did: { Self → InitialState → List WriterStep → Type 0 };
 
     // the step leads to the second memory
     ghost does: { Self → WriterStep → Self → Type 0 };
@@ -41,15 +41,15 @@ pub trait Memory: Cells {
 
     /// The update of this change of the rules begins.
     fn open(&mut self, change: &RuleChange)
-        requires may { MayBeNext did self.old (Opens change.now) }
-        requires few { (c : Setup) × (steps : List WriterStep) × did self.old c steps
-            × (done (tables c steps) < 2 ^ 61) }
-        ensures does { does self.old (Opens change.now) self.new };
+        requires may { MayBeNext did self.old (BeginUpdate change.now) }
+        requires few { (c : InitialState) × (steps : List WriterStep) × did self.old c steps
+            × (updates_done_in (state_after c steps) < 2 ^ 61) }
+        ensures does { does self.old (BeginUpdate change.now) self.new };
 
     /// The update is done.
     fn close(&mut self)
-        requires may { MayBeNext did self.old Closes }
-        ensures does { does self.old Closes self.new };
+        requires may { MayBeNext did self.old EndUpdate }
+        ensures does { does self.old EndUpdate self.new };
 
     /// Starts a token, which no worker has loaded yet, and returns it.
     fn start(&mut self) -> u64
@@ -64,14 +64,14 @@ pub trait Memory: Cells {
         requires may { (counter : ℕ) → MayBeNext did self.old (LoadCounter checked worker counter) }
         ensures does { does self.old (LoadCounter checked worker result) self.new };
 
-    ghost follows: { (m : Self) (s : WriterStep) (z : Self) (c : Setup) (steps : List WriterStep)
+    ghost follows: { (m : Self) (s : WriterStep) (z : Self) (c : InitialState) (steps : List WriterStep)
         → does m s z → did m c steps → MayStep c steps s → did z c (s ∷ steps) };
 
-    ghost shows: { (m : Self) (c : Setup) (steps : List WriterStep) → did m c steps
-        → (Self.words m ≡ (tables c steps).words) × (newest m ≡ (tables c steps).token)
+    ghost shows: { (m : Self) (c : InitialState) (steps : List WriterStep) → did m c steps
+        → (Self.words m ≡ (state_after c steps).words) × (newest m ≡ (state_after c steps).token)
         × (worker_count m ≡ c.workers) };
 
-    ghost written: { (m : Self) (c : Setup) (steps : List WriterStep) → did m c steps
+    ghost written: { (m : Self) (c : InitialState) (steps : List WriterStep) → did m c steps
         → IsWritten c steps };
 
     ghost may_first: { (m : Self) (i w : ℕ) → MayBeNext did m (StoreFirst i w)

@@ -9,11 +9,11 @@ ghost use Rattle.lpm_update.specs.Represents.{Represents, TurnsInto};
 ghost use Rattle.lpm_update.specs.Tied.{IsTied};
 ghost use Rattle.lpm_update.specs.Update.{group_held};
 ghost use Rattle.lpm_trace.specs.declared.step.WriterStep.{WriterStep};
-ghost use Rattle.lpm_trace.specs.Tables.{Setup};
+ghost use Rattle.lpm_trace.specs.States.{InitialState};
 ghost use Rattle.lpm_writer.specs.Waiting.{IsQueued};
 ghost use Rattle.lpm_writer.specs.Making.{MayMake, HasMade};
 
-use super::Books;
+use super::GroupPool;
 use super::waiting::retire;
 use crate::Memory;
 use lpm_update::Update;
@@ -23,33 +23,33 @@ use qsbr::Config;
 pub(crate) fn run<const FIRST: u32, const SECOND: u32, M: Memory>(
     update: Update,
     memory: &mut M,
-    books: &mut Books,
+    pool: &mut GroupPool,
     config: &Config,
 )
     requires shape { IsShape FIRST SECOND }
-    requires begun { (c : Setup) × (steps : List WriterStep) × M.did memory.old c steps
-        × MayMake FIRST SECOND c steps update books.old }
-    requires tied { IsTied FIRST books.old.groups
+    requires begun { (c : InitialState) × (steps : List WriterStep) × M.did memory.old c steps
+        × MayMake FIRST SECOND c steps update pool.old }
+    requires tied { IsTied FIRST pool.old.groups
         (group_held update (M.words memory.old).firsts) }
-    requires queued { IsQueued books.old.groups books.old.queue }
-    requires tokens { M.newest memory.old + length books.old.groups ≤ 2 ^ 62 }
-    ensures made { (c : Setup) (steps : List WriterStep) → M.did memory.old c steps
-        → MayMake FIRST SECOND c steps update books.old
+    requires queued { IsQueued pool.old.groups pool.old.queue }
+    requires tokens { M.newest memory.old + length pool.old.groups ≤ 2 ^ 62 }
+    ensures made { (c : InitialState) (steps : List WriterStep) → M.did memory.old c steps
+        → MayMake FIRST SECOND c steps update pool.old
         → (later : List WriterStep) × M.did memory.new c later
-        × HasMade M.does c config.now memory.old steps books.old memory.new later books.new }
+        × HasMade M.does c config.now memory.old steps pool.old memory.new later pool.new }
     ensures represents { (R R' : RuleMap) → Represents FIRST SECOND R (M.words memory.old)
         → TurnsInto FIRST SECOND update R R'
         → Represents FIRST SECOND R' (M.words memory.new)
-        × IsTied FIRST books.new.groups (group_at (M.words memory.new).firsts) }
+        × IsTied FIRST pool.new.groups (group_at (M.words memory.new).firsts) }
     ensures sizes { length (M.words memory.new).seconds ≡ length (M.words memory.old).seconds }
-    ensures queued { IsQueued books.new.groups books.new.queue }
-    ensures states { length books.new.groups ≡ length books.old.groups }
-    ensures fewer { linked_count books.new.groups ≤ linked_count books.old.groups }
-    ensures stays { linked_count books.new.groups ≡ linked_count books.old.groups
-        → books.new.groups ≡ books.old.groups }
+    ensures queued { IsQueued pool.new.groups pool.new.queue }
+    ensures states { length pool.new.groups ≡ length pool.old.groups }
+    ensures fewer { linked_count pool.new.groups ≤ linked_count pool.old.groups }
+    ensures stays { linked_count pool.new.groups ≡ linked_count pool.old.groups
+        → pool.new.groups ≡ pool.old.groups }
 {
     let mut update = update;
     while let Some(group) = update.run::<FIRST, SECOND, M>(memory) {
-        retire(books, memory, group, config);
+        retire(pool, memory, group, config);
     }
 }

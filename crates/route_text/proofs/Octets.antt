@@ -4,7 +4,7 @@ use Rattle.std.specs.Fmt.{decimal}
 use Rattle.std.proofs.lemmas.List.{append-nil}
 use Rattle.route_text.specs.declared.lines.End.{End}
 use Rattle.route_text.specs.declared.lines.End.TheVariants as ends
-use Rattle.route_text.specs.Fields.{IsAddress, dotted}
+use Rattle.route_text.specs.Fields.{IsAddress, dotted_quad}
 use Rattle.route_text.specs.Starts.{StartsNumber, StartsNoDigit, StartsNextOctet, StartsNoNextOctet, StartsAddress, StartsNumberBefore, StartsAddressBefore}
 use Rattle.route_text.proofs.Digits.{one_start}
 
@@ -33,7 +33,7 @@ octets_of text rest addr is = record {
 
 pub address_from : (text rest : List ℕ) (a b c d : ℕ) → Octets text rest a b c d → StartsAddress text (((a * 256 + b) * 256 + c) * 256 + d) rest
 address_from text rest a b c d is = record {
-  front = dotted a b c d;
+  front = dotted_quad a b c d;
   address = record { a = a; b = b; c = c; d = d; octets = is.fits; spelled = refl; value = refl };
   split = is.split ∙ sym (regroup (decimal a) (decimal b) (decimal c) (decimal d) rest);
   ends = is.ends;
@@ -122,7 +122,7 @@ octets_before end text r s t rest a b c d p q u v =
     let third : q.after ≡ after_dot c (after_dot d v.after) = q.ends ∙ ap (λ x. 46 ∷ x) (u.split ∙ ap (λ x. decimal c ++ x) fourth) in
     let second : p.after ≡ after_dot b (after_dot c (after_dot d v.after)) = p.ends ∙ ap (λ x. 46 ∷ x) (q.split ∙ ap (λ x. decimal b ++ x) third) in
     record {
-      front = dotted a b c d;
+      front = dotted_quad a b c d;
       after = v.after;
       address = record {
         a = a;

@@ -7,7 +7,7 @@ use Rattle.std.proofs.lemmas.Fmt.{decimal_is_IsNumeral, decimal_nonempty}
 use Rattle.std.proofs.lemmas.List.{append-nil, length-append, get_or_append_left}
 use Rattle.std.proofs.lemmas.Str.Parse.{digit_from_value, digit_at}
 use Rattle.route_text.specs.Lines.{is_blank, onto_first, lines, fields}
-use Rattle.lpm_bits.specs.Network.{Network, masked}
+use Rattle.lpm_bits.specs.Network.{Network, network_bits}
 use Rattle.route_text.specs.declared.lines.End.TheVariants as ends
 use Rattle.route_text.specs.declared.grammar.Said.TheVariants as said
 use Rattle.route_text.specs.Fields.{IsNumber, IsAddress, IsPrefix}
@@ -118,7 +118,7 @@ address_unslashed text addr is =
     dot = (refl, tt)
 
 -- the prefix that an address, a slash and a length are
-pub prefix_of : (text after : List ℕ) (addr len : ℕ) (prefix : Network) → IsAddress text addr → IsNumber 32 after len → prefix ≡ record { bits = masked 32 len addr; len = len } → IsPrefix (text ++ 47 ∷ after) prefix
+pub prefix_of : (text after : List ℕ) (addr len : ℕ) (prefix : Network) → IsAddress text addr → IsNumber 32 after len → prefix ≡ record { bits = network_bits 32 len addr; len = len } → IsPrefix (text ++ 47 ∷ after) prefix
 prefix_of text after addr len prefix is number e = record {
   addr = addr;
   back = after;
@@ -131,7 +131,7 @@ prefix_of text after addr len prefix is number e = record {
 -- an address, a slash, a length, a space, a hop and the end of the line
 pub plain_route_line : (n addr len hop : ℕ) (prefix : Network) (bytes b d rest : List ℕ)
     → StartsAddressBefore (ends.Byte 47) bytes addr b → StartsNumberBefore (ends.Byte 32) 32 b len d → StartsNumberBefore ends.Line 16777215 d hop rest
-    → prefix ≡ record { bits = masked 32 len addr; len = len }
+    → prefix ≡ record { bits = network_bits 32 len addr; len = len }
     → SaysFirst SpellsRoute HasRouteFault n bytes (said.Item (record { line = n; prefix = prefix; hop = hop })) rest
 plain_route_line n addr len hop prefix bytes b d rest address length_is hop_is same =
     let text = address.front in

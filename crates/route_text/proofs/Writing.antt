@@ -6,7 +6,7 @@ use borrow.Author.Tests.{ltb-true}
 use Rattle.std.proofs.Math.Seq.{drop-cons}
 use Rattle.std.proofs.lemmas.Fmt.{decimal_nonempty}
 use Rattle.std.proofs.lemmas.List.{append-nil, length-append, drop_all}
-use Rattle.lpm_bits.specs.Network.{Network, IsNetwork, masked}
+use Rattle.lpm_bits.specs.Network.{Network, IsNetwork, network_bits}
 use Rattle.route_text.specs.declared.orders.Order.{Order}
 use Rattle.route_text.specs.declared.orders.Order.TheVariants as orders
 use Rattle.route_text.specs.declared.outcomes.Outcome.{Outcome}
@@ -161,7 +161,7 @@ module _ (prefix : Network) (is : IsNetwork 32 prefix) where
 
   spelled_prefix : IsPrefix (prefix_text prefix) prefix
   spelled_prefix =
-      let same : prefix ≡ record { bits = masked 32 prefix.len prefix.bits; len = prefix.len } = ap (λ b. made b prefix.len) (sym is.2) in
+      let same : prefix ≡ record { bits = network_bits 32 prefix.len prefix.bits; len = prefix.len } = ap (λ b. made b prefix.len) (sym is.2) in
       subst (λ t. IsPrefix t prefix) (sym regroup_prefix) (prefix_of (address_text prefix.bits) (decimal prefix.len) prefix.bits prefix.len prefix spelled_address (record { small = is.0; spelled = refl }) same)
     where
       made : ℕ → ℕ → Network

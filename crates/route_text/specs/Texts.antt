@@ -8,12 +8,12 @@ use Rattle.route_text.specs.declared.orders.Order.{Order}
 use Rattle.route_text.specs.declared.orders.Order.TheVariants as orders
 use Rattle.route_text.specs.declared.outcomes.Outcome.{Outcome}
 use Rattle.route_text.specs.declared.outcomes.Outcome.TheVariants as outcomes
-use Rattle.route_text.specs.Fields.{dotted}
+use Rattle.route_text.specs.Fields.{dotted_quad}
 use Rattle.route_text.specs.Updates.{header}
 
 -- the four octets as decimals
 abbrev pub address_text : ℕ → List ℕ
-address_text a = dotted (a / 2 ^ 24) (a / 2 ^ 16 % 256) (a / 2 ^ 8 % 256) (a % 256)
+address_text a = dotted_quad (a / 2 ^ 24) (a / 2 ^ 16 % 256) (a / 2 ^ 8 % 256) (a % 256)
 
 -- the hop as a decimal, or `-` for a miss
 abbrev pub hop_text : Option ℕ → List ℕ

@@ -4,7 +4,7 @@ ghost use Rattle.bulk.specs.Desks.{IsDeskOf};
 ghost use Rattle.shared_fib.specs.Passes.{IsFullBench};
 
 use super::asserting::assert_at;
-use bulk::{BulkError, Desk, Gate, Open, border, bulk, bulk_plain, seat_all};
+use bulk::{BulkError, Desk, Gate, Open, bulk, bulk_plain, piece_start, seat_all};
 use fib::{Fib, OpenError};
 use lpm_bits::{Hop, Prefix};
 use qsbr::{Config, Refusal};
@@ -73,7 +73,7 @@ fn pieces(rt: HostRuntime) -> Result<(), Fail> {
 fn assert_ends(rt: &impl Abort, ends: &[usize]) {
     let workers = ends.len();
     for i in 0..workers {
-        assert_at(rt, (i, workers), border(i + 1, 5, workers), ends[i]);
+        assert_at(rt, (i, workers), piece_start(i + 1, 5, workers), ends[i]);
     }
 }
 
@@ -145,7 +145,7 @@ fn assert_five_by_desks<R: Abort + Threads + Sync>(
 ) -> Result<(), Fail>
     requires own { writer.old.identity ≡ table.now }
     requires full { IsFullBench table.now bench.old }
-    requires workers { workers ≡ table.now.opening.workers }
+    requires workers { workers ≡ table.now.initial.workers }
 {
     let mut desks = seat_all(alloc, table, bench, workers)?;
     assert_five_at_desks(rt, alloc, table, writer, &mut desks)?;
@@ -183,7 +183,7 @@ fn pieces_end_at_borders(rt: HostRuntime) {
     assert_ends(&rt, &[2, 5]);
     assert_ends(&rt, &[1, 3, 5]);
     assert_ends(&rt, &[0, 1, 1, 2, 3, 3, 4, 5]);
-    assert_at(&rt, "the most", border(3, usize::MAX, 3), usize::MAX);
+    assert_at(&rt, "the most", piece_start(3, usize::MAX, 3), usize::MAX);
 }
 
 fn small(alloc: Global) -> Result<Fib<4, 4>, OpenError> {
@@ -321,7 +321,7 @@ fn meet_by_a_running_table<R: Abort + Threads + Sync>(
 )
     requires own { writer.old.identity ≡ table.now }
     requires full { IsFullBench table.now bench.old }
-    requires workers { 2 ≡ table.now.opening.workers }
+    requires workers { 2 ≡ table.now.initial.workers }
 {
     let mut desks = seat_all(alloc, table, bench, 2).expect(rt, "desks");
     meet_at_desks(rt, alloc, table, writer, &mut desks);

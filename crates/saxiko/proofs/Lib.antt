@@ -1,2 +1,2 @@
 mod Benches
-mod Opened
+mod InitialData

@@ -111,10 +111,10 @@ impl GracePeriod {
     /// after the token was there, and no group that was queued before is held at any later check. The error
     /// gives the grace period back, and names the reader that holds the token.
     pub fn check(self) -> Result<Owner, Held>
-        ensures passes { IfOk result (λ owner. Checks self.writer.identity.opening.workers
+        ensures passes { IfOk result (λ owner. Checks self.writer.identity.initial.workers
             (steps_of self.writer) (token_of self.writer) (Ok tt)
             (steps_of owner.writer)) }
-        ensures checked { IfOk result (λ owner. IsChecked self.writer.identity.opening.workers self.writer.identity.opening.token
+        ensures checked { IfOk result (λ owner. IsChecked self.writer.identity.initial.workers self.writer.identity.initial.token
             (steps_of owner.writer) (token_of self.writer)) }
         ensures queued { IfOk result (λ owner. 0 < self.writer.config.workers
             → All (λ token. token ≤ passed_of owner.writer) owner.writer.table.limbo) }
@@ -124,7 +124,7 @@ impl GracePeriod {
         ensures token { IfOk result
             (λ owner. token_of owner.writer ≡ token_of self.writer) }
         ensures bench { IfOk result (λ owner. owner.bench ≡ self.bench) }
-        ensures stopped { IfErr result (λ held. Checks self.writer.identity.opening.workers
+        ensures stopped { IfErr result (λ held. Checks self.writer.identity.initial.workers
             (steps_of self.writer) (token_of self.writer) (Err held.busy)
             (steps_of held.period.writer)) }
         ensures goes_on { IfErr result (λ held. held.period.writer ≡ record self.writer {

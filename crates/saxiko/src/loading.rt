@@ -5,9 +5,9 @@ ghost use Rattle.std.specs.FinMap as map;
 ghost use Rattle.lpm_limits.specs.Limits.{IsConfig};
 ghost use Rattle.lpm_rules.specs.Listed.{AreInOrder, rules_of};
 ghost use Rattle.fib_model.specs.Outcomes.{groups_in_use};
-ghost use Rattle.fib.specs.Fib.{opened_with};
+ghost use Rattle.fib.specs.Fib.{initial_fib_with};
 ghost use Rattle.shared_fib.specs.Passes.{IsFullBench};
-ghost use Rattle.shared_fib.specs.Running.{opens_with};
+ghost use Rattle.shared_fib.specs.Running.{initial_writer};
 
 use crate::rule::Inner;
 use crate::{Config, OpenError, Owner, Rule, Table};
@@ -55,7 +55,7 @@ impl Table {
         rules: &[Rule],
     ) -> Result<Option<Self>, OpenError>
         ensures opened { IfOk result (λ o. IfSome o (λ table.
-            table ≡ opened_with config (rules_of rules.now))) }
+            table ≡ initial_fib_with config (rules_of rules.now))) }
         ensures rules_fit { IfOk result (λ o. IfSome o (λ _.
             map.len (rules_of rules.now) ≤ config.rules)) }
         ensures groups_fit { IfOk result (λ o. IfSome o (λ _.
@@ -91,11 +91,11 @@ impl Owner {
         rules: &[Rule],
     ) -> Result<Option<Self>, OpenError>
         ensures opened { IfOk result (λ o. IfSome o (λ owner.
-            owner.writer ≡ opens_with owner.writer.identity config (rules_of rules.now))) }
+            owner.writer ≡ initial_writer owner.writer.identity config (rules_of rules.now))) }
         ensures token { IfOk result (λ o. IfSome o (λ owner.
-            owner.writer.identity.opening.token ≡ config.first_token)) }
+            owner.writer.identity.initial.token ≡ config.first_token)) }
         ensures workers { IfOk result (λ o. IfSome o (λ owner.
-            owner.writer.identity.opening.workers ≡ config.workers)) }
+            owner.writer.identity.initial.workers ≡ config.workers)) }
         ensures bench { IfOk result (λ o. IfSome o (λ owner.
             IsFullBench owner.writer.identity owner.bench)) }
         ensures rules_fit { IfOk result (λ o. IfSome o (λ _.

@@ -7,15 +7,15 @@ ghost use Rattle.fib_model.specs.Outcomes.{Adds, Deletes, Flushes, Frees, groups
 ghost use Rattle.lpm_limits.specs.Limits.{IsConfig};
 ghost use Rattle.lpm_limits.specs.declared.refusal.Refusal.{Refusal};
 ghost use Rattle.lpm_rules.specs.declared.Put.{Put};
-ghost use Rattle.lpm_trace.specs.declared.step.WorkerStep.TheVariants.{StoreOffline, Meets};
+ghost use Rattle.lpm_trace.specs.declared.step.WorkerStep.TheVariants.{StoreOffline, MeetWriter};
 ghost use Rattle.lpm_trace.specs.Laws.{IsChecked};
-ghost use Rattle.lpm_writer.specs.Opening.{opening_setup};
+ghost use Rattle.lpm_writer.specs.Blank.{blank_state};
 ghost use Rattle.lpm_writer.specs.Steps.{Synchronizes};
 ghost use Rattle.shared_fib.specs.Taking.{TakesLeast};
 ghost use Rattle.shared_words.specs.Rule.{IsLater};
 ghost use Rattle.shared_fib.specs.Freeing.{FreesChecked};
 ghost use Rattle.shared_fib.specs.Passes.{IsBenchOf, IsFullBench, IsPassOf, Makes, PassState};
-ghost use Rattle.shared_fib.specs.Running.{IsAtRest, by_steps, opens_with, passed_of, setup, steps_of, token_of};
+ghost use Rattle.shared_fib.specs.Running.{IsAtRest, by_steps, initial_writer, passed_of, initial_state, steps_of, token_of};
 
 use crate::{Hop, Prefix, Reader};
 use defer_queue::Reclaimed;
@@ -93,12 +93,12 @@ impl Owner {
     /// A running table without rules, with a reader for each worker, all offline. It refuses limits out of
     /// range, and ends with `Memory` where there is no room for the words, the groups or the workers.
     pub fn open(alloc: Global, config: Config) -> Result<Self, OpenError>
-        ensures opening { IfOk result
-            (λ owner. setup owner.writer.identity ≡ opening_setup 24 8 config) }
+        ensures initial { IfOk result
+            (λ owner. initial_state owner.writer.identity ≡ blank_state 24 8 config) }
         ensures opened { IfOk result
-            (λ owner. owner.writer ≡ opens_with owner.writer.identity config map.empty) }
-        ensures token { IfOk result (λ owner. owner.writer.identity.opening.token ≡ config.first_token) }
-        ensures workers { IfOk result (λ owner. owner.writer.identity.opening.workers ≡ config.workers) }
+            (λ owner. owner.writer ≡ initial_writer owner.writer.identity config map.empty) }
+        ensures token { IfOk result (λ owner. owner.writer.identity.initial.token ≡ config.first_token) }
+        ensures workers { IfOk result (λ owner. owner.writer.identity.initial.workers ≡ config.workers) }
         ensures bench { IfOk result (λ owner. IsFullBench owner.writer.identity owner.bench) }
         ensures limits { IfOk result (λ _. IsConfig config) }
         ensures bad_config { IfErr result
@@ -117,7 +117,7 @@ impl Owner {
         ensures registered { IfOk result (λ p. (slice_get self.old.bench worker ≡ Some (Some p))
             × (self.new.bench ≡ slice_set self.old.bench worker None)) }
         ensures no_such_worker { IsErrOf result Refusal.NoSuchWorker
-            ↔ (self.old.writer.identity.opening.workers ≤ worker) }
+            ↔ (self.old.writer.identity.initial.workers ≤ worker) }
         ensures taken { IsErrOf result Refusal.Taken ↔ (slice_get self.old.bench worker ≡ Some None) }
         ensures unchanged { OnErr result (self.new ≡ self.old) }
         ensures own { IsBenchOf self.new.writer.identity self.new.bench }
@@ -155,7 +155,7 @@ impl Owner {
         requires own { reader.old.table ≡ self.old.writer.identity }
         ensures own { reader.new.table ≡ reader.old.table }
         ensures step { (number : ℕ) × (place : ℕ)
-            × Makes ((Meets number, place) ∷ []) reader.old reader.new }
+            × Makes ((MeetWriter number, place) ∷ []) reader.old reader.new }
         ensures all { reader.new.seen ≡ steps_of self.old.writer }
         ensures same { self.new ≡ self.old }
         ensures online { reader.new.online ≡ reader.old.online }
@@ -173,11 +173,11 @@ impl Owner {
     /// has no room; and `NoGroups`, where a rule longer than 24 bits is the first in its block, no group is
     /// free, and the oldest in limbo is held or there is none. It names the worker that holds that one.
     pub fn add(&mut self, prefix: &Prefix, hop: Hop) -> Result<Put, Refusal>
-        ensures adds { Adds (by_steps self.old.writer.identity.opening) 24 8 self.old.writer.config
+        ensures adds { Adds (by_steps self.old.writer.identity.initial) 24 8 self.old.writer.config
             self.old.writer.table prefix.now hop result self.new.writer.table }
-        ensures least { TakesLeast self.old.writer.identity.opening
+        ensures least { TakesLeast self.old.writer.identity.initial
             self.old.writer.table self.new.writer.table }
-        ensures checked { (freed : List ℕ) × FreesChecked self.old.writer.identity.opening
+        ensures checked { (freed : List ℕ) × FreesChecked self.old.writer.identity.initial
             self.old.writer.table self.new.writer.table freed }
         ensures later { IsLater (steps_of self.old.writer) (steps_of self.new.writer) }
         ensures own { self.new.writer.identity ≡ self.old.writer.identity }
@@ -194,11 +194,11 @@ impl Owner {
             (λ old. old ≡ map.get self.old.writer.table.rules prefix.now) }
         ensures adds { (put : Result Put Refusal)
             × MatchResult result (λ _. IsOk put) (λ error. put ≡ Err error)
-            × Adds (by_steps self.old.writer.identity.opening) 24 8 self.old.writer.config
+            × Adds (by_steps self.old.writer.identity.initial) 24 8 self.old.writer.config
             self.old.writer.table prefix.now hop put self.new.writer.table }
-        ensures least { TakesLeast self.old.writer.identity.opening
+        ensures least { TakesLeast self.old.writer.identity.initial
             self.old.writer.table self.new.writer.table }
-        ensures checked { (freed : List ℕ) × FreesChecked self.old.writer.identity.opening
+        ensures checked { (freed : List ℕ) × FreesChecked self.old.writer.identity.initial
             self.old.writer.table self.new.writer.table freed }
         ensures later { IsLater (steps_of self.old.writer) (steps_of self.new.writer) }
         ensures own { self.new.writer.identity ≡ self.old.writer.identity }
@@ -218,9 +218,9 @@ impl Owner {
     ///
     /// The refusals: `NoSuchRule`, where the prefix has no rule, and else `Exhausted`.
     pub fn delete(&mut self, prefix: &Prefix) -> Result<Hop, Refusal>
-        ensures deletes { Deletes (by_steps self.old.writer.identity.opening) 24 8
+        ensures deletes { Deletes (by_steps self.old.writer.identity.initial) 24 8
             self.old.writer.config self.old.writer.table prefix.now result self.new.writer.table }
-        ensures checked { (freed : List ℕ) × FreesChecked self.old.writer.identity.opening
+        ensures checked { (freed : List ℕ) × FreesChecked self.old.writer.identity.initial
             self.old.writer.table self.new.writer.table freed }
         ensures later { IsLater (steps_of self.old.writer) (steps_of self.new.writer) }
         ensures own { self.new.writer.identity ≡ self.old.writer.identity }
@@ -237,9 +237,9 @@ impl Owner {
     /// else `Exhausted` is the only refusal. The groups are given up and reclaimed as by `delete`, one
     /// after another.
     pub fn flush(&mut self) -> Result<usize, Refusal>
-        ensures flushes { Flushes (by_steps self.old.writer.identity.opening) 24 8
+        ensures flushes { Flushes (by_steps self.old.writer.identity.initial) 24 8
             self.old.writer.config self.old.writer.table result self.new.writer.table }
-        ensures checked { (freed : List ℕ) × FreesChecked self.old.writer.identity.opening
+        ensures checked { (freed : List ℕ) × FreesChecked self.old.writer.identity.initial
             self.old.writer.table self.new.writer.table freed }
         ensures later { IsLater (steps_of self.old.writer) (steps_of self.new.writer) }
         ensures own { self.new.writer.identity ≡ self.old.writer.identity }
@@ -252,9 +252,9 @@ impl Owner {
     /// Frees groups that wait in limbo, from the oldest on: at most `max`, up to the first that a worker
     /// holds. It returns how many were freed, and the worker that stopped it.
     pub fn reclaim(&mut self, max: usize) -> Reclaimed
-        ensures frees { Frees (by_steps self.old.writer.identity.opening) self.old.writer.table max
+        ensures frees { Frees (by_steps self.old.writer.identity.initial) self.old.writer.table max
             result self.new.writer.table }
-        ensures checked { FreesChecked self.old.writer.identity.opening self.old.writer.table
+        ensures checked { FreesChecked self.old.writer.identity.initial self.old.writer.table
             self.new.writer.table (take result.freed self.old.writer.table.limbo) }
         ensures later { IsLater (steps_of self.old.writer) (steps_of self.new.writer) }
         ensures own { self.new.writer.identity ≡ self.old.writer.identity }
@@ -273,11 +273,11 @@ impl Owner {
     pub fn synchronize<R: Wait>(&mut self, rt: &R) -> Result<(), Exhausted>
         ensures exhausted { IsErr result
             ↔ (2 ^ 62 < token_of self.old.writer + self.old.writer.config.groups) }
-        ensures synchronizes { OnOk result (Synchronizes self.old.writer.identity.opening.workers self.old.writer.identity.opening.token
+        ensures synchronizes { OnOk result (Synchronizes self.old.writer.identity.initial.workers self.old.writer.identity.initial.token
             (steps_of self.old.writer) (steps_of self.new.writer)) }
         ensures started { OnOk result
             (token_of self.new.writer ≡ token_of self.old.writer + 1) }
-        ensures checked { OnOk result (IsChecked self.old.writer.identity.opening.workers self.old.writer.identity.opening.token
+        ensures checked { OnOk result (IsChecked self.old.writer.identity.initial.workers self.old.writer.identity.initial.token
             (steps_of self.new.writer) (token_of self.new.writer)) }
         ensures queued { OnOk result (0 < self.old.writer.config.workers
             → All (λ token. token ≤ passed_of self.new.writer) self.new.writer.table.limbo) }

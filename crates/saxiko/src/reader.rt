@@ -81,7 +81,7 @@ impl Reader {
     /// The number of its worker.
     pub fn worker(&self) -> usize
         ensures value { result ≡ self.now.worker }
-        ensures inside { result < self.now.table.opening.workers }
+        ensures inside { result < self.now.table.initial.workers }
     {
         self.pass.worker()
     }

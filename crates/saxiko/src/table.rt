@@ -5,8 +5,8 @@ ghost use Rattle.std.specs.FinMap as map;
 ghost use Rattle.lpm_rules.specs.Longest.{IsLongestHop};
 ghost use Rattle.lpm_limits.specs.Limits.{IsConfig};
 ghost use Rattle.fib_model.specs.Outcomes.{groups_in_use, Adds, Deletes, Flushes, Frees};
-ghost use Rattle.fib_model.specs.Counting.{counting};
-ghost use Rattle.fib.specs.Fib.{fresh};
+ghost use Rattle.fib_model.specs.Counting.{counter_transitions};
+ghost use Rattle.fib.specs.Fib.{initial_fib};
 ghost use Rattle.lpm_rules.specs.declared.Put.{Put};
 ghost use Rattle.lpm_limits.specs.declared.refusal.Refusal.{Refusal};
 
@@ -42,7 +42,7 @@ impl Table {
     /// Opens a table without rules. It refuses limits out of range, and ends with `Memory` where there is
     /// no room for the words, the groups or the workers.
     pub fn open(alloc: Global, config: Config) -> Result<Self, OpenError>
-        ensures opened { IfOk result (λ table. table ≡ fresh config) }
+        ensures opened { IfOk result (λ table. table ≡ initial_fib config) }
         ensures limits { IfOk result (λ _. IsConfig config) }
         ensures bad_config { IfErr result
             (λ error. (error ≡ OpenError.BadConfig) ↔ (¬ IsConfig config)) }
@@ -112,7 +112,7 @@ impl Table {
     /// has no room; and `NoGroups`, where a rule longer than 24 bits is the first in its block of 256
     /// addresses and no group is free. After a refusal the table is as it was.
     pub fn add(&mut self, prefix: &Prefix, hop: Hop) -> Result<Put, Refusal>
-        ensures adds { Adds counting 24 8 self.old.config self.old.table
+        ensures adds { Adds counter_transitions 24 8 self.old.config self.old.table
             prefix.now hop result self.new.table }
         ensures config { self.new.config ≡ self.old.config }
     {
@@ -125,7 +125,7 @@ impl Table {
         ensures replaced { IfOk result (λ old. old ≡ map.get self.old.table.rules prefix.now) }
         ensures adds { (put : Result Put Refusal)
             × MatchResult result (λ _. IsOk put) (λ error. put ≡ Err error)
-            × Adds counting 24 8 self.old.config self.old.table prefix.now hop put self.new.table }
+            × Adds counter_transitions 24 8 self.old.config self.old.table prefix.now hop put self.new.table }
         ensures config { self.new.config ≡ self.old.config }
     {
         let old = self.get(prefix);
@@ -140,7 +140,7 @@ impl Table {
     ///
     /// The refusals: `NoSuchRule`, where the prefix has no rule, and else `Exhausted`.
     pub fn delete(&mut self, prefix: &Prefix) -> Result<Hop, Refusal>
-        ensures deletes { Deletes counting 24 8 self.old.config self.old.table
+        ensures deletes { Deletes counter_transitions 24 8 self.old.config self.old.table
             prefix.now result self.new.table }
         ensures config { self.new.config ≡ self.old.config }
     {
@@ -153,7 +153,7 @@ impl Table {
     /// Deletes all rules, as one version, and returns how many there were. With none nothing changes, and
     /// else `Exhausted` is the only refusal.
     pub fn flush(&mut self) -> Result<usize, Refusal>
-        ensures flushes { Flushes counting 24 8 self.old.config self.old.table
+        ensures flushes { Flushes counter_transitions 24 8 self.old.config self.old.table
             result self.new.table }
         ensures config { self.new.config ≡ self.old.config }
     {
@@ -162,7 +162,7 @@ impl Table {
 
     /// Frees groups that wait in limbo, from the oldest on: at most `max`. It returns how many were freed.
     pub fn reclaim(&mut self, max: usize) -> Reclaimed
-        ensures frees { Frees counting self.old.table max result self.new.table }
+        ensures frees { Frees counter_transitions self.old.table max result self.new.table }
         ensures config { self.new.config ≡ self.old.config }
     {
         self.fib.reclaim(max)

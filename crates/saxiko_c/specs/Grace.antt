@@ -9,7 +9,7 @@ use Rattle.lpm_writer.specs.Steps.{Checks}
 use Rattle.shared_fib.specs.Running.{passed_of, steps_of, token_of}
 use Rattle.saxiko_c.specs.Owners.{OwnerState}
 use Rattle.saxiko_c.specs.Running.{Names}
-use Rattle.saxiko_c.specs.Status.{done, again, already, not_permitted, overflow}
+use Rattle.saxiko_c.specs.Status.{success, again, already, not_permitted, overflow}
 use Rattle.saxiko_c.specs.declared.records.SaxikoHeld.{SaxikoHeld}
 
 -- ---- the other calls of the writer
@@ -44,7 +44,7 @@ Starts o status p =
     ⊎ (((o.waits ≡ false) × (2 ^ 62 < token_of o.writer + o.writer.config.groups)
     × (status ≡ overflow) × (p ≡ o))
     ⊎ ((o.waits ≡ false) × (token_of o.writer + o.writer.config.groups ≤ 2 ^ 62)
-    × (status ≡ done) × IsStarted o p))
+    × (status ≡ success) × IsStarted o p))
 
 -- ---- its checks
 
@@ -55,13 +55,13 @@ stopped_by (Err busy) = Some busy
 
 -- a check was made, and the grace period is over where it has passed
 pub record IsChecked (o : OwnerState) (r : Result (Unit {0}) Busy) (p : OwnerState) : Type 0 where
-  pub checks : Checks o.writer.identity.opening.workers (steps_of o.writer)
+  pub checks : Checks o.writer.identity.initial.workers (steps_of o.writer)
       (token_of o.writer) r (steps_of p.writer)
   pub over : OnOk r (p.waits ≡ false)
   pub lasts : OnErr r (p.waits ≡ true)
   pub token : token_of p.writer ≡ token_of o.writer
-  pub checked : OnOk r (WasChecked o.writer.identity.opening.workers
-      o.writer.identity.opening.token (steps_of p.writer) (token_of o.writer))
+  pub checked : OnOk r (WasChecked o.writer.identity.initial.workers
+      o.writer.identity.initial.token (steps_of p.writer) (token_of o.writer))
   pub queued : OnOk r (0 < o.writer.config.workers
       → All (λ token. token ≤ passed_of p.writer) p.writer.table.limbo)
   pub same : p.writer ≡ record o.writer { table = record o.writer.table { readers = steps_of p.writer } }

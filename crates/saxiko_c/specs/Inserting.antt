@@ -4,7 +4,7 @@ use Rattle.std.specs.FinMap.{get}
 use Rattle.lpm_bits.specs.Network.{prefix_of}
 use Rattle.lpm_rules.specs.declared.Put.{Put}
 use Rattle.lpm_limits.specs.declared.refusal.Refusal.{Refusal}
-use Rattle.fib_model.specs.Counting.{counting}
+use Rattle.fib_model.specs.Counting.{counter_transitions}
 use Rattle.fib_model.specs.Outcomes.{Adds}
 use Rattle.fib.specs.Fib.{FibState}
 use Rattle.shared_fib.specs.Taking.{TakesLeast}
@@ -24,7 +24,7 @@ abbrev pub InsertsRule : ℕ → ℕ → ℕ → ℕ → ℕ → FibState → �
 InsertsRule addr depth hop before after f status g =
     (IsBad depth hop × (status ≡ invalid) × (after ≡ before) × (g ≡ f))
     ⊎ ((depth ≤ 32) × (hop < 16777216) × (r : Result Put Refusal)
-    × Adds counting 24 8 f.config f.table (prefix_of 32 depth addr) hop r g.table
+    × Adds counter_transitions 24 8 f.config f.table (prefix_of 32 depth addr) hop r g.table
     × StoresOld r (get f.table.rules (prefix_of 32 depth addr)) before after
     × (g.config ≡ f.config) × (status ≡ add_status r))
 
@@ -33,8 +33,8 @@ abbrev pub InsertsTo : ℕ → ℕ → ℕ → ℕ → ℕ → OwnerState → �
 InsertsTo addr depth hop before after o status p =
     (IsBad depth hop × (status ≡ invalid) × (after ≡ before) × (p ≡ o))
     ⊎ ((depth ≤ 32) × (hop < 16777216) × (r : Result Put Refusal)
-    × Adds (by_steps o.writer.identity.opening) 24 8 o.writer.config o.writer.table
+    × Adds (by_steps o.writer.identity.initial) 24 8 o.writer.config o.writer.table
     (prefix_of 32 depth addr) hop r p.writer.table
-    × TakesLeast o.writer.identity.opening o.writer.table p.writer.table
+    × TakesLeast o.writer.identity.initial o.writer.table p.writer.table
     × StoresOld r (get o.writer.table.rules (prefix_of 32 depth addr)) before after
     × Changes o p × (status ≡ add_status r))

@@ -9,8 +9,8 @@ use Rattle.lpm_rules.specs.declared.Rule.{Rule}
 use Rattle.lpm_limits.specs.Limits.{IsConfig}
 use Rattle.lpm_limits.specs.declared.config.Config.{Config}
 use Rattle.fib_model.specs.Outcomes.{groups_in_use}
-use Rattle.fib.specs.Fib.{FibState, opened_with}
-use Rattle.saxiko_c.specs.Status.{done, no_memory, busy, invalid, no_space, too_big, out_of_domain}
+use Rattle.fib.specs.Fib.{FibState, initial_fib_with}
+use Rattle.saxiko_c.specs.Status.{success, no_memory, busy, invalid, no_space, too_big, out_of_domain}
 use Rattle.saxiko_c.specs.Table.{IsBad}
 use Rattle.saxiko_c.specs.declared.records.SaxikoRoute.{SaxikoRoute}
 
@@ -52,7 +52,7 @@ IsUnloaded c routes before after status =
 
 -- the table has the rules of the routes, as version 0
 pub record IsLoaded (c : Config) (routes : List SaxikoRoute) (before after : ℕ) (f : FibState) : Type 0 where
-  pub table : f ≡ opened_with c (rules_of_routes routes)
+  pub table : f ≡ initial_fib_with c (rules_of_routes routes)
   pub limits : IsConfig c
   pub rules_fit : len (rules_of_routes routes) ≤ c.rules
   pub groups_fit : groups_in_use 24 8 (rules_of_routes routes) ≤ c.groups
@@ -62,4 +62,4 @@ pub record IsLoaded (c : Config) (routes : List SaxikoRoute) (before after : ℕ
 abbrev pub Loads : Config → List SaxikoRoute → ℕ → ℕ → Option FibState → ℤ → Option FibState → Type 0
 Loads c routes before after (Some f) status kept = (status ≡ busy) × (after ≡ before) × (kept ≡ Some f)
 Loads c routes before after None status None = IsUnloaded c routes before after status
-Loads c routes before after None status (Some f) = (status ≡ done) × IsLoaded c routes before after f
+Loads c routes before after None status (Some f) = (status ≡ success) × IsLoaded c routes before after f

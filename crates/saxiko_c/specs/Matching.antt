@@ -3,7 +3,7 @@ use Rattle.std.specs.Prelude.{ℕ, ℤ, ◌≡◌, Option, Some, None}
 use Rattle.lpm_rules.specs.RuleMap.{RuleMap}
 use Rattle.lpm_rules.specs.declared.Rule.{Rule}
 use Rattle.shared_fib.specs.Matches.{IsMatch}
-use Rattle.saxiko_c.specs.Status.{done, no_entry}
+use Rattle.saxiko_c.specs.Status.{success, no_entry}
 use Rattle.saxiko_c.specs.declared.records.SaxikoRoute.{SaxikoRoute}
 
 -- the route of a rule
@@ -13,7 +13,7 @@ route_of rule = record { addr = rule.prefix.bits; hop = rule.hop; depth = rule.p
 -- the rule's route is stored, or it is ENOENT where there is none
 abbrev pub TellsRule : Option (Rule 24 8) → SaxikoRoute → SaxikoRoute → ℤ → Type 0
 TellsRule None before after status = (status ≡ no_entry) × (after ≡ before)
-TellsRule (Some rule) before after status = (status ≡ done) × (after ≡ route_of rule)
+TellsRule (Some rule) before after status = (status ≡ success) × (after ≡ route_of rule)
 
 -- the rule that answers the address
 abbrev pub FindsRule : ℕ → SaxikoRoute → SaxikoRoute → RuleMap → ℤ → Type 0

@@ -6,17 +6,17 @@ use Rattle.lpm_limits.specs.Limits.{IsConfig}
 use Rattle.lpm_limits.specs.declared.config.Config.{Config}
 use Rattle.fib_model.specs.Outcomes.{groups_in_use}
 use Rattle.shared_fib.specs.Passes.{IsFullBench}
-use Rattle.shared_fib.specs.Running.{opens_with}
+use Rattle.shared_fib.specs.Running.{initial_writer}
 use Rattle.saxiko_c.specs.Owners.{OwnerState}
-use Rattle.saxiko_c.specs.Status.{done, busy}
+use Rattle.saxiko_c.specs.Status.{success, busy}
 use Rattle.saxiko_c.specs.Loads.{IsUnloaded, rules_of_routes}
 use Rattle.saxiko_c.specs.declared.records.SaxikoRoute.{SaxikoRoute}
 
 -- a table with these rules as version 0, of which no reader is handed out, and no grace period lasts
 pub record IsOpenedWith (c : Config) (R : RuleMap) (o : OwnerState) : Type 0 where
-  pub opened : o.writer ≡ opens_with o.writer.identity c R
-  pub token : o.writer.identity.opening.token ≡ c.first_token
-  pub workers : o.writer.identity.opening.workers ≡ c.workers
+  pub opened : o.writer ≡ initial_writer o.writer.identity c R
+  pub token : o.writer.identity.initial.token ≡ c.first_token
+  pub workers : o.writer.identity.initial.workers ≡ c.workers
   pub at_rest : o.waits ≡ false
   pub bench : IsFullBench o.writer.identity o.bench
   pub limits : IsConfig c
@@ -28,4 +28,4 @@ abbrev pub LoadsRunning : Config → List SaxikoRoute → ℕ → ℕ → Option
 LoadsRunning c routes before after (Some o) status kept = (status ≡ busy) × (after ≡ before) × (kept ≡ Some o)
 LoadsRunning c routes before after None status None = IsUnloaded c routes before after status
 LoadsRunning c routes before after None status (Some o) =
-    (status ≡ done) × (after ≡ before) × IsOpenedWith c (rules_of_routes routes) o
+    (status ≡ success) × (after ≡ before) × IsOpenedWith c (rules_of_routes routes) o

@@ -12,15 +12,15 @@ use Rattle.defer_queue.specs.declared.Reclaimed.{Reclaimed}
 use Rattle.fib_model.specs.Outcomes.{groups_in_use}
 use Rattle.fib_model.specs.Outcomes as outcomes
 use Rattle.lpm_trace.specs.declared.step.WorkerStep.TheVariants.{LoadOnline, StoreOnline, LoadQuiescent, StoreQuiescent, StoreOffline}
-use Rattle.lpm_writer.specs.Opening.{opening_setup}
+use Rattle.lpm_writer.specs.Blank.{blank_state}
 use Rattle.shared_fib.specs.Taking.{TakesLeast}
 use Rattle.shared_fib.specs.Freeing.{FreesChecked}
 use Rattle.shared_fib.specs.Bursts.{LooksUpBurst}
 use Rattle.shared_fib.specs.Passes.{PassState, IsBenchOf, IsFullBench, IsPassOf, LooksUp, Makes}
 use Rattle.shared_words.specs.Rule.{IsLater}
-use Rattle.shared_fib.specs.Running.{IsAtRest, by_steps, hop_or, opens_with, setup, steps_of, token_of}
+use Rattle.shared_fib.specs.Running.{IsAtRest, by_steps, hop_or, initial_writer, initial_state, steps_of, token_of}
 use Rattle.saxiko_c.specs.Owners.{OwnerState}
-use Rattle.saxiko_c.specs.Status.{done, no_memory, busy, invalid, not_permitted, already, add_status, status_of}
+use Rattle.saxiko_c.specs.Status.{success, no_memory, busy, invalid, not_permitted, already, add_status, status_of}
 use Rattle.saxiko_c.specs.Table.{IsBad, IsUnopened, Stores, Tells}
 use Rattle.saxiko_c.specs.declared.records.SaxikoCounts.{SaxikoCounts}
 use Rattle.saxiko_c.specs.declared.records.SaxikoHeld.{SaxikoHeld}
@@ -30,10 +30,10 @@ use Rattle.saxiko_c.specs.declared.records.SaxikoSpan.{SaxikoSpan}
 
 -- a table without rules, of which no reader is handed out, and no grace period lasts
 pub record IsOpened (c : Config) (o : OwnerState) : Type 0 where
-  pub opened : o.writer ≡ opens_with o.writer.identity c empty
-  pub setup : setup o.writer.identity ≡ opening_setup 24 8 c
-  pub token : o.writer.identity.opening.token ≡ c.first_token
-  pub workers : o.writer.identity.opening.workers ≡ c.workers
+  pub opened : o.writer ≡ initial_writer o.writer.identity c empty
+  pub setup : initial_state o.writer.identity ≡ blank_state 24 8 c
+  pub token : o.writer.identity.initial.token ≡ c.first_token
+  pub workers : o.writer.identity.initial.workers ≡ c.workers
   pub at_rest : o.waits ≡ false
   pub bench : IsFullBench o.writer.identity o.bench
   pub limits : IsConfig c
@@ -42,7 +42,7 @@ pub record IsOpened (c : Config) (o : OwnerState) : Type 0 where
 abbrev pub Opens : Config → Option OwnerState → ℤ → Option OwnerState → Type 0
 Opens c (Some o) status after = (status ≡ busy) × (after ≡ Some o)
 Opens c None status None = IsUnopened c status
-Opens c None status (Some o) = (status ≡ done) × IsOpened c o
+Opens c None status (Some o) = (status ≡ success) × IsOpened c o
 
 -- the table's rules alone were changed, by steps that come after the earlier ones, and each group that was
 -- freed was checked after it was given up
@@ -52,40 +52,40 @@ pub record Changes (o p : OwnerState) : Type 0 where
   pub bench : p.bench ≡ o.bench
   pub later : IsLater (steps_of o.writer) (steps_of p.writer)
   pub checked : (freed : List ℕ)
-      × FreesChecked o.writer.identity.opening o.writer.table p.writer.table freed
+      × FreesChecked o.writer.identity.initial o.writer.table p.writer.table freed
 
 abbrev pub AddsTo : ℕ → ℕ → ℕ → OwnerState → ℤ → OwnerState → Type 0
 AddsTo addr depth hop o status p =
     (IsBad depth hop × (status ≡ invalid) × (p ≡ o))
     ⊎ ((depth ≤ 32) × (hop < 16777216) × (r : Result Put Refusal)
-    × outcomes.Adds (by_steps o.writer.identity.opening) 24 8 o.writer.config o.writer.table
+    × outcomes.Adds (by_steps o.writer.identity.initial) 24 8 o.writer.config o.writer.table
     (prefix_of 32 depth addr) hop r p.writer.table
-    × TakesLeast o.writer.identity.opening o.writer.table p.writer.table
+    × TakesLeast o.writer.identity.initial o.writer.table p.writer.table
     × Changes o p × (status ≡ add_status r))
 
 abbrev pub DeletesFrom : ℕ → ℕ → ℕ → ℕ → OwnerState → ℤ → OwnerState → Type 0
 DeletesFrom addr depth before after o status p =
     ((32 < depth) × (status ≡ invalid) × (after ≡ before) × (p ≡ o))
     ⊎ ((depth ≤ 32) × (r : Result ℕ Refusal)
-    × outcomes.Deletes (by_steps o.writer.identity.opening) 24 8 o.writer.config o.writer.table
+    × outcomes.Deletes (by_steps o.writer.identity.initial) 24 8 o.writer.config o.writer.table
     (prefix_of 32 depth addr) r p.writer.table
     × Stores r before after × Changes o p × (status ≡ status_of r))
 
 abbrev pub Flushes : ℕ → ℕ → OwnerState → ℤ → OwnerState → Type 0
 Flushes before after o status p = (r : Result ℕ Refusal)
-    × outcomes.Flushes (by_steps o.writer.identity.opening) 24 8 o.writer.config o.writer.table r p.writer.table
+    × outcomes.Flushes (by_steps o.writer.identity.initial) 24 8 o.writer.config o.writer.table r p.writer.table
     × Stores r before after × Changes o p × (status ≡ status_of r)
 
 -- the reader that stopped a reclaim is named
 abbrev pub Names : Option Busy → SaxikoHeld → ℤ → SaxikoHeld → Type 0
-Names None before status after = (status ≡ done) × (after ≡ before)
+Names None before status after = (status ≡ success) × (after ≡ before)
 Names (Some busy) before status after =
     (status ≡ pos 1) × (after ≡ record { reader = busy.worker; counter = busy.counter })
 
 abbrev pub FreesHeld : ℕ → ℕ → SaxikoHeld → SaxikoHeld → OwnerState → ℤ → OwnerState → Type 0
 FreesHeld max freed before after o status p = (r : Reclaimed)
-    × outcomes.Frees (by_steps o.writer.identity.opening) o.writer.table max r p.writer.table
-    × FreesChecked o.writer.identity.opening o.writer.table p.writer.table (take r.freed o.writer.table.limbo)
+    × outcomes.Frees (by_steps o.writer.identity.initial) o.writer.table max r p.writer.table
+    × FreesChecked o.writer.identity.initial o.writer.table p.writer.table (take r.freed o.writer.table.limbo)
     × IsLater (steps_of o.writer) (steps_of p.writer)
     × (freed ≡ r.freed) × Names r.stopped before status after
     × (p.writer.identity ≡ o.writer.identity) × (p.writer.config ≡ o.writer.config) × (p.bench ≡ o.bench)
@@ -107,7 +107,7 @@ pub record IsCountedIn (o : OwnerState) (c : SaxikoCounts) : Type 0 where
 -- and the table is at rest: by its rules the words answer each address, and each of the writer's steps so far
 -- might come after those before it
 abbrev pub Counts : SaxikoCounts → OwnerState → ℤ → Type 0
-Counts c o status = (status ≡ done) × IsCountedIn o c × IsAtRest o.writer
+Counts c o status = (status ≡ success) × IsCountedIn o c × IsAtRest o.writer
 
 -- ---- readers
 
@@ -122,7 +122,7 @@ pub record IsRegistered (number : ℕ) (o : OwnerState) (reader : PassState) (p 
 -- no reader was handed out: EINVAL only where there is no such number, EBUSY only where it has a reader, or ENOMEM
 abbrev pub IsUnregistered : ℕ → OwnerState → ℤ → OwnerState → Type 0
 IsUnregistered number o status p = (p ≡ o)
-    × (((status ≡ invalid) × (o.writer.identity.opening.workers ≤ number))
+    × (((status ≡ invalid) × (o.writer.identity.initial.workers ≤ number))
     ⊎ (((status ≡ busy) × (slice_get o.bench number ≡ Some None))
     ⊎ (status ≡ no_memory)))
 
@@ -134,11 +134,11 @@ Registers number (Some o) (Some kept) status p reader =
 Registers number (Some o) None status None reader = ⊥
 Registers number (Some o) None status (Some p) None = IsUnregistered number o status p
 Registers number (Some o) None status (Some p) (Some reader) =
-    (status ≡ done) × IsRegistered number o reader p
+    (status ≡ success) × IsRegistered number o reader p
 
 -- the reader is at the bench then, and those at the bench are offline
 abbrev pub GivesBack : PassState → OwnerState → ℤ → OwnerState → Type 0
-GivesBack reader o status p = (status ≡ done) × (left : PassState)
+GivesBack reader o status p = (status ≡ success) × (left : PassState)
     × (p.bench ≡ slice_set o.bench reader.worker (Some left))
     × (reader.online ≡ true → (place : ℕ) × Makes ((StoreOffline, place) ∷ []) reader left)
     × (reader.online ≡ false → left ≡ reader)
@@ -161,20 +161,20 @@ AreOfOneTable (Some o) None = ⊤
 abbrev pub GoesOnline : PassState → ℤ → PassState → Type 0
 GoesOnline p status q =
     ((p.online ≡ true) × (status ≡ already) × (q ≡ p))
-    ⊎ ((p.online ≡ false) × (status ≡ done) × (q.online ≡ true)
+    ⊎ ((p.online ≡ false) × (status ≡ success) × (q.online ≡ true)
     × (token : ℕ) × (first : ℕ) × (last : ℕ)
     × Makes ((StoreOnline token, last) ∷ (LoadOnline token, first) ∷ []) p q)
 
 abbrev pub GoesOffline : PassState → ℤ → PassState → Type 0
 GoesOffline p status q =
     ((p.online ≡ false) × (status ≡ not_permitted) × (q ≡ p))
-    ⊎ ((p.online ≡ true) × (status ≡ done) × (q.online ≡ false)
+    ⊎ ((p.online ≡ true) × (status ≡ success) × (q.online ≡ false)
     × (place : ℕ) × Makes ((StoreOffline, place) ∷ []) p q)
 
 abbrev pub Quiesces : PassState → ℤ → PassState → Type 0
 Quiesces p status q =
     ((p.online ≡ false) × (status ≡ not_permitted) × (q ≡ p))
-    ⊎ ((p.online ≡ true) × (status ≡ done) × (q.online ≡ true)
+    ⊎ ((p.online ≡ true) × (status ≡ success) × (q.online ≡ true)
     × (token : ℕ) × (first : ℕ) × (last : ℕ)
     × Makes ((StoreQuiescent token, last) ∷ (LoadQuiescent token, first) ∷ []) p q)
 
@@ -211,7 +211,7 @@ abbrev pub FindsAllIn : ℕ → List ℕ → List ℕ → List ℕ → PassState
 FindsAllIn default addrs before after p status q =
     ((p.online ≡ false) × (status ≡ not_permitted) × (after ≡ before) × (q ≡ p))
     ⊎ (((p.online ≡ true) × (length addrs ≢ length before) × (status ≡ invalid) × (after ≡ before) × (q ≡ p))
-    ⊎ ((p.online ≡ true) × (length addrs ≡ length before) × (status ≡ done) × (q.online ≡ true)
+    ⊎ ((p.online ≡ true) × (length addrs ≡ length before) × (status ≡ success) × (q.online ≡ true)
     × (span : SaxikoSpan) × FindsEach default addrs after span p q))
 
 -- the same, and the span is stored
@@ -221,5 +221,5 @@ FindsAllWithin default addrs before after old span p status q =
     ((p.online ≡ false) × (status ≡ not_permitted) × (after ≡ before) × (span ≡ old) × (q ≡ p))
     ⊎ (((p.online ≡ true) × (length addrs ≢ length before) × (status ≡ invalid) × (after ≡ before)
     × (span ≡ old) × (q ≡ p))
-    ⊎ ((p.online ≡ true) × (length addrs ≡ length before) × (status ≡ done) × (q.online ≡ true)
+    ⊎ ((p.online ≡ true) × (length addrs ≡ length before) × (status ≡ success) × (q.online ≡ true)
     × FindsEach default addrs after span p q))

@@ -1,7 +1,7 @@
 -- This layer's own: the writer of an owner, at rest or in a grace period.
 use Rattle.std.specs.Prelude.{◌≡◌, Bool, true, false}
 use Rattle.std.specs.FinMap.{empty}
-use Rattle.shared_fib.specs.Running.{Identity, WriterState, opens_with}
+use Rattle.shared_fib.specs.Running.{Identity, WriterState, initial_writer}
 use Rattle.saxiko_c.specs.declared.stage.Stage.{Stage}
 use Rattle.saxiko_c.specs.declared.stage.Stage.TheVariants.{AtRest, Waiting, Moving}
 
@@ -9,7 +9,7 @@ use Rattle.saxiko_c.specs.declared.stage.Stage.TheVariants.{AtRest, Waiting, Mov
 abbrev pub writer_in : Identity → Stage → WriterState
 writer_in table (AtRest writer) = writer
 writer_in table (Waiting period) = period
-writer_in table Moving = opens_with table (record {
+writer_in table Moving = initial_writer table (record {
   rules = 0;
   groups = 0;
   workers = 0;

@@ -7,8 +7,8 @@ use Rattle.lpm_limits.specs.declared.refusal.Refusal.{Refusal}
 use Rattle.lpm_limits.specs.declared.refusal.Refusal.TheVariants.{BadLength, BadHop, TooManyRules, NoSuchRule, BadConfig, Exhausted, NoGroups, NoWorkers, Memory, NoSuchWorker, Taken, NoThread, NotOnline, AlreadyOnline}
 
 -- the call is done
-abbrev pub done : ℤ
-done = pos 0
+abbrev pub success : ℤ
+success = pos 0
 
 -- EPERM is 1, ENOENT 2, E2BIG 7, EAGAIN 11, ENOMEM 12, EBUSY 16, EINVAL 22, ENOSPC 28, EDOM 33, EOVERFLOW 75,
 -- EALREADY 114
@@ -46,26 +46,26 @@ abbrev pub already : ℤ
 already = negsuc 113
 
 -- a group is lacking: a reader holds the oldest that waits, or none waits
-abbrev pub lacking : {A : Type 0} → Option A → ℤ
-lacking None = no_space
-lacking (Some holder) = busy
+abbrev pub status_without_group : {A : Type 0} → Option A → ℤ
+status_without_group None = no_space
+status_without_group (Some holder) = busy
 
 -- how a refusal is answered
-abbrev pub refused : Refusal → ℤ
-refused BadLength = invalid
-refused BadHop = invalid
-refused TooManyRules = no_space
-refused NoSuchRule = no_entry
-refused BadConfig = invalid
-refused Exhausted = overflow
-refused (NoGroups oldest) = lacking oldest
-refused NoWorkers = invalid
-refused Memory = no_memory
-refused NoSuchWorker = invalid
-refused Taken = busy
-refused NoThread = again
-refused NotOnline = not_permitted
-refused AlreadyOnline = already
+abbrev pub status_of_refusal : Refusal → ℤ
+status_of_refusal BadLength = invalid
+status_of_refusal BadHop = invalid
+status_of_refusal TooManyRules = no_space
+status_of_refusal NoSuchRule = no_entry
+status_of_refusal BadConfig = invalid
+status_of_refusal Exhausted = overflow
+status_of_refusal (NoGroups oldest) = status_without_group oldest
+status_of_refusal NoWorkers = invalid
+status_of_refusal Memory = no_memory
+status_of_refusal NoSuchWorker = invalid
+status_of_refusal Taken = busy
+status_of_refusal NoThread = again
+status_of_refusal NotOnline = not_permitted
+status_of_refusal AlreadyOnline = already
 
 -- how an add that was done is answered
 abbrev pub put_status : Put → ℤ
@@ -75,9 +75,9 @@ put_status Replaced = pos 2
 
 abbrev pub add_status : Result Put Refusal → ℤ
 add_status (Ok put) = put_status put
-add_status (Err refusal) = refused refusal
+add_status (Err refusal) = status_of_refusal refusal
 
 -- how a call is answered that is done or refused
 abbrev pub status_of : {T : Type 0} → Result T Refusal → ℤ
-status_of (Ok result) = done
-status_of (Err refusal) = refused refusal
+status_of (Ok result) = success
+status_of (Err refusal) = status_of_refusal refusal

@@ -10,11 +10,11 @@ use Rattle.lpm_limits.specs.Limits.{IsConfig}
 use Rattle.lpm_limits.specs.declared.config.Config.{Config}
 use Rattle.lpm_limits.specs.declared.refusal.Refusal.{Refusal}
 use Rattle.defer_queue.specs.declared.Reclaimed.{Reclaimed}
-use Rattle.fib_model.specs.Counting.{counting}
+use Rattle.fib_model.specs.Counting.{counter_transitions}
 use Rattle.fib_model.specs.Outcomes.{groups_in_use, Adds, Deletes, Flushes, Frees}
-use Rattle.fib.specs.Fib.{FibState, fresh}
+use Rattle.fib.specs.Fib.{FibState, initial_fib}
 use Rattle.fib.specs.Lookups.{IsHopOrDefault}
-use Rattle.saxiko_c.specs.Status.{done, no_entry, no_memory, busy, invalid, add_status, status_of}
+use Rattle.saxiko_c.specs.Status.{success, no_entry, no_memory, busy, invalid, add_status, status_of}
 use Rattle.saxiko_c.specs.declared.records.SaxikoCounts.{SaxikoCounts}
 
 -- ---- opening
@@ -28,7 +28,7 @@ IsUnopened c status =
 abbrev pub Opens : Config → Option FibState → ℤ → Option FibState → Type 0
 Opens c (Some f) status after = (status ≡ busy) × (after ≡ Some f)
 Opens c None status None = IsUnopened c status
-Opens c None status (Some f) = (status ≡ done) × (f ≡ fresh c) × IsConfig c
+Opens c None status (Some f) = (status ≡ success) × (f ≡ initial_fib c) × IsConfig c
 
 -- ---- changes
 
@@ -41,7 +41,7 @@ abbrev pub AddsRule : ℕ → ℕ → ℕ → FibState → ℤ → FibState → 
 AddsRule addr depth hop f status g =
     (IsBad depth hop × (status ≡ invalid) × (g ≡ f))
     ⊎ ((depth ≤ 32) × (hop < 16777216)
-    × (r : Result Put Refusal) × Adds counting 24 8 f.config f.table (prefix_of 32 depth addr) hop r g.table
+    × (r : Result Put Refusal) × Adds counter_transitions 24 8 f.config f.table (prefix_of 32 depth addr) hop r g.table
     × (g.config ≡ f.config) × (status ≡ add_status r))
 
 -- a number is stored where the call is done
@@ -54,27 +54,27 @@ abbrev pub DeletesRule : ℕ → ℕ → ℕ → ℕ → FibState → ℤ → Fi
 DeletesRule addr depth before after f status g =
     ((32 < depth) × (status ≡ invalid) × (after ≡ before) × (g ≡ f))
     ⊎ ((depth ≤ 32)
-    × (r : Result ℕ Refusal) × Deletes counting 24 8 f.config f.table (prefix_of 32 depth addr) r g.table
+    × (r : Result ℕ Refusal) × Deletes counter_transitions 24 8 f.config f.table (prefix_of 32 depth addr) r g.table
     × Stores r before after × (g.config ≡ f.config) × (status ≡ status_of r))
 
 -- there is no rule then; how many there were is stored
 abbrev pub FlushesRules : ℕ → ℕ → FibState → ℤ → FibState → Type 0
 FlushesRules before after f status g =
-    (r : Result ℕ Refusal) × Flushes counting 24 8 f.config f.table r g.table
+    (r : Result ℕ Refusal) × Flushes counter_transitions 24 8 f.config f.table r g.table
     × Stores r before after × (g.config ≡ f.config) × (status ≡ status_of r)
 
 -- at most `max` groups that wait are free then; how many is stored
 abbrev pub FreesGroups : ℕ → ℕ → FibState → ℤ → FibState → Type 0
 FreesGroups max freed f status g =
-    (r : Reclaimed) × Frees counting f.table max r g.table
-    × (freed ≡ r.freed) × (g.config ≡ f.config) × (status ≡ done)
+    (r : Reclaimed) × Frees counter_transitions f.table max r g.table
+    × (freed ≡ r.freed) × (g.config ≡ f.config) × (status ≡ success)
 
 -- ---- questions
 
 -- the next hop is stored, or it is ENOENT where there is none
 abbrev pub Tells : Option ℕ → ℤ → ℕ → ℕ → Type 0
 Tells None status before after = (status ≡ no_entry) × (after ≡ before)
-Tells (Some hop) status before after = (status ≡ done) × (after ≡ hop)
+Tells (Some hop) status before after = (status ≡ success) × (after ≡ hop)
 
 -- the next hop of the longest rule that covers the address
 abbrev pub Finds : ℕ → ℕ → ℕ → FibState → ℤ → Type 0
@@ -96,7 +96,7 @@ AnswersAll R default addrs hops =
 abbrev pub FindsAll : ℕ → List ℕ → List ℕ → List ℕ → FibState → ℤ → Type 0
 FindsAll default addrs before after f status =
     ((length addrs ≢ length before) × (status ≡ invalid) × (after ≡ before))
-    ⊎ ((length addrs ≡ length before) × (status ≡ done) × (length after ≡ length addrs)
+    ⊎ ((length addrs ≡ length before) × (status ≡ success) × (length after ≡ length addrs)
     × AnswersAll f.table.rules default addrs after)
 
 -- rules, versions, token and groups are counted
@@ -109,4 +109,4 @@ pub record IsCounted (f : FibState) (c : SaxikoCounts) : Type 0 where
   pub all : c.groups_in_use + c.groups_waiting + c.groups_free ≡ f.config.groups
 
 abbrev pub Counts : SaxikoCounts → FibState → ℤ → Type 0
-Counts c f status = (status ≡ done) × IsCounted f c
+Counts c f status = (status ≡ success) × IsCounted f c

@@ -62,14 +62,14 @@ impl Owner {
     /// does: the grace period lasts.
     pub(crate) fn check(&mut self) -> Result<(), Busy>
         requires waits { self.old.waits ≡ true }
-        ensures checks { Checks self.old.writer.identity.opening.workers
+        ensures checks { Checks self.old.writer.identity.initial.workers
             (steps_of self.old.writer) (token_of self.old.writer) result
             (steps_of self.new.writer) }
         ensures over { OnOk result (self.new.waits ≡ false) }
         ensures lasts { OnErr result (self.new.waits ≡ true) }
         ensures token { token_of self.new.writer ≡ token_of self.old.writer }
-        ensures checked { OnOk result (IsChecked self.old.writer.identity.opening.workers
-            self.old.writer.identity.opening.token (steps_of self.new.writer)
+        ensures checked { OnOk result (IsChecked self.old.writer.identity.initial.workers
+            self.old.writer.identity.initial.token (steps_of self.new.writer)
             (token_of self.old.writer)) }
         ensures queued { OnOk result (0 < self.old.writer.config.workers
             → All (λ token. token ≤ passed_of self.new.writer) self.new.writer.table.limbo) }

@@ -6,7 +6,7 @@ ghost use Rattle.std.specs.Arc.{arc_value};
 ghost use Rattle.fib_model.specs.Outcomes.{Adds, Deletes, Flushes, Frees, groups_in_use};
 ghost use Rattle.lpm_limits.specs.Limits.{IsConfig};
 ghost use Rattle.lpm_trace.specs.declared.step.WorkerStep.TheVariants.{StoreOffline};
-ghost use Rattle.lpm_writer.specs.Opening.{opening_setup};
+ghost use Rattle.lpm_writer.specs.Blank.{blank_state};
 ghost use Rattle.shared_fib.specs.Taking.{TakesLeast};
 ghost use Rattle.lpm_rules.specs.Listed.{AreInOrder, rules_of};
 ghost use Rattle.lpm_rules.specs.Walking.{IsNextRule};
@@ -15,7 +15,7 @@ ghost use Rattle.saxiko_c.specs.Opened.{IsOpenedWith};
 ghost use Rattle.shared_fib.specs.Freeing.{FreesChecked};
 ghost use Rattle.shared_fib.specs.Passes.{IsBenchOf, IsFullBench, IsPassOf, Makes, PassState};
 ghost use Rattle.shared_words.specs.Rule.{IsLater};
-ghost use Rattle.shared_fib.specs.Running.{IsAtRest, by_steps, opens_with, setup, steps_of, token_of};
+ghost use Rattle.shared_fib.specs.Running.{IsAtRest, by_steps, initial_writer, initial_state, steps_of, token_of};
 
 use crate::reader::Reader;
 use crate::stage::Stage;
@@ -76,12 +76,12 @@ impl Owner {
     /// A running table without rules, with a reader for each worker, all offline. It refuses limits out of range, and
     /// ends with `Memory` where there is no room for the words, the groups or the workers.
     pub(crate) fn open(alloc: Global, config: Config) -> Result<Self, OpenError>
-        ensures opening { IfOk result
-            (λ owner. setup owner.writer.identity ≡ opening_setup 24 8 config) }
+        ensures initial { IfOk result
+            (λ owner. initial_state owner.writer.identity ≡ blank_state 24 8 config) }
         ensures opened { IfOk result
-            (λ owner. owner.writer ≡ opens_with owner.writer.identity config map.empty) }
-        ensures token { IfOk result (λ owner. owner.writer.identity.opening.token ≡ config.first_token) }
-        ensures workers { IfOk result (λ owner. owner.writer.identity.opening.workers ≡ config.workers) }
+            (λ owner. owner.writer ≡ initial_writer owner.writer.identity config map.empty) }
+        ensures token { IfOk result (λ owner. owner.writer.identity.initial.token ≡ config.first_token) }
+        ensures workers { IfOk result (λ owner. owner.writer.identity.initial.workers ≡ config.workers) }
         ensures at_rest { IfOk result (λ owner. owner.waits ≡ false) }
         ensures bench { IfOk result (λ owner. IsFullBench owner.writer.identity owner.bench) }
         ensures limits { IfOk result (λ _. IsConfig config) }
@@ -132,7 +132,7 @@ impl Owner {
         ensures registered { IfOk result (λ p. (slice_get self.old.bench worker ≡ Some (Some p))
             × (self.new.bench ≡ slice_set self.old.bench worker None)) }
         ensures no_such_worker { IsErrOf result Refusal.NoSuchWorker
-            → (self.old.writer.identity.opening.workers ≤ worker) }
+            → (self.old.writer.identity.initial.workers ≤ worker) }
         ensures taken { IsErrOf result Refusal.Taken → (slice_get self.old.bench worker ≡ Some None) }
         ensures unchanged { OnErr result (self.new ≡ self.old) }
         ensures same { self.new.writer ≡ self.old.writer }
@@ -173,11 +173,11 @@ impl Owner {
     /// oldest in limbo is held or there is none. It names the worker that holds that one.
     pub(crate) fn add(&mut self, prefix: &Prefix<24, 8>, hop: Hop) -> Result<Put, Refusal>
         requires at_rest { self.old.waits ≡ false }
-        ensures adds { Adds (by_steps self.old.writer.identity.opening) 24 8 self.old.writer.config
+        ensures adds { Adds (by_steps self.old.writer.identity.initial) 24 8 self.old.writer.config
             self.old.writer.table prefix.now hop result self.new.writer.table }
-        ensures least { TakesLeast self.old.writer.identity.opening
+        ensures least { TakesLeast self.old.writer.identity.initial
             self.old.writer.table self.new.writer.table }
-        ensures checked { (freed : List ℕ) × FreesChecked self.old.writer.identity.opening
+        ensures checked { (freed : List ℕ) × FreesChecked self.old.writer.identity.initial
             self.old.writer.table self.new.writer.table freed }
         ensures later { IsLater (steps_of self.old.writer) (steps_of self.new.writer) }
         ensures own { self.new.writer.identity ≡ self.old.writer.identity }
@@ -198,9 +198,9 @@ impl Owner {
     /// The refusals: `NoSuchRule`, where the prefix has no rule, and else `Exhausted`.
     pub(crate) fn delete(&mut self, prefix: &Prefix<24, 8>) -> Result<Hop, Refusal>
         requires at_rest { self.old.waits ≡ false }
-        ensures deletes { Deletes (by_steps self.old.writer.identity.opening) 24 8
+        ensures deletes { Deletes (by_steps self.old.writer.identity.initial) 24 8
             self.old.writer.config self.old.writer.table prefix.now result self.new.writer.table }
-        ensures checked { (freed : List ℕ) × FreesChecked self.old.writer.identity.opening
+        ensures checked { (freed : List ℕ) × FreesChecked self.old.writer.identity.initial
             self.old.writer.table self.new.writer.table freed }
         ensures later { IsLater (steps_of self.old.writer) (steps_of self.new.writer) }
         ensures own { self.new.writer.identity ≡ self.old.writer.identity }
@@ -218,9 +218,9 @@ impl Owner {
     /// `Exhausted` is the only refusal. The groups are given up and reclaimed as by `delete`, one after another.
     pub(crate) fn flush(&mut self) -> Result<usize, Refusal>
         requires at_rest { self.old.waits ≡ false }
-        ensures flushes { Flushes (by_steps self.old.writer.identity.opening) 24 8
+        ensures flushes { Flushes (by_steps self.old.writer.identity.initial) 24 8
             self.old.writer.config self.old.writer.table result self.new.writer.table }
-        ensures checked { (freed : List ℕ) × FreesChecked self.old.writer.identity.opening
+        ensures checked { (freed : List ℕ) × FreesChecked self.old.writer.identity.initial
             self.old.writer.table self.new.writer.table freed }
         ensures later { IsLater (steps_of self.old.writer) (steps_of self.new.writer) }
         ensures own { self.new.writer.identity ≡ self.old.writer.identity }
@@ -238,9 +238,9 @@ impl Owner {
     /// returns how many were freed, and the worker that stopped it.
     pub(crate) fn reclaim(&mut self, max: usize) -> Reclaimed
         requires at_rest { self.old.waits ≡ false }
-        ensures frees { Frees (by_steps self.old.writer.identity.opening) self.old.writer.table max
+        ensures frees { Frees (by_steps self.old.writer.identity.initial) self.old.writer.table max
             result self.new.writer.table }
-        ensures checked { FreesChecked self.old.writer.identity.opening self.old.writer.table
+        ensures checked { FreesChecked self.old.writer.identity.initial self.old.writer.table
             self.new.writer.table (take result.freed self.old.writer.table.limbo) }
         ensures later { IsLater (steps_of self.old.writer) (steps_of self.new.writer) }
         ensures own { self.new.writer.identity ≡ self.old.writer.identity }

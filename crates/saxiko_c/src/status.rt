@@ -1,7 +1,7 @@
 //! What calls answer: 0 or more, or an error number of Linux below 0.
 
 ghost use Rattle.std.specs.Prelude.{◌≡◌};
-ghost use Rattle.saxiko_c.specs.Status.{put_status, refused};
+ghost use Rattle.saxiko_c.specs.Status.{put_status, status_of_refusal};
 
 use lpm_limits::Refusal;
 use lpm_rules::Put;
@@ -30,7 +30,7 @@ pub(crate) const EALREADY: i32 = -114;
 
 /// The error number of a refusal.
 pub(crate) fn of_refusal(refusal: Refusal) -> i32
-    ensures { result ≡ refused refusal }
+    ensures { result ≡ status_of_refusal refusal }
 {
     match refusal {
         Refusal::BadLength => EINVAL,

@@ -2,9 +2,9 @@
 
 ghost use Rattle.std.specs.Prelude.{◌≡◌, ◌+◌, MatchResult};
 ghost use Rattle.lpm_limits.specs.Limits.{IsConfig};
-ghost use Rattle.fib.specs.Fib.{fresh};
+ghost use Rattle.fib.specs.Fib.{initial_fib};
 ghost use Rattle.fib.specs.Lookups.{IsHopOrDefault};
-ghost use Rattle.saxiko_c.specs.Status.{done};
+ghost use Rattle.saxiko_c.specs.Status.{success};
 ghost use Rattle.saxiko_c.specs.Table.{AddsRule, Counts, DeletesRule, Finds, FindsAll, FlushesRules, FreesGroups, Gets, IsCounted, IsUnopened};
 
 use crate::records::SaxikoCounts;
@@ -15,7 +15,7 @@ use lpm_limits::Config;
 use std::alloc::Global;
 
 pub(crate) fn open(alloc: Global, config: Config) -> Result<Box<Fib<24, 8>>, i32>
-    ensures { MatchResult result (λ b. (b.value ≡ fresh config) × IsConfig config)
+    ensures { MatchResult result (λ b. (b.value ≡ initial_fib config) × IsConfig config)
         (IsUnopened config) }
 {
     match Fib::open(alloc, config) {

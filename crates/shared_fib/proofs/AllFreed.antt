@@ -7,17 +7,17 @@ use Rattle.qsbr.specs.Registry.{Registry}
 use Rattle.lpm_limits.specs.declared.busy.Busy.{Busy}
 use Rattle.defer_queue.specs.declared.Reclaimed.{Reclaimed}
 use Rattle.fib_model.specs.State.{State}
-use Rattle.fib_model.specs.Counting.{counting, IsFirstByCounter}
+use Rattle.fib_model.specs.Counting.{counter_transitions, IsFirstByCounter}
 use Rattle.fib_model.specs.Outcomes.{Frees}
 use Rattle.fib_model.proofs.ByPlaces.{Passes, Reclaims, by_places}
 use Rattle.lpm_limits.specs.declared.config.Config.{Config}
 use Rattle.lpm_writer.specs.declared.plain_memory.PlainMemory.{PlainMemory}
-use Rattle.lpm_writer.specs.declared.ledger.Ledger.{Ledger}
+use Rattle.lpm_writer.specs.declared.control.ControlState.{ControlState}
 use Rattle.lpm_writer.specs.Waiting.{tokens_of}
 use Rattle.fib.specs.Fib.{FibState, IsSound, table_of}
 
 -- checks that pass leave the token and the counters
-unmoved : (n : ℕ) (limbo : List ℕ) (x z : Registry) → Passes counting n limbo x z → z ≡ x
+unmoved : (n : ℕ) (limbo : List ℕ) (x z : Registry) → Passes counter_transitions n limbo x z → z ≡ x
 unmoved zero limbo x z h = h
 unmoved (suc n) limbo x z h = h.4.1 ∙ unmoved n limbo x h.0 h.2
 
@@ -31,7 +31,7 @@ none_holds r token busy offline held = offline busy.worker held.0.holds.register
 -- how a reclaim ended: it took as many as it may, or a worker stopped it
 abbrev Ends : ℕ → List ℕ → ℕ → Registry → Registry → Option Busy → Type 0
 Ends max limbo freed last z stopped = MatchOption stopped ((z ≡ last) × ((freed ≡ max) ⊎ (freed ≡ length limbo)))
-    (λ busy. (freed < max) × ((u : ℕ) × (slice_get limbo freed ≡ Some u) × counting.checks last u (Err busy) z))
+    (λ busy. (freed < max) × ((u : ℕ) × (slice_get limbo freed ≡ Some u) × counter_transitions.checks last u (Err busy) z))
 
 unstopped : (max : ℕ) (limbo : List ℕ) (freed : ℕ) (last z : Registry) (stopped : Option Busy) → (z ≡ last → AreOffline (length last.counters) last)
     → Ends max limbo freed last z stopped → (z ≡ last) × ((freed ≡ max) ⊎ (freed ≡ length limbo))
@@ -39,9 +39,9 @@ unstopped max limbo freed last z None offline h = h
 unstopped max limbo freed last z (Some busy) offline h = absurd (none_holds last h.1.0 busy (offline h.1.2.1) h.1.2.0)
 
 module _ (x z : State Registry) (max : ℕ) (r : Reclaimed) (workers : ℕ) (offline : AreOffline workers x.readers)
-    (all : max ≡ length x.limbo) (frees : Frees counting x max r z) (count : length z.readers.counters ≡ workers) where
-  taken : Reclaims counting x.readers max x.limbo r.freed r.stopped z.limbo z.readers
-  taken = by_places counting x.readers max x.limbo r.freed r.stopped z.limbo z.readers frees.0
+    (all : max ≡ length x.limbo) (frees : Frees counter_transitions x max r z) (count : length z.readers.counters ≡ workers) where
+  taken : Reclaims counter_transitions x.readers max x.limbo r.freed r.stopped z.limbo z.readers
+  taken = by_places counter_transitions x.readers max x.limbo r.freed r.stopped z.limbo z.readers frees.0
 
   same_readers : taken.last ≡ x.readers
   same_readers = unmoved r.freed x.limbo x.readers taken.last taken.passed
@@ -75,16 +75,16 @@ no_items (item ∷ items) e = absurd (no_cons item.1 (tokens_of items) e)
 
 -- the parts of a table of which all that waited was reclaimed
 module _ (f s : ℕ) (x z : FibState) (max : ℕ) (r : Reclaimed) (offline : (w : ℕ) → w < x.config.workers → ¬ IsOnline x.table.readers.counters w)
-    (all : max ≡ length x.table.limbo) (frees : Frees counting x.table max r z.table) (limits : z.config ≡ x.config)
-    (ledger : Ledger f s) (memory : PlainMemory f s) (sound : IsSound f s ledger memory) (config : ledger.config ≡ z.config)
-    (table : table_of ledger memory ≡ z.table) where
+    (all : max ≡ length x.table.limbo) (frees : Frees counter_transitions x.table max r z.table) (limits : z.config ≡ x.config)
+    (control : ControlState f s) (memory : PlainMemory f s) (sound : IsSound f s control memory) (config : control.config ≡ z.config)
+    (table : table_of control memory ≡ z.table) where
   count : length z.table.readers.counters ≡ x.config.workers
   count =
       ap (λ (y : State Registry). length y.readers.counters) (sym table) ∙ (sound.2.did.workers ∙ (sound.2.rests.workers
       ∙ ap (λ (c : Config). c.workers) (config ∙ limits)))
 
-  pub none_queued : ledger.books.queue.items ≡ []
-  none_queued = no_items ledger.books.queue.items
+  pub none_queued : control.pool.queue.items ≡ []
+  none_queued = no_items control.pool.queue.items
       (ap (λ (y : State Registry). y.limbo) table ∙ none_waits x.table z.table max r x.config.workers offline all frees count)
 
   pub token_stays : memory.domain.token ≡ x.table.readers.token

@@ -4,8 +4,8 @@ use Rattle.std.proofs.lemmas.Option.{slice_get_within, get_or_from_slice_get}
 use Rattle.lpm_rules.specs.RuleMap.{RuleMap}
 use Rattle.lpm_trace.specs.declared.step.WriterStep.{WriterStep}
 use Rattle.lpm_trace.specs.declared.step.WorkerStep.{WorkerStep}
-use Rattle.lpm_trace.specs.declared.step.WorkerStep.TheVariants.{Begins, Ends}
-use Rattle.lpm_trace.specs.Tables.{Setup, Tables, IsAnswer, done, begun, version, oldest, tables, tables_at}
+use Rattle.lpm_trace.specs.declared.step.WorkerStep.TheVariants.{BeginLookup, EndLookup}
+use Rattle.lpm_trace.specs.States.{InitialState, TableState, IsAnswer, updates_done_in, updates_begun_in, version, oldest, state_after, state_at}
 use Rattle.lpm_trace.specs.Writer.{IsWritten}
 use Rattle.lpm_trace.specs.Workers.{Seen}
 use Rattle.lpm_trace.specs.Laws.{IsLegalAtPlace}
@@ -14,7 +14,7 @@ use Rattle.lpm_trace.proofs.Promises.{versions_never_fall_at_places}
 use Rattle.shared_words.specs.Rule.{IsLater}
 use Rattle.shared_words.specs.Loads.{firsts_at, loads_at, seconds_at}
 use Rattle.shared_words.proofs.Deeds.{later_longer}
-use Rattle.shared_fib.specs.Running.{Identity, WriterState, IsAtRest, setup, steps_of}
+use Rattle.shared_fib.specs.Running.{Identity, WriterState, IsAtRest, initial_state, steps_of}
 use Rattle.shared_fib.specs.Versions.{updates_begun, updates_done}
 use Rattle.shared_fib.specs.Passes.{PassState, IsHistory}
 use Rattle.shared_fib.proofs.Versions.{counts}
@@ -30,18 +30,18 @@ oldest_before (s ∷ new) before place low =
     oldest_old s (new ++ before) place (omega (arith, low, length-append new before))
     ∙ oldest_before new before place low
 
-module _ (c : Setup) (before after : List WriterStep) (later : IsLater before after) where
-  at_before : (place : ℕ) → place ≤ length before → tables_at c after place ≡ tables_at c before place
+module _ (c : InitialState) (before after : List WriterStep) (later : IsLater before after) where
+  at_before : (place : ℕ) → place ≤ length before → state_at c after place ≡ state_at c before place
   at_before place low =
-      ap (λ (steps : List WriterStep). tables_at c steps place) later.1
-      ∙ ap (tables c) (oldest_before later.0 before place low)
+      ap (λ (steps : List WriterStep). state_at c steps place) later.1
+      ∙ ap (state_after c) (oldest_before later.0 before place low)
 
-  history_kept : (place k : ℕ) → place ≤ length before → k ≤ begun (tables_at c before place)
-      → (tables c after).history k ≡ (tables c before).history k
+  history_kept : (place k : ℕ) → place ≤ length before → k ≤ updates_begun_in (state_at c before place)
+      → (state_after c after).history k ≡ (state_after c before).history k
   history_kept place k low stands =
-      let same : tables_at c after place ≡ tables_at c before place = at_before place low in
-      history_at c after place k (subst (λ (w : Tables). k ≤ begun w) (sym same) stands)
-      ∙ (ap (λ (w : Tables). w.history k) same ∙ sym (history_at c before place k stands))
+      let same : state_at c after place ≡ state_at c before place = at_before place low in
+      history_at c after place k (subst (λ (w : TableState). k ≤ updates_begun_in w) (sym same) stands)
+      ∙ (ap (λ (w : TableState). w.history k) same ∙ sym (history_at c before place k stands))
 
   pub of_version_still : (seen : Seen) (k : ℕ) → IsOfVersion c before seen k → IsOfVersion c after seen k
   of_version_still seen k h =
@@ -51,7 +51,7 @@ module _ (c : Setup) (before after : List WriterStep) (later : IsLater before af
         from = h.from;
         to = h.to;
         within = omega (arith, h.within, later_longer before after later);
-        stands = subst (λ (w : Tables). (done w ≤ k) × (k ≤ begun w)) (sym (at_before h.place low)) h.stands;
+        stands = subst (λ (w : TableState). (updates_done_in w ≤ k) × (k ≤ updates_begun_in w)) (sym (at_before h.place low)) h.stands;
         answers = subst (λ (R : RuleMap). IsAnswer c R seen.addr seen.hop)
             (sym (history_kept h.place k low h.stands.1)) h.answers;
         low = h.low;
@@ -60,17 +60,17 @@ module _ (c : Setup) (before after : List WriterStep) (later : IsLater before af
 
 pub versions_stay : VersionsStay
 versions_stay c before after k later begun_k =
-    let now : tables_at c before (length before) ≡ tables c before = at_now c before in
+    let now : state_at c before (length before) ≡ state_after c before = at_now c before in
     history_kept c before after later (length before) k (omega arith)
-    (subst (λ (w : Tables). k ≤ begun w) (sym now) begun_k)
+    (subst (λ (w : TableState). k ≤ updates_begun_in w) (sym now) begun_k)
 
 -- ---- finished lookups
 
 -- the version that the address shows at the place where its lookup is legal
-abbrev pub shown : (c : Setup) (steps : List WriterStep) (seen : Seen) → IsLegalAtPlace c steps seen → ℕ
-shown c steps seen h = version (tables_at c steps h.place) seen.addr
+abbrev pub shown : (c : InitialState) (steps : List WriterStep) (seen : Seen) → IsLegalAtPlace c steps seen → ℕ
+shown c steps seen h = version (state_at c steps h.place) seen.addr
 
-pub of_shown : (c : Setup) (steps : List WriterStep) (seen : Seen) (h : IsLegalAtPlace c steps seen)
+pub of_shown : (c : InitialState) (steps : List WriterStep) (seen : Seen) (h : IsLegalAtPlace c steps seen)
     → IsOfVersion c steps seen (shown c steps seen h)
 of_shown c steps seen h =
     let stands = versions_never_fall_at_places c steps seen.addr h.place h.place (omega arith) in
@@ -88,15 +88,15 @@ of_shown c steps seen h =
 pub lookups_never_go_back : LookupsNeverGoBack
 lookups_never_go_back c before after earlier later old new on first same =
     let a : ℕ = earlier.addr in
-    let then : Tables = tables_at c after new.place in
-    let stay : tables_at c after old.place ≡ tables_at c before old.place =
+    let then : TableState = state_at c after new.place in
+    let stay : state_at c after old.place ≡ state_at c before old.place =
     at_before c before after on old.place (omega (arith, old.to, old.within)) in
     let rises = versions_never_fall_at_places c after a old.place new.place
     (omega (arith, old.to, old.within, first, new.from)) in (
       shown c before earlier old,
       shown c after later new,
-      subst (λ (b : ℕ). version (tables_at c before old.place) a ≤ version then b) same
-          (subst (λ (w : Tables). version w a ≤ version then a) stay rises.2),
+      subst (λ (b : ℕ). version (state_at c before old.place) a ≤ version then b) same
+          (subst (λ (w : TableState). version w a ≤ version then a) stay rises.2),
       of_version_still c before after on earlier (shown c before earlier old) (of_shown c before earlier old),
       of_shown c after later new,
     )
@@ -109,13 +109,13 @@ at_place P xs i x here all =
     subst P (get_or_from_slice_get xs i x x here) (all i x (slice_get_within xs i x here))
 
 -- two legal lookups of one address, of which the earlier read its last word before the later read its first
-pub in_order : (c : Setup) (steps : List WriterStep) (earlier later : Seen) → IsLegalAtPlace c steps earlier → IsLegalAtPlace c steps later
+pub in_order : (c : InitialState) (steps : List WriterStep) (earlier later : Seen) → IsLegalAtPlace c steps earlier → IsLegalAtPlace c steps later
     → earlier.last ≤ later.first → earlier.addr ≡ later.addr → AreInOrder c steps earlier later
 in_order c steps earlier later old new apart same =
     let rises = versions_never_fall_at_places c steps earlier.addr old.place new.place (omega (arith, old.to, apart, new.from)) in (
       shown c steps earlier old,
       shown c steps later new,
-      subst (λ (a : ℕ). version (tables_at c steps old.place) earlier.addr ≤ version (tables_at c steps new.place) a) same rises.2,
+      subst (λ (a : ℕ). version (state_at c steps old.place) earlier.addr ≤ version (state_at c steps new.place) a) same rises.2,
       of_shown c steps earlier old,
       of_shown c steps later new,
     )
@@ -128,9 +128,9 @@ counted : (w : WriterState) (lo hi begins : ℕ) (p q : PassState) → IsAtRest 
 counted w lo hi begins p q rest history own before after late done_then begun_then =
     let all : oldest begins q.seen ≡ steps_of w =
     oldest_all q.seen begins (omega (arith, late, ap length before, ap length after)) ∙ after in
-    let written : IsWritten (setup w.identity) (steps_of w) =
-    subst (λ (z : Identity × List WriterStep). IsWritten (setup z.0) z.1) (λ i. (own i, after i)) history.written in
-    let now = counts (setup w.identity) (steps_of w) written in (
+    let written : IsWritten (initial_state w.identity) (steps_of w) =
+    subst (λ (z : Identity × List WriterStep). IsWritten (initial_state z.0) z.1) (λ i. (own i, after i)) history.written in
+    let now = counts (initial_state w.identity) (steps_of w) written in (
       done_then ∙ (ap updates_done all ∙ (sym now.done_is ∙ rest.done)),
       begun_then ∙ (ap updates_begun after ∙ (sym now.begun_is ∙ rest.begun)),
     )
@@ -138,12 +138,12 @@ counted w lo hi begins p q rest history own before after late done_then begun_th
 pub lookups_count_versions : LookupsCountVersions
 lookups_count_versions w lo hi p q rest (inl told) history own before after =
     let h = told.2 in
-    let begin : WorkerStep × ℕ = (Begins (told.0 ∷ []) h.low, h.begins) in
-    let place = all_last (λ s. (length p.seen ≤ s.1) × (s.1 ≤ length q.seen)) ((Ends h.high, length q.seen) ∷ loads_at h.found.word h.found.first h.found.second) begin h.steps.places in
+    let begin : WorkerStep × ℕ = (BeginLookup (told.0 ∷ []) h.low, h.begins) in
+    let place = all_last (λ s. (length p.seen ≤ s.1) × (s.1 ≤ length q.seen)) ((EndLookup h.high, length q.seen) ∷ loads_at h.found.word h.found.first h.found.second) begin h.steps.places in
     counted w lo hi h.begins p q rest history own before after place.0 h.done_then h.begun_then
 lookups_count_versions w lo hi p q rest (inr told) history own before after =
     let h = told.2 in
-    let begin : WorkerStep × ℕ = (Begins told.0 h.low, h.begins) in
+    let begin : WorkerStep × ℕ = (BeginLookup told.0 h.low, h.begins) in
     let place = all_last (λ s. (length p.seen ≤ s.1) × (s.1 ≤ length q.seen))
-    ((Ends h.high, length q.seen) ∷ (seconds_at h.found ++ firsts_at h.found)) begin h.steps.places in
+    ((EndLookup h.high, length q.seen) ∷ (seconds_at h.found ++ firsts_at h.found)) begin h.steps.places in
     counted w lo hi h.begins p q rest history own before after place.0 h.done_then h.begun_then

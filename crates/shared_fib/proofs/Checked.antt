@@ -10,18 +10,18 @@ use Rattle.lpm_cells.specs.declared.entry.Entry.TheVariants.{Miss, Hop, Group}
 use Rattle.lpm_cells.specs.Words.{entry_in}
 use Rattle.fib_model.specs.State.{State}
 use Rattle.lpm_trace.specs.declared.step.WriterStep.{WriterStep}
-use Rattle.lpm_trace.specs.declared.step.WriterStep.TheVariants.{StoreFirst, StoreSecond, Opens, Closes, BumpToken, LoadCounter}
-use Rattle.lpm_trace.specs.Tables.{Setup, Tables, Status, Linked, Retired, tables, retired, linked, first_entry}
+use Rattle.lpm_trace.specs.declared.step.WriterStep.TheVariants.{StoreFirst, StoreSecond, BeginUpdate, EndUpdate, BumpToken, LoadCounter}
+use Rattle.lpm_trace.specs.States.{InitialState, TableState, Status, Linked, Retired, state_after, with_retired, with_linked, first_entry}
 use Rattle.lpm_trace.specs.Laws.{IsChecked}
 use Rattle.lpm_trace.proofs.Basics.{with_at_case}
 use Rattle.lpm_trace.specs.Counts.{token_after}
 use Rattle.lpm_trace.proofs.Counts.{token_is, passed_is}
 use Rattle.lpm_writer.specs.Steps.{Synchronizes}
 use Rattle.lpm_writer.proofs.StepsAlone.{steps_passed, stopped_token}
-use Rattle.lpm_writer.specs.Kept.{AreRetired}
+use Rattle.lpm_writer.specs.Matching.{AreRetired}
 use Rattle.lpm_writer.specs.Waiting.{tokens_of}
 use Rattle.shared_words.specs.declared.view.View.{View}
-use Rattle.shared_words.specs.Opened.{Opened, setup_of}
+use Rattle.shared_words.specs.Initial.{InitialData, initial_state_of}
 use Rattle.shared_words.specs.Seats.{AreChecked}
 use Rattle.shared_fib.specs.Freeing.{FreesChecked}
 use Rattle.shared_fib.proofs.Freed.{Leaves}
@@ -41,7 +41,7 @@ linked_retired : (b t : ℕ) → Linked b ≡ Retired t → ⊥
 linked_retired b t e = cc
 
 retired_numbered : (e : Entry) (token : ℕ) (groups : ℕ → Status) → AreNumbered groups
-    → AreNumbered (retired e (suc token) groups)
+    → AreNumbered (with_retired e (suc token) groups)
 retired_numbered Miss token groups all = all
 retired_numbered (Hop hop depth) token groups all = all
 retired_numbered (Group group) token groups all = λ g t e.
@@ -50,27 +50,27 @@ retired_numbered (Group group) token groups all = λ g t e.
     (λ _ was. all g t was) e
 
 linked_numbered : (e : Entry) (block : ℕ) (groups : ℕ → Status) → AreNumbered groups
-    → AreNumbered (linked e block groups)
+    → AreNumbered (with_linked e block groups)
 linked_numbered Miss block groups all = all
 linked_numbered (Hop hop depth) block groups all = all
 linked_numbered (Group group) block groups all = λ g t e.
     with_at_case (λ (s : Status). s ≡ Retired t → 0 < t) groups group (Linked block) g
     (λ _ now. absurd (linked_retired block t now)) (λ _ was. all g t was) e
 
-numbered : (c : Setup) → AreNumbered c.groups → (steps : List WriterStep)
-    → AreNumbered (tables c steps).groups
+numbered : (c : InitialState) → AreNumbered c.groups → (steps : List WriterStep)
+    → AreNumbered (state_after c steps).groups
 numbered c first [] = first
 numbered c first (StoreFirst i x ∷ steps) =
-    let w : Tables = tables c steps in
-    linked_numbered (entry_in x) i (retired (first_entry w.words i) (suc w.token) w.groups)
+    let w : TableState = state_after c steps in
+    linked_numbered (entry_in x) i (with_retired (first_entry w.words i) (suc w.token) w.groups)
     (retired_numbered (first_entry w.words i) w.token w.groups (numbered c first steps))
 numbered c first (StoreSecond j x ∷ steps) = numbered c first steps
-numbered c first (Opens change ∷ steps) = numbered c first steps
-numbered c first (Closes ∷ steps) = numbered c first steps
+numbered c first (BeginUpdate change ∷ steps) = numbered c first steps
+numbered c first (EndUpdate ∷ steps) = numbered c first steps
 numbered c first (BumpToken ∷ steps) = numbered c first steps
 numbered c first (LoadCounter token worker counter ∷ steps) = numbered c first steps
 
-opened_numbered : (o : Opened) → AreNumbered (setup_of o).groups
+opened_numbered : (o : InitialData) → AreNumbered (initial_state_of o).groups
 opened_numbered o g t e = absurd (never_retired (slice_get o.blocks g) t e)
 
 tokens_numbered : (status : ℕ → Status) (token : ℕ) (items : List (ℕ × ℕ)) → AreNumbered status
@@ -83,18 +83,18 @@ tokens_numbered status token (item ∷ items) all are =
 -- ---- so each was checked
 
 -- what the look at the end of a command finds, by what the table was opened with
-pub looked : (v w : View) → OnlySees v w → AreChecked w.opening w.seen → AreChecked v.opening w.seen
+pub looked : (v w : View) → OnlySees v w → AreChecked w.initial w.seen → AreChecked v.initial w.seen
 looked v w sees are =
-    subst (λ (o : Opened). AreChecked o w.seen) (ap (λ (x : View). x.opening) sees) are
+    subst (λ (o : InitialData). AreChecked o w.seen) (ap (λ (x : View). x.initial) sees) are
 
 -- each of these tokens was started, and has passed
-pub each_checked : (o : Opened) (steps : List WriterStep) (freed : List ℕ) → All (λ t. 0 < t) freed
-    → (0 < (setup_of o).workers → All (λ t. t ≤ (tables (setup_of o) steps).passed) freed)
+pub each_checked : (o : InitialData) (steps : List WriterStep) (freed : List ℕ) → All (λ t. 0 < t) freed
+    → (0 < (initial_state_of o).workers → All (λ t. t ≤ (state_after (initial_state_of o) steps).passed) freed)
     → AreChecked o steps → All (IsChecked o.workers o.token steps) freed
-each_checked o steps freed past passed checked i d within = elim (cases_lt 0 (setup_of o).workers) [
+each_checked o steps freed past passed checked i d within = elim (cases_lt 0 (initial_state_of o).workers) [
   | inl some ↦
       let low = passed some i d within in
-      checked (get_or freed i d) (past i d within) (omega (arith, low, passed_is (setup_of o) steps))
+      checked (get_or freed i d) (past i d within) (omega (arith, low, passed_is (initial_state_of o) steps))
   | inr none ↦ record {
     checked = get_or freed i d;
     later = omega arith;
@@ -112,16 +112,16 @@ all_front : (P : ℕ → Type 0) (xs ys : List ℕ) → All P (xs ++ ys) → All
 all_front P xs ys all i d within =
     subst P (get_or_append_left xs ys d i within) (all i d (omega (arith, within, length-append xs ys)))
 
-pub frees_checked : (o : Opened) (s z : State (List WriterStep)) (token : ℕ) (items : List (ℕ × ℕ))
+pub frees_checked : (o : InitialData) (s z : State (List WriterStep)) (token : ℕ) (items : List (ℕ × ℕ))
     (n : ℕ) (freed : List ℕ)
-    → AreRetired (tables (setup_of o) s.readers).groups token items → s.limbo ≡ tokens_of items
-    → Leaves (setup_of o) s.readers z.readers s.limbo n freed z.limbo → AreChecked o z.readers
+    → AreRetired (state_after (initial_state_of o) s.readers).groups token items → s.limbo ≡ tokens_of items
+    → Leaves (initial_state_of o) s.readers z.readers s.limbo n freed z.limbo → AreChecked o z.readers
     → FreesChecked o s z freed
 frees_checked o s z token items n freed are same h checked =
-    let c : Setup = setup_of o in
-    let t : ℕ = (tables c s.readers).token in
+    let c : InitialState = initial_state_of o in
+    let t : ℕ = (state_after c s.readers).token in
     let waited : All (λ t. 0 < t) s.limbo = subst (All (λ t. 0 < t)) (sym same)
-    (tokens_numbered (tables c s.readers).groups token items
+    (tokens_numbered (state_after c s.readers).groups token items
     (numbered c (opened_numbered o) s.readers) are) in
     let all : All (λ t. 0 < t) (s.limbo ++ range_with_len (t + 1) n) =
     All-append (λ t. 0 < t) s.limbo (range_with_len (t + 1) n) waited (started_past t n) in
@@ -138,36 +138,36 @@ frees_checked o s z token items n freed are same h checked =
 -- ---- a synchronize
 
 -- the token that a synchronize starts is the newest then, and was checked
-pub record IsNewestChecked (x : List WriterStep) (c d : Setup) (z : List WriterStep) : Type 0 where
+pub record IsNewestChecked (x : List WriterStep) (c d : InitialState) (z : List WriterStep) : Type 0 where
   pub started : token_after d.token z ≡ token_after c.token x + 1
   pub checked : IsChecked d.workers d.token z (token_after d.token z)
 
-newest_checked : (o : Opened) (x z : List WriterStep)
-    → Synchronizes o.workers o.token x z → AreChecked o z → IsNewestChecked x (setup_of o) (setup_of o) z
+newest_checked : (o : InitialData) (x z : List WriterStep)
+    → Synchronizes o.workers o.token x z → AreChecked o z → IsNewestChecked x (initial_state_of o) (initial_state_of o) z
 newest_checked o x z h are =
-    let c : Setup = setup_of o in
+    let c : InitialState = initial_state_of o in
     let t : ℕ = token_after o.token (BumpToken ∷ x) in
     let newest : ℕ = token_after o.token z in
-    let before : (tables c x).token ≡ token_after o.token x = token_is c x in
-    let stopped : (tables c h.last).token ≡ suc (tables c x).token =
+    let before : (state_after c x).token ≡ token_after o.token x = token_is c x in
+    let stopped : (state_after c h.last).token ≡ suc (state_after c x).token =
     stopped_token c h.stops (BumpToken ∷ x) t h.last h.stopped in
     let passed = steps_passed c h.last t z h.passes in
     let last : newest ≡ t = omega (arith, passed.token, stopped, before, token_is c z) in
     let past : All (λ u. 0 < u) (newest ∷ []) =
     All-cons (λ u. 0 < u) newest [] (omega (arith, last)) (All-nil (λ u. 0 < u)) in
     let all = each_checked o z (newest ∷ []) past
-    (λ some. All-cons (λ u. u ≤ (tables c z).passed) newest [] (omega (arith, last, passed.passed some))
-    (All-nil (λ u. u ≤ (tables c z).passed))) are in
+    (λ some. All-cons (λ u. u ≤ (state_after c z).passed) newest [] (omega (arith, last, passed.passed some))
+    (All-nil (λ u. u ≤ (state_after c z).passed))) are in
     record {
       started = last;
       checked = All-head (IsChecked o.workers o.token z) newest [] all;
     }
 
 pub synchronize_checked : (v w : View) → OnlySees v w
-    → Synchronizes v.opening.workers v.opening.token v.seen w.seen
-    → AreChecked v.opening w.seen
-    → IsNewestChecked v.seen (setup_of v.opening) (setup_of w.opening) w.seen
+    → Synchronizes v.initial.workers v.initial.token v.seen w.seen
+    → AreChecked v.initial w.seen
+    → IsNewestChecked v.seen (initial_state_of v.initial) (initial_state_of w.initial) w.seen
 synchronize_checked v w sees h are =
-    let same : w.opening ≡ v.opening = ap (λ (x : View). x.opening) sees in
-    subst (λ (o : Opened). IsNewestChecked v.seen (setup_of v.opening) (setup_of o) w.seen) (sym same)
-    (newest_checked v.opening v.seen w.seen h are)
+    let same : w.initial ≡ v.initial = ap (λ (x : View). x.initial) sees in
+    subst (λ (o : InitialData). IsNewestChecked v.seen (initial_state_of v.initial) (initial_state_of o) w.seen) (sym same)
+    (newest_checked v.initial v.seen w.seen h are)

@@ -21,8 +21,8 @@ use Rattle.lpm_rules.specs.RuleMap.{RuleMap}
 use Rattle.fib_model.proofs.Frozen.{lacks_or_not}
 use Rattle.std.specs.FinMap.{get, remove, empty}
 use Rattle.lpm_trace.specs.declared.step.WriterStep.{WriterStep}
-use Rattle.lpm_trace.specs.declared.step.WriterStep.TheVariants.{StoreFirst, StoreSecond, Opens, Closes, BumpToken, LoadCounter}
-use Rattle.lpm_trace.specs.Tables.{Setup, tables}
+use Rattle.lpm_trace.specs.declared.step.WriterStep.TheVariants.{StoreFirst, StoreSecond, BeginUpdate, EndUpdate, BumpToken, LoadCounter}
+use Rattle.lpm_trace.specs.States.{InitialState, state_after}
 use Rattle.lpm_trace.proofs.Counts.{token_is}
 use Rattle.lpm_writer.specs.Steps.{IsStore, by_steps_from}
 use Rattle.lpm_writer.proofs.StepsAlone.{steps_passed, steps_stopped}
@@ -46,11 +46,11 @@ all_of_front limbo n passed few h i d within =
     (h i (get_or limbo i d) low (slice_get-get_or limbo i d there))
 
 -- some checks at most were made from x to z
-record HasChecked (c : Setup) (x z : List WriterStep) : Type 0 where
-  token : (tables c z).token ≡ (tables c x).token
-  more : (tables c x).passed ≤ (tables c z).passed
+record HasChecked (c : InitialState) (x z : List WriterStep) : Type 0 where
+  token : (state_after c z).token ≡ (state_after c x).token
+  more : (state_after c x).passed ≤ (state_after c z).passed
 
-module _ (c : Setup) (limbo : List ℕ) where
+module _ (c : InitialState) (limbo : List ℕ) where
   passes_on : (n : ℕ) (x z : List WriterStep) → Passes (by_steps_from c.workers c.token) n limbo x z → HasChecked c x z
   passes_on zero x z h =
       subst (HasChecked c x) (sym h) (record { token = refl; more = omega arith })
@@ -60,13 +60,13 @@ module _ (c : Setup) (limbo : List ℕ) where
       record { token = passed.token ∙ before.token; more = omega (arith, passed.more, before.more) }
 
   passes_below : 0 < c.workers → (n : ℕ) (x z : List WriterStep) → Passes (by_steps_from c.workers c.token) n limbo x z
-      → HavePassed n limbo (tables c z).passed
+      → HavePassed n limbo (state_after c z).passed
   passes_below some zero x z h i t low at = absurd (omega (arith, low))
   passes_below some (suc n) x z h i t low at =
       let passed = steps_passed c h.0 h.1 z h.4 in
       elim (cases_lt i n) [
         | inl below ↦
-            let before : t ≤ (tables c h.0).passed = passes_below some n x h.0 h.2 i t below at in
+            let before : t ≤ (state_after c h.0).passed = passes_below some n x h.0 h.2 i t below at in
             omega (arith, before, passed.more)
         | inr last ↦
             let same : h.1 ≡ t = one_member limbo n i h.1 t (omega (arith, low, last)) h.3 at in
@@ -77,12 +77,12 @@ module _ (c : Setup) (limbo : List ℕ) where
 
 -- From x to z n tokens were started, each for a group that went last into limbo. Those that were freed
 -- left it at the front, and have passed.
-pub record Leaves (c : Setup) (x z : List WriterStep) (limbo : List ℕ) (n : ℕ) (freed left : List ℕ)
+pub record Leaves (c : InitialState) (x z : List WriterStep) (limbo : List ℕ) (n : ℕ) (freed left : List ℕ)
     : Type 0 where
-  pub queue : limbo ++ range_with_len ((tables c x).token + 1) n ≡ freed ++ left
-  pub passed : 0 < c.workers → All (λ t. t ≤ (tables c z).passed) freed
-  pub token : (tables c z).token ≡ (tables c x).token + n
-  pub more : (tables c x).passed ≤ (tables c z).passed
+  pub queue : limbo ++ range_with_len ((state_after c x).token + 1) n ≡ freed ++ left
+  pub passed : 0 < c.workers → All (λ t. t ≤ (state_after c z).passed) freed
+  pub token : (state_after c z).token ≡ (state_after c x).token + n
+  pub more : (state_after c x).passed ≤ (state_after c z).passed
 
 -- one more token, after n from this one on
 one_more_token : (from n : ℕ) → range_with_len from (suc n) ≡ range_with_len from n ++ (from + n) ∷ []
@@ -95,46 +95,46 @@ tail_apart : (freed more left : List ℕ) (name : ℕ)
     → (freed ++ (more ++ left)) ++ name ∷ [] ≡ (freed ++ more) ++ (left ++ name ∷ [])
 tail_apart freed more left name = simp append_assoc
 
-module _ (c : Setup) where
+module _ (c : InitialState) where
   -- the token and the greatest that has passed are the same
-  abbrev Keeps : List WriterStep → List WriterStep → Type 0
-  Keeps x z = ((tables c z).token ≡ (tables c x).token) × ((tables c z).passed ≡ (tables c x).passed)
+  abbrev GroupsMatchSteps : List WriterStep → List WriterStep → Type 0
+  GroupsMatchSteps x z = ((state_after c z).token ≡ (state_after c x).token) × ((state_after c z).passed ≡ (state_after c x).passed)
 
-  keeps_on : (x y z : List WriterStep) → Keeps x y → Keeps y z → Keeps x z
+  keeps_on : (x y z : List WriterStep) → GroupsMatchSteps x y → GroupsMatchSteps y z → GroupsMatchSteps x z
   keeps_on x y z h k = (k.0 ∙ h.0, k.1 ∙ h.1)
 
-  plain_keeps : (steps : List WriterStep) (s : WriterStep) → IsStore s → Keeps steps (s ∷ steps)
+  plain_keeps : (steps : List WriterStep) (s : WriterStep) → IsStore s → GroupsMatchSteps steps (s ∷ steps)
   plain_keeps steps (StoreFirst i w) h = (refl, refl)
   plain_keeps steps (StoreSecond j w) h = (refl, refl)
-  plain_keeps steps (Opens change) h = absurd h
-  plain_keeps steps Closes h = absurd h
+  plain_keeps steps (BeginUpdate change) h = absurd h
+  plain_keeps steps EndUpdate h = absurd h
   plain_keeps steps BumpToken h = absurd h
   plain_keeps steps (LoadCounter token worker counter) h = absurd h
 
   none_leaves : (x z : List WriterStep) (limbo : List ℕ) → HasChecked c x z → Leaves c x z limbo 0 [] limbo
   none_leaves x z limbo h = record {
     queue = append-nil limbo;
-    passed = λ _. All-nil (λ t. t ≤ (tables c z).passed);
+    passed = λ _. All-nil (λ t. t ≤ (state_after c z).passed);
     token = h.token ∙ omega arith;
     more = h.more;
   }
 
   front_leaves : (x z : List WriterStep) (limbo : List ℕ) (n : ℕ) (left : List ℕ) → HasChecked c x z
       → n ≤ length limbo → left ≡ drop n limbo
-      → (0 < c.workers → HavePassed n limbo (tables c z).passed)
+      → (0 < c.workers → HavePassed n limbo (state_after c z).passed)
       → Leaves c x z limbo 0 (take n limbo) left
   front_leaves x z limbo n left on few rest passed = record {
     queue = append-nil limbo ∙ sym (ap (λ l. take n limbo ++ l) rest ∙ take-append-drop n limbo);
-    passed = λ some. all_of_front limbo n (tables c z).passed few (passed some);
+    passed = λ some. all_of_front limbo n (state_after c z).passed few (passed some);
     token = on.token ∙ omega arith;
     more = on.more;
   }
 
   reclaims_on : (x z : List WriterStep) (max : ℕ) (limbo : List ℕ) (freed : ℕ) (stopped : Option Busy)
       (left : List ℕ) (h : Reclaims (by_steps_from c.workers c.token) x max limbo freed stopped left z)
-      → ((tables c z).token ≡ (tables c h.last).token) × ((tables c z).passed ≡ (tables c h.last).passed)
+      → ((state_after c z).token ≡ (state_after c h.last).token) × ((state_after c z).passed ≡ (state_after c h.last).passed)
   reclaims_on x z max limbo freed None left h =
-      (ap (λ y. (tables c y).token) h.end.0, ap (λ y. (tables c y).passed) h.end.0)
+      (ap (λ y. (state_after c y).token) h.end.0, ap (λ y. (state_after c y).passed) h.end.0)
   reclaims_on x z max limbo freed (Some busy) left h =
       let stop = h.end.1 in
       let stays = steps_stopped c h.last stop.0 busy z stop.2 in
@@ -148,34 +148,34 @@ module _ (c : Setup) where
       let end = reclaims_on x z max limbo freed stopped left h in
       let on = passes_on c limbo freed x h.last h.passed in
       front_leaves x z limbo freed left
-      (record { token = end.0 ∙ on.token; more = subst (λ p. (tables c x).passed ≤ p) (sym end.1) on.more })
+      (record { token = end.0 ∙ on.token; more = subst (λ p. (state_after c x).passed ≤ p) (sym end.1) on.more })
       h.within h.rest
       (λ some. subst (HavePassed freed limbo) (sym end.1) (passes_below c limbo some freed x h.last h.passed))
 
   -- ---- the stores of an update
 
-  stores_keep : (x stores : List WriterStep) → All IsStore stores → Keeps x (stores ++ x)
+  stores_keep : (x stores : List WriterStep) → All IsStore stores → GroupsMatchSteps x (stores ++ x)
   stores_keep x [] all = (refl, refl)
   stores_keep x (s ∷ stores) all =
       keeps_on x (stores ++ x) (s ∷ (stores ++ x)) (stores_keep x stores (All-tail IsStore s stores all))
       (plain_keeps (stores ++ x) s (All-head IsStore s stores all))
 
-  begins_keep : (x z : List WriterStep) → (by_steps_from c.workers c.token).begins x z → Keeps x z
-  begins_keep x z h = subst (Keeps x) (sym h.1) (refl, refl)
+  begins_keep : (x z : List WriterStep) → (by_steps_from c.workers c.token).begins x z → GroupsMatchSteps x z
+  begins_keep x z h = subst (GroupsMatchSteps x) (sym h.1) (refl, refl)
 
-  ends_keep : (x z : List WriterStep) → (by_steps_from c.workers c.token).ends x z → Keeps x z
-  ends_keep x z h = subst (Keeps x) (sym h.2) (stores_keep x h.0 h.1)
+  ends_keep : (x z : List WriterStep) → (by_steps_from c.workers c.token).ends x z → GroupsMatchSteps x z
+  ends_keep x z h = subst (GroupsMatchSteps x) (sym h.2) (stores_keep x h.0 h.1)
 
   -- the token that is started for a group that was unlinked
   unlinks_one : (x : List WriterStep) (name : ℕ) (z : List WriterStep)
       → (by_steps_from c.workers c.token).unlinks x name z
-      → (name ≡ (tables c x).token + 1) × ((tables c z).token ≡ (tables c x).token + 1)
-      × ((tables c z).passed ≡ (tables c x).passed)
+      → (name ≡ (state_after c x).token + 1) × ((state_after c z).token ≡ (state_after c x).token + 1)
+      × ((state_after c z).passed ≡ (state_after c x).passed)
   unlinks_one x name z h =
       let stores = stores_keep x h.0 h.3 in
-      let more : (tables c z).token ≡ suc (tables c (h.0 ++ x)).token = ap (λ y. (tables c y).token) h.4 in
-      let now : (tables c z).token ≡ (tables c x).token + 1 = omega (arith, more, stores.0) in
-      (h.5 ∙ sym (token_is c z) ∙ now, now, ap (λ y. (tables c y).passed) h.4 ∙ stores.1)
+      let more : (state_after c z).token ≡ suc (state_after c (h.0 ++ x)).token = ap (λ y. (state_after c y).token) h.4 in
+      let now : (state_after c z).token ≡ (state_after c x).token + 1 = omega (arith, more, stores.0) in
+      (h.5 ∙ sym (token_is c z) ∙ now, now, ap (λ y. (state_after c y).passed) h.4 ∙ stores.1)
 
   -- ---- groups that are unlinked
 
@@ -192,8 +192,8 @@ module _ (c : Setup) where
         ([], subst (Leaves c x z limbo 0 []) (sym same.0) (none_leaves x z limbo on))
   ]
 
-  more_freed : (x z : List WriterStep) (freed : List ℕ) → (tables c x).passed ≤ (tables c z).passed
-      → All (λ t. t ≤ (tables c x).passed) freed → All (λ t. t ≤ (tables c z).passed) freed
+  more_freed : (x z : List WriterStep) (freed : List ℕ) → (state_after c x).passed ≤ (state_after c z).passed
+      → All (λ t. t ≤ (state_after c x).passed) freed → All (λ t. t ≤ (state_after c z).passed) freed
   more_freed x z freed more all i d within = omega (arith, more, all i d within)
 
   one_leaves : (config : Config) (n : ℕ) (x y z : List WriterStep) (limbo freed waiting limbo' : List ℕ)
@@ -204,11 +204,11 @@ module _ (c : Setup) where
       let left : List ℕ = h.2 in
       let unlinked = unlinks_one y name h.1 h.3 in
       let room = room_leaves config h.1 waiting left z h.4 in
-      let token : ℕ = (tables c x).token in
+      let token : ℕ = (state_after c x).token in
       let names : List ℕ = range_with_len (token + 1) n in
       let parts : waiting ≡ room.0 ++ left = sym (append-nil waiting) ∙ room.1.queue in
       let is_next : name ≡ (token + 1) + n = omega (arith, unlinked.0, before.token) in
-      let old : (tables c y).passed ≤ (tables c z).passed =
+      let old : (state_after c y).passed ≤ (state_after c z).passed =
       omega (arith, unlinked.2, room.1.more) in (
         freed ++ room.0,
         record {
@@ -219,7 +219,7 @@ module _ (c : Setup) where
               ∙ ap (λ t. (freed ++ (room.0 ++ left)) ++ t ∷ []) (sym is_next)
               ∙ tail_apart freed room.0 left name
               ∙ ap (λ l. (freed ++ room.0) ++ l) (sym h.5);
-          passed = λ some. All-append (λ t. t ≤ (tables c z).passed) freed room.0
+          passed = λ some. All-append (λ t. t ≤ (state_after c z).passed) freed room.0
               (more_freed y z freed old (before.passed some)) (room.1.passed some);
           token = omega (arith, room.1.token, unlinked.1, before.token);
           more = omega (arith, before.more, old);
@@ -240,8 +240,8 @@ module _ (c : Setup) where
   -- ---- commands
 
   -- what goes before and after leaves the token and what has passed
-  within_leaves : (x y z w : List WriterStep) (limbo : List ℕ) (n : ℕ) (freed left : List ℕ) → Keeps x y
-      → Leaves c y z limbo n freed left → Keeps z w → Leaves c x w limbo n freed left
+  within_leaves : (x y z w : List WriterStep) (limbo : List ℕ) (n : ℕ) (freed left : List ℕ) → GroupsMatchSteps x y
+      → Leaves c y z limbo n freed left → GroupsMatchSteps z w → Leaves c x w limbo n freed left
   within_leaves x y z w limbo n freed left before h after = record {
     queue = subst (λ t. limbo ++ range_with_len (t + 1) n ≡ freed ++ left) before.0 h.queue;
     passed = λ some. subst (λ p. All (λ t. t ≤ p) freed) (sym after.1) (h.passed some);
@@ -286,7 +286,7 @@ module _ (c : Setup) where
   flushes_leave f g config s (Err other) z h = absurd h
 
   -- an update that unlinks no group
-  update_keeps : (x z : List WriterStep) → Updates (by_steps_from c.workers c.token) x z → Keeps x z
+  update_keeps : (x z : List WriterStep) → Updates (by_steps_from c.workers c.token) x z → GroupsMatchSteps x z
   update_keeps x z h = keeps_on x h.0 z (begins_keep x h.0 h.1) (ends_keep h.0 z h.2)
 
   -- the group that an add takes from the front of limbo
@@ -300,8 +300,8 @@ module _ (c : Setup) where
           is.0 ∷ [],
           record {
             queue = append-nil s.limbo ∙ is.1;
-            passed = λ some. All-cons (λ t. t ≤ (tables c y).passed) is.0 [] (checked.passed some)
-                (All-nil (λ t. t ≤ (tables c y).passed));
+            passed = λ some. All-cons (λ t. t ≤ (state_after c y).passed) is.0 [] (checked.passed some)
+                (All-nil (λ t. t ≤ (state_after c y).passed));
             token = omega (arith, checked.token);
             more = checked.more;
           },

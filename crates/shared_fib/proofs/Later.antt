@@ -18,7 +18,7 @@ use Rattle.fib_model.specs.Outcomes.{Adds, Deletes, Flushes, Frees, HoldsFront, 
 use Rattle.fib_model.specs.Reclaiming.{Reclaims, MakesRoom, Unlinks, UnlinksOne}
 use Rattle.fib_model.proofs.Frozen.{lacks_or_not}
 use Rattle.lpm_trace.specs.declared.step.WriterStep.{WriterStep}
-use Rattle.lpm_trace.specs.declared.step.WriterStep.TheVariants.{StoreFirst, Opens, Closes, BumpToken, LoadCounter}
+use Rattle.lpm_trace.specs.declared.step.WriterStep.TheVariants.{StoreFirst, BeginUpdate, EndUpdate, BumpToken, LoadCounter}
 use Rattle.lpm_trace.specs.Counts.{token_after}
 use Rattle.lpm_writer.specs.Steps.{AreStopped, Asks, Checks, Loads, Synchronizes, by_steps_from}
 use Rattle.shared_words.specs.declared.view.View.{View}
@@ -55,9 +55,9 @@ pub record GoOn (t : Transitions (List WriterStep)) : Type 0 where
 pub steps_go_on : (workers start : ℕ) → GoOn (by_steps_from workers start)
 steps_go_on workers start = record {
   checks = λ x name r z h. checks workers x name r z h;
-  begins = λ x z h. (Opens h.0 ∷ [], h.1);
+  begins = λ x z h. (BeginUpdate h.0 ∷ [], h.1);
   unlinks = λ x name z h. (BumpToken ∷ StoreFirst h.1 h.2 ∷ h.0, h.4);
-  ends = λ x z h. (Closes ∷ h.0, h.2);
+  ends = λ x z h. (EndUpdate ∷ h.0, h.2);
 }
 
 -- ---- a command

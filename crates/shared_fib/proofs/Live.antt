@@ -14,11 +14,11 @@ use Rattle.lpm_rules.specs.RuleMap.{RuleMap}
 use Rattle.lpm_update.specs.Linked.{group_at}
 use Rattle.lpm_update.specs.Represents.{Represents}
 use Rattle.lpm_update.specs.Tied.{IsTied, HasGroupRoom}
-use Rattle.lpm_trace.specs.Tables.{Status, Unused, Linked as LinkedTo, Retired, IsSettled}
+use Rattle.lpm_trace.specs.States.{Status, Unused, Linked as LinkedTo, Retired, IsSettled}
 use Rattle.lpm_writer.specs.Resting.{IsResting}
 use Rattle.lpm_writer.proofs.Beginning.{status_at_first, begins_settled, begins_resting}
-use Rattle.shared_words.specs.Opened.{Opened, status_of, setup_of}
-use Rattle.shared_fib.specs.Loaded.{block_of, opened_of}
+use Rattle.shared_words.specs.Initial.{InitialData, status_of, initial_state_of}
+use Rattle.shared_fib.specs.Initial.{block_of, initial_data_by}
 
 pub none_some : (g : ℕ) → None ≡ Some g → ⊥
 none_some g e = cc
@@ -43,8 +43,8 @@ status_is Limbo = refl
 
 module _ (f s : ℕ) (t : Words) (R : RuleMap) (xs : List GroupState) (config : Config) (token : ℕ)
     (represents : Represents f s R t) (tied : IsTied f xs (group_at t.firsts)) where
-  abbrev live : Opened
-  live = opened_of f s t R xs config.workers token
+  abbrev live : InitialData
+  live = initial_data_by f s t R xs config.workers token
 
   abbrev statuses : ℕ → Status
   statuses g = status_of (slice_get (map block_of xs) g)
@@ -56,12 +56,12 @@ module _ (f s : ℕ) (t : Words) (R : RuleMap) (xs : List GroupState) (config : 
   never : (g x : ℕ) → statuses g ≡ Retired x → ⊥
   never g x e = never_retired (slice_get (map block_of xs) g) x e
 
-  pub live_settled : 0 < token → IsSettled (setup_of live)
+  pub live_settled : 0 < token → IsSettled (initial_state_of live)
   live_settled pos = begins_settled f s t R xs config token statuses represents tied known never pos
 
   pub live_rests : (max : ℕ) → IsShape f s → IsConfig config → max ≡ config.rules
       → length xs ≡ config.groups → HasGroupRoom s t xs → limbo_count xs ≡ 0
-      → IsResting f s (setup_of live) [] config (record { rules = R; max = max })
+      → IsResting f s (initial_state_of live) [] config (record { rules = R; max = max })
       (record { groups = xs; queue = record { items = []; capacity = length xs }; passed = 0 }) 0
   live_rests max shape limits same states room none =
       begins_resting f s t R xs config token statuses represents tied known never max shape limits same states room none

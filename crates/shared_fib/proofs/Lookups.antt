@@ -6,14 +6,14 @@ use Rattle.lpm_cells.specs.declared.entry.Entry.TheVariants.{Miss, Hop, Group}
 use Rattle.lpm_cells.specs.Words.{entry_in, hop_in}
 use Rattle.lpm_trace.specs.declared.step.WriterStep.{WriterStep}
 use Rattle.lpm_trace.specs.declared.step.WorkerStep.{WorkerStep}
-use Rattle.lpm_trace.specs.declared.step.WorkerStep.TheVariants.{Begins, LoadFirst, LoadSecond, Ends}
-use Rattle.lpm_trace.specs.Tables.{Setup, Tables, done_at, begun_at, oldest, tables_at}
+use Rattle.lpm_trace.specs.declared.step.WorkerStep.TheVariants.{BeginLookup, LoadFirst, LoadSecond, EndLookup}
+use Rattle.lpm_trace.specs.States.{InitialState, TableState, done_at, begun_at, oldest, state_at}
 use Rattle.lpm_trace.specs.Workers.{Seen, MayRead, read_first, second_read, with_answers}
 use Rattle.lpm_trace.specs.Trace.{worker_by}
 use Rattle.lpm_trace.specs.Laws.{ArePlaced}
 use Rattle.lpm_trace.proofs.Traces.{at_now}
 use Rattle.shared_words.specs.Loads.{Found, IsReadOn, loads_at, seen_of}
-use Rattle.shared_fib.specs.Running.{setup}
+use Rattle.shared_fib.specs.Running.{initial_state}
 use Rattle.shared_fib.specs.Passes.{PassState, IsHistory, LooksUp}
 use Rattle.shared_fib.proofs.Versions.{counts, written_then}
 
@@ -55,7 +55,7 @@ module _ (addr low high word first begins ends : ℕ) (hop : Option ℕ) (steps 
   one second = record { addr = addr; hop = hop; word = word; first = first; second = second }
 
   replayed : (second : Option (ℕ × ℕ)) → IsReadOn (entry_in word) second hop
-      → (worker_by (((Ends high, ends) ∷ (loads_at word first second ++ (Begins (addr ∷ []) low, begins) ∷ [])) ++ steps)).finished
+      → (worker_by (((EndLookup high, ends) ∷ (loads_at word first second ++ (BeginLookup (addr ∷ []) low, begins) ∷ [])) ++ steps)).finished
       ≡ seen_of (done_at low) (begun_at high) (one second) ∷ (worker_by steps).finished
   replayed None exact = one_load (done_at low) (begun_at high) addr word first hop (worker_by steps).finished (entry_in word) exact
   replayed (Some load) exact =
@@ -64,8 +64,8 @@ module _ (addr low high word first begins ends : ℕ) (hop : Option ℕ) (steps 
 -- ---- what the sequence told
 
 -- each step came at its place
-placed_at : (c : Setup) (w_steps : List WriterStep) (newer : List (WorkerStep × ℕ)) (s : WorkerStep × ℕ) (older : List (WorkerStep × ℕ))
-    → ArePlaced c w_steps (newer ++ s ∷ older) → MayRead c (tables_at c w_steps s.1) (worker_by older) s.0
+placed_at : (c : InitialState) (w_steps : List WriterStep) (newer : List (WorkerStep × ℕ)) (s : WorkerStep × ℕ) (older : List (WorkerStep × ℕ))
+    → ArePlaced c w_steps (newer ++ s ∷ older) → MayRead c (state_at c w_steps s.1) (worker_by older) s.0
 placed_at c w_steps [] s older placed = placed.0
 placed_at c w_steps (x ∷ newer) s older placed = placed_at c w_steps newer s older placed.1
 
@@ -73,10 +73,10 @@ placed_at c w_steps (x ∷ newer) s older placed = placed_at c w_steps newer s o
 pub finished_more : (addr : ℕ) (hop : Option ℕ) (lo hi : ℕ) (p q : PassState) (l : LooksUp addr hop lo hi p q) → IsHistory q
     → (worker_by q.steps).finished ≡ seen_of lo hi (record l.found { addr = addr }) ∷ (worker_by p.steps).finished
 finished_more addr hop lo hi p q l history =
-    let c : Setup = setup q.table in
+    let c : InitialState = initial_state q.table in
     let f : Found = record l.found { addr = addr } in
-    let begin : WorkerStep × ℕ = (Begins (addr ∷ []) l.low, l.begins) in
-    let end : WorkerStep × ℕ = (Ends l.high, length q.seen) in
+    let begin : WorkerStep × ℕ = (BeginLookup (addr ∷ []) l.low, l.begins) in
+    let end : WorkerStep × ℕ = (EndLookup l.high, length q.seen) in
     let placed : ArePlaced c q.seen ((end ∷ (loads_at f.word f.first f.second ++ begin ∷ [])) ++ p.steps) =
     subst (ArePlaced c q.seen) l.steps.steps history.placed in
     let again : ArePlaced c q.seen ((end ∷ loads_at f.word f.first f.second) ++ begin ∷ p.steps) =
@@ -86,7 +86,7 @@ finished_more addr hop lo hi p q l history =
     let then = counts c (oldest l.begins q.seen) (written_then c q.seen l.begins history.written) in
     let now = counts c q.seen history.written in
     let lo_is : done_at l.low ≡ lo = ap done_at began.2 ∙ (then.done_is ∙ sym l.done_then) in
-    let hi_is : begun_at l.high ≡ hi = ap begun_at (ended.2 ∙ ap (λ (w : Tables). w.sequence) (at_now c q.seen)) ∙ (now.begun_is ∙ sym l.begun_then) in
+    let hi_is : begun_at l.high ≡ hi = ap begun_at (ended.2 ∙ ap (λ (w : TableState). w.sequence) (at_now c q.seen)) ∙ (now.begun_is ∙ sym l.begun_then) in
     ap (λ (own : List (WorkerStep × ℕ)). (worker_by own).finished) l.steps.steps
     ∙ (replayed addr l.low l.high f.word f.first l.begins (length q.seen) f.hop p.steps f.second l.answer.exact
     ∙ λ i. seen_of (lo_is i) (hi_is i) f ∷ (worker_by p.steps).finished)
@@ -114,8 +114,8 @@ pub words_after : (addr : ℕ) (hop : Option ℕ) (lo hi : ℕ) (p q : PassState
     → length p.seen ≤ l.found.first
 words_after addr hop lo hi p q l =
     let is : WorkerStep × ℕ → Type 0 = λ s. (length p.seen ≤ s.1) × (s.1 ≤ length q.seen) in
-    let begin : WorkerStep × ℕ = (Begins (addr ∷ []) l.low, l.begins) in
-    let end : WorkerStep × ℕ = (Ends l.high, length q.seen) in
+    let begin : WorkerStep × ℕ = (BeginLookup (addr ∷ []) l.low, l.begins) in
+    let end : WorkerStep × ℕ = (EndLookup l.high, length q.seen) in
     let loads = all_front is (loads_at l.found.word l.found.first l.found.second) (begin ∷ [])
     (All-tail is end (loads_at l.found.word l.found.first l.found.second ++ begin ∷ []) l.steps.places) in
     (first_load is l.found.word l.found.first l.found.second loads).0

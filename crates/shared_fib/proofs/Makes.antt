@@ -5,15 +5,15 @@ use Rattle.atomic_table.specs.Seated.{TableId}
 use Rattle.lpm_cells.specs.Words.{entry_in}
 use Rattle.lpm_trace.specs.declared.step.WriterStep.{WriterStep}
 use Rattle.lpm_trace.specs.declared.step.WorkerStep.{WorkerStep}
-use Rattle.lpm_trace.specs.declared.step.WorkerStep.TheVariants.{Begins, Ends}
-use Rattle.lpm_trace.specs.Tables.{Setup, version, done, begun, oldest, tables, tables_at}
+use Rattle.lpm_trace.specs.declared.step.WorkerStep.TheVariants.{BeginLookup, EndLookup}
+use Rattle.lpm_trace.specs.States.{InitialState, version, updates_done_in, updates_begun_in, oldest, state_after, state_at}
 use Rattle.lpm_trace.specs.Writer.{IsWritten}
 use Rattle.lpm_trace.specs.Workers.{Seen}
 use Rattle.lpm_trace.specs.Laws.{IsLegalAtPlace}
 use Rattle.lpm_trace.proofs.Traces.{oldest_all}
 use Rattle.lpm_trace.proofs.Promises.{versions_never_fall_at_places}
 use Rattle.shared_words.specs.declared.view.View.{View}
-use Rattle.shared_words.specs.Opened.{Opened, setup_of}
+use Rattle.shared_words.specs.Initial.{InitialData, initial_state_of}
 use Rattle.shared_words.specs.Rule.{IsLater}
 use Rattle.shared_words.specs.Seats.{IsSound, Gains, WorkerAt}
 use Rattle.shared_words.specs.Loads.{Found, IsReadOn, firsts_at, loads_at, seconds_at, seen_of}
@@ -28,14 +28,14 @@ pub record Made (made : List (WorkerStep × ℕ)) (v w : View) : Type 0 where
   pub own : w.own ≡ made ++ v.own
   pub places : All (λ s. (length v.seen ≤ s.1) × (s.1 ≤ length w.seen)) made
   pub seen : IsLater v.seen w.seen
-  pub opening : w.opening ≡ v.opening
+  pub initial : w.initial ≡ v.initial
 
 pub made_none : (v w : View) → w ≡ v → Made [] v w
 made_none v w same = record {
   own = ap (λ (x : View). x.own) same;
   places = All-nil (λ (s : WorkerStep × ℕ). (length v.seen ≤ s.1) × (s.1 ≤ length w.seen));
   seen = subst (λ (x : View). IsLater v.seen x.seen) (sym same) ([], refl);
-  opening = ap (λ (x : View). x.opening) same;
+  initial = ap (λ (x : View). x.initial) same;
 }
 
 -- one more step
@@ -54,7 +54,7 @@ made_more made s v u w m g =
       places = All-cons is (s, here) made (omega (arith, old, new_on, count), omega (arith, count))
           (λ i d low. let h = m.places i d low in (h.0, omega (arith, h.1, new_on)));
       seen = later_trans v.seen u.seen w.seen m.seen on.later;
-      opening = ap (λ (x : View). x.opening) on.same ∙ m.opening;
+      initial = ap (λ (x : View). x.initial) on.same ∙ m.initial;
     }
 
 -- steps one after another, each at its place
@@ -67,7 +67,7 @@ made_at (s ∷ steps) v w more =
 -- the pass of a seat
 abbrev pub state : WorkerAt → Bool → PassState
 state s online = record {
-  table = record { words = s.table; opening = s.view.opening };
+  table = record { words = s.table; initial = s.view.initial };
   worker = s.worker;
   online = online;
   steps = s.view.own;
@@ -81,7 +81,7 @@ makes on on' made s s' p is table worker m =
       steps = m.own;
       places = m.places;
       seen = m.seen;
-      table = λ i. record { words = table i; opening = m.opening i };
+      table = λ i. record { words = table i; initial = m.initial i };
       worker = worker;
     })
 
@@ -108,23 +108,23 @@ makes_two on on' r t s s' p is table worker g =
     )
 
 -- a legal lookup is that of a version
-pub of_version : (table : TableId) (o : Opened) (w_steps : List WriterStep) (l : Seen) → IsWritten (setup_of o) w_steps
-    → (h : IsLegalAtPlace (setup_of o) w_steps l)
-    → IsOfVersion (record { words = table; opening = o }) w_steps l.addr l.hop h.place
-    (version (tables_at (setup_of o) w_steps h.place) l.addr)
+pub of_version : (table : TableId) (o : InitialData) (w_steps : List WriterStep) (l : Seen) → IsWritten (initial_state_of o) w_steps
+    → (h : IsLegalAtPlace (initial_state_of o) w_steps l)
+    → IsOfVersion (record { words = table; initial = o }) w_steps l.addr l.hop h.place
+    (version (state_at (initial_state_of o) w_steps h.place) l.addr)
 of_version table o w_steps l written h =
-    let c : Setup = setup_of o in
+    let c : InitialState = initial_state_of o in
     let place : ℕ = h.place in
     let stands = versions_never_fall_at_places c w_steps l.addr place place (omega arith) in
     let then = counts c (oldest place w_steps) (written_then c w_steps place written) in
     let rises = versions_never_fall_at_places c w_steps l.addr place (length w_steps) (omega (arith, h.to, h.within)) in
-    let last : version (tables_at c w_steps (length w_steps)) l.addr ≤ begun (tables c w_steps) = subst
-    (λ (xs : List WriterStep). version (tables_at c w_steps (length w_steps)) l.addr ≤ begun (tables c xs))
+    let last : version (state_at c w_steps (length w_steps)) l.addr ≤ updates_begun_in (state_after c w_steps) = subst
+    (λ (xs : List WriterStep). version (state_at c w_steps (length w_steps)) l.addr ≤ updates_begun_in (state_after c xs))
     (oldest_all w_steps (length w_steps) (omega arith))
     (versions_never_fall_at_places c w_steps l.addr (length w_steps) (length w_steps) (omega arith)).1 in
     record {
-      rules = (tables c w_steps).history (version (tables_at c w_steps place) l.addr);
-      version = (kept c w_steps written).each (version (tables_at c w_steps place) l.addr) (omega (arith, rises.2, last));
+      rules = (state_after c w_steps).history (version (state_at c w_steps place) l.addr);
+      version = (kept c w_steps written).each (version (state_at c w_steps place) l.addr) (omega (arith, rises.2, last));
       within = omega (arith, h.to, h.within);
       done = omega (arith, stands.0, then.done_is);
       begun = omega (arith, stands.1, then.begun_is);
@@ -134,13 +134,13 @@ of_version table o w_steps l written h =
 -- ---- a lookup
 
 -- an address with a legal lookup is answered by a version
-is_answered : (table : TableId) (o : Opened) (w_steps : List WriterStep) (lo hi : ℕ) (f : Found) → IsWritten (setup_of o) w_steps
-    → IsReadOn (entry_in f.word) f.second f.hop → IsLegalAtPlace (setup_of o) w_steps (seen_of lo hi f)
-    → IsAnswered (record { words = table; opening = o }) w_steps lo hi f
+is_answered : (table : TableId) (o : InitialData) (w_steps : List WriterStep) (lo hi : ℕ) (f : Found) → IsWritten (initial_state_of o) w_steps
+    → IsReadOn (entry_in f.word) f.second f.hop → IsLegalAtPlace (initial_state_of o) w_steps (seen_of lo hi f)
+    → IsAnswered (record { words = table; initial = o }) w_steps lo hi f
 is_answered table o w_steps lo hi f written exact h = record {
   exact = exact;
   place = h.place;
-  version = version (tables_at (setup_of o) w_steps h.place) f.addr;
+  version = version (state_at (initial_state_of o) w_steps h.place) f.addr;
   answer = of_version table o w_steps (seen_of lo hi f) written h;
   stood = (h.from, h.to);
   within = (h.low, h.high);
@@ -149,30 +149,30 @@ is_answered table o w_steps lo hi f written exact h = record {
 -- the loads of the sequence round the loads of words
 module _ (addrs : List ℕ) (lo hi : ℕ) (v b u w : View) (around : LoadsAround addrs lo hi v b u w)
     (loads : List (WorkerStep × ℕ)) (steps : GainsAt loads b u) (known : IsSound w) where
-  abbrev c : Setup
-  c = setup_of v.opening
+  abbrev c : InitialState
+  c = initial_state_of v.initial
 
   abbrev all_steps : List (WorkerStep × ℕ)
-  all_steps = (Ends around.high, length w.seen) ∷ (loads ++ (Begins addrs around.low, length around.begins.seen) ∷ [])
+  all_steps = (EndLookup around.high, length w.seen) ∷ (loads ++ (BeginLookup addrs around.low, length around.begins.seen) ∷ [])
 
   made : Made all_steps v w
   made = made_at all_steps v w (
     u,
-    goes_at loads ((Begins addrs around.low, length around.begins.seen) ∷ []) v b u steps (v, refl, around.begins, refl),
+    goes_at loads ((BeginLookup addrs around.low, length around.begins.seen) ∷ []) v b u steps (v, refl, around.begins, refl),
     around.ends,
     ap (λ (x : View). length x.seen) around.ends.view,
   )
 
   written : IsWritten c w.seen
-  written = subst (λ (o : Opened). IsWritten (setup_of o) w.seen) made.opening known.written
+  written = subst (λ (o : InitialData). IsWritten (initial_state_of o) w.seen) made.initial known.written
 
   done_then : lo ≡ updates_done (oldest (length around.begins.seen) w.seen)
   done_then =
-      let on : GoesOn b w = goes_on b u w (all_at loads b u steps) (gains_on (Ends around.high) u w around.ends) in
+      let on : GoesOn b w = goes_on b u w (all_at loads b u steps) (gains_on (EndLookup around.high) u w around.ends) in
       let seen_is : b.seen ≡ around.begins.seen = ap (λ (x : View). x.seen) around.begins.view in
       let then : oldest (length around.begins.seen) w.seen ≡ b.seen =
       ap (λ (l : List WriterStep). oldest (length l) w.seen) (sym seen_is) ∙ beginning_of b.seen w.seen on.later in
-      around.done_then ∙ (ap (λ (l : List WriterStep). done (tables c l)) (sym then)
+      around.done_then ∙ (ap (λ (l : List WriterStep). updates_done_in (state_after c l)) (sym then)
       ∙ (counts c (oldest (length around.begins.seen) w.seen) (written_then c w.seen (length around.begins.seen) written)).done_is)
 
   begun_then : hi ≡ updates_begun w.seen
@@ -196,7 +196,7 @@ looks_up on on' addr hop lo hi s s' p is table worker d known =
       result = d.answer;
       done_then = done_then (addr ∷ []) lo hi v d.started d.loaded w a loads d.steps known;
       begun_then = begun_then (addr ∷ []) lo hi v d.started d.loaded w a loads d.steps known;
-      answer = is_answered s.table v.opening w.seen lo hi d.found
+      answer = is_answered s.table v.initial w.seen lo hi d.found
           (written (addr ∷ []) lo hi v d.started d.loaded w a loads d.steps known) d.exact d.legal;
     })
 
@@ -220,5 +220,5 @@ looks_up_all on on' addrs hops lo hi s s' p is table worker d known =
       hops_are = d.hops_are;
       done_then = done_then addrs lo hi v d.started d.loaded w a loads d.steps known;
       begun_then = begun_then addrs lo hi v d.started d.loaded w a loads d.steps known;
-      answers = λ k f low. is_answered s.table v.opening w.seen lo hi (get_or d.found k f) lawful (d.exact k f low) (d.legal k f low);
+      answers = λ k f low. is_answered s.table v.initial w.seen lo hi (get_or d.found k f) lawful (d.exact k f low) (d.legal k f low);
     })

@@ -4,7 +4,7 @@ use Rattle.std.specs.List.{range_with_len}
 use Rattle.std.specs.Simd.{first_chunks}
 use Rattle.std.proofs.lemmas.List.{get_or-take, get_or-drop, get_or_past}
 use Rattle.std.proofs.lemmas.List.FromFn.{map-range_with_len_more}
-use Rattle.shared_words.specs.Layout.{pair_at, packed, pairs}
+use Rattle.shared_words.specs.Layout.{pair_at, packed_words, pairs}
 
 -- the first two of what is left from pair a on
 first_two : (a : ℕ) (xs rest : List ℕ) → ((i : ℕ) → slice_index rest i ≡ slice_index xs (2 * a + i))
@@ -35,7 +35,7 @@ twos_of n xs = twos_from n 0 xs xs (λ i. ap (slice_index xs) (omega arith))
 -- an even number of words is cut into twos alone
 pub put_even : (xs old items : List ℕ) → length xs % 2 ≡ 0
     → items ≡ old ++ map (λ two. pair_at two 0) (first_chunks 2 (length xs / 2) xs)
-    → items ≡ old ++ packed xs
+    → items ≡ old ++ packed_words xs
 put_even xs old items even put =
     let half : length xs / 2 ≡ pairs (length xs) = omega (arith, even) in
     put ∙ ap (λ (z : List ℕ). old ++ z) (twos_of (length xs / 2) xs)
@@ -45,7 +45,7 @@ put_even xs old items even put =
 pub put_odd : (xs old items rest : List ℕ) (last : ℕ) → length xs % 2 ≡ 1
     → items ≡ old ++ map (λ two. pair_at two 0) (first_chunks 2 (length xs / 2) xs)
     → rest ≡ drop (length xs / 2 * 2) xs → last ≡ slice_index rest 0
-    → items ++ last ∷ [] ≡ old ++ packed xs
+    → items ++ last ∷ [] ≡ old ++ packed_words xs
 put_odd xs old items rest last odd put left is =
     let k : ℕ = length xs / 2 in
     let low : slice_index xs (2 * k) ≡ last =

@@ -4,16 +4,16 @@ use Rattle.std.proofs.lemmas.Bool.{cases_eq, cases_lt}
 use Rattle.std.proofs.lemmas.List.{ext_get_or, get_or-set_same, get_or-set_other, length-set, get_or_append_left, get_or-append_right, get_or-replicate, get_or_past, get_or-drop, length-append, length-drop, length-replicate, append-nil, take_all, replicate-append-replicate}
 use Rattle.std.proofs.lemmas.List.FromFn.{length-map-range_with_len, get_or-map-range_with_len}
 use Rattle.lpm_sweep.specs.Frames.{Fills}
-use Rattle.shared_words.specs.Layout.{half, pairs, pair_at, packed, first_at, sequence_at}
+use Rattle.shared_words.specs.Layout.{half, pairs, pair_at, packed_words, first_at, sequence_at}
 use Rattle.shared_words.proofs.Halves.{half_even, half_odd, even_or_odd, packed_length}
-use Rattle.shared_fib.specs.Pairs.{ArePairs, unpaired}
+use Rattle.shared_fib.specs.Pairs.{ArePairs, unpacked_pairs}
 
 -- ---- the table words
 
-pub unpaired_length : (n : ℕ) (ws : List ℕ) → length (unpaired n ws) ≡ n
+pub unpaired_length : (n : ℕ) (ws : List ℕ) → length (unpacked_pairs n ws) ≡ n
 unpaired_length n ws = length-map-range_with_len (λ i. half i (slice_index ws (first_at i))) 0 n
 
-unpaired_at : (n : ℕ) (ws : List ℕ) (i : ℕ) → i < n → slice_index (unpaired n ws) i ≡ half i (slice_index ws (first_at i))
+unpaired_at : (n : ℕ) (ws : List ℕ) (i : ℕ) → i < n → slice_index (unpacked_pairs n ws) i ≡ half i (slice_index ws (first_at i))
 unpaired_at n ws i lt =
     get_or-map-range_with_len (λ i. half i (slice_index ws (first_at i))) 0 n i i 0 lt (omega arith)
 
@@ -21,14 +21,14 @@ unpaired_at n ws i lt =
 grown : (n m : ℕ) (ws zs : List ℕ) (w : ℕ)
     → ((i : ℕ) → i < n → half i (slice_index zs (first_at i)) ≡ half i (slice_index ws (first_at i)))
     → ((i : ℕ) → n ≤ i → i < n + m → half i (slice_index zs (first_at i)) ≡ w)
-    → unpaired (n + m) zs ≡ unpaired n ws ++ replicate m w
+    → unpacked_pairs (n + m) zs ≡ unpacked_pairs n ws ++ replicate m w
 grown n m ws zs w kept new =
-    let old : List ℕ = unpaired n ws in
+    let old : List ℕ = unpacked_pairs n ws in
     let more : List ℕ = replicate m w in
     let len = unpaired_length (n + m) zs in
     let many : length old ≡ n = unpaired_length n ws in
     let all : length (old ++ more) ≡ n + m = omega (arith, length-append old more, many, length-replicate {A = ℕ} m w) in
-    ext_get_or 0 (unpaired (n + m) zs) (old ++ more) (len ∙ sym all)
+    ext_get_or 0 (unpacked_pairs (n + m) zs) (old ++ more) (len ∙ sym all)
     (λ i inside. unpaired_at (n + m) zs i (omega (arith, inside, len))
     ∙ elim (cases_lt i n) [
       | inl low ↦ kept i low ∙ sym (unpaired_at n ws i low)
@@ -113,12 +113,12 @@ module _ (n : ℕ) (ws : List ℕ) (w at x : ℕ) (are : ArePairs n ws) (odd : n
     | inr other ↦ ap (half i) (away (first_at i) other)
   ]
 
-  pub high_put : unpaired (n + 1) after ≡ unpaired n ws ++ replicate (n % 2) w
+  pub high_put : unpacked_pairs (n + 1) after ≡ unpacked_pairs n ws ++ replicate (n % 2) w
   high_put = grown n 1 ws after w kept
       (λ i from to. let here : i ≡ n = omega (arith, from, to) in
       ap (λ (k : ℕ). half k (slice_index after (first_at k))) here ∙ ap (λ (k : ℕ). half n (slice_index after k)) (sym there)
       ∙ ap (half n) stored ∙ high_is n (slice_index ws at) w x odd before small is)
-      ∙ ap (λ (m : ℕ). unpaired n ws ++ replicate m w) (sym odd)
+      ∙ ap (λ (m : ℕ). unpacked_pairs n ws ++ replicate m w) (sym odd)
 
 -- ---- words behind an even number of them
 
@@ -162,7 +162,7 @@ module _ (n m w x : ℕ) (ws : List ℕ) (are : ArePairs n ws) (even : n % 2 ≡
     left = λ odd. absurd (omega (arith, odd, even));
   }
 
-  pub twos_put : unpaired (n + 2 * m) (ws ++ replicate m x) ≡ unpaired n ws ++ replicate (2 * m) w
+  pub twos_put : unpacked_pairs (n + 2 * m) (ws ++ replicate m x) ≡ unpacked_pairs n ws ++ replicate (2 * m) w
   twos_put = grown n (2 * m) ws (ws ++ replicate m x) w (old_kept n ws (replicate m x) are even)
       (λ i from to. let len = full n ws (replicate m x) are even in
       both_are i w _ small (new_at n ws (replicate m x) are even (first_at i) (omega (arith, len, from))
@@ -183,7 +183,7 @@ module _ (n w : ℕ) (ws : List ℕ) (are : ArePairs n ws) (even : n % 2 ≡ 0) 
     left = λ odd. subst (λ (v : ℕ). v < 2 ^ 32) (sym (last_at (first_at (n + 1)) (omega (arith, even)))) small;
   }
 
-  pub last_put : unpaired (n + 1) (ws ++ replicate 1 w) ≡ unpaired n ws ++ replicate 1 w
+  pub last_put : unpacked_pairs (n + 1) (ws ++ replicate 1 w) ≡ unpacked_pairs n ws ++ replicate 1 w
   last_put = grown n 1 ws (ws ++ replicate 1 w) w (old_kept n ws (replicate 1 w) are even)
       (λ i from to. let here : i ≡ n = omega (arith, from, to) in
       let even' : i % 2 ≡ 0 = omega (arith, here, even) in
@@ -191,7 +191,7 @@ module _ (n w : ℕ) (ws : List ℕ) (are : ArePairs n ws) (even : n % 2 ≡ 0) 
 
 -- ---- what a list was and what it became
 
-pub count_is : (n : ℕ) (ws xs : List ℕ) → unpaired n ws ≡ xs → n ≡ length xs
+pub count_is : (n : ℕ) (ws xs : List ℕ) → unpacked_pairs n ws ≡ xs → n ≡ length xs
 count_is n ws xs is = sym (unpaired_length n ws) ∙ ap length is
 
 pub became : (zs old now : List ℕ) (w k m : ℕ) → zs ≡ old ++ replicate k w → old ≡ now → k ≡ m → zs ≡ now ++ replicate m w
@@ -227,7 +227,7 @@ fills_by xs ys w m is = subst (λ (zs : List ℕ). Fills xs zs (λ _. w)) (sym i
 
 module _ (n : ℕ) (ws : List ℕ) (are : ArePairs n ws) where
   abbrev pub listed : List ℕ
-  listed = unpaired n ws
+  listed = unpacked_pairs n ws
 
   -- the two halves of a word that is shared by two, or by one
   two_halves : (k at v : ℕ) → at ≡ 2 + k → v ≡ slice_index ws at → k < pairs n → v ≡ pair_at listed k
@@ -248,24 +248,24 @@ module _ (n : ℕ) (ws : List ℕ) (are : ArePairs n ws) where
       ]
 
   -- what lies behind the first two words
-  pub packed_behind : drop 2 ws ≡ packed listed
+  pub packed_behind : drop 2 ws ≡ packed_words listed
   packed_behind =
       let many = length-drop 2 ws in
-      let all : length (packed listed) ≡ pairs n = packed_length listed ∙ ap pairs (unpaired_length n ws) in
-      ext_get_or 0 (drop 2 ws) (packed listed) (omega (arith, many, all, are.all))
+      let all : length (packed_words listed) ≡ pairs n = packed_length listed ∙ ap pairs (unpaired_length n ws) in
+      ext_get_or 0 (drop 2 ws) (packed_words listed) (omega (arith, many, all, are.all))
       (λ k lt. two_halves k (2 + k) (slice_index (drop 2 ws) k) refl (get_or-drop 2 ws k 0) (omega (arith, lt, many, are.all))
       ∙ sym (packed_is k (omega (arith, lt, many, are.all))))
     where
-      packed_is : (k : ℕ) → k < pairs n → slice_index (packed listed) k ≡ pair_at listed k
+      packed_is : (k : ℕ) → k < pairs n → slice_index (packed_words listed) k ≡ pair_at listed k
       packed_is k lt = get_or-map-range_with_len (pair_at listed) 0 (pairs (length listed)) k k 0
           (omega (arith, lt, ap pairs (unpaired_length n ws))) (omega arith)
 
   -- with a token in the second of them
-  pub packed_whole : (token : ℕ) → slice_set ws 1 token ≡ 0 ∷ token ∷ packed listed
+  pub packed_whole : (token : ℕ) → slice_set ws 1 token ≡ 0 ∷ token ∷ packed_words listed
   packed_whole token = whole ws are.all are.sequence packed_behind
     where
-      whole : (l : List ℕ) → length l ≡ 2 + pairs n → slice_index l 0 ≡ 0 → drop 2 l ≡ packed listed
-          → slice_set l 1 token ≡ 0 ∷ token ∷ packed listed
+      whole : (l : List ℕ) → length l ≡ 2 + pairs n → slice_index l 0 ≡ 0 → drop 2 l ≡ packed_words listed
+          → slice_set l 1 token ≡ 0 ∷ token ∷ packed_words listed
       whole [] count first rest = absurd (omega (arith, count))
       whole (a ∷ []) count first rest = absurd (omega (arith, count))
       whole (a ∷ b ∷ l) count first rest = λ i. first i ∷ token ∷ rest i

@@ -16,7 +16,7 @@ module _ (words : TableId) (v : View) where
   -- the pass of worker k
   abbrev pub pass_of : ℕ → PassState
   pass_of k = record {
-    table = record { words = words; opening = v.opening };
+    table = record { words = words; initial = v.initial };
     worker = k;
     online = false;
     steps = [];
@@ -36,10 +36,10 @@ module _ (words : TableId) (v : View) where
   ]
 
   abbrev identity : Identity
-  identity = record { words = words; opening = v.opening }
+  identity = record { words = words; initial = v.initial }
 
-  module _ (passes : List (Option PassState)) (count : length passes ≡ v.opening.workers) (all : AreMade v.opening.workers passes) where
-    here : (k : ℕ) → k < v.opening.workers → slice_get passes k ≡ Some (Some (pass_of k))
+  module _ (passes : List (Option PassState)) (count : length passes ≡ v.initial.workers) (all : AreMade v.initial.workers passes) where
+    here : (k : ℕ) → k < v.initial.workers → slice_get passes k ≡ Some (Some (pass_of k))
     here k low = slice_get-get_or passes k None (omega (arith, low, count)) ∙ ap Some (all k low None)
 
     is_of : (k : ℕ) (p : PassState) → slice_get passes k ≡ Some (Some p) → IsPassOf identity k p

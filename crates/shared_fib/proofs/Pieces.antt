@@ -4,7 +4,7 @@ use Rattle.std.proofs.lemmas.List.{drop-drop, map-append}
 use Rattle.std.proofs.lemmas.List.Elements.{All-cons, All-nil}
 use Rattle.std.specs.Prelude.{min, max}
 use Rattle.lpm_trace.specs.declared.step.WorkerStep.{WorkerStep}
-use Rattle.lpm_trace.specs.declared.step.WorkerStep.TheVariants.{Begins, Ends, LoadFirst}
+use Rattle.lpm_trace.specs.declared.step.WorkerStep.TheVariants.{BeginLookup, EndLookup, LoadFirst}
 use Rattle.shared_words.specs.Loads.{loads_at, second_load}
 use Rattle.shared_fib.specs.Running.{hop_or}
 use Rattle.shared_fib.specs.Passes.{PassState, LooksUp, LooksUpAll, Makes, IsAnswered}
@@ -36,7 +36,7 @@ one_alone addr hop lo hi p q h = record {
   begins = h.begins;
   found = h.found ∷ [];
   high = h.high;
-  steps = subst (λ (loads : List (WorkerStep × ℕ)). Makes ((Ends h.high, length q.seen) ∷ (loads ++ (Begins (addr ∷ []) h.low, h.begins) ∷ [])) p q)
+  steps = subst (λ (loads : List (WorkerStep × ℕ)). Makes ((EndLookup h.high, length q.seen) ∷ (loads ++ (BeginLookup (addr ∷ []) h.low, h.begins) ∷ [])) p q)
       (sym (loads_same h.found.word h.found.first h.found.second)) h.steps;
   addrs_are = ap (λ (a : ℕ). a ∷ []) h.result.0;
   hops_are = ap (λ (x : Option ℕ). x ∷ []) h.result.1;

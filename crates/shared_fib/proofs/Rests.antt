@@ -6,28 +6,28 @@ use Rattle.lpm_rules.specs.RuleMap.{RuleList}
 use Rattle.lpm_update.specs.Represents.{Represents}
 use Rattle.lpm_update.proofs.Promises.{best_hop}
 use Rattle.lpm_trace.specs.declared.step.WriterStep.{WriterStep}
-use Rattle.lpm_trace.specs.Tables.{Setup, tables, begun_at, done_at}
+use Rattle.lpm_trace.specs.States.{InitialState, state_after, begun_at, done_at}
 use Rattle.lpm_trace.specs.Writer.{IsWritten}
-use Rattle.lpm_writer.specs.declared.books.Books.{Books}
+use Rattle.lpm_writer.specs.declared.pool.GroupPool.{GroupPool}
 use Rattle.lpm_writer.specs.Resting.{IsResting, state_of}
 use Rattle.lpm_writer.proofs.Keeping.{is_limbo}
 use Rattle.lpm_writer.proofs.UpdateRuns.{fit}
-use Rattle.shared_fib.specs.Running.{Identity, WriterState, IsAtRest, setup}
+use Rattle.shared_fib.specs.Running.{Identity, WriterState, IsAtRest, initial_state}
 
 even_begun : (n : ℕ) → n % 2 ≡ 0 → begun_at n ≡ done_at n
 even_begun n even = omega (arith, even)
 
 -- the writer of this table, with this ledger
-abbrev pub writer_of : Identity → Config → RuleList → List WriterStep → Books → ℕ → WriterState
-writer_of id config rules steps books begun =
-    record { identity = id; config = config; table = state_of rules.rules steps books begun }
+abbrev pub writer_of : Identity → Config → RuleList → List WriterStep → GroupPool → ℕ → WriterState
+writer_of id config rules steps pool begun =
+    record { identity = id; config = config; table = state_of rules.rules steps pool begun }
 
 pub at_rest : (f s : ℕ) (id : Identity) (config : Config) (rules : RuleList) (steps : List WriterStep)
-    (books : Books) (begun : ℕ) → IsWritten (setup id) steps → IsResting f s (setup id) steps config rules books begun
-    → IsAtRest (writer_of id config rules steps books begun)
-at_rest f s id config rules steps books begun written rests =
-    let c : Setup = setup id in
-    let w = tables c steps in
+    (pool : GroupPool) (begun : ℕ) → IsWritten (initial_state id) steps → IsResting f s (initial_state id) steps config rules pool begun
+    → IsAtRest (writer_of id config rules steps pool begun)
+at_rest f s id config rules steps pool begun written rests =
+    let c : InitialState = initial_state id in
+    let w = state_after c steps in
     let represents = fit (λ a b. Represents a b rules.rules w.words) f s c rests.widths rests.represents in
     record {
       written = written;
@@ -35,6 +35,6 @@ at_rest f s id config rules steps books begun written rests =
       begun = even_begun w.sequence rests.between.even ∙ sym rests.versions;
       rules = ap (λ n. w.history n) rests.versions ∙ rests.version;
       answers = λ a low. best_hop (c.first + c.second) rules.rules a (entry_at c.second w.words a) (represents.best a low);
-      limbo = is_limbo c w books.groups books.queue.items rests.keeps.kept;
+      limbo = is_limbo c w pool.groups pool.queue.items rests.keeps.kept;
       once = rests.between.once;
     }

@@ -3,7 +3,7 @@
 use Rattle.std.proofs.Common.{ℕ, ◌≡◌, refl, ap, subst, List, [], Result}
 use Rattle.atomic_table.specs.Seated.{TableId}
 use Rattle.lpm_trace.specs.declared.step.WriterStep.{WriterStep}
-use Rattle.lpm_trace.specs.Tables.{Setup}
+use Rattle.lpm_trace.specs.States.{InitialState}
 use Rattle.lpm_bits.specs.Network.{Network}
 use Rattle.lpm_limits.specs.declared.config.Config.{Config}
 use Rattle.lpm_limits.specs.declared.refusal.Refusal.{Refusal}
@@ -11,14 +11,14 @@ use Rattle.lpm_rules.specs.RuleMap.{RuleMap}
 use Rattle.lpm_rules.specs.declared.Put.{Put}
 use Rattle.defer_queue.specs.declared.Reclaimed.{Reclaimed}
 use Rattle.fib_model.specs.Outcomes.{Adds, Deletes, Flushes, Frees}
-use Rattle.lpm_writer.specs.declared.books.Books.{Books}
+use Rattle.lpm_writer.specs.declared.pool.GroupPool.{GroupPool}
 use Rattle.fib_model.specs.State.{State}
 use Rattle.lpm_writer.specs.Steps.{by_steps_from}
 use Rattle.lpm_writer.specs.Traced.{Traced, by_writer}
 use Rattle.lpm_writer.specs.Resting.{state_of}
 use Rattle.lpm_writer.proofs.StepsAlone.{adds_alone, deletes_alone, flushes_alone, frees_alone}
 use Rattle.shared_words.specs.declared.view.View.{View}
-use Rattle.shared_words.specs.Opened.{setup_of}
+use Rattle.shared_words.specs.Initial.{initial_state_of}
 use Rattle.shared_fib.specs.Lent.{Lent, SharedDid, SharedDoes}
 use Rattle.shared_fib.specs.Running.{OnlySees}
 
@@ -39,16 +39,16 @@ kept m = (m.name, (m.table, unseeing m.view))
 pub stays : (m : Lent) (s : WriterStep) (z : Lent) → does_in m s z → kept z ≡ kept m
 stays m s z does = λ i. (does.name i, (does.table i, ap unseeing does.view i))
 
-module _ (first second : ℕ) (c : Setup) (config : Config) (m z : Lent) (steps later : List WriterStep)
-    (R R' : RuleMap) (books books' : Books) (n n' : ℕ) where
+module _ (first second : ℕ) (c : InitialState) (config : Config) (m z : Lent) (steps later : List WriterStep)
+    (R R' : RuleMap) (pool books' : GroupPool) (n n' : ℕ) where
   abbrev before : State (Traced Lent)
-  before = state_of R (m, steps) books n
+  before = state_of R (m, steps) pool n
 
   abbrev then : State (Traced Lent)
   then = state_of R' (z, later) books' n'
 
   abbrev before_alone : State (List WriterStep)
-  before_alone = state_of R steps books n
+  before_alone = state_of R steps pool n
 
   abbrev then_alone : State (List WriterStep)
   then_alone = state_of R' later books' n'
@@ -81,12 +81,12 @@ pub only_sees : (m z : Lent) → kept z ≡ kept m → OnlySees m.view z.view
 only_sees m z same = ap (λ (k : Kept). record k.1.1 { seen = z.view.seen }) same
 
 -- where a ledger rests by the steps of the memory, it does by what the memory knows
-pub rests_after : (K : Setup → List WriterStep → Type 0) (z : Lent) (c : Setup) (later : List WriterStep)
-    → SharedDid z c later → K c later → K (setup_of z.view.opening) z.view.seen
+pub rests_after : (K : InitialState → List WriterStep → Type 0) (z : Lent) (c : InitialState) (later : List WriterStep)
+    → SharedDid z c later → K c later → K (initial_state_of z.view.initial) z.view.seen
 rests_after K z c later did rests =
-    subst (λ (x : Setup × List WriterStep). K x.0 x.1) (λ i. (did.opening i, did.steps_are i)) rests
+    subst (λ (x : InitialState × List WriterStep). K x.0 x.1) (λ i. (did.initial i, did.steps_are i)) rests
 
-pub outcome_after : (K : List WriterStep → Type 0) (z : Lent) (c : Setup) (later : List WriterStep)
+pub outcome_after : (K : List WriterStep → Type 0) (z : Lent) (c : InitialState) (later : List WriterStep)
     → SharedDid z c later → K later → K z.view.seen
 outcome_after K z c later did outcome = subst K did.steps_are outcome
 

@@ -8,12 +8,12 @@ use Rattle.lpm_cells.specs.declared.entry.Entry.TheVariants.{Miss, Hop, Group}
 use Rattle.lpm_cells.specs.Words.{entry_in}
 use Rattle.lpm_trace.specs.declared.step.WriterStep.{WriterStep}
 use Rattle.lpm_trace.specs.declared.step.WorkerStep.{WorkerStep}
-use Rattle.lpm_trace.specs.declared.step.WorkerStep.TheVariants.{LoadOnline, StoreOnline, LoadQuiescent, StoreQuiescent, StoreOffline, Begins, LoadFirst, LoadSecond, Ends, Meets}
-use Rattle.lpm_trace.specs.Tables.{Setup, Tables, begun_at, tables_at}
-use Rattle.lpm_trace.specs.Workers.{Worker, Phase, Offline, ComingOnline, Online, LookingUp, ReportingQuiescent, Probe, Unread, InGroup, Answered, Seen, MayRead, IsBetweenDeeds, moved, read_first, first_read, second_read, with_answers}
+use Rattle.lpm_trace.specs.declared.step.WorkerStep.TheVariants.{LoadOnline, StoreOnline, LoadQuiescent, StoreQuiescent, StoreOffline, BeginLookup, LoadFirst, LoadSecond, EndLookup, MeetWriter}
+use Rattle.lpm_trace.specs.States.{InitialState, TableState, begun_at, state_at}
+use Rattle.lpm_trace.specs.Workers.{Worker, Phase, Offline, ComingOnline, Online, LookingUp, ReportingQuiescent, Probe, Unread, InGroup, Answered, Seen, MayRead, IsBetweenDeeds, worker_by_step, read_first, first_read, second_read, with_answers}
 use Rattle.lpm_trace.specs.Trace.{worker_by}
 use Rattle.lpm_trace.specs.Laws.{ArePlaced, IsLegalAtPlace}
-use Rattle.shared_fib.specs.Running.{setup}
+use Rattle.shared_fib.specs.Running.{initial_state}
 use Rattle.shared_fib.specs.Laws.{IsFinishedSince, PassesNeverGoBack}
 use Rattle.shared_fib.proofs.Backwards.{at_place, in_order}
 
@@ -29,24 +29,24 @@ IsClear (ReportingQuiescent loaded) probes = probes ≡ []
 clear_at : (p q : Phase) (probes : List Probe) → p ≡ q → IsClear p probes → IsClear q probes
 clear_at p q probes same clear = subst (λ (x : Phase). IsClear x probes) same clear
 
-clear_step : (c : Setup) (w : Tables) (now : ℕ) (r : Worker) (s : WorkerStep) → MayRead c w r s → IsClear r.phase r.probes
-    → IsClear (moved now r s).phase (moved now r s).probes
+clear_step : (c : InitialState) (w : TableState) (now : ℕ) (r : Worker) (s : WorkerStep) → MayRead c w r s → IsClear r.phase r.probes
+    → IsClear (worker_by_step now r s).phase (worker_by_step now r s).probes
 clear_step c w now r (LoadOnline token) may clear = clear_at r.phase Offline r.probes may.0 clear
 clear_step c w now r (StoreOnline token) may clear = clear_at r.phase (ComingOnline token) r.probes may clear
 clear_step c w now r (LoadQuiescent token) may clear = clear_at r.phase Online r.probes may.0 clear
 clear_step c w now r (StoreQuiescent token) may clear = clear_at r.phase (ReportingQuiescent token) r.probes may clear
 clear_step c w now r StoreOffline may clear = clear_at r.phase Online r.probes may clear
-clear_step c w now r (Begins addrs sequence) may clear = tt
+clear_step c w now r (BeginLookup addrs sequence) may clear = tt
 clear_step c w now r (LoadFirst word) may clear = clear_at LookingUp r.phase (first_read now (entry_in word) r.probes) (sym may.0) tt
 clear_step c w now r (LoadSecond word) may clear = clear_at LookingUp r.phase (second_read now (entry_in word) r.probes) (sym may.0) tt
-clear_step c w now r (Ends sequence) may clear = refl
-clear_step c w now r (Meets sequence) may clear = clear
+clear_step c w now r (EndLookup sequence) may clear = refl
+clear_step c w now r (MeetWriter sequence) may clear = clear
 
-clear_by : (c : Setup) (w_steps : List WriterStep) (steps : List (WorkerStep × ℕ)) → ArePlaced c w_steps steps
+clear_by : (c : InitialState) (w_steps : List WriterStep) (steps : List (WorkerStep × ℕ)) → ArePlaced c w_steps steps
     → IsClear (worker_by steps).phase (worker_by steps).probes
 clear_by c w_steps [] placed = refl
 clear_by c w_steps (s ∷ steps) placed =
-    clear_step c (tables_at c w_steps s.1) s.1 (worker_by steps) s.0 placed.0 (clear_by c w_steps steps placed.1)
+    clear_step c (state_at c w_steps s.1) s.1 (worker_by steps) s.0 placed.0 (clear_by c w_steps steps placed.1)
 
 none_goes_on : (p : Phase) (probes : List Probe) → IsBetweenDeeds p → IsClear p probes → probes ≡ []
 none_goes_on Offline probes rests clear = clear
@@ -55,7 +55,7 @@ none_goes_on Online probes rests clear = clear
 none_goes_on LookingUp probes rests clear = absurd rests
 none_goes_on (ReportingQuiescent loaded) probes rests clear = absurd rests
 
-placed_then : (c : Setup) (w_steps : List WriterStep) (newer older : List (WorkerStep × ℕ)) → ArePlaced c w_steps (newer ++ older)
+placed_then : (c : InitialState) (w_steps : List WriterStep) (newer older : List (WorkerStep × ℕ)) → ArePlaced c w_steps (newer ++ older)
     → ArePlaced c w_steps older
 placed_then c w_steps [] older placed = placed
 placed_then c w_steps (s ∷ newer) older placed = placed_then c w_steps newer older placed.1
@@ -113,17 +113,17 @@ module _ (b : ℕ) where
   abbrev IsSince : List Seen → Worker → Type 0
   IsSince old r = AreFrom r.probes × AreSince old r.finished
 
-  since_step : (old : List Seen) (now : ℕ) (r : Worker) (s : WorkerStep) → b ≤ now → IsSince old r → IsSince old (moved now r s)
+  since_step : (old : List Seen) (now : ℕ) (r : Worker) (s : WorkerStep) → b ≤ now → IsSince old r → IsSince old (worker_by_step now r s)
   since_step old now r (LoadOnline token) low h = h
   since_step old now r (StoreOnline token) low h = h
   since_step old now r (LoadQuiescent token) low h = h
   since_step old now r (StoreQuiescent token) low h = h
   since_step old now r StoreOffline low h = h
-  since_step old now r (Begins addrs sequence) low h = (from_unread addrs, h.1)
+  since_step old now r (BeginLookup addrs sequence) low h = (from_unread addrs, h.1)
   since_step old now r (LoadFirst word) low h = (from_first now (entry_in word) low r.probes h.0, h.1)
   since_step old now r (LoadSecond word) low h = (from_second now (entry_in word) r.probes h.0, h.1)
-  since_step old now r (Ends sequence) low h = (tt, since_answers r.lo (begun_at sequence) old r.probes r.finished h.0 h.1)
-  since_step old now r (Meets sequence) low h = h
+  since_step old now r (EndLookup sequence) low h = (tt, since_answers r.lo (begun_at sequence) old r.probes r.finished h.0 h.1)
+  since_step old now r (MeetWriter sequence) low h = h
 
   since_steps : (older newer : List (WorkerStep × ℕ)) → (worker_by older).probes ≡ [] → All (λ s. b ≤ s.1) newer
       → IsSince (worker_by older).finished (worker_by (newer ++ older))
@@ -178,17 +178,17 @@ module _ (b : ℕ) where
   abbrev IsUpTo : Worker → Type 0
   IsUpTo r = AreTo r.probes × All IsTo r.finished
 
-  to_step : (now : ℕ) (r : Worker) (s : WorkerStep) → now ≤ b → IsUpTo r → IsUpTo (moved now r s)
+  to_step : (now : ℕ) (r : Worker) (s : WorkerStep) → now ≤ b → IsUpTo r → IsUpTo (worker_by_step now r s)
   to_step now r (LoadOnline token) low h = h
   to_step now r (StoreOnline token) low h = h
   to_step now r (LoadQuiescent token) low h = h
   to_step now r (StoreQuiescent token) low h = h
   to_step now r StoreOffline low h = h
-  to_step now r (Begins addrs sequence) low h = (to_unread addrs, h.1)
+  to_step now r (BeginLookup addrs sequence) low h = (to_unread addrs, h.1)
   to_step now r (LoadFirst word) low h = (to_first now (entry_in word) low r.probes h.0, h.1)
   to_step now r (LoadSecond word) low h = (to_second now (entry_in word) low r.probes h.0, h.1)
-  to_step now r (Ends sequence) low h = (tt, to_answers r.lo (begun_at sequence) r.probes r.finished h.0 h.1)
-  to_step now r (Meets sequence) low h = h
+  to_step now r (EndLookup sequence) low h = (tt, to_answers r.lo (begun_at sequence) r.probes r.finished h.0 h.1)
+  to_step now r (MeetWriter sequence) low h = h
 
   to_steps : (steps : List (WorkerStep × ℕ)) → All (λ s. s.1 ≤ b) steps → IsUpTo (worker_by steps)
   to_steps [] low = (tt, All-nil IsTo)
@@ -235,7 +235,7 @@ no_element i x e = none_some x e
     none_some x e = cc
 
 -- the earlier lookup read its last word before the later one read its first
-apart : (c : Setup) (w_steps : List WriterStep) (newer older : List (WorkerStep × ℕ)) (earlier later : Seen)
+apart : (c : InitialState) (w_steps : List WriterStep) (newer older : List (WorkerStep × ℕ)) (earlier later : Seen)
     → Rising (newer ++ older) → ArePlaced c w_steps (newer ++ older) → IsFinishedSince newer older earlier later
     → earlier.last ≤ later.first
 apart c w_steps newer [] earlier later rising placed h = absurd (no_element h.before.0 earlier h.before.1)
@@ -253,7 +253,7 @@ apart c w_steps newer (t ∷ rest) earlier later rising placed h =
 
 pub passes_never_go_back : PassesNeverGoBack
 passes_never_go_back p newer older earlier later history split h same =
-    let c : Setup = setup p.table in
+    let c : InitialState = initial_state p.table in
     let rising : Rising (newer ++ older) = subst Rising split history.rising in
     let placed : ArePlaced c p.seen (newer ++ older) = subst (ArePlaced c p.seen) split history.placed in
     let legal : All (IsLegalAtPlace c p.seen) (h.since ++ (worker_by older).finished) =

@@ -18,18 +18,18 @@ use Rattle.defer_queue.specs.Retired.{IsAbsent}
 use Rattle.lpm_limits.specs.declared.config.Config.{Config}
 use Rattle.lpm_rules.specs.RuleMap.{RuleList}
 use Rattle.lpm_trace.specs.declared.step.WriterStep.{WriterStep}
-use Rattle.lpm_trace.specs.declared.step.WriterStep.TheVariants.{StoreFirst, StoreSecond, Opens, Closes, BumpToken, LoadCounter}
-use Rattle.lpm_trace.specs.Tables.{Setup, Tables, Status, Retired, tables, retired, linked, first_entry}
-use Rattle.lpm_trace.specs.Tables as status
+use Rattle.lpm_trace.specs.declared.step.WriterStep.TheVariants.{StoreFirst, StoreSecond, BeginUpdate, EndUpdate, BumpToken, LoadCounter}
+use Rattle.lpm_trace.specs.States.{InitialState, TableState, Status, Retired, state_after, with_retired, with_linked, first_entry}
+use Rattle.lpm_trace.specs.States as status
 use Rattle.lpm_trace.proofs.Basics.{with_at_case}
 use Rattle.lpm_trace.proofs.Counts.{token_is, first_word_is, firsts_length}
-use Rattle.lpm_writer.specs.declared.books.Books.{Books}
+use Rattle.lpm_writer.specs.declared.pool.GroupPool.{GroupPool}
 use Rattle.lpm_writer.specs.Waiting.{AreWaiting, tokens_of}
-use Rattle.lpm_writer.specs.Kept.{AreRetired}
+use Rattle.lpm_writer.specs.Matching.{AreRetired}
 use Rattle.lpm_writer.specs.Taking.{HasNoneFreeBelow, LinksLeast}
 use Rattle.lpm_writer.specs.Resting.{IsResting, state_of}
 use Rattle.lpm_writer.proofs.Limbo.{waiting_set, is_freed}
-use Rattle.shared_words.specs.Opened.{Opened, setup_of}
+use Rattle.shared_words.specs.Initial.{InitialData, initial_state_of}
 use Rattle.shared_fib.specs.Taking.{HasGroup, IsGivenUp, IsOccupied, TakesLeast}
 use Rattle.shared_fib.proofs.Live.{never_retired}
 
@@ -41,14 +41,14 @@ retired_is t u e = cc
 linked_not : (b t : ℕ) → status.Linked b ≡ Retired t → ⊥
 linked_not b t e = cc
 
-module _ (o : Opened) where
-  abbrev c : Setup
-  c = setup_of o
+module _ (o : InitialData) where
+  abbrev c : InitialState
+  c = initial_state_of o
 
   -- a block whose word links a group has it
-  has_by_word : (steps : List WriterStep) (block group : ℕ) → first_entry (tables c steps).words block ≡ Group group → HasGroup o steps block group
+  has_by_word : (steps : List WriterStep) (block group : ℕ) → first_entry (state_after c steps).words block ≡ Group group → HasGroup o steps block group
   has_by_word steps block group is =
-      let firsts : List ℕ = (tables c steps).words.firsts in
+      let firsts : List ℕ = (state_after c steps).words.firsts in
       elim (cases_lt block (length firsts)) [
         | inl within ↦
             let low : block < length o.firsts = omega (arith, within, firsts_length c steps) in
@@ -72,24 +72,24 @@ module _ (o : Opened) where
 
   -- what a store over a word, and what a store of a word, does to the groups that are retired
   over_word : (e : Entry) (token : ℕ) (groups : ℕ → Status) (g t : ℕ) (P : Type 0) → ((h : ℕ) → e ≡ Group h → g ≡ h → t ≡ suc token → P)
-      → (groups g ≡ Retired t → P) → retired e (suc token) groups g ≡ Retired t → P
+      → (groups g ≡ Retired t → P) → with_retired e (suc token) groups g ≡ Retired t → P
   over_word Miss token groups g t P now was is = was is
   over_word (Hop hop depth) token groups g t P now was is = was is
   over_word (Group h) token groups g t P now was is =
       with_at_case (λ (s : Status). s ≡ Retired t → P) groups h (Retired (suc token)) g
       (λ same e. now h refl same (sym (retired_is (suc token) t e))) (λ other e. was e) is
 
-  of_word : (e : Entry) (block : ℕ) (groups : ℕ → Status) (g t : ℕ) → linked e block groups g ≡ Retired t → groups g ≡ Retired t
+  of_word : (e : Entry) (block : ℕ) (groups : ℕ → Status) (g t : ℕ) → with_linked e block groups g ≡ Retired t → groups g ≡ Retired t
   of_word Miss block groups g t is = is
   of_word (Hop hop depth) block groups g t is = is
   of_word (Group h) block groups g t is =
       with_at_case (λ (s : Status). s ≡ Retired t → groups g ≡ Retired t) groups h (status.Linked block) g
       (λ same e. absurd (linked_not block t e)) (λ other e. e) is
 
-  given_up : (steps : List WriterStep) (g t : ℕ) → (tables c steps).groups g ≡ Retired t → IsGivenUp o steps g t
+  given_up : (steps : List WriterStep) (g t : ℕ) → (state_after c steps).groups g ≡ Retired t → IsGivenUp o steps g t
   given_up [] g t is = absurd (never_retired (slice_get o.blocks g) t is)
   given_up (StoreFirst i x ∷ steps) g t is =
-      let w : Tables = tables c steps in
+      let w : TableState = state_after c steps in
       over_word (first_entry w.words i) w.token w.groups g t (IsGivenUp o (StoreFirst i x ∷ steps) g t)
       (λ h had same next. record {
         newer = [];
@@ -101,10 +101,10 @@ module _ (o : Opened) where
         next = omega (arith, next, token_is c steps);
       })
       (λ was. more (StoreFirst i x) steps g t (given_up steps g t was))
-      (of_word (entry_in x) i (retired (first_entry w.words i) (suc w.token) w.groups) g t is)
+      (of_word (entry_in x) i (with_retired (first_entry w.words i) (suc w.token) w.groups) g t is)
   given_up (StoreSecond j x ∷ steps) g t is = more (StoreSecond j x) steps g t (given_up steps g t is)
-  given_up (Opens change ∷ steps) g t is = more (Opens change) steps g t (given_up steps g t is)
-  given_up (Closes ∷ steps) g t is = more Closes steps g t (given_up steps g t is)
+  given_up (BeginUpdate change ∷ steps) g t is = more (BeginUpdate change) steps g t (given_up steps g t is)
+  given_up (EndUpdate ∷ steps) g t is = more EndUpdate steps g t (given_up steps g t is)
   given_up (BumpToken ∷ steps) g t is = more BumpToken steps g t (given_up steps g t is)
   given_up (LoadCounter token worker counter ∷ steps) g t is =
       more (LoadCounter token worker counter) steps g t (given_up steps g t is)
@@ -125,10 +125,10 @@ here t ts = Contains-append_left (t ∷ []) ts t (Contains-push [] t)
 -- a group is among the items, by whose token it is retired, or it isn't
 among : (g : ℕ) (status : ℕ → Status) (token : ℕ) (items : List (ℕ × ℕ)) → AreRetired status token items
     → IsAbsent g items ⊎ ((t : ℕ) × Contains (tokens_of items) t × (status g ≡ Retired t))
-among g status token [] retired = inl tt
-among g status token (item ∷ items) retired = elim (cases_eq item.0 g) [
-  | inl q ↦ inr (item.1, here item.1 (tokens_of items), ap status (sym q) ∙ retired.0)
-  | inr q ↦ elim (among g status token items retired.2) [
+among g status token [] with_retired = inl tt
+among g status token (item ∷ items) with_retired = elim (cases_eq item.0 g) [
+  | inl q ↦ inr (item.1, here item.1 (tokens_of items), ap status (sym q) ∙ with_retired.0)
+  | inr q ↦ elim (among g status token items with_retired.2) [
     | inl away ↦ inl (q, away)
     | inr at ↦ inr (at.0, Contains-append_right (item.1 ∷ []) (tokens_of items) at.0 at.1, at.2)
   ]
@@ -136,25 +136,25 @@ among g status token (item ∷ items) retired = elim (cases_eq item.0 g) [
 
 -- ---- the least
 
-module _ (f s : ℕ) (o : Opened) (later : List WriterStep) (config : Config) (rules : RuleList) (new : Books) (begun : ℕ) (after : IsResting f s (setup_of o) later config rules new begun) where
+module _ (f s : ℕ) (o : InitialData) (later : List WriterStep) (config : Config) (rules : RuleList) (new : GroupPool) (begun : ℕ) (after : IsResting f s (initial_state_of o) later config rules new begun) where
   blocks : length o.firsts ≡ 2 ^ f
-  blocks = sym (firsts_length (setup_of o) later) ∙ after.represents.table.words.firsts_len
+  blocks = sym (firsts_length (initial_state_of o) later) ∙ after.represents.table.words.firsts_len
 
   has_group : (block group : ℕ) → IsLinkedTo new.groups group block → HasGroup o later block group
   has_group block group at =
       let only = after.tied.only block group at in
-      has_by_word o later block group (some_group (first_entry (tables (setup_of o) later).words block) group only.1)
+      has_by_word o later block group (some_group (first_entry (state_after (initial_state_of o) later).words block) group only.1)
 
   is_linked_to : (block group : ℕ) → HasGroup o later block group → IsLinkedTo new.groups group block
   is_linked_to block group has =
       let low = has.0 in
       after.tied.linked block group (omega (arith, low, blocks))
-      (ap (λ w. group_in (entry_in w)) (first_word_is (setup_of o) later block low) ∙ ap group_in has.1)
+      (ap (λ w. group_in (entry_in w)) (first_word_is (initial_state_of o) later block low) ∙ ap group_in has.1)
 
   is_occupied : (g : ℕ) (state : GroupState) → slice_get new.groups g ≡ Some state → ¬ (slice_get new.groups g ≡ Some Free) → IsOccupied o (state_of rules.rules later new begun) g
   is_occupied g Free at none = absurd (none at)
   is_occupied g (Linked block) at none = inl (block, has_group block g at)
-  is_occupied g Limbo at none = elim (among g (tables (setup_of o) later).groups (tables (setup_of o) later).token new.queue.items after.keeps.kept.retired) [
+  is_occupied g Limbo at none = elim (among g (state_after (initial_state_of o) later).groups (state_after (initial_state_of o) later).token new.queue.items after.keeps.kept.retired) [
     | inl absent ↦ absurd (all_wait new.groups g new.queue.items at after.queued.waiting after.queued.all absent)
     | inr waits ↦ inr (waits.0, waits.1, given_up o later g waits.0 waits.2)
   ]
@@ -165,14 +165,14 @@ module _ (f s : ℕ) (o : Opened) (later : List WriterStep) (config : Config) (r
       (slice_get-get_or new.groups lower Free (omega (arith, below, slice_get_within new.groups group (Linked block) at))) (none lower below)
 
 -- a command that left the writer at rest took the least free group, if it took any
-pub takes_least : (f s : ℕ) (o : Opened) (steps later : List WriterStep) (config config' : Config) (rules rules' : RuleList) (books new : Books) (begun begun' : ℕ)
-    → IsResting f s (setup_of o) steps config rules books begun → IsResting f s (setup_of o) later config' rules' new begun' → LinksLeast books.groups new.groups
-    → TakesLeast o (state_of rules.rules steps books begun) (state_of rules'.rules later new begun')
-takes_least f s o steps later config config' rules rules' books new begun begun' before after links = record {
+pub takes_least : (f s : ℕ) (o : InitialData) (steps later : List WriterStep) (config config' : Config) (rules rules' : RuleList) (pool new : GroupPool) (begun begun' : ℕ)
+    → IsResting f s (initial_state_of o) steps config rules pool begun → IsResting f s (initial_state_of o) later config' rules' new begun' → LinksLeast pool.groups new.groups
+    → TakesLeast o (state_of rules.rules steps pool begun) (state_of rules'.rules later new begun')
+takes_least f s o steps later config config' rules rules' pool new begun begun' before after links = record {
   least = λ block group lower has had_not below.
       let at = is_linked_to f s o later config' rules' new begun' after block group has in
       elim (links group block at) [
-        | inl was ↦ absurd (had_not (has_group f s o steps config rules books begun before block group was))
+        | inl was ↦ absurd (had_not (has_group f s o steps config rules pool begun before block group was))
         | inr none ↦ all_below f s o later config' rules' new begun' after group block lower at none below
       ];
 }

@@ -3,8 +3,8 @@ use Rattle.std.proofs.Common.{ℕ, suc, ◌≡◌, ◌≤◌, List, [], ◌∷�
 use Rattle.std.proofs.lemmas.Bool.{cases_lt}
 use Rattle.lpm_rules.specs.RuleMap.{RuleMap}
 use Rattle.lpm_trace.specs.declared.step.WriterStep.{WriterStep}
-use Rattle.lpm_trace.specs.declared.step.WriterStep.TheVariants.{StoreFirst, StoreSecond, Opens, Closes, BumpToken, LoadCounter}
-use Rattle.lpm_trace.specs.Tables.{Setup, Tables, done, begun, oldest, rules_by, tables, tables_at}
+use Rattle.lpm_trace.specs.declared.step.WriterStep.TheVariants.{StoreFirst, StoreSecond, BeginUpdate, EndUpdate, BumpToken, LoadCounter}
+use Rattle.lpm_trace.specs.States.{InitialState, TableState, updates_done_in, updates_begun_in, oldest, rules_by, state_after, state_at}
 use Rattle.lpm_trace.specs.Writer.{IsWritten}
 use Rattle.lpm_trace.proofs.Basics.{with_at_case, with_at-same}
 use Rattle.lpm_trace.proofs.Traces.{oldest_all, oldest_old, oldest_new, begun_grows, history_at}
@@ -12,19 +12,19 @@ use Rattle.shared_words.specs.Rule.{IsLater}
 use Rattle.shared_fib.specs.Versions.{updates_begun, updates_done, rules_after, IsVersion}
 
 -- updates are done and begun as the sequence says
-pub record Counts (c : Setup) (steps : List WriterStep) : Type 0 where
-  pub begun_is : begun (tables c steps) ≡ updates_begun steps
-  pub done_is : done (tables c steps) ≡ updates_done steps
+pub record Counts (c : InitialState) (steps : List WriterStep) : Type 0 where
+  pub begun_is : updates_begun_in (state_after c steps) ≡ updates_begun steps
+  pub done_is : updates_done_in (state_after c steps) ≡ updates_done steps
 
-pub counts : (c : Setup) (steps : List WriterStep) → IsWritten c steps → Counts c steps
+pub counts : (c : InitialState) (steps : List WriterStep) → IsWritten c steps → Counts c steps
 counts c [] h = record { begun_is = refl; done_is = refl }
 counts c (StoreFirst i x ∷ steps) h = let k = counts c steps h.1 in record { begun_is = k.begun_is; done_is = k.done_is }
 counts c (StoreSecond j x ∷ steps) h = let k = counts c steps h.1 in record { begun_is = k.begun_is; done_is = k.done_is }
-counts c (Opens change ∷ steps) h =
+counts c (BeginUpdate change ∷ steps) h =
     let k = counts c steps h.1 in
     let even = h.0.0.0 in
     record { begun_is = omega (arith, k.begun_is, even); done_is = omega (arith, k.done_is, even) }
-counts c (Closes ∷ steps) h =
+counts c (EndUpdate ∷ steps) h =
     let k = counts c steps h.1 in
     let odd = h.0.0.0 in
     record { begun_is = omega (arith, k.begun_is, odd); done_is = omega (arith, k.done_is, odd) }
@@ -32,16 +32,16 @@ counts c (BumpToken ∷ steps) h = let k = counts c steps h.1 in record { begun_
 counts c (LoadCounter token worker counter ∷ steps) h = let k = counts c steps h.1 in record { begun_is = k.begun_is; done_is = k.done_is }
 
 -- those before a place might come one after another
-pub written_then : (c : Setup) (steps : List WriterStep) (place : ℕ) → IsWritten c steps → IsWritten c (oldest place steps)
+pub written_then : (c : InitialState) (steps : List WriterStep) (place : ℕ) → IsWritten c steps → IsWritten c (oldest place steps)
 written_then c [] place h = h
 written_then c (s ∷ steps) place h = elim (cases_lt (length steps) place) [
   | inl all ↦ subst (IsWritten c) (sym (oldest_new s steps place all)) h
   | inr old ↦ subst (IsWritten c) (sym (oldest_old s steps place (omega (arith, old)))) (written_then c steps place h.1)
 ]
 
-more : (opening : RuleMap) (s : WriterStep) (steps : List WriterStep) (k : ℕ) (rules : RuleMap)
-    → IsVersion opening steps k rules → IsVersion opening (s ∷ steps) k rules
-more opening s steps k rules v = record {
+more : (initial : RuleMap) (s : WriterStep) (steps : List WriterStep) (k : ℕ) (rules : RuleMap)
+    → IsVersion initial steps k rules → IsVersion initial (s ∷ steps) k rules
+more initial s steps k rules v = record {
   newer = s ∷ v.newer;
   older = v.older;
   split = ap (λ (l : List WriterStep). s ∷ l) v.split;
@@ -50,11 +50,11 @@ more opening s steps k rules v = record {
 }
 
 -- the history has the rules of each version that was begun, and of the last one those after all
-pub record Kept (c : Setup) (steps : List WriterStep) : Type 0 where
-  pub last : (tables c steps).history (begun (tables c steps)) ≡ rules_after c.rules steps
-  pub each : (k : ℕ) → k ≤ begun (tables c steps) → IsVersion c.rules steps k ((tables c steps).history k)
+pub record Kept (c : InitialState) (steps : List WriterStep) : Type 0 where
+  pub last : (state_after c steps).history (updates_begun_in (state_after c steps)) ≡ rules_after c.rules steps
+  pub each : (k : ℕ) → k ≤ updates_begun_in (state_after c steps) → IsVersion c.rules steps k ((state_after c steps).history k)
 
-pub kept : (c : Setup) (steps : List WriterStep) → IsWritten c steps → Kept c steps
+pub kept : (c : InitialState) (steps : List WriterStep) → IsWritten c steps → Kept c steps
 kept c [] h = record {
   last = refl;
   each = λ k low. record { newer = []; older = []; split = refl; count = omega (arith, low); rules_are = refl };
@@ -67,35 +67,35 @@ kept c (BumpToken ∷ steps) h = let k = kept c steps h.1 in
     record { last = k.last; each = λ n low. more c.rules BumpToken steps n _ (k.each n low) }
 kept c (LoadCounter token worker counter ∷ steps) h = let k = kept c steps h.1 in
     record { last = k.last; each = λ n low. more c.rules (LoadCounter token worker counter) steps n _ (k.each n low) }
-kept c (Closes ∷ steps) h =
+kept c (EndUpdate ∷ steps) h =
     let k = kept c steps h.1 in
-    let w : Tables = tables c steps in
+    let w : TableState = state_after c steps in
     let odd = h.0.0.0 in
-    let same : begun (tables c (Closes ∷ steps)) ≡ begun w = omega (arith, odd) in
+    let same : updates_begun_in (state_after c (EndUpdate ∷ steps)) ≡ updates_begun_in w = omega (arith, odd) in
     record {
       last = ap w.history same ∙ k.last;
-      each = λ n low. more c.rules Closes steps n _ (k.each n (omega (arith, low, same)));
+      each = λ n low. more c.rules EndUpdate steps n _ (k.each n (omega (arith, low, same)));
     }
-kept c (Opens change ∷ steps) h =
+kept c (BeginUpdate change ∷ steps) h =
     let k = kept c steps h.1 in
-    let w : Tables = tables c steps in
+    let w : TableState = state_after c steps in
     let even = h.0.0.0 in
-    let z : Tables = tables c (Opens change ∷ steps) in
-    let rules : RuleMap = rules_by (w.history (begun w)) change in
-    let is : rules ≡ rules_after c.rules (Opens change ∷ steps) = ap (λ (R : RuleMap). rules_by R change) k.last in
-    let next : begun z ≡ suc (begun w) = omega (arith, even) in
-    let n_is = (counts c (Opens change ∷ steps) h).begun_is in
+    let z : TableState = state_after c (BeginUpdate change ∷ steps) in
+    let rules : RuleMap = rules_by (w.history (updates_begun_in w)) change in
+    let is : rules ≡ rules_after c.rules (BeginUpdate change ∷ steps) = ap (λ (R : RuleMap). rules_by R change) k.last in
+    let next : updates_begun_in z ≡ suc (updates_begun_in w) = omega (arith, even) in
+    let n_is = (counts c (BeginUpdate change ∷ steps) h).begun_is in
     record {
-      last = ap z.history next ∙ (with_at-same w.history (suc (begun w)) rules ∙ is);
-      each = λ n low. with_at_case (λ R. IsVersion c.rules (Opens change ∷ steps) n R) w.history (suc (begun w)) rules n
+      last = ap z.history next ∙ (with_at-same w.history (suc (updates_begun_in w)) rules ∙ is);
+      each = λ n low. with_at_case (λ R. IsVersion c.rules (BeginUpdate change ∷ steps) n R) w.history (suc (updates_begun_in w)) rules n
           (λ here. record {
             newer = [];
-            older = Opens change ∷ steps;
+            older = BeginUpdate change ∷ steps;
             split = refl;
             count = omega (arith, sym n_is, next, here);
             rules_are = is;
           })
-          (λ other. more c.rules (Opens change) steps n _ (k.each n (omega (arith, low, next, other))));
+          (λ other. more c.rules (BeginUpdate change) steps n _ (k.each n (omega (arith, low, next, other))));
     }
 
 -- ---- a beginning of the steps
@@ -112,16 +112,16 @@ beginning_of old now later =
     ap (oldest (length old)) later.1 ∙ (oldest_before later.0 old (length old) (omega arith) ∙ oldest_all old (length old) (omega arith))
 
 -- the rules of a version are those that the history of the tables has
-pub version_is : (c : Setup) (steps : List WriterStep) (k : ℕ) (rules : RuleMap) → IsWritten c steps
-    → IsVersion c.rules steps k rules → (k ≤ begun (tables c steps)) × ((tables c steps).history k ≡ rules)
+pub version_is : (c : InitialState) (steps : List WriterStep) (k : ℕ) (rules : RuleMap) → IsWritten c steps
+    → IsVersion c.rules steps k rules → (k ≤ updates_begun_in (state_after c steps)) × ((state_after c steps).history k ≡ rules)
 version_is c steps k rules h v =
     let place : ℕ = length v.older in
     let here : oldest place steps ≡ v.older = beginning_of v.older steps (v.newer, v.split) in
     let then : IsWritten c v.older = subst (IsWritten c) here (written_then c steps place h) in
-    let at : tables_at c steps place ≡ tables c v.older = ap (tables c) here in
-    let count : begun (tables c v.older) ≡ k = (counts c v.older then).begun_is ∙ v.count in
-    let low : k ≤ begun (tables_at c steps place) = subst (λ (w : Tables). k ≤ begun w) (sym at) (omega (arith, count)) in (
+    let at : state_at c steps place ≡ state_after c v.older = ap (state_after c) here in
+    let count : updates_begun_in (state_after c v.older) ≡ k = (counts c v.older then).begun_is ∙ v.count in
+    let low : k ≤ updates_begun_in (state_at c steps place) = subst (λ (w : TableState). k ≤ updates_begun_in w) (sym at) (omega (arith, count)) in (
       omega (arith, low, begun_grows c steps place),
-      history_at c steps place k low ∙ (ap (λ (w : Tables). w.history k) at ∙ (ap (tables c v.older).history (sym count)
+      history_at c steps place k low ∙ (ap (λ (w : TableState). w.history k) at ∙ (ap (state_after c v.older).history (sym count)
           ∙ ((kept c v.older then).last ∙ sym v.rules_are))),
     )

@@ -8,8 +8,8 @@ use Rattle.lpm_limits.specs.declared.config.Config.{Config}
 use Rattle.lpm_rules.specs.RuleMap.{RuleList}
 use Rattle.lpm_trace.specs.declared.step.WriterStep.{WriterStep}
 use Rattle.lpm_trace.specs.declared.step.WriterStep.TheVariants.{BumpToken}
-use Rattle.lpm_trace.specs.Tables.{Setup, tables}
-use Rattle.lpm_writer.specs.declared.books.Books.{Books}
+use Rattle.lpm_trace.specs.States.{InitialState, state_after}
+use Rattle.lpm_writer.specs.declared.pool.GroupPool.{GroupPool}
 use Rattle.lpm_trace.specs.Counts.{token_after, passed_after}
 use Rattle.lpm_trace.proofs.Counts.{token_is, passed_is}
 use Rattle.lpm_writer.specs.Steps as by_steps
@@ -19,8 +19,8 @@ use Rattle.lpm_writer.specs.Waiting.{tokens_of}
 use Rattle.lpm_writer.specs.Resting.{IsResting}
 use Rattle.lpm_writer.proofs.StepsAlone.{checks_alone, checks_fixed, stopped_token}
 use Rattle.shared_words.specs.declared.view.View.{View}
-use Rattle.shared_words.specs.Opened.{setup_of}
-use Rattle.shared_fib.specs.Lent.{Lent, SharedDid, SharedDoes, left_by}
+use Rattle.shared_words.specs.Initial.{initial_state_of}
+use Rattle.shared_fib.specs.Lent.{Lent, SharedDid, SharedDoes, state_of_lent}
 use Rattle.shared_fib.specs.LentLaws.{shared_shows}
 use Rattle.shared_fib.specs.Passing.{PassesAtLast}
 use Rattle.shared_fib.proofs.Seated.{Kept, kept, does_in, stays}
@@ -28,13 +28,13 @@ use Rattle.shared_fib.proofs.Seated.{Kept, kept, does_in, stays}
 -- the newest token was started last in m, and each check of it since was stopped
 pub record HasWaited (m z : Lent) : Type 0 where
   pub stops : ℕ
-  pub did : SharedDid z (setup_of m.view.opening) z.view.seen
+  pub did : SharedDid z (initial_state_of m.view.initial) z.view.seen
   pub same : kept z ≡ kept m
-  pub stopped : AreStopped m.view.opening.workers stops m.view.seen (left_by m).token z.view.seen
+  pub stopped : AreStopped m.view.initial.workers stops m.view.seen (state_of_lent m).token z.view.seen
 
 module _ (m : Lent) where
-  abbrev c : Setup
-  c = setup_of m.view.opening
+  abbrev c : InitialState
+  c = initial_state_of m.view.initial
 
   pub not_yet : SharedDid m c m.view.seen → HasWaited m m
   not_yet did = record { stops = 0; did = did; same = refl; stopped = refl }
@@ -42,22 +42,22 @@ module _ (m : Lent) where
   -- one more check
   module _ (y z : Lent) (so_far : HasWaited m y) (later : List WriterStep) (did : SharedDid z c later) where
     abbrev IsChecked : Result (Unit {0}) Busy → Type 0
-    IsChecked r = Checks does_in c (y, y.view.seen) (left_by y).token r (z, later)
+    IsChecked r = Checks does_in c (y, y.view.seen) (state_of_lent y).token r (z, later)
 
-    token_same : (left_by y).token ≡ (left_by m).token
+    token_same : (state_of_lent y).token ≡ (state_of_lent m).token
     token_same = (shared_shows y c y.view.seen so_far.did).1
-        ∙ stopped_token c so_far.stops m.view.seen (left_by m).token y.view.seen so_far.stopped
+        ∙ stopped_token c so_far.stops m.view.seen (state_of_lent m).token y.view.seen so_far.stopped
 
     alone : (r : Result (Unit {0}) Busy) → IsChecked r
-        → by_steps.Checks c.workers y.view.seen (left_by m).token r z.view.seen
+        → by_steps.Checks c.workers y.view.seen (state_of_lent m).token r z.view.seen
     alone r checks =
         subst (λ t. by_steps.Checks c.workers y.view.seen t r z.view.seen) token_same
-        (subst (λ l. by_steps.Checks c.workers y.view.seen (left_by y).token r l)
-        did.steps_are (checks_alone Lent does_in c (y, y.view.seen) (z, later) (left_by y).token r checks))
+        (subst (λ l. by_steps.Checks c.workers y.view.seen (state_of_lent y).token r l)
+        did.steps_are (checks_alone Lent does_in c (y, y.view.seen) (z, later) (state_of_lent y).token r checks))
 
     pub still : (r : Result (Unit {0}) Busy) → IsChecked r → kept z ≡ kept m
     still r checks =
-        checks_fixed Lent does_in c Kept kept stays (y, y.view.seen) (z, later) (left_by y).token r checks
+        checks_fixed Lent does_in c Kept kept stays (y, y.view.seen) (z, later) (state_of_lent y).token r checks
         ∙ so_far.same
 
     pub once_more : (busy : Busy) → IsChecked (Err busy) → HasWaited m z
@@ -72,9 +72,9 @@ module _ (m : Lent) where
     at_last checks = (so_far.stops, y.view.seen, so_far.stopped, alone (Ok tt) checks)
 
 -- a token was started, and a check of it passed at last
-passes_at_last : (c : Setup) (x z : List WriterStep) → PassesAtLast c (BumpToken ∷ x) z → Synchronizes c.workers c.token x z
+passes_at_last : (c : InitialState) (x z : List WriterStep) → PassesAtLast c (BumpToken ∷ x) z → Synchronizes c.workers c.token x z
 passes_at_last c x z h =
-    let token : (tables c (BumpToken ∷ x)).token ≡ token_after c.token (BumpToken ∷ x) = token_is c (BumpToken ∷ x) in
+    let token : (state_after c (BumpToken ∷ x)).token ≡ token_after c.token (BumpToken ∷ x) = token_is c (BumpToken ∷ x) in
     record {
       last = h.1;
       stops = h.0;
@@ -83,25 +83,25 @@ passes_at_last c x z h =
     }
 
 pub synchronized : (m z : Lent) (later : List WriterStep) → SharedDoes BumpToken m z
-    → PassesAtLast (setup_of z.view.opening) z.view.seen later
-    → Synchronizes m.view.opening.workers m.view.opening.token m.view.seen later
+    → PassesAtLast (initial_state_of z.view.initial) z.view.seen later
+    → Synchronizes m.view.initial.workers m.view.initial.token m.view.seen later
 synchronized m z later does passes =
-    passes_at_last (setup_of m.view.opening) m.view.seen later
-    (subst (λ (v : View). PassesAtLast (setup_of v.opening) v.seen later) does.view passes)
+    passes_at_last (initial_state_of m.view.initial) m.view.seen later
+    (subst (λ (v : View). PassesAtLast (initial_state_of v.initial) v.seen later) does.view passes)
 
 -- no group that waits is held by a token that hasn't passed
-pub queued_passed : (first second : ℕ) (c : Setup) (steps : List WriterStep) (config : Config)
-    (rules : RuleList) (books : Books) (begun : ℕ)
-    → IsResting first second c steps config rules books begun
-    → All (λ (item : ℕ × ℕ). item.1 ≤ books.passed) books.queue.items
+pub queued_passed : (first second : ℕ) (c : InitialState) (steps : List WriterStep) (config : Config)
+    (rules : RuleList) (pool : GroupPool) (begun : ℕ)
+    → IsResting first second c steps config rules pool begun
+    → All (λ (item : ℕ × ℕ). item.1 ≤ pool.passed) pool.queue.items
     → 0 < config.workers
-    → All (λ token. token ≤ passed_after c.workers steps) (tokens_of books.queue.items)
-queued_passed first second c steps config rules books begun rests queued some =
+    → All (λ token. token ≤ passed_after c.workers steps) (tokens_of pool.queue.items)
+queued_passed first second c steps config rules pool begun rests queued some =
     let passed = rests.keeps.remembers (subst (λ n. 0 < n) (sym rests.workers) some) ∙ passed_is c steps in
-    All-map (λ token. token ≤ passed_after c.workers steps) (λ (item : ℕ × ℕ). item.1) books.queue.items
-    (subst (λ p. All (λ (item : ℕ × ℕ). item.1 ≤ p) books.queue.items) passed queued)
+    All-map (λ token. token ≤ passed_after c.workers steps) (λ (item : ℕ × ℕ). item.1) pool.queue.items
+    (subst (λ p. All (λ (item : ℕ × ℕ). item.1 ≤ p) pool.queue.items) passed queued)
 
 -- a refusal for want of tokens, by their count
-pub exhausted_by : (c : Setup) (steps : List WriterStep) (P : Type 0) (groups : ℕ)
-    → P ↔ (2 ^ 62 < (tables c steps).token + groups) → P ↔ (2 ^ 62 < token_after c.token steps + groups)
+pub exhausted_by : (c : InitialState) (steps : List WriterStep) (P : Type 0) (groups : ℕ)
+    → P ↔ (2 ^ 62 < (state_after c steps).token + groups) → P ↔ (2 ^ 62 < token_after c.token steps + groups)
 exhausted_by c steps P groups h = subst (λ t. P ↔ (2 ^ 62 < t + groups)) (token_is c steps) h

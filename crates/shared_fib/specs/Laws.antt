@@ -3,50 +3,50 @@
 use Rattle.std.specs.Prelude.{ℕ, ◌≡◌, ◌≤◌, ◌⊎◌, List, ◌++◌, length, slice_get, Option, Some}
 use Rattle.lpm_trace.specs.declared.step.WriterStep.{WriterStep}
 use Rattle.lpm_trace.specs.declared.step.WorkerStep.{WorkerStep}
-use Rattle.lpm_trace.specs.Tables.{Setup, IsAnswer, done, begun, tables, tables_at}
+use Rattle.lpm_trace.specs.States.{InitialState, IsAnswer, updates_done_in, updates_begun_in, state_after, state_at}
 use Rattle.lpm_trace.specs.Workers.{Seen, IsBetweenDeeds}
 use Rattle.lpm_trace.specs.Trace.{worker_by}
 use Rattle.lpm_trace.specs.Laws.{IsLegalAtPlace}
 use Rattle.shared_words.specs.Rule.{IsLater}
-use Rattle.shared_fib.specs.Running.{WriterState, IsAtRest, setup, steps_of}
+use Rattle.shared_fib.specs.Running.{WriterState, IsAtRest, initial_state, steps_of}
 use Rattle.shared_fib.specs.Passes.{PassState, IsHistory, LooksUp, LooksUpAll}
 
 -- ---- versions
 
 -- version k stands after the first `place` of the writer's steps: its update was begun, and the next one
 -- isn't done
-abbrev pub StandsAt : Setup → List WriterStep → ℕ → ℕ → Type 0
+abbrev pub StandsAt : InitialState → List WriterStep → ℕ → ℕ → Type 0
 StandsAt c w_steps place k =
-    (done (tables_at c w_steps place) ≤ k) × (k ≤ begun (tables_at c w_steps place))
+    (updates_done_in (state_at c w_steps place) ≤ k) × (k ≤ updates_begun_in (state_at c w_steps place))
 
 -- the lookup can be said to be of version k: its answer is that of the longest match in the rules of that
 -- version, which stood at a place of the lookup's span and lies from `lo` to `hi`
-pub record IsOfVersion (c : Setup) (w_steps : List WriterStep) (seen : Seen) (k : ℕ) : Type 0 where
+pub record IsOfVersion (c : InitialState) (w_steps : List WriterStep) (seen : Seen) (k : ℕ) : Type 0 where
   pub place : ℕ
   pub from : seen.first ≤ place
   pub to : place ≤ seen.last
   pub within : seen.last ≤ length w_steps
   pub stands : StandsAt c w_steps place k
-  pub answers : IsAnswer c ((tables c w_steps).history k) seen.addr seen.hop
+  pub answers : IsAnswer c ((state_after c w_steps).history k) seen.addr seen.hop
   pub low : seen.lo ≤ k
   pub high : k ≤ seen.hi
 
 -- versions can be chosen for two lookups so that the later one's isn't less
-abbrev pub AreInOrder : Setup → List WriterStep → Seen → Seen → Type 0
+abbrev pub AreInOrder : InitialState → List WriterStep → Seen → Seen → Type 0
 AreInOrder c w_steps earlier later = (k : ℕ) × (l : ℕ) × (k ≤ l)
     × IsOfVersion c w_steps earlier k × IsOfVersion c w_steps later l
 
 -- the rules of a version that was begun stay, whatever the writer does then
 abbrev pub VersionsStay : Type 0
-VersionsStay = (c : Setup) (before after : List WriterStep) (k : ℕ) → IsLater before after
-    → k ≤ begun (tables c before) → (tables c after).history k ≡ (tables c before).history k
+VersionsStay = (c : InitialState) (before after : List WriterStep) (k : ℕ) → IsLater before after
+    → k ≤ updates_begun_in (state_after c before) → (state_after c after).history k ≡ (state_after c before).history k
 
 -- ---- finished lookups
 
 -- two lookups of one address never go back, where the later one's words were loaded after all that was
 -- known of the writer's steps when the earlier one had ended
 abbrev pub LookupsNeverGoBack : Type 0
-LookupsNeverGoBack = (c : Setup) (before after : List WriterStep) (earlier later : Seen)
+LookupsNeverGoBack = (c : InitialState) (before after : List WriterStep) (earlier later : Seen)
     → IsLegalAtPlace c before earlier → IsLegalAtPlace c after later
     → IsLater before after → length before ≤ later.first → earlier.addr ≡ later.addr
     → AreInOrder c after earlier later
@@ -67,7 +67,7 @@ abbrev pub PassesNeverGoBack : Type 0
 PassesNeverGoBack = (p : PassState) (newer older : List (WorkerStep × ℕ)) (earlier later : Seen)
     → IsHistory p → p.steps ≡ newer ++ older → IsFinishedSince newer older earlier later
     → earlier.addr ≡ later.addr
-    → AreInOrder (setup p.table) p.seen earlier later
+    → AreInOrder (initial_state p.table) p.seen earlier later
 
 -- a lookup of one address or of several, with this `lo` and `hi`
 abbrev pub IsLookedUp : ℕ → ℕ → PassState → PassState → Type 0

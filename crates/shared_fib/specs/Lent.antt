@@ -4,12 +4,12 @@ use Rattle.std.specs.Prelude.{◌≡◌, ℕ, ◌^◌, ◌≤◌, List, refl}
 use Rattle.std.specs.Coded.{Coded, code_by, coded×, coded_ℕ}
 use Rattle.atomic_table.specs.Seated.{TableId, table_id_coded}
 use Rattle.lpm_trace.specs.declared.step.WriterStep.{WriterStep}
-use Rattle.lpm_trace.specs.Tables.{Setup, Tables, tables, begun}
+use Rattle.lpm_trace.specs.States.{InitialState, TableState, state_after, updates_begun_in}
 use Rattle.lpm_trace.specs.Counts.{token_after, passed_after}
 use Rattle.lpm_trace.specs.Writer.{IsWritten, MayStep}
 use Rattle.shared_words.specs.declared.view.View.{View}
 use Rattle.shared_words.specs.contracts.view.View as view_row
-use Rattle.shared_words.specs.Opened.{setup_of}
+use Rattle.shared_words.specs.Initial.{initial_state_of}
 use Rattle.shared_words.specs.Seats.{with_step}
 
 -- a seat that was lent under a name: its table, and what it knows
@@ -26,32 +26,32 @@ coded_lent =
     (λ _. refl)
 
 -- what the steps of the view leave
-abbrev pub left_by_view : View → Tables
-left_by_view v = tables (setup_of v.opening) v.seen
+abbrev pub state_of_view : View → TableState
+state_of_view v = state_after (initial_state_of v.initial) v.seen
 
 -- the token, and the greatest that has passed, by the steps of the view
 abbrev pub token_by : View → ℕ
-token_by v = token_after v.opening.token v.seen
+token_by v = token_after v.initial.token v.seen
 
 abbrev pub passed_by : View → ℕ
-passed_by v = passed_after v.opening.workers v.seen
+passed_by v = passed_after v.initial.workers v.seen
 
-abbrev pub left_by : Lent → Tables
-left_by m = left_by_view m.view
+abbrev pub state_of_lent : Lent → TableState
+state_of_lent m = state_of_view m.view
 
 -- the token is the newest, and neither it nor the updates are past their bound
 pub record IsAt (v : View) (token : ℕ) : Type 0 where
-  pub newest : token ≡ (left_by_view v).token
+  pub newest : token ≡ (state_of_view v).token
   pub token_low : token ≤ 2 ^ 62
-  pub few : begun (left_by_view v) ≤ 2 ^ 61
+  pub few : updates_begun_in (state_of_view v) ≤ 2 ^ 61
 
 -- the step may come next
 abbrev pub SharedMay : Lent → WriterStep → Type 0
-SharedMay m s = MayStep (setup_of m.view.opening) m.view.seen s
+SharedMay m s = MayStep (initial_state_of m.view.initial) m.view.seen s
 
 -- the steps are those of the seat, each of which might come
-pub record SharedDid (m : Lent) (c : Setup) (steps : List WriterStep) : Type 0 where
-  pub opening : c ≡ setup_of m.view.opening
+pub record SharedDid (m : Lent) (c : InitialState) (steps : List WriterStep) : Type 0 where
+  pub initial : c ≡ initial_state_of m.view.initial
   pub steps_are : steps ≡ m.view.seen
   pub written : IsWritten c steps
 

@@ -8,7 +8,7 @@ pub mod Loading
 pub mod GracePeriods
 pub mod Matches
 pub mod Laws
-pub mod Loaded
+pub mod Initial
 pub mod Lent
 pub mod LentLaws
 pub mod Pairs

@@ -8,22 +8,22 @@ use Rattle.lpm_rules.specs.RuleMap.{RuleMap}
 use Rattle.lpm_update.specs.Represents.{Represents}
 use Rattle.lpm_sweep.specs.Swept.{AreNumbered}
 use Rattle.defer_queue.specs.Limbo.{Limbo as Queue}
-use Rattle.lpm_trace.specs.Tables.{IsSettled}
+use Rattle.lpm_trace.specs.States.{IsSettled}
 use Rattle.lpm_writer.specs.Resting.{IsResting}
-use Rattle.shared_words.specs.Opened.{setup_of}
-use Rattle.shared_words.specs.Layout.{packed}
-use Rattle.shared_fib.specs.declared.loaded.Loaded.{Loaded}
-use Rattle.shared_fib.specs.Loaded.{ArePacked}
-use Rattle.shared_fib.specs.Running.{opening_by}
+use Rattle.shared_words.specs.Initial.{initial_state_of}
+use Rattle.shared_words.specs.Layout.{packed_words}
+use Rattle.shared_fib.specs.declared.initial_table.InitialTable.{InitialTable}
+use Rattle.shared_fib.specs.Initial.{ArePacked}
+use Rattle.shared_fib.specs.Running.{initial_data_of}
 
 -- a running table of these limits may go on from what was loaded: no group waits, and its writer rests
-pub record IsLoaded (first second : ℕ) (config : Config) (queue : Queue) (l : Loaded first second) : Type 0 where
+pub record IsLoaded (first second : ℕ) (config : Config) (queue : Queue) (l : InitialTable first second) : Type 0 where
   pub shape : IsShape first second
-  pub packed : ArePacked (opening_by first second l) l.words.items l.layout
-  pub settled : IsSettled (setup_of (opening_by first second l))
-  pub token : (opening_by first second l).token ≤ 2 ^ 62
+  pub packed : ArePacked (initial_data_of first second l) l.words.items l.layout
+  pub settled : IsSettled (initial_state_of (initial_data_of first second l))
+  pub token : (initial_data_of first second l).token ≤ 2 ^ 62
   pub none : queue.items ≡ []
-  pub rests : IsResting first second (setup_of (opening_by first second l)) [] config l.rules
+  pub rests : IsResting first second (initial_state_of (initial_data_of first second l)) [] config l.rules
       (record { groups = l.groups; queue = queue; passed = 0 }) 0
 
 -- a running table begins with these words, which stand for the rules: the sequence, the token, the first
@@ -35,6 +35,6 @@ pub record AreSwept (first second : ℕ) (config : Config) (R : RuleMap) (words 
   pub numbered : AreNumbered firsts blocks
   pub room : length seconds ≡ length blocks * 2 ^ second
   pub few : length blocks ≤ config.groups
-  pub laid : words ≡ 0 ∷ config.first_token ∷ (packed firsts
-      ++ (packed (seconds ++ replicate (config.groups * 2 ^ second - length seconds) (word_of Miss))
+  pub laid : words ≡ 0 ∷ config.first_token ∷ (packed_words firsts
+      ++ (packed_words (seconds ++ replicate (config.groups * 2 ^ second - length seconds) (word_of Miss))
       ++ replicate config.workers 0))

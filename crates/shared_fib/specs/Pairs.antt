@@ -5,8 +5,8 @@ use Rattle.std.specs.List.{range_with_len}
 use Rattle.shared_words.specs.Layout.{half, pairs, first_at, sequence_at}
 
 -- the first so many table words that the shared words have
-abbrev pub unpaired : ℕ → List ℕ → List ℕ
-unpaired count words = map (λ i. half i (slice_index words (first_at i))) (range_with_len 0 count)
+abbrev pub unpacked_pairs : ℕ → List ℕ → List ℕ
+unpacked_pairs count words = map (λ i. half i (slice_index words (first_at i))) (range_with_len 0 count)
 
 -- the shared words have so many table words; the sequence is 0, and so is the half that is left over behind
 -- an odd number of table words

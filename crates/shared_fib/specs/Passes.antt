@@ -9,16 +9,16 @@ use Rattle.lpm_rules.specs.RuleMap.{RuleMap}
 use Rattle.lpm_rules.specs.Longest.{IsLongestHop}
 use Rattle.lpm_trace.specs.declared.step.WriterStep.{WriterStep}
 use Rattle.lpm_trace.specs.declared.step.WorkerStep.{WorkerStep}
-use Rattle.lpm_trace.specs.declared.step.WorkerStep.TheVariants.{Begins, Ends}
+use Rattle.lpm_trace.specs.declared.step.WorkerStep.TheVariants.{BeginLookup, EndLookup}
 use Rattle.lpm_trace.specs.contracts.step.WriterStep as writer_row
 use Rattle.lpm_trace.specs.contracts.step.WorkerStep as worker_row
-use Rattle.lpm_trace.specs.Tables.{oldest}
+use Rattle.lpm_trace.specs.States.{oldest}
 use Rattle.lpm_trace.specs.Writer.{IsWritten}
 use Rattle.lpm_trace.specs.Trace.{worker_by}
 use Rattle.lpm_trace.specs.Laws.{ArePlaced, IsLegalAtPlace}
 use Rattle.shared_words.specs.Rule.{IsLater}
 use Rattle.shared_words.specs.Loads.{Found, IsReadOn, firsts_at, last_at, loads_at, seconds_at}
-use Rattle.shared_fib.specs.Running.{Identity, coded_identity, setup, phase_by}
+use Rattle.shared_fib.specs.Running.{Identity, coded_identity, initial_state, phase_by}
 use Rattle.shared_fib.specs.Versions.{IsVersion, updates_begun, updates_done}
 
 -- ---- a pass
@@ -48,11 +48,11 @@ pub record Makes (made : List (WorkerStep × ℕ)) (p q : PassState) : Type 0 wh
 pub record IsOfVersion (table : Identity) (steps : List WriterStep) (addr : ℕ) (hop : Option ℕ) (place k : ℕ)
     : Type 0 where
   pub rules : RuleMap
-  pub version : IsVersion table.opening.rules steps k rules
+  pub version : IsVersion table.initial.rules steps k rules
   pub within : place ≤ length steps
   pub done : updates_done (oldest place steps) ≤ k
   pub begun : k ≤ updates_begun (oldest place steps)
-  pub answers : IsLongestHop (table.opening.first + table.opening.second) rules addr hop
+  pub answers : IsLongestHop (table.initial.first + table.initial.second) rules addr hop
 
 -- an address that was looked up has its hop by its last word, and that is the answer of a version from `lo`
 -- to `hi`, which stood at a place from the load of its first word to that of its last
@@ -72,8 +72,8 @@ pub record LooksUp (addr : ℕ) (hop : Option ℕ) (lo hi : ℕ) (p q : PassStat
   pub begins : ℕ
   pub found : Found
   pub high : ℕ
-  pub steps : Makes ((Ends high, length q.seen)
-      ∷ (loads_at found.word found.first found.second ++ (Begins (addr ∷ []) low, begins) ∷ [])) p q
+  pub steps : Makes ((EndLookup high, length q.seen)
+      ∷ (loads_at found.word found.first found.second ++ (BeginLookup (addr ∷ []) low, begins) ∷ [])) p q
   pub result : (found.addr ≡ addr) × (found.hop ≡ hop)
   pub done_then : lo ≡ updates_done (oldest begins q.seen)
   pub begun_then : hi ≡ updates_begun q.seen
@@ -87,8 +87,8 @@ pub record LooksUpAll (addrs : List ℕ) (hops : List (Option ℕ)) (lo hi : ℕ
   pub begins : ℕ
   pub found : List Found
   pub high : ℕ
-  pub steps : Makes ((Ends high, length q.seen)
-      ∷ ((seconds_at found ++ firsts_at found) ++ (Begins addrs low, begins) ∷ [])) p q
+  pub steps : Makes ((EndLookup high, length q.seen)
+      ∷ ((seconds_at found ++ firsts_at found) ++ (BeginLookup addrs low, begins) ∷ [])) p q
   pub addrs_are : map (λ (f : Found). f.addr) found ≡ addrs
   pub hops_are : map (λ (f : Found). f.hop) found ≡ hops
   pub done_then : lo ≡ updates_done (oldest begins q.seen)
@@ -101,11 +101,11 @@ pub record LooksUpAll (addrs : List ℕ) (hops : List (Option ℕ)) (lo hi : ℕ
 -- each of its own at its place; and each lookup that it has finished is legal
 pub record IsHistory (p : PassState) : Type 0 where
   pub online : (worker_by p.steps).phase ≡ phase_by p.online
-  pub written : IsWritten (setup p.table) p.seen
+  pub written : IsWritten (initial_state p.table) p.seen
   pub rising : AllPairs (λ later earlier. earlier.1 ≤ later.1) p.steps
   pub within : All (λ step. step.1 ≤ length p.seen) p.steps
-  pub placed : ArePlaced (setup p.table) p.seen p.steps
-  pub legal : All (IsLegalAtPlace (setup p.table) p.seen) (worker_by p.steps).finished
+  pub placed : ArePlaced (initial_state p.table) p.seen p.steps
+  pub legal : All (IsLegalAtPlace (initial_state p.table) p.seen) (worker_by p.steps).finished
 
 -- ---- the bench
 
@@ -117,13 +117,13 @@ pub record IsPassOf (id : Identity) (k : ℕ) (p : PassState) : Type 0 where
 
 -- the passes that were not registered, by their numbers
 abbrev pub IsBenchOf : Identity → List (Option PassState) → Type 0
-IsBenchOf id passes = (length passes ≡ id.opening.workers)
+IsBenchOf id passes = (length passes ≡ id.initial.workers)
     × ((k : ℕ) (p : PassState) → slice_get passes k ≡ Some (Some p) → IsPassOf id k p)
 
 -- each worker's pass is there, and has made no step
 abbrev pub IsFullBench : Identity → List (Option PassState) → Type 0
 IsFullBench id passes = IsBenchOf id passes
-    × ((k : ℕ) → k < id.opening.workers
+    × ((k : ℕ) → k < id.initial.workers
     → (p : PassState) × (slice_get passes k ≡ Some (Some p)) × (p.steps ≡ []))
 
 abbrev pub coded_pass : Coded PassState

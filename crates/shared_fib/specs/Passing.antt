@@ -3,11 +3,11 @@
 -- reader has let the token pass).
 use Rattle.std.specs.Prelude.{ℕ, List, Ok}
 use Rattle.lpm_trace.specs.declared.step.WriterStep.{WriterStep}
-use Rattle.lpm_trace.specs.Tables.{Setup, tables}
+use Rattle.lpm_trace.specs.States.{InitialState, state_after}
 use Rattle.lpm_writer.specs.Steps.{AreStopped, Checks}
 
 -- after the steps x some checks of the newest token were stopped, and then one passed; z are the steps then
-abbrev pub PassesAtLast : Setup → List WriterStep → List WriterStep → Type 0
+abbrev pub PassesAtLast : InitialState → List WriterStep → List WriterStep → Type 0
 PassesAtLast c x z = (stops : ℕ) × (last : List WriterStep)
-    × AreStopped c.workers stops x (tables c x).token last
-    × Checks c.workers last (tables c x).token (Ok tt) z
+    × AreStopped c.workers stops x (state_after c x).token last
+    × Checks c.workers last (state_after c x).token (Ok tt) z

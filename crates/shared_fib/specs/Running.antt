@@ -11,48 +11,48 @@ use Rattle.fib_model.specs.State.{State, Transitions}
 use Rattle.fib.specs.Fib.{coded_config}
 use Rattle.lpm_trace.specs.declared.step.WriterStep.{WriterStep}
 use Rattle.lpm_trace.specs.contracts.step.WriterStep as step_row
-use Rattle.lpm_trace.specs.Tables.{Setup, Tables, tables, addresses, answer, IsAnswer, done, begun}
+use Rattle.lpm_trace.specs.States.{InitialState, TableState, state_after, addresses, answer, IsAnswer, updates_done_in, updates_begun_in}
 use Rattle.lpm_trace.specs.Counts.{token_after, passed_after}
 use Rattle.lpm_trace.specs.Writer.{IsWritten}
 use Rattle.lpm_trace.specs.Trace.{worker_by}
 use Rattle.lpm_trace.specs.Workers.{Phase, Offline, Online}
-use Rattle.lpm_writer.specs.declared.ledger.Ledger.{Ledger}
+use Rattle.lpm_writer.specs.declared.control.ControlState.{ControlState}
 use Rattle.lpm_writer.specs.Steps.{by_steps_from}
-use Rattle.lpm_writer.specs.Kept.{IsLimbo}
+use Rattle.lpm_writer.specs.Matching.{IsLimbo}
 use Rattle.lpm_writer.specs.Stores.{StoresOnce}
 use Rattle.lpm_writer.specs.Resting.{IsResting, state_of}
 use Rattle.shared_words.specs.declared.layout.Layout.{Layout}
 use Rattle.shared_words.specs.declared.view.View.{View}
-use Rattle.shared_words.specs.Opened.{Opened, coded_opened, setup_of}
+use Rattle.shared_words.specs.Initial.{InitialData, coded_initial_data, initial_state_of}
 use Rattle.shared_words.specs.Layout.{word_count}
-use Rattle.shared_fib.specs.declared.loaded.Loaded.{Loaded}
-use Rattle.shared_fib.specs.Loaded.{opened_by}
+use Rattle.shared_fib.specs.declared.initial_table.InitialTable.{InitialTable}
+use Rattle.shared_fib.specs.Initial.{initial_data_of_words}
 
 -- ---- the table
 
 -- which running table: its words, and what it was opened with
 pub record Identity : Type 0 where
   pub words : TableId
-  pub opening : Opened
+  pub initial : InitialData
 
 -- what the traces of the table begin with
-abbrev pub setup : Identity → Setup
-setup id = setup_of id.opening
+abbrev pub initial_state : Identity → InitialState
+initial_state id = initial_state_of id.initial
 
 -- what a table is opened with that goes on from what was loaded
-abbrev pub opening_by : (first second : ℕ) → Loaded first second → Opened
-opening_by first second l = opened_by first second l.words.items l.layout l.rules.rules l.groups
+abbrev pub initial_data_of : (first second : ℕ) → InitialTable first second → InitialData
+initial_data_of first second l = initial_data_of_words first second l.words.items l.layout l.rules.rules l.groups
 
 -- the table is of these widths and has a word for each place
 pub record IsFitted (first second : ℕ) (id : Identity) (layout : Layout) : Type 0 where
   pub shape : IsShape first second
-  pub first_bits : id.opening.first ≡ first
-  pub second_bits : id.opening.second ≡ second
-  pub firsts : layout.firsts ≡ length id.opening.firsts
-  pub seconds : layout.seconds ≡ length id.opening.seconds
-  pub workers : layout.workers ≡ id.opening.workers
-  pub words : id.words.words ≡ word_count id.opening
-  pub low : word_count id.opening < 2 ^ 63
+  pub first_bits : id.initial.first ≡ first
+  pub second_bits : id.initial.second ≡ second
+  pub firsts : layout.firsts ≡ length id.initial.firsts
+  pub seconds : layout.seconds ≡ length id.initial.seconds
+  pub workers : layout.workers ≡ id.initial.workers
+  pub words : id.words.words ≡ word_count id.initial
+  pub low : word_count id.initial < 2 ^ 63
 
 -- ---- its writer
 
@@ -69,54 +69,54 @@ steps_of w = w.table.readers
 
 -- the token, and the greatest whose check has passed
 abbrev pub token_of : WriterState → ℕ
-token_of w = token_after w.identity.opening.token (steps_of w)
+token_of w = token_after w.identity.initial.token (steps_of w)
 
 abbrev pub passed_of : WriterState → ℕ
-passed_of w = passed_after w.identity.opening.workers (steps_of w)
+passed_of w = passed_after w.identity.initial.workers (steps_of w)
 
 -- what they leave
-abbrev pub left_by : WriterState → Tables
-left_by w = tables (setup w.identity) (steps_of w)
+abbrev pub state_of_writer : WriterState → TableState
+state_of_writer w = state_after (initial_state w.identity) (steps_of w)
 
 -- the parts of a change of the table that was opened so, by its writer's steps
-unfoldable pub by_steps : Opened → Transitions (List WriterStep)
-by_steps opening = by_steps_from opening.workers opening.token
+unfoldable pub by_steps : InitialData → Transitions (List WriterStep)
+by_steps initial = by_steps_from initial.workers initial.token
 
 -- each of the writer's steps might come after those before it, and no update runs; the versions are those
 -- that were done, the rules are those of the last one, and by them the words answer each address; the groups
 -- that wait are those that the steps retired; and in no update was a word stored twice
 pub record IsAtRest (w : WriterState) : Type 0 where
-  pub written : IsWritten (setup w.identity) (steps_of w)
-  pub done : done (left_by w) ≡ w.table.begun
-  pub begun : begun (left_by w) ≡ w.table.begun
-  pub rules : (left_by w).history w.table.begun ≡ w.table.rules
-  pub answers : (a : ℕ) → a < addresses (setup w.identity)
-      → IsAnswer (setup w.identity) w.table.rules a
-      (answer (setup w.identity) (left_by w).words a)
-  pub limbo : IsLimbo (setup w.identity) (left_by w) w.table.limbo
+  pub written : IsWritten (initial_state w.identity) (steps_of w)
+  pub done : updates_done_in (state_of_writer w) ≡ w.table.begun
+  pub begun : updates_begun_in (state_of_writer w) ≡ w.table.begun
+  pub rules : (state_of_writer w).history w.table.begun ≡ w.table.rules
+  pub answers : (a : ℕ) → a < addresses (initial_state w.identity)
+      → IsAnswer (initial_state w.identity) w.table.rules a
+      (answer (initial_state w.identity) (state_of_writer w).words a)
+  pub limbo : IsLimbo (initial_state w.identity) (state_of_writer w) w.table.limbo
   pub once : StoresOnce (steps_of w)
 
 -- the writer of a table that was just opened with these rules
-abbrev pub opens_with : Identity → Config → RuleMap → WriterState
-opens_with id config rules = record {
+abbrev pub initial_writer : Identity → Config → RuleMap → WriterState
+initial_writer id config rules = record {
   identity = id;
   config = config;
   table = record { rules = rules; readers = []; limbo = []; begun = 0 };
 }
 
 -- the ledger with the steps that the seat knows
-abbrev pub state_by : {first second : ℕ} → Ledger first second → View → State (List WriterStep)
-state_by ledger v = state_of ledger.rules.rules v.seen ledger.books ledger.versions
+abbrev pub state_by : {first second : ℕ} → ControlState first second → View → State (List WriterStep)
+state_by control v = state_of control.rules.rules v.seen control.pool control.versions
 
 -- after the steps of the seat the ledger rests
-abbrev pub RestsBy : (first second : ℕ) → Ledger first second → View → Type 0
-RestsBy first second ledger v = IsResting first second (setup_of v.opening) v.seen
-    ledger.config ledger.rules ledger.books ledger.versions
+abbrev pub IsRestingBy : (first second : ℕ) → ControlState first second → View → Type 0
+IsRestingBy first second control v = IsResting first second (initial_state_of v.initial) v.seen
+    control.config control.rules control.pool control.versions
 
 -- the same, and the tokens are not past their bound
-pub record IsReady (first second : ℕ) (ledger : Ledger first second) (v : View) : Type 0 where
-  pub rests : RestsBy first second ledger v
-  pub token : (tables (setup_of v.opening) v.seen).token ≤ 2 ^ 62
+pub record IsReady (first second : ℕ) (control : ControlState first second) (v : View) : Type 0 where
+  pub rests : IsRestingBy first second control v
+  pub token : (state_after (initial_state_of v.initial) v.seen).token ≤ 2 ^ 62
 
 -- of what the seat knows only the writer's steps have changed
 abbrev pub OnlySees : View → View → Type 0
@@ -140,8 +140,8 @@ hop_or default None = default
 -- ---- states as pairs, which comparisons go by
 
 abbrev pub coded_identity : Coded Identity
-coded_identity = code_by (TableId × Opened) (coded× table_id_coded coded_opened)
-    (λ i. (i.words, i.opening)) (λ p. record { words = p.0; opening = p.1 }) (λ _. refl)
+coded_identity = code_by (TableId × InitialData) (coded× table_id_coded coded_initial_data)
+    (λ i. (i.words, i.initial)) (λ p. record { words = p.0; initial = p.1 }) (λ _. refl)
 
 abbrev pub coded_writer : Coded WriterState
 coded_writer =

@@ -8,32 +8,32 @@ use Rattle.fib_model.specs.State.{State}
 use Rattle.lpm_trace.specs.declared.step.WriterStep.{WriterStep}
 use Rattle.lpm_trace.specs.declared.step.WriterStep.TheVariants.{StoreFirst}
 use Rattle.lpm_trace.specs.Counts.{token_after, first_word_after}
-use Rattle.shared_words.specs.Opened.{Opened}
+use Rattle.shared_words.specs.Initial.{InitialData}
 
 -- after these steps the block has this group, by its word
-abbrev pub HasGroup : Opened → List WriterStep → ℕ → ℕ → Type 0
-HasGroup opening steps block group = (block < length opening.firsts)
-    × (entry_in (first_word_after opening.firsts steps block) ≡ Group group)
+abbrev pub HasGroup : InitialData → List WriterStep → ℕ → ℕ → Type 0
+HasGroup initial steps block group = (block < length initial.firsts)
+    × (entry_in (first_word_after initial.firsts steps block) ≡ Group group)
 
 -- the group was given up under this token: in these steps the word of a block that had it was stored over,
 -- and the token is the next one then
-pub record IsGivenUp (opening : Opened) (steps : List WriterStep) (group token : ℕ) : Type 0 where
+pub record IsGivenUp (initial : InitialData) (steps : List WriterStep) (group token : ℕ) : Type 0 where
   pub newer : List WriterStep
   pub older : List WriterStep
   pub block : ℕ
   pub word : ℕ
   pub split : steps ≡ newer ++ StoreFirst block word ∷ older
-  pub had : HasGroup opening older block group
-  pub next : token ≡ token_after opening.token older + 1
+  pub had : HasGroup initial older block group
+  pub next : token ≡ token_after initial.token older + 1
 
 -- the group isn't free: a block has it, or it waits in limbo under the token by which it was given up
-abbrev pub IsOccupied : Opened → State (List WriterStep) → ℕ → Type 0
-IsOccupied opening s group = ((block : ℕ) × HasGroup opening s.readers block group)
-    ⊎ ((token : ℕ) × Contains s.limbo token × IsGivenUp opening s.readers group token)
+abbrev pub IsOccupied : InitialData → State (List WriterStep) → ℕ → Type 0
+IsOccupied initial s group = ((block : ℕ) × HasGroup initial s.readers block group)
+    ⊎ ((token : ℕ) × Contains s.limbo token × IsGivenUp initial s.readers group token)
 
 -- A block that gets a group in a command, which leads from s to z, gets the least that is free: each
 -- group of a lower number is occupied.
-pub record TakesLeast (opening : Opened) (s z : State (List WriterStep)) : Type 0 where
+pub record TakesLeast (initial : InitialData) (s z : State (List WriterStep)) : Type 0 where
   pub least : (block group lower : ℕ)
-      → HasGroup opening z.readers block group → ¬ HasGroup opening s.readers block group
-      → lower < group → IsOccupied opening z lower
+      → HasGroup initial z.readers block group → ¬ HasGroup initial s.readers block group
+      → lower < group → IsOccupied initial z lower

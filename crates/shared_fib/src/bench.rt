@@ -67,7 +67,7 @@ fn next_pass<const FIRST: u32, const SECOND: u32>(
     ensures pass { result ≡ record {
       table = record {
         words = seat.old.table;
-        opening = seat.old.view.opening;
+        initial = seat.old.view.initial;
       };
       worker = number;
       online = false;
@@ -92,7 +92,7 @@ impl Bench {
         ensures view { (made : ℕ) × (seat.new.view ≡ record seat.old.view { made = made }) }
         ensures full { IfOk result (IsFullBench (record {
           words = seat.old.table;
-          opening = seat.old.view.opening;
+          initial = seat.old.view.initial;
         })) }
     {
         let workers = table.workers();
@@ -117,7 +117,7 @@ impl Bench {
         ensures registered { IfOk result (λ p. (slice_get self.old worker ≡ Some (Some p))
             × (self.new ≡ slice_set self.old worker None)) }
         ensures no_such_worker { IsErrOf result RegisterError.NoSuchWorker
-            ↔ (table.now.opening.workers ≤ worker) }
+            ↔ (table.now.initial.workers ≤ worker) }
         ensures taken { IsErrOf result RegisterError.Taken ↔ (slice_get self.old worker ≡ Some None) }
         ensures unchanged { OnErr result (self.new ≡ self.old) }
     {

@@ -5,15 +5,15 @@ ghost use Rattle.lpm_trace.specs.declared.step.WriterStep.TheVariants.{BumpToken
 ghost use Rattle.lpm_trace.specs.Laws.{IsChecked};
 ghost use Rattle.lpm_writer.specs.Steps.{Checks};
 ghost use Rattle.lpm_writer.specs.Waiting.{tokens_of};
-ghost use Rattle.shared_words.specs.Opened.{setup_of};
+ghost use Rattle.shared_words.specs.Initial.{initial_state_of};
 ghost use Rattle.shared_words.specs.Seats.{IsOf, with_step};
 ghost use Rattle.shared_fib.specs.Lent.{SharedDid, passed_by, token_by};
 ghost use Rattle.shared_fib.specs.GracePeriods.{IsInGrace, WaitsBy};
-ghost use Rattle.shared_fib.specs.Running.{IsReady, OnlySees, RestsBy, passed_of, state_by, steps_of, token_of};
+ghost use Rattle.shared_fib.specs.Running.{IsReady, OnlySees, IsRestingBy, passed_of, state_by, steps_of, token_of};
 
 use crate::table::Words;
 use crate::{SharedMemory, SharedTable, Writer};
-use lpm_writer::{Exhausted, Ledger, check_synchronize, start_synchronize};
+use lpm_writer::{ControlState, Exhausted, check_synchronize, start_synchronize};
 use qsbr::Busy;
 use shared_words::WriterSeat;
 use std::marker::Model;
@@ -22,7 +22,7 @@ use std::marker::Model;
 /// passed. The check gives the writer back once it passes; until then there are no changes.
 #[derive(Drop)]
 pub struct GracePeriod<const FIRST: u32, const SECOND: u32> {
-    ledger: Ledger<FIRST, SECOND>,
+    control: ControlState<FIRST, SECOND>,
     seat: WriterSeat,
 }
 
@@ -35,12 +35,12 @@ impl<const FIRST: u32, const SECOND: u32> Model for GracePeriod<FIRST, SECOND> {
     ghost coded = { coded_writer };
 
     ghost view = { λ g. record {
-      identity = record { words = g.seat.table; opening = g.seat.view.opening };
-      config = g.ledger.config;
-      table = state_by g.ledger g.seat.view;
+      identity = record { words = g.seat.table; initial = g.seat.view.initial };
+      config = g.control.config;
+      table = state_by g.control g.seat.view;
     } };
 
-    ghost invariant = { λ g. IsInGrace FIRST SECOND g.ledger g.seat.view };
+    ghost invariant = { λ g. IsInGrace FIRST SECOND g.control g.seat.view };
 }
 
 /// A grace period that wasn't started: fewer tokens than groups are left.
@@ -60,92 +60,92 @@ pub struct Held<const FIRST: u32, const SECOND: u32> {
 }
 
 fn start_over<const FIRST: u32, const SECOND: u32>(
-    ledger: &Ledger<FIRST, SECOND>,
+    control: &ControlState<FIRST, SECOND>,
     memory: &mut SharedMemory<'_, FIRST, SECOND>,
 ) -> Result<(), Exhausted>
-    requires did { SharedDid memory.old (setup_of memory.old.view.opening) memory.old.view.seen }
-    requires rests { RestsBy FIRST SECOND ledger.now memory.old.view }
+    requires did { SharedDid memory.old (initial_state_of memory.old.view.initial) memory.old.view.seen }
+    requires rests { IsRestingBy FIRST SECOND control.now memory.old.view }
     ensures exhausted { IsErr result
-        ↔ (2 ^ 62 < token_by memory.old.view + ledger.now.config.groups) }
+        ↔ (2 ^ 62 < token_by memory.old.view + control.now.config.groups) }
     ensures started { OnOk result (memory.new.view ≡ with_step memory.old.view BumpToken) }
-    ensures waits { OnOk result (WaitsBy FIRST SECOND ledger.now memory.new.view) }
+    ensures waits { OnOk result (WaitsBy FIRST SECOND control.now memory.new.view) }
     ensures untouched { OnErr result (memory.new ≡ memory.old) }
     ensures name { memory.new.name ≡ memory.old.name }
     ensures table { memory.new.table ≡ memory.old.table }
 {
-    start_synchronize(ledger, memory)
+    start_synchronize(control, memory)
 }
 
 fn start_by<const FIRST: u32, const SECOND: u32>(
-    ledger: &Ledger<FIRST, SECOND>,
+    control: &ControlState<FIRST, SECOND>,
     seat: &mut WriterSeat,
     table: &Words<FIRST, SECOND>,
 ) -> Result<(), Exhausted>
     requires own { IsOf table.now seat.old.table seat.old.view }
-    requires ready { IsReady FIRST SECOND ledger.now seat.old.view }
+    requires ready { IsReady FIRST SECOND control.now seat.old.view }
     ensures exhausted { IsErr result
-        ↔ (2 ^ 62 < token_by seat.old.view + ledger.now.config.groups) }
+        ↔ (2 ^ 62 < token_by seat.old.view + control.now.config.groups) }
     ensures started { OnOk result
         (seat.new.view ≡ with_step seat.old.view BumpToken) }
-    ensures waits { OnOk result (IsInGrace FIRST SECOND ledger.now seat.new.view) }
+    ensures waits { OnOk result (IsInGrace FIRST SECOND control.now seat.new.view) }
     ensures untouched { OnErr result (seat.new.view ≡ seat.old.view) }
     ensures seat { seat.new.table ≡ seat.old.table }
 {
     let mut memory = SharedMemory::new(table, seat);
-    let came = start_over(ledger, &mut memory);
+    let came = start_over(control, &mut memory);
     memory.done();
     came
 }
 
 fn check_over<const FIRST: u32, const SECOND: u32>(
-    ledger: &mut Ledger<FIRST, SECOND>,
+    control: &mut ControlState<FIRST, SECOND>,
     memory: &mut SharedMemory<'_, FIRST, SECOND>,
 ) -> Result<(), Busy>
-    requires did { SharedDid memory.old (setup_of memory.old.view.opening) memory.old.view.seen }
-    requires waits { WaitsBy FIRST SECOND ledger.old memory.old.view }
-    ensures checks { Checks memory.old.view.opening.workers memory.old.view.seen
+    requires did { SharedDid memory.old (initial_state_of memory.old.view.initial) memory.old.view.seen }
+    requires waits { WaitsBy FIRST SECOND control.old memory.old.view }
+    ensures checks { Checks memory.old.view.initial.workers memory.old.view.seen
         (token_by memory.old.view) result memory.new.view.seen }
-    ensures queued { OnOk result (0 < ledger.old.config.workers
+    ensures queued { OnOk result (0 < control.old.config.workers
         → All (λ token. token ≤ passed_by memory.new.view)
-        (tokens_of ledger.new.books.queue.items)) }
-    ensures rests { OnOk result (RestsBy FIRST SECOND ledger.new memory.new.view) }
-    ensures waits { OnErr result (WaitsBy FIRST SECOND ledger.new memory.new.view) }
-    ensures same { ledger.new ≡ record ledger.old {
-      books = record ledger.old.books { passed = ledger.new.books.passed };
+        (tokens_of control.new.pool.queue.items)) }
+    ensures rests { OnOk result (IsRestingBy FIRST SECOND control.new memory.new.view) }
+    ensures waits { OnErr result (WaitsBy FIRST SECOND control.new memory.new.view) }
+    ensures same { control.new ≡ record control.old {
+      pool = record control.old.pool { passed = control.new.pool.passed };
     } }
     ensures name { memory.new.name ≡ memory.old.name }
     ensures table { memory.new.table ≡ memory.old.table }
     ensures view { OnlySees memory.old.view memory.new.view }
 {
-    check_synchronize(ledger, memory)
+    check_synchronize(control, memory)
 }
 
 fn check_by<const FIRST: u32, const SECOND: u32>(
-    ledger: &mut Ledger<FIRST, SECOND>,
+    control: &mut ControlState<FIRST, SECOND>,
     seat: &mut WriterSeat,
     table: &Words<FIRST, SECOND>,
 ) -> Result<(), Busy>
     requires own { IsOf table.now seat.old.table seat.old.view }
-    requires waits { IsInGrace FIRST SECOND ledger.old seat.old.view }
-    ensures checks { Checks seat.old.view.opening.workers seat.old.view.seen
+    requires waits { IsInGrace FIRST SECOND control.old seat.old.view }
+    ensures checks { Checks seat.old.view.initial.workers seat.old.view.seen
         (token_by seat.old.view) result seat.new.view.seen }
     ensures token { token_by seat.new.view
         ≡ token_by seat.old.view }
-    ensures checked { OnOk result (IsChecked seat.old.view.opening.workers
-        seat.old.view.opening.token seat.new.view.seen (token_by seat.old.view)) }
-    ensures queued { OnOk result (0 < ledger.old.config.workers
+    ensures checked { OnOk result (IsChecked seat.old.view.initial.workers
+        seat.old.view.initial.token seat.new.view.seen (token_by seat.old.view)) }
+    ensures queued { OnOk result (0 < control.old.config.workers
         → All (λ token. token ≤ passed_by seat.new.view)
-        (tokens_of ledger.new.books.queue.items)) }
-    ensures ready { OnOk result (IsReady FIRST SECOND ledger.new seat.new.view) }
-    ensures waits { OnErr result (IsInGrace FIRST SECOND ledger.new seat.new.view) }
-    ensures same { ledger.new ≡ record ledger.old {
-      books = record ledger.old.books { passed = ledger.new.books.passed };
+        (tokens_of control.new.pool.queue.items)) }
+    ensures ready { OnOk result (IsReady FIRST SECOND control.new seat.new.view) }
+    ensures waits { OnErr result (IsInGrace FIRST SECOND control.new seat.new.view) }
+    ensures same { control.new ≡ record control.old {
+      pool = record control.old.pool { passed = control.new.pool.passed };
     } }
     ensures seat { seat.new.table ≡ seat.old.table }
     ensures view { OnlySees seat.old.view seat.new.view }
 {
     let mut memory = SharedMemory::new(table, seat);
-    let came = check_over(ledger, &mut memory);
+    let came = check_over(control, &mut memory);
     memory.done();
     seat.history();
     came
@@ -171,11 +171,11 @@ impl<const FIRST: u32, const SECOND: u32> Writer<FIRST, SECOND> {
             (λ period. token_of period ≡ token_of self.entry + 1) }
         ensures unchanged { IfErr result (λ not_started. not_started.writer ≡ self.entry) }
     {
-        let Writer { ledger, mut seat } = self;
-        match start_by(&ledger, &mut seat, &table.words) {
-            Ok(()) => Ok(GracePeriod::new(ledger, seat)),
+        let Writer { control, mut seat } = self;
+        match start_by(&control, &mut seat, &table.words) {
+            Ok(()) => Ok(GracePeriod::new(control, seat)),
             Err(Exhausted) => Err(NotStarted {
-                writer: Writer::new(ledger, seat),
+                writer: Writer::new(control, seat),
             }),
         }
     }
@@ -183,15 +183,15 @@ impl<const FIRST: u32, const SECOND: u32> Writer<FIRST, SECOND> {
 
 impl<const FIRST: u32, const SECOND: u32> GracePeriod<FIRST, SECOND> {
     // The grace period of this ledger and this seat.
-    fn new(ledger: Ledger<FIRST, SECOND>, seat: WriterSeat) -> Self
-        requires { IsInGrace FIRST SECOND ledger seat.view }
+    fn new(control: ControlState<FIRST, SECOND>, seat: WriterSeat) -> Self
+        requires { IsInGrace FIRST SECOND control seat.view }
         ensures { result ≡ record {
-          identity = record { words = seat.table; opening = seat.view.opening };
-          config = ledger.entry.config;
-          table = state_by ledger.entry seat.view;
+          identity = record { words = seat.table; initial = seat.view.initial };
+          config = control.entry.config;
+          table = state_by control.entry seat.view;
         } }
     {
-        GracePeriod { ledger, seat }
+        GracePeriod { control, seat }
     }
 
     /// Checks the token once: it loads each worker's counter, up to the first that is neither 0 nor at
@@ -205,17 +205,17 @@ impl<const FIRST: u32, const SECOND: u32> GracePeriod<FIRST, SECOND> {
         table: &SharedTable<FIRST, SECOND>,
     ) -> Result<Writer<FIRST, SECOND>, Held<FIRST, SECOND>>
         requires own { self.identity ≡ table.now }
-        ensures passes { IfOk result (λ writer. Checks table.now.opening.workers (steps_of self.entry)
+        ensures passes { IfOk result (λ writer. Checks table.now.initial.workers (steps_of self.entry)
             (token_of self.entry) (Ok tt) (steps_of writer)) }
-        ensures checked { IfOk result (λ writer. IsChecked table.now.opening.workers
-            table.now.opening.token (steps_of writer) (token_of self.entry)) }
+        ensures checked { IfOk result (λ writer. IsChecked table.now.initial.workers
+            table.now.initial.token (steps_of writer) (token_of self.entry)) }
         ensures queued { IfOk result (λ writer. 0 < self.entry.config.workers
             → All (λ token. token ≤ passed_of writer) writer.table.limbo) }
         ensures same { IfOk result (λ writer. writer ≡ record self.entry {
           table = record self.entry.table { readers = steps_of writer };
         }) }
         ensures token { IfOk result (λ writer. token_of writer ≡ token_of self.entry) }
-        ensures stopped { IfErr result (λ held. Checks table.now.opening.workers (steps_of self.entry)
+        ensures stopped { IfErr result (λ held. Checks table.now.initial.workers (steps_of self.entry)
             (token_of self.entry) (Err held.busy) (steps_of held.period)) }
         ensures goes_on { IfErr result (λ held. held.period ≡ record self.entry {
           table = record self.entry.table { readers = steps_of held.period };
@@ -224,13 +224,13 @@ impl<const FIRST: u32, const SECOND: u32> GracePeriod<FIRST, SECOND> {
             (λ held. token_of held.period ≡ token_of self.entry) }
     {
         let GracePeriod {
-            mut ledger,
+            mut control,
             mut seat,
         } = self;
-        match check_by(&mut ledger, &mut seat, &table.words) {
-            Ok(()) => Ok(Writer::new(ledger, seat)),
+        match check_by(&mut control, &mut seat, &table.words) {
+            Ok(()) => Ok(Writer::new(control, seat)),
             Err(busy) => Err(Held {
-                period: GracePeriod::new(ledger, seat),
+                period: GracePeriod::new(control, seat),
                 busy,
             }),
         }

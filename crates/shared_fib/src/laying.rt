@@ -1,7 +1,7 @@
 //! How the words of a running table are laid out, one behind the other.
 
 ghost use Rattle.std.specs.Prelude.{◌≡◌, ◌+◌, ◌≤◌, ◌++◌, ◌∷◌, length, map, replicate, vec_len, IfOk, OnOk};
-ghost use Rattle.shared_words.specs.Layout.{packed, pair_at, pairs};
+ghost use Rattle.shared_words.specs.Layout.{packed_words, pair_at, pairs};
 
 use lpm_cells::PlainCells;
 use shared_words::{Layout, pairs};
@@ -27,7 +27,7 @@ fn put_joined(words: &mut Vec<u64>, twos: &[[u32; 2]]) -> Result<(), AllocError>
 /// Puts the words that these of 32 bits share last. The last of an odd number of them has one for itself.
 fn pack(words: &mut Vec<u64>, narrow: &[u32]) -> Result<(), AllocError>
     ensures len { OnOk result (vec_len words.new ≡ vec_len words.old + pairs (length narrow.now)) }
-    ensures items { OnOk result (words.new.items ≡ words.old.items ++ packed narrow.now) }
+    ensures items { OnOk result (words.new.items ≡ words.old.items ++ packed_words narrow.now) }
 {
     let (twos, rest) = narrow.as_chunks::<2>();
     put_joined(words, twos)?;
@@ -47,8 +47,8 @@ fn lay<const FIRST: u32, const SECOND: u32>(
 ) -> Result<Vec<u64>, AllocError>
     requires workers { workers ≤ 2048 }
     ensures { IfOk result (λ words. words.items
-        ≡ 0 ∷ token ∷ (packed cells.now.firsts
-        ++ (packed cells.now.seconds ++ replicate workers 0))) }
+        ≡ 0 ∷ token ∷ (packed_words cells.now.firsts
+        ++ (packed_words cells.now.seconds ++ replicate workers 0))) }
 {
     let firsts = cells.first_words();
     let seconds = cells.second_words();
@@ -71,8 +71,8 @@ pub(crate) fn pack_all<const FIRST: u32, const SECOND: u32>(
 ) -> Result<(Vec<u64>, Layout), AllocError>
     requires workers { workers ≤ 2048 }
     ensures words { IfOk result (λ r. r.0.items
-        ≡ 0 ∷ token ∷ (packed cells.entry.firsts
-        ++ (packed cells.entry.seconds ++ replicate workers 0))) }
+        ≡ 0 ∷ token ∷ (packed_words cells.entry.firsts
+        ++ (packed_words cells.entry.seconds ++ replicate workers 0))) }
     ensures firsts { IfOk result (λ r. r.1.firsts ≡ length cells.entry.firsts) }
     ensures seconds { IfOk result (λ r. r.1.seconds ≡ length cells.entry.seconds) }
     ensures workers { IfOk result (λ r. r.1.workers ≡ workers) }

@@ -7,9 +7,9 @@ use lpm_writer::Memory;
 
 impl<'a, const FIRST: u32, const SECOND: u32> Cells for SharedMemory<'a, FIRST, SECOND> {
     ghost use Rattle.lpm_trace.specs.declared.step.WriterStep.TheVariants.{StoreFirst, StoreSecond};
-    ghost use Rattle.shared_fib.specs.Lent.{SharedMay, SharedDoes, left_by};
+    ghost use Rattle.shared_fib.specs.Lent.{SharedMay, SharedDoes, state_of_lent};
 
-    ghost words = { λ m. (left_by m).words };
+    ghost words = { λ m. (state_of_lent m).words };
 
     ghost may_set_first = { λ m i w. SharedMay m (StoreFirst i w) };
 
@@ -41,13 +41,13 @@ impl<'a, const FIRST: u32, const SECOND: u32> Cells for SharedMemory<'a, FIRST, 
 }
 
 impl<'a, const FIRST: u32, const SECOND: u32> Memory for SharedMemory<'a, FIRST, SECOND> {
-    ghost use Rattle.shared_fib.specs.Lent.{SharedDid, SharedDoes, left_by};
+    ghost use Rattle.shared_fib.specs.Lent.{SharedDid, SharedDoes, state_of_lent};
     ghost use Rattle.shared_fib.specs.LentLaws.{shared_follows, shared_shows, shared_may};
     ghost use Rattle.lpm_trace.specs.declared.step.WriterStep.TheVariants.{StoreFirst, StoreSecond};
 
-    ghost worker_count = { λ m. m.view.opening.workers };
+    ghost worker_count = { λ m. m.view.initial.workers };
 
-    ghost newest = { λ m. (left_by m).token };
+    ghost newest = { λ m. (state_of_lent m).token };
 
     ghost did = { λ m c steps. SharedDid m c steps };
 

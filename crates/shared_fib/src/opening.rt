@@ -6,22 +6,22 @@ ghost use Rattle.lpm_bits.specs.Widths.{IsShape};
 ghost use Rattle.lpm_limits.specs.Limits.{IsConfig};
 ghost use Rattle.fib_model.specs.Counting.{by_counters};
 ghost use Rattle.fib.specs.Fib.{IsSound};
-ghost use Rattle.lpm_trace.specs.Tables.{IsSettled};
-ghost use Rattle.shared_words.specs.Opened.{setup_of};
+ghost use Rattle.lpm_trace.specs.States.{IsSettled};
+ghost use Rattle.shared_words.specs.Initial.{initial_state_of};
 ghost use Rattle.shared_words.specs.Rule.{writer_view};
 ghost use Rattle.shared_words.specs.Seats.{IsOf};
-ghost use Rattle.shared_fib.specs.Loaded.{ArePacked, opened_of};
-ghost use Rattle.lpm_writer.specs.Opening.{opening_setup};
+ghost use Rattle.shared_fib.specs.Initial.{ArePacked, initial_data_by};
+ghost use Rattle.lpm_writer.specs.Blank.{blank_state};
 ghost use Rattle.shared_fib.specs.Loading.{IsLoaded};
 ghost use Rattle.shared_fib.specs.Passes.{IsFullBench};
-ghost use Rattle.shared_fib.specs.Running.{opening_by, opens_with, setup};
+ghost use Rattle.shared_fib.specs.Running.{initial_data_of, initial_writer, initial_state};
 
 use crate::laying::pack_all;
 use crate::table::Words;
-use crate::{Bench, Loaded, SharedTable, Writer};
+use crate::{Bench, InitialTable, SharedTable, Writer};
 use defer_queue::DeferQueue;
 use fib::Fib;
-use lpm_writer::{Books, Ledger, OpenError, PlainMemory};
+use lpm_writer::{ControlState, GroupPool, OpenError, PlainMemory};
 use qsbr::Config;
 use shared_words::WriterSeat;
 use std::alloc::{AllocError, Global};
@@ -29,16 +29,16 @@ use std::alloc::{AllocError, Global};
 /// The words of a table that goes on from this one, and the seat of its writer.
 fn open_words<const FIRST: u32, const SECOND: u32>(
     alloc: Global,
-    loaded: &Loaded<FIRST, SECOND>,
+    loaded: &InitialTable<FIRST, SECOND>,
 ) -> Result<(Words<FIRST, SECOND>, WriterSeat), AllocError>
     requires shape { IsShape FIRST SECOND }
-    requires packed { ArePacked (opening_by FIRST SECOND loaded.now)
+    requires packed { ArePacked (initial_data_of FIRST SECOND loaded.now)
         loaded.now.words.items loaded.now.layout }
-    requires settled { IsSettled (setup_of (opening_by FIRST SECOND loaded.now)) }
-    ensures opening { IfOk result (λ r. r.0.opening ≡ opening_by FIRST SECOND loaded.now) }
+    requires settled { IsSettled (initial_state_of (initial_data_of FIRST SECOND loaded.now)) }
+    ensures initial { IfOk result (λ r. r.0.initial ≡ initial_data_of FIRST SECOND loaded.now) }
     ensures own { IfOk result (λ r. IsOf r.0 r.1.table r.1.view) }
     ensures view { IfOk result
-        (λ r. r.1.view ≡ writer_view (opening_by FIRST SECOND loaded.now)) }
+        (λ r. r.1.view ≡ writer_view (initial_data_of FIRST SECOND loaded.now)) }
 {
     shared_words::open(alloc, loaded.words.as_slice(), loaded.layout, loaded)
 }
@@ -47,32 +47,32 @@ fn open_words<const FIRST: u32, const SECOND: u32>(
 /// thread are given up as soon as they are packed.
 fn load<const FIRST: u32, const SECOND: u32>(
     alloc: Global,
-    ledger: Ledger<FIRST, SECOND>,
+    control: ControlState<FIRST, SECOND>,
     memory: PlainMemory<FIRST, SECOND>,
-) -> Result<(Config, DeferQueue, Loaded<FIRST, SECOND>), AllocError>
-    requires sound { IsSound FIRST SECOND ledger memory }
-    requires none { ledger.books.queue.items ≡ [] }
-    ensures config { IfOk result (λ r. r.0 ≡ ledger.entry.config) }
-    ensures rules { IfOk result (λ r. r.2.rules ≡ ledger.entry.rules) }
-    ensures opening { IfOk result (λ r. opening_by FIRST SECOND r.2 ≡ opened_of FIRST SECOND
-        memory.entry.cells ledger.entry.rules.rules ledger.entry.books.groups
-        ledger.entry.config.workers memory.entry.domain.token) }
+) -> Result<(Config, DeferQueue, InitialTable<FIRST, SECOND>), AllocError>
+    requires sound { IsSound FIRST SECOND control memory }
+    requires none { control.pool.queue.items ≡ [] }
+    ensures config { IfOk result (λ r. r.0 ≡ control.entry.config) }
+    ensures rules { IfOk result (λ r. r.2.rules ≡ control.entry.rules) }
+    ensures initial { IfOk result (λ r. initial_data_of FIRST SECOND r.2 ≡ initial_data_by FIRST SECOND
+        memory.entry.cells control.entry.rules.rules control.entry.pool.groups
+        control.entry.config.workers memory.entry.domain.token) }
     ensures loaded { IfOk result (λ r. IsLoaded FIRST SECOND r.0 r.1 r.2) }
 {
     let PlainMemory { cells, domain } = memory;
-    let Ledger {
+    let ControlState {
         config,
         rules,
-        books,
+        pool,
         versions: _,
-    } = ledger;
-    let Books {
+    } = control;
+    let GroupPool {
         groups,
         queue,
         passed: _,
-    } = books;
+    } = pool;
     let (words, layout) = pack_all(alloc, cells, domain.token(), config.workers)?;
-    let loaded = Loaded {
+    let loaded = InitialTable {
         words,
         layout,
         rules,
@@ -86,25 +86,25 @@ fn load<const FIRST: u32, const SECOND: u32>(
 fn first_ledger<const FIRST: u32, const SECOND: u32>(
     config: Config,
     queue: DeferQueue,
-    loaded: Loaded<FIRST, SECOND>,
-) -> Ledger<FIRST, SECOND>
+    loaded: InitialTable<FIRST, SECOND>,
+) -> ControlState<FIRST, SECOND>
     ensures { result ≡ record {
       config = config;
       rules = loaded.entry.rules;
-      books = record { groups = loaded.entry.groups; queue = queue; passed = 0 };
+      pool = record { groups = loaded.entry.groups; queue = queue; passed = 0 };
       versions = 0;
     } }
 {
-    let Loaded { rules, groups, .. } = loaded;
-    let books = Books {
+    let InitialTable { rules, groups, .. } = loaded;
+    let pool = GroupPool {
         groups,
         queue,
         passed: 0,
     };
-    Ledger {
+    ControlState {
         config,
         rules,
-        books,
+        pool,
         versions: 0,
     }
 }
@@ -115,39 +115,39 @@ pub(crate) fn go_on<const FIRST: u32, const SECOND: u32>(
     alloc: Global,
     config: Config,
     queue: DeferQueue,
-    loaded: Loaded<FIRST, SECOND>,
+    loaded: InitialTable<FIRST, SECOND>,
 ) -> Result<(SharedTable<FIRST, SECOND>, Writer<FIRST, SECOND>, Bench), AllocError>
     requires { IsLoaded FIRST SECOND config queue loaded }
-    ensures opening { IfOk result (λ r. r.0.opening ≡ opening_by FIRST SECOND loaded.entry) }
-    ensures opened { IfOk result (λ r. r.1 ≡ opens_with r.0 config loaded.entry.rules.rules) }
-    ensures token { IfOk result (λ r. r.0.opening.token
-        ≡ (opening_by FIRST SECOND loaded.entry).token) }
-    ensures workers { IfOk result (λ r. r.0.opening.workers ≡ loaded.entry.layout.workers) }
+    ensures initial { IfOk result (λ r. r.0.initial ≡ initial_data_of FIRST SECOND loaded.entry) }
+    ensures opened { IfOk result (λ r. r.1 ≡ initial_writer r.0 config loaded.entry.rules.rules) }
+    ensures token { IfOk result (λ r. r.0.initial.token
+        ≡ (initial_data_of FIRST SECOND loaded.entry).token) }
+    ensures workers { IfOk result (λ r. r.0.initial.workers ≡ loaded.entry.layout.workers) }
     ensures bench { IfOk result (λ r. IsFullBench r.0 r.2) }
 {
     let (words, mut seat) = open_words(alloc, &loaded)?;
     let bench = Bench::full(alloc, &words, &mut seat)?;
-    let ledger = first_ledger(config, queue, loaded);
-    Ok((SharedTable::new(words), Writer::new(ledger, seat), bench))
+    let control = first_ledger(config, queue, loaded);
+    Ok((SharedTable::new(words), Writer::new(control, seat), bench))
 }
 
 /// A running table that goes on from these parts, where no group waits.
 fn begin<const FIRST: u32, const SECOND: u32>(
     alloc: Global,
-    ledger: Ledger<FIRST, SECOND>,
+    control: ControlState<FIRST, SECOND>,
     memory: PlainMemory<FIRST, SECOND>,
 ) -> Result<(SharedTable<FIRST, SECOND>, Writer<FIRST, SECOND>, Bench), AllocError>
-    requires sound { IsSound FIRST SECOND ledger memory }
-    requires none { ledger.books.queue.items ≡ [] }
-    ensures opening { IfOk result (λ r. r.0.opening ≡ opened_of FIRST SECOND memory.entry.cells
-        ledger.entry.rules.rules ledger.entry.books.groups ledger.entry.config.workers
+    requires sound { IsSound FIRST SECOND control memory }
+    requires none { control.pool.queue.items ≡ [] }
+    ensures initial { IfOk result (λ r. r.0.initial ≡ initial_data_by FIRST SECOND memory.entry.cells
+        control.entry.rules.rules control.entry.pool.groups control.entry.config.workers
         memory.entry.domain.token) }
-    ensures opened { IfOk result (λ r. r.1 ≡ opens_with r.0 ledger.entry.config ledger.entry.rules.rules) }
-    ensures token { IfOk result (λ r. r.0.opening.token ≡ memory.entry.domain.token) }
-    ensures workers { IfOk result (λ r. r.0.opening.workers ≡ ledger.entry.config.workers) }
+    ensures opened { IfOk result (λ r. r.1 ≡ initial_writer r.0 control.entry.config control.entry.rules.rules) }
+    ensures token { IfOk result (λ r. r.0.initial.token ≡ memory.entry.domain.token) }
+    ensures workers { IfOk result (λ r. r.0.initial.workers ≡ control.entry.config.workers) }
     ensures bench { IfOk result (λ r. IsFullBench r.0 r.2) }
 {
-    let (config, queue, loaded) = load(alloc, ledger, memory)?;
+    let (config, queue, loaded) = load(alloc, control, memory)?;
     go_on(alloc, config, queue, loaded)
 }
 
@@ -158,17 +158,17 @@ pub fn open<const FIRST: u32, const SECOND: u32>(
     config: Config,
 ) -> Result<(SharedTable<FIRST, SECOND>, Writer<FIRST, SECOND>, Bench), OpenError>
     requires { IsShape FIRST SECOND }
-    ensures opening { IfOk result (λ r. setup r.0 ≡ opening_setup FIRST SECOND config) }
-    ensures opened { IfOk result (λ r. r.1 ≡ opens_with r.0 config map.empty) }
-    ensures token { IfOk result (λ r. r.0.opening.token ≡ config.first_token) }
-    ensures workers { IfOk result (λ r. r.0.opening.workers ≡ config.workers) }
+    ensures initial { IfOk result (λ r. initial_state r.0 ≡ blank_state FIRST SECOND config) }
+    ensures opened { IfOk result (λ r. r.1 ≡ initial_writer r.0 config map.empty) }
+    ensures token { IfOk result (λ r. r.0.initial.token ≡ config.first_token) }
+    ensures workers { IfOk result (λ r. r.0.initial.workers ≡ config.workers) }
     ensures bench { IfOk result (λ r. IsFullBench r.0 r.2) }
     ensures limits { IfOk result (λ _. IsConfig config) }
     ensures bad_config { IfErr result
         (λ error. (error ≡ OpenError.BadConfig) ↔ (¬ IsConfig config)) }
 {
-    let (ledger, memory) = lpm_writer::open(alloc, config)?;
-    Ok(begin(alloc, ledger, memory)?)
+    let (control, memory) = lpm_writer::open(alloc, config)?;
+    Ok(begin(alloc, control, memory)?)
 }
 
 /// Takes a table that was loaded on one thread, and goes on with it as a running one: its rules are version
@@ -185,13 +185,13 @@ pub fn go_live<const FIRST: u32, const SECOND: u32>(
 ) -> Result<(SharedTable<FIRST, SECOND>, Writer<FIRST, SECOND>, Bench), AllocError>
     requires offline { (worker : ℕ) → worker < fib.config.workers
         → ¬ by_counters.is_online fib.table.readers worker }
-    ensures opened { IfOk result (λ r. r.1 ≡ opens_with r.0 fib.entry.config fib.entry.table.rules) }
-    ensures token { IfOk result (λ r. r.0.opening.token ≡ fib.entry.table.readers.token) }
-    ensures workers { IfOk result (λ r. r.0.opening.workers ≡ fib.entry.config.workers) }
+    ensures opened { IfOk result (λ r. r.1 ≡ initial_writer r.0 fib.entry.config fib.entry.table.rules) }
+    ensures token { IfOk result (λ r. r.0.initial.token ≡ fib.entry.table.readers.token) }
+    ensures workers { IfOk result (λ r. r.0.initial.workers ≡ fib.entry.config.workers) }
     ensures bench { IfOk result (λ r. IsFullBench r.0 r.2) }
 {
     let waiting = fib.counts().limbo;
     let _ = fib.reclaim(waiting);
-    let (ledger, memory) = fib.into_parts();
-    begin(alloc, ledger, memory)
+    let (control, memory) = fib.into_parts();
+    begin(alloc, control, memory)
 }

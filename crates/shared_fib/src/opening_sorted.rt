@@ -6,18 +6,18 @@ ghost use Rattle.lpm_bits.specs.Widths.{IsShape};
 ghost use Rattle.lpm_limits.specs.Limits.{IsConfig};
 ghost use Rattle.lpm_rules.specs.Listed.{AreInOrder, rules_of};
 ghost use Rattle.fib_model.specs.Outcomes.{groups_in_use};
-ghost use Rattle.shared_words.specs.Layout.{packed};
+ghost use Rattle.shared_words.specs.Layout.{packed_words};
 ghost use Rattle.shared_fib.specs.Loading.{AreSwept, IsLoaded};
 ghost use Rattle.shared_fib.specs.Passes.{IsFullBench};
-ghost use Rattle.shared_fib.specs.Running.{opening_by, opens_with};
+ghost use Rattle.shared_fib.specs.Running.{initial_data_of, initial_writer};
 
 use crate::opening::go_on;
-use crate::{Bench, Loaded, Pairs, SharedTable, Writer};
+use crate::{Bench, InitialTable, Pairs, SharedTable, Writer};
 use defer_queue::DeferQueue;
 use fib::opened_ledger;
 use lpm_rules::{Rule, Rules, count_rules};
 use lpm_sweep::{WordList, sweep_into};
-use lpm_writer::{Books, Ledger, OpenError};
+use lpm_writer::{ControlState, GroupPool, OpenError};
 use qsbr::Config;
 use shared_words::{Layout, pairs};
 use std::alloc::{AllocError, Global};
@@ -35,8 +35,8 @@ fn lay_swept(
     requires seconds { length seconds.now ≤ second_count }
     requires second_count { second_count ≤ 2 ^ 48 }
     requires workers { workers ≤ 2048 }
-    ensures { IfOk result (λ words. words.items ≡ 0 ∷ token ∷ (packed firsts
-        ++ (packed (seconds.now ++ replicate (second_count - length seconds.now) 0)
+    ensures { IfOk result (λ words. words.items ≡ 0 ∷ token ∷ (packed_words firsts
+        ++ (packed_words (seconds.now ++ replicate (second_count - length seconds.now) 0)
         ++ replicate workers 0))) }
 {
     let count = 2 + pairs(firsts.count()) + pairs(second_count) + workers;
@@ -86,31 +86,31 @@ fn load_swept<const FIRST: u32, const SECOND: u32>(
     rules: &[Rule<FIRST, SECOND>],
     words: Vec<u64>,
     blocks: &[usize],
-) -> Result<(DeferQueue, Loaded<FIRST, SECOND>), AllocError>
+) -> Result<(DeferQueue, InitialTable<FIRST, SECOND>), AllocError>
     requires shape { IsShape FIRST SECOND }
     requires limits { IsConfig config }
     requires sorted { AreInOrder rules.now }
     requires swept { AreSwept FIRST SECOND config (rules_of rules.now) words.items blocks.now }
     ensures loaded { IfOk result (λ t. IsLoaded FIRST SECOND config t.0 t.1) }
     ensures rules { IfOk result (λ t. t.1.rules.rules ≡ rules_of rules.now) }
-    ensures token { IfOk result (λ t. (opening_by FIRST SECOND t.1).token ≡ config.first_token) }
+    ensures token { IfOk result (λ t. (initial_data_of FIRST SECOND t.1).token ≡ config.first_token) }
     ensures workers { IfOk result (λ t. t.1.layout.workers ≡ config.workers) }
 {
     let rules = Rules::of_sorted(alloc, config.rules, rules)?;
-    let ledger = opened_ledger(alloc, config, rules, 0, blocks)?;
-    let Ledger {
+    let control = opened_ledger(alloc, config, rules, 0, blocks)?;
+    let ControlState {
         config: _,
         rules,
-        books,
+        pool,
         versions: _,
-    } = ledger;
-    let Books {
+    } = control;
+    let GroupPool {
         groups,
         queue,
         passed: _,
-    } = books;
+    } = pool;
     let layout = Layout::new(1 << FIRST, config.groups << SECOND, config.workers);
-    let loaded = Loaded {
+    let loaded = InitialTable {
         words,
         layout,
         rules,
@@ -125,14 +125,14 @@ fn load_sorted<const FIRST: u32, const SECOND: u32>(
     alloc: Global,
     config: Config,
     rules: Vec<Rule<FIRST, SECOND>>,
-) -> Result<Option<(DeferQueue, Loaded<FIRST, SECOND>)>, AllocError>
+) -> Result<Option<(DeferQueue, InitialTable<FIRST, SECOND>)>, AllocError>
     requires shape { IsShape FIRST SECOND }
     requires limits { IsConfig config }
     requires sorted { AreInOrder rules.items }
     ensures loaded { IfOk result (λ o. IfSome o (λ t. IsLoaded FIRST SECOND config t.0 t.1)) }
     ensures rules { IfOk result (λ o. IfSome o (λ t. t.1.rules.rules ≡ rules_of rules.entry.items)) }
     ensures token { IfOk result (λ o. IfSome o (λ t.
-        (opening_by FIRST SECOND t.1).token ≡ config.first_token)) }
+        (initial_data_of FIRST SECOND t.1).token ≡ config.first_token)) }
     ensures workers { IfOk result (λ o. IfSome o (λ t. t.1.layout.workers ≡ config.workers)) }
     ensures rules_fit { IfOk result (λ o. IfSome o (λ _.
         map.len (rules_of rules.entry.items) ≤ config.rules)) }
@@ -171,9 +171,9 @@ pub fn open_sorted<const FIRST: u32, const SECOND: u32>(
     requires shape { IsShape FIRST SECOND }
     requires sorted { AreInOrder rules.items }
     ensures opened { IfOk result (λ o. IfSome o (λ r.
-        r.1 ≡ opens_with r.0 config (rules_of rules.entry.items))) }
-    ensures token { IfOk result (λ o. IfSome o (λ r. r.0.opening.token ≡ config.first_token)) }
-    ensures workers { IfOk result (λ o. IfSome o (λ r. r.0.opening.workers ≡ config.workers)) }
+        r.1 ≡ initial_writer r.0 config (rules_of rules.entry.items))) }
+    ensures token { IfOk result (λ o. IfSome o (λ r. r.0.initial.token ≡ config.first_token)) }
+    ensures workers { IfOk result (λ o. IfSome o (λ r. r.0.initial.workers ≡ config.workers)) }
     ensures bench { IfOk result (λ o. IfSome o (λ r. IsFullBench r.0 r.2)) }
     ensures rules_fit { IfOk result (λ o. IfSome o (λ _.
         map.len (rules_of rules.entry.items) ≤ config.rules)) }

@@ -1,7 +1,7 @@
 //! A list of table words that is packed while it is made.
 
 ghost use Rattle.std.specs.Prelude.{◌≡◌, ◌+◌, ◌-◌, ◌*◌, ◌%◌, ◌^◌, ◌<◌, ◌≤◌, [], ◌∷◌, ◌++◌, IfOk, OnOk, length, replicate};
-ghost use Rattle.shared_words.specs.Layout.{packed};
+ghost use Rattle.shared_words.specs.Layout.{packed_words};
 
 use std::alloc::{AllocError, Global};
 use std::marker::Model;
@@ -18,11 +18,11 @@ pub struct Pairs {
 
 impl Model for Pairs {
     ghost use Rattle.std.specs.Prelude.{ℕ, List};
-    ghost use Rattle.shared_fib.specs.Pairs.{ArePairs, unpaired};
+    ghost use Rattle.shared_fib.specs.Pairs.{ArePairs, unpacked_pairs};
 
     ghost Value = { List ℕ };
 
-    ghost view = { λ p. unpaired p.count p.words.items };
+    ghost view = { λ p. unpacked_pairs p.count p.words.items };
 
     ghost invariant = { λ p. ArePairs p.count p.words.items };
 }
@@ -81,14 +81,14 @@ impl Pairs {
 
     /// The words that the table words share.
     pub fn shared(&self) -> &[u64]
-        ensures { result.now ≡ packed self.now }
+        ensures { result.now ≡ packed_words self.now }
     {
         &self.words[2..]
     }
 
     /// The sequence, which is 0, this token, and the words that the table words share. It takes no memory.
     pub fn into_words(self, token: u64) -> Vec<u64>
-        ensures { result.items ≡ 0 ∷ token ∷ packed self }
+        ensures { result.items ≡ 0 ∷ token ∷ packed_words self }
     {
         let mut words = self.words;
         words[1] = token;

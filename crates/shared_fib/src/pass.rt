@@ -1,7 +1,7 @@
 //! The pass of a worker: its reports and its lookups.
 
 ghost use Rattle.std.specs.Prelude.{◌≡◌, ℕ, ◌+◌, ◌^◌, ◌<◌, All, List, Option, map, [], ◌∷◌, true, false};
-ghost use Rattle.lpm_trace.specs.declared.step.WorkerStep.TheVariants.{LoadOnline, StoreOnline, LoadQuiescent, StoreQuiescent, StoreOffline, Meets};
+ghost use Rattle.lpm_trace.specs.declared.step.WorkerStep.TheVariants.{LoadOnline, StoreOnline, LoadQuiescent, StoreQuiescent, StoreOffline, MeetWriter};
 ghost use Rattle.lpm_trace.specs.Trace.{worker_by};
 ghost use Rattle.lpm_trace.specs.Workers.{Offline};
 ghost use Rattle.shared_fib.specs.Passes.{IsHistory, LooksUp, LooksUpAll, Makes};
@@ -47,7 +47,7 @@ impl Model for Pass {
     ghost coded = { coded_pass };
 
     ghost view = { λ p. record {
-      table = record { words = p.seat.table; opening = p.seat.view.opening };
+      table = record { words = p.seat.table; initial = p.seat.view.initial };
       worker = p.seat.worker;
       online = p.is_online;
       steps = p.seat.view.own;
@@ -62,7 +62,7 @@ impl Pass {
     pub(crate) fn new(seat: WorkerSeat) -> Self
         requires offline { (worker_by seat.view.own).phase ≡ Offline }
         ensures { result ≡ record {
-          table = record { words = seat.table; opening = seat.view.opening };
+          table = record { words = seat.table; initial = seat.view.initial };
           worker = seat.worker;
           online = false;
           steps = seat.view.own;
@@ -78,7 +78,7 @@ impl Pass {
     /// The number of its worker.
     pub fn worker(&self) -> usize
         ensures value { result ≡ self.now.worker }
-        ensures inside { result < self.now.table.opening.workers }
+        ensures inside { result < self.now.table.initial.workers }
     {
         self.seat.number() as usize
     }
@@ -254,7 +254,7 @@ impl Pass {
         requires own { self.old.table ≡ table.now }
         requires writer { writer.old.identity ≡ table.now }
         ensures own { self.new.table ≡ self.old.table }
-        ensures step { (number : ℕ) × (place : ℕ) × Makes ((Meets number, place) ∷ []) self.old self.new }
+        ensures step { (number : ℕ) × (place : ℕ) × Makes ((MeetWriter number, place) ∷ []) self.old self.new }
         ensures all { self.new.seen ≡ steps_of writer.old }
         ensures same { writer.new ≡ writer.old }
         ensures online { self.old.online ≡ true → self.new.online ≡ true }

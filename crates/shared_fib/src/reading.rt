@@ -18,7 +18,7 @@ impl<const FIRST: u32, const SECOND: u32> Writer<FIRST, SECOND> {
     pub fn get(&self, prefix: &Prefix<FIRST, SECOND>) -> Option<Hop>
         ensures { result ≡ map.get self.now.table.rules prefix.now }
     {
-        self.ledger.rules.get(prefix)
+        self.control.rules.get(prefix)
     }
 
     /// The rule that comes next after a prefix in the order of prefixes, whether the prefix has a rule or
@@ -26,14 +26,14 @@ impl<const FIRST: u32, const SECOND: u32> Writer<FIRST, SECOND> {
     pub fn next_rule(&self, after: Option<Prefix<FIRST, SECOND>>) -> Option<Rule<FIRST, SECOND>>
         ensures { IsNextRule self.now.table.rules after.entry result }
     {
-        self.ledger.rules.next_rule(after)
+        self.control.rules.next_rule(after)
     }
 
     /// The number of rules.
     pub fn rules(&self) -> usize
         ensures { result ≡ map.len self.now.table.rules }
     {
-        self.ledger.rules.len()
+        self.control.rules.len()
     }
 
     /// Does nothing: its contract says that the table is at rest between two commands, and that the steps
@@ -49,7 +49,7 @@ impl<const FIRST: u32, const SECOND: u32> Writer<FIRST, SECOND> {
     pub fn versions(&self) -> u64
         ensures { result ≡ self.now.table.begun }
     {
-        self.ledger.versions
+        self.control.versions
     }
 
     /// The token number: that of the opening and, for each unlinking and each synchronize, one more.
@@ -67,7 +67,7 @@ impl<const FIRST: u32, const SECOND: u32> Writer<FIRST, SECOND> {
         ensures value { result ≡ self.now.config }
         ensures limits { IsConfig result }
     {
-        self.ledger.config
+        self.control.config
     }
 
     /// How many groups are in use, in limbo and free.
@@ -76,6 +76,6 @@ impl<const FIRST: u32, const SECOND: u32> Writer<FIRST, SECOND> {
         ensures limbo { result.limbo ≡ length self.now.table.limbo }
         ensures all { result.in_use + result.limbo + result.free ≡ self.now.config.groups }
     {
-        self.ledger.books.groups.counts()
+        self.control.pool.groups.counts()
     }
 }

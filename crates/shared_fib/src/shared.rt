@@ -1,19 +1,19 @@
 //! The words of a running table and the writer's seat, borrowed for a command.
 
 ghost use Rattle.std.specs.Prelude.{◌≡◌, ◌^◌, ◌≤◌};
-ghost use Rattle.lpm_trace.specs.Tables.{tables, begun};
-ghost use Rattle.shared_words.specs.Opened.{setup_of};
+ghost use Rattle.lpm_trace.specs.States.{state_after, updates_begun_in};
+ghost use Rattle.shared_words.specs.Initial.{initial_state_of};
 ghost use Rattle.shared_words.specs.Seats.{IsOf};
-ghost use Rattle.shared_fib.specs.Lent.{SharedDid, left_by};
+ghost use Rattle.shared_fib.specs.Lent.{SharedDid, state_of_lent};
 
-use crate::Loaded;
+use crate::InitialTable;
 use shared_words::{SharedWords, WriterSeat};
 use std::marker::Model;
 
 /// The words of a running table, as the writer changes them through its seat.
 #[derive(Drop)]
 pub struct SharedMemory<'a, const FIRST: u32, const SECOND: u32> {
-    pub(crate) table: &'a SharedWords<Loaded<FIRST, SECOND>>,
+    pub(crate) table: &'a SharedWords<InitialTable<FIRST, SECOND>>,
     pub(crate) seat: &'a mut WriterSeat,
     /// The newest token.
     pub(crate) token: u64,
@@ -40,18 +40,18 @@ impl<'a, const FIRST: u32, const SECOND: u32> Model for SharedMemory<'a, FIRST, 
 impl<'a, const FIRST: u32, const SECOND: u32> SharedMemory<'a, FIRST, SECOND> {
     /// Borrows the table and its writer's seat.
     pub fn new(
-        table: &'a SharedWords<Loaded<FIRST, SECOND>>,
+        table: &'a SharedWords<InitialTable<FIRST, SECOND>>,
         seat: &'a mut WriterSeat,
     ) -> SharedMemory<'a, FIRST, SECOND>
         requires own { IsOf table.now seat.old.table seat.old.view }
-        requires token { (tables (setup_of seat.old.view.opening) seat.old.view.seen).token
+        requires token { (state_after (initial_state_of seat.old.view.initial) seat.old.view.seen).token
             ≤ 2 ^ 62 }
-        requires updates { begun (tables (setup_of seat.old.view.opening)
+        requires updates { updates_begun_in (state_after (initial_state_of seat.old.view.initial)
             seat.old.view.seen) ≤ 2 ^ 61 }
         ensures name { result.name ≡ seat.entry.ghost_name }
         ensures table { result.table ≡ seat.old.table }
         ensures view { result.view ≡ seat.old.view }
-        ensures did { SharedDid result (setup_of seat.old.view.opening) seat.old.view.seen }
+        ensures did { SharedDid result (initial_state_of seat.old.view.initial) seat.old.view.seen }
     {
         seat.history();
         let token = seat.token(table);
@@ -63,8 +63,8 @@ impl<'a, const FIRST: u32, const SECOND: u32> SharedMemory<'a, FIRST, SECOND> {
         ensures name { result.ghost_name ≡ self.entry.name }
         ensures table { result.now.table ≡ self.entry.table }
         ensures view { result.now.view ≡ self.entry.view }
-        ensures token { (left_by self.entry).token ≤ 2 ^ 62 }
-        ensures updates { begun (left_by self.entry) ≤ 2 ^ 61 }
+        ensures token { (state_of_lent self.entry).token ≤ 2 ^ 62 }
+        ensures updates { updates_begun_in (state_of_lent self.entry) ≤ 2 ^ 61 }
     {
         self.seat
     }

@@ -5,16 +5,16 @@ ghost use Rattle.lpm_trace.specs.Laws.{IsChecked};
 ghost use Rattle.lpm_writer.specs.Waiting.{tokens_of};
 ghost use Rattle.lpm_writer.specs.Steps.{Synchronizes};
 ghost use Rattle.lpm_writer.specs.Synchronizing.{IsWaiting};
-ghost use Rattle.shared_words.specs.Opened.{setup_of};
+ghost use Rattle.shared_words.specs.Initial.{initial_state_of};
 ghost use Rattle.shared_words.specs.Rule.{IsLater};
 ghost use Rattle.shared_words.specs.Seats.{IsOf};
 ghost use Rattle.shared_fib.specs.Lent.{SharedDid, passed_by, token_by};
 ghost use Rattle.shared_fib.specs.Passing.{PassesAtLast};
-ghost use Rattle.shared_fib.specs.Running.{IsReady, OnlySees, RestsBy, passed_of, steps_of, token_of};
+ghost use Rattle.shared_fib.specs.Running.{IsReady, OnlySees, IsRestingBy, passed_of, steps_of, token_of};
 
 use crate::table::Words;
 use crate::{SharedMemory, SharedTable, Writer};
-use lpm_writer::{Exhausted, Ledger, check_synchronize, start_synchronize};
+use lpm_writer::{ControlState, Exhausted, check_synchronize, start_synchronize};
 use shared_words::WriterSeat;
 use std::sync::Wait;
 use std::thread::yield_now;
@@ -22,27 +22,27 @@ use std::thread::yield_now;
 /// Checks the token that was just started, again and again, until a check passes.
 fn check_until_passed<const FIRST: u32, const SECOND: u32, R: Wait>(
     rt: &R,
-    ledger: &mut Ledger<FIRST, SECOND>,
+    control: &mut ControlState<FIRST, SECOND>,
     memory: &mut SharedMemory<'_, FIRST, SECOND>,
 )
-    requires did { SharedDid memory.old (setup_of memory.old.view.opening) memory.old.view.seen }
-    requires waits { IsWaiting FIRST SECOND (setup_of memory.old.view.opening) memory.old.view.seen
-        ledger.old.config ledger.old.rules ledger.old.books ledger.old.versions }
-    ensures passes { PassesAtLast (setup_of memory.old.view.opening) memory.old.view.seen
+    requires did { SharedDid memory.old (initial_state_of memory.old.view.initial) memory.old.view.seen }
+    requires waits { IsWaiting FIRST SECOND (initial_state_of memory.old.view.initial) memory.old.view.seen
+        control.old.config control.old.rules control.old.pool control.old.versions }
+    ensures passes { PassesAtLast (initial_state_of memory.old.view.initial) memory.old.view.seen
         memory.new.view.seen }
-    ensures queued { 0 < ledger.old.config.workers
+    ensures queued { 0 < control.old.config.workers
         → All (λ token. token ≤ passed_by memory.new.view)
-        (tokens_of ledger.new.books.queue.items) }
-    ensures rests { RestsBy FIRST SECOND ledger.new memory.new.view }
-    ensures same { ledger.new ≡ record ledger.old {
-      books = record ledger.old.books { passed = ledger.new.books.passed };
+        (tokens_of control.new.pool.queue.items) }
+    ensures rests { IsRestingBy FIRST SECOND control.new memory.new.view }
+    ensures same { control.new ≡ record control.old {
+      pool = record control.old.pool { passed = control.new.pool.passed };
     } }
     ensures name { memory.new.name ≡ memory.old.name }
     ensures table { memory.new.table ≡ memory.old.table }
     ensures view { OnlySees memory.old.view memory.new.view }
 {
     for _ in rt.forever() {
-        match check_synchronize(ledger, memory) {
+        match check_synchronize(control, memory) {
             Ok(()) => return,
             Err(_) => yield_now(),
         }
@@ -52,64 +52,64 @@ fn check_until_passed<const FIRST: u32, const SECOND: u32, R: Wait>(
 
 fn synchronize_over<const FIRST: u32, const SECOND: u32, R: Wait>(
     rt: &R,
-    ledger: &mut Ledger<FIRST, SECOND>,
+    control: &mut ControlState<FIRST, SECOND>,
     memory: &mut SharedMemory<'_, FIRST, SECOND>,
 ) -> Result<(), Exhausted>
-    requires did { SharedDid memory.old (setup_of memory.old.view.opening) memory.old.view.seen }
-    requires rests { RestsBy FIRST SECOND ledger.old memory.old.view }
+    requires did { SharedDid memory.old (initial_state_of memory.old.view.initial) memory.old.view.seen }
+    requires rests { IsRestingBy FIRST SECOND control.old memory.old.view }
     ensures exhausted { IsErr result
-        ↔ (2 ^ 62 < token_by memory.old.view + ledger.old.config.groups) }
-    ensures synchronizes { OnOk result (Synchronizes memory.old.view.opening.workers
-        memory.old.view.opening.token memory.old.view.seen memory.new.view.seen) }
-    ensures queued { OnOk result (0 < ledger.old.config.workers
+        ↔ (2 ^ 62 < token_by memory.old.view + control.old.config.groups) }
+    ensures synchronizes { OnOk result (Synchronizes memory.old.view.initial.workers
+        memory.old.view.initial.token memory.old.view.seen memory.new.view.seen) }
+    ensures queued { OnOk result (0 < control.old.config.workers
         → All (λ token. token ≤ passed_by memory.new.view)
-        (tokens_of ledger.new.books.queue.items)) }
-    ensures rests { RestsBy FIRST SECOND ledger.new memory.new.view }
-    ensures same { ledger.new ≡ record ledger.old {
-      books = record ledger.old.books { passed = ledger.new.books.passed };
+        (tokens_of control.new.pool.queue.items)) }
+    ensures rests { IsRestingBy FIRST SECOND control.new memory.new.view }
+    ensures same { control.new ≡ record control.old {
+      pool = record control.old.pool { passed = control.new.pool.passed };
     } }
-    ensures unchanged { OnErr result (ledger.new ≡ ledger.old) }
+    ensures unchanged { OnErr result (control.new ≡ control.old) }
     ensures untouched { OnErr result (memory.new ≡ memory.old) }
     ensures name { memory.new.name ≡ memory.old.name }
     ensures table { memory.new.table ≡ memory.old.table }
     ensures view { OnlySees memory.old.view memory.new.view }
 {
-    start_synchronize(ledger, memory)?;
-    check_until_passed(rt, ledger, memory);
+    start_synchronize(control, memory)?;
+    check_until_passed(rt, control, memory);
     Ok(())
 }
 
 fn synchronize_by<const FIRST: u32, const SECOND: u32, R: Wait>(
     rt: &R,
-    ledger: &mut Ledger<FIRST, SECOND>,
+    control: &mut ControlState<FIRST, SECOND>,
     seat: &mut WriterSeat,
     table: &Words<FIRST, SECOND>,
 ) -> Result<(), Exhausted>
     requires own { IsOf table.now seat.old.table seat.old.view }
-    requires ready { IsReady FIRST SECOND ledger.old seat.old.view }
+    requires ready { IsReady FIRST SECOND control.old seat.old.view }
     ensures exhausted { IsErr result
-        ↔ (2 ^ 62 < token_by seat.old.view + ledger.old.config.groups) }
-    ensures synchronizes { OnOk result (Synchronizes seat.old.view.opening.workers
-        seat.old.view.opening.token seat.old.view.seen seat.new.view.seen) }
+        ↔ (2 ^ 62 < token_by seat.old.view + control.old.config.groups) }
+    ensures synchronizes { OnOk result (Synchronizes seat.old.view.initial.workers
+        seat.old.view.initial.token seat.old.view.seen seat.new.view.seen) }
     ensures started { OnOk result (token_by seat.new.view
         ≡ token_by seat.old.view + 1) }
-    ensures checked { OnOk result (IsChecked seat.new.view.opening.workers
-        seat.new.view.opening.token seat.new.view.seen (token_by seat.new.view)) }
-    ensures queued { OnOk result (0 < ledger.old.config.workers
+    ensures checked { OnOk result (IsChecked seat.new.view.initial.workers
+        seat.new.view.initial.token seat.new.view.seen (token_by seat.new.view)) }
+    ensures queued { OnOk result (0 < control.old.config.workers
         → All (λ token. token ≤ passed_by seat.new.view)
-        (tokens_of ledger.new.books.queue.items)) }
-    ensures ready { IsReady FIRST SECOND ledger.new seat.new.view }
-    ensures same { ledger.new ≡ record ledger.old {
-      books = record ledger.old.books { passed = ledger.new.books.passed };
+        (tokens_of control.new.pool.queue.items)) }
+    ensures ready { IsReady FIRST SECOND control.new seat.new.view }
+    ensures same { control.new ≡ record control.old {
+      pool = record control.old.pool { passed = control.new.pool.passed };
     } }
-    ensures unchanged { OnErr result (ledger.new ≡ ledger.old) }
+    ensures unchanged { OnErr result (control.new ≡ control.old) }
     ensures untouched { OnErr result (seat.new.view ≡ seat.old.view) }
     ensures seat { seat.new.table ≡ seat.old.table }
     ensures view { OnlySees seat.old.view seat.new.view }
     ensures later { IsLater seat.old.view.seen seat.new.view.seen }
 {
     let mut memory = SharedMemory::new(table, seat);
-    let came = synchronize_over(rt, ledger, &mut memory);
+    let came = synchronize_over(rt, control, &mut memory);
     memory.done();
     seat.history();
     came
@@ -130,11 +130,11 @@ impl<const FIRST: u32, const SECOND: u32> Writer<FIRST, SECOND> {
         requires own { self.old.identity ≡ table.now }
         ensures exhausted { IsErr result
             ↔ (2 ^ 62 < token_of self.old + self.old.config.groups) }
-        ensures synchronizes { OnOk result (Synchronizes table.now.opening.workers
-            table.now.opening.token (steps_of self.old) (steps_of self.new)) }
+        ensures synchronizes { OnOk result (Synchronizes table.now.initial.workers
+            table.now.initial.token (steps_of self.old) (steps_of self.new)) }
         ensures started { OnOk result (token_of self.new ≡ token_of self.old + 1) }
-        ensures checked { OnOk result (IsChecked table.now.opening.workers
-            table.now.opening.token (steps_of self.new) (token_of self.new)) }
+        ensures checked { OnOk result (IsChecked table.now.initial.workers
+            table.now.initial.token (steps_of self.new) (token_of self.new)) }
         ensures queued { OnOk result (0 < self.old.config.workers
             → All (λ token. token ≤ passed_of self.new) self.new.table.limbo) }
         ensures same { self.new ≡ record self.old {
@@ -143,6 +143,6 @@ impl<const FIRST: u32, const SECOND: u32> Writer<FIRST, SECOND> {
         ensures later { IsLater (steps_of self.old) (steps_of self.new) }
         ensures unchanged { OnErr result (self.new ≡ self.old) }
     {
-        synchronize_by(rt, &mut self.ledger, &mut self.seat, &table.words)
+        synchronize_by(rt, &mut self.control, &mut self.seat, &table.words)
     }
 }

@@ -2,13 +2,15 @@
 
 ghost use Rattle.std.specs.Prelude.{◌≡◌};
 ghost use Rattle.lpm_writer.specs.Making.{HasWidths};
-ghost use Rattle.shared_fib.specs.Running.{IsFitted, setup};
+ghost use Rattle.shared_fib.specs.Running.{IsFitted, initial_state};
 
-use crate::Loaded;
+use crate::InitialTable;
 use shared_words::SharedWords;
 use std::marker::Model;
 
-pub(crate) type Words<const FIRST: u32, const SECOND: u32> = SharedWords<Loaded<FIRST, SECOND>>;
+pub(crate) type Words<const FIRST: u32, const SECOND: u32> = SharedWords<
+    InitialTable<FIRST, SECOND>,
+>;
 
 /// The words of a running table, which its writer changes while its passes look up. Threads share it by
 /// reference. IPv4 has `SharedTable<24, 8>`.
@@ -26,12 +28,12 @@ impl<const FIRST: u32, const SECOND: u32> Model for SharedTable<FIRST, SECOND> {
 
     ghost view = { λ t. record {
       words = t.words.table;
-      opening = t.words.opening;
+      initial = t.words.initial;
     } };
 
     ghost invariant = { λ t. IsFitted FIRST SECOND (record {
       words = t.words.table;
-      opening = t.words.opening;
+      initial = t.words.initial;
     }) t.words.layout };
 }
 
@@ -40,11 +42,11 @@ impl<const FIRST: u32, const SECOND: u32> SharedTable<FIRST, SECOND> {
     pub(crate) fn new(words: Words<FIRST, SECOND>) -> Self
         requires { IsFitted FIRST SECOND (record {
           words = words.table;
-          opening = words.opening;
+          initial = words.initial;
         }) words.layout }
         ensures { result ≡ record {
           words = words.entry.table;
-          opening = words.entry.opening;
+          initial = words.entry.initial;
         } }
     {
         SharedTable { words }
@@ -53,7 +55,7 @@ impl<const FIRST: u32, const SECOND: u32> SharedTable<FIRST, SECOND> {
     /// Does nothing: its contract says that the traces of this table are of these widths.
     #[inline]
     pub fn has_widths(&self)
-        ensures { HasWidths FIRST SECOND (setup self.now) }
+        ensures { HasWidths FIRST SECOND (initial_state self.now) }
     {
         let _ = &self.words;
     }

@@ -12,7 +12,7 @@ use crate::commands::{add_by, delete_by, flush_by, reclaim_by};
 use defer_queue::Reclaimed;
 use lpm_bits::{Hop, Prefix};
 use lpm_rules::Put;
-use lpm_writer::Ledger;
+use lpm_writer::ControlState;
 use qsbr::Refusal;
 use shared_words::WriterSeat;
 use std::marker::Model;
@@ -26,7 +26,7 @@ use std::marker::Model;
 /// counter was loaded after that token was there, and was 0 or at least the token.
 #[derive(Drop)]
 pub struct Writer<const FIRST: u32, const SECOND: u32> {
-    pub(crate) ledger: Ledger<FIRST, SECOND>,
+    pub(crate) control: ControlState<FIRST, SECOND>,
     pub(crate) seat: WriterSeat,
 }
 
@@ -38,25 +38,25 @@ impl<const FIRST: u32, const SECOND: u32> Model for Writer<FIRST, SECOND> {
     ghost coded = { coded_writer };
 
     ghost view = { λ w. record {
-      identity = record { words = w.seat.table; opening = w.seat.view.opening };
-      config = w.ledger.config;
-      table = state_by w.ledger w.seat.view;
+      identity = record { words = w.seat.table; initial = w.seat.view.initial };
+      config = w.control.config;
+      table = state_by w.control w.seat.view;
     } };
 
-    ghost invariant = { λ w. IsReady FIRST SECOND w.ledger w.seat.view };
+    ghost invariant = { λ w. IsReady FIRST SECOND w.control w.seat.view };
 }
 
 impl<const FIRST: u32, const SECOND: u32> Writer<FIRST, SECOND> {
     // The writer that keeps this ledger, and has this seat.
-    pub(crate) fn new(ledger: Ledger<FIRST, SECOND>, seat: WriterSeat) -> Self
-        requires { IsReady FIRST SECOND ledger seat.view }
+    pub(crate) fn new(control: ControlState<FIRST, SECOND>, seat: WriterSeat) -> Self
+        requires { IsReady FIRST SECOND control seat.view }
         ensures { result ≡ record {
-          identity = record { words = seat.table; opening = seat.view.opening };
-          config = ledger.entry.config;
-          table = state_by ledger.entry seat.view;
+          identity = record { words = seat.table; initial = seat.view.initial };
+          config = control.entry.config;
+          table = state_by control.entry seat.view;
         } }
     {
-        Writer { ledger, seat }
+        Writer { control, seat }
     }
 
     /// Adds a rule, or gives the prefix's rule another next hop. A rule that is there already stays, and is
@@ -76,16 +76,16 @@ impl<const FIRST: u32, const SECOND: u32> Writer<FIRST, SECOND> {
         hop: Hop,
     ) -> Result<Put, Refusal>
         requires own { self.old.identity ≡ table.now }
-        ensures adds { Adds (by_steps table.now.opening) FIRST SECOND self.old.config
+        ensures adds { Adds (by_steps table.now.initial) FIRST SECOND self.old.config
             self.old.table prefix.now hop result self.new.table }
-        ensures least { TakesLeast table.now.opening self.old.table self.new.table }
+        ensures least { TakesLeast table.now.initial self.old.table self.new.table }
         ensures checked { (freed : List ℕ)
-            × FreesChecked table.now.opening self.old.table self.new.table freed }
+            × FreesChecked table.now.initial self.old.table self.new.table freed }
         ensures later { IsLater (steps_of self.old) (steps_of self.new) }
         ensures own { self.new.identity ≡ self.old.identity }
         ensures config { self.new.config ≡ self.old.config }
     {
-        add_by(&mut self.ledger, &mut self.seat, &table.words, prefix, hop)
+        add_by(&mut self.control, &mut self.seat, &table.words, prefix, hop)
     }
 
     /// Deletes the rule of this prefix, and returns its next hop. Its addresses go to the longest rule that
@@ -99,15 +99,15 @@ impl<const FIRST: u32, const SECOND: u32> Writer<FIRST, SECOND> {
         prefix: &Prefix<FIRST, SECOND>,
     ) -> Result<Hop, Refusal>
         requires own { self.old.identity ≡ table.now }
-        ensures deletes { Deletes (by_steps table.now.opening) FIRST SECOND self.old.config
+        ensures deletes { Deletes (by_steps table.now.initial) FIRST SECOND self.old.config
             self.old.table prefix.now result self.new.table }
         ensures checked { (freed : List ℕ)
-            × FreesChecked table.now.opening self.old.table self.new.table freed }
+            × FreesChecked table.now.initial self.old.table self.new.table freed }
         ensures later { IsLater (steps_of self.old) (steps_of self.new) }
         ensures own { self.new.identity ≡ self.old.identity }
         ensures config { self.new.config ≡ self.old.config }
     {
-        delete_by(&mut self.ledger, &mut self.seat, &table.words, prefix)
+        delete_by(&mut self.control, &mut self.seat, &table.words, prefix)
     }
 
     /// Deletes all rules, as one version, and returns how many there were. With none nothing changes, and
@@ -115,29 +115,29 @@ impl<const FIRST: u32, const SECOND: u32> Writer<FIRST, SECOND> {
     /// another.
     pub fn flush(&mut self, table: &SharedTable<FIRST, SECOND>) -> Result<usize, Refusal>
         requires own { self.old.identity ≡ table.now }
-        ensures flushes { Flushes (by_steps table.now.opening) FIRST SECOND self.old.config
+        ensures flushes { Flushes (by_steps table.now.initial) FIRST SECOND self.old.config
             self.old.table result self.new.table }
         ensures checked { (freed : List ℕ)
-            × FreesChecked table.now.opening self.old.table self.new.table freed }
+            × FreesChecked table.now.initial self.old.table self.new.table freed }
         ensures later { IsLater (steps_of self.old) (steps_of self.new) }
         ensures own { self.new.identity ≡ self.old.identity }
         ensures config { self.new.config ≡ self.old.config }
     {
-        flush_by(&mut self.ledger, &mut self.seat, &table.words)
+        flush_by(&mut self.control, &mut self.seat, &table.words)
     }
 
     /// Frees groups that wait in limbo, from the oldest on: at most `max`, up to the first that a worker
     /// holds. It returns how many were freed, and the worker that stopped it.
     pub fn reclaim(&mut self, table: &SharedTable<FIRST, SECOND>, max: usize) -> Reclaimed
         requires own { self.old.identity ≡ table.now }
-        ensures frees { Frees (by_steps table.now.opening) self.old.table max result
+        ensures frees { Frees (by_steps table.now.initial) self.old.table max result
             self.new.table }
-        ensures checked { FreesChecked table.now.opening self.old.table self.new.table
+        ensures checked { FreesChecked table.now.initial self.old.table self.new.table
             (take result.freed self.old.table.limbo) }
         ensures later { IsLater (steps_of self.old) (steps_of self.new) }
         ensures own { self.new.identity ≡ self.old.identity }
         ensures config { self.new.config ≡ self.old.config }
     {
-        reclaim_by(&mut self.ledger, &mut self.seat, &table.words, max)
+        reclaim_by(&mut self.control, &mut self.seat, &table.words, max)
     }
 }

@@ -7,16 +7,16 @@ use Rattle.lpm_cells.specs.declared.entry.Entry.{Entry}
 use Rattle.lpm_cells.specs.declared.entry.Entry.TheVariants.{Miss, Hop, Group}
 use Rattle.lpm_cells.specs.Words.{entry_in, hop_in, IsLast}
 use Rattle.lpm_trace.specs.declared.step.WriterStep.{WriterStep}
-use Rattle.lpm_trace.specs.declared.step.WriterStep.TheVariants.{StoreFirst, StoreSecond, Opens, Closes, BumpToken, LoadCounter}
+use Rattle.lpm_trace.specs.declared.step.WriterStep.TheVariants.{StoreFirst, StoreSecond, BeginUpdate, EndUpdate, BumpToken, LoadCounter}
 use Rattle.lpm_trace.specs.declared.step.WorkerStep.{WorkerStep}
-use Rattle.lpm_trace.specs.declared.step.WorkerStep.TheVariants.{Begins, LoadFirst, LoadSecond, Ends}
-use Rattle.lpm_trace.specs.Tables.{Setup, oldest, tables, done_at, begun_at, begun}
+use Rattle.lpm_trace.specs.declared.step.WorkerStep.TheVariants.{BeginLookup, LoadFirst, LoadSecond, EndLookup}
+use Rattle.lpm_trace.specs.States.{InitialState, oldest, state_after, done_at, begun_at, updates_begun_in}
 use Rattle.lpm_trace.specs.Trace.{worker_by}
-use Rattle.lpm_trace.specs.Workers.{Worker as WorkerState, Online, Unread, InGroup, Answered, Seen, Probe, moved, read_first, first_read, MayRead}
+use Rattle.lpm_trace.specs.Workers.{Worker as WorkerState, Online, Unread, InGroup, Answered, Seen, Probe, worker_by_step, read_first, first_read, MayRead}
 use Rattle.lpm_trace.specs.Laws.{IsLegalAtPlace, ArePlaced}
 use Rattle.lpm_trace.proofs.Traces.{oldest_all}
 use Rattle.shared_words.specs.declared.view.View.{View}
-use Rattle.shared_words.specs.Opened.{Opened, setup_of}
+use Rattle.shared_words.specs.Initial.{InitialData, initial_state_of}
 use Rattle.shared_words.specs.Rule.{IsLater}
 use Rattle.shared_words.specs.Seats.{IsSound, Gains}
 use Rattle.shared_words.specs.Loads.{Found, IsReadOn, seen_of}
@@ -49,39 +49,39 @@ goes_on u v w h k = record {
 }
 
 pub gains_state : (r : WorkerStep) (v w : View) (g : Gains r v w)
-    → worker_by w.own ≡ moved (length g.seen) (worker_by v.own) r
+    → worker_by w.own ≡ worker_by_step (length g.seen) (worker_by v.own) r
 gains_state r v w g = ap (λ (x : View). worker_by x.own) g.view
 
 -- a step may come at the end of what the worker has seen by then of the writer's steps
 pub may_now : (s : WorkerStep) (v w : View) → Gains s v w → IsSound w
-    → MayRead (setup_of v.opening) (tables (setup_of v.opening) w.seen) (worker_by v.own) s
+    → MayRead (initial_state_of v.initial) (state_after (initial_state_of v.initial) w.seen) (worker_by v.own) s
 may_now s v w g known =
-    let c : Setup = setup_of v.opening in
-    let placed = subst (λ (x : View). ArePlaced (setup_of x.opening) x.seen x.own) g.view known.placed in
+    let c : InitialState = initial_state_of v.initial in
+    let placed = subst (λ (x : View). ArePlaced (initial_state_of x.initial) x.seen x.own) g.view known.placed in
     let all : oldest (length g.seen) g.seen ≡ g.seen = oldest_all g.seen (length g.seen) (omega arith) in
-    subst (λ (l : List WriterStep). MayRead c (tables c l) (worker_by v.own) s)
+    subst (λ (l : List WriterStep). MayRead c (state_after c l) (worker_by v.own) s)
     (all ∙ sym (ap (λ (x : View). x.seen) g.view)) placed.0
 
 -- the two loads of the sequence tell how many updates were done and begun at their places
-pub around : (addrs : List ℕ) (low high lo hi : ℕ) (v b u w : View) (begins : Gains (Begins addrs low) v b)
-    (ends : Gains (Ends high) u w) → IsSound b → IsSound w → u.opening ≡ v.opening → lo ≡ done_at low → hi ≡ begun_at high
+pub around : (addrs : List ℕ) (low high lo hi : ℕ) (v b u w : View) (begins : Gains (BeginLookup addrs low) v b)
+    (ends : Gains (EndLookup high) u w) → IsSound b → IsSound w → u.initial ≡ v.initial → lo ≡ done_at low → hi ≡ begun_at high
     → LoadsAround addrs lo hi v b u w
 around addrs low high lo hi v b u w begins ends known_then known same lo_is hi_is = record {
   low = low;
   begins = begins;
   high = high;
   ends = ends;
-  done_then = lo_is ∙ ap done_at (may_now (Begins addrs low) v b begins known_then).2;
-  begun_then = subst (λ (o : Opened). hi ≡ begun (tables (setup_of o) w.seen)) same
-      (hi_is ∙ ap begun_at (may_now (Ends high) u w ends known).2);
+  done_then = lo_is ∙ ap done_at (may_now (BeginLookup addrs low) v b begins known_then).2;
+  begun_then = subst (λ (o : InitialData). hi ≡ updates_begun_in (state_after (initial_state_of o) w.seen)) same
+      (hi_is ∙ ap begun_at (may_now (EndLookup high) u w ends known).2);
 }
 
 -- what is loaded after the lookup began is loaded after what the worker had seen before
 pub after_all : (addrs : List ℕ) (lo hi first : ℕ) (v b u w : View) → LoadsAround addrs lo hi v b u w
     → length b.seen ≤ first → length v.seen ≤ first
 after_all addrs lo hi first v b u w h le =
-    let begun : GoesOn v b = gains_on (Begins addrs h.low) v b h.begins in
-    omega (arith, later_longer v.seen b.seen begun.later, le)
+    let updates_begun_in : GoesOn v b = gains_on (BeginLookup addrs h.low) v b h.begins in
+    omega (arith, later_longer v.seen b.seen updates_begun_in.later, le)
 
 -- steps one after another
 pub goes_after : (newer older : List WorkerStep) (u v w : View) → GainsAll newer v w → GainsAll older u v
@@ -126,37 +126,37 @@ between first middle last old new same =
 -- ---- the words of an address
 
 -- each step of the writer leaves the number of the first words
-firsts_written : (c : Setup) (steps : List WriterStep)
-    → length (tables c steps).words.firsts ≡ length c.words.firsts
+firsts_written : (c : InitialState) (steps : List WriterStep)
+    → length (state_after c steps).words.firsts ≡ length c.words.firsts
 firsts_written c [] = refl
 firsts_written c (StoreFirst i x ∷ steps) =
-    length-set (tables c steps).words.firsts i x ∙ firsts_written c steps
+    length-set (state_after c steps).words.firsts i x ∙ firsts_written c steps
 firsts_written c (StoreSecond j x ∷ steps) = firsts_written c steps
-firsts_written c (Opens change ∷ steps) = firsts_written c steps
-firsts_written c (Closes ∷ steps) = firsts_written c steps
+firsts_written c (BeginUpdate change ∷ steps) = firsts_written c steps
+firsts_written c (EndUpdate ∷ steps) = firsts_written c steps
 firsts_written c (BumpToken ∷ steps) = firsts_written c steps
 firsts_written c (LoadCounter token worker counter ∷ steps) = firsts_written c steps
 
-pub firsts_are : (r : WorkerStep) (v w : View) (first : ℕ) → Gains r v w → IsSound w → v.opening.first ≡ first
-    → length w.opening.firsts ≡ 2 ^ first
+pub firsts_are : (r : WorkerStep) (v w : View) (first : ℕ) → Gains r v w → IsSound w → v.initial.first ≡ first
+    → length w.initial.firsts ≡ 2 ^ first
 firsts_are r v w first g known is =
-    let firsts : length w.opening.firsts ≡ 2 ^ w.opening.first =
-    sym (firsts_written (setup_of w.opening) w.seen) ∙ known.words.firsts_len in
-    let same : w.opening.first ≡ first = ap (λ (x : View). x.opening.first) g.view ∙ is in
+    let firsts : length w.initial.firsts ≡ 2 ^ w.initial.first =
+    sym (firsts_written (initial_state_of w.initial) w.seen) ∙ known.words.firsts_len in
+    let same : w.initial.first ≡ first = ap (λ (x : View). x.initial.first) g.view ∙ is in
     firsts ∙ ap (λ n. 2 ^ n) same
 
 -- a word that may stand in the first table still may after more steps
 word_fits : (u v w : View) (first second n : ℕ) → GoesOn u v → GoesOn v w
-    → u.opening.first ≡ first → u.opening.second ≡ second
-    → IsFirstWord (v.opening.first + v.opening.second) v.opening.second v.opening.seconds n
-    → IsFirstWord (first + second) second w.opening.seconds n
+    → u.initial.first ≡ first → u.initial.second ≡ second
+    → IsFirstWord (v.initial.first + v.initial.second) v.initial.second v.initial.seconds n
+    → IsFirstWord (first + second) second w.initial.seconds n
 word_fits u v w first second n h k is_first is_second fit =
-    let same : w.opening ≡ v.opening = ap (λ (x : View). x.opening) k.same in
-    let f : v.opening.first ≡ first = ap (λ (x : View). x.opening.first) h.same ∙ is_first in
-    let s : v.opening.second ≡ second = ap (λ (x : View). x.opening.second) h.same ∙ is_second in
-    subst (λ (o : Opened). IsFirstWord (first + second) second o.seconds n) (sym same)
-    (subst (λ m. IsFirstWord (first + m) m v.opening.seconds n) s
-    (subst (λ m. IsFirstWord (m + v.opening.second) v.opening.second v.opening.seconds n) f fit))
+    let same : w.initial ≡ v.initial = ap (λ (x : View). x.initial) k.same in
+    let f : v.initial.first ≡ first = ap (λ (x : View). x.initial.first) h.same ∙ is_first in
+    let s : v.initial.second ≡ second = ap (λ (x : View). x.initial.second) h.same ∙ is_second in
+    subst (λ (o : InitialData). IsFirstWord (first + second) second o.seconds n) (sym same)
+    (subst (λ m. IsFirstWord (first + m) m v.initial.seconds n) s
+    (subst (λ m. IsFirstWord (m + v.initial.second) v.initial.second v.initial.seconds n) f fit))
 
 -- what holds of each of four
 pub all_four : (P : ℕ → Type 0) (a b c d : ℕ) → All P (a ∷ b ∷ c ∷ d ∷ []) → P a × P b × P c × P d
@@ -168,14 +168,14 @@ all_four P a b c d all =
 
 -- four words that may stand in the first table still may after more steps
 pub words_fit : (u v w : View) (first second a b c d : ℕ) → GoesOn u v → GoesOn v w
-    → u.opening.first ≡ first → u.opening.second ≡ second
-    → All (IsFirstWord (v.opening.first + v.opening.second) v.opening.second v.opening.seconds) (a ∷ b ∷ c ∷ d ∷ [])
-    → IsFirstWord (first + second) second w.opening.seconds a
-    × IsFirstWord (first + second) second w.opening.seconds b
-    × IsFirstWord (first + second) second w.opening.seconds c
-    × IsFirstWord (first + second) second w.opening.seconds d
+    → u.initial.first ≡ first → u.initial.second ≡ second
+    → All (IsFirstWord (v.initial.first + v.initial.second) v.initial.second v.initial.seconds) (a ∷ b ∷ c ∷ d ∷ [])
+    → IsFirstWord (first + second) second w.initial.seconds a
+    × IsFirstWord (first + second) second w.initial.seconds b
+    × IsFirstWord (first + second) second w.initial.seconds c
+    × IsFirstWord (first + second) second w.initial.seconds d
 words_fit u v w first second a b c d h k is_first is_second fit =
-    let fits = all_four (IsFirstWord (v.opening.first + v.opening.second) v.opening.second v.opening.seconds) a b c d fit in (
+    let fits = all_four (IsFirstWord (v.initial.first + v.initial.second) v.initial.second v.initial.seconds) a b c d fit in (
       word_fits u v w first second a h k is_first is_second fits.0,
       word_fits u v w first second b h k is_first is_second fits.1,
       word_fits u v w first second c h k is_first is_second fits.2,
@@ -237,13 +237,13 @@ module _ (addr : ℕ) (v : View) (unread : (worker_by v.own).probes ≡ Unread a
         rest = goes_on v u w (gains_on (LoadFirst word) v u first) (gains_on (LoadSecond last) u w second);
         after = later_longer v.seen first.seen first.later;
         state = gains_state (LoadSecond last) u w second
-            ∙ ap (λ (x : WorkerState). moved (length second.seen) x (LoadSecond last)) in_group;
+            ∙ ap (λ (x : WorkerState). worker_by_step (length second.seen) x (LoadSecond last)) in_group;
       }
 
 -- ---- a lookup
 
-module _ (addr low last high : ℕ) (v b u w : View) (begins : Gains (Begins (addr ∷ []) low) v b)
-    (words : LoadsWords addr last b u) (ends : Gains (Ends high) u w) (known_then : IsSound b) (known : IsSound w) where
+module _ (addr low last high : ℕ) (v b u w : View) (begins : Gains (BeginLookup (addr ∷ []) low) v b)
+    (words : LoadsWords addr last b u) (ends : Gains (EndLookup high) u w) (known_then : IsSound b) (known : IsSound w) where
   abbrev answered_by : Found
   answered_by = record words.found { addr = addr; hop = hop_in (entry_in last) }
 
@@ -256,28 +256,28 @@ module _ (addr low last high : ℕ) (v b u w : View) (begins : Gains (Begins (ad
     probes = [];
     finished = seen_by ∷ (worker_by v.own).finished;
   }
-  state = gains_state (Ends high) u w ends
-      ∙ ap (λ (x : WorkerState). moved (length ends.seen) x (Ends high))
+  state = gains_state (EndLookup high) u w ends
+      ∙ ap (λ (x : WorkerState). worker_by_step (length ends.seen) x (EndLookup high))
       (words.state
       ∙ ap (λ (x : WorkerState). record x {
         probes = Answered addr (hop_in (entry_in last)) seen_by.first seen_by.last ∷ [];
       })
-      (gains_state (Begins (addr ∷ []) low) v b begins))
+      (gains_state (BeginLookup (addr ∷ []) low) v b begins))
 
   on : GoesOn v w
-  on = goes_on v b w (gains_on (Begins (addr ∷ []) low) v b begins)
-      (goes_on b u w words.rest (gains_on (Ends high) u w ends))
+  on = goes_on v b w (gains_on (BeginLookup (addr ∷ []) low) v b begins)
+      (goes_on b u w words.rest (gains_on (EndLookup high) u w ends))
 
   finished : (worker_by w.own).finished ≡ seen_by ∷ (worker_by v.own).finished
   finished = ap (λ (x : WorkerState). x.finished) state
 
-  legal : IsLegalAtPlace (setup_of v.opening) w.seen seen_by
+  legal : IsLegalAtPlace (initial_state_of v.initial) w.seen seen_by
   legal =
-      let all : All (IsLegalAtPlace (setup_of v.opening) w.seen) (worker_by w.own).finished = subst
-      (λ (o : Opened). All (IsLegalAtPlace (setup_of o) w.seen) (worker_by w.own).finished)
-      (ap (λ (x : View). x.opening) on.same) known.legal in
-      All-head (IsLegalAtPlace (setup_of v.opening) w.seen) seen_by (worker_by v.own).finished
-      (subst (All (IsLegalAtPlace (setup_of v.opening) w.seen)) finished all)
+      let all : All (IsLegalAtPlace (initial_state_of v.initial) w.seen) (worker_by w.own).finished = subst
+      (λ (o : InitialData). All (IsLegalAtPlace (initial_state_of o) w.seen) (worker_by w.own).finished)
+      (ap (λ (x : View). x.initial) on.same) known.legal in
+      All-head (IsLegalAtPlace (initial_state_of v.initial) w.seen) seen_by (worker_by v.own).finished
+      (subst (All (IsLegalAtPlace (initial_state_of v.initial) w.seen)) finished all)
 
   -- it is the lookup that the loads tell
   same_found : answered_by ≡ words.found
@@ -287,12 +287,12 @@ module _ (addr low last high : ℕ) (v b u w : View) (begins : Gains (Begins (ad
       → hi ≡ begun_at high
       → LooksUp addr hop lo hi v w
   looked hop lo hi hop_is lo_is hi_is =
-      let loaded : GoesOn v u = goes_on v b u (gains_on (Begins (addr ∷ []) low) v b begins) words.rest in
-      let opened : u.opening ≡ v.opening = ap (λ (x : View). x.opening) loaded.same in
+      let loaded : GoesOn v u = goes_on v b u (gains_on (BeginLookup (addr ∷ []) low) v b begins) words.rest in
+      let initial : u.initial ≡ v.initial = ap (λ (x : View). x.initial) loaded.same in
       let seen_is : seen_by ≡ seen_of lo hi words.found = λ i. seen_of (sym lo_is i) (sym hi_is i) (same_found i) in record {
         started = b;
         loaded = u;
-        around = around (addr ∷ []) low high lo hi v b u w begins ends known_then known opened lo_is hi_is;
+        around = around (addr ∷ []) low high lo hi v b u w begins ends known_then known initial lo_is hi_is;
         found = words.found;
         steps = words.steps;
         exact = words.exact;
@@ -301,5 +301,5 @@ module _ (addr low last high : ℕ) (v b u w : View) (begins : Gains (Begins (ad
         online = ap (λ (x : WorkerState). x.phase) state;
         finished = finished ∙ ap (λ (l : Seen). l ∷ (worker_by v.own).finished) seen_is;
         after = words.after;
-        legal = subst (IsLegalAtPlace (setup_of v.opening) w.seen) seen_is legal;
+        legal = subst (IsLegalAtPlace (initial_state_of v.initial) w.seen) seen_is legal;
       }

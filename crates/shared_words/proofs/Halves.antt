@@ -4,7 +4,7 @@ use Rattle.std.proofs.lemmas.List.{get_or-set_same, get_or-map, length-map}
 use Rattle.std.proofs.lemmas.List.FromFn.{get_or-range_with_len, length-range_with_len}
 use Rattle.std.specs.List.{range_with_len}
 use Rattle.lpm_trace.proofs.Basics.{set_case}
-use Rattle.shared_words.specs.Layout.{half, pairs, pair_at, packed}
+use Rattle.shared_words.specs.Layout.{half, pairs, pair_at, packed_words}
 
 -- ---- the halves of a word
 
@@ -29,14 +29,14 @@ even_or_odd (suc k) = elim (even_or_odd k) [
 
 -- ---- the words that the words of a table share
 
-pub packed_length : (xs : List ℕ) → length (packed xs) ≡ pairs (length xs)
+pub packed_length : (xs : List ℕ) → length (packed_words xs) ≡ pairs (length xs)
 packed_length xs =
     length-map (range_with_len 0 (pairs (length xs))) (pair_at xs) ∙ length-range_with_len 0 (pairs (length xs))
 
 from_zero : (q : ℕ) → 0 + q ≡ q
 from_zero q = omega arith
 
-packed_at : (xs : List ℕ) (q : ℕ) → q < pairs (length xs) → slice_index (packed xs) q ≡ pair_at xs q
+packed_at : (xs : List ℕ) (q : ℕ) → q < pairs (length xs) → slice_index (packed_words xs) q ≡ pair_at xs q
 packed_at xs q low =
     let many : length (range_with_len 0 (pairs (length xs))) ≡ pairs (length xs) =
     length-range_with_len 0 (pairs (length xs)) in
@@ -52,7 +52,7 @@ high_half k a b w odd low high is = let h = half_odd k w odd in omega (arith, h,
 
 -- each table word is a half of the word that it shares
 pub packed_half : (xs : List ℕ) → ((i : ℕ) → i < length xs → slice_index xs i < 2 ^ 32)
-    → (k : ℕ) → k < length xs → half k (slice_index (packed xs) (k / 2)) ≡ slice_index xs k
+    → (k : ℕ) → k < length xs → half k (slice_index (packed_words xs) (k / 2)) ≡ slice_index xs k
 packed_half xs small k inside =
     let q : ℕ = k / 2 in
     let is = packed_at xs q (omega (arith, inside)) in

@@ -2,43 +2,43 @@
 use Rattle.std.proofs.Common.{◌≡◌, ◌≢◌, ℕ, suc, ◌+◌, ◌/◌, ◌^◌, ◌<◌, List, [], ◌∷◌, ◌++◌, length, replicate, slice_index, slice_set, refl, ap, ◌∙◌, arith}
 use Rattle.std.proofs.lemmas.List.{get_or-set_same, get_or-set_other, length-set, get_or_append_left, get_or-append-add, get_or-replicate, length-append, length-replicate}
 use Rattle.lpm_trace.specs.declared.step.WriterStep.{WriterStep}
-use Rattle.lpm_trace.specs.declared.step.WriterStep.TheVariants.{StoreFirst, StoreSecond, Opens, Closes, BumpToken, LoadCounter}
+use Rattle.lpm_trace.specs.declared.step.WriterStep.TheVariants.{StoreFirst, StoreSecond, BeginUpdate, EndUpdate, BumpToken, LoadCounter}
 use Rattle.lpm_trace.specs.declared.step.TraceStep.TheVariants.{Writer as ByWriter}
-use Rattle.lpm_trace.specs.Tables.{Setup, Tables, tables, written}
-use Rattle.lpm_trace.specs.Course.{Course}
+use Rattle.lpm_trace.specs.States.{InitialState, TableState, state_after, state_by_step}
+use Rattle.lpm_trace.specs.Progress.{WriterProgress}
 use Rattle.lpm_trace.specs.Trace.{World, apply, after}
-use Rattle.shared_words.specs.Opened.{Opened, setup_of}
-use Rattle.shared_words.specs.Layout.{IsLaidOut, word_count, half, pairs, packed, first_at, second_at, sequence_at, token_at, counter_at, opening_words}
+use Rattle.shared_words.specs.Initial.{InitialData, initial_state_of}
+use Rattle.shared_words.specs.Layout.{IsLaidOut, word_count, half, pairs, packed_words, first_at, second_at, sequence_at, token_at, counter_at, initial_words}
 use Rattle.shared_words.proofs.Halves.{half_stored, packed_half, packed_length}
 
 -- no step changes how many words there are
-firsts_written : (c : Setup) (w : Tables) (s : WriterStep)
-    → length (written c w s).words.firsts ≡ length w.words.firsts
+firsts_written : (c : InitialState) (w : TableState) (s : WriterStep)
+    → length (state_by_step c w s).words.firsts ≡ length w.words.firsts
 firsts_written c w (StoreFirst i x) = length-set w.words.firsts i x
 firsts_written c w (StoreSecond j x) = refl
-firsts_written c w (Opens change) = refl
-firsts_written c w Closes = refl
+firsts_written c w (BeginUpdate change) = refl
+firsts_written c w EndUpdate = refl
 firsts_written c w BumpToken = refl
 firsts_written c w (LoadCounter token worker counter) = refl
 
-seconds_written : (c : Setup) (w : Tables) (s : WriterStep)
-    → length (written c w s).words.seconds ≡ length w.words.seconds
+seconds_written : (c : InitialState) (w : TableState) (s : WriterStep)
+    → length (state_by_step c w s).words.seconds ≡ length w.words.seconds
 seconds_written c w (StoreFirst i x) = refl
 seconds_written c w (StoreSecond j x) = length-set w.words.seconds j x
-seconds_written c w (Opens change) = refl
-seconds_written c w Closes = refl
+seconds_written c w (BeginUpdate change) = refl
+seconds_written c w EndUpdate = refl
 seconds_written c w BumpToken = refl
 seconds_written c w (LoadCounter token worker counter) = refl
 
-pub firsts_length : (c : Setup) (seen : List WriterStep)
-    → length (tables c seen).words.firsts ≡ length c.words.firsts
+pub firsts_length : (c : InitialState) (seen : List WriterStep)
+    → length (state_after c seen).words.firsts ≡ length c.words.firsts
 firsts_length c [] = refl
-firsts_length c (s ∷ seen) = firsts_written c (tables c seen) s ∙ firsts_length c seen
+firsts_length c (s ∷ seen) = firsts_written c (state_after c seen) s ∙ firsts_length c seen
 
-pub seconds_length : (c : Setup) (seen : List WriterStep)
-    → length (tables c seen).words.seconds ≡ length c.words.seconds
+pub seconds_length : (c : InitialState) (seen : List WriterStep)
+    → length (state_after c seen).words.seconds ≡ length c.words.seconds
 seconds_length c [] = refl
-seconds_length c (s ∷ seen) = seconds_written c (tables c seen) s ∙ seconds_length c seen
+seconds_length c (s ∷ seen) = seconds_written c (state_after c seen) s ∙ seconds_length c seen
 
 -- a word elsewhere
 beside : (words : List ℕ) (p x q y : ℕ) → q ≢ p → slice_index words q ≡ y
@@ -50,22 +50,22 @@ half_away : (words : List ℕ) (p x q k y : ℕ) → q ≢ p → half k (slice_i
     → half k (slice_index (slice_set words p x) q) ≡ y
 half_away words p x q k y ne is = ap (half k) (get_or-set_other words p q x 0 ne) ∙ is
 
-module _ (o : Opened) (words : List ℕ) (w : World) (laid : IsLaidOut o words w) where
+module _ (o : InitialData) (words : List ℕ) (w : World) (laid : IsLaidOut o words w) where
   -- word x is stored at place i of the first table, by word n, which keeps the neighbour
   pub lays_first : (i x n : ℕ) → i < length o.firsts → half i n ≡ x
       → ((k : ℕ) → k < length o.firsts → first_at k ≡ first_at i → k ≢ i
-      → half k n ≡ slice_index w.tables.words.firsts k)
-      → IsLaidOut o (slice_set words (first_at i) n) (apply (setup_of o) w (ByWriter (StoreFirst i x)))
+      → half k n ≡ slice_index w.state.words.firsts k)
+      → IsLaidOut o (slice_set words (first_at i) n) (apply (initial_state_of o) w (ByWriter (StoreFirst i x)))
   lays_first i x n inside stored kept =
       let at : ℕ = first_at i in
       let away = beside words at n in
       let low : at < length words = omega (arith, inside, laid.count) in
-      let low' : i < length w.tables.words.firsts = omega (arith, inside, laid.firsts_len) in
+      let low' : i < length w.state.words.firsts = omega (arith, inside, laid.firsts_len) in
       record {
         count = length-set words at n ∙ laid.count;
-        firsts_len = length-set w.tables.words.firsts i x ∙ laid.firsts_len;
+        firsts_len = length-set w.state.words.firsts i x ∙ laid.firsts_len;
         seconds_len = laid.seconds_len;
-        firsts = λ j lt. half_stored words w.tables.words.firsts at n (first_at j) i x j low low' stored
+        firsts = λ j lt. half_stored words w.state.words.firsts at n (first_at j) i x j low low' stored
             (ap first_at) (λ ne e. kept j lt e ne) (laid.firsts j lt);
         seconds = λ j lt. half_away words at n (second_at o j) j _ (λ e. omega (arith, e, inside))
             (laid.seconds j lt);
@@ -77,19 +77,19 @@ module _ (o : Opened) (words : List ℕ) (w : World) (laid : IsLaidOut o words w
   -- word x is stored at place j of the second table, by word n, which keeps the neighbour
   pub lays_second : (j x n : ℕ) → j < length o.seconds → half j n ≡ x
       → ((k : ℕ) → k < length o.seconds → second_at o k ≡ second_at o j → k ≢ j
-      → half k n ≡ slice_index w.tables.words.seconds k)
-      → IsLaidOut o (slice_set words (second_at o j) n) (apply (setup_of o) w (ByWriter (StoreSecond j x)))
+      → half k n ≡ slice_index w.state.words.seconds k)
+      → IsLaidOut o (slice_set words (second_at o j) n) (apply (initial_state_of o) w (ByWriter (StoreSecond j x)))
   lays_second j x n inside stored kept =
       let at : ℕ = second_at o j in
       let away = beside words at n in
       let low : at < length words = omega (arith, inside, laid.count) in
-      let low' : j < length w.tables.words.seconds = omega (arith, inside, laid.seconds_len) in
+      let low' : j < length w.state.words.seconds = omega (arith, inside, laid.seconds_len) in
       record {
         count = length-set words at n ∙ laid.count;
         firsts_len = laid.firsts_len;
-        seconds_len = length-set w.tables.words.seconds j x ∙ laid.seconds_len;
+        seconds_len = length-set w.state.words.seconds j x ∙ laid.seconds_len;
         firsts = λ i lt. half_away words at n (first_at i) i _ (λ e. omega (arith, e, lt)) (laid.firsts i lt);
-        seconds = λ i lt. half_stored words w.tables.words.seconds at n (second_at o i) j x i low low' stored
+        seconds = λ i lt. half_stored words w.state.words.seconds at n (second_at o i) j x i low low' stored
             (ap (second_at o)) (λ ne e. kept i lt e ne) (laid.seconds i lt);
         sequence = away sequence_at _ (λ e. omega (arith, e, inside)) laid.sequence;
         token = away token_at _ (λ e. omega (arith, e, inside)) laid.token;
@@ -97,13 +97,13 @@ module _ (o : Opened) (words : List ℕ) (w : World) (laid : IsLaidOut o words w
       }
 
   -- the sequence alone changes
-  pub lays_sequence : (t : Tables) (course : Course)
+  pub lays_sequence : (t : TableState) (progress : WriterProgress)
       → IsLaidOut o (slice_set words sequence_at t.sequence) (record {
-        tables = record t { words = w.tables.words; token = w.tables.token };
-        course = course;
+        state = record t { words = w.state.words; token = w.state.token };
+        progress = progress;
         workers = w.workers;
       })
-  lays_sequence t course =
+  lays_sequence t progress =
       let at : ℕ = sequence_at in
       let away = beside words at t.sequence in
       record {
@@ -119,13 +119,13 @@ module _ (o : Opened) (words : List ℕ) (w : World) (laid : IsLaidOut o words w
       }
 
   -- the token alone changes
-  pub lays_token : (t : Tables) (course : Course)
+  pub lays_token : (t : TableState) (progress : WriterProgress)
       → IsLaidOut o (slice_set words token_at t.token) (record {
-        tables = record t { words = w.tables.words; sequence = w.tables.sequence };
-        course = course;
+        state = record t { words = w.state.words; sequence = w.state.sequence };
+        progress = progress;
         workers = w.workers;
       })
-  lays_token t course =
+  lays_token t progress =
       let at : ℕ = token_at in
       let away = beside words at t.token in
       record {
@@ -141,17 +141,17 @@ module _ (o : Opened) (words : List ℕ) (w : World) (laid : IsLaidOut o words w
       }
 
   -- no word changes
-  pub lays_none : (t : Tables) (course : Course)
+  pub lays_none : (t : TableState) (progress : WriterProgress)
       → IsLaidOut o words (record {
-        tables = record t {
-          words = w.tables.words;
-          sequence = w.tables.sequence;
-          token = w.tables.token;
+        state = record t {
+          words = w.state.words;
+          sequence = w.state.sequence;
+          token = w.state.token;
         };
-        course = course;
+        progress = progress;
         workers = w.workers;
       })
-  lays_none t course = record {
+  lays_none t progress = record {
     count = laid.count;
     firsts_len = laid.firsts_len;
     seconds_len = laid.seconds_len;
@@ -163,10 +163,10 @@ module _ (o : Opened) (words : List ℕ) (w : World) (laid : IsLaidOut o words w
   }
 
 -- how many words there are at the start
-pub opening_count : (o : Opened) → length (opening_words o) ≡ word_count o
+pub opening_count : (o : InitialData) → length (initial_words o) ≡ word_count o
 opening_count o =
-    let firsts : List ℕ = packed o.firsts in
-    let seconds : List ℕ = packed o.seconds in
+    let firsts : List ℕ = packed_words o.firsts in
+    let seconds : List ℕ = packed_words o.seconds in
     let calm : List ℕ = replicate o.workers 0 in
     let many : length calm ≡ o.workers = length-replicate {A = ℕ} o.workers 0 in
     omega (
@@ -179,17 +179,17 @@ opening_count o =
     )
 
 -- the words at the start, where each is one of 32 bits
-pub lays_opening : (o : Opened) → ((i : ℕ) → i < length o.firsts → slice_index o.firsts i < 2 ^ 32)
+pub lays_opening : (o : InitialData) → ((i : ℕ) → i < length o.firsts → slice_index o.firsts i < 2 ^ 32)
     → ((j : ℕ) → j < length o.seconds → slice_index o.seconds j < 2 ^ 32)
-    → IsLaidOut o (opening_words o) (after (setup_of o) [])
+    → IsLaidOut o (initial_words o) (after (initial_state_of o) [])
 lays_opening o small_first small_second =
-    let firsts : List ℕ = packed o.firsts in
-    let seconds : List ℕ = packed o.seconds in
+    let firsts : List ℕ = packed_words o.firsts in
+    let seconds : List ℕ = packed_words o.seconds in
     let f : length firsts ≡ pairs (length o.firsts) = packed_length o.firsts in
     let s : length seconds ≡ pairs (length o.seconds) = packed_length o.seconds in
     let calm : List ℕ = replicate o.workers 0 in
     let rest : List ℕ = seconds ++ calm in
-    let all : List ℕ = opening_words o in
+    let all : List ℕ = initial_words o in
     let behind : (at k : ℕ) → at ≡ suc (suc k) → slice_index all at ≡ slice_index (firsts ++ rest) k =
     λ at k e. ap (slice_index all) e in
     let past : (at k : ℕ) → at ≡ suc (suc (length firsts + k)) → slice_index all at ≡ slice_index rest k =

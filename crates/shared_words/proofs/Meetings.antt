@@ -7,14 +7,14 @@ use lib.ListN.{get_elem?}
 use Rattle.atomic_table.specs.Table.{State, Me, keeps, step, Allows, Splits, Joins}
 use Rattle.atomic_table.proofs.Lists.{at_set, at_snoc, set_again, set_else}
 use Rattle.lpm_trace.specs.declared.step.WriterStep.{WriterStep}
-use Rattle.lpm_trace.specs.declared.step.WorkerStep.TheVariants.{Meets}
+use Rattle.lpm_trace.specs.declared.step.WorkerStep.TheVariants.{MeetWriter}
 use Rattle.lpm_trace.specs.declared.step.TraceStep.{TraceStep}
 use Rattle.lpm_trace.specs.Trace.{writes}
 use Rattle.shared_words.specs.declared.view.Role.{Role}
 use Rattle.shared_words.specs.declared.view.Role.TheVariants.{Writer, Worker, Note}
 use Rattle.shared_words.specs.declared.view.View.{View}
-use Rattle.shared_words.specs.Opened.{Opened}
-use Rattle.shared_words.specs.Rule.{IsLater, Seating, Sits, IsViewOf, Holds, note_of, read_note, hearing}
+use Rattle.shared_words.specs.Initial.{InitialData}
+use Rattle.shared_words.specs.Rule.{IsLater, Seating, Sits, IsViewOf, Holds, note_of, read_note, view_with_note}
 use Rattle.shared_words.specs.Seats.{Gains, SeatCompares}
 
 -- ---- lists that go on from one another
@@ -33,7 +33,7 @@ later_both xs ys h k =
 from_none : (xs : List WriterStep) → IsLater [] xs
 from_none xs = (xs, sym (append-nil xs))
 
-module _ (o : Opened) where
+module _ (o : InitialData) where
   abbrev St : Type 0
   St = State (Unit {0}) View
 
@@ -99,14 +99,14 @@ module _ (o : Opened) where
 
   -- a seat takes in a note
   pub notes_join : (id other : ℕ) (v w : View)
-      → Joins {S = Unit {0}} (Holds o) id v other w (hearing v w) read_note
+      → Joins {S = Unit {0}} (Holds o) id v other w (view_with_note v w) read_note
   notes_join id other v w s h at apart there =
       let is : ℕ → View → Type 0 = IsViewOf o h.steps h.seating in
-      let note : is other w = h.views other w (sym (set_else s.views id other (hearing v w) apart) ∙ there) in
-      kept s h (slice_set (slice_set s.views id (hearing v w)) other read_note)
-      (views_set is (slice_set s.views id (hearing v w)) other read_note
+      let note : is other w = h.views other w (sym (set_else s.views id other (view_with_note v w) apart) ∙ there) in
+      kept s h (slice_set (slice_set s.views id (view_with_note v w)) other read_note)
+      (views_set is (slice_set s.views id (view_with_note v w)) other read_note
       record { sits = tt; seen = from_none (writes h.steps); told = from_none (writes h.steps) }
-      (views_set is s.views id (hearing v w)
+      (views_set is s.views id (view_with_note v w)
       (told_is h.steps h.seating id v w.seen (h.views id v at) note.seen) h.views))
 
   -- the writer compares what it was told with its own steps
@@ -130,7 +130,7 @@ module _ (o : Opened) where
 -- ---- what both know in the end
 
 -- the worker has seen what the writer has
-pub all_seen : (number : ℕ) (v w v' : View) → Gains (Meets number) (record v { told = w.seen }) v'
+pub all_seen : (number : ℕ) (v w v' : View) → Gains (MeetWriter number) (record v { told = w.seen }) v'
     → IsLater v'.seen w.seen → v'.seen ≡ w.seen
 all_seen number v w v' gained later =
     let seen : v'.seen ≡ gained.seen = ap (λ (x : View). x.seen) gained.view in

@@ -6,29 +6,29 @@ use Rattle.lpm_cells.specs.declared.entry.Entry.TheVariants.{Miss, Hop, Group}
 use Rattle.lpm_cells.specs.Words.{entry_in, IsLastWord}
 use Rattle.lpm_cells.specs.Table.{IsFirst, IsFirstWord, IsWords}
 use Rattle.lpm_trace.specs.declared.step.WorkerStep.{WorkerStep}
-use Rattle.lpm_trace.specs.declared.step.WorkerStep.TheVariants.{LoadOnline, StoreOnline, LoadQuiescent, StoreQuiescent, StoreOffline, Begins, LoadFirst, LoadSecond, Ends, Meets}
-use Rattle.lpm_trace.specs.Tables.{Tables, addresses}
+use Rattle.lpm_trace.specs.declared.step.WorkerStep.TheVariants.{LoadOnline, StoreOnline, LoadQuiescent, StoreQuiescent, StoreOffline, BeginLookup, LoadFirst, LoadSecond, EndLookup, MeetWriter}
+use Rattle.lpm_trace.specs.States.{TableState, addresses}
 use Rattle.lpm_trace.specs.Workers.{Offline, ComingOnline, Online, LookingUp, ReportingQuiescent, Probe, Unread, InGroup, Answered, IsNextFirst, IsNextSecond, AreBegun, AreAnswered, IsBetweenDeeds}
 use Rattle.lpm_trace.specs.Trace.{World, after, worker_by}
 use Rattle.lpm_trace.proofs.Promises.{words_are_entries}
 use Rattle.shared_words.specs.declared.view.Role.TheVariants.{Worker}
 use Rattle.shared_words.specs.declared.view.View.{View}
-use Rattle.shared_words.specs.Opened.{Opened, setup_of}
+use Rattle.shared_words.specs.Initial.{InitialData, initial_state_of}
 use Rattle.shared_words.specs.Layout.{half, first_at, second_at, sequence_at, token_at, counter_at}
 use Rattle.shared_words.specs.Rule.{Holds}
 use Rattle.shared_words.specs.Seats.{IsFirstAt, IsSecondAt, WorkerGains, WorkerGainsFirst, WorkerGainsSecond}
 use Rattle.shared_words.proofs.Workings.{load_allowed, plain, store_allowed}
 
 -- the place decides which first word is next, and which second word
-next_first : (o : Opened) (w : Tables) (word i : ℕ) (probes : List Probe) → IsFirstAt o.second i probes
-    → word ≡ slice_index w.words.firsts i → IsNextFirst (setup_of o) w word probes
+next_first : (o : InitialData) (w : TableState) (word i : ℕ) (probes : List Probe) → IsFirstAt o.second i probes
+    → word ≡ slice_index w.words.firsts i → IsNextFirst (initial_state_of o) w word probes
 next_first o w word i [] at is = absurd at
 next_first o w word i (Unread a ∷ rest) at is = is ∙ ap (slice_index w.words.firsts) at
 next_first o w word i (InGroup a g f ∷ rest) at is = next_first o w word i rest at is
 next_first o w word i (Answered a h f l ∷ rest) at is = next_first o w word i rest at is
 
-next_second : (o : Opened) (w : Tables) (word j : ℕ) (probes : List Probe) → IsSecondAt o.second j probes
-    → word ≡ slice_index w.words.seconds j → IsNextSecond (setup_of o) w word probes
+next_second : (o : InitialData) (w : TableState) (word j : ℕ) (probes : List Probe) → IsSecondAt o.second j probes
+    → word ≡ slice_index w.words.seconds j → IsNextSecond (initial_state_of o) w word probes
 next_second o w word j [] at is = absurd at
 next_second o w word j (Unread a ∷ rest) at is = absurd at
 next_second o w word j (InGroup a g f ∷ rest) at is = is ∙ ap (slice_index w.words.seconds) at
@@ -41,7 +41,7 @@ room second xs ys same Miss is = tt
 room second xs ys same (Hop hop depth) is = tt
 room second xs ys same (Group group) is = omega (arith, same, is)
 
-module _ (o : Opened) (slots id k at : ℕ) (me : Me (Unit {0}) View) (role : me.0.role ≡ Worker k) where
+module _ (o : InitialData) (slots id k at : ℕ) (me : Me (Unit {0}) View) (role : me.0.role ≡ Worker k) where
   -- a load of the word at this place
   abbrev Loads : ℕ → (ℕ → WorkerStep) → Type 0
   Loads i of = Allows (Holds o) slots id me i (λ n. n) (λ n me'. WorkerGains (of n) me me')
@@ -62,84 +62,84 @@ module _ (o : Opened) (slots id k at : ℕ) (me : Me (Unit {0}) View) (role : me
       (λ s h same. ((online, h.words.token), tt))))
 
   pub begins_allowed : (addrs : List ℕ) → at ≡ sequence_at → (worker_by me.0.own).phase ≡ Online
-      → All (λ a. a < addresses (setup_of me.0.opening)) addrs → Loads at (Begins addrs)
-  begins_allowed addrs there online inside = subst (λ i. Loads i (Begins addrs)) (sym there)
-      (plain o (Begins addrs) slots id sequence_at me
-      (load_allowed o (Begins addrs) (λ _. Unit {0}) slots id k sequence_at me role (λ n now w. refl)
+      → All (λ a. a < addresses (initial_state_of me.0.initial)) addrs → Loads at (BeginLookup addrs)
+  begins_allowed addrs there online inside = subst (λ i. Loads i (BeginLookup addrs)) (sym there)
+      (plain o (BeginLookup addrs) slots id sequence_at me
+      (load_allowed o (BeginLookup addrs) (λ _. Unit {0}) slots id k sequence_at me role (λ n now w. refl)
       (λ s h same. (
         (
           online,
-          subst (λ (z : Opened). All (λ a. a < addresses (setup_of z)) addrs) same inside,
+          subst (λ (z : InitialData). All (λ a. a < addresses (initial_state_of z)) addrs) same inside,
           h.words.sequence,
         ),
         tt,
       ))))
 
   pub ends_allowed : at ≡ sequence_at → (worker_by me.0.own).phase ≡ LookingUp
-      → AreAnswered (worker_by me.0.own).probes → Loads at Ends
-  ends_allowed there looking answered = subst (λ i. Loads i Ends) (sym there)
-      (plain o Ends slots id sequence_at me
-      (load_allowed o Ends (λ _. Unit {0}) slots id k sequence_at me role (λ n now w. refl)
+      → AreAnswered (worker_by me.0.own).probes → Loads at EndLookup
+  ends_allowed there looking answered = subst (λ i. Loads i EndLookup) (sym there)
+      (plain o EndLookup slots id sequence_at me
+      (load_allowed o EndLookup (λ _. Unit {0}) slots id k sequence_at me role (λ n now w. refl)
       (λ s h same. ((looking, answered, h.words.sequence), tt))))
 
-  pub meets_allowed : at ≡ sequence_at → IsBetweenDeeds (worker_by me.0.own).phase → Loads at Meets
-  meets_allowed there between = subst (λ i. Loads i Meets) (sym there)
-      (plain o Meets slots id sequence_at me
-      (load_allowed o Meets (λ _. Unit {0}) slots id k sequence_at me role (λ n now w. refl)
+  pub meets_allowed : at ≡ sequence_at → IsBetweenDeeds (worker_by me.0.own).phase → Loads at MeetWriter
+  meets_allowed there between = subst (λ i. Loads i MeetWriter) (sym there)
+      (plain o MeetWriter slots id sequence_at me
+      (load_allowed o MeetWriter (λ _. Unit {0}) slots id k sequence_at me role (λ n now w. refl)
       (λ s h same. ((between, h.words.sequence), tt))))
 
   pub first_allowed : (i : ℕ) → at ≡ first_at i → i < length o.firsts
       → (worker_by me.0.own).phase ≡ LookingUp
-      → IsFirstAt me.0.opening.second i (worker_by me.0.own).probes
+      → IsFirstAt me.0.initial.second i (worker_by me.0.own).probes
       → Allows (Holds o) slots id me at (λ n. n) (λ n. WorkerGainsFirst me (half i n))
   first_allowed i there inside looking next = subst
       (λ q. Allows (Holds o) slots id me q (λ n. n) (λ n. WorkerGainsFirst me (half i n))) (sym there)
       (load_allowed o (λ n. LoadFirst (half i n))
-      (λ n. IsFirstWord (me.0.opening.first + me.0.opening.second) me.0.opening.second me.0.opening.seconds
+      (λ n. IsFirstWord (me.0.initial.first + me.0.initial.second) me.0.initial.second me.0.initial.seconds
       (half i n))
       slots id k (first_at i) me role (λ n now w. refl)
       (λ s h same.
-      let w : World = after (setup_of o) h.steps in
+      let w : World = after (initial_state_of o) h.steps in
       let word : ℕ = half i (slice_index s.words (first_at i)) in
-      let is : word ≡ slice_index w.tables.words.firsts i = h.words.firsts i inside in
-      let entries : IsWords o.first o.second w.tables.words =
-      words_are_entries (setup_of o) h.steps h.settled h.trace in
-      let there : IsFirstWord (o.first + o.second) o.second w.tables.words.seconds word = subst
-      (IsFirstWord (o.first + o.second) o.second w.tables.words.seconds) (sym is)
+      let is : word ≡ slice_index w.state.words.firsts i = h.words.firsts i inside in
+      let entries : IsWords o.first o.second w.state.words =
+      words_are_entries (initial_state_of o) h.steps h.settled h.trace in
+      let there : IsFirstWord (o.first + o.second) o.second w.state.words.seconds word = subst
+      (IsFirstWord (o.first + o.second) o.second w.state.words.seconds) (sym is)
       (entries.first_words i (omega (arith, inside, h.words.firsts_len))) in (
         (
           looking,
-          next_first o w.tables word i (worker_by me.0.own).probes
-              (subst (λ (z : Opened). IsFirstAt z.second i (worker_by me.0.own).probes) same next) is,
+          next_first o w.state word i (worker_by me.0.own).probes
+              (subst (λ (z : InitialData). IsFirstAt z.second i (worker_by me.0.own).probes) same next) is,
         ),
-        subst (λ (z : Opened). IsFirstWord (z.first + z.second) z.second z.seconds word) (sym same) (
+        subst (λ (z : InitialData). IsFirstWord (z.first + z.second) z.second z.seconds word) (sym same) (
           there.0,
-          room o.second w.tables.words.seconds o.seconds h.words.seconds_len (entry_in word) there.1,
+          room o.second w.state.words.seconds o.seconds h.words.seconds_len (entry_in word) there.1,
         ),
       )))
 
   pub second_allowed : (j : ℕ) → at ≡ second_at o j → j < length o.seconds
       → (worker_by me.0.own).phase ≡ LookingUp → AreBegun (worker_by me.0.own).probes
-      → IsSecondAt me.0.opening.second j (worker_by me.0.own).probes
+      → IsSecondAt me.0.initial.second j (worker_by me.0.own).probes
       → Allows (Holds o) slots id me at (λ n. n) (λ n. WorkerGainsSecond me (half j n))
   second_allowed j there inside looking begun next = subst
       (λ q. Allows (Holds o) slots id me q (λ n. n) (λ n. WorkerGainsSecond me (half j n))) (sym there)
       (load_allowed o (λ n. LoadSecond (half j n))
-      (λ n. IsLastWord (me.0.opening.first + me.0.opening.second) (half j n))
+      (λ n. IsLastWord (me.0.initial.first + me.0.initial.second) (half j n))
       slots id k (second_at o j) me role (λ n now w. refl)
       (λ s h same.
-      let w : World = after (setup_of o) h.steps in
+      let w : World = after (initial_state_of o) h.steps in
       let word : ℕ = half j (slice_index s.words (second_at o j)) in
-      let is : word ≡ slice_index w.tables.words.seconds j = h.words.seconds j inside in
-      let entries : IsWords o.first o.second w.tables.words =
-      words_are_entries (setup_of o) h.steps h.settled h.trace in (
+      let is : word ≡ slice_index w.state.words.seconds j = h.words.seconds j inside in
+      let entries : IsWords o.first o.second w.state.words =
+      words_are_entries (initial_state_of o) h.steps h.settled h.trace in (
         (
           looking,
           begun,
-          next_second o w.tables word j (worker_by me.0.own).probes
-              (subst (λ (z : Opened). IsSecondAt z.second j (worker_by me.0.own).probes) same next) is,
+          next_second o w.state word j (worker_by me.0.own).probes
+              (subst (λ (z : InitialData). IsSecondAt z.second j (worker_by me.0.own).probes) same next) is,
         ),
-        subst (λ (z : Opened). IsLastWord (z.first + z.second) word) (sym same)
+        subst (λ (z : InitialData). IsLastWord (z.first + z.second) word) (sym same)
             (subst (IsLastWord (o.first + o.second)) (sym is)
             (entries.second_words j (omega (arith, inside, h.words.seconds_len)))),
       )))

@@ -3,10 +3,10 @@ use Rattle.std.proofs.Common.{◌≡◌, ℕ, ◌<◌, ap, subst, sym, ◌∙◌
 use Rattle.atomic_table.specs.Table.{Me}
 use Rattle.lpm_cells.specs.Table.{IsWords}
 use Rattle.lpm_trace.specs.declared.step.WorkerStep.{WorkerStep}
-use Rattle.lpm_trace.specs.Tables.{tables}
+use Rattle.lpm_trace.specs.States.{state_after}
 use Rattle.lpm_trace.specs.Writer.{IsWritten, MayStep}
 use Rattle.shared_words.specs.declared.view.View.{View}
-use Rattle.shared_words.specs.Opened.{Opened, setup_of}
+use Rattle.shared_words.specs.Initial.{InitialData, initial_state_of}
 use Rattle.shared_words.specs.Rule.{worker_view}
 use Rattle.shared_words.specs.Seats.{IsSound, Gains, IsOf, WordsAt, WorkerAt, IsWorkerSeat, WriterAt, IsWriterSeat, WriterGains}
 use Rattle.lpm_trace.specs.declared.step.WriterStep.{WriterStep}
@@ -20,13 +20,13 @@ pub seat_goes_on : (number : ℕ) (s : WorkerStep) (me me' : Me (Unit {0}) View)
 seat_goes_on number s me me' seat alone step sound = record {
   alone = alone ∙ seat.alone;
   role = ap (λ (v : View). v.role) step.view ∙ seat.role;
-  inside = subst (λ (o : Opened). number < o.workers) (sym (ap (λ (v : View). v.opening) step.view)) seat.inside;
+  inside = subst (λ (o : InitialData). number < o.workers) (sym (ap (λ (v : View). v.initial) step.view)) seat.inside;
   sound = sound;
 }
 
 -- that of a worker that has made no step
-pub first_sound : (v : View) → IsWritten (setup_of v.opening) v.seen
-    → IsWords v.opening.first v.opening.second (tables (setup_of v.opening) v.seen).words
+pub first_sound : (v : View) → IsWritten (initial_state_of v.initial) v.seen
+    → IsWords v.initial.first v.initial.second (state_after (initial_state_of v.initial) v.seen).words
     → IsSound (worker_view v)
 first_sound v written words = record {
   written = written;
@@ -54,7 +54,7 @@ phase_inside p a b same is = ap (λ (s : WorkerAt). (worker_by s.view.own).phase
 pub number_inside : (w : WordsAt) (seat : TableId) (number : ℕ) (me : Me (Unit {0}) View)
     → IsOf w seat me.0 → IsWorkerSeat number me → number < w.layout.workers
 number_inside w seat number me own is =
-    let below : number < w.opening.workers = subst (λ (z : Opened). number < z.workers) own.opening_is is.inside in
+    let below : number < w.initial.workers = subst (λ (z : InitialData). number < z.workers) own.opening_is is.inside in
     omega (arith, below, own.workers)
 
 -- ---- the writer
@@ -69,7 +69,7 @@ writer_goes_on s me me' seat step = record {
 }
 
 -- what it may do next by its value it may do by its fields
-pub may_inside : (s : WriterStep) (a b : WriterAt) → a ≡ b → MayStep (setup_of b.view.opening) b.view.seen s
-    → MayStep (setup_of a.view.opening) a.view.seen s
+pub may_inside : (s : WriterStep) (a b : WriterAt) → a ≡ b → MayStep (initial_state_of b.view.initial) b.view.seen s
+    → MayStep (initial_state_of a.view.initial) a.view.seen s
 may_inside s a b same may =
-    subst (λ (z : WriterAt). MayStep (setup_of z.view.opening) z.view.seen s) (sym same) may
+    subst (λ (z : WriterAt). MayStep (initial_state_of z.view.initial) z.view.seen s) (sym same) may

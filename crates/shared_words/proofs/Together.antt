@@ -4,13 +4,13 @@ use Rattle.std.proofs.lemmas.List.Elements.{All-nil, All-cons, All-head, All-tai
 use Rattle.lpm_cells.specs.declared.entry.Entry.{Entry}
 use Rattle.lpm_cells.specs.declared.entry.Entry.TheVariants.{Miss, Hop, Group}
 use Rattle.lpm_cells.specs.Words.{entry_in, hop_in, IsLast}
-use Rattle.lpm_trace.specs.declared.step.WorkerStep.TheVariants.{Begins, LoadFirst, LoadSecond, Ends}
-use Rattle.lpm_trace.specs.Tables.{done_at, begun_at}
+use Rattle.lpm_trace.specs.declared.step.WorkerStep.TheVariants.{BeginLookup, LoadFirst, LoadSecond, EndLookup}
+use Rattle.lpm_trace.specs.States.{done_at, begun_at}
 use Rattle.lpm_trace.specs.Trace.{worker_by}
-use Rattle.lpm_trace.specs.Workers.{Worker as WorkerState, Online, LookingUp, Unread, InGroup, Answered, Seen, Probe, moved, read_first, first_read, second_read, AreBegun, AreAnswered}
+use Rattle.lpm_trace.specs.Workers.{Worker as WorkerState, Online, LookingUp, Unread, InGroup, Answered, Seen, Probe, worker_by_step, read_first, first_read, second_read, AreBegun, AreAnswered}
 use Rattle.lpm_trace.specs.Laws.{IsLegalAtPlace}
 use Rattle.shared_words.specs.declared.view.View.{View}
-use Rattle.shared_words.specs.Opened.{Opened, setup_of}
+use Rattle.shared_words.specs.Initial.{InitialData, initial_state_of}
 use Rattle.shared_words.specs.Seats.{IsSound, Gains, IsSecondAt}
 use Rattle.shared_words.specs.Loads.{Found, IsReadOn, last_at, seen_of}
 use Rattle.shared_words.specs.Deeds.{GainsAt, GoesOn, LoadsFirsts, LoadsLast, IsNextWith, LooksUpAll, first_words, loads_first}
@@ -66,7 +66,7 @@ first_stands : (r : WorkerState) (a word : ℕ) (rest before : List Probe) (v w 
     → Stands r (before ++ read_first (length g.seen) a (entry_in word) ∷ rest) w
 first_stands r a word rest before v w g begun stands =
     gains_state (LoadFirst word) v w g
-    ∙ ap (λ (x : WorkerState). moved (length g.seen) x (LoadFirst word)) stands
+    ∙ ap (λ (x : WorkerState). worker_by_step (length g.seen) x (LoadFirst word)) stands
     ∙ ap (λ (ps : List Probe). record r { probes = ps }) (first_read_at (length g.seen) a (entry_in word) rest before begun)
 
 module _ (a b c d : ℕ) (v v1 v2 v3 w : View) (x1 x2 x3 x4 : ℕ) (g1 : Gains (LoadFirst x1) v v1)
@@ -205,15 +205,15 @@ pub same_four : {A : Type 0} {a b c d a' b' c' d' : A} → a' ≡ a → b' ≡ b
 same_four p q s t = λ i. p i ∷ q i ∷ s i ∷ t i ∷ []
 
 module _ (a b c d low : ℕ) (addrs : List ℕ) (same : addrs ≡ a ∷ b ∷ c ∷ d ∷ []) (v0 v : View)
-    (begun : Gains (Begins addrs low) v0 v) where
+    (begun : Gains (BeginLookup addrs low) v0 v) where
   abbrev r : WorkerState
   r = worker_by v.own
 
-  begins : Gains (Begins (a ∷ b ∷ c ∷ d ∷ []) low) v0 v
-  begins = subst (λ (xs : List ℕ). Gains (Begins xs low) v0 v) same begun
+  begins : Gains (BeginLookup (a ∷ b ∷ c ∷ d ∷ []) low) v0 v
+  begins = subst (λ (xs : List ℕ). Gains (BeginLookup xs low) v0 v) same begun
 
   looking : r.phase ≡ LookingUp
-  looking = ap (λ (x : WorkerState). x.phase) (gains_state (Begins (a ∷ b ∷ c ∷ d ∷ []) low) v0 v begins)
+  looking = ap (λ (x : WorkerState). x.phase) (gains_state (BeginLookup (a ∷ b ∷ c ∷ d ∷ []) low) v0 v begins)
 
   module _ (x1 x2 x3 x4 : ℕ) (f : View) (firsts : LoadsFirsts (a ∷ b ∷ c ∷ d ∷ []) (x1 ∷ x2 ∷ x3 ∷ x4 ∷ []) v f) where
     abbrev places_of : (n1 n2 n3 n4 : ℕ) × (firsts.places ≡ n1 ∷ n2 ∷ n3 ∷ n4 ∷ [])
@@ -309,7 +309,7 @@ module _ (a b c d low : ℕ) (addrs : List ℕ) (same : addrs ≡ a ∷ b ∷ c 
             pub all_answered : AreAnswered (worker_by s4.own).probes
             all_answered = subst (λ (x : WorkerState). AreAnswered x.probes) (sym stands4) tt
 
-            module _ (high : ℕ) (w : View) (ends : Gains (Ends high) s4 w) (known_then : IsSound v) (known : IsSound w) where
+            module _ (high : ℕ) (w : View) (ends : Gains (EndLookup high) s4 w) (known_then : IsSound v) (known : IsSound w) where
               abbrev found1 : Found
               found1 = record { addr = a; hop = hop_in (entry_in l1); word = x1; first = n1; second = one.second }
 
@@ -340,26 +340,26 @@ module _ (a b c d low : ℕ) (addrs : List ℕ) (same : addrs ≡ a ∷ b ∷ c 
                 probes = [];
                 finished = seen4 ∷ seen3 ∷ seen2 ∷ seen1 ∷ (worker_by v0.own).finished;
               }
-              state = gains_state (Ends high) s4 w ends
-                  ∙ ap (λ (x : WorkerState). moved (length ends.seen) x (Ends high))
+              state = gains_state (EndLookup high) s4 w ends
+                  ∙ ap (λ (x : WorkerState). worker_by_step (length ends.seen) x (EndLookup high))
                   (stands4
                   ∙ ap (λ (x : WorkerState). record x { probes = q1 ∷ q2 ∷ q3 ∷ q4 ∷ [] })
-                  (gains_state (Begins (a ∷ b ∷ c ∷ d ∷ []) low) v0 v begins))
+                  (gains_state (BeginLookup (a ∷ b ∷ c ∷ d ∷ []) low) v0 v begins))
 
               finished : (worker_by w.own).finished
                   ≡ seen4 ∷ seen3 ∷ seen2 ∷ seen1 ∷ (worker_by v0.own).finished
               finished = ap (λ (x : WorkerState). x.finished) state
 
               on_begun : GoesOn v0 v
-              on_begun = gains_on (Begins (a ∷ b ∷ c ∷ d ∷ []) low) v0 v begins
+              on_begun = gains_on (BeginLookup (a ∷ b ∷ c ∷ d ∷ []) low) v0 v begins
 
               on : GoesOn v0 w
               on = goes_on v0 v w on_begun (goes_on v f w firsts.rest (goes_on f s1 w one.rest
                   (goes_on s1 s2 w two.rest (goes_on s2 s3 w three.rest
-                  (goes_on s3 s4 w last.rest (gains_on (Ends high) s4 w ends))))))
+                  (goes_on s3 s4 w last.rest (gains_on (EndLookup high) s4 w ends))))))
 
               abbrev IsLegal : Seen → Type 0
-              IsLegal = IsLegalAtPlace (setup_of v0.opening) w.seen
+              IsLegal = IsLegalAtPlace (initial_state_of v0.initial) w.seen
 
               abbrev IsFoundLegal : Found → Type 0
               IsFoundLegal f = IsLegal (seen_of (done_at low) (begun_at high) f)
@@ -368,8 +368,8 @@ module _ (a b c d low : ℕ) (addrs : List ℕ) (same : addrs ≡ a ∷ b ∷ c 
               legal =
                   let old : List Seen = (worker_by v0.own).finished in
                   let all : All IsLegal (worker_by w.own).finished = subst
-                  (λ (o : Opened). All (IsLegalAtPlace (setup_of o) w.seen) (worker_by w.own).finished)
-                  (ap (λ (x : View). x.opening) on.same) known.legal in
+                  (λ (o : InitialData). All (IsLegalAtPlace (initial_state_of o) w.seen) (worker_by w.own).finished)
+                  (ap (λ (x : View). x.initial) on.same) known.legal in
                   let h4 : All IsLegal (seen4 ∷ seen3 ∷ seen2 ∷ seen1 ∷ old) = subst (All IsLegal) finished all in
                   let h3 = All-tail IsLegal seen4 (seen3 ∷ seen2 ∷ seen1 ∷ old) h4 in
                   let h2 = All-tail IsLegal seen3 (seen2 ∷ seen1 ∷ old) h3 in
@@ -389,11 +389,11 @@ module _ (a b c d low : ℕ) (addrs : List ℕ) (same : addrs ≡ a ∷ b ∷ c 
                   (All-head is n1 (n2 ∷ n3 ∷ n4 ∷ []) h1) (All-head is n2 (n3 ∷ n4 ∷ []) h2)
                   (All-head is n3 (n4 ∷ []) h3) (All-head is n4 [] h4)
 
-              opened : s4.opening ≡ v0.opening
-              opened =
+              initial : s4.initial ≡ v0.initial
+              initial =
                   let loaded : GoesOn v0 s4 = goes_on v0 v s4 on_begun (goes_on v f s4 firsts.rest
                   (goes_on f s1 s4 one.rest (goes_on s1 s2 s4 two.rest (goes_on s2 s3 s4 three.rest last.rest)))) in
-                  ap (λ (x : View). x.opening) loaded.same
+                  ap (λ (x : View). x.initial) loaded.same
 
               firsts_on : GainsAt (loads_first (n1 ∷ n2 ∷ n3 ∷ n4 ∷ []) (x1 ∷ x2 ∷ x3 ∷ x4 ∷ [])) v f
               firsts_on = subst (λ places. GainsAt (loads_first places (x1 ∷ x2 ∷ x3 ∷ x4 ∷ [])) v f) places_of.4 firsts.steps
@@ -412,7 +412,7 @@ module _ (a b c d low : ℕ) (addrs : List ℕ) (same : addrs ≡ a ∷ b ∷ c 
                     started = v;
                     loaded = s4;
                     around = around (a ∷ b ∷ c ∷ d ∷ []) low high (done_at low) (begun_at high) v0 v s4 w begins ends
-                        known_then known opened refl refl;
+                        known_then known initial refl refl;
                     found = found1 ∷ found2 ∷ found3 ∷ found4 ∷ [];
                     steps = goes_at _ _ v f s4 seconds_on firsts_on;
                     exact = all_of (λ f. IsReadOn (entry_in f.word) f.second f.hop) found1 found2 found3 found4

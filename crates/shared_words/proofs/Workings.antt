@@ -11,10 +11,10 @@ use Rattle.lpm_trace.specs.declared.step.WriterStep.{WriterStep}
 use Rattle.lpm_trace.specs.declared.step.WorkerStep.{WorkerStep}
 use Rattle.lpm_trace.specs.declared.step.TraceStep.{TraceStep}
 use Rattle.lpm_trace.specs.declared.step.TraceStep.TheVariants.{Worker as ByWorker}
-use Rattle.lpm_trace.specs.Tables.{IsSettled, tables}
-use Rattle.lpm_trace.specs.Workers.{Worker as WorkerState, moved, MayRead}
+use Rattle.lpm_trace.specs.States.{IsSettled, state_after}
+use Rattle.lpm_trace.specs.Workers.{Worker as WorkerState, worker_by_step, MayRead}
 use Rattle.lpm_trace.specs.Writer.{IsWritten}
-use Rattle.lpm_trace.specs.Trace.{World, after, IsTrace, MayCome, writes, own, worker_by}
+use Rattle.lpm_trace.specs.Trace.{World, after, IsTrace, MayCome, writes, own_steps, worker_by}
 use Rattle.lpm_trace.specs.Laws.{IsLegalAtPlace, ArePlaced}
 use Rattle.lpm_trace.proofs.Basics.{with_at_case}
 use Rattle.lpm_trace.proofs.Traces.{tables_of}
@@ -22,34 +22,34 @@ use Rattle.lpm_trace.proofs.Promises.{writer_is_alone, words_are_entries, own_lo
 use Rattle.shared_words.specs.declared.view.Role.{Role}
 use Rattle.shared_words.specs.declared.view.Role.TheVariants.{Writer, Worker, Note}
 use Rattle.shared_words.specs.declared.view.View.{View}
-use Rattle.shared_words.specs.Opened.{Opened, setup_of}
+use Rattle.shared_words.specs.Initial.{InitialData, initial_state_of}
 use Rattle.shared_words.specs.Layout.{half, first_at, second_at, sequence_at, token_at, counter_at, IsLaidOut}
 use Rattle.shared_words.specs.Rule.{Seating, Sits, IsViewOf, Holds}
 use Rattle.shared_words.specs.Seats.{IsSound, Gains, WorkerGains}
 
 -- the step leaves the worker's counter
 abbrev pub IsQuiet : WorkerStep → Type 0
-IsQuiet r = (now : ℕ) (w : WorkerState) → (moved now w r).counter ≡ w.counter
+IsQuiet r = (now : ℕ) (w : WorkerState) → (worker_by_step now w r).counter ≡ w.counter
 
 -- the step stores this in the worker's counter
 abbrev pub Stores : WorkerStep → ℕ → Type 0
-Stores r x = (now : ℕ) (w : WorkerState) → (moved now w r).counter ≡ x
+Stores r x = (now : ℕ) (w : WorkerState) → (worker_by_step now w r).counter ≡ x
 
 -- the view with the step
 abbrev pub gained : View → WorkerStep → List WriterStep → View
 gained v r seen = record v { own = (r, length seen) ∷ v.own; seen = seen }
 
 own_more : (k : ℕ) (r : WorkerStep) (steps : List TraceStep)
-    → own k (ByWorker k r ∷ steps) ≡ (r, length (writes steps)) ∷ own k steps
+    → own_steps k (ByWorker k r ∷ steps) ≡ (r, length (writes steps)) ∷ own_steps k steps
 own_more k r steps =
-    ap (λ (b : Bool). cond b ((r, length (writes steps)) ∷ own k steps) (own k steps)) (eq-eqb k k refl)
+    ap (λ (b : Bool). cond b ((r, length (writes steps)) ∷ own_steps k steps) (own_steps k steps)) (eq-eqb k k refl)
 
 own_same : (k j : ℕ) (r : WorkerStep) (steps : List TraceStep) → k ≢ j
-    → own k (ByWorker j r ∷ steps) ≡ own k steps
+    → own_steps k (ByWorker j r ∷ steps) ≡ own_steps k steps
 own_same k j r steps ne =
-    ap (λ (b : Bool). cond b ((r, length (writes steps)) ∷ own k steps) (own k steps)) (ne_eqb k j ne)
+    ap (λ (b : Bool). cond b ((r, length (writes steps)) ∷ own_steps k steps) (own_steps k steps)) (ne_eqb k j ne)
 
-module _ (o : Opened) where
+module _ (o : InitialData) where
   abbrev pub St : Type 0
   St = State (Unit {0}) View
 
@@ -57,10 +57,10 @@ module _ (o : Opened) where
 
   -- a load leaves the words
   loaded : (steps : List TraceStep) (k : ℕ) (r : WorkerStep) (words : List ℕ) → IsQuiet r
-      → IsLaidOut o words (after (setup_of o) steps)
-      → IsLaidOut o words (after (setup_of o) (ByWorker k r ∷ steps))
+      → IsLaidOut o words (after (initial_state_of o) steps)
+      → IsLaidOut o words (after (initial_state_of o) (ByWorker k r ∷ steps))
   loaded steps k r words quiet laid =
-      let w : World = after (setup_of o) steps in
+      let w : World = after (initial_state_of o) steps in
       record {
         count = laid.count;
         firsts_len = laid.firsts_len;
@@ -70,18 +70,18 @@ module _ (o : Opened) where
         sequence = laid.sequence;
         token = laid.token;
         counters = λ j lt. with_at_case (λ (x : WorkerState). slice_index words (counter_at o j) ≡ x.counter)
-            w.workers k (moved w.tables.clock (w.workers k) r) j
+            w.workers k (worker_by_step w.state.clock (w.workers k) r) j
             (λ e. laid.counters j lt ∙ ap (λ (i : ℕ). (w.workers i).counter) e
-            ∙ sym (quiet w.tables.clock (w.workers k)))
+            ∙ sym (quiet w.state.clock (w.workers k)))
             (λ ne. laid.counters j lt);
       }
 
   -- a store changes the worker's counter alone
   stored : (steps : List TraceStep) (k x : ℕ) (r : WorkerStep) (words : List ℕ) → k < o.workers → Stores r x
-      → IsLaidOut o words (after (setup_of o) steps)
-      → IsLaidOut o (slice_set words (counter_at o k) x) (after (setup_of o) (ByWorker k r ∷ steps))
+      → IsLaidOut o words (after (initial_state_of o) steps)
+      → IsLaidOut o (slice_set words (counter_at o k) x) (after (initial_state_of o) (ByWorker k r ∷ steps))
   stored steps k x r words inside stores laid =
-      let w : World = after (setup_of o) steps in
+      let w : World = after (initial_state_of o) steps in
       let at : ℕ = counter_at o k in
       record {
         count = length-set words at x ∙ laid.count;
@@ -95,10 +95,10 @@ module _ (o : Opened) where
         token = get_or-set_other words at token_at x 0 (omega arith) ∙ laid.token;
         counters = λ j lt. with_at_case
             (λ (y : WorkerState). slice_index (slice_set words at x) (counter_at o j) ≡ y.counter)
-            w.workers k (moved w.tables.clock (w.workers k) r) j
+            w.workers k (worker_by_step w.state.clock (w.workers k) r) j
             (λ e. ap (λ (i : ℕ). slice_index (slice_set words at x) (counter_at o i)) e
             ∙ get_or-set_same words at x 0 (omega (arith, laid.count, inside))
-            ∙ sym (stores w.tables.clock (w.workers k)))
+            ∙ sym (stores w.state.clock (w.workers k)))
             (λ ne. get_or-set_other words at (counter_at o j) x 0 (omega (arith, ne)) ∙ laid.counters j lt);
       }
 
@@ -124,21 +124,21 @@ module _ (o : Opened) where
 
   -- what may be read after the worker's own steps may come next
   may_come : (s : St) (h : Holds o s) (id k : ℕ) (v : View) (r : WorkerStep) → get_elem? s.views id ≡ some v
-      → v.role ≡ Worker k → MayRead (setup_of o) (after (setup_of o) h.steps).tables (worker_by v.own) r
-      → MayCome (setup_of o) (after (setup_of o) h.steps) (ByWorker k r)
+      → v.role ≡ Worker k → MayRead (initial_state_of o) (after (initial_state_of o) h.steps).state (worker_by v.own) r
+      → MayCome (initial_state_of o) (after (initial_state_of o) h.steps) (ByWorker k r)
   may_come s h id k v r at is may =
       let mine = sits_of s h id k v at is in
-      let state = (own_lookups_are_legal (setup_of o) h.steps k h.settled h.trace).0 in (
+      let state = (own_lookups_are_legal (initial_state_of o) h.steps k h.settled h.trace).0 in (
         (let l = mine.2 in omega (arith, l, h.made)),
-        subst (λ (x : WorkerState). MayRead (setup_of o) (after (setup_of o) h.steps).tables x r)
+        subst (λ (x : WorkerState). MayRead (initial_state_of o) (after (initial_state_of o) h.steps).state x r)
             (sym (state ∙ ap worker_by (sym mine.3))) may,
       )
 
   -- a step of a worker keeps the rule
   worker_step : (s : St) (h : Holds o s) (id k : ℕ) (v : View) (r : WorkerStep) (words : List ℕ)
       → get_elem? s.views id ≡ some v → v.role ≡ Worker k
-      → MayRead (setup_of o) (after (setup_of o) h.steps).tables (worker_by v.own) r
-      → IsLaidOut o words (after (setup_of o) (ByWorker k r ∷ h.steps))
+      → MayRead (initial_state_of o) (after (initial_state_of o) h.steps).state (worker_by v.own) r
+      → IsLaidOut o words (after (initial_state_of o) (ByWorker k r ∷ h.steps))
       → Holds o record {
         words = words;
         homes = s.homes;
@@ -186,21 +186,21 @@ module _ (o : Opened) where
 
   -- ---- what the seat learns
 
-  sound : (v : View) (k : ℕ) (steps : List TraceStep) → IsSettled (setup_of o) → IsTrace (setup_of o) steps
-      → v.opening ≡ o → v.seen ≡ writes steps → v.own ≡ own k steps → IsSound v
-  sound v k steps settled trace opening seen mine =
+  sound : (v : View) (k : ℕ) (steps : List TraceStep) → IsSettled (initial_state_of o) → IsTrace (initial_state_of o) steps
+      → v.initial ≡ o → v.seen ≡ writes steps → v.own ≡ own_steps k steps → IsSound v
+  sound v k steps settled trace initial seen mine =
       let places = places_never_fall k steps in
-      let words : IsWords o.first o.second (tables (setup_of o) (writes steps)).words = subst
-      (λ t. IsWords o.first o.second t.words) (tables_of (setup_of o) steps)
-      (words_are_entries (setup_of o) steps settled trace) in
-      let known : Opened × List WriterStep → Type 0 = λ z. IsWritten (setup_of z.0) z.1
-      × IsWords z.0.first z.0.second (tables (setup_of z.0) z.1).words in
-      let legal : Opened × (List WriterStep × List (WorkerStep × ℕ)) → Type 0 = λ z.
-      All (IsLegalAtPlace (setup_of z.0) z.1.0) (worker_by z.1.1).finished in
-      let placed : Opened × (List WriterStep × List (WorkerStep × ℕ)) → Type 0 = λ z.
-      ArePlaced (setup_of z.0) z.1.0 z.1.1 in
-      let both = subst known (λ i. (sym opening i, sym seen i))
-      (writer_is_alone (setup_of o) steps trace, words) in
+      let words : IsWords o.first o.second (state_after (initial_state_of o) (writes steps)).words = subst
+      (λ t. IsWords o.first o.second t.words) (tables_of (initial_state_of o) steps)
+      (words_are_entries (initial_state_of o) steps settled trace) in
+      let known : InitialData × List WriterStep → Type 0 = λ z. IsWritten (initial_state_of z.0) z.1
+      × IsWords z.0.first z.0.second (state_after (initial_state_of z.0) z.1).words in
+      let legal : InitialData × (List WriterStep × List (WorkerStep × ℕ)) → Type 0 = λ z.
+      All (IsLegalAtPlace (initial_state_of z.0) z.1.0) (worker_by z.1.1).finished in
+      let placed : InitialData × (List WriterStep × List (WorkerStep × ℕ)) → Type 0 = λ z.
+      ArePlaced (initial_state_of z.0) z.1.0 z.1.1 in
+      let both = subst known (λ i. (sym initial i, sym seen i))
+      (writer_is_alone (initial_state_of o) steps trace, words) in
       record {
         written = both.0;
         words = both.1;
@@ -209,14 +209,14 @@ module _ (o : Opened) where
         within = subst
             (λ (z : List WriterStep × List (WorkerStep × ℕ)). All (λ step. step.1 ≤ length z.0) z.1)
             (λ i. (sym seen i, sym mine i)) places.1;
-        placed = subst placed (λ i. (sym opening i, (sym seen i, sym mine i)))
-            (own_steps_are_placed (setup_of o) steps k trace);
-        legal = subst legal (λ i. (sym opening i, (sym seen i, sym mine i)))
-            (own_lookups_are_legal (setup_of o) steps k settled trace).1;
+        placed = subst placed (λ i. (sym initial i, (sym seen i, sym mine i)))
+            (own_steps_are_placed (initial_state_of o) steps k trace);
+        legal = subst legal (λ i. (sym initial i, (sym seen i, sym mine i)))
+            (own_lookups_are_legal (initial_state_of o) steps k settled trace).1;
       }
 
   gained_is : (s : St) (h : Holds o s) (id k : ℕ) (v : View) (r : WorkerStep) → get_elem? s.views id ≡ some v
-      → v.role ≡ Worker k → MayRead (setup_of o) (after (setup_of o) h.steps).tables (worker_by v.own) r
+      → v.role ≡ Worker k → MayRead (initial_state_of o) (after (initial_state_of o) h.steps).state (worker_by v.own) r
       → Gains r v (gained v r (writes h.steps)) × IsSound (gained v r (writes h.steps))
   gained_is s h id k v r at is may =
       let steps = h.steps in
@@ -238,14 +238,14 @@ module _ (o : Opened) where
 
   -- the opening of a worker's view is the table's
   pub opening_is : (s : St) (h : Holds o s) (id k : ℕ) (v : View) → get_elem? s.views id ≡ some v
-      → v.role ≡ Worker k → v.opening ≡ o
+      → v.role ≡ Worker k → v.initial ≡ o
   opening_is s h id k v at is = (sits_of s h id k v at is).1
 
   -- a load, which may come next and tells what else is known of the word
   pub load_allowed : (of : ℕ → WorkerStep) (also : ℕ → Type 0) (slots id k i : ℕ) (me : Me (Unit {0}) View)
       → me.0.role ≡ Worker k → ((n : ℕ) → IsQuiet (of n))
-      → ((s : St) (h : Holds o s) → me.0.opening ≡ o
-      → MayRead (setup_of o) (after (setup_of o) h.steps).tables (worker_by me.0.own)
+      → ((s : St) (h : Holds o s) → me.0.initial ≡ o
+      → MayRead (initial_state_of o) (after (initial_state_of o) h.steps).state (worker_by me.0.own)
       (of (slice_index s.words i))
       × also (slice_index s.words i))
       → Allows (Holds o) slots id me i (λ n. n) (λ n me'. WorkerGains (of n) me me' × also n)
@@ -283,7 +283,7 @@ module _ (o : Opened) where
   pub store_allowed : (r : WorkerStep) (x slots id k : ℕ) (me : Me (Unit {0}) View)
       → me.0.role ≡ Worker k → Stores r x
       → ((s : St) (h : Holds o s)
-      → MayRead (setup_of o) (after (setup_of o) h.steps).tables (worker_by me.0.own) r)
+      → MayRead (initial_state_of o) (after (initial_state_of o) h.steps).state (worker_by me.0.own) r)
       → Allows (Holds o) slots id me (counter_at o k) (λ _. x) (λ _ me'. WorkerGains r me me')
   store_allowed r x slots id k me is stores reads s h len at range =
       let read = reads s h in

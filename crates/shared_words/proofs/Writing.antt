@@ -9,20 +9,20 @@ use Rattle.lpm_cells.specs.Table.{IsWords}
 use Rattle.lpm_cells.proofs.Reading.{word_below}
 use Rattle.lpm_trace.specs.declared.step.RuleChange.{RuleChange}
 use Rattle.lpm_trace.specs.declared.step.WriterStep.{WriterStep}
-use Rattle.lpm_trace.specs.declared.step.WriterStep.TheVariants.{StoreFirst, StoreSecond, Opens, Closes, BumpToken, LoadCounter}
+use Rattle.lpm_trace.specs.declared.step.WriterStep.TheVariants.{StoreFirst, StoreSecond, BeginUpdate, EndUpdate, BumpToken, LoadCounter}
 use Rattle.lpm_trace.specs.declared.step.TraceStep.{TraceStep}
 use Rattle.lpm_trace.specs.declared.step.TraceStep.TheVariants.{Writer as ByWriter}
-use Rattle.lpm_trace.specs.Tables.{Tables, IsSettled, tables, written}
-use Rattle.lpm_trace.specs.Course.{coursed}
-use Rattle.lpm_trace.specs.Trace.{World, IsTrace, apply, after, writes, own}
+use Rattle.lpm_trace.specs.States.{TableState, IsSettled, state_after, state_by_step}
+use Rattle.lpm_trace.specs.Progress.{progress_by_step}
+use Rattle.lpm_trace.specs.Trace.{World, IsTrace, apply, after, writes, own_steps}
 use Rattle.lpm_trace.specs.Writer.{MayStep, Finds as FindsCounter}
 use Rattle.lpm_trace.proofs.Traces.{tables_of}
 use Rattle.lpm_trace.proofs.Promises.{writer_is_alone, writer_goes_on, passed_is_checked, words_are_entries}
 use Rattle.shared_words.specs.declared.view.Role.{Role}
 use Rattle.shared_words.specs.declared.view.Role.TheVariants.{Writer, Worker, Note}
 use Rattle.shared_words.specs.declared.view.View.{View}
-use Rattle.shared_words.specs.Opened.{Opened, setup_of}
-use Rattle.shared_words.specs.Layout.{IsLaidOut, half, first_at, second_at, sequence_at, token_at, counter_at, opening_words}
+use Rattle.shared_words.specs.Initial.{InitialData, initial_state_of}
+use Rattle.shared_words.specs.Layout.{IsLaidOut, half, first_at, second_at, sequence_at, token_at, counter_at, initial_words}
 use Rattle.shared_words.specs.Rule.{IsLater, Seating, Sits, IsViewOf, Holds, writer_view, worker_view, with_one_more}
 use Rattle.shared_words.specs.Seats.{AreLawful, WriterGains, IsFoundAt, KeepsFirst, KeepsSecond, WriterLooks, with_step}
 use Rattle.shared_words.proofs.Laying.{firsts_length, seconds_length, lays_first, lays_second, lays_sequence, lays_token, lays_none, lays_opening}
@@ -36,11 +36,11 @@ Mine = Me (Unit {0}) View
 
 -- the writer whose view this is may make the step
 abbrev MayMake : View → WriterStep → Type 0
-MayMake v step = MayStep (setup_of v.opening) v.seen step
+MayMake v step = MayStep (initial_state_of v.initial) v.seen step
 
 -- what the steps of the view leave
-abbrev left_by : View → Tables
-left_by v = tables (setup_of v.opening) v.seen
+abbrev left_by : View → TableState
+left_by v = state_after (initial_state_of v.initial) v.seen
 
 abbrev with_words : St → List ℕ → List View → St
 with_words s words views = record { words = words; homes = s.homes; views = views }
@@ -61,24 +61,24 @@ seats_set K views me w mine others j u there = elim (at_set views me j w u there
 ]
 
 -- another seat, after a step of the writer
-aside : (o : Opened) (steps : List TraceStep) (seating : Seating) (me : ℕ) (step : WriterStep)
+aside : (o : InitialData) (steps : List TraceStep) (seating : Seating) (me : ℕ) (step : WriterStep)
     → me ≡ seating.writer → (j : ℕ) (u : View) → j ≢ me → (r : Role)
     → Sits o steps seating j u r → Sits o (ByWriter step ∷ steps) seating j u r
 aside o steps seating me step mine j u other Writer h = absurd (other (h.0 ∙ sym mine))
 aside o steps seating me step mine j u other (Worker k) h = h
 aside o steps seating me step mine j u other Note h = tt
 
-module _ (o : Opened) where
+module _ (o : InitialData) where
   -- the tables and the world after these steps
-  abbrev tables_by : List WriterStep → Tables
-  tables_by seen = tables (setup_of o) seen
+  abbrev tables_by : List WriterStep → TableState
+  tables_by seen = state_after (initial_state_of o) seen
 
   abbrev world_by : List TraceStep → World
-  world_by steps = after (setup_of o) steps
+  world_by steps = after (initial_state_of o) steps
 
   -- the words are those of the world after a step of the writer
   abbrev IsLaidAfter : List ℕ → World → WriterStep → Type 0
-  IsLaidAfter words w step = IsLaidOut o words (apply (setup_of o) w (ByWriter step))
+  IsLaidAfter words w step = IsLaidOut o words (apply (initial_state_of o) w (ByWriter step))
 
   -- what the rule says of the writer's seat
   pub sits_writer : (s : St) (h : Holds o s) (id : ℕ) (v : View) → get_elem? s.views id ≡ some v
@@ -87,8 +87,8 @@ module _ (o : Opened) where
 
   -- a step of the writer
   pub writer_step : (s : St) (h : Holds o s) (id : ℕ) (v : View) (step : WriterStep) (words : List ℕ)
-      → get_elem? s.views id ≡ some v → v.role ≡ Writer → MayStep (setup_of o) v.seen step
-      → FindsCounter (setup_of o) h.steps step → IsLaidAfter words (world_by h.steps) step
+      → get_elem? s.views id ≡ some v → v.role ≡ Writer → MayStep (initial_state_of o) v.seen step
+      → FindsCounter (initial_state_of o) h.steps step → IsLaidAfter words (world_by h.steps) step
       → Holds o (with_words s words (slice_set s.views id (with_step v step)))
   writer_step s h id v step words here was may found laid =
       let steps = h.steps in
@@ -98,12 +98,12 @@ module _ (o : Opened) where
       let w : View = with_step v step in
       let seen : w.seen ≡ writes new = ap (λ (z : List WriterStep). step ∷ z) mine.2 in
       let sits : Sits o new h.seating id w Writer = (mine.0, mine.1, seen, mine.3) in
-      let may' = subst (λ (z : List WriterStep). MayStep (setup_of o) z step) mine.2 may in
+      let may' = subst (λ (z : List WriterStep). MayStep (initial_state_of o) z step) mine.2 may in
       record {
         steps = new;
         seating = h.seating;
         settled = h.settled;
-        trace = writer_goes_on (setup_of o) steps step h.trace may' found;
+        trace = writer_goes_on (initial_state_of o) steps step h.trace may' found;
         words = laid;
         made = h.made;
         unmade = h.unmade;
@@ -127,42 +127,42 @@ module _ (o : Opened) where
       subst (λ (ws : List ℕ). Holds o (with_words s ws views)) (sym (set-get_or s.words i 0)) h
 
   -- the writer's steps of a trace are lawful
-  lawful_in : (steps : List TraceStep) → IsSettled (setup_of o) → IsTrace (setup_of o) steps
+  lawful_in : (steps : List TraceStep) → IsSettled (initial_state_of o) → IsTrace (initial_state_of o) steps
       → AreLawful o (writes steps)
   lawful_in steps settled trace =
-      let c = setup_of o in
-      let now : (world_by steps).tables ≡ tables_by (writes steps) = tables_of c steps in record {
+      let c = initial_state_of o in
+      let now : (world_by steps).state ≡ tables_by (writes steps) = tables_of c steps in record {
         written = writer_is_alone c steps trace;
-        words = subst (λ (z : Tables). IsWords o.first o.second z.words) now (words_are_entries c steps settled trace);
+        words = subst (λ (z : TableState). IsWords o.first o.second z.words) now (words_are_entries c steps settled trace);
         checked = λ token pos low. passed_is_checked c steps token trace pos low;
       }
 
   -- and those of its view, with one more that may come next
-  lawful_after : (s : St) (h : Holds o s) (v : View) (step : WriterStep) → v.opening ≡ o → v.seen ≡ writes h.steps
-      → MayStep (setup_of o) v.seen step → FindsCounter (setup_of o) h.steps step
-      → AreLawful v.opening (step ∷ v.seen)
-  lawful_after s h v step opening seen may found =
-      let c = setup_of o in
+  lawful_after : (s : St) (h : Holds o s) (v : View) (step : WriterStep) → v.initial ≡ o → v.seen ≡ writes h.steps
+      → MayStep (initial_state_of o) v.seen step → FindsCounter (initial_state_of o) h.steps step
+      → AreLawful v.initial (step ∷ v.seen)
+  lawful_after s h v step initial seen may found =
+      let c = initial_state_of o in
       let may' = subst (λ (z : List WriterStep). MayStep c z step) seen may in
-      subst (λ (z : Opened × List WriterStep). AreLawful z.0 (step ∷ z.1)) (λ i. (sym opening i, sym seen i))
+      subst (λ (z : InitialData × List WriterStep). AreLawful z.0 (step ∷ z.1)) (λ i. (sym initial i, sym seen i))
       (lawful_in (ByWriter step ∷ h.steps) h.settled (writer_goes_on c h.steps step h.trace may' found))
 
   -- what the writer finds at a place
   finds : (s : St) (h : Holds o s) (at : ℕ) → IsFoundAt o (writes h.steps) at (slice_index s.words at)
   finds s h at =
-      let c = setup_of o in
-      let now : (world_by h.steps).tables ≡ tables_by (writes h.steps) = tables_of c h.steps in
+      let c = initial_state_of o in
+      let now : (world_by h.steps).state ≡ tables_by (writes h.steps) = tables_of c h.steps in
       let found : (k : ℕ) → at ≡ k → slice_index s.words at ≡ slice_index s.words k =
       λ k e. ap (slice_index s.words) e in
       record {
         first = λ i lt place. ap (half i) (found (first_at i) place) ∙ h.words.firsts i lt
-            ∙ ap (λ (z : Tables). slice_index z.words.firsts i) now;
+            ∙ ap (λ (z : TableState). slice_index z.words.firsts i) now;
         second = λ j lt place. ap (half j) (found (second_at o j) place) ∙ h.words.seconds j lt
-            ∙ ap (λ (z : Tables). slice_index z.words.seconds j) now;
+            ∙ ap (λ (z : TableState). slice_index z.words.seconds j) now;
         sequence = λ place. found sequence_at place ∙ h.words.sequence
-            ∙ ap (λ (z : Tables). z.sequence) now;
+            ∙ ap (λ (z : TableState). z.sequence) now;
         token = λ place. found token_at place ∙ h.words.token
-            ∙ ap (λ (z : Tables). z.token) now;
+            ∙ ap (λ (z : TableState). z.token) now;
       }
 
   -- the calls of the writer's seat, at a place of the words
@@ -172,15 +172,15 @@ module _ (o : Opened) where
 
     -- a store: the word becomes n
     store_allowed : (n : ℕ) (step : WriterStep) → MayMake me.0 step
-        → ((steps : List TraceStep) → FindsCounter (setup_of o) steps step)
-        → ((words : List ℕ) (w : World) → me.0.opening ≡ o → w.tables ≡ tables_by seen
+        → ((steps : List TraceStep) → FindsCounter (initial_state_of o) steps step)
+        → ((words : List ℕ) (w : World) → me.0.initial ≡ o → w.state ≡ tables_by seen
         → IsLaidOut o words w → IsLaidAfter (slice_set words at n) w step)
         → Allows (Holds o) slots id me at (λ _. n) (λ _. WriterGains step me)
     store_allowed n step may found lays s h fits here range =
         let mine : Sits o h.steps h.seating id me.0 Writer = sits_writer s h id me.0 here was in
         let w : World = world_by h.steps in
-        let now : w.tables ≡ tables_by seen = tables_of (setup_of o) h.steps ∙ ap tables_by (sym mine.2) in
-        let may' = subst (λ (z : Opened). MayStep (setup_of z) seen step) mine.1 may in
+        let now : w.state ≡ tables_by seen = tables_of (initial_state_of o) h.steps ∙ ap tables_by (sym mine.2) in
+        let may' = subst (λ (z : InitialData). MayStep (initial_state_of z) seen step) mine.1 may in
         let laid : IsLaidAfter (slice_set s.words at n) w step = lays s.words w mine.1 now h.words in (
           with_step me.0 step,
           keeps,
@@ -190,70 +190,70 @@ module _ (o : Opened) where
         )
 
     pub first_allowed : (i x n : ℕ) → at ≡ first_at i → half i n ≡ x
-        → KeepsFirst me.0.opening seen i n → MayMake me.0 (StoreFirst i x)
+        → KeepsFirst me.0.initial seen i n → MayMake me.0 (StoreFirst i x)
         → Allows (Holds o) slots id me at (λ _. n) (λ _. WriterGains (StoreFirst i x) me)
     first_allowed i x n place stored kept may = store_allowed n (StoreFirst i x) may (λ _. tt)
         (λ words w is now laid.
-        let len : length me.0.opening.firsts ≡ length o.firsts = ap (λ (z : Opened). length z.firsts) is in
-        let stays = firsts_length (setup_of me.0.opening) seen in
-        let kept' : KeepsFirst o seen i n = subst (λ (z : Opened). KeepsFirst z seen i n) is kept in
+        let len : length me.0.initial.firsts ≡ length o.firsts = ap (λ (z : InitialData). length z.firsts) is in
+        let stays = firsts_length (initial_state_of me.0.initial) seen in
+        let kept' : KeepsFirst o seen i n = subst (λ (z : InitialData). KeepsFirst z seen i n) is kept in
         subst (λ (q : ℕ). IsLaidAfter (slice_set words q n) w (StoreFirst i x)) (sym place)
         (lays_first o words w laid i x n (omega (arith, may.0.1, stays, len)) stored
-        (λ k lt e ne. kept' k lt e ne ∙ ap (λ (z : Tables). slice_index z.words.firsts k) (sym now))))
+        (λ k lt e ne. kept' k lt e ne ∙ ap (λ (z : TableState). slice_index z.words.firsts k) (sym now))))
 
     pub second_allowed : (j x n : ℕ) → at ≡ second_at o j → half j n ≡ x
-        → KeepsSecond me.0.opening seen j n → MayMake me.0 (StoreSecond j x)
+        → KeepsSecond me.0.initial seen j n → MayMake me.0 (StoreSecond j x)
         → Allows (Holds o) slots id me at (λ _. n) (λ _. WriterGains (StoreSecond j x) me)
     second_allowed j x n place stored kept may = store_allowed n (StoreSecond j x) may (λ _. tt)
         (λ words w is now laid.
-        let len : length me.0.opening.seconds ≡ length o.seconds = ap (λ (z : Opened). length z.seconds) is in
-        let stays = seconds_length (setup_of me.0.opening) seen in
-        let kept' : KeepsSecond o seen j n = subst (λ (z : Opened). KeepsSecond z seen j n) is kept in
+        let len : length me.0.initial.seconds ≡ length o.seconds = ap (λ (z : InitialData). length z.seconds) is in
+        let stays = seconds_length (initial_state_of me.0.initial) seen in
+        let kept' : KeepsSecond o seen j n = subst (λ (z : InitialData). KeepsSecond z seen j n) is kept in
         subst (λ (q : ℕ). IsLaidAfter (slice_set words q n) w (StoreSecond j x)) (sym place)
         (lays_second o words w laid j x n (omega (arith, may.0.1, stays, len)) stored
-        (λ k lt e ne. kept' k lt e ne ∙ ap (λ (z : Tables). slice_index z.words.seconds k) (sym now))))
+        (λ k lt e ne. kept' k lt e ne ∙ ap (λ (z : TableState). slice_index z.words.seconds k) (sym now))))
 
     -- the next number of the sequence is stored
     next_sequence : (n : ℕ) (step : WriterStep) → at ≡ sequence_at → n ≡ (left_by me.0).sequence + 1
-        → (words : List ℕ) (w : World) → me.0.opening ≡ o → w.tables ≡ tables_by seen
-        → IsLaidAfter (slice_set words sequence_at (suc w.tables.sequence)) w step
+        → (words : List ℕ) (w : World) → me.0.initial ≡ o → w.state ≡ tables_by seen
+        → IsLaidAfter (slice_set words sequence_at (suc w.state.sequence)) w step
         → IsLaidAfter (slice_set words at n) w step
     next_sequence n step place next words w is now laid =
         let one : (left_by me.0).sequence ≡ (tables_by seen).sequence =
-        ap (λ (z : Opened). (tables (setup_of z) seen).sequence) is in
-        let two : w.tables.sequence ≡ (tables_by seen).sequence = ap (λ (z : Tables). z.sequence) now in
-        let same : n ≡ suc w.tables.sequence = omega (arith, next, one, two) in
+        ap (λ (z : InitialData). (state_after (initial_state_of z) seen).sequence) is in
+        let two : w.state.sequence ≡ (tables_by seen).sequence = ap (λ (z : TableState). z.sequence) now in
+        let same : n ≡ suc w.state.sequence = omega (arith, next, one, two) in
         subst (λ (z : ℕ × ℕ). IsLaidAfter (slice_set words z.0 z.1) w step)
         (λ i. (sym place i, sym same i)) laid
 
     pub opens_allowed : (n : ℕ) (change : RuleChange) → at ≡ sequence_at
-        → n ≡ (left_by me.0).sequence + 1 → MayMake me.0 (Opens change)
-        → Allows (Holds o) slots id me at (λ _. n) (λ _. WriterGains (Opens change) me)
-    opens_allowed n change place next may = store_allowed n (Opens change) may (λ _. tt)
-        (λ words w is now laid. next_sequence n (Opens change) place next words w is now
-        (lays_sequence o words w laid (written (setup_of o) w.tables (Opens change))
-        (coursed (setup_of o) w.tables w.course (Opens change))))
+        → n ≡ (left_by me.0).sequence + 1 → MayMake me.0 (BeginUpdate change)
+        → Allows (Holds o) slots id me at (λ _. n) (λ _. WriterGains (BeginUpdate change) me)
+    opens_allowed n change place next may = store_allowed n (BeginUpdate change) may (λ _. tt)
+        (λ words w is now laid. next_sequence n (BeginUpdate change) place next words w is now
+        (lays_sequence o words w laid (state_by_step (initial_state_of o) w.state (BeginUpdate change))
+        (progress_by_step (initial_state_of o) w.state w.progress (BeginUpdate change))))
 
     pub closes_allowed : (n : ℕ) → at ≡ sequence_at
-        → n ≡ (left_by me.0).sequence + 1 → MayMake me.0 Closes
-        → Allows (Holds o) slots id me at (λ _. n) (λ _. WriterGains Closes me)
-    closes_allowed n place next may = store_allowed n Closes may (λ _. tt)
-        (λ words w is now laid. next_sequence n Closes place next words w is now
-        (lays_sequence o words w laid (written (setup_of o) w.tables Closes)
-        (coursed (setup_of o) w.tables w.course Closes)))
+        → n ≡ (left_by me.0).sequence + 1 → MayMake me.0 EndUpdate
+        → Allows (Holds o) slots id me at (λ _. n) (λ _. WriterGains EndUpdate me)
+    closes_allowed n place next may = store_allowed n EndUpdate may (λ _. tt)
+        (λ words w is now laid. next_sequence n EndUpdate place next words w is now
+        (lays_sequence o words w laid (state_by_step (initial_state_of o) w.state EndUpdate)
+        (progress_by_step (initial_state_of o) w.state w.progress EndUpdate)))
 
     pub bump_allowed : (n : ℕ) → at ≡ token_at → n ≡ (left_by me.0).token + 1 → MayMake me.0 BumpToken
         → Allows (Holds o) slots id me at (λ _. n) (λ _. WriterGains BumpToken me)
     bump_allowed n place next may = store_allowed n BumpToken may (λ _. tt)
         (λ words w is now laid.
         let one : (left_by me.0).token ≡ (tables_by seen).token =
-        ap (λ (z : Opened). (tables (setup_of z) seen).token) is in
-        let two : w.tables.token ≡ (tables_by seen).token = ap (λ (z : Tables). z.token) now in
-        let same : n ≡ suc w.tables.token = omega (arith, next, one, two) in
+        ap (λ (z : InitialData). (state_after (initial_state_of z) seen).token) is in
+        let two : w.state.token ≡ (tables_by seen).token = ap (λ (z : TableState). z.token) now in
+        let same : n ≡ suc w.state.token = omega (arith, next, one, two) in
         subst (λ (z : ℕ × ℕ). IsLaidAfter (slice_set words z.0 z.1) w BumpToken)
         (λ i. (sym place i, sym same i))
-        (lays_token o words w laid (written (setup_of o) w.tables BumpToken)
-        (coursed (setup_of o) w.tables w.course BumpToken)))
+        (lays_token o words w laid (state_by_step (initial_state_of o) w.state BumpToken)
+        (progress_by_step (initial_state_of o) w.state w.progress BumpToken)))
 
     -- a load of a worker's counter, in a check of the token
     pub counter_allowed : (token k : ℕ) → at ≡ counter_at o k → k < o.workers
@@ -265,10 +265,10 @@ module _ (o : Opened) where
         let mine : Sits o h.steps h.seating id me.0 Writer = sits_writer s h id me.0 here was in
         let w : World = world_by h.steps in
         let found : n ≡ (w.workers k).counter = ap (slice_index s.words) place ∙ h.words.counters k inside in
-        let may' = subst (λ (z : Opened). MayStep (setup_of z) seen load) mine.1 (may n) in
+        let may' = subst (λ (z : InitialData). MayStep (initial_state_of z) seen load) mine.1 (may n) in
         let laid : IsLaidAfter s.words w load =
-        lays_none o s.words w h.words (written (setup_of o) w.tables load)
-        (coursed (setup_of o) w.tables w.course load) in (
+        lays_none o s.words w h.words (state_by_step (initial_state_of o) w.state load)
+        (progress_by_step (initial_state_of o) w.state w.progress load) in (
           with_step me.0 load,
           keeps,
           tt,
@@ -291,7 +291,7 @@ module _ (o : Opened) where
           unread s at (slice_set s.views id me.0) same,
           (
             refl,
-            subst (λ (z : Opened × List WriterStep). IsFoundAt z.0 z.1 at n) (λ i. (sym mine.1 i, sym mine.2 i))
+            subst (λ (z : InitialData × List WriterStep). IsFoundAt z.0 z.1 at n) (λ i. (sym mine.1 i, sym mine.2 i))
                 (finds s h at),
           ),
         )
@@ -344,7 +344,7 @@ module _ (o : Opened) where
       (mine.0, mine.1, mine.2, ap (λ (k : ℕ). k + 1) is_made) in
       let seat_is : now.seat_of v.made ≡ x =
       ap (λ (b : Bool). cond b x (h.seating.seat_of v.made)) (eq-eqb v.made made is_made) in
-      let calm : [] ≡ own v.made steps = sym (h.unmade v.made (omega (arith, is_made))) in
+      let calm : [] ≡ own_steps v.made steps = sym (h.unmade v.made (omega (arith, is_made))) in
       let worker_sits : Sits o steps now x right (Worker v.made) =
       (sym seat_is, mine.1, omega (arith, is_made), calm) in
       let old : (j : ℕ) (u : View) → get_elem? views j ≡ some u → K j u =
@@ -376,7 +376,7 @@ module _ (o : Opened) where
       }
 
   -- the writer's steps of a new table, which are none, are lawful
-  pub none_lawful : IsSettled (setup_of o) → AreLawful o []
+  pub none_lawful : IsSettled (initial_state_of o) → AreLawful o []
   none_lawful settled = lawful_in [] settled tt
 
   -- ---- the table at the start
@@ -389,7 +389,7 @@ module _ (o : Opened) where
       (record { sits = (refl, refl, refl, refl); seen = ([], refl); told = ([], refl) })
   first_seat (suc j) u e = absurd (some-ne-none u (sym e))
 
-  pub opens : (words : List ℕ) → words ≡ opening_words o → IsSettled (setup_of o)
+  pub opens : (words : List ℕ) → words ≡ initial_words o → IsSettled (initial_state_of o)
       → o.first + o.second ≤ 32
       → Holds o (opening {S = Unit {0}} words [] (writer_view o))
   opens words are settled widths = record {

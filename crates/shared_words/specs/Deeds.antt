@@ -6,13 +6,13 @@ use Rattle.lpm_cells.specs.declared.entry.Entry.{Entry}
 use Rattle.lpm_cells.specs.declared.entry.Entry.TheVariants.{Miss, Hop, Group}
 use Rattle.lpm_cells.specs.Words.{entry_in, hop_in}
 use Rattle.lpm_trace.specs.declared.step.WorkerStep.{WorkerStep}
-use Rattle.lpm_trace.specs.declared.step.WorkerStep.TheVariants.{Begins, LoadFirst, LoadSecond, Ends}
-use Rattle.lpm_trace.specs.Tables.{tables, done, begun}
+use Rattle.lpm_trace.specs.declared.step.WorkerStep.TheVariants.{BeginLookup, LoadFirst, LoadSecond, EndLookup}
+use Rattle.lpm_trace.specs.States.{state_after, updates_done_in, updates_begun_in}
 use Rattle.lpm_trace.specs.Workers.{Online, Probe, Answered, Seen, AreBegun, AreAnswered, read_first}
 use Rattle.lpm_trace.specs.Trace.{worker_by}
 use Rattle.lpm_trace.specs.Laws.{IsLegalAtPlace}
 use Rattle.shared_words.specs.declared.view.View.{View}
-use Rattle.shared_words.specs.Opened.{setup_of}
+use Rattle.shared_words.specs.Initial.{initial_state_of}
 use Rattle.shared_words.specs.Rule.{IsLater}
 use Rattle.shared_words.specs.Seats.{Gains}
 use Rattle.shared_words.specs.Loads.{Found, IsReadOn, firsts_at, last_at, loads_at, second_load, seconds_at, seen_of}
@@ -39,11 +39,11 @@ GainsAt (s ∷ steps) v w =
 -- done at the place of the first, and `hi` how many were begun at the place of the last
 pub record LoadsAround (addrs : List ℕ) (lo hi : ℕ) (v started loaded w : View) : Type 0 where
   pub low : ℕ
-  pub begins : Gains (Begins addrs low) v started
+  pub begins : Gains (BeginLookup addrs low) v started
   pub high : ℕ
-  pub ends : Gains (Ends high) loaded w
-  pub done_then : lo ≡ done (tables (setup_of v.opening) started.seen)
-  pub begun_then : hi ≡ begun (tables (setup_of v.opening) w.seen)
+  pub ends : Gains (EndLookup high) loaded w
+  pub done_then : lo ≡ updates_done_in (state_after (initial_state_of v.initial) started.seen)
+  pub begun_then : hi ≡ updates_begun_in (state_after (initial_state_of v.initial) w.seen)
 
 -- in a lookup of the address alone, its words are loaded, of which the last one answers, after all that
 -- the worker had seen of the writer's steps
@@ -73,7 +73,7 @@ pub record LooksUp (addr : ℕ) (hop : Option ℕ) (lo hi : ℕ) (v w : View) : 
   pub online : (worker_by w.own).phase ≡ Online
   pub finished : (worker_by w.own).finished ≡ seen_of lo hi found ∷ (worker_by v.own).finished
   pub after : length started.seen ≤ found.first
-  pub legal : IsLegalAtPlace (setup_of v.opening) w.seen (seen_of lo hi found)
+  pub legal : IsLegalAtPlace (initial_state_of v.initial) w.seen (seen_of lo hi found)
 
 -- ---- a lookup of several addresses
 
@@ -137,4 +137,4 @@ pub record LooksUpAll (addrs : List ℕ) (hops : List (Option ℕ)) (lo hi : ℕ
   pub finished : (worker_by w.own).finished
       ≡ reverse (map (seen_of lo hi) found) ++ (worker_by v.own).finished
   pub after : All (λ f. length started.seen ≤ f.first) found
-  pub legal : All (λ f. IsLegalAtPlace (setup_of v.opening) w.seen (seen_of lo hi f)) found
+  pub legal : All (λ f. IsLegalAtPlace (initial_state_of v.initial) w.seen (seen_of lo hi f)) found

@@ -4,7 +4,7 @@
 use Rattle.std.specs.Prelude.{ℕ, ◌≡◌, ◌+◌, ◌*◌, ◌/◌, ◌%◌, ◌^◌, ◌<◌, List, ◌∷◌, ◌++◌, map, length, replicate, slice_index}
 use Rattle.std.specs.List.{range_with_len}
 use Rattle.lpm_trace.specs.Trace.{World}
-use Rattle.shared_words.specs.Opened.{Opened}
+use Rattle.shared_words.specs.Initial.{InitialData}
 
 -- what a shared word has of the table word at this place: its low 32 bits for an even place, its high 32
 -- bits for an odd one
@@ -19,8 +19,8 @@ pairs n = (n + 1) / 2
 abbrev pub pair_at : List ℕ → ℕ → ℕ
 pair_at xs k = slice_index xs (2 * k) + slice_index xs (2 * k + 1) * 2 ^ 32
 
-abbrev pub packed : List ℕ → List ℕ
-packed xs = map (pair_at xs) (range_with_len 0 (pairs (length xs)))
+abbrev pub packed_words : List ℕ → List ℕ
+packed_words xs = map (pair_at xs) (range_with_len 0 (pairs (length xs)))
 
 abbrev pub sequence_at : ℕ
 sequence_at = 0
@@ -31,29 +31,29 @@ token_at = 1
 abbrev pub first_at : ℕ → ℕ
 first_at i = 2 + i / 2
 
-abbrev pub second_at : Opened → ℕ → ℕ
+abbrev pub second_at : InitialData → ℕ → ℕ
 second_at o j = 2 + pairs (length o.firsts) + j / 2
 
-abbrev pub counter_at : Opened → ℕ → ℕ
+abbrev pub counter_at : InitialData → ℕ → ℕ
 counter_at o worker = 2 + pairs (length o.firsts) + pairs (length o.seconds) + worker
 
-abbrev pub word_count : Opened → ℕ
+abbrev pub word_count : InitialData → ℕ
 word_count o = 2 + pairs (length o.firsts) + pairs (length o.seconds) + o.workers
 
 -- the words that a table is opened with: no update was begun, and each worker is offline
-abbrev pub opening_words : Opened → List ℕ
-opening_words o = 0 ∷ o.token ∷ (packed o.firsts ++ (packed o.seconds ++ replicate o.workers 0))
+abbrev pub initial_words : InitialData → List ℕ
+initial_words o = 0 ∷ o.token ∷ (packed_words o.firsts ++ (packed_words o.seconds ++ replicate o.workers 0))
 
 -- the words are those of the world
-pub record IsLaidOut (o : Opened) (words : List ℕ) (w : World) : Type 0 where
+pub record IsLaidOut (o : InitialData) (words : List ℕ) (w : World) : Type 0 where
   pub count : length words ≡ word_count o
-  pub firsts_len : length w.tables.words.firsts ≡ length o.firsts
-  pub seconds_len : length w.tables.words.seconds ≡ length o.seconds
+  pub firsts_len : length w.state.words.firsts ≡ length o.firsts
+  pub seconds_len : length w.state.words.seconds ≡ length o.seconds
   pub firsts : (i : ℕ) → i < length o.firsts
-      → half i (slice_index words (first_at i)) ≡ slice_index w.tables.words.firsts i
+      → half i (slice_index words (first_at i)) ≡ slice_index w.state.words.firsts i
   pub seconds : (j : ℕ) → j < length o.seconds
-      → half j (slice_index words (second_at o j)) ≡ slice_index w.tables.words.seconds j
-  pub sequence : slice_index words sequence_at ≡ w.tables.sequence
-  pub token : slice_index words token_at ≡ w.tables.token
+      → half j (slice_index words (second_at o j)) ≡ slice_index w.state.words.seconds j
+  pub sequence : slice_index words sequence_at ≡ w.state.sequence
+  pub token : slice_index words token_at ≡ w.state.token
   pub counters : (k : ℕ) → k < o.workers
       → slice_index words (counter_at o k) ≡ (w.workers k).counter

@@ -1,4 +1,4 @@
-pub mod Opened
+pub mod Initial
 pub mod Layout
 pub mod Rule
 pub mod Seats

@@ -7,12 +7,12 @@ use lib.ListN.{get_elem?}
 use Rattle.atomic_table.specs.Table.{State}
 use Rattle.lpm_trace.specs.declared.step.WriterStep.{WriterStep}
 use Rattle.lpm_trace.specs.declared.step.TraceStep.{TraceStep}
-use Rattle.lpm_trace.specs.Tables.{IsSettled}
-use Rattle.lpm_trace.specs.Trace.{after, IsTrace, writes, own}
+use Rattle.lpm_trace.specs.States.{IsSettled}
+use Rattle.lpm_trace.specs.Trace.{after, IsTrace, writes, own_steps}
 use Rattle.shared_words.specs.declared.view.Role.{Role}
 use Rattle.shared_words.specs.declared.view.Role.TheVariants.{Writer, Worker, Note}
 use Rattle.shared_words.specs.declared.view.View.{View}
-use Rattle.shared_words.specs.Opened.{Opened, setup_of, opened_nothing}
+use Rattle.shared_words.specs.Initial.{InitialData, initial_state_of, no_initial_data}
 use Rattle.shared_words.specs.Layout.{IsLaidOut}
 
 -- the list went on from there, the newest first
@@ -26,42 +26,42 @@ pub record Seating : Type 0 where
   pub seat_of : ℕ → ℕ
 
 -- what a seat knows is of the trace: the writer knows all its steps, and a worker all its own
-abbrev pub Sits : Opened → List TraceStep → Seating → ℕ → View → Role → Type 0
-Sits o steps seating seat v Writer = (seat ≡ seating.writer) × (v.opening ≡ o)
+abbrev pub Sits : InitialData → List TraceStep → Seating → ℕ → View → Role → Type 0
+Sits o steps seating seat v Writer = (seat ≡ seating.writer) × (v.initial ≡ o)
     × (v.seen ≡ writes steps) × (v.made ≡ seating.made)
-Sits o steps seating seat v (Worker k) = (seat ≡ seating.seat_of k) × (v.opening ≡ o)
-    × (k < seating.made) × (v.own ≡ own k steps)
+Sits o steps seating seat v (Worker k) = (seat ≡ seating.seat_of k) × (v.initial ≡ o)
+    × (k < seating.made) × (v.own ≡ own_steps k steps)
 Sits o steps seating seat v Note = ⊤
 
 -- and what it has seen and was told is a beginning of the writer's steps
-pub record IsViewOf (o : Opened) (steps : List TraceStep) (seating : Seating) (seat : ℕ) (v : View)
+pub record IsViewOf (o : InitialData) (steps : List TraceStep) (seating : Seating) (seat : ℕ) (v : View)
     : Type 0 where
   pub sits : Sits o steps seating seat v v.role
   pub seen : IsLater v.seen (writes steps)
   pub told : IsLater v.told (writes steps)
 
 -- there is a trace after which the words are these, and which has the steps of each seat
-pub record Holds (o : Opened) (s : State (Unit {0}) View) : Type 0 where
+pub record Holds (o : InitialData) (s : State (Unit {0}) View) : Type 0 where
   pub steps : List TraceStep
   pub seating : Seating
-  pub settled : IsSettled (setup_of o)
-  pub trace : IsTrace (setup_of o) steps
-  pub words : IsLaidOut o s.words (after (setup_of o) steps)
+  pub settled : IsSettled (initial_state_of o)
+  pub trace : IsTrace (initial_state_of o) steps
+  pub words : IsLaidOut o s.words (after (initial_state_of o) steps)
   pub made : seating.made ≤ o.workers
-  pub unmade : (k : ℕ) → seating.made ≤ k → own k steps ≡ []
+  pub unmade : (k : ℕ) → seating.made ≤ k → own_steps k steps ≡ []
   pub views : (seat : ℕ) (v : View) → get_elem? s.views seat ≡ some v
       → IsViewOf o steps seating seat v
 
 -- ---- how views begin
 
 -- the writer's, which the table is opened with
-abbrev pub writer_view : Opened → View
-writer_view o = record { opening = o; role = Writer; made = 0; own = []; seen = []; told = [] }
+abbrev pub writer_view : InitialData → View
+writer_view o = record { initial = o; role = Writer; made = 0; own = []; seen = []; told = [] }
 
 -- that of the next worker, once its seat is cut off the writer's
 abbrev pub worker_view : View → View
 worker_view v = record {
-  opening = v.opening;
+  initial = v.initial;
   role = Worker v.made;
   made = 0;
   own = [];
@@ -75,7 +75,7 @@ with_one_more v = record v { made = v.made + 1 }
 -- a note of what a seat has seen
 abbrev pub note_of : View → View
 note_of v = record {
-  opening = v.opening;
+  initial = v.initial;
   role = Note;
   made = 0;
   own = [];
@@ -86,7 +86,7 @@ note_of v = record {
 -- what is left of a note that was read
 abbrev pub read_note : View
 read_note = record {
-  opening = opened_nothing;
+  initial = no_initial_data;
   role = Note;
   made = 0;
   own = [];
@@ -95,5 +95,5 @@ read_note = record {
 }
 
 -- a seat was told what the note says
-abbrev pub hearing : View → View → View
-hearing v note = record v { told = note.seen }
+abbrev pub view_with_note : View → View → View
+view_with_note v note = record v { told = note.seen }

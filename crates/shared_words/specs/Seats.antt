@@ -9,7 +9,7 @@ use Rattle.lpm_trace.specs.declared.step.WriterStep.{WriterStep}
 use Rattle.lpm_trace.specs.declared.step.WorkerStep.{WorkerStep}
 use Rattle.lpm_trace.specs.declared.step.WorkerStep.TheVariants.{LoadFirst, LoadSecond}
 use Rattle.lpm_cells.specs.Words.{IsLastWord}
-use Rattle.lpm_trace.specs.Tables.{tables}
+use Rattle.lpm_trace.specs.States.{state_after}
 use Rattle.lpm_trace.specs.Writer.{IsWritten}
 use Rattle.lpm_trace.specs.Trace.{worker_by}
 use Rattle.lpm_trace.specs.Workers.{Probe, Unread, InGroup, Answered}
@@ -22,33 +22,33 @@ use Rattle.shared_words.specs.declared.view.Role.TheVariants.{Worker as AsWorker
 use Rattle.shared_words.specs.declared.layout.Layout.{Layout}
 use Rattle.shared_words.specs.contracts.layout.Layout as layout_row
 use Rattle.shared_words.specs.Layout.{half, word_count, first_at, second_at, sequence_at, token_at}
-use Rattle.shared_words.specs.Opened.{Opened, coded_opened, setup_of}
+use Rattle.shared_words.specs.Initial.{InitialData, coded_initial_data, initial_state_of}
 use Rattle.shared_words.specs.Rule.{IsLater}
 
 -- what callers see of the words: which table of atomic words it is, what it was opened with, and where each
 -- word lies in it
 pub record WordsAt : Type 0 where
   pub table : TableId
-  pub opening : Opened
+  pub initial : InitialData
   pub layout : Layout
 
 abbrev pub coded_words : Coded WordsAt
-coded_words = code_by (TableId × (Opened × Layout))
-    (coded× table_id_coded (coded× coded_opened layout_row.the_row.coded))
-    (λ w. (w.table, (w.opening, w.layout)))
-    (λ p. record { table = p.0; opening = p.1.0; layout = p.1.1 }) (λ _. refl)
+coded_words = code_by (TableId × (InitialData × Layout))
+    (coded× table_id_coded (coded× coded_initial_data layout_row.the_row.coded))
+    (λ w. (w.table, (w.initial, w.layout)))
+    (λ p. record { table = p.0; initial = p.1.0; layout = p.1.1 }) (λ _. refl)
 
 -- a seat at these words: its view says what they were opened with, and the table has a word for each place
 -- and addresses of at most 32 bits
 pub record IsOf (w : WordsAt) (seat : TableId) (v : View) : Type 0 where
   pub same : seat ≡ w.table
-  pub opening_is : v.opening ≡ w.opening
-  pub widths : w.opening.first + w.opening.second ≤ 32
-  pub firsts : w.layout.firsts ≡ length w.opening.firsts
-  pub seconds : w.layout.seconds ≡ length w.opening.seconds
-  pub workers : w.layout.workers ≡ w.opening.workers
-  pub words : w.table.words ≡ word_count w.opening
-  pub low : word_count w.opening < 2 ^ 63
+  pub opening_is : v.initial ≡ w.initial
+  pub widths : w.initial.first + w.initial.second ≤ 32
+  pub firsts : w.layout.firsts ≡ length w.initial.firsts
+  pub seconds : w.layout.seconds ≡ length w.initial.seconds
+  pub workers : w.layout.workers ≡ w.initial.workers
+  pub words : w.table.words ≡ word_count w.initial
+  pub low : word_count w.initial < 2 ^ 63
 
 -- ---- the writer
 
@@ -57,20 +57,20 @@ abbrev pub with_step : View → WriterStep → View
 with_step v s = record v { seen = s ∷ v.seen }
 
 -- each token up to the greatest that has passed was checked
-abbrev pub AreChecked : Opened → List WriterStep → Type 0
+abbrev pub AreChecked : InitialData → List WriterStep → Type 0
 AreChecked o seen = (token : ℕ) → 0 < token → token ≤ passed_after o.workers seen
     → IsChecked o.workers o.token seen token
 
 -- the writer's steps: each might come after those before it, they leave entries, and each token that has
 -- passed was checked
-pub record AreLawful (o : Opened) (seen : List WriterStep) : Type 0 where
-  pub written : IsWritten (setup_of o) seen
-  pub words : IsWords o.first o.second (tables (setup_of o) seen).words
+pub record AreLawful (o : InitialData) (seen : List WriterStep) : Type 0 where
+  pub written : IsWritten (initial_state_of o) seen
+  pub words : IsWords o.first o.second (state_after (initial_state_of o) seen).words
   pub checked : AreChecked o seen
 
 -- the writer's step is made, and its steps are lawful then
 abbrev pub WriterGains : WriterStep → Me (Unit {0}) View → Me (Unit {0}) View → Type 0
-WriterGains s me me' = (me' ≡ (with_step me.0 s, me.1)) × AreLawful me'.0.opening me'.0.seen
+WriterGains s me me' = (me' ≡ (with_step me.0 s, me.1)) × AreLawful me'.0.initial me'.0.seen
 
 -- what callers see of the writer's seat: at which table it is, and what it knows
 pub record WriterAt : Type 0 where
@@ -86,29 +86,29 @@ pub record IsWriterSeat (me : Me (Unit {0}) View) : Type 0 where
   pub alone : me.1 ≡ []
   pub role : me.0.role ≡ AsWriter
   pub told : me.0.told ≡ []
-  pub lawful : AreLawful me.0.opening me.0.seen
+  pub lawful : AreLawful me.0.initial me.0.seen
 
 -- a load of a word that the writer alone changes is no step, and finds what its own steps left
-pub record IsFoundAt (o : Opened) (seen : List WriterStep) (at word : ℕ) : Type 0 where
+pub record IsFoundAt (o : InitialData) (seen : List WriterStep) (at word : ℕ) : Type 0 where
   pub first : (i : ℕ) → i < length o.firsts → at ≡ first_at i
-      → half i word ≡ slice_index (tables (setup_of o) seen).words.firsts i
+      → half i word ≡ slice_index (state_after (initial_state_of o) seen).words.firsts i
   pub second : (j : ℕ) → j < length o.seconds → at ≡ second_at o j
-      → half j word ≡ slice_index (tables (setup_of o) seen).words.seconds j
-  pub sequence : at ≡ sequence_at → word ≡ (tables (setup_of o) seen).sequence
-  pub token : at ≡ token_at → word ≡ (tables (setup_of o) seen).token
+      → half j word ≡ slice_index (state_after (initial_state_of o) seen).words.seconds j
+  pub sequence : at ≡ sequence_at → word ≡ (state_after (initial_state_of o) seen).sequence
+  pub token : at ≡ token_at → word ≡ (state_after (initial_state_of o) seen).token
 
 abbrev pub WriterLooks : Step (Unit {0}) → Me (Unit {0}) View → ℕ → Me (Unit {0}) View → Type 0
-WriterLooks s me x me' = (me' ≡ me) × IsFoundAt me.0.opening me.0.seen s.word x
+WriterLooks s me x me' = (me' ≡ me) × IsFoundAt me.0.initial me.0.seen s.word x
 
 -- a word in which first word i stands has its neighbour there as the writer's steps left it
-abbrev pub KeepsFirst : Opened → List WriterStep → ℕ → ℕ → Type 0
+abbrev pub KeepsFirst : InitialData → List WriterStep → ℕ → ℕ → Type 0
 KeepsFirst o seen i word = (k : ℕ) → k < length o.firsts → first_at k ≡ first_at i → k ≢ i
-    → half k word ≡ slice_index (tables (setup_of o) seen).words.firsts k
+    → half k word ≡ slice_index (state_after (initial_state_of o) seen).words.firsts k
 
 -- a word in which second word j stands has its neighbour there as the writer's steps left it
-abbrev pub KeepsSecond : Opened → List WriterStep → ℕ → ℕ → Type 0
+abbrev pub KeepsSecond : InitialData → List WriterStep → ℕ → ℕ → Type 0
 KeepsSecond o seen j word = (k : ℕ) → k < length o.seconds → second_at o k ≡ second_at o j → k ≢ j
-    → half k word ≡ slice_index (tables (setup_of o) seen).words.seconds k
+    → half k word ≡ slice_index (state_after (initial_state_of o) seen).words.seconds k
 
 -- ---- a worker
 
@@ -116,12 +116,12 @@ KeepsSecond o seen j word = (k : ℕ) → k < length o.seconds → second_at o k
 -- at places among them that never fall, each may come at its place, and each lookup that it has finished
 -- is legal
 pub record IsSound (v : View) : Type 0 where
-  pub written : IsWritten (setup_of v.opening) v.seen
-  pub words : IsWords v.opening.first v.opening.second (tables (setup_of v.opening) v.seen).words
+  pub written : IsWritten (initial_state_of v.initial) v.seen
+  pub words : IsWords v.initial.first v.initial.second (state_after (initial_state_of v.initial) v.seen).words
   pub rising : AllPairs (λ later earlier. earlier.1 ≤ later.1) v.own
   pub within : All (λ step. step.1 ≤ length v.seen) v.own
-  pub placed : ArePlaced (setup_of v.opening) v.seen v.own
-  pub legal : All (IsLegalAtPlace (setup_of v.opening) v.seen) (worker_by v.own).finished
+  pub placed : ArePlaced (initial_state_of v.initial) v.seen v.own
+  pub legal : All (IsLegalAtPlace (initial_state_of v.initial) v.seen) (worker_by v.own).finished
 
 -- the worker's own list gains the step, at the place of what it has seen of the writer's steps then
 pub record Gains (s : WorkerStep) (v w : View) : Type 0 where
@@ -149,18 +149,18 @@ coded_worker = code_by (TableId × (ℕ × View))
 pub record IsWorkerSeat (number : ℕ) (me : Me (Unit {0}) View) : Type 0 where
   pub alone : me.1 ≡ []
   pub role : me.0.role ≡ AsWorker number
-  pub inside : number < me.0.opening.workers
+  pub inside : number < me.0.initial.workers
   pub sound : IsSound me.0
 
 -- it gains the load of a first word, which may stand in the first table
 abbrev pub WorkerGainsFirst : Me (Unit {0}) View → ℕ → Me (Unit {0}) View → Type 0
 WorkerGainsFirst me n me' = WorkerGains (LoadFirst n) me me'
-    × IsFirstWord (me.0.opening.first + me.0.opening.second) me.0.opening.second me.0.opening.seconds n
+    × IsFirstWord (me.0.initial.first + me.0.initial.second) me.0.initial.second me.0.initial.seconds n
 
 -- it gains the load of a second word, which ends a lookup
 abbrev pub WorkerGainsSecond : Me (Unit {0}) View → ℕ → Me (Unit {0}) View → Type 0
 WorkerGainsSecond me n me' = WorkerGains (LoadSecond n) me me'
-    × IsLastWord (me.0.opening.first + me.0.opening.second) n
+    × IsLastWord (me.0.initial.first + me.0.initial.second) n
 
 -- the next first word that a lookup of these addresses reads is at place i
 abbrev pub IsFirstAt : ℕ → ℕ → List Probe → Type 0

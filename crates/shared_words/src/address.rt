@@ -8,7 +8,7 @@ ghost use Rattle.lpm_trace.specs.Workers.{Online, LookingUp, Unread};
 ghost use Rattle.shared_words.specs.Seats.{IsOf};
 ghost use Rattle.shared_words.specs.Deeds.{LoadsWords, LooksUp};
 
-use crate::{Opens, SharedWords, WorkerSeat};
+use crate::{InitialContent, SharedWords, WorkerSeat};
 use lpm_bits::{Hop, Shape};
 use lpm_cells::Entry;
 use lpm_rules::Answer;
@@ -16,15 +16,15 @@ use lpm_rules::Answer;
 /// The next hop of the longest rule that covers the address, as a version has it that stood while the
 /// words were loaded.
 #[inline]
-pub fn lookup<const FIRST: u32, const SECOND: u32, T: Opens>(
+pub fn lookup<const FIRST: u32, const SECOND: u32, T: InitialContent>(
     seat: &mut WorkerSeat,
     table: &SharedWords<T>,
     addr: u32,
 ) -> Answer
     requires own { IsOf table.now seat.old.table seat.old.view }
     requires shape { IsShape FIRST SECOND }
-    requires first { seat.old.view.opening.first ≡ FIRST }
-    requires second { seat.old.view.opening.second ≡ SECOND }
+    requires first { seat.old.view.initial.first ≡ FIRST }
+    requires second { seat.old.view.initial.second ≡ SECOND }
     requires online { (worker_by seat.old.view.own).phase ≡ Online }
     requires addr { addr < 2 ^ (FIRST + SECOND) }
     ensures own { seat.new.table ≡ seat.old.table }
@@ -46,16 +46,16 @@ pub fn lookup<const FIRST: u32, const SECOND: u32, T: Opens>(
 
 /// Loads the words of an address that is looked up alone. It returns the one that answers.
 #[inline]
-fn load_words<const FIRST: u32, const SECOND: u32, T: Opens>(
+fn load_words<const FIRST: u32, const SECOND: u32, T: InitialContent>(
     seat: &mut WorkerSeat,
     table: &SharedWords<T>,
     addr: u32,
 ) -> u64
     requires own { IsOf table.now seat.old.table seat.old.view }
     requires shape { IsShape FIRST SECOND }
-    requires first { seat.old.view.opening.first ≡ FIRST }
-    requires second { seat.old.view.opening.second ≡ SECOND }
-    requires firsts { length seat.old.view.opening.firsts ≡ 2 ^ FIRST }
+    requires first { seat.old.view.initial.first ≡ FIRST }
+    requires second { seat.old.view.initial.second ≡ SECOND }
+    requires firsts { length seat.old.view.initial.firsts ≡ 2 ^ FIRST }
     requires addr { addr < 2 ^ (FIRST + SECOND) }
     requires looking { (worker_by seat.old.view.own).phase ≡ LookingUp }
     requires unread { (worker_by seat.old.view.own).probes ≡ Unread addr ∷ [] }

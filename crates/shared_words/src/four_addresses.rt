@@ -9,7 +9,7 @@ ghost use Rattle.lpm_trace.specs.Workers.{Online, LookingUp, Unread};
 ghost use Rattle.shared_words.specs.Seats.{IsOf};
 ghost use Rattle.shared_words.specs.Deeds.{LoadsFirsts, LoadsLast, LooksUpAll, IsNextWith};
 
-use crate::{Opens, SharedWords, WorkerSeat};
+use crate::{InitialContent, SharedWords, WorkerSeat};
 use lpm_bits::{Hop, Shape};
 use lpm_cells::Entry;
 
@@ -27,7 +27,7 @@ pub struct FourAnswers {
 
 /// The next hops of four addresses, between two loads of the sequence for all of them.
 #[inline]
-pub fn lookup4<const FIRST: u32, const SECOND: u32, T: Opens>(
+pub fn lookup4<const FIRST: u32, const SECOND: u32, T: InitialContent>(
     seat: &mut WorkerSeat,
     table: &SharedWords<T>,
     a: u32,
@@ -37,8 +37,8 @@ pub fn lookup4<const FIRST: u32, const SECOND: u32, T: Opens>(
 ) -> FourAnswers
     requires own { IsOf table.now seat.old.table seat.old.view }
     requires shape { IsShape FIRST SECOND }
-    requires first { seat.old.view.opening.first ≡ FIRST }
-    requires second { seat.old.view.opening.second ≡ SECOND }
+    requires first { seat.old.view.initial.first ≡ FIRST }
+    requires second { seat.old.view.initial.second ≡ SECOND }
     requires online { (worker_by seat.old.view.own).phase ≡ Online }
     requires addrs { All (λ addr. addr < 2 ^ (FIRST + SECOND)) (a ∷ b ∷ c ∷ d ∷ []) }
     ensures own { seat.new.table ≡ seat.old.table }
@@ -70,7 +70,7 @@ pub fn lookup4<const FIRST: u32, const SECOND: u32, T: Opens>(
 
 /// Loads the first words of the addresses of a lookup.
 #[inline]
-fn load_firsts<const FIRST: u32, const SECOND: u32, T: Opens>(
+fn load_firsts<const FIRST: u32, const SECOND: u32, T: InitialContent>(
     seat: &mut WorkerSeat,
     table: &SharedWords<T>,
     a: u32,
@@ -80,8 +80,8 @@ fn load_firsts<const FIRST: u32, const SECOND: u32, T: Opens>(
 ) -> (u64, u64, u64, u64)
     requires own { IsOf table.now seat.old.table seat.old.view }
     requires shape { IsShape FIRST SECOND }
-    requires second { seat.old.view.opening.second ≡ SECOND }
-    requires firsts { length seat.old.view.opening.firsts ≡ 2 ^ FIRST }
+    requires second { seat.old.view.initial.second ≡ SECOND }
+    requires firsts { length seat.old.view.initial.firsts ≡ 2 ^ FIRST }
     requires addrs { All (λ addr. addr < 2 ^ (FIRST + SECOND)) (a ∷ b ∷ c ∷ d ∷ []) }
     requires looking { (worker_by seat.old.view.own).phase ≡ LookingUp }
     requires unread { (worker_by seat.old.view.own).probes
@@ -89,8 +89,8 @@ fn load_firsts<const FIRST: u32, const SECOND: u32, T: Opens>(
     ensures own { seat.new.table ≡ seat.old.table }
     ensures worker { seat.new.worker ≡ seat.old.worker }
     ensures words { All (IsFirstWord
-        (seat.old.view.opening.first + seat.old.view.opening.second)
-        seat.old.view.opening.second seat.old.view.opening.seconds)
+        (seat.old.view.initial.first + seat.old.view.initial.second)
+        seat.old.view.initial.second seat.old.view.initial.seconds)
         (result.0 ∷ result.1 ∷ result.2 ∷ result.3 ∷ []) }
     ensures loads { LoadsFirsts (a ∷ b ∷ c ∷ d ∷ [])
         (result.0 ∷ result.1 ∷ result.2 ∷ result.3 ∷ [])
@@ -105,7 +105,7 @@ fn load_firsts<const FIRST: u32, const SECOND: u32, T: Opens>(
 
 /// Loads the word that answers the next address, where that isn't its first word. It returns the word.
 #[inline]
-fn load_last<const FIRST: u32, const SECOND: u32, T: Opens>(
+fn load_last<const FIRST: u32, const SECOND: u32, T: InitialContent>(
     seat: &mut WorkerSeat,
     table: &SharedWords<T>,
     addr: u32,
@@ -113,9 +113,9 @@ fn load_last<const FIRST: u32, const SECOND: u32, T: Opens>(
 ) -> u64
     requires own { IsOf table.now seat.old.table seat.old.view }
     requires shape { IsShape FIRST SECOND }
-    requires first { seat.old.view.opening.first ≡ FIRST }
-    requires second { seat.old.view.opening.second ≡ SECOND }
-    requires word { IsFirstWord (FIRST + SECOND) SECOND seat.old.view.opening.seconds word }
+    requires first { seat.old.view.initial.first ≡ FIRST }
+    requires second { seat.old.view.initial.second ≡ SECOND }
+    requires word { IsFirstWord (FIRST + SECOND) SECOND seat.old.view.initial.seconds word }
     requires looking { (worker_by seat.old.view.own).phase ≡ LookingUp }
     requires next { IsNextWith addr word (worker_by seat.old.view.own).probes }
     ensures own { seat.new.table ≡ seat.old.table }

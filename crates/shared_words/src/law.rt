@@ -3,13 +3,13 @@
 ghost use Rattle.std.specs.Prelude.{ℕ, List, []};
 ghost use Rattle.lpm_trace.specs.declared.step.RuleChange.{RuleChange};
 ghost use Rattle.lpm_trace.specs.declared.step.RuleChange.TheVariants.{Clear};
-ghost use Rattle.lpm_trace.specs.declared.step.WriterStep.TheVariants.{StoreFirst, StoreSecond, Opens as OpensUpdate, Closes, BumpToken, LoadCounter};
-ghost use Rattle.lpm_trace.specs.declared.step.WorkerStep.TheVariants.{LoadOnline, StoreOnline, LoadQuiescent, StoreQuiescent, StoreOffline, Begins, Ends, Meets};
+ghost use Rattle.lpm_trace.specs.declared.step.WriterStep.TheVariants.{StoreFirst, StoreSecond, BeginUpdate as OpensUpdate, EndUpdate, BumpToken, LoadCounter};
+ghost use Rattle.lpm_trace.specs.declared.step.WorkerStep.TheVariants.{LoadOnline, StoreOnline, LoadQuiescent, StoreQuiescent, StoreOffline, BeginLookup, EndLookup, MeetWriter};
 ghost use Rattle.shared_words.specs.Layout.{half};
-ghost use Rattle.shared_words.specs.Rule.{Holds, writer_view, worker_view, with_one_more, note_of, read_note, hearing};
+ghost use Rattle.shared_words.specs.Rule.{Holds, writer_view, worker_view, with_one_more, note_of, read_note, view_with_note};
 ghost use Rattle.shared_words.specs.Seats.{WriterGains, WriterLooks, SeatCompares, WorkerGains, WorkerGainsFirst, WorkerGainsSecond};
 
-use crate::opening::Opens;
+use crate::initial::InitialContent;
 use crate::view::View;
 use atomic_table::{Join, Play, Seat, Split, Table, TableRule};
 use std::alloc::Global;
@@ -18,10 +18,10 @@ use std::marker::{Brand, PhantomData};
 /// The rule: the words and the views show the end of a trace.
 pub struct TraceRule;
 
-impl<T: Opens> TableRule<(), View, T> for TraceRule {
-    ghost holds = { λ key. Holds (T.opened key) };
+impl<T: InitialContent> TableRule<(), View, T> for TraceRule {
+    ghost holds = { λ key. Holds (T.initial key) };
 
-    ghost first = { λ key. writer_view (T.opened key) };
+    ghost first = { λ key. writer_view (T.initial key) };
 }
 
 /// The table of atomic words under this rule.
@@ -88,7 +88,7 @@ impl<J: Picks> Play<(), View> for OpensUpdates<J> {
 pub struct ClosesUpdates;
 
 impl Play<(), View> for ClosesUpdates {
-    ghost then = { λ s me n. WriterGains Closes me };
+    ghost then = { λ s me n. WriterGains EndUpdate me };
 }
 
 /// The token is stored.
@@ -162,7 +162,7 @@ pub struct BeginsLookup<J: Picks> {
 }
 
 impl<J: Picks> Play<(), View> for BeginsLookup<J> {
-    ghost then = { λ s me n. WorkerGains (Begins J.addrs n) me };
+    ghost then = { λ s me n. WorkerGains (BeginLookup J.addrs n) me };
 }
 
 /// A worker loads the first word at this place.
@@ -187,14 +187,14 @@ impl<J: Picks> Play<(), View> for LoadsSecond<J> {
 pub struct EndsLookup;
 
 impl Play<(), View> for EndsLookup {
-    ghost then = { λ s me n. WorkerGains (Ends n) me };
+    ghost then = { λ s me n. WorkerGains (EndLookup n) me };
 }
 
 /// A worker loads the sequence to meet the writer.
 pub struct Meeting;
 
 impl Play<(), View> for Meeting {
-    ghost then = { λ s me n. WorkerGains (Meets n) me };
+    ghost then = { λ s me n. WorkerGains (MeetWriter n) me };
 }
 
 /// The next worker's seat is cut off the writer's.
@@ -219,7 +219,7 @@ impl Split<View> for Notes {
 pub struct Hears;
 
 impl Join<View> for Hears {
-    ghost both = { hearing };
+    ghost both = { view_with_note };
 
     ghost spent = { read_note };
 }

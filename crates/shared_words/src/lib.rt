@@ -12,9 +12,9 @@
 
 mod address;
 mod four_addresses;
+mod initial;
 mod law;
 mod layout;
-mod opening;
 mod reports;
 mod view;
 mod words;
@@ -23,8 +23,8 @@ mod writer;
 
 pub use address::lookup;
 pub use four_addresses::{FourAnswers, lookup4};
+pub use initial::{Initial, InitialContent};
 pub use layout::{Layout, pairs};
-pub use opening::{Opening, Opens};
 pub use reports::{offline, online, quiescent};
 pub use view::{Role, View};
 pub use words::{SharedWords, open};

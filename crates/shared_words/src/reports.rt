@@ -7,11 +7,11 @@ ghost use Rattle.lpm_trace.specs.Workers.{Offline, Online};
 ghost use Rattle.shared_words.specs.Seats.{IsOf};
 ghost use Rattle.shared_words.specs.Deeds.{GainsAll, GoesOn};
 
-use crate::{Opens, SharedWords, WorkerSeat};
+use crate::{InitialContent, SharedWords, WorkerSeat};
 
 /// Reports that the worker is online: stores the token that it loads in the worker's counter.
 #[inline]
-pub fn online<T: Opens>(seat: &mut WorkerSeat, table: &SharedWords<T>)
+pub fn online<T: InitialContent>(seat: &mut WorkerSeat, table: &SharedWords<T>)
     requires own { IsOf table.now seat.old.table seat.old.view }
     requires offline { (worker_by seat.old.view.own).phase ≡ Offline }
     ensures own { seat.new.table ≡ seat.old.table }
@@ -27,7 +27,7 @@ pub fn online<T: Opens>(seat: &mut WorkerSeat, table: &SharedWords<T>)
 
 /// Reports that the worker is quiescent: stores the token that it loads in the worker's counter.
 #[inline]
-pub fn quiescent<T: Opens>(seat: &mut WorkerSeat, table: &SharedWords<T>)
+pub fn quiescent<T: InitialContent>(seat: &mut WorkerSeat, table: &SharedWords<T>)
     requires own { IsOf table.now seat.old.table seat.old.view }
     requires online { (worker_by seat.old.view.own).phase ≡ Online }
     ensures own { seat.new.table ≡ seat.old.table }
@@ -43,7 +43,7 @@ pub fn quiescent<T: Opens>(seat: &mut WorkerSeat, table: &SharedWords<T>)
 
 /// Reports that the worker is offline: stores 0 in the worker's counter.
 #[inline]
-pub fn offline<T: Opens>(seat: &mut WorkerSeat, table: &SharedWords<T>)
+pub fn offline<T: InitialContent>(seat: &mut WorkerSeat, table: &SharedWords<T>)
     requires own { IsOf table.now seat.old.table seat.old.view }
     requires online { (worker_by seat.old.view.own).phase ≡ Online }
     ensures own { seat.new.table ≡ seat.old.table }

@@ -3,21 +3,21 @@
 ghost use Rattle.std.specs.Prelude.{◌≡◌, ℕ, ◌+◌, ◌<◌, All, [], length};
 ghost use Rattle.lpm_cells.specs.Words.{IsLastWord};
 ghost use Rattle.lpm_cells.specs.Table.{IsFirstWord};
-ghost use Rattle.lpm_trace.specs.declared.step.WorkerStep.TheVariants.{LoadOnline, StoreOnline, LoadQuiescent, StoreQuiescent, StoreOffline, Begins, LoadFirst as FirstLoad, LoadSecond as SecondLoad, Ends, Meets};
-ghost use Rattle.lpm_trace.specs.Tables.{addresses};
+ghost use Rattle.lpm_trace.specs.declared.step.WorkerStep.TheVariants.{LoadOnline, StoreOnline, LoadQuiescent, StoreQuiescent, StoreOffline, BeginLookup, LoadFirst as FirstLoad, LoadSecond as SecondLoad, EndLookup, MeetWriter};
+ghost use Rattle.lpm_trace.specs.States.{addresses};
 ghost use Rattle.lpm_trace.specs.Trace.{worker_by};
 ghost use Rattle.lpm_trace.specs.Workers.{Offline, ComingOnline, Online, LookingUp, ReportingQuiescent, AreBegun, AreAnswered, IsBetweenDeeds};
 ghost use Rattle.shared_words.specs.declared.view.Role.TheVariants.{Worker as AsWorker};
-ghost use Rattle.shared_words.specs.Opened.{setup_of};
+ghost use Rattle.shared_words.specs.Initial.{initial_state_of};
 ghost use Rattle.shared_words.specs.Layout.{first_at, pairs, second_at, sequence_at};
 ghost use Rattle.shared_words.specs.Seats.{IsOf, IsSound, Gains, IsFirstAt, IsSecondAt};
 
+use crate::initial::InitialContent;
 use crate::law::{
     BeginsLookup, Board, Compares, EndsLookup, Hears, LoadsFirst, LoadsOnline, LoadsQuiescent,
     LoadsSecond, Meeting, Notes, Picks, Place, StoresOffline, StoresOnline, StoresQuiescent,
 };
 use crate::layout::{Layout, first_at, half};
-use crate::opening::Opens;
 use crate::words::SharedWords;
 use crate::writer::WriterSeat;
 use std::marker::{Brand, Model};
@@ -48,7 +48,7 @@ impl Model for WorkerSeat {
 }
 
 // The caller picks the addresses. A signature with a const parameter would not let it.
-fn begin_as<T: Opens, J: Picks>(
+fn begin_as<T: InitialContent, J: Picks>(
     board: &Board<T>,
     place: &mut Place,
     at: usize,
@@ -62,9 +62,9 @@ fn begin_as<T: Opens, J: Picks>(
     requires role { place.old.me.0.role ≡ AsWorker number }
     requires picked { J.addrs ≡ addrs.now }
     requires online { (worker_by place.old.me.0.own).phase ≡ Online }
-    requires addrs { All (λ a. a < addresses (setup_of place.old.me.0.opening)) addrs.now }
+    requires addrs { All (λ a. a < addresses (initial_state_of place.old.me.0.initial)) addrs.now }
     ensures own { (place.new.table_id ≡ place.old.table_id) × (place.new.me.1 ≡ place.old.me.1) }
-    ensures step { Gains (Begins addrs.now result) place.old.me.0 place.new.me.0 }
+    ensures step { Gains (BeginLookup addrs.now result) place.old.me.0 place.new.me.0 }
     ensures sound { IsSound place.new.me.0 }
 {
     let _ = number;
@@ -74,7 +74,7 @@ fn begin_as<T: Opens, J: Picks>(
 
 // The caller picks the place of the table word that is loaded.
 #[inline]
-fn load_first_as<T: Opens, J: Picks>(
+fn load_first_as<T: InitialContent, J: Picks>(
     board: &Board<T>,
     place: &mut Place,
     number: u64,
@@ -83,24 +83,24 @@ fn load_first_as<T: Opens, J: Picks>(
 ) -> u64
     requires own { (place.old.table_id ≡ board.now.shared.table_id)
         × (at < board.now.shared.table_id.words) }
-    requires place { (at ≡ first_at i) × (i < length (T.opened board.now.shared.key).firsts) }
+    requires place { (at ≡ first_at i) × (i < length (T.initial board.now.shared.key).firsts) }
     requires alone { place.old.me.1 ≡ [] }
     requires role { place.old.me.0.role ≡ AsWorker number }
     requires picked { J.index ≡ i }
     requires looking { (worker_by place.old.me.0.own).phase ≡ LookingUp }
-    requires next { IsFirstAt place.old.me.0.opening.second i (worker_by place.old.me.0.own).probes }
+    requires next { IsFirstAt place.old.me.0.initial.second i (worker_by place.old.me.0.own).probes }
     ensures own { (place.new.table_id ≡ place.old.table_id) × (place.new.me.1 ≡ place.old.me.1) }
     ensures step { Gains (FirstLoad result) place.old.me.0 place.new.me.0 }
     ensures sound { IsSound place.new.me.0 }
-    ensures word { IsFirstWord (place.old.me.0.opening.first + place.old.me.0.opening.second)
-        place.old.me.0.opening.second place.old.me.0.opening.seconds result }
+    ensures word { IsFirstWord (place.old.me.0.initial.first + place.old.me.0.initial.second)
+        place.old.me.0.initial.second place.old.me.0.initial.seconds result }
 {
     let _ = number;
     half(i, board.shared.load::<LoadsFirst<J>>(place, at))
 }
 
 #[inline]
-fn load_second_as<T: Opens, J: Picks>(
+fn load_second_as<T: InitialContent, J: Picks>(
     board: &Board<T>,
     place: &mut Place,
     number: u64,
@@ -109,18 +109,18 @@ fn load_second_as<T: Opens, J: Picks>(
 ) -> u64
     requires own { (place.old.table_id ≡ board.now.shared.table_id)
         × (at < board.now.shared.table_id.words) }
-    requires place { (at ≡ second_at (T.opened board.now.shared.key) j)
-        × (j < length (T.opened board.now.shared.key).seconds) }
+    requires place { (at ≡ second_at (T.initial board.now.shared.key) j)
+        × (j < length (T.initial board.now.shared.key).seconds) }
     requires alone { place.old.me.1 ≡ [] }
     requires role { place.old.me.0.role ≡ AsWorker number }
     requires picked { J.index ≡ j }
     requires looking { (worker_by place.old.me.0.own).phase ≡ LookingUp }
     requires begun { AreBegun (worker_by place.old.me.0.own).probes }
-    requires next { IsSecondAt place.old.me.0.opening.second j (worker_by place.old.me.0.own).probes }
+    requires next { IsSecondAt place.old.me.0.initial.second j (worker_by place.old.me.0.own).probes }
     ensures own { (place.new.table_id ≡ place.old.table_id) × (place.new.me.1 ≡ place.old.me.1) }
     ensures step { Gains (SecondLoad result) place.old.me.0 place.new.me.0 }
     ensures sound { IsSound place.new.me.0 }
-    ensures word { IsLastWord (place.old.me.0.opening.first + place.old.me.0.opening.second) result }
+    ensures word { IsLastWord (place.old.me.0.initial.first + place.old.me.0.initial.second) result }
 {
     let _ = number;
     half(j, board.shared.load::<LoadsSecond<J>>(place, at))
@@ -131,7 +131,7 @@ impl WorkerSeat {
     pub fn number(&self) -> u64
         ensures worker { result ≡ self.now.worker }
         ensures role { self.now.view.role ≡ AsWorker result }
-        ensures inside { result < self.now.view.opening.workers }
+        ensures inside { result < self.now.view.initial.workers }
     {
         self.number
     }
@@ -147,7 +147,7 @@ impl WorkerSeat {
 
     /// In a report that the worker is online, loads the token.
     #[inline]
-    pub fn load_online<T: Opens>(&mut self, table: &SharedWords<T>) -> u64
+    pub fn load_online<T: InitialContent>(&mut self, table: &SharedWords<T>) -> u64
         requires own { IsOf table.now self.old.table self.old.view }
         requires offline { (worker_by self.old.view.own).phase ≡ Offline }
         ensures own { self.new.table ≡ self.old.table }
@@ -160,7 +160,7 @@ impl WorkerSeat {
 
     /// In that report, stores the loaded token into the worker's counter.
     #[inline]
-    pub fn store_online<T: Opens>(&mut self, table: &SharedWords<T>, token: u64)
+    pub fn store_online<T: InitialContent>(&mut self, table: &SharedWords<T>, token: u64)
         requires own { IsOf table.now self.old.table self.old.view }
         requires loaded { (worker_by self.old.view.own).phase ≡ ComingOnline token }
         ensures own { self.new.table ≡ self.old.table }
@@ -176,7 +176,7 @@ impl WorkerSeat {
 
     /// In a quiescent report, loads the token.
     #[inline]
-    pub fn load_quiescent<T: Opens>(&mut self, table: &SharedWords<T>) -> u64
+    pub fn load_quiescent<T: InitialContent>(&mut self, table: &SharedWords<T>) -> u64
         requires own { IsOf table.now self.old.table self.old.view }
         requires online { (worker_by self.old.view.own).phase ≡ Online }
         ensures own { self.new.table ≡ self.old.table }
@@ -192,7 +192,7 @@ impl WorkerSeat {
 
     /// In that report, stores the loaded token into the worker's counter.
     #[inline]
-    pub fn store_quiescent<T: Opens>(&mut self, table: &SharedWords<T>, token: u64)
+    pub fn store_quiescent<T: InitialContent>(&mut self, table: &SharedWords<T>, token: u64)
         requires own { IsOf table.now self.old.table self.old.view }
         requires loaded { (worker_by self.old.view.own).phase ≡ ReportingQuiescent token }
         ensures own { self.new.table ≡ self.old.table }
@@ -208,7 +208,7 @@ impl WorkerSeat {
 
     /// Stores 0 in the worker's counter: it is offline.
     #[inline]
-    pub fn store_offline<T: Opens>(&mut self, table: &SharedWords<T>)
+    pub fn store_offline<T: InitialContent>(&mut self, table: &SharedWords<T>)
         requires own { IsOf table.now self.old.table self.old.view }
         requires online { (worker_by self.old.view.own).phase ≡ Online }
         ensures own { self.new.table ≡ self.old.table }
@@ -224,13 +224,13 @@ impl WorkerSeat {
 
     /// Loads the sequence: a lookup of these addresses begins.
     #[inline]
-    pub fn begin_lookup<T: Opens>(&mut self, table: &SharedWords<T>, addrs: &[u64]) -> u64
+    pub fn begin_lookup<T: InitialContent>(&mut self, table: &SharedWords<T>, addrs: &[u64]) -> u64
         requires own { IsOf table.now self.old.table self.old.view }
         requires online { (worker_by self.old.view.own).phase ≡ Online }
-        requires addrs { All (λ a. a < addresses (setup_of self.old.view.opening)) addrs.now }
+        requires addrs { All (λ a. a < addresses (initial_state_of self.old.view.initial)) addrs.now }
         ensures own { self.new.table ≡ self.old.table }
         ensures worker { self.new.worker ≡ self.old.worker }
-        ensures step { Gains (Begins addrs.now result) self.old.view self.new.view }
+        ensures step { Gains (BeginLookup addrs.now result) self.old.view self.new.view }
     {
         let at = Layout::SEQUENCE;
         begin_as::<T, Brand>(&table.board, &mut self.place, at, self.number, addrs)
@@ -238,36 +238,36 @@ impl WorkerSeat {
 
     /// Loads the first word of the next address, which lies at place `i`.
     #[inline]
-    pub fn load_first<T: Opens>(&mut self, table: &SharedWords<T>, i: usize) -> u64
+    pub fn load_first<T: InitialContent>(&mut self, table: &SharedWords<T>, i: usize) -> u64
         requires own { IsOf table.now self.old.table self.old.view }
         requires index { i < table.now.layout.firsts }
         requires looking { (worker_by self.old.view.own).phase ≡ LookingUp }
-        requires next { IsFirstAt self.old.view.opening.second i
+        requires next { IsFirstAt self.old.view.initial.second i
             (worker_by self.old.view.own).probes }
         ensures own { self.new.table ≡ self.old.table }
         ensures worker { self.new.worker ≡ self.old.worker }
         ensures step { Gains (FirstLoad result) self.old.view self.new.view }
         ensures word { IsFirstWord
-            (self.old.view.opening.first + self.old.view.opening.second)
-            self.old.view.opening.second self.old.view.opening.seconds result }
+            (self.old.view.initial.first + self.old.view.initial.second)
+            self.old.view.initial.second self.old.view.initial.seconds result }
     {
         load_first_as::<T, Brand>(&table.board, &mut self.place, self.number, first_at(i), i)
     }
 
     /// Loads the second word of the next address that has a group, which lies at place `j`.
     #[inline]
-    pub fn load_second<T: Opens>(&mut self, table: &SharedWords<T>, j: usize) -> u64
+    pub fn load_second<T: InitialContent>(&mut self, table: &SharedWords<T>, j: usize) -> u64
         requires own { IsOf table.now self.old.table self.old.view }
         requires index { j < table.now.layout.seconds }
         requires looking { (worker_by self.old.view.own).phase ≡ LookingUp }
         requires begun { AreBegun (worker_by self.old.view.own).probes }
-        requires next { IsSecondAt self.old.view.opening.second j
+        requires next { IsSecondAt self.old.view.initial.second j
             (worker_by self.old.view.own).probes }
         ensures own { self.new.table ≡ self.old.table }
         ensures worker { self.new.worker ≡ self.old.worker }
         ensures step { Gains (SecondLoad result) self.old.view self.new.view }
         ensures word { IsLastWord
-            (self.old.view.opening.first + self.old.view.opening.second) result }
+            (self.old.view.initial.first + self.old.view.initial.second) result }
     {
         let at = table.layout.second_at(j);
         load_second_as::<T, Brand>(&table.board, &mut self.place, self.number, at, j)
@@ -275,13 +275,13 @@ impl WorkerSeat {
 
     /// Loads the sequence: the lookup, of which each address has its answer, ends.
     #[inline]
-    pub fn end_lookup<T: Opens>(&mut self, table: &SharedWords<T>) -> u64
+    pub fn end_lookup<T: InitialContent>(&mut self, table: &SharedWords<T>) -> u64
         requires own { IsOf table.now self.old.table self.old.view }
         requires looking { (worker_by self.old.view.own).phase ≡ LookingUp }
         requires answered { AreAnswered (worker_by self.old.view.own).probes }
         ensures own { self.new.table ≡ self.old.table }
         ensures worker { self.new.worker ≡ self.old.worker }
-        ensures step { Gains (Ends result) self.old.view self.new.view }
+        ensures step { Gains (EndLookup result) self.old.view self.new.view }
     {
         let at = Layout::SEQUENCE;
         table.board.shared.load::<EndsLookup>(&mut self.place, at)
@@ -289,13 +289,13 @@ impl WorkerSeat {
 
     /// Loads the sequence once. Then this worker has seen all that the writer has done. The writer stays as
     /// it was.
-    pub fn meet<T: Opens>(&mut self, table: &SharedWords<T>, writer: &mut WriterSeat)
+    pub fn meet<T: InitialContent>(&mut self, table: &SharedWords<T>, writer: &mut WriterSeat)
         requires own { IsOf table.now self.old.table self.old.view }
         requires between { IsBetweenDeeds (worker_by self.old.view.own).phase }
         requires writer { IsOf table.now writer.old.table writer.old.view }
         ensures own { self.new.table ≡ self.old.table }
         ensures worker { self.new.worker ≡ self.old.worker }
-        ensures step { (number : ℕ) × Gains (Meets number)
+        ensures step { (number : ℕ) × Gains (MeetWriter number)
             (record self.old.view { told = writer.old.view.seen })
             self.new.view }
         ensures all { self.new.view.seen ≡ writer.old.view.seen }

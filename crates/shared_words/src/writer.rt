@@ -1,21 +1,21 @@
 //! The writer's seat.
 
 ghost use Rattle.std.specs.Prelude.{◌≡◌, ℕ, ◌+◌, ◌<◌, length, slice_index, []};
-ghost use Rattle.lpm_trace.specs.declared.step.WriterStep.TheVariants.{StoreFirst, StoreSecond, Opens as OpensUpdate, Closes, BumpToken, LoadCounter};
-ghost use Rattle.lpm_trace.specs.Tables.{tables};
+ghost use Rattle.lpm_trace.specs.declared.step.WriterStep.TheVariants.{StoreFirst, StoreSecond, BeginUpdate as OpensUpdate, EndUpdate, BumpToken, LoadCounter};
+ghost use Rattle.lpm_trace.specs.States.{state_after};
 ghost use Rattle.lpm_trace.specs.Writer.{MayStep};
 ghost use Rattle.shared_words.specs.declared.view.Role.TheVariants.{Writer as AsWriter};
-ghost use Rattle.shared_words.specs.Opened.{setup_of};
+ghost use Rattle.shared_words.specs.Initial.{initial_state_of};
 ghost use Rattle.shared_words.specs.Layout.{half, first_at, second_at, sequence_at, counter_at};
 ghost use Rattle.shared_words.specs.Rule.{with_one_more, worker_view};
 ghost use Rattle.shared_words.specs.Seats.{IsOf, KeepsFirst, KeepsSecond, AreLawful, with_step};
 
+use crate::initial::InitialContent;
 use crate::law::{
     Board, BumpsToken, ClosesUpdates, LoadsCounter, Looks, NextWorker, OpensUpdates, Picks, Place,
     StoresFirst, StoresSecond,
 };
 use crate::layout::{Layout, first_at, half, with_half};
-use crate::opening::Opens;
 use crate::words::SharedWords;
 use crate::worker::WorkerSeat;
 use lpm_trace::RuleChange;
@@ -43,7 +43,7 @@ impl Model for WriterSeat {
 // The calls that follow pick what a step carries beside its word. A signature with a const parameter would
 // not let them.
 
-fn store_first_as<T: Opens, J: Picks>(
+fn store_first_as<T: InitialContent, J: Picks>(
     board: &Board<T>,
     place: &mut Place,
     at: usize,
@@ -57,20 +57,20 @@ fn store_first_as<T: Opens, J: Picks>(
     requires alone { place.old.me.1 ≡ [] }
     requires role { place.old.me.0.role ≡ AsWriter }
     requires picked { (J.index ≡ i) × (J.word ≡ word) }
-    requires may { MayStep (setup_of place.old.me.0.opening) place.old.me.0.seen
+    requires may { MayStep (initial_state_of place.old.me.0.initial) place.old.me.0.seen
         (StoreFirst i word) }
     requires stored { half i shared ≡ word }
-    requires kept { KeepsFirst place.old.me.0.opening place.old.me.0.seen i shared }
+    requires kept { KeepsFirst place.old.me.0.initial place.old.me.0.seen i shared }
     ensures own { (place.new.table_id ≡ place.old.table_id) × (place.new.me.1 ≡ place.old.me.1) }
     ensures step { place.new.me.0 ≡ with_step place.old.me.0 (StoreFirst i word) }
-    ensures lawful { AreLawful place.new.me.0.opening place.new.me.0.seen }
+    ensures lawful { AreLawful place.new.me.0.initial place.new.me.0.seen }
 {
     let _ = i;
     let _ = word;
     board.shared.store::<StoresFirst<J>>(place, at, shared)
 }
 
-fn store_second_as<T: Opens, J: Picks>(
+fn store_second_as<T: InitialContent, J: Picks>(
     board: &Board<T>,
     place: &mut Place,
     at: usize,
@@ -80,24 +80,24 @@ fn store_second_as<T: Opens, J: Picks>(
 )
     requires own { (place.old.table_id ≡ board.now.shared.table_id)
         × (at < board.now.shared.table_id.words) }
-    requires place { at ≡ second_at (T.opened board.now.shared.key) j }
+    requires place { at ≡ second_at (T.initial board.now.shared.key) j }
     requires alone { place.old.me.1 ≡ [] }
     requires role { place.old.me.0.role ≡ AsWriter }
     requires picked { (J.index ≡ j) × (J.word ≡ word) }
-    requires may { MayStep (setup_of place.old.me.0.opening) place.old.me.0.seen
+    requires may { MayStep (initial_state_of place.old.me.0.initial) place.old.me.0.seen
         (StoreSecond j word) }
     requires stored { half j shared ≡ word }
-    requires kept { KeepsSecond place.old.me.0.opening place.old.me.0.seen j shared }
+    requires kept { KeepsSecond place.old.me.0.initial place.old.me.0.seen j shared }
     ensures own { (place.new.table_id ≡ place.old.table_id) × (place.new.me.1 ≡ place.old.me.1) }
     ensures step { place.new.me.0 ≡ with_step place.old.me.0 (StoreSecond j word) }
-    ensures lawful { AreLawful place.new.me.0.opening place.new.me.0.seen }
+    ensures lawful { AreLawful place.new.me.0.initial place.new.me.0.seen }
 {
     let _ = j;
     let _ = word;
     board.shared.store::<StoresSecond<J>>(place, at, shared)
 }
 
-fn open_as<T: Opens, J: Picks>(
+fn open_as<T: InitialContent, J: Picks>(
     board: &Board<T>,
     place: &mut Place,
     at: usize,
@@ -110,18 +110,18 @@ fn open_as<T: Opens, J: Picks>(
     requires alone { place.old.me.1 ≡ [] }
     requires role { place.old.me.0.role ≡ AsWriter }
     requires picked { J.change ≡ change.now }
-    requires next { number ≡ (tables (setup_of place.old.me.0.opening) place.old.me.0.seen).sequence + 1 }
-    requires may { MayStep (setup_of place.old.me.0.opening) place.old.me.0.seen
+    requires next { number ≡ (state_after (initial_state_of place.old.me.0.initial) place.old.me.0.seen).sequence + 1 }
+    requires may { MayStep (initial_state_of place.old.me.0.initial) place.old.me.0.seen
         (OpensUpdate change.now) }
     ensures own { (place.new.table_id ≡ place.old.table_id) × (place.new.me.1 ≡ place.old.me.1) }
     ensures step { place.new.me.0 ≡ with_step place.old.me.0 (OpensUpdate change.now) }
-    ensures lawful { AreLawful place.new.me.0.opening place.new.me.0.seen }
+    ensures lawful { AreLawful place.new.me.0.initial place.new.me.0.seen }
 {
     let _ = change;
     board.shared.store::<OpensUpdates<J>>(place, at, number)
 }
 
-fn load_counter_as<T: Opens, J: Picks>(
+fn load_counter_as<T: InitialContent, J: Picks>(
     board: &Board<T>,
     place: &mut Place,
     at: usize,
@@ -130,16 +130,16 @@ fn load_counter_as<T: Opens, J: Picks>(
 ) -> u64
     requires own { (place.old.table_id ≡ board.now.shared.table_id)
         × (at < board.now.shared.table_id.words) }
-    requires place { (at ≡ counter_at (T.opened board.now.shared.key) worker)
-        × (worker < (T.opened board.now.shared.key).workers) }
+    requires place { (at ≡ counter_at (T.initial board.now.shared.key) worker)
+        × (worker < (T.initial board.now.shared.key).workers) }
     requires alone { place.old.me.1 ≡ [] }
     requires role { place.old.me.0.role ≡ AsWriter }
     requires picked { (J.token ≡ token) × (J.index ≡ worker) }
-    requires may { (counter : ℕ) → MayStep (setup_of place.old.me.0.opening) place.old.me.0.seen
+    requires may { (counter : ℕ) → MayStep (initial_state_of place.old.me.0.initial) place.old.me.0.seen
         (LoadCounter token worker counter) }
     ensures own { (place.new.table_id ≡ place.old.table_id) × (place.new.me.1 ≡ place.old.me.1) }
     ensures step { place.new.me.0 ≡ with_step place.old.me.0 (LoadCounter token worker result) }
-    ensures lawful { AreLawful place.new.me.0.opening place.new.me.0.seen }
+    ensures lawful { AreLawful place.new.me.0.initial place.new.me.0.seen }
 {
     let _ = token;
     let _ = worker;
@@ -150,7 +150,7 @@ impl WriterSeat {
     /// Does nothing: its contract says what the writer's steps are.
     #[inline]
     pub fn history(&self)
-        ensures { AreLawful self.now.view.opening self.now.view.seen }
+        ensures { AreLawful self.now.view.initial self.now.view.seen }
     {
         let _ = &self.place;
     }
@@ -158,9 +158,9 @@ impl WriterSeat {
     /// Stores a first word: one store of the shared word in which it stands, beside its neighbour as this
     /// writer left it.
     #[inline]
-    pub fn store_first<T: Opens>(&mut self, table: &SharedWords<T>, i: usize, word: u64)
+    pub fn store_first<T: InitialContent>(&mut self, table: &SharedWords<T>, i: usize, word: u64)
         requires own { IsOf table.now self.old.table self.old.view }
-        requires may { MayStep (setup_of self.old.view.opening) self.old.view.seen
+        requires may { MayStep (initial_state_of self.old.view.initial) self.old.view.seen
             (StoreFirst i word) }
         ensures own { self.new.table ≡ self.old.table }
         ensures step { self.new.view ≡ with_step self.old.view (StoreFirst i word) }
@@ -174,9 +174,9 @@ impl WriterSeat {
     /// Stores a second word: one store of the shared word in which it stands, beside its neighbour as this
     /// writer left it.
     #[inline]
-    pub fn store_second<T: Opens>(&mut self, table: &SharedWords<T>, j: usize, word: u64)
+    pub fn store_second<T: InitialContent>(&mut self, table: &SharedWords<T>, j: usize, word: u64)
         requires own { IsOf table.now self.old.table self.old.view }
-        requires may { MayStep (setup_of self.old.view.opening) self.old.view.seen
+        requires may { MayStep (initial_state_of self.old.view.initial) self.old.view.seen
             (StoreSecond j word) }
         ensures own { self.new.table ≡ self.old.table }
         ensures step { self.new.view ≡ with_step self.old.view (StoreSecond j word) }
@@ -189,16 +189,16 @@ impl WriterSeat {
 
     /// Stores the next number of the sequence: the update of this change begins.
     #[inline]
-    pub fn open_update<T: Opens>(
+    pub fn open_update<T: InitialContent>(
         &mut self,
         table: &SharedWords<T>,
         change: &RuleChange,
         number: u64,
     )
         requires own { IsOf table.now self.old.table self.old.view }
-        requires next { number ≡ (tables (setup_of self.old.view.opening)
+        requires next { number ≡ (state_after (initial_state_of self.old.view.initial)
             self.old.view.seen).sequence + 1 }
-        requires may { MayStep (setup_of self.old.view.opening) self.old.view.seen
+        requires may { MayStep (initial_state_of self.old.view.initial) self.old.view.seen
             (OpensUpdate change.now) }
         ensures own { self.new.table ≡ self.old.table }
         ensures step { self.new.view ≡ with_step self.old.view (OpensUpdate change.now) }
@@ -209,14 +209,14 @@ impl WriterSeat {
 
     /// Stores the next number of the sequence: the update is done.
     #[inline]
-    pub fn close_update<T: Opens>(&mut self, table: &SharedWords<T>, number: u64)
+    pub fn close_update<T: InitialContent>(&mut self, table: &SharedWords<T>, number: u64)
         requires own { IsOf table.now self.old.table self.old.view }
-        requires next { number ≡ (tables (setup_of self.old.view.opening)
+        requires next { number ≡ (state_after (initial_state_of self.old.view.initial)
             self.old.view.seen).sequence + 1 }
-        requires may { MayStep (setup_of self.old.view.opening) self.old.view.seen
-            (Closes) }
+        requires may { MayStep (initial_state_of self.old.view.initial) self.old.view.seen
+            (EndUpdate) }
         ensures own { self.new.table ≡ self.old.table }
-        ensures step { self.new.view ≡ with_step self.old.view (Closes) }
+        ensures step { self.new.view ≡ with_step self.old.view (EndUpdate) }
     {
         let at = Layout::SEQUENCE;
         table
@@ -227,11 +227,11 @@ impl WriterSeat {
 
     /// Stores the next token.
     #[inline]
-    pub fn bump_token<T: Opens>(&mut self, table: &SharedWords<T>, token: u64)
+    pub fn bump_token<T: InitialContent>(&mut self, table: &SharedWords<T>, token: u64)
         requires own { IsOf table.now self.old.table self.old.view }
-        requires next { token ≡ (tables (setup_of self.old.view.opening)
+        requires next { token ≡ (state_after (initial_state_of self.old.view.initial)
             self.old.view.seen).token + 1 }
-        requires may { MayStep (setup_of self.old.view.opening) self.old.view.seen
+        requires may { MayStep (initial_state_of self.old.view.initial) self.old.view.seen
             (BumpToken) }
         ensures own { self.new.table ≡ self.old.table }
         ensures step { self.new.view ≡ with_step self.old.view (BumpToken) }
@@ -245,7 +245,7 @@ impl WriterSeat {
 
     /// Loads the counter of a worker, in a check of the token.
     #[inline]
-    pub fn load_counter<T: Opens>(
+    pub fn load_counter<T: InitialContent>(
         &mut self,
         table: &SharedWords<T>,
         token: u64,
@@ -253,7 +253,7 @@ impl WriterSeat {
     ) -> u64
         requires own { IsOf table.now self.old.table self.old.view }
         requires worker { worker < table.now.layout.workers }
-        requires may { (counter : ℕ) → MayStep (setup_of self.old.view.opening)
+        requires may { (counter : ℕ) → MayStep (initial_state_of self.old.view.initial)
             self.old.view.seen (LoadCounter token worker counter) }
         ensures own { self.new.table ≡ self.old.table }
         ensures step { self.new.view ≡ with_step self.old.view (LoadCounter token worker result) }
@@ -264,11 +264,11 @@ impl WriterSeat {
 
     /// The first word at place `i`, which this writer alone changes. It is no step.
     #[inline]
-    pub fn first<T: Opens>(&mut self, table: &SharedWords<T>, i: usize) -> u64
+    pub fn first<T: InitialContent>(&mut self, table: &SharedWords<T>, i: usize) -> u64
         requires own { IsOf table.now self.old.table self.old.view }
         requires index { i < table.now.layout.firsts }
         ensures same { self.new ≡ self.old }
-        ensures value { result ≡ slice_index (tables (setup_of self.old.view.opening)
+        ensures value { result ≡ slice_index (state_after (initial_state_of self.old.view.initial)
             self.old.view.seen).words.firsts i }
     {
         let shared = table
@@ -280,11 +280,11 @@ impl WriterSeat {
 
     /// The second word at place `j`, which this writer alone changes. It is no step.
     #[inline]
-    pub fn second<T: Opens>(&mut self, table: &SharedWords<T>, j: usize) -> u64
+    pub fn second<T: InitialContent>(&mut self, table: &SharedWords<T>, j: usize) -> u64
         requires own { IsOf table.now self.old.table self.old.view }
         requires index { j < table.now.layout.seconds }
         ensures same { self.new ≡ self.old }
-        ensures value { result ≡ slice_index (tables (setup_of self.old.view.opening)
+        ensures value { result ≡ slice_index (state_after (initial_state_of self.old.view.initial)
             self.old.view.seen).words.seconds j }
     {
         let at = table.layout.second_at(j);
@@ -294,10 +294,10 @@ impl WriterSeat {
 
     /// The sequence, which this writer alone changes. It is no step.
     #[inline]
-    pub fn sequence<T: Opens>(&mut self, table: &SharedWords<T>) -> u64
+    pub fn sequence<T: InitialContent>(&mut self, table: &SharedWords<T>) -> u64
         requires own { IsOf table.now self.old.table self.old.view }
         ensures same { self.new ≡ self.old }
-        ensures value { result ≡ (tables (setup_of self.old.view.opening)
+        ensures value { result ≡ (state_after (initial_state_of self.old.view.initial)
             self.old.view.seen).sequence }
     {
         table
@@ -308,10 +308,10 @@ impl WriterSeat {
 
     /// The token, which this writer alone changes. It is no step.
     #[inline]
-    pub fn token<T: Opens>(&mut self, table: &SharedWords<T>) -> u64
+    pub fn token<T: InitialContent>(&mut self, table: &SharedWords<T>) -> u64
         requires own { IsOf table.now self.old.table self.old.view }
         ensures same { self.new ≡ self.old }
-        ensures value { result ≡ (tables (setup_of self.old.view.opening)
+        ensures value { result ≡ (state_after (initial_state_of self.old.view.initial)
             self.old.view.seen).token }
     {
         table
@@ -321,7 +321,11 @@ impl WriterSeat {
     }
 
     /// The seat of the next worker, which is offline and has made no step.
-    pub fn next_worker<T: Opens>(&mut self, table: &SharedWords<T>, number: u64) -> WorkerSeat
+    pub fn next_worker<T: InitialContent>(
+        &mut self,
+        table: &SharedWords<T>,
+        number: u64,
+    ) -> WorkerSeat
         requires own { IsOf table.now self.old.table self.old.view }
         requires number { self.old.view.made ≡ number }
         requires worker { number < table.now.layout.workers }

@@ -9,11 +9,11 @@ use Rattle.defer_queue.specs.declared.Reclaimed.{Reclaimed}
 use Rattle.fib_model.specs.State.{State}
 use Rattle.fib_model.specs.Outcomes.{Frees}
 use Rattle.lpm_trace.specs.declared.step.WriterStep.{WriterStep}
-use Rattle.lpm_trace.specs.Tables.{Setup}
+use Rattle.lpm_trace.specs.States.{InitialState}
 use Rattle.lpm_trace.specs.Counts.{passed_after}
 use Rattle.lpm_writer.specs.Steps.{by_steps_from}
 
-module _ (c : Setup) (some : 0 < c.workers) where
+module _ (c : InitialState) (some : 0 < c.workers) where
   -- these tokens have passed after the steps x
   abbrev HavePassed : List WriterStep → List ℕ → Type 0
   HavePassed x tokens = All (λ token. token ≤ passed_after c.workers x) tokens

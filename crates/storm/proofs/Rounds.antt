@@ -7,7 +7,7 @@ use Rattle.lpm_trace.specs.declared.step.WriterStep.{WriterStep}
 use Rattle.lpm_rules.specs.declared.Change.{Change}
 use Rattle.lpm_rules.specs.RuleMap.{RuleMap}
 use Rattle.lpm_writer.specs.Making.{HasWidths}
-use Rattle.shared_fib.specs.Running.{Identity, WriterState, setup, steps_of}
+use Rattle.shared_fib.specs.Running.{Identity, WriterState, initial_state, steps_of}
 use Rattle.shared_fib.specs.Passes.{PassState}
 use Rattle.audit.specs.Wrong.{IsOfSomeVersion}
 use Rattle.storm.specs.Changing.{HasVersions}
@@ -86,12 +86,12 @@ module _ (id : Identity) (addrs : List ℕ) (rounds : ℕ) (w_steps : List Write
   -- ---- answers of versions
 
   pub all_right : (f s : ℕ) (R : RuleMap) (w : WriterState) (changes : List (Change f s)) (passes : List PassState)
-      → HasWidths f s (setup id) → w.identity ≡ id → HasVersions R w changes → steps_of w ≡ w_steps
+      → HasWidths f s (initial_state id) → w.identity ≡ id → HasVersions R w changes → steps_of w ≡ w_steps
       → All (HasLookedUp id addrs rounds w_steps) passes → All (IsOfSomeVersion R changes) (answers_of_passes passes)
   all_right f s R w changes [] widths own has same all = λ k d below. absurd (omega (arith, below))
   all_right f s R w changes (p ∷ passes) widths own has same all =
       let looked = All-head (HasLookedUp id addrs rounds w_steps) p passes all in
-      let of = subst (λ (l : List WriterStep). All (IsOfAStandingVersion (setup id) l) (lookups_of p)) (sym same) looked.versions in
+      let of = subst (λ (l : List WriterStep). All (IsOfAStandingVersion (initial_state id) l) (lookups_of p)) (sym same) looked.versions in
       All-append (IsOfSomeVersion R changes) (answers_by p) (answers_of_passes passes)
       (All-map (IsOfSomeVersion R changes) answer_of (lookups_of p) (λ k d below. answer_is_right f s R id w changes _ widths own has (of k d below)))
       (all_right f s R w changes passes widths own has same (All-tail (HasLookedUp id addrs rounds w_steps) p passes all))

@@ -7,31 +7,31 @@ use Rattle.std.proofs.lemmas.List.Elements.{All-append, All-cons, All-head, All-
 use Rattle.lpm_rules.specs.declared.Answer.{Answer}
 use Rattle.lpm_trace.specs.declared.step.WriterStep.{WriterStep}
 use Rattle.lpm_trace.specs.declared.step.WorkerStep.{WorkerStep}
-use Rattle.lpm_trace.specs.declared.step.WorkerStep.TheVariants.{Meets}
-use Rattle.lpm_trace.specs.Tables.{Setup}
+use Rattle.lpm_trace.specs.declared.step.WorkerStep.TheVariants.{MeetWriter}
+use Rattle.lpm_trace.specs.States.{InitialState}
 use Rattle.lpm_trace.specs.Trace.{worker_by}
-use Rattle.lpm_trace.specs.Workers.{Seen, Worker as WorkerState, moved}
+use Rattle.lpm_trace.specs.Workers.{Seen, Worker as WorkerState, worker_by_step}
 use Rattle.lpm_trace.specs.Laws.{ArePlaced, IsLegalAtPlace}
 use Rattle.shared_words.specs.Rule.{IsLater}
 use Rattle.shared_words.specs.Loads.{seen_of}
-use Rattle.shared_fib.specs.Running.{Identity, setup}
+use Rattle.shared_fib.specs.Running.{Identity, initial_state}
 use Rattle.shared_fib.specs.Passes.{PassState, IsHistory, LooksUp, Makes}
 use Rattle.shared_fib.proofs.Lookups.{finished_more}
 use Rattle.shared_fib.proofs.Backwards.{of_shown, of_version_still, shown}
 use Rattle.storm.specs.Looking.{HasLookedUp, IsOfAStandingVersion, answer_of, answers_by, lookups_of, times}
 
 -- the answers are those of the pass, each of whose lookups is of a version
-abbrev pub AreTold : Setup → PassState → List (ℕ × Answer) → Type 0
+abbrev pub AreTold : InitialState → PassState → List (ℕ × Answer) → Type 0
 AreTold c p xs = (xs ≡ answers_by p) × All (IsOfAStandingVersion c p.seen) (lookups_of p)
 
-versions_later : (c : Setup) (before after : List WriterStep) (xs : List Seen) → IsLater before after
+versions_later : (c : InitialState) (before after : List WriterStep) (xs : List Seen) → IsLater before after
     → All (IsOfAStandingVersion c before) xs → All (IsOfAStandingVersion c after) xs
 versions_later c before after xs later all k d below =
     let h = all k d below in
     (h.0, of_version_still c before after later _ h.0 h.1)
 
 -- steps that end no lookup leave the lookups as they are
-pub told_on : (c : Setup) (p q : PassState) (xs : List (ℕ × Answer)) → lookups_of q ≡ lookups_of p → IsLater p.seen q.seen
+pub told_on : (c : InitialState) (p q : PassState) (xs : List (ℕ × Answer)) → lookups_of q ≡ lookups_of p → IsLater p.seen q.seen
     → AreTold c p xs → AreTold c q xs
 told_on c p q xs same later told = (
   told.0 ∙ sym (ap (map answer_of) same),
@@ -40,7 +40,7 @@ told_on c p q xs same later told = (
 
 -- the step ends no lookup
 abbrev pub EndsNone : WorkerStep → Type 0
-EndsNone s = (now : ℕ) (r : WorkerState) → (moved now r s).finished ≡ r.finished
+EndsNone s = (now : ℕ) (r : WorkerState) → (worker_by_step now r s).finished ≡ r.finished
 
 abbrev finished_by : List (WorkerStep × ℕ) → List Seen
 finished_by steps = reverse (worker_by steps).finished
@@ -76,15 +76,15 @@ module _ (p q : PassState) (addr : ℕ) (answer : Answer) (looks : LooksUp addr 
       ∙ (map-append answer_of (lookups_of p) (seen ∷ [])
       ∙ ap (λ (x : ℕ × Answer). answers_by p ++ x ∷ []) answer_is)
 
-  legal : IsLegalAtPlace (setup q.table) q.seen seen
-  legal = All-head (IsLegalAtPlace (setup q.table) q.seen) seen (worker_by p.steps).finished
-      (subst (All (IsLegalAtPlace (setup q.table) q.seen)) finished history.legal)
+  legal : IsLegalAtPlace (initial_state q.table) q.seen seen
+  legal = All-head (IsLegalAtPlace (initial_state q.table) q.seen) seen (worker_by p.steps).finished
+      (subst (All (IsLegalAtPlace (initial_state q.table) q.seen)) finished history.legal)
 
-  pub told_more : (c : Setup) (xs : List (ℕ × Answer)) → setup p.table ≡ c → AreTold c p xs
+  pub told_more : (c : InitialState) (xs : List (ℕ × Answer)) → initial_state p.table ≡ c → AreTold c p xs
       → AreTold c q (xs ++ (addr, answer) ∷ [])
   told_more c xs own told =
-      let same : setup q.table ≡ c = ap setup looks.steps.table ∙ own in
-      let here : IsLegalAtPlace c q.seen seen = subst (λ (s : Setup). IsLegalAtPlace s q.seen seen) same legal in
+      let same : initial_state q.table ≡ c = ap initial_state looks.steps.table ∙ own in
+      let here : IsLegalAtPlace c q.seen seen = subst (λ (s : InitialState). IsLegalAtPlace s q.seen seen) same legal in
       let this : IsOfAStandingVersion c q.seen seen = (shown c q.seen seen here, of_shown c q.seen seen here) in
       let before = versions_later c p.seen q.seen (lookups_of p) looks.steps.seen told.1 in (
         ap (λ (ys : List (ℕ × Answer)). ys ++ (addr, answer) ∷ []) told.0 ∙ sym answers_are,
@@ -100,19 +100,19 @@ pub addresses_same : (p : PassState) → map (λ x. x.0) (answers_by p) ≡ map 
 addresses_same p = map-map (λ (x : ℕ × Answer). x.0) answer_of (lookups_of p)
 
 pub looked_up : (id : Identity) (addrs : List ℕ) (rounds : ℕ) (steps : List WriterStep) (n place : ℕ) (p q : PassState) (xs : List (ℕ × Answer))
-    → Makes ((Meets n, place) ∷ []) p q → q.table ≡ id → q.seen ≡ steps → IsHistory q → AreTold (setup id) p xs
+    → Makes ((MeetWriter n, place) ∷ []) p q → q.table ≡ id → q.seen ≡ steps → IsHistory q → AreTold (initial_state id) p xs
     → map (λ x. x.0) xs ≡ times rounds addrs → (xs ≡ answers_by q) × HasLookedUp id addrs rounds steps q
 looked_up id addrs rounds steps n place p q xs made own all history told whole =
-    let after : AreTold (setup id) q xs =
-    told_on (setup id) p q xs (kept_by_one (Meets n) place p q (λ now r. refl) made) made.seen told in (
+    let after : AreTold (initial_state id) q xs =
+    told_on (initial_state id) p q xs (kept_by_one (MeetWriter n) place p q (λ now r. refl) made) made.seen told in (
       after.0,
       record {
         table = own;
         seen = all;
         within = subst (λ (l : List WriterStep). All (λ step. step.1 ≤ length l) q.steps) all history.within;
         rising = history.rising;
-        placed = subst (λ (z : Identity × List WriterStep). ArePlaced (setup z.0) z.1 q.steps) (λ i. (own i, all i)) history.placed;
+        placed = subst (λ (z : Identity × List WriterStep). ArePlaced (initial_state z.0) z.1 q.steps) (λ i. (own i, all i)) history.placed;
         whole = sym (addresses_same q) ∙ (ap (map (λ (x : ℕ × Answer). x.0)) (sym after.0) ∙ whole);
-        versions = subst (λ (l : List WriterStep). All (IsOfAStandingVersion (setup id) l) (lookups_of q)) all after.1;
+        versions = subst (λ (l : List WriterStep). All (IsOfAStandingVersion (initial_state id) l) (lookups_of q)) all after.1;
       },
     )

@@ -17,12 +17,12 @@ use Rattle.fib_model.specs.declared.command.Outcome.TheVariants as outcome
 use Rattle.fib_model.specs.State.{State, Keeping}
 use Rattle.fib_model.specs.Outcomes.{Does}
 use Rattle.lpm_trace.specs.declared.step.WriterStep.{WriterStep}
-use Rattle.lpm_trace.specs.Tables.{Setup, Tables, begun, tables}
+use Rattle.lpm_trace.specs.States.{InitialState, TableState, updates_begun_in, state_after}
 use Rattle.lpm_trace.specs.Workers.{Seen}
 use Rattle.lpm_trace.proofs.Traces.{begun_grows}
 use Rattle.lpm_writer.specs.Making.{HasWidths}
 use Rattle.shared_words.specs.Rule.{IsLater}
-use Rattle.shared_fib.specs.Running.{Identity, IsAtRest, WriterState, left_by, opens_with, setup, steps_of, by_steps}
+use Rattle.shared_fib.specs.Running.{Identity, IsAtRest, WriterState, state_of_writer, initial_writer, initial_state, steps_of, by_steps}
 use Rattle.shared_fib.proofs.Backwards.{versions_stay}
 use Rattle.audit.specs.Wrong.{IsOfSomeVersion, version_from}
 use Rattle.storm.specs.Changing.{HasVersions, IsForWriter, by_own_steps, change_by}
@@ -36,7 +36,7 @@ use Rattle.storm.proofs.Later.{command_later}
 -- a command leaves the rules after its change, and begins an update where it made one
 record Comes {X : Type 0} {f g : ℕ} (s z : State X) (changes : List (Change f g)) : Type 0 where
   rules : z.rules ≡ rules_after s.rules changes
-  begun : z.begun ≡ s.begun + length changes
+  updates_begun_in : z.begun ≡ s.begun + length changes
   few : length changes ≤ 1
 
 module _ {X : Type 0} {f g : ℕ} (s z : State X) where
@@ -91,12 +91,12 @@ settled_versions id last end settled =
 
 module _ (f g : ℕ) where
   pub versions_none : (id : Identity) (config : Config)
-      → HasVersions {first = f} {second = g} id.opening.rules (opens_with id config id.opening.rules) []
+      → HasVersions {first = f} {second = g} id.initial.rules (initial_writer id config id.initial.rules) []
   versions_none id config = record {
     count = refl;
     begun = refl;
     rules = refl;
-    each = λ k low. sym (ap (λ (l : List (Change f g)). rules_after id.opening.rules l) (take_all k [] (omega arith)));
+    each = λ k low. sym (ap (λ (l : List (Change f g)). rules_after id.initial.rules l) (take_all k [] (omega arith)));
   }
 
   -- the rules after all changes are those of the last version
@@ -114,24 +114,24 @@ module _ (f g : ℕ) where
         came.rules ∙ (ap (λ (Q : RuleMap). rules_after Q change) has.rules ∙ sym (rules_after-append f g R before change))
 
     -- the table's state after the steps before, whichever of its names is used
-    left_before : left_by w ≡ tables (setup id) (steps_of w)
-    left_before = ap (λ (i : Identity). tables (setup i) (steps_of w)) own
+    left_before : state_of_writer w ≡ state_after (initial_state id) (steps_of w)
+    left_before = ap (λ (i : Identity). state_after (initial_state i) (steps_of w)) own
 
-    left_now : left_by z ≡ tables (setup id) (steps_of z)
-    left_now = ap (λ (i : Identity). tables (setup i) (steps_of z)) own'
+    left_now : state_of_writer z ≡ state_after (initial_state id) (steps_of z)
+    left_now = ap (λ (i : Identity). state_after (initial_state i) (steps_of z)) own'
 
-    old_version : (k : ℕ) → k ≤ length before → (left_by z).history k ≡ version_from R (before ++ change) k
+    old_version : (k : ℕ) → k ≤ length before → (state_of_writer z).history k ≡ version_from R (before ++ change) k
     old_version k low =
-        let begun_k : k ≤ begun (tables (setup id) (steps_of w)) =
-        subst (λ (t : Tables). k ≤ begun t) left_before (omega (arith, low, has.begun)) in
-        ap (λ (t : Tables). t.history k) left_now
-        ∙ (versions_stay (setup id) (steps_of w) (steps_of z) k later begun_k
-        ∙ (ap (λ (t : Tables). t.history k) (sym left_before)
+        let begun_k : k ≤ updates_begun_in (state_after (initial_state id) (steps_of w)) =
+        subst (λ (t : TableState). k ≤ updates_begun_in t) left_before (omega (arith, low, has.begun)) in
+        ap (λ (t : TableState). t.history k) left_now
+        ∙ (versions_stay (initial_state id) (steps_of w) (steps_of z) k later begun_k
+        ∙ (ap (λ (t : TableState). t.history k) (sym left_before)
         ∙ (has.each k low ∙ sym (ap (rules_after R) (take-append-le k before change low)))))
 
-    new_version : (k : ℕ) → k ≡ z.table.begun → (left_by z).history k ≡ version_from R (before ++ change) k
+    new_version : (k : ℕ) → k ≡ z.table.begun → (state_of_writer z).history k ≡ version_from R (before ++ change) k
     new_version k here =
-        ap (λ (n : ℕ). (left_by z).history n) here
+        ap (λ (n : ℕ). (state_of_writer z).history n) here
         ∙ (rests.rules ∙ (rules_now ∙ sym (all_changes R (before ++ change) k (omega (arith, here, count_now)))))
 
     versions_more : HasVersions R z (before ++ change)
@@ -147,29 +147,29 @@ module _ (f g : ℕ) where
 
   pub versions_next : (R : RuleMap) (id : Identity) (config : Config) (w z : WriterState) (before : List (Change f g)) (order : Command f g) (out : Outcome)
       → HasVersions R w before → w.identity ≡ id → z.identity ≡ id → IsForWriter order → IsAtRest z
-      → Does (by_own_steps id.opening) f g config w.table order out z.table → HasVersions R z (before ++ change_by order out)
+      → Does (by_own_steps id.initial) f g config w.table order out z.table → HasVersions R z (before ++ change_by order out)
   unfolding by_steps
   versions_next R id config w z before order out has own own' mine rests does =
-      let keeping : Keeping (List WriterStep) = by_own_steps id.opening in
+      let keeping : Keeping (List WriterStep) = by_own_steps id.initial in
       versions_more R id w z before (change_by order out) has own own'
-      (command_later keeping (steps_go_on id.opening.workers id.opening.token) f g config w.table z.table order out mine does) rests
+      (command_later keeping (steps_go_on id.initial.workers id.initial.token) f g config w.table z.table order out mine does) rests
       (comes keeping f g config w.table z.table order out mine does)
 
   -- ---- answers
 
   -- a lookup of a version by the writer's steps answers by a version of the accepted changes
   pub answer_is_right : (R : RuleMap) (id : Identity) (w : WriterState) (changes : List (Change f g)) (seen : Seen)
-      → HasWidths f g (setup id) → w.identity ≡ id → HasVersions R w changes
-      → IsOfAStandingVersion (setup id) (steps_of w) seen → IsOfSomeVersion R changes (answer_of seen)
+      → HasWidths f g (initial_state id) → w.identity ≡ id → HasVersions R w changes
+      → IsOfAStandingVersion (initial_state id) (steps_of w) seen → IsOfSomeVersion R changes (answer_of seen)
   answer_is_right R id w changes seen widths own has of =
-      let c : Setup = setup id in
+      let c : InitialState = initial_state id in
       let k : ℕ = of.0 in
       let h = of.1 in
-      let left : left_by w ≡ tables c (steps_of w) = ap (λ (i : Identity). tables (setup i) (steps_of w)) own in
-      let begun_k : k ≤ begun (tables c (steps_of w)) = omega (arith, h.stands.1, begun_grows c (steps_of w) h.place) in
-      let within : k ≤ length changes = subst (λ (n : ℕ). k ≤ n) has.begun (subst (λ (t : Tables). k ≤ begun t) (sym left) begun_k) in
-      let rules : (tables c (steps_of w)).history k ≡ version_from R changes k =
-      ap (λ (t : Tables). t.history k) (sym left) ∙ has.each k within in
+      let left : state_of_writer w ≡ state_after c (steps_of w) = ap (λ (i : Identity). state_after (initial_state i) (steps_of w)) own in
+      let begun_k : k ≤ updates_begun_in (state_after c (steps_of w)) = omega (arith, h.stands.1, begun_grows c (steps_of w) h.place) in
+      let within : k ≤ length changes = subst (λ (n : ℕ). k ≤ n) has.begun (subst (λ (t : TableState). k ≤ updates_begun_in t) (sym left) begun_k) in
+      let rules : (state_after c (steps_of w)).history k ≡ version_from R changes k =
+      ap (λ (t : TableState). t.history k) (sym left) ∙ has.each k within in
       let width : c.first + c.second ≡ f + g = omega (arith, widths.0, widths.1) in
       record {
         k = k;

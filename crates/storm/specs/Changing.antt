@@ -14,18 +14,18 @@ use Rattle.fib_model.specs.declared.command.Command.TheVariants as command
 use Rattle.fib_model.specs.declared.command.Outcome.{Outcome}
 use Rattle.fib_model.specs.declared.command.Outcome.TheVariants as outcome
 use Rattle.fib_model.specs.State.{Keeping}
-use Rattle.fib_model.specs.Outcomes.{Runs, logged}
+use Rattle.fib_model.specs.Outcomes.{Runs, log_after}
 use Rattle.lpm_trace.specs.declared.step.WriterStep.{WriterStep}
-use Rattle.lpm_trace.specs.Tables.{begun}
+use Rattle.lpm_trace.specs.States.{updates_begun_in}
 use Rattle.lpm_writer.specs.Making.{HasWidths}
-use Rattle.shared_words.specs.Opened.{Opened}
-use Rattle.shared_fib.specs.Running.{Identity, IsAtRest, WriterState, by_steps, left_by, opens_with, setup}
+use Rattle.shared_words.specs.Initial.{InitialData}
+use Rattle.shared_fib.specs.Running.{Identity, IsAtRest, WriterState, by_steps, state_of_writer, initial_writer, initial_state}
 use Rattle.audit.specs.Wrong.{version_from}
 
 -- the writer's steps stand for what the readers reported; no report is made to the writer itself
-abbrev pub by_own_steps : Opened → Keeping (List WriterStep)
-by_own_steps opening = record {
-  changes = by_steps opening;
+abbrev pub by_own_steps : InitialData → Keeping (List WriterStep)
+by_own_steps initial = record {
+  changes = by_steps initial;
   is_online = λ steps worker. ⊥;
   told = λ report worker steps. steps;
 }
@@ -61,17 +61,17 @@ changes_by (command ∷ commands) (outcome ∷ outcomes) =
 pub record HasVersions {first second : ℕ} (R : RuleMap) (w : WriterState)
     (changes : List (Change first second)) : Type 0 where
   pub count : w.table.begun ≡ length changes
-  pub begun : begun (left_by w) ≡ length changes
+  pub begun : updates_begun_in (state_of_writer w) ≡ length changes
   pub rules : w.table.rules ≡ rules_after R changes
-  pub each : (k : ℕ) → k ≤ length changes → (left_by w).history k ≡ version_from R changes k
+  pub each : (k : ℕ) → k ≤ length changes → (state_of_writer w).history k ≡ version_from R changes k
 
 -- the table was opened with these limits, and with its rules as version 0: by these its words answer each
 -- address
 pub record IsOpened (first second : ℕ) (config : Config) (id : Identity) : Type 0 where
-  pub widths : HasWidths first second (setup id)
-  pub token : id.opening.token ≡ config.first_token
-  pub workers : id.opening.workers ≡ config.workers
-  pub rests : IsAtRest (opens_with id config id.opening.rules)
+  pub widths : HasWidths first second (initial_state id)
+  pub token : id.initial.token ≡ config.first_token
+  pub workers : id.initial.workers ≡ config.workers
+  pub rests : IsAtRest (initial_writer id config id.initial.rules)
 
 -- a table was opened with these limits; then its writer made as many of these commands as there are
 -- outcomes, in order, which came out so, and left it like this, with the versions of the accepted changes
@@ -82,9 +82,9 @@ pub record HasMade {first second : ℕ} (id : Identity) (config : Config)
   pub identity : w.identity ≡ id
   pub limits : w.config ≡ config
   pub some : length outcomes ≤ length commands
-  pub runs : Runs (by_own_steps id.opening) first second config
-      (opens_with id config id.opening.rules).table (logged [] commands outcomes) w.table
-  pub versions : HasVersions id.opening.rules w (changes_by commands outcomes)
+  pub runs : Runs (by_own_steps id.initial) first second config
+      (initial_writer id config id.initial.rules).table (log_after [] commands outcomes) w.table
+  pub versions : HasVersions id.initial.rules w (changes_by commands outcomes)
 
 abbrev pub is_refused : Outcome → Bool
 is_refused (outcome.Refused refusal) = true

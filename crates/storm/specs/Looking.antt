@@ -5,12 +5,12 @@ use Rattle.std.specs.Prelude.{ℕ, zero, suc, ◌≡◌, ◌<◌, ◌≤◌, tru
 use Rattle.std.specs.List.{AllPairs, flat_map}
 use Rattle.lpm_rules.specs.declared.Answer.{Answer}
 use Rattle.lpm_trace.specs.declared.step.WriterStep.{WriterStep}
-use Rattle.lpm_trace.specs.Tables.{Setup}
+use Rattle.lpm_trace.specs.States.{InitialState}
 use Rattle.lpm_trace.specs.Trace.{worker_by}
 use Rattle.lpm_trace.specs.Workers.{Seen}
 use Rattle.lpm_trace.specs.Laws.{ArePlaced}
 use Rattle.shared_fib.specs.Laws.{IsOfVersion}
-use Rattle.shared_fib.specs.Running.{Identity, setup}
+use Rattle.shared_fib.specs.Running.{Identity, initial_state}
 use Rattle.shared_fib.specs.Passes.{PassState}
 use Rattle.storm.specs.declared.looking.Worker.{Worker}
 
@@ -35,7 +35,7 @@ answers_by p = map answer_of (lookups_of p)
 
 -- by these steps of the writer the lookup is of a version: its answer is the longest match in the rules of
 -- one that stood between its first and its last read, and lies from its `lo` to its `hi`
-abbrev pub IsOfAStandingVersion : Setup → List WriterStep → Seen → Type 0
+abbrev pub IsOfAStandingVersion : InitialState → List WriterStep → Seen → Type 0
 IsOfAStandingVersion c w_steps seen = (k : ℕ) × IsOfVersion c w_steps seen k
 
 -- ---- a worker
@@ -44,7 +44,7 @@ IsOfAStandingVersion c w_steps seen = (k : ℕ) × IsOfVersion c w_steps seen k
 -- by the steps of the writer that the pass has seen
 pub record HoldsItsAnswers (id : Identity) (w : Worker) : Type 0 where
   pub answers : w.answers.items ≡ answers_by w.pass
-  pub versions : All (IsOfAStandingVersion (setup id) w.pass.seen) (lookups_of w.pass)
+  pub versions : All (IsOfAStandingVersion (initial_state id) w.pass.seen) (lookups_of w.pass)
 
 -- the number of the worker whose pass it has
 abbrev pub number_of : Worker → ℕ
@@ -91,9 +91,9 @@ pub record HasLookedUp (id : Identity) (addrs : List ℕ) (rounds : ℕ) (w_step
   pub seen : p.seen ≡ w_steps
   pub within : All (λ step. step.1 ≤ length w_steps) p.steps
   pub rising : AllPairs (λ later earlier. earlier.1 ≤ later.1) p.steps
-  pub placed : ArePlaced (setup id) w_steps p.steps
+  pub placed : ArePlaced (initial_state id) w_steps p.steps
   pub whole : map (λ s. s.addr) (lookups_of p) ≡ times rounds addrs
-  pub versions : All (IsOfAStandingVersion (setup id) w_steps) (lookups_of p)
+  pub versions : All (IsOfAStandingVersion (initial_state id) w_steps) (lookups_of p)
 
 -- its answers are those of its pass, which has looked the whole list up in each round
 pub record HasAnswered (id : Identity) (addrs : List ℕ) (rounds : ℕ) (w_steps : List WriterStep)

@@ -40,7 +40,7 @@ IsTooMuch p = (¬ IsConfig (limits_of p)) ⊎ (most_answers < answer_count p)
 pub record HasMadeAll {first second : ℕ} (p : Plan first second) (id : Identity) (outcomes : List Outcome)
     (w : WriterState) : Type 0 where
   pub made : HasMade id (limits_of p) p.commands.now outcomes w
-  pub rules : id.opening.rules ≡ rules_of p.rules.now
+  pub rules : id.initial.rules ≡ rules_of p.rules.now
   pub all : length outcomes ≡ length p.commands.now
   pub had_memory : All (λ o. o ≢ outcome.Refused refusals.Memory) outcomes
 

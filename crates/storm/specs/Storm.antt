@@ -21,10 +21,10 @@ use Rattle.storm.specs.Plans.{HasMadeAll, answer_count}
 pub record Settles (id : Identity) (last end : WriterState) : Type 0 where
   pub passed : WriterState
   pub reclaimed : Reclaimed
-  pub synchronizes : Synchronizes id.opening.workers id.opening.token (steps_of last)
+  pub synchronizes : Synchronizes id.initial.workers id.initial.token (steps_of last)
       (steps_of passed)
   pub same : passed ≡ record last { table = record last.table { readers = steps_of passed } }
-  pub frees : Frees (by_steps id.opening) passed.table (length last.table.limbo) reclaimed end.table
+  pub frees : Frees (by_steps id.initial) passed.table (length last.table.limbo) reclaimed end.table
   pub identity : end.identity ≡ id
   pub config : end.config ≡ last.config
   pub rests : IsAtRest end

@@ -2,7 +2,7 @@
 
 ghost use Rattle.std.specs.Prelude.{◌≡◌, ◌<◌, ◌≤◌, ◌++◌, ◌∷◌, [], All, length, vec_len, vec_capacity};
 ghost use Rattle.fib_model.specs.Outcomes.{Does};
-ghost use Rattle.shared_fib.specs.Running.{setup};
+ghost use Rattle.shared_fib.specs.Running.{initial_state};
 ghost use Rattle.storm.specs.Changing.{HasMade, IsForWriter, by_own_steps};
 
 use bulk::Gate;
@@ -39,7 +39,7 @@ fn execute<const FIRST: u32, const SECOND: u32>(
 ) -> Outcome
     requires own { writer.old.identity ≡ table.now }
     requires command { IsForWriter command.now }
-    ensures does { Does (by_own_steps table.now.opening) FIRST SECOND writer.old.config
+    ensures does { Does (by_own_steps table.now.initial) FIRST SECOND writer.old.config
         writer.old.table command.now result writer.new.table }
     ensures own { writer.new.identity ≡ writer.old.identity }
     ensures config { writer.new.config ≡ writer.old.config }

@@ -3,7 +3,7 @@
 ghost use Rattle.std.specs.Prelude.{◌≡◌, ℕ, ◌+◌, ◌^◌, ◌<◌, ◌≤◌, All, IfOk, IfErr, IfSome, None, true, length, slice_set, vec_len, vec_capacity};
 ghost use Rattle.lpm_rules.specs.Listed.{rules_of};
 ghost use Rattle.shared_fib.specs.Passes.{IsBenchOf, IsFullBench};
-ghost use Rattle.shared_fib.specs.Running.{opens_with};
+ghost use Rattle.shared_fib.specs.Running.{initial_writer};
 ghost use Rattle.bulk.specs.Desks.{IsAtBench};
 ghost use Rattle.storm.specs.Changing.{HasMade, IsForWriter};
 ghost use Rattle.storm.specs.Looking.{AreInSeats, IsOver, IsReadyFor, IsUnused, number_of};
@@ -59,12 +59,12 @@ fn seat_all<const FIRST: u32, const SECOND: u32>(
     room: usize,
 ) -> Result<Vec<Worker>, AllocError>
     requires full { IsFullBench table.now bench.old }
-    requires count { count ≤ table.now.opening.workers }
+    requires count { count ≤ table.now.initial.workers }
     ensures ready { IfOk result (λ v. All (IsReadyFor table.now room) v.items) }
     ensures seats { IfOk result (λ v. AreInSeats v.items) }
     ensures len { IfOk result (λ v. vec_len v ≡ count) }
     ensures own { IfOk result (λ _. IsBenchOf table.now bench.new) }
-    ensures others { IfOk result (λ _. (k : ℕ) → count ≤ k → k < table.now.opening.workers
+    ensures others { IfOk result (λ _. (k : ℕ) → count ≤ k → k < table.now.initial.workers
         → IsAtBench bench.new k) }
 {
     let mut workers = Vec::with_capacity(alloc, count)?;
@@ -102,12 +102,12 @@ fn begin<const FIRST: u32, const SECOND: u32>(
     plan: &Plan<'_, FIRST, SECOND>,
     writer: Writer<FIRST, SECOND>,
 ) -> Result<Recorder<FIRST, SECOND>, AllocError>
-    requires new { writer ≡ opens_with table.now limits (rules_of plan.now.rules.now) }
-    requires token { table.now.opening.token ≡ limits.first_token }
-    requires workers { table.now.opening.workers ≡ limits.workers }
+    requires new { writer ≡ initial_writer table.now limits (rules_of plan.now.rules.now) }
+    requires token { table.now.initial.token ≡ limits.first_token }
+    requires workers { table.now.initial.workers ≡ limits.workers }
     ensures made { IfOk result (λ r. HasMade table.now limits plan.now.commands.now
         r.outcomes.items r.writer) }
-    ensures rules { IfOk result (λ _. table.now.opening.rules ≡ rules_of plan.now.rules.now) }
+    ensures rules { IfOk result (λ _. table.now.initial.rules ≡ rules_of plan.now.rules.now) }
     ensures none { IfOk result (λ r. vec_len r.outcomes ≡ 0) }
     ensures room { IfOk result (λ r. length plan.now.commands.now ≤ vec_capacity r.outcomes) }
 {
@@ -181,9 +181,9 @@ pub fn run<R: Threads + Wait + Sync, G: Gate, const FIRST: u32, const SECOND: u3
     gate: &G,
 ) -> Result<StormReport, StormError>
     requires in_range { IsInRange plan.now }
-    requires new { writer ≡ opens_with table.now (limits_of plan.now) (rules_of plan.now.rules.now) }
-    requires token { table.now.opening.token ≡ plan.now.config.first_token }
-    requires workers { table.now.opening.workers ≡ (limits_of plan.now).workers }
+    requires new { writer ≡ initial_writer table.now (limits_of plan.now) (rules_of plan.now.rules.now) }
+    requires token { table.now.initial.token ≡ plan.now.config.first_token }
+    requires workers { table.now.initial.workers ≡ (limits_of plan.now).workers }
     requires full { IsFullBench table.now bench.old }
     requires commands { All IsForWriter plan.now.commands.now }
     requires addrs { All (λ a. a < 2 ^ (FIRST + SECOND)) plan.now.addrs.now }

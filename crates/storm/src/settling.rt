@@ -1,7 +1,7 @@
 //! What a storm does when its threads have ended.
 
 ghost use Rattle.std.specs.Prelude.{◌≡◌, ◌+◌, ◌^◌, ◌<◌, ◌≤◌, [], ◌∷◌, ◌++◌, true, All, IfOk, MatchOption, OnErr, OnOk, length, map, drop};
-ghost use Rattle.shared_fib.specs.Running.{setup, steps_of, token_of};
+ghost use Rattle.shared_fib.specs.Running.{initial_state, steps_of, token_of};
 ghost use Rattle.audit.specs.Wrong.{AreWrong, version_of};
 ghost use Rattle.storm.specs.Changing.{addition_of, changes_by, change_by, is_refused, refused_among};
 ghost use Rattle.storm.specs.Looking.{AreInSeats, HasAnswered, IsOver, answers_of_workers, number_of};
@@ -68,7 +68,7 @@ pub fn settle<R: Wait, const FIRST: u32, const SECOND: u32>(
 ) -> Result<(), Exhausted>
     requires own { writer.old.identity ≡ table.now }
     requires some { 0 < writer.old.config.workers }
-    requires workers { (setup table.now).workers ≡ writer.old.config.workers }
+    requires workers { (initial_state table.now).workers ≡ writer.old.config.workers }
     ensures settles { OnOk result (Settles table.now writer.old writer.new) }
     ensures own { writer.new.identity ≡ writer.old.identity }
     ensures config { writer.new.config ≡ writer.old.config }

@@ -1,6 +1,6 @@
 //! The lookups of a worker, and whether an answer is one of a version that stood meanwhile.
 
-use super::Setting;
+use super::InitialState;
 use super::deeds::{Numbered, addresses_of, group_read, length_of, own_steps};
 use super::memory::hop_in;
 use super::versions::{Versions, begun, done, is_answer, version_at};
@@ -86,7 +86,7 @@ fn push_seen(
 /// order.
 pub fn lookups(
     alloc: Global,
-    setting: &Setting,
+    initial: &InitialState,
     steps: &[Step],
     worker: usize,
     deeds: &[Deed],
@@ -96,7 +96,7 @@ pub fn lookups(
     let mut made: usize = 0;
     for deed in deeds {
         let rest = own.get(made..).unwrap_or(&[]);
-        let Some(length) = length_of(alloc, setting, worker, deed, rest)? else {
+        let Some(length) = length_of(alloc, initial, worker, deed, rest)? else {
             return Ok(seen);
         };
         if let Some(whole) = rest.get(..length) {
@@ -108,20 +108,20 @@ pub fn lookups(
 }
 
 /// Whether the version is one from `lo` to `hi`, and its answer is the one that was seen.
-fn is_by_version(setting: &Setting, versions: &Versions, version: usize, seen: &Seen) -> bool {
+fn is_by_version(initial: &InitialState, versions: &Versions, version: usize, seen: &Seen) -> bool {
     let number = version as u64;
     if number < seen.lo || seen.hi < number {
         return false;
     }
-    is_answer(setting, versions, version, seen.addr, seen.hop)
+    is_answer(initial, versions, version, seen.addr, seen.hop)
 }
 
 /// Whether a finished lookup is legal: its answer is that of a version that stood at a moment from
 /// the read of its first word to the read of its last, and that version lies from `lo` to `hi`.
-pub fn is_legal(setting: &Setting, versions: &Versions, steps: &[Step], seen: &Seen) -> bool {
+pub fn is_legal(initial: &InitialState, versions: &Versions, steps: &[Step], seen: &Seen) -> bool {
     for moment in seen.first..=seen.last.min(steps.len()) {
-        let is_by_either = is_by_version(setting, versions, done(steps, moment), seen)
-            || is_by_version(setting, versions, begun(steps, moment), seen);
+        let is_by_either = is_by_version(initial, versions, done(steps, moment), seen)
+            || is_by_version(initial, versions, begun(steps, moment), seen);
         if is_by_either {
             return true;
         }
@@ -130,10 +130,10 @@ pub fn is_legal(setting: &Setting, versions: &Versions, steps: &[Step], seen: &S
 }
 
 /// Whether a finished lookup answers by the version that its address shows at a moment of its span.
-fn is_by_shown(setting: &Setting, versions: &Versions, steps: &[Step], seen: &Seen) -> bool {
+fn is_by_shown(initial: &InitialState, versions: &Versions, steps: &[Step], seen: &Seen) -> bool {
     for moment in seen.first..=seen.last.min(steps.len()) {
-        let version = version_at(setting, steps, moment, seen.addr);
-        if is_answer(setting, versions, version, seen.addr, seen.hop) {
+        let version = version_at(initial, steps, moment, seen.addr);
+        if is_answer(initial, versions, version, seen.addr, seen.hop) {
             return true;
         }
     }
@@ -143,9 +143,14 @@ fn is_by_shown(setting: &Setting, versions: &Versions, steps: &[Step], seen: &Se
 /// Whether each of these lookups answers by the version that its address shows at a moment of its
 /// span. The version that an address shows never falls: it is that of the updates done until the
 /// answer has changed in the update that runs, and that of the updates begun from that store on.
-pub fn never_falls(setting: &Setting, versions: &Versions, steps: &[Step], seen: &[Seen]) -> bool {
+pub fn never_falls(
+    initial: &InitialState,
+    versions: &Versions,
+    steps: &[Step],
+    seen: &[Seen],
+) -> bool {
     for one in seen {
-        if !is_by_shown(setting, versions, steps, one) {
+        if !is_by_shown(initial, versions, steps, one) {
             return false;
         }
     }

@@ -1,6 +1,6 @@
 //! The deeds of a worker, and the steps that they are made of.
 
-use super::Setting;
+use super::InitialState;
 use super::memory::group_in;
 use lpm_trace::{Actor, Deed, Kind, Step};
 use std::alloc::{AllocError, Global};
@@ -64,7 +64,7 @@ pub(crate) fn group_read(steps: &[Numbered], address: usize) -> Option<u32> {
 
 /// The loads of the second words of a lookup, after those of its first words.
 fn push_second_loads(
-    setting: &Setting,
+    initial: &InitialState,
     addrs: &[u32],
     steps: &[Numbered],
     due: &mut Vec<Due>,
@@ -73,7 +73,7 @@ fn push_second_loads(
         if let Some(group) = group_read(steps, address) {
             due.push(Due {
                 kind: Kind::LoadSecond,
-                index: setting.second_index(group, *addr),
+                index: initial.second_index(group, *addr),
                 value: None,
             })?;
         }
@@ -83,14 +83,14 @@ fn push_second_loads(
 
 /// The loads of the first words of a lookup.
 fn push_first_loads(
-    setting: &Setting,
+    initial: &InitialState,
     addrs: &[u32],
     due: &mut Vec<Due>,
 ) -> Result<(), AllocError> {
     for addr in addrs {
         due.push(Due {
             kind: Kind::LoadFirst,
-            index: setting.first_index(*addr),
+            index: initial.first_index(*addr),
             value: None,
         })?;
     }
@@ -109,14 +109,14 @@ fn sequence_load() -> Due {
 /// The steps of a lookup of these addresses, whose first steps are at the front of these.
 fn due_of_lookup(
     alloc: Global,
-    setting: &Setting,
+    initial: &InitialState,
     addrs: &[u32],
     steps: &[Numbered],
 ) -> Result<Vec<Due>, AllocError> {
     let mut due = Vec::new(alloc);
     due.push(sequence_load())?;
-    push_first_loads(setting, addrs, &mut due)?;
-    push_second_loads(setting, addrs, steps, &mut due)?;
+    push_first_loads(initial, addrs, &mut due)?;
+    push_second_loads(initial, addrs, steps, &mut due)?;
     due.push(sequence_load())?;
     Ok(due)
 }
@@ -151,7 +151,7 @@ fn due_of_offline(alloc: Global, worker: usize) -> Result<Vec<Due>, AllocError> 
 /// The steps of a deed whose first steps are at the front of these.
 fn due_of(
     alloc: Global,
-    setting: &Setting,
+    initial: &InitialState,
     worker: usize,
     deed: &Deed,
     steps: &[Numbered],
@@ -161,7 +161,7 @@ fn due_of(
         Deed::Offline => due_of_offline(alloc, worker),
         Deed::Lookup(_) | Deed::Lookup4(_) => {
             let addrs = addresses_of(alloc, deed)?;
-            due_of_lookup(alloc, setting, &addrs, steps)
+            due_of_lookup(alloc, initial, &addrs, steps)
         }
         Deed::Meet => {
             let mut due = Vec::new(alloc);
@@ -196,12 +196,12 @@ fn are_due(due: &[Due], steps: &[Numbered]) -> bool {
 /// deed. It is more than there are where the deed is unfinished.
 pub(crate) fn length_of(
     alloc: Global,
-    setting: &Setting,
+    initial: &InitialState,
     worker: usize,
     deed: &Deed,
     steps: &[Numbered],
 ) -> Result<Option<usize>, AllocError> {
-    let due = due_of(alloc, setting, worker, deed, steps)?;
+    let due = due_of(alloc, initial, worker, deed, steps)?;
     if are_due(&due, steps) {
         return Ok(Some(due.len()));
     }
@@ -209,20 +209,20 @@ pub(crate) fn length_of(
 }
 
 /// Whether a worker that is online, or isn't, may do the deed, of addresses that there are.
-fn is_sound(setting: &Setting, is_online: bool, deed: &Deed) -> bool {
+fn is_sound(initial: &InitialState, is_online: bool, deed: &Deed) -> bool {
     match deed {
         Deed::Online => !is_online,
         Deed::Offline | Deed::Quiescent => is_online,
-        Deed::Lookup(addr) => is_online && u64::from(*addr) < setting.addresses(),
-        Deed::Lookup4(addrs) => is_online && are_addresses(setting, addrs),
+        Deed::Lookup(addr) => is_online && u64::from(*addr) < initial.addresses(),
+        Deed::Lookup4(addrs) => is_online && are_addresses(initial, addrs),
         Deed::Meet => true,
     }
 }
 
 /// Whether all of these are addresses.
-fn are_addresses(setting: &Setting, addrs: &[u32]) -> bool {
+fn are_addresses(initial: &InitialState, addrs: &[u32]) -> bool {
     for addr in addrs {
-        if u64::from(*addr) >= setting.addresses() {
+        if u64::from(*addr) >= initial.addresses() {
             return false;
         }
     }
@@ -240,10 +240,10 @@ fn is_online_after(was_online: bool, deed: &Deed) -> bool {
 
 /// Whether each of these deeds may be done after those before it: a worker looks up, reports a
 /// quiescent state and goes offline where it is online, and comes online where it isn't.
-pub fn deeds_are_sound(setting: &Setting, deeds: &[Deed]) -> bool {
+pub fn deeds_are_sound(initial: &InitialState, deeds: &[Deed]) -> bool {
     let mut is_online = false;
     for deed in deeds {
-        if !is_sound(setting, is_online, deed) {
+        if !is_sound(initial, is_online, deed) {
             return false;
         }
         is_online = is_online_after(is_online, deed);
@@ -255,7 +255,7 @@ pub fn deeds_are_sound(setting: &Setting, deeds: &[Deed]) -> bool {
 /// may be unfinished.
 pub fn deeds_are_done(
     alloc: Global,
-    setting: &Setting,
+    initial: &InitialState,
     steps: &[Step],
     worker: usize,
     deeds: &[Deed],
@@ -264,7 +264,7 @@ pub fn deeds_are_done(
     let mut made: usize = 0;
     for deed in deeds {
         let rest = own.get(made..).unwrap_or(&[]);
-        match length_of(alloc, setting, worker, deed, rest)? {
+        match length_of(alloc, initial, worker, deed, rest)? {
             Some(length) => made = made.saturating_add(length),
             None => return Ok(false),
         }

@@ -6,12 +6,14 @@ use super::memory::loads_are_stores;
 use super::order::writes_in_order;
 use super::reuse::reuse_is_lawful;
 use super::slow_writer::SlowWriter;
-use super::{JudgeError, Plan, Setting, Versions};
+use super::{InitialState, JudgeError, Plan, Versions};
 use interleave::{Actor, Deed, Kind, Seen, Step, Trace};
 use std::alloc::{AllocError, Global};
 
-fn setting_of<const FIRST: u32, const SECOND: u32>(plan: &Plan<FIRST, SECOND>) -> Setting {
-    Setting {
+fn initial_state_of<const FIRST: u32, const SECOND: u32>(
+    plan: &Plan<FIRST, SECOND>,
+) -> InitialState {
+    InitialState {
         first: FIRST,
         second: SECOND,
         groups: plan.config.groups,
@@ -147,24 +149,24 @@ fn lookups_by(
 
 // The lookups answer by versions that stood, and none goes back to an older one.
 fn are_lawful(
-    setting: &Setting,
+    initial: &InitialState,
     versions: &Versions,
     steps: &[Step],
     lookups: &[answers::Seen],
 ) -> bool {
     for seen in lookups {
-        if !is_legal(setting, versions, steps, seen) {
+        if !is_legal(initial, versions, steps, seen) {
             return false;
         }
     }
-    never_falls(setting, versions, steps, lookups)
+    never_falls(initial, versions, steps, lookups)
 }
 
 // Within an update the stores to first words go upwards, and so do those to words of one group.
-fn stores_go_upwards(setting: &Setting, steps: &[Step]) -> bool {
+fn stores_go_upwards(initial: &InitialState, steps: &[Step]) -> bool {
     for (moment, step) in steps.iter().enumerate() {
         let earlier = steps.get(..moment).unwrap_or(&[]);
-        if !is_above(setting, earlier, step) {
+        if !is_above(initial, earlier, step) {
             return false;
         }
     }
@@ -172,19 +174,19 @@ fn stores_go_upwards(setting: &Setting, steps: &[Step]) -> bool {
 }
 
 // How many words a group has.
-fn size_of(setting: &Setting) -> u64 {
-    1u64.checked_shl(setting.second).unwrap_or(0)
+fn size_of(initial: &InitialState) -> u64 {
+    1u64.checked_shl(initial.second).unwrap_or(0)
 }
 
-fn is_of_one_table(setting: &Setting, step: &Step, other: &Step) -> bool {
-    let size = size_of(setting);
+fn is_of_one_table(initial: &InitialState, step: &Step, other: &Step) -> bool {
+    let size = size_of(initial);
     let same_group = step.index.checked_div(size) == other.index.checked_div(size);
     step.kind == other.kind && (step.kind == Kind::StoreFirst || same_group)
 }
 
 // Whether the step isn't a store, or its index is above those of the stores before it in its update to
 // the first words, or to the words of its group.
-fn is_above(setting: &Setting, earlier: &[Step], step: &Step) -> bool {
+fn is_above(initial: &InitialState, earlier: &[Step], step: &Step) -> bool {
     if step.kind != Kind::StoreFirst && step.kind != Kind::StoreSecond {
         return true;
     }
@@ -192,7 +194,7 @@ fn is_above(setting: &Setting, earlier: &[Step], step: &Step) -> bool {
         if other.kind == Kind::BumpSequence {
             return true;
         }
-        if is_of_one_table(setting, step, other) && other.index >= step.index {
+        if is_of_one_table(initial, step, other) && other.index >= step.index {
             return false;
         }
     }
@@ -230,7 +232,7 @@ fn judge_deeds<const FIRST: u32, const SECOND: u32>(
     let items = items_of(&plan.schedule, Actor::Worker(worker));
     let is_whole = count_others(&own) == length_of_all(script);
     accept(own.len() == items || is_whole, JudgeError::Deeds(worker))?;
-    let are_done = deeds_are_done(alloc, &setting_of(plan), steps, worker, script)?;
+    let are_done = deeds_are_done(alloc, &initial_state_of(plan), steps, worker, script)?;
     accept(are_done, JudgeError::Deeds(worker))
 }
 
@@ -244,13 +246,13 @@ fn judge_worker<const FIRST: u32, const SECOND: u32>(
     worker: usize,
     script: &[Deed],
 ) -> Result<usize, JudgeError> {
-    let setting = setting_of(plan);
+    let initial = initial_state_of(plan);
     let steps = &trace.steps;
     judge_deeds(alloc, plan, steps, worker, script)?;
-    let lookups = answers::lookups(alloc, &setting, steps, worker, script)?;
+    let lookups = answers::lookups(alloc, &initial, steps, worker, script)?;
     let shown = lookups_by(alloc, &trace.lookups, worker)?;
     accept(shown == lookups, JudgeError::Lookups(worker))?;
-    let are_lawful = are_lawful(&setting, versions, steps, &lookups);
+    let are_lawful = are_lawful(&initial, versions, steps, &lookups);
     accept(are_lawful, JudgeError::Versions(worker))?;
     Ok(lookups.len())
 }
@@ -280,12 +282,12 @@ fn judge_steps<const FIRST: u32, const SECOND: u32>(
     plan: &Plan<FIRST, SECOND>,
     steps: &[Step],
 ) -> Result<(), JudgeError> {
-    let setting = setting_of(plan);
+    let initial = initial_state_of(plan);
     accept(follows(&plan.schedule, steps), JudgeError::Schedule)?;
-    let loads = loads_are_stores(&setting, steps);
+    let loads = loads_are_stores(&initial, steps);
     accept(loads, JudgeError::Loads)?;
-    accept(stores_go_upwards(&setting, steps), JudgeError::Stores)?;
-    accept(reuse_is_lawful(&setting, steps), JudgeError::Reuse)
+    accept(stores_go_upwards(&initial, steps), JudgeError::Stores)?;
+    accept(reuse_is_lawful(&initial, steps), JudgeError::Reuse)
 }
 
 /// Whether the trace is what the plan leads to: its steps follow the schedule and the rules of traces,
@@ -300,7 +302,7 @@ pub fn judge<const FIRST: u32, const SECOND: u32>(
     let steps = &trace.steps;
     judge_steps(plan, steps)?;
     let versions = judge_writer(alloc, plan, trace)?;
-    let writes = writes_in_order(alloc, &setting_of(plan), &versions, steps)?;
+    let writes = writes_in_order(alloc, &initial_state_of(plan), &versions, steps)?;
     accept(writes, JudgeError::Writes)?;
     judge_workers(alloc, plan, trace, &versions)
 }

@@ -5,12 +5,12 @@
 
 // deciders of traces
 mod answers;
-mod course;
 mod deeds;
+mod initial;
 mod memory;
 mod order;
+mod progress;
 mod reuse;
-mod setting;
 mod versions;
 
 // plans of runs
@@ -29,11 +29,11 @@ mod slow_writer;
 pub use answers::{Seen, is_legal, lookups, never_falls};
 pub use deeds::{deeds_are_done, deeds_are_sound};
 pub use drawing::{Sizes, drawn, even};
+pub use initial::InitialState;
 pub use judge_error::JudgeError;
 pub use judging::judge;
 pub use memory::loads_are_stores;
 pub use order::writes_in_order;
 pub use plan::Plan;
 pub use reuse::reuse_is_lawful;
-pub use setting::Setting;
 pub use versions::{PlainRule, Versions, version_at};

@@ -1,6 +1,6 @@
 //! The words that all share, as the list of steps tells their values.
 
-use super::Setting;
+use super::InitialState;
 use lpm_cells::Entry;
 use lpm_trace::{Actor, Kind, Step};
 
@@ -26,9 +26,9 @@ fn word_of(step: &Step) -> Word {
 }
 
 /// The value of a word before the first step.
-fn opening(setting: &Setting, word: &Word) -> u64 {
+fn opening(initial: &InitialState, word: &Word) -> u64 {
     match word {
-        Word::Token => setting.first_token,
+        Word::Token => initial.first_token,
         _ => 0,
     }
 }
@@ -43,8 +43,8 @@ fn is_store(kind: &Kind) -> bool {
 }
 
 /// The value of a word after this many steps: that of the last store to it.
-pub(crate) fn value_at(setting: &Setting, steps: &[Step], moment: usize, word: &Word) -> u64 {
-    let mut value = opening(setting, word);
+pub(crate) fn value_at(initial: &InitialState, steps: &[Step], moment: usize, word: &Word) -> u64 {
+    let mut value = opening(initial, word);
     for step in steps.iter().take(moment) {
         let same = word_of(step) == *word;
         if same && is_store(&step.kind) {
@@ -75,17 +75,17 @@ pub(crate) fn hop_in(word: u64) -> Option<u32> {
 
 /// The answer to an address by the words after this many steps.
 pub(crate) fn answer_at(
-    setting: &Setting,
+    initial: &InitialState,
     steps: &[Step],
     moment: usize,
     addr: u32,
 ) -> Option<u32> {
-    let block = Word::First(setting.first_index(addr));
-    let first = value_at(setting, steps, moment, &block);
+    let block = Word::First(initial.first_index(addr));
+    let first = value_at(initial, steps, moment, &block);
     match group_in(first) {
         Some(group) => {
-            let place = Word::Second(setting.second_index(group, addr));
-            hop_in(value_at(setting, steps, moment, &place))
+            let place = Word::Second(initial.second_index(group, addr));
+            hop_in(value_at(initial, steps, moment, &place))
         }
         None => hop_in(first),
     }
@@ -93,11 +93,11 @@ pub(crate) fn answer_at(
 
 /// The group that the step after this many steps unlinks: that of the first word over which it
 /// stores another.
-pub(crate) fn unlinked_by(setting: &Setting, steps: &[Step], moment: usize) -> Option<u32> {
+pub(crate) fn unlinked_by(initial: &InitialState, steps: &[Step], moment: usize) -> Option<u32> {
     let step = steps.get(moment)?;
     match step.kind {
         Kind::StoreFirst => {
-            let old = value_at(setting, steps, moment, &Word::First(step.index));
+            let old = value_at(initial, steps, moment, &Word::First(step.index));
             if old == step.value {
                 return None;
             }
@@ -108,7 +108,7 @@ pub(crate) fn unlinked_by(setting: &Setting, steps: &[Step], moment: usize) -> O
 }
 
 /// Whether the actor makes steps of this kind.
-fn is_by_its_actor(setting: &Setting, step: &Step) -> bool {
+fn is_by_its_actor(initial: &InitialState, step: &Step) -> bool {
     match step.actor {
         Actor::Writer => match step.kind {
             Kind::StoreFirst | Kind::StoreSecond | Kind::BumpSequence => true,
@@ -116,28 +116,28 @@ fn is_by_its_actor(setting: &Setting, step: &Step) -> bool {
             _ => false,
         },
         Actor::Worker(worker) => match step.kind {
-            Kind::LoadFirst | Kind::LoadSecond => worker < setting.workers,
-            Kind::LoadSequence | Kind::LoadToken => worker < setting.workers,
-            Kind::StoreCounter => worker < setting.workers && step.index == worker as u64,
+            Kind::LoadFirst | Kind::LoadSecond => worker < initial.workers,
+            Kind::LoadSequence | Kind::LoadToken => worker < initial.workers,
+            Kind::StoreCounter => worker < initial.workers && step.index == worker as u64,
             _ => false,
         },
     }
 }
 
 /// Whether the step's index is that of a word that there is: 0 for the sequence and the token.
-fn has_its_index(setting: &Setting, step: &Step) -> bool {
+fn has_its_index(initial: &InitialState, step: &Step) -> bool {
     match word_of(step) {
-        Word::First(index) => index < setting.firsts(),
-        Word::Second(index) => index < setting.seconds(),
+        Word::First(index) => index < initial.firsts(),
+        Word::Second(index) => index < initial.seconds(),
         Word::Sequence | Word::Token => step.index == 0,
-        Word::Counter(worker) => worker < setting.workers as u64,
+        Word::Counter(worker) => worker < initial.workers as u64,
     }
 }
 
 /// Whether the step's value may be, where its word has the value that it has after this many steps:
 /// a load gives that, and the sequence and the token are raised by one.
-fn has_its_value(setting: &Setting, steps: &[Step], moment: usize, step: &Step) -> bool {
-    let old = value_at(setting, steps, moment, &word_of(step));
+fn has_its_value(initial: &InitialState, steps: &[Step], moment: usize, step: &Step) -> bool {
+    let old = value_at(initial, steps, moment, &word_of(step));
     match step.kind {
         Kind::StoreFirst | Kind::StoreSecond | Kind::StoreCounter => true,
         Kind::BumpSequence | Kind::BumpToken => Some(step.value) == old.checked_add(1),
@@ -148,10 +148,10 @@ fn has_its_value(setting: &Setting, steps: &[Step], moment: usize, step: &Step) 
 /// Whether each load gives the value of the last earlier store to its word, or the opening value;
 /// the sequence and the token are raised by one; and each actor makes its own kinds of step, at
 /// words that there are.
-pub fn loads_are_stores(setting: &Setting, steps: &[Step]) -> bool {
+pub fn loads_are_stores(initial: &InitialState, steps: &[Step]) -> bool {
     for (moment, step) in steps.iter().enumerate() {
-        let is_its_own = is_by_its_actor(setting, step) && has_its_index(setting, step);
-        if !is_its_own || !has_its_value(setting, steps, moment, step) {
+        let is_its_own = is_by_its_actor(initial, step) && has_its_index(initial, step);
+        if !is_its_own || !has_its_value(initial, steps, moment, step) {
             return false;
         }
     }

@@ -1,8 +1,8 @@
 //! Whether the writer's steps come in an order that its commands allow.
 
-use super::Setting;
-use super::course::{Course, Linking};
+use super::InitialState;
 use super::memory::{Word, answer_at, entry_of, group_in, unlinked_by, value_at};
+use super::progress::{Linking, WriterProgress};
 use super::versions::{Versions, begun, done, has_turned, is_answer, is_updating};
 use lpm_trace::{Kind, Step};
 use std::alloc::{AllocError, Global};
@@ -10,30 +10,35 @@ use std::alloc::{AllocError, Global};
 /// Whether an address keeps its answer at the step after this many steps, or turns, for the first
 /// time in its update, from the answer of the version done to that of the version begun.
 fn keeps_or_turns(
-    setting: &Setting,
+    initial: &InitialState,
     versions: &Versions,
     steps: &[Step],
     moment: usize,
     addr: u32,
 ) -> bool {
-    let old = answer_at(setting, steps, moment, addr);
-    let new = answer_at(setting, steps, moment.saturating_add(1), addr);
+    let old = answer_at(initial, steps, moment, addr);
+    let new = answer_at(initial, steps, moment.saturating_add(1), addr);
     if old == new {
         return true;
     }
-    !has_turned(setting, steps, moment, addr)
-        && is_answer(setting, versions, done(steps, moment), addr, old)
-        && is_answer(setting, versions, begun(steps, moment), addr, new)
+    !has_turned(initial, steps, moment, addr)
+        && is_answer(initial, versions, done(steps, moment), addr, old)
+        && is_answer(initial, versions, begun(steps, moment), addr, new)
 }
 
 /// Whether the step after this many steps stands in an update, and each address keeps its answer or
 /// turns.
-fn all_keep_or_turn(setting: &Setting, versions: &Versions, steps: &[Step], moment: usize) -> bool {
+fn all_keep_or_turn(
+    initial: &InitialState,
+    versions: &Versions,
+    steps: &[Step],
+    moment: usize,
+) -> bool {
     if !is_updating(steps, moment) {
         return false;
     }
-    for addr in 0..=setting.last_address() {
-        if !keeps_or_turns(setting, versions, steps, moment, addr) {
+    for addr in 0..=initial.last_address() {
+        if !keeps_or_turns(initial, versions, steps, moment, addr) {
             return false;
         }
     }
@@ -41,11 +46,16 @@ fn all_keep_or_turn(setting: &Setting, versions: &Versions, steps: &[Step], mome
 }
 
 /// Whether each address has the answer of the version begun, after this many steps.
-fn all_have_turned(setting: &Setting, versions: &Versions, steps: &[Step], moment: usize) -> bool {
+fn all_have_turned(
+    initial: &InitialState,
+    versions: &Versions,
+    steps: &[Step],
+    moment: usize,
+) -> bool {
     let version = begun(steps, moment);
-    for addr in 0..=setting.last_address() {
-        let hop = answer_at(setting, steps, moment, addr);
-        if !is_answer(setting, versions, version, addr, hop) {
+    for addr in 0..=initial.last_address() {
+        let hop = answer_at(initial, steps, moment, addr);
+        if !is_answer(initial, versions, version, addr, hop) {
             return false;
         }
     }
@@ -58,60 +68,65 @@ fn is_last_word(word: u64) -> bool {
 }
 
 /// Whether a first word may be stored after this many steps, as the groups stand.
-fn may_store_first(setting: &Setting, steps: &[Step], moment: usize, course: &mut Course) -> bool {
+fn may_store_first(
+    initial: &InitialState,
+    steps: &[Step],
+    moment: usize,
+    progress: &mut WriterProgress,
+) -> bool {
     let Some(step) = steps.get(moment) else {
         return false;
     };
     let linking = Linking {
-        unlinked: unlinked_by(setting, steps, moment),
+        unlinked: unlinked_by(initial, steps, moment),
         linked: group_in(step.value),
-        token: value_at(setting, steps, moment, &Word::Token),
+        token: value_at(initial, steps, moment, &Word::Token),
     };
-    let is_allowed = course.store_first(setting, &linking);
+    let is_allowed = progress.store_first(initial, &linking);
     is_allowed && entry_of(step.value).is_some()
 }
 
 /// Whether the sequence may be raised after this many steps: an update begins that makes a version,
 /// or one ends after which each address has the new answer.
 fn may_bump_sequence(
-    setting: &Setting,
+    initial: &InitialState,
     versions: &Versions,
     steps: &[Step],
     moment: usize,
 ) -> bool {
     if is_updating(steps, moment) {
-        return all_have_turned(setting, versions, steps, moment);
+        return all_have_turned(initial, versions, steps, moment);
     }
     begun(steps, moment).saturating_add(1) < versions.len()
 }
 
 /// Whether the step after this many steps may come next, as the writer has come so far.
 fn is_in_order(
-    setting: &Setting,
+    initial: &InitialState,
     versions: &Versions,
     steps: &[Step],
     moment: usize,
     step: &Step,
-    course: &mut Course,
+    progress: &mut WriterProgress,
 ) -> bool {
     let updating = is_updating(steps, moment);
-    let token = value_at(setting, steps, moment, &Word::Token);
+    let token = value_at(initial, steps, moment, &Word::Token);
     match step.kind {
         Kind::StoreFirst => {
-            may_store_first(setting, steps, moment, course)
-                && all_keep_or_turn(setting, versions, steps, moment)
+            may_store_first(initial, steps, moment, progress)
+                && all_keep_or_turn(initial, versions, steps, moment)
         }
         Kind::StoreSecond => {
-            course.store_second(setting, setting.group_of(step.index))
+            progress.store_second(initial, initial.group_of(step.index))
                 && is_last_word(step.value)
-                && all_keep_or_turn(setting, versions, steps, moment)
+                && all_keep_or_turn(initial, versions, steps, moment)
         }
         Kind::BumpSequence => {
-            course.bump_sequence() && may_bump_sequence(setting, versions, steps, moment)
+            progress.bump_sequence() && may_bump_sequence(initial, versions, steps, moment)
         }
-        Kind::BumpToken => course.bump_token(setting, updating, step.value),
+        Kind::BumpToken => progress.bump_token(initial, updating, step.value),
         Kind::LoadCounter => {
-            course.load_counter(setting, updating, token, step.index, step.value)
+            progress.load_counter(initial, updating, token, step.index, step.value)
         }
         _ => true,
     }
@@ -136,13 +151,13 @@ fn begin_with_no_rules(versions: &Versions) -> bool {
 ///   least the token.
 pub fn writes_in_order(
     alloc: Global,
-    setting: &Setting,
+    initial: &InitialState,
     versions: &Versions,
     steps: &[Step],
 ) -> Result<bool, AllocError> {
-    let mut course = Course::new(alloc, setting)?;
+    let mut progress = WriterProgress::new(alloc, initial)?;
     for (moment, step) in steps.iter().enumerate() {
-        if !is_in_order(setting, versions, steps, moment, step, &mut course) {
+        if !is_in_order(initial, versions, steps, moment, step, &mut progress) {
             return Ok(false);
         }
     }

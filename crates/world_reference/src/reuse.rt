@@ -1,6 +1,6 @@
 //! Whether groups are used again only after their grace period, by reader intervals alone.
 
-use super::Setting;
+use super::InitialState;
 use super::memory::{Word, unlinked_by, value_at};
 use lpm_trace::{Actor, Kind, Step};
 
@@ -19,8 +19,8 @@ enum Mark {
 
 /// Whether a worker is online after this many steps: it has stored its counter since it was last
 /// offline.
-fn is_online(setting: &Setting, steps: &[Step], moment: usize, worker: usize) -> bool {
-    value_at(setting, steps, moment, &Word::Counter(worker as u64)) != 0
+fn is_online(initial: &InitialState, steps: &[Step], moment: usize, worker: usize) -> bool {
+    value_at(initial, steps, moment, &Word::Counter(worker as u64)) != 0
 }
 
 /// What a worker's step after this many steps is to its reader intervals.
@@ -34,11 +34,11 @@ fn mark_of(was_online: bool, step: &Step) -> Mark {
 }
 
 /// What the step after this many steps is to the reader intervals of this worker.
-fn mark_at(setting: &Setting, steps: &[Step], moment: usize, worker: usize) -> Mark {
+fn mark_at(initial: &InitialState, steps: &[Step], moment: usize, worker: usize) -> Mark {
     match steps.get(moment) {
         Some(step) => match step.actor {
             Actor::Worker(other) if other == worker => {
-                mark_of(is_online(setting, steps, moment, worker), step)
+                mark_of(is_online(initial, steps, moment, worker), step)
             }
             _ => Mark::Nothing,
         },
@@ -47,26 +47,26 @@ fn mark_at(setting: &Setting, steps: &[Step], moment: usize, worker: usize) -> M
 }
 
 /// Whether a reader interval of the worker begins with the step after this many steps.
-fn begins_at(setting: &Setting, steps: &[Step], moment: usize, worker: usize) -> bool {
-    match mark_at(setting, steps, moment, worker) {
+fn begins_at(initial: &InitialState, steps: &[Step], moment: usize, worker: usize) -> bool {
+    match mark_at(initial, steps, moment, worker) {
         Mark::Begins | Mark::Turns => true,
         Mark::Ends | Mark::Nothing => false,
     }
 }
 
 /// Whether a reader interval of the worker ends with the step after this many steps.
-fn ends_at(setting: &Setting, steps: &[Step], moment: usize, worker: usize) -> bool {
-    match mark_at(setting, steps, moment, worker) {
+fn ends_at(initial: &InitialState, steps: &[Step], moment: usize, worker: usize) -> bool {
+    match mark_at(initial, steps, moment, worker) {
         Mark::Ends | Mark::Turns => true,
         Mark::Begins | Mark::Nothing => false,
     }
 }
 
 /// Whether the step after this many steps stores into the group.
-fn fills_at(setting: &Setting, steps: &[Step], moment: usize, group: u32) -> bool {
+fn fills_at(initial: &InitialState, steps: &[Step], moment: usize, group: u32) -> bool {
     match steps.get(moment) {
         Some(step) => match step.kind {
-            Kind::StoreSecond => setting.group_of(step.index) == u64::from(group),
+            Kind::StoreSecond => initial.group_of(step.index) == u64::from(group),
             _ => false,
         },
         None => false,
@@ -76,17 +76,17 @@ fn fills_at(setting: &Setting, steps: &[Step], moment: usize, group: u32) -> boo
 /// Whether a step after this one stores into the group, before the worker's next reader interval
 /// ends.
 fn is_filled_after(
-    setting: &Setting,
+    initial: &InitialState,
     steps: &[Step],
     unlinking: usize,
     group: u32,
     worker: usize,
 ) -> bool {
     for moment in unlinking..steps.len() {
-        if ends_at(setting, steps, moment, worker) {
+        if ends_at(initial, steps, moment, worker) {
             return false;
         }
-        if fills_at(setting, steps, moment, group) {
+        if fills_at(initial, steps, moment, group) {
             return true;
         }
     }
@@ -95,13 +95,13 @@ fn is_filled_after(
 
 /// Whether the worker's reader interval that begins here holds no unlinking of a group with a later
 /// store into that group.
-fn interval_is_lawful(setting: &Setting, steps: &[Step], begin: usize, worker: usize) -> bool {
+fn interval_is_lawful(initial: &InitialState, steps: &[Step], begin: usize, worker: usize) -> bool {
     for moment in begin.saturating_add(1)..steps.len() {
-        if ends_at(setting, steps, moment, worker) {
+        if ends_at(initial, steps, moment, worker) {
             return true;
         }
-        if let Some(group) = unlinked_by(setting, steps, moment) {
-            if is_filled_after(setting, steps, moment, group, worker) {
+        if let Some(group) = unlinked_by(initial, steps, moment) {
+            if is_filled_after(initial, steps, moment, group, worker) {
                 return false;
             }
         }
@@ -110,10 +110,10 @@ fn interval_is_lawful(setting: &Setting, steps: &[Step], begin: usize, worker: u
 }
 
 /// Whether no reader interval of the worker holds an unlinking of a group with a later store into it.
-fn intervals_are_lawful(setting: &Setting, steps: &[Step], worker: usize) -> bool {
+fn intervals_are_lawful(initial: &InitialState, steps: &[Step], worker: usize) -> bool {
     for begin in 0..steps.len() {
-        let begins = begins_at(setting, steps, begin, worker);
-        if begins && !interval_is_lawful(setting, steps, begin, worker) {
+        let begins = begins_at(initial, steps, begin, worker);
+        if begins && !interval_is_lawful(initial, steps, begin, worker) {
             return false;
         }
     }
@@ -124,9 +124,9 @@ fn intervals_are_lawful(setting: &Setting, steps: &[Step], worker: usize) -> boo
 /// unlinks a group and a later one that stores into it. An interval begins where a worker stores its
 /// counter in a report that it is online, or loads the token in a quiescent report; it ends where the
 /// worker next loads the token in a quiescent report, or goes offline.
-pub fn reuse_is_lawful(setting: &Setting, steps: &[Step]) -> bool {
-    for worker in 0..setting.workers {
-        if !intervals_are_lawful(setting, steps, worker) {
+pub fn reuse_is_lawful(initial: &InitialState, steps: &[Step]) -> bool {
+    for worker in 0..initial.workers {
+        if !intervals_are_lawful(initial, steps, worker) {
             return false;
         }
     }

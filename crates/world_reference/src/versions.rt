@@ -1,8 +1,8 @@
 //! The versions of the rules: which stand at a moment, and what they answer.
 
-use super::Setting;
+use super::InitialState;
+use super::initial::power_of_two;
 use super::memory::answer_at;
-use super::setting::power_of_two;
 use lpm_trace::{Kind, Step};
 
 /// A rule: the bits of its prefix, how many of them count, and the number of its next hop.
@@ -17,8 +17,8 @@ pub struct PlainRule {
 pub type Versions = Vec<Vec<PlainRule>>;
 
 /// Whether a rule covers an address: their first bits are the same.
-fn covers(setting: &Setting, rule: &PlainRule, addr: u32) -> bool {
-    match setting.width().checked_sub(rule.len) {
+fn covers(initial: &InitialState, rule: &PlainRule, addr: u32) -> bool {
+    match initial.width().checked_sub(rule.len) {
         Some(rest) => {
             let size = power_of_two(rest);
             u64::from(addr).checked_div(size) == u64::from(rule.bits).checked_div(size)
@@ -28,14 +28,14 @@ fn covers(setting: &Setting, rule: &PlainRule, addr: u32) -> bool {
 }
 
 /// The longest rule that covers an address.
-fn longest(setting: &Setting, rules: &[PlainRule], addr: u32) -> Option<PlainRule> {
+fn longest(initial: &InitialState, rules: &[PlainRule], addr: u32) -> Option<PlainRule> {
     let mut best: Option<PlainRule> = None;
     for rule in rules {
         let is_longer = match &best {
             Some(other) => other.len < rule.len,
             None => true,
         };
-        if is_longer && covers(setting, rule, addr) {
+        if is_longer && covers(initial, rule, addr) {
             best = Some(*rule);
         }
     }
@@ -44,14 +44,14 @@ fn longest(setting: &Setting, rules: &[PlainRule], addr: u32) -> Option<PlainRul
 
 /// Whether a version answers this to an address.
 pub(crate) fn is_answer(
-    setting: &Setting,
+    initial: &InitialState,
     versions: &Versions,
     version: usize,
     addr: u32,
     hop: Option<u32>,
 ) -> bool {
     match versions.get(version) {
-        Some(rules) => match longest(setting, rules, addr) {
+        Some(rules) => match longest(initial, rules, addr) {
             Some(rule) => hop == Some(rule.hop),
             None => hop.is_none(),
         },
@@ -86,16 +86,16 @@ pub(crate) fn is_updating(steps: &[Step], moment: usize) -> bool {
 }
 
 /// Whether the answer to an address has changed in the update that runs after this many steps.
-pub(crate) fn has_turned(setting: &Setting, steps: &[Step], moment: usize, addr: u32) -> bool {
+pub(crate) fn has_turned(initial: &InitialState, steps: &[Step], moment: usize, addr: u32) -> bool {
     if !is_updating(steps, moment) {
         return false;
     }
-    let now = answer_at(setting, steps, moment, addr);
+    let now = answer_at(initial, steps, moment, addr);
     for earlier in (0..moment).rev() {
         if !is_updating(steps, earlier) {
             return false;
         }
-        if answer_at(setting, steps, earlier, addr) != now {
+        if answer_at(initial, steps, earlier, addr) != now {
             return true;
         }
     }
@@ -104,8 +104,8 @@ pub(crate) fn has_turned(setting: &Setting, steps: &[Step], moment: usize, addr:
 
 /// The version that an address shows after this many steps: that of the updates done until its
 /// answer has changed in the update that runs, and that of the updates begun from that store on.
-pub fn version_at(setting: &Setting, steps: &[Step], moment: usize, addr: u32) -> usize {
-    if has_turned(setting, steps, moment, addr) {
+pub fn version_at(initial: &InitialState, steps: &[Step], moment: usize, addr: u32) -> usize {
+    if has_turned(initial, steps, moment, addr) {
         return begun(steps, moment);
     }
     done(steps, moment)

@@ -13,7 +13,7 @@ use qsbr::{Busy, Config, Refusal};
 use std::alloc::Global;
 use std::process::Abort;
 use std::test::Fail;
-use world_reference::{Setting, version_at};
+use world_reference::{InitialState, version_at};
 
 const TWO_GROUPS: Config = Config {
     groups: 2,
@@ -310,7 +310,7 @@ fn default_under_a_group(rt: HostRuntime) -> Result<(), Fail> {
 }
 
 // The world of one group.
-const SETTING: Setting = Setting {
+const SETTING: InitialState = InitialState {
     first: 4,
     second: 4,
     groups: ONE_GROUP.groups,

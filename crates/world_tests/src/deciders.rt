@@ -6,12 +6,12 @@ use std::alloc::{AllocError, Global};
 use std::process::Abort;
 use std::test::Fail;
 use world_reference::{
-    PlainRule, Seen, Setting, Versions, deeds_are_done, deeds_are_sound, is_legal,
+    InitialState, PlainRule, Seen, Versions, deeds_are_done, deeds_are_sound, is_legal,
     loads_are_stores, lookups, never_falls, reuse_is_lawful, writes_in_order,
 };
 
 /// Four addresses, in two blocks of two, one group and one worker.
-const SMALL: Setting = Setting {
+const SMALL: InitialState = InitialState {
     first: 1,
     second: 1,
     groups: 1,
@@ -216,14 +216,14 @@ fn with_fault(alloc: Global, steps: &[Step], fault: Fault) -> Result<Vec<Step>, 
 fn assert_refused(
     rt: &impl Abort,
     alloc: Global,
-    setting: &Setting,
+    initial: &InitialState,
     versions: &Versions,
     steps: &[Step],
     faults: &[Fault],
 ) -> Result<(), Fail> {
     for (place, fault) in faults.iter().enumerate() {
         let changed = with_fault(alloc, steps, *fault)?;
-        let is_accepted = writes_in_order(alloc, setting, versions, &changed)?;
+        let is_accepted = writes_in_order(alloc, initial, versions, &changed)?;
         assert!(rt; !is_accepted, "fault {place}");
     }
     Ok(())

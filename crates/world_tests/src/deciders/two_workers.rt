@@ -6,12 +6,12 @@ use lpm_trace::{Actor, Deed, Kind, Step};
 use std::alloc::{AllocError, Global};
 use std::test::Fail;
 use world_reference::{
-    PlainRule, Setting, Versions, deeds_are_done, loads_are_stores, reuse_is_lawful,
+    InitialState, PlainRule, Versions, deeds_are_done, loads_are_stores, reuse_is_lawful,
     writes_in_order,
 };
 
 /// Four addresses, in two blocks of two, two groups and two workers.
-const WIDE: Setting = Setting {
+const WIDE: InitialState = InitialState {
     first: 1,
     second: 1,
     groups: 2,

@@ -9,7 +9,7 @@ use Rattle.bulk.proofs.running.answer_at_rest.Goals as goal
 pub returns-clause-answers : goal.returns-clause-answers
 returns-clause-answers g c =
     let id : Identity = c.args.table.now in
-    let width : id.opening.first + id.opening.second ≡ g.row.FIRST + g.row.SECOND =
+    let width : id.initial.first + id.initial.second ≡ g.row.FIRST + g.row.SECOND =
     omega (arith, c.has_widths.ensures.0, c.has_widths.ensures.1) in
     subst (λ (n : ℕ). AreLongestHops n c.args.writer.now.table.rules c.args.addrs.now
     (flat_map (λ (d : Desk). d.hops.items) c.meet_all-2.new.desks)) width

@@ -18,4 +18,4 @@ returns-clause-sound g c =
     let memory = c.in_ok-memory.ensures in
     sound_swept f s c.args.config c.args.rules.rules c.args.versions t.blocks.items t.first_words.items t.second_words.items
     c.requires.shape c.requires.limits c.requires.represents c.requires.numbered c.requires.room c.requires.few c.requires.count
-    c.in_ok-ledger.ledger c.in_ok-memory.memory (search rules) memory.firsts memory.seconds memory.domain
+    c.in_ok-control.control c.in_ok-memory.memory (search rules) memory.firsts memory.seconds memory.domain

@@ -1,16 +1,16 @@
 use Rattle.std.proofs.Common.{◌≡◌, refl, ap, sym, subst, ◌∙◌, List, Option, Some, None, MatchOption, Ok, Err}
 use Rattle.lpm_rules.specs.declared.Change.{Change}
 use Rattle.fib_model.specs.State.{State}
-use Rattle.lpm_writer.specs.declared.ledger.Ledger.{Ledger}
+use Rattle.lpm_writer.specs.declared.control.ControlState.{ControlState}
 use Rattle.lpm_writer.specs.Traced.{Traced}
 use Rattle.lpm_trace.specs.declared.step.WriterStep.{WriterStep}
 use Rattle.lpm_writer.specs.Resting.{IsResting, state_of}
 use Rattle.lpm_writer.proofs.StepsAlone.{adds_alone, deletes_alone, flushes_alone, frees_alone}
 use Rattle.interleave.specs.View.{WorldView}
-use Rattle.interleave.specs.World.{WorldDid, setting}
+use Rattle.interleave.specs.World.{WorldDid, scripts_and_schedule}
 use Rattle.interleave.specs.declared.reply.Reply.{Reply}
 use Rattle.interleave.specs.declared.reply.Reply.TheVariants.{Put, Deleted, Flushed, Reclaimed, Refused}
-use Rattle.interleave.specs.Replies.{Answers, kept}
+use Rattle.interleave.specs.Replies.{Answers, state_by_steps}
 use Rattle.interleave.proofs.Settings.{Setting, does_in, stays}
 use Rattle.interleave.proofs.answering.answer.Goals as goal
 use Rattle.interleave.proofs.answering.answer.Goals.{in-Add+in-Ok, in-Add+in-Err+in_default, in-Delete+in-Ok-delete, in-Delete+in-Err-delete, in-Flush+in-Ok-flush, in-Flush+in-Err-flush, in-Reclaim}
@@ -22,98 +22,98 @@ pub returns-clause-replies : goal.returns-clause-replies
 returns-clause-replies g c = λ setup steps did rests.
     let f = g.row.FIRST in
     let s = g.row.SECOND in
-    let old = c.args.ledger.now in
+    let old = c.args.control.now in
     let config = old.config in
-    let kind = setting c.args.memory.now in
-    let before : State (Traced WorldView) = state_of {X = Traced WorldView} old.rules.rules (c.args.memory.now, steps) old.books old.versions in
-    let after : WorldView → Ledger f s → List WriterStep → State (Traced WorldView) = λ m l later. state_of {X = Traced WorldView} l.rules.rules (m, later) l.books l.versions in
-    let Came : Change f s → WorldView → Ledger f s → Reply → Type 0 = λ change m l r. (later : List WriterStep) × WorldDid f s m setup later
-    × IsResting f s setup later l.config l.rules l.books l.versions
-    × Answers setup f s config (kept old.rules steps old.books old.versions) change r (kept l.rules later l.books l.versions) in
+    let kind = scripts_and_schedule c.args.memory.now in
+    let before : State (Traced WorldView) = state_of {X = Traced WorldView} old.rules.rules (c.args.memory.now, steps) old.pool old.versions in
+    let after : WorldView → ControlState f s → List WriterStep → State (Traced WorldView) = λ m l later. state_of {X = Traced WorldView} l.rules.rules (m, later) l.pool l.versions in
+    let Came : Change f s → WorldView → ControlState f s → Reply → Type 0 = λ change m l r. (later : List WriterStep) × WorldDid f s m setup later
+    × IsResting f s setup later l.config l.rules l.pool l.versions
+    × Answers setup f s config (state_by_steps old.rules steps old.pool old.versions) change r (state_by_steps l.rules later l.pool l.versions) in
     elim c.match-change.branch [
       | in-Add+in-Ok w ↦
           let now = w.in-Ok.ensures.adds setup steps did rests in
           let m = w.add.new.memory in
-          let l = w.add.new.ledger in
-          carried (Came c.args.change.now) m c.match-change.memory l c.match-change.ledger (Put w.in-Ok.put) c.match-change.reply w.memory-is w.ledger-is w.reply-is
+          let l = w.add.new.control in
+          carried (Came c.args.change.now) m c.match-change.memory l c.match-change.control (Put w.in-Ok.put) c.match-change.reply w.memory-is w.control-is w.reply-is
           (subst (λ x. Came x m l (Put w.in-Ok.put)) (sym w.in-Add.is)
-          (now.0, now.1, now.2, (adds_alone WorldView (does_in f s) setup Setting setting (stays f s) kind f s config before (after m l now.0) refl w.in-Add.prefix w.in-Add.hop (Ok w.in-Ok.put) now.3).0))
+          (now.0, now.1, now.2, (adds_alone WorldView (does_in f s) setup Setting scripts_and_schedule (stays f s) kind f s config before (after m l now.0) refl w.in-Add.prefix w.in-Add.hop (Ok w.in-Ok.put) now.3).0))
       | in-Add+in-Err+in_default w ↦
           let now = w.in-Err.ensures.adds setup steps did rests in
           let m = w.add.new.memory in
-          let l = w.add.new.ledger in
-          carried (Came c.args.change.now) m c.match-change.memory l c.match-change.ledger (Refused w.in-Err.refusal) c.match-change.reply w.memory-is w.ledger-is w.reply-is
+          let l = w.add.new.control in
+          carried (Came c.args.change.now) m c.match-change.memory l c.match-change.control (Refused w.in-Err.refusal) c.match-change.reply w.memory-is w.control-is w.reply-is
           (subst (λ x. Came x m l (Refused w.in-Err.refusal)) (sym w.in-Add.is)
-          (now.0, now.1, now.2, (w.in_default.not-Memory, (adds_alone WorldView (does_in f s) setup Setting setting (stays f s) kind f s config before (after m l now.0) refl w.in-Add.prefix w.in-Add.hop (Err w.in-Err.refusal) now.3).0)))
+          (now.0, now.1, now.2, (w.in_default.not-Memory, (adds_alone WorldView (does_in f s) setup Setting scripts_and_schedule (stays f s) kind f s config before (after m l now.0) refl w.in-Add.prefix w.in-Add.hop (Err w.in-Err.refusal) now.3).0)))
       | in-Delete+in-Ok-delete w ↦
           let now = w.in-Ok-delete.ensures.deletes setup steps did rests in
           let m = w.delete.new.memory in
-          let l = w.delete.new.ledger in
-          carried (Came c.args.change.now) m c.match-change.memory l c.match-change.ledger (Deleted w.in-Ok-delete.hop) c.match-change.reply w.memory-is w.ledger-is w.reply-is
+          let l = w.delete.new.control in
+          carried (Came c.args.change.now) m c.match-change.memory l c.match-change.control (Deleted w.in-Ok-delete.hop) c.match-change.reply w.memory-is w.control-is w.reply-is
           (subst (λ x. Came x m l (Deleted w.in-Ok-delete.hop)) (sym w.in-Delete.is)
-          (now.0, now.1, now.2, (deletes_alone WorldView (does_in f s) setup Setting setting (stays f s) kind f s config before (after m l now.0) refl w.in-Delete.prefix (Ok w.in-Ok-delete.hop) now.3).0))
+          (now.0, now.1, now.2, (deletes_alone WorldView (does_in f s) setup Setting scripts_and_schedule (stays f s) kind f s config before (after m l now.0) refl w.in-Delete.prefix (Ok w.in-Ok-delete.hop) now.3).0))
       | in-Delete+in-Err-delete w ↦
           let now = w.in-Err-delete.ensures.deletes setup steps did rests in
           let m = w.delete.new.memory in
-          let l = w.delete.new.ledger in
-          carried (Came c.args.change.now) m c.match-change.memory l c.match-change.ledger (Refused w.in-Err-delete.refusal) c.match-change.reply w.memory-is w.ledger-is w.reply-is
+          let l = w.delete.new.control in
+          carried (Came c.args.change.now) m c.match-change.memory l c.match-change.control (Refused w.in-Err-delete.refusal) c.match-change.reply w.memory-is w.control-is w.reply-is
           (subst (λ x. Came x m l (Refused w.in-Err-delete.refusal)) (sym w.in-Delete.is)
-          (now.0, now.1, now.2, (deletes_alone WorldView (does_in f s) setup Setting setting (stays f s) kind f s config before (after m l now.0) refl w.in-Delete.prefix (Err w.in-Err-delete.refusal) now.3).0))
+          (now.0, now.1, now.2, (deletes_alone WorldView (does_in f s) setup Setting scripts_and_schedule (stays f s) kind f s config before (after m l now.0) refl w.in-Delete.prefix (Err w.in-Err-delete.refusal) now.3).0))
       | in-Flush+in-Ok-flush w ↦
           let now = w.in-Ok-flush.ensures.flushes setup steps did rests in
           let m = w.flush.new.memory in
-          let l = w.flush.new.ledger in
-          carried (Came c.args.change.now) m c.match-change.memory l c.match-change.ledger (Flushed w.in-Ok-flush.count) c.match-change.reply w.memory-is w.ledger-is w.reply-is
+          let l = w.flush.new.control in
+          carried (Came c.args.change.now) m c.match-change.memory l c.match-change.control (Flushed w.in-Ok-flush.count) c.match-change.reply w.memory-is w.control-is w.reply-is
           (subst (λ x. Came x m l (Flushed w.in-Ok-flush.count)) (sym w.in-Flush.is)
-          (now.0, now.1, now.2, (flushes_alone WorldView (does_in f s) setup Setting setting (stays f s) kind f s config before (after m l now.0) refl (Ok w.in-Ok-flush.count) now.3).0))
+          (now.0, now.1, now.2, (flushes_alone WorldView (does_in f s) setup Setting scripts_and_schedule (stays f s) kind f s config before (after m l now.0) refl (Ok w.in-Ok-flush.count) now.3).0))
       | in-Flush+in-Err-flush w ↦
           let now = w.in-Err-flush.ensures.flushes setup steps did rests in
           let m = w.flush.new.memory in
-          let l = w.flush.new.ledger in
-          carried (Came c.args.change.now) m c.match-change.memory l c.match-change.ledger (Refused w.in-Err-flush.refusal) c.match-change.reply w.memory-is w.ledger-is w.reply-is
+          let l = w.flush.new.control in
+          carried (Came c.args.change.now) m c.match-change.memory l c.match-change.control (Refused w.in-Err-flush.refusal) c.match-change.reply w.memory-is w.control-is w.reply-is
           (subst (λ x. Came x m l (Refused w.in-Err-flush.refusal)) (sym w.in-Flush.is)
-          (now.0, now.1, now.2, (flushes_alone WorldView (does_in f s) setup Setting setting (stays f s) kind f s config before (after m l now.0) refl (Err w.in-Err-flush.refusal) now.3).0))
+          (now.0, now.1, now.2, (flushes_alone WorldView (does_in f s) setup Setting scripts_and_schedule (stays f s) kind f s config before (after m l now.0) refl (Err w.in-Err-flush.refusal) now.3).0))
       | in-Reclaim w ↦
           let now = w.reclaim.ensures.frees setup steps did rests in
           let m = w.reclaim.new.memory in
-          let l = w.reclaim.new.ledger in
-          carried (Came c.args.change.now) m c.match-change.memory l c.match-change.ledger (Reclaimed w.reclaim.result) c.match-change.reply w.memory-is w.ledger-is w.reply-is
+          let l = w.reclaim.new.control in
+          carried (Came c.args.change.now) m c.match-change.memory l c.match-change.control (Reclaimed w.reclaim.result) c.match-change.reply w.memory-is w.control-is w.reply-is
           (subst (λ x. Came x m l (Reclaimed w.reclaim.result)) (sym w.in-Reclaim.is)
-          (now.0, now.1, now.2, (frees_alone WorldView (does_in f s) setup Setting setting (stays f s) kind f s config before (after m l now.0) refl w.in-Reclaim.max w.reclaim.result now.3).0))
+          (now.0, now.1, now.2, (frees_alone WorldView (does_in f s) setup Setting scripts_and_schedule (stays f s) kind f s config before (after m l now.0) refl w.in-Reclaim.max w.reclaim.result now.3).0))
     ]
 
 pub returns-clause-setting : goal.returns-clause-setting
 returns-clause-setting g c =
     let f = g.row.FIRST in
     let s = g.row.SECOND in
-    let old = c.args.ledger.now in
+    let old = c.args.control.now in
     let config = old.config in
-    let kind = setting c.args.memory.now in
+    let kind = scripts_and_schedule c.args.memory.now in
     let rests = c.requires.rests in
-    let before : State (Traced WorldView) = state_of {X = Traced WorldView} old.rules.rules (c.args.memory.now, rests.1) old.books old.versions in
-    let after : WorldView → Ledger f s → List WriterStep → State (Traced WorldView) = λ m l later. state_of {X = Traced WorldView} l.rules.rules (m, later) l.books l.versions in
+    let before : State (Traced WorldView) = state_of {X = Traced WorldView} old.rules.rules (c.args.memory.now, rests.1) old.pool old.versions in
+    let after : WorldView → ControlState f s → List WriterStep → State (Traced WorldView) = λ m l later. state_of {X = Traced WorldView} l.rules.rules (m, later) l.pool l.versions in
     elim c.match-change.branch [
       | in-Add+in-Ok w ↦
           let now = w.in-Ok.ensures.adds rests.0 rests.1 rests.2 rests.3 in
-          ap setting w.memory-is ∙ (adds_alone WorldView (does_in f s) rests.0 Setting setting (stays f s) kind f s config before (after w.add.new.memory w.add.new.ledger now.0) refl w.in-Add.prefix w.in-Add.hop (Ok w.in-Ok.put) now.3).1
+          ap scripts_and_schedule w.memory-is ∙ (adds_alone WorldView (does_in f s) rests.0 Setting scripts_and_schedule (stays f s) kind f s config before (after w.add.new.memory w.add.new.control now.0) refl w.in-Add.prefix w.in-Add.hop (Ok w.in-Ok.put) now.3).1
       | in-Add+in-Err+in_default w ↦
           let now = w.in-Err.ensures.adds rests.0 rests.1 rests.2 rests.3 in
-          ap setting w.memory-is ∙ (adds_alone WorldView (does_in f s) rests.0 Setting setting (stays f s) kind f s config before (after w.add.new.memory w.add.new.ledger now.0) refl w.in-Add.prefix w.in-Add.hop (Err w.in-Err.refusal) now.3).1
+          ap scripts_and_schedule w.memory-is ∙ (adds_alone WorldView (does_in f s) rests.0 Setting scripts_and_schedule (stays f s) kind f s config before (after w.add.new.memory w.add.new.control now.0) refl w.in-Add.prefix w.in-Add.hop (Err w.in-Err.refusal) now.3).1
       | in-Delete+in-Ok-delete w ↦
           let now = w.in-Ok-delete.ensures.deletes rests.0 rests.1 rests.2 rests.3 in
-          ap setting w.memory-is ∙ (deletes_alone WorldView (does_in f s) rests.0 Setting setting (stays f s) kind f s config before (after w.delete.new.memory w.delete.new.ledger now.0) refl w.in-Delete.prefix (Ok w.in-Ok-delete.hop) now.3).1
+          ap scripts_and_schedule w.memory-is ∙ (deletes_alone WorldView (does_in f s) rests.0 Setting scripts_and_schedule (stays f s) kind f s config before (after w.delete.new.memory w.delete.new.control now.0) refl w.in-Delete.prefix (Ok w.in-Ok-delete.hop) now.3).1
       | in-Delete+in-Err-delete w ↦
           let now = w.in-Err-delete.ensures.deletes rests.0 rests.1 rests.2 rests.3 in
-          ap setting w.memory-is ∙ (deletes_alone WorldView (does_in f s) rests.0 Setting setting (stays f s) kind f s config before (after w.delete.new.memory w.delete.new.ledger now.0) refl w.in-Delete.prefix (Err w.in-Err-delete.refusal) now.3).1
+          ap scripts_and_schedule w.memory-is ∙ (deletes_alone WorldView (does_in f s) rests.0 Setting scripts_and_schedule (stays f s) kind f s config before (after w.delete.new.memory w.delete.new.control now.0) refl w.in-Delete.prefix (Err w.in-Err-delete.refusal) now.3).1
       | in-Flush+in-Ok-flush w ↦
           let now = w.in-Ok-flush.ensures.flushes rests.0 rests.1 rests.2 rests.3 in
-          ap setting w.memory-is ∙ (flushes_alone WorldView (does_in f s) rests.0 Setting setting (stays f s) kind f s config before (after w.flush.new.memory w.flush.new.ledger now.0) refl (Ok w.in-Ok-flush.count) now.3).1
+          ap scripts_and_schedule w.memory-is ∙ (flushes_alone WorldView (does_in f s) rests.0 Setting scripts_and_schedule (stays f s) kind f s config before (after w.flush.new.memory w.flush.new.control now.0) refl (Ok w.in-Ok-flush.count) now.3).1
       | in-Flush+in-Err-flush w ↦
           let now = w.in-Err-flush.ensures.flushes rests.0 rests.1 rests.2 rests.3 in
-          ap setting w.memory-is ∙ (flushes_alone WorldView (does_in f s) rests.0 Setting setting (stays f s) kind f s config before (after w.flush.new.memory w.flush.new.ledger now.0) refl (Err w.in-Err-flush.refusal) now.3).1
+          ap scripts_and_schedule w.memory-is ∙ (flushes_alone WorldView (does_in f s) rests.0 Setting scripts_and_schedule (stays f s) kind f s config before (after w.flush.new.memory w.flush.new.control now.0) refl (Err w.in-Err-flush.refusal) now.3).1
       | in-Reclaim w ↦
           let now = w.reclaim.ensures.frees rests.0 rests.1 rests.2 rests.3 in
-          ap setting w.memory-is ∙ (frees_alone WorldView (does_in f s) rests.0 Setting setting (stays f s) kind f s config before (after w.reclaim.new.memory w.reclaim.new.ledger now.0) refl w.in-Reclaim.max w.reclaim.result now.3).1
+          ap scripts_and_schedule w.memory-is ∙ (frees_alone WorldView (does_in f s) rests.0 Setting scripts_and_schedule (stays f s) kind f s config before (after w.reclaim.new.memory w.reclaim.new.control now.0) refl w.in-Reclaim.max w.reclaim.result now.3).1
     ]
 
 weaker : {A B B' : Type 0} {P P' : A → Type 0} (o : Option A) → (B → B') → ((a : A) → P a → P' a) → MatchOption o B P → MatchOption o B' P'
@@ -124,13 +124,13 @@ pub returns-in-Synchronize-clause-replies : goal.returns-in-Synchronize-clause-r
 returns-in-Synchronize-clause-replies g c = λ setup steps did rests.
     let f = g.row.FIRST in
     let s = g.row.SECOND in
-    let old = c.args.ledger.now in
-    let l = c.synchronize.new.ledger in
+    let old = c.args.control.now in
+    let l = c.synchronize.new.control in
     weaker c.synchronize.result (λ waits. (c.in-Synchronize.is, waits.0, waits.1))
     (λ reply now. (
       now.0,
       now.1,
       now.2,
-      subst (λ change. Answers setup f s old.config (kept old.rules steps old.books old.versions) change reply (kept l.rules now.0 l.books l.versions)) (sym c.in-Synchronize.is) now.3,
+      subst (λ change. Answers setup f s old.config (state_by_steps old.rules steps old.pool old.versions) change reply (state_by_steps l.rules now.0 l.pool l.versions)) (sym c.in-Synchronize.is) now.3,
     ))
     (c.synchronize.ensures.replies setup steps did rests)

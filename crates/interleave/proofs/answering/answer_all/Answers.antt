@@ -33,10 +33,10 @@ returns-then-not-reach-clause-performed g c =
     let change = c.change-item.result in
     let all = c.args.changes.now in
     let done = take i all in
-    let ends : HasEnded f s c.args.memory.now c.args.ledger.now (done ++ change ∷ drop (suc i) all) c.loop-change.replies.items c.reach.new.self =
-    ends_before f s c.args.memory.now c.args.ledger.now done c.loop-change.replies.items c.loop-change.memory c.reach.new.self c.loop-change.ledger
+    let ends : HasEnded f s c.args.memory.now c.args.control.now (done ++ change ∷ drop (suc i) all) c.loop-change.replies.items c.reach.new.self =
+    ends_before f s c.args.memory.now c.args.control.now done c.loop-change.replies.items c.loop-change.memory c.reach.new.self c.loop-change.control
     c.loop-change.invariant.answered c.loop-change.invariant.setting_is c.if-not-reach.ensures.reaches change (drop (suc i) all) c.if-not-reach.ensures.left in
-    subst (λ xs. HasEnded f s c.args.memory.now c.args.ledger.now xs c.loop-change.replies.items c.reach.new.self) (split all i change c.loop-change-test.true c.change-item.is) ends
+    subst (λ xs. HasEnded f s c.args.memory.now c.args.control.now xs c.loop-change.replies.items c.reach.new.self) (split all i change c.loop-change-test.true c.change-item.is) ends
 
 pub answer-requires : goal.answer-requires
 answer-requires g c =
@@ -54,14 +54,14 @@ returns-in_default-clause-performed g c =
     let done = take i all in
     let y = c.reach.new.self in
     let m' = c.answer.new.memory in
-    let l' = c.answer.new.ledger in
+    let l' = c.answer.new.control in
     let still = c.in_ok-reply.ensures.setting ∙ setting_stays c.loop-change.memory y c.if-not-reach.ensures.shared ∙ c.loop-change.invariant.setting_is in
-    let come : HasCome f s y c.loop-change.ledger change c.args.tries None m' l' = subst (λ came. HasCome f s y c.loop-change.ledger change c.args.tries came m' l') c.in_default.is c.in_ok-reply.ensures.replies in
-    let ends : HasEnded f s c.args.memory.now c.args.ledger.now (done ++ change ∷ drop (suc i) all) c.loop-change.replies.items m' =
-    ends_waiting f s c.args.memory.now c.args.ledger.now done c.loop-change.replies.items c.loop-change.memory y c.loop-change.ledger
+    let come : HasCome f s y c.loop-change.control change c.args.tries None m' l' = subst (λ came. HasCome f s y c.loop-change.control change c.args.tries came m' l') c.in_default.is c.in_ok-reply.ensures.replies in
+    let ends : HasEnded f s c.args.memory.now c.args.control.now (done ++ change ∷ drop (suc i) all) c.loop-change.replies.items m' =
+    ends_waiting f s c.args.memory.now c.args.control.now done c.loop-change.replies.items c.loop-change.memory y c.loop-change.control
     c.loop-change.invariant.answered c.loop-change.invariant.setting_is c.if-not-reach.ensures.reaches change (drop (suc i) all) c.args.tries m' l'
     c.loop-change.invariant.config c.if-not-reach.ensures.left still (omega (arith, items_few c.args.memory.now.schedule, c.requires.tries)) come in
-    subst (λ xs. HasEnded f s c.args.memory.now c.args.ledger.now xs c.loop-change.replies.items m') (split all i change c.loop-change-test.true c.change-item.is) ends
+    subst (λ xs. HasEnded f s c.args.memory.now c.args.control.now xs c.loop-change.replies.items m') (split all i change c.loop-change-test.true c.change-item.is) ends
 
 pub returns-then-is_stopped-clause-performed : goal.returns-then-is_stopped-clause-performed
 returns-then-is_stopped-clause-performed g c =
@@ -73,14 +73,14 @@ returns-then-is_stopped-clause-performed g c =
     let done = take i all in
     let y = c.reach.new.self in
     let m' = c.answer.new.memory in
-    let l' = c.answer.new.ledger in
+    let l' = c.answer.new.control in
     let still = c.in_ok-reply.ensures.setting ∙ setting_stays c.loop-change.memory y c.if-not-reach.ensures.shared ∙ c.loop-change.invariant.setting_is in
-    let come : HasCome f s y c.loop-change.ledger change c.args.tries (Some c.in-Some.reply) m' l' = subst (λ came. HasCome f s y c.loop-change.ledger change c.args.tries came m' l') c.in-Some.is c.in_ok-reply.ensures.replies in
-    let ends : HasEnded f s c.args.memory.now c.args.ledger.now (done ++ change ∷ drop (suc i) all) c.loop-change.replies.items m' =
-    ends_late f s c.args.memory.now c.args.ledger.now done c.loop-change.replies.items c.loop-change.memory y c.loop-change.ledger
+    let come : HasCome f s y c.loop-change.control change c.args.tries (Some c.in-Some.reply) m' l' = subst (λ came. HasCome f s y c.loop-change.control change c.args.tries came m' l') c.in-Some.is c.in_ok-reply.ensures.replies in
+    let ends : HasEnded f s c.args.memory.now c.args.control.now (done ++ change ∷ drop (suc i) all) c.loop-change.replies.items m' =
+    ends_late f s c.args.memory.now c.args.control.now done c.loop-change.replies.items c.loop-change.memory y c.loop-change.control
     c.loop-change.invariant.answered c.loop-change.invariant.setting_is c.if-not-reach.ensures.reaches change (drop (suc i) all) c.args.tries m' l'
     c.loop-change.invariant.config c.if-not-reach.ensures.left still c.in-Some.reply come (subst (IsLate f s m') c.if-is_stopped.true c.is_stopped.ensures) in
-    subst (λ xs. HasEnded f s c.args.memory.now c.args.ledger.now xs c.loop-change.replies.items m') (split all i change c.loop-change-test.true c.change-item.is) ends
+    subst (λ xs. HasEnded f s c.args.memory.now c.args.control.now xs c.loop-change.replies.items m') (split all i change c.loop-change-test.true c.change-item.is) ends
 
 pub loop-change-preserved : goal.loop-change-preserved
 loop-change-preserved g c =
@@ -92,11 +92,11 @@ loop-change-preserved g c =
     let done = take i all in
     let y = c.reach.new.self in
     let m' = c.answer.new.memory in
-    let l' = c.answer.new.ledger in
+    let l' = c.answer.new.control in
     let still = c.in_ok-reply.ensures.setting ∙ setting_stays c.loop-change.memory y c.if-not-reach.ensures.shared ∙ c.loop-change.invariant.setting_is in
-    let come : HasCome f s y c.loop-change.ledger change c.args.tries (Some c.in-Some.reply) m' l' = subst (λ came. HasCome f s y c.loop-change.ledger change c.args.tries came m' l') c.in-Some.is c.in_ok-reply.ensures.replies in
-    let more : HasAnswered f s c.args.memory.now c.args.ledger.now (done ++ change ∷ []) (c.loop-change.replies.items ++ c.in-Some.reply ∷ []) m' l' =
-    answered_more f s c.args.memory.now c.args.ledger.now done c.loop-change.replies.items c.loop-change.memory y c.loop-change.ledger
+    let come : HasCome f s y c.loop-change.control change c.args.tries (Some c.in-Some.reply) m' l' = subst (λ came. HasCome f s y c.loop-change.control change c.args.tries came m' l') c.in-Some.is c.in_ok-reply.ensures.replies in
+    let more : HasAnswered f s c.args.memory.now c.args.control.now (done ++ change ∷ []) (c.loop-change.replies.items ++ c.in-Some.reply ∷ []) m' l' =
+    answered_more f s c.args.memory.now c.args.control.now done c.loop-change.replies.items c.loop-change.memory y c.loop-change.control
     c.loop-change.invariant.answered c.loop-change.invariant.setting_is c.if-not-reach.ensures.reaches change (drop (suc i) all) c.args.tries m' l'
     c.loop-change.invariant.config c.if-not-reach.ensures.left still c.in-Some.reply come (subst (IsLate f s m') c.if-is_stopped.false c.is_stopped.ensures) in
     let ok : is_ok c.push.result ≡ true = c.is_err.ensures.negation ∙ ap not c.if-is_err.false in
@@ -105,8 +105,8 @@ loop-change-preserved g c =
     record {
       config = c.answer.ensures.config ∙ c.loop-change.invariant.config;
       setting_is = still;
-      answered = subst (λ xs. HasAnswered f s c.args.memory.now c.args.ledger.now xs c.push.new.self.items m' l') (sym (one_more all i change c.loop-change-test.true c.change-item.is))
-          (subst (λ xs. HasAnswered f s c.args.memory.now c.args.ledger.now (done ++ change ∷ []) xs m' l') (sym pushed) more);
+      answered = subst (λ xs. HasAnswered f s c.args.memory.now c.args.control.now xs c.push.new.self.items m' l') (sym (one_more all i change c.loop-change-test.true c.change-item.is))
+          (subst (λ xs. HasAnswered f s c.args.memory.now c.args.control.now (done ++ change ∷ []) xs m' l') (sym pushed) more);
     }
 
 pub returns-clause-performed : goal.returns-clause-performed
@@ -115,6 +115,6 @@ returns-clause-performed g c =
     let s = g.row.SECOND in
     let all = c.args.changes.now in
     let whole = take_all c.loop-change.change-index all (omega (arith, c.loop-change-test.false)) in
-    let ends = ends_all f s c.args.memory.now c.args.ledger.now (take c.loop-change.change-index all) c.loop-change.replies.items c.loop-change.memory c.loop-change.memory c.loop-change.ledger
+    let ends = ends_all f s c.args.memory.now c.args.control.now (take c.loop-change.change-index all) c.loop-change.replies.items c.loop-change.memory c.loop-change.memory c.loop-change.control
     c.loop-change.invariant.answered c.loop-change.invariant.setting_is (λ c' steps did. did) in
-    subst (λ xs. HasEnded f s c.args.memory.now c.args.ledger.now xs c.loop-change.replies.items c.loop-change.memory) whole ends
+    subst (λ xs. HasEnded f s c.args.memory.now c.args.control.now xs c.loop-change.replies.items c.loop-change.memory) whole ends

@@ -1,5 +1,5 @@
-use Rattle.interleave.proofs.Lawful.{openings_are_settled as law}
-use Rattle.interleave.proofs.laws.openings_are_settled.Goals as goal
+use Rattle.interleave.proofs.Lawful.{initial_states_are_settled as law}
+use Rattle.interleave.proofs.laws.initial_states_are_settled.Goals as goal
 
 pub returns : goal.returns
 returns c = law

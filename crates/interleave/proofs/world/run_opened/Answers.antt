@@ -1,10 +1,10 @@
 use Rattle.std.proofs.Common.{arith, ◌≡◌, ◌≤◌, ap, sym, subst, ◌∙◌, [], length, map}
 use Rattle.std.proofs.lemmas.List.{length-map}
-use Rattle.lpm_writer.specs.Opening.{opening_setup}
+use Rattle.lpm_writer.specs.Blank.{blank_state}
 use Rattle.lpm_writer.specs.Waiting.{tokens_of}
 use Rattle.interleave.specs.Schedule.{writer_items}
 use Rattle.interleave.specs.World.{IsPlayedOut}
-use Rattle.interleave.specs.Replies.{kept}
+use Rattle.interleave.specs.Replies.{state_by_steps}
 use Rattle.interleave.specs.Runs.{IsPerformed}
 use Rattle.interleave.proofs.Ends.{opens, nothing_yet, run_ends}
 use Rattle.interleave.proofs.world.run_opened.Goals as goal
@@ -13,8 +13,8 @@ pub answer_all-requires : goal.answer_all-requires
 answer_all-requires g c =
     let f = g.row.FIRST in
     let s = g.row.SECOND in
-    let opening = opening_setup f s c.args.ledger.now.config in
-    let did = c.in_ok-memory.ensures.did opening (opens f s c.args.ledger.now.config (length c.args.scripts.now) c.requires.workers) in
+    let opening = blank_state f s c.args.control.now.config in
+    let did = c.in_ok-memory.ensures.did opening (opens f s c.args.control.now.config (length c.args.scripts.now) c.requires.workers) in
     let all : length c.in_ok-memory.memory.schedule ≤ length c.args.schedule.now = let same = ap length c.in_ok-memory.ensures.schedule in omega (arith, same) in
     (omega arith, (omega arith, (omega arith, ((opening, did, c.requires.rests), all))))
 
@@ -22,8 +22,8 @@ pub play_out-requires : goal.play_out-requires
 play_out-requires g c =
     let f = g.row.FIRST in
     let s = g.row.SECOND in
-    let opening = opening_setup f s c.args.ledger.now.config in
-    let did = c.in_ok-memory.ensures.did opening (opens f s c.args.ledger.now.config (length c.args.scripts.now) c.requires.workers) in
+    let opening = blank_state f s c.args.control.now.config in
+    let did = c.in_ok-memory.ensures.did opening (opens f s c.args.control.now.config (length c.args.scripts.now) c.requires.workers) in
     let performed = c.in_ok-replies.ensures.performed opening did c.requires.rests in
     (omega arith, (opening, performed.0, performed.1))
 
@@ -31,9 +31,9 @@ pub returns-clause-runs : goal.returns-clause-runs
 returns-clause-runs g c =
     let f = g.row.FIRST in
     let s = g.row.SECOND in
-    let config = c.args.ledger.now.config in
-    let opening = opening_setup f s config in
-    let ledger = c.args.ledger.now in
+    let config = c.args.control.now.config in
+    let opening = blank_state f s config in
+    let control = c.args.control.now in
     let told = c.requires in
     let scripts = map (λ script. script.items) c.args.scripts.now in
     let schedule = c.args.schedule.now in
@@ -44,9 +44,9 @@ returns-clause-runs g c =
     let played = c.play_out.ensures.played opening done.0 done.1 in
     let scripts_are : z.scripts ≡ scripts = c.play_out.ensures.shared.scripts ∙ ap (λ x. x.0) same ∙ c.in_ok-memory.ensures.scripts in
     let schedule_is : z.schedule ≡ schedule = c.play_out.ensures.shared.schedule ∙ ap (λ x. x.1) same ∙ c.in_ok-memory.ensures.schedule in
-    let start : kept ledger.rules [] ledger.books ledger.versions ≡ _ = nothing_yet ledger.rules.rules (tokens_of ledger.books.queue.items) ledger.versions told.rules (ap tokens_of told.queue) told.versions in
+    let start : state_by_steps control.rules [] control.pool control.versions ≡ _ = nothing_yet control.rules.rules (tokens_of control.pool.queue.items) control.versions told.rules (ap tokens_of told.queue) told.versions in
     let performed = done.2 in
-    let performed' = subst (λ x. IsPerformed opening f s config (writer_items x) (kept ledger.rules [] ledger.books ledger.versions) c.args.changes.now c.in_ok-replies.replies.items done.0) c.in_ok-memory.ensures.schedule performed in
+    let performed' = subst (λ x. IsPerformed opening f s config (writer_items x) (state_by_steps control.rules [] control.pool control.versions) c.args.changes.now c.in_ok-replies.replies.items done.0) c.in_ok-memory.ensures.schedule performed in
     let performed'' = subst (λ x. IsPerformed opening f s config (writer_items schedule) x c.args.changes.now c.in_ok-replies.replies.items done.0) start performed' in
     let out = subst (λ x. IsPlayedOut opening x z.schedule done.0 z.steps z.seen) scripts_are played in
     let out' = subst (λ x. IsPlayedOut opening scripts x done.0 z.steps z.seen) schedule_is out in

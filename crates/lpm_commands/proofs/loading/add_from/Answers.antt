@@ -1,7 +1,7 @@
 use Rattle.std.proofs.Common.{◌∙◌, arith, refl, subst, ◌<◌, length, Ok}
 use Rattle.lpm_limits.specs.declared.config.Config.{Config}
 use Rattle.fib_model.specs.Outcomes.{Adds}
-use Rattle.fib_model.specs.Counting.{counting}
+use Rattle.fib_model.specs.Counting.{counter_transitions}
 use Rattle.lpm_commands.proofs.Loaded.{take_read, loaded_more, first_refused, refused_ends}
 use Rattle.lpm_commands.proofs.loading.add_from.Goals as goal
 
@@ -11,7 +11,7 @@ loop-index-preserved c =
     let r = c.index-routes-index.result in
     let within : c.loop-index.index < length c.args.routes.now = omega arith in
     let config = c.loop-index.invariant.config in
-    let adds = subst (λ (x : Config). Adds counting 24 8 x c.loop-index.table.table r.prefix r.hop (Ok c.in-Ok.field-0) c.add.new.self.table) config c.in-Ok.ensures.adds in
+    let adds = subst (λ (x : Config). Adds counter_transitions 24 8 x c.loop-index.table.table r.prefix r.hop (Ok c.in-Ok.field-0) c.add.new.self.table) config c.in-Ok.ensures.adds in
     record {
       config = c.in-Ok.ensures.config ∙ config;
       loaded = rw (take_read c.args.routes.now c.loop-index.index r within c.index-routes-index.is) (loaded_more limits _ _ _ r c.in-Ok.field-0 c.loop-index.invariant.loaded adds);

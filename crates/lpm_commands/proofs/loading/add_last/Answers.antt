@@ -3,7 +3,7 @@ use Rattle.lpm_limits.specs.declared.config.Config.{Config}
 use Rattle.lpm_rules.specs.RuleMap.{RuleMap}
 use Rattle.lpm_rules.specs.Listed.{with_rules}
 use Rattle.fib_model.specs.Outcomes.{Adds}
-use Rattle.fib_model.specs.Counting.{counting}
+use Rattle.fib_model.specs.Counting.{counter_transitions}
 use Rattle.lpm_commands.proofs.Loaded.{added_rules}
 use Rattle.lpm_commands.proofs.Filled.{filled_more}
 use Rattle.lpm_commands.proofs.Sorted.{put_in}
@@ -20,7 +20,7 @@ loop-index-preserved c =
     let put = c.in_ok-add.field-0 in
     let inv = c.loop-index.invariant in
     let within : i < length list = omega arith in
-    let adds = subst (λ (x : Config). Adds counting 24 8 x s r.prefix r.hop (Ok put) z) inv.config c.in_ok-add.ensures.adds in
+    let adds = subst (λ (x : Config). Adds counter_transitions 24 8 x s r.prefix r.hop (Ok put) z) inv.config c.in_ok-add.ensures.adds in
     record {
       config = c.in_ok-add.ensures.config ∙ inv.config;
       filled = filled_more limits s z r.prefix r.hop put inv.filled adds;

@@ -1,13 +1,13 @@
 use Rattle.std.proofs.Common.{◌∙◌, ap, sym, arith}
 use Rattle.qsbr.specs.Registry.{Registry}
-use Rattle.shared_fib.specs.Running.{opens_with}
+use Rattle.shared_fib.specs.Running.{initial_writer}
 use Rattle.lpm_commands.proofs.Storms.{versions_within}
 use Rattle.lpm_commands.proofs.loading.open_for_changes.Goals as goal
 
 pub returns-clause-opened : goal.returns-clause-opened
 returns-clause-opened c =
     let is = c.in-Ok.ensures in
-    c.in_ok-table.ensures.opened ∙ (λ i. opens_with c.in_ok-table.table (is.config i) (is.loaded.rules i))
+    c.in_ok-table.ensures.opened ∙ (λ i. initial_writer c.in_ok-table.table (is.config i) (is.loaded.rules i))
 
 pub returns-clause-token : goal.returns-clause-token
 returns-clause-token c =

@@ -4,7 +4,7 @@ use Rattle.std.proofs.lemmas.Grind.{common_steps}
 use Rattle.lpm_cells.specs.declared.entry.Entry.TheVariants.{Group}
 use Rattle.lpm_cells.specs.Words.{word_of}
 use Rattle.lpm_update.proofs.Places.{word_entry}
-use Rattle.lpm_sweep.specs.Frames.{held, word_at}
+use Rattle.lpm_sweep.specs.Frames.{word_by_frames, word_at}
 use Rattle.lpm_rules.specs.Listed.{prefix_at, rules_of}
 use Rattle.lpm_sweep.specs.Swept.{IsSwept, AreNumbered}
 use Rattle.lpm_sweep.proofs.Stacks.{under_end}
@@ -33,9 +33,9 @@ fill_group-requires g c =
     let narrow = pow_below s 32 (omega (arith, shape)) in
     let size = mul-le n (2 ^ s) 65536 (2 ^ 32) (omega (arith, few)) (omega (arith, narrow)) in
     let top = c.advance.new.self.top in
-    let over : held c.advance.new.self b ≡ top.word = under_end top b (word_at c.advance.new.self.rest c.advance.new.self.below.items b) c.in_ok-advance.ensures.top in
+    let over : word_by_frames c.advance.new.self b ≡ top.word = under_end top b (word_at c.advance.new.self.rest c.advance.new.self.below.items b) c.in_ok-advance.ensures.top in
     let long : length (items c.advance.new.words) ≡ b = c.in_ok-advance.ensures.len in
-    let swept = swept_on f s n (rules_of (take c.args.from rs)) (items c.args.firsts.now) (items c.advance.new.words) (items c.args.seconds.now) (held c.args.outer.now) (held c.advance.new.self)
+    let swept = swept_on f s n (rules_of (take c.args.from rs)) (items c.args.firsts.now) (items c.advance.new.words) (items c.args.seconds.now) (word_by_frames c.args.outer.now) (word_by_frames c.advance.new.self)
     (omega (arith, long, low))
     c.in_ok-advance.ensures.fills
     (λ k l. c.in_ok-advance.ensures.frames k (omega (arith, l, long)))
@@ -55,7 +55,7 @@ fill_group-requires g c =
                   block,
                   (
                     c.requires.before,
-                    starts f s n b (rules_of (take c.args.from rs)) (items c.advance.new.words) (items c.args.seconds.now) (held c.advance.new.self) (held c.reset.new.self) low long (λ k. c.reset.ensures k ∙ sym over) swept,
+                    starts f s n b (rules_of (take c.args.from rs)) (items c.advance.new.words) (items c.args.seconds.now) (word_by_frames c.advance.new.self) (word_by_frames c.reset.new.self) low long (λ k. c.reset.ensures k ∙ sym over) swept,
                   ),
                 ),
               ),
@@ -78,7 +78,7 @@ returns-clause-swept g c =
     let long : length (items c.advance.new.words) ≡ b = c.in_ok-advance.ensures.len in
     let R = rules_of (take c.args.from rs) in
     let Q = rules_of (take c.in_ok-next.next rs) in
-    let swept = swept_on f s n R (items c.args.firsts.now) (items c.advance.new.words) (items c.args.seconds.now) (held c.args.outer.now) (held c.advance.new.self)
+    let swept = swept_on f s n R (items c.args.firsts.now) (items c.advance.new.words) (items c.args.seconds.now) (word_by_frames c.args.outer.now) (word_by_frames c.advance.new.self)
     (omega (arith, long, low))
     c.in_ok-advance.ensures.fills
     (λ k l. c.in_ok-advance.ensures.frames k (omega (arith, l, long)))
@@ -87,9 +87,9 @@ returns-clause-swept g c =
     let used : c.len.result ≡ n = grind (arith, common_steps) in
     let word : c.to_word-link.result ≡ word_of (Group n) = c.to_word-link.ensures.value ∙ ap (λ x. word_of (Group x)) used in
     let count : length c.push.new.self.items ≡ n + 1 = ap {B = ℕ} (λ l. length l) c.in_ok-push.ensures.items ∙ last_length c.args.blocks.now.items b in
-    subst (λ m. IsSwept f s m Q (record { firsts = items c.fill.new.self; seconds = items c.fill_group.new.words }) (held c.advance.new.self)) (sym count)
-    (subst (λ (F : List ℕ). IsSwept f s (n + 1) Q (record { firsts = F; seconds = items c.fill_group.new.words }) (held c.advance.new.self)) (sym put)
-    (swept_group f s n b R Q (items c.advance.new.words) (items c.args.seconds.now) (items c.fill_group.new.words) (held c.advance.new.self) (held c.fill_group.new.frames) c.to_word-link.result
+    subst (λ m. IsSwept f s m Q (record { firsts = items c.fill.new.self; seconds = items c.fill_group.new.words }) (word_by_frames c.advance.new.self)) (sym count)
+    (subst (λ (F : List ℕ). IsSwept f s (n + 1) Q (record { firsts = F; seconds = items c.fill_group.new.words }) (word_by_frames c.advance.new.self)) (sym put)
+    (swept_group f s n b R Q (items c.advance.new.words) (items c.args.seconds.now) (items c.fill_group.new.words) (word_by_frames c.advance.new.self) (word_by_frames c.fill_group.new.frames) c.to_word-link.result
     low long (omega (arith, few)) word c.in_ok-next.ensures.len c.in_ok-next.ensures.kept c.in_ok-next.ensures.filled c.in_ok-next.ensures.deep swept))
 
 pub returns-clause-deep : goal.returns-clause-deep
@@ -124,7 +124,7 @@ returns-clause-numbered g c =
     subst (λ (x : List ℕ). AreNumbered x c.push.new.self.items) (sym put)
     (subst (λ (x : List ℕ). AreNumbered (F ++ c.to_word-link.result ∷ []) x) (sym c.in_ok-push.ensures.items)
     (numbered_group f b n c.to_word-link.result F B long refl (word_entry (f + s) c.to_word-link.result (Group n) small word)
-    (numbered_on f s n (rules_of (take c.args.from rs)) (items c.args.firsts.now) F (items c.args.seconds.now) (held c.args.outer.now) (held c.advance.new.self)
+    (numbered_on f s n (rules_of (take c.args.from rs)) (items c.args.firsts.now) F (items c.args.seconds.now) (word_by_frames c.args.outer.now) (word_by_frames c.advance.new.self)
     (omega (arith, long, low))
     c.in_ok-advance.ensures.fills
     (λ k l. c.in_ok-advance.ensures.frames k (omega (arith, l, long)))

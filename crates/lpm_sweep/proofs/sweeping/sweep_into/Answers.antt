@@ -12,7 +12,7 @@ use Rattle.lpm_rules.proofs.DeepChanges.{deep_blocks_empty, deep_blocks_insert_s
 use Rattle.lpm_update.proofs.Places.{block_low}
 use Rattle.lpm_update.specs.Represents.{Represents}
 use Rattle.std.proofs.lemmas.Grind.{common_steps}
-use Rattle.lpm_sweep.specs.Frames.{held}
+use Rattle.lpm_sweep.specs.Frames.{word_by_frames}
 use Rattle.lpm_rules.specs.Listed.{place, prefix_at, rules_of, AllUpTo}
 use Rattle.lpm_sweep.specs.Swept.{IsSwept, AreNumbered}
 use Rattle.lpm_rules.proofs.Listed.{up_to_insert, up_to_more, prefix_read, rules_more}
@@ -35,10 +35,10 @@ loop-next-init g c =
       numbered = subst (λ (F : List ℕ). AreNumbered F c.new-blocks.result.items) (sym none) (subst (λ (B : List ℕ). AreNumbered [] B) (sym c.new-blocks.ensures.items) numbered_none);
       reached = λ k l h. subst (λ (F : List ℕ). length F * 2 ^ s * 64 ≤ place (prefix_at c.args.rules.now k)) (sym none) (omega arith);
       before = λ k l h q some. absurd (not_some (get-empty network_cmp q) some);
-      swept = subst (λ m. IsSwept f s m empty (record { firsts = items c.args.firsts.now; seconds = items c.args.seconds.now }) (held c.new-outer.result)) (sym (ap {B = ℕ} (λ l. length l) c.new-blocks.ensures.items))
-          (subst (λ (F : List ℕ). IsSwept f s 0 empty (record { firsts = F; seconds = items c.args.seconds.now }) (held c.new-outer.result)) (sym none)
-          (subst (λ (S : List ℕ). IsSwept f s 0 empty (record { firsts = []; seconds = S }) (held c.new-outer.result)) (sym c.requires.no_seconds)
-          (swept_none f s (held c.new-outer.result) (λ k. c.new-outer.ensures k ∙ c.to_word-miss.ensures.value))));
+      swept = subst (λ m. IsSwept f s m empty (record { firsts = items c.args.firsts.now; seconds = items c.args.seconds.now }) (word_by_frames c.new-outer.result)) (sym (ap {B = ℕ} (λ l. length l) c.new-blocks.ensures.items))
+          (subst (λ (F : List ℕ). IsSwept f s 0 empty (record { firsts = F; seconds = items c.args.seconds.now }) (word_by_frames c.new-outer.result)) (sym none)
+          (subst (λ (S : List ℕ). IsSwept f s 0 empty (record { firsts = []; seconds = S }) (word_by_frames c.new-outer.result)) (sym c.requires.no_seconds)
+          (swept_none f s (word_by_frames c.new-outer.result) (λ k. c.new-outer.ensures k ∙ c.to_word-miss.ensures.value))));
     }
 
 pub put_short-requires : goal.put_short-requires
@@ -83,7 +83,7 @@ loop-next-preserved-then-len g c =
       reached = λ k l h. let z = next k l h in omega (arith, z, low);
       before = λ k l h. subst (λ (x : RuleMap). AllUpTo x (place (prefix_at rs k))) (sym more)
           (up_to_more (insert R p r.hop) (place p) (place (prefix_at rs k)) (next k l h) (up_to_insert R p r.hop before));
-      swept = subst (λ (x : RuleMap). IsSwept f s (length c.loop-next.blocks.items) x (record { firsts = items c.put_short.new.words; seconds = items c.loop-next.seconds }) (held c.put_short.new.frames)) (sym more)
+      swept = subst (λ (x : RuleMap). IsSwept f s (length c.loop-next.blocks.items) x (record { firsts = items c.put_short.new.words; seconds = items c.loop-next.seconds }) (word_by_frames c.put_short.new.frames)) (sym more)
           (c.in_ok-put_short.ensures.swept (length c.loop-next.blocks.items) R (items c.loop-next.seconds) before inv.swept);
     }
 
@@ -140,8 +140,8 @@ returns-clause-represents g c =
     let long : length (items c.advance.new.words) ≡ 2 ^ f = c.in_ok-advance.ensures.len ∙ size in
     let all : take n rs ≡ rs = take_all n rs c.loop-next-test.false in
     subst (λ (l : List (Rule f s)). Represents f s (rules_of l) (record { firsts = items c.advance.new.words; seconds = items c.loop-next.seconds })) all
-    (swept_all f s (length c.loop-next.blocks.items) (rules_of (take n rs)) (items c.advance.new.words) (items c.loop-next.seconds) (held c.advance.new.self) long
-    (swept_on f s (length c.loop-next.blocks.items) (rules_of (take n rs)) (items c.loop-next.firsts) (items c.advance.new.words) (items c.loop-next.seconds) (held c.loop-next.outer) (held c.advance.new.self)
+    (swept_all f s (length c.loop-next.blocks.items) (rules_of (take n rs)) (items c.advance.new.words) (items c.loop-next.seconds) (word_by_frames c.advance.new.self) long
+    (swept_on f s (length c.loop-next.blocks.items) (rules_of (take n rs)) (items c.loop-next.firsts) (items c.advance.new.words) (items c.loop-next.seconds) (word_by_frames c.loop-next.outer) (word_by_frames c.advance.new.self)
     (omega (arith, long))
     c.in_ok-advance.ensures.fills
     (λ k l. c.in_ok-advance.ensures.frames k (omega (arith, l, c.in_ok-advance.ensures.len)))
@@ -158,7 +158,7 @@ returns-clause-numbered g c =
     let fits = c.requires.shape in
     let size : 1 * 2 ^ f % 18446744073709551616 ≡ 2 ^ f = one_shl f 64 (omega (arith, fits)) in
     let long : length (items c.advance.new.words) ≡ 2 ^ f = c.in_ok-advance.ensures.len ∙ size in
-    numbered_on f s n (rules_of (take c.loop-next.next rs)) (items c.loop-next.firsts) (items c.advance.new.words) (items c.loop-next.seconds) (held c.loop-next.outer) (held c.advance.new.self)
+    numbered_on f s n (rules_of (take c.loop-next.next rs)) (items c.loop-next.firsts) (items c.advance.new.words) (items c.loop-next.seconds) (word_by_frames c.loop-next.outer) (word_by_frames c.advance.new.self)
     (omega (arith, long))
     c.in_ok-advance.ensures.fills
     (λ k l. c.in_ok-advance.ensures.frames k (omega (arith, l, c.in_ok-advance.ensures.len)))

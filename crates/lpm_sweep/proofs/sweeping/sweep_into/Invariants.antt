@@ -1,7 +1,7 @@
 use Rattle.std.proofs.Common.{◌≡◌, ℕ, ◌-◌, ◌*◌, ◌^◌, ◌<◌, ◌≤◌, length, take}
 use Rattle.std.specs.FinSet as set
 use Rattle.lpm_rules.specs.Deep.{deep_blocks}
-use Rattle.lpm_sweep.specs.Frames.{held}
+use Rattle.lpm_sweep.specs.Frames.{word_by_frames}
 use Rattle.lpm_rules.specs.Listed.{AllUpTo, place, prefix_at, rules_of}
 use Rattle.lpm_sweep.specs.Swept.{IsSwept, AreNumbered}
 use Rattle.lpm_sweep.proofs.sweeping.sweep_into.Given as goal
@@ -16,7 +16,7 @@ invariant-loop-next g l =
       numbered : AreNumbered (items l.firsts) l.blocks.items;
       reached : (k : ℕ) → l.next ≤ k → k < length l.rules → length (items l.firsts) * 2 ^ g.row.SECOND * 64 ≤ place (prefix_at l.rules k);
       before : (k : ℕ) → l.next ≤ k → k < length l.rules → AllUpTo (rules_of (take l.next l.rules)) (place (prefix_at l.rules k));
-      swept : IsSwept g.row.FIRST g.row.SECOND (length l.blocks.items) (rules_of (take l.next l.rules)) (record { firsts = items l.firsts; seconds = items l.seconds }) (held l.outer);
+      swept : IsSwept g.row.FIRST g.row.SECOND (length l.blocks.items) (rules_of (take l.next l.rules)) (record { firsts = items l.firsts; seconds = items l.seconds }) (word_by_frames l.outer);
     }
 
 abbrev pub decreases-loop-next : goal.decreases-loop-next

@@ -11,11 +11,11 @@ start-requires-clause-may g c =
 pub returns-clause-starts : goal.returns-clause-starts
 returns-clause-starts g c = λ setup steps did rest.
     let met = g.met.M.Memory in
-    let l = c.args.ledger.now in
+    let l = c.args.control.now in
     let m = c.args.memory.now in
     let z = c.start.new.self in (
       BumpToken ∷ steps,
       met.follows m BumpToken z setup steps c.start.ensures.does did (may_start setup steps rest.between),
       (c.start.ensures.does, refl),
-      waits_started g.row.FIRST g.row.SECOND setup l.config l.rules l.books l.versions steps (met.written m setup steps did) rest,
+      waits_started g.row.FIRST g.row.SECOND setup l.config l.rules l.pool l.versions steps (met.written m setup steps did) rest,
     )

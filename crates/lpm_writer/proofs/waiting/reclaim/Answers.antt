@@ -10,7 +10,7 @@ use Rattle.lpm_writer.proofs.waiting.reclaim.Goals as goal
 
 pub loop-freed-init : goal.loop-freed-init
 loop-freed-init g c =
-    let x = c.args.books.now in
+    let x = c.args.pool.now in
     record {
       at_most = omega arith;
       within = omega arith;
@@ -23,8 +23,8 @@ loop-freed-init g c =
 
 pub check-requires : goal.check-requires
 check-requires g c =
-    let x = c.args.books.now in
-    let y = c.loop-freed.books in
+    let x = c.args.pool.now in
+    let y = c.loop-freed.pool in
     let known = c.loop-freed.invariant in
     let k = c.requires.kept in
     let now = known.freed k.0 k.1 k.2 k.3 k.4 k.5 k.6 in
@@ -40,8 +40,8 @@ check-requires g c =
 
 pub returns-in-Err-clause-reclaims : goal.returns-in-Err-clause-reclaims
 returns-in-Err-clause-reclaims g c =
-    let x = c.args.books.now in
-    let y = c.loop-freed.books in
+    let x = c.args.pool.now in
+    let y = c.loop-freed.pool in
     let known = c.loop-freed.invariant in
     one_held g.M.Memory.did g.M.Memory.does c.args.memory.now x.groups x.queue.items x.passed c.loop-freed.freed c.loop-freed.memory y.groups y.queue.items y.passed known.freed
     c.in-Some.group c.in-Some.token (drop 1 y.queue.items) c.in-Some.ensures.rest c.check.new.memory c.check.new.passed c.check.result c.check.ensures.checks c.in-Err.busy c.in-Err.is
@@ -50,17 +50,17 @@ returns-in-Err-clause-reclaims g c =
 pub returns-in-Err-clause-freed : goal.returns-in-Err-clause-freed
 returns-in-Err-clause-freed g c =
     let known = c.loop-freed.invariant in
-    subst (λ ys. IsFreed c.args.books.now.groups c.args.books.now.queue.items c.loop-freed.freed ys) (sym known.states) (is_freed c.loop-freed.freed c.args.books.now.queue.items c.args.books.now.groups known.within c.requires.waiting)
+    subst (λ ys. IsFreed c.args.pool.now.groups c.args.pool.now.queue.items c.loop-freed.freed ys) (sym known.states) (is_freed c.loop-freed.freed c.args.pool.now.queue.items c.args.pool.now.groups known.within c.requires.waiting)
 
 pub release-requires : goal.release-requires
 release-requires g c =
-    let y = c.loop-freed.books in
+    let y = c.loop-freed.pool in
     (subst (AreWaiting y.groups) c.in-Some.ensures.rest c.loop-freed.invariant.waiting).0
 
 pub loop-freed-preserved : goal.loop-freed-preserved
 loop-freed-preserved g c =
-    let x = c.args.books.now in
-    let y = c.loop-freed.books in
+    let x = c.args.pool.now in
+    let y = c.loop-freed.pool in
     let known = c.loop-freed.invariant in
     let items = x.queue.items in
     let now = y.queue.items in
@@ -83,8 +83,8 @@ loop-freed-preserved g c =
 
 pub returns-after-loop-freed-clause-reclaims : goal.returns-after-loop-freed-clause-reclaims
 returns-after-loop-freed-clause-reclaims g c =
-    let x = c.args.books.now in
-    let y = c.loop-freed.books in
+    let x = c.args.pool.now in
+    let y = c.loop-freed.pool in
     let known = c.loop-freed.invariant in
     all_freed g.M.Memory.did g.M.Memory.does c.args.memory.now x.groups x.queue.items x.passed c.loop-freed.freed c.args.max c.loop-freed.memory y.groups y.queue.items y.passed known.freed
     known.at_most (inl (omega (arith, known.at_most, c.loop-freed-test.false)))
@@ -92,12 +92,12 @@ returns-after-loop-freed-clause-reclaims g c =
 pub returns-after-loop-freed-clause-freed : goal.returns-after-loop-freed-clause-freed
 returns-after-loop-freed-clause-freed g c =
     let known = c.loop-freed.invariant in
-    subst (λ ys. IsFreed c.args.books.now.groups c.args.books.now.queue.items c.loop-freed.freed ys) (sym known.states) (is_freed c.loop-freed.freed c.args.books.now.queue.items c.args.books.now.groups known.within c.requires.waiting)
+    subst (λ ys. IsFreed c.args.pool.now.groups c.args.pool.now.queue.items c.loop-freed.freed ys) (sym known.states) (is_freed c.loop-freed.freed c.args.pool.now.queue.items c.args.pool.now.groups known.within c.requires.waiting)
 
 pub returns-in_default-clause-reclaims : goal.returns-in_default-clause-reclaims
 returns-in_default-clause-reclaims g c =
-    let x = c.args.books.now in
-    let y = c.loop-freed.books in
+    let x = c.args.pool.now in
+    let y = c.loop-freed.pool in
     let known = c.loop-freed.invariant in
     all_freed g.M.Memory.did g.M.Memory.does c.args.memory.now x.groups x.queue.items x.passed c.loop-freed.freed c.args.max c.loop-freed.memory y.groups y.queue.items y.passed known.freed
     known.at_most (inr (search rules))
@@ -105,19 +105,19 @@ returns-in_default-clause-reclaims g c =
 pub returns-in_default-clause-freed : goal.returns-in_default-clause-freed
 returns-in_default-clause-freed g c =
     let known = c.loop-freed.invariant in
-    subst (λ ys. IsFreed c.args.books.now.groups c.args.books.now.queue.items c.loop-freed.freed ys) (sym known.states) (is_freed c.loop-freed.freed c.args.books.now.queue.items c.args.books.now.groups known.within c.requires.waiting)
+    subst (λ ys. IsFreed c.args.pool.now.groups c.args.pool.now.queue.items c.loop-freed.freed ys) (sym known.states) (is_freed c.loop-freed.freed c.args.pool.now.queue.items c.args.pool.now.groups known.within c.requires.waiting)
 
 pub returns-in-Err-clause-unchanged : goal.returns-in-Err-clause-unchanged
 returns-in-Err-clause-unchanged g c = λ none.
-    let x = c.args.books.now in
+    let x = c.args.pool.now in
     c.loop-freed.invariant.states ∙ ap (λ n. freed_states n x.queue.items x.groups) none
 
 pub returns-after-loop-freed-clause-unchanged : goal.returns-after-loop-freed-clause-unchanged
 returns-after-loop-freed-clause-unchanged g c = λ none.
-    let x = c.args.books.now in
+    let x = c.args.pool.now in
     c.loop-freed.invariant.states ∙ ap (λ n. freed_states n x.queue.items x.groups) none
 
 pub returns-in_default-clause-unchanged : goal.returns-in_default-clause-unchanged
 returns-in_default-clause-unchanged g c = λ none.
-    let x = c.args.books.now in
+    let x = c.args.pool.now in
     c.loop-freed.invariant.states ∙ ap (λ n. freed_states n x.queue.items x.groups) none

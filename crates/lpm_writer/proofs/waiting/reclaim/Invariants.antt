@@ -7,13 +7,13 @@ use Rattle.lpm_writer.proofs.waiting.reclaim.Given as goal
 abbrev pub invariant-loop-freed : goal.invariant-loop-freed
 invariant-loop-freed g l = record {
   at_most : l.freed ≤ l.max;
-  within : l.freed ≤ length l.fn.books.queue.items;
-  left : l.books.queue.items ≡ drop l.freed l.fn.books.queue.items;
-  capacity : l.books.queue.capacity ≡ l.fn.books.queue.capacity;
-  waiting : AreWaiting l.books.groups l.books.queue.items;
-  states : l.books.groups ≡ freed_states l.freed l.fn.books.queue.items l.fn.books.groups;
-  freed : HasFreed g.M.Memory.did g.M.Memory.does l.fn.memory l.fn.books.groups l.fn.books.queue.items l.fn.books.passed
-      l.freed l.memory l.books.groups l.books.queue.items l.books.passed;
+  within : l.freed ≤ length l.fn.pool.queue.items;
+  left : l.pool.queue.items ≡ drop l.freed l.fn.pool.queue.items;
+  capacity : l.pool.queue.capacity ≡ l.fn.pool.queue.capacity;
+  waiting : AreWaiting l.pool.groups l.pool.queue.items;
+  states : l.pool.groups ≡ freed_states l.freed l.fn.pool.queue.items l.fn.pool.groups;
+  freed : HasFreed g.M.Memory.did g.M.Memory.does l.fn.memory l.fn.pool.groups l.fn.pool.queue.items l.fn.pool.passed
+      l.freed l.memory l.pool.groups l.pool.queue.items l.pool.passed;
 }
 
 abbrev pub decreases-loop-freed : goal.decreases-loop-freed

@@ -7,7 +7,7 @@ returns-in-Ok-new c =
     let known = c.in-Ok.ensures in
     subst (IsOpened c.args.config) (sym c.in-Ok-new.ensures.ok) (record {
       opened = known.opened;
-      setup = known.opening;
+      setup = known.initial;
       token = known.token;
       workers = known.workers;
       at_rest = known.at_rest;

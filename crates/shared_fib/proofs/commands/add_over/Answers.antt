@@ -1,9 +1,9 @@
 use Rattle.std.proofs.Common.{◌≡◌, ap, List}
 use Rattle.lpm_trace.specs.declared.step.WriterStep.{WriterStep}
-use Rattle.lpm_trace.specs.Tables.{Setup}
+use Rattle.lpm_trace.specs.States.{InitialState}
 use Rattle.fib_model.specs.Outcomes.{Adds}
 use Rattle.lpm_writer.specs.Resting.{IsResting, state_of}
-use Rattle.shared_words.specs.Opened.{setup_of}
+use Rattle.shared_words.specs.Initial.{initial_state_of}
 use Rattle.shared_fib.specs.Lent.{Lent}
 use Rattle.shared_fib.specs.Running.{by_steps}
 use Rattle.shared_fib.specs.Taking.{TakesLeast}
@@ -16,26 +16,26 @@ unfolding by_steps
 returns g c =
     let f = g.row.FIRST in
     let s = g.row.SECOND in
-    let old = c.args.ledger.now in
-    let new = c.add.new.ledger in
+    let old = c.args.control.now in
+    let new = c.add.new.control in
     let m : Lent = c.args.memory.now in
     let z : Lent = c.add.new.memory in
-    let setup : Setup = setup_of m.view.opening in
+    let setup : InitialState = initial_state_of m.view.initial in
     let came = c.add.ensures.adds setup m.view.seen c.requires.did c.requires.rests in
     let all = added f s setup old.config m z m.view.seen came.0
-    old.rules.rules new.rules.rules old.books new.books old.versions new.versions
+    old.rules.rules new.rules.rules old.pool new.pool old.versions new.versions
     c.args.prefix.now c.args.hop c.add.result came.3 in
     let same : kept z ≡ kept m = all.1 in
-    let Outcome : List WriterStep → Type 0 = λ later. Adds (by_steps m.view.opening) f s old.config
-    (state_of old.rules.rules m.view.seen old.books old.versions) c.args.prefix.now c.args.hop c.add.result
-    (state_of new.rules.rules later new.books new.versions) in
-    let Least : List WriterStep → Type 0 = λ later. TakesLeast m.view.opening
-    (state_of old.rules.rules m.view.seen old.books old.versions)
-    (state_of new.rules.rules later new.books new.versions) in
-    let least = takes_least f s m.view.opening m.view.seen came.0 old.config new.config old.rules new.rules
-    old.books new.books old.versions new.versions c.requires.rests came.2 c.add.ensures.least in
-    let Rests : Setup → List WriterStep → Type 0 = λ by later.
-    IsResting f s by later new.config new.rules new.books new.versions in
+    let Outcome : List WriterStep → Type 0 = λ later. Adds (by_steps m.view.initial) f s old.config
+    (state_of old.rules.rules m.view.seen old.pool old.versions) c.args.prefix.now c.args.hop c.add.result
+    (state_of new.rules.rules later new.pool new.versions) in
+    let Least : List WriterStep → Type 0 = λ later. TakesLeast m.view.initial
+    (state_of old.rules.rules m.view.seen old.pool old.versions)
+    (state_of new.rules.rules later new.pool new.versions) in
+    let least = takes_least f s m.view.initial m.view.seen came.0 old.config new.config old.rules new.rules
+    old.pool new.pool old.versions new.versions c.requires.rests came.2 c.add.ensures.least in
+    let Rests : InitialState → List WriterStep → Type 0 = λ by later.
+    IsResting f s by later new.config new.rules new.pool new.versions in
     record {
       adds = outcome_after Outcome z setup came.0 came.1 all.0;
       least = outcome_after Least z setup came.0 came.1 least;

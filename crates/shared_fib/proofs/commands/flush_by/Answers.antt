@@ -2,7 +2,7 @@ use Rattle.std.proofs.Common.{◌≡◌, refl, rules}
 use Rattle.fib_model.specs.Outcomes.{Flushes}
 use Rattle.lpm_writer.specs.Resting.{state_of}
 use Rattle.shared_words.specs.declared.view.View.{View}
-use Rattle.shared_words.specs.Opened.{setup_of}
+use Rattle.shared_words.specs.Initial.{initial_state_of}
 use Rattle.shared_fib.specs.Running.{OnlySees, by_steps}
 use Rattle.shared_fib.proofs.Checked.{looked, frees_checked}
 use Rattle.shared_fib.proofs.Freed.{flushes_leave}
@@ -14,8 +14,8 @@ pub returns-clause-flushes : goal.returns-clause-flushes
 returns-clause-flushes g c =
     let f = g.row.FIRST in
     let d = g.row.SECOND in
-    let old = c.args.ledger.now in
-    let new = c.flush_over-came.new.ledger in
+    let old = c.args.control.now in
+    let new = c.flush_over-came.new.control in
     let came = c.flush_over-came.result in
     let m : View = c.new-memory.result.view in
     let n : View = c.flush_over-came.new.memory.view in
@@ -23,28 +23,28 @@ returns-clause-flushes g c =
     let w : View = c.seat-1.given.0.view in
     let before : m ≡ v = search rules in
     let then : n ≡ w = search rules in
-    by_seat (λ x y. Flushes (by_steps x.opening) f d old.config (state_of old.rules.rules x.seen old.books old.versions) came
-    (state_of new.rules.rules y.seen new.books new.versions)) m n v w before then c.flush_over-came.ensures.flushes
+    by_seat (λ x y. Flushes (by_steps x.initial) f d old.config (state_of old.rules.rules x.seen old.pool old.versions) came
+    (state_of new.rules.rules y.seen new.pool new.versions)) m n v w before then c.flush_over-came.ensures.flushes
 
 pub returns-clause-checked : goal.returns-clause-checked
 unfolding by_steps
 returns-clause-checked g c =
     let f = g.row.FIRST in
     let d = g.row.SECOND in
-    let old = c.args.ledger.now in
-    let new = c.flush_over-came.new.ledger in
+    let old = c.args.control.now in
+    let new = c.flush_over-came.new.control in
     let v : View = c.args.seat.now.view in
     let w : View = c.seat-1.given.0.view in
-    let s = state_of old.rules.rules v.seen old.books old.versions in
-    let z = state_of new.rules.rules w.seen new.books new.versions in
+    let s = state_of old.rules.rules v.seen old.pool old.versions in
+    let z = state_of new.rules.rules w.seen new.pool new.versions in
     let came = c.flush_over-came.result in
     let outcome = returns-clause-flushes g c in
     let sees : OnlySees v w = search rules in
     let checked = looked v w sees c.history.ensures.checked in
-    let left = flushes_leave (setup_of v.opening) f d old.config s came z outcome in
+    let left = flushes_leave (initial_state_of v.initial) f d old.config s came z outcome in
     let kept = c.requires.ready.rests.keeps.kept in (
       left.1,
-      frees_checked v.opening s z _ old.books.queue.items left.0 left.1 kept.retired refl left.2
+      frees_checked v.initial s z _ old.pool.queue.items left.0 left.1 kept.retired refl left.2
           checked,
     )
 
@@ -53,12 +53,12 @@ unfolding by_steps
 returns-clause-later g c =
     let f = g.row.FIRST in
     let d = g.row.SECOND in
-    let old = c.args.ledger.now in
-    let new = c.flush_over-came.new.ledger in
+    let old = c.args.control.now in
+    let new = c.flush_over-came.new.control in
     let v : View = c.args.seat.now.view in
     let w : View = c.seat-1.given.0.view in
-    let s = state_of old.rules.rules v.seen old.books old.versions in
-    let z = state_of new.rules.rules w.seen new.books new.versions in
+    let s = state_of old.rules.rules v.seen old.pool old.versions in
+    let z = state_of new.rules.rules w.seen new.pool new.versions in
     let came = c.flush_over-came.result in
     let outcome = returns-clause-flushes g c in
-    flushes_later (by_steps v.opening) (steps_go_on v.opening.workers v.opening.token) f d old.config s z came outcome
+    flushes_later (by_steps v.initial) (steps_go_on v.initial.workers v.initial.token) f d old.config s z came outcome

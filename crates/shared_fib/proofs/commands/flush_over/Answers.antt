@@ -1,9 +1,9 @@
 use Rattle.std.proofs.Common.{◌≡◌, ap, List}
 use Rattle.lpm_trace.specs.declared.step.WriterStep.{WriterStep}
-use Rattle.lpm_trace.specs.Tables.{Setup}
+use Rattle.lpm_trace.specs.States.{InitialState}
 use Rattle.fib_model.specs.Outcomes.{Flushes}
 use Rattle.lpm_writer.specs.Resting.{IsResting, state_of}
-use Rattle.shared_words.specs.Opened.{setup_of}
+use Rattle.shared_words.specs.Initial.{initial_state_of}
 use Rattle.shared_fib.specs.Lent.{Lent}
 use Rattle.shared_fib.specs.Running.{by_steps}
 use Rattle.shared_fib.proofs.Seated.{Kept, kept, flushed, only_sees, rests_after, outcome_after}
@@ -14,21 +14,21 @@ unfolding by_steps
 returns g c =
     let f = g.row.FIRST in
     let s = g.row.SECOND in
-    let old = c.args.ledger.now in
-    let new = c.flush.new.ledger in
+    let old = c.args.control.now in
+    let new = c.flush.new.control in
     let m : Lent = c.args.memory.now in
     let z : Lent = c.flush.new.memory in
-    let setup : Setup = setup_of m.view.opening in
+    let setup : InitialState = initial_state_of m.view.initial in
     let came = c.flush.ensures.flushes setup m.view.seen c.requires.did c.requires.rests in
     let all = flushed f s setup old.config m z m.view.seen came.0
-    old.rules.rules new.rules.rules old.books new.books old.versions new.versions
+    old.rules.rules new.rules.rules old.pool new.pool old.versions new.versions
     c.flush.result came.3 in
     let same : kept z ≡ kept m = all.1 in
-    let Outcome : List WriterStep → Type 0 = λ later. Flushes (by_steps m.view.opening) f s old.config
-    (state_of old.rules.rules m.view.seen old.books old.versions) c.flush.result
-    (state_of new.rules.rules later new.books new.versions) in
-    let Rests : Setup → List WriterStep → Type 0 = λ by later.
-    IsResting f s by later new.config new.rules new.books new.versions in
+    let Outcome : List WriterStep → Type 0 = λ later. Flushes (by_steps m.view.initial) f s old.config
+    (state_of old.rules.rules m.view.seen old.pool old.versions) c.flush.result
+    (state_of new.rules.rules later new.pool new.versions) in
+    let Rests : InitialState → List WriterStep → Type 0 = λ by later.
+    IsResting f s by later new.config new.rules new.pool new.versions in
     record {
       flushes = outcome_after Outcome z setup came.0 came.1 all.0;
       rests = rests_after Rests z setup came.0 came.1 came.2;

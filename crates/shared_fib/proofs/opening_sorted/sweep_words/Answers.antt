@@ -1,6 +1,6 @@
 use Rattle.std.proofs.Common.{ℕ, ◌≡◌, ◌-◌, ◌*◌, ◌%◌, ◌^◌, ◌≤◌, ◌∷◌, ◌++◌, length, replicate, ap, ◌∙◌, arith, rules}
 use Rattle.fib.proofs.Swept.{fewer_words}
-use Rattle.shared_words.specs.Layout.{packed}
+use Rattle.shared_words.specs.Layout.{packed_words}
 use Rattle.shared_fib.proofs.Sorted.{few_seconds}
 use Rattle.shared_fib.proofs.opening_sorted.sweep_words.Goals as goal
 
@@ -31,6 +31,6 @@ returns-clause-swept g c =
       room = search rules;
       few = search rules;
       laid = c.in_ok-words.ensures
-          ∙ ap (λ (n : ℕ). 0 ∷ c.args.config.first_token ∷ (packed F ++ (packed (S ++ replicate (n - length S) 0)
+          ∙ ap (λ (n : ℕ). 0 ∷ c.args.config.first_token ∷ (packed_words F ++ (packed_words (S ++ replicate (n - length S) 0)
           ++ replicate c.args.config.workers 0))) whole;
     }

@@ -1,10 +1,10 @@
 use Rattle.std.proofs.Common.{arith, ◌≡◌, ◌<◌, refl, ap, sym, ◌∙◌, subst, List, Ok}
 use Rattle.lpm_trace.specs.declared.step.WriterStep.{WriterStep}
-use Rattle.lpm_trace.specs.Tables.{Setup}
-use Rattle.lpm_writer.specs.declared.ledger.Ledger.{Ledger}
+use Rattle.lpm_trace.specs.States.{InitialState}
+use Rattle.lpm_writer.specs.declared.control.ControlState.{ControlState}
 use Rattle.lpm_writer.specs.Resting.{IsResting}
 use Rattle.lpm_writer.specs.Synchronizing.{IsWaiting}
-use Rattle.shared_words.specs.Opened.{setup_of}
+use Rattle.shared_words.specs.Initial.{initial_state_of}
 use Rattle.shared_fib.specs.Lent.{Lent}
 use Rattle.shared_fib.proofs.Seated.{Kept, kept, only_sees, rests_after, outcome_after}
 use Rattle.shared_fib.proofs.Waited.{not_yet, still, once_more, at_last, queued_passed}
@@ -12,7 +12,7 @@ use Rattle.shared_fib.proofs.synchronizing.check_until_passed.Goals as goal
 
 pub loop-init : goal.loop-init
 loop-init g c = record {
-  ledger = refl;
+  control = refl;
   waited = not_yet c.args.memory.now c.requires.did;
   waits = c.requires.waits;
 }
@@ -22,21 +22,21 @@ check_synchronize-requires g c =
     let m : Lent = c.args.memory.now in
     let y : Lent = c.loop.memory in
     let so_far = c.loop.invariant in
-    (omega arith, (setup_of m.view.opening, y.view.seen, so_far.waited.did, so_far.waits))
+    (omega arith, (initial_state_of m.view.initial, y.view.seen, so_far.waited.did, so_far.waits))
 
 pub loop-preserved : goal.loop-preserved
 loop-preserved g c =
-    let new = c.check_synchronize.new.ledger in
+    let new = c.check_synchronize.new.control in
     let m : Lent = c.args.memory.now in
     let y : Lent = c.loop.memory in
     let z : Lent = c.check_synchronize.new.memory in
-    let setup : Setup = setup_of m.view.opening in
+    let setup : InitialState = initial_state_of m.view.initial in
     let so_far = c.loop.invariant in
     let now = c.in-Err.ensures.checks setup y.view.seen so_far.waited.did so_far.waits in
     let Waits : List WriterStep → Type 0 = λ later. IsWaiting g.row.FIRST g.row.SECOND setup later
-    new.config new.rules new.books new.versions in
+    new.config new.rules new.pool new.versions in
     record {
-      ledger = c.in-Err.ensures.stopped ∙ so_far.ledger;
+      control = c.in-Err.ensures.stopped ∙ so_far.control;
       waited = once_more m y z so_far.waited now.0 now.1 c.in-Err.field-0 now.2;
       waits = outcome_after Waits z setup now.0 now.1 now.4;
     }
@@ -45,26 +45,26 @@ pub returns-in-Ok : goal.returns-in-Ok
 returns-in-Ok g c =
     let f = g.row.FIRST in
     let s = g.row.SECOND in
-    let new = c.check_synchronize.new.ledger in
+    let new = c.check_synchronize.new.control in
     let m : Lent = c.args.memory.now in
     let y : Lent = c.loop.memory in
     let z : Lent = c.check_synchronize.new.memory in
-    let setup : Setup = setup_of m.view.opening in
+    let setup : InitialState = initial_state_of m.view.initial in
     let so_far = c.loop.invariant in
     let now = c.in-Ok.ensures.checks setup y.view.seen so_far.waited.did so_far.waits in
     let all : kept z ≡ kept m = still m y z so_far.waited now.0 now.1 (Ok tt) now.2 in
-    let Rests : Setup → List WriterStep → Type 0 = λ by later.
-    IsResting f s by later new.config new.rules new.books new.versions in
+    let Rests : InitialState → List WriterStep → Type 0 = λ by later.
+    IsResting f s by later new.config new.rules new.pool new.versions in
     let rests = rests_after Rests z setup now.0 now.1 now.3 in
-    let passed : Ledger f s → Ledger f s = λ l.
-    record l { books = record l.books { passed = new.books.passed } } in
-    let is : new ≡ passed c.args.ledger.now =
-    ◌∙◌ {b = passed c.loop.ledger} c.in-Ok.ensures.same (ap passed so_far.ledger) in
+    let passed : ControlState f s → ControlState f s = λ l.
+    record l { pool = record l.pool { passed = new.pool.passed } } in
+    let is : new ≡ passed c.args.control.now =
+    ◌∙◌ {b = passed c.loop.control} c.in-Ok.ensures.same (ap passed so_far.control) in
     record {
       passes = at_last m y z so_far.waited now.0 now.1 now.2;
-      queued = λ some. queued_passed f s (setup_of z.view.opening) z.view.seen new.config new.rules
-          new.books new.versions rests c.in-Ok.ensures.queued
-          (subst (λ (l : Ledger f s). 0 < l.config.workers) (sym is) some);
+      queued = λ some. queued_passed f s (initial_state_of z.view.initial) z.view.seen new.config new.rules
+          new.pool new.versions rests c.in-Ok.ensures.queued
+          (subst (λ (l : ControlState f s). 0 < l.config.workers) (sym is) some);
       rests = rests;
       same = is;
       name = ap (λ (k : Kept). k.0) all;

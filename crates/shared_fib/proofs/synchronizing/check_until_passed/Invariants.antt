@@ -1,13 +1,13 @@
 use Rattle.std.proofs.Common.{◌≡◌}
 use Rattle.lpm_writer.specs.Synchronizing.{IsWaiting}
-use Rattle.shared_words.specs.Opened.{setup_of}
+use Rattle.shared_words.specs.Initial.{initial_state_of}
 use Rattle.shared_fib.proofs.Waited.{HasWaited}
 use Rattle.shared_fib.proofs.synchronizing.check_until_passed.Given as goal
 
 abbrev pub invariant-loop : goal.invariant-loop
 invariant-loop g l = record {
-  ledger : l.ledger ≡ l.fn.ledger;
+  control : l.control ≡ l.fn.control;
   waited : HasWaited l.fn.memory l.memory;
-  waits : IsWaiting g.row.FIRST g.row.SECOND (setup_of l.fn.memory.view.opening) l.memory.view.seen
-      l.ledger.config l.ledger.rules l.ledger.books l.ledger.versions;
+  waits : IsWaiting g.row.FIRST g.row.SECOND (initial_state_of l.fn.memory.view.initial) l.memory.view.seen
+      l.control.config l.control.rules l.control.pool l.control.versions;
 }

@@ -1,10 +1,10 @@
 use Rattle.std.proofs.Common.{arith, rules, refl, ap, ◌∙◌, List}
 use Rattle.std.specs.Prelude.{IsErr}
 use Rattle.lpm_trace.specs.declared.step.WriterStep.{WriterStep}
-use Rattle.lpm_trace.specs.Tables.{Setup}
+use Rattle.lpm_trace.specs.States.{InitialState}
 use Rattle.lpm_writer.specs.Synchronizing.{IsWaiting}
 use Rattle.shared_words.specs.declared.view.View.{View}
-use Rattle.shared_words.specs.Opened.{setup_of}
+use Rattle.shared_words.specs.Initial.{initial_state_of}
 use Rattle.shared_fib.specs.Lent.{Lent, SharedDid}
 use Rattle.shared_fib.proofs.Seated.{rests_after}
 use Rattle.shared_fib.proofs.Waited.{exhausted_by, synchronized}
@@ -13,17 +13,17 @@ use Rattle.shared_fib.proofs.synchronizing.synchronize_over.Goals as goal
 pub start_synchronize-requires : goal.start_synchronize-requires
 start_synchronize-requires g c =
     let m : Lent = c.args.memory.now in
-    (omega arith, (setup_of m.view.opening, m.view.seen, c.requires.did, c.requires.rests))
+    (omega arith, (initial_state_of m.view.initial, m.view.seen, c.requires.did, c.requires.rests))
 
 pub check_until_passed-requires : goal.check_until_passed-requires
 check_until_passed-requires g c =
-    let l = c.args.ledger.now in
+    let l = c.args.control.now in
     let m : Lent = c.args.memory.now in
     let z : Lent = c.start_synchronize.new.memory in
-    let setup : Setup = setup_of m.view.opening in
+    let setup : InitialState = initial_state_of m.view.initial in
     let started = c.in_ok-start_synchronize.ensures.starts setup m.view.seen c.requires.did c.requires.rests in
-    let Waits : Setup → List WriterStep → Type 0 = λ by later.
-    IsWaiting g.row.FIRST g.row.SECOND by later l.config l.rules l.books l.versions in
+    let Waits : InitialState → List WriterStep → Type 0 = λ by later.
+    IsWaiting g.row.FIRST g.row.SECOND by later l.config l.rules l.pool l.versions in
     let did = rests_after (SharedDid z) z setup started.0 started.1 started.1 in
     (omega arith, (omega arith, (did, rests_after Waits z setup started.0 started.1 started.3)))
 
@@ -31,7 +31,7 @@ pub returns-in_err-start_synchronize-clause-exhausted : goal.returns-in_err-star
 returns-in_err-start_synchronize-clause-exhausted g c =
     let m : Lent = c.args.memory.now in
     let refused : IsErr c.from_residual.result = search rules in
-    let known = exhausted_by (setup_of m.view.opening) m.view.seen _ c.args.ledger.now.config.groups
+    let known = exhausted_by (initial_state_of m.view.initial) m.view.seen _ c.args.control.now.config.groups
     c.in_err-start_synchronize.ensures.exhausted in
     (λ _. known.0 refl, λ _. refused)
 
@@ -40,13 +40,13 @@ returns g c =
     let m : Lent = c.args.memory.now in
     let y : Lent = c.start_synchronize.new.memory in
     let z : Lent = c.check_until_passed.new.memory in
-    let setup : Setup = setup_of m.view.opening in
+    let setup : InitialState = initial_state_of m.view.initial in
     let started = c.in_ok-start_synchronize.ensures.starts setup m.view.seen c.requires.did c.requires.rests in
     let does = started.2.0 in
     let passed = c.check_until_passed.ensures in
     let after : View → View = λ v. record v { seen = z.view.seen } in
     record {
-      exhausted = exhausted_by setup m.view.seen _ c.args.ledger.now.config.groups c.in_ok-start_synchronize.ensures.exhausted;
+      exhausted = exhausted_by setup m.view.seen _ c.args.control.now.config.groups c.in_ok-start_synchronize.ensures.exhausted;
       synchronizes = synchronized m y z.view.seen does passed.passes;
       queued = passed.queued;
       rests = passed.rests;

@@ -19,7 +19,7 @@ load_second-requires-clause-next g c =
     let there = ap (λ n. n + c.second_index.result) whole
     ∙ (ap (λ n. group * 2 ^ second + n) c.second_index.ensures.value
     ∙ ap (λ n. group * 2 ^ n + addr % 2 ^ n) (sym c.requires.second)) in
-    second_with addr c.args.word v group c.in-Some.ensures v.opening.second _ there c.requires.next
+    second_with addr c.args.word v group c.in-Some.ensures v.initial.second _ there c.requires.next
 
 pub returns-in-None-clause-loads : goal.returns-in-None-clause-loads
 returns-in-None-clause-loads g c = no_second c.args.addr c.args.word c.args.seat.now.view c.in-None.ensures

@@ -11,9 +11,9 @@ returns-clause-made g c =
     let commands = c.args.updates.now.commands.now in
     let outcomes = c.args.recorder.now.outcomes.items in
     let command = c.index-updates-index.result in
-    let does : Does (by_own_steps c.args.updates.now.table.now.opening) g.row.FIRST g.row.SECOND c.args.recorder.now.writer.config
+    let does : Does (by_own_steps c.args.updates.now.table.now.initial) g.row.FIRST g.row.SECOND c.args.recorder.now.writer.config
     c.args.recorder.now.writer.table command c.execute-outcome.result c.execute-outcome.new.writer.table =
-    subst (λ (k : Command g.row.FIRST g.row.SECOND). Does (by_own_steps c.args.updates.now.table.now.opening) g.row.FIRST g.row.SECOND
+    subst (λ (k : Command g.row.FIRST g.row.SECOND). Does (by_own_steps c.args.updates.now.table.now.initial) g.row.FIRST g.row.SECOND
     c.args.recorder.now.writer.config c.args.recorder.now.writer.table k c.execute-outcome.result c.execute-outcome.new.writer.table)
     (sym c.index-updates-index.is) c.execute-outcome.ensures.does in
     let here : length outcomes ≡ c.args.index = omega (arith, c.requires.next) in

@@ -10,7 +10,7 @@ use Rattle.storm.proofs.engine.run.Goals as goal
 pub seat_stuck-stuck-requires : goal.seat_stuck-stuck-requires
 seat_stuck-stuck-requires g c =
     let plan = c.args.plan.now in
-    let seats : c.args.table.now.opening.workers ≡ plan.config.workers + cond plan.has_stuck_worker 1 0 = c.requires.workers in (
+    let seats : c.args.table.now.initial.workers ≡ plan.config.workers + cond plan.has_stuck_worker 1 0 = c.requires.workers in (
       lit< tt,
       (
         lit< tt,

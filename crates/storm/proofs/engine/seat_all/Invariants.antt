@@ -9,7 +9,7 @@ invariant-loop-number g l = record {
   len : vec_len l.workers ≡ l.number;
   capacity : l.fn.count ≤ vec_capacity l.workers;
   own : IsBenchOf l.table l.bench;
-  waiting : (k : ℕ) → l.number ≤ k → k < l.table.opening.workers → IsUnused l.bench k;
+  waiting : (k : ℕ) → l.number ≤ k → k < l.table.initial.workers → IsUnused l.bench k;
   ready : All (IsReadyFor l.table l.room) l.workers.items;
   seats : AreInSeats l.workers.items;
 }

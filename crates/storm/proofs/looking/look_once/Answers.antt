@@ -1,7 +1,7 @@
 use Rattle.std.proofs.Common.{◌∙◌, ◌++◌, [], ◌∷◌, ℕ, List, ap, sym, rules, map, take, append_assoc, get_or}
 use Rattle.std.proofs.lemmas.List.{map-append, take_more}
 use Rattle.lpm_rules.specs.declared.Answer.{Answer}
-use Rattle.shared_fib.specs.Running.{setup}
+use Rattle.shared_fib.specs.Running.{initial_state}
 use Rattle.storm.proofs.Told.{told_more}
 use Rattle.storm.proofs.looking.look_once.Goals as goal
 
@@ -14,7 +14,7 @@ loop-i-preserved g c =
     let addrs = c.args.lookups.now.addrs.now in
     let id = c.args.lookups.now.table.now in
     let more = told_more c.loop-i.worker.pass c.lookup-answer.new.self _ c.lookup-answer.result c.lookup-answer.ensures.answer
-    c.history.ensures (setup id) c.loop-i.worker.answers.items (ap setup (was.own ∙ c.requires.own)) (was.told.answers, was.told.versions) in
+    c.history.ensures (initial_state id) c.loop-i.worker.answers.items (ap initial_state (was.own ∙ c.requires.own)) (was.told.answers, was.told.versions) in
     record {
       own = c.lookup-answer.ensures.own ∙ was.own;
       online = c.lookup-answer.ensures.online;

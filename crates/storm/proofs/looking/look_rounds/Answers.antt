@@ -1,6 +1,6 @@
 use Rattle.std.proofs.Common.{◌≡◌, ◌+◌, ◌∙◌, refl, arith, rules, map}
 use Rattle.lpm_trace.specs.declared.step.WorkerStep.TheVariants.{LoadQuiescent, StoreQuiescent}
-use Rattle.shared_fib.specs.Running.{setup}
+use Rattle.shared_fib.specs.Running.{initial_state}
 use Rattle.storm.specs.Looking.{times}
 use Rattle.storm.proofs.Told.{kept_by_two, told_on}
 use Rattle.storm.proofs.Rounds.{length_rounds, one_more_round}
@@ -18,7 +18,7 @@ loop-round-preserved g c =
     let after = c.quiescent.new.self in
     let steps = c.quiescent.ensures.steps in
     let same = kept_by_two (LoadQuiescent steps.0) (StoreQuiescent steps.0) steps.1 steps.2 before after (λ now r. refl) (λ now r. refl) steps.3 in
-    let told = told_on (setup id) before after made.answers.items same steps.3.seen
+    let told = told_on (initial_state id) before after made.answers.items same steps.3.seen
     (c.look_once.ensures.told.answers, c.look_once.ensures.told.versions) in
     record {
       own = c.quiescent.ensures.own ∙ c.look_once.ensures.own ∙ was.own;

@@ -1,6 +1,6 @@
 use Rattle.std.proofs.Common.{arith, eqb-true, lit<, refl, sym, ◌∙◌, ◌+◌}
 use Rattle.std.proofs.lemmas.Bool.{eqb-false}
-use Rattle.lpm_bits.specs.Network.{prefix_of, masked}
+use Rattle.lpm_bits.specs.Network.{prefix_of, network_bits}
 use Rattle.audit.specs.Wrong.{version_of}
 use Rattle.audit.proofs.Versions.{too_long}
 use Rattle.audit.proofs.Indexes.{networks, no_rule, shape}
@@ -11,7 +11,7 @@ returns-then-is_empty g c =
     let v = c.index.result.now in
     let none = eqb-true v.len 0 (sym c.is_empty.ensures ∙ c.if-is_empty.true) in
     no_rule g.row.FIRST g.row.SECOND c.self.inside.history.now c.args.self.now c.self.inside.flushed.items c.self.inside.lengths.items c.self.invariant c.self.view_is c.args.len c.args.version c.requires.len c.requires.version v c.index.ensures (sym v.ok.0 ∙ none)
-    (masked (g.row.FIRST + g.row.SECOND) c.args.len c.args.addr)
+    (network_bits (g.row.FIRST + g.row.SECOND) c.args.len c.args.addr)
 
 pub new-requires : goal.new-requires
 new-requires g c =

@@ -1,5 +1,5 @@
 use Rattle.std.proofs.Common.{subst}
-use Rattle.fib_model.specs.Counting.{counting}
+use Rattle.fib_model.specs.Counting.{counter_transitions}
 use Rattle.fib_model.specs.Outcomes.{Adds}
 use Rattle.fib.specs.Fib.{FibState, table_of}
 use Rattle.fib.proofs.Sound.{adds}
@@ -9,11 +9,11 @@ pub invariant_of-self : goal.invariant_of-self
 invariant_of-self g c =
     let x = c.self.inside in
     let k = c.self.invariant in
-    (adds g.row.FIRST g.row.SECOND x.ledger x.memory k c.add.new.ledger c.add.new.memory c.args.prefix.now c.args.hop c.add.result (c.add.ensures.adds k.0 k.1 k.2.did k.2.rests)).0
+    (adds g.row.FIRST g.row.SECOND x.control x.memory k c.add.new.control c.add.new.memory c.args.prefix.now c.args.hop c.add.result (c.add.ensures.adds k.0 k.1 k.2.did k.2.rests)).0
 
 pub returns-clause-adds : goal.returns-clause-adds
 returns-clause-adds g c =
     let x = c.self.inside in
     let k = c.self.invariant in
-    subst (λ (y : FibState). Adds counting g.row.FIRST g.row.SECOND y.config y.table c.args.prefix.now c.args.hop c.add.result (table_of c.add.new.ledger c.add.new.memory)) c.self.view_is
-    (adds g.row.FIRST g.row.SECOND x.ledger x.memory k c.add.new.ledger c.add.new.memory c.args.prefix.now c.args.hop c.add.result (c.add.ensures.adds k.0 k.1 k.2.did k.2.rests)).1
+    subst (λ (y : FibState). Adds counter_transitions g.row.FIRST g.row.SECOND y.config y.table c.args.prefix.now c.args.hop c.add.result (table_of c.add.new.control c.add.new.memory)) c.self.view_is
+    (adds g.row.FIRST g.row.SECOND x.control x.memory k c.add.new.control c.add.new.memory c.args.prefix.now c.args.hop c.add.result (c.add.ensures.adds k.0 k.1 k.2.did k.2.rests)).1

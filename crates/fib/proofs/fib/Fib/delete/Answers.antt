@@ -1,5 +1,5 @@
 use Rattle.std.proofs.Common.{subst}
-use Rattle.fib_model.specs.Counting.{counting}
+use Rattle.fib_model.specs.Counting.{counter_transitions}
 use Rattle.fib_model.specs.Outcomes.{Deletes}
 use Rattle.fib.specs.Fib.{FibState, table_of}
 use Rattle.fib.proofs.Sound.{deletes}
@@ -9,11 +9,11 @@ pub invariant_of-self : goal.invariant_of-self
 invariant_of-self g c =
     let x = c.self.inside in
     let k = c.self.invariant in
-    (deletes g.row.FIRST g.row.SECOND x.ledger x.memory k c.delete.new.ledger c.delete.new.memory c.args.prefix.now c.delete.result (c.delete.ensures.deletes k.0 k.1 k.2.did k.2.rests)).0
+    (deletes g.row.FIRST g.row.SECOND x.control x.memory k c.delete.new.control c.delete.new.memory c.args.prefix.now c.delete.result (c.delete.ensures.deletes k.0 k.1 k.2.did k.2.rests)).0
 
 pub returns-clause-deletes : goal.returns-clause-deletes
 returns-clause-deletes g c =
     let x = c.self.inside in
     let k = c.self.invariant in
-    subst (λ (y : FibState). Deletes counting g.row.FIRST g.row.SECOND y.config y.table c.args.prefix.now c.delete.result (table_of c.delete.new.ledger c.delete.new.memory)) c.self.view_is
-    (deletes g.row.FIRST g.row.SECOND x.ledger x.memory k c.delete.new.ledger c.delete.new.memory c.args.prefix.now c.delete.result (c.delete.ensures.deletes k.0 k.1 k.2.did k.2.rests)).1
+    subst (λ (y : FibState). Deletes counter_transitions g.row.FIRST g.row.SECOND y.config y.table c.args.prefix.now c.delete.result (table_of c.delete.new.control c.delete.new.memory)) c.self.view_is
+    (deletes g.row.FIRST g.row.SECOND x.control x.memory k c.delete.new.control c.delete.new.memory c.args.prefix.now c.delete.result (c.delete.ensures.deletes k.0 k.1 k.2.did k.2.rests)).1

@@ -4,7 +4,7 @@ use Rattle.std.proofs.Math.ListN.{length-set}
 use Rattle.lpm_limits.specs.declared.config.Config.{Config}
 use Rattle.lpm_limits.specs.Limits.{IsConfig}
 use Rattle.fib_model.specs.Counting.{by_counters}
-use Rattle.fib_model.specs.Outcomes.{Runs, Does, logged}
+use Rattle.fib_model.specs.Outcomes.{Runs, Does, log_after}
 use Rattle.fib.proofs.Logs.{log_next, told}
 use Rattle.fib.proofs.fib.Fib.execute_all.Goals as goal
 
@@ -32,6 +32,6 @@ returns-clause-textbook g c = λ log before.
     let commands = c.args.commands.now in
     let outcomes = c.loop-index.outcomes.items in
     let end = c.loop-index-test.false in
-    let all = subst (λ os. Runs by_counters f s c.args.self.now.config c.args.self.now.table (logged [] commands os) c.loop-index.self.table) (take_all c.loop-index.index outcomes (omega (arith, end, known.room)))
-    (subst (λ cs. Runs by_counters f s c.args.self.now.config c.args.self.now.table (logged [] cs (take c.loop-index.index outcomes)) c.loop-index.self.table) (take_all c.loop-index.index commands end) known.done) in
+    let all = subst (λ os. Runs by_counters f s c.args.self.now.config c.args.self.now.table (log_after [] commands os) c.loop-index.self.table) (take_all c.loop-index.index outcomes (omega (arith, end, known.room)))
+    (subst (λ cs. Runs by_counters f s c.args.self.now.config c.args.self.now.table (log_after [] cs (take c.loop-index.index outcomes)) c.loop-index.self.table) (take_all c.loop-index.index commands end) known.done) in
     told f s c.args.self.now.config c.args.self.now.table c.loop-index.self.table log commands outcomes (subst IsConfig c.config-config.ensures.value c.config-config.ensures.limits) before all

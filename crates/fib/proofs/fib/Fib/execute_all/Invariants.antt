@@ -1,12 +1,12 @@
 use Rattle.std.proofs.Common.{◌≡◌, [], take, length}
 use Rattle.fib_model.specs.Counting.{by_counters}
-use Rattle.fib_model.specs.Outcomes.{Runs, logged}
+use Rattle.fib_model.specs.Outcomes.{Runs, log_after}
 use Rattle.fib.proofs.fib.Fib.execute_all.Given as goal
 
 -- the commands up to here are done
 abbrev pub invariant-loop-index : goal.invariant-loop-index
 invariant-loop-index g l = record {
-  done : Runs by_counters g.row.FIRST g.row.SECOND l.fn.self.config l.fn.self.table (logged [] (take l.index l.commands) (take l.index l.outcomes.items)) l.self.table;
+  done : Runs by_counters g.row.FIRST g.row.SECOND l.fn.self.config l.fn.self.table (log_after [] (take l.index l.commands) (take l.index l.outcomes.items)) l.self.table;
   room : length l.outcomes.items ≡ length l.commands;
   config : l.self.config ≡ l.fn.self.config;
 }

@@ -13,5 +13,5 @@ returns g c =
     let k = c.self.invariant.2 in
     let a = c.args.addr in
     subst (λ (f : FibState). IsLongestHop width f.table.rules a c.read.result) c.self.view_is
-    (subst (IsLongestHop width x.ledger.rules.rules a) (sym (c.read.ensures ∙ ap (λ W. hop_in (entry_at g.row.SECOND W a)) k.did.words))
-    (best_hop width x.ledger.rules.rules a _ (k.rests.represents.best a c.requires)))
+    (subst (IsLongestHop width x.control.rules.rules a) (sym (c.read.ensures ∙ ap (λ W. hop_in (entry_at g.row.SECOND W a)) k.did.words))
+    (best_hop width x.control.rules.rules a _ (k.rests.represents.best a c.requires)))

@@ -4,4 +4,4 @@ use Rattle.fib.proofs.fib.Fib.online.Goals as goal
 pub invariant_of-self : goal.invariant_of-self
 invariant_of-self g c =
     let x = c.self.inside in
-    reported_token g.row.FIRST g.row.SECOND x.ledger x.memory c.args.worker c.online.new.self c.self.invariant c.online.ensures.stored
+    reported_token g.row.FIRST g.row.SECOND x.control x.memory c.args.worker c.online.new.self c.self.invariant c.online.ensures.stored

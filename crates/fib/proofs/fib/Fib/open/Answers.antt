@@ -1,4 +1,4 @@
-use Rattle.lpm_writer.specs.Opening.{opening_setup}
+use Rattle.lpm_writer.specs.Blank.{blank_state}
 use Rattle.fib.proofs.Sound.{sound_new}
 use Rattle.fib.proofs.fib.Fib.open.Goals as goal
 
@@ -6,5 +6,5 @@ pub invariant_of-result : goal.invariant_of-result
 invariant_of-result g c =
     let f = g.row.FIRST in
     let s = g.row.SECOND in
-    let new = c.in_ok-ledger.ensures in
-    sound_new f s (opening_setup f s c.args.config) c.in_ok-ledger.ledger c.in_ok-ledger.memory new.did new.rests
+    let new = c.in_ok-control.ensures in
+    sound_new f s (blank_state f s c.args.config) c.in_ok-control.control c.in_ok-control.memory new.did new.rests

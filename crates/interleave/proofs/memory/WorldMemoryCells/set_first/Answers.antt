@@ -1,6 +1,6 @@
 use Rattle.std.proofs.Common.{ap, ◌∙◌}
 use Rattle.lpm_trace.specs.declared.step.WriterStep.TheVariants.{StoreFirst}
-use Rattle.interleave.specs.View.{WorldView, recorded, unrecorded}
+use Rattle.interleave.specs.View.{WorldView, with_recorded_step, with_unrecorded_step}
 use Rattle.interleave.proofs.Inside.{view_in}
 use Rattle.interleave.proofs.Stepping.{step_does_in}
 use Rattle.interleave.proofs.memory.WorldMemoryCells.set_first.Goals as goal
@@ -11,5 +11,5 @@ returns-clause-set g c =
     let step = StoreFirst c.args.i c.args.word in
     let words = c.set_first.ensures.words in
     step_does_in g.row.FIRST g.row.SECOND c.args.self.now c.reach.new.self y c.note.new.self step c.reach.result c.self.view_is c.reach.ensures.shared c.reach.ensures.reaches c.reach.ensures.found tt
-    (λ low. c.note.ensures.left low ∙ ap (λ t. record (recorded y step) { words = t }) words)
-    (λ all. c.note.ensures.ended all ∙ ap (λ t. record (unrecorded y step) { words = t }) words)
+    (λ low. c.note.ensures.left low ∙ ap (λ t. record (with_recorded_step y step) { words = t }) words)
+    (λ all. c.note.ensures.ended all ∙ ap (λ t. record (with_unrecorded_step y step) { words = t }) words)

@@ -1,5 +1,5 @@
 use Rattle.std.proofs.Common.{◌≤◌, None, arith}
-use Rattle.lpm_trace.specs.declared.step.WriterStep.TheVariants.{Opens}
+use Rattle.lpm_trace.specs.declared.step.WriterStep.TheVariants.{BeginUpdate}
 use Rattle.interleave.proofs.Stepping.{step_does}
 use Rattle.interleave.proofs.Writing.{sequence_within}
 use Rattle.interleave.proofs.memory.WorldMemoryMemory.open.Goals as goal
@@ -14,6 +14,6 @@ bump_sequence-requires g c =
 
 pub returns : goal.returns
 returns g c = record {
-  does = step_does g.row.FIRST g.row.SECOND c.args.self.now c.reach.new.self c.bump_sequence.new.self (Opens c.args.change.now) c.reach.result
+  does = step_does g.row.FIRST g.row.SECOND c.args.self.now c.reach.new.self c.bump_sequence.new.self (BeginUpdate c.args.change.now) c.reach.result
       c.reach.ensures.shared c.reach.ensures.reaches c.reach.ensures.found tt c.bump_sequence.ensures.left c.bump_sequence.ensures.ended;
 }

@@ -2,7 +2,7 @@ use Rattle.std.proofs.Common.{[], ◌∷◌, ◌++◌, ap, ◌∙◌, add-one}
 use Rattle.lpm_trace.specs.declared.kind.Kind.TheVariants as kind
 use Rattle.lpm_trace.specs.declared.step.WriterStep.TheVariants.{BumpToken}
 use Rattle.interleave.specs.Record.{step_of_writer}
-use Rattle.interleave.specs.View.{WorldView, recorded, unrecorded}
+use Rattle.interleave.specs.View.{WorldView, with_recorded_step, with_unrecorded_step}
 use Rattle.interleave.proofs.Inside.{view_in}
 use Rattle.interleave.proofs.Stepping.{step_does_in}
 use Rattle.interleave.proofs.memory.WorldMemoryMemory.start.Goals as goal
@@ -11,5 +11,5 @@ pub returns-clause-does : goal.returns-clause-does
 returns-clause-does g c =
     let y : WorldView = view_in g.row.FIRST g.row.SECOND c.self.inside in
     step_does_in g.row.FIRST g.row.SECOND c.args.self.now c.reach.new.self y c.note.new.self BumpToken c.reach.result c.self.view_is c.reach.ensures.shared c.reach.ensures.reaches c.reach.ensures.found tt
-    (λ low. c.note.ensures.left low ∙ ap (λ n. record (recorded y BumpToken) { token = n; steps = y.steps ++ step_of_writer kind.BumpToken 0 n ∷ [] }) (add-one y.token))
-    (λ all. c.note.ensures.ended all ∙ ap (λ n. record (unrecorded y BumpToken) { token = n }) (add-one y.token))
+    (λ low. c.note.ensures.left low ∙ ap (λ n. record (with_recorded_step y BumpToken) { token = n; steps = y.steps ++ step_of_writer kind.BumpToken 0 n ∷ [] }) (add-one y.token))
+    (λ all. c.note.ensures.ended all ∙ ap (λ n. record (with_unrecorded_step y BumpToken) { token = n }) (add-one y.token))

@@ -1,5 +1,5 @@
 use Rattle.std.proofs.Common.{◌++◌, refl, ap, ◌∙◌}
-use Rattle.lpm_trace.specs.Tables.{begun_at}
+use Rattle.lpm_trace.specs.States.{begun_at}
 use Rattle.interleave.proofs.Lookups.{ended}
 use Rattle.interleave.proofs.Probes.{noted}
 use Rattle.interleave.proofs.worker.Worker.end.Goals as goal

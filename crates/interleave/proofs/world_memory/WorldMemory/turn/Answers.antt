@@ -2,7 +2,7 @@ use Rattle.std.proofs.Common.{◌≡◌, ◌+◌, ◌^◌, ◌<◌, ◌≤◌, [
 use Rattle.std.specs.Prelude.{slice_set}
 use Rattle.std.proofs.lemmas.List.{length-map, get_or-map, set-get_or}
 use Rattle.lpm_trace.specs.declared.kind.Actor.TheVariants.{Worker as WorkerActor}
-use Rattle.lpm_trace.specs.Tables.{tables}
+use Rattle.lpm_trace.specs.States.{state_after}
 use Rattle.lpm_trace.specs.Trace.{writes, worker_of}
 use Rattle.interleave.specs.Scripts.{IsDone, steps_by}
 use Rattle.interleave.specs.declared.shared.Shared.{Shared}
@@ -70,7 +70,7 @@ returns-in-Some-clause-turn g c = λ c' whole trace world.
     (subst (λ (y : WorldView). y.next < length y.schedule) (sym is) c.requires.left)
     (subst (λ (y : WorldView). get_or y.schedule y.next (WorkerActor k) ≡ WorkerActor k) (sym is) (c.requires.item (WorkerActor k)))
     inside many here
-    (c.in-Some.ensures.step c' (tables c' (writes trace)) (worker_of k trace) (steps_by k trace) (is_of f s v c' whole trace here) at) in
+    (c.in-Some.ensures.step c' (state_after c' (writes trace)) (worker_of k trace) (steps_by k trace) (is_of f s v c' whole trace here) at) in
     let after : WorldView = moved_by v (v.next + 1) k c.step-made.new.self c.in-Some.step c.step-made.new.seen.items in
     let shared = c.step-made.ensures.same in
     let same : after ≡ record after { words = c.step-made.new.shared.cells; sequence = c.step-made.new.shared.sequence; token = c.step-made.new.shared.token; steps = c.append.new.steps.items } =
@@ -127,7 +127,7 @@ invariant_of-self-in-Some g c =
     let script : c.deref.result.now ≡ script_at v.scripts k =
     c.deref.ensures.value ∙ sym (get_or-map (λ script. script.items) x.scripts.now k c.index-self-worker.result [] c.if-worker-self.false) in
     let at = stands f s v c' known.1 trace here k c.index_mut-machine.result.now c.index_mut-machine.result.now c.deref.result.now inside c.index_mut-machine.ensures.value script in
-    let step = c.in-Some.ensures.step c' (tables c' (writes trace)) (worker_of k trace) (steps_by k trace) (is_of f s v c' known.1 trace here) at in
+    let step = c.in-Some.ensures.step c' (state_after c' (writes trace)) (worker_of k trace) (steps_by k trace) (is_of f s v c' known.1 trace here) at in
     let four = four_at_most f s (length v.words.seconds) c.index_mut-machine.result.now c.deref.result.now (worker_of k trace) (steps_by k trace) k step.made x.seen.items c.step-made.new.seen.items at step.noted in
     let kept = c.self.invariant in
     let left : x.next < length x.schedule.now = subst (λ (y : WorldView). y.next < length y.schedule) (sym is) c.requires.left in

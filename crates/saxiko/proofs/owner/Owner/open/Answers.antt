@@ -1,17 +1,17 @@
 use Rattle.std.proofs.Common.{◌≡◌, ap, ◌∙◌}
 use Rattle.std.proofs.lemmas.Result.{IfOk-weaker, IfErr-weaker}
 use Rattle.std.specs.FinMap as map
-use Rattle.shared_fib.specs.Running.{Identity, setup}
+use Rattle.shared_fib.specs.Running.{Identity, initial_state}
 use Rattle.saxiko.specs.Owned.{OwnerState}
-use Rattle.saxiko.proofs.Opened.{OpensAs, opens_as}
+use Rattle.saxiko.proofs.InitialData.{OpensAs, opens_as}
 use Rattle.saxiko.proofs.owner.Owner.open.Goals as goal
 
-pub returns-clause-opening : goal.returns-clause-opening
-returns-clause-opening c =
+pub returns-clause-initial : goal.returns-clause-initial
+returns-clause-initial c =
     let r = c.in_ok-table in
     let opens : (o : OwnerState) → o ≡ record { writer = r.writer; bench = r.bench } → OpensAs r.table c.args.config map.empty o =
     λ o is. opens_as r.table c.args.config map.empty r.writer r.bench o is r.ensures.opened r.ensures.bench in
-    IfOk-weaker c.of_opened.result _ _ (λ o is. ap setup (opens o is).identity ∙ r.ensures.opening) c.of_opened.ensures.ok
+    IfOk-weaker c.of_opened.result _ _ (λ o is. ap initial_state (opens o is).identity ∙ r.ensures.initial) c.of_opened.ensures.ok
 
 pub returns-clause-opened : goal.returns-clause-opened
 returns-clause-opened c =
@@ -25,14 +25,14 @@ returns-clause-token c =
     let r = c.in_ok-table in
     let opens : (o : OwnerState) → o ≡ record { writer = r.writer; bench = r.bench } → OpensAs r.table c.args.config map.empty o =
     λ o is. opens_as r.table c.args.config map.empty r.writer r.bench o is r.ensures.opened r.ensures.bench in
-    IfOk-weaker c.of_opened.result _ _ (λ o is. ap (λ (i : Identity). i.opening.token) (opens o is).identity ∙ r.ensures.token) c.of_opened.ensures.ok
+    IfOk-weaker c.of_opened.result _ _ (λ o is. ap (λ (i : Identity). i.initial.token) (opens o is).identity ∙ r.ensures.token) c.of_opened.ensures.ok
 
 pub returns-clause-workers : goal.returns-clause-workers
 returns-clause-workers c =
     let r = c.in_ok-table in
     let opens : (o : OwnerState) → o ≡ record { writer = r.writer; bench = r.bench } → OpensAs r.table c.args.config map.empty o =
     λ o is. opens_as r.table c.args.config map.empty r.writer r.bench o is r.ensures.opened r.ensures.bench in
-    IfOk-weaker c.of_opened.result _ _ (λ o is. ap (λ (i : Identity). i.opening.workers) (opens o is).identity ∙ r.ensures.workers) c.of_opened.ensures.ok
+    IfOk-weaker c.of_opened.result _ _ (λ o is. ap (λ (i : Identity). i.initial.workers) (opens o is).identity ∙ r.ensures.workers) c.of_opened.ensures.ok
 
 pub returns-clause-bench : goal.returns-clause-bench
 returns-clause-bench c =

@@ -1,7 +1,7 @@
 use Rattle.std.proofs.Common.{◌≡◌, ap, sym, subst, ◌∙◌}
-use Rattle.lpm_writer.specs.Opening.{opening_setup}
+use Rattle.lpm_writer.specs.Blank.{blank_state}
 use Rattle.shared_fib.specs.Passes.{IsBenchOf, IsFullBench}
-use Rattle.shared_fib.specs.Running.{Identity, WriterState, setup}
+use Rattle.shared_fib.specs.Running.{Identity, WriterState, initial_state}
 use Rattle.saxiko_c.specs.Owners.{OwnerState}
 use Rattle.saxiko_c.proofs.owner.Owner.open.Goals as goal
 
@@ -9,11 +9,11 @@ pub new-requires-in-Ok-new-clause-bench : goal.new-requires-in-Ok-new-clause-ben
 new-requires-in-Ok-new-clause-bench c =
     subst (λ (i : Identity). IsBenchOf i c.in-Ok.bench) (sym c.in-Ok-new.ensures.ok) c.in-Ok.ensures.bench.0
 
-pub returns-in-Ok-new-clause-opening : goal.returns-in-Ok-new-clause-opening
-returns-in-Ok-new-clause-opening c =
+pub returns-in-Ok-new-clause-initial : goal.returns-in-Ok-new-clause-initial
+returns-in-Ok-new-clause-initial c =
     let own = ap (λ (o : OwnerState). o.writer.identity) c.new-in-Ok-new.ensures
     ∙ ap (λ (w : WriterState). w.identity) c.in-Ok.ensures.opened in
-    subst (λ (i : Identity). setup i ≡ opening_setup 24 8 c.args.config) (sym own) c.in-Ok.ensures.opening
+    subst (λ (i : Identity). initial_state i ≡ blank_state 24 8 c.args.config) (sym own) c.in-Ok.ensures.initial
 
 pub returns-in-Ok-new-clause-bench : goal.returns-in-Ok-new-clause-bench
 returns-in-Ok-new-clause-bench c =

@@ -3,7 +3,7 @@ use Rattle.std.specs.FinMap.{len}
 use Rattle.lpm_rules.specs.Listed.{rules_of}
 use Rattle.fib_model.specs.Outcomes.{groups_in_use}
 use Rattle.shared_fib.specs.Passes.{IsFullBench, PassState}
-use Rattle.shared_fib.specs.Running.{Identity, WriterState, opens_with}
+use Rattle.shared_fib.specs.Running.{Identity, WriterState, initial_writer}
 use Rattle.saxiko_c.specs.Opened.{IsOpenedWith}
 use Rattle.saxiko_c.proofs.Options.{at_some}
 use Rattle.saxiko_c.proofs.owner.Owner.open_sorted.Goals as goal
@@ -17,15 +17,15 @@ returns-in-Ok-clause-opened c =
     let rules = rules_of c.args.rules.items in
     let is = c.in-Ok-Some.field-0-is in
     let known = c.in-Ok-Some.ensures in
-    let opened = at_some (λ (r : Parts). r.1 ≡ opens_with r.0 config rules) is known.opened in
-    let token = at_some (λ (r : Parts). r.0.opening.token ≡ config.first_token) is known.token in
-    let workers = at_some (λ (r : Parts). r.0.opening.workers ≡ config.workers) is known.workers in
+    let opened = at_some (λ (r : Parts). r.1 ≡ initial_writer r.0 config rules) is known.opened in
+    let token = at_some (λ (r : Parts). r.0.initial.token ≡ config.first_token) is known.token in
+    let workers = at_some (λ (r : Parts). r.0.initial.workers ≡ config.workers) is known.workers in
     let bench = at_some (λ (r : Parts). IsFullBench r.0 r.2) is known.bench in
     let own = ap (λ (w : WriterState). w.identity) opened in
     subst (IsOpenedWith config rules) (sym c.new-in-Ok.ensures) (record {
-      opened = opened ∙ ap (λ (i : Identity). opens_with i config rules) (sym own);
-      token = ap (λ (i : Identity). i.opening.token) own ∙ token;
-      workers = ap (λ (i : Identity). i.opening.workers) own ∙ workers;
+      opened = opened ∙ ap (λ (i : Identity). initial_writer i config rules) (sym own);
+      token = ap (λ (i : Identity). i.initial.token) own ∙ token;
+      workers = ap (λ (i : Identity). i.initial.workers) own ∙ workers;
       at_rest = refl;
       bench = subst (λ (i : Identity). IsFullBench i c.in-Ok-Some.bench) (sym own) bench;
       limits = known.limits;

@@ -1,16 +1,16 @@
 use Rattle.std.proofs.Common.{length, ap, arith, rules}
-use Rattle.shared_words.specs.Opened.{Opened, setup_of}
+use Rattle.shared_words.specs.Initial.{InitialData, initial_state_of}
 use Rattle.shared_words.proofs.Laying.{seconds_length}
-use Rattle.shared_fib.specs.Lent.{Lent, left_by}
+use Rattle.shared_fib.specs.Lent.{Lent, state_of_lent}
 use Rattle.shared_fib.proofs.memory.SharedMemoryCells.second.Goals as goal
 
 pub second-requires-clause-index : goal.second-requires-clause-index
 second-requires-clause-index g c =
     let v = c.self.inside.seat.now.view in
     let own = c.self.invariant.0 in
-    let stays = seconds_length (setup_of v.opening) v.seen in
-    let len = ap (λ (o : Opened). length o.seconds) own.opening_is in
-    let is = ap (λ (m : Lent). length (left_by m).words.seconds) c.self.view_is in
+    let stays = seconds_length (initial_state_of v.initial) v.seen in
+    let len = ap (λ (o : InitialData). length o.seconds) own.opening_is in
+    let is = ap (λ (m : Lent). length (state_of_lent m).words.seconds) c.self.view_is in
     omega (arith, c.requires, stays, len, is, own.seconds)
 
 pub returns-clause-value : goal.returns-clause-value

@@ -1,5 +1,5 @@
 use Rattle.std.proofs.Common.{ℕ, ◌≡◌, ◌-◌, ◌+◌, ◌%◌, ◌^◌, ◌<◌, ◌≤◌, [], ◌∷◌, ◌++◌, length, ap, sym, subst, ◌∙◌, arith, rules}
-use Rattle.shared_fib.specs.Pairs.{ArePairs, unpaired}
+use Rattle.shared_fib.specs.Pairs.{ArePairs, unpacked_pairs}
 use Rattle.shared_fib.proofs.Pairing.{count_is, became, none_put, last_paired, last_put}
 use Rattle.shared_fib.proofs.pairs.Pairs.put_last.Goals as goal
 
@@ -25,7 +25,7 @@ returns-in_ok-push c =
     let part : c.from.result ≡ c.args.word = search rules in
     let is : c.push.new.self.items ≡ ws ++ c.args.word ∷ [] = c.in_ok-push.ensures.items ∙ ap (λ (v : ℕ). ws ++ v ∷ []) part in
     became _ _ c.args.self.now c.args.word 1 (c.args.to - length c.args.self.now)
-    (ap (unpaired (n + 1)) is ∙ last_put n c.args.word ws c.self.invariant even small) c.self.view_is
+    (ap (unpacked_pairs (n + 1)) is ∙ last_put n c.args.word ws c.self.invariant even small) c.self.view_is
     (omega (arith, same, more, c.requires.one))
 
 pub returns-else-self-to : goal.returns-else-self-to

@@ -1,5 +1,5 @@
 use Rattle.std.proofs.Common.{◌≡◌, ◌+◌, ◌*◌, ◌%◌, ◌^◌, ◌<◌, ◌++◌, length, replicate, ap, sym, subst, ◌∙◌, arith, rules}
-use Rattle.shared_fib.specs.Pairs.{ArePairs, unpaired}
+use Rattle.shared_fib.specs.Pairs.{ArePairs, unpacked_pairs}
 use Rattle.shared_fib.proofs.Pairing.{count_is, became, resized, twos_paired, twos_put}
 use Rattle.shared_fib.proofs.pairs.Pairs.put_pairs.Goals as goal
 
@@ -33,5 +33,5 @@ returns-in_ok-resize c =
     let high : c.from-then-pairs-gt0.result ≡ c.args.word = search rules in
     let is : c.resize.new.self.items ≡ ws ++ replicate m x = resized ws _ _ _ m x c.in_ok-resize.ensures.items (omega (arith, len)) (search (rules, arith)) in
     became _ _ c.args.self.now c.args.word (2 * m) (2 * m)
-    (ap (unpaired (n + 2 * m)) is ∙ twos_put n m c.args.word x ws c.self.invariant even small (λ i. low i + high i * 2 ^ 32))
+    (ap (unpacked_pairs (n + 2 * m)) is ∙ twos_put n m c.args.word x ws c.self.invariant even small (λ i. low i + high i * 2 ^ 32))
     c.self.view_is (λ _. 2 * m)

@@ -5,8 +5,8 @@ use Rattle.shared_fib.proofs.writer.Writer.at_rest.Goals as goal
 
 pub returns : goal.returns
 returns g c =
-    let l = c.self.inside.ledger in
+    let l = c.self.inside.control in
     let seat = c.self.inside.seat in
     subst IsAtRest c.self.view_is
-    (at_rest g.row.FIRST g.row.SECOND (record { words = seat.table; opening = seat.view.opening })
-    l.config l.rules seat.view.seen l.books l.versions c.history.ensures.written c.self.invariant.rests)
+    (at_rest g.row.FIRST g.row.SECOND (record { words = seat.table; initial = seat.view.initial })
+    l.config l.rules seat.view.seen l.pool l.versions c.history.ensures.written c.self.invariant.rests)

@@ -10,20 +10,20 @@ pub returns-clause-flushes : goal.returns-clause-flushes
 returns-clause-flushes g c =
     let f = g.row.FIRST in
     let d = g.row.SECOND in
-    let l = c.flush_by.new.ledger in
-    let z = state_of l.rules.rules c.flush_by.new.seat.view.seen l.books l.versions in
-    subst (λ (id : Identity). Flushes (by_steps id.opening) f d c.args.self.now.config c.args.self.now.table
+    let l = c.flush_by.new.control in
+    let z = state_of l.rules.rules c.flush_by.new.seat.view.seen l.pool l.versions in
+    subst (λ (id : Identity). Flushes (by_steps id.initial) f d c.args.self.now.config c.args.self.now.table
     c.flush_by.result z) c.requires.own
-    (subst (λ (y : WriterState). Flushes (by_steps y.identity.opening) f d y.config y.table c.flush_by.result z)
+    (subst (λ (y : WriterState). Flushes (by_steps y.identity.initial) f d y.config y.table c.flush_by.result z)
     c.self.view_is c.flush_by.ensures.flushes)
 
 pub returns-clause-checked : goal.returns-clause-checked
 returns-clause-checked g c =
-    let l = c.flush_by.new.ledger in
-    let z = state_of l.rules.rules c.flush_by.new.seat.view.seen l.books l.versions in
-    subst (λ (id : Identity). (freed : List ℕ) × FreesChecked id.opening c.args.self.now.table z freed)
+    let l = c.flush_by.new.control in
+    let z = state_of l.rules.rules c.flush_by.new.seat.view.seen l.pool l.versions in
+    subst (λ (id : Identity). (freed : List ℕ) × FreesChecked id.initial c.args.self.now.table z freed)
     c.requires.own
-    (subst (λ (y : WriterState). (freed : List ℕ) × FreesChecked y.identity.opening y.table z freed)
+    (subst (λ (y : WriterState). (freed : List ℕ) × FreesChecked y.identity.initial y.table z freed)
     c.self.view_is c.flush_by.ensures.checked)
 
 pub returns-clause-later : goal.returns-clause-later

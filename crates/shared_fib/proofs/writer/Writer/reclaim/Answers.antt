@@ -7,12 +7,12 @@ use Rattle.shared_fib.proofs.writer.Writer.reclaim.Goals as goal
 
 pub returns-clause-checked : goal.returns-clause-checked
 returns-clause-checked g c =
-    let l = c.reclaim_by.new.ledger in
-    let z = state_of l.rules.rules c.reclaim_by.new.seat.view.seen l.books l.versions in
+    let l = c.reclaim_by.new.control in
+    let z = state_of l.rules.rules c.reclaim_by.new.seat.view.seen l.pool l.versions in
     let freed = c.reclaim_by.result.freed in
     let s = c.args.self.now.table in
-    subst (λ (id : Identity). FreesChecked id.opening s z (take freed s.limbo)) c.requires.own
-    (subst (λ (y : WriterState). FreesChecked y.identity.opening y.table z (take freed y.table.limbo))
+    subst (λ (id : Identity). FreesChecked id.initial s z (take freed s.limbo)) c.requires.own
+    (subst (λ (y : WriterState). FreesChecked y.identity.initial y.table z (take freed y.table.limbo))
     c.self.view_is c.reclaim_by.ensures.checked)
 
 pub returns-clause-frees : goal.returns-clause-frees

@@ -1,10 +1,10 @@
 use Rattle.std.proofs.Common.{rules, ◌≡◌, ◌∙◌}
 use Rattle.lpm_trace.proofs.Counts.{token_is}
-use Rattle.shared_fib.specs.Running.{WriterState, left_by, setup, steps_of}
+use Rattle.shared_fib.specs.Running.{WriterState, state_of_writer, initial_state, steps_of}
 use Rattle.shared_fib.proofs.writer.Writer.token.Goals as goal
 
 pub returns-clause-value : goal.returns-clause-value
 returns-clause-value g c =
     let w : WriterState = c.args.self.now in
-    let was : c.token.result ≡ (left_by w).token = search rules in
-    was ∙ token_is (setup w.identity) (steps_of w)
+    let was : c.token.result ≡ (state_of_writer w).token = search rules in
+    was ∙ token_is (initial_state w.identity) (steps_of w)

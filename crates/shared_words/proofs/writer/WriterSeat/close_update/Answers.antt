@@ -1,7 +1,7 @@
 use Rattle.std.proofs.Common.{◌+◌, refl, arith, ap, ◌∙◌, sym}
-use Rattle.lpm_trace.specs.declared.step.WriterStep.TheVariants.{Closes}
-use Rattle.lpm_trace.specs.Tables.{tables}
-use Rattle.shared_words.specs.Opened.{Opened, setup_of}
+use Rattle.lpm_trace.specs.declared.step.WriterStep.TheVariants.{EndUpdate}
+use Rattle.lpm_trace.specs.States.{state_after}
+use Rattle.shared_words.specs.Initial.{InitialData, initial_state_of}
 use Rattle.shared_words.specs.Seats.{WriterAt}
 use Rattle.shared_words.proofs.Writing.{closes_allowed}
 use Rattle.shared_words.proofs.Seat.{writer_inside, may_inside}
@@ -9,12 +9,12 @@ use Rattle.shared_words.proofs.writer.WriterSeat.close_update.Goals as goal
 
 pub store-requires : goal.store-requires
 store-requires g c =
-    let o : Opened = g.T.Opens.opened c.table.inside.board.shared.key in
+    let o : InitialData = g.T.InitialContent.initial c.table.inside.board.shared.key in
     let own = writer_inside _ _ _ _ c.table.view_is c.self.view_is c.requires.own in
     let next = c.requires.next
-    ∙ ap (λ (s : WriterAt). (tables (setup_of s.view.opening) s.view.seen).sequence + 1) (sym c.self.view_is) in (
+    ∙ ap (λ (s : WriterAt). (state_after (initial_state_of s.view.initial) s.view.seen).sequence + 1) (sym c.self.view_is) in (
       own.same,
       omega (arith, own.words),
       closes_allowed o _ _ _ c.self.inside.place.me c.self.invariant.role _ refl next
-          (may_inside Closes _ _ c.self.view_is c.requires.may),
+          (may_inside EndUpdate _ _ c.self.view_is c.requires.may),
     )

@@ -1,5 +1,5 @@
 use Rattle.std.proofs.Common.{◌<◌, arith, ap}
-use Rattle.shared_words.specs.Opened.{Opened}
+use Rattle.shared_words.specs.Initial.{InitialData}
 use Rattle.shared_words.specs.Seats.{WordsAt, WriterAt}
 use Rattle.shared_words.proofs.Seat.{writer_inside}
 use Rattle.shared_words.proofs.Writing.{next_worker_allowed}
@@ -7,7 +7,7 @@ use Rattle.shared_words.proofs.writer.WriterSeat.next_worker.Goals as goal
 
 pub split_seat-place-requires : goal.split_seat-place-requires
 split_seat-place-requires g c =
-    let o : Opened = g.T.Opens.opened c.table.inside.board.shared.key in
+    let o : InitialData = g.T.InitialContent.initial c.table.inside.board.shared.key in
     let v = c.self.inside.place.me.0 in
     let own = writer_inside _ _ _ _ c.table.view_is c.self.view_is c.requires.own in
     let made = ap (λ (s : WriterAt). s.view.made) c.self.view_is in

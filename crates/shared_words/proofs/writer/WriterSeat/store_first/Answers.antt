@@ -2,22 +2,22 @@ use Rattle.std.proofs.Common.{◌≡◌, ◌<◌, ℕ, length, ap, arith, rules}
 use Rattle.lpm_trace.specs.declared.step.WriterStep.TheVariants.{StoreFirst}
 use Rattle.lpm_trace.specs.Writer.{MayStep}
 use Rattle.shared_words.specs.declared.view.View.{View}
-use Rattle.shared_words.specs.Opened.{Opened, setup_of}
+use Rattle.shared_words.specs.Initial.{InitialData, initial_state_of}
 use Rattle.shared_words.proofs.Laying.{firsts_length}
 use Rattle.shared_words.proofs.Seat.{writer_inside, may_inside}
 use Rattle.shared_words.proofs.Writing.{looks_allowed}
 use Rattle.shared_words.proofs.writer.WriterSeat.store_first.Goals as goal
 
 -- a first word that may be stored is one of the table's
-inside : (o : Opened) (v : View) (i word : ℕ) → v.opening ≡ o
-    → MayStep (setup_of v.opening) v.seen (StoreFirst i word) → i < length o.firsts
+inside : (o : InitialData) (v : View) (i word : ℕ) → v.initial ≡ o
+    → MayStep (initial_state_of v.initial) v.seen (StoreFirst i word) → i < length o.firsts
 inside o v i word is may =
-    let len : length v.opening.firsts ≡ length o.firsts = ap (λ (z : Opened). length z.firsts) is in
-    omega (arith, len, may.0.1, firsts_length (setup_of v.opening) v.seen)
+    let len : length v.initial.firsts ≡ length o.firsts = ap (λ (z : InitialData). length z.firsts) is in
+    omega (arith, len, may.0.1, firsts_length (initial_state_of v.initial) v.seen)
 
 pub load-found-requires : goal.load-found-requires
 load-found-requires g c =
-    let o : Opened = g.T.Opens.opened c.table.inside.board.shared.key in
+    let o : InitialData = g.T.InitialContent.initial c.table.inside.board.shared.key in
     let seat = c.self.inside in
     let own = writer_inside _ _ _ _ c.table.view_is c.self.view_is c.requires.own in
     let low = inside o seat.place.me.0 c.args.i c.args.word own.opening_is
@@ -29,7 +29,7 @@ load-found-requires g c =
 
 pub store_first_as-requires-clause-own : goal.store_first_as-requires-clause-own
 store_first_as-requires-clause-own g c =
-    let o : Opened = g.T.Opens.opened c.table.inside.board.shared.key in
+    let o : InitialData = g.T.InitialContent.initial c.table.inside.board.shared.key in
     let own = writer_inside _ _ _ _ c.table.view_is c.self.view_is c.requires.own in
     let low = inside o c.self.inside.place.me.0 c.args.i c.args.word own.opening_is
     (may_inside (StoreFirst c.args.i c.args.word) _ _ c.self.view_is c.requires.may) in

@@ -3,7 +3,7 @@ use Rattle.std.proofs.lemmas.Grind.{common_steps}
 use Rattle.lpm_trace.specs.declared.step.WriterStep.TheVariants.{StoreSecond}
 use Rattle.lpm_trace.specs.Writer.{MayStep}
 use Rattle.shared_words.specs.declared.view.View.{View}
-use Rattle.shared_words.specs.Opened.{Opened, setup_of}
+use Rattle.shared_words.specs.Initial.{InitialData, initial_state_of}
 use Rattle.shared_words.specs.Seats.{WordsAt}
 use Rattle.shared_words.proofs.Laying.{seconds_length}
 use Rattle.shared_words.proofs.Seat.{writer_inside, may_inside}
@@ -11,22 +11,22 @@ use Rattle.shared_words.proofs.Writing.{looks_allowed}
 use Rattle.shared_words.proofs.writer.WriterSeat.store_second.Goals as goal
 
 -- a second word that may be stored is one of the table's
-inside : (o : Opened) (v : View) (j word : ℕ) → v.opening ≡ o
-    → MayStep (setup_of v.opening) v.seen (StoreSecond j word) → j < length o.seconds
+inside : (o : InitialData) (v : View) (j word : ℕ) → v.initial ≡ o
+    → MayStep (initial_state_of v.initial) v.seen (StoreSecond j word) → j < length o.seconds
 inside o v j word is may =
-    let len : length v.opening.seconds ≡ length o.seconds = ap (λ (z : Opened). length z.seconds) is in
-    omega (arith, len, may.0.1, seconds_length (setup_of v.opening) v.seen)
+    let len : length v.initial.seconds ≡ length o.seconds = ap (λ (z : InitialData). length z.seconds) is in
+    omega (arith, len, may.0.1, seconds_length (initial_state_of v.initial) v.seen)
 
 pub second_at-at-requires : goal.second_at-at-requires
 second_at-at-requires g c =
     let own = c.requires.own in
     let layout = ap (λ (w : WordsAt). w.layout.firsts) c.table.view_is in
-    let low = inside c.args.table.now.opening c.args.self.now.view c.args.j c.args.word own.opening_is c.requires.may in
+    let low = inside c.args.table.now.initial c.args.self.now.view c.args.j c.args.word own.opening_is c.requires.may in
     omega (arith, layout, own.firsts, own.low, low)
 
 pub load-found-requires : goal.load-found-requires
 load-found-requires g c =
-    let o : Opened = g.T.Opens.opened c.table.inside.board.shared.key in
+    let o : InitialData = g.T.InitialContent.initial c.table.inside.board.shared.key in
     let seat = c.self.inside in
     let own = writer_inside _ _ _ _ c.table.view_is c.self.view_is c.requires.own in
     let low = inside o seat.place.me.0 c.args.j c.args.word own.opening_is
@@ -38,7 +38,7 @@ load-found-requires g c =
 
 pub store_second_as-requires-clause-own : goal.store_second_as-requires-clause-own
 store_second_as-requires-clause-own g c =
-    let o : Opened = g.T.Opens.opened c.table.inside.board.shared.key in
+    let o : InitialData = g.T.InitialContent.initial c.table.inside.board.shared.key in
     let own = writer_inside _ _ _ _ c.table.view_is c.self.view_is c.requires.own in
     let low = inside o c.self.inside.place.me.0 c.args.j c.args.word own.opening_is
     (may_inside (StoreSecond c.args.j c.args.word) _ _ c.self.view_is c.requires.may) in

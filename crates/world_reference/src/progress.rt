@@ -1,6 +1,6 @@
 //! How far the writer has come: where each group stands, and what the writer has to do next.
 
-use super::Setting;
+use super::InitialState;
 use std::alloc::{AllocError, Global};
 
 /// Where a group stands.
@@ -23,7 +23,7 @@ struct Ask {
 
 /// What the writer has to do next.
 #[derive(Clone, Copy, PartialEq, Eq)]
-enum Duty {
+enum NextStep {
     /// Nothing that is fixed.
     Nothing,
     /// Raise the token, since its last step unlinked a group.
@@ -34,9 +34,9 @@ enum Duty {
 
 /// How far the writer has come.
 #[derive(Drop)]
-pub(crate) struct Course {
+pub(crate) struct WriterProgress {
     groups: Vec<Standing>,
-    duty: Duty,
+    next_step: NextStep,
     /// The greatest token whose check has passed.
     passed: u64,
     /// The token that a synchronize waits for.
@@ -66,16 +66,16 @@ fn older(token: u64, other: Option<u64>) -> u64 {
     }
 }
 
-impl Course {
+impl WriterProgress {
     /// Before the first step no group was linked.
-    pub(crate) fn new(alloc: Global, setting: &Setting) -> Result<Self, AllocError> {
+    pub(crate) fn new(alloc: Global, initial: &InitialState) -> Result<Self, AllocError> {
         let mut groups = Vec::new(alloc);
-        for _group in 0..setting.groups {
+        for _group in 0..initial.groups {
             groups.push(Standing::NeverLinked)?;
         }
-        Ok(Course {
+        Ok(WriterProgress {
             groups,
-            duty: Duty::Nothing,
+            next_step: NextStep::Nothing,
             passed: 0,
             awaited: None,
             reclaims: false,
@@ -100,28 +100,28 @@ impl Course {
 
     /// Whether a group was never linked, or a check of its token has passed since. Without workers
     /// each check passes.
-    fn is_free(&self, setting: &Setting, group: u64) -> bool {
+    fn is_free(&self, initial: &InitialState, group: u64) -> bool {
         match self.standing(group) {
             Some(Standing::NeverLinked) => true,
-            Some(Standing::Waits(token)) => token <= self.passed || setting.workers == 0,
+            Some(Standing::Waits(token)) => token <= self.passed || initial.workers == 0,
             Some(Standing::Linked) | None => false,
         }
     }
 
     /// Whether nothing is fixed that comes next.
     fn is_at_leisure(&self) -> bool {
-        self.duty == Duty::Nothing
+        self.next_step == NextStep::Nothing
     }
 
     /// Moves on by a store of a first word. Answers whether it may come next: it links no group but
     /// the free one that the update took.
-    pub(crate) fn store_first(&mut self, setting: &Setting, linking: &Linking) -> bool {
+    pub(crate) fn store_first(&mut self, initial: &InitialState, linking: &Linking) -> bool {
         if !self.is_at_leisure() {
             return false;
         }
         if let Some(group) = linking.linked {
             let group = u64::from(group);
-            if self.taken != Some(group) || !self.is_free(setting, group) {
+            if self.taken != Some(group) || !self.is_free(initial, group) {
                 return false;
             }
             self.stand(group, Standing::Linked);
@@ -129,7 +129,7 @@ impl Course {
         if let Some(group) = linking.unlinked {
             let token = linking.token.saturating_add(1);
             self.stand(u64::from(group), Standing::Waits(token));
-            self.duty = Duty::Bump;
+            self.next_step = NextStep::Bump;
         }
         self.reclaims = false;
         true
@@ -137,7 +137,7 @@ impl Course {
 
     /// Moves on by a store of a word of this group. Answers whether it may come next: the group is
     /// linked, or it is the one free group that the update takes.
-    pub(crate) fn store_second(&mut self, setting: &Setting, group: u64) -> bool {
+    pub(crate) fn store_second(&mut self, initial: &InitialState, group: u64) -> bool {
         if !self.is_at_leisure() {
             return false;
         }
@@ -145,7 +145,7 @@ impl Course {
         if self.standing(group) == Some(Standing::Linked) {
             return true;
         }
-        if !self.is_free(setting, group) {
+        if !self.is_free(initial, group) {
             return false;
         }
         let is_only = self.taken.is_none() || self.taken == Some(group);
@@ -173,18 +173,23 @@ impl Course {
     /// Moves on by a step that raises the token to this one. Answers whether it may come next:
     /// directly after an unlinking; else it is a synchronize's, which comes between updates and
     /// checks the token next.
-    pub(crate) fn bump_token(&mut self, setting: &Setting, updating: bool, token: u64) -> bool {
-        match self.duty {
-            Duty::Bump => {
-                self.duty = Duty::Nothing;
+    pub(crate) fn bump_token(
+        &mut self,
+        initial: &InitialState,
+        updating: bool,
+        token: u64,
+    ) -> bool {
+        match self.next_step {
+            NextStep::Bump => {
+                self.next_step = NextStep::Nothing;
                 self.reclaims = true;
                 true
             }
-            Duty::Check(_) => false,
-            Duty::Nothing => {
-                if setting.workers > 0 {
+            NextStep::Check(_) => false,
+            NextStep::Nothing => {
+                if initial.workers > 0 {
                     self.awaited = Some(token);
-                    self.duty = Duty::Check(Ask { token, worker: 0 });
+                    self.next_step = NextStep::Check(Ask { token, worker: 0 });
                 }
                 !updating
             }
@@ -207,10 +212,10 @@ impl Course {
     /// What a check asks next, where this is the token: it goes on, or a reclaim begins one of the
     /// oldest token; in an update that is after an unlinking, and not of the group just unlinked.
     fn next_ask(&self, updating: bool, token: u64) -> Option<Ask> {
-        match self.duty {
-            Duty::Check(ask) => Some(ask),
-            Duty::Bump => None,
-            Duty::Nothing => {
+        match self.next_step {
+            NextStep::Check(ask) => Some(ask),
+            NextStep::Bump => None,
+            NextStep::Nothing => {
                 let oldest = self.oldest_waiting()?;
                 if updating && (!self.reclaims || oldest >= token) {
                     return None;
@@ -224,10 +229,10 @@ impl Course {
     }
 
     /// Moves on where a worker lets the token of a check pass.
-    fn pass(&mut self, setting: &Setting, ask: Ask) {
+    fn pass(&mut self, initial: &InitialState, ask: Ask) {
         let next = ask.worker.saturating_add(1);
-        if next < setting.workers as u64 {
-            self.duty = Duty::Check(Ask {
+        if next < initial.workers as u64 {
+            self.next_step = NextStep::Check(Ask {
                 token: ask.token,
                 worker: next,
             });
@@ -235,15 +240,15 @@ impl Course {
         }
         self.passed = self.passed.max(ask.token);
         self.awaited = None;
-        self.duty = Duty::Nothing;
+        self.next_step = NextStep::Nothing;
     }
 
     /// Moves on where a worker stops a check: a synchronize checks again, and a reclaim ends.
     fn stop(&mut self) {
         match self.awaited {
-            Some(token) => self.duty = Duty::Check(Ask { token, worker: 0 }),
+            Some(token) => self.next_step = NextStep::Check(Ask { token, worker: 0 }),
             None => {
-                self.duty = Duty::Nothing;
+                self.next_step = NextStep::Nothing;
                 self.reclaims = false;
             }
         }
@@ -253,7 +258,7 @@ impl Course {
     /// next.
     pub(crate) fn load_counter(
         &mut self,
-        setting: &Setting,
+        initial: &InitialState,
         updating: bool,
         token: u64,
         worker: u64,
@@ -263,7 +268,7 @@ impl Course {
             return false;
         };
         if counter == 0 || ask.token <= counter {
-            self.pass(setting, ask);
+            self.pass(initial, ask);
         } else {
             self.stop();
         }

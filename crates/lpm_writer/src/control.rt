@@ -6,12 +6,12 @@ ghost use Rattle.fib_model.specs.State.{IsExhausted};
 ghost use Rattle.fib_model.specs.Outcomes.{Adds, Deletes, Flushes, Frees};
 ghost use Rattle.lpm_trace.specs.declared.step.RuleChange.TheVariants.{Put as Puts, TakeOut as TakesOut};
 ghost use Rattle.lpm_trace.specs.declared.step.WriterStep.{WriterStep};
-ghost use Rattle.lpm_trace.specs.Tables.{Setup};
+ghost use Rattle.lpm_trace.specs.States.{InitialState};
 ghost use Rattle.lpm_writer.specs.Taking.{LinksLeast};
 ghost use Rattle.lpm_writer.specs.Traced.{by_writer};
 ghost use Rattle.lpm_writer.specs.Resting.{IsResting, state_of};
 
-use super::Books;
+use super::GroupPool;
 use super::changing::change;
 use super::grouping::{group_for, is_linked};
 use super::waiting::reclaim as free_waiting;
@@ -31,40 +31,40 @@ const LAST_TOKEN: u64 = 1 << 62;
 /// What a writer keeps beside the memory: the limits, the rules, the groups, and the number of updates
 /// that it has begun.
 #[derive(Drop)]
-pub struct Ledger<const FIRST: u32, const SECOND: u32> {
+pub struct ControlState<const FIRST: u32, const SECOND: u32> {
     pub config: Config,
     pub rules: Rules<FIRST, SECOND>,
-    pub books: Books,
+    pub pool: GroupPool,
     pub versions: u64,
 }
 
 /// Whether fewer tokens than groups are left.
 pub(crate) fn is_out_of_tokens<const FIRST: u32, const SECOND: u32, M: Memory>(
-    ledger: &Ledger<FIRST, SECOND>,
+    control: &ControlState<FIRST, SECOND>,
     memory: &M,
 ) -> bool
-    requires rests { (c : Setup) × (steps : List WriterStep)
-        × IsResting FIRST SECOND c steps ledger.now.config ledger.now.rules ledger.now.books
-        ledger.now.versions }
-    ensures { IsTrue result ↔ (2 ^ 62 < M.newest memory.now + ledger.now.config.groups) }
+    requires rests { (c : InitialState) × (steps : List WriterStep)
+        × IsResting FIRST SECOND c steps control.now.config control.now.rules control.now.pool
+        control.now.versions }
+    ensures { IsTrue result ↔ (2 ^ 62 < M.newest memory.now + control.now.config.groups) }
 {
-    let groups = ledger.books.groups.len() as u64;
+    let groups = control.pool.groups.len() as u64;
     memory.token() + groups > LAST_TOKEN
 }
 
 /// Whether the tokens or the versions would pass their bound by one more change.
 fn is_exhausted<const FIRST: u32, const SECOND: u32, M: Memory>(
-    ledger: &Ledger<FIRST, SECOND>,
+    control: &ControlState<FIRST, SECOND>,
     memory: &M,
 ) -> bool
-    requires rests { (c : Setup) × (steps : List WriterStep) × M.did memory.now c steps
-        × IsResting FIRST SECOND c steps ledger.now.config ledger.now.rules ledger.now.books
-        ledger.now.versions }
-    ensures { (c : Setup) (steps : List WriterStep) → M.did memory.now c steps
-        → IsTrue result ↔ IsExhausted (by_writer M.does c) ledger.now.config
-        (state_of ledger.now.rules.rules (memory.now, steps) ledger.now.books ledger.now.versions) }
+    requires rests { (c : InitialState) × (steps : List WriterStep) × M.did memory.now c steps
+        × IsResting FIRST SECOND c steps control.now.config control.now.rules control.now.pool
+        control.now.versions }
+    ensures { (c : InitialState) (steps : List WriterStep) → M.did memory.now c steps
+        → IsTrue result ↔ IsExhausted (by_writer M.does c) control.now.config
+        (state_of control.now.rules.rules (memory.now, steps) control.now.pool control.now.versions) }
 {
-    is_out_of_tokens(ledger, memory) || ledger.versions >= MOST_UPDATES
+    is_out_of_tokens(control, memory) || control.versions >= MOST_UPDATES
 }
 
 /// Whether a rule that the list has no more was longer than `FIRST` bits, and has left no such rule in
@@ -111,38 +111,38 @@ fn taking_out<const FIRST: u32, const SECOND: u32>(prefix: &Prefix<FIRST, SECOND
 /// has no room; and `NoGroups`, where a rule longer than `FIRST` bits is the first in its block, no group
 /// is free, and the oldest in limbo is held or there is none. It names the worker that holds that one.
 pub fn add<const FIRST: u32, const SECOND: u32, M: Memory>(
-    ledger: &mut Ledger<FIRST, SECOND>,
+    control: &mut ControlState<FIRST, SECOND>,
     memory: &mut M,
     prefix: &Prefix<FIRST, SECOND>,
     hop: Hop,
 ) -> Result<Put, Refusal>
-    requires rests { (c : Setup) × (steps : List WriterStep) × M.did memory.old c steps
-        × IsResting FIRST SECOND c steps ledger.old.config ledger.old.rules ledger.old.books
-        ledger.old.versions }
-    ensures adds { (c : Setup) (steps : List WriterStep) → M.did memory.old c steps
-        → IsResting FIRST SECOND c steps ledger.old.config ledger.old.rules ledger.old.books
-        ledger.old.versions
+    requires rests { (c : InitialState) × (steps : List WriterStep) × M.did memory.old c steps
+        × IsResting FIRST SECOND c steps control.old.config control.old.rules control.old.pool
+        control.old.versions }
+    ensures adds { (c : InitialState) (steps : List WriterStep) → M.did memory.old c steps
+        → IsResting FIRST SECOND c steps control.old.config control.old.rules control.old.pool
+        control.old.versions
         → (later : List WriterStep) × M.did memory.new c later
-        × IsResting FIRST SECOND c later ledger.new.config ledger.new.rules ledger.new.books
-        ledger.new.versions
-        × Adds (by_writer M.does c) FIRST SECOND ledger.old.config
-        (state_of ledger.old.rules.rules (memory.old, steps) ledger.old.books ledger.old.versions)
+        × IsResting FIRST SECOND c later control.new.config control.new.rules control.new.pool
+        control.new.versions
+        × Adds (by_writer M.does c) FIRST SECOND control.old.config
+        (state_of control.old.rules.rules (memory.old, steps) control.old.pool control.old.versions)
         prefix.now hop result
-        (state_of ledger.new.rules.rules (memory.new, later) ledger.new.books ledger.new.versions) }
-    ensures least { LinksLeast ledger.old.books.groups ledger.new.books.groups }
-    ensures config { ledger.new.config ≡ ledger.old.config }
+        (state_of control.new.rules.rules (memory.new, later) control.new.pool control.new.versions) }
+    ensures least { LinksLeast control.old.pool.groups control.new.pool.groups }
+    ensures config { control.new.config ≡ control.old.config }
 {
     let _bits = prefix.bits();
     let _number = hop.number();
-    if is_exhausted(ledger, memory) {
-        return match ledger.rules.get(prefix) {
+    if is_exhausted(control, memory) {
+        return match control.rules.get(prefix) {
             Some(old) if old == hop => Ok(Put::Unchanged),
             _ => Err(Refusal::Exhausted),
         };
     }
     // The word is loaded here, so that the wait for it and the search of the rules overlap.
     let linked = is_linked::<FIRST, SECOND, M>(prefix, memory);
-    let put = match ledger.rules.put(prefix, hop) {
+    let put = match control.rules.put(prefix, hop) {
         Ok(put) => put,
         Err(RuleFault::TooManyRules) => return Err(Refusal::TooManyRules),
         Err(RuleFault::Memory) => return Err(Refusal::Memory),
@@ -150,16 +150,16 @@ pub fn add<const FIRST: u32, const SECOND: u32, M: Memory>(
     if let Put::Unchanged = put {
         return Ok(put);
     }
-    match group_for::<FIRST, SECOND, M>(prefix, linked, memory, &mut ledger.books) {
+    match group_for::<FIRST, SECOND, M>(prefix, linked, memory, &mut control.pool) {
         Ok(group) => {
             let update = Update::add(prefix, hop, group);
             let rule = putting(prefix, hop);
-            change::<FIRST, SECOND, M>(update, &rule, memory, &mut ledger.books, &ledger.config);
-            ledger.versions += 1;
+            change::<FIRST, SECOND, M>(update, &rule, memory, &mut control.pool, &control.config);
+            control.versions += 1;
             return Ok(put);
         }
         Err(oldest) => {
-            let _ = ledger.rules.remove(prefix);
+            let _ = control.rules.remove(prefix);
             return Err(Refusal::NoGroups { oldest });
         }
     }
@@ -168,26 +168,26 @@ pub fn add<const FIRST: u32, const SECOND: u32, M: Memory>(
 /// Frees groups that wait in limbo, from the oldest on: at most `max`, up to the first that a worker
 /// holds. It returns how many were freed, and the worker that stopped it.
 pub fn reclaim<const FIRST: u32, const SECOND: u32, M: Memory>(
-    ledger: &mut Ledger<FIRST, SECOND>,
+    control: &mut ControlState<FIRST, SECOND>,
     memory: &mut M,
     max: usize,
 ) -> Reclaimed
-    requires rests { (c : Setup) × (steps : List WriterStep) × M.did memory.old c steps
-        × IsResting FIRST SECOND c steps ledger.old.config ledger.old.rules ledger.old.books
-        ledger.old.versions }
-    ensures frees { (c : Setup) (steps : List WriterStep) → M.did memory.old c steps
-        → IsResting FIRST SECOND c steps ledger.old.config ledger.old.rules ledger.old.books
-        ledger.old.versions
+    requires rests { (c : InitialState) × (steps : List WriterStep) × M.did memory.old c steps
+        × IsResting FIRST SECOND c steps control.old.config control.old.rules control.old.pool
+        control.old.versions }
+    ensures frees { (c : InitialState) (steps : List WriterStep) → M.did memory.old c steps
+        → IsResting FIRST SECOND c steps control.old.config control.old.rules control.old.pool
+        control.old.versions
         → (later : List WriterStep) × M.did memory.new c later
-        × IsResting FIRST SECOND c later ledger.new.config ledger.new.rules ledger.new.books
-        ledger.new.versions
+        × IsResting FIRST SECOND c later control.new.config control.new.rules control.new.pool
+        control.new.versions
         × Frees (by_writer M.does c)
-        (state_of ledger.old.rules.rules (memory.old, steps) ledger.old.books ledger.old.versions)
+        (state_of control.old.rules.rules (memory.old, steps) control.old.pool control.old.versions)
         max result
-        (state_of ledger.new.rules.rules (memory.new, later) ledger.new.books ledger.new.versions) }
-    ensures config { ledger.new.config ≡ ledger.old.config }
+        (state_of control.new.rules.rules (memory.new, later) control.new.pool control.new.versions) }
+    ensures config { control.new.config ≡ control.old.config }
 {
-    free_waiting(&mut ledger.books, memory, max)
+    free_waiting(&mut control.pool, memory, max)
 }
 
 /// Deletes the rule of this prefix, and returns its next hop. Its addresses go to the longest rule that
@@ -195,40 +195,40 @@ pub fn reclaim<const FIRST: u32, const SECOND: u32, M: Memory>(
 ///
 /// The refusals: `NoSuchRule`, where the prefix has no rule, and else `Exhausted`.
 pub fn delete<const FIRST: u32, const SECOND: u32, M: Memory>(
-    ledger: &mut Ledger<FIRST, SECOND>,
+    control: &mut ControlState<FIRST, SECOND>,
     memory: &mut M,
     prefix: &Prefix<FIRST, SECOND>,
 ) -> Result<Hop, Refusal>
-    requires rests { (c : Setup) × (steps : List WriterStep) × M.did memory.old c steps
-        × IsResting FIRST SECOND c steps ledger.old.config ledger.old.rules ledger.old.books
-        ledger.old.versions }
-    ensures deletes { (c : Setup) (steps : List WriterStep) → M.did memory.old c steps
-        → IsResting FIRST SECOND c steps ledger.old.config ledger.old.rules ledger.old.books
-        ledger.old.versions
+    requires rests { (c : InitialState) × (steps : List WriterStep) × M.did memory.old c steps
+        × IsResting FIRST SECOND c steps control.old.config control.old.rules control.old.pool
+        control.old.versions }
+    ensures deletes { (c : InitialState) (steps : List WriterStep) → M.did memory.old c steps
+        → IsResting FIRST SECOND c steps control.old.config control.old.rules control.old.pool
+        control.old.versions
         → (later : List WriterStep) × M.did memory.new c later
-        × IsResting FIRST SECOND c later ledger.new.config ledger.new.rules ledger.new.books
-        ledger.new.versions
-        × Deletes (by_writer M.does c) FIRST SECOND ledger.old.config
-        (state_of ledger.old.rules.rules (memory.old, steps) ledger.old.books ledger.old.versions)
+        × IsResting FIRST SECOND c later control.new.config control.new.rules control.new.pool
+        control.new.versions
+        × Deletes (by_writer M.does c) FIRST SECOND control.old.config
+        (state_of control.old.rules.rules (memory.old, steps) control.old.pool control.old.versions)
         prefix.now result
-        (state_of ledger.new.rules.rules (memory.new, later) ledger.new.books ledger.new.versions) }
-    ensures config { ledger.new.config ≡ ledger.old.config }
+        (state_of control.new.rules.rules (memory.new, later) control.new.pool control.new.versions) }
+    ensures config { control.new.config ≡ control.old.config }
 {
     let _bits = prefix.bits();
-    if is_exhausted(ledger, memory) {
-        return match ledger.rules.get(prefix) {
+    if is_exhausted(control, memory) {
+        return match control.rules.get(prefix) {
             Some(_) => Err(Refusal::Exhausted),
             None => Err(Refusal::NoSuchRule),
         };
     }
-    let cover = ledger.rules.cover(prefix);
-    match ledger.rules.remove(prefix) {
+    let cover = control.rules.cover(prefix);
+    match control.rules.remove(prefix) {
         Ok(hop) => {
-            let last = is_last(&ledger.rules, prefix);
+            let last = is_last(&control.rules, prefix);
             let update = Update::delete(prefix, cover, last);
             let rule = taking_out(prefix);
-            change::<FIRST, SECOND, M>(update, &rule, memory, &mut ledger.books, &ledger.config);
-            ledger.versions += 1;
+            change::<FIRST, SECOND, M>(update, &rule, memory, &mut control.pool, &control.config);
+            control.versions += 1;
             return Ok(hop);
         }
         Err(_) => return Err(Refusal::NoSuchRule),
@@ -238,34 +238,34 @@ pub fn delete<const FIRST: u32, const SECOND: u32, M: Memory>(
 /// Deletes all rules, as one version, and returns how many there were. With none nothing changes, and
 /// else `Exhausted` is the only refusal.
 pub fn flush<const FIRST: u32, const SECOND: u32, M: Memory>(
-    ledger: &mut Ledger<FIRST, SECOND>,
+    control: &mut ControlState<FIRST, SECOND>,
     memory: &mut M,
 ) -> Result<usize, Refusal>
-    requires rests { (c : Setup) × (steps : List WriterStep) × M.did memory.old c steps
-        × IsResting FIRST SECOND c steps ledger.old.config ledger.old.rules ledger.old.books
-        ledger.old.versions }
-    ensures flushes { (c : Setup) (steps : List WriterStep) → M.did memory.old c steps
-        → IsResting FIRST SECOND c steps ledger.old.config ledger.old.rules ledger.old.books
-        ledger.old.versions
+    requires rests { (c : InitialState) × (steps : List WriterStep) × M.did memory.old c steps
+        × IsResting FIRST SECOND c steps control.old.config control.old.rules control.old.pool
+        control.old.versions }
+    ensures flushes { (c : InitialState) (steps : List WriterStep) → M.did memory.old c steps
+        → IsResting FIRST SECOND c steps control.old.config control.old.rules control.old.pool
+        control.old.versions
         → (later : List WriterStep) × M.did memory.new c later
-        × IsResting FIRST SECOND c later ledger.new.config ledger.new.rules ledger.new.books
-        ledger.new.versions
-        × Flushes (by_writer M.does c) FIRST SECOND ledger.old.config
-        (state_of ledger.old.rules.rules (memory.old, steps) ledger.old.books ledger.old.versions)
+        × IsResting FIRST SECOND c later control.new.config control.new.rules control.new.pool
+        control.new.versions
+        × Flushes (by_writer M.does c) FIRST SECOND control.old.config
+        (state_of control.old.rules.rules (memory.old, steps) control.old.pool control.old.versions)
         result
-        (state_of ledger.new.rules.rules (memory.new, later) ledger.new.books ledger.new.versions) }
-    ensures config { ledger.new.config ≡ ledger.old.config }
+        (state_of control.new.rules.rules (memory.new, later) control.new.pool control.new.versions) }
+    ensures config { control.new.config ≡ control.old.config }
 {
-    if ledger.rules.is_empty() {
+    if control.rules.is_empty() {
         return Ok(0);
     }
-    if is_exhausted(ledger, memory) {
+    if is_exhausted(control, memory) {
         return Err(Refusal::Exhausted);
     }
-    let count = ledger.rules.clear();
+    let count = control.rules.clear();
     let update = Update::flush::<FIRST, SECOND>();
     let rule = RuleChange::Clear;
-    change::<FIRST, SECOND, M>(update, &rule, memory, &mut ledger.books, &ledger.config);
-    ledger.versions += 1;
+    change::<FIRST, SECOND, M>(update, &rule, memory, &mut control.pool, &control.config);
+    control.versions += 1;
     Ok(count)
 }

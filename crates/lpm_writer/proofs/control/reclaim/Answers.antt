@@ -1,18 +1,18 @@
 use Rattle.std.proofs.Common.{◌≤◌, refl, sym, subst, [], length, None}
 use Rattle.defer_queue.specs.Limbo.{Limbo as Queue}
 use Rattle.lpm_update.specs.Linked.{group_at}
-use Rattle.lpm_trace.specs.Tables.{tables}
+use Rattle.lpm_trace.specs.States.{state_after}
 use Rattle.lpm_writer.specs.Waiting.{AreWaiting, IsQueued, tokens_of}
 use Rattle.lpm_writer.proofs.Freeing.{freed_within}
 use Rattle.lpm_writer.proofs.Limbo.{freed_queue}
 use Rattle.lpm_writer.proofs.TakesOne.{no_tail, without_tail, may_reclaim}
 use Rattle.lpm_writer.proofs.Once.{after_reclaim}
 use Rattle.lpm_writer.proofs.Rests.{between_take, rests_still, tied_freed}
-use Rattle.lpm_writer.proofs.ledger.reclaim.Goals as goal
+use Rattle.lpm_writer.proofs.control.reclaim.Goals as goal
 
 pub reclaim-requires-clause-kept : goal.reclaim-requires-clause-kept
 reclaim-requires-clause-kept g c =
-    let x = c.args.ledger.now.books in
+    let x = c.args.control.now.pool in
     let r = c.requires.rests in
     (r.0, r.1, [], None, r.2, no_tail r.0 r.1 x.groups x.queue.items x.passed None r.3.keeps, may_reclaim r.0 r.1 x (between_take r.0 r.1 x r.3.between r.3.keeps))
 
@@ -20,10 +20,10 @@ pub returns-clause-frees : goal.returns-clause-frees
 returns-clause-frees g c = λ setup steps did rest.
     let f = g.row.FIRST in
     let s = g.row.SECOND in
-    let l = c.args.ledger.now in
-    let x = l.books in
+    let l = c.args.control.now in
+    let x = l.pool in
     let r = c.reclaim in
-    let y = r.new.books in
+    let y = r.new.pool in
     let done = r.ensures.reclaims setup steps [] None did (no_tail setup steps x.groups x.queue.items x.passed None rest.keeps) (may_reclaim setup steps x (between_take setup steps x rest.between rest.keeps)) in
     let within : r.result.freed ≤ length x.queue.items = freed_within x.queue.items done.4 in
     let waits = subst (λ (q : Queue). AreWaiting y.groups q.items) r.ensures.queue r.ensures.waiting in
@@ -32,6 +32,6 @@ returns-clause-frees g c = λ setup steps did rest.
       done.1,
       rests_still f s setup steps done.0 l.config l.rules x y l.versions rest done.2
           (after_reclaim g.M.Memory.does setup (c.args.memory.now, steps) c.args.max (tokens_of x.queue.items) r.result.freed r.result.stopped (tokens_of y.queue.items) (r.new.memory, done.0) done.4) (without_tail setup done.0 y.groups y.queue.items y.passed None done.3)
-          (tied_freed f r.result.freed x.groups y.groups x.queue.items (group_at (tables setup steps).words.firsts) r.ensures.freed rest.tied) queued r.ensures.freed.as_many,
+          (tied_freed f r.result.freed x.groups y.groups x.queue.items (group_at (state_after setup steps).words.firsts) r.ensures.freed rest.tied) queued r.ensures.freed.as_many,
       (done.4, refl),
     )

@@ -6,8 +6,8 @@ use Rattle.lpm_cells.specs.Table.{Words}
 use Rattle.lpm_groups.specs.declared.GroupState.{GroupState}
 use Rattle.lpm_groups.specs.declared.GroupState.TheVariants.{Free, Linked, Limbo}
 use Rattle.lpm_rules.specs.RuleMap.{RuleMap}
-use Rattle.shared_words.specs.Opened.{Opened}
-use Rattle.shared_words.specs.Layout.{half, pairs, first_at, token_at, opening_words}
+use Rattle.shared_words.specs.Initial.{InitialData}
+use Rattle.shared_words.specs.Layout.{half, pairs, first_at, token_at, initial_words}
 use Rattle.shared_words.specs.declared.layout.Layout.{Layout}
 
 -- the block that a group is linked to
@@ -17,8 +17,8 @@ block_of (Linked block) = Some block
 block_of Limbo = None
 
 -- the table of these widths, with these words, rules, groups, workers and this token
-abbrev pub opened_of : ℕ → ℕ → Words → RuleMap → List GroupState → ℕ → ℕ → Opened
-opened_of first second t R states workers token = record {
+abbrev pub initial_data_by : ℕ → ℕ → Words → RuleMap → List GroupState → ℕ → ℕ → InitialData
+initial_data_by first second t R states workers token = record {
   first = first;
   second = second;
   workers = workers;
@@ -30,21 +30,21 @@ opened_of first second t R states workers token = record {
 }
 
 -- the words of the two tables, as the shared words have them
-abbrev pub unpacked : List ℕ → Layout → Words
-unpacked words layout = record {
+abbrev pub unpacked_words : List ℕ → Layout → Words
+unpacked_words words layout = record {
   firsts = map (λ i. half i (slice_index words (first_at i))) (range_with_len 0 layout.firsts);
   seconds = map (λ j. half j (slice_index words (2 + pairs layout.firsts + j / 2)))
       (range_with_len 0 layout.seconds);
 }
 
 -- the table of these widths, with these shared words, which lie so, and with these rules and groups
-abbrev pub opened_by : ℕ → ℕ → List ℕ → Layout → RuleMap → List GroupState → Opened
-opened_by first second words layout R states =
-    opened_of first second (unpacked words layout) R states layout.workers (slice_index words token_at)
+abbrev pub initial_data_of_words : ℕ → ℕ → List ℕ → Layout → RuleMap → List GroupState → InitialData
+initial_data_of_words first second words layout R states =
+    initial_data_by first second (unpacked_words words layout) R states layout.workers (slice_index words token_at)
 
 -- the shared words that a table is opened with, which lie so
-pub record ArePacked (o : Opened) (list : List ℕ) (layout : Layout) : Type 0 where
-  pub words : list ≡ opening_words o
+pub record ArePacked (o : InitialData) (list : List ℕ) (layout : Layout) : Type 0 where
+  pub words : list ≡ initial_words o
   pub firsts : layout.firsts ≡ length o.firsts
   pub seconds : layout.seconds ≡ length o.seconds
   pub workers : layout.workers ≡ o.workers

@@ -3,7 +3,7 @@
 /// What a trace begins with. All words of the two tables and all counters are 0, and no update was
 /// begun.
 #[derive(Clone, Copy, Debug, PartialEq, Eq)]
-pub struct Setting {
+pub struct InitialState {
     /// How many bits of an address choose its first word.
     pub first: u32,
     /// How many bits of an address choose its word in a group.
@@ -25,7 +25,7 @@ pub(crate) fn power_of_two(exponent: u32) -> u64 {
     power
 }
 
-impl Setting {
+impl InitialState {
     /// How many bits an address has.
     pub(crate) fn width(&self) -> u32 {
         self.first.saturating_add(self.second)

@@ -5,11 +5,11 @@ use Rattle.std.specs.FinMap as map
 use Rattle.std.specs.FinMap.{empty}
 use Rattle.lpm_cells.specs.Table.{Words}
 use Rattle.lpm_rules.specs.RuleMap.{RuleMap, coded_network}
-use Rattle.lpm_trace.specs.Tables.{Setup, Status, Unused, Linked}
+use Rattle.lpm_trace.specs.States.{InitialState, Status, Unused, Linked}
 
 -- the widths of the two tables, the number of workers, the token, the words with the rules that they
 -- answer by, and the block of each linked group
-pub record Opened : Type 0 where
+pub record InitialData : Type 0 where
   pub first : ℕ
   pub second : ℕ
   pub workers : ℕ
@@ -19,8 +19,8 @@ pub record Opened : Type 0 where
   pub rules : RuleMap
   pub blocks : List (Option ℕ)
 
-abbrev pub coded_opened : Coded Opened
-coded_opened =
+abbrev pub coded_initial_data : Coded InitialData
+coded_initial_data =
     code_by (ℕ × (ℕ × (ℕ × (ℕ × (List ℕ × (List ℕ × (RuleMap × List (Option ℕ))))))))
     (coded× coded_ℕ (coded× coded_ℕ (coded× coded_ℕ (coded× coded_ℕ
     (coded× (coded_list coded_ℕ) (coded× (coded_list coded_ℕ)
@@ -45,12 +45,12 @@ status_of (Some None) = Unused
 status_of None = Unused
 
 -- the words as two lists
-abbrev pub words_of : Opened → Words
+abbrev pub words_of : InitialData → Words
 words_of o = record { firsts = o.firsts; seconds = o.seconds }
 
 -- what the traces of the table begin with
-abbrev pub setup_of : Opened → Setup
-setup_of o = record {
+abbrev pub initial_state_of : InitialData → InitialState
+initial_state_of o = record {
   first = o.first;
   second = o.second;
   workers = o.workers;
@@ -61,8 +61,8 @@ setup_of o = record {
 }
 
 -- what a type of which no value is made stands for
-abbrev pub opened_nothing : Opened
-opened_nothing = record {
+abbrev pub no_initial_data : InitialData
+no_initial_data = record {
   first = 0;
   second = 0;
   workers = 0;

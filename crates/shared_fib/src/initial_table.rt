@@ -2,21 +2,21 @@
 
 use lpm_groups::Groups;
 use lpm_rules::Rules;
-use shared_words::{Layout, Opens};
+use shared_words::{InitialContent, Layout};
 
 /// What a running table takes over of a table of one thread, once no worker looks up any more: its words
 /// and the newest token, as the list of shared words has them, where each of them lies, the rules and the
 /// groups. A running table goes on from it.
 #[derive(Drop)]
-pub struct Loaded<const FIRST: u32, const SECOND: u32> {
+pub struct InitialTable<const FIRST: u32, const SECOND: u32> {
     pub words: Vec<u64>,
     pub layout: Layout,
     pub rules: Rules<FIRST, SECOND>,
     pub groups: Groups,
 }
 
-impl<const FIRST: u32, const SECOND: u32> Opens for Loaded<FIRST, SECOND> {
-    ghost use Rattle.shared_fib.specs.Loaded.{opened_by};
+impl<const FIRST: u32, const SECOND: u32> InitialContent for InitialTable<FIRST, SECOND> {
+    ghost use Rattle.shared_fib.specs.Initial.{initial_data_of_words};
 
-    ghost opened = { λ l. opened_by FIRST SECOND l.words.items l.layout l.rules.rules l.groups };
+    ghost initial = { λ l. initial_data_of_words FIRST SECOND l.words.items l.layout l.rules.rules l.groups };
 }

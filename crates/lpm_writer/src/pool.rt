@@ -5,7 +5,7 @@ use lpm_groups::Groups;
 
 /// The states of the groups, the queue of those in limbo, and the greatest token whose check has passed.
 #[derive(Drop)]
-pub struct Books {
+pub struct GroupPool {
     pub groups: Groups,
     pub queue: DeferQueue,
     pub passed: u64,

@@ -7,10 +7,10 @@ use Rattle.lpm_groups.specs.declared.GroupState.TheVariants.{Limbo}
 use Rattle.lpm_groups.specs.States.{IsFreeAt, IsLinkedTo}
 use Rattle.lpm_trace.specs.declared.step.WriterStep.{WriterStep}
 use Rattle.lpm_trace.specs.declared.step.WriterStep.TheVariants.{LoadCounter}
-use Rattle.lpm_trace.specs.Tables.{Setup, Tables, Status, Retired, Linked, tables, IsFree, IsUpdating}
-use Rattle.lpm_trace.specs.Course.{Nothing, Bump}
-use Rattle.lpm_trace.specs.Writer.{course, MayStep}
-use Rattle.lpm_writer.specs.declared.books.Books.{Books}
+use Rattle.lpm_trace.specs.States.{InitialState, TableState, Status, Retired, Linked, state_after, IsFree, IsUpdating}
+use Rattle.lpm_trace.specs.Progress.{Nothing, Bump}
+use Rattle.lpm_trace.specs.Writer.{progress_after, MayStep}
+use Rattle.lpm_writer.specs.declared.pool.GroupPool.{GroupPool}
 use Rattle.lpm_writer.specs.Waiting.{tokens_of}
 
 -- each token is greater than t
@@ -41,7 +41,7 @@ IsAmong g t (item ∷ items) = ((g ≡ item.0) × (t ≡ item.1)) ⊎ IsAmong g 
 
 -- the states of the groups are what the steps say, and those items wait; `held` is a free group that
 -- is taken for a block, and not linked yet
-pub record AreKept (c : Setup) (w : Tables) (token : ℕ) (states : List GroupState)
+pub record GroupsMatchState (c : InitialState) (w : TableState) (token : ℕ) (states : List GroupState)
     (items : List (ℕ × ℕ)) (held : Option ℕ) : Type 0 where
   pub free : (g : ℕ) → IsFreeAt states g → IsFree c w.passed (w.groups g)
   pub linked : (g b : ℕ) → IsLinkedTo states g b → held ≢ Some g → w.groups g ≡ Linked b
@@ -54,7 +54,7 @@ pub record AreKept (c : Setup) (w : Tables) (token : ℕ) (states : List GroupSt
 -- these tokens, oldest first, are those of the groups that wait after steps that left w. So a group that
 -- a change linked isn't in limbo after it: what an update fills was never linked, or was taken off the
 -- list first.
-pub record IsLimbo (c : Setup) (w : Tables) (limbo : List ℕ) : Type 0 where
+pub record IsLimbo (c : InitialState) (w : TableState) (limbo : List ℕ) : Type 0 where
   -- the groups, each with its token
   pub items : List (ℕ × ℕ)
   pub tokens : tokens_of items ≡ limbo
@@ -65,62 +65,62 @@ pub record IsLimbo (c : Setup) (w : Tables) (limbo : List ℕ) : Type 0 where
   pub all : 0 < c.workers → (g t : ℕ) → w.groups g ≡ Retired t → (t ≤ w.passed) ⊎ IsAmong g t items
 
 -- nothing is due of the writer, and no synchronize waits
-pub record IsIdle (c : Setup) (steps : List WriterStep) : Type 0 where
-  pub duty : (course c steps).duty ≡ Nothing
-  pub awaited : (course c steps).awaited ≡ None
+pub record HasNothingDue (c : InitialState) (steps : List WriterStep) : Type 0 where
+  pub next_step : (progress_after c steps).next_step ≡ Nothing
+  pub awaited : (progress_after c steps).awaited ≡ None
 
 -- the writer may begin a check: nothing else is due, and in an update it has just retired a group
-pub record MayReclaim (c : Setup) (steps : List WriterStep) (items : List (ℕ × ℕ)) : Type 0 where
-  pub idle : IsIdle c steps
-  pub updating : IsUpdating (tables c steps) → (course c steps).reclaims ≡ true
+pub record MayReclaim (c : InitialState) (steps : List WriterStep) (items : List (ℕ × ℕ)) : Type 0 where
+  pub idle : HasNothingDue c steps
+  pub updating : IsUpdating (state_after c steps) → (progress_after c steps).reclaims ≡ true
   -- the group that was just retired isn't among them
-  pub before : IsUpdating (tables c steps) → AreBelow (tables c steps).token items
+  pub before : IsUpdating (state_after c steps) → AreBelow (state_after c steps).token items
 
 -- the workers may be asked for the token, the first of them first
-abbrev pub MayAsk : Setup → List WriterStep → ℕ → Type 0
+abbrev pub MayAsk : InitialState → List WriterStep → ℕ → Type 0
 MayAsk c steps token = 0 < c.workers → (counter : ℕ) → MayStep c steps (LoadCounter token 0 counter)
 
 -- the writer remembers the greatest token that has passed; without workers each passes
-abbrev pub Remembers : Setup → List WriterStep → ℕ → Type 0
-Remembers c steps passed = 0 < c.workers → passed ≡ (tables c steps).passed
+abbrev pub Remembers : InitialState → List WriterStep → ℕ → Type 0
+Remembers c steps passed = 0 < c.workers → passed ≡ (state_after c steps).passed
 
 -- the words, the sequence, the versions and the groups are the same
-pub record IsQuiet (w z : Tables) : Type 0 where
+pub record SameTables (w z : TableState) : Type 0 where
   pub words : z.words ≡ w.words
   pub sequence : z.sequence ≡ w.sequence
   pub history : z.history ≡ w.history
-  pub turned : z.turned ≡ w.turned
+  pub answer_changed : z.answer_changed ≡ w.answer_changed
   pub groups : z.groups ≡ w.groups
 
 -- what the writer keeps is what its steps say, where those items wait
-pub record Keeps (c : Setup) (steps : List WriterStep) (states : List GroupState)
+pub record GroupsMatchSteps (c : InitialState) (steps : List WriterStep) (states : List GroupState)
     (items : List (ℕ × ℕ)) (passed : ℕ) (held : Option ℕ) : Type 0 where
-  pub kept : AreKept c (tables c steps) (tables c steps).token states items held
+  pub kept : GroupsMatchState c (state_after c steps) (state_after c steps).token states items held
   pub remembers : Remembers c steps passed
 
 -- checks were made at most: the token and the group that is taken are the same too, and nothing is due
-pub record IsStill (c : Setup) (steps later : List WriterStep) : Type 0 where
-  pub quiet : IsQuiet (tables c steps) (tables c later)
-  pub token : (tables c later).token ≡ (tables c steps).token
-  pub taken : (course c later).taken ≡ (course c steps).taken
-  pub idle : IsIdle c later
+pub record OnlyChecks (c : InitialState) (steps later : List WriterStep) : Type 0 where
+  pub quiet : SameTables (state_after c steps) (state_after c later)
+  pub token : (state_after c later).token ≡ (state_after c steps).token
+  pub taken : (progress_after c later).taken ≡ (progress_after c steps).taken
+  pub idle : HasNothingDue c later
 
 -- the update has just stored over the link of this group. The token is bumped next: from then on the
 -- group is retired under that token, behind the groups that wait.
-pub record HasUnlinked (c : Setup) (steps : List WriterStep) (books : Books) (group : ℕ)
+pub record HasUnlinked (c : InitialState) (steps : List WriterStep) (pool : GroupPool) (group : ℕ)
     (held : Option ℕ) : Type 0 where
-  pub duty : (course c steps).duty ≡ Bump
-  pub awaited : (course c steps).awaited ≡ None
-  pub kept : AreKept c (tables c steps) (suc (tables c steps).token)
-      (slice_set books.groups group Limbo)
-      (books.queue.items ++ (group, suc (tables c steps).token) ∷ []) held
-  pub remembers : Remembers c steps books.passed
+  pub next_step : (progress_after c steps).next_step ≡ Bump
+  pub awaited : (progress_after c steps).awaited ≡ None
+  pub kept : GroupsMatchState c (state_after c steps) (suc (state_after c steps).token)
+      (slice_set pool.groups group Limbo)
+      (pool.queue.items ++ (group, suc (state_after c steps).token) ∷ []) held
+  pub remembers : Remembers c steps pool.passed
   -- each group that waited was retired under a token that had been started
-  pub started : AreBelow (suc (tables c steps).token) books.queue.items
+  pub started : AreBelow (suc (state_after c steps).token) pool.queue.items
 
 -- the token was bumped once, and checks were made at most
-pub record HasRetired (c : Setup) (steps later : List WriterStep) : Type 0 where
-  pub quiet : IsQuiet (tables c steps) (tables c later)
-  pub token : (tables c later).token ≡ suc (tables c steps).token
-  pub taken : (course c later).taken ≡ (course c steps).taken
-  pub idle : IsIdle c later
+pub record HasRetired (c : InitialState) (steps later : List WriterStep) : Type 0 where
+  pub quiet : SameTables (state_after c steps) (state_after c later)
+  pub token : (state_after c later).token ≡ suc (state_after c steps).token
+  pub taken : (progress_after c later).taken ≡ (progress_after c steps).taken
+  pub idle : HasNothingDue c later
