@@ -52,8 +52,8 @@ module _ (f s : ℕ) (config : Config) (control : ControlState f s) (memory : Pl
   setup represents tied = beginning f s memory.cells control.rules.rules xs config memory.domain.token (λ g. status_in (slice_get xs g)) represents tied
       (λ g state here. known_in (slice_get xs g) state here) (λ g x e. never_in (slice_get xs g) x e)
 
-  -- a ledger of these rules and groups and a memory of these words, to which as many updates led as the
-  -- ledger counts. Each of them can be one that left the rules as they were.
+  -- a control state of these rules and groups and a memory of these words, to which as many updates led as the
+  -- control state counts. Each of them can be one that left the rules as they were.
   pub sound_begun : IsShape f s → IsConfig config → control.config ≡ config → control.rules.max ≡ config.rules
       → control.versions ≤ 2 ^ 61 → control.pool ≡ record { groups = xs; queue = record { items = []; capacity = length xs }; passed = 0 }
       → length xs ≡ config.groups → HasGroupRoom s memory.cells xs → limbo_count xs ≡ 0

@@ -84,7 +84,7 @@ module _ (f s : ℕ) (config : Config) (R : RuleMap) (versions : ℕ) (blocks F 
         (room_grown f s more R F S represents)
         (tied free blocks f F represents.table.words.firsts_len numbered)
 
-    -- a ledger and a memory that are such
+    -- a control state and a memory that are such
     pub sound_swept : (l : ControlState f s) (m : PlainMemory f s) → l ≡ control → m.cells.firsts ≡ F
         → m.cells.seconds ≡ S ++ replicate more 0 → m.domain ≡ domain → IsSound f s l m
     sound_swept l m same firsts seconds reports =

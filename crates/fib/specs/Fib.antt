@@ -39,12 +39,12 @@ state_after_report report worker f =
     let readers = by_counters.told report worker f.table.readers in
     record f { table = record f.table { readers = readers } }
 
--- what outcomes depend on, by the writer's ledger and the memory
+-- what outcomes depend on, by the writer's control state and the memory
 abbrev pub table_of : {first second : ℕ} → ControlState first second → PlainMemory first second
     → State Registry
 table_of control memory = state_of control.rules.rules memory.domain control.pool control.versions
 
--- these steps of the writer may have led from the opening to the memory, and after them the ledger
+-- these steps of the writer may have led from the opening to the memory, and after them the control state
 -- rests; no worker holds what was given up under a token whose check has passed
 pub record IsKept (first second : ℕ) (c : InitialState) (steps : List WriterStep)
     (control : ControlState first second) (memory : PlainMemory first second) : Type 0 where

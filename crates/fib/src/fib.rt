@@ -18,12 +18,14 @@ use defer_queue::Reclaimed;
 use lpm_bits::{Hop, Prefix};
 use lpm_groups::Counts;
 use lpm_rules::{Put, Rule, Rules};
-use lpm_writer::{ControlState, PlainMemory, add, delete, flush, open, reclaim};
+use lpm_writer::{
+    ControlState, PlainMemory, add_rule, delete_rule, flush_rules, open, reclaim_groups,
+};
 use qsbr::{Config, Refusal};
 use std::alloc::Global;
 use std::marker::Model;
 
-/// A route table for one thread: the writer's ledger and the memory of one thread, which has the
+/// A route table for one thread: the writer's control state and the memory of one thread, which has the
 /// words that represent the rules and what the workers report. IPv4 has `Fib<24, 8>`.
 ///
 /// Of the changes only an `add` that grows the rule list takes memory. Each change is refused as
@@ -137,7 +139,7 @@ impl<const FIRST: u32, const SECOND: u32> Fib<FIRST, SECOND> {
         }
     }
 
-    /// The writer's ledger and the memory of one thread, for a table that goes on in another memory.
+    /// The writer's control state and the memory of one thread, for a table that goes on in another memory.
     pub fn into_parts(self) -> (ControlState<FIRST, SECOND>, PlainMemory<FIRST, SECOND>)
         ensures sound { IsSound FIRST SECOND result.0 result.1 }
         ensures config { result.0.config ≡ self.entry.config }
@@ -222,7 +224,7 @@ impl<const FIRST: u32, const SECOND: u32> Fib<FIRST, SECOND> {
             prefix.now hop result self.new.table }
         ensures config { self.new.config ≡ self.old.config }
     {
-        add(&mut self.control, &mut self.memory, prefix, hop)
+        add_rule(&mut self.control, &mut self.memory, prefix, hop)
     }
 
     /// Deletes the rule of this prefix, and returns its next hop. Its addresses go to the longest
@@ -234,7 +236,7 @@ impl<const FIRST: u32, const SECOND: u32> Fib<FIRST, SECOND> {
             prefix.now result self.new.table }
         ensures config { self.new.config ≡ self.old.config }
     {
-        delete(&mut self.control, &mut self.memory, prefix)
+        delete_rule(&mut self.control, &mut self.memory, prefix)
     }
 
     /// Deletes all rules, as one version, and returns how many there were. With none nothing
@@ -244,7 +246,7 @@ impl<const FIRST: u32, const SECOND: u32> Fib<FIRST, SECOND> {
             result self.new.table }
         ensures config { self.new.config ≡ self.old.config }
     {
-        flush(&mut self.control, &mut self.memory)
+        flush_rules(&mut self.control, &mut self.memory)
     }
 
     /// Frees groups that wait in limbo, from the oldest on: at most `max`, up to the first that a
@@ -253,7 +255,7 @@ impl<const FIRST: u32, const SECOND: u32> Fib<FIRST, SECOND> {
         ensures frees { Frees counter_transitions self.old.table max result self.new.table }
         ensures config { self.new.config ≡ self.old.config }
     {
-        reclaim(&mut self.control, &mut self.memory, max)
+        reclaim_groups(&mut self.control, &mut self.memory, max)
     }
 
     /// Whether the worker is online.

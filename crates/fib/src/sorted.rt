@@ -104,7 +104,7 @@ pub fn opened_ledger<const FIRST: u32, const SECOND: u32>(
     })
 }
 
-/// The ledger and the memory of a table that opens with these rules, as this version, and with the
+/// The control state and the memory of a table that opens with these rules, as this version, and with the
 /// words that were swept for them.
 fn parts_with<const FIRST: u32, const SECOND: u32>(
     alloc: Global,
@@ -137,7 +137,7 @@ fn parts_with<const FIRST: u32, const SECOND: u32>(
     Ok((control, memory))
 }
 
-/// The ledger and the memory of a table that opens with the rules of a list, which is in the order of
+/// The control state and the memory of a table that opens with the rules of a list, which is in the order of
 /// its prefixes. `None` exactly where the limits don't suffice for its rules, or for their groups.
 pub(crate) fn parts_of<const FIRST: u32, const SECOND: u32>(
     alloc: Global,
@@ -170,7 +170,7 @@ pub(crate) fn parts_of<const FIRST: u32, const SECOND: u32>(
     Ok(Some(parts))
 }
 
-/// The ledger and the memory of a table that opens with the rules of a rule list, as version
+/// The control state and the memory of a table that opens with the rules of a rule list, as version
 /// `versions`. `sorted` is a list of the same rules in the order of its prefixes. `None` exactly where
 /// the limits don't suffice for the rules, or for their groups.
 pub(crate) fn parts_at<const FIRST: u32, const SECOND: u32>(

@@ -26,7 +26,7 @@ module _ (f s : ℕ) where
   abbrev pub kept_in : ControlState f s → List WriterStep → StateBySteps
   kept_in l steps = state_by_steps l.rules steps l.pool l.versions
 
-  -- a ledger that rests is at rest by the steps that it has made
+  -- a control state that rests is at rest by the steps that it has made
   pub at_rest : (c : InitialState) (steps : List WriterStep) (l : ControlState f s) → Rests c steps l → IsAtRest f s c (kept_in l steps)
   at_rest c steps l rests = record {
     begun = rests.versions;

@@ -15,7 +15,7 @@ use super::synchronizing::synchronize;
 use super::{Reply, RunError};
 use crate::WorldMemory;
 use lpm_rules::Change;
-use lpm_writer::{ControlState, add, delete, flush, reclaim};
+use lpm_writer::{ControlState, add_rule, delete_rule, flush_rules, reclaim_groups};
 use qsbr::Refusal;
 use std::alloc::Global;
 
@@ -50,22 +50,22 @@ pub(crate) fn answer<const FIRST: u32, const SECOND: u32>(
     ensures memory { IfErr result (λ error. error ≡ IsMemory) }
 {
     let reply = match change {
-        Change::Add(prefix, hop) => match add(control, memory, prefix, *hop) {
+        Change::Add(prefix, hop) => match add_rule(control, memory, prefix, *hop) {
             Ok(put) => Reply::Put(put),
             Err(refusal) => match refusal {
                 Refusal::Memory => return Err(RunError::Memory),
                 _ => Reply::Refused(refusal),
             },
         },
-        Change::Delete(prefix) => match delete(control, memory, prefix) {
+        Change::Delete(prefix) => match delete_rule(control, memory, prefix) {
             Ok(hop) => Reply::Deleted(hop),
             Err(refusal) => Reply::Refused(refusal),
         },
-        Change::Flush => match flush(control, memory) {
+        Change::Flush => match flush_rules(control, memory) {
             Ok(count) => Reply::Flushed(count),
             Err(refusal) => Reply::Refused(refusal),
         },
-        Change::Reclaim(max) => Reply::Reclaimed(reclaim(control, memory, *max)),
+        Change::Reclaim(max) => Reply::Reclaimed(reclaim_groups(control, memory, *max)),
         Change::Synchronize => return Ok(synchronize(control, memory, tries)),
     };
     Ok(Some(reply))

@@ -5,7 +5,7 @@ ghost use Rattle.route_text.specs.Files.{AreAddresses, IsAddressesFault};
 ghost use Rattle.route_text.specs.Files.{SpellsAddress, HasAddressFault};
 ghost use Rattle.route_text.specs.Readings.{IsReadError};
 
-use crate::pieces::{FileKind, Halves, halved, joined};
+use crate::pieces::{Halves, PiecewiseFile, halved, joined};
 use route_text::{ReadError, read_addresses};
 use std::alloc::{AllocError, Global};
 use std::thread::{Threads, join};
@@ -13,7 +13,7 @@ use std::thread::{Threads, join};
 /// Address files. An address is the same on each line.
 struct Addresses;
 
-impl FileKind for Addresses {
+impl PiecewiseFile for Addresses {
     type Item = u32;
 
     ghost Spells = { SpellsAddress };

@@ -15,7 +15,7 @@ const LEAST_BYTES: usize = 65_536;
 
 /// A form of files, whose lines spell items. Where the same line stands later in a file, its item
 /// follows from the one here.
-pub(crate) trait FileKind {
+pub(crate) trait PiecewiseFile {
     /// What a line spells.
     type Item: Copy;
 
@@ -46,7 +46,7 @@ pub(crate) trait FileKind {
 }
 
 /// What two pieces of the bytes, cut where a line ends, come to.
-pub(crate) fn joined<F: FileKind>(
+pub(crate) fn joined<F: PiecewiseFile>(
     bytes: &[u8],
     front: &[u8],
     back: &[u8],
@@ -80,7 +80,7 @@ pub(crate) fn joined<F: FileKind>(
 
 /// The error of the bytes where that of the back piece is this one, and the front piece has none. The
 /// lines of a fault are counted from the front of all bytes.
-fn later<F: FileKind>(bytes: &[u8], front: &[u8], back: &[u8], error: ReadError) -> ReadError
+fn later<F: PiecewiseFile>(bytes: &[u8], front: &[u8], back: &[u8], error: ReadError) -> ReadError
     requires cut { lines bytes.now ≡ lines front.now ++ lines back.now }
     requires room { length front.now + length back.now < 2 ^ 63 }
     requires front { (items : List F.Item) × AreItems F.Spells 1 (lines front.now) items }

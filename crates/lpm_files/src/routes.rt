@@ -9,7 +9,7 @@ ghost use Rattle.route_text.specs.Readings.{IsReadError};
 ghost use Rattle.lpm_files.specs.Later.{later_route};
 
 use crate::lines::count_lines;
-use crate::pieces::{FileKind, Halves, halved, joined};
+use crate::pieces::{Halves, PiecewiseFile, halved, joined};
 use route_text::{ReadError, Route, read_routes};
 use std::alloc::{AllocError, Global};
 use std::thread::{Threads, join};
@@ -17,7 +17,7 @@ use std::thread::{Threads, join};
 /// Route files. A route has the number of its line.
 struct Routes;
 
-impl FileKind for Routes {
+impl PiecewiseFile for Routes {
     type Item = Route;
 
     ghost Spells = { SpellsRoute };

@@ -8,7 +8,7 @@ use Rattle.lpm_limits.specs.declared.busy.Busy.{Busy}
 use Rattle.defer_queue.specs.Reclaims as queue
 use Rattle.defer_queue.proofs.Fronts.{Reclaims-within}
 use Rattle.lpm_writer.specs.Waiting.{tokens_of}
-use Rattle.lpm_writer.proofs.Limbo.{freed_states}
+use Rattle.lpm_writer.proofs.LimboItems.{freed_states}
 
 pub more_items : (n : ℕ) (items : List (ℕ × ℕ)) (g t : ℕ) (rest : List (ℕ × ℕ)) → drop n items ≡ (g, t) ∷ rest → n + 1 ≤ length items
 more_items zero [] g t rest e = absurd (cc)

@@ -1,4 +1,4 @@
-pub mod Limbo
+pub mod LimboItems
 pub mod Loading
 pub mod Checks
 pub mod Once

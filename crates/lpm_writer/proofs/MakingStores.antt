@@ -26,7 +26,7 @@ use Rattle.lpm_writer.specs.Waiting.{IsQueued, tokens_of}
 use Rattle.lpm_writer.specs.Traced.{Retires}
 use Rattle.lpm_writer.specs.Matching.{HasUnlinked, HasRetired, GroupsMatchSteps}
 use Rattle.lpm_writer.specs.Making.{MayMake, HasMade}
-use Rattle.lpm_writer.proofs.Limbo.{some_linked, few_linked}
+use Rattle.lpm_writer.proofs.LimboItems.{some_linked, few_linked}
 use Rattle.lpm_writer.proofs.UpdateRuns.{Runs, run_begins, begun_come, allows_first, allows_second, allows_unlink, run_first, run_second, unlinked_on, run_unlinked, run_ended}
 
 -- the change u of the first memory has come to v

@@ -49,7 +49,7 @@ settled f s config limits =
       links = λ i g e. absurd (no_group g (sym (miss_at (2 ^ f) i) ∙ e));
     }
 
--- the books of a new table
+-- the pool of a new table
 abbrev pub new_books : Config → GroupPool
 new_books c = record {
   groups = replicate c.groups Free;

@@ -41,7 +41,7 @@ use Rattle.lpm_writer.specs.Waiting.{AreWaiting}
 use Rattle.lpm_writer.specs.Matching.{AreAfter, AreRising, AreRetired, AreBelow, IsAmong, GroupsMatchState, HasUnlinked, HasNothingDue, SameTables, GroupsMatchSteps}
 use Rattle.lpm_writer.specs.Stores.{since_opened}
 use Rattle.lpm_writer.specs.Making.{group_to_fill, unless_linked, IsTakenBy, HasPassedStore, HasPassedStores, IsMaking, answer_after}
-use Rattle.lpm_writer.proofs.Limbo.{absent_other, linked_limbo}
+use Rattle.lpm_writer.proofs.LimboItems.{absent_other, linked_limbo}
 use Rattle.lpm_writer.proofs.Keeping.{kept_quiet}
 use Rattle.lpm_writer.proofs.NextStores.{none_some, filling_same, second_kind, IsFirstKind}
 use Rattle.lpm_writer.proofs.Answering.{turned_on}

@@ -1,4 +1,4 @@
--- This layer's own: a ledger whose token was started, before a check of it has passed (DPDK Programmer's
+-- This layer's own: a control state whose token was started, before a check of it has passed (DPDK Programmer's
 -- Guide, "RCU Library", and `rte_rcu_qsbr_synchronize` of its API).
 use Rattle.std.specs.Prelude.{ℕ, suc, ◌≡◌, ◌<◌, List, Some}
 use Rattle.lpm_limits.specs.declared.config.Config.{Config}
@@ -19,7 +19,7 @@ pub record IsAwaited (c : InitialState) (steps : List WriterStep) : Type 0 where
   pub awaited : 0 < c.workers → (progress_after c steps).awaited ≡ Some (state_after c steps).token
   pub next : next_asked (state_after c steps) (state_after c steps).token ≡ 0
 
--- The ledger rested after some steps. After these a token was started besides, and no check of it has
+-- The control state rested after some steps. After these a token was started besides, and no check of it has
 -- passed; all else is as it was.
 pub record IsWaiting (first second : ℕ) (c : InitialState) (steps : List WriterStep) (config : Config)
     (rules : RuleList) (pool : GroupPool) (begun : ℕ) : Type 0 where

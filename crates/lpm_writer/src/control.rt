@@ -12,9 +12,9 @@ ghost use Rattle.lpm_writer.specs.Traced.{by_writer};
 ghost use Rattle.lpm_writer.specs.Resting.{IsResting, state_of};
 
 use super::GroupPool;
-use super::changing::change;
-use super::grouping::{group_for, is_linked};
-use super::waiting::reclaim as free_waiting;
+use super::changes::change;
+use super::limbo::free_waiting;
+use super::links::{group_for, is_linked};
 use crate::Memory;
 use defer_queue::Reclaimed;
 use lpm_bits::{Hop, Prefix, Shape};
@@ -110,7 +110,7 @@ fn taking_out<const FIRST: u32, const SECOND: u32>(prefix: &Prefix<FIRST, SECOND
 /// The refusals, in the order of the checks: `Exhausted`; `TooManyRules` and `Memory`, where a new rule
 /// has no room; and `NoGroups`, where a rule longer than `FIRST` bits is the first in its block, no group
 /// is free, and the oldest in limbo is held or there is none. It names the worker that holds that one.
-pub fn add<const FIRST: u32, const SECOND: u32, M: Memory>(
+pub fn add_rule<const FIRST: u32, const SECOND: u32, M: Memory>(
     control: &mut ControlState<FIRST, SECOND>,
     memory: &mut M,
     prefix: &Prefix<FIRST, SECOND>,
@@ -167,7 +167,7 @@ pub fn add<const FIRST: u32, const SECOND: u32, M: Memory>(
 
 /// Frees groups that wait in limbo, from the oldest on: at most `max`, up to the first that a worker
 /// holds. It returns how many were freed, and the worker that stopped it.
-pub fn reclaim<const FIRST: u32, const SECOND: u32, M: Memory>(
+pub fn reclaim_groups<const FIRST: u32, const SECOND: u32, M: Memory>(
     control: &mut ControlState<FIRST, SECOND>,
     memory: &mut M,
     max: usize,
@@ -194,7 +194,7 @@ pub fn reclaim<const FIRST: u32, const SECOND: u32, M: Memory>(
 /// is shorter and covers it, where there is one.
 ///
 /// The refusals: `NoSuchRule`, where the prefix has no rule, and else `Exhausted`.
-pub fn delete<const FIRST: u32, const SECOND: u32, M: Memory>(
+pub fn delete_rule<const FIRST: u32, const SECOND: u32, M: Memory>(
     control: &mut ControlState<FIRST, SECOND>,
     memory: &mut M,
     prefix: &Prefix<FIRST, SECOND>,
@@ -237,7 +237,7 @@ pub fn delete<const FIRST: u32, const SECOND: u32, M: Memory>(
 
 /// Deletes all rules, as one version, and returns how many there were. With none nothing changes, and
 /// else `Exhausted` is the only refusal.
-pub fn flush<const FIRST: u32, const SECOND: u32, M: Memory>(
+pub fn flush_rules<const FIRST: u32, const SECOND: u32, M: Memory>(
     control: &mut ControlState<FIRST, SECOND>,
     memory: &mut M,
 ) -> Result<usize, Refusal>

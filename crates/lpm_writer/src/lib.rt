@@ -1,21 +1,21 @@
 //! The writer of a table, over any memory.
 #![tactic(auto)]
 
-mod asking;
-mod changing;
+mod changes;
 mod control;
 mod exhausted;
-mod grouping;
+mod grace;
+mod limbo;
+mod links;
 mod memory;
 mod open_error;
 mod opening;
 mod plain_memory;
 mod pool;
-mod running;
+mod stores;
 mod synchronizing;
-mod waiting;
 
-pub use control::{ControlState, add, delete, flush, reclaim};
+pub use control::{ControlState, add_rule, delete_rule, flush_rules, reclaim_groups};
 pub use exhausted::Exhausted;
 pub use memory::Memory;
 pub use open_error::OpenError;

@@ -11,12 +11,12 @@ ghost use Rattle.lpm_writer.specs.Resting.{IsResting};
 ghost use Rattle.lpm_writer.specs.Synchronizing.{IsWaiting};
 
 use super::Exhausted;
-use super::asking::check;
 use super::control::{ControlState, is_out_of_tokens};
+use super::grace::check;
 use crate::Memory;
 use qsbr::Busy;
 
-/// Starts the token of a synchronize. From then on the ledger waits, until `check_synchronize` has
+/// Starts the token of a synchronize. From then on the control state waits, until `check_synchronize` has
 /// returned `Ok`.
 ///
 /// `Exhausted` where fewer tokens than groups are left; nothing was written then.
@@ -45,7 +45,7 @@ pub fn start_synchronize<const FIRST: u32, const SECOND: u32, M: Memory>(
 }
 
 /// Checks the token that `start_synchronize` has started. Once it has returned `Ok`, no group that was
-/// queued is held at any later check. The error is the first worker that holds the token: the ledger
+/// queued is held at any later check. The error is the first worker that holds the token: the control state
 /// waits on.
 pub fn check_synchronize<const FIRST: u32, const SECOND: u32, M: Memory>(
     control: &mut ControlState<FIRST, SECOND>,

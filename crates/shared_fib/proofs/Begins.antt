@@ -38,11 +38,11 @@ module _ (f s : ℕ) (control : ControlState f s) (memory : PlainMemory f s) whe
   abbrev pub loads : InitialData
   loads = initial_data_by f s memory.cells control.rules.rules control.pool.groups control.config.workers memory.domain.token
 
-  -- the ledger of a table that goes on, before its first change
+  -- the control state of a table that goes on, before its first change
   abbrev pub first_kept : ControlState f s
   first_kept = record control { pool = record control.pool { passed = 0 }; versions = 0 }
 
-  -- a ledger of what was loaded
+  -- a control state of what was loaded
   kept_by : (config : Config) (queue : Queue) (l : InitialTable f s) → config ≡ control.config → queue ≡ control.pool.queue
       → l.rules ≡ control.rules → l.groups ≡ control.pool.groups
       → record { config = config; rules = l.rules; pool = record { groups = l.groups; queue = queue; passed = 0 }; versions = 0 } ≡ first_kept
@@ -151,7 +151,7 @@ module _ (f s : ℕ) (key : InitialTable f s) (words : WordsAt) (seat : TableId)
       → (initial_data_of f s key).token ≤ 2 ^ 62 → IsReady f s z w
   ready z rests high = subst (IsReady f s z) (sym now_is) (record { rests = rests; token = high })
 
-  -- what a contract sees of the writer that has this seat and this ledger
+  -- what a contract sees of the writer that has this seat and this control state
   abbrev pub state_by : TableId → ControlState f s → WriterState
   state_by after z = record {
     identity = record { words = after; initial = w.initial };

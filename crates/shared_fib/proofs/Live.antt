@@ -1,5 +1,5 @@
 -- A table of one thread whose words represent its rules, and of which no group waits, is one that a running
--- table may be opened with, and its ledger rests there.
+-- table may be opened with, and its control state rests there.
 use Rattle.std.proofs.Common.{◌≡◌, ℕ, ◌<◌, refl, ap, ◌∙◌, List, [], length, map, slice_get, Option, Some, None}
 use Rattle.std.proofs.lemmas.Option.{slice_get-map}
 use Rattle.std.specs.Prelude.{option_map}

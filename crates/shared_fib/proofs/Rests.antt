@@ -1,4 +1,4 @@
--- A table whose writer's ledger rests is at rest.
+-- A table whose writer's control state rests is at rest.
 use Rattle.std.proofs.Common.{arith, ◌≡◌, ℕ, ◌+◌, ◌%◌, sym, ap, ◌∙◌, List}
 use Rattle.lpm_cells.specs.Table.{entry_at}
 use Rattle.lpm_limits.specs.declared.config.Config.{Config}
@@ -17,7 +17,7 @@ use Rattle.shared_fib.specs.Running.{Identity, WriterState, IsAtRest, initial_st
 even_begun : (n : ℕ) → n % 2 ≡ 0 → begun_at n ≡ done_at n
 even_begun n even = omega (arith, even)
 
--- the writer of this table, with this ledger
+-- the writer of this table, with this control state
 abbrev pub writer_of : Identity → Config → RuleList → List WriterStep → GroupPool → ℕ → WriterState
 writer_of id config rules steps pool begun =
     record { identity = id; config = config; table = state_of rules.rules steps pool begun }

@@ -40,18 +40,18 @@ pub stays : (m : Lent) (s : WriterStep) (z : Lent) → does_in m s z → kept z 
 stays m s z does = λ i. (does.name i, (does.table i, ap unseeing does.view i))
 
 module _ (first second : ℕ) (c : InitialState) (config : Config) (m z : Lent) (steps later : List WriterStep)
-    (R R' : RuleMap) (pool books' : GroupPool) (n n' : ℕ) where
+    (R R' : RuleMap) (pool pool' : GroupPool) (n n' : ℕ) where
   abbrev before : State (Traced Lent)
   before = state_of R (m, steps) pool n
 
   abbrev then : State (Traced Lent)
-  then = state_of R' (z, later) books' n'
+  then = state_of R' (z, later) pool' n'
 
   abbrev before_alone : State (List WriterStep)
   before_alone = state_of R steps pool n
 
   abbrev then_alone : State (List WriterStep)
-  then_alone = state_of R' later books' n'
+  then_alone = state_of R' later pool' n'
 
   abbrev StaysKept : Type 0
   StaysKept = kept z ≡ kept m
@@ -80,7 +80,7 @@ module _ (first second : ℕ) (c : InitialState) (config : Config) (m z : Lent) 
 pub only_sees : (m z : Lent) → kept z ≡ kept m → OnlySees m.view z.view
 only_sees m z same = ap (λ (k : Kept). record k.1.1 { seen = z.view.seen }) same
 
--- where a ledger rests by the steps of the memory, it does by what the memory knows
+-- where a control state rests by the steps of the memory, it does by what the memory knows
 pub rests_after : (K : InitialState → List WriterStep → Type 0) (z : Lent) (c : InitialState) (later : List WriterStep)
     → SharedDid z c later → K c later → K (initial_state_of z.view.initial) z.view.seen
 rests_after K z c later did rests =

@@ -28,7 +28,7 @@ use Rattle.lpm_writer.specs.Waiting.{AreWaiting, tokens_of}
 use Rattle.lpm_writer.specs.Matching.{AreRetired}
 use Rattle.lpm_writer.specs.Taking.{HasNoneFreeBelow, LinksLeast}
 use Rattle.lpm_writer.specs.Resting.{IsResting, state_of}
-use Rattle.lpm_writer.proofs.Limbo.{waiting_set, is_freed}
+use Rattle.lpm_writer.proofs.LimboItems.{waiting_set, is_freed}
 use Rattle.shared_words.specs.Initial.{InitialData, initial_state_of}
 use Rattle.shared_fib.specs.Taking.{HasGroup, IsGivenUp, IsOccupied, TakesLeast}
 use Rattle.shared_fib.proofs.Live.{never_retired}

@@ -7,7 +7,7 @@ use Rattle.lpm_writer.specs.Synchronizing.{IsWaiting}
 use Rattle.shared_words.specs.declared.view.View.{View}
 use Rattle.shared_words.specs.Initial.{initial_state_of}
 
--- after the steps of the seat the ledger waits for its token
+-- after the steps of the seat the control state waits for its token
 abbrev pub WaitsBy : (first second : ℕ) → ControlState first second → View → Type 0
 WaitsBy first second control v = IsWaiting first second (initial_state_of v.initial) v.seen
     control.config control.rules control.pool control.versions

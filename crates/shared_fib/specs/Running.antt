@@ -104,11 +104,11 @@ initial_writer id config rules = record {
   table = record { rules = rules; readers = []; limbo = []; begun = 0 };
 }
 
--- the ledger with the steps that the seat knows
+-- the control state with the steps that the seat knows
 abbrev pub state_by : {first second : ℕ} → ControlState first second → View → State (List WriterStep)
 state_by control v = state_of control.rules.rules v.seen control.pool control.versions
 
--- after the steps of the seat the ledger rests
+-- after the steps of the seat the control state rests
 abbrev pub IsRestingBy : (first second : ℕ) → ControlState first second → View → Type 0
 IsRestingBy first second control v = IsResting first second (initial_state_of v.initial) v.seen
     control.config control.rules control.pool control.versions

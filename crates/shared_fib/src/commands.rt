@@ -16,7 +16,7 @@ use crate::table::Words;
 use defer_queue::Reclaimed;
 use lpm_bits::{Hop, Prefix};
 use lpm_rules::Put;
-use lpm_writer::{ControlState, add, delete, flush, reclaim};
+use lpm_writer::{ControlState, add_rule, delete_rule, flush_rules, reclaim_groups};
 use qsbr::Refusal;
 use shared_words::WriterSeat;
 
@@ -41,7 +41,7 @@ pub(crate) fn add_over<const FIRST: u32, const SECOND: u32>(
     ensures view { OnlySees memory.old.view memory.new.view }
     ensures config { control.new.config ≡ control.old.config }
 {
-    add(control, memory, prefix, hop)
+    add_rule(control, memory, prefix, hop)
 }
 
 pub(crate) fn add_by<const FIRST: u32, const SECOND: u32>(
@@ -89,7 +89,7 @@ pub(crate) fn delete_over<const FIRST: u32, const SECOND: u32>(
     ensures view { OnlySees memory.old.view memory.new.view }
     ensures config { control.new.config ≡ control.old.config }
 {
-    delete(control, memory, prefix)
+    delete_rule(control, memory, prefix)
 }
 
 pub(crate) fn delete_by<const FIRST: u32, const SECOND: u32>(
@@ -133,7 +133,7 @@ pub(crate) fn flush_over<const FIRST: u32, const SECOND: u32>(
     ensures view { OnlySees memory.old.view memory.new.view }
     ensures config { control.new.config ≡ control.old.config }
 {
-    flush(control, memory)
+    flush_rules(control, memory)
 }
 
 pub(crate) fn flush_by<const FIRST: u32, const SECOND: u32>(
@@ -176,7 +176,7 @@ pub(crate) fn reclaim_over<const FIRST: u32, const SECOND: u32>(
     ensures view { OnlySees memory.old.view memory.new.view }
     ensures config { control.new.config ≡ control.old.config }
 {
-    reclaim(control, memory, max)
+    reclaim_groups(control, memory, max)
 }
 
 pub(crate) fn reclaim_by<const FIRST: u32, const SECOND: u32>(

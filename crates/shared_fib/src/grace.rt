@@ -182,7 +182,7 @@ impl<const FIRST: u32, const SECOND: u32> Writer<FIRST, SECOND> {
 }
 
 impl<const FIRST: u32, const SECOND: u32> GracePeriod<FIRST, SECOND> {
-    // The grace period of this ledger and this seat.
+    // The grace period of this control state and this seat.
     fn new(control: ControlState<FIRST, SECOND>, seat: WriterSeat) -> Self
         requires { IsInGrace FIRST SECOND control seat.view }
         ensures { result ≡ record {

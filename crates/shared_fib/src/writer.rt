@@ -47,7 +47,7 @@ impl<const FIRST: u32, const SECOND: u32> Model for Writer<FIRST, SECOND> {
 }
 
 impl<const FIRST: u32, const SECOND: u32> Writer<FIRST, SECOND> {
-    // The writer that keeps this ledger, and has this seat.
+    // The writer that keeps this control state, and has this seat.
     pub(crate) fn new(control: ControlState<FIRST, SECOND>, seat: WriterSeat) -> Self
         requires { IsReady FIRST SECOND control seat.view }
         ensures { result ≡ record {

@@ -33,53 +33,53 @@ returns-clause-replies g c = λ setup steps did rests.
     elim c.match-change.branch [
       | in-Add+in-Ok w ↦
           let now = w.in-Ok.ensures.adds setup steps did rests in
-          let m = w.add.new.memory in
-          let l = w.add.new.control in
+          let m = w.add_rule.new.memory in
+          let l = w.add_rule.new.control in
           carried (Came c.args.change.now) m c.match-change.memory l c.match-change.control (Put w.in-Ok.put) c.match-change.reply w.memory-is w.control-is w.reply-is
           (subst (λ x. Came x m l (Put w.in-Ok.put)) (sym w.in-Add.is)
           (now.0, now.1, now.2, (adds_alone WorldView (does_in f s) setup Setting scripts_and_schedule (stays f s) kind f s config before (after m l now.0) refl w.in-Add.prefix w.in-Add.hop (Ok w.in-Ok.put) now.3).0))
       | in-Add+in-Err+in_default w ↦
           let now = w.in-Err.ensures.adds setup steps did rests in
-          let m = w.add.new.memory in
-          let l = w.add.new.control in
+          let m = w.add_rule.new.memory in
+          let l = w.add_rule.new.control in
           carried (Came c.args.change.now) m c.match-change.memory l c.match-change.control (Refused w.in-Err.refusal) c.match-change.reply w.memory-is w.control-is w.reply-is
           (subst (λ x. Came x m l (Refused w.in-Err.refusal)) (sym w.in-Add.is)
           (now.0, now.1, now.2, (w.in_default.not-Memory, (adds_alone WorldView (does_in f s) setup Setting scripts_and_schedule (stays f s) kind f s config before (after m l now.0) refl w.in-Add.prefix w.in-Add.hop (Err w.in-Err.refusal) now.3).0)))
       | in-Delete+in-Ok-delete w ↦
           let now = w.in-Ok-delete.ensures.deletes setup steps did rests in
-          let m = w.delete.new.memory in
-          let l = w.delete.new.control in
+          let m = w.delete_rule.new.memory in
+          let l = w.delete_rule.new.control in
           carried (Came c.args.change.now) m c.match-change.memory l c.match-change.control (Deleted w.in-Ok-delete.hop) c.match-change.reply w.memory-is w.control-is w.reply-is
           (subst (λ x. Came x m l (Deleted w.in-Ok-delete.hop)) (sym w.in-Delete.is)
           (now.0, now.1, now.2, (deletes_alone WorldView (does_in f s) setup Setting scripts_and_schedule (stays f s) kind f s config before (after m l now.0) refl w.in-Delete.prefix (Ok w.in-Ok-delete.hop) now.3).0))
       | in-Delete+in-Err-delete w ↦
           let now = w.in-Err-delete.ensures.deletes setup steps did rests in
-          let m = w.delete.new.memory in
-          let l = w.delete.new.control in
+          let m = w.delete_rule.new.memory in
+          let l = w.delete_rule.new.control in
           carried (Came c.args.change.now) m c.match-change.memory l c.match-change.control (Refused w.in-Err-delete.refusal) c.match-change.reply w.memory-is w.control-is w.reply-is
           (subst (λ x. Came x m l (Refused w.in-Err-delete.refusal)) (sym w.in-Delete.is)
           (now.0, now.1, now.2, (deletes_alone WorldView (does_in f s) setup Setting scripts_and_schedule (stays f s) kind f s config before (after m l now.0) refl w.in-Delete.prefix (Err w.in-Err-delete.refusal) now.3).0))
       | in-Flush+in-Ok-flush w ↦
           let now = w.in-Ok-flush.ensures.flushes setup steps did rests in
-          let m = w.flush.new.memory in
-          let l = w.flush.new.control in
+          let m = w.flush_rules.new.memory in
+          let l = w.flush_rules.new.control in
           carried (Came c.args.change.now) m c.match-change.memory l c.match-change.control (Flushed w.in-Ok-flush.count) c.match-change.reply w.memory-is w.control-is w.reply-is
           (subst (λ x. Came x m l (Flushed w.in-Ok-flush.count)) (sym w.in-Flush.is)
           (now.0, now.1, now.2, (flushes_alone WorldView (does_in f s) setup Setting scripts_and_schedule (stays f s) kind f s config before (after m l now.0) refl (Ok w.in-Ok-flush.count) now.3).0))
       | in-Flush+in-Err-flush w ↦
           let now = w.in-Err-flush.ensures.flushes setup steps did rests in
-          let m = w.flush.new.memory in
-          let l = w.flush.new.control in
+          let m = w.flush_rules.new.memory in
+          let l = w.flush_rules.new.control in
           carried (Came c.args.change.now) m c.match-change.memory l c.match-change.control (Refused w.in-Err-flush.refusal) c.match-change.reply w.memory-is w.control-is w.reply-is
           (subst (λ x. Came x m l (Refused w.in-Err-flush.refusal)) (sym w.in-Flush.is)
           (now.0, now.1, now.2, (flushes_alone WorldView (does_in f s) setup Setting scripts_and_schedule (stays f s) kind f s config before (after m l now.0) refl (Err w.in-Err-flush.refusal) now.3).0))
       | in-Reclaim w ↦
-          let now = w.reclaim.ensures.frees setup steps did rests in
-          let m = w.reclaim.new.memory in
-          let l = w.reclaim.new.control in
-          carried (Came c.args.change.now) m c.match-change.memory l c.match-change.control (Reclaimed w.reclaim.result) c.match-change.reply w.memory-is w.control-is w.reply-is
-          (subst (λ x. Came x m l (Reclaimed w.reclaim.result)) (sym w.in-Reclaim.is)
-          (now.0, now.1, now.2, (frees_alone WorldView (does_in f s) setup Setting scripts_and_schedule (stays f s) kind f s config before (after m l now.0) refl w.in-Reclaim.max w.reclaim.result now.3).0))
+          let now = w.reclaim_groups.ensures.frees setup steps did rests in
+          let m = w.reclaim_groups.new.memory in
+          let l = w.reclaim_groups.new.control in
+          carried (Came c.args.change.now) m c.match-change.memory l c.match-change.control (Reclaimed w.reclaim_groups.result) c.match-change.reply w.memory-is w.control-is w.reply-is
+          (subst (λ x. Came x m l (Reclaimed w.reclaim_groups.result)) (sym w.in-Reclaim.is)
+          (now.0, now.1, now.2, (frees_alone WorldView (does_in f s) setup Setting scripts_and_schedule (stays f s) kind f s config before (after m l now.0) refl w.in-Reclaim.max w.reclaim_groups.result now.3).0))
     ]
 
 pub returns-clause-setting : goal.returns-clause-setting
@@ -95,25 +95,25 @@ returns-clause-setting g c =
     elim c.match-change.branch [
       | in-Add+in-Ok w ↦
           let now = w.in-Ok.ensures.adds rests.0 rests.1 rests.2 rests.3 in
-          ap scripts_and_schedule w.memory-is ∙ (adds_alone WorldView (does_in f s) rests.0 Setting scripts_and_schedule (stays f s) kind f s config before (after w.add.new.memory w.add.new.control now.0) refl w.in-Add.prefix w.in-Add.hop (Ok w.in-Ok.put) now.3).1
+          ap scripts_and_schedule w.memory-is ∙ (adds_alone WorldView (does_in f s) rests.0 Setting scripts_and_schedule (stays f s) kind f s config before (after w.add_rule.new.memory w.add_rule.new.control now.0) refl w.in-Add.prefix w.in-Add.hop (Ok w.in-Ok.put) now.3).1
       | in-Add+in-Err+in_default w ↦
           let now = w.in-Err.ensures.adds rests.0 rests.1 rests.2 rests.3 in
-          ap scripts_and_schedule w.memory-is ∙ (adds_alone WorldView (does_in f s) rests.0 Setting scripts_and_schedule (stays f s) kind f s config before (after w.add.new.memory w.add.new.control now.0) refl w.in-Add.prefix w.in-Add.hop (Err w.in-Err.refusal) now.3).1
+          ap scripts_and_schedule w.memory-is ∙ (adds_alone WorldView (does_in f s) rests.0 Setting scripts_and_schedule (stays f s) kind f s config before (after w.add_rule.new.memory w.add_rule.new.control now.0) refl w.in-Add.prefix w.in-Add.hop (Err w.in-Err.refusal) now.3).1
       | in-Delete+in-Ok-delete w ↦
           let now = w.in-Ok-delete.ensures.deletes rests.0 rests.1 rests.2 rests.3 in
-          ap scripts_and_schedule w.memory-is ∙ (deletes_alone WorldView (does_in f s) rests.0 Setting scripts_and_schedule (stays f s) kind f s config before (after w.delete.new.memory w.delete.new.control now.0) refl w.in-Delete.prefix (Ok w.in-Ok-delete.hop) now.3).1
+          ap scripts_and_schedule w.memory-is ∙ (deletes_alone WorldView (does_in f s) rests.0 Setting scripts_and_schedule (stays f s) kind f s config before (after w.delete_rule.new.memory w.delete_rule.new.control now.0) refl w.in-Delete.prefix (Ok w.in-Ok-delete.hop) now.3).1
       | in-Delete+in-Err-delete w ↦
           let now = w.in-Err-delete.ensures.deletes rests.0 rests.1 rests.2 rests.3 in
-          ap scripts_and_schedule w.memory-is ∙ (deletes_alone WorldView (does_in f s) rests.0 Setting scripts_and_schedule (stays f s) kind f s config before (after w.delete.new.memory w.delete.new.control now.0) refl w.in-Delete.prefix (Err w.in-Err-delete.refusal) now.3).1
+          ap scripts_and_schedule w.memory-is ∙ (deletes_alone WorldView (does_in f s) rests.0 Setting scripts_and_schedule (stays f s) kind f s config before (after w.delete_rule.new.memory w.delete_rule.new.control now.0) refl w.in-Delete.prefix (Err w.in-Err-delete.refusal) now.3).1
       | in-Flush+in-Ok-flush w ↦
           let now = w.in-Ok-flush.ensures.flushes rests.0 rests.1 rests.2 rests.3 in
-          ap scripts_and_schedule w.memory-is ∙ (flushes_alone WorldView (does_in f s) rests.0 Setting scripts_and_schedule (stays f s) kind f s config before (after w.flush.new.memory w.flush.new.control now.0) refl (Ok w.in-Ok-flush.count) now.3).1
+          ap scripts_and_schedule w.memory-is ∙ (flushes_alone WorldView (does_in f s) rests.0 Setting scripts_and_schedule (stays f s) kind f s config before (after w.flush_rules.new.memory w.flush_rules.new.control now.0) refl (Ok w.in-Ok-flush.count) now.3).1
       | in-Flush+in-Err-flush w ↦
           let now = w.in-Err-flush.ensures.flushes rests.0 rests.1 rests.2 rests.3 in
-          ap scripts_and_schedule w.memory-is ∙ (flushes_alone WorldView (does_in f s) rests.0 Setting scripts_and_schedule (stays f s) kind f s config before (after w.flush.new.memory w.flush.new.control now.0) refl (Err w.in-Err-flush.refusal) now.3).1
+          ap scripts_and_schedule w.memory-is ∙ (flushes_alone WorldView (does_in f s) rests.0 Setting scripts_and_schedule (stays f s) kind f s config before (after w.flush_rules.new.memory w.flush_rules.new.control now.0) refl (Err w.in-Err-flush.refusal) now.3).1
       | in-Reclaim w ↦
-          let now = w.reclaim.ensures.frees rests.0 rests.1 rests.2 rests.3 in
-          ap scripts_and_schedule w.memory-is ∙ (frees_alone WorldView (does_in f s) rests.0 Setting scripts_and_schedule (stays f s) kind f s config before (after w.reclaim.new.memory w.reclaim.new.control now.0) refl w.in-Reclaim.max w.reclaim.result now.3).1
+          let now = w.reclaim_groups.ensures.frees rests.0 rests.1 rests.2 rests.3 in
+          ap scripts_and_schedule w.memory-is ∙ (frees_alone WorldView (does_in f s) rests.0 Setting scripts_and_schedule (stays f s) kind f s config before (after w.reclaim_groups.new.memory w.reclaim_groups.new.control now.0) refl w.in-Reclaim.max w.reclaim_groups.result now.3).1
     ]
 
 weaker : {A B B' : Type 0} {P P' : A → Type 0} (o : Option A) → (B → B') → ((a : A) → P a → P' a) → MatchOption o B P → MatchOption o B' P'

@@ -15,17 +15,17 @@ returns g c =
     let f = g.row.FIRST in
     let s = g.row.SECOND in
     let old = c.args.control.now in
-    let new = c.flush.new.control in
+    let new = c.flush_rules.new.control in
     let m : Lent = c.args.memory.now in
-    let z : Lent = c.flush.new.memory in
+    let z : Lent = c.flush_rules.new.memory in
     let setup : InitialState = initial_state_of m.view.initial in
-    let came = c.flush.ensures.flushes setup m.view.seen c.requires.did c.requires.rests in
+    let came = c.flush_rules.ensures.flushes setup m.view.seen c.requires.did c.requires.rests in
     let all = flushed f s setup old.config m z m.view.seen came.0
     old.rules.rules new.rules.rules old.pool new.pool old.versions new.versions
-    c.flush.result came.3 in
+    c.flush_rules.result came.3 in
     let same : kept z ≡ kept m = all.1 in
     let Outcome : List WriterStep → Type 0 = λ later. Flushes (by_steps m.view.initial) f s old.config
-    (state_of old.rules.rules m.view.seen old.pool old.versions) c.flush.result
+    (state_of old.rules.rules m.view.seen old.pool old.versions) c.flush_rules.result
     (state_of new.rules.rules later new.pool new.versions) in
     let Rests : InitialState → List WriterStep → Type 0 = λ by later.
     IsResting f s by later new.config new.rules new.pool new.versions in
@@ -35,5 +35,5 @@ returns g c =
       name = ap (λ (k : Kept). k.0) same;
       table = ap (λ (k : Kept). k.1.0) same;
       view = only_sees m z same;
-      config = c.flush.ensures.config;
+      config = c.flush_rules.ensures.config;
     }

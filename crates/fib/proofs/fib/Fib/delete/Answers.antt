@@ -9,11 +9,11 @@ pub invariant_of-self : goal.invariant_of-self
 invariant_of-self g c =
     let x = c.self.inside in
     let k = c.self.invariant in
-    (deletes g.row.FIRST g.row.SECOND x.control x.memory k c.delete.new.control c.delete.new.memory c.args.prefix.now c.delete.result (c.delete.ensures.deletes k.0 k.1 k.2.did k.2.rests)).0
+    (deletes g.row.FIRST g.row.SECOND x.control x.memory k c.delete_rule.new.control c.delete_rule.new.memory c.args.prefix.now c.delete_rule.result (c.delete_rule.ensures.deletes k.0 k.1 k.2.did k.2.rests)).0
 
 pub returns-clause-deletes : goal.returns-clause-deletes
 returns-clause-deletes g c =
     let x = c.self.inside in
     let k = c.self.invariant in
-    subst (λ (y : FibState). Deletes counter_transitions g.row.FIRST g.row.SECOND y.config y.table c.args.prefix.now c.delete.result (table_of c.delete.new.control c.delete.new.memory)) c.self.view_is
-    (deletes g.row.FIRST g.row.SECOND x.control x.memory k c.delete.new.control c.delete.new.memory c.args.prefix.now c.delete.result (c.delete.ensures.deletes k.0 k.1 k.2.did k.2.rests)).1
+    subst (λ (y : FibState). Deletes counter_transitions g.row.FIRST g.row.SECOND y.config y.table c.args.prefix.now c.delete_rule.result (table_of c.delete_rule.new.control c.delete_rule.new.memory)) c.self.view_is
+    (deletes g.row.FIRST g.row.SECOND x.control x.memory k c.delete_rule.new.control c.delete_rule.new.memory c.args.prefix.now c.delete_rule.result (c.delete_rule.ensures.deletes k.0 k.1 k.2.did k.2.rests)).1

@@ -1,0 +1,7 @@
+use Rattle.lpm_writer.proofs.Loading.{HasAsked}
+use Rattle.lpm_writer.proofs.grace.load_counters.Given as goal
+
+abbrev pub invariant-loop-worker : goal.invariant-loop-worker
+invariant-loop-worker g l = record {
+  asked : HasAsked g.M.Memory.did g.M.Memory.does l.fn.memory l.token l.worker l.memory;
+}

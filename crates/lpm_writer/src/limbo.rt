@@ -1,0 +1,145 @@
+//! Groups that wait in limbo.
+
+ghost use Rattle.std.specs.Prelude.{◌≡◌, ℕ, ◌+◌, ◌^◌, ◌<◌, ◌≤◌, List, ◌++◌, Option, drop, length, IfOk, OnErr};
+ghost use Rattle.lpm_groups.specs.States.{linked_count, IsLinkedTo};
+ghost use Rattle.lpm_update.specs.Tied.{SameLinksBut};
+ghost use Rattle.lpm_trace.specs.declared.step.WriterStep.{WriterStep};
+ghost use Rattle.lpm_trace.specs.States.{InitialState};
+ghost use Rattle.fib_model.specs.Reclaiming.{MakesRoom, Reclaims};
+ghost use Rattle.lpm_writer.specs.Waiting.{AreWaiting, IsFreed, IsQueued, IsTaken, tokens_of};
+ghost use Rattle.lpm_writer.specs.Traced.{by_writer, Retires};
+ghost use Rattle.lpm_writer.specs.Matching.{HasUnlinked, HasRetired, OnlyChecks, GroupsMatchSteps, MayReclaim};
+ghost use Rattle.lpm_writer.specs.Taking.{LinksLeast, MayTake, Takes, taken_by};
+
+use super::GroupPool;
+use super::grace::check;
+use crate::Memory;
+use defer_queue::Reclaimed;
+use qsbr::{Busy, Config};
+
+/// Frees groups from the oldest in limbo on, at most `max`, up to the first that a worker holds.
+pub(crate) fn free_waiting<M: Memory>(pool: &mut GroupPool, memory: &mut M, max: usize) -> Reclaimed
+    requires waiting { AreWaiting pool.old.groups pool.old.queue.items }
+    requires kept { (c : InitialState) × (steps : List WriterStep) × (tail : List (ℕ × ℕ))
+        × (held : Option ℕ) × M.did memory.old c steps
+        × GroupsMatchSteps c steps pool.old.groups (pool.old.queue.items ++ tail) pool.old.passed held
+        × MayReclaim c steps pool.old.queue.items }
+    ensures reclaims { (c : InitialState) (steps : List WriterStep) (tail : List (ℕ × ℕ))
+        (held : Option ℕ) → M.did memory.old c steps
+        → GroupsMatchSteps c steps pool.old.groups (pool.old.queue.items ++ tail) pool.old.passed held
+        → MayReclaim c steps pool.old.queue.items
+        → (later : List WriterStep) × M.did memory.new c later × OnlyChecks c steps later
+        × GroupsMatchSteps c later pool.new.groups (pool.new.queue.items ++ tail) pool.new.passed held
+        × Reclaims (by_writer M.does c) (memory.old, steps) max (tokens_of pool.old.queue.items)
+        result.freed result.stopped (tokens_of pool.new.queue.items) (memory.new, later) }
+    ensures queue { pool.new.queue ≡ record pool.old.queue {
+      items = drop result.freed pool.old.queue.items;
+    } }
+    ensures waiting { AreWaiting pool.new.groups pool.new.queue.items }
+    ensures freed { IsFreed pool.old.groups pool.old.queue.items result.freed pool.new.groups }
+    ensures unchanged { result.freed ≡ 0 → pool.new.groups ≡ pool.old.groups }
+{
+    let mut freed = 0;
+    while freed < max {
+        let Some((group, token)) = pool.queue.front() else {
+            break;
+        };
+        if let Err(busy) = check(memory, &mut pool.passed, token) {
+            return Reclaimed {
+                freed,
+                stopped: Some(busy),
+            };
+        }
+        pool.queue.take_front();
+        pool.groups.release(group);
+        freed += 1;
+    }
+    Reclaimed {
+        freed,
+        stopped: None,
+    }
+}
+
+/// Frees some groups where more than `threshold` of them wait.
+fn make_room<M: Memory>(pool: &mut GroupPool, memory: &mut M, config: &Config)
+    requires waiting { AreWaiting pool.old.groups pool.old.queue.items }
+    requires kept { (c : InitialState) × (steps : List WriterStep) × (tail : List (ℕ × ℕ))
+        × (held : Option ℕ) × M.did memory.old c steps
+        × GroupsMatchSteps c steps pool.old.groups (pool.old.queue.items ++ tail) pool.old.passed held
+        × MayReclaim c steps pool.old.queue.items }
+    ensures room { (c : InitialState) (steps : List WriterStep) (tail : List (ℕ × ℕ))
+        (held : Option ℕ) → M.did memory.old c steps
+        → GroupsMatchSteps c steps pool.old.groups (pool.old.queue.items ++ tail) pool.old.passed held
+        → MayReclaim c steps pool.old.queue.items
+        → (later : List WriterStep) × M.did memory.new c later × OnlyChecks c steps later
+        × GroupsMatchSteps c later pool.new.groups (pool.new.queue.items ++ tail) pool.new.passed held
+        × MakesRoom (by_writer M.does c) config.now (memory.old, steps)
+        (tokens_of pool.old.queue.items) (tokens_of pool.new.queue.items) (memory.new, later) }
+    ensures freed { (n : ℕ) × (n ≤ length pool.old.queue.items)
+        × (pool.new.queue ≡ record pool.old.queue { items = drop n pool.old.queue.items })
+        × IsFreed pool.old.groups pool.old.queue.items n pool.new.groups }
+    ensures waiting { AreWaiting pool.new.groups pool.new.queue.items }
+{
+    if pool.queue.len() <= config.threshold {
+        return;
+    }
+    free_waiting(pool, memory, config.reclaim_max);
+}
+
+/// The group has lost its block: it waits in limbo from now on, under a token of its own. Where more
+/// than `threshold` groups wait already, some are reclaimed first.
+pub(crate) fn retire<M: Memory>(pool: &mut GroupPool, memory: &mut M, group: u32, config: &Config)
+    requires linked { (block : ℕ) × IsLinkedTo pool.old.groups group block }
+    requires queued { IsQueued pool.old.groups pool.old.queue }
+    requires token { M.newest memory.old < 2 ^ 62 }
+    requires unlinked { (c : InitialState) × (steps : List WriterStep) × (held : Option ℕ)
+        × M.did memory.old c steps × HasUnlinked c steps pool.old group held }
+    ensures retires { (c : InitialState) (steps : List WriterStep) (held : Option ℕ)
+        → M.did memory.old c steps → HasUnlinked c steps pool.old group held
+        → (later : List WriterStep) × M.did memory.new c later × HasRetired c steps later
+        × GroupsMatchSteps c later pool.new.groups pool.new.queue.items pool.new.passed held
+        × Retires M.does c config.now (memory.old, steps) (tokens_of pool.old.queue.items)
+        (memory.new, later) (tokens_of pool.new.queue.items) }
+    ensures queued { IsQueued pool.new.groups pool.new.queue }
+    ensures states { length pool.new.groups ≡ length pool.old.groups }
+    ensures linked { linked_count pool.new.groups + 1 ≡ linked_count pool.old.groups }
+    ensures others { SameLinksBut group pool.old.groups pool.new.groups }
+    ensures gone { (b : ℕ) → ¬ IsLinkedTo pool.new.groups group b }
+{
+    let token = memory.start();
+    pool.groups.retire(group);
+    make_room(pool, memory, config);
+    pool.queue.retire(group, token);
+}
+
+/// Links the least free group to the block, and returns it. Where none is free, the oldest in limbo is
+/// freed first; the error is the worker that holds it, none where no group waits.
+pub(crate) fn take<M: Memory>(
+    pool: &mut GroupPool,
+    memory: &mut M,
+    block: usize,
+) -> Result<u32, Option<Busy>>
+    requires queued { IsQueued pool.old.groups pool.old.queue }
+    requires rests { (c : InitialState) × (steps : List WriterStep) × M.did memory.old c steps
+        × MayTake c steps pool.old }
+    ensures takes { (c : InitialState) (steps : List WriterStep) → M.did memory.old c steps
+        → MayTake c steps pool.old
+        → (later : List WriterStep) × M.did memory.new c later × OnlyChecks c steps later
+        × GroupsMatchSteps c later pool.new.groups pool.new.queue.items pool.new.passed (taken_by result)
+        × Takes (by_writer M.does c) (memory.old, steps) pool.old result
+        (memory.new, later) pool.new }
+    ensures linked { IfOk result (λ g. IsTaken pool.old.groups g block pool.new.groups) }
+    ensures least { LinksLeast pool.old.groups pool.new.groups }
+    ensures unchanged { OnErr result ((pool.new.groups ≡ pool.old.groups)
+        × (pool.new.queue ≡ pool.old.queue)) }
+    ensures queued { IsQueued pool.new.groups pool.new.queue }
+{
+    if let Some(group) = pool.groups.take_least(block) {
+        return Ok(group);
+    }
+    let reclaimed = free_waiting(pool, memory, 1);
+    match pool.groups.take_least(block) {
+        Some(group) => return Ok(group),
+        None => return Err(reclaimed.stopped),
+    }
+}
