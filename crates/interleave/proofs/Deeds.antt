@@ -85,7 +85,7 @@ module _ (c : InitialState) (w : TableState) (k now : ℕ) (r : Worker) (left : 
   pub meet_begun : (sequence : ℕ) (shown : Step) → w.sequence ≡ sequence → shown ≡ step_of_worker k kind.LoadSequence 0 sequence
       → IsBegun c w k now r left m m shown deed.Meet
   meet_begun sequence shown same is shows between sound = record {
-    made = step.Meets sequence;
+    made = step.MeetWriter sequence;
     begins = tt;
     makes = record { may = (between, sym same); shows = shows; shown = is };
     sound = sound;
@@ -94,7 +94,7 @@ module _ (c : InitialState) (w : TableState) (k now : ℕ) (r : Worker) (left : 
 
   module _ (new : Machine) (addrs : List ℕ) (sequence : ℕ) (shown : Step) (same : w.sequence ≡ sequence) (is : shown ≡ step_of_worker k kind.LoadSequence 0 sequence)
       (counter : new.counter ≡ m.counter) (doing : new.phase ≡ phase.LookingUp) (lo : new.lo ≡ done_at sequence) (probes : new.probes.items ≡ map probe.Unread addrs) where
-    looks_up : Shows m r → IsBetweenDeeds r.phase → is_online r.phase ≡ true → All (λ a. a < addresses c) addrs → Makes c w k now r (step.Begins addrs sequence) new shown
+    looks_up : Shows m r → IsBetweenDeeds r.phase → is_online r.phase ≡ true → All (λ a. a < addresses c) addrs → Makes c w k now r (step.BeginLookup addrs sequence) new shown
     looks_up shows between online all = record {
       may = (online_is r.phase between online, all, sym same);
       shows = record {
@@ -108,7 +108,7 @@ module _ (c : InitialState) (w : TableState) (k now : ℕ) (r : Worker) (left : 
 
     pub lookup_begun : (addr : ℕ) → addrs ≡ addr ∷ [] → IsBegun c w k now r left m new shown (deed.Lookup addr)
     lookup_begun addr one shows between sound = record {
-      made = step.Begins addrs sequence;
+      made = step.BeginLookup addrs sequence;
       begins = one;
       makes = looks_up shows between sound.0 (rw one (All-cons (λ a. a < addresses c) addr [] sound.1 (All-nil (λ a. a < addresses c))));
       sound = subst (λ (b : Bool). IsSoundFrom (addresses c) b left) sound.0 sound.2;
@@ -117,7 +117,7 @@ module _ (c : InitialState) (w : TableState) (k now : ℕ) (r : Worker) (left : 
 
     pub lookup4_begun : IsBegun c w k now r left m new shown (deed.Lookup4 addrs)
     lookup4_begun shows between sound = record {
-      made = step.Begins addrs sequence;
+      made = step.BeginLookup addrs sequence;
       begins = refl;
       makes = looks_up shows between sound.0 sound.1;
       sound = subst (λ (b : Bool). IsSoundFrom (addresses c) b left) sound.0 sound.2;

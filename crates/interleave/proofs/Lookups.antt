@@ -122,7 +122,7 @@ module _ (c : InitialState) (w : TableState) (k now : ℕ) (r : Worker) (m new :
       → new.counter ≡ m.counter → new.phase ≡ phase.Online → new.lo ≡ m.lo → new.probes.items ≡ [] → shown ≡ step_of_worker k kind.LoadSequence 0 sequence
       → after ≡ before ++ noted k m.lo (begun_at sequence) m.probes.items → ContinuesDeed c w k now r new shown before after
   ended answered same shows doing counter rests lo none told notes = record {
-    made = step.Ends sequence;
+    made = step.EndLookup sequence;
     goes = tt;
     makes = record {
       may = (doing, subst AreAnswered (sym shows.probes) answered, sym same);

@@ -49,11 +49,11 @@ goes_on_online c w now r (step.StoreOnline t) goes may = ap is_online (sym may)
 goes_on_online c w now r (step.LoadQuiescent t) goes may = absurd goes
 goes_on_online c w now r (step.StoreQuiescent t) goes may = ap is_online (sym may)
 goes_on_online c w now r step.StoreOffline goes may = absurd goes
-goes_on_online c w now r (step.Begins addrs x) goes may = absurd goes
+goes_on_online c w now r (step.BeginLookup addrs x) goes may = absurd goes
 goes_on_online c w now r (step.LoadFirst x) goes may = refl
 goes_on_online c w now r (step.LoadSecond x) goes may = refl
-goes_on_online c w now r (step.Ends x) goes may = ap is_online (sym may.0)
-goes_on_online c w now r (step.Meets x) goes may = absurd goes
+goes_on_online c w now r (step.EndLookup x) goes may = ap is_online (sym may.0)
+goes_on_online c w now r (step.MeetWriter x) goes may = absurd goes
 
 module _ (first second : ℕ) (words : Words) (sequence token : ℕ) (c : InitialState) (w : TableState) (k now : ℕ) (script : List Deed) (r : Worker) (own : List WorkerStep) (m : Machine)
     (ok : IsWords first second words) (of : IsOf first second words sequence token c w) (at : IsAt first second (length words.seconds) m script r own) where

@@ -13,7 +13,7 @@ use Rattle.interleave.specs.declared.reply.Reply.TheVariants.{Put, Deleted, Flus
 use Rattle.interleave.specs.Replies.{Answers, state_by_steps}
 use Rattle.interleave.proofs.Settings.{Setting, does_in, stays}
 use Rattle.interleave.proofs.answering.answer.Goals as goal
-use Rattle.interleave.proofs.answering.answer.Goals.{in-Add+in-Ok, in-Add+in-Err+in_default, in-Delete+in-Ok-delete, in-Delete+in-Err-delete, in-Flush+in-Ok-flush, in-Flush+in-Err-flush, in-Reclaim}
+use Rattle.interleave.proofs.answering.answer.Goals.{in-Add+in-Ok, in-Add+in-Err+in_default, in-Delete+in-Ok-delete_rule, in-Delete+in-Err-delete_rule, in-Flush+in-Ok-flush_rules, in-Flush+in-Err-flush_rules, in-Reclaim}
 
 carried : {M L : Type 0} (P : M → L → Reply → Type 0) (m m' : M) (l l' : L) (r r' : Reply) → m' ≡ m → l' ≡ l → r' ≡ r → P m l r → P m' l' r'
 carried P m m' l l' r r' em el er h = subst (λ x. P x l' r') (sym em) (subst (λ x. P m x r') (sym el) (subst (λ x. P m l x) (sym er) h))
@@ -45,34 +45,34 @@ returns-clause-replies g c = λ setup steps did rests.
           carried (Came c.args.change.now) m c.match-change.memory l c.match-change.control (Refused w.in-Err.refusal) c.match-change.reply w.memory-is w.control-is w.reply-is
           (subst (λ x. Came x m l (Refused w.in-Err.refusal)) (sym w.in-Add.is)
           (now.0, now.1, now.2, (w.in_default.not-Memory, (adds_alone WorldView (does_in f s) setup Setting scripts_and_schedule (stays f s) kind f s config before (after m l now.0) refl w.in-Add.prefix w.in-Add.hop (Err w.in-Err.refusal) now.3).0)))
-      | in-Delete+in-Ok-delete w ↦
-          let now = w.in-Ok-delete.ensures.deletes setup steps did rests in
+      | in-Delete+in-Ok-delete_rule w ↦
+          let now = w.in-Ok-delete_rule.ensures.deletes setup steps did rests in
           let m = w.delete_rule.new.memory in
           let l = w.delete_rule.new.control in
-          carried (Came c.args.change.now) m c.match-change.memory l c.match-change.control (Deleted w.in-Ok-delete.hop) c.match-change.reply w.memory-is w.control-is w.reply-is
-          (subst (λ x. Came x m l (Deleted w.in-Ok-delete.hop)) (sym w.in-Delete.is)
-          (now.0, now.1, now.2, (deletes_alone WorldView (does_in f s) setup Setting scripts_and_schedule (stays f s) kind f s config before (after m l now.0) refl w.in-Delete.prefix (Ok w.in-Ok-delete.hop) now.3).0))
-      | in-Delete+in-Err-delete w ↦
-          let now = w.in-Err-delete.ensures.deletes setup steps did rests in
+          carried (Came c.args.change.now) m c.match-change.memory l c.match-change.control (Deleted w.in-Ok-delete_rule.hop) c.match-change.reply w.memory-is w.control-is w.reply-is
+          (subst (λ x. Came x m l (Deleted w.in-Ok-delete_rule.hop)) (sym w.in-Delete.is)
+          (now.0, now.1, now.2, (deletes_alone WorldView (does_in f s) setup Setting scripts_and_schedule (stays f s) kind f s config before (after m l now.0) refl w.in-Delete.prefix (Ok w.in-Ok-delete_rule.hop) now.3).0))
+      | in-Delete+in-Err-delete_rule w ↦
+          let now = w.in-Err-delete_rule.ensures.deletes setup steps did rests in
           let m = w.delete_rule.new.memory in
           let l = w.delete_rule.new.control in
-          carried (Came c.args.change.now) m c.match-change.memory l c.match-change.control (Refused w.in-Err-delete.refusal) c.match-change.reply w.memory-is w.control-is w.reply-is
-          (subst (λ x. Came x m l (Refused w.in-Err-delete.refusal)) (sym w.in-Delete.is)
-          (now.0, now.1, now.2, (deletes_alone WorldView (does_in f s) setup Setting scripts_and_schedule (stays f s) kind f s config before (after m l now.0) refl w.in-Delete.prefix (Err w.in-Err-delete.refusal) now.3).0))
-      | in-Flush+in-Ok-flush w ↦
-          let now = w.in-Ok-flush.ensures.flushes setup steps did rests in
+          carried (Came c.args.change.now) m c.match-change.memory l c.match-change.control (Refused w.in-Err-delete_rule.refusal) c.match-change.reply w.memory-is w.control-is w.reply-is
+          (subst (λ x. Came x m l (Refused w.in-Err-delete_rule.refusal)) (sym w.in-Delete.is)
+          (now.0, now.1, now.2, (deletes_alone WorldView (does_in f s) setup Setting scripts_and_schedule (stays f s) kind f s config before (after m l now.0) refl w.in-Delete.prefix (Err w.in-Err-delete_rule.refusal) now.3).0))
+      | in-Flush+in-Ok-flush_rules w ↦
+          let now = w.in-Ok-flush_rules.ensures.flushes setup steps did rests in
           let m = w.flush_rules.new.memory in
           let l = w.flush_rules.new.control in
-          carried (Came c.args.change.now) m c.match-change.memory l c.match-change.control (Flushed w.in-Ok-flush.count) c.match-change.reply w.memory-is w.control-is w.reply-is
-          (subst (λ x. Came x m l (Flushed w.in-Ok-flush.count)) (sym w.in-Flush.is)
-          (now.0, now.1, now.2, (flushes_alone WorldView (does_in f s) setup Setting scripts_and_schedule (stays f s) kind f s config before (after m l now.0) refl (Ok w.in-Ok-flush.count) now.3).0))
-      | in-Flush+in-Err-flush w ↦
-          let now = w.in-Err-flush.ensures.flushes setup steps did rests in
+          carried (Came c.args.change.now) m c.match-change.memory l c.match-change.control (Flushed w.in-Ok-flush_rules.count) c.match-change.reply w.memory-is w.control-is w.reply-is
+          (subst (λ x. Came x m l (Flushed w.in-Ok-flush_rules.count)) (sym w.in-Flush.is)
+          (now.0, now.1, now.2, (flushes_alone WorldView (does_in f s) setup Setting scripts_and_schedule (stays f s) kind f s config before (after m l now.0) refl (Ok w.in-Ok-flush_rules.count) now.3).0))
+      | in-Flush+in-Err-flush_rules w ↦
+          let now = w.in-Err-flush_rules.ensures.flushes setup steps did rests in
           let m = w.flush_rules.new.memory in
           let l = w.flush_rules.new.control in
-          carried (Came c.args.change.now) m c.match-change.memory l c.match-change.control (Refused w.in-Err-flush.refusal) c.match-change.reply w.memory-is w.control-is w.reply-is
-          (subst (λ x. Came x m l (Refused w.in-Err-flush.refusal)) (sym w.in-Flush.is)
-          (now.0, now.1, now.2, (flushes_alone WorldView (does_in f s) setup Setting scripts_and_schedule (stays f s) kind f s config before (after m l now.0) refl (Err w.in-Err-flush.refusal) now.3).0))
+          carried (Came c.args.change.now) m c.match-change.memory l c.match-change.control (Refused w.in-Err-flush_rules.refusal) c.match-change.reply w.memory-is w.control-is w.reply-is
+          (subst (λ x. Came x m l (Refused w.in-Err-flush_rules.refusal)) (sym w.in-Flush.is)
+          (now.0, now.1, now.2, (flushes_alone WorldView (does_in f s) setup Setting scripts_and_schedule (stays f s) kind f s config before (after m l now.0) refl (Err w.in-Err-flush_rules.refusal) now.3).0))
       | in-Reclaim w ↦
           let now = w.reclaim_groups.ensures.frees setup steps did rests in
           let m = w.reclaim_groups.new.memory in
@@ -99,18 +99,18 @@ returns-clause-setting g c =
       | in-Add+in-Err+in_default w ↦
           let now = w.in-Err.ensures.adds rests.0 rests.1 rests.2 rests.3 in
           ap scripts_and_schedule w.memory-is ∙ (adds_alone WorldView (does_in f s) rests.0 Setting scripts_and_schedule (stays f s) kind f s config before (after w.add_rule.new.memory w.add_rule.new.control now.0) refl w.in-Add.prefix w.in-Add.hop (Err w.in-Err.refusal) now.3).1
-      | in-Delete+in-Ok-delete w ↦
-          let now = w.in-Ok-delete.ensures.deletes rests.0 rests.1 rests.2 rests.3 in
-          ap scripts_and_schedule w.memory-is ∙ (deletes_alone WorldView (does_in f s) rests.0 Setting scripts_and_schedule (stays f s) kind f s config before (after w.delete_rule.new.memory w.delete_rule.new.control now.0) refl w.in-Delete.prefix (Ok w.in-Ok-delete.hop) now.3).1
-      | in-Delete+in-Err-delete w ↦
-          let now = w.in-Err-delete.ensures.deletes rests.0 rests.1 rests.2 rests.3 in
-          ap scripts_and_schedule w.memory-is ∙ (deletes_alone WorldView (does_in f s) rests.0 Setting scripts_and_schedule (stays f s) kind f s config before (after w.delete_rule.new.memory w.delete_rule.new.control now.0) refl w.in-Delete.prefix (Err w.in-Err-delete.refusal) now.3).1
-      | in-Flush+in-Ok-flush w ↦
-          let now = w.in-Ok-flush.ensures.flushes rests.0 rests.1 rests.2 rests.3 in
-          ap scripts_and_schedule w.memory-is ∙ (flushes_alone WorldView (does_in f s) rests.0 Setting scripts_and_schedule (stays f s) kind f s config before (after w.flush_rules.new.memory w.flush_rules.new.control now.0) refl (Ok w.in-Ok-flush.count) now.3).1
-      | in-Flush+in-Err-flush w ↦
-          let now = w.in-Err-flush.ensures.flushes rests.0 rests.1 rests.2 rests.3 in
-          ap scripts_and_schedule w.memory-is ∙ (flushes_alone WorldView (does_in f s) rests.0 Setting scripts_and_schedule (stays f s) kind f s config before (after w.flush_rules.new.memory w.flush_rules.new.control now.0) refl (Err w.in-Err-flush.refusal) now.3).1
+      | in-Delete+in-Ok-delete_rule w ↦
+          let now = w.in-Ok-delete_rule.ensures.deletes rests.0 rests.1 rests.2 rests.3 in
+          ap scripts_and_schedule w.memory-is ∙ (deletes_alone WorldView (does_in f s) rests.0 Setting scripts_and_schedule (stays f s) kind f s config before (after w.delete_rule.new.memory w.delete_rule.new.control now.0) refl w.in-Delete.prefix (Ok w.in-Ok-delete_rule.hop) now.3).1
+      | in-Delete+in-Err-delete_rule w ↦
+          let now = w.in-Err-delete_rule.ensures.deletes rests.0 rests.1 rests.2 rests.3 in
+          ap scripts_and_schedule w.memory-is ∙ (deletes_alone WorldView (does_in f s) rests.0 Setting scripts_and_schedule (stays f s) kind f s config before (after w.delete_rule.new.memory w.delete_rule.new.control now.0) refl w.in-Delete.prefix (Err w.in-Err-delete_rule.refusal) now.3).1
+      | in-Flush+in-Ok-flush_rules w ↦
+          let now = w.in-Ok-flush_rules.ensures.flushes rests.0 rests.1 rests.2 rests.3 in
+          ap scripts_and_schedule w.memory-is ∙ (flushes_alone WorldView (does_in f s) rests.0 Setting scripts_and_schedule (stays f s) kind f s config before (after w.flush_rules.new.memory w.flush_rules.new.control now.0) refl (Ok w.in-Ok-flush_rules.count) now.3).1
+      | in-Flush+in-Err-flush_rules w ↦
+          let now = w.in-Err-flush_rules.ensures.flushes rests.0 rests.1 rests.2 rests.3 in
+          ap scripts_and_schedule w.memory-is ∙ (flushes_alone WorldView (does_in f s) rests.0 Setting scripts_and_schedule (stays f s) kind f s config before (after w.flush_rules.new.memory w.flush_rules.new.control now.0) refl (Err w.in-Err-flush_rules.refusal) now.3).1
       | in-Reclaim w ↦
           let now = w.reclaim_groups.ensures.frees rests.0 rests.1 rests.2 rests.3 in
           ap scripts_and_schedule w.memory-is ∙ (frees_alone WorldView (does_in f s) rests.0 Setting scripts_and_schedule (stays f s) kind f s config before (after w.reclaim_groups.new.memory w.reclaim_groups.new.control now.0) refl w.in-Reclaim.max w.reclaim_groups.result now.3).1
