@@ -35,7 +35,7 @@ impl LinkGroup {
     ghost use Rattle.lpm_update.specs.Runs.{AllowsAlong, RunsOn};
 
     /// The addition of this rule by this group, which no block has.
-    pub(crate) fn add<const FIRST: u32, const SECOND: u32>(
+    pub(crate) fn of_addition<const FIRST: u32, const SECOND: u32>(
         prefix: &Prefix<FIRST, SECOND>,
         hop: Hop,
         group: u32,

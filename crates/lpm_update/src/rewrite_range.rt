@@ -37,7 +37,7 @@ impl RewriteRange {
 
     /// The change that adds a rule whose block needs no new group: a rule no longer than `FIRST`
     /// bits, or one whose block has a group.
-    pub(crate) fn add<const FIRST: u32, const SECOND: u32>(
+    pub(crate) fn of_addition<const FIRST: u32, const SECOND: u32>(
         prefix: &Prefix<FIRST, SECOND>,
         hop: Hop,
     ) -> RewriteRange
@@ -63,7 +63,7 @@ impl RewriteRange {
     }
 
     /// The change that deletes a rule. `cover` is the longest rule that is shorter and covers it.
-    pub(crate) fn delete<const FIRST: u32, const SECOND: u32>(
+    pub(crate) fn of_deletion<const FIRST: u32, const SECOND: u32>(
         prefix: &Prefix<FIRST, SECOND>,
         cover: Option<Rule<FIRST, SECOND>>,
     ) -> RewriteRange

@@ -68,12 +68,12 @@ impl Update {
         match group {
             Some(group) => {
                 return Update {
-                    plan: Plan::Link(LinkGroup::add(prefix, hop, group)),
+                    plan: Plan::Link(LinkGroup::of_addition(prefix, hop, group)),
                 };
             }
             None => {
                 return Update {
-                    plan: Plan::Range(RewriteRange::add(prefix, hop)),
+                    plan: Plan::Range(RewriteRange::of_addition(prefix, hop)),
                 };
             }
         }
@@ -97,7 +97,7 @@ impl Update {
             → IsBegun FIRST SECOND result t
             × TurnsInto FIRST SECOND result R (map.remove R prefix.now) }
     {
-        let range = RewriteRange::delete(prefix, cover);
+        let range = RewriteRange::of_deletion(prefix, cover);
         if last {
             let block = Shape::<FIRST, SECOND>::first_index(prefix.bits());
             return Update {
