@@ -5,7 +5,7 @@
 ghost use Rattle.std.specs.Prelude.{◌≤◌, ◌<◌};
 
 use defer_queue::Reclaimed;
-use fib_model::{Account, Command, Outcome, Report};
+use fib_model::{Account, Order, Outcome};
 use lpm_bits::{Hop, Prefix};
 use lpm_rules::Put;
 use qsbr::{Busy, Config, Refusal};
@@ -19,7 +19,7 @@ pub(crate) struct Case {
     /// The limits of the table.
     pub(crate) config: Config,
     /// The commands to the table that was just opened.
-    pub(crate) commands: Vec<Command<24, 8>>,
+    pub(crate) orders: Vec<Order<24, 8>>,
     /// What each command comes to, and the counts after the last.
     pub(crate) account: Account,
     /// Addresses, and the number of the next hop that a lookup of each finds after the last
@@ -31,7 +31,7 @@ pub(crate) struct Case {
 type Counts = (usize, u64, usize, usize, usize, u64);
 
 /// A command and what it comes to.
-type Step = (Command<24, 8>, Outcome);
+type Step = (Order<24, 8>, Outcome);
 
 /// An address and the number of its next hop.
 type Found = ([u8; 4], Option<u32>);
@@ -65,19 +65,19 @@ impl Case {
         Ok(Case {
             name,
             config,
-            commands: commands_of(alloc, steps)?,
+            orders: orders_of(alloc, steps)?,
             account,
             lookups: lookups_of(alloc, found)?,
         })
     }
 }
 
-fn commands_of(alloc: Global, steps: &[Step]) -> Result<Vec<Command<24, 8>>, AllocError> {
-    let mut commands = Vec::new(alloc);
+fn orders_of(alloc: Global, steps: &[Step]) -> Result<Vec<Order<24, 8>>, AllocError> {
+    let mut orders = Vec::new(alloc);
     for step in steps {
-        commands.push(step.0)?;
+        orders.push(step.0)?;
     }
-    Ok(commands)
+    Ok(orders)
 }
 
 fn outcomes_of(alloc: Global, steps: &[Step]) -> Result<Vec<Outcome>, AllocError> {
@@ -108,29 +108,17 @@ fn hop(number: u32) -> Hop
     Hop::new(number).unwrap()
 }
 
-fn add(octets: [u8; 4], len: u32, number: u32) -> Command<24, 8>
+fn add(octets: [u8; 4], len: u32, number: u32) -> Order<24, 8>
     requires len { len ≤ 32 }
     requires hop { number < 16777216 }
 {
-    Command::Add(prefix(octets, len), hop(number))
+    Order::Add(prefix(octets, len), hop(number))
 }
 
-fn delete(octets: [u8; 4], len: u32) -> Command<24, 8>
+fn delete(octets: [u8; 4], len: u32) -> Order<24, 8>
     requires { len ≤ 32 }
 {
-    Command::Delete(prefix(octets, len))
-}
-
-fn online(worker: usize) -> Command<24, 8> {
-    Command::Report(Report::Online, worker)
-}
-
-fn offline(worker: usize) -> Command<24, 8> {
-    Command::Report(Report::Offline, worker)
-}
-
-fn quiescent(worker: usize) -> Command<24, 8> {
-    Command::Report(Report::Quiescent, worker)
+    Order::Del(prefix(octets, len))
 }
 
 fn deleted(number: u32) -> Outcome
@@ -386,7 +374,7 @@ fn reclaimed_after_delete(alloc: Global) -> Result<Case, AllocError> {
             (add([10, 1, 0, 0], 16, 2), ADDED),
             (add([10, 1, 1, 128], 25, 3), ADDED),
             (delete([10, 1, 1, 128], 25), deleted(3)),
-            (Command::Reclaim(16), reclaimed(1, None)),
+            (Order::Reclaim(16), reclaimed(1, None)),
         ],
         &[([10, 1, 1, 128], Some(2))],
         (2, 4, 0, 0, 256, 2),
@@ -419,11 +407,11 @@ fn held_group(alloc: Global) -> Result<Case, AllocError> {
             ..Config::default()
         },
         &[
-            (online(0), Outcome::Told),
+            (Order::Online(0), Outcome::Told),
             (add([10, 0, 0, 0], 25, 1), ADDED),
             (delete([10, 0, 0, 0], 25), deleted(1)),
             (add([10, 0, 1, 0], 25, 2), no_groups(busy(0, 1))),
-            (quiescent(0), Outcome::Told),
+            (Order::Quiescent(0), Outcome::Told),
             (add([10, 0, 1, 0], 25, 2), ADDED),
         ],
         &[([10, 0, 0, 0], None), ([10, 0, 1, 127], Some(2))],
@@ -459,15 +447,15 @@ fn two_workers(alloc: Global) -> Result<Case, AllocError> {
         &[
             (add([10, 0, 0, 0], 25, 1), ADDED),
             (add([10, 0, 1, 0], 25, 2), ADDED),
-            (online(0), Outcome::Told),
+            (Order::Online(0), Outcome::Told),
             (delete([10, 0, 0, 0], 25), deleted(1)),
-            (online(1), Outcome::Told),
+            (Order::Online(1), Outcome::Told),
             (delete([10, 0, 1, 0], 25), deleted(2)),
-            (Command::Reclaim(16), reclaimed(0, busy(0, 1))),
-            (quiescent(0), Outcome::Told),
-            (Command::Reclaim(16), reclaimed(1, busy(1, 2))),
-            (offline(1), Outcome::Told),
-            (Command::Reclaim(16), reclaimed(1, None)),
+            (Order::Reclaim(16), reclaimed(0, busy(0, 1))),
+            (Order::Quiescent(0), Outcome::Told),
+            (Order::Reclaim(16), reclaimed(1, busy(1, 2))),
+            (Order::Offline(1), Outcome::Told),
+            (Order::Reclaim(16), reclaimed(1, None)),
         ],
         &[([10, 0, 0, 0], None)],
         (0, 4, 0, 0, 256, 3),
@@ -522,7 +510,7 @@ fn flush_report(alloc: Global) -> Result<Case, AllocError> {
             (add([10, 0, 0, 0], 8, 1), ADDED),
             (add([10, 1, 0, 0], 16, 2), ADDED),
             (add([10, 1, 1, 128], 25, 3), ADDED),
-            (Command::Flush, Outcome::Flushed(3)),
+            (Order::Flush, Outcome::Flushed(3)),
         ],
         &[([10, 1, 1, 128], None)],
         (0, 4, 0, 1, 255, 2),
@@ -542,7 +530,7 @@ fn flush_three_groups(alloc: Global) -> Result<Case, AllocError> {
             (add([10, 0, 0, 0], 25, 1), ADDED),
             (add([10, 0, 1, 0], 25, 2), ADDED),
             (add([10, 0, 2, 0], 25, 3), ADDED),
-            (Command::Flush, Outcome::Flushed(3)),
+            (Order::Flush, Outcome::Flushed(3)),
         ],
         &[([10, 0, 2, 0], None)],
         (0, 4, 0, 1, 2, 4),
@@ -596,7 +584,7 @@ fn last_token(alloc: Global) -> Result<Case, AllocError> {
         &[
             (add([10, 0, 0, 0], 8, 1), refused(Refusal::Exhausted)),
             (delete([10, 0, 0, 0], 8), refused(Refusal::NoSuchRule)),
-            (Command::Flush, Outcome::Flushed(0)),
+            (Order::Flush, Outcome::Flushed(0)),
         ],
         &[([10, 0, 0, 0], None)],
         (0, 0, 0, 0, 1, 1 << 62),
@@ -609,12 +597,12 @@ fn refused_reports(alloc: Global) -> Result<Case, AllocError> {
         "refused-reports",
         Config::default(),
         &[
-            (online(1), refused(Refusal::NoSuchWorker)),
-            (offline(0), refused(Refusal::NotOnline)),
-            (quiescent(0), refused(Refusal::NotOnline)),
-            (online(0), Outcome::Told),
-            (online(0), refused(Refusal::AlreadyOnline)),
-            (offline(0), Outcome::Told),
+            (Order::Online(1), refused(Refusal::NoSuchWorker)),
+            (Order::Offline(0), refused(Refusal::NotOnline)),
+            (Order::Quiescent(0), refused(Refusal::NotOnline)),
+            (Order::Online(0), Outcome::Told),
+            (Order::Online(0), refused(Refusal::AlreadyOnline)),
+            (Order::Offline(0), Outcome::Told),
         ],
         &[],
         (0, 0, 0, 0, 256, 1),

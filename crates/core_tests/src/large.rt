@@ -4,7 +4,7 @@
 use super::asserting::assert_at;
 use super::table::{assert_number, figures};
 use fib::{Fib, Replay};
-use fib_model::{Command, Outcome};
+use fib_model::{Order, Outcome};
 use lpm_bits::{Hop, Prefix};
 use lpm_groups::Counts;
 use lpm_rules::{Put, Rule, Rules};
@@ -54,17 +54,17 @@ fn rules(rt: &impl Abort, alloc: Global) -> Result<Vec<Rule<24, 8>>, AllocError>
     Ok(rules)
 }
 
-fn addition(rt: &impl Abort, number: u32) -> Command<24, 8> {
+fn addition(rt: &impl Abort, number: u32) -> Order<24, 8> {
     let Rule { prefix, hop } = rule(rt, number);
-    Command::Add(prefix, hop)
+    Order::Add(prefix, hop)
 }
 
-fn additions(rt: &impl Abort, alloc: Global) -> Result<Vec<Command<24, 8>>, AllocError> {
-    let mut commands = Vec::new(alloc);
+fn additions(rt: &impl Abort, alloc: Global) -> Result<Vec<Order<24, 8>>, AllocError> {
+    let mut orders = Vec::new(alloc);
     for number in 0..MANY {
-        commands.push(addition(rt, number))?;
+        orders.push(addition(rt, number))?;
     }
-    Ok(commands)
+    Ok(orders)
 }
 
 // The first address of the second half of each block.
@@ -109,19 +109,19 @@ fn assert_replay(rt: &impl Abort, replay: &Replay) {
 fn assert_replayed(
     rt: &impl Abort,
     alloc: Global,
-    commands: &[Command<24, 8>],
+    orders: &[Order<24, 8>],
     addrs: &[u32],
 ) -> Result<(), Fail> {
-    let replay = Fib::<24, 8>::replay(alloc, LIMITS, commands, addrs)?;
+    let replay = Fib::<24, 8>::replay(alloc, LIMITS, orders, addrs)?;
     assert_replay(rt, &replay);
     Ok(())
 }
 
 #[test]
 fn replay_of_many_routes(rt: HostRuntime) -> Result<(), Fail> {
-    let commands = additions(&rt, rt.alloc())?;
+    let orders = additions(&rt, rt.alloc())?;
     let addrs = addresses(rt.alloc())?;
-    assert_replayed(&rt, rt.alloc(), &commands, &addrs)
+    assert_replayed(&rt, rt.alloc(), &orders, &addrs)
 }
 
 // The table has all the rules, as this version, and answers both halves of each block.

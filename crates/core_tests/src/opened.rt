@@ -7,7 +7,7 @@ ghost use Rattle.lpm_rules.specs.Listed.{rules_of};
 use super::asserting::assert_at;
 use super::table::{Figures, add, assert_number, assert_numbers, draw, figures, hop, prefix};
 use fib::{Fib, OpenError};
-use fib_model::{Command, Outcome};
+use fib_model::{Order, Outcome};
 use lpm_bits::Shape;
 use lpm_groups::Counts;
 use lpm_rules::{Put, Rule, Rules};
@@ -157,7 +157,7 @@ fn assert_routes(rt: &impl Abort, fib: &Fib<24, 8>, versions: u64) {
 }
 
 // A change, what comes of it, three addresses, and their next hops after it.
-type Step = (Command<24, 8>, Outcome, [u32; 3], [u32; 3]);
+type Step = (Order<24, 8>, Outcome, [u32; 3], [u32; 3]);
 
 // A rule in the block that has a group, one in another block, another next hop of 10.0.0.0/8, and
 // 172.16.0.0/12.
@@ -190,8 +190,8 @@ fn additions(rt: &impl Abort) -> [Step; 4] {
     ]
 }
 
-fn delete(rt: &impl Abort, bits: u32, len: u32) -> Command<24, 8> {
-    Command::Delete(prefix(rt, bits, len))
+fn delete(rt: &impl Abort, bits: u32, len: u32) -> Order<24, 8> {
+    Order::Del(prefix(rt, bits, len))
 }
 
 // 10.1.0.0/16 and the two longer rules in it go. The group of these is then in limbo, and a rule in
@@ -234,10 +234,10 @@ fn assert_hops(rt: &impl Abort, fib: &Fib<24, 8>, addrs: &[u32], numbers: &[u32]
 
 // Each step makes one version.
 fn assert_steps(rt: &impl Abort, fib: &mut Fib<24, 8>, steps: &[Step]) {
-    for (command, outcome, addrs, numbers) in steps {
+    for (order, outcome, addrs, numbers) in steps {
         let next = fib.versions().saturating_add(1);
-        assert_at(rt, *command, fib.execute(command), *outcome);
-        assert_at(rt, *command, fib.versions(), next);
+        assert_at(rt, *order, fib.execute(order), *outcome);
+        assert_at(rt, *order, fib.versions(), next);
         assert_hops(rt, fib, addrs, numbers);
     }
 }

@@ -3,7 +3,7 @@ ghost use Rattle.lpm_bits.specs.Widths.{IsShape};
 use super::asserting::assert_at;
 use super::cases::{self, Case};
 use fib::{Fib, OpenError, Replay};
-use fib_model::{Account, Command, Outcome, Report, expected};
+use fib_model::{Account, Order, Outcome, expected};
 use lpm_bits::{Hop, Prefix, Shape};
 use lpm_groups::Counts;
 use lpm_rules::Put;
@@ -50,10 +50,10 @@ fn assert_executed<R: Debug + Copy, const FIRST: u32, const SECOND: u32>(
     alloc: Global,
     row: R,
     fib: &mut Fib<FIRST, SECOND>,
-    commands: &[Command<FIRST, SECOND>],
+    orders: &[Order<FIRST, SECOND>],
     account: &Account,
 ) -> Result<(), Fail> {
-    let outcomes = fib.execute_all(alloc, commands)?;
+    let outcomes = fib.execute_all(alloc, orders)?;
     assert_at(rt, row, outcomes.as_slice(), account.outcomes.as_slice());
     assert_at(rt, row, figures(fib), figures_of(account));
     Ok(())
@@ -87,7 +87,7 @@ pub(crate) fn assert_numbers(
 fn assert_computed(rt: &impl Abort, alloc: Global, case: &Case) -> Result<(), Fail> {
     let name = case.name;
     assert!(rt; case.config.check().is_ok(), "{name}");
-    let computed = expected(alloc, &case.config, &case.commands)?;
+    let computed = expected(alloc, &case.config, &case.orders)?;
     assert_at(rt, name, &computed, &case.account);
     Ok(())
 }
@@ -98,7 +98,7 @@ fn assert_table(
     fib: &mut Fib<24, 8>,
     case: &Case,
 ) -> Result<(), Fail> {
-    assert_executed(rt, alloc, case.name, fib, &case.commands, &case.account)?;
+    assert_executed(rt, alloc, case.name, fib, &case.orders, &case.account)?;
     assert_numbers(rt, case.name, fib, &case.lookups);
     Ok(())
 }
@@ -136,18 +136,18 @@ pub(crate) fn draw(seed: &mut u32) -> u32 {
 }
 
 // A command to a small table: of 28 prefixes, four next hops, two workers and one that isn't there.
-fn draw_command(rt: &impl Abort, seed: &mut u32) -> Command<4, 4> {
+fn draw_order(rt: &impl Abort, seed: &mut u32) -> Order<4, 4> {
     let kind = draw(seed) % 20;
-    let worker = draw(seed) as usize % 3;
+    let number = draw(seed) % 3;
     let prefix = prefix(rt, draw(seed) % 64, 4 + draw(seed) % 3);
     match kind {
-        0 => Command::Flush,
-        1 => Command::Reclaim(worker),
-        2 | 3 => Command::Report(Report::Online, worker),
-        4 => Command::Report(Report::Offline, worker),
-        5 => Command::Report(Report::Quiescent, worker),
-        6..=11 => Command::Delete(prefix),
-        _ => Command::Add(prefix, hop(rt, draw(seed) % 4)),
+        0 => Order::Flush,
+        1 => Order::Reclaim(number as usize),
+        2 | 3 => Order::Online(number),
+        4 => Order::Offline(number),
+        5 => Order::Quiescent(number),
+        6..=11 => Order::Del(prefix),
+        _ => Order::Add(prefix, hop(rt, draw(seed) % 4)),
     }
 }
 
@@ -182,28 +182,28 @@ fn assert_agrees(
     rt: &impl Abort,
     alloc: Global,
     fib: &mut Fib<4, 4>,
-    commands: &[Command<4, 4>],
+    orders: &[Order<4, 4>],
 ) -> Result<(), Fail> {
     assert!(rt; SMALL.check().is_ok());
-    let computed = expected(alloc, &SMALL, commands)?;
-    assert_executed(rt, alloc, commands.len(), fib, commands, &computed)?;
+    let computed = expected(alloc, &SMALL, orders)?;
+    assert_executed(rt, alloc, orders.len(), fib, orders, &computed)?;
     assert_lookups(rt, fib);
     Ok(())
 }
 
-fn assert_drawn(rt: &impl Abort, alloc: Global, commands: &[Command<4, 4>]) -> Result<(), Fail> {
+fn assert_drawn(rt: &impl Abort, alloc: Global, orders: &[Order<4, 4>]) -> Result<(), Fail> {
     let mut fib = Fib::<4, 4>::open(alloc, SMALL)?;
-    assert_agrees(rt, alloc, &mut fib, commands)
+    assert_agrees(rt, alloc, &mut fib, orders)
 }
 
 // Draws five more commands.
 fn draw_more(
     rt: &impl Abort,
     seed: &mut u32,
-    commands: &mut Vec<Command<4, 4>>,
+    orders: &mut Vec<Order<4, 4>>,
 ) -> Result<(), AllocError> {
     for _ in 0..5 {
-        commands.push(draw_command(rt, seed))?;
+        orders.push(draw_order(rt, seed))?;
     }
     Ok(())
 }
@@ -212,20 +212,20 @@ fn draw_more(
 #[test]
 fn drawn_commands(rt: HostRuntime) -> Result<(), Fail> {
     let mut seed = 1;
-    let mut commands = Vec::new(rt.alloc());
+    let mut orders = Vec::new(rt.alloc());
     for _ in 0..40 {
-        draw_more(&rt, &mut seed, &mut commands)?;
-        assert_drawn(&rt, rt.alloc(), &commands)?;
+        draw_more(&rt, &mut seed, &mut orders)?;
+        assert_drawn(&rt, rt.alloc(), &orders)?;
     }
     Ok(())
 }
 
-pub(crate) fn add(rt: &impl Abort, bits: u32, len: u32, number: u32) -> Command<24, 8> {
-    Command::Add(prefix(rt, bits, len), hop(rt, number))
+pub(crate) fn add(rt: &impl Abort, bits: u32, len: u32, number: u32) -> Order<24, 8> {
+    Order::Add(prefix(rt, bits, len), hop(rt, number))
 }
 
 // The additions of 10.0.0.0/8, 10.1.0.0/16 and 10.1.1.128/25.
-fn three_routes(rt: &impl Abort) -> [Command<24, 8>; 3] {
+fn three_routes(rt: &impl Abort) -> [Order<24, 8>; 3] {
     [
         add(rt, 0x0a00_0000, 8, 1),
         add(rt, 0x0a01_0000, 16, 2),
@@ -262,9 +262,9 @@ fn assert_all_found(rt: &impl Abort, alloc: Global, fib: &Fib<24, 8>) -> Result<
 
 // The three routes are added, and then answer.
 fn assert_three_routes(rt: &impl Abort, fib: &mut Fib<24, 8>) {
-    for command in &three_routes(rt) {
-        let outcome = fib.execute(command);
-        assert_at(rt, *command, outcome, Outcome::Put(Put::Added));
+    for order in &three_routes(rt) {
+        let outcome = fib.execute(order);
+        assert_at(rt, *order, outcome, Outcome::Put(Put::Added));
     }
     assert_reads(rt, fib);
 }
@@ -290,8 +290,8 @@ fn assert_replay(rt: &impl Abort, replay: &Replay) {
 
 #[test]
 fn replay_of_three_routes(rt: HostRuntime) -> Result<(), Fail> {
-    let commands = three_routes(&rt);
-    let replay = Fib::<24, 8>::replay(rt.alloc(), Config::default(), &commands, &FOUR)?;
+    let orders = three_routes(&rt);
+    let replay = Fib::<24, 8>::replay(rt.alloc(), Config::default(), &orders, &FOUR)?;
     assert_replay(&rt, &replay);
     Ok(())
 }

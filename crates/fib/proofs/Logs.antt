@@ -5,8 +5,8 @@ use Rattle.std.proofs.lemmas.List.{take_more, take_more_set, length-take}
 use Rattle.lpm_limits.specs.declared.config.Config.{Config}
 use Rattle.lpm_limits.specs.Limits.{IsConfig}
 use Rattle.qsbr.specs.Registry.{Registry}
-use Rattle.fib_model.specs.declared.command.Command.{Command}
-use Rattle.fib_model.specs.declared.command.Outcome.{Outcome}
+use Rattle.fib_model.specs.declared.orders.Order.{Order}
+use Rattle.fib_model.specs.declared.orders.Outcome.{Outcome}
 use Rattle.fib_model.specs.declared.event.Event.{Event}
 use Rattle.fib_model.specs.State.{State}
 use Rattle.fib_model.specs.Outcomes.{Log, Runs, log_after}
@@ -17,7 +17,7 @@ use Rattle.fib_model.proofs.Followed.{counters_tell_intervals}
 
 module _ (f s : ℕ) where
   -- one more command and its outcome
-  pub logged_more : (log : Log f s) (cs : List (Command f s)) (os : List Outcome) (c : Command f s) (o : Outcome) → length cs ≡ length os
+  pub logged_more : (log : Log f s) (cs : List (Order f s)) (os : List Outcome) (c : Order f s) (o : Outcome) → length cs ≡ length os
       → log_after log (cs ++ c ∷ []) (os ++ o ∷ []) ≡ (c, o) ∷ log_after log cs os
   logged_more log [] [] c o e = refl
   logged_more log [] (x ∷ os) c o e = absurd (omega (arith, e))
@@ -25,7 +25,7 @@ module _ (f s : ℕ) where
   logged_more log (y ∷ cs) (x ∷ os) c o e = logged_more ((y, x) ∷ log) cs os c o (omega (arith, e))
 
   -- what was logged before stays below
-  logged_on : (log older : Log f s) (cs : List (Command f s)) (os : List Outcome) → log_after (log ++ older) cs os ≡ log_after log cs os ++ older
+  logged_on : (log older : Log f s) (cs : List (Order f s)) (os : List Outcome) → log_after (log ++ older) cs os ≡ log_after log cs os ++ older
   logged_on log older [] os = refl
   logged_on log older (c ∷ cs) [] = refl
   logged_on log older (c ∷ cs) (o ∷ os) = logged_on ((c, o) ∷ log) older cs os
@@ -35,17 +35,17 @@ module _ (f s : ℕ) where
   runs_on c x y z (done ∷ log) older before r = (r.0, runs_on c x y r.0 log older before r.1, r.2)
 
   -- a run after another, told by reader intervals
-  pub told : (c : Config) (y z : State Registry) (older : Log f s) (cs : List (Command f s)) (os : List Outcome) → IsConfig c → Runs by_counters f s c (initial_by_counters c) older y → Runs by_counters f s c y (log_after [] cs os) z
+  pub told : (c : Config) (y z : State Registry) (older : Log f s) (cs : List (Order f s)) (os : List Outcome) → IsConfig c → Runs by_counters f s c (initial_by_counters c) older y → Runs by_counters f s c y (log_after [] cs os) z
       → (w : State (List Event)) × Runs (by_intervals c) f s c initial_by_events (log_after older cs os) w × Agrees c z w
   told c y z older cs os limits before r =
       counters_tell_intervals f s c (log_after older cs os) z limits
       (subst (λ l. Runs by_counters f s c (initial_by_counters c) l z) (sym (logged_on [] older cs os)) (runs_on c (initial_by_counters c) y z (log_after [] cs os) older before r))
 
   -- the log when one more command of a list is done
-  pub log_next : (cs : List (Command f s)) (os : List Outcome) (i : ℕ) (c : Command f s) (o : Outcome) → i < length cs → c ≡ get_or cs i c → length os ≡ length cs
+  pub log_next : (cs : List (Order f s)) (os : List Outcome) (i : ℕ) (c : Order f s) (o : Outcome) → i < length cs → c ≡ get_or cs i c → length os ≡ length cs
       → log_after [] (take (i + 1) cs) (take (i + 1) (slice_set os i o)) ≡ (c, o) ∷ log_after [] (take i cs) (take i os)
   log_next cs os i c o low read room =
       let here : i < length os = omega (arith, low, room) in
-      ap (λ xs. log_after [] xs (take (i + 1) (slice_set os i o))) (take_more cs i c low ∙ ap (λ (x : Command f s). take i cs ++ x ∷ []) (sym read))
+      ap (λ xs. log_after [] xs (take (i + 1) (slice_set os i o))) (take_more cs i c low ∙ ap (λ (x : Order f s). take i cs ++ x ∷ []) (sym read))
       ∙ ap (λ ys. log_after [] (take i cs ++ c ∷ []) ys) (take_more_set os i o here)
       ∙ logged_more [] (take i cs) (take i os) c o (length-take i cs ∙ ap (min i) (sym room) ∙ sym (length-take i os))

@@ -13,16 +13,16 @@ use Rattle.fib.specs.declared.replay.Replay.{Replay}
 use Rattle.fib.specs.Fib.{FibState, initial_fib}
 use Rattle.fib.specs.Replay.{GoesOn, IsAsked, IsReplay}
 
-pub is_replay : (f s : ℕ) (c : Config) (x : FibState) (z : State Registry) (commands : _) (addrs : List ℕ) (r : Replay) → x ≡ initial_fib c
-    → GoesOn f s x.config x.table commands r.outcomes.items z → IsAsked f s x.config z addrs r
-    → IsReplay f s c (log_after [] commands r.outcomes.items) addrs r
-is_replay f s c x z commands addrs r new on asked =
+pub is_replay : (f s : ℕ) (c : Config) (x : FibState) (z : State Registry) (orders : _) (addrs : List ℕ) (r : Replay) → x ≡ initial_fib c
+    → GoesOn f s x.config x.table orders r.outcomes.items z → IsAsked f s x.config z addrs r
+    → IsReplay f s c (log_after [] orders r.outcomes.items) addrs r
+is_replay f s c x z orders addrs r new on asked =
     let limits = ap (λ (y : FibState). y.config) new in
     let table = ap (λ (y : FibState). y.table) new in
-    let told = subst (λ (k : Config). GoesOn f s k x.table commands r.outcomes.items z) limits on [] table in
-    let law = rules_are_last_version f s c (log_after [] commands r.outcomes.items) told.0 told.1 in
+    let told = subst (λ (k : Config). GoesOn f s k x.table orders r.outcomes.items z) limits on [] table in
+    let law = rules_are_last_version f s c (log_after [] orders r.outcomes.items) told.0 told.1 in
     let agrees : Agrees c z told.0 = told.2 in
-    let last : z.rules ≡ last_of (history (log_after [] commands r.outcomes.items)) = sym agrees.rules ∙ law.0 in
+    let last : z.rules ≡ last_of (history (log_after [] orders r.outcomes.items)) = sym agrees.rules ∙ law.0 in
     record {
       state = told.0;
       runs = told.1;

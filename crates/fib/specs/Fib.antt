@@ -6,7 +6,7 @@ use Rattle.lpm_rules.specs.RuleMap.{RuleMap, coded_network}
 use Rattle.qsbr.specs.Counters.{Passes}
 use Rattle.qsbr.specs.Registry.{Registry}
 use Rattle.lpm_limits.specs.declared.config.Config.{Config}
-use Rattle.fib_model.specs.declared.command.Report.{Report}
+use Rattle.fib_model.specs.declared.orders.Report.{Report}
 use Rattle.fib_model.specs.Counting.{by_counters, initial_by_counters}
 use Rattle.fib_model.specs.State.{State}
 use Rattle.lpm_trace.specs.declared.step.WriterStep.{WriterStep}

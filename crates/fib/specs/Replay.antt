@@ -6,8 +6,8 @@ use Rattle.std.specs.FinMap.{len}
 use Rattle.lpm_rules.specs.Longest.{AreLongestHops}
 use Rattle.qsbr.specs.Registry.{Registry}
 use Rattle.lpm_limits.specs.declared.config.Config.{Config}
-use Rattle.fib_model.specs.declared.command.Command.{Command}
-use Rattle.fib_model.specs.declared.command.Outcome.{Outcome}
+use Rattle.fib_model.specs.declared.orders.Order.{Order}
+use Rattle.fib_model.specs.declared.orders.Outcome.{Outcome}
 use Rattle.fib_model.specs.declared.event.Event.{Event}
 use Rattle.fib_model.specs.State.{State}
 use Rattle.fib_model.specs.Outcomes.{Log, Runs, log_after, groups_in_use}
@@ -19,12 +19,12 @@ use Rattle.fib.specs.declared.replay.Replay.{Replay}
 
 -- a table that some log led to x goes on to z: by reader intervals the commands of that log and
 -- then these came out so, and what they lead to agrees with z
-abbrev pub GoesOn : (first second : ℕ) → Config → State Registry → List (Command first second)
+abbrev pub GoesOn : (first second : ℕ) → Config → State Registry → List (Order first second)
     → List Outcome → State Registry → Type 0
-GoesOn first second c x commands outcomes z =
+GoesOn first second c x orders outcomes z =
     (log : Log first second) → Runs by_counters first second c (initial_by_counters c) log x
     → (y : State (List Event))
-    × Runs (by_intervals c) first second c initial_by_events (log_after log commands outcomes) y × Agrees c z y
+    × Runs (by_intervals c) first second c initial_by_events (log_after log orders outcomes) y × Agrees c z y
 
 -- a table of these limits that is so answers the addresses and counts like this
 pub record IsAsked (first second : ℕ) (c : Config) (z : State Registry) (addrs : List ℕ) (r : Replay)

@@ -2,9 +2,9 @@
 //! that wait in limbo until no reader can hold them.
 #![tactic(auto)]
 
-mod commands;
 mod fib;
 mod lookups;
+mod orders;
 mod replay;
 mod sorted;
 

@@ -7,7 +7,7 @@ ghost use Rattle.fib_model.specs.Outcomes.{log_after};
 ghost use Rattle.fib.specs.Replay.{GoesOn, IsAsked, IsReplay};
 
 use super::{Fib, OpenError};
-use fib_model::{Command, Outcome};
+use fib_model::{Order, Outcome};
 use lpm_bits::Hop;
 use lpm_groups::Counts;
 use qsbr::Config;
@@ -38,37 +38,37 @@ impl<const FIRST: u32, const SECOND: u32> Fib<FIRST, SECOND> {
     pub fn replay(
         alloc: Global,
         config: Config,
-        commands: &[Command<FIRST, SECOND>],
+        orders: &[Order<FIRST, SECOND>],
         addrs: &[u32],
     ) -> Result<Replay, OpenError>
         requires shape { IsShape FIRST SECOND }
         requires addrs { All (λ a. a < 2 ^ (FIRST + SECOND)) addrs.now }
-        ensures as_many { IfOk result (λ r. length r.outcomes.items ≡ length commands.now) }
+        ensures as_many { IfOk result (λ r. length r.outcomes.items ≡ length orders.now) }
         ensures replay { IfOk result (λ r. IsReplay FIRST SECOND config
-            (log_after [] commands.now r.outcomes.items) addrs.now r) }
+            (log_after [] orders.now r.outcomes.items) addrs.now r) }
         ensures limits { IfOk result (λ _. IsConfig config) }
         ensures bad_config { IfErr result
             (λ error. (error ≡ OpenError.BadConfig) ↔ (¬ IsConfig config)) }
     {
         let mut fib = Fib::<FIRST, SECOND>::open(alloc, config)?;
-        Ok(fib.replay_here(alloc, commands, addrs)?)
+        Ok(fib.replay_here(alloc, orders, addrs)?)
     }
 
     /// Does the commands one after another, and looks the addresses up after the last.
     fn replay_here(
         &mut self,
         alloc: Global,
-        commands: &[Command<FIRST, SECOND>],
+        orders: &[Order<FIRST, SECOND>],
         addrs: &[u32],
     ) -> Result<Replay, AllocError>
         requires addrs { All (λ a. a < 2 ^ (FIRST + SECOND)) addrs.now }
-        ensures as_many { IfOk result (λ r. length r.outcomes.items ≡ length commands.now) }
+        ensures as_many { IfOk result (λ r. length r.outcomes.items ≡ length orders.now) }
         ensures textbook { IfOk result (λ r. GoesOn FIRST SECOND self.old.config self.old.table
-            commands.now r.outcomes.items self.new.table) }
+            orders.now r.outcomes.items self.new.table) }
         ensures asked { IfOk result (λ r.
             IsAsked FIRST SECOND self.old.config self.new.table addrs.now r) }
     {
-        let outcomes = self.execute_all(alloc, commands)?;
+        let outcomes = self.execute_all(alloc, orders)?;
         let hops = self.lookup_all(alloc, addrs)?;
         Ok(Replay {
             outcomes,

@@ -3,12 +3,12 @@ use Rattle.std.proofs.Common.{◌≡◌, ℕ, ◌<◌, ◌≤◌, ◌↔◌, ref
 use Rattle.qsbr.specs.Registry.{Registry}
 use Rattle.lpm_limits.specs.declared.config.Config.{Config}
 use Rattle.lpm_limits.specs.declared.refusal.Refusal.TheVariants.{NoSuchWorker}
-use Rattle.fib_model.specs.declared.command.Command.{Command}
-use Rattle.fib_model.specs.declared.command.Command.TheVariants as command
-use Rattle.fib_model.specs.declared.command.Outcome.{Outcome}
-use Rattle.fib_model.specs.declared.command.Outcome.TheVariants as outcome
-use Rattle.fib_model.specs.declared.command.Report.{Report}
-use Rattle.fib_model.specs.declared.command.Report.TheVariants as kinds
+use Rattle.fib_model.specs.declared.orders.Order.{Order}
+use Rattle.fib_model.specs.declared.orders.Order.TheVariants as order
+use Rattle.fib_model.specs.declared.orders.Outcome.{Outcome}
+use Rattle.fib_model.specs.declared.orders.Outcome.TheVariants as outcome
+use Rattle.fib_model.specs.declared.orders.Report.{Report}
+use Rattle.fib_model.specs.declared.orders.Report.TheVariants as kinds
 use Rattle.fib_model.specs.declared.event.Event.{Event}
 use Rattle.qsbr.specs.Intervals.{IsRunningSince}
 use Rattle.fib_model.specs.Intervals.{by_reports}
@@ -68,19 +68,21 @@ module _ (f g : ℕ) (c : Config) (s z : State Registry) (E : List Event) (ps : 
   followed_by : AreFollowed counter_transitions (textbook c) (Shows c) (Names c) f g c s (beside s E ps)
   followed_by = changes_carry_over Registry (List Event) counter_transitions (textbook c) (Shows c) (Names c) (counters_carry c) f g c s E ps shows names
 
-  step : (command : Command f g) (outcome : Outcome) → Does by_counters f g c s command outcome z → Tells c z (Does (by_intervals c) f g c (beside s E ps) command outcome)
-  step (command.Add p h) (outcome.Put put) d = followed_by.adds z p h (Ok put) d
-  step (command.Add p h) (outcome.Refused refusal) d = followed_by.adds z p h (Err refusal) d
-  step (command.Add p h) other d = absurd d
-  step (command.Delete p) (outcome.Deleted h) d = followed_by.deletes z p (Ok h) d
-  step (command.Delete p) (outcome.Refused refusal) d = followed_by.deletes z p (Err refusal) d
-  step (command.Delete p) other d = absurd d
-  step command.Flush (outcome.Flushed n) d = followed_by.flushes z (Ok n) d
-  step command.Flush (outcome.Refused refusal) d = followed_by.flushes z (Err refusal) d
-  step command.Flush other d = absurd d
-  step (command.Reclaim max) (outcome.Reclaimed r) d = followed_by.frees z max r d
-  step (command.Reclaim max) other d = absurd d
-  step (command.Report report w) o d = reports c s z E ps report w o shows names d
+  step : (order : Order f g) (outcome : Outcome) → Does by_counters f g c s order outcome z → Tells c z (Does (by_intervals c) f g c (beside s E ps) order outcome)
+  step (order.Add p h) (outcome.Put put) d = followed_by.adds z p h (Ok put) d
+  step (order.Add p h) (outcome.Refused refusal) d = followed_by.adds z p h (Err refusal) d
+  step (order.Add p h) other d = absurd d
+  step (order.Del p) (outcome.Deleted h) d = followed_by.deletes z p (Ok h) d
+  step (order.Del p) (outcome.Refused refusal) d = followed_by.deletes z p (Err refusal) d
+  step (order.Del p) other d = absurd d
+  step order.Flush (outcome.Flushed n) d = followed_by.flushes z (Ok n) d
+  step order.Flush (outcome.Refused refusal) d = followed_by.flushes z (Err refusal) d
+  step order.Flush other d = absurd d
+  step (order.Reclaim max) (outcome.Reclaimed r) d = followed_by.frees z max r d
+  step (order.Reclaim max) other d = absurd d
+  step (order.Online w) o d = reports c s z E ps kinds.Online w o shows names d
+  step (order.Offline w) o d = reports c s z E ps kinds.Offline w o shows names d
+  step (order.Quiescent w) o d = reports c s z E ps kinds.Quiescent w o shows names d
 
 followed : (f g : ℕ) (c : Config) (log : Log f g) (z : State Registry) → 1 ≤ c.first_token → Runs by_counters f g c (initial_by_counters c) log z
     → Tells c z (Runs (by_intervals c) f g c initial_by_events log)

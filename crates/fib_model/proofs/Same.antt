@@ -11,11 +11,12 @@ use Rattle.lpm_limits.specs.declared.config.Config.{Config}
 use Rattle.lpm_limits.specs.declared.refusal.Refusal.{Refusal}
 use Rattle.lpm_limits.specs.declared.refusal.Refusal.TheVariants.{TooManyRules, NoSuchRule, Exhausted, NoGroups, Memory, NoSuchWorker}
 use Rattle.defer_queue.specs.declared.Reclaimed.{Reclaimed}
-use Rattle.fib_model.specs.declared.command.Command.{Command}
-use Rattle.fib_model.specs.declared.command.Command.TheVariants as command
-use Rattle.fib_model.specs.declared.command.Outcome.{Outcome}
-use Rattle.fib_model.specs.declared.command.Outcome.TheVariants as outcome
-use Rattle.fib_model.specs.declared.command.Report.{Report}
+use Rattle.fib_model.specs.declared.orders.Order.{Order}
+use Rattle.fib_model.specs.declared.orders.Order.TheVariants as order
+use Rattle.fib_model.specs.declared.orders.Outcome.{Outcome}
+use Rattle.fib_model.specs.declared.orders.Outcome.TheVariants as outcome
+use Rattle.fib_model.specs.declared.orders.Report.{Report}
+use Rattle.fib_model.specs.declared.orders.Report.TheVariants as report
 use Rattle.fib_model.specs.declared.event.Event.{Event}
 use Rattle.fib_model.specs.State.{State, IsExhausted, HasTokens}
 use Rattle.fib_model.specs.Outcomes.{LacksGroup, IsNew, MayReport, refusal_of, Reports, Does}
@@ -217,7 +218,7 @@ abbrev put_of : Result Put Refusal → Outcome
 put_of (Ok put) = outcome.Put put
 put_of (Err refusal) = outcome.Refused refusal
 
-does_add : (f g : ℕ) (c : Config) (s z : Book) (p : Network) (h : ℕ) (o : Outcome) → Does (by_intervals c) f g c s (command.Add p h) o z
+does_add : (f g : ℕ) (c : Config) (s z : Book) (p : Network) (h : ℕ) (o : Outcome) → Does (by_intervals c) f g c s (order.Add p h) o z
     → (r : Result Put Refusal) × (o ≡ put_of r) × Adds (listed c) f g c s p h r z
 does_add f g c s z p h (outcome.Put put) d = (Ok put, refl, adds_frozen (listed c) f g c s z p h (Ok put) d)
 does_add f g c s z p h (outcome.Refused refusal) d = (Err refusal, refl, adds_frozen (listed c) f g c s z p h (Err refusal) d)
@@ -227,7 +228,7 @@ abbrev deleted_of : Result ℕ Refusal → Outcome
 deleted_of (Ok h) = outcome.Deleted h
 deleted_of (Err refusal) = outcome.Refused refusal
 
-does_delete : (f g : ℕ) (c : Config) (s z : Book) (p : Network) (o : Outcome) → Does (by_intervals c) f g c s (command.Delete p) o z
+does_delete : (f g : ℕ) (c : Config) (s z : Book) (p : Network) (o : Outcome) → Does (by_intervals c) f g c s (order.Del p) o z
     → (r : Result ℕ Refusal) × (o ≡ deleted_of r) × Deletes (listed c) f g c s p r z
 does_delete f g c s z p (outcome.Deleted h) d = (Ok h, refl, deletes_frozen (listed c) f g c s z p (Ok h) d)
 does_delete f g c s z p (outcome.Refused refusal) d = (Err refusal, refl, deletes_frozen (listed c) f g c s z p (Err refusal) d)
@@ -237,42 +238,46 @@ abbrev flushed_of : Result ℕ Refusal → Outcome
 flushed_of (Ok n) = outcome.Flushed n
 flushed_of (Err refusal) = outcome.Refused refusal
 
-does_flush : (f g : ℕ) (c : Config) (s z : Book) (o : Outcome) → Does (by_intervals c) f g c s command.Flush o z
+does_flush : (f g : ℕ) (c : Config) (s z : Book) (o : Outcome) → Does (by_intervals c) f g c s order.Flush o z
     → (r : Result ℕ Refusal) × (o ≡ flushed_of r) × Flushes (listed c) f g c s r z
 does_flush f g c s z (outcome.Flushed n) d = (Ok n, refl, flushes_frozen (listed c) f g c s z (Ok n) d)
 does_flush f g c s z (outcome.Refused refusal) d = (Err refusal, refl, flushes_frozen (listed c) f g c s z (Err refusal) d)
 does_flush f g c s z other d = absurd d
 
-does_reclaim : (f g : ℕ) (c : Config) (s z : Book) (max : ℕ) (o : Outcome) → Does (by_intervals c) f g c s (command.Reclaim max) o z
+does_reclaim : (f g : ℕ) (c : Config) (s z : Book) (max : ℕ) (o : Outcome) → Does (by_intervals c) f g c s (order.Reclaim max) o z
     → (r : Reclaimed) × (o ≡ outcome.Reclaimed r) × Frees (listed c) s max r z
 does_reclaim f g c s z max (outcome.Reclaimed r) d = (r, refl, frees_frozen (listed c) s z max r d)
 does_reclaim f g c s z max other d = absurd d
 
-one_step : (f g : ℕ) (c : Config) (s z z' : Book) (command : Command f g) (o o' : Outcome) → o ≢ outcome.Refused Memory → o' ≢ outcome.Refused Memory
-    → Does (by_intervals c) f g c s command o z → Does (by_intervals c) f g c s command o' z' → (o ≡ o') × (z ≡ z')
-one_step f g c s z z' (command.Add p h) o o' m m' d d' =
+one_step : (f g : ℕ) (c : Config) (s z z' : Book) (order : Order f g) (o o' : Outcome) → o ≢ outcome.Refused Memory → o' ≢ outcome.Refused Memory
+    → Does (by_intervals c) f g c s order o z → Does (by_intervals c) f g c s order o' z' → (o ≡ o') × (z ≡ z')
+one_step f g c s z z' (order.Add p h) o o' m m' d d' =
     let a = does_add f g c s z p h o d in
     let b = does_add f g c s z' p h o' d' in
     let same = one_answer f g c s z z' p h (stage_of c s p h) a.0 b.0
     (answer f g c s z p h a.0 (λ e. m (a.1 ∙ ap put_of e)) a.2) (answer f g c s z' p h b.0 (λ e. m' (b.1 ∙ ap put_of e)) b.2) in
     (a.1 ∙ ap put_of same.0 ∙ sym b.1, same.1)
-one_step f g c s z z' (command.Delete p) o o' m m' d d' =
+one_step f g c s z z' (order.Del p) o o' m m' d d' =
     let a = does_delete f g c s z p o d in
     let b = does_delete f g c s z' p o' d' in
     let same = one_deletion f g c s z z' p a.0 b.0 a.2 b.2 in
     (a.1 ∙ ap deleted_of same.0 ∙ sym b.1, same.1)
-one_step f g c s z z' command.Flush o o' m m' d d' =
+one_step f g c s z z' order.Flush o o' m m' d d' =
     let a = does_flush f g c s z o d in
     let b = does_flush f g c s z' o' d' in
     let same = one_flush f g c s z z' a.0 b.0 a.2 b.2 in
     (a.1 ∙ ap flushed_of same.0 ∙ sym b.1, same.1)
-one_step f g c s z z' (command.Reclaim max) o o' m m' d d' =
+one_step f g c s z z' (order.Reclaim max) o o' m m' d d' =
     let a = does_reclaim f g c s z max o d in
     let b = does_reclaim f g c s z' max o' d' in
     let same = one_reclaim c s z z' max a.0 b.0 a.2 b.2 in
     (a.1 ∙ ap outcome.Reclaimed same.0 ∙ sym b.1, same.1)
-one_step f g c s z z' (command.Report report w) o o' m m' d d' =
-    one_report c s z z' report w o o' (reported c s z report w o d) (reported c s z' report w o' d')
+one_step f g c s z z' (order.Online w) o o' m m' d d' =
+    one_report c s z z' report.Online w o o' (reported c s z report.Online w o d) (reported c s z' report.Online w o' d')
+one_step f g c s z z' (order.Offline w) o o' m m' d d' =
+    one_report c s z z' report.Offline w o o' (reported c s z report.Offline w o d) (reported c s z' report.Offline w o' d')
+one_step f g c s z z' (order.Quiescent w) o o' m m' d d' =
+    one_report c s z z' report.Quiescent w o o' (reported c s z report.Quiescent w o d) (reported c s z' report.Quiescent w o' d')
 
 -- what holds of all of a list holds of its first, and of the others
 rest_of : {A : Type 0} (P : A → Type 0) (x : A) (xs : List A) → All P (x ∷ xs) → P x × All P xs
@@ -288,7 +293,7 @@ outcomes_are_unique f g c [] [] z z' same all all' r r' = (refl, r ∙ sym r')
 outcomes_are_unique f g c [] (done' ∷ log') z z' same all all' r r' = cc
 outcomes_are_unique f g c (done ∷ log) [] z z' same all all' r r' = cc
 outcomes_are_unique f g c (done ∷ log) (done' ∷ log') z z' same all all' r r' =
-    let commands : done.0 ∷ map (λ x. x.0) log ≡ done'.0 ∷ map (λ x. x.0) log' = same in
+    let orders : done.0 ∷ map (λ x. x.0) log ≡ done'.0 ∷ map (λ x. x.0) log' = same in
     let now : done.0 ≡ done'.0 = cc in
     let earlier : map (λ x. x.0) log ≡ map (λ x. x.0) log' = cc in
     let one = rest_of (λ x. x.1 ≢ outcome.Refused Memory) done log all in

@@ -3,8 +3,8 @@ use Rattle.std.proofs.Common.{arith, ◌≡◌, ℕ, ◌<◌, refl, sym, subst, 
 use Rattle.std.proofs.lemmas.Bool.{eqb-true, false≢true}
 use Rattle.fib_model.specs.declared.event.Event.{Event}
 use Rattle.fib_model.specs.declared.event.Event.TheVariants.{Online, Offline, Quiescent, Unlinking}
-use Rattle.fib_model.specs.declared.command.Report.{Report}
-use Rattle.fib_model.specs.declared.command.Report.TheVariants as kinds
+use Rattle.fib_model.specs.declared.orders.Report.{Report}
+use Rattle.fib_model.specs.declared.orders.Report.TheVariants as kinds
 use Rattle.qsbr.specs.Intervals.{IsRunningSince, IsTidy}
 use Rattle.fib_model.specs.Intervals.{by_reports}
 use Rattle.qsbr.proofs.Running.{tidy_more}

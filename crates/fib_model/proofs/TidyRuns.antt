@@ -6,11 +6,12 @@ use Rattle.lpm_rules.specs.declared.Put.TheVariants.{Added, Replaced, Unchanged}
 use Rattle.lpm_limits.specs.declared.config.Config.{Config}
 use Rattle.lpm_limits.specs.declared.refusal.Refusal.{Refusal}
 use Rattle.lpm_limits.specs.declared.refusal.Refusal.TheVariants.{TooManyRules, NoSuchRule, Exhausted, NoGroups, Memory, NoSuchWorker}
-use Rattle.fib_model.specs.declared.command.Command.{Command}
-use Rattle.fib_model.specs.declared.command.Command.TheVariants as command
-use Rattle.fib_model.specs.declared.command.Outcome.{Outcome}
-use Rattle.fib_model.specs.declared.command.Outcome.TheVariants as outcome
-use Rattle.fib_model.specs.declared.command.Report.{Report}
+use Rattle.fib_model.specs.declared.orders.Order.{Order}
+use Rattle.fib_model.specs.declared.orders.Order.TheVariants as order
+use Rattle.fib_model.specs.declared.orders.Outcome.{Outcome}
+use Rattle.fib_model.specs.declared.orders.Outcome.TheVariants as outcome
+use Rattle.fib_model.specs.declared.orders.Report.{Report}
+use Rattle.fib_model.specs.declared.orders.Report.TheVariants as report
 use Rattle.fib_model.specs.declared.event.Event.{Event}
 use Rattle.fib_model.specs.State.{State}
 use Rattle.fib_model.specs.Outcomes.{Reports, Does, Log, Runs}
@@ -61,19 +62,21 @@ reports c s z report w (outcome.Refused NoSuchWorker) tidy d = same c s z tidy (
 reports c s z report w (outcome.Refused refusal) tidy d = same c s z tidy (ap (λ x. x.readers) d.3)
 reports c s z report w other tidy d = absurd d
 
-step : (f g : ℕ) (c : Config) (s z : State (List Event)) (command : Command f g) (outcome : Outcome) → IsTidyState c s → Does (by_intervals c) f g c s command outcome z → IsTidyState c z
-step f g c s z (command.Add p h) (outcome.Put put) tidy d = same c s z tidy (adds f g c s z p h (Ok put) (adds_frozen (listed c) f g c s z p h (Ok put) d))
-step f g c s z (command.Add p h) (outcome.Refused refusal) tidy d = same c s z tidy (adds f g c s z p h (Err refusal) (adds_frozen (listed c) f g c s z p h (Err refusal) d))
-step f g c s z (command.Add p h) other tidy d = absurd d
-step f g c s z (command.Delete p) (outcome.Deleted h) tidy d = deletes f g c s z p (Ok h) tidy (deletes_frozen (listed c) f g c s z p (Ok h) d)
-step f g c s z (command.Delete p) (outcome.Refused refusal) tidy d = deletes f g c s z p (Err refusal) tidy (deletes_frozen (listed c) f g c s z p (Err refusal) d)
-step f g c s z (command.Delete p) other tidy d = absurd d
-step f g c s z command.Flush (outcome.Flushed n) tidy d = flushes f g c s z (Ok n) tidy (flushes_frozen (listed c) f g c s z (Ok n) d)
-step f g c s z command.Flush (outcome.Refused refusal) tidy d = flushes f g c s z (Err refusal) tidy (flushes_frozen (listed c) f g c s z (Err refusal) d)
-step f g c s z command.Flush other tidy d = absurd d
-step f g c s z (command.Reclaim max) (outcome.Reclaimed r) tidy d = same c s z tidy (ap (λ x. x.readers) (frees_frozen (listed c) s z max r d).1)
-step f g c s z (command.Reclaim max) other tidy d = absurd d
-step f g c s z (command.Report report w) o tidy d = reports c s z report w o tidy d
+step : (f g : ℕ) (c : Config) (s z : State (List Event)) (order : Order f g) (outcome : Outcome) → IsTidyState c s → Does (by_intervals c) f g c s order outcome z → IsTidyState c z
+step f g c s z (order.Add p h) (outcome.Put put) tidy d = same c s z tidy (adds f g c s z p h (Ok put) (adds_frozen (listed c) f g c s z p h (Ok put) d))
+step f g c s z (order.Add p h) (outcome.Refused refusal) tidy d = same c s z tidy (adds f g c s z p h (Err refusal) (adds_frozen (listed c) f g c s z p h (Err refusal) d))
+step f g c s z (order.Add p h) other tidy d = absurd d
+step f g c s z (order.Del p) (outcome.Deleted h) tidy d = deletes f g c s z p (Ok h) tidy (deletes_frozen (listed c) f g c s z p (Ok h) d)
+step f g c s z (order.Del p) (outcome.Refused refusal) tidy d = deletes f g c s z p (Err refusal) tidy (deletes_frozen (listed c) f g c s z p (Err refusal) d)
+step f g c s z (order.Del p) other tidy d = absurd d
+step f g c s z order.Flush (outcome.Flushed n) tidy d = flushes f g c s z (Ok n) tidy (flushes_frozen (listed c) f g c s z (Ok n) d)
+step f g c s z order.Flush (outcome.Refused refusal) tidy d = flushes f g c s z (Err refusal) tidy (flushes_frozen (listed c) f g c s z (Err refusal) d)
+step f g c s z order.Flush other tidy d = absurd d
+step f g c s z (order.Reclaim max) (outcome.Reclaimed r) tidy d = same c s z tidy (ap (λ x. x.readers) (frees_frozen (listed c) s z max r d).1)
+step f g c s z (order.Reclaim max) other tidy d = absurd d
+step f g c s z (order.Online w) o tidy d = reports c s z report.Online w o tidy d
+step f g c s z (order.Offline w) o tidy d = reports c s z report.Offline w o tidy d
+step f g c s z (order.Quiescent w) o tidy d = reports c s z report.Quiescent w o tidy d
 
 pub tidy_run : (f g : ℕ) (c : Config) (log : Log f g) (z : State (List Event)) → Runs (by_intervals c) f g c initial_by_events log z → IsTidyState c z
 tidy_run f g c [] z r = subst (IsTidy by_reports c.workers) (sym (ap (λ x. x.readers) r)) record { one = λ w s t a b. absurd a.begins; others = λ w s high a. a.begins }

@@ -8,8 +8,8 @@ use Rattle.qsbr.specs.Counters.{IsOnline, IsFirstHolding}
 use Rattle.qsbr.specs.Registry.{Registry}
 use Rattle.lpm_limits.specs.declared.busy.Busy.{Busy}
 use Rattle.lpm_limits.specs.declared.config.Config.{Config}
-use Rattle.fib_model.specs.declared.command.Report.{Report}
-use Rattle.fib_model.specs.declared.command.Report.TheVariants.{Online, Offline, Quiescent}
+use Rattle.fib_model.specs.declared.orders.Report.{Report}
+use Rattle.fib_model.specs.declared.orders.Report.TheVariants.{Online, Offline, Quiescent}
 use Rattle.fib_model.specs.State.{State, Transitions, Keeping, looks}
 
 -- the counter after a report

@@ -3,7 +3,7 @@ use Rattle.std.specs.Prelude.{ℕ, ◌≡◌, ◌-◌, List, [], length, reverse
 use Rattle.std.specs.FinMap.{len}
 use Rattle.lpm_rules.specs.RuleMap.{RuleMap}
 use Rattle.lpm_limits.specs.declared.config.Config.{Config}
-use Rattle.fib_model.specs.declared.command.Command.{Command}
+use Rattle.fib_model.specs.declared.orders.Order.{Order}
 use Rattle.fib_model.specs.declared.event.Event.{Event}
 use Rattle.fib_model.specs.declared.plain.Account.{Account}
 use Rattle.fib_model.specs.declared.plain.Plain.{Plain}
@@ -35,12 +35,12 @@ abbrev pub state_of : {first second : ℕ} → Plain first second → State (Lis
 state_of p = state_with p.rules.rules p.begun p.waiting
 
 -- what a run of these commands has come to: the outcome of each, and the counts at its end
-pub record IsAccount (first second : ℕ) (c : Config) (commands : List (Command first second))
+pub record IsAccount (first second : ℕ) (c : Config) (orders : List (Order first second))
     (a : Account) : Type 0 where
   pub state : State (List Event)
   pub runs : Runs (by_intervals c) first second c initial_by_events
-      (log_after [] commands a.outcomes.items) state
-  pub each : length a.outcomes.items ≡ length commands
+      (log_after [] orders a.outcomes.items) state
+  pub each : length a.outcomes.items ≡ length orders
   pub rules : a.rules ≡ len state.rules
   pub versions : a.versions ≡ state.begun
   pub in_use : a.in_use ≡ groups_in_use first second state.rules

@@ -5,7 +5,7 @@ use Rattle.lpm_limits.specs.declared.config.Config.{Config}
 use Rattle.lpm_limits.specs.declared.refusal.Refusal.TheVariants.{Memory}
 use Rattle.lpm_limits.specs.Limits.{IsConfig}
 use Rattle.qsbr.specs.Registry.{Registry}
-use Rattle.fib_model.specs.declared.command.Outcome.TheVariants.{Refused}
+use Rattle.fib_model.specs.declared.orders.Outcome.TheVariants.{Refused}
 use Rattle.fib_model.specs.declared.event.Event.{Event}
 use Rattle.qsbr.specs.Intervals.{IsHeldByWorker}
 use Rattle.fib_model.specs.Intervals.{by_reports}

@@ -15,12 +15,12 @@ use Rattle.lpm_limits.specs.declared.refusal.Refusal.{Refusal}
 use Rattle.lpm_limits.specs.declared.refusal.Refusal.TheVariants.{TooManyRules, NoSuchRule, Exhausted, NoGroups, Memory}
 use Rattle.lpm_limits.specs.declared.refusal.Refusal.TheVariants.{NoSuchWorker, AlreadyOnline, NotOnline}
 use Rattle.defer_queue.specs.declared.Reclaimed.{Reclaimed}
-use Rattle.fib_model.specs.declared.command.Command.{Command}
-use Rattle.fib_model.specs.declared.command.Command.TheVariants as command
-use Rattle.fib_model.specs.declared.command.Outcome.{Outcome}
-use Rattle.fib_model.specs.declared.command.Outcome.TheVariants as outcome
-use Rattle.fib_model.specs.declared.command.Report.{Report}
-use Rattle.fib_model.specs.declared.command.Report.TheVariants.{Online, Offline, Quiescent}
+use Rattle.fib_model.specs.declared.orders.Order.{Order}
+use Rattle.fib_model.specs.declared.orders.Order.TheVariants as order
+use Rattle.fib_model.specs.declared.orders.Outcome.{Outcome}
+use Rattle.fib_model.specs.declared.orders.Outcome.TheVariants as outcome
+use Rattle.fib_model.specs.declared.orders.Report.{Report}
+use Rattle.fib_model.specs.declared.orders.Report.TheVariants.{Online, Offline, Quiescent}
 use Rattle.fib_model.specs.State.{State, Transitions, Keeping, IsExhausted, HasTokens}
 use Rattle.fib_model.specs.Reclaiming.{Reclaims, Unlinks}
 
@@ -139,23 +139,25 @@ Reports k c s report w other z = ⊥
 
 -- a command came out so, and left z
 abbrev pub Does : {X : Type 0} → Keeping X → (first second : ℕ) → Config → State X
-    → Command first second → Outcome → State X → Type 0
-Does k f g c s (command.Add p h) (outcome.Put put) z = Adds k.changes f g c s p h (Ok put) z
-Does k f g c s (command.Add p h) (outcome.Refused refusal) z =
+    → Order first second → Outcome → State X → Type 0
+Does k f g c s (order.Add p h) (outcome.Put put) z = Adds k.changes f g c s p h (Ok put) z
+Does k f g c s (order.Add p h) (outcome.Refused refusal) z =
     Adds k.changes f g c s p h (Err refusal) z
-Does k f g c s (command.Delete p) (outcome.Deleted h) z = Deletes k.changes f g c s p (Ok h) z
-Does k f g c s (command.Delete p) (outcome.Refused refusal) z =
+Does k f g c s (order.Del p) (outcome.Deleted h) z = Deletes k.changes f g c s p (Ok h) z
+Does k f g c s (order.Del p) (outcome.Refused refusal) z =
     Deletes k.changes f g c s p (Err refusal) z
-Does k f g c s command.Flush (outcome.Flushed n) z = Flushes k.changes f g c s (Ok n) z
-Does k f g c s command.Flush (outcome.Refused refusal) z =
+Does k f g c s order.Flush (outcome.Flushed n) z = Flushes k.changes f g c s (Ok n) z
+Does k f g c s order.Flush (outcome.Refused refusal) z =
     Flushes k.changes f g c s (Err refusal) z
-Does k f g c s (command.Reclaim max) (outcome.Reclaimed r) z = Frees k.changes s max r z
-Does k f g c s (command.Report report w) outcome z = Reports k c s report w outcome z
+Does k f g c s (order.Reclaim max) (outcome.Reclaimed r) z = Frees k.changes s max r z
+Does k f g c s (order.Online w) outcome z = Reports k c s Online w outcome z
+Does k f g c s (order.Offline w) outcome z = Reports k c s Offline w outcome z
+Does k f g c s (order.Quiescent w) outcome z = Reports k c s Quiescent w outcome z
 Does k f g c s other outcome z = ⊥
 
 -- what was done so far, the newest first, and how it came out
 abbrev pub Log : ℕ → ℕ → Type 0
-Log first second = List (Command first second × Outcome)
+Log first second = List (Order first second × Outcome)
 
 -- from `opening` on, the commands of the log came out so one after another, and left z
 abbrev pub Runs : {X : Type 0} → Keeping X → (first second : ℕ) → Config → State X
@@ -165,9 +167,9 @@ Runs {X} k first second c opening (done ∷ log) z = (s : State X)
     × Runs k first second c opening log s × Does k first second c s done.0 done.1 z
 
 -- the log after these commands, in order, and their outcomes
-abbrev pub log_after : {first second : ℕ} → Log first second → List (Command first second)
+abbrev pub log_after : {first second : ℕ} → Log first second → List (Order first second)
     → List Outcome → Log first second
 log_after log [] outcomes = log
-log_after log (command ∷ commands) [] = log
-log_after log (command ∷ commands) (outcome ∷ outcomes) =
-    log_after ((command, outcome) ∷ log) commands outcomes
+log_after log (order ∷ orders) [] = log
+log_after log (order ∷ orders) (outcome ∷ outcomes) =
+    log_after ((order, outcome) ∷ log) orders outcomes

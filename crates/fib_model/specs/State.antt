@@ -4,7 +4,7 @@ use Rattle.std.specs.Prelude.{ℕ, ◌≡◌, ◌+◌, ◌^◌, ◌<◌, ◌≤�
 use Rattle.lpm_limits.specs.declared.busy.Busy.{Busy}
 use Rattle.lpm_limits.specs.declared.config.Config.{Config}
 use Rattle.lpm_rules.specs.RuleMap.{RuleMap}
-use Rattle.fib_model.specs.declared.command.Report.{Report}
+use Rattle.fib_model.specs.declared.orders.Report.{Report}
 
 -- the rules, what the readers reported (as an X), the unlinkings that wait, from the oldest to the
 -- newest, each by its name, and the number of updates begun

@@ -4,8 +4,8 @@ use Rattle.std.specs.Prelude.{ℕ, ◌≡◌, ◌+◌, ◌<◌, List, [], ◌∷
 use Rattle.std.specs.FinMap.{empty}
 use Rattle.lpm_limits.specs.declared.busy.Busy.{Busy}
 use Rattle.lpm_limits.specs.declared.config.Config.{Config}
-use Rattle.fib_model.specs.declared.command.Report.{Report}
-use Rattle.fib_model.specs.declared.command.Report.TheVariants as report
+use Rattle.fib_model.specs.declared.orders.Report.{Report}
+use Rattle.fib_model.specs.declared.orders.Report.TheVariants as report
 use Rattle.fib_model.specs.declared.event.Event.{Event}
 use Rattle.fib_model.specs.declared.event.Event.TheVariants.{Online, Offline, Quiescent, Unlinking}
 use Rattle.qsbr.specs.Intervals.{IsRunningSince, IsHeldByWorker}

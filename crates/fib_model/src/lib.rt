@@ -7,15 +7,15 @@
 //! both with cases that were worked out by hand.
 #![tactic(auto)]
 
-mod command;
 mod event;
 mod intervals;
 pub mod laws;
+mod orders;
 mod outcomes;
 mod plain;
 mod waiting;
 
-pub use command::{Command, Outcome, Report};
 pub use event::Event;
+pub use orders::{Order, Outcome, Report};
 pub use outcomes::expected;
 pub use plain::Account;

@@ -5,7 +5,7 @@ ghost use Rattle.lpm_bits.specs.Widths.{IsShape};
 ghost use Rattle.lpm_limits.specs.Limits.{IsConfig};
 ghost use Rattle.fib_model.specs.Expected.{IsAccount};
 
-use crate::Command;
+use crate::Order;
 use crate::plain::{Account, Plain};
 use qsbr::Config;
 use std::alloc::{AllocError, Global};
@@ -16,16 +16,16 @@ use std::alloc::{AllocError, Global};
 pub fn expected<const FIRST: u32, const SECOND: u32>(
     alloc: Global,
     config: &Config,
-    commands: &[Command<FIRST, SECOND>],
+    orders: &[Order<FIRST, SECOND>],
 ) -> Result<Account, AllocError>
     requires shape { IsShape FIRST SECOND }
     requires config { IsConfig config.now }
-    ensures { IfOk result (λ account. IsAccount FIRST SECOND config.now commands.now account) }
+    ensures { IfOk result (λ account. IsAccount FIRST SECOND config.now orders.now account) }
 {
     let mut plain = Plain::<FIRST, SECOND>::open(alloc, config);
     let mut outcomes = Vec::new(alloc);
-    for command in commands {
-        let outcome = plain.run(config, command)?;
+    for order in orders {
+        let outcome = plain.run(config, order)?;
         outcomes.push(outcome)?;
     }
     Ok(Account {

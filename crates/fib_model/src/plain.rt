@@ -6,7 +6,7 @@ ghost use Rattle.lpm_bits.specs.Widths.{IsShape};
 ghost use Rattle.lpm_limits.specs.Limits.{IsConfig};
 
 use crate::waiting::Waiting;
-use crate::{Command, Outcome};
+use crate::{Order, Outcome, Report};
 use lpm_bits::{Hop, Prefix, Shape};
 use lpm_rules::{Put, Rules};
 use qsbr::{Config, Refusal};
@@ -236,29 +236,31 @@ impl<const FIRST: u32, const SECOND: u32> Plain<FIRST, SECOND> {
     pub(crate) fn run(
         &mut self,
         config: &Config,
-        command: &Command<FIRST, SECOND>,
+        order: &Order<FIRST, SECOND>,
     ) -> Result<Outcome, AllocError>
         requires config { IsConfig config.now }
         requires sound { IsSound config.now self.old.waiting }
         ensures does { IfOk result (λ outcome. Does (by_intervals config.now) FIRST SECOND
-            config.now (state_of self.old) command.now outcome (state_of self.new)) }
+            config.now (state_of self.old) order.now outcome (state_of self.new)) }
         ensures sound { OnOk result (IsSound config.now self.new.waiting) }
     {
-        match command {
-            Command::Add(prefix, hop) => match self.add(config, prefix, *hop)? {
+        match order {
+            Order::Add(prefix, hop) => match self.add(config, prefix, *hop)? {
                 Ok(put) => Ok(Outcome::Put(put)),
                 Err(refusal) => Ok(Outcome::Refused(refusal)),
             },
-            Command::Delete(prefix) => match self.delete(config, prefix)? {
+            Order::Del(prefix) => match self.delete(config, prefix)? {
                 Ok(hop) => Ok(Outcome::Deleted(hop)),
                 Err(refusal) => Ok(Outcome::Refused(refusal)),
             },
-            Command::Flush => match self.flush(config)? {
+            Order::Flush => match self.flush(config)? {
                 Ok(count) => Ok(Outcome::Flushed(count)),
                 Err(refusal) => Ok(Outcome::Refused(refusal)),
             },
-            Command::Reclaim(max) => Ok(Outcome::Reclaimed(self.waiting.reclaim(config, *max))),
-            Command::Report(report, worker) => self.waiting.report(config, *report, *worker),
+            Order::Reclaim(max) => Ok(Outcome::Reclaimed(self.waiting.reclaim(config, *max))),
+            Order::Online(worker) => self.waiting.report(config, Report::Online, *worker),
+            Order::Offline(worker) => self.waiting.report(config, Report::Offline, *worker),
+            Order::Quiescent(worker) => self.waiting.report(config, Report::Quiescent, *worker),
         }
     }
 }

@@ -218,7 +218,7 @@ impl Waiting {
         &mut self,
         config: &Config,
         report: Report,
-        worker: usize,
+        worker: u32,
     ) -> Result<Outcome, AllocError>
         requires sound { IsSound config.now self.old }
         ensures reported { IfOk result (λ outcome. (rules : RuleMap) (begun : ℕ)
@@ -226,6 +226,7 @@ impl Waiting {
             report worker outcome (state_with rules begun self.new)) }
         ensures sound { OnOk result (IsSound config.now self.new) }
     {
+        let worker = worker as usize;
         if worker >= config.workers {
             return Ok(Outcome::Refused(Refusal::NoSuchWorker));
         }

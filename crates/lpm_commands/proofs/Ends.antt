@@ -4,7 +4,7 @@ use Rattle.lpm_limits.specs.declared.config.Config.{Config}
 use Rattle.qsbr.specs.Registry.{Registry}
 use Rattle.fib_model.specs.State.{State}
 use Rattle.route_text.specs.declared.routes.Route.{Route}
-use Rattle.route_text.specs.declared.orders.Order.{Order}
+use Rattle.fib_model.specs.declared.orders.Order.{Order}
 use Rattle.route_text.specs.Files.{AreRoutes, AreAddresses}
 use Rattle.route_text.specs.Updates.{AreUpdates}
 use Rattle.lpm_files.specs.declared.failure.Failure.{Failure}
@@ -25,7 +25,7 @@ ends_lookup c routes addresses bytes list addrs table e are_routes are_addrs loa
     inr (inr (inl (read, table, ends)))
 
 -- an apply ends where its addresses are answered
-pub ends_apply : (c d : Config) (routes updates addresses : List ℕ) (bytes : List ℕ → Option (List ℕ)) (list : List Route) (orders : List Order) (addrs : List ℕ) (table : State Registry) (e : Failure) → d ≡ c → Reads AreRoutes (bytes routes) list → Reads AreUpdates (bytes updates) orders → Reads AreAddresses (bytes addresses) addrs → IsLoaded c list table → EndsAnswering d.workers e → EndsApply c routes updates addresses bytes e
+pub ends_apply : (c d : Config) (routes updates addresses : List ℕ) (bytes : List ℕ → Option (List ℕ)) (list : List Route) (orders : List (Order 24 8)) (addrs : List ℕ) (table : State Registry) (e : Failure) → d ≡ c → Reads AreRoutes (bytes routes) list → Reads AreUpdates (bytes updates) orders → Reads AreAddresses (bytes addresses) addrs → IsLoaded c list table → EndsAnswering d.workers e → EndsApply c routes updates addresses bytes e
 ends_apply c d routes updates addresses bytes list orders addrs table e limits are_routes are_updates are_addrs loaded ends =
     let read : AreRead (apply_files routes updates addresses bytes) = (is_read (bytes routes) AreRoutes list are_routes, (is_read (bytes updates) AreUpdates orders are_updates, (is_read (bytes addresses) AreAddresses addrs are_addrs, tt))) in
     let table : HasTable c (bytes routes) = (list, (table, are_routes, loaded)) in

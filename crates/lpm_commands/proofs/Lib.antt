@@ -8,6 +8,5 @@ pub mod Answered
 pub mod Texts
 pub mod Ends
 pub mod Storms
-pub mod Known
 pub mod Found
 pub mod Explained

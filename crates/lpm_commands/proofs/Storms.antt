@@ -11,8 +11,8 @@ use Rattle.fib_model.specs.State.{State}
 use Rattle.fib_model.specs.Outcomes.{Adds}
 use Rattle.fib_model.specs.Counting.{counter_transitions, initial_by_counters}
 use Rattle.route_text.specs.declared.routes.Route.{Route}
-use Rattle.route_text.specs.declared.orders.Order.{Order}
-use Rattle.route_text.specs.declared.orders.Order.TheVariants as orders
+use Rattle.fib_model.specs.declared.orders.Order.{Order}
+use Rattle.fib_model.specs.declared.orders.Order.TheVariants as orders
 use Rattle.route_text.specs.Files.{AreRoutes, AreAddresses}
 use Rattle.route_text.specs.Updates.{AreUpdates}
 use Rattle.lpm_files.specs.declared.failure.Failure.{Failure}
@@ -23,12 +23,11 @@ use Rattle.storm.specs.Changing.{IsForWriter}
 use Rattle.storm.specs.Plans.{limits_of}
 use Rattle.lpm_commands.specs.Loading.{EndsLoading, IsLoaded, Loads, rules_of_routes}
 use Rattle.lpm_commands.specs.Filled.{rule_of}
-use Rattle.lpm_commands.specs.Updating.{command_of}
 use Rattle.lpm_commands.specs.Apply.{apply_files}
-use Rattle.lpm_commands.specs.Storm.{AreLoaded, is_change, storm_commands, IsPlanOf, IsTextOver, IsStormText, EndsAfter, EndsOver, EndsRunning, EndsStormRun}
+use Rattle.lpm_commands.specs.Storm.{AreLoaded, is_change, changes_of, IsPlanOf, IsTextOver, IsStormText, EndsAfter, EndsOver, EndsRunning, EndsStormRun}
 use Rattle.lpm_commands.proofs.Ends.{is_read}
 
-changes_for_writer : (list : List Order) → All IsForWriter (map command_of (filter is_change list))
+changes_for_writer : (list : List (Order 24 8)) → All IsForWriter (filter is_change list)
 changes_for_writer [] = All-nil IsForWriter
 changes_for_writer (orders.Add p h ∷ more) = All-cons IsForWriter _ _ tt (changes_for_writer more)
 changes_for_writer (orders.Del p ∷ more) = All-cons IsForWriter _ _ tt (changes_for_writer more)
@@ -38,12 +37,12 @@ changes_for_writer (orders.Online worker ∷ more) = changes_for_writer more
 changes_for_writer (orders.Offline worker ∷ more) = changes_for_writer more
 changes_for_writer (orders.Quiescent worker ∷ more) = changes_for_writer more
 
--- no command of a storm is a report of a worker
-pub for_writer : (updates : List Order) → All IsForWriter (storm_commands updates)
+-- no update of a storm is a report of a worker
+pub for_writer : (updates : List (Order 24 8)) → All IsForWriter (changes_of updates)
 for_writer updates = changes_for_writer updates
 
 -- the text of a storm of what the files list
-pub is_storm_text : (c : Config) (rounds : ℕ) (is_stuck : Bool) (routes updates addresses : Option (List ℕ)) (list list' : List Route) (orders orders' : List Order) (addrs addrs' text : List ℕ) → Reads AreRoutes routes list → Reads AreUpdates updates orders → Reads AreAddresses addresses addrs → list' ≡ list → orders' ≡ orders → addrs' ≡ addrs → IsTextOver c rounds is_stuck list' orders' addrs' text → IsStormText c rounds is_stuck routes updates addresses text
+pub is_storm_text : (c : Config) (rounds : ℕ) (is_stuck : Bool) (routes updates addresses : Option (List ℕ)) (list list' : List Route) (orders orders' : List (Order 24 8)) (addrs addrs' text : List ℕ) → Reads AreRoutes routes list → Reads AreUpdates updates orders → Reads AreAddresses addresses addrs → list' ≡ list → orders' ≡ orders → addrs' ≡ addrs → IsTextOver c rounds is_stuck list' orders' addrs' text → IsStormText c rounds is_stuck routes updates addresses text
 is_storm_text c rounds is_stuck routes updates addresses list list' orders orders' addrs addrs' text are_routes are_updates are_addrs same_list same_orders same_addrs came = record {
   list = list;
   orders = orders;
@@ -51,23 +50,23 @@ is_storm_text c rounds is_stuck routes updates addresses list list' orders order
   are_routes = are_routes;
   are_updates = are_updates;
   are_addrs = are_addrs;
-  came = subst (λ (l : List ℕ). IsTextOver c rounds is_stuck list orders l text) same_addrs (subst (λ (l : List Order). IsTextOver c rounds is_stuck list l addrs' text) same_orders (subst (λ (l : List Route). IsTextOver c rounds is_stuck l orders' addrs' text) same_list came));
+  came = subst (λ (l : List ℕ). IsTextOver c rounds is_stuck list orders l text) same_addrs (subst (λ (l : List (Order 24 8)). IsTextOver c rounds is_stuck list l addrs' text) same_orders (subst (λ (l : List Route). IsTextOver c rounds is_stuck l orders' addrs' text) same_list came));
 }
 
 -- a storm of what the files list ends its run
-pub ends_storm : (c : Config) (rounds : ℕ) (is_stuck : Bool) (routes updates addresses : List ℕ) (bytes : List ℕ → Option (List ℕ)) (list list' : List Route) (orders orders' : List Order) (addrs addrs' : List ℕ) (e : Failure) → Reads AreRoutes (bytes routes) list → Reads AreUpdates (bytes updates) orders → Reads AreAddresses (bytes addresses) addrs → list' ≡ list → orders' ≡ orders → addrs' ≡ addrs → EndsOver c rounds is_stuck routes list' orders' addrs' e → EndsStormRun c rounds is_stuck routes updates addresses bytes e
+pub ends_storm : (c : Config) (rounds : ℕ) (is_stuck : Bool) (routes updates addresses : List ℕ) (bytes : List ℕ → Option (List ℕ)) (list list' : List Route) (orders orders' : List (Order 24 8)) (addrs addrs' : List ℕ) (e : Failure) → Reads AreRoutes (bytes routes) list → Reads AreUpdates (bytes updates) orders → Reads AreAddresses (bytes addresses) addrs → list' ≡ list → orders' ≡ orders → addrs' ≡ addrs → EndsOver c rounds is_stuck routes list' orders' addrs' e → EndsStormRun c rounds is_stuck routes updates addresses bytes e
 ends_storm c rounds is_stuck routes updates addresses bytes list list' orders orders' addrs addrs' e are_routes are_updates are_addrs same_list same_orders same_addrs ends =
     let read : AreRead (apply_files routes updates addresses bytes) = (is_read (bytes routes) AreRoutes list are_routes, (is_read (bytes updates) AreUpdates orders are_updates, (is_read (bytes addresses) AreAddresses addrs are_addrs, tt))) in
-    let over : EndsOver c rounds is_stuck routes list orders addrs e = subst (λ (l : List ℕ). EndsOver c rounds is_stuck routes list orders l e) same_addrs (subst (λ (l : List Order). EndsOver c rounds is_stuck routes list l addrs' e) same_orders (subst (λ (l : List Route). EndsOver c rounds is_stuck routes l orders' addrs' e) same_list ends)) in
+    let over : EndsOver c rounds is_stuck routes list orders addrs e = subst (λ (l : List ℕ). EndsOver c rounds is_stuck routes list orders l e) same_addrs (subst (λ (l : List (Order 24 8)). EndsOver c rounds is_stuck routes list l addrs' e) same_orders (subst (λ (l : List Route). EndsOver c rounds is_stuck routes l orders' addrs' e) same_list ends)) in
     inr (inl (read, (list, (orders, (addrs, are_routes, are_updates, are_addrs, over)))))
 
 -- the plan of a storm
-pub is_plan : (list : List Route) (orders : List Order) (addrs : List ℕ) (plan : Plan 24 8) → plan.rules.now ≡ map rule_of list → plan.commands.now ≡ storm_commands orders → plan.addrs.now ≡ addrs → IsPlanOf plan.config plan.rounds plan.has_stuck_worker list orders addrs plan
-is_plan list orders addrs plan rules commands same = record {
+pub is_plan : (list : List Route) (orders : List (Order 24 8)) (addrs : List ℕ) (plan : Plan 24 8) → plan.rules.now ≡ map rule_of list → plan.orders.now ≡ changes_of orders → plan.addrs.now ≡ addrs → IsPlanOf plan.config plan.rounds plan.has_stuck_worker list orders addrs plan
+is_plan list orders addrs plan rules changes same = record {
   limits = refl;
   stuck = refl;
   rules = rules;
-  commands = commands;
+  changes = changes;
   addresses = same;
   times = refl;
 }

@@ -4,8 +4,8 @@ use Rattle.std.specs.FinMap.{len}
 use Rattle.lpm_limits.specs.declared.config.Config.{Config}
 use Rattle.lpm_rules.specs.declared.Put.{Put}
 use Rattle.qsbr.specs.Registry.{Registry}
-use Rattle.fib_model.specs.declared.command.Outcome.{Outcome}
-use Rattle.fib_model.specs.declared.command.Outcome.TheVariants as outcomes
+use Rattle.fib_model.specs.declared.orders.Outcome.{Outcome}
+use Rattle.fib_model.specs.declared.orders.Outcome.TheVariants as outcomes
 use Rattle.fib_model.specs.declared.event.Event.{Event}
 use Rattle.fib_model.specs.State.{State}
 use Rattle.fib_model.specs.Outcomes.{Log, Runs, log_after, groups_in_use}
@@ -15,10 +15,10 @@ use Rattle.fib_model.specs.Laws.{Agrees}
 use Rattle.fib_model.proofs.Versions.{rules_are_last_version}
 use Rattle.fib.specs.Fib.{FibState}
 use Rattle.route_text.specs.declared.routes.Route.{Route}
-use Rattle.route_text.specs.declared.orders.Order.{Order}
+use Rattle.fib_model.specs.declared.orders.Order.{Order}
 use Rattle.audit.specs.declared.report.Report.{Report}
 use Rattle.lpm_commands.specs.Loading.{Loads, IsLoaded}
-use Rattle.lpm_commands.specs.Updating.{command_of, loading_of, ComesOut, IsUpdated}
+use Rattle.lpm_commands.specs.Updating.{loading_of, ComesOut, IsUpdated}
 use Rattle.lpm_commands.specs.Report.{IsCountOf, IsReportOf}
 
 -- the additions of the routes are a log
@@ -29,12 +29,12 @@ loads_run c log s z (r ∷ routes) runs loads =
     (loads.0 ∷ rest.0, ap suc rest.1, rest.2)
 
 -- the routes and the updates that came out so after them
-pub updated : (c : Config) (routes : List Route) (list : List Order) (came : List Outcome) (x z : State Registry) → IsLoaded c routes x → ComesOut c x list came z → (log : Log 24 8) × ((state : State (List Event)) × IsUpdated c routes list came log state × Agrees c z state)
+pub updated : (c : Config) (routes : List Route) (list : List (Order 24 8)) (came : List Outcome) (x z : State Registry) → IsLoaded c routes x → ComesOut c x list came z → (log : Log 24 8) × ((state : State (List Event)) × IsUpdated c routes list came log state × Agrees c z state)
 updated c routes list came x z loaded comes =
     let first = loads_run c [] (initial_by_counters c) x routes refl loaded.loads in
     let log = log_after [] (map loading_of routes) (map outcomes.Put first.0) in
     let told = comes.goes_on log first.2 in (
-      log_after log (map command_of list) came,
+      log_after log list came,
       (
         told.0,
         record {
@@ -50,11 +50,11 @@ updated c routes list came x z loaded comes =
     )
 
 -- the table's rules are the last version
-pub last_rules : (c : Config) (routes : List Route) (list : List Order) (came : List Outcome) (log : Log 24 8) (z : State Registry) (state : State (List Event)) → IsUpdated c routes list came log state → Agrees c z state → z.rules ≡ last_of (history log)
+pub last_rules : (c : Config) (routes : List Route) (list : List (Order 24 8)) (came : List Outcome) (log : Log 24 8) (z : State Registry) (state : State (List Event)) → IsUpdated c routes list came log state → Agrees c z state → z.rules ≡ last_of (history log)
 last_rules c routes list came log z state updated agrees = sym agrees.rules ∙ (rules_are_last_version 24 8 c log state updated.runs).0
 
 -- what the table counts is what is to be reported
-pub reported : (c : Config) (routes : List Route) (list : List Order) (came : List Outcome) (log : Log 24 8) (fib : FibState) (state : State (List Event)) (r : Report) → IsUpdated c routes list came log state → Agrees c fib.table state → fib.config ≡ c → IsCountOf fib r → IsReportOf c log state r
+pub reported : (c : Config) (routes : List Route) (list : List (Order 24 8)) (came : List Outcome) (log : Log 24 8) (fib : FibState) (state : State (List Event)) (r : Report) → IsUpdated c routes list came log state → Agrees c fib.table state → fib.config ≡ c → IsCountOf fib r → IsReportOf c log state r
 reported c routes list came log fib state r updated agrees config counts =
     let last = last_rules c routes list came log fib.table state updated agrees in
     let law = rules_are_last_version 24 8 c log state updated.runs in
@@ -68,5 +68,5 @@ reported c routes list came log fib state r updated agrees config counts =
     }
 
 -- the same outcomes under another name of the limits and the orders
-pub comes_as : (c d : Config) (x z : State Registry) (list orders : List Order) (came : List Outcome) → d ≡ c → list ≡ orders → ComesOut d x list came z → ComesOut c x orders came z
-comes_as c d x z list orders came limits same comes = subst (λ (k : Config). ComesOut k x orders came z) limits (subst (λ (l : List Order). ComesOut d x l came z) same comes)
+pub comes_as : (c d : Config) (x z : State Registry) (list orders : List (Order 24 8)) (came : List Outcome) → d ≡ c → list ≡ orders → ComesOut d x list came z → ComesOut c x orders came z
+comes_as c d x z list orders came limits same comes = subst (λ (k : Config). ComesOut k x orders came z) limits (subst (λ (l : List (Order 24 8)). ComesOut d x l came z) same comes)

@@ -4,7 +4,7 @@ use Rattle.std.specs.Prelude.{ℕ, ◌≡◌, ◌+◌, ◌⊎◌, List, [], ◌�
 use Rattle.std.specs.FinMap.{len}
 use Rattle.lpm_limits.specs.declared.config.Config.{Config}
 use Rattle.qsbr.specs.Registry.{Registry}
-use Rattle.fib_model.specs.declared.command.Outcome.{Outcome}
+use Rattle.fib_model.specs.declared.orders.Outcome.{Outcome}
 use Rattle.fib_model.specs.declared.event.Event.{Event}
 use Rattle.fib_model.specs.State.{State}
 use Rattle.fib_model.specs.Outcomes.{Log, groups_in_use}
@@ -12,7 +12,7 @@ use Rattle.fib_model.specs.Textbook.{textbook}
 use Rattle.fib.specs.Fib.{FibState}
 use Rattle.fib_model.specs.History.{history, last_of}
 use Rattle.route_text.specs.declared.routes.Route.{Route}
-use Rattle.route_text.specs.declared.orders.Order.{Order}
+use Rattle.fib_model.specs.declared.orders.Order.{Order}
 use Rattle.route_text.specs.Files.{AreRoutes}
 use Rattle.route_text.specs.Updates.{AreUpdates}
 use Rattle.audit.specs.declared.report.Report.{Report}
@@ -46,7 +46,7 @@ pub record IsReportOf (c : Config) (log : Log 24 8) (state : State (List Event))
 
 -- on a table with these limits in the state x, the updates come out and leave the table z; the text
 -- tells what that counts
-pub record IsReportedAfter (c : Config) (x : State Registry) (orders : List Order) (z : FibState)
+pub record IsReportedAfter (c : Config) (x : State Registry) (orders : List (Order 24 8)) (z : FibState)
     (text : List ℕ) : Type 0 where
   pub came : List Outcome
   pub report : Report
@@ -59,7 +59,7 @@ pub record IsReportedAfter (c : Config) (x : State Registry) (orders : List Orde
 pub record IsReportText (c : Config) (routes updates : Option (List ℕ)) (text : List ℕ)
     : Type 0 where
   pub list : List Route
-  pub orders : List Order
+  pub orders : List (Order 24 8)
   pub came : List Outcome
   pub log : Log 24 8
   pub state : State (List Event)

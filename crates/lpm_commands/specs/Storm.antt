@@ -8,10 +8,9 @@ use Rattle.lpm_limits.specs.declared.refusal.Refusal.TheVariants as refusals
 use Rattle.lpm_rules.specs.Listed.{rules_of}
 use Rattle.qsbr.specs.Registry.{Registry}
 use Rattle.fib_model.specs.State.{State}
-use Rattle.fib_model.specs.declared.command.Command.{Command}
 use Rattle.route_text.specs.declared.routes.Route.{Route}
-use Rattle.route_text.specs.declared.orders.Order.{Order}
-use Rattle.route_text.specs.declared.orders.Order.TheVariants as orders
+use Rattle.fib_model.specs.declared.orders.Order.{Order}
+use Rattle.fib_model.specs.declared.orders.Order.TheVariants as orders
 use Rattle.route_text.specs.Files.{AreRoutes, AreAddresses}
 use Rattle.route_text.specs.Updates.{AreUpdates}
 use Rattle.audit.specs.declared.report.StormReport.{StormReport}
@@ -24,30 +23,29 @@ use Rattle.storm.specs.Storm.{IsStorm}
 use Rattle.lpm_files.specs.declared.failure.Failure.{Failure}
 use Rattle.lpm_files.specs.declared.failure.Failure.TheVariants as failures
 use Rattle.lpm_files.specs.Inputs.{Reads, AreRead, EndsAtOne}
-use Rattle.lpm_commands.specs.Updating.{command_of}
 use Rattle.lpm_commands.specs.Loading.{EndsLoading, IsLoaded}
 use Rattle.lpm_commands.specs.Filled.{rule_of}
 use Rattle.lpm_commands.specs.Apply.{apply_files}
 
 -- the order is one for the writer: a worker of a storm reports by itself
-abbrev pub is_change : Order → Bool
+abbrev pub is_change : Order 24 8 → Bool
 is_change (orders.Online worker) = false
 is_change (orders.Offline worker) = false
 is_change (orders.Quiescent worker) = false
 is_change order = true
 
--- the commands of the writer: those of the updates, but for the reports of workers
-abbrev pub storm_commands : List Order → List (Command 24 8)
-storm_commands orders = map command_of (filter is_change orders)
+-- the updates of the writer: all but the reports of workers
+abbrev pub changes_of : List (Order 24 8) → List (Order 24 8)
+changes_of orders = filter is_change orders
 
 -- the plan of a storm on a table of these limits, in so many rounds, with a stuck worker or not: the
 -- table has the rules of the routes before the threads start
 pub record IsPlanOf (c : Config) (rounds : ℕ) (is_stuck : Bool) (list : List Route)
-    (orders : List Order) (addrs : List ℕ) (plan : Plan 24 8) : Type 0 where
+    (orders : List (Order 24 8)) (addrs : List ℕ) (plan : Plan 24 8) : Type 0 where
   pub limits : plan.config ≡ c
   pub stuck : plan.has_stuck_worker ≡ is_stuck
   pub rules : plan.rules.now ≡ map rule_of list
-  pub commands : plan.commands.now ≡ storm_commands orders
+  pub changes : plan.orders.now ≡ changes_of orders
   pub addresses : plan.addrs.now ≡ addrs
   pub times : plan.rounds ≡ rounds
 
@@ -76,7 +74,7 @@ pub record IsTextAfter (plan : Plan 24 8) (list : List Route) (text : List ℕ) 
   pub came : IsTextOf plan versions text
 
 -- the text is the report of a storm of these routes, updates and addresses
-abbrev pub IsTextOver : Config → ℕ → Bool → List Route → List Order → List ℕ → List ℕ → Type 0
+abbrev pub IsTextOver : Config → ℕ → Bool → List Route → List (Order 24 8) → List ℕ → List ℕ → Type 0
 IsTextOver c rounds is_stuck list orders addrs text = (plan : Plan 24 8)
     × IsPlanOf c rounds is_stuck list orders addrs plan × IsTextAfter plan list text
 
@@ -84,7 +82,7 @@ IsTextOver c rounds is_stuck list orders addrs text = (plan : Plan 24 8)
 pub record IsStormText (c : Config) (rounds : ℕ) (is_stuck : Bool)
     (routes updates addresses : Option (List ℕ)) (text : List ℕ) : Type 0 where
   pub list : List Route
-  pub orders : List Order
+  pub orders : List (Order 24 8)
   pub addrs : List ℕ
   pub are_routes : Reads AreRoutes routes list
   pub are_updates : Reads AreUpdates updates orders
@@ -118,7 +116,7 @@ EndsBy plan file list failure = (failure ≡ failures.Memory)
     ⊎ (IsInRange plan × EndsAfter plan file list failure)
 
 -- the storm of these routes, updates and addresses ends so
-abbrev pub EndsOver : Config → ℕ → Bool → List ℕ → List Route → List Order → List ℕ → Failure
+abbrev pub EndsOver : Config → ℕ → Bool → List ℕ → List Route → List (Order 24 8) → List ℕ → Failure
     → Type 0
 EndsOver c rounds is_stuck file list orders addrs failure = (failure ≡ failures.Memory)
     ⊎ ((plan : Plan 24 8) × IsPlanOf c rounds is_stuck list orders addrs plan
@@ -131,7 +129,7 @@ abbrev pub EndsStormRun : Config → ℕ → Bool → List ℕ → List ℕ → 
 EndsStormRun c rounds is_stuck routes updates addresses bytes failure =
     let files = apply_files routes updates addresses bytes in
     EndsAtOne files failure
-    ⊎ (AreRead files × ((list : List Route) × ((orders : List Order) × ((addrs : List ℕ)
+    ⊎ (AreRead files × ((list : List Route) × ((orders : List (Order 24 8)) × ((addrs : List ℕ)
     × Reads AreRoutes (bytes routes) list × Reads AreUpdates (bytes updates) orders
     × Reads AreAddresses (bytes addresses) addrs
     × EndsOver c rounds is_stuck routes list orders addrs failure))))

@@ -7,12 +7,12 @@ ghost use Rattle.lpm_commands.specs.Lookup.{EndsAnswering};
 
 use crate::answers::text_of_answers;
 use crate::loading::load;
-use crate::updating::{text_of_outcomes, update};
+use crate::updating::update;
 use bulk::Gate;
 use fib::Fib;
 use lpm_files::{Failure, Files, Updates, put_text, read_addresses_on, read_list, read_routes_on};
 use qsbr::Config;
-use route_text::Order;
+use route_text::{Order, outcomes_text};
 use std::alloc::Global;
 use std::io::Write;
 use std::thread::Threads;
@@ -92,7 +92,7 @@ fn text_after<'a, R: Threads + Sync, G: Gate>(
     ensures failure { IfErr result (EndsAnswering table.old.config.workers) }
 {
     let outcomes = update(alloc, table, orders)?;
-    let mut text = text_of_outcomes(alloc, &outcomes)?;
+    let mut text = outcomes_text(alloc, &outcomes)?;
     let answers = text_of_answers(rt, alloc, table, addrs, gate)?;
     text.extend_from_slice(&answers)?;
     Ok(text)

@@ -8,16 +8,13 @@ ghost use Rattle.lpm_files.specs.Output.{Writes, WritesBeginning};
 ghost use Rattle.storm.specs.Changing.{IsForWriter};
 ghost use Rattle.storm.specs.Plans.{IsInRange, limits_of};
 ghost use Rattle.lpm_commands.specs.Loading.{rules_of_routes};
-ghost use Rattle.lpm_commands.specs.Updating.{command_of};
 ghost use Rattle.lpm_commands.specs.Storm.{IsStormText, IsTextAfter, IsTextOf, IsTextOver, ending_of, with_versions};
-ghost use Rattle.lpm_commands.specs.Storm.{EndsAfter, EndsBy, EndsOver, EndsRunning, EndsStormRun, is_change, storm_commands};
+ghost use Rattle.lpm_commands.specs.Storm.{EndsAfter, EndsBy, EndsOver, EndsRunning, EndsStormRun, changes_of, is_change};
 
 use crate::loading::{Running, open_for_changes};
 use crate::ordering::rules_of_routes;
-use crate::updating::command_of;
 use audit::{Report, StormReport, storm_text};
 use bulk::Gate;
-use fib_model::Command;
 use lpm_files::{Addresses, Failure, Files, Updates, put_text, read_list, read_routes_on};
 use qsbr::{Config, Refusal};
 use route_text::{Order, Route};
@@ -135,12 +132,12 @@ fn text_over<'a, R: Threads + Wait + Sync, G: Gate>(
         path.entry.now routes.now orders.now addrs.now) }
 {
     let rules = rules_of_routes(alloc, routes)?;
-    let commands = changes_of(alloc, orders)?;
+    let changes = changes_of(alloc, orders)?;
     let plan = Plan {
         config,
         has_stuck_worker,
         rules: &rules,
-        commands: &commands,
+        orders: &changes,
         addrs,
         rounds,
     };
@@ -158,7 +155,7 @@ fn text_of<'a, R: Threads + Wait + Sync, G: Gate>(
     gate: &G,
 ) -> Result<Vec<u8>, Failure<'a>>
     requires rules { rules_of plan.now.rules.now ≡ rules_of_routes routes.now }
-    requires commands { All IsForWriter plan.now.commands.now }
+    requires orders { All IsForWriter plan.now.orders.now }
     requires addrs { All (λ a. a < 2 ^ 32) plan.now.addrs.now }
     ensures text { IfOk result (λ v. IsTextAfter plan.now routes.now v.items) }
     ensures failure { IfErr result (EndsBy plan.now path.entry.now routes.now) }
@@ -182,7 +179,7 @@ fn text_after<'a, R: Threads + Wait + Sync, G: Gate>(
     requires in_range { IsInRange plan.now }
     requires limits { limits ≡ limits_of plan.now }
     requires rules { rules_of plan.now.rules.now ≡ rules_of_routes routes.now }
-    requires commands { All IsForWriter plan.now.commands.now }
+    requires orders { All IsForWriter plan.now.orders.now }
     requires addrs { All (λ a. a < 2 ^ 32) plan.now.addrs.now }
     ensures text { IfOk result (λ v. IsTextAfter plan.now routes.now v.items) }
     ensures failure { IfErr result (EndsAfter plan.now path.entry.now routes.now) }
@@ -208,7 +205,7 @@ fn text_on<'a, R: Threads + Wait + Sync, G: Gate>(
     requires token { running.table.initial.token ≡ plan.now.config.first_token }
     requires workers { running.table.initial.workers ≡ (limits_of plan.now).workers }
     requires full { IsFullBench running.table running.bench }
-    requires commands { All IsForWriter plan.now.commands.now }
+    requires orders { All IsForWriter plan.now.orders.now }
     requires addrs { All (λ a. a < 2 ^ 32) plan.now.addrs.now }
     requires few { versions < 2 ^ 63 }
     ensures text { IfOk result (λ v. IsTextOf plan.now versions v.items) }
@@ -260,17 +257,17 @@ fn ending_of<'a>(error: StormError) -> Failure<'a>
     }
 }
 
-// The commands that the updates ask for, but for the reports of workers.
-fn changes_of(alloc: Global, orders: &[Order]) -> Result<Vec<Command<24, 8>>, AllocError>
-    ensures { IfOk result (λ v. v.items ≡ storm_commands orders.now) }
+// The updates, but for the reports of workers.
+fn changes_of(alloc: Global, orders: &[Order]) -> Result<Vec<Order>, AllocError>
+    ensures { IfOk result (λ v. v.items ≡ changes_of orders.now) }
 {
-    let mut commands = Vec::new(alloc);
+    let mut changes = Vec::new(alloc);
     for order in orders {
         if is_change(order) {
-            commands.push(command_of(order))?;
+            changes.push(*order)?;
         }
     }
-    Ok(commands)
+    Ok(changes)
 }
 
 // Whether the update is one for the writer: a worker of a storm reports by itself.

@@ -2,7 +2,10 @@
 //! comes out.
 
 use super::asserting::{assert_at, assert_shown};
+use defer_queue::Reclaimed;
 use lpm_bits::{BadHop, Hop, Prefix};
+use lpm_limits::{Busy, Refusal};
+use lpm_rules::Put;
 use route_text::{
     Fault, FaultKind, Order, Outcome, ReadError, Route, answers_text, outcomes_text,
     read_addresses, read_routes, read_updates, updates_text,
@@ -238,47 +241,35 @@ const LINES_OF_OUTCOMES: &str = "added\nreplaced\nunchanged\ndeleted 7\nflushed 
         refused 7 NoGroups worker 2 counter 17\nrefused 10 NoSuchWorker\nrefused 13 NotOnline\n\
         refused 14 AlreadyOnline\n";
 
+fn busy(worker: usize, counter: u64) -> Option<Busy> {
+    Some(Busy { worker, counter })
+}
+
 #[test]
 fn outcomes_are_written(rt: HostRuntime) -> Result<(), Fail> {
     let outcomes = [
-        Outcome::Added,
-        Outcome::Replaced,
-        Outcome::Unchanged,
+        Outcome::Put(Put::Added),
+        Outcome::Put(Put::Replaced),
+        Outcome::Put(Put::Unchanged),
         Outcome::Deleted(Hop::new(7)?),
         Outcome::Flushed(3),
-        Outcome::Reclaimed {
+        Outcome::Reclaimed(Reclaimed {
             freed: 1,
             stopped: None,
-        },
-        Outcome::Reclaimed {
+        }),
+        Outcome::Reclaimed(Reclaimed {
             freed: 0,
-            stopped: Some((0, 1)),
-        },
+            stopped: busy(0, 1),
+        }),
         Outcome::Told,
-        Outcome::Refused {
-            number: 4,
-            busy: None,
-        },
-        Outcome::Refused {
-            number: 7,
-            busy: None,
-        },
-        Outcome::Refused {
-            number: 7,
-            busy: Some((2, 17)),
-        },
-        Outcome::Refused {
-            number: 10,
-            busy: None,
-        },
-        Outcome::Refused {
-            number: 13,
-            busy: None,
-        },
-        Outcome::Refused {
-            number: 14,
-            busy: None,
-        },
+        Outcome::Refused(Refusal::NoSuchRule),
+        Outcome::Refused(Refusal::NoGroups { oldest: None }),
+        Outcome::Refused(Refusal::NoGroups {
+            oldest: busy(2, 17),
+        }),
+        Outcome::Refused(Refusal::NoSuchWorker),
+        Outcome::Refused(Refusal::NotOnline),
+        Outcome::Refused(Refusal::AlreadyOnline),
     ];
     let text = outcomes_text(rt.alloc(), &outcomes)?;
     assert_at(&rt, "text", text.as_slice(), LINES_OF_OUTCOMES.as_bytes());

@@ -7,9 +7,9 @@ use Rattle.std.proofs.Math.Seq.{drop-cons}
 use Rattle.std.proofs.lemmas.Fmt.{decimal_nonempty}
 use Rattle.std.proofs.lemmas.List.{append-nil, length-append, drop_all}
 use Rattle.lpm_bits.specs.Network.{Network, IsNetwork, network_bits}
-use Rattle.route_text.specs.declared.orders.Order.{Order}
-use Rattle.route_text.specs.declared.orders.Order.TheVariants as orders
-use Rattle.route_text.specs.declared.outcomes.Outcome.{Outcome}
+use Rattle.fib_model.specs.declared.orders.Order.{Order}
+use Rattle.fib_model.specs.declared.orders.Order.TheVariants as orders
+use Rattle.fib_model.specs.declared.orders.Outcome.{Outcome}
 use Rattle.route_text.specs.Lines.{lines, fields}
 use Rattle.route_text.specs.Fields.{IsAddress, IsNumber, IsPrefix}
 use Rattle.route_text.specs.Files.{StandsFor, AreItems}
@@ -20,7 +20,7 @@ use Rattle.route_text.proofs.FirstLine.{IsWritten, nil_lines, line_first}
 use Rattle.route_text.proofs.Plain.{IsPlain, plain_append, plain_decimal, plain_address, written_plain, written_append, one_field, field_before, prefix_of}
 
 -- one more line is written
-next_update : (o : Order) (os : List Order) → lines_of_updates (o ∷ os) ≡ update_line o ++ lines_of_updates os
+next_update : (o : Order 24 8) (os : List (Order 24 8)) → lines_of_updates (o ∷ os) ≡ update_line o ++ lines_of_updates os
 unfolding lines_of_updates
 next_update o os = refl
 
@@ -28,12 +28,12 @@ no_updates : lines_of_updates [] ≡ []
 unfolding lines_of_updates
 no_updates = refl
 
-pub more_updates : (os : List Order) (i : ℕ) (d : Order) → i < length os → lines_of_updates (drop i os) ≡ update_line (get_or os i d) ++ lines_of_updates (drop (i + 1) os)
+pub more_updates : (os : List (Order 24 8)) (i : ℕ) (d : Order 24 8) → i < length os → lines_of_updates (drop i os) ≡ update_line (get_or os i d) ++ lines_of_updates (drop (i + 1) os)
 more_updates os i d lt =
     ap lines_of_updates (drop-cons os i d lt) ∙ (next_update (get_or os i d) (drop (suc i) os)
     ∙ ap (λ n. update_line (get_or os i d) ++ lines_of_updates (drop n os)) (sym (add-one i)))
 
-pub all_updates : (os : List Order) (i : ℕ) → length os ≤ i → lines_of_updates (drop i os) ≡ []
+pub all_updates : (os : List (Order 24 8)) (i : ℕ) → length os ≤ i → lines_of_updates (drop i os) ≡ []
 all_updates os i le = ap lines_of_updates (drop_all i os le) ∙ no_updates
 
 next_outcome : (o : Outcome) (os : List Outcome) → outcome_lines (o ∷ os) ≡ outcome_line o ++ outcome_lines os
@@ -117,7 +117,7 @@ address_of addr small = record {
 }
 
 -- the text of a line, and what its fields spell
-record IsLineOf (n : ℕ) (text : List ℕ) (o : Order) : Type 0 where
+record IsLineOf (n : ℕ) (text : List ℕ) (o : Order 24 8) : Type 0 where
   pub written : IsWritten text
   pub stands : StandsFor SpellsUpdate n (fields text) (o ∷ [])
 
@@ -129,7 +129,7 @@ module _ (n : ℕ) (word : List ℕ) (is : IsWord word) (field : List ℕ) (plai
   one_written : IsWritten (word ++ 32 ∷ field)
   one_written = written_append word (32 ∷ field) (written_plain word is.plain) (omega arith, written_plain field plain)
 
-  line_of_one : (o : Order) → StandsFor SpellsUpdate n (word ∷ field ∷ []) (o ∷ []) → IsLineOf n (word ++ 32 ∷ field) o
+  line_of_one : (o : Order 24 8) → StandsFor SpellsUpdate n (word ∷ field ∷ []) (o ∷ []) → IsLineOf n (word ++ 32 ∷ field) o
   line_of_one o stands = record { written = one_written; stands = subst (λ fs. StandsFor SpellsUpdate n fs (o ∷ [])) (sym one_fields) stands }
 
 -- a line of a word and two fields
@@ -142,7 +142,7 @@ module _ (n : ℕ) (word : List ℕ) (is : IsWord word) (f g : List ℕ) (plain 
   two_written : IsWritten (word ++ 32 ∷ (f ++ 32 ∷ g))
   two_written = written_append word (32 ∷ (f ++ 32 ∷ g)) (written_plain word is.plain) (omega arith, written_append f (32 ∷ g) (written_plain f plain) (omega arith, written_plain g clean))
 
-  line_of_two : (o : Order) → StandsFor SpellsUpdate n (word ∷ f ∷ g ∷ []) (o ∷ []) → IsLineOf n (word ++ 32 ∷ (f ++ 32 ∷ g)) o
+  line_of_two : (o : Order 24 8) → StandsFor SpellsUpdate n (word ∷ f ∷ g ∷ []) (o ∷ []) → IsLineOf n (word ++ 32 ∷ (f ++ 32 ∷ g)) o
   line_of_two o stands = record { written = two_written; stands = subst (λ fs. StandsFor SpellsUpdate n fs (o ∷ [])) (sym two_fields) stands }
 
 -- a prefix is written as one field, which spells it
@@ -168,14 +168,14 @@ module _ (prefix : Network) (is : IsNetwork 32 prefix) where
       made x y = record { bits = x; len = y }
 
 module _ (n m : ℕ) (fits : m < 2 ^ 32) where
-  number_line : (word : List ℕ) → IsWord word → (o : Order) → StandsFor SpellsUpdate n (word ∷ decimal m ∷ []) (o ∷ []) → IsLineOf n (word ++ 32 ∷ decimal m) o
+  number_line : (word : List ℕ) → IsWord word → (o : Order 24 8) → StandsFor SpellsUpdate n (word ∷ decimal m ∷ []) (o ∷ []) → IsLineOf n (word ++ 32 ∷ decimal m) o
   number_line word is o = line_of_one n word is (decimal m) (plain_decimal m (omega arith)) (decimal_nonempty m (omega arith)) o
 
   is_number : (max : ℕ) → m ≤ max → IsNumber max (decimal m) m
   is_number max le = record { small = le; spelled = refl }
 
 -- each update is one line, which spells it
-line_of : (n : ℕ) (o : Order) → IsSound o → IsCountInRange o → IsLineOf n (update_text o) o
+line_of : (n : ℕ) (o : Order 24 8) → IsSound o → IsCountInRange o → IsLineOf n (update_text o) o
 line_of n (orders.Add prefix hop) sound fine =
     let regroup : addition_text prefix hop ≡ codes "add" ++ 32 ∷ (prefix_text prefix ++ 32 ∷ decimal hop) = ap (λ t. 97 ∷ 100 ∷ 100 ∷ 32 ∷ t) (append_assoc (prefix_text prefix) (32 ∷ []) (decimal hop)) in
     let fits : hop < 2 ^ 64 = omega (arith, sound.1) in
@@ -194,7 +194,7 @@ line_of n (orders.Offline worker) sound fine = number_line n worker sound (codes
 line_of n (orders.Quiescent worker) sound fine = number_line n worker sound (codes "quiescent") quiescent_word (orders.Quiescent worker) (λ skipped. absurd (omega (arith, skipped)), (refl, is_number n worker sound 4294967295 (omega (arith, sound))))
 
 -- the lines of updates are items, one each
-items_of : (n : ℕ) (os : List Order) → All IsSound os → All IsCountInRange os → AreItems SpellsUpdate n (lines (lines_of_updates os)) os
+items_of : (n : ℕ) (os : List (Order 24 8)) → All IsSound os → All IsCountInRange os → AreItems SpellsUpdate n (lines (lines_of_updates os)) os
 items_of n [] sound fine = subst (λ ls. AreItems SpellsUpdate n ls []) (sym (ap lines no_updates ∙ nil_lines)) refl
 items_of n (o ∷ os) sound fine =
     let line = line_of n o (sound 0 o (omega arith)) (fine 0 o (omega arith)) in
@@ -206,7 +206,7 @@ written_header : IsWritten header
 written_header = no_lower header refl
 
 -- what is written is read back
-pub read_back : (os : List Order) → All IsSound os → All IsCountInRange os → AreUpdates (update_lines os) os
+pub read_back : (os : List (Order 24 8)) → All IsSound os → All IsCountInRange os → AreUpdates (update_lines os) os
 read_back os sound fine =
     let split : lines (update_lines os) ≡ header ∷ lines (lines_of_updates os) = line_first header written_header (lines_of_updates os) in
     (subst StartsHeader (sym split) refl, subst (λ ls. AreItems SpellsUpdate 2 (after_first ls) os) (sym split) (items_of 2 os sound fine))

@@ -1,7 +1,7 @@
 //! Pieces of lines that are written.
 ghost use Rattle.std.specs.Prelude.{◌≡◌, ◌++◌, OnOk, decimal};
 ghost use Rattle.lpm_bits.specs.Network.{IsNetwork};
-ghost use Rattle.route_text.specs.Texts.{address_text, prefix_text, holder_text};
+ghost use Rattle.route_text.specs.Texts.{address_text, prefix_text};
 
 use crate::answers::{ADDRESS_ROOM, put_address};
 use itoa::Buffer;
@@ -15,14 +15,6 @@ pub(crate) fn put_named(text: &mut Vec<u8>, name: &[u8], number: u64) -> Result<
     let mut buffer = Buffer::new();
     text.extend_from_slice(name)?;
     text.extend_from_slice(buffer.format(number).as_bytes())
-}
-
-/// Adds a worker and its counter.
-pub(crate) fn put_holder(text: &mut Vec<u8>, worker: usize, counter: u64) -> Result<(), AllocError>
-    ensures { OnOk result (text.new.items ≡ text.old.items ++ holder_text worker counter) }
-{
-    put_named(text, b" worker ", worker as u64)?;
-    put_named(text, b" counter ", counter)
 }
 
 /// Adds the address as four octets.

@@ -4,8 +4,8 @@ ghost use Rattle.route_text.specs.Texts.{update_text, update_line, update_lines}
 ghost use Rattle.route_text.specs.Texts.{addition_text, deletion_text};
 ghost use Rattle.route_text.specs.Updates.{AreUpdates, IsCountInRange};
 ghost use Rattle.route_text.specs.Values.{IsSound};
-ghost use Rattle.route_text.specs.declared.orders.Order.{Order};
-ghost use Rattle.route_text.specs.declared.orders.Order.TheVariants as orders;
+ghost use Rattle.fib_model.specs.declared.orders.Order.{Order};
+ghost use Rattle.fib_model.specs.declared.orders.Order.TheVariants as orders;
 
 use crate::Order;
 use crate::pieces::{put_named, put_prefix};
@@ -66,7 +66,7 @@ pub fn updates_text(alloc: Global, orders: &[Order]) -> Result<Vec<u8>, AllocErr
     ensures text { IfOk result (λ v. v.items ≡ update_lines orders.now) }
     ensures reads_back { IfOk result (λ v. AreUpdates v.items orders.now) }
     ensures alone { IfOk result (λ v.
-        (others : List Order) → AreUpdates v.items others → others ≡ orders.now) }
+        (others : List (Order 24 8)) → AreUpdates v.items others → others ≡ orders.now) }
 {
     let mut text = Vec::from_slice(alloc, b"lpm-updates 2\n")?;
     for order in orders {

@@ -13,10 +13,10 @@ use Rattle.lpm_rules.specs.Listed.{rules_of, with_rules}
 use Rattle.lpm_rules.specs.declared.Rule.{Rule}
 use Rattle.lpm_rules.specs.declared.Change.{Change}
 use Rattle.lpm_rules.specs.declared.Put.TheVariants.{Added, Replaced, Unchanged}
-use Rattle.fib_model.specs.declared.command.Command.{Command}
-use Rattle.fib_model.specs.declared.command.Command.TheVariants as command
-use Rattle.fib_model.specs.declared.command.Outcome.{Outcome}
-use Rattle.fib_model.specs.declared.command.Outcome.TheVariants as outcome
+use Rattle.fib_model.specs.declared.orders.Order.{Order}
+use Rattle.fib_model.specs.declared.orders.Order.TheVariants as order
+use Rattle.fib_model.specs.declared.orders.Outcome.{Outcome}
+use Rattle.fib_model.specs.declared.orders.Outcome.TheVariants as outcome
 use Rattle.audit.specs.Wrong.{AreWrong, IsOfSomeVersion, version_of}
 use Rattle.storm.specs.Changing.{addition_of, change_by, changes_by}
 
@@ -74,21 +74,23 @@ module _ (f s : ℕ) where
   none_wrong R history (x ∷ xs) n all (inl (wrong, rest)) = absurd (wrong (All-head (IsOfSomeVersion R history) x xs all))
   none_wrong R history (x ∷ xs) n all (inr (right, rest)) = none_wrong R history xs n (All-tail (IsOfSomeVersion R history) x xs all) rest
 
-  one_change : (c : Command f s) (o : Outcome) → length (change_by c o) ≤ 1
-  one_change (command.Add p h) (outcome.Put Added) = omega arith
-  one_change (command.Add p h) (outcome.Put Replaced) = omega arith
-  one_change (command.Add p h) (outcome.Put Unchanged) = omega arith
-  one_change (command.Add p h) other = omega arith
-  one_change (command.Delete p) (outcome.Deleted h) = omega arith
-  one_change (command.Delete p) other = omega arith
-  one_change command.Flush (outcome.Flushed zero) = omega arith
-  one_change command.Flush (outcome.Flushed (suc n)) = omega arith
-  one_change command.Flush other = omega arith
-  one_change (command.Reclaim max) out = omega arith
-  one_change (command.Report report worker) out = omega arith
+  one_change : (c : Order f s) (o : Outcome) → length (change_by c o) ≤ 1
+  one_change (order.Add p h) (outcome.Put Added) = omega arith
+  one_change (order.Add p h) (outcome.Put Replaced) = omega arith
+  one_change (order.Add p h) (outcome.Put Unchanged) = omega arith
+  one_change (order.Add p h) other = omega arith
+  one_change (order.Del p) (outcome.Deleted h) = omega arith
+  one_change (order.Del p) other = omega arith
+  one_change order.Flush (outcome.Flushed zero) = omega arith
+  one_change order.Flush (outcome.Flushed (suc n)) = omega arith
+  one_change order.Flush other = omega arith
+  one_change (order.Reclaim max) out = omega arith
+  one_change (order.Online worker) out = omega arith
+  one_change (order.Offline worker) out = omega arith
+  one_change (order.Quiescent worker) out = omega arith
 
   -- no command makes more than one change
-  pub changes_within : (cs : List (Command f s)) (os : List Outcome) → length (changes_by cs os) ≤ length cs
+  pub changes_within : (cs : List (Order f s)) (os : List Outcome) → length (changes_by cs os) ≤ length cs
   changes_within [] os = omega arith
   changes_within (c ∷ cs) [] = omega arith
   changes_within (c ∷ cs) (o ∷ os) =
@@ -96,7 +98,7 @@ module _ (f s : ℕ) where
       let rest = changes_within cs os in
       omega (arith, one, rest, length-append (change_by c o) (changes_by cs os))
 
-  pub changes_more : (cs : List (Command f s)) (os : List Outcome) (c : Command f s) (o : Outcome) → length cs ≡ length os
+  pub changes_more : (cs : List (Order f s)) (os : List Outcome) (c : Order f s) (o : Outcome) → length cs ≡ length os
       → changes_by (cs ++ c ∷ []) (os ++ o ∷ []) ≡ changes_by cs os ++ change_by c o
   changes_more [] [] c o e = append_nil (change_by c o)
   changes_more [] (x ∷ os) c o e = absurd (omega (arith, e))
@@ -106,14 +108,14 @@ module _ (f s : ℕ) where
       ∙ sym (append_assoc (change_by y x) (changes_by cs os) (change_by c o))
 
   -- the next of the commands, with its outcome
-  pub changes_next : (cs : List (Command f s)) (os : List Outcome) (i : ℕ) (c : Command f s) (o : Outcome) → i < length cs
+  pub changes_next : (cs : List (Order f s)) (os : List Outcome) (i : ℕ) (c : Order f s) (o : Outcome) → i < length cs
       → length os ≡ length cs → c ≡ get_or cs i c → o ≡ get_or os i o
       → changes_by (take (i + 1) cs) (take (i + 1) os) ≡ changes_by (take i cs) (take i os) ++ change_by c o
-  changes_next cs os i c o low many command outcome =
+  changes_next cs os i c o low many order outcome =
       let here : i < length os = omega (arith, low, many) in
       let as_many : length (take i cs) ≡ length (take i os) = length-take i cs ∙ (ap (min i) (sym many) ∙ sym (length-take i os)) in
-      ap (λ (xs : List (Command f s)). changes_by xs (take (i + 1) os))
-      (take_more cs i c low ∙ ap (λ (x : Command f s). take i cs ++ x ∷ []) (sym command))
+      ap (λ (xs : List (Order f s)). changes_by xs (take (i + 1) os))
+      (take_more cs i c low ∙ ap (λ (x : Order f s). take i cs ++ x ∷ []) (sym order))
       ∙ (ap (λ (ys : List Outcome). changes_by (take i cs ++ c ∷ []) ys)
       (take_more os i o here ∙ ap (λ (y : Outcome). take i os ++ y ∷ []) (sym outcome))
       ∙ changes_more (take i cs) (take i os) c o as_many)

@@ -10,10 +10,10 @@ use Rattle.lpm_rules.specs.Longest.{IsLongestHop}
 use Rattle.lpm_rules.specs.declared.Change.{Change}
 use Rattle.lpm_rules.specs.declared.Put.TheVariants.{Added, Replaced, Unchanged}
 use Rattle.lpm_rules.proofs.LastChange.{rules_after-append}
-use Rattle.fib_model.specs.declared.command.Command.{Command}
-use Rattle.fib_model.specs.declared.command.Command.TheVariants as command
-use Rattle.fib_model.specs.declared.command.Outcome.{Outcome}
-use Rattle.fib_model.specs.declared.command.Outcome.TheVariants as outcome
+use Rattle.fib_model.specs.declared.orders.Order.{Order}
+use Rattle.fib_model.specs.declared.orders.Order.TheVariants as order
+use Rattle.fib_model.specs.declared.orders.Outcome.{Outcome}
+use Rattle.fib_model.specs.declared.orders.Outcome.TheVariants as outcome
 use Rattle.fib_model.specs.State.{State, Keeping}
 use Rattle.fib_model.specs.Outcomes.{Does}
 use Rattle.lpm_trace.specs.declared.step.WriterStep.{WriterStep}
@@ -29,14 +29,14 @@ use Rattle.storm.specs.Changing.{HasVersions, IsForWriter, by_own_steps, change_
 use Rattle.storm.specs.Looking.{IsOfAStandingVersion, answer_of}
 use Rattle.storm.specs.Storm.{Settles}
 use Rattle.shared_fib.proofs.Later.{steps_go_on}
-use Rattle.storm.proofs.Later.{command_later}
+use Rattle.storm.proofs.Later.{order_later}
 
 -- ---- one command
 
 -- a command leaves the rules after its change, and begins an update where it made one
 record Comes {X : Type 0} {f g : ℕ} (s z : State X) (changes : List (Change f g)) : Type 0 where
   rules : z.rules ≡ rules_after s.rules changes
-  updates_begun_in : z.begun ≡ s.begun + length changes
+  begun : z.begun ≡ s.begun + length changes
   few : length changes ≤ 1
 
 module _ {X : Type 0} {f g : ℕ} (s z : State X) where
@@ -54,33 +54,35 @@ module _ {X : Type 0} {f g : ℕ} (s z : State X) where
   kept_rules : z.rules ≡ s.rules → z.begun ≡ s.begun → Comes {X = X} {f = f} {g = g} s z []
   kept_rules rules count = record { rules = rules; begun = omega (arith, count); few = omega arith }
 
-comes : {X : Type 0} (k : Keeping X) (f g : ℕ) (c : Config) (s z : State X) (order : Command f g) (out : Outcome)
+comes : {X : Type 0} (k : Keeping X) (f g : ℕ) (c : Config) (s z : State X) (order : Order f g) (out : Outcome)
     → IsForWriter order → Does k f g c s order out z → Comes s z (change_by order out)
-comes k f g c s z (command.Add p h) (outcome.Put Added) mine d = a_change s z _ d.2.0 d.2.1
-comes k f g c s z (command.Add p h) (outcome.Put Replaced) mine d = a_change s z _ d.3.0 d.3.1
-comes k f g c s z (command.Add p h) (outcome.Put Unchanged) mine d = no_change s z d.1
-comes k f g c s z (command.Add p h) (outcome.Refused TooManyRules) mine d = no_change s z d.3
-comes k f g c s z (command.Add p h) (outcome.Refused Exhausted) mine d = no_change s z d.2
-comes {X} k f g c s z (command.Add p h) (outcome.Refused (NoGroups oldest)) mine d =
+comes k f g c s z (order.Add p h) (outcome.Put Added) mine d = a_change s z _ d.2.0 d.2.1
+comes k f g c s z (order.Add p h) (outcome.Put Replaced) mine d = a_change s z _ d.3.0 d.3.1
+comes k f g c s z (order.Add p h) (outcome.Put Unchanged) mine d = no_change s z d.1
+comes k f g c s z (order.Add p h) (outcome.Refused TooManyRules) mine d = no_change s z d.3
+comes k f g c s z (order.Add p h) (outcome.Refused Exhausted) mine d = no_change s z d.2
+comes {X} k f g c s z (order.Add p h) (outcome.Refused (NoGroups oldest)) mine d =
     kept_rules s z (ap (λ (x : State X). x.rules) d.3) (ap (λ (x : State X). x.begun) d.3)
-comes k f g c s z (command.Add p h) (outcome.Refused Memory) mine d = no_change s z d.1
-comes k f g c s z (command.Add p h) (outcome.Refused other) mine d = absurd d
-comes k f g c s z (command.Add p h) other mine d = absurd d
-comes k f g c s z (command.Delete p) (outcome.Deleted h) mine d = a_change s z _ d.1.2.0 d.1.2.1
-comes k f g c s z (command.Delete p) (outcome.Refused NoSuchRule) mine d = no_change s z d.1
-comes k f g c s z (command.Delete p) (outcome.Refused Exhausted) mine d = no_change s z d.2
-comes k f g c s z (command.Delete p) (outcome.Refused other) mine d = absurd d
-comes k f g c s z (command.Delete p) other mine d = absurd d
-comes k f g c s z command.Flush (outcome.Flushed zero) mine d = no_change s z (d.1 refl)
-comes k f g c s z command.Flush (outcome.Flushed (suc n)) mine d =
+comes k f g c s z (order.Add p h) (outcome.Refused Memory) mine d = no_change s z d.1
+comes k f g c s z (order.Add p h) (outcome.Refused other) mine d = absurd d
+comes k f g c s z (order.Add p h) other mine d = absurd d
+comes k f g c s z (order.Del p) (outcome.Deleted h) mine d = a_change s z _ d.1.2.0 d.1.2.1
+comes k f g c s z (order.Del p) (outcome.Refused NoSuchRule) mine d = no_change s z d.1
+comes k f g c s z (order.Del p) (outcome.Refused Exhausted) mine d = no_change s z d.2
+comes k f g c s z (order.Del p) (outcome.Refused other) mine d = absurd d
+comes k f g c s z (order.Del p) other mine d = absurd d
+comes k f g c s z order.Flush (outcome.Flushed zero) mine d = no_change s z (d.1 refl)
+comes k f g c s z order.Flush (outcome.Flushed (suc n)) mine d =
     let shrinks = d.2 (omega arith) in a_change s z _ shrinks.2.0 shrinks.2.1
-comes k f g c s z command.Flush (outcome.Refused Exhausted) mine d = no_change s z d.2
-comes k f g c s z command.Flush (outcome.Refused other) mine d = absurd d
-comes k f g c s z command.Flush other mine d = absurd d
-comes {X} k f g c s z (command.Reclaim max) (outcome.Reclaimed r) mine d =
+comes k f g c s z order.Flush (outcome.Refused Exhausted) mine d = no_change s z d.2
+comes k f g c s z order.Flush (outcome.Refused other) mine d = absurd d
+comes k f g c s z order.Flush other mine d = absurd d
+comes {X} k f g c s z (order.Reclaim max) (outcome.Reclaimed r) mine d =
     kept_rules s z (ap (λ (x : State X). x.rules) d.1) (ap (λ (x : State X). x.begun) d.1)
-comes k f g c s z (command.Reclaim max) other mine d = absurd d
-comes k f g c s z (command.Report report w) out mine d = absurd mine
+comes k f g c s z (order.Reclaim max) other mine d = absurd d
+comes k f g c s z (order.Online w) out mine d = absurd mine
+comes k f g c s z (order.Offline w) out mine d = absurd mine
+comes k f g c s z (order.Quiescent w) out mine d = absurd mine
 
 -- settling makes no version
 pub settled_versions : (id : Identity) (last end : WriterState) → Settles id last end → end.table.begun ≡ last.table.begun
@@ -145,14 +147,14 @@ module _ (f g : ℕ) where
       ];
     }
 
-  pub versions_next : (R : RuleMap) (id : Identity) (config : Config) (w z : WriterState) (before : List (Change f g)) (order : Command f g) (out : Outcome)
+  pub versions_next : (R : RuleMap) (id : Identity) (config : Config) (w z : WriterState) (before : List (Change f g)) (order : Order f g) (out : Outcome)
       → HasVersions R w before → w.identity ≡ id → z.identity ≡ id → IsForWriter order → IsAtRest z
       → Does (by_own_steps id.initial) f g config w.table order out z.table → HasVersions R z (before ++ change_by order out)
   unfolding by_steps
   versions_next R id config w z before order out has own own' mine rests does =
       let keeping : Keeping (List WriterStep) = by_own_steps id.initial in
       versions_more R id w z before (change_by order out) has own own'
-      (command_later keeping (steps_go_on id.initial.workers id.initial.token) f g config w.table z.table order out mine does) rests
+      (order_later keeping (steps_go_on id.initial.workers id.initial.token) f g config w.table z.table order out mine does) rests
       (comes keeping f g config w.table z.table order out mine does)
 
   -- ---- answers

@@ -9,10 +9,10 @@ use Rattle.lpm_rules.specs.declared.Rule.{Rule}
 use Rattle.lpm_rules.specs.declared.Change.{Change}
 use Rattle.lpm_rules.specs.declared.Change.TheVariants as change
 use Rattle.lpm_rules.specs.declared.Put.TheVariants.{Added, Replaced}
-use Rattle.fib_model.specs.declared.command.Command.{Command}
-use Rattle.fib_model.specs.declared.command.Command.TheVariants as command
-use Rattle.fib_model.specs.declared.command.Outcome.{Outcome}
-use Rattle.fib_model.specs.declared.command.Outcome.TheVariants as outcome
+use Rattle.fib_model.specs.declared.orders.Order.{Order}
+use Rattle.fib_model.specs.declared.orders.Order.TheVariants as order
+use Rattle.fib_model.specs.declared.orders.Outcome.{Outcome}
+use Rattle.fib_model.specs.declared.orders.Outcome.TheVariants as outcome
 use Rattle.fib_model.specs.State.{Keeping}
 use Rattle.fib_model.specs.Outcomes.{Runs, log_after}
 use Rattle.lpm_trace.specs.declared.step.WriterStep.{WriterStep}
@@ -31,17 +31,19 @@ by_own_steps initial = record {
 }
 
 -- the command is one for the writer, and no report of a worker
-abbrev pub IsForWriter : {first second : ℕ} → Command first second → Type 0
-IsForWriter (command.Report report worker) = ⊥
+abbrev pub IsForWriter : {first second : ℕ} → Order first second → Type 0
+IsForWriter (order.Online worker) = ⊥
+IsForWriter (order.Offline worker) = ⊥
+IsForWriter (order.Quiescent worker) = ⊥
 IsForWriter other = Unit {0}
 
 -- the change of the rule list that a command made; a rule that stays, a refused command, a flush of no
 -- rules and a reclaim make none
-abbrev pub change_by : {first second : ℕ} → Command first second → Outcome → List (Change first second)
-change_by (command.Add p h) (outcome.Put Added) = change.Add p h ∷ []
-change_by (command.Add p h) (outcome.Put Replaced) = change.Add p h ∷ []
-change_by (command.Delete p) (outcome.Deleted h) = change.Delete p ∷ []
-change_by command.Flush (outcome.Flushed (suc n)) = change.Flush ∷ []
+abbrev pub change_by : {first second : ℕ} → Order first second → Outcome → List (Change first second)
+change_by (order.Add p h) (outcome.Put Added) = change.Add p h ∷ []
+change_by (order.Add p h) (outcome.Put Replaced) = change.Add p h ∷ []
+change_by (order.Del p) (outcome.Deleted h) = change.Delete p ∷ []
+change_by order.Flush (outcome.Flushed (suc n)) = change.Flush ∷ []
 change_by other outcome = []
 
 -- the change that puts a rule in
@@ -49,12 +51,12 @@ abbrev pub addition_of : {first second : ℕ} → Rule first second → Change f
 addition_of r = change.Add r.prefix r.hop
 
 -- the accepted changes of these commands, in order, by what came of each
-abbrev pub changes_by : {first second : ℕ} → List (Command first second) → List Outcome
+abbrev pub changes_by : {first second : ℕ} → List (Order first second) → List Outcome
     → List (Change first second)
 changes_by [] outcomes = []
-changes_by (command ∷ commands) [] = []
-changes_by (command ∷ commands) (outcome ∷ outcomes) =
-    change_by command outcome ++ changes_by commands outcomes
+changes_by (order ∷ orders) [] = []
+changes_by (order ∷ orders) (outcome ∷ outcomes) =
+    change_by order outcome ++ changes_by orders outcomes
 
 -- the versions of the writer are those of these changes, from the rules R on: as many were begun, its rules
 -- are those after all of them, and for each k the rules of version k are those after the first k
@@ -77,14 +79,14 @@ pub record IsOpened (first second : ℕ) (config : Config) (id : Identity) : Typ
 -- outcomes, in order, which came out so, and left it like this, with the versions of the accepted changes
 -- from the table's first rules on
 pub record HasMade {first second : ℕ} (id : Identity) (config : Config)
-    (commands : List (Command first second)) (outcomes : List Outcome) (w : WriterState) : Type 0 where
+    (orders : List (Order first second)) (outcomes : List Outcome) (w : WriterState) : Type 0 where
   pub opened : IsOpened first second config id
   pub identity : w.identity ≡ id
   pub limits : w.config ≡ config
-  pub some : length outcomes ≤ length commands
+  pub some : length outcomes ≤ length orders
   pub runs : Runs (by_own_steps id.initial) first second config
-      (initial_writer id config id.initial.rules).table (log_after [] commands outcomes) w.table
-  pub versions : HasVersions id.initial.rules w (changes_by commands outcomes)
+      (initial_writer id config id.initial.rules).table (log_after [] orders outcomes) w.table
+  pub versions : HasVersions id.initial.rules w (changes_by orders outcomes)
 
 abbrev pub is_refused : Outcome → Bool
 is_refused (outcome.Refused refusal) = true

@@ -5,8 +5,8 @@ use Rattle.lpm_limits.specs.declared.config.Config.{Config}
 use Rattle.lpm_limits.specs.declared.refusal.Refusal.TheVariants as refusals
 use Rattle.lpm_limits.specs.Limits.{IsConfig}
 use Rattle.lpm_rules.specs.Listed.{rules_of}
-use Rattle.fib_model.specs.declared.command.Outcome.{Outcome}
-use Rattle.fib_model.specs.declared.command.Outcome.TheVariants as outcome
+use Rattle.fib_model.specs.declared.orders.Outcome.{Outcome}
+use Rattle.fib_model.specs.declared.orders.Outcome.TheVariants as outcome
 use Rattle.shared_fib.specs.Running.{Identity, WriterState, token_of}
 use Rattle.storm.specs.declared.plan.Plan.{Plan}
 use Rattle.storm.specs.declared.plan.StormError.{StormError}
@@ -39,9 +39,9 @@ IsTooMuch p = (¬ IsConfig (limits_of p)) ⊎ (most_answers < answer_count p)
 -- memory that wasn't there
 pub record HasMadeAll {first second : ℕ} (p : Plan first second) (id : Identity) (outcomes : List Outcome)
     (w : WriterState) : Type 0 where
-  pub made : HasMade id (limits_of p) p.commands.now outcomes w
+  pub made : HasMade id (limits_of p) p.orders.now outcomes w
   pub rules : id.initial.rules ≡ rules_of p.rules.now
-  pub all : length outcomes ≡ length p.commands.now
+  pub all : length outcomes ≡ length p.orders.now
   pub had_memory : All (λ o. o ≢ outcome.Refused refusals.Memory) outcomes
 
 -- after all commands fewer tokens than groups were left

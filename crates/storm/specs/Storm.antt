@@ -1,7 +1,7 @@
 -- Meaning: what comes of a storm (this project's: every answer is held against the versions of the rules).
 use Rattle.std.specs.Prelude.{ℕ, ◌≡◌, ◌+◌, List, [], All, length}
 use Rattle.std.specs.FinMap.{len}
-use Rattle.fib_model.specs.declared.command.Outcome.{Outcome}
+use Rattle.fib_model.specs.declared.orders.Outcome.{Outcome}
 use Rattle.fib_model.specs.Outcomes.{Frees, groups_in_use}
 use Rattle.lpm_rules.specs.Listed.{rules_of}
 use Rattle.lpm_writer.specs.Steps.{Synchronizes}
@@ -52,13 +52,13 @@ pub record IsStorm {first second : ℕ} (p : Plan first second) (r : StormReport
   pub count : length passes ≡ p.config.workers
   pub workers : AreOfWorkers passes
   pub looked : All (HasLookedUp id p.addrs.now p.rounds (steps_of last)) passes
-  pub right : All (IsOfSomeVersion (rules_of p.rules.now) (changes_by p.commands.now outcomes))
+  pub right : All (IsOfSomeVersion (rules_of p.rules.now) (changes_by p.orders.now outcomes))
       (answers_of_passes passes)
   pub settles : Settles id last end
   pub answered : r.answers ≡ answer_count p
   pub refused : r.refused ≡ refused_among outcomes
-  pub versions : r.table.versions ≡ length (changes_by p.commands.now outcomes)
-  pub counted : AreWrong (rules_of p.rules.now) (changes_by p.commands.now outcomes)
+  pub versions : r.table.versions ≡ length (changes_by p.orders.now outcomes)
+  pub counted : AreWrong (rules_of p.rules.now) (changes_by p.orders.now outcomes)
       (answers_of_passes passes) r.wrong
   pub wrong : r.wrong ≡ 0
   pub limbo : r.table.limbo ≡ 0

@@ -1,7 +1,7 @@
 -- This layer's own: what a thread of a storm has before it (this project's).
 use Rattle.std.specs.Prelude.{ℕ, ◌≡◌, List}
 use Rattle.lpm_limits.specs.declared.config.Config.{Config}
-use Rattle.fib_model.specs.declared.command.Command.{Command}
+use Rattle.fib_model.specs.declared.orders.Order.{Order}
 use Rattle.shared_fib.specs.Running.{Identity}
 use Rattle.storm.specs.declared.changing.Updates.{Updates}
 use Rattle.storm.specs.declared.looking.Lookups.{Lookups}
@@ -15,7 +15,7 @@ pub record AreLookups {first second : ℕ} (id : Identity) (addrs : List ℕ) (r
 
 -- these commands, by this table of these limits
 pub record AreUpdates {first second : ℕ} (id : Identity) (limits : Config)
-    (commands : List (Command first second)) (u : Updates first second) : Type 0 where
+    (orders : List (Order first second)) (u : Updates first second) : Type 0 where
   pub table : u.table.now ≡ id
   pub limited : u.limits ≡ limits
-  pub list : u.commands.now ≡ commands
+  pub list : u.orders.now ≡ orders

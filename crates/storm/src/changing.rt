@@ -6,7 +6,7 @@ ghost use Rattle.shared_fib.specs.Running.{initial_state};
 ghost use Rattle.storm.specs.Changing.{HasMade, IsForWriter, by_own_steps};
 
 use bulk::Gate;
-use fib_model::{Command, Outcome};
+use fib_model::{Order, Outcome};
 use qsbr::{Config, Refusal};
 use shared_fib::{SharedTable, Writer};
 use std::sync::atomic::{AtomicBool, Ordering};
@@ -19,7 +19,7 @@ pub struct Updates<'a, const FIRST: u32, const SECOND: u32> {
     /// The limits that the table was opened with.
     pub limits: Config,
     /// The commands, in their order. None is a report of a worker.
-    pub commands: &'a [Command<FIRST, SECOND>],
+    pub orders: &'a [Order<FIRST, SECOND>],
     pub stop: &'a AtomicBool,
 }
 
@@ -35,30 +35,30 @@ pub struct Recorder<const FIRST: u32, const SECOND: u32> {
 fn execute<const FIRST: u32, const SECOND: u32>(
     table: &SharedTable<FIRST, SECOND>,
     writer: &mut Writer<FIRST, SECOND>,
-    command: &Command<FIRST, SECOND>,
+    order: &Order<FIRST, SECOND>,
 ) -> Outcome
     requires own { writer.old.identity ≡ table.now }
-    requires command { IsForWriter command.now }
+    requires order { IsForWriter order.now }
     ensures does { Does (by_own_steps table.now.initial) FIRST SECOND writer.old.config
-        writer.old.table command.now result writer.new.table }
+        writer.old.table order.now result writer.new.table }
     ensures own { writer.new.identity ≡ writer.old.identity }
     ensures config { writer.new.config ≡ writer.old.config }
 {
-    match command {
-        Command::Add(prefix, hop) => match writer.add(table, prefix, *hop) {
+    match order {
+        Order::Add(prefix, hop) => match writer.add(table, prefix, *hop) {
             Ok(put) => return Outcome::Put(put),
             Err(refusal) => return Outcome::Refused(refusal),
         },
-        Command::Delete(prefix) => match writer.delete(table, prefix) {
+        Order::Del(prefix) => match writer.delete(table, prefix) {
             Ok(hop) => return Outcome::Deleted(hop),
             Err(refusal) => return Outcome::Refused(refusal),
         },
-        Command::Flush => match writer.flush(table) {
+        Order::Flush => match writer.flush(table) {
             Ok(count) => return Outcome::Flushed(count),
             Err(refusal) => return Outcome::Refused(refusal),
         },
-        Command::Reclaim(max) => return Outcome::Reclaimed(writer.reclaim(table, *max)),
-        Command::Report(..) => unreachable!(),
+        Order::Reclaim(max) => return Outcome::Reclaimed(writer.reclaim(table, *max)),
+        Order::Online(_) | Order::Offline(_) | Order::Quiescent(_) => unreachable!(),
     }
 }
 
@@ -77,22 +77,18 @@ fn record<const FIRST: u32, const SECOND: u32>(
     recorder: &mut Recorder<FIRST, SECOND>,
     index: usize,
 ) -> Outcome
-    requires made { HasMade updates.now.table.now updates.now.limits updates.now.commands.now
+    requires made { HasMade updates.now.table.now updates.now.limits updates.now.orders.now
         recorder.old.outcomes.items recorder.old.writer }
-    requires index { index < length updates.now.commands.now }
+    requires index { index < length updates.now.orders.now }
     requires next { vec_len recorder.old.outcomes ≡ index }
     requires room { index < vec_capacity recorder.old.outcomes }
-    requires commands { All IsForWriter updates.now.commands.now }
-    ensures made { HasMade updates.now.table.now updates.now.limits updates.now.commands.now
+    requires orders { All IsForWriter updates.now.orders.now }
+    ensures made { HasMade updates.now.table.now updates.now.limits updates.now.orders.now
         recorder.new.outcomes.items recorder.new.writer }
     ensures outcomes { recorder.new.outcomes.items ≡ recorder.old.outcomes.items ++ result ∷ [] }
     ensures capacity { vec_capacity recorder.old.outcomes ≤ vec_capacity recorder.new.outcomes }
 {
-    let outcome = execute(
-        updates.table,
-        &mut recorder.writer,
-        &updates.commands[index],
-    );
+    let outcome = execute(updates.table, &mut recorder.writer, &updates.orders[index]);
     recorder.writer.at_rest();
     note(&mut recorder.outcomes, &outcome);
     outcome
@@ -106,15 +102,15 @@ pub fn change_all<G: Gate, const FIRST: u32, const SECOND: u32>(
     gate: &G,
     mut recorder: Recorder<FIRST, SECOND>,
 ) -> Recorder<FIRST, SECOND>
-    requires made { HasMade updates.now.table.now updates.now.limits updates.now.commands.now
+    requires made { HasMade updates.now.table.now updates.now.limits updates.now.orders.now
         recorder.outcomes.items recorder.writer }
     requires new { vec_len recorder.outcomes ≡ 0 }
-    requires room { length updates.now.commands.now ≤ vec_capacity recorder.outcomes }
-    requires commands { All IsForWriter updates.now.commands.now }
-    ensures made { HasMade updates.now.table.now updates.now.limits updates.now.commands.now
+    requires room { length updates.now.orders.now ≤ vec_capacity recorder.outcomes }
+    requires orders { All IsForWriter updates.now.orders.now }
+    ensures made { HasMade updates.now.table.now updates.now.limits updates.now.orders.now
         result.outcomes.items result.writer }
 {
-    for index in 0..updates.commands.len() {
+    for index in 0..updates.orders.len() {
         if updates.stop.load(Ordering::SeqCst) {
             return recorder;
         }

@@ -105,15 +105,15 @@ fn begin<const FIRST: u32, const SECOND: u32>(
     requires new { writer ≡ initial_writer table.now limits (rules_of plan.now.rules.now) }
     requires token { table.now.initial.token ≡ limits.first_token }
     requires workers { table.now.initial.workers ≡ limits.workers }
-    ensures made { IfOk result (λ r. HasMade table.now limits plan.now.commands.now
+    ensures made { IfOk result (λ r. HasMade table.now limits plan.now.orders.now
         r.outcomes.items r.writer) }
     ensures rules { IfOk result (λ _. table.now.initial.rules ≡ rules_of plan.now.rules.now) }
     ensures none { IfOk result (λ r. vec_len r.outcomes ≡ 0) }
-    ensures room { IfOk result (λ r. length plan.now.commands.now ≤ vec_capacity r.outcomes) }
+    ensures room { IfOk result (λ r. length plan.now.orders.now ≤ vec_capacity r.outcomes) }
 {
     table.has_widths();
     writer.at_rest();
-    let outcomes = Vec::with_capacity(alloc, plan.commands.len())?;
+    let outcomes = Vec::with_capacity(alloc, plan.orders.len())?;
     Ok(Recorder { writer, outcomes })
 }
 
@@ -139,7 +139,7 @@ fn finish<R: Threads + Wait + Sync, const FIRST: u32, const SECOND: u32>(
     ensures storm { IfOk result (IsStorm plan.now) }
     ensures wrong { IfOk result (λ r. r.wrong ≡ 0) }
     ensures limbo { IfOk result (λ r. r.table.limbo ≡ 0) }
-    ensures versions { IfOk result (λ r. r.table.versions ≤ length plan.now.commands.now) }
+    ensures versions { IfOk result (λ r. r.table.versions ≤ length plan.now.orders.now) }
     ensures failure { IfErr result (EndsStorm plan.now) }
 {
     let writer = &mut recorder.writer;
@@ -147,7 +147,7 @@ fn finish<R: Threads + Wait + Sync, const FIRST: u32, const SECOND: u32>(
     let Ok(()) = settle(rt, table, writer) else {
         return Err(StormError::Exhausted);
     };
-    let history = history_of(alloc, plan.rules, plan.commands, &recorder.outcomes)?;
+    let history = history_of(alloc, plan.rules, plan.orders, &recorder.outcomes)?;
     let wrong = count_wrong(rt, alloc, &history, plan.rules.len(), workers)?;
     Ok(StormReport {
         answers: answers as u64,
@@ -185,12 +185,12 @@ pub fn run<R: Threads + Wait + Sync, G: Gate, const FIRST: u32, const SECOND: u3
     requires token { table.now.initial.token ≡ plan.now.config.first_token }
     requires workers { table.now.initial.workers ≡ (limits_of plan.now).workers }
     requires full { IsFullBench table.now bench.old }
-    requires commands { All IsForWriter plan.now.commands.now }
+    requires orders { All IsForWriter plan.now.orders.now }
     requires addrs { All (λ a. a < 2 ^ (FIRST + SECOND)) plan.now.addrs.now }
     ensures storm { IfOk result (IsStorm plan.now) }
     ensures wrong { IfOk result (λ r. r.wrong ≡ 0) }
     ensures limbo { IfOk result (λ r. r.table.limbo ≡ 0) }
-    ensures versions { IfOk result (λ r. r.table.versions ≤ length plan.now.commands.now) }
+    ensures versions { IfOk result (λ r. r.table.versions ≤ length plan.now.orders.now) }
     ensures failure { IfErr result (EndsStorm plan.now) }
 {
     let limits = plan.limits();
@@ -207,7 +207,7 @@ pub fn run<R: Threads + Wait + Sync, G: Gate, const FIRST: u32, const SECOND: u3
         alloc,
         table,
         limits,
-        plan.commands,
+        plan.orders,
         plan.addrs,
         plan.rounds,
         &stop,

@@ -4,7 +4,7 @@ ghost use Rattle.std.specs.Prelude.{◌≡◌, ◌^◌, ◌<◌, ◌≤◌, IfOk
 ghost use Rattle.storm.specs.Plans.{EndsBefore, IsInRange, answer_count, limits_of, most_answers};
 ghost use Rattle.storm.specs.declared.plan.StormError.TheVariants.{Memory as IsMemory};
 
-use fib_model::Command;
+use fib_model::Order;
 use lpm_rules::Rule;
 use qsbr::Config;
 use std::alloc::AllocError;
@@ -26,7 +26,7 @@ pub struct Plan<'a, const FIRST: u32, const SECOND: u32> {
     /// counts.
     pub rules: &'a [Rule<FIRST, SECOND>],
     /// The updates: the commands that the writer's thread makes, in their order. None is a report of a worker.
-    pub commands: &'a [Command<FIRST, SECOND>],
+    pub orders: &'a [Order<FIRST, SECOND>],
     /// The addresses that each worker looks up, in their order.
     pub addrs: &'a [u32],
     /// How often each worker looks all of them up.

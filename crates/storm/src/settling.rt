@@ -9,7 +9,7 @@ ghost use Rattle.storm.specs.Storm.{IsCountOf, Settles};
 
 use crate::looking::Worker;
 use audit::{Past, Report};
-use fib_model::{Command, Outcome};
+use fib_model::{Order, Outcome};
 use lpm_rules::{Change, Put, Rule};
 use lpm_writer::Exhausted;
 use shared_fib::{SharedTable, Writer};
@@ -104,23 +104,23 @@ pub fn report_of<const FIRST: u32, const SECOND: u32>(
 
 /// The change of the rule list that a command made, by what came of it.
 fn change_of<const FIRST: u32, const SECOND: u32>(
-    command: &Command<FIRST, SECOND>,
+    order: &Order<FIRST, SECOND>,
     outcome: &Outcome,
 ) -> Option<Change<FIRST, SECOND>>
-    ensures { MatchOption result (change_by command.now outcome.now ≡ [])
-        (λ change. change_by command.now outcome.now ≡ change ∷ []) }
+    ensures { MatchOption result (change_by order.now outcome.now ≡ [])
+        (λ change. change_by order.now outcome.now ≡ change ∷ []) }
 {
-    match command {
-        Command::Add(prefix, hop) => match outcome {
+    match order {
+        Order::Add(prefix, hop) => match outcome {
             Outcome::Put(Put::Added) => return Some(Change::Add(*prefix, *hop)),
             Outcome::Put(Put::Replaced) => return Some(Change::Add(*prefix, *hop)),
             _ => return None,
         },
-        Command::Delete(prefix) => match outcome {
+        Order::Del(prefix) => match outcome {
             Outcome::Deleted(_) => return Some(Change::Delete(*prefix)),
             _ => return None,
         },
-        Command::Flush => match outcome {
+        Order::Flush => match outcome {
             Outcome::Flushed(count) => {
                 if *count == 0 {
                     return None;
@@ -129,8 +129,7 @@ fn change_of<const FIRST: u32, const SECOND: u32>(
             }
             _ => return None,
         },
-        Command::Reclaim(_) => return None,
-        Command::Report(..) => return None,
+        _ => return None,
     }
 }
 
@@ -151,14 +150,14 @@ fn additions<const FIRST: u32, const SECOND: u32>(
 /// Adds the changes that made a version of the rule list, in order.
 fn push_accepted<const FIRST: u32, const SECOND: u32>(
     changes: &mut Vec<Change<FIRST, SECOND>>,
-    commands: &[Command<FIRST, SECOND>],
+    orders: &[Order<FIRST, SECOND>],
     outcomes: &[Outcome],
 ) -> Result<(), AllocError>
-    requires { length outcomes.now ≡ length commands.now }
-    ensures { OnOk result (changes.new.items ≡ changes.old.items ++ changes_by commands.now outcomes.now) }
+    requires { length outcomes.now ≡ length orders.now }
+    ensures { OnOk result (changes.new.items ≡ changes.old.items ++ changes_by orders.now outcomes.now) }
 {
-    for index in 0..commands.len() {
-        if let Some(change) = change_of(&commands[index], &outcomes[index]) {
+    for index in 0..orders.len() {
+        if let Some(change) = change_of(&orders[index], &outcomes[index]) {
             changes.push(change)?;
         }
     }
@@ -169,15 +168,15 @@ fn push_accepted<const FIRST: u32, const SECOND: u32>(
 pub fn history_of<const FIRST: u32, const SECOND: u32>(
     alloc: Global,
     rules: &[Rule<FIRST, SECOND>],
-    commands: &[Command<FIRST, SECOND>],
+    orders: &[Order<FIRST, SECOND>],
     outcomes: &[Outcome],
 ) -> Result<Vec<Change<FIRST, SECOND>>, AllocError>
-    requires { length outcomes.now ≡ length commands.now }
+    requires { length outcomes.now ≡ length orders.now }
     ensures { IfOk result (λ v. v.items
-        ≡ map addition_of rules.now ++ changes_by commands.now outcomes.now) }
+        ≡ map addition_of rules.now ++ changes_by orders.now outcomes.now) }
 {
     let mut changes = additions(alloc, rules)?;
-    push_accepted(&mut changes, commands, outcomes)?;
+    push_accepted(&mut changes, orders, outcomes)?;
     Ok(changes)
 }
 

@@ -13,7 +13,7 @@ use crate::changing::{Recorder, Updates, change_all};
 use crate::looking::{Lookups, Worker, work};
 use crate::plan::StormError;
 use bulk::Gate;
-use fib_model::{Command, Outcome};
+use fib_model::{Order, Outcome};
 use qsbr::{Config, Refusal};
 use shared_fib::SharedTable;
 use std::alloc::{AllocError, Global};
@@ -29,7 +29,7 @@ impl<'a, const FIRST: u32, const SECOND: u32> Promise<Worker> for Lookups<'a, FI
 
 impl<'a, const FIRST: u32, const SECOND: u32> Promise<Recorder<FIRST, SECOND>>
     for Updates<'a, FIRST, SECOND> {
-    ghost kept_by = { λ p r. HasMade p.table.now p.limits p.commands.now
+    ghost kept_by = { λ p r. HasMade p.table.now p.limits p.orders.now
         r.outcomes.items r.writer };
 }
 
@@ -97,39 +97,39 @@ fn start_writer<'s, E, G: Gate, const FIRST: u32, const SECOND: u32>(
     scope: &Scope<'s, E>,
     table: &'s SharedTable<FIRST, SECOND>,
     limits: Config,
-    commands: &'s [Command<FIRST, SECOND>],
+    orders: &'s [Order<FIRST, SECOND>],
     stop: &'s AtomicBool,
     gate: &'s G,
     recorder: Recorder<FIRST, SECOND>,
 ) -> Option<WriterHandle<'s, FIRST, SECOND>>
-    requires made { HasMade table.now limits commands.now
+    requires made { HasMade table.now limits orders.now
         recorder.outcomes.items recorder.writer }
     requires new { vec_len recorder.outcomes ≡ 0 }
-    requires room { length commands.now ≤ vec_capacity recorder.outcomes }
-    requires commands { All IsForWriter commands.now }
-    ensures { IfSome result (λ h. AreUpdates table.now limits commands.now h.promise) }
+    requires room { length orders.now ≤ vec_capacity recorder.outcomes }
+    requires orders { All IsForWriter orders.now }
+    ensures { IfSome result (λ h. AreUpdates table.now limits orders.now h.promise) }
 {
     let promise = Updates {
         table,
         limits,
-        commands,
+        orders,
         stop,
     };
     let started = scope.spawn_with(
         promise,
         move || -> Recorder<FIRST, SECOND>
-            requires made { HasMade table.now limits commands.now
+            requires made { HasMade table.now limits orders.now
                 recorder.outcomes.items recorder.writer }
             requires new { vec_len recorder.outcomes ≡ 0 }
-            requires room { length commands.now ≤ vec_capacity recorder.outcomes }
-            requires commands { All IsForWriter commands.now }
-            ensures { HasMade table.entry.now limits commands.entry.now
+            requires room { length orders.now ≤ vec_capacity recorder.outcomes }
+            requires orders { All IsForWriter orders.now }
+            ensures { HasMade table.entry.now limits orders.entry.now
                 result.outcomes.items result.writer }
         {
             let updates = Updates {
                 table,
                 limits,
-                commands,
+                orders,
                 stop,
             };
             change_all(&updates, gate, recorder)
@@ -214,7 +214,7 @@ fn run_in<'s, E, R: Threads + Sync, G: Gate, const FIRST: u32, const SECOND: u32
     alloc: Global,
     table: &'s SharedTable<FIRST, SECOND>,
     limits: Config,
-    commands: &'s [Command<FIRST, SECOND>],
+    orders: &'s [Order<FIRST, SECOND>],
     addrs: &'s [u32],
     rounds: usize,
     stop: &'s AtomicBool,
@@ -226,18 +226,18 @@ fn run_in<'s, E, R: Threads + Sync, G: Gate, const FIRST: u32, const SECOND: u32
     requires workers { All (IsReadyFor table.now (rounds * length addrs.now)) workers.items }
     requires seats { AreInSeats workers.items }
     requires addrs { All (λ a. a < 2 ^ (FIRST + SECOND)) addrs.now }
-    requires made { HasMade table.now limits commands.now
+    requires made { HasMade table.now limits orders.now
         recorder.outcomes.items recorder.writer }
     requires new { vec_len recorder.outcomes ≡ 0 }
-    requires outcomes { length commands.now ≤ vec_capacity recorder.outcomes }
-    requires commands { All IsForWriter commands.now }
+    requires outcomes { length orders.now ≤ vec_capacity recorder.outcomes }
+    requires orders { All IsForWriter orders.now }
     requires none { vec_len ended ≡ 0 }
     requires room { vec_len workers ≤ vec_capacity ended }
     ensures over { IfOk result (λ e. All (IsOver table.now addrs.now rounds) e.workers.items) }
     ensures seats { IfOk result (λ e. AreInSeats e.workers.items) }
     ensures all { IfOk result (λ e. IfSome e.recorder (λ r. vec_len e.workers ≡ vec_len workers)) }
     ensures made { IfOk result (λ e. IfSome e.recorder (λ r.
-        HasMade table.now limits commands.now r.outcomes.items r.writer)) }
+        HasMade table.now limits orders.now r.outcomes.items r.writer)) }
 {
     let mut handles = Vec::with_capacity(alloc, workers.len())?;
     let mut changed = None;
@@ -251,7 +251,7 @@ fn run_in<'s, E, R: Threads + Sync, G: Gate, const FIRST: u32, const SECOND: u32
         workers,
         &mut handles,
     ) {
-        let started = start_writer(scope, table, limits, commands, stop, gate, recorder);
+        let started = start_writer(scope, table, limits, orders, stop, gate, recorder);
         if let Some(handle) = started {
             changed = Some(handle.join(rt));
         }
@@ -272,7 +272,7 @@ fn in_scope<'a, R: Threads + Wait + Sync, G: Gate, const FIRST: u32, const SECON
     alloc: Global,
     table: &'a SharedTable<FIRST, SECOND>,
     limits: Config,
-    commands: &'a [Command<FIRST, SECOND>],
+    orders: &'a [Order<FIRST, SECOND>],
     addrs: &'a [u32],
     rounds: usize,
     stop: &'a AtomicBool,
@@ -284,18 +284,18 @@ fn in_scope<'a, R: Threads + Wait + Sync, G: Gate, const FIRST: u32, const SECON
     requires workers { All (IsReadyFor table.now (rounds * length addrs.now)) workers.items }
     requires seats { AreInSeats workers.items }
     requires addrs { All (λ a. a < 2 ^ (FIRST + SECOND)) addrs.now }
-    requires made { HasMade table.now limits commands.now
+    requires made { HasMade table.now limits orders.now
         recorder.outcomes.items recorder.writer }
     requires new { vec_len recorder.outcomes ≡ 0 }
-    requires outcomes { length commands.now ≤ vec_capacity recorder.outcomes }
-    requires commands { All IsForWriter commands.now }
+    requires outcomes { length orders.now ≤ vec_capacity recorder.outcomes }
+    requires orders { All IsForWriter orders.now }
     requires none { vec_len ended ≡ 0 }
     requires room { vec_len workers ≤ vec_capacity ended }
     ensures over { IfOk result (λ e. All (IsOver table.now addrs.now rounds) e.workers.items) }
     ensures seats { IfOk result (λ e. AreInSeats e.workers.items) }
     ensures all { IfOk result (λ e. IfSome e.recorder (λ r. vec_len e.workers ≡ vec_len workers)) }
     ensures made { IfOk result (λ e. IfSome e.recorder (λ r.
-        HasMade table.now limits commands.now r.outcomes.items r.writer)) }
+        HasMade table.now limits orders.now r.outcomes.items r.writer)) }
 {
     thread::scope(
         thread::scope_env(),
@@ -305,11 +305,11 @@ fn in_scope<'a, R: Threads + Wait + Sync, G: Gate, const FIRST: u32, const SECON
             requires workers { All (IsReadyFor table.now (rounds * length addrs.now)) workers.items }
             requires seats { AreInSeats workers.items }
             requires addrs { All (λ a. a < 2 ^ (FIRST + SECOND)) addrs.now }
-            requires made { HasMade table.now limits commands.now
+            requires made { HasMade table.now limits orders.now
                 recorder.outcomes.items recorder.writer }
             requires new { vec_len recorder.outcomes ≡ 0 }
-            requires outcomes { length commands.now ≤ vec_capacity recorder.outcomes }
-            requires commands { All IsForWriter commands.now }
+            requires outcomes { length orders.now ≤ vec_capacity recorder.outcomes }
+            requires orders { All IsForWriter orders.now }
             requires none { vec_len ended ≡ 0 }
             requires room { vec_len workers ≤ vec_capacity ended }
             ensures over { IfOk result (λ e.
@@ -318,11 +318,11 @@ fn in_scope<'a, R: Threads + Wait + Sync, G: Gate, const FIRST: u32, const SECON
             ensures all { IfOk result (λ e.
                 IfSome e.recorder (λ r. vec_len e.workers ≡ vec_len workers)) }
             ensures made { IfOk result (λ e. IfSome e.recorder (λ r.
-                HasMade table.entry.now limits commands.entry.now
+                HasMade table.entry.now limits orders.entry.now
                 r.outcomes.items r.writer)) }
         {
             run_in(
-                scope, rt, alloc, table, limits, commands, addrs, rounds, stop, gate, workers,
+                scope, rt, alloc, table, limits, orders, addrs, rounds, stop, gate, workers,
                 recorder, ended,
             )
         },
@@ -336,7 +336,7 @@ pub fn run_threads<'a, R: Threads + Wait + Sync, G: Gate, const FIRST: u32, cons
     alloc: Global,
     table: &'a SharedTable<FIRST, SECOND>,
     limits: Config,
-    commands: &'a [Command<FIRST, SECOND>],
+    orders: &'a [Order<FIRST, SECOND>],
     addrs: &'a [u32],
     rounds: usize,
     stop: &'a AtomicBool,
@@ -347,30 +347,30 @@ pub fn run_threads<'a, R: Threads + Wait + Sync, G: Gate, const FIRST: u32, cons
     requires workers { All (IsReadyFor table.now (rounds * length addrs.now)) workers.items }
     requires seats { AreInSeats workers.items }
     requires addrs { All (λ a. a < 2 ^ (FIRST + SECOND)) addrs.now }
-    requires made { HasMade table.now limits commands.now
+    requires made { HasMade table.now limits orders.now
         recorder.outcomes.items recorder.writer }
     requires new { vec_len recorder.outcomes ≡ 0 }
-    requires outcomes { length commands.now ≤ vec_capacity recorder.outcomes }
-    requires commands { All IsForWriter commands.now }
+    requires outcomes { length orders.now ≤ vec_capacity recorder.outcomes }
+    requires orders { All IsForWriter orders.now }
     ensures over { IfOk result (λ r. All (IsOver table.now addrs.now rounds) r.0.items) }
     ensures seats { IfOk result (λ r. AreInSeats r.0.items) }
     ensures done { IfOk result (λ r. All (λ w. w.is_done ≡ true) r.0.items) }
     ensures len { IfOk result (λ r. vec_len r.0 ≡ vec_len workers) }
-    ensures made { IfOk result (λ r. HasMade table.now limits commands.now
+    ensures made { IfOk result (λ r. HasMade table.now limits orders.now
         r.1.outcomes.items r.1.writer) }
-    ensures all { IfOk result (λ r. vec_len r.1.outcomes ≡ length commands.now) }
+    ensures all { IfOk result (λ r. vec_len r.1.outcomes ≡ length orders.now) }
     ensures had_memory { IfOk result (λ r.
         All (λ o. o ≢ Outcome.Refused Refusal.Memory) r.1.outcomes.items) }
     ensures failure { IfErr result (λ e. (e ≡ StormError.Memory) ⊎ (e ≡ StormError.NoThread)) }
 {
     let ended = Vec::with_capacity(alloc, workers.len())?;
     let Ended { workers, recorder } = in_scope(
-        rt, alloc, table, limits, commands, addrs, rounds, stop, gate, workers, recorder, ended,
+        rt, alloc, table, limits, orders, addrs, rounds, stop, gate, workers, recorder, ended,
     )?;
     let Some(recorder) = recorder else {
         return Err(StormError::NoThread);
     };
-    if !is_whole(commands, &recorder) || !are_done(&workers) {
+    if !is_whole(orders, &recorder) || !are_done(&workers) {
         return Err(StormError::Memory);
     }
     Ok((workers, recorder))
@@ -378,14 +378,14 @@ pub fn run_threads<'a, R: Threads + Wait + Sync, G: Gate, const FIRST: u32, cons
 
 /// Whether all commands were made, and none of them wanted memory that wasn't there.
 fn is_whole<const FIRST: u32, const SECOND: u32>(
-    commands: &[Command<FIRST, SECOND>],
+    orders: &[Order<FIRST, SECOND>],
     recorder: &Recorder<FIRST, SECOND>,
 ) -> bool
-    ensures all { IsTrue result → vec_len recorder.now.outcomes ≡ length commands.now }
+    ensures all { IsTrue result → vec_len recorder.now.outcomes ≡ length orders.now }
     ensures had_memory { IsTrue result
         → All (λ o. o ≢ Outcome.Refused Refusal.Memory) recorder.now.outcomes.items }
 {
-    recorder.outcomes.len() == commands.len()
+    recorder.outcomes.len() == orders.len()
         && recorder
             .outcomes
             .iter()

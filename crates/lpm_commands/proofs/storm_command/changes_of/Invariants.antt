@@ -1,6 +1,6 @@
 use Rattle.std.proofs.Common.{◌≡◌, take}
-use Rattle.lpm_commands.specs.Storm.{storm_commands}
+use Rattle.lpm_commands.specs.Storm.{changes_of}
 use Rattle.lpm_commands.proofs.storm_command.changes_of.Given as goal
 
 abbrev pub invariant-loop-order : goal.invariant-loop-order
-invariant-loop-order l = l.commands.items ≡ storm_commands (take l.order-index l.orders)
+invariant-loop-order l = l.changes.items ≡ changes_of (take l.order-index l.orders)

@@ -11,19 +11,19 @@ text_of-requires-clause-rules g c κs within =
     let rules = c.deref.ensures.value ∙ c.in_ok-rules.ensures in
     ap (λ (l : List (Rule 24 8)). rules_of l) rules ∙ same_rules c.args.routes.now
 
-pub text_of-requires-clause-commands : goal.text_of-requires-clause-commands
-text_of-requires-clause-commands g c κs within =
-    let same = c.deref-2.ensures.value ∙ c.in_ok-commands.ensures in
+pub text_of-requires-clause-orders : goal.text_of-requires-clause-orders
+text_of-requires-clause-orders g c κs within =
+    let same = c.deref-2.ensures.value ∙ c.in_ok-changes.ensures in
     rw same (for_writer c.args.orders.now)
 
 pub returns-clause-text : goal.returns-clause-text
 returns-clause-text g c =
     let rules = c.deref.ensures.value ∙ c.in_ok-rules.ensures in
-    let commands = c.deref-2.ensures.value ∙ c.in_ok-commands.ensures in
-    IfOk-weaker c.text_of.result _ _ (λ v came. (_, is_plan c.args.routes.now c.args.orders.now c.args.addrs.now _ rules commands refl, came)) c.text_of.ensures.text
+    let changes = c.deref-2.ensures.value ∙ c.in_ok-changes.ensures in
+    IfOk-weaker c.text_of.result _ _ (λ v came. (_, is_plan c.args.routes.now c.args.orders.now c.args.addrs.now _ rules changes refl, came)) c.text_of.ensures.text
 
 pub returns-clause-failure : goal.returns-clause-failure
 returns-clause-failure g c =
     let rules = c.deref.ensures.value ∙ c.in_ok-rules.ensures in
-    let commands = c.deref-2.ensures.value ∙ c.in_ok-commands.ensures in
-    IfErr-weaker c.text_of.result _ _ (λ e ends. inr (_, is_plan c.args.routes.now c.args.orders.now c.args.addrs.now _ rules commands refl, ends)) c.text_of.ensures.failure
+    let changes = c.deref-2.ensures.value ∙ c.in_ok-changes.ensures in
+    IfErr-weaker c.text_of.result _ _ (λ e ends. inr (_, is_plan c.args.routes.now c.args.orders.now c.args.addrs.now _ rules changes refl, ends)) c.text_of.ensures.failure

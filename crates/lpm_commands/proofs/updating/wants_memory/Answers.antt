@@ -3,7 +3,7 @@ use Rattle.std.proofs.lemmas.Grind.{common_steps}
 use Rattle.std.proofs.lemmas.List.{take_all}
 use Rattle.std.proofs.lemmas.List.Elements.{All-more}
 use Rattle.lpm_limits.specs.declared.refusal.Refusal.TheVariants.{Memory}
-use Rattle.fib_model.specs.declared.command.Outcome.TheVariants.{Refused}
+use Rattle.fib_model.specs.declared.orders.Outcome.TheVariants.{Refused}
 use Rattle.lpm_commands.proofs.updating.wants_memory.Goals as goal
 
 pub loop-outcome-preserved : goal.loop-outcome-preserved

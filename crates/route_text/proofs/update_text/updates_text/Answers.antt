@@ -1,6 +1,6 @@
 use Rattle.std.proofs.Common.{◌≡◌, ℕ, ◌≤◌, List, ◌+◌, ◌++◌, All, length, take, drop, sym, ap, subst, ◌∙◌, arith, take_all}
 use Rattle.std.proofs.lemmas.List.Elements.{All-more}
-use Rattle.route_text.specs.declared.orders.Order.{Order}
+use Rattle.fib_model.specs.declared.orders.Order.{Order}
 use Rattle.route_text.specs.Texts.{update_line, lines_of_updates, update_lines}
 use Rattle.route_text.specs.Updates.{AreUpdates, IsCountInRange}
 use Rattle.route_text.specs.Values.{IsSound}
@@ -9,7 +9,7 @@ use Rattle.route_text.proofs.Writing.{more_updates, all_updates, step_on, at_end
 use Rattle.route_text.proofs.update_text.updates_text.Goals as goal
 
 -- the text is written to its end
-is_read : (text : List ℕ) (os : List Order) (i : ℕ) → length os ≤ i → text ++ lines_of_updates (drop i os) ≡ update_lines os → All IsSound (take i os) → All IsCountInRange os → AreUpdates text os
+is_read : (text : List ℕ) (os : List (Order 24 8)) (i : ℕ) → length os ≤ i → text ++ lines_of_updates (drop i os) ≡ update_lines os → All IsSound (take i os) → All IsCountInRange os → AreUpdates text os
 is_read text os i le written sound fine =
     let whole : text ≡ update_lines os = at_end text _ _ (all_updates os i le) written in
     subst (λ t. AreUpdates t os) (sym whole) (read_back os (subst (All IsSound) (take_all i os le) sound) fine)

@@ -3,7 +3,7 @@ use Rattle.lpm_limits.specs.declared.config.Config.{Config}
 use Rattle.lpm_rules.specs.RuleMap.{RuleMap, RuleList}
 use Rattle.shared_words.specs.Initial.{InitialData}
 use Rattle.shared_fib.specs.Running.{initial_writer}
-use Rattle.shared_fib.proofs.initial.begin.Goals as goal
+use Rattle.shared_fib.proofs.opening.begin.Goals as goal
 
 pub go_on-requires : goal.go_on-requires
 go_on-requires g c = (lit< tt, (lit< tt, (lit< tt, c.in_ok-config.ensures.loaded)))

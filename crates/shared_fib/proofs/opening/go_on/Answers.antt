@@ -5,7 +5,7 @@ use Rattle.shared_words.specs.Initial.{InitialData, initial_state_of}
 use Rattle.shared_fib.specs.Passes.{IsFullBench}
 use Rattle.shared_fib.specs.Running.{Identity, initial_data_of, initial_writer}
 use Rattle.shared_fib.proofs.Begins.{ready, opens}
-use Rattle.shared_fib.proofs.initial.go_on.Goals as goal
+use Rattle.shared_fib.proofs.opening.go_on.Goals as goal
 
 pub open_words-requires : goal.open_words-requires
 open_words-requires g c = (lit< tt, (c.requires.shape, (c.requires.packed, c.requires.settled)))

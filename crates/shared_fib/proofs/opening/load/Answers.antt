@@ -1,7 +1,7 @@
 use Rattle.std.proofs.Common.{◌≡◌, ◌^◌, ◌<◌, ◌≤◌, refl, rules, arith}
 use Rattle.shared_fib.specs.declared.initial_table.InitialTable.{InitialTable}
 use Rattle.shared_fib.proofs.Begins.{loaded_packed, opens_loaded, loaded_is}
-use Rattle.shared_fib.proofs.initial.load.Goals as goal
+use Rattle.shared_fib.proofs.opening.load.Goals as goal
 
 pub returns-clause-initial : goal.returns-clause-initial
 returns-clause-initial g c =

@@ -3,7 +3,7 @@ use Rattle.lpm_writer.specs.Blank.{blank_state}
 use Rattle.fib.proofs.Sound.{sound_new}
 use Rattle.shared_words.specs.Initial.{initial_state_of}
 use Rattle.shared_fib.proofs.Begins.{opens_blank}
-use Rattle.shared_fib.proofs.initial.open.Goals as goal
+use Rattle.shared_fib.proofs.opening.open.Goals as goal
 
 pub returns-in_err-control-clause-bad_config : goal.returns-in_err-control-clause-bad_config
 returns-in_err-control-clause-bad_config c = search rules

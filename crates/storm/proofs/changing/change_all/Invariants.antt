@@ -5,7 +5,7 @@ use Rattle.storm.proofs.changing.change_all.Given as goal
 -- the commands before this place were made
 abbrev pub invariant-loop-index : goal.invariant-loop-index
 invariant-loop-index g l = record {
-  made : HasMade l.updates.table.now l.updates.limits l.updates.commands.now l.recorder.outcomes.items l.recorder.writer;
+  made : HasMade l.updates.table.now l.updates.limits l.updates.orders.now l.recorder.outcomes.items l.recorder.writer;
   len : vec_len l.recorder.outcomes ≡ l.index;
-  room : length l.updates.commands.now ≤ vec_capacity l.recorder.outcomes;
+  room : length l.updates.orders.now ≤ vec_capacity l.recorder.outcomes;
 }

@@ -5,7 +5,7 @@ use Rattle.storm.proofs.engine.begin.Goals as goal
 pub returns-clause-made : goal.returns-clause-made
 returns-clause-made g c =
     let id = c.args.table.now in
-    made_none g.row.FIRST g.row.SECOND id c.args.limits (rules_of c.args.plan.now.rules.now) c.args.plan.now.commands.now c.in_ok-outcomes.outcomes.items
+    made_none g.row.FIRST g.row.SECOND id c.args.limits (rules_of c.args.plan.now.rules.now) c.args.plan.now.orders.now c.in_ok-outcomes.outcomes.items
     c.args.writer c.has_widths.ensures c.requires.token c.requires.workers c.requires.new c.at_rest.ensures c.in_ok-outcomes.ensures.items
 
 pub returns-clause-rules : goal.returns-clause-rules

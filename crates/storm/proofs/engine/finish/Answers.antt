@@ -6,7 +6,7 @@ use Rattle.lpm_rules.specs.declared.Answer.{Answer}
 use Rattle.lpm_rules.specs.declared.Change.{Change}
 use Rattle.shared_fib.specs.Running.{WriterState, steps_of, token_of}
 use Rattle.audit.specs.Wrong.{AreWrong, version_of}
-use Rattle.fib_model.specs.declared.command.Outcome.{Outcome}
+use Rattle.fib_model.specs.declared.orders.Outcome.{Outcome}
 use Rattle.std.proofs.lemmas.List.{length-map}
 use Rattle.storm.specs.Changing.{HasVersions, addition_of, changes_by, refused_among}
 use Rattle.storm.specs.Looking.{answers_of_passes, answers_of_workers, times, passes_of}
@@ -39,10 +39,10 @@ count_wrong-requires-after_bounds g c κs within =
     let answered = c.meet_all.ensures.answered in
     let many = count_all c.args.table.now plan.addrs.now plan.rounds steps workers answered in
     let as_many : length workers ≡ plan.config.workers = c.meet_all.ensures.len ∙ c.requires.len in
-    let changes : List (Change g.row.FIRST g.row.SECOND) = changes_by plan.commands.now c.args.recorder.now.outcomes.items in
+    let changes : List (Change g.row.FIRST g.row.SECOND) = changes_by plan.orders.now c.args.recorder.now.outcomes.items in
     let whole : c.deref-2.result.now ≡ map addition_of plan.rules.now ++ changes =
     c.deref-2.ensures.value ∙ c.in_ok-history.ensures
-    ∙ ap (λ (os : List Outcome). map addition_of plan.rules.now ++ changes_by plan.commands.now os) c.deref.ensures.value in
+    ∙ ap (λ (os : List Outcome). map addition_of plan.rules.now ++ changes_by plan.orders.now os) c.deref.ensures.value in
     let behind : length plan.rules.now ≤ length c.deref-2.result.now =
     subst (λ (h : List (Change g.row.FIRST g.row.SECOND)). length plan.rules.now ≤ length h) (sym whole)
     (rules_within g.row.FIRST g.row.SECOND plan.rules.now changes) in
@@ -72,12 +72,12 @@ returns-clause-storm g c =
     let answered = c.meet_all.ensures.answered in
     let as_many : length workers ≡ plan.config.workers = c.meet_all.ensures.len ∙ c.requires.len in
     let held = all_held id plan.addrs.now plan.rounds steps workers answered in
-    let changes : List (Change f s) = changes_by plan.commands.now outcomes in
+    let changes : List (Change f s) = changes_by plan.orders.now outcomes in
     let rules = plan.rules.now in
     let R : RuleMap = rules_of rules in
     let whole : c.deref-2.result.now ≡ map addition_of rules ++ changes =
     c.deref-2.ensures.value ∙ c.in_ok-history.ensures
-    ∙ ap (λ (os : List Outcome). map addition_of rules ++ changes_by plan.commands.now os) c.deref.ensures.value in
+    ∙ ap (λ (os : List Outcome). map addition_of rules ++ changes_by plan.orders.now os) c.deref.ensures.value in
     let counted_so = subst (λ (h : List (Change f s)). AreWrong (version_of h (length rules)) (drop (length rules) h) (answers_of_workers workers) c.in_ok-wrong.wrong)
     whole c.in_ok-wrong.ensures in
     let wrong = subst (λ (z : RuleMap × List (Change f s)). AreWrong z.0 z.1 (answers_of_workers workers) c.in_ok-wrong.wrong)
@@ -115,7 +115,7 @@ returns-clause-wrong g c = (returns-clause-storm g c).wrong
 pub returns-clause-versions : goal.returns-clause-versions
 returns-clause-versions g c =
     let storm = returns-clause-storm g c in
-    let most = changes_within g.row.FIRST g.row.SECOND c.args.plan.now.commands.now storm.outcomes in
+    let most = changes_within g.row.FIRST g.row.SECOND c.args.plan.now.orders.now storm.outcomes in
     omega (arith, storm.versions, most)
 
 pub returns-clause-limbo : goal.returns-clause-limbo

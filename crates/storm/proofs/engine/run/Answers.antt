@@ -31,7 +31,7 @@ finish-requires-after_bounds g c κs within =
     let recorder = c.in_ok-workers-2.recorder in
     let slice = c.as_mut_slice-workers.ensures.value in
     let made : HasMadeAll plan id recorder.outcomes.items recorder.writer = record {
-      made = subst (λ (k : Config). HasMade id k plan.commands.now recorder.outcomes.items recorder.writer)
+      made = subst (λ (k : Config). HasMade id k plan.orders.now recorder.outcomes.items recorder.writer)
           c.limits-limits.ensures ran.made;
       rules = c.in_ok-recorder.ensures.rules;
       all = omega (arith, ran.all);

@@ -8,12 +8,12 @@ use Rattle.storm.proofs.settling.push_accepted.Goals.{in-Some+in_ok-push, in_def
 pub loop-index-preserved : goal.loop-index-preserved
 loop-index-preserved g c =
     let i = c.loop-index.index in
-    let cs = c.args.commands.now in
+    let cs = c.args.orders.now in
     let os = c.args.outcomes.now in
     let before : List (Change g.row.FIRST g.row.SECOND) = c.args.changes.now.items in
     let so_far : List (Change g.row.FIRST g.row.SECOND) = changes_by (take i cs) (take i os) in
-    let next = changes_next g.row.FIRST g.row.SECOND cs os i c.index-commands-index.result c.index-outcomes-index.result c.loop-index-test.true
-    c.requires c.index-commands-index.is c.index-outcomes-index.is in
+    let next = changes_next g.row.FIRST g.row.SECOND cs os i c.index-orders-index.result c.index-outcomes-index.result c.loop-index-test.true
+    c.requires c.index-orders-index.is c.index-outcomes-index.is in
     let both : List (Change g.row.FIRST g.row.SECOND) → List (Change g.row.FIRST g.row.SECOND) = λ xs. before ++ xs in
     elim c.match-change_of.branch [
       | in-Some+in_ok-push w ↦ ap (λ v. v.items) w.changes-is ∙ w.in_ok-push.ensures.items

@@ -3,4 +3,4 @@ use Rattle.storm.specs.Changing.{changes_by}
 use Rattle.storm.proofs.settling.push_accepted.Given as goal
 
 abbrev pub invariant-loop-index : goal.invariant-loop-index
-invariant-loop-index g l = l.changes.items ≡ l.fn.changes.items ++ changes_by (take l.index l.commands) (take l.index l.outcomes)
+invariant-loop-index g l = l.changes.items ≡ l.fn.changes.items ++ changes_by (take l.index l.orders) (take l.index l.outcomes)

@@ -14,12 +14,12 @@ loop-index-preserved g c =
     let s = g.row.SECOND in
     let known = c.loop-index.invariant in
     let i = c.loop-index.index in
-    let command = c.index-commands-index.result in
+    let order = c.index-orders-index.result in
     let outcome = c.execute.result in
     record {
       done = subst (λ log. Runs by_counters f s c.args.self.now.config c.args.self.now.table log c.execute.new.self.table)
-          (sym (log_next f s c.args.commands.now c.loop-index.outcomes.items i command outcome c.loop-index-test.true c.index-commands-index.is known.room))
-          (c.loop-index.self.table, known.done, subst (λ (k : Config). Does by_counters f s k c.loop-index.self.table command outcome c.execute.new.self.table) known.config c.execute.ensures.does);
+          (sym (log_next f s c.args.orders.now c.loop-index.outcomes.items i order outcome c.loop-index-test.true c.index-orders-index.is known.room))
+          (c.loop-index.self.table, known.done, subst (λ (k : Config). Does by_counters f s k c.loop-index.self.table order outcome c.execute.new.self.table) known.config c.execute.ensures.does);
       room = length-set c.loop-index.outcomes.items i outcome ∙ known.room;
       config = c.execute.ensures.config ∙ known.config;
     }
@@ -29,9 +29,9 @@ returns-clause-textbook g c = λ log before.
     let f = g.row.FIRST in
     let s = g.row.SECOND in
     let known = c.loop-index.invariant in
-    let commands = c.args.commands.now in
+    let orders = c.args.orders.now in
     let outcomes = c.loop-index.outcomes.items in
     let end = c.loop-index-test.false in
-    let all = subst (λ os. Runs by_counters f s c.args.self.now.config c.args.self.now.table (log_after [] commands os) c.loop-index.self.table) (take_all c.loop-index.index outcomes (omega (arith, end, known.room)))
-    (subst (λ cs. Runs by_counters f s c.args.self.now.config c.args.self.now.table (log_after [] cs (take c.loop-index.index outcomes)) c.loop-index.self.table) (take_all c.loop-index.index commands end) known.done) in
-    told f s c.args.self.now.config c.args.self.now.table c.loop-index.self.table log commands outcomes (subst IsConfig c.config-config.ensures.value c.config-config.ensures.limits) before all
+    let all = subst (λ os. Runs by_counters f s c.args.self.now.config c.args.self.now.table (log_after [] orders os) c.loop-index.self.table) (take_all c.loop-index.index outcomes (omega (arith, end, known.room)))
+    (subst (λ cs. Runs by_counters f s c.args.self.now.config c.args.self.now.table (log_after [] cs (take c.loop-index.index outcomes)) c.loop-index.self.table) (take_all c.loop-index.index orders end) known.done) in
+    told f s c.args.self.now.config c.args.self.now.table c.loop-index.self.table log orders outcomes (subst IsConfig c.config-config.ensures.value c.config-config.ensures.limits) before all

@@ -6,7 +6,7 @@ use Rattle.fib.proofs.fib.Fib.execute_all.Given as goal
 -- the commands up to here are done
 abbrev pub invariant-loop-index : goal.invariant-loop-index
 invariant-loop-index g l = record {
-  done : Runs by_counters g.row.FIRST g.row.SECOND l.fn.self.config l.fn.self.table (log_after [] (take l.index l.commands) (take l.index l.outcomes.items)) l.self.table;
-  room : length l.outcomes.items ≡ length l.commands;
+  done : Runs by_counters g.row.FIRST g.row.SECOND l.fn.self.config l.fn.self.table (log_after [] (take l.index l.orders) (take l.index l.outcomes.items)) l.self.table;
+  room : length l.outcomes.items ≡ length l.orders;
   config : l.self.config ≡ l.fn.self.config;
 }

@@ -6,17 +6,18 @@ ghost use Rattle.fib_model.specs.Counting.{by_counters};
 ghost use Rattle.fib.specs.Replay.{GoesOn};
 
 use super::Fib;
-use fib_model::{Command, Outcome, Report};
+use fib_model::{Order, Outcome, Report};
 use qsbr::Refusal;
 use std::alloc::{AllocError, Global};
 
 impl<const FIRST: u32, const SECOND: u32> Fib<FIRST, SECOND> {
     /// Does what a worker's report asks for, where that worker may make it.
-    fn report(&mut self, report: Report, worker: usize) -> Outcome
+    fn report(&mut self, report: Report, worker: u32) -> Outcome
         ensures reports { Reports by_counters self.old.config self.old.table report worker
             result self.new.table }
         ensures config { self.new.config ≡ self.old.config }
     {
+        let worker = worker as usize;
         if worker >= self.config().workers {
             return Outcome::Refused(Refusal::NoSuchWorker);
         }
@@ -33,26 +34,28 @@ impl<const FIRST: u32, const SECOND: u32> Fib<FIRST, SECOND> {
     }
 
     /// Does a command.
-    pub fn execute(&mut self, command: &Command<FIRST, SECOND>) -> Outcome
-        ensures does { Does by_counters FIRST SECOND self.old.config self.old.table command.now
+    pub fn execute(&mut self, order: &Order<FIRST, SECOND>) -> Outcome
+        ensures does { Does by_counters FIRST SECOND self.old.config self.old.table order.now
             result self.new.table }
         ensures config { self.new.config ≡ self.old.config }
     {
-        match command {
-            Command::Add(prefix, hop) => match self.add(prefix, *hop) {
+        match order {
+            Order::Add(prefix, hop) => match self.add(prefix, *hop) {
                 Ok(put) => return Outcome::Put(put),
                 Err(refusal) => return Outcome::Refused(refusal),
             },
-            Command::Delete(prefix) => match self.delete(prefix) {
+            Order::Del(prefix) => match self.delete(prefix) {
                 Ok(hop) => return Outcome::Deleted(hop),
                 Err(refusal) => return Outcome::Refused(refusal),
             },
-            Command::Flush => match self.flush() {
+            Order::Flush => match self.flush() {
                 Ok(count) => return Outcome::Flushed(count),
                 Err(refusal) => return Outcome::Refused(refusal),
             },
-            Command::Reclaim(max) => return Outcome::Reclaimed(self.reclaim(*max)),
-            Command::Report(report, worker) => return self.report(*report, *worker),
+            Order::Reclaim(max) => return Outcome::Reclaimed(self.reclaim(*max)),
+            Order::Online(worker) => return self.report(Report::Online, *worker),
+            Order::Offline(worker) => return self.report(Report::Offline, *worker),
+            Order::Quiescent(worker) => return self.report(Report::Quiescent, *worker),
         }
     }
 
@@ -61,20 +64,20 @@ impl<const FIRST: u32, const SECOND: u32> Fib<FIRST, SECOND> {
     pub fn execute_all(
         &mut self,
         alloc: Global,
-        commands: &[Command<FIRST, SECOND>],
+        orders: &[Order<FIRST, SECOND>],
     ) -> Result<Vec<Outcome>, AllocError>
-        ensures as_many { IfOk result (λ v. length v.items ≡ length commands.now) }
+        ensures as_many { IfOk result (λ v. length v.items ≡ length orders.now) }
         ensures runs { IfOk result (λ v. Runs by_counters FIRST SECOND self.old.config
-            self.old.table (log_after [] commands.now v.items) self.new.table) }
+            self.old.table (log_after [] orders.now v.items) self.new.table) }
         ensures textbook { IfOk result (λ v. GoesOn FIRST SECOND self.old.config self.old.table
-            commands.now v.items self.new.table) }
+            orders.now v.items self.new.table) }
         ensures config { self.new.config ≡ self.old.config }
         ensures refused { OnErr result (self.new ≡ self.old) }
     {
         let _config = self.config();
-        let mut outcomes = vec![in alloc; Outcome::Told; commands.len()]?;
-        for index in 0..commands.len() {
-            outcomes[index] = self.execute(&commands[index]);
+        let mut outcomes = vec![in alloc; Outcome::Told; orders.len()]?;
+        for index in 0..orders.len() {
+            outcomes[index] = self.execute(&orders[index]);
         }
         Ok(outcomes)
     }

@@ -1,4 +1,4 @@
-//! Commands and their outcomes.
+//! Commands, and what comes of them.
 
 ghost use Rattle.std.specs.Prelude.{◌≡◌};
 
@@ -18,19 +18,23 @@ pub enum Report {
     Quiescent,
 }
 
-/// A command to a table of one thread.
+/// A command to a table of one thread, by the names of an update file.
 #[derive(Clone, Copy, Debug, PartialEq, Eq)]
-pub enum Command<const FIRST: u32, const SECOND: u32> {
+pub enum Order<const FIRST: u32, const SECOND: u32> {
     /// Gives the prefix this next hop.
     Add(Prefix<FIRST, SECOND>, Hop),
     /// Takes out the rule of the prefix.
-    Delete(Prefix<FIRST, SECOND>),
-    /// Takes out all rules.
+    Del(Prefix<FIRST, SECOND>),
+    /// Takes out all rules, which is one version.
     Flush,
     /// Frees at most so many groups that no worker holds.
     Reclaim(usize),
-    /// Tells what the worker of this number reports.
-    Report(Report, usize),
+    /// Tells that the worker of this number begins to look up.
+    Online(u32),
+    /// Tells that this worker has ended all its lookups.
+    Offline(u32),
+    /// Tells that this worker has ended its lookups so far.
+    Quiescent(u32),
 }
 
 /// What came of a command.
