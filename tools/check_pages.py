@@ -165,6 +165,9 @@ def members():
         for head, body in types(source(path)):
             inside = declared_by(f"{head}{{{body}\n}}") if head.startswith(("struct", "enum")) else declared_by(body)
             found.setdefault(owner_of(head), set()).update(inside)
+    for path in (path for crate in crates() for path in sources(crate) if path.suffix == ".rt"):
+        for alias, meant in re.findall(r"(?m)^pub type (\w+) = (?:\w+::)*(\w+)", source(path)):
+            found.setdefault(alias, set()).update(found.get(meant, ()))
     return found
 
 

@@ -1,19 +1,22 @@
 //! The table.
 
-ghost use Rattle.std.specs.Prelude.{◌≡◌, ◌+◌, ◌^◌, ◌<◌, ◌≤◌, ◌↔◌, ◌⊎◌, IsTrue, IsNone, IfOk, IfErr, IfSome, length};
+ghost use Rattle.std.specs.Prelude.{Err, IsOk, MatchResult, Result, ◌≡◌, ◌+◌, ◌^◌, ◌<◌, ◌≤◌, ◌↔◌, ◌⊎◌, IsTrue, IsNone, IfOk, IfErr, IfSome, length};
 ghost use Rattle.std.specs.FinMap as map;
 ghost use Rattle.lpm_bits.specs.Widths.{IsShape};
 ghost use Rattle.lpm_rules.specs.Longest.{IsLongestHop};
 ghost use Rattle.lpm_rules.specs.Listed.{AreInOrder, rules_of};
+ghost use Rattle.lpm_rules.specs.Matches.{IsMatch};
 ghost use Rattle.lpm_rules.specs.Walking.{IsNextRule};
 ghost use Rattle.lpm_limits.specs.Limits.{IsConfig};
 ghost use Rattle.fib_model.specs.Outcomes.{groups_in_use, Adds, Deletes, Flushes, Frees};
 ghost use Rattle.fib_model.specs.Counting.{by_counters, counter_transitions};
 ghost use Rattle.fib.specs.Fib.{IsSound, initial_fib, initial_fib_at, initial_fib_with, table_of, state_after_report};
 ghost use Rattle.fib_model.specs.declared.orders.Report.TheVariants as report;
+ghost use Rattle.lpm_limits.specs.declared.refusal.Refusal.{Refusal};
+ghost use Rattle.lpm_rules.specs.declared.Put.{Put};
 
 use super::OpenError;
-use super::sorted::{parts_at, parts_of};
+use super::sorted::{parts_at, parts_of, sorted_rules};
 use defer_queue::Reclaimed;
 use lpm_bits::{Hop, Prefix};
 use lpm_groups::Counts;
@@ -63,6 +66,34 @@ impl<const FIRST: u32, const SECOND: u32> Fib<FIRST, SECOND> {
     {
         let (control, memory) = open(alloc, config)?;
         Ok(Fib { control, memory })
+    }
+
+    /// Opens a table with the rules of a list, in whatever order they are, as [`Fib::of_sorted`] does of one
+    /// in order. It takes much less time than to add them one by one.
+    ///
+    /// It ends with `Memory` also where the list has more than 67,108,864 rules.
+    pub fn load(
+        alloc: Global,
+        config: Config,
+        rules: &[Rule<FIRST, SECOND>],
+    ) -> Result<Option<Self>, OpenError>
+        requires shape { IsShape FIRST SECOND }
+        ensures opened { IfOk result (λ o. IfSome o (λ fib.
+            fib ≡ initial_fib_with config (rules_of rules.now))) }
+        ensures rules_fit { IfOk result (λ o. IfSome o (λ _.
+            map.len (rules_of rules.now) ≤ config.rules)) }
+        ensures groups_fit { IfOk result (λ o. IfSome o (λ _.
+            groups_in_use FIRST SECOND (rules_of rules.now) ≤ config.groups)) }
+        ensures none { IfOk result (λ o. IsNone o
+            → (config.rules < map.len (rules_of rules.now))
+            ⊎ (config.groups < groups_in_use FIRST SECOND (rules_of rules.now))) }
+        ensures limits { IfOk result (λ _. IsConfig config) }
+        ensures bad_config { IfErr result
+            (λ error. (error ≡ OpenError.BadConfig) ↔ (¬ IsConfig config)) }
+    {
+        config.check()?;
+        let sorted = sorted_rules(alloc, rules)?;
+        Fib::of_sorted(alloc, config, &sorted)
     }
 
     /// Opens a table with the rules of a list, which is in the order of its prefixes
@@ -164,6 +195,16 @@ impl<const FIRST: u32, const SECOND: u32> Fib<FIRST, SECOND> {
         self.control.rules.next_rule(after)
     }
 
+    /// The rule that answers the address: that of the longest prefix of the address that has a rule. It
+    /// searches the rule list for each length, up to the first find, so it takes longer than
+    /// [`lookup`](Fib::lookup).
+    pub fn lookup_rule(&self, addr: u32) -> Option<Rule<FIRST, SECOND>>
+        requires { addr < 2 ^ (FIRST + SECOND) }
+        ensures { IsMatch FIRST SECOND self.now.table.rules addr result }
+    {
+        self.control.rules.lookup_rule(addr)
+    }
+
     /// The number of rules.
     pub fn rules(&self) -> usize
         ensures { result ≡ map.len self.now.table.rules }
@@ -225,6 +266,27 @@ impl<const FIRST: u32, const SECOND: u32> Fib<FIRST, SECOND> {
         ensures config { self.new.config ≡ self.old.config }
     {
         add_rule(&mut self.control, &mut self.memory, prefix, hop)
+    }
+
+    /// Adds a rule as [`add`](Fib::add) does, and returns the next hop that the prefix had: none where it
+    /// had no rule. It searches the rule list once more than `add`.
+    pub fn insert(
+        &mut self,
+        prefix: &Prefix<FIRST, SECOND>,
+        hop: Hop,
+    ) -> Result<Option<Hop>, Refusal>
+        ensures replaced { IfOk result (λ old. old ≡ map.get self.old.table.rules prefix.now) }
+        ensures adds { (put : Result Put Refusal)
+            × MatchResult result (λ _. IsOk put) (λ error. put ≡ Err error)
+            × Adds counter_transitions FIRST SECOND self.old.config self.old.table
+            prefix.now hop put self.new.table }
+        ensures config { self.new.config ≡ self.old.config }
+    {
+        let old = self.get(prefix);
+        match self.add(prefix, hop) {
+            Ok(_) => Ok(old),
+            Err(refusal) => Err(refusal),
+        }
     }
 
     /// Deletes the rule of this prefix, and returns its next hop. Its addresses go to the longest

@@ -1,6 +1,7 @@
 //! Lookups of several addresses, and words loaded ahead of changes.
 
-ghost use Rattle.std.specs.Prelude.{◌≡◌, ℕ, ◌+◌, ◌^◌, ◌<◌, ◌↔◌, All, IfOk, IsTrue, slice_index};
+ghost use Rattle.std.specs.Prelude.{◌≡◌, ℕ, ◌+◌, ◌^◌, ◌<◌, ◌↔◌, All, IfOk, IsTrue, drop, length, min, slice_index, take};
+ghost use Rattle.std.specs.List.{AllZip};
 ghost use Rattle.lpm_rules.specs.Longest.{AreLongestHops};
 ghost use Rattle.fib.specs.Lookups.{IsCovered, IsHopOrDefault};
 
@@ -60,5 +61,24 @@ impl<const FIRST: u32, const SECOND: u32> Fib<FIRST, SECOND> {
         ensures { IsTrue result ↔ IsCovered (FIRST + SECOND) self.now.table.rules prefix.now.bits }
     {
         self.lookup(prefix.bits()).is_some()
+    }
+}
+
+impl Fib<24, 8> {
+    /// Looks addresses up, and puts their next hops into `hops`, in their order, with `default` for an
+    /// address that no rule covers. It answers as many addresses as both lists have room for, and returns
+    /// how many those are. What stands behind them in `hops` stays.
+    #[inline]
+    pub fn lookup_bulk(&self, addrs: &[u32], default: u32, hops: &mut [u32]) -> usize
+        ensures count { result ≡ min (length addrs.now) (length hops.old) }
+        ensures answers { AllZip (IsHopOrDefault 32 self.now.table.rules default)
+            (take result addrs.now) (take result hops.new) }
+        ensures rest { drop result hops.new ≡ drop result hops.old }
+    {
+        let count = addrs.len().min(hops.len());
+        for i in 0..count {
+            hops[i] = self.hop_or(addrs[i], default);
+        }
+        count
     }
 }

@@ -20,10 +20,25 @@ use defer_queue::DeferQueue;
 use lpm_cells::{Entry, PlainCells};
 use lpm_groups::Groups;
 use lpm_rules::{Rule, Rules, count_rules};
-use lpm_sweep::{Swept, sweep};
+use lpm_sweep::{MOST_SORTED, Swept, in_order, sweep};
 use lpm_writer::{ControlState, GroupPool, PlainMemory};
 use qsbr::{Config, Domain};
 use std::alloc::{AllocError, Global};
+
+/// The rules of a list in the order of their prefixes. The error is want of memory, or of room for the
+/// sort, which takes at most 67,108,864 rules.
+pub fn sorted_rules<const FIRST: u32, const SECOND: u32>(
+    alloc: Global,
+    rules: &[Rule<FIRST, SECOND>],
+) -> Result<Vec<Rule<FIRST, SECOND>>, AllocError>
+    ensures ordered { IfOk result (λ v. AreInOrder v.items) }
+    ensures same { IfOk result (λ v. rules_of v.items ≡ rules_of rules.now) }
+{
+    if rules.len() > MOST_SORTED {
+        return Err(AllocError);
+    }
+    in_order(alloc, rules)
+}
 
 /// The words of groups, with misses behind them up to so many words.
 fn with_misses(mut words: Vec<u32>, count: usize) -> Result<Vec<u32>, AllocError>

@@ -26,7 +26,10 @@ fn routes_of(alloc: Global, text: &str) -> Result<Vec<Rule>> {
     let mut routes = Vec::new(alloc);
     for line in text.lines() {
         let (prefix, hop) = line.split_once(' ').context("a route needs a next hop")?;
-        routes.push(Rule::new(prefix.parse()?, hop.parse()?))?;
+        routes.push(Rule {
+            prefix: prefix.parse()?,
+            hop: hop.parse()?,
+        })?;
     }
     Ok(routes)
 }
@@ -112,7 +115,7 @@ fn main(rt: HostRuntime) -> Result<()> {
     let routes = routes_of(alloc, fs::read_to_string(&rt, "routes.txt")?.as_str())?;
     let changes = changes_of(alloc, fs::read_to_string(&rt, "changes.txt")?.as_str())?;
     let packets = packets_of(alloc, fs::read_to_string(&rt, "packets.txt")?.as_str())?;
-    let Some(mut owner) = Owner::of_rules(alloc, Config::default(), &routes)? else {
+    let Some(mut owner) = Owner::load(alloc, Config::default(), &routes)? else {
         bail!("too many routes");
     };
     run(&rt, &mut owner, &changes, &packets)

@@ -8,9 +8,13 @@ ghost use Rattle.std.specs.Prelude.{◌≡◌, ℕ, ◌+◌, ◌-◌, ◌*◌, �
 ghost use Rattle.lpm_bits.specs.Widths.{IsShape};
 ghost use Rattle.lpm_bits.specs.Network.{Covers, IsNetwork, prefix_of};
 
+mod address;
+mod text;
+
 use std::error::Error;
 use std::fmt;
 use std::marker::Model;
+pub use text::ParseError;
 
 /// The two widths of a table: the bits that index the first table, and those that index a group.
 ///
@@ -60,8 +64,9 @@ impl Error for BadLength {}
 
 /// A prefix: the addresses that share its first `len` bits. Its host bits, those after them, are 0.
 ///
-/// The prefix of length 0 covers every address.
-#[derive(Clone, Copy, Debug, PartialEq, Eq)]
+/// The prefix of length 0 covers every address. Prefixes are ordered by their first addresses, and a
+/// shorter one comes before a longer one with the same first address.
+#[derive(Clone, Copy, Debug, PartialEq, Eq, PartialOrd, Ord, Hash)]
 pub struct Prefix<const FIRST: u32, const SECOND: u32> {
     bits: u32,
     len: u32,
@@ -139,8 +144,8 @@ impl fmt::Display for BadHop {
 
 impl Error for BadHop {}
 
-/// A next hop: a number of 24 bits, from 0 to 16,777,215.
-#[derive(Clone, Copy, Debug, PartialEq, Eq)]
+/// A next hop: a number of 24 bits, from 0 to 16,777,215. What it stands for is the program's.
+#[derive(Clone, Copy, Debug, PartialEq, Eq, PartialOrd, Ord, Hash)]
 pub struct Hop {
     number: u32,
 }
@@ -171,6 +176,7 @@ impl Hop {
     }
 
     /// Its number, below 16,777,216.
+    #[inline]
     pub fn number(self) -> u32
         ensures value { result ≡ self }
         ensures bound { result < 16777216 }

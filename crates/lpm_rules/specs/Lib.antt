@@ -6,3 +6,4 @@ pub mod View
 pub mod Listed
 pub mod Collected
 pub mod Walking
+pub mod Matches

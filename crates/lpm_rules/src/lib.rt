@@ -17,6 +17,7 @@ ghost use Rattle.lpm_rules.specs.Longest.{IsLongestHop, IsUncovered, IsCoverRule
 mod collecting;
 mod counting;
 pub mod laws;
+mod matching;
 mod walking;
 
 use collecting::{maps_by_length, pairs_by_length};

@@ -2,33 +2,23 @@
 //!
 //! [`Table`] is the table of one thread. [`Owner`] and [`Reader`] are a running table: the owner changes it
 //! while each reader looks up on a thread of its own, with no lock.
+//!
+//! The types are those of the crates below, of which this one names what a program calls.
 #![tactic(auto)]
 
-mod address;
-mod grace;
-mod hop;
-mod loading;
-mod matches;
-mod owner;
-mod prefix;
-mod reader;
-mod rule;
-mod table;
-mod table_lookups;
-mod text;
-mod walk;
-
 pub use defer_queue::Reclaimed;
-pub use grace::{GracePeriod, Held, NotStarted};
-pub use hop::Hop;
-pub use lpm_bits::{BadHop, BadLength};
+pub use lpm_bits::{BadHop, BadLength, Hop, ParseError};
 pub use lpm_groups::Counts;
-pub use lpm_rules::Put;
-pub use owner::Owner;
-pub use prefix::Prefix;
+pub use lpm_rules::{Answer, Put};
 pub use qsbr::{BadConfig, Busy, Config, Range, Refusal};
-pub use reader::{Answer, Reader};
-pub use rule::Rule;
-pub use shared_fib::{Burst, Exhausted, FourHops, OpenError};
-pub use table::Table;
-pub use text::ParseError;
+pub use shared_fib::owner_grace::{GracePeriod, Held, NotStarted};
+pub use shared_fib::{Burst, Exhausted, FourHops, OpenError, Owner, Reader};
+
+/// A prefix: the IPv4 addresses that share its first `len` bits. It prints and parses as `10.0.0.0/8`.
+pub type Prefix = lpm_bits::Prefix<24, 8>;
+
+/// A rule: the addresses of its `prefix` go to its `hop`, unless a longer rule covers them.
+pub type Rule = lpm_rules::Rule<24, 8>;
+
+/// An IPv4 route table for one thread, which changes it between its lookups.
+pub type Table = fib::Fib<24, 8>;

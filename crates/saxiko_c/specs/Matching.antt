@@ -2,7 +2,7 @@
 use Rattle.std.specs.Prelude.{ℕ, ℤ, ◌≡◌, Option, Some, None}
 use Rattle.lpm_rules.specs.RuleMap.{RuleMap}
 use Rattle.lpm_rules.specs.declared.Rule.{Rule}
-use Rattle.shared_fib.specs.Matches.{IsMatch}
+use Rattle.lpm_rules.specs.Matches.{IsMatch}
 use Rattle.saxiko_c.specs.Status.{success, no_entry}
 use Rattle.saxiko_c.specs.declared.records.SaxikoRoute.{SaxikoRoute}
 
@@ -18,4 +18,4 @@ TellsRule (Some rule) before after status = (status ≡ success) × (after ≡ r
 -- the rule that answers the address
 abbrev pub FindsRule : ℕ → SaxikoRoute → SaxikoRoute → RuleMap → ℤ → Type 0
 FindsRule addr before after R status =
-    (found : Option (Rule 24 8)) × IsMatch R addr found × TellsRule found before after status
+    (found : Option (Rule 24 8)) × IsMatch 24 8 R addr found × TellsRule found before after status

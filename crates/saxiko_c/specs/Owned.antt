@@ -14,7 +14,7 @@ use Rattle.fib.specs.contracts.fib.Fib.{the_row}
 use Rattle.shared_fib.specs.Passes.{PassState, coded_pass}
 use Rattle.saxiko_c.specs.Owners.{OwnerState, coded_owner}
 use Rattle.saxiko_c.specs.contracts.owner.Owner as owner
-use Rattle.saxiko_c.specs.contracts.reader.Reader as reader
+use Rattle.shared_fib.specs.contracts.reader.Reader as reader
 
 abbrev pub fib_row : RattleType
 fib_row = the_row (number 24) (number 8)

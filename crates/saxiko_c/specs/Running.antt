@@ -18,7 +18,7 @@ use Rattle.shared_fib.specs.Freeing.{FreesChecked}
 use Rattle.shared_fib.specs.Bursts.{LooksUpBurst}
 use Rattle.shared_fib.specs.Passes.{PassState, IsBenchOf, IsFullBench, IsPassOf, LooksUp, Makes}
 use Rattle.shared_words.specs.Rule.{IsLater}
-use Rattle.shared_fib.specs.Running.{IsAtRest, by_steps, hop_or, initial_writer, initial_state, steps_of, token_of}
+use Rattle.shared_fib.specs.Running.{IsAtRest, WriterState, by_steps, hop_or, initial_writer, initial_state, steps_of, token_of}
 use Rattle.saxiko_c.specs.Owners.{OwnerState}
 use Rattle.saxiko_c.specs.Status.{success, no_memory, busy, invalid, not_permitted, already, add_status, status_of}
 use Rattle.saxiko_c.specs.Table.{IsBad, IsUnopened, Stores, Tells}
@@ -96,18 +96,18 @@ GetsFrom addr depth before after o status =
     ⊎ ((depth ≤ 32) × Tells (get o.writer.table.rules (prefix_of 32 depth addr)) status before after)
 
 -- rules, versions, token and groups are counted
-pub record IsCountedIn (o : OwnerState) (c : SaxikoCounts) : Type 0 where
-  pub rules : c.rules ≡ len o.writer.table.rules
-  pub versions : c.versions ≡ o.writer.table.begun
-  pub token : c.token ≡ token_of o.writer
-  pub in_use : c.groups_in_use ≡ groups_in_use 24 8 o.writer.table.rules
-  pub waiting : c.groups_waiting ≡ length o.writer.table.limbo
-  pub all : c.groups_in_use + c.groups_waiting + c.groups_free ≡ o.writer.config.groups
+pub record IsCountedIn (w : WriterState) (c : SaxikoCounts) : Type 0 where
+  pub rules : c.rules ≡ len w.table.rules
+  pub versions : c.versions ≡ w.table.begun
+  pub token : c.token ≡ token_of w
+  pub in_use : c.groups_in_use ≡ groups_in_use 24 8 w.table.rules
+  pub waiting : c.groups_waiting ≡ length w.table.limbo
+  pub all : c.groups_in_use + c.groups_waiting + c.groups_free ≡ w.config.groups
 
 -- and the table is at rest: by its rules the words answer each address, and each of the writer's steps so far
 -- might come after those before it
 abbrev pub Counts : SaxikoCounts → OwnerState → ℤ → Type 0
-Counts c o status = (status ≡ success) × IsCountedIn o c × IsAtRest o.writer
+Counts c o status = (status ≡ success) × IsCountedIn o.writer c × IsAtRest o.writer
 
 -- ---- readers
 

@@ -1,31 +1,42 @@
--- This layer's own: the writer of an owner, at rest or in a grace period.
-use Rattle.std.specs.Prelude.{◌≡◌, Bool, true, false}
+-- This layer's own: the owner of a running table, at rest or in a grace period.
+use Rattle.std.specs.Prelude.{Bool, true, false, [], ⊤}
 use Rattle.std.specs.FinMap.{empty}
-use Rattle.shared_fib.specs.Running.{Identity, WriterState, initial_writer}
+use Rattle.shared_fib.specs.Owned.{OwnerState as Owned}
+use Rattle.shared_fib.specs.Running.{Identity, initial_writer}
 use Rattle.saxiko_c.specs.declared.stage.Stage.{Stage}
 use Rattle.saxiko_c.specs.declared.stage.Stage.TheVariants.{AtRest, Waiting, Moving}
 
+-- what stands for the state between the two
+abbrev no_table : Identity
+no_table = record {
+  words = record { words = 0; slots = 0; views_name = 0; atom = 0; block = 0; offset = 0; slot_names = [] };
+  initial = record { first = 0; second = 0; workers = 0; token = 0; firsts = []; seconds = []; rules = empty; blocks = [] };
+}
+
 -- its state; between the two it stands for none
-abbrev pub writer_in : Identity → Stage → WriterState
-writer_in table (AtRest writer) = writer
-writer_in table (Waiting period) = period
-writer_in table Moving = initial_writer table (record {
-  rules = 0;
-  groups = 0;
-  workers = 0;
-  threshold = 0;
-  reclaim_max = 0;
-  first_token = 0;
-}) empty
+abbrev pub owned_in : Stage → Owned
+owned_in (AtRest owner) = owner
+owned_in (Waiting period) = period
+owned_in Moving = record {
+  writer = initial_writer no_table (record {
+    rules = 0;
+    groups = 0;
+    workers = 0;
+    threshold = 0;
+    reclaim_max = 0;
+    first_token = 0;
+  }) empty;
+  bench = [];
+}
 
 -- whether a grace period lasts
 abbrev pub waits_in : Stage → Bool
-waits_in (AtRest writer) = false
+waits_in (AtRest owner) = false
 waits_in (Waiting period) = true
 waits_in Moving = false
 
--- the writer is of this table
-abbrev pub IsStageOf : Identity → Stage → Type 0
-IsStageOf table (AtRest writer) = writer.identity ≡ table
-IsStageOf table (Waiting period) = period.identity ≡ table
-IsStageOf table Moving = ⊥
+-- it isn't on its way from one to the other
+abbrev pub IsSettled : Stage → Type 0
+IsSettled (AtRest owner) = ⊤
+IsSettled (Waiting period) = ⊤
+IsSettled Moving = ⊥

@@ -7,9 +7,9 @@ ghost use Rattle.shared_fib.specs.Running.{hop_or};
 ghost use Rattle.saxiko_c.specs.Running.{FindsEach};
 ghost use Rattle.saxiko_c.specs.declared.records.SaxikoSpan.{SaxikoSpan as Span};
 
-use crate::reader::Reader;
 use crate::records::SaxikoSpan;
 use crate::running::number_or;
+use shared_fib::Reader;
 
 /// The four addresses at this place.
 #[inline]

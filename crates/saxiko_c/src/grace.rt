@@ -12,7 +12,8 @@ use crate::records::SaxikoHeld;
 use crate::stage::Stage;
 use crate::status::{EALREADY, EOVERFLOW, EPERM};
 use lpm_limits::Busy;
-use shared_fib::{Exhausted, Held, NotStarted};
+use shared_fib::Exhausted;
+use shared_fib::owner_grace::{Held, NotStarted};
 use std::mem;
 
 impl Owner {
@@ -43,16 +44,16 @@ impl Owner {
         ensures bench { self.new.bench ≡ self.old.bench }
         ensures unchanged { OnErr result (self.new ≡ self.old) }
     {
-        let Stage::AtRest(writer) = mem::replace(&mut self.stage, Stage::Moving) else {
+        let Stage::AtRest(owner) = mem::replace(&mut self.stage, Stage::Moving) else {
             unreachable!()
         };
-        match writer.start(&*self.table) {
+        match owner.start() {
             Ok(period) => {
                 self.stage = Stage::Waiting(period);
                 Ok(())
             }
-            Err(NotStarted { writer }) => {
-                self.stage = Stage::AtRest(writer);
+            Err(NotStarted { owner }) => {
+                self.stage = Stage::AtRest(owner);
                 Err(Exhausted)
             }
         }
@@ -81,9 +82,9 @@ impl Owner {
         let Stage::Waiting(period) = mem::replace(&mut self.stage, Stage::Moving) else {
             unreachable!()
         };
-        match period.check(&*self.table) {
-            Ok(writer) => {
-                self.stage = Stage::AtRest(writer);
+        match period.check() {
+            Ok(owner) => {
+                self.stage = Stage::AtRest(owner);
                 Ok(())
             }
             Err(Held { period, busy }) => {

@@ -6,6 +6,7 @@ ghost use Rattle.saxiko_c.specs.Inserting.{InsertsRule, InsertsTo};
 
 use crate::owner::Owner;
 use crate::running::number_or;
+use crate::stage::Stage;
 use crate::status::{EAGAIN, EINVAL, of_put, of_refusal};
 use fib::Fib;
 use lpm_bits::{Hop, Prefix};
@@ -44,13 +45,13 @@ pub(crate) fn insert_by_writer(
     ensures { AtRest (InsertsTo addr depth hop had.old had.new) (had.new ≡ had.old)
         owner.old result owner.new }
 {
-    if owner.is_waiting() {
+    let Stage::AtRest(running) = &mut owner.stage else {
         return EAGAIN;
-    }
+    };
     match (Prefix::new(addr, u32::from(depth)), Hop::new(hop)) {
         (Ok(prefix), Ok(hop)) => {
-            let replaced = owner.get(&prefix);
-            match owner.add(&prefix, hop) {
+            let replaced = running.get(&prefix);
+            match running.add(&prefix, hop) {
                 Ok(put) => {
                     *had = number_or(replaced, *had);
                     of_put(put)

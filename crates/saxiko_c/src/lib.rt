@@ -14,7 +14,6 @@ mod loose;
 mod matches;
 mod matches_calls;
 mod owner;
-mod reader;
 mod reader_handle;
 mod records;
 mod running;

@@ -10,7 +10,7 @@ use fib::{Fib, OpenError};
 use lpm_bits::{Hop, Prefix};
 use lpm_limits::Config;
 use lpm_rules::Rule;
-use lpm_sweep::{MOST_SORTED, in_order};
+use lpm_sweep::MOST_SORTED;
 use std::alloc::Global;
 
 /// The rule of a route; none where it is none.
@@ -70,10 +70,7 @@ pub(crate) fn load(
         Ok(rules) => rules,
         Err(status) => return Err(status),
     };
-    let Ok(sorted) = in_order(alloc, &rules) else {
-        return Err(ENOMEM);
-    };
-    match Fib::of_sorted(alloc, config, &sorted) {
+    match Fib::load(alloc, config, &rules) {
         Ok(Some(fib)) => match Box::new(alloc, fib) {
             Ok(boxed) => Ok(boxed),
             Err(_) => Err(ENOMEM),

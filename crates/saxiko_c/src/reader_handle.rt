@@ -5,7 +5,7 @@ ghost use Rattle.shared_fib.specs.Passes.{PassState};
 ghost use Rattle.saxiko_c.specs.Owned.{reader_owns, coded_reader_kept};
 
 use crate::loose::Loose;
-use crate::reader::Reader;
+use shared_fib::Reader;
 use std::alloc::Global;
 use std::marker::Model;
 use std::ptr::null_mut;

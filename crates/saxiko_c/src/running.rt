@@ -11,22 +11,23 @@ ghost use Rattle.saxiko_c.specs.Table.{IsUnopened};
 use crate::bursts::{find_all, find_all_within};
 use crate::loading::read;
 use crate::owner::Owner;
-use crate::reader::Reader;
 use crate::records::{SaxikoCounts, SaxikoHeld, SaxikoRoute, SaxikoSpan};
+use crate::stage::Stage;
 use crate::status::{
     E2BIG, EAGAIN, EALREADY, EBUSY, EINVAL, ENOENT, ENOMEM, ENOSPC, EPERM, of_put, of_refusal,
 };
+use crate::table::store_deleted;
 use lpm_bits::{Hop, Prefix};
 use lpm_limits::{Config, Refusal};
-use lpm_sweep::{MOST_SORTED, in_order};
-use shared_fib::OpenError;
+use lpm_sweep::MOST_SORTED;
+use shared_fib::{OpenError, Reader};
 use std::alloc::Global;
 
 pub(crate) fn open(alloc: Global, config: Config) -> Result<Box<Owner>, i32>
     ensures { MatchResult result (λ b. IsOpened config b.value) (IsUnopened config) }
 {
-    match Owner::open(alloc, config) {
-        Ok(owner) => match Box::new(alloc, owner) {
+    match shared_fib::Owner::open(alloc, config) {
+        Ok(owner) => match Box::new(alloc, Owner::new(owner)) {
             Ok(boxed) => Ok(boxed),
             Err(_) => Err(ENOMEM),
         },
@@ -53,11 +54,8 @@ pub(crate) fn load(
         Ok(rules) => rules,
         Err(status) => return Err(status),
     };
-    let Ok(sorted) = in_order(alloc, &rules) else {
-        return Err(ENOMEM);
-    };
-    match Owner::open_sorted(alloc, config, sorted) {
-        Ok(Some(owner)) => match Box::new(alloc, owner) {
+    match shared_fib::Owner::load(alloc, config, &rules) {
+        Ok(Some(owner)) => match Box::new(alloc, Owner::new(owner)) {
             Ok(boxed) => Ok(boxed),
             Err(_) => Err(ENOMEM),
         },
@@ -70,11 +68,11 @@ pub(crate) fn load(
 pub(crate) fn add(owner: &mut Owner, addr: u32, depth: u8, hop: u32) -> i32
     ensures { AtRest (AddsTo addr depth hop) ⊤ owner.old result owner.new }
 {
-    if owner.is_waiting() {
+    let Stage::AtRest(running) = &mut owner.stage else {
         return EAGAIN;
-    }
+    };
     match (Prefix::new(addr, u32::from(depth)), Hop::new(hop)) {
-        (Ok(prefix), Ok(hop)) => match owner.add(&prefix, hop) {
+        (Ok(prefix), Ok(hop)) => match running.add(&prefix, hop) {
             Ok(put) => of_put(put),
             Err(refusal) => of_refusal(refusal),
         },
@@ -86,17 +84,11 @@ pub(crate) fn delete(owner: &mut Owner, addr: u32, depth: u8, hop: &mut u32) -> 
     ensures { AtRest (DeletesFrom addr depth hop.old hop.new) (hop.new ≡ hop.old)
         owner.old result owner.new }
 {
-    if owner.is_waiting() {
+    let Stage::AtRest(running) = &mut owner.stage else {
         return EAGAIN;
-    }
+    };
     match Prefix::new(addr, u32::from(depth)) {
-        Ok(prefix) => match owner.delete(&prefix) {
-            Ok(deleted) => {
-                *hop = deleted.number();
-                0
-            }
-            Err(refusal) => of_refusal(refusal),
-        },
+        Ok(prefix) => store_deleted(running.delete(&prefix), hop),
         Err(_) => EINVAL,
     }
 }
@@ -105,10 +97,10 @@ pub(crate) fn flush(owner: &mut Owner, rules: &mut usize) -> i32
     ensures { AtRest (Flushes rules.old rules.new) (rules.new ≡ rules.old)
         owner.old result owner.new }
 {
-    if owner.is_waiting() {
+    let Stage::AtRest(running) = &mut owner.stage else {
         return EAGAIN;
-    }
-    match owner.flush() {
+    };
+    match running.flush() {
         Ok(flushed) => {
             *rules = flushed;
             0
@@ -127,10 +119,10 @@ pub(crate) fn reclaim(
     ensures { AtRest (FreesHeld max freed.new held.old held.new)
         ((freed.new ≡ freed.old) × (held.new ≡ held.old)) owner.old result owner.new }
 {
-    if owner.is_waiting() {
+    let Stage::AtRest(running) = &mut owner.stage else {
         return EAGAIN;
-    }
-    let reclaimed = owner.reclaim(max);
+    };
+    let reclaimed = running.reclaim(max);
     *freed = reclaimed.freed;
     match reclaimed.stopped {
         Some(busy) => {
@@ -147,11 +139,11 @@ pub(crate) fn reclaim(
 pub(crate) fn get(owner: &Owner, addr: u32, depth: u8, hop: &mut u32) -> i32
     ensures { AsksAtRest (GetsFrom addr depth hop.old hop.new) (hop.new ≡ hop.old) owner.now result }
 {
-    if owner.is_waiting() {
+    let Stage::AtRest(running) = &owner.stage else {
         return EAGAIN;
-    }
+    };
     match Prefix::new(addr, u32::from(depth)) {
-        Ok(prefix) => match owner.get(&prefix) {
+        Ok(prefix) => match running.get(&prefix) {
             Some(found) => {
                 *hop = found.number();
                 0
@@ -162,18 +154,17 @@ pub(crate) fn get(owner: &Owner, addr: u32, depth: u8, hop: &mut u32) -> i32
     }
 }
 
-fn count(owner: &mut Owner) -> SaxikoCounts
-    requires at_rest { owner.old.waits ≡ false }
-    ensures counted { IsCountedIn owner.old result }
-    ensures rests { IsAtRest owner.old.writer }
-    ensures same { owner.new ≡ owner.old }
+fn count(running: &mut shared_fib::Owner) -> SaxikoCounts
+    ensures counted { IsCountedIn running.old.writer result }
+    ensures rests { IsAtRest running.old.writer }
+    ensures same { running.new ≡ running.old }
 {
-    owner.at_rest();
-    let groups = owner.counts();
+    running.at_rest();
+    let groups = running.counts();
     SaxikoCounts {
-        rules: owner.rules() as u64,
-        versions: owner.versions(),
-        token: owner.token(),
+        rules: running.rules() as u64,
+        versions: running.versions(),
+        token: running.token(),
         groups_in_use: groups.in_use as u64,
         groups_waiting: groups.limbo as u64,
         groups_free: groups.free as u64,
@@ -184,10 +175,10 @@ pub(crate) fn counts(owner: &mut Owner, counts: &mut SaxikoCounts) -> i32
     ensures counted { AsksAtRest (Counts counts.new) (counts.new ≡ counts.old) owner.old result }
     ensures same { owner.new ≡ owner.old }
 {
-    if owner.is_waiting() {
+    let Stage::AtRest(running) = &mut owner.stage else {
         return EAGAIN;
-    }
-    *counts = count(owner);
+    };
+    *counts = count(running);
     0
 }
 

@@ -9,12 +9,12 @@ ghost use Rattle.saxiko_c.specs.Running.{AddsTo, AreOfOneTable, Counts, DeletesF
 
 use crate::loose::Loose;
 use crate::owner::Owner;
-use crate::reader::Reader;
 use crate::reader_handle::SaxikoReader;
 use crate::records::{SaxikoConfig, SaxikoCounts, SaxikoHeld, SaxikoRoute, SaxikoSpan};
 use crate::running;
 use crate::status::{EBUSY, EINVAL};
 use crate::writer_handle::SaxikoWriter;
+use shared_fib::Reader;
 use std::alloc::Global;
 use std::mem;
 

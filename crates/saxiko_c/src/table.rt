@@ -4,14 +4,14 @@ ghost use Rattle.std.specs.Prelude.{◌≡◌, ◌+◌, MatchResult};
 ghost use Rattle.lpm_limits.specs.Limits.{IsConfig};
 ghost use Rattle.fib.specs.Fib.{initial_fib};
 ghost use Rattle.fib.specs.Lookups.{IsHopOrDefault};
-ghost use Rattle.saxiko_c.specs.Status.{success};
-ghost use Rattle.saxiko_c.specs.Table.{AddsRule, Counts, DeletesRule, Finds, FindsAll, FlushesRules, FreesGroups, Gets, IsCounted, IsUnopened};
+ghost use Rattle.saxiko_c.specs.Status.{status_of};
+ghost use Rattle.saxiko_c.specs.Table.{AddsRule, Counts, DeletesRule, Finds, FindsAll, FlushesRules, FreesGroups, Gets, IsCounted, IsUnopened, Stores};
 
 use crate::records::SaxikoCounts;
 use crate::status::{EINVAL, ENOENT, ENOMEM, of_put, of_refusal};
 use fib::{Fib, OpenError};
 use lpm_bits::{Hop, Prefix};
-use lpm_limits::Config;
+use lpm_limits::{Config, Refusal};
 use std::alloc::Global;
 
 pub(crate) fn open(alloc: Global, config: Config) -> Result<Box<Fib<24, 8>>, i32>
@@ -40,17 +40,25 @@ pub(crate) fn add(fib: &mut Fib<24, 8>, addr: u32, depth: u8, hop: u32) -> i32
     }
 }
 
+/// Stores the next hop of the rule that was deleted.
+pub(crate) fn store_deleted(deleted: Result<Hop, Refusal>, hop: &mut u32) -> i32
+    ensures stores { Stores deleted hop.old hop.new }
+    ensures status { result ≡ status_of deleted }
+{
+    match deleted {
+        Ok(deleted) => {
+            *hop = deleted.number();
+            0
+        }
+        Err(refusal) => of_refusal(refusal),
+    }
+}
+
 pub(crate) fn delete(fib: &mut Fib<24, 8>, addr: u32, depth: u8, hop: &mut u32) -> i32
     ensures { DeletesRule addr depth hop.old hop.new fib.old result fib.new }
 {
     match Prefix::new(addr, u32::from(depth)) {
-        Ok(prefix) => match fib.delete(&prefix) {
-            Ok(deleted) => {
-                *hop = deleted.number();
-                0
-            }
-            Err(refusal) => of_refusal(refusal),
-        },
+        Ok(prefix) => store_deleted(fib.delete(&prefix), hop),
         Err(_) => EINVAL,
     }
 }

@@ -7,6 +7,7 @@ ghost use Rattle.saxiko_c.specs.Walking.{FindsFirst, FindsNext};
 use crate::matches::tell;
 use crate::owner::Owner;
 use crate::records::SaxikoRoute;
+use crate::stage::Stage;
 use crate::status::{EAGAIN, EINVAL};
 use fib::Fib;
 use lpm_bits::Prefix;
@@ -30,21 +31,21 @@ pub(crate) fn first_of_writer(owner: &Owner, rule: &mut SaxikoRoute) -> i32
     ensures { AsksAtRest (λ o. FindsFirst rule.old rule.new o.writer.table.rules)
         (rule.new ≡ rule.old) owner.now result }
 {
-    if owner.is_waiting() {
+    let Stage::AtRest(running) = &owner.stage else {
         return EAGAIN;
-    }
-    tell(owner.next_rule(None), rule)
+    };
+    tell(running.next_rule(None), rule)
 }
 
 pub(crate) fn next_of_writer(owner: &Owner, addr: u32, depth: u8, rule: &mut SaxikoRoute) -> i32
     ensures { AsksAtRest (λ o. FindsNext addr depth rule.old rule.new o.writer.table.rules)
         (rule.new ≡ rule.old) owner.now result }
 {
-    if owner.is_waiting() {
+    let Stage::AtRest(running) = &owner.stage else {
         return EAGAIN;
-    }
+    };
     match Prefix::new(addr, u32::from(depth)) {
-        Ok(prefix) => tell(owner.next_rule(Some(prefix)), rule),
+        Ok(prefix) => tell(running.next_rule(Some(prefix)), rule),
         Err(_) => EINVAL,
     }
 }

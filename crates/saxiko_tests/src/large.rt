@@ -13,7 +13,7 @@ fn rules<R: Abort>(rt: &R, alloc: Global) -> Vec<Rule> {
         let back = COUNT - 1 - number;
         let prefix = Prefix::new(back * 256, 24).expect(rt, "prefix");
         let hop = Hop::new(back).expect(rt, "hop");
-        rules.push(Rule::new(prefix, hop)).expect(rt, "memory");
+        rules.push(Rule { prefix, hop }).expect(rt, "memory");
     }
     rules
 }
@@ -21,7 +21,7 @@ fn rules<R: Abort>(rt: &R, alloc: Global) -> Vec<Rule> {
 #[test]
 fn a_large_table_answers(rt: HostRuntime) {
     let rules = rules(&rt, rt.alloc());
-    let table = Table::of_rules(rt.alloc(), Config::default(), &rules)
+    let table = Table::load(rt.alloc(), Config::default(), &rules)
         .expect(&rt, "open")
         .expect(&rt, "fits");
     assert!(rt; table.rules() == 300_000);
@@ -32,7 +32,7 @@ fn a_large_table_answers(rt: HostRuntime) {
 #[test]
 fn a_large_running_table_answers(rt: HostRuntime) {
     let rules = rules(&rt, rt.alloc());
-    let mut owner = Owner::of_rules(rt.alloc(), Config::default(), &rules)
+    let mut owner = Owner::load(rt.alloc(), Config::default(), &rules)
         .expect(&rt, "open")
         .expect(&rt, "fits");
     assert!(rt; owner.rules() == 300_000);

@@ -35,10 +35,16 @@ fn a_burst_is_answered_between_two_versions(rt: HostRuntime) {
     let two = Hop::new(2).expect(&rt, "hop");
     let wide = Prefix::new(0x0a00_0000, 8).expect(&rt, "prefix");
     let rules = [
-        Rule::new(Prefix::new(0x0a01_8080, 25).expect(&rt, "prefix"), two),
-        Rule::new(wide, one),
+        Rule {
+            prefix: Prefix::new(0x0a01_8080, 25).expect(&rt, "prefix"),
+            hop: two,
+        },
+        Rule {
+            prefix: wide,
+            hop: one,
+        },
     ];
-    let mut owner = Owner::of_rules(rt.alloc(), limits(), &rules)
+    let mut owner = Owner::load(rt.alloc(), limits(), &rules)
         .expect(&rt, "open")
         .expect(&rt, "fits");
     let mut reader = owner.register(0).expect(&rt, "register");

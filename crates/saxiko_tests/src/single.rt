@@ -30,10 +30,16 @@ fn a_table_of_rules_answers_in_bulk(rt: HostRuntime) {
     let one = Hop::new(1).expect(&rt, "hop");
     let two = Hop::new(2).expect(&rt, "hop");
     let rules = [
-        Rule::new(Prefix::new(0x0a01_8080, 25).expect(&rt, "prefix"), two),
-        Rule::new(Prefix::new(0x0a00_0000, 8).expect(&rt, "prefix"), one),
+        Rule {
+            prefix: Prefix::new(0x0a01_8080, 25).expect(&rt, "prefix"),
+            hop: two,
+        },
+        Rule {
+            prefix: Prefix::new(0x0a00_0000, 8).expect(&rt, "prefix"),
+            hop: one,
+        },
     ];
-    let table = Table::of_rules(rt.alloc(), limits(), &rules)
+    let table = Table::load(rt.alloc(), limits(), &rules)
         .expect(&rt, "open")
         .expect(&rt, "fits");
     assert!(rt; table.lookup_rule(0x0a01_8081) == Some(rules[0]));

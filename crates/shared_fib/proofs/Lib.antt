@@ -21,3 +21,5 @@ pub mod Since
 pub mod Unpacking
 pub mod Pairing
 pub mod Pieces
+pub mod Benches
+pub mod OpenedOwners

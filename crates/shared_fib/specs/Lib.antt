@@ -6,10 +6,10 @@ pub mod Versions
 pub mod Passes
 pub mod Loading
 pub mod GracePeriods
-pub mod Matches
 pub mod Laws
 pub mod Initial
 pub mod Lent
 pub mod LentLaws
 pub mod Pairs
 pub mod Bursts
+pub mod Owned

@@ -1,9 +1,10 @@
 //! What a writer tells of its table.
 
-ghost use Rattle.std.specs.Prelude.{◌≡◌, ◌+◌, ◌^◌, ◌≤◌, length};
+ghost use Rattle.std.specs.Prelude.{◌≡◌, ◌+◌, ◌^◌, ◌<◌, ◌≤◌, length};
 ghost use Rattle.std.specs.FinMap as map;
 ghost use Rattle.fib_model.specs.Outcomes.{groups_in_use};
 ghost use Rattle.lpm_limits.specs.Limits.{IsConfig};
+ghost use Rattle.lpm_rules.specs.Matches.{IsMatch};
 ghost use Rattle.lpm_rules.specs.Walking.{IsNextRule};
 ghost use Rattle.shared_fib.specs.Running.{IsAtRest, token_of};
 
@@ -27,6 +28,15 @@ impl<const FIRST: u32, const SECOND: u32> Writer<FIRST, SECOND> {
         ensures { IsNextRule self.now.table.rules after.entry result }
     {
         self.control.rules.next_rule(after)
+    }
+
+    /// The rule that answers the address: that of the longest prefix of the address that has a rule. It
+    /// searches the rule list for each length, up to the first find.
+    pub fn lookup_rule(&self, addr: u32) -> Option<Rule<FIRST, SECOND>>
+        requires { addr < 2 ^ (FIRST + SECOND) }
+        ensures { IsMatch FIRST SECOND self.now.table.rules addr result }
+    {
+        self.control.rules.lookup_rule(addr)
     }
 
     /// The number of rules.

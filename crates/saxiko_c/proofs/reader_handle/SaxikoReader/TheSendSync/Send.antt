@@ -7,7 +7,7 @@ use denote.Param.Send.{IsSend, AllSend, owning_send, struct_send, sendable}
 use Rattle.std.proofs.Crossing as heap
 use Rattle.std_alloc.proofs.SendSync.{quiet, lies}
 use Rattle.std_heap.proofs.Global.TheSendSync as global
-use Rattle.saxiko_c.proofs.reader.Reader.TheSendSync.{the_send as reader_send}
+use Rattle.shared_fib.proofs.reader.Reader.TheSendSync.{the_send as reader_send}
 use mathlib.Core.Bool.{Bool}
 use base.Shift.{Keyless}
 use denote.RawPtr.{Ptr}

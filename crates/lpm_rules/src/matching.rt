@@ -1,0 +1,24 @@
+//! The rule that answers an address.
+
+ghost use Rattle.std.specs.Prelude.{◌+◌, ◌^◌, ◌<◌};
+ghost use Rattle.lpm_rules.specs.Matches.{IsMatch};
+
+use crate::{Rule, Rules};
+
+impl<const FIRST: u32, const SECOND: u32> Rules<FIRST, SECOND> {
+    /// The rule that answers an address: that of the longest prefix of the address that has a rule. It
+    /// searches each length, up to the first find.
+    pub fn lookup_rule(&self, addr: u32) -> Option<Rule<FIRST, SECOND>>
+        requires { addr < 2 ^ (FIRST + SECOND) }
+        ensures { IsMatch FIRST SECOND self.now.rules addr result }
+    {
+        let _ = &self.lengths;
+        let width = FIRST + SECOND;
+        for host in 0..=width {
+            if let Some(rule) = self.covering(addr, width - host) {
+                return Some(rule);
+            }
+        }
+        None
+    }
+}

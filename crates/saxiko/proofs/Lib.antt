@@ -1,2 +1,0 @@
-mod Benches
-mod InitialData
