@@ -5,57 +5,19 @@ use super::asserting::assert_at;
 use super::table::{assert_number, figures};
 use fib::{Fib, Replay};
 use fib_model::{Order, Outcome};
-use lpm_bits::{Hop, Prefix};
+use lpm_bits::Hop;
 use lpm_groups::Counts;
 use lpm_rules::{Put, Rule, Rules};
 use lpm_sweep::are_in_order;
-use qsbr::Config;
 use std::alloc::{AllocError, Global};
 use std::process::Abort;
 use std::test::Fail;
-
-// How many rules, and addresses.
-const MANY: u32 = 300_000;
-
-// All limits are as great as they can be, but that the rules just fit.
-const LIMITS: Config = Config {
-    rules: MANY as usize,
-    groups: 65_536,
-    workers: 2_048,
-    threshold: 65_536,
-    reclaim_max: 65_536,
-    first_token: 1,
+use test_support::{
+    MANY, MANY_LIMITS, block, hop_number, many_plain, many_rules, rule_of, second_half,
 };
 
-// Whether the rule of this number is that of half a block. One in ten is.
-fn is_half(number: u32) -> bool {
-    number % 10 == 9
-}
-
-// The first address of the block of this number: they follow each other from 1.0.0.0 on.
-fn block(number: u32) -> u32 {
-    number.saturating_add(65_536).wrapping_mul(256)
-}
-
-// The rule of this number, which is its next hop's too.
-fn rule(rt: &impl Abort, number: u32) -> Rule<24, 8> {
-    let len = if is_half(number) { 25 } else { 24 };
-    let prefix = Prefix::new(block(number), len).expect(rt, "a length");
-    let hop = Hop::new(number).expect(rt, "a next hop");
-    Rule { prefix, hop }
-}
-
-// The rules, which are in the order of their prefixes.
-fn rules(rt: &impl Abort, alloc: Global) -> Result<Vec<Rule<24, 8>>, AllocError> {
-    let mut rules = Vec::new(alloc);
-    for number in 0..MANY {
-        rules.push(rule(rt, number))?;
-    }
-    Ok(rules)
-}
-
 fn addition(rt: &impl Abort, number: u32) -> Order<24, 8> {
-    let Rule { prefix, hop } = rule(rt, number);
+    let Rule { prefix, hop } = rule_of(many_plain(number)).expect(rt, "a rule");
     Order::Add(prefix, hop)
 }
 
@@ -76,11 +38,6 @@ fn addresses(alloc: Global) -> Result<Vec<u32>, AllocError> {
     Ok(addrs)
 }
 
-// The next hop of the address in the block of this number.
-fn number_of(number: u32) -> Option<u32> {
-    if is_half(number) { None } else { Some(number) }
-}
-
 fn assert_each(rt: &impl Abort, outcomes: &[Outcome], hops: &[Option<Hop>]) {
     let lens = (outcomes.len(), hops.len());
     assert_at(rt, "lists", lens, (MANY as usize, MANY as usize));
@@ -88,8 +45,7 @@ fn assert_each(rt: &impl Abort, outcomes: &[Outcome], hops: &[Option<Hop>]) {
         assert_at(rt, "an addition", *outcome, Outcome::Put(Put::Added));
     }
     for (hop, number) in hops.iter().zip(0..MANY) {
-        let found = hop.map(|hop| hop.number());
-        assert_at(rt, number, found, number_of(number));
+        assert_at(rt, number, hop_number(*hop), second_half(number));
     }
 }
 
@@ -112,7 +68,7 @@ fn assert_replayed(
     orders: &[Order<24, 8>],
     addrs: &[u32],
 ) -> Result<(), Fail> {
-    let replay = Fib::<24, 8>::replay(alloc, LIMITS, orders, addrs)?;
+    let replay = Fib::<24, 8>::replay(alloc, MANY_LIMITS, orders, addrs)?;
     assert_replay(rt, &replay);
     Ok(())
 }
@@ -136,25 +92,35 @@ fn assert_opened(rt: &impl Abort, fib: &Fib<24, 8>, versions: u64) {
         let first = block(number);
         assert_number(rt, "first", fib, first, Some(number));
         assert_number(rt, "last of the first half", fib, first | 127, Some(number));
-        assert_number(rt, "second half", fib, first | 128, number_of(number));
+        assert_number(rt, "second half", fib, first | 128, second_half(number));
     }
 }
 
-#[test]
-fn many_routes_at_once(rt: HostRuntime) -> Result<(), Fail> {
-    let rules = rules(&rt, rt.alloc())?;
-    assert!(&rt; are_in_order(&rules));
-    let fib = Fib::of_sorted(rt.alloc(), LIMITS, &rules)?.expect(&rt, "room");
-    assert_opened(&rt, &fib, 0);
-    Ok(())
+// The table that opens with these rules.
+fn opened_at_once(rt: &impl Abort, alloc: Global, rules: &[Rule<24, 8>]) -> Fib<24, 8> {
+    assert!(rt; are_in_order(rules));
+    let opened = Fib::of_sorted(alloc, MANY_LIMITS, rules).expect(rt, "memory");
+    opened.expect(rt, "room")
 }
 
 #[test]
-fn many_routes_as_a_version(rt: HostRuntime) -> Result<(), Fail> {
-    let rules = rules(&rt, rt.alloc())?;
-    assert!(&rt; are_in_order(&rules));
-    let list = Rules::of_sorted(rt.alloc(), LIMITS.rules, &rules)?;
-    let fib = Fib::of_rules(rt.alloc(), LIMITS, list, 300_000, &rules)?.expect(&rt, "room");
+fn many_routes_at_once(rt: HostRuntime) {
+    let rules = many_rules(rt.alloc()).expect(&rt, "rules");
+    let fib = opened_at_once(&rt, rt.alloc(), &rules);
+    assert_opened(&rt, &fib, 0);
+}
+
+// The table that opens with these rules as a version.
+fn opened_as_a_version(rt: &impl Abort, alloc: Global, rules: &[Rule<24, 8>]) -> Fib<24, 8> {
+    assert!(rt; are_in_order(rules));
+    let list = Rules::of_sorted(alloc, MANY_LIMITS.rules, rules).expect(rt, "memory");
+    let opened = Fib::of_rules(alloc, MANY_LIMITS, list, 300_000, rules).expect(rt, "memory");
+    opened.expect(rt, "room")
+}
+
+#[test]
+fn many_routes_as_a_version(rt: HostRuntime) {
+    let rules = many_rules(rt.alloc()).expect(&rt, "rules");
+    let fib = opened_as_a_version(&rt, rt.alloc(), &rules);
     assert_opened(&rt, &fib, 300_000);
-    Ok(())
 }

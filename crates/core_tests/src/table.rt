@@ -1,7 +1,7 @@
 ghost use Rattle.lpm_bits.specs.Widths.{IsShape};
 
 use super::asserting::assert_at;
-use super::cases::{self, Case};
+use super::cases::{self, Case, LOOKUPS, UPDATES, Worked};
 use fib::{Fib, OpenError, Replay};
 use fib_model::{Account, Order, Outcome, expected};
 use lpm_bits::{Hop, Prefix, Shape};
@@ -12,6 +12,7 @@ use std::alloc::{AllocError, Global};
 use std::fmt::Debug;
 use std::process::Abort;
 use std::test::Fail;
+use test_support::{draw, hop_number};
 
 pub(crate) fn prefix<const FIRST: u32, const SECOND: u32>(
     rt: &impl Abort,
@@ -44,7 +45,7 @@ fn figures_of(account: &Account) -> Figures {
     (account.rules, account.versions, counts, account.token)
 }
 
-// The commands come to what the account says.
+// The orders come to what the account says.
 fn assert_executed<R: Debug + Copy, const FIRST: u32, const SECOND: u32>(
     rt: &impl Abort,
     alloc: Global,
@@ -68,8 +69,7 @@ pub(crate) fn assert_number(
     number: Option<u32>,
 ) {
     assert!(rt; Shape::<24, 8>::is_addr(addr));
-    let found = fib.lookup(addr).map(|hop| hop.number());
-    assert_at(rt, (name, addr), found, number);
+    assert_at(rt, (name, addr), hop_number(fib.lookup(addr)), number);
 }
 
 pub(crate) fn assert_numbers(
@@ -110,32 +110,31 @@ fn assert_case(rt: &impl Abort, alloc: Global, case: &Case) -> Result<(), Fail> 
     assert_table(rt, alloc, &mut fib, case)
 }
 
-fn assert_cases(rt: &impl Abort, alloc: Global, cases: &[Case]) -> Result<(), Fail> {
-    for case in cases {
-        assert_case(rt, alloc, case)?;
+fn assert_worked(rt: &impl Abort, alloc: Global, cases: &[Worked]) -> Result<(), Fail> {
+    for worked in cases {
+        let case = worked.case(alloc).expect(rt, worked.name);
+        assert_case(rt, alloc, &case)?;
     }
     Ok(())
 }
 
 #[test]
 fn lookup_cases(rt: HostRuntime) -> Result<(), Fail> {
-    let cases = cases::lookups(rt.alloc())?;
-    assert_cases(&rt, rt.alloc(), &cases)
+    assert_worked(&rt, rt.alloc(), &LOOKUPS)
 }
 
 #[test]
 fn update_cases(rt: HostRuntime) -> Result<(), Fail> {
-    let cases = cases::updates(rt.alloc())?;
-    assert_cases(&rt, rt.alloc(), &cases)
+    assert_worked(&rt, rt.alloc(), &UPDATES)
 }
 
-// The next of a fixed list of numbers without a pattern, below 65,536.
-pub(crate) fn draw(seed: &mut u32) -> u32 {
-    *seed = seed.wrapping_mul(1_103_515_245).wrapping_add(12_345);
-    *seed >> 16
+#[test]
+fn full_block(rt: HostRuntime) -> Result<(), Fail> {
+    let case = cases::full_block(rt.alloc()).expect(&rt, "a case");
+    assert_case(&rt, rt.alloc(), &case)
 }
 
-// A command to a small table: of 28 prefixes, four next hops, two workers and one that isn't there.
+// A order to a small table: of 28 prefixes, four next hops, two workers and one that isn't there.
 fn draw_order(rt: &impl Abort, seed: &mut u32) -> Order<4, 4> {
     let kind = draw(seed) % 20;
     let number = draw(seed) % 3;
@@ -196,7 +195,7 @@ fn assert_drawn(rt: &impl Abort, alloc: Global, orders: &[Order<4, 4>]) -> Resul
     assert_agrees(rt, alloc, &mut fib, orders)
 }
 
-// Draws five more commands.
+// Draws five more orders.
 fn draw_more(
     rt: &impl Abort,
     seed: &mut u32,
@@ -208,7 +207,7 @@ fn draw_more(
     Ok(())
 }
 
-// Each of many lists of commands, one longer than the other, comes out as the slow program says.
+// Each of many lists of orders, one longer than the other, comes out as the slow program says.
 #[test]
 fn drawn_commands(rt: HostRuntime) -> Result<(), Fail> {
     let mut seed = 1;
@@ -220,7 +219,7 @@ fn drawn_commands(rt: HostRuntime) -> Result<(), Fail> {
     Ok(())
 }
 
-pub(crate) fn add(rt: &impl Abort, bits: u32, len: u32, number: u32) -> Order<24, 8> {
+fn add(rt: &impl Abort, bits: u32, len: u32, number: u32) -> Order<24, 8> {
     Order::Add(prefix(rt, bits, len), hop(rt, number))
 }
 
@@ -240,7 +239,7 @@ fn assert_hops(rt: &impl Abort, hops: &[Option<Hop>]) {
     let numbers = [Some(3), None, Some(2), Some(1)];
     assert_at(rt, "hops", hops.len(), 4);
     for (hop, number) in hops.iter().zip(numbers.iter()) {
-        assert_at(rt, "hop", hop.map(|hop| hop.number()), *number);
+        assert_at(rt, "hop", hop_number(*hop), *number);
     }
 }
 

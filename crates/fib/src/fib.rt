@@ -31,8 +31,8 @@ use std::marker::Model;
 /// A route table for one thread: the writer's control state and the memory of one thread, which has the
 /// words that represent the rules and what the workers report. IPv4 has `Fib<24, 8>`.
 ///
-/// Of the changes only an `add` that grows the rule list takes memory. Each change is refused as
-/// `Exhausted` where fewer tokens than groups are left, or no version.
+/// Of the changes only an `add` or `insert` that grows the rule list takes memory. Each change is refused
+/// as `Exhausted` where fewer tokens than groups are left, or no version.
 #[derive(Drop)]
 pub struct Fib<const FIRST: u32, const SECOND: u32> {
     control: ControlState<FIRST, SECOND>,

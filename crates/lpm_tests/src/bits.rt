@@ -1,10 +1,10 @@
 use super::asserting::{assert_at, assert_shown};
 use lpm_bits::{BadHop, BadLength, Hop, Prefix, Shape};
 use std::process::Abort;
-use std::test::Fail;
+use test_support::hop_number;
 
 // The definition of covering, computed digit by digit: both have the same first bits.
-fn covers_plainly(width: u32, bits: u32, len: u32, addr: u32) -> bool {
+pub(crate) fn covers_plainly(width: u32, bits: u32, len: u32, addr: u32) -> bool {
     let mut a = u64::from(addr);
     let mut b = u64::from(bits);
     for _ in len..width {
@@ -15,24 +15,25 @@ fn covers_plainly(width: u32, bits: u32, len: u32, addr: u32) -> bool {
 }
 
 #[test]
-fn covering_by_the_definition(rt: HostRuntime) -> Result<(), Fail> {
+fn covering_by_the_definition(rt: HostRuntime) {
     for bits in 0..32u32 {
         for len in 0..6u32 {
-            let prefix = Prefix::<3, 2>::new(bits, len)?;
+            let prefix = Prefix::<3, 2>::new(bits, len).expect(&rt, "a length");
             for addr in 0..32u32 {
                 let plainly = covers_plainly(5, bits, len, addr);
                 assert_at(&rt, (bits, len, addr), prefix.covers(addr), plainly);
             }
         }
     }
-    Ok(())
 }
 
 type Ipv4 = Prefix<24, 8>;
 
-// The bits and the length that a prefix is made of, the bits that it keeps, and whether it covers an
-// address.
-const COVERS: [(u32, u32, u32, u32, bool); 6] = [
+// The bits and the length that a prefix is made of, the bits that it keeps, an address, and whether it is
+// covered.
+type Covering = (u32, u32, u32, u32, bool);
+
+static COVERS: [Covering; 6] = [
     (0xffff_ffff, 0, 0, 0, true),
     (0xffff_ffff, 0, 0, 0xffff_ffff, true),
     (0x0a01_0203, 8, 0x0a00_0000, 0x0a09_0909, true),
@@ -41,26 +42,27 @@ const COVERS: [(u32, u32, u32, u32, bool); 6] = [
     (0xffff_ffff, 32, 0xffff_ffff, 0xffff_fffe, false),
 ];
 
-// The prefix of these bits and this length keeps these bits and that length.
-fn assert_prefix(rt: &impl Abort, bits: u32, len: u32, kept: u32) -> Result<Ipv4, BadLength> {
-    let prefix = Ipv4::new(bits, len)?;
-    assert_at(rt, (bits, len), (prefix.bits(), prefix.len()), (kept, len));
-    Ok(prefix)
+fn assert_covering(rt: &impl Abort, covering: &Covering) {
+    let (bits, len, kept, addr, is_covered) = *covering;
+    let prefix = Ipv4::new(bits, len).expect(rt, "a length");
+    let found = (prefix.bits(), prefix.len(), prefix.covers(addr));
+    assert_at(rt, *covering, found, (kept, len, is_covered));
 }
 
 #[test]
-fn prefixes_of_32_bits(rt: HostRuntime) -> Result<(), Fail> {
-    for (bits, len, kept, addr, is_covered) in COVERS {
-        let prefix = assert_prefix(&rt, bits, len, kept)?;
-        assert_at(&rt, (bits, len, addr), prefix.covers(addr), is_covered);
+fn prefixes_of_32_bits(rt: HostRuntime) {
+    for covering in &COVERS {
+        assert_covering(&rt, covering);
     }
-    assert_at(&rt, "33 of 32 bits", Ipv4::new(0, 33).is_err(), true);
-    assert_at(&rt, "9 of 8 bits", Prefix::<4, 4>::new(0, 9).is_err(), true);
-    Ok(())
+    let are_refused = [
+        Ipv4::new(0, 33).is_err(),
+        Prefix::<4, 4>::new(0, 9).is_err(),
+    ];
+    assert_at(&rt, "33 of 32 bits, 9 of 8", are_refused, [true, true]);
 }
 
 #[test]
-fn indices_and_hops(rt: HostRuntime) -> Result<(), Fail> {
+fn indices_and_hops(rt: HostRuntime) {
     let last_of_32 = Shape::<24, 8>::is_addr(0xffff_ffff);
     let last_of_8 = Shape::<4, 4>::is_addr(0xff);
     let past_8 = Shape::<4, 4>::is_addr(0x100);
@@ -70,21 +72,19 @@ fn indices_and_hops(rt: HostRuntime) -> Result<(), Fail> {
     let first = Shape::<24, 8>::first_index(addr);
     let second = Shape::<24, 8>::second_index(addr);
     assert_at(&rt, "indices", [first, second], [0x0a_0101, 0x80]);
-    let last = Hop::new(16_777_215)?;
-    assert_at(&rt, "the last hop", last.number(), 16_777_215);
-    let past = Hop::new(16_777_216).is_err();
-    assert_at(&rt, "past the last hop", past, true);
-    Ok(())
+    let last = hop_number(Hop::new(16_777_215).ok());
+    let past = hop_number(Hop::new(16_777_216).ok());
+    assert_at(&rt, "last hop", (last, past), (Some(16_777_215), None));
 }
 
 #[test]
-fn texts_of_the_faults(rt: HostRuntime) -> Result<(), Fail> {
+fn texts_of_the_faults(rt: HostRuntime) {
     let alloc = rt.alloc();
     assert_shown(
         &rt,
         alloc,
         &BadLength,
         "prefix length past the bits of an address",
-    )?;
-    assert_shown(&rt, alloc, &BadHop, "next hop past 24 bits")
+    );
+    assert_shown(&rt, alloc, &BadHop, "next hop past 24 bits");
 }

@@ -1,13 +1,13 @@
 ghost use Rattle.std.specs.Prelude.{◌<◌, length};
 
 use super::asserting::assert_at;
-use super::sweep::rules_of;
 use lpm_bits::Hop;
 use lpm_cells::{Cells, Entry, PlainCells};
 use lpm_rules::Rule;
 use lpm_sweep::{are_in_order, sweep};
+use std::alloc::Global;
 use std::process::Abort;
-use std::test::Fail;
+use test_support::rules_of;
 
 // Stores and loads through the trait alone.
 fn link<C: Cells>(cells: &mut C, i: usize, word: u64) -> u64
@@ -53,30 +53,40 @@ fn assert_hops(rt: &impl Abort, cells: &PlainCells<4, 4>) {
 
 #[test]
 #[tactic(auto, unfolding(lpm_cells::specs::Words::entry_in))]
-fn reads_one_word_or_two(rt: HostRuntime) -> Result<(), Fail> {
-    let mut cells = PlainCells::<4, 4>::new(rt.alloc(), 1)?;
+fn reads_one_word_or_two(rt: HostRuntime) {
+    let mut cells = PlainCells::<4, 4>::new(rt.alloc(), 1).expect(&rt, "memory");
     assert_at(&rt, "second words", cells.seconds(), 16);
     assert_misses(&rt, &cells);
-    assert_at(&rt, "hop 5", fill(&mut cells, 2, 0x2100_0005), 0);
-    assert_at(&rt, "a group", link(&mut cells, 1, 0x0300_0000), 0);
-    assert_at(&rt, "hop 7", link(&mut cells, 2, 0x1100_0007), 0);
+    // Hop 5, the link of its group, and hop 7.
+    let before = [
+        fill(&mut cells, 2, 0x2100_0005),
+        link(&mut cells, 1, 0x0300_0000),
+        link(&mut cells, 2, 0x1100_0007),
+    ];
+    assert_at(&rt, "words before", before, [0, 0, 0]);
     assert_hops(&rt, &cells);
     let group = Entry::of_word(cells.first(1));
-    assert_at(&rt, "a group", group, Entry::Group(0));
     let five = Entry::of_word(cells.second(2)).hop();
-    assert_at(&rt, "hop 5", five, Hop::new(5).ok());
-    Ok(())
+    assert_at(
+        &rt,
+        "words",
+        (group, five),
+        (Entry::Group(0), Hop::new(5).ok()),
+    );
+}
+
+fn swept_cells(rt: &impl Abort, alloc: Global, rules: &[Rule<4, 4>]) -> PlainCells<4, 4> {
+    assert!(rt; are_in_order(rules));
+    let words = sweep(alloc, rules, 1).expect(rt, "memory");
+    let swept = words.expect(rt, "groups that suffice");
+    PlainCells::of_words(swept.first_words, swept.second_words)
 }
 
 // The same words as the test above stores, made by a sweep.
 #[test]
-fn takes_words_made_elsewhere(rt: HostRuntime) -> Result<(), Fail> {
-    let alloc = rt.alloc();
-    let rules: Vec<Rule<4, 4>> = rules_of(&rt, alloc, &[(0x12, 8, 5), (0x20, 4, 7)]);
-    assert!(&rt; are_in_order(&rules));
-    let swept = sweep(alloc, &rules, 1)?.expect(&rt, "groups that suffice");
-    let cells = PlainCells::<4, 4>::of_words(swept.first_words, swept.second_words);
+fn takes_words_made_elsewhere(rt: HostRuntime) {
+    let rules = rules_of::<4, 4>(rt.alloc(), &[(0x12, 8, 5), (0x20, 4, 7)]).expect(&rt, "rules");
+    let cells = swept_cells(&rt, rt.alloc(), &rules);
     assert_at(&rt, "second words", cells.seconds(), 16);
     assert_hops(&rt, &cells);
-    Ok(())
 }

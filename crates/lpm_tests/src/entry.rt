@@ -1,23 +1,24 @@
 use super::asserting::assert_at;
-use lpm_bits::{BadHop, Hop};
+use lpm_bits::Hop;
 use lpm_cells::Entry;
 use std::process::Abort;
-use std::test::Fail;
 
 // The word of a hop with this number and this depth.
-fn assert_word(rt: &impl Abort, number: u32, depth: u32, word: u32) -> Result<(), BadHop> {
+fn assert_word(rt: &impl Abort, number: u32, depth: u32, word: u32) {
     let word = u64::from(word);
-    let hop = Hop::new(number)?;
+    let hop = Hop::new(number).expect(rt, "a next hop");
     assert!(rt; depth <= 32);
     let entry = Entry::from_word::<24, 8>(word);
+    let (found, back) = (
+        Entry::of_word(word).hop(),
+        Entry::Hop { hop, depth }.to_word(),
+    );
     assert_at(rt, word, entry, Some(Entry::Hop { hop, depth }));
-    assert_at(rt, word, Entry::of_word(word).hop(), Some(hop));
-    assert_at(rt, word, Entry::Hop { hop, depth }.to_word(), word);
-    Ok(())
+    assert_at(rt, word, (found, back), (Some(hop), word));
 }
 
 #[test]
-fn words_of_the_layout(rt: HostRuntime) -> Result<(), Fail> {
+fn words_of_the_layout(rt: HostRuntime) {
     let rows = [
         (1, 0, 0x0100_0001),
         (1, 8, 0x2100_0001),
@@ -26,15 +27,14 @@ fn words_of_the_layout(rt: HostRuntime) -> Result<(), Fail> {
         (16_777_215, 32, 0x81ff_ffff),
     ];
     for (number, depth, word) in rows {
-        assert_word(&rt, number, depth, word)?;
+        assert_word(&rt, number, depth, word);
     }
-    assert_at(&rt, "group 0", Entry::Group(0).to_word(), 0x0300_0000);
-    let group = Entry::from_word::<24, 8>(0x0300_0007);
-    assert_at(&rt, "group 7", group, Some(Entry::Group(7)));
-    assert_at(&rt, "a miss", Entry::Miss.to_word(), 0);
+    let words = [Entry::Group(0).to_word(), Entry::Miss.to_word()];
+    assert_at(&rt, "group 0, a miss", words, [0x0300_0000, 0]);
+    let seven = Entry::from_word::<24, 8>(0x0300_0007);
     let miss = Entry::from_word::<24, 8>(0);
-    assert_at(&rt, "a miss", miss, Some(Entry::Miss));
-    Ok(())
+    let entries = [Some(Entry::Group(7)), Some(Entry::Miss)];
+    assert_at(&rt, "group 7, a miss", [seven, miss], entries);
 }
 
 #[test]

@@ -8,7 +8,6 @@ use defer_queue::{DeferQueue, Grace, Reclaimed};
 use qsbr::{Busy, Domain};
 use std::alloc::Global;
 use std::process::Abort;
-use std::test::Fail;
 
 // A table's part in a reclaim: its domain, and the token under which each group is retired, 0 for
 // none.
@@ -130,7 +129,7 @@ fn reclaim_plainly(counters: [u64; 2], tokens: [u64; 3], max: usize) -> Reclaime
 }
 
 // The fronts of a queue of three, where none, one, two and all are freed.
-const FRONTS: [Option<(u32, u64)>; 4] = [Some((0, 2)), Some((1, 3)), Some((2, 4)), None];
+static FRONTS: [Option<(u32, u64)>; 4] = [Some((0, 2)), Some((1, 3)), Some((2, 4)), None];
 
 // A reclaim from a queue of three, under two workers with these counters.
 fn assert_reclaimed(rt: &impl Abort, alloc: Global, counters: [u64; 2], max: usize) {
@@ -142,9 +141,9 @@ fn assert_reclaimed(rt: &impl Abort, alloc: Global, counters: [u64; 2], max: usi
     domain.set_counter(1, counters[1]);
     let reclaimed = reclaim(&domain, &mut queue, &mut tokens, max);
     let plainly = reclaim_plainly(counters, [2, 3, 4], max);
-    assert_at(rt, (counters, max), reclaimed, plainly);
-    let front = FRONTS.get(reclaimed.freed).copied();
-    assert_at(rt, (counters, max), Some(queue.front()), front);
+    let front = FRONTS.get(plainly.freed).copied();
+    let found = (reclaimed, Some(queue.front()));
+    assert_at(rt, (counters, max), found, (plainly, front));
 }
 
 #[test]
@@ -160,22 +159,26 @@ fn reclaims_by_the_definition(rt: HostRuntime) {
 
 // How many wait, and which is in front.
 fn assert_waiting(rt: &impl Abort, queue: &DeferQueue, len: usize, front: Option<(u32, u64)>) {
-    assert_at(rt, "waiting", (queue.len(), queue.front()), (len, front));
     let ends = (queue.is_empty(), queue.is_full());
-    assert_at(rt, "empty, full", ends, (len == 0, len == queue.capacity()));
+    let wanted = (len, front, (len == 0, len == queue.capacity()));
+    assert_at(rt, "waiting", (queue.len(), queue.front(), ends), wanted);
 }
 
 #[test]
 fn calls_of_a_queue(rt: HostRuntime) {
     let mut queue = DeferQueue::new(rt.alloc(), 2).expect(&rt, "a queue");
-    assert_at(&rt, "capacity", queue.capacity(), 2);
     assert_waiting(&rt, &queue, 0, None);
     queue.retire(7, 1);
     queue.retire(8, 1 << 62);
     assert_waiting(&rt, &queue, 2, Some((7, 1)));
     queue.take_front();
     queue.retire(9, 3);
-    assert_at(&rt, "front", queue.front(), Some((8, 1 << 62)));
-    let none = DeferQueue::new(rt.alloc(), 0).expect(&rt, "a queue");
-    assert_waiting(&rt, &none, 0, None);
+    let found = (queue.capacity(), queue.front());
+    assert_at(&rt, "front", found, (2, Some((8, 1 << 62))));
+}
+
+#[test]
+fn a_queue_of_no_places(rt: HostRuntime) {
+    let queue = DeferQueue::new(rt.alloc(), 0).expect(&rt, "a queue");
+    assert_waiting(&rt, &queue, 0, None);
 }

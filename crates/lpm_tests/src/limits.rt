@@ -2,7 +2,6 @@ use super::asserting::{assert_at, assert_shown};
 use lpm_limits::{BadConfig, Busy, Config, Refusal};
 use std::alloc::{AllocError, Global};
 use std::process::Abort;
-use std::test::Fail;
 
 const USUAL: Config = Config {
     rules: 1_048_576,
@@ -14,7 +13,7 @@ const USUAL: Config = Config {
 };
 
 // A limit outside its range in each.
-const OUTSIDE: [Config; 10] = [
+static OUTSIDE: [Config; 10] = [
     Config { rules: 0, ..USUAL },
     Config {
         rules: 16_777_217,
@@ -73,9 +72,8 @@ const LAST: Config = Config {
 #[test]
 fn limits_of_a_config(rt: HostRuntime) {
     assert_at(&rt, "by default", Config::default(), USUAL);
-    assert_at(&rt, "usual", USUAL.check(), Ok(()));
-    assert_at(&rt, "first", FIRST.check(), Ok(()));
-    assert_at(&rt, "last", LAST.check(), Ok(()));
+    let checks = [USUAL.check(), FIRST.check(), LAST.check()];
+    assert_at(&rt, "usual, first, last", checks, [Ok(()), Ok(()), Ok(())]);
     for config in &OUTSIDE {
         assert_at(&rt, *config, config.check(), Err(BadConfig));
     }
@@ -94,7 +92,7 @@ const HELD: Refusal = Refusal::NoGroups {
 const UNHELD: Refusal = Refusal::NoGroups { oldest: None };
 
 #[rattlefmt::skip]
-const REFUSALS: [Shown; 15] = [
+static REFUSALS: [Shown; 15] = [
     (
         Refusal::BadLength,
         "1 BadLength",
@@ -144,20 +142,19 @@ const REFUSALS: [Shown; 15] = [
     ),
 ];
 
-fn assert_refusal(rt: &impl Abort, alloc: Global, row: &Shown) -> Result<(), Fail> {
+fn assert_refusal(rt: &impl Abort, alloc: Global, row: &Shown) {
     let (refusal, printed, text) = row;
-    let found = format!(in alloc; "{} {}", refusal.number(), refusal.name())?;
+    let found = format!(in alloc; "{} {}", refusal.number(), refusal.name()).expect(rt, "memory");
     assert_at(rt, "number and name", found.as_str(), *printed);
-    assert_shown(rt, alloc, refusal, text)
+    assert_shown(rt, alloc, refusal, text);
 }
 
 #[test]
-fn numbers_names_and_texts_of_refusals(rt: HostRuntime) -> Result<(), Fail> {
+fn numbers_names_and_texts_of_refusals(rt: HostRuntime) {
     assert_at(&rt, "memory", Refusal::from(AllocError), Refusal::Memory);
     for row in &REFUSALS {
-        assert_refusal(&rt, rt.alloc(), row)?;
+        assert_refusal(&rt, rt.alloc(), row);
     }
-    Ok(())
 }
 
 #[test]

@@ -1,7 +1,6 @@
 use super::asserting::assert_at;
 use qsbr::{Busy, Domain, none_holds_where_passed, older_tokens_pass, one_worker_is_first};
 use std::process::Abort;
-use std::test::Fail;
 
 // The worker that holds the token, by the definition: of those that are online and behind it, the
 // least.
@@ -25,11 +24,11 @@ fn assert_holders(rt: &impl Abort, domain: &Domain, counters: [u64; 3]) {
 }
 
 #[test]
-fn checks_by_the_definition(rt: HostRuntime) -> Result<(), Fail> {
+fn checks_by_the_definition(rt: HostRuntime) {
     for a in 0..5u64 {
         for b in 0..5u64 {
             for c in 0..5u64 {
-                let mut domain = Domain::new(rt.alloc(), 3, 4)?;
+                let mut domain = Domain::new(rt.alloc(), 3, 4).expect(&rt, "memory");
                 domain.set_counter(0, a);
                 domain.set_counter(1, b);
                 domain.set_counter(2, c);
@@ -37,7 +36,6 @@ fn checks_by_the_definition(rt: HostRuntime) -> Result<(), Fail> {
             }
         }
     }
-    Ok(())
 }
 
 // The check of a token that the worker's counter holds back.
@@ -46,38 +44,49 @@ fn held(worker: usize, counter: u64) -> Result<(), Busy> {
 }
 
 #[test]
-fn two_workers(rt: HostRuntime) -> Result<(), Fail> {
-    let mut domain = Domain::new(rt.alloc(), 2, 1)?;
-    assert_at(&rt, "new", (domain.workers(), domain.token()), (2, 1));
+fn two_workers(rt: HostRuntime) {
+    let mut domain = Domain::new(rt.alloc(), 2, 1).expect(&rt, "memory");
+    let new = domain.token();
     domain.online(0);
     let first = domain.start();
     domain.online(1);
     let second = domain.start();
-    assert_at(&rt, "tokens", (first, second, domain.token()), (2, 3, 3));
-    let counters = (domain.counter(0), domain.counter(1));
-    assert_at(&rt, "counters", counters, (1, 2));
+    let tokens = [new, first, second, domain.token()];
+    let before = [domain.counter(0), domain.counter(1)];
 
-    assert_at(&rt, "first", domain.check(first), held(0, 1));
+    let held_by_zero = domain.check(first);
     domain.quiescent(0);
-    assert_at(&rt, "first", domain.check(first), Ok(()));
-    assert_at(&rt, "second", domain.check(second), held(1, 2));
+    let passed_zero = domain.check(first);
+    let held_by_one = domain.check(second);
     domain.offline(1);
-    assert_at(&rt, "second", domain.check(second), Ok(()));
+    let passed_one = domain.check(second);
+    let after = [domain.counter(0), domain.counter(1)];
+
+    let checks = [held_by_zero, passed_zero, held_by_one, passed_one];
+    let wanted = [held(0, 1), Ok(()), held(1, 2), Ok(())];
+    assert_at(&rt, "checks", checks, wanted);
+    assert_at(&rt, "tokens", tokens, [1, 2, 3, 3]);
+    assert_at(&rt, "counters", [before, after], [[1, 2], [3, 0]]);
     let are_online = [domain.is_online(0), domain.is_online(1)];
-    assert_at(&rt, "online", are_online, [true, false]);
-    let counters = (domain.counter(0), domain.counter(1));
-    assert_at(&rt, "counters", counters, (3, 0));
-    Ok(())
+    assert_at(
+        &rt,
+        "online",
+        (domain.workers(), are_online),
+        (2, [true, false]),
+    );
 }
 
 #[test]
-fn no_workers_and_last_token(rt: HostRuntime) -> Result<(), Fail> {
-    let mut domain = Domain::new(rt.alloc(), 0, (1 << 62) - 1)?;
+fn no_workers_and_last_token(rt: HostRuntime) {
+    let mut domain = Domain::new(rt.alloc(), 0, (1 << 62) - 1).expect(&rt, "memory");
     let token = domain.start();
-    assert_at(&rt, "token", token, 1 << 62);
-    assert_at(&rt, "check", domain.check(token), Ok(()));
+    assert_at(
+        &rt,
+        "token",
+        (token, domain.check(token)),
+        (1 << 62, Ok(())),
+    );
     older_tokens_pass();
     none_holds_where_passed();
     one_worker_is_first();
-    Ok(())
 }

@@ -1,10 +1,11 @@
 ghost use Rattle.std.specs.Prelude.{◌<◌};
 
 use super::asserting::{assert_at, assert_shown};
+use super::bits::covers_plainly;
 use lpm_bits::{Hop, Prefix};
 use lpm_rules::{NoSuchRule, Put, RuleFault, Rules};
 use std::process::Abort;
-use std::test::Fail;
+use test_support::hop_number;
 
 type Small = Rules<4, 4>;
 
@@ -18,15 +19,8 @@ struct Plain {
     hop: u32,
 }
 
-// The definition of covering, computed digit by digit: both have the same first bits.
 fn covers(rule: &Plain, addr: u32) -> bool {
-    let mut a = addr;
-    let mut b = rule.bits;
-    for _ in rule.len..8 {
-        a /= 2;
-        b /= 2;
-    }
-    a == b
+    covers_plainly(8, rule.bits, rule.len, addr)
 }
 
 fn is_of(rule: &Plain, prefix: &SmallPrefix) -> bool {
@@ -57,34 +51,43 @@ fn plain_longest(rules: &[Plain], limit: u32, addr: u32) -> Option<Plain> {
     longest
 }
 
-// Whether a rule longer than 4 bits lies in the block, and how many do.
+fn plain_hop(rules: &[Plain], addr: u32) -> Option<u32> {
+    Some(plain_longest(rules, 9, addr)?.hop)
+}
+
+// How many rules longer than 4 bits lie in the block.
 fn plain_deep(rules: &[Plain], block: u32) -> usize {
-    rules
-        .iter()
-        .filter(|rule| rule.len > 4 && rule.bits / 16 == block)
-        .count()
+    let mut count: usize = 0;
+    for rule in rules {
+        if rule.len > 4 && rule.bits / 16 == block {
+            count = count.saturating_add(1);
+        }
+    }
+    count
+}
+
+fn plain_cover(rules: &Small, prefix: &SmallPrefix) -> Option<Plain> {
+    let rule = rules.cover(prefix)?;
+    Some(Plain {
+        bits: rule.prefix.bits(),
+        len: rule.prefix.len(),
+        hop: rule.hop.number(),
+    })
 }
 
 // The rule of the table at the prefix, and its cover.
 fn assert_rule(rt: &impl Abort, rules: &Small, plain: &[Plain], prefix: &SmallPrefix) {
     let (bits, len) = (prefix.bits(), prefix.len());
-    let hop = rules.get(prefix).map(|hop| hop.number());
-    assert_at(rt, ("get", bits, len), hop, plain_get(plain, prefix));
-    let cover = rules.cover(prefix).map(|rule| Plain {
-        bits: rule.prefix.bits(),
-        len: rule.prefix.len(),
-        hop: rule.hop.number(),
-    });
-    let plainly = plain_longest(plain, len, bits);
-    assert_at(rt, ("cover", bits, len), cover, plainly);
+    let found = (hop_number(rules.get(prefix)), plain_cover(rules, prefix));
+    let plainly = (plain_get(plain, prefix), plain_longest(plain, len, bits));
+    assert_at(rt, ("rule, cover", bits, len), found, plainly);
 }
 
 // Every address, and every prefix.
 fn assert_rules(rt: &impl Abort, rules: &Small, plain: &[Plain]) {
     for addr in 0..256u32 {
-        let hop = rules.longest(addr).map(|hop| hop.number());
-        let plainly = plain_longest(plain, 9, addr).map(|rule| rule.hop);
-        assert_at(rt, ("longest", addr), hop, plainly);
+        let hop = hop_number(rules.longest(addr));
+        assert_at(rt, ("longest", addr), hop, plain_hop(plain, addr));
         for len in 0..9u32 {
             let prefix = SmallPrefix::new(addr, len).expect(rt, "a length");
             assert_rule(rt, rules, plain, &prefix);
@@ -167,9 +170,8 @@ fn put_all(rt: &impl Abort, rules: &mut Small, plain: &mut Vec<Plain>) {
 fn remove_all(rt: &impl Abort, rules: &mut Small, plain: &mut Vec<Plain>) {
     for i in 0..40u32 {
         let prefix = some_prefix(rt, i);
-        let removed = rules.remove(&prefix).map(|hop| hop.number());
-        let plainly = plain_get(plain, &prefix).ok_or(NoSuchRule);
-        assert_at(rt, ("remove", i), removed, plainly);
+        let removed = hop_number(rules.remove(&prefix).ok());
+        assert_at(rt, ("remove", i), removed, plain_get(plain, &prefix));
         plain_remove(plain, &prefix);
         if i % 6 == 5 {
             assert_same(rt, rules, plain);
@@ -177,23 +179,33 @@ fn remove_all(rt: &impl Abort, rules: &mut Small, plain: &mut Vec<Plain>) {
     }
 }
 
+// The list is filled up, and emptied again.
+fn put_and_remove(rt: &impl Abort, rules: &mut Small, plain: &mut Vec<Plain>) {
+    assert_same(rt, rules, plain);
+    put_all(rt, rules, plain);
+    assert_at(rt, "full", rules.is_full(), true);
+    remove_all(rt, rules, plain);
+    let cleared = rules.clear();
+    assert_at(
+        rt,
+        "cleared",
+        (cleared, rules.is_empty()),
+        (plain.len(), true),
+    );
+    assert_same(rt, rules, &[]);
+}
+
 #[test]
 fn plain_search_agrees(rt: HostRuntime) {
     let mut rules = Small::new(rt.alloc(), MOST_RULES);
     let mut plain: Vec<Plain> = Vec::new(rt.alloc());
-    assert_same(&rt, &rules, &plain);
-    put_all(&rt, &mut rules, &mut plain);
-    assert_at(&rt, "full", rules.is_full(), true);
-    remove_all(&rt, &mut rules, &mut plain);
-    assert_at(&rt, "cleared", rules.clear(), plain.len());
-    assert_at(&rt, "empty", rules.is_empty(), true);
-    assert_same(&rt, &rules, &[]);
+    put_and_remove(&rt, &mut rules, &mut plain);
 }
 
 #[test]
-fn texts_of_the_faults(rt: HostRuntime) -> Result<(), Fail> {
+fn texts_of_the_faults(rt: HostRuntime) {
     let alloc = rt.alloc();
-    assert_shown(&rt, alloc, &RuleFault::TooManyRules, "too many rules")?;
-    assert_shown(&rt, alloc, &RuleFault::Memory, "out of memory")?;
-    assert_shown(&rt, alloc, &NoSuchRule, "no such rule")
+    assert_shown(&rt, alloc, &RuleFault::TooManyRules, "too many rules");
+    assert_shown(&rt, alloc, &RuleFault::Memory, "out of memory");
+    assert_shown(&rt, alloc, &NoSuchRule, "no such rule");
 }

@@ -1,47 +1,18 @@
 //! Swept words, and a rule list that is filled in bulk, beside a rule list into which the same rules
 //! were put one by one.
 
-ghost use Rattle.std.specs.Prelude.{◌+◌, ◌^◌, ◌<◌, ◌≤◌};
+ghost use Rattle.std.specs.Prelude.{◌≡◌, ◌+◌, ◌^◌, ◌<◌, []};
 ghost use Rattle.lpm_bits.specs.Widths.{IsShape};
+ghost use Rattle.lpm_rules.specs.Listed.{AreInOrder};
 
 use super::asserting::assert_at;
-use lpm_bits::{Hop, Prefix, Shape};
+use lpm_bits::{Hop, Shape};
 use lpm_cells::Entry;
 use lpm_rules::{Put, Rule, RuleFault, Rules, count_rules, place_of};
 use lpm_sweep::{MOST_SORTED, Swept, are_in_order, in_order, sweep, sweep_into};
 use std::alloc::Global;
 use std::process::Abort;
-use std::test::Fail;
-
-// A rule as plain numbers: the bits of its prefix, its length and its next hop.
-pub(crate) type Plain = (u32, u32, u32);
-
-fn rule_of<const FIRST: u32, const SECOND: u32>(
-    rt: &impl Abort,
-    plain: Plain,
-) -> Rule<FIRST, SECOND>
-    requires { IsShape FIRST SECOND }
-{
-    let (bits, len, hop) = plain;
-    assert!(rt; Shape::<FIRST, SECOND>::is_addr(bits));
-    let prefix = Prefix::new(bits, len).expect(rt, "a length");
-    let hop = Hop::new(hop).expect(rt, "a next hop");
-    Rule { prefix, hop }
-}
-
-pub(crate) fn rules_of<const FIRST: u32, const SECOND: u32>(
-    rt: &impl Abort,
-    alloc: Global,
-    plain: &[Plain],
-) -> Vec<Rule<FIRST, SECOND>>
-    requires { IsShape FIRST SECOND }
-{
-    let mut rules = Vec::new(alloc);
-    for rule in plain {
-        rules.push(rule_of(rt, *rule)).expect(rt, "memory");
-    }
-    rules
-}
+use test_support::{Plain, drawn_rules, edges, hop_number, rule_of, rules_of};
 
 // The rule list into which the rules are put one by one.
 fn put_all<const FIRST: u32, const SECOND: u32>(
@@ -58,7 +29,36 @@ fn put_all<const FIRST: u32, const SECOND: u32>(
     list
 }
 
-// The list that is filled in bulk has the same rules of each length.
+// The list that these rules fill in bulk, over a table of so many at most.
+fn filled<const FIRST: u32, const SECOND: u32>(
+    rt: &impl Abort,
+    alloc: Global,
+    max: usize,
+    sorted: &[Rule<FIRST, SECOND>],
+) -> Rules<FIRST, SECOND>
+    requires shape { IsShape FIRST SECOND }
+    ensures ordered { AreInOrder sorted.now }
+{
+    assert!(rt; are_in_order(sorted));
+    Rules::of_sorted(alloc, max, sorted).expect(rt, "memory")
+}
+
+// Both lists have the same rules of each length.
+fn assert_same<const FIRST: u32, const SECOND: u32>(
+    rt: &impl Abort,
+    filled: &Rules<FIRST, SECOND>,
+    list: &Rules<FIRST, SECOND>,
+)
+    requires { IsShape FIRST SECOND }
+{
+    assert_at(rt, "rules", filled.len(), list.len());
+    for len in 0..33 {
+        let is_same = filled.of_length(len) == list.of_length(len);
+        assert_at(rt, len, is_same, true);
+    }
+}
+
+// The list that is filled in bulk is the one into which the rules were put one by one.
 fn assert_filled<const FIRST: u32, const SECOND: u32>(
     rt: &impl Abort,
     alloc: Global,
@@ -67,14 +67,22 @@ fn assert_filled<const FIRST: u32, const SECOND: u32>(
 )
     requires { IsShape FIRST SECOND }
 {
-    assert!(rt; are_in_order(sorted));
+    let filled = filled(rt, alloc, 0, sorted);
     assert_at(rt, "prefixes", count_rules(sorted), list.len());
-    let filled = Rules::of_sorted(alloc, 0, sorted).expect(rt, "memory");
-    assert_at(rt, "rules", filled.len(), list.len());
-    for len in 0..33 {
-        let is_same = filled.of_length(len) == list.of_length(len);
-        assert_at(rt, len, is_same, true);
-    }
+    assert_same(rt, &filled, list);
+}
+
+// The words of these rules over so many groups. `None` where there are too few.
+fn swept<const FIRST: u32, const SECOND: u32>(
+    rt: &impl Abort,
+    alloc: Global,
+    sorted: &[Rule<FIRST, SECOND>],
+    groups: usize,
+) -> Option<Swept>
+    requires { IsShape FIRST SECOND }
+{
+    assert!(rt; are_in_order(sorted) && groups <= 65536);
+    sweep(alloc, sorted, groups).expect(rt, "memory")
 }
 
 // The next hop that the words have for an address, by one read or two.
@@ -118,13 +126,9 @@ fn assert_ends<const FIRST: u32, const SECOND: u32>(
     requires { IsShape FIRST SECOND }
 {
     for rule in rules {
-        let first = rule.prefix.bits();
-        let host = FIRST + SECOND - rule.prefix.len();
-        let last = first | ((1u64 << host) - 1) as u32;
-        assert_hop(rt, swept, list, first.wrapping_sub(1));
-        assert_hop(rt, swept, list, first);
-        assert_hop(rt, swept, list, last);
-        assert_hop(rt, swept, list, last.wrapping_add(1));
+        for addr in edges(rule) {
+            assert_hop(rt, swept, list, addr);
+        }
     }
 }
 
@@ -141,6 +145,20 @@ fn assert_first<const FIRST: u32, const SECOND: u32>(
     }
 }
 
+// The words are those of the rule list.
+fn assert_words<const FIRST: u32, const SECOND: u32>(
+    rt: &impl Abort,
+    swept: &Swept,
+    list: &Rules<FIRST, SECOND>,
+    sorted: &[Rule<FIRST, SECOND>],
+)
+    requires { IsShape FIRST SECOND }
+{
+    assert_at(rt, "groups", swept.blocks.len(), list.deep_blocks());
+    assert_first(rt, swept, list);
+    assert_ends(rt, swept, list, sorted);
+}
+
 // With a group for each block that needs one the words are those of the rule list, and with one
 // fewer there are none.
 fn assert_sorted<const FIRST: u32, const SECOND: u32>(
@@ -151,21 +169,28 @@ fn assert_sorted<const FIRST: u32, const SECOND: u32>(
 )
     requires { IsShape FIRST SECOND }
 {
-    assert!(rt; are_in_order(sorted));
     let deep = list.deep_blocks();
-    assert!(rt; deep <= 65536);
-    let swept = sweep(alloc, sorted, deep).expect(rt, "memory");
-    let swept = swept.expect(rt, "groups that suffice");
-    assert_at(rt, "groups", swept.blocks.len(), deep);
-    assert_first(rt, &swept, list);
-    assert_ends(rt, &swept, list, sorted);
+    let words = swept(rt, alloc, sorted, deep).expect(rt, "groups that suffice");
+    assert_words(rt, &words, list, sorted);
     if deep > 0 {
-        let fewer = sweep(alloc, sorted, deep - 1).expect(rt, "memory");
-        assert_at(rt, "a group is lacking", fewer.is_none(), true);
+        let fewer = swept(rt, alloc, sorted, deep - 1).is_none();
+        assert_at(rt, "a group is lacking", fewer, true);
     }
 }
 
-// Sorts and sweeps the rules, which may stand in any order.
+// The rules, which may stand in any order, in the order of their prefixes.
+fn sorted<const FIRST: u32, const SECOND: u32>(
+    rt: &impl Abort,
+    alloc: Global,
+    rules: &[Rule<FIRST, SECOND>],
+) -> Vec<Rule<FIRST, SECOND>>
+    requires { IsShape FIRST SECOND }
+{
+    assert!(rt; rules.len() <= MOST_SORTED);
+    in_order(alloc, rules).expect(rt, "memory")
+}
+
+// Sorts and sweeps the rules.
 fn assert_swept<const FIRST: u32, const SECOND: u32>(
     rt: &impl Abort,
     alloc: Global,
@@ -173,39 +198,28 @@ fn assert_swept<const FIRST: u32, const SECOND: u32>(
 )
     requires { IsShape FIRST SECOND }
 {
-    assert!(rt; rules.len() <= MOST_SORTED);
-    let sorted = in_order(alloc, rules).expect(rt, "memory");
+    let sorted = sorted(rt, alloc, rules);
     let list = put_all(rt, alloc, rules);
     assert_filled(rt, alloc, &sorted, &list);
     assert_sorted(rt, alloc, &sorted, &list);
 }
 
 fn assert_plain(rt: &impl Abort, alloc: Global, plain: &[Plain]) {
-    let rules: Vec<Rule<4, 4>> = rules_of(rt, alloc, plain);
+    let rules = rules_of::<4, 4>(alloc, plain).expect(rt, "rules");
     assert_swept(rt, alloc, &rules);
 }
 
-// So many rules of any prefixes and lengths, each of its own next hop.
+// So many rules of any prefixes and lengths.
 fn drawn<const FIRST: u32, const SECOND: u32>(
     rt: &impl Abort,
     alloc: Global,
     count: u32,
 ) -> Vec<Rule<FIRST, SECOND>>
-    requires shape { IsShape FIRST SECOND }
+    requires { IsShape FIRST SECOND }
 {
-    let mut random: u64 = 1;
-    let mut plain: Vec<Plain> = Vec::new(alloc);
-    for hop in 0..count {
-        random = random
-            .wrapping_mul(6_364_136_223_846_793_005)
-            .wrapping_add(1_442_695_040_888_963_407);
-        let bits = (random >> 32) % (1 << (FIRST + SECOND));
-        let len = (random >> 16) % u64::from(FIRST + SECOND + 1);
-        plain
-            .push((bits as u32, len as u32, hop))
-            .expect(rt, "memory");
-    }
-    rules_of(rt, alloc, &plain)
+    let varied = u32::MAX >> (32 - FIRST - SECOND);
+    let drawing = (0, varied, FIRST + SECOND + 1);
+    drawn_rules(alloc, &mut 1, drawing, count).expect(rt, "rules")
 }
 
 fn assert_drawn<const FIRST: u32, const SECOND: u32>(rt: &impl Abort, alloc: Global, count: u32)
@@ -255,7 +269,7 @@ fn small_tables(rt: HostRuntime) {
 }
 
 #[test]
-fn drawn_rules(rt: HostRuntime) {
+fn tables_of_drawn_rules(rt: HostRuntime) {
     let alloc = rt.alloc();
     assert_drawn::<4, 4>(&rt, alloc, 3000);
     assert_drawn::<8, 8>(&rt, alloc, 3000);
@@ -266,73 +280,91 @@ fn drawn_rules(rt: HostRuntime) {
 fn filled_with_many(rt: HostRuntime) {
     let alloc = rt.alloc();
     let rules: Vec<Rule<24, 8>> = drawn(&rt, alloc, 100_000);
-    assert!(&rt; rules.len() <= MOST_SORTED);
-    let sorted = in_order(alloc, &rules).expect(&rt, "memory");
+    let sorted = sorted(&rt, alloc, &rules);
     let list = put_all(&rt, alloc, &rules);
     assert_filled(&rt, alloc, &sorted, &list);
 }
 
-// Of two rules of one prefix the last counts. The list has two rules where it has room for one, and
-// takes no third.
-#[test]
-fn filled_beyond_its_room(rt: HostRuntime) -> Result<(), Fail> {
-    let alloc = rt.alloc();
-    let rules: Vec<Rule<4, 4>> = rules_of(&rt, alloc, &[(0x10, 4, 7), (0x10, 4, 3), (0x12, 8, 5)]);
-    assert!(&rt; are_in_order(&rules));
-    let mut list = Rules::of_sorted(alloc, 1, &rules)?;
-    assert_eq!(&rt; list.len(), 2);
-    assert!(&rt; list.is_full());
-    assert_eq!(&rt; list.longest(0x11).map(|hop| hop.number()), Some(3));
-    assert_eq!(&rt; list.longest(0x12).map(|hop| hop.number()), Some(5));
-    let new: Rule<4, 4> = rule_of(&rt, (0x20, 4, 9));
-    assert_eq!(&rt;
-        list.put(&new.prefix, new.hop),
-        Err(RuleFault::TooManyRules)
+// What comes of a rule that is put into the list.
+fn put(rt: &impl Abort, list: &mut Rules<4, 4>, plain: Plain) -> Result<Put, RuleFault> {
+    let rule = rule_of::<4, 4>(plain).expect(rt, "a rule");
+    list.put(&rule.prefix, rule.hop)
+}
+
+// The list has two rules where it has room for one, and takes no third.
+fn assert_full(rt: &impl Abort, list: &mut Rules<4, 4>) {
+    assert_at(rt, "rules", (list.len(), list.is_full()), (2, true));
+    let hops = [list.longest(0x11), list.longest(0x12)];
+    let numbers = [hop_number(hops[0]), hop_number(hops[1])];
+    assert_at(rt, "hops", numbers, [Some(3), Some(5)]);
+    let new = put(rt, list, (0x20, 4, 9));
+    let old = put(rt, list, (0x10, 4, 9));
+    assert_at(
+        rt,
+        "put",
+        [new, old],
+        [Err(RuleFault::TooManyRules), Ok(Put::Replaced)],
     );
-    let old: Rule<4, 4> = rule_of(&rt, (0x10, 4, 9));
-    assert_eq!(&rt; list.put(&old.prefix, old.hop), Ok(Put::Replaced));
-    Ok(())
+}
+
+// Of two rules of one prefix the last counts.
+#[test]
+fn filled_beyond_its_room(rt: HostRuntime) {
+    let plain = [(0x10, 4, 7), (0x10, 4, 3), (0x12, 8, 5)];
+    let rules = rules_of::<4, 4>(rt.alloc(), &plain).expect(&rt, "rules");
+    let mut list = filled(&rt, rt.alloc(), 1, &rules);
+    assert_full(&rt, &mut list);
 }
 
 #[test]
 fn place_in_the_order(rt: HostRuntime) {
-    let rule: Rule<4, 4> = rule_of(&rt, (0x12, 8, 5));
-    assert_eq!(&rt; place_of(&rule), 0x12 * 64 + 8);
+    let rule = rule_of::<4, 4>((0x12, 8, 5)).expect(&rt, "a rule");
+    assert_at(&rt, "place", place_of(&rule), 0x12 * 64 + 8);
 }
 
 // The rules of the example on the crate's page.
-const EXAMPLE: [Plain; 3] = [(0, 0, 7), (4, 2, 1), (6, 3, 2)];
+static EXAMPLE: [Plain; 3] = [(0, 0, 7), (4, 2, 1), (6, 3, 2)];
 
 // The words and the blocks of that example, in full.
+static FIRSTS: [u32; 4] = [0x0100_0007, 0x0300_0000, 0x0100_0007, 0x0100_0007];
+
+static SECONDS: [u32; 4] = [0x0900_0001, 0x0900_0001, 0x0d00_0002, 0x0d00_0002];
+
 fn assert_example(rt: &impl Abort, firsts: &[u32], seconds: &[u32], blocks: &[usize]) {
-    let seven = 0x0100_0007;
-    assert_eq!(rt; firsts, [seven, 0x0300_0000, seven, seven].as_slice());
-    let group = [0x0900_0001, 0x0900_0001, 0x0d00_0002, 0x0d00_0002];
-    assert_eq!(rt; seconds, group.as_slice());
-    assert_eq!(rt; blocks, [1].as_slice());
+    let wanted = (FIRSTS.as_slice(), SECONDS.as_slice(), [1usize].as_slice());
+    assert_at(rt, "words", (firsts, seconds, blocks), wanted);
 }
 
 #[test]
-fn words_of_an_example(rt: HostRuntime) -> Result<(), Fail> {
-    let alloc = rt.alloc();
-    let rules: Vec<Rule<2, 2>> = rules_of(&rt, alloc, &EXAMPLE);
-    assert!(&rt; are_in_order(&rules));
-    let swept = sweep(alloc, &rules, 1)?.expect(&rt, "groups that suffice");
-    assert_example(&rt, &swept.first_words, &swept.second_words, &swept.blocks);
-    Ok(())
+fn words_of_an_example(rt: HostRuntime) {
+    let rules = rules_of::<2, 2>(rt.alloc(), &EXAMPLE).expect(&rt, "rules");
+    let words = swept(&rt, rt.alloc(), &rules, 1).expect(&rt, "groups that suffice");
+    assert_example(&rt, &words.first_words, &words.second_words, &words.blocks);
+}
+
+// The lists of words are empty so far.
+fn assert_put(
+    rt: &impl Abort,
+    alloc: Global,
+    rules: &[Rule<2, 2>],
+    firsts: &mut Vec<u32>,
+    seconds: &mut Vec<u32>,
+)
+    requires firsts { firsts.old.items ≡ [] }
+    requires seconds { seconds.old.items ≡ [] }
+{
+    assert!(rt; are_in_order(rules));
+    let swept = sweep_into(alloc, rules, 1, firsts, seconds).expect(rt, "memory");
+    let blocks = swept.expect(rt, "groups that suffice");
+    assert_example(rt, firsts, seconds, &blocks);
 }
 
 #[test]
-fn words_put_into_lists(rt: HostRuntime) -> Result<(), Fail> {
-    let alloc = rt.alloc();
-    let rules: Vec<Rule<2, 2>> = rules_of(&rt, alloc, &EXAMPLE);
-    assert!(&rt; are_in_order(&rules));
-    let mut firsts: Vec<u32> = Vec::new(alloc);
-    let mut seconds: Vec<u32> = Vec::new(alloc);
-    let blocks = sweep_into(alloc, &rules, 1, &mut firsts, &mut seconds)?;
-    let blocks = blocks.expect(&rt, "groups that suffice");
-    assert_example(&rt, &firsts, &seconds, &blocks);
-    Ok(())
+fn words_put_into_lists(rt: HostRuntime) {
+    let rules = rules_of::<2, 2>(rt.alloc(), &EXAMPLE).expect(&rt, "rules");
+    let mut firsts: Vec<u32> = Vec::new(rt.alloc());
+    let mut seconds: Vec<u32> = Vec::new(rt.alloc());
+    assert_put(&rt, rt.alloc(), &rules, &mut firsts, &mut seconds);
 }
 
 #[test]

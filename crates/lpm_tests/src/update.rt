@@ -12,7 +12,6 @@ use lpm_update::{Did, Update};
 use std::alloc::{AllocError, Global};
 use std::marker::Model;
 use std::process::Abort;
-use std::test::Fail;
 
 // Makes all stores of a change, and notes what each step did.
 fn record(rt: &impl Abort, made: &mut Vec<Did>, update: Update, cells: &mut PlainCells<4, 4>)
@@ -150,7 +149,7 @@ impl Table {
     }
 
     // These first words and second words, each at its place.
-    fn assert_words(&mut self, rt: &impl Abort, firsts: &[(usize, u64)], seconds: &[(usize, u64)]) {
+    fn assert_words(&mut self, rt: &impl Abort, firsts: &[Word], seconds: &[Word]) {
         for (place, word) in firsts {
             self.assert_first(rt, *place, *word);
         }
@@ -159,8 +158,9 @@ impl Table {
         }
     }
 
-    // The group's word at place 2 is this one, and each other word of the group the other one.
-    fn assert_group(&mut self, rt: &impl Abort, at_two: u64, around: u64) {
+    // The group's word at place 2 is the first of these, and each other word of the group the second.
+    fn assert_group(&mut self, rt: &impl Abort, words: (u64, u64)) {
+        let (at_two, around) = words;
         for place in 0..16usize {
             self.assert_second(rt, place, if place == 2 { at_two } else { around });
         }
@@ -212,7 +212,29 @@ fn assert_stores(rt: &impl Abort, made: &[Did], before: usize, stores: Stores) {
     }
 }
 
-const LINK: [Stores; 2] = [Stores::Seconds(0, 16), Stores::Firsts(1, 2)];
+// A place among the first words or among the second words, and the word there.
+type Word = (usize, u64);
+
+#[derive(Clone, Copy)]
+enum Change {
+    // The bits and the length of the prefix, and the next hop.
+    Add(u32, u32, u32),
+    Delete(u32, u32),
+    Flush,
+}
+
+// A change, its stores, and words after it: of the blocks, and of the group.
+#[derive(Clone, Copy)]
+struct Stage {
+    change: Change,
+    made: &'static [Stores],
+    firsts: &'static [Word],
+    seconds: &'static [Word],
+    // all words of the group: the one at place 2, and each other
+    group: Option<(u64, u64)>,
+}
+
+const LINK: &[Stores] = &[Stores::Seconds(0, 16), Stores::Firsts(1, 2)];
 
 // The words of a hop 5 of length 8, 6 of length 6, 7 and 3 of length 4 and 9 of length 0, and of group 0.
 const FIVE: u64 = 0x2100_0005;
@@ -227,86 +249,160 @@ const NINE: u64 = 0x0100_0009;
 
 const GROUP: u64 = 0x0300_0000;
 
-// Adds 0x10 of length 4 to hop 7, and then 0x12 of length 8 to hop 5, which takes group 0.
-fn fill_group(rt: &impl Abort, table: &mut Table) {
-    table.add(rt, 0x10, 4, 7);
-    table.assert_made(rt, &[Stores::Firsts(1, 2)]);
-    table.add(rt, 0x12, 8, 5);
-    table.assert_made(rt, &LINK);
-    table.assert_words(rt, &[(1, GROUP)], &[]);
-    table.assert_group(rt, FIVE, SEVEN);
-}
+// 0x10 of length 4 to hop 7.
+const COVER: Stage = Stage {
+    change: Change::Add(0x10, 4, 7),
+    made: &[Stores::Firsts(1, 2)],
+    firsts: &[],
+    seconds: &[],
+    group: None,
+};
 
-#[test]
-fn cover_answer(rt: HostRuntime) -> Result<(), Fail> {
-    let mut table = Table::open(rt.alloc())?;
-    fill_group(&rt, &mut table);
-    table.delete(&rt, 0x12, 8);
-    table.assert_made(&rt, &[Stores::Seconds(2, 3), Stores::Unlinked(1, 0)]);
-    table.assert_words(&rt, &[(1, SEVEN)], &[(2, SEVEN)]);
-    Ok(())
-}
+// And 0x12 of length 8 to hop 5, which takes group 0.
+const FILLED: Stage = Stage {
+    change: Change::Add(0x12, 8, 5),
+    made: LINK,
+    firsts: &[(1, GROUP)],
+    seconds: &[],
+    group: Some((FIVE, SEVEN)),
+};
 
-#[test]
-fn under_a_group(rt: HostRuntime) -> Result<(), Fail> {
-    let mut table = Table::open(rt.alloc())?;
-    fill_group(&rt, &mut table);
-    table.add(&rt, 0x10, 4, 3);
-    table.assert_made(&rt, &[Stores::Seconds(0, 2), Stores::Seconds(3, 16)]);
-    table.assert_words(&rt, &[(1, GROUP)], &[]);
-    table.assert_group(&rt, FIVE, THREE);
-    Ok(())
-}
+static COVER_ANSWER: [Stage; 3] = [
+    COVER,
+    FILLED,
+    Stage {
+        change: Change::Delete(0x12, 8),
+        made: &[Stores::Seconds(2, 3), Stores::Unlinked(1, 0)],
+        firsts: &[(1, SEVEN)],
+        seconds: &[(2, SEVEN)],
+        group: None,
+    },
+];
+
+static UNDER_A_GROUP: [Stage; 3] = [
+    COVER,
+    FILLED,
+    Stage {
+        change: Change::Add(0x10, 4, 3),
+        made: &[Stores::Seconds(0, 2), Stores::Seconds(3, 16)],
+        firsts: &[(1, GROUP)],
+        seconds: &[],
+        group: Some((FIVE, THREE)),
+    },
+];
 
 // The group stays while a second rule longer than 4 bits is left in its block.
-#[test]
-fn collapse(rt: HostRuntime) -> Result<(), Fail> {
-    let mut table = Table::open(rt.alloc())?;
-    fill_group(&rt, &mut table);
-    table.add(&rt, 0x10, 6, 6);
-    table.delete(&rt, 0x12, 8);
-    table.assert_made(&rt, &[Stores::Seconds(2, 3)]);
-    table.assert_words(&rt, &[(1, GROUP)], &[(1, SIX), (2, SIX), (4, SEVEN)]);
-    table.delete(&rt, 0x10, 6);
-    table.assert_made(&rt, &[Stores::Seconds(0, 4), Stores::Unlinked(1, 0)]);
-    table.assert_words(&rt, &[(1, SEVEN)], &[]);
-    Ok(())
+static COLLAPSE: [Stage; 5] = [
+    COVER,
+    FILLED,
+    Stage {
+        change: Change::Add(0x10, 6, 6),
+        made: &[Stores::Seconds(0, 2), Stores::Seconds(3, 4)],
+        firsts: &[],
+        seconds: &[],
+        group: None,
+    },
+    Stage {
+        change: Change::Delete(0x12, 8),
+        made: &[Stores::Seconds(2, 3)],
+        firsts: &[(1, GROUP)],
+        seconds: &[(1, SIX), (2, SIX), (4, SEVEN)],
+        group: None,
+    },
+    Stage {
+        change: Change::Delete(0x10, 6),
+        made: &[Stores::Seconds(0, 4), Stores::Unlinked(1, 0)],
+        firsts: &[(1, SEVEN)],
+        seconds: &[],
+        group: None,
+    },
+];
+
+// The rule of a table without others, over a group.
+const ALONE: Stage = Stage {
+    change: Change::Add(0x12, 8, 5),
+    made: LINK,
+    firsts: &[],
+    seconds: &[],
+    group: None,
+};
+
+static ANSWER_FROM_UNLINKED_GROUP: [Stage; 2] = [
+    ALONE,
+    Stage {
+        change: Change::Flush,
+        made: &[Stores::Unlinked(1, 0)],
+        firsts: &[(1, 0)],
+        seconds: &[(2, FIVE)],
+        group: None,
+    },
+];
+
+static ORDER_UNDER_A_GROUP: [Stage; 4] = [
+    ALONE,
+    Stage {
+        change: Change::Add(0x00, 0, 9),
+        made: &[
+            Stores::Firsts(0, 1),
+            Stores::Seconds(0, 2),
+            Stores::Seconds(3, 16),
+            Stores::Firsts(2, 16),
+        ],
+        firsts: &[(15, NINE)],
+        seconds: &[(2, FIVE), (3, NINE)],
+        group: None,
+    },
+    Stage {
+        change: Change::Flush,
+        made: &[
+            Stores::Firsts(0, 1),
+            Stores::Unlinked(1, 0),
+            Stores::Firsts(2, 16),
+        ],
+        firsts: &[],
+        seconds: &[],
+        group: None,
+    },
+    Stage {
+        change: Change::Flush,
+        made: &[],
+        firsts: &[],
+        seconds: &[],
+        group: None,
+    },
+];
+
+fn make_change(rt: &impl Abort, table: &mut Table, change: Change) {
+    match change {
+        Change::Add(bits, len, hop) => table.add(rt, bits, len, hop),
+        Change::Delete(bits, len) => table.delete(rt, bits, len),
+        Change::Flush => table.flush(rt),
+    }
+}
+
+fn play(rt: &impl Abort, table: &mut Table, stages: &[Stage]) {
+    for stage in stages {
+        make_change(rt, table, stage.change);
+        table.assert_made(rt, stage.made);
+        table.assert_words(rt, stage.firsts, stage.seconds);
+        if let Some(words) = stage.group {
+            table.assert_group(rt, words);
+        }
+    }
+}
+
+fn assert_case(rt: &impl Abort, alloc: Global, stages: &[Stage]) {
+    let mut table = Table::open(alloc).expect(rt, "memory");
+    play(rt, &mut table, stages);
 }
 
 #[test]
-fn answer_from_unlinked_group(rt: HostRuntime) -> Result<(), Fail> {
-    let mut table = Table::open(rt.alloc())?;
-    table.add(&rt, 0x12, 8, 5);
-    table.assert_made(&rt, &LINK);
-    table.flush(&rt);
-    table.assert_made(&rt, &[Stores::Unlinked(1, 0)]);
-    table.assert_words(&rt, &[(1, 0)], &[(2, FIVE)]);
-    Ok(())
-}
-
-#[test]
-fn order_under_a_group(rt: HostRuntime) -> Result<(), Fail> {
-    let mut table = Table::open(rt.alloc())?;
-    table.add(&rt, 0x12, 8, 5);
-    table.add(&rt, 0x00, 0, 9);
-    let around = [
-        Stores::Firsts(0, 1),
-        Stores::Seconds(0, 2),
-        Stores::Seconds(3, 16),
-        Stores::Firsts(2, 16),
-    ];
-    table.assert_made(&rt, &around);
-    table.assert_words(&rt, &[(15, NINE)], &[(2, FIVE), (3, NINE)]);
-    table.flush(&rt);
-    let all = [
-        Stores::Firsts(0, 1),
-        Stores::Unlinked(1, 0),
-        Stores::Firsts(2, 16),
-    ];
-    table.assert_made(&rt, &all);
-    table.flush(&rt);
-    table.assert_made(&rt, &[]);
-    Ok(())
+fn stores_of_changes(rt: HostRuntime) {
+    assert_case(&rt, rt.alloc(), &COVER_ANSWER);
+    assert_case(&rt, rt.alloc(), &UNDER_A_GROUP);
+    assert_case(&rt, rt.alloc(), &COLLAPSE);
+    assert_case(&rt, rt.alloc(), &ANSWER_FROM_UNLINKED_GROUP);
+    assert_case(&rt, rt.alloc(), &ORDER_UNDER_A_GROUP);
 }
 
 #[test]

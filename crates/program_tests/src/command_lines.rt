@@ -88,7 +88,7 @@ fn all_ask(
     Ok(())
 }
 
-const LOOKUPS: [Asked; 14] = [
+static LOOKUPS: [Asked; 14] = [
     (&["lpmtool", "lookup", "r", "a"], DEFAULTS),
     (
         &["lpmtool", "lookup", "--rules", "1", "r", "a"],
@@ -159,7 +159,7 @@ fn lookup_with_its_defaults_and_each_option(rt: HostRuntime) -> Result<(), Fail>
     all_ask(&rt, rt.alloc(), "lookup", ["r", "a", ""], &LOOKUPS)
 }
 
-const APPLIES: [Asked; 7] = [
+static APPLIES: [Asked; 7] = [
     (&["lpmtool", "apply", "r", "u", "a"], DEFAULTS),
     (
         &["lpmtool", "apply", "--rules", "2", "r", "u", "a"],
@@ -203,7 +203,7 @@ fn apply_with_its_defaults_and_each_option(rt: HostRuntime) -> Result<(), Fail> 
     all_ask(&rt, rt.alloc(), "apply", ["r", "u", "a"], &APPLIES)
 }
 
-const REPORTS: [Asked; 7] = [
+static REPORTS: [Asked; 7] = [
     (&["lpmtool", "report", "r", "u"], DEFAULTS),
     (
         &["lpmtool", "report", "--rules", "2", "r", "u"],
@@ -261,7 +261,7 @@ fn storm_parts(line: &CommandLine<'_>) -> Option<(usize, bool)> {
 // The words after the program's name, and the numbers, the rounds and the flag that they ask for.
 type AskedStorm = (&'static [&'static str], Numbers, usize, bool);
 
-const STORMS: [AskedStorm; 11] = [
+static STORMS: [AskedStorm; 11] = [
     (&["lpmtool", "storm", "r", "u", "a"], DEFAULTS, 1, false),
     (
         &["lpmtool", "storm", "--stuck", "r", "u", "a"],
@@ -382,7 +382,7 @@ fn storm_with_its_defaults_and_each_option(rt: HostRuntime) -> Result<(), Fail> 
     Ok(())
 }
 
-const EXPLAINS: [Asked; 4] = [
+static EXPLAINS: [Asked; 4] = [
     (&["lpmtool", "explain", "r", "10.1.2.3"], DEFAULTS),
     (
         &[
@@ -463,7 +463,7 @@ fn explain_names_the_word_that_is_no_address(rt: HostRuntime) -> Result<(), Fail
     )
 }
 
-const MIGRATES: [Asked; 2] = [
+static MIGRATES: [Asked; 2] = [
     (&["lpmtool", "migrate", "o"], [0; 5]),
     (&["lpmtool", "migrate", "--", "o"], [0; 5]),
 ];
@@ -473,9 +473,9 @@ fn migrate_has_one_file(rt: HostRuntime) -> Result<(), Fail> {
     all_ask(&rt, rt.alloc(), "migrate", ["o", "", ""], &MIGRATES)
 }
 
-const LOOKUP_OF_INPUT: [Asked; 1] = [(&["lpmtool", "lookup", "-", "a"], DEFAULTS)];
+static LOOKUP_OF_INPUT: [Asked; 1] = [(&["lpmtool", "lookup", "-", "a"], DEFAULTS)];
 
-const APPLY_OF_INPUT: [Asked; 1] = [(&["lpmtool", "apply", "r", "-", "a"], DEFAULTS)];
+static APPLY_OF_INPUT: [Asked; 1] = [(&["lpmtool", "apply", "r", "-", "a"], DEFAULTS)];
 
 #[test]
 fn one_file_is_standard_input(rt: HostRuntime) -> Result<(), Fail> {

@@ -11,7 +11,7 @@ use std::process::Abort;
 use std::test::Fail;
 
 // Rules of addresses of eight bits: bits, length and next hop.
-const RULES: [(u32, u32, u32); 6] = [
+static RULES: [(u32, u32, u32); 6] = [
     (0xa0, 3, 1),
     (0x00, 0, 2),
     (0xa6, 8, 3),
@@ -46,7 +46,7 @@ fn put_all(rt: &impl Abort, rules: &mut Rules<4, 4>) {
 
 // The rules are those of these lengths and next hops, and each is a prefix of the address.
 fn assert_rules(rt: &impl Abort, addr: u32, found: &[Rule<4, 4>], wanted: &[(u32, u32)]) {
-    assert_eq!(rt; found.len(), wanted.len());
+    assert_at(rt, addr, found.len(), wanted.len());
     for (got, (len, hop)) in found.iter().zip(wanted) {
         assert_at(rt, addr, *got, rule(rt, addr, *len, *hop));
     }

@@ -15,7 +15,7 @@ const UPDATES: &[u8] = b"lpm-updates 2\nflush\n";
 
 const ADDRESSES: &[u8] = b"10.1.1.1\n11.0.0.0\n";
 
-const FILES: [Named<'static>; 4] = [
+static FILES: [Named<'static>; 4] = [
     ("r", ROUTES),
     ("u", UPDATES),
     ("a", ADDRESSES),

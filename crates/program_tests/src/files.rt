@@ -37,7 +37,7 @@ fn texts_of_faults(rt: HostRuntime) -> Result<(), Fail> {
 /// A file of one route: its text, and the route's line, bits, length and hop.
 type OneRoute = (&'static str, usize, u32, u32, u32);
 
-const ONE_ROUTE: [OneRoute; 5] = [
+static ONE_ROUTE: [OneRoute; 5] = [
     ("10.1.2.3/8 5", 1, 0x0a00_0000, 8, 5),
     ("0.0.0.0/0 1", 1, 0, 0, 1),
     ("# c\r\n10.0.0.0/8 1\r\n", 2, 0x0a00_0000, 8, 1),

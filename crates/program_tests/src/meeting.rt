@@ -2,66 +2,27 @@
 //! once.
 ghost use Rattle.lpm_limits.specs.Limits.{IsConfig};
 
+use super::asserting::assert_at;
 use super::known::{assert_wrote, known_apply, known_lookup, known_storm};
 use bulk::Gate;
 use qsbr::Config;
-use std::process::Abort;
-use std::sync::atomic::{AtomicBool, Ordering};
-
-// How often a call looks for the other piece, before it notes that it missed it.
-const MOST_LOADS: u32 = 1_000_000_000;
+use test_support::Meeting;
 
 // Two pieces of four addresses, each of which waits before each address for the other one.
 #[derive(Drop)]
-struct Meeting {
-    // those of the first piece, and then those of the second
-    flags: [AtomicBool; 8],
-    is_missed: AtomicBool,
+struct Waiting {
+    meeting: Meeting,
 }
 
-impl Meeting {
-    // Whether the flag was seen set.
-    fn sees(&self, flag: &AtomicBool) -> bool {
-        for _ in 0..MOST_LOADS {
-            if flag.load(Ordering::SeqCst) || self.is_missed.load(Ordering::SeqCst) {
-                return true;
-            }
-        }
-        false
-    }
-
-    fn meet(&self, mine: &AtomicBool, other: &AtomicBool) {
-        mine.store(true, Ordering::SeqCst);
-        if !self.sees(other) {
-            self.is_missed.store(true, Ordering::SeqCst);
-        }
-    }
-}
-
-impl Gate for Meeting {
+impl Gate for Waiting {
     fn at(&self, piece: usize, i: usize) {
-        if piece < 2 && i < 4 {
-            let flags = &self.flags;
-            self.meet(&flags[4 * piece + i], &flags[4 * (1 - piece) + i]);
-        } else {
-            self.is_missed.store(true, Ordering::SeqCst);
-        }
+        self.meeting.at(piece, i);
     }
 }
 
-fn new_meeting() -> Meeting {
-    let no = || AtomicBool::new(false);
-    Meeting {
-        flags: [no(), no(), no(), no(), no(), no(), no(), no()],
-        is_missed: AtomicBool::new(false),
-    }
-}
-
-// Each call was made, and none of them missed the other piece.
-fn assert_met(rt: &impl Abort, gate: &Meeting) {
-    assert!(rt; !gate.is_missed.load(Ordering::SeqCst));
-    for flag in &gate.flags {
-        assert!(rt; flag.load(Ordering::SeqCst));
+fn waiting() -> Waiting {
+    Waiting {
+        meeting: Meeting::new(),
     }
 }
 
@@ -89,24 +50,24 @@ fn two_workers() -> Config
 
 #[test]
 fn two_pieces_see_each_other(rt: HostRuntime) {
-    let gate = new_meeting();
+    let gate = waiting();
     let (alloc, config) = (rt.alloc(), two_workers());
     let mut out = Vec::new(alloc);
     let is_done = known_lookup(&rt, alloc, ROUTES, ADDRESSES, config, &gate, &mut out);
     assert_wrote(&rt, is_done, &out, TEXT);
-    assert_met(&rt, &gate);
+    assert_at(&rt, "met", gate.meeting.is_kept(), true);
 }
 
 #[test]
 fn two_pieces_after_updates_see_each_other(rt: HostRuntime) {
-    let gate = new_meeting();
+    let gate = waiting();
     let (alloc, config) = (rt.alloc(), two_workers());
     let mut out = Vec::new(alloc);
     let is_done = known_apply(
         &rt, alloc, ROUTES, UPDATES, ADDRESSES, config, &gate, &mut out,
     );
     assert_wrote(&rt, is_done, &out, TEXT_AFTER_UPDATES);
-    assert_met(&rt, &gate);
+    assert_at(&rt, "met", gate.meeting.is_kept(), true);
 }
 
 const FOUR_ADDRESSES: &str = "10.0.0.1\n10.0.0.2\n11.0.0.1\n12.0.0.1\n";
@@ -120,7 +81,7 @@ const STORM_TEXT: &str = "answers 4\nrefused 0\nwrong 0\n\
 // The worker is piece 0 of the gate, and the writer piece 1.
 #[test]
 fn storm_threads_meet(rt: HostRuntime) {
-    let gate = new_meeting();
+    let gate = waiting();
     let (alloc, config) = (rt.alloc(), Config::default());
     let mut out = Vec::new(alloc);
     let is_done = known_storm(
@@ -135,5 +96,5 @@ fn storm_threads_meet(rt: HostRuntime) {
         &mut out,
     );
     assert_wrote(&rt, is_done, &out, STORM_TEXT);
-    assert_met(&rt, &gate);
+    assert_at(&rt, "met", gate.meeting.is_kept(), true);
 }

@@ -1,5 +1,6 @@
 //! A file that is read, and a text that is written, in pieces on threads: as one thread does it.
 
+use super::asserting::assert_at;
 use lpm_bits::Hop;
 use lpm_files::{answers_text_on, parse_addresses_on, parse_routes_on};
 use route_text::{Fault, FaultKind, ReadError, Route, answers_text, read_addresses, read_routes};
@@ -37,7 +38,7 @@ fn file(alloc: Global, after: &str, bad: u32) -> Result<Vec<u8>, Fail> {
     Ok(bytes)
 }
 
-fn assert_list<R: Threads + Abort + Sync>(
+fn assert_addresses<R: Threads + Abort + Sync>(
     rt: &R,
     alloc: Global,
     bytes: &[u8],
@@ -45,7 +46,7 @@ fn assert_list<R: Threads + Abort + Sync>(
     list: &[u32],
 ) {
     let found = parse_addresses_on(rt, alloc, bytes, threads).expect(rt, "a list");
-    assert!(rt; found.as_slice() == list, "{threads}");
+    assert_at(rt, threads, found.as_slice() == list, true);
 }
 
 #[test]
@@ -53,41 +54,9 @@ fn pieces_of_a_file(rt: HostRuntime) -> Result<(), Fail> {
     let bytes = file(rt.alloc(), "", LINES)?;
     let list = read_addresses(rt.alloc(), &bytes).expect(&rt, "a list");
     for threads in THREADS {
-        assert_list(&rt, rt.alloc(), &bytes, threads, &list);
+        assert_addresses(&rt, rt.alloc(), &bytes, threads, &list);
     }
-    assert_list(&rt, rt.alloc(), "10.0.0.1".as_bytes(), 8, &[0x0a00_0001]);
-    Ok(())
-}
-
-fn assert_fault<R: Threads + Abort + Sync>(
-    rt: &R,
-    alloc: Global,
-    bytes: &[u8],
-    threads: usize,
-    line: usize,
-) {
-    let fault = Fault {
-        line,
-        kind: FaultKind::Address,
-    };
-    let found = parse_addresses_on(rt, alloc, bytes, threads).err();
-    assert!(rt; found == Some(ReadError::Fault(fault)), "{line}, {threads}");
-}
-
-// Whatever the number of threads, the fault is that of the bad address.
-fn assert_faults<R: Threads + Abort + Sync>(rt: &R, alloc: Global, bad: u32) -> Result<(), Fail> {
-    let bytes = file(alloc, "", bad)?;
-    for threads in THREADS {
-        assert_fault(rt, alloc, &bytes, threads, bad as usize + 1);
-    }
-    Ok(())
-}
-
-#[test]
-fn fault_in_a_piece(rt: HostRuntime) -> Result<(), Fail> {
-    for bad in BAD {
-        assert_faults(&rt, rt.alloc(), bad)?;
-    }
+    assert_addresses(&rt, rt.alloc(), "10.0.0.1".as_bytes(), 8, &[0x0a00_0001]);
     Ok(())
 }
 
@@ -102,9 +71,9 @@ fn assert_routes<R: Threads + Abort + Sync>(
     list: &[Route],
 ) {
     let found = parse_routes_on(rt, alloc, bytes, threads).expect(rt, "a list");
-    assert!(rt; found.as_slice() == list, "{threads}");
+    assert_at(rt, threads, found.as_slice() == list, true);
     let last = found.last().map(|route| route.line);
-    assert!(rt; last == Some(40_000), "{threads}");
+    assert_at(rt, threads, last, Some(40_000));
 }
 
 #[test]
@@ -117,40 +86,74 @@ fn pieces_of_routes(rt: HostRuntime) -> Result<(), Fail> {
     Ok(())
 }
 
-fn assert_route_fault<R: Threads + Abort + Sync>(
+// Which file has the fault.
+#[derive(Clone, Copy)]
+enum Faulty {
+    Addresses,
+    Routes,
+}
+
+impl Faulty {
+    fn after(self) -> &'static str {
+        match self {
+            Faulty::Addresses => "",
+            Faulty::Routes => ROUTE,
+        }
+    }
+
+    fn fault<R: Threads + Abort + Sync>(
+        self,
+        rt: &R,
+        alloc: Global,
+        bytes: &[u8],
+        threads: usize,
+    ) -> Option<ReadError> {
+        match self {
+            Faulty::Addresses => parse_addresses_on(rt, alloc, bytes, threads).err(),
+            Faulty::Routes => parse_routes_on(rt, alloc, bytes, threads).err(),
+        }
+    }
+}
+
+// Whatever the number of threads, the fault is that of the bad address.
+fn assert_fault<R: Threads + Abort + Sync>(
     rt: &R,
     alloc: Global,
+    faulty: Faulty,
     bytes: &[u8],
-    threads: usize,
     line: usize,
 ) {
     let fault = Fault {
         line,
         kind: FaultKind::Address,
     };
-    let found = parse_routes_on(rt, alloc, bytes, threads).err();
-    assert!(rt; found == Some(ReadError::Fault(fault)), "{line}, {threads}");
+    for threads in THREADS {
+        let found = faulty.fault(rt, alloc, bytes, threads);
+        let is_found = found == Some(ReadError::Fault(fault));
+        assert_at(rt, (line, threads), is_found, true);
+    }
 }
 
-// Whatever the number of threads, the fault is that of the route with the bad address.
-fn assert_route_faults<R: Threads + Abort + Sync>(
+fn assert_faults<R: Threads + Abort + Sync>(
     rt: &R,
     alloc: Global,
-    bad: u32,
+    faulty: Faulty,
 ) -> Result<(), Fail> {
-    let bytes = file(alloc, ROUTE, bad)?;
-    for threads in THREADS {
-        assert_route_fault(rt, alloc, &bytes, threads, bad as usize + 1);
+    for bad in BAD {
+        let bytes = file(alloc, faulty.after(), bad)?;
+        assert_fault(rt, alloc, faulty, &bytes, bad as usize + 1);
     }
     Ok(())
 }
 
 #[test]
+fn fault_in_a_piece(rt: HostRuntime) -> Result<(), Fail> {
+    assert_faults(&rt, rt.alloc(), Faulty::Addresses)
+}
+
+#[test]
 fn fault_in_a_piece_of_routes(rt: HostRuntime) -> Result<(), Fail> {
-    for bad in BAD {
-        assert_route_faults(&rt, rt.alloc(), bad)?;
-    }
-    Ok(())
+    assert_faults(&rt, rt.alloc(), Faulty::Routes)
 }
 
 // The next hop of each address: its number, or none for each fifth.
@@ -177,7 +180,7 @@ fn assert_texts<R: Threads + Abort + Sync>(
     let text = answers_text(alloc, addrs, hops)?;
     for threads in THREADS {
         let found = answers_text_on(rt, alloc, addrs, hops, threads)?;
-        assert!(rt; found.as_slice() == text.as_slice(), "{threads}");
+        assert_at(rt, threads, found.as_slice() == text.as_slice(), true);
     }
     Ok(())
 }

@@ -2,6 +2,7 @@
 
 ghost use Rattle.std.specs.Prelude.{◌^◌, ◌<◌, ◌≤◌, All, length};
 
+use super::asserting::assert_at;
 use audit::{Past, wrong};
 use lpm_bits::{Hop, Prefix};
 use lpm_rules::{Answer, Change};
@@ -96,7 +97,7 @@ fn assert_wrong(
 ) -> Result<(), AllocError> {
     let answers = answers_for(rt, alloc, addr, rows)?;
     let found = count(rt, alloc, history, &answers)?;
-    assert_eq!(rt; found, wanted);
+    assert_at(rt, "wrong", found, wanted);
     Ok(())
 }
 
@@ -288,8 +289,8 @@ fn counts_as_a_slow_program(rt: HostRuntime) -> Result<(), Fail> {
         let history = draw_history(&rt, rt.alloc(), &mut state)?;
         let answers = draw_answers(&rt, rt.alloc(), &mut state)?;
         let slow = count_slowly(rt.alloc(), &history, &answers)?;
-        assert!(&rt; 0 < slow && slow < 400, "{slow}");
-        assert_eq!(&rt; count(&rt, rt.alloc(), &history, &answers)?, slow);
+        let found = count(&rt, rt.alloc(), &history, &answers)?;
+        assert_at(&rt, "wrong", (found, 0 < slow && slow < 400), (slow, true));
     }
     Ok(())
 }
@@ -340,7 +341,7 @@ fn counts_from_a_later_version(rt: HostRuntime) -> Result<(), Fail> {
     let answers = answers_for(&rt, rt.alloc(), ADDR, &rows)?;
     let past = Past::new(rt.alloc(), &history)?;
     let found = count_from(&rt, rt.alloc(), &past, 2, &answers)?;
-    assert_eq!(&rt; found, 3);
+    assert_at(&rt, "wrong", found, 3);
     Ok(())
 }
 
@@ -349,12 +350,12 @@ fn counts_from_a_later_version(rt: HostRuntime) -> Result<(), Fail> {
 fn counts_over_a_long_history(rt: HostRuntime) -> Result<(), Fail> {
     let history = long_history(&rt, rt.alloc())?;
     let answers = long_answers(&rt, rt.alloc())?;
-    assert_eq!(&rt; answers.len(), 3_000);
-    assert_eq!(&rt; count(&rt, rt.alloc(), &history, &answers)?, 1_000);
+    let all = count(&rt, rt.alloc(), &history, &answers)?;
+    assert_at(&rt, "all", (answers.len(), all), (3_000, 1_000));
     let past = Past::new(rt.alloc(), &history)?;
     let (front, back) = answers.split_at(1_500);
     let first = count_from(&rt, rt.alloc(), &past, 0, front)?;
     let second = count_from(&rt, rt.alloc(), &past, 0, back)?;
-    assert_eq!(&rt; (first, second), (500, 500));
+    assert_at(&rt, "halves", (first, second), (500, 500));
     Ok(())
 }

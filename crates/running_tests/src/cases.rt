@@ -4,25 +4,18 @@ ghost use Rattle.lpm_bits.specs.Widths.{IsShape};
 ghost use Rattle.shared_fib.specs.Passes.{IsBenchOf};
 
 use super::asserting::assert_at;
+use super::changing::{ADDED, SMALL, change, figures, groups};
 use defer_queue::Reclaimed;
 use fib::Fib;
 use lpm_bits::{Hop, Prefix, Shape};
-use lpm_groups::Counts;
 use lpm_rules::Put;
 use qsbr::{Busy, Config, Refusal};
 use shared_fib::{Bench, Exhausted, Pass, RegisterError, SharedTable, Writer, go_live, open};
+use std::alloc::Global;
 use std::process::Abort;
 use std::sync::Wait;
 use std::test::Fail;
-
-const SMALL: Config = Config {
-    rules: 9,
-    groups: 1,
-    workers: 1,
-    threshold: 32,
-    reclaim_max: 16,
-    first_token: 1,
-};
+use test_support::{Change, Plain};
 
 fn prefix<const FIRST: u32, const SECOND: u32>(
     rt: &impl Abort,
@@ -39,52 +32,6 @@ fn hop(rt: &impl Abort, number: u32) -> Hop {
     Hop::new(number).expect(rt, "a next hop")
 }
 
-fn counts<const FIRST: u32, const SECOND: u32>(
-    writer: &Writer<FIRST, SECOND>,
-) -> (usize, usize, usize) {
-    let Counts {
-        in_use,
-        limbo,
-        free,
-    } = writer.counts();
-    (in_use, limbo, free)
-}
-
-// The bits and the length of a rule's prefix, and the number of its next hop.
-type Rule = (u32, u32, u32);
-
-// Adds a rule, whose prefix has none so far.
-fn add<const FIRST: u32, const SECOND: u32>(
-    rt: &impl Abort,
-    table: &SharedTable<FIRST, SECOND>,
-    writer: &mut Writer<FIRST, SECOND>,
-    rule: Rule,
-)
-    requires shape { IsShape FIRST SECOND }
-    requires own { writer.old.identity ≡ table.now }
-    ensures own { writer.new.identity ≡ writer.old.identity }
-{
-    let (bits, len, number) = rule;
-    let put = writer.add(table, &prefix(rt, bits, len), hop(rt, number));
-    assert_at(rt, rule, put, Ok(Put::Added));
-}
-
-// Deletes a rule that is there.
-fn delete<const FIRST: u32, const SECOND: u32>(
-    rt: &impl Abort,
-    table: &SharedTable<FIRST, SECOND>,
-    writer: &mut Writer<FIRST, SECOND>,
-    rule: Rule,
-)
-    requires shape { IsShape FIRST SECOND }
-    requires own { writer.old.identity ≡ table.now }
-    ensures own { writer.new.identity ≡ writer.old.identity }
-{
-    let (bits, len, number) = rule;
-    let deleted = writer.delete(table, &prefix(rt, bits, len));
-    assert_at(rt, rule, deleted, Ok(hop(rt, number)));
-}
-
 // A pass that has met the writer answers by the rule that was added before. Each case is played by a
 // function that is lent its table: what a function owns makes its proof longer at each early end.
 fn meet_and_look_up(
@@ -97,7 +44,7 @@ fn meet_and_look_up(
     requires pass { pass.old.table ≡ table.now }
     requires offline { pass.old.online ≡ false }
 {
-    add(rt, table, writer, (0x0a00_0000, 8, 1));
+    change(rt, table, writer, ADDED, (0x0a00_0000, 8, 1));
     pass.meet(table, writer);
     pass.online(table);
     let answer = pass.lookup(table, 0x0a00_0001);
@@ -118,8 +65,8 @@ fn add_and_delete(rt: &impl Abort, table: &SharedTable<4, 4>, writer: &mut Write
     requires own { writer.old.identity ≡ table.now }
     ensures own { writer.new.identity ≡ writer.old.identity }
 {
-    add(rt, table, writer, (0x12, 8, 5));
-    delete(rt, table, writer, (0x12, 8, 5));
+    change(rt, table, writer, ADDED, (0x12, 8, 5));
+    change(rt, table, writer, Change::Delete, (0x12, 8, 5));
 }
 
 // The only group is taken again, by a rule in another block.
@@ -127,12 +74,15 @@ fn reuse(rt: &impl Abort, table: &SharedTable<4, 4>, writer: &mut Writer<4, 4>)
     requires own { writer.old.identity ≡ table.now }
 {
     add_and_delete(rt, table, writer);
-    add(rt, table, writer, (0x35, 8, 6));
-    assert_at(rt, "counts", counts(writer), (1, 0, 0));
+    change(rt, table, writer, ADDED, (0x35, 8, 6));
     let there = writer.get(&prefix(rt, 0x35, 8));
     assert_at(rt, "the rule", there, Some(hop(rt, 6)));
-    let sizes = (writer.rules(), writer.versions());
-    assert_at(rt, "rules, versions", sizes, (1, 3));
+    assert_at(
+        rt,
+        "figures",
+        figures(table, writer),
+        ((1, 3, 2), (1, 0, 0)),
+    );
 }
 
 #[test]
@@ -151,12 +101,16 @@ fn synchronize_and_reclaim<R: Wait + Abort>(
     requires own { writer.old.identity ≡ table.now }
 {
     add_and_delete(rt, table, writer);
-    assert_at(rt, "token", writer.token(table), 2);
+    assert_at(rt, "before", figures(table, writer), ((0, 2, 2), (0, 1, 0)));
     let synchronized = writer.synchronize(rt, table);
-    assert_at(rt, "synchronize", synchronized, Ok(()));
-    assert_at(rt, "token", writer.token(table), 3);
-    assert_at(rt, "reclaim", writer.reclaim(table, 1), unstopped(1));
-    assert_at(rt, "counts", counts(writer), (0, 0, 1));
+    let reclaimed = writer.reclaim(table, 1);
+    assert_at(
+        rt,
+        "synchronize",
+        (synchronized, reclaimed),
+        (Ok(()), unstopped(1)),
+    );
+    assert_at(rt, "after", figures(table, writer), ((0, 2, 3), (0, 0, 1)));
 }
 
 #[test]
@@ -166,31 +120,40 @@ fn shared_reclaim(rt: HostRuntime) -> Result<(), Fail> {
     Ok(())
 }
 
+// A table of no rules, whose first token is this one.
+fn tokens_from(first_token: u64) -> Config {
+    Config {
+        first_token,
+        ..SMALL
+    }
+}
+
+// A synchronize comes to this, and then the token is the greatest.
+fn assert_last<R: Wait + Abort>(
+    rt: &R,
+    table: &SharedTable<4, 4>,
+    writer: &mut Writer<4, 4>,
+    wanted: Result<(), Exhausted>,
+)
+    requires own { writer.old.identity ≡ table.now }
+    ensures own { writer.new.identity ≡ writer.old.identity }
+{
+    let found = (writer.synchronize(rt, table), writer.token(table));
+    assert_at(rt, "synchronize", found, (wanted, 1 << 62));
+}
+
 #[test]
 fn synchronize_refused(rt: HostRuntime) -> Result<(), Fail> {
-    let config = Config {
-        first_token: 1 << 62,
-        ..SMALL
-    };
-    let (table, mut writer, _) = open::<4, 4>(rt.alloc(), config)?;
-    let refused = writer.synchronize(&rt, &table);
-    assert_at(&rt, "synchronize", refused, Err(Exhausted));
-    assert_at(&rt, "token", writer.token(&table), 1 << 62);
+    let (table, mut writer, _) = open::<4, 4>(rt.alloc(), tokens_from(1 << 62))?;
+    assert_last(&rt, &table, &mut writer, Err(Exhausted));
     Ok(())
 }
 
 #[test]
 fn synchronize_last_tokens(rt: HostRuntime) -> Result<(), Fail> {
-    let config = Config {
-        first_token: (1 << 62) - 1,
-        ..SMALL
-    };
-    let (table, mut writer, _) = open::<4, 4>(rt.alloc(), config)?;
-    let last = writer.synchronize(&rt, &table);
-    assert_at(&rt, "the last", last, Ok(()));
-    assert_at(&rt, "token", writer.token(&table), 1 << 62);
-    let refused = writer.synchronize(&rt, &table);
-    assert_at(&rt, "past the last", refused, Err(Exhausted));
+    let (table, mut writer, _) = open::<4, 4>(rt.alloc(), tokens_from((1 << 62) - 1))?;
+    assert_last(&rt, &table, &mut writer, Ok(()));
+    assert_last(&rt, &table, &mut writer, Err(Exhausted));
     Ok(())
 }
 
@@ -207,10 +170,15 @@ fn register_each(rt: &impl Abort, table: &SharedTable<4, 4>, bench: &mut Bench)
 {
     let pass = bench.register(table, 0).expect(rt, "a pass");
     assert_at(rt, "worker", pass.worker(), 0);
-    let again = bench.register(table, 0).err();
-    assert_at(rt, "worker 0 again", again, Some(RegisterError::Taken));
-    let none = bench.register(table, 1).err();
-    assert_at(rt, "worker 1", none, Some(RegisterError::NoSuchWorker));
+    let refused = [
+        bench.register(table, 0).err(),
+        bench.register(table, 1).err(),
+    ];
+    let wanted = [
+        Some(RegisterError::Taken),
+        Some(RegisterError::NoSuchWorker),
+    ];
+    assert_at(rt, "worker 0 again, worker 1", refused, wanted);
 }
 
 #[test]
@@ -221,9 +189,9 @@ fn register_twice(rt: HostRuntime) -> Result<(), Fail> {
 }
 
 // 10.0.0.0/25 to next hop 1, and 10.0.1.0/25 to next hop 2.
-const FIRST_RULE: Rule = (0x0a00_0000, 25, 1);
+const FIRST_RULE: Plain = (0x0a00_0000, 25, 1);
 
-const SECOND_RULE: Rule = (0x0a00_0100, 25, 2);
+const SECOND_RULE: Plain = (0x0a00_0100, 25, 2);
 
 // The only group is held by worker 0, until it reports.
 fn hold_and_let_go(
@@ -238,8 +206,8 @@ fn hold_and_let_go(
     ensures pass { pass.new.table ≡ pass.old.table }
 {
     pass.online(table);
-    add(rt, table, writer, FIRST_RULE);
-    delete(rt, table, writer, FIRST_RULE);
+    change(rt, table, writer, ADDED, FIRST_RULE);
+    change(rt, table, writer, Change::Delete, FIRST_RULE);
     let oldest = Some(Busy {
         worker: 0,
         counter: 1,
@@ -247,10 +215,13 @@ fn hold_and_let_go(
     let refused = writer.add(table, &prefix(rt, 0x0a00_0100, 25), hop(rt, 2));
     assert_at(rt, "held", refused, Err(Refusal::NoGroups { oldest }));
     pass.quiescent(table);
-    add(rt, table, writer, SECOND_RULE);
-    assert_at(rt, "counts", counts(writer), (1, 0, 0));
-    let made = (writer.rules(), writer.versions(), writer.token(table));
-    assert_at(rt, "rules, versions, token", made, (1, 3, 2));
+    change(rt, table, writer, ADDED, SECOND_RULE);
+    assert_at(
+        rt,
+        "figures",
+        figures(table, writer),
+        ((1, 3, 2), (1, 0, 0)),
+    );
 }
 
 // A pass that is given back is offline when it is handed out again.
@@ -289,12 +260,12 @@ fn hold_by_two(
     requires zero { (zero.old.table ≡ table.now) × (zero.old.online ≡ false) }
     requires one { (one.old.table ≡ table.now) × (one.old.online ≡ false) }
 {
-    add(rt, table, writer, FIRST_RULE);
-    add(rt, table, writer, SECOND_RULE);
+    change(rt, table, writer, ADDED, FIRST_RULE);
+    change(rt, table, writer, ADDED, SECOND_RULE);
     zero.online(table);
-    delete(rt, table, writer, FIRST_RULE);
+    change(rt, table, writer, Change::Delete, FIRST_RULE);
     one.online(table);
-    delete(rt, table, writer, SECOND_RULE);
+    change(rt, table, writer, Change::Delete, SECOND_RULE);
     assert_at(rt, "first", writer.reclaim(table, 16), stopped(0, 0, 1));
     zero.quiescent(table);
     assert_at(rt, "second", writer.reclaim(table, 16), stopped(1, 1, 2));
@@ -335,9 +306,9 @@ fn add_three(rt: &impl Abort, table: &SharedTable<24, 8>, writer: &mut Writer<24
     requires own { writer.old.identity ≡ table.now }
     ensures own { writer.new.identity ≡ writer.old.identity }
 {
-    add(rt, table, writer, (0x0a00_0000, 8, 1));
-    add(rt, table, writer, (0x0a01_0000, 16, 2));
-    add(rt, table, writer, (0x0a01_0180, 25, 3));
+    change(rt, table, writer, ADDED, (0x0a00_0000, 8, 1));
+    change(rt, table, writer, ADDED, (0x0a01_0000, 16, 2));
+    change(rt, table, writer, ADDED, (0x0a01_0180, 25, 3));
 }
 
 // Four addresses are looked up at once, by three routes, and one of them after a flush.
@@ -355,11 +326,11 @@ fn look_up_four(
     pass.online(table);
     let addrs = [0x0a01_0180, 0x0b00_0000, 0x0a01_017f, 0x0a02_0000];
     let found = pass.lookup4(table, addrs, 99);
-    assert_at(rt, "hops", found.hops, [3, 99, 2, 1]);
-    assert_at(rt, "versions", (found.lo, found.hi), (3, 3));
-    assert_at(rt, "flush", writer.flush(table), Ok(3));
+    let wanted = ([3, 99, 2, 1], 3, 3);
+    assert_at(rt, "hops", (found.hops, found.lo, found.hi), wanted);
+    let flushed = writer.flush(table);
     let answer = pass.lookup(table, 0x0a01_0180);
-    assert_at(rt, "hop after the flush", answer.hop, None);
+    assert_at(rt, "flush", (flushed, answer.hop), (Ok(3), None));
 }
 
 #[test]
@@ -404,21 +375,29 @@ fn look_up_and_delete(
     pass.online(table);
     assert_hop(rt, table, pass, 0x12, (Some(hop(rt, 5)), 0));
     assert_hop(rt, table, pass, 0x3f, (Some(hop(rt, 6)), 0));
-    delete(rt, table, writer, (0x12, 8, 5));
+    change(rt, table, writer, Change::Delete, (0x12, 8, 5));
     assert_hop(rt, table, pass, 0x12, (None, 1));
-    assert_at(rt, "counts", counts(writer), (0, 1, 0));
+    assert_at(rt, "groups", groups(writer.counts()), (0, 1, 0));
+}
+
+fn loaded(rt: &impl Abort, alloc: Global) -> Fib<4, 4> {
+    let mut fib = Fib::<4, 4>::open(alloc, SMALL).expect(rt, "memory");
+    let first = fib.add(&prefix(rt, 0x12, 8), hop(rt, 5));
+    let other = fib.add(&prefix(rt, 0x30, 4), hop(rt, 6));
+    assert_at(
+        rt,
+        "added",
+        [first, other],
+        [Ok(Put::Added), Ok(Put::Added)],
+    );
+    fib
 }
 
 // A table that was loaded on one thread goes on, and counts its versions from there.
 #[test]
-fn going_live(rt: HostRuntime) -> Result<(), Fail> {
-    let mut fib = Fib::<4, 4>::open(rt.alloc(), SMALL)?;
-    let first = prefix(&rt, 0x12, 8);
-    let other = prefix(&rt, 0x30, 4);
-    assert_eq!(rt; fib.add(&first, hop(&rt, 5)), Ok(Put::Added));
-    assert_eq!(rt; fib.add(&other, hop(&rt, 6)), Ok(Put::Added));
+fn going_live(rt: HostRuntime) {
+    let fib = loaded(&rt, rt.alloc());
     let (table, mut writer, mut bench) = go_live(rt.alloc(), fib).expect(&rt, "memory");
     let mut pass = bench.register(&table, 0).expect(&rt, "a pass");
     look_up_and_delete(&rt, &table, &mut writer, &mut pass);
-    Ok(())
 }

@@ -3,51 +3,25 @@
 ghost use Rattle.std.specs.Prelude.{◌≡◌, ◌<◌, true, false};
 
 use super::asserting::assert_at;
+use super::changing::{ADDED, Figures, SMALL, change, figures, groups};
 use fib::Fib;
-use lpm_bits::{Hop, Prefix, Shape};
-use lpm_groups::Counts;
-use lpm_rules::Put;
-use qsbr::Config;
+use lpm_rules::{Put, Rule};
 use shared_fib::{Pass, SharedTable, Writer, open};
 use std::alloc::Global;
 use std::process::Abort;
-use std::test::Fail;
-
-const SMALL: Config = Config {
-    rules: 9,
-    groups: 1,
-    workers: 1,
-    threshold: 32,
-    reclaim_max: 16,
-    first_token: 1,
-};
-
-// What a change does to the rule of its prefix.
-#[derive(Clone, Copy)]
-enum Change {
-    Add(Put),
-    Delete,
-}
-
-// The bits and the length of a rule's prefix, and the number of its next hop.
-type Rule = (u32, u32, u32);
+use test_support::{Change, Plain, hop_number, rule_of};
 
 // The first and the last of some addresses, and the number of the next hop of each.
 type Span = (u32, u32, u32);
-
-// The rules, the versions and the token; the groups in use, in limbo and free.
-type Figures = ((usize, u64, u64), (usize, usize, usize));
 
 // A change, and what the table has after it. An address in none of the spans has no next hop.
 #[derive(Clone, Copy)]
 struct Stage {
     change: Change,
-    rule: Rule,
+    rule: Plain,
     figures: Figures,
     spans: &'static [Span],
 }
-
-const ADDED: Change = Change::Add(Put::Added);
 
 const REPLACED: Change = Change::Add(Put::Replaced);
 
@@ -67,7 +41,7 @@ const FILLED: Stage = Stage {
     spans: &[(0x10, 0x11, 7), (0x12, 0x12, 5), (0x13, 0x1f, 7)],
 };
 
-const UNDER_A_GROUP: [Stage; 3] = [
+static UNDER_A_GROUP: [Stage; 3] = [
     COVER,
     FILLED,
     Stage {
@@ -78,7 +52,7 @@ const UNDER_A_GROUP: [Stage; 3] = [
     },
 ];
 
-const COLLAPSE: [Stage; 5] = [
+static COLLAPSE: [Stage; 5] = [
     COVER,
     FILLED,
     Stage {
@@ -106,7 +80,7 @@ const COLLAPSE: [Stage; 5] = [
     },
 ];
 
-const DEFAULT_UNDER_A_GROUP: [Stage; 2] = [
+static DEFAULT_UNDER_A_GROUP: [Stage; 2] = [
     Stage {
         change: ADDED,
         rule: (0x12, 8, 5),
@@ -122,7 +96,7 @@ const DEFAULT_UNDER_A_GROUP: [Stage; 2] = [
 ];
 
 // The group stays while one of two long rules is left in its block, and goes with the other one.
-const SECOND_HALF: [Stage; 4] = [
+static SECOND_HALF: [Stage; 4] = [
     Stage {
         change: ADDED,
         rule: (0x10, 5, 1),
@@ -159,19 +133,8 @@ fn number_at(spans: &[Span], addr: u32) -> Option<u32> {
     None
 }
 
-fn rule_of(rt: &impl Abort, rule: Rule) -> (Prefix<4, 4>, Hop) {
-    let (bits, len, number) = rule;
-    assert!(rt; Shape::<4, 4>::is_addr(bits));
-    let prefix = Prefix::new(bits, len).expect(rt, "a length");
-    (prefix, Hop::new(number).expect(rt, "a next hop"))
-}
-
-fn groups(counts: Counts) -> (usize, usize, usize) {
-    (counts.in_use, counts.limbo, counts.free)
-}
-
 fn change_fib(rt: &impl Abort, fib: &mut Fib<4, 4>, stage: &Stage) {
-    let (prefix, hop) = rule_of(rt, stage.rule);
+    let Rule { prefix, hop } = rule_of::<4, 4>(stage.rule).expect(rt, "a rule");
     match stage.change {
         Change::Add(put) => assert_at(rt, stage.rule, fib.add(&prefix, hop), Ok(put)),
         Change::Delete => assert_at(rt, stage.rule, fib.delete(&prefix), Ok(hop)),
@@ -183,7 +146,7 @@ fn change_fib(rt: &impl Abort, fib: &mut Fib<4, 4>, stage: &Stage) {
 
 fn look_up_by_fib(rt: &impl Abort, fib: &Fib<4, 4>, stage: &Stage) {
     for addr in 0..256u32 {
-        let found = fib.lookup(addr).map(|hop| hop.number());
+        let found = hop_number(fib.lookup(addr));
         assert_at(rt, (stage.rule, addr), found, number_at(stage.spans, addr));
     }
 }
@@ -204,16 +167,8 @@ fn change_table(
     requires own { writer.old.identity ≡ table.now }
     ensures own { writer.new.identity ≡ writer.old.identity }
 {
-    let (prefix, hop) = rule_of(rt, stage.rule);
-    match stage.change {
-        Change::Add(put) => {
-            assert_at(rt, stage.rule, writer.add(table, &prefix, hop), Ok(put));
-        }
-        Change::Delete => assert_at(rt, stage.rule, writer.delete(table, &prefix), Ok(hop)),
-    }
-    let sizes = (writer.rules(), writer.versions(), writer.token(table));
-    let found = (sizes, groups(writer.counts()));
-    assert_at(rt, stage.rule, found, stage.figures);
+    change(rt, table, writer, stage.change, stage.rule);
+    assert_at(rt, stage.rule, figures(table, writer), stage.figures);
 }
 
 fn look_up_by_pass(rt: &impl Abort, table: &SharedTable<4, 4>, pass: &mut Pass, stage: &Stage)
@@ -225,8 +180,7 @@ fn look_up_by_pass(rt: &impl Abort, table: &SharedTable<4, 4>, pass: &mut Pass, 
     let ((_, version, _), _) = stage.figures;
     for addr in 0..256u32 {
         let answer = pass.lookup(table, addr);
-        let number = answer.hop.map(|hop| hop.number());
-        let found = (number, answer.lo, answer.hi);
+        let found = (hop_number(answer.hop), answer.lo, answer.hi);
         let wanted = (number_at(stage.spans, addr), version, version);
         assert_at(rt, (stage.rule, addr), found, wanted);
     }
@@ -250,32 +204,23 @@ fn play_by_table(
     }
 }
 
-// The stages, by a table of one thread that was just opened, and by a running one.
-fn play(rt: &impl Abort, alloc: Global, stages: &[Stage]) -> Result<(), Fail> {
-    let mut fib = Fib::<4, 4>::open(alloc, SMALL)?;
+fn play_fib(rt: &impl Abort, alloc: Global, stages: &[Stage]) {
+    let mut fib = Fib::<4, 4>::open(alloc, SMALL).expect(rt, "memory");
     play_by_fib(rt, &mut fib, stages);
-    let (table, mut writer, mut bench) = open::<4, 4>(alloc, SMALL)?;
+}
+
+// The stages, by a table of one thread that was just opened, and by a running one.
+fn play(rt: &impl Abort, alloc: Global, stages: &[Stage]) {
+    play_fib(rt, alloc, stages);
+    let (table, mut writer, mut bench) = open::<4, 4>(alloc, SMALL).expect(rt, "memory");
     let mut pass = bench.register(&table, 0).expect(rt, "a pass");
     play_by_table(rt, &table, &mut writer, &mut pass, stages);
-    Ok(())
 }
 
 #[test]
-fn under_a_group(rt: HostRuntime) -> Result<(), Fail> {
-    play(&rt, rt.alloc(), &UNDER_A_GROUP)
-}
-
-#[test]
-fn collapse(rt: HostRuntime) -> Result<(), Fail> {
-    play(&rt, rt.alloc(), &COLLAPSE)
-}
-
-#[test]
-fn default_under_a_group(rt: HostRuntime) -> Result<(), Fail> {
-    play(&rt, rt.alloc(), &DEFAULT_UNDER_A_GROUP)
-}
-
-#[test]
-fn second_half(rt: HostRuntime) -> Result<(), Fail> {
-    play(&rt, rt.alloc(), &SECOND_HALF)
+fn changes_under_a_group(rt: HostRuntime) {
+    play(&rt, rt.alloc(), &UNDER_A_GROUP);
+    play(&rt, rt.alloc(), &COLLAPSE);
+    play(&rt, rt.alloc(), &DEFAULT_UNDER_A_GROUP);
+    play(&rt, rt.alloc(), &SECOND_HALF);
 }

@@ -9,6 +9,10 @@ mod beside;
 #[cfg(test)]
 mod cases;
 #[cfg(test)]
+mod changing;
+#[cfg(test)]
+mod facade;
+#[cfg(test)]
 mod groups;
 #[cfg(test)]
 mod large;

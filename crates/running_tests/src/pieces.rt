@@ -6,30 +6,32 @@ ghost use Rattle.shared_fib.specs.Passes.{IsFullBench};
 use super::asserting::assert_at;
 use bulk::{BulkError, Desk, Gate, Open, bulk, bulk_plain, piece_start, seat_all};
 use fib::{Fib, OpenError};
-use lpm_bits::{Hop, Prefix};
+use lpm_bits::Hop;
+use lpm_rules::{Put, Rule};
 use qsbr::{Config, Refusal};
 use shared_fib::{Bench, SharedTable, Writer};
 use std::alloc::Global;
 use std::process::Abort;
-use std::sync::atomic::{AtomicBool, Ordering};
 use std::test::Fail;
 use std::thread::Threads;
+use test_support::{Meeting, Plain, hop_number, rule_of};
 
-// Adds 10.0.0.0/8, 10.1.0.0/16 and 10.1.1.128/25, with the next hops 1, 2 and 3.
+// 10.0.0.0/8, 10.1.0.0/16 and 10.1.1.128/25, with the next hops 1, 2 and 3.
+static THREE: [Plain; 3] = [
+    (0x0a00_0000, 8, 1),
+    (0x0a01_0000, 16, 2),
+    (0x0a01_0180, 25, 3),
+];
+
 fn add_three(rt: &impl Abort, fib: &mut Fib<24, 8>) {
-    for (bits, len, number) in [
-        (0x0a00_0000, 8, 1),
-        (0x0a01_0000, 16, 2),
-        (0x0a01_0180, 25, 3),
-    ] {
-        let prefix = Prefix::new(bits, len).expect(rt, "a length");
-        let hop = Hop::new(number).expect(rt, "a next hop");
-        assert!(rt; fib.add(&prefix, hop).is_ok(), "{bits}/{len}");
+    for plain in &THREE {
+        let Rule { prefix, hop } = rule_of::<24, 8>(*plain).expect(rt, "a rule");
+        assert_at(rt, *plain, fib.add(&prefix, hop), Ok(Put::Added));
     }
 }
 
 // 10.1.1.127, 10.1.1.128, 10.2.0.0, 11.0.0.0 and 10.1.1.255.
-const FIVE: [u32; 5] = [
+static FIVE: [u32; 5] = [
     0x0a01_017f,
     0x0a01_0180,
     0x0a02_0000,
@@ -38,13 +40,13 @@ const FIVE: [u32; 5] = [
 ];
 
 // The numbers of their next hops.
-const NUMBERS: [Option<u32>; 5] = [Some(2), Some(3), Some(1), None, Some(3)];
+static NUMBERS: [Option<u32>; 5] = [Some(2), Some(3), Some(1), None, Some(3)];
 
 // The next hops of the five addresses.
 fn assert_hops(rt: &impl Abort, workers: usize, hops: &[Option<Hop>]) {
     assert_at(rt, workers, hops.len(), FIVE.len());
     for (hop, number) in hops.iter().zip(NUMBERS.iter()) {
-        assert_at(rt, workers, hop.map(|hop| hop.number()), *number);
+        assert_at(rt, workers, hop_number(*hop), *number);
     }
 }
 
@@ -77,23 +79,7 @@ fn assert_ends(rt: &impl Abort, ends: &[usize]) {
     }
 }
 
-// Adds a rule. The error is want of memory: it ends a test by its result, where an assertion stops it.
-fn add_rule(
-    rt: &impl Abort,
-    table: &SharedTable<24, 8>,
-    writer: &mut Writer<24, 8>,
-    rule: (u32, u32, u32),
-) -> Result<(), Refusal>
-    requires own { writer.old.identity ≡ table.now }
-    ensures own { writer.new.identity ≡ writer.old.identity }
-{
-    let (bits, len, number) = rule;
-    let prefix = Prefix::new(bits, len).expect(rt, "a length");
-    let hop = Hop::new(number).expect(rt, "a next hop");
-    writer.add(table, &prefix, hop)?;
-    Ok(())
-}
-
+// Adds the three rules. The error is want of memory: it ends a test by its result, where an assertion stops it.
 fn add_rules(
     rt: &impl Abort,
     table: &SharedTable<24, 8>,
@@ -102,9 +88,11 @@ fn add_rules(
     requires own { writer.old.identity ≡ table.now }
     ensures own { writer.new.identity ≡ writer.old.identity }
 {
-    add_rule(rt, table, writer, (0x0a00_0000, 8, 1))?;
-    add_rule(rt, table, writer, (0x0a01_0000, 16, 2))?;
-    add_rule(rt, table, writer, (0x0a01_0180, 25, 3))
+    for plain in &THREE {
+        let Rule { prefix, hop } = rule_of::<24, 8>(*plain).expect(rt, "a rule");
+        writer.add(table, &prefix, hop)?;
+    }
+    Ok(())
 }
 
 // The five addresses twice, by these desks: a call to which memory is refused leaves them as they were.
@@ -205,72 +193,33 @@ fn no_addresses_and_no_workers(rt: HostRuntime) -> Result<(), Fail> {
     Ok(())
 }
 
-// How often a call looks for the other piece, before it notes that it missed it.
-const MOST_LOADS: u32 = 1_000_000_000;
-
 // Two pieces of four addresses, each of which waits before each address for the other one.
 #[derive(Drop)]
-struct Meeting {
-    // those of the first piece, and then those of the second
-    flags: [AtomicBool; 8],
-    is_missed: AtomicBool,
+struct Waiting {
+    meeting: Meeting,
 }
 
-impl Meeting {
-    // Whether the flag was seen set.
-    fn sees(&self, flag: &AtomicBool) -> bool {
-        for _ in 0..MOST_LOADS {
-            if flag.load(Ordering::SeqCst) || self.is_missed.load(Ordering::SeqCst) {
-                return true;
-            }
-        }
-        false
-    }
-
-    fn meet(&self, mine: &AtomicBool, other: &AtomicBool) {
-        mine.store(true, Ordering::SeqCst);
-        if !self.sees(other) {
-            self.is_missed.store(true, Ordering::SeqCst);
-        }
-    }
-}
-
-impl Gate for Meeting {
+impl Gate for Waiting {
     fn at(&self, piece: usize, i: usize) {
-        if piece < 2 && i < 4 {
-            let flags = &self.flags;
-            self.meet(&flags[4 * piece + i], &flags[4 * (1 - piece) + i]);
-        } else {
-            self.is_missed.store(true, Ordering::SeqCst);
-        }
+        self.meeting.at(piece, i);
     }
 }
 
-fn new_meeting() -> Meeting {
-    let no = || AtomicBool::new(false);
-    Meeting {
-        flags: [no(), no(), no(), no(), no(), no(), no(), no()],
-        is_missed: AtomicBool::new(false),
+fn waiting() -> Waiting {
+    Waiting {
+        meeting: Meeting::new(),
     }
 }
 
-// Each call was made, and none of them missed the other piece.
-fn assert_met(rt: &impl Abort, gate: &Meeting) {
-    assert_at(rt, "missed", gate.is_missed.load(Ordering::SeqCst), false);
-    for flag in &gate.flags {
-        assert_at(rt, "met", flag.load(Ordering::SeqCst), true);
-    }
-}
-
-const EIGHT: [u32; 8] = [1, 2, 3, 4, 5, 6, 7, 8];
+static EIGHT: [u32; 8] = [1, 2, 3, 4, 5, 6, 7, 8];
 
 // Two pieces of eight addresses, by a table of one thread.
 fn meet_by_a_table<R: Abort + Threads + Sync>(rt: &R, alloc: Global, fib: &Fib<4, 4>) {
-    let gate = new_meeting();
+    let gate = waiting();
     let answered = bulk_plain(rt, alloc, fib, 2, &EIGHT, &gate);
     let answers = answered.expect(rt, "answers").len();
     assert_at(rt, "answers", answers, EIGHT.len());
-    assert_met(rt, &gate);
+    assert_at(rt, "met", gate.meeting.is_kept(), true);
 }
 
 #[test]
@@ -292,11 +241,11 @@ fn meet_at_desks<R: Abort + Threads + Sync>(
     requires desks { All (IsDeskOf table.now) desks.old }
     ensures own { writer.new.identity ≡ writer.old.identity }
 {
-    let gate = new_meeting();
+    let gate = waiting();
     let answered = bulk(rt, alloc, table, writer, desks, &EIGHT, &gate);
     let answers = answered.expect(rt, "answers").len();
     assert_at(rt, "answers", answers, EIGHT.len());
-    assert_met(rt, &gate);
+    assert_at(rt, "met", gate.meeting.is_kept(), true);
 }
 
 fn assert_no_desks<R: Abort + Threads + Sync>(

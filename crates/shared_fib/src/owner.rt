@@ -32,7 +32,7 @@ use std::sync::{Arc, Wait};
 
 /// The owner of a running table: it changes the table, and hands its readers out.
 ///
-/// Of its calls only `open` and an `add` or `insert` that grows the rule list take memory, and only
+/// Of its calls only `open`, `load` and an `add` or `insert` that grows the rule list take memory, and only
 /// `synchronize` waits. Each change is refused as `Exhausted` where fewer tokens than groups are left, or
 /// no version.
 ///

@@ -13,35 +13,6 @@ use qsbr::Refusal;
 use std::marker::Model;
 use std::sync::Arc;
 
-/// The reader of the worker of this number, out of the bench of the table.
-pub(crate) fn register(
-    table: &Arc<SharedTable<24, 8>>,
-    bench: &mut Bench,
-    worker: usize,
-) -> Result<Reader, Refusal>
-    requires own { IsBenchOf (arc_value table.now) bench.old }
-    ensures reader { IfOk result (IsPassOf (arc_value table.now) worker) }
-    ensures registered { IfOk result (λ p. (slice_get bench.old worker ≡ Some (Some p))
-        × (bench.new ≡ slice_set bench.old worker None)) }
-    ensures no_such_worker { IsErrOf result Refusal.NoSuchWorker
-        ↔ ((arc_value table.now).initial.workers ≤ worker) }
-    ensures taken { IsErrOf result Refusal.Taken ↔ (slice_get bench.old worker ≡ Some None) }
-    ensures unchanged { OnErr result (bench.new ≡ bench.old) }
-    ensures own { IsBenchOf (arc_value table.now) bench.new }
-{
-    match bench.register(&**table, worker) {
-        Ok(pass) => match Arc::try_clone(table) {
-            Ok(table) => Ok(Reader::new(table, pass)),
-            Err(_) => {
-                bench.unregister(&**table, pass);
-                Err(Refusal::Memory)
-            }
-        },
-        Err(RegisterError::NoSuchWorker) => Err(Refusal::NoSuchWorker),
-        Err(RegisterError::Taken) => Err(Refusal::Taken),
-    }
-}
-
 /// A reader of a running table: the pass of one worker, and the table that it reads. It goes to the
 /// worker's thread.
 ///
@@ -212,5 +183,34 @@ impl Reader {
         ensures online { self.new.online ≡ true }
     {
         self.pass.lookup_bulk(&*self.table, addrs, default, hops)
+    }
+}
+
+/// The reader of the worker of this number, out of the bench of the table.
+pub(crate) fn register(
+    table: &Arc<SharedTable<24, 8>>,
+    bench: &mut Bench,
+    worker: usize,
+) -> Result<Reader, Refusal>
+    requires own { IsBenchOf (arc_value table.now) bench.old }
+    ensures reader { IfOk result (IsPassOf (arc_value table.now) worker) }
+    ensures registered { IfOk result (λ p. (slice_get bench.old worker ≡ Some (Some p))
+        × (bench.new ≡ slice_set bench.old worker None)) }
+    ensures no_such_worker { IsErrOf result Refusal.NoSuchWorker
+        ↔ ((arc_value table.now).initial.workers ≤ worker) }
+    ensures taken { IsErrOf result Refusal.Taken ↔ (slice_get bench.old worker ≡ Some None) }
+    ensures unchanged { OnErr result (bench.new ≡ bench.old) }
+    ensures own { IsBenchOf (arc_value table.now) bench.new }
+{
+    match bench.register(&**table, worker) {
+        Ok(pass) => match Arc::try_clone(table) {
+            Ok(table) => Ok(Reader::new(table, pass)),
+            Err(_) => {
+                bench.unregister(&**table, pass);
+                Err(Refusal::Memory)
+            }
+        },
+        Err(RegisterError::NoSuchWorker) => Err(Refusal::NoSuchWorker),
+        Err(RegisterError::Taken) => Err(Refusal::Taken),
     }
 }

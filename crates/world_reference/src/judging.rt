@@ -6,9 +6,10 @@ use super::memory::loads_are_stores;
 use super::order::writes_in_order;
 use super::reuse::reuse_is_lawful;
 use super::slow_writer::SlowWriter;
-use super::{InitialState, JudgeError, Plan, Versions};
+use super::{InitialState, JudgeError, Versions};
 use interleave::{Actor, Deed, Kind, Seen, Step, Trace};
 use std::alloc::{AllocError, Global};
+use test_support::plans::Plan;
 
 fn initial_state_of<const FIRST: u32, const SECOND: u32>(
     plan: &Plan<FIRST, SECOND>,

@@ -1,132 +1,54 @@
-//! A trace that was written by hand, which every decider accepts, and planted faults in it, each of
-//! which its decider refuses.
+//! Traces that were written by hand, which every decider accepts, and planted faults in them, each of which
+//! its decider refuses.
 
+use super::asserting::assert_at;
 use lpm_trace::{Actor, Deed, Kind, Step};
 use std::alloc::{AllocError, Global};
 use std::process::Abort;
-use std::test::Fail;
 use world_reference::{
     InitialState, PlainRule, Seen, Versions, deeds_are_done, deeds_are_sound, is_legal,
     loads_are_stores, lookups, never_falls, reuse_is_lawful, writes_in_order,
 };
 
-/// Four addresses, in two blocks of two, one group and one worker.
-const SMALL: InitialState = InitialState {
-    first: 1,
-    second: 1,
-    groups: 1,
-    workers: 1,
-    first_token: 1,
-};
-
-/// The word of group 0.
-const GROUP: u64 = 0x0300_0000;
-
-/// The word of next hop 5, of a prefix of two bits.
-const FIVE: u64 = 0x0900_0005;
-
-/// The word of next hop 7, of a prefix of two bits.
-const SEVEN: u64 = 0x0900_0007;
-
-/// The deeds of the worker.
-const DEEDS: [Deed; 6] = [
-    Deed::Online,
-    Deed::Lookup(0),
-    Deed::Quiescent,
-    Deed::Lookup4([2, 0, 3, 1]),
-    Deed::Offline,
-    Deed::Meet,
-];
-
-/// A step of the writer: its kind, the index and the value.
-macro_rules! writer {
-    ($kind:ident, $index:expr, $value:expr) => {
-        Step {
-            actor: Actor::Writer,
-            kind: Kind::$kind,
-            index: $index,
-            value: $value,
-        }
-    };
+/// A trace, and what it is a trace of: what it begins with, and the rules of each version.
+#[derive(Clone, Copy)]
+struct Subject {
+    initial: InitialState,
+    versions: &'static [&'static [PlainRule]],
+    steps: &'static [Step],
 }
 
-/// A step of the worker: its kind, the index and the value.
-macro_rules! worker {
-    ($kind:ident, $index:expr, $value:expr) => {
-        Step {
-            actor: Actor::Worker(0),
-            kind: Kind::$kind,
-            index: $index,
-            value: $value,
-        }
-    };
+/// A fault to be planted in a trace, at the step of a number.
+#[derive(Clone, Copy)]
+enum Fault {
+    /// None: the trace is whole.
+    None,
+    /// The step has another value.
+    Value(usize, u64),
+    /// The step has another index.
+    Index(usize, u64),
+    /// Two steps stand in each other's place.
+    Swapped(usize, usize),
+    /// The step is left out.
+    LeftOut(usize),
+    /// The steps are left out.
+    AllLeftOut(&'static [usize]),
+    /// The trace ends with the step.
+    End(usize),
 }
 
-mod two_workers;
-
-/// The rule of address 0, none, and the rule of address 2.
-fn versions(alloc: Global) -> Result<Versions, AllocError> {
-    let of_zero = PlainRule {
-        bits: 0,
-        len: 2,
-        hop: 5,
-    };
-    let of_two = PlainRule {
-        bits: 2,
-        len: 2,
-        hop: 7,
-    };
-    let mut versions = Vec::new(alloc);
-    versions.push(Vec::new(alloc))?;
-    versions.push(Vec::from_slice(alloc, &[of_zero])?)?;
-    versions.push(Vec::new(alloc))?;
-    versions.push(Vec::from_slice(alloc, &[of_two])?)?;
-    Ok(versions)
+/// Who decides about a trace.
+#[derive(Clone, Copy)]
+enum Decider {
+    Loads,
+    /// That a worker's steps are those of its deeds.
+    Deeds(usize, &'static [Deed]),
+    Writes,
+    Reuse,
 }
 
-/// The trace.
-const GOOD: [Step; 32] = [
-    // The writer adds the rule of address 0, which takes the group; steps 1 to 4. The worker comes
-    // online and begins a lookup of address 0; steps 5 to 8. The writer deletes the rule, which unlinks
-    // the group; steps 9 to 12. The worker ends its lookup; steps 13 and 14.
-    writer!(BumpSequence, 0, 1),
-    writer!(StoreSecond, 0, FIVE),
-    writer!(StoreFirst, 0, GROUP),
-    writer!(BumpSequence, 0, 2),
-    worker!(LoadToken, 0, 1),
-    worker!(StoreCounter, 0, 1),
-    worker!(LoadSequence, 0, 2),
-    worker!(LoadFirst, 0, GROUP),
-    writer!(BumpSequence, 0, 3),
-    writer!(StoreFirst, 0, 0),
-    writer!(BumpToken, 0, 2),
-    writer!(BumpSequence, 0, 4),
-    worker!(LoadSecond, 0, FIVE),
-    worker!(LoadSequence, 0, 4),
-    // A reclaim is stopped by the worker; step 15. It reports a quiescent state; steps 16 and 17. The
-    // next check passes; step 18. The writer adds the rule of address 2, which takes the group again;
-    // steps 19 to 22.
-    writer!(LoadCounter, 0, 1),
-    worker!(LoadToken, 0, 2),
-    worker!(StoreCounter, 0, 2),
-    writer!(LoadCounter, 0, 2),
-    writer!(BumpSequence, 0, 5),
-    writer!(StoreSecond, 0, SEVEN),
-    writer!(StoreFirst, 1, GROUP),
-    writer!(BumpSequence, 0, 6),
-    // The worker looks up all four addresses; steps 23 to 30. It goes offline and meets the writer;
-    // steps 31 and 32.
-    worker!(LoadSequence, 0, 6),
-    worker!(LoadFirst, 1, GROUP),
-    worker!(LoadFirst, 0, 0),
-    worker!(LoadFirst, 1, GROUP),
-    worker!(LoadFirst, 0, 0),
-    worker!(LoadSecond, 0, SEVEN),
-    worker!(LoadSecond, 1, 0),
-    worker!(LoadSequence, 0, 6),
-    worker!(StoreCounter, 0, 0),
-    worker!(LoadSequence, 0, 6),
-];
+/// A decider, and faults in a trace of which it has to say the same.
+type Row = (Decider, &'static [Fault]);
 
 /// The steps with another value at the one of this number.
 fn with_value(
@@ -189,291 +111,428 @@ fn with_swapped(
     Ok(swapped)
 }
 
-/// A fault to be planted in a trace, at the step of a number.
-#[derive(Clone, Copy)]
-enum Fault {
-    /// The step has another value.
-    Value(usize, u64),
-    /// The step has another index.
-    Index(usize, u64),
-    /// Two steps stand in each other's place.
-    Swapped(usize, usize),
-    /// The step is left out.
-    LeftOut(usize),
-}
-
 /// The steps with the fault.
 fn with_fault(alloc: Global, steps: &[Step], fault: Fault) -> Result<Vec<Step>, AllocError> {
     match fault {
+        Fault::None => Vec::from_slice(alloc, steps),
         Fault::Value(number, value) => with_value(alloc, steps, number, value),
         Fault::Index(number, index) => with_index(alloc, steps, number, index),
         Fault::Swapped(one, other) => with_swapped(alloc, steps, one, other),
         Fault::LeftOut(number) => without(alloc, steps, &[number]),
+        Fault::AllLeftOut(numbers) => without(alloc, steps, numbers),
+        Fault::End(number) => Vec::from_slice(alloc, steps.get(..number).unwrap_or(&[])),
     }
 }
 
-/// With each of these faults, the steps of the writer are refused.
-fn assert_refused(
-    rt: &impl Abort,
+fn versions_of(alloc: Global, subject: &Subject) -> Result<Versions, AllocError> {
+    let mut versions = Vec::new(alloc);
+    for rules in subject.versions {
+        versions.push(Vec::from_slice(alloc, rules)?)?;
+    }
+    Ok(versions)
+}
+
+fn are_in_order(alloc: Global, subject: &Subject, steps: &[Step]) -> Result<bool, AllocError> {
+    let versions = versions_of(alloc, subject)?;
+    writes_in_order(alloc, &subject.initial, &versions, steps)
+}
+
+/// Whether the decider accepts the steps.
+fn accepts(
     alloc: Global,
-    initial: &InitialState,
-    versions: &Versions,
+    subject: &Subject,
+    decider: Decider,
     steps: &[Step],
-    faults: &[Fault],
-) -> Result<(), Fail> {
-    for (place, fault) in faults.iter().enumerate() {
-        let changed = with_fault(alloc, steps, *fault)?;
-        let is_accepted = writes_in_order(alloc, initial, versions, &changed)?;
-        assert!(rt; !is_accepted, "fault {place}");
-    }
-    Ok(())
-}
-
-fn seen(addr: u32, hop: Option<u32>, span: (usize, usize), versions: (u64, u64)) -> Seen {
-    Seen {
-        addr,
-        hop,
-        first: span.0,
-        last: span.1,
-        lo: versions.0,
-        hi: versions.1,
+) -> Result<bool, AllocError> {
+    let initial = &subject.initial;
+    match decider {
+        Decider::Loads => Ok(loads_are_stores(initial, steps)),
+        Decider::Deeds(worker, deeds) => deeds_are_done(alloc, initial, steps, worker, deeds),
+        Decider::Writes => are_in_order(alloc, subject, steps),
+        Decider::Reuse => Ok(reuse_is_lawful(initial, steps)),
     }
 }
 
-fn is_in_order(alloc: Global, steps: &[Step]) -> Result<bool, AllocError> {
-    writes_in_order(alloc, &SMALL, &versions(alloc)?, steps)
+/// Whether the decider accepts the trace with the fault.
+fn accepts_with(
+    alloc: Global,
+    subject: &Subject,
+    decider: Decider,
+    fault: Fault,
+) -> Result<bool, AllocError> {
+    let steps = with_fault(alloc, subject.steps, fault)?;
+    accepts(alloc, subject, decider, &steps)
 }
 
-/// Whether the deciders of steps accept these, as those of the worker and the writer.
-fn are_accepted(alloc: Global, steps: &[Step]) -> Result<bool, AllocError> {
-    if !loads_are_stores(&SMALL, steps) || !deeds_are_done(alloc, &SMALL, steps, 0, &DEEDS)? {
-        return Ok(false);
+/// Whether each of these deciders accepts the trace with the fault.
+fn all_accept(
+    alloc: Global,
+    subject: &Subject,
+    deciders: &[Decider],
+    fault: Fault,
+) -> Result<bool, AllocError> {
+    for decider in deciders {
+        if !accepts_with(alloc, subject, *decider, fault)? {
+            return Ok(false);
+        }
     }
-    is_in_order(alloc, steps)
+    Ok(true)
 }
 
-#[test]
-fn each_step_with_another_value(rt: HostRuntime) -> Result<(), Fail> {
-    let alloc = rt.alloc();
-    for (earlier, step) in GOOD.iter().enumerate() {
-        let number = earlier.saturating_add(1);
-        let changed = with_value(alloc, &GOOD, number, step.value.saturating_add(1))?;
-        assert!(rt; !are_accepted(alloc, &changed)?, "{number}");
+/// With each of these faults, the trace is accepted by the row's decider, or refused.
+fn assert_row(rt: &impl Abort, alloc: Global, subject: &Subject, row: (usize, Row), wanted: bool) {
+    let (place, (decider, faults)) = row;
+    for (number, fault) in faults.iter().enumerate() {
+        let found = accepts_with(alloc, subject, decider, *fault).expect(rt, "memory");
+        assert_at(rt, (place, number), found, wanted);
     }
-    Ok(())
 }
 
-#[test]
-fn each_step_at_another_index(rt: HostRuntime) -> Result<(), Fail> {
-    let alloc = rt.alloc();
-    for (earlier, step) in GOOD.iter().enumerate() {
-        let number = earlier.saturating_add(1);
-        let changed = with_index(alloc, &GOOD, number, step.index.saturating_add(1))?;
-        assert!(rt; !are_accepted(alloc, &changed)?, "{number}");
+fn assert_rows(rt: &impl Abort, alloc: Global, subject: &Subject, rows: &[Row], wanted: bool) {
+    for (place, row) in rows.iter().enumerate() {
+        assert_row(rt, alloc, subject, (place, *row), wanted);
     }
-    Ok(())
 }
 
-// The check that was stopped and the last step may be left out, and no other step.
-#[test]
-fn each_step_left_out(rt: HostRuntime) -> Result<(), Fail> {
-    let alloc = rt.alloc();
-    for earlier in 0..GOOD.len() {
-        let number = earlier.saturating_add(1);
-        let rest = without(alloc, &GOOD, &[number])?;
-        let may_be_left_out = number == 15 || number == 32;
-        assert_eq!(rt; are_accepted(alloc, &rest)?, may_be_left_out, "{number}");
-    }
-    Ok(())
+/// Four addresses, in two blocks of two, one group and one worker.
+const SMALL: InitialState = InitialState {
+    first: 1,
+    second: 1,
+    groups: 1,
+    workers: 1,
+    first_token: 1,
+};
+
+/// The word of group 0.
+const GROUP: u64 = 0x0300_0000;
+
+/// The word of next hop 5, of a prefix of two bits.
+const FIVE: u64 = 0x0900_0005;
+
+/// The word of next hop 7, of a prefix of two bits.
+const SEVEN: u64 = 0x0900_0007;
+
+/// The rule of address 0, and that of address 2.
+const OF_ZERO: PlainRule = PlainRule {
+    bits: 0,
+    len: 2,
+    hop: 5,
+};
+
+const OF_TWO: PlainRule = PlainRule {
+    bits: 2,
+    len: 2,
+    hop: 7,
+};
+
+/// The deeds of the worker.
+const DEEDS: &[Deed] = &[
+    Deed::Online,
+    Deed::Lookup(0),
+    Deed::Quiescent,
+    Deed::Lookup4([2, 0, 3, 1]),
+    Deed::Offline,
+    Deed::Meet,
+];
+
+/// A step of the writer: its kind, the index and the value.
+macro_rules! writer {
+    ($kind:ident, $index:expr, $value:expr) => {
+        Step {
+            actor: Actor::Writer,
+            kind: Kind::$kind,
+            index: $index,
+            value: $value,
+        }
+    };
 }
 
-#[test]
-fn loads_of_the_good_trace(rt: HostRuntime) -> Result<(), Fail> {
-    assert!(rt; loads_are_stores(&SMALL, &GOOD));
-    Ok(())
+/// A step of the worker: its kind, the index and the value.
+macro_rules! worker {
+    ($kind:ident, $index:expr, $value:expr) => {
+        Step {
+            actor: Actor::Worker(0),
+            kind: Kind::$kind,
+            index: $index,
+            value: $value,
+        }
+    };
 }
 
-#[test]
-fn loads_of_what_was_not_stored(rt: HostRuntime) -> Result<(), Fail> {
-    let alloc = rt.alloc();
-    for (number, value) in [(13, SEVEN), (5, 2), (15, 2), (14, 3), (12, 5), (11, 3)] {
-        let changed = with_value(alloc, &GOOD, number, value)?;
-        assert!(rt; !loads_are_stores(&SMALL, &changed), "{number}");
-    }
-    Ok(())
-}
+mod two_workers;
 
-#[test]
-fn words_that_there_are_not(rt: HostRuntime) -> Result<(), Fail> {
-    let alloc = rt.alloc();
-    for (number, index) in [(3, 2), (2, 2), (1, 1), (6, 1), (15, 1)] {
-        let changed = with_index(alloc, &GOOD, number, index)?;
-        assert!(rt; !loads_are_stores(&SMALL, &changed), "{number}");
-    }
-    Ok(())
-}
+/// The trace of one worker.
+const GOOD: &[Step] = &[
+    // The writer adds the rule of address 0, which takes the group; steps 1 to 4. The worker comes
+    // online and begins a lookup of address 0; steps 5 to 8. The writer deletes the rule, which unlinks
+    // the group; steps 9 to 12. The worker ends its lookup; steps 13 and 14.
+    writer!(BumpSequence, 0, 1),
+    writer!(StoreSecond, 0, FIVE),
+    writer!(StoreFirst, 0, GROUP),
+    writer!(BumpSequence, 0, 2),
+    worker!(LoadToken, 0, 1),
+    worker!(StoreCounter, 0, 1),
+    worker!(LoadSequence, 0, 2),
+    worker!(LoadFirst, 0, GROUP),
+    writer!(BumpSequence, 0, 3),
+    writer!(StoreFirst, 0, 0),
+    writer!(BumpToken, 0, 2),
+    writer!(BumpSequence, 0, 4),
+    worker!(LoadSecond, 0, FIVE),
+    worker!(LoadSequence, 0, 4),
+    // A reclaim is stopped by the worker; step 15. It reports a quiescent state; steps 16 and 17. The
+    // next check passes; step 18. The writer adds the rule of address 2, which takes the group again;
+    // steps 19 to 22.
+    writer!(LoadCounter, 0, 1),
+    worker!(LoadToken, 0, 2),
+    worker!(StoreCounter, 0, 2),
+    writer!(LoadCounter, 0, 2),
+    writer!(BumpSequence, 0, 5),
+    writer!(StoreSecond, 0, SEVEN),
+    writer!(StoreFirst, 1, GROUP),
+    writer!(BumpSequence, 0, 6),
+    // The worker looks up all four addresses; steps 23 to 30. It goes offline and meets the writer;
+    // steps 31 and 32.
+    worker!(LoadSequence, 0, 6),
+    worker!(LoadFirst, 1, GROUP),
+    worker!(LoadFirst, 0, 0),
+    worker!(LoadFirst, 1, GROUP),
+    worker!(LoadFirst, 0, 0),
+    worker!(LoadSecond, 0, SEVEN),
+    worker!(LoadSecond, 1, 0),
+    worker!(LoadSequence, 0, 6),
+    worker!(StoreCounter, 0, 0),
+    worker!(LoadSequence, 0, 6),
+];
 
-#[test]
-fn deeds_of_the_good_trace(rt: HostRuntime) -> Result<(), Fail> {
-    let alloc = rt.alloc();
-    assert!(rt; deeds_are_sound(&SMALL, &DEEDS));
+static ONE_WORKER: Subject = Subject {
+    initial: SMALL,
+    versions: &[&[], &[OF_ZERO], &[], &[OF_TWO]],
+    steps: GOOD,
+};
+
+static ACCEPTED: [Row; 4] = [
+    (Decider::Loads, &[Fault::None]),
     // The whole trace, the one without its last step, and its beginning.
-    for steps_done in [32, 31, 14] {
-        let beginning = GOOD.get(..steps_done).unwrap_or(&[]);
-        assert!(rt;
-            deeds_are_done(alloc, &SMALL, beginning, 0, &DEEDS)?,
-            "{steps_done}"
-        );
-    }
-    Ok(())
-}
+    (
+        Decider::Deeds(0, DEEDS),
+        &[Fault::None, Fault::End(31), Fault::End(14)],
+    ),
+    (Decider::Writes, &[Fault::None]),
+    (
+        Decider::Reuse,
+        &[Fault::None, Fault::AllLeftOut(&[5, 6, 16, 17])],
+    ),
+];
+
+static REFUSED: [Row; 7] = [
+    // Loads of what was not stored.
+    (
+        Decider::Loads,
+        &[
+            Fault::Value(13, SEVEN),
+            Fault::Value(5, 2),
+            Fault::Value(15, 2),
+            Fault::Value(14, 3),
+            Fault::Value(12, 5),
+            Fault::Value(11, 3),
+        ],
+    ),
+    // Words that there are not.
+    (
+        Decider::Loads,
+        &[
+            Fault::Index(3, 2),
+            Fault::Index(2, 2),
+            Fault::Index(1, 1),
+            Fault::Index(6, 1),
+            Fault::Index(15, 1),
+        ],
+    ),
+    // Deeds that were not done.
+    (
+        Decider::Deeds(0, DEEDS),
+        &[Fault::Value(17, 1), Fault::Index(13, 1), Fault::LeftOut(14)],
+    ),
+    (Decider::Deeds(0, &[Deed::Online]), &[Fault::None]),
+    // Stores out of order.
+    (
+        Decider::Writes,
+        &[
+            Fault::Swapped(2, 3),
+            Fault::Swapped(3, 4),
+            Fault::Value(2, SEVEN),
+            Fault::Value(10, SEVEN),
+            Fault::Value(2, GROUP),
+            Fault::Value(2, 1),
+        ],
+    ),
+    // Tokens and checks out of order.
+    (
+        Decider::Writes,
+        &[
+            Fault::LeftOut(11),
+            Fault::Swapped(10, 11),
+            Fault::Swapped(11, 12),
+            Fault::LeftOut(18),
+            Fault::Value(18, 1),
+            Fault::Index(15, 1),
+        ],
+    ),
+    // Reuse within a reader interval.
+    (
+        Decider::Reuse,
+        &[Fault::AllLeftOut(&[16, 17]), Fault::Swapped(16, 20)],
+    ),
+];
 
 #[test]
-fn deeds_that_were_not_done(rt: HostRuntime) -> Result<(), Fail> {
-    let alloc = rt.alloc();
-    let faults = [Fault::Value(17, 1), Fault::Index(13, 1), Fault::LeftOut(14)];
-    for (place, fault) in faults.iter().enumerate() {
-        let changed = with_fault(alloc, &GOOD, *fault)?;
-        let are_done = deeds_are_done(alloc, &SMALL, &changed, 0, &DEEDS)?;
-        assert!(rt; !are_done, "fault {place}");
-    }
-    assert!(rt; !deeds_are_done(alloc, &SMALL, &GOOD, 0, &[Deed::Online])?);
-    Ok(())
-}
-
-#[test]
-fn deeds_that_cannot_be_done(rt: HostRuntime) -> Result<(), Fail> {
-    assert!(rt; !deeds_are_sound(&SMALL, &[Deed::Lookup(0)]));
-    assert!(rt; !deeds_are_sound(&SMALL, &[Deed::Online, Deed::Lookup(4)]));
-    Ok(())
-}
-
-#[test]
-fn order_of_the_good_trace(rt: HostRuntime) -> Result<(), Fail> {
-    let alloc = rt.alloc();
-    assert!(rt; is_in_order(alloc, &GOOD)?);
-    Ok(())
-}
-
-#[test]
-fn stores_out_of_order(rt: HostRuntime) -> Result<(), Fail> {
-    let alloc = rt.alloc();
-    let faults = [
-        Fault::Swapped(2, 3),
-        Fault::Swapped(3, 4),
-        Fault::Value(2, SEVEN),
-        Fault::Value(10, SEVEN),
-        Fault::Value(2, GROUP),
-        Fault::Value(2, 1),
-    ];
-    let versions = versions(alloc)?;
-    assert_refused(&rt, alloc, &SMALL, &versions, &GOOD, &faults)
+fn a_trace_of_one_worker(rt: HostRuntime) {
+    assert_rows(&rt, rt.alloc(), &ONE_WORKER, &ACCEPTED, true);
+    assert_rows(&rt, rt.alloc(), &ONE_WORKER, &REFUSED, false);
 }
 
 // An update that leaves the rules as they are may store nothing; but a free group that it fills it links
 // before it ends.
-#[test]
-fn a_group_that_is_filled_and_never_linked(rt: HostRuntime) -> Result<(), Fail> {
-    let alloc = rt.alloc();
-    let mut same_rules = Vec::new(alloc);
-    same_rules.push(Vec::new(alloc))?;
-    same_rules.push(Vec::new(alloc))?;
-    let steps = [
+static NEVER_LINKED: Subject = Subject {
+    initial: SMALL,
+    versions: &[&[], &[]],
+    steps: &[
         writer!(BumpSequence, 0, 1),
         writer!(StoreSecond, 0, FIVE),
         writer!(BumpSequence, 0, 2),
-    ];
-    let unfilled = without(alloc, &steps, &[2])?;
-    let unfinished = without(alloc, &steps, &[3])?;
-    assert!(rt; writes_in_order(alloc, &SMALL, &same_rules, &unfilled)?);
-    assert!(rt; writes_in_order(alloc, &SMALL, &same_rules, &unfinished)?);
-    assert!(rt; !writes_in_order(alloc, &SMALL, &same_rules, &steps)?);
-    Ok(())
+    ],
+};
+
+static MAY_LACK: [Row; 1] = [(Decider::Writes, &[Fault::LeftOut(2), Fault::LeftOut(3)])];
+
+static IS_FILLED: [Row; 1] = [(Decider::Writes, &[Fault::None])];
+
+#[test]
+fn a_group_that_is_filled_and_never_linked(rt: HostRuntime) {
+    assert_rows(&rt, rt.alloc(), &NEVER_LINKED, &MAY_LACK, true);
+    assert_rows(&rt, rt.alloc(), &NEVER_LINKED, &IS_FILLED, false);
+}
+
+/// The deciders of steps, of the worker and the writer.
+static OF_STEPS: [Decider; 3] = [Decider::Loads, Decider::Deeds(0, DEEDS), Decider::Writes];
+
+// These deciders accept the trace with this fault at the step of this number, or one of them doesn't.
+fn assert_all(
+    rt: &impl Abort,
+    alloc: Global,
+    subject: &Subject,
+    deciders: &[Decider],
+    fault: (usize, Fault),
+    wanted: bool,
+) {
+    let (number, fault) = fault;
+    let found = all_accept(alloc, subject, deciders, fault).expect(rt, "memory");
+    assert_at(rt, ("step", number), found, wanted);
+}
+
+fn assert_steps(rt: &impl Abort, alloc: Global, number: usize, fault: Fault, wanted: bool) {
+    assert_all(rt, alloc, &ONE_WORKER, &OF_STEPS, (number, fault), wanted);
+}
+
+// Each step with another value, at another index and left out. The check that was stopped and the last step
+// may be left out, and no other step.
+fn assert_changed(rt: &impl Abort, alloc: Global, number: usize, step: &Step) {
+    let value = Fault::Value(number, step.value.saturating_add(1));
+    let index = Fault::Index(number, step.index.saturating_add(1));
+    let may_be_left_out = number == 15 || number == 32;
+    assert_steps(rt, alloc, number, value, false);
+    assert_steps(rt, alloc, number, index, false);
+    assert_steps(rt, alloc, number, Fault::LeftOut(number), may_be_left_out);
 }
 
 #[test]
-fn tokens_and_checks_out_of_order(rt: HostRuntime) -> Result<(), Fail> {
-    let alloc = rt.alloc();
-    let faults = [
-        Fault::LeftOut(11),
-        Fault::Swapped(10, 11),
-        Fault::Swapped(11, 12),
-        Fault::LeftOut(18),
-        Fault::Value(18, 1),
-        Fault::Index(15, 1),
-    ];
-    let versions = versions(alloc)?;
-    assert_refused(&rt, alloc, &SMALL, &versions, &GOOD, &faults)
+fn each_step_changed(rt: HostRuntime) {
+    for (earlier, step) in ONE_WORKER.steps.iter().enumerate() {
+        assert_changed(&rt, rt.alloc(), earlier.saturating_add(1), step);
+    }
+}
+
+#[test]
+fn deeds_that_can_be_done(rt: HostRuntime) {
+    let whole = deeds_are_sound(&SMALL, DEEDS);
+    let offline = deeds_are_sound(&SMALL, &[Deed::Lookup(0)]);
+    let past_addresses = deeds_are_sound(&SMALL, &[Deed::Online, Deed::Lookup(4)]);
+    let found = [whole, offline, past_addresses];
+    assert_at(&rt, "sound", found, [true, false, false]);
+}
+
+// The address, the next hop, the first and the last step of the reads, `lo` and `hi`.
+type Looked = (u32, Option<u32>, usize, usize, u64, u64);
+
+fn seen(looked: &Looked) -> Seen {
+    let (addr, hop, first, last, lo, hi) = *looked;
+    Seen {
+        addr,
+        hop,
+        first,
+        last,
+        lo,
+        hi,
+    }
 }
 
 /// The lookups of the whole trace.
-fn good_lookups() -> [Seen; 5] {
-    [
-        seen(0, Some(5), (8, 13), (1, 2)),
-        seen(2, Some(7), (24, 28), (3, 3)),
-        seen(0, None, (25, 25), (3, 3)),
-        seen(3, None, (26, 29), (3, 3)),
-        seen(1, None, (27, 27), (3, 3)),
-    ]
-}
+static LOOKED: [Looked; 5] = [
+    (0, Some(5), 8, 13, 1, 2),
+    (2, Some(7), 24, 28, 3, 3),
+    (0, None, 25, 25, 3, 3),
+    (3, None, 26, 29, 3, 3),
+    (1, None, 27, 27, 3, 3),
+];
+
+/// Answers of no version that stood.
+static WRONG: [Looked; 5] = [
+    (0, Some(7), 8, 13, 1, 2),
+    (2, None, 24, 28, 3, 3),
+    (0, Some(5), 25, 25, 1, 3),
+    (0, Some(5), 8, 13, 2, 2),
+    (0, None, 8, 13, 1, 1),
+];
+
+/// A version that stood, though not at these reads.
+static LATE: [Looked; 1] = [(0, Some(5), 11, 13, 1, 2)];
 
 #[test]
-fn lookups_of_the_good_trace(rt: HostRuntime) -> Result<(), Fail> {
-    let alloc = rt.alloc();
-    let found = lookups(alloc, &SMALL, &GOOD, 0, &DEEDS)?;
-    assert_eq!(rt; found.as_slice(), good_lookups().as_slice());
-    Ok(())
-}
-
-#[test]
-fn answers_of_the_good_trace(rt: HostRuntime) -> Result<(), Fail> {
-    let alloc = rt.alloc();
-    let versions = versions(alloc)?;
-    let found = good_lookups();
-    for one in &found {
-        assert!(rt; is_legal(&SMALL, &versions, &GOOD, one));
+fn lookups_of_the_trace(rt: HostRuntime) {
+    let found = lookups(rt.alloc(), &SMALL, ONE_WORKER.steps, 0, DEEDS).expect(&rt, "memory");
+    assert_at(&rt, "lookups", found.len(), LOOKED.len());
+    for (place, looked) in LOOKED.iter().enumerate() {
+        assert_at(&rt, place, found.get(place).copied(), Some(seen(looked)));
     }
-    assert!(rt; never_falls(&SMALL, &versions, &GOOD, &found));
-    Ok(())
 }
 
-#[test]
-fn answers_of_no_version_that_stood(rt: HostRuntime) -> Result<(), Fail> {
-    let alloc = rt.alloc();
-    let versions = versions(alloc)?;
-    for wrong in [
-        seen(0, Some(7), (8, 13), (1, 2)),
-        seen(2, None, (24, 28), (3, 3)),
-        seen(0, Some(5), (25, 25), (1, 3)),
-        seen(0, Some(5), (8, 13), (2, 2)),
-        seen(0, None, (8, 13), (1, 1)),
-    ] {
-        assert!(rt; !is_legal(&SMALL, &versions, &GOOD, &wrong));
+// Each of these lookups is legal, or none.
+fn assert_legal(rt: &impl Abort, versions: &Versions, looked: &[Looked], wanted: bool) {
+    for one in looked {
+        let found = is_legal(&SMALL, versions, ONE_WORKER.steps, &seen(one));
+        assert_at(rt, ("legal", *one), found, wanted);
     }
-    Ok(())
+}
+
+// Of each of these lookups the version doesn't fall, or of none.
+fn assert_rising(rt: &impl Abort, versions: &Versions, looked: &[Looked], wanted: bool) {
+    for one in looked {
+        let found = never_falls(&SMALL, versions, ONE_WORKER.steps, &[seen(one)]);
+        assert_at(rt, ("rising", *one), found, wanted);
+    }
+}
+
+fn assert_answers(rt: &impl Abort, versions: &Versions) {
+    assert_legal(rt, versions, &LOOKED, true);
+    assert_rising(rt, versions, &LOOKED, true);
+    assert_legal(rt, versions, &WRONG, false);
+    assert_legal(rt, versions, &LATE, true);
+    assert_rising(rt, versions, &LATE, false);
 }
 
 #[test]
-fn versions_that_fall(rt: HostRuntime) -> Result<(), Fail> {
-    let alloc = rt.alloc();
-    let versions = versions(alloc)?;
-    let late = seen(0, Some(5), (11, 13), (1, 2));
-    assert!(rt; is_legal(&SMALL, &versions, &GOOD, &late));
-    assert!(rt; !never_falls(&SMALL, &versions, &GOOD, &[late]));
-    Ok(())
-}
-
-#[test]
-fn reuse_of_the_good_trace(rt: HostRuntime) -> Result<(), Fail> {
-    assert!(rt; reuse_is_lawful(&SMALL, &GOOD));
-    Ok(())
-}
-
-#[test]
-fn reuse_within_a_reader_interval(rt: HostRuntime) -> Result<(), Fail> {
-    let alloc = rt.alloc();
-    assert!(rt; !reuse_is_lawful(&SMALL, &without(alloc, &GOOD, &[16, 17])?));
-    assert!(rt; !reuse_is_lawful(&SMALL, &with_swapped(alloc, &GOOD, 16, 20)?));
-    assert!(rt; reuse_is_lawful(&SMALL, &without(alloc, &GOOD, &[5, 6, 16, 17])?));
-    Ok(())
+fn answers_of_the_trace(rt: HostRuntime) {
+    let versions = versions_of(rt.alloc(), &ONE_WORKER).expect(&rt, "memory");
+    assert_answers(&rt, &versions);
 }

@@ -10,7 +10,7 @@ use qsbr::{Busy, Config, Refusal};
 use std::alloc::{AllocError, Global};
 use std::process::Abort;
 use std::test::Fail;
-use world_reference::Plan;
+use test_support::plans::Plan;
 
 const WRITER: Actor = Actor::Writer;
 
@@ -47,7 +47,7 @@ type Answered = (Edit, Answer, usize);
 
 // Changes of each kind over two groups, while worker 0 is online at token 1; among them some without a
 // step.
-const ANSWERED: [Answered; 16] = [
+static ANSWERED: [Answered; 16] = [
     // The first rule.
     (Edit::Flush, Answer::Other(Reply::Flushed(0)), 0),
     (Edit::Add(0x12, 8, 5), ADDED, 19),
@@ -319,7 +319,7 @@ fn a_refused_growth(rt: HostRuntime) -> Result<(), Fail> {
 }
 
 // A limit outside its range in each.
-const WRONG: [Config; 5] = [
+static WRONG: [Config; 5] = [
     Config {
         rules: 0,
         ..ONE_GROUP

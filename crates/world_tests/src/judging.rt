@@ -7,9 +7,11 @@ use super::plan::{Edit, planned, run};
 use interleave::{Actor, Deed, Trace};
 use qsbr::Config;
 use std::alloc::{AllocError, Global};
+use std::fmt::Debug;
 use std::process::Abort;
 use std::test::Fail;
-use world_reference::{JudgeError, Plan, judge};
+use test_support::plans::Plan;
+use world_reference::{JudgeError, judge};
 
 // The run is accepted; else the message tells the number of its plan. Want of memory is an error.
 fn assert_judged(
@@ -36,6 +38,18 @@ pub(crate) fn judged<const FIRST: u32, const SECOND: u32>(
     let trace = run(rt, alloc, plan)?;
     assert_judged(rt, number, judge(alloc, plan, &trace))?;
     Ok(trace)
+}
+
+// The slow program refuses the run of the plan for this reason; else the message names the row.
+pub(crate) fn assert_refused<R: Debug + Copy>(
+    rt: &impl Abort,
+    row: R,
+    plan: &Plan<4, 4>,
+    judged: (Global, &Trace),
+    error: JudgeError,
+) {
+    let (alloc, trace) = judged;
+    assert_at(rt, row, judge(alloc, plan, trace), Err(error));
 }
 
 // The run of a plan with one worker, which the slow program accepts.

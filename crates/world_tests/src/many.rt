@@ -9,7 +9,7 @@ use qsbr::Config;
 use std::alloc::{AllocError, Global};
 use std::process::Abort;
 use std::test::Fail;
-use world_reference::{Plan, Sizes, drawn, even};
+use test_support::plans::{Plan, Sizes, drawn, even};
 
 // Runs and judges the plans of these numbers.
 fn judge_drawn<const FIRST: u32, const SECOND: u32>(

@@ -9,7 +9,7 @@ use lpm_bits::{Hop, Prefix, Shape};
 use qsbr::Config;
 use std::alloc::{AllocError, Global};
 use std::process::Abort;
-use world_reference::Plan;
+use test_support::plans::Plan;
 
 // One group and one worker; all else by default.
 pub(crate) const ONE_GROUP: Config = Config {
@@ -43,8 +43,8 @@ pub(crate) fn run<const FIRST: u32, const SECOND: u32>(
 ) -> Result<Trace, RunError>
     requires { IsShape FIRST SECOND }
 {
-    assert_eq!(rt; plan.scripts.len(), plan.config.workers);
-    assert!(rt; are_sound::<FIRST, SECOND>(&plan.scripts));
+    let is_for_each = plan.scripts.len() == plan.config.workers;
+    assert!(rt; is_for_each && are_sound::<FIRST, SECOND>(&plan.scripts));
     World::<FIRST, SECOND>::run(
         alloc,
         plan.config,

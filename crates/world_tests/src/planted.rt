@@ -1,13 +1,14 @@
 // Runs in which one thing is wrong, which the slow program refuses.
 
-use super::asserting::assert_at;
-use super::plan::{Edit, ONE_GROUP, hop, planned, prefix, run};
+use super::judging::{assert_refused, judged};
+use super::plan::{Edit, ONE_GROUP, hop, planned, prefix};
 use interleave::{Actor, Change, Deed, Kind, Step, Trace};
 use qsbr::Config;
 use std::alloc::Global;
 use std::process::Abort;
 use std::test::Fail;
-use world_reference::{JudgeError, Plan, judge};
+use test_support::plans::Plan;
+use world_reference::JudgeError;
 
 // What is wrong with a run.
 #[derive(Clone, Copy, Debug)]
@@ -32,7 +33,7 @@ enum Fault {
     AnotherAddress,
 }
 
-const FOUND: [(Fault, JudgeError); 9] = [
+static FOUND: [(Fault, JudgeError); 9] = [
     (Fault::StepsExchanged, JudgeError::Schedule),
     (Fault::AnotherWordLoaded, JudgeError::Loads),
     (Fault::StoresExchanged, JudgeError::Stores),
@@ -50,12 +51,12 @@ const FOUND: [(Fault, JudgeError); 9] = [
     (Fault::AnotherAddress, JudgeError::Lookups(0)),
 ];
 
-const EDITS: [Edit; 2] = [Edit::Add(0x12, 8, 5), Edit::Delete(0x12, 8)];
+static EDITS: [Edit; 2] = [Edit::Add(0x12, 8, 5), Edit::Delete(0x12, 8)];
 
-const DEEDS: [Deed; 2] = [Deed::Online, Deed::Lookup(0x12)];
+static DEEDS: [Deed; 2] = [Deed::Online, Deed::Lookup(0x12)];
 
 // The lookup loads the first word before the rule is deleted, and the second word after it.
-const BURSTS: [(Actor, usize); 5] = [
+static BURSTS: [(Actor, usize); 5] = [
     (Actor::Worker(0), 2),
     (Actor::Writer, 19),
     (Actor::Worker(0), 2),
@@ -90,7 +91,8 @@ fn store_the_sequence_for_the_token(steps: &mut [Step]) {
     }
 }
 
-fn exchange(steps: &mut [Step], place: usize) {
+// The step at this place, and the one before it, stand in each other's place.
+pub(crate) fn exchange(steps: &mut [Step], place: usize) {
     if steps.len() > place && place > 0 {
         steps.swap(place - 1, place);
     }
@@ -121,24 +123,23 @@ fn plant(trace: &mut Trace, fault: Fault) {
 }
 
 // The run is accepted as it is, and with the fault it is refused for this reason.
-fn assert_refused(
+fn assert_found(
     rt: &impl Abort,
     alloc: Global,
     fault: Fault,
     error: JudgeError,
 ) -> Result<(), Fail> {
     let plan = planned(rt, alloc, ONE_GROUP, &EDITS, &DEEDS, &BURSTS)?;
-    let mut trace = run(rt, alloc, &plan)?;
-    assert_at(rt, "whole", judge(alloc, &plan, &trace), Ok(()));
+    let mut trace = judged(rt, alloc, 0, &plan)?;
     plant(&mut trace, fault);
-    assert_at(rt, fault, judge(alloc, &plan, &trace), Err(error));
+    assert_refused(rt, fault, &plan, (alloc, &trace), error);
     Ok(())
 }
 
 #[test]
 fn planted_faults_are_found(rt: HostRuntime) -> Result<(), Fail> {
     for (fault, error) in &FOUND {
-        assert_refused(&rt, rt.alloc(), *fault, *error)?;
+        assert_found(&rt, rt.alloc(), *fault, *error)?;
     }
     Ok(())
 }
@@ -161,7 +162,7 @@ const TWO_GROUPS: Config = Config {
     ..ONE_GROUP
 };
 
-const FOUR_EDITS: [Edit; 4] = [
+static FOUR_EDITS: [Edit; 4] = [
     Edit::Add(0x12, 8, 5),
     Edit::Add(0x35, 8, 6),
     Edit::Delete(0x12, 8),
@@ -169,7 +170,7 @@ const FOUR_EDITS: [Edit; 4] = [
 ];
 
 // How many of the edits are made, with how many items of the writer, and why the other plan refuses that run.
-const OTHERS: [(Other, usize, usize, JudgeError); 3] = [
+static OTHERS: [(Other, usize, usize, JudgeError); 3] = [
     (
         Other::Threshold,
         4,
@@ -206,10 +207,9 @@ fn assert_of_its_plan(
     error: JudgeError,
 ) -> Result<(), Fail> {
     let mut plan = planned(rt, alloc, TWO_GROUPS, edits, &[Deed::Online], bursts)?;
-    let trace = run(rt, alloc, &plan)?;
-    assert_at(rt, "its plan", judge(alloc, &plan, &trace), Ok(()));
+    let trace = judged(rt, alloc, 0, &plan)?;
     change_plan(rt, &mut plan, other)?;
-    assert_at(rt, other, judge(alloc, &plan, &trace), Err(error));
+    assert_refused(rt, other, &plan, (alloc, &trace), error);
     Ok(())
 }
 

@@ -1,13 +1,16 @@
 // Runs that follow their schedules and break one law of traces, which the slow program refuses by that law.
 
 use super::asserting::assert_at;
+use super::judging::{assert_refused, judged};
 use super::plan::{Edit, ONE_GROUP, hop, planned, planned_for, run};
+use super::planted::exchange;
 use interleave::{Actor, Deed, Kind, Seen, Step};
 use qsbr::Config;
 use std::alloc::Global;
 use std::process::Abort;
 use std::test::Fail;
-use world_reference::{JudgeError, Plan, judge};
+use test_support::plans::Plan;
+use world_reference::{JudgeError, judge};
 
 const TWO_GROUPS: Config = Config {
     groups: 2,
@@ -40,11 +43,10 @@ fn a_group_filled_while_it_is_held(rt: HostRuntime) -> Result<(), Fail> {
     let bursts = [(Actor::Worker(0), 2), (Actor::Writer, 43)];
     let deeds = [Deed::Online];
     let plan = planned(&rt, rt.alloc(), TWO_GROUPS, &edits, &deeds, &bursts)?;
-    let mut trace = run(&rt, rt.alloc(), &plan)?;
-    assert_at(&rt, "whole", judge(rt.alloc(), &plan, &trace), Ok(()));
+    let mut trace = judged(&rt, rt.alloc(), 0, &plan)?;
     fill_the_first_group(trace.steps.as_mut_slice());
-    let judged = judge(rt.alloc(), &plan, &trace);
-    assert_at(&rt, "held", judged, Err(JudgeError::Reuse));
+    let refused = (rt.alloc(), &trace);
+    assert_refused(&rt, "held", &plan, refused, JudgeError::Reuse);
     Ok(())
 }
 
@@ -58,17 +60,19 @@ fn counters_out_of_turn(rt: HostRuntime) -> Result<(), Fail> {
     ];
     let bursts = [(Actor::Writer, 26)];
     let plan = planned_for(&rt, rt.alloc(), TWO_WORKERS, &edits, &[&[], &[]], &bursts)?;
-    let mut trace = run(&rt, rt.alloc(), &plan)?;
-    assert_at(&rt, "whole", judge(rt.alloc(), &plan, &trace), Ok(()));
-    assert_eq!(rt; trace.steps.len(), 26);
-    trace.steps.swap(24, 25);
+    let mut trace = judged(&rt, rt.alloc(), 0, &plan)?;
+    exchange(trace.steps.as_mut_slice(), 25);
     let wanted = JudgeError::Turn {
         found: 1,
         wanted: 0,
     };
-    let judged = judge(rt.alloc(), &plan, &trace);
-    assert_at(&rt, "exchanged", judged, Err(wanted));
+    assert_refused(&rt, "exchanged", &plan, (rt.alloc(), &trace), wanted);
     Ok(())
+}
+
+fn exchange_lookups(rt: &impl Abort, lookups: &mut [Seen]) {
+    assert!(rt; lookups.len() == 2);
+    lookups.swap(0, 1);
 }
 
 // The lookup that ended last is shown first.
@@ -78,17 +82,15 @@ fn lookups_out_of_order(rt: HostRuntime) -> Result<(), Fail> {
     let scripts: [&[Deed]; 2] = [&deeds, &deeds];
     let bursts = [(Actor::Worker(0), 5), (Actor::Worker(1), 5)];
     let plan = planned_for(&rt, rt.alloc(), TWO_WORKERS, &[], &scripts, &bursts)?;
-    let mut trace = run(&rt, rt.alloc(), &plan)?;
-    assert_at(&rt, "whole", judge(rt.alloc(), &plan, &trace), Ok(()));
-    assert_eq!(rt; trace.lookups.len(), 2);
-    trace.lookups.swap(0, 1);
-    let judged = judge(rt.alloc(), &plan, &trace);
-    assert_at(&rt, "exchanged", judged, Err(JudgeError::Order));
+    let mut trace = judged(&rt, rt.alloc(), 0, &plan)?;
+    exchange_lookups(&rt, trace.lookups.as_mut_slice());
+    let refused = (rt.alloc(), &trace);
+    assert_refused(&rt, "exchanged", &plan, refused, JudgeError::Order);
     Ok(())
 }
 
 // The writer takes its group again at once, since no worker is online.
-const TAKEN_AGAIN: [Edit; 4] = [
+static TAKEN_AGAIN: [Edit; 4] = [
     Edit::Add(0x12, 8, 5),
     Edit::Delete(0x12, 8),
     Edit::Reclaim(1),
@@ -186,9 +188,9 @@ fn judged_offline(
 // which no version answers. At the next address it finds a miss, which is right.
 #[test]
 fn an_offline_lookup(rt: HostRuntime) -> Result<(), Fail> {
-    let judged = judged_offline(&rt, rt.alloc(), 0x12, Some(6))?;
-    assert_at(&rt, "0x12", judged, Err(JudgeError::Versions(0)));
-    let judged = judged_offline(&rt, rt.alloc(), 0x13, None)?;
-    assert_at(&rt, "0x13", judged, Ok(()));
+    let another = judged_offline(&rt, rt.alloc(), 0x12, Some(6))?;
+    let a_miss = judged_offline(&rt, rt.alloc(), 0x13, None)?;
+    let wanted = [Err(JudgeError::Versions(0)), Ok(())];
+    assert_at(&rt, "0x12, 0x13", [another, a_miss], wanted);
     Ok(())
 }

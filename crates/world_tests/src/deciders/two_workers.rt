@@ -1,14 +1,11 @@
 //! A trace of two workers and two groups: a flush that unlinks both and reclaims, a synchronize, and
 //! an add that takes a group again; and planted faults in it.
 
-use super::{FIVE, Fault, GROUP, SEVEN, assert_refused, without};
-use lpm_trace::{Actor, Deed, Kind, Step};
-use std::alloc::{AllocError, Global};
-use std::test::Fail;
-use world_reference::{
-    InitialState, PlainRule, Versions, deeds_are_done, loads_are_stores, reuse_is_lawful,
-    writes_in_order,
+use super::{
+    Decider, FIVE, Fault, GROUP, OF_TWO, OF_ZERO, Row, SEVEN, Subject, assert_all, assert_rows,
 };
+use lpm_trace::{Actor, Deed, Kind, Step};
+use world_reference::{InitialState, PlainRule};
 
 /// Four addresses, in two blocks of two, two groups and two workers.
 const WIDE: InitialState = InitialState {
@@ -22,24 +19,12 @@ const WIDE: InitialState = InitialState {
 /// The word of group 1.
 const OTHER_GROUP: u64 = 0x0300_0001;
 
-/// The rules of address 0, of address 2 and of address 1.
-const RULES: [PlainRule; 3] = [
-    PlainRule {
-        bits: 0,
-        len: 2,
-        hop: 5,
-    },
-    PlainRule {
-        bits: 2,
-        len: 2,
-        hop: 7,
-    },
-    PlainRule {
-        bits: 1,
-        len: 2,
-        hop: 5,
-    },
-];
+/// The rule of address 1.
+const OF_ONE: PlainRule = PlainRule {
+    bits: 1,
+    len: 2,
+    hop: 5,
+};
 
 /// A step of worker 1: its kind, the index and the value.
 macro_rules! reader {
@@ -53,19 +38,8 @@ macro_rules! reader {
     };
 }
 
-fn versions(alloc: Global) -> Result<Versions, AllocError> {
-    let [of_zero, of_two, of_one] = RULES;
-    let mut versions = Vec::new(alloc);
-    versions.push(Vec::new(alloc))?;
-    versions.push(Vec::from_slice(alloc, &[of_zero])?)?;
-    versions.push(Vec::from_slice(alloc, &[of_zero, of_two])?)?;
-    versions.push(Vec::new(alloc))?;
-    versions.push(Vec::from_slice(alloc, &[of_one])?)?;
-    Ok(versions)
-}
-
 /// The trace.
-const GOOD: [Step; 30] = [
+const GOOD: &[Step] = &[
     // The writer adds the rules of addresses 0 and 2, each of which takes a group; steps 1 to 8. Worker
     // 1 comes online; steps 9 and 10.
     writer!(BumpSequence, 0, 1),
@@ -104,74 +78,67 @@ const GOOD: [Step; 30] = [
     writer!(BumpSequence, 0, 8),
 ];
 
-fn is_in_order(alloc: Global, steps: &[Step]) -> Result<bool, AllocError> {
-    writes_in_order(alloc, &WIDE, &versions(alloc)?, steps)
+static TWO_WORKERS: Subject = Subject {
+    initial: WIDE,
+    versions: &[&[], &[OF_ZERO], &[OF_ZERO, OF_TWO], &[], &[OF_ONE]],
+    steps: GOOD,
+};
+
+static ACCEPTED: [Row; 5] = [
+    (Decider::Loads, &[Fault::None]),
+    (Decider::Deeds(0, &[]), &[Fault::None]),
+    (
+        Decider::Deeds(1, &[Deed::Online, Deed::Quiescent]),
+        &[Fault::None],
+    ),
+    (Decider::Writes, &[Fault::None]),
+    (Decider::Reuse, &[Fault::None, Fault::LeftOut(24)]),
+];
+
+static REFUSED: [Row; 4] = [
+    // Checks out of order.
+    (
+        Decider::Writes,
+        &[
+            Fault::LeftOut(16),
+            Fault::LeftOut(17),
+            Fault::LeftOut(20),
+            Fault::LeftOut(21),
+            Fault::LeftOut(23),
+            Fault::LeftOut(25),
+        ],
+    ),
+    // The check of the flush comes after its second unlinking, and not before.
+    (
+        Decider::Writes,
+        &[Fault::AllLeftOut(&[
+            14, 15, 17, 18, 19, 20, 21, 22, 23, 24, 25, 26, 27, 28, 29, 30,
+        ])],
+    ),
+    // Groups that were not taken: the other one is filled or linked, and one that is linked already.
+    (
+        Decider::Writes,
+        &[
+            Fault::Index(28, 2),
+            Fault::Value(29, OTHER_GROUP),
+            Fault::Value(7, GROUP),
+        ],
+    ),
+    // Reuse while a worker holds the group.
+    (Decider::Reuse, &[Fault::AllLeftOut(&[22, 24])]),
+];
+
+#[test]
+fn a_trace_of_two_workers(rt: HostRuntime) {
+    assert_rows(&rt, rt.alloc(), &TWO_WORKERS, &ACCEPTED, true);
+    assert_rows(&rt, rt.alloc(), &TWO_WORKERS, &REFUSED, false);
 }
 
 #[test]
-fn the_good_trace(rt: HostRuntime) -> Result<(), Fail> {
-    let alloc = rt.alloc();
-    let deeds = [Deed::Online, Deed::Quiescent];
-    assert!(rt; loads_are_stores(&WIDE, &GOOD));
-    assert!(rt; deeds_are_done(alloc, &WIDE, &GOOD, 0, &[])?);
-    assert!(rt; deeds_are_done(alloc, &WIDE, &GOOD, 1, &deeds)?);
-    assert!(rt; is_in_order(alloc, &GOOD)?);
-    assert!(rt; reuse_is_lawful(&WIDE, &GOOD));
-    Ok(())
-}
-
-#[test]
-fn each_beginning_of_it(rt: HostRuntime) -> Result<(), Fail> {
-    let alloc = rt.alloc();
-    for moment in 0..GOOD.len() {
-        let beginning = GOOD.get(..moment).unwrap_or(&[]);
-        assert!(rt; loads_are_stores(&WIDE, beginning));
-        assert!(rt; is_in_order(alloc, beginning)?, "{moment}");
-        assert!(rt; reuse_is_lawful(&WIDE, beginning));
+fn each_beginning_of_it(rt: HostRuntime) {
+    let deciders = [Decider::Loads, Decider::Writes, Decider::Reuse];
+    for moment in 0..TWO_WORKERS.steps.len() {
+        let beginning = (moment, Fault::End(moment));
+        assert_all(&rt, rt.alloc(), &TWO_WORKERS, &deciders, beginning, true);
     }
-    Ok(())
-}
-
-#[test]
-fn checks_out_of_order(rt: HostRuntime) -> Result<(), Fail> {
-    let alloc = rt.alloc();
-    let faults = [
-        Fault::LeftOut(16),
-        Fault::LeftOut(17),
-        Fault::LeftOut(20),
-        Fault::LeftOut(21),
-        Fault::LeftOut(23),
-        Fault::LeftOut(25),
-    ];
-    let versions = versions(alloc)?;
-    assert_refused(&rt, alloc, &WIDE, &versions, &GOOD, &faults)
-}
-
-// The check of the flush comes after its second unlinking, and not before.
-#[test]
-fn a_check_before_the_second_unlinking(rt: HostRuntime) -> Result<(), Fail> {
-    let alloc = rt.alloc();
-    let of_the_last = without(alloc, &GOOD, &[14, 15])?;
-    let beginning = of_the_last.get(..14).unwrap_or(&[]);
-    assert!(rt; !is_in_order(alloc, beginning)?);
-    Ok(())
-}
-
-#[test]
-fn groups_that_were_not_taken(rt: HostRuntime) -> Result<(), Fail> {
-    let alloc = rt.alloc();
-    let into_both = Fault::Index(28, 2);
-    let of_the_other = Fault::Value(29, OTHER_GROUP);
-    let of_a_linked = Fault::Value(7, GROUP);
-    let faults = [into_both, of_the_other, of_a_linked];
-    let versions = versions(alloc)?;
-    assert_refused(&rt, alloc, &WIDE, &versions, &GOOD, &faults)
-}
-
-#[test]
-fn reuse_while_a_worker_holds_the_group(rt: HostRuntime) -> Result<(), Fail> {
-    let alloc = rt.alloc();
-    assert!(rt; !reuse_is_lawful(&WIDE, &without(alloc, &GOOD, &[22, 24])?));
-    assert!(rt; reuse_is_lawful(&WIDE, &without(alloc, &GOOD, &[24])?));
-    Ok(())
 }

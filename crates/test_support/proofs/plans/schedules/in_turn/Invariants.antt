@@ -1,0 +1,5 @@
+use Rattle.std.proofs.Common.{◌≡◌, length}
+use Rattle.test_support.proofs.plans.schedules.in_turn.Given as goal
+
+abbrev pub invariant-loop : goal.invariant-loop
+invariant-loop l = length l.items.items ≡ l.counter

@@ -1,0 +1,89 @@
+//! Lists of rules, written as plain numbers or drawn.
+ghost use Rattle.lpm_bits.specs.Widths.{IsShape};
+
+use lpm_bits::{Hop, Prefix, Shape};
+use lpm_rules::Rule;
+use std::alloc::Global;
+
+/// A rule as plain numbers: the bits of its prefix, its length and its next hop.
+pub type Plain = (u32, u32, u32);
+
+/// The rule of these numbers. `None` where there is none: bits past those of an address, a length past their
+/// number, or a next hop past 24 bits.
+pub fn rule_of<const FIRST: u32, const SECOND: u32>(plain: Plain) -> Option<Rule<FIRST, SECOND>>
+    requires { IsShape FIRST SECOND }
+{
+    let (bits, len, number) = plain;
+    if !Shape::<FIRST, SECOND>::is_addr(bits) {
+        return None;
+    }
+    let prefix = Prefix::new(bits, len).ok()?;
+    let hop = Hop::new(number).ok()?;
+    Some(Rule { prefix, hop })
+}
+
+/// The rules of these numbers, in their order. `None` where one is no rule, and without memory.
+pub fn rules_of<const FIRST: u32, const SECOND: u32>(
+    alloc: Global,
+    plain: &[Plain],
+) -> Option<Vec<Rule<FIRST, SECOND>>>
+    requires { IsShape FIRST SECOND }
+{
+    let mut rules = Vec::new(alloc);
+    for numbers in plain {
+        rules.push(rule_of(*numbers)?).ok()?;
+    }
+    Some(rules)
+}
+
+/// The next of a fixed list of numbers without a pattern, below 65,536.
+pub fn draw(seed: &mut u32) -> u32 {
+    *seed = seed.wrapping_mul(1_103_515_245).wrapping_add(12_345);
+    *seed >> 16
+}
+
+/// What rules are drawn from: the first bits, those that vary, and how many lengths, of which the greatest is
+/// that of an address.
+pub type Drawing = (u32, u32, u32);
+
+fn drawn_rule(seed: &mut u32, drawing: Drawing, most: u32, number: u32) -> Plain {
+    let (first, varied, lengths) = drawing;
+    let drawn = draw(seed) << 16 | draw(seed);
+    let len = most.saturating_sub(draw(seed) % lengths.max(1));
+    (first | (drawn & varied), len, number)
+}
+
+/// Draws so many rules, each of its own next hop. `None` as by `rules_of`.
+pub fn drawn_rules<const FIRST: u32, const SECOND: u32>(
+    alloc: Global,
+    seed: &mut u32,
+    drawing: Drawing,
+    count: u32,
+) -> Option<Vec<Rule<FIRST, SECOND>>>
+    requires { IsShape FIRST SECOND }
+{
+    let mut rules = Vec::new(alloc);
+    for number in 0..count {
+        let plain = drawn_rule(seed, drawing, FIRST + SECOND, number);
+        rules.push(rule_of(plain)?).ok()?;
+    }
+    Some(rules)
+}
+
+/// The first and the last address of the rule, and those before and after them, round the ends of 32 bits.
+pub fn edges<const FIRST: u32, const SECOND: u32>(rule: &Rule<FIRST, SECOND>) -> [u32; 4]
+    requires { IsShape FIRST SECOND }
+{
+    let first = rule.prefix.bits();
+    let host = FIRST + SECOND - rule.prefix.len();
+    let last = first | ((1u64 << host) - 1) as u32;
+    [first.wrapping_sub(1), first, last, last.wrapping_add(1)]
+}
+
+/// The number of the next hop, where there is one.
+pub fn hop_number(hop: Option<Hop>) -> Option<u32> {
+    match hop {
+        Some(hop) => Some(hop.number()),
+        None => None,
+    }
+}

@@ -1,0 +1,206 @@
+//! Worked lists of rules, and limits for them.
+
+use super::listed::Plain;
+use lpm_limits::Config;
+use lpm_rules::Put;
+
+/// 0.0.0.0/0, 10.0.0.0/8, 10.1.0.0/16 twice and 10.1.1.128/25.
+pub static ROUTES: [Plain; 5] = [
+    (0, 0, 1),
+    (0x0a00_0000, 8, 2),
+    (0x0a01_0000, 16, 3),
+    (0x0a01_0000, 16, 4),
+    (0x0a01_0180, 25, 5),
+];
+
+/// An address, and the number of its next hop.
+pub type Row = (u32, Option<u32>);
+
+/// Addresses, and the next hops that the routes give them.
+pub static HOPS: [Row; 13] = [
+    (0, Some(1)),
+    (0x09ff_ffff, Some(1)),
+    (0x0a00_0000, Some(2)),
+    (0x0a00_ffff, Some(2)),
+    (0x0a01_0000, Some(4)),
+    (0x0a01_017f, Some(4)),
+    (0x0a01_0180, Some(5)),
+    (0x0a01_01ff, Some(5)),
+    (0x0a01_0200, Some(4)),
+    (0x0a01_ffff, Some(4)),
+    (0x0a02_0000, Some(2)),
+    (0x0b00_0000, Some(1)),
+    (0xffff_ffff, Some(1)),
+];
+
+/// Room for seven rules, and for the groups of two blocks.
+pub const LIMITS: Config = Config {
+    rules: 7,
+    groups: 2,
+    workers: 1,
+    threshold: 32,
+    reclaim_max: 16,
+    first_token: 7,
+};
+
+/// What a change does to the rule of its prefix.
+#[derive(Clone, Copy)]
+pub enum Change {
+    /// The rule is put in, and this comes of it.
+    Add(Put),
+    /// The rule, which is there, goes.
+    Delete,
+}
+
+const ADDED: Change = Change::Add(Put::Added);
+
+/// A change, its rule, and three addresses with their next hops after it.
+pub type Step = (Change, Plain, [Row; 3]);
+
+/// Changes of a table with the routes. A rule in the block that has a group, one in another block, another next hop of 10.0.0.0/8, and
+/// 172.16.0.0/12. Then 10.1.0.0/16 and the two longer rules in it go. A rule in another block has their group.
+pub static STEPS: [Step; 8] = [
+    (
+        ADDED,
+        (0x0a01_0100, 26, 8),
+        [
+            (0x0a01_013f, Some(8)),
+            (0x0a01_0140, Some(4)),
+            (0x0a01_0180, Some(5)),
+        ],
+    ),
+    (
+        ADDED,
+        (0xac10_0001, 32, 9),
+        [
+            (0xac10_0000, Some(1)),
+            (0xac10_0001, Some(9)),
+            (0xac10_0002, Some(1)),
+        ],
+    ),
+    (
+        Change::Add(Put::Replaced),
+        (0x0a00_0000, 8, 10),
+        [
+            (0x0a00_0000, Some(10)),
+            (0x0a01_0000, Some(4)),
+            (0x0a02_0000, Some(10)),
+        ],
+    ),
+    (
+        ADDED,
+        (0xac10_0000, 12, 11),
+        [
+            (0xac10_0001, Some(9)),
+            (0xac1f_ffff, Some(11)),
+            (0xac20_0000, Some(1)),
+        ],
+    ),
+    (
+        Change::Delete,
+        (0x0a01_0000, 16, 4),
+        [
+            (0x0a01_0000, Some(10)),
+            (0x0a01_0140, Some(10)),
+            (0x0a01_0180, Some(5)),
+        ],
+    ),
+    (
+        Change::Delete,
+        (0x0a01_0180, 25, 5),
+        [
+            (0x0a01_0100, Some(8)),
+            (0x0a01_0140, Some(10)),
+            (0x0a01_0180, Some(10)),
+        ],
+    ),
+    (
+        Change::Delete,
+        (0x0a01_0100, 26, 8),
+        [
+            (0x0a01_0100, Some(10)),
+            (0x0a01_0180, Some(10)),
+            (0xac10_0001, Some(9)),
+        ],
+    ),
+    (
+        ADDED,
+        (0xc0a8_0000, 25, 12),
+        [
+            (0xc0a8_007f, Some(12)),
+            (0xc0a8_0080, Some(1)),
+            (0x0a01_0100, Some(10)),
+        ],
+    ),
+];
+
+/// Seven rules, one of which comes twice. Five are longer than 4 bits, in three blocks.
+pub static DEEP: [Plain; 8] = [
+    (0x10, 4, 1),
+    (0x20, 4, 2),
+    (0x20, 4, 3),
+    (0x34, 6, 4),
+    (0x35, 8, 5),
+    (0x38, 5, 6),
+    (0x50, 8, 7),
+    (0xff, 8, 8),
+];
+
+/// Two rules, one of which comes twice, and none that needs a group.
+pub static SHORT: [Plain; 3] = [(0x10, 4, 1), (0x20, 4, 2), (0x20, 4, 3)];
+
+/// Room for as many rules and groups; each other limit is the usual one.
+pub fn limits(rules: usize, groups: usize) -> Config {
+    Config {
+        rules,
+        groups,
+        ..Config::default()
+    }
+}
+
+/// Limits around seven rules and three groups. Each has one just outside its range, and the last too few rules
+/// too.
+pub fn bad_limits() -> [Config; 11] {
+    let good = limits(7, 3);
+    [
+        limits(0, 3),
+        limits(16_777_217, 3),
+        limits(7, 0),
+        limits(7, 65_537),
+        Config {
+            workers: 2_049,
+            ..good
+        },
+        Config {
+            threshold: 65_537,
+            ..good
+        },
+        Config {
+            reclaim_max: 0,
+            ..good
+        },
+        Config {
+            reclaim_max: 65_537,
+            ..good
+        },
+        Config {
+            first_token: 0,
+            ..good
+        },
+        Config {
+            first_token: (1 << 62) + 1,
+            ..good
+        },
+        limits(6, 0),
+    ]
+}
+
+/// Room for each rule and block of a drawn list.
+pub const AMPLE: Config = Config {
+    rules: 100,
+    groups: 16,
+    workers: 1,
+    threshold: 2,
+    reclaim_max: 1,
+    first_token: 1,
+};
