@@ -97,30 +97,38 @@ fn assert_opened(rt: &impl Abort, fib: &Fib<24, 8>, versions: u64) {
 }
 
 // The table that opens with these rules.
-fn opened_at_once(rt: &impl Abort, alloc: Global, rules: &[Rule<24, 8>]) -> Fib<24, 8> {
+fn at_once(rt: &impl Abort, alloc: Global, rules: &[Rule<24, 8>]) -> Fib<24, 8> {
     assert!(rt; are_in_order(rules));
     let opened = Fib::of_sorted(alloc, MANY_LIMITS, rules).expect(rt, "memory");
     opened.expect(rt, "room")
 }
 
+fn opened_at_once(rt: &impl Abort, alloc: Global) -> Fib<24, 8> {
+    let rules = many_rules(alloc).expect(rt, "rules");
+    at_once(rt, alloc, &rules)
+}
+
 #[test]
 fn many_routes_at_once(rt: HostRuntime) {
-    let rules = many_rules(rt.alloc()).expect(&rt, "rules");
-    let fib = opened_at_once(&rt, rt.alloc(), &rules);
+    let fib = opened_at_once(&rt, rt.alloc());
     assert_opened(&rt, &fib, 0);
 }
 
 // The table that opens with these rules as a version.
-fn opened_as_a_version(rt: &impl Abort, alloc: Global, rules: &[Rule<24, 8>]) -> Fib<24, 8> {
+fn as_a_version(rt: &impl Abort, alloc: Global, rules: &[Rule<24, 8>]) -> Fib<24, 8> {
     assert!(rt; are_in_order(rules));
     let list = Rules::of_sorted(alloc, MANY_LIMITS.rules, rules).expect(rt, "memory");
     let opened = Fib::of_rules(alloc, MANY_LIMITS, list, 300_000, rules).expect(rt, "memory");
     opened.expect(rt, "room")
 }
 
+fn opened_as_a_version(rt: &impl Abort, alloc: Global) -> Fib<24, 8> {
+    let rules = many_rules(alloc).expect(rt, "rules");
+    as_a_version(rt, alloc, &rules)
+}
+
 #[test]
 fn many_routes_as_a_version(rt: HostRuntime) {
-    let rules = many_rules(rt.alloc()).expect(&rt, "rules");
-    let fib = opened_as_a_version(&rt, rt.alloc(), &rules);
+    let fib = opened_as_a_version(&rt, rt.alloc());
     assert_opened(&rt, &fib, 300_000);
 }

@@ -125,10 +125,9 @@ fn assert_steps(rt: &impl Abort, fib: &mut Fib<24, 8>, steps: &[Step]) {
 // The table has the routes, as this version, and goes on.
 fn assert_goes_on(rt: &impl Abort, fib: &mut Fib<24, 8>, versions: u64) {
     assert_routes(rt, fib, versions);
-    let (additions, deletions) = STEPS.split_at(4);
-    assert_steps(rt, fib, additions);
+    assert_steps(rt, fib, &STEPS[..4]);
     assert_figures(rt, fib, (7, versions.saturating_add(4), (2, 0, 0), 7));
-    assert_steps(rt, fib, deletions);
+    assert_steps(rt, fib, &STEPS[4..]);
     assert_figures(rt, fib, (5, versions.saturating_add(8), (2, 0, 0), 8));
 }
 
@@ -221,15 +220,14 @@ fn limits_out_of_range(rt: HostRuntime) {
     }
 }
 
-// The table that opens with the deep rules.
-fn deep_table(rt: &impl Abort, alloc: Global, config: Config) -> Fib<4, 4> {
-    let rules = rules_of::<4, 4>(alloc, &DEEP).expect(rt, "rules");
+fn small_table(rt: &impl Abort, alloc: Global, config: Config, plain: &[Plain]) -> Fib<4, 4> {
+    let rules = rules_of::<4, 4>(alloc, plain).expect(rt, "rules");
     opened(rt, alloc, config, &rules)
 }
 
-// That table refuses another rule.
+// The table that opens with the deep rules refuses another one.
 fn assert_full(rt: &impl Abort, alloc: Global, config: Config, refusal: Refusal) {
-    let mut full = deep_table(rt, alloc, config);
+    let mut full = small_table(rt, alloc, config, &DEEP);
     let refused = full.add(&prefix(rt, 0x60, 8), hop(rt, 9));
     assert_at(rt, config, refused, Err(refusal));
 }
@@ -248,9 +246,11 @@ fn assert_misses(rt: &impl Abort, fib: &Fib<4, 4>) {
     }
 }
 
+static NO_RULES: [Plain; 0] = [];
+
 #[test]
 fn no_routes(rt: HostRuntime) {
-    let fib: Fib<4, 4> = opened(&rt, rt.alloc(), LIMITS, &[]);
+    let fib = small_table(&rt, rt.alloc(), LIMITS, &NO_RULES);
     assert_figures(&rt, &fib, (0, 0, (0, 0, 2), 7));
     assert_misses(&rt, &fib);
 }

@@ -55,7 +55,7 @@ fn assert_steps(
     for step in &STEPS {
         let (kind, plain, rows) = *step;
         change(rt, table, writer, kind, plain);
-        assert_rows(rt, table, pass, writer.versions(), &rows);
+        assert_rows(rt, table, pass, writer.versions(), rows);
         pass.quiescent(table);
     }
 }

@@ -55,7 +55,7 @@ pub enum Change {
 const ADDED: Change = Change::Add(Put::Added);
 
 /// A change, its rule, and three addresses with their next hops after it.
-pub type Step = (Change, Plain, [Row; 3]);
+pub type Step = (Change, Plain, &'static [Row]);
 
 /// Changes of a table with the routes. A rule in the block that has a group, one in another block, another next hop of 10.0.0.0/8, and
 /// 172.16.0.0/12. Then 10.1.0.0/16 and the two longer rules in it go. A rule in another block has their group.
@@ -63,7 +63,7 @@ pub static STEPS: [Step; 8] = [
     (
         ADDED,
         (0x0a01_0100, 26, 8),
-        [
+        &[
             (0x0a01_013f, Some(8)),
             (0x0a01_0140, Some(4)),
             (0x0a01_0180, Some(5)),
@@ -72,7 +72,7 @@ pub static STEPS: [Step; 8] = [
     (
         ADDED,
         (0xac10_0001, 32, 9),
-        [
+        &[
             (0xac10_0000, Some(1)),
             (0xac10_0001, Some(9)),
             (0xac10_0002, Some(1)),
@@ -81,7 +81,7 @@ pub static STEPS: [Step; 8] = [
     (
         Change::Add(Put::Replaced),
         (0x0a00_0000, 8, 10),
-        [
+        &[
             (0x0a00_0000, Some(10)),
             (0x0a01_0000, Some(4)),
             (0x0a02_0000, Some(10)),
@@ -90,7 +90,7 @@ pub static STEPS: [Step; 8] = [
     (
         ADDED,
         (0xac10_0000, 12, 11),
-        [
+        &[
             (0xac10_0001, Some(9)),
             (0xac1f_ffff, Some(11)),
             (0xac20_0000, Some(1)),
@@ -99,7 +99,7 @@ pub static STEPS: [Step; 8] = [
     (
         Change::Delete,
         (0x0a01_0000, 16, 4),
-        [
+        &[
             (0x0a01_0000, Some(10)),
             (0x0a01_0140, Some(10)),
             (0x0a01_0180, Some(5)),
@@ -108,7 +108,7 @@ pub static STEPS: [Step; 8] = [
     (
         Change::Delete,
         (0x0a01_0180, 25, 5),
-        [
+        &[
             (0x0a01_0100, Some(8)),
             (0x0a01_0140, Some(10)),
             (0x0a01_0180, Some(10)),
@@ -117,7 +117,7 @@ pub static STEPS: [Step; 8] = [
     (
         Change::Delete,
         (0x0a01_0100, 26, 8),
-        [
+        &[
             (0x0a01_0100, Some(10)),
             (0x0a01_0180, Some(10)),
             (0xac10_0001, Some(9)),
@@ -126,7 +126,7 @@ pub static STEPS: [Step; 8] = [
     (
         ADDED,
         (0xc0a8_0000, 25, 12),
-        [
+        &[
             (0xc0a8_007f, Some(12)),
             (0xc0a8_0080, Some(1)),
             (0x0a01_0100, Some(10)),
