@@ -16,7 +16,7 @@ use Rattle.route_text.specs.Files.{AreRoutes}
 use Rattle.route_text.specs.declared.explanations.Reading.{Reading}
 use Rattle.route_text.specs.Explaining.{explanation_lines}
 use Rattle.lpm_files.specs.Inputs.{Reads}
-use Rattle.lpm_commands.specs.Loading.{IsLoaded, rules_of_routes}
+use Rattle.lpm_commands.specs.Loading.{IsLoaded}
 use Rattle.lpm_commands.specs.Covering.{AreCovering, IsAnsweredByFirst, reading_of}
 use Rattle.lpm_commands.specs.Explain.{IsExplanation, AreExplanations, ExplainsBy, IsExplainText}
 

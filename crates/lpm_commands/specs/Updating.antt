@@ -1,6 +1,6 @@
 -- Meaning: the updates that follow the routes of a table, and what comes of each (DPDK Programmer's
 -- Guide, "LPM Library" and "RCU Library"; the words of the update file are this project's).
-use Rattle.std.specs.Prelude.{ℕ, ◌≡◌, ◌≢◌, List, [], length, map, All}
+use Rattle.std.specs.Prelude.{◌≡◌, ◌≢◌, List, [], length, map, All}
 use Rattle.lpm_limits.specs.declared.config.Config.{Config}
 use Rattle.lpm_limits.specs.declared.refusal.Refusal.TheVariants.{Memory}
 use Rattle.lpm_rules.specs.declared.Put.{Put}

@@ -3,7 +3,7 @@
 use super::asserting::{assert_at, assert_shown};
 use lpm_limits::Config;
 use lpm_options::{CommandLine, Refused, options};
-use std::alloc::Global;
+use std::alloc::{AllocError, Global};
 use std::process::Abort;
 use std::test::Fail;
 
@@ -57,20 +57,20 @@ fn parts<'a>(line: &CommandLine<'a>) -> Line<'a> {
     }
 }
 
-// The words after the program's name, and the numbers that they ask for.
-type Asked = (&'static [&'static str], Numbers);
+// The words of a line, and the numbers that they ask for.
+type Asked = (&'static str, Numbers);
 
-// The words ask for this line.
-fn assert_asks(
-    rt: &impl Abort,
-    alloc: Global,
-    words: &[&str],
-    wanted: Line<'_>,
-) -> Result<(), Fail> {
-    let Ok(line) = options(alloc, words) else {
+fn words_of<'a>(alloc: Global, text: &'a str) -> Result<Vec<&'a str>, AllocError> {
+    text.split_whitespace().collect(alloc)
+}
+
+// The words of this text ask for this line.
+fn assert_asks(rt: &impl Abort, alloc: Global, text: &str, wanted: Line<'_>) -> Result<(), Fail> {
+    let words = words_of(alloc, text)?;
+    let Ok(line) = options(alloc, words.as_slice()) else {
         panic!(rt; "refused");
     };
-    assert_at(rt, words, parts(&line), wanted);
+    assert_at(rt, text, parts(&line), wanted);
     Ok(())
 }
 
@@ -82,74 +82,46 @@ fn all_ask(
     files: [&str; 3],
     rows: &[Asked],
 ) -> Result<(), Fail> {
-    for (words, numbers) in rows {
-        assert_asks(rt, alloc, words, (name, files, *numbers))?;
+    for (text, numbers) in rows {
+        assert_asks(rt, alloc, text, (name, files, *numbers))?;
     }
     Ok(())
 }
 
 static LOOKUPS: [Asked; 14] = [
-    (&["lpmtool", "lookup", "r", "a"], DEFAULTS),
+    ("lpmtool lookup r a", DEFAULTS),
+    ("lpmtool lookup --rules 1 r a", [1, 256, 1, 32, 16]),
     (
-        &["lpmtool", "lookup", "--rules", "1", "r", "a"],
-        [1, 256, 1, 32, 16],
-    ),
-    (
-        &["lpmtool", "lookup", "r", "--rules=16777216", "a"],
+        "lpmtool lookup r --rules=16777216 a",
         [16_777_216, 256, 1, 32, 16],
     ),
+    ("other lookup r a --rules 7", [7, 256, 1, 32, 16]),
+    ("lpmtool lookup --rules 7 -- r a", [7, 256, 1, 32, 16]),
+    ("lpmtool lookup --rules +7 r a", [7, 256, 1, 32, 16]),
+    ("lpmtool lookup --groups 1 r a", [1_048_576, 1, 1, 32, 16]),
     (
-        &["other", "lookup", "r", "a", "--rules", "7"],
-        [7, 256, 1, 32, 16],
-    ),
-    (
-        &["lpmtool", "lookup", "--rules", "7", "--", "r", "a"],
-        [7, 256, 1, 32, 16],
-    ),
-    (
-        &["lpmtool", "lookup", "--rules", "+7", "r", "a"],
-        [7, 256, 1, 32, 16],
-    ),
-    (
-        &["lpmtool", "lookup", "--groups", "1", "r", "a"],
-        [1_048_576, 1, 1, 32, 16],
-    ),
-    (
-        &["lpmtool", "lookup", "--groups", "65536", "r", "a"],
+        "lpmtool lookup --groups 65536 r a",
         [1_048_576, 65_536, 1, 32, 16],
     ),
     (
-        &["lpmtool", "lookup", "--workers", "0", "r", "a"],
+        "lpmtool lookup --workers 0 r a",
         [1_048_576, 256, 0, 32, 16],
     ),
     (
-        &["lpmtool", "lookup", "r", "a", "--workers=1024"],
+        "lpmtool lookup r a --workers=1024",
         [1_048_576, 256, 1_024, 32, 16],
     ),
     (
-        &["lpmtool", "lookup", "--threshold", "0", "r", "a"],
+        "lpmtool lookup --threshold 0 r a",
         [1_048_576, 256, 1, 0, 16],
     ),
     (
-        &["lpmtool", "lookup", "r", "a", "--threshold=65536"],
+        "lpmtool lookup r a --threshold=65536",
         [1_048_576, 256, 1, 65_536, 16],
     ),
+    ("lpmtool lookup r --max 1 a", [1_048_576, 256, 1, 32, 1]),
     (
-        &["lpmtool", "lookup", "r", "--max", "1", "a"],
-        [1_048_576, 256, 1, 32, 1],
-    ),
-    (
-        &[
-            "lpmtool",
-            "lookup",
-            "--max=65536",
-            "--threshold=2",
-            "--workers=5",
-            "--groups=3",
-            "--rules=4",
-            "r",
-            "a",
-        ],
+        "lpmtool lookup --max=65536 --threshold=2 --workers=5 --groups=3 --rules=4 r a",
         [4, 3, 5, 2, 65_536],
     ),
 ];
@@ -160,40 +132,20 @@ fn lookup_with_its_defaults_and_each_option(rt: HostRuntime) -> Result<(), Fail>
 }
 
 static APPLIES: [Asked; 7] = [
-    (&["lpmtool", "apply", "r", "u", "a"], DEFAULTS),
+    ("lpmtool apply r u a", DEFAULTS),
+    ("lpmtool apply --rules 2 r u a", [2, 256, 1, 32, 16]),
+    ("lpmtool apply r --groups 2 u a", [1_048_576, 2, 1, 32, 16]),
     (
-        &["lpmtool", "apply", "--rules", "2", "r", "u", "a"],
-        [2, 256, 1, 32, 16],
-    ),
-    (
-        &["lpmtool", "apply", "r", "--groups", "2", "u", "a"],
-        [1_048_576, 2, 1, 32, 16],
-    ),
-    (
-        &["lpmtool", "apply", "r", "u", "--workers", "2", "a"],
+        "lpmtool apply r u --workers 2 a",
         [1_048_576, 256, 2, 32, 16],
     ),
     (
-        &["lpmtool", "apply", "r", "u", "a", "--threshold", "2"],
+        "lpmtool apply r u a --threshold 2",
         [1_048_576, 256, 1, 2, 16],
     ),
+    ("lpmtool apply --max 2 r u a", [1_048_576, 256, 1, 32, 2]),
     (
-        &["lpmtool", "apply", "--max", "2", "r", "u", "a"],
-        [1_048_576, 256, 1, 32, 2],
-    ),
-    (
-        &[
-            "lpmtool",
-            "apply",
-            "r",
-            "--max=6",
-            "--threshold=2",
-            "--workers=5",
-            "u",
-            "--groups=3",
-            "--rules=4",
-            "a",
-        ],
+        "lpmtool apply r --max=6 --threshold=2 --workers=5 u --groups=3 --rules=4 a",
         [4, 3, 5, 2, 6],
     ),
 ];
@@ -204,39 +156,20 @@ fn apply_with_its_defaults_and_each_option(rt: HostRuntime) -> Result<(), Fail> 
 }
 
 static REPORTS: [Asked; 7] = [
-    (&["lpmtool", "report", "r", "u"], DEFAULTS),
+    ("lpmtool report r u", DEFAULTS),
+    ("lpmtool report --rules 2 r u", [2, 256, 1, 32, 16]),
+    ("lpmtool report r --groups 2 u", [1_048_576, 2, 1, 32, 16]),
     (
-        &["lpmtool", "report", "--rules", "2", "r", "u"],
-        [2, 256, 1, 32, 16],
-    ),
-    (
-        &["lpmtool", "report", "r", "--groups", "2", "u"],
-        [1_048_576, 2, 1, 32, 16],
-    ),
-    (
-        &["lpmtool", "report", "r", "u", "--workers", "2"],
+        "lpmtool report r u --workers 2",
         [1_048_576, 256, 2, 32, 16],
     ),
     (
-        &["lpmtool", "report", "r", "u", "--threshold", "2"],
+        "lpmtool report r u --threshold 2",
         [1_048_576, 256, 1, 2, 16],
     ),
+    ("lpmtool report --max 2 r u", [1_048_576, 256, 1, 32, 2]),
     (
-        &["lpmtool", "report", "--max", "2", "r", "u"],
-        [1_048_576, 256, 1, 32, 2],
-    ),
-    (
-        &[
-            "lpmtool",
-            "report",
-            "r",
-            "--max=6",
-            "--threshold=2",
-            "--workers=5",
-            "u",
-            "--groups=3",
-            "--rules=4",
-        ],
+        "lpmtool report r --max=6 --threshold=2 --workers=5 u --groups=3 --rules=4",
         [4, 3, 5, 2, 6],
     ),
 ];
@@ -258,100 +191,42 @@ fn storm_parts(line: &CommandLine<'_>) -> Option<(usize, bool)> {
     }
 }
 
-// The words after the program's name, and the numbers, the rounds and the flag that they ask for.
-type AskedStorm = (&'static [&'static str], Numbers, usize, bool);
+// The words of a line, and the numbers, the rounds and the flag that they ask for.
+type AskedStorm = (&'static str, Numbers, usize, bool);
 
 static STORMS: [AskedStorm; 11] = [
-    (&["lpmtool", "storm", "r", "u", "a"], DEFAULTS, 1, false),
+    ("lpmtool storm r u a", DEFAULTS, 1, false),
+    ("lpmtool storm --stuck r u a", DEFAULTS, 1, true),
+    ("lpmtool storm r u a --stuck", DEFAULTS, 1, true),
+    ("lpmtool storm --rounds 1 r u a", DEFAULTS, 1, false),
     (
-        &["lpmtool", "storm", "--stuck", "r", "u", "a"],
-        DEFAULTS,
-        1,
-        true,
-    ),
-    (
-        &["lpmtool", "storm", "r", "u", "a", "--stuck"],
-        DEFAULTS,
-        1,
-        true,
-    ),
-    (
-        &["lpmtool", "storm", "--rounds", "1", "r", "u", "a"],
-        DEFAULTS,
-        1,
-        false,
-    ),
-    (
-        &["lpmtool", "storm", "r", "u", "--rounds=1000000", "a"],
+        "lpmtool storm r u --rounds=1000000 a",
         DEFAULTS,
         1_000_000,
         false,
     ),
+    ("lpmtool storm r --rounds +7 u a", DEFAULTS, 7, false),
     (
-        &["lpmtool", "storm", "r", "--rounds", "+7", "u", "a"],
-        DEFAULTS,
-        7,
-        false,
-    ),
-    (
-        &["lpmtool", "storm", "--workers", "0", "r", "u", "a"],
+        "lpmtool storm --workers 0 r u a",
         [1_048_576, 256, 0, 32, 16],
         1,
         false,
     ),
     (
-        &[
-            "lpmtool",
-            "storm",
-            "--workers=1024",
-            "--stuck",
-            "r",
-            "u",
-            "a",
-        ],
+        "lpmtool storm --workers=1024 --stuck r u a",
         [1_048_576, 256, 1_024, 32, 16],
         1,
         true,
     ),
+    ("lpmtool storm -- r u a", DEFAULTS, 1, false),
     (
-        &["lpmtool", "storm", "--", "r", "u", "a"],
-        DEFAULTS,
-        1,
-        false,
-    ),
-    (
-        &[
-            "lpmtool",
-            "storm",
-            "--stuck",
-            "r",
-            "--max=6",
-            "--threshold=2",
-            "--workers=5",
-            "u",
-            "--groups=3",
-            "--rounds=9",
-            "--rules=4",
-            "a",
-        ],
+        "lpmtool storm --stuck r --max=6 --threshold=2 --workers=5 u --groups=3 --rounds=9 --rules=4 a",
         [4, 3, 5, 2, 6],
         9,
         true,
     ),
     (
-        &[
-            "lpmtool",
-            "storm",
-            "--rules",
-            "5",
-            "--rounds",
-            "50",
-            "--workers",
-            "2",
-            "r",
-            "u",
-            "a",
-        ],
+        "lpmtool storm --rules 5 --rounds 50 --workers 2 r u a",
         [5, 256, 2, 32, 16],
         50,
         false,
@@ -360,16 +235,18 @@ static STORMS: [AskedStorm; 11] = [
 
 // The row's words ask for this storm.
 fn assert_storm(rt: &impl Abort, alloc: Global, row: &AskedStorm) -> Result<(), Fail> {
-    let (words, numbers, rounds, has_stuck_worker) = *row;
-    let Ok(line) = options(alloc, words) else {
+    let (text, numbers, rounds, has_stuck_worker) = *row;
+    let words = words_of(alloc, text)?;
+    let Ok(line) = options(alloc, words.as_slice()) else {
         panic!(rt; "refused");
     };
-    assert_at(rt, words, parts(&line), ("storm", ["r", "u", "a"], numbers));
+    let found = (parts(&line), storm_parts(&line));
+    let storm = Some((rounds, has_stuck_worker));
     assert_at(
         rt,
-        words,
-        storm_parts(&line),
-        Some((rounds, has_stuck_worker)),
+        text,
+        found,
+        (("storm", ["r", "u", "a"], numbers), storm),
     );
     Ok(())
 }
@@ -383,28 +260,16 @@ fn storm_with_its_defaults_and_each_option(rt: HostRuntime) -> Result<(), Fail> 
 }
 
 static EXPLAINS: [Asked; 4] = [
-    (&["lpmtool", "explain", "r", "10.1.2.3"], DEFAULTS),
+    ("lpmtool explain r 10.1.2.3", DEFAULTS),
     (
-        &[
-            "lpmtool", "explain", "--rules", "2", "r", "0.0.0.0", "1.2.3.4",
-        ],
+        "lpmtool explain --rules 2 r 0.0.0.0 1.2.3.4",
         [2, 256, 1, 32, 16],
     ),
     (
-        &[
-            "lpmtool",
-            "explain",
-            "r",
-            "0.0.0.0",
-            "--groups=3",
-            "1.2.3.4",
-        ],
+        "lpmtool explain r 0.0.0.0 --groups=3 1.2.3.4",
         [1_048_576, 3, 1, 32, 16],
     ),
-    (
-        &["lpmtool", "explain", "--", "r", "255.255.255.255"],
-        DEFAULTS,
-    ),
+    ("lpmtool explain -- r 255.255.255.255", DEFAULTS),
 ];
 
 #[test]
@@ -464,8 +329,8 @@ fn explain_names_the_word_that_is_no_address(rt: HostRuntime) -> Result<(), Fail
 }
 
 static MIGRATES: [Asked; 2] = [
-    (&["lpmtool", "migrate", "o"], [0; 5]),
-    (&["lpmtool", "migrate", "--", "o"], [0; 5]),
+    ("lpmtool migrate o", [0; 5]),
+    ("lpmtool migrate -- o", [0; 5]),
 ];
 
 #[test]
@@ -473,9 +338,9 @@ fn migrate_has_one_file(rt: HostRuntime) -> Result<(), Fail> {
     all_ask(&rt, rt.alloc(), "migrate", ["o", "", ""], &MIGRATES)
 }
 
-static LOOKUP_OF_INPUT: [Asked; 1] = [(&["lpmtool", "lookup", "-", "a"], DEFAULTS)];
+static LOOKUP_OF_INPUT: [Asked; 1] = [("lpmtool lookup - a", DEFAULTS)];
 
-static APPLY_OF_INPUT: [Asked; 1] = [(&["lpmtool", "apply", "r", "-", "a"], DEFAULTS)];
+static APPLY_OF_INPUT: [Asked; 1] = [("lpmtool apply r - a", DEFAULTS)];
 
 #[test]
 fn one_file_is_standard_input(rt: HostRuntime) -> Result<(), Fail> {

@@ -20,7 +20,7 @@ impl Gate for Waiting {
     }
 }
 
-fn waiting() -> Waiting {
+fn new_waiting() -> Waiting {
     Waiting {
         meeting: Meeting::new(),
     }
@@ -50,7 +50,7 @@ fn two_workers() -> Config
 
 #[test]
 fn two_pieces_see_each_other(rt: HostRuntime) {
-    let gate = waiting();
+    let gate = new_waiting();
     let (alloc, config) = (rt.alloc(), two_workers());
     let mut out = Vec::new(alloc);
     let is_done = known_lookup(&rt, alloc, ROUTES, ADDRESSES, config, &gate, &mut out);
@@ -60,7 +60,7 @@ fn two_pieces_see_each_other(rt: HostRuntime) {
 
 #[test]
 fn two_pieces_after_updates_see_each_other(rt: HostRuntime) {
-    let gate = waiting();
+    let gate = new_waiting();
     let (alloc, config) = (rt.alloc(), two_workers());
     let mut out = Vec::new(alloc);
     let is_done = known_apply(
@@ -81,7 +81,7 @@ const STORM_TEXT: &str = "answers 4\nrefused 0\nwrong 0\n\
 // The worker is piece 0 of the gate, and the writer piece 1.
 #[test]
 fn storm_threads_meet(rt: HostRuntime) {
-    let gate = waiting();
+    let gate = new_waiting();
     let (alloc, config) = (rt.alloc(), Config::default());
     let mut out = Vec::new(alloc);
     let is_done = known_storm(

@@ -85,13 +85,6 @@ fn reuse(rt: &impl Abort, table: &SharedTable<4, 4>, writer: &mut Writer<4, 4>)
     );
 }
 
-#[test]
-fn shared_reuse(rt: HostRuntime) -> Result<(), Fail> {
-    let (table, mut writer, _) = open::<4, 4>(rt.alloc(), SMALL)?;
-    reuse(&rt, &table, &mut writer);
-    Ok(())
-}
-
 // The group is given back once a synchronize has returned.
 fn synchronize_and_reclaim<R: Wait + Abort>(
     rt: &R,
@@ -111,13 +104,6 @@ fn synchronize_and_reclaim<R: Wait + Abort>(
         (Ok(()), unstopped(1)),
     );
     assert_at(rt, "after", figures(table, writer), ((0, 2, 3), (0, 0, 1)));
-}
-
-#[test]
-fn shared_reclaim(rt: HostRuntime) -> Result<(), Fail> {
-    let (table, mut writer, _) = open::<4, 4>(rt.alloc(), SMALL)?;
-    synchronize_and_reclaim(&rt, &table, &mut writer);
-    Ok(())
 }
 
 // A table of no rules, whose first token is this one.
@@ -140,21 +126,6 @@ fn assert_last<R: Wait + Abort>(
 {
     let found = (writer.synchronize(rt, table), writer.token(table));
     assert_at(rt, "synchronize", found, (wanted, 1 << 62));
-}
-
-#[test]
-fn synchronize_refused(rt: HostRuntime) -> Result<(), Fail> {
-    let (table, mut writer, _) = open::<4, 4>(rt.alloc(), tokens_from(1 << 62))?;
-    assert_last(&rt, &table, &mut writer, Err(Exhausted));
-    Ok(())
-}
-
-#[test]
-fn synchronize_last_tokens(rt: HostRuntime) -> Result<(), Fail> {
-    let (table, mut writer, _) = open::<4, 4>(rt.alloc(), tokens_from((1 << 62) - 1))?;
-    assert_last(&rt, &table, &mut writer, Ok(()));
-    assert_last(&rt, &table, &mut writer, Err(Exhausted));
-    Ok(())
 }
 
 #[test]
@@ -181,11 +152,56 @@ fn register_each(rt: &impl Abort, table: &SharedTable<4, 4>, bench: &mut Bench)
     assert_at(rt, "worker 0 again, worker 1", refused, wanted);
 }
 
+// What is played over a small table that was just opened.
+#[derive(Clone, Copy)]
+enum Play {
+    Reuse,
+    Reclaim,
+    // One synchronize is refused, or the first of two isn't.
+    Refused,
+    LastTokens,
+    Register,
+}
+
+fn play_small<R: Wait + Abort>(
+    rt: &R,
+    table: &SharedTable<4, 4>,
+    writer: &mut Writer<4, 4>,
+    bench: &mut Bench,
+    what: Play,
+)
+    requires own { writer.old.identity ≡ table.now }
+    requires bench { IsBenchOf table.now bench.old }
+{
+    match what {
+        Play::Reuse => reuse(rt, table, writer),
+        Play::Reclaim => synchronize_and_reclaim(rt, table, writer),
+        Play::Refused => assert_last(rt, table, writer, Err(Exhausted)),
+        Play::LastTokens => {
+            assert_last(rt, table, writer, Ok(()));
+            assert_last(rt, table, writer, Err(Exhausted));
+        }
+        Play::Register => register_each(rt, table, bench),
+    }
+}
+
+fn open_and_play<R: Wait + Abort>(rt: &R, alloc: Global, config: Config, what: Play) {
+    let (table, mut writer, mut bench) = open::<4, 4>(alloc, config).expect(rt, "memory");
+    play_small(rt, &table, &mut writer, &mut bench, what);
+}
+
 #[test]
-fn register_twice(rt: HostRuntime) -> Result<(), Fail> {
-    let (table, _, mut bench) = open::<4, 4>(rt.alloc(), SMALL)?;
-    register_each(&rt, &table, &mut bench);
-    Ok(())
+fn small_tables(rt: HostRuntime) {
+    open_and_play(&rt, rt.alloc(), SMALL, Play::Reuse);
+    open_and_play(&rt, rt.alloc(), SMALL, Play::Reclaim);
+    open_and_play(&rt, rt.alloc(), tokens_from(1 << 62), Play::Refused);
+    open_and_play(
+        &rt,
+        rt.alloc(),
+        tokens_from((1 << 62) - 1),
+        Play::LastTokens,
+    );
+    open_and_play(&rt, rt.alloc(), SMALL, Play::Register);
 }
 
 // 10.0.0.0/25 to next hop 1, and 10.0.1.0/25 to next hop 2.
@@ -326,8 +342,9 @@ fn look_up_four(
     pass.online(table);
     let addrs = [0x0a01_0180, 0x0b00_0000, 0x0a01_017f, 0x0a02_0000];
     let found = pass.lookup4(table, addrs, 99);
-    let wanted = ([3, 99, 2, 1], 3, 3);
-    assert_at(rt, "hops", (found.hops, found.lo, found.hi), wanted);
+    let hops = found.hops;
+    assert_at(rt, "hops", hops, [3, 99, 2, 1]);
+    assert_at(rt, "versions", (found.lo, found.hi), (3, 3));
     let flushed = writer.flush(table);
     let answer = pass.lookup(table, 0x0a01_0180);
     assert_at(rt, "flush", (flushed, answer.hop), (Ok(3), None));
@@ -380,23 +397,15 @@ fn look_up_and_delete(
     assert_at(rt, "groups", groups(writer.counts()), (0, 1, 0));
 }
 
-fn loaded(rt: &impl Abort, alloc: Global) -> Fib<4, 4> {
-    let mut fib = Fib::<4, 4>::open(alloc, SMALL).expect(rt, "memory");
-    let first = fib.add(&prefix(rt, 0x12, 8), hop(rt, 5));
-    let other = fib.add(&prefix(rt, 0x30, 4), hop(rt, 6));
-    assert_at(
-        rt,
-        "added",
-        [first, other],
-        [Ok(Put::Added), Ok(Put::Added)],
-    );
-    fib
-}
-
 // A table that was loaded on one thread goes on, and counts its versions from there.
 #[test]
 fn going_live(rt: HostRuntime) {
-    let fib = loaded(&rt, rt.alloc());
+    let mut fib = Fib::<4, 4>::open(rt.alloc(), SMALL).expect(&rt, "memory");
+    let first = prefix(&rt, 0x12, 8);
+    let other = prefix(&rt, 0x30, 4);
+    // What a proof has to know of both: it knows it of these, and not of `assert_at`.
+    assert_eq!(rt; fib.add(&first, hop(&rt, 5)), Ok(Put::Added));
+    assert_eq!(rt; fib.add(&other, hop(&rt, 6)), Ok(Put::Added));
     let (table, mut writer, mut bench) = go_live(rt.alloc(), fib).expect(&rt, "memory");
     let mut pass = bench.register(&table, 0).expect(&rt, "a pass");
     look_up_and_delete(&rt, &table, &mut writer, &mut pass);

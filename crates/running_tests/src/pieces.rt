@@ -205,7 +205,7 @@ impl Gate for Waiting {
     }
 }
 
-fn waiting() -> Waiting {
+fn new_waiting() -> Waiting {
     Waiting {
         meeting: Meeting::new(),
     }
@@ -215,7 +215,7 @@ static EIGHT: [u32; 8] = [1, 2, 3, 4, 5, 6, 7, 8];
 
 // Two pieces of eight addresses, by a table of one thread.
 fn meet_by_a_table<R: Abort + Threads + Sync>(rt: &R, alloc: Global, fib: &Fib<4, 4>) {
-    let gate = waiting();
+    let gate = new_waiting();
     let answered = bulk_plain(rt, alloc, fib, 2, &EIGHT, &gate);
     let answers = answered.expect(rt, "answers").len();
     assert_at(rt, "answers", answers, EIGHT.len());
@@ -241,7 +241,7 @@ fn meet_at_desks<R: Abort + Threads + Sync>(
     requires desks { All (IsDeskOf table.now) desks.old }
     ensures own { writer.new.identity ≡ writer.old.identity }
 {
-    let gate = waiting();
+    let gate = new_waiting();
     let answered = bulk(rt, alloc, table, writer, desks, &EIGHT, &gate);
     let answers = answered.expect(rt, "answers").len();
     assert_at(rt, "answers", answers, EIGHT.len());

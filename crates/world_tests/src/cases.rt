@@ -38,19 +38,19 @@ const GROUP: u64 = 0x0300_0000;
 // A run of one worker, and what its trace has to be: these steps among so many, these replies and
 // lookups.
 #[derive(Clone, Copy)]
-struct Case {
+struct Case<'a> {
     config: Config,
-    changes: &'static [Edit],
-    deeds: &'static [Deed],
-    bursts: &'static [(Actor, usize)],
-    steps: &'static [Numbered],
+    changes: &'a [Edit],
+    deeds: &'a [Deed],
+    bursts: &'a [(Actor, usize)],
+    steps: &'a [Numbered],
     count: usize,
-    replies: &'static [Answer],
-    lookups: &'static [Looked],
+    replies: &'a [Answer],
+    lookups: &'a [Looked],
 }
 
 // The trace of the case.
-fn traced(rt: &impl Abort, alloc: Global, case: &Case) -> Result<Trace, Fail> {
+fn traced(rt: &impl Abort, alloc: Global, case: &Case<'_>) -> Result<Trace, Fail> {
     let trace = played(
         rt,
         alloc,
@@ -64,64 +64,62 @@ fn traced(rt: &impl Abort, alloc: Global, case: &Case) -> Result<Trace, Fail> {
     Ok(trace)
 }
 
-fn assert_case(rt: &impl Abort, alloc: Global, case: &Case) -> Result<(), Fail> {
+fn assert_case(rt: &impl Abort, alloc: Global, case: &Case<'_>) -> Result<(), Fail> {
     traced(rt, alloc, case)?;
     Ok(())
 }
 
 // A lookup reads the group's word after a flush has unlinked the group. Its answer stood in its span,
 // though not at its last read.
-static ANSWER_FROM_UNLINKED_GROUP: Case = Case {
-    config: ONE_GROUP,
-    changes: &[Edit::Add(0x12, 8, 5), Edit::Flush],
-    deeds: &[Deed::Online, Deed::Lookup(0x12)],
-    bursts: &[(WRITER, 19), (WORKER, 4), (WRITER, 4), (WORKER, 2)],
-    steps: &[
-        (23, WORKER, Kind::LoadFirst, 1, GROUP),
-        (24, WRITER, Kind::BumpSequence, 0, 3),
-        (25, WRITER, Kind::StoreFirst, 1, 0),
-        (26, WRITER, Kind::BumpToken, 0, 2),
-        (27, WRITER, Kind::BumpSequence, 0, 4),
-        (28, WORKER, Kind::LoadSecond, 2, FIVE),
-    ],
-    count: 29,
-    replies: &[ADDED, Answer::Other(Reply::Flushed(1))],
-    lookups: &[(0x12, Some(5), (23, 28), (1, 2))],
-};
-
 #[test]
 fn answer_from_unlinked_group(rt: HostRuntime) -> Result<(), Fail> {
-    let trace = traced(&rt, rt.alloc(), &ANSWER_FROM_UNLINKED_GROUP)?;
+    let case = Case {
+        config: ONE_GROUP,
+        changes: &[Edit::Add(0x12, 8, 5), Edit::Flush],
+        deeds: &[Deed::Online, Deed::Lookup(0x12)],
+        bursts: &[(WRITER, 19), (WORKER, 4), (WRITER, 4), (WORKER, 2)],
+        steps: &[
+            (23, WORKER, Kind::LoadFirst, 1, GROUP),
+            (24, WRITER, Kind::BumpSequence, 0, 3),
+            (25, WRITER, Kind::StoreFirst, 1, 0),
+            (26, WRITER, Kind::BumpToken, 0, 2),
+            (27, WRITER, Kind::BumpSequence, 0, 4),
+            (28, WORKER, Kind::LoadSecond, 2, FIVE),
+        ],
+        count: 29,
+        replies: &[ADDED, Answer::Other(Reply::Flushed(1))],
+        lookups: &[(0x12, Some(5), (23, 28), (1, 2))],
+    };
+    let trace = traced(&rt, rt.alloc(), &case)?;
     assert_versions(&rt, &trace, 0x12, &[(23, 1), (28, 2)]);
     Ok(())
 }
 
 // The last longer rule of a block goes while a lookup is in the group: the group's word is that of the
 // cover by then.
-static COVER_ANSWER: Case = Case {
-    config: ONE_GROUP,
-    changes: &[
-        Edit::Add(0x10, 4, 7),
-        Edit::Add(0x12, 8, 5),
-        Edit::Delete(0x12, 8),
-    ],
-    deeds: &[Deed::Online, Deed::Lookup(0x12)],
-    bursts: &[(WRITER, 22), (WORKER, 4), (WRITER, 5), (WORKER, 2)],
-    steps: &[
-        (27, WRITER, Kind::BumpSequence, 0, 5),
-        (28, WRITER, Kind::StoreSecond, 2, SEVEN),
-        (29, WRITER, Kind::StoreFirst, 1, SEVEN),
-        (30, WRITER, Kind::BumpToken, 0, 2),
-        (31, WRITER, Kind::BumpSequence, 0, 6),
-    ],
-    count: 33,
-    replies: &[ADDED, ADDED, Answer::Deleted(5)],
-    lookups: &[(0x12, Some(7), (26, 32), (2, 3))],
-};
-
 #[test]
 fn cover_answer(rt: HostRuntime) -> Result<(), Fail> {
-    assert_case(&rt, rt.alloc(), &COVER_ANSWER)
+    let case = Case {
+        config: ONE_GROUP,
+        changes: &[
+            Edit::Add(0x10, 4, 7),
+            Edit::Add(0x12, 8, 5),
+            Edit::Delete(0x12, 8),
+        ],
+        deeds: &[Deed::Online, Deed::Lookup(0x12)],
+        bursts: &[(WRITER, 22), (WORKER, 4), (WRITER, 5), (WORKER, 2)],
+        steps: &[
+            (27, WRITER, Kind::BumpSequence, 0, 5),
+            (28, WRITER, Kind::StoreSecond, 2, SEVEN),
+            (29, WRITER, Kind::StoreFirst, 1, SEVEN),
+            (30, WRITER, Kind::BumpToken, 0, 2),
+            (31, WRITER, Kind::BumpSequence, 0, 6),
+        ],
+        count: 33,
+        replies: &[ADDED, ADDED, Answer::Deleted(5)],
+        lookups: &[(0x12, Some(7), (26, 32), (2, 3))],
+    };
+    assert_case(&rt, rt.alloc(), &case)
 }
 
 // An add that found no group, since worker 0 is at counter 1.
@@ -134,93 +132,90 @@ const HELD: Answer = Answer::Other(Reply::Refused(Refusal::NoGroups {
 
 // A worker in the middle of a lookup holds the one group back; once it has reported a quiescent state
 // the same add takes the group.
-static HELD_THEN_REUSED: Case = Case {
-    config: ONE_GROUP,
-    changes: &[
-        Edit::Add(0x12, 8, 5),
-        Edit::Delete(0x12, 8),
-        Edit::Add(0x35, 8, 6),
-        Edit::Add(0x35, 8, 6),
-    ],
-    deeds: &[Deed::Online, Deed::Lookup(0x12), Deed::Quiescent],
-    bursts: &[
-        (WRITER, 19),
-        (WORKER, 4),
-        (WRITER, 6),
-        (WORKER, 4),
-        (WRITER, 20),
-    ],
-    steps: &[
-        (29, WRITER, Kind::LoadCounter, 0, 1),
-        (34, WRITER, Kind::LoadCounter, 0, 2),
-        (52, WRITER, Kind::StoreFirst, 3, GROUP),
-        (53, WRITER, Kind::BumpSequence, 0, 6),
-    ],
-    count: 53,
-    replies: &[ADDED, Answer::Deleted(5), HELD, ADDED],
-    lookups: &[(0x12, None, (23, 30), (1, 2))],
-};
-
 #[test]
 fn held_then_reused(rt: HostRuntime) -> Result<(), Fail> {
-    assert_case(&rt, rt.alloc(), &HELD_THEN_REUSED)
+    let case = Case {
+        config: ONE_GROUP,
+        changes: &[
+            Edit::Add(0x12, 8, 5),
+            Edit::Delete(0x12, 8),
+            Edit::Add(0x35, 8, 6),
+            Edit::Add(0x35, 8, 6),
+        ],
+        deeds: &[Deed::Online, Deed::Lookup(0x12), Deed::Quiescent],
+        bursts: &[
+            (WRITER, 19),
+            (WORKER, 4),
+            (WRITER, 6),
+            (WORKER, 4),
+            (WRITER, 20),
+        ],
+        steps: &[
+            (29, WRITER, Kind::LoadCounter, 0, 1),
+            (34, WRITER, Kind::LoadCounter, 0, 2),
+            (52, WRITER, Kind::StoreFirst, 3, GROUP),
+            (53, WRITER, Kind::BumpSequence, 0, 6),
+        ],
+        count: 53,
+        replies: &[ADDED, Answer::Deleted(5), HELD, ADDED],
+        lookups: &[(0x12, None, (23, 30), (1, 2))],
+    };
+    assert_case(&rt, rt.alloc(), &case)
 }
 
 // A token that was loaded early is stored only after the group was reused. The worker reads first words
 // after that store alone, so its lookup finds the new ones.
-static STALE_COUNTER: Case = Case {
-    config: ONE_GROUP,
-    changes: &[
-        Edit::Add(0x12, 8, 5),
-        Edit::Delete(0x12, 8),
-        Edit::Add(0x35, 8, 6),
-    ],
-    deeds: &[Deed::Online, Deed::Lookup(0x12)],
-    bursts: &[(WRITER, 19), (WORKER, 1), (WRITER, 25), (WORKER, 4)],
-    steps: &[
-        (20, WORKER, Kind::LoadToken, 0, 1),
-        (26, WRITER, Kind::LoadCounter, 0, 0),
-        (46, WORKER, Kind::StoreCounter, 0, 1),
-    ],
-    count: 49,
-    replies: &[ADDED, Answer::Deleted(5), ADDED],
-    lookups: &[(0x12, None, (48, 48), (3, 3))],
-};
-
 #[test]
 fn stale_counter(rt: HostRuntime) -> Result<(), Fail> {
-    assert_case(&rt, rt.alloc(), &STALE_COUNTER)
+    let case = Case {
+        config: ONE_GROUP,
+        changes: &[
+            Edit::Add(0x12, 8, 5),
+            Edit::Delete(0x12, 8),
+            Edit::Add(0x35, 8, 6),
+        ],
+        deeds: &[Deed::Online, Deed::Lookup(0x12)],
+        bursts: &[(WRITER, 19), (WORKER, 1), (WRITER, 25), (WORKER, 4)],
+        steps: &[
+            (20, WORKER, Kind::LoadToken, 0, 1),
+            (26, WRITER, Kind::LoadCounter, 0, 0),
+            (46, WORKER, Kind::StoreCounter, 0, 1),
+        ],
+        count: 49,
+        replies: &[ADDED, Answer::Deleted(5), ADDED],
+        lookups: &[(0x12, None, (48, 48), (3, 3))],
+    };
+    assert_case(&rt, rt.alloc(), &case)
 }
 
 // Four addresses in one lookup: each has its own span of reads, and the same address can have two
 // answers.
-static FOUR_LOOKUPS: Case = Case {
-    config: TWO_GROUPS,
-    changes: &[
-        Edit::Add(0x12, 8, 5),
-        Edit::Add(0x35, 8, 6),
-        Edit::Delete(0x12, 8),
-    ],
-    deeds: &[Deed::Online, Deed::Lookup4([0x12, 0x35, 0x12, 0x40])],
-    bursts: &[(WRITER, 38), (WORKER, 8), (WRITER, 5), (WORKER, 3)],
-    steps: &[
-        (46, WORKER, Kind::LoadSecond, 2, FIVE),
-        (52, WORKER, Kind::LoadSecond, 21, SIX),
-        (53, WORKER, Kind::LoadSecond, 2, 0),
-    ],
-    count: 54,
-    replies: &[ADDED, ADDED, Answer::Deleted(5)],
-    lookups: &[
-        (0x12, Some(5), (42, 46), (2, 3)),
-        (0x35, Some(6), (43, 52), (2, 3)),
-        (0x12, None, (44, 53), (2, 3)),
-        (0x40, None, (45, 45), (2, 3)),
-    ],
-};
-
 #[test]
 fn four_lookups(rt: HostRuntime) -> Result<(), Fail> {
-    assert_case(&rt, rt.alloc(), &FOUR_LOOKUPS)
+    let case = Case {
+        config: TWO_GROUPS,
+        changes: &[
+            Edit::Add(0x12, 8, 5),
+            Edit::Add(0x35, 8, 6),
+            Edit::Delete(0x12, 8),
+        ],
+        deeds: &[Deed::Online, Deed::Lookup4([0x12, 0x35, 0x12, 0x40])],
+        bursts: &[(WRITER, 38), (WORKER, 8), (WRITER, 5), (WORKER, 3)],
+        steps: &[
+            (46, WORKER, Kind::LoadSecond, 2, FIVE),
+            (52, WORKER, Kind::LoadSecond, 21, SIX),
+            (53, WORKER, Kind::LoadSecond, 2, 0),
+        ],
+        count: 54,
+        replies: &[ADDED, ADDED, Answer::Deleted(5)],
+        lookups: &[
+            (0x12, Some(5), (42, 46), (2, 3)),
+            (0x35, Some(6), (43, 52), (2, 3)),
+            (0x12, None, (44, 53), (2, 3)),
+            (0x40, None, (45, 45), (2, 3)),
+        ],
+    };
+    assert_case(&rt, rt.alloc(), &case)
 }
 
 // Two groups that are freed.
@@ -230,47 +225,46 @@ const BOTH_FREED: Answer = Answer::Other(Reply::Reclaimed(Reclaimed {
 }));
 
 // A token that has passed stays passed: a counter below it, stored later, holds nothing back.
-static REMEMBERED_TOKEN: Case = Case {
-    config: TWO_GROUPS,
-    changes: &[
-        Edit::Add(0x12, 8, 5),
-        Edit::Add(0x35, 8, 6),
-        Edit::Delete(0x12, 8),
-        Edit::Delete(0x35, 8),
-        Edit::Synchronize,
-        Edit::Reclaim(16),
-        Edit::Add(0x40, 4, 7),
-    ],
-    deeds: &[Deed::Online],
-    bursts: &[
-        (WRITER, 38),
-        (WORKER, 1),
-        (WRITER, 12),
-        (WORKER, 1),
-        (WRITER, 1),
-    ],
-    steps: &[
-        (39, WORKER, Kind::LoadToken, 0, 1),
-        (50, WRITER, Kind::BumpToken, 0, 4),
-        (51, WRITER, Kind::LoadCounter, 0, 0),
-        (52, WORKER, Kind::StoreCounter, 0, 1),
-        (53, WRITER, Kind::BumpSequence, 0, 9),
-    ],
-    count: 53,
-    replies: &[
-        ADDED,
-        ADDED,
-        Answer::Deleted(5),
-        Answer::Deleted(6),
-        Answer::Other(Reply::Synchronized),
-        BOTH_FREED,
-    ],
-    lookups: &[],
-};
-
 #[test]
 fn remembered_token(rt: HostRuntime) -> Result<(), Fail> {
-    assert_case(&rt, rt.alloc(), &REMEMBERED_TOKEN)
+    let case = Case {
+        config: TWO_GROUPS,
+        changes: &[
+            Edit::Add(0x12, 8, 5),
+            Edit::Add(0x35, 8, 6),
+            Edit::Delete(0x12, 8),
+            Edit::Delete(0x35, 8),
+            Edit::Synchronize,
+            Edit::Reclaim(16),
+            Edit::Add(0x40, 4, 7),
+        ],
+        deeds: &[Deed::Online],
+        bursts: &[
+            (WRITER, 38),
+            (WORKER, 1),
+            (WRITER, 12),
+            (WORKER, 1),
+            (WRITER, 1),
+        ],
+        steps: &[
+            (39, WORKER, Kind::LoadToken, 0, 1),
+            (50, WRITER, Kind::BumpToken, 0, 4),
+            (51, WRITER, Kind::LoadCounter, 0, 0),
+            (52, WORKER, Kind::StoreCounter, 0, 1),
+            (53, WRITER, Kind::BumpSequence, 0, 9),
+        ],
+        count: 53,
+        replies: &[
+            ADDED,
+            ADDED,
+            Answer::Deleted(5),
+            Answer::Deleted(6),
+            Answer::Other(Reply::Synchronized),
+            BOTH_FREED,
+        ],
+        lookups: &[],
+    };
+    assert_case(&rt, rt.alloc(), &case)
 }
 
 // The store of this number, from 0 on, of a default route over a table whose block 1 has a group, in
@@ -295,23 +289,22 @@ fn assert_default_route(rt: &impl Abort, trace: &Trace) {
 }
 
 // A default route fills the words of a group where the group's block stands among the others.
-static DEFAULT_UNDER_A_GROUP: Case = Case {
-    config: ONE_GROUP,
-    changes: &[Edit::Add(0x12, 8, 5), Edit::Add(0x00, 0, 9)],
-    deeds: &[],
-    bursts: &[(WRITER, 60)],
-    steps: &[
-        (20, WRITER, Kind::BumpSequence, 0, 3),
-        (51, WRITER, Kind::BumpSequence, 0, 4),
-    ],
-    count: 51,
-    replies: &[ADDED, ADDED],
-    lookups: &[],
-};
-
 #[test]
 fn default_under_a_group(rt: HostRuntime) -> Result<(), Fail> {
-    let trace = traced(&rt, rt.alloc(), &DEFAULT_UNDER_A_GROUP)?;
+    let case = Case {
+        config: ONE_GROUP,
+        changes: &[Edit::Add(0x12, 8, 5), Edit::Add(0x00, 0, 9)],
+        deeds: &[],
+        bursts: &[(WRITER, 60)],
+        steps: &[
+            (20, WRITER, Kind::BumpSequence, 0, 3),
+            (51, WRITER, Kind::BumpSequence, 0, 4),
+        ],
+        count: 51,
+        replies: &[ADDED, ADDED],
+        lookups: &[],
+    };
+    let trace = traced(&rt, rt.alloc(), &case)?;
     assert_default_route(&rt, &trace);
     Ok(())
 }
@@ -335,23 +328,22 @@ fn assert_versions(rt: &impl Abort, trace: &Trace, addr: u32, versions: &[(usize
 
 // Two lookups of one address, of which the first ends within an update and the second after it: the
 // version that the address shows goes up from one to the other.
-static TWO_ANSWERS: Case = Case {
-    config: ONE_GROUP,
-    changes: &[Edit::Add(0x10, 4, 7), Edit::Add(0x12, 8, 5)],
-    deeds: &[Deed::Online, Deed::Lookup(0x12), Deed::Lookup(0x12)],
-    bursts: &[(WRITER, 20), (WORKER, 5), (WRITER, 2), (WORKER, 4)],
-    steps: &[],
-    count: 31,
-    replies: &[ADDED, ADDED],
-    lookups: &[
-        (0x12, Some(7), (24, 24), (1, 2)),
-        (0x12, Some(5), (29, 30), (2, 2)),
-    ],
-};
-
 #[test]
 fn two_answers(rt: HostRuntime) -> Result<(), Fail> {
-    let trace = traced(&rt, rt.alloc(), &TWO_ANSWERS)?;
+    let case = Case {
+        config: ONE_GROUP,
+        changes: &[Edit::Add(0x10, 4, 7), Edit::Add(0x12, 8, 5)],
+        deeds: &[Deed::Online, Deed::Lookup(0x12), Deed::Lookup(0x12)],
+        bursts: &[(WRITER, 20), (WORKER, 5), (WRITER, 2), (WORKER, 4)],
+        steps: &[],
+        count: 31,
+        replies: &[ADDED, ADDED],
+        lookups: &[
+            (0x12, Some(7), (24, 24), (1, 2)),
+            (0x12, Some(5), (29, 30), (2, 2)),
+        ],
+    };
+    let trace = traced(&rt, rt.alloc(), &case)?;
     assert_versions(&rt, &trace, 0x12, &[(24, 1), (30, 2)]);
     Ok(())
 }

@@ -47,7 +47,7 @@ type Answered = (Edit, Answer, usize);
 
 // Changes of each kind over two groups, while worker 0 is online at token 1; among them some without a
 // step.
-static ANSWERED: [Answered; 16] = [
+const ANSWERED: [Answered; 16] = [
     // The first rule.
     (Edit::Flush, Answer::Other(Reply::Flushed(0)), 0),
     (Edit::Add(0x12, 8, 5), ADDED, 19),
@@ -319,7 +319,7 @@ fn a_refused_growth(rt: HostRuntime) -> Result<(), Fail> {
 }
 
 // A limit outside its range in each.
-static WRONG: [Config; 5] = [
+const WRONG: [Config; 5] = [
     Config {
         rules: 0,
         ..ONE_GROUP

@@ -54,14 +54,15 @@ fn assert_burst(
 }
 
 fn look_up(rt: &impl Abort, owner: &mut Owner, reader: &mut Reader) {
-    let [long, wide] = two_rules(rt);
     let mut hops = [7u32; 8];
     let first = [2, 9, 1, 2, 1, 9, 7, 7];
     assert_burst(rt, reader, &mut hops, (&ADDRS, 9, 0), first);
     let found = owner.lookup_rule(0x0a01_8081);
+    let [long, _] = two_rules(rt);
     assert_at(rt, "rule", found, Some(long));
-    let put = owner.insert(&wide.prefix, long.hop);
-    assert_at(rt, "put", put, Ok(Some(wide.hop)));
+    let wide = prefix(rt, 0x0a00_0000, 8);
+    let put = owner.insert(&wide, hop(rt, 2));
+    assert_at(rt, "put", put, Ok(Some(hop(rt, 1))));
     let second = [2, 8, 1, 2, 1, 9, 7, 7];
     assert_burst(rt, reader, &mut hops, (&ADDRS[4..], 8, 1), second);
 }

@@ -55,17 +55,14 @@ fn walk(rt: &impl Abort, table: &Table, rules: &[Rule]) {
 }
 
 // The walk goes on behind a prefix that has no rule, and behind one whose rule is gone.
-fn walk_between(rt: &impl Abort, table: &mut Table, eighth: Rule, ninth: Rule) {
-    let between = Some(prefix(rt, "10.0.0.64/26"));
-    let before = table.next_rule(between);
-    let deleted = table.delete(&eighth.prefix);
-    assert_at(rt, "deleted", deleted, Ok(eighth.hop));
-    let after = [
-        table.next_rule(between),
-        table.next_rule(Some(eighth.prefix)),
-    ];
-    let wanted = (Some(eighth), [Some(ninth), Some(ninth)]);
-    assert_at(rt, "before, after", (before, after), wanted);
+fn walk_between(rt: &impl Abort, table: &mut Table, eighth: &Rule, ninth: &Rule) {
+    let between = prefix(rt, "10.0.0.64/26");
+    assert_at(rt, "before", table.next_rule(Some(between)), Some(*eighth));
+    let gone = prefix(rt, "10.0.0.128/25");
+    assert_at(rt, "deleted", table.delete(&gone), Ok(hop(rt, 8)));
+    assert_at(rt, "after", table.next_rule(Some(between)), Some(*ninth));
+    let behind = prefix(rt, "10.0.0.128/25");
+    assert_at(rt, "behind", table.next_rule(Some(behind)), Some(*ninth));
 }
 
 #[test]
@@ -74,7 +71,7 @@ fn a_table_is_walked_in_order(rt: HostRuntime) {
     let mut table = Table::open(rt.alloc(), Config::default()).expect(&rt, "open");
     add_all(&rt, &mut table, &rules);
     walk(&rt, &table, &rules);
-    walk_between(&rt, &mut table, rules[7], rules[8]);
+    walk_between(&rt, &mut table, &rules[7], &rules[8]);
 }
 
 // The walk of a running table goes over these rules.
@@ -90,11 +87,11 @@ fn walk_running(rt: &impl Abort, owner: &Owner, rules: &[Rule]) {
 // A rule is added behind the first of these, and before the second.
 fn walk_on(rt: &impl Abort, owner: &mut Owner, before: Rule, after: Rule) {
     let new = rule(rt, "10.0.0.192/26", 13);
-    let added = owner.add(&new.prefix, new.hop);
-    assert_at(rt, "added", added, Ok(Put::Added));
+    let Rule { prefix, hop } = new;
+    assert_at(rt, "added", owner.add(&prefix, hop), Ok(Put::Added));
     let found = [
         owner.next_rule(Some(before.prefix)),
-        owner.next_rule(Some(new.prefix)),
+        owner.next_rule(Some(prefix)),
     ];
     assert_at(rt, "next", found, [Some(new), Some(after)]);
 }
