@@ -233,6 +233,9 @@ static STORMS: [AskedStorm; 11] = [
     ),
 ];
 
+// The files of a storm.
+const FILES: [&str; 3] = ["r", "u", "a"];
+
 // The row's words ask for this storm.
 fn assert_storm(rt: &impl Abort, alloc: Global, row: &AskedStorm) -> Result<(), Fail> {
     let (text, numbers, rounds, has_stuck_worker) = *row;
@@ -242,12 +245,8 @@ fn assert_storm(rt: &impl Abort, alloc: Global, row: &AskedStorm) -> Result<(), 
     };
     let found = (parts(&line), storm_parts(&line));
     let storm = Some((rounds, has_stuck_worker));
-    assert_at(
-        rt,
-        text,
-        found,
-        (("storm", ["r", "u", "a"], numbers), storm),
-    );
+    let wanted = ("storm", FILES, numbers);
+    assert_at(rt, text, found, (wanted, storm));
     Ok(())
 }
 
