@@ -14,7 +14,7 @@ use Rattle.std.proofs.lemmas.Bool.{cases_eq, cases_lt, eqb-true, eq-eqb}
 use Rattle.std.proofs.Math.ListN.{length-set}
 use Rattle.std.proofs.lemmas.List.{get_or-set_same, get_or-set_other}
 use Rattle.lpm_bits.specs.Network.{Network}
-use Rattle.lpm_rules.specs.RuleMap.{network_cmp}
+use Rattle.lpm_rules.specs.RuleMap.{RuleMap, network_cmp}
 use Rattle.lpm_rules.specs.View.{of_length, entries_from, rules_of_lengths}
 
 pub networks_total : IsTotalOrder network_cmp
@@ -126,11 +126,12 @@ get_rules ms p d h = get-from_entries networks_total (entries_from 0 ms) p ∙ f
 pub get_past : (ms : List (BTreeMap ℕ ℕ)) (p : Network) → length ms ≤ p.len → get (rules_of_lengths ms) p ≡ None
 get_past ms p h = get-from_entries networks_total (entries_from 0 ms) p ∙ find_past p 0 ms (omega (arith, h))
 
--- one map is written at one key
-pub set_rules : (ms : List (BTreeMap ℕ ℕ)) (p : Network) (v : ℕ) (m d : BTreeMap ℕ ℕ) → p.len < length ms
-    → ((q : ℕ) → tree.get nat_cmp m q ≡ cond (is_at (nat_cmp p.bits) q) (Some v) (tree.get nat_cmp (get_or ms p.len d) q))
-    → rules_of_lengths (slice_set ms p.len m) ≡ insert (rules_of_lengths ms) p v
-set_rules ms p v m d h is = same_map networks_total exact_networks _ _ (λ q.
+-- one map has `w` at one key, and else what it had, and so has the rule list N
+written : (ms : List (BTreeMap ℕ ℕ)) (p : Network) (w : Option ℕ) (m d : BTreeMap ℕ ℕ) (N : RuleMap) → p.len < length ms
+    → ((q : ℕ) → tree.get nat_cmp m q ≡ cond (is_at (nat_cmp p.bits) q) w (tree.get nat_cmp (get_or ms p.len d) q))
+    → ((q : Network) → get N q ≡ cond (eq_by_cmp network_cmp q p) w (get (rules_of_lengths ms) q))
+    → rules_of_lengths (slice_set ms p.len m) ≡ N
+written ms p w m d N h is has = same_map networks_total exact_networks _ _ (λ q.
     let n : length (slice_set ms p.len m) ≡ length ms = length-set ms p.len m in
     elim (cases_eq q.len p.len) [
       | inl e ↦
@@ -139,11 +140,11 @@ set_rules ms p v m d h is = same_map networks_total exact_networks _ _ (λ q.
           ∙ ap (λ x. tree.get nat_cmp (get_or (slice_set ms p.len m) x d) q.bits) e
           ∙ ap (λ x. tree.get nat_cmp x q.bits) (get_or-set_same ms p.len m d h)
           ∙ is q.bits
-          ∙ ap (λ t. cond t (Some v) (tree.get nat_cmp (get_or ms p.len d) q.bits))
+          ∙ ap (λ t. cond t w (tree.get nat_cmp (get_or ms p.len d) q.bits))
           (sym (same_len p.bits q.bits p.len) ∙ ap (λ x. eq_by_cmp network_cmp p (at_network q.bits x)) (sym e) ∙ (eq_by_cmp_equiv networks_total).symm p q)
-          ∙ ap (λ x. cond (eq_by_cmp network_cmp q p) (Some v) (tree.get nat_cmp (get_or ms x d) q.bits)) (sym e)
-          ∙ ap (cond (eq_by_cmp network_cmp q p) (Some v)) (sym (get_rules ms q d h2))
-          ∙ sym (get-insert networks_total (rules_of_lengths ms) p v q)
+          ∙ ap (λ x. cond (eq_by_cmp network_cmp q p) w (tree.get nat_cmp (get_or ms x d) q.bits)) (sym e)
+          ∙ ap (cond (eq_by_cmp network_cmp q p) w) (sym (get_rules ms q d h2))
+          ∙ sym (has q)
       | inr ne ↦
           let apart = other_len q p.bits p.len ne in
           let same : get (rules_of_lengths (slice_set ms p.len m)) q ≡ get (rules_of_lengths ms) q =
@@ -151,7 +152,7 @@ set_rules ms p v m d h is = same_map networks_total exact_networks _ _ (λ q.
             | inl below ↦ get_rules (slice_set ms p.len m) q d (omega (arith, n, below)) ∙ ap (λ x. tree.get nat_cmp x q.bits) (get_or-set_other ms p.len q.len m d ne) ∙ sym (get_rules ms q d below)
             | inr past ↦ get_past (slice_set ms p.len m) q (omega (arith, n, past)) ∙ sym (get_past ms q past)
           ] in
-          same ∙ sym (ap (λ t. cond t (Some v) (get (rules_of_lengths ms) q)) apart) ∙ sym (get-insert networks_total (rules_of_lengths ms) p v q)
+          same ∙ sym (ap (λ t. cond t w (get (rules_of_lengths ms) q)) apart) ∙ sym (has q)
     ])
 
 -- the same, where the code has the bits and the length as numbers
@@ -159,47 +160,23 @@ pub get_at : (ms : List (BTreeMap ℕ ℕ)) (p : Network) (b l : ℕ) (d : BTree
 get_at ms p b l d eb el h =
     ap (λ x. tree.get nat_cmp (get_or ms x d) b) el ∙ ap (λ x. tree.get nat_cmp (get_or ms p.len d) x) eb ∙ sym (get_rules ms p d (omega (arith, el, h)))
 
+written_at : (ms : List (BTreeMap ℕ ℕ)) (p : Network) (b l : ℕ) (w : Option ℕ) (m d : BTreeMap ℕ ℕ) (N : RuleMap) → b ≡ p.bits → l ≡ p.len → l < length ms
+    → ((q : ℕ) → tree.get nat_cmp m q ≡ cond (is_at (nat_cmp b) q) w (tree.get nat_cmp (get_or ms l d) q))
+    → ((q : Network) → get N q ≡ cond (eq_by_cmp network_cmp q p) w (get (rules_of_lengths ms) q))
+    → rules_of_lengths (slice_set ms l m) ≡ N
+written_at ms p b l w m d N eb el h is has =
+    ap (λ x. rules_of_lengths (slice_set ms x m)) el ∙ written ms p w m d N (omega (arith, el, h)) (λ q.
+    is q ∙ ap (λ x. cond (is_at (nat_cmp x) q) w (tree.get nat_cmp (get_or ms l d) q)) eb ∙ ap (λ x. cond (is_at (nat_cmp p.bits) q) w (tree.get nat_cmp (get_or ms x d) q)) el) has
+
 pub set_at : (ms : List (BTreeMap ℕ ℕ)) (p : Network) (b l v : ℕ) (m d : BTreeMap ℕ ℕ) → b ≡ p.bits → l ≡ p.len → l < length ms
     → ((q : ℕ) → tree.get nat_cmp m q ≡ cond (is_at (nat_cmp b) q) (Some v) (tree.get nat_cmp (get_or ms l d) q))
     → rules_of_lengths (slice_set ms l m) ≡ insert (rules_of_lengths ms) p v
-set_at ms p b l v m d eb el h is =
-    ap (λ x. rules_of_lengths (slice_set ms x m)) el ∙ set_rules ms p v m d (omega (arith, el, h)) (λ q.
-    is q ∙ ap (λ x. cond (is_at (nat_cmp x) q) (Some v) (tree.get nat_cmp (get_or ms l d) q)) eb ∙ ap (λ x. cond (is_at (nat_cmp p.bits) q) (Some v) (tree.get nat_cmp (get_or ms x d) q)) el)
-
--- one map loses one key
-pub unset_rules : (ms : List (BTreeMap ℕ ℕ)) (p : Network) (m d : BTreeMap ℕ ℕ) → p.len < length ms
-    → ((q : ℕ) → tree.get nat_cmp m q ≡ cond (is_at (nat_cmp p.bits) q) None (tree.get nat_cmp (get_or ms p.len d) q))
-    → rules_of_lengths (slice_set ms p.len m) ≡ remove (rules_of_lengths ms) p
-unset_rules ms p m d h is = same_map networks_total exact_networks _ _ (λ q.
-    let n : length (slice_set ms p.len m) ≡ length ms = length-set ms p.len m in
-    elim (cases_eq q.len p.len) [
-      | inl e ↦
-          let h2 : q.len < length ms = omega (arith, e, h) in
-          get_rules (slice_set ms p.len m) q d (omega (arith, n, h2))
-          ∙ ap (λ x. tree.get nat_cmp (get_or (slice_set ms p.len m) x d) q.bits) e
-          ∙ ap (λ x. tree.get nat_cmp x q.bits) (get_or-set_same ms p.len m d h)
-          ∙ is q.bits
-          ∙ ap (λ t. cond t None (tree.get nat_cmp (get_or ms p.len d) q.bits))
-          (sym (same_len p.bits q.bits p.len) ∙ ap (λ x. eq_by_cmp network_cmp p (at_network q.bits x)) (sym e) ∙ (eq_by_cmp_equiv networks_total).symm p q)
-          ∙ ap (λ x. cond (eq_by_cmp network_cmp q p) None (tree.get nat_cmp (get_or ms x d) q.bits)) (sym e)
-          ∙ ap (cond (eq_by_cmp network_cmp q p) None) (sym (get_rules ms q d h2))
-          ∙ sym (get-remove networks_total (rules_of_lengths ms) p q)
-      | inr ne ↦
-          let apart = other_len q p.bits p.len ne in
-          let same : get (rules_of_lengths (slice_set ms p.len m)) q ≡ get (rules_of_lengths ms) q =
-          elim (cases_lt q.len (length ms)) [
-            | inl below ↦ get_rules (slice_set ms p.len m) q d (omega (arith, n, below)) ∙ ap (λ x. tree.get nat_cmp x q.bits) (get_or-set_other ms p.len q.len m d ne) ∙ sym (get_rules ms q d below)
-            | inr past ↦ get_past (slice_set ms p.len m) q (omega (arith, n, past)) ∙ sym (get_past ms q past)
-          ] in
-          same ∙ sym (ap (λ t. cond t None (get (rules_of_lengths ms) q)) apart) ∙ sym (get-remove networks_total (rules_of_lengths ms) p q)
-    ])
+set_at ms p b l v m d eb el h is = written_at ms p b l (Some v) m d _ eb el h is (get-insert networks_total (rules_of_lengths ms) p v)
 
 pub unset_at : (ms : List (BTreeMap ℕ ℕ)) (p : Network) (b l : ℕ) (m d : BTreeMap ℕ ℕ) → b ≡ p.bits → l ≡ p.len → l < length ms
     → ((q : ℕ) → tree.get nat_cmp m q ≡ cond (is_at (nat_cmp b) q) None (tree.get nat_cmp (get_or ms l d) q))
     → rules_of_lengths (slice_set ms l m) ≡ remove (rules_of_lengths ms) p
-unset_at ms p b l m d eb el h is =
-    ap (λ x. rules_of_lengths (slice_set ms x m)) el ∙ unset_rules ms p m d (omega (arith, el, h)) (λ q.
-    is q ∙ ap (λ x. cond (is_at (nat_cmp x) q) None (tree.get nat_cmp (get_or ms l d) q)) eb ∙ ap (λ x. cond (is_at (nat_cmp p.bits) q) None (tree.get nat_cmp (get_or ms x d) q)) el)
+unset_at ms p b l m d eb el h is = written_at ms p b l None m d _ eb el h is (get-remove networks_total (rules_of_lengths ms) p)
 
 -- a map with the same entries
 keep_from : (l k : ℕ) (ms : List (BTreeMap ℕ ℕ)) (m d : BTreeMap ℕ ℕ) → k < length ms → m.entries ≡ (get_or ms k d).entries → entries_from l (slice_set ms k m) ≡ entries_from l ms

@@ -1,70 +1,36 @@
-use Rattle.std.proofs.Common.{arith, ap, sym, ◌∙◌}
-use Rattle.std.specs.FinMap as map
-use Rattle.lpm_rules.specs.RuleMap.{RuleList}
-use Rattle.lpm_rules.specs.View.{rules_of_lengths}
-use Rattle.lpm_rules.proofs.Changes.{size_removed}
-use Rattle.lpm_rules.proofs.Views.{get_at, unset_at, keep_at}
-use Rattle.lpm_rules.proofs.Sound.{sound_removed, sound_kept}
+use Rattle.std.proofs.Common.{arith, sym, ◌∙◌}
+use Rattle.lpm_rules.proofs.Sound.{IsPlace, had, has_one, taken_out, same_list, sound_removed, sound_kept}
+use Rattle.lpm_rules.proofs.Rules.remove.Given.{Over}
+use Rattle.lpm_rules.proofs.Rules.remove.Goals.{After-index-self-len}
 use Rattle.lpm_rules.proofs.Rules.remove.Goals as goal
+
+place : (g : Over) (c : After-index-self-len g)
+    → IsPlace g.row.FIRST g.row.SECOND c.self.inside.lengths c.self.inside.count c.self.inside.max c.args.self.now c.args.prefix.now c.bits-bits.result c.len.result
+place g c = record { sound = c.self.invariant; view = c.self.view_is; bits = c.bits-bits.ensures.value; len = c.len.ensures.value; bound = c.len.ensures.bound }
 
 pub overflow_sub-self : goal.overflow_sub-self
 overflow_sub-self g c =
-    let long = c.self.invariant.lengths in
-    let bound = c.len.ensures.bound in
-    let shape = c.bits-bits.ensures.shape in
-    let found = get_at c.self.inside.lengths c.args.prefix.now c.bits-bits.result c.len.result _ c.bits-bits.ensures.value c.len.ensures.value (omega arith) in
-    let size = size_removed (rules_of_lengths c.self.inside.lengths) c.args.prefix.now c.in-Some.hop (sym found ∙ sym c.in-Some.ensures.value) in
-    let counted = c.self.invariant.counted in
-    omega (arith, size, counted)
+    let one = has_one (place g (goal.at.overflow_sub-self g c).After-index-self-len) _ c.in-Some.hop (sym c.in-Some.ensures.value) in
+    omega (arith, one)
 
 pub invariant_of-self : goal.invariant_of-self
 invariant_of-self g c =
-    let long = c.self.invariant.lengths in
-    let bound = c.len.ensures.bound in
-    let shape = c.bits-bits.ensures.shape in
-    let found = get_at c.self.inside.lengths c.args.prefix.now c.bits-bits.result c.len.result _ c.bits-bits.ensures.value c.len.ensures.value (omega arith) in
-    sound_removed g.row.FIRST g.row.SECOND c.self.inside.lengths c.args.prefix.now c.bits-bits.result c.len.result c.self.inside.count c.remove.new.self _
-    c.self.invariant c.bits-bits.ensures.value c.len.ensures.value (omega arith) c.in-Some.hop
-    (sym found ∙ sym c.in-Some.ensures.value) c.in-Some.ensures.updates.0
+    sound_removed (place g (goal.at.invariant_of-self g c).After-index-self-len) _ c.remove.new.self c.in-Some.hop (sym c.in-Some.ensures.value) c.in-Some.ensures.updates.0
 
 pub returns-in-Some-clause-hop : goal.returns-in-Some-clause-hop
-returns-in-Some-clause-hop g c =
-    let long = c.self.invariant.lengths in
-    let bound = c.len.ensures.bound in
-    let shape = c.bits-bits.ensures.shape in
-    let found = get_at c.self.inside.lengths c.args.prefix.now c.bits-bits.result c.len.result _ c.bits-bits.ensures.value c.len.ensures.value (omega arith) in
-    ap (λ (m : RuleList). map.get m.rules c.args.prefix.now) (sym c.self.view_is) ∙ sym found ∙ sym c.in-Some.ensures.value
+returns-in-Some-clause-hop g c = sym (had (place g (goal.at.returns-in-Some-clause-hop g c).After-index-self-len) _) ∙ sym c.in-Some.ensures.value
 
 pub returns-in-Some-clause-ok : goal.returns-in-Some-clause-ok
 returns-in-Some-clause-ok g c =
-    let long = c.self.invariant.lengths in
-    let bound = c.len.ensures.bound in
-    let shape = c.bits-bits.ensures.shape in
-    ap (λ m. record { rules = m; max = c.self.inside.max })
-    (unset_at c.self.inside.lengths c.args.prefix.now c.bits-bits.result c.len.result c.remove.new.self _ c.bits-bits.ensures.value c.len.ensures.value (omega arith) c.in-Some.ensures.updates.0)
-    ∙ ap (λ (m : RuleList). record { rules = map.remove m.rules c.args.prefix.now; max = m.max }) c.self.view_is
+    taken_out (place g (goal.at.returns-in-Some-clause-ok g c).After-index-self-len) _ c.remove.new.self c.in-Some.ensures.updates.0
 
 pub invariant_of-self-in-None : goal.invariant_of-self-in-None
 invariant_of-self-in-None g c =
-    let long = c.self.invariant.lengths in
-    let bound = c.len.ensures.bound in
-    let shape = c.bits-bits.ensures.shape in
-    sound_kept g.row.FIRST g.row.SECOND c.self.inside.lengths c.args.prefix.now c.bits-bits.result c.len.result c.self.inside.count c.remove.new.self _
-    c.self.invariant c.bits-bits.ensures.value c.len.ensures.value (omega arith) c.in-None.ensures.unchanged
+    sound_kept (place g (goal.at.invariant_of-self-in-None g c).After-index-self-len) _ c.remove.new.self c.in-None.ensures.unchanged
 
 pub returns-in-None-clause-hop : goal.returns-in-None-clause-hop
-returns-in-None-clause-hop g c =
-    let long = c.self.invariant.lengths in
-    let bound = c.len.ensures.bound in
-    let shape = c.bits-bits.ensures.shape in
-    let found = get_at c.self.inside.lengths c.args.prefix.now c.bits-bits.result c.len.result _ c.bits-bits.ensures.value c.len.ensures.value (omega arith) in
-    ap (λ (m : RuleList). map.get m.rules c.args.prefix.now) (sym c.self.view_is) ∙ sym found ∙ sym c.in-None.ensures.value
+returns-in-None-clause-hop g c = sym (had (place g (goal.at.returns-in-None-clause-hop g c).After-index-self-len) _) ∙ sym c.in-None.ensures.value
 
 pub returns-in-None-clause-err : goal.returns-in-None-clause-err
 returns-in-None-clause-err g c =
-    let long = c.self.invariant.lengths in
-    let bound = c.len.ensures.bound in
-    let shape = c.bits-bits.ensures.shape in
-    ap (λ m. record { rules = m; max = c.self.inside.max })
-    (keep_at c.self.inside.lengths c.len.result c.remove.new.self _ (omega arith) c.in-None.ensures.unchanged)
-    ∙ c.self.view_is
+    same_list (place g (goal.at.returns-in-None-clause-err g c).After-index-self-len) _ c.remove.new.self c.in-None.ensures.unchanged
