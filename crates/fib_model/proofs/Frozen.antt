@@ -231,12 +231,6 @@ room_frozen k c x z limbo left d = (
   ],
 )
 
-pub room_moving : {X : Type 0} (k : Look X) (c : Config) (x : X) (limbo left : List ℕ) → MakesRoom k c x limbo left → moving.MakesRoom (still k) c x limbo left x
-room_moving k c x limbo left d = (
-  (λ over. let r = d.0 over in (r.0, r.1, reclaims_moving k x c.reclaim_max limbo r.0 r.1 left r.2)),
-  (λ within. (d.1 within, refl)),
-)
-
 -- ---- unlinkings
 
 pub unlinks_frozen : {X : Type 0} (k : Look X) (c : Config) (n : ℕ) (x z : X) (limbo limbo' : List ℕ) → moving.Unlinks (still k) c n x limbo z limbo' → Unlinks k c n x limbo z limbo'
@@ -252,22 +246,6 @@ unlinks_frozen k c (suc n) x z limbo limbo' d =
       room.1 ∙ one.3.1,
       one.5 ∙ ap (λ name. one.2 ++ name ∷ []) one.3.0,
     )
-
-pub unlinks_moving : {X : Type 0} (k : Look X) (c : Config) (n : ℕ) (x z : X) (limbo limbo' : List ℕ) → Unlinks k c n x limbo z limbo' → moving.Unlinks (still k) c n x limbo z limbo'
-unlinks_moving k c zero x z limbo limbo' d = d
-unlinks_moving k c (suc n) x z limbo limbo' d = (
-  d.0,
-  d.1,
-  unlinks_moving k c n x d.0 limbo d.1 d.3,
-  (
-    k.name d.0,
-    k.unlinked d.0,
-    d.2,
-    (refl, refl),
-    subst (λ y. moving.MakesRoom (still k) c (k.unlinked d.0) d.1 d.2 y) (sym d.5) (room_moving k c (k.unlinked d.0) d.1 d.2 d.4),
-    d.6,
-  ),
-)
 
 -- ---- adding
 
@@ -367,10 +345,6 @@ shrinks_frozen k f g c s z R d =
     let unlinks = unlinks_frozen k c n update.0 update.1 s.limbo z.limbo update.3 in
     (d.0, subst (λ y. Unlinks k c n s.readers s.limbo y z.limbo) (sym update.4) (subst (λ x. Unlinks k c n x s.limbo update.1 z.limbo) update.2 unlinks), d.2.0, d.2.1)
 
-pub shrinks_moving : {X : Type 0} (k : Look X) (f g : ℕ) (c : Config) (s z : State X) (R : RuleMap) → Shrinks k f g c s R z → outcomes.Shrinks (still k) f g c s R z
-shrinks_moving k f g c s z R d =
-    (d.0, (s.readers, z.readers, refl, unlinks_moving k c (groups_in_use f g s.rules - groups_in_use f g R) s.readers z.readers s.limbo z.limbo d.1, refl), (d.2, d.3))
-
 pub deletes_frozen : {X : Type 0} (k : Look X) (f g : ℕ) (c : Config) (s z : State X) (p : Network) (r : Result ℕ Refusal)
     → outcomes.Deletes (still k) f g c s p r z → Deletes k f g c s p r z
 deletes_frozen k f g c s z p (Ok h) d = (d.0, shrinks_frozen k f g c s z (remove s.rules p) d.1)
@@ -378,33 +352,13 @@ deletes_frozen k f g c s z p (Err NoSuchRule) d = d
 deletes_frozen k f g c s z p (Err Exhausted) d = d
 deletes_frozen k f g c s z p (Err other) d = absurd d
 
-pub deletes_moving : {X : Type 0} (k : Look X) (f g : ℕ) (c : Config) (s z : State X) (p : Network) (r : Result ℕ Refusal)
-    → Deletes k f g c s p r z → outcomes.Deletes (still k) f g c s p r z
-deletes_moving k f g c s z p (Ok h) d = (d.0, shrinks_moving k f g c s z (remove s.rules p) d.1)
-deletes_moving k f g c s z p (Err NoSuchRule) d = d
-deletes_moving k f g c s z p (Err Exhausted) d = d
-deletes_moving k f g c s z p (Err other) d = absurd d
-
 pub flushes_frozen : {X : Type 0} (k : Look X) (f g : ℕ) (c : Config) (s z : State X) (r : Result ℕ Refusal)
     → outcomes.Flushes (still k) f g c s r z → Flushes k f g c s r z
 flushes_frozen k f g c s z (Ok n) d = (d.0, d.1, λ some. shrinks_frozen k f g c s z empty (d.2 some))
 flushes_frozen k f g c s z (Err Exhausted) d = d
 flushes_frozen k f g c s z (Err other) d = absurd d
 
-pub flushes_moving : {X : Type 0} (k : Look X) (f g : ℕ) (c : Config) (s z : State X) (r : Result ℕ Refusal)
-    → Flushes k f g c s r z → outcomes.Flushes (still k) f g c s r z
-flushes_moving k f g c s z (Ok n) d = (d.0, d.1, λ some. shrinks_moving k f g c s z empty (d.2 some))
-flushes_moving k f g c s z (Err Exhausted) d = d
-flushes_moving k f g c s z (Err other) d = absurd d
-
 pub frees_frozen : {X : Type 0} (k : Look X) (s z : State X) (max : ℕ) (r : Reclaimed) → outcomes.Frees (still k) s max r z → Frees k s max r z
 frees_frozen k s z max r d =
     let is = reclaims_frozen k s.readers z.readers max s.limbo r.freed r.stopped z.limbo d.0 in
     (is.0, d.1 ∙ ap (λ x. record s { readers = x; limbo = z.limbo }) is.1)
-
-pub frees_moving : {X : Type 0} (k : Look X) (s z : State X) (max : ℕ) (r : Reclaimed) → Frees k s max r z → outcomes.Frees (still k) s max r z
-frees_moving k s z max r d =
-    let same = sym (ap (λ x. x.readers) d.1) in (
-      subst (λ y. moving.Reclaims (still k) s.readers max s.limbo r.freed r.stopped z.limbo y) same (reclaims_moving k s.readers max s.limbo r.freed r.stopped z.limbo d.0),
-      d.1 ∙ ap (λ x. record s { readers = x; limbo = z.limbo }) same,
-    )

@@ -290,10 +290,6 @@ none_below_more first second block len R before here d = elim (cases_eq d.0.len 
   | inr n ↦ let a = d.3 in before (d.0, d.1, d.2, omega (arith, a, n), d.4)
 ]
 
-pub none_deep : (first second block len : ℕ) (R : RuleMap) → AllNetworks (first + second) R → first + second < len
-    → ¬ IsDeepBlockBelow first second R len block → ¬ IsDeepBlock first second R block
-none_deep first second block len R nets h none d = let bound = (nets d.0 d.1).0 in none (d.0, d.1, d.2, omega (arith, bound, h), d.3)
-
 -- ---- the last block of one length, by the last key of a range
 
 not_gt : (a b : ℕ) → a ≤ b → is_gt (nat_cmp a b) ≡ false

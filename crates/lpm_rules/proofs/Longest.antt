@@ -89,29 +89,6 @@ one_cover width R p (Some x) (Some y) nets lx ly =
     let same = one_cover_rule width R p x.0 y.0 x.1 y.1 nets lx ly in
     ap (λ (c : Network × ℕ). Some c) (pair_of x.0 y.0 x.1 y.1 same.0 same.1)
 
--- no rule of this length covers p
-pub shorter_cover : (width len n : ℕ) (R : RuleMap) (p : Network) → AllNetworks width R → n ≤ len → len ≤ width → get R (record { bits = network_bits width (len - n) p.bits; len = len - n }) ≡ None
-    → ((q : Network) → IsSome (get R q) → q.len < len → Covers width q p.bits → q.len + n ≤ len)
-    → (q : Network) → IsSome (get R q) → q.len < len → Covers width q p.bits → q.len + (n + 1) ≤ len
-shorter_cover width len n R p nets l w none old q some short cov =
-    let z = old q some short cov in
-    elim (cases_eq q.len (len - n)) [
-      | inl e ↦ absurd (not_some (ap (get R) (network_at width p.bits q (nets q some) cov) ∙ ap (λ k. get R (record { bits = network_bits width k p.bits; len = k })) e ∙ none) some)
-      | inr k ↦ omega (arith, z, k)
-    ]
-
--- the rule of this length that covers p is its cover
-pub found_cover : (width n : ℕ) (R : RuleMap) (p c : Network) (h : ℕ) → 1 ≤ n → n ≤ p.len → c ≡ record { bits = network_bits width (p.len - n) p.bits; len = p.len - n } → get R c ≡ Some h
-    → ((q : Network) → IsSome (get R q) → q.len < p.len → Covers width q p.bits → q.len + n ≤ p.len) → IsCoverRule width R p c h
-found_cover width n R p c h least most is rule old =
-    let long : c.len ≡ p.len - n = ap (λ q. q.len) is in
-    record {
-      rule = rule;
-      shorter = omega (arith, long);
-      covers = subst (λ q. Covers width q p.bits) (sym is) (covers_masked width (p.len - n) p.bits);
-      longest = λ q s k cov. let z = old q s k cov in omega (arith, z, long);
-    }
-
 -- the answers to a list of addresses, one more at its end
 pub AreLongestHops-append : (width : ℕ) (R : RuleMap) (addrs : List ℕ) (hops : List (Option ℕ)) (addr : ℕ) (hop : Option ℕ)
     → AreLongestHops width R addrs hops → IsLongestHop width R addr hop → AreLongestHops width R (addrs ++ addr ∷ []) (hops ++ hop ∷ [])
