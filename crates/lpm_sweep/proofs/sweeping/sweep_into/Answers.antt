@@ -15,11 +15,30 @@ use Rattle.std.proofs.lemmas.Grind.{common_steps}
 use Rattle.lpm_sweep.specs.Frames.{word_by_frames}
 use Rattle.lpm_rules.specs.Listed.{place, prefix_at, rules_of, AllUpTo}
 use Rattle.lpm_sweep.specs.Swept.{IsSwept, AreNumbered}
-use Rattle.lpm_rules.proofs.Listed.{up_to_insert, up_to_more, prefix_read, rules_more}
+use Rattle.lpm_rules.proofs.Listed.{prefix_read, rules_more}
+use Rattle.lpm_sweep.proofs.Lists.{onward}
 use Rattle.lpm_sweep.proofs.Sweeps.{swept_on, numbered_on}
 use Rattle.lpm_sweep.proofs.Wholes.{swept_none, numbered_none, swept_all}
 use Rattle.lpm_sweep.proofs.DeepBlocks.{more_blocks}
+use Rattle.lpm_sweep.proofs.sweeping.sweep_into.Given.{Over}
+use Rattle.lpm_sweep.proofs.sweeping.sweep_into.Goals.{After-len}
 use Rattle.lpm_sweep.proofs.sweeping.sweep_into.Goals as goal
+
+-- the rule that was read, and the words before its block
+reached : (g : Over) (c : After-len g) → let p = c.index-rules-next.result.prefix in
+    (prefix_at c.args.rules.now c.loop-next.next ≡ p) × (length (g.W.WordList.items c.loop-next.firsts) ≤ p.bits / 2 ^ g.row.SECOND)
+reached g c =
+    let s = g.row.SECOND in
+    let rs = c.args.rules.now in
+    let n = c.loop-next.next in
+    let p = c.index-rules-next.result.prefix in
+    let F = g.W.WordList.items c.loop-next.firsts in
+    let read : prefix_at rs n ≡ p = prefix_read rs n c.index-rules-next.result c.loop-next-test.true c.index-rules-next.is in
+    let reach : length F * 2 ^ s * 64 ≤ place p = subst (λ q. length F * 2 ^ s * 64 ≤ place q) read (c.loop-next.invariant.reached n (omega arith) c.loop-next-test.true) in
+    let short = c.bits-bits.ensures.network.0 in
+    let fits = c.requires.shape.2 in
+    let low : length F * 2 ^ s ≤ p.bits = omega (arith, reach, short, fits) in
+    (read, le-div (length F) p.bits (2 ^ s) (pow_pos s) low)
 
 pub loop-next-init : goal.loop-next-init
 loop-next-init g c =
@@ -43,20 +62,7 @@ loop-next-init g c =
 
 pub put_short-requires : goal.put_short-requires
 put_short-requires g c =
-    let items = g.W.WordList.items in
-    let f = g.row.FIRST in
-    let s = g.row.SECOND in
-    let rs = c.args.rules.now in
-    let n = c.loop-next.next in
-    let inv = c.loop-next.invariant in
-    let p = c.index-rules-next.result.prefix in
-    let read : prefix_at rs n ≡ p = prefix_read rs n c.index-rules-next.result c.loop-next-test.true c.index-rules-next.is in
-    let F = items c.loop-next.firsts in
-    let reach : length F * 2 ^ s * 64 ≤ place p = subst (λ q. length F * 2 ^ s * 64 ≤ place q) read (inv.reached n (omega arith) c.loop-next-test.true) in
-    let short = c.bits-bits.ensures.network.0 in
-    let fits = c.requires.shape.2 in
-    let low : length F * 2 ^ s ≤ p.bits = omega (arith, reach, short, fits) in
-    (lit< tt, (c.requires.shape, (subst (λ x. x ≤ f) c.len.ensures.value c.if-len.true, le-div (length F) p.bits (2 ^ s) (pow_pos s) low)))
+    (lit< tt, (c.requires.shape, (subst (λ x. x ≤ g.row.FIRST) c.len.ensures.value c.if-len.true, (reached g (goal.at.put_short-requires g c).After-len).1)))
 
 pub loop-next-preserved-then-len : goal.loop-next-preserved-then-len
 loop-next-preserved-then-len g c =
@@ -69,7 +75,7 @@ loop-next-preserved-then-len g c =
     let r = c.index-rules-next.result in
     let p = r.prefix in
     let read : prefix_at rs n ≡ p = prefix_read rs n r c.loop-next-test.true c.index-rules-next.is in
-    let next : (k : ℕ) → n + 1 ≤ k → k < length rs → place p ≤ place (prefix_at rs k) = λ k l h. subst (λ q. place q ≤ place (prefix_at rs k)) read (c.requires.sorted n k (omega (arith, l)) h) in
+    let on = onward rs n r c.loop-next-test.true c.index-rules-next.is c.requires.sorted (inv.before n (omega arith) c.loop-next-test.true) in
     let more = rules_more rs n r c.loop-next-test.true c.index-rules-next.is in
     let R = rules_of (take n rs) in
     let before : AllUpTo R (place p) = subst (λ q. AllUpTo R (place q)) read (inv.before n (omega arith) c.loop-next-test.true) in
@@ -80,9 +86,8 @@ loop-next-preserved-then-len g c =
       few = inv.few;
       count = inv.count ∙ sym (ap (λ (x : RuleMap). set.len (deep_blocks f s x)) more ∙ ap set.len (deep_blocks_insert_short f s R p r.hop (subst (λ x. x ≤ f) c.len.ensures.value c.if-len.true)));
       numbered = c.in_ok-put_short.ensures.numbered (length c.loop-next.blocks.items) R (items c.loop-next.seconds) c.loop-next.blocks.items inv.swept inv.numbered;
-      reached = λ k l h. let z = next k l h in omega (arith, z, low);
-      before = λ k l h. subst (λ (x : RuleMap). AllUpTo x (place (prefix_at rs k))) (sym more)
-          (up_to_more (insert R p r.hop) (place p) (place (prefix_at rs k)) (next k l h) (up_to_insert R p r.hop before));
+      reached = λ k l h. let z = (on k l h).0 in omega (arith, z, low);
+      before = λ k l h. (on k l h).1;
       swept = subst (λ (x : RuleMap). IsSwept f s (length c.loop-next.blocks.items) x (record { firsts = items c.put_short.new.words; seconds = items c.loop-next.seconds }) (word_by_frames c.put_short.new.frames)) (sym more)
           (c.in_ok-put_short.ensures.swept (length c.loop-next.blocks.items) R (items c.loop-next.seconds) before inv.swept);
     }
@@ -92,17 +97,10 @@ put_group-requires g c =
     let items = g.W.WordList.items in
     let f = g.row.FIRST in
     let s = g.row.SECOND in
-    let rs = c.args.rules.now in
     let n = c.loop-next.next in
     let inv = c.loop-next.invariant in
-    let p = c.index-rules-next.result.prefix in
-    let read : prefix_at rs n ≡ p = prefix_read rs n c.index-rules-next.result c.loop-next-test.true c.index-rules-next.is in
-    let F = items c.loop-next.firsts in
-    let reach : length F * 2 ^ s * 64 ≤ place p = subst (λ q. length F * 2 ^ s * 64 ≤ place q) read (inv.reached n (omega arith) c.loop-next-test.true) in
-    let short = c.bits-bits.ensures.network.0 in
-    let fits = c.requires.shape.2 in
-    let low : length F * 2 ^ s ≤ p.bits = omega (arith, reach, short, fits) in
-    let long : f < p.len = subst (λ x. f < x) c.len.ensures.value c.if-len.false in
+    let at = reached g (goal.at.put_group-requires g c).After-len in
+    let long : f < c.index-rules-next.result.prefix.len = subst (λ x. f < x) c.len.ensures.value c.if-len.false in
     let few = c.requires.few in
     let used = c.if-used-groups.false in (
       lit< tt,
@@ -115,9 +113,9 @@ put_group-requires g c =
             (
               c.requires.sorted,
               (
-                subst (λ q. f < q.len) (sym read) long,
+                subst (λ q. f < q.len) (sym at.0) long,
                 (
-                  subst (λ q. length F ≤ q.bits / 2 ^ s) (sym read) (le-div (length F) p.bits (2 ^ s) (pow_pos s) low),
+                  subst (λ q. length (items c.loop-next.firsts) ≤ q.bits / 2 ^ s) (sym at.0) at.1,
                   (inv.before n (omega arith) c.loop-next-test.true, (inv.numbered, inv.swept)),
                 ),
               ),
@@ -174,24 +172,16 @@ returns-clause-count g c =
     c.loop-next.invariant.count ∙ ap (λ (l : List (Rule f s)). set.len (deep_blocks f s (rules_of l))) all
 
 pub returns-then-used-groups-clause-none : goal.returns-then-used-groups-clause-none
-returns-then-used-groups-clause-none g c =
-    let items = g.W.WordList.items in
-    let f = g.row.FIRST in
+returns-then-used-groups-clause-none g c = λ _.
     let s = g.row.SECOND in
     let rs = c.args.rules.now in
     let n = c.loop-next.next in
     let inv = c.loop-next.invariant in
     let r = c.index-rules-next.result in
-    let p = r.prefix in
-    let read : prefix_at rs n ≡ p = prefix_read rs n r c.loop-next-test.true c.index-rules-next.is in
-    let F = items c.loop-next.firsts in
-    let reach : length F * 2 ^ s * 64 ≤ place p = subst (λ q. length F * 2 ^ s * 64 ≤ place q) read (inv.reached n (omega arith) c.loop-next-test.true) in
-    let short = c.bits-bits.ensures.network.0 in
-    let fits = c.requires.shape.2 in
-    let low : length F * 2 ^ s ≤ p.bits = omega (arith, reach, short, fits) in
-    let long : f < p.len = subst (λ x. f < x) c.len.ensures.value c.if-len.false in
-    let more = more_blocks rs n r (rules_more rs n r c.loop-next-test.true c.index-rules-next.is) long (inv.swept.shallow (block_of s p) (le-div (length F) p.bits (2 ^ s) (pow_pos s) low)) in
+    let at = reached g (goal.at.returns-then-used-groups-clause-none g c).After-len in
+    let long : g.row.FIRST < r.prefix.len = subst (λ x. g.row.FIRST < x) c.len.ensures.value c.if-len.false in
+    let more = more_blocks rs n r (rules_more rs n r c.loop-next-test.true c.index-rules-next.is) long (inv.swept.shallow (block_of s r.prefix) at.1) in
     let used = c.if-used-groups.true in
     let count : c.len-used.result ≡ length c.loop-next.blocks.items = grind (arith, common_steps) in
     let blocks = inv.count in
-    λ _. omega (arith, more, used, count, blocks)
+    omega (arith, more, used, count, blocks)
