@@ -8,14 +8,15 @@ use Rattle.lpm_cells.specs.declared.entry.Entry.{Entry}
 use Rattle.lpm_cells.specs.declared.entry.Entry.TheVariants.{Miss, Hop, Group}
 use Rattle.lpm_cells.specs.Words.{entry_in, word_of, IsLast, IsLastWord}
 use Rattle.lpm_cells.specs.Table.{Words, entry_at, last_entry, with_first}
+use Rattle.lpm_update.specs.declared.Did.{Did}
 use Rattle.lpm_update.specs.declared.Did.TheVariants.{First, Unlinked, Done}
 use Rattle.lpm_update.specs.declared.flush.Flush.{Flush as FlushData}
 use Rattle.lpm_update.specs.declared.update.Plan.TheVariants.{Flush}
 use Rattle.lpm_update.specs.Rewrite.{rewritten_entry, Stands}
 use Rattle.lpm_update.specs.Linked.{IsTable, group_at}
 use Rattle.lpm_update.specs.Flush.{rewrite_to_miss, AllMiss, IsFlushStore}
-use Rattle.lpm_update.specs.Update.{IsNextFirst, IsNextUnlink}
-use Rattle.lpm_update.specs.Step.{Steps}
+use Rattle.lpm_update.specs.Update.{IsNextFirst, IsNextUnlink, group_held}
+use Rattle.lpm_update.specs.Step.{HasPassed, HeldAlong, Steps, Stored}
 use Rattle.lpm_update.proofs.Places.{block_low, block_high, block_of, first_same, first_other, first_word, last_word, word_entry, table_first, stored_first}
 use Rattle.lpm_update.proofs.Groups.{gives_up, keeps_groups, flush_groups, flushed_by, misses_groups}
 
@@ -98,31 +99,27 @@ module _ (f s : ℕ) (u : FlushData) (W : Words) (t : IsTable f s W) where
     left : 2 ^ f - (i + 1) < 2 ^ f - u.next
     left = let low = n.low in let high = n.high in omega (arith, low, high)
 
-    pub flush_first : group_at W.firsts i ≡ None → Steps f s (Flush u) W (First i) (Flush (come_to (i + 1))) (with_first W i w)
-    flush_first none = record {
+    stores : (did : Did) → HasPassed s did (Flush (come_to (i + 1))) (with_first W i w).firsts → HeldAlong f did (group_held (Flush u) W.firsts) (group_held (Flush (come_to (i + 1))) (with_first W i w).firsts)
+        → Stored f s did (Flush u) W (Flush (come_to (i + 1))) (with_first W i w) → Steps f s (Flush u) W did (Flush (come_to (i + 1))) (with_first W i w)
+    stores did passed held stored = record {
       onward = further;
-      passed = omega arith;
+      passed = passed;
       table = table_first f s W i w t n.high last;
       under_way = let high = n.high in omega (arith, high);
       stands = stands;
       groups = λ L known b low. flush_groups u.next i w b W.firsts (L b) within n.low n.skipped last.1 (known b low);
-      held = λ b low. keeps_groups W.firsts i b w within none last.1;
+      held = held;
       left = λ _. left;
-      stored = stored_first (IsNextFirst f s (Flush u) W i) W i w within (n, none);
+      stored = stored;
     }
 
+    pub flush_first : group_at W.firsts i ≡ None → Steps f s (Flush u) W (First i) (Flush (come_to (i + 1))) (with_first W i w)
+    flush_first none =
+        stores (First i) (omega arith) (λ b low. keeps_groups W.firsts i b w within none last.1) (stored_first (IsNextFirst f s (Flush u) W i) W i w within (n, none))
+
     pub flush_unlink : (g : ℕ) → group_at W.firsts i ≡ Some g → Steps f s (Flush u) W (Unlinked i g) (Flush (come_to (i + 1))) (with_first W i w)
-    flush_unlink g some = record {
-      onward = further;
-      passed = omega arith;
-      table = table_first f s W i w t n.high last;
-      under_way = let high = n.high in omega (arith, high);
-      stands = stands;
-      groups = λ L known b low. flush_groups u.next i w b W.firsts (L b) within n.low n.skipped last.1 (known b low);
-      held = gives_up f W.firsts i g w n.high within some last.1;
-      left = λ _. left;
-      stored = stored_first (IsNextUnlink f s (Flush u) W i g) W i w within (n, some);
-    }
+    flush_unlink g some =
+        stores (Unlinked i g) (omega arith) (gives_up f W.firsts i g w n.high within some last.1) (stored_first (IsNextUnlink f s (Flush u) W i g) W i w within (n, some))
 
   pub flush_done : (v : FlushData) → u.next ≤ v.next → v.next ≡ 2 ^ f → AllMiss W.firsts u.next v.next → Steps f s (Flush u) W Done (Flush v) W
   flush_done v low over misses = record {

@@ -12,14 +12,15 @@ use Rattle.lpm_update.specs.declared.Did.TheVariants.{First, Second, Unlinked, D
 use Rattle.lpm_update.specs.declared.rewrite.Rewrite.{Rewrite}
 use Rattle.lpm_update.specs.declared.rewrite_range.RewriteRange.{RewriteRange}
 use Rattle.lpm_update.specs.declared.unlink_group.UnlinkGroup.{UnlinkGroup}
+use Rattle.lpm_update.specs.declared.update.Plan.{Plan}
 use Rattle.lpm_update.specs.declared.update.Plan.TheVariants.{Range, Unlink}
 use Rattle.lpm_update.specs.Rewrite.{Stands, Skips}
 use Rattle.lpm_update.specs.Linked.{IsTable, IsLinkTo, group_at}
 use Rattle.lpm_update.specs.RewriteRange.{IsFurther}
 use Rattle.lpm_update.specs.LinkGroup.{final_entry}
 use Rattle.lpm_update.specs.UnlinkGroup.{IsUnlinking, IsUnlinkStore, IsOneEntry}
-use Rattle.lpm_update.specs.Update.{IsUnderWay, IsNextUnlink, places_left}
-use Rattle.lpm_update.specs.Step.{Steps}
+use Rattle.lpm_update.specs.Update.{IsUnderWay, IsNextUnlink, SameGroups, group_held, places_left}
+use Rattle.lpm_update.specs.Step.{HasPassed, HeldAlong, Steps, Stored}
 use Rattle.lpm_update.proofs.Places.{first_same, first_other, first_room, in_group, last_no_group, table_first, stored_first}
 use Rattle.lpm_update.proofs.Uniform.{uniform_words}
 use Rattle.lpm_update.proofs.Groups.{gives_up, group_set_same, group_set_other, last_none, not_unlinked, here_is, there_is}
@@ -108,34 +109,30 @@ unlinking_along f s u r block W W' k same now stands held = record {
 
 module _ (f s : ℕ) (u : UnlinkGroup) (W : Words) (there : u.unlinked ≡ false) where
   module _ (k : IsUnlinking f s u.range u.block W) (r : RewriteRange) (W' : Words) where
+    abbrev v : Plan
+    v = Unlink (record u { range = r })
+
+    of_range : (did : Did) → (did ≡ Done → ⊥) → Steps f s (Range u.range) W did (Range r) W' → SameGroups f (group_held (Unlink u) W.firsts) (group_held v W'.firsts)
+        → HasPassed s did v W'.firsts → HeldAlong f did (group_held (Unlink u) W.firsts) (group_held v W'.firsts) → Stored f s did (Unlink u) W v W' → Steps f s (Unlink u) W did v W'
+    of_range did n h same passed held stored =
+        let left = h.left n in
+        record {
+          onward = (h.onward, refl, λ e. e);
+          passed = passed;
+          table = h.table;
+          under_way = ((λ _. unlinking_along f s u.range r u.block W W' k h.onward h.under_way h.stands (same u.block k.in_table)), λ e. both_ways u.unlinked e there);
+          stands = h.stands;
+          groups = λ L known b low. same b low ∙ known b low;
+          held = held;
+          left = λ _. omega (arith, left);
+          stored = stored;
+        }
+
     -- a step of the range is one of the change
     pub unlink_range : (did : Did) → (did ≡ Done → ⊥) → Steps f s (Range u.range) W did (Range r) W' → Steps f s (Unlink u) W did (Unlink (record u { range = r })) W'
     unlink_range (First i) n h =
-        let left = h.left n in
-        record {
-          onward = (h.onward, refl, λ e. e);
-          passed = inl (h.passed, λ q. last_no_group (entry_in (slice_index W.firsts i)) k.group.0 h.stored.0.last (ap (λ x. entry_in (slice_index W.firsts x)) q ∙ k.group.1));
-          table = h.table;
-          under_way = ((λ _. unlinking_along f s u.range r u.block W W' k h.onward h.under_way h.stands (h.held u.block k.in_table)), λ e. both_ways u.unlinked e there);
-          stands = h.stands;
-          groups = λ L known b low. h.held b low ∙ known b low;
-          held = h.held;
-          left = λ _. omega (arith, left);
-          stored = ((there, h.stored.0), h.stored.1);
-        }
-    unlink_range (Second j) n h =
-        let left = h.left n in
-        record {
-          onward = (h.onward, refl, λ e. e);
-          passed = inl h.passed;
-          table = h.table;
-          under_way = ((λ _. unlinking_along f s u.range r u.block W W' k h.onward h.under_way h.stands (h.held u.block k.in_table)), λ e. both_ways u.unlinked e there);
-          stands = h.stands;
-          groups = λ L known b low. h.held b low ∙ known b low;
-          held = h.held;
-          left = λ _. omega (arith, left);
-          stored = ((there, h.stored.0), h.stored.1);
-        }
+        of_range (First i) n h h.held (inl (h.passed, λ q. last_no_group (entry_in (slice_index W.firsts i)) k.group.0 h.stored.0.last (ap (λ x. entry_in (slice_index W.firsts x)) q ∙ k.group.1))) h.held ((there, h.stored.0), h.stored.1)
+    unlink_range (Second j) n h = of_range (Second j) n h h.held (inl h.passed) h.held ((there, h.stored.0), h.stored.1)
     unlink_range (Unlinked b g) n h = absurd h.stored.0
     unlink_range Done n h = absurd (n refl)
 
