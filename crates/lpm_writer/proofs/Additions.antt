@@ -1,5 +1,5 @@
 -- A rule is added, by the group that was found for it.
-use Rattle.std.proofs.Common.{arith, ◌≡◌, ◌≢◌, ℕ, zero, suc, ◌+◌, ◌-◌, ◌/◌, ◌^◌, ◌<◌, inl, inr, refl, ap, sym, ◌∙◌, subst, List, length, Option, Some, None, Bool, true, false, cond}
+use Rattle.std.proofs.Common.{arith, ◌≡◌, ◌≢◌, ℕ, zero, suc, ◌+◌, ◌-◌, ◌/◌, ◌^◌, ◌<◌, ◌≤◌, inl, inr, refl, ap, sym, ◌∙◌, subst, List, length, Option, Some, None, Bool, true, false, cond}
 use Rattle.std.specs.Prelude.{IsSome, IsSomeAnd, MatchResult, OnOk, Ok, Err, Result}
 use Rattle.std.specs.FinMap.{get, insert, len}
 use Rattle.std.specs.FinSet as set
@@ -7,7 +7,8 @@ use Rattle.std.specs.Cmp.{nat_cmp_total}
 use Rattle.std.proofs.lemmas.Bool.{cases_eq, cases_lt}
 use Rattle.std.proofs.lemmas.List.{length-map}
 use Rattle.std.proofs.lemmas.Option.{slice_get_within}
-use Rattle.lpm_bits.specs.Network.{Network}
+use Rattle.lpm_bits.specs.Network.{Network, IsNetwork}
+use Rattle.lpm_cells.specs.Table.{Words}
 use Rattle.lpm_groups.specs.declared.GroupState.TheVariants.{Linked}
 use Rattle.lpm_groups.specs.States.{linked_count, free_count}
 use Rattle.lpm_groups.proofs.Tallies.{counts-total}
@@ -25,21 +26,25 @@ use Rattle.lpm_rules.proofs.Deep.{has_deep_blocks}
 use Rattle.lpm_rules.proofs.DeepChanges.{put_brings_block}
 use Rattle.lpm_update.specs.declared.update.Plan.{Plan}
 use Rattle.lpm_update.specs.Linked.{group_at}
-use Rattle.lpm_update.specs.Represents.{AddFits, held_with}
+use Rattle.lpm_update.specs.Represents.{AddFits, IsBegun, Represents, TurnsInto, held_with}
 use Rattle.lpm_update.specs.Tied.{IsTied}
 use Rattle.lpm_update.specs.Update.{FillsFor, group_held}
 use Rattle.lpm_update.proofs.Promises.{tied_same, tied_taken}
 use Rattle.fib_model.specs.State.{State, Transitions, HasTokens}
 use Rattle.fib_model.specs.Reclaiming.{Unlinks}
 use Rattle.fib_model.specs.Outcomes.{groups_in_use, LacksGroup, TakesGroup, Adds}
+use Rattle.lpm_trace.specs.declared.step.RuleChange.{RuleChange}
+use Rattle.lpm_trace.specs.declared.step.RuleChange.TheVariants.{Put as Puts}
 use Rattle.lpm_trace.specs.declared.step.WriterStep.{WriterStep}
-use Rattle.lpm_trace.specs.States.{InitialState, state_after}
+use Rattle.lpm_trace.specs.States.{InitialState, IsChange, rules_by, state_after}
 use Rattle.lpm_writer.specs.declared.pool.GroupPool.{GroupPool}
-use Rattle.lpm_writer.specs.Waiting.{tokens_of}
+use Rattle.lpm_writer.specs.Waiting.{IsQueued, tokens_of}
+use Rattle.lpm_writer.specs.Matching.{GroupsMatchSteps, OnlyChecks}
 use Rattle.lpm_writer.specs.Making.{group_to_fill, IsTakenBy}
 use Rattle.lpm_writer.specs.Taking.{Finds, NeedsGroup}
 use Rattle.lpm_writer.specs.Changing.{Changes}
-use Rattle.lpm_writer.specs.Resting.{IsResting, state_of}
+use Rattle.lpm_writer.specs.Resting.{IsResting, IsDue, state_of}
+use Rattle.lpm_writer.proofs.Once.{StoresNothing}
 use Rattle.lpm_writer.proofs.Rests.{linked_resting, none_fills, some_fills}
 
 abbrev Ok' : Put → Result Put RuleFault
@@ -143,18 +148,14 @@ module _ (f s : ℕ) (c : InitialState) (steps : List WriterStep) (config : Conf
 
     -- ---- the change that adds the rule
 
-    pub found_states : (group : Option ℕ) (z : X) (mid : GroupPool) → Finds t f s (state_after c steps).words.firsts p x pool (Ok group) z mid → length mid.groups ≡ length pool.groups
+    found_states : (group : Option ℕ) (z : X) (mid : GroupPool) → Finds t f s (state_after c steps).words.firsts p x pool (Ok group) z mid → length mid.groups ≡ length pool.groups
     found_states None z mid found = ap (λ (b : GroupPool). length b.groups) found.0
     found_states (Some g) z mid found = found.1.as_many
-
-    pub found_long : (group : Option ℕ) (z : X) (mid : GroupPool) → Finds t f s (state_after c steps).words.firsts p x pool (Ok group) z mid → IsSome group → f < p.len
-    found_long None z mid found some = absurd cc
-    found_long (Some g) z mid found some = found.0.0
 
     fresh_group : (g : ℕ) (z : X) (mid : GroupPool) → Finds t f s (state_after c steps).words.firsts p x pool (Ok (Some g)) z mid → g < length pool.groups
     fresh_group g z mid found = subst (λ n. g < n) found.1.as_many (slice_get_within mid.groups g (Linked (p.bits / 2 ^ s)) found.1.here)
 
-    pub found_fits : (group : Option ℕ) (z : X) (mid : GroupPool) → Finds t f s (state_after c steps).words.firsts p x pool (Ok group) z mid → AddFits f s rules.rules p (state_after c steps).words group
+    found_fits : (group : Option ℕ) (z : X) (mid : GroupPool) → Finds t f s (state_after c steps).words.firsts p x pool (Ok group) z mid → AddFits f s rules.rules p (state_after c steps).words group
     found_fits None z mid found = λ long. elim found.2 [
       | inl short ↦ absurd (omega (arith, short, long))
       | inr some ↦ deep some
@@ -162,7 +163,7 @@ module _ (f s : ℕ) (c : InitialState) (steps : List WriterStep) (config : Conf
     found_fits (Some g) z mid found =
         (found.0.0, shallow found.0.1, (tied_taken f s (state_after c steps).words pool.groups g rest.represents.table rest.room rest.tied (fresh_group g z mid found) found.1.unlinked).0)
 
-    pub found_tied : (group : Option ℕ) (z : X) (mid : GroupPool) (u : Plan) → Finds t f s (state_after c steps).words.firsts p x pool (Ok group) z mid
+    found_tied : (group : Option ℕ) (z : X) (mid : GroupPool) (u : Plan) → Finds t f s (state_after c steps).words.firsts p x pool (Ok group) z mid
         → ((firsts : List ℕ) (i : ℕ) → group_held u firsts i ≡ held_with group (p.bits / 2 ^ s) firsts i) → IsTied f mid.groups (group_held u (state_after c steps).words.firsts)
     found_tied None z mid u found held = subst (λ (b : GroupPool). IsTied f b.groups (group_held u (state_after c steps).words.firsts)) (sym found.0)
         (tied_same f pool.groups (group_at (state_after c steps).words.firsts) (group_held u (state_after c steps).words.firsts) (λ i _. held (state_after c steps).words.firsts i) rest.tied)
@@ -171,10 +172,42 @@ module _ (f s : ℕ) (c : InitialState) (steps : List WriterStep) (config : Conf
         tied_same f mid.groups (held_with (Some g) (p.bits / 2 ^ s) (state_after c steps).words.firsts) (group_held u (state_after c steps).words.firsts) (λ i _. held (state_after c steps).words.firsts i)
         (taken.1 mid.groups (p.bits / 2 ^ s) low found.0.1 found.1.here found.1.others)
 
-    pub found_fills : (group : Option ℕ) (z : X) (mid : GroupPool) (u : Plan) → Finds t f s (state_after c steps).words.firsts p x pool (Ok group) z mid → FillsFor u group (p.bits / 2 ^ s)
+    found_fills : (group : Option ℕ) (z : X) (mid : GroupPool) (u : Plan) → Finds t f s (state_after c steps).words.firsts p x pool (Ok group) z mid → FillsFor u group (p.bits / 2 ^ s)
         → (group_to_fill u (state_after c steps).words.firsts ≡ group) × IsTakenBy u None
     found_fills None z mid u found fills = none_fills u (p.bits / 2 ^ s) (state_after c steps).words.firsts fills
     found_fills (Some g) z mid u found fills = some_fills u g (p.bits / 2 ^ s) (state_after c steps).words.firsts fills found.0.1
+
+    -- the update is due, once the group was found
+    pub found_due : (h : ℕ) (group : Option ℕ) (z : X) (mid : GroupPool) (later : List WriterStep) (new : RuleList) (u : Plan) (change : RuleChange)
+        → Finds t f s (state_after c steps).words.firsts p x pool (Ok group) z mid → OnlyChecks c steps later → StoresNothing steps later → GroupsMatchSteps c later mid.groups mid.queue.items mid.passed group → IsQueued mid.groups mid.queue
+        → ((R : RuleMap) (W : Words) → Represents f s R W → AddFits f s R p W group → IsBegun f s u W × TurnsInto f s u R (insert R p h))
+        → FillsFor u group (p.bits / 2 ^ s) → ((firsts : List ℕ) (i : ℕ) → group_held u firsts i ≡ held_with group (p.bits / 2 ^ s) firsts i)
+        → new ≡ with_rule rules p h → change ≡ Puts p.bits p.len h → IsNetwork (f + s) p × (h < 2 ^ 24)
+        → ((state_after c steps).token + config.groups ≤ 2 ^ 62) × (begun < 2 ^ 61) → IsDue f s c later config new mid begun u change
+    found_due h group z mid later new u change found still nothing keeps queued fitting fills held put is sound left =
+        let taken = found_fills group z mid u found fills in
+        let begins = fitting rules.rules (state_after c steps).words rest.represents (found_fits group z mid found) in
+        let put_in = ap (λ (r : RuleList). r.rules) put in
+        record {
+          older = steps;
+          before = rules;
+          kept = pool;
+          rested = rest;
+          still = still;
+          once = nothing.once rest.between.once;
+          states = found_states group z mid found;
+          queued = queued;
+          tied = found_tied group z mid u found held;
+          keeps = subst (GroupsMatchSteps c later mid.groups mid.queue.items mid.passed) (sym taken.0) keeps;
+          fresh = taken.1;
+          begins = begins.0;
+          turns = subst (TurnsInto f s u rules.rules) (sym put_in) begins.1;
+          makes = ap (rules_by rules.rules) is ∙ sym put_in;
+          max = ap (λ (r : RuleList). r.max) put;
+          sound = subst (IsChange (f + s)) (sym is) sound;
+          tokens = left.0;
+          few = left.1;
+        }
 
     -- ---- outcomes
 
@@ -183,11 +216,11 @@ module _ (f s : ℕ) (c : InitialState) (steps : List WriterStep) (config : Conf
     none_unlinked (suc n) y z limbo limbo' e u = absurd (omega (arith, e))
 
     -- an add that was made with the group that was found for it
-    pub found_adds : (h : ℕ) (put : Put) (group : Option ℕ) (y z : X) (mid new : GroupPool) (rules' : RuleList) → Finds t f s (state_after c steps).words.firsts p x pool (Ok group) y mid
-        → Changes t config y mid z new → linked_count new.groups ≡ groups_in_use f s rules'.rules → rules'.rules ≡ insert rules.rules p h
+    pub found_adds : (h : ℕ) (put : Put) (group : Option ℕ) (y z : X) (mid new : GroupPool) (rules' : RuleList) (begun' : ℕ) → Finds t f s (state_after c steps).words.firsts p x pool (Ok group) y mid
+        → Changes t config y mid z new → linked_count new.groups ≡ groups_in_use f s rules'.rules → rules'.rules ≡ insert rules.rules p h → begun' ≡ begun + 1
         → put ≢ Unchanged → (Ok' put ≡ Ok' Replaced → IsSomeAnd (get rules.rules p) (λ old. old ≢ h)) → (Ok' put ≡ Ok' Added → (get rules.rules p ≡ None) × (len rules.rules < rules.max))
-        → HasTokens t config (state_of rules.rules x pool begun) → Adds t f s config (state_of rules.rules x pool begun) p h (Ok put) (state_of rules'.rules z new (begun + 1))
-    found_adds h put group y z mid new rules' found changes linked made other replaced added left =
+        → HasTokens t config (state_of rules.rules x pool begun) → Adds t f s config (state_of rules.rules x pool begun) p h (Ok put) (state_of rules'.rules z new begun')
+    found_adds h put group y z mid new rules' begun' found changes linked made next other replaced added left =
         let none = none_unlinked (linked_count mid.groups - linked_count new.groups) changes.opened changes.last (tokens_of mid.queue.items) (tokens_of new.queue.items)
         (omega (arith, linked ∙ ap (groups_in_use f s) made, found_linked h group y mid found)) changes.unlinks in
         let takes = takes_group group y mid found in
@@ -198,14 +231,14 @@ module _ (f s : ℕ) (c : InitialState) (steps : List WriterStep) (config : Conf
 
         by_put : (put : Put) → put ≢ Unchanged → (Ok' put ≡ Ok' Replaced → IsSomeAnd (get rules.rules p) (λ old. old ≢ h)) → (Ok' put ≡ Ok' Added → (get rules.rules p ≡ None) × (len rules.rules < rules.max))
             → TakesGroup t f s config (state_of rules.rules x pool begun) p (tokens_of mid.queue.items) y → ((k : X) × t.begins y k × t.ends k z) → tokens_of new.queue.items ≡ tokens_of mid.queue.items
-            → Adds t f s config (state_of rules.rules x pool begun) p h (Ok put) (state_of rules'.rules z new (begun + 1))
+            → Adds t f s config (state_of rules.rules x pool begun) p h (Ok put) (state_of rules'.rules z new begun')
         by_put Unchanged other r a takes updates same = absurd (other refl)
         by_put Replaced other r a takes updates same =
             let still = takes.1 (λ k. some_none (get rules.rules p) (λ old. old ≢ h) (r refl) k.absent) in
-            (r refl, left, (updates.0, subst (λ q. t.begins q updates.0) still.1 updates.1, updates.2), (made, refl), same ∙ still.0)
+            (r refl, left, (updates.0, subst (λ q. t.begins q updates.0) still.1 updates.1, updates.2), (made, next), same ∙ still.0)
         by_put Added other r a takes updates same =
             let k = a refl in
-            ((k.0, left, subst (λ m. len rules.rules < m) rest.max k.1), (y, subst (λ l. TakesGroup t f s config (state_of rules.rules x pool begun) p l y) (sym same) takes, updates), (made, refl))
+            ((k.0, left, subst (λ m. len rules.rules < m) rest.max k.1), (y, subst (λ l. TakesGroup t f s config (state_of rules.rules x pool begun) p l y) (sym same) takes, updates), (made, next))
 
     -- an add that finds no group
     pub none_adds : (h : ℕ) (oldest : Option Busy) (z : X) (mid : GroupPool) → Finds t f s (state_after c steps).words.firsts p x pool (Err oldest) z mid → mid.queue ≡ pool.queue → len rules.rules < rules.max

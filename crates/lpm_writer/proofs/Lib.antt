@@ -1,3 +1,4 @@
+pub mod Memories
 pub mod LimboItems
 pub mod Loading
 pub mod Checks

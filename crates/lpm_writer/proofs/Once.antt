@@ -14,7 +14,7 @@ use Rattle.lpm_update.specs.declared.Did.TheVariants.{First, Second, Unlinked, D
 use Rattle.lpm_update.specs.declared.update.Plan.{Plan}
 use Rattle.lpm_update.specs.Linked.{IsTable}
 use Rattle.lpm_update.specs.Runs.{IsSameWord}
-use Rattle.lpm_update.specs.Step.{Steps, HasPassed}
+use Rattle.lpm_update.specs.Step.{Steps}
 use Rattle.lpm_update.specs.Update.{IsUnderWay}
 use Rattle.lpm_update.proofs.Promises.{passed_stays, not_twice}
 use Rattle.lpm_trace.specs.declared.step.WriterStep.{WriterStep}
@@ -26,51 +26,27 @@ use Rattle.lpm_writer.specs.declared.pool.GroupPool.{GroupPool}
 use Rattle.lpm_writer.specs.Traced.{Traced, Loads, Asks, Checks, Retires, by_writer}
 use Rattle.lpm_writer.specs.Taking.{Takes, Finds}
 use Rattle.lpm_writer.specs.Stores.{StoreSameWord, since_opened, StoresOnce}
-use Rattle.lpm_writer.specs.Making.{HasPassedStore, HasPassedStores}
+use Rattle.lpm_writer.specs.Making.{HasPassedStore, HasPassedStores, stored_by}
 
 -- ---- from store to store
 
--- what a step stored, as a change tells it
-abbrev as_did : WriterStep → Did
-as_did (StoreFirst i x) = First i
-as_did (StoreSecond j x) = Second j
-as_did other = Done
-
-passed_did : (s : ℕ) (v : Plan) (F : List ℕ) (e : WriterStep) → HasPassedStore s v F e → HasPassed s (as_did e) v F
-passed_did s v F (StoreFirst i x) h = h
-passed_did s v F (StoreSecond j x) h = h
-passed_did s v F (BeginUpdate change) h = tt
-passed_did s v F EndUpdate h = tt
-passed_did s v F BumpToken h = tt
-passed_did s v F (LoadCounter t w k) h = tt
-
-did_passed : (s : ℕ) (v : Plan) (F : List ℕ) (e : WriterStep) → HasPassed s (as_did e) v F → HasPassedStore s v F e
-did_passed s v F (StoreFirst i x) h = h
-did_passed s v F (StoreSecond j x) h = h
-did_passed s v F (BeginUpdate change) h = tt
-did_passed s v F EndUpdate h = tt
-did_passed s v F BumpToken h = tt
-did_passed s v F (LoadCounter t w k) h = tt
-
 -- the change has just stored the word that the step stores
 abbrev pub IsStoreOf : WriterStep → Did → Type 0
-IsStoreOf step did = (e : WriterStep) → StoreSameWord step e → IsSameWord (as_did e) did
+IsStoreOf step did = (e : WriterStep) → StoreSameWord step e → IsSameWord (stored_by e) did
+
+same_first : (i x : ℕ) (did : Did) → ((k : ℕ) → k ≡ i → IsSameWord (First k) did) → IsStoreOf (StoreFirst i x) did
+same_first i x did is (StoreFirst k y) h = is k (sym h)
+same_first i x did is (StoreSecond k y) h = absurd h
+same_first i x did is (BeginUpdate change) h = absurd h
+same_first i x did is EndUpdate h = absurd h
+same_first i x did is BumpToken h = absurd h
+same_first i x did is (LoadCounter t w k) h = absurd h
 
 pub store_first : (i x : ℕ) → IsStoreOf (StoreFirst i x) (First i)
-store_first i x (StoreFirst k y) h = sym h
-store_first i x (StoreSecond k y) h = absurd h
-store_first i x (BeginUpdate change) h = absurd h
-store_first i x EndUpdate h = absurd h
-store_first i x BumpToken h = absurd h
-store_first i x (LoadCounter t w k) h = absurd h
+store_first i x = same_first i x (First i) (λ k e. e)
 
 pub store_unlink : (i x g : ℕ) → IsStoreOf (StoreFirst i x) (Unlinked i g)
-store_unlink i x g (StoreFirst k y) h = sym h
-store_unlink i x g (StoreSecond k y) h = absurd h
-store_unlink i x g (BeginUpdate change) h = absurd h
-store_unlink i x g EndUpdate h = absurd h
-store_unlink i x g BumpToken h = absurd h
-store_unlink i x g (LoadCounter t w k) h = absurd h
+store_unlink i x g = same_first i x (Unlinked i g) (λ k e. e)
 
 pub store_second : (j x : ℕ) → IsStoreOf (StoreSecond j x) (Second j)
 store_second j x (StoreFirst k y) h = absurd h
@@ -86,13 +62,13 @@ module _ (f s : ℕ) (v v' : Plan) (t t' : Words) (did : Did) (table : IsTable f
   pub passed_on : HasPassedStores s v' t'.firsts steps
   passed_on = λ n d low.
       let e = slice_index_or (since_opened steps) n d in
-      did_passed s v' t'.firsts e (passed_stays f s (as_did e) did v v' t t' under (passed_did s v t.firsts e (passed n d low)) st)
+      passed_stays f s (stored_by e) did v v' t t' under (passed n d low) st
 
   -- the word of the store is none of those that were stored before
   pub new_word : (step : WriterStep) → IsStoreOf step did → All (λ earlier. ¬ StoreSameWord step earlier) (since_opened steps)
   new_word step is = λ n d low same.
       let e = slice_index_or (since_opened steps) n d in
-      not_twice f s (as_did e) did v v' t t' table under (passed_did s v t.firsts e (passed n d low)) st.stored (is e same)
+      not_twice f s (stored_by e) did v v' t t' table under (passed n d low) st.stored (is e same)
 
 -- ---- steps that store nothing
 

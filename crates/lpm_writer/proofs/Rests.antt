@@ -1,5 +1,5 @@
 -- What a writer keeps, before and after its commands.
-use Rattle.std.proofs.Common.{arith, ◌≡◌, ℕ, ◌+◌, ◌-◌, ◌*◌, ◌%◌, ◌^◌, ◌<◌, ◌≤◌, inl, inr, refl, sym, ap, subst, ◌∙◌, List, length, Option, Some, None, Bool, false}
+use Rattle.std.proofs.Common.{arith, ◌≡◌, ℕ, ◌+◌, ◌-◌, ◌*◌, ◌%◌, ◌^◌, ◌<◌, ◌≤◌, inl, inr, refl, sym, ap, subst, ◌∙◌, List, ◌∷◌, length, Option, Some, None, Bool, false}
 use Rattle.std.specs.Prelude.{IsTrue, ◌↔◌}
 use Rattle.std.proofs.lemmas.Bool.{cases_lt}
 use Rattle.lpm_cells.specs.Table.{Words, entry_at}
@@ -19,17 +19,22 @@ use Rattle.fib_model.specs.Reclaiming.{Unlinks}
 use Rattle.fib_model.specs.Outcomes.{groups_in_use, Shrinks}
 use Rattle.lpm_trace.specs.declared.step.RuleChange.{RuleChange}
 use Rattle.lpm_trace.specs.declared.step.WriterStep.{WriterStep}
+use Rattle.lpm_trace.specs.declared.step.WriterStep.TheVariants.{BeginUpdate, EndUpdate}
 use Rattle.lpm_trace.specs.States.{InitialState, TableState, state_after, answer, IsAnswer, IsChange, updates_done_in, done_at, rules_by}
+use Rattle.lpm_trace.specs.Writer.{MayStep}
 use Rattle.lpm_writer.specs.declared.pool.GroupPool.{GroupPool}
 use Rattle.lpm_writer.specs.Waiting.{IsFreed, IsQueued, tokens_of}
 use Rattle.lpm_writer.specs.Traced.{by_writer}
 use Rattle.lpm_writer.specs.Matching.{HasNothingDue, SameTables, OnlyChecks, GroupsMatchSteps}
 use Rattle.lpm_writer.specs.Stores.{StoresOnce}
 use Rattle.lpm_writer.specs.Taking.{MayTake}
-use Rattle.lpm_writer.specs.Making.{group_to_fill, unless_linked, HasWidths, IsTakenBy, answer_after}
-use Rattle.lpm_writer.specs.Changing.{IsBetween, MayChange, HasChanged}
-use Rattle.lpm_writer.specs.Resting.{IsResting, state_of}
+use Rattle.lpm_writer.specs.Making.{group_to_fill, unless_linked, IsTakenBy, answer_after, MayMake, HasMade}
+use Rattle.lpm_writer.specs.Changing.{IsBetween, Changes}
+use Rattle.lpm_writer.specs.Resting.{IsResting, IsDue, state_of}
+use Rattle.lpm_writer.proofs.Memories.{AsMemory}
+use Rattle.lpm_writer.proofs.Checks.{quiet_same}
 use Rattle.lpm_writer.proofs.Once.{StoresNothing}
+use Rattle.lpm_writer.proofs.WholeUpdates.{MayChange, may_open, after_open, after_close}
 use Rattle.lpm_writer.proofs.UpdateRuns.{fit}
 
 -- a change that fills no group
@@ -58,65 +63,10 @@ some_fills (Flush u) g block F h none = absurd (some_is g h)
     some_is : (g : ℕ) → Some g ≡ None → ⊥
     some_is g e = cc
 
--- an update that turns these rules into those of the change may be made
--- a number of versions that is bounded bounds the updates that are done
-pub few_begun : (begun ended : ℕ) → begun ≡ ended → begun < 2 ^ 61 → ended < 2 ^ 61
-few_begun begun ended e low = subst (λ n. n < 2 ^ 61) e low
-
-pub may_change : (f s : ℕ) (c : InitialState) (steps : List WriterStep) (rules R : RuleMap) (u : Plan) (change : RuleChange) (held : Option ℕ) (now : GroupPool) → HasWidths f s c → IsBetween c steps → updates_done_in (state_after c steps) < 2 ^ 61
-    → (state_after c steps).history (updates_done_in (state_after c steps)) ≡ rules → Represents f s rules (state_after c steps).words → IsBegun f s u (state_after c steps).words → TurnsInto f s u rules R → rules_by rules change ≡ R
-    → IsChange (f + s) change → (group_to_fill u (state_after c steps).words.firsts ≡ held) × IsTakenBy u None
-    → GroupsMatchSteps c steps now.groups now.queue.items now.passed held → MayChange f s c steps u change now
-may_change f s c steps rules R u change held now widths between few version represented may turns makes sound fills keeps =
-    let w : TableState = state_after c steps in
-    let represents = fit (λ a b. Represents a b rules w.words) f s c widths represented in
-    let turns' = fit (λ a b. TurnsInto a b u rules R) f s c widths turns in
-    record {
-      widths = widths;
-      between = between;
-      few = few;
-      table = represents.table;
-      begun = fit (λ a b. IsBegun a b u w.words) f s c widths may;
-      fresh = fills.1;
-      sound = fit (λ a b. IsChange (a + b) change) f s c widths sound;
-      old = λ a low. subst (λ r. IsAnswer c r a (answer c w.words a)) (sym version) (best_hop (c.first + c.second) rules a (entry_at c.second w.words a) (represents.best a low));
-      new = λ a low. subst (λ r. IsAnswer c r a (answer_after c u w.words a)) (sym (ap (λ r. rules_by r change) version ∙ makes))
-          (best_hop (c.first + c.second) R a (entry_after (c.first + c.second) u (entry_at c.second w.words) a) (turns'.best (entry_at c.second w.words) represents.best a low));
-      keeps = subst (λ o. GroupsMatchSteps c steps now.groups now.queue.items now.passed o) (sym fills.0) keeps;
-    }
-
-module _ (f s : ℕ) (c : InitialState) (steps : List WriterStep) (config : Config) (rules : RuleList) (pool : GroupPool) (begun : ℕ) (rest : IsResting f s c steps config rules pool begun) where
-  module _ {M : Type 0} (does : M → WriterStep → M → Type 0) (m z : M) (mid later : List WriterStep) (change : RuleChange) (now new : GroupPool) (rules' : RuleList)
-      (made : HasChanged does c config change m mid now z later new) where
-    -- what is kept after the update
-    pub rests_after : (state_after c mid).history (updates_done_in (state_after c mid)) ≡ rules.rules → begun ≡ updates_done_in (state_after c mid) → Represents f s rules'.rules (state_after c later).words → IsTied f new.groups (group_at (state_after c later).words.firsts)
-        → length (state_after c later).words.seconds ≡ length (state_after c steps).words.seconds
-        → IsQueued new.groups new.queue → length new.groups ≡ length pool.groups → rules_by rules.rules change ≡ rules'.rules → rules'.max ≡ rules.max → begun < 2 ^ 61
-        → IsResting f s c later config rules' new (begun + 1)
-    rests_after version number represents tied sizes queued states makes max few = record {
-      shape = rest.shape;
-      widths = rest.widths;
-      workers = rest.workers;
-      between = made.between;
-      version = made.rules ∙ ap (λ r. rules_by r change) version ∙ makes;
-      represents = represents;
-      tied = tied;
-      room = record {
-        few = subst (λ n. n ≤ 65536) (sym states) rest.room.few;
-        words = sizes ∙ rest.room.words ∙ ap (λ n. n * 2 ^ s) (sym states);
-      };
-      queued = queued;
-      keeps = made.keeps;
-      limits = rest.limits;
-      max = max ∙ rest.max;
-      states = states ∙ rest.states;
-      versions = let next = made.next in omega (arith, next, number);
-      updates = omega (arith, few);
-    }
-
-  -- as many groups are linked as there are deep blocks
-  pub linked_resting : linked_count pool.groups ≡ groups_in_use f s rules.rules
-  linked_resting = linked_deep f s rules.rules (state_after c steps).words pool.groups rest.represents rest.tied
+-- as many groups are linked as there are deep blocks
+pub linked_resting : (f s : ℕ) (c : InitialState) (steps : List WriterStep) (config : Config) (rules : RuleList) (pool : GroupPool) (begun : ℕ) → IsResting f s c steps config rules pool begun
+    → linked_count pool.groups ≡ groups_in_use f s rules.rules
+linked_resting f s c steps config rules pool begun rest = linked_deep f s rules.rules (state_after c steps).words pool.groups rest.represents rest.tied
 
 -- ---- tokens and versions
 
@@ -135,41 +85,6 @@ has_tokens t config S b off k = (
     truth : (b : Bool) → b ≡ false → IsTrue b → ⊥
     truth b p q = cc
 
--- ---- after an update
-
-module _ {M : Type 0} (words : M → Words) (newest count : M → ℕ) (did : M → InitialState → List WriterStep → Type 0) (does : M → WriterStep → M → Type 0)
-    (shows : (m : M) (c : InitialState) (steps : List WriterStep) → did m c steps → (words m ≡ (state_after c steps).words) × (newest m ≡ (state_after c steps).token) × (count m ≡ c.workers))
-    (f s : ℕ) (c : InitialState) (steps : List WriterStep) (config : Config) (rules : RuleList) (pool : GroupPool) (begun : ℕ) (rest : IsResting f s c steps config rules pool begun)
-    (m : M) (did_m : did m c steps) where
-  -- each block has the group that is held for it
-  pub tied_held : (u : Plan) → ((firsts : List ℕ) (i : ℕ) → group_held u firsts i ≡ group_at firsts i) → IsTied f pool.groups (group_held u (words m).firsts)
-  tied_held u held = subst (λ (W : Words). IsTied f pool.groups (group_held u W.firsts)) (sym (shows m c steps did_m).0)
-      (tied_same f pool.groups (group_at (state_after c steps).words.firsts) (group_held u (state_after c steps).words.firsts) (λ i low. held (state_after c steps).words.firsts i) rest.tied)
-
-  pub rests_then : (z : M) (later : List WriterStep) (change : RuleChange) (now new : GroupPool) (rules' : RuleList) (u : Plan) → did z c later → HasChanged does c config change m steps now z later new
-      → ((R R' : RuleMap) → Represents f s R (words m) → TurnsInto f s u R R' → Represents f s R' (words z) × IsTied f new.groups (group_at (words z).firsts))
-      → length (words z).seconds ≡ length (words m).seconds → IsQueued new.groups new.queue → length new.groups ≡ length pool.groups
-      → TurnsInto f s u rules.rules rules'.rules → rules_by rules.rules change ≡ rules'.rules → rules'.max ≡ rules.max → begun < 2 ^ 61 → IsResting f s c later config rules' new (begun + 1)
-  rests_then z later change now new rules' u did_z made represents sizes queued states turns makes max few =
-      let old = (shows m c steps did_m).0 in
-      let now_seen = (shows z c later did_z).0 in
-      let end = represents rules.rules rules'.rules (subst (Represents f s rules.rules) (sym old) rest.represents) turns in
-      rests_after f s c steps config rules pool begun rest does m z steps later change now new rules' made rest.version rest.versions
-      (subst (Represents f s rules'.rules) now_seen end.0)
-      (subst (λ (W : Words). IsTied f new.groups (group_at W.firsts)) now_seen end.1)
-      (ap (λ (W : Words). length W.seconds) (sym now_seen) ∙ sizes ∙ ap (λ (W : Words). length W.seconds) old)
-      queued states makes max few
-
-  -- a change to fewer rules that was made
-  pub shrinks_then : (z : M) (later : List WriterStep) (change : RuleChange) (new : GroupPool) (rules' : RuleList) (R : RuleMap) → HasChanged does c config change m steps pool z later new
-      → IsResting f s c later config rules' new (begun + 1) → rules'.rules ≡ R → HasTokens (by_writer does c) config (state_of rules.rules (m, steps) pool begun)
-      → Shrinks (by_writer does c) f s config (state_of rules.rules (m, steps) pool begun) R (state_of rules'.rules (z, later) new (begun + 1))
-  shrinks_then z later change new rules' R made after gone tokens =
-      let k = made.changes in
-      let same : linked_count pool.groups - linked_count new.groups ≡ groups_in_use f s rules.rules - groups_in_use f s R =
-      omega (arith, linked_resting f s c steps config rules pool begun rest, linked_resting f s c later config rules' new (begun + 1) after, ap (groups_in_use f s) gone) in
-      (tokens, (k.opened, k.last, k.begins, subst (λ n. Unlinks (by_writer does c) config n k.opened (tokens_of pool.queue.items) k.last (tokens_of new.queue.items)) same k.unlinks, k.ends), (gone, refl))
-
 -- ---- after checks alone
 
 pub even_not : (n : ℕ) → n % 2 ≡ 0 → n % 2 ≡ 1 → ⊥
@@ -186,15 +101,9 @@ between_quiet c steps later between quiet idle once = record {
   once = once;
 }
 
-pub between_still : (c : InitialState) (steps later : List WriterStep) → IsBetween c steps → OnlyChecks c steps later → StoresNothing steps later → IsBetween c later
-between_still c steps later between still nothing = between_quiet c steps later between still.quiet still.idle (nothing.once between.once)
-
 version_quiet : (c : InitialState) (steps later : List WriterStep) (R : RuleMap) → (state_after c steps).history (updates_done_in (state_after c steps)) ≡ R → SameTables (state_after c steps) (state_after c later) → (state_after c later).history (updates_done_in (state_after c later)) ≡ R
 version_quiet c steps later R version quiet =
     ap (λ n. (state_after c later).history (done_at n)) quiet.sequence ∙ ap (λ h. h (updates_done_in (state_after c steps))) quiet.history ∙ version
-
-pub version_still : (c : InitialState) (steps later : List WriterStep) (R : RuleMap) → (state_after c steps).history (updates_done_in (state_after c steps)) ≡ R → OnlyChecks c steps later → (state_after c later).history (updates_done_in (state_after c later)) ≡ R
-version_still c steps later R version still = version_quiet c steps later R version still.quiet
 
 -- the token may be another
 pub rests_quiet : (f s : ℕ) (c : InitialState) (steps later : List WriterStep) (config : Config) (rules : RuleList) (pool new : GroupPool) (begun : ℕ) → IsResting f s c steps config rules pool begun
@@ -227,6 +136,141 @@ pub rests_still : (f s : ℕ) (c : InitialState) (steps later : List WriterStep)
     → length new.groups ≡ length pool.groups → IsResting f s c later config rules new begun
 rests_still f s c steps later config rules pool new begun rest still nothing keeps tied queued states =
     rests_quiet f s c steps later config rules pool new begun rest still.quiet still.idle (nothing.once rest.between.once) keeps tied queued states
+
+-- ---- an update
+
+module _ (f s : ℕ) (c : InitialState) (steps : List WriterStep) (config : Config) (rules : RuleList) (pool : GroupPool) (begun : ℕ) (u : Plan) (change : RuleChange) (due : IsDue f s c steps config rules pool begun u change) where
+  number : begun ≡ updates_done_in (state_after c steps)
+  number = due.rested.versions ∙ sym (ap done_at due.still.quiet.sequence)
+
+  version : (state_after c steps).history (updates_done_in (state_after c steps)) ≡ due.before.rules
+  version = version_quiet c due.older steps due.before.rules due.rested.version due.still.quiet
+
+  represents_now : Represents f s due.before.rules (state_after c steps).words
+  represents_now = subst (Represents f s due.before.rules) (sym due.still.quiet.words) due.rested.represents
+
+  -- the update may be made
+  may_change : MayChange f s c steps u change pool
+  may_change =
+      let w : TableState = state_after c steps in
+      let widths = due.rested.widths in
+      let represents = fit (λ a b. Represents a b due.before.rules w.words) f s c widths represents_now in
+      let turns = fit (λ a b. TurnsInto a b u due.before.rules rules.rules) f s c widths due.turns in
+      record {
+        widths = widths;
+        between = between_quiet c due.older steps due.rested.between due.still.quiet due.still.idle due.once;
+        few = subst (λ n. n < 2 ^ 61) number due.few;
+        table = represents.table;
+        begun = fit (λ a b. IsBegun a b u w.words) f s c widths (subst (IsBegun f s u) (sym due.still.quiet.words) due.begins);
+        fresh = due.fresh;
+        sound = fit (λ a b. IsChange (a + b) change) f s c widths due.sound;
+        old = λ a low. subst (λ r. IsAnswer c r a (answer c w.words a)) (sym version) (best_hop (c.first + c.second) due.before.rules a (entry_at c.second w.words a) (represents.best a low));
+        new = λ a low. subst (λ r. IsAnswer c r a (answer_after c u w.words a)) (sym (ap (λ r. rules_by r change) version ∙ due.makes))
+            (best_hop (c.first + c.second) rules.rules a (entry_after (c.first + c.second) u (entry_at c.second w.words) a) (turns.best (entry_at c.second w.words) represents.best a low));
+        keeps = subst (λ (W : Words). GroupsMatchSteps c steps pool.groups pool.queue.items pool.passed (group_to_fill u W.firsts)) (sym due.still.quiet.words) due.keeps;
+      }
+
+  pub due_step : MayStep c steps (BeginUpdate change)
+  due_step = may_open f s c steps u change pool may_change
+
+  pub due_few : updates_done_in (state_after c steps) < 2 ^ 61
+  due_few = subst (λ n. n < 2 ^ 61) number due.few
+
+  module _ {M : Type 0} (mem : AsMemory M) (m : M) (did : mem.says.did m c steps) (x : M) (opens : mem.says.does m (BeginUpdate change) x) where
+    did_open : mem.says.did x c (BeginUpdate change ∷ steps)
+    did_open = mem.follows m (BeginUpdate change) x c steps opens did due_step
+
+    seen : mem.cells.words x ≡ (state_after c steps).words
+    seen = (mem.shows x c (BeginUpdate change ∷ steps) did_open).0
+
+    -- the update has begun
+    pub due_opened : mem.says.did x c (BeginUpdate change ∷ steps) × MayMake f s c (BeginUpdate change ∷ steps) u pool × IsTied f pool.groups (group_held u (mem.cells.words x).firsts)
+        × (mem.says.newest x + length pool.groups ≤ 2 ^ 62)
+    due_opened = (
+      did_open,
+      after_open f s c steps u change pool may_change,
+      subst (λ (W : Words). IsTied f pool.groups (group_held u W.firsts)) (sym (seen ∙ due.still.quiet.words)) due.tied,
+      omega (arith, (mem.shows x c (BeginUpdate change ∷ steps) did_open).1, due.still.token, due.states, due.rested.states, due.tokens),
+    )
+
+    -- the update is done
+    module _ (y z : M) (later : List WriterStep) (new : GroupPool) (did_y : mem.says.did y c later) (made : HasMade mem.says.does c config x (BeginUpdate change ∷ steps) pool y later new) (closes : mem.says.does y EndUpdate z) where
+      did_close : mem.says.did z c (EndUpdate ∷ later)
+      did_close = mem.follows y EndUpdate z c later closes did_y made.may_close
+
+      pub due_closed : ((R R' : RuleMap) → Represents f s R (mem.cells.words x) → TurnsInto f s u R R' → Represents f s R' (mem.cells.words y) × IsTied f new.groups (group_at (mem.cells.words y).firsts))
+          → length (mem.cells.words y).seconds ≡ length (mem.cells.words x).seconds → IsQueued new.groups new.queue → length new.groups ≡ length pool.groups
+          → mem.says.did z c (EndUpdate ∷ later) × IsResting f s c (EndUpdate ∷ later) config rules new (begun + 1) × Changes (by_writer mem.says.does c) config (m, steps) pool (z, EndUpdate ∷ later) new
+      due_closed represents sizes queued as_many =
+          let rest = due.rested in
+          let done = after_close mem.says.does f s config c steps u change pool new m x y z later may_change opens made closes in
+          let now : mem.cells.words y ≡ (state_after c later).words = (mem.shows y c later did_y).0 in
+          let states = as_many ∙ due.states in
+          let next = done.next in
+          let few = due.few in
+          let end = represents due.before.rules rules.rules (subst (Represents f s due.before.rules) (sym seen) represents_now) due.turns in (
+            did_close,
+            record {
+              shape = rest.shape;
+              widths = rest.widths;
+              workers = rest.workers;
+              between = done.between;
+              version = done.rules ∙ ap (λ r. rules_by r change) version ∙ due.makes;
+              represents = subst (Represents f s rules.rules) now end.0;
+              tied = subst (λ (W : Words). IsTied f new.groups (group_at W.firsts)) now end.1;
+              room = record {
+                few = subst (λ n. n ≤ 65536) (sym states) rest.room.few;
+                words = ap (λ (W : Words). length W.seconds) (sym now) ∙ sizes ∙ ap (λ (W : Words). length W.seconds) (seen ∙ due.still.quiet.words) ∙ rest.room.words ∙ ap (λ n. n * 2 ^ s) (sym states);
+              };
+              queued = queued;
+              keeps = done.keeps;
+              limits = rest.limits;
+              max = due.max ∙ rest.max;
+              states = states ∙ rest.states;
+              versions = omega (arith, next, number);
+              updates = omega (arith, few);
+            },
+            done.changes,
+          )
+
+-- a change of the rules at rest, whose update takes no group
+pub due_at_rest : (f s : ℕ) (c : InitialState) (steps : List WriterStep) (config : Config) (rules new : RuleList) (pool : GroupPool) (begun : ℕ) (rest : IsResting f s c steps config rules pool begun) (R : RuleMap) (u : Plan) (change : RuleChange)
+    → IsBegun f s u (state_after c steps).words × TurnsInto f s u rules.rules R → new ≡ record { rules = R; max = rules.max } → rules_by rules.rules change ≡ R → IsChange (f + s) change
+    → ((block : ℕ) → FillsFor u None block) → ((firsts : List ℕ) (i : ℕ) → group_held u firsts i ≡ group_at firsts i)
+    → ((state_after c steps).token + config.groups ≤ 2 ^ 62) × (begun < 2 ^ 61) → IsDue f s c steps config new pool begun u change
+due_at_rest f s c steps config rules new pool begun rest R u change begins is makes sound fills held left =
+    let w : TableState = state_after c steps in
+    let none = none_fills u 0 w.words.firsts (fills 0) in
+    let gone = ap (λ (r : RuleList). r.rules) is in
+    record {
+      older = steps;
+      before = rules;
+      kept = pool;
+      rested = rest;
+      still = record { quiet = quiet_same w; token = refl; taken = refl; idle = rest.between.idle };
+      once = rest.between.once;
+      states = refl;
+      queued = rest.queued;
+      tied = tied_same f pool.groups (group_at w.words.firsts) (group_held u w.words.firsts) (λ i low. held w.words.firsts i) rest.tied;
+      keeps = subst (GroupsMatchSteps c steps pool.groups pool.queue.items pool.passed) (sym none.0) rest.keeps;
+      fresh = none.1;
+      begins = begins.0;
+      turns = subst (TurnsInto f s u rules.rules) (sym gone) begins.1;
+      makes = makes ∙ sym gone;
+      max = ap (λ (r : RuleList). r.max) is;
+      sound = sound;
+      tokens = left.0;
+      few = left.1;
+    }
+
+-- an update to fewer rules that was made
+pub shrinks : {X : Type 0} (t : Transitions X) (f s : ℕ) (c : InitialState) (steps later : List WriterStep) (config config' : Config) (rules rules' : RuleList) (pool new : GroupPool) (begun begun' : ℕ) (R : RuleMap) (x z : X)
+    → IsResting f s c steps config rules pool begun → IsResting f s c later config' rules' new begun' → rules'.rules ≡ R → begun' ≡ begun + 1 → HasTokens t config (state_of rules.rules x pool begun)
+    → Changes t config x pool z new → Shrinks t f s config (state_of rules.rules x pool begun) R (state_of rules'.rules z new begun')
+shrinks t f s c steps later config config' rules rules' pool new begun begun' R x z rest after gone next tokens k =
+    let same : linked_count pool.groups - linked_count new.groups ≡ groups_in_use f s rules.rules - groups_in_use f s R =
+    omega (arith, linked_resting f s c steps config rules pool begun rest, linked_resting f s c later config' rules' new begun' after, ap (groups_in_use f s) gone) in
+    (tokens, (k.opened, k.last, k.begins, subst (λ n. Unlinks t config n k.opened (tokens_of pool.queue.items) k.last (tokens_of new.queue.items)) same k.unlinks, k.ends), (gone, next))
 
 -- groups that no block has were freed
 pub tied_freed : (f n : ℕ) (xs ys : List GroupState) (items : List (ℕ × ℕ)) (L : ℕ → Option ℕ) → IsFreed xs items n ys → IsTied f xs L → IsTied f ys L

@@ -1,9 +1,10 @@
--- A group that is taken, after a reclaim of one where none was free.
-use Rattle.std.proofs.Common.{arith, ◌≡◌, ◌≢◌, ℕ, zero, suc, inl, inr, refl, sym, ap, subst, ◌∙◌, List, [], ◌∷◌, ◌++◌, append-nil, Option, Some, None}
+-- What a reclaim of one group, or of none, comes to.
+use Rattle.std.proofs.Common.{arith, ◌≡◌, ◌≢◌, ℕ, zero, suc, ◌<◌, ◌≤◌, length, inl, inr, refl, sym, ap, subst, ◌∙◌, List, [], ◌∷◌, ◌++◌, append-nil, Option, Some, None}
 use Rattle.std.specs.Prelude.{slice_get, Ok, Err, MatchOption}
 use Rattle.lpm_limits.specs.declared.busy.Busy.{Busy}
+use Rattle.lpm_limits.specs.declared.config.Config.{Config}
 use Rattle.fib_model.specs.State.{Transitions}
-use Rattle.fib_model.specs.Reclaiming.{Reclaims}
+use Rattle.fib_model.specs.Reclaiming.{Reclaims, MakesRoom}
 use Rattle.lpm_groups.specs.declared.GroupState.{GroupState}
 use Rattle.lpm_trace.specs.declared.step.WriterStep.{WriterStep}
 use Rattle.lpm_trace.specs.States.{InitialState}
@@ -37,6 +38,21 @@ module _ {X : Type 0} (t : Transitions X) where
   reclaims_none x z limbo [] zero (Some busy) r none = absurd r.end
   reclaims_none x z limbo (u ∷ left) zero (Some busy) r none =
       (u, ap (λ xs. slice_get xs 0) (sym r.front.0), subst (λ y. t.checks y u (Err busy) z) r.front.1 r.end.1)
+
+  -- a reclaim of none does nothing
+  reclaims_zero : (x z : X) (limbo left : List ℕ) (n : ℕ) (stopped : Option Busy) → Reclaims t x 0 limbo n stopped left z → (left ≡ limbo) × (z ≡ x)
+  reclaims_zero x z limbo left (suc n) stopped r = absurd (let m = r.at_most in omega (arith, m))
+  reclaims_zero x z limbo left zero None r = (r.front.0, r.end.1 ∙ r.front.1)
+  reclaims_zero x z limbo [] zero (Some busy) r = absurd r.end
+  reclaims_zero x z limbo (u ∷ left) zero (Some busy) r = absurd (let w = r.end.0 in omega (arith, w))
+
+  -- room is made by a reclaim of none up to the threshold, and of `reclaim_max` above it
+  pub makes_room : (config : Config) (x z : X) (limbo left : List ℕ) (max n : ℕ) (stopped : Option Busy) (waiting : ℕ) → waiting ≡ length limbo
+      → (waiting ≤ config.threshold → max ≡ 0) → (config.threshold < waiting → max ≡ config.reclaim_max) → Reclaims t x max limbo n stopped left z → MakesRoom t config x limbo left z
+  makes_room config x z limbo left max n stopped waiting long few many r = (
+    (λ more. (n, stopped, subst (λ k. Reclaims t x k limbo n stopped left z) (many (omega (arith, long, more))) r)),
+    (λ less. reclaims_zero x z limbo left n stopped (subst (λ k. Reclaims t x k limbo n stopped left z) (few (omega (arith, long, less))) r)),
+  )
 
 -- ---- what a reclaim asks and leaves between updates
 

@@ -28,6 +28,7 @@ use Rattle.lpm_writer.specs.Waiting.{AreWaiting, tokens_of}
 use Rattle.lpm_writer.specs.Traced.{Traced, UnlinksNone, Retires, by_writer}
 use Rattle.lpm_writer.specs.Matching.{HasUnlinked, HasRetired, HasNothingDue, GroupsMatchSteps}
 use Rattle.lpm_writer.specs.Making.{group_to_fill, HasWidths, IsMaking, MayMake, HasMade, HasUnlinkedSome}
+use Rattle.lpm_writer.proofs.Memories.{AsMemory}
 use Rattle.lpm_writer.proofs.Once.{store_first, store_unlink, store_second, after_retire}
 use Rattle.lpm_writer.proofs.NextStores.{filling_same, first_kind, unlink_kind}
 use Rattle.lpm_writer.proofs.Answering.{may_store_first, may_store_second, may_unlink, may_close}
@@ -54,15 +55,12 @@ pub record IsRunning {M : Type 0} (does : M → WriterStep → M → Type 0) (f 
   pub unlinked : HasUnlinkedSome does c config (m, steps) old (z, later) new
 
 -- whatever the opening and the steps were, an update that may begin has come to v
-abbrev pub Runs : {M : Type 0} → (M → InitialState → List WriterStep → Type 0) → (M → WriterStep → M → Type 0) → ℕ → ℕ → Config → M → GroupPool → Plan → M → GroupPool → Plan → Type 0
-Runs did does f s config first old u z new v = (c : InitialState) (steps : List WriterStep) → did first c steps → MayMake f s c steps u old
-    → (later : List WriterStep) × did z c later × IsRunning does f s config c first steps old u z later new v
+abbrev pub Runs : {M : Type 0} → AsMemory M → ℕ → ℕ → Config → M → GroupPool → Plan → M → GroupPool → Plan → Type 0
+Runs mem f s config first old u z new v = (c : InitialState) (steps : List WriterStep) → mem.says.did first c steps → MayMake f s c steps u old
+    → (later : List WriterStep) × mem.says.did z c later × IsRunning mem.says.does f s config c first steps old u z later new v
 
-module _ {M : Type 0} (words : M → Words) (newest count : M → ℕ) (did : M → InitialState → List WriterStep → Type 0) (does : M → WriterStep → M → Type 0)
-    (follows : (m : M) (s : WriterStep) (z : M) (c : InitialState) (steps : List WriterStep) → does m s z → did m c steps → MayStep c steps s → did z c (s ∷ steps))
-    (shows : (m : M) (c : InitialState) (steps : List WriterStep) → did m c steps → (words m ≡ (state_after c steps).words) × (newest m ≡ (state_after c steps).token) × (count m ≡ c.workers))
-    (f s : ℕ) (config : Config) (first : M) (old : GroupPool) (u : Plan) where
-  pub run_begins : Runs did does f s config first old u first old u
+module _ {M : Type 0} (mem : AsMemory M) (f s : ℕ) (config : Config) (first : M) (old : GroupPool) (u : Plan) where
+  pub run_begins : Runs mem f s config first old u first old u
   run_begins c steps d may = (
     steps,
     d,
@@ -82,57 +80,57 @@ module _ {M : Type 0} (words : M → Words) (newest count : M → ℕ) (did : M 
     },
   )
     where
-      none_unlinked : (c : InitialState) (x : Traced M) → Unlinks (by_writer does c) config (linked_count old.groups - linked_count old.groups) x (tokens_of old.queue.items) x (tokens_of old.queue.items)
+      none_unlinked : (c : InitialState) (x : Traced M) → Unlinks (by_writer mem.says.does c) config (linked_count old.groups - linked_count old.groups) x (tokens_of old.queue.items) x (tokens_of old.queue.items)
       none_unlinked c x =
           let e : 0 ≡ linked_count old.groups - linked_count old.groups = omega arith in
-          subst (λ n. Unlinks (by_writer does c) config n x (tokens_of old.queue.items) x (tokens_of old.queue.items)) e (refl, refl)
+          subst (λ n. Unlinks (by_writer mem.says.does c) config n x (tokens_of old.queue.items) x (tokens_of old.queue.items)) e (refl, refl)
 
-  module _ (m : M) (new : GroupPool) (v : Plan) (runs : Runs did does f s config first old u m new v) (z : M) (v' : Plan) where
-    module _ (c : InitialState) (steps : List WriterStep) (d : did first c steps) (may : MayMake f s c steps u old) where
-      -- the words of the memory are those that the steps leave
-      seen : words m ≡ (state_after c (runs c steps d may).0).words
-      seen = let now = runs c steps d may in (shows m c now.0 now.1).0
+  module _ (m : M) (new : GroupPool) (v : Plan) (runs : Runs mem f s config first old u m new v) (z : M) (v' : Plan) where
+    module _ (c : InitialState) (steps : List WriterStep) (d : mem.says.did first c steps) (may : MayMake f s c steps u old) where
+      -- the mem.cells.words of the memory are those that the steps leave
+      seen : mem.cells.words m ≡ (state_after c (runs c steps d may).0).words
+      seen = let now = runs c steps d may in (mem.shows m c now.0 now.1).0
 
-      next_first_on : (i x : ℕ) → IsNextFirst f s v (words m) i x → IsNextFirst c.first c.second v (state_after c (runs c steps d may).0).words i x
+      next_first_on : (i x : ℕ) → IsNextFirst f s v (mem.cells.words m) i x → IsNextFirst c.first c.second v (state_after c (runs c steps d may).0).words i x
       next_first_on i x n = fit (λ a b. IsNextFirst a b v (state_after c (runs c steps d may).0).words i x) f s c may.widths (subst (λ W. IsNextFirst f s v W i x) seen n)
 
-      next_second_on : (j x : ℕ) → IsNextSecond s v (words m) j x → IsNextSecond c.second v (state_after c (runs c steps d may).0).words j x
+      next_second_on : (j x : ℕ) → IsNextSecond s v (mem.cells.words m) j x → IsNextSecond c.second v (state_after c (runs c steps d may).0).words j x
       next_second_on j x n = fit (λ a b. IsNextSecond b v (state_after c (runs c steps d may).0).words j x) f s c may.widths (subst (λ W. IsNextSecond s v W j x) seen n)
 
-      next_unlink_on : (b g x : ℕ) → IsNextUnlink f s v (words m) b g x → IsNextUnlink c.first c.second v (state_after c (runs c steps d may).0).words b g x
+      next_unlink_on : (b g x : ℕ) → IsNextUnlink f s v (mem.cells.words m) b g x → IsNextUnlink c.first c.second v (state_after c (runs c steps d may).0).words b g x
       next_unlink_on b g x n = fit (λ a b'. IsNextUnlink a b' v (state_after c (runs c steps d may).0).words b g x) f s c may.widths (subst (λ W. IsNextUnlink f s v W b g x) seen n)
 
-      tied_on : IsTied f new.groups (group_held v (words m).firsts) → IsTied c.first new.groups (group_held v (state_after c (runs c steps d may).0).words.firsts)
+      tied_on : IsTied f new.groups (group_held v (mem.cells.words m).firsts) → IsTied c.first new.groups (group_held v (state_after c (runs c steps d may).0).words.firsts)
       tied_on t = subst (λ a. IsTied a new.groups (group_held v (state_after c (runs c steps d may).0).words.firsts)) (sym may.widths.0) (subst (λ (W : Words). IsTied f new.groups (group_held v W.firsts)) seen t)
 
-      steps_first : (did_it : Did) (i x : ℕ) → Steps f s v (words m) did_it v' (words z) → words z ≡ with_first (words m) i x
+      steps_first : (did_it : Did) (i x : ℕ) → Steps f s v (mem.cells.words m) did_it v' (mem.cells.words z) → mem.cells.words z ≡ with_first (mem.cells.words m) i x
           → Steps c.first c.second v (state_after c (runs c steps d may).0).words did_it v' (with_first (state_after c (runs c steps d may).0).words i x)
       steps_first did_it i x st e = fit (λ a b. Steps a b v (state_after c (runs c steps d may).0).words did_it v' (with_first (state_after c (runs c steps d may).0).words i x)) f s c may.widths
-          (subst (λ W. Steps f s v W did_it v' (with_first W i x)) seen (subst (λ W. Steps f s v (words m) did_it v' W) e st))
+          (subst (λ W. Steps f s v W did_it v' (with_first W i x)) seen (subst (λ W. Steps f s v (mem.cells.words m) did_it v' W) e st))
 
-      steps_second : (did_it : Did) (j x : ℕ) → Steps f s v (words m) did_it v' (words z) → words z ≡ with_second (words m) j x
+      steps_second : (did_it : Did) (j x : ℕ) → Steps f s v (mem.cells.words m) did_it v' (mem.cells.words z) → mem.cells.words z ≡ with_second (mem.cells.words m) j x
           → Steps c.first c.second v (state_after c (runs c steps d may).0).words did_it v' (with_second (state_after c (runs c steps d may).0).words j x)
       steps_second did_it j x st e = fit (λ a b. Steps a b v (state_after c (runs c steps d may).0).words did_it v' (with_second (state_after c (runs c steps d may).0).words j x)) f s c may.widths
-          (subst (λ W. Steps f s v W did_it v' (with_second W j x)) seen (subst (λ W. Steps f s v (words m) did_it v' W) e st))
+          (subst (λ W. Steps f s v W did_it v' (with_second W j x)) seen (subst (λ W. Steps f s v (mem.cells.words m) did_it v' W) e st))
 
-      pub allows_first : (i x : ℕ) → IsNextFirst f s v (words m) i x → MayStep c (runs c steps d may).0 (StoreFirst i x)
+      pub allows_first : (i x : ℕ) → IsNextFirst f s v (mem.cells.words m) i x → MayStep c (runs c steps d may).0 (StoreFirst i x)
       allows_first i x n =
           let r = (runs c steps d may).2 in
           may_store_first c (runs c steps d may).0 u (state_after c steps).words v r.making new.groups new.queue.items new.passed r.keeps r.idle i x (next_first_on i x n)
 
-      pub allows_second : IsTied f new.groups (group_held v (words m).firsts) → (j x : ℕ) → IsNextSecond s v (words m) j x → MayStep c (runs c steps d may).0 (StoreSecond j x)
+      pub allows_second : IsTied f new.groups (group_held v (mem.cells.words m).firsts) → (j x : ℕ) → IsNextSecond s v (mem.cells.words m) j x → MayStep c (runs c steps d may).0 (StoreSecond j x)
       allows_second tied j x n =
           let r = (runs c steps d may).2 in
           may_store_second c (runs c steps d may).0 u (state_after c steps).words v r.making new.groups new.queue.items new.passed r.keeps r.idle (tied_on tied) j x (next_second_on j x n)
 
-      pub allows_unlink : (b g x : ℕ) → IsNextUnlink f s v (words m) b g x → MayStep c (runs c steps d may).0 (StoreFirst b x)
+      pub allows_unlink : (b g x : ℕ) → IsNextUnlink f s v (mem.cells.words m) b g x → MayStep c (runs c steps d may).0 (StoreFirst b x)
       allows_unlink b g x n =
           let r = (runs c steps d may).2 in
           may_unlink c (runs c steps d may).0 u (state_after c steps).words v r.making new.groups new.queue.items new.passed r.keeps r.idle b g x (next_unlink_on b g x n)
 
     -- one more store, which unlinks no group
-    one_more : (c : InitialState) (x : Traced M) (later : List WriterStep) (step : WriterStep) (k : HasUnlinkedSome does c config x old (m, later) new) → UnlinksNone (state_after c later) step → does m step z
-        → HasUnlinkedSome does c config x old (z, step ∷ later) new
+    one_more : (c : InitialState) (x : Traced M) (later : List WriterStep) (step : WriterStep) (k : HasUnlinkedSome mem.says.does c config x old (m, later) new) → UnlinksNone (state_after c later) step → mem.says.does m step z
+        → HasUnlinkedSome mem.says.does c config x old (z, step ∷ later) new
     one_more c x later step k plain goes = record {
       last = k.last;
       stores = k.stores + 1;
@@ -140,8 +138,8 @@ module _ {M : Type 0} (words : M → Words) (newest count : M → ℕ) (did : M 
       since = rw add-one ((m, later), step, k.since, plain, (goes, refl));
     }
 
-    pub run_first : (i x : ℕ) → Steps f s v (words m) (First i) v' (words z) → IsNextFirst f s v (words m) i x → words z ≡ with_first (words m) i x → does m (StoreFirst i x) z
-        → IsTied f new.groups (group_held v (words m).firsts) → AreWaiting new.groups new.queue.items → Runs did does f s config first old u z new v'
+    pub run_first : (i x : ℕ) → Steps f s v (mem.cells.words m) (First i) v' (mem.cells.words z) → IsNextFirst f s v (mem.cells.words m) i x → mem.cells.words z ≡ with_first (mem.cells.words m) i x → mem.says.does m (StoreFirst i x) z
+        → IsTied f new.groups (group_held v (mem.cells.words m).firsts) → AreWaiting new.groups new.queue.items → Runs mem f s config first old u z new v'
     run_first i x st n e goes tied waits c steps d may =
         let now = runs c steps d may in
         let later = now.0 in
@@ -156,7 +154,7 @@ module _ {M : Type 0} (words : M → Words) (newest count : M → ℕ) (did : M 
         let sm = ((next_store c.first c.second v w.words r.making.come.table under).first_word i x n').1 in
         let none = none_filling c.first c.second v v' w.words i x st'.onward low under n' in (
           StoreFirst i x ∷ later,
-          follows m (StoreFirst i x) z c later goes now.1 (allows_first c steps d may i x n),
+          mem.follows m (StoreFirst i x) z c later goes now.1 (allows_first c steps d may i x n),
           record {
             widths = r.widths;
             making = making_first c later u (state_after c steps).words v r.making v' (First i) i x st' sm (taken_first c.first c.second v v' w.words i x (progress_after c later).taken st'.onward n' r.making.taken)
@@ -170,8 +168,8 @@ module _ {M : Type 0} (words : M → Words) (newest count : M → ℕ) (did : M 
           },
         )
 
-    pub run_second : (j x : ℕ) → Steps f s v (words m) (Second j) v' (words z) → IsNextSecond s v (words m) j x → words z ≡ with_second (words m) j x → does m (StoreSecond j x) z
-        → IsTied f new.groups (group_held v (words m).firsts) → Runs did does f s config first old u z new v'
+    pub run_second : (j x : ℕ) → Steps f s v (mem.cells.words m) (Second j) v' (mem.cells.words z) → IsNextSecond s v (mem.cells.words m) j x → mem.cells.words z ≡ with_second (mem.cells.words m) j x → mem.says.does m (StoreSecond j x) z
+        → IsTied f new.groups (group_held v (mem.cells.words m).firsts) → Runs mem f s config first old u z new v'
     run_second j x st n e goes tied c steps d may =
         let now = runs c steps d may in
         let later = now.0 in
@@ -182,7 +180,7 @@ module _ {M : Type 0} (words : M → Words) (newest count : M → ℕ) (did : M 
         let under = r.making.come.under_way in
         let sm = ((next_store c.first c.second v w.words r.making.come.table under).second_word j x n').1 in (
           StoreSecond j x ∷ later,
-          follows m (StoreSecond j x) z c later goes now.1 (allows_second c steps d may tied j x n),
+          mem.follows m (StoreSecond j x) z c later goes now.1 (allows_second c steps d may tied j x n),
           record {
             widths = r.widths;
             making = making_second c later u (state_after c steps).words v r.making v' (Second j) j x st' sm
@@ -198,22 +196,22 @@ module _ {M : Type 0} (words : M → Words) (newest count : M → ℕ) (did : M 
 
     -- ---- a store that unlinks a group, whose token is bumped then
 
-    module _ (b g x : ℕ) (st : Steps f s v (words m) (Unlinked b g) v' (words z)) (n : IsNextUnlink f s v (words m) b g x) (e : words z ≡ with_first (words m) b x) (goes : does m (StoreFirst b x) z)
+    module _ (b g x : ℕ) (st : Steps f s v (mem.cells.words m) (Unlinked b g) v' (mem.cells.words z)) (n : IsNextUnlink f s v (mem.cells.words m) b g x) (e : mem.cells.words z ≡ with_first (mem.cells.words m) b x) (goes : mem.says.does m (StoreFirst b x) z)
         (here : IsLinkedTo new.groups g b) (waits : AreWaiting new.groups new.queue.items) where
-      pub unlinked_on : (c : InitialState) (steps : List WriterStep) (d : did first c steps) (may : MayMake f s c steps u old)
-          → did z c (StoreFirst b x ∷ (runs c steps d may).0) × HasUnlinked c (StoreFirst b x ∷ (runs c steps d may).0) new g None
+      pub unlinked_on : (c : InitialState) (steps : List WriterStep) (d : mem.says.did first c steps) (may : MayMake f s c steps u old)
+          → mem.says.did z c (StoreFirst b x ∷ (runs c steps d may).0) × HasUnlinked c (StoreFirst b x ∷ (runs c steps d may).0) new g None
       unlinked_on c steps d may =
           let now = runs c steps d may in
           let r = now.2 in
           let kind = unlink_kind c.first c.second v (state_after c now.0).words b g x r.making.come.table r.making.come.under_way (next_unlink_on c steps d may b g x n) in (
-            follows m (StoreFirst b x) z c now.0 goes now.1 (allows_unlink c steps d may b g x n),
+            mem.follows m (StoreFirst b x) z c now.0 goes now.1 (allows_unlink c steps d may b g x n),
             has_unlinked c now.0 new v b g x r.keeps r.idle kind.0 kind.1 kind.2 here waits,
           )
 
       pub run_unlinked : (y : M) (last : GroupPool) → suc (linked_count old.groups - linked_count new.groups) ≡ linked_count old.groups - linked_count last.groups
-          → ((c : InitialState) (steps : List WriterStep) (held : Option ℕ) → did z c steps → HasUnlinked c steps new g held
-          → (later : List WriterStep) × did y c later × HasRetired c steps later × GroupsMatchSteps c later last.groups last.queue.items last.passed held
-          × Retires does c config (z, steps) (tokens_of new.queue.items) (y, later) (tokens_of last.queue.items)) → Runs did does f s config first old u y last v'
+          → ((c : InitialState) (steps : List WriterStep) (held : Option ℕ) → mem.says.did z c steps → HasUnlinked c steps new g held
+          → (later : List WriterStep) × mem.says.did y c later × HasRetired c steps later × GroupsMatchSteps c later last.groups last.queue.items last.passed held
+          × Retires mem.says.does c config (z, steps) (tokens_of new.queue.items) (y, later) (tokens_of last.queue.items)) → Runs mem f s config first old u y last v'
       run_unlinked y last one retires c steps d may =
           let now = runs c steps d may in
           let r = now.2 in
@@ -235,7 +233,7 @@ module _ {M : Type 0} (words : M → Words) (newest count : M → ℕ) (did : M 
             record {
               widths = r.widths;
               making = making_quiet c (StoreFirst b x ∷ now.0) done.0 u (state_after c steps).words v' q.quiet q.taken
-                  (after_retire does c config (z, StoreFirst b x ∷ now.0) (tokens_of new.queue.items) (y, done.0) (tokens_of last.queue.items) done.4) making;
+                  (after_retire mem.says.does c config (z, StoreFirst b x ∷ now.0) (tokens_of new.queue.items) (y, done.0) (tokens_of last.queue.items) done.4) making;
               idle = q.idle;
               keeps = subst (GroupsMatchSteps c done.0 last.groups last.queue.items last.passed) (sym fills) done.3;
               sequence = q.quiet.sequence ∙ r.sequence;
@@ -243,7 +241,7 @@ module _ {M : Type 0} (words : M → Words) (newest count : M → ℕ) (did : M 
               unlinked = record {
                 last = (y, done.0);
                 stores = 0;
-                unlinks = subst (λ j. Unlinks (by_writer does c) config j (first, steps) (tokens_of old.queue.items) (y, done.0) (tokens_of last.queue.items)) one (
+                unlinks = subst (λ j. Unlinks (by_writer mem.says.does c) config j (first, steps) (tokens_of old.queue.items) (y, done.0) (tokens_of last.queue.items)) one (
                   k.last,
                   tokens_of new.queue.items,
                   k.unlinks,
@@ -262,8 +260,8 @@ module _ {M : Type 0} (words : M → Words) (newest count : M → ℕ) (did : M 
           )
 
     -- nothing is left to store
-    pub run_ended : Steps f s v (words m) Done v' (words m) → IsTied f new.groups (group_held v (words m).firsts) → (c : InitialState) (steps : List WriterStep) → did first c steps → MayMake f s c steps u old
-        → (later : List WriterStep) × did m c later × HasMade does c config first steps old m later new
+    pub run_ended : Steps f s v (mem.cells.words m) Done v' (mem.cells.words m) → IsTied f new.groups (group_held v (mem.cells.words m).firsts) → (c : InitialState) (steps : List WriterStep) → mem.says.did first c steps → MayMake f s c steps u old
+        → (later : List WriterStep) × mem.says.did m c later × HasMade mem.says.does c config first steps old m later new
     run_ended st tied c steps d may =
         let now = runs c steps d may in
         let r = now.2 in
@@ -287,9 +285,9 @@ module _ {M : Type 0} (words : M → Words) (newest count : M → ℕ) (did : M 
           },
         )
 
-    -- the words of the memory, as an update that begins has them
-    pub begun_come : (c : InitialState) (steps : List WriterStep) → did first c steps → MayMake f s c steps u old → HasCome f s u (words first) u (words first)
+    -- the mem.cells.words of the memory, as an update that begins has them
+    pub begun_come : (c : InitialState) (steps : List WriterStep) → mem.says.did first c steps → MayMake f s c steps u old → HasCome f s u (mem.cells.words first) u (mem.cells.words first)
     begun_come c steps d may =
-        let e = (shows first c steps d).0 in
+        let e = (mem.shows first c steps d).0 in
         subst (λ W. HasCome f s u W u W) (sym e) (subst (λ a. HasCome a s u (state_after c steps).words u (state_after c steps).words) may.widths.0
         (subst (λ b. HasCome c.first b u (state_after c steps).words u (state_after c steps).words) may.widths.1 may.making.come))

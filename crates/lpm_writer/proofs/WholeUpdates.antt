@@ -1,20 +1,54 @@
 -- A whole update, from its first step to its last.
-use Rattle.std.proofs.Common.{arith, ◌≡◌, ◌≢◌, ℕ, suc, ◌+◌, ◌/◌, ◌%◌, Bool, true, false, refl, sym, ap, subst, ◌∙◌, List, ◌∷◌, None}
+use Rattle.std.proofs.Common.{arith, ◌≡◌, ◌≢◌, ℕ, suc, ◌+◌, ◌/◌, ◌%◌, ◌^◌, ◌<◌, Bool, true, false, refl, sym, ap, subst, ◌∙◌, List, ◌∷◌, None}
 use Rattle.std.proofs.lemmas.List.Elements.{All-nil}
 use Rattle.lpm_limits.specs.declared.config.Config.{Config}
 use Rattle.lpm_rules.specs.RuleMap.{RuleMap}
 use Rattle.lpm_update.specs.declared.update.Plan.{Plan}
+use Rattle.lpm_update.specs.Linked.{IsTable}
+use Rattle.lpm_update.specs.Represents.{IsBegun}
 use Rattle.lpm_update.proofs.Runs.{run_begins}
 use Rattle.lpm_trace.specs.declared.step.RuleChange.{RuleChange}
 use Rattle.lpm_trace.specs.declared.step.WriterStep.{WriterStep}
 use Rattle.lpm_trace.specs.declared.step.WriterStep.TheVariants.{BeginUpdate, EndUpdate}
-use Rattle.lpm_trace.specs.States.{InitialState, TableState, state_after, answer, IsAnswer, updates_done_in, updates_begun_in, done_at, rules_by}
+use Rattle.lpm_trace.specs.States.{InitialState, TableState, state_after, addresses, answer, IsAnswer, IsChange, updates_done_in, updates_begun_in, done_at, rules_by}
 use Rattle.lpm_trace.specs.Writer.{MayStep}
 use Rattle.lpm_trace.proofs.Basics.{with_at-same, with_at-other}
 use Rattle.lpm_writer.specs.declared.pool.GroupPool.{GroupPool}
-use Rattle.lpm_writer.specs.Making.{HasPassedStore, group_to_fill, answer_after, MayMake, HasMade}
-use Rattle.lpm_writer.specs.Changing.{MayChange, HasChanged}
+use Rattle.lpm_writer.specs.Traced.{by_writer}
+use Rattle.lpm_writer.specs.Matching.{GroupsMatchSteps}
+use Rattle.lpm_writer.specs.Making.{HasPassedStore, HasWidths, IsTakenBy, group_to_fill, answer_after, MayMake, HasMade}
+use Rattle.lpm_writer.specs.Changing.{IsBetween, Changes}
 use Rattle.lpm_writer.proofs.Keeping.{kept_quiet}
+
+-- the update u by this change of the rules may be made
+pub record MayChange (first second : ℕ) (c : InitialState) (steps : List WriterStep) (u : Plan)
+    (change : RuleChange) (pool : GroupPool) : Type 0 where
+  pub widths : HasWidths first second c
+  pub between : IsBetween c steps
+  pub few : updates_done_in (state_after c steps) < 2 ^ 61
+  pub table : IsTable c.first c.second (state_after c steps).words
+  pub begun : IsBegun c.first c.second u (state_after c steps).words
+  pub fresh : IsTakenBy u None
+  pub sound : IsChange (c.first + c.second) change
+  pub old : (a : ℕ) → a < addresses c
+      → IsAnswer c ((state_after c steps).history (updates_done_in (state_after c steps))) a
+      (answer c (state_after c steps).words a)
+  pub new : (a : ℕ) → a < addresses c
+      → IsAnswer c (rules_by ((state_after c steps).history (updates_done_in (state_after c steps))) change) a
+      (answer_after c u (state_after c steps).words a)
+  pub keeps : GroupsMatchSteps c steps pool.groups pool.queue.items pool.passed
+      (group_to_fill u (state_after c steps).words.firsts)
+
+-- the update was made
+pub record HasChanged {M : Type 0} (does : M → WriterStep → M → Type 0) (c : InitialState)
+    (config : Config) (change : RuleChange) (m : M) (steps : List WriterStep) (old : GroupPool) (z : M)
+    (later : List WriterStep) (new : GroupPool) : Type 0 where
+  pub between : IsBetween c later
+  pub keeps : GroupsMatchSteps c later new.groups new.queue.items new.passed None
+  pub rules : (state_after c later).history (updates_done_in (state_after c later))
+      ≡ rules_by ((state_after c steps).history (updates_done_in (state_after c steps))) change
+  pub next : updates_done_in (state_after c later) ≡ updates_done_in (state_after c steps) + 1
+  pub changes : Changes (by_writer does c) config (m, steps) old (z, later) new
 
 -- ---- numbers of updates
 

@@ -2,11 +2,13 @@ pub mod Waiting
 pub mod Steps
 pub mod Traced
 pub mod Matching
+pub mod Freeing
 pub mod Stores
 pub mod Making
 pub mod Taking
 pub mod Changing
 pub mod Resting
+pub mod Commands
 pub mod Synchronizing
 pub mod Blank
 pub mod MemorySteps

@@ -1,13 +1,16 @@
 -- This layer's own: an update that runs, by the words and by the writer's steps (this project's).
-use Rattle.std.specs.Prelude.{ℕ, ◌≡◌, ◌+◌, ◌-◌, ◌<◌, ◌⊎◌, ⊤, true, List, Option, Some, None}
+use Rattle.std.specs.Prelude.{ℕ, ◌≡◌, ◌+◌, ◌-◌, ◌<◌, ◌⊎◌, true, List, Option, Some, None}
 use Rattle.std.specs.List.{All}
 use Rattle.lpm_cells.specs.Words.{hop_in}
 use Rattle.lpm_cells.specs.Table.{Words, entry_at}
+use Rattle.lpm_update.specs.declared.Did.{Did}
+use Rattle.lpm_update.specs.declared.Did.TheVariants.{First, Second, Done}
 use Rattle.lpm_update.specs.declared.update.Plan.{Plan}
 use Rattle.lpm_update.specs.declared.update.Plan.TheVariants.{Range, Link, Unlink, Flush}
 use Rattle.lpm_update.specs.Linked.{group_at}
 use Rattle.lpm_update.specs.Runs.{HasCome}
-use Rattle.lpm_update.specs.Update.{HasPassedFirst, HasPassedSecond, entry_after}
+use Rattle.lpm_update.specs.Step.{HasPassed}
+use Rattle.lpm_update.specs.Update.{entry_after}
 use Rattle.lpm_groups.specs.States.{linked_count}
 use Rattle.lpm_limits.specs.declared.config.Config.{Config}
 use Rattle.lpm_trace.specs.declared.step.WriterStep.{WriterStep}
@@ -44,11 +47,15 @@ IsTakenBy (Flush u) taken = taken ≡ None
 abbrev pub answer_after : InitialState → Plan → Words → ℕ → Option ℕ
 answer_after c u t a = hop_in (entry_after (c.first + c.second) u (entry_at c.second t) a)
 
+-- what the step stored, as a change tells it
+abbrev pub stored_by : WriterStep → Did
+stored_by (StoreFirst i x) = First i
+stored_by (StoreSecond j x) = Second j
+stored_by other = Done
+
 -- the change has passed the word that the step stored
 abbrev pub HasPassedStore : ℕ → Plan → List ℕ → WriterStep → Type 0
-HasPassedStore second v firsts (StoreFirst i x) = HasPassedFirst second v i
-HasPassedStore second v firsts (StoreSecond j x) = HasPassedSecond second v firsts j
-HasPassedStore second v firsts other = ⊤
+HasPassedStore second v firsts step = HasPassed second (stored_by step) v firsts
 
 -- the change has passed each word that was stored since the newest update was opened
 abbrev pub HasPassedStores : ℕ → Plan → List ℕ → List WriterStep → Type 0

@@ -1,19 +1,23 @@
 -- Meaning: what a writer keeps between its calls (this project's).
-use Rattle.std.specs.Prelude.{ℕ, ◌≡◌, ◌≤◌, ◌^◌, List, length, None}
+use Rattle.std.specs.Prelude.{ℕ, ◌≡◌, ◌+◌, ◌<◌, ◌≤◌, ◌^◌, List, length, None}
 use Rattle.lpm_bits.specs.Widths.{IsShape}
 use Rattle.lpm_limits.specs.Limits.{IsConfig}
 use Rattle.lpm_limits.specs.declared.config.Config.{Config}
 use Rattle.lpm_rules.specs.RuleMap.{RuleMap, RuleList}
 use Rattle.lpm_update.specs.Linked.{group_at}
-use Rattle.lpm_update.specs.Represents.{Represents}
+use Rattle.lpm_update.specs.declared.update.Plan.{Plan}
+use Rattle.lpm_update.specs.Represents.{IsBegun, Represents, TurnsInto}
 use Rattle.lpm_update.specs.Tied.{IsTied, HasGroupRoom}
+use Rattle.lpm_update.specs.Update.{group_held}
 use Rattle.fib_model.specs.State.{State}
+use Rattle.lpm_trace.specs.declared.step.RuleChange.{RuleChange}
 use Rattle.lpm_trace.specs.declared.step.WriterStep.{WriterStep}
-use Rattle.lpm_trace.specs.States.{InitialState, state_after, updates_done_in}
+use Rattle.lpm_trace.specs.States.{InitialState, IsChange, state_after, rules_by, updates_done_in}
 use Rattle.lpm_writer.specs.declared.pool.GroupPool.{GroupPool}
 use Rattle.lpm_writer.specs.Waiting.{IsQueued, tokens_of}
-use Rattle.lpm_writer.specs.Matching.{GroupsMatchSteps}
-use Rattle.lpm_writer.specs.Making.{HasWidths}
+use Rattle.lpm_writer.specs.Matching.{GroupsMatchSteps, OnlyChecks}
+use Rattle.lpm_writer.specs.Stores.{StoresOnce}
+use Rattle.lpm_writer.specs.Making.{HasWidths, IsTakenBy, group_to_fill}
 use Rattle.lpm_writer.specs.Changing.{IsBetween}
 
 -- what outcomes depend on, by what a writer keeps
@@ -40,3 +44,27 @@ pub record IsResting (first second : ℕ) (c : InitialState) (steps : List Write
   pub states : length pool.groups ≡ config.groups
   pub versions : begun ≡ updates_done_in (state_after c steps)
   pub updates : begun ≤ 2 ^ 61
+
+-- The rules are changed already, and no word yet: the update u is to make this change of the words. The writer
+-- rested after the older steps, with the rules `before` and the groups `kept`, and checks alone were made since.
+pub record IsDue (first second : ℕ) (c : InitialState) (steps : List WriterStep) (config : Config)
+    (rules : RuleList) (pool : GroupPool) (begun : ℕ) (u : Plan) (change : RuleChange) : Type 0 where
+  pub older : List WriterStep
+  pub before : RuleList
+  pub kept : GroupPool
+  pub rested : IsResting first second c older config before kept begun
+  pub still : OnlyChecks c older steps
+  pub once : StoresOnce steps
+  pub states : length pool.groups ≡ length kept.groups
+  pub queued : IsQueued pool.groups pool.queue
+  pub tied : IsTied first pool.groups (group_held u (state_after c older).words.firsts)
+  pub keeps : GroupsMatchSteps c steps pool.groups pool.queue.items pool.passed
+      (group_to_fill u (state_after c older).words.firsts)
+  pub fresh : IsTakenBy u None
+  pub begins : IsBegun first second u (state_after c older).words
+  pub turns : TurnsInto first second u before.rules rules.rules
+  pub makes : rules_by before.rules change ≡ rules.rules
+  pub max : rules.max ≡ before.max
+  pub sound : IsChange (first + second) change
+  pub tokens : (state_after c older).token + config.groups ≤ 2 ^ 62
+  pub few : begun < 2 ^ 61

@@ -11,13 +11,26 @@ use Rattle.lpm_trace.specs.declared.step.WriterStep.{WriterStep}
 use Rattle.lpm_trace.specs.States.{InitialState, state_after, IsUpdating}
 use Rattle.lpm_writer.specs.declared.pool.GroupPool.{GroupPool}
 use Rattle.lpm_writer.specs.Waiting.{IsTaken, tokens_of}
-use Rattle.lpm_writer.specs.Matching.{HasNothingDue, GroupsMatchSteps}
+use Rattle.lpm_writer.specs.Matching.{HasNothingDue, GroupsMatchSteps, OnlyChecks}
+use Rattle.lpm_writer.specs.Traced.{Traced}
 
 -- no update runs, and nothing is due
 pub record MayTake (c : InitialState) (steps : List WriterStep) (pool : GroupPool) : Type 0 where
   pub keeps : GroupsMatchSteps c steps pool.groups pool.queue.items pool.passed None
   pub idle : HasNothingDue c steps
   pub rests : ¬ IsUpdating (state_after c steps)
+
+-- it is so after some steps that may have led to the memory, as `did` tells them
+abbrev pub MayTakeAt : {M : Type 0} → (M → InitialState → List WriterStep → Type 0) → M → GroupPool → Type 0
+MayTakeAt did m pool = (c : InitialState) × (steps : List WriterStep) × did m c steps × MayTake c steps pool
+
+-- whatever steps may have led to the memory m, checks alone were made up to z, and a group is held; P is what
+-- came of it
+abbrev pub TakesAt : {M : Type 0} → (M → InitialState → List WriterStep → Type 0) → M → GroupPool → M → GroupPool
+    → Option ℕ → (InitialState → Traced M → Traced M → Type 0) → Type 0
+TakesAt did m old z new held P = (c : InitialState) (steps : List WriterStep) → did m c steps → MayTake c steps old
+    → (later : List WriterStep) × did z c later × OnlyChecks c steps later
+    × GroupsMatchSteps c later new.groups new.queue.items new.passed held × P c (m, steps) (z, later)
 
 -- the group that was taken
 abbrev pub taken_by : Result ℕ (Option Busy) → Option ℕ

@@ -9,7 +9,8 @@ ghost use Rattle.lpm_trace.specs.declared.step.WriterStep.{WriterStep};
 ghost use Rattle.lpm_trace.specs.States.{InitialState};
 ghost use Rattle.lpm_writer.specs.Taking.{LinksLeast};
 ghost use Rattle.lpm_writer.specs.Traced.{by_writer};
-ghost use Rattle.lpm_writer.specs.Resting.{IsResting, state_of};
+ghost use Rattle.lpm_writer.specs.Resting.{state_of};
+ghost use Rattle.lpm_writer.specs.Commands.{Commands, MayCommand, Rests};
 
 use super::GroupPool;
 use super::changes::change;
@@ -43,9 +44,7 @@ pub(crate) fn is_out_of_tokens<const FIRST: u32, const SECOND: u32, M: Memory>(
     control: &ControlState<FIRST, SECOND>,
     memory: &M,
 ) -> bool
-    requires rests { (c : InitialState) × (steps : List WriterStep)
-        × IsResting FIRST SECOND c steps control.now.config control.now.rules control.now.pool
-        control.now.versions }
+    requires rests { (c : InitialState) × (steps : List WriterStep) × Rests c steps control.now }
     ensures { IsTrue result ↔ (2 ^ 62 < M.newest memory.now + control.now.config.groups) }
 {
     let groups = control.pool.groups.len() as u64;
@@ -57,9 +56,7 @@ fn is_exhausted<const FIRST: u32, const SECOND: u32, M: Memory>(
     control: &ControlState<FIRST, SECOND>,
     memory: &M,
 ) -> bool
-    requires rests { (c : InitialState) × (steps : List WriterStep) × M.did memory.now c steps
-        × IsResting FIRST SECOND c steps control.now.config control.now.rules control.now.pool
-        control.now.versions }
+    requires rests { MayCommand M.did control.now memory.now }
     ensures { (c : InitialState) (steps : List WriterStep) → M.did memory.now c steps
         → IsTrue result ↔ IsExhausted (by_writer M.does c) control.now.config
         (state_of control.now.rules.rules (memory.now, steps) control.now.pool control.now.versions) }
@@ -116,19 +113,9 @@ pub fn add_rule<const FIRST: u32, const SECOND: u32, M: Memory>(
     prefix: &Prefix<FIRST, SECOND>,
     hop: Hop,
 ) -> Result<Put, Refusal>
-    requires rests { (c : InitialState) × (steps : List WriterStep) × M.did memory.old c steps
-        × IsResting FIRST SECOND c steps control.old.config control.old.rules control.old.pool
-        control.old.versions }
-    ensures adds { (c : InitialState) (steps : List WriterStep) → M.did memory.old c steps
-        → IsResting FIRST SECOND c steps control.old.config control.old.rules control.old.pool
-        control.old.versions
-        → (later : List WriterStep) × M.did memory.new c later
-        × IsResting FIRST SECOND c later control.new.config control.new.rules control.new.pool
-        control.new.versions
-        × Adds (by_writer M.does c) FIRST SECOND control.old.config
-        (state_of control.old.rules.rules (memory.old, steps) control.old.pool control.old.versions)
-        prefix.now hop result
-        (state_of control.new.rules.rules (memory.new, later) control.new.pool control.new.versions) }
+    requires rests { MayCommand M.did control.old memory.old }
+    ensures adds { Commands M.did control.old memory.old control.new memory.new
+        (λ c x z. Adds (by_writer M.does c) FIRST SECOND control.old.config x prefix.now hop result z) }
     ensures least { LinksLeast control.old.pool.groups control.new.pool.groups }
     ensures config { control.new.config ≡ control.old.config }
 {
@@ -154,8 +141,7 @@ pub fn add_rule<const FIRST: u32, const SECOND: u32, M: Memory>(
         Ok(group) => {
             let update = Update::add(prefix, hop, group);
             let rule = putting(prefix, hop);
-            change::<FIRST, SECOND, M>(update, &rule, memory, &mut control.pool, &control.config);
-            control.versions += 1;
+            change::<FIRST, SECOND, M>(control, memory, update, &rule);
             return Ok(put);
         }
         Err(oldest) => {
@@ -172,19 +158,9 @@ pub fn reclaim_groups<const FIRST: u32, const SECOND: u32, M: Memory>(
     memory: &mut M,
     max: usize,
 ) -> Reclaimed
-    requires rests { (c : InitialState) × (steps : List WriterStep) × M.did memory.old c steps
-        × IsResting FIRST SECOND c steps control.old.config control.old.rules control.old.pool
-        control.old.versions }
-    ensures frees { (c : InitialState) (steps : List WriterStep) → M.did memory.old c steps
-        → IsResting FIRST SECOND c steps control.old.config control.old.rules control.old.pool
-        control.old.versions
-        → (later : List WriterStep) × M.did memory.new c later
-        × IsResting FIRST SECOND c later control.new.config control.new.rules control.new.pool
-        control.new.versions
-        × Frees (by_writer M.does c)
-        (state_of control.old.rules.rules (memory.old, steps) control.old.pool control.old.versions)
-        max result
-        (state_of control.new.rules.rules (memory.new, later) control.new.pool control.new.versions) }
+    requires rests { MayCommand M.did control.old memory.old }
+    ensures frees { Commands M.did control.old memory.old control.new memory.new
+        (λ c x z. Frees (by_writer M.does c) x max result z) }
     ensures config { control.new.config ≡ control.old.config }
 {
     free_waiting(&mut control.pool, memory, max)
@@ -199,19 +175,9 @@ pub fn delete_rule<const FIRST: u32, const SECOND: u32, M: Memory>(
     memory: &mut M,
     prefix: &Prefix<FIRST, SECOND>,
 ) -> Result<Hop, Refusal>
-    requires rests { (c : InitialState) × (steps : List WriterStep) × M.did memory.old c steps
-        × IsResting FIRST SECOND c steps control.old.config control.old.rules control.old.pool
-        control.old.versions }
-    ensures deletes { (c : InitialState) (steps : List WriterStep) → M.did memory.old c steps
-        → IsResting FIRST SECOND c steps control.old.config control.old.rules control.old.pool
-        control.old.versions
-        → (later : List WriterStep) × M.did memory.new c later
-        × IsResting FIRST SECOND c later control.new.config control.new.rules control.new.pool
-        control.new.versions
-        × Deletes (by_writer M.does c) FIRST SECOND control.old.config
-        (state_of control.old.rules.rules (memory.old, steps) control.old.pool control.old.versions)
-        prefix.now result
-        (state_of control.new.rules.rules (memory.new, later) control.new.pool control.new.versions) }
+    requires rests { MayCommand M.did control.old memory.old }
+    ensures deletes { Commands M.did control.old memory.old control.new memory.new
+        (λ c x z. Deletes (by_writer M.does c) FIRST SECOND control.old.config x prefix.now result z) }
     ensures config { control.new.config ≡ control.old.config }
 {
     let _bits = prefix.bits();
@@ -227,8 +193,7 @@ pub fn delete_rule<const FIRST: u32, const SECOND: u32, M: Memory>(
             let last = is_last(&control.rules, prefix);
             let update = Update::delete(prefix, cover, last);
             let rule = taking_out(prefix);
-            change::<FIRST, SECOND, M>(update, &rule, memory, &mut control.pool, &control.config);
-            control.versions += 1;
+            change::<FIRST, SECOND, M>(control, memory, update, &rule);
             return Ok(hop);
         }
         Err(_) => return Err(Refusal::NoSuchRule),
@@ -241,19 +206,9 @@ pub fn flush_rules<const FIRST: u32, const SECOND: u32, M: Memory>(
     control: &mut ControlState<FIRST, SECOND>,
     memory: &mut M,
 ) -> Result<usize, Refusal>
-    requires rests { (c : InitialState) × (steps : List WriterStep) × M.did memory.old c steps
-        × IsResting FIRST SECOND c steps control.old.config control.old.rules control.old.pool
-        control.old.versions }
-    ensures flushes { (c : InitialState) (steps : List WriterStep) → M.did memory.old c steps
-        → IsResting FIRST SECOND c steps control.old.config control.old.rules control.old.pool
-        control.old.versions
-        → (later : List WriterStep) × M.did memory.new c later
-        × IsResting FIRST SECOND c later control.new.config control.new.rules control.new.pool
-        control.new.versions
-        × Flushes (by_writer M.does c) FIRST SECOND control.old.config
-        (state_of control.old.rules.rules (memory.old, steps) control.old.pool control.old.versions)
-        result
-        (state_of control.new.rules.rules (memory.new, later) control.new.pool control.new.versions) }
+    requires rests { MayCommand M.did control.old memory.old }
+    ensures flushes { Commands M.did control.old memory.old control.new memory.new
+        (λ c x z. Flushes (by_writer M.does c) FIRST SECOND control.old.config x result z) }
     ensures config { control.new.config ≡ control.old.config }
 {
     if control.rules.is_empty() {
@@ -265,7 +220,6 @@ pub fn flush_rules<const FIRST: u32, const SECOND: u32, M: Memory>(
     let count = control.rules.clear();
     let update = Update::flush::<FIRST, SECOND>();
     let rule = RuleChange::Clear;
-    change::<FIRST, SECOND, M>(update, &rule, memory, &mut control.pool, &control.config);
-    control.versions += 1;
+    change::<FIRST, SECOND, M>(control, memory, update, &rule);
     Ok(count)
 }

@@ -1,6 +1,6 @@
 //! Groups that wait in limbo.
 
-ghost use Rattle.std.specs.Prelude.{◌≡◌, ℕ, ◌+◌, ◌^◌, ◌<◌, ◌≤◌, List, ◌++◌, Option, drop, length, IfOk, OnErr};
+ghost use Rattle.std.specs.Prelude.{◌≡◌, ℕ, ◌+◌, ◌^◌, ◌<◌, ◌≤◌, List, Option, drop, length, IfOk, OnErr};
 ghost use Rattle.lpm_groups.specs.States.{linked_count, IsLinkedTo};
 ghost use Rattle.lpm_update.specs.Tied.{SameLinksBut};
 ghost use Rattle.lpm_trace.specs.declared.step.WriterStep.{WriterStep};
@@ -8,8 +8,9 @@ ghost use Rattle.lpm_trace.specs.States.{InitialState};
 ghost use Rattle.fib_model.specs.Reclaiming.{MakesRoom, Reclaims};
 ghost use Rattle.lpm_writer.specs.Waiting.{AreWaiting, IsFreed, IsQueued, IsTaken, tokens_of};
 ghost use Rattle.lpm_writer.specs.Traced.{by_writer, Retires};
-ghost use Rattle.lpm_writer.specs.Matching.{HasUnlinked, HasRetired, OnlyChecks, GroupsMatchSteps, MayReclaim};
-ghost use Rattle.lpm_writer.specs.Taking.{LinksLeast, MayTake, Takes, taken_by};
+ghost use Rattle.lpm_writer.specs.Matching.{HasUnlinked, HasRetired, OnlyChecks, GroupsMatchSteps};
+ghost use Rattle.lpm_writer.specs.Freeing.{FreesBy, MayFree};
+ghost use Rattle.lpm_writer.specs.Taking.{LinksLeast, MayTakeAt, Takes, TakesAt, taken_by};
 
 use super::GroupPool;
 use super::grace::check;
@@ -18,20 +19,13 @@ use defer_queue::Reclaimed;
 use qsbr::{Busy, Config};
 
 /// Frees groups from the oldest in limbo on, at most `max`, up to the first that a worker holds.
+#[inline]
 pub(crate) fn free_waiting<M: Memory>(pool: &mut GroupPool, memory: &mut M, max: usize) -> Reclaimed
     requires waiting { AreWaiting pool.old.groups pool.old.queue.items }
-    requires kept { (c : InitialState) × (steps : List WriterStep) × (tail : List (ℕ × ℕ))
-        × (held : Option ℕ) × M.did memory.old c steps
-        × GroupsMatchSteps c steps pool.old.groups (pool.old.queue.items ++ tail) pool.old.passed held
-        × MayReclaim c steps pool.old.queue.items }
-    ensures reclaims { (c : InitialState) (steps : List WriterStep) (tail : List (ℕ × ℕ))
-        (held : Option ℕ) → M.did memory.old c steps
-        → GroupsMatchSteps c steps pool.old.groups (pool.old.queue.items ++ tail) pool.old.passed held
-        → MayReclaim c steps pool.old.queue.items
-        → (later : List WriterStep) × M.did memory.new c later × OnlyChecks c steps later
-        × GroupsMatchSteps c later pool.new.groups (pool.new.queue.items ++ tail) pool.new.passed held
-        × Reclaims (by_writer M.does c) (memory.old, steps) max (tokens_of pool.old.queue.items)
-        result.freed result.stopped (tokens_of pool.new.queue.items) (memory.new, later) }
+    requires kept { MayFree M.did memory.old pool.old }
+    ensures reclaims { FreesBy M.did memory.old pool.old memory.new pool.new
+        (λ c x limbo left z. Reclaims (by_writer M.does c) x max limbo result.freed result.stopped
+        left z) }
     ensures queue { pool.new.queue ≡ record pool.old.queue {
       items = drop result.freed pool.old.queue.items;
     } }
@@ -60,30 +54,30 @@ pub(crate) fn free_waiting<M: Memory>(pool: &mut GroupPool, memory: &mut M, max:
     }
 }
 
+/// How many groups are freed at most before one more waits: none, up to `threshold` of them.
+fn most_freed(waiting: usize, config: &Config) -> usize
+    ensures few { waiting ≤ config.now.threshold → result ≡ 0 }
+    ensures many { config.now.threshold < waiting → result ≡ config.now.reclaim_max }
+{
+    if waiting <= config.threshold {
+        return 0;
+    }
+    config.reclaim_max
+}
+
 /// Frees some groups where more than `threshold` of them wait.
 fn make_room<M: Memory>(pool: &mut GroupPool, memory: &mut M, config: &Config)
     requires waiting { AreWaiting pool.old.groups pool.old.queue.items }
-    requires kept { (c : InitialState) × (steps : List WriterStep) × (tail : List (ℕ × ℕ))
-        × (held : Option ℕ) × M.did memory.old c steps
-        × GroupsMatchSteps c steps pool.old.groups (pool.old.queue.items ++ tail) pool.old.passed held
-        × MayReclaim c steps pool.old.queue.items }
-    ensures room { (c : InitialState) (steps : List WriterStep) (tail : List (ℕ × ℕ))
-        (held : Option ℕ) → M.did memory.old c steps
-        → GroupsMatchSteps c steps pool.old.groups (pool.old.queue.items ++ tail) pool.old.passed held
-        → MayReclaim c steps pool.old.queue.items
-        → (later : List WriterStep) × M.did memory.new c later × OnlyChecks c steps later
-        × GroupsMatchSteps c later pool.new.groups (pool.new.queue.items ++ tail) pool.new.passed held
-        × MakesRoom (by_writer M.does c) config.now (memory.old, steps)
-        (tokens_of pool.old.queue.items) (tokens_of pool.new.queue.items) (memory.new, later) }
+    requires kept { MayFree M.did memory.old pool.old }
+    ensures room { FreesBy M.did memory.old pool.old memory.new pool.new
+        (λ c x limbo left z. MakesRoom (by_writer M.does c) config.now x limbo left z) }
     ensures freed { (n : ℕ) × (n ≤ length pool.old.queue.items)
         × (pool.new.queue ≡ record pool.old.queue { items = drop n pool.old.queue.items })
         × IsFreed pool.old.groups pool.old.queue.items n pool.new.groups }
     ensures waiting { AreWaiting pool.new.groups pool.new.queue.items }
 {
-    if pool.queue.len() <= config.threshold {
-        return;
-    }
-    free_waiting(pool, memory, config.reclaim_max);
+    let max = most_freed(pool.queue.len(), config);
+    free_waiting(pool, memory, max);
 }
 
 /// The group has lost its block: it waits in limbo from now on, under a token of its own. Where more
@@ -120,14 +114,9 @@ pub(crate) fn take<M: Memory>(
     block: usize,
 ) -> Result<u32, Option<Busy>>
     requires queued { IsQueued pool.old.groups pool.old.queue }
-    requires rests { (c : InitialState) × (steps : List WriterStep) × M.did memory.old c steps
-        × MayTake c steps pool.old }
-    ensures takes { (c : InitialState) (steps : List WriterStep) → M.did memory.old c steps
-        → MayTake c steps pool.old
-        → (later : List WriterStep) × M.did memory.new c later × OnlyChecks c steps later
-        × GroupsMatchSteps c later pool.new.groups pool.new.queue.items pool.new.passed (taken_by result)
-        × Takes (by_writer M.does c) (memory.old, steps) pool.old result
-        (memory.new, later) pool.new }
+    requires rests { MayTakeAt M.did memory.old pool.old }
+    ensures takes { TakesAt M.did memory.old pool.old memory.new pool.new (taken_by result)
+        (λ c x z. Takes (by_writer M.does c) x pool.old result z pool.new) }
     ensures linked { IfOk result (λ g. IsTaken pool.old.groups g block pool.new.groups) }
     ensures least { LinksLeast pool.old.groups pool.new.groups }
     ensures unchanged { OnErr result ((pool.new.groups ≡ pool.old.groups)

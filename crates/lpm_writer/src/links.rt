@@ -1,15 +1,12 @@
 //! The group by which a rule is added.
 
-ghost use Rattle.std.specs.Prelude.{◌≡◌, ℕ, ◌/◌, ◌^◌, ◌<◌, ◌↔◌, List, IfOk, OnErr, IsTrue, IsSome, length};
+ghost use Rattle.std.specs.Prelude.{◌≡◌, ℕ, ◌/◌, ◌^◌, ◌↔◌, IfOk, OnErr, IsTrue, IsSome, length};
 ghost use Rattle.lpm_bits.specs.Widths.{IsShape};
 ghost use Rattle.lpm_cells.specs.Table.{IsWords};
 ghost use Rattle.lpm_update.specs.Linked.{group_at};
-ghost use Rattle.lpm_trace.specs.declared.step.WriterStep.{WriterStep};
-ghost use Rattle.lpm_trace.specs.States.{InitialState};
 ghost use Rattle.lpm_writer.specs.Waiting.{IsQueued, IsTaken};
 ghost use Rattle.lpm_writer.specs.Traced.{by_writer};
-ghost use Rattle.lpm_writer.specs.Matching.{OnlyChecks, GroupsMatchSteps};
-ghost use Rattle.lpm_writer.specs.Taking.{LinksLeast, MayTake, Finds, NeedsGroup, found_by};
+ghost use Rattle.lpm_writer.specs.Taking.{LinksLeast, MayTakeAt, TakesAt, Finds, found_by};
 
 use super::GroupPool;
 use super::limbo::take;
@@ -46,14 +43,10 @@ pub(crate) fn group_for<const FIRST: u32, const SECOND: u32, M: Memory>(
     requires linked { IsTrue linked
         ↔ IsSome (group_at (M.words memory.old).firsts (prefix.now.bits / 2 ^ SECOND)) }
     requires queued { IsQueued pool.old.groups pool.old.queue }
-    requires rests { (c : InitialState) × (steps : List WriterStep) × M.did memory.old c steps
-        × MayTake c steps pool.old }
-    ensures finds { (c : InitialState) (steps : List WriterStep) → M.did memory.old c steps
-        → MayTake c steps pool.old
-        → (later : List WriterStep) × M.did memory.new c later × OnlyChecks c steps later
-        × GroupsMatchSteps c later pool.new.groups pool.new.queue.items pool.new.passed (found_by result)
-        × Finds (by_writer M.does c) FIRST SECOND (M.words memory.old).firsts prefix.now
-        (memory.old, steps) pool.old result (memory.new, later) pool.new }
+    requires rests { MayTakeAt M.did memory.old pool.old }
+    ensures finds { TakesAt M.did memory.old pool.old memory.new pool.new (found_by result)
+        (λ c x z. Finds (by_writer M.does c) FIRST SECOND (M.words memory.old).firsts prefix.now
+        x pool.old result z pool.new) }
     ensures least { LinksLeast pool.old.groups pool.new.groups }
     ensures unchanged { OnErr result ((pool.new.groups ≡ pool.old.groups)
         × (pool.new.queue ≡ pool.old.queue)) }

@@ -7,7 +7,7 @@ ghost use Rattle.lpm_trace.specs.declared.step.WriterStep.{WriterStep};
 ghost use Rattle.lpm_trace.specs.declared.step.WriterStep.TheVariants.{BumpToken};
 ghost use Rattle.lpm_trace.specs.States.{InitialState};
 ghost use Rattle.lpm_writer.specs.Traced.{Goes, Checks};
-ghost use Rattle.lpm_writer.specs.Resting.{IsResting};
+ghost use Rattle.lpm_writer.specs.Commands.{MayCommand, Rests};
 ghost use Rattle.lpm_writer.specs.Synchronizing.{IsWaiting};
 
 use super::Exhausted;
@@ -24,13 +24,10 @@ pub fn start_synchronize<const FIRST: u32, const SECOND: u32, M: Memory>(
     control: &ControlState<FIRST, SECOND>,
     memory: &mut M,
 ) -> Result<(), Exhausted>
-    requires rests { (c : InitialState) × (steps : List WriterStep) × M.did memory.old c steps
-        × IsResting FIRST SECOND c steps control.now.config control.now.rules control.now.pool
-        control.now.versions }
+    requires rests { MayCommand M.did control.now memory.old }
     ensures exhausted { IsErr result ↔ (2 ^ 62 < M.newest memory.old + control.now.config.groups) }
     ensures starts { OnOk result ((c : InitialState) (steps : List WriterStep) → M.did memory.old c steps
-        → IsResting FIRST SECOND c steps control.now.config control.now.rules control.now.pool
-        control.now.versions
+        → Rests c steps control.now
         → (later : List WriterStep) × M.did memory.new c later
         × Goes M.does (memory.old, steps) BumpToken (memory.new, later)
         × IsWaiting FIRST SECOND c later control.now.config control.now.rules control.now.pool
@@ -59,8 +56,7 @@ pub fn check_synchronize<const FIRST: u32, const SECOND: u32, M: Memory>(
         control.old.versions
         → (later : List WriterStep) × M.did memory.new c later
         × Checks M.does c (memory.old, steps) (M.newest memory.old) result (memory.new, later)
-        × OnOk result (IsResting FIRST SECOND c later control.new.config control.new.rules
-        control.new.pool control.new.versions)
+        × OnOk result (Rests c later control.new)
         × OnErr result (IsWaiting FIRST SECOND c later control.new.config control.new.rules
         control.new.pool control.new.versions) }
     ensures passed { OnOk result (M.newest memory.old ≤ control.new.pool.passed) }

@@ -1,11 +1,15 @@
 use Rattle.lpm_groups.specs.States.{linked_count}
+use Rattle.lpm_writer.proofs.Memories.{AsMemory}
 use Rattle.lpm_writer.proofs.MakingStores.{IsUnderWayAt}
+use Rattle.lpm_writer.proofs.stores.store_all.Given.{Over}
 use Rattle.lpm_writer.proofs.stores.store_all.Given as goal
+
+abbrev pub memory : (g : Over) → AsMemory g.row.M.Denot
+memory g = let met = g.met.M.Memory in record { cells = g.M.Cells; says = g.M.Memory; follows = met.follows; shows = met.shows; written = met.written; may_first = met.may_first; may_second = met.may_second; first_stored = met.first_stored; second_stored = met.second_stored }
 
 abbrev pub invariant-loop-group : goal.invariant-loop-group
 invariant-loop-group g l =
-    let k = g.M.Memory in
-    IsUnderWayAt g.M.Cells.words k.newest k.did k.does g.row.FIRST g.row.SECOND l.config l.fn.memory l.fn.pool l.fn.update l.memory l.pool l.update
+    IsUnderWayAt (memory g) g.row.FIRST g.row.SECOND l.config l.fn.memory l.fn.pool l.fn.update l.memory l.pool l.update
 
 -- each turn but the last gives a group up
 abbrev pub decreases-loop-group : goal.decreases-loop-group
