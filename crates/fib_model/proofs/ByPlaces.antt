@@ -2,7 +2,7 @@
 -- same as the definition, and the proofs about one check after another go by it.
 use Rattle.std.proofs.Common.{arith, ◌≡◌, ℕ, zero, suc, ◌<◌, ◌≤◌, ◌⊎◌, inl, inr, refl, ap, sym, ◌∙◌, subst, List, [], ◌∷◌, length, drop, slice_get, Option, Some, None, Ok, Err, MatchOption}
 use Rattle.lpm_limits.specs.declared.busy.Busy.{Busy}
-use Rattle.defer_queue.specs.Reclaims.{FreesFront}
+use Rattle.defer_queue.specs.Reclaims.{Ends, FreesFront}
 use Rattle.defer_queue.proofs.Fronts.{FreesFront-suc}
 use Rattle.fib_model.specs.State.{Transitions}
 use Rattle.fib_model.specs.Reclaiming as model
@@ -84,9 +84,15 @@ module _ {X : Type 0} (t : Transitions X) where
 
   -- ---- both ways
 
+  ends : (max : ℕ) (limbo : List ℕ) (freed : ℕ) (stopped : Option Busy) (left : List ℕ) (last z : X) → freed ≤ length limbo → left ≡ drop freed limbo → Ends t.checks Frees max freed left last stopped z
+      → MatchOption stopped ((z ≡ last) × ((freed ≡ max) ⊎ (freed ≡ length limbo))) (λ busy. (freed < max) × ((u : ℕ) × (slice_get limbo freed ≡ Some u) × t.checks last u (Err busy) z))
+  ends max limbo freed None left last z within rest e = (e.1, elim e.0 [ inl all ↦ inl all | inr none ↦ inr (none_left freed limbo within (sym rest ∙ none)) ])
+  ends max limbo freed (Some busy) [] last z within rest e = absurd e
+  ends max limbo freed (Some busy) (u ∷ left) last z within rest e = (e.0, (u, first_at freed limbo u left rest, e.1))
+
   pub by_places : (x : X) (max : ℕ) (limbo : List ℕ) (freed : ℕ) (stopped : Option Busy) (left : List ℕ) (z : X)
       → model.Reclaims t x max limbo freed stopped left z → Reclaims t x max limbo freed stopped left z
-  by_places x max limbo freed None left z r =
+  by_places x max limbo freed stopped left z r =
       let before = took freed limbo x left r.last r.front in
       record {
         at_most = r.at_most;
@@ -94,24 +100,7 @@ module _ {X : Type 0} (t : Transitions X) where
         last = r.last;
         passed = before.passed;
         rest = before.rest;
-        end = (
-          r.end.1,
-          elim r.end.0 [
-            | inl all ↦ inl all
-            | inr none ↦ inr (none_left freed limbo before.within (sym before.rest ∙ none))
-          ],
-        );
-      }
-  by_places x max limbo freed (Some busy) [] z r = absurd r.end
-  by_places x max limbo freed (Some busy) (u ∷ left) z r =
-      let before = took freed limbo x (u ∷ left) r.last r.front in
-      record {
-        at_most = r.at_most;
-        within = before.within;
-        last = r.last;
-        passed = before.passed;
-        rest = before.rest;
-        end = (r.end.0, (u, first_at freed limbo u left before.rest, r.end.1));
+        end = ends max limbo freed stopped left r.last z before.within before.rest r.end;
       }
 
   pub by_front : (x : X) (max : ℕ) (limbo : List ℕ) (freed : ℕ) (stopped : Option Busy) (left : List ℕ) (z : X)
