@@ -10,13 +10,13 @@ ghost use Rattle.lpm_writer.specs.Resting.{IsDue};
 ghost use Rattle.lpm_writer.specs.Traced.{by_writer};
 
 use super::control::ControlState;
-use super::stores::store_all;
+use super::limbo::retire;
 use crate::Memory;
 use lpm_trace::RuleChange;
 use lpm_update::Update;
 
 /// Makes the whole update of a change of the rules, which the rule list has already: it begins, its
-/// stores are made, and it is done.
+/// stores are made, upwards, and it is done. Each group that it unlinks goes into limbo directly after.
 pub(crate) fn change<const FIRST: u32, const SECOND: u32, M: Memory>(
     control: &mut ControlState<FIRST, SECOND>,
     memory: &mut M,
@@ -39,7 +39,10 @@ pub(crate) fn change<const FIRST: u32, const SECOND: u32, M: Memory>(
     ensures versions { control.new.versions ≡ control.old.versions + 1 }
 {
     memory.open(rule_change);
-    store_all::<FIRST, SECOND, M>(update, memory, &mut control.pool, &control.config);
+    let mut update = update;
+    while let Some(group) = update.run::<FIRST, SECOND, M>(memory) {
+        retire(&mut control.pool, memory, group, &control.config);
+    }
     memory.close();
     control.versions += 1;
 }

@@ -12,7 +12,6 @@ mod open_error;
 mod opening;
 mod plain_memory;
 mod pool;
-mod stores;
 mod synchronizing;
 
 pub use control::{ControlState, add_rule, delete_rule, flush_rules, reclaim_groups};
