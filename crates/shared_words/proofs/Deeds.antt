@@ -76,13 +76,6 @@ around addrs low high lo hi v b u w begins ends known_then known same lo_is hi_i
       (hi_is ∙ ap begun_at (may_now (EndLookup high) u w ends known).2);
 }
 
--- what is loaded after the lookup began is loaded after what the worker had seen before
-pub after_all : (addrs : List ℕ) (lo hi first : ℕ) (v b u w : View) → LoadsAround addrs lo hi v b u w
-    → length b.seen ≤ first → length v.seen ≤ first
-after_all addrs lo hi first v b u w h le =
-    let updates_begun_in : GoesOn v b = gains_on (BeginLookup addrs h.low) v b h.begins in
-    omega (arith, later_longer v.seen b.seen updates_begun_in.later, le)
-
 -- steps one after another
 pub goes_after : (newer older : List WorkerStep) (u v w : View) → GainsAll newer v w → GainsAll older u v
     → GainsAll (newer ++ older) u w

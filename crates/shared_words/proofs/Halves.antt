@@ -9,9 +9,6 @@ use Rattle.shared_words.specs.Layout.{half, pairs, pair_at, packed_words}
 -- ---- the halves of a word
 
 -- the place says which half by whether it is even
-pub half_same : (k l w : ℕ) → k % 2 ≡ l % 2 → half k w ≡ half l w
-half_same k l w e = ap (λ (side : ℕ). w / 2 ^ (side * 32) % 2 ^ 32) e
-
 pub half_even : (k w : ℕ) → k % 2 ≡ 0 → half k w ≡ w % 2 ^ 32
 half_even k w e =
     let low : half k w ≡ w / 1 % 2 ^ 32 = ap (λ (side : ℕ). w / 2 ^ (side * 32) % 2 ^ 32) e in

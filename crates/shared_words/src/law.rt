@@ -1,19 +1,18 @@
 //! The rule of the table, and what each step tells its seat.
 
-ghost use Rattle.std.specs.Prelude.{ℕ, List, []};
-ghost use Rattle.lpm_trace.specs.declared.step.RuleChange.{RuleChange};
-ghost use Rattle.lpm_trace.specs.declared.step.RuleChange.TheVariants.{Clear};
-ghost use Rattle.lpm_trace.specs.declared.step.WriterStep.TheVariants.{StoreFirst, StoreSecond, BeginUpdate as OpensUpdate, EndUpdate, BumpToken, LoadCounter};
-ghost use Rattle.lpm_trace.specs.declared.step.WorkerStep.TheVariants.{LoadOnline, StoreOnline, LoadQuiescent, StoreQuiescent, StoreOffline, BeginLookup, EndLookup, MeetWriter};
-ghost use Rattle.shared_words.specs.Layout.{half};
+ghost use Rattle.std.specs.Prelude.{◌≡◌, ◌<◌};
+ghost use mathlib.Core.Option.{none};
+ghost use Rattle.atomic_table.specs.Table.{Allows, step};
+ghost use Rattle.lpm_trace.specs.declared.step.WriterStep.TheVariants.{EndUpdate, BumpToken};
+ghost use Rattle.lpm_trace.specs.declared.step.WorkerStep.TheVariants.{LoadOnline, StoreOnline, LoadQuiescent, StoreQuiescent, StoreOffline, EndLookup, MeetWriter};
 ghost use Rattle.shared_words.specs.Rule.{Holds, writer_view, worker_view, with_one_more, note_of, read_note, view_with_note};
-ghost use Rattle.shared_words.specs.Seats.{WriterGains, WriterLooks, SeatCompares, WorkerGains, WorkerGainsFirst, WorkerGainsSecond};
+ghost use Rattle.shared_words.specs.Seats.{WriterGains, WriterLooks, SeatCompares, WorkerGains};
 
 use crate::initial::InitialContent;
 use crate::view::View;
 use atomic_table::{Join, Play, Seat, Split, Table, TableRule};
 use std::alloc::Global;
-use std::marker::{Brand, PhantomData};
+use std::marker::Brand;
 
 /// The rule: the words and the views show the end of a trace.
 pub struct TraceRule;
@@ -30,58 +29,53 @@ pub type Board<T> = Table<(), View, T, TraceRule, Global>;
 /// A seat at it, with what that seat knows.
 pub type Place = Seat<(), View>;
 
-/// What a call picks for its step, beside the shared word that this loads or stores: the place and the word
-/// of the table that it is of, the change of an update that begins, the token and the worker of a check, and
-/// the addresses of a lookup.
-pub trait Picks {
-    ghost change: { RuleChange };
-
-    ghost word: { ℕ };
-
-    ghost token: { ℕ };
-
-    ghost index: { ℕ };
-
-    ghost addrs: { List ℕ };
+// What a call picks for its step has the step's parts, which the word doesn't tell.
+impl Play<(), View> for Brand {
+    ghost then = { λ s me n me'. me' ≡ me };
 }
 
-impl Picks for Brand {
-    ghost change = { Clear };
-
-    ghost word = { 0 };
-
-    ghost token = { 0 };
-
-    ghost index = { 0 };
-
-    ghost addrs = { [] };
+/// A load, which is the step that the call picks by what it is told of it. A signature with a const parameter
+/// would not let a call pick.
+#[inline]
+pub fn load_as<T: InitialContent, J: Play<(), View>, A: Copy>(
+    board: &Board<T>,
+    place: &mut Place,
+    at: usize,
+    told: A,
+) -> u64
+    requires own { (place.old.table_id ≡ board.now.shared.table_id)
+        × (at < board.now.shared.table_id.words) }
+    requires allowed { Allows (Holds (T.initial board.now.shared.key))
+        board.now.shared.table_id.slots place.old.id place.old.me at (λ n. n)
+        (J.then (step board.now.shared.table_id.slots at 0 0 none) place.old.me) }
+    ensures own { place.new.table_id ≡ place.old.table_id }
+    ensures gains { J.then (step board.now.shared.table_id.slots at 0 0 none) place.old.me result
+        place.new.me }
+{
+    let _ = told;
+    board.shared.load::<J>(place, at)
 }
 
-/// A first word is stored at this place.
-pub struct StoresFirst<J: Picks> {
-    of: PhantomData<J>,
-}
-
-impl<J: Picks> Play<(), View> for StoresFirst<J> {
-    ghost then = { λ s me n. WriterGains (StoreFirst J.index J.word) me };
-}
-
-/// A second word is stored at this place.
-pub struct StoresSecond<J: Picks> {
-    of: PhantomData<J>,
-}
-
-impl<J: Picks> Play<(), View> for StoresSecond<J> {
-    ghost then = { λ s me n. WriterGains (StoreSecond J.index J.word) me };
-}
-
-/// The sequence is stored: the update of this change begins.
-pub struct OpensUpdates<J: Picks> {
-    of: PhantomData<J>,
-}
-
-impl<J: Picks> Play<(), View> for OpensUpdates<J> {
-    ghost then = { λ s me n. WriterGains (OpensUpdate J.change) me };
+/// A store, which is the step that the call picks by what it is told of it.
+#[inline]
+pub fn store_as<T: InitialContent, J: Play<(), View>, A: Copy>(
+    board: &Board<T>,
+    place: &mut Place,
+    at: usize,
+    number: u64,
+    told: A,
+)
+    requires own { (place.old.table_id ≡ board.now.shared.table_id)
+        × (at < board.now.shared.table_id.words) }
+    requires allowed { Allows (Holds (T.initial board.now.shared.key))
+        board.now.shared.table_id.slots place.old.id place.old.me at (λ _. number)
+        (λ _. J.then (step board.now.shared.table_id.slots at number 0 none) place.old.me number) }
+    ensures own { place.new.table_id ≡ place.old.table_id }
+    ensures gains { J.then (step board.now.shared.table_id.slots at number 0 none) place.old.me number
+        place.new.me }
+{
+    let _ = told;
+    board.shared.store::<J>(place, at, number)
 }
 
 /// The sequence is stored: the update is done.
@@ -96,15 +90,6 @@ pub struct BumpsToken;
 
 impl Play<(), View> for BumpsToken {
     ghost then = { λ s me n. WriterGains BumpToken me };
-}
-
-/// The counter of this worker is loaded, in a check of this token.
-pub struct LoadsCounter<J: Picks> {
-    of: PhantomData<J>,
-}
-
-impl<J: Picks> Play<(), View> for LoadsCounter<J> {
-    ghost then = { λ s me n. WriterGains (LoadCounter J.token J.index n) me };
 }
 
 /// The writer loads a word that it alone changes, which is no step.
@@ -154,33 +139,6 @@ pub struct StoresOffline;
 
 impl Play<(), View> for StoresOffline {
     ghost then = { λ s me n. WorkerGains StoreOffline me };
-}
-
-/// A worker loads the sequence: a lookup of these addresses begins.
-pub struct BeginsLookup<J: Picks> {
-    of: PhantomData<J>,
-}
-
-impl<J: Picks> Play<(), View> for BeginsLookup<J> {
-    ghost then = { λ s me n. WorkerGains (BeginLookup J.addrs n) me };
-}
-
-/// A worker loads the first word at this place.
-pub struct LoadsFirst<J: Picks> {
-    of: PhantomData<J>,
-}
-
-impl<J: Picks> Play<(), View> for LoadsFirst<J> {
-    ghost then = { λ s me n. WorkerGainsFirst me (half J.index n) };
-}
-
-/// A worker loads the second word at this place.
-pub struct LoadsSecond<J: Picks> {
-    of: PhantomData<J>,
-}
-
-impl<J: Picks> Play<(), View> for LoadsSecond<J> {
-    ghost then = { λ s me n. WorkerGainsSecond me (half J.index n) };
 }
 
 /// A worker loads the sequence: the lookup ends.

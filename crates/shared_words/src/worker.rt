@@ -9,13 +9,12 @@ ghost use Rattle.lpm_trace.specs.Trace.{worker_by};
 ghost use Rattle.lpm_trace.specs.Workers.{Offline, ComingOnline, Online, LookingUp, ReportingQuiescent, AreBegun, AreAnswered, IsBetweenDeeds};
 ghost use Rattle.shared_words.specs.declared.view.Role.TheVariants.{Worker as AsWorker};
 ghost use Rattle.shared_words.specs.Initial.{initial_state_of};
-ghost use Rattle.shared_words.specs.Layout.{first_at, pairs, second_at, sequence_at};
 ghost use Rattle.shared_words.specs.Seats.{IsOf, IsSound, Gains, IsFirstAt, IsSecondAt};
 
 use crate::initial::InitialContent;
 use crate::law::{
-    BeginsLookup, Board, Compares, EndsLookup, Hears, LoadsFirst, LoadsOnline, LoadsQuiescent,
-    LoadsSecond, Meeting, Notes, Picks, Place, StoresOffline, StoresOnline, StoresQuiescent,
+    Compares, EndsLookup, Hears, LoadsOnline, LoadsQuiescent, Meeting, Notes, Place, StoresOffline,
+    StoresOnline, StoresQuiescent, load_as,
 };
 use crate::layout::{Layout, first_at, half};
 use crate::words::SharedWords;
@@ -45,85 +44,6 @@ impl Model for WorkerSeat {
     } };
 
     ghost invariant = { λ s. IsWorkerSeat s.number s.place.me };
-}
-
-// The caller picks the addresses. A signature with a const parameter would not let it.
-fn begin_as<T: InitialContent, J: Picks>(
-    board: &Board<T>,
-    place: &mut Place,
-    at: usize,
-    number: u64,
-    addrs: &[u64],
-) -> u64
-    requires own { (place.old.table_id ≡ board.now.shared.table_id)
-        × (at < board.now.shared.table_id.words) }
-    requires place { at ≡ sequence_at }
-    requires alone { place.old.me.1 ≡ [] }
-    requires role { place.old.me.0.role ≡ AsWorker number }
-    requires picked { J.addrs ≡ addrs.now }
-    requires online { (worker_by place.old.me.0.own).phase ≡ Online }
-    requires addrs { All (λ a. a < addresses (initial_state_of place.old.me.0.initial)) addrs.now }
-    ensures own { (place.new.table_id ≡ place.old.table_id) × (place.new.me.1 ≡ place.old.me.1) }
-    ensures step { Gains (BeginLookup addrs.now result) place.old.me.0 place.new.me.0 }
-    ensures sound { IsSound place.new.me.0 }
-{
-    let _ = number;
-    let _ = addrs;
-    board.shared.load::<BeginsLookup<J>>(place, at)
-}
-
-// The caller picks the place of the table word that is loaded.
-#[inline]
-fn load_first_as<T: InitialContent, J: Picks>(
-    board: &Board<T>,
-    place: &mut Place,
-    number: u64,
-    at: usize,
-    i: usize,
-) -> u64
-    requires own { (place.old.table_id ≡ board.now.shared.table_id)
-        × (at < board.now.shared.table_id.words) }
-    requires place { (at ≡ first_at i) × (i < length (T.initial board.now.shared.key).firsts) }
-    requires alone { place.old.me.1 ≡ [] }
-    requires role { place.old.me.0.role ≡ AsWorker number }
-    requires picked { J.index ≡ i }
-    requires looking { (worker_by place.old.me.0.own).phase ≡ LookingUp }
-    requires next { IsFirstAt place.old.me.0.initial.second i (worker_by place.old.me.0.own).probes }
-    ensures own { (place.new.table_id ≡ place.old.table_id) × (place.new.me.1 ≡ place.old.me.1) }
-    ensures step { Gains (FirstLoad result) place.old.me.0 place.new.me.0 }
-    ensures sound { IsSound place.new.me.0 }
-    ensures word { IsFirstWord (place.old.me.0.initial.first + place.old.me.0.initial.second)
-        place.old.me.0.initial.second place.old.me.0.initial.seconds result }
-{
-    let _ = number;
-    half(i, board.shared.load::<LoadsFirst<J>>(place, at))
-}
-
-#[inline]
-fn load_second_as<T: InitialContent, J: Picks>(
-    board: &Board<T>,
-    place: &mut Place,
-    number: u64,
-    at: usize,
-    j: usize,
-) -> u64
-    requires own { (place.old.table_id ≡ board.now.shared.table_id)
-        × (at < board.now.shared.table_id.words) }
-    requires place { (at ≡ second_at (T.initial board.now.shared.key) j)
-        × (j < length (T.initial board.now.shared.key).seconds) }
-    requires alone { place.old.me.1 ≡ [] }
-    requires role { place.old.me.0.role ≡ AsWorker number }
-    requires picked { J.index ≡ j }
-    requires looking { (worker_by place.old.me.0.own).phase ≡ LookingUp }
-    requires begun { AreBegun (worker_by place.old.me.0.own).probes }
-    requires next { IsSecondAt place.old.me.0.initial.second j (worker_by place.old.me.0.own).probes }
-    ensures own { (place.new.table_id ≡ place.old.table_id) × (place.new.me.1 ≡ place.old.me.1) }
-    ensures step { Gains (SecondLoad result) place.old.me.0 place.new.me.0 }
-    ensures sound { IsSound place.new.me.0 }
-    ensures word { IsLastWord (place.old.me.0.initial.first + place.old.me.0.initial.second) result }
-{
-    let _ = number;
-    half(j, board.shared.load::<LoadsSecond<J>>(place, at))
 }
 
 impl WorkerSeat {
@@ -233,7 +153,7 @@ impl WorkerSeat {
         ensures step { Gains (BeginLookup addrs.now result) self.old.view self.new.view }
     {
         let at = Layout::SEQUENCE;
-        begin_as::<T, Brand>(&table.board, &mut self.place, at, self.number, addrs)
+        load_as::<T, Brand, &[u64]>(&table.board, &mut self.place, at, addrs)
     }
 
     /// Loads the first word of the next address, which lies at place `i`.
@@ -251,7 +171,9 @@ impl WorkerSeat {
             (self.old.view.initial.first + self.old.view.initial.second)
             self.old.view.initial.second self.old.view.initial.seconds result }
     {
-        load_first_as::<T, Brand>(&table.board, &mut self.place, self.number, first_at(i), i)
+        let at = first_at(i);
+        let shared = load_as::<T, Brand, usize>(&table.board, &mut self.place, at, i);
+        half(i, shared)
     }
 
     /// Loads the second word of the next address that has a group, which lies at place `j`.
@@ -270,7 +192,8 @@ impl WorkerSeat {
             (self.old.view.initial.first + self.old.view.initial.second) result }
     {
         let at = table.layout.second_at(j);
-        load_second_as::<T, Brand>(&table.board, &mut self.place, self.number, at, j)
+        let shared = load_as::<T, Brand, usize>(&table.board, &mut self.place, at, j);
+        half(j, shared)
     }
 
     /// Loads the sequence: the lookup, of which each address has its answer, ends.

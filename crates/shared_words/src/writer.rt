@@ -6,15 +6,11 @@ ghost use Rattle.lpm_trace.specs.States.{state_after};
 ghost use Rattle.lpm_trace.specs.Writer.{MayStep};
 ghost use Rattle.shared_words.specs.declared.view.Role.TheVariants.{Writer as AsWriter};
 ghost use Rattle.shared_words.specs.Initial.{initial_state_of};
-ghost use Rattle.shared_words.specs.Layout.{half, first_at, second_at, sequence_at, counter_at};
 ghost use Rattle.shared_words.specs.Rule.{with_one_more, worker_view};
-ghost use Rattle.shared_words.specs.Seats.{IsOf, KeepsFirst, KeepsSecond, AreLawful, with_step};
+ghost use Rattle.shared_words.specs.Seats.{IsOf, AreLawful, with_step};
 
 use crate::initial::InitialContent;
-use crate::law::{
-    Board, BumpsToken, ClosesUpdates, LoadsCounter, Looks, NextWorker, OpensUpdates, Picks, Place,
-    StoresFirst, StoresSecond,
-};
+use crate::law::{BumpsToken, ClosesUpdates, Looks, NextWorker, Place, load_as, store_as};
 use crate::layout::{Layout, first_at, half, with_half};
 use crate::words::SharedWords;
 use crate::worker::WorkerSeat;
@@ -40,112 +36,6 @@ impl Model for WriterSeat {
     ghost invariant = { λ s. IsWriterSeat s.place.me };
 }
 
-// The calls that follow pick what a step carries beside its word. A signature with a const parameter would
-// not let them.
-
-fn store_first_as<T: InitialContent, J: Picks>(
-    board: &Board<T>,
-    place: &mut Place,
-    at: usize,
-    i: usize,
-    word: u64,
-    shared: u64,
-)
-    requires own { (place.old.table_id ≡ board.now.shared.table_id)
-        × (at < board.now.shared.table_id.words) }
-    requires place { at ≡ first_at i }
-    requires alone { place.old.me.1 ≡ [] }
-    requires role { place.old.me.0.role ≡ AsWriter }
-    requires picked { (J.index ≡ i) × (J.word ≡ word) }
-    requires may { MayStep (initial_state_of place.old.me.0.initial) place.old.me.0.seen
-        (StoreFirst i word) }
-    requires stored { half i shared ≡ word }
-    requires kept { KeepsFirst place.old.me.0.initial place.old.me.0.seen i shared }
-    ensures own { (place.new.table_id ≡ place.old.table_id) × (place.new.me.1 ≡ place.old.me.1) }
-    ensures step { place.new.me.0 ≡ with_step place.old.me.0 (StoreFirst i word) }
-    ensures lawful { AreLawful place.new.me.0.initial place.new.me.0.seen }
-{
-    let _ = i;
-    let _ = word;
-    board.shared.store::<StoresFirst<J>>(place, at, shared)
-}
-
-fn store_second_as<T: InitialContent, J: Picks>(
-    board: &Board<T>,
-    place: &mut Place,
-    at: usize,
-    j: usize,
-    word: u64,
-    shared: u64,
-)
-    requires own { (place.old.table_id ≡ board.now.shared.table_id)
-        × (at < board.now.shared.table_id.words) }
-    requires place { at ≡ second_at (T.initial board.now.shared.key) j }
-    requires alone { place.old.me.1 ≡ [] }
-    requires role { place.old.me.0.role ≡ AsWriter }
-    requires picked { (J.index ≡ j) × (J.word ≡ word) }
-    requires may { MayStep (initial_state_of place.old.me.0.initial) place.old.me.0.seen
-        (StoreSecond j word) }
-    requires stored { half j shared ≡ word }
-    requires kept { KeepsSecond place.old.me.0.initial place.old.me.0.seen j shared }
-    ensures own { (place.new.table_id ≡ place.old.table_id) × (place.new.me.1 ≡ place.old.me.1) }
-    ensures step { place.new.me.0 ≡ with_step place.old.me.0 (StoreSecond j word) }
-    ensures lawful { AreLawful place.new.me.0.initial place.new.me.0.seen }
-{
-    let _ = j;
-    let _ = word;
-    board.shared.store::<StoresSecond<J>>(place, at, shared)
-}
-
-fn open_as<T: InitialContent, J: Picks>(
-    board: &Board<T>,
-    place: &mut Place,
-    at: usize,
-    change: &RuleChange,
-    number: u64,
-)
-    requires own { (place.old.table_id ≡ board.now.shared.table_id)
-        × (at < board.now.shared.table_id.words) }
-    requires place { at ≡ sequence_at }
-    requires alone { place.old.me.1 ≡ [] }
-    requires role { place.old.me.0.role ≡ AsWriter }
-    requires picked { J.change ≡ change.now }
-    requires next { number ≡ (state_after (initial_state_of place.old.me.0.initial) place.old.me.0.seen).sequence + 1 }
-    requires may { MayStep (initial_state_of place.old.me.0.initial) place.old.me.0.seen
-        (OpensUpdate change.now) }
-    ensures own { (place.new.table_id ≡ place.old.table_id) × (place.new.me.1 ≡ place.old.me.1) }
-    ensures step { place.new.me.0 ≡ with_step place.old.me.0 (OpensUpdate change.now) }
-    ensures lawful { AreLawful place.new.me.0.initial place.new.me.0.seen }
-{
-    let _ = change;
-    board.shared.store::<OpensUpdates<J>>(place, at, number)
-}
-
-fn load_counter_as<T: InitialContent, J: Picks>(
-    board: &Board<T>,
-    place: &mut Place,
-    at: usize,
-    token: u64,
-    worker: usize,
-) -> u64
-    requires own { (place.old.table_id ≡ board.now.shared.table_id)
-        × (at < board.now.shared.table_id.words) }
-    requires place { (at ≡ counter_at (T.initial board.now.shared.key) worker)
-        × (worker < (T.initial board.now.shared.key).workers) }
-    requires alone { place.old.me.1 ≡ [] }
-    requires role { place.old.me.0.role ≡ AsWriter }
-    requires picked { (J.token ≡ token) × (J.index ≡ worker) }
-    requires may { (counter : ℕ) → MayStep (initial_state_of place.old.me.0.initial) place.old.me.0.seen
-        (LoadCounter token worker counter) }
-    ensures own { (place.new.table_id ≡ place.old.table_id) × (place.new.me.1 ≡ place.old.me.1) }
-    ensures step { place.new.me.0 ≡ with_step place.old.me.0 (LoadCounter token worker result) }
-    ensures lawful { AreLawful place.new.me.0.initial place.new.me.0.seen }
-{
-    let _ = token;
-    let _ = worker;
-    board.shared.load::<LoadsCounter<J>>(place, at)
-}
-
 impl WriterSeat {
     /// Does nothing: its contract says what the writer's steps are.
     #[inline]
@@ -168,7 +58,7 @@ impl WriterSeat {
         let at = first_at(i);
         let found = table.board.shared.load::<Looks>(&mut self.place, at);
         let shared = with_half(i, found, word);
-        store_first_as::<T, Brand>(&table.board, &mut self.place, at, i, word, shared);
+        store_as::<T, Brand, (usize, u64)>(&table.board, &mut self.place, at, shared, (i, word));
     }
 
     /// Stores a second word: one store of the shared word in which it stands, beside its neighbour as this
@@ -184,7 +74,7 @@ impl WriterSeat {
         let at = table.layout.second_at(j);
         let found = table.board.shared.load::<Looks>(&mut self.place, at);
         let shared = with_half(j, found, word);
-        store_second_as::<T, Brand>(&table.board, &mut self.place, at, j, word, shared);
+        store_as::<T, Brand, (usize, u64)>(&table.board, &mut self.place, at, shared, (j, word));
     }
 
     /// Stores the next number of the sequence: the update of this change begins.
@@ -204,7 +94,7 @@ impl WriterSeat {
         ensures step { self.new.view ≡ with_step self.old.view (OpensUpdate change.now) }
     {
         let at = Layout::SEQUENCE;
-        open_as::<T, Brand>(&table.board, &mut self.place, at, change, number);
+        store_as::<T, Brand, &RuleChange>(&table.board, &mut self.place, at, number, change);
     }
 
     /// Stores the next number of the sequence: the update is done.
@@ -259,7 +149,7 @@ impl WriterSeat {
         ensures step { self.new.view ≡ with_step self.old.view (LoadCounter token worker result) }
     {
         let at = table.layout.counter_at(worker);
-        load_counter_as::<T, Brand>(&table.board, &mut self.place, at, token, worker)
+        load_as::<T, Brand, (u64, usize)>(&table.board, &mut self.place, at, (token, worker))
     }
 
     /// The first word at place `i`, which this writer alone changes. It is no step.

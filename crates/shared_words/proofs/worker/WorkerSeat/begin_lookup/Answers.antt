@@ -1,5 +1,9 @@
-use Rattle.std.proofs.Common.{rules}
+use Rattle.std.proofs.Common.{refl, rules}
+use Rattle.shared_words.proofs.Reading.{begins_allowed}
+use Rattle.shared_words.proofs.Seat.{phase_inside}
 use Rattle.shared_words.proofs.worker.WorkerSeat.begin_lookup.Goals as goal
 
-pub begin_as-requires-clause-place : goal.begin_as-requires-clause-place
-begin_as-requires-clause-place c = search rules
+pub load_as-requires-clause-allowed : goal.load_as-requires-clause-allowed
+load_as-requires-clause-allowed g c =
+    begins_allowed _ _ _ _ _ _ c.self.invariant.role c.args.addrs.now refl
+    (phase_inside _ _ _ c.self.view_is c.requires.online) (search rules)

@@ -1,6 +1,6 @@
-use Rattle.std.proofs.Common.{[]}
-use Rattle.lpm_trace.specs.declared.step.RuleChange.TheVariants.{Clear}
+use Rattle.lpm_trace.specs.declared.step.WriterStep.TheVariants.{LoadCounter}
+use Rattle.shared_words.specs.Seats.{WriterGains}
 use Rattle.shared_words.proofs.writer.WriterSeat.load_counter.Given as goal
 
-abbrev pub ghosts-load_counter_as : goal.ghosts-load_counter_as
-ghosts-load_counter_as g a = record { change = Clear; word = 0; token = a.token; index = a.worker; addrs = [] }
+abbrev pub ghosts-load_as : goal.ghosts-load_as
+ghosts-load_as g a = record { then = λ s me n. WriterGains (LoadCounter a.told.0 a.told.1 n) me }

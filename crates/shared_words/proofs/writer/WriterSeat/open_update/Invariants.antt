@@ -1,5 +1,6 @@
-use Rattle.std.proofs.Common.{[]}
+use Rattle.lpm_trace.specs.declared.step.WriterStep.TheVariants.{BeginUpdate}
+use Rattle.shared_words.specs.Seats.{WriterGains}
 use Rattle.shared_words.proofs.writer.WriterSeat.open_update.Given as goal
 
-abbrev pub ghosts-open_as : goal.ghosts-open_as
-ghosts-open_as g a = record { change = a.change.now; word = 0; token = 0; index = 0; addrs = [] }
+abbrev pub ghosts-store_as : goal.ghosts-store_as
+ghosts-store_as g a = record { then = λ s me n. WriterGains (BeginUpdate a.told.now) me }
