@@ -20,7 +20,7 @@ use Rattle.shared_words.specs.Initial.{InitialData, initial_state_of}
 use Rattle.shared_words.specs.Rule.{IsLater}
 use Rattle.shared_words.specs.Seats.{IsSound, Gains}
 use Rattle.shared_words.specs.Loads.{Found, IsReadOn, seen_of}
-use Rattle.shared_words.specs.Deeds.{GainsAll, GainsAt, GoesOn, LoadsAround, LoadsWords, LooksUp}
+use Rattle.shared_words.specs.Deeds.{GainsAll, GainsAt, GoesOn, LoadsAround}
 
 -- ---- one step
 
@@ -139,7 +139,7 @@ firsts_are r v w first g known is =
     firsts ∙ ap (λ n. 2 ^ n) same
 
 -- a word that may stand in the first table still may after more steps
-word_fits : (u v w : View) (first second n : ℕ) → GoesOn u v → GoesOn v w
+pub word_fits : (u v w : View) (first second n : ℕ) → GoesOn u v → GoesOn v w
     → u.initial.first ≡ first → u.initial.second ≡ second
     → IsFirstWord (v.initial.first + v.initial.second) v.initial.second v.initial.seconds n
     → IsFirstWord (first + second) second w.initial.seconds n
@@ -159,22 +159,6 @@ all_four P a b c d all =
     let all4 = All-tail P c (d ∷ []) all3 in
     (All-head P a (b ∷ c ∷ d ∷ []) all, All-head P b (c ∷ d ∷ []) all2, All-head P c (d ∷ []) all3, All-head P d [] all4)
 
--- four words that may stand in the first table still may after more steps
-pub words_fit : (u v w : View) (first second a b c d : ℕ) → GoesOn u v → GoesOn v w
-    → u.initial.first ≡ first → u.initial.second ≡ second
-    → All (IsFirstWord (v.initial.first + v.initial.second) v.initial.second v.initial.seconds) (a ∷ b ∷ c ∷ d ∷ [])
-    → IsFirstWord (first + second) second w.initial.seconds a
-    × IsFirstWord (first + second) second w.initial.seconds b
-    × IsFirstWord (first + second) second w.initial.seconds c
-    × IsFirstWord (first + second) second w.initial.seconds d
-words_fit u v w first second a b c d h k is_first is_second fit =
-    let fits = all_four (IsFirstWord (v.initial.first + v.initial.second) v.initial.second v.initial.seconds) a b c d fit in (
-      word_fits u v w first second a h k is_first is_second fits.0,
-      word_fits u v w first second b h k is_first is_second fits.1,
-      word_fits u v w first second c h k is_first is_second fits.2,
-      word_fits u v w first second d h k is_first is_second fits.3,
-    )
-
 -- a word that answers is no group's
 pub alone : (e : Entry) → IsLast e → IsReadOn e None (hop_in e)
 alone Miss last = (refl, refl)
@@ -185,114 +169,3 @@ pub answered : (now a : ℕ) (e : Entry) → IsLast e → read_first now a e ≡
 answered now a Miss last = refl
 answered now a (Hop hop depth) last = refl
 answered now a (Group group) last = absurd last
-
-module _ (addr : ℕ) (v : View) (unread : (worker_by v.own).probes ≡ Unread addr ∷ []) where
-  module _ (word : ℕ) (u : View) (first : Gains (LoadFirst word) v u) where
-    -- the first word answers
-    pub one_word : IsLast (entry_in word) → LoadsWords addr word v u
-    one_word last =
-        let now : ℕ = length first.seen in
-        record {
-          found = record { addr = addr; hop = hop_in (entry_in word); word = word; first = now; second = None };
-          steps = (v, refl, first, refl);
-          exact = alone (entry_in word) last;
-          answer = (refl, refl);
-          rest = gains_on (LoadFirst word) v u first;
-          after = later_longer v.seen first.seen first.later;
-          state = gains_state (LoadFirst word) v u first
-              ∙ ap (λ (ps : List Probe). record (worker_by v.own) { probes = ps })
-              (ap (first_read now (entry_in word)) unread
-              ∙ ap (λ (p : Probe). p ∷ []) (answered now addr (entry_in word) last));
-        }
-
-    module _ (group : ℕ) (is : entry_in word ≡ Group group) where
-      in_group : worker_by u.own
-          ≡ record (worker_by v.own) { probes = InGroup addr group (length first.seen) ∷ [] }
-      in_group = gains_state (LoadFirst word) v u first
-          ∙ ap (λ (ps : List Probe). record (worker_by v.own) { probes = ps })
-          (ap (first_read (length first.seen) (entry_in word)) unread
-          ∙ ap (λ (e : Entry). read_first (length first.seen) addr e ∷ []) is)
-
-      -- the second word answers
-      pub two_words : (last : ℕ) (w : View) → Gains (LoadSecond last) u w → LoadsWords addr last v w
-      two_words last w second = record {
-        found = record {
-          addr = addr;
-          hop = hop_in (entry_in last);
-          word = word;
-          first = length first.seen;
-          second = Some (last, length second.seen);
-        };
-        steps = (u, (v, refl, first, refl), second, refl);
-        exact = subst (λ (e : Entry). IsReadOn e (Some (last, length second.seen)) (hop_in (entry_in last))) (sym is)
-            ((last, length second.seen), refl, refl);
-        answer = (refl, refl);
-        rest = goes_on v u w (gains_on (LoadFirst word) v u first) (gains_on (LoadSecond last) u w second);
-        after = later_longer v.seen first.seen first.later;
-        state = gains_state (LoadSecond last) u w second
-            ∙ ap (λ (x : WorkerState). worker_by_step (length second.seen) x (LoadSecond last)) in_group;
-      }
-
--- ---- a lookup
-
-module _ (addr low last high : ℕ) (v b u w : View) (begins : Gains (BeginLookup (addr ∷ []) low) v b)
-    (words : LoadsWords addr last b u) (ends : Gains (EndLookup high) u w) (known_then : IsSound b) (known : IsSound w) where
-  abbrev answered_by : Found
-  answered_by = record words.found { addr = addr; hop = hop_in (entry_in last) }
-
-  abbrev seen_by : Seen
-  seen_by = seen_of (done_at low) (begun_at high) answered_by
-
-  state : worker_by w.own ≡ record (worker_by v.own) {
-    phase = Online;
-    lo = done_at low;
-    probes = [];
-    finished = seen_by ∷ (worker_by v.own).finished;
-  }
-  state = gains_state (EndLookup high) u w ends
-      ∙ ap (λ (x : WorkerState). worker_by_step (length ends.seen) x (EndLookup high))
-      (words.state
-      ∙ ap (λ (x : WorkerState). record x {
-        probes = Answered addr (hop_in (entry_in last)) seen_by.first seen_by.last ∷ [];
-      })
-      (gains_state (BeginLookup (addr ∷ []) low) v b begins))
-
-  on : GoesOn v w
-  on = goes_on v b w (gains_on (BeginLookup (addr ∷ []) low) v b begins)
-      (goes_on b u w words.rest (gains_on (EndLookup high) u w ends))
-
-  finished : (worker_by w.own).finished ≡ seen_by ∷ (worker_by v.own).finished
-  finished = ap (λ (x : WorkerState). x.finished) state
-
-  legal : IsLegalAtPlace (initial_state_of v.initial) w.seen seen_by
-  legal =
-      let all : All (IsLegalAtPlace (initial_state_of v.initial) w.seen) (worker_by w.own).finished = subst
-      (λ (o : InitialData). All (IsLegalAtPlace (initial_state_of o) w.seen) (worker_by w.own).finished)
-      (ap (λ (x : View). x.initial) on.same) known.legal in
-      All-head (IsLegalAtPlace (initial_state_of v.initial) w.seen) seen_by (worker_by v.own).finished
-      (subst (All (IsLegalAtPlace (initial_state_of v.initial) w.seen)) finished all)
-
-  -- it is the lookup that the loads tell
-  same_found : answered_by ≡ words.found
-  same_found = λ i. record words.found { addr = sym words.answer.0 i; hop = sym words.answer.1 i }
-
-  pub looked : (hop : Option ℕ) (lo hi : ℕ) → hop ≡ hop_in (entry_in last) → lo ≡ done_at low
-      → hi ≡ begun_at high
-      → LooksUp addr hop lo hi v w
-  looked hop lo hi hop_is lo_is hi_is =
-      let loaded : GoesOn v u = goes_on v b u (gains_on (BeginLookup (addr ∷ []) low) v b begins) words.rest in
-      let initial : u.initial ≡ v.initial = ap (λ (x : View). x.initial) loaded.same in
-      let seen_is : seen_by ≡ seen_of lo hi words.found = λ i. seen_of (sym lo_is i) (sym hi_is i) (same_found i) in record {
-        started = b;
-        loaded = u;
-        around = around (addr ∷ []) low high lo hi v b u w begins ends known_then known initial lo_is hi_is;
-        found = words.found;
-        steps = words.steps;
-        exact = words.exact;
-        answer = (words.answer.0, words.answer.1 ∙ sym hop_is);
-        rest = on;
-        online = ap (λ (x : WorkerState). x.phase) state;
-        finished = finished ∙ ap (λ (l : Seen). l ∷ (worker_by v.own).finished) seen_is;
-        after = words.after;
-        legal = subst (IsLegalAtPlace (initial_state_of v.initial) w.seen) seen_is legal;
-      }

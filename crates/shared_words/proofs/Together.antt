@@ -1,20 +1,23 @@
--- The steps of a lookup of four addresses.
-use Rattle.std.proofs.Common.{◌≡◌, ℕ, ◌+◌, ◌*◌, ◌%◌, ◌^◌, ◌≤◌, All, List, [], ◌∷◌, ◌++◌, length, Option, Some, None, refl, sym, ap, subst, ◌∙◌, arith}
-use Rattle.std.proofs.lemmas.List.Elements.{All-nil, All-cons, All-head, All-tail}
+-- The steps of a lookup of one address, and of four.
+use Rattle.std.proofs.Common.{◌≡◌, ℕ, ◌+◌, ◌*◌, ◌%◌, ◌^◌, ◌≤◌, All, List, [], ◌∷◌, ◌++◌, map, length, slice_index, Option, Some, None, refl, sym, ap, subst, ◌∙◌, append-nil, append_assoc, arith}
+use Rattle.std.proofs.lemmas.List.Elements.{All-nil, All-cons, All-head, All-tail, All-push}
+use mathlib.Core.List.{reverse_aux, reverse_aux-eq, tail}
 use Rattle.lpm_cells.specs.declared.entry.Entry.{Entry}
 use Rattle.lpm_cells.specs.declared.entry.Entry.TheVariants.{Miss, Hop, Group}
+use Rattle.lpm_cells.specs.Table.{IsFirstWord}
 use Rattle.lpm_cells.specs.Words.{entry_in, hop_in, IsLast}
+use Rattle.lpm_trace.specs.declared.step.WorkerStep.{WorkerStep}
 use Rattle.lpm_trace.specs.declared.step.WorkerStep.TheVariants.{BeginLookup, LoadFirst, LoadSecond, EndLookup}
 use Rattle.lpm_trace.specs.States.{done_at, begun_at}
 use Rattle.lpm_trace.specs.Trace.{worker_by}
-use Rattle.lpm_trace.specs.Workers.{Worker as WorkerState, Online, LookingUp, Unread, InGroup, Answered, Seen, Probe, worker_by_step, read_first, first_read, second_read, AreBegun, AreAnswered}
+use Rattle.lpm_trace.specs.Workers.{Worker as WorkerState, Online, LookingUp, Unread, InGroup, Answered, Seen, Probe, worker_by_step, with_answers, read_first, first_read, second_read, AreBegun, AreAnswered}
 use Rattle.lpm_trace.specs.Laws.{IsLegalAtPlace}
 use Rattle.shared_words.specs.declared.view.View.{View}
 use Rattle.shared_words.specs.Initial.{InitialData, initial_state_of}
 use Rattle.shared_words.specs.Seats.{IsSound, Gains, IsSecondAt}
-use Rattle.shared_words.specs.Loads.{Found, IsReadOn, last_at, seen_of}
-use Rattle.shared_words.specs.Deeds.{GainsAt, GoesOn, LoadsFirsts, LoadsLast, IsNextWith, LooksUpAll, first_words, loads_first}
-use Rattle.shared_words.proofs.Deeds.{alone, gains_on, goes_at, goes_on, gains_state, around, later_longer, answered}
+use Rattle.shared_words.specs.Loads.{Found, IsReadOn, last_at, seen_of, firsts_at, loads_at, second_load, seconds_at}
+use Rattle.shared_words.specs.Deeds.{GainsAt, GoesOn, LoadsFirsts, LoadsLast, IsNextWith, LooksFor, LooksUp, LooksUpAll, first_words, loads_first}
+use Rattle.shared_words.proofs.Deeds.{alone, gains_on, goes_at, goes_on, gains_state, around, later_longer, answered, word_fits}
 
 -- ---- the probes of a lookup
 
@@ -68,6 +71,20 @@ first_stands r a word rest before v w g begun stands =
     gains_state (LoadFirst word) v w g
     ∙ ap (λ (x : WorkerState). worker_by_step (length g.seen) x (LoadFirst word)) stands
     ∙ ap (λ (ps : List Probe). record r { probes = ps }) (first_read_at (length g.seen) a (entry_in word) rest before begun)
+
+-- the first word of an address that is looked up alone
+first_loaded : {addr word : ℕ} {v u : View} → (worker_by v.own).probes ≡ Unread addr ∷ []
+    → Gains (LoadFirst word) v u → LoadsFirsts (addr ∷ []) (word ∷ []) v u
+first_loaded {addr} {word} {v} {u} unread g = record {
+  steps = (v, refl, g, refl);
+  rest = gains_on (LoadFirst word) v u g;
+  places = length g.seen ∷ [];
+  count = refl;
+  after = All-cons (λ n. length v.seen ≤ n) (length g.seen) [] (later_longer v.seen g.seen g.later)
+      (All-nil (λ n. length v.seen ≤ n));
+  state = first_stands (worker_by v.own) addr word [] [] v u g tt
+      (ap (λ (ps : List Probe). record (worker_by v.own) { probes = ps }) unread);
+}
 
 module _ (a b c d : ℕ) (v v1 v2 v3 w : View) (x1 x2 x3 x4 : ℕ) (g1 : Gains (LoadFirst x1) v v1)
     (g2 : Gains (LoadFirst x2) v1 v2) (g3 : Gains (LoadFirst x3) v2 v3) (g4 : Gains (LoadFirst x4) v3 w) where
@@ -156,272 +173,253 @@ module _ (addr word : ℕ) (v : View) where
 
 -- ---- the whole lookup
 
-four : (xs : List ℕ) → length xs ≡ 4 → (n1 n2 n3 n4 : ℕ) × (xs ≡ n1 ∷ n2 ∷ n3 ∷ n4 ∷ [])
-four [] count = absurd (omega (arith, count))
-four (n1 ∷ []) count = absurd (omega (arith, count))
-four (n1 ∷ n2 ∷ []) count = absurd (omega (arith, count))
-four (n1 ∷ n2 ∷ n3 ∷ []) count = absurd (omega (arith, count))
-four (n1 ∷ n2 ∷ n3 ∷ n4 ∷ []) count = (n1, n2, n3, n4, refl)
-four (n1 ∷ n2 ∷ n3 ∷ n4 ∷ n5 ∷ xs) count = absurd (omega (arith, count))
+-- the answer that was found for an address
+abbrev answer : Found → Probe
+answer f = Answered f.addr f.hop f.first (last_at f.first f.second)
 
--- one word that answers, where those before have answers and those behind have first words
-last_stands : (r : WorkerState) (addr word last first : ℕ) (before rest : List Probe) (u s : View) → AreAnswered before
-    → AreBegun rest → Stands r (before ++ read_first first addr (entry_in word) ∷ rest) u → (loads : LoadsLast addr word last u s)
-    → Stands r (before ++ Answered addr (hop_in (entry_in last)) first (last_at first loads.second) ∷ rest) s
-last_stands r addr word last first before rest u s done begun stands loads =
-    let next : IsNextWith addr word (worker_by u.own).probes = record {
-      before = before;
-      rest = rest;
-      first = first;
-      answered = done;
-      begun = begun;
-      split = ap (λ (x : WorkerState). x.probes) stands;
-    } in
-    let probes : List Probe = before ++ Answered addr (hop_in (entry_in last)) first (last_at first loads.second) ∷ rest in
-    loads.state next ∙ ap (λ (x : WorkerState). record x { probes = probes }) stands
+all_answers : (done : List Found) → AreAnswered (map answer done)
+all_answers [] = tt
+all_answers (f ∷ done) = all_answers done
 
-next_with : (r : WorkerState) (addr word first : ℕ) (before rest : List Probe) (u : View) → AreAnswered before
-    → AreBegun rest → Stands r (before ++ read_first first addr (entry_in word) ∷ rest) u
-    → IsNextWith addr word (worker_by u.own).probes
-next_with r addr word first before rest u done begun stands = record {
-  before = before;
-  rest = rest;
-  first = first;
-  answered = done;
-  begun = begun;
-  split = ap (λ (x : WorkerState). x.probes) stands;
-}
+all_first : (places addrs words : List ℕ) → AreBegun (first_words places addrs words)
+all_first [] addrs words = tt
+all_first (n ∷ places) [] words = tt
+all_first (n ∷ places) (a ∷ addrs) [] = tt
+all_first (n ∷ places) (a ∷ addrs) (word ∷ words) =
+    begun_cons n a (entry_in word) (first_words places addrs words) (all_first places addrs words)
 
-looking_by : (r : WorkerState) (probes : List Probe) (u : View) → r.phase ≡ LookingUp → Stands r probes u
-    → (worker_by u.own).phase ≡ LookingUp
-looking_by r probes u looking stands = ap (λ (x : WorkerState). x.phase) stands ∙ looking
+-- one more address has its answer
+answer_more : (done : List Found) (f : Found) (rest : List Probe)
+    → map answer done ++ answer f ∷ rest ≡ map answer (done ++ f ∷ []) ++ rest
+answer_more [] f rest = refl
+answer_more (x ∷ done) f rest = ap (λ (ps : List Probe). answer x ∷ ps) (answer_more done f rest)
 
-all_of : (P : Found → Type 0) (a b c d : Found) → P a → P b → P c → P d → All P (a ∷ b ∷ c ∷ d ∷ [])
-all_of P a b c d p q r s =
-    All-cons P a (b ∷ c ∷ d ∷ []) p (All-cons P b (c ∷ d ∷ []) q (All-cons P c (d ∷ []) r (All-cons P d [] s (All-nil P))))
+firsts_more : (done : List Found) (f : Found)
+    → (LoadFirst f.word, f.first) ∷ [] ++ firsts_at done ≡ firsts_at (done ++ f ∷ [])
+firsts_more [] f = refl
+firsts_more (x ∷ done) f =
+    ap (λ (steps : List (WorkerStep × ℕ)). steps ++ (LoadFirst x.word, x.first) ∷ []) (firsts_more done f)
+
+seconds_more : (done : List Found) (f : Found)
+    → second_load f.second ++ seconds_at done ≡ seconds_at (done ++ f ∷ [])
+seconds_more [] f = append-nil (second_load f.second)
+seconds_more (x ∷ done) f = sym (append_assoc (second_load f.second) (seconds_at done) (second_load x.second))
+    ∙ ap (λ (steps : List (WorkerStep × ℕ)). steps ++ second_load x.second) (seconds_more done f)
+
+-- a lookup of these addresses began at view v and had its first words at view f. At view u those that are
+-- done have their answers, and behind them those that are left have their first words.
+pub record Reads (all : List ℕ) (low : ℕ) (v0 v f : View) (done : List Found) (places left words : List ℕ) (u : View)
+    : Type 0 where
+  pub begins : Gains (BeginLookup all low) v0 v
+  pub count : length places ≡ length left
+  pub fit : All (IsFirstWord (v.initial.first + v.initial.second) v.initial.second v.initial.seconds) words
+  pub stands : worker_by u.own ≡ record (worker_by v.own) { probes = map answer done ++ first_words places left words }
+  pub firsts : GainsAt (loads_first places words ++ firsts_at done) v f
+  pub seconds : GainsAt (seconds_at done) f u
+  pub exact : All (λ x. IsReadOn (entry_in x.word) x.second x.hop) done
+  pub after : All (λ x. length v.seen ≤ x.first) done
+  pub later : All (λ n. length v.seen ≤ n) places
+  pub on : GoesOn v u
 
 pub same_four : {A : Type 0} {a b c d a' b' c' d' : A} → a' ≡ a → b' ≡ b → c' ≡ c → d' ≡ d
     → a' ∷ b' ∷ c' ∷ d' ∷ [] ≡ a ∷ b ∷ c ∷ d ∷ []
 same_four p q s t = λ i. p i ∷ q i ∷ s i ∷ t i ∷ []
 
-module _ (a b c d low : ℕ) (addrs : List ℕ) (same : addrs ≡ a ∷ b ∷ c ∷ d ∷ []) (v0 v : View)
-    (begun : Gains (BeginLookup addrs low) v0 v) where
-  abbrev r : WorkerState
-  r = worker_by v.own
+-- the first words are loaded
+pub reads : {all addrs words : List ℕ} {low : ℕ} {v0 v f : View} → all ≡ addrs → Gains (BeginLookup all low) v0 v
+    → All (IsFirstWord (v.initial.first + v.initial.second) v.initial.second v.initial.seconds) words
+    → (loads : LoadsFirsts addrs words v f) → Reads addrs low v0 v f [] loads.places addrs words f
+reads {all} {addrs} {words} {low} {v0} {v} {f} same begun fit loads = record {
+  begins = subst (λ (xs : List ℕ). Gains (BeginLookup xs low) v0 v) same begun;
+  count = loads.count;
+  fit = fit;
+  stands = loads.state;
+  firsts = subst (λ (steps : List (WorkerStep × ℕ)). GainsAt steps v f)
+      (sym (append-nil (loads_first loads.places words))) loads.steps;
+  seconds = refl;
+  exact = All-nil (λ x. IsReadOn (entry_in x.word) x.second x.hop);
+  after = All-nil (λ x. length v.seen ≤ x.first);
+  later = loads.after;
+  on = loads.rest;
+}
 
-  begins : Gains (BeginLookup (a ∷ b ∷ c ∷ d ∷ []) low) v0 v
-  begins = subst (λ (xs : List ℕ). Gains (BeginLookup xs low) v0 v) same begun
+pub reads_alone : {a addr word low : ℕ} {v0 v f : View} → a ≡ addr → Gains (BeginLookup (a ∷ []) low) v0 v
+    → IsFirstWord (v.initial.first + v.initial.second) v.initial.second v.initial.seconds word
+    → (g : Gains (LoadFirst word) v f)
+    → Reads (addr ∷ []) low v0 v f [] (length g.seen ∷ []) (addr ∷ []) (word ∷ []) f
+unfolding first_loaded
+reads_alone {a} {addr} {word} {low} {v0} {v} {f} same begun fit g =
+    let unread = ap (λ (x : WorkerState). x.probes) (gains_state (BeginLookup (a ∷ []) low) v0 v begun)
+    ∙ ap (λ n. Unread n ∷ []) same in
+    let is = IsFirstWord (v.initial.first + v.initial.second) v.initial.second v.initial.seconds in
+    reads (ap (λ n. n ∷ []) same) begun (All-cons is word [] fit (All-nil is)) (first_loaded unread g)
 
-  looking : r.phase ≡ LookingUp
-  looking = ap (λ (x : WorkerState). x.phase) (gains_state (BeginLookup (a ∷ b ∷ c ∷ d ∷ []) low) v0 v begins)
+-- an address that was looked up, where its first word was loaded at the first of these places
+abbrev found : ℕ → ℕ → ℕ → List ℕ → Option (ℕ × ℕ) → Found
+found a word last places second = record {
+  addr = a;
+  hop = hop_in (entry_in last);
+  word = word;
+  first = slice_index places 0;
+  second = second;
+}
 
-  module _ (x1 x2 x3 x4 : ℕ) (f : View) (firsts : LoadsFirsts (a ∷ b ∷ c ∷ d ∷ []) (x1 ∷ x2 ∷ x3 ∷ x4 ∷ []) v f) where
-    abbrev places_of : (n1 n2 n3 n4 : ℕ) × (firsts.places ≡ n1 ∷ n2 ∷ n3 ∷ n4 ∷ [])
-    places_of = four firsts.places firsts.count
+module _ {all : List ℕ} {low : ℕ} {v0 v f : View} {done : List Found} where
+  -- the next address
+  next_of : {n a word : ℕ} {places left words : List ℕ} {u : View}
+      → Reads all low v0 v f done (n ∷ places) (a ∷ left) (word ∷ words) u → IsNextWith a word (worker_by u.own).probes
+  next_of {n} {a} {word} {places} {left} {words} h = record {
+    before = map answer done;
+    rest = first_words places left words;
+    first = n;
+    answered = all_answers done;
+    begun = all_first places left words;
+    split = ap (λ (x : WorkerState). x.probes) h.stands;
+  }
 
-    abbrev n1 : ℕ
-    n1 = places_of.0
+  pub looking : {places left words : List ℕ} {u : View} → Reads all low v0 v f done places left words u
+      → (worker_by u.own).phase ≡ LookingUp
+  looking h = ap (λ (x : WorkerState). x.phase) h.stands
+      ∙ ap (λ (x : WorkerState). x.phase) (gains_state (BeginLookup all low) v0 v h.begins)
 
-    abbrev n2 : ℕ
-    n2 = places_of.1
+  pub looks_for : {first second a word : ℕ} {places left words : List ℕ} {u : View}
+      → Reads all low v0 v f done places (a ∷ left) (word ∷ words) u
+      → v0.initial.first ≡ first → v0.initial.second ≡ second → LooksFor first second a word u
+  looks_for {places = []} h is_first is_second = absurd (omega (arith, h.count))
+  looks_for {first} {second} {a} {word} {places = n ∷ places} {left} {words} {u} h is_first is_second =
+      let is = IsFirstWord (v.initial.first + v.initial.second) v.initial.second v.initial.seconds in
+      record {
+        fit = word_fits v0 v u first second word (gains_on (BeginLookup all low) v0 v h.begins) h.on is_first is_second
+            (All-head is word words h.fit);
+        looking = looking h;
+        next = next_of h;
+      }
 
-    abbrev n3 : ℕ
-    n3 = places_of.2
+  -- one more address has its answer
+  pub answers : {a word last : ℕ} {places left words : List ℕ} {u s : View}
+      → Reads all low v0 v f done places (a ∷ left) (word ∷ words) u → (loads : LoadsLast a word last u s)
+      → Reads all low v0 v f (done ++ found a word last places loads.second ∷ []) (tail places) left words s
+  unfolding next_of
+  answers {places = []} h loads = absurd (omega (arith, h.count))
+  answers {a} {word} {last} {places = n ∷ places} {left} {words} {u} {s} h loads =
+      let x : Found = found a word last (n ∷ places) loads.second in
+      record {
+        begins = h.begins;
+        count = omega (arith, h.count);
+        fit = All-tail (IsFirstWord (v.initial.first + v.initial.second) v.initial.second v.initial.seconds) word words h.fit;
+        stands = loads.state (next_of h)
+            ∙ ap (λ (r : WorkerState). record r { probes = map answer done ++ answer x ∷ first_words places left words }) h.stands
+            ∙ ap (λ (ps : List Probe). record (worker_by v.own) { probes = ps })
+            (answer_more done x (first_words places left words));
+        firsts = subst (λ (steps : List (WorkerStep × ℕ)). GainsAt steps v f)
+            (append_assoc (loads_first places words) ((LoadFirst word, n) ∷ []) (firsts_at done)
+            ∙ ap (λ (steps : List (WorkerStep × ℕ)). loads_first places words ++ steps) (firsts_more done x)) h.firsts;
+        seconds = subst (λ (steps : List (WorkerStep × ℕ)). GainsAt steps f s) (seconds_more done x)
+            (goes_at (second_load loads.second) (seconds_at done) f u s loads.steps h.seconds);
+        exact = All-push (λ x. IsReadOn (entry_in x.word) x.second x.hop) done x h.exact loads.exact;
+        after = All-push (λ x. length v.seen ≤ x.first) done x h.after
+            (All-head (λ n. length v.seen ≤ n) n places h.later);
+        later = All-tail (λ n. length v.seen ≤ n) n places h.later;
+        on = goes_on v u s h.on loads.rest;
+      }
 
-    abbrev n4 : ℕ
-    n4 = places_of.3
+  pub all_answered : {places : List ℕ} {s : View} → Reads all low v0 v f done places [] [] s
+      → AreAnswered (worker_by s.own).probes
+  all_answered {places = n ∷ places} h = absurd (omega (arith, h.count))
+  all_answered {places = []} h = subst (λ (x : WorkerState). AreAnswered x.probes) (sym h.stands)
+      (subst AreAnswered (sym (append-nil (map answer done))) (all_answers done))
 
-    abbrev p2 : Probe
-    p2 = read_first n2 b (entry_in x2)
+-- what the end of a lookup finishes
+in_order : (lo hi : ℕ) (done : List Found) (old : List Seen)
+    → with_answers lo hi (map answer done) old ≡ reverse_aux (map (seen_of lo hi) done) old
+in_order lo hi [] old = refl
+in_order lo hi (x ∷ done) old = in_order lo hi done (seen_of lo hi x ∷ old)
 
-    abbrev p3 : Probe
-    p3 = read_first n3 c (entry_in x3)
+module _ (P : Seen → Type 0) (lo hi : ℕ) where
+  kept : (done : List Found) (old : List Seen) → All P (reverse_aux (map (seen_of lo hi) done) old) → All P old
+  kept [] old all = all
+  kept (x ∷ done) old all = All-tail P (seen_of lo hi x) old (kept done (seen_of lo hi x ∷ old) all)
 
-    abbrev p4 : Probe
-    p4 = read_first n4 d (entry_in x4)
+  each : (done : List Found) (old : List Seen) → All P (reverse_aux (map (seen_of lo hi) done) old)
+      → All (λ x. P (seen_of lo hi x)) done
+  each [] old all = All-nil (λ x. P (seen_of lo hi x))
+  each (x ∷ done) old all = All-cons (λ x. P (seen_of lo hi x)) x done
+      (All-head P (seen_of lo hi x) old (kept done (seen_of lo hi x ∷ old) all))
+      (each done (seen_of lo hi x ∷ old) all)
 
-    begun4 : AreBegun (p4 ∷ [])
-    begun4 = begun_cons n4 d (entry_in x4) [] tt
+module _ {all : List ℕ} {low high : ℕ} {v0 v f : View} {done : List Found} {s w : View} where
+  pub looked_together : {places : List ℕ} {hops : List (Option ℕ)} {lo hi : ℕ} → Reads all low v0 v f done places [] [] s
+      → Gains (EndLookup high) s w → IsSound v → IsSound w → map (λ (x : Found). x.addr) done ≡ all
+      → map (λ (x : Found). x.hop) done ≡ hops → lo ≡ done_at low → hi ≡ begun_at high
+      → LooksUpAll all hops lo hi v0 w
+  looked_together {places = n ∷ places} h ends known_then known addrs_are hops_are lo_is hi_is = absurd (omega (arith, h.count))
+  looked_together {places = []} {hops} {lo} {hi} h ends known_then known addrs_are hops_are lo_is hi_is =
+      let old : List Seen = (worker_by v0.own).finished in
+      let began : GoesOn v0 v = gains_on (BeginLookup all low) v0 v h.begins in
+      let loaded : GoesOn v0 s = goes_on v0 v s began h.on in
+      let on : GoesOn v0 w = goes_on v0 s w loaded (gains_on (EndLookup high) s w ends) in
+      let state : worker_by w.own ≡ record (worker_by v0.own) {
+        phase = Online;
+        lo = done_at low;
+        probes = [];
+        finished = with_answers (done_at low) (begun_at high) (map answer done) old;
+      } = gains_state (EndLookup high) s w ends
+      ∙ ap (λ (x : WorkerState). worker_by_step (length ends.seen) x (EndLookup high))
+      (h.stands ∙ ap (λ (ps : List Probe). record (worker_by v.own) { probes = ps }) (append-nil (map answer done))
+      ∙ ap (λ (x : WorkerState). record x { probes = map answer done }) (gains_state (BeginLookup all low) v0 v h.begins)) in
+      let finished : (worker_by w.own).finished ≡ reverse_aux (map (seen_of lo hi) done) old =
+      ap (λ (x : WorkerState). x.finished) state ∙ in_order (done_at low) (begun_at high) done old
+      ∙ (λ i. reverse_aux (map (seen_of (sym lo_is i) (sym hi_is i)) done) old) in
+      let IsLegal : Seen → Type 0 = IsLegalAtPlace (initial_state_of v0.initial) w.seen in
+      let legal : All IsLegal (worker_by w.own).finished = subst
+      (λ (o : InitialData). All (IsLegalAtPlace (initial_state_of o) w.seen) (worker_by w.own).finished)
+      (ap (λ (x : View). x.initial) on.same) known.legal in
+      record {
+        started = v;
+        loaded = s;
+        around = around all low high lo hi v0 v s w h.begins ends known_then known
+            (ap (λ (x : View). x.initial) loaded.same) lo_is hi_is;
+        found = done;
+        steps = goes_at (seconds_at done) (firsts_at done) v f s h.seconds h.firsts;
+        exact = h.exact;
+        addrs_are = addrs_are;
+        hops_are = hops_are;
+        rest = on;
+        online = ap (λ (x : WorkerState). x.phase) state;
+        finished = finished ∙ reverse_aux-eq (map (seen_of lo hi) done) old;
+        after = h.after;
+        legal = each IsLegal lo hi done old (subst (All IsLegal) finished legal);
+      }
 
-    begun34 : AreBegun (p3 ∷ p4 ∷ [])
-    begun34 = begun_cons n3 c (entry_in x3) (p4 ∷ []) begun4
+-- ---- a lookup of one address
 
-    begun234 : AreBegun (p2 ∷ p3 ∷ p4 ∷ [])
-    begun234 = begun_cons n2 b (entry_in x2) (p3 ∷ p4 ∷ []) begun34
+-- its loads, the newest first
+both_loads : (word first : ℕ) (second : Option (ℕ × ℕ))
+    → second_load second ++ (LoadFirst word, first) ∷ [] ≡ loads_at word first second
+both_loads word first None = refl
+both_loads word first (Some second) = refl
 
-    stands : Stands r (read_first n1 a (entry_in x1) ∷ p2 ∷ p3 ∷ p4 ∷ []) f
-    stands = subst
-        (λ places. Stands r (first_words places (a ∷ b ∷ c ∷ d ∷ []) (x1 ∷ x2 ∷ x3 ∷ x4 ∷ [])) f)
-        places_of.4 firsts.state
-
-    pub next_a : IsNextWith a x1 (worker_by f.own).probes
-    next_a = next_with r a x1 n1 [] (p2 ∷ p3 ∷ p4 ∷ []) f tt begun234 stands
-
-    module _ (l1 : ℕ) (s1 : View) (one : LoadsLast a x1 l1 f s1) where
-      stands1 : Stands r (Answered a (hop_in (entry_in l1)) n1 (last_at n1 one.second) ∷ p2 ∷ p3 ∷ p4 ∷ []) s1
-      stands1 = last_stands r a x1 l1 n1 [] (p2 ∷ p3 ∷ p4 ∷ []) f s1 tt begun234 stands one
-
-      abbrev q1 : Probe
-      q1 = Answered a (hop_in (entry_in l1)) n1 (last_at n1 one.second)
-
-      pub looking_b : (worker_by s1.own).phase ≡ LookingUp
-      looking_b = looking_by r (q1 ∷ p2 ∷ p3 ∷ p4 ∷ []) s1 looking stands1
-
-      pub next_b : IsNextWith b x2 (worker_by s1.own).probes
-      next_b = next_with r b x2 n2 (q1 ∷ []) (p3 ∷ p4 ∷ []) s1 tt begun34 stands1
-
-      module _ (l2 : ℕ) (s2 : View) (two : LoadsLast b x2 l2 s1 s2) where
-        stands2 : Stands r (q1 ∷ Answered b (hop_in (entry_in l2)) n2 (last_at n2 two.second) ∷ p3 ∷ p4 ∷ []) s2
-        stands2 = last_stands r b x2 l2 n2 (q1 ∷ []) (p3 ∷ p4 ∷ []) s1 s2 tt begun34 stands1 two
-
-        abbrev q2 : Probe
-        q2 = Answered b (hop_in (entry_in l2)) n2 (last_at n2 two.second)
-
-        pub looking_c : (worker_by s2.own).phase ≡ LookingUp
-        looking_c = looking_by r (q1 ∷ q2 ∷ p3 ∷ p4 ∷ []) s2 looking stands2
-
-        pub next_c : IsNextWith c x3 (worker_by s2.own).probes
-        next_c = next_with r c x3 n3 (q1 ∷ q2 ∷ []) (p4 ∷ []) s2 tt begun4 stands2
-
-        module _ (l3 : ℕ) (s3 : View) (three : LoadsLast c x3 l3 s2 s3) where
-          stands3 : Stands r (q1 ∷ q2 ∷ Answered c (hop_in (entry_in l3)) n3 (last_at n3 three.second) ∷ p4 ∷ []) s3
-          stands3 = last_stands r c x3 l3 n3 (q1 ∷ q2 ∷ []) (p4 ∷ []) s2 s3 tt begun4 stands2 three
-
-          abbrev q3 : Probe
-          q3 = Answered c (hop_in (entry_in l3)) n3 (last_at n3 three.second)
-
-          pub looking_d : (worker_by s3.own).phase ≡ LookingUp
-          looking_d = looking_by r (q1 ∷ q2 ∷ q3 ∷ p4 ∷ []) s3 looking stands3
-
-          pub next_d : IsNextWith d x4 (worker_by s3.own).probes
-          next_d = next_with r d x4 n4 (q1 ∷ q2 ∷ q3 ∷ []) [] s3 tt tt stands3
-
-          module _ (l4 : ℕ) (s4 : View) (last : LoadsLast d x4 l4 s3 s4) where
-            stands4 : Stands r (q1 ∷ q2 ∷ q3 ∷ Answered d (hop_in (entry_in l4)) n4 (last_at n4 last.second) ∷ []) s4
-            stands4 = last_stands r d x4 l4 n4 (q1 ∷ q2 ∷ q3 ∷ []) [] s3 s4 tt tt stands3 last
-
-            abbrev q4 : Probe
-            q4 = Answered d (hop_in (entry_in l4)) n4 (last_at n4 last.second)
-
-            pub looking_end : (worker_by s4.own).phase ≡ LookingUp
-            looking_end = looking_by r (q1 ∷ q2 ∷ q3 ∷ q4 ∷ []) s4 looking stands4
-
-            pub all_answered : AreAnswered (worker_by s4.own).probes
-            all_answered = subst (λ (x : WorkerState). AreAnswered x.probes) (sym stands4) tt
-
-            module _ (high : ℕ) (w : View) (ends : Gains (EndLookup high) s4 w) (known_then : IsSound v) (known : IsSound w) where
-              abbrev found1 : Found
-              found1 = record { addr = a; hop = hop_in (entry_in l1); word = x1; first = n1; second = one.second }
-
-              abbrev found2 : Found
-              found2 = record { addr = b; hop = hop_in (entry_in l2); word = x2; first = n2; second = two.second }
-
-              abbrev found3 : Found
-              found3 = record { addr = c; hop = hop_in (entry_in l3); word = x3; first = n3; second = three.second }
-
-              abbrev found4 : Found
-              found4 = record { addr = d; hop = hop_in (entry_in l4); word = x4; first = n4; second = last.second }
-
-              abbrev seen1 : Seen
-              seen1 = seen_of (done_at low) (begun_at high) found1
-
-              abbrev seen2 : Seen
-              seen2 = seen_of (done_at low) (begun_at high) found2
-
-              abbrev seen3 : Seen
-              seen3 = seen_of (done_at low) (begun_at high) found3
-
-              abbrev seen4 : Seen
-              seen4 = seen_of (done_at low) (begun_at high) found4
-
-              state : worker_by w.own ≡ record (worker_by v0.own) {
-                phase = Online;
-                lo = done_at low;
-                probes = [];
-                finished = seen4 ∷ seen3 ∷ seen2 ∷ seen1 ∷ (worker_by v0.own).finished;
-              }
-              state = gains_state (EndLookup high) s4 w ends
-                  ∙ ap (λ (x : WorkerState). worker_by_step (length ends.seen) x (EndLookup high))
-                  (stands4
-                  ∙ ap (λ (x : WorkerState). record x { probes = q1 ∷ q2 ∷ q3 ∷ q4 ∷ [] })
-                  (gains_state (BeginLookup (a ∷ b ∷ c ∷ d ∷ []) low) v0 v begins))
-
-              finished : (worker_by w.own).finished
-                  ≡ seen4 ∷ seen3 ∷ seen2 ∷ seen1 ∷ (worker_by v0.own).finished
-              finished = ap (λ (x : WorkerState). x.finished) state
-
-              on_begun : GoesOn v0 v
-              on_begun = gains_on (BeginLookup (a ∷ b ∷ c ∷ d ∷ []) low) v0 v begins
-
-              on : GoesOn v0 w
-              on = goes_on v0 v w on_begun (goes_on v f w firsts.rest (goes_on f s1 w one.rest
-                  (goes_on s1 s2 w two.rest (goes_on s2 s3 w three.rest
-                  (goes_on s3 s4 w last.rest (gains_on (EndLookup high) s4 w ends))))))
-
-              abbrev IsLegal : Seen → Type 0
-              IsLegal = IsLegalAtPlace (initial_state_of v0.initial) w.seen
-
-              abbrev IsFoundLegal : Found → Type 0
-              IsFoundLegal f = IsLegal (seen_of (done_at low) (begun_at high) f)
-
-              legal : All IsFoundLegal (found1 ∷ found2 ∷ found3 ∷ found4 ∷ [])
-              legal =
-                  let old : List Seen = (worker_by v0.own).finished in
-                  let all : All IsLegal (worker_by w.own).finished = subst
-                  (λ (o : InitialData). All (IsLegalAtPlace (initial_state_of o) w.seen) (worker_by w.own).finished)
-                  (ap (λ (x : View). x.initial) on.same) known.legal in
-                  let h4 : All IsLegal (seen4 ∷ seen3 ∷ seen2 ∷ seen1 ∷ old) = subst (All IsLegal) finished all in
-                  let h3 = All-tail IsLegal seen4 (seen3 ∷ seen2 ∷ seen1 ∷ old) h4 in
-                  let h2 = All-tail IsLegal seen3 (seen2 ∷ seen1 ∷ old) h3 in
-                  let h1 = All-tail IsLegal seen2 (seen1 ∷ old) h2 in
-                  all_of IsFoundLegal found1 found2 found3 found4 (All-head IsLegal seen1 old h1)
-                  (All-head IsLegal seen2 (seen1 ∷ old) h2) (All-head IsLegal seen3 (seen2 ∷ seen1 ∷ old) h3)
-                  (All-head IsLegal seen4 (seen3 ∷ seen2 ∷ seen1 ∷ old) h4)
-
-              after : All (λ f. length v.seen ≤ f.first) (found1 ∷ found2 ∷ found3 ∷ found4 ∷ [])
-              after =
-                  let is : ℕ → Type 0 = λ place. length v.seen ≤ place in
-                  let h1 : All is (n1 ∷ n2 ∷ n3 ∷ n4 ∷ []) = subst (All is) places_of.4 firsts.after in
-                  let h2 = All-tail is n1 (n2 ∷ n3 ∷ n4 ∷ []) h1 in
-                  let h3 = All-tail is n2 (n3 ∷ n4 ∷ []) h2 in
-                  let h4 = All-tail is n3 (n4 ∷ []) h3 in
-                  all_of (λ f. length v.seen ≤ f.first) found1 found2 found3 found4
-                  (All-head is n1 (n2 ∷ n3 ∷ n4 ∷ []) h1) (All-head is n2 (n3 ∷ n4 ∷ []) h2)
-                  (All-head is n3 (n4 ∷ []) h3) (All-head is n4 [] h4)
-
-              initial : s4.initial ≡ v0.initial
-              initial =
-                  let loaded : GoesOn v0 s4 = goes_on v0 v s4 on_begun (goes_on v f s4 firsts.rest
-                  (goes_on f s1 s4 one.rest (goes_on s1 s2 s4 two.rest (goes_on s2 s3 s4 three.rest last.rest)))) in
-                  ap (λ (x : View). x.initial) loaded.same
-
-              firsts_on : GainsAt (loads_first (n1 ∷ n2 ∷ n3 ∷ n4 ∷ []) (x1 ∷ x2 ∷ x3 ∷ x4 ∷ [])) v f
-              firsts_on = subst (λ places. GainsAt (loads_first places (x1 ∷ x2 ∷ x3 ∷ x4 ∷ [])) v f) places_of.4 firsts.steps
-
-              pub looked_together : (hops : List (Option ℕ)) (lo hi : ℕ)
-                  → hops ≡ hop_in (entry_in l1) ∷ hop_in (entry_in l2) ∷ hop_in (entry_in l3) ∷ hop_in (entry_in l4) ∷ []
-                  → lo ≡ done_at low → hi ≡ begun_at high
-                  → LooksUpAll (a ∷ b ∷ c ∷ d ∷ []) hops lo hi v0 w
-              looked_together hops lo hi hops_are lo_is hi_is =
-                  let from_three = goes_at _ _ s2 s3 s4 last.steps three.steps in
-                  let from_two = goes_at _ _ s1 s2 s4 from_three two.steps in
-                  let seconds_on = goes_at _ _ f s1 s4 from_two one.steps in
-                  subst (λ (z : ℕ × ℕ). LooksUpAll (a ∷ b ∷ c ∷ d ∷ []) hops z.0 z.1 v0 w)
-                  (λ i. (sym lo_is i, sym hi_is i))
-                  (record {
-                    started = v;
-                    loaded = s4;
-                    around = around (a ∷ b ∷ c ∷ d ∷ []) low high (done_at low) (begun_at high) v0 v s4 w begins ends
-                        known_then known initial refl refl;
-                    found = found1 ∷ found2 ∷ found3 ∷ found4 ∷ [];
-                    steps = goes_at _ _ v f s4 seconds_on firsts_on;
-                    exact = all_of (λ f. IsReadOn (entry_in f.word) f.second f.hop) found1 found2 found3 found4
-                        one.exact two.exact three.exact last.exact;
-                    addrs_are = refl;
-                    hops_are = sym hops_are;
-                    rest = on;
-                    online = ap (λ (x : WorkerState). x.phase) state;
-                    finished = finished;
-                    after = after;
-                    legal = legal;
-                  })
+module _ {addr low high : ℕ} {v0 v f : View} {x : Found} {s w : View} where
+  pub looked : {places : List ℕ} {hop : Option ℕ} {lo hi : ℕ} → Reads (addr ∷ []) low v0 v f (x ∷ []) places [] [] s
+      → Gains (EndLookup high) s w → IsSound v → IsSound w → x.addr ≡ addr → x.hop ≡ hop → lo ≡ done_at low
+      → hi ≡ begun_at high → LooksUp addr hop lo hi v0 w
+  unfolding looked_together
+  looked {places = n ∷ places} h ends known_then known addr_is hop_is lo_is hi_is = absurd (omega (arith, h.count))
+  looked {places = []} {hop} {lo} {hi} h ends known_then known addr_is hop_is lo_is hi_is =
+      let all : LooksUpAll (addr ∷ []) (hop ∷ []) lo hi v0 w = looked_together h ends known_then known
+      (ap (λ a. a ∷ []) addr_is) (ap (λ (o : Option ℕ). o ∷ []) hop_is) lo_is hi_is in
+      let IsLegal : Seen → Type 0 = IsLegalAtPlace (initial_state_of v0.initial) w.seen in
+      record {
+        started = v;
+        loaded = s;
+        around = all.around;
+        found = x;
+        steps = subst (λ (steps : List (WorkerStep × ℕ)). GainsAt steps v s) (both_loads x.word x.first x.second) all.steps;
+        exact = All-head (λ x. IsReadOn (entry_in x.word) x.second x.hop) x [] h.exact;
+        answer = (addr_is, hop_is);
+        rest = all.rest;
+        online = all.online;
+        finished = all.finished;
+        after = All-head (λ x. length v.seen ≤ x.first) x [] h.after;
+        legal = All-head (λ x. IsLegal (seen_of lo hi x)) x [] all.legal;
+      }

@@ -1,14 +1,15 @@
 -- Meaning: what a whole deed of a worker gains its view: a report, or a lookup of one address (DPDK
 -- Programmer's Guide, "RCU Library": a worker comes online, is quiescent, goes offline; Gupta, Lin and
 -- McKeown, INFOCOM 1998, section 3: a lookup reads one word or two).
-use Rattle.std.specs.Prelude.{ℕ, ◌≡◌, ◌≤◌, List, [], ◌∷◌, ◌++◌, All, map, reverse, length, Option, Some, None}
+use Rattle.std.specs.Prelude.{ℕ, ◌≡◌, ◌+◌, ◌≤◌, List, [], ◌∷◌, ◌++◌, All, map, reverse, length, Option, Some, None}
 use Rattle.lpm_cells.specs.declared.entry.Entry.{Entry}
 use Rattle.lpm_cells.specs.declared.entry.Entry.TheVariants.{Miss, Hop, Group}
+use Rattle.lpm_cells.specs.Table.{IsFirstWord}
 use Rattle.lpm_cells.specs.Words.{entry_in, hop_in}
 use Rattle.lpm_trace.specs.declared.step.WorkerStep.{WorkerStep}
 use Rattle.lpm_trace.specs.declared.step.WorkerStep.TheVariants.{BeginLookup, LoadFirst, LoadSecond, EndLookup}
 use Rattle.lpm_trace.specs.States.{state_after, updates_done_in, updates_begun_in}
-use Rattle.lpm_trace.specs.Workers.{Online, Probe, Answered, Seen, AreBegun, AreAnswered, read_first}
+use Rattle.lpm_trace.specs.Workers.{Online, LookingUp, Probe, Answered, Seen, AreBegun, AreAnswered, read_first}
 use Rattle.lpm_trace.specs.Trace.{worker_by}
 use Rattle.lpm_trace.specs.Laws.{IsLegalAtPlace}
 use Rattle.shared_words.specs.declared.view.View.{View}
@@ -44,19 +45,6 @@ pub record LoadsAround (addrs : List ℕ) (lo hi : ℕ) (v started loaded w : Vi
   pub ends : Gains (EndLookup high) loaded w
   pub done_then : lo ≡ updates_done_in (state_after (initial_state_of v.initial) started.seen)
   pub begun_then : hi ≡ updates_begun_in (state_after (initial_state_of v.initial) w.seen)
-
--- in a lookup of the address alone, its words are loaded, of which the last one answers, after all that
--- the worker had seen of the writer's steps
-pub record LoadsWords (addr last : ℕ) (v w : View) : Type 0 where
-  pub found : Found
-  pub steps : GainsAt (loads_at found.word found.first found.second) v w
-  pub exact : IsReadOn (entry_in found.word) found.second found.hop
-  pub answer : (found.addr ≡ addr) × (found.hop ≡ hop_in (entry_in last))
-  pub rest : GoesOn v w
-  pub after : length v.seen ≤ found.first
-  pub state : worker_by w.own ≡ record (worker_by v.own) {
-    probes = Answered addr (hop_in (entry_in last)) found.first (last_at found.first found.second) ∷ [];
-  }
 
 -- the address is looked up: the sequence is loaded, its words, and the sequence again. This is the
 -- worker's newest lookup. It is legal, and its words were loaded after all that the worker had seen of the
@@ -106,6 +94,13 @@ pub record IsNextWith (addr word : ℕ) (probes : List Probe) : Type 0 where
   pub answered : AreAnswered before
   pub begun : AreBegun rest
   pub split : probes ≡ before ++ read_first first addr (entry_in word) ∷ rest
+
+-- a lookup goes on, and its next address without its answer is this one, with this first word, which may stand
+-- in the first table
+pub record LooksFor (first second addr word : ℕ) (v : View) : Type 0 where
+  pub fit : IsFirstWord (first + second) second v.initial.seconds word
+  pub looking : (worker_by v.own).phase ≡ LookingUp
+  pub next : IsNextWith addr word (worker_by v.own).probes
 
 -- the word that answers is loaded, where that isn't the first word
 pub record LoadsLast (addr word last : ℕ) (v w : View) : Type 0 where

@@ -1,12 +1,12 @@
 //! The lookup of an address.
 
-ghost use Rattle.std.specs.Prelude.{◌≡◌, ℕ, ◌+◌, ◌^◌, ◌<◌, length, [], ◌∷◌};
+ghost use Rattle.std.specs.Prelude.{◌≡◌, ℕ, ◌+◌, ◌^◌, ◌<◌};
 ghost use Rattle.lpm_bits.specs.Widths.{IsShape};
 ghost use Rattle.lpm_cells.specs.Words.{IsLastWord};
 ghost use Rattle.lpm_trace.specs.Trace.{worker_by};
-ghost use Rattle.lpm_trace.specs.Workers.{Online, LookingUp, Unread};
+ghost use Rattle.lpm_trace.specs.Workers.{Online};
 ghost use Rattle.shared_words.specs.Seats.{IsOf};
-ghost use Rattle.shared_words.specs.Deeds.{LoadsWords, LooksUp};
+ghost use Rattle.shared_words.specs.Deeds.{LoadsLast, LooksFor, LooksUp};
 
 use crate::{InitialContent, SharedWords, WorkerSeat};
 use lpm_bits::{Hop, Shape};
@@ -34,7 +34,8 @@ pub fn lookup<const FIRST: u32, const SECOND: u32, T: InitialContent>(
 {
     let low = seat.begin_lookup(table, &[u64::from(addr)]);
     seat.history();
-    let word = load_words::<FIRST, SECOND, T>(seat, table, addr);
+    let word = seat.load_first(table, Shape::<FIRST, SECOND>::first_index(addr));
+    let word = load_last::<FIRST, SECOND, T>(seat, table, addr, word);
     let high = seat.end_lookup(table);
     seat.history();
     Answer {
@@ -44,28 +45,24 @@ pub fn lookup<const FIRST: u32, const SECOND: u32, T: InitialContent>(
     }
 }
 
-/// Loads the words of an address that is looked up alone. It returns the one that answers.
+/// Loads the word that answers the next address, where that isn't its first word. It returns the word.
 #[inline]
-fn load_words<const FIRST: u32, const SECOND: u32, T: InitialContent>(
+pub(crate) fn load_last<const FIRST: u32, const SECOND: u32, T: InitialContent>(
     seat: &mut WorkerSeat,
     table: &SharedWords<T>,
     addr: u32,
+    word: u64,
 ) -> u64
     requires own { IsOf table.now seat.old.table seat.old.view }
     requires shape { IsShape FIRST SECOND }
     requires first { seat.old.view.initial.first ≡ FIRST }
     requires second { seat.old.view.initial.second ≡ SECOND }
-    requires firsts { length seat.old.view.initial.firsts ≡ 2 ^ FIRST }
-    requires addr { addr < 2 ^ (FIRST + SECOND) }
-    requires looking { (worker_by seat.old.view.own).phase ≡ LookingUp }
-    requires unread { (worker_by seat.old.view.own).probes ≡ Unread addr ∷ [] }
+    requires next { LooksFor FIRST SECOND addr word seat.old.view }
     ensures own { seat.new.table ≡ seat.old.table }
     ensures worker { seat.new.worker ≡ seat.old.worker }
     ensures last { IsLastWord (FIRST + SECOND) result }
-    ensures words { LoadsWords addr result seat.old.view seat.new.view }
+    ensures loads { LoadsLast addr word result seat.old.view seat.new.view }
 {
-    let index = Shape::<FIRST, SECOND>::first_index(addr);
-    let word = seat.load_first(table, index);
     match Entry::group_of_word::<FIRST, SECOND>(word) {
         None => word,
         Some(group) => {

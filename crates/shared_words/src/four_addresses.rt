@@ -3,12 +3,12 @@
 ghost use Rattle.std.specs.Prelude.{◌≡◌, ℕ, ◌+◌, ◌^◌, ◌<◌, All, length, [], ◌∷◌};
 ghost use Rattle.lpm_bits.specs.Widths.{IsShape};
 ghost use Rattle.lpm_cells.specs.Table.{IsFirstWord};
-ghost use Rattle.lpm_cells.specs.Words.{IsLastWord};
 ghost use Rattle.lpm_trace.specs.Trace.{worker_by};
 ghost use Rattle.lpm_trace.specs.Workers.{Online, LookingUp, Unread};
 ghost use Rattle.shared_words.specs.Seats.{IsOf};
-ghost use Rattle.shared_words.specs.Deeds.{LoadsFirsts, LoadsLast, LooksUpAll, IsNextWith};
+ghost use Rattle.shared_words.specs.Deeds.{LoadsFirsts, LooksUpAll};
 
+use crate::address::load_last;
 use crate::{InitialContent, SharedWords, WorkerSeat};
 use lpm_bits::{Hop, Shape};
 use lpm_cells::Entry;
@@ -101,34 +101,4 @@ fn load_firsts<const FIRST: u32, const SECOND: u32, T: InitialContent>(
     let y = seat.load_first(table, Shape::<FIRST, SECOND>::first_index(c));
     let z = seat.load_first(table, Shape::<FIRST, SECOND>::first_index(d));
     (w, x, y, z)
-}
-
-/// Loads the word that answers the next address, where that isn't its first word. It returns the word.
-#[inline]
-fn load_last<const FIRST: u32, const SECOND: u32, T: InitialContent>(
-    seat: &mut WorkerSeat,
-    table: &SharedWords<T>,
-    addr: u32,
-    word: u64,
-) -> u64
-    requires own { IsOf table.now seat.old.table seat.old.view }
-    requires shape { IsShape FIRST SECOND }
-    requires first { seat.old.view.initial.first ≡ FIRST }
-    requires second { seat.old.view.initial.second ≡ SECOND }
-    requires word { IsFirstWord (FIRST + SECOND) SECOND seat.old.view.initial.seconds word }
-    requires looking { (worker_by seat.old.view.own).phase ≡ LookingUp }
-    requires next { IsNextWith addr word (worker_by seat.old.view.own).probes }
-    ensures own { seat.new.table ≡ seat.old.table }
-    ensures worker { seat.new.worker ≡ seat.old.worker }
-    ensures last { IsLastWord (FIRST + SECOND) result }
-    ensures loads { LoadsLast addr word result seat.old.view seat.new.view }
-{
-    match Entry::group_of_word::<FIRST, SECOND>(word) {
-        None => word,
-        Some(group) => {
-            let base = (group as usize) << SECOND;
-            let index = base + Shape::<FIRST, SECOND>::second_index(addr);
-            seat.load_second(table, index)
-        }
-    }
 }
