@@ -15,6 +15,7 @@ use Rattle.lpm_trace.specs.Trace.{worker_by}
 use Rattle.lpm_trace.specs.Workers.{Worker as WorkerState, Online, Unread, InGroup, Answered, Seen, Probe, worker_by_step, read_first, first_read, MayRead}
 use Rattle.lpm_trace.specs.Laws.{IsLegalAtPlace, ArePlaced}
 use Rattle.lpm_trace.proofs.Traces.{oldest_all}
+use Rattle.lpm_trace.proofs.Counts.{firsts_length}
 use Rattle.shared_words.specs.declared.view.View.{View}
 use Rattle.shared_words.specs.Initial.{InitialData, initial_state_of}
 use Rattle.shared_words.specs.Rule.{IsLater}
@@ -118,23 +119,11 @@ between first middle last old new same =
 
 -- ---- the words of an address
 
--- each step of the writer leaves the number of the first words
-firsts_written : (c : InitialState) (steps : List WriterStep)
-    → length (state_after c steps).words.firsts ≡ length c.words.firsts
-firsts_written c [] = refl
-firsts_written c (StoreFirst i x ∷ steps) =
-    length-set (state_after c steps).words.firsts i x ∙ firsts_written c steps
-firsts_written c (StoreSecond j x ∷ steps) = firsts_written c steps
-firsts_written c (BeginUpdate change ∷ steps) = firsts_written c steps
-firsts_written c (EndUpdate ∷ steps) = firsts_written c steps
-firsts_written c (BumpToken ∷ steps) = firsts_written c steps
-firsts_written c (LoadCounter token worker counter ∷ steps) = firsts_written c steps
-
 pub firsts_are : (r : WorkerStep) (v w : View) (first : ℕ) → Gains r v w → IsSound w → v.initial.first ≡ first
     → length w.initial.firsts ≡ 2 ^ first
 firsts_are r v w first g known is =
     let firsts : length w.initial.firsts ≡ 2 ^ w.initial.first =
-    sym (firsts_written (initial_state_of w.initial) w.seen) ∙ known.words.firsts_len in
+    sym (firsts_length (initial_state_of w.initial) w.seen) ∙ known.words.firsts_len in
     let same : w.initial.first ≡ first = ap (λ (x : View). x.initial.first) g.view ∙ is in
     firsts ∙ ap (λ n. 2 ^ n) same
 

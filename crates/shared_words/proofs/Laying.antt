@@ -4,41 +4,25 @@ use Rattle.std.proofs.lemmas.List.{get_or-set_same, get_or-set_other, length-set
 use Rattle.lpm_trace.specs.declared.step.WriterStep.{WriterStep}
 use Rattle.lpm_trace.specs.declared.step.WriterStep.TheVariants.{StoreFirst, StoreSecond, BeginUpdate, EndUpdate, BumpToken, LoadCounter}
 use Rattle.lpm_trace.specs.declared.step.TraceStep.TheVariants.{Writer as ByWriter}
-use Rattle.lpm_trace.specs.States.{InitialState, TableState, state_after, state_by_step}
+use Rattle.lpm_trace.specs.States.{InitialState, TableState, state_after}
 use Rattle.lpm_trace.specs.Progress.{WriterProgress}
 use Rattle.lpm_trace.specs.Trace.{World, apply, after}
+pub use Rattle.lpm_trace.proofs.Counts.{firsts_length}
 use Rattle.shared_words.specs.Initial.{InitialData, initial_state_of}
 use Rattle.shared_words.specs.Layout.{IsLaidOut, word_count, half, pairs, packed_words, first_at, second_at, sequence_at, token_at, counter_at, initial_words}
 use Rattle.shared_words.proofs.Halves.{half_stored, packed_half, packed_length}
 
--- no step changes how many words there are
-firsts_written : (c : InitialState) (w : TableState) (s : WriterStep)
-    → length (state_by_step c w s).words.firsts ≡ length w.words.firsts
-firsts_written c w (StoreFirst i x) = length-set w.words.firsts i x
-firsts_written c w (StoreSecond j x) = refl
-firsts_written c w (BeginUpdate change) = refl
-firsts_written c w EndUpdate = refl
-firsts_written c w BumpToken = refl
-firsts_written c w (LoadCounter token worker counter) = refl
-
-seconds_written : (c : InitialState) (w : TableState) (s : WriterStep)
-    → length (state_by_step c w s).words.seconds ≡ length w.words.seconds
-seconds_written c w (StoreFirst i x) = refl
-seconds_written c w (StoreSecond j x) = length-set w.words.seconds j x
-seconds_written c w (BeginUpdate change) = refl
-seconds_written c w EndUpdate = refl
-seconds_written c w BumpToken = refl
-seconds_written c w (LoadCounter token worker counter) = refl
-
-pub firsts_length : (c : InitialState) (seen : List WriterStep)
-    → length (state_after c seen).words.firsts ≡ length c.words.firsts
-firsts_length c [] = refl
-firsts_length c (s ∷ seen) = firsts_written c (state_after c seen) s ∙ firsts_length c seen
-
+-- no step changes how many second words there are
 pub seconds_length : (c : InitialState) (seen : List WriterStep)
     → length (state_after c seen).words.seconds ≡ length c.words.seconds
 seconds_length c [] = refl
-seconds_length c (s ∷ seen) = seconds_written c (state_after c seen) s ∙ seconds_length c seen
+seconds_length c (StoreFirst i x ∷ seen) = seconds_length c seen
+seconds_length c (StoreSecond j x ∷ seen) =
+    length-set (state_after c seen).words.seconds j x ∙ seconds_length c seen
+seconds_length c (BeginUpdate change ∷ seen) = seconds_length c seen
+seconds_length c (EndUpdate ∷ seen) = seconds_length c seen
+seconds_length c (BumpToken ∷ seen) = seconds_length c seen
+seconds_length c (LoadCounter token worker counter ∷ seen) = seconds_length c seen
 
 -- a word elsewhere
 beside : (words : List ℕ) (p x q y : ℕ) → q ≢ p → slice_index words q ≡ y

@@ -24,7 +24,7 @@ use Rattle.shared_words.specs.declared.view.View.{View}
 use Rattle.shared_words.specs.Initial.{InitialData, initial_state_of}
 use Rattle.shared_words.specs.Layout.{IsLaidOut, half, first_at, second_at, sequence_at, token_at, counter_at, initial_words}
 use Rattle.shared_words.specs.Rule.{IsLater, Seating, Sits, IsViewOf, Holds, writer_view, worker_view, with_one_more}
-use Rattle.shared_words.specs.Seats.{AreLawful, WriterGains, IsFoundAt, KeepsFirst, KeepsSecond, WriterLooks, with_step}
+use Rattle.shared_words.specs.Seats.{AreLawful, WriterGains, IsFoundAt, KeepsFirst, KeepsSecond, WriterLooks, with_step, left_by, MayFollow}
 use Rattle.shared_words.proofs.Laying.{firsts_length, seconds_length, lays_first, lays_second, lays_sequence, lays_token, lays_none, lays_opening}
 
 abbrev St : Type 0
@@ -33,14 +33,6 @@ St = State (Unit {0}) View
 -- a seat's view, and the slots that it holds, which are none
 abbrev Mine : Type 0
 Mine = Me (Unit {0}) View
-
--- the writer whose view this is may make the step
-abbrev MayMake : View → WriterStep → Type 0
-MayMake v step = MayStep (initial_state_of v.initial) v.seen step
-
--- what the steps of the view leave
-abbrev left_by : View → TableState
-left_by v = state_after (initial_state_of v.initial) v.seen
 
 abbrev with_words : St → List ℕ → List View → St
 with_words s words views = record { words = words; homes = s.homes; views = views }
@@ -171,7 +163,7 @@ module _ (o : InitialData) where
     seen = me.0.seen
 
     -- a store: the word becomes n
-    store_allowed : (n : ℕ) (step : WriterStep) → MayMake me.0 step
+    store_allowed : (n : ℕ) (step : WriterStep) → MayFollow me.0 step
         → ((steps : List TraceStep) → FindsCounter (initial_state_of o) steps step)
         → ((words : List ℕ) (w : World) → me.0.initial ≡ o → w.state ≡ tables_by seen
         → IsLaidOut o words w → IsLaidAfter (slice_set words at n) w step)
@@ -190,7 +182,7 @@ module _ (o : InitialData) where
         )
 
     pub first_allowed : (i x n : ℕ) → at ≡ first_at i → half i n ≡ x
-        → KeepsFirst me.0.initial seen i n → MayMake me.0 (StoreFirst i x)
+        → KeepsFirst me.0.initial seen i n → MayFollow me.0 (StoreFirst i x)
         → Allows (Holds o) slots id me at (λ _. n) (λ _. WriterGains (StoreFirst i x) me)
     first_allowed i x n place stored kept may = store_allowed n (StoreFirst i x) may (λ _. tt)
         (λ words w is now laid.
@@ -202,7 +194,7 @@ module _ (o : InitialData) where
         (λ k lt e ne. kept' k lt e ne ∙ ap (λ (z : TableState). slice_index z.words.firsts k) (sym now))))
 
     pub second_allowed : (j x n : ℕ) → at ≡ second_at o j → half j n ≡ x
-        → KeepsSecond me.0.initial seen j n → MayMake me.0 (StoreSecond j x)
+        → KeepsSecond me.0.initial seen j n → MayFollow me.0 (StoreSecond j x)
         → Allows (Holds o) slots id me at (λ _. n) (λ _. WriterGains (StoreSecond j x) me)
     second_allowed j x n place stored kept may = store_allowed n (StoreSecond j x) may (λ _. tt)
         (λ words w is now laid.
@@ -227,7 +219,7 @@ module _ (o : InitialData) where
         (λ i. (sym place i, sym same i)) laid
 
     pub opens_allowed : (n : ℕ) (change : RuleChange) → at ≡ sequence_at
-        → n ≡ (left_by me.0).sequence + 1 → MayMake me.0 (BeginUpdate change)
+        → n ≡ (left_by me.0).sequence + 1 → MayFollow me.0 (BeginUpdate change)
         → Allows (Holds o) slots id me at (λ _. n) (λ _. WriterGains (BeginUpdate change) me)
     opens_allowed n change place next may = store_allowed n (BeginUpdate change) may (λ _. tt)
         (λ words w is now laid. next_sequence n (BeginUpdate change) place next words w is now
@@ -235,14 +227,14 @@ module _ (o : InitialData) where
         (progress_by_step (initial_state_of o) w.state w.progress (BeginUpdate change))))
 
     pub closes_allowed : (n : ℕ) → at ≡ sequence_at
-        → n ≡ (left_by me.0).sequence + 1 → MayMake me.0 EndUpdate
+        → n ≡ (left_by me.0).sequence + 1 → MayFollow me.0 EndUpdate
         → Allows (Holds o) slots id me at (λ _. n) (λ _. WriterGains EndUpdate me)
     closes_allowed n place next may = store_allowed n EndUpdate may (λ _. tt)
         (λ words w is now laid. next_sequence n EndUpdate place next words w is now
         (lays_sequence o words w laid (state_by_step (initial_state_of o) w.state EndUpdate)
         (progress_by_step (initial_state_of o) w.state w.progress EndUpdate)))
 
-    pub bump_allowed : (n : ℕ) → at ≡ token_at → n ≡ (left_by me.0).token + 1 → MayMake me.0 BumpToken
+    pub bump_allowed : (n : ℕ) → at ≡ token_at → n ≡ (left_by me.0).token + 1 → MayFollow me.0 BumpToken
         → Allows (Holds o) slots id me at (λ _. n) (λ _. WriterGains BumpToken me)
     bump_allowed n place next may = store_allowed n BumpToken may (λ _. tt)
         (λ words w is now laid.
@@ -257,7 +249,7 @@ module _ (o : InitialData) where
 
     -- a load of a worker's counter, in a check of the token
     pub counter_allowed : (token k : ℕ) → at ≡ counter_at o k → k < o.workers
-        → ((counter : ℕ) → MayMake me.0 (LoadCounter token k counter))
+        → ((counter : ℕ) → MayFollow me.0 (LoadCounter token k counter))
         → Allows (Holds o) slots id me at (λ n. n) (λ n. WriterGains (LoadCounter token k n) me)
     counter_allowed token k place inside may s h fits here range =
         let n : ℕ = slice_index s.words at in

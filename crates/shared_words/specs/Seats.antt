@@ -9,8 +9,8 @@ use Rattle.lpm_trace.specs.declared.step.WriterStep.{WriterStep}
 use Rattle.lpm_trace.specs.declared.step.WorkerStep.{WorkerStep}
 use Rattle.lpm_trace.specs.declared.step.WorkerStep.TheVariants.{LoadFirst, LoadSecond}
 use Rattle.lpm_cells.specs.Words.{IsLastWord}
-use Rattle.lpm_trace.specs.States.{state_after}
-use Rattle.lpm_trace.specs.Writer.{IsWritten}
+use Rattle.lpm_trace.specs.States.{TableState, state_after}
+use Rattle.lpm_trace.specs.Writer.{IsWritten, MayStep}
 use Rattle.lpm_trace.specs.Trace.{worker_by}
 use Rattle.lpm_trace.specs.Workers.{Probe, Unread, InGroup, Answered}
 use Rattle.lpm_trace.specs.Counts.{passed_after}
@@ -51,6 +51,14 @@ pub record IsOf (w : WordsAt) (seat : TableId) (v : View) : Type 0 where
   pub low : word_count w.initial < 2 ^ 63
 
 -- ---- the writer
+
+-- what the steps of the writer's view leave
+abbrev pub left_by : View → TableState
+left_by v = state_after (initial_state_of v.initial) v.seen
+
+-- the step may follow those of the writer's view
+abbrev pub MayFollow : View → WriterStep → Type 0
+MayFollow v s = MayStep (initial_state_of v.initial) v.seen s
 
 -- the writer's view after a step of its own
 abbrev pub with_step : View → WriterStep → View

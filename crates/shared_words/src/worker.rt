@@ -88,10 +88,8 @@ impl WorkerSeat {
         ensures step { Gains (StoreOnline token) self.old.view self.new.view }
     {
         let at = table.layout.counter_at(self.number as usize);
-        table
-            .board
-            .shared
-            .store::<StoresOnline>(&mut self.place, at, token);
+        let shared = &table.board.shared;
+        shared.store::<StoresOnline>(&mut self.place, at, token);
     }
 
     /// In a quiescent report, loads the token.
@@ -104,10 +102,8 @@ impl WorkerSeat {
         ensures step { Gains (LoadQuiescent result) self.old.view self.new.view }
     {
         let at = Layout::TOKEN;
-        table
-            .board
-            .shared
-            .load::<LoadsQuiescent>(&mut self.place, at)
+        let shared = &table.board.shared;
+        shared.load::<LoadsQuiescent>(&mut self.place, at)
     }
 
     /// In that report, stores the loaded token into the worker's counter.
@@ -120,10 +116,8 @@ impl WorkerSeat {
         ensures step { Gains (StoreQuiescent token) self.old.view self.new.view }
     {
         let at = table.layout.counter_at(self.number as usize);
-        table
-            .board
-            .shared
-            .store::<StoresQuiescent>(&mut self.place, at, token);
+        let shared = &table.board.shared;
+        shared.store::<StoresQuiescent>(&mut self.place, at, token);
     }
 
     /// Stores 0 in the worker's counter: it is offline.
@@ -136,10 +130,8 @@ impl WorkerSeat {
         ensures step { Gains StoreOffline self.old.view self.new.view }
     {
         let at = table.layout.counter_at(self.number as usize);
-        table
-            .board
-            .shared
-            .store::<StoresOffline>(&mut self.place, at, 0);
+        let shared = &table.board.shared;
+        shared.store::<StoresOffline>(&mut self.place, at, 0);
     }
 
     /// Loads the sequence: a lookup of these addresses begins.

@@ -2,12 +2,9 @@
 
 ghost use Rattle.std.specs.Prelude.{◌≡◌, ℕ, ◌+◌, ◌<◌, length, slice_index, []};
 ghost use Rattle.lpm_trace.specs.declared.step.WriterStep.TheVariants.{StoreFirst, StoreSecond, BeginUpdate as OpensUpdate, EndUpdate, BumpToken, LoadCounter};
-ghost use Rattle.lpm_trace.specs.States.{state_after};
-ghost use Rattle.lpm_trace.specs.Writer.{MayStep};
 ghost use Rattle.shared_words.specs.declared.view.Role.TheVariants.{Writer as AsWriter};
-ghost use Rattle.shared_words.specs.Initial.{initial_state_of};
 ghost use Rattle.shared_words.specs.Rule.{with_one_more, worker_view};
-ghost use Rattle.shared_words.specs.Seats.{IsOf, AreLawful, with_step};
+ghost use Rattle.shared_words.specs.Seats.{IsOf, AreLawful, MayFollow, left_by, with_step};
 
 use crate::initial::InitialContent;
 use crate::law::{BumpsToken, ClosesUpdates, Looks, NextWorker, Place, load_as, store_as};
@@ -50,8 +47,7 @@ impl WriterSeat {
     #[inline]
     pub fn store_first<T: InitialContent>(&mut self, table: &SharedWords<T>, i: usize, word: u64)
         requires own { IsOf table.now self.old.table self.old.view }
-        requires may { MayStep (initial_state_of self.old.view.initial) self.old.view.seen
-            (StoreFirst i word) }
+        requires may { MayFollow self.old.view (StoreFirst i word) }
         ensures own { self.new.table ≡ self.old.table }
         ensures step { self.new.view ≡ with_step self.old.view (StoreFirst i word) }
     {
@@ -66,8 +62,7 @@ impl WriterSeat {
     #[inline]
     pub fn store_second<T: InitialContent>(&mut self, table: &SharedWords<T>, j: usize, word: u64)
         requires own { IsOf table.now self.old.table self.old.view }
-        requires may { MayStep (initial_state_of self.old.view.initial) self.old.view.seen
-            (StoreSecond j word) }
+        requires may { MayFollow self.old.view (StoreSecond j word) }
         ensures own { self.new.table ≡ self.old.table }
         ensures step { self.new.view ≡ with_step self.old.view (StoreSecond j word) }
     {
@@ -86,10 +81,8 @@ impl WriterSeat {
         number: u64,
     )
         requires own { IsOf table.now self.old.table self.old.view }
-        requires next { number ≡ (state_after (initial_state_of self.old.view.initial)
-            self.old.view.seen).sequence + 1 }
-        requires may { MayStep (initial_state_of self.old.view.initial) self.old.view.seen
-            (OpensUpdate change.now) }
+        requires next { number ≡ (left_by self.old.view).sequence + 1 }
+        requires may { MayFollow self.old.view (OpensUpdate change.now) }
         ensures own { self.new.table ≡ self.old.table }
         ensures step { self.new.view ≡ with_step self.old.view (OpensUpdate change.now) }
     {
@@ -101,36 +94,28 @@ impl WriterSeat {
     #[inline]
     pub fn close_update<T: InitialContent>(&mut self, table: &SharedWords<T>, number: u64)
         requires own { IsOf table.now self.old.table self.old.view }
-        requires next { number ≡ (state_after (initial_state_of self.old.view.initial)
-            self.old.view.seen).sequence + 1 }
-        requires may { MayStep (initial_state_of self.old.view.initial) self.old.view.seen
-            (EndUpdate) }
+        requires next { number ≡ (left_by self.old.view).sequence + 1 }
+        requires may { MayFollow self.old.view EndUpdate }
         ensures own { self.new.table ≡ self.old.table }
-        ensures step { self.new.view ≡ with_step self.old.view (EndUpdate) }
+        ensures step { self.new.view ≡ with_step self.old.view EndUpdate }
     {
         let at = Layout::SEQUENCE;
-        table
-            .board
-            .shared
-            .store::<ClosesUpdates>(&mut self.place, at, number);
+        let shared = &table.board.shared;
+        shared.store::<ClosesUpdates>(&mut self.place, at, number);
     }
 
     /// Stores the next token.
     #[inline]
     pub fn bump_token<T: InitialContent>(&mut self, table: &SharedWords<T>, token: u64)
         requires own { IsOf table.now self.old.table self.old.view }
-        requires next { token ≡ (state_after (initial_state_of self.old.view.initial)
-            self.old.view.seen).token + 1 }
-        requires may { MayStep (initial_state_of self.old.view.initial) self.old.view.seen
-            (BumpToken) }
+        requires next { token ≡ (left_by self.old.view).token + 1 }
+        requires may { MayFollow self.old.view BumpToken }
         ensures own { self.new.table ≡ self.old.table }
-        ensures step { self.new.view ≡ with_step self.old.view (BumpToken) }
+        ensures step { self.new.view ≡ with_step self.old.view BumpToken }
     {
         let at = Layout::TOKEN;
-        table
-            .board
-            .shared
-            .store::<BumpsToken>(&mut self.place, at, token);
+        let shared = &table.board.shared;
+        shared.store::<BumpsToken>(&mut self.place, at, token);
     }
 
     /// Loads the counter of a worker, in a check of the token.
@@ -143,8 +128,7 @@ impl WriterSeat {
     ) -> u64
         requires own { IsOf table.now self.old.table self.old.view }
         requires worker { worker < table.now.layout.workers }
-        requires may { (counter : ℕ) → MayStep (initial_state_of self.old.view.initial)
-            self.old.view.seen (LoadCounter token worker counter) }
+        requires may { (counter : ℕ) → MayFollow self.old.view (LoadCounter token worker counter) }
         ensures own { self.new.table ≡ self.old.table }
         ensures step { self.new.view ≡ with_step self.old.view (LoadCounter token worker result) }
     {
@@ -158,13 +142,10 @@ impl WriterSeat {
         requires own { IsOf table.now self.old.table self.old.view }
         requires index { i < table.now.layout.firsts }
         ensures same { self.new ≡ self.old }
-        ensures value { result ≡ slice_index (state_after (initial_state_of self.old.view.initial)
-            self.old.view.seen).words.firsts i }
+        ensures value { result ≡ slice_index (left_by self.old.view).words.firsts i }
     {
-        let shared = table
-            .board
-            .shared
-            .load::<Looks>(&mut self.place, first_at(i));
+        let at = first_at(i);
+        let shared = table.board.shared.load::<Looks>(&mut self.place, at);
         half(i, shared)
     }
 
@@ -174,8 +155,7 @@ impl WriterSeat {
         requires own { IsOf table.now self.old.table self.old.view }
         requires index { j < table.now.layout.seconds }
         ensures same { self.new ≡ self.old }
-        ensures value { result ≡ slice_index (state_after (initial_state_of self.old.view.initial)
-            self.old.view.seen).words.seconds j }
+        ensures value { result ≡ slice_index (left_by self.old.view).words.seconds j }
     {
         let at = table.layout.second_at(j);
         let shared = table.board.shared.load::<Looks>(&mut self.place, at);
@@ -187,13 +167,10 @@ impl WriterSeat {
     pub fn sequence<T: InitialContent>(&mut self, table: &SharedWords<T>) -> u64
         requires own { IsOf table.now self.old.table self.old.view }
         ensures same { self.new ≡ self.old }
-        ensures value { result ≡ (state_after (initial_state_of self.old.view.initial)
-            self.old.view.seen).sequence }
+        ensures value { result ≡ (left_by self.old.view).sequence }
     {
-        table
-            .board
-            .shared
-            .load::<Looks>(&mut self.place, Layout::SEQUENCE)
+        let shared = &table.board.shared;
+        shared.load::<Looks>(&mut self.place, Layout::SEQUENCE)
     }
 
     /// The token, which this writer alone changes. It is no step.
@@ -201,13 +178,10 @@ impl WriterSeat {
     pub fn token<T: InitialContent>(&mut self, table: &SharedWords<T>) -> u64
         requires own { IsOf table.now self.old.table self.old.view }
         ensures same { self.new ≡ self.old }
-        ensures value { result ≡ (state_after (initial_state_of self.old.view.initial)
-            self.old.view.seen).token }
+        ensures value { result ≡ (left_by self.old.view).token }
     {
-        table
-            .board
-            .shared
-            .load::<Looks>(&mut self.place, Layout::TOKEN)
+        let shared = &table.board.shared;
+        shared.load::<Looks>(&mut self.place, Layout::TOKEN)
     }
 
     /// The seat of the next worker, which is offline and has made no step.

@@ -11,16 +11,16 @@ use Rattle.shared_words.proofs.worker.WorkerSeat.meet.Goals as goal
 
 pub split_seat-told-requires : goal.split_seat-told-requires
 split_seat-told-requires g c =
-    let own = writer_inside _ _ _ _ c.table.view_is c.writer.view_is c.requires.writer in (own.same, omega (arith, own.words), notes_split _ _ _)
+    let own = writer_inside c.table.view_is c.writer.view_is c.requires.writer in (own.same, omega (arith, own.words), notes_split _ _ _)
 
 pub join_seat-requires : goal.join_seat-requires
 join_seat-requires g c =
-    let own = own_inside _ _ _ _ c.table.view_is c.self.view_is c.requires.own in
+    let own = own_inside c.table.view_is c.self.view_is c.requires.own in
     (own.same, search rules, search rules, omega (arith, own.words), notes_join _ _ _ _ _)
 
 pub load-requires : goal.load-requires
 load-requires g c =
-    let own = own_inside _ _ _ _ c.table.view_is c.self.view_is c.requires.own in
+    let own = own_inside c.table.view_is c.self.view_is c.requires.own in
     let heard = c.join_seat.ensures.2 in
     let between = subst (λ (s : WorkerAt). IsBetweenDeeds (worker_by s.view.own).phase) (sym c.self.view_is) c.requires.between in (
       search rules,
@@ -33,16 +33,16 @@ load-requires g c =
 
 pub split_seat-told-requires-2 : goal.split_seat-told-requires-2
 split_seat-told-requires-2 g c =
-    let own = own_inside _ _ _ _ c.table.view_is c.self.view_is c.requires.own in (search rules, omega (arith, own.words), notes_split _ _ _)
+    let own = own_inside c.table.view_is c.self.view_is c.requires.own in (search rules, omega (arith, own.words), notes_split _ _ _)
 
 pub join_seat-requires-2 : goal.join_seat-requires-2
 join_seat-requires-2 g c =
-    let own = writer_inside _ _ _ _ c.table.view_is c.writer.view_is c.requires.writer in
+    let own = writer_inside c.table.view_is c.writer.view_is c.requires.writer in
     (search rules, search rules, search rules, omega (arith, own.words), notes_join _ _ _ _ _)
 
 pub load-requires-2 : goal.load-requires-2
 load-requires-2 g c =
-    let own = writer_inside _ _ _ _ c.table.view_is c.writer.view_is c.requires.writer in (
+    let own = writer_inside c.table.view_is c.writer.view_is c.requires.writer in (
       search rules,
       omega (arith, own.words),
       compares_allowed _ _ _ _ _ (ap {A = Me (Unit {0}) View} (λ m. m.0.role) c.join_seat-2.ensures.2

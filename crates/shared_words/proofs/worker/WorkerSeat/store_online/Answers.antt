@@ -4,7 +4,6 @@ use Rattle.shared_words.proofs.worker.WorkerSeat.store_online.Goals as goal
 
 pub store-requires : goal.store-requires
 store-requires g c =
-    let own = own_inside _ _ _ _ c.table.view_is c.self.view_is c.requires.own in
-    let phase = phase_inside _ _ _ c.self.view_is c.requires.loaded in
-    at_counter c.self.invariant own c.counter_at-at.ensures
-    (λ there. store_online_allowed _ _ _ _ _ _ c.self.invariant.role c.args.token there phase)
+    at_counter c.self.invariant (own_inside c.table.view_is c.self.view_is c.requires.own) c.counter_at-at.ensures
+    (λ there. store_online_allowed _ _ _ _ _ _ c.self.invariant.role c.args.token there
+    (phase_inside c.self.view_is c.requires.loaded))

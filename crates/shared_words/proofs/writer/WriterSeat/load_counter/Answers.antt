@@ -8,4 +8,4 @@ pub load_as-requires-clause-allowed : goal.load_as-requires-clause-allowed
 load_as-requires-clause-allowed g c =
     counter_allowed _ _ _ _ _ c.self.invariant.role c.args.token c.args.worker (search rules) (search rules)
     (λ counter.
-    may_inside (LoadCounter c.args.token c.args.worker counter) _ _ c.self.view_is (c.requires.may counter))
+    may_inside (LoadCounter c.args.token c.args.worker counter) c.self.view_is (c.requires.may counter))

@@ -7,4 +7,4 @@ use Rattle.shared_words.proofs.writer.WriterSeat.open_update.Goals as goal
 pub store_as-requires-clause-allowed : goal.store_as-requires-clause-allowed
 store_as-requires-clause-allowed g c =
     opens_allowed _ _ _ _ _ c.self.invariant.role _ c.args.change.now refl (search rules)
-    (may_inside (BeginUpdate c.args.change.now) _ _ c.self.view_is c.requires.may)
+    (may_inside (BeginUpdate c.args.change.now) c.self.view_is c.requires.may)

@@ -1,20 +1,17 @@
 use Rattle.std.proofs.Common.{◌∙◌, rules}
-use Rattle.lpm_trace.specs.declared.step.WriterStep.TheVariants.{StoreFirst}
-use Rattle.shared_words.proofs.Seat.{looks, first_inside, writer_inside, may_inside}
+use Rattle.shared_words.proofs.Seat.{looks, first_inside, writer_inside}
 use Rattle.shared_words.proofs.Writing.{first_allowed}
 use Rattle.shared_words.proofs.writer.WriterSeat.store_first.Goals as goal
 
 pub load-found-requires : goal.load-found-requires
 load-found-requires g c =
-    let may = may_inside (StoreFirst c.args.i c.args.word) _ _ c.self.view_is c.requires.may in
     looks c.self.invariant.role c.table.view_is c.self.view_is c.requires.own
-    (λ own. first_inside own may c.first_at-at.ensures)
+    (λ own. first_inside own c.self.view_is c.requires.may c.first_at-at.ensures)
 
 pub store_as-requires-clause-own : goal.store_as-requires-clause-own
 store_as-requires-clause-own g c =
-    let own = writer_inside _ _ _ _ c.table.view_is c.self.view_is c.requires.own in
-    let may = may_inside (StoreFirst c.args.i c.args.word) _ _ c.self.view_is c.requires.may in
-    (c.load-found.ensures.0 ∙ own.same, first_inside own may c.first_at-at.ensures)
+    let own = writer_inside c.table.view_is c.self.view_is c.requires.own in
+    (c.load-found.ensures.0 ∙ own.same, first_inside own c.self.view_is c.requires.may c.first_at-at.ensures)
 
 pub store_as-requires-clause-allowed : goal.store_as-requires-clause-allowed
 store_as-requires-clause-allowed g c =

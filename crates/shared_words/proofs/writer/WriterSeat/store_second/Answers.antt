@@ -1,8 +1,7 @@
 use Rattle.std.proofs.Common.{◌∙◌, ap, refl, arith, rules}
 use Rattle.std.proofs.lemmas.Grind.{common_steps}
-use Rattle.lpm_trace.specs.declared.step.WriterStep.TheVariants.{StoreSecond}
 use Rattle.shared_words.specs.Seats.{WordsAt}
-use Rattle.shared_words.proofs.Seat.{looks, second_inside, writer_inside, may_inside}
+use Rattle.shared_words.proofs.Seat.{looks, second_inside, writer_inside}
 use Rattle.shared_words.proofs.Writing.{second_allowed}
 use Rattle.shared_words.proofs.writer.WriterSeat.store_second.Goals as goal
 
@@ -10,19 +9,17 @@ pub second_at-at-requires : goal.second_at-at-requires
 second_at-at-requires g c =
     let own = c.requires.own in
     let layout = ap (λ (w : WordsAt). w.layout.firsts) c.table.view_is in
-    omega (arith, layout, second_inside own c.requires.may refl, own.words, own.low)
+    omega (arith, layout, second_inside own refl c.requires.may refl, own.words, own.low)
 
 pub load-found-requires : goal.load-found-requires
 load-found-requires g c =
-    let may = may_inside (StoreSecond c.args.j c.args.word) _ _ c.self.view_is c.requires.may in
     looks c.self.invariant.role c.table.view_is c.self.view_is c.requires.own
-    (λ own. second_inside own may c.second_at-at.ensures)
+    (λ own. second_inside own c.self.view_is c.requires.may c.second_at-at.ensures)
 
 pub store_as-requires-clause-own : goal.store_as-requires-clause-own
 store_as-requires-clause-own g c =
-    let own = writer_inside _ _ _ _ c.table.view_is c.self.view_is c.requires.own in
-    let may = may_inside (StoreSecond c.args.j c.args.word) _ _ c.self.view_is c.requires.may in
-    (c.load-found.ensures.0 ∙ own.same, second_inside own may c.second_at-at.ensures)
+    let own = writer_inside c.table.view_is c.self.view_is c.requires.own in
+    (c.load-found.ensures.0 ∙ own.same, second_inside own c.self.view_is c.requires.may c.second_at-at.ensures)
 
 pub store_as-requires-clause-allowed : goal.store_as-requires-clause-allowed
 store_as-requires-clause-allowed g c =
