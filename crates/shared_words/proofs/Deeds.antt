@@ -1,26 +1,25 @@
 -- Steps of a worker one after another.
-use Rattle.std.proofs.Common.{◌≡◌, ℕ, ◌+◌, ◌^◌, ◌≤◌, All, List, [], ◌∷◌, ◌++◌, length, Option, Some, None, refl, sym, ap, subst, ◌∙◌, arith, append_assoc, length-set, length-append}
+use Rattle.std.proofs.Common.{◌≡◌, ℕ, ◌+◌, ◌^◌, ◌≤◌, All, List, [], ◌∷◌, ◌++◌, length, None, refl, sym, ap, subst, ◌∙◌, arith, append_assoc, length-append}
 use Rattle.std.proofs.lemmas.List.{nil_from_length}
 use Rattle.std.proofs.lemmas.List.Elements.{All-head, All-tail}
 use Rattle.lpm_cells.specs.Table.{IsFirstWord}
 use Rattle.lpm_cells.specs.declared.entry.Entry.{Entry}
 use Rattle.lpm_cells.specs.declared.entry.Entry.TheVariants.{Miss, Hop, Group}
-use Rattle.lpm_cells.specs.Words.{entry_in, hop_in, IsLast}
+use Rattle.lpm_cells.specs.Words.{hop_in, IsLast}
 use Rattle.lpm_trace.specs.declared.step.WriterStep.{WriterStep}
-use Rattle.lpm_trace.specs.declared.step.WriterStep.TheVariants.{StoreFirst, StoreSecond, BeginUpdate, EndUpdate, BumpToken, LoadCounter}
 use Rattle.lpm_trace.specs.declared.step.WorkerStep.{WorkerStep}
-use Rattle.lpm_trace.specs.declared.step.WorkerStep.TheVariants.{BeginLookup, LoadFirst, LoadSecond, EndLookup}
+use Rattle.lpm_trace.specs.declared.step.WorkerStep.TheVariants.{BeginLookup, EndLookup}
 use Rattle.lpm_trace.specs.States.{InitialState, oldest, state_after, done_at, begun_at, updates_begun_in}
 use Rattle.lpm_trace.specs.Trace.{worker_by}
-use Rattle.lpm_trace.specs.Workers.{Worker as WorkerState, Online, Unread, InGroup, Answered, Seen, Probe, worker_by_step, read_first, first_read, MayRead}
-use Rattle.lpm_trace.specs.Laws.{IsLegalAtPlace, ArePlaced}
+use Rattle.lpm_trace.specs.Workers.{Answered, worker_by_step, read_first, MayRead}
+use Rattle.lpm_trace.specs.Laws.{ArePlaced}
 use Rattle.lpm_trace.proofs.Traces.{oldest_all}
 use Rattle.lpm_trace.proofs.Counts.{firsts_length}
 use Rattle.shared_words.specs.declared.view.View.{View}
 use Rattle.shared_words.specs.Initial.{InitialData, initial_state_of}
 use Rattle.shared_words.specs.Rule.{IsLater}
 use Rattle.shared_words.specs.Seats.{IsSound, Gains}
-use Rattle.shared_words.specs.Loads.{Found, IsReadOn, seen_of}
+use Rattle.shared_words.specs.Loads.{IsReadOn}
 use Rattle.shared_words.specs.Deeds.{GainsAll, GainsAt, GoesOn, LoadsAround}
 
 -- ---- one step

@@ -1,6 +1,7 @@
 -- Where each word of the world lies, after a store of the writer and at the start.
-use Rattle.std.proofs.Common.{◌≡◌, ◌≢◌, ℕ, suc, ◌+◌, ◌/◌, ◌^◌, ◌<◌, List, [], ◌∷◌, ◌++◌, length, replicate, slice_index, slice_set, refl, ap, ◌∙◌, arith}
+use Rattle.std.proofs.Common.{◌≡◌, ◌≢◌, ℕ, suc, ◌+◌, ◌/◌, ◌^◌, ◌<◌, List, [], ◌∷◌, ◌++◌, length, replicate, slice_index, slice_set, refl, sym, ap, ◌∙◌, arith}
 use Rattle.std.proofs.lemmas.List.{get_or-set_same, get_or-set_other, length-set, get_or_append_left, get_or-append-add, get_or-replicate, length-append, length-replicate}
+use Rattle.lpm_cells.specs.Table.{Words}
 use Rattle.lpm_trace.specs.declared.step.WriterStep.{WriterStep}
 use Rattle.lpm_trace.specs.declared.step.WriterStep.TheVariants.{StoreFirst, StoreSecond, BeginUpdate, EndUpdate, BumpToken, LoadCounter}
 use Rattle.lpm_trace.specs.declared.step.TraceStep.TheVariants.{Writer as ByWriter}
@@ -80,7 +81,26 @@ module _ (o : InitialData) (words : List ℕ) (w : World) (laid : IsLaidOut o wo
         counters = λ k lt. away (counter_at o k) _ (λ e. omega (arith, e, inside)) (laid.counters k lt);
       }
 
-  -- the sequence alone changes
+  -- the sequence or the token changes
+  low_word : (p n : ℕ) → p < 2 → (t : TableState) (progress : WriterProgress)
+      → slice_index (slice_set words p n) sequence_at ≡ t.sequence
+      → slice_index (slice_set words p n) token_at ≡ t.token
+      → IsLaidOut o (slice_set words p n) (record {
+        state = record t { words = w.state.words };
+        progress = progress;
+        workers = w.workers;
+      })
+  low_word p n low t progress sequence token = record {
+    count = length-set words p n ∙ laid.count;
+    firsts_len = laid.firsts_len;
+    seconds_len = laid.seconds_len;
+    firsts = λ i lt. half_away words p n (first_at i) i _ (λ e. omega (arith, e, low)) (laid.firsts i lt);
+    seconds = λ j lt. half_away words p n (second_at o j) j _ (λ e. omega (arith, e, low)) (laid.seconds j lt);
+    sequence = sequence;
+    token = token;
+    counters = λ k lt. beside words p n (counter_at o k) _ (λ e. omega (arith, e, low)) (laid.counters k lt);
+  }
+
   pub lays_sequence : (t : TableState) (progress : WriterProgress)
       → IsLaidOut o (slice_set words sequence_at t.sequence) (record {
         state = record t { words = w.state.words; token = w.state.token };
@@ -88,21 +108,10 @@ module _ (o : InitialData) (words : List ℕ) (w : World) (laid : IsLaidOut o wo
         workers = w.workers;
       })
   lays_sequence t progress =
-      let at : ℕ = sequence_at in
-      let away = beside words at t.sequence in
-      record {
-        count = length-set words at t.sequence ∙ laid.count;
-        firsts_len = laid.firsts_len;
-        seconds_len = laid.seconds_len;
-        firsts = λ i lt. half_away words at t.sequence (first_at i) i _ (λ e. omega (arith, e, lt)) (laid.firsts i lt);
-        seconds = λ j lt. half_away words at t.sequence (second_at o j) j _ (λ e. omega (arith, e, lt))
-            (laid.seconds j lt);
-        sequence = get_or-set_same words at t.sequence 0 (omega (arith, laid.count));
-        token = away token_at _ (λ e. omega (arith, e)) laid.token;
-        counters = λ k lt. away (counter_at o k) _ (λ e. omega (arith, e)) (laid.counters k lt);
-      }
+      low_word sequence_at t.sequence (omega arith) (record t { token = w.state.token }) progress
+      (get_or-set_same words sequence_at t.sequence 0 (omega (arith, laid.count)))
+      (beside words sequence_at t.sequence token_at _ (λ e. omega (arith, e)) laid.token)
 
-  -- the token alone changes
   pub lays_token : (t : TableState) (progress : WriterProgress)
       → IsLaidOut o (slice_set words token_at t.token) (record {
         state = record t { words = w.state.words; sequence = w.state.sequence };
@@ -110,21 +119,28 @@ module _ (o : InitialData) (words : List ℕ) (w : World) (laid : IsLaidOut o wo
         workers = w.workers;
       })
   lays_token t progress =
-      let at : ℕ = token_at in
-      let away = beside words at t.token in
-      record {
-        count = length-set words at t.token ∙ laid.count;
-        firsts_len = laid.firsts_len;
-        seconds_len = laid.seconds_len;
-        firsts = λ i lt. half_away words at t.token (first_at i) i _ (λ e. omega (arith, e, lt)) (laid.firsts i lt);
-        seconds = λ j lt. half_away words at t.token (second_at o j) j _ (λ e. omega (arith, e, lt))
-            (laid.seconds j lt);
-        sequence = away sequence_at _ (λ e. omega (arith, e)) laid.sequence;
-        token = get_or-set_same words at t.token 0 (omega (arith, laid.count));
-        counters = λ k lt. away (counter_at o k) _ (λ e. omega (arith, e)) (laid.counters k lt);
-      }
+      low_word token_at t.token (omega arith) (record t { sequence = w.state.sequence }) progress
+      (beside words token_at t.token sequence_at _ (λ e. omega (arith, e)) laid.sequence)
+      (get_or-set_same words token_at t.token 0 (omega (arith, laid.count)))
 
   -- no word changes
+  pub lays_same : (z : World) → z.state.words ≡ w.state.words → z.state.sequence ≡ w.state.sequence
+      → z.state.token ≡ w.state.token → ((k : ℕ) → (z.workers k).counter ≡ (w.workers k).counter)
+      → IsLaidOut o words z
+  lays_same z same sequence token counters =
+      let firsts = λ (i : ℕ). ap (λ (t : Words). slice_index t.firsts i) (sym same) in
+      let seconds = λ (j : ℕ). ap (λ (t : Words). slice_index t.seconds j) (sym same) in
+      record {
+        count = laid.count;
+        firsts_len = ap (λ (t : Words). length t.firsts) same ∙ laid.firsts_len;
+        seconds_len = ap (λ (t : Words). length t.seconds) same ∙ laid.seconds_len;
+        firsts = λ i lt. laid.firsts i lt ∙ firsts i;
+        seconds = λ j lt. laid.seconds j lt ∙ seconds j;
+        sequence = laid.sequence ∙ sym sequence;
+        token = laid.token ∙ sym token;
+        counters = λ k lt. laid.counters k lt ∙ sym (counters k);
+      }
+
   pub lays_none : (t : TableState) (progress : WriterProgress)
       → IsLaidOut o words (record {
         state = record t {
@@ -135,16 +151,7 @@ module _ (o : InitialData) (words : List ℕ) (w : World) (laid : IsLaidOut o wo
         progress = progress;
         workers = w.workers;
       })
-  lays_none t progress = record {
-    count = laid.count;
-    firsts_len = laid.firsts_len;
-    seconds_len = laid.seconds_len;
-    firsts = laid.firsts;
-    seconds = laid.seconds;
-    sequence = laid.sequence;
-    token = laid.token;
-    counters = laid.counters;
-  }
+  lays_none t progress = lays_same _ refl refl refl (λ k. refl)
 
 -- how many words there are at the start
 pub opening_count : (o : InitialData) → length (initial_words o) ≡ word_count o

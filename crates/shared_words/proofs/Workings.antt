@@ -26,6 +26,7 @@ use Rattle.shared_words.specs.Initial.{InitialData, initial_state_of}
 use Rattle.shared_words.specs.Layout.{half, first_at, second_at, sequence_at, token_at, counter_at, IsLaidOut}
 use Rattle.shared_words.specs.Rule.{Seating, Sits, IsViewOf, Holds}
 use Rattle.shared_words.specs.Seats.{IsSound, Gains, WorkerGains}
+use Rattle.shared_words.proofs.Laying.{lays_same}
 
 -- the step leaves the worker's counter
 abbrev pub IsQuiet : WorkerStep → Type 0
@@ -61,20 +62,11 @@ module _ (o : InitialData) where
       → IsLaidOut o words (after (initial_state_of o) (ByWorker k r ∷ steps))
   loaded steps k r words quiet laid =
       let w : World = after (initial_state_of o) steps in
-      record {
-        count = laid.count;
-        firsts_len = laid.firsts_len;
-        seconds_len = laid.seconds_len;
-        firsts = laid.firsts;
-        seconds = laid.seconds;
-        sequence = laid.sequence;
-        token = laid.token;
-        counters = λ j lt. with_at_case (λ (x : WorkerState). slice_index words (counter_at o j) ≡ x.counter)
-            w.workers k (worker_by_step w.state.clock (w.workers k) r) j
-            (λ e. laid.counters j lt ∙ ap (λ (i : ℕ). (w.workers i).counter) e
-            ∙ sym (quiet w.state.clock (w.workers k)))
-            (λ ne. laid.counters j lt);
-      }
+      lays_same o words w laid (after (initial_state_of o) (ByWorker k r ∷ steps)) refl refl refl
+      (λ j. with_at_case (λ (x : WorkerState). x.counter ≡ (w.workers j).counter)
+      w.workers k (worker_by_step w.state.clock (w.workers k) r) j
+      (λ e. quiet w.state.clock (w.workers k) ∙ ap (λ (i : ℕ). (w.workers i).counter) (sym e))
+      (λ ne. refl))
 
   -- a store changes the worker's counter alone
   stored : (steps : List TraceStep) (k x : ℕ) (r : WorkerStep) (words : List ℕ) → k < o.workers → Stores r x

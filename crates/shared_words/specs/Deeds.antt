@@ -1,15 +1,13 @@
 -- Meaning: what a whole deed of a worker gains its view: a report, or a lookup of one address (DPDK
 -- Programmer's Guide, "RCU Library": a worker comes online, is quiescent, goes offline; Gupta, Lin and
 -- McKeown, INFOCOM 1998, section 3: a lookup reads one word or two).
-use Rattle.std.specs.Prelude.{ℕ, ◌≡◌, ◌+◌, ◌≤◌, List, [], ◌∷◌, ◌++◌, All, map, reverse, length, Option, Some, None}
-use Rattle.lpm_cells.specs.declared.entry.Entry.{Entry}
-use Rattle.lpm_cells.specs.declared.entry.Entry.TheVariants.{Miss, Hop, Group}
+use Rattle.std.specs.Prelude.{ℕ, ◌≡◌, ◌+◌, ◌≤◌, List, [], ◌∷◌, ◌++◌, All, map, reverse, length, Option}
 use Rattle.lpm_cells.specs.Table.{IsFirstWord}
 use Rattle.lpm_cells.specs.Words.{entry_in, hop_in}
 use Rattle.lpm_trace.specs.declared.step.WorkerStep.{WorkerStep}
-use Rattle.lpm_trace.specs.declared.step.WorkerStep.TheVariants.{BeginLookup, LoadFirst, LoadSecond, EndLookup}
+use Rattle.lpm_trace.specs.declared.step.WorkerStep.TheVariants.{BeginLookup, LoadFirst, EndLookup}
 use Rattle.lpm_trace.specs.States.{state_after, updates_done_in, updates_begun_in}
-use Rattle.lpm_trace.specs.Workers.{Online, LookingUp, Probe, Answered, Seen, AreBegun, AreAnswered, read_first}
+use Rattle.lpm_trace.specs.Workers.{Online, LookingUp, Probe, Answered, AreBegun, AreAnswered, read_first}
 use Rattle.lpm_trace.specs.Trace.{worker_by}
 use Rattle.lpm_trace.specs.Laws.{IsLegalAtPlace}
 use Rattle.shared_words.specs.declared.view.View.{View}
