@@ -107,7 +107,7 @@ item_there [] next one other left = absurd (omega (arith, left))
 item_there (x ∷ schedule) zero one other left = refl
 item_there (x ∷ schedule) (suc n) one other left = item_there schedule n one other (omega (arith, left))
 
-items_few : (xs : List Actor) → writer_items xs ≤ length xs
+pub items_few : (xs : List Actor) → writer_items xs ≤ length xs
 items_few [] = omega arith
 items_few (WriterActor ∷ xs) = omega (arith, items_few xs)
 items_few (WorkerActor k ∷ xs) = omega (arith, items_few xs)

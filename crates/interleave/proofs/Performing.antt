@@ -1,5 +1,5 @@
 -- The writer's script, change by change: what was answered so far, and how a run ends.
-use Rattle.std.proofs.Common.{arith, ◌≡◌, ℕ, zero, suc, ◌+◌, ◌<◌, ◌≤◌, inl, inr, refl, ap, sym, ◌∙◌, List, [], ◌∷◌, ◌++◌, length, map, reverse, Result, Ok, Err}
+use Rattle.std.proofs.Common.{arith, ◌≡◌, ℕ, zero, suc, ◌+◌, ◌<◌, ◌≤◌, inl, inr, refl, ap, subst, sym, ◌∙◌, List, [], ◌∷◌, ◌++◌, length, map, reverse, Result, Ok, Err}
 use Rattle.std.proofs.lemmas.List.{reverse-append, append-nil}
 use Rattle.lpm_limits.specs.declared.busy.Busy.{Busy}
 use Rattle.lpm_limits.specs.declared.config.Config.{Config}
@@ -10,7 +10,7 @@ use Rattle.lpm_trace.specs.States.{InitialState}
 use Rattle.lpm_writer.specs.Steps.{AreStopped, Checks, Loads}
 use Rattle.interleave.specs.declared.reply.Reply.{Reply}
 use Rattle.interleave.specs.Replies.{StateBySteps, Waits, CameOut, next_token}
-use Rattle.interleave.specs.Runs.{HaveComeOut, IsUnderWay, IsPerformed}
+use Rattle.interleave.specs.Runs.{HaveComeOut, IsUnderWay, AreUnanswered, IsPerformed}
 
 -- ---- how long a wait is
 
@@ -67,38 +67,34 @@ module _ (c : InitialState) (f g : ℕ) (config : Config) (n : ℕ) (opening : S
     answered = (last, h.answered, low, high, answers);
   }
 
-  pub performed_all : (changes : List (Change f g)) (replies : List Reply) (last : StateBySteps) → HasPerformed changes replies last → IsPerformed c f g config n opening changes replies last.readers
-  performed_all changes replies last h = record {
+  performed_with : (changes left : List (Change f g)) (replies : List Reply) (last : StateBySteps) (steps : List WriterStep)
+      → HasPerformed changes replies last → AreUnanswered c f g config n last left steps
+      → IsPerformed c f g config n opening (changes ++ left) replies steps
+  performed_with changes left replies last steps h rest = record {
     log = h.log;
-    left = [];
+    left = left;
     last = last;
-    script_is = h.changes_are ∙ sym (append-nil (reverse (map (λ entry. entry.0) h.log)));
+    script_is = ap (λ xs. xs ++ left) h.changes_are;
     replies_are = h.replies_are;
     answered = h.answered;
-    unanswered = refl;
+    unanswered = rest;
   }
 
-  pub performed_before : (changes left : List (Change f g)) (replies : List Reply) (last : StateBySteps) (change : Change f g) → HasPerformed changes replies last → n ≤ length last.readers
+  pub performed_all : (changes : List (Change f g)) (replies : List Reply) (last : StateBySteps)
+      → HasPerformed changes replies last → IsPerformed c f g config n opening changes replies last.readers
+  performed_all changes replies last h =
+      subst (λ xs. IsPerformed c f g config n opening xs replies last.readers) (append-nil changes)
+      (performed_with changes [] replies last last.readers h refl)
+
+  pub performed_before : (changes left : List (Change f g)) (replies : List Reply) (last : StateBySteps) (change : Change f g)
+      → HasPerformed changes replies last → n ≤ length last.readers
       → IsPerformed c f g config n opening (changes ++ change ∷ left) replies last.readers
-  performed_before changes left replies last change h none = record {
-    log = h.log;
-    left = change ∷ left;
-    last = last;
-    script_is = ap (λ xs. xs ++ change ∷ left) h.changes_are;
-    replies_are = h.replies_are;
-    answered = h.answered;
-    unanswered = inl (none, refl);
-  }
+  performed_before changes left replies last change h none =
+      performed_with changes (change ∷ left) replies last last.readers h (inl (none, refl))
 
-  pub performed_within : (changes left : List (Change f g)) (replies : List Reply) (last : StateBySteps) (change : Change f g) (steps : List WriterStep) → HasPerformed changes replies last
-      → length last.readers < n → n < length steps → IsUnderWay c f g config last change steps
+  pub performed_within : (changes left : List (Change f g)) (replies : List Reply) (last : StateBySteps) (change : Change f g)
+      (steps : List WriterStep) → HasPerformed changes replies last → length last.readers < n → n < length steps
+      → IsUnderWay c f g config last change steps
       → IsPerformed c f g config n opening (changes ++ change ∷ left) replies steps
-  performed_within changes left replies last change steps h low high way = record {
-    log = h.log;
-    left = change ∷ left;
-    last = last;
-    script_is = ap (λ xs. xs ++ change ∷ left) h.changes_are;
-    replies_are = h.replies_are;
-    answered = h.answered;
-    unanswered = inr (low, high, way);
-  }
+  performed_within changes left replies last change steps h low high way =
+      performed_with changes (change ∷ left) replies last steps h (inr (low, high, way))

@@ -13,8 +13,8 @@ use Rattle.interleave.specs.declared.seen.Seen.{Seen as Noted}
 use Rattle.interleave.specs.declared.worker.Phase.TheVariants as phase
 use Rattle.interleave.specs.declared.worker.Worker.{Worker as Machine}
 use Rattle.interleave.specs.Scripts.{IsSoundFrom, IsCut, GoesOn}
-use Rattle.interleave.specs.Shown.{step_of_worker}
-use Rattle.interleave.specs.Machine.{Shows, BeginsDeed, ContinuesDeed, IsAt, IsOf, IsInRange, Advances, is_online, phase_of, probes_of}
+use Rattle.interleave.specs.Shown.{step_of_worker, shown_by}
+use Rattle.interleave.specs.Machine.{Shows, BeginsDeed, ContinuesDeed, IsAt, IsOf, IsInRange, IsNoted, Advances, is_online, phase_of, probes_of}
 use Rattle.interleave.proofs.Ranges.{kept}
 
 -- ---- the deed that begins next
@@ -124,25 +124,13 @@ module _ (first second : ℕ) (words : Words) (sequence token : ℕ) (c : Initia
       let rests : Online ≡ phase_of new.phase = sym (ap (λ (n : Machine). phase_of n.phase) is) in
       let lo : r.lo ≡ new.lo = at.shows.lo ∙ sym (ap (λ (n : Machine). n.lo) is) in
       let probes : r.probes ≡ _ = at.shows.probes ∙ sym (ap (λ (n : Machine). probes_of n.probes.items) is) in
+      let goes : (s : WorkerStep) → GoesOn s → MayRead c w r s → Shows new (worker_by_step now r s)
+      → shown ≡ shown_by c k r s → IsNoted k r s before before → ContinuesDeed c w k now r new shown before before =
+      λ s goes may shows told noted.
+      record { made = s; goes = goes; makes = record { may = may; shows = shows; shown = told }; noted = noted } in
       elim doing [
-        | inl e ↦ record {
-          made = step.StoreOnline stored;
-          goes = tt;
-          makes = record {
-            may = at.shows.phase ∙ ap phase_of e;
-            shows = record { counter = counter; phase = rests; lo = lo; probes = probes };
-            shown = told;
-          };
-          noted = sym (append-nil before);
-        }
-        | inr e ↦ record {
-          made = step.StoreQuiescent stored;
-          goes = tt;
-          makes = record {
-            may = at.shows.phase ∙ ap phase_of e;
-            shows = record { counter = counter; phase = rests; lo = lo; probes = probes };
-            shown = told;
-          };
-          noted = sym (append-nil before);
-        }
+        | inl e ↦ goes (step.StoreOnline stored) tt (at.shows.phase ∙ ap phase_of e)
+            (record { counter = counter; phase = rests; lo = lo; probes = probes }) told (sym (append-nil before))
+        | inr e ↦ goes (step.StoreQuiescent stored) tt (at.shows.phase ∙ ap phase_of e)
+            (record { counter = counter; phase = rests; lo = lo; probes = probes }) told (sym (append-nil before))
       ]

@@ -99,6 +99,12 @@ pub record IsOf (first second : ℕ) (words : Words) (sequence token : ℕ) (c :
   pub sequence_is : w.sequence ≡ sequence
   pub token_is : w.token ≡ token
 
+-- a load of a lookup leaves the deeds that have begun, and as many addresses
+pub record StaysOn (before after : Machine) : Type 0 where
+  pub begun : after.begun ≡ before.begun
+  pub room : vec_capacity after.probes ≡ vec_capacity before.probes
+  pub few : vec_len after.probes ≡ vec_len before.probes
+
 -- worker k makes this step at the time `now`, and r is what its earlier steps left
 pub record Makes (c : InitialState) (w : TableState) (k now : ℕ) (r : Worker) (s : WorkerStep)
     (machine : Machine) (step : Step) : Type 0 where

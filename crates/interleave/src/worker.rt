@@ -13,7 +13,7 @@ ghost use Rattle.interleave.specs.Scripts.{IsSound, IsSoundFrom, IsDone};
 ghost use Rattle.interleave.specs.Shown.{step_of_worker};
 ghost use Rattle.interleave.specs.declared.probe.Probe.TheVariants as probe;
 ghost use Rattle.interleave.specs.declared.worker.Phase.TheVariants as phase;
-ghost use Rattle.interleave.specs.Machine.{Shows, IsNextUnread, IsNextGrouped, IsInRange, IsAt, IsOf, Makes, BeginsDeed, ContinuesDeed, Advances, probes_of, is_online};
+ghost use Rattle.interleave.specs.Machine.{Shows, StaysOn, IsNextUnread, IsNextGrouped, IsInRange, IsAt, IsOf, Makes, BeginsDeed, ContinuesDeed, Advances, probes_of, is_online};
 
 use super::probe::{Grouped, Probe, next_in_group, next_unread, set_out};
 use super::seen::{Seen, note};
@@ -244,9 +244,7 @@ impl Worker {
         requires next { IsNextUnread self.old.probes.items place addr }
         requires addr { addr < 2 ^ (FIRST + SECOND) }
         ensures same { shared.new ≡ shared.old }
-        ensures begun { self.new.begun ≡ self.old.begun }
-        ensures room { vec_capacity self.new.probes ≡ vec_capacity self.old.probes }
-        ensures few { vec_len self.new.probes ≡ vec_len self.old.probes }
+        ensures stays { StaysOn self.old self.new }
         ensures step { (c : InitialState) (w : TableState) (r : TraceWorker)
             → IsOf FIRST SECOND shared.old.cells shared.old.sequence shared.old.token c w
             → Shows self.old r → r.phase ≡ LookingUp
@@ -273,9 +271,7 @@ impl Worker {
         requires next { IsNextGrouped self.old.probes.items found.now }
         requires group { HasRoom SECOND shared.old.cells.seconds found.now.group }
         ensures same { shared.new ≡ shared.old }
-        ensures begun { self.new.begun ≡ self.old.begun }
-        ensures room { vec_capacity self.new.probes ≡ vec_capacity self.old.probes }
-        ensures few { vec_len self.new.probes ≡ vec_len self.old.probes }
+        ensures stays { StaysOn self.old self.new }
         ensures step { (c : InitialState) (w : TableState) (r : TraceWorker)
             → IsOf FIRST SECOND shared.old.cells shared.old.sequence shared.old.token c w
             → Shows self.old r → r.phase ≡ LookingUp

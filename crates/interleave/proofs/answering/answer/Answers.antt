@@ -9,14 +9,15 @@ use Rattle.lpm_writer.proofs.StepsAlone.{adds_alone, deletes_alone, flushes_alon
 use Rattle.interleave.specs.View.{WorldView}
 use Rattle.interleave.specs.World.{WorldDid, scripts_and_schedule}
 use Rattle.interleave.specs.declared.reply.Reply.{Reply}
-use Rattle.interleave.specs.declared.reply.Reply.TheVariants.{Put, Deleted, Flushed, Reclaimed, Refused}
 use Rattle.interleave.specs.Replies.{Answers, state_by_steps}
 use Rattle.interleave.proofs.Settings.{Setting, does_in, stays}
 use Rattle.interleave.proofs.answering.answer.Goals as goal
 use Rattle.interleave.proofs.answering.answer.Goals.{in-Add+in-Ok, in-Add+in-Err+in_default, in-Delete+in-Ok-delete_rule, in-Delete+in-Err-delete_rule, in-Flush+in-Ok-flush_rules, in-Flush+in-Err-flush_rules, in-Reclaim}
 
-carried : {M L : Type 0} (P : M → L → Reply → Type 0) (m m' : M) (l l' : L) (r r' : Reply) → m' ≡ m → l' ≡ l → r' ≡ r → P m l r → P m' l' r'
-carried P m m' l l' r r' em el er h = subst (λ x. P x l' r') (sym em) (subst (λ x. P m x r') (sym el) (subst (λ x. P m l x) (sym er) h))
+carried : {K M L : Type 0} (P : K → M → L → Reply → Type 0) {k k' : K} {m m' : M} {l l' : L} {r r' : Reply}
+    → k' ≡ k → m' ≡ m → l' ≡ l → r' ≡ r → P k m l r → P k' m' l' r'
+carried {K} {M} {L} P ek em el er h =
+    subst (λ (z : K × (M × (L × Reply))). P z.0 z.1.0 z.1.1.0 z.1.1.1) (λ i. (sym ek i, (sym em i, (sym el i, sym er i)))) h
 
 pub returns-clause-replies : goal.returns-clause-replies
 returns-clause-replies g c = λ setup steps did rests.
@@ -26,60 +27,78 @@ returns-clause-replies g c = λ setup steps did rests.
     let config = old.config in
     let kind = scripts_and_schedule c.args.memory.now in
     let before : State (Traced WorldView) = state_of {X = Traced WorldView} old.rules.rules (c.args.memory.now, steps) old.pool old.versions in
-    let after : WorldView → ControlState f s → List WriterStep → State (Traced WorldView) = λ m l later. state_of {X = Traced WorldView} l.rules.rules (m, later) l.pool l.versions in
+    let after : WorldView → ControlState f s → List WriterStep → State (Traced WorldView) = λ m l later.
+    state_of {X = Traced WorldView} l.rules.rules (m, later) l.pool l.versions in
     let Came : Change f s → WorldView → ControlState f s → Reply → Type 0 = λ change m l r. (later : List WriterStep) × WorldDid f s m setup later
     × IsResting f s setup later l.config l.rules l.pool l.versions
     × Answers setup f s config (state_by_steps old.rules steps old.pool old.versions) change r (state_by_steps l.rules later l.pool l.versions) in
     elim c.match-change.branch [
       | in-Add+in-Ok w ↦
           let now = w.in-Ok.ensures.adds setup steps did rests in
-          let m = w.add_rule.new.memory in
-          let l = w.add_rule.new.control in
-          carried (Came c.args.change.now) m c.match-change.memory l c.match-change.control (Put w.in-Ok.put) c.match-change.reply w.memory-is w.control-is w.reply-is
-          (subst (λ x. Came x m l (Put w.in-Ok.put)) (sym w.in-Add.is)
-          (now.0, now.1, now.2, (adds_alone WorldView (does_in f s) setup Setting scripts_and_schedule (stays f s) kind f s config before (after m l now.0) refl w.in-Add.prefix w.in-Add.hop (Ok w.in-Ok.put) now.3).0))
+          carried Came w.in-Add.is w.memory-is w.control-is w.reply-is (
+            now.0,
+            now.1,
+            now.2,
+            (adds_alone WorldView (does_in f s) setup Setting scripts_and_schedule (stays f s) kind f s config before
+                (after w.add_rule.new.memory w.add_rule.new.control now.0) refl w.in-Add.prefix w.in-Add.hop (Ok w.in-Ok.put) now.3).0,
+          )
       | in-Add+in-Err+in_default w ↦
           let now = w.in-Err.ensures.adds setup steps did rests in
-          let m = w.add_rule.new.memory in
-          let l = w.add_rule.new.control in
-          carried (Came c.args.change.now) m c.match-change.memory l c.match-change.control (Refused w.in-Err.refusal) c.match-change.reply w.memory-is w.control-is w.reply-is
-          (subst (λ x. Came x m l (Refused w.in-Err.refusal)) (sym w.in-Add.is)
-          (now.0, now.1, now.2, (w.in_default.not-Memory, (adds_alone WorldView (does_in f s) setup Setting scripts_and_schedule (stays f s) kind f s config before (after m l now.0) refl w.in-Add.prefix w.in-Add.hop (Err w.in-Err.refusal) now.3).0)))
+          carried Came w.in-Add.is w.memory-is w.control-is w.reply-is (
+            now.0,
+            now.1,
+            now.2,
+            (
+              w.in_default.not-Memory,
+              (adds_alone WorldView (does_in f s) setup Setting scripts_and_schedule (stays f s) kind f s config before
+                  (after w.add_rule.new.memory w.add_rule.new.control now.0) refl w.in-Add.prefix w.in-Add.hop (Err w.in-Err.refusal) now.3).0,
+            ),
+          )
       | in-Delete+in-Ok-delete_rule w ↦
           let now = w.in-Ok-delete_rule.ensures.deletes setup steps did rests in
-          let m = w.delete_rule.new.memory in
-          let l = w.delete_rule.new.control in
-          carried (Came c.args.change.now) m c.match-change.memory l c.match-change.control (Deleted w.in-Ok-delete_rule.hop) c.match-change.reply w.memory-is w.control-is w.reply-is
-          (subst (λ x. Came x m l (Deleted w.in-Ok-delete_rule.hop)) (sym w.in-Delete.is)
-          (now.0, now.1, now.2, (deletes_alone WorldView (does_in f s) setup Setting scripts_and_schedule (stays f s) kind f s config before (after m l now.0) refl w.in-Delete.prefix (Ok w.in-Ok-delete_rule.hop) now.3).0))
+          carried Came w.in-Delete.is w.memory-is w.control-is w.reply-is (
+            now.0,
+            now.1,
+            now.2,
+            (deletes_alone WorldView (does_in f s) setup Setting scripts_and_schedule (stays f s) kind f s config before
+                (after w.delete_rule.new.memory w.delete_rule.new.control now.0) refl w.in-Delete.prefix (Ok w.in-Ok-delete_rule.hop) now.3).0,
+          )
       | in-Delete+in-Err-delete_rule w ↦
           let now = w.in-Err-delete_rule.ensures.deletes setup steps did rests in
-          let m = w.delete_rule.new.memory in
-          let l = w.delete_rule.new.control in
-          carried (Came c.args.change.now) m c.match-change.memory l c.match-change.control (Refused w.in-Err-delete_rule.refusal) c.match-change.reply w.memory-is w.control-is w.reply-is
-          (subst (λ x. Came x m l (Refused w.in-Err-delete_rule.refusal)) (sym w.in-Delete.is)
-          (now.0, now.1, now.2, (deletes_alone WorldView (does_in f s) setup Setting scripts_and_schedule (stays f s) kind f s config before (after m l now.0) refl w.in-Delete.prefix (Err w.in-Err-delete_rule.refusal) now.3).0))
+          carried Came w.in-Delete.is w.memory-is w.control-is w.reply-is (
+            now.0,
+            now.1,
+            now.2,
+            (deletes_alone WorldView (does_in f s) setup Setting scripts_and_schedule (stays f s) kind f s config before
+                (after w.delete_rule.new.memory w.delete_rule.new.control now.0) refl w.in-Delete.prefix (Err w.in-Err-delete_rule.refusal) now.3).0,
+          )
       | in-Flush+in-Ok-flush_rules w ↦
           let now = w.in-Ok-flush_rules.ensures.flushes setup steps did rests in
-          let m = w.flush_rules.new.memory in
-          let l = w.flush_rules.new.control in
-          carried (Came c.args.change.now) m c.match-change.memory l c.match-change.control (Flushed w.in-Ok-flush_rules.count) c.match-change.reply w.memory-is w.control-is w.reply-is
-          (subst (λ x. Came x m l (Flushed w.in-Ok-flush_rules.count)) (sym w.in-Flush.is)
-          (now.0, now.1, now.2, (flushes_alone WorldView (does_in f s) setup Setting scripts_and_schedule (stays f s) kind f s config before (after m l now.0) refl (Ok w.in-Ok-flush_rules.count) now.3).0))
+          carried Came w.in-Flush.is w.memory-is w.control-is w.reply-is (
+            now.0,
+            now.1,
+            now.2,
+            (flushes_alone WorldView (does_in f s) setup Setting scripts_and_schedule (stays f s) kind f s config before
+                (after w.flush_rules.new.memory w.flush_rules.new.control now.0) refl (Ok w.in-Ok-flush_rules.count) now.3).0,
+          )
       | in-Flush+in-Err-flush_rules w ↦
           let now = w.in-Err-flush_rules.ensures.flushes setup steps did rests in
-          let m = w.flush_rules.new.memory in
-          let l = w.flush_rules.new.control in
-          carried (Came c.args.change.now) m c.match-change.memory l c.match-change.control (Refused w.in-Err-flush_rules.refusal) c.match-change.reply w.memory-is w.control-is w.reply-is
-          (subst (λ x. Came x m l (Refused w.in-Err-flush_rules.refusal)) (sym w.in-Flush.is)
-          (now.0, now.1, now.2, (flushes_alone WorldView (does_in f s) setup Setting scripts_and_schedule (stays f s) kind f s config before (after m l now.0) refl (Err w.in-Err-flush_rules.refusal) now.3).0))
+          carried Came w.in-Flush.is w.memory-is w.control-is w.reply-is (
+            now.0,
+            now.1,
+            now.2,
+            (flushes_alone WorldView (does_in f s) setup Setting scripts_and_schedule (stays f s) kind f s config before
+                (after w.flush_rules.new.memory w.flush_rules.new.control now.0) refl (Err w.in-Err-flush_rules.refusal) now.3).0,
+          )
       | in-Reclaim w ↦
           let now = w.reclaim_groups.ensures.frees setup steps did rests in
-          let m = w.reclaim_groups.new.memory in
-          let l = w.reclaim_groups.new.control in
-          carried (Came c.args.change.now) m c.match-change.memory l c.match-change.control (Reclaimed w.reclaim_groups.result) c.match-change.reply w.memory-is w.control-is w.reply-is
-          (subst (λ x. Came x m l (Reclaimed w.reclaim_groups.result)) (sym w.in-Reclaim.is)
-          (now.0, now.1, now.2, (frees_alone WorldView (does_in f s) setup Setting scripts_and_schedule (stays f s) kind f s config before (after m l now.0) refl w.in-Reclaim.max w.reclaim_groups.result now.3).0))
+          carried Came w.in-Reclaim.is w.memory-is w.control-is w.reply-is (
+            now.0,
+            now.1,
+            now.2,
+            (frees_alone WorldView (does_in f s) setup Setting scripts_and_schedule (stays f s) kind f s config before
+                (after w.reclaim_groups.new.memory w.reclaim_groups.new.control now.0) refl w.in-Reclaim.max w.reclaim_groups.result now.3).0,
+          )
     ]
 
 pub returns-clause-setting : goal.returns-clause-setting
@@ -91,29 +110,37 @@ returns-clause-setting g c =
     let kind = scripts_and_schedule c.args.memory.now in
     let rests = c.requires.rests in
     let before : State (Traced WorldView) = state_of {X = Traced WorldView} old.rules.rules (c.args.memory.now, rests.1) old.pool old.versions in
-    let after : WorldView → ControlState f s → List WriterStep → State (Traced WorldView) = λ m l later. state_of {X = Traced WorldView} l.rules.rules (m, later) l.pool l.versions in
+    let after : WorldView → ControlState f s → List WriterStep → State (Traced WorldView) = λ m l later.
+    state_of {X = Traced WorldView} l.rules.rules (m, later) l.pool l.versions in
     elim c.match-change.branch [
       | in-Add+in-Ok w ↦
           let now = w.in-Ok.ensures.adds rests.0 rests.1 rests.2 rests.3 in
-          ap scripts_and_schedule w.memory-is ∙ (adds_alone WorldView (does_in f s) rests.0 Setting scripts_and_schedule (stays f s) kind f s config before (after w.add_rule.new.memory w.add_rule.new.control now.0) refl w.in-Add.prefix w.in-Add.hop (Ok w.in-Ok.put) now.3).1
+          ap scripts_and_schedule w.memory-is ∙ (adds_alone WorldView (does_in f s) rests.0 Setting scripts_and_schedule (stays f s) kind f s config before
+          (after w.add_rule.new.memory w.add_rule.new.control now.0) refl w.in-Add.prefix w.in-Add.hop (Ok w.in-Ok.put) now.3).1
       | in-Add+in-Err+in_default w ↦
           let now = w.in-Err.ensures.adds rests.0 rests.1 rests.2 rests.3 in
-          ap scripts_and_schedule w.memory-is ∙ (adds_alone WorldView (does_in f s) rests.0 Setting scripts_and_schedule (stays f s) kind f s config before (after w.add_rule.new.memory w.add_rule.new.control now.0) refl w.in-Add.prefix w.in-Add.hop (Err w.in-Err.refusal) now.3).1
+          ap scripts_and_schedule w.memory-is ∙ (adds_alone WorldView (does_in f s) rests.0 Setting scripts_and_schedule (stays f s) kind f s config before
+          (after w.add_rule.new.memory w.add_rule.new.control now.0) refl w.in-Add.prefix w.in-Add.hop (Err w.in-Err.refusal) now.3).1
       | in-Delete+in-Ok-delete_rule w ↦
           let now = w.in-Ok-delete_rule.ensures.deletes rests.0 rests.1 rests.2 rests.3 in
-          ap scripts_and_schedule w.memory-is ∙ (deletes_alone WorldView (does_in f s) rests.0 Setting scripts_and_schedule (stays f s) kind f s config before (after w.delete_rule.new.memory w.delete_rule.new.control now.0) refl w.in-Delete.prefix (Ok w.in-Ok-delete_rule.hop) now.3).1
+          ap scripts_and_schedule w.memory-is ∙ (deletes_alone WorldView (does_in f s) rests.0 Setting scripts_and_schedule (stays f s) kind f s config before
+          (after w.delete_rule.new.memory w.delete_rule.new.control now.0) refl w.in-Delete.prefix (Ok w.in-Ok-delete_rule.hop) now.3).1
       | in-Delete+in-Err-delete_rule w ↦
           let now = w.in-Err-delete_rule.ensures.deletes rests.0 rests.1 rests.2 rests.3 in
-          ap scripts_and_schedule w.memory-is ∙ (deletes_alone WorldView (does_in f s) rests.0 Setting scripts_and_schedule (stays f s) kind f s config before (after w.delete_rule.new.memory w.delete_rule.new.control now.0) refl w.in-Delete.prefix (Err w.in-Err-delete_rule.refusal) now.3).1
+          ap scripts_and_schedule w.memory-is ∙ (deletes_alone WorldView (does_in f s) rests.0 Setting scripts_and_schedule (stays f s) kind f s config before
+          (after w.delete_rule.new.memory w.delete_rule.new.control now.0) refl w.in-Delete.prefix (Err w.in-Err-delete_rule.refusal) now.3).1
       | in-Flush+in-Ok-flush_rules w ↦
           let now = w.in-Ok-flush_rules.ensures.flushes rests.0 rests.1 rests.2 rests.3 in
-          ap scripts_and_schedule w.memory-is ∙ (flushes_alone WorldView (does_in f s) rests.0 Setting scripts_and_schedule (stays f s) kind f s config before (after w.flush_rules.new.memory w.flush_rules.new.control now.0) refl (Ok w.in-Ok-flush_rules.count) now.3).1
+          ap scripts_and_schedule w.memory-is ∙ (flushes_alone WorldView (does_in f s) rests.0 Setting scripts_and_schedule (stays f s) kind f s config before
+          (after w.flush_rules.new.memory w.flush_rules.new.control now.0) refl (Ok w.in-Ok-flush_rules.count) now.3).1
       | in-Flush+in-Err-flush_rules w ↦
           let now = w.in-Err-flush_rules.ensures.flushes rests.0 rests.1 rests.2 rests.3 in
-          ap scripts_and_schedule w.memory-is ∙ (flushes_alone WorldView (does_in f s) rests.0 Setting scripts_and_schedule (stays f s) kind f s config before (after w.flush_rules.new.memory w.flush_rules.new.control now.0) refl (Err w.in-Err-flush_rules.refusal) now.3).1
+          ap scripts_and_schedule w.memory-is ∙ (flushes_alone WorldView (does_in f s) rests.0 Setting scripts_and_schedule (stays f s) kind f s config before
+          (after w.flush_rules.new.memory w.flush_rules.new.control now.0) refl (Err w.in-Err-flush_rules.refusal) now.3).1
       | in-Reclaim w ↦
           let now = w.reclaim_groups.ensures.frees rests.0 rests.1 rests.2 rests.3 in
-          ap scripts_and_schedule w.memory-is ∙ (frees_alone WorldView (does_in f s) rests.0 Setting scripts_and_schedule (stays f s) kind f s config before (after w.reclaim_groups.new.memory w.reclaim_groups.new.control now.0) refl w.in-Reclaim.max w.reclaim_groups.result now.3).1
+          ap scripts_and_schedule w.memory-is ∙ (frees_alone WorldView (does_in f s) rests.0 Setting scripts_and_schedule (stays f s) kind f s config before
+          (after w.reclaim_groups.new.memory w.reclaim_groups.new.control now.0) refl w.in-Reclaim.max w.reclaim_groups.result now.3).1
     ]
 
 weaker : {A B B' : Type 0} {P P' : A → Type 0} (o : Option A) → (B → B') → ((a : A) → P a → P' a) → MatchOption o B P → MatchOption o B' P'

@@ -1,9 +1,11 @@
-use Rattle.std.proofs.Common.{arith, ◌≡◌, ℕ, suc, ◌+◌, ◌<◌, ◌≤◌, true, ap, sym, subst, ◌∙◌, List, [], ◌∷◌, ◌++◌, length, take, drop, get_or, Some, None, drop-cons}
+use Rattle.std.proofs.Common.{arith, ◌≡◌, ℕ, suc, ◌+◌, ◌<◌, true, ap, sym, subst, ◌∙◌, List, [], ◌∷◌, ◌++◌, length, take, drop, get_or, Some, None, drop-cons}
 use Rattle.std.specs.Prelude.{is_ok, not, if◌then◌else◌}
 use Rattle.std.proofs.lemmas.List.{take_more, take_all, take-append-drop}
-use Rattle.lpm_trace.specs.declared.kind.Actor.{Actor}
-use Rattle.lpm_trace.specs.declared.kind.Actor.TheVariants.{Writer as WriterActor, Worker as WorkerActor}
-use Rattle.interleave.specs.Schedule.{writer_items}
+use Rattle.lpm_rules.specs.declared.Change.{Change}
+use Rattle.lpm_writer.specs.declared.control.ControlState.{ControlState}
+use Rattle.interleave.specs.View.{WorldView}
+use Rattle.interleave.specs.declared.reply.Reply.{Reply}
+use Rattle.interleave.proofs.Items.{items_few}
 use Rattle.interleave.proofs.Reaching.{setting_stays}
 use Rattle.interleave.proofs.ScriptAnswers.{HasAnswered, HasEnded, HasCome, IsLate, answered_more, ends_all, ends_before, ends_late, ends_waiting}
 use Rattle.interleave.proofs.answering.answer_all.Goals as goal
@@ -14,10 +16,12 @@ split xs i x low is = ap (λ y. take i xs ++ y ∷ drop (suc i) xs) is ∙ ap (�
 one_more : {A : Type 0} (xs : List A) (i : ℕ) (x : A) → i < length xs → x ≡ get_or xs i x → take (i + 1) xs ≡ take i xs ++ x ∷ []
 one_more xs i x low is = take_more xs i x low ∙ ap (λ y. take i xs ++ y ∷ []) (sym is)
 
-items_few : (xs : List Actor) → writer_items xs ≤ length xs
-items_few [] = omega arith
-items_few (WriterActor ∷ xs) = omega (arith, items_few xs)
-items_few (WorkerActor k ∷ xs) = omega (arith, items_few xs)
+-- the end that was reached with a change and those behind it left
+whole : {f g : ℕ} {v z : WorldView} {l : ControlState f g} {replies : List Reply} (all : List (Change f g)) (i : ℕ)
+    (change : Change f g) → i < length all → change ≡ get_or all i change
+    → HasEnded f g v l (take i all ++ change ∷ drop (suc i) all) replies z → HasEnded f g v l all replies z
+whole {f} {g} {v} {z} {l} {replies} all i change low is =
+    subst (λ xs. HasEnded f g v l xs replies z) (split all i change low is)
 
 pub reach-requires : goal.reach-requires
 reach-requires g c =
@@ -33,10 +37,9 @@ returns-then-not-reach-clause-performed g c =
     let change = c.change-item.result in
     let all = c.args.changes.now in
     let done = take i all in
-    let ends : HasEnded f s c.args.memory.now c.args.control.now (done ++ change ∷ drop (suc i) all) c.loop-change.replies.items c.reach.new.self =
-    ends_before f s c.args.memory.now c.args.control.now done c.loop-change.replies.items c.loop-change.memory c.reach.new.self c.loop-change.control
-    c.loop-change.invariant.answered c.loop-change.invariant.setting_is c.if-not-reach.ensures.reaches change (drop (suc i) all) c.if-not-reach.ensures.left in
-    subst (λ xs. HasEnded f s c.args.memory.now c.args.control.now xs c.loop-change.replies.items c.reach.new.self) (split all i change c.loop-change-test.true c.change-item.is) ends
+    whole all i change c.loop-change-test.true c.change-item.is
+    (ends_before f s c.args.memory.now c.args.control.now done c.loop-change.replies.items c.loop-change.memory c.reach.new.self c.loop-change.control
+    c.loop-change.invariant.answered c.loop-change.invariant.setting_is c.if-not-reach.ensures.reaches change (drop (suc i) all) c.if-not-reach.ensures.left)
 
 pub answer-requires : goal.answer-requires
 answer-requires g c =
@@ -57,11 +60,10 @@ returns-in_default-clause-performed g c =
     let l' = c.answer.new.control in
     let still = c.in_ok-reply.ensures.setting ∙ setting_stays c.loop-change.memory y c.if-not-reach.ensures.shared ∙ c.loop-change.invariant.setting_is in
     let come : HasCome f s y c.loop-change.control change c.args.tries None m' l' = subst (λ came. HasCome f s y c.loop-change.control change c.args.tries came m' l') c.in_default.is c.in_ok-reply.ensures.replies in
-    let ends : HasEnded f s c.args.memory.now c.args.control.now (done ++ change ∷ drop (suc i) all) c.loop-change.replies.items m' =
-    ends_waiting f s c.args.memory.now c.args.control.now done c.loop-change.replies.items c.loop-change.memory y c.loop-change.control
+    whole all i change c.loop-change-test.true c.change-item.is
+    (ends_waiting f s c.args.memory.now c.args.control.now done c.loop-change.replies.items c.loop-change.memory y c.loop-change.control
     c.loop-change.invariant.answered c.loop-change.invariant.setting_is c.if-not-reach.ensures.reaches change (drop (suc i) all) c.args.tries m' l'
-    c.loop-change.invariant.config c.if-not-reach.ensures.left still (omega (arith, items_few c.args.memory.now.schedule, c.requires.tries)) come in
-    subst (λ xs. HasEnded f s c.args.memory.now c.args.control.now xs c.loop-change.replies.items m') (split all i change c.loop-change-test.true c.change-item.is) ends
+    c.loop-change.invariant.config c.if-not-reach.ensures.left still (omega (arith, items_few c.args.memory.now.schedule, c.requires.tries)) come)
 
 pub returns-then-is_stopped-clause-performed : goal.returns-then-is_stopped-clause-performed
 returns-then-is_stopped-clause-performed g c =
@@ -76,11 +78,10 @@ returns-then-is_stopped-clause-performed g c =
     let l' = c.answer.new.control in
     let still = c.in_ok-reply.ensures.setting ∙ setting_stays c.loop-change.memory y c.if-not-reach.ensures.shared ∙ c.loop-change.invariant.setting_is in
     let come : HasCome f s y c.loop-change.control change c.args.tries (Some c.in-Some.reply) m' l' = subst (λ came. HasCome f s y c.loop-change.control change c.args.tries came m' l') c.in-Some.is c.in_ok-reply.ensures.replies in
-    let ends : HasEnded f s c.args.memory.now c.args.control.now (done ++ change ∷ drop (suc i) all) c.loop-change.replies.items m' =
-    ends_late f s c.args.memory.now c.args.control.now done c.loop-change.replies.items c.loop-change.memory y c.loop-change.control
+    whole all i change c.loop-change-test.true c.change-item.is
+    (ends_late f s c.args.memory.now c.args.control.now done c.loop-change.replies.items c.loop-change.memory y c.loop-change.control
     c.loop-change.invariant.answered c.loop-change.invariant.setting_is c.if-not-reach.ensures.reaches change (drop (suc i) all) c.args.tries m' l'
-    c.loop-change.invariant.config c.if-not-reach.ensures.left still c.in-Some.reply come (subst (IsLate f s m') c.if-is_stopped.true c.is_stopped.ensures) in
-    subst (λ xs. HasEnded f s c.args.memory.now c.args.control.now xs c.loop-change.replies.items m') (split all i change c.loop-change-test.true c.change-item.is) ends
+    c.loop-change.invariant.config c.if-not-reach.ensures.left still c.in-Some.reply come (subst (IsLate f s m') c.if-is_stopped.true c.is_stopped.ensures))
 
 pub loop-change-preserved : goal.loop-change-preserved
 loop-change-preserved g c =

@@ -10,6 +10,6 @@ returns-clause-set g c =
     let y : WorldView = view_in g.row.FIRST g.row.SECOND c.self.inside in
     let step = StoreFirst c.args.i c.args.word in
     let words = c.set_first.ensures.words in
-    step_does_in g.row.FIRST g.row.SECOND c.args.self.now c.reach.new.self y c.note.new.self step c.reach.result c.self.view_is c.reach.ensures.shared c.reach.ensures.reaches c.reach.ensures.found tt
+    step_does_in y step c.reach.result c.self.view_is c.reach.ensures.shared c.reach.ensures.reaches c.reach.ensures.found tt
     (λ low. c.note.ensures.left low ∙ ap (λ t. record (with_recorded_step y step) { words = t }) words)
     (λ all. c.note.ensures.ended all ∙ ap (λ t. record (with_unrecorded_step y step) { words = t }) words)

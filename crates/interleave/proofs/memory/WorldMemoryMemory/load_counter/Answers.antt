@@ -14,7 +14,7 @@ returns g c =
     let same : get_or y.machines c.args.worker c.index.result.now ≡ c.index.result.now =
     ap (λ (x : WorldView). get_or x.machines c.args.worker c.index.result.now) (sym c.self.view_is) ∙ sym c.index.ensures in
     record {
-      does = step_does g.row.FIRST g.row.SECOND c.args.self.now y c.note.new.self (LoadCounter c.args._checked c.args.worker c.counter-counter.result) c.reach.result
+      does = step_does (LoadCounter c.args._checked c.args.worker c.counter-counter.result) c.reach.result
           c.reach.ensures.shared c.reach.ensures.reaches c.reach.ensures.found
           (c.index.result.now, λ r shows. c.counter-counter.ensures r (subst (λ m. Shows m r) same shows))
           c.note.ensures.left c.note.ensures.ended;

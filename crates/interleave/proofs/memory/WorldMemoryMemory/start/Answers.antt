@@ -10,6 +10,6 @@ use Rattle.interleave.proofs.memory.WorldMemoryMemory.start.Goals as goal
 pub returns-clause-does : goal.returns-clause-does
 returns-clause-does g c =
     let y : WorldView = view_in g.row.FIRST g.row.SECOND c.self.inside in
-    step_does_in g.row.FIRST g.row.SECOND c.args.self.now c.reach.new.self y c.note.new.self BumpToken c.reach.result c.self.view_is c.reach.ensures.shared c.reach.ensures.reaches c.reach.ensures.found tt
+    step_does_in y BumpToken c.reach.result c.self.view_is c.reach.ensures.shared c.reach.ensures.reaches c.reach.ensures.found tt
     (λ low. c.note.ensures.left low ∙ ap (λ n. record (with_recorded_step y BumpToken) { token = n; steps = y.steps ++ step_of_writer kind.BumpToken 0 n ∷ [] }) (add-one y.token))
     (λ all. c.note.ensures.ended all ∙ ap (λ n. record (with_unrecorded_step y BumpToken) { token = n }) (add-one y.token))
