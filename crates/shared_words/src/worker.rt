@@ -1,6 +1,6 @@
 //! The seat of a worker.
 
-ghost use Rattle.std.specs.Prelude.{◌≡◌, ℕ, ◌+◌, ◌<◌, All, [], length};
+ghost use Rattle.std.specs.Prelude.{◌≡◌, ℕ, ◌+◌, ◌<◌, All};
 ghost use Rattle.lpm_cells.specs.Words.{IsLastWord};
 ghost use Rattle.lpm_cells.specs.Table.{IsFirstWord};
 ghost use Rattle.lpm_trace.specs.declared.step.WorkerStep.TheVariants.{LoadOnline, StoreOnline, LoadQuiescent, StoreQuiescent, StoreOffline, BeginLookup, LoadFirst as FirstLoad, LoadSecond as SecondLoad, EndLookup, MeetWriter};
