@@ -1,9 +1,10 @@
 //! The lookups of a worker, and whether an answer is one of a version that stood meanwhile.
 
 use super::InitialState;
-use super::deeds::{Numbered, addresses_of, group_read, length_of, own_steps};
+use super::deeds::{Numbered, course_of, group_read};
 use super::memory::hop_in;
-use super::versions::{Versions, begun, done, is_answer, version_at};
+use super::moment::Moment;
+use super::versions::{Versions, is_answer};
 use lpm_trace::{Deed, Step};
 use std::alloc::{AllocError, Global};
 
@@ -24,58 +25,43 @@ pub struct Seen {
     pub hi: u64,
 }
 
-/// How many of the first so many addresses of a lookup led to a group.
-fn groups_before(rest: &[Numbered], address: usize) -> usize {
-    let mut count: usize = 0;
-    for earlier in 0..address {
-        if group_read(rest, earlier).is_some() {
-            count = count.saturating_add(1);
-        }
-    }
-    count
-}
-
-/// The step that read the last word of an address, of a lookup of so many addresses whose steps are
-/// at the front of these.
-fn last_read(rest: &[Numbered], count: usize, address: usize) -> Option<Numbered> {
-    let place = match group_read(rest, address) {
-        Some(_) => {
-            let first_second = count.saturating_add(1);
-            first_second.saturating_add(groups_before(rest, address))
-        }
-        None => address.saturating_add(1),
-    };
-    rest.get(place).copied()
-}
-
-/// What a lookup has seen of one of its addresses, where the lookup's steps are these.
-fn seen_of(steps: &[Step], whole: &[Numbered], addrs: &[u32], address: usize) -> Option<Seen> {
-    let addr = addrs.get(address).copied()?;
-    let first = whole.get(address.saturating_add(1))?;
-    let last = last_read(whole, addrs.len(), address)?;
-    let begins = whole.first()?;
-    let ends = whole.last()?;
+/// What a lookup has seen of an address, where the lookup's steps are these, and those at these places
+/// read the address's first and last word.
+fn seen_of(
+    trace: Moment<'_>,
+    whole: &[Numbered],
+    addr: u32,
+    first: usize,
+    last: usize,
+) -> Option<Seen> {
+    let read = whole.get(last)?;
     Some(Seen {
         addr,
-        hop: hop_in(last.step.value),
-        first: first.number,
-        last: last.number,
-        lo: done(steps, begins.number) as u64,
-        hi: begun(steps, ends.number) as u64,
+        hop: hop_in(read.step.value),
+        first: whole.get(first)?.number,
+        last: read.number,
+        lo: trace.at(whole.first()?.number).done() as u64,
+        hi: trace.at(whole.last()?.number).begun() as u64,
     })
 }
 
-/// Puts what a lookup has seen of each of its addresses to the rest, where its steps are these.
-fn push_seen(
-    alloc: Global,
-    steps: &[Step],
+/// Puts what a lookup has seen of each of these addresses to the rest, where its steps are these.
+pub(crate) fn push_seen(
+    trace: Moment<'_>,
     whole: &[Numbered],
-    deed: &Deed,
+    addrs: &[u32],
     seen: &mut Vec<Seen>,
 ) -> Result<(), AllocError> {
-    let addrs = addresses_of(alloc, deed)?;
-    for address in 0..addrs.len() {
-        if let Some(one) = seen_of(steps, whole, &addrs, address) {
+    // The place of the next load of a second word.
+    let mut second = addrs.len().saturating_add(1);
+    for (address, addr) in addrs.iter().enumerate() {
+        let first = address.saturating_add(1);
+        let mut last = first;
+        if group_read(whole, address).is_some() {
+            last = second;
+            second = second.saturating_add(1);
+        }
+        if let Some(one) = seen_of(trace, whole, *addr, first, last) {
             seen.push(one)?;
         }
     }
@@ -91,37 +77,23 @@ pub fn lookups(
     worker: usize,
     deeds: &[Deed],
 ) -> Result<Vec<Seen>, AllocError> {
-    let own = own_steps(alloc, steps, worker)?;
-    let mut seen = Vec::new(alloc);
-    let mut made: usize = 0;
-    for deed in deeds {
-        let rest = own.get(made..).unwrap_or(&[]);
-        let Some(length) = length_of(alloc, initial, worker, deed, rest)? else {
-            return Ok(seen);
-        };
-        if let Some(whole) = rest.get(..length) {
-            push_seen(alloc, steps, whole, deed, &mut seen)?;
-        }
-        made = made.saturating_add(length);
-    }
-    Ok(seen)
+    Ok(course_of(alloc, initial, steps, worker, deeds)?.lookups)
 }
 
 /// Whether the version is one from `lo` to `hi`, and its answer is the one that was seen.
 fn is_by_version(initial: &InitialState, versions: &Versions, version: usize, seen: &Seen) -> bool {
     let number = version as u64;
-    if number < seen.lo || seen.hi < number {
-        return false;
-    }
-    is_answer(initial, versions, version, seen.addr, seen.hop)
+    let is_within = seen.lo <= number && number <= seen.hi;
+    is_within && is_answer(initial, versions, version, seen.addr, seen.hop)
 }
 
 /// Whether a finished lookup is legal: its answer is that of a version that stood at a moment from
 /// the read of its first word to the read of its last, and that version lies from `lo` to `hi`.
 pub fn is_legal(initial: &InitialState, versions: &Versions, steps: &[Step], seen: &Seen) -> bool {
-    for moment in seen.first..=seen.last.min(steps.len()) {
-        let is_by_either = is_by_version(initial, versions, done(steps, moment), seen)
-            || is_by_version(initial, versions, begun(steps, moment), seen);
+    for made in seen.first..=seen.last.min(steps.len()) {
+        let now = Moment::new(initial, steps, made);
+        let is_by_either = is_by_version(initial, versions, now.done(), seen)
+            || is_by_version(initial, versions, now.begun(), seen);
         if is_by_either {
             return true;
         }
@@ -131,8 +103,8 @@ pub fn is_legal(initial: &InitialState, versions: &Versions, steps: &[Step], see
 
 /// Whether a finished lookup answers by the version that its address shows at a moment of its span.
 fn is_by_shown(initial: &InitialState, versions: &Versions, steps: &[Step], seen: &Seen) -> bool {
-    for moment in seen.first..=seen.last.min(steps.len()) {
-        let version = version_at(initial, steps, moment, seen.addr);
+    for made in seen.first..=seen.last.min(steps.len()) {
+        let version = Moment::new(initial, steps, made).version(seen.addr);
         if is_answer(initial, versions, version, seen.addr, seen.hop) {
             return true;
         }

@@ -18,11 +18,7 @@ pub struct InitialState {
 
 /// Two to this power, or the greatest number where that is less.
 pub(crate) fn power_of_two(exponent: u32) -> u64 {
-    let mut power: u64 = 1;
-    for _bit in 0..exponent {
-        power = power.saturating_mul(2);
-    }
-    power
+    1u64.checked_shl(exponent).unwrap_or(u64::MAX)
 }
 
 impl InitialState {
@@ -41,6 +37,11 @@ impl InitialState {
         u32::try_from(self.addresses().saturating_sub(1)).unwrap_or(u32::MAX)
     }
 
+    /// How many words a group has.
+    fn group_size(&self) -> u64 {
+        power_of_two(self.second)
+    }
+
     /// How many first words there are.
     pub(crate) fn firsts(&self) -> u64 {
         power_of_two(self.first)
@@ -48,24 +49,23 @@ impl InitialState {
 
     /// How many second words there are.
     pub(crate) fn seconds(&self) -> u64 {
-        power_of_two(self.second).saturating_mul(self.groups as u64)
+        self.group_size().saturating_mul(self.groups as u64)
     }
 
     /// The index of an address's first word.
     pub(crate) fn first_index(&self, addr: u32) -> u64 {
-        let size = power_of_two(self.second);
-        u64::from(addr).checked_div(size).unwrap_or(0)
+        self.group_of(u64::from(addr))
     }
 
     /// The index of an address's second word in this group.
     pub(crate) fn second_index(&self, group: u32, addr: u32) -> u64 {
-        let size = power_of_two(self.second);
+        let size = self.group_size();
         let place = u64::from(addr).checked_rem(size).unwrap_or(0);
         u64::from(group).saturating_mul(size).saturating_add(place)
     }
 
     /// The group of a second word.
     pub(crate) fn group_of(&self, index: u64) -> u64 {
-        index.checked_div(power_of_two(self.second)).unwrap_or(0)
+        index.checked_div(self.group_size()).unwrap_or(0)
     }
 }

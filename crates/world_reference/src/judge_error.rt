@@ -66,3 +66,8 @@ impl<T: Drop> From<AllocFailed<T>> for JudgeError {
         Self::Memory
     }
 }
+
+/// An error where a decider refuses the run.
+pub(crate) fn accept(is_accepted: bool, error: JudgeError) -> Result<(), JudgeError> {
+    if is_accepted { Ok(()) } else { Err(error) }
+}

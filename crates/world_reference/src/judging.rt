@@ -1,8 +1,10 @@
 //! Whether the trace of a run is what its plan leads to, by plain deciders.
 
 use super::answers::{self, is_legal, never_falls};
-use super::deeds::deeds_are_done;
+use super::deeds::{course_of, own_steps};
+use super::judge_error::accept;
 use super::memory::loads_are_stores;
+use super::moment::Moment;
 use super::order::writes_in_order;
 use super::reuse::reuse_is_lawful;
 use super::slow_writer::SlowWriter;
@@ -11,27 +13,12 @@ use interleave::{Actor, Deed, Kind, Seen, Step, Trace};
 use std::alloc::{AllocError, Global};
 use test_support::plans::Plan;
 
-fn initial_state_of<const FIRST: u32, const SECOND: u32>(
-    plan: &Plan<FIRST, SECOND>,
-) -> InitialState {
-    InitialState {
-        first: FIRST,
-        second: SECOND,
-        groups: plan.config.groups,
-        workers: plan.config.workers,
-        first_token: plan.config.first_token,
-    }
-}
-
-// The actor's own steps.
-fn steps_by(alloc: Global, steps: &[Step], actor: Actor) -> Result<Vec<Step>, AllocError> {
-    let mut own = Vec::new(alloc);
-    for step in steps {
-        if step.actor == actor {
-            own.push(*step)?;
-        }
-    }
-    Ok(own)
+// A run: what it begins with, who was to make the next step, item by item, and what it shows.
+#[derive(Clone, Copy)]
+struct Run<'a> {
+    initial: &'a InitialState,
+    schedule: &'a [Actor],
+    trace: &'a Trace,
 }
 
 // How many of these items are the actor's.
@@ -57,50 +44,15 @@ fn is_made_by(steps: &[Step], actor: Actor) -> bool {
 // Each item of the schedule made the next step, or its actor makes none from then on; and there are no
 // other steps.
 fn follows(schedule: &[Actor], steps: &[Step]) -> bool {
-    let mut made: usize = 0;
+    let mut rest = steps;
     for item in schedule {
-        let rest = steps.get(made..).unwrap_or(&[]);
-        let is_next = match rest.first() {
-            Some(step) => step.actor == *item,
-            None => false,
-        };
-        if is_next {
-            made = made.saturating_add(1);
-        } else if is_made_by(rest, *item) {
-            return false;
+        match rest.split_first() {
+            Some((step, later)) if step.actor == *item => rest = later,
+            _ if is_made_by(rest, *item) => return false,
+            _ => {}
         }
     }
-    made == steps.len()
-}
-
-// How many steps a deed makes beside loads of second words.
-fn length_of(deed: &Deed) -> usize {
-    match deed {
-        Deed::Online | Deed::Quiescent => 2,
-        Deed::Offline | Deed::Meet => 1,
-        Deed::Lookup(_) => 3,
-        Deed::Lookup4(_) => 6,
-    }
-}
-
-// How many steps all these deeds make beside loads of second words.
-fn length_of_all(deeds: &[Deed]) -> usize {
-    let mut count: usize = 0;
-    for deed in deeds {
-        count = count.saturating_add(length_of(deed));
-    }
-    count
-}
-
-// How many of these steps load no second word.
-fn count_others(steps: &[Step]) -> usize {
-    let mut count: usize = 0;
-    for step in steps {
-        if step.kind != Kind::LoadSecond {
-            count = count.saturating_add(1);
-        }
-    }
-    count
+    rest.is_empty()
 }
 
 // The step's number is that of the first that ends a lookup of the worker after this one.
@@ -166,129 +118,107 @@ fn are_lawful(
 // Within an update the stores to first words go upwards, and so do those to words of one group.
 fn stores_go_upwards(initial: &InitialState, steps: &[Step]) -> bool {
     for (moment, step) in steps.iter().enumerate() {
+        let is_store = step.kind == Kind::StoreFirst || step.kind == Kind::StoreSecond;
         let earlier = steps.get(..moment).unwrap_or(&[]);
-        if !is_above(initial, earlier, step) {
+        if is_store && !is_above(initial, earlier, step) {
             return false;
         }
     }
     true
 }
 
-// How many words a group has.
-fn size_of(initial: &InitialState) -> u64 {
-    1u64.checked_shl(initial.second).unwrap_or(0)
-}
-
-fn is_of_one_table(initial: &InitialState, step: &Step, other: &Step) -> bool {
-    let size = size_of(initial);
-    let same_group = step.index.checked_div(size) == other.index.checked_div(size);
-    step.kind == other.kind && (step.kind == Kind::StoreFirst || same_group)
-}
-
-// Whether the step isn't a store, or its index is above those of the stores before it in its update to
-// the first words, or to the words of its group.
+// Whether the index of a store is above those of the stores before it in its update to the first words, or
+// to the words of its group.
 fn is_above(initial: &InitialState, earlier: &[Step], step: &Step) -> bool {
-    if step.kind != Kind::StoreFirst && step.kind != Kind::StoreSecond {
-        return true;
-    }
     for other in earlier.iter().rev() {
         if other.kind == Kind::BumpSequence {
             return true;
         }
-        if is_of_one_table(initial, step, other) && other.index >= step.index {
+        let is_of_one_group = initial.group_of(step.index) == initial.group_of(other.index);
+        let is_of_one_table = step.kind == Kind::StoreFirst || is_of_one_group;
+        if other.kind == step.kind && is_of_one_table && other.index >= step.index {
             return false;
         }
     }
     false
 }
 
-// An error where a decider refuses the run.
-fn accept(is_accepted: bool, error: JudgeError) -> Result<(), JudgeError> {
-    if is_accepted { Ok(()) } else { Err(error) }
-}
-
 // The writer's steps lead to the run's replies. Returns the rules of each version.
 fn judge_writer<const FIRST: u32, const SECOND: u32>(
     alloc: Global,
+    run: Run<'_>,
     plan: &Plan<FIRST, SECOND>,
-    trace: &Trace,
 ) -> Result<Versions, JudgeError> {
-    let own = steps_by(alloc, &trace.steps, Actor::Writer)?;
-    let items = items_of(&plan.schedule, Actor::Writer);
-    let mut slow = SlowWriter::new(alloc, plan.config, FIRST, SECOND, own)?;
-    let replies = slow.replies(alloc, &plan.changes, items)?;
-    accept(trace.replies == replies, JudgeError::Replies)?;
+    let own = own_steps(alloc, &run.trace.steps, Actor::Writer)?;
+    let items = items_of(run.schedule, Actor::Writer);
+    let start = Moment::new(run.initial, &run.trace.steps, 0);
+    let mut slow = SlowWriter::new(alloc, plan.config, start, &own)?;
+    let replies = slow.replies(&plan.changes, items)?;
+    accept(run.trace.replies == replies, JudgeError::Replies)?;
     Ok(slow.into_versions())
 }
 
-// The worker's steps are those of its script, as far as its items lead.
-fn judge_deeds<const FIRST: u32, const SECOND: u32>(
+// The worker's steps are those of its script, as far as its items lead. Returns its lookups.
+fn judge_deeds(
     alloc: Global,
-    plan: &Plan<FIRST, SECOND>,
-    steps: &[Step],
+    run: Run<'_>,
     worker: usize,
     script: &[Deed],
-) -> Result<(), JudgeError> {
-    let own = steps_by(alloc, steps, Actor::Worker(worker))?;
-    let items = items_of(&plan.schedule, Actor::Worker(worker));
-    let is_whole = count_others(&own) == length_of_all(script);
-    accept(own.len() == items || is_whole, JudgeError::Deeds(worker))?;
-    let are_done = deeds_are_done(alloc, &initial_state_of(plan), steps, worker, script)?;
-    accept(are_done, JudgeError::Deeds(worker))
+) -> Result<Vec<answers::Seen>, JudgeError> {
+    let items = items_of(run.schedule, Actor::Worker(worker));
+    let course = course_of(alloc, run.initial, &run.trace.steps, worker, script)?;
+    let is_led = course.made == items || course.due == Some(course.made);
+    accept(is_led && course.is_right(), JudgeError::Deeds(worker))?;
+    Ok(course.lookups)
 }
 
 // The worker makes its deeds, and the run shows what its lookups found. Returns how many addresses it
 // has looked up.
-fn judge_worker<const FIRST: u32, const SECOND: u32>(
+fn judge_worker(
     alloc: Global,
-    plan: &Plan<FIRST, SECOND>,
-    trace: &Trace,
+    run: Run<'_>,
     versions: &Versions,
     worker: usize,
     script: &[Deed],
 ) -> Result<usize, JudgeError> {
-    let initial = initial_state_of(plan);
-    let steps = &trace.steps;
-    judge_deeds(alloc, plan, steps, worker, script)?;
-    let lookups = answers::lookups(alloc, &initial, steps, worker, script)?;
-    let shown = lookups_by(alloc, &trace.lookups, worker)?;
+    let lookups = judge_deeds(alloc, run, worker, script)?;
+    let shown = lookups_by(alloc, &run.trace.lookups, worker)?;
     accept(shown == lookups, JudgeError::Lookups(worker))?;
-    let are_lawful = are_lawful(&initial, versions, steps, &lookups);
+    let are_lawful = are_lawful(run.initial, versions, &run.trace.steps, &lookups);
     accept(are_lawful, JudgeError::Versions(worker))?;
     Ok(lookups.len())
 }
 
 // The workers make their deeds, and the run shows all that they looked up, in order.
-fn judge_workers<const FIRST: u32, const SECOND: u32>(
+fn judge_workers(
     alloc: Global,
-    plan: &Plan<FIRST, SECOND>,
-    trace: &Trace,
+    run: Run<'_>,
     versions: &Versions,
+    scripts: &[Vec<Deed>],
 ) -> Result<(), JudgeError> {
     let mut count: usize = 0;
-    for (worker, script) in plan.scripts.iter().enumerate() {
-        let found = judge_worker(alloc, plan, trace, versions, worker, script)?;
+    for (worker, script) in scripts.iter().enumerate() {
+        let found = judge_worker(alloc, run, versions, worker, script)?;
         count = count.saturating_add(found);
     }
-    let is_in_order = are_in_order(&trace.steps, &trace.lookups);
-    accept(
-        trace.lookups.len() == count && is_in_order,
-        JudgeError::Order,
-    )
+    let is_in_order = are_in_order(&run.trace.steps, &run.trace.lookups);
+    let is_whole = run.trace.lookups.len() == count;
+    accept(is_whole && is_in_order, JudgeError::Order)
 }
 
 // The steps follow the schedule, loads give what was stored last, and a group is taken again only where
 // that is lawful.
-fn judge_steps<const FIRST: u32, const SECOND: u32>(
-    plan: &Plan<FIRST, SECOND>,
-    steps: &[Step],
-) -> Result<(), JudgeError> {
-    let initial = initial_state_of(plan);
-    accept(follows(&plan.schedule, steps), JudgeError::Schedule)?;
-    let loads = loads_are_stores(&initial, steps);
-    accept(loads, JudgeError::Loads)?;
-    accept(stores_go_upwards(&initial, steps), JudgeError::Stores)?;
-    accept(reuse_is_lawful(&initial, steps), JudgeError::Reuse)
+fn judge_steps(run: Run<'_>) -> Result<(), JudgeError> {
+    let Run {
+        initial,
+        schedule,
+        ..
+    } = run;
+    let steps = &run.trace.steps;
+    accept(follows(schedule, steps), JudgeError::Schedule)?;
+    accept(loads_are_stores(initial, steps), JudgeError::Loads)?;
+    accept(stores_go_upwards(initial, steps), JudgeError::Stores)?;
+    accept(reuse_is_lawful(initial, steps), JudgeError::Reuse)
 }
 
 /// Whether the trace is what the plan leads to: its steps follow the schedule and the rules of traces,
@@ -300,10 +230,21 @@ pub fn judge<const FIRST: u32, const SECOND: u32>(
     plan: &Plan<FIRST, SECOND>,
     trace: &Trace,
 ) -> Result<(), JudgeError> {
-    let steps = &trace.steps;
-    judge_steps(plan, steps)?;
-    let versions = judge_writer(alloc, plan, trace)?;
-    let writes = writes_in_order(alloc, &initial_state_of(plan), &versions, steps)?;
+    let initial = InitialState {
+        first: FIRST,
+        second: SECOND,
+        groups: plan.config.groups,
+        workers: plan.config.workers,
+        first_token: plan.config.first_token,
+    };
+    let run = Run {
+        initial: &initial,
+        schedule: &plan.schedule,
+        trace,
+    };
+    judge_steps(run)?;
+    let versions = judge_writer(alloc, run, plan)?;
+    let writes = writes_in_order(alloc, &initial, &versions, &trace.steps)?;
     accept(writes, JudgeError::Writes)?;
-    judge_workers(alloc, plan, trace, &versions)
+    judge_workers(alloc, run, &versions, &plan.scripts)
 }

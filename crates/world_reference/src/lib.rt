@@ -7,6 +7,7 @@ mod answers;
 mod deeds;
 mod initial;
 mod memory;
+mod moment;
 mod order;
 mod progress;
 mod reuse;

@@ -1,6 +1,7 @@
-//! The words that all share, as the list of steps tells their values.
+//! The words that all share, and whether each step may load or store what it does.
 
 use super::InitialState;
+use super::moment::Moment;
 use lpm_cells::Entry;
 use lpm_trace::{Actor, Kind, Step};
 
@@ -15,7 +16,7 @@ pub(crate) enum Word {
 }
 
 /// The word that a step loads or stores.
-fn word_of(step: &Step) -> Word {
+pub(crate) fn word_of(step: &Step) -> Word {
     match step.kind {
         Kind::StoreFirst | Kind::LoadFirst => Word::First(step.index),
         Kind::StoreSecond | Kind::LoadSecond => Word::Second(step.index),
@@ -25,33 +26,13 @@ fn word_of(step: &Step) -> Word {
     }
 }
 
-/// The value of a word before the first step.
-fn opening(initial: &InitialState, word: &Word) -> u64 {
-    match word {
-        Word::Token => initial.first_token,
-        _ => 0,
-    }
-}
-
 /// Whether a step of this kind stores its word.
-fn is_store(kind: &Kind) -> bool {
+pub(crate) fn is_store(kind: Kind) -> bool {
     match kind {
         Kind::StoreFirst | Kind::StoreSecond | Kind::StoreCounter => true,
         Kind::BumpSequence | Kind::BumpToken => true,
         _ => false,
     }
-}
-
-/// The value of a word after this many steps: that of the last store to it.
-pub(crate) fn value_at(initial: &InitialState, steps: &[Step], moment: usize, word: &Word) -> u64 {
-    let mut value = opening(initial, word);
-    for step in steps.iter().take(moment) {
-        let same = word_of(step) == *word;
-        if same && is_store(&step.kind) {
-            value = step.value;
-        }
-    }
-    value
 }
 
 /// The entry that a word of a table stands for.
@@ -71,40 +52,6 @@ pub(crate) fn group_in(word: u64) -> Option<u32> {
 pub(crate) fn hop_in(word: u64) -> Option<u32> {
     let hop = entry_of(word)?.hop()?;
     Some(hop.number())
-}
-
-/// The answer to an address by the words after this many steps.
-pub(crate) fn answer_at(
-    initial: &InitialState,
-    steps: &[Step],
-    moment: usize,
-    addr: u32,
-) -> Option<u32> {
-    let block = Word::First(initial.first_index(addr));
-    let first = value_at(initial, steps, moment, &block);
-    match group_in(first) {
-        Some(group) => {
-            let place = Word::Second(initial.second_index(group, addr));
-            hop_in(value_at(initial, steps, moment, &place))
-        }
-        None => hop_in(first),
-    }
-}
-
-/// The group that the step after this many steps unlinks: that of the first word over which it
-/// stores another.
-pub(crate) fn unlinked_by(initial: &InitialState, steps: &[Step], moment: usize) -> Option<u32> {
-    let step = steps.get(moment)?;
-    match step.kind {
-        Kind::StoreFirst => {
-            let old = value_at(initial, steps, moment, &Word::First(step.index));
-            if old == step.value {
-                return None;
-            }
-            group_in(old)
-        }
-        _ => None,
-    }
 }
 
 /// Whether the actor makes steps of this kind.
@@ -134,10 +81,10 @@ fn has_its_index(initial: &InitialState, step: &Step) -> bool {
     }
 }
 
-/// Whether the step's value may be, where its word has the value that it has after this many steps:
-/// a load gives that, and the sequence and the token are raised by one.
-fn has_its_value(initial: &InitialState, steps: &[Step], moment: usize, step: &Step) -> bool {
-    let old = value_at(initial, steps, moment, &word_of(step));
+/// Whether the step's value may be, as its word stands: a load gives that, and the sequence and the
+/// token are raised by one.
+fn has_its_value(now: Moment<'_>, step: &Step) -> bool {
+    let old = now.value(word_of(step));
     match step.kind {
         Kind::StoreFirst | Kind::StoreSecond | Kind::StoreCounter => true,
         Kind::BumpSequence | Kind::BumpToken => Some(step.value) == old.checked_add(1),
@@ -149,9 +96,9 @@ fn has_its_value(initial: &InitialState, steps: &[Step], moment: usize, step: &S
 /// the sequence and the token are raised by one; and each actor makes its own kinds of step, at
 /// words that there are.
 pub fn loads_are_stores(initial: &InitialState, steps: &[Step]) -> bool {
-    for (moment, step) in steps.iter().enumerate() {
+    for (made, step) in steps.iter().enumerate() {
         let is_its_own = is_by_its_actor(initial, step) && has_its_index(initial, step);
-        if !is_its_own || !has_its_value(initial, steps, moment, step) {
+        if !is_its_own || !has_its_value(Moment::new(initial, steps, made), step) {
             return false;
         }
     }

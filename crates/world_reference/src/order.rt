@@ -1,61 +1,44 @@
 //! Whether the writer's steps come in an order that its commands allow.
 
 use super::InitialState;
-use super::memory::{Word, answer_at, entry_of, group_in, unlinked_by, value_at};
+use super::memory::{Word, entry_of, group_in};
+use super::moment::Moment;
 use super::progress::{Linking, WriterProgress};
-use super::versions::{Versions, begun, done, has_turned, is_answer, is_updating};
+use super::versions::{Versions, is_answer};
 use lpm_trace::{Kind, Step};
 use std::alloc::{AllocError, Global};
 
-/// Whether an address keeps its answer at the step after this many steps, or turns, for the first
-/// time in its update, from the answer of the version done to that of the version begun.
-fn keeps_or_turns(
-    initial: &InitialState,
-    versions: &Versions,
-    steps: &[Step],
-    moment: usize,
-    addr: u32,
-) -> bool {
-    let old = answer_at(initial, steps, moment, addr);
-    let new = answer_at(initial, steps, moment.saturating_add(1), addr);
+/// Whether an address keeps its answer at the next step, or turns, for the first time in its update,
+/// from the answer of the version done to that of the version begun.
+fn keeps_or_turns(now: Moment<'_>, versions: &Versions, addr: u32) -> bool {
+    let old = now.answer(addr);
+    let new = now.at(now.made.saturating_add(1)).answer(addr);
     if old == new {
         return true;
     }
-    !has_turned(initial, steps, moment, addr)
-        && is_answer(initial, versions, done(steps, moment), addr, old)
-        && is_answer(initial, versions, begun(steps, moment), addr, new)
+    !now.has_turned(addr)
+        && is_answer(now.initial, versions, now.done(), addr, old)
+        && is_answer(now.initial, versions, now.begun(), addr, new)
 }
 
-/// Whether the step after this many steps stands in an update, and each address keeps its answer or
-/// turns.
-fn all_keep_or_turn(
-    initial: &InitialState,
-    versions: &Versions,
-    steps: &[Step],
-    moment: usize,
-) -> bool {
-    if !is_updating(steps, moment) {
+/// Whether the next step stands in an update, and each address keeps its answer or turns.
+fn all_keep_or_turn(now: Moment<'_>, versions: &Versions) -> bool {
+    if !now.is_updating() {
         return false;
     }
-    for addr in 0..=initial.last_address() {
-        if !keeps_or_turns(initial, versions, steps, moment, addr) {
+    for addr in 0..=now.initial.last_address() {
+        if !keeps_or_turns(now, versions, addr) {
             return false;
         }
     }
     true
 }
 
-/// Whether each address has the answer of the version begun, after this many steps.
-fn all_have_turned(
-    initial: &InitialState,
-    versions: &Versions,
-    steps: &[Step],
-    moment: usize,
-) -> bool {
-    let version = begun(steps, moment);
-    for addr in 0..=initial.last_address() {
-        let hop = answer_at(initial, steps, moment, addr);
-        if !is_answer(initial, versions, version, addr, hop) {
+/// Whether each address has the answer of the version begun.
+fn all_have_turned(now: Moment<'_>, versions: &Versions) -> bool {
+    let version = now.begun();
+    for addr in 0..=now.initial.last_address() {
+        if !is_answer(now.initial, versions, version, addr, now.answer(addr)) {
             return false;
         }
     }
@@ -67,67 +50,43 @@ fn is_last_word(word: u64) -> bool {
     entry_of(word).is_some() && group_in(word).is_none()
 }
 
-/// Whether a first word may be stored after this many steps, as the groups stand.
-fn may_store_first(
-    initial: &InitialState,
-    steps: &[Step],
-    moment: usize,
-    progress: &mut WriterProgress,
-) -> bool {
-    let Some(step) = steps.get(moment) else {
-        return false;
-    };
-    let linking = Linking {
-        unlinked: unlinked_by(initial, steps, moment),
-        linked: group_in(step.value),
-        token: value_at(initial, steps, moment, &Word::Token),
-    };
-    let is_allowed = progress.store_first(initial, &linking);
-    is_allowed && entry_of(step.value).is_some()
-}
-
-/// Whether the sequence may be raised after this many steps: an update begins that makes a version,
-/// or one ends after which each address has the new answer.
-fn may_bump_sequence(
-    initial: &InitialState,
-    versions: &Versions,
-    steps: &[Step],
-    moment: usize,
-) -> bool {
-    if is_updating(steps, moment) {
-        return all_have_turned(initial, versions, steps, moment);
+/// Whether the sequence may be raised next: an update begins that makes a version, or one ends after
+/// which each address has the new answer.
+fn may_bump_sequence(now: Moment<'_>, versions: &Versions) -> bool {
+    if now.is_updating() {
+        return all_have_turned(now, versions);
     }
-    begun(steps, moment).saturating_add(1) < versions.len()
+    now.begun().saturating_add(1) < versions.len()
 }
 
-/// Whether the step after this many steps may come next, as the writer has come so far.
+/// Whether this step may come next, as the writer has come so far.
 fn is_in_order(
-    initial: &InitialState,
+    now: Moment<'_>,
     versions: &Versions,
-    steps: &[Step],
-    moment: usize,
     step: &Step,
     progress: &mut WriterProgress,
 ) -> bool {
-    let updating = is_updating(steps, moment);
-    let token = value_at(initial, steps, moment, &Word::Token);
+    let updating = now.is_updating();
+    let token = now.value(Word::Token);
     match step.kind {
         Kind::StoreFirst => {
-            may_store_first(initial, steps, moment, progress)
-                && all_keep_or_turn(initial, versions, steps, moment)
+            let linking = Linking {
+                unlinked: now.unlinked(),
+                linked: group_in(step.value),
+                token,
+            };
+            progress.store_first(&linking)
+                && entry_of(step.value).is_some()
+                && all_keep_or_turn(now, versions)
         }
         Kind::StoreSecond => {
-            progress.store_second(initial, initial.group_of(step.index))
+            progress.store_second(now.initial.group_of(step.index))
                 && is_last_word(step.value)
-                && all_keep_or_turn(initial, versions, steps, moment)
+                && all_keep_or_turn(now, versions)
         }
-        Kind::BumpSequence => {
-            progress.bump_sequence() && may_bump_sequence(initial, versions, steps, moment)
-        }
-        Kind::BumpToken => progress.bump_token(initial, updating, step.value),
-        Kind::LoadCounter => {
-            progress.load_counter(initial, updating, token, step.index, step.value)
-        }
+        Kind::BumpSequence => progress.bump_sequence() && may_bump_sequence(now, versions),
+        Kind::BumpToken => progress.bump_token(updating, step.value),
+        Kind::LoadCounter => progress.load_counter(updating, token, step.index, step.value),
         _ => true,
     }
 }
@@ -156,8 +115,9 @@ pub fn writes_in_order(
     steps: &[Step],
 ) -> Result<bool, AllocError> {
     let mut progress = WriterProgress::new(alloc, initial)?;
-    for (moment, step) in steps.iter().enumerate() {
-        if !is_in_order(initial, versions, steps, moment, step, &mut progress) {
+    for (made, step) in steps.iter().enumerate() {
+        let now = Moment::new(initial, steps, made);
+        if !is_in_order(now, versions, step, &mut progress) {
             return Ok(false);
         }
     }

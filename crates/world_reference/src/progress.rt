@@ -35,6 +35,8 @@ enum NextStep {
 /// How far the writer has come.
 #[derive(Drop)]
 pub(crate) struct WriterProgress {
+    /// How many workers there are.
+    workers: u64,
     groups: Vec<Standing>,
     next_step: NextStep,
     /// The greatest token whose check has passed.
@@ -74,6 +76,7 @@ impl WriterProgress {
             groups.push(Standing::NeverLinked)?;
         }
         Ok(WriterProgress {
+            workers: initial.workers as u64,
             groups,
             next_step: NextStep::Nothing,
             passed: 0,
@@ -100,10 +103,10 @@ impl WriterProgress {
 
     /// Whether a group was never linked, or a check of its token has passed since. Without workers
     /// each check passes.
-    fn is_free(&self, initial: &InitialState, group: u64) -> bool {
+    fn is_free(&self, group: u64) -> bool {
         match self.standing(group) {
             Some(Standing::NeverLinked) => true,
-            Some(Standing::Waits(token)) => token <= self.passed || initial.workers == 0,
+            Some(Standing::Waits(token)) => token <= self.passed || self.workers == 0,
             Some(Standing::Linked) | None => false,
         }
     }
@@ -115,13 +118,13 @@ impl WriterProgress {
 
     /// Moves on by a store of a first word. Answers whether it may come next: it links no group but
     /// the free one that the update took.
-    pub(crate) fn store_first(&mut self, initial: &InitialState, linking: &Linking) -> bool {
+    pub(crate) fn store_first(&mut self, linking: &Linking) -> bool {
         if !self.is_at_leisure() {
             return false;
         }
         if let Some(group) = linking.linked {
             let group = u64::from(group);
-            if self.taken != Some(group) || !self.is_free(initial, group) {
+            if self.taken != Some(group) || !self.is_free(group) {
                 return false;
             }
             self.stand(group, Standing::Linked);
@@ -137,7 +140,7 @@ impl WriterProgress {
 
     /// Moves on by a store of a word of this group. Answers whether it may come next: the group is
     /// linked, or it is the one free group that the update takes.
-    pub(crate) fn store_second(&mut self, initial: &InitialState, group: u64) -> bool {
+    pub(crate) fn store_second(&mut self, group: u64) -> bool {
         if !self.is_at_leisure() {
             return false;
         }
@@ -145,7 +148,7 @@ impl WriterProgress {
         if self.standing(group) == Some(Standing::Linked) {
             return true;
         }
-        if !self.is_free(initial, group) {
+        if !self.is_free(group) {
             return false;
         }
         let is_only = self.taken.is_none() || self.taken == Some(group);
@@ -173,12 +176,7 @@ impl WriterProgress {
     /// Moves on by a step that raises the token to this one. Answers whether it may come next:
     /// directly after an unlinking; else it is a synchronize's, which comes between updates and
     /// checks the token next.
-    pub(crate) fn bump_token(
-        &mut self,
-        initial: &InitialState,
-        updating: bool,
-        token: u64,
-    ) -> bool {
+    pub(crate) fn bump_token(&mut self, updating: bool, token: u64) -> bool {
         match self.next_step {
             NextStep::Bump => {
                 self.next_step = NextStep::Nothing;
@@ -187,7 +185,7 @@ impl WriterProgress {
             }
             NextStep::Check(_) => false,
             NextStep::Nothing => {
-                if initial.workers > 0 {
+                if self.workers > 0 {
                     self.awaited = Some(token);
                     self.next_step = NextStep::Check(Ask { token, worker: 0 });
                 }
@@ -220,22 +218,17 @@ impl WriterProgress {
                 if updating && (!self.reclaims || oldest >= token) {
                     return None;
                 }
-                Some(Ask {
-                    token: oldest,
-                    worker: 0,
-                })
+                let (token, worker) = (oldest, 0);
+                Some(Ask { token, worker })
             }
         }
     }
 
     /// Moves on where a worker lets the token of a check pass.
-    fn pass(&mut self, initial: &InitialState, ask: Ask) {
-        let next = ask.worker.saturating_add(1);
-        if next < initial.workers as u64 {
-            self.next_step = NextStep::Check(Ask {
-                token: ask.token,
-                worker: next,
-            });
+    fn pass(&mut self, ask: Ask) {
+        let worker = ask.worker.saturating_add(1);
+        if worker < self.workers {
+            self.next_step = NextStep::Check(Ask { worker, ..ask });
             return;
         }
         self.passed = self.passed.max(ask.token);
@@ -258,7 +251,6 @@ impl WriterProgress {
     /// next.
     pub(crate) fn load_counter(
         &mut self,
-        initial: &InitialState,
         updating: bool,
         token: u64,
         worker: u64,
@@ -268,7 +260,7 @@ impl WriterProgress {
             return false;
         };
         if counter == 0 || ask.token <= counter {
-            self.pass(initial, ask);
+            self.pass(ask);
         } else {
             self.stop();
         }

@@ -1,92 +1,59 @@
 //! Whether groups are used again only after their grace period, by reader intervals alone.
 
 use super::InitialState;
-use super::memory::{Word, unlinked_by, value_at};
+use super::memory::Word;
+use super::moment::Moment;
 use lpm_trace::{Actor, Kind, Step};
 
-/// What a step is to the reader intervals of a worker.
+/// Whether a reader interval of a worker ends with a step, and whether one begins with it.
 #[derive(Clone, Copy)]
-enum Mark {
-    /// One begins: the counter is stored in a report that the worker is online.
-    Begins,
-    /// One ends and the next begins: the token is loaded in a quiescent report.
-    Turns,
-    /// One ends: the worker goes offline.
-    Ends,
-    /// It is neither's.
-    Nothing,
+struct Mark {
+    ends: bool,
+    begins: bool,
 }
 
-/// Whether a worker is online after this many steps: it has stored its counter since it was last
-/// offline.
-fn is_online(initial: &InitialState, steps: &[Step], moment: usize, worker: usize) -> bool {
-    value_at(initial, steps, moment, &Word::Counter(worker as u64)) != 0
+/// What the next step is to the reader intervals of this worker, which is online where its counter isn't
+/// 0. A quiescent report ends one and begins another where it loads the token.
+fn mark_of(now: Moment<'_>, worker: usize, step: &Step) -> Mark {
+    let was_online = now.value(Word::Counter(worker as u64)) != 0;
+    let (ends, begins) = match step.kind {
+        Kind::LoadToken => (was_online, was_online),
+        Kind::StoreCounter => (step.value == 0, step.value != 0 && !was_online),
+        _ => (false, false),
+    };
+    Mark { ends, begins }
 }
 
-/// What a worker's step after this many steps is to its reader intervals.
-fn mark_of(was_online: bool, step: &Step) -> Mark {
-    match step.kind {
-        Kind::LoadToken if was_online => Mark::Turns,
-        Kind::StoreCounter if step.value == 0 => Mark::Ends,
-        Kind::StoreCounter if !was_online => Mark::Begins,
-        _ => Mark::Nothing,
-    }
-}
-
-/// What the step after this many steps is to the reader intervals of this worker.
-fn mark_at(initial: &InitialState, steps: &[Step], moment: usize, worker: usize) -> Mark {
-    match steps.get(moment) {
-        Some(step) => match step.actor {
-            Actor::Worker(other) if other == worker => {
-                mark_of(is_online(initial, steps, moment, worker), step)
-            }
-            _ => Mark::Nothing,
+/// The same, whoever makes the step.
+fn mark_at(now: Moment<'_>, worker: usize) -> Mark {
+    match now.step() {
+        Some(step) if step.actor == Actor::Worker(worker) => mark_of(now, worker, &step),
+        _ => Mark {
+            ends: false,
+            begins: false,
         },
-        None => Mark::Nothing,
     }
 }
 
-/// Whether a reader interval of the worker begins with the step after this many steps.
-fn begins_at(initial: &InitialState, steps: &[Step], moment: usize, worker: usize) -> bool {
-    match mark_at(initial, steps, moment, worker) {
-        Mark::Begins | Mark::Turns => true,
-        Mark::Ends | Mark::Nothing => false,
-    }
-}
-
-/// Whether a reader interval of the worker ends with the step after this many steps.
-fn ends_at(initial: &InitialState, steps: &[Step], moment: usize, worker: usize) -> bool {
-    match mark_at(initial, steps, moment, worker) {
-        Mark::Ends | Mark::Turns => true,
-        Mark::Begins | Mark::Nothing => false,
-    }
-}
-
-/// Whether the step after this many steps stores into the group.
-fn fills_at(initial: &InitialState, steps: &[Step], moment: usize, group: u32) -> bool {
-    match steps.get(moment) {
-        Some(step) => match step.kind {
-            Kind::StoreSecond => initial.group_of(step.index) == u64::from(group),
-            _ => false,
-        },
+/// Whether the next step stores into the group.
+fn fills(now: Moment<'_>, group: u32) -> bool {
+    match now.step() {
+        Some(step) => {
+            let filled = now.initial.group_of(step.index);
+            step.kind == Kind::StoreSecond && filled == u64::from(group)
+        }
         None => false,
     }
 }
 
-/// Whether a step after this one stores into the group, before the worker's next reader interval
-/// ends.
-fn is_filled_after(
-    initial: &InitialState,
-    steps: &[Step],
-    unlinking: usize,
-    group: u32,
-    worker: usize,
-) -> bool {
-    for moment in unlinking..steps.len() {
-        if ends_at(initial, steps, moment, worker) {
+/// Whether a later step stores into the group, before the worker's next reader interval ends.
+fn is_filled_after(unlinking: Moment<'_>, group: u32, worker: usize) -> bool {
+    for made in unlinking.made..unlinking.steps.len() {
+        let now = unlinking.at(made);
+        if mark_at(now, worker).ends {
             return false;
         }
-        if fills_at(initial, steps, moment, group) {
+        if fills(now, group) {
             return true;
         }
     }
@@ -95,13 +62,14 @@ fn is_filled_after(
 
 /// Whether the worker's reader interval that begins here holds no unlinking of a group with a later
 /// store into that group.
-fn interval_is_lawful(initial: &InitialState, steps: &[Step], begin: usize, worker: usize) -> bool {
-    for moment in begin.saturating_add(1)..steps.len() {
-        if ends_at(initial, steps, moment, worker) {
+fn interval_is_lawful(begin: Moment<'_>, worker: usize) -> bool {
+    for made in begin.made.saturating_add(1)..begin.steps.len() {
+        let now = begin.at(made);
+        if mark_at(now, worker).ends {
             return true;
         }
-        if let Some(group) = unlinked_by(initial, steps, moment) {
-            if is_filled_after(initial, steps, moment, group, worker) {
+        if let Some(group) = now.unlinked() {
+            if is_filled_after(now, group, worker) {
                 return false;
             }
         }
@@ -111,9 +79,9 @@ fn interval_is_lawful(initial: &InitialState, steps: &[Step], begin: usize, work
 
 /// Whether no reader interval of the worker holds an unlinking of a group with a later store into it.
 fn intervals_are_lawful(initial: &InitialState, steps: &[Step], worker: usize) -> bool {
-    for begin in 0..steps.len() {
-        let begins = begins_at(initial, steps, begin, worker);
-        if begins && !interval_is_lawful(initial, steps, begin, worker) {
+    for made in 0..steps.len() {
+        let now = Moment::new(initial, steps, made);
+        if mark_at(now, worker).begins && !interval_is_lawful(now, worker) {
             return false;
         }
     }

@@ -1,11 +1,14 @@
 //! A slow writer. It goes through the writer's own steps of a run and tells, from them and the changes
 //! alone, what comes of each change and which rules stand in each version.
 
+use super::deeds::Numbered;
+use super::judge_error::accept;
+use super::memory::{Word, group_in};
+use super::moment::Moment;
 use super::{JudgeError, PlainRule, Versions};
 use defer_queue::Reclaimed;
 use interleave::{Change, Kind, Reply, Step};
-use lpm_bits::{Hop, Prefix};
-use lpm_cells::Entry;
+use lpm_bits::Hop;
 use lpm_rules::Put;
 use qsbr::{Busy, Config, Refusal};
 use std::alloc::{AllocError, AllocFailed, Global};
@@ -46,15 +49,14 @@ struct Waiting {
 }
 
 #[derive(Drop)]
-pub(crate) struct SlowWriter {
+pub(crate) struct SlowWriter<'a> {
+    alloc: Global,
     config: Config,
-    // How many bits of an address choose its first word, and its word in a group.
-    first: u32,
-    second: u32,
+    trace: Moment<'a>,
     // The writer's own steps, and how many of them are used up.
-    steps: Vec<Step>,
+    steps: &'a [Numbered],
     used: usize,
-    rules: Vec<PlainRule>,
+    // The rules of each version that was begun, those that stand last.
     versions: Versions,
     linked: Vec<u32>,
     queue: VecDeque<Waiting>,
@@ -66,51 +68,25 @@ pub(crate) struct SlowWriter {
 // The greatest token.
 const LAST_TOKEN: u64 = 1 << 62;
 
-// The group that a first word stands for.
-fn group_in(word: u64) -> Option<u32> {
-    match Entry::from_word::<24, 8>(word) {
-        Some(Entry::Group(group)) => Some(group),
-        _ => None,
-    }
-}
+// A change that needs a token or a version has none.
+const EXHAUSTED: Reply = Reply::Refused(Refusal::Exhausted);
 
-// The step is of this kind.
-fn kind_is(step: &Step, wanted: Kind) -> Result<(), JudgeError> {
-    let found = step.kind;
-    if found == wanted {
-        Ok(())
-    } else {
-        Err(JudgeError::Kind { found, wanted })
-    }
-}
-
-// The step loads the counter of this worker.
-fn turn_is(step: &Step, wanted: usize) -> Result<(), JudgeError> {
-    let found = step.index;
-    if found == wanted as u64 {
-        Ok(())
-    } else {
-        Err(JudgeError::Turn { found, wanted })
-    }
-}
-
-impl SlowWriter {
+impl<'a> SlowWriter<'a> {
+    // Before its first step, where these are its own in the trace.
     pub(crate) fn new(
         alloc: Global,
         config: Config,
-        first: u32,
-        second: u32,
-        steps: Vec<Step>,
+        trace: Moment<'a>,
+        steps: &'a [Numbered],
     ) -> Result<Self, AllocError> {
         let mut versions = Vec::new(alloc);
         versions.push(Vec::new(alloc))?;
         Ok(SlowWriter {
+            alloc,
             config,
-            first,
-            second,
+            trace,
             steps,
             used: 0,
-            rules: Vec::new(alloc),
             versions,
             linked: Vec::new(alloc),
             queue: VecDeque::new(alloc),
@@ -119,16 +95,22 @@ impl SlowWriter {
         })
     }
 
-    // The next step, which is of this kind.
-    fn take(&mut self, kind: Kind) -> Result<Step, Stop> {
-        match self.steps.get(self.used).copied() {
-            Some(step) => {
-                kind_is(&step, kind)?;
+    // The next step, which is used up.
+    fn next(&mut self) -> Result<Numbered, Stop> {
+        match self.steps.get(self.used) {
+            Some(next) => {
                 self.used = self.used.saturating_add(1);
-                Ok(step)
+                Ok(*next)
             }
             None => Err(Stop::Unfinished),
         }
+    }
+
+    // The next step, which is of this kind.
+    fn take(&mut self, wanted: Kind) -> Result<Step, Stop> {
+        let step = self.next()?.step;
+        kind_is(&step, wanted)?;
+        Ok(step)
     }
 
     // ---- groups
@@ -170,33 +152,32 @@ impl SlowWriter {
     }
 
     // The worker's counter, which the next step loads.
-    fn counter_of(&mut self, worker: usize) -> Result<u64, Stop> {
+    fn counter_of(&mut self, wanted: usize) -> Result<u64, Stop> {
         let step = self.take(Kind::LoadCounter)?;
-        turn_is(&step, worker)?;
+        let found = step.index;
+        accept(found == wanted as u64, JudgeError::Turn { found, wanted })?;
         Ok(step.value)
     }
 
     fn reclaim(&mut self, max: usize) -> Result<Reclaimed, Stop> {
         let mut freed: usize = 0;
+        let mut stopped = None;
         for _ in 0..max {
             let Some(front) = self.queue.front().copied() else {
                 break;
             };
-            let stopped = self.check(front.token)?;
+            stopped = self.check(front.token)?;
             if stopped.is_some() {
-                return Ok(Reclaimed { freed, stopped });
+                break;
             }
             let _ = self.queue.pop_front();
             freed = freed.saturating_add(1);
         }
-        Ok(Reclaimed {
-            freed,
-            stopped: None,
-        })
+        Ok(Reclaimed { freed, stopped })
     }
 
-    fn unlink(&mut self, alloc: Global, group: u32) -> Result<(), AllocError> {
-        let mut rest = Vec::new(alloc);
+    fn unlink(&mut self, group: u32) -> Result<(), AllocError> {
+        let mut rest = Vec::new(self.alloc);
         for other in &self.linked {
             if *other != group {
                 rest.push(*other)?;
@@ -208,19 +189,17 @@ impl SlowWriter {
 
     fn link(&mut self, found: u32) -> Result<(), Stop> {
         let wanted = self.least_free();
-        if wanted != Some(found) {
-            return Err(Stop::Judged(JudgeError::Link { found, wanted }));
-        }
+        accept(wanted == Some(found), JudgeError::Link { found, wanted })?;
         self.linked.push(found)?;
         Ok(())
     }
 
     // A group was unlinked: the token is bumped, and where too many groups wait, some are reclaimed
     // before this one waits too.
-    fn retire(&mut self, alloc: Global, group: u32) -> Result<(), Stop> {
-        self.unlink(alloc, group)?;
-        self.token = self.take(Kind::BumpToken)?.value;
-        let token = self.token;
+    fn retire(&mut self, group: u32) -> Result<(), Stop> {
+        self.unlink(group)?;
+        let token = self.take(Kind::BumpToken)?.value;
+        self.token = token;
         if self.queue.len() > self.config.threshold {
             self.reclaim(self.config.reclaim_max)?;
         }
@@ -228,25 +207,14 @@ impl SlowWriter {
         Ok(())
     }
 
-    // The group of a first word before the last step that is used up.
-    fn group_before(&self, index: u64) -> Option<u32> {
-        let earlier = self.used.saturating_sub(1);
-        let mut word = 0;
-        for step in self.steps.iter().take(earlier) {
-            if step.kind == Kind::StoreFirst && step.index == index {
-                word = step.value;
-            }
-        }
-        group_in(word)
-    }
-
     // A store of a first word unlinks the group that stood there, and links no group but the least that
     // is free.
-    fn store_first(&mut self, alloc: Global, step: &Step) -> Result<(), Stop> {
-        if let Some(group) = self.group_before(step.index) {
-            self.retire(alloc, group)?;
+    fn store_first(&mut self, store: &Numbered) -> Result<(), Stop> {
+        let before = self.trace.at(store.number.saturating_sub(1));
+        if let Some(group) = group_in(before.value(Word::First(store.step.index))) {
+            self.retire(group)?;
         }
-        if let Some(group) = group_in(step.value) {
+        if let Some(group) = group_in(store.step.value) {
             self.link(group)?;
         }
         Ok(())
@@ -254,44 +222,39 @@ impl SlowWriter {
 
     // ---- rules
 
-    fn hop_of<const FIRST: u32, const SECOND: u32>(
-        &self,
-        prefix: &Prefix<FIRST, SECOND>,
-    ) -> Option<u32> {
-        for rule in &self.rules {
-            if rule.bits == prefix.bits() && rule.len == prefix.len() {
+    // The rules that stand.
+    fn rules(&self) -> &[PlainRule] {
+        match self.versions.last() {
+            Some(rules) => rules,
+            None => &[],
+        }
+    }
+
+    fn hop_of(&self, bits: u32, len: u32) -> Option<u32> {
+        for rule in self.rules() {
+            if rule.is_of(bits, len) {
                 return Some(rule.hop);
             }
         }
         None
     }
 
-    fn block_of(&self, bits: u32) -> u32 {
-        bits.checked_shr(self.second).unwrap_or(0)
-    }
-
     // Whether a rule of the prefix is a longer one, and the first of its block.
-    fn wants_group<const FIRST: u32, const SECOND: u32>(
-        &self,
-        prefix: &Prefix<FIRST, SECOND>,
-    ) -> bool {
-        for rule in &self.rules {
-            let same = self.block_of(rule.bits) == self.block_of(prefix.bits());
-            if same && rule.len > self.first {
+    fn wants_group(&self, bits: u32, len: u32) -> bool {
+        let initial = self.trace.initial;
+        for rule in self.rules() {
+            let same = initial.first_index(rule.bits) == initial.first_index(bits);
+            if same && rule.len > initial.first {
                 return false;
             }
         }
-        prefix.len() > self.first
+        len > initial.first
     }
 
-    fn rules_without<const FIRST: u32, const SECOND: u32>(
-        &self,
-        alloc: Global,
-        prefix: &Prefix<FIRST, SECOND>,
-    ) -> Result<Vec<PlainRule>, AllocError> {
-        let mut rest = Vec::new(alloc);
-        for rule in &self.rules {
-            if rule.bits != prefix.bits() || rule.len != prefix.len() {
+    fn rules_without(&self, bits: u32, len: u32) -> Result<Vec<PlainRule>, AllocError> {
+        let mut rest = Vec::new(self.alloc);
+        for rule in self.rules() {
+            if !rule.is_of(bits, len) {
                 rest.push(*rule)?;
             }
         }
@@ -305,39 +268,29 @@ impl SlowWriter {
     // ---- changes
 
     // An update to these rules: a bump of the sequence, its stores, and a bump again.
-    fn update(&mut self, alloc: Global, rules: Vec<PlainRule>) -> Result<(), Stop> {
+    fn update(&mut self, rules: Vec<PlainRule>) -> Result<(), Stop> {
         self.take(Kind::BumpSequence)?;
-        self.versions.push(Vec::from_slice(alloc, &rules)?)?;
-        self.rules = rules;
+        self.versions.push(rules)?;
         for _ in self.used..self.steps.len() {
-            let Some(step) = self.steps.get(self.used).copied() else {
-                break;
-            };
-            self.used = self.used.saturating_add(1);
-            match step.kind {
+            let next = self.next()?;
+            match next.step.kind {
                 Kind::BumpSequence => return Ok(()),
-                Kind::StoreFirst => self.store_first(alloc, &step)?,
-                _ => kind_is(&step, Kind::StoreSecond)?,
+                Kind::StoreFirst => self.store_first(&next)?,
+                _ => kind_is(&next.step, Kind::StoreSecond)?,
             }
         }
         Err(Stop::Unfinished)
     }
 
-    fn add<const FIRST: u32, const SECOND: u32>(
-        &mut self,
-        alloc: Global,
-        prefix: &Prefix<FIRST, SECOND>,
-        hop: Hop,
-    ) -> Result<Reply, Stop> {
-        let old = self.hop_of(prefix);
-        let hop = hop.number();
-        if old == Some(hop) {
+    fn add(&mut self, rule: PlainRule) -> Result<Reply, Stop> {
+        let old = self.hop_of(rule.bits, rule.len);
+        if old == Some(rule.hop) {
             return Ok(Reply::Put(Put::Unchanged));
         }
-        if let Some(refusal) = self.refusal_of(prefix, old.is_none())? {
+        if let Some(refusal) = self.refusal_of(&rule, old.is_none())? {
             return Ok(Reply::Refused(refusal));
         }
-        self.put(alloc, prefix, hop)?;
+        self.put(rule)?;
         let put = if old.is_some() {
             Put::Replaced
         } else {
@@ -346,19 +299,15 @@ impl SlowWriter {
         Ok(Reply::Put(put))
     }
 
-    // Why a rule of this prefix, maybe a new one, can't be put in. Where no group is free, one is reclaimed.
-    fn refusal_of<const FIRST: u32, const SECOND: u32>(
-        &mut self,
-        prefix: &Prefix<FIRST, SECOND>,
-        is_new: bool,
-    ) -> Result<Option<Refusal>, Stop> {
+    // Why this rule, maybe a new one, can't be put in. Where no group is free, one is reclaimed.
+    fn refusal_of(&mut self, rule: &PlainRule, is_new: bool) -> Result<Option<Refusal>, Stop> {
         if self.is_exhausted() {
             return Ok(Some(Refusal::Exhausted));
         }
-        if is_new && self.rules.len() >= self.config.rules {
+        if is_new && self.rules().len() >= self.config.rules {
             return Ok(Some(Refusal::TooManyRules));
         }
-        if !self.wants_group(prefix) || self.least_free().is_some() {
+        if !self.wants_group(rule.bits, rule.len) || self.least_free().is_some() {
             return Ok(None);
         }
         let Reclaimed { freed, stopped } = self.reclaim(1)?;
@@ -369,53 +318,42 @@ impl SlowWriter {
     }
 
     // The update to the rules with this one in the place of any other of its prefix.
-    fn put<const FIRST: u32, const SECOND: u32>(
-        &mut self,
-        alloc: Global,
-        prefix: &Prefix<FIRST, SECOND>,
-        hop: u32,
-    ) -> Result<(), Stop> {
-        let mut rules = self.rules_without(alloc, prefix)?;
-        let (bits, len) = (prefix.bits(), prefix.len());
-        rules.push(PlainRule { bits, len, hop })?;
-        self.update(alloc, rules)
+    fn put(&mut self, rule: PlainRule) -> Result<(), Stop> {
+        let mut rules = self.rules_without(rule.bits, rule.len)?;
+        rules.push(rule)?;
+        self.update(rules)
     }
 
-    fn delete<const FIRST: u32, const SECOND: u32>(
-        &mut self,
-        alloc: Global,
-        prefix: &Prefix<FIRST, SECOND>,
-    ) -> Result<Reply, Stop> {
-        let Some(number) = self.hop_of(prefix) else {
+    fn delete(&mut self, bits: u32, len: u32) -> Result<Reply, Stop> {
+        let Some(number) = self.hop_of(bits, len) else {
             return Ok(Reply::Refused(Refusal::NoSuchRule));
         };
         if self.is_exhausted() {
-            return Ok(Reply::Refused(Refusal::Exhausted));
+            return Ok(EXHAUSTED);
         }
-        let rules = self.rules_without(alloc, prefix)?;
-        self.update(alloc, rules)?;
+        let rules = self.rules_without(bits, len)?;
+        self.update(rules)?;
         match Hop::new(number) {
             Ok(hop) => Ok(Reply::Deleted(hop)),
             Err(_) => Err(Stop::Judged(JudgeError::Replies)),
         }
     }
 
-    fn flush(&mut self, alloc: Global) -> Result<Reply, Stop> {
-        let count = self.rules.len();
-        if count == 0 {
-            return Ok(Reply::Flushed(0));
+    fn flush(&mut self) -> Result<Reply, Stop> {
+        let count = self.rules().len();
+        if count > 0 && self.is_exhausted() {
+            return Ok(EXHAUSTED);
         }
-        if self.is_exhausted() {
-            return Ok(Reply::Refused(Refusal::Exhausted));
+        if count > 0 {
+            self.update(Vec::new(self.alloc))?;
         }
-        self.update(alloc, Vec::new(alloc))?;
         Ok(Reply::Flushed(count))
     }
 
     // The token is bumped, and checked again and again until the check passes.
     fn synchronize(&mut self) -> Result<Reply, Stop> {
         if self.is_exhausted() {
-            return Ok(Reply::Refused(Refusal::Exhausted));
+            return Ok(EXHAUSTED);
         }
         self.token = self.take(Kind::BumpToken)?.value;
         for _ in 0..self.steps.len() {
@@ -428,13 +366,16 @@ impl SlowWriter {
 
     fn answer<const FIRST: u32, const SECOND: u32>(
         &mut self,
-        alloc: Global,
         change: &Change<FIRST, SECOND>,
     ) -> Result<Reply, Stop> {
         match change {
-            Change::Add(prefix, hop) => self.add(alloc, prefix, *hop),
-            Change::Delete(prefix) => self.delete(alloc, prefix),
-            Change::Flush => self.flush(alloc),
+            Change::Add(prefix, hop) => self.add(PlainRule {
+                bits: prefix.bits(),
+                len: prefix.len(),
+                hop: hop.number(),
+            }),
+            Change::Delete(prefix) => self.delete(prefix.bits(), prefix.len()),
+            Change::Flush => self.flush(),
             Change::Reclaim(max) => Ok(Reply::Reclaimed(self.reclaim(*max)?)),
             Change::Synchronize => self.synchronize(),
         }
@@ -445,16 +386,15 @@ impl SlowWriter {
     // within a change only where the items do.
     pub(crate) fn replies<const FIRST: u32, const SECOND: u32>(
         &mut self,
-        alloc: Global,
         changes: &[Change<FIRST, SECOND>],
         items: usize,
     ) -> Result<Vec<Reply>, JudgeError> {
-        let mut replies = Vec::new(alloc);
+        let mut replies = Vec::new(self.alloc);
         for change in changes {
             if self.used >= items {
                 break;
             }
-            match self.answer(alloc, change) {
+            match self.answer(change) {
                 Ok(reply) => replies.push(reply)?,
                 Err(Stop::Judged(error)) => return Err(error),
                 Err(Stop::Unfinished) => {
@@ -463,24 +403,26 @@ impl SlowWriter {
                 }
             }
         }
-        self.ends_at(self.used)?;
-        if self.used != items && replies.len() != changes.len() {
-            return Err(JudgeError::Length);
-        }
+        let used = self.used;
+        self.ends_at(used)?;
+        let is_over = used == items || replies.len() == changes.len();
+        accept(is_over, JudgeError::Length)?;
         Ok(replies)
     }
 
     // The writer has made so many steps.
     fn ends_at(&self, count: usize) -> Result<(), JudgeError> {
-        if self.steps.len() == count {
-            Ok(())
-        } else {
-            Err(JudgeError::Length)
-        }
+        accept(self.steps.len() == count, JudgeError::Length)
     }
 
     // The rules of each version that was begun.
     pub(crate) fn into_versions(self) -> Versions {
         self.versions
     }
+}
+
+// The step is of this kind.
+fn kind_is(step: &Step, wanted: Kind) -> Result<(), JudgeError> {
+    let found = step.kind;
+    accept(found == wanted, JudgeError::Kind { found, wanted })
 }

@@ -1,9 +1,9 @@
-//! The versions of the rules: which stand at a moment, and what they answer.
+//! The versions of the rules, and what they answer.
 
 use super::InitialState;
 use super::initial::power_of_two;
-use super::memory::answer_at;
-use lpm_trace::{Kind, Step};
+use super::moment::Moment;
+use lpm_trace::Step;
 
 /// A rule: the bits of its prefix, how many of them count, and the number of its next hop.
 #[derive(Clone, Copy, Debug, PartialEq, Eq)]
@@ -11,6 +11,13 @@ pub struct PlainRule {
     pub bits: u32,
     pub len: u32,
     pub hop: u32,
+}
+
+impl PlainRule {
+    /// Whether it is of the prefix of these bits and this length.
+    pub(crate) fn is_of(&self, bits: u32, len: u32) -> bool {
+        self.bits == bits && self.len == len
+    }
 }
 
 /// The rules of each version. Version 0 comes before the first update, and has none.
@@ -27,16 +34,15 @@ fn covers(initial: &InitialState, rule: &PlainRule, addr: u32) -> bool {
     }
 }
 
-/// The longest rule that covers an address.
-fn longest(initial: &InitialState, rules: &[PlainRule], addr: u32) -> Option<PlainRule> {
-    let mut best: Option<PlainRule> = None;
+/// The next hop of the longest rule that covers an address; none for a miss.
+fn longest_hop(initial: &InitialState, rules: &[PlainRule], addr: u32) -> Option<u32> {
+    let mut best = None;
+    // One more than the length of the best rule, or 0.
+    let mut least: u32 = 0;
     for rule in rules {
-        let is_longer = match &best {
-            Some(other) => other.len < rule.len,
-            None => true,
-        };
-        if is_longer && covers(initial, rule, addr) {
-            best = Some(*rule);
+        if least <= rule.len && covers(initial, rule, addr) {
+            best = Some(rule.hop);
+            least = rule.len.saturating_add(1);
         }
     }
     best
@@ -51,62 +57,13 @@ pub(crate) fn is_answer(
     hop: Option<u32>,
 ) -> bool {
     match versions.get(version) {
-        Some(rules) => match longest(initial, rules, addr) {
-            Some(rule) => hop == Some(rule.hop),
-            None => hop.is_none(),
-        },
+        Some(rules) => hop == longest_hop(initial, rules, addr),
         None => false,
     }
-}
-
-/// How many times the sequence was raised in this many steps.
-fn bumps(steps: &[Step], moment: usize) -> usize {
-    let mut count: usize = 0;
-    for step in steps.iter().take(moment) {
-        if step.kind == Kind::BumpSequence {
-            count = count.saturating_add(1);
-        }
-    }
-    count
-}
-
-/// How many updates are done after this many steps.
-pub(crate) fn done(steps: &[Step], moment: usize) -> usize {
-    bumps(steps, moment) / 2
-}
-
-/// How many updates are begun after this many steps.
-pub(crate) fn begun(steps: &[Step], moment: usize) -> usize {
-    bumps(steps, moment).saturating_add(1) / 2
-}
-
-/// Whether an update runs after this many steps.
-pub(crate) fn is_updating(steps: &[Step], moment: usize) -> bool {
-    bumps(steps, moment) % 2 == 1
-}
-
-/// Whether the answer to an address has changed in the update that runs after this many steps.
-pub(crate) fn has_turned(initial: &InitialState, steps: &[Step], moment: usize, addr: u32) -> bool {
-    if !is_updating(steps, moment) {
-        return false;
-    }
-    let now = answer_at(initial, steps, moment, addr);
-    for earlier in (0..moment).rev() {
-        if !is_updating(steps, earlier) {
-            return false;
-        }
-        if answer_at(initial, steps, earlier, addr) != now {
-            return true;
-        }
-    }
-    false
 }
 
 /// The version that an address shows after this many steps: that of the updates done until its
 /// answer has changed in the update that runs, and that of the updates begun from that store on.
 pub fn version_at(initial: &InitialState, steps: &[Step], moment: usize, addr: u32) -> usize {
-    if has_turned(initial, steps, moment, addr) {
-        return begun(steps, moment);
-    }
-    done(steps, moment)
+    Moment::new(initial, steps, moment).version(addr)
 }
