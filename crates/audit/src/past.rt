@@ -47,11 +47,8 @@ fn is_flush<const FIRST: u32, const SECOND: u32>(change: &Change<FIRST, SECOND>)
     ensures { IsTrue result ↔ (change.now ≡ FlushChange) }
 {
     match change {
-        Change::Add(..) => return false,
-        Change::Delete(_) => return false,
-        Change::Flush => return true,
-        Change::Reclaim(_) => return false,
-        Change::Synchronize => return false,
+        Change::Flush => true,
+        _ => false,
     }
 }
 
