@@ -11,7 +11,7 @@ use Rattle.bulk.specs.declared.desk.Desk.{Desk}
 use Rattle.bulk.specs.Desks.{IsAtBench, worker_of}
 
 -- what stands at another place stays after a store
-others_stay : {X : Type 0} (xs : List X) (i k : ℕ) (y : X) → k ≢ i → slice_get (slice_set xs i y) k ≡ slice_get xs k
+pub others_stay : {X : Type 0} (xs : List X) (i k : ℕ) (y : X) → k ≢ i → slice_get (slice_set xs i y) k ≡ slice_get xs k
 others_stay [] i k y other = refl
 others_stay (x ∷ xs) zero zero y other = absurd (other refl)
 others_stay (x ∷ xs) zero (suc k) y other = refl

@@ -4,28 +4,18 @@ ghost use Rattle.std.specs.Prelude.{◌≡◌};
 ghost use Rattle.bulk.specs.declared.bulk_error.BulkError.TheVariants.{Memory as IsMemory};
 
 use std::alloc::AllocError;
-use std::error::Error;
-use std::fmt;
+use thiserror::Error;
 
 /// Why addresses were not answered.
-#[derive(Clone, Copy, Debug, PartialEq, Eq)]
+#[derive(Clone, Copy, Debug, PartialEq, Eq, Error)]
 pub enum BulkError {
     /// There are no workers.
+    #[error("no workers")]
     NoWorkers,
     /// There is too little memory for the pieces or the answers.
+    #[error("out of memory")]
     Memory,
 }
-
-impl fmt::Display for BulkError {
-    fn fmt<W: fmt::Write>(&self, f: &mut fmt::Formatter<W>) -> fmt::Result {
-        match self {
-            BulkError::NoWorkers => f.write_str("no workers"),
-            BulkError::Memory => f.write_str("out of memory"),
-        }
-    }
-}
-
-impl Error for BulkError {}
 
 impl From<AllocError> for BulkError {
     ghost from_gives = { λ _ error. error ≡ IsMemory };

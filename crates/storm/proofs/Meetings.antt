@@ -5,6 +5,7 @@ use Rattle.std.proofs.lemmas.Bool.{cases_eq, cases_lt}
 use Rattle.std.proofs.lemmas.List.{get_or-append-add, get_or-map, get_or_append_left, length-append, length-map}
 use Rattle.std.proofs.lemmas.Option.{get_or_from_slice_get, slice_get_within}
 use Rattle.shared_fib.specs.Passes.{PassState}
+use Rattle.bulk.proofs.Seating.{others_stay}
 use Rattle.storm.specs.Looking.{AreInSeats, AreOfWorkers, EachAt, IsUnused, passes_of}
 use Rattle.storm.specs.declared.looking.Worker.{Worker}
 
@@ -30,17 +31,6 @@ one_more P Q i xs y low up now = record {
       let other : k ≢ i = omega (arith, le) in
       subst Q (sym (get_or-set_other xs i k y d other)) (up.rest k d (omega (arith, le)) (omega (arith, lt, length-set xs i y)));
 }
-
-pub all_done : {X : Type 0} (P Q : X → Type 0) (i : ℕ) (xs : List X) → length xs ≤ i → UpTo P Q i xs → All P xs
-all_done P Q i xs all up k d lt = up.done k d (omega (arith, lt, all))
-
--- what stands at another place stays after a store
-others_stay : {X : Type 0} (xs : List X) (i k : ℕ) (y : X) → k ≢ i → slice_get (slice_set xs i y) k ≡ slice_get xs k
-others_stay [] i k y other = refl
-others_stay (x ∷ xs) zero zero y other = absurd (other refl)
-others_stay (x ∷ xs) zero (suc k) y other = refl
-others_stay (x ∷ xs) (suc i) zero y other = refl
-others_stay (x ∷ xs) (suc i) (suc k) y other = others_stay xs i k y (λ e. other (ap suc e))
 
 -- where one worker's pass is taken, the others' stay at the bench, unused
 pub stays_unused : (passes : List (Option PassState)) (i k : ℕ) → k ≢ i → IsUnused passes k → IsUnused (slice_set passes i None) k

@@ -8,8 +8,7 @@ use fib_model::Order;
 use lpm_rules::Rule;
 use qsbr::Config;
 use std::alloc::AllocError;
-use std::error::Error;
-use std::fmt;
+use thiserror::Error;
 
 /// The most answers of a storm.
 pub const MOST_ANSWERS: usize = 16_777_216;
@@ -84,33 +83,24 @@ impl<'a, const FIRST: u32, const SECOND: u32> Plan<'a, FIRST, SECOND> {
 }
 
 /// Why a storm came to nothing.
-#[derive(Clone, Copy, Debug, PartialEq, Eq)]
+#[derive(Clone, Copy, Debug, PartialEq, Eq, Error)]
 pub enum StormError {
     /// There are no workers.
+    #[error("no workers")]
     NoWorkers,
     /// A limit is out of range, or more answers are asked for than `MOST_ANSWERS`.
+    #[error("a limit is outside its range")]
     BadConfig,
     /// Fewer tokens than groups are left for the last synchronize.
+    #[error("no token is left")]
     Exhausted,
     /// A thread couldn't be started.
+    #[error("a thread couldn't be started")]
     NoThread,
     /// A growth was refused.
+    #[error("out of memory")]
     Memory,
 }
-
-impl fmt::Display for StormError {
-    fn fmt<W: fmt::Write>(&self, f: &mut fmt::Formatter<W>) -> fmt::Result {
-        match self {
-            StormError::NoWorkers => f.write_str("no workers"),
-            StormError::BadConfig => f.write_str("a limit is outside its range"),
-            StormError::Exhausted => f.write_str("no token is left"),
-            StormError::NoThread => f.write_str("a thread couldn't be started"),
-            StormError::Memory => f.write_str("out of memory"),
-        }
-    }
-}
-
-impl Error for StormError {}
 
 impl From<AllocError> for StormError {
     ghost from_gives = { λ _ error. error ≡ IsMemory };

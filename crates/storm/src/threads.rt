@@ -266,69 +266,6 @@ fn run_in<'s, E, R: Threads + Sync, G: Gate, const FIRST: u32, const SECOND: u32
     })
 }
 
-/// Starts all threads, and joins them.
-fn in_scope<'a, R: Threads + Wait + Sync, G: Gate, const FIRST: u32, const SECOND: u32>(
-    rt: &'a R,
-    alloc: Global,
-    table: &'a SharedTable<FIRST, SECOND>,
-    limits: Config,
-    orders: &'a [Order<FIRST, SECOND>],
-    addrs: &'a [u32],
-    rounds: usize,
-    stop: &'a AtomicBool,
-    gate: &'a G,
-    workers: Vec<Worker>,
-    recorder: Recorder<FIRST, SECOND>,
-    ended: Vec<Worker>,
-) -> Result<Ended<FIRST, SECOND>, AllocError>
-    requires workers { All (IsReadyFor table.now (rounds * length addrs.now)) workers.items }
-    requires seats { AreInSeats workers.items }
-    requires addrs { All (λ a. a < 2 ^ (FIRST + SECOND)) addrs.now }
-    requires made { HasMade table.now limits orders.now
-        recorder.outcomes.items recorder.writer }
-    requires new { vec_len recorder.outcomes ≡ 0 }
-    requires outcomes { length orders.now ≤ vec_capacity recorder.outcomes }
-    requires orders { All IsForWriter orders.now }
-    requires none { vec_len ended ≡ 0 }
-    requires room { vec_len workers ≤ vec_capacity ended }
-    ensures over { IfOk result (λ e. All (IsOver table.now addrs.now rounds) e.workers.items) }
-    ensures seats { IfOk result (λ e. AreInSeats e.workers.items) }
-    ensures all { IfOk result (λ e. IfSome e.recorder (λ r. vec_len e.workers ≡ vec_len workers)) }
-    ensures made { IfOk result (λ e. IfSome e.recorder (λ r.
-        HasMade table.now limits orders.now r.outcomes.items r.writer)) }
-{
-    thread::scope(
-        thread::scope_env(),
-        rt,
-        |scope| -> Result<Ended<FIRST, SECOND>, AllocError>
-            requires sync { IsSync R.row }
-            requires workers { All (IsReadyFor table.now (rounds * length addrs.now)) workers.items }
-            requires seats { AreInSeats workers.items }
-            requires addrs { All (λ a. a < 2 ^ (FIRST + SECOND)) addrs.now }
-            requires made { HasMade table.now limits orders.now
-                recorder.outcomes.items recorder.writer }
-            requires new { vec_len recorder.outcomes ≡ 0 }
-            requires outcomes { length orders.now ≤ vec_capacity recorder.outcomes }
-            requires orders { All IsForWriter orders.now }
-            requires none { vec_len ended ≡ 0 }
-            requires room { vec_len workers ≤ vec_capacity ended }
-            ensures over { IfOk result (λ e.
-                All (IsOver table.entry.now addrs.entry.now rounds) e.workers.items) }
-            ensures seats { IfOk result (λ e. AreInSeats e.workers.items) }
-            ensures all { IfOk result (λ e.
-                IfSome e.recorder (λ r. vec_len e.workers ≡ vec_len workers)) }
-            ensures made { IfOk result (λ e. IfSome e.recorder (λ r.
-                HasMade table.entry.now limits orders.entry.now
-                r.outcomes.items r.writer)) }
-        {
-            run_in(
-                scope, rt, alloc, table, limits, orders, addrs, rounds, stop, gate, workers,
-                recorder, ended,
-            )
-        },
-    )
-}
-
 /// Starts all threads, and joins them. The errors are want of memory, in a thread or for their handles, and
 /// that a thread couldn't be started. Either ends all threads.
 pub fn run_threads<'a, R: Threads + Wait + Sync, G: Gate, const FIRST: u32, const SECOND: u32>(
@@ -364,8 +301,35 @@ pub fn run_threads<'a, R: Threads + Wait + Sync, G: Gate, const FIRST: u32, cons
     ensures failure { IfErr result (λ e. (e ≡ StormError.Memory) ⊎ (e ≡ StormError.NoThread)) }
 {
     let ended = Vec::with_capacity(alloc, workers.len())?;
-    let Ended { workers, recorder } = in_scope(
-        rt, alloc, table, limits, orders, addrs, rounds, stop, gate, workers, recorder, ended,
+    let Ended { workers, recorder } = thread::scope(
+        thread::scope_env(),
+        rt,
+        |scope| -> Result<Ended<FIRST, SECOND>, AllocError>
+            requires sync { IsSync R.row }
+            requires workers { All (IsReadyFor table.now (rounds * length addrs.now)) workers.items }
+            requires seats { AreInSeats workers.items }
+            requires addrs { All (λ a. a < 2 ^ (FIRST + SECOND)) addrs.now }
+            requires made { HasMade table.now limits orders.now
+                recorder.outcomes.items recorder.writer }
+            requires new { vec_len recorder.outcomes ≡ 0 }
+            requires outcomes { length orders.now ≤ vec_capacity recorder.outcomes }
+            requires orders { All IsForWriter orders.now }
+            requires none { vec_len ended ≡ 0 }
+            requires room { vec_len workers ≤ vec_capacity ended }
+            ensures over { IfOk result (λ e.
+                All (IsOver table.entry.now addrs.entry.now rounds) e.workers.items) }
+            ensures seats { IfOk result (λ e. AreInSeats e.workers.items) }
+            ensures all { IfOk result (λ e.
+                IfSome e.recorder (λ r. vec_len e.workers ≡ vec_len workers)) }
+            ensures made { IfOk result (λ e. IfSome e.recorder (λ r.
+                HasMade table.entry.now limits orders.entry.now
+                r.outcomes.items r.writer)) }
+        {
+            run_in(
+                scope, rt, alloc, table, limits, orders, addrs, rounds, stop, gate, workers,
+                recorder, ended,
+            )
+        },
     )?;
     let Some(recorder) = recorder else {
         return Err(StormError::NoThread);
