@@ -1,14 +1,15 @@
 //! Lookups by several passes at once, beside a writer that changes the table.
 
+use crate::figures::{Hundredths, each_second, hundredths_of_nanos, nanos, ratio};
 use crate::passes::{Changer, Reader, Whose};
 use crate::rounds::{AtOnce, Rounds, of_piece};
+use crate::routes::{Route, by_length};
 use anyhow::Result;
 use std::io;
 use std::rt::Clock;
 use std::sync::atomic::{AtomicBool, Ordering};
 use std::thread::{Threads, for_each_mut, join_mut};
 use std::time::{Duration, Instant};
-use table_bench::{Hundredths, Route, each_second, hundredths_of_nanos, nanos, of_lengths, ratio};
 
 /// What is changed while passes look up: the name of these changes, the table, and the routes.
 #[derive(Clone, Copy)]
@@ -41,39 +42,21 @@ const CROWDS: [(usize, &str); 4] = [
 
 /// Prints what the lookups of 1 to 4 passes take at once: while nothing changes, while the writer changes
 /// routes of up to 24 bits, and longer ones, and while a table is changed that no pass reads.
-pub(crate) fn print_at_once<R: Clock + Print + AllocGlobal + Threads + Sync>(
+pub fn print_at_once<R: Clock + Print + AllocGlobal + Threads + Sync>(
     rt: &R,
     readers: &mut [Reader<'_>],
     changer: &mut Changer<'_>,
     routes: &[Route],
     addrs: &[u32],
 ) -> Result<()> {
-    let short = of_lengths(rt.alloc(), routes, 0, 24)?;
-    print_beside_short(rt, readers, changer, routes, &short, addrs)
-}
-
-/// The same, with these routes of up to 24 bits.
-fn print_beside_short<R: Clock + Print + AllocGlobal + Threads + Sync>(
-    rt: &R,
-    readers: &mut [Reader<'_>],
-    changer: &mut Changer<'_>,
-    routes: &[Route],
-    short: &[Route],
-    addrs: &[u32],
-) -> Result<()> {
-    let long = of_lengths(rt.alloc(), routes, 25, 32)?;
-    print_crowds(rt, readers, changer, &kinds(short, &long), addrs)
-}
-
-/// No changes, changes of these routes of up to 24 bits, of these longer ones, and of the first in another
-/// table.
-fn kinds<'a>(short: &'a [Route], long: &'a [Route]) -> [Changes<'a>; 4] {
-    [
+    let routes = by_length(rt.alloc(), routes)?;
+    let all = [
         Changes::new("no changes", Whose::Running, &[]),
-        Changes::new("short changes", Whose::Running, short),
-        Changes::new("long changes", Whose::Running, long),
-        Changes::new("changes apart", Whose::Apart, short),
-    ]
+        Changes::new("short changes", Whose::Running, &routes.short),
+        Changes::new("long changes", Whose::Running, &routes.long),
+        Changes::new("changes apart", Whose::Apart, &routes.short),
+    ];
+    print_crowds(rt, readers, changer, &all, addrs)
 }
 
 /// Prints what the lookups of each number of passes take at once, beside each kind of changes.
@@ -126,10 +109,10 @@ fn print_speed<R: Print>(
     count: usize,
     addrs: usize,
 ) -> Result<()> {
-    let each = hundredths_of_nanos(at_once.least.mean, addrs);
+    let each = hundredths_of_nanos(at_once.mean, addrs);
     let median_round = hundredths_of_nanos(at_once.median_round, addrs);
-    let median_piece = of_piece(at_once.pieces.median);
-    let speed = each_second(at_once.least.last, addrs.saturating_mul(count));
+    let median_piece = of_piece(at_once.median_piece);
+    let speed = each_second(at_once.last, addrs.saturating_mul(count));
     println!(rt; "{passes}, {changes}: {} ns each", Hundredths(each))?;
     println!(rt;
         "{passes}, {changes}, median round: {} ns each",
@@ -237,18 +220,7 @@ fn look_up_and_tell<R: Clock + Threads + Sync>(
     is_over: &AtomicBool,
     readers: &mut [Reader<'_>],
 ) -> io::Result<Duration> {
-    let time = look_up_at_once(rt, addrs, readers);
-    is_over.store(true, Ordering::SeqCst);
-    time
-}
-
-/// How long it takes until each reader has looked all addresses up.
-fn look_up_at_once<R: Clock + Threads + Sync>(
-    rt: &R,
-    addrs: &[u32],
-    readers: &mut [Reader<'_>],
-) -> io::Result<Duration> {
-    let start = Instant::now(rt)?;
+    let start = Instant::now(rt);
     let threads = readers.len().max(1);
     for_each_mut(
         rt,
@@ -256,5 +228,6 @@ fn look_up_at_once<R: Clock + Threads + Sync>(
         threads,
         &|_: usize, reader: &mut Reader<'_>| reader.add_timed(rt, addrs),
     );
-    start.elapsed(rt)
+    is_over.store(true, Ordering::SeqCst);
+    start?.elapsed(rt)
 }

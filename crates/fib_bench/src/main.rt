@@ -2,11 +2,19 @@
 //! running table.
 #![tactic(auto)]
 
+mod alone;
+mod changes;
 mod crowd;
+mod figures;
+mod lookups;
 mod passes;
+mod pieces;
 mod report;
 mod rounds;
+mod routes;
 mod running;
+mod turns;
+mod words;
 
 ghost use Rattle.std.specs.Prelude.{◌≤◌, IfSome};
 

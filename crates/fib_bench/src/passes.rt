@@ -3,42 +3,47 @@
 ghost use Rattle.std.specs.Prelude.{◌≡◌, true, false};
 ghost use Rattle.shared_fib.specs.Passes.{IsBenchOf};
 
+use crate::changes::{Change, Changeable, change_twice};
+use crate::lookups::{Addresses, Side, ascending, number_of};
+use crate::routes::Route;
 use anyhow::Result;
 use fib::Fib;
+use lpm_limits::Refusal;
 use shared_fib::{Bench, Pass, SharedTable, Writer};
 use std::io;
 use std::rt::Clock;
 use std::sync::atomic::{AtomicBool, Ordering};
 use std::time::{Duration, Instant};
-use table_bench::{Addresses, Route, ascending, number_of};
 
 /// After how many lookups a worker reports that it is quiescent.
 const BETWEEN_REPORTS: usize = 1024;
 
 /// How many lookups of a worker beside others are timed together: so few that most pieces have no wait for a
 /// core in them.
-pub(crate) const PIECE: usize = 8_192;
+pub const PIECE: usize = 8_192;
 
 /// How many pieces of one list a worker can time.
 const PIECES: usize = 512;
 
 /// How many addresses a worker looks up together.
 #[derive(Clone, Copy)]
-pub(crate) enum Way {
+pub enum Way {
     /// One.
     Single,
     /// Four, where they are listed. Those past the last four are left out.
     Fours,
 }
 
-/// A worker, the sum of the next hops that it has found, and how long it took to look addresses up beside
-/// others: all, and each piece of them. It is online while it looks up, and offline else.
+/// A worker, in which way it looks addresses up alone, and how long it took to look them up beside others: all,
+/// and each piece of them. It is online while it looks up, and offline else.
 #[derive(Drop)]
-pub(crate) struct Reader<'a> {
+pub struct Reader<'a> {
     table: &'a SharedTable<24, 8>,
     pass: Pass,
-    pub(crate) sum: u64,
-    pub(crate) took: Duration,
+    pub way: Way,
+    // The sum of the next hops that it has found beside others.
+    sum: u64,
+    pub took: Duration,
     pieces: [Duration; PIECES],
     ghost own: { pass.table ≡ table.now },
     ghost offline: { pass.online ≡ false },
@@ -46,7 +51,7 @@ pub(crate) struct Reader<'a> {
 
 impl<'a> Reader<'a> {
     /// The worker of this number.
-    pub(crate) fn new(
+    pub fn new(
         table: &'a SharedTable<24, 8>,
         bench: &mut Bench,
         worker: usize,
@@ -58,61 +63,41 @@ impl<'a> Reader<'a> {
         Ok(Reader {
             table,
             pass,
+            way: Way::Single,
             sum: 0,
             took: Duration::ZERO,
             pieces: [Duration::ZERO; PIECES],
         })
     }
 
-    /// Adds the number of each address's next hop to the sum.
-    pub(crate) fn look_up(&mut self, addresses: Addresses<'_>, way: Way) {
-        self.pass.online(self.table);
-        let found = sum_in_a_way(self.table, &mut self.pass, addresses, way);
-        self.sum = self.sum.wrapping_add(found);
-        self.pass.offline(self.table);
-    }
-
     /// How long each piece took where it looked so many addresses up. What is left of them isn't among these.
-    pub(crate) fn times_of_pieces(&self, addrs: usize) -> &[Duration] {
+    pub fn times_of_pieces(&self, addrs: usize) -> &[Duration] {
         &self.pieces[..PIECES.min(addrs / PIECE)]
     }
 
     /// Looks these addresses up, reports now and then that the worker is quiescent, and notes how long it
-    /// took: the greatest time where the clock can't be read.
-    pub(crate) fn add_timed<R: Clock>(&mut self, rt: &R, addrs: &[u32]) {
-        self.took = Duration::MAX;
-        if let Ok(start) = Instant::now(rt) {
-            self.add_by_pieces(rt, addrs);
-            self.took = start.elapsed(rt).unwrap_or(Duration::MAX);
-        }
-    }
-
-    /// Looks these addresses up, and notes how long each piece took.
-    fn add_by_pieces<R: Clock>(&mut self, rt: &R, addrs: &[u32]) {
+    /// took, as a whole and each piece: the greatest time where the clock can't be read.
+    pub fn add_timed<R: Clock>(&mut self, rt: &R, addrs: &[u32]) {
+        let start = Instant::now(rt);
         self.pass.online(self.table);
         let found = sum_by_pieces(rt, self.table, &mut self.pass, addrs, &mut self.pieces);
-        self.sum = self.sum.wrapping_add(found);
         self.pass.offline(self.table);
+        self.sum = self.sum.wrapping_add(found);
+        self.took = time_since(rt, start);
     }
 }
 
-/// The sum of the next hops of these addresses, looked up in this way.
-#[inline]
-fn sum_in_a_way(
-    table: &SharedTable<24, 8>,
-    pass: &mut Pass,
-    addresses: Addresses<'_>,
-    way: Way,
-) -> u64
-    requires own { pass.old.table ≡ table.now }
-    requires online { pass.old.online ≡ true }
-    ensures own { pass.new.table ≡ table.now }
-    ensures online { pass.new.online ≡ true }
-{
-    match (addresses, way) {
-        (Addresses::Listed(addrs), Way::Single) => sum_of(table, pass, addrs),
-        (Addresses::Listed(addrs), Way::Fours) => sum_by_fours(table, pass, addrs),
-        (Addresses::Ascending(from, to), _) => sum_ascending(table, pass, from, to),
+impl<'a> Side for Reader<'a> {
+    fn sum(&mut self, addresses: Addresses<'_>) -> u64 {
+        let (table, pass) = (self.table, &mut self.pass);
+        pass.online(table);
+        let sum = match (addresses, self.way) {
+            (Addresses::Listed(addrs), Way::Single) => sum_of(table, pass, addrs),
+            (Addresses::Listed(addrs), Way::Fours) => sum_by_fours(table, pass, addrs),
+            (Addresses::Ascending(from, to), _) => sum_ascending(table, pass, from, to),
+        };
+        pass.offline(table);
+        sum
     }
 }
 
@@ -219,27 +204,43 @@ fn sum_by_fours(table: &SharedTable<24, 8>, pass: &mut Pass, addrs: &[u32]) -> u
 
 /// Which table is changed while passes look up.
 #[derive(Clone, Copy)]
-pub(crate) enum Whose {
+pub enum Whose {
     /// Theirs, by its writer.
     Running,
     /// One that they don't read.
     Apart,
 }
 
-/// The writer of a running table, a table of one thread with the same routes, and how many changes were
-/// made of either.
+/// A running table, and its writer.
 #[derive(Drop)]
-pub(crate) struct Changer<'a> {
+pub struct Running<'a> {
     table: &'a SharedTable<24, 8>,
     writer: Writer<24, 8>,
-    pub(crate) apart: &'a mut Fib<24, 8>,
-    pub(crate) made: u64,
     ghost own: { writer.identity ≡ table.now },
 }
 
+impl<'a> Changeable for Running<'a> {
+    fn change(&mut self, what: Change, route: &Route) -> Result<(), Refusal> {
+        if let Change::Add = what {
+            self.writer.add(self.table, &route.prefix, route.hop)?;
+        } else {
+            self.writer.delete(self.table, &route.prefix)?;
+        }
+        Ok(())
+    }
+}
+
+/// A running table, a table of one thread with the same routes, and how many changes were made of either.
+#[derive(Drop)]
+pub struct Changer<'a> {
+    pub running: Running<'a>,
+    pub apart: &'a mut Fib<24, 8>,
+    pub made: u64,
+}
+
 impl<'a> Changer<'a> {
-    /// The writer of the first table, and the second one. No change was made.
-    pub(crate) fn new(
+    /// The running table with its writer, and the other one. No change was made.
+    pub fn new(
         table: &'a SharedTable<24, 8>,
         writer: Writer<24, 8>,
         apart: &'a mut Fib<24, 8>,
@@ -247,44 +248,10 @@ impl<'a> Changer<'a> {
         requires { writer.identity ≡ table.now }
     {
         Changer {
-            table,
-            writer,
+            running: Running { table, writer },
             apart,
             made: 0,
         }
-    }
-
-    /// Deletes these routes of the running table.
-    pub(crate) fn delete_all(&mut self, routes: &[Route]) -> Result<()> {
-        for route in routes {
-            self.writer.delete(self.table, &route.prefix)?;
-        }
-        Ok(())
-    }
-
-    /// Adds these routes to the running table.
-    pub(crate) fn add_all(&mut self, routes: &[Route]) -> Result<()> {
-        for route in routes {
-            self.writer.add(self.table, &route.prefix, route.hop)?;
-        }
-        Ok(())
-    }
-
-    /// Deletes this route and adds it again. It returns how many of the two changes were made.
-    fn change(&mut self, whose: Whose, route: &Route) -> u64 {
-        let (gone, back) = match whose {
-            Whose::Running => (
-                self.writer.delete(self.table, &route.prefix).is_ok(),
-                self.writer
-                    .add(self.table, &route.prefix, route.hop)
-                    .is_ok(),
-            ),
-            Whose::Apart => (
-                self.apart.delete(&route.prefix).is_ok(),
-                self.apart.add(&route.prefix, route.hop).is_ok(),
-            ),
-        };
-        u64::from(gone) + u64::from(back)
     }
 
     /// Deletes these routes and adds them again, each in turn, until the lookups are over.
@@ -293,12 +260,16 @@ impl<'a> Changer<'a> {
             if is_over.load(Ordering::SeqCst) {
                 break;
             }
-            self.made = self.made.saturating_add(self.change(whose, route));
+            let made = match whose {
+                Whose::Running => change_twice(&mut self.running, route),
+                Whose::Apart => change_twice(self.apart, route),
+            };
+            self.made = self.made.saturating_add(made);
         }
     }
 
     /// Changes these routes again and again, until the lookups are over. With no routes it doesn't wait.
-    pub(crate) fn change_until(&mut self, whose: Whose, routes: &[Route], is_over: &AtomicBool) {
+    pub fn change_until(&mut self, whose: Whose, routes: &[Route], is_over: &AtomicBool) {
         for _ in 0..u64::MAX {
             if routes.is_empty() || is_over.load(Ordering::SeqCst) {
                 break;

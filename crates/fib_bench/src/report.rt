@@ -2,6 +2,9 @@
 
 ghost use Rattle.lpm_limits.specs.Limits.{IsConfig};
 
+use crate::alone::print_alone;
+use crate::lookups::{Kind, draw_addresses};
+use crate::routes::fill;
 use crate::running::{Drawn, WORKERS, add_offline, print_running};
 use anyhow::Result;
 use fib::Fib;
@@ -10,14 +13,10 @@ use rand_core::SeedableRng;
 use rand_xoshiro::Xoshiro256PlusPlus;
 use std::rt::Clock;
 use std::thread::Threads;
-use table_bench::{fill, print_alone, random_addresses};
 
 /// Measures a table of that many routes, and prints a line for each figure. Then it measures another one
 /// with the same routes as a running table, beside the first.
-pub(crate) fn run<R: Clock + Print + AllocGlobal + Threads + Sync>(
-    rt: &R,
-    count: usize,
-) -> Result<()> {
+pub fn run<R: Clock + Print + AllocGlobal + Threads + Sync>(rt: &R, count: usize) -> Result<()> {
     let mut table = Fib::<24, 8>::open(rt.alloc(), limits())?;
     measure(rt, &mut table, count)
 }
@@ -52,7 +51,7 @@ fn measure_alone<R: Clock + Print + AllocGlobal + Threads + Sync>(
     let mut random = Xoshiro256PlusPlus::seed_from_u64(1);
     let routes = fill(rt.alloc(), table, &mut random, count)?;
     print_alone(rt, table, routes.as_slice(), &mut random)?;
-    let addrs = random_addresses(rt.alloc(), &mut random)?;
+    let addrs = draw_addresses(rt.alloc(), &mut random, Kind::Random, &[])?;
     Ok(Drawn { routes, addrs })
 }
 

@@ -1,61 +1,49 @@
 //! What lookups by several passes at once took, round by round.
 
+use crate::figures::{hundredths_of_nanos, nanos};
 use crate::passes::{PIECE, Reader};
 use anyhow::Result;
 use std::alloc::Global;
 use std::time::Duration;
-use table_bench::{hundredths_of_nanos, nanos};
 
-/// How long passes took that looked all addresses up at once: each by the mean, and until the last had ended.
+/// What all rounds of passes took that looked all addresses up at once.
 #[derive(Clone, Copy)]
-pub(crate) struct Times {
-    pub(crate) mean: Duration,
-    pub(crate) last: Duration,
-}
-
-/// Two times among those of all pieces of all rounds.
-#[derive(Clone, Copy)]
-pub(crate) struct Pieces {
-    /// The one that half of the pieces took at most.
-    pub(crate) median: Duration,
-    /// The one that nine tenths of them took at most.
-    pub(crate) nine_tenths: Duration,
-}
-
-/// What all rounds took.
-#[derive(Clone, Copy)]
-pub(crate) struct AtOnce {
-    /// The least times of all rounds.
-    pub(crate) least: Times,
+pub struct AtOnce {
+    /// The mean time of the passes, in the round where it is least.
+    pub mean: Duration,
+    /// The least time of a round until the last pass had ended.
+    pub last: Duration,
     /// The median, over the rounds, of the mean time of the passes.
-    pub(crate) median_round: Duration,
-    pub(crate) pieces: Pieces,
+    pub median_round: Duration,
+    /// The time that half of the pieces of all rounds took at most.
+    pub median_piece: Duration,
+    /// The time that nine tenths of them took at most.
+    pub nine_tenths: Duration,
     /// The sum, over the rounds, of the times until the last pass had ended.
-    pub(crate) total: Duration,
+    pub total: Duration,
     /// How many changes were made meanwhile.
-    pub(crate) made: u64,
+    pub made: u64,
 }
 
 impl AtOnce {
     /// The times that are compared with those beside other changes, and what their ratio is called.
-    pub(crate) fn compared(self) -> [(&'static str, Duration); 5] {
+    pub fn compared(self) -> [(&'static str, Duration); 5] {
         [
-            ("ratio", self.least.mean),
-            ("ratio of the last", self.least.last),
+            ("ratio", self.mean),
+            ("ratio of the last", self.last),
             ("ratio of the median round", self.median_round),
-            ("ratio of the median piece", self.pieces.median),
-            (
-                "ratio of nine tenths of the pieces",
-                self.pieces.nine_tenths,
-            ),
+            ("ratio of the median piece", self.median_piece),
+            ("ratio of nine tenths of the pieces", self.nine_tenths),
         ]
     }
 }
 
 /// The rounds until now.
 #[derive(Drop)]
-pub(crate) struct Rounds {
-    least: Times,
+pub struct Rounds {
+    // The least mean time of the passes, and the least time until the last pass had ended.
+    mean: Duration,
+    last: Duration,
     // The mean time of the passes in each.
     means: Vec<Duration>,
     // The time of each piece of each pass in each.
@@ -68,12 +56,10 @@ pub(crate) struct Rounds {
 
 impl Rounds {
     /// No round.
-    pub(crate) fn new(alloc: Global) -> Self {
+    pub fn new(alloc: Global) -> Self {
         Rounds {
-            least: Times {
-                mean: Duration::MAX,
-                last: Duration::MAX,
-            },
+            mean: Duration::MAX,
+            last: Duration::MAX,
             means: Vec::new(alloc),
             pieces: Vec::new(alloc),
             total: Duration::ZERO,
@@ -83,7 +69,7 @@ impl Rounds {
 
     /// Adds a round in which each of these passes looked so many addresses up, the last had ended after that
     /// time, and so many changes were made.
-    pub(crate) fn add(
+    pub fn add(
         &mut self,
         readers: &[Reader<'_>],
         addrs: usize,
@@ -96,26 +82,23 @@ impl Rounds {
         }
         let mean = mean_of(readers);
         self.means.push(mean)?;
-        self.least = Times {
-            mean: self.least.mean.min(mean),
-            last: self.least.last.min(last),
-        };
+        self.mean = self.mean.min(mean);
+        self.last = self.last.min(last);
         self.total = self.total.saturating_add(last);
         self.made = self.made.saturating_add(made);
         Ok(())
     }
 
     /// What all rounds took.
-    pub(crate) fn at_once(&mut self) -> AtOnce {
+    pub fn at_once(&mut self) -> AtOnce {
         self.means.sort_unstable();
         self.pieces.sort_unstable();
         AtOnce {
-            least: self.least,
-            median_round: time_of_tenths(self.means.as_slice(), 5),
-            pieces: Pieces {
-                median: time_of_tenths(self.pieces.as_slice(), 5),
-                nine_tenths: time_of_tenths(self.pieces.as_slice(), 9),
-            },
+            mean: self.mean,
+            last: self.last,
+            median_round: time_of_tenths(&self.means, 5),
+            median_piece: time_of_tenths(&self.pieces, 5),
+            nine_tenths: time_of_tenths(&self.pieces, 9),
             total: self.total,
             made: self.made,
         }
@@ -140,6 +123,6 @@ fn mean_of(readers: &[Reader<'_>]) -> Duration {
 }
 
 /// The nanoseconds of a lookup of a piece that took so long, in hundredths.
-pub(crate) fn of_piece(time: Duration) -> u64 {
+pub fn of_piece(time: Duration) -> u64 {
     hundredths_of_nanos(time, PIECE)
 }

@@ -18,29 +18,55 @@ const WORKERS: usize = 4;
 /// Prints what it takes to answer the addresses with one worker and with four, each lookup in
 /// nanoseconds: the whole call, in which room is made, the pieces are answered and the answers are
 /// joined; and the answering alone, from the first address of a piece to the last.
-pub(crate) fn print_pieces<R: Clock + Print + AllocGlobal + Threads + Sync>(
+pub fn print_pieces<R: Clock + Print + AllocGlobal + Threads + Sync>(
     rt: &R,
     table: &Fib<24, 8>,
     addrs: &[u32],
 ) -> Result<()> {
-    let one = least(rt, table, addrs, 1)?;
-    let more = least(rt, table, addrs, WORKERS)?;
-    print_times(rt, "bulk", addrs.len(), one, more)?;
-    let one = least_answering(rt, table, addrs, 1)?;
-    let more = least_answering(rt, table, addrs, WORKERS)?;
-    print_times(rt, "answering alone", addrs.len(), one, more)
+    let whole = Call {
+        part: Part::Whole,
+        table,
+        addrs,
+        workers: 1,
+    };
+    print_part(rt, "bulk", whole)?;
+    let part = Part::Answering;
+    print_part(rt, "answering alone", Call { part, ..whole })
 }
 
-/// Prints the times of one worker and of four for so many addresses.
-fn print_times<R: Print>(
+/// What is timed of a call that answers many addresses.
+#[derive(Clone, Copy)]
+enum Part {
+    /// All of it.
+    Whole,
+    /// From the first address of a piece to the last address of a piece.
+    Answering,
+}
+
+/// A call in which so many workers answer the addresses, and what is timed of it.
+#[derive(Clone, Copy)]
+struct Call<'a> {
+    part: Part,
+    table: &'a Fib<24, 8>,
+    addrs: &'a [u32],
+    workers: usize,
+}
+
+impl<'a> Call<'a> {
+    /// The same call by so many workers.
+    fn by(self, workers: usize) -> Self {
+        Call { workers, ..self }
+    }
+}
+
+/// Prints the least times of one worker and of four.
+fn print_part<R: Clock + Print + AllocGlobal + Threads + Sync>(
     rt: &R,
     what: &str,
-    addrs: usize,
-    one: Duration,
-    more: Duration,
+    call: Call<'_>,
 ) -> Result<()> {
-    let one = hundredths_of_nanos(one, addrs);
-    let more = hundredths_of_nanos(more, addrs);
+    let one = least(rt, call.by(1))?;
+    let more = least(rt, call.by(WORKERS))?;
     println!(rt;
         "{what}, 1 worker: {} ns each\n{what}, {WORKERS} workers: {} ns each\nratio, {what}: {}",
         Hundredths(one),
@@ -50,64 +76,46 @@ fn print_times<R: Print>(
     Ok(())
 }
 
-/// The least time of a call in which so many workers answer the addresses.
-fn least<R: Clock + AllocGlobal + Threads + Sync>(
-    rt: &R,
-    table: &Fib<24, 8>,
-    addrs: &[u32],
-    workers: usize,
-) -> Result<Duration> {
+/// The nanoseconds for each address, in hundredths, of the least time of these calls.
+fn least<R: Clock + AllocGlobal + Threads + Sync>(rt: &R, call: Call<'_>) -> Result<u64> {
     let mut least = Duration::MAX;
     for _ in 0..ROUNDS {
-        least = least.min(time_of_call(rt, table, addrs, workers)?);
+        least = least.min(time_of(rt, call)?);
     }
-    Ok(least)
+    Ok(hundredths_of_nanos(least, call.addrs.len()))
 }
 
-/// The time of one call in which so many workers answer the addresses.
-fn time_of_call<R: Clock + AllocGlobal + Threads + Sync>(
+/// The time of one call, as a whole or in part.
+fn time_of<R: Clock + AllocGlobal + Threads + Sync>(rt: &R, call: Call<'_>) -> Result<Duration> {
+    let Call { table, addrs, .. } = call;
+    match call.part {
+        Part::Whole => time_of_call(rt, table, addrs, call.workers, &Open),
+        Part::Answering => {
+            let piece = addrs.len() / call.workers.max(1);
+            let watch = Stopwatch {
+                rt,
+                start: Instant::now(rt)?,
+                last: piece.saturating_sub(1),
+                began: AtomicU64::new(u64::MAX),
+                ended: AtomicU64::new(0),
+            };
+            time_of_call(rt, table, addrs, call.workers, &watch)?;
+            Ok(watch.time())
+        }
+    }
+}
+
+/// The time of one call, each address of which is answered after the gate.
+fn time_of_call<R: Clock + AllocGlobal + Threads + Sync, G: Gate>(
     rt: &R,
     table: &Fib<24, 8>,
     addrs: &[u32],
     workers: usize,
+    gate: &G,
 ) -> Result<Duration> {
     let start = Instant::now(rt)?;
-    let _hops = bulk_plain(rt, rt.alloc(), table, workers, addrs, &Open)?;
+    let _hops = bulk_plain(rt, rt.alloc(), table, workers, addrs, gate)?;
     Ok(start.elapsed(rt)?)
-}
-
-/// The least time from the first address of a piece to the last address of a piece, where so many
-/// workers answer the addresses.
-fn least_answering<R: Clock + AllocGlobal + Threads + Sync>(
-    rt: &R,
-    table: &Fib<24, 8>,
-    addrs: &[u32],
-    workers: usize,
-) -> Result<Duration> {
-    let mut least = Duration::MAX;
-    for _ in 0..ROUNDS {
-        least = least.min(time_of_answering(rt, table, addrs, workers)?);
-    }
-    Ok(least)
-}
-
-/// The time from the first address of a piece to the last address of a piece, in one call in which so many
-/// workers answer the addresses.
-fn time_of_answering<R: Clock + AllocGlobal + Threads + Sync>(
-    rt: &R,
-    table: &Fib<24, 8>,
-    addrs: &[u32],
-    workers: usize,
-) -> Result<Duration> {
-    let watch = Stopwatch {
-        rt,
-        start: Instant::now(rt)?,
-        last: (addrs.len() / workers.max(1)).saturating_sub(1),
-        began: AtomicU64::new(u64::MAX),
-        ended: AtomicU64::new(0),
-    };
-    let _hops = bulk_plain(rt, rt.alloc(), table, workers, addrs, &watch)?;
-    Ok(watch.time())
 }
 
 /// A gate that notes when the first piece begins and when the last one comes to its last address.

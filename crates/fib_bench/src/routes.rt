@@ -58,7 +58,7 @@ fn draw_all<R: Rng>(
 /// The first address of each block that has one of these routes longer than 24 bits.
 ///
 /// A block stands here once for each such route.
-pub(crate) fn deep_blocks(alloc: Global, routes: &[Route]) -> Result<Vec<u32>, AllocError> {
+pub fn deep_blocks(alloc: Global, routes: &[Route]) -> Result<Vec<u32>, AllocError> {
     let mut blocks = Vec::new(alloc);
     for route in routes {
         if route.prefix.len() > 24 {
@@ -68,25 +68,31 @@ pub(crate) fn deep_blocks(alloc: Global, routes: &[Route]) -> Result<Vec<u32>, A
     Ok(blocks)
 }
 
-/// Those of the routes that have at least and at most so many bits.
-pub fn of_lengths(
-    alloc: Global,
-    routes: &[Route],
-    least: u32,
-    most: u32,
-) -> Result<Vec<Route>, AllocError> {
-    let mut some = Vec::new(alloc);
+/// Routes by the lengths of their prefixes.
+#[derive(Drop)]
+pub struct ByLength {
+    /// Those of up to 24 bits.
+    pub short: Vec<Route>,
+    /// The others.
+    pub long: Vec<Route>,
+}
+
+/// The routes by the lengths of their prefixes, each list in their order.
+pub fn by_length(alloc: Global, routes: &[Route]) -> Result<ByLength, AllocError> {
+    let mut short = Vec::new(alloc);
+    let mut long = Vec::new(alloc);
     for route in routes {
-        let len = route.prefix.len();
-        if least <= len && len <= most {
-            some.push(*route)?;
+        if route.prefix.len() > 24 {
+            long.push(*route)?;
+        } else {
+            short.push(*route)?;
         }
     }
-    Ok(some)
+    Ok(ByLength { short, long })
 }
 
 /// A route of 32 bits for each address of the first block.
-pub(crate) fn full_block(alloc: Global) -> Result<Vec<Route>> {
+pub fn full_block(alloc: Global) -> Result<Vec<Route>> {
     let mut routes = Vec::new(alloc);
     for addr in 0..256u32 {
         routes.push(host_route(addr)?)?;
