@@ -1,8 +1,8 @@
 pub mod Values
-pub mod TableHandles
+pub mod HandleSteps
+pub mod Forms
+pub mod HandleSends
 pub mod Fills
 pub mod Pieces
 pub mod Benches
 pub mod Options
-pub mod WriterHandles
-pub mod ReaderHandles

@@ -1,6 +1,6 @@
 -- Meaning: tables that open with the routes of a list (DPDK Programmer's Guide, "LPM Library", "Addition": a rule
 -- for a prefix that has one takes its place).
-use Rattle.std.specs.Prelude.{ℕ, ℤ, ◌≡◌, ◌<◌, ◌≤◌, ◌^◌, ◌⊎◌, All, List, Option, Some, None, IsSomeAnd, length, map, slice_get, take}
+use Rattle.std.specs.Prelude.{ℕ, ℤ, ◌≡◌, ◌<◌, ◌≤◌, ◌^◌, ◌⊎◌, All, List, Option, IsSomeAnd, length, map, slice_get, take}
 use Rattle.std.specs.FinMap.{len}
 use Rattle.lpm_bits.specs.Network.{prefix_of}
 use Rattle.lpm_rules.specs.RuleMap.{RuleMap}
@@ -10,7 +10,8 @@ use Rattle.lpm_limits.specs.Limits.{IsConfig}
 use Rattle.lpm_limits.specs.declared.config.Config.{Config}
 use Rattle.fib_model.specs.Outcomes.{groups_in_use}
 use Rattle.fib.specs.Fib.{FibState, initial_fib_with}
-use Rattle.saxiko_c.specs.Status.{success, no_memory, busy, invalid, no_space, too_big, out_of_domain}
+use Rattle.saxiko_c.specs.Calls.{OpensIt}
+use Rattle.saxiko_c.specs.Status.{no_memory, invalid, no_space, too_big, out_of_domain}
 use Rattle.saxiko_c.specs.Table.{IsBad}
 use Rattle.saxiko_c.specs.declared.records.SaxikoRoute.{SaxikoRoute}
 
@@ -60,6 +61,5 @@ pub record IsLoaded (c : Config) (routes : List SaxikoRoute) (before after : ℕ
 
 -- a closed handle has a table with the rules then; an open one stays as it is
 abbrev pub Loads : Config → List SaxikoRoute → ℕ → ℕ → Option FibState → ℤ → Option FibState → Type 0
-Loads c routes before after (Some f) status kept = (status ≡ busy) × (after ≡ before) × (kept ≡ Some f)
-Loads c routes before after None status None = IsUnloaded c routes before after status
-Loads c routes before after None status (Some f) = (status ≡ success) × IsLoaded c routes before after f
+Loads c routes before after =
+    OpensIt (IsUnloaded c routes before after) (IsLoaded c routes before after) (after ≡ before)

@@ -1,5 +1,5 @@
 -- Meaning: a running table that opens with the routes of a list (this project's).
-use Rattle.std.specs.Prelude.{ℕ, ℤ, ◌≡◌, ◌≤◌, false, Option, Some, None, List}
+use Rattle.std.specs.Prelude.{ℕ, ℤ, ◌≡◌, ◌≤◌, false, Option, List}
 use Rattle.std.specs.FinMap.{len}
 use Rattle.lpm_rules.specs.RuleMap.{RuleMap}
 use Rattle.lpm_limits.specs.Limits.{IsConfig}
@@ -8,7 +8,7 @@ use Rattle.fib_model.specs.Outcomes.{groups_in_use}
 use Rattle.shared_fib.specs.Passes.{IsFullBench}
 use Rattle.shared_fib.specs.Running.{initial_writer}
 use Rattle.saxiko_c.specs.Owners.{OwnerState}
-use Rattle.saxiko_c.specs.Status.{success, busy}
+use Rattle.saxiko_c.specs.Calls.{OpensIt}
 use Rattle.saxiko_c.specs.Loads.{IsUnloaded, rules_of_routes}
 use Rattle.saxiko_c.specs.declared.records.SaxikoRoute.{SaxikoRoute}
 
@@ -25,7 +25,6 @@ pub record IsOpenedWith (c : Config) (R : RuleMap) (o : OwnerState) : Type 0 whe
 
 -- a closed handle has a table with the rules of the routes then; an open one stays as it is
 abbrev pub LoadsRunning : Config → List SaxikoRoute → ℕ → ℕ → Option OwnerState → ℤ → Option OwnerState → Type 0
-LoadsRunning c routes before after (Some o) status kept = (status ≡ busy) × (after ≡ before) × (kept ≡ Some o)
-LoadsRunning c routes before after None status None = IsUnloaded c routes before after status
-LoadsRunning c routes before after None status (Some o) =
-    (status ≡ success) × (after ≡ before) × IsOpenedWith c (rules_of_routes routes) o
+LoadsRunning c routes before after =
+    OpensIt (IsUnloaded c routes before after) (λ o. (after ≡ before) × IsOpenedWith c (rules_of_routes routes) o)
+    (after ≡ before)

@@ -10,21 +10,14 @@ use Rattle.std.specs.Box.Ownership.{box_owns}
 use Rattle.std.specs.Global.{Global}
 use Rattle.std_heap.specs.contracts.GlobalAllocator.TheImpl.{ghosts}
 use Rattle.fib.specs.Fib.{FibState, coded_fib_state}
-use Rattle.fib.specs.contracts.fib.Fib.{the_row}
+use Rattle.fib.specs.contracts.fib.Fib as fib
 use Rattle.shared_fib.specs.Passes.{PassState, coded_pass}
+use Rattle.shared_fib.specs.contracts.reader.Reader as reader
 use Rattle.saxiko_c.specs.Owners.{OwnerState, coded_owner}
 use Rattle.saxiko_c.specs.contracts.owner.Owner as owner
-use Rattle.shared_fib.specs.contracts.reader.Reader as reader
 
-abbrev pub fib_row : RattleType
-fib_row = the_row (number 24) (number 8)
-
-abbrev pub coded_kept : Coded (Option FibState)
-coded_kept = coded_option coded_fib_state
-
-abbrev pub handle_owns : Global → Ptr → Bool → Option FibState → Fml
-handle_owns alloc at flag None = feq Bool flag false
-handle_owns alloc at flag (Some x) = fsep (feq Bool flag true) (box_owns (ghosts.dealloc_token alloc) fib_row at x)
+abbrev pub table_row : RattleType
+table_row = fib.the_row (number 24) (number 8)
 
 abbrev pub writer_row : RattleType
 writer_row = owner.the_row
@@ -32,16 +25,15 @@ writer_row = owner.the_row
 abbrev pub reader_row : RattleType
 reader_row = reader.the_row
 
+abbrev pub coded_table_kept : Coded (Option FibState)
+coded_table_kept = coded_option coded_fib_state
+
 abbrev pub coded_writer_kept : Coded (Option OwnerState)
 coded_writer_kept = coded_option coded_owner
 
 abbrev pub coded_reader_kept : Coded (Option PassState)
 coded_reader_kept = coded_option coded_pass
 
-abbrev pub writer_owns : Global → Ptr → Bool → Option OwnerState → Fml
-writer_owns alloc at flag None = feq Bool flag false
-writer_owns alloc at flag (Some x) = fsep (feq Bool flag true) (box_owns (ghosts.dealloc_token alloc) writer_row at x)
-
-abbrev pub reader_owns : Global → Ptr → Bool → Option PassState → Fml
-reader_owns alloc at flag None = feq Bool flag false
-reader_owns alloc at flag (Some x) = fsep (feq Bool flag true) (box_owns (ghosts.dealloc_token alloc) reader_row at x)
+abbrev pub handle_owns : (R : RattleType) → Global → Ptr → Bool → Option R.Denot → Fml
+handle_owns R alloc at flag None = feq Bool flag false
+handle_owns R alloc at flag (Some x) = fsep (feq Bool flag true) (box_owns (ghosts.dealloc_token alloc) R at x)

@@ -11,6 +11,7 @@ use Rattle.lpm_limits.specs.declared.refusal.Refusal.{Refusal}
 use Rattle.defer_queue.specs.declared.Reclaimed.{Reclaimed}
 use Rattle.fib_model.specs.Outcomes.{groups_in_use}
 use Rattle.fib_model.specs.Outcomes as outcomes
+use Rattle.lpm_trace.specs.declared.step.WorkerStep.{WorkerStep}
 use Rattle.lpm_trace.specs.declared.step.WorkerStep.TheVariants.{LoadOnline, StoreOnline, LoadQuiescent, StoreQuiescent, StoreOffline}
 use Rattle.lpm_writer.specs.Blank.{blank_state}
 use Rattle.shared_fib.specs.Taking.{TakesLeast}
@@ -19,6 +20,7 @@ use Rattle.shared_fib.specs.Bursts.{LooksUpBurst}
 use Rattle.shared_fib.specs.Passes.{PassState, IsBenchOf, IsFullBench, IsPassOf, LooksUp, Makes}
 use Rattle.shared_words.specs.Rule.{IsLater}
 use Rattle.shared_fib.specs.Running.{IsAtRest, WriterState, by_steps, hop_or, initial_writer, initial_state, steps_of, token_of}
+use Rattle.saxiko_c.specs.Calls.{OpensIt}
 use Rattle.saxiko_c.specs.Owners.{OwnerState}
 use Rattle.saxiko_c.specs.Status.{success, no_memory, busy, invalid, not_permitted, already, add_status, status_of}
 use Rattle.saxiko_c.specs.Table.{IsBad, IsUnopened, Stores, Tells}
@@ -40,9 +42,7 @@ pub record IsOpened (c : Config) (o : OwnerState) : Type 0 where
 
 -- a closed handle has such a table then; an open one stays as it is
 abbrev pub Opens : Config → Option OwnerState → ℤ → Option OwnerState → Type 0
-Opens c (Some o) status after = (status ≡ busy) × (after ≡ Some o)
-Opens c None status None = IsUnopened c status
-Opens c None status (Some o) = (status ≡ success) × IsOpened c o
+Opens c = OpensIt (IsUnopened c) (IsOpened c) ⊤
 
 -- the table's rules alone were changed, by steps that come after the earlier ones, and each group that was
 -- freed was checked after it was given up
@@ -158,36 +158,36 @@ AreOfOneTable (Some o) (Some reader) = reader.table ≡ o.writer.identity
 AreOfOneTable None reader = ⊤
 AreOfOneTable (Some o) None = ⊤
 
+-- a call of a reader that is online; by another it is EPERM, and nothing changes
+abbrev pub Online : (PassState → ℤ → PassState → Type 0) → (unchanged : Type 0) → PassState → ℤ → PassState → Type 0
+Online call unchanged p status q =
+    ((p.online ≡ false) × (status ≡ not_permitted) × unchanged × (q ≡ p))
+    ⊎ ((p.online ≡ true) × call p status q)
+
+-- it is online then, by a load and a store of the same token
+abbrev pub Reports : (ℕ → WorkerStep) → (ℕ → WorkerStep) → PassState → ℤ → PassState → Type 0
+Reports load store p status q = (status ≡ success) × (q.online ≡ true)
+    × (token : ℕ) × (first : ℕ) × (last : ℕ) × Makes ((store token, last) ∷ (load token, first) ∷ []) p q
+
 abbrev pub GoesOnline : PassState → ℤ → PassState → Type 0
 GoesOnline p status q =
     ((p.online ≡ true) × (status ≡ already) × (q ≡ p))
-    ⊎ ((p.online ≡ false) × (status ≡ success) × (q.online ≡ true)
-    × (token : ℕ) × (first : ℕ) × (last : ℕ)
-    × Makes ((StoreOnline token, last) ∷ (LoadOnline token, first) ∷ []) p q)
+    ⊎ ((p.online ≡ false) × Reports LoadOnline StoreOnline p status q)
 
 abbrev pub GoesOffline : PassState → ℤ → PassState → Type 0
-GoesOffline p status q =
-    ((p.online ≡ false) × (status ≡ not_permitted) × (q ≡ p))
-    ⊎ ((p.online ≡ true) × (status ≡ success) × (q.online ≡ false)
-    × (place : ℕ) × Makes ((StoreOffline, place) ∷ []) p q)
+GoesOffline = Online (λ p status q. (status ≡ success) × (q.online ≡ false)
+    × (place : ℕ) × Makes ((StoreOffline, place) ∷ []) p q) ⊤
 
 abbrev pub Quiesces : PassState → ℤ → PassState → Type 0
-Quiesces p status q =
-    ((p.online ≡ false) × (status ≡ not_permitted) × (q ≡ p))
-    ⊎ ((p.online ≡ true) × (status ≡ success) × (q.online ≡ true)
-    × (token : ℕ) × (first : ℕ) × (last : ℕ)
-    × Makes ((StoreQuiescent token, last) ∷ (LoadQuiescent token, first) ∷ []) p q)
+Quiesces = Online (Reports LoadQuiescent StoreQuiescent) ⊤
 
 -- the longest rule's next hop in a version that stood while the words were loaded
 abbrev pub Finds : ℕ → ℕ → ℕ → PassState → ℤ → PassState → Type 0
 Finds addr before after p status q = (lo : ℕ) × (hi : ℕ) × (x : Option ℕ)
     × LooksUp addr x lo hi p q × (q.online ≡ true) × Tells x status before after
 
--- the same by a reader that is online; by another it is EPERM
 abbrev pub FindsIn : ℕ → ℕ → ℕ → PassState → ℤ → PassState → Type 0
-FindsIn addr before after p status q =
-    ((p.online ≡ false) × (status ≡ not_permitted) × (after ≡ before) × (q ≡ p))
-    ⊎ ((p.online ≡ true) × Finds addr before after p status q)
+FindsIn addr before after = Online (Finds addr before after) (after ≡ before)
 
 -- the same, between the versions that are stored
 abbrev pub FindsBetween : ℕ → ℕ → ℕ → SaxikoSpan → PassState → ℤ → PassState → Type 0
@@ -195,9 +195,8 @@ FindsBetween addr before after span p status q = (x : Option ℕ)
     × LooksUp addr x span.lo span.hi p q × (q.online ≡ true) × Tells x status before after
 
 abbrev pub FindsWithin : ℕ → ℕ → ℕ → SaxikoSpan → SaxikoSpan → PassState → ℤ → PassState → Type 0
-FindsWithin addr before after old span p status q =
-    ((p.online ≡ false) × (status ≡ not_permitted) × (after ≡ before) × (span ≡ old) × (q ≡ p))
-    ⊎ ((p.online ≡ true) × FindsBetween addr before after span p status q)
+FindsWithin addr before after old span =
+    Online (FindsBetween addr before after span) ((after ≡ before) × (span ≡ old))
 
 -- ---- lookups of many addresses
 
@@ -206,20 +205,22 @@ abbrev pub FindsEach : ℕ → List ℕ → List ℕ → SaxikoSpan → PassStat
 FindsEach default addrs hops span p q = (found : List (Option ℕ))
     × LooksUpBurst addrs found span.lo span.hi p q × (hops ≡ map (hop_or default) found)
 
--- the same by a reader that is online, with as much room as addresses; else it is EPERM or EINVAL
+-- a call of a reader with as much room as addresses; with another it is EINVAL, and nothing changes
+abbrev pub Fits : List ℕ → List ℕ → (PassState → PassState → Type 0) → (unchanged : Type 0) → PassState → ℤ → PassState
+    → Type 0
+Fits addrs room find unchanged p status q =
+    ((length addrs ≢ length room) × (status ≡ invalid) × unchanged × (q ≡ p))
+    ⊎ ((length addrs ≡ length room) × (status ≡ success) × (q.online ≡ true) × find p q)
+
 abbrev pub FindsAllIn : ℕ → List ℕ → List ℕ → List ℕ → PassState → ℤ → PassState → Type 0
-FindsAllIn default addrs before after p status q =
-    ((p.online ≡ false) × (status ≡ not_permitted) × (after ≡ before) × (q ≡ p))
-    ⊎ (((p.online ≡ true) × (length addrs ≢ length before) × (status ≡ invalid) × (after ≡ before) × (q ≡ p))
-    ⊎ ((p.online ≡ true) × (length addrs ≡ length before) × (status ≡ success) × (q.online ≡ true)
-    × (span : SaxikoSpan) × FindsEach default addrs after span p q))
+FindsAllIn default addrs before after =
+    let find : PassState → PassState → Type 0 = λ p q. (span : SaxikoSpan) × FindsEach default addrs after span p q in
+    let unchanged : Type 0 = after ≡ before in
+    Online (Fits addrs before find unchanged) unchanged
 
 -- the same, and the span is stored
 abbrev pub FindsAllWithin : ℕ → List ℕ → List ℕ → List ℕ → SaxikoSpan → SaxikoSpan → PassState → ℤ
     → PassState → Type 0
-FindsAllWithin default addrs before after old span p status q =
-    ((p.online ≡ false) × (status ≡ not_permitted) × (after ≡ before) × (span ≡ old) × (q ≡ p))
-    ⊎ (((p.online ≡ true) × (length addrs ≢ length before) × (status ≡ invalid) × (after ≡ before)
-    × (span ≡ old) × (q ≡ p))
-    ⊎ ((p.online ≡ true) × (length addrs ≡ length before) × (status ≡ success) × (q.online ≡ true)
-    × FindsEach default addrs after span p q))
+FindsAllWithin default addrs before after old span =
+    let unchanged : Type 0 = (after ≡ before) × (span ≡ old) in
+    Online (Fits addrs before (FindsEach default addrs after span) unchanged) unchanged

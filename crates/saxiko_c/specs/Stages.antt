@@ -1,6 +1,7 @@
 -- This layer's own: the owner of a running table, at rest or in a grace period.
 use Rattle.std.specs.Prelude.{Bool, true, false, [], ⊤}
 use Rattle.std.specs.FinMap.{empty}
+use Rattle.lpm_limits.specs.Limits.{default_config}
 use Rattle.shared_fib.specs.Owned.{OwnerState as Owned}
 use Rattle.shared_fib.specs.Running.{Identity, initial_writer}
 use Rattle.saxiko_c.specs.declared.stage.Stage.{Stage}
@@ -18,14 +19,7 @@ abbrev pub owned_in : Stage → Owned
 owned_in (AtRest owner) = owner
 owned_in (Waiting period) = period
 owned_in Moving = record {
-  writer = initial_writer no_table (record {
-    rules = 0;
-    groups = 0;
-    workers = 0;
-    threshold = 0;
-    reclaim_max = 0;
-    first_token = 0;
-  }) empty;
+  writer = initial_writer no_table default_config empty;
   bench = [];
 }
 

@@ -1,6 +1,6 @@
 -- Meaning: the calls of a table of one thread, by the status that they answer (DPDK Programmer's Guide,
 -- "LPM Library").
-use Rattle.std.specs.Prelude.{ℕ, ℤ, ◌≡◌, ◌+◌, ◌≤◌, ◌<◌, ◌⊎◌, ◌↔◌, ◌≢◌, Option, Some, None, Result, Ok, Err, slice_index, List, length}
+use Rattle.std.specs.Prelude.{ℕ, ℤ, ⊤, ◌≡◌, ◌+◌, ◌≤◌, ◌<◌, ◌⊎◌, ◌↔◌, ◌≢◌, Option, Some, None, Result, Ok, Err, slice_index, List, length}
 use Rattle.std.specs.FinMap.{get, len}
 use Rattle.lpm_bits.specs.Network.{prefix_of}
 use Rattle.lpm_rules.specs.RuleMap.{RuleMap}
@@ -14,7 +14,8 @@ use Rattle.fib_model.specs.Counting.{counter_transitions}
 use Rattle.fib_model.specs.Outcomes.{groups_in_use, Adds, Deletes, Flushes, Frees}
 use Rattle.fib.specs.Fib.{FibState, initial_fib}
 use Rattle.fib.specs.Lookups.{IsHopOrDefault}
-use Rattle.saxiko_c.specs.Status.{success, no_entry, no_memory, busy, invalid, add_status, status_of}
+use Rattle.saxiko_c.specs.Calls.{OpensIt}
+use Rattle.saxiko_c.specs.Status.{success, no_entry, no_memory, invalid, add_status, status_of}
 use Rattle.saxiko_c.specs.declared.records.SaxikoCounts.{SaxikoCounts}
 
 -- ---- opening
@@ -26,9 +27,7 @@ IsUnopened c status =
 
 -- a closed handle has a table without rules then; an open one stays as it is
 abbrev pub Opens : Config → Option FibState → ℤ → Option FibState → Type 0
-Opens c (Some f) status after = (status ≡ busy) × (after ≡ Some f)
-Opens c None status None = IsUnopened c status
-Opens c None status (Some f) = (status ≡ success) × (f ≡ initial_fib c) × IsConfig c
+Opens c = OpensIt (IsUnopened c) (λ f. (f ≡ initial_fib c) × IsConfig c) ⊤
 
 -- ---- changes
 

@@ -2,14 +2,28 @@
 
 ghost use Rattle.std.specs.Prelude.{◌≡◌};
 ghost use Rattle.saxiko_c.specs.Grace.{AtRest};
-ghost use Rattle.saxiko_c.specs.Inserting.{InsertsRule, InsertsTo};
+ghost use Rattle.saxiko_c.specs.Inserting.{InsertsRule, InsertsTo, StoresOld};
+ghost use Rattle.saxiko_c.specs.Status.{add_status};
 
 use crate::owner::Owner;
 use crate::running::number_or;
 use crate::stage::Stage;
-use crate::status::{EAGAIN, EINVAL, of_put, of_refusal};
+use crate::status::{EAGAIN, EINVAL, of_add};
 use fib::Fib;
 use lpm_bits::{Hop, Prefix};
+use lpm_limits::Refusal;
+use lpm_rules::Put;
+
+/// Stores the next hop that the prefix had.
+fn store_replaced(added: Result<Put, Refusal>, replaced: Option<Hop>, had: &mut u32) -> i32
+    ensures stores { StoresOld added replaced had.old had.new }
+    ensures status { result ≡ add_status added }
+{
+    if added.is_ok() {
+        *had = number_or(replaced, *had);
+    }
+    of_add(added)
+}
 
 pub(crate) fn insert_in_table(
     fib: &mut Fib<24, 8>,
@@ -23,13 +37,7 @@ pub(crate) fn insert_in_table(
     match (Prefix::new(addr, u32::from(depth)), Hop::new(hop)) {
         (Ok(prefix), Ok(hop)) => {
             let replaced = fib.get(&prefix);
-            match fib.add(&prefix, hop) {
-                Ok(put) => {
-                    *had = number_or(replaced, *had);
-                    of_put(put)
-                }
-                Err(refusal) => of_refusal(refusal),
-            }
+            store_replaced(fib.add(&prefix, hop), replaced, had)
         }
         _ => EINVAL,
     }
@@ -51,13 +59,7 @@ pub(crate) fn insert_by_writer(
     match (Prefix::new(addr, u32::from(depth)), Hop::new(hop)) {
         (Ok(prefix), Ok(hop)) => {
             let replaced = running.get(&prefix);
-            match running.add(&prefix, hop) {
-                Ok(put) => {
-                    *had = number_or(replaced, *had);
-                    of_put(put)
-                }
-                Err(refusal) => of_refusal(refusal),
-            }
+            store_replaced(running.add(&prefix, hop), replaced, had)
         }
         _ => EINVAL,
     }

@@ -7,6 +7,8 @@
 mod bursts;
 mod grace;
 mod grace_calls;
+mod handle;
+mod handles;
 mod inserting;
 mod inserting_calls;
 mod loading;
@@ -14,7 +16,6 @@ mod loose;
 mod matches;
 mod matches_calls;
 mod owner;
-mod reader_handle;
 mod records;
 mod running;
 mod running_calls;
@@ -22,15 +23,13 @@ mod stage;
 mod status;
 mod table;
 mod table_calls;
-mod table_handle;
 mod walk;
 mod walk_calls;
-mod writer_handle;
 
 pub use grace_calls::{saxiko_proved_writer_check, saxiko_proved_writer_start};
+pub use handles::{SaxikoReader, SaxikoTable, SaxikoWriter};
 pub use inserting_calls::{saxiko_proved_table_insert, saxiko_proved_writer_insert};
 pub use matches_calls::{saxiko_proved_table_lookup_rule, saxiko_proved_writer_lookup_rule};
-pub use reader_handle::SaxikoReader;
 pub use records::{SaxikoConfig, SaxikoCounts, SaxikoHeld, SaxikoRoute, SaxikoSpan};
 pub use running_calls::{
     saxiko_proved_reader_close, saxiko_proved_reader_lookup, saxiko_proved_reader_lookup_bulk,
@@ -47,9 +46,7 @@ pub use table_calls::{
     saxiko_proved_table_load, saxiko_proved_table_lookup, saxiko_proved_table_lookup_bulk,
     saxiko_proved_table_open, saxiko_proved_table_reclaim,
 };
-pub use table_handle::SaxikoTable;
 pub use walk_calls::{
     saxiko_proved_table_first_rule, saxiko_proved_table_next_rule, saxiko_proved_writer_first_rule,
     saxiko_proved_writer_next_rule,
 };
-pub use writer_handle::SaxikoWriter;

@@ -5,13 +5,11 @@ ghost use Rattle.saxiko_c.specs.Calls.{Asks};
 ghost use Rattle.saxiko_c.specs.Grace.{AsksAtRest};
 ghost use Rattle.saxiko_c.specs.Matching.{FindsRule};
 
+use crate::handle::{on_open, put, take};
+use crate::handles::{SaxikoTable, SaxikoWriter};
 use crate::matches;
 use crate::records::SaxikoRoute;
-use crate::running_calls::{put_owner, take_owner};
 use crate::status::EINVAL;
-use crate::table_calls::{put, take};
-use crate::table_handle::SaxikoTable;
-use crate::writer_handle::SaxikoWriter;
 use std::alloc::Global;
 
 /// Stores the rule of a table that answers the address.
@@ -23,17 +21,10 @@ pub extern "C" fn saxiko_proved_table_lookup_rule(
     rule: &mut SaxikoRoute,
 ) -> i32
     ensures found { Asks (λ f. FindsRule addr rule.old rule.new f.table.rules) (rule.new ≡ rule.old)
-        handle.old.table result }
-    ensures same { handle.new.table ≡ handle.old.table }
+        handle.old.kept result }
+    ensures same { handle.new.kept ≡ handle.old.kept }
 {
-    match take(alloc, handle) {
-        Some(fib) => {
-            let status = matches::lookup_in_table(&fib, addr, rule);
-            put(handle, fib);
-            status
-        }
-        None => EINVAL,
-    }
+    on_open!(alloc, handle, fib => matches::lookup_in_table(&fib, addr, rule))
 }
 
 /// Stores the rule of a running table that answers the address.
@@ -48,12 +39,5 @@ pub extern "C" fn saxiko_proved_writer_lookup_rule(
         (rule.new ≡ rule.old)) (rule.new ≡ rule.old) handle.old.kept result }
     ensures same { handle.new.kept ≡ handle.old.kept }
 {
-    match take_owner(alloc, handle) {
-        Some(owner) => {
-            let status = matches::lookup_of_writer(&owner, addr, rule);
-            put_owner(handle, owner);
-            status
-        }
-        None => EINVAL,
-    }
+    on_open!(alloc, handle, owner => matches::lookup_of_writer(&owner, addr, rule))
 }

@@ -8,13 +8,13 @@ ghost use Rattle.saxiko_c.specs.Opened.{IsOpenedWith};
 ghost use Rattle.saxiko_c.specs.Running.{AddsTo, Counts, DeletesFrom, Finds, FindsAllIn, FindsAllWithin, FindsBetween, FindsIn, FindsWithin, Flushes, FreesHeld, GetsFrom, GivesBack, GoesOffline, GoesOnline, IsCountedIn, IsOpened, IsRegistered, IsUnregistered, Quiesces};
 ghost use Rattle.saxiko_c.specs.Table.{IsUnopened};
 
-use crate::bursts::{find_all, find_all_within};
+use crate::bursts::find_all;
 use crate::loading::read;
 use crate::owner::Owner;
 use crate::records::{SaxikoCounts, SaxikoHeld, SaxikoRoute, SaxikoSpan};
 use crate::stage::Stage;
 use crate::status::{
-    E2BIG, EAGAIN, EALREADY, EBUSY, EINVAL, ENOENT, ENOMEM, ENOSPC, EPERM, of_put, of_refusal,
+    E2BIG, EAGAIN, EALREADY, EBUSY, EINVAL, ENOENT, ENOMEM, ENOSPC, EPERM, of_add, of_refusal,
 };
 use crate::table::store_deleted;
 use lpm_bits::{Hop, Prefix};
@@ -72,10 +72,7 @@ pub(crate) fn add(owner: &mut Owner, addr: u32, depth: u8, hop: u32) -> i32
         return EAGAIN;
     };
     match (Prefix::new(addr, u32::from(depth)), Hop::new(hop)) {
-        (Ok(prefix), Ok(hop)) => match running.add(&prefix, hop) {
-            Ok(put) => of_put(put),
-            Err(refusal) => of_refusal(refusal),
-        },
+        (Ok(prefix), Ok(hop)) => of_add(running.add(&prefix, hop)),
         _ => EINVAL,
     }
 }
@@ -342,6 +339,10 @@ pub(crate) fn lookup_all_within(
     if addrs.len() != hops.len() {
         return EINVAL;
     }
-    find_all_within(reader, addrs, hops, default, span);
+    let burst = reader.lookup_bulk(addrs, default, hops);
+    *span = SaxikoSpan {
+        lo: burst.lo,
+        hi: burst.hi,
+    };
     0
 }

@@ -1,64 +1,19 @@
 //! The calls of the writer and of the readers of a running table.
 
-ghost use Rattle.std.specs.Prelude.{◌≡◌, ⊤, None, Some, MatchOption};
+ghost use Rattle.std.specs.Prelude.{◌≡◌, ⊤, None, Some};
 ghost use Rattle.saxiko_c.specs.Calls.{Asks, Calls};
 ghost use Rattle.saxiko_c.specs.Grace.{AsksAtRest, AtRest};
 ghost use Rattle.saxiko_c.specs.Limits.{config_of};
 ghost use Rattle.saxiko_c.specs.Opened.{LoadsRunning};
 ghost use Rattle.saxiko_c.specs.Running.{AddsTo, AreOfOneTable, Counts, DeletesFrom, FindsAllIn, FindsAllWithin, FindsIn, FindsWithin, Flushes, FreesHeld, GetsFrom, GoesOffline, GoesOnline, Opens, Quiesces, Registers, Unregisters};
 
-use crate::loose::Loose;
+use crate::handle::{Handle, on_closed, on_open, put, take};
+use crate::handles::{SaxikoReader, SaxikoWriter};
 use crate::owner::Owner;
-use crate::reader_handle::SaxikoReader;
 use crate::records::{SaxikoConfig, SaxikoCounts, SaxikoHeld, SaxikoRoute, SaxikoSpan};
 use crate::running;
 use crate::status::{EBUSY, EINVAL};
-use crate::writer_handle::SaxikoWriter;
-use shared_fib::Reader;
 use std::alloc::Global;
-use std::mem;
-
-/// Takes the owner out of the handle, which is closed then.
-#[inline]
-pub(crate) fn take_owner(alloc: Global, handle: &mut SaxikoWriter) -> Option<Box<Owner>>
-    ensures out { MatchOption result (handle.old.kept ≡ None) (λ b. handle.old.kept ≡ Some b.value) }
-    ensures closed { handle.new.kept ≡ None }
-{
-    let old = mem::replace(handle, SaxikoWriter::closed(alloc));
-    match old.into_loose() {
-        Some(loose) => Some(loose.into_box()),
-        None => None,
-    }
-}
-
-/// Puts an owner into the handle, which is closed.
-#[inline]
-pub(crate) fn put_owner(handle: &mut SaxikoWriter, owner: Box<Owner>)
-    ensures { handle.new.kept ≡ Some owner.value }
-{
-    mem::forget(mem::replace(handle, SaxikoWriter::of(Loose::of(owner))));
-}
-
-/// Takes the reader out of the handle, which is closed then.
-#[inline]
-fn take_reader(alloc: Global, handle: &mut SaxikoReader) -> Option<Box<Reader>>
-    ensures out { MatchOption result (handle.old.kept ≡ None) (λ b. handle.old.kept ≡ Some b.value) }
-    ensures closed { handle.new.kept ≡ None }
-{
-    let old = mem::replace(handle, SaxikoReader::closed(alloc));
-    match old.into_loose() {
-        Some(loose) => Some(loose.into_box()),
-        None => None,
-    }
-}
-
-/// Puts a reader into the handle, which is closed.
-#[inline]
-fn put_reader(handle: &mut SaxikoReader, reader: Box<Reader>)
-    ensures { handle.new.kept ≡ Some reader.value }
-{
-    mem::forget(mem::replace(handle, SaxikoReader::of(Loose::of(reader))));
-}
 
 /// Opens a running table without rules in a closed handle.
 #[unsafe(no_mangle)]
@@ -69,19 +24,7 @@ pub extern "C" fn saxiko_proved_writer_open(
 ) -> i32
     ensures { Opens (config_of config.now config.now.readers) handle.old.kept result handle.new.kept }
 {
-    match take_owner(alloc, handle) {
-        Some(owner) => {
-            put_owner(handle, owner);
-            EBUSY
-        }
-        None => match running::open(alloc, config.with_readers(config.readers)) {
-            Ok(owner) => {
-                put_owner(handle, owner);
-                0
-            }
-            Err(status) => status,
-        },
-    }
+    on_closed!(alloc, handle => running::open(alloc, config.with_readers(config.readers)))
 }
 
 /// Opens a running table with the rules of these routes in a closed handle. Of those of one prefix the last counts.
@@ -97,19 +40,7 @@ pub extern "C" fn saxiko_proved_writer_load(
     ensures { LoadsRunning (config_of config.now config.now.readers) routes.now bad.old bad.new
         handle.old.kept result handle.new.kept }
 {
-    match take_owner(alloc, handle) {
-        Some(owner) => {
-            put_owner(handle, owner);
-            EBUSY
-        }
-        None => match running::load(alloc, config.with_readers(config.readers), routes, bad) {
-            Ok(owner) => {
-                put_owner(handle, owner);
-                0
-            }
-            Err(status) => status,
-        },
-    }
+    on_closed!(alloc, handle => running::load(alloc, config.with_readers(config.readers), routes, bad))
 }
 
 /// Frees the writer; the table is freed with the last handle of it.
@@ -131,14 +62,7 @@ pub extern "C" fn saxiko_proved_writer_add(
 ) -> i32
     ensures { Calls (AtRest (AddsTo addr depth hop) ⊤) ⊤ handle.old.kept result handle.new.kept }
 {
-    match take_owner(alloc, handle) {
-        Some(mut owner) => {
-            let status = running::add(&mut owner, addr, depth, hop);
-            put_owner(handle, owner);
-            status
-        }
-        None => EINVAL,
-    }
+    on_open!(alloc, handle, owner => running::add(&mut owner, addr, depth, hop))
 }
 
 /// Deletes the rule of a prefix, and stores the next hop that it had.
@@ -153,14 +77,7 @@ pub extern "C" fn saxiko_proved_writer_delete(
     ensures { Calls (AtRest (DeletesFrom addr depth hop.old hop.new) (hop.new ≡ hop.old))
         (hop.new ≡ hop.old) handle.old.kept result handle.new.kept }
 {
-    match take_owner(alloc, handle) {
-        Some(mut owner) => {
-            let status = running::delete(&mut owner, addr, depth, hop);
-            put_owner(handle, owner);
-            status
-        }
-        None => EINVAL,
-    }
+    on_open!(alloc, handle, owner => running::delete(&mut owner, addr, depth, hop))
 }
 
 /// Deletes all rules, and stores how many there were.
@@ -173,14 +90,7 @@ pub extern "C" fn saxiko_proved_writer_flush(
     ensures { Calls (AtRest (Flushes rules.old rules.new) (rules.new ≡ rules.old))
         (rules.new ≡ rules.old) handle.old.kept result handle.new.kept }
 {
-    match take_owner(alloc, handle) {
-        Some(mut owner) => {
-            let status = running::flush(&mut owner, rules);
-            put_owner(handle, owner);
-            status
-        }
-        None => EINVAL,
-    }
+    on_open!(alloc, handle, owner => running::flush(&mut owner, rules))
 }
 
 /// Frees at most `max` groups that wait, the oldest first, and stores how many; it is 1 where a reader holds
@@ -197,14 +107,7 @@ pub extern "C" fn saxiko_proved_writer_reclaim(
         Calls (AtRest (FreesHeld max freed.new held.old held.new) unchanged) unchanged
         handle.old.kept result handle.new.kept }
 {
-    match take_owner(alloc, handle) {
-        Some(mut owner) => {
-            let status = running::reclaim(&mut owner, max, freed, held);
-            put_owner(handle, owner);
-            status
-        }
-        None => EINVAL,
-    }
+    on_open!(alloc, handle, owner => running::reclaim(&mut owner, max, freed, held))
 }
 
 /// Stores the next hop of the rule of this very prefix.
@@ -220,14 +123,7 @@ pub extern "C" fn saxiko_proved_writer_get(
         (hop.new ≡ hop.old) handle.old.kept result }
     ensures same { handle.new.kept ≡ handle.old.kept }
 {
-    match take_owner(alloc, handle) {
-        Some(owner) => {
-            let status = running::get(&owner, addr, depth, hop);
-            put_owner(handle, owner);
-            status
-        }
-        None => EINVAL,
-    }
+    on_open!(alloc, handle, owner => running::get(&owner, addr, depth, hop))
 }
 
 /// Stores how many rules, versions and groups there are, and the token.
@@ -241,14 +137,7 @@ pub extern "C" fn saxiko_proved_writer_counts(
         (counts.new ≡ counts.old) handle.old.kept result }
     ensures same { handle.new.kept ≡ handle.old.kept }
 {
-    match take_owner(alloc, handle) {
-        Some(mut owner) => {
-            let status = running::counts(&mut owner, counts);
-            put_owner(handle, owner);
-            status
-        }
-        None => EINVAL,
-    }
+    on_open!(alloc, handle, owner => running::counts(&mut owner, counts))
 }
 
 /// Hands the reader of this number out in a closed handle; it is offline.
@@ -261,31 +150,13 @@ pub extern "C" fn saxiko_proved_reader_register(
 ) -> i32
     ensures { Registers number writer.old.kept reader.old.kept result writer.new.kept reader.new.kept }
 {
-    let Some(mut owner) = take_owner(alloc, writer) else {
-        return EINVAL;
-    };
-    if let Some(open) = take_reader(alloc, reader) {
-        put_reader(reader, open);
-        put_owner(writer, owner);
-        return EBUSY;
-    }
-    let status = register(alloc, &mut owner, reader, number);
-    put_owner(writer, owner);
-    status
+    on_open!(alloc, writer, owner => register(alloc, &mut owner, reader, number))
 }
 
-/// Hands the reader of this number out in a handle that is closed.
 fn register(alloc: Global, owner: &mut Owner, reader: &mut SaxikoReader, number: u32) -> i32
-    requires closed { reader.old.kept ≡ None }
     ensures { Registers number (Some owner.old) reader.old.kept result (Some owner.new) reader.new.kept }
 {
-    match running::register(alloc, owner, number as usize) {
-        Ok(registered) => {
-            put_reader(reader, registered);
-            0
-        }
-        Err(status) => status,
-    }
+    on_closed!(alloc, reader => running::register(alloc, owner, number as usize))
 }
 
 /// Takes the reader back: it is offline then, its handle is closed, and its number is free. Both handles are
@@ -299,16 +170,17 @@ pub extern "C" fn saxiko_proved_reader_unregister(
     requires one_table { AreOfOneTable writer.old.kept reader.old.kept }
     ensures { Unregisters writer.old.kept reader.old.kept result writer.new.kept reader.new.kept }
 {
-    let Some(mut owner) = take_owner(alloc, writer) else {
-        return EINVAL;
-    };
-    let Some(open) = take_reader(alloc, reader) else {
-        put_owner(writer, owner);
-        return EINVAL;
-    };
-    let status = running::unregister(&mut owner, Box::into_inner(open));
-    put_owner(writer, owner);
-    status
+    on_open!(alloc, writer, owner => unregister(alloc, &mut owner, reader))
+}
+
+fn unregister(alloc: Global, owner: &mut Owner, reader: &mut SaxikoReader) -> i32
+    requires one_table { AreOfOneTable (Some owner.old) reader.old.kept }
+    ensures { Unregisters (Some owner.old) reader.old.kept result (Some owner.new) reader.new.kept }
+{
+    match take(alloc, reader) {
+        Some(open) => running::unregister(owner, Box::into_inner(open)),
+        None => EINVAL,
+    }
 }
 
 /// Takes the reader offline, and closes its handle; its number stays in use.
@@ -324,14 +196,7 @@ pub extern "C" fn saxiko_proved_reader_close(alloc: Global, handle: &mut SaxikoR
 pub extern "C" fn saxiko_proved_reader_online(alloc: Global, handle: &mut SaxikoReader) -> i32
     ensures { Calls GoesOnline ⊤ handle.old.kept result handle.new.kept }
 {
-    match take_reader(alloc, handle) {
-        Some(mut reader) => {
-            let status = running::online(&mut reader);
-            put_reader(handle, reader);
-            status
-        }
-        None => EINVAL,
-    }
+    on_open!(alloc, handle, reader => running::online(&mut reader))
 }
 
 /// The reader goes offline.
@@ -339,14 +204,7 @@ pub extern "C" fn saxiko_proved_reader_online(alloc: Global, handle: &mut Saxiko
 pub extern "C" fn saxiko_proved_reader_offline(alloc: Global, handle: &mut SaxikoReader) -> i32
     ensures { Calls GoesOffline ⊤ handle.old.kept result handle.new.kept }
 {
-    match take_reader(alloc, handle) {
-        Some(mut reader) => {
-            let status = running::offline(&mut reader);
-            put_reader(handle, reader);
-            status
-        }
-        None => EINVAL,
-    }
+    on_open!(alloc, handle, reader => running::offline(&mut reader))
 }
 
 /// The reader holds nothing that it looked up before.
@@ -354,14 +212,7 @@ pub extern "C" fn saxiko_proved_reader_offline(alloc: Global, handle: &mut Saxik
 pub extern "C" fn saxiko_proved_reader_quiescent(alloc: Global, handle: &mut SaxikoReader) -> i32
     ensures { Calls Quiesces ⊤ handle.old.kept result handle.new.kept }
 {
-    match take_reader(alloc, handle) {
-        Some(mut reader) => {
-            let status = running::quiescent(&mut reader);
-            put_reader(handle, reader);
-            status
-        }
-        None => EINVAL,
-    }
+    on_open!(alloc, handle, reader => running::quiescent(&mut reader))
 }
 
 /// Stores the next hop of the longest rule that covers the address.
@@ -375,14 +226,7 @@ pub extern "C" fn saxiko_proved_reader_lookup(
     ensures { Calls (FindsIn addr hop.old hop.new) (hop.new ≡ hop.old) handle.old.kept result
         handle.new.kept }
 {
-    match take_reader(alloc, handle) {
-        Some(mut reader) => {
-            let status = running::lookup(&mut reader, addr, hop);
-            put_reader(handle, reader);
-            status
-        }
-        None => EINVAL,
-    }
+    on_open!(alloc, handle, reader => running::lookup(&mut reader, addr, hop))
 }
 
 /// Stores the next hop of the longest rule that covers the address, and the versions that it lies between.
@@ -397,14 +241,7 @@ pub extern "C" fn saxiko_proved_reader_lookup_span(
     ensures { Calls (FindsWithin addr hop.old hop.new span.old span.new)
         ((hop.new ≡ hop.old) × (span.new ≡ span.old)) handle.old.kept result handle.new.kept }
 {
-    match take_reader(alloc, handle) {
-        Some(mut reader) => {
-            let status = running::lookup_within(&mut reader, addr, hop, span);
-            put_reader(handle, reader);
-            status
-        }
-        None => EINVAL,
-    }
+    on_open!(alloc, handle, reader => running::lookup_within(&mut reader, addr, hop, span))
 }
 
 /// Stores the next hops of many addresses, with `default` where no rule covers one.
@@ -419,14 +256,7 @@ pub extern "C" fn saxiko_proved_reader_lookup_bulk(
     ensures { Calls (FindsAllIn default addrs.now hops.old hops.new) (hops.new ≡ hops.old)
         handle.old.kept result handle.new.kept }
 {
-    match take_reader(alloc, handle) {
-        Some(mut reader) => {
-            let status = running::lookup_all(&mut reader, addrs, hops, default);
-            put_reader(handle, reader);
-            status
-        }
-        None => EINVAL,
-    }
+    on_open!(alloc, handle, reader => running::lookup_all(&mut reader, addrs, hops, default))
 }
 
 /// Stores the next hops of many addresses, with `default` where no rule covers one, and the versions that they lie
@@ -443,12 +273,5 @@ pub extern "C" fn saxiko_proved_reader_lookup_bulk_span(
     ensures { Calls (FindsAllWithin default addrs.now hops.old hops.new span.old span.new)
         ((hops.new ≡ hops.old) × (span.new ≡ span.old)) handle.old.kept result handle.new.kept }
 {
-    match take_reader(alloc, handle) {
-        Some(mut reader) => {
-            let status = running::lookup_all_within(&mut reader, addrs, hops, default, span);
-            put_reader(handle, reader);
-            status
-        }
-        None => EINVAL,
-    }
+    on_open!(alloc, handle, reader => running::lookup_all_within(&mut reader, addrs, hops, default, span))
 }

@@ -1,7 +1,7 @@
 //! What calls answer: 0 or more, or an error number of Linux below 0.
 
 ghost use Rattle.std.specs.Prelude.{◌≡◌};
-ghost use Rattle.saxiko_c.specs.Status.{put_status, status_of_refusal};
+ghost use Rattle.saxiko_c.specs.Status.{add_status, status_of_refusal};
 
 use lpm_limits::Refusal;
 use lpm_rules::Put;
@@ -51,13 +51,14 @@ pub(crate) fn of_refusal(refusal: Refusal) -> i32
     }
 }
 
-/// What an add that was done answers.
-pub(crate) fn of_put(put: Put) -> i32
-    ensures { result ≡ put_status put }
+/// What an add answers.
+pub(crate) fn of_add(added: Result<Put, Refusal>) -> i32
+    ensures { result ≡ add_status added }
 {
-    match put {
-        Put::Unchanged => 0,
-        Put::Added => 1,
-        Put::Replaced => 2,
+    match added {
+        Ok(Put::Unchanged) => 0,
+        Ok(Put::Added) => 1,
+        Ok(Put::Replaced) => 2,
+        Err(refusal) => of_refusal(refusal),
     }
 }

@@ -8,7 +8,7 @@ ghost use Rattle.saxiko_c.specs.Status.{status_of};
 ghost use Rattle.saxiko_c.specs.Table.{AddsRule, Counts, DeletesRule, Finds, FindsAll, FlushesRules, FreesGroups, Gets, IsCounted, IsUnopened, Stores};
 
 use crate::records::SaxikoCounts;
-use crate::status::{EINVAL, ENOENT, ENOMEM, of_put, of_refusal};
+use crate::status::{EINVAL, ENOENT, ENOMEM, of_add, of_refusal};
 use fib::{Fib, OpenError};
 use lpm_bits::{Hop, Prefix};
 use lpm_limits::{Config, Refusal};
@@ -32,10 +32,7 @@ pub(crate) fn add(fib: &mut Fib<24, 8>, addr: u32, depth: u8, hop: u32) -> i32
     ensures { AddsRule addr depth hop fib.old result fib.new }
 {
     match (Prefix::new(addr, u32::from(depth)), Hop::new(hop)) {
-        (Ok(prefix), Ok(hop)) => match fib.add(&prefix, hop) {
-            Ok(put) => of_put(put),
-            Err(refusal) => of_refusal(refusal),
-        },
+        (Ok(prefix), Ok(hop)) => of_add(fib.add(&prefix, hop)),
         _ => EINVAL,
     }
 }

@@ -1,41 +1,17 @@
 //! The calls of a table of one thread.
 
-ghost use Rattle.std.specs.Prelude.{◌≡◌, ⊤, None, Some, MatchOption};
+ghost use Rattle.std.specs.Prelude.{◌≡◌, ⊤, None};
 ghost use Rattle.saxiko_c.specs.Calls.{Asks, Calls};
 ghost use Rattle.saxiko_c.specs.Loads.{Loads};
 ghost use Rattle.saxiko_c.specs.Table.{AddsRule, Counts, DeletesRule, Finds, FindsAll, FlushesRules, FreesGroups, Gets, Opens};
 ghost use Rattle.saxiko_c.specs.Limits.{config_of};
 
-use crate::loose::Loose;
+use crate::handle::{Handle, on_closed, on_open, put, take};
+use crate::handles::SaxikoTable;
 use crate::records::{SaxikoConfig, SaxikoCounts, SaxikoRoute};
 use crate::status::{EBUSY, EINVAL};
-use crate::table_handle::SaxikoTable;
 use crate::{loading, table};
-use fib::Fib;
 use std::alloc::Global;
-use std::mem;
-
-/// Takes the table out of the handle, which is closed then.
-#[inline]
-pub(crate) fn take(alloc: Global, handle: &mut SaxikoTable) -> Option<Box<Fib<24, 8>>>
-    ensures out { MatchOption result (handle.old.table ≡ None) (λ b. handle.old.table ≡ Some b.value) }
-    ensures closed { handle.new.table ≡ None }
-{
-    let old = mem::replace(handle, SaxikoTable::closed(alloc));
-    match old.into_loose() {
-        Some(loose) => Some(loose.into_box()),
-        None => None,
-    }
-}
-
-/// Puts a table into the handle.
-#[inline]
-pub(crate) fn put(handle: &mut SaxikoTable, table: Box<Fib<24, 8>>)
-    ensures { handle.new.table ≡ Some table.value }
-{
-    // What was there is a closed handle, which has nothing to free.
-    mem::forget(mem::replace(handle, SaxikoTable::of(Loose::of(table))));
-}
 
 /// Opens a table without rules in a closed handle.
 #[unsafe(no_mangle)]
@@ -44,21 +20,9 @@ pub extern "C" fn saxiko_proved_table_open(
     handle: &mut SaxikoTable,
     config: &SaxikoConfig,
 ) -> i32
-    ensures { Opens (config_of config.now 0) handle.old.table result handle.new.table }
+    ensures { Opens (config_of config.now 0) handle.old.kept result handle.new.kept }
 {
-    match take(alloc, handle) {
-        Some(fib) => {
-            put(handle, fib);
-            EBUSY
-        }
-        None => match table::open(alloc, config.with_readers(0)) {
-            Ok(fib) => {
-                put(handle, fib);
-                0
-            }
-            Err(status) => status,
-        },
-    }
+    on_closed!(alloc, handle => table::open(alloc, config.with_readers(0)))
 }
 
 /// Opens a table with the rules of these routes in a closed handle. Of those of one prefix the last counts.
@@ -71,28 +35,16 @@ pub extern "C" fn saxiko_proved_table_load(
     routes: &[SaxikoRoute],
     bad: &mut usize,
 ) -> i32
-    ensures { Loads (config_of config.now 0) routes.now bad.old bad.new handle.old.table result
-        handle.new.table }
+    ensures { Loads (config_of config.now 0) routes.now bad.old bad.new handle.old.kept result
+        handle.new.kept }
 {
-    match take(alloc, handle) {
-        Some(fib) => {
-            put(handle, fib);
-            EBUSY
-        }
-        None => match loading::load(alloc, config.with_readers(0), routes, bad) {
-            Ok(fib) => {
-                put(handle, fib);
-                0
-            }
-            Err(status) => status,
-        },
-    }
+    on_closed!(alloc, handle => loading::load(alloc, config.with_readers(0), routes, bad))
 }
 
 /// Frees the table; a closed handle stays closed.
 #[unsafe(no_mangle)]
 pub extern "C" fn saxiko_proved_table_close(alloc: Global, handle: &mut SaxikoTable)
-    ensures { handle.new.table ≡ None }
+    ensures { handle.new.kept ≡ None }
 {
     *handle = SaxikoTable::closed(alloc);
 }
@@ -106,16 +58,9 @@ pub extern "C" fn saxiko_proved_table_add(
     depth: u8,
     hop: u32,
 ) -> i32
-    ensures { Calls (AddsRule addr depth hop) ⊤ handle.old.table result handle.new.table }
+    ensures { Calls (AddsRule addr depth hop) ⊤ handle.old.kept result handle.new.kept }
 {
-    match take(alloc, handle) {
-        Some(mut fib) => {
-            let status = table::add(&mut fib, addr, depth, hop);
-            put(handle, fib);
-            status
-        }
-        None => EINVAL,
-    }
+    on_open!(alloc, handle, fib => table::add(&mut fib, addr, depth, hop))
 }
 
 /// Deletes the rule of a prefix, and stores the next hop that it had.
@@ -128,16 +73,9 @@ pub extern "C" fn saxiko_proved_table_delete(
     hop: &mut u32,
 ) -> i32
     ensures { Calls (DeletesRule addr depth hop.old hop.new) (hop.new ≡ hop.old)
-        handle.old.table result handle.new.table }
+        handle.old.kept result handle.new.kept }
 {
-    match take(alloc, handle) {
-        Some(mut fib) => {
-            let status = table::delete(&mut fib, addr, depth, hop);
-            put(handle, fib);
-            status
-        }
-        None => EINVAL,
-    }
+    on_open!(alloc, handle, fib => table::delete(&mut fib, addr, depth, hop))
 }
 
 /// Deletes all rules, and stores how many there were.
@@ -148,16 +86,9 @@ pub extern "C" fn saxiko_proved_table_flush(
     rules: &mut usize,
 ) -> i32
     ensures { Calls (FlushesRules rules.old rules.new) (rules.new ≡ rules.old)
-        handle.old.table result handle.new.table }
+        handle.old.kept result handle.new.kept }
 {
-    match take(alloc, handle) {
-        Some(mut fib) => {
-            let status = table::flush(&mut fib, rules);
-            put(handle, fib);
-            status
-        }
-        None => EINVAL,
-    }
+    on_open!(alloc, handle, fib => table::flush(&mut fib, rules))
 }
 
 /// Frees at most `max` groups that wait, the oldest first, and stores how many.
@@ -169,16 +100,9 @@ pub extern "C" fn saxiko_proved_table_reclaim(
     freed: &mut usize,
 ) -> i32
     ensures { Calls (FreesGroups max freed.new) (freed.new ≡ freed.old)
-        handle.old.table result handle.new.table }
+        handle.old.kept result handle.new.kept }
 {
-    match take(alloc, handle) {
-        Some(mut fib) => {
-            let status = table::reclaim(&mut fib, max, freed);
-            put(handle, fib);
-            status
-        }
-        None => EINVAL,
-    }
+    on_open!(alloc, handle, fib => table::reclaim(&mut fib, max, freed))
 }
 
 /// Stores the next hop of the longest rule that covers the address.
@@ -189,17 +113,10 @@ pub extern "C" fn saxiko_proved_table_lookup(
     addr: u32,
     hop: &mut u32,
 ) -> i32
-    ensures found { Asks (Finds addr hop.old hop.new) (hop.new ≡ hop.old) handle.old.table result }
-    ensures same { handle.new.table ≡ handle.old.table }
+    ensures found { Asks (Finds addr hop.old hop.new) (hop.new ≡ hop.old) handle.old.kept result }
+    ensures same { handle.new.kept ≡ handle.old.kept }
 {
-    match take(alloc, handle) {
-        Some(fib) => {
-            let status = table::lookup(&fib, addr, hop);
-            put(handle, fib);
-            status
-        }
-        None => EINVAL,
-    }
+    on_open!(alloc, handle, fib => table::lookup(&fib, addr, hop))
 }
 
 /// Stores the next hops of many addresses, with `default` where no rule covers one.
@@ -212,17 +129,10 @@ pub extern "C" fn saxiko_proved_table_lookup_bulk(
     default: u32,
 ) -> i32
     ensures found { Asks (FindsAll default addrs.now hops.old hops.new) (hops.new ≡ hops.old)
-        handle.old.table result }
-    ensures same { handle.new.table ≡ handle.old.table }
+        handle.old.kept result }
+    ensures same { handle.new.kept ≡ handle.old.kept }
 {
-    match take(alloc, handle) {
-        Some(fib) => {
-            let status = table::lookup_all(&fib, addrs, hops, default);
-            put(handle, fib);
-            status
-        }
-        None => EINVAL,
-    }
+    on_open!(alloc, handle, fib => table::lookup_all(&fib, addrs, hops, default))
 }
 
 /// Stores the next hop of the rule of this very prefix.
@@ -234,17 +144,10 @@ pub extern "C" fn saxiko_proved_table_get(
     depth: u8,
     hop: &mut u32,
 ) -> i32
-    ensures found { Asks (Gets addr depth hop.old hop.new) (hop.new ≡ hop.old) handle.old.table result }
-    ensures same { handle.new.table ≡ handle.old.table }
+    ensures found { Asks (Gets addr depth hop.old hop.new) (hop.new ≡ hop.old) handle.old.kept result }
+    ensures same { handle.new.kept ≡ handle.old.kept }
 {
-    match take(alloc, handle) {
-        Some(fib) => {
-            let status = table::get(&fib, addr, depth, hop);
-            put(handle, fib);
-            status
-        }
-        None => EINVAL,
-    }
+    on_open!(alloc, handle, fib => table::get(&fib, addr, depth, hop))
 }
 
 /// Stores how many rules, versions and groups there are, and the token.
@@ -254,15 +157,11 @@ pub extern "C" fn saxiko_proved_table_counts(
     handle: &mut SaxikoTable,
     counts: &mut SaxikoCounts,
 ) -> i32
-    ensures counted { Asks (Counts counts.new) (counts.new ≡ counts.old) handle.old.table result }
-    ensures same { handle.new.table ≡ handle.old.table }
+    ensures counted { Asks (Counts counts.new) (counts.new ≡ counts.old) handle.old.kept result }
+    ensures same { handle.new.kept ≡ handle.old.kept }
 {
-    match take(alloc, handle) {
-        Some(fib) => {
-            *counts = table::count(&fib);
-            put(handle, fib);
-            0
-        }
-        None => EINVAL,
-    }
+    on_open!(alloc, handle, fib => {
+        *counts = table::count(&fib);
+        0
+    })
 }

@@ -5,13 +5,11 @@ ghost use Rattle.saxiko_c.specs.Calls.{Asks};
 ghost use Rattle.saxiko_c.specs.Grace.{AsksAtRest};
 ghost use Rattle.saxiko_c.specs.Walking.{FindsFirst, FindsNext};
 
+use crate::handle::{on_open, put, take};
+use crate::handles::{SaxikoTable, SaxikoWriter};
 use crate::records::SaxikoRoute;
-use crate::running_calls::{put_owner, take_owner};
 use crate::status::EINVAL;
-use crate::table_calls::{put, take};
-use crate::table_handle::SaxikoTable;
 use crate::walk;
-use crate::writer_handle::SaxikoWriter;
 use std::alloc::Global;
 
 /// Stores the first rule of a table.
@@ -22,17 +20,10 @@ pub extern "C" fn saxiko_proved_table_first_rule(
     rule: &mut SaxikoRoute,
 ) -> i32
     ensures found { Asks (λ f. FindsFirst rule.old rule.new f.table.rules) (rule.new ≡ rule.old)
-        handle.old.table result }
-    ensures same { handle.new.table ≡ handle.old.table }
+        handle.old.kept result }
+    ensures same { handle.new.kept ≡ handle.old.kept }
 {
-    match take(alloc, handle) {
-        Some(fib) => {
-            let status = walk::first_of_table(&fib, rule);
-            put(handle, fib);
-            status
-        }
-        None => EINVAL,
-    }
+    on_open!(alloc, handle, fib => walk::first_of_table(&fib, rule))
 }
 
 /// Stores the rule of a table that comes next after a prefix.
@@ -45,17 +36,10 @@ pub extern "C" fn saxiko_proved_table_next_rule(
     rule: &mut SaxikoRoute,
 ) -> i32
     ensures found { Asks (λ f. FindsNext addr depth rule.old rule.new f.table.rules)
-        (rule.new ≡ rule.old) handle.old.table result }
-    ensures same { handle.new.table ≡ handle.old.table }
+        (rule.new ≡ rule.old) handle.old.kept result }
+    ensures same { handle.new.kept ≡ handle.old.kept }
 {
-    match take(alloc, handle) {
-        Some(fib) => {
-            let status = walk::next_of_table(&fib, addr, depth, rule);
-            put(handle, fib);
-            status
-        }
-        None => EINVAL,
-    }
+    on_open!(alloc, handle, fib => walk::next_of_table(&fib, addr, depth, rule))
 }
 
 /// Stores the first rule of a running table.
@@ -69,14 +53,7 @@ pub extern "C" fn saxiko_proved_writer_first_rule(
         (rule.new ≡ rule.old)) (rule.new ≡ rule.old) handle.old.kept result }
     ensures same { handle.new.kept ≡ handle.old.kept }
 {
-    match take_owner(alloc, handle) {
-        Some(owner) => {
-            let status = walk::first_of_writer(&owner, rule);
-            put_owner(handle, owner);
-            status
-        }
-        None => EINVAL,
-    }
+    on_open!(alloc, handle, owner => walk::first_of_writer(&owner, rule))
 }
 
 /// Stores the rule of a running table that comes next after a prefix.
@@ -92,12 +69,5 @@ pub extern "C" fn saxiko_proved_writer_next_rule(
         (rule.new ≡ rule.old)) (rule.new ≡ rule.old) handle.old.kept result }
     ensures same { handle.new.kept ≡ handle.old.kept }
 {
-    match take_owner(alloc, handle) {
-        Some(owner) => {
-            let status = walk::next_of_writer(&owner, addr, depth, rule);
-            put_owner(handle, owner);
-            status
-        }
-        None => EINVAL,
-    }
+    on_open!(alloc, handle, owner => walk::next_of_writer(&owner, addr, depth, rule))
 }

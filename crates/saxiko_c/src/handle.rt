@@ -1,0 +1,82 @@
+//! What the handles of C have in common.
+
+ghost use Rattle.std.specs.Prelude.{◌≡◌, Option, Some, None, MatchOption};
+
+use crate::loose::Loose;
+use std::alloc::Global;
+use std::mem;
+
+/// A handle: memory of C's, which holds a box or none.
+pub(crate) trait Handle: Sized + Drop {
+    /// What an open one holds.
+    type Held: Drop;
+
+    ghost kept: { Self → Option Self.Held };
+
+    fn closed(alloc: Global) -> Self
+        ensures { Self.kept result ≡ None };
+
+    fn of(loose: Loose<Self::Held, Global>) -> Self
+        ensures { Self.kept result ≡ Some loose.value };
+
+    fn into_loose(self) -> Option<Loose<Self::Held, Global>>
+        ensures { MatchOption result (Self.kept self ≡ None)
+            (λ loose. Self.kept self ≡ Some loose.value) };
+}
+
+/// Takes what the handle holds out of it; it is closed then.
+#[inline]
+pub(crate) fn take<H: Handle>(alloc: Global, handle: &mut H) -> Option<Box<H::Held>>
+    ensures out { MatchOption result (H.kept handle.old ≡ None) (λ b. H.kept handle.old ≡ Some b.value) }
+    ensures closed { H.kept handle.new ≡ None }
+{
+    match mem::replace(handle, H::closed(alloc)).into_loose() {
+        Some(loose) => Some(loose.into_box()),
+        None => None,
+    }
+}
+
+/// Puts a box into the handle, which is closed.
+#[inline]
+pub(crate) fn put<H: Handle>(handle: &mut H, held: Box<H::Held>)
+    ensures { H.kept handle.new ≡ Some held.value }
+{
+    // What was there is a closed handle, which has nothing to free.
+    mem::forget(mem::replace(handle, H::of(Loose::of(held))));
+}
+
+/// What a call comes to on what an open handle holds; on a closed one it is EINVAL.
+macro_rules! on_open {
+    ($alloc:ident, $handle:ident, $held:ident => $call:expr) => {
+        match take($alloc, $handle) {
+            Some(mut $held) => {
+                let status = $call;
+                put($handle, $held);
+                status
+            }
+            None => EINVAL,
+        }
+    };
+}
+
+/// Opens a closed handle with what this comes to, if it is a box; on an open one it is EBUSY.
+macro_rules! on_closed {
+    ($alloc:ident, $handle:ident => $opened:expr) => {
+        match take($alloc, $handle) {
+            Some(held) => {
+                put($handle, held);
+                EBUSY
+            }
+            None => match $opened {
+                Ok(opened) => {
+                    put($handle, opened);
+                    0
+                }
+                Err(status) => status,
+            },
+        }
+    };
+}
+
+pub(crate) use on_closed;
+pub(crate) use on_open;
