@@ -23,3 +23,5 @@ pub mod Pairing
 pub mod Pieces
 pub mod Benches
 pub mod OpenedOwners
+pub mod Leading
+pub mod Tokens

@@ -95,16 +95,18 @@ makes_one on on' r s s' p is table worker g = (
       (made_more [] r s.view g.0 s'.view (made_none s.view g.0 g.1) g.2),
 )
 
-pub makes_two : (on on' : Bool) (r t : WorkerStep) (s s' : WorkerAt) (p : PassState) → state s on ≡ p
-    → s'.table ≡ s.table → s'.worker ≡ s.worker → GainsAll (t ∷ r ∷ []) s.view s'.view
-    → (first : ℕ) × (last : ℕ) × Makes ((t, last) ∷ (r, first) ∷ []) p (state s' on')
-makes_two on on' r t s s' p is table worker g =
+pub makes_two : (on on' : Bool) (r t : ℕ → WorkerStep) (s s' : WorkerAt) (p : PassState) → state s on ≡ p
+    → s'.table ≡ s.table → s'.worker ≡ s.worker → ((token : ℕ) × GainsAll (t token ∷ r token ∷ []) s.view s'.view)
+    → (token : ℕ) × (first : ℕ) × (last : ℕ) × Makes ((t token, last) ∷ (r token, first) ∷ []) p (state s' on')
+makes_two on on' r t s s' p is table worker steps =
+    let g : GainsAll (t steps.0 ∷ r steps.0 ∷ []) s.view s'.view = steps.1 in
     let first : ℕ = length g.1.2.seen in (
+      steps.0,
       first,
       length g.2.seen,
-      makes on on' ((t, length g.2.seen) ∷ (r, first) ∷ []) s s' p is table worker
-          (made_more ((r, first) ∷ []) t s.view g.0 s'.view
-          (made_more [] r s.view g.1.0 g.0 (made_none s.view g.1.0 g.1.1) g.1.2) g.2),
+      makes on on' ((t steps.0, length g.2.seen) ∷ (r steps.0, first) ∷ []) s s' p is table worker
+          (made_more ((r steps.0, first) ∷ []) (t steps.0) s.view g.0 s'.view
+          (made_more [] (r steps.0) s.view g.1.0 g.0 (made_none s.view g.1.0 g.1.1) g.1.2) g.2),
     )
 
 -- a legal lookup is that of a version

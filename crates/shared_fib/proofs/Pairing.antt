@@ -1,5 +1,5 @@
 -- A list of table words that is packed while it grows.
-use Rattle.std.proofs.Common.{◌≡◌, ◌≢◌, ℕ, zero, suc, ◌+◌, ◌-◌, ◌*◌, ◌/◌, ◌%◌, ◌^◌, ◌<◌, ◌≤◌, inl, inr, List, [], ◌∷◌, ◌++◌, length, replicate, slice_index, slice_set, take, drop, refl, ap, sym, subst, ◌∙◌, arith, append_assoc}
+use Rattle.std.proofs.Common.{◌≡◌, ◌≢◌, ℕ, ◌+◌, ◌-◌, ◌*◌, ◌/◌, ◌%◌, ◌^◌, ◌<◌, ◌≤◌, inl, inr, List, [], ◌∷◌, ◌++◌, length, replicate, slice_index, slice_set, take, drop, refl, ap, sym, subst, ◌∙◌, arith, append_assoc}
 use Rattle.std.proofs.lemmas.Bool.{cases_eq, cases_lt}
 use Rattle.std.proofs.lemmas.List.{ext_get_or, get_or-set_same, get_or-set_other, length-set, get_or_append_left, get_or-append_right, get_or-replicate, get_or_past, get_or-drop, length-append, length-drop, length-replicate, append-nil, take_all, replicate-append-replicate}
 use Rattle.std.proofs.lemmas.List.FromFn.{length-map-range_with_len, get_or-map-range_with_len}
@@ -50,21 +50,6 @@ both_are k w x small is = elim (even_or_odd k) [
   | inl even ↦ low_is k w w x even small is
   | inr odd ↦ high_is k w w x odd small small is
 ]
-
--- ---- an empty list
-
-pub none_paired : ArePairs 0 (0 ∷ 0 ∷ [])
-none_paired = record {
-  all = refl;
-  sequence = refl;
-  low = below;
-  left = λ odd. omega (arith, odd);
-}
-  where
-    below : (k : ℕ) → slice_index (0 ∷ 0 ∷ []) k < 2 ^ 64
-    below zero = omega arith
-    below (suc zero) = omega arith
-    below (suc (suc k)) = omega arith
 
 -- ---- a word in the half that was left over
 
@@ -154,7 +139,7 @@ replicated_low m x j low =
 
 module _ (n m w x : ℕ) (ws : List ℕ) (are : ArePairs n ws) (even : n % 2 ≡ 0) (small : w < 2 ^ 32)
     (is : x ≡ w + w * 2 ^ 32) where
-  pub twos_paired : ArePairs (n + 2 * m) (ws ++ replicate m x)
+  twos_paired : ArePairs (n + 2 * m) (ws ++ replicate m x)
   twos_paired = record {
     all = omega (arith, length-append ws (replicate m x), length-replicate {A = ℕ} m x, are.all, even);
     sequence = more_sequence n ws (replicate m x) are even;
@@ -162,7 +147,7 @@ module _ (n m w x : ℕ) (ws : List ℕ) (are : ArePairs n ws) (even : n % 2 ≡
     left = λ odd. absurd (omega (arith, odd, even));
   }
 
-  pub twos_put : unpacked_pairs (n + 2 * m) (ws ++ replicate m x) ≡ unpacked_pairs n ws ++ replicate (2 * m) w
+  twos_put : unpacked_pairs (n + 2 * m) (ws ++ replicate m x) ≡ unpacked_pairs n ws ++ replicate (2 * m) w
   twos_put = grown n (2 * m) ws (ws ++ replicate m x) w (old_kept n ws (replicate m x) are even)
       (λ i from to. let len = full n ws (replicate m x) are even in
       both_are i w _ small (new_at n ws (replicate m x) are even (first_at i) (omega (arith, len, from))
@@ -175,7 +160,7 @@ module _ (n w : ℕ) (ws : List ℕ) (are : ArePairs n ws) (even : n % 2 ≡ 0) 
       new_at n ws (replicate 1 w) are even k (omega (arith, len, is))
       ∙ get_or-replicate 1 (k - length ws) w 0 (omega (arith, len, is))
 
-  pub last_paired : ArePairs (n + 1) (ws ++ replicate 1 w)
+  last_paired : ArePairs (n + 1) (ws ++ replicate 1 w)
   last_paired = record {
     all = omega (arith, length-append ws (replicate 1 w), are.all, even);
     sequence = more_sequence n ws (replicate 1 w) are even;
@@ -183,7 +168,7 @@ module _ (n w : ℕ) (ws : List ℕ) (are : ArePairs n ws) (even : n % 2 ≡ 0) 
     left = λ odd. subst (λ (v : ℕ). v < 2 ^ 32) (sym (last_at (first_at (n + 1)) (omega (arith, even)))) small;
   }
 
-  pub last_put : unpacked_pairs (n + 1) (ws ++ replicate 1 w) ≡ unpacked_pairs n ws ++ replicate 1 w
+  last_put : unpacked_pairs (n + 1) (ws ++ replicate 1 w) ≡ unpacked_pairs n ws ++ replicate 1 w
   last_put = grown n 1 ws (ws ++ replicate 1 w) w (old_kept n ws (replicate 1 w) are even)
       (λ i from to. let here : i ≡ n = omega (arith, from, to) in
       let even' : i % 2 ≡ 0 = omega (arith, here, even) in
@@ -200,9 +185,31 @@ became zs old now w k m put is same = put ∙ (λ i. is i ++ replicate (same i) 
 pub none_put : (xs : List ℕ) (w m : ℕ) → m ≡ 0 → xs ≡ xs ++ replicate m w
 none_put xs w m none = sym (append-nil xs) ∙ ap (λ (k : ℕ). xs ++ replicate k w) (sym none)
 
-pub resized : (ws zs : List ℕ) (to k m x : ℕ) → zs ≡ take to ws ++ replicate k x → length ws ≤ to → k ≡ m
-    → zs ≡ ws ++ replicate m x
-resized ws zs to k m x is all same = is ∙ (λ i. take_all to ws all i ++ replicate (same i) x)
+-- what a list of shared words, and the table words in it, become behind an even number of these: by one word, or by the
+-- same word twice in each of m shared words
+module _ (n w : ℕ) (ws zs xs : List ℕ) (are : ArePairs n ws) (put : unpacked_pairs n ws ≡ xs) (even : length xs % 2 ≡ 0)
+    (small : w < 2 ^ 32) where
+  even_count : n % 2 ≡ 0
+  even_count = let same = count_is n ws xs put in omega (arith, same, even)
+
+  pub one_more : (a : ℕ) → a ≡ w → zs ≡ ws ++ a ∷ []
+      → ArePairs (n + 1) zs × (unpacked_pairs (n + 1) zs ≡ xs ++ replicate 1 w)
+  one_more a same is =
+      let made : zs ≡ ws ++ replicate 1 w = is ∙ ap (λ (v : ℕ). ws ++ v ∷ []) same in (
+        subst (ArePairs (n + 1)) (sym made) (last_paired n w ws are even_count small),
+        ap (unpacked_pairs (n + 1)) made ∙ last_put n w ws are even_count small ∙ ap (λ (l : List ℕ). l ++ replicate 1 w) put,
+      )
+
+  pub twos_more : (m to k a b : ℕ) → a ≡ w → b ≡ w → zs ≡ take to ws ++ replicate k (a + b * 2 ^ 32) → length ws ≤ to → k ≡ m
+      → ArePairs (n + 2 * m) zs × (unpacked_pairs (n + 2 * m) zs ≡ xs ++ replicate (2 * m) w)
+  twos_more m to k a b low high is all many =
+      let x : ℕ = a + b * 2 ^ 32 in
+      let twice : x ≡ w + w * 2 ^ 32 = λ i. low i + high i * 2 ^ 32 in
+      let made : zs ≡ ws ++ replicate m x = is ∙ (λ i. take_all to ws all i ++ replicate (many i) x) in (
+        subst (ArePairs (n + 2 * m)) (sym made) (twos_paired n m w x ws are even_count small twice),
+        ap (unpacked_pairs (n + 2 * m)) made ∙ twos_put n m w x ws are even_count small twice
+            ∙ ap (λ (l : List ℕ). l ++ replicate (2 * m) w) put,
+      )
 
 -- words that were put last twice
 pub put_twice : (xs ys zs : List ℕ) (w a b : ℕ) → ys ≡ xs ++ replicate a w → zs ≡ ys ++ replicate b w

@@ -13,3 +13,4 @@ pub mod LentLaws
 pub mod Pairs
 pub mod Bursts
 pub mod Owned
+pub mod Leading

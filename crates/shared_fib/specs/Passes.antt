@@ -1,7 +1,7 @@
 -- Meaning: what a pass of a running table shows: the steps that its worker made, what it has seen of the
 -- writer's steps, and its lookups (DPDK Programmer's Guide, "RCU Library": each thread registers, comes
 -- online and reports; Gupta, Lin and McKeown, INFOCOM 1998, section 3: a lookup reads one word or two).
-use Rattle.std.specs.Prelude.{ℕ, ◌≡◌, ◌+◌, ◌≤◌, ◌<◌, Bool, false, All, List, [], ◌∷◌, ◌++◌, length, map, slice_get, Option, Some, refl}
+use Rattle.std.specs.Prelude.{ℕ, ◌≡◌, ◌+◌, ◌≤◌, ◌<◌, Bool, true, false, All, List, [], ◌∷◌, ◌++◌, length, map, slice_get, slice_set, Option, Some, refl}
 use Rattle.std.specs.List.{AllPairs}
 use Rattle.std.specs.Coded.{Coded, code_by, coded×, coded_ℕ, coded_bool, coded_list}
 use Rattle.lpm_cells.specs.Words.{entry_in}
@@ -9,7 +9,7 @@ use Rattle.lpm_rules.specs.RuleMap.{RuleMap}
 use Rattle.lpm_rules.specs.Longest.{IsLongestHop}
 use Rattle.lpm_trace.specs.declared.step.WriterStep.{WriterStep}
 use Rattle.lpm_trace.specs.declared.step.WorkerStep.{WorkerStep}
-use Rattle.lpm_trace.specs.declared.step.WorkerStep.TheVariants.{BeginLookup, EndLookup}
+use Rattle.lpm_trace.specs.declared.step.WorkerStep.TheVariants.{BeginLookup, EndLookup, StoreOffline}
 use Rattle.lpm_trace.specs.contracts.step.WriterStep as writer_row
 use Rattle.lpm_trace.specs.contracts.step.WorkerStep as worker_row
 use Rattle.lpm_trace.specs.States.{oldest}
@@ -119,6 +119,12 @@ pub record IsPassOf (id : Identity) (k : ℕ) (p : PassState) : Type 0 where
 abbrev pub IsBenchOf : Identity → List (Option PassState) → Type 0
 IsBenchOf id passes = (length passes ≡ id.initial.workers)
     × ((k : ℕ) (p : PassState) → slice_get passes k ≡ Some (Some p) → IsPassOf id k p)
+
+-- the pass is at the bench again; one that was online has gone offline first
+abbrev pub IsPutBack : List (Option PassState) → PassState → List (Option PassState) → Type 0
+IsPutBack old pass new = (p : PassState) × (new ≡ slice_set old pass.worker (Some p))
+    × (pass.online ≡ true → (place : ℕ) × Makes ((StoreOffline, place) ∷ []) pass p)
+    × (pass.online ≡ false → p ≡ pass)
 
 -- each worker's pass is there, and has made no step
 abbrev pub IsFullBench : Identity → List (Option PassState) → Type 0

@@ -1,10 +1,9 @@
 //! The passes that wait to be registered.
 
-ghost use Rattle.std.specs.Prelude.{◌≡◌, ℕ, ◌<◌, ◌≤◌, ◌↔◌, IfOk, IsErrOf, OnErr, None, Some, length, slice_get, slice_set, true, false, [], ◌∷◌};
-ghost use Rattle.lpm_trace.specs.declared.step.WorkerStep.TheVariants.{StoreOffline};
+ghost use Rattle.std.specs.Prelude.{◌≡◌, ℕ, ◌<◌, ◌≤◌, ◌↔◌, IfOk, IsErrOf, OnErr, None, Some, length, slice_get, slice_set, false, []};
 ghost use Rattle.shared_words.specs.Rule.{with_one_more};
 ghost use Rattle.shared_words.specs.Seats.{IsOf};
-ghost use Rattle.shared_fib.specs.Passes.{IsBenchOf, IsFullBench, IsPassOf, Makes, PassState};
+ghost use Rattle.shared_fib.specs.Passes.{IsBenchOf, IsFullBench, IsPassOf, IsPutBack};
 
 use crate::table::Words;
 use crate::{Pass, SharedTable};
@@ -140,9 +139,7 @@ impl Bench {
         requires own { IsBenchOf table.now self.old }
         requires pass { pass.table ≡ table.now }
         ensures own { IsBenchOf table.now self.new }
-        ensures back { (p : PassState) × (self.new ≡ slice_set self.old pass.worker (Some p))
-            × (pass.online ≡ true → (place : ℕ) × Makes ((StoreOffline, place) ∷ []) pass p)
-            × (pass.online ≡ false → p ≡ pass) }
+        ensures back { IsPutBack self.old pass self.new }
     {
         pass.leave(table);
         let worker = pass.worker();

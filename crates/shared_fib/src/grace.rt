@@ -5,11 +5,10 @@ ghost use Rattle.lpm_trace.specs.declared.step.WriterStep.TheVariants.{BumpToken
 ghost use Rattle.lpm_trace.specs.Laws.{IsChecked};
 ghost use Rattle.lpm_writer.specs.Steps.{Checks};
 ghost use Rattle.lpm_writer.specs.Waiting.{tokens_of};
-ghost use Rattle.shared_words.specs.Initial.{initial_state_of};
 ghost use Rattle.shared_words.specs.Seats.{IsOf, with_step};
-ghost use Rattle.shared_fib.specs.Lent.{SharedDid, passed_by, token_by};
-ghost use Rattle.shared_fib.specs.GracePeriods.{IsInGrace, WaitsBy};
-ghost use Rattle.shared_fib.specs.Running.{IsReady, OnlySees, IsRestingBy, passed_of, state_by, steps_of, token_of};
+ghost use Rattle.shared_fib.specs.Lent.{passed_by, token_by};
+ghost use Rattle.shared_fib.specs.GracePeriods.{IsInGrace};
+ghost use Rattle.shared_fib.specs.Running.{IsReady, OnlySees, passed_of, state_by, steps_of, token_of};
 
 use crate::table::Words;
 use crate::{SharedMemory, SharedTable, Writer};
@@ -59,24 +58,8 @@ pub struct Held<const FIRST: u32, const SECOND: u32> {
     pub busy: Busy,
 }
 
-fn start_over<const FIRST: u32, const SECOND: u32>(
-    control: &ControlState<FIRST, SECOND>,
-    memory: &mut SharedMemory<'_, FIRST, SECOND>,
-) -> Result<(), Exhausted>
-    requires did { SharedDid memory.old (initial_state_of memory.old.view.initial) memory.old.view.seen }
-    requires rests { IsRestingBy FIRST SECOND control.now memory.old.view }
-    ensures exhausted { IsErr result
-        ↔ (2 ^ 62 < token_by memory.old.view + control.now.config.groups) }
-    ensures started { OnOk result (memory.new.view ≡ with_step memory.old.view BumpToken) }
-    ensures waits { OnOk result (WaitsBy FIRST SECOND control.now memory.new.view) }
-    ensures untouched { OnErr result (memory.new ≡ memory.old) }
-    ensures name { memory.new.name ≡ memory.old.name }
-    ensures table { memory.new.table ≡ memory.old.table }
-{
-    start_synchronize(control, memory)
-}
-
-fn start_by<const FIRST: u32, const SECOND: u32>(
+/// Starts a token through the writer's seat.
+fn start_token<const FIRST: u32, const SECOND: u32>(
     control: &ControlState<FIRST, SECOND>,
     seat: &mut WriterSeat,
     table: &Words<FIRST, SECOND>,
@@ -92,35 +75,13 @@ fn start_by<const FIRST: u32, const SECOND: u32>(
     ensures seat { seat.new.table ≡ seat.old.table }
 {
     let mut memory = SharedMemory::new(table, seat);
-    let came = start_over(control, &mut memory);
+    let came = start_synchronize(control, &mut memory);
     memory.done();
     came
 }
 
-fn check_over<const FIRST: u32, const SECOND: u32>(
-    control: &mut ControlState<FIRST, SECOND>,
-    memory: &mut SharedMemory<'_, FIRST, SECOND>,
-) -> Result<(), Busy>
-    requires did { SharedDid memory.old (initial_state_of memory.old.view.initial) memory.old.view.seen }
-    requires waits { WaitsBy FIRST SECOND control.old memory.old.view }
-    ensures checks { Checks memory.old.view.initial.workers memory.old.view.seen
-        (token_by memory.old.view) result memory.new.view.seen }
-    ensures queued { OnOk result (0 < control.old.config.workers
-        → All (λ token. token ≤ passed_by memory.new.view)
-        (tokens_of control.new.pool.queue.items)) }
-    ensures rests { OnOk result (IsRestingBy FIRST SECOND control.new memory.new.view) }
-    ensures waits { OnErr result (WaitsBy FIRST SECOND control.new memory.new.view) }
-    ensures same { control.new ≡ record control.old {
-      pool = record control.old.pool { passed = control.new.pool.passed };
-    } }
-    ensures name { memory.new.name ≡ memory.old.name }
-    ensures table { memory.new.table ≡ memory.old.table }
-    ensures view { OnlySees memory.old.view memory.new.view }
-{
-    check_synchronize(control, memory)
-}
-
-fn check_by<const FIRST: u32, const SECOND: u32>(
+/// Checks the token that was started.
+fn check_token<const FIRST: u32, const SECOND: u32>(
     control: &mut ControlState<FIRST, SECOND>,
     seat: &mut WriterSeat,
     table: &Words<FIRST, SECOND>,
@@ -145,9 +106,8 @@ fn check_by<const FIRST: u32, const SECOND: u32>(
     ensures view { OnlySees seat.old.view seat.new.view }
 {
     let mut memory = SharedMemory::new(table, seat);
-    let came = check_over(control, &mut memory);
+    let came = check_synchronize(control, &mut memory);
     memory.done();
-    seat.history();
     came
 }
 
@@ -172,7 +132,7 @@ impl<const FIRST: u32, const SECOND: u32> Writer<FIRST, SECOND> {
         ensures unchanged { IfErr result (λ not_started. not_started.writer ≡ self.entry) }
     {
         let Writer { control, mut seat } = self;
-        match start_by(&control, &mut seat, &table.words) {
+        match start_token(&control, &mut seat, &table.words) {
             Ok(()) => Ok(GracePeriod::new(control, seat)),
             Err(Exhausted) => Err(NotStarted {
                 writer: Writer::new(control, seat),
@@ -227,7 +187,7 @@ impl<const FIRST: u32, const SECOND: u32> GracePeriod<FIRST, SECOND> {
             mut control,
             mut seat,
         } = self;
-        match check_by(&mut control, &mut seat, &table.words) {
+        match check_token(&mut control, &mut seat, &table.words) {
             Ok(()) => Ok(Writer::new(control, seat)),
             Err(busy) => Err(Held {
                 period: GracePeriod::new(control, seat),

@@ -1,6 +1,6 @@
 //! The owner of a running table.
 
-ghost use Rattle.std.specs.Prelude.{IsOk, Err, MatchResult, Result, ◌≡◌, ◌+◌, ◌^◌, ◌<◌, ◌≤◌, ◌↔◌, ℕ, IfOk, IfErr, IsErr, IsErrOf, OnOk, OnErr, All, List, take, length, slice_get, slice_set, Some, None, [], ◌∷◌, true, false};
+ghost use Rattle.std.specs.Prelude.{IsOk, Err, MatchResult, Result, ◌≡◌, ◌+◌, ◌^◌, ◌<◌, ◌≤◌, ◌↔◌, ℕ, IfOk, IfErr, IsErr, OnOk, OnErr, All, List, take, length, [], ◌∷◌};
 ghost use Rattle.std.specs.FinMap as map;
 ghost use Rattle.std.specs.Arc.{arc_value};
 ghost use Rattle.fib_model.specs.Outcomes.{Adds, Deletes, Flushes, Frees, groups_in_use};
@@ -9,14 +9,15 @@ ghost use Rattle.lpm_limits.specs.declared.refusal.Refusal.{Refusal};
 ghost use Rattle.lpm_rules.specs.declared.Put.{Put};
 ghost use Rattle.lpm_rules.specs.Matches.{IsMatch};
 ghost use Rattle.lpm_rules.specs.Walking.{IsNextRule};
-ghost use Rattle.lpm_trace.specs.declared.step.WorkerStep.TheVariants.{StoreOffline, MeetWriter};
+ghost use Rattle.lpm_trace.specs.declared.step.WorkerStep.TheVariants.{MeetWriter};
 ghost use Rattle.lpm_trace.specs.Laws.{IsChecked};
 ghost use Rattle.lpm_writer.specs.Blank.{blank_state};
 ghost use Rattle.lpm_writer.specs.Steps.{Synchronizes};
 ghost use Rattle.shared_fib.specs.Taking.{TakesLeast};
 ghost use Rattle.shared_words.specs.Rule.{IsLater};
 ghost use Rattle.shared_fib.specs.Freeing.{FreesChecked};
-ghost use Rattle.shared_fib.specs.Passes.{IsBenchOf, IsFullBench, IsPassOf, Makes, PassState};
+ghost use Rattle.shared_fib.specs.Owned.{Registers};
+ghost use Rattle.shared_fib.specs.Passes.{IsBenchOf, IsFullBench, IsPutBack, Makes};
 ghost use Rattle.shared_fib.specs.Running.{IsAtRest, by_steps, initial_writer, passed_of, initial_state, steps_of, token_of};
 
 use crate::reader::register;
@@ -116,15 +117,7 @@ impl Owner {
     /// The refusals: `NoSuchWorker`, where the table has no such worker; `Taken`, where its reader is
     /// handed out and not given back yet; and `Memory`, where there are 2^63 readers.
     pub fn register(&mut self, worker: usize) -> Result<Reader, Refusal>
-        ensures reader { IfOk result (IsPassOf self.old.writer.identity worker) }
-        ensures registered { IfOk result (λ p. (slice_get self.old.bench worker ≡ Some (Some p))
-            × (self.new.bench ≡ slice_set self.old.bench worker None)) }
-        ensures no_such_worker { IsErrOf result Refusal.NoSuchWorker
-            ↔ (self.old.writer.identity.initial.workers ≤ worker) }
-        ensures taken { IsErrOf result Refusal.Taken ↔ (slice_get self.old.bench worker ≡ Some None) }
-        ensures unchanged { OnErr result (self.new ≡ self.old) }
-        ensures own { IsBenchOf self.new.writer.identity self.new.bench }
-        ensures same { self.new.writer ≡ self.old.writer }
+        ensures { Registers self.old worker result self.new }
     {
         register(&self.table, &mut self.bench, worker)
     }
@@ -133,10 +126,7 @@ impl Owner {
     /// first.
     pub fn unregister(&mut self, reader: Reader)
         requires own { reader.table ≡ self.old.writer.identity }
-        ensures back { (p : PassState)
-            × (self.new.bench ≡ slice_set self.old.bench reader.worker (Some p))
-            × (reader.online ≡ true → (place : ℕ) × Makes ((StoreOffline, place) ∷ []) reader p)
-            × (reader.online ≡ false → p ≡ reader) }
+        ensures back { IsPutBack self.old.bench reader self.new.bench }
         ensures own { IsBenchOf self.new.writer.identity self.new.bench }
         ensures same { self.new.writer ≡ self.old.writer }
     {

@@ -1,13 +1,12 @@
 //! A grace period that doesn't block: a token is started, and checked again whenever the program likes.
 
-ghost use Rattle.std.specs.Prelude.{◌≡◌, ◌+◌, ◌^◌, ◌<◌, ◌≤◌, ◌↔◌, ℕ, [], ◌∷◌, All, IfErr, IfOk, IsErr, IsErrOf, OnErr, Ok, Err, None, Some, slice_get, slice_set, true, false};
+ghost use Rattle.std.specs.Prelude.{◌≡◌, ◌+◌, ◌^◌, ◌<◌, ◌≤◌, ◌↔◌, ◌∷◌, All, IfErr, IfOk, IsErr, Ok, Err};
 ghost use Rattle.std.specs.Arc.{arc_value};
-ghost use Rattle.lpm_limits.specs.declared.refusal.Refusal.{Refusal};
-ghost use Rattle.lpm_trace.specs.declared.step.WorkerStep.TheVariants.{StoreOffline};
 ghost use Rattle.lpm_trace.specs.declared.step.WriterStep.TheVariants.{BumpToken};
 ghost use Rattle.lpm_trace.specs.Laws.{IsChecked};
 ghost use Rattle.lpm_writer.specs.Steps.{Checks};
-ghost use Rattle.shared_fib.specs.Passes.{IsBenchOf, IsPassOf, Makes, PassState};
+ghost use Rattle.shared_fib.specs.Passes.{IsBenchOf, IsPutBack};
+ghost use Rattle.shared_fib.specs.Owned.{Registers};
 ghost use Rattle.shared_fib.specs.Running.{passed_of, steps_of, token_of};
 
 use crate::reader::register;
@@ -105,15 +104,7 @@ impl GracePeriod {
 
     /// The reader of the worker of this number, which is offline, as [`Owner::register`] hands it out.
     pub fn register(&mut self, worker: usize) -> Result<Reader, Refusal>
-        ensures reader { IfOk result (IsPassOf self.old.writer.identity worker) }
-        ensures registered { IfOk result (λ p. (slice_get self.old.bench worker ≡ Some (Some p))
-            × (self.new.bench ≡ slice_set self.old.bench worker None)) }
-        ensures no_such_worker { IsErrOf result Refusal.NoSuchWorker
-            ↔ (self.old.writer.identity.initial.workers ≤ worker) }
-        ensures taken { IsErrOf result Refusal.Taken ↔ (slice_get self.old.bench worker ≡ Some None) }
-        ensures unchanged { OnErr result (self.new ≡ self.old) }
-        ensures own { IsBenchOf self.new.writer.identity self.new.bench }
-        ensures same { self.new.writer ≡ self.old.writer }
+        ensures { Registers self.old worker result self.new }
     {
         register(&self.table, &mut self.bench, worker)
     }
@@ -121,10 +112,7 @@ impl GracePeriod {
     /// Takes a reader back, as [`Owner::unregister`] does.
     pub fn unregister(&mut self, reader: Reader)
         requires own { reader.table ≡ self.old.writer.identity }
-        ensures back { (p : PassState)
-            × (self.new.bench ≡ slice_set self.old.bench reader.worker (Some p))
-            × (reader.online ≡ true → (place : ℕ) × Makes ((StoreOffline, place) ∷ []) reader p)
-            × (reader.online ≡ false → p ≡ reader) }
+        ensures back { IsPutBack self.old.bench reader self.new.bench }
         ensures own { IsBenchOf self.new.writer.identity self.new.bench }
         ensures same { self.new.writer ≡ self.old.writer }
     {

@@ -3,7 +3,7 @@
 ghost use Rattle.std.specs.Prelude.{◌≡◌, ◌^◌, ◌≤◌};
 ghost use Rattle.lpm_trace.specs.States.{state_after, updates_begun_in};
 ghost use Rattle.shared_words.specs.Initial.{initial_state_of};
-ghost use Rattle.shared_words.specs.Seats.{IsOf};
+ghost use Rattle.shared_words.specs.Seats.{AreLawful, IsOf};
 ghost use Rattle.shared_fib.specs.Lent.{SharedDid, state_of_lent};
 
 use crate::InitialTable;
@@ -58,14 +58,16 @@ impl<'a, const FIRST: u32, const SECOND: u32> SharedMemory<'a, FIRST, SECOND> {
         SharedMemory { table, seat, token }
     }
 
-    /// The seat, which has made the steps of all that was called.
+    /// The seat, which has made the steps of all that was called. They are lawful.
     pub fn done(self) -> &'a mut WriterSeat
         ensures name { result.ghost_name ≡ self.entry.name }
         ensures table { result.now.table ≡ self.entry.table }
         ensures view { result.now.view ≡ self.entry.view }
         ensures token { (state_of_lent self.entry).token ≤ 2 ^ 62 }
         ensures updates { updates_begun_in (state_of_lent self.entry) ≤ 2 ^ 61 }
+        ensures lawful { AreLawful self.entry.view.initial self.entry.view.seen }
     {
+        self.seat.history();
         self.seat
     }
 }

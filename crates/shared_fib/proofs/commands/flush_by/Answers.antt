@@ -1,64 +1,15 @@
-use Rattle.std.proofs.Common.{◌≡◌, refl, rules}
-use Rattle.fib_model.specs.Outcomes.{Flushes}
-use Rattle.lpm_writer.specs.Resting.{state_of}
-use Rattle.shared_words.specs.declared.view.View.{View}
-use Rattle.shared_words.specs.Initial.{initial_state_of}
-use Rattle.shared_fib.specs.Running.{OnlySees, by_steps}
-use Rattle.shared_fib.proofs.Checked.{looked, frees_checked}
-use Rattle.shared_fib.proofs.Freed.{flushes_leave}
-use Rattle.shared_fib.proofs.Later.{steps_go_on, flushes_later}
-use Rattle.shared_fib.proofs.Seated.{by_seat}
+use Rattle.std.proofs.Common.{rules}
+use Rattle.shared_fib.proofs.Leading.{flushed}
 use Rattle.shared_fib.proofs.commands.flush_by.Goals as goal
 
-pub returns-clause-flushes : goal.returns-clause-flushes
-returns-clause-flushes g c =
-    let f = g.row.FIRST in
-    let d = g.row.SECOND in
-    let old = c.args.control.now in
-    let new = c.flush_over-came.new.control in
-    let came = c.flush_over-came.result in
-    let m : View = c.new-memory.result.view in
-    let n : View = c.flush_over-came.new.memory.view in
-    let v : View = c.args.seat.now.view in
-    let w : View = c.seat-1.given.0.view in
-    let before : m ≡ v = search rules in
-    let then : n ≡ w = search rules in
-    by_seat (λ x y. Flushes (by_steps x.initial) f d old.config (state_of old.rules.rules x.seen old.pool old.versions) came
-    (state_of new.rules.rules y.seen new.pool new.versions)) m n v w before then c.flush_over-came.ensures.flushes
-
-pub returns-clause-checked : goal.returns-clause-checked
-unfolding by_steps
-returns-clause-checked g c =
-    let f = g.row.FIRST in
-    let d = g.row.SECOND in
-    let old = c.args.control.now in
-    let new = c.flush_over-came.new.control in
-    let v : View = c.args.seat.now.view in
-    let w : View = c.seat-1.given.0.view in
-    let s = state_of old.rules.rules v.seen old.pool old.versions in
-    let z = state_of new.rules.rules w.seen new.pool new.versions in
-    let came = c.flush_over-came.result in
-    let outcome = returns-clause-flushes g c in
-    let sees : OnlySees v w = search rules in
-    let checked = looked v w sees c.history.ensures.checked in
-    let left = flushes_leave (initial_state_of v.initial) f d old.config s came z outcome in
-    let kept = c.requires.ready.rests.keeps.kept in (
-      left.1,
-      frees_checked v.initial s z _ old.pool.queue.items left.0 left.1 kept.retired refl left.2
-          checked,
-    )
-
-pub returns-clause-later : goal.returns-clause-later
-unfolding by_steps
-returns-clause-later g c =
-    let f = g.row.FIRST in
-    let d = g.row.SECOND in
-    let old = c.args.control.now in
-    let new = c.flush_over-came.new.control in
-    let v : View = c.args.seat.now.view in
-    let w : View = c.seat-1.given.0.view in
-    let s = state_of old.rules.rules v.seen old.pool old.versions in
-    let z = state_of new.rules.rules w.seen new.pool new.versions in
-    let came = c.flush_over-came.result in
-    let outcome = returns-clause-flushes g c in
-    flushes_later (by_steps v.initial) (steps_go_on v.initial.workers v.initial.token) f d old.config s z came outcome
+pub returns : goal.returns
+returns g c =
+    let ran = c.flush_rules-came in
+    let m = c.new-memory in
+    let some = flushed g.row.FIRST g.row.SECOND c.args.control.now ran.new.control c.args.seat.now.view m.result ran.new.memory
+    m.ensures.did c.requires.ready.rests c.args.seat.now.table m.ensures.table m.ensures.view ran.ensures.config
+    c.done.ensures.lawful c.done.ensures.token ran.result ran.ensures.flushes in
+    let name = some.1.name in
+    let seat = some.1.at_seat c.seat-1.given.0.table c.seat-1.given.0.view (search (rules, c.seat-1, name, m.ensures, c.done.ensures))
+    (search (rules, c.seat-1, name, m.ensures, c.done.ensures)) in
+    record { ready = seat.0; leads = (some.0, seat.1) }

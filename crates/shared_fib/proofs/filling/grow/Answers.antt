@@ -3,20 +3,14 @@ use Rattle.shared_fib.proofs.Pairing.{fills_by, put_length, put_twice}
 use Rattle.shared_fib.proofs.filling.grow.Goals as goal
 
 pub overflow_sub-pairs : goal.overflow_sub-pairs
-overflow_sub-pairs c =
-    let first = put_length c.args.list.now c.even_out.new.self c.args.word (length c.args.list.now % 2) c.even_out.ensures in
-    omega (arith, first)
+overflow_sub-pairs c = omega (arith, put_length _ _ _ _ c.even_out.ensures)
 
 pub put_pairs-requires-clause-small : goal.put_pairs-requires-clause-small
-put_pairs-requires-clause-small c =
-    let first = put_length c.args.list.now c.even_out.new.self c.args.word (length c.args.list.now % 2) c.even_out.ensures in
-    omega (arith, first)
+put_pairs-requires-clause-small c = omega (arith, put_length _ _ _ _ c.even_out.ensures)
 
 pub put_last-requires-clause-one : goal.put_last-requires-clause-one
 put_last-requires-clause-one c =
-    let first = put_length c.args.list.now c.even_out.new.self c.args.word (length c.args.list.now % 2) c.even_out.ensures in
-    let second = put_length c.even_out.new.self c.put_pairs.new.self c.args.word (2 * ((c.args.to - c.count.result) / 2)) c.in_ok-put_pairs.ensures in
-    omega (arith, first, second)
+    omega (arith, put_length _ _ _ _ c.even_out.ensures, put_length _ _ _ _ c.in_ok-put_pairs.ensures)
 
 pub returns-clause-fills : goal.returns-clause-fills
 returns-clause-fills c =
@@ -31,7 +25,9 @@ returns-clause-fills c =
 
 pub returns-clause-len : goal.returns-clause-len
 returns-clause-len c =
-    let first = put_length c.args.list.now c.even_out.new.self c.args.word (length c.args.list.now % 2) c.even_out.ensures in
-    let second = put_length c.even_out.new.self c.put_pairs.new.self c.args.word (2 * ((c.args.to - c.count.result) / 2)) c.in_ok-put_pairs.ensures in
-    let third = put_length c.put_pairs.new.self c.put_last.new.self c.args.word (c.args.to - length c.put_pairs.new.self) c.in_ok-put_last.ensures in
-    omega (arith, first, second, third)
+    omega (
+      arith,
+      put_length _ _ _ _ c.even_out.ensures,
+      put_length _ _ _ _ c.in_ok-put_pairs.ensures,
+      put_length _ _ _ _ c.in_ok-put_last.ensures,
+    )

@@ -28,17 +28,13 @@ pub loop-preserved : goal.loop-preserved
 loop-preserved g c =
     let new = c.check_synchronize.new.control in
     let m : Lent = c.args.memory.now in
-    let y : Lent = c.loop.memory in
-    let z : Lent = c.check_synchronize.new.memory in
-    let setup : InitialState = initial_state_of m.view.initial in
     let so_far = c.loop.invariant in
-    let now = c.in-Err.ensures.checks setup y.view.seen so_far.waited.did so_far.waits in
-    let Waits : List WriterStep → Type 0 = λ later. IsWaiting g.row.FIRST g.row.SECOND setup later
-    new.config new.rules new.pool new.versions in
+    let now = c.in-Err.ensures.checks _ _ so_far.waited.did so_far.waits in
     record {
       control = c.in-Err.ensures.stopped ∙ so_far.control;
-      waited = once_more m y z so_far.waited now.0 now.1 c.in-Err.field-0 now.2;
-      waits = outcome_after Waits z setup now.0 now.1 now.4;
+      waited = once_more m c.loop.memory c.check_synchronize.new.memory so_far.waited now.0 now.1 c.in-Err.field-0 now.2;
+      waits = outcome_after (λ later. IsWaiting g.row.FIRST g.row.SECOND (initial_state_of m.view.initial) later
+          new.config new.rules new.pool new.versions) c.check_synchronize.new.memory _ now.0 now.1 now.4;
     }
 
 pub returns-in-Ok : goal.returns-in-Ok

@@ -8,10 +8,14 @@ pub first-requires-clause-index : goal.first-requires-clause-index
 first-requires-clause-index g c =
     let v = c.self.inside.seat.now.view in
     let own = c.self.invariant.0 in
-    let stays = firsts_length (initial_state_of v.initial) v.seen in
-    let len = ap (λ (o : InitialData). length o.firsts) own.opening_is in
-    let is = ap (λ (m : Lent). length (state_of_lent m).words.firsts) c.self.view_is in
-    omega (arith, c.requires, stays, len, is, own.firsts)
+    omega (
+      arith,
+      c.requires,
+      firsts_length (initial_state_of v.initial) v.seen,
+      ap (λ (o : InitialData). length o.firsts) own.opening_is,
+      ap (λ (m : Lent). length (state_of_lent m).words.firsts) c.self.view_is,
+      own.firsts,
+    )
 
 pub returns-clause-value : goal.returns-clause-value
-returns-clause-value g c = search rules
+returns-clause-value c = search rules

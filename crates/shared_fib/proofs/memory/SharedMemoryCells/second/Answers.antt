@@ -8,10 +8,14 @@ pub second-requires-clause-index : goal.second-requires-clause-index
 second-requires-clause-index g c =
     let v = c.self.inside.seat.now.view in
     let own = c.self.invariant.0 in
-    let stays = seconds_length (initial_state_of v.initial) v.seen in
-    let len = ap (λ (o : InitialData). length o.seconds) own.opening_is in
-    let is = ap (λ (m : Lent). length (state_of_lent m).words.seconds) c.self.view_is in
-    omega (arith, c.requires, stays, len, is, own.seconds)
+    omega (
+      arith,
+      c.requires,
+      seconds_length (initial_state_of v.initial) v.seen,
+      ap (λ (o : InitialData). length o.seconds) own.opening_is,
+      ap (λ (m : Lent). length (state_of_lent m).words.seconds) c.self.view_is,
+      own.seconds,
+    )
 
 pub returns-clause-value : goal.returns-clause-value
 returns-clause-value c = search rules

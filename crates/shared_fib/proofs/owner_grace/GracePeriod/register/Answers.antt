@@ -1,14 +1,8 @@
-use Rattle.std.proofs.Common.{rules}
+use Rattle.shared_fib.proofs.Benches.{registers}
 use Rattle.shared_fib.proofs.owner_grace.GracePeriod.register.Goals as goal
 
-pub returns-clause-reader : goal.returns-clause-reader
-returns-clause-reader c = search rules
-
-pub returns-clause-registered : goal.returns-clause-registered
-returns-clause-registered c = search rules
-
-pub returns-clause-no_such_worker : goal.returns-clause-no_such_worker
-returns-clause-no_such_worker c = search rules
-
-pub returns-clause-taken : goal.returns-clause-taken
-returns-clause-taken c = search rules
+pub returns : goal.returns
+returns c =
+    let known = c.register.ensures in
+    registers c.self.inside.period c.self.inside.bench c.register.new.bench c.args.self.now c.self.view_is _ c.args.worker
+    c.register.result c.self.invariant.0 known.reader known.registered known.no_such_worker known.taken known.unchanged known.own

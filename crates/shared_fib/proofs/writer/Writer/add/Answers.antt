@@ -1,31 +1,9 @@
-use Rattle.std.proofs.Common.{ℕ, List, subst}
-use Rattle.fib_model.specs.Outcomes.{Adds}
-use Rattle.lpm_writer.specs.Resting.{state_of}
-use Rattle.shared_words.specs.Rule.{IsLater}
-use Rattle.shared_fib.specs.Freeing.{FreesChecked}
-use Rattle.shared_fib.specs.Running.{Identity, WriterState, steps_of, by_steps}
+use Rattle.shared_fib.specs.Leading.{writer_by}
+use Rattle.shared_fib.proofs.Leading.{told_to}
 use Rattle.shared_fib.proofs.writer.Writer.add.Goals as goal
 
-pub returns-clause-adds : goal.returns-clause-adds
-returns-clause-adds g c =
-    let f = g.row.FIRST in
-    let d = g.row.SECOND in
-    let l = c.add_by.new.control in
-    let z = state_of l.rules.rules c.add_by.new.seat.view.seen l.pool l.versions in
-    subst (λ (id : Identity). Adds (by_steps id.initial) f d c.args.self.now.config c.args.self.now.table
-    c.args.prefix.now c.args.hop c.add_by.result z) c.requires.own
-    (subst (λ (y : WriterState). Adds (by_steps y.identity.initial) f d y.config y.table c.args.prefix.now c.args.hop c.add_by.result z)
-    c.self.view_is c.add_by.ensures.adds)
-
-pub returns-clause-checked : goal.returns-clause-checked
-returns-clause-checked g c =
-    let l = c.add_by.new.control in
-    let z = state_of l.rules.rules c.add_by.new.seat.view.seen l.pool l.versions in
-    subst (λ (id : Identity). (freed : List ℕ) × FreesChecked id.initial c.args.self.now.table z freed)
-    c.requires.own
-    (subst (λ (y : WriterState). (freed : List ℕ) × FreesChecked y.identity.initial y.table z freed)
-    c.self.view_is c.add_by.ensures.checked)
-
-pub returns-clause-later : goal.returns-clause-later
-returns-clause-later g c =
-    subst (λ (y : WriterState). IsLater (steps_of y) c.add_by.new.seat.view.seen) c.self.view_is c.add_by.ensures.later
+pub returns : goal.returns
+returns g c =
+    let led = told_to _ _ (writer_by c.self.inside.seat.table c.self.inside.control c.self.inside.seat.view) c.args.self.now _
+    c.args.table.now c.self.view_is c.requires.own c.add_by.ensures.leads.1 in
+    record { adds = led.outcome.0; least = led.outcome.1; checked = (c.add_by.ensures.leads.0, led.checked); later = led.later; own = led.own; config = led.config }
