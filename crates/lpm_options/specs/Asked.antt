@@ -1,7 +1,7 @@
 -- Meaning: what the matches of a command line ask for (clap 4, "Builder reference":
 -- `ArgMatches`), and why there are none.
 use Rattle.std.specs.Prelude.{◌≡◌, ◌+◌, ◌⊎◌, ◌↔◌, ⊤, ℕ, Bool, IsTrue, List, [], ◌∷◌, ◌++◌, length, All}
-use Rattle.std.specs.Prelude.{Option, Some, codes}
+use Rattle.std.specs.Prelude.{Option, Some, None, codes}
 use Rattle.std.specs.List.{AllZip}
 use Rattle.std.specs.Str.Parse.{IsNumeral, digits_value, without_leading_plus}
 use Rattle.clap.specs.Words.{Row, Text, Kinds, IsAmong, all_of, first_of, one_of, kind_of}
@@ -118,6 +118,12 @@ Asks name rows (Storm routes updates addresses config rounds has_stuck_worker) =
     × HasFlag rows (codes "stuck") has_stuck_worker
 Asks name rows (Migrate old) = (name ≡ codes "migrate")
     × HasFile rows (codes "OLD") old.now
+
+-- what is made of the matches of the command of this name: what they ask for, in its ranges, or nothing
+-- where they ask for nothing
+abbrev pub IsLine : Text → List Row → Option CommandLine → Type 0
+IsLine name rows (Some line) = Asks name rows line × IsInRange line
+IsLine name rows None = (line : CommandLine) → Asks name rows line → ⊥
 
 -- the matches have a command, which asks for this
 abbrev pub IsAskedBy : Option (Text × List Row) → CommandLine → Type 0

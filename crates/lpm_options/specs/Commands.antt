@@ -62,17 +62,11 @@ stuck_rule = flag_rule (codes "stuck")
 abbrev pub with_room : App → App
 with_room app = with_rule (with_rule app rules_rule) groups_rule
 
--- the options that say how much the table holds, and who reads it
-abbrev pub with_sizes : App → App
-with_sizes app = with_rule (with_room app) workers_rule
-
--- the options that say when a change reclaims, and how much
-abbrev pub with_reclaiming : App → App
-with_reclaiming app = with_rule (with_rule app threshold_rule) max_rule
-
--- the options of each command that makes a table
+-- the options of each command that makes a table: how much it holds, who reads it, when a change
+-- reclaims, and how much
 abbrev pub with_limits : App → App
-with_limits app = with_reclaiming (with_sizes app)
+with_limits app =
+    with_rule (with_rule (with_rule (with_room app) workers_rule) threshold_rule) max_rule
 
 -- the command with one file more
 abbrev pub with_file : App → Text → App

@@ -2,9 +2,8 @@
 ghost use Rattle.std.specs.Prelude.{◌≢◌, ◌↔◌, ◌<◌, ◌^◌, ℕ, IsTrue, IfSome, IsNone, codes};
 ghost use Rattle.clap.specs.Words.{Text, rows_of, found_of};
 ghost use Rattle.lpm_limits.specs.Limits.{IsIn};
-ghost use Rattle.lpm_options.specs.Asked.{HasFile, HasNumber, HasFlag, HaveFiles, AreLimits, Asks};
-ghost use Rattle.lpm_options.specs.Asked.{IsInRange, IsStandardInput, AreTwoStandardInputs};
-ghost use Rattle.lpm_options.specs.Asked.{HasTwoStandardInputs};
+ghost use Rattle.lpm_options.specs.Asked.{HasFile, HasNumber, HasFlag, HaveFiles, AreLimits, IsLine};
+ghost use Rattle.lpm_options.specs.Asked.{IsStandardInput, AreTwoStandardInputs, HasTwoStandardInputs};
 
 use crate::CommandLine;
 use crate::commands::{ROUNDS, WORKERS};
@@ -14,10 +13,7 @@ use lpm_limits::{Config, Range};
 /// What the matches of the command of this name ask for, which isn't `explain`.
 pub(crate) fn command_line<'a>(name: &'a str, found: &ArgMatches<'a>) -> Option<CommandLine<'a>>
     requires { name.now ≢ codes "explain" }
-    ensures asked { IfSome result (Asks name.entry.now (rows_of (found_of found.now))) }
-    ensures in_range { IfSome result IsInRange }
-    ensures none { IsNone result → (line : CommandLine)
-        → Asks name.entry.now (rows_of (found_of found.now)) line → ⊥ }
+    ensures { IsLine name.entry.now (rows_of (found_of found.now)) result }
 {
     if name == "lookup" {
         return lookup_line(found);
@@ -38,10 +34,7 @@ pub(crate) fn command_line<'a>(name: &'a str, found: &ArgMatches<'a>) -> Option<
 }
 
 fn lookup_line<'a>(found: &ArgMatches<'a>) -> Option<CommandLine<'a>>
-    ensures asked { IfSome result (Asks (codes "lookup") (rows_of (found_of found.now))) }
-    ensures in_range { IfSome result IsInRange }
-    ensures none { IsNone result → (line : CommandLine)
-        → Asks (codes "lookup") (rows_of (found_of found.now)) line → ⊥ }
+    ensures { IsLine (codes "lookup") (rows_of (found_of found.now)) result }
 {
     let routes = path_of(found, "ROUTES")?;
     let addresses = path_of(found, "ADDRESSES")?;
@@ -54,10 +47,7 @@ fn lookup_line<'a>(found: &ArgMatches<'a>) -> Option<CommandLine<'a>>
 }
 
 fn apply_line<'a>(found: &ArgMatches<'a>) -> Option<CommandLine<'a>>
-    ensures asked { IfSome result (Asks (codes "apply") (rows_of (found_of found.now))) }
-    ensures in_range { IfSome result IsInRange }
-    ensures none { IsNone result → (line : CommandLine)
-        → Asks (codes "apply") (rows_of (found_of found.now)) line → ⊥ }
+    ensures { IsLine (codes "apply") (rows_of (found_of found.now)) result }
 {
     let (routes, updates, addresses) = files_of(found)?;
     let config = config_of(found)?;
@@ -70,10 +60,7 @@ fn apply_line<'a>(found: &ArgMatches<'a>) -> Option<CommandLine<'a>>
 }
 
 fn report_line<'a>(found: &ArgMatches<'a>) -> Option<CommandLine<'a>>
-    ensures asked { IfSome result (Asks (codes "report") (rows_of (found_of found.now))) }
-    ensures in_range { IfSome result IsInRange }
-    ensures none { IsNone result → (line : CommandLine)
-        → Asks (codes "report") (rows_of (found_of found.now)) line → ⊥ }
+    ensures { IsLine (codes "report") (rows_of (found_of found.now)) result }
 {
     let routes = path_of(found, "ROUTES")?;
     let updates = path_of(found, "UPDATES")?;
@@ -86,10 +73,7 @@ fn report_line<'a>(found: &ArgMatches<'a>) -> Option<CommandLine<'a>>
 }
 
 fn storm_line<'a>(found: &ArgMatches<'a>) -> Option<CommandLine<'a>>
-    ensures asked { IfSome result (Asks (codes "storm") (rows_of (found_of found.now))) }
-    ensures in_range { IfSome result IsInRange }
-    ensures none { IsNone result → (line : CommandLine)
-        → Asks (codes "storm") (rows_of (found_of found.now)) line → ⊥ }
+    ensures { IsLine (codes "storm") (rows_of (found_of found.now)) result }
 {
     let (routes, updates, addresses) = files_of(found)?;
     let config = config_of(found)?;
@@ -105,10 +89,7 @@ fn storm_line<'a>(found: &ArgMatches<'a>) -> Option<CommandLine<'a>>
 }
 
 fn migrate_line<'a>(found: &ArgMatches<'a>) -> Option<CommandLine<'a>>
-    ensures asked { IfSome result (Asks (codes "migrate") (rows_of (found_of found.now))) }
-    ensures in_range { IfSome result IsInRange }
-    ensures none { IsNone result → (line : CommandLine)
-        → Asks (codes "migrate") (rows_of (found_of found.now)) line → ⊥ }
+    ensures { IsLine (codes "migrate") (rows_of (found_of found.now)) result }
 {
     let old = path_of(found, "OLD")?;
     Some(CommandLine::Migrate { old })

@@ -1,11 +1,11 @@
 //! The commands of the program and their options, as the parser reads them.
 ghost use Rattle.std.specs.Prelude.{◌≡◌, IfOk, codes, true, false};
-ghost use Rattle.clap.specs.Words.{App, app_of, rule_of, new_app, with_rule};
+ghost use Rattle.clap.specs.Words.{App, Rule, app_of, rule_of, new_app, with_rule};
 ghost use Rattle.lpm_options.specs.Commands.{file_rule, number_rule, flag_rule, program_app};
 ghost use Rattle.lpm_options.specs.Commands.{with_command, with_file};
 ghost use Rattle.lpm_options.specs.Commands.{lookup_app, explain_app, apply_app, report_app, storm_app};
 ghost use Rattle.lpm_options.specs.Commands.{migrate_app, addresses_rule};
-ghost use Rattle.lpm_options.specs.Commands.{with_limits, with_room, with_sizes, with_reclaiming, the_app};
+ghost use Rattle.lpm_options.specs.Commands.{with_limits, with_room, the_app};
 
 use crate::help;
 use clap::builder::ValueParser;
@@ -71,16 +71,17 @@ fn lookup_command<'a>(alloc: Global) -> Made<'a>
     ensures { IfOk result (λ c. app_of c ≡ lookup_app) }
 {
     let made = bare_command(alloc, "lookup", help::LOOKUP, help::AFTER_LOOKUP);
-    let made = with_file(alloc, Ok(made), "ROUTES", help::ROUTES);
-    with_last_file(alloc, made, "ADDRESSES", help::ADDRESSES)
+    let made = with_arg(made, file(alloc, "ROUTES", help::ROUTES));
+    let made = with_arg(made, file(alloc, "ADDRESSES", help::ADDRESSES));
+    with_limits(alloc, made)
 }
 
 fn explain_command<'a>(alloc: Global) -> Made<'a>
     ensures { IfOk result (λ c. app_of c ≡ explain_app) }
 {
     let made = bare_command(alloc, "explain", help::EXPLAIN, help::AFTER_EXPLAIN);
-    let made = with_file(alloc, Ok(made), "ROUTES", help::ROUTES);
-    let made = with_addresses(alloc, made);
+    let made = with_arg(made, file(alloc, "ROUTES", help::ROUTES));
+    let made = with_arg(made, addresses(alloc));
     with_room(alloc, made)
 }
 
@@ -88,14 +89,14 @@ fn apply_command<'a>(alloc: Global) -> Made<'a>
     ensures { IfOk result (λ c. app_of c ≡ apply_app) }
 {
     let made = bare_command(alloc, "apply", help::APPLY, help::AFTER_APPLY);
-    with_three_files(alloc, Ok(made))
+    with_three_files(alloc, made)
 }
 
 fn report_command<'a>(alloc: Global) -> Made<'a>
     ensures { IfOk result (λ c. app_of c ≡ report_app) }
 {
     let made = bare_command(alloc, "report", help::REPORT, help::AFTER_REPORT);
-    let made = with_routes_and_updates(alloc, Ok(made));
+    let made = with_routes_and_updates(alloc, made);
     with_limits(alloc, made)
 }
 
@@ -103,41 +104,36 @@ fn storm_command<'a>(alloc: Global) -> Made<'a>
     ensures { IfOk result (λ c. app_of c ≡ storm_app) }
 {
     let made = bare_command(alloc, "storm", help::STORM, help::AFTER_STORM);
-    let made = with_three_files(alloc, Ok(made));
-    let made = with_number(alloc, made, "rounds", ROUNDS, "1", help::ROUNDS);
-    with_flag(alloc, made, "stuck", help::STUCK)
+    let made = with_three_files(alloc, made);
+    let made = with_arg(made, number(alloc, "rounds", ROUNDS, "1", help::ROUNDS));
+    with_arg(made, flag(alloc, "stuck", help::STUCK))
 }
 
 fn migrate_command<'a>(alloc: Global) -> Made<'a>
     ensures { IfOk result (λ c. app_of c ≡ migrate_app) }
 {
     let made = bare_command(alloc, "migrate", help::MIGRATE, help::AFTER_MIGRATE);
-    with_file(alloc, Ok(made), "OLD", help::OLD)
+    with_arg(made, file(alloc, "OLD", help::OLD))
 }
 
 // A command of this name without arguments, and its texts of help.
-fn bare_command<'a>(alloc: Global, name: &'a str, about: &'a str, after: &'a str) -> Command<'a>
-    ensures { app_of result ≡ new_app name.entry.now }
+fn bare_command<'a>(alloc: Global, name: &'a str, about: &'a str, after: &'a str) -> Made<'a>
+    ensures { IfOk result (λ c. app_of c ≡ new_app name.entry.now) }
 {
-    Command::new(alloc, name)
-        .about(about)
-        .after_long_help(after)
+    Ok(
+        Command::new(alloc, name)
+            .about(about)
+            .after_long_help(after),
+    )
 }
 
-// The command with one file more.
-fn with_file<'a>(alloc: Global, made: Made<'a>, id: &'a str, help: &'a str) -> Made<'a>
-    ensures { (app : App) → IfOk made.entry (λ c. app_of c ≡ app)
-        → IfOk result (λ c. app_of c ≡ with_file app id.entry.now) }
+// The command with one argument more.
+fn with_arg<'a>(made: Made<'a>, arg: Arg<'a>) -> Made<'a>
+    requires { arg.global ≡ false }
+    ensures { (app : App) (rule : Rule) → IfOk made.entry (λ c. app_of c ≡ app)
+        → rule_of arg.entry ≡ rule → IfOk result (λ c. app_of c ≡ with_rule app rule) }
 {
-    made?.arg(file(alloc, id, help))
-}
-
-// The command with addresses as words, at least one.
-fn with_addresses<'a>(alloc: Global, made: Made<'a>) -> Made<'a>
-    ensures { (app : App) → IfOk made.entry (λ c. app_of c ≡ app)
-        → IfOk result (λ c. app_of c ≡ with_rule app addresses_rule) }
-{
-    made?.arg(addresses(alloc))
+    made?.arg(arg)
 }
 
 fn with_routes_and_updates<'a>(alloc: Global, made: Made<'a>) -> Made<'a>
@@ -145,8 +141,8 @@ fn with_routes_and_updates<'a>(alloc: Global, made: Made<'a>) -> Made<'a>
         → IfOk result (λ c. app_of c ≡ with_file (with_file app (codes "ROUTES"))
         (codes "UPDATES")) }
 {
-    let made = with_file(alloc, made, "ROUTES", help::ROUTES);
-    with_file(alloc, made, "UPDATES", help::UPDATES)
+    let made = with_arg(made, file(alloc, "ROUTES", help::ROUTES));
+    with_arg(made, file(alloc, "UPDATES", help::UPDATES))
 }
 
 // The command with a route file, an update file and an address file, and with the options of each
@@ -157,25 +153,24 @@ fn with_three_files<'a>(alloc: Global, made: Made<'a>) -> Made<'a>
         (codes "ROUTES")) (codes "UPDATES")) (codes "ADDRESSES"))) }
 {
     let made = with_routes_and_updates(alloc, made);
-    with_last_file(alloc, made, "ADDRESSES", help::ADDRESSES)
-}
-
-// The command with its last file, and with the options of each command that makes a table.
-fn with_last_file<'a>(alloc: Global, made: Made<'a>, id: &'a str, help: &'a str) -> Made<'a>
-    ensures { (app : App) → IfOk made.entry (λ c. app_of c ≡ app)
-        → IfOk result (λ c. app_of c ≡ with_limits (with_file app id.entry.now)) }
-{
-    let made = with_file(alloc, made, id, help);
+    let made = with_arg(made, file(alloc, "ADDRESSES", help::ADDRESSES));
     with_limits(alloc, made)
 }
 
-// The options of each command that makes a table.
+// The options of each command that makes a table: how much it holds, who reads it, when a change
+// reclaims, and how much.
 fn with_limits<'a>(alloc: Global, made: Made<'a>) -> Made<'a>
     ensures { (app : App) → IfOk made.entry (λ c. app_of c ≡ app)
         → IfOk result (λ c. app_of c ≡ with_limits app) }
 {
-    let made = with_sizes(alloc, made);
-    with_reclaiming(alloc, made)
+    let made = with_room(alloc, made);
+    let made = with_arg(made, number(alloc, "workers", WORKERS, "1", help::WORKERS));
+    let threshold = number(alloc, "threshold", Config::THRESHOLD, "32", help::THRESHOLD);
+    let made = with_arg(made, threshold);
+    with_arg(
+        made,
+        number(alloc, "max", Config::RECLAIM_MAX, "16", help::MAX),
+    )
 }
 
 // The options that say how much the table holds.
@@ -183,57 +178,14 @@ fn with_room<'a>(alloc: Global, made: Made<'a>) -> Made<'a>
     ensures { (app : App) → IfOk made.entry (λ c. app_of c ≡ app)
         → IfOk result (λ c. app_of c ≡ with_room app) }
 {
-    let made = with_number(alloc, made, "rules", Config::RULES, "1048576", help::RULES);
-    with_number(alloc, made, "groups", Config::GROUPS, "256", help::GROUPS)
-}
-
-// The options that say how much the table holds, and who reads it.
-fn with_sizes<'a>(alloc: Global, made: Made<'a>) -> Made<'a>
-    ensures { (app : App) → IfOk made.entry (λ c. app_of c ≡ app)
-        → IfOk result (λ c. app_of c ≡ with_sizes app) }
-{
-    let made = with_room(alloc, made);
-    with_number(alloc, made, "workers", WORKERS, "1", help::WORKERS)
-}
-
-// The options that say when a change reclaims, and how much.
-fn with_reclaiming<'a>(alloc: Global, made: Made<'a>) -> Made<'a>
-    ensures { (app : App) → IfOk made.entry (λ c. app_of c ≡ app)
-        → IfOk result (λ c. app_of c ≡ with_reclaiming app) }
-{
-    let made = with_number(
-        alloc,
+    let made = with_arg(
         made,
-        "threshold",
-        Config::THRESHOLD,
-        "32",
-        help::THRESHOLD,
+        number(alloc, "rules", Config::RULES, "1048576", help::RULES),
     );
-    with_number(alloc, made, "max", Config::RECLAIM_MAX, "16", help::MAX)
-}
-
-// The command with one option more, which takes a number of the range.
-fn with_number<'a>(
-    alloc: Global,
-    made: Made<'a>,
-    id: &'a str,
-    range: Range,
-    default: &'a str,
-    help: &'a str,
-) -> Made<'a>
-    ensures { (app : App) → IfOk made.entry (λ c. app_of c ≡ app)
-        → IfOk result (λ c. app_of c ≡ with_rule app
-        (number_rule id.entry.now range default.entry.now)) }
-{
-    made?.arg(number(alloc, id, range, default, help))
-}
-
-// The command with one flag more.
-fn with_flag<'a>(alloc: Global, made: Made<'a>, id: &'a str, help: &'a str) -> Made<'a>
-    ensures { (app : App) → IfOk made.entry (λ c. app_of c ≡ app)
-        → IfOk result (λ c. app_of c ≡ with_rule app (flag_rule id.entry.now)) }
-{
-    made?.arg(flag(alloc, id, help))
+    with_arg(
+        made,
+        number(alloc, "groups", Config::GROUPS, "256", help::GROUPS),
+    )
 }
 
 // A file that the command wants, named by its place among the words.

@@ -1,8 +1,8 @@
-use Rattle.std.proofs.Common.{◌≡◌, ◌∙◌, ap, sym, subst, refl, arith, ℕ, ◌+◌, ◌*◌, ◌<◌, ◌^◌, List, [], ◌∷◌}
+use Rattle.std.proofs.Common.{◌≡◌, ◌∙◌, ap, sym, subst, refl, arith, ℕ, ◌+◌, ◌*◌, List, [], ◌∷◌}
 use Rattle.std.specs.Int.{w32, from_be_bytes}
 use Rattle.std.specs.declared.net.ipv4_addr.Ipv4Addr.{Ipv4Addr}
-use Rattle.std.specs.Net.Addr.{ipv4_bits, ipv4_octets}
-use Rattle.std.specs.Net.Grammar.{IsDotted, IsIpv4Text}
+use Rattle.std.specs.Net.Addr.{ipv4_bits}
+use Rattle.std.specs.Net.Grammar.{IsIpv4Text}
 use Rattle.route_text.specs.Fields.{IsAddress}
 use Rattle.lpm_options.proofs.explain.address_of.Goals as goal
 

@@ -1,6 +1,0 @@
-use Rattle.std.specs.Fmt.{digits}
-use Rattle.lpm_options.proofs.commands.with_reclaiming.Goals as goal
-
-pub returns : goal.returns
-unfolding digits
-returns c = λ app made. c.with_number.ensures _ (c.with_number-made.ensures app made)
