@@ -40,10 +40,6 @@ module _ {Item : Type 0} (Spells : ℕ → List (List ℕ) → Item → Type 0) 
       let rec = add_all (n + 1) xs ys i.1 b i.3 (subst (λ m. AreItems Spells m ys b) e more) in
       (i.0, i.1 ++ b, i.2, rec, ap (λ (t : List Item). t ++ b) i.4 ∙ append_assoc i.0 i.1 b)
 
-  -- no line was read yet
-  pub takes_none : (n : ℕ) (bytes : List ℕ) (items : List Item) → SaysItems Spells n bytes items items 0 bytes
-  takes_none n bytes items = record { done = []; more = []; split = refl; counted = refl; good = refl; grown = sym (append-nil items) }
-
   -- one more line
   pub takes_one : (HasFault : List (List ℕ) → FaultKind → Type 0) (n : ℕ) (bytes : List ℕ) (before after next : List Item) (count : ℕ) (rest last : List ℕ) (item : Item)
       → SaysItems Spells n bytes before after count rest → SaysFirst Spells HasFault (n + count) rest (said.Item item) last → next ≡ after ++ item ∷ []

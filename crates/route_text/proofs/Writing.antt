@@ -19,90 +19,42 @@ use Rattle.route_text.specs.Values.{IsSound}
 use Rattle.route_text.proofs.FirstLine.{IsWritten, nil_lines, line_first}
 use Rattle.route_text.proofs.Plain.{IsPlain, plain_append, plain_decimal, plain_address, written_plain, written_append, one_field, field_before, prefix_of}
 
--- one more line is written
-next_update : (o : Order 24 8) (os : List (Order 24 8)) → lines_of_updates (o ∷ os) ≡ update_line o ++ lines_of_updates os
+pub next_update : (o : Order 24 8) (os : List (Order 24 8)) → lines_of_updates (o ∷ os) ≡ update_line o ++ lines_of_updates os
 unfolding lines_of_updates
 next_update o os = refl
 
-no_updates : lines_of_updates [] ≡ []
+pub no_updates : lines_of_updates [] ≡ []
 unfolding lines_of_updates
 no_updates = refl
 
-pub more_updates : (os : List (Order 24 8)) (i : ℕ) (d : Order 24 8) → i < length os → lines_of_updates (drop i os) ≡ update_line (get_or os i d) ++ lines_of_updates (drop (i + 1) os)
-more_updates os i d lt =
-    ap lines_of_updates (drop-cons os i d lt) ∙ (next_update (get_or os i d) (drop (suc i) os)
-    ∙ ap (λ n. update_line (get_or os i d) ++ lines_of_updates (drop n os)) (sym (add-one i)))
-
-pub all_updates : (os : List (Order 24 8)) (i : ℕ) → length os ≤ i → lines_of_updates (drop i os) ≡ []
-all_updates os i le = ap lines_of_updates (drop_all i os le) ∙ no_updates
-
-next_outcome : (o : Outcome) (os : List Outcome) → outcome_lines (o ∷ os) ≡ outcome_line o ++ outcome_lines os
+pub next_outcome : (o : Outcome) (os : List Outcome) → outcome_lines (o ∷ os) ≡ outcome_line o ++ outcome_lines os
 unfolding outcome_lines
 next_outcome o os = refl
 
-no_outcomes : outcome_lines [] ≡ []
+pub no_outcomes : outcome_lines [] ≡ []
 unfolding outcome_lines
 no_outcomes = refl
 
-pub more_outcomes : (os : List Outcome) (i : ℕ) (d : Outcome) → i < length os → outcome_lines (drop i os) ≡ outcome_line (get_or os i d) ++ outcome_lines (drop (i + 1) os)
-more_outcomes os i d lt =
-    ap outcome_lines (drop-cons os i d lt) ∙ (next_outcome (get_or os i d) (drop (suc i) os)
-    ∙ ap (λ n. outcome_line (get_or os i d) ++ outcome_lines (drop n os)) (sym (add-one i)))
+-- bytes past this one, as a test
+abbrev all_past : ℕ → List ℕ → Bool
+all_past n [] = true
+all_past n (b ∷ bs) = nat_lt n b && all_past n bs
 
-pub all_outcomes : (os : List Outcome) (i : ℕ) → length os ≤ i → outcome_lines (drop i os) ≡ []
-all_outcomes os i le = ap outcome_lines (drop_all i os le) ∙ no_outcomes
-
--- a list of items before what is to come: one more piece
-pub step_on : (text more piece rest here all : List ℕ) → more ≡ text ++ piece → here ≡ piece ++ rest → text ++ here ≡ all → more ++ rest ≡ all
-step_on text more piece rest here all grown split whole =
-    ap (λ t. t ++ rest) grown ∙ (append_assoc text piece rest ∙ (ap (λ t. text ++ t) (sym split) ∙ whole))
-
-pub at_end : (text here all : List ℕ) → here ≡ [] → text ++ here ≡ all → text ≡ all
-at_end text here all none whole = sym (append-nil text) ∙ (ap (λ t. text ++ t) (sym none) ∙ whole)
-
--- no byte below the space, as a test
-abbrev all_written : List ℕ → Bool
-all_written [] = true
-all_written (b ∷ bs) = nat_lt 31 b && all_written bs
-
-no_lower : (bs : List ℕ) → all_written bs ≡ true → IsWritten bs
+no_lower : (bs : List ℕ) → all_past 31 bs ≡ true → IsWritten bs
 no_lower [] e = tt
-no_lower (b ∷ bs) e = let both = and_parts (nat_lt 31 b) (all_written bs) e in (ltb-true 31 b both.0, no_lower bs both.1)
+no_lower (b ∷ bs) e = let both = and_parts (nat_lt 31 b) (all_past 31 bs) e in (ltb-true 31 b both.0, no_lower bs both.1)
 
--- bytes past the space, as a test
-abbrev all_plain : List ℕ → Bool
-all_plain [] = true
-all_plain (b ∷ bs) = nat_lt 32 b && all_plain bs
-
-past_space : (bs : List ℕ) → all_plain bs ≡ true → IsPlain bs
+past_space : (bs : List ℕ) → all_past 32 bs ≡ true → IsPlain bs
 past_space [] e = tt
-past_space (b ∷ bs) e = let both = and_parts (nat_lt 32 b) (all_plain bs) e in (ltb-true 32 b both.0, past_space bs both.1)
+past_space (b ∷ bs) e = let both = and_parts (nat_lt 32 b) (all_past 32 bs) e in (ltb-true 32 b both.0, past_space bs both.1)
 
 -- a word that a line begins with
 record IsWord (word : List ℕ) : Type 0 where
   pub plain : IsPlain word
   pub some : 0 < length word
 
-add_word : IsWord (codes "add")
-add_word = record { plain = past_space (codes "add") refl; some = omega arith }
-
-del_word : IsWord (codes "del")
-del_word = record { plain = past_space (codes "del") refl; some = omega arith }
-
-flush_word : IsWord (codes "flush")
-flush_word = record { plain = past_space (codes "flush") refl; some = omega arith }
-
-reclaim_word : IsWord (codes "reclaim")
-reclaim_word = record { plain = past_space (codes "reclaim") refl; some = omega arith }
-
-online_word : IsWord (codes "online")
-online_word = record { plain = past_space (codes "online") refl; some = omega arith }
-
-offline_word : IsWord (codes "offline")
-offline_word = record { plain = past_space (codes "offline") refl; some = omega arith }
-
-quiescent_word : IsWord (codes "quiescent")
-quiescent_word = record { plain = past_space (codes "quiescent") refl; some = omega arith }
+is_word : (word : List ℕ) → all_past 32 word ≡ true → 0 < length word → IsWord word
+is_word word past some = record { plain = past_space word past; some = some }
 
 -- an address in four octets
 pub address_of : (addr : ℕ) → addr < 2 ^ 32 → IsAddress (address_text addr) addr
@@ -179,19 +131,21 @@ line_of : (n : ℕ) (o : Order 24 8) → IsSound o → IsCountInRange o → IsLi
 line_of n (orders.Add prefix hop) sound fine =
     let regroup : addition_text prefix hop ≡ codes "add" ++ 32 ∷ (prefix_text prefix ++ 32 ∷ decimal hop) = ap (λ t. 97 ∷ 100 ∷ 100 ∷ 32 ∷ t) (append_assoc (prefix_text prefix) (32 ∷ []) (decimal hop)) in
     let fits : hop < 2 ^ 64 = omega (arith, sound.1) in
-    subst (λ t. IsLineOf n t (orders.Add prefix hop)) (sym regroup) (line_of_two n (codes "add") add_word (prefix_text prefix) (decimal hop) (plain_prefix prefix sound.0) (some_prefix prefix sound.0) (plain_decimal hop fits) (decimal_nonempty hop fits) (orders.Add prefix hop) (
+    subst (λ t. IsLineOf n t (orders.Add prefix hop)) (sym regroup) (line_of_two n (codes "add") (is_word (codes "add") refl (omega arith)) (prefix_text prefix) (decimal hop) (plain_prefix prefix sound.0) (some_prefix prefix sound.0) (plain_decimal hop fits) (decimal_nonempty hop fits) (orders.Add prefix hop) (
       λ skipped. absurd (omega (arith, skipped)),
       (refl, (refl, spelled_prefix prefix sound.0, record { small = omega (arith, sound.1); spelled = refl })),
     ))
-line_of n (orders.Del prefix) sound fine = line_of_one n (codes "del") del_word (prefix_text prefix) (plain_prefix prefix sound) (some_prefix prefix sound) (orders.Del prefix) (λ skipped. absurd (omega (arith, skipped)), (refl, spelled_prefix prefix sound))
-line_of n orders.Flush sound fine = record {
-  written = written_plain (codes "flush") flush_word.plain;
-  stands = subst (λ fs. StandsFor SpellsUpdate n fs (orders.Flush ∷ [])) (sym (one_field (codes "flush") flush_word.plain flush_word.some)) (λ skipped. absurd (omega (arith, skipped)), (refl, refl));
-}
-line_of n (orders.Reclaim count) sound fine = number_line n count (omega (arith, fine)) (codes "reclaim") reclaim_word (orders.Reclaim count) (λ skipped. absurd (omega (arith, skipped)), (refl, is_number n count (omega (arith, fine)) 65536 fine))
-line_of n (orders.Online worker) sound fine = number_line n worker sound (codes "online") online_word (orders.Online worker) (λ skipped. absurd (omega (arith, skipped)), (refl, is_number n worker sound 4294967295 (omega (arith, sound))))
-line_of n (orders.Offline worker) sound fine = number_line n worker sound (codes "offline") offline_word (orders.Offline worker) (λ skipped. absurd (omega (arith, skipped)), (refl, is_number n worker sound 4294967295 (omega (arith, sound))))
-line_of n (orders.Quiescent worker) sound fine = number_line n worker sound (codes "quiescent") quiescent_word (orders.Quiescent worker) (λ skipped. absurd (omega (arith, skipped)), (refl, is_number n worker sound 4294967295 (omega (arith, sound))))
+line_of n (orders.Del prefix) sound fine = line_of_one n (codes "del") (is_word (codes "del") refl (omega arith)) (prefix_text prefix) (plain_prefix prefix sound) (some_prefix prefix sound) (orders.Del prefix) (λ skipped. absurd (omega (arith, skipped)), (refl, spelled_prefix prefix sound))
+line_of n orders.Flush sound fine =
+    let plain = past_space (codes "flush") refl in
+    record {
+      written = written_plain (codes "flush") plain;
+      stands = subst (λ fs. StandsFor SpellsUpdate n fs (orders.Flush ∷ [])) (sym (one_field (codes "flush") plain (omega arith))) (λ skipped. absurd (omega (arith, skipped)), (refl, refl));
+    }
+line_of n (orders.Reclaim count) sound fine = number_line n count (omega (arith, fine)) (codes "reclaim") (is_word (codes "reclaim") refl (omega arith)) (orders.Reclaim count) (λ skipped. absurd (omega (arith, skipped)), (refl, is_number n count (omega (arith, fine)) 65536 fine))
+line_of n (orders.Online worker) sound fine = number_line n worker sound (codes "online") (is_word (codes "online") refl (omega arith)) (orders.Online worker) (λ skipped. absurd (omega (arith, skipped)), (refl, is_number n worker sound 4294967295 (omega (arith, sound))))
+line_of n (orders.Offline worker) sound fine = number_line n worker sound (codes "offline") (is_word (codes "offline") refl (omega arith)) (orders.Offline worker) (λ skipped. absurd (omega (arith, skipped)), (refl, is_number n worker sound 4294967295 (omega (arith, sound))))
+line_of n (orders.Quiescent worker) sound fine = number_line n worker sound (codes "quiescent") (is_word (codes "quiescent") refl (omega arith)) (orders.Quiescent worker) (λ skipped. absurd (omega (arith, skipped)), (refl, is_number n worker sound 4294967295 (omega (arith, sound))))
 
 -- the lines of updates are items, one each
 items_of : (n : ℕ) (os : List (Order 24 8)) → All IsSound os → All IsCountInRange os → AreItems SpellsUpdate n (lines (lines_of_updates os)) os

@@ -5,28 +5,28 @@ use Rattle.route_text.specs.Texts.{update_line, lines_of_updates, update_lines}
 use Rattle.route_text.specs.Updates.{AreUpdates, IsCountInRange}
 use Rattle.route_text.specs.Values.{IsSound}
 use Rattle.route_text.proofs.UpdateGrammar.{one_file}
-use Rattle.route_text.proofs.Writing.{more_updates, all_updates, step_on, at_end, read_back}
+use Rattle.route_text.proofs.Listing.{step_on, at_end}
+use Rattle.route_text.proofs.Writing.{next_update, no_updates, read_back}
 use Rattle.route_text.proofs.update_text.updates_text.Goals as goal
 
 -- the text is written to its end
 is_read : (text : List ℕ) (os : List (Order 24 8)) (i : ℕ) → length os ≤ i → text ++ lines_of_updates (drop i os) ≡ update_lines os → All IsSound (take i os) → All IsCountInRange os → AreUpdates text os
 is_read text os i le written sound fine =
-    let whole : text ≡ update_lines os = at_end text _ _ (all_updates os i le) written in
+    let whole : text ≡ update_lines os = at_end update_line lines_of_updates next_update no_updates os i text _ le written in
     subst (λ t. AreUpdates t os) (sym whole) (read_back os (subst (All IsSound) (take_all i os le) sound) fine)
 
 pub loop-order-preserved : goal.loop-order-preserved
 loop-order-preserved c =
-    let i = c.loop-order.order-index in
     let os = c.args.orders.now in
+    let i = c.loop-order.order-index in
     let o = c.order-item.result in
-    let split = more_updates os i o (omega arith) ∙ ap (λ x. update_line x ++ lines_of_updates (drop (i + 1) os)) (sym c.order-item.is) in
     record {
-      written = step_on c.loop-order.text.items c.put_line.new.text.items (update_line o) _ _ _ c.in_ok-put_line.ensures.written split c.loop-order.invariant.written;
+      written = step_on update_line lines_of_updates next_update no_updates os i o c.loop-order.text.items c.put_line.new.text.items _ (omega arith) c.order-item.is c.in_ok-put_line.ensures.written c.loop-order.invariant.written;
       sound = All-more IsSound os i o (omega arith) c.loop-order.invariant.sound (subst IsSound c.order-item.is c.in_ok-put_line.ensures.sound);
     }
 
 pub returns-clause-text : goal.returns-clause-text
-returns-clause-text c = at_end c.loop-order.text.items _ _ (all_updates c.args.orders.now c.loop-order.order-index (omega arith)) c.loop-order.invariant.written
+returns-clause-text c = at_end update_line lines_of_updates next_update no_updates c.args.orders.now c.loop-order.order-index c.loop-order.text.items _ (omega arith) c.loop-order.invariant.written
 
 pub returns-clause-reads_back : goal.returns-clause-reads_back
 returns-clause-reads_back c = is_read c.loop-order.text.items c.args.orders.now c.loop-order.order-index (omega arith) c.loop-order.invariant.written c.loop-order.invariant.sound c.requires
