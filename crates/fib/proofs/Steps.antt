@@ -58,28 +58,19 @@ module _ (first second : ℕ) (c : InitialState) where
 
   -- a step that starts no token and loads no counter
   abbrev Leaves : WriterStep → Type 0
-  Leaves (StoreFirst i w) = Unit {0}
-  Leaves (StoreSecond j w) = Unit {0}
-  Leaves (BeginUpdate change) = Unit {0}
-  Leaves EndUpdate = Unit {0}
   Leaves BumpToken = ⊥
   Leaves (LoadCounter token worker counter) = ⊥
+  Leaves s = Unit {0}
 
   leaves_token : (s : WriterStep) (steps : List WriterStep) → Leaves s → ((state_after c (s ∷ steps)).token ≡ (state_after c steps).token) × ((state_after c (s ∷ steps)).passed ≡ (state_after c steps).passed)
-  leaves_token (StoreFirst i w) steps h = (refl, refl)
-  leaves_token (StoreSecond j w) steps h = (refl, refl)
-  leaves_token (BeginUpdate change) steps h = (refl, refl)
-  leaves_token EndUpdate steps h = (refl, refl)
   leaves_token BumpToken steps h = absurd h
   leaves_token (LoadCounter token worker counter) steps h = absurd h
+  leaves_token s steps h = (refl, refl)
 
   leaves_domain : (m z : Memory) (s : WriterStep) → Leaves s → does m s z → z.domain ≡ m.domain
-  leaves_domain m z (StoreFirst i w) h d = d.reports
-  leaves_domain m z (StoreSecond j w) h d = d.reports
-  leaves_domain m z (BeginUpdate change) h d = d.reports
-  leaves_domain m z EndUpdate h d = d.reports
   leaves_domain m z BumpToken h d = absurd h
   leaves_domain m z (LoadCounter token worker counter) h d = absurd h
+  leaves_domain m z s h d = d.reports
 
   stays : (x z : Traced Memory) (r : Registry) (s : WriterStep) → Leaves s → Shows x r → Goes does x s z → Shows z r
   stays x z r s h k goes =
@@ -104,10 +95,7 @@ module _ (first second : ℕ) (c : InitialState) where
   plain_leaves : (x : Traced Memory) (s : WriterStep) → UnlinksNone (state_after c x.1) s → Leaves s
   plain_leaves x (StoreFirst i w) h = tt
   plain_leaves x (StoreSecond j w) h = tt
-  plain_leaves x (BeginUpdate change) h = absurd h
-  plain_leaves x EndUpdate h = absurd h
-  plain_leaves x BumpToken h = absurd h
-  plain_leaves x (LoadCounter token worker counter) h = absurd h
+  plain_leaves x s h = absurd h
 
   stored : (n : ℕ) (x z : Traced Memory) (r : Registry) → Shows x r → Stores does c n x z → Shows z r
   stored zero x z r k h = subst (λ y. Shows y r) (sym h) k
@@ -222,10 +210,6 @@ module _ (first second : ℕ) (c : InitialState) where
 -- no token has passed that wasn't started
 pub passed_within : (c : InitialState) (steps : List WriterStep) → IsWritten c steps → (state_after c steps).passed ≤ (state_after c steps).token
 passed_within c [] h = omega arith
-passed_within c (StoreFirst i w ∷ steps) h = passed_within c steps h.1
-passed_within c (StoreSecond j w ∷ steps) h = passed_within c steps h.1
-passed_within c (BeginUpdate change ∷ steps) h = passed_within c steps h.1
-passed_within c (EndUpdate ∷ steps) h = passed_within c steps h.1
 passed_within c (BumpToken ∷ steps) h = let le = passed_within c steps h.1 in omega (arith, le)
 passed_within c (LoadCounter token worker counter ∷ steps) h =
     within (lets_pass token counter && eqb (suc worker) c.workers) (state_after c steps).passed token (state_after c steps).token (passed_within c steps h.1) h.0.0.2
@@ -233,3 +217,4 @@ passed_within c (LoadCounter token worker counter ∷ steps) h =
     within : (b : Bool) (p t n : ℕ) → p ≤ n → t ≤ n → cond b (max p t) p ≤ n
     within true p t n le new = max-le le new
     within false p t n le new = le
+passed_within c (s ∷ steps) h = passed_within c steps h.1
