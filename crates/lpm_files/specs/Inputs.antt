@@ -1,7 +1,10 @@
 -- Meaning: files that are read and parsed one after another (this project's program: in the order of
 -- the command line, and the first fault wins).
 use Rattle.std.specs.Prelude.{ℕ, ◌≡◌, ◌⊎◌, ⊤, List, [], ◌∷◌, Option, IfSome}
+use Rattle.std.specs.Borrow.{Bor}
 use Rattle.route_text.specs.declared.fault.Fault.{Fault}
+use Rattle.route_text.specs.declared.fault.ReadError.{ReadError}
+use Rattle.route_text.specs.declared.fault.ReadError.TheVariants as errors
 use Rattle.route_text.specs.Files.{AreRoutes, IsRoutesFault, AreAddresses, IsAddressesFault}
 use Rattle.route_text.specs.Updates.{AreUpdates, IsUpdatesFault, AreOldUpdates, IsOldUpdatesFault}
 use Rattle.lpm_files.specs.declared.failure.Failure.{Failure}
@@ -46,11 +49,10 @@ abbrev pub Reads : {Item : Type 0} → (List ℕ → List Item → Type 0) → O
     → Type 0
 Reads Lists known items = (bytes : List ℕ) × IsKnownAs known bytes × Lists bytes items
 
--- parsing these bytes of the file ends so: a fault of theirs, or want of memory
-abbrev pub EndsParsing : (List ℕ → Fault → Type 0) → List ℕ → List ℕ → Failure → Type 0
-EndsParsing IsFault file bytes (Bad path fault) = (path.now ≡ file) × IsFault bytes fault
-EndsParsing IsFault file bytes Memory = ⊤
-EndsParsing IsFault file bytes _ = ⊥
+-- what an error in parsing the file of this path ends the run with
+abbrev pub ending_of : Bor (List ℕ) → ReadError → Failure
+ending_of path (errors.Fault fault) = Bad path fault
+ending_of path errors.Memory = Memory
 
 -- reading and parsing the file ends so
 abbrev pub EndsReading : Input → Failure → Type 0

@@ -1,6 +1,6 @@
 //! Files to read and a writer to write, of any kind.
-ghost use Rattle.std.specs.Prelude.{◌≡◌, ℕ, ◌≤◌, List, Option, length, take};
-ghost use Rattle.std.specs.Prelude.{◌↔◌, IfOk, IfErr, IfSome, OnOk, OnErr};
+ghost use Rattle.std.specs.Prelude.{◌≡◌, ◌≢◌, ◌⊎◌, ℕ, ◌≤◌, List, Option, length, take};
+ghost use Rattle.std.specs.Prelude.{IfOk, IfErr, IfSome, OnOk, OnErr};
 ghost use Rattle.std.specs.declared.io.ErrorKind.TheVariants.{OutOfMemory};
 ghost use Rattle.std.specs.Io.KnownBytes.{Appends};
 ghost use Rattle.std.specs.IoError.{error_kind};
@@ -25,36 +25,36 @@ pub trait Files {
         ensures { IfOk result (λ r. Self.Reader.remaining r ≡ bytes self.now path.now) };
 }
 
-/// Why a file isn't read.
-#[derive(Clone, Copy, Debug, PartialEq, Eq)]
-pub enum ReadFailure {
-    /// It can't be opened, or a read failed.
-    CannotRead,
-    /// A growth was refused.
-    Memory,
-}
-
-/// The bytes of the file at the path.
-pub fn read_file<F: Files>(alloc: Global, files: &F, path: &str) -> Result<Vec<u8>, ReadFailure>
-    ensures { IfOk result (λ v. IsKnownAs (F.bytes files.now path.now) v.items) }
+/// The bytes of the file at the path. `CannotRead` comes where it can't be opened or a read fails,
+/// `Memory` where a growth is refused.
+pub fn read_file<'a, F: Files>(
+    alloc: Global,
+    files: &F,
+    path: &'a str,
+) -> Result<Vec<u8>, Failure<'a>>
+    ensures bytes { IfOk result (λ v. IsKnownAs (F.bytes files.now path.entry.now) v.items) }
+    ensures failure { IfErr result (λ e.
+        (e ≡ Failure.CannotRead path.entry) ⊎ (e ≡ Failure.Memory)) }
 {
     let mut reader = match files.open(path) {
         Ok(reader) => reader,
-        Err(e) => return Err(read_failure(e)),
+        Err(e) => return Err(unread(path, e)),
     };
     let mut bytes = Vec::new(alloc);
     match reader.read_to_end(&mut bytes) {
         Ok(_) => Ok(bytes),
-        Err(e) => Err(read_failure(e)),
+        Err(e) => Err(unread(path, e)),
     }
 }
 
-fn read_failure(e: io::Error) -> ReadFailure
-    ensures { (result ≡ ReadFailure.Memory) ↔ (error_kind e ≡ OutOfMemory) }
+// What a failure to open or read the file at the path ends the run with.
+fn unread(path: &str, e: io::Error) -> Failure<'_>
+    ensures memory { error_kind e ≡ OutOfMemory → result ≡ Failure.Memory }
+    ensures other { error_kind e ≢ OutOfMemory → result ≡ Failure.CannotRead path.entry }
 {
     match e.kind() {
-        ErrorKind::OutOfMemory => ReadFailure::Memory,
-        _ => ReadFailure::CannotRead,
+        ErrorKind::OutOfMemory => Failure::Memory,
+        _ => Failure::CannotRead { path },
     }
 }
 

@@ -1,15 +1,15 @@
 //! Files that are read, each of its form.
-ghost use Rattle.std.specs.Prelude.{◌≡◌, ◌⊎◌, ⊤, ℕ, List, All, IfOk, IfErr};
+ghost use Rattle.std.specs.Prelude.{◌≡◌, ⊤, ℕ, List, All, IfOk, IfErr};
 ghost use Rattle.route_text.specs.declared.fault.Fault.{Fault};
 ghost use Rattle.route_text.specs.Files.{AreRoutes, IsRoutesFault, AreAddresses, IsAddressesFault};
 ghost use Rattle.route_text.specs.Updates.{AreUpdates, IsUpdatesFault};
 ghost use Rattle.route_text.specs.Updates.{AreOldUpdates, IsOldUpdatesFault, IsCountInRange};
 ghost use Rattle.route_text.specs.Readings.{IsReadError};
-ghost use Rattle.lpm_files.specs.Inputs.{address_file, route_file, input, Reads, EndsParsing, EndsReading};
+ghost use Rattle.lpm_files.specs.Inputs.{address_file, route_file, input, Reads, EndsReading, ending_of};
 
 use crate::addresses::parse_addresses_on;
 use crate::failure::Failure;
-use crate::files::{Files, ReadFailure, read_file};
+use crate::files::{Files, read_file};
 use crate::routes::parse_routes_on;
 use route_text::{
     Order, ReadError, Route, read_addresses, read_routes, read_updates, read_updates_v1,
@@ -122,11 +122,11 @@ pub fn read_list<'a, L: FileKind, F: Files>(
     ensures failure { IfErr result (EndsReading
         (input L.Lists L.IsFault path.entry.now (F.bytes files.now path.entry.now))) }
 {
-    let bytes = match read_file(alloc, files, path) {
-        Ok(bytes) => bytes,
-        Err(failure) => return Err(unread(path, failure)),
-    };
-    parsed::<L>(alloc, path, &bytes)
+    let bytes = read_file(alloc, files, path)?;
+    match L::parse(alloc, &bytes) {
+        Ok(items) => Ok(items),
+        Err(error) => Err(ending_of(path, error)),
+    }
 }
 
 /// The addresses of the file at the path, as `read_list::<Addresses, F>` gives them. The file is read whole,
@@ -143,14 +143,10 @@ pub fn read_addresses_on<'a, R: Threads + Sync, F: Files>(
     ensures failure { IfErr result (EndsReading
         (address_file path.entry.now (F.bytes files.now path.entry.now))) }
 {
-    let bytes = match read_file(alloc, files, path) {
-        Ok(bytes) => bytes,
-        Err(failure) => return Err(unread(path, failure)),
-    };
+    let bytes = read_file(alloc, files, path)?;
     match parse_addresses_on(rt, alloc, &bytes, threads) {
-        Ok(addrs) => return Ok(addrs),
-        Err(ReadError::Fault(fault)) => return Err(Failure::Bad { path, fault }),
-        Err(ReadError::Memory) => return Err(Failure::Memory),
+        Ok(addrs) => Ok(addrs),
+        Err(error) => Err(ending_of(path, error)),
     }
 }
 
@@ -168,39 +164,19 @@ pub fn read_routes_on<'a, R: Threads + Sync, F: Files>(
     ensures failure { IfErr result (EndsReading
         (route_file path.entry.now (F.bytes files.now path.entry.now))) }
 {
-    let bytes = match read_file(alloc, files, path) {
-        Ok(bytes) => bytes,
-        Err(failure) => return Err(unread(path, failure)),
-    };
+    let bytes = read_file(alloc, files, path)?;
     match parse_routes_on(rt, alloc, &bytes, threads) {
-        Ok(routes) => return Ok(routes),
-        Err(ReadError::Fault(fault)) => return Err(Failure::Bad { path, fault }),
-        Err(ReadError::Memory) => return Err(Failure::Memory),
+        Ok(routes) => Ok(routes),
+        Err(error) => Err(ending_of(path, error)),
     }
 }
 
-// The items of these bytes of the file at the path. Want of memory here isn't a failed read.
-fn parsed<'a, L: FileKind>(
-    alloc: Global,
-    path: &'a str,
-    bytes: &[u8],
-) -> Result<Vec<L::Item>, Failure<'a>>
-    ensures items { IfOk result (λ v. L.Lists bytes.now v.items) }
-    ensures in_range { IfOk result (λ v. All L.IsInRange v.items) }
-    ensures failure { IfErr result (EndsParsing L.IsFault path.entry.now bytes.now) }
+// What an error in parsing the file at the path ends the run with. Want of memory isn't a failed read.
+fn ending_of(path: &str, error: ReadError) -> Failure<'_>
+    ensures { result ≡ ending_of path.entry error }
 {
-    match L::parse(alloc, bytes) {
-        Ok(items) => Ok(items),
-        Err(ReadError::Fault(fault)) => Err(Failure::Bad { path, fault }),
-        Err(ReadError::Memory) => Err(Failure::Memory),
-    }
-}
-
-fn unread(path: &str, failure: ReadFailure) -> Failure<'_>
-    ensures { (result ≡ Failure.CannotRead path.entry) ⊎ (result ≡ Failure.Memory) }
-{
-    match failure {
-        ReadFailure::CannotRead => Failure::CannotRead { path },
-        ReadFailure::Memory => Failure::Memory,
+    match error {
+        ReadError::Fault(fault) => Failure::Bad { path, fault },
+        ReadError::Memory => Failure::Memory,
     }
 }
