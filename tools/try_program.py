@@ -49,7 +49,7 @@ LONG = 2000  # characters of a text that a failed case shows
 # A test of a library call, and how many growths that call has of its own.
 Test = namedtuple("Test", "crate name growths")
 TESTS = [
-    Test("core_tests", "table::a_refused_growth", 1),
+    Test("core_tests", "tests::table::a_refused_growth", 1),
     # (the desks with addresses, and the joined list, with 1, 2, 3 and 8 workers)
     Test("running_tests", "pieces::five_addresses_by_a_running_table", 2 + 3 + 4 + 6),
 ]

@@ -36,7 +36,7 @@ fn assert_rows(
         let (addr, number) = *row;
         let answer = pass.lookup(table, addr);
         let found = (hop_number(answer.hop), answer.lo, answer.hi);
-        assert_at(rt, addr, found, (number, version, version));
+        assert_at(rt, addr, found, (Some(number), version, version));
     }
 }
 

@@ -8,9 +8,10 @@ mod meeting;
 pub mod plans;
 mod routes;
 
-pub use listed::{Drawing, Plain, draw, drawn_rules, edges, hop_number, rule_of, rules_of};
+pub use listed::{Drawing, Plain, draw, drawn_rules, hop_number, probes, rule_of, rules_of};
 pub use many::{MANY, MANY_LIMITS, block, many_plain, many_rules, second_half};
 pub use meeting::Meeting;
 pub use routes::{
-    AMPLE, Change, DEEP, HOPS, LIMITS, ROUTES, Row, SHORT, STEPS, Step, bad_limits, limits,
+    AMPLE, Change, DEEP, HOPS, LIMITS, ROUTES, Row, SHORT, STEPS, Step, THREE, USUAL, bad_limits,
+    limits, rooms,
 };

@@ -70,14 +70,33 @@ pub fn drawn_rules<const FIRST: u32, const SECOND: u32>(
     Some(rules)
 }
 
-/// The first and the last address of the rule, and those before and after them, round the ends of 32 bits.
-pub fn edges<const FIRST: u32, const SECOND: u32>(rule: &Rule<FIRST, SECOND>) -> [u32; 4]
+// The first and the last address of the rule, and those before and after them, round the ends of 32 bits.
+fn edges<const FIRST: u32, const SECOND: u32>(rule: &Rule<FIRST, SECOND>) -> [u32; 4]
     requires { IsShape FIRST SECOND }
 {
     let first = rule.prefix.bits();
     let host = FIRST + SECOND - rule.prefix.len();
     let last = first | ((1u64 << host) - 1) as u32;
     [first.wrapping_sub(1), first, last, last.wrapping_add(1)]
+}
+
+/// Numbers at which tables of the rules are compared: the first so many, and those at the ends of each rule. A few
+/// may be past the addresses. `None` without memory.
+pub fn probes<const FIRST: u32, const SECOND: u32>(
+    alloc: Global,
+    first: u32,
+    rules: &[Rule<FIRST, SECOND>],
+) -> Option<Vec<u32>>
+    requires { IsShape FIRST SECOND }
+{
+    let mut addrs = Vec::new(alloc);
+    for addr in 0..first {
+        addrs.push(addr).ok()?;
+    }
+    for rule in rules {
+        addrs.extend_from_slice(&edges(rule)).ok()?;
+    }
+    Some(addrs)
 }
 
 /// The number of the next hop, where there is one.

@@ -13,34 +13,49 @@ pub static ROUTES: [Plain; 5] = [
     (0x0a01_0180, 25, 5),
 ];
 
+/// 10.0.0.0/8, 10.1.0.0/16 and 10.1.1.128/25.
+pub static THREE: [Plain; 3] = [
+    (0x0a00_0000, 8, 1),
+    (0x0a01_0000, 16, 2),
+    (0x0a01_0180, 25, 3),
+];
+
 /// An address, and the number of its next hop.
-pub type Row = (u32, Option<u32>);
+pub type Row = (u32, u32);
 
 /// Addresses, and the next hops that the routes give them.
 pub static HOPS: [Row; 13] = [
-    (0, Some(1)),
-    (0x09ff_ffff, Some(1)),
-    (0x0a00_0000, Some(2)),
-    (0x0a00_ffff, Some(2)),
-    (0x0a01_0000, Some(4)),
-    (0x0a01_017f, Some(4)),
-    (0x0a01_0180, Some(5)),
-    (0x0a01_01ff, Some(5)),
-    (0x0a01_0200, Some(4)),
-    (0x0a01_ffff, Some(4)),
-    (0x0a02_0000, Some(2)),
-    (0x0b00_0000, Some(1)),
-    (0xffff_ffff, Some(1)),
+    (0, 1),
+    (0x09ff_ffff, 1),
+    (0x0a00_0000, 2),
+    (0x0a00_ffff, 2),
+    (0x0a01_0000, 4),
+    (0x0a01_017f, 4),
+    (0x0a01_0180, 5),
+    (0x0a01_01ff, 5),
+    (0x0a01_0200, 4),
+    (0x0a01_ffff, 4),
+    (0x0a02_0000, 2),
+    (0x0b00_0000, 1),
+    (0xffff_ffff, 1),
 ];
+
+/// The limits by default.
+pub const USUAL: Config = Config {
+    rules: 1_048_576,
+    groups: 256,
+    workers: 1,
+    threshold: 32,
+    reclaim_max: 16,
+    first_token: 1,
+};
 
 /// Room for seven rules, and for the groups of two blocks.
 pub const LIMITS: Config = Config {
     rules: 7,
     groups: 2,
-    workers: 1,
-    threshold: 32,
-    reclaim_max: 16,
     first_token: 7,
+    ..USUAL
 };
 
 /// What a change does to the rule of its prefix.
@@ -57,80 +72,48 @@ const ADDED: Change = Change::Add(Put::Added);
 /// A change, its rule, and three addresses with their next hops after it.
 pub type Step = (Change, Plain, &'static [Row]);
 
-/// Changes of a table with the routes. A rule in the block that has a group, one in another block, another next hop of 10.0.0.0/8, and
-/// 172.16.0.0/12. Then 10.1.0.0/16 and the two longer rules in it go. A rule in another block has their group.
+/// Changes of a table with the routes. A rule in the block that has a group, one in another block, another next hop
+/// of 10.0.0.0/8, and 172.16.0.0/12. Then 10.1.0.0/16 and the two longer rules in it go. A rule in another block has their group.
 pub static STEPS: [Step; 8] = [
     (
         ADDED,
         (0x0a01_0100, 26, 8),
-        &[
-            (0x0a01_013f, Some(8)),
-            (0x0a01_0140, Some(4)),
-            (0x0a01_0180, Some(5)),
-        ],
+        &[(0x0a01_013f, 8), (0x0a01_0140, 4), (0x0a01_0180, 5)],
     ),
     (
         ADDED,
         (0xac10_0001, 32, 9),
-        &[
-            (0xac10_0000, Some(1)),
-            (0xac10_0001, Some(9)),
-            (0xac10_0002, Some(1)),
-        ],
+        &[(0xac10_0000, 1), (0xac10_0001, 9), (0xac10_0002, 1)],
     ),
     (
         Change::Add(Put::Replaced),
         (0x0a00_0000, 8, 10),
-        &[
-            (0x0a00_0000, Some(10)),
-            (0x0a01_0000, Some(4)),
-            (0x0a02_0000, Some(10)),
-        ],
+        &[(0x0a00_0000, 10), (0x0a01_0000, 4), (0x0a02_0000, 10)],
     ),
     (
         ADDED,
         (0xac10_0000, 12, 11),
-        &[
-            (0xac10_0001, Some(9)),
-            (0xac1f_ffff, Some(11)),
-            (0xac20_0000, Some(1)),
-        ],
+        &[(0xac10_0001, 9), (0xac1f_ffff, 11), (0xac20_0000, 1)],
     ),
     (
         Change::Delete,
         (0x0a01_0000, 16, 4),
-        &[
-            (0x0a01_0000, Some(10)),
-            (0x0a01_0140, Some(10)),
-            (0x0a01_0180, Some(5)),
-        ],
+        &[(0x0a01_0000, 10), (0x0a01_0140, 10), (0x0a01_0180, 5)],
     ),
     (
         Change::Delete,
         (0x0a01_0180, 25, 5),
-        &[
-            (0x0a01_0100, Some(8)),
-            (0x0a01_0140, Some(10)),
-            (0x0a01_0180, Some(10)),
-        ],
+        &[(0x0a01_0100, 8), (0x0a01_0140, 10), (0x0a01_0180, 10)],
     ),
     (
         Change::Delete,
         (0x0a01_0100, 26, 8),
-        &[
-            (0x0a01_0100, Some(10)),
-            (0x0a01_0180, Some(10)),
-            (0xac10_0001, Some(9)),
-        ],
+        &[(0x0a01_0100, 10), (0x0a01_0180, 10), (0xac10_0001, 9)],
     ),
     (
         ADDED,
         (0xc0a8_0000, 25, 12),
-        &[
-            (0xc0a8_007f, Some(12)),
-            (0xc0a8_0080, Some(1)),
-            (0x0a01_0100, Some(10)),
-        ],
+        &[(0xc0a8_007f, 12), (0xc0a8_0080, 1), (0x0a01_0100, 10)],
     ),
 ];
 
@@ -156,6 +139,18 @@ pub fn limits(rules: usize, groups: usize) -> Config {
         groups,
         ..Config::default()
     }
+}
+
+/// Rules, limits, and whether a table opens with these rules within them. Each list has a row where the rules just
+/// fit, and one with too few of a limit.
+pub fn rooms() -> [(&'static [Plain], Config, bool); 5] {
+    [
+        (&DEEP, limits(7, 3), true),
+        (&DEEP, limits(6, 3), false),
+        (&DEEP, limits(7, 2), false),
+        (&SHORT, limits(2, 1), true),
+        (&SHORT, limits(1, 1), false),
+    ]
 }
 
 /// Limits around seven rules and three groups. Each has one just outside its range, and the last too few rules

@@ -4,20 +4,4 @@
 #![tactic(auto)]
 
 #[cfg(test)]
-mod asserting;
-#[cfg(test)]
-mod cases;
-#[cfg(test)]
-mod deciders;
-#[cfg(test)]
-mod ends;
-#[cfg(test)]
-mod judging;
-#[cfg(test)]
-mod many;
-#[cfg(test)]
-mod plan;
-#[cfg(test)]
-mod planted;
-#[cfg(test)]
-mod unlawful;
+mod tests;

@@ -1,0 +1,6 @@
+use Rattle.std.proofs.Common.{◌≡◌}
+use Rattle.defer_queue.specs.Retired.{AreRetired}
+use Rattle.core_tests.proofs.tests.limbo.give_up_first.Given as goal
+
+abbrev pub invariant-loop-group : goal.invariant-loop-group
+invariant-loop-group l = AreRetired l.tokens.items l.queue.items × (l.domain.counters ≡ l.initial.domain.counters)

@@ -1,0 +1,18 @@
+//! A module for each crate, or for each way in which a table is tried.
+
+mod asserting;
+mod bits;
+mod cases;
+mod cells;
+mod entry;
+mod groups;
+mod large;
+mod laws;
+mod limbo;
+mod limits;
+mod opened;
+mod reports;
+mod rules;
+mod sweep;
+mod table;
+mod update;

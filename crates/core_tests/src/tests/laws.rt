@@ -1,0 +1,30 @@
+#[test]
+fn laws_are_called() {
+    lpm_rules::laws::collected_is_of_length();
+    lpm_rules::laws::collected_are_the_rules();
+    lpm_update::laws::run_begins();
+    lpm_update::laws::run_goes_on();
+    lpm_update::laws::run_ends();
+    lpm_update::laws::no_word_twice();
+    lpm_update::laws::next_store();
+    lpm_update::laws::answers_turn_once();
+    lpm_update::laws::best_is_longest();
+    lpm_update::laws::blank_represents();
+    lpm_update::laws::linked_are_deep();
+    lpm_update::laws::tied_same();
+    lpm_update::laws::tied_gone();
+    lpm_update::laws::tied_taken();
+    lpm_sweep::laws::order_is_by_bits();
+    lpm_sweep::laws::numbered_are_tied();
+    lpm_sweep::laws::room_may_grow();
+    qsbr::older_tokens_pass();
+    qsbr::none_holds_where_passed();
+    qsbr::one_worker_is_first();
+    qsbr::intervals::runs_after_one_more::<u32>();
+    qsbr::intervals::grace_period_is_over::<u32>();
+    fib_model::laws::rules_are_last_version();
+    fib_model::laws::rules_are_last_version_by_counters();
+    fib_model::laws::unheld_by_none();
+    fib_model::laws::outcomes_are_unique();
+    fib_model::laws::counters_tell_intervals();
+}

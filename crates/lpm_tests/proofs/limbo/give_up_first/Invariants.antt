@@ -1,6 +1,0 @@
-use Rattle.std.proofs.Common.{◌≡◌}
-use Rattle.defer_queue.specs.Retired.{AreRetired}
-use Rattle.lpm_tests.proofs.limbo.give_up_first.Given as goal
-
-abbrev pub invariant-loop-group : goal.invariant-loop-group
-invariant-loop-group l = AreRetired l.tokens.items l.queue.items × (l.domain.counters ≡ l.initial.domain.counters)

@@ -1,0 +1,10 @@
+//! A module for each kind of run, and for the slow programs.
+
+mod asserting;
+mod cases;
+mod deciders;
+mod ends;
+mod many;
+mod plan;
+mod planted;
+mod unlawful;
