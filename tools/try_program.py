@@ -51,7 +51,7 @@ Test = namedtuple("Test", "crate name growths")
 TESTS = [
     Test("core_tests", "tests::table::a_refused_growth", 1),
     # (the desks with addresses, and the joined list, with 1, 2, 3 and 8 workers)
-    Test("running_tests", "pieces::five_addresses_by_a_running_table", 2 + 3 + 4 + 6),
+    Test("running_tests", "tests::pieces::five_addresses_by_a_running_table", 2 + 3 + 4 + 6),
 ]
 
 

@@ -3,20 +3,4 @@
 #![tactic(auto)]
 
 #[cfg(test)]
-mod asserting;
-#[cfg(test)]
-mod beside;
-#[cfg(test)]
-mod cases;
-#[cfg(test)]
-mod changing;
-#[cfg(test)]
-mod facade;
-#[cfg(test)]
-mod groups;
-#[cfg(test)]
-mod large;
-#[cfg(test)]
-mod pieces;
-#[cfg(test)]
-mod sorted;
+mod tests;

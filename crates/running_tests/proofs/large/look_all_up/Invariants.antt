@@ -1,9 +1,0 @@
-use Rattle.std.proofs.Common.{◌≡◌}
-use Rattle.std.specs.Prelude.{true}
-use Rattle.running_tests.proofs.large.look_all_up.Given as goal
-
-abbrev pub invariant-loop-number : goal.invariant-loop-number
-invariant-loop-number g l = record {
-  own : l.pass.table ≡ l.table;
-  online : l.pass.online ≡ true;
-}

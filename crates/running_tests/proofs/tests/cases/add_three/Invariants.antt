@@ -1,0 +1,5 @@
+use Rattle.std.proofs.Common.{◌≡◌}
+use Rattle.running_tests.proofs.tests.cases.add_three.Given as goal
+
+abbrev pub invariant-loop-plain : goal.invariant-loop-plain
+invariant-loop-plain g l = record { own : l.writer.identity ≡ l.table }
