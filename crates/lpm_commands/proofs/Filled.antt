@@ -89,19 +89,27 @@ rules_grow R p h =
     let more = least (is_some (get R p)) (len R) in
     omega (arith, size, more)
 
-groups_grow : (R : RuleMap) (p : Network) (h : ℕ) → in_use R ≤ in_use (insert R p h)
-groups_grow R p h =
+-- a rule brings a group where it is the first long one of its block, and no other rule does
+pub grouped : (R : RuleMap) (p : Network) (h : ℕ) → (BringsGroup R p × (in_use (insert R p h) ≡ in_use R + 1)) ⊎ (¬ BringsGroup R p × (in_use (insert R p h) ≡ in_use R))
+grouped R p h =
     let brings = put_brings_block 24 8 R p h in
     let old = deep_blocks 24 8 R in
+    let blocks = has_deep_blocks 24 8 R (block_of 8 p) in
     elim (cases_lt 24 p.len) [
+      | inr short ↦ inr ((λ is. let long = is.0 in omega (arith, long, short)), ap set.len (brings.1 short))
       | inl long ↦
           let size = ap set.len (brings.0 long) ∙ set.len-insert nat_cmp_total old (block_of 8 p) in
-          let more = least (set.contains old (block_of 8 p)) (set.len old) in
-          omega (arith, size, more)
-      | inr short ↦
-          let size = ap set.len (brings.1 short) in
-          omega (arith, size)
+          elim (cases_Bool (set.contains old (block_of 8 p))) [
+            | inl here ↦ inr ((λ is. is.1 (blocks.0 here)), size ∙ ap (λ (t : Bool). cond t (set.len old) (set.len old + 1)) here)
+            | inr away ↦ inl ((long, (λ deep. false≢true (sym away ∙ blocks.1 deep))), size ∙ ap (λ (t : Bool). cond t (set.len old) (set.len old + 1)) away)
+          ]
     ]
+
+groups_grow : (R : RuleMap) (p : Network) (h : ℕ) → in_use R ≤ in_use (insert R p h)
+groups_grow R p h = elim (grouped R p h) [
+  | inl one ↦ let size = one.1 in omega (arith, size)
+  | inr same ↦ let size = same.1 in omega (arith, size)
+]
 
 grows : (m : Made) (routes : List Route) → Grows m (made_by m routes)
 grows m [] = record { rules = omega arith; groups = omega arith; changes = omega arith }
@@ -120,28 +128,17 @@ grows m (r ∷ routes) =
 
 -- a rule that is there brings no group
 known_group : (R : RuleMap) (p : Network) (h : ℕ) → IsSome (get R p) → in_use (insert R p h) ≡ in_use R
-known_group R p h some =
-    let brings = put_brings_block 24 8 R p h in
-    let old = deep_blocks 24 8 R in
-    elim (cases_lt 24 p.len) [
-      | inl long ↦
-          let here : set.contains old (block_of 8 p) ≡ true = (has_deep_blocks 24 8 R (block_of 8 p)).1 (p, some, long, refl) in
-          ap set.len (brings.0 long)
-          ∙ (set.len-insert nat_cmp_total old (block_of 8 p) ∙ ap (λ (t : Bool). cond t (set.len old) (set.len old + 1)) here)
-      | inr short ↦ ap set.len (brings.1 short)
-    ]
+known_group R p h some = elim (grouped R p h) [
+  | inl one ↦ absurd (one.0.1 (p, some, one.0.0, refl))
+  | inr same ↦ same.1
+]
 
 -- a long rule of a block without a group brings one
 new_group : (R : RuleMap) (p : Network) (h : ℕ) → 24 < p.len → ¬ IsDeepBlock 24 8 R (block_of 8 p) → in_use (insert R p h) ≡ in_use R + 1
-new_group R p h long shallow =
-    let brings = put_brings_block 24 8 R p h in
-    let old = deep_blocks 24 8 R in
-    elim (cases_Bool (set.contains old (block_of 8 p))) [
-      | inl here ↦ absurd (shallow ((has_deep_blocks 24 8 R (block_of 8 p)).0 here))
-      | inr away ↦
-          ap set.len (brings.0 long)
-          ∙ (set.len-insert nat_cmp_total old (block_of 8 p) ∙ ap (λ (t : Bool). cond t (set.len old) (set.len old + 1)) away)
-    ]
+new_group R p h long shallow = elim (grouped R p h) [
+  | inl one ↦ one.1
+  | inr same ↦ absurd (same.0 (long, shallow))
+]
 
 -- ---- what accepted routes lead to
 
@@ -159,10 +156,6 @@ record Reaches (c : Config) (s : State Registry) (routes : List Route) (z : Stat
 -- the same hop changes nothing, another one does
 changed_same : (o : Option ℕ) (h : ℕ) → o ≡ Some h → changed o h ≡ 0
 changed_same o h same = ap (λ (x : Option ℕ). changed x h) same ∙ ap {B = ℕ} (λ (t : Bool). cond t 0 1) (eq-eqb h h refl)
-
-changed_other : (o : Option ℕ) (h : ℕ) → IsSomeAnd o (λ old. old ≢ h) → changed o h ≡ 1
-changed_other None h other = refl
-changed_other (Some old) h other = ap {B = ℕ} (λ (t : Bool). cond t 0 1) (ne_eqb old h other)
 
 -- a route is there, or changes a rule
 changed_cases : (o : Option ℕ) (h : ℕ) → (o ≡ Some h) ⊎ ((o ≡ Some h → ⊥) × (changed o h ≡ 1))
@@ -196,32 +189,21 @@ module _ (c : Config) where
 
   -- and where one is new, and there was a group for it if it needs one
   groups_new : (s : State Registry) (p : Network) (h : ℕ) → s.limbo ≡ [] → get s.rules p ≡ None → ¬ LacksGroup 24 8 c s p → in_use s.rules ≤ c.groups → in_use (insert s.rules p h) ≤ c.groups
-  groups_new s p h none absent has full =
-      let brings = put_brings_block 24 8 s.rules p h in
-      let old = deep_blocks 24 8 s.rules in
-      elim (cases_lt 24 p.len) [
-        | inr short ↦
-            let same = ap set.len (brings.1 short) in
-            omega (arith, same, full)
-        | inl long ↦ elim (cases_Bool (set.contains old (block_of 8 p))) [
-          | inl here ↦
-              let same : in_use (insert s.rules p h) ≡ in_use s.rules = ap set.len (brings.0 long) ∙ (set.len-insert nat_cmp_total old (block_of 8 p) ∙ ap (λ (t : Bool). cond t (set.len old) (set.len old + 1)) here) in
-              omega (arith, same, full)
-          | inr away ↦
-              let shallow : ¬ IsDeepBlock 24 8 s.rules (block_of 8 p) = λ deep. false≢true (sym away ∙ (has_deep_blocks 24 8 s.rules (block_of 8 p)).1 deep) in
-              let one = new_group s.rules p h long shallow in
-              let zero_limbo = ap length none in
-              elim (cases_lt (in_use s.rules) c.groups) [
-                | inl free ↦ omega (arith, one, free)
-                | inr taken ↦ absurd (has (record {
-                  absent = absent;
-                  long = long;
-                  shallow = shallow;
-                  none_free = omega (arith, taken, zero_limbo);
-                }))
-              ]
+  groups_new s p h none absent has full = elim (grouped s.rules p h) [
+    | inr same ↦ let size = same.1 in omega (arith, size, full)
+    | inl one ↦
+        let size = one.1 in
+        let zero_limbo = ap length none in
+        elim (cases_lt (in_use s.rules) c.groups) [
+          | inl free ↦ omega (arith, size, free)
+          | inr taken ↦ absurd (has (record {
+            absent = absent;
+            long = one.0.0;
+            shallow = one.0.1;
+            none_free = omega (arith, taken, zero_limbo);
+          }))
         ]
-      ]
+  ]
 
   fits_new : (s : State Registry) (p : Network) (h : ℕ) → s.limbo ≡ [] → get s.rules p ≡ None → len s.rules < c.rules → ¬ LacksGroup 24 8 c s p → Fits c s.rules → Fits c (insert s.rules p h)
   fits_new s p h none absent room has fits =
@@ -339,25 +321,6 @@ no_rules = rules.len-empty network_cmp ℕ
 
 pub none_in_use : in_use empty ≡ 0
 none_in_use = ap set.len (deep_blocks_empty 24 8) ∙ set.len-empty nat_cmp
-
--- no rules fit any limits
-fits_empty : (c : Config) → Fits c empty
-fits_empty c =
-    let none = no_rules in
-    let shallow = none_in_use in
-    record {
-      rules = omega (arith, none);
-      groups = omega (arith, shallow);
-    }
-
--- a table that was just opened
-pub filled_first : (c : Config) → IsFilled c (initial_by_counters c)
-filled_first c = record {
-  readers = refl;
-  limbo = refl;
-  fits = fits_empty c;
-  tokens = λ some. let none = no_rules in absurd (omega (arith, none, some));
-}
 
 -- one more rule
 pub filled_more : (c : Config) (s z : State Registry) (p : Network) (h : ℕ) (put : Put) → IsFilled c s → Adds counter_transitions 24 8 c s p h (Ok put) z → IsFilled c z
@@ -492,19 +455,10 @@ put_groups R p h true brings =
     let is = brings.0 refl in
     let one = new_group R p h is.0 is.1 in
     omega (arith, one)
-put_groups R p h false brings =
-    let bring = put_brings_block 24 8 R p h in
-    let old = deep_blocks 24 8 R in
-    let same : in_use (insert R p h) ≡ in_use R = elim (cases_lt 24 p.len) [
-      | inr short ↦ ap set.len (bring.1 short)
-      | inl long ↦ elim (cases_Bool (set.contains old (block_of 8 p))) [
-        | inl here ↦ ap set.len (bring.0 long) ∙ (set.len-insert nat_cmp_total old (block_of 8 p) ∙ ap (λ (t : Bool). cond t (set.len old) (set.len old + 1)) here)
-        | inr away ↦
-            let shallow : ¬ IsDeepBlock 24 8 R (block_of 8 p) = λ deep. false≢true (sym away ∙ (has_deep_blocks 24 8 R (block_of 8 p)).1 deep) in
-            absurd (false≢true (brings.1 (long, shallow)))
-      ]
-    ] in
-    omega (arith, same)
+put_groups R p h false brings = elim (grouped R p h) [
+  | inl one ↦ absurd (false≢true (brings.1 one.0))
+  | inr same ↦ let size = same.1 in omega (arith, size)
+]
 
 -- the rules of one route more
 pub rules_read : (routes : List Route) (i : ℕ) (r : Route) → i < length routes → r ≡ get_or routes i r → rules_of_routes (take (i + 1) routes) ≡ insert (rules_of_routes (take i routes)) r.prefix r.hop
@@ -546,10 +500,6 @@ changes_read routes i r R put n within read same is none one =
       | inl here ↦ let no = none (is.1 here) in let zero_changes = changed_same (get R r.prefix) r.hop here in omega (arith, more, by, no, zero_changes)
       | inr other ↦ let some = one (λ e. other.0 (is.0 e)) in let changes = other.1 in omega (arith, more, by, some, changes)
     ]
-
--- the number of changes is at most that of the routes
-pub changes_few : (routes : List Route) → changes_of routes ≤ length routes
-changes_few routes = let most : (made_by (empty, 0) routes).1 ≤ 0 + length routes = changes_at_most (empty, 0) routes in omega (arith, most)
 
 -- where there are rules there are routes
 pub lasts_for : (routes : List Route) (P : Type 0) → (0 < length routes → P) → 0 < len (rules_of_routes routes) → P
@@ -600,7 +550,3 @@ opened_filled c R (Some f) is rules groups lasts = subst (λ (g : FibState). IsF
   fits = record { rules = rules; groups = groups };
   tokens = lasts;
 })
-
--- the table with the rules and the versions of routes is that of the routes
-pub opened_loaded : (c : Config) (routes : List Route) (R : RuleMap) (n : ℕ) (f : FibState) → f ≡ initial_fib_at c R n → IsLoaded c routes (record (initial_by_counters c) { rules = R; begun = n }) → IsLoaded c routes f.table
-opened_loaded c routes R n f is loaded = subst (λ (g : FibState). IsLoaded c routes g.table) (sym is) loaded

@@ -25,16 +25,6 @@ pub record AreFound {first second : ℕ} (width : ℕ) (R : RuleMap) (a host : �
 some_of : (R : RuleMap) (p : Network) (hop : ℕ) → get R p ≡ Some hop → IsSome (get R p)
 some_of R p hop is = subst IsSome (sym is) refl
 
--- no rule is longer than an address
-pub none_found : {first second : ℕ} (width : ℕ) (R : RuleMap) (a : ℕ) → AllNetworks width R → AreFound {first = first} {second = second} width R a 0 []
-none_found {first} {second} width R a nets = record {
-  rules = All-nil (λ (r : Rule first second). get R r.prefix ≡ Some r.hop);
-  cover = All-nil (λ (r : Rule first second). Covers width r.prefix a);
-  longer = All-nil (λ (r : Rule first second). width < r.prefix.len + 0);
-  complete = λ p hop is cov far. let short = (nets p (some_of R p hop is)).0 in absurd (omega (arith, far, short));
-  longest_first = λ i j d before within. absurd (omega (arith, within));
-}
-
 -- the rule of a length that covers an address is the one of its prefix
 rule_at : (width : ℕ) (R : RuleMap) (a len : ℕ) (p : Network) (hop : ℕ) → AllNetworks width R → get R p ≡ Some hop → Covers width p a → p.len ≡ len → p ≡ record { bits = network_bits width len a; len = len }
 rule_at width R a len p hop nets is cov e = network_at width a p (nets p (some_of R p hop is)) cov ∙ ap (λ n. record { bits = network_bits width n a; len = n }) e

@@ -25,13 +25,10 @@ use Rattle.lpm_files.specs.declared.failure.Failure.{Failure}
 use Rattle.lpm_files.specs.declared.failure.Failure.TheVariants as failures
 use Rattle.lpm_commands.specs.Loading.{Loads, addition_of, rules_of_routes, IsLoaded, IsFirstRefused, EndsLoading}
 use Rattle.lpm_commands.specs.Groups.{is_long, long_routes, IsEnough}
+use Rattle.lpm_commands.proofs.Filled.{grouped}
 use Rattle.lpm_commands.proofs.Loaded.{added_limbo, added_readers}
 
 -- ---- how many groups routes need
-
-one_at_most : (here : Bool) (n : ℕ) → cond here n (n + 1) ≤ n + 1
-one_at_most true n = omega arith
-one_at_most false n = omega arith
 
 -- a long route counts for one
 counts_one : (r : Route) → 24 < r.prefix.len → ◌≡◌ {A = ℕ} (cond (is_long r) 1 0) 1
@@ -39,20 +36,10 @@ counts_one r long = ap {B = ℕ} (λ (b : Bool). cond b 1 0) (lt-ltb 24 r.prefix
 
 -- a route needs a group more only where it is long
 one_more : (R : RuleMap) (r : Route) → groups_in_use 24 8 (insert R r.prefix r.hop) ≤ groups_in_use 24 8 R + cond (is_long r) 1 0
-one_more R r =
-    let brings = put_brings_block 24 8 R r.prefix r.hop in
-    let old = deep_blocks 24 8 R in
-    let block = block_of 8 r.prefix in
-    elim (cases_lt 24 r.prefix.len) [
-      | inl long ↦
-          let size = ap set.len (brings.0 long) ∙ set.len-insert nat_cmp_total old block in
-          let most = one_at_most (set.contains old block) (set.len old) in
-          let one = counts_one r long in
-          omega (arith, size, most, one)
-      | inr short ↦
-          let size = ap set.len (brings.1 short) in
-          omega (arith, size)
-    ]
+one_more R r = elim (grouped R r.prefix r.hop) [
+  | inl more ↦ let size = more.1 in let one = counts_one r more.0.0 in omega (arith, size, one)
+  | inr same ↦ let size = same.1 in omega (arith, size)
+]
 
 -- of a route and those after it
 long_first : (r : Route) (routes : List Route) → long_routes (r ∷ routes) ≡ cond (is_long r) 1 0 + long_routes routes
@@ -187,14 +174,14 @@ module _ (c : Config) (n : ℕ) (fewer : n ≤ c.groups) (lasts : c.first_token 
 all_given : (c : Config) (n : ℕ) → n ≡ c.groups → record c { groups = n } ≡ c
 all_given c n all i = record c { groups = all i }
 
-pub loaded_as_given : (c : Config) (routes : List Route) (n : ℕ) (table : State Registry) → IsEnough c routes n → IsLoaded (record c { groups = n }) routes table → IsLoaded c routes table
-loaded_as_given c routes n table enough loaded = elim enough [
+pub loaded_as_given : (c : Config) (routes list : List Route) (n : ℕ) (table : State Registry) → list ≡ routes → IsEnough c list n → IsLoaded (record c { groups = n }) routes table → IsLoaded c routes table
+loaded_as_given c routes list n table same enough loaded = elim (subst (λ (l : List Route). IsEnough c l n) same enough) [
   | inl all ↦ subst (λ (d : Config). IsLoaded d routes table) (all_given c n all) loaded
   | inr some ↦ is_loaded c n some.0 some.2 routes table loaded
 ]
 
-pub ends_as_given : (c : Config) (file : List ℕ) (routes : List Route) (n : ℕ) (failure : Failure) → IsEnough c routes n → EndsLoading (record c { groups = n }) file routes failure → EndsLoading c file routes failure
-ends_as_given c file routes n failure enough ending = elim enough [
+pub ends_as_given : (c : Config) (file : List ℕ) (routes list : List Route) (n : ℕ) (failure : Failure) → list ≡ routes → IsEnough c list n → EndsLoading (record c { groups = n }) file routes failure → EndsLoading c file routes failure
+ends_as_given c file routes list n failure same enough ending = elim (subst (λ (l : List Route). IsEnough c l n) same enough) [
   | inl all ↦ subst (λ (d : Config). EndsLoading d file routes failure) (all_given c n all) ending
   | inr some ↦ ends c n some.0 some.2 file routes failure some.1 ending
 ]

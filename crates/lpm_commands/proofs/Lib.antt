@@ -1,10 +1,9 @@
 pub mod Loaded
-pub mod Groups
 pub mod Filled
+pub mod Groups
 pub mod Sorted
 pub mod Needed
 pub mod Updated
-pub mod Answered
 pub mod Texts
 pub mod Ends
 pub mod Storms

@@ -102,15 +102,3 @@ refused_ends c file routes refusal failure refused memory other ends = elim (is_
   | inl e ↦ subst (EndsLoading c file routes) (sym (memory e)) tt
   | inr reason ↦ subst (EndsLoading c file routes) (sym (other reason)) (ends reason)
 ]
-
--- each counter of a table that was just opened is 0
-no_counter : (n w : ℕ) → slice_index (replicate n 0) w ≡ 0
-no_counter zero w = refl
-no_counter (suc n) zero = refl
-no_counter (suc n) (suc w) = no_counter n w
-
--- no worker of such a table is online
-pub all_offline : (c : Config) (table : State Registry) → table.readers ≡ (initial_by_counters c).readers → (w : ℕ) → ¬ by_counters.is_online table.readers w
-all_offline c table first w online =
-    let none = ap (λ (r : Registry). slice_index r.counters w) first ∙ no_counter c.workers w in
-    absurd (omega (arith, none))

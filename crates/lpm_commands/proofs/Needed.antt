@@ -64,12 +64,6 @@ deep_here rs b r within read long =
     subst (λ (R : RuleMap). IsDeepBlock 24 8 R (block_of 8 r.prefix)) (sym (rules_more rs b r within read))
     (deep_inserted 24 8 (rules_of (take b rs)) r.prefix r.hop long)
 
--- whether a rule brings a group: not where it is short
-pub short_brings : (rs : List (Rule 24 8)) (i : ℕ) (r : Rule 24 8) → i < length rs → r ≡ get_or rs i r → r.prefix.len ≤ 24 → BringsGroup (rules_of (take i rs)) (prefix_at rs i) → ⊥
-short_brings rs i r within read short brings =
-    let long : 24 < r.prefix.len = subst (λ (p : Network). 24 < p.len) (prefix_read rs i r within read) brings.0 in
-    absurd (omega (arith, long, short))
-
 -- a long one that is the first of all does
 pub first_brings : (rs : List (Rule 24 8)) (r : Rule 24 8) → 0 < length rs → r ≡ get_or rs 0 r → 24 < r.prefix.len → BringsGroup (rules_of (take 0 rs)) (prefix_at rs 0)
 first_brings rs r within read long = (
@@ -122,7 +116,7 @@ same_block rs sorted i b l m n s r at within first second long most is size from
       ]),
     )
 
-as_cond : (b : Bool) → ◌≡◌ {A = ℕ} (bool_byte b) (cond b 1 0)
+pub as_cond : (b : Bool) → ◌≡◌ {A = ℕ} (bool_byte b) (cond b 1 0)
 as_cond true = refl
 as_cond false = refl
 

@@ -66,7 +66,3 @@ reported c routes list came log fib state r updated agrees config counts =
       groups = counts.groups ∙ ap (λ (k : Config). k.groups) config;
       token = counts.token ∙ sym agrees.token;
     }
-
--- the same outcomes under another name of the limits and the orders
-pub comes_as : (c d : Config) (x z : State Registry) (list orders : List (Order 24 8)) (came : List Outcome) → d ≡ c → list ≡ orders → ComesOut d x list came z → ComesOut c x orders came z
-comes_as c d x z list orders came limits same comes = subst (λ (k : Config). ComesOut k x orders came z) limits (subst (λ (l : List (Order 24 8)). ComesOut d x l came z) same comes)

@@ -10,7 +10,6 @@ use fib::Fib;
 use lpm_bits::Hop;
 use lpm_files::{Failure, answers_text_on};
 use qsbr::Refusal;
-use shared_fib::{Bench, SharedTable, Writer};
 use std::alloc::Global;
 use std::thread::Threads;
 
@@ -53,64 +52,40 @@ pub fn text_of_live_answers<'a, R: Threads + Sync, G: Gate>(
     ensures text { IfOk result (λ v. IsAnswerText running.writer.table.rules addrs.now v.items) }
     ensures failure { IfErr result (EndsAnswering workers) }
 {
-    let hops = live_hops(rt, alloc, running, workers, addrs, gate)?;
+    let mut running = running;
+    let hops = live_hops(rt, alloc, &mut running, workers, addrs, gate)?;
+    drop(running);
     Ok(answers_text_on(rt, alloc, addrs, &hops, workers)?)
 }
 
-// The next hops of the addresses by this table, which is gone then.
+// The next hops of the addresses by a running table that was just opened, with a desk for each worker.
 fn live_hops<'a, R: Threads + Sync, G: Gate>(
     rt: &R,
     alloc: Global,
-    running: Running,
+    running: &mut Running,
     workers: usize,
     addrs: &[u32],
     gate: &G,
 ) -> Result<Vec<Option<Hop>>, Failure<'a>>
-    requires own { running.writer.identity ≡ running.table }
-    requires full { IsFullBench running.table running.bench }
-    requires workers { workers ≡ running.table.initial.workers }
+    requires own { running.old.writer.identity ≡ running.old.table }
+    requires full { IsFullBench running.old.table running.old.bench }
+    requires workers { workers ≡ running.old.table.initial.workers }
     ensures workers { IfOk result (λ v. 0 < workers) }
     ensures hops { IfOk result (λ v.
-        AreLongestHops 32 running.writer.table.rules addrs.now v.items) }
+        AreLongestHops 32 running.old.writer.table.rules addrs.now v.items) }
     ensures failure { IfErr result (EndsAnswering workers) }
 {
-    let Running {
-        table,
-        mut writer,
-        mut bench,
-    } = running;
-    desk_hops(
+    let table = &running.table;
+    let mut desks = seat_all(alloc, table, &mut running.bench, workers)?;
+    match bulk(
         rt,
         alloc,
-        &table,
-        &mut writer,
-        &mut bench,
-        workers,
+        table,
+        &mut running.writer,
+        desks.as_mut_slice(),
         addrs,
         gate,
-    )
-}
-
-// The next hops of the addresses by a running table that was just opened, with a desk for each worker.
-fn desk_hops<'a, R: Threads + Sync, G: Gate>(
-    rt: &R,
-    alloc: Global,
-    table: &SharedTable<24, 8>,
-    writer: &mut Writer<24, 8>,
-    bench: &mut Bench,
-    workers: usize,
-    addrs: &[u32],
-    gate: &G,
-) -> Result<Vec<Option<Hop>>, Failure<'a>>
-    requires own { writer.old.identity ≡ table.now }
-    requires full { IsFullBench table.now bench.old }
-    requires workers { workers ≡ table.now.initial.workers }
-    ensures workers { IfOk result (λ v. 0 < workers) }
-    ensures hops { IfOk result (λ v. AreLongestHops 32 writer.old.table.rules addrs.now v.items) }
-    ensures failure { IfErr result (EndsAnswering workers) }
-{
-    let mut desks = seat_all(alloc, table, bench, workers)?;
-    match bulk(rt, alloc, table, writer, desks.as_mut_slice(), addrs, gate) {
+    ) {
         Ok(hops) => Ok(hops),
         Err(error) => Err(ending_of(error)),
     }

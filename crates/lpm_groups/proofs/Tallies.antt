@@ -72,11 +72,6 @@ Releases-set xs g at = record {
   free = omega (arith, count_by-set is_free xs g Limbo Free at);
 }
 
--- the counts where all groups are free
-pub free_count-replicate : (n : ℕ) → free_count (replicate n Free) ≡ n
-free_count-replicate zero = refl
-free_count-replicate (suc n) = omega (arith, count_by-cons is_free Free (replicate n Free), free_count-replicate n)
-
 pub linked_count-replicate : (n : ℕ) → linked_count (replicate n Free) ≡ 0
 linked_count-replicate zero = refl
 linked_count-replicate (suc n) = omega (arith, count_by-cons is_linked Free (replicate n Free), linked_count-replicate n)

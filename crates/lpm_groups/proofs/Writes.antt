@@ -34,7 +34,3 @@ linked_to (Free ∷ xs) zero linked = cc
 linked_to (Linked b ∷ xs) zero linked = (b, refl)
 linked_to (Limbo ∷ xs) zero linked = cc
 linked_to (x ∷ xs) (suc g) linked = linked_to xs g linked
-
--- a group that is linked to a block is linked
-pub IsLinkedAt-from_block : (xs : List GroupState) (g b : ℕ) → IsLinkedTo xs g b → IsLinkedAt xs g
-IsLinkedAt-from_block xs g b at = ap (option_map is_linked) at

@@ -10,10 +10,7 @@ use Rattle.lpm_program.specs.Run.{IsRequest, EndsRefused, AsksForHelp, IsCause}
 -- a request that the parser answers is one of the words
 pub asks_for_help : (words : List Text) (why : Refused) → IsRequest why → IsRefusalBy (fault_of the_app words) (subcommand_of the_app words) why → AsksForHelp words
 asks_for_help words (Usage error) request by = (kind_of error, request, by)
-asks_for_help words Memory request by = absurd request
-asks_for_help words NoCommand request by = absurd request
-asks_for_help words (BadAddress number word) request by = absurd request
-asks_for_help words TwoStandardInputs request by = absurd request
+asks_for_help words other request by = absurd request
 
 -- refused words are a cause of the status that they end with
 pub refused_cause : (words : List Text) (bytes : List ℕ → Option (List ℕ)) (why : Refused) (status : ℕ) → EndsRefused why status → IsRefusalBy (fault_of the_app words) (subcommand_of the_app words) why → status ≢ 0 → IsCause words bytes status

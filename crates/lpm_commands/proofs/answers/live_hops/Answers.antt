@@ -1,5 +1,6 @@
-use Rattle.std.proofs.Common.{rules}
+use Rattle.std.proofs.Common.{arith}
+use Rattle.std.proofs.lemmas.Grind.{common_steps}
 use Rattle.lpm_commands.proofs.answers.live_hops.Goals as goal
 
-pub returns-clause-hops : goal.returns-clause-hops
-returns-clause-hops g c = search rules
+pub returns-clause-failure : goal.returns-clause-failure
+returns-clause-failure g c = grind (arith, common_steps)

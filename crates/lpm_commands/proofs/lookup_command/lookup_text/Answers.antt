@@ -1,9 +1,15 @@
-use Rattle.std.proofs.Common.{refl, rules}
+use Rattle.std.proofs.Common.{Result, Ok, Err, refl, rules}
+use Rattle.std.specs.Prelude.{IfOk}
 use Rattle.std.proofs.lemmas.Result.{IfErr-weaker}
-use Rattle.lpm_commands.proofs.Answered.{both_lead}
+use Rattle.lpm_files.specs.declared.failure.Failure.{Failure}
 use Rattle.lpm_commands.proofs.Texts.{is_lookup_text, answered_as}
 use Rattle.lpm_commands.proofs.Ends.{ends_lookup}
 use Rattle.lpm_commands.proofs.lookup_command.lookup_text.Goals as goal
+
+-- two things that are known of a value lead to a third
+both_lead : (T : Type 0) (r : Result T Failure) (P Q S : T → Type 0) → IfOk r P → IfOk r Q → ((v : T) → P v → Q v → S v) → IfOk r S
+both_lead T (Ok v) P Q S one other leads = leads v one other
+both_lead T (Err e) P Q S one other leads = tt
 
 pub returns-clause-text : goal.returns-clause-text
 returns-clause-text g c =

@@ -1,14 +1,10 @@
-use Rattle.std.proofs.Common.{◌≡◌, ◌≤◌, ◌∙◌, ap, sym, subst, refl, ℕ, Bool, true, false, cond, arith}
-use mir.Val.{bool_byte}
+use Rattle.std.proofs.Common.{◌≡◌, ◌≤◌, ◌∙◌, ap, sym, subst, arith}
 use Rattle.std.specs.FinMap.{len}
 use Rattle.lpm_rules.specs.RuleMap.{RuleList}
 use Rattle.fib_model.specs.Outcomes.{groups_in_use}
 use Rattle.lpm_commands.proofs.Filled.{put_fits, put_groups}
+use Rattle.lpm_commands.proofs.Needed.{as_cond}
 use Rattle.lpm_commands.proofs.refusals.put.Goals as goal
-
-as_cond : (b : Bool) → ◌≡◌ {A = ℕ} (bool_byte b) (cond b 1 0)
-as_cond true = refl
-as_cond false = refl
 
 pub returns-clause-most : goal.returns-clause-most
 returns-clause-most c =
