@@ -5,30 +5,4 @@
 #![tactic(auto)]
 
 #[cfg(test)]
-mod asserting;
-#[cfg(test)]
-mod audits;
-#[cfg(test)]
-mod cases;
-#[cfg(test)]
-mod command_lines;
-#[cfg(test)]
-mod explaining;
-#[cfg(test)]
-mod failing;
-#[cfg(test)]
-mod fakes;
-#[cfg(test)]
-mod files;
-#[cfg(test)]
-mod known;
-#[cfg(test)]
-mod meeting;
-#[cfg(test)]
-mod pieces;
-#[cfg(test)]
-mod refusals;
-#[cfg(test)]
-mod words;
-#[cfg(test)]
-mod wrong_answers;
+mod tests;

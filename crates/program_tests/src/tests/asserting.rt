@@ -3,7 +3,6 @@
 use std::alloc::Global;
 use std::fmt::{Debug, Display};
 use std::process::Abort;
-use std::test::Fail;
 
 /// What was found is what is wanted; else the message names the row.
 pub(crate) fn assert_at<R: Debug + Copy, T: PartialEq + Debug + Copy>(
@@ -16,13 +15,7 @@ pub(crate) fn assert_at<R: Debug + Copy, T: PartialEq + Debug + Copy>(
 }
 
 /// The value is shown as this text.
-pub(crate) fn assert_shown<D: Display>(
-    rt: &impl Abort,
-    alloc: Global,
-    value: &D,
-    text: &str,
-) -> Result<(), Fail> {
-    let found = format!(in alloc; "{value}")?;
-    assert_eq!(rt; found.as_str(), text);
-    Ok(())
+pub(crate) fn assert_shown<D: Display>(rt: &impl Abort, alloc: Global, value: &D, text: &str) {
+    let found = format!(in alloc; "{value}").expect(rt, "memory");
+    assert_at(rt, "text", found.as_str(), text);
 }

@@ -1,6 +1,6 @@
 use Rattle.std.proofs.Common.{arith, ◌^◌, ◌<◌}
 use Rattle.std.proofs.lemmas.List.Elements.{AllWithin-more, at_read}
-use Rattle.program_tests.proofs.wrong_answers.read_addresses.Goals as goal
+use Rattle.program_tests.proofs.tests.wrong_answers.read_addresses.Goals as goal
 
 pub loop-x-preserved : goal.loop-x-preserved
 loop-x-preserved c =

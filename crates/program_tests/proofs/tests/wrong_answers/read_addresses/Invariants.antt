@@ -1,6 +1,6 @@
 use Rattle.std.proofs.Common.{◌^◌, ◌<◌}
 use Rattle.std.specs.List.{AllWithin}
-use Rattle.program_tests.proofs.wrong_answers.read_addresses.Given as goal
+use Rattle.program_tests.proofs.tests.wrong_answers.read_addresses.Given as goal
 
 -- the addresses before this one have 32 bits
 abbrev pub invariant-loop-x : goal.invariant-loop-x

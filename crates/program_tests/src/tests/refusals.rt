@@ -1,9 +1,10 @@
 //! The texts of refusals.
 
+use super::asserting::{assert_at, assert_shown};
 use lpm_files::Failure;
 use qsbr::Refusal;
+use std::alloc::Global;
 use std::process::Abort;
-use std::test::Fail;
 
 static REFUSALS: [(Refusal, &str); 3] = [
     (
@@ -18,26 +19,19 @@ static REFUSALS: [(Refusal, &str); 3] = [
 ];
 
 // The text of a route's refusal, and the exit status.
-fn assert_refusal(
-    rt: &(impl Abort + AllocGlobal),
-    refusal: Refusal,
-    wanted: &str,
-) -> Result<(), Fail> {
+fn assert_refusal(rt: &impl Abort, alloc: Global, refusal: Refusal, wanted: &str) {
     let failure = Failure::RefusedRoute {
         path: "r",
         line: 9,
         refusal,
     };
-    let found = format!(in rt.alloc(); "{failure}")?;
-    assert_eq!(rt; found.as_str(), wanted);
-    assert_eq!(rt; failure.status(), 6, "{wanted}");
-    Ok(())
+    assert_shown(rt, alloc, &failure, wanted);
+    assert_at(rt, wanted, failure.status(), 6);
 }
 
 #[test]
-fn texts_of_refusals(rt: HostRuntime) -> Result<(), Fail> {
+fn texts_of_refusals(rt: HostRuntime) {
     for (refusal, text) in &REFUSALS {
-        assert_refusal(&rt, *refusal, text)?;
+        assert_refusal(&rt, rt.alloc(), *refusal, text);
     }
-    Ok(())
 }

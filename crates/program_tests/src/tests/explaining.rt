@@ -3,15 +3,15 @@
 use super::asserting::assert_at;
 use super::cases::assert_ends;
 use super::fakes::whole;
-use lpm_bits::{Hop, Prefix};
 use lpm_commands::covering_rules;
 use lpm_rules::{Rule, Rules};
 use std::alloc::Global;
 use std::process::Abort;
 use std::test::Fail;
+use test_support::{Plain, rule_of};
 
 // Rules of addresses of eight bits: bits, length and next hop.
-static RULES: [(u32, u32, u32); 6] = [
+static RULES: [Plain; 6] = [
     (0xa0, 3, 1),
     (0x00, 0, 2),
     (0xa6, 8, 3),
@@ -29,17 +29,9 @@ static COVERED: [(u32, &[(u32, u32)]); 5] = [
     (0xff, &[(0, 2)]),
 ];
 
-fn rule(rt: &impl Abort, bits: u32, len: u32, hop: u32) -> Rule<4, 4> {
-    assert!(rt; bits < 256);
-    Rule {
-        prefix: Prefix::new(bits, len).expect(rt, "a length"),
-        hop: Hop::new(hop).expect(rt, "a next hop"),
-    }
-}
-
 fn put_all(rt: &impl Abort, rules: &mut Rules<4, 4>) {
-    for (bits, len, hop) in &RULES {
-        let new = rule(rt, *bits, *len, *hop);
+    for plain in &RULES {
+        let new = rule_of::<4, 4>(*plain).expect(rt, "a rule");
         rules.put(&new.prefix, new.hop).expect(rt, "room");
     }
 }
@@ -48,26 +40,25 @@ fn put_all(rt: &impl Abort, rules: &mut Rules<4, 4>) {
 fn assert_rules(rt: &impl Abort, addr: u32, found: &[Rule<4, 4>], wanted: &[(u32, u32)]) {
     assert_at(rt, addr, found.len(), wanted.len());
     for (got, (len, hop)) in found.iter().zip(wanted) {
-        assert_at(rt, addr, *got, rule(rt, addr, *len, *hop));
+        assert_at(rt, addr, Some(*got), rule_of((addr, *len, *hop)));
     }
 }
 
 #[test]
-fn all_rules_that_cover(rt: HostRuntime) -> Result<(), Fail> {
+fn all_rules_that_cover(rt: HostRuntime) {
     let mut rules = Rules::new(rt.alloc(), 6);
     put_all(&rt, &mut rules);
     for (addr, wanted) in &COVERED {
-        let found = covering_rules(rt.alloc(), &rules, *addr)?;
+        let found = covering_rules(rt.alloc(), &rules, *addr).expect(&rt, "memory");
         assert_rules(&rt, *addr, &found, wanted);
     }
-    Ok(())
 }
 
 #[test]
-fn no_rule_covers(rt: HostRuntime) -> Result<(), Fail> {
+fn no_rule_covers(rt: HostRuntime) {
     let rules = Rules::<4, 4>::new(rt.alloc(), 6);
-    assert!(rt; covering_rules(rt.alloc(), &rules, 0xa6)?.is_empty());
-    Ok(())
+    let found = covering_rules(rt.alloc(), &rules, 0xa6).expect(&rt, "memory");
+    assert_rules(&rt, 0xa6, &found, &[]);
 }
 
 // How many routes the file has.

@@ -10,19 +10,11 @@ use test_support::Meeting;
 
 // Two pieces of four addresses, each of which waits before each address for the other one.
 #[derive(Drop)]
-struct Waiting {
-    meeting: Meeting,
-}
+struct Waiting(Meeting);
 
 impl Gate for Waiting {
     fn at(&self, piece: usize, i: usize) {
-        self.meeting.at(piece, i);
-    }
-}
-
-fn new_waiting() -> Waiting {
-    Waiting {
-        meeting: Meeting::new(),
+        self.0.at(piece, i);
     }
 }
 
@@ -50,24 +42,24 @@ fn two_workers() -> Config
 
 #[test]
 fn two_pieces_see_each_other(rt: HostRuntime) {
-    let gate = new_waiting();
+    let gate = Waiting(Meeting::new());
     let (alloc, config) = (rt.alloc(), two_workers());
     let mut out = Vec::new(alloc);
     let is_done = known_lookup(&rt, alloc, ROUTES, ADDRESSES, config, &gate, &mut out);
     assert_wrote(&rt, is_done, &out, TEXT);
-    assert_at(&rt, "met", gate.meeting.is_kept(), true);
+    assert_at(&rt, "met", gate.0.is_kept(), true);
 }
 
 #[test]
 fn two_pieces_after_updates_see_each_other(rt: HostRuntime) {
-    let gate = new_waiting();
+    let gate = Waiting(Meeting::new());
     let (alloc, config) = (rt.alloc(), two_workers());
     let mut out = Vec::new(alloc);
     let is_done = known_apply(
         &rt, alloc, ROUTES, UPDATES, ADDRESSES, config, &gate, &mut out,
     );
     assert_wrote(&rt, is_done, &out, TEXT_AFTER_UPDATES);
-    assert_at(&rt, "met", gate.meeting.is_kept(), true);
+    assert_at(&rt, "met", gate.0.is_kept(), true);
 }
 
 const FOUR_ADDRESSES: &str = "10.0.0.1\n10.0.0.2\n11.0.0.1\n12.0.0.1\n";
@@ -81,7 +73,7 @@ const STORM_TEXT: &str = "answers 4\nrefused 0\nwrong 0\n\
 // The worker is piece 0 of the gate, and the writer piece 1.
 #[test]
 fn storm_threads_meet(rt: HostRuntime) {
-    let gate = new_waiting();
+    let gate = Waiting(Meeting::new());
     let (alloc, config) = (rt.alloc(), Config::default());
     let mut out = Vec::new(alloc);
     let is_done = known_storm(
@@ -96,5 +88,5 @@ fn storm_threads_meet(rt: HostRuntime) {
         &mut out,
     );
     assert_wrote(&rt, is_done, &out, STORM_TEXT);
-    assert_at(&rt, "met", gate.meeting.is_kept(), true);
+    assert_at(&rt, "met", gate.0.is_kept(), true);
 }

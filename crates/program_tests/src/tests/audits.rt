@@ -4,23 +4,14 @@ use super::asserting::assert_at;
 use audit::{Report, expect, report_text};
 use lpm_bits::Hop;
 use lpm_rules::{Put, Rule, Rules};
-use std::alloc::{AllocError, Global};
+use std::alloc::Global;
 use std::process::Abort;
-use std::test::Fail;
-use std::thread::Threads;
-use test_support::{MANY, Plain, block, hop_number, rule_of};
+use test_support::{MANY, Plain, THREE, block, hop_number, rule_of};
 
 fn put(rt: &impl Abort, rules: &mut Rules<24, 8>, plain: Plain) {
     let Rule { prefix, hop } = rule_of::<24, 8>(plain).expect(rt, "a rule");
     assert_at(rt, plain, rules.put(&prefix, hop), Ok(Put::Added));
 }
-
-// 10.0.0.0/8, 10.1.0.0/16 and 10.1.1.128/25, with the next hops 1, 2 and 3.
-static THREE: [Plain; 3] = [
-    (0x0a00_0000, 8, 1),
-    (0x0a01_0000, 16, 2),
-    (0x0a01_0180, 25, 3),
-];
 
 fn put_three(rt: &impl Abort, rules: &mut Rules<24, 8>) {
     for plain in &THREE {
@@ -38,14 +29,16 @@ fn assert_hops(rt: &impl Abort, hops: &[Option<Hop>]) {
 }
 
 #[test]
-fn expects_the_longest(rt: HostRuntime) -> Result<(), Fail> {
+fn expects_the_longest(rt: HostRuntime) {
     let addrs = [0x0a01_017f, 0x0a01_0180, 0x0a02_0000, 0x0b00_0000];
     let mut rules = Rules::new(rt.alloc(), 3);
     put_three(&rt, &mut rules);
-    assert_hops(&rt, &expect(&rt, rt.alloc(), &rules, &addrs)?);
-    let none = expect(&rt, rt.alloc(), &rules, &[])?;
+    assert_hops(
+        &rt,
+        &expect(&rt, rt.alloc(), &rules, &addrs).expect(&rt, "memory"),
+    );
+    let none = expect(&rt, rt.alloc(), &rules, &[]).expect(&rt, "memory");
     assert_at(&rt, "no addresses", none.len(), 0);
-    Ok(())
 }
 
 // Puts in a rule for each block, with its number as the next hop.
@@ -56,14 +49,15 @@ fn put_many(rt: &impl Abort, rules: &mut Rules<24, 8>) {
 }
 
 // The last address of each block.
-fn last_addresses(alloc: Global) -> Result<Vec<u32>, AllocError> {
+fn last_addresses(rt: &impl Abort, alloc: Global) -> Vec<u32> {
     let mut addrs = Vec::new(alloc);
     for number in 0..MANY {
-        addrs.push(block(number) | 255)?;
+        addrs.push(block(number) | 255).expect(rt, "memory");
     }
-    Ok(addrs)
+    addrs
 }
 
+// The last address of each block has its number as the next hop.
 fn assert_numbers(rt: &impl Abort, hops: &[Option<Hop>]) {
     assert_at(rt, "hops", hops.len(), MANY as usize);
     for (hop, number) in hops.iter().zip(0..MANY) {
@@ -71,27 +65,17 @@ fn assert_numbers(rt: &impl Abort, hops: &[Option<Hop>]) {
     }
 }
 
-// The last address of each block has its number as the next hop.
-fn assert_many<R: Abort + Threads + Sync>(
-    rt: &R,
-    alloc: Global,
-    rules: &Rules<24, 8>,
-    addrs: &[u32],
-) -> Result<(), Fail> {
-    assert_numbers(rt, &expect(rt, alloc, rules, addrs)?);
-    Ok(())
-}
-
 #[test]
-fn expects_many(rt: HostRuntime) -> Result<(), Fail> {
+fn expects_many(rt: HostRuntime) {
     let mut rules = Rules::new(rt.alloc(), MANY as usize);
     put_many(&rt, &mut rules);
-    let addrs = last_addresses(rt.alloc())?;
-    assert_many(&rt, rt.alloc(), &rules, &addrs)
+    let addrs = last_addresses(&rt, rt.alloc());
+    let hops = expect(&rt, rt.alloc(), &rules, &addrs).expect(&rt, "memory");
+    assert_numbers(&rt, &hops);
 }
 
 #[test]
-fn reports_six_lines(rt: HostRuntime) -> Result<(), Fail> {
+fn reports_six_lines(rt: HostRuntime) {
     let report = Report {
         rules: 3,
         versions: 18_446_744_073_709_551_615,
@@ -100,8 +84,7 @@ fn reports_six_lines(rt: HostRuntime) -> Result<(), Fail> {
         free: 235,
         token: 0,
     };
-    let text = report_text(rt.alloc(), &report)?;
+    let text = report_text(rt.alloc(), &report).expect(&rt, "memory");
     let lines = b"rules 3\nversions 18446744073709551615\nin use 1\nlimbo 20\nfree 235\ntoken 0\n";
     assert_at(&rt, "lines", text.as_slice() == lines.as_slice(), true);
-    Ok(())
 }
