@@ -145,9 +145,9 @@ def options():
     pattern = r"const (\w+): Range = Range \{\s*first: (\w+),\s*last: (\w+),"
     ranges = {prefix + name: (first.replace("_", ""), last.replace("_", ""))
               for prefix, text in places.items() for name, first, last in re.findall(pattern, text)}
-    numbers = re.findall(r'with_number\(\s*alloc,\s*made,\s*"(\w+)",\s*([\w:]+),\s*"(\d+)"', SOURCE)
+    numbers = re.findall(r'\bnumber\(\s*alloc,\s*"(\w+)",\s*([\w:]+),\s*"(\d+)"', SOURCE)
     found = {name: (*ranges[where], default) for name, where, default in numbers}
-    return {**found, **dict.fromkeys(re.findall(r'with_flag\(alloc, made, "(\w+)"', SOURCE))}
+    return {**found, **dict.fromkeys(re.findall(r'\bflag\(\s*alloc,\s*"(\w+)"', SOURCE))}
 
 
 # ---- what the pages say; each check gives what is wrong
