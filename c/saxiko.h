@@ -273,8 +273,8 @@ int32_t saxiko_reader_lookup_bulk(struct saxiko_reader *reader, const uint32_t *
                                   uint32_t *hops, size_t hops_len, uint32_t absent);
 
 /* The same two, and they store between which versions the answer lies, or all answers of the list; lookup_span also where
- * it returns -ENOENT; of an empty list `lo` is UINT64_MAX and `hi` is 0. Each other refusal is as theirs, and stores
- * nothing. On the reader's thread. */
+ * it returns -ENOENT. The addresses of a list are looked up one by one; of an empty one `lo` is UINT64_MAX and `hi` is 0.
+ * Each other refusal is as theirs, and stores nothing. On the reader's thread. */
 int32_t saxiko_reader_lookup_span(struct saxiko_reader *reader, uint32_t addr, uint32_t *hop,
                                   struct saxiko_span *span);
 int32_t saxiko_reader_lookup_bulk_span(struct saxiko_reader *reader, const uint32_t *addrs, size_t addrs_len,

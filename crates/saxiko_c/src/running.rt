@@ -8,7 +8,7 @@ ghost use Rattle.saxiko_c.specs.Opened.{IsOpenedWith};
 ghost use Rattle.saxiko_c.specs.Running.{AddsTo, Counts, DeletesFrom, Finds, FindsAllIn, FindsAllWithin, FindsBetween, FindsIn, FindsWithin, Flushes, FreesHeld, GetsFrom, GivesBack, GoesOffline, GoesOnline, IsCountedIn, IsOpened, IsRegistered, IsUnregistered, Quiesces};
 ghost use Rattle.saxiko_c.specs.Table.{IsUnopened};
 
-use crate::bursts::find_all;
+use crate::bursts::{find_all, find_all_within};
 use crate::loading::read;
 use crate::owner::Owner;
 use crate::records::{SaxikoCounts, SaxikoHeld, SaxikoRoute, SaxikoSpan};
@@ -339,10 +339,6 @@ pub(crate) fn lookup_all_within(
     if addrs.len() != hops.len() {
         return EINVAL;
     }
-    let burst = reader.lookup_bulk(addrs, default, hops);
-    *span = SaxikoSpan {
-        lo: burst.lo,
-        hi: burst.hi,
-    };
+    find_all_within(reader, addrs, hops, default, span);
     0
 }

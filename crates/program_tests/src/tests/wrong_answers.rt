@@ -349,6 +349,7 @@ fn counts_from_a_later_version(rt: HostRuntime) {
         Edit::Add(0x0a00_0000, 8, 3),
     ];
     let history = history_of(&rt, rt.alloc(), &edits);
+    assert_eq!(&rt; history.len(), 3);
     let rows = [(2, 0, 0), (1, 0, 1), (3, 1, 5), (3, 0, 0), (3, 2, 9)];
     let answers = answers_for(&rt, rt.alloc(), ADDR, &rows);
     let past = Past::new(rt.alloc(), &history).expect(&rt, "memory");

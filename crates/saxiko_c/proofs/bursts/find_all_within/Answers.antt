@@ -1,0 +1,35 @@
+use Rattle.std.proofs.Common.{◌≡◌, ◌≤◌, ◌+◌, [], length, refl, arith, rules, ◌∙◌}
+use Rattle.std.specs.Prelude.{min, max}
+use Rattle.shared_fib.proofs.Pieces.{burst_after}
+use Rattle.saxiko_c.proofs.Pieces.{all_found}
+use Rattle.saxiko_c.proofs.bursts.find_all_within.Goals as goal
+
+pub loop-at-init : goal.loop-at-init
+loop-at-init c = record {
+  bound = omega arith;
+  sizes = refl;
+  online = c.requires.online;
+  found = ([], record { pieces = []; addrs_are = refl; hops_are = refl; lo_is = refl; hi_is = refl; steps = refl }, refl);
+}
+
+pub loop-at-preserved : goal.loop-at-preserved
+loop-at-preserved c =
+    let l = c.loop-at in
+    let one = c.find_one-one in
+    let lo : c.min-lo.result ≡ min l.lo one.result.lo = search rules in
+    let hi : c.max-hi.result ≡ max l.hi one.result.hi = search rules in
+    record {
+      bound = rw one.ensures.len (omega arith);
+      sizes = one.ensures.len ∙ l.invariant.sizes;
+      online = one.ensures.online;
+      found = burst_after c.args.default c.args.addrs.now l.hops one.new.hops l.at (l.at + 1)
+          l.lo l.hi one.result.lo one.result.hi c.min-lo.result c.max-hi.result
+          c.args.reader.now l.reader one.new.reader l.invariant.found one.ensures.found lo hi;
+    }
+
+pub returns-clause-found : goal.returns-clause-found
+returns-clause-found c =
+    let l = c.loop-at in
+    let few : length l.hops ≤ l.at = omega (arith, c.loop-at-test.false) in
+    let few_addrs : length c.args.addrs.now ≤ l.at = omega (arith, few, l.invariant.sizes, c.requires.sizes) in
+    all_found c.args.default c.args.addrs.now l.hops l.at l.lo l.hi _ _ few_addrs few l.invariant.found
