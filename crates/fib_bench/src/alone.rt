@@ -21,7 +21,7 @@ const TURNS: Turns = Turns {
 };
 
 /// Prints the size of a table of one thread that has these routes, and what its lookups and changes take.
-pub fn print_alone<R: Clock + Print + AllocGlobal + Threads + Sync, G: Rng>(
+pub(crate) fn print_alone<R: Clock + Print + AllocGlobal + Threads + Sync, G: Rng>(
     rt: &R,
     table: &mut Fib<24, 8>,
     routes: &[Route],

@@ -13,13 +13,13 @@ const SAMPLE: usize = 10_000;
 
 /// What is done with a route.
 #[derive(Clone, Copy)]
-pub enum Change {
+pub(crate) enum Change {
     Add,
     Delete,
 }
 
 /// A table whose routes can change.
-pub trait Changeable {
+pub(crate) trait Changeable {
     /// Adds the route, or deletes it.
     fn change(&mut self, what: Change, route: &Route) -> Result<(), Refusal>;
 }
@@ -36,7 +36,7 @@ impl Changeable for Fib<24, 8> {
 }
 
 /// How long it takes to add these routes, or to delete them, which the table has then.
-pub fn time_changes<R: Clock, T: Changeable>(
+pub(crate) fn time_changes<R: Clock, T: Changeable>(
     rt: &R,
     table: &mut T,
     what: Change,
@@ -50,7 +50,7 @@ pub fn time_changes<R: Clock, T: Changeable>(
 }
 
 /// Deletes the route and adds it again. It returns how many of the two changes were made.
-pub fn change_twice<T: Changeable>(table: &mut T, route: &Route) -> u64 {
+pub(crate) fn change_twice<T: Changeable>(table: &mut T, route: &Route) -> u64 {
     let is_gone = table.change(Change::Delete, route).is_ok();
     let is_back = table.change(Change::Add, route).is_ok();
     u64::from(is_gone) + u64::from(is_back)
@@ -58,7 +58,7 @@ pub fn change_twice<T: Changeable>(table: &mut T, route: &Route) -> u64 {
 
 /// Prints what it takes to delete part of these routes and to add them again, in lines with this behind their
 /// first word.
-pub fn print_changes<R: Clock + Print, T: Changeable>(
+pub(crate) fn print_changes<R: Clock + Print, T: Changeable>(
     rt: &R,
     table: &mut T,
     routes: &[Route],

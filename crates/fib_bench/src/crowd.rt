@@ -42,7 +42,7 @@ const CROWDS: [(usize, &str); 4] = [
 
 /// Prints what the lookups of 1 to 4 passes take at once: while nothing changes, while the writer changes
 /// routes of up to 24 bits, and longer ones, and while a table is changed that no pass reads.
-pub fn print_at_once<R: Clock + Print + AllocGlobal + Threads + Sync>(
+pub(crate) fn print_at_once<R: Clock + Print + AllocGlobal + Threads + Sync>(
     rt: &R,
     readers: &mut [Reader<'_>],
     changer: &mut Changer<'_>,

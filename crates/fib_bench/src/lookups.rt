@@ -6,7 +6,7 @@ use rand_core::Rng;
 use std::alloc::{AllocError, Global};
 
 /// What has a next hop for each address.
-pub trait Table {
+pub(crate) trait Table {
     /// The number of the address's next hop, 0 where it has none.
     fn number(&self, addr: u32) -> u64;
 }
@@ -20,7 +20,7 @@ impl Table for Fib<24, 8> {
 
 /// The number of a next hop, 0 where there is none.
 #[inline]
-pub fn number_of(hop: Option<Hop>) -> u64 {
+pub(crate) fn number_of(hop: Option<Hop>) -> u64 {
     match hop {
         Some(hop) => u64::from(hop.number()),
         None => 0,
@@ -29,7 +29,7 @@ pub fn number_of(hop: Option<Hop>) -> u64 {
 
 /// The addresses at which a table is read.
 #[derive(Clone, Copy)]
-pub enum Addresses<'a> {
+pub(crate) enum Addresses<'a> {
     /// These.
     Listed(&'a [u32]),
     /// One in each 251, upwards: from the one of this place on, and those before the one of that place.
@@ -39,7 +39,7 @@ pub enum Addresses<'a> {
 /// How many addresses a list has.
 const LISTED: usize = 4_194_304;
 /// All ascending addresses.
-pub const ASCENDING: Addresses<'static> = Addresses::Ascending(0, 16_777_216);
+pub(crate) const ASCENDING: Addresses<'static> = Addresses::Ascending(0, 16_777_216);
 /// How far one ascending address is from the next.
 const STRIDE: u32 = 251;
 /// How many addresses are timed together.
@@ -47,7 +47,7 @@ const PIECE: u32 = 65_536;
 
 impl<'a> Addresses<'a> {
     /// How many there are.
-    pub fn count(self) -> usize {
+    pub(crate) fn count(self) -> usize {
         match self {
             Addresses::Listed(addrs) => addrs.len(),
             Addresses::Ascending(from, to) => to.saturating_sub(from) as usize,
@@ -55,12 +55,12 @@ impl<'a> Addresses<'a> {
     }
 
     /// How many pieces they have.
-    pub fn pieces(self) -> usize {
+    pub(crate) fn pieces(self) -> usize {
         self.count() / PIECE as usize + 1
     }
 
     /// The first piece, and the addresses behind it. The last piece may be shorter, or empty.
-    pub fn split(self) -> (Addresses<'a>, Addresses<'a>) {
+    pub(crate) fn split(self) -> (Addresses<'a>, Addresses<'a>) {
         match self {
             Addresses::Listed(addrs) => {
                 let (piece, rest) = addrs.split_at(addrs.len().min(PIECE as usize));
@@ -79,13 +79,13 @@ impl<'a> Addresses<'a> {
 
 /// The ascending address of this place.
 #[inline]
-pub fn ascending(place: u32) -> u32 {
+pub(crate) fn ascending(place: u32) -> u32 {
     place.wrapping_mul(STRIDE)
 }
 
 /// Where drawn addresses are.
 #[derive(Clone, Copy)]
-pub enum Kind {
+pub(crate) enum Kind {
     /// Anywhere: they have any bits.
     Random,
     /// In blocks that have a deep route.
@@ -96,7 +96,7 @@ pub enum Kind {
 
 impl Kind {
     /// What the kind is called.
-    pub fn name(self) -> &'static str {
+    pub(crate) fn name(self) -> &'static str {
         match self {
             Kind::Random => "random",
             Kind::Deep => "deep",
@@ -107,7 +107,7 @@ impl Kind {
 
 /// Addresses of this kind, drawn anew. These blocks have a deep route, each given by its first address.
 /// Where there is none, the addresses are anywhere.
-pub fn draw_addresses<R: Rng>(
+pub(crate) fn draw_addresses<R: Rng>(
     alloc: Global,
     random: &mut R,
     kind: Kind,
@@ -135,7 +135,7 @@ fn draw_address<R: Rng>(random: &mut R, kind: Kind, blocks: &[u32]) -> u32 {
 }
 
 /// What answers lookups at many addresses.
-pub trait Side {
+pub(crate) trait Side {
     /// The sum of the numbers of the next hops at these addresses.
     fn sum(&mut self, addresses: Addresses<'_>) -> u64;
 }

@@ -20,14 +20,14 @@ const BETWEEN_REPORTS: usize = 1024;
 
 /// How many lookups of a worker beside others are timed together: so few that most pieces have no wait for a
 /// core in them.
-pub const PIECE: usize = 8_192;
+pub(crate) const PIECE: usize = 8_192;
 
 /// How many pieces of one list a worker can time.
 const PIECES: usize = 512;
 
 /// How many addresses a worker looks up together.
 #[derive(Clone, Copy)]
-pub enum Way {
+pub(crate) enum Way {
     /// One.
     Single,
     /// Four, where they are listed. Those past the last four are left out.
@@ -37,13 +37,13 @@ pub enum Way {
 /// A worker, in which way it looks addresses up alone, and how long it took to look them up beside others: all,
 /// and each piece of them. It is online while it looks up, and offline else.
 #[derive(Drop)]
-pub struct Reader<'a> {
+pub(crate) struct Reader<'a> {
     table: &'a SharedTable<24, 8>,
     pass: Pass,
-    pub way: Way,
+    pub(crate) way: Way,
     // The sum of the next hops that it has found beside others.
     sum: u64,
-    pub took: Duration,
+    pub(crate) took: Duration,
     pieces: [Duration; PIECES],
     ghost own: { pass.table ≡ table.now },
     ghost offline: { pass.online ≡ false },
@@ -51,7 +51,7 @@ pub struct Reader<'a> {
 
 impl<'a> Reader<'a> {
     /// The worker of this number.
-    pub fn new(
+    pub(crate) fn new(
         table: &'a SharedTable<24, 8>,
         bench: &mut Bench,
         worker: usize,
@@ -71,13 +71,13 @@ impl<'a> Reader<'a> {
     }
 
     /// How long each piece took where it looked so many addresses up. What is left of them isn't among these.
-    pub fn times_of_pieces(&self, addrs: usize) -> &[Duration] {
+    pub(crate) fn times_of_pieces(&self, addrs: usize) -> &[Duration] {
         &self.pieces[..PIECES.min(addrs / PIECE)]
     }
 
     /// Looks these addresses up, reports now and then that the worker is quiescent, and notes how long it
     /// took, as a whole and each piece: the greatest time where the clock can't be read.
-    pub fn add_timed<R: Clock>(&mut self, rt: &R, addrs: &[u32]) {
+    pub(crate) fn add_timed<R: Clock>(&mut self, rt: &R, addrs: &[u32]) {
         let start = Instant::now(rt);
         self.pass.online(self.table);
         let found = sum_by_pieces(rt, self.table, &mut self.pass, addrs, &mut self.pieces);
@@ -204,7 +204,7 @@ fn sum_by_fours(table: &SharedTable<24, 8>, pass: &mut Pass, addrs: &[u32]) -> u
 
 /// Which table is changed while passes look up.
 #[derive(Clone, Copy)]
-pub enum Whose {
+pub(crate) enum Whose {
     /// Theirs, by its writer.
     Running,
     /// One that they don't read.
@@ -213,7 +213,7 @@ pub enum Whose {
 
 /// A running table, and its writer.
 #[derive(Drop)]
-pub struct Running<'a> {
+pub(crate) struct Running<'a> {
     table: &'a SharedTable<24, 8>,
     writer: Writer<24, 8>,
     ghost own: { writer.identity ≡ table.now },
@@ -232,15 +232,15 @@ impl<'a> Changeable for Running<'a> {
 
 /// A running table, a table of one thread with the same routes, and how many changes were made of either.
 #[derive(Drop)]
-pub struct Changer<'a> {
-    pub running: Running<'a>,
-    pub apart: &'a mut Fib<24, 8>,
-    pub made: u64,
+pub(crate) struct Changer<'a> {
+    pub(crate) running: Running<'a>,
+    pub(crate) apart: &'a mut Fib<24, 8>,
+    pub(crate) made: u64,
 }
 
 impl<'a> Changer<'a> {
     /// The running table with its writer, and the other one. No change was made.
-    pub fn new(
+    pub(crate) fn new(
         table: &'a SharedTable<24, 8>,
         writer: Writer<24, 8>,
         apart: &'a mut Fib<24, 8>,
@@ -269,7 +269,7 @@ impl<'a> Changer<'a> {
     }
 
     /// Changes these routes again and again, until the lookups are over. With no routes it doesn't wait.
-    pub fn change_until(&mut self, whose: Whose, routes: &[Route], is_over: &AtomicBool) {
+    pub(crate) fn change_until(&mut self, whose: Whose, routes: &[Route], is_over: &AtomicBool) {
         for _ in 0..u64::MAX {
             if routes.is_empty() || is_over.load(Ordering::SeqCst) {
                 break;

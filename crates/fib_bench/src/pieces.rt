@@ -18,7 +18,7 @@ const WORKERS: usize = 4;
 /// Prints what it takes to answer the addresses with one worker and with four, each lookup in
 /// nanoseconds: the whole call, in which room is made, the pieces are answered and the answers are
 /// joined; and the answering alone, from the first address of a piece to the last.
-pub fn print_pieces<R: Clock + Print + AllocGlobal + Threads + Sync>(
+pub(crate) fn print_pieces<R: Clock + Print + AllocGlobal + Threads + Sync>(
     rt: &R,
     table: &Fib<24, 8>,
     addrs: &[u32],

@@ -16,7 +16,10 @@ use std::thread::Threads;
 
 /// Measures a table of that many routes, and prints a line for each figure. Then it measures another one
 /// with the same routes as a running table, beside the first.
-pub fn run<R: Clock + Print + AllocGlobal + Threads + Sync>(rt: &R, count: usize) -> Result<()> {
+pub(crate) fn run<R: Clock + Print + AllocGlobal + Threads + Sync>(
+    rt: &R,
+    count: usize,
+) -> Result<()> {
     let mut table = Fib::<24, 8>::open(rt.alloc(), limits())?;
     measure(rt, &mut table, count)
 }

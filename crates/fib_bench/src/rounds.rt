@@ -8,26 +8,26 @@ use std::time::Duration;
 
 /// What all rounds of passes took that looked all addresses up at once.
 #[derive(Clone, Copy)]
-pub struct AtOnce {
+pub(crate) struct AtOnce {
     /// The mean time of the passes, in the round where it is least.
-    pub mean: Duration,
+    pub(crate) mean: Duration,
     /// The least time of a round until the last pass had ended.
-    pub last: Duration,
+    pub(crate) last: Duration,
     /// The median, over the rounds, of the mean time of the passes.
-    pub median_round: Duration,
+    pub(crate) median_round: Duration,
     /// The time that half of the pieces of all rounds took at most.
-    pub median_piece: Duration,
+    pub(crate) median_piece: Duration,
     /// The time that nine tenths of them took at most.
-    pub nine_tenths: Duration,
+    pub(crate) nine_tenths: Duration,
     /// The sum, over the rounds, of the times until the last pass had ended.
-    pub total: Duration,
+    pub(crate) total: Duration,
     /// How many changes were made meanwhile.
-    pub made: u64,
+    pub(crate) made: u64,
 }
 
 impl AtOnce {
     /// The times that are compared with those beside other changes, and what their ratio is called.
-    pub fn compared(self) -> [(&'static str, Duration); 5] {
+    pub(crate) fn compared(self) -> [(&'static str, Duration); 5] {
         [
             ("ratio", self.mean),
             ("ratio of the last", self.last),
@@ -40,7 +40,7 @@ impl AtOnce {
 
 /// The rounds until now.
 #[derive(Drop)]
-pub struct Rounds {
+pub(crate) struct Rounds {
     // The least mean time of the passes, and the least time until the last pass had ended.
     mean: Duration,
     last: Duration,
@@ -56,7 +56,7 @@ pub struct Rounds {
 
 impl Rounds {
     /// No round.
-    pub fn new(alloc: Global) -> Self {
+    pub(crate) fn new(alloc: Global) -> Self {
         Rounds {
             mean: Duration::MAX,
             last: Duration::MAX,
@@ -69,7 +69,7 @@ impl Rounds {
 
     /// Adds a round in which each of these passes looked so many addresses up, the last had ended after that
     /// time, and so many changes were made.
-    pub fn add(
+    pub(crate) fn add(
         &mut self,
         readers: &[Reader<'_>],
         addrs: usize,
@@ -90,7 +90,7 @@ impl Rounds {
     }
 
     /// What all rounds took.
-    pub fn at_once(&mut self) -> AtOnce {
+    pub(crate) fn at_once(&mut self) -> AtOnce {
         self.means.sort_unstable();
         self.pieces.sort_unstable();
         AtOnce {
@@ -123,6 +123,6 @@ fn mean_of(readers: &[Reader<'_>]) -> Duration {
 }
 
 /// The nanoseconds of a lookup of a piece that took so long, in hundredths.
-pub fn of_piece(time: Duration) -> u64 {
+pub(crate) fn of_piece(time: Duration) -> u64 {
     hundredths_of_nanos(time, PIECE)
 }

@@ -10,16 +10,16 @@ use std::alloc::{AllocError, Global};
 
 /// A prefix and its next hop.
 #[derive(Clone, Copy)]
-pub struct Route {
-    pub prefix: Prefix<24, 8>,
-    pub hop: Hop,
+pub(crate) struct Route {
+    pub(crate) prefix: Prefix<24, 8>,
+    pub(crate) hop: Hop,
 }
 
 /// How many routes are drawn for each one that is wanted, since a prefix may be drawn twice.
 const DRAWS: usize = 8;
 
 /// Adds that many routes to the table, and answers them in the order in which they were added.
-pub fn fill<R: Rng>(
+pub(crate) fn fill<R: Rng>(
     alloc: Global,
     table: &mut Fib<24, 8>,
     random: &mut R,
@@ -58,7 +58,7 @@ fn draw_all<R: Rng>(
 /// The first address of each block that has one of these routes longer than 24 bits.
 ///
 /// A block stands here once for each such route.
-pub fn deep_blocks(alloc: Global, routes: &[Route]) -> Result<Vec<u32>, AllocError> {
+pub(crate) fn deep_blocks(alloc: Global, routes: &[Route]) -> Result<Vec<u32>, AllocError> {
     let mut blocks = Vec::new(alloc);
     for route in routes {
         if route.prefix.len() > 24 {
@@ -70,15 +70,15 @@ pub fn deep_blocks(alloc: Global, routes: &[Route]) -> Result<Vec<u32>, AllocErr
 
 /// Routes by the lengths of their prefixes.
 #[derive(Drop)]
-pub struct ByLength {
+pub(crate) struct ByLength {
     /// Those of up to 24 bits.
-    pub short: Vec<Route>,
+    pub(crate) short: Vec<Route>,
     /// The others.
-    pub long: Vec<Route>,
+    pub(crate) long: Vec<Route>,
 }
 
 /// The routes by the lengths of their prefixes, each list in their order.
-pub fn by_length(alloc: Global, routes: &[Route]) -> Result<ByLength, AllocError> {
+pub(crate) fn by_length(alloc: Global, routes: &[Route]) -> Result<ByLength, AllocError> {
     let mut short = Vec::new(alloc);
     let mut long = Vec::new(alloc);
     for route in routes {
@@ -92,7 +92,7 @@ pub fn by_length(alloc: Global, routes: &[Route]) -> Result<ByLength, AllocError
 }
 
 /// A route of 32 bits for each address of the first block.
-pub fn full_block(alloc: Global) -> Result<Vec<Route>> {
+pub(crate) fn full_block(alloc: Global) -> Result<Vec<Route>> {
     let mut routes = Vec::new(alloc);
     for addr in 0..256u32 {
         routes.push(host_route(addr)?)?;

@@ -20,7 +20,7 @@ use std::thread::Threads;
 use std::time::{Duration, Instant};
 
 /// How many workers the table has.
-pub const WORKERS: usize = 4;
+pub(crate) const WORKERS: usize = 4;
 
 /// How often a pass and the other table are timed.
 const TURNS: Turns = Turns {
@@ -30,13 +30,13 @@ const TURNS: Turns = Turns {
 
 /// The routes of a table, and addresses with any bits.
 #[derive(Drop)]
-pub struct Drawn {
-    pub routes: Vec<Route>,
-    pub addrs: Vec<u32>,
+pub(crate) struct Drawn {
+    pub(crate) routes: Vec<Route>,
+    pub(crate) addrs: Vec<u32>,
 }
 
 /// Adds these routes to the table. It is an error if a worker is online.
-pub fn add_offline<R: Clock>(rt: &R, table: &mut Fib<24, 8>, routes: &[Route]) -> Result<()>
+pub(crate) fn add_offline<R: Clock>(rt: &R, table: &mut Fib<24, 8>, routes: &[Route]) -> Result<()>
     ensures { OnOk result ((worker : ℕ) → worker < table.new.config.workers
         → ¬ by_counters.is_online table.new.table.readers worker) }
 {
@@ -47,7 +47,7 @@ pub fn add_offline<R: Clock>(rt: &R, table: &mut Fib<24, 8>, routes: &[Route]) -
 
 /// Goes on with the table, of which no worker is online, as a running one, and prints what that, its lookups
 /// and its changes take, its lookups beside those of the other, which has the same routes.
-pub fn print_running<R: Clock + Print + AllocGlobal + Threads + Sync>(
+pub(crate) fn print_running<R: Clock + Print + AllocGlobal + Threads + Sync>(
     rt: &R,
     table: Fib<24, 8>,
     other: &mut Fib<24, 8>,

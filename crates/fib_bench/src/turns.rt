@@ -11,22 +11,22 @@ type Times = [Duration; 2];
 
 /// What the lookups of two sides take at the same addresses, and the sum of the numbers of the next hops.
 #[derive(Clone, Copy)]
-pub struct Compared {
-    pub first: Duration,
-    pub second: Duration,
-    pub sum: u64,
+pub(crate) struct Compared {
+    pub(crate) first: Duration,
+    pub(crate) second: Duration,
+    pub(crate) sum: u64,
 }
 
 /// How often two sides are timed, and whether they go first in turn: whoever does finds the addresses out of
 /// the caches.
 #[derive(Clone, Copy)]
-pub struct Turns {
-    pub count: usize,
-    pub alternate: bool,
+pub(crate) struct Turns {
+    pub(crate) count: usize,
+    pub(crate) alternate: bool,
 }
 
 /// Lets both sides look these addresses up in turns. For each piece of the addresses the least times count.
-pub fn compare<R: Clock + AllocGlobal, S: Side, T: Side>(
+pub(crate) fn compare<R: Clock + AllocGlobal, S: Side, T: Side>(
     rt: &R,
     one: &mut S,
     other: &mut T,

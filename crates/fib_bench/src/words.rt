@@ -16,7 +16,7 @@ const GROUP: u32 = 50_331_648;
 
 /// As many first words as the table has, and as many second ones.
 #[derive(Drop)]
-pub struct Words {
+pub(crate) struct Words {
     firsts: Vec<u32>,
     seconds: Vec<u32>,
     ghost firsts_len: { vec_len firsts ≡ 16777216 },
@@ -25,7 +25,11 @@ pub struct Words {
 
 impl Words {
     /// Words with the answers of the table, whose deep blocks have these first addresses.
-    pub fn new(alloc: Global, table: &Fib<24, 8>, blocks: &[u32]) -> Result<Words, AllocError> {
+    pub(crate) fn new(
+        alloc: Global,
+        table: &Fib<24, 8>,
+        blocks: &[u32],
+    ) -> Result<Words, AllocError> {
         let mut words = Words {
             firsts: vec![in alloc; 0u32; WORDS]?,
             seconds: vec![in alloc; 0u32; WORDS]?,
