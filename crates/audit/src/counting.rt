@@ -18,9 +18,11 @@ fn touches<const FIRST: u32, const SECOND: u32>(change: &Change<FIRST, SECOND>, 
     ensures { IsTrue result ↔ Touches addr change.now }
 {
     match change {
-        Change::Add(prefix, _) | Change::Delete(prefix) => return prefix.covers(addr),
+        Change::Add(prefix, _) => return prefix.covers(addr),
+        Change::Delete(prefix) => return prefix.covers(addr),
         Change::Flush => return true,
-        _ => return false,
+        Change::Reclaim(_) => return false,
+        Change::Synchronize => return false,
     }
 }
 

@@ -49,7 +49,9 @@ fn event_of<const FIRST: u32, const SECOND: u32>(
     match change {
         Change::Add(prefix, hop) => return event_at(prefix, Some(*hop), len, version),
         Change::Delete(prefix) => return event_at(prefix, None, len, version),
-        _ => return None,
+        Change::Flush => return None,
+        Change::Reclaim(_) => return None,
+        Change::Synchronize => return None,
     }
 }
 

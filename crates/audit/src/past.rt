@@ -47,8 +47,11 @@ fn is_flush<const FIRST: u32, const SECOND: u32>(change: &Change<FIRST, SECOND>)
     ensures { IsTrue result ↔ (change.now ≡ FlushChange) }
 {
     match change {
-        Change::Flush => true,
-        _ => false,
+        Change::Add(..) => return false,
+        Change::Delete(_) => return false,
+        Change::Flush => return true,
+        Change::Reclaim(_) => return false,
+        Change::Synchronize => return false,
     }
 }
 

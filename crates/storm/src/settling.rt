@@ -186,7 +186,11 @@ fn is_refused(outcome: &Outcome) -> bool
 {
     match outcome {
         Outcome::Refused(_) => return true,
-        _ => return false,
+        Outcome::Put(_) => return false,
+        Outcome::Deleted(_) => return false,
+        Outcome::Flushed(_) => return false,
+        Outcome::Reclaimed(_) => return false,
+        Outcome::Told => return false,
     }
 }
 
