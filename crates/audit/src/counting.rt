@@ -4,7 +4,7 @@ ghost use Rattle.std.specs.Prelude.{ℕ, ◌≡◌, ◌+◌, ◌^◌, ◌<◌, �
 ghost use Rattle.std.specs.FinMap as map;
 ghost use Rattle.lpm_rules.specs.Longest.{IsLongestHop};
 ghost use Rattle.audit.specs.Wrong.{version_of, IsOfSomeVersion, AreWrong};
-ghost use Rattle.audit.specs.Marks.{Touches, AreMarks};
+ghost use Rattle.audit.specs.Index.{Touches, AreMarks};
 
 use crate::past::Past;
 use lpm_bits::Hop;

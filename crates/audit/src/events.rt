@@ -1,7 +1,7 @@
 //! The changes of a history by their prefixes.
 
 ghost use Rattle.std.specs.Prelude.{◌≡◌, ◌≢◌, ◌≤◌, IfOk, MatchOption, length};
-ghost use Rattle.audit.specs.Events.{AreOrdered, IsLastEvent, IsEventOf, IsOfNone, IsPrefixOf, HasNetwork, AreEventsUpTo, prefix_at, up_to, AreUpTo};
+ghost use Rattle.audit.specs.Index.{AreOrdered, IsLastEvent, IsEventOf, IsOfNone, IsPrefixOf, HasNetwork, AreEventsUpTo, prefix_at, up_to, AreUpTo};
 
 use lpm_bits::{Hop, Prefix};
 use lpm_rules::Change;

@@ -7,7 +7,7 @@ ghost use Rattle.lpm_rules.specs.RuleMap.{AllNetworks};
 ghost use Rattle.lpm_rules.specs.Longest.{IsLongestHop};
 ghost use Rattle.lpm_rules.specs.declared.Change.TheVariants.{Flush as FlushChange};
 ghost use Rattle.audit.specs.Wrong.{version_of};
-ghost use Rattle.audit.specs.Flushes.{AreFlushes};
+ghost use Rattle.audit.specs.Index.{AreFlushes};
 
 use crate::events::{Event, events_of, last_event};
 use lpm_bits::{Hop, Prefix};
@@ -35,7 +35,7 @@ impl<'a, const FIRST: u32, const SECOND: u32> Model for Past<'a, FIRST, SECOND> 
 
     ghost Value = { List (Change FIRST SECOND) };
 
-    ghost use Rattle.audit.specs.Past.{IsSound};
+    ghost use Rattle.audit.specs.Index.{IsSound};
 
     ghost view = { λ a. a.history.now };
 

@@ -1,23 +1,89 @@
--- Desks before and after a meeting, and their answers between two meetings.
-use Rattle.std.proofs.Common.{◌≡◌, ◌≢◌, ℕ, suc, ◌+◌, ◌<◌, ◌≤◌, inl, inr, List, [], ◌∷◌, length, get_or}
-use Rattle.std.proofs.Common.{set, map, All, refl, sym, ap, ap₂, subst, ◌∙◌, arith, get_or-set_same, get_or-set_other}
-use Rattle.std.specs.List.{flat_map}
-use Rattle.std.proofs.lemmas.Bool.{cases_eq, cases_lt}
-use Rattle.std.proofs.lemmas.List.{get_or_default}
-use Rattle.lpm_rules.specs.Longest.{AreLongestHops}
-use Rattle.std.specs.Prelude.{false}
+-- A writer that rests while addresses are looked up: the answers are those of its rules.
+use Rattle.std.proofs.Common.{◌≡◌, ℕ, ◌+◌, ◌≤◌, List, [], ◌∷◌, ◌++◌, Option, length, sym, ap, subst, ◌∙◌, arith, ◌≢◌, suc, ◌<◌, inl, inr, get_or, set, map, All, refl, ap₂, get_or-set_same, get_or-set_other, zero, zero-add, Some, None, slice_get}
+use Rattle.lpm_rules.specs.RuleMap.{RuleMap}
+use Rattle.lpm_rules.specs.Longest.{IsLongestHop, AreLongestHops}
+use Rattle.lpm_rules.proofs.Longest.{AreLongestHops-append}
 use Rattle.lpm_trace.specs.declared.step.WriterStep.{WriterStep}
-use Rattle.lpm_trace.specs.declared.step.WorkerStep.{WorkerStep}
+use Rattle.lpm_trace.specs.States.{InitialState, oldest, state_after}
 use Rattle.lpm_trace.specs.Writer.{IsWritten}
+use Rattle.lpm_trace.proofs.Traces.{oldest_all}
 use Rattle.shared_words.specs.Rule.{IsLater}
 use Rattle.shared_words.proofs.Deeds.{between, later_trans}
 use Rattle.shared_fib.specs.Running.{Identity, WriterState, IsAtRest, initial_state, steps_of}
-use Rattle.shared_fib.specs.Passes.{PassState, IsHistory, Makes}
+use Rattle.shared_fib.specs.Versions.{updates_begun, updates_done}
+use Rattle.shared_fib.specs.Passes.{PassState, IsOfVersion, LooksUp, IsHistory, Makes}
+use Rattle.shared_fib.proofs.Versions.{counts, version_is}
+use Rattle.shared_fib.proofs.Lookups.{words_after}
+use Rattle.bulk.specs.Desks.{AnswersAtRest, IsDeskOf, worker_of, EachDesk, IsSameDesk, HasMet, HasAnswered, IsAtBench}
+use Rattle.std.specs.List.{flat_map, range_with_len}
+use Rattle.std.proofs.lemmas.Bool.{cases_eq, cases_lt}
+use Rattle.std.proofs.lemmas.List.{get_or_default, map-append}
+use Rattle.std.specs.Prelude.{false, slice_set}
+use Rattle.lpm_trace.specs.declared.step.WorkerStep.{WorkerStep}
 use Rattle.bulk.specs.declared.desk.Desk.{Desk}
 use Rattle.bulk.specs.Pieces.{piece_of}
-use Rattle.bulk.specs.Desks.{IsDeskOf, worker_of, EachDesk, IsSameDesk, HasMet, AnswersAtRest, HasAnswered}
 use Rattle.bulk.proofs.Joined.{pieces_answered}
-use Rattle.bulk.proofs.Resting.{width_of, answers_within}
+use Rattle.std.proofs.lemmas.List.FromFn.{map-range_with_len_more}
+
+abbrev pub width_of : WriterState → ℕ
+width_of w = w.identity.initial.first + w.identity.initial.second
+
+-- the answer of a version that stood after all steps of a writer that rests
+rests_answer : (w : WriterState) (addr : ℕ) (hop : Option ℕ) (place k : ℕ) → IsAtRest w → IsWritten (initial_state w.identity) (steps_of w)
+    → IsOfVersion w.identity (steps_of w) addr hop place k → length (steps_of w) ≤ place
+    → IsLongestHop (width_of w) w.table.rules addr hop
+rests_answer w addr hop place k rest written of late =
+    let c : InitialState = initial_state w.identity in
+    let steps : List WriterStep = steps_of w in
+    let all : oldest place steps ≡ steps = oldest_all steps place late in
+    let now = counts c steps written in
+    let last : k ≡ w.table.begun = omega (
+      arith,
+      of.done,
+      of.begun,
+      ap updates_done all,
+      ap updates_begun all,
+      now.done_is,
+      now.begun_is,
+      rest.done,
+      rest.begun,
+    ) in
+    let rules : of.rules ≡ w.table.rules =
+    sym (version_is c steps k of.rules written of.version).1 ∙ (ap (state_after c steps).history last ∙ rest.rules) in
+    subst (λ (R : RuleMap). IsLongestHop (width_of w) R addr hop) rules of.answers
+
+-- a lookup between whose ends a writer that rests has done nothing
+looked_up : (w : WriterState) (addr : ℕ) (hop : Option ℕ) (lo hi : ℕ) (p q : PassState) → IsAtRest w
+    → IsWritten (initial_state w.identity) (steps_of w) → LooksUp addr hop lo hi p q → p.table ≡ w.identity
+    → p.seen ≡ steps_of w → q.seen ≡ steps_of w → IsLongestHop (width_of w) w.table.rules addr hop
+looked_up w addr hop lo hi p q rest written looks own before after =
+    let f = looks.found in
+    let a = looks.answer in
+    let of : IsOfVersion w.identity (steps_of w) f.addr f.hop a.place a.version = subst
+    (λ (z : Identity × List WriterStep). IsOfVersion z.0 z.1 f.addr f.hop a.place a.version)
+    (λ i. (own i, after i)) a.answer in
+    let early : length p.seen ≤ f.first = words_after addr hop lo hi p q looks in
+    let late : length (steps_of w) ≤ a.place = omega (arith, ap length before, early, a.stood.0) in
+    subst (λ (z : ℕ × Option ℕ). IsLongestHop (width_of w) w.table.rules z.0 z.1) (λ i. (looks.result.0 i, looks.result.1 i))
+    (rests_answer w f.addr f.hop a.place a.version rest written of late)
+
+-- the answers so far, and one more
+pub answers_more : (id : Identity) (addrs : List ℕ) (hops : List (Option ℕ)) (addr : ℕ) (hop : Option ℕ) (lo hi : ℕ) (first : List WriterStep)
+    (p q : PassState) → AnswersAtRest id addrs hops first p.seen → IsLater first p.seen → p.table ≡ id → LooksUp addr hop lo hi p q
+    → AnswersAtRest id (addrs ++ addr ∷ []) (hops ++ hop ∷ []) first q.seen
+answers_more id addrs hops addr hop lo hi first p q done later own looks w is rest written before after =
+    let here : p.seen ≡ steps_of w = between first p.seen q.seen later looks.steps.seen (after ∙ sym before) ∙ before in
+    AreLongestHops-append (width_of w) w.table.rules addrs hops addr hop (done w is rest written before here)
+    (looked_up w addr hop lo hi p q rest written looks (own ∙ sym is) here after)
+
+-- answers between moments that lie further apart
+pub answers_within : (id : Identity) (addrs : List ℕ) (hops : List (Option ℕ)) (a b c d : List WriterStep) → IsLater a b → IsLater b c → IsLater c d
+    → AnswersAtRest id addrs hops b c → AnswersAtRest id addrs hops a d
+answers_within id addrs hops a b c d ab bc cd answers w is rest written before after =
+    let same : d ≡ a = after ∙ sym before in
+    answers w is rest written (between a b d ab (later_trans b c d bc cd) same ∙ before) (between a c d (later_trans a b c ab bc) cd same ∙ before)
+
+-- Desks before and after a meeting, and their answers between two meetings.
 
 -- ---- one desk after another
 
@@ -198,3 +264,53 @@ module _ (w z : WriterState) (same : z ≡ w) (xs : List ℕ) (ps qs rs ss : Lis
       let s : Desk = get_or ss k d in
       same_twice p q s (first k d lt).same
       (same_twice q r s (answers k d (omega (arith, lt))).same (last k d (omega (arith, lt))).same)
+
+-- The desks of a table's workers, which were seated one after another.
+
+-- what stands at another place stays after a store
+pub others_stay : {X : Type 0} (xs : List X) (i k : ℕ) (y : X) → k ≢ i → slice_get (slice_set xs i y) k ≡ slice_get xs k
+others_stay [] i k y other = refl
+others_stay (x ∷ xs) zero zero y other = absurd (other refl)
+others_stay (x ∷ xs) zero (suc k) y other = refl
+others_stay (x ∷ xs) (suc i) zero y other = refl
+others_stay (x ∷ xs) (suc i) (suc k) y other = others_stay xs i k y (λ e. other (ap suc e))
+
+-- where one worker's pass is taken, the others' stay at the bench
+pub stays_at_bench : (passes : List (Option PassState)) (i k : ℕ) → k ≢ i → IsAtBench passes k
+    → IsAtBench (slice_set passes i None) k
+stays_at_bench passes i k other at = (at.0, others_stay passes i k None other ∙ at.1)
+
+-- what was stored at a place stands there
+stands_here : {X : Type 0} (xs : List X) (i : ℕ) (x y : X) → slice_get xs i ≡ Some x → slice_get (slice_set xs i y) i ≡ Some y
+stands_here [] i x y at = absurd (no_some x at)
+  where
+    no_some : {X : Type 0} (x : X) → None ≡ Some x → ⊥
+    no_some x e = cc
+stands_here (x0 ∷ xs) zero x y at = refl
+stands_here (x0 ∷ xs) (suc i) x y at = stands_here xs i x y at
+
+-- no pass of the workers so far is at the bench, and none of the next one
+pub one_more_seated : (passes : List (Option PassState)) (i : ℕ) → IsAtBench passes i
+    → ((k : ℕ) → k < i → slice_get passes k ≡ Some None)
+    → (k : ℕ) → k < i + 1 → slice_get (slice_set passes i None) k ≡ Some None
+one_more_seated passes i at before k low = elim (cases_lt k i) [
+  | inl below ↦ others_stay passes i k None (omega (arith, below)) ∙ before k below
+  | inr above ↦
+      let here : k ≡ i = omega (arith, low, above) in
+      ap (slice_get (slice_set passes i None)) here ∙ stands_here passes i (Some at.0) None at.1
+]
+
+map-same : (xs : List ℕ) → map (λ n. n) xs ≡ xs
+map-same [] = refl
+map-same (x ∷ xs) = ap (λ (ys : List ℕ). x ∷ ys) (map-same xs)
+
+-- whose desks they are, with the next worker's
+pub one_more_number : (desks : List Desk) (desk : Desk) (worker : ℕ)
+    → map worker_of desks ≡ range_with_len 0 worker → worker_of desk ≡ worker
+    → map worker_of (desks ++ desk ∷ []) ≡ range_with_len 0 (worker + 1)
+one_more_number desks desk worker so_far number =
+    map-append worker_of desks (desk ∷ [])
+    ∙ (ap₂ (λ (a b : List ℕ). a ++ b) so_far (ap (λ (n : ℕ). n ∷ []) number)
+    ∙ (ap (λ (xs : List ℕ). xs ++ worker ∷ []) (sym (map-same (range_with_len 0 worker)))
+    ∙ (sym (map-range_with_len_more (λ n. n) 0 worker worker (zero-add worker))
+    ∙ map-same (range_with_len 0 (worker + 1)))))

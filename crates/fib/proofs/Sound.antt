@@ -6,8 +6,7 @@ use Rattle.std.proofs.lemmas.List.{length-set, get_or-set_same, get_or-set_other
 use Rattle.lpm_bits.specs.Network.{Network}
 use Rattle.lpm_limits.specs.declared.refusal.Refusal.{Refusal}
 use Rattle.lpm_rules.specs.declared.Put.{Put}
-use Rattle.qsbr.specs.Counters.{IsPast, Passes}
-use Rattle.qsbr.specs.Registry.{Registry, with_counter}
+use Rattle.qsbr.specs.Counters.{IsPast, Passes, Registry, with_counter}
 use Rattle.defer_queue.specs.declared.Reclaimed.{Reclaimed}
 use Rattle.fib_model.specs.State.{State}
 use Rattle.fib_model.specs.Outcomes.{Adds, Deletes, Flushes, Frees}

@@ -3,8 +3,7 @@ use Rattle.std.proofs.Common.{arith, ◌≡◌, ℕ, zero, suc, ◌+◌, ◌<◌
 use Rattle.std.proofs.Math.Nat.{max-le}
 use Rattle.std.proofs.lemmas.Bool.{cases_lt, leb-true}
 use Rattle.std.proofs.lemmas.Bool.Decides.{eqb_tells}
-use Rattle.qsbr.specs.Counters.{IsPast, Passes}
-use Rattle.qsbr.specs.Registry.{Registry}
+use Rattle.qsbr.specs.Counters.{IsPast, Passes, Registry}
 use Rattle.lpm_limits.specs.declared.busy.Busy.{Busy}
 use Rattle.fib_model.specs.State.{looks}
 use Rattle.fib_model.specs.Counting.{counter_transitions, IsFirstByCounter}

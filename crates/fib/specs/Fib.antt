@@ -1,10 +1,8 @@
 -- Meaning: a table of one thread as its callers see it, and what its parts keep (this project's).
-use Rattle.std.specs.Prelude.{ℕ, List, refl}
-use Rattle.std.specs.FinMap as map
+use Rattle.std.specs.Prelude.{ℕ, List, refl, ◌≡◌, Option, MatchOption, IsSome}
 use Rattle.std.specs.Coded.{Coded, code_by, coded×, coded_ℕ, coded_list}
 use Rattle.lpm_rules.specs.RuleMap.{RuleMap, coded_network}
-use Rattle.qsbr.specs.Counters.{Passes}
-use Rattle.qsbr.specs.Registry.{Registry}
+use Rattle.qsbr.specs.Counters.{Passes, Registry}
 use Rattle.lpm_limits.specs.declared.config.Config.{Config}
 use Rattle.fib_model.specs.declared.orders.Report.{Report}
 use Rattle.fib_model.specs.Counting.{by_counters, initial_by_counters}
@@ -15,6 +13,10 @@ use Rattle.lpm_writer.specs.declared.plain_memory.PlainMemory.{PlainMemory}
 use Rattle.lpm_writer.specs.Plain.{PlainDid}
 use Rattle.lpm_writer.specs.declared.control.ControlState.{ControlState}
 use Rattle.lpm_writer.specs.Resting.{IsResting, state_of}
+use Rattle.std.specs.FinMap.{get}
+use Rattle.lpm_bits.specs.Network.{Network, Covers}
+use Rattle.lpm_rules.specs.Longest.{IsLongestHop}
+use Rattle.std.specs.FinMap as map
 
 -- the limits, and what outcomes depend on; an unlinking that waits goes by its token
 pub record FibState : Type 0 where
@@ -92,3 +94,15 @@ abbrev pub coded_fib_state : Coded FibState
 coded_fib_state =
     code_by (Config × State Registry) (coded× coded_config coded_state)
     (λ f. (f.config, f.table)) (λ p. record { config = p.0; table = p.1 }) (λ _. refl)
+
+-- Meaning: lookups of several addresses at once (DPDK Programmer's Guide, "LPM Library": a lookup
+-- of four addresses answers a default value where there is no match).
+
+-- the next hop of the longest rule that covers the address; the default where no rule does
+abbrev pub IsHopOrDefault : ℕ → RuleMap → ℕ → ℕ → ℕ → Type 0
+IsHopOrDefault width R default a h =
+    (x : Option ℕ) × IsLongestHop width R a x × MatchOption x (h ≡ default) (λ hop. h ≡ hop)
+
+-- some rule covers the address
+abbrev pub IsCovered : ℕ → RuleMap → ℕ → Type 0
+IsCovered width R a = (q : Network) × IsSome (get R q) × Covers width q a

@@ -1,3 +1,2 @@
 pub mod Fib
-pub mod Lookups
 pub mod Replay

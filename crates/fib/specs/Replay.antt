@@ -4,7 +4,7 @@
 use Rattle.std.specs.Prelude.{ℕ, ◌≡◌, ◌+◌, List, length}
 use Rattle.std.specs.FinMap.{len}
 use Rattle.lpm_rules.specs.Longest.{AreLongestHops}
-use Rattle.qsbr.specs.Registry.{Registry}
+use Rattle.qsbr.specs.Counters.{Registry}
 use Rattle.lpm_limits.specs.declared.config.Config.{Config}
 use Rattle.fib_model.specs.declared.orders.Order.{Order}
 use Rattle.fib_model.specs.declared.orders.Outcome.{Outcome}
@@ -13,8 +13,7 @@ use Rattle.fib_model.specs.State.{State}
 use Rattle.fib_model.specs.Outcomes.{Log, Runs, log_after, groups_in_use}
 use Rattle.fib_model.specs.Counting.{by_counters, initial_by_counters}
 use Rattle.fib_model.specs.Textbook.{textbook, by_intervals, initial_by_events}
-use Rattle.fib_model.specs.History.{history, last_of}
-use Rattle.fib_model.specs.Laws.{Agrees}
+use Rattle.fib_model.specs.Laws.{history, last_of, Agrees}
 use Rattle.fib.specs.declared.replay.Replay.{Replay}
 
 -- a table that some log led to x goes on to z: by reader intervals the commands of that log and

@@ -3,10 +3,8 @@
 ghost use Rattle.std.specs.Prelude.{Err, IsOk, MatchResult, Result, ◌≡◌, ◌+◌, ◌^◌, ◌<◌, ◌≤◌, ◌↔◌, ◌⊎◌, IsTrue, IsNone, IfOk, IfErr, IfSome, length};
 ghost use Rattle.std.specs.FinMap as map;
 ghost use Rattle.lpm_bits.specs.Widths.{IsShape};
-ghost use Rattle.lpm_rules.specs.Longest.{IsLongestHop};
-ghost use Rattle.lpm_rules.specs.Listed.{AreInOrder, rules_of};
-ghost use Rattle.lpm_rules.specs.Matches.{IsMatch};
-ghost use Rattle.lpm_rules.specs.Walking.{IsNextRule};
+ghost use Rattle.lpm_rules.specs.Longest.{IsLongestHop, IsMatch};
+ghost use Rattle.lpm_rules.specs.RuleMap.{AreInOrder, rules_of, IsNextRule};
 ghost use Rattle.lpm_limits.specs.Limits.{IsConfig};
 ghost use Rattle.fib_model.specs.Outcomes.{groups_in_use, Adds, Deletes, Flushes, Frees};
 ghost use Rattle.fib_model.specs.Counting.{by_counters, counter_transitions};

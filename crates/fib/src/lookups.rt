@@ -3,7 +3,7 @@
 ghost use Rattle.std.specs.Prelude.{◌≡◌, ℕ, ◌+◌, ◌^◌, ◌<◌, ◌↔◌, All, IfOk, IsTrue, drop, length, min, slice_index, take};
 ghost use Rattle.std.specs.List.{AllZip};
 ghost use Rattle.lpm_rules.specs.Longest.{AreLongestHops};
-ghost use Rattle.fib.specs.Lookups.{IsCovered, IsHopOrDefault};
+ghost use Rattle.fib.specs.Fib.{IsCovered, IsHopOrDefault};
 
 use super::Fib;
 use lpm_bits::{Hop, Prefix};

@@ -4,12 +4,10 @@ ghost use Rattle.std.specs.Prelude.{◌≡◌, ℕ, ◌-◌, ◌*◌, ◌^◌, �
 ghost use Rattle.std.specs.FinMap as map;
 ghost use Rattle.lpm_bits.specs.Widths.{IsShape};
 ghost use Rattle.lpm_cells.specs.declared.entry.Entry.TheVariants.{Miss};
-ghost use Rattle.lpm_cells.specs.Words.{word_of};
-ghost use Rattle.lpm_cells.specs.Table.{IsWords};
+ghost use Rattle.lpm_cells.specs.Words.{word_of, IsWords};
 ghost use Rattle.lpm_groups.specs.declared.GroupState.TheVariants.{Free, Linked};
 ghost use Rattle.lpm_limits.specs.Limits.{IsConfig};
-ghost use Rattle.lpm_rules.specs.RuleMap.{RuleMap};
-ghost use Rattle.lpm_rules.specs.Listed.{AreInOrder, rules_of};
+ghost use Rattle.lpm_rules.specs.RuleMap.{RuleMap, AreInOrder, rules_of};
 ghost use Rattle.lpm_update.specs.Represents.{Represents};
 ghost use Rattle.lpm_sweep.specs.Swept.{AreNumbered, words_of};
 ghost use Rattle.fib_model.specs.Outcomes.{groups_in_use};

@@ -3,9 +3,9 @@
 use Rattle.std.proofs.Common.{arith, ◌≡◌, ℕ, zero, suc, ◌<◌, ◌≤◌, ◌⊎◌, inl, inr, refl, ap, sym, ◌∙◌, subst, List, [], ◌∷◌, length, drop, slice_get, Option, Some, None, Ok, Err, MatchOption}
 use Rattle.lpm_limits.specs.declared.busy.Busy.{Busy}
 use Rattle.defer_queue.specs.Reclaims.{Ends, FreesFront}
-use Rattle.defer_queue.proofs.Fronts.{FreesFront-suc}
+use Rattle.defer_queue.proofs.Longest.{FreesFront-suc}
 use Rattle.fib_model.specs.State.{Transitions}
-use Rattle.fib_model.specs.Reclaiming as model
+use Rattle.fib_model.specs.State as model
 
 -- the first n unlinkings that wait were checked one after another, and passed
 abbrev pub Passes : {X : Type 0} → Transitions X → ℕ → List ℕ → X → X → Type 0

@@ -12,8 +12,7 @@ use Rattle.lpm_limits.specs.declared.config.Config.{Config}
 use Rattle.lpm_limits.specs.declared.refusal.Refusal.{Refusal}
 use Rattle.lpm_limits.specs.declared.refusal.Refusal.TheVariants.{TooManyRules, NoSuchRule, Exhausted, NoGroups, Memory}
 use Rattle.defer_queue.specs.declared.Reclaimed.{Reclaimed}
-use Rattle.fib_model.specs.State.{State, Transitions, HasTokens, IsExhausted}
-use Rattle.fib_model.specs.Reclaiming.{Reclaims, MakesRoom, UnlinksOne, Unlinks}
+use Rattle.fib_model.specs.State.{State, Transitions, HasTokens, IsExhausted, Reclaims, MakesRoom, UnlinksOne, Unlinks}
 use Rattle.fib_model.specs.Outcomes.{groups_in_use, LacksGroup, TakesGroup, IsNew, HoldsFront, Updates, Adds, Shrinks, Deletes, Flushes, Frees}
 use Rattle.fib_model.proofs.ByPlaces as places
 use Rattle.fib_model.proofs.ByPlaces.{Passes, by_places, by_front}

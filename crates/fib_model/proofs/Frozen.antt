@@ -18,18 +18,17 @@ use Rattle.lpm_limits.specs.declared.config.Config.{Config}
 use Rattle.lpm_limits.specs.declared.refusal.Refusal.{Refusal}
 use Rattle.lpm_limits.specs.declared.refusal.Refusal.TheVariants.{TooManyRules, NoSuchRule, Exhausted, NoGroups, Memory}
 use Rattle.defer_queue.specs.declared.Reclaimed.{Reclaimed}
-use Rattle.qsbr.specs.Registry.{Registry}
+use Rattle.qsbr.specs.Counters.{Registry}
 use Rattle.fib_model.specs.declared.event.Event.{Event}
 use Rattle.fib_model.specs.declared.event.Event.TheVariants.{Unlinking}
-use Rattle.fib_model.specs.Intervals.{unlinkings}
+use Rattle.fib_model.specs.Textbook.{unlinkings, IsFirstHolder}
 use Rattle.fib_model.specs.State.{State, Transitions, looks, HasTokens, IsExhausted}
-use Rattle.fib_model.specs.Reclaiming as moving
+use Rattle.fib_model.specs.State as moving
 use Rattle.fib_model.specs.Outcomes as outcomes
 use Rattle.fib_model.specs.Outcomes.{groups_in_use, LacksGroup, IsNew}
 use Rattle.fib_model.specs.Counting.{IsFirstByCounter}
 use Rattle.fib_model.proofs.ByPlaces as places
 use Rattle.fib_model.proofs.ByPlaces.{by_places, by_front}
-use Rattle.fib_model.specs.Textbook.{IsFirstHolder}
 
 -- who is the first worker that holds which unlinking, the name that the next gets, and what is kept after it
 pub record Look (X : Type 0) : Type 1 where

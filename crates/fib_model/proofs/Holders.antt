@@ -1,24 +1,22 @@
 -- What counters show of events: each worker's counter is 0 where it has no running reader interval, and else
 -- the token number at the beginning of that interval. So both say the same of who holds an unlinking.
-use Rattle.std.proofs.Common.{arith, ◌≡◌, ◌≢◌, ℕ, suc, ◌+◌, ◌<◌, ◌≤◌, ◌↔◌, ◌⊎◌, inl, inr, refl, ap, sym, ◌∙◌, subst, List, [], ◌∷◌, length, Some, IsSomeAnd, IsTrue, false, slice_index, slice_set}
+use Rattle.std.proofs.Common.{arith, ◌≡◌, ◌≢◌, ℕ, suc, ◌+◌, ◌<◌, ◌≤◌, ◌↔◌, ◌⊎◌, inl, inr, refl, ap, sym, ◌∙◌, subst, List, [], ◌∷◌, length, Some, IsSomeAnd, IsTrue, false, slice_index, slice_set, Result, Ok, Err}
 use Rattle.std.proofs.lemmas.Bool.{cases_eq, cases_lt, eq-eqb, eqb-true, false≢true}
 use Rattle.std.proofs.lemmas.List.{get_or-replicate, get_or-set_same, get_or-set_other, length-replicate, length-set}
-use Rattle.qsbr.specs.Counters.{IsOnline, IsPast, IsHolding}
-use Rattle.qsbr.specs.Registry.{Registry}
+use Rattle.qsbr.specs.Counters.{IsOnline, IsPast, IsHolding, Registry}
 use Rattle.lpm_limits.specs.declared.busy.Busy.{Busy}
 use Rattle.lpm_limits.specs.declared.config.Config.{Config}
 use Rattle.fib_model.specs.declared.orders.Report.{Report}
-use Rattle.fib_model.specs.declared.orders.Report.TheVariants as kinds
 use Rattle.fib_model.specs.declared.event.Event.{Event}
 use Rattle.fib_model.specs.declared.event.Event.TheVariants.{Online, Offline, Quiescent, Unlinking}
-use Rattle.qsbr.specs.Places.{event_at}
-use Rattle.qsbr.specs.Intervals.{IsRunningSince, IsHeldByWorker}
-use Rattle.fib_model.specs.Intervals.{begins, ends, by_reports, is_unlinking, unlinkings_before, unlinkings}
-use Rattle.qsbr.proofs.Places.{at_new, at_old, at_within, before_mono, before_old, before_next, count_more, count_same}
-use Rattle.qsbr.proofs.Running.{since_within, since_new, since_kept, since_cases, held_start, start_held}
-use Rattle.fib_model.specs.Counting.{by_counters, counter_of, initial_by_counters}
-use Rattle.fib_model.specs.Textbook.{event_of}
+use Rattle.qsbr.specs.Intervals.{event_at, IsRunningSince, IsHeldByWorker}
+use Rattle.fib_model.specs.Textbook.{begins, ends, by_reports, is_unlinking, unlinkings_before, unlinkings, event_of, textbook}
+use Rattle.qsbr.proofs.Running.{at_new, at_old, at_within, before_mono, before_old, before_next, count_more, count_same, since_within, since_new, since_kept, since_cases, held_start, start_held}
+use Rattle.fib_model.specs.Counting.{by_counters, counter_of, initial_by_counters, counter_transitions}
 use Rattle.fib_model.proofs.Frozen.{IsUnheld, counted, listed}
+use Rattle.fib_model.proofs.Carrying.{Carries, IsCarried, AreNamed}
+use Rattle.fib_model.proofs.Carried.{named_kept}
+use Rattle.fib_model.specs.declared.orders.Report.TheVariants as kinds
 
 -- the one running interval of worker w, and the token number at its beginning
 pub record IsOn (first : ℕ) (E : List Event) (w counter start : ℕ) : Type 0 where
@@ -284,3 +282,39 @@ name_newer first e E token place name =
       unlinking = at_old e E place (omega (arith, within)) ∙ name.unlinking;
       token_is = name.token_is ∙ ap (λ n. first + n) (sym (before_old is_unlinking e E (suc place) (omega (arith, within))));
     }
+
+-- Each part of a change by counters is one by reader intervals.
+
+-- an unlinking goes by its token, and by its place
+abbrev pub Names : Config → Registry → List Event → ℕ → ℕ → Type 0
+Names c r E token place = IsName c.first_token E token place
+
+pub names_newer : (c : Config) (e : Event) (E : List Event) (ts ps : List ℕ) → AreNamed (IsName c.first_token E) ts ps → AreNamed (IsName c.first_token (e ∷ E)) ts ps
+names_newer c e E ts ps = named_kept (IsName c.first_token E) (IsName c.first_token (e ∷ E)) (name_newer c.first_token e E) ts ps
+
+same : (c : Config) (r z : Registry) (E : List Event) → Shows c r E → z ≡ r → IsCarried (Shows c) (Names c) r E z E
+same c r z E shows is = (subst (λ x. Shows c x E) (sym is) shows, λ token place name. name)
+
+checks : (c : Config) (r z : Registry) (E : List Event) (token place : ℕ) (a : Result (Unit {0}) Busy) → Shows c r E → IsName c.first_token E token place → counter_transitions.checks r token a z
+    → (F : List Event) × (textbook c).checks E place a F × IsCarried (Shows c) (Names c) r E z F
+checks c r z E token place (Ok passed) shows name d = (E, (unheld c r E token place shows name d.0, refl), same c r z E shows d.1)
+checks c r z E token place (Err busy) shows name d = (E, ((held c r E token place busy shows name).0 d.0, refl), same c r z E shows d.1)
+
+unlinks : (c : Config) (r z : Registry) (E : List Event) (token : ℕ) → Shows c r E → counter_transitions.unlinks r token z
+    → (F : List Event) × (place : ℕ) × (textbook c).unlinks E place F × IsName c.first_token F token place × IsCarried (Shows c) (Names c) r E z F
+unlinks c r z E token shows d = (
+  Unlinking ∷ E,
+  length E,
+  (refl, refl),
+  subst (λ t. IsName c.first_token (Unlinking ∷ E) t (length E)) (sym d.0) (name_new c r E shows),
+  (subst (λ x. Shows c x (Unlinking ∷ E)) (sym d.1) (shows_unlinked c r E shows), name_newer c.first_token Unlinking E),
+)
+
+pub counters_carry : (c : Config) → Carries counter_transitions (textbook c) (Shows c) (Names c)
+counters_carry c = record {
+  token = λ r E shows. shows.token;
+  checks = λ r z E token place a. checks c r z E token place a;
+  begins = λ r z E shows is. (E, refl, same c r z E shows is);
+  unlinks = λ r z E token. unlinks c r z E token;
+  ends = λ r z E shows is. (E, refl, same c r z E shows is);
+}

@@ -4,14 +4,7 @@ pub mod Carrying
 pub mod Carried
 pub mod Versions
 pub mod Holders
-pub mod Names
-pub mod Followed
-pub mod Tidied
-pub mod Logs
-pub mod TidyRuns
-pub mod Unheld
-pub mod Unique
 pub mod Same
-pub mod Scans
-pub mod Fronts
-pub mod Pushed
+pub mod Unique
+pub mod Unheld
+pub mod Runs

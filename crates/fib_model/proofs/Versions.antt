@@ -15,8 +15,7 @@ use Rattle.fib_model.specs.State.{State, Keeping}
 use Rattle.fib_model.specs.Outcomes.{Does, Reports}
 use Rattle.fib_model.specs.Counting.{by_counters}
 use Rattle.fib_model.specs.Textbook.{by_intervals}
-use Rattle.fib_model.specs.History.{last_of, versions_after, history}
-use Rattle.fib_model.specs.Laws.{RulesAreLastVersion, RulesAreLastVersionByCounters}
+use Rattle.fib_model.specs.Laws.{last_of, versions_after, history, RulesAreLastVersion, RulesAreLastVersionByCounters}
 
 -- the rules are the last version, and as many updates were begun as there are versions
 abbrev IsAt : {X : Type 0} → State X → List RuleMap → Type 0

@@ -4,8 +4,7 @@
 -- is below that token).
 use Rattle.std.specs.Prelude.{ℕ, ◌≡◌, ◌+◌, replicate, slice_index, slice_set, []}
 use Rattle.std.specs.FinMap.{empty}
-use Rattle.qsbr.specs.Counters.{IsOnline, IsFirstHolding}
-use Rattle.qsbr.specs.Registry.{Registry}
+use Rattle.qsbr.specs.Counters.{IsOnline, IsFirstHolding, Registry}
 use Rattle.lpm_limits.specs.declared.busy.Busy.{Busy}
 use Rattle.lpm_limits.specs.declared.config.Config.{Config}
 use Rattle.fib_model.specs.declared.orders.Report.{Report}

@@ -9,10 +9,9 @@ use Rattle.fib_model.specs.declared.plain.Account.{Account}
 use Rattle.fib_model.specs.declared.plain.Plain.{Plain}
 use Rattle.fib_model.specs.declared.waiting.Waiting.{Waiting}
 use Rattle.qsbr.specs.Intervals.{IsTidy}
-use Rattle.fib_model.specs.Intervals.{by_reports}
+use Rattle.fib_model.specs.Textbook.{by_reports, textbook, by_intervals, initial_by_events}
 use Rattle.fib_model.specs.State.{State}
 use Rattle.fib_model.specs.Outcomes.{Runs, log_after, groups_in_use}
-use Rattle.fib_model.specs.Textbook.{textbook, by_intervals, initial_by_events}
 
 -- the events, the newest first
 abbrev pub events_of : Waiting → List Event

@@ -1,19 +1,48 @@
--- Meaning: laws of runs (this project's).
-use Rattle.std.specs.Prelude.{ℕ, ◌≡◌, ◌≢◌, ◌<◌, ◌↔◌, List, length, map, slice_index, All, Ok, Err}
+-- Meaning: the versions of the rule list: the list after each accepted change that made a
+-- version, the newest first (DPDK Programmer's Guide, "LPM Library", "Addition" and "Deletion";
+-- that an unchanged rule makes no version is this project's).
+use Rattle.std.specs.Prelude.{ℕ, suc, List, [], ◌∷◌, ◌≡◌, ◌≢◌, ◌<◌, ◌↔◌, length, map, slice_index, All, Ok, Err}
+use Rattle.std.specs.FinMap.{insert, remove, empty}
+use Rattle.lpm_rules.specs.RuleMap.{RuleMap}
+use Rattle.lpm_rules.specs.declared.Put.TheVariants.{Added, Replaced}
+use Rattle.fib_model.specs.declared.orders.Order.{Order}
+use Rattle.fib_model.specs.declared.orders.Outcome.{Outcome}
+use Rattle.fib_model.specs.Outcomes.{Log, Runs}
 use Rattle.lpm_limits.specs.declared.busy.Busy.{Busy}
 use Rattle.lpm_limits.specs.declared.config.Config.{Config}
 use Rattle.lpm_limits.specs.declared.refusal.Refusal.TheVariants.{Memory}
 use Rattle.lpm_limits.specs.Limits.{IsConfig}
-use Rattle.qsbr.specs.Registry.{Registry}
+use Rattle.qsbr.specs.Counters.{Registry}
 use Rattle.fib_model.specs.declared.orders.Outcome.TheVariants.{Refused}
 use Rattle.fib_model.specs.declared.event.Event.{Event}
 use Rattle.qsbr.specs.Intervals.{IsHeldByWorker}
-use Rattle.fib_model.specs.Intervals.{by_reports}
+use Rattle.fib_model.specs.Textbook.{by_reports, textbook, by_intervals, initial_by_events}
 use Rattle.fib_model.specs.State.{State}
-use Rattle.fib_model.specs.Outcomes.{Log, Runs}
 use Rattle.fib_model.specs.Counting.{counter_transitions, by_counters, initial_by_counters}
-use Rattle.fib_model.specs.Textbook.{textbook, by_intervals, initial_by_events}
-use Rattle.fib_model.specs.History.{history, last_of}
+use Rattle.fib_model.specs.declared.orders.Order.TheVariants as order
+use Rattle.fib_model.specs.declared.orders.Outcome.TheVariants as outcome
+
+-- the last version; before the first change no rules stood
+abbrev pub last_of : List RuleMap → RuleMap
+last_of [] = empty
+last_of (R ∷ versions) = R
+
+-- the versions after a command: a replaced, added or deleted rule makes one, a flush of some rules
+-- one, and everything else none
+abbrev pub versions_after : {first second : ℕ} → List RuleMap → Order first second → Outcome
+    → List RuleMap
+versions_after H (order.Add p h) (outcome.Put Added) = insert (last_of H) p h ∷ H
+versions_after H (order.Add p h) (outcome.Put Replaced) = insert (last_of H) p h ∷ H
+versions_after H (order.Del p) (outcome.Deleted h) = remove (last_of H) p ∷ H
+versions_after H order.Flush (outcome.Flushed (suc n)) = empty ∷ H
+versions_after H other outcome = H
+
+-- the versions that a log made
+abbrev pub history : {first second : ℕ} → Log first second → List RuleMap
+history [] = []
+history (done ∷ log) = versions_after (history log) done.0 done.1
+
+-- Meaning: laws of runs (this project's).
 
 -- the rules are the last version, and the updates begun are as many as the versions
 abbrev pub RulesAreLastVersion : Type 0

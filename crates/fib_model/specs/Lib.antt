@@ -1,9 +1,6 @@
 pub mod State
-pub mod Reclaiming
 pub mod Outcomes
 pub mod Counting
-pub mod Intervals
 pub mod Textbook
-pub mod History
 pub mod Laws
 pub mod Expected

@@ -21,8 +21,7 @@ use Rattle.fib_model.specs.declared.orders.Outcome.{Outcome}
 use Rattle.fib_model.specs.declared.orders.Outcome.TheVariants as outcome
 use Rattle.fib_model.specs.declared.orders.Report.{Report}
 use Rattle.fib_model.specs.declared.orders.Report.TheVariants.{Online, Offline, Quiescent}
-use Rattle.fib_model.specs.State.{State, Transitions, Keeping, IsExhausted, HasTokens}
-use Rattle.fib_model.specs.Reclaiming.{Reclaims, Unlinks}
+use Rattle.fib_model.specs.State.{State, Transitions, Keeping, IsExhausted, HasTokens, Reclaims, Unlinks}
 
 -- the number of deep blocks, each of which has a group
 abbrev pub groups_in_use : ℕ → ℕ → RuleMap → ℕ

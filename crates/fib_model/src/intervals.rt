@@ -2,7 +2,7 @@
 
 ghost use Rattle.std.specs.Prelude.{◌≡◌, ℕ, ◌+◌, ◌<◌, ◌≤◌, ◌^◌, ◌&&◌, nat_lt, length, reverse, Some, None, MatchOption, IsTrue, IsFalse};
 ghost use Rattle.qsbr.specs.Intervals.{IsRunningSince};
-ghost use Rattle.fib_model.specs.Intervals.{begins, ends, by_reports, is_unlinking, unlinkings_before};
+ghost use Rattle.fib_model.specs.Textbook.{begins, ends, by_reports, is_unlinking, unlinkings_before};
 
 use crate::Event;
 

@@ -42,11 +42,9 @@ pub(crate) struct Plain<const FIRST: u32, const SECOND: u32> {
 impl<const FIRST: u32, const SECOND: u32> Plain<FIRST, SECOND> {
     ghost use Rattle.fib_model.specs.Expected.{IsSound, events_of, state_of};
     ghost use Rattle.fib_model.specs.Outcomes.{Adds, Deletes, Does, Flushes, IsNew, LacksGroup, groups_in_use};
-    ghost use Rattle.fib_model.specs.Reclaiming.{Unlinks};
-    ghost use Rattle.fib_model.specs.State.{HasTokens, IsExhausted};
-    ghost use Rattle.fib_model.specs.Textbook.{textbook, by_intervals, initial_by_events};
+    ghost use Rattle.fib_model.specs.State.{Unlinks, HasTokens, IsExhausted};
+    ghost use Rattle.fib_model.specs.Textbook.{textbook, by_intervals, initial_by_events, by_reports};
     ghost use Rattle.qsbr.specs.Intervals.{IsTidy};
-    ghost use Rattle.fib_model.specs.Intervals.{by_reports};
 
     /// A table that was just opened.
     pub(crate) fn open(alloc: Global, config: &Config) -> Self

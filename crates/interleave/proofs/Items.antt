@@ -7,8 +7,7 @@ use Rattle.lpm_trace.specs.declared.kind.Deed.{Deed}
 use Rattle.lpm_trace.specs.declared.step.TraceStep.{TraceStep}
 use Rattle.lpm_trace.specs.declared.step.TraceStep.TheVariants.{Writer, Worker as ByWorker}
 use Rattle.lpm_trace.specs.Trace.{writes}
-use Rattle.interleave.specs.Schedule.{IsBy, HasEnded, IsScheduled, writer_items}
-use Rattle.interleave.specs.World.{used_items}
+use Rattle.interleave.specs.World.{IsBy, HasEnded, IsScheduled, writer_items, used_items}
 
 -- the last item that is used up is the newest
 pub used_more : (schedule : List Actor) (next : ℕ) (item : Actor) → next < length schedule → get_or schedule next item ≡ item → used_items schedule (suc next) ≡ item ∷ used_items schedule next

@@ -9,8 +9,7 @@ use Rattle.lpm_trace.specs.declared.step.WriterStep.TheVariants.{BumpToken}
 use Rattle.lpm_trace.specs.States.{InitialState}
 use Rattle.lpm_writer.specs.Steps.{AreStopped, Checks, Loads}
 use Rattle.interleave.specs.declared.reply.Reply.{Reply}
-use Rattle.interleave.specs.Replies.{StateBySteps, Waits, CameOut, next_token}
-use Rattle.interleave.specs.Runs.{HaveComeOut, IsUnderWay, AreUnanswered, IsPerformed}
+use Rattle.interleave.specs.Runs.{StateBySteps, Waits, CameOut, next_token, HaveComeOut, IsUnderWay, AreUnanswered, IsPerformed}
 
 -- ---- how long a wait is
 

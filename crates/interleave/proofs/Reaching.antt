@@ -1,5 +1,7 @@
--- The workers take their turns up to the writer's next item, or up to the schedule's end.
-use Rattle.std.proofs.Common.{◌≡◌, ◌≢◌, ℕ, suc, ◌<◌, ◌≤◌, inl, inr, cond, List, [], ◌∷◌, ◌++◌, length, refl, sym, ap, subst, ◌∙◌, arith, Option, Some, None, ◌↔◌, Bool, true, false}
+-- What a memory's fields show.
+use Rattle.std.proofs.Common.{ℕ, map, ◌≡◌, ◌≢◌, suc, ◌<◌, ◌≤◌, inl, inr, cond, List, [], ◌∷◌, ◌++◌, length, refl, sym, ap, subst, ◌∙◌, arith, Option, Some, None, ◌↔◌, Bool, true, false}
+use Rattle.interleave.specs.declared.world_memory.WorldMemory.TheInside.{Inside}
+use Rattle.interleave.specs.View.{WorldView, script_at, with_recorded_step, with_unrecorded_step}
 use Rattle.std.proofs.lemmas.Bool.{cases_lt}
 use Rattle.std.proofs.lemmas.Bool.Decides.{eqb_tells}
 use Rattle.lpm_trace.specs.declared.kind.Actor.TheVariants.{Writer as WriterActor}
@@ -9,12 +11,27 @@ use Rattle.lpm_trace.specs.declared.step.TraceStep.TheVariants.{Writer, Worker a
 use Rattle.lpm_trace.specs.States.{InitialState}
 use Rattle.lpm_trace.specs.Trace.{IsTrace, writes}
 use Rattle.interleave.specs.Scripts.{AreOf, steps_by}
-use Rattle.interleave.specs.Schedule.{HasEnded, IsScheduled, AreScripted, writer_items}
-use Rattle.interleave.specs.View.{WorldView, script_at}
-use Rattle.interleave.specs.World.{scripts_and_schedule, IsWorld, IsDoneAfter, IsWritersTurn, WorldDid, Reaches, StaysShared, TakesTurn, IsPlayedOut, with_beyond, used_items}
+use Rattle.interleave.specs.World.{HasEnded, IsScheduled, AreScripted, writer_items, scripts_and_schedule, IsWorld, IsDoneAfter, IsWritersTurn, WorldDid, Reaches, StaysShared, TakesTurn, IsPlayedOut, with_beyond, used_items, WorldDoes}
 use Rattle.interleave.proofs.Items.{one_each, one_at_most, items_left, items_all, items_used, used_all, makes_still}
-use Rattle.interleave.proofs.Turning.{passed_by, turn_passes}
-use Rattle.interleave.proofs.Writing.{none_beyond}
+use Rattle.interleave.proofs.Turning.{passed_by, turn_passes, none_beyond, FindsShown, sequence_within, recorded_does, unrecorded_does}
+use Rattle.std.specs.Prelude.{MatchBool}
+use Rattle.lpm_writer.specs.Plain.{MayBeNext}
+
+abbrev pub view_in : (first second : ℕ) → Inside first second → WorldView
+view_in first second x = record {
+  words = x.shared.cells;
+  sequence = x.shared.sequence;
+  token = x.shared.token;
+  machines = x.workers.items;
+  scripts = map (λ script. script.items) x.scripts.now;
+  schedule = x.schedule.now;
+  next = x.next;
+  steps = x.steps.items;
+  seen = x.seen.items;
+  stopped = x.stopped;
+}
+
+-- The workers take their turns up to the writer's next item, or up to the schedule's end.
 
 pub shared_more : (v y z : WorldView) → StaysShared v y → StaysShared y z → StaysShared v z
 shared_more v y z p q = record {
@@ -186,3 +203,32 @@ stopped_late first second v c steps did = go did.1 did.2 did.3
       (λ stopped. omega (arith, ap length is, at_least beyond (writes did.0), made_each first second v c did.0 (s ∷ beyond) world, items_all v.schedule v.next (world.at_end (λ e. cc)))),
       (λ late. world.late (λ e. cc)),
     )
+
+-- A step of the writer, where the workers took their turns before it.
+
+-- the step was recorded where an item was left for it
+pub step_does : {first second : ℕ} {v y z : WorldView} (s : WriterStep) (found : Bool) → StaysShared v y
+    → Reaches first second v y → MatchBool found (IsWritersTurn y) (y.next ≡ length y.schedule) → FindsShown y s
+    → (y.next < length y.schedule → z ≡ with_recorded_step y s)
+    → (y.next ≡ length y.schedule → z ≡ with_unrecorded_step y s) → WorldDoes first second s v z
+step_does {first} {second} {v} {y} {z} s true shared reaches turn finds left ended =
+    recorded_does first second v y z s (setting_stays v y shared) reaches turn finds (left turn.left)
+step_does {first} {second} {v} {y} {z} s false shared reaches all finds left ended =
+    unrecorded_does first second v y z s (setting_stays v y shared) reaches all finds (ended all)
+
+-- the same where the fields of the memory show y
+pub step_does_in : {first second : ℕ} {v x : WorldView} (y : WorldView) {z : WorldView} (s : WriterStep) (found : Bool)
+    → y ≡ x → StaysShared v x → Reaches first second v x
+    → MatchBool found (IsWritersTurn x) (x.next ≡ length x.schedule) → FindsShown y s
+    → (y.next < length y.schedule → z ≡ with_recorded_step y s)
+    → (y.next ≡ length y.schedule → z ≡ with_unrecorded_step y s) → WorldDoes first second s v z
+step_does_in {first} {second} {v} y s found is shared reaches at finds left ended = step_does s found
+    (subst (StaysShared v) (sym is) shared) (subst (Reaches first second v) (sym is) reaches)
+    (subst (λ (y : WorldView). MatchBool found (IsWritersTurn y) (y.next ≡ length y.schedule)) (sym is) at)
+    finds left ended
+
+-- the sequence is no greater than the number of the next item
+pub sequence_low : {first second : ℕ} {v y : WorldView} (s : WriterStep) → MayBeNext (WorldDid first second) v s
+    → Reaches first second v y → y.sequence ≤ y.next
+sequence_low {first} {second} {v} {y} s may reaches =
+    let now = reaches may.0 may.1 may.2 in sequence_within first second y may.0 None now.0 now.1 now.2

@@ -9,8 +9,7 @@ use Rattle.lpm_trace.specs.declared.step.WorkerStep.TheVariants.{LoadOnline, Sto
 use Rattle.lpm_trace.specs.declared.step.TraceStep.{TraceStep}
 use Rattle.lpm_trace.specs.declared.step.TraceStep.TheVariants.{Writer, Worker as ByWorker}
 use Rattle.lpm_trace.specs.States.{InitialState, TableState}
-use Rattle.lpm_trace.specs.Workers.{Worker, Probe, Unread, InGroup, Answered, IsBetweenDeeds, read_first, first_read, second_read, worker_by_step, IsNextFirst, IsNextSecond, AreBegun, AreAnswered, MayRead}
-use Rattle.lpm_trace.specs.Trace.{after, worker_of}
+use Rattle.lpm_trace.specs.Trace.{Worker, Probe, Unread, InGroup, Answered, IsBetweenDeeds, read_first, first_read, second_read, worker_by_step, IsNextFirst, IsNextSecond, AreBegun, AreAnswered, MayRead, after, worker_of}
 
 -- how far each address has come, but for when
 abbrev all_timeless : List Probe → List Probe

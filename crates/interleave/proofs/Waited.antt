@@ -7,13 +7,13 @@ use Rattle.lpm_trace.specs.declared.step.WriterStep.{WriterStep}
 use Rattle.lpm_trace.specs.declared.step.WriterStep.TheVariants.{BumpToken}
 use Rattle.lpm_trace.specs.States.{InitialState, state_after}
 use Rattle.lpm_writer.specs.declared.pool.GroupPool.{GroupPool}
-use Rattle.lpm_trace.proofs.Counts.{token_is}
+use Rattle.lpm_trace.proofs.Versions.{token_is}
 use Rattle.lpm_writer.specs.Traced.{Goes, Checks}
 use Rattle.lpm_writer.specs.Resting.{IsResting}
-use Rattle.lpm_writer.specs.Synchronizing.{IsWaiting}
+use Rattle.lpm_writer.specs.Commands.{IsWaiting}
 use Rattle.lpm_writer.proofs.Checks.{check_stops}
 use Rattle.lpm_writer.proofs.StepsAlone.{checks_alone}
-use Rattle.interleave.specs.Replies.{Waits, next_token}
+use Rattle.interleave.specs.Runs.{Waits, next_token}
 
 module _ {M : Type 0} (did : M → InitialState → List WriterStep → Type 0) (first second : ℕ) where
   -- from m a token was started, and n checks of it were stopped, which led to z

@@ -1,11 +1,8 @@
-pub mod Replies
 pub mod Laws
 pub mod Runs
-pub mod Record
-pub mod Schedule
 pub mod View
 pub mod World
 pub mod WorldLaws
 pub mod Scripts
-pub mod Shown
+pub mod Record
 pub mod Machine

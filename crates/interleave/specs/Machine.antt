@@ -1,13 +1,12 @@
 -- Meaning: where a worker stands in its script: what its own state tells of the steps that it has made,
 -- and what one more step does (this project's; a worker's steps are those of its deeds, in order).
 use Rattle.std.specs.Prelude.{◌≡◌, ℕ, ◌+◌, ◌*◌, ◌^◌, ◌<◌, ◌≤◌, ⊤, Bool, true, false, All, List, [], ◌∷◌, ◌++◌, length, map, reverse, vec_len, vec_capacity}
-use Rattle.lpm_cells.specs.Words.{entry_in, hop_in}
-use Rattle.lpm_cells.specs.Table.{Words}
+use Rattle.lpm_cells.specs.Words.{entry_in, hop_in, Words}
 use Rattle.lpm_trace.specs.declared.kind.Deed.{Deed}
 use Rattle.lpm_trace.specs.declared.kind.Step.{Step}
 use Rattle.lpm_trace.specs.declared.step.WorkerStep.{WorkerStep}
 use Rattle.lpm_trace.specs.States.{InitialState, TableState, addresses}
-use Rattle.lpm_trace.specs.Workers.{Worker, Phase, Probe, Unread, InGroup, Answered, Offline, ComingOnline, Online, LookingUp, ReportingQuiescent, AreBegun, AreAnswered, worker_by_step, MayRead}
+use Rattle.lpm_trace.specs.Trace.{Worker, Phase, Probe, Unread, InGroup, Answered, Offline, ComingOnline, Online, LookingUp, ReportingQuiescent, AreBegun, AreAnswered, worker_by_step, MayRead}
 use Rattle.interleave.specs.declared.probe.Probe.{Probe as OwnProbe}
 use Rattle.interleave.specs.declared.probe.Probe.TheVariants as probe
 use Rattle.interleave.specs.declared.probe.Grouped.{Grouped}
@@ -16,7 +15,7 @@ use Rattle.interleave.specs.declared.worker.Phase.TheVariants as phase
 use Rattle.interleave.specs.declared.worker.Worker.{Worker as Machine}
 use Rattle.interleave.specs.declared.seen.Seen.{Seen}
 use Rattle.interleave.specs.Scripts.{IsSoundFrom, IsCut, AreOf, BeginsWith, GoesOn}
-use Rattle.interleave.specs.Shown.{shown_by, finished_by, seen_by}
+use Rattle.interleave.specs.Record.{shown_by, finished_by, seen_by}
 
 -- what the worker is doing
 abbrev pub phase_of : OwnPhase → Phase

@@ -8,7 +8,7 @@ use Rattle.lpm_trace.specs.declared.step.WorkerStep.{WorkerStep}
 use Rattle.lpm_trace.specs.declared.step.WorkerStep.TheVariants.{LoadOnline, StoreOnline, LoadQuiescent, StoreQuiescent, StoreOffline, BeginLookup, LoadFirst, LoadSecond, EndLookup, MeetWriter}
 use Rattle.lpm_trace.specs.declared.step.TraceStep.{TraceStep}
 use Rattle.lpm_trace.specs.declared.step.TraceStep.TheVariants.{Writer as ByWriter, Worker as ByWorker}
-use Rattle.lpm_trace.specs.Workers.{Worker, IsBetweenDeeds}
+use Rattle.lpm_trace.specs.Trace.{Worker, IsBetweenDeeds}
 
 -- a worker that is online, or isn't, may do these deeds one after another, of addresses below n: it
 -- comes online where it is offline; it goes offline, reports and looks up where it is online; and it

@@ -1,7 +1,7 @@
 -- This layer's own: what a memory of the pure world holds, and what its events leave of it (this
 -- project's).
 use Rattle.std.specs.Prelude.{◌≡◌, ℕ, suc, ◌*◌, ◌^◌, ◌<◌, ◌≤◌, List, [], ◌∷◌, ◌++◌, slice_index_or, Bool, true}
-use Rattle.lpm_cells.specs.Table.{Words, with_first, with_second}
+use Rattle.lpm_cells.specs.Words.{Words, with_first, with_second}
 use Rattle.lpm_trace.specs.declared.kind.Actor.{Actor}
 use Rattle.lpm_trace.specs.declared.kind.Deed.{Deed}
 use Rattle.lpm_trace.specs.declared.kind.Step.{Step}

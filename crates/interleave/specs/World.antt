@@ -1,27 +1,61 @@
--- Meaning: the memory of the pure world, as traces tell it: the schedule's items that are used up have
--- made this trace, and what the writer has done since the schedule ended comes after it (this
--- project's: a schedule names who makes the next step).
-use Rattle.std.specs.Prelude.{◌≡◌, ◌≢◌, ℕ, ◌+◌, ◌*◌, ◌^◌, ◌<◌, ◌≤◌, Option, Some, None, List, [], ◌∷◌, ◌++◌, length, map, reverse, take, replicate, slice_index_or, true, false}
+-- Meaning: a trace that was made by a schedule: each item makes one step of its actor, unless that has
+-- ended (this project's).
+use Rattle.std.specs.Prelude.{◌≡◌, ℕ, suc, ◌≤◌, ◌⊎◌, ⊤, List, [], ◌∷◌, ◌≢◌, ◌+◌, ◌*◌, ◌^◌, ◌<◌, Option, Some, None, ◌++◌, length, map, reverse, take, replicate, slice_index_or, true, false}
 use Rattle.lpm_trace.specs.declared.kind.Actor.{Actor}
-use Rattle.lpm_trace.specs.declared.kind.Actor.TheVariants.{Writer as WriterActor}
+use Rattle.lpm_trace.specs.declared.kind.Actor.TheVariants.{Writer as WriterActor, Worker as WorkerActor}
 use Rattle.lpm_trace.specs.declared.kind.Deed.{Deed}
+use Rattle.lpm_trace.specs.declared.step.TraceStep.{TraceStep}
+use Rattle.lpm_trace.specs.declared.step.TraceStep.TheVariants.{Writer, Worker as ByWorker}
+use Rattle.lpm_trace.specs.Trace.{worker_of, IsTrace, writes, initial_worker}
+use Rattle.interleave.specs.Scripts.{IsScripted, IsDone, steps_by, IsSound}
 use Rattle.lpm_trace.specs.declared.kind.Step.{Step}
 use Rattle.lpm_trace.specs.declared.step.WriterStep.{WriterStep}
-use Rattle.lpm_trace.specs.declared.step.TraceStep.{TraceStep}
-use Rattle.lpm_trace.specs.declared.step.TraceStep.TheVariants.{Writer}
 use Rattle.lpm_cells.specs.Words.{word_of}
 use Rattle.lpm_cells.specs.declared.entry.Entry.TheVariants.{Miss}
 use Rattle.lpm_trace.specs.States.{InitialState, state_after}
-use Rattle.lpm_trace.specs.Workers.{initial_worker}
-use Rattle.lpm_trace.specs.Trace.{IsTrace, writes, worker_of}
 use Rattle.lpm_trace.specs.Writer.{MayStep}
 use Rattle.interleave.specs.declared.seen.Seen.{Seen}
 use Rattle.interleave.specs.declared.worker.Worker.{Worker as Machine}
 use Rattle.interleave.specs.Machine.{IsAt}
-use Rattle.interleave.specs.Scripts.{IsSound, steps_by}
 use Rattle.interleave.specs.Record.{all_shown, all_seen}
-use Rattle.interleave.specs.Schedule.{HasEnded, IsScheduled, writer_items, AreScripted}
 use Rattle.interleave.specs.View.{WorldView, script_at}
+
+-- the step is one of this actor
+abbrev pub IsBy : Actor → TraceStep → Type 0
+IsBy WriterActor (Writer s) = ⊤
+IsBy WriterActor (ByWorker k s) = ⊥
+IsBy (WorkerActor j) (Writer s) = ⊥
+IsBy (WorkerActor j) (ByWorker k s) = j ≡ k
+
+-- after these steps the actor has none left: there is no such worker, or its script is done; or the
+-- writer is done, by what that means
+abbrev pub HasEnded : ℕ → (ℕ → List Deed) → (List TraceStep → Type 0) → Actor → List TraceStep
+    → Type 0
+HasEnded workers scripts writer_is_done WriterActor steps = writer_is_done steps
+HasEnded workers scripts writer_is_done (WorkerActor k) steps =
+    (workers ≤ k) ⊎ IsDone (scripts k) (worker_of k steps) (steps_by k steps)
+
+-- each of these items, the newest first, made one step of its actor, or none where that had ended;
+-- and there are no other steps. `ended` says when an actor has ended.
+abbrev pub IsScheduled : (Actor → List TraceStep → Type 0) → List Actor → List TraceStep → Type 0
+IsScheduled ended [] steps = steps ≡ []
+IsScheduled ended (item ∷ items) steps = (ended item steps × IsScheduled ended items steps)
+    ⊎ ((step : TraceStep) × (earlier : List TraceStep) × (steps ≡ step ∷ earlier)
+    × IsBy item step × IsScheduled ended items earlier)
+
+-- how many of these items are the writer's
+abbrev pub writer_items : List Actor → ℕ
+writer_items [] = 0
+writer_items (WriterActor ∷ items) = suc (writer_items items)
+writer_items (WorkerActor k ∷ items) = writer_items items
+
+-- each worker's steps are those of its script, as far as it came
+abbrev pub AreScripted : (ℕ → List Deed) → List TraceStep → Type 0
+AreScripted scripts steps = (k : ℕ) → IsScripted (scripts k) k steps
+
+-- Meaning: the memory of the pure world, as traces tell it: the schedule's items that are used up have
+-- made this trace, and what the writer has done since the schedule ended comes after it (this
+-- project's: a schedule names who makes the next step).
 
 -- the writer has no step left: at no time, or once its steps are these
 abbrev pub IsDoneAfter : Option (List WriterStep) → List TraceStep → Type 0

@@ -6,7 +6,7 @@ use Rattle.lpm_trace.specs.declared.step.TraceStep.{TraceStep}
 use Rattle.lpm_trace.specs.States.{InitialState, state_after}
 use Rattle.lpm_trace.specs.Trace.{writes}
 use Rattle.lpm_trace.specs.Writer.{IsWritten}
-use Rattle.lpm_trace.proofs.Alone.{writer_is_alone}
+use Rattle.lpm_trace.proofs.Checks.{writer_is_alone}
 use Rattle.interleave.specs.View.{WorldView}
 use Rattle.interleave.specs.World.{with_beyond, WorldDid}
 

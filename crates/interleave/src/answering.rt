@@ -5,11 +5,9 @@ ghost use Rattle.lpm_trace.specs.declared.step.WriterStep.{WriterStep};
 ghost use Rattle.lpm_trace.specs.States.{InitialState};
 ghost use Rattle.lpm_writer.specs.Resting.{IsResting};
 ghost use Rattle.lpm_rules.specs.declared.Change.TheVariants.{Synchronize};
-ghost use Rattle.interleave.specs.Schedule.{writer_items};
-ghost use Rattle.interleave.specs.World.{WorldDid, scripts_and_schedule};
+ghost use Rattle.interleave.specs.World.{writer_items, WorldDid, scripts_and_schedule};
 ghost use Rattle.interleave.specs.declared.run_error.RunError.TheVariants.{Memory as IsMemory};
-ghost use Rattle.interleave.specs.Replies.{HasTokensLeft, Waits, Answers, state_by_steps};
-ghost use Rattle.interleave.specs.Runs.{IsPerformed};
+ghost use Rattle.interleave.specs.Runs.{HasTokensLeft, Waits, Answers, state_by_steps, IsPerformed};
 
 use super::synchronizing::synchronize;
 use super::{Reply, RunError};

@@ -7,7 +7,7 @@ use lpm_writer::Memory;
 
 impl<'a, const FIRST: u32, const SECOND: u32> Cells for WorldMemory<'a, FIRST, SECOND> {
     ghost use Rattle.lpm_trace.specs.declared.step.WriterStep.TheVariants.{StoreFirst, StoreSecond};
-    ghost use Rattle.lpm_writer.specs.MemorySteps.{MayBeNext};
+    ghost use Rattle.lpm_writer.specs.Plain.{MayBeNext};
     ghost use Rattle.interleave.specs.World.{WorldDid, WorldDoes};
 
     ghost words = { λ m. m.words };

@@ -2,7 +2,7 @@
 
 ghost use Rattle.std.specs.Prelude.{◌≡◌, ◌<◌, ◌^◌, MatchOption, ◌≤◌, map, length, vec_capacity};
 ghost use Rattle.lpm_cells.specs.Words.{entry_in};
-ghost use Rattle.lpm_trace.specs.Workers.{AreBegun, AreAnswered, read_first};
+ghost use Rattle.lpm_trace.specs.Trace.{AreBegun, AreAnswered, read_first};
 ghost use Rattle.interleave.specs.declared.probe.Probe.TheVariants as probe;
 ghost use Rattle.interleave.specs.Machine.{IsNextUnread, IsNextGrouped, probe_of, probes_of};
 

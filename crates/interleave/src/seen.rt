@@ -1,9 +1,9 @@
 //! Finished lookups, as a run shows them.
 
 ghost use Rattle.std.specs.Prelude.{◌≡◌, ◌+◌, ◌≤◌, [], ◌++◌, map, reverse, length, vec_len, vec_capacity};
-ghost use Rattle.lpm_trace.specs.Workers.{with_answers};
+ghost use Rattle.lpm_trace.specs.Trace.{with_answers};
 ghost use Rattle.interleave.specs.Machine.{probes_of};
-ghost use Rattle.interleave.specs.Shown.{seen_by};
+ghost use Rattle.interleave.specs.Record.{seen_by};
 
 use super::probe::Probe;
 use lpm_bits::Hop;

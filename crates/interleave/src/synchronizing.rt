@@ -6,7 +6,7 @@ ghost use Rattle.lpm_trace.specs.States.{InitialState};
 ghost use Rattle.lpm_writer.specs.Resting.{IsResting};
 ghost use Rattle.lpm_rules.specs.declared.Change.TheVariants.{Synchronize};
 ghost use Rattle.interleave.specs.World.{WorldDid, scripts_and_schedule};
-ghost use Rattle.interleave.specs.Replies.{HasTokensLeft, Waits, Answers, state_by_steps};
+ghost use Rattle.interleave.specs.Runs.{HasTokensLeft, Waits, Answers, state_by_steps};
 
 use super::Reply;
 use crate::WorldMemory;

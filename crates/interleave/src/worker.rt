@@ -2,15 +2,15 @@
 
 ghost use Rattle.std.specs.Prelude.{◌≡◌, ℕ, ◌+◌, ◌*◌, ◌/◌, ◌%◌, ◌^◌, ◌<◌, ◌≤◌, List, [], ◌∷◌, All, map, length, slice_index, vec_len, vec_capacity, IfNone, IfSome, IfOk};
 ghost use Rattle.lpm_bits.specs.Widths.{IsShape};
-ghost use Rattle.lpm_cells.specs.Table.{HasRoom, IsWords};
+ghost use Rattle.lpm_cells.specs.Words.{HasRoom, IsWords};
 ghost use Rattle.lpm_trace.specs.declared.kind.Deed.{Deed};
 ghost use Rattle.lpm_trace.specs.declared.kind.Kind.TheVariants as kind;
 ghost use Rattle.lpm_trace.specs.declared.step.WorkerStep.{WorkerStep};
 ghost use Rattle.lpm_trace.specs.declared.step.WorkerStep.TheVariants.{LoadFirst, LoadSecond};
 ghost use Rattle.lpm_trace.specs.States.{InitialState, TableState, addresses, done_at};
-ghost use Rattle.lpm_trace.specs.Workers.{Worker as TraceWorker, AreBegun, AreAnswered, IsBetweenDeeds, initial_worker, LookingUp};
+ghost use Rattle.lpm_trace.specs.Trace.{Worker as TraceWorker, AreBegun, AreAnswered, IsBetweenDeeds, initial_worker, LookingUp};
 ghost use Rattle.interleave.specs.Scripts.{IsSound, IsSoundFrom, IsDone};
-ghost use Rattle.interleave.specs.Shown.{step_of_worker};
+ghost use Rattle.interleave.specs.Record.{step_of_worker};
 ghost use Rattle.interleave.specs.declared.probe.Probe.TheVariants as probe;
 ghost use Rattle.interleave.specs.declared.worker.Phase.TheVariants as phase;
 ghost use Rattle.interleave.specs.Machine.{Shows, StaysOn, IsNextUnread, IsNextGrouped, IsInRange, IsAt, IsOf, Makes, BeginsDeed, ContinuesDeed, Advances, probes_of, is_online};

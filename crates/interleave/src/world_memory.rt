@@ -8,8 +8,7 @@ ghost use Rattle.lpm_trace.specs.declared.step.TraceStep.{TraceStep};
 ghost use Rattle.lpm_trace.specs.declared.step.WriterStep.{WriterStep};
 ghost use Rattle.lpm_trace.specs.States.{InitialState};
 ghost use Rattle.interleave.specs.Record.{step_of_writer};
-ghost use Rattle.interleave.specs.Schedule.{writer_items};
-ghost use Rattle.interleave.specs.World.{IsWorld, WorldDid, Reaches, StaysShared, IsWritersTurn, IsPlayedOut, TakesTurn};
+ghost use Rattle.interleave.specs.World.{writer_items, IsWorld, WorldDid, Reaches, StaysShared, IsWritersTurn, IsPlayedOut, TakesTurn};
 
 use crate::{Seen, Shared, Worker};
 use lpm_trace::{Actor, Deed, Kind, Step};

@@ -1,8 +1,10 @@
-use Rattle.std.proofs.Common.{arith, ◌^◌, ◌≡◌, ℕ, ◌+◌, ◌*◌, ◌/◌, ◌%◌, ◌<◌, ◌≤◌, refl, ap, sym, ◌∙◌, subst}
-use Rattle.lpm_cells.specs.Words.{IsEntry, IsWord, word_of, entry_in}
+use Rattle.std.proofs.Common.{arith, ◌^◌, ◌≡◌, ℕ, ◌+◌, ◌*◌, ◌/◌, ◌%◌, ◌<◌, ◌≤◌, refl, ap, sym, ◌∙◌, subst, length, get_or}
+use Rattle.lpm_cells.specs.Words.{IsEntry, IsWord, word_of, entry_in, IsLastWord, IsWords, IsFirstWord}
 use Rattle.lpm_cells.specs.declared.entry.Entry.{Entry}
 use Rattle.lpm_cells.specs.declared.entry.Entry.TheVariants.{Miss, Hop, Group}
 use Rattle.std.proofs.lemmas.Nat.{div-mul-add, mod-mul-add}
+use Rattle.std.specs.Prelude.{replicate, List}
+use Rattle.std.proofs.lemmas.List.{get_or-replicate, length-replicate}
 
 hop_high : (h d : ℕ) → h < 2 ^ 24 → (h + 2 ^ 24 + d * 2 ^ 26) / 2 ^ 24 ≡ 1 + d * 4
 hop_high h d b = ap (λ n. n / 2 ^ 24) (omega arith) ∙ div-mul-add (1 + d * 4) (2 ^ 24) h b
@@ -46,3 +48,22 @@ word_of-below width (Group g) l h = omega arith
 
 pub word_below : (width w : ℕ) → width ≤ 32 → IsWord width w → w < 2 ^ 32
 word_below width w l h = subst (λ n. n < 2 ^ 32) h.1 (word_of-below width (entry_in w) l h.0)
+
+zero_first : (w s : ℕ) (seconds : List ℕ) → IsFirstWord w s seconds 0
+zero_first w s seconds = rw entry_in_zero ((tt, refl), tt)
+
+zero_last : (w : ℕ) → IsLastWord w 0
+zero_last w = rw entry_in_zero ((tt, refl), tt)
+
+-- a table of misses
+pub blank : (first second n : ℕ) (a b : List ℕ) → a ≡ replicate (2 ^ first) 0 → b ≡ replicate n 0
+    → IsWords first second (record { firsts = a; seconds = b })
+blank first second n a b p q = record {
+  firsts_len = ap length p ∙ length-replicate _ _;
+  first_words = λ i l.
+      let l2 : i < 2 ^ first = omega (arith, l, ap length p, length-replicate {A = ℕ} (2 ^ first) 0) in
+      subst (IsFirstWord (first + second) second b) (sym (ap (λ x. get_or x i 0) p ∙ get_or-replicate _ i 0 0 l2)) (zero_first _ _ b);
+  second_words = λ i l.
+      let l2 : i < n = omega (arith, l, ap length q, length-replicate {A = ℕ} n 0) in
+      subst (IsLastWord (first + second)) (sym (ap (λ x. get_or x i 0) q ∙ get_or-replicate _ i 0 0 l2)) (zero_last _);
+}

@@ -8,7 +8,7 @@ mod entry;
 mod plain;
 
 ghost use Rattle.std.specs.Prelude.{◌≡◌, ℕ, ◌<◌, length, slice_index};
-ghost use Rattle.lpm_cells.specs.Table.{Words, with_first, with_second};
+ghost use Rattle.lpm_cells.specs.Words.{Words, with_first, with_second};
 
 pub use entry::Entry;
 pub use plain::PlainCells;

@@ -2,8 +2,7 @@
 
 ghost use Rattle.std.specs.Prelude.{◌≡◌, ℕ, ◌+◌, ◌*◌, ◌^◌, ◌<◌, ◌≤◌, ◌↔◌, length, slice_index, replicate, IfOk, IsTrue};
 ghost use Rattle.lpm_bits.specs.Widths.{IsShape};
-ghost use Rattle.lpm_cells.specs.Table.{IsFirstWord, IsWords, entry_at, with_first, with_second};
-ghost use Rattle.lpm_cells.specs.Words.{IsLastWord, entry_in, hop_in, word_of};
+ghost use Rattle.lpm_cells.specs.Words.{IsFirstWord, IsWords, entry_at, with_first, with_second, IsLastWord, entry_in, hop_in, word_of};
 ghost use Rattle.lpm_cells.specs.declared.entry.Entry.TheVariants.{Group, Miss};
 
 use super::Cells;
@@ -25,7 +24,7 @@ pub struct PlainCells<const FIRST: u32, const SECOND: u32> {
 
 impl<const FIRST: u32, const SECOND: u32> Model for PlainCells<FIRST, SECOND> {
     ghost use Rattle.lpm_bits.specs.Widths.{IsShape};
-    ghost use Rattle.lpm_cells.specs.Table.{Words, IsWords};
+    ghost use Rattle.lpm_cells.specs.Words.{Words, IsWords};
 
     ghost Value = { Words };
 

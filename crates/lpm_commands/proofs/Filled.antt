@@ -19,11 +19,9 @@ use Rattle.lpm_rules.specs.Changes.{rules_after}
 use Rattle.lpm_rules.specs.Deep.{IsDeepBlock, block_of, deep_blocks}
 use Rattle.lpm_rules.specs.declared.Put.{Put}
 use Rattle.lpm_rules.specs.declared.Put.TheVariants.{Added, Replaced, Unchanged}
-use Rattle.lpm_rules.proofs.Changes.{insert_same, size_added}
-use Rattle.lpm_rules.proofs.Deep.{has_deep_blocks}
-use Rattle.lpm_rules.proofs.DeepChanges.{put_brings_block, deep_blocks_empty}
-use Rattle.lpm_rules.proofs.Views.{networks_total}
-use Rattle.qsbr.specs.Registry.{Registry}
+use Rattle.lpm_rules.proofs.Views.{insert_same, size_added, networks_total}
+use Rattle.lpm_rules.proofs.Deep.{has_deep_blocks, put_brings_block, deep_blocks_empty}
+use Rattle.qsbr.specs.Counters.{Registry}
 use Rattle.fib_model.specs.State.{State, HasTokens}
 use Rattle.fib_model.specs.Outcomes.{Adds, LacksGroup, HoldsFront, groups_in_use}
 use Rattle.fib_model.specs.Counting.{counter_transitions, initial_by_counters}
@@ -33,7 +31,7 @@ use Rattle.lpm_files.specs.declared.failure.Failure.{Failure}
 use Rattle.lpm_files.specs.declared.failure.Failure.TheVariants as failures
 use Rattle.lpm_commands.specs.Loading.{Loads, IsLoaded, IsFirstRefused, EndsLoading, addition_of, rules_of_routes}
 use Rattle.lpm_commands.specs.Filled.{Fits, IsFilled, BringsGroup, Refuses}
-use Rattle.lpm_commands.proofs.Loaded.{added_rules, added_limbo, added_readers, rules_after-more, take_read, first_refused}
+use Rattle.lpm_commands.proofs.Texts.{added_rules, added_limbo, added_readers, rules_after-more, take_read, first_refused}
 
 -- ---- rules, and how many changes made them
 

@@ -1,11 +1,6 @@
-pub mod Loaded
 pub mod Filled
-pub mod Groups
 pub mod Sorted
-pub mod Needed
+pub mod Groups
 pub mod Updated
 pub mod Texts
-pub mod Ends
-pub mod Storms
 pub mod Found
-pub mod Explained

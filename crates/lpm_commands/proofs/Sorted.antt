@@ -6,11 +6,10 @@ use Rattle.std.specs.Prelude.{◌&&◌, IsTrue, nat_eq}
 use Rattle.std.specs.Ordering.{eq_by_cmp}
 use Rattle.std.specs.FinMap.{get, insert, empty, get-empty, get-insert, same_map}
 use Rattle.lpm_bits.specs.Network.{Network}
-use Rattle.lpm_rules.specs.RuleMap.{RuleMap, network_cmp}
+use Rattle.lpm_rules.specs.RuleMap.{RuleMap, network_cmp, with_rules, rules_of}
 use Rattle.lpm_rules.specs.Changes.{rules_after}
 use Rattle.lpm_rules.specs.declared.Rule.{Rule}
 use Rattle.lpm_rules.proofs.Views.{networks_total, exact_networks}
-use Rattle.lpm_rules.specs.Listed.{with_rules, rules_of}
 use Rattle.route_text.specs.declared.routes.Route.{Route}
 use Rattle.lpm_commands.specs.Loading.{addition_of, rules_of_routes}
 use Rattle.lpm_commands.specs.Filled.{rule_of}

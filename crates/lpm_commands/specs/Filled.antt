@@ -1,7 +1,7 @@
 -- This layer's own: a table into which rules were put, told without the tables on the way, and
 -- which rule such a table refuses (DPDK Programmer's Guide, "LPM Library", "Addition"; the order
 -- of the checks is this project's).
-use Rattle.std.specs.Prelude.{ℕ, ◌≡◌, ◌+◌, ◌<◌, ◌≤◌, ◌^◌, ⊤, [], None}
+use Rattle.std.specs.Prelude.{ℕ, ◌≡◌, ◌+◌, ◌<◌, ◌≤◌, ◌^◌, ⊤, [], None, ◌⊎◌, Bool, List, nat_lt, count_by}
 use Rattle.std.specs.FinMap.{len}
 use Rattle.lpm_bits.specs.Network.{Network}
 use Rattle.lpm_limits.specs.declared.config.Config.{Config}
@@ -10,7 +10,7 @@ use Rattle.lpm_limits.specs.declared.refusal.Refusal.TheVariants.{TooManyRules, 
 use Rattle.lpm_rules.specs.RuleMap.{RuleMap, RuleList, HasRoomFor, LacksRoomFor}
 use Rattle.lpm_rules.specs.Deep.{IsDeepBlock, block_of}
 use Rattle.lpm_rules.specs.declared.Rule.{Rule}
-use Rattle.qsbr.specs.Registry.{Registry}
+use Rattle.qsbr.specs.Counters.{Registry}
 use Rattle.fib_model.specs.State.{State}
 use Rattle.fib_model.specs.Outcomes.{groups_in_use}
 use Rattle.fib_model.specs.Counting.{initial_by_counters}
@@ -45,3 +45,21 @@ Refuses groups l p (NoGroups oldest) = HasRoomFor l p × BringsGroup l.rules p
     × (groups ≤ groups_in_use 24 8 l.rules) × (oldest ≡ None)
 Refuses groups l p Memory = ⊤
 Refuses groups l p refusal = ⊥
+
+-- This layer's own: how many groups a table of routes needs (Gupta, Lin and McKeown, INFOCOM 1998,
+-- section 3: a group of second words stands behind each first word whose block has a prefix longer
+-- than 24 bits, so one for each such route is enough).
+
+-- the route's prefix is longer than 24 bits
+abbrev pub is_long : Route → Bool
+is_long route = nat_lt 24 route.prefix.len
+
+-- how many such routes there are
+abbrev pub long_routes : List Route → ℕ
+long_routes routes = count_by is_long routes
+
+-- so many groups do for these routes: all that are given; or fewer, but one for each long route,
+-- where the tokens last for all that are given
+abbrev pub IsEnough : Config → List Route → ℕ → Type 0
+IsEnough c routes n = (n ≡ c.groups)
+    ⊎ ((n ≤ c.groups) × (long_routes routes ≤ n) × (c.first_token + c.groups ≤ 2 ^ 62))

@@ -1,9 +1,6 @@
 pub mod Loading
-pub mod Groups
 pub mod Filled
-pub mod Updating
 pub mod Lookup
-pub mod Covering
 pub mod Explain
 pub mod Apply
 pub mod Report

@@ -10,7 +10,7 @@ use Rattle.lpm_rules.specs.Changes.{rules_after}
 use Rattle.lpm_rules.specs.declared.Change.{Change}
 use Rattle.lpm_rules.specs.declared.Change.TheVariants.{Add}
 use Rattle.lpm_rules.specs.declared.Put.{Put}
-use Rattle.qsbr.specs.Registry.{Registry}
+use Rattle.qsbr.specs.Counters.{Registry}
 use Rattle.fib_model.specs.State.{State}
 use Rattle.fib_model.specs.Outcomes.{Adds}
 use Rattle.fib_model.specs.Counting.{counter_transitions, initial_by_counters}

@@ -5,7 +5,7 @@ use Rattle.lpm_limits.specs.declared.config.Config.{Config}
 use Rattle.lpm_limits.specs.declared.refusal.Refusal.TheVariants.{NoWorkers}
 use Rattle.lpm_rules.specs.RuleMap.{RuleMap}
 use Rattle.lpm_rules.specs.Longest.{AreLongestHops}
-use Rattle.qsbr.specs.Registry.{Registry}
+use Rattle.qsbr.specs.Counters.{Registry}
 use Rattle.bulk.specs.declared.bulk_error.BulkError.{BulkError}
 use Rattle.bulk.specs.declared.bulk_error.BulkError.TheVariants as bulks
 use Rattle.fib_model.specs.State.{State}

@@ -3,14 +3,14 @@
 use Rattle.std.specs.Prelude.{ℕ, ◌≡◌, ◌+◌, ◌⊎◌, List, [], ◌∷◌, Option, length}
 use Rattle.std.specs.FinMap.{len}
 use Rattle.lpm_limits.specs.declared.config.Config.{Config}
-use Rattle.qsbr.specs.Registry.{Registry}
+use Rattle.qsbr.specs.Counters.{Registry}
 use Rattle.fib_model.specs.declared.orders.Outcome.{Outcome}
 use Rattle.fib_model.specs.declared.event.Event.{Event}
 use Rattle.fib_model.specs.State.{State}
 use Rattle.fib_model.specs.Outcomes.{Log, groups_in_use}
 use Rattle.fib_model.specs.Textbook.{textbook}
 use Rattle.fib.specs.Fib.{FibState}
-use Rattle.fib_model.specs.History.{history, last_of}
+use Rattle.fib_model.specs.Laws.{history, last_of}
 use Rattle.route_text.specs.declared.routes.Route.{Route}
 use Rattle.fib_model.specs.declared.orders.Order.{Order}
 use Rattle.route_text.specs.Files.{AreRoutes}
@@ -22,7 +22,7 @@ use Rattle.lpm_files.specs.declared.failure.Failure.TheVariants.{CannotWrite}
 use Rattle.lpm_files.specs.Inputs.{Input, Reads, route_file, update_file}
 use Rattle.lpm_files.specs.Inputs.{AreRead, EndsAtOne}
 use Rattle.lpm_commands.specs.Loading.{EndsTable}
-use Rattle.lpm_commands.specs.Updating.{ComesOut, IsUpdated}
+use Rattle.lpm_commands.specs.Apply.{ComesOut, IsUpdated}
 
 -- the report has what the table counts
 pub record IsCountOf (fib : FibState) (r : Report) : Type 0 where

@@ -5,8 +5,8 @@ use Rattle.std.specs.Prelude.{ℕ, ◌≡◌, ◌+◌, ◌⊎◌, Bool, true, fa
 use Rattle.std.specs.Prelude.{filter}
 use Rattle.lpm_limits.specs.declared.config.Config.{Config}
 use Rattle.lpm_limits.specs.declared.refusal.Refusal.TheVariants as refusals
-use Rattle.lpm_rules.specs.Listed.{rules_of}
-use Rattle.qsbr.specs.Registry.{Registry}
+use Rattle.lpm_rules.specs.RuleMap.{rules_of}
+use Rattle.qsbr.specs.Counters.{Registry}
 use Rattle.fib_model.specs.State.{State}
 use Rattle.route_text.specs.declared.routes.Route.{Route}
 use Rattle.fib_model.specs.declared.orders.Order.{Order}
@@ -18,8 +18,7 @@ use Rattle.audit.specs.Report.{storm_lines}
 use Rattle.storm.specs.declared.plan.Plan.{Plan}
 use Rattle.storm.specs.declared.plan.StormError.{StormError}
 use Rattle.storm.specs.declared.plan.StormError.TheVariants as errors
-use Rattle.storm.specs.Plans.{EndsBefore, EndsStorm, IsInRange, limits_of}
-use Rattle.storm.specs.Storm.{IsStorm}
+use Rattle.storm.specs.Storm.{EndsBefore, EndsStorm, IsInRange, limits_of, IsStorm}
 use Rattle.lpm_files.specs.declared.failure.Failure.{Failure}
 use Rattle.lpm_files.specs.declared.failure.Failure.TheVariants as failures
 use Rattle.lpm_files.specs.Inputs.{Reads, AreRead, EndsAtOne}

@@ -3,10 +3,8 @@ ghost use Rattle.std.specs.Prelude.{◌≡◌, ◌+◌, ◌≤◌, ◌<◌, ◌%
 ghost use Rattle.std.specs.Option.{option_to_list};
 ghost use Rattle.std.specs.FinMap as map;
 ghost use Rattle.lpm_bits.specs.Network.{prefix_of};
-ghost use Rattle.lpm_cells.specs.Words.{entry_in};
-ghost use Rattle.lpm_cells.specs.Table.{IsWords, IsFirstWord};
-ghost use Rattle.lpm_commands.specs.Covering.{AreCovering, IsAnsweredByFirst};
-ghost use Rattle.lpm_commands.specs.Covering.{reading_of, second_word};
+ghost use Rattle.lpm_cells.specs.Words.{entry_in, IsWords, IsFirstWord};
+ghost use Rattle.lpm_commands.specs.Explain.{AreCovering, IsAnsweredByFirst, reading_of, second_word};
 
 use lpm_bits::{Prefix, Shape};
 use lpm_cells::{Entry, PlainCells};

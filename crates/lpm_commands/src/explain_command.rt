@@ -2,8 +2,7 @@
 ghost use Rattle.std.specs.Prelude.{◌≡◌, ◌≢◌, ◌++◌, List, ℕ, IfOk, IfErr, OnOk, IsErrOf};
 ghost use Rattle.lpm_limits.specs.Limits.{IsConfig};
 ghost use Rattle.lpm_files.specs.Output.{Writes, WritesBeginning};
-ghost use Rattle.lpm_commands.specs.Explain.{IsExplanation, AreExplanations, ExplainsBy};
-ghost use Rattle.lpm_commands.specs.Explain.{IsExplainText, EndsExplain};
+ghost use Rattle.lpm_commands.specs.Explain.{IsExplanation, AreExplanations, ExplainsBy, IsExplainText, EndsExplain};
 
 use crate::covering::{covering_rules, reading};
 use crate::loading::load;

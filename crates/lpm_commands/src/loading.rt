@@ -2,16 +2,14 @@
 ghost use Rattle.std.specs.Prelude.{◌≡◌, ◌+◌, ◌^◌, ◌<◌, ◌≤◌, IsTrue, IfOk, IfErr, IfSome, OnOk, length, map, take, drop};
 ghost use Rattle.std.specs.FinMap.{len};
 ghost use Rattle.lpm_limits.specs.Limits.{IsConfig, IsIn, groups_range};
-ghost use Rattle.lpm_rules.specs.RuleMap.{RuleMap};
+ghost use Rattle.lpm_rules.specs.RuleMap.{RuleMap, AreInOrder, rules_of, with_rules};
 ghost use Rattle.lpm_rules.specs.Changes.{rules_after};
-ghost use Rattle.lpm_rules.specs.Listed.{AreInOrder, rules_of, with_rules};
-ghost use Rattle.qsbr.specs.Registry.{Registry};
+ghost use Rattle.qsbr.specs.Counters.{Registry};
 ghost use Rattle.fib_model.specs.State.{State};
 ghost use Rattle.shared_fib.specs.Passes.{IsFullBench};
 ghost use Rattle.shared_fib.specs.Running.{initial_writer};
 ghost use Rattle.lpm_commands.specs.Loading.{IsLoaded, EndsLoading, addition_of, rules_of_routes};
-ghost use Rattle.lpm_commands.specs.Groups.{IsEnough, long_routes};
-ghost use Rattle.lpm_commands.specs.Filled.{Fits, IsFilled};
+ghost use Rattle.lpm_commands.specs.Filled.{IsEnough, long_routes, Fits, IsFilled};
 
 use crate::ordering::{count_groups, rules_in_order};
 use crate::refusals::{Made, first_refusal, made_of, refused};

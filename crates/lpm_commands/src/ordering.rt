@@ -1,6 +1,6 @@
 //! The rules of routes in the order of their prefixes, and how many groups these need.
 ghost use Rattle.std.specs.Prelude.{◌≡◌, ◌^◌, ◌<◌, ◌≤◌, ◌↔◌, IsTrue, IfOk, length, map, take};
-ghost use Rattle.lpm_rules.specs.Listed.{AreInOrder, prefix_at, rules_of};
+ghost use Rattle.lpm_rules.specs.RuleMap.{AreInOrder, prefix_at, rules_of};
 ghost use Rattle.fib_model.specs.Outcomes.{groups_in_use};
 ghost use Rattle.lpm_commands.specs.Loading.{rules_of_routes};
 ghost use Rattle.lpm_commands.specs.Filled.{BringsGroup, rule_of};

@@ -1,12 +1,12 @@
 //! `storm`: how many answers of lookups beside a writer were wrong.
 ghost use Rattle.std.specs.Prelude.{◌≡◌, ◌≢◌, ◌+◌, ◌<◌, ◌^◌, ◌⊎◌, All};
 ghost use Rattle.std.specs.Prelude.{IfOk, IfErr, OnOk, IsErrOf};
-ghost use Rattle.lpm_rules.specs.Listed.{rules_of};
+ghost use Rattle.lpm_rules.specs.RuleMap.{rules_of};
 ghost use Rattle.shared_fib.specs.Passes.{IsFullBench};
 ghost use Rattle.shared_fib.specs.Running.{initial_writer};
 ghost use Rattle.lpm_files.specs.Output.{Writes, WritesBeginning};
 ghost use Rattle.storm.specs.Changing.{IsForWriter};
-ghost use Rattle.storm.specs.Plans.{IsInRange, limits_of};
+ghost use Rattle.storm.specs.Storm.{IsInRange, limits_of};
 ghost use Rattle.lpm_commands.specs.Loading.{rules_of_routes};
 ghost use Rattle.lpm_commands.specs.Storm.{IsStormText, IsTextAfter, IsTextOf, IsTextOver, ending_of, with_versions};
 ghost use Rattle.lpm_commands.specs.Storm.{EndsAfter, EndsBy, EndsOver, EndsRunning, EndsStormRun, changes_of, is_change};

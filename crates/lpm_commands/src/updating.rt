@@ -1,6 +1,6 @@
 //! Updates of a table, one after another, and what came of each.
 ghost use Rattle.std.specs.Prelude.{◌≡◌, ◌≢◌, false, IfOk, All};
-ghost use Rattle.lpm_commands.specs.Updating.{ComesOut};
+ghost use Rattle.lpm_commands.specs.Apply.{ComesOut};
 ghost use Rattle.lpm_limits.specs.declared.refusal.Refusal.TheVariants.{Memory};
 
 use fib::Fib;

@@ -2,8 +2,7 @@
 use Rattle.std.proofs.Common.{◌≡◌, ℕ, ◌+◌, ◌<◌, ◌≤◌, List, [], ◌∷◌, length, All, sym, subst, arith}
 use Rattle.std.proofs.lemmas.List.Elements.{All-nil, All-cons, All-append}
 use Rattle.route_text.specs.declared.routes.Route.{Route}
-use Rattle.route_text.specs.Lines.{fields}
-use Rattle.route_text.specs.Files.{StandsFor, AreItems, SpellsRoute}
+use Rattle.route_text.specs.Files.{fields, StandsFor, AreItems, SpellsRoute}
 
 spelled_line : (n : ℕ) (fs : List (List ℕ)) (route : Route) → SpellsRoute n fs route → route.line ≡ n
 spelled_line n [] route is = absurd is

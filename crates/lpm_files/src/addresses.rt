@@ -1,9 +1,7 @@
 //! Addresses that are read in pieces.
 ghost use Rattle.std.specs.Thread.{IsSync};
 ghost use Rattle.std.specs.Prelude.{◌≡◌, [], ◌∷◌, ◌++◌, IfOk, IfErr};
-ghost use Rattle.route_text.specs.Files.{AreAddresses, IsAddressesFault};
-ghost use Rattle.route_text.specs.Files.{SpellsAddress, HasAddressFault};
-ghost use Rattle.route_text.specs.Readings.{IsReadError};
+ghost use Rattle.route_text.specs.Files.{AreAddresses, IsAddressesFault, SpellsAddress, HasAddressFault, IsReadError};
 
 use crate::pieces::{Halves, PiecewiseFile, halved, joined};
 use route_text::{ReadError, read_addresses};

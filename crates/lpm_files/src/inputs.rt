@@ -1,10 +1,9 @@
 //! Files that are read, each of its form.
 ghost use Rattle.std.specs.Prelude.{◌≡◌, ⊤, ℕ, List, All, IfOk, IfErr};
 ghost use Rattle.route_text.specs.declared.fault.Fault.{Fault};
-ghost use Rattle.route_text.specs.Files.{AreRoutes, IsRoutesFault, AreAddresses, IsAddressesFault};
+ghost use Rattle.route_text.specs.Files.{AreRoutes, IsRoutesFault, AreAddresses, IsAddressesFault, IsReadError};
 ghost use Rattle.route_text.specs.Updates.{AreUpdates, IsUpdatesFault};
 ghost use Rattle.route_text.specs.Updates.{AreOldUpdates, IsOldUpdatesFault, IsCountInRange};
-ghost use Rattle.route_text.specs.Readings.{IsReadError};
 ghost use Rattle.lpm_files.specs.Inputs.{address_file, route_file, input, Reads, EndsReading, ending_of};
 
 use crate::addresses::parse_addresses_on;

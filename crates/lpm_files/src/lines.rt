@@ -1,7 +1,7 @@
 //! Where lists and texts are cut, and how many lines a text has.
 ghost use Rattle.std.specs.Prelude.{◌≡◌, ◌+◌, ◌-◌, ◌*◌, ◌/◌, ◌<◌, ◌≤◌, ◌==◌, ◌⊎◌};
 ghost use Rattle.std.specs.Prelude.{count_by, length, slice_index};
-ghost use Rattle.route_text.specs.Lines.{lines};
+ghost use Rattle.route_text.specs.Files.{lines};
 
 use memchr::memchr;
 

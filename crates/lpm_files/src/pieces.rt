@@ -2,9 +2,7 @@
 ghost use Rattle.std.specs.Prelude.{◌≡◌, ℕ, List, ◌+◌, ◌^◌, ◌<◌, ◌++◌, length, map};
 ghost use Rattle.std.specs.Prelude.{IfSome, IfOk, IfErr};
 ghost use Rattle.route_text.specs.declared.fault.FaultKind.{FaultKind};
-ghost use Rattle.route_text.specs.Lines.{lines};
-ghost use Rattle.route_text.specs.Files.{AreItems, IsFirstFault};
-ghost use Rattle.route_text.specs.Readings.{IsReadError};
+ghost use Rattle.route_text.specs.Files.{lines, AreItems, IsFirstFault, IsReadError};
 
 use crate::lines::{count_lines, line_end, share};
 use route_text::{Fault, ReadError};

@@ -2,10 +2,7 @@
 ghost use Rattle.std.proofs.Common.{ap};
 ghost use Rattle.std.specs.Thread.{IsSync};
 ghost use Rattle.std.specs.Prelude.{◌≡◌, ℕ, List, [], ◌∷◌, ◌+◌, ◌^◌, ◌<◌, ◌++◌, All, IfOk, IfErr, length, map};
-ghost use Rattle.route_text.specs.Lines.{lines};
-ghost use Rattle.route_text.specs.Files.{AreItems};
-ghost use Rattle.route_text.specs.Files.{AreRoutes, IsRoutesFault, SpellsRoute, HasRouteFault};
-ghost use Rattle.route_text.specs.Readings.{IsReadError};
+ghost use Rattle.route_text.specs.Files.{lines, AreItems, AreRoutes, IsRoutesFault, SpellsRoute, HasRouteFault, IsReadError};
 ghost use Rattle.lpm_files.specs.Later.{later_route};
 
 use crate::lines::count_lines;

@@ -1,4 +1,1 @@
-pub mod Writes
-pub mod Tallies
 pub mod Marking
-pub mod Blocks

@@ -1,17 +1,200 @@
--- `IsSound` through each change of the groups.
-use Rattle.std.proofs.Common.{◌≡◌, ◌≢◌, ℕ, ◌+◌, ◌-◌, ◌<◌, ◌≤◌, List, [], ◌∷◌, ◌++◌, length, get_or, set, map, replicate, take, drop, min, zero, suc, refl, sym, ap, ◌∙◌, arith, eq-eqb, length-set, length-drop}
-use Rattle.std.specs.Prelude.{slice_get, option_map, Some}
-use Rattle.std.proofs.lemmas.List.{map-set, take_all, length-map, get_or-drop}
-use Rattle.std.proofs.lemmas.Bool.{eqb-true}
-use Rattle.std.proofs.lemmas.Option.{slice_get_within, slice_get-map, get_or_from_slice_get}
-use Rattle.std.proofs.lemmas.Grind.{common_steps}
-use Rattle.memchr.specs.Find.{Nowhere, NoneBefore, Passes, is_byte}
+-- How the counts of the states move as one of them is written.
+use Rattle.std.proofs.Common.{◌≡◌, ℕ, ◌+◌, ◌<◌, Bool, true, cond, List, [], ◌∷◌, ◌++◌, length, get_or, set, map, replicate, zero, suc, refl, ap, ◌∙◌, arith, ◌⊎◌, false, sym, inl, inr, ◌≢◌, ◌-◌, ◌≤◌, take, drop, min, eq-eqb, length-set, length-drop}
+use Rattle.std.specs.Prelude.{count_by, slice_get, Some, Contains, nat_eq, option_map}
+use Rattle.std.proofs.lemmas.List.Sums.{sum_by-cons, sum_by-set}
+use Rattle.std.proofs.lemmas.Option.{slice_get_within, get_or_from_slice_get, slice_get-map}
 use Rattle.lpm_groups.specs.declared.GroupState.{GroupState}
 use Rattle.lpm_groups.specs.declared.GroupState.TheVariants.{Free, Linked, Limbo}
-use Rattle.lpm_groups.specs.States.{is_free, free_count, IsLinkedTo, IsLimboAt, IsLeastFree}
-use Rattle.lpm_groups.specs.Marks.{mark_of, IsSound}
-use Rattle.lpm_groups.proofs.Writes.{free_before_set, slice_get-set_same, slice_get-set_other}
-use Rattle.lpm_groups.proofs.Tallies.{count_by-cons, Takes-set, Retires-set, Releases-set, linked_count-replicate, limbo_count-replicate, linked_count-of_blocks, limbo_count-of_blocks}
+use Rattle.lpm_groups.specs.States.{is_free, is_linked, is_limbo, linked_count, limbo_count, free_count, IsFreeAt, IsLinkedTo, IsLimboAt, linked_blocks, IsLinkedOnce, IsLinkedAt, IsLeastFree, mark_of, IsSound}
+use Rattle.std.specs.List.{IsDistinct, AllByRecursion}
+use Rattle.std.specs.Cmp.{nat_eq_equiv, unsigned_Decides}
+use Rattle.std.proofs.lemmas.Bool.Decides.{eqb_tells, same_from_decides, Decides-like}
+use Rattle.std.proofs.lemmas.Map.Made.{is_member-Decides, length-from_same_keys}
+use Rattle.std.proofs.lemmas.List.{map-set, take_all, length-map, get_or-drop}
+use Rattle.std.proofs.lemmas.Bool.{eqb-true}
+use Rattle.std.proofs.lemmas.Grind.{common_steps}
+use Rattle.memchr.specs.Find.{Nowhere, NoneBefore, Passes, is_byte}
+
+-- the count of a list by its first element
+pub count_by-cons : (p : GroupState → Bool) (x : GroupState) (xs : List GroupState) → count_by p (x ∷ xs) ≡ cond (p x) 1 0 + count_by p xs
+count_by-cons p x xs = sum_by-cons (λ s. cond (p s) 1 0) x xs
+
+-- each state is counted once
+pub counts-total : (xs : List GroupState) → linked_count xs + limbo_count xs + free_count xs ≡ length xs
+counts-total [] = refl
+counts-total (Free ∷ xs) = omega (arith, counts-total xs, count_by-cons is_linked Free xs, count_by-cons is_limbo Free xs, count_by-cons is_free Free xs)
+counts-total (Linked b ∷ xs) = omega (arith, counts-total xs, count_by-cons is_linked (Linked b) xs, count_by-cons is_limbo (Linked b) xs, count_by-cons is_free (Linked b) xs)
+counts-total (Limbo ∷ xs) = omega (arith, counts-total xs, count_by-cons is_linked Limbo xs, count_by-cons is_limbo Limbo xs, count_by-cons is_free Limbo xs)
+
+-- a count after a write of one state
+pub count_by-set : (p : GroupState → Bool) (xs : List GroupState) (g : ℕ) (old new : GroupState) → slice_get xs g ≡ Some old → count_by p (set xs g new) + cond (p old) 1 0 ≡ count_by p xs + cond (p new) 1 0
+count_by-set p xs g old new at =
+    let read : get_or xs g old ≡ old = get_or_from_slice_get xs g old old at in
+    rw read at (sum_by-set (λ s. cond (p s) 1 0) xs g new old (slice_get_within xs g old at))
+
+-- a state that passes is counted
+pub count_by-some : (p : GroupState → Bool) (xs : List GroupState) (g : ℕ) (s : GroupState) → slice_get xs g ≡ Some s → p s ≡ true → 0 < count_by p xs
+count_by-some p [] g s at passes = cc
+count_by-some p (x ∷ xs) zero s at passes =
+    let same : x ≡ s = cc in
+    let one : cond {A = ℕ} (p x) 1 0 ≡ 1 = ap (λ b. cond b 1 0) (ap p same ∙ passes) in
+    omega (arith, count_by-cons p x xs)
+count_by-some p (x ∷ xs) (suc g) s at passes = omega (arith, count_by-cons p x xs, count_by-some p xs g s at passes)
+
+-- a group is taken: one more is linked, one fewer is free
+pub record Takes (old new : List GroupState) : Type 0 where
+  pub linked : linked_count new ≡ linked_count old + 1
+  pub limbo : limbo_count new ≡ limbo_count old
+  pub free : free_count new + 1 ≡ free_count old
+
+pub Takes-set : (xs : List GroupState) (g b : ℕ) → IsFreeAt xs g → Takes xs (set xs g (Linked b))
+Takes-set xs g b at = record {
+  linked = omega (arith, count_by-set is_linked xs g Free (Linked b) at);
+  limbo = omega (arith, count_by-set is_limbo xs g Free (Linked b) at);
+  free = omega (arith, count_by-set is_free xs g Free (Linked b) at);
+}
+
+-- a group is retired: one fewer is linked, one more is in limbo
+pub record Retires (old new : List GroupState) : Type 0 where
+  pub linked : linked_count new + 1 ≡ linked_count old
+  pub limbo : limbo_count new ≡ limbo_count old + 1
+  pub free : free_count new ≡ free_count old
+
+pub Retires-set : (xs : List GroupState) (g b : ℕ) → IsLinkedTo xs g b → Retires xs (set xs g Limbo)
+Retires-set xs g b at = record {
+  linked = omega (arith, count_by-set is_linked xs g (Linked b) Limbo at);
+  limbo = omega (arith, count_by-set is_limbo xs g (Linked b) Limbo at);
+  free = omega (arith, count_by-set is_free xs g (Linked b) Limbo at);
+}
+
+-- a group is released: one fewer is in limbo, one more is free
+pub record Releases (old new : List GroupState) : Type 0 where
+  pub linked : linked_count new ≡ linked_count old
+  pub limbo : limbo_count new + 1 ≡ limbo_count old
+  pub free : free_count new ≡ free_count old + 1
+
+pub Releases-set : (xs : List GroupState) (g : ℕ) → IsLimboAt xs g → Releases xs (set xs g Free)
+Releases-set xs g at = record {
+  linked = omega (arith, count_by-set is_linked xs g Limbo Free at);
+  limbo = omega (arith, count_by-set is_limbo xs g Limbo Free at);
+  free = omega (arith, count_by-set is_free xs g Limbo Free at);
+}
+
+pub linked_count-replicate : (n : ℕ) → linked_count (replicate n Free) ≡ 0
+linked_count-replicate zero = refl
+linked_count-replicate (suc n) = omega (arith, count_by-cons is_linked Free (replicate n Free), linked_count-replicate n)
+
+pub limbo_count-replicate : (n : ℕ) → limbo_count (replicate n Free) ≡ 0
+limbo_count-replicate zero = refl
+limbo_count-replicate (suc n) = omega (arith, count_by-cons is_limbo Free (replicate n Free), limbo_count-replicate n)
+
+-- the counts where the first groups are linked, and the others free
+pub linked_count-of_blocks : (bs : List ℕ) (n : ℕ) → linked_count (map Linked bs ++ replicate n Free) ≡ length bs
+linked_count-of_blocks [] n = linked_count-replicate n
+linked_count-of_blocks (b ∷ bs) n = omega (arith, count_by-cons is_linked (Linked b) (map Linked bs ++ replicate n Free), linked_count-of_blocks bs n)
+
+pub limbo_count-of_blocks : (bs : List ℕ) (n : ℕ) → limbo_count (map Linked bs ++ replicate n Free) ≡ 0
+limbo_count-of_blocks [] n = limbo_count-replicate n
+limbo_count-of_blocks (b ∷ bs) n = omega (arith, count_by-cons is_limbo (Linked b) (map Linked bs ++ replicate n Free), limbo_count-of_blocks bs n)
+
+-- The blocks that the linked groups stand for.
+
+-- as many blocks as linked groups
+pub length-linked_blocks : (xs : List GroupState) → length (linked_blocks xs) ≡ linked_count xs
+length-linked_blocks [] = refl
+length-linked_blocks (Free ∷ xs) = omega (arith, count_by-cons is_linked Free xs, length-linked_blocks xs)
+length-linked_blocks (Linked b ∷ xs) = omega (arith, count_by-cons is_linked (Linked b) xs, length-linked_blocks xs)
+length-linked_blocks (Limbo ∷ xs) = omega (arith, count_by-cons is_linked Limbo xs, length-linked_blocks xs)
+
+-- a block that a group is linked to is among them
+pub Contains-linked_blocks : (xs : List GroupState) (g b : ℕ) → IsLinkedTo xs g b → Contains (linked_blocks xs) b
+Contains-linked_blocks [] g b at = cc
+Contains-linked_blocks (Free ∷ xs) zero b at = cc
+Contains-linked_blocks (Limbo ∷ xs) zero b at = cc
+Contains-linked_blocks (Linked c ∷ xs) zero b at = (0, omega arith, cc)
+Contains-linked_blocks (Free ∷ xs) (suc g) b at = Contains-linked_blocks xs g b at
+Contains-linked_blocks (Limbo ∷ xs) (suc g) b at = Contains-linked_blocks xs g b at
+Contains-linked_blocks (Linked c ∷ xs) (suc g) b at =
+    let rest = Contains-linked_blocks xs g b at in
+    (suc rest.0, omega (arith, rest.1), rest.2)
+
+-- each of them has a group
+pub group_of_block : (xs : List GroupState) (b : ℕ) → Contains (linked_blocks xs) b → (g : ℕ) × IsLinkedTo xs g b
+group_of_block [] b among = absurd (omega (arith, among.1))
+group_of_block (Free ∷ xs) b among = let rest = group_of_block xs b among in (suc rest.0, rest.1)
+group_of_block (Limbo ∷ xs) b among = let rest = group_of_block xs b among in (suc rest.0, rest.1)
+group_of_block (Linked c ∷ xs) b (zero, within, is) = (0, ap (λ x. Some (Linked x)) is)
+group_of_block (Linked c ∷ xs) b (suc k, within, is) = let rest = group_of_block xs b (k, omega arith, is) in (suc rest.0, rest.1)
+
+-- a block that no group is linked to differs from all of them
+apart : (b : ℕ) (xs : List GroupState) → ((g : ℕ) → IsLinkedTo xs g b → ⊥) → AllByRecursion (λ y. nat_eq b y ≡ false) (linked_blocks xs)
+apart b [] none = tt
+apart b (Free ∷ xs) none = apart b xs (λ g at. none (suc g) at)
+apart b (Limbo ∷ xs) none = apart b xs (λ g at. none (suc g) at)
+apart b (Linked c ∷ xs) none =
+    let differs : nat_eq b c ≡ false = elim (eqb_tells b c) [ inl same ↦ absurd (none 0 (ap (λ x. Some (Linked x)) (sym same.1))) | inr other ↦ other.0 ] in
+    (differs, apart b xs (λ g at. none (suc g) at))
+
+-- no block has two groups, so none of them stands twice
+pub IsDistinct-linked_blocks : (xs : List GroupState) → IsLinkedOnce xs → IsDistinct nat_eq (linked_blocks xs)
+unfolding IsDistinct
+IsDistinct-linked_blocks [] once = tt
+IsDistinct-linked_blocks (Free ∷ xs) once = IsDistinct-linked_blocks xs (λ g h b x y. let e = once (suc g) (suc h) b x y in omega arith)
+IsDistinct-linked_blocks (Limbo ∷ xs) once = IsDistinct-linked_blocks xs (λ g h b x y. let e = once (suc g) (suc h) b x y in omega arith)
+IsDistinct-linked_blocks (Linked c ∷ xs) once = (
+  apart c xs (λ g at. let e = once 0 (suc g) c refl at in omega arith),
+  IsDistinct-linked_blocks xs (λ g h b x y. let e = once (suc g) (suc h) b x y in omega arith),
+)
+
+-- where the linked groups stand for exactly the blocks of a list without repeats, each for its own,
+-- there are as many as the list is long
+pub linked_count-from_blocks :
+    (xs : List GroupState) (bs : List ℕ) → IsLinkedOnce xs → IsDistinct nat_eq bs →
+    ((b : ℕ) → Contains bs b → (g : ℕ) × IsLinkedTo xs g b) →
+    ((g b : ℕ) → IsLinkedTo xs g b → Contains bs b) →
+    linked_count xs ≡ length bs
+linked_count-from_blocks xs bs once distinct has_group is_block =
+    sym (length-linked_blocks xs) ∙ length-from_same_keys nat_eq_equiv (linked_blocks xs) bs (IsDistinct-linked_blocks xs once) distinct (λ q.
+    same_from_decides _ _
+    (is_member-Decides unsigned_Decides (linked_blocks xs) q)
+    (Decides-like _
+    (λ c. let m = has_group q c in Contains-linked_blocks xs m.0 q m.1)
+    (λ c. let m = group_of_block xs q c in is_block m.0 q m.1)
+    (is_member-Decides unsigned_Decides bs q)))
+
+-- What stands in a list of states after one of them is written.
+
+-- the written place holds what was written
+pub slice_get-set_same : (xs : List GroupState) (g : ℕ) (s : GroupState) → g < length xs → slice_get (set xs g s) g ≡ Some s
+slice_get-set_same [] g s within = absurd (omega arith)
+slice_get-set_same (x ∷ xs) zero s within = refl
+slice_get-set_same (x ∷ xs) (suc g) s within = slice_get-set_same xs g s (omega arith)
+
+-- every other place holds what it did
+pub slice_get-set_other : (xs : List GroupState) (g k : ℕ) (s : GroupState) → k ≢ g → slice_get (set xs g s) k ≡ slice_get xs k
+slice_get-set_other [] g k s other = refl
+slice_get-set_other (x ∷ xs) zero zero s other = absurd (other refl)
+slice_get-set_other (x ∷ xs) zero (suc k) s other = refl
+slice_get-set_other (x ∷ xs) (suc g) zero s other = refl
+slice_get-set_other (x ∷ xs) (suc g) (suc k) s other = slice_get-set_other xs g k s (λ same. other (ap suc same))
+
+-- a group that is free after a write of another state was free before
+pub free_before_set : (xs : List GroupState) (g k : ℕ) (s : GroupState) → is_free s ≡ false → slice_get (set xs g s) k ≡ Some Free → slice_get xs k ≡ Some Free
+free_before_set [] g k s used free = free
+free_before_set (x ∷ xs) zero zero s used free = let same : s ≡ Free = cc in let no : true ≡ false = sym (ap is_free same) ∙ used in cc
+free_before_set (x ∷ xs) zero (suc k) s used free = free
+free_before_set (x ∷ xs) (suc g) zero s used free = free
+free_before_set (x ∷ xs) (suc g) (suc k) s used free = free_before_set xs g k s used free
+
+-- a linked group is linked to a block
+pub linked_to : (xs : List GroupState) (g : ℕ) → IsLinkedAt xs g → (b : ℕ) × IsLinkedTo xs g b
+linked_to [] g linked = cc
+linked_to (Free ∷ xs) zero linked = cc
+linked_to (Linked b ∷ xs) zero linked = (b, refl)
+linked_to (Limbo ∷ xs) zero linked = cc
+linked_to (x ∷ xs) (suc g) linked = linked_to xs g linked
+
+-- `IsSound` through each change of the groups.
 
 -- the mark of a group by its state
 pub mark-at : (xs : List GroupState) (k : ℕ) (s : GroupState) → slice_get xs k ≡ Some s → get_or (map mark_of xs) k 0 ≡ mark_of s

@@ -2,7 +2,7 @@
 -- yet reclaimed (DPDK Programmer's Guide, "LPM Library", the tables of type tbl8 and their
 -- reclaiming by RCU; Fraser, UCAM-CL-TR-579, 2004, limbo lists). That the least number is taken
 -- is this project's.
-use Rattle.std.specs.Prelude.{ℕ, ◌≡◌, ◌<◌, ◌≢◌, Bool, true, false, List, [], ◌∷◌, count_by, slice_get, option_map, Some}
+use Rattle.std.specs.Prelude.{ℕ, ◌≡◌, ◌<◌, ◌≢◌, Bool, true, false, List, [], ◌∷◌, count_by, slice_get, option_map, Some, ◌≤◌, length, map}
 use Rattle.lpm_groups.specs.declared.GroupState.{GroupState}
 use Rattle.lpm_groups.specs.declared.GroupState.TheVariants.{Free, Linked, Limbo}
 
@@ -65,3 +65,21 @@ linked_blocks (Limbo ∷ states) = linked_blocks states
 abbrev pub IsLinkedOnce : List GroupState → Type 0
 IsLinkedOnce states = (g h block : ℕ)
     → IsLinkedTo states g block → IsLinkedTo states h block → g ≡ h
+
+-- This layer's own: what `Groups` keeps beside the states (this project's).
+
+-- the byte by which a free group is searched
+abbrev pub mark_of : GroupState → ℕ
+mark_of Free = 1
+mark_of (Linked block) = 0
+mark_of Limbo = 0
+
+-- the marks and the counts are those of the states, and no group below the hint is free
+pub record IsSound (states : List GroupState) (marks : List ℕ) (hint in_use limbo : ℕ)
+    : Type 0 where
+  pub few : length states ≤ 65536
+  pub marked : marks ≡ map mark_of states
+  pub within : hint ≤ length states
+  pub none_below : (k : ℕ) → k < hint → slice_get states k ≢ Some Free
+  pub all_in_use : in_use ≡ linked_count states
+  pub all_limbo : limbo ≡ limbo_count states

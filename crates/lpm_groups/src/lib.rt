@@ -55,7 +55,7 @@ pub struct Groups {
 impl Model for Groups {
     ghost use Rattle.std.specs.Prelude.{List};
     ghost use Rattle.lpm_groups.specs.declared.GroupState.{GroupState};
-    ghost use Rattle.lpm_groups.specs.Marks.{IsSound};
+    ghost use Rattle.lpm_groups.specs.States.{IsSound};
 
     ghost Value = { List GroupState };
 

@@ -1,14 +1,6 @@
-pub mod Views
-pub mod Changes
-pub mod LastChange
-pub mod Sound
 pub mod Longest
 pub mod Counts
-pub mod Blocks
 pub mod Deep
-pub mod DeepChanges
-pub mod Listed
-pub mod Counted
+pub mod Views
 pub mod Collected
-pub mod Pairs
 pub mod NextRules

@@ -11,9 +11,7 @@ use Rattle.std.specs.declared.ops.Bound.{Bound}
 use Rattle.std.specs.declared.ops.Bound.TheVariants.{Unbounded}
 use Rattle.std.proofs.lemmas.Map.Keys.{le_from_not_gt}
 use Rattle.lpm_bits.specs.Network.{Network, prefix_of}
-use Rattle.lpm_rules.specs.RuleMap.{RuleMap, AllNetworks}
-use Rattle.lpm_rules.specs.Listed.{place}
-use Rattle.lpm_rules.specs.Walking.{ComesAfter}
+use Rattle.lpm_rules.specs.RuleMap.{RuleMap, AllNetworks, place, ComesAfter}
 use Rattle.lpm_rules.specs.declared.Rule.{Rule}
 use Rattle.lpm_rules.proofs.Views.{at_network}
 

@@ -1,21 +1,22 @@
-use Rattle.std.proofs.Common.{arith, ◌≡◌, ◌≢◌, ℕ, suc, zero, ◌+◌, ◌<◌, ◌≤◌, inl, inr, Bool, true, false, cond, length, get_or, refl, ap, sym, ◌∙◌, subst, List, [], ◌∷◌, ◌++◌, Option, Some, None}
-use Rattle.std.specs.Prelude.{slice_set, nat_eq, ◌&&◌}
+use Rattle.std.proofs.Common.{arith, ◌≡◌, ◌≢◌, ℕ, suc, zero, ◌+◌, ◌<◌, ◌≤◌, inl, inr, Bool, true, false, cond, length, get_or, refl, ap, sym, ◌∙◌, subst, List, [], ◌∷◌, ◌++◌, Option, Some, None, ◌⊎◌, take}
+use Rattle.std.specs.Prelude.{slice_set, nat_eq, ◌&&◌, IsSome, is_some}
 use Rattle.std.specs.declared.cmp.Ordering.{Ordering}
 use Rattle.std.specs.declared.cmp.Ordering.TheVariants.{Less, Equal, Greater}
 use Rattle.std.specs.Ordering.{nat_cmp, ordering_then, eq_by_cmp, is_eq}
-use Rattle.std.specs.Cmp.{IsTotalOrder, unsigned_tied, eq_by_cmp_equiv}
+use Rattle.std.specs.Cmp.{IsTotalOrder, unsigned_tied, eq_by_cmp_equiv, tied_itself}
 use Rattle.std.specs.Map.{lookup}
-use Rattle.std.specs.BTreeMap as tree
 use Rattle.std.specs.BTreeMap.{BTreeMap, is_at}
-use Rattle.std.specs.FinMap.{find, from_entries, get, insert, remove, empty, get-from_entries, get-insert, get-remove, same_map}
+use Rattle.std.specs.FinMap.{find, from_entries, get, insert, remove, empty, get-from_entries, get-insert, get-remove, same_map, len, get-empty, len-insert, len-empty}
 use Rattle.std.proofs.lemmas.Cmp.{on_total, then_total, nat_cmp_total}
 use Rattle.std.proofs.lemmas.Map.Lookups.{CmpEqualImpliesEq, exact_pairs, exact_unsigned}
 use Rattle.std.proofs.lemmas.Bool.{cases_eq, cases_lt, eqb-true, eq-eqb}
 use Rattle.std.proofs.Math.ListN.{length-set}
-use Rattle.std.proofs.lemmas.List.{get_or-set_same, get_or-set_other}
-use Rattle.lpm_bits.specs.Network.{Network}
-use Rattle.lpm_rules.specs.RuleMap.{RuleMap, network_cmp}
+use Rattle.std.proofs.lemmas.List.{get_or-set_same, get_or-set_other, take_more, get_or-map}
+use Rattle.lpm_bits.specs.Network.{Network, IsNetwork}
+use Rattle.lpm_rules.specs.RuleMap.{RuleMap, network_cmp, AllNetworks, AllUpTo, place, with_rules, rules_of, prefix_at}
 use Rattle.lpm_rules.specs.View.{of_length, entries_from, rules_of_lengths}
+use Rattle.lpm_rules.specs.declared.Rule.{Rule}
+use Rattle.std.specs.BTreeMap as tree
 
 pub networks_total : IsTotalOrder network_cmp
 networks_total = then_total (on_total (λ (p : Network). p.bits) nat_cmp_total) (on_total (λ (p : Network). p.len) nat_cmp_total)
@@ -196,3 +197,146 @@ none_from l (m ∷ ms) h =
 
 pub none_at : (ms : List (BTreeMap ℕ ℕ)) → ((i : ℕ) (d : BTreeMap ℕ ℕ) → i < length ms → (get_or ms i d).entries ≡ []) → rules_of_lengths ms ≡ empty
 none_at ms h = ap (λ es. from_entries {R = network_cmp} es) (none_from 0 ms h)
+
+-- What a rule list has after a rule is put in or taken out, and how many rules that is.
+
+pub not_some : {x : Option ℕ} → x ≡ None → IsSome x → ⊥
+not_some e s =
+    let z : IsSome {T = ℕ} None = subst IsSome e s in
+    let y : false ≡ true = z in
+    cc
+
+-- a rule list with a rule put in has that rule, and else what it had
+insert_by : (R : RuleMap) (p : Network) (h : ℕ) (q : Network) (o : Ordering) → network_cmp q p ≡ o → cond (is_eq o) (Some h) (get R q) ≡ get (insert R p h) q
+    → ((q ≡ p) × (get (insert R p h) q ≡ Some h)) ⊎ (get (insert R p h) q ≡ get R q)
+insert_by R p h q Less e g = inr (sym g)
+insert_by R p h q Equal e g = inl (exact_networks q p e, sym g)
+insert_by R p h q Greater e g = inr (sym g)
+
+pub insert_cases : (R : RuleMap) (p : Network) (h : ℕ) (q : Network) → ((q ≡ p) × (get (insert R p h) q ≡ Some h)) ⊎ (get (insert R p h) q ≡ get R q)
+insert_cases R p h q = insert_by R p h q (network_cmp q p) refl (sym (get-insert networks_total R p h q))
+
+pub insert_here : (R : RuleMap) (p : Network) (h : ℕ) → get (insert R p h) p ≡ Some h
+insert_here R p h = get-insert networks_total R p h p ∙ ap (λ o. cond (is_eq o) (Some h) (get R p)) (tied_itself networks_total p)
+
+-- a rule list with a rule taken out has no rule there, and else what it had
+remove_by : (R : RuleMap) (p q : Network) (o : Ordering) → network_cmp q p ≡ o → cond (is_eq o) None (get R q) ≡ get (remove R p) q
+    → ((q ≡ p) × (get (remove R p) q ≡ None)) ⊎ (get (remove R p) q ≡ get R q)
+remove_by R p q Less e g = inr (sym g)
+remove_by R p q Equal e g = inl (exact_networks q p e, sym g)
+remove_by R p q Greater e g = inr (sym g)
+
+pub remove_cases : (R : RuleMap) (p q : Network) → ((q ≡ p) × (get (remove R p) q ≡ None)) ⊎ (get (remove R p) q ≡ get R q)
+remove_cases R p q = remove_by R p q (network_cmp q p) refl (sym (get-remove networks_total R p q))
+
+pub remove_here : (R : RuleMap) (p : Network) → get (remove R p) p ≡ None
+remove_here R p = get-remove networks_total R p p ∙ ap (λ o. cond (is_eq o) None (get R p)) (tied_itself networks_total p)
+
+-- to put in a rule that is there changes nothing
+pub insert_same : (R : RuleMap) (p : Network) (h : ℕ) → get R p ≡ Some h → insert R p h ≡ R
+insert_same R p h e = same_map networks_total exact_networks _ _ (λ q. elim (insert_cases R p h q) [
+  | inl k ↦ k.1 ∙ sym e ∙ ap (get R) (sym k.0)
+  | inr k ↦ k
+])
+
+-- to take out the new rule that was put in gives the list that was
+pub remove_insert : (R : RuleMap) (p : Network) (h : ℕ) → get R p ≡ None → remove (insert R p h) p ≡ R
+remove_insert R p h e = same_map networks_total exact_networks _ _ (λ q. elim (remove_cases (insert R p h) p q) [
+  | inl k ↦ k.1 ∙ sym e ∙ ap (get R) (sym k.0)
+  | inr k ↦ elim (insert_cases R p h q) [
+    | inl i ↦ ap (get (remove (insert R p h) p)) i.0 ∙ remove_here (insert R p h) p ∙ sym e ∙ ap (get R) (sym i.0)
+    | inr i ↦ k ∙ i
+  ]
+])
+
+-- to put back the rule that was taken out gives the list that was
+pub insert_remove : (R : RuleMap) (p : Network) (h : ℕ) → get R p ≡ Some h → insert (remove R p) p h ≡ R
+insert_remove R p h e = same_map networks_total exact_networks _ _ (λ q. elim (insert_cases (remove R p) p h q) [
+  | inl k ↦ k.1 ∙ sym e ∙ ap (get R) (sym k.0)
+  | inr k ↦ elim (remove_cases R p q) [
+    | inl i ↦ ap (get (insert (remove R p) p h)) i.0 ∙ insert_here (remove R p) p h ∙ sym e ∙ ap (get R) (sym i.0)
+    | inr i ↦ k ∙ i
+  ]
+])
+
+-- how many rules
+pub size_added : (R : RuleMap) (p : Network) (h : ℕ) → get R p ≡ None → len (insert R p h) ≡ len R + 1
+size_added R p h e = len-insert networks_total R p h ∙ ap (λ x. cond (is_some x) (len R) (len R + 1)) e
+
+pub size_replaced : (R : RuleMap) (p : Network) (h old : ℕ) → get R p ≡ Some old → len (insert R p h) ≡ len R
+size_replaced R p h old e = len-insert networks_total R p h ∙ ap (λ x. cond (is_some x) (len R) (len R + 1)) e
+
+pub size_removed : (R : RuleMap) (p : Network) (old : ℕ) → get R p ≡ Some old → len (remove R p) + 1 ≡ len R
+size_removed R p old e = sym (size_added (remove R p) p old (remove_here R p)) ∙ ap len (insert_remove R p old e)
+
+-- each prefix is still one of addresses of this width
+pub networks_empty : (width : ℕ) → AllNetworks width empty
+networks_empty width q some = absurd (not_some (get-empty network_cmp q) some)
+
+pub networks_insert : (width : ℕ) (R : RuleMap) (p : Network) (h : ℕ) → IsNetwork width p → AllNetworks width R → AllNetworks width (insert R p h)
+networks_insert width R p h n a q some = elim (insert_cases R p h q) [
+  | inl k ↦ subst (IsNetwork width) (sym k.0) n
+  | inr k ↦ a q (subst IsSome k some)
+]
+
+pub networks_remove : (width : ℕ) (R : RuleMap) (p : Network) → AllNetworks width R → AllNetworks width (remove R p)
+networks_remove width R p a q some = elim (remove_cases R p q) [
+  | inl k ↦ absurd (not_some k.1 some)
+  | inr k ↦ a q (subst IsSome k some)
+]
+
+-- How many rules there are after one more that stands behind the others.
+
+same_place : (p q : Network) → p.len ≤ 32 → q.len ≤ 32 → place p ≡ place q → p ≡ q
+same_place p q a b e =
+    let bits : p.bits ≡ q.bits = omega (arith, a, b, e) in
+    let len : p.len ≡ q.len = omega (arith, a, b, e) in
+    λ i. record { bits = bits i; len = len i }
+
+pub none_or : (o : Option ℕ) → (IsSome o → ⊥) → o ≡ None
+none_or None h = refl
+none_or (Some x) h = absurd (h refl)
+
+some_of : (o : Option ℕ) → IsSome o → (x : ℕ) × (o ≡ Some x)
+some_of None h = absurd cc
+some_of (Some x) h = (x, refl)
+
+pub one_more : (R : RuleMap) (p : Network) (h last : ℕ) → AllUpTo R last → last < place p → len (insert R p h) ≡ len R + 1
+one_more R p h last before behind = size_added R p h (none_or (get R p) (λ some. let z = before p some in absurd (omega (arith, z, behind))))
+
+pub no_more : (R : RuleMap) (p q : Network) (h : ℕ) → p.len ≤ 32 → q.len ≤ 32 → place q ≡ place p → IsSome (get R q) → len (insert R p h) ≡ len R
+no_more R p q h a b e some =
+    let same = same_place q p b a e in
+    let old = some_of (get R p) (subst (λ x. IsSome (get R x)) same some) in
+    size_replaced R p h old.0 old.1
+
+pub is_there : (R : RuleMap) (p : Network) (h : ℕ) → IsSome (get (insert R p h) p)
+is_there R p h = subst IsSome (sym (insert_here R p h)) refl
+
+pub first_one : (p : Network) (h : ℕ) → len (insert (empty {K = Network} {X = ℕ} {R = network_cmp}) p h) ≡ 1
+first_one p h = let z : len (insert (empty {K = Network} {X = ℕ} {R = network_cmp}) p h) ≡ len (empty {K = Network} {X = ℕ} {R = network_cmp}) + 1 = size_added empty p h (get-empty network_cmp p) in let none : len (empty {K = Network} {X = ℕ} {R = network_cmp}) ≡ 0 = len-empty network_cmp ℕ in z ∙ ap (λ n. n + 1) none
+
+-- The rules of a list, one more of them, and how far behind their prefixes stand.
+
+with_rules-snoc : {f s : ℕ} (R : RuleMap) (rs : List (Rule f s)) (r : Rule f s) → with_rules R (rs ++ r ∷ []) ≡ insert (with_rules R rs) r.prefix r.hop
+with_rules-snoc R [] r = refl
+with_rules-snoc R (x ∷ rs) r = with_rules-snoc (insert R x.prefix x.hop) rs r
+
+-- the rules up to the one that is read
+pub rules_more : {f s : ℕ} (rs : List (Rule f s)) (k : ℕ) (r : Rule f s) → k < length rs → r ≡ get_or rs k r → rules_of (take (k + 1) rs) ≡ insert (rules_of (take k rs)) r.prefix r.hop
+rules_more {f} {s} rs k r h e =
+    let more : take (k + 1) rs ≡ take k rs ++ r ∷ [] = take_more rs k r h ∙ ap (λ (x : Rule f s). take k rs ++ x ∷ []) (sym e) in
+    ap (λ (l : List (Rule f s)). rules_of l) more ∙ with_rules-snoc empty (take k rs) r
+
+pub prefix_read : {f s : ℕ} (rs : List (Rule f s)) (k : ℕ) (r : Rule f s) → k < length rs → r ≡ get_or rs k r → prefix_at rs k ≡ r.prefix
+prefix_read {f} {s} rs k r h e = get_or-map (λ (x : Rule f s). x.prefix) rs k r (record { bits = 0; len = 0 }) h ∙ ap (λ (x : Rule f s). x.prefix) (sym e)
+
+-- no prefix stands behind that of the last rule
+pub up_to_insert : (R : RuleMap) (p : Network) (h : ℕ) → AllUpTo R (place p) → AllUpTo (insert R p h) (place p)
+up_to_insert R p h before = λ q some. elim (insert_cases R p h q) [
+  | inl same ↦ let e = ap place same.0 in omega (arith, e)
+  | inr old ↦ before q (subst IsSome old some)
+]
+
+pub up_to_more : (R : RuleMap) (m n : ℕ) → m ≤ n → AllUpTo R m → AllUpTo R n
+up_to_more R m n l before = λ q some. let z = before q some in omega (arith, z, l)

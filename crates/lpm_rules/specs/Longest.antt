@@ -2,11 +2,12 @@
 -- McKeown, INFOCOM 1998, section 1: the longest prefix that matches; DPDK Programmer's Guide,
 -- "LPM Library", "Deletion": the longest rule that is shorter and covers the deleted one takes
 -- its place).
-use Rattle.std.specs.Prelude.{ℕ, ◌≡◌, ◌≤◌, ◌<◌, List, Option, Some, None, IsSome}
+use Rattle.std.specs.Prelude.{ℕ, ◌≡◌, ◌≤◌, ◌<◌, List, Option, Some, None, IsSome, ◌+◌}
 use Rattle.std.specs.List.{AllZip}
 use Rattle.std.specs.FinMap.{get}
-use Rattle.lpm_bits.specs.Network.{Network, Covers}
+use Rattle.lpm_bits.specs.Network.{Network, Covers, prefix_of}
 use Rattle.lpm_rules.specs.RuleMap.{RuleMap, AllNetworks}
+use Rattle.lpm_rules.specs.declared.Rule.{Rule}
 
 -- p covers a, and no rule that covers a is longer
 pub record IsLongest (width : ℕ) (R : RuleMap) (a : ℕ) (p : Network) : Type 0 where
@@ -49,3 +50,13 @@ HasOneLongestHop = (width : ℕ) (R : RuleMap) (a : ℕ) (x y : Option ℕ)
 abbrev pub HasOneCover : Type 0
 HasOneCover = (width : ℕ) (R : RuleMap) (p : Network) (x y : Option (Network × ℕ))
     → AllNetworks width R → IsCover width R p x → IsCover width R p y → x ≡ y
+
+-- Meaning: the rule that answers an address (Gupta, Lin and McKeown, INFOCOM 1998, section 1: that of the
+-- longest prefix that matches).
+
+-- the rule of the longest prefix of the address that has a rule; none where no prefix of it has one
+abbrev pub IsMatch : (first second : ℕ) → RuleMap → ℕ → Option (Rule first second) → Type 0
+IsMatch first second R addr None = (len : ℕ) → len ≤ first + second → get R (prefix_of (first + second) len addr) ≡ None
+IsMatch first second R addr (Some rule) = (get R rule.prefix ≡ Some rule.hop)
+    × (rule.prefix ≡ prefix_of (first + second) rule.prefix.len addr)
+    × ((len : ℕ) → rule.prefix.len < len → len ≤ first + second → get R (prefix_of (first + second) len addr) ≡ None)

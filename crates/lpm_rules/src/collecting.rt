@@ -3,9 +3,8 @@
 ghost use Rattle.std.specs.Prelude.{◌≡◌, ◌+◌, IfOk, []};
 ghost use Rattle.std.specs.BTreeMap.{IsFromIterResult};
 ghost use Rattle.std.specs.Ordering.{nat_cmp};
-ghost use Rattle.lpm_rules.specs.RuleMap.{AllNetworks};
-ghost use Rattle.lpm_rules.specs.Listed.{rules_of};
-ghost use Rattle.lpm_rules.specs.Collected.{ArePairs, AreCollected};
+ghost use Rattle.lpm_rules.specs.RuleMap.{AllNetworks, rules_of};
+ghost use Rattle.lpm_rules.specs.Changes.{ArePairs, AreCollected};
 
 use crate::Rule;
 use lpm_bits::Hop;

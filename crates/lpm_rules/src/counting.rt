@@ -2,7 +2,7 @@
 
 ghost use Rattle.std.specs.Prelude.{◌≡◌, ◌^◌, ◌<◌, ◌≤◌};
 ghost use Rattle.std.specs.FinMap as map;
-ghost use Rattle.lpm_rules.specs.Listed.{AreInOrder, place, rules_of};
+ghost use Rattle.lpm_rules.specs.RuleMap.{AreInOrder, place, rules_of};
 
 use crate::Rule;
 

@@ -1,7 +1,6 @@
 //! Laws of rule lists. Each function does nothing: its contract is the law.
 
-ghost use Rattle.lpm_rules.specs.Changes.{LastAdditionDecides, LastDeletionDecides, LastFlushDecides, SparedIsKept};
-ghost use Rattle.lpm_rules.specs.Collected.{CollectedAreTheRules, CollectedIsOfLength};
+ghost use Rattle.lpm_rules.specs.Changes.{LastAdditionDecides, LastDeletionDecides, LastFlushDecides, SparedIsKept, CollectedAreTheRules, CollectedIsOfLength};
 ghost use Rattle.lpm_rules.specs.Deep.{EmptyHasNoBlock, HasDeepBlocks, PutBringsBlock, RemoveDropsBlock};
 ghost use Rattle.lpm_rules.specs.Longest.{HasOneCover, HasOneLongestHop};
 ghost use Rattle.lpm_rules.specs.RuleMap.{PutUndoesRemove, RemoveUndoesPut};

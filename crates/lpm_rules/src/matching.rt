@@ -1,7 +1,7 @@
 //! The rule that answers an address.
 
 ghost use Rattle.std.specs.Prelude.{◌+◌, ◌^◌, ◌<◌};
-ghost use Rattle.lpm_rules.specs.Matches.{IsMatch};
+ghost use Rattle.lpm_rules.specs.Longest.{IsMatch};
 
 use crate::{Rule, Rules};
 

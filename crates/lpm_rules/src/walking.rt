@@ -3,7 +3,7 @@
 ghost use Rattle.std.specs.Prelude.{◌≡◌, ℕ, ◌+◌, ◌≤◌, ◌↔◌};
 ghost use Rattle.std.specs.BTreeMap.Range.{IsFromStart};
 ghost use Rattle.std.specs.Ordering.{nat_cmp};
-ghost use Rattle.lpm_rules.specs.Walking.{ComesAfter, IsEarlier, IsNextOfLength, IsNextRule};
+ghost use Rattle.lpm_rules.specs.RuleMap.{ComesAfter, IsEarlier, IsNextOfLength, IsNextRule};
 
 use crate::{Rule, Rules, place_of};
 use lpm_bits::Prefix;

@@ -8,12 +8,10 @@ use Rattle.std.specs.FinSet as set
 use Rattle.std.specs.FinSet.{FinSet, nat_cmp-IsAntisymmetric}
 use Rattle.std.proofs.lemmas.Bool.{cases_lt, cases_eq, cases_Bool, or_cases, or_left, or_right, eq-eqb, eqb-true, false_from_ne_true}
 use Rattle.lpm_bits.specs.Network.{Network}
-use Rattle.lpm_rules.specs.RuleMap.{RuleMap}
+use Rattle.lpm_rules.specs.RuleMap.{RuleMap, with_rules, rules_of}
 use Rattle.lpm_rules.specs.Deep.{block_of, IsDeepBlock, deep_blocks}
 use Rattle.lpm_rules.specs.declared.Rule.{Rule}
-use Rattle.lpm_rules.proofs.Deep.{has_deep_blocks}
-use Rattle.lpm_rules.proofs.DeepChanges.{deep_blocks_insert, deep_blocks_insert_short}
-use Rattle.lpm_rules.specs.Listed.{with_rules, rules_of}
+use Rattle.lpm_rules.proofs.Deep.{has_deep_blocks, deep_blocks_insert, deep_blocks_insert_short}
 
 same_bool : (a b : Bool) → (a ≡ true → b ≡ true) → (b ≡ true → a ≡ true) → a ≡ b
 same_bool true b to from = sym (to refl)

@@ -1,12 +1,5 @@
 pub mod Stacks
-pub mod Orders
 pub mod DeepBlocks
-pub mod Deepening
-pub mod Lists
-pub mod Groups
 pub mod Sweeps
-pub mod Room
-pub mod Linking
-pub mod Wholes
 pub mod Sorting
-pub mod Numbered
+pub mod Linking

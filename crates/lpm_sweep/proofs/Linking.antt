@@ -1,25 +1,117 @@
--- A new group behind the others, and the link to it.
-use Rattle.std.proofs.Common.{arith, ◌≡◌, ℕ, ◌+◌, ◌*◌, ◌/◌, ◌%◌, ◌^◌, ◌<◌, ◌≤◌, ◌⊎◌, inl, inr, refl, ap, sym, ◌∙◌, subst, List, [], ◌∷◌, ◌++◌, length, Some, get_or}
-use Rattle.std.specs.Prelude.{slice_index, slice_get, IsSome, max}
-use Rattle.std.proofs.lemmas.Grind.{same_number_lists}
+-- Groups that are linked to the swept blocks, one after another, and free ones behind them.
+use Rattle.std.proofs.Common.{arith, ◌≡◌, ℕ, ◌+◌, ◌-◌, ◌^◌, ◌<◌, ◌≤◌, inl, inr, ap, sym, ◌∙◌, List, ◌++◌, length, map, Option, Some, None, ◌*◌, ◌/◌, ◌%◌, refl, subst, ◌⊎◌, [], ◌∷◌, get_or}
+use Rattle.std.specs.Prelude.{slice_get, option_map, replicate, slice_index, IsSome, max}
 use Rattle.std.proofs.lemmas.Bool.{cases_lt}
-use Rattle.std.proofs.lemmas.Nat.{pow_pos, pow-add, shr_split, shr_high, mod_below}
-use Rattle.std.proofs.lemmas.List.{get_or_append_left}
-use Rattle.std.proofs.lemmas.Option.{slice_get-get_or, slice_get_within}
+use Rattle.std.proofs.lemmas.List.{get_or_append_left, get_or-append_right, get_or-replicate, length-replicate, length-append, length-map}
+use Rattle.std.proofs.lemmas.Option.{slice_get-map, slice_get-get_or, slice_get_within}
+use Rattle.lpm_groups.specs.declared.GroupState.{GroupState}
+use Rattle.lpm_groups.specs.declared.GroupState.TheVariants.{Free, Linked}
+use Rattle.lpm_update.specs.Linked.{group_at, IsLinkTo}
+use Rattle.lpm_update.specs.Tied.{IsTied}
+use Rattle.lpm_sweep.specs.Swept.{AreNumbered, IsSwept, Fills, IsFilling}
+use Rattle.std.proofs.lemmas.Nat.{pow_pos, mod_below, shr_below, pow-add, shr_split, shr_high}
+use Rattle.lpm_cells.specs.declared.entry.Entry.{Entry}
+use Rattle.lpm_cells.specs.declared.entry.Entry.TheVariants.{Miss, Hop, Group}
+use Rattle.lpm_cells.specs.Words.{IsLastWord, entry_in, word_of, group_in, IsFirst, last_entry, IsFirstWord, HasRoom, entry_at}
+use Rattle.lpm_rules.specs.RuleMap.{RuleMap, network_cmp}
+use Rattle.lpm_update.specs.Best.{IsBest}
+use Rattle.lpm_update.specs.Represents.{Represents}
+use Rattle.lpm_update.proofs.Places.{last_word, word_entry, first_of_group}
+use Rattle.std.proofs.lemmas.Grind.{same_number_lists}
 use Rattle.std.proofs.Math.Seq.{get_or-append_seam}
 use Rattle.std.proofs.Math.Nat.{mul-le-mul_right}
-use Rattle.lpm_cells.specs.declared.entry.Entry.TheVariants.{Group}
-use Rattle.lpm_cells.specs.Words.{IsLastWord, word_of, entry_in, group_in}
-use Rattle.lpm_cells.specs.Table.{IsFirst, IsFirstWord, HasRoom, last_entry, entry_at}
-use Rattle.lpm_rules.specs.RuleMap.{RuleMap}
 use Rattle.lpm_rules.specs.Deep.{IsDeepBlock}
-use Rattle.lpm_update.specs.Best.{IsBest}
-use Rattle.lpm_update.specs.Linked.{IsLinkTo, group_at}
-use Rattle.lpm_update.proofs.Places.{word_entry, first_of_group}
-use Rattle.lpm_sweep.proofs.Room.{room_more, followed_kept}
-use Rattle.lpm_sweep.specs.Frames.{Fills}
-use Rattle.lpm_sweep.specs.Swept.{IsSwept, AreNumbered}
-use Rattle.lpm_sweep.specs.Filled.{IsFilling}
+use Rattle.std.specs.FinMap.{empty, get-empty}
+use Rattle.lpm_cells.proofs.Reading.{entry_in_zero}
+use Rattle.lpm_rules.proofs.Views.{networks_empty, not_some}
+
+block_is : (o : Option ℕ) (b : ℕ) → option_map Linked o ≡ Some (Linked b) → o ≡ Some b
+block_is None b e = absurd cc
+block_is (Some x) b e = let same : x ≡ b = cc in ap Some same
+
+free_is : (b : ℕ) → Some Free ≡ Some (Linked b) → ⊥
+free_is b e = cc
+
+module _ (free : ℕ) (blocks : List ℕ) where
+  abbrev linked : List GroupState
+  linked = map Linked blocks
+
+  abbrev states : List GroupState
+  states = linked ++ replicate free Free
+
+  count : length linked ≡ length blocks
+  count = length-map blocks Linked
+
+  size : length states ≡ length blocks + free
+  size = length-append linked (replicate free Free) ∙ (ap (λ n. n + length (replicate free Free)) count ∙ ap (λ n. length blocks + n) (length-replicate free Free))
+
+  at_front : (g : ℕ) → g < length blocks → slice_get states g ≡ slice_get linked g
+  at_front g h =
+      slice_get-get_or states g Free (omega (arith, h, size))
+      ∙ (ap Some (get_or_append_left linked (replicate free Free) Free g (omega (arith, h, count))) ∙ sym (slice_get-get_or linked g Free (omega (arith, h, count))))
+
+  at_back : (g : ℕ) → length blocks ≤ g → g < length states → slice_get states g ≡ Some Free
+  at_back g l h =
+      slice_get-get_or states g Free h
+      ∙ ap Some (get_or-append_right linked (replicate free Free) (length blocks) g Free count l ∙ get_or-replicate free (g - length blocks) Free Free (omega (arith, l, h, size)))
+
+  pub tied : (f : ℕ) (firsts : List ℕ) → length firsts ≡ 2 ^ f → AreNumbered firsts blocks → IsTied f states (group_at firsts)
+  tied f firsts all numbered = record {
+    linked = λ b g low e.
+        let is = numbered.linked b g (omega (arith, low, all)) e in
+        at_front g (slice_get_within blocks g b is) ∙ (slice_get-map Linked blocks g ∙ ap (option_map Linked) is);
+    only = λ b g at. elim (cases_lt g (length blocks)) [
+      | inl front ↦
+          let is = numbered.only b g (block_is (slice_get blocks g) b (sym (slice_get-map Linked blocks g) ∙ (sym (at_front g front) ∙ at))) in
+          let low = is.0 in
+          (omega (arith, low, all), is.1)
+      | inr back ↦ absurd (free_is b (sym (at_back g back (slice_get_within states g (Linked b) at)) ∙ at))
+    ];
+  }
+
+-- More second words behind those of a table.
+
+-- the room for a group's words grows
+pub room_more : (s : ℕ) (S T : List ℕ) (e : Entry) → length S ≤ length T → IsFirst s S e → IsFirst s T e
+room_more s S T Miss l h = tt
+room_more s S T (Hop n d) l h = tt
+room_more s S T (Group g) l h = omega (arith, l, h)
+
+-- what a lookup reads in the groups that were there
+pub followed_kept : (s : ℕ) (S T : List ℕ) (r : ℕ) (e : Entry) → r < 2 ^ s → ((k : ℕ) → k < length S → slice_index T k ≡ slice_index S k) → IsFirst s S e → last_entry s T r e ≡ last_entry s S r e
+followed_kept s S T r Miss low kept h = refl
+followed_kept s S T r (Hop n d) low kept h = refl
+followed_kept s S T r (Group g) low kept h = ap entry_in (kept (g * 2 ^ s + r) (omega (arith, low, h)))
+
+-- misses behind the words
+pub room_grown : (f s more : ℕ) (R : RuleMap) (F S : List ℕ) → Represents f s R (record { firsts = F; seconds = S }) → Represents f s R (record { firsts = F; seconds = S ++ replicate more 0 })
+room_grown f s more R F S represents =
+    let T = S ++ replicate more 0 in
+    let words = represents.table.words in
+    let all = words.firsts_len in
+    let long : length T ≡ length S + more = length-append S (replicate more 0) ∙ ap (λ n. length S + n) (length-replicate more 0) in
+    let kept : (k : ℕ) → k < length S → slice_index T k ≡ slice_index S k = λ k h. get_or_append_left S (replicate more 0) 0 k h in
+    record {
+      table = record {
+        words = record {
+          firsts_len = all;
+          first_words = λ i h. let old = words.first_words i h in (old.0, room_more s S T (entry_in (slice_index F i)) (omega (arith, long)) old.1);
+          second_words = λ j h. elim (cases_lt j (length S)) [
+            | inl low ↦ subst (IsLastWord (f + s)) (sym (kept j low)) (words.second_words j low)
+            | inr high ↦ last_word (f + s) (slice_index T j) Miss tt tt (get_or-append_right S (replicate more 0) (length S) j 0 refl high ∙ get_or-replicate more (j - length S) 0 0 (omega (arith, high, h, long)))
+          ];
+        };
+        linked_once = represents.table.linked_once;
+      };
+      networks = represents.networks;
+      best = λ a h.
+          let low = shr_below a f s h in
+          subst (IsBest (f + s) R a) (sym (followed_kept s S T (a % 2 ^ s) (entry_in (slice_index F (a / 2 ^ s))) (mod_below a (2 ^ s) (pow_pos s)) kept (words.first_words (a / 2 ^ s) (omega (arith, low, all))).1))
+          (represents.best a h);
+      groups = represents.groups;
+    }
+
+-- A new group behind the others, and the link to it.
 
 pub last_length : (F : List ℕ) (x : ℕ) → length (F ++ x ∷ []) ≡ length F + 1
 last_length [] x = refl
@@ -213,3 +305,40 @@ numbered_group f b n link F blocks at count is numbered =
                 (omega (arith, this, long), ap (group_at (F ++ link ∷ [])) (sym this) ∙ (group ∙ ap Some number))
           ];
     }
+
+-- The sweep's beginning and its end.
+
+pub swept_none : (f s : ℕ) (w : ℕ → ℕ) → ((k : ℕ) → w k ≡ 0) → IsSwept f s 0 empty (record { firsts = []; seconds = [] }) w
+swept_none f s w zeros = record {
+  few = omega arith;
+  room = omega arith;
+  networks = networks_empty (f + s);
+  done = λ a h. absurd (omega (arith, h));
+  todo = λ a small h.
+      let miss : entry_in (w (a / 2 ^ s)) ≡ Miss = ap entry_in (zeros (a / 2 ^ s)) ∙ entry_in_zero in
+      subst (IsBest (f + s) empty a) (sym miss) (λ q some c. not_some (get-empty network_cmp q) some);
+  first_words = λ i h. absurd (omega (arith, h));
+  second_words = λ i h. absurd (omega (arith, h));
+  held = λ k h. last_word (f + s) (w k) Miss tt tt (zeros k);
+  linked_once = λ i j g h l y z. absurd (omega (arith, h));
+  deep = λ i h. absurd (omega (arith, h));
+  shallow = λ i h d. not_some (get-empty network_cmp d.0) d.1;
+}
+
+pub swept_all : (f s n : ℕ) (R : RuleMap) (F S : List ℕ) (w : ℕ → ℕ) → length F ≡ 2 ^ f → IsSwept f s n R (record { firsts = F; seconds = S }) w → Represents f s R (record { firsts = F; seconds = S })
+swept_all f s n R F S w all swept = record {
+  table = record {
+    words = record {
+      firsts_len = all;
+      first_words = swept.first_words;
+      second_words = swept.second_words;
+    };
+    linked_once = λ i j g h l y z. swept.linked_once i j g (omega (arith, h, all)) (omega (arith, l, all)) y z;
+  };
+  networks = swept.networks;
+  best = λ a h. let low = shr_below a f s h in swept.done a (omega (arith, low, all));
+  groups = λ i h. swept.deep i (omega (arith, h, all));
+}
+
+pub numbered_none : AreNumbered [] []
+numbered_none = record { linked = λ b g h e. absurd (omega (arith, h)); only = λ b g e. let h = slice_get_within [] g b e in absurd (omega (arith, h)) }

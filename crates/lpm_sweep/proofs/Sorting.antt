@@ -10,14 +10,11 @@ use Rattle.std.proofs.lemmas.List.Elements.{All-get_or, All-from_get_or, Contain
 use Rattle.std.proofs.lemmas.List.Sorted.{All-permutation, Contains-permutation, length_permutation}
 use Rattle.std.proofs.lemmas.Option.{slice_get-get_or}
 use Rattle.lpm_bits.specs.Network.{Network}
-use Rattle.lpm_rules.specs.RuleMap.{RuleMap, network_cmp}
+use Rattle.lpm_rules.specs.RuleMap.{RuleMap, network_cmp, AreInOrder, place, prefix_at, rules_of}
 use Rattle.lpm_rules.specs.declared.Rule.{Rule}
-use Rattle.lpm_rules.proofs.Changes.{insert_cases, insert_here}
-use Rattle.lpm_rules.proofs.Views.{networks_total, exact_networks}
-use Rattle.lpm_rules.specs.Listed.{AreInOrder, place, prefix_at, rules_of}
+use Rattle.lpm_rules.proofs.Views.{insert_cases, insert_here, networks_total, exact_networks, prefix_read, rules_more}
 use Rattle.lpm_sweep.specs.Listed.{AreReordered}
 use Rattle.lpm_sweep.specs.Keys.{AreKeys, AreTaken, hop_at, key_at}
-use Rattle.lpm_rules.proofs.Listed.{prefix_read, rules_more}
 
 same_network : (p q : Network) → p.bits ≡ q.bits → p.len ≡ q.len → p ≡ q
 same_network p q bits len i = record { bits = bits i; len = len i }

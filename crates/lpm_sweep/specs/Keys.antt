@@ -2,7 +2,7 @@
 -- order, and below it where the rule stands in the list.
 use Rattle.std.specs.Prelude.{ℕ, ◌≡◌, ◌+◌, ◌*◌, ◌%◌, ◌^◌, ◌<◌, List, length, map, slice_index}
 use Rattle.lpm_rules.specs.declared.Rule.{Rule}
-use Rattle.lpm_rules.specs.Listed.{place, prefix_at}
+use Rattle.lpm_rules.specs.RuleMap.{place, prefix_at}
 
 -- the next hop of the rule at a place of the list
 abbrev pub hop_at : {first second : ℕ} → List (Rule first second) → ℕ → ℕ

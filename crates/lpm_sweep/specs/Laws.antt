@@ -3,8 +3,7 @@
 -- the order of prefixes (this project's).
 use Rattle.std.specs.Prelude.{ℕ, ◌≡◌, ◌^◌, ◌<◌, ◌≤◌, ◌↔◌, ◌⊎◌, List, ◌++◌, length, map, replicate}
 use Rattle.lpm_bits.specs.Network.{Network}
-use Rattle.lpm_rules.specs.RuleMap.{RuleMap}
-use Rattle.lpm_rules.specs.Listed.{place}
+use Rattle.lpm_rules.specs.RuleMap.{RuleMap, place}
 use Rattle.lpm_groups.specs.declared.GroupState.TheVariants.{Free, Linked}
 use Rattle.lpm_cells.specs.declared.entry.Entry.TheVariants.{Miss}
 use Rattle.lpm_cells.specs.Words.{word_of}

@@ -1,7 +1,7 @@
 -- Meaning: rules that were brought into another order, in which those of one prefix keep theirs (this
 -- project's).
 use Rattle.std.specs.Prelude.{ℕ, ◌≡◌, ◌<◌, List, length, slice_get}
-use Rattle.lpm_rules.specs.Listed.{prefix_at}
+use Rattle.lpm_rules.specs.RuleMap.{prefix_at}
 use Rattle.lpm_rules.specs.declared.Rule.{Rule}
 
 -- the rules of ys are those of xs, each where `from` says that it stood, and those of one prefix

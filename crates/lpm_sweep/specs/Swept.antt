@@ -1,12 +1,68 @@
--- This layer's own: the words of the first blocks, for the rules that begin in them or before.
-use Rattle.std.specs.Prelude.{ℕ, ◌≡◌, ◌+◌, ◌*◌, ◌/◌, ◌^◌, ◌<◌, ◌≤◌, ◌↔◌, IsSome, Some, List, length, slice_index, slice_get}
-use Rattle.lpm_cells.specs.Words.{IsLastWord, entry_in}
-use Rattle.lpm_cells.specs.Table.{Words, IsFirstWord, entry_at}
+-- This layer's own: a group that is filled upwards, for the rules of one block that are longer than
+-- FIRST bits.
+use Rattle.std.specs.Prelude.{ℕ, ◌≢◌, ◌+◌, ◌*◌, ◌/◌, ◌^◌, ◌<◌, ◌≤◌, List, length, slice_index, ◌≡◌, nat_lt, if◌then◌else◌, [], ◌∷◌, ◌↔◌, IsSome, Some, slice_get}
+use Rattle.lpm_cells.specs.Words.{IsLastWord, entry_in, Words, IsFirstWord, entry_at}
+use Rattle.lpm_cells.specs.declared.entry.Entry.{Entry}
 use Rattle.lpm_rules.specs.RuleMap.{RuleMap, AllNetworks}
 use Rattle.lpm_rules.specs.Deep.{IsDeepBlock}
 use Rattle.lpm_update.specs.Best.{IsBest}
+use Rattle.lpm_sweep.specs.declared.frames.Frame.{Frame}
+use Rattle.lpm_sweep.specs.declared.frames.Frames.{Frames}
 use Rattle.lpm_update.specs.Linked.{IsLinkTo, group_at}
 use Rattle.lpm_sweep.specs.declared.sweeping.Swept.{Swept}
+
+-- the group from `base` on is filled up to the end of the list for the rules R, which are those of
+-- R0 and some of block b that are longer than FIRST bits; the places behind have the words w
+pub record IsFilling (first second b base : ℕ) (R0 R : RuleMap) (seconds : List ℕ) (w : ℕ → ℕ)
+    : Type 0 where
+  pub networks : AllNetworks (first + second) R
+  pub done : (r : ℕ) → r < 2 ^ second → base + r < length seconds
+      → IsBest (first + second) R (b * 2 ^ second + r) (entry_in (slice_index seconds (base + r)))
+  pub todo : (r : ℕ) → r < 2 ^ second → length seconds ≤ base + r
+      → IsBest (first + second) R (b * 2 ^ second + r) (entry_in (w (base + r)))
+  pub stored : (j : ℕ) → base ≤ j → j < length seconds
+      → IsLastWord (first + second) (slice_index seconds j)
+  pub held : (k : ℕ) → length seconds ≤ k → IsLastWord (first + second) (w k)
+  pub others : (a : ℕ) (e : Entry) → a / 2 ^ second ≢ b
+      → IsBest (first + second) R0 a e → IsBest (first + second) R a e
+  pub kept : (i : ℕ) → IsDeepBlock first second R0 i → IsDeepBlock first second R i
+  pub no_other : (i : ℕ) → i ≢ b → IsDeepBlock first second R i → IsDeepBlock first second R0 i
+
+-- This layer's own: the words of the rules that cover a place, and the lists of words that they
+-- fill.
+
+-- the word of a place under a frame, where the frames below give it w
+abbrev pub under : Frame → ℕ → ℕ → ℕ
+under f k w = if nat_lt k f.end then f.word else w
+
+-- the word of a place by frames, of which the topmost stands last
+abbrev pub word_at : ℕ → List Frame → ℕ → ℕ
+word_at rest [] k = rest
+word_at rest (f ∷ fs) k = word_at (under f k rest) fs k
+
+-- the word that the frames give to a place
+abbrev pub word_by_frames : Frames → ℕ → ℕ
+word_by_frames fs k = under fs.top k (word_at fs.rest fs.below.items k)
+
+-- from a place on the frames give the same words
+abbrev pub Agrees : Frames → Frames → ℕ → Type 0
+Agrees old new from = (k : ℕ) → from ≤ k → word_by_frames new k ≡ word_by_frames old k
+
+-- the frame lies over the old ones
+abbrev pub Covers : Frame → Frames → Frames → Type 0
+Covers f old new = (k : ℕ) → word_by_frames new k ≡ under f k (word_by_frames old k)
+
+-- words were put last, each by its place
+pub record Fills (old new : List ℕ) (w : ℕ → ℕ) : Type 0 where
+  pub more : length old ≤ length new
+  pub kept : (k : ℕ) → k < length old → slice_index new k ≡ slice_index old k
+  pub filled : (k : ℕ) → length old ≤ k → k < length new → slice_index new k ≡ w k
+
+-- how many frames can be taken off, where one that ends at the greatest number never ends
+abbrev pub rank : Frames → ℕ
+rank fs = length fs.below.items + (if nat_lt fs.top.end 18446744073709551615 then 1 else 0)
+
+-- This layer's own: the words of the first blocks, for the rules that begin in them or before.
 
 -- the words as two lists
 abbrev pub words_of : Swept → Words

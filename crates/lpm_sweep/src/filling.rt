@@ -5,11 +5,9 @@ ghost use Rattle.std.specs.FinMap as map;
 ghost use Rattle.lpm_bits.specs.Widths.{IsShape};
 ghost use Rattle.lpm_cells.specs.Words.{word_of};
 ghost use Rattle.lpm_cells.specs.declared.entry.Entry.TheVariants.{Hop as EntryHop};
-ghost use Rattle.lpm_rules.specs.RuleMap.{RuleMap};
+ghost use Rattle.lpm_rules.specs.RuleMap.{RuleMap, AreInOrder, AllUpTo, place, prefix_at, rules_of};
 ghost use Rattle.lpm_rules.specs.Deep.{IsDeepBlock};
-ghost use Rattle.lpm_sweep.specs.Frames.{word_by_frames};
-ghost use Rattle.lpm_rules.specs.Listed.{AreInOrder, AllUpTo, place, prefix_at, rules_of};
-ghost use Rattle.lpm_sweep.specs.Filled.{IsFilling};
+ghost use Rattle.lpm_sweep.specs.Swept.{word_by_frames, IsFilling};
 
 use crate::frames::{Frame, Frames};
 use crate::word_list::WordList;

@@ -2,7 +2,7 @@
 
 ghost use Rattle.std.specs.Prelude.{◌≡◌, ℕ, ◌%◌, ◌^◌, ◌<◌, ◌≤◌, ◌↔◌, IsTrue, IfOk, length, slice_index};
 ghost use Rattle.lpm_sweep.specs.Keys.{AreKeys, AreTaken};
-ghost use Rattle.lpm_rules.specs.Listed.{AreInOrder, place, rules_of};
+ghost use Rattle.lpm_rules.specs.RuleMap.{AreInOrder, place, rules_of};
 ghost use Rattle.lpm_sweep.specs.Listed.{AreReordered};
 
 use lpm_rules::{Rule, place_of};

@@ -4,12 +4,10 @@ ghost use Rattle.std.specs.Prelude.{◌≡◌, ℕ, ◌+◌, ◌*◌, ◌/◌, �
 ghost use Rattle.std.specs.FinMap as map;
 ghost use Rattle.std.specs.FinSet as set;
 ghost use Rattle.lpm_bits.specs.Widths.{IsShape};
-ghost use Rattle.lpm_rules.specs.RuleMap.{RuleMap};
+ghost use Rattle.lpm_rules.specs.RuleMap.{RuleMap, AreInOrder, AllUpTo, place, prefix_at, rules_of};
 ghost use Rattle.lpm_rules.specs.Deep.{deep_blocks};
 ghost use Rattle.lpm_update.specs.Represents.{Represents};
-ghost use Rattle.lpm_sweep.specs.Frames.{word_by_frames};
-ghost use Rattle.lpm_rules.specs.Listed.{AreInOrder, AllUpTo, place, prefix_at, rules_of};
-ghost use Rattle.lpm_sweep.specs.Swept.{IsSwept, AreNumbered, words_of};
+ghost use Rattle.lpm_sweep.specs.Swept.{word_by_frames, IsSwept, AreNumbered, words_of};
 
 use crate::filling::{fill_group, word_of_rule};
 use crate::frames::{Frame, Frames};

@@ -1,17 +1,71 @@
--- Each token that has passed was checked, and each word stays an entry's.
-use Rattle.std.proofs.Common.{◌≡◌, ℕ, suc, ◌<◌, ◌≤◌, ◌⊎◌, inl, inr, Bool, true, false, cond, ◌&&◌, eqb, max, List, [], ◌∷◌, refl, sym, ap, subst, arith}
-use Rattle.std.proofs.lemmas.Bool.Decides.{eqb_tells}
-use Rattle.std.proofs.lemmas.Bool.{cases_lt}
+-- The writer's steps by themselves.
+use Rattle.std.proofs.Common.{◌≡◌, ℕ, List, [], ◌∷◌, refl, sym, ap, subst, ◌∙◌, suc, ◌<◌, ◌≤◌, ◌⊎◌, inl, inr, Bool, true, false, cond, ◌&&◌, eqb, max, arith, ◌+◌, length, slice_index, slice_set}
 use Rattle.lpm_trace.specs.declared.step.WriterStep.{WriterStep}
 use Rattle.lpm_trace.specs.declared.step.WriterStep.TheVariants.{StoreFirst, StoreSecond, BeginUpdate, EndUpdate, BumpToken, LoadCounter}
 use Rattle.lpm_trace.specs.declared.step.TraceStep.{TraceStep}
 use Rattle.lpm_trace.specs.declared.step.TraceStep.TheVariants.{Writer, Worker as ByWorker}
-use Rattle.lpm_trace.specs.States.{InitialState, TableState, lets_pass, state_after, MayWrite}
-use Rattle.lpm_trace.specs.Trace.{after, IsTrace, writes}
-use Rattle.lpm_trace.specs.Laws.{IsAskedFor, IsChecked, PassedIsChecked}
-use Rattle.lpm_trace.specs.Counts.{passed_after}
+use Rattle.lpm_trace.specs.States.{InitialState, TableState, state_after, MayWrite, lets_pass, state_by_step}
+use Rattle.lpm_trace.specs.Progress.{progress_by_step, Follows}
+use Rattle.lpm_trace.specs.Trace.{after, writes, IsTrace}
+use Rattle.lpm_trace.specs.Writer.{progress_after, counter_found, Finds, WriterIsAlone, WriterGoesOn, passed_after}
 use Rattle.lpm_trace.proofs.Traces.{tables_of}
-use Rattle.lpm_trace.proofs.Counts.{token_is, passed_is}
+use Rattle.std.proofs.lemmas.Bool.Decides.{eqb_tells}
+use Rattle.std.proofs.lemmas.Bool.{cases_lt}
+use Rattle.lpm_trace.specs.Laws.{IsAskedFor, IsChecked, PassedIsChecked, WordsAreEntries}
+use Rattle.lpm_trace.proofs.Versions.{token_is, passed_is, set_case}
+use Rattle.std.proofs.lemmas.List.{length-set}
+use Rattle.lpm_cells.specs.declared.entry.Entry.{Entry}
+use Rattle.lpm_cells.specs.declared.entry.Entry.TheVariants.{Miss, Hop, Group}
+use Rattle.lpm_cells.specs.Words.{IsLastWord, entry_in, IsFirst, IsFirstWord, IsWords}
+
+-- what the workers do leaves the writer's course
+course_of : (c : InitialState) (steps : List TraceStep) → (after c steps).progress ≡ progress_after c (writes steps)
+course_of c [] = refl
+course_of c (Writer s ∷ steps) =
+    ap (λ w. progress_by_step c w (after c steps).progress s) (tables_of c steps) ∙ ap (λ x. progress_by_step c (state_after c (writes steps)) x s) (course_of c steps)
+course_of c (ByWorker k s ∷ steps) = course_of c steps
+
+-- a load alone looks at a counter
+by_found : (c : InitialState) (counters : ℕ → ℕ) (w : TableState) (s : WriterStep) → MayWrite c counters w s → MayWrite c (counter_found s) w s
+by_found c counters w (StoreFirst i x) may = may
+by_found c counters w (StoreSecond j x) may = may
+by_found c counters w (BeginUpdate change) may = may
+by_found c counters w EndUpdate may = may
+by_found c counters w BumpToken may = may
+by_found c counters w (LoadCounter token worker counter) may = (refl, may.1, may.2, may.3)
+
+by_counters : (c : InitialState) (steps : List TraceStep) (w : TableState) (s : WriterStep) → Finds c steps s → MayWrite c (counter_found s) w s
+    → MayWrite c (λ k. ((after c steps).workers k).counter) w s
+by_counters c steps w (StoreFirst i x) finds may = may
+by_counters c steps w (StoreSecond j x) finds may = may
+by_counters c steps w (BeginUpdate change) finds may = may
+by_counters c steps w EndUpdate finds may = may
+by_counters c steps w BumpToken finds may = may
+by_counters c steps w (LoadCounter token worker counter) finds may = (finds, may.1, may.2, may.3)
+
+pub writer_is_alone : WriterIsAlone
+writer_is_alone c [] trace = tt
+writer_is_alone c (Writer s ∷ steps) trace =
+    let w = (after c steps).state in
+    let may = by_found c (λ k. ((after c steps).workers k).counter) w s trace.0.0 in (
+      (
+        subst (λ t. MayWrite c (counter_found s) t s) (tables_of c steps) may,
+        subst (λ t. Follows c t (progress_after c (writes steps)) s) (tables_of c steps) (subst (λ x. Follows c w x s) (course_of c steps) trace.0.1),
+      ),
+      writer_is_alone c steps trace.1,
+    )
+writer_is_alone c (ByWorker k s ∷ steps) trace = writer_is_alone c steps trace.1
+
+pub writer_goes_on : WriterGoesOn
+writer_goes_on c steps s trace may finds = (
+  (
+    by_counters c steps (after c steps).state s finds (subst (λ t. MayWrite c (counter_found s) t s) (sym (tables_of c steps)) may.0),
+    subst (λ t. Follows c t (after c steps).progress s) (sym (tables_of c steps)) (subst (λ x. Follows c (state_after c (writes steps)) x s) (sym (course_of c steps)) may.1),
+  ),
+  trace,
+)
+
+-- Each token that has passed was checked, and each word stays an entry's.
 
 asked_still : (c : InitialState) (s : WriterStep) (ws : List WriterStep) (token k : ℕ) → IsAskedFor c.token ws token k → IsAskedFor c.token (s ∷ ws) token k
 asked_still c s ws token k asked = record {
@@ -106,3 +160,37 @@ passed_is_checked c steps token trace some le =
       | inl none ↦ absurd (omega (arith, none, same, some, le))
       | inr h ↦ record { checked = h.checked; later = omega (arith, h.later, same, le); each = h.each }
     ]
+
+-- Each word stays that of an entry that may stand at its place.
+
+first_room : (second : ℕ) (xs ys : List ℕ) → length ys ≡ length xs → (e : Entry) → IsFirst second xs e → IsFirst second ys e
+first_room second xs ys same Miss h = tt
+first_room second xs ys same (Hop hop depth) h = tt
+first_room second xs ys same (Group group) h = omega (arith, h, same)
+
+entries_kept : (c : InitialState) (counters : ℕ → ℕ) (w : TableState) (s : WriterStep) → IsWords c.first c.second w.words → MayWrite c counters w s → IsWords c.first c.second (state_by_step c w s).words
+entries_kept c counters w (StoreFirst i x) was may =
+    let len : length (slice_set w.words.firsts i x) ≡ length w.words.firsts = length-set w.words.firsts i x in
+    record {
+      firsts_len = len ∙ was.firsts_len;
+      first_words = λ j lt. set_case (IsFirstWord (c.first + c.second) c.second w.words.seconds) w.words.firsts i x j may.1 (λ _. may.2) (λ _. was.first_words j (omega (arith, lt, len)));
+      second_words = was.second_words;
+    }
+entries_kept c counters w (StoreSecond j x) was may =
+    let seconds = slice_set w.words.seconds j x in
+    let len : length seconds ≡ length w.words.seconds = length-set w.words.seconds j x in
+    record {
+      firsts_len = was.firsts_len;
+      first_words = λ i lt. let here = was.first_words i lt in (here.0, first_room c.second w.words.seconds seconds len (entry_in (slice_index w.words.firsts i)) here.1);
+      second_words = λ k lt. set_case (IsLastWord (c.first + c.second)) w.words.seconds j x k may.1 (λ _. may.2) (λ _. was.second_words k (omega (arith, lt, len)));
+    }
+entries_kept c counters w (BeginUpdate change) was may = was
+entries_kept c counters w EndUpdate was may = was
+entries_kept c counters w BumpToken was may = was
+entries_kept c counters w (LoadCounter token worker counter) was may = was
+
+pub words_are_entries : WordsAreEntries
+words_are_entries c [] settled trace = settled.words
+words_are_entries c (Writer s ∷ steps) settled trace =
+    entries_kept c (λ k. ((after c steps).workers k).counter) (after c steps).state s (words_are_entries c steps settled trace.1) trace.0.0
+words_are_entries c (ByWorker k s ∷ steps) settled trace = words_are_entries c steps settled trace.1

@@ -3,8 +3,7 @@
 use Rattle.std.proofs.Common.{◌≡◌, ℕ, suc, ◌/◌, ◌^◌, ◌≤◌, inl, inr, true, false, cond, eqb, eq-eqb, IsTrue, List, [], ◌∷◌, ◌++◌, length, refl, sym, ap, subst, ◌∙◌, append_assoc, length-append, arith}
 use Rattle.std.proofs.lemmas.Bool.Decides.{eqb_tells}
 use Rattle.qsbr.specs.Intervals.{Interval, IsReaderInterval, Holds, IsRunningSince, IsHeldByWorker}
-use Rattle.qsbr.proofs.Running.{since_within, since_cases, held_start}
-use Rattle.qsbr.proofs.Grace.{grace_period_is_over}
+use Rattle.qsbr.proofs.Running.{since_within, since_cases, held_start, grace_period_is_over}
 use Rattle.lpm_trace.specs.declared.step.WriterStep.{WriterStep}
 use Rattle.lpm_trace.specs.declared.step.WriterStep.TheVariants.{StoreFirst, StoreSecond, BeginUpdate, EndUpdate, BumpToken, LoadCounter}
 use Rattle.lpm_trace.specs.declared.step.WorkerStep.{WorkerStep}
@@ -12,10 +11,9 @@ use Rattle.lpm_trace.specs.declared.step.WorkerStep.TheVariants.{LoadOnline, Sto
 use Rattle.lpm_trace.specs.declared.step.TraceStep.{TraceStep}
 use Rattle.lpm_trace.specs.declared.step.TraceStep.TheVariants.{Writer, Worker as ByWorker}
 use Rattle.lpm_trace.specs.States.{InitialState, TableState, IsSettled, first_entry, with_stamp, oldest, state_after}
-use Rattle.lpm_trace.specs.Workers.{Worker, worker_by_step, MayRead, IsRunning}
-use Rattle.lpm_trace.specs.Trace.{after, IsTrace, writes}
+use Rattle.lpm_trace.specs.Trace.{Worker, worker_by_step, MayRead, IsRunning, after, IsTrace, writes}
 use Rattle.lpm_trace.specs.Laws.{begins, ends, by_steps, Unlinks, ReuseIsLawful}
-use Rattle.lpm_trace.proofs.Basics.{with_at-same}
+use Rattle.lpm_trace.proofs.Versions.{with_at-same}
 use Rattle.lpm_trace.proofs.Writing.{stamped_le, stamped_ge}
 use Rattle.lpm_trace.proofs.Traces.{oldest_old, oldest_all, clock_length, tables_of, after_grace}
 use Rattle.lpm_trace.proofs.Moments.{count, count_old, count_le}

@@ -12,11 +12,9 @@ use Rattle.lpm_trace.specs.declared.step.WorkerStep.TheVariants.{LoadOnline, Sto
 use Rattle.lpm_trace.specs.declared.step.TraceStep.{TraceStep}
 use Rattle.lpm_trace.specs.declared.step.TraceStep.TheVariants.{Writer, Worker as ByWorker}
 use Rattle.lpm_trace.specs.States.{InitialState, IsAnswer, begun_at, version, oldest, state_after, state_at}
-use Rattle.lpm_trace.specs.Workers.{Worker, Probe, Unread, InGroup, Answered, Seen, read_first, first_read, second_read, with_answers, worker_by_step}
-use Rattle.lpm_trace.specs.Trace.{after, writes, worker_of}
+use Rattle.lpm_trace.specs.Trace.{Worker, Probe, Unread, InGroup, Answered, Seen, read_first, first_read, second_read, with_answers, worker_by_step, after, writes, worker_of}
 use Rattle.lpm_trace.specs.Laws.{IsLegalAtPlace, at_moment, rules_of_version, IsLegal, LookupsAreLegal, VersionsNeverFall}
-use Rattle.lpm_trace.proofs.Basics.{Each, each_all}
-use Rattle.lpm_trace.proofs.Versions.{version_ge, version_le}
+use Rattle.lpm_trace.proofs.Versions.{Each, each_all, version_ge, version_le}
 use Rattle.lpm_trace.proofs.Traces.{oldest_old, oldest_new, oldest_all, clock_length, tables_of, rising, all_right}
 
 -- ---- how many of the first n steps are the writer's

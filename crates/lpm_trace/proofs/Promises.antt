@@ -7,10 +7,8 @@ use Rattle.lpm_trace.proofs.Versions.{Shows, version_ge, version_le}
 use Rattle.lpm_trace.proofs.Traces.{tables_of, shows_tables}
 pub use Rattle.lpm_trace.proofs.Moments.{lookups_are_legal, versions_never_fall}
 pub use Rattle.lpm_trace.proofs.Grace.{reuse_is_lawful}
-pub use Rattle.lpm_trace.proofs.Alone.{writer_is_alone, writer_goes_on}
-pub use Rattle.lpm_trace.proofs.Checks.{passed_is_checked}
-pub use Rattle.lpm_trace.proofs.Entries.{words_are_entries}
-pub use Rattle.lpm_trace.proofs.Places.{own_lookups_are_legal, own_steps_are_placed, versions_never_fall_at_places, places_never_fall, trace_grows}
+pub use Rattle.lpm_trace.proofs.Checks.{writer_is_alone, writer_goes_on, passed_is_checked, words_are_entries}
+pub use Rattle.lpm_trace.proofs.Traces.{own_lookups_are_legal, own_steps_are_placed, versions_never_fall_at_places, places_never_fall, trace_grows}
 
 pub rest_answers : RestAnswers
 rest_answers c steps settled trace rests a lt =

@@ -1,12 +1,101 @@
--- The version that each address shows: the words answer by it, and it never falls.
-use Rattle.std.proofs.Common.{◌<◌, ◌≡◌, ℕ, suc, ◌+◌, ◌/◌, ◌%◌, ◌≤◌, ◌≢◌, ◌⊎◌, inl, inr, Bool, true, false, cond, Option, Some, None, refl, sym, ap, subst, arith}
+-- Functions changed at one place, words changed at one place, and lists whose members all have a
+-- property.
+use Rattle.std.proofs.Common.{◌≡◌, ℕ, ◌≢◌, ◌<◌, inl, inr, cond, eq-eqb, List, [], ◌∷◌, length, slice_index, slice_set, All, refl, sym, ap, subst, ◌∙◌, get_or-set_same, get_or-set_other, suc, eqb, ◌&&◌, max, arith, ◌+◌, ◌/◌, ◌%◌, ◌≤◌, ◌⊎◌, Bool, true, false, Option, Some, None}
 use Rattle.std.proofs.lemmas.Bool.Decides.{eqb_tells}
-use Rattle.lpm_cells.specs.Table.{Words, with_first, with_second}
-use Rattle.lpm_rules.specs.RuleMap.{RuleMap}
+use Rattle.std.proofs.lemmas.List.Elements.{All-nil, All-cons}
+use Rattle.lpm_trace.specs.States.{with_at, InitialState, state_after, lets_pass, TableState, IsSettled, addresses, answer, IsAnswer, updates_done_in, updates_begun_in, version, rules_by, is_same, answer_changed_by, state_by_step, starting_state, Moves, MayWrite}
+use Rattle.std.proofs.lemmas.List.{length-set}
 use Rattle.lpm_trace.specs.declared.step.WriterStep.{WriterStep}
 use Rattle.lpm_trace.specs.declared.step.WriterStep.TheVariants.{StoreFirst, StoreSecond, BeginUpdate, EndUpdate, BumpToken, LoadCounter}
-use Rattle.lpm_trace.specs.States.{InitialState, TableState, IsSettled, addresses, with_at, answer, IsAnswer, updates_done_in, updates_begun_in, version, rules_by, is_same, answer_changed_by, state_by_step, starting_state, Moves, MayWrite}
-use Rattle.lpm_trace.proofs.Basics.{with_at-other}
+use Rattle.lpm_trace.specs.Writer.{token_after, passed_after, first_word_after}
+use Rattle.lpm_cells.specs.Words.{Words, with_first, with_second}
+use Rattle.lpm_rules.specs.RuleMap.{RuleMap}
+
+-- a fact of f with x at i, by whether j is i
+pub with_at_case : {A : Type 0} (P : A → Type 0) (f : ℕ → A) (i : ℕ) (x : A) (j : ℕ) → (j ≡ i → P x) → (j ≢ i → P (f j)) → P (with_at f i x j)
+with_at_case P f i x j here there = elim (eqb_tells j i) [
+  | inl h ↦ subst (λ b. P (cond b x (f j))) (sym h.0) (here h.1)
+  | inr h ↦ subst (λ b. P (cond b x (f j))) (sym h.0) (there h.1)
+]
+
+pub with_at-same : {A : Type 0} (f : ℕ → A) (i : ℕ) (x : A) → with_at f i x i ≡ x
+with_at-same f i x = rw (eq-eqb i i refl) refl
+
+pub with_at-other : {A : Type 0} (f : ℕ → A) (i : ℕ) (x : A) (j : ℕ) → j ≢ i → with_at f i x j ≡ f j
+with_at-other f i x j ne = with_at_case (λ y. y ≡ f j) f i x j (λ e. absurd (ne e)) (λ _. refl)
+
+-- a fact of the word at j, where x is stored at i, by whether j is i
+pub set_case : (P : ℕ → Type 0) (xs : List ℕ) (i x j : ℕ) → i < length xs → (j ≡ i → P x) → (j ≢ i → P (slice_index xs j)) → P (slice_index (slice_set xs i x) j)
+set_case P xs i x j inside here there = elim (eqb_tells j i) [
+  | inl h ↦ subst P (sym (ap (λ k. slice_index (slice_set xs i x) k) h.1 ∙ get_or-set_same xs i x 0 inside)) (here h.1)
+  | inr h ↦ subst P (sym (get_or-set_other xs i j x 0 h.1)) (there h.1)
+]
+
+-- each member has the property
+abbrev pub Each : {A : Type 0} → (A → Type 0) → List A → Type 0
+Each P [] = Unit {0}
+Each P (x ∷ xs) = P x × Each P xs
+
+pub each_map : {A : Type 0} (P Q : A → Type 0) → ((x : A) → P x → Q x) → (xs : List A) → Each P xs → Each Q xs
+each_map P Q f [] h = tt
+each_map P Q f (x ∷ xs) h = (f x h.0, each_map P Q f xs h.1)
+
+pub each_all : {A : Type 0} (P : A → Type 0) (xs : List A) → Each P xs → All P xs
+each_all P [] h = All-nil P
+each_all P (x ∷ xs) h = All-cons P x xs h.0 (each_all P xs h.1)
+
+-- What is counted over the writer's steps is what the tables say.
+
+pub token_is : (c : InitialState) (steps : List WriterStep) → (state_after c steps).token ≡ token_after c.token steps
+token_is c [] = refl
+token_is c (StoreFirst i x ∷ steps) = token_is c steps
+token_is c (StoreSecond j x ∷ steps) = token_is c steps
+token_is c (BeginUpdate change ∷ steps) = token_is c steps
+token_is c (EndUpdate ∷ steps) = token_is c steps
+token_is c (BumpToken ∷ steps) = omega (arith, token_is c steps)
+token_is c (LoadCounter token worker counter ∷ steps) = token_is c steps
+
+pub passed_is : (c : InitialState) (steps : List WriterStep) → (state_after c steps).passed ≡ passed_after c.workers steps
+passed_is c [] = refl
+passed_is c (StoreFirst i x ∷ steps) = passed_is c steps
+passed_is c (StoreSecond j x ∷ steps) = passed_is c steps
+passed_is c (BeginUpdate change ∷ steps) = passed_is c steps
+passed_is c (EndUpdate ∷ steps) = passed_is c steps
+passed_is c (BumpToken ∷ steps) = passed_is c steps
+passed_is c (LoadCounter token worker counter ∷ steps) =
+    ap (λ n. cond (lets_pass token counter && eqb (suc worker) c.workers) (max n token) n) (passed_is c steps)
+
+pub firsts_length : (c : InitialState) (steps : List WriterStep) → length (state_after c steps).words.firsts ≡ length c.words.firsts
+firsts_length c [] = refl
+firsts_length c (StoreFirst i x ∷ steps) = length-set (state_after c steps).words.firsts i x ∙ firsts_length c steps
+firsts_length c (StoreSecond j x ∷ steps) = firsts_length c steps
+firsts_length c (BeginUpdate change ∷ steps) = firsts_length c steps
+firsts_length c (EndUpdate ∷ steps) = firsts_length c steps
+firsts_length c (BumpToken ∷ steps) = firsts_length c steps
+firsts_length c (LoadCounter token worker counter ∷ steps) = firsts_length c steps
+
+pub first_word_is : (c : InitialState) (steps : List WriterStep) (block : ℕ) → block < length c.words.firsts
+    → slice_index (state_after c steps).words.firsts block ≡ first_word_after c.words.firsts steps block
+first_word_is c [] block within = refl
+first_word_is c (StoreFirst i x ∷ steps) block within =
+    let firsts : List ℕ = (state_after c steps).words.firsts in
+    elim (eqb_tells i block) [
+      | inl here ↦
+          subst (λ k. slice_index (slice_set firsts i x) k ≡ x) here.1
+          (get_or-set_same firsts i x 0 (omega (arith, here.1, within, firsts_length c steps)))
+          ∙ sym (ap (λ b. cond b x (first_word_after c.words.firsts steps block)) here.0)
+      | inr other ↦
+          get_or-set_other firsts i block x 0 (λ same. other.1 (sym same))
+          ∙ first_word_is c steps block within
+          ∙ sym (ap (λ b. cond b x (first_word_after c.words.firsts steps block)) other.0)
+    ]
+first_word_is c (StoreSecond j x ∷ steps) block within = first_word_is c steps block within
+first_word_is c (BeginUpdate change ∷ steps) block within = first_word_is c steps block within
+first_word_is c (EndUpdate ∷ steps) block within = first_word_is c steps block within
+first_word_is c (BumpToken ∷ steps) block within = first_word_is c steps block within
+first_word_is c (LoadCounter token worker counter ∷ steps) block within = first_word_is c steps block within
+
+-- The version that each address shows: the words answer by it, and it never falls.
 
 is_same_tells : (x y : Option ℕ) → ((is_same x y ≡ true) × (x ≡ y)) ⊎ ((is_same x y ≡ false) × (x ≢ y))
 is_same_tells None None = inl (refl, refl)

@@ -4,8 +4,7 @@
 use Rattle.std.specs.Prelude.{◌≡◌, ◌≢◌, ℕ, ◌/◌, ◌^◌, ◌<◌, ◌≤◌, ◌↔◌, ⊤, eqb, Bool, true, false, All, List, [], ◌∷◌, ◌++◌, length}
 use Rattle.std.specs.List.{AllPairs}
 use Rattle.lpm_cells.specs.declared.entry.Entry.TheVariants.{Group}
-use Rattle.lpm_cells.specs.Words.{entry_in}
-use Rattle.lpm_cells.specs.Table.{IsWords}
+use Rattle.lpm_cells.specs.Words.{entry_in, IsWords}
 use Rattle.lpm_rules.specs.RuleMap.{RuleMap}
 use Rattle.qsbr.specs.Intervals.{Reporting, Interval, IsReaderInterval, Holds}
 use Rattle.lpm_trace.specs.declared.step.WriterStep.{WriterStep}
@@ -15,9 +14,8 @@ use Rattle.lpm_trace.specs.declared.step.WorkerStep.TheVariants.{StoreOnline, Lo
 use Rattle.lpm_trace.specs.declared.step.TraceStep.{TraceStep}
 use Rattle.lpm_trace.specs.declared.step.TraceStep.TheVariants.{Writer, Worker as ByWorker}
 use Rattle.lpm_trace.specs.States.{InitialState, TableState, IsSettled, addresses, answer, IsAnswer, updates_done_in, updates_begun_in, version, lets_pass, oldest, state_after, state_at, first_entry}
-use Rattle.lpm_trace.specs.Counts.{token_after, passed_after}
-use Rattle.lpm_trace.specs.Workers.{Seen, MayRead}
-use Rattle.lpm_trace.specs.Trace.{MayCome, after, IsTrace, writes, own_steps, worker_by, worker_of}
+use Rattle.lpm_trace.specs.Writer.{token_after, passed_after}
+use Rattle.lpm_trace.specs.Trace.{Seen, MayRead, MayCome, after, IsTrace, writes, own_steps, worker_by, worker_of}
 
 -- ---- answers
 

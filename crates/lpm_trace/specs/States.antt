@@ -6,9 +6,8 @@ use Rattle.std.specs.Prelude.{◌≡◌, ℕ, suc, ◌+◌, ◌/◌, ◌%◌, �
 use Rattle.std.specs.FinMap.{insert, remove, empty}
 use Rattle.lpm_cells.specs.declared.entry.Entry.{Entry}
 use Rattle.lpm_cells.specs.declared.entry.Entry.TheVariants.{Miss, Hop, Group}
-use Rattle.lpm_cells.specs.Words.{IsLastWord, entry_in, hop_in}
+use Rattle.lpm_cells.specs.Words.{IsLastWord, entry_in, hop_in, Words, IsFirstWord, IsWords, with_first, with_second, entry_at}
 use Rattle.lpm_bits.specs.Network.{IsNetwork}
-use Rattle.lpm_cells.specs.Table.{Words, IsFirstWord, IsWords, with_first, with_second, entry_at}
 use Rattle.lpm_rules.specs.RuleMap.{RuleMap, AllNetworks}
 use Rattle.lpm_rules.specs.Longest.{IsLongestHop}
 use Rattle.lpm_trace.specs.declared.step.RuleChange.{RuleChange}

@@ -6,15 +6,14 @@ use Rattle.std.proofs.lemmas.Nat.{pow-add}
 use Rattle.std.proofs.Math.Nat.{mul-le-mul_right}
 use Rattle.lpm_cells.specs.declared.entry.Entry.{Entry}
 use Rattle.lpm_cells.specs.declared.entry.Entry.TheVariants.{Miss, Hop, Group}
-use Rattle.lpm_cells.specs.Words.{entry_in, word_of, IsLast, IsLastWord}
-use Rattle.lpm_cells.specs.Table.{Words, entry_at, last_entry, with_first}
+use Rattle.lpm_cells.specs.Words.{entry_in, word_of, IsLast, IsLastWord, Words, entry_at, last_entry, with_first}
 use Rattle.lpm_update.specs.declared.Did.{Did}
 use Rattle.lpm_update.specs.declared.Did.TheVariants.{First, Unlinked, Done}
 use Rattle.lpm_update.specs.declared.flush.Flush.{Flush as FlushData}
 use Rattle.lpm_update.specs.declared.update.Plan.TheVariants.{Flush}
 use Rattle.lpm_update.specs.Rewrite.{rewritten_entry, Stands}
 use Rattle.lpm_update.specs.Linked.{IsTable, group_at}
-use Rattle.lpm_update.specs.Flush.{rewrite_to_miss, AllMiss, IsFlushStore}
+use Rattle.lpm_update.specs.Kinds.{rewrite_to_miss, AllMiss, IsFlushStore}
 use Rattle.lpm_update.specs.Update.{IsNextFirst, IsNextUnlink, group_held}
 use Rattle.lpm_update.specs.Step.{HasPassed, HeldAlong, Steps, Stored}
 use Rattle.lpm_update.proofs.Places.{block_low, block_high, block_of, first_same, first_other, first_word, last_word, word_entry, table_first, stored_first}

@@ -9,7 +9,7 @@ use Rattle.lpm_cells.specs.declared.entry.Entry.{Entry}
 use Rattle.lpm_cells.specs.declared.entry.Entry.TheVariants.{Miss, Hop, Group}
 use Rattle.lpm_cells.specs.Words.{entry_in, IsLast, group_in}
 use Rattle.lpm_update.specs.Linked.{IsLinkTo, group_at}
-use Rattle.lpm_update.specs.Flush.{AllMiss}
+use Rattle.lpm_update.specs.Kinds.{AllMiss}
 use Rattle.lpm_update.specs.Update.{GivesUp}
 
 pub if_true : {A : Type 0} (b : Bool) (x y : A) → b ≡ true → (if b then x else y) ≡ x

@@ -8,15 +8,14 @@ use Rattle.std.proofs.lemmas.Nat.{pow_pos, mod_below, shr_split, same_from_place
 use Rattle.std.proofs.lemmas.Bool.{cases_lt, cases_eq, le-leb, le-ltb, lt-ltb, lt-leb}
 use Rattle.lpm_cells.specs.declared.entry.Entry.{Entry}
 use Rattle.lpm_cells.specs.declared.entry.Entry.TheVariants.{Group}
-use Rattle.lpm_cells.specs.Words.{IsEntry, IsLast, IsLastWord, word_of, entry_in, group_in}
-use Rattle.lpm_cells.specs.Table.{Words, HasRoom, entry_at, last_entry, with_first, with_second}
+use Rattle.lpm_cells.specs.Words.{IsEntry, IsLast, IsLastWord, word_of, entry_in, group_in, Words, HasRoom, entry_at, last_entry, with_first, with_second}
 use Rattle.lpm_update.specs.declared.Did.TheVariants.{First, Second}
 use Rattle.lpm_update.specs.declared.rewrite.Rewrite.{Rewrite}
 use Rattle.lpm_update.specs.declared.link_group.LinkGroup.{LinkGroup}
 use Rattle.lpm_update.specs.declared.update.Plan.TheVariants.{Link}
 use Rattle.lpm_update.specs.Rewrite.{replaces, rewritten_entry, Stands}
 use Rattle.lpm_update.specs.Linked.{IsTable, IsLinkTo, group_at}
-use Rattle.lpm_update.specs.LinkGroup.{IsLinking, IsFillStore, IsLinkStore, filled_entry, in_range, reach_of_link}
+use Rattle.lpm_update.specs.Kinds.{IsLinking, IsFillStore, IsLinkStore, filled_entry, in_range, reach_of_link}
 use Rattle.lpm_update.specs.Update.{IsNextFirst, IsNextSecond}
 use Rattle.lpm_update.specs.Step.{Steps}
 use Rattle.lpm_update.proofs.Places.{table_second, block_of, second_other, first_other, first_word, first_of_group, last_word, word_entry, words_first, followed_last, stored_first, stored_second}

@@ -3,8 +3,7 @@ use Rattle.std.proofs.Common.{arith, ◌≡◌, ℕ, ◌+◌, ◌*◌, ◌/◌, 
 use Rattle.std.specs.Prelude.{slice_index}
 use Rattle.std.proofs.lemmas.Nat.{pow_pos, mod_below, shr_below, shr_split, same_from_place}
 use Rattle.lpm_cells.specs.declared.entry.Entry.TheVariants.{Group}
-use Rattle.lpm_cells.specs.Words.{entry_in, group_in}
-use Rattle.lpm_cells.specs.Table.{Words}
+use Rattle.lpm_cells.specs.Words.{entry_in, group_in, Words}
 use Rattle.lpm_update.specs.declared.Did.{Did}
 use Rattle.lpm_update.specs.declared.Did.TheVariants.{First, Second, Unlinked, Done}
 use Rattle.lpm_update.specs.declared.rewrite_range.RewriteRange.{RewriteRange}
@@ -13,11 +12,10 @@ use Rattle.lpm_update.specs.declared.unlink_group.UnlinkGroup.{UnlinkGroup}
 use Rattle.lpm_update.specs.declared.update.Plan.{Plan}
 use Rattle.lpm_update.specs.declared.update.Plan.TheVariants.{Range, Link, Unlink, Flush}
 use Rattle.lpm_update.specs.Linked.{IsTable, IsLinkTo, group_at}
-use Rattle.lpm_update.specs.RewriteRange.{IsRewriting, IsSecondStore}
+use Rattle.lpm_update.specs.Kinds.{IsRewriting, IsSecondStore, IsUnlinking}
 use Rattle.lpm_update.specs.Update.{IsUnderWay, IsOnward, IsNextFirst, IsNextSecond, IsNextUnlink, HasPassedFirst, HasPassedSecond, IsSecondBefore, SameGroups}
-use Rattle.lpm_update.specs.UnlinkGroup.{IsUnlinking}
 use Rattle.lpm_update.specs.Step.{Steps, Stored, HasPassed, HeldAlong}
-use Rattle.lpm_update.specs.Runs.{IsSameWord}
+use Rattle.lpm_update.specs.Laws.{IsSameWord}
 use Rattle.lpm_update.proofs.Unlinks.{some_group, both_ways}
 use Rattle.lpm_update.proofs.Onward.{by_kind}
 

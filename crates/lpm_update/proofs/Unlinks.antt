@@ -1,29 +1,49 @@
--- The steps of a change that unlinks a group.
-use Rattle.std.proofs.Common.{arith, ◌≡◌, ℕ, ◌+◌, ◌-◌, ◌*◌, ◌/◌, ◌%◌, ◌^◌, ◌<◌, ◌≤◌, inl, inr, refl, ap, sym, ◌∙◌, subst, length, Bool, true, false, Some, None}
+-- A range over one block that leaves all of it with one entry.
+use Rattle.std.proofs.Common.{arith, ◌≡◌, ℕ, ◌+◌, ◌*◌, ◌/◌, ◌%◌, ◌^◌, ◌<◌, inl, inr, ap, sym, ◌∙◌, ◌-◌, ◌≤◌, refl, subst, length, Bool, true, false, Some, None}
 use Rattle.std.specs.Prelude.{slice_index, slice_set, if◌then◌else◌}
-use Rattle.std.proofs.lemmas.Bool.{cases_eq}
-use Rattle.std.proofs.lemmas.Nat.{pow_pos, mod_below}
+use Rattle.std.proofs.lemmas.Bool.{cases_lt, cases_eq}
+use Rattle.std.proofs.lemmas.Nat.{shr_high, shr_split, pow_pos, mod_below}
 use Rattle.lpm_cells.specs.declared.entry.Entry.{Entry}
-use Rattle.lpm_cells.specs.declared.entry.Entry.TheVariants.{Miss, Hop, Group}
-use Rattle.lpm_cells.specs.Words.{entry_in, word_of, IsLast, IsLastWord, group_in}
-use Rattle.lpm_cells.specs.Table.{Words, entry_at, with_first}
+use Rattle.lpm_cells.specs.declared.entry.Entry.TheVariants.{Group, Miss, Hop}
+use Rattle.lpm_cells.specs.Words.{entry_in, word_of, IsLast, IsLastWord, group_in, entry_at, Words, with_first}
+use Rattle.lpm_update.specs.declared.rewrite.Rewrite.{Rewrite}
+use Rattle.lpm_update.specs.Rewrite.{rewritten_entry, Stands, Skips}
+use Rattle.lpm_update.specs.Kinds.{final_entry, IsFurther, IsUnlinking, IsUnlinkStore, IsOneEntry}
+use Rattle.lpm_update.proofs.Places.{in_group, first_same, first_other, first_room, last_no_group, table_first, stored_first}
+use Rattle.lpm_update.proofs.Links.{range_true, range_low, range_high}
 use Rattle.lpm_update.specs.declared.Did.{Did}
 use Rattle.lpm_update.specs.declared.Did.TheVariants.{First, Second, Unlinked, Done}
-use Rattle.lpm_update.specs.declared.rewrite.Rewrite.{Rewrite}
 use Rattle.lpm_update.specs.declared.rewrite_range.RewriteRange.{RewriteRange}
 use Rattle.lpm_update.specs.declared.unlink_group.UnlinkGroup.{UnlinkGroup}
 use Rattle.lpm_update.specs.declared.update.Plan.{Plan}
 use Rattle.lpm_update.specs.declared.update.Plan.TheVariants.{Range, Unlink}
-use Rattle.lpm_update.specs.Rewrite.{Stands, Skips}
 use Rattle.lpm_update.specs.Linked.{IsTable, IsLinkTo, group_at}
-use Rattle.lpm_update.specs.RewriteRange.{IsFurther}
-use Rattle.lpm_update.specs.LinkGroup.{final_entry}
-use Rattle.lpm_update.specs.UnlinkGroup.{IsUnlinking, IsUnlinkStore, IsOneEntry}
 use Rattle.lpm_update.specs.Update.{IsUnderWay, IsNextUnlink, SameGroups, group_held, places_left}
 use Rattle.lpm_update.specs.Step.{HasPassed, HeldAlong, Steps, Stored}
-use Rattle.lpm_update.proofs.Places.{first_same, first_other, first_room, in_group, last_no_group, table_first, stored_first}
-use Rattle.lpm_update.proofs.Uniform.{uniform_words}
 use Rattle.lpm_update.proofs.Groups.{gives_up, group_set_same, group_set_other, last_none, not_unlinked, here_is, there_is}
+
+-- at the end each address has its final entry
+pub stands_final : (s from end : ℕ) (c : Rewrite) (W : Words) (E : ℕ → Entry) → Stands s from end c W E → (a : ℕ) → entry_at s W a ≡ final_entry from end c a (E a)
+stands_final s from end c W E t a = elim (cases_lt a from) [
+  | inl below ↦ t.before a below ∙ sym (range_low from end a (rewritten_entry c (E a)) (E a) below)
+  | inr above ↦ elim (cases_lt a end) [
+    | inl inside ↦ t.done a above inside ∙ sym (range_true from end a (rewritten_entry c (E a)) (E a) above inside)
+    | inr past ↦ t.todo a past ∙ sym (range_high from end a (rewritten_entry c (E a)) (E a) past)
+  ]
+]
+
+-- the words of the block's group are then all one
+pub uniform_words : (s from end : ℕ) (c : Rewrite) (W : Words) (E : ℕ → Entry) (b g : ℕ) (x : Entry) → entry_in (slice_index W.firsts b) ≡ Group g → Stands s from end c W E
+    → ((a : ℕ) → a / 2 ^ s ≡ b → final_entry from end c a (E a) ≡ x) → (r : ℕ) → r < 2 ^ s → entry_in (slice_index W.seconds (g * 2 ^ s + r)) ≡ x
+uniform_words s from end c W E b g x e t all r h =
+    let a = b * 2 ^ s + r in
+    let block : a / 2 ^ s ≡ b = shr_high b s r h in
+    let place : a % 2 ^ s ≡ r = omega (arith, shr_split a s, ap (λ y. y * 2 ^ s) block) in
+    ap (λ y. entry_in (slice_index W.seconds (g * 2 ^ s + y))) (sym place)
+    ∙ sym (in_group s W g a (ap (λ k. entry_in (slice_index W.firsts k)) block ∙ e))
+    ∙ stands_final s from end c W E t a ∙ all a block
+
+-- The steps of a change that unlinks a group.
 
 -- it is seen by no address
 unlink_unseen : (s : ℕ) (W : Words) (b g w a : ℕ) → b < length W.firsts → IsLinkTo W.firsts b g → IsLast (entry_in w)

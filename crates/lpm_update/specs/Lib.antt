@@ -1,13 +1,9 @@
 pub mod Rewrite
 pub mod Linked
-pub mod RewriteRange
 pub mod Best
-pub mod LinkGroup
 pub mod Represents
-pub mod UnlinkGroup
-pub mod Flush
+pub mod Kinds
 pub mod Update
 pub mod Step
 pub mod Tied
-pub mod Runs
 pub mod Laws

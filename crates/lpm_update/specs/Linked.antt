@@ -2,9 +2,8 @@
 -- INFOCOM 1998, section 3: a first entry of a longer prefix holds the index of its own block of
 -- second entries).
 use Rattle.std.specs.Prelude.{ℕ, ◌≡◌, ◌^◌, ◌<◌, List, slice_index, Option}
-use Rattle.lpm_cells.specs.Words.{entry_in, group_in}
+use Rattle.lpm_cells.specs.Words.{entry_in, group_in, Words, IsWords}
 use Rattle.lpm_cells.specs.declared.entry.Entry.TheVariants.{Group}
-use Rattle.lpm_cells.specs.Table.{Words, IsWords}
 
 -- the first word at the place is that of the group
 abbrev pub IsLinkTo : List ℕ → ℕ → ℕ → Type 0

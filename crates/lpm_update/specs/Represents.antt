@@ -3,7 +3,7 @@
 use Rattle.std.specs.Prelude.{ℕ, Bool, true, false, ◌+◌, ◌/◌, ◌^◌, ◌<◌, ◌↔◌, IsSome, List, Option, Some, None, ◌==◌, if◌then◌else◌}
 use Rattle.lpm_bits.specs.Network.{Network}
 use Rattle.lpm_cells.specs.declared.entry.Entry.{Entry}
-use Rattle.lpm_cells.specs.Table.{Words, HasRoom, entry_at}
+use Rattle.lpm_cells.specs.Words.{Words, HasRoom, entry_at}
 use Rattle.lpm_rules.specs.RuleMap.{RuleMap, AllNetworks}
 use Rattle.lpm_rules.specs.Deep.{IsDeepBlock}
 use Rattle.lpm_update.specs.declared.update.Plan.{Plan}

@@ -4,8 +4,7 @@
 use Rattle.std.specs.Prelude.{ℕ, Bool, true, false, ◌≡◌, ◌≤◌, ◌<◌, ◌==◌, ◌&&◌, nat_le, if◌then◌else◌}
 use Rattle.lpm_cells.specs.declared.entry.Entry.{Entry}
 use Rattle.lpm_cells.specs.declared.entry.Entry.TheVariants.{Miss, Hop, Group}
-use Rattle.lpm_cells.specs.Words.{IsLastWord, entry_in, word_of}
-use Rattle.lpm_cells.specs.Table.{Words, entry_at}
+use Rattle.lpm_cells.specs.Words.{IsLastWord, entry_in, word_of, Words, entry_at}
 use Rattle.lpm_update.specs.declared.rewrite.Kind.{Kind}
 use Rattle.lpm_update.specs.declared.rewrite.Kind.TheVariants.{Add, Delete, Flush}
 use Rattle.lpm_update.specs.declared.rewrite.Rewrite.{Rewrite}

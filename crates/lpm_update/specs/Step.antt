@@ -2,7 +2,7 @@
 -- project's).
 use Rattle.std.specs.Prelude.{ℕ, ◌≡◌, ◌≢◌, ◌<◌, List, slice_index, Option}
 use Rattle.lpm_cells.specs.declared.entry.Entry.{Entry}
-use Rattle.lpm_cells.specs.Table.{Words, with_first, with_second}
+use Rattle.lpm_cells.specs.Words.{Words, with_first, with_second}
 use Rattle.lpm_update.specs.declared.Did.{Did}
 use Rattle.lpm_update.specs.declared.Did.TheVariants.{First, Second, Unlinked, Done}
 use Rattle.lpm_update.specs.declared.update.Plan.{Plan}

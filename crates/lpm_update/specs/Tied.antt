@@ -3,7 +3,7 @@
 use Rattle.std.specs.Prelude.{ℕ, ◌≡◌, ◌≢◌, ◌↔◌, ◌*◌, ◌≤◌, ◌<◌, ◌^◌, List, length, Option, Some}
 use Rattle.lpm_groups.specs.declared.GroupState.{GroupState}
 use Rattle.lpm_groups.specs.States.{IsLinkedTo}
-use Rattle.lpm_cells.specs.Table.{Words}
+use Rattle.lpm_cells.specs.Words.{Words}
 
 -- a group is linked to a block just where that block has it, by L
 pub record IsTied (first : ℕ) (states : List GroupState) (L : ℕ → Option ℕ) : Type 0 where

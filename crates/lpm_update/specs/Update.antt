@@ -2,16 +2,13 @@
 -- (this project's; what a change does is that of the DPDK Programmer's Guide, "LPM Library").
 use Rattle.std.specs.Prelude.{ℕ, true, false, ◌≡◌, ◌≢◌, ◌+◌, ◌-◌, ◌*◌, ◌/◌, ◌%◌, ◌⊎◌, ◌^◌, ◌≤◌, ◌<◌, ◌==◌, ◌&&◌, nat_le, nat_lt, if◌then◌else◌, List, Option, Some, None}
 use Rattle.lpm_cells.specs.declared.entry.Entry.{Entry}
-use Rattle.lpm_cells.specs.Table.{Words}
+use Rattle.lpm_cells.specs.Words.{Words}
 use Rattle.lpm_update.specs.declared.rewrite.Rewrite.{Rewrite}
 use Rattle.lpm_update.specs.declared.update.Plan.{Plan}
 use Rattle.lpm_update.specs.declared.update.Plan.TheVariants.{Range, Link, Unlink, Flush}
 use Rattle.lpm_update.specs.Rewrite.{Stands, Skips}
 use Rattle.lpm_update.specs.Linked.{IsLinkTo, group_at}
-use Rattle.lpm_update.specs.RewriteRange.{IsRewriting, IsFurther, IsFirstStore, IsSecondStore}
-use Rattle.lpm_update.specs.LinkGroup.{IsLinking, IsFillStore, IsLinkStore, reach_of_link, final_entry}
-use Rattle.lpm_update.specs.UnlinkGroup.{IsUnlinking, IsUnlinkStore}
-use Rattle.lpm_update.specs.Flush.{rewrite_to_miss, IsFlushStore}
+use Rattle.lpm_update.specs.Kinds.{IsRewriting, IsFurther, IsFirstStore, IsSecondStore, IsLinking, IsFillStore, IsLinkStore, reach_of_link, final_entry, IsUnlinking, IsUnlinkStore, rewrite_to_miss, IsFlushStore}
 
 -- the first address of the range
 abbrev pub from_of : Plan → ℕ

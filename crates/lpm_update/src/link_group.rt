@@ -22,17 +22,16 @@ pub(crate) struct LinkGroup {
 impl LinkGroup {
     ghost use Rattle.std.specs.Prelude.{◌≡◌, ℕ, ◌+◌, ◌-◌, ◌/◌, ◌^◌, ◌<◌, None, slice_index};
     ghost use Rattle.lpm_bits.specs.Widths.{IsShape};
-    ghost use Rattle.lpm_cells.specs.Table.{Words};
+    ghost use Rattle.lpm_cells.specs.Words.{Words, IsEntry, IsLast, IsLastWord, entry_in, word_of};
     ghost use Rattle.lpm_cells.specs.declared.entry.Entry.TheVariants.{Hop as EntryHop};
-    ghost use Rattle.lpm_cells.specs.Words.{IsEntry, IsLast, IsLastWord, entry_in, word_of};
     ghost use Rattle.lpm_update.specs.declared.rewrite.Kind.TheVariants.{Add};
     ghost use Rattle.lpm_update.specs.declared.update.Plan.TheVariants.{Link};
     ghost use Rattle.lpm_update.specs.Linked.{IsTable};
-    ghost use Rattle.lpm_update.specs.LinkGroup.{IsLinking, final_entry};
+    ghost use Rattle.lpm_update.specs.Kinds.{IsLinking, final_entry};
     ghost use Rattle.lpm_update.specs.Represents.{IsFreshGroup};
     ghost use Rattle.lpm_update.specs.Update.{IsUnderWay};
     ghost use Rattle.lpm_update.specs.Step.{AllowsNext, Steps, SetsWord};
-    ghost use Rattle.lpm_update.specs.Runs.{AllowsAlong, RunsOn};
+    ghost use Rattle.lpm_update.specs.Laws.{AllowsAlong, RunsOn};
 
     /// The addition of this rule by this group, which no block has.
     pub(crate) fn of_addition<const FIRST: u32, const SECOND: u32>(

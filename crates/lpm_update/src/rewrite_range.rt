@@ -30,10 +30,10 @@ impl RewriteRange {
     ghost use Rattle.lpm_update.specs.Best.{IsCoverEntry};
     ghost use Rattle.lpm_update.specs.Rewrite.{IsOnWords, Skips};
     ghost use Rattle.lpm_update.specs.Linked.{IsTable};
-    ghost use Rattle.lpm_update.specs.RewriteRange.{IsRangeOf, Visits};
+    ghost use Rattle.lpm_update.specs.Kinds.{IsRangeOf, Visits};
     ghost use Rattle.lpm_update.specs.Update.{IsUnderWay};
     ghost use Rattle.lpm_update.specs.Step.{AllowsNext, Steps, SetsWord};
-    ghost use Rattle.lpm_update.specs.Runs.{AllowsAlong, RunsOn};
+    ghost use Rattle.lpm_update.specs.Laws.{AllowsAlong, RunsOn};
 
     /// The change that adds a rule whose block needs no new group: a rule no longer than `FIRST`
     /// bits, or one whose block has a group.

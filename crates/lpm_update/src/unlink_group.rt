@@ -3,10 +3,9 @@
 ghost use Rattle.std.specs.Prelude.{◌≡◌, ℕ, ◌+◌, ◌*◌, ◌^◌, ◌<◌, slice_index};
 ghost use Rattle.lpm_bits.specs.Widths.{IsShape};
 ghost use Rattle.lpm_cells.specs.declared.entry.Entry.{Entry};
-ghost use Rattle.lpm_cells.specs.Words.{entry_in};
-ghost use Rattle.lpm_cells.specs.Table.{with_first};
+ghost use Rattle.lpm_cells.specs.Words.{entry_in, with_first};
 ghost use Rattle.lpm_update.specs.Linked.{IsTable, IsLinkTo};
-ghost use Rattle.lpm_update.specs.UnlinkGroup.{IsUnlinkStore, IsOneEntry};
+ghost use Rattle.lpm_update.specs.Kinds.{IsUnlinkStore, IsOneEntry};
 
 use super::{Did, RewriteRange};
 use lpm_cells::{Cells, Entry};

@@ -39,14 +39,14 @@ impl Update {
     ghost use Rattle.std.specs.Prelude.{◌≡◌, ℕ, ◌+◌, ◌/◌, ◌^◌, ◌<◌, List, IsSome, MatchOption};
     ghost use Rattle.lpm_bits.specs.Widths.{IsShape};
     ghost use Rattle.std.specs.FinMap as map;
-    ghost use Rattle.lpm_cells.specs.Table.{Words};
+    ghost use Rattle.lpm_cells.specs.Words.{Words};
     ghost use Rattle.lpm_rules.specs.RuleMap.{RuleMap};
     ghost use Rattle.lpm_rules.specs.Longest.{IsUncovered, IsCoverRule};
     ghost use Rattle.lpm_update.specs.Represents.{Represents, IsBegun, TurnsInto, AddFits, LastFits, held_with};
     ghost use Rattle.lpm_update.specs.Linked.{IsTable, group_at};
     ghost use Rattle.lpm_update.specs.Update.{FillsFor, IsUnderWay, group_held};
     ghost use Rattle.lpm_update.specs.Step.{AllowsNext, Steps, SetsWord};
-    ghost use Rattle.lpm_update.specs.Runs.{AllowsAlong, RunsOn};
+    ghost use Rattle.lpm_update.specs.Laws.{AllowsAlong, RunsOn};
 
     /// The addition of a rule, or its replacement, by a free group where the rule is longer than
     /// `FIRST` bits and its block has none.

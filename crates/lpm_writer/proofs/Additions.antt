@@ -8,10 +8,10 @@ use Rattle.std.proofs.lemmas.Bool.{cases_eq, cases_lt}
 use Rattle.std.proofs.lemmas.List.{length-map}
 use Rattle.std.proofs.lemmas.Option.{slice_get_within}
 use Rattle.lpm_bits.specs.Network.{Network, IsNetwork}
-use Rattle.lpm_cells.specs.Table.{Words}
+use Rattle.lpm_cells.specs.Words.{Words}
 use Rattle.lpm_groups.specs.declared.GroupState.TheVariants.{Linked}
 use Rattle.lpm_groups.specs.States.{linked_count, free_count}
-use Rattle.lpm_groups.proofs.Tallies.{counts-total}
+use Rattle.lpm_groups.proofs.Marking.{counts-total}
 use Rattle.lpm_limits.specs.declared.busy.Busy.{Busy}
 use Rattle.lpm_limits.specs.declared.config.Config.{Config}
 use Rattle.lpm_limits.specs.declared.refusal.Refusal.TheVariants.{NoGroups}
@@ -21,17 +21,15 @@ use Rattle.lpm_rules.specs.declared.Put.TheVariants.{Added, Replaced, Unchanged}
 use Rattle.lpm_rules.specs.declared.RuleFault.{RuleFault}
 use Rattle.lpm_rules.specs.RuleMap.{RuleMap, RuleList, with_rule, without_rule}
 use Rattle.lpm_rules.specs.Deep.{IsDeepBlock, block_of, deep_blocks}
-use Rattle.lpm_rules.proofs.Changes.{not_some, remove_insert, insert_here}
-use Rattle.lpm_rules.proofs.Deep.{has_deep_blocks}
-use Rattle.lpm_rules.proofs.DeepChanges.{put_brings_block}
+use Rattle.lpm_rules.proofs.Views.{not_some, remove_insert, insert_here}
+use Rattle.lpm_rules.proofs.Deep.{has_deep_blocks, put_brings_block}
 use Rattle.lpm_update.specs.declared.update.Plan.{Plan}
 use Rattle.lpm_update.specs.Linked.{group_at}
 use Rattle.lpm_update.specs.Represents.{AddFits, IsBegun, Represents, TurnsInto, held_with}
 use Rattle.lpm_update.specs.Tied.{IsTied}
 use Rattle.lpm_update.specs.Update.{FillsFor, group_held}
 use Rattle.lpm_update.proofs.Promises.{tied_same, tied_taken}
-use Rattle.fib_model.specs.State.{State, Transitions, HasTokens}
-use Rattle.fib_model.specs.Reclaiming.{Unlinks}
+use Rattle.fib_model.specs.State.{State, Transitions, HasTokens, Unlinks}
 use Rattle.fib_model.specs.Outcomes.{groups_in_use, LacksGroup, TakesGroup, Adds}
 use Rattle.lpm_trace.specs.declared.step.RuleChange.{RuleChange}
 use Rattle.lpm_trace.specs.declared.step.RuleChange.TheVariants.{Put as Puts}
@@ -42,9 +40,8 @@ use Rattle.lpm_writer.specs.Waiting.{IsQueued, tokens_of}
 use Rattle.lpm_writer.specs.Matching.{GroupsMatchSteps, OnlyChecks}
 use Rattle.lpm_writer.specs.Making.{group_to_fill, IsTakenBy}
 use Rattle.lpm_writer.specs.Taking.{Finds, NeedsGroup}
-use Rattle.lpm_writer.specs.Changing.{Changes}
-use Rattle.lpm_writer.specs.Resting.{IsResting, IsDue, state_of}
-use Rattle.lpm_writer.proofs.Once.{StoresNothing}
+use Rattle.lpm_writer.specs.Resting.{Changes, IsResting, IsDue, state_of}
+use Rattle.lpm_writer.proofs.StepsAlone.{StoresNothing}
 use Rattle.lpm_writer.proofs.Rests.{linked_resting, none_fills, some_fills}
 
 abbrev Ok' : Put → Result Put RuleFault

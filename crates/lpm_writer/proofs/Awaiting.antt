@@ -15,12 +15,11 @@ use Rattle.lpm_trace.specs.Writer.{progress_after, IsWritten, MayStep}
 use Rattle.lpm_writer.specs.declared.pool.GroupPool.{GroupPool}
 use Rattle.lpm_writer.specs.Traced.{Checks}
 use Rattle.lpm_writer.specs.Matching.{AreRetired, HasNothingDue, MayAsk, Remembers}
-use Rattle.lpm_writer.specs.Changing.{IsBetween}
-use Rattle.lpm_writer.specs.Resting.{IsResting}
-use Rattle.lpm_writer.specs.Synchronizing.{IsAwaited, IsWaiting}
+use Rattle.lpm_writer.specs.Resting.{IsBetween, IsResting}
+use Rattle.lpm_writer.specs.Commands.{IsAwaited, IsWaiting}
 use Rattle.lpm_writer.proofs.Checks.{HasPassed, quiet_on, check_passes, check_stops}
-use Rattle.lpm_writer.proofs.Keeping.{kept_quiet}
-use Rattle.lpm_writer.proofs.Once.{nothing_bumped, after_check}
+use Rattle.lpm_writer.proofs.Reclaims.{kept_quiet}
+use Rattle.lpm_writer.proofs.StepsAlone.{nothing_bumped, after_check}
 use Rattle.lpm_writer.proofs.Rests.{even_not, rests_quiet}
 
 -- ---- the token is started

@@ -1,17 +1,49 @@
--- Groups that wait in limbo, and are freed.
-use Rattle.std.proofs.Common.{arith, ◌≡◌, ◌≢◌, ℕ, zero, suc, ◌+◌, ◌<◌, ◌≤◌, inl, inr, refl, ap, sym, ◌∙◌, List, [], ◌∷◌, length, length-append, length-drop, drop, ◌++◌, Option, Some}
-use Rattle.std.specs.Prelude.{slice_get, slice_set, ◌↔◌}
+-- The least free group is taken, by the states of the groups.
+use Rattle.std.proofs.Common.{arith, ℕ, ◌<◌, inl, inr, sym, ◌∙◌, subst, List, ◌≡◌, ◌≢◌, zero, suc, ◌+◌, ◌≤◌, refl, ap, [], ◌∷◌, length, length-append, length-drop, drop, ◌++◌, Option, Some, add-one, append-nil, None}
+use Rattle.std.specs.Prelude.{slice_set, slice_get, ◌↔◌, Result, Ok, Err, MatchOption}
 use Rattle.std.proofs.lemmas.Bool.{cases_eq}
-use Rattle.std.proofs.Math.ListN.{length-set}
 use Rattle.lpm_groups.specs.declared.GroupState.{GroupState}
-use Rattle.lpm_groups.specs.declared.GroupState.TheVariants.{Free, Linked, Limbo}
-use Rattle.lpm_groups.specs.States.{IsLinkedTo, IsLimboAt, IsFreeAt, is_free, is_linked, free_count, linked_count}
-use Rattle.lpm_groups.proofs.Writes.{slice_get-set_same, slice_get-set_other}
-use Rattle.lpm_groups.proofs.Tallies.{Releases-set, Retires-set, Takes-set, counts-total, count_by-some}
+use Rattle.lpm_groups.specs.declared.GroupState.TheVariants.{Linked, Free, Limbo}
+use Rattle.lpm_groups.specs.States.{IsLeastFree, IsLinkedTo, IsLimboAt, IsFreeAt, is_free, is_linked, free_count, linked_count}
+use Rattle.lpm_groups.proofs.Marking.{slice_get-set_other, slice_get-set_same, Releases-set, Retires-set, Takes-set, counts-total, count_by-some}
+use Rattle.lpm_writer.specs.Waiting.{IsFreed, AreWaiting, IsQueued, IsTaken, tokens_of}
+use Rattle.lpm_writer.specs.Taking.{LinksLeast, MayTake}
+use Rattle.std.proofs.Math.ListN.{length-set}
 use Rattle.std.proofs.lemmas.Option.{slice_get_within}
 use Rattle.defer_queue.specs.Retired.{IsAbsent}
 use Rattle.defer_queue.specs.Limbo.{Limbo as Queue}
-use Rattle.lpm_writer.specs.Waiting.{AreWaiting, IsQueued, IsFreed, IsTaken}
+use Rattle.std.proofs.lemmas.List.{length-map}
+use Rattle.lpm_limits.specs.declared.busy.Busy.{Busy}
+use Rattle.defer_queue.proofs.Longest.{Reclaims-within}
+use Rattle.lpm_limits.specs.declared.config.Config.{Config}
+use Rattle.fib_model.specs.State.{Transitions, Reclaims, MakesRoom}
+use Rattle.lpm_trace.specs.declared.step.WriterStep.{WriterStep}
+use Rattle.lpm_trace.specs.States.{InitialState}
+use Rattle.lpm_writer.specs.declared.pool.GroupPool.{GroupPool}
+use Rattle.lpm_writer.specs.Matching.{GroupsMatchSteps, MayReclaim}
+use Rattle.defer_queue.specs.Reclaims as queue
+
+-- ---- by the states of the groups
+
+pub least_same : (xs : List GroupState) → LinksLeast xs xs
+least_same xs g b at = inl at
+
+pub least_linked : (xs : List GroupState) (g b : ℕ) → IsLeastFree xs g → LinksLeast xs (slice_set xs g (Linked b))
+least_linked xs g b least h c at = elim (cases_eq h g) [
+  | inl q ↦ inr (λ k below free.
+      let under : k < g = subst (λ n. k < n) q below in
+      least.least k under (sym (slice_get-set_other xs g k (Linked b) (λ e. omega (arith, e, under))) ∙ free))
+  | inr q ↦ inl (sym (slice_get-set_other xs g h (Linked b) q) ∙ at)
+]
+
+-- after some items were freed
+pub least_freed : (xs ys zs : List GroupState) (items : List (ℕ × ℕ)) (n : ℕ) → IsFreed xs items n ys → LinksLeast ys zs → LinksLeast xs zs
+least_freed xs ys zs items n freed least g b at = elim (least g b at) [
+  | inl was ↦ inl ((freed.links g b).0 was)
+  | inr none ↦ inr none
+]
+
+-- Groups that wait in limbo, and are freed.
 
 -- what is written to another group's state leaves the items waiting
 pub waiting_set : (xs : List GroupState) (g : ℕ) (s : GroupState) (items : List (ℕ × ℕ)) → IsAbsent g items → AreWaiting xs items → AreWaiting (slice_set xs g s) items
@@ -168,3 +200,82 @@ some_linked xs g b at = count_by-some is_linked xs g (Linked b) at refl
 
 pub few_linked : (xs : List GroupState) → linked_count xs ≤ length xs
 few_linked xs = omega (arith, counts-total xs)
+
+-- What a reclaim comes to, item by item.
+
+pub more_items : (n : ℕ) (items : List (ℕ × ℕ)) (g t : ℕ) (rest : List (ℕ × ℕ)) → drop n items ≡ (g, t) ∷ rest → n + 1 ≤ length items
+more_items zero [] g t rest e = absurd (cc)
+more_items zero (item ∷ items) g t rest e = omega arith
+more_items (suc n) [] g t rest e = absurd (cc)
+more_items (suc n) (item ∷ items) g t rest e = omega (arith, more_items n items g t rest e)
+
+freed_suc : (n : ℕ) (items : List (ℕ × ℕ)) (xs : List GroupState) (g t : ℕ) (rest : List (ℕ × ℕ)) → drop n items ≡ (g, t) ∷ rest → freed_states (suc n) items xs ≡ slice_set (freed_states n items xs) g Free
+freed_suc zero [] xs g t rest e = absurd (cc)
+freed_suc zero (item ∷ items) xs g t rest e = let q : item ≡ (g, t) = cc in ap (λ (p : ℕ × ℕ). slice_set xs p.0 Free) q
+freed_suc (suc n) [] xs g t rest e = absurd (cc)
+freed_suc (suc n) (item ∷ items) xs g t rest e = freed_suc n items (slice_set xs item.0 Free) g t rest e
+
+pub freed_more : (n : ℕ) (items : List (ℕ × ℕ)) (xs : List GroupState) (g t : ℕ) (rest : List (ℕ × ℕ)) → drop n items ≡ (g, t) ∷ rest → freed_states (n + 1) items xs ≡ slice_set (freed_states n items xs) g Free
+freed_more n items xs g t rest e = rw add-one (freed_suc n items xs g t rest e)
+
+-- a reclaim freed no more than waited
+pub freed_within : {X : Type 0} {checks : X → ℕ → Result (Unit {0}) Busy → X → Type 0} {frees : X → ℕ → X → Type 0} {x z : X} {max n : ℕ} {stopped : Option Busy} {left : List ℕ}
+    (items : List (ℕ × ℕ)) → queue.Reclaims checks frees max (tokens_of items) x n stopped left z → n ≤ length items
+freed_within {n = n} items r = subst (λ m. n ≤ m) (length-map items (λ item. item.1)) (Reclaims-within r)
+
+-- What a reclaim of one group, or of none, comes to.
+
+module _ {X : Type 0} (t : Transitions X) where
+  -- a reclaim of one that freed some freed the front
+  pub reclaims_one : (x z : X) (limbo left : List ℕ) (n : ℕ) (stopped : Option Busy) → Reclaims t x 1 limbo n stopped left z → n ≢ 0 → (u : ℕ) × (limbo ≡ u ∷ left) × t.checks x u (Ok tt) z
+  reclaims_one x z limbo left zero stopped r some = absurd (some refl)
+  reclaims_one x z [] left (suc zero) stopped r some = absurd r.front
+  reclaims_one x z (u ∷ limbo) left (suc zero) None r some =
+      let freed = r.front in
+      (u, ap (λ xs. u ∷ xs) (sym freed.4.0), subst (λ y. t.checks x u (Ok tt) y) (sym (r.end.1 ∙ freed.4.1 ∙ freed.3)) freed.2)
+  reclaims_one x z (u ∷ limbo) [] (suc zero) (Some busy) r some = absurd r.end
+  reclaims_one x z (u ∷ limbo) (v ∷ left) (suc zero) (Some busy) r some = absurd (let w = r.end.0 in omega (arith, w))
+  reclaims_one x z limbo left (suc (suc n)) stopped r some = absurd (let m = r.at_most in omega (arith, m))
+
+  -- one that freed none met a worker at the front, or an empty limbo list
+  pub reclaims_none : (x z : X) (limbo left : List ℕ) (n : ℕ) (stopped : Option Busy) → Reclaims t x 1 limbo n stopped left z → n ≡ 0
+      → MatchOption stopped ((limbo ≡ []) × (z ≡ x)) (λ busy. (u : ℕ) × (slice_get limbo 0 ≡ Some u) × t.checks x u (Err busy) z)
+  reclaims_none x z limbo left (suc n) stopped r none = absurd (omega (arith, none))
+  reclaims_none x z limbo left zero None r none = (
+    elim r.end.0 [
+      | inl e ↦ absurd (omega (arith, e))
+      | inr e ↦ sym r.front.0 ∙ e
+    ],
+    r.end.1 ∙ r.front.1,
+  )
+  reclaims_none x z limbo [] zero (Some busy) r none = absurd r.end
+  reclaims_none x z limbo (u ∷ left) zero (Some busy) r none =
+      (u, ap (λ xs. slice_get xs 0) (sym r.front.0), subst (λ y. t.checks y u (Err busy) z) r.front.1 r.end.1)
+
+  -- a reclaim of none does nothing
+  reclaims_zero : (x z : X) (limbo left : List ℕ) (n : ℕ) (stopped : Option Busy) → Reclaims t x 0 limbo n stopped left z → (left ≡ limbo) × (z ≡ x)
+  reclaims_zero x z limbo left (suc n) stopped r = absurd (let m = r.at_most in omega (arith, m))
+  reclaims_zero x z limbo left zero None r = (r.front.0, r.end.1 ∙ r.front.1)
+  reclaims_zero x z limbo [] zero (Some busy) r = absurd r.end
+  reclaims_zero x z limbo (u ∷ left) zero (Some busy) r = absurd (let w = r.end.0 in omega (arith, w))
+
+  -- room is made by a reclaim of none up to the threshold, and of `reclaim_max` above it
+  pub makes_room : (config : Config) (x z : X) (limbo left : List ℕ) (max n : ℕ) (stopped : Option Busy) (waiting : ℕ) → waiting ≡ length limbo
+      → (waiting ≤ config.threshold → max ≡ 0) → (config.threshold < waiting → max ≡ config.reclaim_max) → Reclaims t x max limbo n stopped left z → MakesRoom t config x limbo left z
+  makes_room config x z limbo left max n stopped waiting long few many r = (
+    (λ more. (n, stopped, subst (λ k. Reclaims t x k limbo n stopped left z) (many (omega (arith, long, more))) r)),
+    (λ less. reclaims_zero x z limbo left n stopped (subst (λ k. Reclaims t x k limbo n stopped left z) (few (omega (arith, long, less))) r)),
+  )
+
+-- ---- what a reclaim asks and leaves between updates
+
+pub no_tail : (c : InitialState) (steps : List WriterStep) (states : List GroupState) (items : List (ℕ × ℕ)) (passed : ℕ) (held : Option ℕ)
+    → GroupsMatchSteps c steps states items passed held → GroupsMatchSteps c steps states (items ++ []) passed held
+no_tail c steps states items passed held k = subst (λ xs. GroupsMatchSteps c steps states xs passed held) (sym (append-nil items)) k
+
+pub without_tail : (c : InitialState) (steps : List WriterStep) (states : List GroupState) (items : List (ℕ × ℕ)) (passed : ℕ) (held : Option ℕ)
+    → GroupsMatchSteps c steps states (items ++ []) passed held → GroupsMatchSteps c steps states items passed held
+without_tail c steps states items passed held k = subst (λ xs. GroupsMatchSteps c steps states xs passed held) (append-nil items) k
+
+pub may_reclaim : (c : InitialState) (steps : List WriterStep) (pool : GroupPool) → MayTake c steps pool → MayReclaim c steps pool.queue.items
+may_reclaim c steps pool may = record { idle = may.idle; updating = λ up. absurd (may.rests up); before = λ up. absurd (may.rests up) }

@@ -2,7 +2,7 @@
 -- unlinks.
 use Rattle.std.proofs.Common.{arith, ◌≡◌, ℕ, suc, ◌+◌, ◌-◌, ◌^◌, ◌<◌, ◌≤◌, refl, sym, ap, subst, ◌∙◌, List, [], ◌∷◌, Some, None, length, slice_index}
 use Rattle.std.specs.Prelude.{Option}
-use Rattle.lpm_cells.specs.Table.{Words}
+use Rattle.lpm_cells.specs.Words.{Words}
 use Rattle.lpm_groups.specs.States.{IsLinkedTo, linked_count}
 use Rattle.lpm_limits.specs.declared.config.Config.{Config}
 use Rattle.lpm_rules.specs.RuleMap.{RuleMap}
@@ -11,7 +11,7 @@ use Rattle.lpm_update.specs.declared.Did.TheVariants.{First, Second, Unlinked, D
 use Rattle.lpm_update.specs.declared.update.Plan.{Plan}
 use Rattle.lpm_update.specs.Linked.{group_at}
 use Rattle.lpm_update.specs.Represents.{Represents, TurnsInto}
-use Rattle.lpm_update.specs.Runs.{HasCome, Leads, RunsOn, AllowsAlong}
+use Rattle.lpm_update.specs.Laws.{HasCome, Leads, RunsOn, AllowsAlong}
 use Rattle.lpm_update.specs.Step.{Steps, AllowsNext}
 use Rattle.lpm_update.specs.Tied.{IsTied, SameLinksBut}
 use Rattle.lpm_update.specs.Update.{SameGroups, group_held}
@@ -20,15 +20,14 @@ use Rattle.lpm_trace.specs.declared.step.WriterStep.{WriterStep}
 use Rattle.lpm_trace.specs.declared.step.WriterStep.TheVariants.{StoreFirst, StoreSecond}
 use Rattle.lpm_trace.specs.States.{InitialState, state_after}
 use Rattle.lpm_trace.specs.Writer.{MayStep}
-use Rattle.lpm_writer.specs.MemorySteps.{MayBeNext}
+use Rattle.lpm_writer.specs.Plain.{MayBeNext}
 use Rattle.lpm_writer.specs.declared.pool.GroupPool.{GroupPool}
 use Rattle.lpm_writer.specs.Waiting.{IsQueued, tokens_of}
 use Rattle.lpm_writer.specs.Traced.{Retires}
 use Rattle.lpm_writer.specs.Matching.{HasUnlinked, HasRetired, GroupsMatchSteps}
 use Rattle.lpm_writer.specs.Making.{MayMake, HasMade}
-use Rattle.lpm_writer.proofs.Memories.{AsMemory}
+use Rattle.lpm_writer.proofs.UpdateRuns.{AsMemory, Runs, run_begins, begun_come, allows_first, allows_second, allows_unlink, run_first, run_second, unlinked_on, run_unlinked, run_ended}
 use Rattle.lpm_writer.proofs.LimboItems.{some_linked, few_linked}
-use Rattle.lpm_writer.proofs.UpdateRuns.{Runs, run_begins, begun_come, allows_first, allows_second, allows_unlink, run_first, run_second, unlinked_on, run_unlinked, run_ended}
 
 -- the change u of the first memory has come to v
 pub record IsUnderWayAt {M : Type 0} (mem : AsMemory M) (f s : ℕ) (config : Config) (first : M) (old : GroupPool) (u : Plan) (m : M) (new : GroupPool) (v : Plan) : Type 0 where

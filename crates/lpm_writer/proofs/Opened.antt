@@ -1,21 +1,106 @@
--- What a table is opened with: its words are all misses, which represent no rules, and all groups are free.
-use Rattle.std.proofs.Common.{arith, ◌≡◌, ℕ, zero, suc, ◌≤◌, ◌*◌, ◌^◌, refl, ap, sym, ◌∙◌, subst, [], replicate, slice_get, Some}
-use Rattle.std.proofs.lemmas.List.{length-replicate}
-use Rattle.std.specs.FinMap.{empty}
+-- A table whose words represent its rules, and of which no group waits, is one that may be opened, and a
+-- control state rests there.
+use Rattle.std.proofs.Common.{◌≡◌, ℕ, ◌+◌, ◌^◌, ◌<◌, ◌≤◌, inl, inr, refl, ap, sym, ◌∙◌, List, [], length, slice_get, slice_index, Some, None, arith, subst, zero, suc, ◌*◌, replicate}
+use Rattle.std.proofs.lemmas.Bool.{cases_lt}
+use Rattle.std.proofs.lemmas.List.{get_or_past, length-replicate}
 use Rattle.lpm_bits.specs.Widths.{IsShape}
+use Rattle.lpm_cells.specs.declared.entry.Entry.TheVariants.{Miss, Group}
+use Rattle.lpm_cells.specs.Words.{entry_in, group_in, Words, entry_at}
+use Rattle.lpm_cells.proofs.Reading.{entry_in_zero}
 use Rattle.lpm_groups.specs.declared.GroupState.{GroupState}
-use Rattle.lpm_groups.specs.declared.GroupState.TheVariants.{Free}
-use Rattle.lpm_groups.proofs.Tallies.{limbo_count-replicate}
+use Rattle.lpm_groups.specs.declared.GroupState.TheVariants.{Free, Linked, Limbo}
+use Rattle.lpm_groups.specs.States.{limbo_count}
 use Rattle.lpm_limits.specs.Limits.{IsConfig}
 use Rattle.lpm_limits.specs.declared.config.Config.{Config}
-use Rattle.lpm_rules.specs.RuleMap.{network_cmp}
+use Rattle.lpm_rules.specs.RuleMap.{RuleMap, network_cmp}
+use Rattle.lpm_update.specs.Linked.{group_at}
+use Rattle.lpm_update.specs.Represents.{Represents}
+use Rattle.lpm_update.specs.Tied.{IsTied, HasGroupRoom}
+use Rattle.lpm_update.proofs.Promises.{best_hop, blank}
+use Rattle.lpm_trace.specs.States.{InitialState, Status, Unused, Linked as LinkedTo, Retired, IsFree, IsSettled}
+use Rattle.lpm_writer.specs.Resting.{IsResting, blank_state}
+use Rattle.std.specs.FinMap.{empty}
+use Rattle.lpm_groups.proofs.Marking.{limbo_count-replicate}
 use Rattle.lpm_update.specs.Laws.{blank_words}
-use Rattle.lpm_update.proofs.Promises.{blank}
-use Rattle.lpm_trace.specs.States.{Unused, Retired, IsSettled}
 use Rattle.lpm_writer.specs.declared.pool.GroupPool.{GroupPool}
-use Rattle.lpm_writer.specs.Blank.{blank_state}
-use Rattle.lpm_writer.specs.Resting.{IsResting}
-use Rattle.lpm_writer.proofs.Beginning.{status_at_first, begins_settled, begins_resting}
+
+no_group : (g : ℕ) → Miss ≡ Group g → ⊥
+no_group g e = cc
+
+none_some : (g : ℕ) → None ≡ Some g → ⊥
+none_some g e = cc
+
+-- no word stands past the end
+past_end : (firsts : List ℕ) (i g : ℕ) → length firsts ≤ i → entry_in (slice_index firsts i) ≡ Group g → ⊥
+past_end firsts i g past e =
+    no_group g (sym (ap entry_in (get_or_past firsts i 0 past) ∙ entry_in_zero) ∙ e)
+
+-- what is known of a group at first: which block it is linked to; any other was never linked
+abbrev pub status_at_first : GroupState → Status
+status_at_first Free = Unused
+status_at_first (Linked block) = LinkedTo block
+status_at_first Limbo = Unused
+
+module _ (f s : ℕ) (t : Words) (R : RuleMap) (xs : List GroupState) (config : Config) (token : ℕ)
+    (groups : ℕ → Status) (represents : Represents f s R t) (tied : IsTied f xs (group_at t.firsts))
+    (known : (g : ℕ) (state : GroupState) → slice_get xs g ≡ Some state → groups g ≡ status_at_first state)
+    (never : (g x : ℕ) → groups g ≡ Retired x → ⊥) where
+  abbrev pub beginning : InitialState
+  beginning = record {
+    first = f;
+    second = s;
+    workers = config.workers;
+    token = token;
+    words = t;
+    rules = R;
+    groups = groups;
+  }
+
+  pub begins_settled : 0 < token → IsSettled beginning
+  begins_settled pos = record {
+    token = pos;
+    words = represents.table.words;
+    networks = represents.networks;
+    answers = λ a low. best_hop (f + s) R a (entry_at s t a) (represents.best a low);
+    links = λ i g e. elim (cases_lt i (2 ^ f)) [
+      | inl low ↦ known g (Linked i) (tied.linked i g low (ap group_in e))
+      | inr past ↦ absurd (past_end t.firsts i g (omega (arith, past, represents.table.words.firsts_len)) e)
+    ];
+  }
+
+  pub begins_resting : (max : ℕ) → IsShape f s → IsConfig config → max ≡ config.rules
+      → length xs ≡ config.groups → HasGroupRoom s t xs → limbo_count xs ≡ 0
+      → IsResting f s beginning [] config (record { rules = R; max = max })
+      (record { groups = xs; queue = record { items = []; capacity = length xs }; passed = 0 }) 0
+  begins_resting max shape limits same states room none = record {
+    shape = shape;
+    widths = (refl, refl);
+    workers = refl;
+    between = record { idle = record { next_step = refl; awaited = refl }; even = refl; clear = λ a low. refl; once = tt };
+    version = refl;
+    represents = represents;
+    tied = tied;
+    room = room;
+    queued = record { waiting = tt; all = sym none; room = refl };
+    keeps = record {
+      kept = record {
+        free = λ g here. subst (IsFree beginning 0) (sym (known g Free here)) tt;
+        linked = λ g b here not. known g (Linked b) here;
+        taken = λ g e. absurd (none_some g e);
+        rising = tt;
+        retired = tt;
+        all = λ some g x e. absurd (never g x e);
+      };
+      remembers = λ some. refl;
+    };
+    limits = limits;
+    max = same;
+    states = states;
+    versions = refl;
+    updates = omega arith;
+  }
+
+-- What a table is opened with: its words are all misses, which represent no rules, and all groups are free.
 
 not_retired : (g t : ℕ) → Unused ≡ Retired t → ⊥
 not_retired g t e = cc

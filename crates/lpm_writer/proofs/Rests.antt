@@ -2,7 +2,7 @@
 use Rattle.std.proofs.Common.{arith, ◌≡◌, ℕ, ◌+◌, ◌-◌, ◌*◌, ◌%◌, ◌^◌, ◌<◌, ◌≤◌, inl, inr, refl, sym, ap, subst, ◌∙◌, List, ◌∷◌, length, Option, Some, None, Bool, false}
 use Rattle.std.specs.Prelude.{IsTrue, ◌↔◌}
 use Rattle.std.proofs.lemmas.Bool.{cases_lt}
-use Rattle.lpm_cells.specs.Table.{Words, entry_at}
+use Rattle.lpm_cells.specs.Words.{Words, entry_at}
 use Rattle.lpm_groups.specs.declared.GroupState.{GroupState}
 use Rattle.lpm_groups.specs.States.{linked_count}
 use Rattle.lpm_limits.specs.declared.config.Config.{Config}
@@ -14,8 +14,7 @@ use Rattle.lpm_update.specs.Represents.{Represents, IsBegun, TurnsInto}
 use Rattle.lpm_update.specs.Tied.{IsTied}
 use Rattle.lpm_update.specs.Update.{FillsFor, entry_after, group_held}
 use Rattle.lpm_update.proofs.Promises.{best_hop, linked_deep, tied_same}
-use Rattle.fib_model.specs.State.{State, Transitions, IsExhausted, HasTokens}
-use Rattle.fib_model.specs.Reclaiming.{Unlinks}
+use Rattle.fib_model.specs.State.{State, Transitions, IsExhausted, HasTokens, Unlinks}
 use Rattle.fib_model.specs.Outcomes.{groups_in_use, Shrinks}
 use Rattle.lpm_trace.specs.declared.step.RuleChange.{RuleChange}
 use Rattle.lpm_trace.specs.declared.step.WriterStep.{WriterStep}
@@ -26,16 +25,14 @@ use Rattle.lpm_writer.specs.declared.pool.GroupPool.{GroupPool}
 use Rattle.lpm_writer.specs.Waiting.{IsFreed, IsQueued, tokens_of}
 use Rattle.lpm_writer.specs.Traced.{by_writer}
 use Rattle.lpm_writer.specs.Matching.{HasNothingDue, SameTables, OnlyChecks, GroupsMatchSteps}
-use Rattle.lpm_writer.specs.Stores.{StoresOnce}
+use Rattle.lpm_writer.specs.Steps.{StoresOnce}
 use Rattle.lpm_writer.specs.Taking.{MayTake}
 use Rattle.lpm_writer.specs.Making.{group_to_fill, unless_linked, IsTakenBy, answer_after, MayMake, HasMade}
-use Rattle.lpm_writer.specs.Changing.{IsBetween, Changes}
-use Rattle.lpm_writer.specs.Resting.{IsResting, IsDue, state_of}
-use Rattle.lpm_writer.proofs.Memories.{AsMemory}
+use Rattle.lpm_writer.specs.Resting.{IsBetween, Changes, IsResting, IsDue, state_of}
+use Rattle.lpm_writer.proofs.UpdateRuns.{AsMemory, fit}
 use Rattle.lpm_writer.proofs.Checks.{quiet_same}
-use Rattle.lpm_writer.proofs.Once.{StoresNothing}
+use Rattle.lpm_writer.proofs.StepsAlone.{StoresNothing}
 use Rattle.lpm_writer.proofs.WholeUpdates.{MayChange, may_open, after_open, after_close}
-use Rattle.lpm_writer.proofs.UpdateRuns.{fit}
 
 -- a change that fills no group
 pub none_fills : (u : Plan) (block : ℕ) (F : List ℕ) → FillsFor u None block → (group_to_fill u F ≡ None) × IsTakenBy u None

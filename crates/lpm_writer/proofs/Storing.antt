@@ -7,12 +7,11 @@ use Rattle.std.proofs.lemmas.List.Elements.{All-cons}
 use Rattle.std.proofs.lemmas.Option.{slice_get_within}
 use Rattle.lpm_cells.specs.declared.entry.Entry.{Entry}
 use Rattle.lpm_cells.specs.declared.entry.Entry.TheVariants.{Miss, Hop, Group}
-use Rattle.lpm_cells.specs.Words.{IsLast, entry_in, group_in}
-use Rattle.lpm_cells.specs.Table.{Words, with_first, with_second}
+use Rattle.lpm_cells.specs.Words.{IsLast, entry_in, group_in, Words, with_first, with_second}
 use Rattle.lpm_groups.specs.declared.GroupState.{GroupState}
 use Rattle.lpm_groups.specs.declared.GroupState.TheVariants.{Free, Linked as LinkedTo, Limbo}
 use Rattle.lpm_groups.specs.States.{IsLinkedTo, IsFreeAt}
-use Rattle.lpm_groups.proofs.Writes.{slice_get-set_same, slice_get-set_other}
+use Rattle.lpm_groups.proofs.Marking.{slice_get-set_same, slice_get-set_other}
 use Rattle.defer_queue.specs.Retired.{IsAbsent}
 use Rattle.lpm_update.specs.declared.Did.{Did}
 use Rattle.lpm_update.specs.declared.link_group.LinkGroup.{LinkGroup}
@@ -20,9 +19,8 @@ use Rattle.lpm_update.specs.declared.rewrite_range.RewriteRange.{RewriteRange}
 use Rattle.lpm_update.specs.declared.unlink_group.UnlinkGroup.{UnlinkGroup}
 use Rattle.lpm_update.specs.declared.update.Plan.{Plan}
 use Rattle.lpm_update.specs.declared.update.Plan.TheVariants.{Range, Link, Unlink, Flush}
-use Rattle.lpm_update.specs.Laws.{StoreMoves}
+use Rattle.lpm_update.specs.Laws.{StoreMoves, HasCome}
 use Rattle.lpm_update.specs.Linked.{IsLinkTo, group_at}
-use Rattle.lpm_update.specs.Runs.{HasCome}
 use Rattle.lpm_update.specs.Step.{Steps}
 use Rattle.lpm_update.specs.Tied.{IsTied}
 use Rattle.lpm_update.specs.Update.{IsUnderWay, IsNextFirst, IsNextSecond, IsNextUnlink, IsOnward, IsOver, HasGroups, HasPassedFirst, HasPassedSecond, group_held}
@@ -35,17 +33,16 @@ use Rattle.lpm_trace.specs.declared.step.WriterStep.TheVariants.{StoreFirst, Sto
 use Rattle.lpm_trace.specs.States.{InitialState, TableState, Status, Unused, Linked, Retired, state_after, with_at, with_linked, with_retired, IsFree, IsAnswer, answer, updates_done_in, updates_begun_in, done_at, begun_at}
 use Rattle.lpm_trace.specs.Progress.{HasLinkedOwn, next_after_store, taken_with}
 use Rattle.lpm_trace.specs.Writer.{progress_after}
-use Rattle.lpm_trace.proofs.Basics.{with_at-same, with_at-other}
+use Rattle.lpm_trace.proofs.Versions.{with_at-same, with_at-other}
 use Rattle.lpm_writer.specs.declared.pool.GroupPool.{GroupPool}
 use Rattle.lpm_writer.specs.Waiting.{AreWaiting}
 use Rattle.lpm_writer.specs.Matching.{AreAfter, AreRising, AreRetired, AreBelow, IsAmong, GroupsMatchState, HasUnlinked, HasNothingDue, SameTables, GroupsMatchSteps}
-use Rattle.lpm_writer.specs.Stores.{since_opened}
+use Rattle.lpm_writer.specs.Steps.{since_opened}
 use Rattle.lpm_writer.specs.Making.{group_to_fill, unless_linked, IsTakenBy, HasPassedStore, HasPassedStores, IsMaking, answer_after}
 use Rattle.lpm_writer.proofs.LimboItems.{absent_other, linked_limbo}
-use Rattle.lpm_writer.proofs.Keeping.{kept_quiet}
-use Rattle.lpm_writer.proofs.NextStores.{none_some, filling_same, second_kind, IsFirstKind}
-use Rattle.lpm_writer.proofs.Answering.{turned_on}
-use Rattle.lpm_writer.proofs.Once.{IsStoreOf, StoresNothing, passed_on, new_word}
+use Rattle.lpm_writer.proofs.Reclaims.{kept_quiet}
+use Rattle.lpm_writer.proofs.NextStores.{none_some, filling_same, second_kind, IsFirstKind, turned_on}
+use Rattle.lpm_writer.proofs.StepsAlone.{IsStoreOf, StoresNothing, passed_on, new_word}
 
 -- ---- the group that is filled
 

@@ -9,12 +9,10 @@ use Rattle.std.specs.Cmp.{tied_itself}
 use Rattle.lpm_bits.specs.Network.{Network, Covers}
 use Rattle.lpm_cells.specs.declared.entry.Entry.{Entry}
 use Rattle.lpm_cells.specs.declared.entry.Entry.TheVariants.{Miss, Hop, Group}
-use Rattle.lpm_cells.specs.Words.{entry_in}
+use Rattle.lpm_cells.specs.Words.{entry_in, Words, entry_at, last_entry}
 use Rattle.lpm_limits.specs.declared.config.Config.{Config}
-use Rattle.lpm_cells.specs.Table.{Words, entry_at, last_entry}
 use Rattle.lpm_rules.specs.RuleMap.{RuleMap, RuleList, AllNetworks, network_cmp}
-use Rattle.lpm_rules.proofs.Changes.{insert_same}
-use Rattle.lpm_rules.proofs.Views.{networks_total}
+use Rattle.lpm_rules.proofs.Views.{insert_same, networks_total}
 use Rattle.lpm_update.specs.Best.{IsBest}
 use Rattle.lpm_update.specs.Represents.{Represents}
 use Rattle.lpm_update.proofs.Promises.{best_hop}
@@ -24,10 +22,10 @@ use Rattle.lpm_trace.specs.declared.step.WriterStep.{WriterStep}
 use Rattle.lpm_trace.specs.declared.step.WriterStep.TheVariants.{BeginUpdate, EndUpdate}
 use Rattle.lpm_trace.specs.States.{InitialState, TableState, state_after, answer, IsAnswer, IsChange, updates_begun_in, rules_by}
 use Rattle.lpm_trace.specs.Writer.{MayStep, IsWritten}
-use Rattle.lpm_trace.proofs.Basics.{with_at-same}
+use Rattle.lpm_trace.proofs.Versions.{with_at-same}
 use Rattle.lpm_writer.specs.declared.pool.GroupPool.{GroupPool}
 use Rattle.lpm_writer.specs.Resting.{IsResting}
-use Rattle.lpm_writer.proofs.Keeping.{kept_quiet}
+use Rattle.lpm_writer.proofs.Reclaims.{kept_quiet}
 use Rattle.lpm_writer.proofs.UpdateRuns.{fit}
 use Rattle.lpm_writer.proofs.WholeUpdates.{even_begun, even_same}
 

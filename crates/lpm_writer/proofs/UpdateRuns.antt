@@ -1,9 +1,13 @@
--- An update that runs over a memory, from store to store.
-use Rattle.std.proofs.Common.{arith, ◌≡◌, ℕ, suc, ◌+◌, ◌-◌, ◌^◌, ◌<◌, refl, sym, ap, subst, ◌∙◌, List, ◌∷◌, Option, None, add-one}
+-- A memory, as proofs take it.
+use Rattle.std.proofs.Common.{◌≡◌, ℕ, List, ◌∷◌, arith, suc, ◌+◌, ◌-◌, ◌^◌, ◌<◌, refl, sym, ap, subst, ◌∙◌, Option, None, add-one}
+use Rattle.lpm_trace.specs.declared.step.WriterStep.{WriterStep}
+use Rattle.lpm_trace.specs.declared.step.WriterStep.TheVariants.{StoreFirst, StoreSecond}
+use Rattle.lpm_trace.specs.States.{InitialState, state_after, TableState, first_entry}
+use Rattle.lpm_trace.specs.Writer.{IsWritten, MayStep, progress_after}
+use Rattle.lpm_writer.specs.Plain.{MayBeNext}
 use Rattle.lpm_cells.specs.declared.entry.Entry.{Entry}
 use Rattle.lpm_cells.specs.declared.entry.Entry.TheVariants.{Miss, Hop, Group}
-use Rattle.lpm_cells.specs.Words.{IsLast, group_in}
-use Rattle.lpm_cells.specs.Table.{Words, with_first, with_second}
+use Rattle.lpm_cells.specs.Words.{IsLast, group_in, Words, with_first, with_second}
 use Rattle.lpm_groups.specs.States.{IsLinkedTo, linked_count}
 use Rattle.lpm_limits.specs.declared.config.Config.{Config}
 use Rattle.lpm_update.specs.declared.Did.{Did}
@@ -13,26 +17,36 @@ use Rattle.lpm_update.specs.Step.{Steps}
 use Rattle.lpm_update.specs.Tied.{IsTied}
 use Rattle.lpm_update.specs.Update.{IsNextFirst, IsNextSecond, IsNextUnlink, IsOver, group_held}
 use Rattle.lpm_update.specs.Linked.{group_at}
-use Rattle.lpm_update.specs.Runs.{HasCome}
+use Rattle.lpm_update.specs.Laws.{HasCome}
 use Rattle.lpm_update.proofs.Groups.{last_none}
-use Rattle.lpm_update.proofs.Runs.{run_goes_on}
-use Rattle.lpm_update.proofs.Next.{next_store, next_first}
-use Rattle.lpm_trace.specs.declared.step.WriterStep.{WriterStep}
-use Rattle.lpm_trace.specs.declared.step.WriterStep.TheVariants.{StoreFirst, StoreSecond}
-use Rattle.lpm_trace.specs.States.{InitialState, TableState, state_after, first_entry}
+use Rattle.lpm_update.proofs.Runs.{run_goes_on, next_store, next_first}
 use Rattle.lpm_trace.specs.Progress.{Nothing, next_after_store}
-use Rattle.lpm_trace.specs.Writer.{progress_after, MayStep}
 use Rattle.lpm_writer.specs.declared.pool.GroupPool.{GroupPool}
-use Rattle.fib_model.specs.Reclaiming.{Unlinks}
+use Rattle.fib_model.specs.State.{Unlinks}
 use Rattle.lpm_writer.specs.Waiting.{AreWaiting, tokens_of}
 use Rattle.lpm_writer.specs.Traced.{Traced, UnlinksNone, Retires, by_writer}
 use Rattle.lpm_writer.specs.Matching.{HasUnlinked, HasRetired, HasNothingDue, GroupsMatchSteps}
 use Rattle.lpm_writer.specs.Making.{group_to_fill, HasWidths, IsMaking, MayMake, HasMade, HasUnlinkedSome}
-use Rattle.lpm_writer.proofs.Memories.{AsMemory}
-use Rattle.lpm_writer.proofs.Once.{store_first, store_unlink, store_second, after_retire}
-use Rattle.lpm_writer.proofs.NextStores.{filling_same, first_kind, unlink_kind}
-use Rattle.lpm_writer.proofs.Answering.{may_store_first, may_store_second, may_unlink, may_close}
+use Rattle.lpm_writer.proofs.StepsAlone.{store_first, store_unlink, store_second, after_retire}
+use Rattle.lpm_writer.proofs.NextStores.{filling_same, first_kind, unlink_kind, may_store_first, may_store_second, may_unlink, may_close}
 use Rattle.lpm_writer.proofs.Storing.{none_filling, over_filling, taken_first, taken_unlink, unlink_filling, taken_by_second, has_linked, keeps_first, keeps_second, has_unlinked, making_first, making_second, making_quiet}
+use Rattle.lpm_cells.specs.declared.Cells as cells
+use Rattle.lpm_writer.specs.declared.memory.Memory as memory
+
+-- what a type says as a memory, and the laws that `Memory` asks of it
+pub record AsMemory (M : Type 0) : Type 1 where
+  pub cells : cells.Ghosts M
+  pub says : memory.Ghosts M
+  pub follows : (m : M) (s : WriterStep) (z : M) (c : InitialState) (steps : List WriterStep) → says.does m s z → says.did m c steps → MayStep c steps s → says.did z c (s ∷ steps)
+  pub shows : (m : M) (c : InitialState) (steps : List WriterStep) → says.did m c steps
+      → (cells.words m ≡ (state_after c steps).words) × (says.newest m ≡ (state_after c steps).token) × (says.worker_count m ≡ c.workers)
+  pub written : (m : M) (c : InitialState) (steps : List WriterStep) → says.did m c steps → IsWritten c steps
+  pub may_first : (m : M) (i w : ℕ) → MayBeNext says.did m (StoreFirst i w) → cells.may_set_first m i w
+  pub may_second : (m : M) (i w : ℕ) → MayBeNext says.did m (StoreSecond i w) → cells.may_set_second m i w
+  pub first_stored : (m : M) (i w : ℕ) (z : M) → cells.sets_first m i w z → says.does m (StoreFirst i w) z
+  pub second_stored : (m : M) (i w : ℕ) (z : M) → cells.sets_second m i w z → says.does m (StoreSecond i w) z
+
+-- An update that runs over a memory, from store to store.
 
 due_last : (e : Entry) → IsLast e → next_after_store e ≡ Nothing
 due_last Miss h = refl

@@ -12,13 +12,13 @@ use Rattle.lpm_trace.specs.declared.step.WriterStep.{WriterStep}
 use Rattle.lpm_trace.specs.declared.step.WriterStep.TheVariants.{BeginUpdate, EndUpdate}
 use Rattle.lpm_trace.specs.States.{InitialState, TableState, state_after, addresses, answer, IsAnswer, IsChange, updates_done_in, updates_begun_in, done_at, rules_by}
 use Rattle.lpm_trace.specs.Writer.{MayStep}
-use Rattle.lpm_trace.proofs.Basics.{with_at-same, with_at-other}
+use Rattle.lpm_trace.proofs.Versions.{with_at-same, with_at-other}
 use Rattle.lpm_writer.specs.declared.pool.GroupPool.{GroupPool}
 use Rattle.lpm_writer.specs.Traced.{by_writer}
 use Rattle.lpm_writer.specs.Matching.{GroupsMatchSteps}
 use Rattle.lpm_writer.specs.Making.{HasPassedStore, HasWidths, IsTakenBy, group_to_fill, answer_after, MayMake, HasMade}
-use Rattle.lpm_writer.specs.Changing.{IsBetween, Changes}
-use Rattle.lpm_writer.proofs.Keeping.{kept_quiet}
+use Rattle.lpm_writer.specs.Resting.{IsBetween, Changes}
+use Rattle.lpm_writer.proofs.Reclaims.{kept_quiet}
 
 -- the update u by this change of the rules may be made
 pub record MayChange (first second : ℕ) (c : InitialState) (steps : List WriterStep) (u : Plan)

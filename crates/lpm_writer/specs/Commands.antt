@@ -1,11 +1,19 @@
 -- This layer's own: what a command of a writer needs, and what it leaves (this project's).
-use Rattle.std.specs.Prelude.{ℕ, List}
+use Rattle.std.specs.Prelude.{ℕ, List, suc, ◌≡◌, ◌<◌, Some, ◌++◌, Option}
 use Rattle.lpm_trace.specs.declared.step.WriterStep.{WriterStep}
-use Rattle.lpm_trace.specs.States.{InitialState}
+use Rattle.lpm_trace.specs.States.{InitialState, state_after}
 use Rattle.fib_model.specs.State.{State}
 use Rattle.lpm_writer.specs.declared.control.ControlState.{ControlState}
 use Rattle.lpm_writer.specs.Traced.{Traced}
 use Rattle.lpm_writer.specs.Resting.{IsResting, state_of}
+use Rattle.lpm_limits.specs.declared.config.Config.{Config}
+use Rattle.lpm_rules.specs.RuleMap.{RuleList}
+use Rattle.lpm_trace.specs.Progress.{Check, next_asked}
+use Rattle.lpm_trace.specs.Writer.{progress_after}
+use Rattle.lpm_writer.specs.declared.pool.GroupPool.{GroupPool}
+use Rattle.lpm_writer.specs.Matching.{HasNothingDue, SameTables, GroupsMatchSteps, MayReclaim, OnlyChecks}
+use Rattle.lpm_writer.specs.Steps.{StoresOnce}
+use Rattle.lpm_writer.specs.Waiting.{tokens_of}
 
 -- the writer rests with this control state
 abbrev pub Rests : {first second : ℕ} → InitialState → List WriterStep → ControlState first second → Type 0
@@ -25,3 +33,46 @@ Commands did old m new z P = (c : InitialState) (steps : List WriterStep) → di
     → (later : List WriterStep) × did z c later × Rests c later new
     × P c (state_of old.rules.rules (m, steps) old.pool old.versions)
     (state_of new.rules.rules (z, later) new.pool new.versions)
+
+-- This layer's own: a control state whose token was started, before a check of it has passed (DPDK Programmer's
+-- Guide, "RCU Library", and `rte_rcu_qsbr_synchronize` of its API).
+
+-- a check of the newest token is due, from worker 0 on; where there are no workers nothing is due
+pub record IsAwaited (c : InitialState) (steps : List WriterStep) : Type 0 where
+  pub alone : c.workers ≡ 0 → HasNothingDue c steps
+  pub next_step : 0 < c.workers → (progress_after c steps).next_step ≡ Check (state_after c steps).token
+  pub awaited : 0 < c.workers → (progress_after c steps).awaited ≡ Some (state_after c steps).token
+  pub next : next_asked (state_after c steps) (state_after c steps).token ≡ 0
+
+-- The control state rested after some steps. After these a token was started besides, and no check of it has
+-- passed; all else is as it was.
+pub record IsWaiting (first second : ℕ) (c : InitialState) (steps : List WriterStep) (config : Config)
+    (rules : RuleList) (pool : GroupPool) (begun : ℕ) : Type 0 where
+  pub older : List WriterStep
+  pub rested : IsResting first second c older config rules pool begun
+  pub quiet : SameTables (state_after c older) (state_after c steps)
+  pub started : (state_after c steps).token ≡ suc (state_after c older).token
+  pub passed : (state_after c steps).passed ≡ (state_after c older).passed
+  pub unpassed : (state_after c steps).passed < (state_after c steps).token
+  pub due : IsAwaited c steps
+  pub once : StoresOnce steps
+
+-- This layer's own: groups in limbo that are freed, by the writer's steps (this project's).
+
+-- after some steps that may have led to the memory, as `did` tells them, a check may begin; the groups are what
+-- those say, where others may wait behind the queue, and one may be held
+abbrev pub MayFree : {M : Type 0} → (M → InitialState → List WriterStep → Type 0) → M → GroupPool → Type 0
+MayFree did m pool = (c : InitialState) × (steps : List WriterStep) × (tail : List (ℕ × ℕ)) × (held : Option ℕ)
+    × did m c steps × GroupsMatchSteps c steps pool.groups (pool.queue.items ++ tail) pool.passed held
+    × MayReclaim c steps pool.queue.items
+
+-- whatever steps may have led to the memory m, checks alone were made up to z; P is what came of the tokens that
+-- wait
+abbrev pub FreesBy : {M : Type 0} → (M → InitialState → List WriterStep → Type 0) → M → GroupPool → M → GroupPool
+    → (InitialState → Traced M → List ℕ → List ℕ → Traced M → Type 0) → Type 0
+FreesBy did m old z new P = (c : InitialState) (steps : List WriterStep) (tail : List (ℕ × ℕ)) (held : Option ℕ)
+    → did m c steps → GroupsMatchSteps c steps old.groups (old.queue.items ++ tail) old.passed held
+    → MayReclaim c steps old.queue.items
+    → (later : List WriterStep) × did z c later × OnlyChecks c steps later
+    × GroupsMatchSteps c later new.groups (new.queue.items ++ tail) new.passed held
+    × P c (m, steps) (tokens_of old.queue.items) (tokens_of new.queue.items) (z, later)

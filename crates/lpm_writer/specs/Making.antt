@@ -1,14 +1,13 @@
 -- This layer's own: an update that runs, by the words and by the writer's steps (this project's).
 use Rattle.std.specs.Prelude.{ℕ, ◌≡◌, ◌+◌, ◌-◌, ◌<◌, ◌⊎◌, true, List, Option, Some, None}
 use Rattle.std.specs.List.{All}
-use Rattle.lpm_cells.specs.Words.{hop_in}
-use Rattle.lpm_cells.specs.Table.{Words, entry_at}
+use Rattle.lpm_cells.specs.Words.{hop_in, Words, entry_at}
 use Rattle.lpm_update.specs.declared.Did.{Did}
 use Rattle.lpm_update.specs.declared.Did.TheVariants.{First, Second, Done}
 use Rattle.lpm_update.specs.declared.update.Plan.{Plan}
 use Rattle.lpm_update.specs.declared.update.Plan.TheVariants.{Range, Link, Unlink, Flush}
 use Rattle.lpm_update.specs.Linked.{group_at}
-use Rattle.lpm_update.specs.Runs.{HasCome}
+use Rattle.lpm_update.specs.Laws.{HasCome}
 use Rattle.lpm_update.specs.Step.{HasPassed}
 use Rattle.lpm_update.specs.Update.{entry_after}
 use Rattle.lpm_groups.specs.States.{linked_count}
@@ -18,11 +17,11 @@ use Rattle.lpm_trace.specs.declared.step.WriterStep.TheVariants.{StoreFirst, Sto
 use Rattle.lpm_trace.specs.States.{InitialState, state_after, addresses, answer, IsAnswer, IsUpdating, updates_done_in, updates_begun_in}
 use Rattle.lpm_trace.specs.Writer.{progress_after, MayStep}
 use Rattle.lpm_writer.specs.declared.pool.GroupPool.{GroupPool}
-use Rattle.fib_model.specs.Reclaiming.{Unlinks}
+use Rattle.fib_model.specs.State.{Unlinks}
 use Rattle.lpm_writer.specs.Waiting.{tokens_of}
 use Rattle.lpm_writer.specs.Traced.{Traced, Stores, by_writer}
 use Rattle.lpm_writer.specs.Matching.{HasNothingDue, GroupsMatchSteps}
-use Rattle.lpm_writer.specs.Stores.{since_opened, StoresOnce}
+use Rattle.lpm_writer.specs.Steps.{since_opened, StoresOnce}
 
 -- the group, where the block has none
 abbrev pub unless_linked : Option ℕ → ℕ → Option ℕ

@@ -1,11 +1,18 @@
--- Meaning: the memory of one thread, and the steps that may have led to it (this project's).
-use Rattle.std.specs.Prelude.{ℕ, ◌≡◌, ◌+◌, ⊤, List, length, slice_index}
-use Rattle.lpm_cells.specs.Table.{Words, with_first, with_second}
-use Rattle.qsbr.specs.Registry.{Registry}
+-- Meaning: which step the writer of a memory may make next (this project's).
+use Rattle.std.specs.Prelude.{List, ℕ, ◌≡◌, ◌+◌, ⊤, length, slice_index}
 use Rattle.lpm_trace.specs.declared.step.WriterStep.{WriterStep}
-use Rattle.lpm_trace.specs.declared.step.WriterStep.TheVariants.{StoreFirst, StoreSecond, BumpToken, LoadCounter}
 use Rattle.lpm_trace.specs.States.{InitialState, state_after}
-use Rattle.lpm_trace.specs.Writer.{IsWritten}
+use Rattle.lpm_trace.specs.Writer.{MayStep, IsWritten}
+use Rattle.lpm_cells.specs.Words.{Words, with_first, with_second}
+use Rattle.qsbr.specs.Counters.{Registry}
+use Rattle.lpm_trace.specs.declared.step.WriterStep.TheVariants.{StoreFirst, StoreSecond, BumpToken, LoadCounter}
+
+-- from some opening, after some list of the writer's steps that may have led to the memory, the step
+-- may come next
+abbrev pub MayBeNext : {M : Type 0} → (M → InitialState → List WriterStep → Type 0) → M → WriterStep → Type 0
+MayBeNext did m s = (c : InitialState) × (steps : List WriterStep) × did m c steps × MayStep c steps s
+
+-- Meaning: the memory of one thread, and the steps that may have led to it (this project's).
 
 -- the words and the token are those that these steps leave, each of which might come
 pub record PlainDid (first second : ℕ) (t : Words) (r : Registry) (c : InitialState)

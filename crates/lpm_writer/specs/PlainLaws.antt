@@ -1,8 +1,7 @@
 -- Proofs of what the trait asks of a memory: what one more step leaves of the memory of one thread.
 use Rattle.std.proofs.Common.{ℕ, ◌≡◌, ◌+◌, List, ◌∷◌, length, refl, ap, sym, subst, ◌∙◌, suc, add-one}
-use Rattle.lpm_cells.specs.Table.{Words, IsFirstWord, with_first, with_second}
-use Rattle.lpm_cells.specs.Words.{IsLastWord}
-use Rattle.qsbr.specs.Registry.{Registry}
+use Rattle.lpm_cells.specs.Words.{Words, IsFirstWord, with_first, with_second, IsLastWord}
+use Rattle.qsbr.specs.Counters.{Registry}
 use Rattle.lpm_trace.specs.declared.step.WriterStep.{WriterStep}
 use Rattle.lpm_trace.specs.declared.step.WriterStep.TheVariants.{StoreFirst, StoreSecond, BeginUpdate, EndUpdate, BumpToken, LoadCounter}
 use Rattle.lpm_trace.specs.States.{InitialState, state_after}

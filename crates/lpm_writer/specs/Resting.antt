@@ -1,24 +1,61 @@
--- Meaning: what a writer keeps between its calls (this project's).
-use Rattle.std.specs.Prelude.{ℕ, ◌≡◌, ◌+◌, ◌<◌, ◌≤◌, ◌^◌, List, length, None}
+-- Meaning: a whole update, from the step that opens it to the one that closes it (this
+-- project's).
+use Rattle.std.specs.Prelude.{ℕ, ◌≡◌, ◌-◌, ◌%◌, ◌<◌, false, List, ◌*◌, ◌^◌, ◌+◌, ◌≤◌, length, None}
+use Rattle.lpm_groups.specs.States.{linked_count}
+use Rattle.lpm_limits.specs.declared.config.Config.{Config}
+use Rattle.fib_model.specs.State.{Transitions, State, Unlinks}
+use Rattle.lpm_trace.specs.declared.step.WriterStep.{WriterStep}
+use Rattle.lpm_trace.specs.States.{InitialState, state_after, addresses, Unused, IsChange, rules_by, updates_done_in}
+use Rattle.lpm_writer.specs.declared.pool.GroupPool.{GroupPool}
+use Rattle.lpm_writer.specs.Waiting.{tokens_of, IsQueued}
+use Rattle.lpm_writer.specs.Matching.{HasNothingDue, GroupsMatchSteps, OnlyChecks}
+use Rattle.lpm_writer.specs.Steps.{StoresOnce}
+use Rattle.std.specs.FinMap.{empty}
+use Rattle.lpm_update.specs.Laws.{blank_words}
 use Rattle.lpm_bits.specs.Widths.{IsShape}
 use Rattle.lpm_limits.specs.Limits.{IsConfig}
-use Rattle.lpm_limits.specs.declared.config.Config.{Config}
 use Rattle.lpm_rules.specs.RuleMap.{RuleMap, RuleList}
 use Rattle.lpm_update.specs.Linked.{group_at}
 use Rattle.lpm_update.specs.declared.update.Plan.{Plan}
 use Rattle.lpm_update.specs.Represents.{IsBegun, Represents, TurnsInto}
 use Rattle.lpm_update.specs.Tied.{IsTied, HasGroupRoom}
 use Rattle.lpm_update.specs.Update.{group_held}
-use Rattle.fib_model.specs.State.{State}
 use Rattle.lpm_trace.specs.declared.step.RuleChange.{RuleChange}
-use Rattle.lpm_trace.specs.declared.step.WriterStep.{WriterStep}
-use Rattle.lpm_trace.specs.States.{InitialState, IsChange, state_after, rules_by, updates_done_in}
-use Rattle.lpm_writer.specs.declared.pool.GroupPool.{GroupPool}
-use Rattle.lpm_writer.specs.Waiting.{IsQueued, tokens_of}
-use Rattle.lpm_writer.specs.Matching.{GroupsMatchSteps, OnlyChecks}
-use Rattle.lpm_writer.specs.Stores.{StoresOnce}
 use Rattle.lpm_writer.specs.Making.{HasWidths, IsTakenBy, group_to_fill}
-use Rattle.lpm_writer.specs.Changing.{IsBetween}
+
+-- no update runs, nothing is due of the writer, no address has turned, and in none of the updates that
+-- are done was a word stored twice
+pub record IsBetween (c : InitialState) (steps : List WriterStep) : Type 0 where
+  pub idle : HasNothingDue c steps
+  pub even : (state_after c steps).sequence % 2 ≡ 0
+  pub clear : (a : ℕ) → a < addresses c → (state_after c steps).answer_changed a ≡ false
+  pub once : StoresOnce steps
+
+-- an update began, groups were unlinked one after another, and it ended
+pub record Changes {X : Type 0} (t : Transitions X) (config : Config) (x : X) (old : GroupPool) (z : X)
+    (new : GroupPool) : Type 0 where
+  pub opened : X
+  pub last : X
+  pub begins : t.begins x opened
+  pub unlinks : Unlinks t config (linked_count old.groups - linked_count new.groups)
+      opened (tokens_of old.queue.items) last (tokens_of new.queue.items)
+  pub ends : t.ends last z
+
+-- Meaning: what a table is opened with (this project's).
+
+-- no rules, words that are all misses, and groups that were never linked
+abbrev pub blank_state : ℕ → ℕ → Config → InitialState
+blank_state first second config = record {
+  first = first;
+  second = second;
+  workers = config.workers;
+  token = config.first_token;
+  words = blank_words (2 ^ first) (config.groups * 2 ^ second);
+  rules = empty;
+  groups = λ g. Unused;
+}
+
+-- Meaning: what a writer keeps between its calls (this project's).
 
 -- what outcomes depend on, by what a writer keeps
 abbrev pub state_of : {X : Type 0} → RuleMap → X → GroupPool → ℕ → State X

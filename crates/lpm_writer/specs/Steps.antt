@@ -1,14 +1,14 @@
 -- Meaning: the parts of a change, by the writer's steps alone, of which the newest stands first (DPDK
 -- Programmer's Guide, "RCU Library": a check asks one reader after another, and a synchronize checks the token
 -- that it starts until each reader has let it pass; the order within an update is this project's).
-use Rattle.std.specs.Prelude.{ℕ, zero, suc, ◌≡◌, ◌<◌, ◌≤◌, ◌⊎◌, true, List, ◌∷◌, ◌++◌, Result, Ok, Err}
+use Rattle.std.specs.Prelude.{ℕ, zero, suc, ◌≡◌, ◌<◌, ◌≤◌, ◌⊎◌, true, List, ◌∷◌, ◌++◌, Result, Ok, Err, ⊤, []}
 use Rattle.std.specs.List.{All}
 use Rattle.lpm_limits.specs.declared.busy.Busy.{Busy}
 use Rattle.lpm_trace.specs.declared.step.RuleChange.{RuleChange}
 use Rattle.lpm_trace.specs.declared.step.WriterStep.{WriterStep}
 use Rattle.lpm_trace.specs.declared.step.WriterStep.TheVariants.{StoreFirst, StoreSecond, BeginUpdate, EndUpdate, BumpToken, LoadCounter}
 use Rattle.lpm_trace.specs.States.{lets_pass}
-use Rattle.lpm_trace.specs.Counts.{token_after, passed_after}
+use Rattle.lpm_trace.specs.Writer.{token_after, passed_after}
 use Rattle.fib_model.specs.State.{Transitions}
 
 -- the counters of the workers below n were loaded, in a check of the token, and each let it pass
@@ -62,3 +62,23 @@ pub record Synchronizes (workers start : ℕ) (x z : List WriterStep) : Type 0 w
   pub stops : ℕ
   pub stopped : AreStopped workers stops (BumpToken ∷ x) (token_after start (BumpToken ∷ x)) last
   pub passes : Checks workers last (token_after start (BumpToken ∷ x)) (Ok tt) z
+
+-- Meaning: in no update is a word stored twice, by the writer's steps (this project's).
+
+-- both steps store the same word of a table
+abbrev pub StoreSameWord : WriterStep → WriterStep → Type 0
+StoreSameWord (StoreFirst i x) (StoreFirst k y) = i ≡ k
+StoreSameWord (StoreSecond i x) (StoreSecond k y) = i ≡ k
+StoreSameWord s t = ⊥
+
+-- the steps since the newest update was opened, the newest first
+abbrev pub since_opened : List WriterStep → List WriterStep
+since_opened [] = []
+since_opened (BeginUpdate change ∷ steps) = []
+since_opened (s ∷ steps) = s ∷ since_opened steps
+
+-- in no update is a word stored twice
+abbrev pub StoresOnce : List WriterStep → Type 0
+StoresOnce [] = ⊤
+StoresOnce (s ∷ steps) =
+    All (λ earlier. ¬ StoreSameWord s earlier) (since_opened steps) × StoresOnce steps

@@ -8,8 +8,7 @@ use Rattle.lpm_trace.specs.declared.step.RuleChange.{RuleChange}
 use Rattle.lpm_trace.specs.declared.step.WriterStep.{WriterStep}
 use Rattle.lpm_trace.specs.declared.step.WriterStep.TheVariants.{StoreFirst, StoreSecond, BeginUpdate, EndUpdate, BumpToken, LoadCounter}
 use Rattle.lpm_trace.specs.States.{InitialState, TableState, state_after, lets_pass, first_entry}
-use Rattle.fib_model.specs.State.{Transitions}
-use Rattle.fib_model.specs.Reclaiming.{MakesRoom}
+use Rattle.fib_model.specs.State.{Transitions, MakesRoom}
 
 -- a memory, and the writer's steps that led to it, the newest first
 abbrev pub Traced : Type 0 → Type 0

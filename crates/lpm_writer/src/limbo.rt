@@ -5,11 +5,11 @@ ghost use Rattle.lpm_groups.specs.States.{linked_count, IsLinkedTo};
 ghost use Rattle.lpm_update.specs.Tied.{SameLinksBut};
 ghost use Rattle.lpm_trace.specs.declared.step.WriterStep.{WriterStep};
 ghost use Rattle.lpm_trace.specs.States.{InitialState};
-ghost use Rattle.fib_model.specs.Reclaiming.{MakesRoom, Reclaims};
+ghost use Rattle.fib_model.specs.State.{MakesRoom, Reclaims};
 ghost use Rattle.lpm_writer.specs.Waiting.{AreWaiting, IsFreed, IsQueued, IsTaken, tokens_of};
 ghost use Rattle.lpm_writer.specs.Traced.{by_writer, Retires};
 ghost use Rattle.lpm_writer.specs.Matching.{HasUnlinked, HasRetired, OnlyChecks, GroupsMatchSteps};
-ghost use Rattle.lpm_writer.specs.Freeing.{FreesBy, MayFree};
+ghost use Rattle.lpm_writer.specs.Commands.{FreesBy, MayFree};
 ghost use Rattle.lpm_writer.specs.Taking.{LinksLeast, MayTakeAt, Takes, TakesAt, taken_by};
 
 use super::GroupPool;

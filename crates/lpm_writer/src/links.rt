@@ -2,7 +2,7 @@
 
 ghost use Rattle.std.specs.Prelude.{◌≡◌, ℕ, ◌/◌, ◌^◌, ◌↔◌, IfOk, OnErr, IsTrue, IsSome, length};
 ghost use Rattle.lpm_bits.specs.Widths.{IsShape};
-ghost use Rattle.lpm_cells.specs.Table.{IsWords};
+ghost use Rattle.lpm_cells.specs.Words.{IsWords};
 ghost use Rattle.lpm_update.specs.Linked.{group_at};
 ghost use Rattle.lpm_writer.specs.Waiting.{IsQueued, IsTaken};
 ghost use Rattle.lpm_writer.specs.Traced.{by_writer};

@@ -9,7 +9,7 @@ ghost use Rattle.lpm_trace.specs.declared.step.WriterStep.{WriterStep};
 ghost use Rattle.lpm_trace.specs.declared.step.WriterStep.TheVariants.{StoreFirst, StoreSecond, BeginUpdate, EndUpdate, BumpToken, LoadCounter};
 ghost use Rattle.lpm_trace.specs.States.{InitialState, state_after, updates_done_in};
 ghost use Rattle.lpm_trace.specs.Writer.{IsWritten, MayStep};
-ghost use Rattle.lpm_writer.specs.MemorySteps.{MayBeNext};
+ghost use Rattle.lpm_writer.specs.Plain.{MayBeNext};
 
 use lpm_cells::Cells;
 use lpm_trace::RuleChange;

@@ -6,8 +6,7 @@ ghost use Rattle.lpm_bits.specs.Widths.{IsShape};
 ghost use Rattle.lpm_limits.specs.Limits.{IsConfig};
 ghost use Rattle.lpm_trace.specs.States.{IsSettled};
 ghost use Rattle.lpm_writer.specs.Plain.{PlainDid};
-ghost use Rattle.lpm_writer.specs.Blank.{blank_state};
-ghost use Rattle.lpm_writer.specs.Resting.{IsResting};
+ghost use Rattle.lpm_writer.specs.Resting.{blank_state, IsResting};
 
 use super::{ControlState, GroupPool, OpenError};
 use crate::PlainMemory;

@@ -47,8 +47,7 @@ impl<const FIRST: u32, const SECOND: u32> PlainMemory<FIRST, SECOND> {
 
 impl<const FIRST: u32, const SECOND: u32> Cells for PlainMemory<FIRST, SECOND> {
     ghost use Rattle.std.specs.Prelude.{◌≡◌, ◌+◌};
-    ghost use Rattle.lpm_cells.specs.Table.{IsFirstWord, with_first, with_second};
-    ghost use Rattle.lpm_cells.specs.Words.{IsLastWord};
+    ghost use Rattle.lpm_cells.specs.Words.{IsFirstWord, with_first, with_second, IsLastWord};
 
     ghost words = { λ m. m.cells };
 

@@ -7,8 +7,7 @@ ghost use Rattle.lpm_trace.specs.declared.step.WriterStep.{WriterStep};
 ghost use Rattle.lpm_trace.specs.declared.step.WriterStep.TheVariants.{BumpToken};
 ghost use Rattle.lpm_trace.specs.States.{InitialState};
 ghost use Rattle.lpm_writer.specs.Traced.{Goes, Checks};
-ghost use Rattle.lpm_writer.specs.Commands.{MayCommand, Rests};
-ghost use Rattle.lpm_writer.specs.Synchronizing.{IsWaiting};
+ghost use Rattle.lpm_writer.specs.Commands.{MayCommand, Rests, IsWaiting};
 
 use super::Exhausted;
 use super::control::{ControlState, is_out_of_tokens};

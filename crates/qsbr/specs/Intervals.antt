@@ -1,9 +1,23 @@
+-- Meaning: places in a list of events, of which the newest stands first and the oldest is at
+-- place 0 (this project's).
+use Rattle.std.specs.Prelude.{ℕ, ◌+◌, ◌==◌, ◌&&◌, nat_lt, if◌then◌else◌, Bool, List, [], ◌∷◌, length, Option, Some, None, ◌≡◌, ◌<◌, ◌≤◌, IsTrue, IsSomeAnd, MatchOption, ◌↔◌, ◌⊎◌, ◌++◌}
+
+-- the event at a place
+abbrev pub event_at : {E : Type 0} → List E → ℕ → Option E
+event_at [] place = None
+event_at (event ∷ events) place =
+    if place == length events then Some event else event_at events place
+
+-- how many events before a place pass the test
+abbrev pub count_before : {E : Type 0} → (E → Bool) → List E → ℕ → ℕ
+count_before test [] place = 0
+count_before test (event ∷ events) place =
+    count_before test events place + (if test event && nat_lt (length events) place then 1 else 0)
+
 -- Meaning: reader intervals (DPDK Programmer's Guide, "RCU Library": a grace period lasts until
 -- each reader that may hold a reference has been in a quiescent state; the intervals between a
 -- reader's quiescent states are those in which it may hold one). No token or counter is looked
 -- at.
-use Rattle.std.specs.Prelude.{ℕ, ◌≡◌, ◌<◌, ◌≤◌, Bool, IsTrue, List, Option, None, IsSomeAnd, MatchOption}
-use Rattle.qsbr.specs.Places.{event_at}
 
 -- which events begin a reader interval of a worker, and which end one; an event can do both
 pub record Reporting (E : Type 0) : Type 0 where
@@ -54,3 +68,19 @@ IsHeldByWorker r events place worker = (i : Interval) × (i.worker ≡ worker) �
 pub record IsTidy {E : Type 0} (r : Reporting E) (workers : ℕ) (events : List E) : Type 0 where
   pub one : (w s t : ℕ) → IsRunningSince r events w s → IsRunningSince r events w t → s ≡ t
   pub others : (w s : ℕ) → workers ≤ w → ¬ IsRunningSince r events w s
+
+-- Meaning: laws of reader intervals (this project's).
+
+-- an interval that runs after one more event began with it, or ran before it and isn't ended by it
+abbrev pub RunsAfterOneMore : Type 0 → Type 0
+RunsAfterOneMore E = (r : Reporting E) (event : E) (events : List E) (worker start : ℕ)
+    → IsRunningSince r (event ∷ events) worker start
+    ↔ (((start ≡ length events) × IsTrue (r.begins worker event))
+    ⊎ (IsRunningSince r events worker start × ¬ IsTrue (r.ends worker event)))
+
+-- once no worker holds the event at a place, no reader interval, whatever comes, holds both that
+-- place and one from now on
+abbrev pub GracePeriodIsOver : Type 0 → Type 0
+GracePeriodIsOver E = (r : Reporting E) (newer older : List E) (place later : ℕ) (i : Interval)
+    → place < length older → ((worker : ℕ) → ¬ IsHeldByWorker r older place worker)
+    → length older ≤ later → IsReaderInterval r (newer ++ older) i → Holds i place → ¬ Holds i later

@@ -1,6 +1,6 @@
 //! Laws of reader intervals. Each function does nothing: its contract is the law.
 
-ghost use Rattle.qsbr.specs.IntervalLaws.{GracePeriodIsOver, RunsAfterOneMore};
+ghost use Rattle.qsbr.specs.Intervals.{GracePeriodIsOver, RunsAfterOneMore};
 
 /// An interval that runs after one more event began with that event, or ran before it and isn't
 /// ended by it.

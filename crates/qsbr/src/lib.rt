@@ -27,7 +27,7 @@ pub struct Domain {
 
 impl Model for Domain {
     ghost use Rattle.std.specs.Prelude.{ℕ, ◌≤◌, ◌^◌};
-    ghost use Rattle.qsbr.specs.Registry.{Registry};
+    ghost use Rattle.qsbr.specs.Counters.{Registry};
 
     ghost Value = { Registry };
 
@@ -37,8 +37,7 @@ impl Model for Domain {
 }
 
 impl Domain {
-    ghost use Rattle.qsbr.specs.Counters.{IsOnline, IsChecked};
-    ghost use Rattle.qsbr.specs.Registry.{with_counter};
+    ghost use Rattle.qsbr.specs.Counters.{IsOnline, IsChecked, with_counter};
 
     /// A domain of so many workers, all offline.
     pub fn new(alloc: Global, workers: usize, first_token: u64) -> Result<Self, AllocError>

@@ -3,7 +3,7 @@ use Rattle.std.proofs.Common.{◌≡◌, ℕ, zero, suc, ◌+◌, ◌-◌, ◌*�
 use Rattle.std.specs.Fmt.{decimal}
 use Rattle.std.proofs.lemmas.Bool.{false≢true, cases_lt, cond-true, cond-false, lt-ltb, le-ltb, ltb-true, and_parts, eqb-true}
 use Rattle.std.proofs.lemmas.List.{drop-drop}
-use Rattle.route_text.proofs.Short.{one_digit, two_digits, three_digits}
+use Rattle.route_text.proofs.Octets.{one_digit, two_digits, three_digits}
 use Rattle.route_text.specs.declared.answers.TheConstants.{OCTETS}
 
 -- the same bytes

@@ -1,10 +1,52 @@
--- This layer's own: what a text begins with, a number, an address or the end of a line
--- (this project's).
-use Rattle.std.specs.Prelude.{◌≡◌, ℕ, ◌≤◌, ◌⊎◌, List, [], ◌∷◌, ◌++◌, decimal, ⊤}
+-- This layer's own: what one line says (this project's).
+use Rattle.std.specs.Prelude.{◌≡◌, ℕ, List, ◌∷◌, ◌++◌, length, ◌≤◌, ◌⊎◌, [], decimal, ⊤, ◌<◌}
+use Rattle.route_text.specs.declared.fault.Fault.{Fault}
+use Rattle.route_text.specs.declared.fault.FaultKind.{FaultKind}
+use Rattle.route_text.specs.declared.grammar.Said.{Said}
+use Rattle.route_text.specs.Files.{lines, fields, IsSkipped, AreItems}
 use Rattle.std.specs.Int.{IsInRange}
 use Rattle.route_text.specs.declared.lines.End.{End}
-use Rattle.route_text.specs.declared.lines.End.TheVariants as ends
 use Rattle.route_text.specs.Fields.{IsAddress}
+use Rattle.lpm_bits.specs.Network.{IsNetwork}
+use Rattle.fib_model.specs.declared.orders.Order.{Order}
+use Rattle.route_text.specs.declared.grammar.Said.TheVariants as said
+use Rattle.route_text.specs.declared.lines.End.TheVariants as ends
+use Rattle.fib_model.specs.declared.orders.Order.TheVariants as orders
+
+module _ {Item : Type 0} (Spells : ℕ → List (List ℕ) → Item → Type 0)
+    (HasFault : List (List ℕ) → FaultKind → Type 0) where
+  -- the line is skipped, spells an item, or has a fault
+  abbrev pub Says : ℕ → List (List ℕ) → Said Item → Type 0
+  Says n fs said.Nothing = IsSkipped fs
+  Says n fs (said.Item item) = ¬ IsSkipped fs × Spells n fs item
+  Says n fs (said.Fault kind) = ¬ IsSkipped fs × HasFault fs kind
+
+  -- the first line of the bytes says this, and the rest stands after it
+  pub record SaysFirst (n : ℕ) (bytes : List ℕ) (this : Said Item) (rest : List ℕ) : Type 0 where
+    pub line : List ℕ
+    pub split : lines bytes ≡ line ∷ lines rest
+    pub says : Says n (fields line) this
+
+  -- the first line of the bytes has this fault
+  pub record SaysFault (n : ℕ) (bytes : List ℕ) (fault : Fault) : Type 0 where
+    pub rest : List ℕ
+    pub number : fault.line ≡ n
+    pub first : SaysFirst n bytes (said.Fault fault.kind) rest
+
+-- so many lines at the front of the bytes are items, which were added to a list, and the rest stands
+-- after them
+module _ {Item : Type 0} (Spells : ℕ → List (List ℕ) → Item → Type 0) where
+  pub record SaysItems (n : ℕ) (bytes : List ℕ) (before after : List Item) (count : ℕ)
+      (rest : List ℕ) : Type 0 where
+    pub done : List (List ℕ)
+    pub more : List Item
+    pub split : lines bytes ≡ done ++ lines rest
+    pub counted : length done ≡ count
+    pub good : AreItems Spells n done more
+    pub grown : after ≡ before ++ more
+
+-- This layer's own: what a text begins with, a number, an address or the end of a line
+-- (this project's).
 
 -- no digit goes on here
 abbrev pub StartsNoDigit : List ℕ → Type 0
@@ -60,3 +102,15 @@ pub record StartsAddressBefore (end : End) (text : List ℕ) (addr : ℕ) (rest 
   pub address : IsAddress front addr
   pub split : text ≡ front ++ after
   pub ends : StartsEnd end after rest
+
+-- This layer's own: the ranges of an update's values (this project's).
+
+-- the values of an update are in the ranges of their types
+abbrev pub IsSound : Order 24 8 → Type 0
+IsSound (orders.Add prefix hop) = IsNetwork 32 prefix × (hop < 16777216)
+IsSound (orders.Del prefix) = IsNetwork 32 prefix
+IsSound orders.Flush = ⊤
+IsSound (orders.Reclaim count) = ⊤
+IsSound (orders.Online worker) = worker < 4294967296
+IsSound (orders.Offline worker) = worker < 4294967296
+IsSound (orders.Quiescent worker) = worker < 4294967296

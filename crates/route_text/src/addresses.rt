@@ -1,8 +1,6 @@
 //! The address file.
 ghost use Rattle.std.specs.Prelude.{IfOk, IfErr};
-ghost use Rattle.route_text.specs.Files.{AreAddresses, IsAddressesFault};
-ghost use Rattle.route_text.specs.Files.{SpellsAddress, HasAddressFault};
-ghost use Rattle.route_text.specs.Readings.{IsReadError};
+ghost use Rattle.route_text.specs.Files.{AreAddresses, IsAddressesFault, SpellsAddress, HasAddressFault, IsReadError};
 
 use super::fault::{FaultKind, ReadError};
 use super::grammar::{Grammar, read_items};

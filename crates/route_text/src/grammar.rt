@@ -3,10 +3,8 @@ ghost use Rattle.std.specs.Prelude.{ℕ, ◌+◌, ◌^◌, ◌<◌, ◌≤◌, L
 ghost use Rattle.std.specs.Prelude.{length, drop};
 ghost use Rattle.route_text.specs.declared.fault.FaultKind.{FaultKind};
 ghost use Rattle.route_text.specs.declared.grammar.Said.TheVariants as Said;
-ghost use Rattle.route_text.specs.Lines.{lines, fields};
-ghost use Rattle.route_text.specs.Files.{AreItems, IsFirstFault};
-ghost use Rattle.route_text.specs.Readings.{IsReadError};
-ghost use Rattle.route_text.specs.Says.{Says, SaysFirst, SaysItems, SaysFault};
+ghost use Rattle.route_text.specs.Files.{lines, fields, AreItems, IsFirstFault, IsReadError};
+ghost use Rattle.route_text.specs.Starts.{Says, SaysFirst, SaysItems, SaysFault};
 
 use super::fault::{Fault, FaultKind, ReadError};
 use super::lines::{next_field, next_line};

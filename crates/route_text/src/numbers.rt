@@ -1,10 +1,7 @@
 //! Decimals and addresses.
 ghost use Rattle.std.specs.Prelude.{◌≡◌, ℕ, ◌+◌, ◌≤◌, List, ◌∷◌, IfSome, IfNone, length, drop};
 ghost use Rattle.route_text.specs.Fields.{IsNumber, IsAddress};
-ghost use Rattle.route_text.specs.Starts.{StartsNumber, StartsNoNumber};
-ghost use Rattle.route_text.specs.Starts.{StartsNextOctet, StartsNoNextOctet};
-ghost use Rattle.route_text.specs.Starts.{StartsAddress, StartsNoAddress};
-ghost use Rattle.route_text.specs.Starts.{StartsNumberBefore, StartsAddressBefore};
+ghost use Rattle.route_text.specs.Starts.{StartsNumber, StartsNoNumber, StartsNextOctet, StartsNoNextOctet, StartsAddress, StartsNoAddress, StartsNumberBefore, StartsAddressBefore};
 
 use super::lines::{End, place_after};
 

@@ -2,8 +2,7 @@
 ghost use Rattle.std.specs.Prelude.{◌+◌, ◌≤◌, ◌<◌, IfOk, IfErr, IfSome, length, drop};
 ghost use Rattle.route_text.specs.declared.lines.End.TheVariants as ends;
 ghost use Rattle.route_text.specs.Starts.{StartsNumberBefore};
-ghost use Rattle.route_text.specs.Files.{AreRoutes, IsRoutesFault, SpellsRoute, HasRouteFault};
-ghost use Rattle.route_text.specs.Readings.{IsReadError};
+ghost use Rattle.route_text.specs.Files.{AreRoutes, IsRoutesFault, SpellsRoute, HasRouteFault, IsReadError};
 
 use super::fault::{FaultKind, ReadError};
 use super::grammar::{Grammar, read_items};

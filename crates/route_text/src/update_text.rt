@@ -3,7 +3,7 @@ ghost use Rattle.std.specs.Prelude.{◌≡◌, List, ◌++◌, All, OnOk, IfOk};
 ghost use Rattle.route_text.specs.Texts.{update_text, update_line, update_lines};
 ghost use Rattle.route_text.specs.Texts.{addition_text, deletion_text};
 ghost use Rattle.route_text.specs.Updates.{AreUpdates, IsCountInRange};
-ghost use Rattle.route_text.specs.Values.{IsSound};
+ghost use Rattle.route_text.specs.Starts.{IsSound};
 ghost use Rattle.fib_model.specs.declared.orders.Order.{Order};
 ghost use Rattle.fib_model.specs.declared.orders.Order.TheVariants as orders;
 

@@ -1,8 +1,6 @@
-pub mod Values
 pub mod HandleSteps
 pub mod Forms
 pub mod HandleSends
 pub mod Fills
 pub mod Pieces
-pub mod Benches
 pub mod Options

@@ -7,10 +7,9 @@ use Rattle.lpm_limits.specs.declared.refusal.Refusal.{Refusal}
 use Rattle.fib_model.specs.Counting.{counter_transitions}
 use Rattle.fib_model.specs.Outcomes.{Adds}
 use Rattle.fib.specs.Fib.{FibState}
-use Rattle.shared_fib.specs.Taking.{TakesLeast}
+use Rattle.shared_fib.specs.Freeing.{TakesLeast}
 use Rattle.shared_fib.specs.Running.{by_steps, hop_or}
-use Rattle.saxiko_c.specs.Owners.{OwnerState}
-use Rattle.saxiko_c.specs.Running.{Changes}
+use Rattle.saxiko_c.specs.Running.{OwnerState, Changes}
 use Rattle.saxiko_c.specs.Status.{invalid, add_status}
 use Rattle.saxiko_c.specs.Table.{IsBad}
 

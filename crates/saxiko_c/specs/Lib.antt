@@ -1,15 +1,9 @@
-pub mod Calls
 pub mod Grace
 pub mod Inserting
-pub mod Limits
 pub mod Loads
-pub mod Matching
-pub mod Opened
 pub mod Owned
-pub mod Owners
 pub mod Running
 pub mod Stages
 pub mod Status
 pub mod Table
-pub mod Walking
 pub use Rattle.fib.specs.Fib

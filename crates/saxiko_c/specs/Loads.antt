@@ -1,19 +1,20 @@
 -- Meaning: tables that open with the routes of a list (DPDK Programmer's Guide, "LPM Library", "Addition": a rule
 -- for a prefix that has one takes its place).
-use Rattle.std.specs.Prelude.{ℕ, ℤ, ◌≡◌, ◌<◌, ◌≤◌, ◌^◌, ◌⊎◌, All, List, Option, IsSomeAnd, length, map, slice_get, take}
+use Rattle.std.specs.Prelude.{ℕ, ℤ, ◌≡◌, ◌<◌, ◌≤◌, ◌^◌, ◌⊎◌, All, List, Option, IsSomeAnd, length, map, slice_get, take, false}
 use Rattle.std.specs.FinMap.{len}
 use Rattle.lpm_bits.specs.Network.{prefix_of}
-use Rattle.lpm_rules.specs.RuleMap.{RuleMap}
-use Rattle.lpm_rules.specs.Listed.{rules_of}
+use Rattle.lpm_rules.specs.RuleMap.{RuleMap, rules_of}
 use Rattle.lpm_rules.specs.declared.Rule.{Rule}
 use Rattle.lpm_limits.specs.Limits.{IsConfig}
 use Rattle.lpm_limits.specs.declared.config.Config.{Config}
 use Rattle.fib_model.specs.Outcomes.{groups_in_use}
 use Rattle.fib.specs.Fib.{FibState, initial_fib_with}
-use Rattle.saxiko_c.specs.Calls.{OpensIt}
-use Rattle.saxiko_c.specs.Status.{no_memory, invalid, no_space, too_big, out_of_domain}
+use Rattle.saxiko_c.specs.Status.{OpensIt, no_memory, invalid, no_space, too_big, out_of_domain}
 use Rattle.saxiko_c.specs.Table.{IsBad}
 use Rattle.saxiko_c.specs.declared.records.SaxikoRoute.{SaxikoRoute}
+use Rattle.shared_fib.specs.Passes.{IsFullBench}
+use Rattle.shared_fib.specs.Running.{initial_writer}
+use Rattle.saxiko_c.specs.Running.{OwnerState}
 
 -- the rule that a route gives
 abbrev pub rule_of : SaxikoRoute → Rule 24 8
@@ -63,3 +64,22 @@ pub record IsLoaded (c : Config) (routes : List SaxikoRoute) (before after : ℕ
 abbrev pub Loads : Config → List SaxikoRoute → ℕ → ℕ → Option FibState → ℤ → Option FibState → Type 0
 Loads c routes before after =
     OpensIt (IsUnloaded c routes before after) (IsLoaded c routes before after) (after ≡ before)
+
+-- Meaning: a running table that opens with the routes of a list (this project's).
+
+-- a table with these rules as version 0, of which no reader is handed out, and no grace period lasts
+pub record IsOpenedWith (c : Config) (R : RuleMap) (o : OwnerState) : Type 0 where
+  pub opened : o.writer ≡ initial_writer o.writer.identity c R
+  pub token : o.writer.identity.initial.token ≡ c.first_token
+  pub workers : o.writer.identity.initial.workers ≡ c.workers
+  pub at_rest : o.waits ≡ false
+  pub bench : IsFullBench o.writer.identity o.bench
+  pub limits : IsConfig c
+  pub rules_fit : len R ≤ c.rules
+  pub groups_fit : groups_in_use 24 8 R ≤ c.groups
+
+-- a closed handle has a table with the rules of the routes then; an open one stays as it is
+abbrev pub LoadsRunning : Config → List SaxikoRoute → ℕ → ℕ → Option OwnerState → ℤ → Option OwnerState → Type 0
+LoadsRunning c routes before after =
+    OpensIt (IsUnloaded c routes before after) (λ o. (after ≡ before) × IsOpenedWith c (rules_of_routes routes) o)
+    (after ≡ before)

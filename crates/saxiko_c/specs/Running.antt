@@ -1,6 +1,8 @@
--- Meaning: the calls of a running table, by the status that they answer (DPDK Programmer's Guide, "LPM Library" and
--- "RCU Library").
-use Rattle.std.specs.Prelude.{ℕ, ℤ, ⊤, ◌≡◌, ◌≢◌, ◌+◌, ◌≤◌, ◌<◌, ◌⊎◌, true, false, pos, List, [], ◌∷◌, Option, Some, None, Result, length, map, slice_get, slice_set, take}
+-- Meaning: the owner of a running table, as its callers see it (this project's).
+use Rattle.std.specs.Prelude.{Bool, List, Option, refl, ℕ, ℤ, ⊤, ◌≡◌, ◌≢◌, ◌+◌, ◌≤◌, ◌<◌, ◌⊎◌, true, false, pos, [], ◌∷◌, Some, None, Result, length, map, slice_get, slice_set, take}
+use Rattle.std.specs.Coded.{Coded, code_by, coded×, coded_bool, coded_list, coded_option}
+use Rattle.shared_fib.specs.Running.{WriterState, coded_writer, IsAtRest, by_steps, hop_or, initial_writer, initial_state, steps_of, token_of}
+use Rattle.shared_fib.specs.Passes.{PassState, coded_pass, IsBenchOf, IsFullBench, IsPassOf, LooksUp, Makes}
 use Rattle.std.specs.FinMap.{get, len, empty}
 use Rattle.lpm_bits.specs.Network.{prefix_of}
 use Rattle.lpm_rules.specs.declared.Put.{Put}
@@ -10,23 +12,32 @@ use Rattle.lpm_limits.specs.declared.busy.Busy.{Busy}
 use Rattle.lpm_limits.specs.declared.refusal.Refusal.{Refusal}
 use Rattle.defer_queue.specs.declared.Reclaimed.{Reclaimed}
 use Rattle.fib_model.specs.Outcomes.{groups_in_use}
-use Rattle.fib_model.specs.Outcomes as outcomes
 use Rattle.lpm_trace.specs.declared.step.WorkerStep.{WorkerStep}
 use Rattle.lpm_trace.specs.declared.step.WorkerStep.TheVariants.{LoadOnline, StoreOnline, LoadQuiescent, StoreQuiescent, StoreOffline}
-use Rattle.lpm_writer.specs.Blank.{blank_state}
-use Rattle.shared_fib.specs.Taking.{TakesLeast}
-use Rattle.shared_fib.specs.Freeing.{FreesChecked}
+use Rattle.lpm_writer.specs.Resting.{blank_state}
+use Rattle.shared_fib.specs.Freeing.{TakesLeast, FreesChecked}
 use Rattle.shared_fib.specs.Bursts.{LooksUpBurst}
-use Rattle.shared_fib.specs.Passes.{PassState, IsBenchOf, IsFullBench, IsPassOf, LooksUp, Makes}
 use Rattle.shared_words.specs.Rule.{IsLater}
-use Rattle.shared_fib.specs.Running.{IsAtRest, WriterState, by_steps, hop_or, initial_writer, initial_state, steps_of, token_of}
-use Rattle.saxiko_c.specs.Calls.{OpensIt}
-use Rattle.saxiko_c.specs.Owners.{OwnerState}
-use Rattle.saxiko_c.specs.Status.{success, no_memory, busy, invalid, not_permitted, already, add_status, status_of}
+use Rattle.saxiko_c.specs.Status.{OpensIt, success, no_memory, busy, invalid, not_permitted, already, add_status, status_of}
 use Rattle.saxiko_c.specs.Table.{IsBad, IsUnopened, Stores, Tells}
 use Rattle.saxiko_c.specs.declared.records.SaxikoCounts.{SaxikoCounts}
 use Rattle.saxiko_c.specs.declared.records.SaxikoHeld.{SaxikoHeld}
 use Rattle.saxiko_c.specs.declared.records.SaxikoSpan.{SaxikoSpan}
+use Rattle.fib_model.specs.Outcomes as outcomes
+
+-- its writer, whether a grace period lasts, and the passes that no reader has, by their numbers
+pub record OwnerState : Type 0 where
+  pub writer : WriterState
+  pub waits : Bool
+  pub bench : List (Option PassState)
+
+abbrev pub coded_owner : Coded OwnerState
+coded_owner = code_by (WriterState × (Bool × List (Option PassState)))
+    (coded× coded_writer (coded× coded_bool (coded_list (coded_option coded_pass))))
+    (λ o. (o.writer, (o.waits, o.bench))) (λ p. record { writer = p.0; waits = p.1.0; bench = p.1.1 }) (λ _. refl)
+
+-- Meaning: the calls of a running table, by the status that they answer (DPDK Programmer's Guide, "LPM Library" and
+-- "RCU Library").
 
 -- ---- the writer
 

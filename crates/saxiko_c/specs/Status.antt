@@ -1,10 +1,12 @@
 -- Meaning: what calls answer, 0 or more, or an error number of Linux below 0 (errno(3); DPDK Programmer's
 -- Guide, "LPM Library"; which refusal has which number is this project's).
-use Rattle.std.specs.Prelude.{ℤ, pos, negsuc, Option, Some, None, Result, Ok, Err}
+use Rattle.std.specs.Prelude.{ℤ, pos, negsuc, Option, Some, None, Result, Ok, Err, ℕ, ◌≡◌}
 use Rattle.lpm_rules.specs.declared.Put.{Put}
 use Rattle.lpm_rules.specs.declared.Put.TheVariants.{Added, Replaced, Unchanged}
 use Rattle.lpm_limits.specs.declared.refusal.Refusal.{Refusal}
 use Rattle.lpm_limits.specs.declared.refusal.Refusal.TheVariants.{BadLength, BadHop, TooManyRules, NoSuchRule, BadConfig, Exhausted, NoGroups, NoWorkers, Memory, NoSuchWorker, Taken, NoThread, NotOnline, AlreadyOnline}
+use Rattle.lpm_limits.specs.declared.config.Config.{Config}
+use Rattle.saxiko_c.specs.declared.records.SaxikoConfig.{SaxikoConfig}
 
 -- the call is done
 abbrev pub success : ℤ
@@ -81,3 +83,37 @@ add_status (Err refusal) = status_of_refusal refusal
 abbrev pub status_of : {T : Type 0} → Result T Refusal → ℤ
 status_of (Ok result) = success
 status_of (Err refusal) = status_of_refusal refusal
+
+-- Meaning: what C hands over as limits (DPDK Programmer's Guide, "LPM Library" and "RCU Library").
+
+-- the limits of a table with so many readers; its first token is 1
+abbrev pub config_of : SaxikoConfig → ℕ → Config
+config_of c readers = record {
+  rules = c.rules;
+  groups = c.groups;
+  workers = readers;
+  threshold = c.threshold;
+  reclaim_max = c.reclaim_max;
+  first_token = 1;
+}
+
+-- Meaning: what a call does with a handle, by the status that it answers (this project's).
+
+-- a call that may change what the handle holds; on a closed handle it is EINVAL, and nothing changes
+abbrev pub Calls : {S : Type 0} → (S → ℤ → S → Type 0) → (unchanged : Type 0)
+    → Option S → ℤ → Option S → Type 0
+Calls call unchanged None status after = (status ≡ invalid) × (after ≡ None) × unchanged
+Calls call unchanged (Some s) status None = ⊥
+Calls call unchanged (Some s) status (Some t) = call s status t
+
+-- a call that only asks what the handle holds; on a closed handle it is EINVAL, and nothing is told
+abbrev pub Asks : {S : Type 0} → (S → ℤ → Type 0) → (unchanged : Type 0) → Option S → ℤ → Type 0
+Asks ask unchanged None status = (status ≡ invalid) × unchanged
+Asks ask unchanged (Some s) status = ask s status
+
+-- a call that opens a closed handle; on an open handle it is EBUSY, and nothing changes
+abbrev pub OpensIt : {S : Type 0} → (failed : ℤ → Type 0) → (opened : S → Type 0) → (unchanged : Type 0)
+    → Option S → ℤ → Option S → Type 0
+OpensIt failed opened unchanged (Some s) status after = (status ≡ busy) × unchanged × (after ≡ Some s)
+OpensIt failed opened unchanged None status None = failed status
+OpensIt failed opened unchanged None status (Some s) = (status ≡ success) × opened s

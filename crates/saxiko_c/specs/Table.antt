@@ -2,9 +2,9 @@
 -- "LPM Library").
 use Rattle.std.specs.Prelude.{ℕ, ℤ, ⊤, ◌≡◌, ◌+◌, ◌≤◌, ◌<◌, ◌⊎◌, ◌↔◌, ◌≢◌, Option, Some, None, Result, Ok, Err, slice_index, List, length}
 use Rattle.std.specs.FinMap.{get, len}
-use Rattle.lpm_bits.specs.Network.{prefix_of}
-use Rattle.lpm_rules.specs.RuleMap.{RuleMap}
-use Rattle.lpm_rules.specs.Longest.{IsLongestHop}
+use Rattle.lpm_bits.specs.Network.{prefix_of, Network}
+use Rattle.lpm_rules.specs.RuleMap.{RuleMap, IsNextRule}
+use Rattle.lpm_rules.specs.Longest.{IsLongestHop, IsMatch}
 use Rattle.lpm_rules.specs.declared.Put.{Put}
 use Rattle.lpm_limits.specs.Limits.{IsConfig}
 use Rattle.lpm_limits.specs.declared.config.Config.{Config}
@@ -12,11 +12,11 @@ use Rattle.lpm_limits.specs.declared.refusal.Refusal.{Refusal}
 use Rattle.defer_queue.specs.declared.Reclaimed.{Reclaimed}
 use Rattle.fib_model.specs.Counting.{counter_transitions}
 use Rattle.fib_model.specs.Outcomes.{groups_in_use, Adds, Deletes, Flushes, Frees}
-use Rattle.fib.specs.Fib.{FibState, initial_fib}
-use Rattle.fib.specs.Lookups.{IsHopOrDefault}
-use Rattle.saxiko_c.specs.Calls.{OpensIt}
-use Rattle.saxiko_c.specs.Status.{success, no_entry, no_memory, invalid, add_status, status_of}
+use Rattle.fib.specs.Fib.{FibState, initial_fib, IsHopOrDefault}
+use Rattle.saxiko_c.specs.Status.{OpensIt, success, no_entry, no_memory, invalid, add_status, status_of}
 use Rattle.saxiko_c.specs.declared.records.SaxikoCounts.{SaxikoCounts}
+use Rattle.lpm_rules.specs.declared.Rule.{Rule}
+use Rattle.saxiko_c.specs.declared.records.SaxikoRoute.{SaxikoRoute}
 
 -- ---- opening
 
@@ -109,3 +109,37 @@ pub record IsCounted (f : FibState) (c : SaxikoCounts) : Type 0 where
 
 abbrev pub Counts : SaxikoCounts → FibState → ℤ → Type 0
 Counts c f status = (status ≡ success) × IsCounted f c
+
+-- Meaning: the rule that answers an address, by the status that its calls answer (this project's).
+
+-- the route of a rule
+abbrev pub route_of : Rule 24 8 → SaxikoRoute
+route_of rule = record { addr = rule.prefix.bits; hop = rule.hop; depth = rule.prefix.len }
+
+-- the rule's route is stored, or it is ENOENT where there is none
+abbrev pub TellsRule : Option (Rule 24 8) → SaxikoRoute → SaxikoRoute → ℤ → Type 0
+TellsRule None before after status = (status ≡ no_entry) × (after ≡ before)
+TellsRule (Some rule) before after status = (status ≡ success) × (after ≡ route_of rule)
+
+-- the rule that answers the address
+abbrev pub FindsRule : ℕ → SaxikoRoute → SaxikoRoute → RuleMap → ℤ → Type 0
+FindsRule addr before after R status =
+    (found : Option (Rule 24 8)) × IsMatch 24 8 R addr found × TellsRule found before after status
+
+-- Meaning: a walk over the rules of a table in the order of their prefixes, by the status that its calls
+-- answer (this project's).
+
+-- the rule that comes next after the prefix
+abbrev pub WalksOn : Option Network → SaxikoRoute → SaxikoRoute → RuleMap → ℤ → Type 0
+WalksOn last before after R status =
+    (found : Option (Rule 24 8)) × IsNextRule R last found × TellsRule found before after status
+
+-- the first rule
+abbrev pub FindsFirst : SaxikoRoute → SaxikoRoute → RuleMap → ℤ → Type 0
+FindsFirst before after R status = WalksOn None before after R status
+
+-- the rule that comes next after the prefix of this address and depth
+abbrev pub FindsNext : ℕ → ℕ → SaxikoRoute → SaxikoRoute → RuleMap → ℤ → Type 0
+FindsNext addr depth before after R status =
+    ((32 < depth) × (status ≡ invalid) × (after ≡ before))
+    ⊎ ((depth ≤ 32) × WalksOn (Some (prefix_of 32 depth addr)) before after R status)

@@ -1,7 +1,7 @@
 //! The calls of a grace period.
 
 ghost use Rattle.std.specs.Prelude.{◌≡◌, ⊤};
-ghost use Rattle.saxiko_c.specs.Calls.{Calls};
+ghost use Rattle.saxiko_c.specs.Status.{Calls};
 ghost use Rattle.saxiko_c.specs.Grace.{ChecksOnce, Starts};
 
 use crate::grace;

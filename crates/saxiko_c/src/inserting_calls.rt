@@ -1,7 +1,7 @@
 //! The adds that tell the replaced next hop.
 
 ghost use Rattle.std.specs.Prelude.{◌≡◌};
-ghost use Rattle.saxiko_c.specs.Calls.{Calls};
+ghost use Rattle.saxiko_c.specs.Status.{Calls};
 ghost use Rattle.saxiko_c.specs.Grace.{AtRest};
 ghost use Rattle.saxiko_c.specs.Inserting.{InsertsRule, InsertsTo};
 

@@ -2,7 +2,7 @@
 
 ghost use Rattle.std.specs.Prelude.{◌≡◌};
 ghost use Rattle.saxiko_c.specs.Grace.{AsksAtRest};
-ghost use Rattle.saxiko_c.specs.Matching.{FindsRule, TellsRule};
+ghost use Rattle.saxiko_c.specs.Table.{FindsRule, TellsRule};
 
 use crate::owner::Owner;
 use crate::records::SaxikoRoute;

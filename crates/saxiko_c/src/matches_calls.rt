@@ -1,9 +1,9 @@
 //! The calls that tell the rule of an address.
 
 ghost use Rattle.std.specs.Prelude.{◌≡◌};
-ghost use Rattle.saxiko_c.specs.Calls.{Asks};
+ghost use Rattle.saxiko_c.specs.Status.{Asks};
 ghost use Rattle.saxiko_c.specs.Grace.{AsksAtRest};
-ghost use Rattle.saxiko_c.specs.Matching.{FindsRule};
+ghost use Rattle.saxiko_c.specs.Table.{FindsRule};
 
 use crate::handle::{on_open, put, take};
 use crate::handles::{SaxikoTable, SaxikoWriter};

@@ -1,7 +1,7 @@
 //! What C hands over, and what it is told, beside handles and numbers.
 
 ghost use Rattle.std.specs.Prelude.{◌≡◌, ◌+◌};
-ghost use Rattle.saxiko_c.specs.Limits.{config_of};
+ghost use Rattle.saxiko_c.specs.Status.{config_of};
 
 use lpm_limits::Config;
 

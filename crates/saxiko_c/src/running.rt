@@ -3,8 +3,7 @@
 ghost use Rattle.std.specs.Prelude.{◌≡◌, ⊤, MatchResult, true, false};
 ghost use Rattle.shared_fib.specs.Running.{IsAtRest, hop_or};
 ghost use Rattle.saxiko_c.specs.Grace.{AsksAtRest, AtRest};
-ghost use Rattle.saxiko_c.specs.Loads.{IsUnloaded, rules_of_routes};
-ghost use Rattle.saxiko_c.specs.Opened.{IsOpenedWith};
+ghost use Rattle.saxiko_c.specs.Loads.{IsUnloaded, rules_of_routes, IsOpenedWith};
 ghost use Rattle.saxiko_c.specs.Running.{AddsTo, Counts, DeletesFrom, Finds, FindsAllIn, FindsAllWithin, FindsBetween, FindsIn, FindsWithin, Flushes, FreesHeld, GetsFrom, GivesBack, GoesOffline, GoesOnline, IsCountedIn, IsOpened, IsRegistered, IsUnregistered, Quiesces};
 ghost use Rattle.saxiko_c.specs.Table.{IsUnopened};
 

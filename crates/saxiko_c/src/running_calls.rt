@@ -1,10 +1,9 @@
 //! The calls of the writer and of the readers of a running table.
 
 ghost use Rattle.std.specs.Prelude.{◌≡◌, ⊤, None, Some};
-ghost use Rattle.saxiko_c.specs.Calls.{Asks, Calls};
+ghost use Rattle.saxiko_c.specs.Status.{Asks, Calls, config_of};
 ghost use Rattle.saxiko_c.specs.Grace.{AsksAtRest, AtRest};
-ghost use Rattle.saxiko_c.specs.Limits.{config_of};
-ghost use Rattle.saxiko_c.specs.Opened.{LoadsRunning};
+ghost use Rattle.saxiko_c.specs.Loads.{LoadsRunning};
 ghost use Rattle.saxiko_c.specs.Running.{AddsTo, AreOfOneTable, Counts, DeletesFrom, FindsAllIn, FindsAllWithin, FindsIn, FindsWithin, Flushes, FreesHeld, GetsFrom, GoesOffline, GoesOnline, Opens, Quiesces, Registers, Unregisters};
 
 use crate::handle::{Handle, on_closed, on_open, put, take};

@@ -2,8 +2,7 @@
 
 ghost use Rattle.std.specs.Prelude.{◌≡◌, ◌+◌, MatchResult};
 ghost use Rattle.lpm_limits.specs.Limits.{IsConfig};
-ghost use Rattle.fib.specs.Fib.{initial_fib};
-ghost use Rattle.fib.specs.Lookups.{IsHopOrDefault};
+ghost use Rattle.fib.specs.Fib.{initial_fib, IsHopOrDefault};
 ghost use Rattle.saxiko_c.specs.Status.{status_of};
 ghost use Rattle.saxiko_c.specs.Table.{AddsRule, Counts, DeletesRule, Finds, FindsAll, FlushesRules, FreesGroups, Gets, IsCounted, IsUnopened, Stores};
 

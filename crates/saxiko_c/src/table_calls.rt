@@ -1,10 +1,9 @@
 //! The calls of a table of one thread.
 
 ghost use Rattle.std.specs.Prelude.{◌≡◌, ⊤, None};
-ghost use Rattle.saxiko_c.specs.Calls.{Asks, Calls};
+ghost use Rattle.saxiko_c.specs.Status.{Asks, Calls, config_of};
 ghost use Rattle.saxiko_c.specs.Loads.{Loads};
 ghost use Rattle.saxiko_c.specs.Table.{AddsRule, Counts, DeletesRule, Finds, FindsAll, FlushesRules, FreesGroups, Gets, Opens};
-ghost use Rattle.saxiko_c.specs.Limits.{config_of};
 
 use crate::handle::{Handle, on_closed, on_open, put, take};
 use crate::handles::SaxikoTable;

@@ -2,7 +2,7 @@
 
 ghost use Rattle.std.specs.Prelude.{◌≡◌};
 ghost use Rattle.saxiko_c.specs.Grace.{AsksAtRest};
-ghost use Rattle.saxiko_c.specs.Walking.{FindsFirst, FindsNext};
+ghost use Rattle.saxiko_c.specs.Table.{FindsFirst, FindsNext};
 
 use crate::matches::tell;
 use crate::owner::Owner;

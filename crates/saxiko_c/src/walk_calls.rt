@@ -1,9 +1,9 @@
 //! The calls of a walk over the rules in the order of their prefixes.
 
 ghost use Rattle.std.specs.Prelude.{◌≡◌};
-ghost use Rattle.saxiko_c.specs.Calls.{Asks};
+ghost use Rattle.saxiko_c.specs.Status.{Asks};
 ghost use Rattle.saxiko_c.specs.Grace.{AsksAtRest};
-ghost use Rattle.saxiko_c.specs.Walking.{FindsFirst, FindsNext};
+ghost use Rattle.saxiko_c.specs.Table.{FindsFirst, FindsNext};
 
 use crate::handle::{on_open, put, take};
 use crate::handles::{SaxikoTable, SaxikoWriter};

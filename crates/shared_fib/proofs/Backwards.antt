@@ -7,12 +7,12 @@ use Rattle.lpm_trace.specs.declared.step.WorkerStep.{WorkerStep}
 use Rattle.lpm_trace.specs.declared.step.WorkerStep.TheVariants.{BeginLookup, EndLookup}
 use Rattle.lpm_trace.specs.States.{InitialState, TableState, IsAnswer, updates_done_in, updates_begun_in, version, oldest, state_after, state_at}
 use Rattle.lpm_trace.specs.Writer.{IsWritten}
-use Rattle.lpm_trace.specs.Workers.{Seen}
+use Rattle.lpm_trace.specs.Trace.{Seen}
 use Rattle.lpm_trace.specs.Laws.{IsLegalAtPlace}
 use Rattle.lpm_trace.proofs.Traces.{oldest_all, oldest_old, at_now, history_at}
 use Rattle.lpm_trace.proofs.Promises.{versions_never_fall_at_places}
 use Rattle.shared_words.specs.Rule.{IsLater}
-use Rattle.shared_words.specs.Loads.{firsts_at, loads_at, seconds_at}
+use Rattle.shared_words.specs.Deeds.{firsts_at, loads_at, seconds_at}
 use Rattle.shared_words.proofs.Deeds.{later_longer}
 use Rattle.shared_fib.specs.Running.{Identity, WriterState, IsAtRest, initial_state, steps_of}
 use Rattle.shared_fib.specs.Versions.{updates_begun, updates_done}

@@ -13,15 +13,14 @@ use Rattle.lpm_trace.specs.declared.step.WriterStep.{WriterStep}
 use Rattle.lpm_trace.specs.declared.step.WriterStep.TheVariants.{StoreFirst, StoreSecond, BeginUpdate, EndUpdate, BumpToken, LoadCounter}
 use Rattle.lpm_trace.specs.States.{InitialState, TableState, Status, Linked, Retired, state_after, with_retired, with_linked, first_entry}
 use Rattle.lpm_trace.specs.Laws.{IsChecked}
-use Rattle.lpm_trace.proofs.Basics.{with_at_case}
-use Rattle.lpm_trace.specs.Counts.{token_after}
-use Rattle.lpm_trace.proofs.Counts.{token_is, passed_is}
+use Rattle.lpm_trace.proofs.Versions.{with_at_case, token_is, passed_is}
+use Rattle.lpm_trace.specs.Writer.{token_after}
 use Rattle.lpm_writer.specs.Steps.{Synchronizes}
 use Rattle.lpm_writer.proofs.StepsAlone.{steps_passed, stopped_token}
 use Rattle.lpm_writer.specs.Matching.{AreRetired}
 use Rattle.lpm_writer.specs.Waiting.{tokens_of}
 use Rattle.shared_words.specs.declared.view.View.{View}
-use Rattle.shared_words.specs.Initial.{InitialData, initial_state_of}
+use Rattle.shared_words.specs.Layout.{InitialData, initial_state_of}
 use Rattle.shared_words.specs.Seats.{AreChecked}
 use Rattle.shared_fib.specs.Freeing.{FreesChecked}
 use Rattle.shared_fib.proofs.Freed.{Leaves}

@@ -12,9 +12,8 @@ use Rattle.lpm_limits.specs.declared.refusal.Refusal.{Refusal}
 use Rattle.lpm_limits.specs.declared.refusal.Refusal.TheVariants.{TooManyRules, NoSuchRule, Exhausted, NoGroups, Memory}
 use Rattle.lpm_rules.specs.declared.Put.{Put}
 use Rattle.lpm_rules.specs.declared.Put.TheVariants.{Added, Replaced, Unchanged}
-use Rattle.fib_model.specs.State.{State}
-use Rattle.fib_model.specs.Reclaiming.{MakesRoom, UnlinksOne, Unlinks}
-use Rattle.fib_model.specs.Reclaiming as model
+use Rattle.fib_model.specs.State.{State, MakesRoom, UnlinksOne, Unlinks}
+use Rattle.fib_model.specs.State as model
 use Rattle.fib_model.proofs.ByPlaces.{Passes, Reclaims, by_places}
 use Rattle.fib_model.specs.Outcomes.{Adds, Deletes, Flushes, TakesGroup, HoldsFront, Updates, Shrinks, groups_in_use}
 use Rattle.lpm_rules.specs.RuleMap.{RuleMap}
@@ -23,7 +22,7 @@ use Rattle.std.specs.FinMap.{get, remove, empty}
 use Rattle.lpm_trace.specs.declared.step.WriterStep.{WriterStep}
 use Rattle.lpm_trace.specs.declared.step.WriterStep.TheVariants.{StoreFirst, StoreSecond, BeginUpdate, EndUpdate, BumpToken, LoadCounter}
 use Rattle.lpm_trace.specs.States.{InitialState, state_after}
-use Rattle.lpm_trace.proofs.Counts.{token_is}
+use Rattle.lpm_trace.proofs.Versions.{token_is}
 use Rattle.lpm_writer.specs.Steps.{IsStore, by_steps_from}
 use Rattle.lpm_writer.proofs.StepsAlone.{steps_passed, steps_stopped}
 

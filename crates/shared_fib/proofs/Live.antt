@@ -4,7 +4,7 @@ use Rattle.std.proofs.Common.{◌≡◌, ℕ, ◌<◌, refl, ap, ◌∙◌, List
 use Rattle.std.proofs.lemmas.Option.{slice_get-map}
 use Rattle.std.specs.Prelude.{option_map}
 use Rattle.lpm_bits.specs.Widths.{IsShape}
-use Rattle.lpm_cells.specs.Table.{Words}
+use Rattle.lpm_cells.specs.Words.{Words}
 use Rattle.lpm_groups.specs.declared.GroupState.{GroupState}
 use Rattle.lpm_groups.specs.declared.GroupState.TheVariants.{Free, Linked, Limbo}
 use Rattle.lpm_groups.specs.States.{limbo_count}
@@ -16,8 +16,8 @@ use Rattle.lpm_update.specs.Represents.{Represents}
 use Rattle.lpm_update.specs.Tied.{IsTied, HasGroupRoom}
 use Rattle.lpm_trace.specs.States.{Status, Unused, Linked as LinkedTo, Retired, IsSettled}
 use Rattle.lpm_writer.specs.Resting.{IsResting}
-use Rattle.lpm_writer.proofs.Beginning.{status_at_first, begins_settled, begins_resting}
-use Rattle.shared_words.specs.Initial.{InitialData, status_of, initial_state_of}
+use Rattle.lpm_writer.proofs.Opened.{status_at_first, begins_settled, begins_resting}
+use Rattle.shared_words.specs.Layout.{InitialData, status_of, initial_state_of}
 use Rattle.shared_fib.specs.Initial.{block_of, initial_data_by}
 
 pub none_some : (g : ℕ) → None ≡ Some g → ⊥

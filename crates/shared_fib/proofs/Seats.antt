@@ -1,11 +1,62 @@
+-- The passes of a table's workers, which were made one after another.
+use Rattle.std.proofs.Common.{ℕ, ◌≡◌, ◌+◌, ◌<◌, inl, inr, refl, ap, sym, subst, ◌∙◌, arith, List, [], ◌∷◌, ◌++◌, length, get_or, slice_get, Option, Some, None, zero, suc, ◌≤◌, Result}
+use Rattle.std.proofs.lemmas.Bool.{cases_lt}
+use Rattle.std.proofs.lemmas.List.{get_or_append_left, get_or_at, length-set}
+use Rattle.std.proofs.lemmas.Option.{slice_get_within, slice_get-get_or, slice_get_read}
+use Rattle.atomic_table.specs.Seated.{TableId}
+use Rattle.shared_words.specs.declared.view.View.{View}
+use Rattle.std.specs.Prelude.{false, ◌⊎◌, slice_set, unwrap_or, slice_index_or, ◌↔◌, IfOk, IsErrOf, OnErr}
+use Rattle.shared_fib.specs.Running.{Identity, WriterState, initial_writer}
+use Rattle.shared_fib.specs.Passes.{PassState, IsPassOf, IsFullBench, IsBenchOf, IsPutBack, OwnerState, Registers}
+use Rattle.lpm_limits.specs.declared.refusal.Refusal.{Refusal}
+use Rattle.lpm_limits.specs.declared.refusal.Refusal.TheVariants.{NoSuchWorker, Taken}
+use Rattle.shared_fib.proofs.Seated.{on_err_then}
+use Rattle.lpm_limits.specs.declared.config.Config.{Config}
+use Rattle.lpm_rules.specs.RuleMap.{RuleMap}
+
+same_some : (p q : PassState) → Some (Some p) ≡ Some (Some q) → p ≡ q
+same_some p q e = cc
+
+module _ (words : TableId) (v : View) where
+  -- the pass of worker k
+  abbrev pub pass_of : ℕ → PassState
+  pass_of k = record {
+    table = record { words = words; initial = v.initial };
+    worker = k;
+    online = false;
+    steps = [];
+    seen = v.seen;
+  }
+
+  -- the passes of the first n workers
+  abbrev pub AreMade : ℕ → List (Option PassState) → Type 0
+  AreMade n passes = (k : ℕ) → k < n → (other : Option PassState) → get_or passes k other ≡ Some (pass_of k)
+
+  pub one_more : (n : ℕ) (passes : List (Option PassState)) (p : PassState) → length passes ≡ n → AreMade n passes → p ≡ pass_of n
+      → AreMade (n + 1) (passes ++ Some p ∷ [])
+  one_more n passes p count all one k low other = elim (cases_lt k n) [
+    | inl below ↦ get_or_append_left passes (Some p ∷ []) other k (omega (arith, below, count)) ∙ all k below other
+    | inr above ↦ let here : k ≡ n = omega (arith, low, above) in
+        get_or_at passes (Some p) [] other k (omega (arith, here, count)) ∙ ap Some (one ∙ ap pass_of (sym here))
+  ]
+
+  abbrev identity : Identity
+  identity = record { words = words; initial = v.initial }
+
+  module _ (passes : List (Option PassState)) (count : length passes ≡ v.initial.workers) (all : AreMade v.initial.workers passes) where
+    here : (k : ℕ) → k < v.initial.workers → slice_get passes k ≡ Some (Some (pass_of k))
+    here k low = slice_get-get_or passes k None (omega (arith, low, count)) ∙ ap Some (all k low None)
+
+    is_of : (k : ℕ) (p : PassState) → slice_get passes k ≡ Some (Some p) → IsPassOf identity k p
+    is_of k p found =
+        let low = slice_get_within passes k (Some p) found in
+        subst (IsPassOf identity k) (sym (same_some p (pass_of k) (sym found ∙ here k (omega (arith, low, count)))))
+        (record { table = refl; worker = refl; offline = refl })
+
+    pub full_bench : IsFullBench identity passes
+    full_bench = ((count, is_of), λ k low. (pass_of k, here k low, refl))
+
 -- The passes of a bench after one of them was taken or put back.
-use Rattle.std.proofs.Common.{◌≡◌, ℕ, zero, suc, inl, inr, refl, ap, sym, subst, ◌∙◌, List, [], ◌∷◌, length, slice_get, Option, Some, None}
-use Rattle.std.specs.Prelude.{◌⊎◌, slice_set, unwrap_or}
-use Rattle.std.specs.Prelude.{◌<◌, slice_index_or}
-use Rattle.std.proofs.lemmas.List.{length-set}
-use Rattle.std.proofs.lemmas.Option.{slice_get_read}
-use Rattle.shared_fib.specs.Running.{Identity}
-use Rattle.shared_fib.specs.Passes.{PassState, IsBenchOf, IsPassOf}
 
 some_same : {X : Type 0} (x y : X) → Some x ≡ Some y → x ≡ y
 some_same x y e = ap (λ o. unwrap_or o x) e
@@ -51,3 +102,55 @@ put_back id passes i q bench pass = (
     | inr old ↦ bench.1 k p old
   ],
 )
+
+-- The passes at the bench of an owner.
+
+-- what was taken off a place and put back stands there as before
+pub set_back : {X : Type 0} (xs : List X) (i : ℕ) (x y : X) → slice_get xs i ≡ Some x → slice_set (slice_set xs i y) i x ≡ xs
+set_back [] i x y here = refl
+set_back (z ∷ xs) zero x y here = cc
+set_back (z ∷ xs) (suc i) x y here = ap (λ l. z ∷ l) (set_back xs i x y here)
+
+-- of an owner with this writer and this bench
+module _ (w : WriterState) (old new : List (Option PassState)) (x : OwnerState) (is : record { writer = w; bench = old } ≡ x) where
+  pub registers : (id : Identity) (worker : ℕ) (r : Result PassState Refusal) → w.identity ≡ id
+      → IfOk r (IsPassOf id worker)
+      → IfOk r (λ p. (slice_get old worker ≡ Some (Some p)) × (new ≡ slice_set old worker None))
+      → IsErrOf r NoSuchWorker ↔ (id.initial.workers ≤ worker)
+      → IsErrOf r Taken ↔ (slice_get old worker ≡ Some None)
+      → OnErr r (new ≡ old) → IsBenchOf id new → Registers x worker r (record { writer = w; bench = new })
+  registers id worker r same reader registered no_such_worker taken unchanged own =
+      subst (λ (y : OwnerState). Registers y worker r (record { writer = w; bench = new })) is (record {
+        reader = subst (λ (i : Identity). IfOk r (IsPassOf i worker)) (sym same) reader;
+        registered = registered;
+        no_such_worker = subst (λ (i : Identity). IsErrOf r NoSuchWorker ↔ (i.initial.workers ≤ worker)) (sym same) no_such_worker;
+        taken = taken;
+        unchanged = on_err_then r unchanged (ap (λ (b : List (Option PassState)). record { writer = w; bench = b }));
+        own = subst (λ (i : Identity). IsBenchOf i new) (sym same) own;
+        same = refl;
+      })
+
+  pub takes_back : (pass reader : PassState) → pass ≡ reader → IsPutBack old pass new → IsPutBack x.bench reader new
+  takes_back pass reader same back =
+      subst (λ (z : OwnerState × PassState). IsPutBack z.0.bench z.1 new) (λ i. (is i, same i)) back
+
+-- An owner of what was opened together.
+
+-- it is the owner of this table, which was just opened with these rules
+pub record OpensAs (table : Identity) (config : Config) (rules : RuleMap) (o : OwnerState) : Type 0 where
+  pub identity : o.writer.identity ≡ table
+  pub writer : o.writer ≡ initial_writer o.writer.identity config rules
+  pub bench : IsFullBench o.writer.identity o.bench
+
+pub opens_as : (table : Identity) (config : Config) (rules : RuleMap) (w : WriterState) (b : List (Option PassState)) (o : OwnerState)
+    → o ≡ record { writer = w; bench = b } → w ≡ initial_writer table config rules → IsFullBench table b
+    → OpensAs table config rules o
+opens_as table config rules w b o is opened full =
+    let same : o.writer ≡ w = ap (λ (x : OwnerState). x.writer) is in
+    let identity : o.writer.identity ≡ table = ap (λ (x : WriterState). x.identity) (same ∙ opened) in
+    let bench : o.bench ≡ b = ap (λ (x : OwnerState). x.bench) is in
+    record {
+      identity = identity;
+      writer = same ∙ opened ∙ ap (λ (i : Identity). initial_writer i config rules) (sym identity);
+      bench = subst (λ (z : Identity × List (Option PassState)). IsFullBench z.0 z.1) (λ i. (sym identity i, sym bench i)) full;
+    }

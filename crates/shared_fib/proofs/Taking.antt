@@ -12,7 +12,7 @@ use Rattle.lpm_cells.proofs.Reading.{entry_in_zero}
 use Rattle.lpm_groups.specs.declared.GroupState.{GroupState}
 use Rattle.lpm_groups.specs.declared.GroupState.TheVariants.{Free, Linked, Limbo}
 use Rattle.lpm_groups.specs.States.{IsLinkedTo, IsLimboAt, limbo_count}
-use Rattle.lpm_groups.proofs.Tallies.{Releases-set}
+use Rattle.lpm_groups.proofs.Marking.{Releases-set}
 use Rattle.lpm_update.proofs.Unlinks.{some_group}
 use Rattle.defer_queue.specs.Retired.{IsAbsent}
 use Rattle.lpm_limits.specs.declared.config.Config.{Config}
@@ -21,16 +21,15 @@ use Rattle.lpm_trace.specs.declared.step.WriterStep.{WriterStep}
 use Rattle.lpm_trace.specs.declared.step.WriterStep.TheVariants.{StoreFirst, StoreSecond, BeginUpdate, EndUpdate, BumpToken, LoadCounter}
 use Rattle.lpm_trace.specs.States.{InitialState, TableState, Status, Retired, state_after, with_retired, with_linked, first_entry}
 use Rattle.lpm_trace.specs.States as status
-use Rattle.lpm_trace.proofs.Basics.{with_at_case}
-use Rattle.lpm_trace.proofs.Counts.{token_is, first_word_is, firsts_length}
+use Rattle.lpm_trace.proofs.Versions.{with_at_case, token_is, first_word_is, firsts_length}
 use Rattle.lpm_writer.specs.declared.pool.GroupPool.{GroupPool}
 use Rattle.lpm_writer.specs.Waiting.{AreWaiting, tokens_of}
 use Rattle.lpm_writer.specs.Matching.{AreRetired}
 use Rattle.lpm_writer.specs.Taking.{HasNoneFreeBelow, LinksLeast}
 use Rattle.lpm_writer.specs.Resting.{IsResting, state_of}
 use Rattle.lpm_writer.proofs.LimboItems.{waiting_set, is_freed}
-use Rattle.shared_words.specs.Initial.{InitialData, initial_state_of}
-use Rattle.shared_fib.specs.Taking.{HasGroup, IsGivenUp, IsOccupied, TakesLeast}
+use Rattle.shared_words.specs.Layout.{InitialData, initial_state_of}
+use Rattle.shared_fib.specs.Freeing.{HasGroup, IsGivenUp, IsOccupied, TakesLeast}
 use Rattle.shared_fib.proofs.Live.{never_retired}
 
 -- ---- groups that are given up

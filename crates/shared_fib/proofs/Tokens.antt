@@ -6,22 +6,21 @@ use Rattle.lpm_trace.specs.declared.step.WriterStep.{WriterStep}
 use Rattle.lpm_trace.specs.declared.step.WriterStep.TheVariants.{BumpToken}
 use Rattle.lpm_trace.specs.States.{InitialState, updates_begun_in}
 use Rattle.lpm_trace.specs.Laws.{IsChecked}
-use Rattle.lpm_trace.proofs.Counts.{token_is}
+use Rattle.lpm_trace.proofs.Versions.{token_is}
 use Rattle.lpm_writer.specs.declared.control.ControlState.{ControlState}
 use Rattle.lpm_writer.specs.Steps.{Checks}
 use Rattle.lpm_writer.specs.Traced as traced
 use Rattle.lpm_writer.specs.Resting.{IsResting}
-use Rattle.lpm_writer.specs.Synchronizing.{IsWaiting}
+use Rattle.lpm_writer.specs.Commands.{IsWaiting}
 use Rattle.lpm_writer.specs.Waiting.{tokens_of}
 use Rattle.lpm_writer.proofs.StepsAlone.{checks_alone, checks_fixed}
 use Rattle.shared_words.specs.declared.view.View.{View}
-use Rattle.shared_words.specs.Initial.{InitialData, initial_state_of}
+use Rattle.shared_words.specs.Layout.{InitialData, initial_state_of}
 use Rattle.shared_words.specs.Seats.{AreLawful, with_step}
-use Rattle.shared_fib.specs.GracePeriods.{IsInGrace}
+use Rattle.shared_fib.specs.Leading.{IsInGrace}
 use Rattle.shared_fib.specs.Lent.{Lent, SharedDid, passed_by, state_of_lent, state_of_view, token_by}
 use Rattle.shared_fib.specs.Running.{IsReady, OnlySees}
-use Rattle.shared_fib.proofs.GracePeriods.{either, on_err_then, on_ok_both, on_ok_then, seat_passed, seat_token_stays}
-use Rattle.shared_fib.proofs.Seated.{Kept, kept, does_in, stays, only_sees, outcome_after, rests_after}
+use Rattle.shared_fib.proofs.Seated.{either, on_err_then, on_ok_both, on_ok_then, seat_passed, seat_token_stays, Kept, kept, does_in, stays, only_sees, outcome_after, rests_after}
 use Rattle.shared_fib.proofs.Waited.{exhausted_by, queued_passed}
 
 pub kept_by_check : (o : InitialData) (m z : Lent) (steps later : List WriterStep) (token : ℕ) (r : Result (Unit {0}) Busy)

@@ -6,7 +6,7 @@ use Rattle.lpm_trace.specs.declared.step.WriterStep.{WriterStep}
 use Rattle.lpm_trace.specs.declared.step.WriterStep.TheVariants.{StoreFirst, StoreSecond, BeginUpdate, EndUpdate, BumpToken, LoadCounter}
 use Rattle.lpm_trace.specs.States.{InitialState, TableState, updates_done_in, updates_begun_in, oldest, rules_by, state_after, state_at}
 use Rattle.lpm_trace.specs.Writer.{IsWritten}
-use Rattle.lpm_trace.proofs.Basics.{with_at_case, with_at-same}
+use Rattle.lpm_trace.proofs.Versions.{with_at_case, with_at-same}
 use Rattle.lpm_trace.proofs.Traces.{oldest_all, oldest_old, oldest_new, begun_grows, history_at}
 use Rattle.shared_words.specs.Rule.{IsLater}
 use Rattle.shared_fib.specs.Versions.{updates_begun, updates_done, rules_after, IsVersion}

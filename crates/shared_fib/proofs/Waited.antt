@@ -10,8 +10,8 @@ use Rattle.lpm_trace.specs.declared.step.WriterStep.{WriterStep}
 use Rattle.lpm_trace.specs.declared.step.WriterStep.TheVariants.{BumpToken}
 use Rattle.lpm_trace.specs.States.{InitialState, state_after}
 use Rattle.lpm_writer.specs.declared.pool.GroupPool.{GroupPool}
-use Rattle.lpm_trace.specs.Counts.{token_after, passed_after}
-use Rattle.lpm_trace.proofs.Counts.{token_is, passed_is}
+use Rattle.lpm_trace.specs.Writer.{token_after, passed_after}
+use Rattle.lpm_trace.proofs.Versions.{token_is, passed_is}
 use Rattle.lpm_writer.specs.Steps as by_steps
 use Rattle.lpm_writer.specs.Steps.{AreStopped, Synchronizes}
 use Rattle.lpm_writer.specs.Traced.{Checks}
@@ -19,10 +19,10 @@ use Rattle.lpm_writer.specs.Waiting.{tokens_of}
 use Rattle.lpm_writer.specs.Resting.{IsResting}
 use Rattle.lpm_writer.proofs.StepsAlone.{checks_alone, checks_fixed, stopped_token}
 use Rattle.shared_words.specs.declared.view.View.{View}
-use Rattle.shared_words.specs.Initial.{initial_state_of}
+use Rattle.shared_words.specs.Layout.{initial_state_of}
 use Rattle.shared_fib.specs.Lent.{Lent, SharedDid, SharedDoes, state_of_lent}
 use Rattle.shared_fib.specs.LentLaws.{shared_shows}
-use Rattle.shared_fib.specs.Passing.{PassesAtLast}
+use Rattle.shared_fib.specs.Leading.{PassesAtLast}
 use Rattle.shared_fib.proofs.Seated.{Kept, kept, does_in, stays}
 
 -- the newest token was started last in m, and each check of it since was stopped

@@ -2,12 +2,11 @@
 -- project's).
 use Rattle.std.specs.Prelude.{ℕ, ◌≡◌, ◌+◌, ◌/◌, List, map, length, slice_index, Option, Some, None}
 use Rattle.std.specs.List.{range_with_len}
-use Rattle.lpm_cells.specs.Table.{Words}
+use Rattle.lpm_cells.specs.Words.{Words}
 use Rattle.lpm_groups.specs.declared.GroupState.{GroupState}
 use Rattle.lpm_groups.specs.declared.GroupState.TheVariants.{Free, Linked, Limbo}
 use Rattle.lpm_rules.specs.RuleMap.{RuleMap}
-use Rattle.shared_words.specs.Initial.{InitialData}
-use Rattle.shared_words.specs.Layout.{half, pairs, first_at, token_at, initial_words}
+use Rattle.shared_words.specs.Layout.{InitialData, half, pairs, first_at, token_at, initial_words}
 use Rattle.shared_words.specs.declared.layout.Layout.{Layout}
 
 -- the block that a group is linked to

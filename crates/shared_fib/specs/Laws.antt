@@ -4,8 +4,7 @@ use Rattle.std.specs.Prelude.{ℕ, ◌≡◌, ◌≤◌, ◌⊎◌, List, ◌++�
 use Rattle.lpm_trace.specs.declared.step.WriterStep.{WriterStep}
 use Rattle.lpm_trace.specs.declared.step.WorkerStep.{WorkerStep}
 use Rattle.lpm_trace.specs.States.{InitialState, IsAnswer, updates_done_in, updates_begun_in, state_after, state_at}
-use Rattle.lpm_trace.specs.Workers.{Seen, IsBetweenDeeds}
-use Rattle.lpm_trace.specs.Trace.{worker_by}
+use Rattle.lpm_trace.specs.Trace.{Seen, IsBetweenDeeds, worker_by}
 use Rattle.lpm_trace.specs.Laws.{IsLegalAtPlace}
 use Rattle.shared_words.specs.Rule.{IsLater}
 use Rattle.shared_fib.specs.Running.{WriterState, IsAtRest, initial_state, steps_of}

@@ -1,12 +1,16 @@
 -- This layer's own: what each command of a running table's writer keeps, whatever comes of it.
-use Rattle.std.specs.Prelude.{ℕ, ◌≡◌, List}
+use Rattle.std.specs.Prelude.{ℕ, ◌≡◌, List, ◌≤◌, ◌^◌, Ok}
 use Rattle.atomic_table.specs.Seated.{TableId}
 use Rattle.lpm_writer.specs.declared.control.ControlState.{ControlState}
 use Rattle.shared_words.specs.declared.view.View.{View}
-use Rattle.shared_words.specs.Initial.{InitialData}
+use Rattle.shared_words.specs.Layout.{InitialData, initial_state_of}
 use Rattle.shared_words.specs.Rule.{IsLater}
 use Rattle.shared_fib.specs.Freeing.{FreesChecked}
 use Rattle.shared_fib.specs.Running.{WriterState, state_by, steps_of}
+use Rattle.lpm_trace.specs.States.{state_after, updates_begun_in, InitialState}
+use Rattle.lpm_writer.specs.Commands.{IsWaiting}
+use Rattle.lpm_trace.specs.declared.step.WriterStep.{WriterStep}
+use Rattle.lpm_writer.specs.Steps.{AreStopped, Checks}
 
 -- the writer at this table with this control state, by what its seat knows
 abbrev pub writer_by : {first second : ℕ} → TableId → ControlState first second → View → WriterState
@@ -25,3 +29,27 @@ pub record Leads (Outcome : InitialData → WriterState → WriterState → Type
   pub later : IsLater (steps_of x) (steps_of y)
   pub own : y.identity ≡ x.identity
   pub config : y.config ≡ x.config
+
+-- This layer's own: a writer whose token was started, up to the check that passes (DPDK Programmer's Guide,
+-- "RCU Library": a writer starts a token, and checks it until each reader has let it pass).
+
+-- after the steps of the seat the control state waits for its token
+abbrev pub WaitsBy : (first second : ℕ) → ControlState first second → View → Type 0
+WaitsBy first second control v = IsWaiting first second (initial_state_of v.initial) v.seen
+    control.config control.rules control.pool control.versions
+
+-- the same, and neither the tokens nor the updates are past their bound
+pub record IsInGrace (first second : ℕ) (control : ControlState first second) (v : View) : Type 0 where
+  pub waits : WaitsBy first second control v
+  pub token : (state_after (initial_state_of v.initial) v.seen).token ≤ 2 ^ 62
+  pub updates : updates_begun_in (state_after (initial_state_of v.initial) v.seen) ≤ 2 ^ 61
+
+-- This layer's own: the checks of a token that was started, up to the first that passes (DPDK Programmer's
+-- Guide, "RCU Library", and `rte_rcu_qsbr_synchronize` of its API: the check is made again until each
+-- reader has let the token pass).
+
+-- after the steps x some checks of the newest token were stopped, and then one passed; z are the steps then
+abbrev pub PassesAtLast : InitialState → List WriterStep → List WriterStep → Type 0
+PassesAtLast c x z = (stops : ℕ) × (last : List WriterStep)
+    × AreStopped c.workers stops x (state_after c x).token last
+    × Checks c.workers last (state_after c x).token (Ok tt) z

@@ -5,11 +5,10 @@ use Rattle.std.specs.Coded.{Coded, code_by, coded×, coded_ℕ}
 use Rattle.atomic_table.specs.Seated.{TableId, table_id_coded}
 use Rattle.lpm_trace.specs.declared.step.WriterStep.{WriterStep}
 use Rattle.lpm_trace.specs.States.{InitialState, TableState, state_after, updates_begun_in}
-use Rattle.lpm_trace.specs.Counts.{token_after, passed_after}
-use Rattle.lpm_trace.specs.Writer.{IsWritten, MayStep}
+use Rattle.lpm_trace.specs.Writer.{token_after, passed_after, IsWritten, MayStep}
 use Rattle.shared_words.specs.declared.view.View.{View}
 use Rattle.shared_words.specs.contracts.view.View as view_row
-use Rattle.shared_words.specs.Initial.{initial_state_of}
+use Rattle.shared_words.specs.Layout.{initial_state_of}
 use Rattle.shared_words.specs.Seats.{with_step}
 
 -- a seat that was lent under a name: its table, and what it knows

@@ -3,9 +3,9 @@ use Rattle.std.proofs.Common.{◌≡◌, List, ◌∷◌, ap, sym, subst, ◌∙
 use Rattle.lpm_trace.specs.declared.step.WriterStep.{WriterStep}
 use Rattle.lpm_trace.specs.States.{InitialState, state_after}
 use Rattle.lpm_trace.specs.Writer.{MayStep}
-use Rattle.lpm_writer.specs.MemorySteps.{MayBeNext}
+use Rattle.lpm_writer.specs.Plain.{MayBeNext}
 use Rattle.shared_words.specs.declared.view.View.{View}
-use Rattle.shared_words.specs.Initial.{initial_state_of}
+use Rattle.shared_words.specs.Layout.{initial_state_of}
 use Rattle.shared_fib.specs.Lent.{Lent, SharedMay, SharedDid, SharedDoes, state_of_lent}
 
 pub shared_follows : (m : Lent) (s : WriterStep) (z : Lent) (c : InitialState) (steps : List WriterStep)

@@ -1,16 +1,12 @@
 pub mod Running
-pub mod Passing
 pub mod Freeing
-pub mod Taking
 pub mod Versions
-pub mod Passes
 pub mod Loading
-pub mod GracePeriods
 pub mod Laws
 pub mod Initial
 pub mod Lent
 pub mod LentLaws
 pub mod Pairs
 pub mod Bursts
-pub mod Owned
+pub mod Passes
 pub mod Leading

@@ -10,8 +10,7 @@ use Rattle.lpm_sweep.specs.Swept.{AreNumbered}
 use Rattle.defer_queue.specs.Limbo.{Limbo as Queue}
 use Rattle.lpm_trace.specs.States.{IsSettled}
 use Rattle.lpm_writer.specs.Resting.{IsResting}
-use Rattle.shared_words.specs.Initial.{initial_state_of}
-use Rattle.shared_words.specs.Layout.{packed_words}
+use Rattle.shared_words.specs.Layout.{initial_state_of, packed_words}
 use Rattle.shared_fib.specs.declared.initial_table.InitialTable.{InitialTable}
 use Rattle.shared_fib.specs.Initial.{ArePacked}
 use Rattle.shared_fib.specs.Running.{initial_data_of}

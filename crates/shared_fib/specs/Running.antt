@@ -12,19 +12,15 @@ use Rattle.fib.specs.Fib.{coded_config}
 use Rattle.lpm_trace.specs.declared.step.WriterStep.{WriterStep}
 use Rattle.lpm_trace.specs.contracts.step.WriterStep as step_row
 use Rattle.lpm_trace.specs.States.{InitialState, TableState, state_after, addresses, answer, IsAnswer, updates_done_in, updates_begun_in}
-use Rattle.lpm_trace.specs.Counts.{token_after, passed_after}
-use Rattle.lpm_trace.specs.Writer.{IsWritten}
-use Rattle.lpm_trace.specs.Trace.{worker_by}
-use Rattle.lpm_trace.specs.Workers.{Phase, Offline, Online}
+use Rattle.lpm_trace.specs.Writer.{token_after, passed_after, IsWritten}
+use Rattle.lpm_trace.specs.Trace.{worker_by, Phase, Offline, Online}
 use Rattle.lpm_writer.specs.declared.control.ControlState.{ControlState}
-use Rattle.lpm_writer.specs.Steps.{by_steps_from}
+use Rattle.lpm_writer.specs.Steps.{by_steps_from, StoresOnce}
 use Rattle.lpm_writer.specs.Matching.{IsLimbo}
-use Rattle.lpm_writer.specs.Stores.{StoresOnce}
 use Rattle.lpm_writer.specs.Resting.{IsResting, state_of}
 use Rattle.shared_words.specs.declared.layout.Layout.{Layout}
 use Rattle.shared_words.specs.declared.view.View.{View}
-use Rattle.shared_words.specs.Initial.{InitialData, coded_initial_data, initial_state_of}
-use Rattle.shared_words.specs.Layout.{word_count}
+use Rattle.shared_words.specs.Layout.{InitialData, coded_initial_data, initial_state_of, word_count}
 use Rattle.shared_fib.specs.declared.initial_table.InitialTable.{InitialTable}
 use Rattle.shared_fib.specs.Initial.{initial_data_of_words}
 

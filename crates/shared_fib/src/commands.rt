@@ -5,7 +5,7 @@ ghost use Rattle.fib_model.specs.Outcomes.{Adds, Deletes, Flushes, Frees};
 ghost use Rattle.shared_words.specs.Seats.{IsOf};
 ghost use Rattle.shared_fib.specs.Leading.{Leads, writer_by};
 ghost use Rattle.shared_fib.specs.Running.{IsReady, by_steps};
-ghost use Rattle.shared_fib.specs.Taking.{TakesLeast};
+ghost use Rattle.shared_fib.specs.Freeing.{TakesLeast};
 
 use crate::SharedMemory;
 use crate::table::Words;

@@ -1,7 +1,7 @@
 //! A packed list of table words as one that a sweep fills.
 
 ghost use Rattle.std.specs.Prelude.{◌≡◌, ◌<◌, OnOk, length};
-ghost use Rattle.lpm_sweep.specs.Frames.{Fills};
+ghost use Rattle.lpm_sweep.specs.Swept.{Fills};
 
 use crate::Pairs;
 use lpm_sweep::WordList;

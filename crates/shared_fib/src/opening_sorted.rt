@@ -4,7 +4,7 @@ ghost use Rattle.std.specs.Prelude.{◌≡◌, ◌↔◌, ◌⊎◌, ◌+◌, �
 ghost use Rattle.std.specs.FinMap as map;
 ghost use Rattle.lpm_bits.specs.Widths.{IsShape};
 ghost use Rattle.lpm_limits.specs.Limits.{IsConfig};
-ghost use Rattle.lpm_rules.specs.Listed.{AreInOrder, rules_of};
+ghost use Rattle.lpm_rules.specs.RuleMap.{AreInOrder, rules_of};
 ghost use Rattle.fib_model.specs.Outcomes.{groups_in_use};
 ghost use Rattle.shared_words.specs.Layout.{packed_words};
 ghost use Rattle.shared_fib.specs.Loading.{AreSwept, IsLoaded};

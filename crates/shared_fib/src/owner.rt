@@ -7,17 +7,15 @@ ghost use Rattle.fib_model.specs.Outcomes.{Adds, Deletes, Flushes, Frees, groups
 ghost use Rattle.lpm_limits.specs.Limits.{IsConfig};
 ghost use Rattle.lpm_limits.specs.declared.refusal.Refusal.{Refusal};
 ghost use Rattle.lpm_rules.specs.declared.Put.{Put};
-ghost use Rattle.lpm_rules.specs.Matches.{IsMatch};
-ghost use Rattle.lpm_rules.specs.Walking.{IsNextRule};
+ghost use Rattle.lpm_rules.specs.Longest.{IsMatch};
+ghost use Rattle.lpm_rules.specs.RuleMap.{IsNextRule};
 ghost use Rattle.lpm_trace.specs.declared.step.WorkerStep.TheVariants.{MeetWriter};
 ghost use Rattle.lpm_trace.specs.Laws.{IsChecked};
-ghost use Rattle.lpm_writer.specs.Blank.{blank_state};
+ghost use Rattle.lpm_writer.specs.Resting.{blank_state};
 ghost use Rattle.lpm_writer.specs.Steps.{Synchronizes};
-ghost use Rattle.shared_fib.specs.Taking.{TakesLeast};
+ghost use Rattle.shared_fib.specs.Freeing.{TakesLeast, FreesChecked};
 ghost use Rattle.shared_words.specs.Rule.{IsLater};
-ghost use Rattle.shared_fib.specs.Freeing.{FreesChecked};
-ghost use Rattle.shared_fib.specs.Owned.{Registers};
-ghost use Rattle.shared_fib.specs.Passes.{IsBenchOf, IsFullBench, IsPutBack, Makes};
+ghost use Rattle.shared_fib.specs.Passes.{Registers, IsBenchOf, IsFullBench, IsPutBack, Makes};
 ghost use Rattle.shared_fib.specs.Running.{IsAtRest, by_steps, initial_writer, passed_of, initial_state, steps_of, token_of};
 
 use crate::reader::register;
@@ -49,8 +47,7 @@ pub struct Owner {
 impl Model for Owner {
     ghost use Rattle.std.specs.Prelude.{◌≡◌};
     ghost use Rattle.std.specs.Arc.{arc_value};
-    ghost use Rattle.shared_fib.specs.Passes.{IsBenchOf};
-    ghost use Rattle.shared_fib.specs.Owned.{OwnerState, coded_owner};
+    ghost use Rattle.shared_fib.specs.Passes.{IsBenchOf, OwnerState, coded_owner};
 
     ghost Value = { OwnerState };
 

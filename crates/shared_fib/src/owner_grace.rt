@@ -5,8 +5,7 @@ ghost use Rattle.std.specs.Arc.{arc_value};
 ghost use Rattle.lpm_trace.specs.declared.step.WriterStep.TheVariants.{BumpToken};
 ghost use Rattle.lpm_trace.specs.Laws.{IsChecked};
 ghost use Rattle.lpm_writer.specs.Steps.{Checks};
-ghost use Rattle.shared_fib.specs.Passes.{IsBenchOf, IsPutBack};
-ghost use Rattle.shared_fib.specs.Owned.{Registers};
+ghost use Rattle.shared_fib.specs.Passes.{IsBenchOf, IsPutBack, Registers};
 ghost use Rattle.shared_fib.specs.Running.{passed_of, steps_of, token_of};
 
 use crate::reader::register;
@@ -28,8 +27,7 @@ pub struct GracePeriod {
 impl Model for GracePeriod {
     ghost use Rattle.std.specs.Prelude.{◌≡◌};
     ghost use Rattle.std.specs.Arc.{arc_value};
-    ghost use Rattle.shared_fib.specs.Passes.{IsBenchOf};
-    ghost use Rattle.shared_fib.specs.Owned.{OwnerState, coded_owner};
+    ghost use Rattle.shared_fib.specs.Passes.{IsBenchOf, OwnerState, coded_owner};
 
     ghost Value = { OwnerState };
 

@@ -3,7 +3,7 @@
 ghost use Rattle.std.specs.Prelude.{◌≡◌, ◌↔◌, ◌<◌, ◌≤◌, ◌⊎◌, IfOk, IfErr, IfSome, IsNone};
 ghost use Rattle.std.specs.FinMap as map;
 ghost use Rattle.lpm_limits.specs.Limits.{IsConfig};
-ghost use Rattle.lpm_rules.specs.Listed.{rules_of};
+ghost use Rattle.lpm_rules.specs.RuleMap.{rules_of};
 ghost use Rattle.fib_model.specs.Outcomes.{groups_in_use};
 ghost use Rattle.shared_fib.specs.Passes.{IsFullBench};
 ghost use Rattle.shared_fib.specs.Running.{initial_writer};

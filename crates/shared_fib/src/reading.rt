@@ -4,8 +4,8 @@ ghost use Rattle.std.specs.Prelude.{◌≡◌, ◌+◌, ◌^◌, ◌<◌, ◌≤
 ghost use Rattle.std.specs.FinMap as map;
 ghost use Rattle.fib_model.specs.Outcomes.{groups_in_use};
 ghost use Rattle.lpm_limits.specs.Limits.{IsConfig};
-ghost use Rattle.lpm_rules.specs.Matches.{IsMatch};
-ghost use Rattle.lpm_rules.specs.Walking.{IsNextRule};
+ghost use Rattle.lpm_rules.specs.Longest.{IsMatch};
+ghost use Rattle.lpm_rules.specs.RuleMap.{IsNextRule};
 ghost use Rattle.shared_fib.specs.Running.{IsAtRest, token_of};
 
 use crate::{SharedTable, Writer};

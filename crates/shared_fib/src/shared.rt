@@ -2,7 +2,7 @@
 
 ghost use Rattle.std.specs.Prelude.{◌≡◌, ◌^◌, ◌≤◌};
 ghost use Rattle.lpm_trace.specs.States.{state_after, updates_begun_in};
-ghost use Rattle.shared_words.specs.Initial.{initial_state_of};
+ghost use Rattle.shared_words.specs.Layout.{initial_state_of};
 ghost use Rattle.shared_words.specs.Seats.{AreLawful, IsOf};
 ghost use Rattle.shared_fib.specs.Lent.{SharedDid, state_of_lent};
 

@@ -4,12 +4,12 @@ ghost use Rattle.std.specs.Prelude.{◌≡◌, ◌+◌, ◌^◌, ◌<◌, ◌≤
 ghost use Rattle.lpm_trace.specs.Laws.{IsChecked};
 ghost use Rattle.lpm_writer.specs.Waiting.{tokens_of};
 ghost use Rattle.lpm_writer.specs.Steps.{Synchronizes};
-ghost use Rattle.lpm_writer.specs.Synchronizing.{IsWaiting};
-ghost use Rattle.shared_words.specs.Initial.{initial_state_of};
+ghost use Rattle.lpm_writer.specs.Commands.{IsWaiting};
+ghost use Rattle.shared_words.specs.Layout.{initial_state_of};
 ghost use Rattle.shared_words.specs.Rule.{IsLater};
 ghost use Rattle.shared_words.specs.Seats.{IsOf};
 ghost use Rattle.shared_fib.specs.Lent.{SharedDid, passed_by, token_by};
-ghost use Rattle.shared_fib.specs.Passing.{PassesAtLast};
+ghost use Rattle.shared_fib.specs.Leading.{PassesAtLast};
 ghost use Rattle.shared_fib.specs.Running.{IsReady, OnlySees, IsRestingBy, passed_of, steps_of, token_of};
 
 use crate::table::Words;

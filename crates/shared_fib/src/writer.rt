@@ -3,9 +3,8 @@
 ghost use Rattle.std.specs.Prelude.{ℕ, ◌≡◌, List, take};
 ghost use Rattle.fib_model.specs.Outcomes.{Adds, Deletes, Flushes, Frees};
 ghost use Rattle.shared_words.specs.Rule.{IsLater};
-ghost use Rattle.shared_fib.specs.Freeing.{FreesChecked};
+ghost use Rattle.shared_fib.specs.Freeing.{FreesChecked, TakesLeast};
 ghost use Rattle.shared_fib.specs.Running.{IsReady, by_steps, state_by, steps_of};
-ghost use Rattle.shared_fib.specs.Taking.{TakesLeast};
 
 use crate::SharedTable;
 use crate::commands::{add_by, delete_by, flush_by, reclaim_by};

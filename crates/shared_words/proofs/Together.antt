@@ -4,19 +4,16 @@ use Rattle.std.proofs.lemmas.List.Elements.{All-nil, All-cons, All-head, All-tai
 use mathlib.Core.List.{reverse_aux, reverse_aux-eq, tail}
 use Rattle.lpm_cells.specs.declared.entry.Entry.{Entry}
 use Rattle.lpm_cells.specs.declared.entry.Entry.TheVariants.{Miss, Hop, Group}
-use Rattle.lpm_cells.specs.Table.{IsFirstWord}
-use Rattle.lpm_cells.specs.Words.{entry_in, hop_in, IsLast}
+use Rattle.lpm_cells.specs.Words.{IsFirstWord, entry_in, hop_in, IsLast}
 use Rattle.lpm_trace.specs.declared.step.WorkerStep.{WorkerStep}
 use Rattle.lpm_trace.specs.declared.step.WorkerStep.TheVariants.{BeginLookup, LoadFirst, LoadSecond, EndLookup}
 use Rattle.lpm_trace.specs.States.{done_at, begun_at}
-use Rattle.lpm_trace.specs.Trace.{worker_by}
-use Rattle.lpm_trace.specs.Workers.{Worker as WorkerState, Online, LookingUp, Unread, InGroup, Answered, Seen, Probe, worker_by_step, with_answers, read_first, first_read, second_read, AreBegun, AreAnswered}
+use Rattle.lpm_trace.specs.Trace.{worker_by, Worker as WorkerState, Online, LookingUp, Unread, InGroup, Answered, Seen, Probe, worker_by_step, with_answers, read_first, first_read, second_read, AreBegun, AreAnswered}
 use Rattle.lpm_trace.specs.Laws.{IsLegalAtPlace}
 use Rattle.shared_words.specs.declared.view.View.{View}
-use Rattle.shared_words.specs.Initial.{InitialData, initial_state_of}
+use Rattle.shared_words.specs.Layout.{InitialData, initial_state_of}
 use Rattle.shared_words.specs.Seats.{IsSound, Gains, IsSecondAt}
-use Rattle.shared_words.specs.Loads.{Found, IsReadOn, last_at, seen_of, firsts_at, loads_at, second_load, seconds_at}
-use Rattle.shared_words.specs.Deeds.{GainsAt, GoesOn, LoadsFirsts, LoadsLast, IsNextWith, LooksFor, LooksUp, LooksUpAll, first_words, loads_first}
+use Rattle.shared_words.specs.Deeds.{Found, IsReadOn, last_at, seen_of, firsts_at, loads_at, second_load, seconds_at, GainsAt, GoesOn, LoadsFirsts, LoadsLast, IsNextWith, LooksFor, LooksUp, LooksUpAll, first_words, loads_first}
 use Rattle.shared_words.proofs.Deeds.{alone, gains_on, goes_at, goes_on, gains_state, around, later_longer, answered, word_fits}
 
 -- ---- the probes of a lookup

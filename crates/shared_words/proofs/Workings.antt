@@ -6,24 +6,22 @@ use mathlib.Core.Option.{some}
 use lib.ListN.{get_elem?}
 use Rattle.atomic_table.specs.Table.{State, Me, keeps, Allows}
 use Rattle.atomic_table.proofs.Lists.{at_set}
-use Rattle.lpm_cells.specs.Table.{IsWords}
+use Rattle.lpm_cells.specs.Words.{IsWords}
 use Rattle.lpm_trace.specs.declared.step.WriterStep.{WriterStep}
 use Rattle.lpm_trace.specs.declared.step.WorkerStep.{WorkerStep}
 use Rattle.lpm_trace.specs.declared.step.TraceStep.{TraceStep}
 use Rattle.lpm_trace.specs.declared.step.TraceStep.TheVariants.{Worker as ByWorker}
 use Rattle.lpm_trace.specs.States.{IsSettled, state_after}
-use Rattle.lpm_trace.specs.Workers.{Worker as WorkerState, worker_by_step, MayRead}
+use Rattle.lpm_trace.specs.Trace.{Worker as WorkerState, worker_by_step, MayRead, World, after, IsTrace, MayCome, writes, own_steps, worker_by}
 use Rattle.lpm_trace.specs.Writer.{IsWritten}
-use Rattle.lpm_trace.specs.Trace.{World, after, IsTrace, MayCome, writes, own_steps, worker_by}
 use Rattle.lpm_trace.specs.Laws.{IsLegalAtPlace, ArePlaced}
-use Rattle.lpm_trace.proofs.Basics.{with_at_case}
+use Rattle.lpm_trace.proofs.Versions.{with_at_case}
 use Rattle.lpm_trace.proofs.Traces.{tables_of}
 use Rattle.lpm_trace.proofs.Promises.{writer_is_alone, words_are_entries, own_lookups_are_legal, own_steps_are_placed, places_never_fall}
 use Rattle.shared_words.specs.declared.view.Role.{Role}
 use Rattle.shared_words.specs.declared.view.Role.TheVariants.{Writer, Worker, Note}
 use Rattle.shared_words.specs.declared.view.View.{View}
-use Rattle.shared_words.specs.Initial.{InitialData, initial_state_of}
-use Rattle.shared_words.specs.Layout.{half, first_at, second_at, sequence_at, token_at, counter_at, IsLaidOut}
+use Rattle.shared_words.specs.Layout.{InitialData, initial_state_of, half, first_at, second_at, sequence_at, token_at, counter_at, IsLaidOut}
 use Rattle.shared_words.specs.Rule.{Seating, Sits, IsViewOf, Holds}
 use Rattle.shared_words.specs.Seats.{IsSound, Gains, WorkerGains}
 use Rattle.shared_words.proofs.Laying.{lays_same}

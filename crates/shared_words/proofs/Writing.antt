@@ -5,7 +5,7 @@ use mathlib.Core.Option.{none, some, some-injective, some-ne-none}
 use lib.ListN.{get_elem?}
 use Rattle.atomic_table.specs.Table.{State, Me, step, keeps, Allows, Splits, opening}
 use Rattle.atomic_table.proofs.Lists.{at_set, set_again}
-use Rattle.lpm_cells.specs.Table.{IsWords}
+use Rattle.lpm_cells.specs.Words.{IsWords}
 use Rattle.lpm_cells.proofs.Reading.{word_below}
 use Rattle.lpm_trace.specs.declared.step.RuleChange.{RuleChange}
 use Rattle.lpm_trace.specs.declared.step.WriterStep.{WriterStep}
@@ -21,8 +21,7 @@ use Rattle.lpm_trace.proofs.Promises.{writer_is_alone, writer_goes_on, passed_is
 use Rattle.shared_words.specs.declared.view.Role.{Role}
 use Rattle.shared_words.specs.declared.view.Role.TheVariants.{Writer, Worker, Note}
 use Rattle.shared_words.specs.declared.view.View.{View}
-use Rattle.shared_words.specs.Initial.{InitialData, initial_state_of}
-use Rattle.shared_words.specs.Layout.{IsLaidOut, half, first_at, second_at, sequence_at, token_at, counter_at, initial_words}
+use Rattle.shared_words.specs.Layout.{InitialData, initial_state_of, IsLaidOut, half, first_at, second_at, sequence_at, token_at, counter_at, initial_words}
 use Rattle.shared_words.specs.Rule.{IsLater, Seating, Sits, IsViewOf, Holds, writer_view, worker_view, with_one_more}
 use Rattle.shared_words.specs.Seats.{AreLawful, WriterGains, IsFoundAt, KeepsFirst, KeepsSecond, WriterLooks, with_step, left_by, MayFollow}
 use Rattle.shared_words.proofs.Laying.{firsts_length, seconds_length, lays_first, lays_second, lays_sequence, lays_token, lays_none, lays_opening}

@@ -1,6 +1,4 @@
-pub mod Initial
 pub mod Layout
 pub mod Rule
 pub mod Seats
-pub mod Loads
 pub mod Deeds

@@ -12,8 +12,7 @@ use Rattle.lpm_trace.specs.Trace.{after, IsTrace, writes, own_steps}
 use Rattle.shared_words.specs.declared.view.Role.{Role}
 use Rattle.shared_words.specs.declared.view.Role.TheVariants.{Writer, Worker, Note}
 use Rattle.shared_words.specs.declared.view.View.{View}
-use Rattle.shared_words.specs.Initial.{InitialData, initial_state_of, no_initial_data}
-use Rattle.shared_words.specs.Layout.{IsLaidOut}
+use Rattle.shared_words.specs.Layout.{InitialData, initial_state_of, no_initial_data, IsLaidOut}
 
 -- the list went on from there, the newest first
 abbrev pub IsLater : List WriterStep → List WriterStep → Type 0

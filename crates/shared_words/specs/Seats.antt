@@ -8,21 +8,17 @@ use Rattle.atomic_table.specs.Table.{Me, Step}
 use Rattle.lpm_trace.specs.declared.step.WriterStep.{WriterStep}
 use Rattle.lpm_trace.specs.declared.step.WorkerStep.{WorkerStep}
 use Rattle.lpm_trace.specs.declared.step.WorkerStep.TheVariants.{LoadFirst, LoadSecond}
-use Rattle.lpm_cells.specs.Words.{IsLastWord}
+use Rattle.lpm_cells.specs.Words.{IsLastWord, IsWords, IsFirstWord}
 use Rattle.lpm_trace.specs.States.{TableState, state_after}
-use Rattle.lpm_trace.specs.Writer.{IsWritten, MayStep}
-use Rattle.lpm_trace.specs.Trace.{worker_by}
-use Rattle.lpm_trace.specs.Workers.{Probe, Unread, InGroup, Answered}
-use Rattle.lpm_trace.specs.Counts.{passed_after}
+use Rattle.lpm_trace.specs.Writer.{IsWritten, MayStep, passed_after}
+use Rattle.lpm_trace.specs.Trace.{worker_by, Probe, Unread, InGroup, Answered}
 use Rattle.lpm_trace.specs.Laws.{IsLegalAtPlace, ArePlaced, IsChecked}
-use Rattle.lpm_cells.specs.Table.{IsWords, IsFirstWord}
 use Rattle.shared_words.specs.declared.view.View.{View}
 use Rattle.shared_words.specs.contracts.view.View as view_row
 use Rattle.shared_words.specs.declared.view.Role.TheVariants.{Worker as AsWorker, Writer as AsWriter}
 use Rattle.shared_words.specs.declared.layout.Layout.{Layout}
 use Rattle.shared_words.specs.contracts.layout.Layout as layout_row
-use Rattle.shared_words.specs.Layout.{half, word_count, first_at, second_at, sequence_at, token_at}
-use Rattle.shared_words.specs.Initial.{InitialData, coded_initial_data, initial_state_of}
+use Rattle.shared_words.specs.Layout.{half, word_count, first_at, second_at, sequence_at, token_at, InitialData, coded_initial_data, initial_state_of}
 use Rattle.shared_words.specs.Rule.{IsLater}
 
 -- what callers see of the words: which table of atomic words it is, what it was opened with, and where each

@@ -3,8 +3,7 @@
 ghost use Rattle.std.specs.Prelude.{◌≡◌, ℕ, ◌+◌, ◌^◌, ◌<◌};
 ghost use Rattle.lpm_bits.specs.Widths.{IsShape};
 ghost use Rattle.lpm_cells.specs.Words.{IsLastWord};
-ghost use Rattle.lpm_trace.specs.Trace.{worker_by};
-ghost use Rattle.lpm_trace.specs.Workers.{Online};
+ghost use Rattle.lpm_trace.specs.Trace.{worker_by, Online};
 ghost use Rattle.shared_words.specs.Seats.{IsOf};
 ghost use Rattle.shared_words.specs.Deeds.{LoadsLast, LooksFor, LooksUp};
 

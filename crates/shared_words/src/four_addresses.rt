@@ -2,9 +2,8 @@
 
 ghost use Rattle.std.specs.Prelude.{◌≡◌, ℕ, ◌+◌, ◌^◌, ◌<◌, All, length, [], ◌∷◌};
 ghost use Rattle.lpm_bits.specs.Widths.{IsShape};
-ghost use Rattle.lpm_cells.specs.Table.{IsFirstWord};
-ghost use Rattle.lpm_trace.specs.Trace.{worker_by};
-ghost use Rattle.lpm_trace.specs.Workers.{Online, LookingUp, Unread};
+ghost use Rattle.lpm_cells.specs.Words.{IsFirstWord};
+ghost use Rattle.lpm_trace.specs.Trace.{worker_by, Online, LookingUp, Unread};
 ghost use Rattle.shared_words.specs.Seats.{IsOf};
 ghost use Rattle.shared_words.specs.Deeds.{LoadsFirsts, LooksUpAll};
 

@@ -1,6 +1,6 @@
 //! What a shared table is opened with.
 
-ghost use Rattle.shared_words.specs.Initial.{InitialData};
+ghost use Rattle.shared_words.specs.Layout.{InitialData};
 
 use std::marker::Model;
 
@@ -10,7 +10,7 @@ pub struct Initial {
 }
 
 impl Model for Initial {
-    ghost use Rattle.shared_words.specs.Initial.{InitialData, coded_initial_data, no_initial_data};
+    ghost use Rattle.shared_words.specs.Layout.{InitialData, coded_initial_data, no_initial_data};
 
     ghost Value = { InitialData };
 

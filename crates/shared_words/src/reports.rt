@@ -2,8 +2,7 @@
 
 ghost use Rattle.std.specs.Prelude.{◌≡◌, ℕ, ◌<◌, [], ◌∷◌};
 ghost use Rattle.lpm_trace.specs.declared.step.WorkerStep.TheVariants.{LoadOnline, StoreOnline, LoadQuiescent, StoreQuiescent, StoreOffline};
-ghost use Rattle.lpm_trace.specs.Trace.{worker_by};
-ghost use Rattle.lpm_trace.specs.Workers.{Offline, Online};
+ghost use Rattle.lpm_trace.specs.Trace.{worker_by, Offline, Online};
 ghost use Rattle.shared_words.specs.Seats.{IsOf};
 ghost use Rattle.shared_words.specs.Deeds.{GainsAll, GoesOn};
 

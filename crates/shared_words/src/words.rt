@@ -2,8 +2,7 @@
 
 ghost use Rattle.std.specs.Prelude.{◌≡◌, ℕ, ◌+◌, ◌<◌, ◌≤◌, length, IfOk, []};
 ghost use Rattle.lpm_trace.specs.States.{IsSettled};
-ghost use Rattle.shared_words.specs.Initial.{initial_state_of};
-ghost use Rattle.shared_words.specs.Layout.{initial_words};
+ghost use Rattle.shared_words.specs.Layout.{initial_state_of, initial_words};
 ghost use Rattle.shared_words.specs.Rule.{writer_view};
 ghost use Rattle.shared_words.specs.Seats.{IsOf};
 

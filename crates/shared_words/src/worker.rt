@@ -1,14 +1,12 @@
 //! The seat of a worker.
 
 ghost use Rattle.std.specs.Prelude.{◌≡◌, ℕ, ◌+◌, ◌<◌, All};
-ghost use Rattle.lpm_cells.specs.Words.{IsLastWord};
-ghost use Rattle.lpm_cells.specs.Table.{IsFirstWord};
+ghost use Rattle.lpm_cells.specs.Words.{IsLastWord, IsFirstWord};
 ghost use Rattle.lpm_trace.specs.declared.step.WorkerStep.TheVariants.{LoadOnline, StoreOnline, LoadQuiescent, StoreQuiescent, StoreOffline, BeginLookup, LoadFirst as FirstLoad, LoadSecond as SecondLoad, EndLookup, MeetWriter};
 ghost use Rattle.lpm_trace.specs.States.{addresses};
-ghost use Rattle.lpm_trace.specs.Trace.{worker_by};
-ghost use Rattle.lpm_trace.specs.Workers.{Offline, ComingOnline, Online, LookingUp, ReportingQuiescent, AreBegun, AreAnswered, IsBetweenDeeds};
+ghost use Rattle.lpm_trace.specs.Trace.{worker_by, Offline, ComingOnline, Online, LookingUp, ReportingQuiescent, AreBegun, AreAnswered, IsBetweenDeeds};
 ghost use Rattle.shared_words.specs.declared.view.Role.TheVariants.{Worker as AsWorker};
-ghost use Rattle.shared_words.specs.Initial.{initial_state_of};
+ghost use Rattle.shared_words.specs.Layout.{initial_state_of};
 ghost use Rattle.shared_words.specs.Seats.{IsOf, IsSound, Gains, IsFirstAt, IsSecondAt};
 
 use crate::initial::InitialContent;

@@ -5,7 +5,7 @@ use Rattle.std.proofs.lemmas.Bool.{cases_eq, cases_lt}
 use Rattle.std.proofs.lemmas.List.{get_or-append-add, get_or-map, get_or_append_left, length-append, length-map}
 use Rattle.std.proofs.lemmas.Option.{get_or_from_slice_get, slice_get_within}
 use Rattle.shared_fib.specs.Passes.{PassState}
-use Rattle.bulk.proofs.Seating.{others_stay}
+use Rattle.bulk.proofs.Meetings.{others_stay}
 use Rattle.storm.specs.Looking.{AreInSeats, AreOfWorkers, EachAt, IsUnused, passes_of}
 use Rattle.storm.specs.declared.looking.Worker.{Worker}
 

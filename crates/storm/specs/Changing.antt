@@ -18,7 +18,7 @@ use Rattle.fib_model.specs.Outcomes.{Runs, log_after}
 use Rattle.lpm_trace.specs.declared.step.WriterStep.{WriterStep}
 use Rattle.lpm_trace.specs.States.{updates_begun_in}
 use Rattle.lpm_writer.specs.Making.{HasWidths}
-use Rattle.shared_words.specs.Initial.{InitialData}
+use Rattle.shared_words.specs.Layout.{InitialData}
 use Rattle.shared_fib.specs.Running.{Identity, IsAtRest, WriterState, by_steps, state_of_writer, initial_writer, initial_state}
 use Rattle.audit.specs.Wrong.{version_from}
 

@@ -1,5 +1,4 @@
 pub mod Changing
 pub mod Looking
-pub mod Plans
 pub mod Threads
 pub mod Storm

@@ -6,8 +6,7 @@ use Rattle.std.specs.List.{AllPairs, flat_map}
 use Rattle.lpm_rules.specs.declared.Answer.{Answer}
 use Rattle.lpm_trace.specs.declared.step.WriterStep.{WriterStep}
 use Rattle.lpm_trace.specs.States.{InitialState}
-use Rattle.lpm_trace.specs.Trace.{worker_by}
-use Rattle.lpm_trace.specs.Workers.{Seen}
+use Rattle.lpm_trace.specs.Trace.{worker_by, Seen}
 use Rattle.lpm_trace.specs.Laws.{ArePlaced}
 use Rattle.shared_fib.specs.Laws.{IsOfVersion}
 use Rattle.shared_fib.specs.Running.{Identity, initial_state}

@@ -1,14 +1,13 @@
 //! A storm on its table, to its report.
 
 ghost use Rattle.std.specs.Prelude.{◌≡◌, ℕ, ◌+◌, ◌^◌, ◌<◌, ◌≤◌, All, IfOk, IfErr, IfSome, None, true, length, slice_set, vec_len, vec_capacity};
-ghost use Rattle.lpm_rules.specs.Listed.{rules_of};
+ghost use Rattle.lpm_rules.specs.RuleMap.{rules_of};
 ghost use Rattle.shared_fib.specs.Passes.{IsBenchOf, IsFullBench};
 ghost use Rattle.shared_fib.specs.Running.{initial_writer};
 ghost use Rattle.bulk.specs.Desks.{IsAtBench};
 ghost use Rattle.storm.specs.Changing.{HasMade, IsForWriter};
 ghost use Rattle.storm.specs.Looking.{AreInSeats, IsOver, IsReadyFor, IsUnused, number_of};
-ghost use Rattle.storm.specs.Plans.{EndsStorm, HasMadeAll, IsInRange, answer_count, limits_of, most_answers};
-ghost use Rattle.storm.specs.Storm.{IsStorm};
+ghost use Rattle.storm.specs.Storm.{EndsStorm, HasMadeAll, IsInRange, answer_count, limits_of, most_answers, IsStorm};
 
 use crate::changing::Recorder;
 use crate::looking::Worker;

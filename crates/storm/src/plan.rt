@@ -1,7 +1,7 @@
 //! What a storm is to do, and why it came to nothing.
 
 ghost use Rattle.std.specs.Prelude.{◌≡◌, ◌^◌, ◌<◌, ◌≤◌, IfOk, IfErr, IfSome, IsNone};
-ghost use Rattle.storm.specs.Plans.{EndsBefore, IsInRange, answer_count, limits_of, most_answers};
+ghost use Rattle.storm.specs.Storm.{EndsBefore, IsInRange, answer_count, limits_of, most_answers};
 ghost use Rattle.storm.specs.declared.plan.StormError.TheVariants.{Memory as IsMemory};
 
 use fib_model::Order;

@@ -3,7 +3,7 @@
 
 ghost use Rattle.std.specs.Prelude.{◌≡◌, ◌+◌, ◌^◌, ◌<◌, []};
 ghost use Rattle.lpm_bits.specs.Widths.{IsShape};
-ghost use Rattle.lpm_rules.specs.Listed.{AreInOrder};
+ghost use Rattle.lpm_rules.specs.RuleMap.{AreInOrder};
 
 use super::asserting::assert_at;
 use lpm_bits::{Hop, Shape};

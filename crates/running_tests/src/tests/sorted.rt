@@ -2,7 +2,7 @@
 
 ghost use Rattle.std.specs.Prelude.{◌≡◌, false, true};
 ghost use Rattle.lpm_bits.specs.Widths.{IsShape};
-ghost use Rattle.lpm_rules.specs.Listed.{AreInOrder};
+ghost use Rattle.lpm_rules.specs.RuleMap.{AreInOrder};
 
 use super::asserting::assert_at;
 use super::changing::{Ipv4Table, Ipv4Writer, SmallTable, SmallWriter, change, figures};

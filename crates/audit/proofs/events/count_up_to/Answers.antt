@@ -1,7 +1,7 @@
 use Rattle.std.proofs.Common.{rules}
 use Rattle.std.proofs.lemmas.List.Sorted.{IsPartitionPoint-from_clause}
-use Rattle.audit.specs.Events.{up_to}
-use Rattle.audit.proofs.LastEvents.{parted}
+use Rattle.audit.specs.Index.{up_to}
+use Rattle.audit.proofs.Indexes.{parted}
 use Rattle.audit.proofs.events.count_up_to.Goals as goal
 
 pub returns-clause-front : goal.returns-clause-front

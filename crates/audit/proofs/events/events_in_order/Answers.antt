@@ -1,7 +1,7 @@
 use Rattle.std.proofs.Common.{arith, ap, sym, ◌∙◌, ◌+◌, subst}
 use Rattle.std.proofs.lemmas.List.{get_or_read}
-use Rattle.audit.specs.Events.{AreEventsUpTo}
-use Rattle.audit.proofs.Steps.{events_none, events_same, events_more}
+use Rattle.audit.specs.Index.{AreEventsUpTo}
+use Rattle.audit.proofs.Indexes.{events_none, events_same, events_more}
 use Rattle.audit.proofs.events.events_in_order.Goals as goal
 use Rattle.audit.proofs.events.events_in_order.Goals.{in-Some+in_ok-push, in_default}
 

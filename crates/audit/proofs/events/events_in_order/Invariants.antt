@@ -1,4 +1,4 @@
-use Rattle.audit.specs.Events.{AreEventsUpTo}
+use Rattle.audit.specs.Index.{AreEventsUpTo}
 use Rattle.audit.proofs.events.events_in_order.Given as goal
 
 -- the events of the changes before this one

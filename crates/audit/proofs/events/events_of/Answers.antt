@@ -1,7 +1,6 @@
 use Rattle.std.proofs.Common.{rules, length}
 use Rattle.std.proofs.lemmas.List.Sorted.{answers_always}
-use Rattle.audit.proofs.LastEvents.{ordered_by_sort}
-use Rattle.audit.proofs.Steps.{events_moved}
+use Rattle.audit.proofs.Indexes.{ordered_by_sort, events_moved}
 use Rattle.audit.proofs.events.events_of.Goals as goal
 
 pub returns-clause-events : goal.returns-clause-events

@@ -1,6 +1,6 @@
 use Rattle.std.proofs.Common.{arith, subst}
-use Rattle.audit.specs.Events.{AreUpTo}
-use Rattle.audit.proofs.LastEvents.{none_at_all, other_prefix, this_prefix}
+use Rattle.audit.specs.Index.{AreUpTo}
+use Rattle.audit.proofs.Indexes.{none_at_all, other_prefix, this_prefix}
 use Rattle.audit.proofs.events.last_event.Goals as goal
 
 pub returns-then-count-eq0 : goal.returns-then-count-eq0

@@ -1,4 +1,4 @@
-use Rattle.audit.specs.Flushes.{IsLastFlush, AreFlushes}
+use Rattle.audit.specs.Index.{IsLastFlush, AreFlushes}
 use Rattle.audit.proofs.past.flushes_of.Given as goal
 
 -- the last flush up to this version, and to each before it

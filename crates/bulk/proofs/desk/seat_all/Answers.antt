@@ -3,7 +3,7 @@ use Rattle.std.specs.List.{range_with_len}
 use Rattle.std.proofs.lemmas.List.Elements.{All-nil, All-push}
 use Rattle.bulk.specs.declared.desk.Desk.{Desk}
 use Rattle.bulk.specs.Desks.{IsDeskOf, worker_of}
-use Rattle.bulk.proofs.Seating.{stays_at_bench, one_more_seated, one_more_number}
+use Rattle.bulk.proofs.Meetings.{stays_at_bench, one_more_seated, one_more_number}
 use Rattle.bulk.proofs.desk.seat_all.Goals as goal
 
 pub loop-worker-init : goal.loop-worker-init

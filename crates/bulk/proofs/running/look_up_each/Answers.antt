@@ -1,7 +1,7 @@
 use Rattle.std.proofs.Common.{◌<◌, [], length, take, refl, ◌∙◌, arith}
 use Rattle.std.proofs.lemmas.List.{take_more, take_more_set}
 use Rattle.shared_words.proofs.Deeds.{later_trans}
-use Rattle.bulk.proofs.Resting.{answers_more}
+use Rattle.bulk.proofs.Meetings.{answers_more}
 use Rattle.bulk.proofs.running.look_up_each.Goals as goal
 
 pub loop-i-init : goal.loop-i-init

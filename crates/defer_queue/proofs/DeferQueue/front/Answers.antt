@@ -1,5 +1,5 @@
 use Rattle.std.proofs.Common.{rules, ◌≡◌, slice_get}
-use Rattle.defer_queue.proofs.Fronts.{front_rest}
+use Rattle.defer_queue.proofs.Longest.{front_rest}
 use Rattle.defer_queue.proofs.DeferQueue.front.Goals as goal
 
 pub returns-clause-rest : goal.returns-clause-rest

@@ -1,6 +1,6 @@
 use Rattle.std.proofs.Common.{rules, ◌≡◌, ℕ, List, drop, ap, ◌∙◌, subst}
 use Rattle.std.proofs.lemmas.List.{drop-drop}
-use Rattle.defer_queue.proofs.Fronts.{FreesFront-more}
+use Rattle.defer_queue.proofs.Longest.{FreesFront-more}
 use Rattle.defer_queue.proofs.DeferQueue.reclaim.Goals as goal
 
 pub loop-freed-preserved : goal.loop-freed-preserved

@@ -1,5 +1,5 @@
 use Rattle.std.proofs.Common.{◌^◌, length, lit<, arith, rules}
-use Rattle.fib.proofs.Swept.{fewer_words, sound_swept}
+use Rattle.fib.proofs.Begun.{fewer_words, sound_swept}
 use Rattle.fib.proofs.sorted.parts_with.Goals as goal
 
 pub memory_of-requires : goal.memory_of-requires

@@ -1,5 +1,5 @@
 use Rattle.std.proofs.Common.{arith, refl}
-use Rattle.fib_model.proofs.Scans.{found_more}
+use Rattle.fib_model.proofs.Unique.{found_more}
 use Rattle.fib_model.proofs.intervals.running.Goals as goal
 
 pub loop-place-preserved : goal.loop-place-preserved

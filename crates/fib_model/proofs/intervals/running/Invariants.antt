@@ -1,5 +1,5 @@
 use Rattle.std.proofs.Common.{reverse, take}
-use Rattle.fib_model.proofs.Scans.{IsFound}
+use Rattle.fib_model.proofs.Unique.{IsFound}
 use Rattle.fib_model.proofs.intervals.running.Given as goal
 
 -- what was found in the events so far

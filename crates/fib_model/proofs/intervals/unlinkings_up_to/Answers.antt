@@ -1,5 +1,5 @@
 use Rattle.std.proofs.Common.{ℕ, arith, refl, ap, sym, ◌∙◌, ◌+◌, cond}
-use Rattle.fib_model.proofs.Scans.{counted}
+use Rattle.fib_model.proofs.Unique.{counted}
 use Rattle.fib_model.proofs.intervals.unlinkings_up_to.Goals as goal
 use Rattle.fib_model.proofs.intervals.unlinkings_up_to.Goals.{then-is_unlinking_before, else-is_unlinking_before}
 

@@ -1,5 +1,5 @@
 use Rattle.std.proofs.Common.{◌≡◌, ◌≤◌, reverse, take}
-use Rattle.fib_model.specs.Intervals.{unlinkings_before}
+use Rattle.fib_model.specs.Textbook.{unlinkings_before}
 use Rattle.fib_model.proofs.intervals.unlinkings_up_to.Given as goal
 
 -- the unlinkings among the events so far, which are no more than those

@@ -1,4 +1,4 @@
-use Rattle.fib_model.proofs.Followed.{counters_tell_intervals as law}
+use Rattle.fib_model.proofs.Runs.{counters_tell_intervals as law}
 use Rattle.fib_model.proofs.laws.counters_tell_intervals.Goals as goal
 
 pub returns : goal.returns

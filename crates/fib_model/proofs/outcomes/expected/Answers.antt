@@ -3,7 +3,7 @@ use Rattle.std.proofs.lemmas.List.{take_all}
 use Rattle.fib_model.specs.Expected.{state_of}
 use Rattle.fib_model.specs.Outcomes.{Runs, log_after}
 use Rattle.fib_model.specs.Textbook.{by_intervals, initial_by_events}
-use Rattle.fib_model.proofs.Logs.{logged_more}
+use Rattle.fib_model.proofs.Runs.{logged_more}
 use Rattle.fib_model.proofs.outcomes.expected.Goals as goal
 
 pub loop-order-preserved : goal.loop-order-preserved

@@ -9,8 +9,8 @@ use Rattle.lpm_writer.proofs.StepsAlone.{adds_alone, deletes_alone, flushes_alon
 use Rattle.interleave.specs.View.{WorldView}
 use Rattle.interleave.specs.World.{WorldDid, scripts_and_schedule}
 use Rattle.interleave.specs.declared.reply.Reply.{Reply}
-use Rattle.interleave.specs.Replies.{Answers, state_by_steps}
-use Rattle.interleave.proofs.Settings.{Setting, does_in, stays}
+use Rattle.interleave.specs.Runs.{Answers, state_by_steps}
+use Rattle.interleave.proofs.Ends.{Setting, does_in, stays}
 use Rattle.interleave.proofs.answering.answer.Goals as goal
 use Rattle.interleave.proofs.answering.answer.Goals.{in-Add+in-Ok, in-Add+in-Err+in_default, in-Delete+in-Ok-delete_rule, in-Delete+in-Err-delete_rule, in-Flush+in-Ok-flush_rules, in-Flush+in-Err-flush_rules, in-Reclaim}
 

@@ -7,7 +7,7 @@ use Rattle.interleave.specs.View.{WorldView}
 use Rattle.interleave.specs.declared.reply.Reply.{Reply}
 use Rattle.interleave.proofs.Items.{items_few}
 use Rattle.interleave.proofs.Reaching.{setting_stays}
-use Rattle.interleave.proofs.ScriptAnswers.{HasAnswered, HasEnded, HasCome, IsLate, answered_more, ends_all, ends_before, ends_late, ends_waiting}
+use Rattle.interleave.proofs.Ends.{HasAnswered, HasEnded, HasCome, IsLate, answered_more, ends_all, ends_before, ends_late, ends_waiting}
 use Rattle.interleave.proofs.answering.answer_all.Goals as goal
 
 split : {A : Type 0} (xs : List A) (i : ℕ) (x : A) → i < length xs → x ≡ get_or xs i x → take i xs ++ x ∷ drop (suc i) xs ≡ xs

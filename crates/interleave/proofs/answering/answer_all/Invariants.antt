@@ -1,6 +1,6 @@
 use Rattle.std.proofs.Common.{◌≡◌, take}
 use Rattle.interleave.specs.World.{scripts_and_schedule}
-use Rattle.interleave.proofs.ScriptAnswers.{HasAnswered}
+use Rattle.interleave.proofs.Ends.{HasAnswered}
 use Rattle.interleave.proofs.answering.answer_all.Given as goal
 
 abbrev pub invariant-loop-change : goal.invariant-loop-change

@@ -1,4 +1,4 @@
-use Rattle.interleave.proofs.Lawful.{runs_are_lawful as law}
+use Rattle.interleave.proofs.Ends.{runs_are_lawful as law}
 use Rattle.interleave.proofs.laws.runs_are_lawful.Goals as goal
 
 pub returns : goal.returns

@@ -1,5 +1,5 @@
 use Rattle.std.proofs.Common.{refl}
-use Rattle.interleave.proofs.Probes.{answered_more, grouped_at}
+use Rattle.interleave.proofs.Lookups.{answered_more, grouped_at}
 use Rattle.interleave.proofs.probe.next_in_group.Goals as goal
 
 pub returns-in-InGroup : goal.returns-in-InGroup

@@ -1,5 +1,5 @@
 use Rattle.std.proofs.Common.{take}
-use Rattle.lpm_trace.specs.Workers.{AreAnswered}
+use Rattle.lpm_trace.specs.Trace.{AreAnswered}
 use Rattle.interleave.specs.Machine.{probes_of}
 use Rattle.interleave.proofs.probe.next_in_group.Given as goal
 

@@ -1,5 +1,5 @@
 use Rattle.std.proofs.Common.{refl}
-use Rattle.interleave.proofs.Probes.{begun_more, unread_at}
+use Rattle.interleave.proofs.Lookups.{begun_more, unread_at}
 use Rattle.interleave.proofs.probe.next_unread.Goals as goal
 
 pub returns-in-Unread : goal.returns-in-Unread

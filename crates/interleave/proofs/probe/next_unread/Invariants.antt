@@ -1,5 +1,5 @@
 use Rattle.std.proofs.Common.{take}
-use Rattle.lpm_trace.specs.Workers.{AreBegun}
+use Rattle.lpm_trace.specs.Trace.{AreBegun}
 use Rattle.interleave.specs.Machine.{probes_of}
 use Rattle.interleave.proofs.probe.next_unread.Given as goal
 

@@ -1,7 +1,7 @@
 use Rattle.std.proofs.Common.{arith, refl, ap, ◌∙◌}
 use Rattle.std.proofs.lemmas.Grind.{common_steps}
 use Rattle.lpm_cells.specs.Words.{hop_in, entry_in}
-use Rattle.interleave.proofs.Probes.{noted_answer, noted_none}
+use Rattle.interleave.proofs.Lookups.{noted_answer, noted_none}
 use Rattle.interleave.proofs.seen.note.Goals as goal
 use Rattle.interleave.proofs.seen.note.Goals.{in-Answered, in_default}
 

@@ -1,5 +1,5 @@
 use Rattle.std.proofs.Common.{◌≡◌, ◌+◌, ◌-◌, ◌≤◌, ◌++◌, length, take, vec_len, vec_capacity}
-use Rattle.interleave.proofs.Probes.{noted}
+use Rattle.interleave.proofs.Lookups.{noted}
 use Rattle.interleave.proofs.seen.note.Given as goal
 
 -- the answers so far are noted, and there is room for the rest

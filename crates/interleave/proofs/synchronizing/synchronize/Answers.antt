@@ -1,15 +1,15 @@
 use Rattle.std.proofs.Common.{arith, ◌≡◌, ◌+◌, ◌^◌, inl, inr, true, false, refl, ap, sym, subst, ◌∙◌, add-one, Ok, Err}
 use Rattle.std.proofs.lemmas.Bool.{cases_lt}
 use Rattle.lpm_writer.specs.declared.control.ControlState.{ControlState}
-use Rattle.lpm_trace.proofs.Counts.{token_is}
+use Rattle.lpm_trace.proofs.Versions.{token_is}
 use Rattle.lpm_writer.specs.Traced.{Checks}
-use Rattle.lpm_writer.specs.Synchronizing.{IsWaiting}
+use Rattle.lpm_writer.specs.Commands.{IsWaiting}
 use Rattle.lpm_writer.proofs.StepsAlone.{checks_alone, checks_fixed}
 use Rattle.interleave.specs.View.{WorldView}
 use Rattle.interleave.specs.World.{WorldDid, scripts_and_schedule}
 use Rattle.interleave.specs.WorldLaws.{world_shows}
-use Rattle.interleave.specs.Replies.{Waits, state_by_steps, next_token}
-use Rattle.interleave.proofs.Settings.{Setting, does_in, stays}
+use Rattle.interleave.specs.Runs.{Waits, state_by_steps, next_token}
+use Rattle.interleave.proofs.Ends.{Setting, does_in, stays}
 use Rattle.interleave.proofs.Waited.{waited_none, waited_more}
 use Rattle.interleave.proofs.synchronizing.synchronize.Goals as goal
 

@@ -1,11 +1,9 @@
 use Rattle.std.proofs.Common.{arith, ◌≡◌, ◌≤◌, ap, sym, subst, ◌∙◌, [], length, map}
 use Rattle.std.proofs.lemmas.List.{length-map}
-use Rattle.lpm_writer.specs.Blank.{blank_state}
+use Rattle.lpm_writer.specs.Resting.{blank_state}
 use Rattle.lpm_writer.specs.Waiting.{tokens_of}
-use Rattle.interleave.specs.Schedule.{writer_items}
-use Rattle.interleave.specs.World.{IsPlayedOut}
-use Rattle.interleave.specs.Replies.{state_by_steps}
-use Rattle.interleave.specs.Runs.{IsPerformed}
+use Rattle.interleave.specs.World.{writer_items, IsPlayedOut}
+use Rattle.interleave.specs.Runs.{state_by_steps, IsPerformed}
 use Rattle.interleave.proofs.Ends.{opens, nothing_yet, run_ends}
 use Rattle.interleave.proofs.world.run_opened.Goals as goal
 

@@ -2,8 +2,7 @@ use Rattle.std.proofs.Common.{List, subst, rules}
 use Rattle.std.proofs.lemmas.Result.{IfOk-weaker, IfErr-weaker}
 use Rattle.route_text.specs.declared.routes.Route.{Route}
 use Rattle.lpm_commands.specs.Loading.{IsLoaded}
-use Rattle.lpm_commands.proofs.Texts.{is_apply_text, told_as}
-use Rattle.lpm_commands.proofs.Ends.{ends_apply}
+use Rattle.lpm_commands.proofs.Texts.{is_apply_text, told_as, ends_apply}
 use Rattle.lpm_commands.proofs.apply_command.apply_text.Goals as goal
 
 pub returns-clause-text : goal.returns-clause-text

@@ -1,7 +1,7 @@
 use Rattle.std.proofs.Common.{List, subst}
 use Rattle.route_text.specs.declared.routes.Route.{Route}
 use Rattle.lpm_commands.specs.Loading.{IsLoaded}
-use Rattle.lpm_commands.proofs.Explained.{is_explain_text}
+use Rattle.lpm_commands.proofs.Found.{is_explain_text}
 use Rattle.lpm_commands.proofs.explain_command.whole_text.Goals as goal
 
 pub returns-in-Ok-clause-text : goal.returns-in-Ok-clause-text

@@ -2,7 +2,7 @@ use Rattle.std.proofs.Common.{◌∙◌, arith, refl, subst, ◌<◌, length, Ok
 use Rattle.lpm_limits.specs.declared.config.Config.{Config}
 use Rattle.fib_model.specs.Outcomes.{Adds}
 use Rattle.fib_model.specs.Counting.{counter_transitions}
-use Rattle.lpm_commands.proofs.Loaded.{take_read, loaded_more, first_refused, refused_ends}
+use Rattle.lpm_commands.proofs.Texts.{take_read, loaded_more, first_refused, refused_ends}
 use Rattle.lpm_commands.proofs.loading.add_from.Goals as goal
 
 pub loop-index-preserved : goal.loop-index-preserved

@@ -1,10 +1,9 @@
 use Rattle.std.proofs.Common.{◌∙◌, ap, sym, subst, ◌+◌, ◌<◌, Ok, drop, length, arith}
 use Rattle.lpm_limits.specs.declared.config.Config.{Config}
-use Rattle.lpm_rules.specs.RuleMap.{RuleMap}
-use Rattle.lpm_rules.specs.Listed.{with_rules}
+use Rattle.lpm_rules.specs.RuleMap.{RuleMap, with_rules}
 use Rattle.fib_model.specs.Outcomes.{Adds}
 use Rattle.fib_model.specs.Counting.{counter_transitions}
-use Rattle.lpm_commands.proofs.Loaded.{added_rules}
+use Rattle.lpm_commands.proofs.Texts.{added_rules}
 use Rattle.lpm_commands.proofs.Filled.{filled_more}
 use Rattle.lpm_commands.proofs.Sorted.{put_in}
 use Rattle.lpm_commands.proofs.loading.add_last.Goals as goal

@@ -1,5 +1,5 @@
 use Rattle.std.proofs.Common.{◌≡◌, drop}
-use Rattle.lpm_rules.specs.Listed.{with_rules}
+use Rattle.lpm_rules.specs.RuleMap.{with_rules}
 use Rattle.lpm_commands.specs.Filled.{IsFilled}
 use Rattle.lpm_commands.proofs.loading.add_last.Given as goal
 

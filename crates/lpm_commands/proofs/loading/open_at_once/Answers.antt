@@ -1,5 +1,5 @@
 use Rattle.std.proofs.Common.{◌∙◌, ap, arith}
-use Rattle.lpm_rules.specs.Listed.{rules_of}
+use Rattle.lpm_rules.specs.RuleMap.{rules_of}
 use Rattle.lpm_commands.specs.Loading.{rules_of_routes}
 use Rattle.lpm_commands.proofs.Filled.{loads_by_rules}
 use Rattle.lpm_commands.proofs.loading.open_at_once.Goals as goal

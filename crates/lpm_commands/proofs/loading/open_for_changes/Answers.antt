@@ -1,7 +1,7 @@
 use Rattle.std.proofs.Common.{◌∙◌, ap, sym, arith}
-use Rattle.qsbr.specs.Registry.{Registry}
+use Rattle.qsbr.specs.Counters.{Registry}
 use Rattle.shared_fib.specs.Running.{initial_writer}
-use Rattle.lpm_commands.proofs.Storms.{versions_within}
+use Rattle.lpm_commands.proofs.Texts.{versions_within}
 use Rattle.lpm_commands.proofs.loading.open_for_changes.Goals as goal
 
 pub returns-clause-opened : goal.returns-clause-opened

@@ -1,7 +1,7 @@
 use Rattle.std.proofs.Common.{sym, subst, ◌+◌, ◌<◌, ◌≤◌, ◌^◌, List}
 use Rattle.std.specs.FinMap.{len}
 use Rattle.lpm_rules.specs.declared.Rule.{Rule}
-use Rattle.lpm_rules.specs.Listed.{rules_of}
+use Rattle.lpm_rules.specs.RuleMap.{rules_of}
 use Rattle.lpm_commands.proofs.Filled.{opened_filled}
 use Rattle.lpm_commands.proofs.loading.open_with.Goals as goal
 

@@ -2,8 +2,7 @@ use Rattle.std.proofs.Common.{Result, Ok, Err, refl, rules}
 use Rattle.std.specs.Prelude.{IfOk}
 use Rattle.std.proofs.lemmas.Result.{IfErr-weaker}
 use Rattle.lpm_files.specs.declared.failure.Failure.{Failure}
-use Rattle.lpm_commands.proofs.Texts.{is_lookup_text, answered_as}
-use Rattle.lpm_commands.proofs.Ends.{ends_lookup}
+use Rattle.lpm_commands.proofs.Texts.{is_lookup_text, answered_as, ends_lookup}
 use Rattle.lpm_commands.proofs.lookup_command.lookup_text.Goals as goal
 
 -- two things that are known of a value lead to a third

@@ -1,9 +1,9 @@
 use Rattle.std.proofs.Common.{◌≡◌, ◌∙◌, ap, ◌-◌, ◌<◌, ℕ, refl, subst, sym, length, get_or, take, arith}
 use Rattle.lpm_bits.specs.Network.{IsNetwork}
 use Rattle.lpm_rules.specs.declared.Rule.{Rule}
-use Rattle.lpm_rules.specs.Listed.{prefix_at, rules_of}
+use Rattle.lpm_rules.specs.RuleMap.{prefix_at, rules_of}
 use Rattle.lpm_commands.specs.Filled.{BringsGroup}
-use Rattle.lpm_commands.proofs.Needed.{first_brings, other_block, same_block}
+use Rattle.lpm_commands.proofs.Groups.{first_brings, other_block, same_block}
 use Rattle.lpm_commands.proofs.ordering.begins_block.Goals as goal
 
 pub returns-then-index-eq0 : goal.returns-then-index-eq0

@@ -1,10 +1,10 @@
 use Rattle.std.proofs.Common.{◌∙◌, ap, sym, ◌<◌, length, List, arith}
 use Rattle.std.proofs.lemmas.List.{take_all}
 use Rattle.lpm_rules.specs.declared.Rule.{Rule}
-use Rattle.lpm_rules.specs.Listed.{rules_of}
+use Rattle.lpm_rules.specs.RuleMap.{rules_of}
 use Rattle.fib_model.specs.Outcomes.{groups_in_use}
 use Rattle.lpm_commands.proofs.Filled.{none_in_use}
-use Rattle.lpm_commands.proofs.Needed.{byte_at_most, one_rule_more}
+use Rattle.lpm_commands.proofs.Groups.{byte_at_most, one_rule_more}
 use Rattle.lpm_commands.proofs.ordering.count_groups.Goals as goal
 
 pub loop-index-init : goal.loop-index-init

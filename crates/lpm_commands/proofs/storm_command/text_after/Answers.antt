@@ -1,5 +1,5 @@
 use Rattle.std.proofs.lemmas.Result.{IfOk-weaker, IfErr-weaker}
-use Rattle.lpm_commands.proofs.Storms.{are_loaded, ends_after}
+use Rattle.lpm_commands.proofs.Texts.{are_loaded, ends_after}
 use Rattle.lpm_commands.proofs.storm_command.text_after.Goals as goal
 
 pub returns-in-Ok-clause-text : goal.returns-in-Ok-clause-text

@@ -1,8 +1,8 @@
 use Rattle.std.proofs.Common.{◌∙◌, ap, refl, inr, List}
 use Rattle.std.proofs.lemmas.Result.{IfOk-weaker, IfErr-weaker}
 use Rattle.lpm_rules.specs.declared.Rule.{Rule}
-use Rattle.lpm_rules.specs.Listed.{rules_of}
-use Rattle.lpm_commands.proofs.Storms.{for_writer, is_plan}
+use Rattle.lpm_rules.specs.RuleMap.{rules_of}
+use Rattle.lpm_commands.proofs.Texts.{for_writer, is_plan}
 use Rattle.lpm_commands.proofs.Sorted.{same_rules}
 use Rattle.lpm_commands.proofs.storm_command.text_over.Goals as goal
 

@@ -1,6 +1,6 @@
 use Rattle.std.proofs.Common.{rules}
 use Rattle.std.proofs.lemmas.Result.{IfOk-weaker, IfErr-weaker}
-use Rattle.lpm_commands.proofs.Storms.{is_storm_text, ends_storm}
+use Rattle.lpm_commands.proofs.Texts.{is_storm_text, ends_storm}
 use Rattle.lpm_commands.proofs.storm_command.whole_text.Goals as goal
 
 pub returns-clause-text : goal.returns-clause-text

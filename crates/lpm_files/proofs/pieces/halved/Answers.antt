@@ -1,5 +1,5 @@
 use Rattle.std.proofs.Common.{◌++◌, List, ℕ, sym, ap, ap₂, ◌∙◌}
-use Rattle.route_text.specs.Lines.{lines}
+use Rattle.route_text.specs.Files.{lines}
 use Rattle.lpm_files.proofs.Joined.{cut_lines}
 use Rattle.lpm_files.proofs.pieces.halved.Goals as goal
 

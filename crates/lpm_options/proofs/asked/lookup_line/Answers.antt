@@ -1,6 +1,6 @@
 use Rattle.std.proofs.Common.{codes, rules}
 use Rattle.clap.specs.Words.{rows_of, found_of}
-use Rattle.lpm_options.proofs.Limits.{no_limits}
+use Rattle.lpm_options.proofs.Words.{no_limits}
 use Rattle.lpm_options.proofs.asked.lookup_line.Goals as goal
 
 pub returns-in_err-config : goal.returns-in_err-config

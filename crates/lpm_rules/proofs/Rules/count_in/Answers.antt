@@ -5,8 +5,7 @@ use Rattle.std.specs.Ordering.{nat_cmp}
 use Rattle.std.specs.declared.ops.Bound.TheVariants.{Included}
 use Rattle.std.specs.BTreeMap.Range.{range_contains, entries_between}
 use Rattle.std.proofs.lemmas.Nat.{pow_pos, one_shl, shl_whole}
-use Rattle.lpm_rules.proofs.Blocks.{block_end, range_of_block}
-use Rattle.lpm_rules.proofs.Counts.{count_of_length, count_same}
+use Rattle.lpm_rules.proofs.Counts.{block_end, range_of_block, count_of_length, count_same}
 use Rattle.lpm_rules.proofs.Rules.count_in.Goals as goal
 
 pub overflow_cast-first-2 : goal.overflow_cast-first-2

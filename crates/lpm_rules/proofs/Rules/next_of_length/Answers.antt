@@ -1,7 +1,6 @@
 use Rattle.std.proofs.Common.{rules, ◌≡◌, ◌+◌, ap, sym, subst, Some}
 use Rattle.lpm_bits.specs.Network.{Network, prefix_of}
-use Rattle.lpm_rules.specs.RuleMap.{RuleList, AllNetworks}
-use Rattle.lpm_rules.specs.Walking.{IsNextOfLength}
+use Rattle.lpm_rules.specs.RuleMap.{RuleList, AllNetworks, IsNextOfLength}
 use Rattle.lpm_rules.proofs.Views.{at_network}
 use Rattle.lpm_rules.proofs.NextRules.{next_has, next_after, next_least, same_prefix}
 use Rattle.lpm_rules.proofs.Rules.next_of_length.Goals as goal

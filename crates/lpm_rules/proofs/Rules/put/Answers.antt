@@ -1,7 +1,7 @@
 use Rattle.std.proofs.Common.{rules, ◌≡◌, ◌∙◌, ap, subst, Some}
 use Rattle.std.specs.Prelude.{OnOk}
 use Rattle.std.specs.FinMap as map
-use Rattle.lpm_rules.proofs.Changes.{insert_same}
+use Rattle.lpm_rules.proofs.Views.{insert_same}
 use Rattle.lpm_rules.proofs.Rules.put.Goals as goal
 
 pub returns-in-Ok-Some-clause-same : goal.returns-in-Ok-Some-clause-same

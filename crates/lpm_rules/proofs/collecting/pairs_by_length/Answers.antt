@@ -1,11 +1,10 @@
 use Rattle.std.proofs.Common.{arith, ◌+◌, subst, List}
 use Rattle.std.proofs.lemmas.List.{take_all}
-use Rattle.lpm_rules.specs.RuleMap.{AllNetworks}
+use Rattle.lpm_rules.specs.RuleMap.{AllNetworks, rules_of}
 use Rattle.lpm_rules.specs.declared.Rule.{Rule}
-use Rattle.lpm_rules.specs.Listed.{rules_of}
-use Rattle.lpm_rules.specs.Collected.{ArePairs}
-use Rattle.lpm_rules.proofs.Changes.{networks_empty}
-use Rattle.lpm_rules.proofs.Pairs.{pairs_on, networks_on}
+use Rattle.lpm_rules.specs.Changes.{ArePairs}
+use Rattle.lpm_rules.proofs.Views.{networks_empty}
+use Rattle.lpm_rules.proofs.Collected.{pairs_on, networks_on}
 use Rattle.lpm_rules.proofs.collecting.pairs_by_length.Goals as goal
 
 pub loop-rule-init : goal.loop-rule-init

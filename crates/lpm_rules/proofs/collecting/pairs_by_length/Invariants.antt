@@ -1,7 +1,6 @@
 use Rattle.std.proofs.Common.{◌+◌, take}
-use Rattle.lpm_rules.specs.RuleMap.{AllNetworks}
-use Rattle.lpm_rules.specs.Listed.{rules_of}
-use Rattle.lpm_rules.specs.Collected.{ArePairs}
+use Rattle.lpm_rules.specs.RuleMap.{AllNetworks, rules_of}
+use Rattle.lpm_rules.specs.Changes.{ArePairs}
 use Rattle.lpm_rules.proofs.collecting.pairs_by_length.Given as goal
 
 abbrev pub invariant-loop-rule : goal.invariant-loop-rule

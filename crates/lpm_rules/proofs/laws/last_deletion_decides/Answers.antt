@@ -1,4 +1,4 @@
-use Rattle.lpm_rules.proofs.LastChange.{last_deletion_decides as law}
+use Rattle.lpm_rules.proofs.Longest.{last_deletion_decides as law}
 use Rattle.lpm_rules.proofs.laws.last_deletion_decides.Goals as goal
 
 pub returns : goal.returns

@@ -1,4 +1,4 @@
-use Rattle.lpm_rules.proofs.DeepChanges.{put_brings_block as law}
+use Rattle.lpm_rules.proofs.Deep.{put_brings_block as law}
 use Rattle.lpm_rules.proofs.laws.put_brings_block.Goals as goal
 
 pub returns : goal.returns

@@ -1,4 +1,4 @@
-use Rattle.lpm_rules.proofs.LastChange.{spared_is_kept as law}
+use Rattle.lpm_rules.proofs.Longest.{spared_is_kept as law}
 use Rattle.lpm_rules.proofs.laws.spared_prefix_keeps_its_rule.Goals as goal
 
 pub returns : goal.returns

@@ -1,4 +1,4 @@
-use Rattle.lpm_sweep.proofs.Numbered.{tied}
+use Rattle.lpm_sweep.proofs.Linking.{tied}
 use Rattle.lpm_sweep.proofs.laws.numbered_are_tied.Goals as goal
 
 pub returns : goal.returns

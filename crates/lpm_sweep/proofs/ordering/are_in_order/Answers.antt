@@ -1,7 +1,7 @@
 use Rattle.std.proofs.Common.{arith, ◌≡◌, ◌<◌, ◌≤◌, inl, inr, ap, sym, ◌∙◌, subst}
 use Rattle.std.proofs.lemmas.Bool.{cases_lt}
-use Rattle.lpm_rules.specs.Listed.{place, prefix_at}
-use Rattle.lpm_rules.proofs.Listed.{prefix_read}
+use Rattle.lpm_rules.specs.RuleMap.{place, prefix_at}
+use Rattle.lpm_rules.proofs.Views.{prefix_read}
 use Rattle.lpm_sweep.proofs.ordering.are_in_order.Goals as goal
 
 pub loop-rule-preserved : goal.loop-rule-preserved

@@ -1,5 +1,5 @@
 use Rattle.std.proofs.Common.{◌≡◌, ◌⊎◌, ℕ, ◌<◌, ◌≤◌}
-use Rattle.lpm_rules.specs.Listed.{place, prefix_at}
+use Rattle.lpm_rules.specs.RuleMap.{place, prefix_at}
 use Rattle.lpm_sweep.proofs.ordering.are_in_order.Given as goal
 
 abbrev pub invariant-loop-rule : goal.invariant-loop-rule

@@ -1,6 +1,6 @@
 use Rattle.std.proofs.Common.{◌≡◌, ℕ, ◌%◌, ◌^◌, ◌<◌, length}
 use Rattle.std.specs.Prelude.{slice_index}
-use Rattle.lpm_rules.specs.Listed.{prefix_at}
+use Rattle.lpm_rules.specs.RuleMap.{prefix_at}
 use Rattle.lpm_sweep.specs.Keys.{hop_at}
 use Rattle.lpm_sweep.proofs.ordering.rules_by_keys.Given as goal
 

@@ -4,11 +4,10 @@ use Rattle.std.proofs.lemmas.Grind.{common_steps}
 use Rattle.lpm_cells.specs.declared.entry.Entry.TheVariants.{Group}
 use Rattle.lpm_cells.specs.Words.{word_of}
 use Rattle.lpm_update.proofs.Places.{word_entry}
-use Rattle.lpm_sweep.specs.Frames.{word_by_frames, word_at}
-use Rattle.lpm_rules.specs.Listed.{prefix_at, rules_of}
-use Rattle.lpm_sweep.specs.Swept.{IsSwept, AreNumbered}
+use Rattle.lpm_sweep.specs.Swept.{word_by_frames, word_at, IsSwept, AreNumbered}
+use Rattle.lpm_rules.specs.RuleMap.{prefix_at, rules_of}
 use Rattle.lpm_sweep.proofs.Stacks.{under_end}
-use Rattle.lpm_rules.proofs.Listed.{prefix_read}
+use Rattle.lpm_rules.proofs.Views.{prefix_read}
 use Rattle.lpm_sweep.proofs.Sweeps.{swept_on, numbered_on}
 use Rattle.lpm_sweep.proofs.Linking.{starts, put_last, last_length, swept_group, numbered_group}
 use Rattle.lpm_sweep.proofs.DeepBlocks.{one_block_more}

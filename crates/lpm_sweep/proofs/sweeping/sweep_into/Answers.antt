@@ -2,23 +2,19 @@ use Rattle.std.proofs.Common.{arith, ◌≡◌, ℕ, ◌+◌, ◌*◌, ◌/◌, 
 use Rattle.std.proofs.lemmas.Nat.{one_shl, pow_pos, le-div}
 use Rattle.std.proofs.lemmas.List.{take_all}
 use Rattle.std.specs.FinMap.{insert, empty, get-empty}
-use Rattle.lpm_rules.specs.RuleMap.{RuleMap, network_cmp}
+use Rattle.lpm_rules.specs.RuleMap.{RuleMap, network_cmp, place, prefix_at, rules_of, AllUpTo}
 use Rattle.lpm_rules.specs.declared.Rule.{Rule}
 use Rattle.std.specs.FinSet as set
 use Rattle.std.specs.Ordering.{nat_cmp}
 use Rattle.lpm_rules.specs.Deep.{block_of, deep_blocks}
-use Rattle.lpm_rules.proofs.Changes.{not_some}
-use Rattle.lpm_rules.proofs.DeepChanges.{deep_blocks_empty, deep_blocks_insert_short}
+use Rattle.lpm_rules.proofs.Views.{not_some, prefix_read, rules_more}
+use Rattle.lpm_rules.proofs.Deep.{deep_blocks_empty, deep_blocks_insert_short}
 use Rattle.lpm_update.proofs.Places.{block_low}
 use Rattle.lpm_update.specs.Represents.{Represents}
 use Rattle.std.proofs.lemmas.Grind.{common_steps}
-use Rattle.lpm_sweep.specs.Frames.{word_by_frames}
-use Rattle.lpm_rules.specs.Listed.{place, prefix_at, rules_of, AllUpTo}
-use Rattle.lpm_sweep.specs.Swept.{IsSwept, AreNumbered}
-use Rattle.lpm_rules.proofs.Listed.{prefix_read, rules_more}
-use Rattle.lpm_sweep.proofs.Lists.{onward}
-use Rattle.lpm_sweep.proofs.Sweeps.{swept_on, numbered_on}
-use Rattle.lpm_sweep.proofs.Wholes.{swept_none, numbered_none, swept_all}
+use Rattle.lpm_sweep.specs.Swept.{word_by_frames, IsSwept, AreNumbered}
+use Rattle.lpm_sweep.proofs.Sweeps.{onward, swept_on, numbered_on}
+use Rattle.lpm_sweep.proofs.Linking.{swept_none, numbered_none, swept_all}
 use Rattle.lpm_sweep.proofs.DeepBlocks.{more_blocks}
 use Rattle.lpm_sweep.proofs.sweeping.sweep_into.Given.{Over}
 use Rattle.lpm_sweep.proofs.sweeping.sweep_into.Goals.{After-len}

@@ -1,9 +1,8 @@
 use Rattle.std.proofs.Common.{◌≡◌, ℕ, ◌-◌, ◌*◌, ◌^◌, ◌<◌, ◌≤◌, length, take}
 use Rattle.std.specs.FinSet as set
 use Rattle.lpm_rules.specs.Deep.{deep_blocks}
-use Rattle.lpm_sweep.specs.Frames.{word_by_frames}
-use Rattle.lpm_rules.specs.Listed.{AllUpTo, place, prefix_at, rules_of}
-use Rattle.lpm_sweep.specs.Swept.{IsSwept, AreNumbered}
+use Rattle.lpm_sweep.specs.Swept.{word_by_frames, IsSwept, AreNumbered}
+use Rattle.lpm_rules.specs.RuleMap.{AllUpTo, place, prefix_at, rules_of}
 use Rattle.lpm_sweep.proofs.sweeping.sweep_into.Given as goal
 
 abbrev pub invariant-loop-next : goal.invariant-loop-next

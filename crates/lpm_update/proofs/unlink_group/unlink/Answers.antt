@@ -1,11 +1,10 @@
 use Rattle.std.proofs.Common.{ap, sym, ◌∙◌, subst, ◌≡◌, ◌*◌, ◌^◌, ◌<◌, ◌%◌, length}
 use Rattle.std.specs.Prelude.{slice_index}
-use Rattle.lpm_cells.specs.Words.{entry_in}
-use Rattle.lpm_cells.specs.Table.{with_first}
+use Rattle.lpm_cells.specs.Words.{entry_in, with_first}
 use Rattle.lpm_update.specs.Linked.{IsLinkTo}
-use Rattle.lpm_update.specs.UnlinkGroup.{IsUnlinkStore}
+use Rattle.lpm_update.specs.Kinds.{IsUnlinkStore}
 use Rattle.lpm_update.proofs.Places.{index_first, sets_first}
-use Rattle.lpm_update.proofs.Visits.{base_of}
+use Rattle.lpm_update.proofs.RangeSteps.{base_of}
 use Rattle.lpm_update.proofs.Unlinks.{unlinks}
 use Rattle.lpm_update.proofs.unlink_group.unlink.Given.{Over}
 use Rattle.lpm_update.proofs.unlink_group.unlink.Goals.{After-second-word}

@@ -2,7 +2,7 @@ use Rattle.std.proofs.Common.{arith, ◌≡◌, ◌+◌, ◌^◌, ◌<◌, inl, 
 use Rattle.std.specs.Prelude.{IsSome, IsTrue, ◌↔◌, ◌/◌, Ok, Err}
 use Rattle.std.proofs.lemmas.Nat.{shr_below}
 use Rattle.lpm_bits.specs.Network.{IsNetwork}
-use Rattle.lpm_cells.specs.Table.{Words, IsWords}
+use Rattle.lpm_cells.specs.Words.{Words, IsWords}
 use Rattle.lpm_rules.specs.RuleMap.{RuleList}
 use Rattle.lpm_limits.specs.declared.refusal.Refusal.TheVariants.{NoGroups}
 use Rattle.fib_model.specs.Outcomes.{Adds, groups_in_use}
@@ -15,7 +15,7 @@ use Rattle.lpm_writer.specs.Taking.{Finds, LinksLeast}
 use Rattle.lpm_writer.specs.Traced.{by_writer}
 use Rattle.lpm_writer.specs.Resting.{IsResting, IsDue, state_of}
 use Rattle.lpm_writer.specs.Commands.{Rests}
-use Rattle.lpm_writer.proofs.Once.{after_find}
+use Rattle.lpm_writer.proofs.StepsAlone.{after_find}
 use Rattle.lpm_writer.proofs.Rests.{linked_resting, between_take, has_tokens, rests_still}
 use Rattle.lpm_writer.proofs.Additions.{absent, found_due, found_linked, found_adds, none_adds, put_room, taken_back}
 use Rattle.lpm_writer.proofs.control.add_rule.Given.{Over}

@@ -2,7 +2,7 @@ use Rattle.std.proofs.Common.{arith, ◌≡◌, ◌<◌, ◌≤◌, ◌⊎◌, �
 use Rattle.std.proofs.lemmas.Bool.{cases_lt}
 use Rattle.lpm_trace.specs.declared.step.WriterStep.TheVariants.{LoadCounter}
 use Rattle.lpm_writer.specs.Traced.{Loads}
-use Rattle.lpm_writer.proofs.Loading.{asked_none, asked_more, passes_by}
+use Rattle.lpm_writer.proofs.Checks.{asked_none, asked_more, passes_by}
 use Rattle.lpm_writer.proofs.grace.load_counters.Goals as goal
 
 pub loop-worker-init : goal.loop-worker-init

@@ -1,4 +1,4 @@
-use Rattle.lpm_writer.proofs.Loading.{HasAsked}
+use Rattle.lpm_writer.proofs.Checks.{HasAsked}
 use Rattle.lpm_writer.proofs.grace.load_counters.Given as goal
 
 abbrev pub invariant-loop-worker : goal.invariant-loop-worker

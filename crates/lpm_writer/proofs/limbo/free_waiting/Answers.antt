@@ -3,8 +3,7 @@ use Rattle.std.proofs.lemmas.List.{drop-drop}
 use Rattle.std.specs.Prelude.{slice_set}
 use Rattle.lpm_groups.specs.declared.GroupState.TheVariants.{Free}
 use Rattle.lpm_writer.specs.Waiting.{AreWaiting, IsFreed}
-use Rattle.lpm_writer.proofs.LimboItems.{freed_states, is_freed, waiting_set}
-use Rattle.lpm_writer.proofs.Freeing.{more_items, freed_more}
+use Rattle.lpm_writer.proofs.LimboItems.{freed_states, is_freed, waiting_set, more_items, freed_more}
 use Rattle.lpm_writer.proofs.Reclaims.{HasFreed, none_freed, may_check, one_freed, one_held, all_freed}
 use Rattle.lpm_writer.proofs.limbo.free_waiting.Goals as goal
 

@@ -2,8 +2,7 @@ use Rattle.std.proofs.Common.{arith, ◌≡◌, ◌≤◌, length}
 use Rattle.std.proofs.lemmas.List.{length-map}
 use Rattle.lpm_writer.specs.Traced.{by_writer}
 use Rattle.lpm_writer.specs.Waiting.{tokens_of}
-use Rattle.lpm_writer.proofs.Freeing.{freed_within}
-use Rattle.lpm_writer.proofs.TakesOne.{makes_room}
+use Rattle.lpm_writer.proofs.LimboItems.{freed_within, makes_room}
 use Rattle.lpm_writer.proofs.limbo.make_room.Goals as goal
 
 pub returns-clause-room : goal.returns-clause-room

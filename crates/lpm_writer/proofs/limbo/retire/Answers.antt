@@ -1,13 +1,13 @@
 use Rattle.std.proofs.Common.{arith, ◌≡◌, suc, ◌<◌, refl, sym, ap, subst, ◌∙◌, [], ◌∷◌, ◌++◌, length}
 use Rattle.lpm_groups.specs.declared.GroupState.TheVariants.{Limbo}
-use Rattle.lpm_groups.proofs.Tallies.{Retires-set}
+use Rattle.lpm_groups.proofs.Marking.{Retires-set}
 use Rattle.defer_queue.specs.Limbo.{Limbo as Queue}
 use Rattle.lpm_trace.specs.declared.step.WriterStep.TheVariants.{BumpToken}
 use Rattle.lpm_trace.specs.States.{state_after}
 use Rattle.lpm_writer.specs.Matching.{GroupsMatchSteps}
 use Rattle.lpm_writer.specs.Waiting.{AreWaiting, IsQueued, IsFreed, tokens_of}
 use Rattle.lpm_writer.proofs.LimboItems.{waiting_set, absent_other, linked_limbo, retired_queue, retired_room, retired_others, retired_gone}
-use Rattle.lpm_writer.proofs.Retiring.{may_bump, keeps_bumped, may_make_room, bumped_on, tokens_append}
+use Rattle.lpm_writer.proofs.Reclaims.{may_bump, keeps_bumped, may_make_room, bumped_on, tokens_append}
 use Rattle.lpm_writer.proofs.limbo.retire.Goals as goal
 
 pub start-token-requires-clause-may : goal.start-token-requires-clause-may

@@ -1,18 +1,14 @@
 use Rattle.std.proofs.Common.{arith, ◌≡◌, ◌≢◌, ◌≤◌, refl, sym, ap, subst, ◌∙◌, List, [], ◌++◌, length, drop, Some, None}
 use Rattle.defer_queue.specs.Limbo.{Limbo as Queue}
-use Rattle.fib_model.specs.Reclaiming.{Reclaims}
+use Rattle.fib_model.specs.State.{Reclaims}
 use Rattle.lpm_trace.specs.declared.step.WriterStep.{WriterStep}
 use Rattle.lpm_trace.specs.States.{InitialState}
 use Rattle.lpm_writer.specs.Matching.{GroupsMatchSteps, OnlyChecks}
 use Rattle.lpm_writer.specs.Waiting.{AreWaiting, IsQueued, IsFreed, IsTaken, tokens_of}
 use Rattle.lpm_writer.specs.Traced.{by_writer}
-use Rattle.lpm_writer.proofs.Freeing.{freed_within}
-use Rattle.lpm_writer.proofs.Reclaims.{still_same}
-use Rattle.lpm_writer.proofs.Keeping.{keeps_taken}
-use Rattle.lpm_writer.proofs.LimboItems.{taken_from, taken_queue, taken_after, freed_queue, still_free}
+use Rattle.lpm_writer.proofs.LimboItems.{freed_within, taken_from, taken_queue, taken_after, freed_queue, still_free, least_linked, least_freed, least_same, reclaims_one, reclaims_none, no_tail, without_tail, may_reclaim}
+use Rattle.lpm_writer.proofs.Reclaims.{still_same, keeps_taken}
 use Rattle.lpm_writer.specs.Taking.{LinksLeast, MayTake}
-use Rattle.lpm_writer.proofs.Least.{least_linked, least_freed, least_same}
-use Rattle.lpm_writer.proofs.TakesOne.{reclaims_one, reclaims_none, no_tail, without_tail, may_reclaim}
 use Rattle.lpm_writer.proofs.limbo.take.Given.{Over}
 use Rattle.lpm_writer.proofs.limbo.take.Goals.{After-free_waiting-reclaimed}
 use Rattle.lpm_writer.proofs.limbo.take.Goals as goal

@@ -1,7 +1,7 @@
 use Rattle.std.proofs.Common.{◌≡◌, ◌+◌, [], length, subst, arith}
 use Rattle.std.proofs.lemmas.Bool.Decides.{nat_tests}
-use Rattle.route_text.specs.Says.{SaysItems, SaysFault}
-use Rattle.route_text.specs.Readings.{IsReadError}
+use Rattle.route_text.specs.Starts.{SaysItems, SaysFault}
+use Rattle.route_text.specs.Files.{IsReadError}
 use Rattle.route_text.specs.declared.fault.Fault.{Fault}
 use Rattle.route_text.specs.declared.fault.ReadError.{ReadError}
 use Rattle.route_text.specs.declared.fault.ReadError.TheVariants as errors

@@ -1,5 +1,5 @@
 use Rattle.std.proofs.Common.{◌+◌, drop, arith}
-use Rattle.route_text.proofs.Short.{one_at, two_at, three_at}
+use Rattle.route_text.proofs.Octets.{one_at, two_at, three_at}
 use Rattle.route_text.proofs.numbers.number_before.Goals as goal
 
 pub returns-then-second-gt9-clause-number : goal.returns-then-second-gt9-clause-number

@@ -2,7 +2,7 @@ use Rattle.std.proofs.Common.{drop, subst, sym, refl}
 use Rattle.std.proofs.lemmas.List.{take_rest}
 use Rattle.route_text.specs.declared.lines.End.TheVariants as ends
 use Rattle.route_text.specs.Starts.{StartsNumber, StartsEnd}
-use Rattle.route_text.proofs.Short.{after_number}
+use Rattle.route_text.proofs.Octets.{after_number}
 use Rattle.route_text.proofs.routes.long_hop_before.Goals as goal
 
 pub returns-clause-hop : goal.returns-clause-hop

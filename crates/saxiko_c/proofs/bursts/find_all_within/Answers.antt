@@ -1,6 +1,6 @@
 use Rattle.std.proofs.Common.{◌≡◌, ◌≤◌, ◌+◌, [], length, refl, arith, rules, ◌∙◌}
 use Rattle.std.specs.Prelude.{min, max}
-use Rattle.shared_fib.proofs.Pieces.{burst_after}
+use Rattle.shared_fib.proofs.Lookups.{burst_after}
 use Rattle.saxiko_c.proofs.Pieces.{all_found}
 use Rattle.saxiko_c.proofs.bursts.find_all_within.Goals as goal
 

@@ -1,7 +1,7 @@
 use Rattle.std.proofs.Common.{arith, ap, ◌∙◌, [], ◌∷◌, ◌++◌, take}
 use Rattle.std.specs.Prelude.{slice_index}
 use Rattle.std.proofs.lemmas.List.{take_more, take_more_set}
-use Rattle.shared_fib.proofs.Pieces.{one_alone}
+use Rattle.shared_fib.proofs.Lookups.{one_alone}
 use Rattle.saxiko_c.proofs.bursts.find_one.Goals as goal
 
 pub returns-clause-found : goal.returns-clause-found

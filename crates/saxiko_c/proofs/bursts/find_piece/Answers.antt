@@ -1,7 +1,7 @@
 use Rattle.std.proofs.Common.{arith, ap, ◌∙◌, [], ◌∷◌, ◌++◌, take, List, ℕ}
 use Rattle.std.specs.Prelude.{slice_index}
 use Rattle.std.proofs.lemmas.List.{take_more, take_more_set}
-use Rattle.shared_fib.proofs.Pieces.{one_alone}
+use Rattle.shared_fib.proofs.Lookups.{one_alone}
 use Rattle.saxiko_c.proofs.bursts.find_piece.Goals as goal
 
 pub returns-then-left-lt4-clause-found : goal.returns-then-left-lt4-clause-found

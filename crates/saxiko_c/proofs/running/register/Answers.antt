@@ -1,5 +1,5 @@
 use Rattle.std.proofs.Common.{inr, refl}
-use Rattle.saxiko_c.proofs.Benches.{as_before}
+use Rattle.saxiko_c.proofs.Pieces.{as_before}
 use Rattle.saxiko_c.proofs.running.register.Goals as goal
 
 pub returns-in-Err-new : goal.returns-in-Err-new

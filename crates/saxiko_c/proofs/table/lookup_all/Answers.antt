@@ -1,7 +1,7 @@
 use Rattle.std.proofs.Common.{arith, ◌∙◌}
 use Rattle.std.specs.Prelude.{slice_index}
 use Rattle.std.proofs.lemmas.List.{length-set}
-use Rattle.fib.specs.Lookups.{IsHopOrDefault}
+use Rattle.fib.specs.Fib.{IsHopOrDefault}
 use Rattle.saxiko_c.proofs.Fills.{filled}
 use Rattle.saxiko_c.proofs.table.lookup_all.Goals as goal
 

@@ -1,6 +1,6 @@
 use Rattle.std.proofs.Common.{length, ◌-◌, ◌≡◌, ℕ, ◌<◌, ◌≤◌}
 use Rattle.std.specs.Prelude.{slice_index}
-use Rattle.fib.specs.Lookups.{IsHopOrDefault}
+use Rattle.fib.specs.Fib.{IsHopOrDefault}
 use Rattle.saxiko_c.proofs.table.lookup_all.Given as goal
 
 -- the answers so far

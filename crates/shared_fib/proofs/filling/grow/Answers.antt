@@ -1,5 +1,5 @@
 use Rattle.std.proofs.Common.{◌-◌, ◌+◌, ◌*◌, ◌/◌, ◌%◌, length, arith}
-use Rattle.shared_fib.proofs.Pairing.{fills_by, put_length, put_twice}
+use Rattle.shared_fib.proofs.Packing.{fills_by, put_length, put_twice}
 use Rattle.shared_fib.proofs.filling.grow.Goals as goal
 
 pub overflow_sub-pairs : goal.overflow_sub-pairs

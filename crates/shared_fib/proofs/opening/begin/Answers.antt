@@ -1,7 +1,7 @@
 use Rattle.std.proofs.Common.{ℕ, ◌≡◌, IfOk, ap, subst, lit<}
 use Rattle.lpm_limits.specs.declared.config.Config.{Config}
 use Rattle.lpm_rules.specs.RuleMap.{RuleMap, RuleList}
-use Rattle.shared_words.specs.Initial.{InitialData}
+use Rattle.shared_words.specs.Layout.{InitialData}
 use Rattle.shared_fib.specs.Running.{initial_writer}
 use Rattle.shared_fib.proofs.opening.begin.Goals as goal
 

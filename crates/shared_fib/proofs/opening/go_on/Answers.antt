@@ -1,7 +1,7 @@
 use Rattle.std.proofs.Common.{◌≡◌, [], ap, sym, subst, ◌∙◌, lit<}
 use Rattle.lpm_writer.specs.declared.control.ControlState.{ControlState}
 use Rattle.lpm_writer.specs.Resting.{IsResting}
-use Rattle.shared_words.specs.Initial.{InitialData, initial_state_of}
+use Rattle.shared_words.specs.Layout.{InitialData, initial_state_of}
 use Rattle.shared_fib.specs.Passes.{IsFullBench}
 use Rattle.shared_fib.specs.Running.{Identity, initial_data_of, initial_writer}
 use Rattle.shared_fib.proofs.Begins.{ready, opens}

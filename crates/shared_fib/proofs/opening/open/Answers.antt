@@ -1,7 +1,7 @@
 use Rattle.std.proofs.Common.{ap, ◌∙◌, rules, lit<}
-use Rattle.lpm_writer.specs.Blank.{blank_state}
+use Rattle.lpm_writer.specs.Resting.{blank_state}
 use Rattle.fib.proofs.Sound.{sound_new}
-use Rattle.shared_words.specs.Initial.{initial_state_of}
+use Rattle.shared_words.specs.Layout.{initial_state_of}
 use Rattle.shared_fib.proofs.Begins.{opens_blank}
 use Rattle.shared_fib.proofs.opening.open.Goals as goal
 

@@ -1,6 +1,6 @@
 use Rattle.std.proofs.Common.{refl, arith, rules}
 use Rattle.shared_fib.specs.declared.initial_table.InitialTable.{InitialTable}
-use Rattle.lpm_rules.specs.Listed.{rules_of}
+use Rattle.lpm_rules.specs.RuleMap.{rules_of}
 use Rattle.shared_fib.proofs.Sorted.{few_firsts, few_seconds, swept_loaded}
 use Rattle.shared_fib.proofs.opening_sorted.load_swept.Goals as goal
 

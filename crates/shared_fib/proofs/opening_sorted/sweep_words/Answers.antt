@@ -1,5 +1,5 @@
 use Rattle.std.proofs.Common.{ℕ, ◌≡◌, ◌-◌, ◌*◌, ◌%◌, ◌^◌, ◌≤◌, ◌∷◌, ◌++◌, length, replicate, ap, ◌∙◌, arith, rules}
-use Rattle.fib.proofs.Swept.{fewer_words}
+use Rattle.fib.proofs.Begun.{fewer_words}
 use Rattle.shared_words.specs.Layout.{packed_words}
 use Rattle.shared_fib.proofs.Sorted.{few_seconds}
 use Rattle.shared_fib.proofs.opening_sorted.sweep_words.Goals as goal

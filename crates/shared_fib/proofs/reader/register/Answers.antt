@@ -1,7 +1,7 @@
 use Rattle.std.proofs.Common.{◌≡◌, ◌∙◌, List, Option, None, Some}
 use Rattle.std.specs.Prelude.{slice_set}
 use Rattle.shared_fib.specs.Passes.{PassState}
-use Rattle.shared_fib.proofs.Benches.{put_back}
+use Rattle.shared_fib.proofs.Seats.{set_back}
 use Rattle.shared_fib.proofs.reader.register.Goals as goal
 
 pub returns-in-Err-clause-unchanged : goal.returns-in-Err-clause-unchanged
@@ -13,4 +13,4 @@ returns-in-Err-clause-unchanged c =
     let is = c.in-Ok.ensures.pass in
     let same : back.0 ≡ pass = back.3 is.offline in
     back.1 ∙ (λ i. slice_set (taken.1 i) (is.worker i) (Some (same i)))
-    ∙ put_back old c.args.worker (Some pass) None taken.0
+    ∙ set_back old c.args.worker (Some pass) None taken.0

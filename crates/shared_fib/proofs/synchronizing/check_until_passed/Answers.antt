@@ -3,8 +3,8 @@ use Rattle.lpm_trace.specs.declared.step.WriterStep.{WriterStep}
 use Rattle.lpm_trace.specs.States.{InitialState}
 use Rattle.lpm_writer.specs.declared.control.ControlState.{ControlState}
 use Rattle.lpm_writer.specs.Resting.{IsResting}
-use Rattle.lpm_writer.specs.Synchronizing.{IsWaiting}
-use Rattle.shared_words.specs.Initial.{initial_state_of}
+use Rattle.lpm_writer.specs.Commands.{IsWaiting}
+use Rattle.shared_words.specs.Layout.{initial_state_of}
 use Rattle.shared_fib.specs.Lent.{Lent}
 use Rattle.shared_fib.proofs.Seated.{Kept, kept, only_sees, rests_after, outcome_after}
 use Rattle.shared_fib.proofs.Waited.{not_yet, still, once_more, at_last, queued_passed}

@@ -1,6 +1,6 @@
 use Rattle.std.proofs.Common.{◌≡◌}
-use Rattle.lpm_writer.specs.Synchronizing.{IsWaiting}
-use Rattle.shared_words.specs.Initial.{initial_state_of}
+use Rattle.lpm_writer.specs.Commands.{IsWaiting}
+use Rattle.shared_words.specs.Layout.{initial_state_of}
 use Rattle.shared_fib.proofs.Waited.{HasWaited}
 use Rattle.shared_fib.proofs.synchronizing.check_until_passed.Given as goal
 

@@ -2,9 +2,9 @@ use Rattle.std.proofs.Common.{arith, rules, refl, ap, ◌∙◌, List}
 use Rattle.std.specs.Prelude.{IsErr}
 use Rattle.lpm_trace.specs.declared.step.WriterStep.{WriterStep}
 use Rattle.lpm_trace.specs.States.{InitialState}
-use Rattle.lpm_writer.specs.Synchronizing.{IsWaiting}
+use Rattle.lpm_writer.specs.Commands.{IsWaiting}
 use Rattle.shared_words.specs.declared.view.View.{View}
-use Rattle.shared_words.specs.Initial.{initial_state_of}
+use Rattle.shared_words.specs.Layout.{initial_state_of}
 use Rattle.shared_fib.specs.Lent.{Lent, SharedDid}
 use Rattle.shared_fib.proofs.Seated.{rests_after}
 use Rattle.shared_fib.proofs.Waited.{exhausted_by, synchronized}

@@ -1,6 +1,6 @@
 use Rattle.std.proofs.Common.{◌≡◌, ◌+◌, ◌/◌, ◌%◌, length, refl, sym, ap, arith}
 use Rattle.shared_words.specs.declared.view.View.{View}
-use Rattle.shared_words.specs.Initial.{InitialData}
+use Rattle.shared_words.specs.Layout.{InitialData}
 use Rattle.shared_words.proofs.Deeds.{firsts_are}
 use Rattle.shared_words.proofs.Together.{reads_alone, looks_for, answers, looked}
 use Rattle.shared_words.proofs.address.lookup.Goals as goal

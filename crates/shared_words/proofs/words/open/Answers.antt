@@ -1,6 +1,5 @@
 use Rattle.std.proofs.Common.{◌≡◌, length, ap, ◌∙◌, arith}
-use Rattle.shared_words.specs.Initial.{InitialData}
-use Rattle.shared_words.specs.Layout.{word_count}
+use Rattle.shared_words.specs.Layout.{InitialData, word_count}
 use Rattle.shared_words.proofs.Laying.{opening_count}
 use Rattle.shared_words.proofs.Writing.{opens}
 use Rattle.shared_words.proofs.words.open.Goals as goal

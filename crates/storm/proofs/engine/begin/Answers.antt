@@ -1,5 +1,5 @@
 use Rattle.storm.proofs.Logs.{first_rules, made_none}
-use Rattle.lpm_rules.specs.Listed.{rules_of}
+use Rattle.lpm_rules.specs.RuleMap.{rules_of}
 use Rattle.storm.proofs.engine.begin.Goals as goal
 
 pub returns-clause-made : goal.returns-clause-made

@@ -1,7 +1,6 @@
 use Rattle.std.proofs.Common.{arith, lit<, refl, ℕ, ◌≡◌, ◌+◌, ◌*◌, ◌^◌, ◌<◌, ◌≤◌, ◌∙◌, ◌++◌, List, length, map, drop, get_or, ap, sym, subst}
 use Rattle.lpm_limits.specs.declared.config.Config.{Config}
-use Rattle.lpm_rules.specs.RuleMap.{RuleMap}
-use Rattle.lpm_rules.specs.Listed.{rules_of}
+use Rattle.lpm_rules.specs.RuleMap.{RuleMap, rules_of}
 use Rattle.lpm_rules.specs.declared.Answer.{Answer}
 use Rattle.lpm_rules.specs.declared.Change.{Change}
 use Rattle.shared_fib.specs.Running.{WriterState, steps_of, token_of}
@@ -12,9 +11,8 @@ use Rattle.storm.specs.Changing.{HasVersions, addition_of, changes_by, refused_a
 use Rattle.storm.specs.Looking.{answers_of_passes, answers_of_workers, times, passes_of}
 use Rattle.storm.specs.declared.looking.Worker.{Worker}
 use Rattle.storm.specs.Storm.{Settles}
-use Rattle.storm.proofs.Rounds.{addresses_of, all_held, all_looked, all_of_addresses, all_right, all_times, count_all}
-use Rattle.storm.proofs.Counts.{changes_behind, changes_within, first_version, none_wrong, rules_within}
-use Rattle.storm.proofs.Versions.{settled_versions}
+use Rattle.storm.proofs.Told.{addresses_of, all_held, all_looked, all_of_addresses, all_right, all_times, count_all}
+use Rattle.storm.proofs.Versions.{changes_behind, changes_within, first_version, none_wrong, rules_within, settled_versions}
 use Rattle.storm.proofs.Meetings.{of_workers}
 use Rattle.storm.proofs.engine.finish.Goals as goal
 

@@ -4,7 +4,7 @@ use Rattle.lpm_limits.specs.declared.config.Config.{Config}
 use Rattle.storm.specs.declared.looking.Worker.{Worker}
 use Rattle.storm.specs.Looking.{AreInSeats, IsOver}
 use Rattle.storm.specs.Changing.{HasMade}
-use Rattle.storm.specs.Plans.{HasMadeAll}
+use Rattle.storm.specs.Storm.{HasMadeAll}
 use Rattle.storm.proofs.engine.run.Goals as goal
 
 pub seat_stuck-stuck-requires : goal.seat_stuck-stuck-requires

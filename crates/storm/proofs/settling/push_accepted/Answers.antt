@@ -1,7 +1,7 @@
 use Rattle.std.proofs.Common.{◌∙◌, ◌++◌, ◌∷◌, [], List, take, ap, sym, append_assoc}
 use Rattle.lpm_rules.specs.declared.Change.{Change}
 use Rattle.storm.specs.Changing.{changes_by}
-use Rattle.storm.proofs.Counts.{changes_next, append_nil}
+use Rattle.storm.proofs.Versions.{changes_next, append_nil}
 use Rattle.storm.proofs.settling.push_accepted.Goals as goal
 use Rattle.storm.proofs.settling.push_accepted.Goals.{in-Some+in_ok-push, in_default}
 

@@ -1,9 +1,9 @@
 use Rattle.std.proofs.Common.{ℕ, ◌≡◌, ◌<◌, ◌≤◌, length, ap, ◌∙◌, sym, subst}
 use Rattle.std.specs.Prelude.{All}
-use Rattle.lpm_trace.specs.Counts.{passed_after}
+use Rattle.lpm_trace.specs.Writer.{passed_after}
 use Rattle.fib_model.specs.Outcomes.{Frees}
 use Rattle.shared_fib.specs.Running.{Identity, WriterState, by_steps, initial_state, steps_of}
-use Rattle.storm.proofs.Emptied.{emptied}
+use Rattle.storm.proofs.Logs.{emptied}
 use Rattle.storm.proofs.settling.settle.Goals as goal
 
 pub returns-clause-settles : goal.returns-clause-settles

@@ -1,7 +1,7 @@
 use Rattle.std.proofs.Common.{ap, sym, ◌∙◌, subst, not, drop}
 use Rattle.std.specs.Prelude.{count_by}
 use Rattle.audit.specs.Wrong.{AreWrong, version_of}
-use Rattle.audit.proofs.Marks.{wrong_marks}
+use Rattle.audit.proofs.Spans.{wrong_marks}
 use Rattle.audit.proofs.past.Past.count_wrong.Goals as goal
 
 pub returns : goal.returns

@@ -2,7 +2,7 @@ use Rattle.std.proofs.Common.{arith, eqb-true, lit<, refl, sym, ◌∙◌, ◌+�
 use Rattle.std.proofs.lemmas.Bool.{eqb-false}
 use Rattle.lpm_bits.specs.Network.{prefix_of, network_bits}
 use Rattle.audit.specs.Wrong.{version_of}
-use Rattle.audit.proofs.Versions.{too_long}
+use Rattle.audit.proofs.Spans.{too_long}
 use Rattle.audit.proofs.Indexes.{networks, no_rule, shape}
 use Rattle.audit.proofs.past.Past.covering_at.Goals as goal
 

@@ -1,5 +1,5 @@
 use Rattle.std.proofs.Common.{arith, ◌+◌, ◌-◌}
-use Rattle.audit.proofs.Versions.{found_at, shorter_at}
+use Rattle.audit.proofs.Spans.{found_at, shorter_at}
 use Rattle.audit.specs.Wrong.{version_of}
 use Rattle.audit.proofs.Indexes.{networks, all_short}
 use Rattle.audit.proofs.past.Past.longest_at.Goals as goal

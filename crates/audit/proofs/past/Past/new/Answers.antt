@@ -1,6 +1,6 @@
 use Rattle.std.proofs.Common.{arith, ap, ◌∙◌, ◌+◌, length, length-append, [], ◌∷◌}
 use Rattle.audit.proofs.Lists.{at_more}
-use Rattle.audit.specs.Events.{AreEventsUpTo, AreOrdered}
+use Rattle.audit.specs.Index.{AreEventsUpTo, AreOrdered}
 use Rattle.audit.proofs.past.Past.new.Goals as goal
 
 pub loop-len-preserved : goal.loop-len-preserved

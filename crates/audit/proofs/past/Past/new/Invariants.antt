@@ -1,6 +1,6 @@
 use Rattle.std.proofs.Common.{ℕ, ◌≡◌, ◌<◌, length}
 use Rattle.std.specs.Prelude.{slice_index_or}
-use Rattle.audit.specs.Events.{AreEventsUpTo, AreOrdered}
+use Rattle.audit.specs.Index.{AreEventsUpTo, AreOrdered}
 use Rattle.audit.proofs.past.Past.new.Given as goal
 
 -- the events of each length before this one

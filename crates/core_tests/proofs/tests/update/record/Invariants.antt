@@ -1,5 +1,5 @@
 use Rattle.lpm_update.specs.Update.{places_left}
-use Rattle.lpm_update.specs.Runs.{HasCome}
+use Rattle.lpm_update.specs.Laws.{HasCome}
 use Rattle.core_tests.proofs.tests.update.record.Given as goal
 
 abbrev pub invariant-loop-did : goal.invariant-loop-did

@@ -1,6 +1,5 @@
 use Rattle.std.proofs.Common.{sym, subst, ◌+◌, ◌∙◌, ap}
-use Rattle.lpm_cells.specs.Table.{entry_at}
-use Rattle.lpm_cells.specs.Words.{hop_in}
+use Rattle.lpm_cells.specs.Words.{entry_at, hop_in}
 use Rattle.lpm_rules.specs.Longest.{IsLongestHop}
 use Rattle.lpm_update.proofs.Promises.{best_hop}
 use Rattle.fib.specs.Fib.{FibState}

@@ -1,6 +1,6 @@
 use Rattle.std.proofs.Common.{◌+◌, ◌∷◌, []}
 use Rattle.std.specs.Prelude.{slice_index}
-use Rattle.fib.specs.Lookups.{IsHopOrDefault}
+use Rattle.fib.specs.Fib.{IsHopOrDefault}
 use Rattle.fib.proofs.Fours.{four}
 use Rattle.fib.proofs.fib.Fib.lookup4.Goals as goal
 

@@ -1,7 +1,7 @@
 use Rattle.std.proofs.Common.{arith, ◌<◌, ◌∙◌, length}
 use Rattle.std.proofs.lemmas.List.{drop-set-lt, length-set, take_more, take_more_set}
 use Rattle.std.proofs.lemmas.List.Elements.{AllZip-push}
-use Rattle.fib.specs.Lookups.{IsHopOrDefault}
+use Rattle.fib.specs.Fib.{IsHopOrDefault}
 use Rattle.fib.proofs.lookups.Fib+24+8.lookup_bulk.Goals as goal
 
 pub loop-i-preserved : goal.loop-i-preserved

@@ -1,6 +1,6 @@
 use Rattle.std.proofs.Common.{◌≡◌, length, take, drop}
 use Rattle.std.specs.List.{AllZip}
-use Rattle.fib.specs.Lookups.{IsHopOrDefault}
+use Rattle.fib.specs.Fib.{IsHopOrDefault}
 use Rattle.fib.proofs.lookups.Fib+24+8.lookup_bulk.Given as goal
 
 -- the addresses up to here have their next hops, and what stands behind all is as it was

@@ -2,7 +2,7 @@ use Rattle.std.proofs.Common.{arith, rules, ◌≡◌, min, length, below_more, 
 use Rattle.std.proofs.lemmas.List.{get_or_read}
 use Rattle.fib_model.proofs.Frozen.{IsUnheld, listed}
 use Rattle.fib_model.specs.Expected.{events_of}
-use Rattle.fib_model.proofs.Fronts.{front_all, front_stopped}
+use Rattle.fib_model.proofs.Unheld.{front_all, front_stopped}
 use Rattle.fib_model.proofs.waiting.Waiting.front.Goals as goal
 
 pub returns-in-Some : goal.returns-in-Some

@@ -1,6 +1,6 @@
 use Rattle.std.proofs.Common.{arith, subst, reverse}
 use Rattle.qsbr.specs.Intervals.{IsRunningSince}
-use Rattle.fib_model.specs.Intervals.{by_reports}
+use Rattle.fib_model.specs.Textbook.{by_reports}
 use Rattle.qsbr.proofs.Running.{held_start}
 use Rattle.fib_model.specs.Expected.{events_of}
 use Rattle.fib_model.proofs.waiting.Waiting.held_by.Goals as goal

@@ -1,6 +1,6 @@
 use Rattle.std.proofs.Common.{ℕ, ◌<◌}
 use Rattle.qsbr.specs.Intervals.{IsHeldByWorker}
-use Rattle.fib_model.specs.Intervals.{by_reports}
+use Rattle.fib_model.specs.Textbook.{by_reports}
 use Rattle.fib_model.specs.Expected.{events_of}
 use Rattle.fib_model.proofs.waiting.Waiting.holder.Given as goal
 

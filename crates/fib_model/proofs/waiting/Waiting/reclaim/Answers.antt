@@ -1,4 +1,4 @@
-use Rattle.defer_queue.proofs.Fronts.{Reclaims-within}
+use Rattle.defer_queue.proofs.Longest.{Reclaims-within}
 use Rattle.fib_model.proofs.waiting.Waiting.reclaim.Goals as goal
 
 pub drop_front-requires : goal.drop_front-requires

@@ -1,5 +1,5 @@
 use Rattle.std.proofs.Common.{rules, ap, sym, ◌∙◌, ◌<◌, ◌∷◌, length}
-use Rattle.fib_model.proofs.Pushed.{front_removed}
+use Rattle.fib_model.proofs.Runs.{front_removed}
 use Rattle.fib_model.proofs.waiting.Waiting.take_front.Goals as goal
 
 pub returns-clause-taken : goal.returns-clause-taken

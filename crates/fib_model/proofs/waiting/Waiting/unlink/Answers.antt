@@ -1,9 +1,8 @@
 use Rattle.std.proofs.Common.{reverse, subst, sym, ap, ◌≡◌}
 use Rattle.fib_model.specs.Expected.{events_of}
 use Rattle.qsbr.specs.Intervals.{IsTidy}
-use Rattle.fib_model.specs.Intervals.{by_reports}
-use Rattle.fib_model.proofs.Tidied.{tidy_unlinked}
-use Rattle.fib_model.proofs.Pushed.{tidy_pushed}
+use Rattle.fib_model.specs.Textbook.{by_reports}
+use Rattle.fib_model.proofs.Runs.{tidy_unlinked, tidy_pushed}
 use Rattle.fib_model.proofs.waiting.Waiting.unlink.Goals as goal
 
 pub make_room-requires-clause-sound : goal.make_room-requires-clause-sound

@@ -1,5 +1,5 @@
 use Rattle.std.proofs.Common.{suc, subst, ◌+◌, ◌≡◌, arith}
-use Rattle.fib_model.specs.Reclaiming.{Unlinks}
+use Rattle.fib_model.specs.State.{Unlinks}
 use Rattle.fib_model.specs.Textbook.{textbook}
 use Rattle.fib_model.specs.Expected.{events_of}
 use Rattle.fib_model.proofs.waiting.Waiting.unlink_all.Goals as goal

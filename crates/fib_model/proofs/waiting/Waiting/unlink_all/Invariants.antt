@@ -1,4 +1,4 @@
-use Rattle.fib_model.specs.Reclaiming.{Unlinks}
+use Rattle.fib_model.specs.State.{Unlinks}
 use Rattle.fib_model.specs.Textbook.{textbook}
 use Rattle.fib_model.specs.Expected.{IsSound, events_of}
 use Rattle.fib_model.proofs.waiting.Waiting.unlink_all.Given as goal

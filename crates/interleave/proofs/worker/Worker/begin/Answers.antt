@@ -1,6 +1,6 @@
 use Rattle.std.proofs.Common.{refl, sym, subst, [], ◌∷◌}
 use Rattle.interleave.specs.declared.worker.Phase.TheVariants as phase
-use Rattle.interleave.proofs.Deeds.{IsBegun, online_begun, offline_begun, quiescent_begun, meet_begun, lookup_begun, lookup4_begun}
+use Rattle.interleave.proofs.Steps.{IsBegun, online_begun, offline_begun, quiescent_begun, meet_begun, lookup_begun, lookup4_begun}
 use Rattle.interleave.proofs.worker.Worker.begin.Goals as goal
 
 pub returns-in-Online-clause-step : goal.returns-in-Online-clause-step

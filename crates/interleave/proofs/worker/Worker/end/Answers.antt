@@ -1,7 +1,6 @@
 use Rattle.std.proofs.Common.{◌++◌, refl, ap, ◌∙◌}
 use Rattle.lpm_trace.specs.States.{begun_at}
-use Rattle.interleave.proofs.Lookups.{ended}
-use Rattle.interleave.proofs.Probes.{noted}
+use Rattle.interleave.proofs.Lookups.{ended, noted}
 use Rattle.interleave.proofs.worker.Worker.end.Goals as goal
 
 pub returns-clause-step : goal.returns-clause-step

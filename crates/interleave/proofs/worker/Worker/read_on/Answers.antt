@@ -1,6 +1,6 @@
 use Rattle.std.proofs.Common.{arith, ◌+◌, ◌^◌, length, sym, subst}
 use Rattle.std.proofs.lemmas.List.{append-nil}
-use Rattle.lpm_trace.specs.Workers.{AreBegun}
+use Rattle.lpm_trace.specs.Trace.{AreBegun}
 use Rattle.interleave.specs.Machine.{IsNextUnread, IsNextGrouped, probes_of}
 use Rattle.interleave.proofs.Lookups.{unread_in_range, grouped_in_range}
 use Rattle.interleave.proofs.worker.Worker.read_on.Goals as goal

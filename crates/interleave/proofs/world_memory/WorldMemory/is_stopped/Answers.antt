@@ -1,9 +1,7 @@
 use Rattle.std.proofs.Common.{◌≡◌, ◌<◌, ◌↔◌, true, length, sym, subst}
-use Rattle.interleave.specs.Schedule.{writer_items}
+use Rattle.interleave.specs.World.{writer_items, WorldDid}
 use Rattle.interleave.specs.View.{WorldView}
-use Rattle.interleave.specs.World.{WorldDid}
-use Rattle.interleave.proofs.Inside.{view_in}
-use Rattle.interleave.proofs.Reaching.{stopped_late}
+use Rattle.interleave.proofs.Reaching.{view_in, stopped_late}
 use Rattle.interleave.proofs.world_memory.WorldMemory.is_stopped.Goals as goal
 
 pub returns : goal.returns

@@ -4,7 +4,7 @@ use Rattle.std.proofs.lemmas.List.Elements.{All-map}
 use Rattle.interleave.specs.Scripts.{IsSound}
 use Rattle.interleave.specs.View.{WorldView}
 use Rattle.interleave.specs.World.{WorldDid, AreNew, IsInitial}
-use Rattle.interleave.proofs.Beginning.{unused, begins}
+use Rattle.interleave.proofs.Steps.{unused, begins}
 use Rattle.interleave.proofs.world_memory.WorldMemory.new.Goals as goal
 
 pub returns-clause-did : goal.returns-clause-did

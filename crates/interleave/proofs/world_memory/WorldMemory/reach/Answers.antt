@@ -1,8 +1,7 @@
 use Rattle.std.proofs.Common.{rules, ◌≡◌, ◌<◌, length, get_or, refl, subst, ap, ◌∙◌, None, arith}
 use Rattle.lpm_trace.specs.declared.kind.Actor.TheVariants.{Writer as WriterActor, Worker as WorkerActor}
-use Rattle.interleave.specs.Schedule.{writer_items}
+use Rattle.interleave.specs.World.{writer_items, IsWritersTurn}
 use Rattle.interleave.specs.View.{WorldView}
-use Rattle.interleave.specs.World.{IsWritersTurn}
 use Rattle.interleave.proofs.Items.{item_there}
 use Rattle.interleave.proofs.Reaching.{shared_more, reach_more, within, some_left, none_left}
 use Rattle.interleave.proofs.world_memory.WorldMemory.reach.Goals as goal

@@ -1,11 +1,10 @@
 use Rattle.std.proofs.Common.{arith, ap, sym, ◌∙◌, subst, ◌≡◌, ◌^◌, ◌<◌, ◌+◌, length}
 use Rattle.std.specs.Prelude.{slice_index}
 use Rattle.std.proofs.lemmas.Nat.{one_shl}
-use Rattle.lpm_cells.specs.Words.{entry_in, group_in}
-use Rattle.lpm_cells.specs.Table.{with_first}
+use Rattle.lpm_cells.specs.Words.{entry_in, group_in, with_first}
 use Rattle.lpm_update.specs.declared.Did.TheVariants.{First, Unlinked, Done}
 use Rattle.lpm_update.specs.declared.update.Plan.TheVariants.{Flush}
-use Rattle.lpm_update.specs.Flush.{IsFlushStore}
+use Rattle.lpm_update.specs.Kinds.{IsFlushStore}
 use Rattle.lpm_update.specs.Step.{Steps}
 use Rattle.lpm_update.proofs.Places.{sets_first}
 use Rattle.lpm_update.proofs.Groups.{no_group_at}

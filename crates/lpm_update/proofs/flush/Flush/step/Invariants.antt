@@ -1,5 +1,5 @@
 use Rattle.std.proofs.Common.{◌-◌, ◌≡◌, ◌^◌, ◌≤◌}
-use Rattle.lpm_update.specs.Flush.{AllMiss}
+use Rattle.lpm_update.specs.Kinds.{AllMiss}
 use Rattle.lpm_update.proofs.flush.Flush.step.Given as goal
 
 -- so far all words are misses, and nothing was stored

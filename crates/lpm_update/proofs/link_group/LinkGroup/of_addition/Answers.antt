@@ -1,7 +1,6 @@
 use Rattle.std.proofs.Common.{arith, ◌+◌, ◌-◌}
 use Rattle.std.proofs.lemmas.Nat.{one_shl, shr_below}
-use Rattle.lpm_update.proofs.Ranges.{deep_high}
-use Rattle.lpm_update.proofs.Places.{block_low}
+use Rattle.lpm_update.proofs.Places.{deep_high, block_low}
 use Rattle.lpm_update.proofs.link_group.LinkGroup.of_addition.Goals as goal
 
 pub returns-clause-linking : goal.returns-clause-linking

@@ -1,5 +1,5 @@
 use Rattle.lpm_update.specs.declared.update.Plan.TheVariants.{Link}
-use Rattle.lpm_update.proofs.Advancing.{advances_same, advances_step, keeps_groups, link_keeps, ran_all}
+use Rattle.lpm_update.proofs.Onward.{advances_same, advances_step, keeps_groups, link_keeps, ran_all}
 use Rattle.lpm_update.proofs.link_group.LinkGroup.run.Goals as goal
 
 pub loop-init : goal.loop-init

@@ -1,6 +1,6 @@
 use Rattle.std.proofs.Common.{◌+◌, ◌-◌, ◌^◌}
 use Rattle.lpm_update.specs.declared.update.Plan.TheVariants.{Link}
-use Rattle.lpm_update.proofs.Advancing.{Advances}
+use Rattle.lpm_update.proofs.Onward.{Advances}
 use Rattle.lpm_update.proofs.link_group.LinkGroup.run.Given as goal
 
 abbrev pub invariant-loop : goal.invariant-loop

@@ -1,11 +1,10 @@
 use Rattle.std.proofs.Common.{refl, arith, ap, sym, ◌∙◌, subst, ◌≡◌, ◌+◌, ◌*◌, ◌^◌, ◌%◌, ◌<◌}
 use Rattle.std.specs.Prelude.{slice_index}
 use Rattle.std.proofs.lemmas.Nat.{one_shl, shl_whole}
-use Rattle.lpm_cells.specs.Words.{entry_in, word_of}
-use Rattle.lpm_cells.specs.Table.{with_second}
+use Rattle.lpm_cells.specs.Words.{entry_in, word_of, with_second}
 use Rattle.lpm_update.specs.declared.Did.TheVariants.{First, Second}
 use Rattle.lpm_update.specs.declared.update.Plan.TheVariants.{Link}
-use Rattle.lpm_update.specs.LinkGroup.{final_entry, filled_entry}
+use Rattle.lpm_update.specs.Kinds.{final_entry, filled_entry}
 use Rattle.lpm_update.specs.Step.{Steps}
 use Rattle.lpm_update.proofs.Links.{next_place, link_fill, link_link, block_small}
 use Rattle.lpm_update.proofs.link_group.LinkGroup.step.Given.{Over}

@@ -1,6 +1,6 @@
 use Rattle.std.proofs.Common.{arith, refl, ◌+◌, ◌-◌}
 use Rattle.std.proofs.lemmas.Nat.{one_shl}
-use Rattle.lpm_update.proofs.Ranges.{short_range, deep_range}
+use Rattle.lpm_update.proofs.Places.{short_range, deep_range}
 use Rattle.lpm_update.proofs.rewrite_range.RewriteRange.over.Goals as goal
 
 pub returns-clause-range : goal.returns-clause-range

@@ -1,7 +1,7 @@
 use Rattle.std.proofs.Common.{refl, ◌+◌, sym, subst, ◌∙◌}
 use Rattle.lpm_update.specs.declared.update.Plan.TheVariants.{Range}
 use Rattle.lpm_update.specs.Rewrite.{IsOnWords}
-use Rattle.lpm_update.proofs.Advancing.{visited_same, visited_visit, visited_all}
+use Rattle.lpm_update.proofs.Onward.{visited_same, visited_visit, visited_all}
 use Rattle.lpm_update.proofs.RangeSteps.{mid_allows}
 use Rattle.lpm_update.proofs.rewrite_range.RewriteRange.run.Goals as goal
 

@@ -1,5 +1,5 @@
 use Rattle.std.proofs.Common.{◌-◌, ◌≡◌}
-use Rattle.lpm_update.proofs.Advancing.{Visited}
+use Rattle.lpm_update.proofs.Onward.{Visited}
 use Rattle.lpm_update.proofs.rewrite_range.RewriteRange.run.Given as goal
 
 abbrev pub invariant-loop-self : goal.invariant-loop-self

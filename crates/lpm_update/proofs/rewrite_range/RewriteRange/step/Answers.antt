@@ -1,7 +1,7 @@
 use Rattle.std.proofs.Common.{◌+◌, sym, subst}
 use Rattle.lpm_update.specs.declared.update.Plan.TheVariants.{Range}
 use Rattle.lpm_update.specs.Rewrite.{IsOnWords}
-use Rattle.lpm_update.specs.RewriteRange.{Visits}
+use Rattle.lpm_update.specs.Kinds.{Visits}
 use Rattle.lpm_update.specs.Step.{AllowsNext, SetsWord}
 use Rattle.lpm_update.proofs.RangeSteps.{mid_allows, mid_steps}
 use Rattle.lpm_update.proofs.rewrite_range.RewriteRange.step.Goals as goal

@@ -1,7 +1,7 @@
 use Rattle.std.proofs.Common.{◌-◌, ◌≡◌}
 use Rattle.lpm_update.specs.declared.update.Plan.TheVariants.{Range}
 use Rattle.lpm_update.specs.Rewrite.{Skips}
-use Rattle.lpm_update.specs.RewriteRange.{IsFurther}
+use Rattle.lpm_update.specs.Kinds.{IsFurther}
 use Rattle.lpm_update.specs.Update.{IsUnderWay}
 use Rattle.lpm_update.proofs.rewrite_range.RewriteRange.step.Given as goal
 

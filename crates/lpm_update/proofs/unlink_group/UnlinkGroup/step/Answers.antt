@@ -1,9 +1,9 @@
 use Rattle.std.proofs.Common.{rules, ap, sym, ◌∙◌, subst, refl, true}
 use Rattle.std.specs.Prelude.{slice_index}
-use Rattle.lpm_cells.specs.Table.{with_first}
+use Rattle.lpm_cells.specs.Words.{with_first}
 use Rattle.lpm_update.specs.declared.Did.TheVariants.{Unlinked, Done}
 use Rattle.lpm_update.specs.declared.update.Plan.TheVariants.{Range, Unlink}
-use Rattle.lpm_update.specs.UnlinkGroup.{IsUnlinkStore}
+use Rattle.lpm_update.specs.Kinds.{IsUnlinkStore}
 use Rattle.lpm_update.specs.Step.{Steps}
 use Rattle.lpm_update.proofs.Unlinks.{one_entry, unlink_link, unlink_range}
 use Rattle.lpm_update.proofs.unlink_group.UnlinkGroup.step.Goals as goal

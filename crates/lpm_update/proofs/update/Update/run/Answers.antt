@@ -1,7 +1,7 @@
 use Rattle.std.proofs.Common.{sym, subst, ◌∙◌, None}
 use Rattle.lpm_update.specs.declared.update.Plan.TheVariants.{Range, Link}
-use Rattle.lpm_update.specs.Runs.{RunsOn}
-use Rattle.lpm_update.proofs.Advancing.{advances_same, advances_step, keeps_groups, ran_all, ran_to}
+use Rattle.lpm_update.specs.Laws.{RunsOn}
+use Rattle.lpm_update.proofs.Onward.{advances_same, advances_step, keeps_groups, ran_all, ran_to}
 use Rattle.lpm_update.proofs.update.Update.run.Goals as goal
 
 pub loop-group-init : goal.loop-group-init

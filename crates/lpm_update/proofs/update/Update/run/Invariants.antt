@@ -1,5 +1,5 @@
 use Rattle.lpm_update.specs.Update.{places_left}
-use Rattle.lpm_update.proofs.Advancing.{Advances}
+use Rattle.lpm_update.proofs.Onward.{Advances}
 use Rattle.lpm_update.proofs.update.Update.run.Given as goal
 
 abbrev pub invariant-loop-group : goal.invariant-loop-group

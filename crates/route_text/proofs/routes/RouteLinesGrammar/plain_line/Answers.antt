@@ -1,8 +1,8 @@
 use Rattle.std.proofs.Common.{drop, arith, sym, subst}
 use Rattle.route_text.specs.declared.lines.End.TheVariants as ends
 use Rattle.route_text.specs.Starts.{StartsNumberBefore}
-use Rattle.route_text.proofs.Plain.{plain_route_line}
-use Rattle.route_text.proofs.Short.{wider}
+use Rattle.route_text.proofs.Writing.{plain_route_line}
+use Rattle.route_text.proofs.Octets.{wider}
 use Rattle.route_text.proofs.routes.RouteLinesGrammar.plain_line.Goals as goal
 
 pub returns-in-Some-clause-line : goal.returns-in-Some-clause-line

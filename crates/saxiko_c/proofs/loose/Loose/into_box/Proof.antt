@@ -31,7 +31,7 @@ use Rattle.core.proofs.cell.Inside.{Good}
 use Rattle.std_alloc.proofs.BoxSteps.Form as box
 use Rattle.std_alloc.proofs.BoxSteps.Steps.{box_out, box_in}
 use Rattle.std.proofs.raw_atomic.Walks.{proved_at, leaves}
-use Rattle.saxiko_c.proofs.Values.{both, Loose, loose_good, loose_out}
+use Rattle.saxiko_c.proofs.HandleSteps.{both, Loose, loose_good, loose_out}
 use Rattle.std_alloc.specs.contracts.boxed.Box.from_raw as callee
 use Rattle.std_alloc.proofs.boxed.Box.from_raw.Met.{met}
 use Rattle.saxiko_c.specs.contracts.loose.Loose.into_box.{ended, clauses}

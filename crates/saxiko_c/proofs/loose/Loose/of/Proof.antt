@@ -32,7 +32,7 @@ use Rattle.std_alloc.specs.Box.Ownership.{box_owns}
 use Rattle.std_alloc.proofs.BoxSteps.Form as box
 use Rattle.std_alloc.proofs.BoxSteps.Steps.{box_out, box_in}
 use Rattle.std.proofs.raw_atomic.Walks.{proved_at, leaves}
-use Rattle.saxiko_c.proofs.Values.{both, loose_good, loose_in}
+use Rattle.saxiko_c.proofs.HandleSteps.{both, loose_good, loose_in}
 use Rattle.std_alloc.specs.contracts.boxed.Box.into_raw_with_allocator as callee
 use Rattle.std_alloc.proofs.boxed.Box.into_raw_with_allocator.Met.{met}
 use Rattle.saxiko_c.specs.contracts.loose.Loose.of.{ended, clauses}

@@ -1,6 +1,6 @@
 use Rattle.std.proofs.Common.{◌≡◌, ap, sym, ◌∙◌, arith}
-use Rattle.shared_words.specs.Initial.{InitialData}
-use Rattle.shared_fib.proofs.Passes.{full_bench}
+use Rattle.shared_words.specs.Layout.{InitialData}
+use Rattle.shared_fib.proofs.Seats.{full_bench}
 use Rattle.shared_fib.proofs.bench.Bench.full.Goals as goal
 
 pub returns-clause-full : goal.returns-clause-full

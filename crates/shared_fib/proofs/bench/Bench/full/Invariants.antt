@@ -1,6 +1,6 @@
 use Rattle.std.proofs.Common.{◌≡◌, vec_len}
 use Rattle.std.specs.Prelude.{vec_capacity}
-use Rattle.shared_fib.proofs.Passes.{AreMade}
+use Rattle.shared_fib.proofs.Seats.{AreMade}
 use Rattle.shared_fib.proofs.bench.Bench.full.Given as goal
 
 -- the passes of the workers below this one are made, and the writer's seat knows how many

@@ -1,4 +1,4 @@
-use Rattle.shared_fib.proofs.Pairing.{count_is}
+use Rattle.shared_fib.proofs.Packing.{count_is}
 use Rattle.shared_fib.proofs.filling.PairsWordList.count.Goals as goal
 
 pub returns : goal.returns

@@ -1,5 +1,5 @@
 use Rattle.std.proofs.Common.{length, ap, arith, rules}
-use Rattle.shared_words.specs.Initial.{InitialData, initial_state_of}
+use Rattle.shared_words.specs.Layout.{InitialData, initial_state_of}
 use Rattle.shared_words.proofs.Laying.{firsts_length}
 use Rattle.shared_fib.specs.Lent.{Lent, state_of_lent}
 use Rattle.shared_fib.proofs.memory.SharedMemoryCells.first.Goals as goal

@@ -1,9 +1,9 @@
 use Rattle.std.proofs.Common.{◌≡◌, subst, List, Option}
 use Rattle.std.specs.Prelude.{IfSome}
-use Rattle.lpm_rules.specs.Listed.{rules_of}
+use Rattle.lpm_rules.specs.RuleMap.{rules_of}
 use Rattle.shared_fib.specs.Passes.{PassState, IsFullBench}
 use Rattle.shared_fib.specs.Running.{Identity, WriterState, initial_writer}
-use Rattle.shared_fib.proofs.OpenedOwners.{opens_as}
+use Rattle.shared_fib.proofs.Seats.{opens_as}
 use Rattle.shared_fib.proofs.owner.Owner.load.Goals as goal
 
 pub returns-in_ok-of_opened-in-Some-clause-bench : goal.returns-in_ok-of_opened-in-Some-clause-bench

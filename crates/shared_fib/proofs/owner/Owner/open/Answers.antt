@@ -2,9 +2,9 @@ use Rattle.std.proofs.Common.{ap, ◌∙◌}
 use Rattle.std.specs.Prelude.{IfOk}
 use Rattle.std.proofs.lemmas.Result.{IfOk-weaker, IfErr-weaker}
 use Rattle.std.specs.FinMap as map
-use Rattle.shared_fib.specs.Owned.{OwnerState}
+use Rattle.shared_fib.specs.Passes.{OwnerState}
 use Rattle.shared_fib.specs.Running.{Identity, initial_state}
-use Rattle.shared_fib.proofs.OpenedOwners.{OpensAs, opens_as}
+use Rattle.shared_fib.proofs.Seats.{OpensAs, opens_as}
 use Rattle.shared_fib.proofs.owner.Owner.open.Goals as goal
 
 pub returns : goal.returns

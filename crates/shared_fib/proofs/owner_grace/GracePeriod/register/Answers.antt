@@ -1,4 +1,4 @@
-use Rattle.shared_fib.proofs.Benches.{registers}
+use Rattle.shared_fib.proofs.Seats.{registers}
 use Rattle.shared_fib.proofs.owner_grace.GracePeriod.register.Goals as goal
 
 pub returns : goal.returns

@@ -1,4 +1,4 @@
-use Rattle.shared_fib.proofs.Benches.{takes_back}
+use Rattle.shared_fib.proofs.Seats.{takes_back}
 use Rattle.shared_fib.proofs.owner_grace.GracePeriod.unregister.Goals as goal
 
 pub returns-clause-back : goal.returns-clause-back

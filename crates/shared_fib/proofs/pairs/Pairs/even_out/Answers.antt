@@ -1,6 +1,6 @@
 use Rattle.std.proofs.Common.{ℕ, ◌≡◌, ◌-◌, ◌+◌, ◌*◌, ◌%◌, ◌^◌, ◌<◌, length, slice_index, ap, arith, rules}
 use Rattle.std.proofs.lemmas.List.{get_or_read}
-use Rattle.shared_fib.proofs.Pairing.{count_is, became, none_put, high_put}
+use Rattle.shared_fib.proofs.Packing.{count_is, became, none_put, high_put}
 use Rattle.shared_fib.proofs.pairs.Pairs.even_out.Goals as goal
 
 pub returns-then-self-eq1 : goal.returns-then-self-eq1

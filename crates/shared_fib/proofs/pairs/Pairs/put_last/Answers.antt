@@ -1,5 +1,5 @@
 use Rattle.std.proofs.Common.{ℕ, ◌≡◌, ◌-◌, ◌<◌, ◌≤◌, ◌++◌, length, replicate, ap, ◌∙◌, arith, rules}
-use Rattle.shared_fib.proofs.Pairing.{count_is, none_put, one_more}
+use Rattle.shared_fib.proofs.Packing.{count_is, none_put, one_more}
 use Rattle.shared_fib.proofs.pairs.Pairs.put_last.Goals as goal
 
 pub invariant_of-self-then-self-to : goal.invariant_of-self-then-self-to

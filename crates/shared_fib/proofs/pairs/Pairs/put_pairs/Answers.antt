@@ -1,5 +1,5 @@
 use Rattle.std.proofs.Common.{◌≡◌, length, arith, rules}
-use Rattle.shared_fib.proofs.Pairing.{twos_more}
+use Rattle.shared_fib.proofs.Packing.{twos_more}
 use Rattle.shared_fib.proofs.pairs.Pairs.put_pairs.Goals as goal
 
 pub invariant_of-self-then-pairs-gt0 : goal.invariant_of-self-then-pairs-gt0

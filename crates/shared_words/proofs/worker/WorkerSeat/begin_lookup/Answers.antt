@@ -1,6 +1,5 @@
 use Rattle.std.proofs.Common.{refl, rules}
-use Rattle.shared_words.proofs.Reading.{begins_allowed}
-use Rattle.shared_words.proofs.Seat.{phase_inside}
+use Rattle.shared_words.proofs.Reading.{begins_allowed, phase_inside}
 use Rattle.shared_words.proofs.worker.WorkerSeat.begin_lookup.Goals as goal
 
 pub load_as-requires-clause-allowed : goal.load_as-requires-clause-allowed

@@ -1,12 +1,10 @@
 use Rattle.std.proofs.Common.{refl, rules, arith, ap, ◌∙◌, sym, subst}
 use Rattle.atomic_table.specs.Table.{Me}
-use Rattle.lpm_trace.specs.Workers.{IsBetweenDeeds}
-use Rattle.lpm_trace.specs.Trace.{worker_by}
+use Rattle.lpm_trace.specs.Trace.{IsBetweenDeeds, worker_by}
 use Rattle.shared_words.specs.declared.view.View.{View}
 use Rattle.shared_words.specs.Seats.{WorkerAt}
-use Rattle.shared_words.proofs.Reading.{meets_allowed}
-use Rattle.shared_words.proofs.Meetings.{notes_split, notes_join, compares_allowed}
-use Rattle.shared_words.proofs.Seat.{own_inside, writer_inside}
+use Rattle.shared_words.proofs.Reading.{meets_allowed, own_inside, writer_inside}
+use Rattle.shared_words.proofs.Deeds.{notes_split, notes_join, compares_allowed}
 use Rattle.shared_words.proofs.worker.WorkerSeat.meet.Goals as goal
 
 pub split_seat-told-requires : goal.split_seat-told-requires

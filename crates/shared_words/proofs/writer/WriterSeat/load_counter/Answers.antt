@@ -1,6 +1,6 @@
 use Rattle.std.proofs.Common.{rules}
 use Rattle.lpm_trace.specs.declared.step.WriterStep.TheVariants.{LoadCounter}
-use Rattle.shared_words.proofs.Seat.{may_inside}
+use Rattle.shared_words.proofs.Reading.{may_inside}
 use Rattle.shared_words.proofs.Writing.{counter_allowed}
 use Rattle.shared_words.proofs.writer.WriterSeat.load_counter.Goals as goal
 

@@ -1,7 +1,7 @@
 use Rattle.std.proofs.Common.{◌<◌, arith, ap}
-use Rattle.shared_words.specs.Initial.{InitialData}
+use Rattle.shared_words.specs.Layout.{InitialData}
 use Rattle.shared_words.specs.Seats.{WordsAt, WriterAt}
-use Rattle.shared_words.proofs.Seat.{writer_inside}
+use Rattle.shared_words.proofs.Reading.{writer_inside}
 use Rattle.shared_words.proofs.Writing.{next_worker_allowed}
 use Rattle.shared_words.proofs.writer.WriterSeat.next_worker.Goals as goal
 

@@ -1,6 +1,6 @@
 use Rattle.std.proofs.Common.{refl, rules}
 use Rattle.lpm_trace.specs.declared.step.WriterStep.TheVariants.{BeginUpdate}
-use Rattle.shared_words.proofs.Seat.{may_inside}
+use Rattle.shared_words.proofs.Reading.{may_inside}
 use Rattle.shared_words.proofs.Writing.{opens_allowed}
 use Rattle.shared_words.proofs.writer.WriterSeat.open_update.Goals as goal
 

@@ -1,5 +1,5 @@
 use Rattle.std.proofs.Common.{◌∙◌, rules}
-use Rattle.shared_words.proofs.Seat.{looks, first_inside, writer_inside}
+use Rattle.shared_words.proofs.Reading.{looks, first_inside, writer_inside}
 use Rattle.shared_words.proofs.Writing.{first_allowed}
 use Rattle.shared_words.proofs.writer.WriterSeat.store_first.Goals as goal
 

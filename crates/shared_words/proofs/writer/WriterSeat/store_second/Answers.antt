@@ -1,7 +1,7 @@
 use Rattle.std.proofs.Common.{◌∙◌, ap, refl, arith, rules}
 use Rattle.std.proofs.lemmas.Grind.{common_steps}
 use Rattle.shared_words.specs.Seats.{WordsAt}
-use Rattle.shared_words.proofs.Seat.{looks, second_inside, writer_inside}
+use Rattle.shared_words.proofs.Reading.{looks, second_inside, writer_inside}
 use Rattle.shared_words.proofs.Writing.{second_allowed}
 use Rattle.shared_words.proofs.writer.WriterSeat.store_second.Goals as goal
 

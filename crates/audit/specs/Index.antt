@@ -1,15 +1,18 @@
 -- This layer's own: the events of the prefixes of one length, which say from which version on a
 -- prefix has which next hop.
-use Rattle.std.specs.Prelude.{ℕ, ◌≡◌, ◌≢◌, ◌+◌, ◌<◌, ◌≤◌, ◌==◌, ◌||◌, ◌&&◌, Bool, true, false, nat_lt, nat_le, List, All, Option, Some, None, length, slice_index_or}
-use Rattle.std.specs.List.{Contains}
+use Rattle.std.specs.Prelude.{ℕ, ◌≡◌, ◌≢◌, ◌+◌, ◌<◌, ◌≤◌, ◌==◌, ◌||◌, ◌&&◌, Bool, true, false, nat_lt, nat_le, List, All, Option, Some, None, length, slice_index_or, ◌↔◌, ⊤, IsTrue}
+use Rattle.std.specs.List.{Contains, AllZip}
 use Rattle.std.specs.List.Sorted.{IsPartitionPoint}
-use Rattle.std.specs.FinMap.{get}
+use Rattle.std.specs.FinMap.{get, empty}
 use Rattle.lpm_bits.specs.Widths.{IsShape}
-use Rattle.lpm_bits.specs.Network.{Network, IsNetwork}
+use Rattle.lpm_bits.specs.Network.{Network, IsNetwork, Covers}
 use Rattle.lpm_rules.specs.declared.Change.{Change}
 use Rattle.lpm_rules.specs.declared.Change.TheVariants.{Add, Delete, Flush, Reclaim, Synchronize}
 use Rattle.audit.specs.declared.events.Event.{Event}
-use Rattle.audit.specs.Wrong.{version_of}
+use Rattle.audit.specs.Wrong.{version_of, IsOfSomeVersion}
+use Rattle.lpm_rules.specs.RuleMap.{RuleMap}
+use Rattle.lpm_rules.specs.declared.Answer.{Answer}
+use Rattle.std.specs.declared.vec.Vec.{Vec}
 
 -- the prefix that a change is of
 abbrev pub prefix_in : {first second : ℕ} → Change first second → Option Network
@@ -101,3 +104,46 @@ IsLastEvent events bits version None =
     (e : Event) → Contains events e → e.bits ≡ bits → e.version ≤ version → ⊥
 IsLastEvent events bits version (Some last) = Contains events last × (last.bits ≡ bits)
     × (last.version ≤ version) × IsLastAt events bits version last
+
+-- This layer's own: the last flush up to each version of a history.
+
+-- version f has no rules, and no change from there to version k is a flush
+pub record IsLastFlush {first second : ℕ} (history : List (Change first second)) (k f : ℕ)
+    : Type 0 where
+  pub before : f ≤ k
+  pub empty : version_of history f ≡ empty
+  pub none : (j : ℕ) (d : Change first second) → f ≤ j → j < k → slice_index_or history j d ≢ Flush
+
+-- for each of the versions up to i the last flush, or 0
+pub record AreFlushes {first second : ℕ} (history : List (Change first second)) (i : ℕ)
+    (flushed : List ℕ) : Type 0 where
+  pub long : length flushed ≡ i + 1
+  pub each : (k : ℕ) → k ≤ i → IsLastFlush history k (slice_index_or flushed k 0)
+
+-- This layer's own: which answers a history explains.
+
+-- the change can change what the address goes to: its prefix covers the address, or it is a flush
+abbrev pub Touches : {first second : ℕ} → ℕ → Change first second → Type 0
+Touches {first} {second} a (Add p h) = Covers (first + second) p a
+Touches {first} {second} a (Delete p) = Covers (first + second) p a
+Touches a Flush = ⊤
+Touches a (Reclaim n) = ⊥
+Touches a Synchronize = ⊥
+
+-- each mark says whether a version explains the answer at its place
+abbrev pub AreMarks : {first second : ℕ} → RuleMap → List (Change first second) → List (ℕ × Answer)
+    → List Bool → Type 0
+AreMarks R history answers marks =
+    AllZip (λ x mark. IsTrue mark ↔ IsOfSomeVersion R history x) answers marks
+
+-- This layer's own: what the index of a history keeps.
+
+-- the index has the last flush of each version, and for each length the events of its prefixes
+pub record IsSound (first second : ℕ) {Z : Type 0} (history : List (Change first second))
+    (flushed : List ℕ) (lengths : List (Vec Event Z)) : Type 0 where
+  pub flushes : AreFlushes history (length history) flushed
+  pub long : length lengths ≡ 33
+  pub events : (len : ℕ) (d : Vec Event Z) → len < 33
+      → AreEventsUpTo history len (length history) (slice_index_or lengths len d).items
+  pub ordered : (len : ℕ) (d : Vec Event Z) → len < 33
+      → AreOrdered (slice_index_or lengths len d).items
