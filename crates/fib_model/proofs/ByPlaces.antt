@@ -1,9 +1,8 @@
--- A reclaim by the places of the limbo list: which of them were checked, and what is left by a count. This form is the
--- same as the definition, and the proofs about one check after another go by it.
+-- A reclaim by the places of the limbo list: which of them were checked, and what is left by a count. Each reclaim is of
+-- this form.
 use Rattle.std.proofs.Common.{arith, ◌≡◌, ℕ, zero, suc, ◌<◌, ◌≤◌, ◌⊎◌, inl, inr, refl, ap, sym, ◌∙◌, subst, List, [], ◌∷◌, length, drop, slice_get, Option, Some, None, Ok, Err, MatchOption}
 use Rattle.lpm_limits.specs.declared.busy.Busy.{Busy}
 use Rattle.defer_queue.specs.Reclaims.{Ends, FreesFront}
-use Rattle.defer_queue.proofs.Longest.{FreesFront-suc}
 use Rattle.fib_model.specs.State.{Transitions}
 use Rattle.fib_model.specs.State as model
 
@@ -33,15 +32,6 @@ none_left zero [] within e = refl
 none_left zero (x ∷ xs) within e = absurd (cc)
 none_left (suc n) [] within e = absurd (omega (arith, within))
 none_left (suc n) (x ∷ xs) within e = ap suc (none_left n xs (omega (arith, within)) e)
-
-all_left : (xs : List ℕ) → drop (length xs) xs ≡ []
-all_left [] = refl
-all_left (x ∷ xs) = all_left xs
-
-first_left : (n : ℕ) (xs : List ℕ) (u : ℕ) → slice_get xs n ≡ Some u → drop n xs ≡ u ∷ drop (suc n) xs
-first_left n [] u at = let no : None ≡ Some u = at in absurd (cc)
-first_left zero (x ∷ xs) u at = let is : Some x ≡ Some u = at in let same : x ≡ u = cc in ap (λ y. y ∷ xs) same
-first_left (suc n) (x ∷ xs) u at = first_left n xs u at
 
 first_at : (n : ℕ) (xs : List ℕ) (u : ℕ) (rest : List ℕ) → u ∷ rest ≡ drop n xs → slice_get xs n ≡ Some u
 first_at zero [] u rest e = absurd (cc)
@@ -76,13 +66,7 @@ module _ {X : Type 0} (t : Transitions X) where
         rest = later.rest;
       }
 
-  front : (n : ℕ) (limbo : List ℕ) (x z : X) → Passes t n limbo x z → FreesFront t.checks Frees n limbo x (drop n limbo) z
-  front zero limbo x z p = (refl, p)
-  front (suc n) limbo x z p =
-      let before = subst (λ left. FreesFront t.checks Frees n limbo x left p.0) (first_left n limbo p.1 p.3) (front n limbo x p.0 p.2) in
-      FreesFront-suc t.checks Frees n limbo x p.1 (drop (suc n) limbo) p.0 z z before p.4 refl
-
-  -- ---- both ways
+  -- ---- how it ended
 
   ends : (max : ℕ) (limbo : List ℕ) (freed : ℕ) (stopped : Option Busy) (left : List ℕ) (last z : X) → freed ≤ length limbo → left ≡ drop freed limbo → Ends t.checks Frees max freed left last stopped z
       → MatchOption stopped ((z ≡ last) × ((freed ≡ max) ⊎ (freed ≡ length limbo))) (λ busy. (freed < max) × ((u : ℕ) × (slice_get limbo freed ≡ Some u) × t.checks last u (Err busy) z))
@@ -101,33 +85,4 @@ module _ {X : Type 0} (t : Transitions X) where
         passed = before.passed;
         rest = before.rest;
         end = ends max limbo freed stopped left r.last z before.within before.rest r.end;
-      }
-
-  pub by_front : (x : X) (max : ℕ) (limbo : List ℕ) (freed : ℕ) (stopped : Option Busy) (left : List ℕ) (z : X)
-      → Reclaims t x max limbo freed stopped left z → model.Reclaims t x max limbo freed stopped left z
-  by_front x max limbo freed None left z r = record {
-    at_most = r.at_most;
-    last = r.last;
-    front = subst (λ l. FreesFront t.checks Frees freed limbo x l r.last) (sym r.rest) (front freed limbo x r.last r.passed);
-    end = (
-      elim r.end.1 [
-        | inl all ↦ inl all
-        | inr all ↦ inr (r.rest ∙ ap (λ n. drop n limbo) all ∙ all_left limbo)
-      ],
-      r.end.0,
-    );
-  }
-  by_front x max limbo freed (Some busy) [] z r =
-      let stop = r.end.1 in
-      let no : [] ≡ stop.0 ∷ drop (suc freed) limbo = r.rest ∙ first_left freed limbo stop.0 stop.1 in
-      absurd (cc)
-  by_front x max limbo freed (Some busy) (u ∷ left) z r =
-      let stop = r.end.1 in
-      let is : u ∷ left ≡ stop.0 ∷ drop (suc freed) limbo = r.rest ∙ first_left freed limbo stop.0 stop.1 in
-      let same : stop.0 ≡ u = cc in
-      record {
-        at_most = r.at_most;
-        last = r.last;
-        front = subst (λ l. FreesFront t.checks Frees freed limbo x l r.last) (sym r.rest) (front freed limbo x r.last r.passed);
-        end = (r.end.0, subst (λ v. t.checks r.last v (Err busy) z) same stop.2);
       }

@@ -10,10 +10,10 @@ use Rattle.fib_model.specs.declared.orders.Report.{Report}
 use Rattle.fib_model.specs.declared.event.Event.{Event}
 use Rattle.fib_model.specs.declared.event.Event.TheVariants.{Online, Offline, Quiescent, Unlinking}
 use Rattle.qsbr.specs.Intervals.{event_at, IsRunningSince, IsHeldByWorker}
-use Rattle.fib_model.specs.Textbook.{begins, ends, by_reports, is_unlinking, unlinkings_before, unlinkings, event_of, textbook}
+use Rattle.fib_model.specs.Textbook.{IsFirstHolder, begins, ends, by_reports, is_unlinking, unlinkings_before, unlinkings, event_of, textbook}
 use Rattle.qsbr.proofs.Running.{at_new, at_old, at_within, before_mono, before_old, before_next, count_more, count_same, since_within, since_new, since_kept, since_cases, held_start, start_held}
-use Rattle.fib_model.specs.Counting.{by_counters, counter_of, initial_by_counters, counter_transitions}
-use Rattle.fib_model.proofs.Frozen.{IsUnheld, counted, listed}
+use Rattle.fib_model.specs.Counting.{IsFirstByCounter, by_counters, counter_of, initial_by_counters, counter_transitions}
+use Rattle.fib_model.proofs.Unique.{IsUnheld}
 use Rattle.fib_model.proofs.Carrying.{Carries, IsCarried, AreNamed}
 use Rattle.fib_model.proofs.Carried.{named_kept}
 use Rattle.fib_model.specs.declared.orders.Report.TheVariants as kinds
@@ -170,7 +170,7 @@ counter_at c r E w start shows runs = elim (cases_lt w c.workers) [
 
 -- by counters and by intervals the same worker is the first that holds the unlinking
 pub held : (c : Config) (r : Registry) (E : List Event) (token place : ℕ) (busy : Busy) → Shows c r E → IsName c.first_token E token place
-    → counted.is_held_by r token busy ↔ (listed c).is_held_by E place busy
+    → IsFirstByCounter r token busy ↔ IsFirstHolder c.first_token E place busy
 held c r E token place busy shows name = (
   (λ h. record {
     holds = (holding c r E token place busy.worker shows name).0 h.0.holds;
@@ -196,7 +196,7 @@ held c r E token place busy shows name = (
 )
 
 pub unheld : (c : Config) (r : Registry) (E : List Event) (token place : ℕ) → Shows c r E → IsName c.first_token E token place
-    → IsUnheld counted r token → IsUnheld (listed c) E place
+    → ((busy : Busy) → ¬ IsFirstByCounter r token busy) → IsUnheld c E place
 unheld c r E token place shows name none busy h = none busy ((held c r E token place busy shows name).1 h)
 
 -- ---- the beginning, an unlinking, a report
@@ -210,7 +210,7 @@ shows_opened c first = record {
   others = λ w s high r. r.begins;
 }
 
-pub shows_unlinked : (c : Config) (r : Registry) (E : List Event) → Shows c r E → Shows c (counted.unlinked r) (Unlinking ∷ E)
+pub shows_unlinked : (c : Config) (r : Registry) (E : List Event) → Shows c r E → Shows c (record r { token = r.token + 1 }) (Unlinking ∷ E)
 shows_unlinked c r E shows = record {
   first = shows.first;
   token = let more = count_more is_unlinking Unlinking E refl in let is = shows.token in omega (arith, more, is);
@@ -269,7 +269,7 @@ shows_told c r E report w shows low fresh =
 
 -- ---- names
 
-pub name_new : (c : Config) (r : Registry) (E : List Event) → Shows c r E → IsName c.first_token (Unlinking ∷ E) (counted.name r) ((listed c).name E)
+pub name_new : (c : Config) (r : Registry) (E : List Event) → Shows c r E → IsName c.first_token (Unlinking ∷ E) (r.token + 1) (length E)
 name_new c r E shows = record {
   unlinking = at_new Unlinking E;
   token_is = let more = count_more is_unlinking Unlinking E refl in let is = shows.token in omega (arith, more, is);

@@ -1,5 +1,4 @@
 pub mod ByPlaces
-pub mod Frozen
 pub mod Carrying
 pub mod Carried
 pub mod Versions

@@ -1,8 +1,8 @@
 -- A run by counters is followed by one by reader intervals, command by command.
-use Rattle.std.proofs.Common.{◌≡◌, ℕ, ◌<◌, ◌≤◌, ◌↔◌, refl, ap, sym, subst, List, [], ◌∷◌, Ok, Err, arith, ◌+◌, ◌∙◌, ◌++◌, length, take, get_or, reverse, remove, zero, suc, Result}
+use Rattle.std.proofs.Common.{◌≡◌, ℕ, ◌<◌, ◌≤◌, ◌↔◌, refl, ap, sym, subst, List, [], ◌∷◌, Ok, Err, arith, ◌+◌, ◌∙◌, ◌++◌, length, take, get_or, reverse, remove, Result}
 use Rattle.qsbr.specs.Counters.{Registry}
 use Rattle.lpm_limits.specs.declared.config.Config.{Config}
-use Rattle.lpm_limits.specs.declared.refusal.Refusal.TheVariants.{NoSuchWorker, TooManyRules, NoSuchRule, Exhausted, NoGroups, Memory}
+use Rattle.lpm_limits.specs.declared.refusal.Refusal.TheVariants.{NoSuchWorker}
 use Rattle.fib_model.specs.declared.orders.Order.{Order}
 use Rattle.fib_model.specs.declared.orders.Outcome.{Outcome}
 use Rattle.fib_model.specs.declared.orders.Report.{Report}
@@ -15,16 +15,12 @@ use Rattle.fib_model.specs.Counting.{counter_transitions, by_counters, initial_b
 use Rattle.fib_model.specs.Laws.{Agrees, CountersTellIntervals}
 use Rattle.fib_model.proofs.Holders.{Shows, IsName, online, held, shows_opened, shows_told, Names, names_newer, counters_carry}
 use Rattle.fib_model.proofs.Carrying.{Follows, AreFollowed, AreNamed, beside}
-use Rattle.fib_model.proofs.Carried.{named_length, named_at, changes_carry_over}
+use Rattle.fib_model.proofs.Carried.{named_length, named_at, changes_carry_over, Keeps, IsKept, AnyName, tokens_alone, changes_keep}
 use Rattle.std.proofs.lemmas.List.{length-take-le, take_more, reverse-append}
 use Rattle.std.proofs.lemmas.Bool.{eqb-true, false≢true}
 use Rattle.fib_model.specs.declared.event.Event.TheVariants.{Online, Offline, Quiescent, Unlinking}
 use Rattle.qsbr.proofs.Running.{tidy_more}
-use Rattle.lpm_bits.specs.Network.{Network}
-use Rattle.lpm_rules.specs.declared.Put.{Put}
-use Rattle.lpm_rules.specs.declared.Put.TheVariants.{Added, Replaced, Unchanged}
-use Rattle.lpm_limits.specs.declared.refusal.Refusal.{Refusal}
-use Rattle.fib_model.proofs.Frozen.{Unlinks, Adds, Deletes, Flushes, listed, adds_frozen, deletes_frozen, flushes_frozen, frees_frozen}
+use Rattle.lpm_limits.specs.declared.busy.Busy.{Busy}
 use Rattle.fib_model.specs.declared.orders.Order.TheVariants as order
 use Rattle.fib_model.specs.declared.orders.Outcome.TheVariants as outcome
 use Rattle.fib_model.specs.declared.orders.Report.TheVariants as kinds
@@ -164,58 +160,49 @@ tidy_told workers E kinds.Quiescent w tidy low fresh =
 abbrev pub IsTidyState : Config → State (List Event) → Type 0
 IsTidyState c s = IsTidy by_reports c.workers s.readers
 
-same : (c : Config) (s z : State (List Event)) → IsTidyState c s → z.readers ≡ s.readers → IsTidyState c z
-same c s z tidy is = subst (IsTidy by_reports c.workers) (sym is) tidy
+-- a check only looks
+looked : (c : Config) (E : List Event) (place : ℕ) (r : Result (Unit {0}) Busy) (z : List Event) → (textbook c).checks E place r z → z ≡ E
+looked c E place (Ok passed) z d = d.1
+looked c E place (Err busy) z d = d.1
 
-unlinked : (c : Config) (n : ℕ) (E : List Event) (limbo : List ℕ) (E' : List Event) (limbo' : List ℕ) → IsTidy by_reports c.workers E → Unlinks (listed c) c n E limbo E' limbo' → IsTidy by_reports c.workers E'
-unlinked c zero E limbo E' limbo' tidy d = subst (IsTidy by_reports c.workers) (sym d.0) tidy
-unlinked c (suc n) E limbo E' limbo' tidy d = subst (IsTidy by_reports c.workers) (sym d.5) (tidy_unlinked c.workers d.0 (unlinked c n E limbo d.0 d.1 tidy d.3))
+same : (c : Config) (E z : List Event) → IsTidy by_reports c.workers E → z ≡ E → IsTidy by_reports c.workers z
+same c E z tidy is = subst (IsTidy by_reports c.workers) (sym is) tidy
 
-adds : (f g : ℕ) (c : Config) (s z : State (List Event)) (p : Network) (h : ℕ) (r : Result Put Refusal) → Adds (listed c) f g c s p h r z → z.readers ≡ s.readers
-adds f g c s z p h (Ok Unchanged) d = ap (λ x. x.readers) d.1
-adds f g c s z p h (Ok Replaced) d = ap (λ x. x.readers) d.2
-adds f g c s z p h (Ok Added) d = ap (λ x. x.readers) d.1.2
-adds f g c s z p h (Err Exhausted) d = ap (λ x. x.readers) d.2
-adds f g c s z p h (Err TooManyRules) d = ap (λ x. x.readers) d.3
-adds f g c s z p h (Err Memory) d = ap (λ x. x.readers) d.1
-adds f g c s z p h (Err (NoGroups oldest)) d = ap (λ x. x.readers) d.3
-adds f g c s z p h (Err other) d = absurd d
-
-deletes : (f g : ℕ) (c : Config) (s z : State (List Event)) (p : Network) (r : Result ℕ Refusal) → IsTidyState c s → Deletes (listed c) f g c s p r z → IsTidyState c z
-deletes f g c s z p (Ok h) tidy d = unlinked c _ s.readers s.limbo z.readers z.limbo tidy d.1.1
-deletes f g c s z p (Err NoSuchRule) tidy d = same c s z tidy (ap (λ x. x.readers) d.1)
-deletes f g c s z p (Err Exhausted) tidy d = same c s z tidy (ap (λ x. x.readers) d.2)
-deletes f g c s z p (Err other) tidy d = absurd d
-
-flushes : (f g : ℕ) (c : Config) (s z : State (List Event)) (r : Result ℕ Refusal) → IsTidyState c s → Flushes (listed c) f g c s r z → IsTidyState c z
-flushes f g c s z (Ok zero) tidy d = same c s z tidy (ap (λ x. x.readers) (d.1 refl))
-flushes f g c s z (Ok (suc n)) tidy d = unlinked c _ s.readers s.limbo z.readers z.limbo tidy (d.2 (omega arith)).1
-flushes f g c s z (Err Exhausted) tidy d = same c s z tidy (ap (λ x. x.readers) d.2)
-flushes f g c s z (Err other) tidy d = absurd d
+tidy_kept : (c : Config) → Keeps (textbook c) (IsTidy by_reports c.workers)
+tidy_kept c = record {
+  checks = λ E place r z tidy d. same c E z tidy (looked c E place r z d);
+  begins = λ E z tidy d. same c E z tidy d;
+  unlinks = λ E place z tidy d. same c (Unlinking ∷ E) z (tidy_unlinked c.workers E tidy) d.1;
+  ends = λ E z tidy d. same c E z tidy d;
+}
 
 tidy_reports : (c : Config) (s z : State (List Event)) (report : Report) (w : ℕ) (o : Outcome) → IsTidyState c s → Reports (by_intervals c) c s report w o z → IsTidyState c z
 tidy_reports c s z report w outcome.Told tidy d =
-    subst (IsTidy by_reports c.workers) (sym (ap (λ x. x.readers) d.2)) (tidy_told c.workers s.readers report w tidy d.0 (fresh c s report w d.1))
-tidy_reports c s z report w (outcome.Refused NoSuchWorker) tidy d = same c s z tidy (ap (λ x. x.readers) d.1)
-tidy_reports c s z report w (outcome.Refused refusal) tidy d = same c s z tidy (ap (λ x. x.readers) d.3)
+    same c (event_of report w ∷ s.readers) z.readers (tidy_told c.workers s.readers report w tidy d.0 (fresh c s report w d.1)) (ap (λ x. x.readers) d.2)
+tidy_reports c s z report w (outcome.Refused NoSuchWorker) tidy d = same c s.readers z.readers tidy (ap (λ x. x.readers) d.1)
+tidy_reports c s z report w (outcome.Refused refusal) tidy d = same c s.readers z.readers tidy (ap (λ x. x.readers) d.3)
 tidy_reports c s z report w other tidy d = absurd d
 
-tidy_step : (f g : ℕ) (c : Config) (s z : State (List Event)) (order : Order f g) (outcome : Outcome) → IsTidyState c s → Does (by_intervals c) f g c s order outcome z → IsTidyState c z
-tidy_step f g c s z (order.Add p h) (outcome.Put put) tidy d = same c s z tidy (adds f g c s z p h (Ok put) (adds_frozen (listed c) f g c s z p h (Ok put) d))
-tidy_step f g c s z (order.Add p h) (outcome.Refused refusal) tidy d = same c s z tidy (adds f g c s z p h (Err refusal) (adds_frozen (listed c) f g c s z p h (Err refusal) d))
-tidy_step f g c s z (order.Add p h) other tidy d = absurd d
-tidy_step f g c s z (order.Del p) (outcome.Deleted h) tidy d = deletes f g c s z p (Ok h) tidy (deletes_frozen (listed c) f g c s z p (Ok h) d)
-tidy_step f g c s z (order.Del p) (outcome.Refused refusal) tidy d = deletes f g c s z p (Err refusal) tidy (deletes_frozen (listed c) f g c s z p (Err refusal) d)
-tidy_step f g c s z (order.Del p) other tidy d = absurd d
-tidy_step f g c s z order.Flush (outcome.Flushed n) tidy d = flushes f g c s z (Ok n) tidy (flushes_frozen (listed c) f g c s z (Ok n) d)
-tidy_step f g c s z order.Flush (outcome.Refused refusal) tidy d = flushes f g c s z (Err refusal) tidy (flushes_frozen (listed c) f g c s z (Err refusal) d)
-tidy_step f g c s z order.Flush other tidy d = absurd d
-tidy_step f g c s z (order.Reclaim max) (outcome.Reclaimed r) tidy d = same c s z tidy (ap (λ x. x.readers) (frees_frozen (listed c) s z max r d).1)
-tidy_step f g c s z (order.Reclaim max) other tidy d = absurd d
-tidy_step f g c s z (order.Online w) o tidy d = tidy_reports c s z kinds.Online w o tidy d
-tidy_step f g c s z (order.Offline w) o tidy d = tidy_reports c s z kinds.Offline w o tidy d
-tidy_step f g c s z (order.Quiescent w) o tidy d = tidy_reports c s z kinds.Quiescent w o tidy d
+module _ (f g : ℕ) (c : Config) (s z : State (List Event)) (tidy : IsTidyState c s) where
+  tidy_changes : AreFollowed (textbook c) tokens_alone (IsKept (textbook c) (IsTidy by_reports c.workers)) AnyName f g c s (beside s ((textbook c).token s.readers) s.limbo)
+  tidy_changes = changes_keep (textbook c) (IsTidy by_reports c.workers) (tidy_kept c) f g c s tidy
+
+  tidy_step : (order : Order f g) (outcome : Outcome) → Does (by_intervals c) f g c s order outcome z → IsTidyState c z
+  tidy_step (order.Add p h) (outcome.Put put) d = (tidy_changes.adds z p h (Ok put) d).3.0
+  tidy_step (order.Add p h) (outcome.Refused refusal) d = (tidy_changes.adds z p h (Err refusal) d).3.0
+  tidy_step (order.Add p h) other d = absurd d
+  tidy_step (order.Del p) (outcome.Deleted h) d = (tidy_changes.deletes z p (Ok h) d).3.0
+  tidy_step (order.Del p) (outcome.Refused refusal) d = (tidy_changes.deletes z p (Err refusal) d).3.0
+  tidy_step (order.Del p) other d = absurd d
+  tidy_step order.Flush (outcome.Flushed n) d = (tidy_changes.flushes z (Ok n) d).3.0
+  tidy_step order.Flush (outcome.Refused refusal) d = (tidy_changes.flushes z (Err refusal) d).3.0
+  tidy_step order.Flush other d = absurd d
+  tidy_step (order.Reclaim max) (outcome.Reclaimed r) d = (tidy_changes.frees z max r d).3.0
+  tidy_step (order.Reclaim max) other d = absurd d
+  tidy_step (order.Online w) o d = tidy_reports c s z kinds.Online w o tidy d
+  tidy_step (order.Offline w) o d = tidy_reports c s z kinds.Offline w o tidy d
+  tidy_step (order.Quiescent w) o d = tidy_reports c s z kinds.Quiescent w o tidy d
 
 pub tidy_run : (f g : ℕ) (c : Config) (log : Log f g) (z : State (List Event)) → Runs (by_intervals c) f g c initial_by_events log z → IsTidyState c z
 tidy_run f g c [] z r = subst (IsTidy by_reports c.workers) (sym (ap (λ x. x.readers) r)) record { one = λ w s t a b. absurd a.begins; others = λ w s high a. a.begins }
-tidy_run f g c (done ∷ log) z r = tidy_step f g c r.0 z done.0 done.1 (tidy_run f g c log r.0 r.1) r.2
+tidy_run f g c (done ∷ log) z r = tidy_step f g c r.0 z (tidy_run f g c log r.0 r.1) done.0 done.1 r.2

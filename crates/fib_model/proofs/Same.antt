@@ -1,5 +1,5 @@
 -- A command on a state comes out in one way, unless memory is refused.
-use Rattle.std.proofs.Common.{arith, ◌≡◌, ◌≢◌, ℕ, zero, suc, ◌+◌, ◌^◌, ◌<◌, ◌≤◌, ◌==◌, nat_lt, cond, Bool, true, false, ◌⊎◌, inl, inr, refl, ap, sym, ◌∙◌, subst, List, [], ◌∷◌, map, slice_get, Option, Some, None, Result, Ok, Err, IsSomeAnd, MatchOption, All}
+use Rattle.std.proofs.Common.{arith, ◌≡◌, ◌≢◌, ℕ, zero, suc, ◌+◌, ◌^◌, ◌<◌, ◌≤◌, ◌==◌, nat_lt, cond, Bool, true, false, ◌⊎◌, inl, inr, refl, ap, sym, ◌∙◌, subst, List, [], ◌∷◌, map, slice_get, Option, Some, None, Result, Ok, Err, IsSomeAnd, All}
 use Rattle.std.specs.FinMap.{get, insert, len}
 use Rattle.std.proofs.lemmas.Bool.{cases_lt, eq-eqb, ne_eqb, lt-ltb, le-ltb}
 use Rattle.lpm_bits.specs.Network.{Network}
@@ -19,12 +19,12 @@ use Rattle.fib_model.specs.declared.orders.Report.{Report}
 use Rattle.fib_model.specs.declared.orders.Report.TheVariants as report
 use Rattle.fib_model.specs.declared.event.Event.{Event}
 use Rattle.fib_model.specs.State.{State, IsExhausted, HasTokens}
-use Rattle.fib_model.specs.Outcomes.{LacksGroup, IsNew, MayReport, refusal_of, Reports, Does}
-use Rattle.fib_model.specs.Textbook.{textbook, by_intervals}
+use Rattle.fib_model.specs.Outcomes.{LacksGroup, TakesGroup, HoldsFront, IsNew, Adds, Shrinks, Deletes, Flushes, Frees, MayReport, refusal_of, Reports, Does}
+use Rattle.fib_model.specs.Textbook.{IsFirstHolder, textbook, by_intervals}
 use Rattle.fib_model.specs.Laws.{OutcomesAreUnique}
-use Rattle.fib_model.proofs.Frozen.{IsUnheld, TakesGroup, Adds, Shrinks, Deletes, Flushes, Frees, listed, lacks_or_not, state_is}
-use Rattle.fib_model.proofs.Frozen.{adds_frozen, deletes_frozen, flushes_frozen, frees_frozen}
-use Rattle.fib_model.proofs.Unique.{one_front, one_length, one_stop, one_rest, one_unlinks}
+use Rattle.fib_model.proofs.Carried.{lacks_or_not}
+use Rattle.fib_model.proofs.Unique.{IsUnheld, one_front, one_reclaims, one_unlinks}
+use Rattle.std.proofs.lemmas.Option.{same_Some}
 
 abbrev Book : Type 0
 Book = State (List Event)
@@ -32,6 +32,14 @@ Book = State (List Event)
 not_both : (c : Config) (s : Book) → HasTokens (textbook c) c s → IsExhausted (textbook c) c s → ⊥
 not_both c s has (inl h) = let t = has.0 in absurd (omega (arith, t, h))
 not_both c s has (inr h) = let t = has.1 in absurd (omega (arith, t, h))
+
+-- states of the same parts
+state_is : {X : Type 0} (z z' : State X) → z.rules ≡ z'.rules → z.readers ≡ z'.readers → z.limbo ≡ z'.limbo → z.begun ≡ z'.begun → z ≡ z'
+state_is z z' a b d e =
+    let one : z ≡ record z { rules = z'.rules } = ap (λ x. record z { rules = x }) a in
+    let two : record z { rules = z'.rules } ≡ record z' { limbo = z.limbo; begun = z.begun } = ap (λ x. record z { rules = z'.rules; readers = x }) b in
+    let three : record z' { limbo = z.limbo; begun = z.begun } ≡ record z' { begun = z.begun } = ap (λ x. record z' { limbo = x; begun = z.begun }) d in
+    one ∙ two ∙ three ∙ ap (λ x. record z' { begun = x }) e
 
 -- ---- adding: which check decides
 
@@ -71,13 +79,12 @@ stage_of c s p h = stage (get s.rules p) h (is_exhausted c s) (nat_lt (len s.rul
 
 -- a new rule, for which a group is taken where it lacks one
 abbrev IsIn : ℕ → ℕ → Config → Book → Network → ℕ → Result Put Refusal → Book → Type 0
-IsIn f g c s p h r z = (r ≡ Ok Added) × ((left : List ℕ) × TakesGroup (listed c) f g c s p left
-    × (z ≡ record s { rules = insert s.rules p h; begun = s.begun + 1; limbo = left }))
+IsIn f g c s p h r z = (r ≡ Ok Added) × ((y : List Event) × TakesGroup (textbook c) f g c s p z.limbo y)
+    × (z ≡ record s { rules = insert s.rules p h; begun = s.begun + 1; limbo = z.limbo })
 
 -- the same, and none can be taken
 abbrev IsOut : ℕ → ℕ → Config → Book → Network → Result Put Refusal → Book → Type 0
-IsOut f g c s p r z = (oldest : Option Busy) × (r ≡ Err (NoGroups oldest)) × LacksGroup f g c s p
-    × MatchOption oldest (s.limbo ≡ []) (λ busy. IsSomeAnd (slice_get s.limbo 0) (λ u. (listed c).is_held_by s.readers u busy)) × (z ≡ s)
+IsOut f g c s p r z = (oldest : Option Busy) × (r ≡ Err (NoGroups oldest)) × LacksGroup f g c s p × HoldsFront (textbook c) s oldest z.readers × (z ≡ s)
 
 abbrev Answer : ℕ → ℕ → Config → Book → Network → ℕ → ℕ → Result Put Refusal → Book → Type 0
 Answer f g c s p h zero r z = (r ≡ Ok Unchanged) × (z ≡ s)
@@ -89,36 +96,53 @@ Answer f g c s p h (suc (suc (suc (suc n)))) r z = (get s.rules p ≡ None) × (
 stage_room : (c : Config) (s : Book) (p : Network) (h : ℕ) → IsNew (textbook c) c s p → stage_of c s p h ≡ 4
 stage_room c s p h new = stage_new _ h _ _ new.0 (has_tokens c s new.1) ∙ ap (λ b. cond b 4 3) (lt-ltb _ _ new.2)
 
+taken_readers : (f g : ℕ) (c : Config) (s : Book) (p : Network) (left : List ℕ) (y : List Event) → get s.rules p ≡ None → TakesGroup (textbook c) f g c s p left y → y ≡ s.readers
+taken_readers f g c s p left y absent h = elim (lacks_or_not f g c s p absent) [
+  | inl lacks ↦ (h.0 lacks).2.1
+  | inr not ↦ (h.1 not).1
+]
+
+front_readers : (c : Config) (s : Book) (oldest : Option Busy) (y : List Event) → HoldsFront (textbook c) s oldest y → y ≡ s.readers
+front_readers c s None y h = h.1
+front_readers c s (Some busy) y h = h.2.1
+
 answer : (f g : ℕ) (c : Config) (s z : Book) (p : Network) (h : ℕ) (r : Result Put Refusal) → r ≢ Err Memory
-    → Adds (listed c) f g c s p h r z → Answer f g c s p h (stage_of c s p h) r z
+    → Adds (textbook c) f g c s p h r z → Answer f g c s p h (stage_of c s p h) r z
 answer f g c s z p h (Ok Unchanged) m d = subst (λ n. Answer f g c s p h n (Ok Unchanged) z) (sym (stage_same _ h _ _ d.0)) (refl, d.1)
-answer f g c s z p h (Ok Replaced) m d = subst (λ n. Answer f g c s p h n (Ok Replaced) z) (sym (stage_replaced _ h _ _ d.0 (has_tokens c s d.1))) (refl, d.2)
-answer f g c s z p h (Ok Added) m d = subst (λ n. Answer f g c s p h n (Ok Added) z) (sym (stage_room c s p h d.0)) (d.0.0, inl (refl, d.1))
+answer f g c s z p h (Ok Replaced) m d =
+    subst (λ n. Answer f g c s p h n (Ok Replaced) z) (sym (stage_replaced _ h _ _ d.0 (has_tokens c s d.1)))
+    (refl, state_is z (record s { rules = insert s.rules p h; begun = s.begun + 1 }) d.3.0 (d.2.2 ∙ d.2.1) d.4 d.3.1)
+answer f g c s z p h (Ok Added) m d =
+    let group = d.1 in
+    let readers = group.2.2 ∙ group.2.1 ∙ taken_readers f g c s p z.limbo group.0 d.0.0 group.1 in
+    subst (λ n. Answer f g c s p h n (Ok Added) z) (sym (stage_room c s p h d.0))
+    (d.0.0, inl (refl, (group.0, group.1), state_is z (record s { rules = insert s.rules p h; begun = s.begun + 1; limbo = z.limbo }) d.2.0 readers refl d.2.1))
 answer f g c s z p h (Err Exhausted) m d = subst (λ n. Answer f g c s p h n (Err Exhausted) z) (sym (stage_exhausted _ h _ _ d.0 (exhausted c s d.1))) (refl, d.2)
 answer f g c s z p h (Err TooManyRules) m d =
     subst (λ n. Answer f g c s p h n (Err TooManyRules) z) (sym (stage_new _ h _ _ d.0 (has_tokens c s d.1) ∙ ap (λ b. cond b 4 3) (le-ltb _ _ d.2))) (refl, d.3)
 answer f g c s z p h (Err Memory) m d = absurd (m refl)
 answer f g c s z p h (Err (NoGroups oldest)) m d =
-    subst (λ n. Answer f g c s p h n (Err (NoGroups oldest)) z) (sym (stage_room c s p h d.0)) (d.0.0, inr (oldest, refl, d.1, d.2, d.3))
+    subst (λ n. Answer f g c s p h n (Err (NoGroups oldest)) z) (sym (stage_room c s p h d.0))
+    (d.0.0, inr (oldest, refl, d.1, d.2, d.3 ∙ ap (λ r. record s { readers = r }) (front_readers c s oldest z.readers d.2)))
 answer f g c s z p h (Err other) m d = absurd d
 
-one_left : (f g : ℕ) (c : Config) (s : Book) (p : Network) (a b : List ℕ) → get s.rules p ≡ None → TakesGroup (listed c) f g c s p a → TakesGroup (listed c) f g c s p b → a ≡ b
-one_left f g c s p a b absent h k = elim (lacks_or_not f g c s p absent) [
+one_left : (f g : ℕ) (c : Config) (s : Book) (p : Network) (a b : List ℕ) (y y' : List Event) → get s.rules p ≡ None → TakesGroup (textbook c) f g c s p a y → TakesGroup (textbook c) f g c s p b y' → a ≡ b
+one_left f g c s p a b y y' absent h k = elim (lacks_or_not f g c s p absent) [
   | inl lacks ↦
       let one = h.0 lacks in
       let other = k.0 lacks in
-      let same : one.0 ∷ a ≡ other.0 ∷ b = sym one.2 ∙ other.2 in
+      let same : one.0 ∷ a ≡ other.0 ∷ b = sym one.1 ∙ other.1 in
       cc
-  | inr not ↦ h.1 not ∙ sym (k.1 not)
+  | inr not ↦ (h.1 not).0 ∙ sym (k.1 not).0
 ]
 
-front_held : (c : Config) (E : List Event) (limbo left : List ℕ) (u : ℕ) (oldest : Option Busy) → limbo ≡ u ∷ left → IsUnheld (listed c) E u
-    → MatchOption oldest (limbo ≡ []) (λ busy. IsSomeAnd (slice_get limbo 0) (λ v. (listed c).is_held_by E v busy)) → ⊥
-front_held c E limbo left u None is unheld h = let no : [] ≡ u ∷ left = sym h ∙ is in cc
-front_held c E limbo left u (Some busy) is unheld h = unheld busy (subst (λ l. IsSomeAnd (slice_get l 0) (λ v. (listed c).is_held_by E v busy)) is h)
+front_held : (c : Config) (s : Book) (left : List ℕ) (u : ℕ) (oldest : Option Busy) (y : List Event) → s.limbo ≡ u ∷ left → IsUnheld c s.readers u → HoldsFront (textbook c) s oldest y → ⊥
+front_held c s left u None y is unheld h = let no : [] ≡ u ∷ left = sym h.0 ∙ is in cc
+front_held c s left u (Some busy) y is unheld h =
+    unheld busy (subst (λ v. IsFirstHolder c.first_token s.readers v busy) (same_Some h.0 u (sym h.1 ∙ ap (λ l. slice_get l 0) is)) h.2.0)
 
 not_in_and_out : (f g : ℕ) (c : Config) (s z z' : Book) (p : Network) (h : ℕ) (r r' : Result Put Refusal) → IsIn f g c s p h r z → IsOut f g c s p r' z' → ⊥
-not_in_and_out f g c s z z' p h r r' a b = let front = a.1.1.0 b.2 in front_held c s.readers s.limbo a.1.0 front.0 b.0 front.2 front.1 b.3
+not_in_and_out f g c s z z' p h r r' a b = let front = a.1.1.0 b.2 in front_held c s z.limbo front.0 b.0 z'.readers front.1 front.2.0 b.3
 
 one_answer : (f g : ℕ) (c : Config) (s z z' : Book) (p : Network) (h n : ℕ) (r r' : Result Put Refusal)
     → Answer f g c s p h n r z → Answer f g c s p h n r' z' → (r ≡ r') × (z ≡ z')
@@ -129,25 +153,27 @@ one_answer f g c s z z' p h (suc (suc (suc zero))) r r' a b = (a.0 ∙ sym b.0, 
 one_answer f g c s z z' p h (suc (suc (suc (suc n)))) r r' a b = elim a.1 [
   | inl i ↦ elim b.1 [
     | inl j ↦
-        let same = one_left f g c s p i.1.0 j.1.0 a.0 i.1.1 j.1.1 in
-        (i.0 ∙ sym j.0, i.1.2 ∙ ap (λ l. record s { rules = insert s.rules p h; begun = s.begun + 1; limbo = l }) same ∙ sym j.1.2)
+        let same = one_left f g c s p z.limbo z'.limbo i.1.0 j.1.0 a.0 i.1.1 j.1.1 in
+        (i.0 ∙ sym j.0, i.2 ∙ ap (λ l. record s { rules = insert s.rules p h; begun = s.begun + 1; limbo = l }) same ∙ sym j.2)
     | inr j ↦ absurd (not_in_and_out f g c s z z' p h r r' i j)
   ]
   | inr i ↦ elim b.1 [
     | inl j ↦ absurd (not_in_and_out f g c s z' z p h r' r j i)
-    | inr j ↦ (i.1 ∙ ap (λ o. Err (NoGroups o)) (one_front c s.readers s.limbo i.0 j.0 i.3 j.3) ∙ sym j.1, i.4 ∙ sym j.4)
+    | inr j ↦ (i.1 ∙ ap (λ o. Err (NoGroups o)) (one_front c s z.readers z'.readers i.0 j.0 i.3 j.3) ∙ sym j.1, i.4 ∙ sym j.4)
   ]
 ]
 
 -- ---- deleting, flushing, reclaiming
 
-one_shrunk : (f g : ℕ) (c : Config) (s z z' : Book) (R : RuleMap) → Shrinks (listed c) f g c s R z → Shrinks (listed c) f g c s R z' → z ≡ z'
+one_shrunk : (f g : ℕ) (c : Config) (s z z' : Book) (R : RuleMap) → Shrinks (textbook c) f g c s R z → Shrinks (textbook c) f g c s R z' → z ≡ z'
 one_shrunk f g c s z z' R a b =
-    let same = one_unlinks c _ s.readers s.limbo z.readers z.limbo z'.readers z'.limbo a.1 b.1 in
-    state_is z z' (a.2 ∙ sym b.2) same.0 same.1 (a.3 ∙ sym b.3)
+    let i = a.1 in
+    let j = b.1 in
+    let same = one_unlinks c _ i.0 j.0 s.limbo i.1 j.1 z.limbo z'.limbo (i.2 ∙ sym j.2) i.3 j.3 in
+    state_is z z' (a.2.0 ∙ sym b.2.0) (i.4 ∙ same.0 ∙ sym j.4) same.1 (a.2.1 ∙ sym b.2.1)
 
 one_deletion : (f g : ℕ) (c : Config) (s z z' : Book) (p : Network) (r r' : Result ℕ Refusal)
-    → Deletes (listed c) f g c s p r z → Deletes (listed c) f g c s p r' z' → (r ≡ r') × (z ≡ z')
+    → Deletes (textbook c) f g c s p r z → Deletes (textbook c) f g c s p r' z' → (r ≡ r') × (z ≡ z')
 one_deletion f g c s z z' p (Ok h) (Ok k) a b = let same : Some h ≡ Some k = sym a.0 ∙ b.0 in (cc, one_shrunk f g c s z z' _ a.1 b.1)
 one_deletion f g c s z z' p (Ok h) (Err NoSuchRule) a b = let no : Some h ≡ None = sym a.0 ∙ b.0 in cc
 one_deletion f g c s z z' p (Ok h) (Err Exhausted) a b = absurd (not_both c s a.1.0 b.1)
@@ -163,7 +189,7 @@ one_deletion f g c s z z' p (Err Exhausted) (Err other) a b = absurd b
 one_deletion f g c s z z' p (Err other) r' a b = absurd a
 
 one_flush : (f g : ℕ) (c : Config) (s z z' : Book) (r r' : Result ℕ Refusal)
-    → Flushes (listed c) f g c s r z → Flushes (listed c) f g c s r' z' → (r ≡ r') × (z ≡ z')
+    → Flushes (textbook c) f g c s r z → Flushes (textbook c) f g c s r' z' → (r ≡ r') × (z ≡ z')
 one_flush f g c s z z' (Ok n) (Ok m) a b =
     let same : n ≡ m = a.0 ∙ sym b.0 in (
       ap Ok same,
@@ -179,13 +205,13 @@ one_flush f g c s z z' (Err Exhausted) (Err Exhausted) a b = (refl, a.2 ∙ sym 
 one_flush f g c s z z' (Err Exhausted) (Err other) a b = absurd b
 one_flush f g c s z z' (Err other) r' a b = absurd a
 
-one_reclaim : (c : Config) (s z z' : Book) (max : ℕ) (r r' : Reclaimed) → Frees (listed c) s max r z → Frees (listed c) s max r' z' → (r ≡ r') × (z ≡ z')
+one_reclaim : (c : Config) (s z z' : Book) (max : ℕ) (r r' : Reclaimed) → Frees (textbook c) s max r z → Frees (textbook c) s max r' z' → (r ≡ r') × (z ≡ z')
 one_reclaim c s z z' max r r' a b =
-    let many = one_length c s.readers max s.limbo r.freed r'.freed r.stopped r'.stopped z.limbo z'.limbo a.0 b.0 in
-    let stop = one_stop c s.readers max s.limbo r.freed r'.freed r.stopped r'.stopped z.limbo z'.limbo many a.0 b.0 in
-    let rest = one_rest c s.readers max s.limbo r.freed r'.freed r.stopped r'.stopped z.limbo z'.limbo a.0 b.0 in
-    let first : r ≡ record { freed = r'.freed; stopped = r.stopped } = ap (λ x. record { freed = x; stopped = r.stopped }) many in
-    (first ∙ ap (λ x. record { freed = r'.freed; stopped = x }) stop, a.1 ∙ ap (λ l. record s { limbo = l }) rest ∙ sym b.1)
+    let same = one_reclaims c s.readers z.readers z'.readers max s.limbo r.freed r'.freed r.stopped r'.stopped z.limbo z'.limbo a.0 b.0 in
+    let first : r ≡ record { freed = r'.freed; stopped = r.stopped } = ap (λ x. record { freed = x; stopped = r.stopped }) same.0 in (
+      first ∙ ap (λ x. record { freed = r'.freed; stopped = x }) same.1,
+      state_is z z' (ap (λ x. x.rules) a.1 ∙ sym (ap (λ x. x.rules) b.1)) same.3 same.2 (ap (λ x. x.begun) a.1 ∙ sym (ap (λ x. x.begun) b.1)),
+    )
 
 -- ---- reports
 
@@ -219,9 +245,9 @@ put_of (Ok put) = outcome.Put put
 put_of (Err refusal) = outcome.Refused refusal
 
 does_add : (f g : ℕ) (c : Config) (s z : Book) (p : Network) (h : ℕ) (o : Outcome) → Does (by_intervals c) f g c s (order.Add p h) o z
-    → (r : Result Put Refusal) × (o ≡ put_of r) × Adds (listed c) f g c s p h r z
-does_add f g c s z p h (outcome.Put put) d = (Ok put, refl, adds_frozen (listed c) f g c s z p h (Ok put) d)
-does_add f g c s z p h (outcome.Refused refusal) d = (Err refusal, refl, adds_frozen (listed c) f g c s z p h (Err refusal) d)
+    → (r : Result Put Refusal) × (o ≡ put_of r) × Adds (textbook c) f g c s p h r z
+does_add f g c s z p h (outcome.Put put) d = (Ok put, refl, d)
+does_add f g c s z p h (outcome.Refused refusal) d = (Err refusal, refl, d)
 does_add f g c s z p h other d = absurd d
 
 abbrev deleted_of : Result ℕ Refusal → Outcome
@@ -229,9 +255,9 @@ deleted_of (Ok h) = outcome.Deleted h
 deleted_of (Err refusal) = outcome.Refused refusal
 
 does_delete : (f g : ℕ) (c : Config) (s z : Book) (p : Network) (o : Outcome) → Does (by_intervals c) f g c s (order.Del p) o z
-    → (r : Result ℕ Refusal) × (o ≡ deleted_of r) × Deletes (listed c) f g c s p r z
-does_delete f g c s z p (outcome.Deleted h) d = (Ok h, refl, deletes_frozen (listed c) f g c s z p (Ok h) d)
-does_delete f g c s z p (outcome.Refused refusal) d = (Err refusal, refl, deletes_frozen (listed c) f g c s z p (Err refusal) d)
+    → (r : Result ℕ Refusal) × (o ≡ deleted_of r) × Deletes (textbook c) f g c s p r z
+does_delete f g c s z p (outcome.Deleted h) d = (Ok h, refl, d)
+does_delete f g c s z p (outcome.Refused refusal) d = (Err refusal, refl, d)
 does_delete f g c s z p other d = absurd d
 
 abbrev flushed_of : Result ℕ Refusal → Outcome
@@ -239,14 +265,14 @@ flushed_of (Ok n) = outcome.Flushed n
 flushed_of (Err refusal) = outcome.Refused refusal
 
 does_flush : (f g : ℕ) (c : Config) (s z : Book) (o : Outcome) → Does (by_intervals c) f g c s order.Flush o z
-    → (r : Result ℕ Refusal) × (o ≡ flushed_of r) × Flushes (listed c) f g c s r z
-does_flush f g c s z (outcome.Flushed n) d = (Ok n, refl, flushes_frozen (listed c) f g c s z (Ok n) d)
-does_flush f g c s z (outcome.Refused refusal) d = (Err refusal, refl, flushes_frozen (listed c) f g c s z (Err refusal) d)
+    → (r : Result ℕ Refusal) × (o ≡ flushed_of r) × Flushes (textbook c) f g c s r z
+does_flush f g c s z (outcome.Flushed n) d = (Ok n, refl, d)
+does_flush f g c s z (outcome.Refused refusal) d = (Err refusal, refl, d)
 does_flush f g c s z other d = absurd d
 
 does_reclaim : (f g : ℕ) (c : Config) (s z : Book) (max : ℕ) (o : Outcome) → Does (by_intervals c) f g c s (order.Reclaim max) o z
-    → (r : Reclaimed) × (o ≡ outcome.Reclaimed r) × Frees (listed c) s max r z
-does_reclaim f g c s z max (outcome.Reclaimed r) d = (r, refl, frees_frozen (listed c) s z max r d)
+    → (r : Reclaimed) × (o ≡ outcome.Reclaimed r) × Frees (textbook c) s max r z
+does_reclaim f g c s z max (outcome.Reclaimed r) d = (r, refl, d)
 does_reclaim f g c s z max other d = absurd d
 
 one_step : (f g : ℕ) (c : Config) (s z z' : Book) (order : Order f g) (o o' : Outcome) → o ≢ outcome.Refused Memory → o' ≢ outcome.Refused Memory

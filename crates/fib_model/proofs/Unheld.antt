@@ -1,9 +1,9 @@
 -- How far the front of a limbo list goes that no worker holds.
-use Rattle.std.proofs.Common.{arith, ◌≡◌, ℕ, ◌<◌, ◌≤◌, inl, inr, min, refl, ap, sym, ◌∙◌, subst, List, length, take, drop, get_or, All, Some, None, IsSomeAnd, zero, suc, ◌+◌}
+use Rattle.std.proofs.Common.{arith, ◌≡◌, ℕ, ◌<◌, ◌≤◌, inl, inr, min, refl, ap, sym, ◌∙◌, subst, List, [], ◌∷◌, length, drop, get_or, Some, None, zero, suc, ◌+◌}
 use Rattle.std.proofs.lemmas.Bool.{cases_lt}
-use Rattle.std.proofs.lemmas.List.{length-take, get_or-take}
-use Rattle.std.proofs.lemmas.Grind.{get_or_default_zero}
-use Rattle.std.proofs.lemmas.Option.{slice_get-get_or}
+use Rattle.std.proofs.lemmas.List.{drop_all}
+use Rattle.std.proofs.Math.Seq.{drop-cons}
+use Rattle.defer_queue.specs.Reclaims.{Ends, FreesFront}
 use Rattle.lpm_limits.specs.declared.busy.Busy.{Busy}
 use Rattle.lpm_limits.specs.declared.config.Config.{Config}
 use Rattle.fib_model.specs.declared.event.Event.{Event}
@@ -11,43 +11,47 @@ use Rattle.qsbr.specs.Intervals.{IsHeldByWorker, IsTidy, IsRunningSince}
 use Rattle.fib_model.specs.Textbook.{by_reports, unlinkings_before, textbook, IsFirstHolder}
 use Rattle.qsbr.proofs.Running.{held_start}
 use Rattle.fib_model.specs.State.{Reclaims}
-use Rattle.fib_model.proofs.Frozen.{IsUnheld, listed, reclaims_moving}
+use Rattle.fib_model.proofs.Unique.{IsUnheld, Freed}
 use Rattle.fib_model.specs.Laws.{UnheldByNone}
 use Rattle.fib_model.proofs.Runs.{tidy_run}
 
-pub none_hold : (c : Config) (E : List Event) (place : ℕ) → IsTidy by_reports c.workers E → ((w : ℕ) → w < c.workers → IsHeldByWorker by_reports E place w → ⊥) → IsUnheld (listed c) E place
+pub none_hold : (c : Config) (E : List Event) (place : ℕ) → IsTidy by_reports c.workers E → ((w : ℕ) → w < c.workers → IsHeldByWorker by_reports E place w → ⊥) → IsUnheld c E place
 none_hold c E place tidy none busy h = elim (cases_lt busy.worker c.workers) [
   | inl low ↦ none busy.worker low h.holds
   | inr high ↦ let k = held_start by_reports E place busy.worker h.holds in tidy.others busy.worker k.0 high k.1
 ]
 
-all_unheld : (c : Config) (E : List Event) (limbo : List ℕ) (freed : ℕ) → freed ≤ length limbo → ((k : ℕ) → k < freed → IsUnheld (listed c) E (get_or limbo k 0)) → All (IsUnheld (listed c) E) (take freed limbo)
-all_unheld c E limbo freed within none k d low =
-    let size = length-take freed limbo in
-    let below : k < freed = omega (arith, low, size) in
-    subst (IsUnheld (listed c) E) (sym (get_or-take freed limbo k d below ∙ get_or_default_zero limbo k d (omega (arith, below, within)))) (none k below)
+-- each of the first n is checked, and passes
+all_pass : (c : Config) (E : List Event) (n : ℕ) (limbo : List ℕ) → n ≤ length limbo → ((k : ℕ) → k < n → IsUnheld c E (get_or limbo k 0)) → FreesFront (textbook c).checks Freed n limbo E (drop n limbo) E
+all_pass c E zero limbo within none = (refl, refl)
+all_pass c E (suc n) [] within none = absurd (omega (arith, within))
+all_pass c E (suc n) (u ∷ limbo) within none =
+    (E, E, (none 0 (omega arith), refl), refl, all_pass c E n limbo (omega (arith, within)) (λ k low. none (suc k) (omega (arith, low))))
 
-pub front_all : (c : Config) (E : List Event) (max : ℕ) (limbo : List ℕ) (freed : ℕ) → freed ≡ min max (length limbo) → ((k : ℕ) → k < freed → IsUnheld (listed c) E (get_or limbo k 0))
+pub front_all : (c : Config) (E : List Event) (max : ℕ) (limbo : List ℕ) (freed : ℕ) → freed ≡ min max (length limbo) → ((k : ℕ) → k < freed → IsUnheld c E (get_or limbo k 0))
     → Reclaims (textbook c) E max limbo freed None (drop freed limbo) E
-front_all c E max limbo freed is none = reclaims_moving (listed c) E max limbo freed None (drop freed limbo) record {
+front_all c E max limbo freed is none = record {
   at_most = omega (arith, is);
-  within = omega (arith, is);
-  unheld = all_unheld c E limbo freed (omega (arith, is)) none;
-  rest = refl;
-  end = elim (cases_lt freed max) [
-    | inl below ↦ inr (omega (arith, is, below))
-    | inr above ↦ inl (omega (arith, is, above))
-  ];
+  last = E;
+  front = all_pass c E freed limbo (omega (arith, is)) none;
+  end = (
+    elim (cases_lt freed max) [
+      | inl below ↦ inr (drop_all freed limbo (omega (arith, is, below)))
+      | inr above ↦ inl (omega (arith, is, above))
+    ],
+    refl,
+  );
 }
 
 pub front_stopped : (c : Config) (E : List Event) (max : ℕ) (limbo : List ℕ) (freed u d : ℕ) (busy : Busy) → freed < min max (length limbo) → u ≡ get_or limbo freed d
-    → IsFirstHolder c.first_token E u busy → ((k : ℕ) → k < freed → IsUnheld (listed c) E (get_or limbo k 0)) → Reclaims (textbook c) E max limbo freed (Some busy) (drop freed limbo) E
-front_stopped c E max limbo freed u d busy low is holds none = reclaims_moving (listed c) E max limbo freed (Some busy) (drop freed limbo) record {
+    → IsFirstHolder c.first_token E u busy → ((k : ℕ) → k < freed → IsUnheld c E (get_or limbo k 0)) → Reclaims (textbook c) E max limbo freed (Some busy) (drop freed limbo) E
+front_stopped c E max limbo freed u d busy low is holds none = record {
   at_most = omega (arith, low);
-  within = omega (arith, low);
-  unheld = all_unheld c E limbo freed (omega (arith, low)) none;
-  rest = refl;
-  end = (omega (arith, low), subst (λ o. IsSomeAnd o (λ v. IsFirstHolder c.first_token E v busy)) (sym (slice_get-get_or limbo freed d (omega (arith, low)) ∙ ap Some (sym is))) holds);
+  last = E;
+  front = all_pass c E freed limbo (omega (arith, low)) none;
+  end = subst (λ left. Ends (textbook c).checks Freed max freed left E (Some busy) E)
+      (sym (drop-cons limbo freed d (omega (arith, low)) ∙ ap (λ v. v ∷ drop (suc freed) limbo) (sym is)))
+      (omega (arith, low), (holds, refl));
 }
 
 -- The first worker that holds an unlinking; where there is none, no worker holds it.
@@ -65,7 +69,7 @@ first_holder c E place worker start busy tidy is holds runs counter first = reco
 }
 
 -- none of the first n workers holds it: the least that did would be its first holder
-none_of_first : (c : Config) (E : List Event) (place : ℕ) → IsTidy by_reports c.workers E → IsUnheld (listed c) E place → (n : ℕ) → (w : ℕ) → w < n → IsHeldByWorker by_reports E place w → ⊥
+none_of_first : (c : Config) (E : List Event) (place : ℕ) → IsTidy by_reports c.workers E → IsUnheld c E place → (n : ℕ) → (w : ℕ) → w < n → IsHeldByWorker by_reports E place w → ⊥
 none_of_first c E place tidy unheld zero = λ w low held. absurd (omega (arith, low))
 none_of_first c E place tidy unheld (suc n) =
     let before = none_of_first c E place tidy unheld n in

@@ -1,16 +1,18 @@
 -- Going over the events from the oldest on: what is found in the first of them, and in one more.
-use Rattle.std.proofs.Common.{arith, ◌≡◌, ℕ, ◌+◌, ◌<◌, ◌≤◌, inl, inr, ap, sym, ◌∙◌, subst, List, [], ◌∷◌, length, reverse, take, get_or, Option, Some, None, MatchOption, Bool, IsTrue, IsFalse, ◌&&◌, cond, nat_lt, zero, suc, ◌⊎◌, refl, ◌++◌, drop, slice_get, IsSomeAnd}
+use Rattle.std.proofs.Common.{arith, ◌≡◌, ℕ, ◌+◌, ◌<◌, ◌≤◌, inl, inr, ap, sym, ◌∙◌, subst, List, [], ◌∷◌, length, reverse, take, get_or, Option, Some, None, MatchOption, Bool, IsTrue, IsFalse, ◌&&◌, cond, nat_lt, zero, suc, ◌⊎◌, refl, ◌++◌, slice_get}
 use Rattle.std.proofs.lemmas.Bool.{cases_Bool, true≢false, cases_lt}
-use Rattle.std.proofs.lemmas.List.{length-reverse, length-take-le, reverse-append, take_more, take_all, length-take, get_or-take}
+use Rattle.std.proofs.lemmas.List.{length-reverse, length-take-le, reverse-append, take_more, take_all}
 use Rattle.fib_model.specs.declared.event.Event.{Event}
 use Rattle.qsbr.specs.Intervals.{IsRunningSince}
-use Rattle.fib_model.specs.Textbook.{begins, ends, by_reports, is_unlinking, unlinkings_before, IsFirstHolder}
+use Rattle.fib_model.specs.Textbook.{begins, ends, by_reports, textbook, is_unlinking, unlinkings_before, IsFirstHolder}
 use Rattle.qsbr.proofs.Running.{since_new, since_kept, since_cases, held_start}
-use Rattle.std.proofs.lemmas.Option.{slice_get-get_or}
+use Rattle.std.proofs.lemmas.Option.{same_Some}
 use Rattle.lpm_limits.specs.declared.busy.Busy.{Busy}
 use Rattle.lpm_limits.specs.declared.config.Config.{Config}
 use Rattle.fib_model.specs.declared.event.Event.TheVariants.{Unlinking}
-use Rattle.fib_model.proofs.Frozen.{IsUnheld, Reclaims, MakesRoom, Unlinks, listed}
+use Rattle.defer_queue.specs.Reclaims.{Ends, FreesFront}
+use Rattle.fib_model.specs.State.{State, Reclaims, MakesRoom, Unlinks}
+use Rattle.fib_model.specs.Outcomes.{HoldsFront}
 
 -- the place where a running interval of w began, or none where none runs
 abbrev pub IsFound : List Event → ℕ → Option ℕ → Type 0
@@ -95,94 +97,93 @@ one_holder c E place a b h k = elim (cases_lt a.worker b.worker) [
   ]
 ]
 
-holder_at : (c : Config) (E : List Event) (o : Option ℕ) (a b : Busy) → IsSomeAnd o (λ u. (listed c).is_held_by E u a) → IsSomeAnd o (λ u. (listed c).is_held_by E u b) → a ≡ b
-holder_at c E None a b h k = absurd h
-holder_at c E (Some u) a b h k = one_holder c E u a b h k
-
-get_within : (limbo : List ℕ) (i : ℕ) (P : ℕ → Type 0) → IsSomeAnd (slice_get limbo i) P → i < length limbo
-get_within [] i P some = absurd some
-get_within (u ∷ limbo) zero P some = omega arith
-get_within (u ∷ limbo) (suc i) P some = let low = get_within limbo i P some in omega (arith, low)
+-- no worker holds the unlinking
+abbrev pub IsUnheld : Config → List Event → ℕ → Type 0
+IsUnheld c E u = (busy : Busy) → ¬ IsFirstHolder c.first_token E u busy
 
 -- the busy worker that holds the front, if one does
-pub one_front : (c : Config) (E : List Event) (limbo : List ℕ) (a b : Option Busy)
-    → MatchOption a (limbo ≡ []) (λ busy. IsSomeAnd (slice_get limbo 0) (λ u. (listed c).is_held_by E u busy))
-    → MatchOption b (limbo ≡ []) (λ busy. IsSomeAnd (slice_get limbo 0) (λ u. (listed c).is_held_by E u busy))
-    → a ≡ b
-one_front c E limbo None None h k = refl
-one_front c E limbo None (Some b) h k = let low = get_within limbo 0 _ k in let none = ap length h in absurd (omega (arith, low, none))
-one_front c E limbo (Some a) None h k = let low = get_within limbo 0 _ h in let none = ap length k in absurd (omega (arith, low, none))
-one_front c E limbo (Some a) (Some b) h k = ap Some (holder_at c E (slice_get limbo 0) a b h k)
+pub one_front : (c : Config) (s : State (List Event)) (y y' : List Event) (a b : Option Busy) → HoldsFront (textbook c) s a y → HoldsFront (textbook c) s b y' → a ≡ b
+one_front c s y y' None None h k = refl
+one_front c s y y' None (Some b) h k = let no : None ≡ Some k.0 = ap (λ l. slice_get l 0) (sym h.0) ∙ k.1 in cc
+one_front c s y y' (Some a) None h k = let no : None ≡ Some h.0 = ap (λ l. slice_get l 0) (sym k.0) ∙ h.1 in cc
+one_front c s y y' (Some a) (Some b) h k =
+    let same : h.0 ≡ k.0 = same_Some h.0 k.0 (sym h.1 ∙ k.1) in
+    ap Some (one_holder c s.readers k.0 a b (subst (λ u. IsFirstHolder c.first_token s.readers u a) same h.2.0) k.2.0)
 
 -- ---- reclaims
 
--- a reclaim doesn't stop before what another took
-not_before : (c : Config) (E : List Event) (max : ℕ) (limbo : List ℕ) (m n : ℕ) (a b : Option Busy) (left left' : List ℕ)
-    → Reclaims (listed c) E max limbo m a left → Reclaims (listed c) E max limbo n b left' → m < n → ⊥
-not_before c E max limbo m n None b left left' h k low =
-    let most = k.at_most in
-    let within = k.within in
-    elim h.end [
-      | inl all ↦ absurd (omega (arith, most, all, low))
-      | inr all ↦ absurd (omega (arith, within, all, low))
-    ]
-not_before c E max limbo m n (Some busy) b left left' h k low =
-    let within = k.within in
-    let size = length-take n limbo in
-    let unheld = subst (IsUnheld (listed c) E) (get_or-take n limbo m 0 low) (k.unheld m 0 (omega (arith, size, within, low))) in
-    unheld busy (subst (λ o. IsSomeAnd o (λ u. (listed c).is_held_by E u busy)) (slice_get-get_or limbo m 0 (omega (arith, within, low))) h.end.1)
+-- to free a group changes no event
+abbrev pub Freed : List Event → ℕ → List Event → Type 0
+Freed E name z = z ≡ E
 
-pub one_length : (c : Config) (E : List Event) (max : ℕ) (limbo : List ℕ) (m n : ℕ) (a b : Option Busy) (left left' : List ℕ)
-    → Reclaims (listed c) E max limbo m a left → Reclaims (listed c) E max limbo n b left' → m ≡ n
-one_length c E max limbo m n a b left left' h k = elim (cases_lt m n) [
-  | inl low ↦ absurd (not_before c E max limbo m n a b left left' h k low)
-  | inr high ↦ elim (cases_lt n m) [
-    | inl low ↦ absurd (not_before c E max limbo n m b a left' left k h low)
-    | inr low ↦ omega (arith, high, low)
-  ]
-]
+-- a reclaim that may take more and has more to take hasn't come to its end
+not_all : (max n u : ℕ) (limbo : List ℕ) → n < max → (n ≡ max) ⊎ (u ∷ limbo ≡ []) → ⊥
+not_all max n u limbo low (inl all) = absurd (omega (arith, all, low))
+not_all max n u limbo low (inr none) = absurd (cc)
 
--- all that may be taken was taken, and another reclaim was stopped there
-not_stopped : (max : ℕ) (limbo : List ℕ) (n : ℕ) (P : ℕ → Type 0) → (n ≡ max) ⊎ (n ≡ length limbo) → n < max → IsSomeAnd (slice_get limbo n) P → ⊥
-not_stopped max limbo n P (inl all) low some = absurd (omega (arith, all, low))
-not_stopped max limbo n P (inr all) low some = let within = get_within limbo n P some in absurd (omega (arith, all, within))
+not_ended : (c : Config) (max n u : ℕ) (limbo : List ℕ) (E z : List Event) (a : Option Busy) → n < max → IsUnheld c E u → Ends (textbook c).checks Freed max n (u ∷ limbo) E a z → ⊥
+not_ended c max n u limbo E z None low unheld e = not_all max n u limbo low e.0
+not_ended c max n u limbo E z (Some busy) low unheld e = unheld busy e.1.0
 
-one_end : (c : Config) (E : List Event) (max : ℕ) (limbo : List ℕ) (n : ℕ) (a b : Option Busy)
-    → MatchOption a ((n ≡ max) ⊎ (n ≡ length limbo)) (λ busy. (n < max) × IsSomeAnd (slice_get limbo n) (λ u. (listed c).is_held_by E u busy))
-    → MatchOption b ((n ≡ max) ⊎ (n ≡ length limbo)) (λ busy. (n < max) × IsSomeAnd (slice_get limbo n) (λ u. (listed c).is_held_by E u busy))
-    → a ≡ b
-one_end c E max limbo n None None h k = refl
-one_end c E max limbo n None (Some b) h k = absurd (not_stopped max limbo n (λ u. (listed c).is_held_by E u b) h k.0 k.1)
-one_end c E max limbo n (Some a) None h k = absurd (not_stopped max limbo n (λ u. (listed c).is_held_by E u a) k h.0 h.1)
-one_end c E max limbo n (Some a) (Some b) h k = ap Some (holder_at c E (slice_get limbo n) a b h.1 k.1)
+one_end : (c : Config) (max n : ℕ) (limbo : List ℕ) (E z z' : List Event) (a b : Option Busy) → Ends (textbook c).checks Freed max n limbo E a z → Ends (textbook c).checks Freed max n limbo E b z' → (a ≡ b) × (z ≡ z')
+one_end c max n limbo E z z' None None h k = (refl, h.1 ∙ sym k.1)
+one_end c max n [] E z z' None (Some b) h k = absurd k
+one_end c max n [] E z z' (Some a) b h k = absurd h
+one_end c max n (u ∷ limbo) E z z' None (Some b) h k = absurd (not_all max n u limbo k.0 h.0)
+one_end c max n (u ∷ limbo) E z z' (Some a) None h k = absurd (not_all max n u limbo h.0 k.0)
+one_end c max n (u ∷ limbo) E z z' (Some a) (Some b) h k = (ap Some (one_holder c E u a b h.1.0 k.1.0), h.1.1 ∙ sym k.1.1)
 
-pub one_stop : (c : Config) (E : List Event) (max : ℕ) (limbo : List ℕ) (m n : ℕ) (a b : Option Busy) (left left' : List ℕ) → m ≡ n
-    → Reclaims (listed c) E max limbo m a left → Reclaims (listed c) E max limbo n b left' → a ≡ b
-one_stop c E max limbo m n a b left left' is h k =
-    one_end c E max limbo n a b
-    (subst (λ i. MatchOption a ((i ≡ max) ⊎ (i ≡ length limbo)) (λ busy. (i < max) × IsSomeAnd (slice_get limbo i) (λ u. (listed c).is_held_by E u busy))) is h.end)
-    k.end
+ends_at : (c : Config) (max n : ℕ) (left limbo : List ℕ) (last E z : List Event) (a : Option Busy) → left ≡ limbo → last ≡ E → Ends (textbook c).checks Freed max n left last a z → Ends (textbook c).checks Freed max n limbo E a z
+ends_at c max n left limbo last E z a is same e = subst (λ l. Ends (textbook c).checks Freed max n l E a z) is (subst (λ F. Ends (textbook c).checks Freed max n left F a z) same e)
 
-pub one_rest : (c : Config) (E : List Event) (max : ℕ) (limbo : List ℕ) (m n : ℕ) (a b : Option Busy) (left left' : List ℕ)
-    → Reclaims (listed c) E max limbo m a left → Reclaims (listed c) E max limbo n b left' → left ≡ left'
-one_rest c E max limbo m n a b left left' h k = h.rest ∙ ap (λ i. drop i limbo) (one_length c E max limbo m n a b left left' h k) ∙ sym k.rest
+-- two reclaims that have both taken k, and take n and m more
+one_rest : (c : Config) (max k n m i j : ℕ) (limbo : List ℕ) (E last last' z z' : List Event) (a b : Option Busy) (left left' : List ℕ) → i ≡ k + n → j ≡ k + m → i ≤ max → j ≤ max
+    → FreesFront (textbook c).checks Freed n limbo E left last → Ends (textbook c).checks Freed max i left last a z
+    → FreesFront (textbook c).checks Freed m limbo E left' last' → Ends (textbook c).checks Freed max j left' last' b z' → (i ≡ j) × (a ≡ b) × (left ≡ left') × (z ≡ z')
+one_rest c max k zero zero i j limbo E last last' z z' a b left left' is js most most' h e h' e' =
+    let same : j ≡ i = omega (arith, is, js) in
+    let end = one_end c max i limbo E z z' a b (ends_at c max i left limbo last E z a h.0 h.1 e) (ends_at c max i left' limbo last' E z' b h'.0 h'.1 (subst (λ n. Ends (textbook c).checks Freed max n left' last' b z') same e')) in
+    (sym same, end.0, h.0 ∙ sym h'.0, end.1)
+one_rest c max k zero (suc m) i j [] E last last' z z' a b left left' is js most most' h e h' e' = absurd h'
+one_rest c max k zero (suc m) i j (u ∷ limbo) E last last' z z' a b left left' is js most most' h e h' e' =
+    absurd (not_ended c max i u limbo E z a (omega (arith, is, js, most')) h'.2.0 (ends_at c max i left (u ∷ limbo) last E z a h.0 h.1 e))
+one_rest c max k (suc n) m i j [] E last last' z z' a b left left' is js most most' h e h' e' = absurd h
+one_rest c max k (suc n) zero i j (u ∷ limbo) E last last' z z' a b left left' is js most most' h e h' e' =
+    absurd (not_ended c max j u limbo E z' b (omega (arith, is, js, most)) h.2.0 (ends_at c max j left' (u ∷ limbo) last' E z' b h'.0 h'.1 e'))
+one_rest c max k (suc n) (suc m) i j (u ∷ limbo) E last last' z z' a b left left' is js most most' h e h' e' =
+    one_rest c max (suc k) n m i j limbo E last last' z z' a b left left' (omega (arith, is)) (omega (arith, js)) most most'
+    (subst (λ F. FreesFront (textbook c).checks Freed n limbo F left last) (h.3 ∙ h.2.1) h.4) e
+    (subst (λ F. FreesFront (textbook c).checks Freed m limbo F left' last') (h'.3 ∙ h'.2.1) h'.4) e'
+
+pub one_reclaims : (c : Config) (E z z' : List Event) (max : ℕ) (limbo : List ℕ) (n m : ℕ) (a b : Option Busy) (left left' : List ℕ)
+    → Reclaims (textbook c) E max limbo n a left z → Reclaims (textbook c) E max limbo m b left' z' → (n ≡ m) × (a ≡ b) × (left ≡ left') × (z ≡ z')
+one_reclaims c E z z' max limbo n m a b left left' h k =
+    one_rest c max 0 n m n m limbo E h.last k.last z z' a b left left' (omega arith) (omega arith) h.at_most k.at_most h.front h.end k.front k.end
 
 -- ---- unlinkings
 
-one_room : (c : Config) (E : List Event) (limbo left left' : List ℕ) → MakesRoom (listed c) c E limbo left → MakesRoom (listed c) c E limbo left' → left ≡ left'
-one_room c E limbo left left' h k = elim (cases_lt c.threshold (length limbo)) [
-  | inl over ↦ let a = h.0 over in let b = k.0 over in one_rest c E c.reclaim_max limbo a.0 b.0 a.1 b.1 left left' a.2 b.2
-  | inr within ↦ h.1 within ∙ sym (k.1 within)
+one_room : (c : Config) (E z z' : List Event) (limbo left left' : List ℕ) → MakesRoom (textbook c) c E limbo left z → MakesRoom (textbook c) c E limbo left' z' → (left ≡ left') × (z ≡ z')
+one_room c E z z' limbo left left' h k = elim (cases_lt c.threshold (length limbo)) [
+  | inl over ↦
+      let a = h.0 over in
+      let b = k.0 over in
+      let same = one_reclaims c E z z' c.reclaim_max limbo a.0 b.0 a.1 b.1 left left' a.2 b.2 in
+      (same.2, same.3)
+  | inr within ↦
+      let a = h.1 within in
+      let b = k.1 within in
+      (a.0 ∙ sym b.0, a.1 ∙ sym b.1)
 ]
 
-pub one_unlinks : (c : Config) (n : ℕ) (E : List Event) (limbo : List ℕ) (E' : List Event) (limbo' : List ℕ) (E'' : List Event) (limbo'' : List ℕ)
-    → Unlinks (listed c) c n E limbo E' limbo' → Unlinks (listed c) c n E limbo E'' limbo'' → (E' ≡ E'') × (limbo' ≡ limbo'')
-one_unlinks c zero E limbo E' limbo' E'' limbo'' h k = (h.0 ∙ sym k.0, h.1 ∙ sym k.1)
-one_unlinks c (suc n) E limbo E' limbo' E'' limbo'' h k =
-    let before = one_unlinks c n E limbo h.0 h.1 k.0 k.1 h.3 k.3 in
-    let here : MakesRoom (listed c) c (Unlinking ∷ k.0) k.1 h.2 =
-    subst (λ F. MakesRoom (listed c) c (Unlinking ∷ F) k.1 h.2) before.0 (subst (λ l. MakesRoom (listed c) c (Unlinking ∷ h.0) l h.2) before.1 h.4) in
-    let same = one_room c (Unlinking ∷ k.0) k.1 h.2 k.2 here k.4 in (
-      h.5 ∙ ap (λ F. Unlinking ∷ F) before.0 ∙ sym k.5,
-      h.6 ∙ ap (λ l. l ++ length h.0 ∷ []) same ∙ ap (λ F. k.2 ++ length F ∷ []) before.0 ∙ sym k.6,
-    )
+pub one_unlinks : (c : Config) (n : ℕ) (E E' : List Event) (limbo : List ℕ) (z z' : List Event) (left left' : List ℕ) → E ≡ E'
+    → Unlinks (textbook c) c n E limbo z left → Unlinks (textbook c) c n E' limbo z' left' → (z ≡ z') × (left ≡ left')
+one_unlinks c zero E E' limbo z z' left left' is h k = (h.0 ∙ is ∙ sym k.0, h.1 ∙ sym k.1)
+one_unlinks c (suc n) E E' limbo z z' left left' is h k =
+    let before = one_unlinks c n E E' limbo h.0 k.0 h.1 k.1 is h.2 k.2 in
+    let a = h.3 in
+    let b = k.3 in
+    let name : a.0 ≡ b.0 = a.3.0 ∙ ap length before.0 ∙ sym b.3.0 in
+    let events : a.1 ≡ b.1 = a.3.1 ∙ ap (λ F. Unlinking ∷ F) before.0 ∙ sym b.3.1 in
+    let room = subst (λ F. MakesRoom (textbook c) c F k.1 a.2 z) events (subst (λ l. MakesRoom (textbook c) c a.1 l a.2 z) before.1 a.4) in
+    let same = one_room c b.1 z z' k.1 a.2 b.2 room b.4 in
+    (same.1, a.5 ∙ ap (λ l. l ++ a.0 ∷ []) same.0 ∙ ap (λ u. b.2 ++ u ∷ []) name ∙ sym b.5)

@@ -1,5 +1,5 @@
 -- How a command ended.
-use Rattle.std.proofs.Common.{◌≡◌, inl, inr, ℕ, List, Option, subst, ◌≢◌, ◌∙◌, ap, sym, zero, suc, ◌+◌, ◌<◌, [], ◌∷◌, ◌++◌, Ok, Err, ◌⊎◌, refl, take, drop, length, get_or, slice_index, replicate, map, arith, ◌≤◌, Bool, filter, All}
+use Rattle.std.proofs.Common.{◌≡◌, inl, inr, ℕ, List, Option, Some, None, subst, ◌≢◌, ◌∙◌, ap, sym, zero, suc, ◌+◌, ◌<◌, [], ◌∷◌, ◌++◌, Ok, Err, ◌⊎◌, refl, take, drop, length, get_or, slice_index, replicate, map, arith, ◌≤◌, Bool, filter, All}
 use Rattle.lpm_limits.specs.declared.config.Config.{Config}
 use Rattle.qsbr.specs.Counters.{Registry}
 use Rattle.fib_model.specs.State.{State}
@@ -25,7 +25,6 @@ use Rattle.lpm_rules.proofs.Views.{insert_same}
 use Rattle.lpm_bits.specs.Network.{Network}
 use Rattle.fib_model.specs.Outcomes.{Adds}
 use Rattle.fib_model.specs.Counting.{counter_transitions, by_counters, initial_by_counters}
-use Rattle.fib_model.proofs.Frozen.{counted, adds_frozen, adds_moving}
 use Rattle.std.proofs.lemmas.List.Elements.{All-cons, All-nil}
 use Rattle.storm.specs.declared.plan.Plan.{Plan}
 use Rattle.storm.specs.Changing.{IsForWriter}
@@ -107,9 +106,8 @@ refused_leaves : (c : Config) (s z : State Registry) (p : Network) (h : ℕ) (re
 refused_leaves c s z p h TooManyRules adds = (adds.0, adds.1, adds.2, refl)
 refused_leaves c s z p h Exhausted adds = (adds.0, adds.1, refl)
 refused_leaves c s z p h Memory adds = (adds.0, refl)
-refused_leaves c s z p h (NoGroups oldest) adds =
-    let is = adds_frozen counted 24 8 c s z p h (Err (NoGroups oldest)) adds in
-    adds_moving counted 24 8 c s s p h (Err (NoGroups oldest)) (is.0, is.1, is.2, refl)
+refused_leaves c s z p h (NoGroups None) adds = (adds.0, adds.1, (adds.2.0, refl), refl)
+refused_leaves c s z p h (NoGroups (Some busy)) adds = (adds.0, adds.1, (adds.2.0, adds.2.1, (adds.2.2.0, refl)), refl)
 refused_leaves c s z p h refusal adds = absurd adds
 
 -- the first route that is refused stands at this place of the routes

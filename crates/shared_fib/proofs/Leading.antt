@@ -14,7 +14,7 @@ use Rattle.lpm_rules.specs.declared.Put.TheVariants.{Added, Replaced, Unchanged}
 use Rattle.defer_queue.specs.declared.Reclaimed.{Reclaimed}
 use Rattle.fib_model.specs.State.{State, Transitions, Reclaims, MakesRoom, Unlinks, UnlinksOne}
 use Rattle.fib_model.specs.Outcomes.{Adds, Deletes, Flushes, Frees, HoldsFront, Shrinks, TakesGroup, Updates, groups_in_use}
-use Rattle.fib_model.proofs.Frozen.{lacks_or_not}
+use Rattle.fib_model.proofs.Carried.{lacks_or_not}
 use Rattle.lpm_trace.specs.declared.step.WriterStep.{WriterStep}
 use Rattle.lpm_trace.specs.declared.step.WriterStep.TheVariants.{StoreFirst, BeginUpdate, EndUpdate, BumpToken, LoadCounter}
 use Rattle.lpm_trace.specs.Writer.{token_after}
