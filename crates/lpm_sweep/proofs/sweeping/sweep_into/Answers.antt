@@ -1,7 +1,7 @@
-use Rattle.std.proofs.Common.{arith, ◌≡◌, ℕ, ◌+◌, ◌*◌, ◌/◌, ◌%◌, ◌^◌, ◌<◌, ◌≤◌, ap, sym, ◌∙◌, subst, length, lit<, take, List, []}
+use Rattle.std.proofs.Common.{arith, ◌≡◌, ℕ, ◌*◌, ◌/◌, ◌%◌, ◌^◌, ◌<◌, ◌≤◌, ap, sym, ◌∙◌, subst, length, lit<, take, List, []}
 use Rattle.std.proofs.lemmas.Nat.{one_shl, pow_pos, le-div}
 use Rattle.std.proofs.lemmas.List.{take_all}
-use Rattle.std.specs.FinMap.{insert, empty, get-empty}
+use Rattle.std.specs.FinMap.{empty, get-empty}
 use Rattle.lpm_rules.specs.RuleMap.{RuleMap, network_cmp, place, prefix_at, rules_of, AllUpTo}
 use Rattle.lpm_rules.specs.declared.Rule.{Rule}
 use Rattle.std.specs.FinSet as set
