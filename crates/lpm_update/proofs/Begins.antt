@@ -1,11 +1,12 @@
 -- A change begins on words that answer the rule list.
-use Rattle.std.proofs.Common.{arith, ◌≡◌, ℕ, suc, ◌+◌, ◌*◌, ◌/◌, ◌^◌, ◌<◌, refl, ap, sym, ◌∙◌, subst, List, ◌≤◌, ◌-◌, ◌⊎◌, inl, inr, Option, Some, None, Bool, true, false}
+use Rattle.std.proofs.Common.{arith, ◌≡◌, ℕ, suc, ◌+◌, ◌*◌, ◌/◌, ◌^◌, ◌<◌, refl, ap, sym, ◌∙◌, subst, List, ◌≤◌, ◌-◌, ◌⊎◌, inl, inr, Option, Some, None, false}
 use Rattle.std.specs.Prelude.{IsSome, slice_index, ◌==◌, if◌then◌else◌}
 use Rattle.std.proofs.lemmas.Nat.{pow-add, pow_pos, shr_high, shr_below}
 use Rattle.std.proofs.Math.Nat.{mul-le-mul_right}
 use Rattle.lpm_rules.specs.RuleMap.{RuleMap, AllNetworks, network_cmp}
 use Rattle.lpm_rules.specs.Deep.{IsDeepBlock}
-use Rattle.lpm_rules.proofs.Views.{not_some, insert_cases, insert_here, remove_cases, networks_insert, networks_remove}
+use Rattle.lpm_rules.proofs.Deep.{deep_insert_cases, deep_kept, deep_inserted, deep_remains, deep_remove_cases}
+use Rattle.lpm_rules.proofs.Views.{not_some, networks_insert, networks_remove}
 use Rattle.lpm_cells.specs.declared.entry.Entry.{Entry}
 use Rattle.lpm_cells.specs.declared.entry.Entry.TheVariants.{Miss, Hop, Group}
 use Rattle.lpm_cells.specs.Words.{entry_in, IsLast, group_in, entry_at, Words}
@@ -14,19 +15,19 @@ use Rattle.lpm_update.specs.Rewrite.{Stands, rewritten_entry}
 use Rattle.lpm_update.specs.Linked.{group_at}
 use Rattle.lpm_update.specs.Best.{AllBest, IsBest, IsCoverEntry}
 use Rattle.lpm_update.specs.Represents.{HasDeepGroups, Represents, IsBegun, TurnsInto, IsFreshGroup}
-use Rattle.lpm_update.proofs.Rules.{best_unique, best_block, all_short, add_covered, add_other, covers_range, range_covers, del_covered, del_other, removed_was}
+use Rattle.lpm_update.proofs.Rules.{best_unique, best_block, all_short, add_covered, add_other, covers_range, range_covers, del_covered, del_other}
 use Rattle.lpm_update.proofs.Places.{block_high, block_low, deep_high}
 use Rattle.std.specs.FinMap.{get, insert, remove, empty, get-empty}
-use Rattle.std.proofs.lemmas.Bool.{cases_lt, cases_eq, eq-eqb, ne_eqb}
+use Rattle.std.proofs.lemmas.Bool.{cases_lt, cases_eq}
 use Rattle.lpm_bits.specs.Network.{Network, Covers, IsNetwork}
 use Rattle.lpm_update.specs.declared.rewrite.Kind.TheVariants.{Add, Delete}
 use Rattle.lpm_update.specs.Kinds.{final_entry, IsLinking, rewrite_to_miss, IsRangeOf, IsRewriting}
-use Rattle.lpm_update.proofs.Links.{range_true, range_low, range_high, reached_low}
+use Rattle.lpm_update.proofs.Links.{range_true, range_low, range_high, reached_low, final_same}
 use Rattle.lpm_update.proofs.Flushes.{flushed_miss}
 use Rattle.lpm_update.specs.declared.rewrite_range.RewriteRange.{RewriteRange}
 use Rattle.lpm_update.specs.declared.link_group.LinkGroup.{LinkGroup}
 use Rattle.lpm_update.specs.declared.update.Plan.TheVariants.{Range, Link, Unlink}
-use Rattle.lpm_update.proofs.Groups.{unlinked_yet}
+use Rattle.lpm_update.proofs.Groups.{unlinked_yet, here_is, there_is}
 
 some_group : (e : Entry) → IsSome (group_in e) → (g : ℕ) × (e ≡ Group g)
 some_group Miss h = absurd (not_some refl h)
@@ -112,69 +113,38 @@ flush_best width E a low = subst (IsBest width empty a) (sym (range_true 0 (2 ^ 
 
 -- ---- groups
 
-some_none : {x : Option ℕ} → x ≡ None → IsSome x → ⊥
-some_none e s = not_some e s
-
-insert_some : (R : RuleMap) (p q : Network) (h : ℕ) → IsSome (get R q) → IsSome (get (insert R p h) q)
-insert_some R p q h some = elim (insert_cases R p h q) [
-  | inl k ↦ subst IsSome (sym k.1) refl
-  | inr k ↦ subst IsSome (sym k) some
-]
-
--- the deep blocks after an add: those before, and the one of the rule where it is deep
-insert_deep : (f s : ℕ) (R : RuleMap) (p : Network) (h i : ℕ) → IsDeepBlock f s (insert R p h) i → ((f < p.len) × (p.bits / 2 ^ s ≡ i)) ⊎ IsDeepBlock f s R i
-insert_deep f s R p h i d = elim (insert_cases R p h d.0) [
-  | inl k ↦ inl (subst (λ (x : Network). f < x.len) k.0 d.2, subst (λ (x : Network). x.bits / 2 ^ s ≡ i) k.0 d.3)
-  | inr k ↦ inr (d.0, subst IsSome k d.1, d.2, d.3)
-]
-
 pub add_groups : (f s : ℕ) (R : RuleMap) (p : Network) (h : ℕ) (L : ℕ → Option ℕ) → (f < p.len → IsDeepBlock f s R (p.bits / 2 ^ s)) → HasDeepGroups f s R L → HasDeepGroups f s (insert R p h) L
 add_groups f s R p h L deep known i low = (
-  (λ some. let d = (known i low).0 some in (d.0, insert_some R p d.0 h d.1, d.2, d.3)),
-  (λ d. (known i low).1 (elim (insert_deep f s R p h i d) [
-    | inl k ↦ subst (IsDeepBlock f s R) k.1 (deep k.0)
-    | inr k ↦ k
+  (λ some. deep_kept f s R p h i ((known i low).0 some)),
+  (λ d. (known i low).1 (elim (deep_insert_cases f s R p h i d) [
+    | inl k ↦ k
+    | inr k ↦ subst (IsDeepBlock f s R) k.1 (deep k.0)
   ])),
 )
-
-if_true : {A : Type 0} (b : Bool) (x y : A) → b ≡ true → (if b then x else y) ≡ x
-if_true b x y e = ap (λ z. if z then x else y) e
-
-if_false : {A : Type 0} (b : Bool) (x y : A) → b ≡ false → (if b then x else y) ≡ y
-if_false b x y e = ap (λ z. if z then x else y) e
 
 pub link_deep : (f s : ℕ) (R : RuleMap) (p : Network) (h g : ℕ) (L : ℕ → Option ℕ) → f < p.len → HasDeepGroups f s R L → HasDeepGroups f s (insert R p h) (λ i. if i == p.bits / 2 ^ s then Some g else L i)
 link_deep f s R p h g L long known i low = elim (cases_eq i (p.bits / 2 ^ s)) [
   | inl here ↦
-      let e = if_true (i == p.bits / 2 ^ s) (Some g) (L i) (eq-eqb i (p.bits / 2 ^ s) here) in
-      ((λ _. (p, subst IsSome (sym (insert_here R p h)) refl, long, sym here)), (λ _. subst IsSome (sym e) refl))
+      let e = here_is i (p.bits / 2 ^ s) (Some g) (L i) here in
+      ((λ _. subst (IsDeepBlock f s (insert R p h)) (sym here) (deep_inserted f s R p h long)), (λ _. subst IsSome (sym e) refl))
   | inr other ↦
-      let e = if_false (i == p.bits / 2 ^ s) (Some g) (L i) (ne_eqb i (p.bits / 2 ^ s) other) in (
-        (λ some. let d = (known i low).0 (subst IsSome e some) in (d.0, insert_some R p d.0 h d.1, d.2, d.3)),
-        (λ d. subst IsSome (sym e) ((known i low).1 (elim (insert_deep f s R p h i d) [
-          | inl k ↦ absurd (other (sym k.1))
-          | inr k ↦ k
+      let e = there_is i (p.bits / 2 ^ s) (Some g) (L i) other in (
+        (λ some. deep_kept f s R p h i ((known i low).0 (subst IsSome e some))),
+        (λ d. subst IsSome (sym e) ((known i low).1 (elim (deep_insert_cases f s R p h i d) [
+          | inl k ↦ k
+          | inr k ↦ absurd (other (sym k.1))
         ]))),
       )
 ]
 
-remove_deep : (f s : ℕ) (R : RuleMap) (p : Network) (i : ℕ) → IsDeepBlock f s R i → ((f < p.len) × (p.bits / 2 ^ s ≡ i)) ⊎ IsDeepBlock f s (remove R p) i
-remove_deep f s R p i d = elim (remove_cases R p d.0) [
-  | inl k ↦ inl (subst (λ (x : Network). f < x.len) k.0 d.2, subst (λ (x : Network). x.bits / 2 ^ s ≡ i) k.0 d.3)
-  | inr k ↦ inr (d.0, subst IsSome (sym k) d.1, d.2, d.3)
-]
-
-was_deep : (f s : ℕ) (R : RuleMap) (p : Network) (i : ℕ) → IsDeepBlock f s (remove R p) i → IsDeepBlock f s R i
-was_deep f s R p i d = (d.0, removed_was R p d.0 d.1, d.2, d.3)
-
 -- a rule goes that is short, or leaves another deep one in its block
 pub delete_groups : (f s : ℕ) (R : RuleMap) (p : Network) (L : ℕ → Option ℕ) → (f < p.len → IsDeepBlock f s (remove R p) (p.bits / 2 ^ s)) → HasDeepGroups f s R L → HasDeepGroups f s (remove R p) L
 delete_groups f s R p L deep known i low = (
-  (λ some. elim (remove_deep f s R p i ((known i low).0 some)) [
-    | inl k ↦ subst (IsDeepBlock f s (remove R p)) k.1 (deep k.0)
-    | inr k ↦ k
+  (λ some. elim (deep_remove_cases f s R p i ((known i low).0 some)) [
+    | inl k ↦ k
+    | inr k ↦ subst (IsDeepBlock f s (remove R p)) k.1 (deep k.0)
   ]),
-  (λ d. (known i low).1 (was_deep f s R p i d)),
+  (λ d. (known i low).1 (deep_remains f s R p i d)),
 )
 
 -- the last deep rule of its block goes
@@ -182,20 +152,20 @@ pub unlinked_groups : (f s : ℕ) (R : RuleMap) (p : Network) (L : ℕ → Optio
     → HasDeepGroups f s (remove R p) (λ i. if i == p.bits / 2 ^ s then None else L i)
 unlinked_groups f s R p L none known i low = elim (cases_eq i (p.bits / 2 ^ s)) [
   | inl here ↦
-      let e = if_true (i == p.bits / 2 ^ s) None (L i) (eq-eqb i (p.bits / 2 ^ s) here) in
-      ((λ some. absurd (some_none e some)), (λ d. absurd (none (subst (IsDeepBlock f s (remove R p)) here d))))
+      let e = here_is i (p.bits / 2 ^ s) None (L i) here in
+      ((λ some. absurd (not_some e some)), (λ d. absurd (none (subst (IsDeepBlock f s (remove R p)) here d))))
   | inr other ↦
-      let e = if_false (i == p.bits / 2 ^ s) None (L i) (ne_eqb i (p.bits / 2 ^ s) other) in (
-        (λ some. elim (remove_deep f s R p i ((known i low).0 (subst IsSome e some))) [
-          | inl k ↦ absurd (other (sym k.1))
-          | inr k ↦ k
+      let e = there_is i (p.bits / 2 ^ s) None (L i) other in (
+        (λ some. elim (deep_remove_cases f s R p i ((known i low).0 (subst IsSome e some))) [
+          | inl k ↦ k
+          | inr k ↦ absurd (other (sym k.1))
         ]),
-        (λ d. subst IsSome (sym e) ((known i low).1 (was_deep f s R p i d))),
+        (λ d. subst IsSome (sym e) ((known i low).1 (deep_remains f s R p i d))),
       )
 ]
 
 pub flush_deep : (f s : ℕ) → HasDeepGroups f s (empty {R = network_cmp}) (λ i. None)
-flush_deep f s i low = ((λ some. absurd (some_none refl some)), (λ d. absurd (not_some (get-empty network_cmp d.0) d.1)))
+flush_deep f s i low = ((λ some. absurd (not_some refl some)), (λ d. absurd (not_some (get-empty network_cmp d.0) d.1)))
 
 -- Each kind of change, as it begins.
 
@@ -222,10 +192,6 @@ begun_range f s R p u W n known made deep = record {
   groups = λ i low. refl;
 }
 
-same_range : (width a : ℕ) (u : RewriteRange) (from end : ℕ) (c : Rewrite) (e : Entry) → u.from ≡ from → u.end ≡ end → u.rewrite ≡ c → final_entry u.from u.end u.rewrite a e ≡ final_entry from end c a e
-same_range width a u from end c e p q r =
-    ap (λ x. final_entry x u.end u.rewrite a e) p ∙ ap (λ x. final_entry from x u.rewrite a e) q ∙ ap (λ x. final_entry from end x a e) r
-
 best_along : (width : ℕ) (R : RuleMap) (X Y : ℕ → Entry) → ((a : ℕ) → X a ≡ Y a) → AllBest width R Y → AllBest width R X
 best_along width R X Y e best a low = subst (IsBest width R a) (sym (e a)) (best a low)
 
@@ -233,7 +199,7 @@ pub adds_range : (f s : ℕ) (R : RuleMap) (p : Network) (h : ℕ) (u : RewriteR
     → (f < p.len → IsDeepBlock f s R (p.bits / 2 ^ s)) → TurnsInto f s (Range u) R (insert R p h)
 adds_range f s R p h u n made is deep = record {
   networks = networks_insert (f + s) R p h n;
-  best = λ E best. best_along (f + s) (insert R p h) _ _ (λ a. same_range (f + s) a u _ _ _ (E a) made.from made.end is) (add_best (f + s) R p h E n best);
+  best = λ E best. best_along (f + s) (insert R p h) _ _ (λ a. final_same a (E a) _ _ _ _ _ _ made.from made.end is) (add_best (f + s) R p h E n best);
   groups = λ L known. add_groups f s R p h L deep known;
 }
 
@@ -270,7 +236,7 @@ rewrite_is c n p q = ap (λ x. record { kind = x; depth = c.depth; entry = c.ent
 deletes_best : (f s : ℕ) (R : RuleMap) (p : Network) (u : RewriteRange) → AllNetworks (f + s) R → IsNetwork (f + s) p → IsRangeOf f s p u → u.rewrite.kind ≡ Delete → u.rewrite.depth ≡ p.len
     → IsCoverEntry (f + s) R p u.rewrite.entry → (E : ℕ → Entry) → AllBest (f + s) R E → AllBest (f + s) (remove R p) (λ a. final_entry u.from u.end u.rewrite a (E a))
 deletes_best f s R p u nets n made k d cover E best =
-    best_along (f + s) (remove R p) _ _ (λ a. same_range (f + s) a u _ _ _ (E a) made.from made.end (rewrite_is u.rewrite p.len k d)) (delete_best (f + s) R p u.rewrite.entry E nets n cover best)
+    best_along (f + s) (remove R p) _ _ (λ a. final_same a (E a) _ _ _ _ _ _ made.from made.end (rewrite_is u.rewrite p.len k d)) (delete_best (f + s) R p u.rewrite.entry E nets n cover best)
 
 pub deletes_range : (f s : ℕ) (R : RuleMap) (p : Network) (u : RewriteRange) → AllNetworks (f + s) R → IsNetwork (f + s) p → IsRangeOf f s p u → u.rewrite.kind ≡ Delete → u.rewrite.depth ≡ p.len
     → IsCoverEntry (f + s) R p u.rewrite.entry → (f < p.len → IsDeepBlock f s (remove R p) (p.bits / 2 ^ s)) → TurnsInto f s (Range u) R (remove R p)
@@ -320,6 +286,3 @@ begun_unlink f s R p u block W n known made k d cover there long here none =
       stands = range_stands f s p u W made;
       groups = λ i _. refl;
     }
-
-pub deep_before : (f s : ℕ) (R : RuleMap) (p : Network) → IsDeepBlock f s (remove R p) (p.bits / 2 ^ s) → IsDeepBlock f s R (p.bits / 2 ^ s)
-deep_before f s R p d = (d.0, removed_was R p d.0 d.1, d.2, d.3)

@@ -15,7 +15,7 @@ use Rattle.lpm_update.specs.declared.link_group.LinkGroup.{LinkGroup}
 use Rattle.lpm_update.specs.declared.update.Plan.TheVariants.{Link}
 use Rattle.lpm_update.specs.Rewrite.{replaces, rewritten_entry, Stands}
 use Rattle.lpm_update.specs.Linked.{IsTable, IsLinkTo, group_at}
-use Rattle.lpm_update.specs.Kinds.{IsLinking, IsFillStore, IsLinkStore, filled_entry, in_range, reach_of_link}
+use Rattle.lpm_update.specs.Kinds.{IsLinking, IsFillStore, IsLinkStore, filled_entry, final_entry, in_range, reach_of_link}
 use Rattle.lpm_update.specs.Update.{IsNextFirst, IsNextSecond}
 use Rattle.lpm_update.specs.Step.{Steps}
 use Rattle.lpm_update.proofs.Places.{table_second, block_of, second_other, first_other, first_word, first_of_group, last_word, word_entry, words_first, followed_last, stored_first, stored_second}
@@ -28,12 +28,13 @@ unseen s W g r w a h free = second_other s W (g * 2 ^ s + r) w a (λ f q z.
     let both = same_from_place f (a % 2 ^ s) g r (2 ^ s) (mod_below a (2 ^ s) (pow_pos s)) h z in
     free (a / 2 ^ s) (q ∙ ap Group both.0))
 
-pub stands_unseen : (s from at : ℕ) (c : Rewrite) (W : Words) (E : ℕ → Entry) (g r w : ℕ) → r < 2 ^ s → ((i : ℕ) → IsLinkTo W.firsts i g → ⊥)
-    → Stands s from at c W E → Stands s from at c (with_second W (g * 2 ^ s + r) w) E
-stands_unseen s from at c W E g r w h free t = record {
-  before = λ a p. unseen s W g r w a h free ∙ t.before a p;
-  done = λ a p q. unseen s W g r w a h free ∙ t.done a p q;
-  todo = λ a p. unseen s W g r w a h free ∙ t.todo a p;
+-- where no address is answered otherwise, a change stands as it did
+pub stands_along : (s from at : ℕ) (c : Rewrite) (W W' : Words) (E : ℕ → Entry) → ((a : ℕ) → entry_at s W' a ≡ entry_at s W a)
+    → Stands s from at c W E → Stands s from at c W' E
+stands_along s from at c W W' E same t = record {
+  before = λ a p. same a ∙ t.before a p;
+  done = λ a p q. same a ∙ t.done a p q;
+  todo = λ a p. same a ∙ t.todo a p;
 }
 
 -- the link
@@ -53,6 +54,10 @@ range_low from end a x y l = ap (λ b. cond (b && nat_lt a end) x y) (lt-leb fro
 and_no : (b : Bool) (x y : Entry) → cond (b && false) x y ≡ y
 and_no true x y = refl
 and_no false x y = refl
+
+-- the same range
+pub final_same : (a : ℕ) (e : Entry) (from from' end end' : ℕ) (c c' : Rewrite) → from ≡ from' → end ≡ end' → c ≡ c' → final_entry from end c a e ≡ final_entry from' end' c' a e
+final_same a e from from' end end' c c' p q r = ap (λ x. final_entry x end c a e) p ∙ ap (λ x. final_entry from' x c a e) q ∙ ap (λ x. final_entry from' end' x a e) r
 
 pub range_high : (from end a : ℕ) (x y : Entry) → end ≤ a → cond (in_range from end a) x y ≡ y
 range_high from end a x y h = ap (λ b. cond (nat_le from a && b) x y) (le-ltb a end h) ∙ and_no (nat_le from a) x y
@@ -77,7 +82,7 @@ stands_link s from end c W E b g w h e l low mid high fill t =
       todo = λ a p. elim (cases_eq (a / 2 ^ s) b) [ inl q ↦ new a q ∙ range_high from end a (rewritten_entry c (E a)) (E a) p | inr n ↦ out a n ];
     }
 
-same_group : (i g : ℕ) → Group i ≡ Group g → i ≡ g
+pub same_group : (i g : ℕ) → Group i ≡ Group g → i ≡ g
 same_group i g e = cc
 
 table_link : (f s : ℕ) (W : Words) (b g w : ℕ) → IsTable f s W → b < 2 ^ f → g < 2 ^ 24 → HasRoom s W.seconds g → w ≡ word_of (Group g)
@@ -166,7 +171,7 @@ module _ (f s : ℕ) (u : LinkGroup) (W : Words) (t : IsTable f s W) (k : IsLink
           ];
         };
         stands = λ E st. subst (λ x. Stands s u.from x u.rewrite (with_second W j w) E) (sym (reached_low s (next_place u) after))
-            (subst (λ x. Stands s u.from u.from u.rewrite (with_second W x w) E) (sym p) (stands_unseen s u.from u.from u.rewrite W E u.group u.next w more free
+            (subst (λ x. Stands s u.from u.from u.rewrite (with_second W x w) E) (sym p) (stands_along s u.from u.from u.rewrite W _ E (λ a. unseen s W u.group u.next w a more free)
             (subst (λ x. Stands s u.from x u.rewrite W E) (reached_low s u below) st)));
         groups = λ L known b low. known b low ∙ unlinked_yet s u.next (L b) (if b == u.block then Some u.group else L b) below
             ∙ sym (unlinked_yet s (u.next + 1) (L b) (if b == u.block then Some u.group else L b) after);

@@ -1,6 +1,7 @@
 -- What has been passed stays passed, and is not stored again.
-use Rattle.std.proofs.Common.{arith, ◌≡◌, ℕ, ◌+◌, ◌*◌, ◌/◌, ◌%◌, ◌^◌, ◌<◌, ◌≤◌, ◌⊎◌, inl, inr, refl, ap, sym, ◌∙◌, subst, List, Option, Bool, true, false}
+use Rattle.std.proofs.Common.{arith, ◌≡◌, ℕ, ◌+◌, ◌*◌, ◌/◌, ◌%◌, ◌^◌, ◌<◌, ◌≤◌, inl, inr, refl, ap, sym, ◌∙◌, subst, List, Option}
 use Rattle.std.specs.Prelude.{slice_index}
+use Rattle.std.proofs.lemmas.Bool.{cases_Bool}
 use Rattle.std.proofs.lemmas.Nat.{pow_pos, mod_below, shr_below, shr_split, same_from_place}
 use Rattle.lpm_cells.specs.declared.entry.Entry.TheVariants.{Group}
 use Rattle.lpm_cells.specs.Words.{entry_in, group_in, Words}
@@ -45,10 +46,6 @@ held_same f (Second j) L M n h = h
 held_same f (Unlinked b g) L M n h = absurd (n b g refl)
 held_same f Done L M n h = h
 
-cases_bool : (b : Bool) → (b ≡ true) ⊎ (b ≡ false)
-cases_bool true = inl refl
-cases_bool false = inr refl
-
 module _ (f s : ℕ) (z z' : Words) (j : ℕ) where
   range_stays : (u v : RewriteRange) (e : Did) → IsOnward (Range u) (Range v) → IsUnderWay f s (Range u) z → HasPassedSecond s (Range u) z.firsts j → Steps f s (Range u) z e (Range v) z'
       → HasPassedSecond s (Range v) z'.firsts j
@@ -75,7 +72,7 @@ module _ (f s : ℕ) (z z' : Words) (j : ℕ) where
       omega (arith, a, base, p))
       (λ x y o k p h. elim p [
         | inr gone ↦ inr (o.2 gone)
-        | inl before ↦ elim (cases_bool x.unlinked) [
+        | inl before ↦ elim (cases_Bool x.unlinked) [
           | inl gone ↦ inr (o.2 gone)
           | inr still ↦ unlink_stays x y e o (k.0 still) before h
         ]
@@ -140,15 +137,11 @@ not_second f s (Flush u) z j w t k p n = n
 
 pub not_twice : (f s : ℕ) (d e : Did) (v v' : Plan) (z z' : Words) → IsTable f s z → IsUnderWay f s v z → HasPassed s d v z.firsts → Stored f s e v z v' z' → IsSameWord d e → ⊥
 not_twice f s (First i) (First k) v v' z z' t u p h q = not_first f s v z k _ (subst (HasPassedFirst s v) q p) h.0
-not_twice f s (First i) (Second k) v v' z z' t u p h q = absurd q
 not_twice f s (First i) (Unlinked k g) v v' z z' t u p h q = not_unlink f s v z k g _ (subst (HasPassedFirst s v) q p) h.0
-not_twice f s (First i) Done v v' z z' t u p h q = absurd q
-not_twice f s (Second j) (First k) v v' z z' t u p h q = absurd q
+not_twice f s (First i) other v v' z z' t u p h q = absurd q
 not_twice f s (Second j) (Second k) v v' z z' t u p h q = not_second f s v z k _ t u (subst (HasPassedSecond s v z.firsts) q p) h.0
-not_twice f s (Second j) (Unlinked k g) v v' z z' t u p h q = absurd q
-not_twice f s (Second j) Done v v' z z' t u p h q = absurd q
+not_twice f s (Second j) other v v' z z' t u p h q = absurd q
 not_twice f s (Unlinked i g) (First k) v v' z z' t u p h q = not_first f s v z k _ (subst (HasPassedFirst s v) q p) h.0
-not_twice f s (Unlinked i g) (Second k) v v' z z' t u p h q = absurd q
 not_twice f s (Unlinked i g) (Unlinked k g') v v' z z' t u p h q = not_unlink f s v z k g' _ (subst (HasPassedFirst s v) q p) h.0
-not_twice f s (Unlinked i g) Done v v' z z' t u p h q = absurd q
+not_twice f s (Unlinked i g) other v v' z z' t u p h q = absurd q
 not_twice f s Done e v v' z z' t u p h q = absurd q

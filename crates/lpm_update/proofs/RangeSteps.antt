@@ -11,7 +11,7 @@ use Rattle.lpm_update.specs.declared.Did.TheVariants.{First, Second, Done, Unlin
 use Rattle.lpm_update.specs.declared.rewrite.Rewrite.{Rewrite}
 use Rattle.lpm_update.specs.declared.rewrite_range.RewriteRange.{RewriteRange}
 use Rattle.lpm_update.specs.Rewrite.{replaces, Stands, Skips}
-use Rattle.lpm_update.specs.Kinds.{IsRewriting, IsFirstStore, IsSecondStore, Visits, IsFurther}
+use Rattle.lpm_update.specs.Kinds.{IsRewriting, IsWhole, IsFirstStore, IsSecondStore, Visits, IsFurther}
 use Rattle.lpm_update.specs.Linked.{IsTable, IsLinkTo, group_at}
 use Rattle.lpm_update.proofs.Places.{block_low, block_high, block_of, followed_last, in_group, whole_inside, whole_block, at_block, first_word, first_room, stored_first, stored_second, last_word, word_entry, stands_skip, stands_first, stands_second, table_first, table_second, whole_first}
 use Rattle.std.proofs.lemmas.Bool.{cases_lt}
@@ -52,31 +52,29 @@ second_is_word f s W j w t h e = subst (IsLastWord (f + s)) (sym e) (t.words.sec
 
 -- ---- the bounds of the range
 
--- past block i, which has no group
-pub past_first : (f s from at end : ℕ) (c : Rewrite) (F : List ℕ) (i : ℕ) → at ≤ i * 2 ^ s → i * 2 ^ s < end → IsLast (entry_in (slice_index F i)) → IsRewriting f s from at end c F
-    → IsRewriting f s from (i * 2 ^ s + 2 ^ s) end c F
-past_first f s from at end c F i low high l u = record {
-  started = let h = u.started in omega (arith, h, low);
-  within = u.whole_end i l high;
+-- the same range, come to another bound
+pub come_on : (f s from at next end : ℕ) (c : Rewrite) (F : List ℕ) → at ≤ next → next ≤ end → IsWhole s F next → IsRewriting f s from at end c F → IsRewriting f s from next end c F
+come_on f s from at next end c F on within whole u = record {
+  started = let h = u.started in omega (arith, h, on);
+  within = within;
   fits = u.fits;
   entry = u.entry;
   last = u.last;
-  whole_at = whole_block s F i;
+  whole_at = whole;
   whole_end = u.whole_end;
 }
+
+-- past block i, which has no group
+pub past_first : (f s from at end : ℕ) (c : Rewrite) (F : List ℕ) (i : ℕ) → at ≤ i * 2 ^ s → i * 2 ^ s < end → IsLast (entry_in (slice_index F i)) → IsRewriting f s from at end c F
+    → IsRewriting f s from (i * 2 ^ s + 2 ^ s) end c F
+past_first f s from at end c F i low high l u = come_on f s from at (i * 2 ^ s + 2 ^ s) end c F (omega (arith, low)) (u.whole_end i l high) (whole_block s F i) u
 
 -- past address x, whose block has a group
 pub past_second : (f s from at end : ℕ) (c : Rewrite) (F : List ℕ) (g x : ℕ) → at ≤ x → x < end → IsLinkTo F (x / 2 ^ s) g → IsRewriting f s from at end c F
     → IsRewriting f s from (x + 1) end c F
-past_second f s from at end c F g x low high e u = record {
-  started = let h = u.started in omega (arith, h, low);
-  within = omega (arith, high);
-  fits = u.fits;
-  entry = u.entry;
-  last = u.last;
-  whole_at = whole_inside s F (x / 2 ^ s) g (x + 1) e (omega (arith, block_low s x)) (omega (arith, block_high s x));
-  whole_end = u.whole_end;
-}
+past_second f s from at end c F g x low high e u =
+    come_on f s from at (x + 1) end c F (omega (arith, low)) (omega (arith, high))
+    (whole_inside s F (x / 2 ^ s) g (x + 1) e (omega (arith, block_low s x)) (omega (arith, block_high s x))) u
 
 -- ---- the next place
 

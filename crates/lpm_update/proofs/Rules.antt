@@ -1,4 +1,4 @@
-use Rattle.std.proofs.Common.{arith, ◌≡◌, ◌≢◌, ℕ, ◌+◌, ◌-◌, ◌/◌, ◌^◌, ◌≤◌, inl, inr, refl, ap, sym, ◌∙◌, subst, Bool, true, false, cond, Option, Some, None, ◌<◌, ◌*◌}
+use Rattle.std.proofs.Common.{arith, ◌≡◌, ◌≢◌, ℕ, ◌+◌, ◌-◌, ◌/◌, ◌^◌, ◌≤◌, inl, inr, refl, ap, sym, ◌∙◌, subst, Bool, true, false, cond, Option, Some, ◌<◌, ◌*◌}
 use Rattle.std.specs.Prelude.{IsSome, nat_eq, nat_le}
 use Rattle.std.specs.FinMap.{get, remove, insert}
 use Rattle.std.proofs.lemmas.Bool.{cases_eq, eqb-true, eq-eqb, cases_lt, leb-true, leb-false}
@@ -6,7 +6,7 @@ use Rattle.std.proofs.lemmas.Nat.{shr-shr}
 use Rattle.lpm_bits.specs.Network.{Network, Covers, IsNetwork}
 use Rattle.lpm_rules.specs.RuleMap.{RuleMap, AllNetworks}
 use Rattle.lpm_rules.proofs.Longest.{same_length}
-use Rattle.lpm_rules.proofs.Views.{remove_cases, remove_here, insert_cases, insert_here}
+use Rattle.lpm_rules.proofs.Views.{not_some, remove_cases, remove_here, insert_cases, insert_here}
 use Rattle.lpm_cells.specs.declared.entry.Entry.{Entry}
 use Rattle.lpm_cells.specs.declared.entry.Entry.TheVariants.{Miss, Hop, Group}
 use Rattle.lpm_update.specs.declared.rewrite.Kind.TheVariants.{Delete, Add}
@@ -17,15 +17,9 @@ use Rattle.lpm_rules.specs.Longest.{IsLongestHop}
 use Rattle.lpm_cells.specs.Words.{hop_in}
 use Rattle.lpm_update.proofs.Places.{block_low, block_high, block_of}
 
-none_some : {x : Option ℕ} → x ≡ None → IsSome x → ⊥
-none_some e s =
-    let z : IsSome {T = ℕ} None = subst IsSome e s in
-    let y : false ≡ true = z in
-    cc
-
 pub removed_was : (R : RuleMap) (p q : Network) → IsSome (get (remove R p) q) → IsSome (get R q)
 removed_was R p q some = elim (remove_cases R p q) [
-  | inl k ↦ absurd (none_some k.1 some)
+  | inl k ↦ absurd (not_some k.1 some)
   | inr k ↦ subst IsSome k some
 ]
 
@@ -70,10 +64,10 @@ to_cover width R p a v Miss nets n c b k = λ q some cov.
     let most = b.4 q was cov in
     elim (cases_eq q.len p.len) [
       | inl e ↦ elim (remove_cases R p q) [
-        | inl z ↦ none_some z.1 some
+        | inl z ↦ not_some z.1 some
         | inr z ↦
             let same = same_net width a p q n (nets q was) c cov e in
-            none_some ((ap (get (remove R p)) same ∙ remove_here R p)) some
+            not_some ((ap (get (remove R p)) same ∙ remove_here R p)) some
       ]
       | inr ne ↦ k q was (omega (arith, most, ne)) (sym (covers_up width a p q n.0 most c) ∙ cov)
     ]
@@ -88,7 +82,7 @@ to_cover width R p a v (Hop h d) nets n c b k =
           let was = removed_was R p q some in
           let most = b.4 q was cov in
           elim (cases_eq q.len p.len) [
-            | inl e ↦ absurd (none_some (ap (get (remove R p)) (same_net width a p q n (nets q was) c cov e) ∙ remove_here R p) some)
+            | inl e ↦ absurd (not_some (ap (get (remove R p)) (same_net width a p q n (nets q was) c cov e) ∙ remove_here R p) some)
             | inr ne ↦ subst (λ x. q.len ≤ x) len (k.1.longest q was (omega (arith, most, ne)) (sym (covers_up width a p q n.0 most c) ∙ cov))
           ],
     )

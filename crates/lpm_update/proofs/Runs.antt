@@ -1,9 +1,9 @@
 -- An address goes from its old answer to its new one, and not back.
-use Rattle.std.proofs.Common.{arith, ◌≡◌, ℕ, ◌+◌, ◌^◌, ◌≤◌, ◌⊎◌, inl, inr, Bool, true, false, refl, ap, sym, ◌∙◌, subst, Option, Some, None, ◌*◌, ◌<◌, length, List, [], ◌∷◌}
+use Rattle.std.proofs.Common.{arith, ◌≡◌, ℕ, ◌+◌, ◌^◌, ◌≤◌, ◌⊎◌, inl, inr, true, refl, ap, sym, ◌∙◌, subst, Option, Some, None, ◌*◌, ◌<◌, length, List, [], ◌∷◌}
 use Rattle.std.specs.Prelude.{◌==◌, if◌then◌else◌, IsSome, slice_index_or}
 use Rattle.std.proofs.Math.Nat.{mul-le-mul_right}
 use Rattle.std.proofs.lemmas.Nat.{pow-add, shr_below}
-use Rattle.std.proofs.lemmas.Bool.{cases_lt}
+use Rattle.std.proofs.lemmas.Bool.{cases_lt, cases_Bool}
 use Rattle.lpm_cells.specs.declared.entry.Entry.{Entry}
 use Rattle.lpm_cells.specs.Words.{entry_at, Words, IsFirstWord, with_first, with_second, IsLastWord}
 use Rattle.lpm_update.specs.declared.link_group.LinkGroup.{LinkGroup}
@@ -14,7 +14,7 @@ use Rattle.lpm_update.specs.Rewrite.{rewritten_entry, Stands}
 use Rattle.lpm_update.specs.Kinds.{final_entry, reach_of_link, IsRewriting, IsFirstStore, IsSecondStore, IsFurther, IsUnlinkStore}
 use Rattle.lpm_update.specs.Update.{IsUnderWay, IsOnward, from_of, end_of, reached_of, rewrite_of, group_after, IsNextFirst, IsNextSecond, IsNextUnlink, StandsSoFar, HasGroups, IsOver, SameGroups, group_held, entry_after}
 use Rattle.lpm_update.specs.Laws.{AnswersTurnOnce, Moves, NextStore, RunBegins, RunGoesOn, RunEnds, NoWordTwice, Runs, HasCome, IsSameWord}
-use Rattle.lpm_update.proofs.Links.{range_true, reached_low, reached_high, next_place, link_fill, link_link}
+use Rattle.lpm_update.proofs.Links.{range_true, final_same, reached_low, reached_high, next_place, link_fill, link_link}
 use Rattle.lpm_update.proofs.Onward.{by_kind, onward_same, onward_on}
 use Rattle.std.proofs.lemmas.List.{get_or-set_same}
 use Rattle.std.proofs.Math.ListN.{length-set}
@@ -23,7 +23,7 @@ use Rattle.lpm_update.specs.declared.rewrite_range.RewriteRange.{RewriteRange}
 use Rattle.lpm_update.specs.Linked.{IsTable, group_at}
 use Rattle.lpm_update.specs.Step.{Steps, Stored, HasPassed}
 use Rattle.lpm_update.proofs.Groups.{first_within, held_by, there_is}
-use Rattle.lpm_update.proofs.RangeSteps.{place_within, range_first, range_second, range_done}
+use Rattle.lpm_update.proofs.RangeSteps.{come_on, place_within, range_first, range_second, range_done}
 use Rattle.lpm_update.proofs.Unlinks.{unlink_range, unlink_link, stands_final}
 use Rattle.lpm_update.proofs.Flushes.{come_to, flush_first, flush_unlink}
 use Rattle.std.specs.List.{All, AllPairs}
@@ -67,14 +67,10 @@ reached_on f s u v W k o = by_kind (λ x y. IsUnderWay f s x W → reached_of s 
     (λ x y o k. mul-le-mul_right (2 ^ s) o)
     u v o k
 
-cases_bool : (b : Bool) → (b ≡ true) ⊎ (b ≡ false)
-cases_bool true = inl refl
-cases_bool false = inr refl
-
 reached_within : (f s : ℕ) (u : Plan) (W : Words) → IsUnderWay f s u W → reached_of s u ≤ end_of (f + s) u
 reached_within f s (Range u) W k = k.within
 reached_within f s (Link u) W k = below_end s u k.range
-reached_within f s (Unlink u) W k = elim (cases_bool u.unlinked) [
+reached_within f s (Unlink u) W k = elim (cases_Bool u.unlinked) [
   | inl gone ↦ let e = k.1 gone in omega (arith, e)
   | inr still ↦ (k.0 still).rewriting.within
 ]
@@ -190,15 +186,7 @@ next_unlink f s (Unlink u) W b g w t k n =
     let d = k.0 n.0 in
     let r = moved_to u.range u.range.end in
     let within = d.rewriting.within in
-    let now : IsRewriting f s r.from r.at r.end r.rewrite W.firsts = record {
-      started = let a = d.rewriting.started in omega (arith, a, within);
-      within = omega arith;
-      fits = d.rewriting.fits;
-      entry = d.rewriting.entry;
-      last = d.rewriting.last;
-      whole_at = d.rewriting.whole_end;
-      whole_end = d.rewriting.whole_end;
-    } in
+    let now = come_on f s r.from u.range.at r.at r.end r.rewrite W.firsts within (omega arith) d.rewriting.whole_end d.rewriting in
     let done = range_done f s u.range r W t d.rewriting (record { from = refl; end = refl; rewrite = refl; at = within }) now n.2 refl in (
       subst (λ x. b < x) (sym t.words.firsts_len) (subst (λ x. x < 2 ^ f) (sym n.1) d.in_table),
       (
@@ -265,9 +253,7 @@ pub over_entries : (f s : ℕ) (u v : Plan) (W : Words) (E : ℕ → Entry) → 
 over_entries f s u v W E on over t a =
     let whole : Stands s (from_of v) (end_of (f + s) v) (rewrite_of v) W E = subst (λ x. Stands s (from_of v) x (rewrite_of v) W E) over.reached t in
     stands_final s (from_of v) (end_of (f + s) v) (rewrite_of v) W E whole a
-    ∙ ap (λ x. final_entry x (end_of (f + s) v) (rewrite_of v) a (E a)) (from_same u v on)
-    ∙ ap (λ x. final_entry (from_of u) x (rewrite_of v) a (E a)) (end_same (f + s) u v on)
-    ∙ ap (λ x. final_entry (from_of u) (end_of (f + s) u) x a (E a)) (rewrite_same u v on)
+    ∙ final_same a (E a) _ _ _ _ _ _ (from_same u v on) (end_same (f + s) u v on) (rewrite_same u v on)
 
 -- the groups that are held are those that the blocks have
 over_held : (f s : ℕ) (v : Plan) (F : List ℕ) (L : ℕ → Option ℕ) → IsOver f s v → HasGroups f s v F L → SameGroups f (group_held v F) (group_at F)

@@ -10,7 +10,7 @@ use Rattle.lpm_update.specs.declared.rewrite.Rewrite.{Rewrite}
 use Rattle.lpm_update.specs.Rewrite.{rewritten_entry, Stands, Skips}
 use Rattle.lpm_update.specs.Kinds.{final_entry, IsFurther, IsUnlinking, IsUnlinkStore, IsOneEntry}
 use Rattle.lpm_update.proofs.Places.{in_group, first_same, first_other, first_room, last_no_group, table_first, stored_first}
-use Rattle.lpm_update.proofs.Links.{range_true, range_low, range_high}
+use Rattle.lpm_update.proofs.Links.{range_true, range_low, range_high, final_same, stands_along, same_group}
 use Rattle.lpm_update.specs.declared.Did.{Did}
 use Rattle.lpm_update.specs.declared.Did.TheVariants.{First, Second, Unlinked, Done}
 use Rattle.lpm_update.specs.declared.rewrite_range.RewriteRange.{RewriteRange}
@@ -69,9 +69,6 @@ one_word f s W b g w x t h e all q = record {
       sym (t.words.second_words (g * 2 ^ s + r) here).0.1 ∙ ap word_of (all r l ∙ sym (all 0 (pow_pos s))) ∙ (t.words.second_words (g * 2 ^ s + 0) zero_here).0.1 ∙ sym (q ∙ z);
 }
 
-same_group : (i g : ℕ) → Group i ≡ Group g → i ≡ g
-same_group i g e = cc
-
 -- the store that the word of place 0 makes
 pub unlinks : (f s : ℕ) (W : Words) (b n w place : ℕ) → IsTable f s W → b < 2 ^ f
     → (g : ℕ) × IsLinkTo W.firsts b g × IsOneEntry s W g
@@ -79,15 +76,6 @@ pub unlinks : (f s : ℕ) (W : Words) (b n w place : ℕ) → IsTable f s W → 
 unlinks f s W b n w place t h k e p q =
     let same : k.0 ≡ n = same_group k.0 n (sym k.1 ∙ e) in
     one_word f s W b n w k.2.0 t h e (λ r l. ap (λ y. entry_in (slice_index W.seconds (y * 2 ^ s + r))) (sym same) ∙ k.2.1 r l) (q ∙ ap (slice_index W.seconds) p)
-
--- where no address is answered otherwise, a change stands as it did
-stands_along : (s from at : ℕ) (c : Rewrite) (W W' : Words) (E : ℕ → Entry) → ((a : ℕ) → entry_at s W' a ≡ entry_at s W a)
-    → Stands s from at c W E → Stands s from at c W' E
-stands_along s from at c W W' E same t = record {
-  before = λ a p. same a ∙ t.before a p;
-  done = λ a p q. same a ∙ t.done a p q;
-  todo = λ a p. same a ∙ t.todo a p;
-}
 
 -- the word that unlinks is one at which a lookup ends
 pub unlink_word : (f s : ℕ) (W : Words) (b g w : ℕ) → IsTable f s W → b < 2 ^ f → IsUnlinkStore s W b g w → IsLastWord (f + s) w
@@ -118,11 +106,7 @@ unlinking_along f s u r block W W' k same now stands held = record {
     stands k.uniform.0 k.uniform.1,
     (
       k.uniform.2.0,
-      λ a here.
-          ap (λ y. final_entry y r.end r.rewrite a (k.uniform.0 a)) same.from
-          ∙ ap (λ y. final_entry u.from y r.rewrite a (k.uniform.0 a)) same.end
-          ∙ ap (λ y. final_entry u.from u.end y a (k.uniform.0 a)) same.rewrite
-          ∙ k.uniform.2.1 a here,
+      λ a here. final_same a (k.uniform.0 a) r.from u.from r.end u.end r.rewrite u.rewrite same.from same.end same.rewrite ∙ k.uniform.2.1 a here,
     ),
   );
 }
@@ -168,10 +152,7 @@ module _ (f s : ℕ) (u : UnlinkGroup) (W : Words) (there : u.unlinked ≡ false
           (
             k.uniform.2.0,
             uniform_words s r.from r.end r.rewrite W' E u.block k.group.0 k.uniform.2.0 group t (λ a here.
-                ap (λ y. final_entry y r.end r.rewrite a (E a)) h.onward.from
-                ∙ ap (λ y. final_entry u.range.from y r.rewrite a (E a)) h.onward.end
-                ∙ ap (λ y. final_entry u.range.from u.range.end y a (E a)) h.onward.rewrite
-                ∙ k.uniform.2.1 a here),
+                final_same a (E a) r.from u.range.from r.end u.range.end r.rewrite u.range.rewrite h.onward.from h.onward.end h.onward.rewrite ∙ k.uniform.2.1 a here),
           ),
         )
 

@@ -1,7 +1,8 @@
 use Rattle.std.proofs.Common.{ap, ◌∙◌, subst, ◌/◌, ◌^◌}
 use Rattle.std.specs.FinMap.{remove}
 use Rattle.lpm_update.specs.Represents.{LastFits}
-use Rattle.lpm_update.proofs.Begins.{begun_range, deletes_range, begun_unlink, deletes_unlink, deep_before}
+use Rattle.lpm_update.proofs.Begins.{begun_range, deletes_range, begun_unlink, deletes_unlink}
+use Rattle.lpm_rules.proofs.Deep.{deep_remains}
 use Rattle.lpm_update.proofs.update.Update.delete.Goals as goal
 
 pub returns-then-last-clause-begun : goal.returns-then-last-clause-begun
@@ -29,6 +30,6 @@ returns-clause-begun g c = λ R W represents there cover fits.
     let left = subst (LastFits f s (remove R p) p) c.if-last.false fits in
     let n = represents.networks p there in
     let entry = made.cover R cover in (
-      begun_range f s R p u W n represents made.range (λ long. deep_before f s R p (left long)),
+      begun_range f s R p u W n represents made.range (λ long. deep_remains f s R p _ (left long)),
       deletes_range f s R p u represents.networks n made.range made.rewrite.0 made.rewrite.1 entry left,
     )
