@@ -54,13 +54,13 @@ collected {f} {s} l (r ∷ rs) R m same b =
 pub of_length_law : {f s : ℕ} (l : ℕ) (rs : List (Rule f s)) (m : BTreeMap ℕ ℕ) → IsFromIterResult nat_cmp (pairs_of l rs) m → (b : ℕ) → tree.get nat_cmp m b ≡ get (rules_of rs) (at_network b l)
 of_length_law l rs m made b = made.0 b ∙ collected l rs empty (λ _. None) (λ q. sym (get-empty network_cmp (at_network q l))) b
 
-some_map : (ms : List (BTreeMap ℕ ℕ)) → length ms ≡ 33 → BTreeMap ℕ ℕ
-some_map [] h = absurd (omega (arith, h))
-some_map (m ∷ ms) h = m
+some_item : {A : Type 0} (xs : List A) → length xs ≡ 33 → A
+some_item [] h = absurd (omega (arith, h))
+some_item (x ∷ xs) h = x
 
 pub all_lengths : {f s : ℕ} (rs : List (Rule f s)) (ms : List (BTreeMap ℕ ℕ)) → f + s ≤ 32 → AllNetworks (f + s) (rules_of rs) → length ms ≡ 33 → ((l : ℕ) (d : BTreeMap ℕ ℕ) → l < 33 → IsFromIterResult nat_cmp (pairs_of l rs) (get_or ms l d)) → rules_of_lengths ms ≡ rules_of rs
 all_lengths rs ms fits nets long made = same_map networks_total exact_networks (rules_of_lengths ms) (rules_of rs) (λ p.
-    let d = some_map ms long in
+    let d = some_item ms long in
     elim (cases_lt p.len 33) [
       | inl low ↦ get_rules ms p d (omega (arith, low, long)) ∙ of_length_law p.len rs (get_or ms p.len d) (made p.len d low) p.bits
       | inr high ↦ get_past ms p (omega (arith, high, long)) ∙ sym (none_or (get (rules_of rs) p) (λ some. let z = (nets p some).0 in absurd (omega (arith, z, fits, high))))
@@ -134,16 +134,12 @@ collected_on {Z} ls ms n m v low within new made k a d small = elim (cases_eq k 
       (made k a d (omega (arith, small, other)))
 ]
 
-some_list : {Z : Type 0} (ls : List (Vec (ℕ × ℕ) Z)) → length ls ≡ 33 → Vec (ℕ × ℕ) Z
-some_list [] h = absurd (omega (arith, h))
-some_list (l ∷ ls) h = l
-
 module _ (f s : ℕ) {Z : Type 0} (rs : List (Rule f s)) (ls : List (Vec (ℕ × ℕ) Z)) (ms : List (BTreeMap ℕ ℕ)) (shape : IsShape f s) (nets : AllNetworks (f + s) (rules_of rs))
     (pairs : ArePairs rs ls) (collected : AreCollected ls ms) where
   -- the maps have the rules of the list
   pub lengths_are : rules_of_lengths ms ≡ rules_of rs
   lengths_are =
-      let v = some_list ls pairs.long in
+      let v = some_item ls pairs.long in
       all_lengths rs ms shape.2 nets collected.long (λ l m low.
       subst (λ (xs : List (ℕ × ℕ)). IsFromIterResult nat_cmp xs (get_or ms l m)) (pairs.each l v low) (collected.each l v m low))
 

@@ -1,5 +1,5 @@
 -- Which addresses a block has.
-use Rattle.std.proofs.Common.{arith, ◌≡◌, ◌≢◌, ℕ, ◌+◌, ◌-◌, ◌*◌, ◌/◌, ◌^◌, ◌<◌, ◌≤◌, ◌⊎◌, inl, inr, true, false, refl, ap, sym, ◌∙◌, nat_eq, zero-add, Bool, cond, length, subst, List, [], ◌∷◌, Option, None}
+use Rattle.std.proofs.Common.{arith, ◌≡◌, ◌≢◌, ℕ, ◌+◌, ◌-◌, ◌*◌, ◌/◌, ◌^◌, ◌<◌, ◌≤◌, ◌↔◌, ◌⊎◌, inl, inr, true, false, refl, ap, sym, ◌∙◌, nat_eq, zero-add, Bool, cond, length, List, [], ◌∷◌, Option, None}
 use Rattle.std.specs.Prelude.{◌&&◌, not, map, filter, count_by, ◌||◌, is_some, T}
 use Rattle.std.specs.declared.cmp.Ordering.{Ordering}
 use Rattle.std.specs.declared.cmp.Ordering.TheVariants.{Less, Equal, Greater}
@@ -10,7 +10,7 @@ use Rattle.std.specs.BTreeMap.Range.{range_contains}
 use Rattle.std.proofs.lemmas.Nat.{pow-add}
 use Rattle.std.proofs.Math.Nat.{div-mul-le_self, lt-div-mul-add, div-eq_of_lt-le, mul-le-mul_right}
 use Rattle.std.proofs.Math.Pow.{pow_mono}
-use Rattle.lpm_rules.proofs.Views.{eqb_self, eqb_apart, networks_total, exact_networks, at_network, same_len, other_len}
+use Rattle.lpm_rules.proofs.Views.{networks_total, exact_networks, at_network, same_len, other_len}
 use Rattle.std.specs.List.{list_any, IsDistinct, AllByRecursion}
 use Rattle.std.specs.Map.{keys_of, lookup}
 use Rattle.std.specs.Set.{is_member}
@@ -23,7 +23,8 @@ use Rattle.std.proofs.lemmas.Map.Keys.{IsDistinct-from_sorted}
 use Rattle.std.proofs.lemmas.Map.Lookups.{exact_unsigned}
 use Rattle.std.proofs.lemmas.Map.Made.{length-from_same_keys, is_some-lookup, IsDistinct-keys_filter}
 use Rattle.std.proofs.lemmas.Map.Entries.{lookup-filter-keys, length-keys_of}
-use Rattle.std.proofs.lemmas.Bool.{cases_eq}
+use Rattle.std.proofs.lemmas.Bool.{cases_eq, eq-eqb, ne_eqb}
+use Rattle.std.proofs.Math.Bool.{or-true}
 use Rattle.lpm_bits.specs.Network.{Network}
 use Rattle.lpm_rules.specs.RuleMap.{RuleMap, network_cmp}
 use Rattle.std.specs.BTreeMap as tree
@@ -58,12 +59,12 @@ range_of_block d block b p =
     elim (le_cases (block * d) b (nat_cmp (block * d) b) refl) [
       | inr low ↦
           ap (λ t. t && not (is_lt (nat_cmp (block * d + (d - 1)) b))) low.0
-          ∙ sym (eqb_apart (b / d) block (below_block d block b low.1))
+          ∙ sym (ne_eqb (b / d) block (below_block d block b low.1))
       | inl low ↦
           ap (λ t. t && not (is_lt (nat_cmp (block * d + (d - 1)) b))) low.0
           ∙ elim (lt_cases (block * d + (d - 1)) b (nat_cmp (block * d + (d - 1)) b) refl) [
-            | inl high ↦ ap not high.0 ∙ sym (eqb_apart (b / d) block (past_block d block b p high.1))
-            | inr high ↦ ap not high.0 ∙ sym (ap (λ x. nat_eq x block) (within_block d block b p low.1 high.1) ∙ eqb_self block)
+            | inl high ↦ ap not high.0 ∙ sym (ne_eqb (b / d) block (past_block d block b p high.1))
+            | inr high ↦ ap not high.0 ∙ sym (ap (λ x. nat_eq x block) (within_block d block b p low.1 high.1) ∙ eq-eqb block block refl)
           ]
     ]
 
@@ -97,10 +98,6 @@ same_is p q h = exact_networks p q (equal (network_cmp p q) h)
 pub itself : (p : Network) → same p p ≡ true
 itself p = (eq_by_cmp_equiv networks_total).refl p
 
-or_true : (b : Bool) → (b || true) ≡ true
-or_true true = refl
-or_true false = refl
-
 abbrev pub one_if : Bool → ℕ
 one_if b = cond b 1 0
 
@@ -127,28 +124,19 @@ count_same t u [] h = refl
 count_same t u (p ∷ ks) h =
     count_cons t p ks
     ∙ ap (λ b. one_if b + count_by t ks) (h p (ap (λ b. b || list_any (same p) ks) (itself p)))
-    ∙ ap (λ n. one_if (u p) + n) (count_same t u ks (λ q one. h q (ap (λ b. same q p || b) one ∙ or_true (same q p))))
+    ∙ ap (λ n. one_if (u p) + n) (count_same t u ks (λ q one. h q (ap (λ b. same q p || b) one ∙ or-true (same q p))))
     ∙ sym (count_cons u p ks)
 
--- a key that passes, where the count isn't 0
-pub count_some : (t : Network → Bool) (ks : List Network) → 0 < count_by t ks → (p : Network) × (list_any (same p) ks ≡ true) × (t p ≡ true)
-count_some t [] h = absurd (omega (arith, h))
-count_some t (p ∷ ks) h =
-    elim (t p) as (λ b. t p ≡ b → 0 < one_if b + count_by t ks → (q : Network) × ((same q p || list_any (same q) ks) ≡ true) × (t q ≡ true)) [
-      | true ↦ λ e _. (p, ap (λ b. b || list_any (same p) ks) (itself p), e)
-      | false ↦ λ e more.
-          let rest = count_some t ks (omega (arith, more)) in
-          (rest.0, ap (λ b. same rest.0 p || b) rest.1 ∙ or_true (same rest.0 p), rest.2)
-    ] refl (subst (λ n. 0 < n) (count_cons t p ks) h)
-
-pub some_count : (t : Network → Bool) (ks : List Network) (p : Network) → list_any (same p) ks ≡ true → t p ≡ true → 0 < count_by t ks
-some_count t [] p h e = cc
-some_count t (q ∷ ks) p h e =
-    let cons = count_cons t q ks in
-    elim (same p q) as (λ b. same p q ≡ b → (b || list_any (same p) ks) ≡ true → 0 < count_by t (q ∷ ks)) [
-      | true ↦ λ s _. let c : one_if (t q) ≡ 1 = ap one_if (ap t (sym (same_is p q s)) ∙ e) in omega (arith, c, cons)
-      | false ↦ λ _ one. let rest = some_count t ks p one e in omega (arith, rest, cons)
-    ] refl h
+-- the count isn't 0 exactly where one passes
+pub count_any : (t : Network → Bool) (ks : List Network) → (0 < count_by t ks) ↔ (list_any t ks ≡ true)
+count_any t [] = ((λ h. absurd (omega (arith, h))), (λ e. cc))
+count_any t (p ∷ ks) =
+    let cons = count_cons t p ks in
+    let rest = count_any t ks in
+    elim (t p) as (λ b. t p ≡ b → (0 < count_by t (p ∷ ks)) ↔ ((b || list_any t ks) ≡ true)) [
+      | true ↦ λ e. ((λ _. refl), (λ _. let one = ap one_if e in omega (arith, cons, one)))
+      | false ↦ λ e. let none = ap one_if e in ((λ h. rest.0 (omega (arith, cons, none, h))), (λ any. let some = rest.1 any in omega (arith, cons, none, some)))
+    ] refl
 
 -- ---- the keys of the rules
 
@@ -245,11 +233,11 @@ module _ (R : RuleMap) (m : BTreeMap ℕ ℕ) (len : ℕ) (u : ℕ → Bool) (or
     | inl e ↦
         in_rules q
         ∙ ap (λ l. (nat_eq l len && u q.bits) && is_some (get R (at_network q.bits l))) e
-        ∙ ap (λ t. (t && u q.bits) && is_some (get R (at_network q.bits len))) (eqb_self len)
+        ∙ ap (λ t. (t && u q.bits) && is_some (get R (at_network q.bits len))) (eq-eqb len len refl)
         ∙ sym (in_entries q.bits) ∙ sym (any_prefixes q.bits len entries_passing)
         ∙ ap (λ l. list_any (same (at_network q.bits l)) (prefixes len entries_passing)) (sym e)
     | inr n ↦
-        in_rules q ∙ ap (λ t. (t && u q.bits) && is_some (get R q)) (eqb_apart q.len len n)
+        in_rules q ∙ ap (λ t. (t && u q.bits) && is_some (get R q)) (ne_eqb q.len len n)
         ∙ sym (no_prefixes q len entries_passing n)
   ]
 

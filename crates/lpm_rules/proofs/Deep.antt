@@ -6,17 +6,18 @@ use Rattle.std.specs.Ordering.{nat_cmp, eq_by_cmp, ord_max, is_gt}
 use Rattle.std.specs.Option.{option_cmp, option_eq}
 use Rattle.std.specs.Cmp.{nat_cmp_total, unsigned_tied, nat_eq_equiv}
 use Rattle.std.specs.FinSet.{FinSet, nat_cmp-IsAntisymmetric}
-use Rattle.std.proofs.lemmas.Bool.{cases_order, cases_eq, cases_lt, lt-ltb, le-ltb, ltb-true, eq-eqb, eqb-true, and_parts, and_from, or_cases, or_left, or_right, false_from_ne_true, cases_Bool, not-true, not_from_false}
+use Rattle.std.proofs.lemmas.Bool.{cases_order, cases_eq, cases_lt, lt-ltb, le-ltb, ltb-true, eq-eqb, ne_eqb, eqb-true, and_parts, and_from, or_cases, or_left, or_right, false_from_ne_true, cases_Bool, not-true, not_from_false}
 use Rattle.std.proofs.lemmas.Map.Lookups.{exact_unsigned}
 use Rattle.std.proofs.lemmas.Nat.{pow_pos, pow-add, shr_below}
-use Rattle.std.proofs.Math.Nat.{div-lt_iff_lt-mul, mul-le-mul_right}
+use Rattle.std.proofs.Math.Nat.{div-lt_iff_lt-mul, mul-le-mul_right, zero-add, add-zero}
+use Rattle.std.proofs.Math.Bool.{and-true, and-false}
 use Rattle.std.proofs.Math.Pow.{pow_mono, shr_mono}
 use Rattle.std.proofs.lemmas.Map.Keys.{le_from_not_gt, ge_from_not_lt}
 use Rattle.std.specs.BTreeMap.{BTreeMap}
 use Rattle.std.specs.BTreeMap.Range.{IsRangeOf}
 use Rattle.std.specs.declared.ops.Bound.TheVariants.{Included, Unbounded}
-use Rattle.lpm_rules.proofs.Counts.{lt_cases, gt_cases, same, same_is, one_if, count_sum, count_none, count_same, count_some, some_count, key_of_rule, itself}
-use Rattle.lpm_rules.proofs.Views.{not_some, insert_cases, insert_here, remove_cases, at_network, eqb_apart}
+use Rattle.lpm_rules.proofs.Counts.{lt_cases, gt_cases, same, same_is, one_if, count_sum, count_none, count_same, count_any, key_of_rule, itself}
+use Rattle.lpm_rules.proofs.Views.{not_some, insert_cases, insert_here, remove_cases, at_network}
 use Rattle.lpm_bits.specs.Network.{Network}
 use Rattle.lpm_rules.specs.RuleMap.{RuleMap, AllNetworks, network_cmp}
 use Rattle.lpm_rules.specs.Deep.{block_of, IsBlockOf, IsDeepBlock, IsLastBefore, deep_count, deep_blocks, HasDeepBlocks, PutBringsBlock, RemoveDropsBlock}
@@ -33,25 +34,11 @@ is_deep_in first second block p = nat_lt first p.len && nat_eq (block_of second 
 abbrev pub is_deep_below : ℕ → ℕ → ℕ → ℕ → Network → Bool
 is_deep_below first second block len p = is_deep_in first second block p && nat_lt p.len len
 
-and_none : (b : Bool) → (b && false) ≡ false
-and_none true = refl
-and_none false = refl
-
-and_all : (b : Bool) → (b && true) ≡ b
-and_all true = refl
-and_all false = refl
-
 none_yet : (first second block : ℕ) (p : Network) → is_deep_below first second block (first + 1) p ≡ false
 none_yet first second block p = elim (cases_lt first p.len) [
-  | inl deep ↦ ap (λ t. is_deep_in first second block p && t) (le-ltb p.len (first + 1) (omega arith)) ∙ and_none _
+  | inl deep ↦ ap (λ t. is_deep_in first second block p && t) (le-ltb p.len (first + 1) (omega arith)) ∙ and-false _
   | inr short ↦ ap (λ t. (t && nat_eq (block_of second p) block) && nat_lt p.len (first + 1)) (le-ltb first p.len short)
 ]
-
-zero_left : (n : ℕ) → 0 + n ≡ n
-zero_left n = omega arith
-
-zero_right : (n : ℕ) → n + 0 ≡ n
-zero_right n = omega arith
 
 -- the rules of one more length
 one_more : (first second block len : ℕ) (p : Network) → first < len
@@ -65,22 +52,22 @@ one_more first second block len p h =
           let b = le-ltb p.len len (omega (arith, e)) in
           let d = lt-ltb first p.len (omega (arith, e, h)) in
           let k = eq-eqb p.len len e in
-          ap (λ t. one_if (deep && t)) a ∙ ap one_if (and_all deep) ∙ ap (λ t. one_if (t && here)) d
-          ∙ sym (ap (λ t. one_if (deep && t) + one_if (nat_eq p.len len && here)) b ∙ ap (λ t. one_if t + one_if (nat_eq p.len len && here)) (and_none deep)
-          ∙ ap (λ t. 0 + one_if (t && here)) k ∙ zero_left (one_if here))
+          ap (λ t. one_if (deep && t)) a ∙ ap one_if (and-true deep) ∙ ap (λ t. one_if (t && here)) d
+          ∙ sym (ap (λ t. one_if (deep && t) + one_if (nat_eq p.len len && here)) b ∙ ap (λ t. one_if t + one_if (nat_eq p.len len && here)) (and-false deep)
+          ∙ ap (λ t. 0 + one_if (t && here)) k ∙ zero-add (one_if here))
       | inr n ↦ elim n [
         | inl below ↦
             let a = lt-ltb p.len (len + 1) (omega arith) in
             let b = lt-ltb p.len len below in
-            let k = eqb_apart p.len len (λ e. absurd (omega (arith, e, below))) in
+            let k = ne_eqb p.len len (λ e. absurd (omega (arith, e, below))) in
             ap (λ t. one_if (deep && t)) a
-            ∙ sym (ap (λ t. one_if (deep && t) + one_if (nat_eq p.len len && here)) b ∙ ap (λ t. one_if (deep && true) + one_if (t && here)) k ∙ zero_right (one_if (deep && true)))
+            ∙ sym (ap (λ t. one_if (deep && t) + one_if (nat_eq p.len len && here)) b ∙ ap (λ t. one_if (deep && true) + one_if (t && here)) k ∙ add-zero (one_if (deep && true)))
         | inr above ↦
             let a = le-ltb p.len (len + 1) (omega arith) in
             let b = le-ltb p.len len (omega arith) in
-            let k = eqb_apart p.len len (λ e. absurd (omega (arith, e, above))) in
+            let k = ne_eqb p.len len (λ e. absurd (omega (arith, e, above))) in
             ap (λ t. one_if (deep && t)) a
-            ∙ sym (ap (λ t. one_if (deep && t) + one_if (nat_eq p.len len && here)) b ∙ ap (λ t. one_if (deep && false) + one_if (t && here)) k ∙ zero_right (one_if (deep && false)))
+            ∙ sym (ap (λ t. one_if (deep && t) + one_if (nat_eq p.len len && here)) b ∙ ap (λ t. one_if (deep && false) + one_if (t && here)) k ∙ add-zero (one_if (deep && false)))
       ]
     ]
 
@@ -98,26 +85,7 @@ pub deep_all : (first second block len : ℕ) (R : RuleMap) → AllNetworks (fir
 deep_all first second block len R nets h =
     count_same (is_deep_below first second block len) (is_deep_in first second block) (rules.keys R) (λ p k.
     let bound = (nets p (sym (key_of_rule R p) ∙ k)).0 in
-    ap (λ t. is_deep_in first second block p && t) (lt-ltb p.len len (omega (arith, bound, h))) ∙ and_all _)
-
--- the count isn't 0 exactly where a rule is counted
-pub deep_some : (first second : ℕ) (R : RuleMap) (block : ℕ) → (0 < deep_count first second R block) ↔ IsDeepBlock first second R block
-deep_some first second R block = (
-  (λ h.
-      let found = count_some (is_deep_in first second block) (rules.keys R) h in
-      let parts = and_parts _ _ found.2 in
-      (found.0, sym (key_of_rule R found.0) ∙ found.1, ltb-true _ _ parts.0, eqb-true _ _ parts.1)),
-  (λ d. some_count (is_deep_in first second block) (rules.keys R) d.0 (key_of_rule R d.0 ∙ d.1) (and_from _ _ (lt-ltb _ _ d.2) (eq-eqb _ _ d.3))),
-)
-
-pub deep_none : (first second : ℕ) (R : RuleMap) (block n : ℕ) → n ≡ deep_count first second R block → (n ≡ 0) ↔ (¬ (IsDeepBlock first second R block))
-deep_none first second R block n is = (
-  (λ z d. let some = (deep_some first second R block).1 d in absurd (omega (arith, z, is, some))),
-  (λ no. elim (cases_lt 0 n) [
-    | inl some ↦ absurd (no ((deep_some first second R block).0 (omega (arith, is, some))))
-    | inr none ↦ omega (arith, none)
-  ]),
-)
+    ap (λ t. is_deep_in first second block p && t) (lt-ltb p.len len (omega (arith, bound, h))) ∙ and-true _)
 
 -- ---- the set of blocks
 
@@ -148,16 +116,36 @@ key_any t (q ∷ ks) p h e = elim (or_cases (same p q) (list_any (same p) ks) h)
   | inr later ↦ or_right (t q) (list_any t ks) (key_any t ks p later e)
 ]
 
+-- a rule of the block is among the keys exactly where the block is deep
+any_deep : (first second : ℕ) (R : RuleMap) (block : ℕ) → (list_any (is_deep_in first second block) (rules.keys R) ≡ true) ↔ IsDeepBlock first second R block
+any_deep first second R block = (
+  (λ h.
+      let found = any_key (is_deep_in first second block) (rules.keys R) h in
+      let parts = and_parts _ _ found.2 in
+      (found.0, sym (key_of_rule R found.0) ∙ found.1, ltb-true _ _ parts.0, eqb-true _ _ parts.1)),
+  (λ d. key_any (is_deep_in first second block) (rules.keys R) d.0 (key_of_rule R d.0 ∙ d.1) (and_from _ _ (lt-ltb _ _ d.2) (eq-eqb _ _ d.3))),
+)
+
 pub has_deep_blocks : HasDeepBlocks
 has_deep_blocks first second R block =
     let is : set.contains (deep_blocks first second R) block ≡ list_any (is_deep_in first second block) (rules.keys R) =
-    set.contains-from_list nat_cmp_total _ block ∙ any_block first second block (rules.keys R) in (
-      (λ h.
-          let found = any_key (is_deep_in first second block) (rules.keys R) (sym is ∙ h) in
-          let parts = and_parts _ _ found.2 in
-          (found.0, sym (key_of_rule R found.0) ∙ found.1, ltb-true _ _ parts.0, eqb-true _ _ parts.1)),
-      (λ d. is ∙ key_any (is_deep_in first second block) (rules.keys R) d.0 (key_of_rule R d.0 ∙ d.1) (and_from _ _ (lt-ltb _ _ d.2) (eq-eqb _ _ d.3))),
-    )
+    set.contains-from_list nat_cmp_total _ block ∙ any_block first second block (rules.keys R) in
+    ((λ h. (any_deep first second R block).0 (sym is ∙ h)), (λ d. is ∙ (any_deep first second R block).1 d))
+
+-- the count isn't 0 exactly where a rule is counted
+pub deep_some : (first second : ℕ) (R : RuleMap) (block : ℕ) → (0 < deep_count first second R block) ↔ IsDeepBlock first second R block
+deep_some first second R block =
+    let any = count_any (is_deep_in first second block) (rules.keys R) in
+    ((λ h. (any_deep first second R block).0 (any.0 h)), (λ d. any.1 ((any_deep first second R block).1 d)))
+
+pub deep_none : (first second : ℕ) (R : RuleMap) (block n : ℕ) → n ≡ deep_count first second R block → (n ≡ 0) ↔ (¬ (IsDeepBlock first second R block))
+deep_none first second R block n is = (
+  (λ z d. let some = (deep_some first second R block).1 d in absurd (omega (arith, z, is, some))),
+  (λ no. elim (cases_lt 0 n) [
+    | inl some ↦ absurd (no ((deep_some first second R block).0 (omega (arith, is, some))))
+    | inr none ↦ omega (arith, none)
+  ]),
+)
 
 -- ---- the blocks before an end
 
@@ -177,13 +165,13 @@ module _ (s : FinSet nat_cmp) (last end : ℕ) (has : set.contains s last ≡ tr
     | inr n ↦ elim n [
       | inl below ↦
           ap (λ t. set.contains s i && t) (lt-ltb i end (omega (arith, below, l)))
-          ∙ sym (ap (λ t. t || (set.contains s i && nat_lt i last)) (eqb_apart i last (λ e. absurd (omega (arith, e, below)))) ∙ ap (λ t. set.contains s i && t) (lt-ltb i last below))
+          ∙ sym (ap (λ t. t || (set.contains s i && nat_lt i last)) (ne_eqb i last (λ e. absurd (omega (arith, e, below)))) ∙ ap (λ t. set.contains s i && t) (lt-ltb i last below))
       | inr above ↦
           false_from_ne_true (set.contains s i && nat_lt i end) (λ both.
           let parts = and_parts _ _ both in
           let most = greatest i parts.0 (ltb-true _ _ parts.1) in
           absurd (omega (arith, most, above)))
-          ∙ sym (ap (λ t. t || (set.contains s i && nat_lt i last)) (eqb_apart i last (λ e. absurd (omega (arith, e, above)))) ∙ ap (λ t. set.contains s i && t) (le-ltb i last (omega arith)) ∙ and_none _)
+          ∙ sym (ap (λ t. t || (set.contains s i && nat_lt i last)) (ne_eqb i last (λ e. absurd (omega (arith, e, above)))) ∙ ap (λ t. set.contains s i && t) (le-ltb i last (omega arith)) ∙ and-false _)
     ]
   ]
 
@@ -193,7 +181,7 @@ module _ (s : FinSet nat_cmp) (last end : ℕ) (has : set.contains s last ≡ tr
       in_before s end i ∙ one_fewer i
       ∙ sym (set.contains-insert nat_cmp_total (before s last) last i ∙ ap (λ t. t || set.contains (before s last) i) (unsigned_tied i last) ∙ ap (λ t. nat_eq i last || t) (in_before s last i))))
       ∙ set.len-insert nat_cmp_total (before s last) last
-      ∙ ap (λ t. cond t (set.len (before s last)) (set.len (before s last) + 1)) (in_before s last last ∙ ap (λ t. set.contains s last && t) (le-ltb last last (omega arith)) ∙ and_none _)
+      ∙ ap (λ t. cond t (set.len (before s last)) (set.len (before s last) + 1)) (in_before s last last ∙ ap (λ t. set.contains s last && t) (le-ltb last last (omega arith)) ∙ and-false _)
 
 -- none stands before the end
 pub before_none : (s : FinSet nat_cmp) (end : ℕ) → ((i : ℕ) → set.contains s i ≡ true → i < end → ⊥) → set.len (before s end) ≡ 0
@@ -403,22 +391,20 @@ module _ (first second : ℕ) (R : RuleMap) (p : Network) where
       ]))
       (λ i e. (has_deep_blocks first second (rules.insert R p h) i).1 (deep_kept first second R p h i ((has_deep_blocks first second R i).0 e)))
 
-  -- another rule of its block stays
-  pub deep_blocks_remove : IsDeepBlock first second (rules.remove R p) (block_of second p) → deep_blocks first second (rules.remove R p) ≡ deep_blocks first second R
-  deep_blocks_remove stays = same_blocks _ _
+  -- where the rule is deep, another one of its block stays
+  no_block_gone : (first < p.len → IsDeepBlock first second (rules.remove R p) (block_of second p)) → deep_blocks first second (rules.remove R p) ≡ deep_blocks first second R
+  no_block_gone stays = same_blocks _ _
       (λ i e. (has_deep_blocks first second R i).1 (deep_remains first second R p i ((has_deep_blocks first second (rules.remove R p) i).0 e)))
       (λ i e. (has_deep_blocks first second (rules.remove R p) i).1 (elim (deep_remove_cases first second R p i ((has_deep_blocks first second R i).0 e)) [
         | inl old ↦ old
-        | inr here ↦ subst (IsDeepBlock first second (rules.remove R p)) here.1 stays
+        | inr here ↦ subst (IsDeepBlock first second (rules.remove R p)) here.1 (stays here.0)
       ]))
 
+  pub deep_blocks_remove : IsDeepBlock first second (rules.remove R p) (block_of second p) → deep_blocks first second (rules.remove R p) ≡ deep_blocks first second R
+  deep_blocks_remove stays = no_block_gone (λ _. stays)
+
   pub deep_blocks_remove_short : p.len ≤ first → deep_blocks first second (rules.remove R p) ≡ deep_blocks first second R
-  deep_blocks_remove_short short = same_blocks _ _
-      (λ i e. (has_deep_blocks first second R i).1 (deep_remains first second R p i ((has_deep_blocks first second (rules.remove R p) i).0 e)))
-      (λ i e. (has_deep_blocks first second (rules.remove R p) i).1 (elim (deep_remove_cases first second R p i ((has_deep_blocks first second R i).0 e)) [
-        | inl old ↦ old
-        | inr here ↦ let deep = here.0 in absurd (omega (arith, deep, short))
-      ]))
+  deep_blocks_remove_short short = no_block_gone (λ deep. absurd (omega (arith, deep, short)))
 
   -- it was the last of its block
   pub deep_blocks_remove_last : (¬ (IsDeepBlock first second (rules.remove R p) (block_of second p))) → deep_blocks first second (rules.remove R p) ≡ set.remove (deep_blocks first second R) (block_of second p)
@@ -426,7 +412,7 @@ module _ (first second : ℕ) (R : RuleMap) (p : Network) where
       (λ i e.
       let d = (has_deep_blocks first second (rules.remove R p) i).0 e in
       in_remove (deep_blocks first second R) (block_of second p) i
-      ∙ and_from _ _ (not_from_false _ (eqb_apart i (block_of second p) (λ same. gone (subst (IsDeepBlock first second (rules.remove R p)) same d))))
+      ∙ and_from _ _ (not_from_false _ (ne_eqb i (block_of second p) (λ same. gone (subst (IsDeepBlock first second (rules.remove R p)) same d))))
       ((has_deep_blocks first second R i).1 (deep_remains first second R p i d)))
       (λ i e.
       let parts = and_parts _ _ (sym (in_remove (deep_blocks first second R) (block_of second p) i) ∙ e) in

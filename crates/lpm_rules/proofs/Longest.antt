@@ -1,5 +1,5 @@
 -- The last change of a prefix decides its rule.
-use Rattle.std.proofs.Common.{◌≡◌, ◌∙◌, ap, refl, ℕ, List, [], ◌∷◌, ◌++◌, inl, inr, arith, ◌+◌, ◌-◌, ◌*◌, ◌/◌, ◌^◌, ◌<◌, ◌≤◌, sym, subst, Option, Some, None, length, suc}
+use Rattle.std.proofs.Common.{◌≡◌, ◌∙◌, ap, refl, ℕ, List, [], ◌∷◌, ◌++◌, inl, inr, arith, ◌+◌, ◌-◌, ◌*◌, ◌/◌, ◌^◌, ◌≤◌, sym, subst, Option, Some, None, length, suc}
 use Rattle.std.specs.Prelude.{All, IsSome}
 use Rattle.std.specs.FinMap.{get, get-empty}
 use Rattle.std.proofs.lemmas.List.Elements.{All-head, All-tail}
@@ -40,14 +40,11 @@ last_deletion_decides f s R p before after all = last f s R p (Delete p) before 
 pub last_flush_decides : LastFlushDecides
 last_flush_decides f s R p before after all = last f s R p Flush before after all ∙ get-empty network_cmp p
 
-pair_eq : (a b c d : ℕ) → a ≡ c → b ≡ d → ◌≡◌ {A = ℕ × ℕ} (a, b) (c, d)
-pair_eq a b c d p q = cc
-
 -- the one prefix of a length that covers an address
 pub network_at : (width a : ℕ) (q : Network) → IsNetwork width q → Covers width q a → q ≡ record { bits = network_bits width q.len a; len = q.len }
 network_at width a q n c =
     let bits : q.bits ≡ network_bits width q.len a = sym n.2 ∙ ap (λ x. x * 2 ^ (width - q.len)) (sym c) in
-    ap (λ (x : ℕ × ℕ). record { bits = x.0; len = x.1 }) (pair_eq q.bits q.len _ _ bits refl)
+    λ i. record { bits = bits i; len = q.len }
 
 -- the prefix of each length covers the address that it was made of
 pub covers_masked : (width len a : ℕ) → Covers width (record { bits = network_bits width len a; len = len }) a
@@ -101,9 +98,6 @@ one_longest_hop width R a (Some x) (Some y) nets lx ly =
     let same = same_length width a lx.0 ly.0 (nets lx.0 sx) (nets ly.0 sy) lx.2.covers ly.2.covers (omega (arith, up, down)) in
     ap Some (hop_of R lx.0 ly.0 x y same lx.1 ly.1)
 
-pair_of : (p q : Network) (x y : ℕ) → p ≡ q → x ≡ y → ◌≡◌ {A = Network × ℕ} (p, x) (q, y)
-pair_of p q x y e f = cc
-
 pub one_cover_rule : (width : ℕ) (R : RuleMap) (p c d : Network) (x y : ℕ) → AllNetworks width R → IsCoverRule width R p c x → IsCoverRule width R p d y → (c ≡ d) × (x ≡ y)
 one_cover_rule width R p c d x y nets lx ly =
     let sx = is_some_of R c x lx.rule in
@@ -119,7 +113,7 @@ one_cover width R p None (Some y) nets lx ly = absurd (lx y.0 (is_some_of R y.0 
 one_cover width R p (Some x) None nets lx ly = absurd (ly x.0 (is_some_of R x.0 x.1 lx.rule) lx.shorter lx.covers)
 one_cover width R p (Some x) (Some y) nets lx ly =
     let same = one_cover_rule width R p x.0 y.0 x.1 y.1 nets lx ly in
-    ap (λ (c : Network × ℕ). Some c) (pair_of x.0 y.0 x.1 y.1 same.0 same.1)
+    λ i. Some (same.0 i, same.1 i)
 
 -- the answers to a list of addresses, one more at its end
 pub AreLongestHops-append : (width : ℕ) (R : RuleMap) (addrs : List ℕ) (hops : List (Option ℕ)) (addr : ℕ) (hop : Option ℕ)

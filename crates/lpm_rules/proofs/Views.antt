@@ -9,7 +9,8 @@ use Rattle.std.specs.BTreeMap.{BTreeMap, is_at}
 use Rattle.std.specs.FinMap.{find, from_entries, get, insert, remove, empty, get-from_entries, get-insert, get-remove, same_map, len, get-empty, len-insert, len-empty}
 use Rattle.std.proofs.lemmas.Cmp.{on_total, then_total, nat_cmp_total}
 use Rattle.std.proofs.lemmas.Map.Lookups.{CmpEqualImpliesEq, exact_pairs, exact_unsigned}
-use Rattle.std.proofs.lemmas.Bool.{cases_eq, cases_lt, eqb-true, eq-eqb}
+use Rattle.std.proofs.lemmas.Bool.{cases_eq, cases_lt, eq-eqb, ne_eqb}
+use Rattle.std.proofs.Math.Bool.{and-true, and-false}
 use Rattle.std.proofs.Math.ListN.{length-set}
 use Rattle.std.proofs.lemmas.List.{get_or-set_same, get_or-set_other, take_more, get_or-map}
 use Rattle.lpm_bits.specs.Network.{Network, IsNetwork}
@@ -40,29 +41,11 @@ network_test p q =
     ∙ ap (λ b. b && is_eq (nat_cmp p.len q.len)) (unsigned_tied p.bits q.bits)
     ∙ ap (λ b. nat_eq p.bits q.bits && b) (unsigned_tied p.len q.len)
 
-and_true : (b : Bool) → (b && true) ≡ b
-and_true true = refl
-and_true false = refl
-
-and_false : (b : Bool) → (b && false) ≡ false
-and_false true = refl
-and_false false = refl
-
-pub eqb_self : (n : ℕ) → nat_eq n n ≡ true
-eqb_self n = eq-eqb n n refl
-
-pub not_true : (b : Bool) → (b ≡ true → ⊥) → b ≡ false
-not_true true h = absurd (h refl)
-not_true false h = refl
-
-pub eqb_apart : (m n : ℕ) → m ≢ n → nat_eq m n ≡ false
-eqb_apart m n h = not_true (nat_eq m n) (λ e. h (eqb-true m n e))
-
 pub same_len : (b c l : ℕ) → eq_by_cmp network_cmp (at_network b l) (at_network c l) ≡ is_at (nat_cmp b) c
-same_len b c l = network_test (at_network b l) (at_network c l) ∙ ap (λ t. nat_eq b c && t) (eqb_self l) ∙ and_true (nat_eq b c) ∙ sym (unsigned_tied b c)
+same_len b c l = network_test (at_network b l) (at_network c l) ∙ ap (λ t. nat_eq b c && t) (eq-eqb l l refl) ∙ and-true (nat_eq b c) ∙ sym (unsigned_tied b c)
 
 pub other_len : (p : Network) (c l : ℕ) → p.len ≢ l → eq_by_cmp network_cmp p (at_network c l) ≡ false
-other_len p c l n = network_test p (at_network c l) ∙ ap (λ t. nat_eq p.bits c && t) (eqb_apart p.len l n) ∙ and_false (nat_eq p.bits c)
+other_len p c l n = network_test p (at_network c l) ∙ ap (λ t. nat_eq p.bits c && t) (ne_eqb p.len l n) ∙ and-false (nat_eq p.bits c)
 
 abbrev or_else : Option ℕ → Option ℕ → Option ℕ
 or_else None y = y
@@ -87,19 +70,13 @@ find_other_length p l [] n = refl
 find_other_length p l (e ∷ es) n =
     ap (λ t. cond t (Some e.1) (find network_cmp p (of_length l es))) (other_len p e.0 l n) ∙ find_other_length p l es n
 
-find_above : (p : Network) (l : ℕ) (ms : List (BTreeMap ℕ ℕ)) → p.len < l → find network_cmp p (entries_from l ms) ≡ None
-find_above p l [] h = refl
-find_above p l (m ∷ ms) h =
+-- a prefix whose length none of the maps has
+find_none : (p : Network) (l : ℕ) (ms : List (BTreeMap ℕ ℕ)) → ((k : ℕ) → k < length ms → p.len ≢ l + k) → find network_cmp p (entries_from l ms) ≡ None
+find_none p l [] h = refl
+find_none p l (m ∷ ms) h =
     find_append p (of_length l m.entries) (entries_from (l + 1) ms)
-    ∙ ap (λ x. or_else x (find network_cmp p (entries_from (l + 1) ms))) (find_other_length p l m.entries (λ e. absurd (omega (arith, e, h))))
-    ∙ find_above p (l + 1) ms (omega arith)
-
-find_past : (p : Network) (l : ℕ) (ms : List (BTreeMap ℕ ℕ)) → l + length ms ≤ p.len → find network_cmp p (entries_from l ms) ≡ None
-find_past p l [] h = refl
-find_past p l (m ∷ ms) h =
-    find_append p (of_length l m.entries) (entries_from (l + 1) ms)
-    ∙ ap (λ x. or_else x (find network_cmp p (entries_from (l + 1) ms))) (find_other_length p l m.entries (λ e. absurd (omega (arith, e, h))))
-    ∙ find_past p (l + 1) ms (omega (arith, h))
+    ∙ ap (λ x. or_else x (find network_cmp p (entries_from (l + 1) ms))) (find_other_length p l m.entries (λ e. h 0 (omega arith) (omega (arith, e))))
+    ∙ find_none p (l + 1) ms (λ k low e. h (suc k) (omega (arith, low)) (omega (arith, e)))
 
 or_none : (x : Option ℕ) → or_else x None ≡ x
 or_none None = refl
@@ -112,7 +89,7 @@ find_rules b l zero n (m ∷ ms) d e h =
     let z : n ≡ l = omega (arith, e) in
     subst (λ x. find network_cmp (at_network b x) (entries_from l (m ∷ ms)) ≡ tree.get nat_cmp m b) (sym z)
     (find_append (at_network b l) (of_length l m.entries) (entries_from (l + 1) ms)
-    ∙ ap (or_else (find network_cmp (at_network b l) (of_length l m.entries))) (find_above (at_network b l) (l + 1) ms (omega arith))
+    ∙ ap (or_else (find network_cmp (at_network b l) (of_length l m.entries))) (find_none (at_network b l) (l + 1) ms (λ i low e. absurd (omega (arith, e))))
     ∙ or_none _
     ∙ find_of_length b l m.entries)
 find_rules b l (suc k) n (m ∷ ms) d e h =
@@ -125,7 +102,7 @@ pub get_rules : (ms : List (BTreeMap ℕ ℕ)) (p : Network) (d : BTreeMap ℕ �
 get_rules ms p d h = get-from_entries networks_total (entries_from 0 ms) p ∙ find_rules p.bits 0 p.len p.len ms d (omega arith) h
 
 pub get_past : (ms : List (BTreeMap ℕ ℕ)) (p : Network) → length ms ≤ p.len → get (rules_of_lengths ms) p ≡ None
-get_past ms p h = get-from_entries networks_total (entries_from 0 ms) p ∙ find_past p 0 ms (omega (arith, h))
+get_past ms p h = get-from_entries networks_total (entries_from 0 ms) p ∙ find_none p 0 ms (λ k low e. absurd (omega (arith, h, low, e)))
 
 -- one map has `w` at one key, and else what it had, and so has the rule list N
 written : (ms : List (BTreeMap ℕ ℕ)) (p : Network) (w : Option ℕ) (m d : BTreeMap ℕ ℕ) (N : RuleMap) → p.len < length ms
@@ -206,28 +183,22 @@ not_some e s =
     let y : false ≡ true = z in
     cc
 
--- a rule list with a rule put in has that rule, and else what it had
-insert_by : (R : RuleMap) (p : Network) (h : ℕ) (q : Network) (o : Ordering) → network_cmp q p ≡ o → cond (is_eq o) (Some h) (get R q) ≡ get (insert R p h) q
-    → ((q ≡ p) × (get (insert R p h) q ≡ Some h)) ⊎ (get (insert R p h) q ≡ get R q)
-insert_by R p h q Less e g = inr (sym g)
-insert_by R p h q Equal e g = inl (exact_networks q p e, sym g)
-insert_by R p h q Greater e g = inr (sym g)
+-- a rule list N that has w at p, and else what R has
+changed_by : (R N : RuleMap) (p q : Network) (w : Option ℕ) (o : Ordering) → network_cmp q p ≡ o → cond (is_eq o) w (get R q) ≡ get N q → ((q ≡ p) × (get N q ≡ w)) ⊎ (get N q ≡ get R q)
+changed_by R N p q w Less e g = inr (sym g)
+changed_by R N p q w Equal e g = inl (exact_networks q p e, sym g)
+changed_by R N p q w Greater e g = inr (sym g)
 
+-- a rule list with a rule put in has that rule, and else what it had
 pub insert_cases : (R : RuleMap) (p : Network) (h : ℕ) (q : Network) → ((q ≡ p) × (get (insert R p h) q ≡ Some h)) ⊎ (get (insert R p h) q ≡ get R q)
-insert_cases R p h q = insert_by R p h q (network_cmp q p) refl (sym (get-insert networks_total R p h q))
+insert_cases R p h q = changed_by R (insert R p h) p q (Some h) (network_cmp q p) refl (sym (get-insert networks_total R p h q))
 
 pub insert_here : (R : RuleMap) (p : Network) (h : ℕ) → get (insert R p h) p ≡ Some h
 insert_here R p h = get-insert networks_total R p h p ∙ ap (λ o. cond (is_eq o) (Some h) (get R p)) (tied_itself networks_total p)
 
 -- a rule list with a rule taken out has no rule there, and else what it had
-remove_by : (R : RuleMap) (p q : Network) (o : Ordering) → network_cmp q p ≡ o → cond (is_eq o) None (get R q) ≡ get (remove R p) q
-    → ((q ≡ p) × (get (remove R p) q ≡ None)) ⊎ (get (remove R p) q ≡ get R q)
-remove_by R p q Less e g = inr (sym g)
-remove_by R p q Equal e g = inl (exact_networks q p e, sym g)
-remove_by R p q Greater e g = inr (sym g)
-
 pub remove_cases : (R : RuleMap) (p q : Network) → ((q ≡ p) × (get (remove R p) q ≡ None)) ⊎ (get (remove R p) q ≡ get R q)
-remove_cases R p q = remove_by R p q (network_cmp q p) refl (sym (get-remove networks_total R p q))
+remove_cases R p q = changed_by R (remove R p) p q None (network_cmp q p) refl (sym (get-remove networks_total R p q))
 
 pub remove_here : (R : RuleMap) (p : Network) → get (remove R p) p ≡ None
 remove_here R p = get-remove networks_total R p p ∙ ap (λ o. cond (is_eq o) None (get R p)) (tied_itself networks_total p)
