@@ -369,36 +369,50 @@ in_insert s k i = set.contains-insert nat_cmp_total s k i ∙ ap (λ t. t || set
 in_remove : (s : FinSet nat_cmp) (k i : ℕ) → set.contains (set.remove s k) i ≡ (not (nat_eq i k) && set.contains s i)
 in_remove s k i = set.contains-remove nat_cmp_total s k i ∙ ap (λ t. not t && set.contains s i) (unsigned_tied i k)
 
+module _ (first second : ℕ) (R Q : RuleMap) where
+  -- the same blocks are deep
+  same_deep : ((i : ℕ) → IsDeepBlock first second Q i → IsDeepBlock first second R i) → ((i : ℕ) → IsDeepBlock first second R i → IsDeepBlock first second Q i) → deep_blocks first second Q ≡ deep_blocks first second R
+  same_deep to from = same_blocks _ _
+      (λ i e. (has_deep_blocks first second R i).1 (to i ((has_deep_blocks first second Q i).0 e)))
+      (λ i e. (has_deep_blocks first second Q i).1 (from i ((has_deep_blocks first second R i).0 e)))
+
+  -- one block more is deep
+  pub one_more_deep : (b : ℕ) → IsDeepBlock first second Q b → ((i : ℕ) → IsDeepBlock first second R i → IsDeepBlock first second Q i) → ((i : ℕ) → IsDeepBlock first second Q i → IsDeepBlock first second R i ⊎ (b ≡ i))
+      → deep_blocks first second Q ≡ set.insert (deep_blocks first second R) b
+  one_more_deep b here kept cases = same_blocks _ _
+      (λ i e. in_insert (deep_blocks first second R) b i ∙ elim (cases i ((has_deep_blocks first second Q i).0 e)) [
+        | inl old ↦ or_right (nat_eq i b) _ ((has_deep_blocks first second R i).1 old)
+        | inr same ↦ or_left _ (set.contains (deep_blocks first second R) i) (eq-eqb i b (sym same))
+      ])
+      (λ i e. (has_deep_blocks first second Q i).1 (elim (or_cases (nat_eq i b) (set.contains (deep_blocks first second R) i) (sym (in_insert (deep_blocks first second R) b i) ∙ e)) [
+        | inl same ↦ subst (IsDeepBlock first second Q) (sym (eqb-true i b same)) here
+        | inr old ↦ kept i ((has_deep_blocks first second R i).0 old)
+      ]))
+
 module _ (first second : ℕ) (R : RuleMap) (p : Network) where
   -- a rule longer than first brings its block
   pub deep_blocks_insert : (h : ℕ) → first < p.len → deep_blocks first second (rules.insert R p h) ≡ set.insert (deep_blocks first second R) (block_of second p)
-  deep_blocks_insert h deep = same_blocks _ _
-      (λ i e. in_insert (deep_blocks first second R) (block_of second p) i ∙ elim (deep_insert_cases first second R p h i ((has_deep_blocks first second (rules.insert R p h) i).0 e)) [
-        | inl old ↦ or_right (nat_eq i (block_of second p)) _ ((has_deep_blocks first second R i).1 old)
-        | inr here ↦ or_left _ (set.contains (deep_blocks first second R) i) (eq-eqb i (block_of second p) (sym here.1))
+  deep_blocks_insert h deep =
+      one_more_deep first second R (rules.insert R p h) (block_of second p) (deep_inserted first second R p h deep) (deep_kept first second R p h) (λ i d. elim (deep_insert_cases first second R p h i d) [
+        | inl old ↦ inl old
+        | inr here ↦ inr here.1
       ])
-      (λ i e. (has_deep_blocks first second (rules.insert R p h) i).1 (elim (or_cases (nat_eq i (block_of second p)) (set.contains (deep_blocks first second R) i) (sym (in_insert (deep_blocks first second R) (block_of second p) i) ∙ e)) [
-        | inl here ↦ subst (IsDeepBlock first second (rules.insert R p h)) (sym (eqb-true i (block_of second p) here)) (deep_inserted first second R p h deep)
-        | inr old ↦ deep_kept first second R p h i ((has_deep_blocks first second R i).0 old)
-      ]))
 
   -- a rule of at most first bits brings none
   pub deep_blocks_insert_short : (h : ℕ) → p.len ≤ first → deep_blocks first second (rules.insert R p h) ≡ deep_blocks first second R
-  deep_blocks_insert_short h short = same_blocks _ _
-      (λ i e. (has_deep_blocks first second R i).1 (elim (deep_insert_cases first second R p h i ((has_deep_blocks first second (rules.insert R p h) i).0 e)) [
+  deep_blocks_insert_short h short =
+      same_deep first second R (rules.insert R p h) (λ i d. elim (deep_insert_cases first second R p h i d) [
         | inl old ↦ old
         | inr here ↦ let deep = here.0 in absurd (omega (arith, deep, short))
-      ]))
-      (λ i e. (has_deep_blocks first second (rules.insert R p h) i).1 (deep_kept first second R p h i ((has_deep_blocks first second R i).0 e)))
+      ]) (deep_kept first second R p h)
 
   -- where the rule is deep, another one of its block stays
   no_block_gone : (first < p.len → IsDeepBlock first second (rules.remove R p) (block_of second p)) → deep_blocks first second (rules.remove R p) ≡ deep_blocks first second R
-  no_block_gone stays = same_blocks _ _
-      (λ i e. (has_deep_blocks first second R i).1 (deep_remains first second R p i ((has_deep_blocks first second (rules.remove R p) i).0 e)))
-      (λ i e. (has_deep_blocks first second (rules.remove R p) i).1 (elim (deep_remove_cases first second R p i ((has_deep_blocks first second R i).0 e)) [
+  no_block_gone stays =
+      same_deep first second R (rules.remove R p) (deep_remains first second R p) (λ i d. elim (deep_remove_cases first second R p i d) [
         | inl old ↦ old
         | inr here ↦ subst (IsDeepBlock first second (rules.remove R p)) here.1 (stays here.0)
-      ]))
+      ])
 
   pub deep_blocks_remove : IsDeepBlock first second (rules.remove R p) (block_of second p) → deep_blocks first second (rules.remove R p) ≡ deep_blocks first second R
   deep_blocks_remove stays = no_block_gone (λ _. stays)

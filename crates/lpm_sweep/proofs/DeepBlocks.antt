@@ -1,24 +1,16 @@
 -- How many blocks have a rule longer than FIRST bits, after more rules.
-use Rattle.std.proofs.Common.{arith, ◌≡◌, ◌≢◌, ℕ, zero, suc, ◌+◌, ◌<◌, ◌≤◌, inl, inr, Bool, true, false, cond, refl, ap, sym, ◌∙◌, subst, List, [], ◌∷◌, take, drop, nat_eq}
-use Rattle.std.specs.Prelude.{◌||◌}
+use Rattle.std.proofs.Common.{arith, ◌≡◌, ◌≢◌, ℕ, zero, suc, ◌+◌, ◌<◌, ◌≤◌, inl, inr, true, cond, refl, ap, sym, ◌∙◌, subst, List, [], ◌∷◌, take, drop}
 use Rattle.std.specs.Ordering.{nat_cmp}
-use Rattle.std.specs.Cmp.{nat_cmp_total, unsigned_tied}
+use Rattle.std.specs.Cmp.{nat_cmp_total}
 use Rattle.std.specs.FinMap.{insert, empty}
 use Rattle.std.specs.FinSet as set
-use Rattle.std.specs.FinSet.{FinSet, nat_cmp-IsAntisymmetric}
-use Rattle.std.proofs.lemmas.Bool.{cases_lt, cases_eq, cases_Bool, or_cases, or_left, or_right, eq-eqb, eqb-true, false_from_ne_true}
+use Rattle.std.specs.FinSet.{FinSet}
+use Rattle.std.proofs.lemmas.Bool.{cases_lt, cases_eq, cases_Bool, false_from_ne_true}
 use Rattle.lpm_bits.specs.Network.{Network}
 use Rattle.lpm_rules.specs.RuleMap.{RuleMap, with_rules, rules_of}
 use Rattle.lpm_rules.specs.Deep.{block_of, IsDeepBlock, deep_blocks}
 use Rattle.lpm_rules.specs.declared.Rule.{Rule}
-use Rattle.lpm_rules.proofs.Deep.{has_deep_blocks, deep_blocks_insert, deep_blocks_insert_short}
-
-same_bool : (a b : Bool) → (a ≡ true → b ≡ true) → (b ≡ true → a ≡ true) → a ≡ b
-same_bool true b to from = sym (to refl)
-same_bool false b to from = sym (false_from_ne_true b (λ e. let z = from e in cc))
-
-in_insert : (s : FinSet nat_cmp) (k i : ℕ) → set.contains (set.insert s k) i ≡ (nat_eq i k || set.contains s i)
-in_insert s k i = set.contains-insert nat_cmp_total s k i ∙ ap (λ t. t || set.contains s i) (unsigned_tied i k)
+use Rattle.lpm_rules.proofs.Deep.{has_deep_blocks, one_more_deep, deep_blocks_insert, deep_blocks_insert_short}
 
 -- a set with a number more
 size_insert : (s : FinSet nat_cmp) (k : ℕ) → (set.contains s k ≡ true → ⊥) → set.len (set.insert s k) ≡ set.len s + 1
@@ -40,17 +32,10 @@ count f s R = set.len (deep_blocks f s R)
 pub one_block_more : (f s b : ℕ) (R Q : RuleMap) → (IsDeepBlock f s R b → ⊥) → IsDeepBlock f s Q b → ((i : ℕ) → IsDeepBlock f s R i → IsDeepBlock f s Q i) → ((i : ℕ) → i ≢ b → IsDeepBlock f s Q i → IsDeepBlock f s R i)
     → set.len (deep_blocks f s Q) ≡ set.len (deep_blocks f s R) + 1
 one_block_more f s b R Q absent here kept no_other =
-    let old = deep_blocks f s R in
-    let same : deep_blocks f s Q ≡ set.insert old b = set.same_set nat_cmp_total nat_cmp-IsAntisymmetric (deep_blocks f s Q) (set.insert old b) (λ i. same_bool _ _
-    (λ e. in_insert old b i ∙ elim (cases_eq i b) [
-      | inl this ↦ or_left _ (set.contains old i) (eq-eqb i b this)
-      | inr other ↦ or_right (nat_eq i b) _ ((has_deep_blocks f s R i).1 (no_other i other ((has_deep_blocks f s Q i).0 e)))
-    ])
-    (λ e. (has_deep_blocks f s Q i).1 (elim (or_cases (nat_eq i b) (set.contains old i) (sym (in_insert old b i) ∙ e)) [
-      | inl this ↦ subst (IsDeepBlock f s Q) (sym (eqb-true i b this)) here
-      | inr before ↦ kept i ((has_deep_blocks f s R i).0 before)
-    ]))) in
-    ap set.len same ∙ size_insert old b (λ e. absent ((has_deep_blocks f s R b).0 e))
+    ap set.len (one_more_deep f s R Q b here kept (λ i d. elim (cases_eq i b) [
+      | inl this ↦ inr (sym this)
+      | inr other ↦ inl (no_other i other d)
+    ])) ∙ size_insert (deep_blocks f s R) b (λ e. absent ((has_deep_blocks f s R b).0 e))
 
 -- a rule more never lowers the number
 insert_more : (f s : ℕ) (R : RuleMap) (p : Network) (h : ℕ) → count f s R ≤ count f s (insert R p h)

@@ -3,7 +3,7 @@ use Rattle.std.proofs.Common.{arith, ◌≡◌, ℕ, ◌+◌, ◌-◌, ◌^◌, 
 use Rattle.std.specs.Prelude.{slice_get, option_map, replicate, slice_index, IsSome, max}
 use Rattle.std.proofs.lemmas.Bool.{cases_lt}
 use Rattle.std.proofs.lemmas.List.{get_or_append_left, get_or-append_right, get_or-replicate, length-replicate, length-append, length-map}
-use Rattle.std.proofs.lemmas.Option.{slice_get-map, slice_get-get_or, slice_get_within}
+use Rattle.std.proofs.lemmas.Option.{same_Some, slice_get-map, slice_get-get_or, slice_get_within}
 use Rattle.lpm_groups.specs.declared.GroupState.{GroupState}
 use Rattle.lpm_groups.specs.declared.GroupState.TheVariants.{Free, Linked}
 use Rattle.lpm_update.specs.Linked.{group_at, IsLinkTo}
@@ -114,8 +114,7 @@ room_grown f s more R F S represents =
 -- A new group behind the others, and the link to it.
 
 pub last_length : (F : List ℕ) (x : ℕ) → length (F ++ x ∷ []) ≡ length F + 1
-last_length [] x = refl
-last_length (y ∷ F) x = let z = last_length F x in omega (arith, z)
+last_length F x = length-append F (x ∷ [])
 
 -- one word is put last
 pub put_last : (F G : List ℕ) (x n : ℕ) → length F ≡ n → length G ≡ max (length F) (n + 1) → Fills F G (λ _. x) → G ≡ F ++ x ∷ []
@@ -263,9 +262,6 @@ module _ (f s n b : ℕ) (R R' : RuleMap) (F S T : List ℕ) (v u : ℕ → ℕ)
     shallow = λ i h d. swept.shallow i (omega (arith, h, length_linked, at)) (filling.no_other i (λ e. absurd (omega (arith, e, h, length_linked))) d);
   }
 
-some_same : (g h : ℕ) → Some g ≡ Some h → g ≡ h
-some_same g h e = cc
-
 -- a block more has a group, of the next number
 pub numbered_group : (f b n link : ℕ) (F blocks : List ℕ) → length F ≡ b → length blocks ≡ n → entry_in link ≡ Group n → AreNumbered F blocks → AreNumbered (F ++ link ∷ []) (blocks ++ b ∷ [])
 numbered_group f b n link F blocks at count is numbered =
@@ -289,7 +285,7 @@ numbered_group f b n link F blocks at count is numbered =
             kept g (omega (arith, small, count)) ∙ old
         | inr high ↦
             let this : b ≡ c = omega (arith, high, h, long) in
-            let number : n ≡ g = some_same n g (sym group ∙ (ap (group_at (F ++ link ∷ [])) this ∙ e)) in
+            let number : n ≡ g = same_Some n g (sym group ∙ (ap (group_at (F ++ link ∷ [])) this ∙ e)) in
             ap (slice_get (blocks ++ b ∷ [])) (sym number) ∙ (last ∙ ap Some this)
       ];
       only = λ c g e.
@@ -301,7 +297,7 @@ numbered_group f b n link F blocks at count is numbered =
                 (omega (arith, below, long, at), same c (omega (arith, below, at)) ∙ old.1)
             | inr high ↦
                 let number : n ≡ g = omega (arith, high, within, size) in
-                let this : b ≡ c = some_same b c (sym last ∙ (ap (slice_get (blocks ++ b ∷ [])) number ∙ e)) in
+                let this : b ≡ c = same_Some b c (sym last ∙ (ap (slice_get (blocks ++ b ∷ [])) number ∙ e)) in
                 (omega (arith, this, long), ap (group_at (F ++ link ∷ [])) (sym this) ∙ (group ∙ ap Some number))
           ];
     }

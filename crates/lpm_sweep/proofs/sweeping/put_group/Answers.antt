@@ -26,13 +26,13 @@ swept g c =
     let s = g.row.SECOND in
     let n = length c.args.blocks.now.items in
     let R = rules_of (take c.args.from c.args.rules.now) in
-    let low : c.first_index-block.result < 2 ^ f = c.first_index-block.ensures.bound in
-    let long : length (items c.advance.new.words) ≡ c.first_index-block.result = c.in_ok-advance.ensures.len in
-    let few : length (items c.advance.new.words) ≤ 2 ^ f = omega (arith, long, low) in
-    let frames : (k : ℕ) → length (items c.advance.new.words) ≤ k → word_by_frames c.advance.new.self k ≡ word_by_frames c.args.outer.now k = λ k l. c.in_ok-advance.ensures.frames k (omega (arith, l, long)) in (
-      long,
-      swept_on f s n R (items c.args.firsts.now) (items c.advance.new.words) (items c.args.seconds.now) (word_by_frames c.args.outer.now) (word_by_frames c.advance.new.self) few c.in_ok-advance.ensures.fills frames c.requires.swept,
-      numbered_on f s n R (items c.args.firsts.now) (items c.advance.new.words) (items c.args.seconds.now) (word_by_frames c.args.outer.now) (word_by_frames c.advance.new.self) few c.in_ok-advance.ensures.fills frames c.requires.swept,
+    let old = word_by_frames c.args.outer.now in
+    let new = word_by_frames c.advance.new.self in
+    let low : c.first_index-block.result ≤ 2 ^ f = omega (arith, c.first_index-block.ensures.bound) in
+    let done = c.in_ok-advance.ensures in (
+      done.len,
+      swept_on f s n R (items c.args.firsts.now) (items c.advance.new.words) (items c.args.seconds.now) old new c.first_index-block.result low done.len done.fills done.frames c.requires.swept,
+      numbered_on f s n R (items c.args.firsts.now) (items c.advance.new.words) (items c.args.seconds.now) old new c.first_index-block.result low done.len done.fills done.frames c.requires.swept,
     )
 
 -- the link is put behind them

@@ -131,15 +131,12 @@ returns-clause-represents g c =
     let inv = c.loop-next.invariant in
     let fits = c.requires.shape in
     let size : 1 * 2 ^ f % 18446744073709551616 ≡ 2 ^ f = one_shl f 64 (omega (arith, fits)) in
-    let long : length (items c.advance.new.words) ≡ 2 ^ f = c.in_ok-advance.ensures.len ∙ size in
     let all : take n rs ≡ rs = take_all n rs c.loop-next-test.false in
+    let done = c.in_ok-advance.ensures in
     subst (λ (l : List (Rule f s)). Represents f s (rules_of l) (record { firsts = items c.advance.new.words; seconds = items c.loop-next.seconds })) all
-    (swept_all f s (length c.loop-next.blocks.items) (rules_of (take n rs)) (items c.advance.new.words) (items c.loop-next.seconds) (word_by_frames c.advance.new.self) long
+    (swept_all f s (length c.loop-next.blocks.items) (rules_of (take n rs)) (items c.advance.new.words) (items c.loop-next.seconds) (word_by_frames c.advance.new.self) (done.len ∙ size)
     (swept_on f s (length c.loop-next.blocks.items) (rules_of (take n rs)) (items c.loop-next.firsts) (items c.advance.new.words) (items c.loop-next.seconds) (word_by_frames c.loop-next.outer) (word_by_frames c.advance.new.self)
-    (omega (arith, long))
-    c.in_ok-advance.ensures.fills
-    (λ k l. c.in_ok-advance.ensures.frames k (omega (arith, l, c.in_ok-advance.ensures.len)))
-    inv.swept))
+    (1 * 2 ^ f % 18446744073709551616) (omega (arith, size)) done.len done.fills done.frames inv.swept))
 
 pub returns-clause-numbered : goal.returns-clause-numbered
 returns-clause-numbered g c =
@@ -151,12 +148,9 @@ returns-clause-numbered g c =
     let inv = c.loop-next.invariant in
     let fits = c.requires.shape in
     let size : 1 * 2 ^ f % 18446744073709551616 ≡ 2 ^ f = one_shl f 64 (omega (arith, fits)) in
-    let long : length (items c.advance.new.words) ≡ 2 ^ f = c.in_ok-advance.ensures.len ∙ size in
+    let done = c.in_ok-advance.ensures in
     numbered_on f s n (rules_of (take c.loop-next.next rs)) (items c.loop-next.firsts) (items c.advance.new.words) (items c.loop-next.seconds) (word_by_frames c.loop-next.outer) (word_by_frames c.advance.new.self)
-    (omega (arith, long))
-    c.in_ok-advance.ensures.fills
-    (λ k l. c.in_ok-advance.ensures.frames k (omega (arith, l, c.in_ok-advance.ensures.len)))
-    inv.swept c.loop-next.blocks.items inv.numbered
+    (1 * 2 ^ f % 18446744073709551616) (omega (arith, size)) done.len done.fills done.frames inv.swept c.loop-next.blocks.items inv.numbered
 
 pub returns-clause-count : goal.returns-clause-count
 returns-clause-count g c =
