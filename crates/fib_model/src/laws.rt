@@ -4,11 +4,13 @@ ghost use Rattle.fib_model.specs.Laws.{CountersTellIntervals, OutcomesAreUnique,
 
 /// The rules are the last version that the commands made, and as many updates were begun as there
 /// are versions.
+#[tactic(auto, using(crate::proofs::Versions::rules_are_last_version))]
 pub fn rules_are_last_version()
     ensures { RulesAreLastVersion }
 {}
 
 /// The same where reports are kept by a token and counters.
+#[tactic(auto, using(crate::proofs::Versions::rules_are_last_version_by_counters))]
 pub fn rules_are_last_version_by_counters()
     ensures { RulesAreLastVersionByCounters }
 {}
@@ -20,6 +22,7 @@ pub fn unheld_by_none()
 
 /// Where memory isn't refused, the same commands come out in one way: the definitions leave nothing
 /// open.
+#[tactic(auto, using(crate::proofs::Same::outcomes_are_unique))]
 pub fn outcomes_are_unique()
     ensures { OutcomesAreUnique }
 {}
