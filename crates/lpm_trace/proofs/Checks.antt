@@ -1,7 +1,7 @@
 -- The writer's steps by themselves.
 use Rattle.std.proofs.Common.{◌≡◌, ℕ, List, [], ◌∷◌, refl, sym, ap, subst, ◌∙◌, suc, ◌<◌, ◌≤◌, ◌⊎◌, inl, inr, Bool, true, false, cond, ◌&&◌, eqb, max, arith, ◌+◌, length, slice_index, slice_set}
 use Rattle.lpm_trace.specs.declared.step.WriterStep.{WriterStep}
-use Rattle.lpm_trace.specs.declared.step.WriterStep.TheVariants.{StoreFirst, StoreSecond, BeginUpdate, EndUpdate, BumpToken, LoadCounter}
+use Rattle.lpm_trace.specs.declared.step.WriterStep.TheVariants.{StoreFirst, StoreSecond, LoadCounter}
 use Rattle.lpm_trace.specs.declared.step.TraceStep.{TraceStep}
 use Rattle.lpm_trace.specs.declared.step.TraceStep.TheVariants.{Writer, Worker as ByWorker}
 use Rattle.lpm_trace.specs.States.{InitialState, TableState, state_after, MayWrite, lets_pass, state_by_step}
@@ -27,21 +27,13 @@ course_of c (ByWorker k s ∷ steps) = course_of c steps
 
 -- a load alone looks at a counter
 by_found : (c : InitialState) (counters : ℕ → ℕ) (w : TableState) (s : WriterStep) → MayWrite c counters w s → MayWrite c (counter_found s) w s
-by_found c counters w (StoreFirst i x) may = may
-by_found c counters w (StoreSecond j x) may = may
-by_found c counters w (BeginUpdate change) may = may
-by_found c counters w EndUpdate may = may
-by_found c counters w BumpToken may = may
 by_found c counters w (LoadCounter token worker counter) may = (refl, may.1, may.2, may.3)
+by_found c counters w s may = may
 
 by_counters : (c : InitialState) (steps : List TraceStep) (w : TableState) (s : WriterStep) → Finds c steps s → MayWrite c (counter_found s) w s
     → MayWrite c (λ k. ((after c steps).workers k).counter) w s
-by_counters c steps w (StoreFirst i x) finds may = may
-by_counters c steps w (StoreSecond j x) finds may = may
-by_counters c steps w (BeginUpdate change) finds may = may
-by_counters c steps w EndUpdate finds may = may
-by_counters c steps w BumpToken finds may = may
 by_counters c steps w (LoadCounter token worker counter) finds may = (finds, may.1, may.2, may.3)
+by_counters c steps w s finds may = may
 
 pub writer_is_alone : WriterIsAlone
 writer_is_alone c [] trace = tt
@@ -137,14 +129,10 @@ counter_asked c ws token k0 counter asked le next true passes =
     )
 
 asked_more : (c : InitialState) (counters : ℕ → ℕ) (ws : List WriterStep) (s : WriterStep) → Asked c ws → MayWrite c counters (state_after c ws) s → Asked c (s ∷ ws)
-asked_more c counters ws (StoreFirst i x) asked may = asked_quiet c (StoreFirst i x) ws asked refl refl
-asked_more c counters ws (StoreSecond j x) asked may = asked_quiet c (StoreSecond j x) ws asked refl refl
-asked_more c counters ws (BeginUpdate change) asked may = asked_quiet c (BeginUpdate change) ws asked refl refl
-asked_more c counters ws EndUpdate asked may = asked_quiet c EndUpdate ws asked refl refl
-asked_more c counters ws BumpToken asked may = asked_quiet c BumpToken ws asked refl refl
 asked_more c counters ws (LoadCounter token k0 counter) asked may =
     let both = counter_asked c ws token k0 counter asked may.2 may.3 (lets_pass token counter) refl in
     record { scanned = both.0; passed = both.1 }
+asked_more c counters ws s asked may = asked_quiet c s ws asked refl refl
 
 asked_trace : (c : InitialState) (steps : List TraceStep) → IsTrace c steps → Asked c (writes steps)
 asked_trace c [] trace = record { scanned = λ k lt. absurd (omega (arith, lt)); passed = inl refl }
@@ -184,10 +172,7 @@ entries_kept c counters w (StoreSecond j x) was may =
       first_words = λ i lt. let here = was.first_words i lt in (here.0, first_room c.second w.words.seconds seconds len (entry_in (slice_index w.words.firsts i)) here.1);
       second_words = λ k lt. set_case (IsLastWord (c.first + c.second)) w.words.seconds j x k may.1 (λ _. may.2) (λ _. was.second_words k (omega (arith, lt, len)));
     }
-entries_kept c counters w (BeginUpdate change) was may = was
-entries_kept c counters w EndUpdate was may = was
-entries_kept c counters w BumpToken was may = was
-entries_kept c counters w (LoadCounter token worker counter) was may = was
+entries_kept c counters w s was may = was
 
 pub words_are_entries : WordsAreEntries
 words_are_entries c [] settled trace = settled.words

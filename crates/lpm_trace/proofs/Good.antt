@@ -25,11 +25,8 @@ LoadedAs token counter (ReportingQuiescent loaded) = (0 < counter) × (0 < loade
 
 -- what the worker may yet store is below the token
 abbrev pub IsStaleAs : ℕ → Phase → Type 0
-IsStaleAs token Offline = ⊤
-IsStaleAs token (ComingOnline loaded) = ⊤
-IsStaleAs token Online = ⊤
-IsStaleAs token LookingUp = ⊤
 IsStaleAs token (ReportingQuiescent loaded) = loaded < token
+IsStaleAs token phase = ⊤
 
 -- the worker holds the group back: it waits under a token that no check has passed, nor passed this
 -- worker
@@ -39,18 +36,12 @@ HeldAs w k counter phase (Linked block) = ⊥
 HeldAs w k counter phase (Retired token) = (counter < token) × IsStaleAs token phase × (w.passed < token) × (token ≤ w.scan.token → w.scan.next ≤ k)
 
 abbrev pub IdleAs : List Probe → Phase → Type 0
-IdleAs ps Offline = ps ≡ []
-IdleAs ps (ComingOnline loaded) = ps ≡ []
-IdleAs ps Online = ps ≡ []
 IdleAs ps LookingUp = ⊤
-IdleAs ps (ReportingQuiescent loaded) = ps ≡ []
+IdleAs ps phase = ps ≡ []
 
 abbrev pub LowAs : ℕ → ℕ → Phase → Type 0
-LowAs lo updates_done_in Offline = ⊤
-LowAs lo updates_done_in (ComingOnline loaded) = ⊤
-LowAs lo updates_done_in Online = ⊤
 LowAs lo updates_done_in LookingUp = lo ≤ updates_done_in
-LowAs lo updates_done_in (ReportingQuiescent loaded) = ⊤
+LowAs lo updates_done_in phase = ⊤
 
 -- where the second word of an address stands in a group
 abbrev pub second_place : InitialState → ℕ → ℕ → ℕ
@@ -99,29 +90,23 @@ pub record Good (c : InitialState) (A : Told) (Hi : ℕ → ℕ → Type 0) (w :
 pub loaded_later : (token token' counter : ℕ) → token ≤ token' → (p : Phase) → LoadedAs token counter p → LoadedAs token' counter p
 loaded_later token token' counter le Offline h = tt
 loaded_later token token' counter le (ComingOnline loaded) h = (h.0, omega (arith, le, h.1))
-loaded_later token token' counter le Online h = h
-loaded_later token token' counter le LookingUp h = h
 loaded_later token token' counter le (ReportingQuiescent loaded) h = (h.0, h.1, omega (arith, le, h.2))
+loaded_later token token' counter le p h = h
 
 pub low_later : (lo n n' : ℕ) → n ≤ n' → (p : Phase) → LowAs lo n p → LowAs lo n' p
-low_later lo n n' le Offline h = tt
-low_later lo n n' le (ComingOnline loaded) h = tt
-low_later lo n n' le Online h = tt
 low_later lo n n' le LookingUp h = omega (arith, le, h)
-low_later lo n n' le (ReportingQuiescent loaded) h = tt
+low_later lo n n' le p h = tt
 
 pub running_counter : (token counter : ℕ) (p : Phase) → IsRunning p → LoadedAs token counter p → 0 < counter
 running_counter token counter Offline run h = absurd run
 running_counter token counter (ComingOnline loaded) run h = absurd run
-running_counter token counter Online run h = h
-running_counter token counter LookingUp run h = h
 running_counter token counter (ReportingQuiescent loaded) run h = h.0
+running_counter token counter p run h = h
 
 -- a group is held whatever the worker's phase, as long as what it may store is stale
 pub held_phase : (w : TableState) (k counter : ℕ) (p p' : Phase) → ((token : ℕ) → IsStaleAs token p → IsStaleAs token p') → (s : Status) → HeldAs w k counter p s → HeldAs w k counter p' s
-held_phase w k counter p p' f Unused h = h
-held_phase w k counter p p' f (Linked block) h = h
 held_phase w k counter p p' f (Retired token) h = (h.0, f token h.1, h.2, h.3)
+held_phase w k counter p p' f s h = h
 
 pub finished_later : (c : InitialState) (A : Told) (Hi : ℕ → ℕ → Type 0) (n n' : ℕ) → n ≤ n' → (xs : List Seen) → Each (FinishedOk c A Hi n) xs → Each (FinishedOk c A Hi n') xs
 finished_later c A Hi n n' le = each_map (FinishedOk c A Hi n) (FinishedOk c A Hi n') (λ s h. (h.0, omega (arith, le, h.1), h.2))

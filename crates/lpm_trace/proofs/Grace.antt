@@ -2,12 +2,12 @@
 -- store into it.
 use Rattle.std.proofs.Common.{◌≡◌, ℕ, suc, ◌/◌, ◌^◌, ◌≤◌, inl, inr, true, false, cond, eqb, eq-eqb, IsTrue, List, [], ◌∷◌, ◌++◌, length, refl, sym, ap, subst, ◌∙◌, append_assoc, length-append, arith}
 use Rattle.std.proofs.lemmas.Bool.Decides.{eqb_tells}
-use Rattle.qsbr.specs.Intervals.{Interval, IsReaderInterval, Holds, IsRunningSince, IsHeldByWorker}
+use Rattle.qsbr.specs.Intervals.{IsReaderInterval, IsRunningSince, IsHeldByWorker}
 use Rattle.qsbr.proofs.Running.{since_within, since_cases, held_start, grace_period_is_over}
 use Rattle.lpm_trace.specs.declared.step.WriterStep.{WriterStep}
-use Rattle.lpm_trace.specs.declared.step.WriterStep.TheVariants.{StoreFirst, StoreSecond, BeginUpdate, EndUpdate, BumpToken, LoadCounter}
+use Rattle.lpm_trace.specs.declared.step.WriterStep.TheVariants.{StoreFirst, StoreSecond}
 use Rattle.lpm_trace.specs.declared.step.WorkerStep.{WorkerStep}
-use Rattle.lpm_trace.specs.declared.step.WorkerStep.TheVariants.{LoadOnline, StoreOnline, LoadQuiescent, StoreQuiescent, StoreOffline, BeginLookup, LoadFirst, LoadSecond, EndLookup, MeetWriter}
+use Rattle.lpm_trace.specs.declared.step.WorkerStep.TheVariants.{LoadOnline, StoreOnline, LoadQuiescent, StoreOffline, LoadFirst, LoadSecond, MeetWriter}
 use Rattle.lpm_trace.specs.declared.step.TraceStep.{TraceStep}
 use Rattle.lpm_trace.specs.declared.step.TraceStep.TheVariants.{Writer, Worker as ByWorker}
 use Rattle.lpm_trace.specs.States.{InitialState, TableState, IsSettled, first_entry, with_stamp, oldest, state_after}
@@ -22,16 +22,9 @@ use Rattle.lpm_trace.proofs.Moments.{count, count_old, count_le}
 
 -- the step with which an interval begins
 begun_runs : (s : WorkerStep) (k worker now : ℕ) (r : Worker) → IsTrue (begins worker (ByWorker k s)) → IsRunning (worker_by_step now r s).phase × ((worker_by_step now r s).since ≡ now)
-begun_runs (LoadOnline token) k worker now r does = cc does
 begun_runs (StoreOnline token) k worker now r does = (tt, refl)
 begun_runs (LoadQuiescent token) k worker now r does = (tt, refl)
-begun_runs (StoreQuiescent token) k worker now r does = cc does
-begun_runs StoreOffline k worker now r does = cc does
-begun_runs (BeginLookup addrs sequence) k worker now r does = cc does
-begun_runs (LoadFirst word) k worker now r does = cc does
-begun_runs (LoadSecond word) k worker now r does = cc does
-begun_runs (EndLookup sequence) k worker now r does = cc does
-begun_runs (MeetWriter sequence) k worker now r does = cc does
+begun_runs s k worker now r does = cc does
 
 -- a step that ends none
 kept_runs : (c : InitialState) (w : TableState) (r : Worker) (s : WorkerStep) (k worker now : ℕ) → worker ≡ k → MayRead c w r s → ¬ IsTrue (ends worker (ByWorker k s)) → IsRunning r.phase
@@ -39,26 +32,16 @@ kept_runs : (c : InitialState) (w : TableState) (r : Worker) (s : WorkerStep) (k
 kept_runs c w r (LoadOnline token) k worker now same may lasts run = absurd (subst IsRunning may.0 run)
 kept_runs c w r (StoreOnline token) k worker now same may lasts run = absurd (subst IsRunning may run)
 kept_runs c w r (LoadQuiescent token) k worker now same may lasts run = absurd (lasts (eq-eqb worker k same))
-kept_runs c w r (StoreQuiescent token) k worker now same may lasts run = (tt, refl)
 kept_runs c w r StoreOffline k worker now same may lasts run = absurd (lasts (eq-eqb worker k same))
-kept_runs c w r (BeginLookup addrs sequence) k worker now same may lasts run = (tt, refl)
 kept_runs c w r (LoadFirst word) k worker now same may lasts run = (run, refl)
 kept_runs c w r (LoadSecond word) k worker now same may lasts run = (run, refl)
-kept_runs c w r (EndLookup sequence) k worker now same may lasts run = (tt, refl)
 kept_runs c w r (MeetWriter sequence) k worker now same may lasts run = (run, refl)
+kept_runs c w r s k worker now same may lasts run = (tt, refl)
 
 -- a step of another worker begins no interval of this one
 not_begun : (s : WorkerStep) (k worker : ℕ) → eqb worker k ≡ false → IsTrue (begins worker (ByWorker k s)) → ⊥
 not_begun (LoadOnline token) k worker other does = cc does
-not_begun (StoreOnline token) k worker other does = cc (other, does)
-not_begun (LoadQuiescent token) k worker other does = cc (other, does)
-not_begun (StoreQuiescent token) k worker other does = cc does
-not_begun StoreOffline k worker other does = cc does
-not_begun (BeginLookup addrs sequence) k worker other does = cc does
-not_begun (LoadFirst word) k worker other does = cc does
-not_begun (LoadSecond word) k worker other does = cc does
-not_begun (EndLookup sequence) k worker other does = cc does
-not_begun (MeetWriter sequence) k worker other does = cc does
+not_begun s k worker other does = cc (other, does)
 
 -- the worker's state knows the interval that runs, and how many steps the writer had made before it
 abbrev KnowsInterval : InitialState → List TraceStep → ℕ → Worker → ℕ → Type 0
@@ -110,29 +93,17 @@ running_since c (ByWorker j s ∷ steps) trace k start runs =
 unlinked_le : (c : InitialState) (ws : List WriterStep) (g : ℕ) → (state_after c ws).unlinked g ≤ (state_after c ws).clock
 unlinked_le c [] g = omega arith
 unlinked_le c (StoreFirst i x ∷ ws) g = stamped_le (first_entry (state_after c ws).words i) (suc (state_after c ws).clock) (state_after c ws).unlinked (λ h. let le = unlinked_le c ws h in omega (arith, le)) g
-unlinked_le c (StoreSecond j x ∷ ws) g = let le = unlinked_le c ws g in omega (arith, le)
-unlinked_le c (BeginUpdate change ∷ ws) g = let le = unlinked_le c ws g in omega (arith, le)
-unlinked_le c (EndUpdate ∷ ws) g = let le = unlinked_le c ws g in omega (arith, le)
-unlinked_le c (BumpToken ∷ ws) g = let le = unlinked_le c ws g in omega (arith, le)
-unlinked_le c (LoadCounter token worker counter ∷ ws) g = let le = unlinked_le c ws g in omega (arith, le)
+unlinked_le c (s ∷ ws) g = let le = unlinked_le c ws g in omega (arith, le)
 
 unlinked_grows : (c : InitialState) (ws : List WriterStep) (s : WriterStep) (g : ℕ) → (state_after c ws).unlinked g ≤ (state_after c (s ∷ ws)).unlinked g
 unlinked_grows c ws (StoreFirst i x) g = let le = unlinked_le c ws g in stamped_ge (first_entry (state_after c ws).words i) (suc (state_after c ws).clock) (state_after c ws).unlinked g (omega (arith, le))
-unlinked_grows c ws (StoreSecond j x) g = omega arith
-unlinked_grows c ws (BeginUpdate change) g = omega arith
-unlinked_grows c ws EndUpdate g = omega arith
-unlinked_grows c ws BumpToken g = omega arith
-unlinked_grows c ws (LoadCounter token worker counter) g = omega arith
+unlinked_grows c ws s g = omega arith
 
 unlinked_now : (c : InitialState) (older : List TraceStep) (s : WriterStep) (g : ℕ) → Unlinks c older s g → (state_after c (s ∷ writes older)).unlinked g ≡ suc (length (writes older))
 unlinked_now c older (StoreFirst i x) g unlinks =
     let w = state_after c (writes older) in
     subst (λ e. with_stamp e (suc w.clock) w.unlinked g ≡ suc (length (writes older))) (sym unlinks.0) (with_at-same w.unlinked g (suc w.clock) ∙ ap suc (clock_length c (writes older)))
-unlinked_now c older (StoreSecond j x) g unlinks = absurd unlinks
-unlinked_now c older (BeginUpdate change) g unlinks = absurd unlinks
-unlinked_now c older EndUpdate g unlinks = absurd unlinks
-unlinked_now c older BumpToken g unlinks = absurd unlinks
-unlinked_now c older (LoadCounter token worker counter) g unlinks = absurd unlinks
+unlinked_now c older s g unlinks = absurd unlinks
 
 unlinked_since : (c : InitialState) (between older : List TraceStep) (s : WriterStep) (g : ℕ) → Unlinks c older s g
     → suc (length (writes older)) ≤ (state_after c (writes (between ++ Writer s ∷ older))).unlinked g
@@ -168,10 +139,8 @@ not_held c settled between older unlinks j x g trace is same k held =
     let early : count base start.0 ≡ count older start.0 = ap (λ l. count l start.0) one ∙ ap (λ l. length (writes l)) (oldest_older (between ++ Writer unlinks ∷ []) older start.0 (omega (arith, start.2))) in
     omega (arith, since, late, knows.1, early, count_le older start.0)
 
-reuse : (c : InitialState) (newer between older : List TraceStep) (unlinks : WriterStep) (j x g : ℕ) → IsSettled c → IsTrace c (newer ++ Writer (StoreSecond j x) ∷ (between ++ Writer unlinks ∷ older))
-    → Unlinks c older unlinks g → j / 2 ^ c.second ≡ g → (i : Interval) → IsReaderInterval by_steps (newer ++ Writer (StoreSecond j x) ∷ (between ++ Writer unlinks ∷ older)) i
-    → Holds i (length older) → ¬ Holds i (length (between ++ Writer unlinks ∷ older))
-reuse c newer between older unlinks j x g settled trace is same i interval =
+pub reuse_is_lawful : ReuseIsLawful
+reuse_is_lawful c newer between older unlinks (StoreSecond j x) g settled trace is same i interval =
     let base : List TraceStep = between ++ Writer unlinks ∷ older in
     let fills : TraceStep = Writer (StoreSecond j x) in
     let len = length-append between (Writer unlinks ∷ older) in
@@ -181,11 +150,4 @@ reuse c newer between older unlinks j x g settled trace is same i interval =
     (not_held c settled between older unlinks j x g (older_trace c newer (fills ∷ base) trace) is same)
     (omega arith)
     (subst (λ l. IsReaderInterval by_steps l i) whole interval)
-
-pub reuse_is_lawful : ReuseIsLawful
-reuse_is_lawful c newer between older unlinks (StoreFirst i x) g settled trace is fills = absurd fills
-reuse_is_lawful c newer between older unlinks (StoreSecond j x) g settled trace is fills = reuse c newer between older unlinks j x g settled trace is fills
-reuse_is_lawful c newer between older unlinks (BeginUpdate change) g settled trace is fills = absurd fills
-reuse_is_lawful c newer between older unlinks EndUpdate g settled trace is fills = absurd fills
-reuse_is_lawful c newer between older unlinks BumpToken g settled trace is fills = absurd fills
-reuse_is_lawful c newer between older unlinks (LoadCounter token worker counter) g settled trace is fills = absurd fills
+reuse_is_lawful c newer between older unlinks s g settled trace is fills i interval = absurd fills

@@ -48,31 +48,19 @@ each_all P (x ∷ xs) h = All-cons P x xs h.0 (each_all P xs h.1)
 
 pub token_is : (c : InitialState) (steps : List WriterStep) → (state_after c steps).token ≡ token_after c.token steps
 token_is c [] = refl
-token_is c (StoreFirst i x ∷ steps) = token_is c steps
-token_is c (StoreSecond j x ∷ steps) = token_is c steps
-token_is c (BeginUpdate change ∷ steps) = token_is c steps
-token_is c (EndUpdate ∷ steps) = token_is c steps
 token_is c (BumpToken ∷ steps) = omega (arith, token_is c steps)
-token_is c (LoadCounter token worker counter ∷ steps) = token_is c steps
+token_is c (s ∷ steps) = token_is c steps
 
 pub passed_is : (c : InitialState) (steps : List WriterStep) → (state_after c steps).passed ≡ passed_after c.workers steps
 passed_is c [] = refl
-passed_is c (StoreFirst i x ∷ steps) = passed_is c steps
-passed_is c (StoreSecond j x ∷ steps) = passed_is c steps
-passed_is c (BeginUpdate change ∷ steps) = passed_is c steps
-passed_is c (EndUpdate ∷ steps) = passed_is c steps
-passed_is c (BumpToken ∷ steps) = passed_is c steps
 passed_is c (LoadCounter token worker counter ∷ steps) =
     ap (λ n. cond (lets_pass token counter && eqb (suc worker) c.workers) (max n token) n) (passed_is c steps)
+passed_is c (s ∷ steps) = passed_is c steps
 
 pub firsts_length : (c : InitialState) (steps : List WriterStep) → length (state_after c steps).words.firsts ≡ length c.words.firsts
 firsts_length c [] = refl
 firsts_length c (StoreFirst i x ∷ steps) = length-set (state_after c steps).words.firsts i x ∙ firsts_length c steps
-firsts_length c (StoreSecond j x ∷ steps) = firsts_length c steps
-firsts_length c (BeginUpdate change ∷ steps) = firsts_length c steps
-firsts_length c (EndUpdate ∷ steps) = firsts_length c steps
-firsts_length c (BumpToken ∷ steps) = firsts_length c steps
-firsts_length c (LoadCounter token worker counter ∷ steps) = firsts_length c steps
+firsts_length c (s ∷ steps) = firsts_length c steps
 
 pub first_word_is : (c : InitialState) (steps : List WriterStep) (block : ℕ) → block < length c.words.firsts
     → slice_index (state_after c steps).words.firsts block ≡ first_word_after c.words.firsts steps block
@@ -89,11 +77,7 @@ first_word_is c (StoreFirst i x ∷ steps) block within =
           ∙ first_word_is c steps block within
           ∙ sym (ap (λ b. cond b x (first_word_after c.words.firsts steps block)) other.0)
     ]
-first_word_is c (StoreSecond j x ∷ steps) block within = first_word_is c steps block within
-first_word_is c (BeginUpdate change ∷ steps) block within = first_word_is c steps block within
-first_word_is c (EndUpdate ∷ steps) block within = first_word_is c steps block within
-first_word_is c (BumpToken ∷ steps) block within = first_word_is c steps block within
-first_word_is c (LoadCounter token worker counter ∷ steps) block within = first_word_is c steps block within
+first_word_is c (s ∷ steps) block within = first_word_is c steps block within
 
 -- The version that each address shows: the words answer by it, and it never falls.
 
@@ -153,8 +137,7 @@ keeps_shows c counters w shows EndUpdate may =
       still = λ even a. refl;
       shown = λ a lt. subst (λ k. IsAnswer c (w.history k) a (answer c w.words a)) (sym same) (may.1 a lt);
     }
-keeps_shows c counters w shows BumpToken may = record { still = shows.still; shown = shows.shown }
-keeps_shows c counters w shows (LoadCounter token worker counter) may = record { still = shows.still; shown = shows.shown }
+keeps_shows c counters w shows s may = record { still = shows.still; shown = shows.shown }
 
 pub opening_shows : (c : InitialState) → IsSettled c → Shows c (starting_state c)
 opening_shows c settled = record { still = λ even a. refl; shown = settled.answers }
@@ -192,24 +175,12 @@ rises c w (LoadCounter token worker counter) a = omega arith
 -- the sequence never falls, and what was begun stays in the history
 pub sequence_grows : (c : InitialState) (w : TableState) (s : WriterStep) → w.sequence ≤ (state_by_step c w s).sequence
 sequence_grows c w (StoreFirst i x) = omega arith
-sequence_grows c w (StoreSecond j x) = omega arith
-sequence_grows c w (BeginUpdate change) = omega arith
-sequence_grows c w EndUpdate = omega arith
-sequence_grows c w BumpToken = omega arith
-sequence_grows c w (LoadCounter token worker counter) = omega arith
+sequence_grows c w s = omega arith
 
 pub history_stays : (c : InitialState) (w : TableState) (s : WriterStep) (k : ℕ) → k ≤ updates_begun_in w → (state_by_step c w s).history k ≡ w.history k
-history_stays c w (StoreFirst i x) k le = refl
-history_stays c w (StoreSecond j x) k le = refl
 history_stays c w (BeginUpdate change) k le = with_at-other w.history (suc (updates_begun_in w)) (rules_by (w.history (updates_begun_in w)) change) k (omega (arith, le))
-history_stays c w EndUpdate k le = refl
-history_stays c w BumpToken k le = refl
-history_stays c w (LoadCounter token worker counter) k le = refl
+history_stays c w s k le = refl
 
 pub tick : (c : InitialState) (w : TableState) (s : WriterStep) → (state_by_step c w s).clock ≡ suc w.clock
 tick c w (StoreFirst i x) = refl
-tick c w (StoreSecond j x) = refl
-tick c w (BeginUpdate change) = refl
-tick c w EndUpdate = refl
-tick c w BumpToken = refl
-tick c w (LoadCounter token worker counter) = refl
+tick c w s = refl

@@ -3,7 +3,7 @@ use Rattle.std.proofs.Common.{◌≡◌, ℕ, suc, ◌+◌, ◌/◌, ◌<◌, �
 use Rattle.std.proofs.lemmas.Bool.Decides.{eqb_tells, leb_tells}
 use Rattle.lpm_trace.specs.declared.step.WriterStep.TheVariants.{LoadCounter, StoreFirst, StoreSecond}
 use Rattle.lpm_trace.specs.States.{InitialState, TableState, addresses, Status, Unused, Linked, Retired, answer, updates_done_in, updates_begun_in, state_by_step, lets_pass, MayWrite, first_entry, with_linked, with_retired, with_stamp, MayLink, MayFill, IsFree}
-use Rattle.lpm_trace.specs.Trace.{Worker, Phase, Offline, ComingOnline, Online, LookingUp, ReportingQuiescent, IsRunning}
+use Rattle.lpm_trace.specs.Trace.{Worker, Phase, ReportingQuiescent, IsRunning}
 use Rattle.lpm_rules.specs.RuleMap.{RuleMap}
 use Rattle.lpm_trace.proofs.Good.{Told, HeldAs, Good, worker_stays, running_counter, LoadedAs, IsStaleAs, second_place, HalfOk, WorkerOk}
 use Rattle.std.proofs.lemmas.Nat.{div-mul-add, pow_pos}
@@ -127,16 +127,14 @@ keeps_counter c A Hi w workers good token k0 value may now below = record {
 
 -- a group that is held is not free
 pub held_not_free : (c : InitialState) (w : TableState) (k counter : ℕ) (p : Phase) → k < c.workers → (s : Status) → HeldAs w k counter p s → IsFree c w.passed s → ⊥
-held_not_free c w k counter p inside Unused held free = held
-held_not_free c w k counter p inside (Linked block) held free = held
 held_not_free c w k counter p inside (Retired token) held (inl h) = omega (arith, held.2, h)
 held_not_free c w k counter p inside (Retired token) held (inr h) = omega (arith, inside, h)
+held_not_free c w k counter p inside s held free = held
 
 pub held_not_filled : (c : InitialState) (w : TableState) (k counter : ℕ) (p : Phase) → k < c.workers → (s : Status) → HeldAs w k counter p s → MayFill c w.passed s → ⊥
-held_not_filled c w k counter p inside Unused held free = held
-held_not_filled c w k counter p inside (Linked block) held free = held
 held_not_filled c w k counter p inside (Retired token) held (inl h) = omega (arith, held.2, h)
 held_not_filled c w k counter p inside (Retired token) held (inr h) = omega (arith, inside, h)
+held_not_filled c w k counter p inside s held free = held
 
 free_not_linked : (c : InitialState) (passed : ℕ) (s : Status) (i : ℕ) → s ≡ Linked i → IsFree c passed s → ⊥
 free_not_linked c passed Unused i e free = cc
@@ -160,11 +158,8 @@ stamped_ge (Group group) now unlinked g h = with_at_case (λ x. unlinked g ≤ x
 
 -- what a worker may yet store was there, so it is below the next token
 stale_next : (token counter : ℕ) (p : Phase) → LoadedAs token counter p → IsStaleAs (suc token) p
-stale_next token counter Offline h = tt
-stale_next token counter (ComingOnline loaded) h = tt
-stale_next token counter Online h = tt
-stale_next token counter LookingUp h = tt
 stale_next token counter (ReportingQuiescent loaded) h = omega (arith, h.2)
+stale_next token counter p h = tt
 
 -- the place of an address in a group is one of that group
 place_in_group : (c : InitialState) (a g : ℕ) → second_place c a g / 2 ^ c.second ≡ g
