@@ -185,93 +185,60 @@ unread_ok c A w since lo phase (a ∷ addrs) all = (All-head (λ x. x < addresse
 module _ (c : InitialState) (A : Told) (Hi : ℕ → ℕ → Type 0) (w : TableState) (workers : ℕ → Worker) (good : Good c A Hi w workers) (k : ℕ) (inside : k < c.workers) (r : Worker) (ok : WorkerOk c A Hi w k r) where
   -- the token that was loaded takes the counter's place
   held_stored : (counter loaded : ℕ) (s : Status) → HeldAs w k counter (ReportingQuiescent loaded) s → HeldAs w k loaded Online s
-  held_stored counter loaded Status.Unused h = h
-  held_stored counter loaded (Status.Linked block) h = h
   held_stored counter loaded (Status.Retired token) h = (h.1, tt, h.2, h.3)
+  held_stored counter loaded s h = h
 
-  came_online : (loaded : ℕ) → r.phase ≡ ComingOnline loaded → WorkerOk c A Hi w k (worker_by_step w.clock r (StoreOnline loaded))
-  came_online loaded is =
-      let none : r.probes ≡ [] = subst (IdleAs r.probes) is ok.idle in
-      let was : LoadedAs w.token r.counter (ComingOnline loaded) = subst (LoadedAs w.token r.counter) is ok.loaded in
-      record {
-        inside = λ _. inside;
-        counter = was.1;
-        loaded = was.0;
-        since = omega arith;
-        grace = λ _ g lt. absurd (omega (arith, lt, good.unlinked g));
-        idle = none;
-        low = tt;
-        probes = subst (Each (ProbeOk c A w w.clock r.lo Online)) (sym none) tt;
-        finished = ok.finished;
-      }
+  -- a step of a report, at which no lookup goes on
+  reported : (counter since : ℕ) (phase : Phase) → r.probes ≡ [] → IdleAs r.probes phase → LowAs r.lo (updates_done_in w) phase → (IsRunning phase → k < c.workers)
+      → counter ≤ w.token → LoadedAs w.token counter phase → since ≤ w.clock → (IsRunning phase → (g : ℕ) → since < w.unlinked g → HeldAs w k counter phase (w.groups g))
+      → WorkerOk c A Hi w k (record r { counter = counter; phase = phase; since = since })
+  reported counter since phase none idle low within counted loaded from grace = record {
+    inside = within;
+    counter = counted;
+    loaded = loaded;
+    since = from;
+    grace = grace;
+    idle = idle;
+    low = low;
+    probes = subst (Each (ProbeOk c A w since r.lo phase)) (sym none) tt;
+    finished = ok.finished;
+  }
 
-  reported : (loaded : ℕ) → r.phase ≡ ReportingQuiescent loaded → WorkerOk c A Hi w k (worker_by_step w.clock r (StoreQuiescent loaded))
-  reported loaded is =
-      let none : r.probes ≡ [] = subst (IdleAs r.probes) is ok.idle in
-      let was : LoadedAs w.token r.counter (ReportingQuiescent loaded) = subst (LoadedAs w.token r.counter) is ok.loaded in
-      record {
-        inside = λ _. inside;
-        counter = was.2;
-        loaded = was.1;
-        since = ok.since;
-        grace = λ _ g lt. held_stored r.counter loaded (w.groups g) (subst (λ p. HeldAs w k r.counter p (w.groups g)) is (ok.grace (subst IsRunning (sym is) tt) g lt));
-        idle = none;
-        low = tt;
-        probes = subst (Each (ProbeOk c A w r.since r.lo Online)) (sym none) tt;
-        finished = ok.finished;
-      }
-
-  went_offline : r.phase ≡ Online → WorkerOk c A Hi w k (worker_by_step w.clock r StoreOffline)
-  went_offline is =
-      let none : r.probes ≡ [] = subst (IdleAs r.probes) is ok.idle in
-      record {
-        inside = λ run. absurd run;
-        counter = omega arith;
-        loaded = tt;
-        since = ok.since;
-        grace = λ run. absurd run;
-        idle = none;
-        low = tt;
-        probes = subst (Each (ProbeOk c A w r.since r.lo Offline)) (sym none) tt;
-        finished = ok.finished;
-      }
-
-  comes_online : (token : ℕ) → r.phase ≡ Offline → token ≡ w.token → WorkerOk c A Hi w k (worker_by_step w.clock r (LoadOnline token))
-  comes_online token is same =
-      let none : r.probes ≡ [] = subst (IdleAs r.probes) is ok.idle in
-      record {
-        inside = λ run. absurd run;
-        counter = ok.counter;
-        loaded = (omega (arith, same, good.token), omega (arith, same));
-        since = ok.since;
-        grace = λ run. absurd run;
-        idle = none;
-        low = tt;
-        probes = subst (Each (ProbeOk c A w r.since r.lo (ComingOnline token))) (sym none) tt;
-        finished = ok.finished;
-      }
-
-  reports : (token : ℕ) → r.phase ≡ Online → token ≡ w.token → WorkerOk c A Hi w k (worker_by_step w.clock r (LoadQuiescent token))
-  reports token is same =
-      let none : r.probes ≡ [] = subst (IdleAs r.probes) is ok.idle in
-      record {
-        inside = λ _. inside;
-        counter = ok.counter;
-        loaded = (subst (LoadedAs w.token r.counter) is ok.loaded, omega (arith, same, good.token), omega (arith, same));
-        since = omega arith;
-        grace = λ _ g lt. absurd (omega (arith, lt, good.unlinked g));
-        idle = none;
-        low = tt;
-        probes = subst (Each (ProbeOk c A w w.clock r.lo (ReportingQuiescent token))) (sym none) tt;
-        finished = ok.finished;
-      }
+  -- a load of a word, in a lookup
+  looked : r.phase ≡ LookingUp → (ps : List Probe) → Each (ProbeOk c A w r.since r.lo r.phase) ps → WorkerOk c A Hi w k (record r { probes = ps })
+  looked doing ps probes = record {
+    inside = ok.inside;
+    counter = ok.counter;
+    loaded = ok.loaded;
+    since = ok.since;
+    grace = ok.grace;
+    idle = subst (IdleAs ps) (sym doing) tt;
+    low = ok.low;
+    probes = probes;
+    finished = ok.finished;
+  }
 
   pub worker_moves : (s : WorkerStep) → MayRead c w r s → WorkerOk c A Hi w k (worker_by_step w.clock r s)
-  worker_moves (LoadOnline token) may = comes_online token may.0 may.1
-  worker_moves (StoreOnline token) may = came_online token may
-  worker_moves (LoadQuiescent token) may = reports token may.0 may.1
-  worker_moves (StoreQuiescent token) may = reported token may
-  worker_moves StoreOffline may = went_offline may
+  worker_moves (LoadOnline token) may =
+      let none : r.probes ≡ [] = subst (IdleAs r.probes) may.0 ok.idle in
+      reported r.counter r.since (ComingOnline token) none none tt (λ run. absurd run) ok.counter (omega (arith, may.1, good.token), omega (arith, may.1)) ok.since (λ run. absurd run)
+  worker_moves (StoreOnline token) may =
+      let none : r.probes ≡ [] = subst (IdleAs r.probes) may ok.idle in
+      let was : LoadedAs w.token r.counter (ComingOnline token) = subst (LoadedAs w.token r.counter) may ok.loaded in
+      reported token w.clock Online none none tt (λ _. inside) was.1 was.0 (omega arith) (λ _ g lt. absurd (omega (arith, lt, good.unlinked g)))
+  worker_moves (LoadQuiescent token) may =
+      let none : r.probes ≡ [] = subst (IdleAs r.probes) may.0 ok.idle in
+      let was : 0 < r.counter = subst (LoadedAs w.token r.counter) may.0 ok.loaded in
+      reported r.counter w.clock (ReportingQuiescent token) none none tt (λ _. inside) ok.counter (was, omega (arith, may.1, good.token), omega (arith, may.1)) (omega arith)
+      (λ _ g lt. absurd (omega (arith, lt, good.unlinked g)))
+  worker_moves (StoreQuiescent token) may =
+      let none : r.probes ≡ [] = subst (IdleAs r.probes) may ok.idle in
+      let was : LoadedAs w.token r.counter (ReportingQuiescent token) = subst (LoadedAs w.token r.counter) may ok.loaded in
+      reported token r.since Online none none tt (λ _. inside) was.2 was.1 ok.since
+      (λ _ g lt. held_stored r.counter token (w.groups g) (subst (λ p. HeldAs w k r.counter p (w.groups g)) may (ok.grace (subst IsRunning (sym may) tt) g lt)))
+  worker_moves StoreOffline may =
+      let none : r.probes ≡ [] = subst (IdleAs r.probes) may ok.idle in
+      reported 0 r.since Offline none none tt (λ run. absurd run) (omega arith) tt ok.since (λ run. absurd run)
   worker_moves (BeginLookup addrs sequence) may = record {
     inside = λ _. inside;
     counter = ok.counter;
@@ -284,29 +251,11 @@ module _ (c : InitialState) (A : Told) (Hi : ℕ → ℕ → Type 0) (w : TableS
     finished = ok.finished;
   }
   worker_moves (LoadFirst word) may =
-      let run : IsRunning r.phase = subst IsRunning (sym may.0) tt in
-      record {
-        inside = ok.inside;
-        counter = ok.counter;
-        loaded = ok.loaded;
-        since = ok.since;
-        grace = ok.grace;
-        idle = subst (IdleAs (first_read w.clock (entry_in word) r.probes)) (sym may.0) tt;
-        low = ok.low;
-        probes = first_ok c A Hi w good.now r.since r.lo (subst (LowAs r.lo (updates_done_in w)) may.0 ok.low) r.phase run ok.since word r.probes may.1 ok.probes;
-        finished = ok.finished;
-      }
-  worker_moves (LoadSecond word) may = record {
-    inside = ok.inside;
-    counter = ok.counter;
-    loaded = ok.loaded;
-    since = ok.since;
-    grace = ok.grace;
-    idle = subst (IdleAs (second_read w.clock (entry_in word) r.probes)) (sym may.0) tt;
-    low = ok.low;
-    probes = second_ok c A Hi w good.now r.since r.lo (subst (LowAs r.lo (updates_done_in w)) may.0 ok.low) r.phase word r.probes may.2 ok.probes;
-    finished = ok.finished;
-  }
+      looked may.0 (first_read w.clock (entry_in word) r.probes)
+      (first_ok c A Hi w good.now r.since r.lo (subst (LowAs r.lo (updates_done_in w)) may.0 ok.low) r.phase (subst IsRunning (sym may.0) tt) ok.since word r.probes may.1 ok.probes)
+  worker_moves (LoadSecond word) may =
+      looked may.0 (second_read w.clock (entry_in word) r.probes)
+      (second_ok c A Hi w good.now r.since r.lo (subst (LowAs r.lo (updates_done_in w)) may.0 ok.low) r.phase word r.probes may.2 ok.probes)
   worker_moves (EndLookup sequence) may = record {
     inside = λ _. inside;
     counter = ok.counter;

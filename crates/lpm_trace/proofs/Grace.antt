@@ -40,8 +40,9 @@ kept_runs c w r s k worker now same may lasts run = (tt, refl)
 
 -- a step of another worker begins no interval of this one
 not_begun : (s : WorkerStep) (k worker : ℕ) → eqb worker k ≡ false → IsTrue (begins worker (ByWorker k s)) → ⊥
-not_begun (LoadOnline token) k worker other does = cc does
-not_begun s k worker other does = cc (other, does)
+not_begun (StoreOnline token) k worker other does = cc (other, does)
+not_begun (LoadQuiescent token) k worker other does = cc (other, does)
+not_begun s k worker other does = cc does
 
 -- the worker's state knows the interval that runs, and how many steps the writer had made before it
 abbrev KnowsInterval : InitialState → List TraceStep → ℕ → Worker → ℕ → Type 0

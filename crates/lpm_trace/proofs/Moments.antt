@@ -98,131 +98,95 @@ moment_from steps from (suc d) place low high = let next : suc d + from ≡ suc 
 abbrev IsTime : List TraceStep → ℕ → ℕ → Type 0
 IsTime steps place number = (place ≡ count steps number) × (number ≤ length steps)
 
-abbrev ProbeAgrees : List TraceStep → Probe → Probe → Type 0
-ProbeAgrees steps (Unread a) (Unread b) = a ≡ b
-ProbeAgrees steps (InGroup a g f) (InGroup b h n) = (a ≡ b) × (g ≡ h) × IsTime steps f n
-ProbeAgrees steps (Answered a x f l) (Answered b y m n) = (a ≡ b) × (x ≡ y) × IsTime steps f m × IsTime steps l n × (m ≤ n)
-ProbeAgrees steps _ _ = ⊥
+-- the two clocks agree on how far each address of a lookup has come
+abbrev pub ProbesAgree : List TraceStep → List Probe → List Probe → Type 0
+ProbesAgree steps [] [] = ⊤
+ProbesAgree steps (Unread a ∷ ps) (Unread b ∷ qs) = (a ≡ b) × ProbesAgree steps ps qs
+ProbesAgree steps (InGroup a g f ∷ ps) (InGroup b h n ∷ qs) = ((a ≡ b) × (g ≡ h) × IsTime steps f n) × ProbesAgree steps ps qs
+ProbesAgree steps (Answered a x f l ∷ ps) (Answered b y m n ∷ qs) = ((a ≡ b) × (x ≡ y) × IsTime steps f m × IsTime steps l n × (m ≤ n)) × ProbesAgree steps ps qs
+ProbesAgree steps _ _ = ⊥
 
 abbrev SeenAgrees : List TraceStep → Seen → Seen → Type 0
 SeenAgrees steps s n = (s.addr ≡ n.addr) × (s.hop ≡ n.hop) × (s.lo ≡ n.lo) × (s.hi ≡ n.hi) × IsTime steps s.first n.first × IsTime steps s.last n.last × (n.first ≤ n.last)
 
-abbrev Zip : {A : Type 0} → (A → A → Type 0) → List A → List A → Type 0
-Zip R [] [] = ⊤
-Zip R (x ∷ xs) (y ∷ ys) = R x y × Zip R xs ys
-Zip R _ _ = ⊥
+abbrev AllSeenAgree : List TraceStep → List Seen → List Seen → Type 0
+AllSeenAgree steps [] [] = ⊤
+AllSeenAgree steps (x ∷ xs) (y ∷ ys) = SeenAgrees steps x y × AllSeenAgree steps xs ys
+AllSeenAgree steps _ _ = ⊥
 
-zip_map : {A : Type 0} (R Q : A → A → Type 0) → ((x y : A) → R x y → Q x y) → (xs ys : List A) → Zip R xs ys → Zip Q xs ys
-zip_map R Q f [] [] z = tt
-zip_map R Q f (x ∷ xs) [] z = absurd z
-zip_map R Q f [] (y ∷ ys) z = absurd z
-zip_map R Q f (x ∷ xs) (y ∷ ys) z = (f x y z.0, zip_map R Q f xs ys z.1)
-
-zip_each : {A : Type 0} (R : A → A → Type 0) (P Q : A → Type 0) → ((x y : A) → R x y → P x → Q y) → (xs ys : List A) → Zip R xs ys → Each P xs → Each Q ys
-zip_each R P Q f [] [] z each = tt
-zip_each R P Q f (x ∷ xs) [] z each = absurd z
-zip_each R P Q f [] (y ∷ ys) z each = absurd z
-zip_each R P Q f (x ∷ xs) (y ∷ ys) z each = (f x y z.0 each.0, zip_each R P Q f xs ys z.1 each.1)
-
-record Agrees (steps : List TraceStep) (p n : Worker) : Type 0 where
+pub record Agrees (steps : List TraceStep) (p n : Worker) : Type 0 where
+  pub counter : p.counter ≡ n.counter
+  pub phase : p.phase ≡ n.phase
   pub lo : p.lo ≡ n.lo
-  pub probes : Zip (ProbeAgrees steps) p.probes n.probes
-  pub finished : Zip (SeenAgrees steps) p.finished n.finished
+  pub probes : ProbesAgree steps p.probes n.probes
+  pub finished : AllSeenAgree steps p.finished n.finished
 
-time_stays : (s : TraceStep) (steps : List TraceStep) (place number : ℕ) → IsTime steps place number → IsTime (s ∷ steps) place number
-time_stays s steps place number is = (is.0 ∙ sym (count_old s steps number is.1), omega (arith, is.1))
+module _ (s : TraceStep) (steps : List TraceStep) where
+  time_stays : (place number : ℕ) → IsTime steps place number → IsTime (s ∷ steps) place number
+  time_stays place number is = (is.0 ∙ sym (count_old s steps number is.1), omega (arith, is.1))
 
-probe_stays : (s : TraceStep) (steps : List TraceStep) (p q : Probe) → ProbeAgrees steps p q → ProbeAgrees (s ∷ steps) p q
-probe_stays s steps (Unread a) (Unread b) h = h
-probe_stays s steps (Unread a) (InGroup b g f) h = absurd h
-probe_stays s steps (Unread a) (Answered b x f l) h = absurd h
-probe_stays s steps (InGroup a g f) (Unread b) h = absurd h
-probe_stays s steps (InGroup a g f) (InGroup b h n) is = (is.0, is.1, time_stays s steps f n is.2)
-probe_stays s steps (InGroup a g f) (Answered b x m l) h = absurd h
-probe_stays s steps (Answered a x f l) (Unread b) h = absurd h
-probe_stays s steps (Answered a x f l) (InGroup b g m) h = absurd h
-probe_stays s steps (Answered a x f l) (Answered b y m n) h = (h.0, h.1, time_stays s steps f m h.2, time_stays s steps l n h.3, h.4)
+  probes_stay : (ps qs : List Probe) → ProbesAgree steps ps qs → ProbesAgree (s ∷ steps) ps qs
+  probes_stay [] [] z = tt
+  probes_stay (Unread a ∷ ps) (Unread b ∷ qs) z = (z.0, probes_stay ps qs z.1)
+  probes_stay (InGroup a g f ∷ ps) (InGroup b h n ∷ qs) z = ((z.0.0, z.0.1, time_stays f n z.0.2), probes_stay ps qs z.1)
+  probes_stay (Answered a x f l ∷ ps) (Answered b y m n ∷ qs) z = ((z.0.0, z.0.1, time_stays f m z.0.2, time_stays l n z.0.3, z.0.4), probes_stay ps qs z.1)
+  probes_stay _ _ z = absurd z
 
-seen_stays : (s : TraceStep) (steps : List TraceStep) (p q : Seen) → SeenAgrees steps p q → SeenAgrees (s ∷ steps) p q
-seen_stays s steps p q h = (h.0, h.1, h.2, h.3, time_stays s steps p.first q.first h.4, time_stays s steps p.last q.last h.5, h.6)
+  seen_stay : (xs ys : List Seen) → AllSeenAgree steps xs ys → AllSeenAgree (s ∷ steps) xs ys
+  seen_stay [] [] z = tt
+  seen_stay (x ∷ xs) (y ∷ ys) z = ((z.0.0, z.0.1, z.0.2, z.0.3, time_stays x.first y.first z.0.4, time_stays x.last y.last z.0.5, z.0.6), seen_stay xs ys z.1)
+  seen_stay _ _ z = absurd z
 
-agrees_stays : (s : TraceStep) (steps : List TraceStep) (p n : Worker) → Agrees steps p n → Agrees (s ∷ steps) p n
-agrees_stays s steps p n h = record {
-  lo = h.lo;
-  probes = zip_map (ProbeAgrees steps) (ProbeAgrees (s ∷ steps)) (probe_stays s steps) p.probes n.probes h.probes;
-  finished = zip_map (SeenAgrees steps) (SeenAgrees (s ∷ steps)) (seen_stays s steps) p.finished n.finished h.finished;
-}
+  agrees_stays : (p n : Worker) → Agrees steps p n → Agrees (s ∷ steps) p n
+  agrees_stays p n h = record { counter = h.counter; phase = h.phase; lo = h.lo; probes = probes_stay p.probes n.probes h.probes; finished = seen_stay p.finished n.finished h.finished }
 
 module _ (steps : List TraceStep) (place number : ℕ) (time : IsTime steps place number) (last : (n : ℕ) → n ≤ length steps → n ≤ number) where
-  read_agrees : (a b : ℕ) → a ≡ b → (e : Entry) → ProbeAgrees steps (read_first place a e) (read_first number b e)
-  read_agrees a b same Miss = (same, refl, time, time, omega arith)
-  read_agrees a b same (Hop hop depth) = (same, refl, time, time, omega arith)
-  read_agrees a b same (Group group) = (same, refl, time)
+  read_agrees : (a b : ℕ) → a ≡ b → (e : Entry) (ps qs : List Probe) → ProbesAgree steps ps qs → ProbesAgree steps (read_first place a e ∷ ps) (read_first number b e ∷ qs)
+  read_agrees a b same Miss ps qs z = ((same, refl, time, time, omega arith), z)
+  read_agrees a b same (Hop hop depth) ps qs z = ((same, refl, time, time, omega arith), z)
+  read_agrees a b same (Group group) ps qs z = ((same, refl, time), z)
 
-  first_agrees : (e : Entry) (ps qs : List Probe) → Zip (ProbeAgrees steps) ps qs → Zip (ProbeAgrees steps) (first_read place e ps) (first_read number e qs)
+  first_agrees : (e : Entry) (ps qs : List Probe) → ProbesAgree steps ps qs → ProbesAgree steps (first_read place e ps) (first_read number e qs)
   first_agrees e [] [] z = tt
-  first_agrees e [] (q ∷ qs) z = absurd z
-  first_agrees e (p ∷ ps) [] z = absurd z
-  first_agrees e (Unread a ∷ ps) (Unread b ∷ qs) z = (read_agrees a b z.0 e, z.1)
-  first_agrees e (Unread a ∷ ps) (InGroup b g f ∷ qs) z = absurd z.0
-  first_agrees e (Unread a ∷ ps) (Answered b x f l ∷ qs) z = absurd z.0
-  first_agrees e (InGroup a g f ∷ ps) (Unread b ∷ qs) z = absurd z.0
+  first_agrees e (Unread a ∷ ps) (Unread b ∷ qs) z = read_agrees a b z.0 e ps qs z.1
   first_agrees e (InGroup a g f ∷ ps) (InGroup b h n ∷ qs) z = (z.0, first_agrees e ps qs z.1)
-  first_agrees e (InGroup a g f ∷ ps) (Answered b x m l ∷ qs) z = absurd z.0
-  first_agrees e (Answered a x f l ∷ ps) (Unread b ∷ qs) z = absurd z.0
-  first_agrees e (Answered a x f l ∷ ps) (InGroup b g m ∷ qs) z = absurd z.0
   first_agrees e (Answered a x f l ∷ ps) (Answered b y m n ∷ qs) z = (z.0, first_agrees e ps qs z.1)
+  first_agrees e _ _ z = absurd z
 
-  second_agrees : (e : Entry) (ps qs : List Probe) → Zip (ProbeAgrees steps) ps qs → Zip (ProbeAgrees steps) (second_read place e ps) (second_read number e qs)
+  second_agrees : (e : Entry) (ps qs : List Probe) → ProbesAgree steps ps qs → ProbesAgree steps (second_read place e ps) (second_read number e qs)
   second_agrees e [] [] z = tt
-  second_agrees e [] (q ∷ qs) z = absurd z
-  second_agrees e (p ∷ ps) [] z = absurd z
   second_agrees e (Unread a ∷ ps) (Unread b ∷ qs) z = (z.0, second_agrees e ps qs z.1)
-  second_agrees e (Unread a ∷ ps) (InGroup b g f ∷ qs) z = absurd z.0
-  second_agrees e (Unread a ∷ ps) (Answered b x f l ∷ qs) z = absurd z.0
-  second_agrees e (InGroup a g f ∷ ps) (Unread b ∷ qs) z = absurd z.0
   second_agrees e (InGroup a g f ∷ ps) (InGroup b h n ∷ qs) z = ((z.0.0, refl, z.0.2, time, last n z.0.2.1), z.1)
-  second_agrees e (InGroup a g f ∷ ps) (Answered b x m l ∷ qs) z = absurd z.0
-  second_agrees e (Answered a x f l ∷ ps) (Unread b ∷ qs) z = absurd z.0
-  second_agrees e (Answered a x f l ∷ ps) (InGroup b g m ∷ qs) z = absurd z.0
   second_agrees e (Answered a x f l ∷ ps) (Answered b y m n ∷ qs) z = (z.0, second_agrees e ps qs z.1)
+  second_agrees e _ _ z = absurd z
 
-  answers_agree : (lo lo' hi : ℕ) → lo ≡ lo' → (ps qs : List Probe) → Zip (ProbeAgrees steps) ps qs → (xs ys : List Seen) → Zip (SeenAgrees steps) xs ys
-      → Zip (SeenAgrees steps) (with_answers lo hi ps xs) (with_answers lo' hi qs ys)
+  answers_agree : (lo lo' hi : ℕ) → lo ≡ lo' → (ps qs : List Probe) → ProbesAgree steps ps qs → (xs ys : List Seen) → AllSeenAgree steps xs ys
+      → AllSeenAgree steps (with_answers lo hi ps xs) (with_answers lo' hi qs ys)
   answers_agree lo lo' hi same [] [] z xs ys f = f
-  answers_agree lo lo' hi same [] (q ∷ qs) z xs ys f = absurd z
-  answers_agree lo lo' hi same (p ∷ ps) [] z xs ys f = absurd z
   answers_agree lo lo' hi same (Unread a ∷ ps) (Unread b ∷ qs) z xs ys f = answers_agree lo lo' hi same ps qs z.1 xs ys f
-  answers_agree lo lo' hi same (Unread a ∷ ps) (InGroup b g m ∷ qs) z xs ys f = absurd z.0
-  answers_agree lo lo' hi same (Unread a ∷ ps) (Answered b x m l ∷ qs) z xs ys f = absurd z.0
-  answers_agree lo lo' hi same (InGroup a g m ∷ ps) (Unread b ∷ qs) z xs ys f = absurd z.0
   answers_agree lo lo' hi same (InGroup a g m ∷ ps) (InGroup b h n ∷ qs) z xs ys f = answers_agree lo lo' hi same ps qs z.1 xs ys f
-  answers_agree lo lo' hi same (InGroup a g m ∷ ps) (Answered b x n l ∷ qs) z xs ys f = absurd z.0
-  answers_agree lo lo' hi same (Answered a x m l ∷ ps) (Unread b ∷ qs) z xs ys f = absurd z.0
-  answers_agree lo lo' hi same (Answered a x m l ∷ ps) (InGroup b g n ∷ qs) z xs ys f = absurd z.0
   answers_agree lo lo' hi same (Answered a x m l ∷ ps) (Answered b y n k ∷ qs) z xs ys f =
       answers_agree lo lo' hi same ps qs z.1 (record { addr = a; hop = x; first = m; last = l; lo = lo; hi = hi } ∷ xs) (record { addr = b; hop = y; first = n; last = k; lo = lo'; hi = hi } ∷ ys)
       ((z.0.0, z.0.1, same, refl, z.0.2, z.0.3, z.0.4), f)
+  answers_agree lo lo' hi same _ _ z xs ys f = absurd z
 
-  waits_agree : (addrs : List ℕ) → Zip (ProbeAgrees steps) (map Unread addrs) (map Unread addrs)
+  waits_agree : (addrs : List ℕ) → ProbesAgree steps (map Unread addrs) (map Unread addrs)
   waits_agree [] = tt
   waits_agree (a ∷ addrs) = (refl, waits_agree addrs)
 
   moves_agree : (p n : Worker) → Agrees steps p n → (s : WorkerStep) → Agrees steps (worker_by_step place p s) (worker_by_step number n s)
-  moves_agree p n h (LoadOnline token) = record { lo = h.lo; probes = h.probes; finished = h.finished }
-  moves_agree p n h (StoreOnline token) = record { lo = h.lo; probes = h.probes; finished = h.finished }
-  moves_agree p n h (LoadQuiescent token) = record { lo = h.lo; probes = h.probes; finished = h.finished }
-  moves_agree p n h (StoreQuiescent token) = record { lo = h.lo; probes = h.probes; finished = h.finished }
-  moves_agree p n h StoreOffline = record { lo = h.lo; probes = h.probes; finished = h.finished }
-  moves_agree p n h (BeginLookup addrs sequence) = record { lo = refl; probes = waits_agree addrs; finished = h.finished }
-  moves_agree p n h (LoadFirst word) = record { lo = h.lo; probes = first_agrees (entry_in word) p.probes n.probes h.probes; finished = h.finished }
-  moves_agree p n h (LoadSecond word) = record { lo = h.lo; probes = second_agrees (entry_in word) p.probes n.probes h.probes; finished = h.finished }
-  moves_agree p n h (EndLookup sequence) = record { lo = h.lo; probes = tt; finished = answers_agree p.lo n.lo (begun_at sequence) h.lo p.probes n.probes h.probes p.finished n.finished h.finished }
+  moves_agree p n h (LoadOnline token) = record { counter = h.counter; phase = refl; lo = h.lo; probes = h.probes; finished = h.finished }
+  moves_agree p n h (LoadQuiescent token) = record { counter = h.counter; phase = refl; lo = h.lo; probes = h.probes; finished = h.finished }
+  moves_agree p n h (BeginLookup addrs sequence) = record { counter = h.counter; phase = refl; lo = refl; probes = waits_agree addrs; finished = h.finished }
+  moves_agree p n h (LoadFirst word) = record { counter = h.counter; phase = h.phase; lo = h.lo; probes = first_agrees (entry_in word) p.probes n.probes h.probes; finished = h.finished }
+  moves_agree p n h (LoadSecond word) = record { counter = h.counter; phase = h.phase; lo = h.lo; probes = second_agrees (entry_in word) p.probes n.probes h.probes; finished = h.finished }
+  moves_agree p n h (EndLookup sequence) = record { counter = h.counter; phase = refl; lo = h.lo; probes = tt; finished = answers_agree p.lo n.lo (begun_at sequence) h.lo p.probes n.probes h.probes p.finished n.finished h.finished }
   moves_agree p n h (MeetWriter sequence) = h
+  moves_agree p n h s = record { counter = refl; phase = refl; lo = h.lo; probes = h.probes; finished = h.finished }
 
 -- each worker, by the two clocks
-clocks_agree : (c : InitialState) (steps : List TraceStep) (k : ℕ) → Agrees steps ((after c steps).workers k) (worker_of k steps)
-clocks_agree c [] k = record { lo = refl; probes = tt; finished = tt }
+pub clocks_agree : (c : InitialState) (steps : List TraceStep) (k : ℕ) → Agrees steps ((after c steps).workers k) (worker_of k steps)
+clocks_agree c [] k = record { counter = refl; phase = refl; lo = refl; probes = tt; finished = tt }
 clocks_agree c (Writer s ∷ steps) k = agrees_stays (Writer s) steps ((after c steps).workers k) (worker_of k steps) (clocks_agree c steps k)
 clocks_agree c (ByWorker j s ∷ steps) k =
     let w = (after c steps).workers in
@@ -273,11 +237,15 @@ legal c steps s n same right =
       high = omega (arith, same.3, right.high, shown);
     }
 
+all_legal : (c : InitialState) (steps : List TraceStep) (xs ys : List Seen) → AllSeenAgree steps xs ys → Each (IsLegalAtPlace c (writes steps)) xs → Each (IsLegal c steps) ys
+all_legal c steps [] [] z each = tt
+all_legal c steps (x ∷ xs) (y ∷ ys) z each = (legal c steps x y z.0 each.0, all_legal c steps xs ys z.1 each.1)
+all_legal c steps _ _ z each = absurd z
+
 pub lookups_are_legal : LookupsAreLegal
 lookups_are_legal c steps k settled trace =
     each_all (IsLegal c steps) (worker_of k steps).finished
-    (zip_each (SeenAgrees steps) (IsLegalAtPlace c (writes steps)) (IsLegal c steps) (legal c steps) ((after c steps).workers k).finished (worker_of k steps).finished
-    (clocks_agree c steps k).finished (all_right c settled steps trace k))
+    (all_legal c steps ((after c steps).workers k).finished (worker_of k steps).finished (clocks_agree c steps k).finished (all_right c settled steps trace k))
 
 pub versions_never_fall : VersionsNeverFall
 versions_never_fall c steps a t u le =
