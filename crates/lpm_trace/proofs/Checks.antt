@@ -15,7 +15,7 @@ use Rattle.lpm_trace.specs.Laws.{IsAskedFor, IsChecked, PassedIsChecked, WordsAr
 use Rattle.lpm_trace.proofs.Versions.{token_is, passed_is, set_case}
 use Rattle.std.proofs.lemmas.List.{length-set}
 use Rattle.lpm_cells.specs.declared.entry.Entry.{Entry}
-use Rattle.lpm_cells.specs.declared.entry.Entry.TheVariants.{Miss, Hop, Group}
+use Rattle.lpm_cells.specs.declared.entry.Entry.TheVariants.{Group}
 use Rattle.lpm_cells.specs.Words.{IsLastWord, entry_in, IsFirst, IsFirstWord, IsWords}
 
 -- what the workers do leaves the writer's course
@@ -152,9 +152,8 @@ passed_is_checked c steps token trace some le =
 -- Each word stays that of an entry that may stand at its place.
 
 first_room : (second : ℕ) (xs ys : List ℕ) → length ys ≡ length xs → (e : Entry) → IsFirst second xs e → IsFirst second ys e
-first_room second xs ys same Miss h = tt
-first_room second xs ys same (Hop hop depth) h = tt
 first_room second xs ys same (Group group) h = omega (arith, h, same)
+first_room second xs ys same e h = tt
 
 entries_kept : (c : InitialState) (counters : ℕ → ℕ) (w : TableState) (s : WriterStep) → IsWords c.first c.second w.words → MayWrite c counters w s → IsWords c.first c.second (state_by_step c w s).words
 entries_kept c counters w (StoreFirst i x) was may =

@@ -2,7 +2,7 @@
 -- answered x to the address a, and lo updates were done. Hi t hi: then hi updates or fewer were begun.
 use Rattle.std.proofs.Common.{◌≡◌, ℕ, ◌+◌, ◌*◌, ◌/◌, ◌%◌, ◌^◌, ◌<◌, ◌≤◌, ◌⊎◌, List, [], slice_index, Option, arith, inl, inr, ◌∷◌, All, map, refl, sym, ap, subst}
 use Rattle.std.specs.Bool.{⊤}
-use Rattle.lpm_cells.specs.declared.entry.Entry.TheVariants.{Group, Miss, Hop}
+use Rattle.lpm_cells.specs.declared.entry.Entry.TheVariants.{Group}
 use Rattle.lpm_cells.specs.Words.{entry_in, hop_in, last_entry}
 use Rattle.lpm_trace.specs.States.{InitialState, TableState, Status, Unused, Linked, Retired, addresses, answer, updates_done_in, updates_begun_in, first_entry, begun_at, done_at}
 use Rattle.lpm_trace.specs.Trace.{Worker, Phase, Offline, ComingOnline, Online, LookingUp, ReportingQuiescent, Probe, Unread, InGroup, Answered, Seen, IsRunning, read_first, first_read, second_read, with_answers, worker_by_step, IsNextFirst, IsNextSecond, AreAnswered, MayRead}
@@ -57,6 +57,20 @@ pub record HalfOk (c : InitialState) (A : Told) (w : TableState) (since lo : ℕ
   pub low : lo ≤ updates_done_in w
   pub value : (first_entry w.words (a / 2 ^ c.second) ≡ Group g)
       ⊎ ((f < w.unlinked g) × ((t : ℕ) × (f ≤ t) × (t ≤ w.clock) × A t a lo (hop_in (entry_in (slice_index w.words.seconds (second_place c a g))))))
+
+-- the same by another telling, and of other tables, where what was read in it is known
+pub half_by : (c : InitialState) (A B : Told) (w w' : TableState) (since lo : ℕ) (phase : Phase) (a g f : ℕ) → w.clock ≤ w'.clock → updates_done_in w ≤ updates_done_in w' → HalfOk c A w since lo phase a g f
+    → (first_entry w'.words (a / 2 ^ c.second) ≡ Group g)
+    ⊎ ((f < w'.unlinked g) × ((t : ℕ) × (f ≤ t) × (t ≤ w'.clock) × B t a lo (hop_in (entry_in (slice_index w'.words.seconds (second_place c a g))))))
+    → HalfOk c B w' since lo phase a g f
+half_by c A B w w' since lo phase a g f clock done' half value = record {
+  inside = half.inside;
+  running = half.running;
+  from = half.from;
+  came = omega (arith, clock, half.came);
+  low = omega (arith, done', half.low);
+  value = value;
+}
 
 abbrev pub ProbeOk : InitialState → Told → TableState → ℕ → ℕ → Phase → Probe → Type 0
 ProbeOk c A w since lo phase (Unread a) = a < addresses c
@@ -141,9 +155,8 @@ worker_stays c A Hi w w' k r clock token done' grace half ok = record {
 
 module _ (c : InitialState) (A : Told) (Hi : ℕ → ℕ → Type 0) (w : TableState) (now : (a lo : ℕ) → a < addresses c → lo ≤ updates_done_in w → A w.clock a lo (answer c w.words a)) (since lo : ℕ) (low : lo ≤ updates_done_in w) where
   new_probe : (phase : Phase) → IsRunning phase → since ≤ w.clock → (a : ℕ) → a < addresses c → (e : Entry) → e ≡ first_entry w.words (a / 2 ^ c.second) → ProbeOk c A w since lo phase (read_first w.clock a e)
-  new_probe phase run le a inside Miss is = (inside, omega arith, (w.clock, omega arith, omega arith, subst (λ x. A w.clock a lo (hop_in (last_entry c.second w.words.seconds (a % 2 ^ c.second) x))) (sym is) (now a lo inside low)))
-  new_probe phase run le a inside (Hop hop depth) is = (inside, omega arith, (w.clock, omega arith, omega arith, subst (λ x. A w.clock a lo (hop_in (last_entry c.second w.words.seconds (a % 2 ^ c.second) x))) (sym is) (now a lo inside low)))
   new_probe phase run le a inside (Group group) is = record { inside = inside; running = run; from = le; came = omega arith; low = low; value = inl (sym is) }
+  new_probe phase run le a inside e is = (inside, omega arith, (w.clock, omega arith, omega arith, subst (λ x. A w.clock a lo (hop_in (last_entry c.second w.words.seconds (a % 2 ^ c.second) x))) (sym is) (now a lo inside low)))
 
   first_ok : (phase : Phase) → IsRunning phase → since ≤ w.clock → (word : ℕ) (ps : List Probe) → IsNextFirst c w word ps → Each (ProbeOk c A w since lo phase) ps
       → Each (ProbeOk c A w since lo phase) (first_read w.clock (entry_in word) ps)

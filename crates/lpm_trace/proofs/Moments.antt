@@ -5,10 +5,10 @@ use Rattle.std.specs.Bool.{⊤}
 use Rattle.std.proofs.lemmas.Bool.{cases_lt}
 use Rattle.std.proofs.lemmas.Bool.Decides.{eqb_tells}
 use Rattle.lpm_cells.specs.declared.entry.Entry.{Entry}
-use Rattle.lpm_cells.specs.declared.entry.Entry.TheVariants.{Miss, Hop, Group}
+use Rattle.lpm_cells.specs.declared.entry.Entry.TheVariants.{Group}
 use Rattle.lpm_cells.specs.Words.{entry_in}
 use Rattle.lpm_trace.specs.declared.step.WorkerStep.{WorkerStep}
-use Rattle.lpm_trace.specs.declared.step.WorkerStep.TheVariants.{LoadOnline, StoreOnline, LoadQuiescent, StoreQuiescent, StoreOffline, BeginLookup, LoadFirst, LoadSecond, EndLookup, MeetWriter}
+use Rattle.lpm_trace.specs.declared.step.WorkerStep.TheVariants.{LoadOnline, LoadQuiescent, BeginLookup, LoadFirst, LoadSecond, EndLookup, MeetWriter}
 use Rattle.lpm_trace.specs.declared.step.TraceStep.{TraceStep}
 use Rattle.lpm_trace.specs.declared.step.TraceStep.TheVariants.{Writer, Worker as ByWorker}
 use Rattle.lpm_trace.specs.States.{InitialState, IsAnswer, begun_at, version, oldest, state_after, state_at}
@@ -142,9 +142,8 @@ module _ (s : TraceStep) (steps : List TraceStep) where
 
 module _ (steps : List TraceStep) (place number : ℕ) (time : IsTime steps place number) (last : (n : ℕ) → n ≤ length steps → n ≤ number) where
   read_agrees : (a b : ℕ) → a ≡ b → (e : Entry) (ps qs : List Probe) → ProbesAgree steps ps qs → ProbesAgree steps (read_first place a e ∷ ps) (read_first number b e ∷ qs)
-  read_agrees a b same Miss ps qs z = ((same, refl, time, time, omega arith), z)
-  read_agrees a b same (Hop hop depth) ps qs z = ((same, refl, time, time, omega arith), z)
   read_agrees a b same (Group group) ps qs z = ((same, refl, time), z)
+  read_agrees a b same e ps qs z = ((same, refl, time, time, omega arith), z)
 
   first_agrees : (e : Entry) (ps qs : List Probe) → ProbesAgree steps ps qs → ProbesAgree steps (first_read place e ps) (first_read number e qs)
   first_agrees e [] [] z = tt

@@ -10,7 +10,7 @@ use Rattle.lpm_trace.specs.States.{InitialState, TableState, IsSettled, addresse
 use Rattle.lpm_trace.specs.Trace.{Worker, Probe, Unread, InGroup, Answered, Seen, initial_worker, worker_by_step, MayRead, IsRunning, MayCome, after, IsTrace, writes, own_steps, worker_by}
 use Rattle.lpm_trace.specs.Laws.{IsLegalAtPlace, OwnLookupsAreLegal, ArePlaced, OwnStepsArePlaced, VersionsNeverFallAtPlaces, PlacesNeverFall, TraceGrows}
 use Rattle.lpm_trace.proofs.Versions.{Each, each_map, with_at_case, each_all, Shows, keeps_shows, opening_shows, version_ge, version_le, rises, sequence_grows, history_stays, tick}
-use Rattle.lpm_trace.proofs.Good.{Told, ProbeOk, FinishedOk, WorkerOk, Good, worker_moves}
+use Rattle.lpm_trace.proofs.Good.{Told, half_by, ProbeOk, FinishedOk, WorkerOk, Good, worker_moves}
 use Rattle.lpm_trace.proofs.Writing.{keeps_first, keeps_second, held_not_filled, keeps_quiet, keeps_counter}
 use Rattle.std.proofs.lemmas.List.Elements.{All-nil, All-cons, All-head, All-tail, All-weaker}
 use Rattle.std.proofs.lemmas.List.Kept.{AllPairs-cons}
@@ -100,17 +100,9 @@ good_more c A B HA HB w workers more up good = record {
   where
     probe_more : (since lo : ℕ) (phase : _) (p : Probe) → ProbeOk c A w since lo phase p → ProbeOk c B w since lo phase p
     probe_more since lo phase (Unread a) h = h
-    probe_more since lo phase (InGroup a g f) h = record {
-      inside = h.inside;
-      running = h.running;
-      from = h.from;
-      came = h.came;
-      low = h.low;
-      value = elim h.value [
-        | inl x ↦ inl x
-        | inr x ↦ inr (x.0, (x.1.0, x.1.1, x.1.2, more x.1.0 a lo _ x.1.2 x.1.3))
-      ];
-    }
+    probe_more since lo phase (InGroup a g f) h =
+        half_by c A B w w since lo phase a g f (omega arith) (omega arith) h
+        (elim h.value [ inl x ↦ inl x | inr x ↦ inr (x.0, (x.1.0, x.1.1, x.1.2, more x.1.0 a lo _ x.1.2 x.1.3)) ])
     probe_more since lo phase (Answered a y f l) h = (h.0, h.1, (h.2.0, h.2.1, h.2.2, more h.2.0 a lo y (omega (arith, h.1, h.2.2)) h.2.3))
 
 pub begun_grows : (c : InitialState) (ws : List WriterStep) (t : ℕ) → updates_begun_in (state_at c ws t) ≤ updates_begun_in (state_after c ws)

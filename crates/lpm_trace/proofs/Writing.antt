@@ -5,11 +5,11 @@ use Rattle.lpm_trace.specs.declared.step.WriterStep.TheVariants.{LoadCounter, St
 use Rattle.lpm_trace.specs.States.{InitialState, TableState, addresses, Status, Unused, Linked, Retired, answer, updates_done_in, updates_begun_in, state_by_step, lets_pass, MayWrite, first_entry, with_linked, with_retired, with_stamp, MayLink, MayFill, IsFree}
 use Rattle.lpm_trace.specs.Trace.{Worker, Phase, ReportingQuiescent, IsRunning}
 use Rattle.lpm_rules.specs.RuleMap.{RuleMap}
-use Rattle.lpm_trace.proofs.Good.{Told, HeldAs, Good, worker_stays, running_counter, LoadedAs, IsStaleAs, second_place, HalfOk, WorkerOk}
+use Rattle.lpm_trace.proofs.Good.{Told, half_by, HeldAs, Good, worker_stays, running_counter, LoadedAs, IsStaleAs, second_place, HalfOk, WorkerOk}
 use Rattle.std.proofs.lemmas.Nat.{div-mul-add, pow_pos}
 use Rattle.std.proofs.Math.Nat.{mod-lt}
 use Rattle.lpm_cells.specs.declared.entry.Entry.{Entry}
-use Rattle.lpm_cells.specs.declared.entry.Entry.TheVariants.{Miss, Hop, Group}
+use Rattle.lpm_cells.specs.declared.entry.Entry.TheVariants.{Group}
 use Rattle.lpm_cells.specs.Words.{entry_in, hop_in, with_first, last_entry}
 use Rattle.lpm_trace.proofs.Versions.{with_at_case, with_at-same, with_at-other, set_case}
 
@@ -29,14 +29,8 @@ keeps_quiet c A Hi w workers good sequence history answer_changed token more on 
   linked = good.linked;
   workers_ok = λ k. let ok = good.workers_ok k in
       worker_stays c A Hi w (quiet w sequence history answer_changed token) k (workers k) (omega arith) more (omega (arith, on)) ok.grace
-      (λ a g f half. record {
-        inside = half.inside;
-        running = half.running;
-        from = half.from;
-        came = omega (arith, half.came);
-        low = omega (arith, half.low, on);
-        value = elim half.value [ inl h ↦ inl h | inr h ↦ inr (h.0, (h.1.0, h.1.1, omega (arith, h.1.2), h.1.3)) ];
-      }) ok;
+      (λ a g f half. half_by c A A w (quiet w sequence history answer_changed token) (workers k).since (workers k).lo (workers k).phase a g f (omega arith) (omega (arith, on)) half
+      (elim half.value [ inl h ↦ inl h | inr h ↦ inr (h.0, (h.1.0, h.1.1, omega (arith, h.1.2), h.1.3)) ])) ok;
   now = now;
   below = below;
 }
@@ -111,14 +105,8 @@ keeps_counter c A Hi w workers good token k0 value may now below = record {
       worker_stays c A Hi w (state_by_step c w (LoadCounter token k0 value)) k (workers k) (omega arith) (omega arith) (omega arith)
       (λ run g lt. held_counted c w k k0 token value (workers k).counter (workers k).phase (running_counter w.token (workers k).counter (workers k).phase run ok.loaded) (ok.inside run)
       (λ e. may.0 ∙ ap (λ x. (workers x).counter) (sym e)) may.3 (w.groups g) (ok.grace run g lt))
-      (λ a g f half. record {
-        inside = half.inside;
-        running = half.running;
-        from = half.from;
-        came = omega (arith, half.came);
-        low = half.low;
-        value = elim half.value [ inl h ↦ inl h | inr h ↦ inr (h.0, (h.1.0, h.1.1, omega (arith, h.1.2), h.1.3)) ];
-      }) ok;
+      (λ a g f half. half_by c A A w (state_by_step c w (LoadCounter token k0 value)) (workers k).since (workers k).lo (workers k).phase a g f (omega arith) (omega arith) half
+      (elim half.value [ inl h ↦ inl h | inr h ↦ inr (h.0, (h.1.0, h.1.1, omega (arith, h.1.2), h.1.3)) ])) ok;
   now = now;
   below = below;
 }
@@ -137,24 +125,20 @@ held_not_filled c w k counter p inside (Retired token) held (inr h) = omega (ari
 held_not_filled c w k counter p inside s held free = held
 
 free_not_linked : (c : InitialState) (passed : ℕ) (s : Status) (i : ℕ) → s ≡ Linked i → IsFree c passed s → ⊥
-free_not_linked c passed Unused i e free = cc
 free_not_linked c passed (Linked block) i e free = free
-free_not_linked c passed (Retired token) i e free = cc
+free_not_linked c passed s i e free = cc
 
 stamped_later : (old : Entry) (now n : ℕ) (unlinked : ℕ → ℕ) (g : ℕ) → n < now → n < unlinked g → n < with_stamp old now unlinked g
-stamped_later Miss now n unlinked g lt h = h
-stamped_later (Hop hop depth) now n unlinked g lt h = h
 stamped_later (Group group) now n unlinked g lt h = with_at_case (λ x. n < x) unlinked group now g (λ _. lt) (λ _. h)
+stamped_later old now n unlinked g lt h = h
 
 pub stamped_le : (old : Entry) (now : ℕ) (unlinked : ℕ → ℕ) → ((g : ℕ) → unlinked g ≤ now) → (g : ℕ) → with_stamp old now unlinked g ≤ now
-stamped_le Miss now unlinked h g = h g
-stamped_le (Hop hop depth) now unlinked h g = h g
 stamped_le (Group group) now unlinked h g = with_at_case (λ x. x ≤ now) unlinked group now g (λ _. omega arith) (λ _. h g)
+stamped_le old now unlinked h g = h g
 
 pub stamped_ge : (old : Entry) (now : ℕ) (unlinked : ℕ → ℕ) (g : ℕ) → unlinked g ≤ now → unlinked g ≤ with_stamp old now unlinked g
-stamped_ge Miss now unlinked g h = omega arith
-stamped_ge (Hop hop depth) now unlinked g h = omega arith
 stamped_ge (Group group) now unlinked g h = with_at_case (λ x. unlinked g ≤ x) unlinked group now g (λ _. h) (λ _. omega arith)
+stamped_ge old now unlinked g h = omega arith
 
 -- what a worker may yet store was there, so it is below the next token
 stale_next : (token counter : ℕ) (p : Phase) → LoadedAs token counter p → IsStaleAs (suc token) p
@@ -169,79 +153,54 @@ module _ (c : InitialState) (A : Told) (Hi : ℕ → ℕ → Type 0) (w : TableS
   module _ (k : ℕ) (r : Worker) (ok : WorkerOk c A Hi w k r) where
     -- an unlinking: the group is held by every worker whose reader interval runs
     held_retired : IsRunning r.phase → (old : Entry) (g : ℕ) → r.since < with_stamp old (suc w.clock) w.unlinked g → HeldAs w k r.counter r.phase (with_retired old (suc w.token) w.groups g)
-    held_retired run Miss g lt = ok.grace run g lt
-    held_retired run (Hop hop depth) g lt = ok.grace run g lt
     held_retired run (Group group) g lt =
         with_at_case (HeldAs w k r.counter r.phase) w.groups group (Retired (suc w.token)) g
         (λ e. (omega (arith, ok.counter), stale_next w.token r.counter r.phase ok.loaded, omega (arith, good.passed), λ h. absurd (omega (arith, h, good.scan))))
         (λ ne. ok.grace run g (subst (λ n. r.since < n) (with_at-other w.unlinked group (suc w.clock) g ne) lt))
+    held_retired run old g lt = ok.grace run g lt
 
     held_taken : IsRunning r.phase → (i group : ℕ) → IsFree c w.passed (w.groups group) → (old : Entry) → first_entry w.words i ≡ old
         → r.since < with_stamp old (suc w.clock) w.unlinked group → ⊥
-    held_taken run i group free Miss is lt = held_not_free c w k r.counter r.phase (ok.inside run) (w.groups group) (ok.grace run group lt) free
-    held_taken run i group free (Hop hop depth) is lt = held_not_free c w k r.counter r.phase (ok.inside run) (w.groups group) (ok.grace run group lt) free
     held_taken run i group free (Group g) is lt = held_not_free c w k r.counter r.phase (ok.inside run) (w.groups group)
         (ok.grace run group (subst (λ n. r.since < n) (with_at-other w.unlinked g (suc w.clock) group
         (λ same. free_not_linked c w.passed (w.groups group) i (good.linked i group (is ∙ ap Group (sym same))) free)) lt)) free
+    held_taken run i group free old is lt = held_not_free c w k r.counter r.phase (ok.inside run) (w.groups group) (ok.grace run group lt) free
 
     -- the store of a first word: what is held stays held
     held_linked : IsRunning r.phase → (i : ℕ) (e : Entry) → MayLink c w e
         → (g : ℕ) → r.since < with_stamp (first_entry w.words i) (suc w.clock) w.unlinked g → HeldAs w k r.counter r.phase (with_linked e i (with_retired (first_entry w.words i) (suc w.token) w.groups) g)
-    held_linked run i Miss may g lt = held_retired run (first_entry w.words i) g lt
-    held_linked run i (Hop hop depth) may g lt = held_retired run (first_entry w.words i) g lt
     held_linked run i (Group group) may g lt =
         with_at_case (HeldAs w k r.counter r.phase) (with_retired (first_entry w.words i) (suc w.token) w.groups) group (Linked i) g
         (λ e. held_taken run i group may (first_entry w.words i) refl (subst (λ x. r.since < with_stamp (first_entry w.words i) (suc w.clock) w.unlinked x) e lt))
         (λ ne. held_retired run (first_entry w.words i) g lt)
+    held_linked run i e may g lt = held_retired run (first_entry w.words i) g lt
 
     half_first : (i x : ℕ) → i < length w.words.firsts → (a g f : ℕ)
         → HalfOk c A w r.since r.lo r.phase a g f → HalfOk c A (state_by_step c w (StoreFirst i x)) r.since r.lo r.phase a g f
     half_first i x inside a g f half =
         let came : f ≤ w.clock = half.came in
-        record {
-          inside = half.inside;
-          running = half.running;
-          from = half.from;
-          came = omega (arith, came);
-          low = half.low;
-          value = elim half.value [
-            | inl h ↦ set_case (λ y. (entry_in y ≡ Group g) ⊎ ((f < with_stamp (first_entry w.words i) (suc w.clock) w.unlinked g)
-                × ((t : ℕ) × (f ≤ t) × (t ≤ suc w.clock) × A t a r.lo (hop_in (entry_in (slice_index w.words.seconds (second_place c a g)))))))
-                w.words.firsts i x (a / 2 ^ c.second) inside
-                (λ same. inr (
-                  subst (λ old. f < with_stamp old (suc w.clock) w.unlinked g) (sym h ∙ ap (first_entry w.words) same) (subst (λ n. f < n) (sym (with_at-same w.unlinked g (suc w.clock))) (omega (arith, came))),
-                  (w.clock, came, omega arith, subst (λ y. A w.clock a r.lo (hop_in (last_entry c.second w.words.seconds (a % 2 ^ c.second) y))) h (good.now a r.lo half.inside half.low)),
-                ))
-                (λ ne. inl h)
-            | inr h ↦ inr (stamped_later (first_entry w.words i) (suc w.clock) f w.unlinked g (omega (arith, came)) h.0, (h.1.0, h.1.1, omega (arith, h.1.2), h.1.3))
-          ];
-        }
+        half_by c A A w (state_by_step c w (StoreFirst i x)) r.since r.lo r.phase a g f (omega arith) (omega arith) half (elim half.value [
+          | inl h ↦ set_case (λ y. (entry_in y ≡ Group g) ⊎ ((f < with_stamp (first_entry w.words i) (suc w.clock) w.unlinked g)
+              × ((t : ℕ) × (f ≤ t) × (t ≤ suc w.clock) × A t a r.lo (hop_in (entry_in (slice_index w.words.seconds (second_place c a g)))))))
+              w.words.firsts i x (a / 2 ^ c.second) inside
+              (λ same. inr (
+                subst (λ old. f < with_stamp old (suc w.clock) w.unlinked g) (sym h ∙ ap (first_entry w.words) same) (subst (λ n. f < n) (sym (with_at-same w.unlinked g (suc w.clock))) (omega (arith, came))),
+                (w.clock, came, omega arith, subst (λ y. A w.clock a r.lo (hop_in (last_entry c.second w.words.seconds (a % 2 ^ c.second) y))) h (good.now a r.lo half.inside half.low)),
+              ))
+              (λ ne. inl h)
+          | inr h ↦ inr (stamped_later (first_entry w.words i) (suc w.clock) f w.unlinked g (omega (arith, came)) h.0, (h.1.0, h.1.1, omega (arith, h.1.2), h.1.3))
+        ])
 
     half_second : (j x : ℕ) → MayFill c w.passed (w.groups (j / 2 ^ c.second)) → (a g f : ℕ)
         → HalfOk c A w r.since r.lo r.phase a g f → HalfOk c A (state_by_step c w (StoreSecond j x)) r.since r.lo r.phase a g f
-    half_second j x may a g f half = record {
-      inside = half.inside;
-      running = half.running;
-      from = half.from;
-      came = omega (arith, half.came);
-      low = half.low;
-      value = elim half.value [
-        | inl h ↦ inl h
-        | inr h ↦
-            let other : second_place c a g ≢ j = λ same. held_not_filled c w k r.counter r.phase (ok.inside half.running) (w.groups g)
-            (ok.grace half.running g (omega (arith, half.from, h.0)))
-            (subst (λ n. MayFill c w.passed (w.groups n)) (ap (λ n. n / 2 ^ c.second) (sym same) ∙ place_in_group c a g) may) in
-            inr (
-              h.0,
-              (
-                h.1.0,
-                h.1.1,
-                omega (arith, h.1.2),
-                subst (λ y. A h.1.0 a r.lo (hop_in (entry_in y))) (sym (get_or-set_other w.words.seconds j (second_place c a g) x 0 other)) h.1.3,
-              ),
-            )
-      ];
-    }
+    half_second j x may a g f half = half_by c A A w (state_by_step c w (StoreSecond j x)) r.since r.lo r.phase a g f (omega arith) (omega arith) half (elim half.value [
+      | inl h ↦ inl h
+      | inr h ↦
+          let other : second_place c a g ≢ j = λ same. held_not_filled c w k r.counter r.phase (ok.inside half.running) (w.groups g)
+          (ok.grace half.running g (omega (arith, half.from, h.0)))
+          (subst (λ n. MayFill c w.passed (w.groups n)) (ap (λ n. n / 2 ^ c.second) (sym same) ∙ place_in_group c a g) may) in
+          inr (h.0, (h.1.0, h.1.1, omega (arith, h.1.2), subst (λ y. A h.1.0 a r.lo (hop_in (entry_in y))) (sym (get_or-set_other w.words.seconds j (second_place c a g) x 0 other)) h.1.3))
+    ])
 
   linked_first : (i x : ℕ) → i < length w.words.firsts → MayLink c w (entry_in x) → (j g : ℕ) → first_entry (with_first w.words i x) j ≡ Group g
       → with_linked (entry_in x) i (with_retired (first_entry w.words i) (suc w.token) w.groups) g ≡ Linked j
@@ -250,18 +209,16 @@ module _ (c : InitialState) (A : Told) (Hi : ℕ → ℕ → Type 0) (w : TableS
       (λ ne is.
       let was : w.groups g ≡ Linked j = good.linked j g is in
       let kept : (old : Entry) → first_entry w.words i ≡ old → with_retired old (suc w.token) w.groups g ≡ Linked j = λ old. elim old as (λ o. first_entry w.words i ≡ o → with_retired o (suc w.token) w.groups g ≡ Linked j) [
-        | Miss ↦ λ _. was
-        | Hop hop depth ↦ λ _. was
         | Group g0 ↦ λ here. with_at_case (λ s. s ≡ Linked j) w.groups g0 (Retired (suc w.token)) g
             (λ e0. absurd (ne (let again : w.groups g ≡ Linked i = good.linked i g (here ∙ ap Group (sym e0)) in cc (was, again))))
             (λ _. was)
+        | o ↦ λ _. was
       ] in
       elim (entry_in x) as (λ e. MayLink c w e → with_linked e i (with_retired (first_entry w.words i) (suc w.token) w.groups) g ≡ Linked j) [
-        | Miss ↦ λ _. kept (first_entry w.words i) refl
-        | Hop hop depth ↦ λ _. kept (first_entry w.words i) refl
         | Group g1 ↦ λ free. with_at_case (λ s. s ≡ Linked j) (with_retired (first_entry w.words i) (suc w.token) w.groups) g1 (Linked i) g
             (λ e1. absurd (free_not_linked c w.passed (w.groups g1) j (ap w.groups (sym e1) ∙ was) free))
             (λ _. kept (first_entry w.words i) refl)
+        | o ↦ λ _. kept (first_entry w.words i) refl
       ] may)
 
   pub keeps_first : (i x : ℕ) → i < length w.words.firsts → MayLink c w (entry_in x)
