@@ -14,7 +14,7 @@ use Rattle.std.proofs.lemmas.List.Elements.{All-cons, All-nil}
 use Rattle.lpm_bits.specs.Network.{Network, Covers, prefix_of}
 use Rattle.lpm_rules.specs.Changes.{rules_with, rules_after, Spares}
 use Rattle.lpm_rules.specs.Longest.{IsLongestHop}
-use Rattle.lpm_rules.specs.declared.Change.TheVariants.{Add, Delete, Flush, Reclaim, Synchronize}
+use Rattle.lpm_rules.specs.declared.Change.TheVariants.{Add, Delete, Flush, Synchronize}
 use Rattle.lpm_rules.proofs.Views.{not_some, insert_cases, insert_here, remove_cases, remove_here}
 use Rattle.lpm_rules.proofs.Longest.{network_at, covers_masked, one_longest_hop, rules_after-append, spared_is_kept}
 use Rattle.std.specs.Option.{option_eq}
@@ -24,11 +24,10 @@ use Rattle.std.proofs.Math.Seq.{take-add}
 wrong_kept : (f s : ℕ) (R : RuleMap) (history : List (Change f s)) (answers : List (ℕ × Answer)) (marks : List Bool) → AreMarks R history answers marks
     → AreWrong R history answers (length (filter (λ m. not m) marks))
 wrong_kept f s R history [] [] all = refl
-wrong_kept f s R history [] (m ∷ ms) all = absurd all
-wrong_kept f s R history (x ∷ xs) [] all = absurd all
 wrong_kept f s R history (x ∷ xs) (true ∷ ms) all = inr (all.0.0 refl, wrong_kept f s R history xs ms all.1)
 wrong_kept f s R history (x ∷ xs) (false ∷ ms) all =
     inl (λ is. (let z = all.0.1 is in cc), (length (filter (λ m. not m) ms), refl, wrong_kept f s R history xs ms all.1))
+wrong_kept f s R history _ _ all = absurd all
 
 pub wrong_marks : (f s : ℕ) (R : RuleMap) (history : List (Change f s)) (answers : List (ℕ × Answer)) (marks : List Bool) → AreMarks R history answers marks
     → AreWrong R history answers (count_by (λ m. not m) marks)
@@ -47,25 +46,21 @@ kept_one f s R p c h = spared_is_kept f s R p (c ∷ []) (All-cons (Spares p) c 
 pub set_here : (f s : ℕ) (R : RuleMap) (c : Change f s) (p : Network) → prefix_in c ≡ Some p → get (rules_with R c) p ≡ hop_in c
 set_here f s R (Add q h) p e = let same : q ≡ p = cc in ap (get (insert R q h)) (sym same) ∙ insert_here R q h
 set_here f s R (Delete q) p e = let same : q ≡ p = cc in ap (get (remove R q)) (sym same) ∙ remove_here R q
-set_here f s R Flush p e = cc
-set_here f s R (Reclaim n) p e = cc
-set_here f s R Synchronize p e = cc
+set_here f s R c p e = cc
 
 -- a change spares a prefix that it isn't of, unless it is a flush
 pub spares : (f s : ℕ) (p : Network) (c : Change f s) → (prefix_in c ≡ Some p → ⊥) → c ≢ Flush → Spares p c
 spares f s p (Add q h) other calm = λ e. other (ap Some (sym e))
 spares f s p (Delete q) other calm = λ e. other (ap Some (sym e))
 spares f s p Flush other calm = absurd (calm refl)
-spares f s p (Reclaim n) other calm = tt
-spares f s p Synchronize other calm = tt
+spares f s p c other calm = tt
 
 -- a change that doesn't touch an address spares the prefixes that cover it
 spared : (f s a : ℕ) (q : Network) (c : Change f s) → (Touches a c → ⊥) → Covers (f + s) q a → Spares q c
 spared f s a q (Add p h) calm cov = λ e. calm (subst (λ x. Covers (f + s) x a) e cov)
 spared f s a q (Delete p) calm cov = λ e. calm (subst (λ x. Covers (f + s) x a) e cov)
 spared f s a q Flush calm cov = absurd (calm tt)
-spared f s a q (Reclaim n) calm cov = tt
-spared f s a q Synchronize calm cov = tt
+spared f s a q c calm cov = tt
 
 -- what holds of the prefix of a change, and of each prefix that has a rule, holds after the change
 all_with : (f s : ℕ) (P : Network → Type 0) (R : RuleMap) (c : Change f s) → ((p : Network) → prefix_in c ≡ Some p → P p)
@@ -79,8 +74,7 @@ all_with f s P R (Delete p) new old q some = elim (remove_cases R p q) [
   | inr k ↦ old q (subst IsSome k some)
 ]
 all_with f s P R Flush new old q some = absurd (not_some (get-empty network_cmp q) some)
-all_with f s P R (Reclaim n) new old q some = old q some
-all_with f s P R Synchronize new old q some = old q some
+all_with f s P R c new old q some = old q some
 
 -- where two rule lists have the same rules of the prefixes that cover an address, it goes to the same
 longest_same : (width a : ℕ) (Q R : RuleMap) (hop : Option ℕ) → ((q : Network) → Covers width q a → get Q q ≡ get R q)
@@ -171,9 +165,8 @@ module _ (f s : ℕ) (history : List (Change f s)) where
 
 pub same_hops : (x y : Option ℕ) → IsTrue (option_eq nat_eq x y) ↔ (x ≡ y)
 same_hops None None = (λ _. refl, λ _. refl)
-same_hops None (Some y) = (λ e. cc, λ e. cc)
-same_hops (Some x) None = (λ e. cc, λ e. cc)
 same_hops (Some x) (Some y) = (λ e. ap Some (eqb-true x y e), λ e. eq-eqb x y cc)
+same_hops _ _ = (λ e. cc, λ e. cc)
 
 -- a hop is the longest match just where it equals the one that is
 pub same_longest : (width a : ℕ) (R : RuleMap) (x y : Option ℕ) (r : Bool) → AllNetworks width R → IsLongestHop width R a x → r ≡ option_eq nat_eq x y
