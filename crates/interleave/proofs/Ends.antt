@@ -29,6 +29,7 @@ use Rattle.interleave.specs.declared.seen.Seen.{Seen}
 use Rattle.interleave.specs.Record.{finished_by, seen_by, all_seen, seen_of}
 use Rattle.interleave.proofs.Lookups.{finished_then}
 use Rattle.lpm_trace.specs.Laws.{at_moment, by_steps, rules_of_version, Unlinks, Fills}
+use Rattle.lpm_trace.proofs.Grace.{older_trace}
 use Rattle.lpm_trace.proofs.Traces.{tables_of, history_at}
 use Rattle.lpm_trace.proofs.Moments.{count, writes_oldest}
 use Rattle.lpm_trace.proofs.Promises.{lookups_are_legal, versions_never_fall, reuse_is_lawful, rest_answers}
@@ -80,6 +81,9 @@ run_ends f s config script scripts as_many schedule steps shown performed played
 
 items_same : (v z : WorldView) → scripts_and_schedule z ≡ scripts_and_schedule v → writer_items z.schedule ≡ writer_items v.schedule
 items_same v z e = ap (λ x. writer_items x.1) e
+
+not_true : false ≡ true → ⊥
+not_true e = cc
 
 module _ (f s : ℕ) where
   abbrev pub Rests : InitialState → List WriterStep → ControlState f s → Type 0
@@ -149,9 +153,6 @@ module _ (f s : ℕ) where
             | inr high ↦ omega (arith, high)
           ]),
         )
-      where
-        not_true : false ≡ true → ⊥
-        not_true e = cc
 
     module _ (change : Change f s) (left : List (Change f s)) (tries : ℕ) (m' : WorldView) (l' : ControlState f s) (config : l.config ≡ l0.config) (is_left : IsLeft m true) (still : scripts_and_schedule m' ≡ scripts_and_schedule m0) where
       abbrev pub begins : (c : InitialState) (steps : List WriterStep) → WorldDid f s m c steps → Type 0
@@ -174,9 +175,6 @@ module _ (f s : ℕ) where
             performed_more c f s l0.config n (kept_in l0 []) done replies (kept_in l h.0) change reply (kept_in l' now.0) h.3 (low c h.0 h.1) high
                 (subst (λ x. Answers c f s x (kept_in l h.0) change reply (kept_in l' now.0)) config now.3, at_rest c now.0 l' now.2),
           )
-        where
-          not_true : false ≡ true → ⊥
-          not_true e = cc
 
       pub ends_late : (reply : Reply) → HasCome y l change tries (Some reply) m' l' → IsLate m' true → HasEnded m0 l0 (done ++ change ∷ left) replies m'
       ends_late reply come late c did rests =
@@ -254,11 +252,6 @@ either c xs ys false x y = y
 pub oldest_trace : (c : InitialState) (t : ℕ) (steps : List TraceStep) → IsTrace c steps → IsTrace c (oldest t steps)
 oldest_trace c t [] trace = tt
 oldest_trace c t (s ∷ steps) trace = either c (oldest t steps) (s ∷ steps) (leb t (length steps)) (oldest_trace c t steps trace.1) trace
-
--- the newest steps of a trace taken away
-pub older_trace : (c : InitialState) (newer steps : List TraceStep) → IsTrace c (newer ++ steps) → IsTrace c steps
-older_trace c [] steps trace = trace
-older_trace c (s ∷ newer) steps trace = older_trace c newer steps trace.1
 
 rests : (c : InitialState) (steps : List TraceStep) → IsSettled c → IsTrace c steps → (t : ℕ) → updates_done_in (at_moment c steps t) ≡ updates_begun_in (at_moment c steps t)
     → (a : ℕ) → a < addresses c → IsAnswer c (rules_of_version c steps (updates_done_in (at_moment c steps t))) a (answer c (at_moment c steps t).words a)

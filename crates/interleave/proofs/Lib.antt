@@ -1,6 +1,5 @@
 pub mod Waited
 pub mod Performing
-pub mod Timeless
 pub mod Items
 pub mod Turning
 pub mod Reaching

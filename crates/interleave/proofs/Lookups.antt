@@ -24,27 +24,22 @@ use Rattle.interleave.specs.declared.worker.Phase.TheVariants as phase
 begun_push : (xs : List Probe) (p : Probe) → AreBegun (probes_of xs) → AreBegun (probe_of p ∷ []) → AreBegun (probes_of (xs ++ p ∷ []))
 begun_push [] p h k = k
 begun_push (Unread a ∷ xs) p h k = absurd h
-begun_push (InGroup a g f ∷ xs) p h k = begun_push xs p h k
-begun_push (Answered a x f l ∷ xs) p h k = begun_push xs p h k
+begun_push (x ∷ xs) p h k = begun_push xs p h k
 
 answered_push : (xs : List Probe) (p : Probe) → AreAnswered (probes_of xs) → AreAnswered (probe_of p ∷ []) → AreAnswered (probes_of (xs ++ p ∷ []))
 answered_push [] p h k = k
-answered_push (Unread a ∷ xs) p h k = absurd h
-answered_push (InGroup a g f ∷ xs) p h k = absurd h
 answered_push (Answered a x f l ∷ xs) p h k = answered_push xs p h k
+answered_push (x ∷ xs) p h k = absurd h
 
 begun_one : (p : Probe) → ((a : ℕ) → p ≡ Unread a → ⊥) → AreBegun (probe_of p ∷ [])
 begun_one (Unread a) not = not a refl
-begun_one (InGroup a g f) not = tt
-begun_one (Answered a x f l) not = tt
+begun_one p not = tt
 
 read_at : (xs : List Probe) (i : ℕ) (d : Probe) → i < length xs → AreBegun (probes_of xs) → AreBegun (probe_of (get_or xs i d) ∷ [])
 read_at [] i d l h = absurd (omega (arith, l))
 read_at (Unread a ∷ xs) i d l h = absurd h
-read_at (InGroup a g f ∷ xs) zero d l h = tt
-read_at (Answered a x f k ∷ xs) zero d l h = tt
-read_at (InGroup a g f ∷ xs) (suc i) d l h = read_at xs i d (omega (arith, l)) h
-read_at (Answered a x f k ∷ xs) (suc i) d l h = read_at xs i d (omega (arith, l)) h
+read_at (x ∷ xs) zero d l h = tt
+read_at (x ∷ xs) (suc i) d l h = read_at xs i d (omega (arith, l)) h
 
 answered_one : (p : Probe) → AreBegun (probe_of p ∷ []) → ((a g f : ℕ) → p ≡ InGroup a g f → ⊥) → AreAnswered (probe_of p ∷ [])
 answered_one (Unread a) h not = absurd h
@@ -88,18 +83,16 @@ grouped_at xs i a g f d p l is e h = record {
 -- they come after those before
 answers_after : (lo hi : ℕ) (ps : List TraceProbe) (before : List Seen) → with_answers lo hi ps before ≡ with_answers lo hi ps [] ++ before
 answers_after lo hi [] before = refl
-answers_after lo hi (T.Unread a ∷ ps) before = answers_after lo hi ps before
-answers_after lo hi (T.InGroup a g f ∷ ps) before = answers_after lo hi ps before
 answers_after lo hi (T.Answered a x f l ∷ ps) before =
     let s : Seen = record { addr = a; hop = x; first = f; last = l; lo = lo; hi = hi } in
     answers_after lo hi ps (s ∷ before) ∙ sym (append_assoc (with_answers lo hi ps []) (s ∷ []) before) ∙ ap (λ (xs : List Seen). xs ++ before) (sym (answers_after lo hi ps (s ∷ [])))
+answers_after lo hi (p ∷ ps) before = answers_after lo hi ps before
 
 -- of more addresses
 answers_push : (lo hi : ℕ) (ps qs : List TraceProbe) (before : List Seen) → with_answers lo hi (ps ++ qs) before ≡ with_answers lo hi qs (with_answers lo hi ps before)
 answers_push lo hi [] qs before = refl
-answers_push lo hi (T.Unread a ∷ ps) qs before = answers_push lo hi ps qs before
-answers_push lo hi (T.InGroup a g f ∷ ps) qs before = answers_push lo hi ps qs before
 answers_push lo hi (T.Answered a x f l ∷ ps) qs before = answers_push lo hi ps qs _
+answers_push lo hi (p ∷ ps) qs before = answers_push lo hi ps qs before
 
 -- the answers to these addresses of worker k, in order
 abbrev pub noted : ℕ → ℕ → ℕ → List Probe → List Noted
@@ -122,9 +115,8 @@ noted_answer k lo hi xs i d p old before after a x h f l inside is e hop was now
     now ∙ ap (λ (y : Option ℕ). before ++ record { worker = k; addr = a; hop = y; first = f; last = l; lo = lo; hi = hi } ∷ []) hop ∙ ap (λ (ss : List Noted). ss ++ s ∷ []) was ∙ append_assoc old (noted k lo hi (take i xs)) (s ∷ []) ∙ ap (λ (ss : List Noted). old ++ ss) (sym (ap (noted k lo hi) more ∙ noted_push k lo hi (take i xs) (Answered a x f l)))
 
 unanswered : (k lo hi : ℕ) (q : Probe) → ((a x f l : ℕ) → q ≡ Answered a x f l → ⊥) → noted k lo hi (q ∷ []) ≡ []
-unanswered k lo hi (Unread a) not = refl
-unanswered k lo hi (InGroup a g f) not = refl
 unanswered k lo hi (Answered a x f l) not = absurd (not a x f l refl)
+unanswered k lo hi q not = refl
 
 pub noted_none : (k lo hi : ℕ) (xs : List Probe) (i : ℕ) (d p : Probe) (old before : List Noted) → i < length xs → p ≡ get_or xs i d → ((a x f l : ℕ) → p ≡ Answered a x f l → ⊥)
     → before ≡ old ++ noted k lo hi (take i xs) → before ≡ old ++ noted k lo hi (take (i + 1) xs)
@@ -136,16 +128,8 @@ noted_none k lo hi xs i d p old before inside is not was =
 
 -- a step's come before those of the steps before it
 pub finished_then : (now : ℕ) (r : Worker) (s : WorkerStep) → (worker_by_step now r s).finished ≡ finished_by r s ++ r.finished
-finished_then now r (step.LoadOnline token) = refl
-finished_then now r (step.StoreOnline token) = refl
-finished_then now r (step.LoadQuiescent token) = refl
-finished_then now r (step.StoreQuiescent token) = refl
-finished_then now r step.StoreOffline = refl
-finished_then now r (step.BeginLookup addrs sequence) = refl
-finished_then now r (step.LoadFirst word) = refl
-finished_then now r (step.LoadSecond word) = refl
 finished_then now r (step.EndLookup sequence) = answers_after r.lo (begun_at sequence) r.probes r.finished
-finished_then now r (step.MeetWriter sequence) = refl
+finished_then now r s = refl
 
 -- The steps of a lookup: a first word, a second word.
 
@@ -155,43 +139,37 @@ module _ (a : ℕ) (after : List Probe) where
   next_first_is : (c : InitialState) (before : List Probe) → AreBegun (probes_of before) → next_first c (probes_of (before ++ Unread a ∷ after)) ≡ a / 2 ^ c.second
   next_first_is c [] b = refl
   next_first_is c (Unread x ∷ before) b = absurd b
-  next_first_is c (InGroup x g f ∷ before) b = next_first_is c before b
-  next_first_is c (Answered x h f l ∷ before) b = next_first_is c before b
+  next_first_is c (x ∷ before) b = next_first_is c before b
 
   is_next_first : (c : InitialState) (w : TableState) (word : ℕ) → word ≡ slice_index w.words.firsts (a / 2 ^ c.second) → (before : List Probe) → AreBegun (probes_of before)
       → IsNextFirst c w word (probes_of (before ++ Unread a ∷ after))
   is_next_first c w word is [] b = is
   is_next_first c w word is (Unread x ∷ before) b = absurd b
-  is_next_first c w word is (InGroup x g f ∷ before) b = is_next_first c w word is before b
-  is_next_first c w word is (Answered x h f l ∷ before) b = is_next_first c w word is before b
+  is_next_first c w word is (x ∷ before) b = is_next_first c w word is before b
 
   first_read_is : (now : ℕ) (e : Entry) (p : Probe) → probe_of p ≡ read_first now a e → (before : List Probe) → AreBegun (probes_of before)
       → first_read now e (probes_of (before ++ Unread a ∷ after)) ≡ probes_of (before ++ p ∷ after)
   first_read_is now e p is [] b = ap (λ q. q ∷ probes_of after) (sym is)
   first_read_is now e p is (Unread x ∷ before) b = absurd b
-  first_read_is now e p is (InGroup x g f ∷ before) b = ap (λ ps. probe_of (InGroup x g f) ∷ ps) (first_read_is now e p is before b)
-  first_read_is now e p is (Answered x h f l ∷ before) b = ap (λ ps. probe_of (Answered x h f l) ∷ ps) (first_read_is now e p is before b)
+  first_read_is now e p is (x ∷ before) b = ap (λ ps. probe_of x ∷ ps) (first_read_is now e p is before b)
 
 module _ (a g f : ℕ) (after : List Probe) where
   next_second_is : (c : InitialState) (before : List Probe) → AreAnswered (probes_of before) → next_second c (probes_of (before ++ InGroup a g f ∷ after)) ≡ g * 2 ^ c.second + a % 2 ^ c.second
   next_second_is c [] b = refl
-  next_second_is c (Unread x ∷ before) b = absurd b
-  next_second_is c (InGroup x y z ∷ before) b = absurd b
   next_second_is c (Answered x h y z ∷ before) b = next_second_is c before b
+  next_second_is c (x ∷ before) b = absurd b
 
   is_next_second : (c : InitialState) (w : TableState) (word : ℕ) → word ≡ slice_index w.words.seconds (g * 2 ^ c.second + a % 2 ^ c.second) → (before : List Probe) → AreAnswered (probes_of before)
       → IsNextSecond c w word (probes_of (before ++ InGroup a g f ∷ after))
   is_next_second c w word is [] b = is
-  is_next_second c w word is (Unread x ∷ before) b = absurd b
-  is_next_second c w word is (InGroup x y z ∷ before) b = absurd b
   is_next_second c w word is (Answered x h y z ∷ before) b = is_next_second c w word is before b
+  is_next_second c w word is (x ∷ before) b = absurd b
 
   second_read_is : (now word : ℕ) (before : List Probe) → AreAnswered (probes_of before)
       → second_read now (entry_in word) (probes_of (before ++ InGroup a g f ∷ after)) ≡ probes_of (before ++ Answered a word f now ∷ after)
   second_read_is now word [] b = refl
-  second_read_is now word (Unread x ∷ before) b = absurd b
-  second_read_is now word (InGroup x y z ∷ before) b = absurd b
   second_read_is now word (Answered x h y z ∷ before) b = ap (λ ps. probe_of (Answered x h y z) ∷ ps) (second_read_is now word before b)
+  second_read_is now word (x ∷ before) b = absurd b
 
 -- ---- the step
 

@@ -11,9 +11,10 @@ use Rattle.lpm_trace.specs.declared.step.TraceStep.TheVariants.{Writer, Worker a
 use Rattle.lpm_trace.specs.States.{InitialState}
 use Rattle.lpm_trace.specs.Trace.{IsTrace, writes}
 use Rattle.interleave.specs.Scripts.{AreOf, steps_by}
-use Rattle.interleave.specs.World.{HasEnded, IsScheduled, AreScripted, writer_items, scripts_and_schedule, IsWorld, IsDoneAfter, IsWritersTurn, WorldDid, Reaches, StaysShared, TakesTurn, IsPlayedOut, with_beyond, used_items, WorldDoes}
+use Rattle.interleave.specs.World.{HasEnded, IsScheduled, AreScripted, writer_items, scripts_and_schedule, IsWorld, IsDoneAfter, IsWritersTurn, WorldDid, Reaches, StaysShared, TakesTurn, IsPlayedOut, used_items, WorldDoes}
+use Rattle.lpm_trace.proofs.Grace.{older_trace}
 use Rattle.interleave.proofs.Items.{one_each, one_at_most, items_left, items_all, items_used, used_all, makes_still}
-use Rattle.interleave.proofs.Turning.{passed_by, turn_passes, none_beyond, FindsShown, sequence_within, recorded_does, unrecorded_does}
+use Rattle.interleave.proofs.Turning.{passed_by, trace_stays, turn_passes, none_beyond, FindsShown, sequence_within, recorded_does, unrecorded_does}
 use Rattle.std.specs.Prelude.{MatchBool}
 use Rattle.lpm_writer.specs.Plain.{MayBeNext}
 
@@ -90,22 +91,8 @@ plays_start first second v c steps did =
     let world = did.2 in (
       did.0,
       did.1,
-      record {
-        first_bits = world.first_bits;
-        second_bits = world.second_bits;
-        workers = world.workers;
-        may_come = world.may_come;
-        words_are = world.words_are;
-        token_is = world.token_is;
-        sequence_is = world.sequence_is;
-        made = makes_still (length v.scripts) (script_at v.scripts) (IsDoneAfter None) (IsDoneAfter (Some steps)) (λ earlier never. absurd never) (used_items v.schedule v.next) did.0 world.made;
-        shown = world.shown;
-        finished = world.finished;
-        at = world.at;
-        at_end = world.at_end;
-        late = world.late;
-        in_time = world.in_time;
-      },
+      trace_stays first second v c None (Some steps) did.0 did.1 v.next world
+          (makes_still (length v.scripts) (script_at v.scripts) (IsDoneAfter None) (IsDoneAfter (Some steps)) (λ earlier never. absurd never) (used_items v.schedule v.next) did.0 world.made) world.at_end,
       did.3,
       λ some. made_each first second v c did.0 did.1 world ∙ items_all v.schedule v.next (world.at_end some),
     )
@@ -133,10 +120,6 @@ plays_pass first second v y next more plays turn c steps did =
 
 -- ---- the end
 
-trace_within : (c : InitialState) (beyond : List WriterStep) (trace : List TraceStep) → IsTrace c (with_beyond beyond trace) → IsTrace c trace
-trace_within c [] trace may = may
-trace_within c (s ∷ beyond) trace may = trace_within c beyond trace may.1
-
 -- a worker that isn't there makes no step
 no_steps : (c : InitialState) (k : ℕ) → c.workers ≤ k → (trace : List TraceStep) → IsTrace c trace → steps_by k trace ≡ []
 no_steps c k out [] may = refl
@@ -154,7 +137,7 @@ scripted first second z c whole trace beyond world k = elim (cases_lt k (length 
     begun = [];
     left = script_at z.scripts k;
     cut = refl;
-    made = subst (AreOf []) (sym (no_steps c k (omega (arith, out, world.workers)) trace (trace_within c beyond trace world.may_come))) refl;
+    made = subst (AreOf []) (sym (no_steps c k (omega (arith, out, world.workers)) trace (older_trace c (map Writer beyond) trace world.may_come))) refl;
   }
 ]
 

@@ -11,7 +11,7 @@ use Rattle.interleave.specs.Scripts.{IsSound, IsSoundFrom, IsCut, GoesOn}
 use Rattle.interleave.specs.View.{WorldView, script_at}
 use Rattle.interleave.specs.World.{WorldDid, AreAt, AreNew, IsInitial}
 use Rattle.lpm_trace.specs.declared.kind.Step.{Step}
-use Rattle.lpm_trace.specs.Trace.{Worker, Phase, Offline, ComingOnline, Online, LookingUp, ReportingQuiescent, IsBetweenDeeds, Unread, worker_by_step, MayRead}
+use Rattle.lpm_trace.specs.Trace.{Worker, Phase, Offline, Online, IsBetweenDeeds, Unread, worker_by_step, MayRead}
 use Rattle.interleave.specs.Record.{step_of_worker, shown_by}
 use Rattle.interleave.specs.Machine.{Shows, Makes, BeginsDeed, is_online, phase_of, probes_of, ContinuesDeed, IsAt, IsOf, IsInRange, IsNoted, Advances}
 use Rattle.std.proofs.lemmas.List.{append-nil, append_assoc, get_or_at, length-append, length-reverse, reverse-append}
@@ -80,17 +80,12 @@ begins first second groups token words machines scripts schedule c opening first
 
 offline_is : (p : Phase) → is_online p ≡ false → p ≡ Offline
 offline_is Offline e = refl
-offline_is (ComingOnline t) e = absurd cc
-offline_is Online e = absurd cc
-offline_is LookingUp e = absurd cc
-offline_is (ReportingQuiescent t) e = absurd cc
+offline_is p e = absurd cc
 
 online_is : (p : Phase) → IsBetweenDeeds p → is_online p ≡ true → p ≡ Online
 online_is Offline b e = absurd cc
-online_is (ComingOnline t) b e = absurd b
 online_is Online b e = refl
-online_is LookingUp b e = absurd b
-online_is (ReportingQuiescent t) b e = absurd b
+online_is p b e = absurd b
 
 probes_unread : (addrs : List ℕ) → map Unread addrs ≡ probes_of (map probe.Unread addrs)
 probes_unread [] = refl
@@ -216,16 +211,12 @@ is_between m r shows at = elim at [
 ]
 
 goes_on_online : (c : InitialState) (w : TableState) (now : ℕ) (r : Worker) (s : WorkerStep) → GoesOn s → MayRead c w r s → is_online (worker_by_step now r s).phase ≡ is_online r.phase
-goes_on_online c w now r (step.LoadOnline t) goes may = absurd goes
 goes_on_online c w now r (step.StoreOnline t) goes may = ap is_online (sym may)
-goes_on_online c w now r (step.LoadQuiescent t) goes may = absurd goes
 goes_on_online c w now r (step.StoreQuiescent t) goes may = ap is_online (sym may)
-goes_on_online c w now r step.StoreOffline goes may = absurd goes
-goes_on_online c w now r (step.BeginLookup addrs x) goes may = absurd goes
 goes_on_online c w now r (step.LoadFirst x) goes may = refl
 goes_on_online c w now r (step.LoadSecond x) goes may = refl
 goes_on_online c w now r (step.EndLookup x) goes may = ap is_online (sym may.0)
-goes_on_online c w now r (step.MeetWriter x) goes may = absurd goes
+goes_on_online c w now r s goes may = absurd goes
 
 module _ (first second : ℕ) (words : Words) (sequence token : ℕ) (c : InitialState) (w : TableState) (k now : ℕ) (script : List Deed) (r : Worker) (own : List WorkerStep) (m : Machine)
     (ok : IsWords first second words) (of : IsOf first second words sequence token c w) (at : IsAt first second (length words.seconds) m script r own) where

@@ -1,5 +1,5 @@
 -- A worker's turn.
-use Rattle.std.proofs.Common.{◌≡◌, ℕ, suc, ◌+◌, ◌<◌, ◌≤◌, vec_len, inl, inr, cond, List, [], ◌∷◌, ◌++◌, length, map, reverse, get_or, refl, sym, ap, subst, ◌∙◌, arith, add-one, get_or-set_same, get_or-set_other, Option, None}
+use Rattle.std.proofs.Common.{◌≡◌, ◌≢◌, ℕ, suc, ◌+◌, ◌*◌, ◌/◌, ◌%◌, ◌^◌, slice_index, ◌<◌, ◌≤◌, vec_len, inl, inr, cond, List, [], ◌∷◌, ◌++◌, length, map, reverse, get_or, refl, sym, ap, subst, ◌∙◌, arith, add-one, get_or-set_same, get_or-set_other, Option, None}
 use Rattle.std.specs.Prelude.{slice_set, ⊤}
 use Rattle.std.proofs.lemmas.List.{length-set, length-append, length-map, length-reverse, append-nil}
 use Rattle.std.proofs.lemmas.Bool.Decides.{eqb_tells}
@@ -13,9 +13,9 @@ use Rattle.lpm_trace.specs.declared.step.WriterStep.TheVariants.{StoreFirst, Sto
 use Rattle.lpm_trace.specs.declared.step.WorkerStep.{WorkerStep}
 use Rattle.lpm_trace.specs.declared.step.TraceStep.{TraceStep}
 use Rattle.lpm_trace.specs.declared.step.TraceStep.TheVariants.{Worker as ByWorker, Writer}
-use Rattle.lpm_trace.specs.States.{InitialState, state_after, begun_at}
-use Rattle.lpm_trace.specs.declared.step.WorkerStep.TheVariants.{LoadOnline, StoreOnline, LoadQuiescent, StoreQuiescent, StoreOffline, BeginLookup, LoadFirst, LoadSecond, EndLookup, MeetWriter}
-use Rattle.lpm_trace.specs.Trace.{Worker, Probe, Unread, InGroup, Answered, Seen as Finished, with_answers, worker_by_step, MayRead, after, MayCome, writes, worker_of}
+use Rattle.lpm_trace.specs.States.{InitialState, TableState, state_after, begun_at}
+use Rattle.lpm_trace.specs.declared.step.WorkerStep.TheVariants.{LoadOnline, LoadQuiescent, BeginLookup, LoadFirst, LoadSecond, EndLookup, MeetWriter}
+use Rattle.lpm_trace.specs.Trace.{Worker, Probe, Unread, InGroup, Answered, Seen as Finished, with_answers, worker_by_step, MayRead, after, MayCome, writes, worker_of, IsNextFirst, IsNextSecond, AreBegun, AreAnswered, IsBetweenDeeds}
 use Rattle.lpm_trace.proofs.Traces.{tables_of}
 use Rattle.interleave.specs.declared.seen.Seen.{Seen}
 use Rattle.interleave.specs.declared.worker.Worker.{Worker as Machine}
@@ -25,20 +25,60 @@ use Rattle.interleave.specs.Record.{finished_by, seen_by, all_shown, all_seen, s
 use Rattle.interleave.specs.World.{HasEnded, IsScheduled, IsWorld, IsDoneAfter, AreAt, used_items, scripts_and_schedule, IsWritersTurn, WorldDoes, Reaches, with_beyond}
 use Rattle.interleave.specs.View.{WorldView, script_at, words_by, token_by, sequence_by, with_recorded_step, with_unrecorded_step}
 use Rattle.interleave.proofs.Items.{used_more, used_few, one_at_most}
-use Rattle.interleave.proofs.Timeless.{workers_alike, may_alike}
+use Rattle.lpm_trace.proofs.Moments.{ProbesAgree, Agrees, clocks_agree}
 use Rattle.lpm_trace.specs.Writer.{MayStep, Finds}
 use Rattle.lpm_trace.proofs.Checks.{writer_goes_on}
 use Rattle.interleave.specs.WorldLaws.{writes_beyond}
 
+-- ---- which step of a worker may come next, by the two clocks
+
+module _ (c : InitialState) (steps : List TraceStep) (w : TableState) where
+  first_by_place : (word : ℕ) (ps qs : List Probe) → ProbesAgree steps ps qs → IsNextFirst c w word qs → IsNextFirst c w word ps
+  first_by_place word (Unread a ∷ ps) (Unread b ∷ qs) z next = subst (λ x. word ≡ slice_index w.words.firsts (x / 2 ^ c.second)) (sym z.0) next
+  first_by_place word (InGroup a g f ∷ ps) (InGroup b h n ∷ qs) z next = first_by_place word ps qs z.1 next
+  first_by_place word (Answered a x f l ∷ ps) (Answered b y m n ∷ qs) z next = first_by_place word ps qs z.1 next
+  first_by_place word [] [] z next = next
+  first_by_place word _ _ z next = absurd z
+
+  second_by_place : (word : ℕ) (ps qs : List Probe) → ProbesAgree steps ps qs → IsNextSecond c w word qs → IsNextSecond c w word ps
+  second_by_place word (InGroup a g f ∷ ps) (InGroup b h n ∷ qs) z next =
+      subst (λ x. word ≡ slice_index w.words.seconds (g * 2 ^ c.second + x % 2 ^ c.second)) (sym z.0.0)
+      (subst (λ x. word ≡ slice_index w.words.seconds (x * 2 ^ c.second + b % 2 ^ c.second)) (sym z.0.1) next)
+  second_by_place word (Answered a x f l ∷ ps) (Answered b y m n ∷ qs) z next = second_by_place word ps qs z.1 next
+  second_by_place word [] [] z next = next
+  second_by_place word (Unread a ∷ ps) (Unread b ∷ qs) z next = next
+  second_by_place word _ _ z next = absurd z
+
+  begun_by_place : (ps qs : List Probe) → ProbesAgree steps ps qs → AreBegun qs → AreBegun ps
+  begun_by_place (InGroup a g f ∷ ps) (InGroup b h n ∷ qs) z begun = begun_by_place ps qs z.1 begun
+  begun_by_place (Answered a x f l ∷ ps) (Answered b y m n ∷ qs) z begun = begun_by_place ps qs z.1 begun
+  begun_by_place [] [] z begun = begun
+  begun_by_place (Unread a ∷ ps) (Unread b ∷ qs) z begun = begun
+  begun_by_place _ _ z begun = absurd z
+
+  answered_by_place : (ps qs : List Probe) → ProbesAgree steps ps qs → AreAnswered qs → AreAnswered ps
+  answered_by_place (Answered a x f l ∷ ps) (Answered b y m n ∷ qs) z all = answered_by_place ps qs z.1 all
+  answered_by_place [] [] z all = all
+  answered_by_place (Unread a ∷ ps) (Unread b ∷ qs) z all = all
+  answered_by_place (InGroup a g f ∷ ps) (InGroup b h n ∷ qs) z all = all
+  answered_by_place _ _ z all = absurd z
+
+  may_by_place : (p n : Worker) → Agrees steps p n → (s : WorkerStep) → MayRead c w n s → MayRead c w p s
+  may_by_place p n h (LoadOnline token) may = (h.phase ∙ may.0, may.1)
+  may_by_place p n h (LoadQuiescent token) may = (h.phase ∙ may.0, may.1)
+  may_by_place p n h (BeginLookup addrs sequence) may = (h.phase ∙ may.0, may.1, may.2)
+  may_by_place p n h (LoadFirst word) may = (h.phase ∙ may.0, first_by_place word p.probes n.probes h.probes may.1)
+  may_by_place p n h (LoadSecond word) may =
+      (h.phase ∙ may.0, begun_by_place p.probes n.probes h.probes may.1, second_by_place word p.probes n.probes h.probes may.2)
+  may_by_place p n h (EndLookup sequence) may = (h.phase ∙ may.0, answered_by_place p.probes n.probes h.probes may.1, may.2)
+  may_by_place p n h (MeetWriter sequence) may = (subst IsBetweenDeeds (sym h.phase) may.0, may.1)
+  may_by_place p n h s may = h.phase ∙ may
+
 -- there are as many second words as there were at the opening
 seconds_stay : (c : InitialState) (steps : List WriterStep) → length (state_after c steps).words.seconds ≡ length c.words.seconds
 seconds_stay c [] = refl
-seconds_stay c (StoreFirst i x ∷ steps) = seconds_stay c steps
 seconds_stay c (StoreSecond j x ∷ steps) = length-set (state_after c steps).words.seconds j x ∙ seconds_stay c steps
-seconds_stay c (BeginUpdate change ∷ steps) = seconds_stay c steps
-seconds_stay c (EndUpdate ∷ steps) = seconds_stay c steps
-seconds_stay c (BumpToken ∷ steps) = seconds_stay c steps
-seconds_stay c (LoadCounter token worker counter ∷ steps) = seconds_stay c steps
+seconds_stay c (s ∷ steps) = seconds_stay c steps
 
 shown_steps : (c : InitialState) (steps : List TraceStep) → length (all_shown c steps) ≡ length steps
 shown_steps c [] = refl
@@ -77,11 +117,11 @@ moved_by v next k m step seen = record v {
   seen = seen;
 }
 
-pub turn_passes : (first second : ℕ) (v : WorldView) (c : InitialState) (whole : Option (List WriterStep)) (trace : List TraceStep) (item : Actor) (next : ℕ) → next ≡ suc v.next
-    → v.next < length v.schedule → get_or v.schedule v.next item ≡ item
-    → HasEnded (length v.scripts) (script_at v.scripts) (IsDoneAfter whole) item trace
-    → IsWorld first second v c whole trace [] → IsWorld first second (passed_by v next) c whole trace []
-turn_passes first second v c whole trace item next more left is ended world = record {
+-- where the items up to the next one have made the same trace
+pub trace_stays : (first second : ℕ) (v : WorldView) (c : InitialState) (was whole : Option (List WriterStep)) (trace : List TraceStep) (beyond : List WriterStep) (next : ℕ) → IsWorld first second v c was trace beyond
+    → IsScheduled (HasEnded (length v.scripts) (script_at v.scripts) (IsDoneAfter whole)) (used_items v.schedule next) trace → (beyond ≢ [] → next ≡ length v.schedule)
+    → IsWorld first second (passed_by v next) c whole trace beyond
+trace_stays first second v c was whole trace beyond next world made at_end = record {
   first_bits = world.first_bits;
   second_bits = world.second_bits;
   workers = world.workers;
@@ -89,14 +129,23 @@ turn_passes first second v c whole trace item next more left is ended world = re
   words_are = world.words_are;
   token_is = world.token_is;
   sequence_is = world.sequence_is;
-  made = subst (λ items. IsScheduled (HasEnded (length v.scripts) (script_at v.scripts) (IsDoneAfter whole)) items trace) (sym (ap (used_items v.schedule) more ∙ used_more v.schedule v.next item left is)) (inl (ended, world.made));
+  made = made;
   shown = world.shown;
   finished = world.finished;
   at = world.at;
-  at_end = λ some. absurd (some refl);
-  late = λ some. absurd (some refl);
+  at_end = at_end;
+  late = world.late;
   in_time = world.in_time;
 }
+
+pub turn_passes : (first second : ℕ) (v : WorldView) (c : InitialState) (whole : Option (List WriterStep)) (trace : List TraceStep) (item : Actor) (next : ℕ) → next ≡ suc v.next
+    → v.next < length v.schedule → get_or v.schedule v.next item ≡ item
+    → HasEnded (length v.scripts) (script_at v.scripts) (IsDoneAfter whole) item trace
+    → IsWorld first second v c whole trace [] → IsWorld first second (passed_by v next) c whole trace []
+turn_passes first second v c whole trace item next more left is ended world =
+    trace_stays first second v c whole whole trace [] next world
+    (subst (λ items. IsScheduled (HasEnded (length v.scripts) (script_at v.scripts) (IsDoneAfter whole)) items trace) (sym (ap (used_items v.schedule) more ∙ used_more v.schedule v.next item left is)) (inl (ended, world.made)))
+    (λ some. absurd (some refl))
 
 -- the tables that the workers read
 pub is_of : (first second : ℕ) (v : WorldView) (c : InitialState) (whole : Option (List WriterStep)) (trace : List TraceStep) → IsWorld first second v c whole trace []
@@ -126,21 +175,12 @@ stands first second v c whole trace world k m other script inside is same =
 -- a step finishes at most one lookup for each address
 answers_few : (lo hi : ℕ) (ps : List Probe) (xs : List Finished) → length (with_answers lo hi ps xs) ≤ length ps + length xs
 answers_few lo hi [] xs = omega arith
-answers_few lo hi (Unread a ∷ ps) xs = omega (arith, answers_few lo hi ps xs)
-answers_few lo hi (InGroup a g f ∷ ps) xs = omega (arith, answers_few lo hi ps xs)
 answers_few lo hi (Answered a h f l ∷ ps) xs = omega (arith, answers_few lo hi ps (record { addr = a; hop = h; first = f; last = l; lo = lo; hi = hi } ∷ xs))
+answers_few lo hi (p ∷ ps) xs = omega (arith, answers_few lo hi ps xs)
 
 finished_few : (r : Worker) (s : WorkerStep) → length (finished_by r s) ≤ length r.probes
-finished_few r (LoadOnline token) = omega arith
-finished_few r (StoreOnline token) = omega arith
-finished_few r (LoadQuiescent token) = omega arith
-finished_few r (StoreQuiescent token) = omega arith
-finished_few r StoreOffline = omega arith
-finished_few r (BeginLookup addrs sequence) = omega arith
-finished_few r (LoadFirst word) = omega arith
-finished_few r (LoadSecond word) = omega arith
 finished_few r (EndLookup sequence) = omega (arith, answers_few r.lo (begun_at sequence) r.probes [])
-finished_few r (MeetWriter sequence) = omega arith
+finished_few r s = omega arith
 
 -- a step finishes at most four lookups
 pub four_at_most : (first second seconds : ℕ) (m : Machine) (script : List Deed) (r : Worker) (own : List WorkerStep) (k : ℕ) (s : WorkerStep) (before later : List Seen)
@@ -165,7 +205,7 @@ turn_moves first second v c whole trace k next now script m step seen more when 
     let later : List TraceStep = ByWorker k s ∷ trace in
     let machines : k < length v.machines = omega arith in
     let time : now ≡ suc (length trace) = when ∙ ap suc (ap length world.shown ∙ shown_steps c trace) in
-    let read : MayRead c (state_after c (writes trace)) ((after c trace).workers k) s = may_alike c (state_after c (writes trace)) (worker_of k trace) ((after c trace).workers k) (workers_alike c trace k) s adv.may in
+    let read : MayRead c (state_after c (writes trace)) ((after c trace).workers k) s = may_by_place c trace (state_after c (writes trace)) ((after c trace).workers k) (worker_of k trace) (clocks_agree c trace k) s adv.may in
     let may : MayCome c (after c trace) (ByWorker k s) = (subst (λ n. k < n) (sym world.workers) inside, subst (λ w. MayRead c w ((after c trace).workers k) s) (sym (tables_of c trace)) read) in (
       later,
       record {
@@ -197,36 +237,22 @@ turn_moves first second v c whole trace k next now script m step seen more when 
 words_after : (c : InitialState) (t : Words) (s : WriterStep) (steps : List WriterStep) → t ≡ (state_after c steps).words → words_by t s ≡ (state_after c (s ∷ steps)).words
 words_after c t (StoreFirst i x) steps e = ap (λ y. with_first y i x) e
 words_after c t (StoreSecond j x) steps e = ap (λ y. with_second y j x) e
-words_after c t (BeginUpdate change) steps e = e
-words_after c t EndUpdate steps e = e
-words_after c t BumpToken steps e = e
-words_after c t (LoadCounter token worker counter) steps e = e
+words_after c t s steps e = e
 
 token_after : (c : InitialState) (n : ℕ) (s : WriterStep) (steps : List WriterStep) → n ≡ (state_after c steps).token → token_by n s ≡ (state_after c (s ∷ steps)).token
-token_after c n (StoreFirst i x) steps e = e
-token_after c n (StoreSecond j x) steps e = e
-token_after c n (BeginUpdate change) steps e = e
-token_after c n EndUpdate steps e = e
 token_after c n BumpToken steps e = ap suc e
-token_after c n (LoadCounter token worker counter) steps e = e
+token_after c n s steps e = e
 
 sequence_after : (c : InitialState) (n : ℕ) (s : WriterStep) (steps : List WriterStep) → n ≡ (state_after c steps).sequence → sequence_by n s ≡ (state_after c (s ∷ steps)).sequence
-sequence_after c n (StoreFirst i x) steps e = e
-sequence_after c n (StoreSecond j x) steps e = e
 sequence_after c n (BeginUpdate change) steps e = ap suc e
 sequence_after c n EndUpdate steps e = ap suc e
-sequence_after c n BumpToken steps e = e
-sequence_after c n (LoadCounter token worker counter) steps e = e
+sequence_after c n s steps e = e
 
 -- the sequence counts no more than the steps of the writer
 sequence_few : (c : InitialState) (steps : List WriterStep) → (state_after c steps).sequence ≤ length steps
 sequence_few c [] = omega arith
 sequence_few c (StoreFirst i x ∷ steps) = omega (arith, sequence_few c steps)
-sequence_few c (StoreSecond j x ∷ steps) = omega (arith, sequence_few c steps)
-sequence_few c (BeginUpdate change ∷ steps) = omega (arith, sequence_few c steps)
-sequence_few c (EndUpdate ∷ steps) = omega (arith, sequence_few c steps)
-sequence_few c (BumpToken ∷ steps) = omega (arith, sequence_few c steps)
-sequence_few c (LoadCounter token worker counter ∷ steps) = omega (arith, sequence_few c steps)
+sequence_few c (s ∷ steps) = omega (arith, sequence_few c steps)
 
 -- the sequence counts at most the items that are used up
 pub sequence_within : (first second : ℕ) (v : WorldView) (c : InitialState) (whole : Option (List WriterStep)) (trace : List TraceStep) (beyond : List WriterStep)
@@ -253,17 +279,13 @@ workers_beyond c (s ∷ beyond) trace = workers_beyond c beyond trace
 
 finds : (first second : ℕ) (v : WorldView) (c : InitialState) (whole : Option (List WriterStep)) (trace : List TraceStep) (beyond : List WriterStep) (s : WriterStep)
     → IsWorld first second v c whole trace beyond → MayStep c (beyond ++ writes trace) s → FindsShown v s → Finds c (with_beyond beyond trace) s
-finds first second v c whole trace beyond (StoreFirst i x) world may found = tt
-finds first second v c whole trace beyond (StoreSecond j x) world may found = tt
-finds first second v c whole trace beyond (BeginUpdate change) world may found = tt
-finds first second v c whole trace beyond EndUpdate world may found = tt
-finds first second v c whole trace beyond BumpToken world may found = tt
 finds first second v c whole trace beyond (LoadCounter token worker counter) world may found =
     let inside : worker < length v.scripts = subst (λ n. worker < n) world.workers may.0.1 in
     let here = world.at worker inside in
     found.1 (worker_of worker trace) (subst (λ m. Shows m (worker_of worker trace)) (sym (here.1 found.0)) here.2.shows)
-    ∙ (workers_alike c trace worker).counter
+    ∙ sym (clocks_agree c trace worker).counter
     ∙ ap (λ f. (f worker).counter) (sym (workers_beyond c beyond trace))
+finds first second v c whole trace beyond s world may found = tt
 
 -- ---- a step that is recorded, and one after the schedule's end
 

@@ -123,7 +123,8 @@ oldest_older (x ∷ newer) older n le =
     let len = length-append newer older in
     oldest_old x (newer ++ older) n (omega (arith, le, len)) ∙ oldest_older newer older n le
 
-older_trace : (c : InitialState) (newer older : List TraceStep) → IsTrace c (newer ++ older) → IsTrace c older
+-- the newest steps of a trace taken away
+pub older_trace : (c : InitialState) (newer older : List TraceStep) → IsTrace c (newer ++ older) → IsTrace c older
 older_trace c [] older trace = trace
 older_trace c (s ∷ newer) older trace = older_trace c newer older trace.1
 
