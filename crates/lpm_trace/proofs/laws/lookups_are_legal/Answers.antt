@@ -1,5 +1,0 @@
-use Rattle.lpm_trace.proofs.Promises.{lookups_are_legal as law}
-use Rattle.lpm_trace.proofs.laws.lookups_are_legal.Goals as goal
-
-pub returns : goal.returns
-returns c = law
