@@ -19,8 +19,7 @@ use Rattle.lpm_trace.specs.States.{InitialState, state_after, TableState, Unused
 use Rattle.lpm_writer.specs.declared.control.ControlState.{ControlState}
 use Rattle.lpm_writer.proofs.Reclaims.{is_limbo}
 use Rattle.interleave.specs.declared.reply.Reply.{Reply}
-use Rattle.interleave.proofs.Performing.{HasPerformed, performed_none, performed_more, performed_all, performed_before, performed_within, waits_longer}
-use Rattle.std.proofs.lemmas.Bool.Decides.{eqb_tells}
+use Rattle.interleave.proofs.Performing.{HasPerformed, performed_more, performed_all, performed_before, performed_within, waits_longer}
 use Rattle.std.proofs.lemmas.List.{append-nil, map-append, reverse-append}
 use Rattle.std.proofs.lemmas.List.Elements.{filter-append}
 use Rattle.lpm_trace.specs.declared.step.TraceStep.{TraceStep}
@@ -30,6 +29,7 @@ use Rattle.interleave.specs.Record.{finished_by, seen_by, all_seen, seen_of}
 use Rattle.interleave.proofs.Lookups.{finished_then}
 use Rattle.lpm_trace.specs.Laws.{at_moment, by_steps, rules_of_version, Unlinks, Fills}
 use Rattle.lpm_trace.proofs.Grace.{older_trace}
+use Rattle.lpm_trace.proofs.Versions.{by_number}
 use Rattle.lpm_trace.proofs.Traces.{tables_of, history_at}
 use Rattle.lpm_trace.proofs.Moments.{count, writes_oldest}
 use Rattle.lpm_trace.proofs.Promises.{lookups_are_legal, versions_never_fall, reuse_is_lawful, rest_answers}
@@ -130,9 +130,6 @@ module _ (f s : ℕ) where
   abbrev pub IsLate : WorldView → Bool → Type 0
   IsLate m late = (c : InitialState) (steps : List WriterStep) → WorldDid f s m c steps → (late ≡ true ↔ (writer_items m.schedule < length steps))
 
-  pub answered_none : (m : WorldView) (l : ControlState f s) → HasAnswered m l [] [] m l
-  answered_none m l c did rests = ([], did, rests, performed_none c f s l.config (writer_items m.schedule) (kept_in l []))
-
   module _ (m0 : WorldView) (l0 : ControlState f s) (done : List (Change f s)) (replies : List Reply) (m y : WorldView) (l : ControlState f s) (answered : HasAnswered m0 l0 done replies m l)
       (same : scripts_and_schedule m ≡ scripts_and_schedule m0) (reaches : Reaches f s m y) where
     abbrev n : ℕ
@@ -155,9 +152,6 @@ module _ (f s : ℕ) where
         )
 
     module _ (change : Change f s) (left : List (Change f s)) (tries : ℕ) (m' : WorldView) (l' : ControlState f s) (config : l.config ≡ l0.config) (is_left : IsLeft m true) (still : scripts_and_schedule m' ≡ scripts_and_schedule m0) where
-      abbrev pub begins : (c : InitialState) (steps : List WriterStep) → WorldDid f s m c steps → Type 0
-      begins c steps did = length steps < n
-
       low : (c : InitialState) (steps : List WriterStep) → WorldDid f s m c steps → length steps < n
       low c steps did = let some = (is_left c steps did).0 refl in omega (arith, some, items_same m0 m same)
 
@@ -226,21 +220,18 @@ seen_finished k (ByWorker j s ∷ steps) =
     let by = λ (i : ℕ). reverse (map (seen_by i) (finished_by (worker_of i steps) s)) in
     let split : (i : ℕ) → seen_of k (shown ++ by i) ≡ was ++ seen_of k (by i) =
     λ i. filter-append (λ (x : Seen). eqb k x.worker) shown (by i) ∙ ap (λ xs. xs ++ seen_of k (by i)) (seen_finished k steps) in
-    elim (eqb_tells k j) [
-      | inl h ↦
-          let own = finished_by r s in
-          let same : seen_of k (by k) ≡ by k = ap (seen_of k) (map_reverse k own) ∙ mine k (reverse own) ∙ sym (map_reverse k own) in
-          let all : reverse (map (seen_by k) (worker_by_step now r s).finished) ≡ was ++ by k =
-          ap (λ xs. reverse (map (seen_by k) xs)) (finished_then now r s) ∙ ap reverse (map-append (seen_by k) own r.finished) ∙ reverse-append (map (seen_by k) own) (map (seen_by k) r.finished) in
-          subst (λ b. seen_of k (shown ++ by j) ≡ reverse (map (seen_by k) (cond b (worker_by_step now r s) r).finished)) (sym h.0)
-          (subst (λ i. seen_of k (shown ++ by i) ≡ reverse (map (seen_by k) (worker_by_step now r s).finished)) h.1
-          (split k ∙ ap (λ xs. was ++ xs) same ∙ sym all))
-      | inr h ↦
-          let ended = finished_by (worker_of j steps) s in
-          let none : seen_of k (by j) ≡ [] = ap (seen_of k) (map_reverse j ended) ∙ others k j h.0 (reverse ended) in
-          subst (λ b. seen_of k (shown ++ by j) ≡ reverse (map (seen_by k) (cond b (worker_by_step now r s) r).finished)) (sym h.0)
-          (split j ∙ ap (λ xs. was ++ xs) none ∙ append-nil was)
-    ]
+    by_number (λ b. seen_of k (shown ++ by j) ≡ reverse (map (seen_by k) (cond b (worker_by_step now r s) r).finished)) k j
+    (λ h.
+    let own = finished_by r s in
+    let same : seen_of k (by k) ≡ by k = ap (seen_of k) (map_reverse k own) ∙ mine k (reverse own) ∙ sym (map_reverse k own) in
+    let all : reverse (map (seen_by k) (worker_by_step now r s).finished) ≡ was ++ by k =
+    ap (λ xs. reverse (map (seen_by k) xs)) (finished_then now r s) ∙ ap reverse (map-append (seen_by k) own r.finished) ∙ reverse-append (map (seen_by k) own) (map (seen_by k) r.finished) in
+    subst (λ i. seen_of k (shown ++ by i) ≡ reverse (map (seen_by k) (worker_by_step now r s).finished)) h.1
+    (split k ∙ ap (λ xs. was ++ xs) same ∙ sym all))
+    (λ h.
+    let ended = finished_by (worker_of j steps) s in
+    let none : seen_of k (by j) ≡ [] = ap (seen_of k) (map_reverse j ended) ∙ others k j h.0 (reverse ended) in
+    split j ∙ ap (λ xs. was ++ xs) none ∙ append-nil was)
 
 -- The law of every trace, and what it says of a run.
 

@@ -53,9 +53,6 @@ module _ (c : InitialState) (f g : ℕ) (config : Config) (n : ℕ) (opening : S
     pub replies_are : replies ≡ reverse (map (λ entry. entry.1) log)
     pub answered : HaveComeOut c f g config n opening log last
 
-  pub performed_none : HasPerformed [] [] opening
-  performed_none = record { log = []; changes_are = refl; replies_are = refl; answered = refl }
-
   pub performed_more : (changes : List (Change f g)) (replies : List Reply) (last : StateBySteps) (change : Change f g) (reply : Reply) (z : StateBySteps)
       → HasPerformed changes replies last → length last.readers < n → length z.readers ≤ n → CameOut c f g config last change reply z
       → HasPerformed (changes ++ change ∷ []) (replies ++ reply ∷ []) z

@@ -3,7 +3,6 @@ use Rattle.std.proofs.Common.{ℕ, map, ◌≡◌, ◌≢◌, suc, ◌<◌, ◌�
 use Rattle.interleave.specs.declared.world_memory.WorldMemory.TheInside.{Inside}
 use Rattle.interleave.specs.View.{WorldView, script_at, with_recorded_step, with_unrecorded_step}
 use Rattle.std.proofs.lemmas.Bool.{cases_lt}
-use Rattle.std.proofs.lemmas.Bool.Decides.{eqb_tells}
 use Rattle.lpm_trace.specs.declared.kind.Actor.TheVariants.{Writer as WriterActor}
 use Rattle.lpm_trace.specs.declared.step.WriterStep.{WriterStep}
 use Rattle.lpm_trace.specs.declared.step.TraceStep.{TraceStep}
@@ -13,6 +12,7 @@ use Rattle.lpm_trace.specs.Trace.{IsTrace, writes}
 use Rattle.interleave.specs.Scripts.{AreOf, steps_by}
 use Rattle.interleave.specs.World.{HasEnded, IsScheduled, AreScripted, writer_items, scripts_and_schedule, IsWorld, IsDoneAfter, IsWritersTurn, WorldDid, Reaches, StaysShared, TakesTurn, IsPlayedOut, used_items, WorldDoes}
 use Rattle.lpm_trace.proofs.Grace.{older_trace}
+use Rattle.lpm_trace.proofs.Versions.{by_number}
 use Rattle.interleave.proofs.Items.{one_each, one_at_most, items_left, items_all, items_used, used_all, makes_still}
 use Rattle.interleave.proofs.Turning.{passed_by, trace_stays, turn_passes, none_beyond, FindsShown, sequence_within, recorded_does, unrecorded_does}
 use Rattle.std.specs.Prelude.{MatchBool}
@@ -124,10 +124,9 @@ plays_pass first second v y next more plays turn c steps did =
 no_steps : (c : InitialState) (k : ℕ) → c.workers ≤ k → (trace : List TraceStep) → IsTrace c trace → steps_by k trace ≡ []
 no_steps c k out [] may = refl
 no_steps c k out (Writer s ∷ trace) may = no_steps c k out trace may.1
-no_steps c k out (ByWorker j s ∷ trace) may = elim (eqb_tells k j) [
-  | inl h ↦ absurd (omega (arith, out, h.1, may.0.0))
-  | inr h ↦ subst (λ b. cond b (s ∷ steps_by k trace) (steps_by k trace) ≡ []) (sym h.0) (no_steps c k out trace may.1)
-]
+no_steps c k out (ByWorker j s ∷ trace) may = by_number (λ b. cond b (s ∷ steps_by k trace) (steps_by k trace) ≡ []) k j
+    (λ h. absurd (omega (arith, out, h.1, may.0.0)))
+    (λ h. no_steps c k out trace may.1)
 
 scripted : (first second : ℕ) (z : WorldView) (c : InitialState) (whole : Option (List WriterStep)) (trace : List TraceStep) (beyond : List WriterStep)
     → IsWorld first second z c whole trace beyond → AreScripted (script_at z.scripts) trace

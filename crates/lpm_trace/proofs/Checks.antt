@@ -12,7 +12,7 @@ use Rattle.lpm_trace.proofs.Traces.{tables_of}
 use Rattle.std.proofs.lemmas.Bool.Decides.{eqb_tells}
 use Rattle.std.proofs.lemmas.Bool.{cases_lt}
 use Rattle.lpm_trace.specs.Laws.{IsAskedFor, IsChecked, PassedIsChecked, WordsAreEntries}
-use Rattle.lpm_trace.proofs.Versions.{token_is, passed_is, set_case}
+use Rattle.lpm_trace.proofs.Versions.{by_number, token_is, passed_is, set_case}
 use Rattle.std.proofs.lemmas.List.{length-set}
 use Rattle.lpm_cells.specs.declared.entry.Entry.{Entry}
 use Rattle.lpm_cells.specs.declared.entry.Entry.TheVariants.{Group}
@@ -116,16 +116,14 @@ counter_asked c ws token k0 counter asked le next true passes =
     let w : TableState = state_after c ws in
     let more = scanned_more c ws token k0 counter asked le next passes in (
       more,
-      elim (eqb_tells (suc k0) c.workers) [
-        | inl last ↦ subst (λ b. (cond b (max w.passed token) w.passed ≡ 0) ⊎ IsChecked c.workers c.token (s ∷ ws) (cond b (max w.passed token) w.passed)) (sym last.0)
-            (elim (cases_lt w.passed token) [
-              | inl greater ↦ inr (record { checked = token; later = omega (arith, greater); each = λ k lt. more k (omega (arith, lt, last.1)) })
-              | inr stays ↦
-                  let same : max w.passed token ≡ w.passed = omega (arith, stays) in
-                  subst (λ n. (n ≡ 0) ⊎ IsChecked c.workers c.token (s ∷ ws) n) (sym same) (passed_still c s ws w.passed asked.passed)
-            ])
-        | inr more_workers ↦ subst (λ b. (cond b (max w.passed token) w.passed ≡ 0) ⊎ IsChecked c.workers c.token (s ∷ ws) (cond b (max w.passed token) w.passed)) (sym more_workers.0) (passed_still c s ws w.passed asked.passed)
-      ],
+      by_number (λ b. (cond b (max w.passed token) w.passed ≡ 0) ⊎ IsChecked c.workers c.token (s ∷ ws) (cond b (max w.passed token) w.passed)) (suc k0) c.workers
+          (λ last. elim (cases_lt w.passed token) [
+            | inl greater ↦ inr (record { checked = token; later = omega (arith, greater); each = λ k lt. more k (omega (arith, lt, last.1)) })
+            | inr stays ↦
+                let same : max w.passed token ≡ w.passed = omega (arith, stays) in
+                subst (λ n. (n ≡ 0) ⊎ IsChecked c.workers c.token (s ∷ ws) n) (sym same) (passed_still c s ws w.passed asked.passed)
+          ])
+          (λ other. passed_still c s ws w.passed asked.passed),
     )
 
 asked_more : (c : InitialState) (counters : ℕ → ℕ) (ws : List WriterStep) (s : WriterStep) → Asked c ws → MayWrite c counters (state_after c ws) s → Asked c (s ∷ ws)

@@ -1,7 +1,6 @@
 -- The textbook's grace period: no reader interval holds both a step that unlinks a group and a later
 -- store into it.
 use Rattle.std.proofs.Common.{◌≡◌, ℕ, suc, ◌/◌, ◌^◌, ◌≤◌, inl, inr, true, false, cond, eqb, eq-eqb, IsTrue, List, [], ◌∷◌, ◌++◌, length, refl, sym, ap, subst, ◌∙◌, append_assoc, length-append, arith}
-use Rattle.std.proofs.lemmas.Bool.Decides.{eqb_tells}
 use Rattle.qsbr.specs.Intervals.{IsReaderInterval, IsRunningSince, IsHeldByWorker}
 use Rattle.qsbr.proofs.Running.{since_within, since_cases, held_start, grace_period_is_over}
 use Rattle.lpm_trace.specs.declared.step.WriterStep.{WriterStep}
@@ -13,7 +12,7 @@ use Rattle.lpm_trace.specs.declared.step.TraceStep.TheVariants.{Writer, Worker a
 use Rattle.lpm_trace.specs.States.{InitialState, TableState, IsSettled, first_entry, with_stamp, oldest, state_after}
 use Rattle.lpm_trace.specs.Trace.{Worker, worker_by_step, MayRead, IsRunning, after, IsTrace, writes}
 use Rattle.lpm_trace.specs.Laws.{begins, ends, by_steps, Unlinks, ReuseIsLawful}
-use Rattle.lpm_trace.proofs.Versions.{with_at-same}
+use Rattle.lpm_trace.proofs.Versions.{with_at-same, by_number}
 use Rattle.lpm_trace.proofs.Writing.{stamped_le, stamped_ge}
 use Rattle.lpm_trace.proofs.Traces.{oldest_old, oldest_all, clock_length, tables_of, after_grace}
 use Rattle.lpm_trace.proofs.Moments.{count, count_old, count_le}
@@ -48,46 +47,38 @@ not_begun s k worker other does = cc does
 abbrev KnowsInterval : InitialState → List TraceStep → ℕ → Worker → ℕ → Type 0
 KnowsInterval c steps k r start = IsRunning r.phase × (r.since ≡ count steps start)
 
+interval_stays : (c : InitialState) (s : TraceStep) (steps : List TraceStep) (k start : ℕ) (r : Worker) → IsRunningSince by_steps steps k start → KnowsInterval c steps k r start → KnowsInterval c (s ∷ steps) k r start
+interval_stays c s steps k start r runs was =
+    let within = since_within by_steps steps k start runs in
+    (was.0, was.1 ∙ sym (count_old s steps start (omega (arith, within))))
+
 running_since : (c : InitialState) (steps : List TraceStep) → IsTrace c steps → (k start : ℕ) → IsRunningSince by_steps steps k start → KnowsInterval c steps k ((after c steps).workers k) start
 running_since c [] trace k start runs = let within = since_within by_steps [] k start runs in absurd (omega (arith, within))
 running_since c (Writer s ∷ steps) trace k start runs = elim (since_cases by_steps (Writer s) steps k start runs) [
   | inl new ↦ absurd (let does : false ≡ true = new.1 in cc does)
-  | inr old ↦
-      let within = since_within by_steps steps k start old.0 in
-      let was = running_since c steps trace.1 k start old.0 in
-      let same = count_old (Writer s) steps start (omega (arith, within)) in
-      (was.0, was.1 ∙ sym same)
+  | inr old ↦ interval_stays c (Writer s) steps k start ((after c steps).workers k) old.0 (running_since c steps trace.1 k start old.0)
 ]
 running_since c (ByWorker j s ∷ steps) trace k start runs =
     let w = (after c steps).workers in
     let now = (after c steps).state.clock in
     let clock : now ≡ length (writes steps) = ap (λ t. t.clock) (tables_of c steps) ∙ clock_length c (writes steps) in
     let whole : count (ByWorker j s ∷ steps) (length steps) ≡ length (writes steps) = count_old (ByWorker j s) steps (length steps) (omega arith) ∙ ap (λ l. length (writes l)) (oldest_all steps (length steps) (omega arith)) in
-    elim (eqb_tells k j) [
-      | inl h ↦ subst (λ b. KnowsInterval c (ByWorker j s ∷ steps) k (cond b (worker_by_step now (w j) s) (w k)) start) (sym h.0)
-          (elim (since_cases by_steps (ByWorker j s) steps k start runs) [
-            | inl new ↦
-                let begun = begun_runs s j k now (w j) new.1 in
-                let at = ap (count (ByWorker j s ∷ steps)) new.0 in
-                (begun.0, begun.1 ∙ clock ∙ sym whole ∙ sym at)
-            | inr old ↦
-                let within = since_within by_steps steps k start old.0 in
-                let was = running_since c steps trace.1 k start old.0 in
-                let mine : KnowsInterval c steps k (w j) start = subst (λ i. KnowsInterval c steps k (w i) start) h.1 was in
-                let kept = kept_runs c (after c steps).state (w j) s j k now h.1 trace.0.1 old.1 mine.0 in
-                let same = count_old (ByWorker j s) steps start (omega (arith, within)) in
-                (kept.0, kept.1 ∙ mine.1 ∙ sym same)
-          ])
-      | inr h ↦ subst (λ b. KnowsInterval c (ByWorker j s ∷ steps) k (cond b (worker_by_step now (w j) s) (w k)) start) (sym h.0)
-          (elim (since_cases by_steps (ByWorker j s) steps k start runs) [
-            | inl new ↦ absurd (not_begun s j k h.0 new.1)
-            | inr old ↦
-                let within = since_within by_steps steps k start old.0 in
-                let was = running_since c steps trace.1 k start old.0 in
-                let same = count_old (ByWorker j s) steps start (omega (arith, within)) in
-                (was.0, was.1 ∙ sym same)
-          ])
-    ]
+    by_number (λ b. KnowsInterval c (ByWorker j s ∷ steps) k (cond b (worker_by_step now (w j) s) (w k)) start) k j
+    (λ h. elim (since_cases by_steps (ByWorker j s) steps k start runs) [
+      | inl new ↦
+          let begun = begun_runs s j k now (w j) new.1 in
+          let at = ap (count (ByWorker j s ∷ steps)) new.0 in
+          (begun.0, begun.1 ∙ clock ∙ sym whole ∙ sym at)
+      | inr old ↦
+          let was = interval_stays c (ByWorker j s) steps k start (w k) old.0 (running_since c steps trace.1 k start old.0) in
+          let mine : KnowsInterval c (ByWorker j s ∷ steps) k (w j) start = subst (λ i. KnowsInterval c (ByWorker j s ∷ steps) k (w i) start) h.1 was in
+          let kept = kept_runs c (after c steps).state (w j) s j k now h.1 trace.0.1 old.1 mine.0 in
+          (kept.0, kept.1 ∙ mine.1)
+    ])
+    (λ h. elim (since_cases by_steps (ByWorker j s) steps k start runs) [
+      | inl new ↦ absurd (not_begun s j k h.0 new.1)
+      | inr old ↦ interval_stays c (ByWorker j s) steps k start (w k) old.0 (running_since c steps trace.1 k start old.0)
+    ])
 
 -- ---- a group that was unlinked
 

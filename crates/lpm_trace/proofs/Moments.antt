@@ -3,7 +3,6 @@
 use Rattle.std.proofs.Common.{◌≡◌, ℕ, zero, suc, ◌+◌, ◌-◌, ◌≤◌, inl, inr, cond, List, [], ◌∷◌, map, length, refl, sym, ap, subst, ◌∙◌, zero-add, arith}
 use Rattle.std.specs.Bool.{⊤}
 use Rattle.std.proofs.lemmas.Bool.{cases_lt}
-use Rattle.std.proofs.lemmas.Bool.Decides.{eqb_tells}
 use Rattle.lpm_cells.specs.declared.entry.Entry.{Entry}
 use Rattle.lpm_cells.specs.declared.entry.Entry.TheVariants.{Group}
 use Rattle.lpm_cells.specs.Words.{entry_in}
@@ -14,7 +13,7 @@ use Rattle.lpm_trace.specs.declared.step.TraceStep.TheVariants.{Writer, Worker a
 use Rattle.lpm_trace.specs.States.{InitialState, IsAnswer, begun_at, version, oldest, state_after, state_at}
 use Rattle.lpm_trace.specs.Trace.{Worker, Probe, Unread, InGroup, Answered, Seen, read_first, first_read, second_read, with_answers, worker_by_step, after, writes, worker_of}
 use Rattle.lpm_trace.specs.Laws.{IsLegalAtPlace, at_moment, rules_of_version, IsLegal, LookupsAreLegal, VersionsNeverFall}
-use Rattle.lpm_trace.proofs.Versions.{Each, each_all, version_ge, version_le}
+use Rattle.lpm_trace.proofs.Versions.{by_number, Each, each_all, version_ge, version_le}
 use Rattle.lpm_trace.proofs.Traces.{oldest_old, oldest_new, oldest_all, clock_length, tables_of, rising, all_right}
 
 -- ---- how many of the first n steps are the writer's
@@ -193,14 +192,11 @@ clocks_agree c (ByWorker j s ∷ steps) k =
     let here = clocks_agree c steps k in
     let clock : (after c steps).state.clock ≡ length (writes steps) = ap (λ t. t.clock) (tables_of c steps) ∙ clock_length c (writes steps) in
     let count_all : count more (suc (length steps)) ≡ length (writes steps) = ap (λ l. length (writes l)) (oldest_all more (suc (length steps)) (omega arith)) in
-    elim (eqb_tells k j) [
-      | inl h ↦ subst (λ b. Agrees more (cond b (worker_by_step (after c steps).state.clock (w j) s) (w k)) (cond b (worker_by_step (suc (length steps)) (worker_of k steps) s) (worker_of k steps))) (sym h.0)
-          (subst (λ i. Agrees more (worker_by_step (after c steps).state.clock (w i) s) (worker_by_step (suc (length steps)) (worker_of k steps) s)) h.1
-          (moves_agree more (after c steps).state.clock (suc (length steps)) (clock ∙ sym count_all, omega arith) (λ n le. omega (arith, le))
-          (w k) (worker_of k steps) (agrees_stays (ByWorker j s) steps (w k) (worker_of k steps) here) s))
-      | inr h ↦ subst (λ b. Agrees more (cond b (worker_by_step (after c steps).state.clock (w j) s) (w k)) (cond b (worker_by_step (suc (length steps)) (worker_of k steps) s) (worker_of k steps))) (sym h.0)
-          (agrees_stays (ByWorker j s) steps (w k) (worker_of k steps) here)
-    ]
+    by_number (λ b. Agrees more (cond b (worker_by_step (after c steps).state.clock (w j) s) (w k)) (cond b (worker_by_step (suc (length steps)) (worker_of k steps) s) (worker_of k steps))) k j
+    (λ h. subst (λ i. Agrees more (worker_by_step (after c steps).state.clock (w i) s) (worker_by_step (suc (length steps)) (worker_of k steps) s)) h.1
+    (moves_agree more (after c steps).state.clock (suc (length steps)) (clock ∙ sym count_all, omega arith) (λ n le. omega (arith, le))
+    (w k) (worker_of k steps) (agrees_stays (ByWorker j s) steps (w k) (worker_of k steps) here) s))
+    (λ h. agrees_stays (ByWorker j s) steps (w k) (worker_of k steps) here)
 
 -- ---- the laws
 

@@ -1,6 +1,6 @@
 -- What holds of every trace, by adding one step at a time, told by the number of the writer's steps.
 use Rattle.std.proofs.Common.{◌≡◌, ℕ, suc, ◌/◌, ◌^◌, ◌<◌, ◌≤◌, inl, inr, false, cond, List, [], ◌∷◌, length, Option, refl, sym, ap, subst, ◌∙◌, arith, All}
-use Rattle.std.proofs.lemmas.Bool.Decides.{leb_tells, eqb_tells}
+use Rattle.std.proofs.lemmas.Bool.Decides.{leb_tells}
 use Rattle.std.proofs.lemmas.Bool.{cases_lt}
 use Rattle.lpm_trace.specs.declared.step.WriterStep.{WriterStep}
 use Rattle.lpm_trace.specs.declared.step.WriterStep.TheVariants.{StoreFirst, StoreSecond, BeginUpdate, EndUpdate, BumpToken, LoadCounter}
@@ -9,7 +9,7 @@ use Rattle.lpm_trace.specs.declared.step.TraceStep.TheVariants.{Writer, Worker a
 use Rattle.lpm_trace.specs.States.{InitialState, TableState, IsSettled, addresses, with_at, answer, IsAnswer, updates_done_in, updates_begun_in, version, rules_by, state_by_step, starting_state, oldest, state_after, state_at, MayWrite}
 use Rattle.lpm_trace.specs.Trace.{Worker, Probe, Unread, InGroup, Answered, Seen, initial_worker, worker_by_step, MayRead, IsRunning, MayCome, after, IsTrace, writes, own_steps, worker_by}
 use Rattle.lpm_trace.specs.Laws.{IsLegalAtPlace, OwnLookupsAreLegal, ArePlaced, OwnStepsArePlaced, VersionsNeverFallAtPlaces, PlacesNeverFall, TraceGrows}
-use Rattle.lpm_trace.proofs.Versions.{Each, each_map, with_at_case, each_all, Shows, keeps_shows, opening_shows, version_ge, version_le, rises, sequence_grows, history_stays, tick}
+use Rattle.lpm_trace.proofs.Versions.{by_number, Each, each_map, with_at_case, each_all, Shows, keeps_shows, opening_shows, version_ge, version_le, rises, sequence_grows, history_stays, tick}
 use Rattle.lpm_trace.proofs.Good.{Told, half_by, ProbeOk, FinishedOk, WorkerOk, Good, worker_moves}
 use Rattle.lpm_trace.proofs.Writing.{keeps_first, keeps_second, held_not_filled, keeps_quiet, keeps_counter}
 use Rattle.std.proofs.lemmas.List.Elements.{All-nil, All-cons, All-head, All-tail, All-weaker}
@@ -253,11 +253,9 @@ worker_is c (Writer s ∷ steps) k = worker_is c steps k
 worker_is c (ByWorker j s ∷ steps) k =
     let r = (after c steps).workers in
     let clock : (after c steps).state.clock ≡ length (writes steps) = ap (λ t. t.clock) (tables_of c steps) ∙ clock_length c (writes steps) in
-    elim (eqb_tells k j) [
-      | inl h ↦ subst (λ b. cond b (worker_by_step (after c steps).state.clock (r j) s) (r k) ≡ worker_by (cond b ((s, length (writes steps)) ∷ own_steps k steps) (own_steps k steps))) (sym h.0)
-          (ap (λ n. worker_by_step n (r j) s) clock ∙ ap (λ v. worker_by_step (length (writes steps)) v s) (ap r (sym h.1) ∙ worker_is c steps k))
-      | inr h ↦ subst (λ b. cond b (worker_by_step (after c steps).state.clock (r j) s) (r k) ≡ worker_by (cond b ((s, length (writes steps)) ∷ own_steps k steps) (own_steps k steps))) (sym h.0) (worker_is c steps k)
-    ]
+    by_number (λ b. cond b (worker_by_step (after c steps).state.clock (r j) s) (r k) ≡ worker_by (cond b ((s, length (writes steps)) ∷ own_steps k steps) (own_steps k steps))) k j
+    (λ h. ap (λ n. worker_by_step n (r j) s) clock ∙ ap (λ v. worker_by_step (length (writes steps)) v s) (ap r (sym h.1) ∙ worker_is c steps k))
+    (λ h. worker_is c steps k)
 
 pub own_lookups_are_legal : OwnLookupsAreLegal
 own_lookups_are_legal c steps k settled trace =
@@ -275,11 +273,9 @@ places_never_fall k (Writer s ∷ steps) =
 places_never_fall k (ByWorker j s ∷ steps) =
     let was = places_never_fall k steps in
     let now : WorkerStep × ℕ = (s, length (writes steps)) in
-    elim (eqb_tells k j) [
-      | inl h ↦ subst (λ b. AllPairs (λ later earlier. earlier.1 ≤ later.1) (cond b (now ∷ own_steps k steps) (own_steps k steps)) × All (λ t. t.1 ≤ length (writes steps)) (cond b (now ∷ own_steps k steps) (own_steps k steps))) (sym h.0)
-          (AllPairs-cons (λ later earlier. earlier.1 ≤ later.1) now (own_steps k steps) was.1 was.0, All-cons (λ t. t.1 ≤ length (writes steps)) now (own_steps k steps) (omega arith) was.1)
-      | inr h ↦ subst (λ b. AllPairs (λ later earlier. earlier.1 ≤ later.1) (cond b (now ∷ own_steps k steps) (own_steps k steps)) × All (λ t. t.1 ≤ length (writes steps)) (cond b (now ∷ own_steps k steps) (own_steps k steps))) (sym h.0) was
-    ]
+    by_number (λ b. AllPairs (λ later earlier. earlier.1 ≤ later.1) (cond b (now ∷ own_steps k steps) (own_steps k steps)) × All (λ t. t.1 ≤ length (writes steps)) (cond b (now ∷ own_steps k steps) (own_steps k steps))) k j
+    (λ h. (AllPairs-cons (λ later earlier. earlier.1 ≤ later.1) now (own_steps k steps) was.1 was.0, All-cons (λ t. t.1 ≤ length (writes steps)) now (own_steps k steps) (omega arith) was.1))
+    (λ h. was)
 
 -- one more step of the writer leaves what it had done at the places before
 placed_more : (c : InitialState) (s : WriterStep) (w_steps : List WriterStep) (steps : List (WorkerStep × ℕ)) → All (λ t. t.1 ≤ length w_steps) steps
@@ -307,14 +303,12 @@ own_steps_are_placed c (Writer s ∷ steps) k trace =
 own_steps_are_placed c (ByWorker j s ∷ steps) k trace =
     let was = own_steps_are_placed c steps k trace.1 in
     let now : WorkerStep × ℕ = (s, length (writes steps)) in
-    elim (eqb_tells k j) [
-      | inl h ↦ subst (λ b. ArePlaced c (writes steps) (cond b (now ∷ own_steps k steps) (own_steps k steps))) (sym h.0) (
-        subst (λ n. MayRead c (state_at c (writes steps) (length (writes steps))) (worker_by (own_steps n steps)) s) (sym h.1)
-            (placed_now c steps j s trace.0.1),
-        was,
-      )
-      | inr h ↦ subst (λ b. ArePlaced c (writes steps) (cond b (now ∷ own_steps k steps) (own_steps k steps))) (sym h.0) was
-    ]
+    by_number (λ b. ArePlaced c (writes steps) (cond b (now ∷ own_steps k steps) (own_steps k steps))) k j
+    (λ h. (
+      subst (λ n. MayRead c (state_at c (writes steps) (length (writes steps))) (worker_by (own_steps n steps)) s) (sym h.1) (placed_now c steps j s trace.0.1),
+      was,
+    ))
+    (λ h. was)
 
 pub trace_grows : TraceGrows
 trace_grows c step steps = (λ trace. trace, λ more. more)

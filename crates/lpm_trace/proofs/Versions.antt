@@ -11,12 +11,16 @@ use Rattle.lpm_trace.specs.Writer.{token_after, passed_after, first_word_after}
 use Rattle.lpm_cells.specs.Words.{Words, with_first, with_second}
 use Rattle.lpm_rules.specs.RuleMap.{RuleMap}
 
+-- a fact of whether j is i
+pub by_number : (P : Bool → Type 0) (j i : ℕ) → ((eqb j i ≡ true) × (j ≡ i) → P true) → ((eqb j i ≡ false) × (j ≢ i) → P false) → P (eqb j i)
+by_number P j i here there = elim (eqb_tells j i) [
+  | inl h ↦ subst P (sym h.0) (here h)
+  | inr h ↦ subst P (sym h.0) (there h)
+]
+
 -- a fact of f with x at i, by whether j is i
 pub with_at_case : {A : Type 0} (P : A → Type 0) (f : ℕ → A) (i : ℕ) (x : A) (j : ℕ) → (j ≡ i → P x) → (j ≢ i → P (f j)) → P (with_at f i x j)
-with_at_case P f i x j here there = elim (eqb_tells j i) [
-  | inl h ↦ subst (λ b. P (cond b x (f j))) (sym h.0) (here h.1)
-  | inr h ↦ subst (λ b. P (cond b x (f j))) (sym h.0) (there h.1)
-]
+with_at_case P f i x j here there = by_number (λ b. P (cond b x (f j))) j i (λ h. here h.1) (λ h. there h.1)
 
 pub with_at-same : {A : Type 0} (f : ℕ → A) (i : ℕ) (x : A) → with_at f i x i ≡ x
 with_at-same f i x = rw (eq-eqb i i refl) refl

@@ -19,6 +19,11 @@ carried : {K M L : Type 0} (P : K → M → L → Reply → Type 0) {k k' : K} {
 carried {K} {M} {L} P ek em el er h =
     subst (λ (z : K × (M × (L × Reply))). P z.0 z.1.0 z.1.1.0 z.1.1.1) (λ i. (sym ek i, (sym em i, (sym el i, sym er i)))) h
 
+-- what came of a change, told of the writer's steps alone
+came : {Did Rests Does Is : List WriterStep → Type 0} → ((later : List WriterStep) × Did later × Rests later × Does later) → ((later : List WriterStep) → Does later → Is later)
+    → (later : List WriterStep) × Did later × Rests later × Is later
+came x alone = (x.0, x.1, x.2, alone x.0 x.3)
+
 pub returns-clause-replies : goal.returns-clause-replies
 returns-clause-replies g c = λ setup steps did rests.
     let f = g.row.FIRST in
@@ -33,72 +38,30 @@ returns-clause-replies g c = λ setup steps did rests.
     × IsResting f s setup later l.config l.rules l.pool l.versions
     × Answers setup f s config (state_by_steps old.rules steps old.pool old.versions) change r (state_by_steps l.rules later l.pool l.versions) in
     elim c.match-change.branch [
-      | in-Add+in-Ok w ↦
-          let now = w.in-Ok.ensures.adds setup steps did rests in
-          carried Came w.in-Add.is w.memory-is w.control-is w.reply-is (
-            now.0,
-            now.1,
-            now.2,
+      | in-Add+in-Ok w ↦ carried Came w.in-Add.is w.memory-is w.control-is w.reply-is
+          (came (w.in-Ok.ensures.adds setup steps did rests) (λ later does. (adds_alone WorldView (does_in f s) setup Setting scripts_and_schedule (stays f s) kind f s config before
+          (after w.add_rule.new.memory w.add_rule.new.control later) refl w.in-Add.prefix w.in-Add.hop (Ok w.in-Ok.put) does).0))
+      | in-Add+in-Err+in_default w ↦ carried Came w.in-Add.is w.memory-is w.control-is w.reply-is
+          (came (w.in-Err.ensures.adds setup steps did rests) (λ later does. (
+            w.in_default.not-Memory,
             (adds_alone WorldView (does_in f s) setup Setting scripts_and_schedule (stays f s) kind f s config before
-                (after w.add_rule.new.memory w.add_rule.new.control now.0) refl w.in-Add.prefix w.in-Add.hop (Ok w.in-Ok.put) now.3).0,
-          )
-      | in-Add+in-Err+in_default w ↦
-          let now = w.in-Err.ensures.adds setup steps did rests in
-          carried Came w.in-Add.is w.memory-is w.control-is w.reply-is (
-            now.0,
-            now.1,
-            now.2,
-            (
-              w.in_default.not-Memory,
-              (adds_alone WorldView (does_in f s) setup Setting scripts_and_schedule (stays f s) kind f s config before
-                  (after w.add_rule.new.memory w.add_rule.new.control now.0) refl w.in-Add.prefix w.in-Add.hop (Err w.in-Err.refusal) now.3).0,
-            ),
-          )
-      | in-Delete+in-Ok-delete_rule w ↦
-          let now = w.in-Ok-delete_rule.ensures.deletes setup steps did rests in
-          carried Came w.in-Delete.is w.memory-is w.control-is w.reply-is (
-            now.0,
-            now.1,
-            now.2,
-            (deletes_alone WorldView (does_in f s) setup Setting scripts_and_schedule (stays f s) kind f s config before
-                (after w.delete_rule.new.memory w.delete_rule.new.control now.0) refl w.in-Delete.prefix (Ok w.in-Ok-delete_rule.hop) now.3).0,
-          )
-      | in-Delete+in-Err-delete_rule w ↦
-          let now = w.in-Err-delete_rule.ensures.deletes setup steps did rests in
-          carried Came w.in-Delete.is w.memory-is w.control-is w.reply-is (
-            now.0,
-            now.1,
-            now.2,
-            (deletes_alone WorldView (does_in f s) setup Setting scripts_and_schedule (stays f s) kind f s config before
-                (after w.delete_rule.new.memory w.delete_rule.new.control now.0) refl w.in-Delete.prefix (Err w.in-Err-delete_rule.refusal) now.3).0,
-          )
-      | in-Flush+in-Ok-flush_rules w ↦
-          let now = w.in-Ok-flush_rules.ensures.flushes setup steps did rests in
-          carried Came w.in-Flush.is w.memory-is w.control-is w.reply-is (
-            now.0,
-            now.1,
-            now.2,
-            (flushes_alone WorldView (does_in f s) setup Setting scripts_and_schedule (stays f s) kind f s config before
-                (after w.flush_rules.new.memory w.flush_rules.new.control now.0) refl (Ok w.in-Ok-flush_rules.count) now.3).0,
-          )
-      | in-Flush+in-Err-flush_rules w ↦
-          let now = w.in-Err-flush_rules.ensures.flushes setup steps did rests in
-          carried Came w.in-Flush.is w.memory-is w.control-is w.reply-is (
-            now.0,
-            now.1,
-            now.2,
-            (flushes_alone WorldView (does_in f s) setup Setting scripts_and_schedule (stays f s) kind f s config before
-                (after w.flush_rules.new.memory w.flush_rules.new.control now.0) refl (Err w.in-Err-flush_rules.refusal) now.3).0,
-          )
-      | in-Reclaim w ↦
-          let now = w.reclaim_groups.ensures.frees setup steps did rests in
-          carried Came w.in-Reclaim.is w.memory-is w.control-is w.reply-is (
-            now.0,
-            now.1,
-            now.2,
-            (frees_alone WorldView (does_in f s) setup Setting scripts_and_schedule (stays f s) kind f s config before
-                (after w.reclaim_groups.new.memory w.reclaim_groups.new.control now.0) refl w.in-Reclaim.max w.reclaim_groups.result now.3).0,
-          )
+                (after w.add_rule.new.memory w.add_rule.new.control later) refl w.in-Add.prefix w.in-Add.hop (Err w.in-Err.refusal) does).0,
+          )))
+      | in-Delete+in-Ok-delete_rule w ↦ carried Came w.in-Delete.is w.memory-is w.control-is w.reply-is
+          (came (w.in-Ok-delete_rule.ensures.deletes setup steps did rests) (λ later does. (deletes_alone WorldView (does_in f s) setup Setting scripts_and_schedule (stays f s) kind f s config before
+          (after w.delete_rule.new.memory w.delete_rule.new.control later) refl w.in-Delete.prefix (Ok w.in-Ok-delete_rule.hop) does).0))
+      | in-Delete+in-Err-delete_rule w ↦ carried Came w.in-Delete.is w.memory-is w.control-is w.reply-is
+          (came (w.in-Err-delete_rule.ensures.deletes setup steps did rests) (λ later does. (deletes_alone WorldView (does_in f s) setup Setting scripts_and_schedule (stays f s) kind f s config before
+          (after w.delete_rule.new.memory w.delete_rule.new.control later) refl w.in-Delete.prefix (Err w.in-Err-delete_rule.refusal) does).0))
+      | in-Flush+in-Ok-flush_rules w ↦ carried Came w.in-Flush.is w.memory-is w.control-is w.reply-is
+          (came (w.in-Ok-flush_rules.ensures.flushes setup steps did rests) (λ later does. (flushes_alone WorldView (does_in f s) setup Setting scripts_and_schedule (stays f s) kind f s config before
+          (after w.flush_rules.new.memory w.flush_rules.new.control later) refl (Ok w.in-Ok-flush_rules.count) does).0))
+      | in-Flush+in-Err-flush_rules w ↦ carried Came w.in-Flush.is w.memory-is w.control-is w.reply-is
+          (came (w.in-Err-flush_rules.ensures.flushes setup steps did rests) (λ later does. (flushes_alone WorldView (does_in f s) setup Setting scripts_and_schedule (stays f s) kind f s config before
+          (after w.flush_rules.new.memory w.flush_rules.new.control later) refl (Err w.in-Err-flush_rules.refusal) does).0))
+      | in-Reclaim w ↦ carried Came w.in-Reclaim.is w.memory-is w.control-is w.reply-is
+          (came (w.reclaim_groups.ensures.frees setup steps did rests) (λ later does. (frees_alone WorldView (does_in f s) setup Setting scripts_and_schedule (stays f s) kind f s config before
+          (after w.reclaim_groups.new.memory w.reclaim_groups.new.control later) refl w.in-Reclaim.max w.reclaim_groups.result does).0))
     ]
 
 pub returns-clause-setting : goal.returns-clause-setting
