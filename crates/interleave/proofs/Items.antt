@@ -94,10 +94,8 @@ pub makes_still : (workers : ℕ) (scripts : ℕ → List Deed) (was is : List T
     → (items : List Actor) (steps : List TraceStep) → IsScheduled (HasEnded workers scripts was) items steps → IsScheduled (HasEnded workers scripts is) items steps
 makes_still workers scripts was is more [] steps made = made
 makes_still workers scripts was is more (WriterActor ∷ items) steps (inl made) = inl (more steps made.0, makes_still workers scripts was is more items steps made.1)
-makes_still workers scripts was is more (WriterActor ∷ items) steps (inr made) =
-    inr (made.0, made.1, made.2, made.3, makes_still workers scripts was is more items made.1 made.4)
 makes_still workers scripts was is more (WorkerActor k ∷ items) steps (inl made) = inl (made.0, makes_still workers scripts was is more items steps made.1)
-makes_still workers scripts was is more (WorkerActor k ∷ items) steps (inr made) =
+makes_still workers scripts was is more (item ∷ items) steps (inr made) =
     inr (made.0, made.1, made.2, made.3, makes_still workers scripts was is more items made.1 made.4)
 
 -- an item that is there is the same whatever stands for one that isn't

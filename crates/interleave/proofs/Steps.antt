@@ -7,13 +7,13 @@ use Rattle.lpm_trace.specs.declared.kind.Actor.{Actor}
 use Rattle.lpm_trace.specs.declared.kind.Deed.{Deed}
 use Rattle.lpm_trace.specs.States.{InitialState, TableState, addresses, done_at}
 use Rattle.interleave.specs.declared.worker.Worker.{Worker as Machine}
-use Rattle.interleave.specs.Scripts.{IsSound, IsSoundFrom, IsCut, GoesOn}
+use Rattle.interleave.specs.Scripts.{IsSound, IsSoundFrom, IsCut, GoesOn, BeginsWith}
 use Rattle.interleave.specs.View.{WorldView, script_at}
 use Rattle.interleave.specs.World.{WorldDid, AreAt, AreNew, IsInitial}
 use Rattle.lpm_trace.specs.declared.kind.Step.{Step}
 use Rattle.lpm_trace.specs.Trace.{Worker, Phase, Offline, Online, IsBetweenDeeds, Unread, worker_by_step, MayRead}
-use Rattle.interleave.specs.Record.{step_of_worker, shown_by}
-use Rattle.interleave.specs.Machine.{Shows, Makes, BeginsDeed, is_online, phase_of, probes_of, ContinuesDeed, IsAt, IsOf, IsInRange, IsNoted, Advances}
+use Rattle.interleave.specs.Record.{step_of_worker, shown_by, finished_by}
+use Rattle.interleave.specs.Machine.{Shows, BeginsDeed, is_online, phase_of, probes_of, ContinuesDeed, IsAt, IsOf, IsInRange, IsNoted, Advances}
 use Rattle.std.proofs.lemmas.List.{append-nil, append_assoc, get_or_at, length-append, length-reverse, reverse-append}
 use Rattle.lpm_trace.specs.declared.step.WorkerStep.{WorkerStep}
 use Rattle.interleave.specs.declared.seen.Seen.{Seen as Noted}
@@ -98,89 +98,60 @@ IsBegun c w k now r left m new shown deed = Shows m r → IsBetweenDeeds r.phase
     → BeginsDeed c w k now r deed left new shown
 
 module _ (c : InitialState) (w : TableState) (k now : ℕ) (r : Worker) (left : List Deed) (m : Machine) where
+  begun_by : (s : WorkerStep) (deed : Deed) (new : Machine) (shown : Step) → BeginsWith deed s → MayRead c w r s → Shows new (worker_by_step now r s) → shown ≡ shown_by c k r s
+      → IsSoundFrom (addresses c) (is_online (worker_by_step now r s).phase) left → finished_by r s ≡ [] → BeginsDeed c w k now r deed left new shown
+  begun_by s deed new shown begins may shows told sound none = record {
+    made = s;
+    begins = begins;
+    makes = record { may = may; shows = shows; shown = told };
+    sound = sound;
+    unfinished = none;
+  }
+
   pub online_begun : (token : ℕ) (shown : Step) → w.token ≡ token → shown ≡ step_of_worker k kind.LoadToken 0 token
       → IsBegun c w k now r left m (record m { phase = phase.ComingOnline token }) shown deed.Online
-  online_begun token shown same is shows between sound = record {
-    made = step.LoadOnline token;
-    begins = tt;
-    makes = record {
-      may = (offline_is r.phase sound.0, sym same);
-      shows = record { counter = shows.counter; phase = refl; lo = shows.lo; probes = shows.probes };
-      shown = is;
-    };
-    sound = sound.1;
-    unfinished = refl;
-  }
+  online_begun token shown same is shows between sound =
+      begun_by (step.LoadOnline token) deed.Online _ shown tt (offline_is r.phase sound.0, sym same)
+      (record { counter = shows.counter; phase = refl; lo = shows.lo; probes = shows.probes }) is sound.1 refl
 
   pub offline_begun : (shown : Step) → shown ≡ step_of_worker k kind.StoreCounter k 0
       → IsBegun c w k now r left m (record m { counter = 0; phase = phase.Offline }) shown deed.Offline
-  offline_begun shown is shows between sound = record {
-    made = step.StoreOffline;
-    begins = tt;
-    makes = record {
-      may = online_is r.phase between sound.0;
-      shows = record { counter = refl; phase = refl; lo = shows.lo; probes = shows.probes };
-      shown = is;
-    };
-    sound = sound.1;
-    unfinished = refl;
-  }
+  offline_begun shown is shows between sound =
+      begun_by step.StoreOffline deed.Offline _ shown tt (online_is r.phase between sound.0)
+      (record { counter = refl; phase = refl; lo = shows.lo; probes = shows.probes }) is sound.1 refl
 
   pub quiescent_begun : (token : ℕ) (shown : Step) → w.token ≡ token → shown ≡ step_of_worker k kind.LoadToken 0 token
       → IsBegun c w k now r left m (record m { phase = phase.ReportingQuiescent token }) shown deed.Quiescent
-  quiescent_begun token shown same is shows between sound = record {
-    made = step.LoadQuiescent token;
-    begins = tt;
-    makes = record {
-      may = (online_is r.phase between sound.0, sym same);
-      shows = record { counter = shows.counter; phase = refl; lo = shows.lo; probes = shows.probes };
-      shown = is;
-    };
-    sound = subst (λ (b : Bool). IsSoundFrom (addresses c) b left) sound.0 sound.1;
-    unfinished = refl;
-  }
+  quiescent_begun token shown same is shows between sound =
+      begun_by (step.LoadQuiescent token) deed.Quiescent _ shown tt (online_is r.phase between sound.0, sym same)
+      (record { counter = shows.counter; phase = refl; lo = shows.lo; probes = shows.probes }) is
+      (subst (λ (b : Bool). IsSoundFrom (addresses c) b left) sound.0 sound.1) refl
 
   pub meet_begun : (sequence : ℕ) (shown : Step) → w.sequence ≡ sequence → shown ≡ step_of_worker k kind.LoadSequence 0 sequence
       → IsBegun c w k now r left m m shown deed.Meet
-  meet_begun sequence shown same is shows between sound = record {
-    made = step.MeetWriter sequence;
-    begins = tt;
-    makes = record { may = (between, sym same); shows = shows; shown = is };
-    sound = sound;
-    unfinished = refl;
-  }
+  meet_begun sequence shown same is shows between sound =
+      begun_by (step.MeetWriter sequence) deed.Meet m shown tt (between, sym same) shows is sound refl
 
   module _ (new : Machine) (addrs : List ℕ) (sequence : ℕ) (shown : Step) (same : w.sequence ≡ sequence) (is : shown ≡ step_of_worker k kind.LoadSequence 0 sequence)
       (counter : new.counter ≡ m.counter) (doing : new.phase ≡ phase.LookingUp) (lo : new.lo ≡ done_at sequence) (probes : new.probes.items ≡ map probe.Unread addrs) where
-    looks_up : Shows m r → IsBetweenDeeds r.phase → is_online r.phase ≡ true → All (λ a. a < addresses c) addrs → Makes c w k now r (step.BeginLookup addrs sequence) new shown
-    looks_up shows between online all = record {
-      may = (online_is r.phase between online, all, sym same);
-      shows = record {
-        counter = shows.counter ∙ sym counter;
-        phase = sym (ap phase_of doing);
-        lo = sym lo;
-        probes = probes_unread addrs ∙ ap probes_of (sym probes);
-      };
-      shown = is;
-    }
+    looks_up : (deed : Deed) → BeginsWith deed (step.BeginLookup addrs sequence) → Shows m r → IsBetweenDeeds r.phase → is_online r.phase ≡ true → All (λ a. a < addresses c) addrs
+        → IsSoundFrom (addresses c) (is_online r.phase) left → BeginsDeed c w k now r deed left new shown
+    looks_up deed begins shows between online all sound =
+        let known : Shows new (worker_by_step now r (step.BeginLookup addrs sequence)) = record {
+          counter = shows.counter ∙ sym counter;
+          phase = sym (ap phase_of doing);
+          lo = sym lo;
+          probes = probes_unread addrs ∙ ap probes_of (sym probes);
+        } in
+        begun_by (step.BeginLookup addrs sequence) deed new shown begins (online_is r.phase between online, all, sym same) known is
+        (subst (λ (b : Bool). IsSoundFrom (addresses c) b left) online sound) refl
 
     pub lookup_begun : (addr : ℕ) → addrs ≡ addr ∷ [] → IsBegun c w k now r left m new shown (deed.Lookup addr)
-    lookup_begun addr one shows between sound = record {
-      made = step.BeginLookup addrs sequence;
-      begins = one;
-      makes = looks_up shows between sound.0 (rw one (All-cons (λ a. a < addresses c) addr [] sound.1 (All-nil (λ a. a < addresses c))));
-      sound = subst (λ (b : Bool). IsSoundFrom (addresses c) b left) sound.0 sound.2;
-      unfinished = refl;
-    }
+    lookup_begun addr one shows between sound =
+        looks_up (deed.Lookup addr) one shows between sound.0 (rw one (All-cons (λ a. a < addresses c) addr [] sound.1 (All-nil (λ a. a < addresses c)))) sound.2
 
     pub lookup4_begun : IsBegun c w k now r left m new shown (deed.Lookup4 addrs)
-    lookup4_begun shows between sound = record {
-      made = step.BeginLookup addrs sequence;
-      begins = refl;
-      makes = looks_up shows between sound.0 sound.1;
-      sound = subst (λ (b : Bool). IsSoundFrom (addresses c) b left) sound.0 sound.2;
-      unfinished = refl;
-    }
+    lookup4_begun shows between sound = looks_up (deed.Lookup4 addrs) refl shows between sound.0 sound.1 sound.2
 
 -- One more step: where a worker stands then.
 
