@@ -1,5 +1,5 @@
 -- A whole run: from the opening to what it shows.
-use Rattle.std.proofs.Common.{◌≡◌, ℕ, refl, ap, sym, subst, ◌∙◌, List, [], ◌++◌, length, reverse, arith, ◌<◌, ◌≤◌, ◌↔◌, inl, inr, true, false, Bool, ◌∷◌, Option, Some, None, MatchOption, suc, cond, eqb, eq-eqb, map, ◌*◌, ◌^◌, leb}
+use Rattle.std.proofs.Common.{◌≡◌, ℕ, refl, ap, sym, subst, ◌∙◌, List, [], ◌++◌, length, reverse, arith, ◌<◌, ◌≤◌, ◌↔◌, inl, inr, true, false, Bool, ◌∷◌, Option, Some, None, MatchOption, suc, cond, eqb, eq-eqb, map, ◌*◌, ◌^◌}
 use Rattle.std.specs.FinMap.{empty}
 use Rattle.lpm_rules.specs.RuleMap.{RuleMap, network_cmp}
 use Rattle.lpm_limits.specs.declared.config.Config.{Config}
@@ -7,7 +7,7 @@ use Rattle.lpm_rules.specs.declared.Change.{Change}
 use Rattle.lpm_trace.specs.declared.kind.Actor.{Actor}
 use Rattle.lpm_trace.specs.declared.kind.Deed.{Deed}
 use Rattle.lpm_trace.specs.declared.step.WriterStep.{WriterStep}
-use Rattle.lpm_trace.specs.Trace.{writes, worker_of, after, IsTrace, worker_by_step, Seen as Finished}
+use Rattle.lpm_trace.specs.Trace.{writes, worker_of, IsTrace, worker_by_step, Seen as Finished}
 use Rattle.interleave.specs.World.{HasEnded as ActorHasEnded, IsScheduled, writer_items, IsInitial, IsPlayedOut, WorldDid, Reaches, scripts_and_schedule, WorldDoes}
 use Rattle.interleave.specs.View.{script_at, WorldView}
 use Rattle.lpm_writer.specs.Resting.{blank_state, IsResting}
@@ -15,7 +15,7 @@ use Rattle.interleave.specs.declared.trace.Trace.{Trace}
 use Rattle.interleave.specs.Runs.{StateBySteps, HasTokensLeft, Waits, Answers, IsAtRest, state_by_steps, IsPerformed, IsRun, initial_state_by_steps, HaveComeOut, InitialStatesAreSettled, RunsAreLawful}
 use Rattle.std.proofs.lemmas.Bool.{cases_lt}
 use Rattle.lpm_rules.specs.declared.Change.TheVariants.{Synchronize}
-use Rattle.lpm_trace.specs.States.{InitialState, state_after, TableState, Unused, Retired, IsSettled, IsAnswer, addresses, answer, updates_done_in, updates_begun_in, oldest, state_at}
+use Rattle.lpm_trace.specs.States.{InitialState, state_after, TableState, Unused, Retired, IsSettled, IsAnswer, addresses, answer, updates_done_in, updates_begun_in, state_at}
 use Rattle.lpm_writer.specs.declared.control.ControlState.{ControlState}
 use Rattle.lpm_writer.proofs.Reclaims.{is_limbo}
 use Rattle.interleave.specs.declared.reply.Reply.{Reply}
@@ -29,10 +29,10 @@ use Rattle.interleave.specs.Record.{finished_by, seen_by, all_seen, seen_of}
 use Rattle.interleave.proofs.Lookups.{finished_then}
 use Rattle.lpm_trace.specs.Laws.{at_moment, by_steps, rules_of_version, Unlinks, Fills}
 use Rattle.lpm_trace.proofs.Grace.{older_trace}
-use Rattle.lpm_trace.proofs.Versions.{by_number}
-use Rattle.lpm_trace.proofs.Traces.{tables_of, history_at}
+use Rattle.lpm_trace.proofs.Versions.{by_number, Shows, rest_shown}
+use Rattle.lpm_trace.proofs.Traces.{history_at, shows_at}
 use Rattle.lpm_trace.proofs.Moments.{count, writes_oldest}
-use Rattle.lpm_trace.proofs.Promises.{lookups_are_legal, versions_never_fall, reuse_is_lawful, rest_answers}
+use Rattle.lpm_trace.proofs.Promises.{lookups_are_legal, versions_never_fall, reuse_is_lawful}
 use Rattle.qsbr.specs.Intervals.{Interval, IsReaderInterval, Holds}
 use Rattle.lpm_writer.proofs.Opened.{settled}
 use Rattle.interleave.specs.Laws.{TracesAreLawful}
@@ -235,27 +235,14 @@ seen_finished k (ByWorker j s ∷ steps) =
 
 -- The law of every trace, and what it says of a run.
 
-either : (c : InitialState) (xs ys : List TraceStep) (b : Bool) → IsTrace c xs → IsTrace c ys → IsTrace c (cond b xs ys)
-either c xs ys true x y = x
-either c xs ys false x y = y
-
--- the steps before a moment make a trace
-pub oldest_trace : (c : InitialState) (t : ℕ) (steps : List TraceStep) → IsTrace c steps → IsTrace c (oldest t steps)
-oldest_trace c t [] trace = tt
-oldest_trace c t (s ∷ steps) trace = either c (oldest t steps) (s ∷ steps) (leb t (length steps)) (oldest_trace c t steps trace.1) trace
-
 rests : (c : InitialState) (steps : List TraceStep) → IsSettled c → IsTrace c steps → (t : ℕ) → updates_done_in (at_moment c steps t) ≡ updates_begun_in (at_moment c steps t)
     → (a : ℕ) → a < addresses c → IsAnswer c (rules_of_version c steps (updates_done_in (at_moment c steps t))) a (answer c (at_moment c steps t).words a)
 rests c steps start trace t still a low =
-    let now = oldest t steps in
-    let is : (after c now).state ≡ at_moment c steps t = tables_of c now in
-    let resting : updates_done_in (after c now).state ≡ updates_begun_in (after c now).state = ap updates_done_in is ∙ still ∙ sym (ap updates_begun_in is) in
-    let answers : IsAnswer c ((after c now).state.history (updates_done_in (after c now).state)) a (answer c (after c now).state.words a) = rest_answers c now start (oldest_trace c t steps trace) resting a low in
-    let there : IsAnswer c ((at_moment c steps t).history (updates_done_in (at_moment c steps t))) a (answer c (at_moment c steps t).words a) = subst (λ (w : TableState). IsAnswer c (w.history (updates_done_in w)) a (answer c w.words a)) is answers in
-    let then : state_at c (writes steps) (count steps t) ≡ at_moment c steps t = ap (state_after c) (writes_oldest steps t) in
-    let within : updates_done_in (at_moment c steps t) ≤ updates_begun_in (state_at c (writes steps) (count steps t)) = subst (λ n. updates_done_in (at_moment c steps t) ≤ n) (still ∙ sym (ap updates_begun_in then)) (omega (arith)) in
+    let is : state_at c (writes steps) (count steps t) ≡ at_moment c steps t = ap (state_after c) (writes_oldest steps t) in
+    let now = rest_shown c (at_moment c steps t) (subst (Shows c) is (shows_at c start steps trace (count steps t))) still a low in
+    let within : updates_done_in (at_moment c steps t) ≤ updates_begun_in (state_at c (writes steps) (count steps t)) = subst (λ w. updates_done_in (at_moment c steps t) ≤ updates_begun_in w) (sym is) (omega (arith, still)) in
     let old = history_at c (writes steps) (count steps t) (updates_done_in (at_moment c steps t)) within in
-    subst (λ R. IsAnswer c R a (answer c (at_moment c steps t).words a)) (sym (old ∙ ap (λ (w : TableState). w.history (updates_done_in (at_moment c steps t))) then)) there
+    subst (λ R. IsAnswer c R a (answer c (at_moment c steps t).words a)) (sym (old ∙ ap (λ (w : TableState). w.history (updates_done_in (at_moment c steps t))) is)) now
 
 reuses : (c : InitialState) (steps : List TraceStep) → IsSettled c → IsTrace c steps
     → (newer between older : List TraceStep) (unlinks fills : WriterStep) (group : ℕ) → steps ≡ newer ++ Writer fills ∷ (between ++ Writer unlinks ∷ older)

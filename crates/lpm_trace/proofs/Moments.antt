@@ -14,7 +14,7 @@ use Rattle.lpm_trace.specs.States.{InitialState, IsAnswer, begun_at, version, ol
 use Rattle.lpm_trace.specs.Trace.{Worker, Probe, Unread, InGroup, Answered, Seen, read_first, first_read, second_read, with_answers, worker_by_step, after, writes, worker_of}
 use Rattle.lpm_trace.specs.Laws.{IsLegalAtPlace, at_moment, rules_of_version, IsLegal, LookupsAreLegal, VersionsNeverFall}
 use Rattle.lpm_trace.proofs.Versions.{by_number, Each, each_all, version_ge, version_le}
-use Rattle.lpm_trace.proofs.Traces.{oldest_old, oldest_new, oldest_all, clock_length, tables_of, rising, all_right}
+use Rattle.lpm_trace.proofs.Traces.{oldest_case, oldest_old, oldest_new, oldest_all, clock_length, tables_of, rising, all_right}
 
 -- ---- how many of the first n steps are the writer's
 
@@ -30,10 +30,9 @@ writes_more (ByWorker k s) steps = (omega arith, omega arith)
 
 pub count_le : (steps : List TraceStep) (n : ℕ) → count steps n ≤ length (writes steps)
 count_le [] n = omega arith
-count_le (s ∷ steps) n = elim (cases_lt (length steps) n) [
-  | inl h ↦ subst (λ l. length (writes l) ≤ length (writes (s ∷ steps))) (sym (oldest_new s steps n h)) (omega arith)
-  | inr h ↦ let here = count_old s steps n h in omega (arith, here, count_le steps n, (writes_more s steps).0)
-]
+count_le (s ∷ steps) n = oldest_case (λ l. length (writes l) ≤ length (writes (s ∷ steps))) s steps n
+    (λ _. omega arith)
+    (λ _. omega (arith, count_le steps n, (writes_more s steps).0))
 
 writes_older : (s : TraceStep) (steps : List TraceStep) (n : ℕ) → n ≤ length (writes steps) → oldest n (writes (s ∷ steps)) ≡ oldest n (writes steps)
 writes_older (Writer s) steps n le = oldest_old s (writes steps) n le
@@ -42,10 +41,9 @@ writes_older (ByWorker k s) steps n le = refl
 -- the writer's steps among the first n
 pub writes_oldest : (steps : List TraceStep) (n : ℕ) → oldest (count steps n) (writes steps) ≡ writes (oldest n steps)
 writes_oldest [] n = refl
-writes_oldest (s ∷ steps) n = elim (cases_lt (length steps) n) [
-  | inl h ↦ subst (λ l. oldest (length (writes l)) (writes (s ∷ steps)) ≡ writes l) (sym (oldest_new s steps n h)) (oldest_all (writes (s ∷ steps)) (length (writes (s ∷ steps))) (omega arith))
-  | inr h ↦ subst (λ l. oldest (length (writes l)) (writes (s ∷ steps)) ≡ writes l) (sym (oldest_old s steps n h)) (writes_older s steps (count steps n) (count_le steps n) ∙ writes_oldest steps n)
-]
+writes_oldest (s ∷ steps) n = oldest_case (λ l. oldest (length (writes l)) (writes (s ∷ steps)) ≡ writes l) s steps n
+    (λ _. oldest_all (writes (s ∷ steps)) (length (writes (s ∷ steps))) (omega arith))
+    (λ _. writes_older s steps (count steps n) (count_le steps n) ∙ writes_oldest steps n)
 
 pub count_next : (steps : List TraceStep) (n : ℕ) → (count steps n ≤ count steps (suc n)) × (count steps (suc n) ≤ suc (count steps n))
 count_next [] n = (omega arith, omega arith)

@@ -17,18 +17,18 @@ use Rattle.std.proofs.lemmas.List.Kept.{AllPairs-cons}
 use Rattle.std.specs.List.{AllPairs}
 use Rattle.lpm_trace.specs.declared.step.WorkerStep.{WorkerStep}
 
--- the first t members, where one more stands before
-pub oldest_old : {A : Type 0} (s : A) (xs : List A) (t : ℕ) → t ≤ length xs → oldest t (s ∷ xs) ≡ oldest t xs
-oldest_old s xs t le = elim (leb_tells t (length xs)) [
-  | inl h ↦ ap (λ b. cond b (oldest t xs) (s ∷ xs)) h.0
-  | inr h ↦ absurd (omega (arith, le, h.1))
+-- a fact of the first t members, where one more stands before
+pub oldest_case : {A : Type 0} (P : List A → Type 0) (s : A) (xs : List A) (t : ℕ) → (length xs < t → P (s ∷ xs)) → (t ≤ length xs → P (oldest t xs)) → P (oldest t (s ∷ xs))
+oldest_case P s xs t new old = elim (leb_tells t (length xs)) [
+  | inl h ↦ subst (λ b. P (cond b (oldest t xs) (s ∷ xs))) (sym h.0) (old h.1)
+  | inr h ↦ subst (λ b. P (cond b (oldest t xs) (s ∷ xs))) (sym h.0) (new h.1)
 ]
 
+pub oldest_old : {A : Type 0} (s : A) (xs : List A) (t : ℕ) → t ≤ length xs → oldest t (s ∷ xs) ≡ oldest t xs
+oldest_old s xs t le = oldest_case (λ l. l ≡ oldest t xs) s xs t (λ lt. absurd (omega (arith, le, lt))) (λ _. refl)
+
 pub oldest_new : {A : Type 0} (s : A) (xs : List A) (t : ℕ) → length xs < t → oldest t (s ∷ xs) ≡ s ∷ xs
-oldest_new s xs t lt = elim (leb_tells t (length xs)) [
-  | inl h ↦ absurd (omega (arith, lt, h.1))
-  | inr h ↦ ap (λ b. cond b (oldest t xs) (s ∷ xs)) h.0
-]
+oldest_new s xs t lt = oldest_case (λ l. l ≡ s ∷ xs) s xs t (λ _. refl) (λ le. absurd (omega (arith, lt, le)))
 
 pub oldest_all : {A : Type 0} (xs : List A) (t : ℕ) → length xs ≤ t → oldest t xs ≡ xs
 oldest_all [] t le = refl
@@ -107,10 +107,9 @@ good_more c A B HA HB w workers more up good = record {
 
 pub begun_grows : (c : InitialState) (ws : List WriterStep) (t : ℕ) → updates_begun_in (state_at c ws t) ≤ updates_begun_in (state_after c ws)
 begun_grows c [] t = omega arith
-begun_grows c (s ∷ ws) t = elim (cases_lt (length ws) t) [
-  | inl h ↦ subst (λ w. updates_begun_in w ≤ updates_begun_in (state_after c (s ∷ ws))) (sym (at_new c s ws t h)) (omega arith)
-  | inr h ↦ subst (λ w. updates_begun_in w ≤ updates_begun_in (state_after c (s ∷ ws))) (sym (at_old c s ws t h)) (omega (arith, begun_grows c ws t, sequence_grows c (state_after c ws) s))
-]
+begun_grows c (s ∷ ws) t = oldest_case (λ l. updates_begun_in (state_after c l) ≤ updates_begun_in (state_after c (s ∷ ws))) s ws t
+    (λ _. omega arith)
+    (λ _. omega (arith, begun_grows c ws t, sequence_grows c (state_after c ws) s))
 
 unstarted_ok : (c : InitialState) (k : ℕ) → WorkerOk c (told_by c []) (hi_by c []) (starting_state c) k initial_worker
 unstarted_ok c k = record { inside = λ run. absurd run; counter = omega arith; loaded = tt; since = omega arith; grace = λ run. absurd run; idle = refl; low = tt; probes = tt; finished = tt }
@@ -178,36 +177,29 @@ shows_tables c settled (ByWorker k s ∷ steps) trace = shows_tables c settled s
 
 pub shows_at : (c : InitialState) → IsSettled c → (steps : List TraceStep) → IsTrace c steps → (t : ℕ) → Shows c (state_at c (writes steps) t)
 shows_at c settled [] trace t = opening_shows c settled
-shows_at c settled (Writer s ∷ steps) trace t = elim (cases_lt (length (writes steps)) t) [
-  | inl h ↦ subst (Shows c) (sym (at_new c s (writes steps) t h)) (shows_tables c settled (Writer s ∷ steps) trace)
-  | inr h ↦ subst (Shows c) (sym (at_old c s (writes steps) t h)) (shows_at c settled steps trace.1 t)
-]
+shows_at c settled (Writer s ∷ steps) trace t = oldest_case (λ l. Shows c (state_after c l)) s (writes steps) t
+    (λ _. shows_tables c settled (Writer s ∷ steps) trace)
+    (λ _. shows_at c settled steps trace.1 t)
 shows_at c settled (ByWorker k s ∷ steps) trace t = shows_at c settled steps trace.1 t
 
 pub history_at : (c : InitialState) (ws : List WriterStep) (t k : ℕ) → k ≤ updates_begun_in (state_at c ws t) → (state_after c ws).history k ≡ (state_at c ws t).history k
 history_at c [] t k le = refl
-history_at c (s ∷ ws) t k le = elim (cases_lt (length ws) t) [
-  | inl h ↦ ap (λ w. w.history k) (sym (at_new c s ws t h))
-  | inr h ↦
-      let le' : k ≤ updates_begun_in (state_at c ws t) = subst (λ w. k ≤ updates_begun_in w) (at_old c s ws t h) le in
-      history_stays c (state_after c ws) s k (omega (arith, le', begun_grows c ws t)) ∙ history_at c ws t k le' ∙ ap (λ w. w.history k) (sym (at_old c s ws t h))
-]
+history_at c (s ∷ ws) t k le = oldest_case (λ l. k ≤ updates_begun_in (state_after c l) → (state_after c (s ∷ ws)).history k ≡ (state_after c l).history k) s ws t
+    (λ _ _. refl)
+    (λ _ old. history_stays c (state_after c ws) s k (omega (arith, old, begun_grows c ws t)) ∙ history_at c ws t k old)
+    le
 
 -- the version that an address shows never falls
 pub rising : (c : InitialState) (ws : List WriterStep) (t u a : ℕ) → t ≤ u
     → version (state_at c ws t) a ≤ version (state_at c ws u) a
 rising c [] t u a le = omega arith
-rising c (s ∷ ws) t u a le = elim (cases_lt (length ws) u) [
-  | inl last ↦ subst (λ w. version (state_at c (s ∷ ws) t) a ≤ version w a) (sym (at_new c s ws u last)) (elim (cases_lt (length ws) t) [
-    | inl h ↦ subst (λ w. version w a ≤ version (state_after c (s ∷ ws)) a) (sym (at_new c s ws t h)) (omega arith)
-    | inr h ↦ subst (λ w. version w a ≤ version (state_after c (s ∷ ws)) a) (sym (at_old c s ws t h))
-        (let up : version (state_at c ws t) a ≤ version (state_at c ws (length ws)) a = rising c ws t (length ws) a h in
-        let up' : version (state_at c ws t) a ≤ version (state_after c ws) a = subst (λ w. version (state_at c ws t) a ≤ version w a) (at_now c ws) up in
-        omega (arith, up', rises c (state_after c ws) s a))
-  ])
-  | inr h ↦ subst (λ w. version (state_at c (s ∷ ws) t) a ≤ version w a) (sym (at_old c s ws u h))
-      (subst (λ w. version w a ≤ version (state_at c ws u) a) (sym (at_old c s ws t (omega (arith, le, h)))) (rising c ws t u a le))
-]
+rising c (s ∷ ws) t u a le = oldest_case (λ l. version (state_at c (s ∷ ws) t) a ≤ version (state_after c l) a) s ws u
+    (λ _. oldest_case (λ l. version (state_after c l) a ≤ version (state_after c (s ∷ ws)) a) s ws t
+    (λ _. omega arith)
+    (λ h.
+    let up : version (state_at c ws t) a ≤ version (state_after c ws) a = subst (λ w. version (state_at c ws t) a ≤ version w a) (at_now c ws) (rising c ws t (length ws) a h) in
+    omega (arith, up, rises c (state_after c ws) s a)))
+    (λ h. subst (λ w. version w a ≤ version (state_at c ws u) a) (sym (at_old c s ws t (omega (arith, le, h)))) (rising c ws t u a le))
 
 right : (c : InitialState) → IsSettled c → (steps : List TraceStep) → IsTrace c steps → (s : Seen) → FinishedOk c (told_by c (writes steps)) (hi_by c (writes steps)) (state_after c (writes steps)).clock s → IsLegalAtPlace c (writes steps) s
 right c settled steps trace s h =

@@ -164,6 +164,13 @@ version_ge w a = cond_ge (w.answer_changed a) (updates_done_in w) (updates_begun
 pub version_le : (w : TableState) (a : ℕ) → version w a ≤ updates_begun_in w
 version_le w a = cond_le (w.answer_changed a) (updates_done_in w) (updates_begun_in w) (omega arith)
 
+-- where no update runs, an address answers by the version done
+pub rest_shown : (c : InitialState) (w : TableState) → Shows c w → updates_done_in w ≡ updates_begun_in w → (a : ℕ) → a < addresses c
+    → IsAnswer c (w.history (updates_done_in w)) a (answer c w.words a)
+rest_shown c w shows rests a lt =
+    let same : version w a ≡ updates_done_in w = omega (arith, version_ge w a, version_le w a, rests) in
+    subst (λ k. IsAnswer c (w.history k) a (answer c w.words a)) same (shows.shown a lt)
+
 turned_rises : (b t : Bool) (x y : ℕ) → x ≤ y → cond t y x ≤ cond (cond b t true) y x
 turned_rises true t x y h = omega arith
 turned_rises false t x y h = cond_le t x y h

@@ -1,6 +1,6 @@
 -- The sequence, the token and the checks keep what holds.
-use Rattle.std.proofs.Common.{◌≡◌, ℕ, suc, ◌+◌, ◌/◌, ◌<◌, ◌≤◌, ◌≢◌, ◌⊎◌, inl, inr, Bool, true, false, cond, ◌&&◌, eqb, max, sym, ap, subst, ◌∙◌, arith, ◌%◌, ◌^◌, length, slice_index, refl, get_or-set_other}
-use Rattle.std.proofs.lemmas.Bool.Decides.{eqb_tells, leb_tells}
+use Rattle.std.proofs.Common.{◌≡◌, ℕ, suc, ◌+◌, ◌/◌, ◌<◌, ◌≤◌, ◌≢◌, ◌⊎◌, inl, inr, Bool, true, false, cond, ◌&&◌, eqb, leb, max, sym, ap, subst, ◌∙◌, arith, ◌%◌, ◌^◌, length, slice_index, refl, get_or-set_other}
+use Rattle.std.proofs.lemmas.Bool.Decides.{leb_tells}
 use Rattle.lpm_trace.specs.declared.step.WriterStep.TheVariants.{LoadCounter, StoreFirst, StoreSecond}
 use Rattle.lpm_trace.specs.States.{InitialState, TableState, addresses, Status, Unused, Linked, Retired, answer, updates_done_in, updates_begun_in, state_by_step, lets_pass, MayWrite, first_entry, with_linked, with_retired, with_stamp, MayLink, MayFill, IsFree}
 use Rattle.lpm_trace.specs.Trace.{Worker, Phase, ReportingQuiescent, IsRunning}
@@ -11,7 +11,7 @@ use Rattle.std.proofs.Math.Nat.{mod-lt}
 use Rattle.lpm_cells.specs.declared.entry.Entry.{Entry}
 use Rattle.lpm_cells.specs.declared.entry.Entry.TheVariants.{Group}
 use Rattle.lpm_cells.specs.Words.{entry_in, hop_in, with_first, last_entry}
-use Rattle.lpm_trace.proofs.Versions.{with_at_case, with_at-same, with_at-other, set_case}
+use Rattle.lpm_trace.proofs.Versions.{by_number, with_at_case, with_at-same, with_at-other, set_case}
 
 -- the tables with the words and the groups as they were
 abbrev pub quiet : TableState → ℕ → (ℕ → RuleMap) → (ℕ → Bool) → ℕ → TableState
@@ -36,13 +36,9 @@ keeps_quiet c A Hi w workers good sequence history answer_changed token more on 
 }
 
 lets_pass_tells : (token value : ℕ) → ((lets_pass token value ≡ true) × ((value ≡ 0) ⊎ (token ≤ value))) ⊎ (lets_pass token value ≡ false)
-lets_pass_tells token value = elim (eqb_tells value 0) [
-  | inl h ↦ inl (rw h.0, inl h.1)
-  | inr h ↦ elim (leb_tells token value) [
-    | inl g ↦ inl (rw (h.0, g.0), inr g.1)
-    | inr g ↦ inr (rw (h.0, g.0))
-  ]
-]
+lets_pass_tells token value = by_number (λ b. ((cond b true (leb token value) ≡ true) × ((value ≡ 0) ⊎ (token ≤ value))) ⊎ (cond b true (leb token value) ≡ false)) value 0
+    (λ h. inl (refl, inl h.1))
+    (λ h. elim (leb_tells token value) [ inl g ↦ inl (g.0, inr g.1) | inr g ↦ inr g.0 ])
 
 -- a check that passes one more worker passes none that holds the group back
 held_passed : (c : InitialState) (w : TableState) (k k0 token value T counter : ℕ) → 0 < counter → k < c.workers → counter < T
@@ -69,14 +65,12 @@ held_counted c w k k0 token value counter p some inside same order (Retired T) h
         h.0,
         h.1,
         subst (λ b. cond (b && eqb (suc k0) c.workers) (max w.passed token) w.passed < T) (sym g.0)
-            (elim (eqb_tells (suc k0) c.workers) [
-              | inl last ↦ subst (λ b. cond b (max w.passed token) w.passed < T) (sym last.0) (
-                  elim (leb_tells T token) [
-                    | inl le ↦ absurd (let n : suc k0 ≤ k = next le.1 in omega (arith, n, last.1, inside))
-                    | inr gt ↦ omega (arith, gt.1, h.2)
-                  ])
-              | inr more ↦ subst (λ b. cond b (max w.passed token) w.passed < T) (sym more.0) h.2
-            ]),
+            (by_number (λ b. cond b (max w.passed token) w.passed < T) (suc k0) c.workers
+            (λ last. elim (leb_tells T token) [
+              | inl le ↦ absurd (let n : suc k0 ≤ k = next le.1 in omega (arith, n, last.1, inside))
+              | inr gt ↦ omega (arith, gt.1, h.2)
+            ])
+            (λ _. h.2)),
         subst (λ b. T ≤ token → cond b (suc k0) 0 ≤ k) (sym g.0) next,
       )
   | inr g ↦ (
