@@ -1,7 +1,7 @@
 //! The text of answers.
-ghost use Rattle.std.specs.Prelude.{◌≡◌, ◌+◌, ◌*◌, ◌≤◌, ◌<◌, ◌∷◌, ◌++◌, OnOk, IfOk};
+ghost use Rattle.std.specs.Prelude.{◌≡◌, ◌+◌, ◌*◌, ◌≤◌, ◌<◌, ◌∷◌, ◌++◌, IfOk};
 ghost use Rattle.std.specs.Prelude.{length, drop, decimal};
-ghost use Rattle.route_text.specs.Texts.{address_text, hop_text, answer_line, answer_lines};
+ghost use Rattle.route_text.specs.Texts.{address_text, hop_text, answer_lines};
 
 use itoa::write_digits;
 use lpm_bits::Hop;
@@ -97,20 +97,6 @@ pub(crate) fn put_address(addr: u32, line: &mut [u8], end: usize) -> usize
     put_octet(addr / 16_777_216, line, end)
 }
 
-/// Writes the number so that it ends at `end`, and returns where it starts.
-#[inline(always)]
-fn put_number(number: u32, line: &mut [u8], end: usize) -> usize
-    requires fits { number < 16777216 }
-    requires room { (8 ≤ end) × (end ≤ length line.old) }
-    ensures start { (result ≤ end) × (end ≤ result + 8) }
-    ensures written { drop result line.new ≡ decimal number ++ drop end line.old }
-{
-    if number < 256 {
-        return put_octet(number, line, end);
-    }
-    write_digits(u64::from(number), line, end)
-}
-
 /// Writes the hop so that it ends at `end`, and returns where it starts.
 #[inline(always)]
 fn put_hop(hop: Option<Hop>, line: &mut [u8], end: usize) -> usize
@@ -118,23 +104,14 @@ fn put_hop(hop: Option<Hop>, line: &mut [u8], end: usize) -> usize
     ensures start { (result ≤ end) × (end ≤ result + 8) }
     ensures written { drop result line.new ≡ hop_text hop ++ drop end line.old }
 {
-    match hop {
-        Some(hop) => put_number(hop.number(), line, end),
-        None => put_byte(b'-', line, end),
+    let Some(hop) = hop else {
+        return put_byte(b'-', line, end);
+    };
+    let number = hop.number();
+    if number < 256 {
+        return put_octet(number, line, end);
     }
-}
-
-/// Writes the line of an answer so that it ends at `end`, and returns where it starts.
-#[inline(always)]
-fn write_line(addr: u32, hop: Option<Hop>, line: &mut [u8], end: usize) -> usize
-    requires { (LINE_ROOM ≤ end) × (end ≤ length line.old) }
-    ensures start { (result ≤ end) × (end ≤ result + 25) }
-    ensures written { drop result line.new ≡ answer_line addr hop ++ drop end line.old }
-{
-    let end = put_byte(b'\n', line, end);
-    let end = put_hop(hop, line, end);
-    let end = put_byte(b' ', line, end);
-    put_address(addr, line, end)
+    write_digits(u64::from(number), line, end)
 }
 
 /// Writes the lines of answers so that they end where `block` does, from the last one back, and
@@ -149,20 +126,12 @@ fn write_lines(addrs: &[u32], hops: &[Option<Hop>], block: &mut [u8]) -> usize
     let mut left = addrs.len();
     while left > 0 {
         left -= 1;
-        start = write_line(addrs[left], hops[left], block, start);
+        let end = put_byte(b'\n', block, start);
+        let end = put_hop(hops[left], block, end);
+        let end = put_byte(b' ', block, end);
+        start = put_address(addrs[left], block, end);
     }
     start
-}
-
-/// Adds the lines of answers to the text.
-fn put_answers(text: &mut Vec<u8>, addrs: &[u32], hops: &[Option<Hop>]) -> Result<(), AllocError>
-    requires same { length hops.now ≡ length addrs.now }
-    requires few { length addrs.now ≤ BLOCK_LINES }
-    ensures { OnOk result (text.new.items ≡ text.old.items ++ answer_lines addrs.now hops.now) }
-{
-    let mut block = [0; BLOCK_ROOM];
-    let start = write_lines(addrs, hops, &mut block);
-    text.extend_from_slice(&block[start..])
 }
 
 /// The text of answers: a line for each address with its hop, or `-` for a miss.
@@ -180,7 +149,9 @@ pub fn answers_text(
     let mut done = 0;
     while done < addrs.len() {
         let next = done + (addrs.len() - done).min(BLOCK_LINES);
-        put_answers(&mut text, &addrs[done..next], &hops[done..next])?;
+        let mut block = [0; BLOCK_ROOM];
+        let start = write_lines(&addrs[done..next], &hops[done..next], &mut block);
+        text.extend_from_slice(&block[start..])?;
         done = next;
     }
     Ok(text)

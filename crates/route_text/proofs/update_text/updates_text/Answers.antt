@@ -1,4 +1,4 @@
-use Rattle.std.proofs.Common.{◌≡◌, ℕ, ◌≤◌, List, ◌+◌, ◌++◌, All, length, take, drop, sym, ap, subst, ◌∙◌, arith, take_all}
+use Rattle.std.proofs.Common.{◌≡◌, ℕ, ◌≤◌, List, ◌++◌, All, length, take, drop, sym, subst, arith, take_all}
 use Rattle.std.proofs.lemmas.List.Elements.{All-more}
 use Rattle.fib_model.specs.declared.orders.Order.{Order}
 use Rattle.route_text.specs.Texts.{update_line, lines_of_updates, update_lines}

@@ -1,6 +1,6 @@
 use Rattle.std.proofs.Common.{arith}
 use Rattle.std.proofs.lemmas.Fmt.{length-decimal-le}
-use Rattle.route_text.proofs.answers.put_number.Goals as goal
+use Rattle.route_text.proofs.answers.put_hop.Goals as goal
 
 pub write_digits-requires : goal.write_digits-requires
 write_digits-requires c =
