@@ -1,12 +1,11 @@
 //! Addresses that are read in pieces.
-ghost use Rattle.std.specs.Thread.{IsSync};
 ghost use Rattle.std.specs.Prelude.{◌≡◌, [], ◌∷◌, ◌++◌, IfOk, IfErr};
 ghost use Rattle.route_text.specs.Files.{AreAddresses, IsAddressesFault, SpellsAddress, HasAddressFault, IsReadError};
 
-use crate::pieces::{Halves, PiecewiseFile, halved, joined};
+use crate::pieces::{PiecewiseFile, parse_on};
 use route_text::{ReadError, read_addresses};
 use std::alloc::{AllocError, Global};
-use std::thread::{Threads, join};
+use std::thread::Threads;
 
 /// Address files. An address is the same on each line.
 struct Addresses;
@@ -25,6 +24,10 @@ impl PiecewiseFile for Addresses {
       | a ∷ [] ↦ λ addr is. is
       | a ∷ b ∷ fs ↦ λ addr is. is
     ] };
+
+    fn read(alloc: Global, bytes: &[u8]) -> Result<Vec<u32>, ReadError> {
+        read_addresses(alloc, bytes)
+    }
 
     fn append(list: Vec<u32>, _front: &[u8], more: &[u32]) -> Result<Vec<u32>, AllocError>
         ensures { IfOk result (λ v. v.items ≡ list.items ++ more.now) }
@@ -50,29 +53,5 @@ pub fn parse_addresses_on<R: Threads + Sync>(
     ensures addrs { IfOk result (λ v. AreAddresses bytes.now v.items) }
     ensures error { IfErr result (IsReadError (IsAddressesFault bytes.now)) }
 {
-    let Some(
-        Halves {
-            front,
-            few,
-            back,
-            more,
-        },
-    ) = halved(bytes, threads)
-    else {
-        return read_addresses(alloc, bytes);
-    };
-    let (first, second) = join(
-        rt,
-        || -> Result<Vec<u32>, ReadError>
-            requires { IsSync R.row }
-            ensures addrs { IfOk result (λ v. AreAddresses front.entry.now v.items) }
-            ensures error { IfErr result (IsReadError (IsAddressesFault front.entry.now)) }
-        { parse_addresses_on(rt, alloc, front, few) },
-        || -> Result<Vec<u32>, ReadError>
-            requires { IsSync R.row }
-            ensures addrs { IfOk result (λ v. AreAddresses back.entry.now v.items) }
-            ensures error { IfErr result (IsReadError (IsAddressesFault back.entry.now)) }
-        { parse_addresses_on(rt, alloc, back, more) },
-    );
-    joined::<Addresses>(bytes, front, back, first, second)
+    parse_on::<R, u32, Addresses>(rt, alloc, bytes, threads)
 }

@@ -12,17 +12,23 @@ use std::thread::{Threads, join};
 /// How many answers are worth a thread.
 const LEAST_ANSWERS: usize = 4_096;
 
-/// The lines of the answers, written in so many pieces.
-fn text_of_pieces<R: Threads + Sync>(
+/// A line for each address with its hop, as `route_text::answers_text` writes them, written in
+/// pieces on at most so many threads. One of less than 4,096 answers isn't worth a thread. Where a
+/// thread can't be had its piece is written by the thread that asks.
+///
+/// The error is want of memory for the text or a piece of it.
+#[cycle(writing)]
+pub fn answers_text_on<R: Threads + Sync>(
     rt: &R,
     alloc: Global,
     addrs: &[u32],
     hops: &[Option<Hop>],
-    pieces: usize,
+    threads: usize,
 ) -> Result<Vec<u8>, AllocError>
     requires { length hops.now ≡ length addrs.now }
     ensures { IfOk result (λ v. v.items ≡ answer_lines addrs.now hops.now) }
 {
+    let pieces = threads.min(addrs.len() / LEAST_ANSWERS);
     if pieces < 2 {
         return answers_text(alloc, addrs, hops);
     }
@@ -38,13 +44,13 @@ fn text_of_pieces<R: Threads + Sync>(
             requires lengths { length front_hops.now ≡ length front.now }
             ensures { IfOk result (λ v.
                 v.items ≡ answer_lines front.entry.now front_hops.entry.now) }
-        { text_of_pieces(rt, alloc, front, front_hops, few) },
+        { answers_text_on(rt, alloc, front, front_hops, few) },
         || -> Result<Vec<u8>, AllocError>
             requires sync { IsSync R.row }
             requires lengths { length back_hops.now ≡ length back.now }
             ensures { IfOk result (λ v.
                 v.items ≡ answer_lines back.entry.now back_hops.entry.now) }
-        { text_of_pieces(rt, alloc, back, back_hops, more) },
+        { answers_text_on(rt, alloc, back, back_hops, more) },
     );
     let mut text = match first {
         Ok(text) => text,
@@ -55,28 +61,4 @@ fn text_of_pieces<R: Threads + Sync>(
         Err(error) => return Err(error),
     }
     Ok(text)
-}
-
-/// A line for each address with its hop, as `route_text::answers_text` writes them, written in
-/// pieces on at most so many threads. One of less than 4,096 answers isn't worth a thread. Where a
-/// thread can't be had its piece is written by the thread that asks.
-///
-/// The error is want of memory for the text or a piece of it.
-pub fn answers_text_on<R: Threads + Sync>(
-    rt: &R,
-    alloc: Global,
-    addrs: &[u32],
-    hops: &[Option<Hop>],
-    threads: usize,
-) -> Result<Vec<u8>, AllocError>
-    requires { length hops.now ≡ length addrs.now }
-    ensures { IfOk result (λ v. v.items ≡ answer_lines addrs.now hops.now) }
-{
-    text_of_pieces(
-        rt,
-        alloc,
-        addrs,
-        hops,
-        threads.min(addrs.len() / LEAST_ANSWERS),
-    )
 }

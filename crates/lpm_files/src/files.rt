@@ -65,35 +65,20 @@ pub fn put_text<'a, W: Write>(out: &mut W, text: &[u8]) -> Result<(), Failure<'a
     ensures beginning { OnErr result (Begins (W.contents out.old) (W.contents out.new) text.now) }
     ensures failure { IfErr result (λ e. e ≡ Failure.CannotWrite) }
 {
-    match put_all(out, text) {
-        Ok(()) => Ok(()),
-        Err(CannotWrite) => Err(Failure::CannotWrite),
-    }
-}
-
-/// A write failed, or took no byte of a text that wasn't written whole.
-#[derive(Clone, Copy, Debug, PartialEq, Eq)]
-pub struct CannotWrite;
-
-/// Writes all of the text; after a failure, what was written is a beginning of it.
-pub fn put_all<W: Write>(out: &mut W, text: &[u8]) -> Result<(), CannotWrite>
-    ensures all { OnOk result (Appends (W.contents out.old) (W.contents out.new) text.now) }
-    ensures beginning { OnErr result (Begins (W.contents out.old) (W.contents out.new) text.now) }
-{
     let mut at = 0;
     for _ in 0..u64::MAX {
         if at >= text.len() {
             return Ok(());
         }
         match out.write(&text[at..]) {
-            Ok(0) => return Err(CannotWrite),
+            Ok(0) => return Err(Failure::CannotWrite),
             Ok(n) => at += n,
             Err(e) => {
                 if e.kind() != ErrorKind::Interrupted {
-                    return Err(CannotWrite);
+                    return Err(Failure::CannotWrite);
                 }
             }
         }
     }
-    Err(CannotWrite)
+    Err(Failure::CannotWrite)
 }

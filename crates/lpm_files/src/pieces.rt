@@ -1,4 +1,5 @@
 //! Files that are read in pieces, whatever their lines spell.
+ghost use Rattle.std.specs.Thread.{IsSync, IsSend};
 ghost use Rattle.std.specs.Prelude.{◌≡◌, ℕ, List, ◌+◌, ◌^◌, ◌<◌, ◌++◌, length, map};
 ghost use Rattle.std.specs.Prelude.{IfSome, IfOk, IfErr};
 ghost use Rattle.route_text.specs.declared.fault.FaultKind.{FaultKind};
@@ -7,6 +8,7 @@ ghost use Rattle.route_text.specs.Files.{lines, AreItems, IsFirstFault, IsReadEr
 use crate::lines::{count_lines, line_end, share};
 use route_text::{Fault, ReadError};
 use std::alloc::{AllocError, Global};
+use std::thread::{Threads, join};
 
 /// How many bytes a piece is to have at least, before its end is moved to that of a line.
 const LEAST_BYTES: usize = 65_536;
@@ -15,7 +17,7 @@ const LEAST_BYTES: usize = 65_536;
 /// follows from the one here.
 pub(crate) trait PiecewiseFile {
     /// What a line spells.
-    type Item: Copy;
+    type Item: Copy + Send;
 
     // Which item the number and the fields of a line spell.
     ghost Spells: { ℕ → List (List ℕ) → Self.Item → Type 0 };
@@ -25,6 +27,12 @@ pub(crate) trait PiecewiseFile {
 
     // The item of a line that stands so many lines later.
     ghost later: { ℕ → Self.Item → Self.Item };
+
+    /// The items of a file that is read by one thread, or its first fault; or want of memory.
+    fn read(alloc: Global, bytes: &[u8]) -> Result<Vec<Self::Item>, ReadError>
+        ensures items { IfOk result (λ v. AreItems Spells 1 (lines bytes.now) v.items) }
+        ensures error { IfErr result
+            (IsReadError (IsFirstFault Spells HasFault 1 (lines bytes.now))) };
 
     /// The list, and then the items of a file as they are where its lines stand after the front. The
     /// error is want of memory for the list.
@@ -43,8 +51,51 @@ pub(crate) trait PiecewiseFile {
         → Spells (n + k) fs (later k item) };
 }
 
+/// The items that the bytes list, or their first fault, read in pieces on at most so many threads. The
+/// pieces are cut where lines end, and have 64 KiB or about that. Where a thread can't be had its piece
+/// is read by the thread that asks.
+#[cycle(parsing)]
+pub(crate) fn parse_on<R: Threads + Sync, T: Copy + Send, F: PiecewiseFile<Item = T> + Sync>(
+    rt: &R,
+    alloc: Global,
+    bytes: &[u8],
+    threads: usize,
+) -> Result<Vec<T>, ReadError>
+    ensures items { IfOk result (λ v. AreItems F.Spells 1 (lines bytes.now) v.items) }
+    ensures error { IfErr result
+        (IsReadError (IsFirstFault F.Spells F.HasFault 1 (lines bytes.now))) }
+{
+    let Some(
+        Halves {
+            front,
+            few,
+            back,
+            more,
+        },
+    ) = halved(bytes, threads)
+    else {
+        return F::read(alloc, bytes);
+    };
+    let (first, second) = join(
+        rt,
+        || -> Result<Vec<T>, ReadError>
+            requires { IsSync R.row × IsSync F.row × IsSend T.row }
+            ensures items { IfOk result (λ v. AreItems F.Spells 1 (lines front.entry.now) v.items) }
+            ensures error { IfErr result
+                (IsReadError (IsFirstFault F.Spells F.HasFault 1 (lines front.entry.now))) }
+        { parse_on::<R, T, F>(rt, alloc, front, few) },
+        || -> Result<Vec<T>, ReadError>
+            requires { IsSync R.row × IsSync F.row × IsSend T.row }
+            ensures items { IfOk result (λ v. AreItems F.Spells 1 (lines back.entry.now) v.items) }
+            ensures error { IfErr result
+                (IsReadError (IsFirstFault F.Spells F.HasFault 1 (lines back.entry.now))) }
+        { parse_on::<R, T, F>(rt, alloc, back, more) },
+    );
+    joined::<F>(bytes, front, back, first, second)
+}
+
 /// What two pieces of the bytes, cut where a line ends, come to.
-pub(crate) fn joined<F: PiecewiseFile>(
+fn joined<F: PiecewiseFile>(
     bytes: &[u8],
     front: &[u8],
     back: &[u8],
@@ -95,16 +146,16 @@ fn later<F: PiecewiseFile>(bytes: &[u8], front: &[u8], back: &[u8], error: ReadE
 }
 
 /// Two parts of a text, cut where a line ends, and on how many threads each of them is read.
-pub(crate) struct Halves<'a> {
-    pub(crate) front: &'a [u8],
-    pub(crate) few: usize,
-    pub(crate) back: &'a [u8],
-    pub(crate) more: usize,
+struct Halves<'a> {
+    front: &'a [u8],
+    few: usize,
+    back: &'a [u8],
+    more: usize,
 }
 
 /// The halves of a text that is worth more than one of so many threads: each has 64 KiB or about that
 /// for each of its threads. `None` comes where one thread is to read it.
-pub(crate) fn halved(bytes: &[u8], threads: usize) -> Option<Halves<'_>>
+fn halved(bytes: &[u8], threads: usize) -> Option<Halves<'_>>
     ensures cut { IfSome result (λ h. lines bytes.now ≡ lines h.front.now ++ lines h.back.now) }
     ensures room { IfSome result (λ h. length h.front.now + length h.back.now ≡ length bytes.now) }
     ensures few { IfSome result (λ h. h.few < threads) }

@@ -1,15 +1,14 @@
 //! Routes that are read in pieces.
 ghost use Rattle.std.proofs.Common.{ap};
-ghost use Rattle.std.specs.Thread.{IsSync};
-ghost use Rattle.std.specs.Prelude.{◌≡◌, ℕ, List, [], ◌∷◌, ◌+◌, ◌^◌, ◌<◌, ◌++◌, All, IfOk, IfErr, length, map};
+ghost use Rattle.std.specs.Prelude.{◌≡◌, ℕ, List, [], ◌∷◌, ◌+◌, ◌^◌, ◌<◌, ◌++◌, IfOk, IfErr, length, map};
 ghost use Rattle.route_text.specs.Files.{lines, AreItems, AreRoutes, IsRoutesFault, SpellsRoute, HasRouteFault, IsReadError};
 ghost use Rattle.lpm_files.specs.Later.{later_route};
 
 use crate::lines::count_lines;
-use crate::pieces::{Halves, PiecewiseFile, halved, joined};
+use crate::pieces::{PiecewiseFile, parse_on};
 use route_text::{ReadError, Route, read_routes};
 use std::alloc::{AllocError, Global};
-use std::thread::{Threads, join};
+use std::thread::Threads;
 
 /// Route files. A route has the number of its line.
 struct Routes;
@@ -30,31 +29,28 @@ impl PiecewiseFile for Routes {
       | p ∷ h ∷ f ∷ fs ↦ λ route is. is
     ] };
 
+    fn read(alloc: Global, bytes: &[u8]) -> Result<Vec<Route>, ReadError> {
+        read_routes(alloc, bytes)
+    }
+
     fn append(list: Vec<Route>, front: &[u8], more: &[Route]) -> Result<Vec<Route>, AllocError>
         requires { (back : List (List ℕ)) × AreItems SpellsRoute 1 back more.now
             × (length front.now + length back < 2 ^ 63) }
         ensures { IfOk result (λ v.
             v.items ≡ list.items ++ map (later_route (length (lines front.now))) more.now) }
     {
-        append_later(list, count_lines(front), more)
+        let lines = count_lines(front);
+        let mut list = list;
+        list.reserve(more.len())?;
+        for route in more {
+            list.push_reserved(Route {
+                line: route.line + lines,
+                prefix: route.prefix,
+                hop: route.hop,
+            });
+        }
+        Ok(list)
     }
-}
-
-/// The list, and then the routes as they are where their lines stand so many lines later.
-fn append_later(list: Vec<Route>, lines: usize, more: &[Route]) -> Result<Vec<Route>, AllocError>
-    requires { All (λ route. route.line + lines < 2 ^ 64) more.now }
-    ensures { IfOk result (λ v. v.items ≡ list.items ++ map (later_route lines) more.now) }
-{
-    let mut list = list;
-    list.reserve(more.len())?;
-    for route in more {
-        list.push_reserved(Route {
-            line: route.line + lines,
-            prefix: route.prefix,
-            hop: route.hop,
-        });
-    }
-    Ok(list)
 }
 
 /// The routes of the file, as `route_text::read_routes` gives them, read in pieces on at most so many
@@ -72,29 +68,5 @@ pub fn parse_routes_on<R: Threads + Sync>(
     ensures routes { IfOk result (λ v. AreRoutes bytes.now v.items) }
     ensures error { IfErr result (IsReadError (IsRoutesFault bytes.now)) }
 {
-    let Some(
-        Halves {
-            front,
-            few,
-            back,
-            more,
-        },
-    ) = halved(bytes, threads)
-    else {
-        return read_routes(alloc, bytes);
-    };
-    let (first, second) = join(
-        rt,
-        || -> Result<Vec<Route>, ReadError>
-            requires { IsSync R.row }
-            ensures routes { IfOk result (λ v. AreRoutes front.entry.now v.items) }
-            ensures error { IfErr result (IsReadError (IsRoutesFault front.entry.now)) }
-        { parse_routes_on(rt, alloc, front, few) },
-        || -> Result<Vec<Route>, ReadError>
-            requires { IsSync R.row }
-            ensures routes { IfOk result (λ v. AreRoutes back.entry.now v.items) }
-            ensures error { IfErr result (IsReadError (IsRoutesFault back.entry.now)) }
-        { parse_routes_on(rt, alloc, back, more) },
-    );
-    joined::<Routes>(bytes, front, back, first, second)
+    parse_on::<R, Route, Routes>(rt, alloc, bytes, threads)
 }

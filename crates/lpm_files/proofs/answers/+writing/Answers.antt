@@ -1,7 +1,7 @@
 use Rattle.std.proofs.Common.{◌++◌, List, ℕ, Option, sym, ap₂, ◌∙◌}
 use Rattle.route_text.specs.Texts.{answer_lines}
 use Rattle.route_text.proofs.Answering.{parted}
-use Rattle.lpm_files.proofs.answers.+fn-text_of_pieces-join+arg2+fn-text_of_pieces-join+arg3+text_of_pieces.Goals as goal
+use Rattle.lpm_files.proofs.answers.+writing.Goals as goal
 
 pub returns : goal.returns
 returns g t c =
