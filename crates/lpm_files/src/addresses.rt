@@ -8,9 +8,9 @@ use std::alloc::{AllocError, Global};
 use std::thread::Threads;
 
 /// Address files. An address is the same on each line.
-struct Addresses;
+pub(crate) struct AddressFile;
 
-impl PiecewiseFile for Addresses {
+impl PiecewiseFile for AddressFile {
     type Item = u32;
 
     ghost Spells = { SpellsAddress };
@@ -53,5 +53,5 @@ pub fn parse_addresses_on<R: Threads + Sync>(
     ensures addrs { IfOk result (λ v. AreAddresses bytes.now v.items) }
     ensures error { IfErr result (IsReadError (IsAddressesFault bytes.now)) }
 {
-    parse_on::<R, u32, Addresses>(rt, alloc, bytes, threads)
+    parse_on::<R, u32, AddressFile>(rt, alloc, bytes, threads)
 }

@@ -6,10 +6,11 @@ ghost use Rattle.route_text.specs.Updates.{AreUpdates, IsUpdatesFault};
 ghost use Rattle.route_text.specs.Updates.{AreOldUpdates, IsOldUpdatesFault, IsCountInRange};
 ghost use Rattle.lpm_files.specs.Inputs.{address_file, route_file, input, Reads, EndsReading, ending_of};
 
-use crate::addresses::parse_addresses_on;
+use crate::addresses::AddressFile;
 use crate::failure::Failure;
 use crate::files::{Files, read_file};
-use crate::routes::parse_routes_on;
+use crate::pieces::parse_on;
+use crate::routes::RouteFile;
 use route_text::{
     Order, ReadError, Route, read_addresses, read_routes, read_updates, read_updates_v1,
 };
@@ -143,7 +144,7 @@ pub fn read_addresses_on<'a, R: Threads + Sync, F: Files>(
         (address_file path.entry.now (F.bytes files.now path.entry.now))) }
 {
     let bytes = read_file(alloc, files, path)?;
-    match parse_addresses_on(rt, alloc, &bytes, threads) {
+    match parse_on::<R, u32, AddressFile>(rt, alloc, &bytes, threads) {
         Ok(addrs) => Ok(addrs),
         Err(error) => Err(ending_of(path, error)),
     }
@@ -164,7 +165,7 @@ pub fn read_routes_on<'a, R: Threads + Sync, F: Files>(
         (route_file path.entry.now (F.bytes files.now path.entry.now))) }
 {
     let bytes = read_file(alloc, files, path)?;
-    match parse_routes_on(rt, alloc, &bytes, threads) {
+    match parse_on::<R, Route, RouteFile>(rt, alloc, &bytes, threads) {
         Ok(routes) => Ok(routes),
         Err(error) => Err(ending_of(path, error)),
     }

@@ -1,7 +1,6 @@
 //! Files that are read in pieces, whatever their lines spell.
 ghost use Rattle.std.specs.Thread.{IsSync, IsSend};
-ghost use Rattle.std.specs.Prelude.{◌≡◌, ℕ, List, ◌+◌, ◌^◌, ◌<◌, ◌++◌, length, map};
-ghost use Rattle.std.specs.Prelude.{IfSome, IfOk, IfErr};
+ghost use Rattle.std.specs.Prelude.{◌≡◌, ℕ, List, ◌+◌, ◌^◌, ◌<◌, ◌++◌, length, map, IfOk, IfErr};
 ghost use Rattle.route_text.specs.declared.fault.FaultKind.{FaultKind};
 ghost use Rattle.route_text.specs.Files.{lines, AreItems, IsFirstFault, IsReadError};
 
@@ -65,17 +64,14 @@ pub(crate) fn parse_on<R: Threads + Sync, T: Copy + Send, F: PiecewiseFile<Item 
     ensures error { IfErr result
         (IsReadError (IsFirstFault F.Spells F.HasFault 1 (lines bytes.now))) }
 {
-    let Some(
-        Halves {
-            front,
-            few,
-            back,
-            more,
-        },
-    ) = halved(bytes, threads)
-    else {
+    let pieces = threads.min(bytes.len() / LEAST_BYTES);
+    if pieces < 2 {
         return F::read(alloc, bytes);
-    };
+    }
+    let few = pieces / 2;
+    let more = pieces - few;
+    let end = line_end(bytes, share(bytes.len(), few, pieces));
+    let (front, back) = bytes.split_at(end);
     let (first, second) = join(
         rt,
         || -> Result<Vec<T>, ReadError>
@@ -143,36 +139,4 @@ fn later<F: PiecewiseFile>(bytes: &[u8], front: &[u8], back: &[u8], error: ReadE
         }),
         ReadError::Memory => ReadError::Memory,
     }
-}
-
-/// Two parts of a text, cut where a line ends, and on how many threads each of them is read.
-struct Halves<'a> {
-    front: &'a [u8],
-    few: usize,
-    back: &'a [u8],
-    more: usize,
-}
-
-/// The halves of a text that is worth more than one of so many threads: each has 64 KiB or about that
-/// for each of its threads. `None` comes where one thread is to read it.
-fn halved(bytes: &[u8], threads: usize) -> Option<Halves<'_>>
-    ensures cut { IfSome result (λ h. lines bytes.now ≡ lines h.front.now ++ lines h.back.now) }
-    ensures room { IfSome result (λ h. length h.front.now + length h.back.now ≡ length bytes.now) }
-    ensures few { IfSome result (λ h. h.few < threads) }
-    ensures more { IfSome result (λ h. h.more < threads) }
-{
-    let pieces = threads.min(bytes.len() / LEAST_BYTES);
-    if pieces < 2 {
-        return None;
-    }
-    let few = pieces / 2;
-    let more = pieces - few;
-    let end = line_end(bytes, share(bytes.len(), few, pieces));
-    let (front, back) = bytes.split_at(end);
-    Some(Halves {
-        front,
-        few,
-        back,
-        more,
-    })
 }

@@ -11,9 +11,9 @@ use std::alloc::{AllocError, Global};
 use std::thread::Threads;
 
 /// Route files. A route has the number of its line.
-struct Routes;
+pub(crate) struct RouteFile;
 
-impl PiecewiseFile for Routes {
+impl PiecewiseFile for RouteFile {
     type Item = Route;
 
     ghost Spells = { SpellsRoute };
@@ -68,5 +68,5 @@ pub fn parse_routes_on<R: Threads + Sync>(
     ensures routes { IfOk result (λ v. AreRoutes bytes.now v.items) }
     ensures error { IfErr result (IsReadError (IsRoutesFault bytes.now)) }
 {
-    parse_on::<R, Route, Routes>(rt, alloc, bytes, threads)
+    parse_on::<R, Route, RouteFile>(rt, alloc, bytes, threads)
 }

@@ -1,6 +1,6 @@
 use Rattle.std.proofs.Common.{◌≡◌, ◌+◌, ◌-◌, ◌≤◌, ◌++◌, length, map, take, vec_len, vec_capacity}
 use Rattle.lpm_files.specs.Later.{later_route}
-use Rattle.lpm_files.proofs.routes.RoutesPiecewiseFile.append.Given as goal
+use Rattle.lpm_files.proofs.routes.RouteFilePiecewiseFile.append.Given as goal
 
 abbrev pub invariant-loop-route : goal.invariant-loop-route
 invariant-loop-route l = record {
