@@ -67,17 +67,6 @@ pub fn cut_all<'a>(
     Ok(pieces)
 }
 
-/// Appends hops where there is room for them.
-pub fn append(joined: &mut Vec<Option<Hop>>, hops: &[Option<Hop>])
-    requires { vec_len joined.old + length hops.now ≤ vec_capacity joined.old }
-    ensures items { joined.new.items ≡ joined.old.items ++ hops.now }
-    ensures capacity { vec_capacity joined.old ≤ vec_capacity joined.new }
-{
-    if joined.extend_from_slice(hops).is_err() {
-        unreachable!();
-    }
-}
-
 /// Appends the hops of the pieces, one piece after another, where there is room for all.
 pub fn join(pieces: &[Piece<'_>], joined: &mut Vec<Option<Hop>>)
     requires { vec_len joined.old + length (flat_map (λ p. p.hops.items) pieces.now)
@@ -85,6 +74,8 @@ pub fn join(pieces: &[Piece<'_>], joined: &mut Vec<Option<Hop>>)
     ensures { joined.new.items ≡ joined.old.items ++ flat_map (λ p. p.hops.items) pieces.now }
 {
     for piece in pieces {
-        append(joined, &piece.hops);
+        if joined.extend_from_slice(&piece.hops).is_err() {
+            unreachable!();
+        }
     }
 }

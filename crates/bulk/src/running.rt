@@ -8,10 +8,10 @@ ghost use Rattle.shared_words.specs.Rule.{IsLater};
 ghost use Rattle.bulk.specs.Pieces.{piece_of};
 ghost use Rattle.bulk.specs.Desks.{IsDeskOf, worker_of, EachDesk, IsSameDesk, HaveRoom, HasMet, HasAnswered, AnswersAtRest};
 
-use super::pieces::{append, piece_at};
+use super::pieces::piece_at;
 use super::{BulkError, Desk, Gate};
 use lpm_bits::Hop;
-use shared_fib::{Pass, SharedTable, Writer};
+use shared_fib::{SharedTable, Writer};
 use std::alloc::{AllocError, Global};
 use std::thread;
 use std::thread::Threads;
@@ -71,32 +71,7 @@ fn meet_all<const FIRST: u32, const SECOND: u32>(
     }
 }
 
-/// Looks the addresses up, each after the gate.
-fn look_up_each<G: Gate, const FIRST: u32, const SECOND: u32>(
-    table: &SharedTable<FIRST, SECOND>,
-    gate: &G,
-    number: usize,
-    addrs: &[u32],
-    pass: &mut Pass,
-    hops: &mut Vec<Option<Hop>>,
-)
-    requires own { pass.old.table ≡ table.now }
-    requires online { pass.old.online ≡ true }
-    requires room { vec_len hops.old ≡ length addrs.now }
-    requires addrs { All (λ a. a < 2 ^ (FIRST + SECOND)) addrs.now }
-    ensures own { pass.new.table ≡ table.now }
-    ensures worker { pass.new.worker ≡ pass.old.worker }
-    ensures online { pass.new.online ≡ true }
-    ensures later { IsLater pass.old.seen pass.new.seen }
-    ensures answers { AnswersAtRest table.now addrs.now hops.new.items pass.old.seen pass.new.seen }
-{
-    for i in 0..addrs.len() {
-        gate.at(number, i);
-        hops[i] = pass.lookup(table, addrs[i]).hop;
-    }
-}
-
-/// Answers the addresses of a piece. The desk's pass is online meanwhile.
+/// Answers the addresses of a piece, each after the gate. The desk's pass is online meanwhile.
 fn answer<G: Gate, const FIRST: u32, const SECOND: u32>(
     table: &SharedTable<FIRST, SECOND>,
     gate: &G,
@@ -109,9 +84,14 @@ fn answer<G: Gate, const FIRST: u32, const SECOND: u32>(
     requires addrs { All (λ a. a < 2 ^ (FIRST + SECOND)) addrs.now }
     ensures { HasAnswered addrs.now desk.old desk.new }
 {
-    desk.pass.online(table);
-    look_up_each(table, gate, number, addrs, &mut desk.pass, &mut desk.hops);
-    desk.pass.offline(table);
+    let pass = &mut desk.pass;
+    let hops = &mut desk.hops;
+    pass.online(table);
+    for i in 0..addrs.len() {
+        gate.at(number, i);
+        hops[i] = pass.lookup(table, addrs[i]).hop;
+    }
+    pass.offline(table);
 }
 
 /// Answers the addresses of each piece, on as many threads as there are desks.
@@ -182,7 +162,9 @@ fn join_desks(desks: &[Desk], joined: &mut Vec<Option<Hop>>)
     ensures { joined.new.items ≡ joined.old.items ++ flat_map (λ d. d.hops.items) desks.now }
 {
     for desk in desks {
-        append(joined, &desk.hops);
+        if joined.extend_from_slice(&desk.hops).is_err() {
+            unreachable!();
+        }
     }
 }
 

@@ -1,15 +1,16 @@
-use Rattle.std.proofs.Common.{List, Option, length, take, length-append, ap, ◌∙◌, arith}
+use Rattle.std.proofs.Common.{◌+◌, ◌≤◌, List, Option, length, take, vec_len, vec_capacity, length-append, ap, ◌∙◌, arith, rules}
 use Rattle.std.specs.List.{flat_map}
 use Rattle.std.proofs.lemmas.List.Folds.{length-flat_map-take}
 use Rattle.lpm_bits.specs.declared.Hop.{Hop}
 use Rattle.bulk.specs.declared.desk.Desk.{Desk}
 use Rattle.bulk.proofs.running.join_desks.Goals as goal
 
-pub append-requires : goal.append-requires
-append-requires c =
+pub unreachable-requires : goal.unreachable-requires
+unreachable-requires c =
     let hops_of : Desk → List (Option Hop) = λ p. p.hops.items in
     let i = c.loop-desk.desk-index in
     let most = length-flat_map-take hops_of c.args.desks.now i c.desk-item.result (omega arith) in
     let so_far = ap length c.loop-desk.invariant.items ∙ length-append c.args.joined.now.items (flat_map hops_of (take i c.args.desks.now)) in
     let here = ap length c.deref.ensures.value ∙ ap (λ p. length (hops_of p)) c.desk-item.is in
-    omega arith
+    let room : vec_len c.loop-desk.joined + length c.deref.result.now ≤ vec_capacity c.loop-desk.joined = omega arith in
+    search rules
