@@ -52,13 +52,8 @@ pub fn answers_text_on<R: Threads + Sync>(
                 v.items ≡ answer_lines back.entry.now back_hops.entry.now) }
         { answers_text_on(rt, alloc, back, back_hops, more) },
     );
-    let mut text = match first {
-        Ok(text) => text,
-        Err(error) => return Err(error),
-    };
-    match second {
-        Ok(rest) => text.extend_from_slice(&rest)?,
-        Err(error) => return Err(error),
-    }
+    let mut text = first?;
+    let rest = second?;
+    text.extend_from_slice(&rest)?;
     Ok(text)
 }

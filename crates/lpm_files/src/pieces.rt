@@ -110,10 +110,7 @@ fn joined<F: PiecewiseFile>(
     ensures error { IfErr result
         (IsReadError (IsFirstFault F.Spells F.HasFault 1 (lines bytes.now))) }
 {
-    let list = match first {
-        Ok(list) => list,
-        Err(error) => return Err(error),
-    };
+    let list = first?;
     match second {
         Ok(more) => {
             let all = F::append(list, front, &more)?;
