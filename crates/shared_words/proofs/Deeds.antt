@@ -18,10 +18,11 @@ use Rattle.shared_words.specs.Layout.{InitialData, initial_state_of}
 use Rattle.shared_words.specs.Rule.{IsLater, Seating, Sits, IsViewOf, Holds, note_of, read_note, view_with_note}
 use Rattle.shared_words.specs.Seats.{IsSound, Gains, SeatCompares}
 use Rattle.shared_words.specs.Deeds.{IsReadOn, GainsAll, GainsAt, GoesOn, LoadsAround}
+use Rattle.shared_words.proofs.Writing.{later_none, seats_set}
 use mathlib.Core.Option.{some, none}
 use lib.ListN.{get_elem?}
 use Rattle.atomic_table.specs.Table.{State, Me, keeps, step, Allows, Splits, Joins}
-use Rattle.atomic_table.proofs.Lists.{at_set, at_snoc, set_again, set_else}
+use Rattle.atomic_table.proofs.Lists.{at_snoc, set_again, set_else}
 use Rattle.lpm_trace.specs.declared.step.TraceStep.{TraceStep}
 use Rattle.shared_words.specs.declared.view.Role.{Role}
 use Rattle.shared_words.specs.declared.view.Role.TheVariants.{Writer, Worker, Note}
@@ -178,9 +179,6 @@ later_both xs ys h k =
     let b : length xs ≡ length k.0 + length ys = ap length k.1 ∙ length-append k.0 ys in
     h.1 ∙ no_more h.0 xs (omega (arith, a, b, length-append h.0 xs))
 
-from_none : (xs : List WriterStep) → IsLater [] xs
-from_none xs = (xs, sym (append-nil xs))
-
 module _ (o : InitialData) where
   abbrev St : Type 0
   St = State (Unit {0}) View
@@ -203,7 +201,7 @@ module _ (o : InitialData) where
   -- a note of what a view of the trace has seen
   note_is : (steps : List TraceStep) (seating : Seating) (seat : ℕ) (v : View)
       → IsViewOf o steps seating seat v → (j : ℕ) → IsViewOf o steps seating j (note_of v)
-  note_is steps seating seat v is j = record { sits = tt; seen = is.seen; told = from_none (writes steps) }
+  note_is steps seating seat v is j = record { sits = tt; seen = is.seen; told = later_none (writes steps) }
 
   -- what a seat was told changes nothing else of it
   told_sits : (steps : List TraceStep) (seating : Seating) (seat : ℕ) (v : View) (told : List WriterStep)
@@ -221,15 +219,6 @@ module _ (o : InitialData) where
     seen = is.seen;
     told = later;
   }
-
-  -- a fact of each seat, after one seat's view is set
-  views_set : (is : ℕ → View → Type 0) (views : List View) (id : ℕ) (w : View) → is id w
-      → ((j : ℕ) (u : View) → get_elem? views j ≡ some u → is j u)
-      → (j : ℕ) (u : View) → get_elem? (slice_set views id w) j ≡ some u → is j u
-  views_set is views id w new old j u e = elim (at_set views id j w u e) [
-    | inl t ↦ subst (λ (x : ℕ × View). is x.0 x.1) (λ i. (sym t.0 i, t.1 i)) new
-    | inr t ↦ old j u t.1
-  ]
 
   -- ---- the steps
 
@@ -252,10 +241,10 @@ module _ (o : InitialData) where
       let is : ℕ → View → Type 0 = IsViewOf o h.steps h.seating in
       let note : is other w = h.views other w (sym (set_else s.views id other (view_with_note v w) apart) ∙ there) in
       kept s h (slice_set (slice_set s.views id (view_with_note v w)) other read_note)
-      (views_set is (slice_set s.views id (view_with_note v w)) other read_note
-      record { sits = tt; seen = from_none (writes h.steps); told = from_none (writes h.steps) }
-      (views_set is s.views id (view_with_note v w)
-      (told_is h.steps h.seating id v w.seen (h.views id v at) note.seen) h.views))
+      (seats_set is (slice_set s.views id (view_with_note v w)) other read_note
+      record { sits = tt; seen = later_none (writes h.steps); told = later_none (writes h.steps) }
+      (λ j u _. seats_set is s.views id (view_with_note v w)
+      (told_is h.steps h.seating id v w.seen (h.views id v at) note.seen) (λ j u _. h.views j u) j u))
 
   -- the writer compares what it was told with its own steps
   pub compares_allowed : (slots id at : ℕ) (me : Me (Unit {0}) View) → me.0.role ≡ Writer
@@ -270,8 +259,8 @@ module _ (o : InitialData) where
         subst
             (λ (words : List ℕ). Holds o record { words = words; homes = s.homes; views = slice_set s.views id w })
             (sym (set-get_or s.words at 0))
-            (kept s h (slice_set s.views id w) (views_set (IsViewOf o h.steps h.seating) s.views id w
-            (told_is h.steps h.seating id me.0 [] known (from_none (writes h.steps))) h.views)),
+            (kept s h (slice_set s.views id w) (seats_set (IsViewOf o h.steps h.seating) s.views id w
+            (told_is h.steps h.seating id me.0 [] known (later_none (writes h.steps))) (λ j u _. h.views j u))),
         (refl, subst (IsLater me.0.told) (sym mine.2) known.told),
       )
 

@@ -1,7 +1,7 @@
 -- Two table words that share a word of the table.
 use Rattle.std.proofs.Common.{◌≡◌, ◌≢◌, ℕ, zero, suc, ◌+◌, ◌*◌, ◌/◌, ◌%◌, ◌^◌, ◌<◌, ◌⊎◌, inl, inr, List, length, slice_index, slice_set, refl, ap, ◌∙◌, arith, [], ◌∷◌, ◌++◌, replicate, sym}
-use Rattle.std.proofs.lemmas.List.{get_or-set_same, get_or-map, length-map, get_or-set_other, length-set, get_or_append_left, get_or-append-add, get_or-replicate, length-append, length-replicate}
-use Rattle.std.proofs.lemmas.List.FromFn.{get_or-range_with_len, length-range_with_len}
+use Rattle.std.proofs.lemmas.List.{get_or-set_same, length-map, get_or-set_other, length-set, get_or_append_left, get_or-append-add, get_or-replicate, length-append, length-replicate}
+use Rattle.std.proofs.lemmas.List.FromFn.{get_or-map-range_with_len, length-range_with_len}
 use Rattle.std.specs.List.{range_with_len}
 use Rattle.lpm_trace.proofs.Versions.{set_case}
 use Rattle.shared_words.specs.Layout.{half, pairs, pair_at, packed_words, IsLaidOut, word_count, first_at, second_at, sequence_at, token_at, counter_at, initial_words, InitialData, initial_state_of}
@@ -38,21 +38,14 @@ pub packed_length : (xs : List ℕ) → length (packed_words xs) ≡ pairs (leng
 packed_length xs =
     length-map (range_with_len 0 (pairs (length xs))) (pair_at xs) ∙ length-range_with_len 0 (pairs (length xs))
 
-from_zero : (q : ℕ) → 0 + q ≡ q
-from_zero q = omega arith
-
-packed_at : (xs : List ℕ) (q : ℕ) → q < pairs (length xs) → slice_index (packed_words xs) q ≡ pair_at xs q
-packed_at xs q low =
-    let many : length (range_with_len 0 (pairs (length xs))) ≡ pairs (length xs) =
-    length-range_with_len 0 (pairs (length xs)) in
-    get_or-map (pair_at xs) (range_with_len 0 (pairs (length xs))) q 0 0 (omega (arith, low, many))
-    ∙ ap (pair_at xs) (get_or-range_with_len 0 (pairs (length xs)) q 0 low ∙ from_zero q)
+pub packed_at : (xs : List ℕ) (q : ℕ) → q < pairs (length xs) → slice_index (packed_words xs) q ≡ pair_at xs q
+packed_at xs q low = get_or-map-range_with_len (pair_at xs) 0 (pairs (length xs)) q q 0 low (omega arith)
 
 -- the low half of a sum, and the high one
-low_half : (k a b w : ℕ) → k % 2 ≡ 0 → a < 2 ^ 32 → w ≡ a + b * 2 ^ 32 → half k w ≡ a
+pub low_half : (k a b w : ℕ) → k % 2 ≡ 0 → a < 2 ^ 32 → w ≡ a + b * 2 ^ 32 → half k w ≡ a
 low_half k a b w even low is = let h = half_even k w even in omega (arith, h, low, is)
 
-high_half : (k a b w : ℕ) → k % 2 ≡ 1 → a < 2 ^ 32 → b < 2 ^ 32 → w ≡ a + b * 2 ^ 32 → half k w ≡ b
+pub high_half : (k a b w : ℕ) → k % 2 ≡ 1 → a < 2 ^ 32 → b < 2 ^ 32 → w ≡ a + b * 2 ^ 32 → half k w ≡ b
 high_half k a b w odd low high is = let h = half_odd k w odd in omega (arith, h, low, high, is)
 
 -- each table word is a half of the word that it shares

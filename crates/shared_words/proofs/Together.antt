@@ -391,7 +391,7 @@ module _ {all : List ℕ} {low high : ℕ} {v0 v f : View} {done : List Found} {
 -- ---- a lookup of one address
 
 -- its loads, the newest first
-both_loads : (word first : ℕ) (second : Option (ℕ × ℕ))
+pub both_loads : (word first : ℕ) (second : Option (ℕ × ℕ))
     → second_load second ++ (LoadFirst word, first) ∷ [] ≡ loads_at word first second
 both_loads word first None = refl
 both_loads word first (Some second) = refl

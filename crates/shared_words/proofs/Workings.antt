@@ -5,7 +5,6 @@ use Rattle.std.specs.List.{AllPairs}
 use mathlib.Core.Option.{some}
 use lib.ListN.{get_elem?}
 use Rattle.atomic_table.specs.Table.{State, Me, keeps, Allows}
-use Rattle.atomic_table.proofs.Lists.{at_set}
 use Rattle.lpm_cells.specs.Words.{IsWords}
 use Rattle.lpm_trace.specs.declared.step.WriterStep.{WriterStep}
 use Rattle.lpm_trace.specs.declared.step.WorkerStep.{WorkerStep}
@@ -25,6 +24,7 @@ use Rattle.shared_words.specs.Layout.{InitialData, initial_state_of, half, first
 use Rattle.shared_words.specs.Rule.{Seating, Sits, IsViewOf, Holds}
 use Rattle.shared_words.specs.Seats.{IsSound, Gains, WorkerGains}
 use Rattle.shared_words.proofs.Laying.{lays_same}
+use Rattle.shared_words.proofs.Writing.{seats_set}
 
 -- the step leaves the worker's counter
 abbrev pub IsQuiet : WorkerStep → Type 0
@@ -161,17 +161,12 @@ module _ (o : InitialData) where
         unmade = λ j above. own_same j k r steps
             (λ same. let l = mine.2 in absurd (omega (arith, l, above, same)))
             ∙ h.unmade j above;
-        views = λ j u e. elim (at_set s.views id j w u e) [
-          | inl t ↦ subst (λ (x : ℕ × View). IsViewOf o (ByWorker k r ∷ steps) seating x.0 x.1)
-              (λ i. (sym t.0 i, t.1 i)) new
-          | inr t ↦
-              let old : IsViewOf o steps seating j u = h.views j u t.1 in
-              record {
-                sits = bystander steps seating k id r mine.0 j u t.0 u.role old.sits;
-                seen = old.seen;
-                told = old.told;
-              }
-        ];
+        views = seats_set (IsViewOf o (ByWorker k r ∷ steps) seating) s.views id w new (λ j u other there.
+            let old : IsViewOf o steps seating j u = h.views j u there in record {
+              sits = bystander steps seating k id r mine.0 j u other u.role old.sits;
+              seen = old.seen;
+              told = old.told;
+            });
       }
 
   -- ---- what the seat learns

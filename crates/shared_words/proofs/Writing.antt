@@ -39,7 +39,7 @@ with_words s words views = record { words = words; homes = s.homes; views = view
 later_more : (before now : List WriterStep) (s : WriterStep) → IsLater before now → IsLater before (s ∷ now)
 later_more before now s h = (s ∷ h.0, ap (λ (z : List WriterStep). s ∷ z) h.1)
 
-later_none : (now : List WriterStep) → IsLater [] now
+pub later_none : (now : List WriterStep) → IsLater [] now
 later_none now = (now, sym (append-nil now))
 
 -- a fact of each seat, after one seat's view is set

@@ -98,9 +98,7 @@ impl WriterSeat {
         ensures own { self.new.table ≡ self.old.table }
         ensures step { self.new.view ≡ with_step self.old.view EndUpdate }
     {
-        let at = Layout::SEQUENCE;
-        let shared = &table.board.shared;
-        shared.store::<ClosesUpdates>(&mut self.place, at, number);
+        table.board.shared.store::<ClosesUpdates>(&mut self.place, Layout::SEQUENCE, number);
     }
 
     /// Stores the next token.
@@ -112,9 +110,7 @@ impl WriterSeat {
         ensures own { self.new.table ≡ self.old.table }
         ensures step { self.new.view ≡ with_step self.old.view BumpToken }
     {
-        let at = Layout::TOKEN;
-        let shared = &table.board.shared;
-        shared.store::<BumpsToken>(&mut self.place, at, token);
+        table.board.shared.store::<BumpsToken>(&mut self.place, Layout::TOKEN, token);
     }
 
     /// Loads the counter of a worker, in a check of the token.
@@ -143,9 +139,7 @@ impl WriterSeat {
         ensures same { self.new ≡ self.old }
         ensures value { result ≡ slice_index (left_by self.old.view).words.firsts i }
     {
-        let at = first_at(i);
-        let shared = table.board.shared.load::<Looks>(&mut self.place, at);
-        half(i, shared)
+        half(i, table.board.shared.load::<Looks>(&mut self.place, first_at(i)))
     }
 
     /// The second word at place `j`, which this writer alone changes. It is no step.
@@ -156,9 +150,7 @@ impl WriterSeat {
         ensures same { self.new ≡ self.old }
         ensures value { result ≡ slice_index (left_by self.old.view).words.seconds j }
     {
-        let at = table.layout.second_at(j);
-        let shared = table.board.shared.load::<Looks>(&mut self.place, at);
-        half(j, shared)
+        half(j, table.board.shared.load::<Looks>(&mut self.place, table.layout.second_at(j)))
     }
 
     /// The sequence, which this writer alone changes. It is no step.
@@ -168,8 +160,7 @@ impl WriterSeat {
         ensures same { self.new ≡ self.old }
         ensures value { result ≡ (left_by self.old.view).sequence }
     {
-        let shared = &table.board.shared;
-        shared.load::<Looks>(&mut self.place, Layout::SEQUENCE)
+        table.board.shared.load::<Looks>(&mut self.place, Layout::SEQUENCE)
     }
 
     /// The token, which this writer alone changes. It is no step.
@@ -179,8 +170,7 @@ impl WriterSeat {
         ensures same { self.new ≡ self.old }
         ensures value { result ≡ (left_by self.old.view).token }
     {
-        let shared = &table.board.shared;
-        shared.load::<Looks>(&mut self.place, Layout::TOKEN)
+        table.board.shared.load::<Looks>(&mut self.place, Layout::TOKEN)
     }
 
     /// The seat of the next worker, which is offline and has made no step.

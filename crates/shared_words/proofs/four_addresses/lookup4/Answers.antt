@@ -1,4 +1,4 @@
-use Rattle.std.proofs.Common.{◌≡◌, ◌+◌, ◌/◌, ◌%◌, refl, sym, arith}
+use Rattle.std.proofs.Common.{◌≡◌, ◌+◌, ◌/◌, ◌%◌, refl, sym, arith, rules}
 use Rattle.shared_words.proofs.Deeds.{firsts_are}
 use Rattle.shared_words.proofs.Together.{same_four, reads, looks_for, looking, answers, all_answered, looked_together}
 use Rattle.shared_words.proofs.four_addresses.lookup4.Goals as goal
@@ -37,25 +37,15 @@ load_last-z-requires-clause-next g c =
     let y = answers x c.load_last-y.ensures.loads in
     looks_for y c.requires.first c.requires.second
 
-pub end_lookup-high-requires-clause-looking : goal.end_lookup-high-requires-clause-looking
-end_lookup-high-requires-clause-looking g c =
+pub end_lookup-high-requires : goal.end_lookup-high-requires
+end_lookup-high-requires g c =
     let firsts = reads (same_four c.from.ensures c.from-2.ensures c.from-3.ensures c.from-4.ensures)
     c.begin_lookup-low.ensures.step c.load_firsts-w.ensures.words c.load_firsts-w.ensures.loads in
     let w = answers firsts c.load_last-w.ensures.loads in
     let x = answers w c.load_last-x.ensures.loads in
     let y = answers x c.load_last-y.ensures.loads in
     let z = answers y c.load_last-z.ensures.loads in
-    looking z
-
-pub end_lookup-high-requires-clause-answered : goal.end_lookup-high-requires-clause-answered
-end_lookup-high-requires-clause-answered g c =
-    let firsts = reads (same_four c.from.ensures c.from-2.ensures c.from-3.ensures c.from-4.ensures)
-    c.begin_lookup-low.ensures.step c.load_firsts-w.ensures.words c.load_firsts-w.ensures.loads in
-    let w = answers firsts c.load_last-w.ensures.loads in
-    let x = answers w c.load_last-x.ensures.loads in
-    let y = answers x c.load_last-y.ensures.loads in
-    let z = answers y c.load_last-z.ensures.loads in
-    all_answered z
+    record { own = search rules; looking = looking z; answered = all_answered z; }
 
 pub returns-clause-answers : goal.returns-clause-answers
 returns-clause-answers g c =
