@@ -1,6 +1,7 @@
 -- A table whose words represent its rules, and of which no group waits, is one that may be opened, and a
 -- control state rests there.
 use Rattle.std.proofs.Common.{◌≡◌, ℕ, ◌+◌, ◌^◌, ◌<◌, ◌≤◌, inl, inr, refl, ap, sym, ◌∙◌, List, [], length, slice_get, slice_index, Some, None, arith, subst, zero, suc, ◌*◌, replicate}
+use Rattle.std.proofs.lemmas.Option.{none-some}
 use Rattle.std.proofs.lemmas.Bool.{cases_lt}
 use Rattle.std.proofs.lemmas.List.{get_or_past, length-replicate}
 use Rattle.lpm_bits.specs.Widths.{IsShape}
@@ -24,11 +25,8 @@ use Rattle.lpm_groups.proofs.Marking.{limbo_count-replicate}
 use Rattle.lpm_update.specs.Laws.{blank_words}
 use Rattle.lpm_writer.specs.declared.pool.GroupPool.{GroupPool}
 
-no_group : (g : ℕ) → Miss ≡ Group g → ⊥
+pub no_group : (g : ℕ) → Miss ≡ Group g → ⊥
 no_group g e = cc
-
-none_some : (g : ℕ) → None ≡ Some g → ⊥
-none_some g e = cc
 
 -- no word stands past the end
 past_end : (firsts : List ℕ) (i g : ℕ) → length firsts ≤ i → entry_in (slice_index firsts i) ≡ Group g → ⊥
@@ -86,7 +84,7 @@ module _ (f s : ℕ) (t : Words) (R : RuleMap) (xs : List GroupState) (config : 
       kept = record {
         free = λ g here. subst (IsFree beginning 0) (sym (known g Free here)) tt;
         linked = λ g b here not. known g (Linked b) here;
-        taken = λ g e. absurd (none_some g e);
+        taken = λ g e. absurd (none-some g e);
         rising = tt;
         retired = tt;
         all = λ some g x e. absurd (never g x e);
@@ -102,8 +100,8 @@ module _ (f s : ℕ) (t : Words) (R : RuleMap) (xs : List GroupState) (config : 
 
 -- What a table is opened with: its words are all misses, which represent no rules, and all groups are free.
 
-not_retired : (g t : ℕ) → Unused ≡ Retired t → ⊥
-not_retired g t e = cc
+pub unused_retired : (t : ℕ) → Unused ≡ Retired t → ⊥
+unused_retired t e = cc
 
 free_at_first : (n g : ℕ) (state : GroupState) → slice_get (replicate n Free) g ≡ Some state → Unused ≡ status_at_first state
 free_at_first zero g state e = absurd cc
@@ -114,7 +112,7 @@ pub settled : (f s : ℕ) (config : Config) → IsConfig config → IsSettled (b
 settled f s config limits =
     let new = blank f s (config.groups * 2 ^ s) config.groups in
     begins_settled f s (blank_words (2 ^ f) (config.groups * 2 ^ s)) (empty {R = network_cmp}) (replicate config.groups Free) config config.first_token (λ g. Unused) new.0 new.1
-    (free_at_first config.groups) not_retired (omega (arith, limits.first_token.0))
+    (free_at_first config.groups) (λ g. unused_retired) (omega (arith, limits.first_token.0))
 
 -- the pool of a new table
 abbrev pub new_books : Config → GroupPool
@@ -132,5 +130,5 @@ opened_rests f s config shape limits =
     subst (λ n. IsResting f s (blank_state f s config) [] config (record { rules = empty {R = network_cmp}; max = config.rules })
     (record { groups = replicate config.groups Free; queue = record { items = []; capacity = n }; passed = 0 }) 0) groups
     (begins_resting f s (blank_words (2 ^ f) (config.groups * 2 ^ s)) (empty {R = network_cmp}) (replicate config.groups Free) config config.first_token (λ g. Unused) new.0 new.1
-    (free_at_first config.groups) not_retired config.rules shape limits refl groups
+    (free_at_first config.groups) (λ g. unused_retired) config.rules shape limits refl groups
     (record { few = omega (arith, groups, limits.groups.1); words = length-replicate (config.groups * 2 ^ s) _ ∙ ap (λ n. n * 2 ^ s) (sym groups) }) (limbo_count-replicate config.groups))

@@ -165,11 +165,11 @@ module _ {M : Type 0} (does : M → WriterStep → M → Type 0) (c : InitialSta
 -- The writer's steps by themselves: a change of a memory is one by its steps, whatever the memory. And what no step
 -- changes of a memory, no change does.
 
-named_same : (ms : List ℕ) → AreNamed (λ m n. n ≡ m) ms ms
+pub named_same : (ms : List ℕ) → AreNamed (λ m n. n ≡ m) ms ms
 named_same [] = tt
 named_same (m ∷ ms) = (refl, named_same ms)
 
-named_is : (ms ns : List ℕ) → AreNamed (λ m n. n ≡ m) ms ns → ns ≡ ms
+pub named_is : (ms ns : List ℕ) → AreNamed (λ m n. n ≡ m) ms ns → ns ≡ ms
 named_is [] [] h = refl
 named_is [] (n ∷ ns) h = absurd h
 named_is (m ∷ ms) [] h = absurd h

@@ -4,7 +4,7 @@ use Rattle.std.specs.Prelude.{slice_get, slice_set}
 use Rattle.std.proofs.lemmas.Bool.{cases_eq}
 use Rattle.std.proofs.lemmas.Nat.{pow_pos}
 use Rattle.std.proofs.lemmas.List.Elements.{All-cons}
-use Rattle.std.proofs.lemmas.Option.{slice_get_within}
+use Rattle.std.proofs.lemmas.Option.{same_Some, slice_get_within}
 use Rattle.lpm_cells.specs.declared.entry.Entry.{Entry}
 use Rattle.lpm_cells.specs.declared.entry.Entry.TheVariants.{Miss, Hop, Group}
 use Rattle.lpm_cells.specs.Words.{IsLast, entry_in, group_in, Words, with_first, with_second}
@@ -141,17 +141,14 @@ retired_apart : (G : ℕ → Status) (g : ℕ) (s : Status) (token : ℕ) (items
 retired_apart G g s token [] apart h = tt
 retired_apart G g s token (item ∷ items) apart h = (with_at-other G g s item.0 apart.0 ∙ h.0, h.1, retired_apart G g s token items apart.1 h.2)
 
-linked_not_retired : (b t : ℕ) → Linked b ≡ Retired t → ⊥
+pub linked_not_retired : (b t : ℕ) → Linked b ≡ Retired t → ⊥
 linked_not_retired b t e = cc
 
-retired_token : (t u : ℕ) → Retired t ≡ Retired u → u ≡ t
+pub retired_token : (t u : ℕ) → Retired t ≡ Retired u → u ≡ t
 retired_token t u e = cc
 
 limbo_not : (x : Option GroupState) (s : GroupState) → (Limbo ≡ s → ⊥) → x ≡ Some Limbo → x ≡ Some s → ⊥
-limbo_not x s other p q = other (some_same Limbo s (sym p ∙ q))
-  where
-    some_same : (a b : GroupState) → Some a ≡ Some b → a ≡ b
-    some_same a b e = cc
+limbo_not x s other p q = other (same_Some Limbo s (sym p ∙ q))
 
 -- ---- one more item, behind all others
 

@@ -47,8 +47,7 @@ pub(crate) fn is_out_of_tokens<const FIRST: u32, const SECOND: u32, M: Memory>(
     requires rests { (c : InitialState) × (steps : List WriterStep) × Rests c steps control.now }
     ensures { IsTrue result ↔ (2 ^ 62 < M.newest memory.now + control.now.config.groups) }
 {
-    let groups = control.pool.groups.len() as u64;
-    memory.token() + groups > LAST_TOKEN
+    memory.token() + control.pool.groups.len() as u64 > LAST_TOKEN
 }
 
 /// Whether the tokens or the versions would pass their bound by one more change.
@@ -72,12 +71,7 @@ fn is_last<const FIRST: u32, const SECOND: u32>(
 ) -> bool
     ensures { LastFits FIRST SECOND rules.now.rules prefix.now result }
 {
-    let bits = prefix.bits();
-    if prefix.len() <= FIRST {
-        return false;
-    }
-    let block = Shape::<FIRST, SECOND>::first_index(bits);
-    !rules.is_deep(block)
+    prefix.len() > FIRST && !rules.is_deep(Shape::<FIRST, SECOND>::first_index(prefix.bits()))
 }
 
 /// The change of the rules that gives the prefix this next hop.
