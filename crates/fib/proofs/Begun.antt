@@ -12,12 +12,13 @@ use Rattle.lpm_update.specs.Linked.{group_at}
 use Rattle.lpm_update.specs.Represents.{Represents}
 use Rattle.lpm_update.specs.Tied.{IsTied, HasGroupRoom}
 use Rattle.qsbr.specs.Counters.{Passes, Registry}
-use Rattle.lpm_trace.specs.States.{InitialState, Status, Unused, Linked as LinkedTo, Retired}
+use Rattle.lpm_trace.specs.States.{InitialState, Status, Unused, Retired}
 use Rattle.lpm_writer.specs.declared.plain_memory.PlainMemory.{PlainMemory}
 use Rattle.lpm_writer.specs.declared.control.ControlState.{ControlState}
 use Rattle.lpm_writer.specs.declared.pool.GroupPool.{GroupPool}
 use Rattle.lpm_writer.specs.Resting.{IsResting}
-use Rattle.lpm_writer.proofs.Opened.{status_at_first, beginning, begins_resting}
+use Rattle.lpm_writer.proofs.Opened.{status_at_first, unused_retired, beginning, begins_resting}
+use Rattle.lpm_writer.proofs.Storing.{linked_not_retired}
 use Rattle.lpm_writer.proofs.Unchanged.{unchanging, unchanged, unchanged_stays, rests_after_unchanged}
 use Rattle.fib.specs.Fib.{IsSound}
 use Rattle.std.proofs.Math.Nat.{mul-le-mul_right}
@@ -35,15 +36,9 @@ status_in (Some state) = status_at_first state
 known_in : (o : Option GroupState) (state : GroupState) → o ≡ Some state → status_in o ≡ status_at_first state
 known_in o state e = ap status_in e
 
-linked_retired : (b t : ℕ) → LinkedTo b ≡ Retired t → ⊥
-linked_retired b t e = cc
-
-unused_retired : (t : ℕ) → Unused ≡ Retired t → ⊥
-unused_retired t e = cc
-
 never_at_first : (state : GroupState) (t : ℕ) → status_at_first state ≡ Retired t → ⊥
 never_at_first Free t e = unused_retired t e
-never_at_first (Linked block) t e = linked_retired block t e
+never_at_first (Linked block) t e = linked_not_retired block t e
 never_at_first Limbo t e = unused_retired t e
 
 never_in : (o : Option GroupState) (t : ℕ) → status_in o ≡ Retired t → ⊥

@@ -1,5 +1,5 @@
 -- What a table keeps, before and after its calls.
-use Rattle.std.proofs.Common.{arith, ◌≡◌, ℕ, ◌<◌, inl, inr, refl, ap, sym, ◌∙◌, subst, List, [], ◌∷◌, length, slice_index, Result}
+use Rattle.std.proofs.Common.{arith, ◌≡◌, ℕ, ◌<◌, inl, inr, refl, ap, sym, ◌∙◌, subst, List, [], length, slice_index, Result}
 use Rattle.std.specs.Prelude.{slice_set}
 use Rattle.std.proofs.lemmas.Bool.{cases_eq}
 use Rattle.std.proofs.lemmas.List.{length-set, get_or-set_same, get_or-set_other}
@@ -11,7 +11,7 @@ use Rattle.defer_queue.specs.declared.Reclaimed.{Reclaimed}
 use Rattle.fib_model.specs.State.{State}
 use Rattle.fib_model.specs.Outcomes.{Adds, Deletes, Flushes, Frees}
 use Rattle.fib_model.specs.Counting.{counter_transitions}
-use Rattle.fib_model.proofs.Carrying.{AreFollowed, AreNamed, Follows, beside}
+use Rattle.fib_model.proofs.Carrying.{AreFollowed, Follows, beside}
 use Rattle.fib_model.proofs.Carried.{changes_carry_over}
 use Rattle.lpm_trace.specs.declared.step.WriterStep.{WriterStep}
 use Rattle.lpm_trace.specs.States.{InitialState, state_after}
@@ -20,24 +20,16 @@ use Rattle.lpm_writer.specs.Plain.{PlainDid}
 use Rattle.lpm_writer.specs.declared.control.ControlState.{ControlState}
 use Rattle.lpm_writer.specs.Resting.{IsResting, state_of}
 use Rattle.lpm_writer.specs.Traced.{Traced, by_writer}
-use Rattle.fib.specs.Fib.{IsSound, table_of}
+use Rattle.lpm_writer.proofs.StepsAlone.{named_is, named_same}
+use Rattle.lpm_writer.specs.Commands.{Commands}
+use Rattle.fib.specs.Fib.{FibState, IsSound, table_of}
 use Rattle.fib.proofs.Steps.{Shows, does, same_name, carries, passed_within}
-
--- ---- names
-
-same_names : (ms : List ℕ) → AreNamed (λ m n. m ≡ n) ms ms
-same_names [] = tt
-same_names (m ∷ ms) = (refl, same_names ms)
-
-one_name : (ms ns : List ℕ) → AreNamed (λ m n. m ≡ n) ms ns → ns ≡ ms
-one_name [] [] h = refl
-one_name [] (n ∷ ns) h = absurd h
-one_name (m ∷ ms) [] h = absurd h
-one_name (m ∷ ms) (n ∷ ns) h = ap (λ x. x ∷ ns) (sym h.0) ∙ ap (λ xs. m ∷ xs) (one_name ms ns h.1)
 
 -- ---- changes
 
-module _ (f s : ℕ) (old : ControlState f s) (m : PlainMemory f s) (known : IsSound f s old m) (new : ControlState f s) (z : PlainMemory f s) where
+-- A command has led from the control state `old` and the memory m to `new` and z. Callers see x before it.
+module _ (f s : ℕ) (old : ControlState f s) (m : PlainMemory f s) (known : IsSound f s old m) (new : ControlState f s) (z : PlainMemory f s)
+    (x : FibState) (is : record { config = old.config; table = table_of old m } ≡ x) where
   abbrev c : InitialState
   c = known.0
 
@@ -48,15 +40,16 @@ module _ (f s : ℕ) (old : ControlState f s) (m : PlainMemory f s) (known : IsS
   followed =
       let k = known.2 in
       changes_carry_over (Traced (PlainMemory f s)) Registry (by_writer (does f s c) c) counter_transitions (Shows f s c) (same_name f s c) (carries f s c) f s old.config S m.domain S.limbo
-      (record { domain = refl; workers = k.did.workers; token = sym k.did.token; passed = k.passed }) (same_names S.limbo)
+      (record { domain = refl; workers = k.did.workers; token = sym k.did.token; passed = k.passed }) (named_same S.limbo)
 
   -- what a command of the writer leaves is kept, and comes out the same by token and counters
-  after : (later : List WriterStep) (D : State Registry → Type 0) → PlainDid f s z.cells z.domain c later → IsResting f s c later new.config new.rules new.pool new.versions
-      → Follows (Shows f s c) (same_name f s c) (state_of new.rules.rules (z, later) new.pool new.versions) D → IsSound f s new z × D (table_of new z)
+  after : (later : List WriterStep) (D : FibState → State Registry → Type 0) → PlainDid f s z.cells z.domain c later → IsResting f s c later new.config new.rules new.pool new.versions
+      → Follows (Shows f s c) (same_name f s c) (state_of new.rules.rules (z, later) new.pool new.versions) (D (record { config = old.config; table = table_of old m })) → IsSound f s new z × D x (table_of new z)
   after later D did rests h =
       let Z : State (Traced (PlainMemory f s)) = state_of new.rules.rules (z, later) new.pool new.versions in
       let shows : Shows f s c (z, later) h.0 = h.3 in
-      let limbo : h.1 ≡ Z.limbo = one_name Z.limbo h.1 h.4 in (
+      let limbo : h.1 ≡ Z.limbo = named_is Z.limbo h.1 h.4 in
+      let seen : FibState = record { config = old.config; table = table_of old m } in (
         (
           c,
           later,
@@ -66,32 +59,37 @@ module _ (f s : ℕ) (old : ControlState f s) (m : PlainMemory f s) (known : IsS
             passed = subst (λ (r : Registry). Passes (state_after c later).passed r.counters) (sym shows.domain) shows.passed;
           },
         ),
-        subst (λ l. D (beside Z z.domain l)) limbo (subst (λ r. D (beside Z r h.1)) (sym shows.domain) h.2),
+        subst (λ (y : FibState). D y (table_of new z)) is
+            (subst (λ l. D seen (beside Z z.domain l)) limbo (subst (λ r. D seen (beside Z r h.1)) (sym shows.domain) h.2)),
       )
 
-  pub adds : (p : Network) (h : ℕ) (r : Result Put Refusal)
-      → ((later : List WriterStep) × PlainDid f s z.cells z.domain c later × IsResting f s c later new.config new.rules new.pool new.versions
-      × Adds (by_writer (does f s c) c) f s old.config S p h r (state_of new.rules.rules (z, later) new.pool new.versions))
-      → IsSound f s new z × Adds counter_transitions f s old.config (table_of old m) p h r (table_of new z)
-  adds p h r e = after e.0 (Adds counter_transitions f s old.config (table_of old m) p h r) e.1 e.2 (followed.adds (state_of new.rules.rules (z, e.0) new.pool new.versions) p h r e.3)
+  -- whichever steps led to the memory m, this came of it
+  abbrev Tells : (InitialState → State (Traced (PlainMemory f s)) → State (Traced (PlainMemory f s)) → Type 0) → Type 0
+  Tells = Commands (λ (y : PlainMemory f s). PlainDid f s y.cells y.domain) old m new z
 
-  pub deletes : (p : Network) (r : Result ℕ Refusal)
-      → ((later : List WriterStep) × PlainDid f s z.cells z.domain c later × IsResting f s c later new.config new.rules new.pool new.versions
-      × Deletes (by_writer (does f s c) c) f s old.config S p r (state_of new.rules.rules (z, later) new.pool new.versions))
-      → IsSound f s new z × Deletes counter_transitions f s old.config (table_of old m) p r (table_of new z)
-  deletes p r e = after e.0 (Deletes counter_transitions f s old.config (table_of old m) p r) e.1 e.2 (followed.deletes (state_of new.rules.rules (z, e.0) new.pool new.versions) p r e.3)
+  pub adds : (p : Network) (h : ℕ) (r : Result Put Refusal) → Tells (λ c y w. Adds (by_writer (does f s c) c) f s old.config y p h r w)
+      → IsSound f s new z × Adds counter_transitions f s x.config x.table p h r (table_of new z)
+  adds p h r told =
+      let e = told c known.1 known.2.did known.2.rests in
+      after e.0 (λ y. Adds counter_transitions f s y.config y.table p h r) e.1 e.2 (followed.adds (state_of new.rules.rules (z, e.0) new.pool new.versions) p h r e.3)
 
-  pub flushes : (r : Result ℕ Refusal)
-      → ((later : List WriterStep) × PlainDid f s z.cells z.domain c later × IsResting f s c later new.config new.rules new.pool new.versions
-      × Flushes (by_writer (does f s c) c) f s old.config S r (state_of new.rules.rules (z, later) new.pool new.versions))
-      → IsSound f s new z × Flushes counter_transitions f s old.config (table_of old m) r (table_of new z)
-  flushes r e = after e.0 (Flushes counter_transitions f s old.config (table_of old m) r) e.1 e.2 (followed.flushes (state_of new.rules.rules (z, e.0) new.pool new.versions) r e.3)
+  pub deletes : (p : Network) (r : Result ℕ Refusal) → Tells (λ c y w. Deletes (by_writer (does f s c) c) f s old.config y p r w)
+      → IsSound f s new z × Deletes counter_transitions f s x.config x.table p r (table_of new z)
+  deletes p r told =
+      let e = told c known.1 known.2.did known.2.rests in
+      after e.0 (λ y. Deletes counter_transitions f s y.config y.table p r) e.1 e.2 (followed.deletes (state_of new.rules.rules (z, e.0) new.pool new.versions) p r e.3)
 
-  pub frees : (max : ℕ) (r : Reclaimed)
-      → ((later : List WriterStep) × PlainDid f s z.cells z.domain c later × IsResting f s c later new.config new.rules new.pool new.versions
-      × Frees (by_writer (does f s c) c) S max r (state_of new.rules.rules (z, later) new.pool new.versions))
-      → IsSound f s new z × Frees counter_transitions (table_of old m) max r (table_of new z)
-  frees max r e = after e.0 (Frees counter_transitions (table_of old m) max r) e.1 e.2 (followed.frees (state_of new.rules.rules (z, e.0) new.pool new.versions) max r e.3)
+  pub flushes : (r : Result ℕ Refusal) → Tells (λ c y w. Flushes (by_writer (does f s c) c) f s old.config y r w)
+      → IsSound f s new z × Flushes counter_transitions f s x.config x.table r (table_of new z)
+  flushes r told =
+      let e = told c known.1 known.2.did known.2.rests in
+      after e.0 (λ y. Flushes counter_transitions f s y.config y.table r) e.1 e.2 (followed.flushes (state_of new.rules.rules (z, e.0) new.pool new.versions) r e.3)
+
+  pub frees : (max : ℕ) (r : Reclaimed) → Tells (λ c y w. Frees (by_writer (does f s c) c) y max r w)
+      → IsSound f s new z × Frees counter_transitions x.table max r (table_of new z)
+  frees max r told =
+      let e = told c known.1 known.2.did known.2.rests in
+      after e.0 (λ y. Frees counter_transitions y.table max r) e.1 e.2 (followed.frees (state_of new.rules.rules (z, e.0) new.pool new.versions) max r e.3)
 
 -- ---- reports
 

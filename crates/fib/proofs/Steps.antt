@@ -183,7 +183,7 @@ module _ (first second : ℕ) (c : InitialState) where
   -- ---- changes
 
   abbrev pub same_name : Traced Memory → Registry → ℕ → ℕ → Type 0
-  same_name x r m n = m ≡ n
+  same_name x r m n = n ≡ m
 
   kept : (x z : Traced Memory) (r w : Registry) → Shows z w → IsCarried Shows same_name x r z w
   kept x z r w k = (k, λ m n e. e)
@@ -193,14 +193,14 @@ module _ (first second : ℕ) (c : InitialState) where
     token = λ x r k. sym k.token;
     checks = λ x z r m n result k e h.
         let now = checked x z r m result k h in
-        (r, subst (λ u. looks IsFirstByCounter r u result r) e now.0, kept x z r r now.1);
+        (r, subst (λ u. looks IsFirstByCounter r u result r) (sym e) now.0, kept x z r r now.1);
     begins = λ x z r k h. (r, refl, kept x z r r (stays x z r (BeginUpdate h.0) tt k h.1));
     unlinks = λ x z r m k h.
         let p = stored h.0 x h.1 r k h.6 in
         let q = stays h.1 h.2 r (StoreFirst h.3 h.4) tt p h.8 in
         let now = bumps h.2 z r q h.9 in
         let w : Registry = record r { token = r.token + 1 } in
-        (w, r.token + 1, (refl, refl), h.10 ∙ now.token, kept x z r w now);
+        (w, r.token + 1, (refl, refl), sym (h.10 ∙ now.token), kept x z r w now);
     ends = λ x z r k h.
         let p = stored h.0 x h.1 r k h.2 in
         (r, refl, kept x z r r (stays h.1 z r EndUpdate tt p h.3));
