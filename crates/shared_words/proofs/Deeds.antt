@@ -1,5 +1,5 @@
 -- Steps of a worker one after another.
-use Rattle.std.proofs.Common.{◌≡◌, ℕ, ◌+◌, ◌^◌, ◌≤◌, All, List, [], ◌∷◌, ◌++◌, length, None, refl, sym, ap, subst, ◌∙◌, arith, append_assoc, length-append, slice_set, inl, inr, append-nil}
+use Rattle.std.proofs.Common.{◌≡◌, ℕ, ◌+◌, ◌^◌, ◌≤◌, All, List, [], ◌∷◌, ◌++◌, length, None, refl, sym, ap, subst, ◌∙◌, arith, append_assoc, length-append, slice_set, inl, inr}
 use Rattle.std.proofs.lemmas.List.{nil_from_length, set-get_or}
 use Rattle.std.proofs.lemmas.List.Elements.{All-head, All-tail}
 use Rattle.lpm_cells.specs.Words.{IsFirstWord, hop_in, IsLast}
@@ -7,7 +7,7 @@ use Rattle.lpm_cells.specs.declared.entry.Entry.{Entry}
 use Rattle.lpm_cells.specs.declared.entry.Entry.TheVariants.{Miss, Hop, Group}
 use Rattle.lpm_trace.specs.declared.step.WriterStep.{WriterStep}
 use Rattle.lpm_trace.specs.declared.step.WorkerStep.{WorkerStep}
-use Rattle.lpm_trace.specs.declared.step.WorkerStep.TheVariants.{BeginLookup, EndLookup, MeetWriter}
+use Rattle.lpm_trace.specs.declared.step.WorkerStep.TheVariants.{BeginLookup, EndLookup}
 use Rattle.lpm_trace.specs.States.{InitialState, oldest, state_after, done_at, begun_at, updates_begun_in}
 use Rattle.lpm_trace.specs.Trace.{worker_by, writes, Answered, worker_by_step, read_first, MayRead}
 use Rattle.lpm_trace.specs.Laws.{ArePlaced}
@@ -82,11 +82,6 @@ around addrs low high lo hi v b u w begins ends known_then known same lo_is hi_i
 }
 
 -- steps one after another
-pub goes_after : (newer older : List WorkerStep) (u v w : View) → GainsAll newer v w → GainsAll older u v
-    → GainsAll (newer ++ older) u w
-goes_after [] older u v w new old = subst (GainsAll older u) (sym new) old
-goes_after (s ∷ newer) older u v w new old = (new.0, goes_after newer older u v new.0 new.1 old, new.2)
-
 pub goes_at : (newer older : List (WorkerStep × ℕ)) (u v w : View) → GainsAt newer v w → GainsAt older u v
     → GainsAt (newer ++ older) u w
 goes_at [] older u v w new old = subst (GainsAt older u) (sym new) old
@@ -99,10 +94,6 @@ pub two_on : (r s : WorkerStep) (v u w : View) → Gains r v u → Gains s u w �
 two_on r s v u w first second = goes_on v u w (gains_on r v u first) (gains_on s u w second)
 
 -- a view that gains steps goes on
-pub all_on : (steps : List WorkerStep) (v w : View) → GainsAll steps v w → GoesOn v w
-all_on [] v w same = subst (GoesOn v) (sym same) (record { same = refl; later = ([], refl) })
-all_on (s ∷ steps) v w more = goes_on v more.0 w (all_on steps v more.0 more.1) (gains_on s more.0 w more.2)
-
 pub all_at : (steps : List (WorkerStep × ℕ)) (v w : View) → GainsAt steps v w → GoesOn v w
 all_at [] v w same = subst (GoesOn v) (sym same) (record { same = refl; later = ([], refl) })
 all_at (s ∷ steps) v w more = goes_on v more.0 w (all_at steps v more.0 more.1) (gains_on s.0 more.0 w more.2)
@@ -165,19 +156,6 @@ answered now a (Group group) last = absurd last
 
 -- Seats that leave notes for one another: a worker that was told all that the writer has seen, and a writer
 -- that was told all that the worker has seen, have seen the same steps.
-
--- ---- lists that go on from one another
-
-no_more : (new xs : List WriterStep) → length (new ++ xs) ≡ length xs → new ++ xs ≡ xs
-no_more [] xs e = refl
-no_more (s ∷ new) xs e = absurd (omega (arith, length-append new xs, e))
-
--- two of which each went on from the other are one
-pub later_both : (xs ys : List WriterStep) → IsLater xs ys → IsLater ys xs → ys ≡ xs
-later_both xs ys h k =
-    let a : length ys ≡ length h.0 + length xs = ap length h.1 ∙ length-append h.0 xs in
-    let b : length xs ≡ length k.0 + length ys = ap length k.1 ∙ length-append k.0 ys in
-    h.1 ∙ no_more h.0 xs (omega (arith, a, b, length-append h.0 xs))
 
 module _ (o : InitialData) where
   abbrev St : Type 0
@@ -263,12 +241,3 @@ module _ (o : InitialData) where
             (told_is h.steps h.seating id me.0 [] known (later_none (writes h.steps))) (λ j u _. h.views j u))),
         (refl, subst (IsLater me.0.told) (sym mine.2) known.told),
       )
-
--- ---- what both know in the end
-
--- the worker has seen what the writer has
-pub all_seen : (number : ℕ) (v w v' : View) → Gains (MeetWriter number) (record v { told = w.seen }) v'
-    → IsLater v'.seen w.seen → v'.seen ≡ w.seen
-all_seen number v w v' gained later =
-    let seen : v'.seen ≡ gained.seen = ap (λ (x : View). x.seen) gained.view in
-    later_both w.seen v'.seen (subst (IsLater w.seen) (sym seen) gained.told) later

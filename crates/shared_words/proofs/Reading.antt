@@ -7,14 +7,14 @@ use Rattle.lpm_cells.specs.Words.{entry_in, IsLastWord, IsFirst, IsFirstWord, Is
 use Rattle.lpm_trace.specs.declared.step.WorkerStep.{WorkerStep}
 use Rattle.lpm_trace.specs.declared.step.WorkerStep.TheVariants.{LoadOnline, StoreOnline, LoadQuiescent, StoreQuiescent, StoreOffline, BeginLookup, LoadFirst, LoadSecond, EndLookup, MeetWriter}
 use Rattle.lpm_trace.specs.States.{TableState, addresses}
-use Rattle.lpm_trace.specs.Trace.{Offline, ComingOnline, Online, LookingUp, ReportingQuiescent, Probe, Unread, InGroup, Answered, IsNextFirst, IsNextSecond, AreBegun, AreAnswered, IsBetweenDeeds, Phase, World, after, worker_by}
+use Rattle.lpm_trace.specs.Trace.{Offline, ComingOnline, Online, LookingUp, ReportingQuiescent, Probe, Unread, InGroup, Answered, IsNextFirst, IsNextSecond, AreBegun, AreAnswered, IsBetweenDeeds, Phase, World, MayRead, after, worker_by}
 use Rattle.lpm_trace.proofs.Promises.{words_are_entries}
 use Rattle.shared_words.specs.declared.view.Role.TheVariants.{Worker, Writer as AsWriter}
 use Rattle.shared_words.specs.declared.view.View.{View}
 use Rattle.shared_words.specs.Layout.{InitialData, initial_state_of, half, first_at, second_at, sequence_at, token_at, counter_at, pairs}
 use Rattle.shared_words.specs.Rule.{Holds}
 use Rattle.shared_words.specs.Seats.{IsFirstAt, IsSecondAt, WorkerGains, WorkerGainsFirst, WorkerGainsSecond, IsOf, WordsAt, WorkerAt, IsWorkerSeat, WriterAt, WriterLooks, MayFollow, left_by}
-use Rattle.shared_words.proofs.Workings.{load_allowed, plain, store_allowed}
+use Rattle.shared_words.proofs.Workings.{IsQuiet, St, load_allowed, plain, store_allowed}
 use mathlib.Core.Option.{none}
 use Rattle.atomic_table.specs.Seated.{TableId}
 use Rattle.lpm_trace.specs.declared.step.WriterStep.{WriterStep}
@@ -52,44 +52,34 @@ module _ (o : InitialData) (slots id k at : ℕ) (me : Me (Unit {0}) View) (role
   abbrev Stores : ℕ → WorkerStep → ℕ → Type 0
   Stores i r x = Allows (Holds o) slots id me i (λ _. x) (λ _ me'. WorkerGains r me me')
 
+  -- a load at place i, which the worker's own steps allow
+  loads_allowed : (i : ℕ) (of : ℕ → WorkerStep) → at ≡ i → ((n : ℕ) → IsQuiet (of n))
+      → ((s : St o) (h : Holds o s) → me.0.initial ≡ o
+      → MayRead (initial_state_of o) (after (initial_state_of o) h.steps).state (worker_by me.0.own) (of (slice_index s.words i)))
+      → Loads at of
+  loads_allowed i of there quiet may = subst (λ j. Loads j of) (sym there) (plain o of slots id i me
+      (load_allowed o of (λ _. Unit {0}) slots id k i me role quiet (λ s h same. (may s h same, tt))))
+
   pub load_online_allowed : at ≡ token_at → (worker_by me.0.own).phase ≡ Offline → Loads at LoadOnline
-  load_online_allowed there offline = subst (λ i. Loads i LoadOnline) (sym there)
-      (plain o LoadOnline slots id token_at me
-      (load_allowed o LoadOnline (λ _. Unit {0}) slots id k token_at me role (λ n now w. refl)
-      (λ s h same. ((offline, h.words.token), tt))))
+  load_online_allowed there offline = loads_allowed token_at LoadOnline there (λ n now w. refl) (λ s h same. (offline, h.words.token))
 
   pub load_quiescent_allowed : at ≡ token_at → (worker_by me.0.own).phase ≡ Online → Loads at LoadQuiescent
-  load_quiescent_allowed there online = subst (λ i. Loads i LoadQuiescent) (sym there)
-      (plain o LoadQuiescent slots id token_at me
-      (load_allowed o LoadQuiescent (λ _. Unit {0}) slots id k token_at me role (λ n now w. refl)
-      (λ s h same. ((online, h.words.token), tt))))
+  load_quiescent_allowed there online = loads_allowed token_at LoadQuiescent there (λ n now w. refl) (λ s h same. (online, h.words.token))
 
   pub begins_allowed : (addrs : List ℕ) → at ≡ sequence_at → (worker_by me.0.own).phase ≡ Online
       → All (λ a. a < addresses (initial_state_of me.0.initial)) addrs → Loads at (BeginLookup addrs)
-  begins_allowed addrs there online inside = subst (λ i. Loads i (BeginLookup addrs)) (sym there)
-      (plain o (BeginLookup addrs) slots id sequence_at me
-      (load_allowed o (BeginLookup addrs) (λ _. Unit {0}) slots id k sequence_at me role (λ n now w. refl)
-      (λ s h same. (
-        (
-          online,
-          subst (λ (z : InitialData). All (λ a. a < addresses (initial_state_of z)) addrs) same inside,
-          h.words.sequence,
-        ),
-        tt,
-      ))))
+  begins_allowed addrs there online inside = loads_allowed sequence_at (BeginLookup addrs) there (λ n now w. refl) (λ s h same.
+      let within = subst (λ (z : InitialData). All (λ a. a < addresses (initial_state_of z)) addrs) same inside in
+      (online, within, h.words.sequence))
 
   pub ends_allowed : at ≡ sequence_at → (worker_by me.0.own).phase ≡ LookingUp
       → AreAnswered (worker_by me.0.own).probes → Loads at EndLookup
-  ends_allowed there looking answered = subst (λ i. Loads i EndLookup) (sym there)
-      (plain o EndLookup slots id sequence_at me
-      (load_allowed o EndLookup (λ _. Unit {0}) slots id k sequence_at me role (λ n now w. refl)
-      (λ s h same. ((looking, answered, h.words.sequence), tt))))
+  ends_allowed there looking answered =
+      loads_allowed sequence_at EndLookup there (λ n now w. refl) (λ s h same. (looking, answered, h.words.sequence))
 
   pub meets_allowed : at ≡ sequence_at → IsBetweenDeeds (worker_by me.0.own).phase → Loads at MeetWriter
-  meets_allowed there between = subst (λ i. Loads i MeetWriter) (sym there)
-      (plain o MeetWriter slots id sequence_at me
-      (load_allowed o MeetWriter (λ _. Unit {0}) slots id k sequence_at me role (λ n now w. refl)
-      (λ s h same. ((between, h.words.sequence), tt))))
+  meets_allowed there between =
+      loads_allowed sequence_at MeetWriter there (λ n now w. refl) (λ s h same. (between, h.words.sequence))
 
   pub first_allowed : (i : ℕ) → at ≡ first_at i → i < length o.firsts
       → (worker_by me.0.own).phase ≡ LookingUp

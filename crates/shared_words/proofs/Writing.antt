@@ -366,10 +366,6 @@ module _ (o : InitialData) where
         ];
       }
 
-  -- the writer's steps of a new table, which are none, are lawful
-  pub none_lawful : IsSettled (initial_state_of o) → AreLawful o []
-  none_lawful settled = lawful_in [] settled tt
-
   -- ---- the table at the start
 
   abbrev alone : Seating
