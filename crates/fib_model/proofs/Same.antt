@@ -35,11 +35,7 @@ not_both c s has (inr h) = let t = has.1 in absurd (omega (arith, t, h))
 
 -- states of the same parts
 state_is : {X : Type 0} (z z' : State X) → z.rules ≡ z'.rules → z.readers ≡ z'.readers → z.limbo ≡ z'.limbo → z.begun ≡ z'.begun → z ≡ z'
-state_is z z' a b d e =
-    let one : z ≡ record z { rules = z'.rules } = ap (λ x. record z { rules = x }) a in
-    let two : record z { rules = z'.rules } ≡ record z' { limbo = z.limbo; begun = z.begun } = ap (λ x. record z { rules = z'.rules; readers = x }) b in
-    let three : record z' { limbo = z.limbo; begun = z.begun } ≡ record z' { begun = z.begun } = ap (λ x. record z' { limbo = x; begun = z.begun }) d in
-    one ∙ two ∙ three ∙ ap (λ x. record z' { begun = x }) e
+state_is z z' a b d e = λ i. record { rules = a i; readers = b i; limbo = d i; begun = e i }
 
 -- ---- adding: which check decides
 
@@ -207,9 +203,8 @@ one_flush f g c s z z' (Err other) r' a b = absurd a
 
 one_reclaim : (c : Config) (s z z' : Book) (max : ℕ) (r r' : Reclaimed) → Frees (textbook c) s max r z → Frees (textbook c) s max r' z' → (r ≡ r') × (z ≡ z')
 one_reclaim c s z z' max r r' a b =
-    let same = one_reclaims c s.readers z.readers z'.readers max s.limbo r.freed r'.freed r.stopped r'.stopped z.limbo z'.limbo a.0 b.0 in
-    let first : r ≡ record { freed = r'.freed; stopped = r.stopped } = ap (λ x. record { freed = x; stopped = r.stopped }) same.0 in (
-      first ∙ ap (λ x. record { freed = r'.freed; stopped = x }) same.1,
+    let same = one_reclaims c s.readers z.readers z'.readers max s.limbo r.freed r'.freed r.stopped r'.stopped z.limbo z'.limbo a.0 b.0 in (
+      λ i. record { freed = same.0 i; stopped = same.1 i },
       state_is z z' (ap (λ x. x.rules) a.1 ∙ sym (ap (λ x. x.rules) b.1)) same.3 same.2 (ap (λ x. x.begun) a.1 ∙ sym (ap (λ x. x.begun) b.1)),
     )
 
@@ -309,11 +304,6 @@ one_step f g c s z z' (order.Quiescent w) o o' m m' d d' =
 rest_of : {A : Type 0} (P : A → Type 0) (x : A) (xs : List A) → All P (x ∷ xs) → P x × All P xs
 rest_of P x xs all = (all 0 x (omega arith), λ i d low. all (suc i) d (omega (arith, low)))
 
-done_of : {A B : Type 0} (x y : A × B) → x.0 ≡ y.0 → x.1 ≡ y.1 → x ≡ y
-done_of x y a b =
-    let first : x ≡ (y.0, x.1) = ap (λ v. (v, x.1)) a in
-    first ∙ ap (λ v. (y.0, v)) b
-
 pub outcomes_are_unique : OutcomesAreUnique
 outcomes_are_unique f g c [] [] z z' same all all' r r' = (refl, r ∙ sym r')
 outcomes_are_unique f g c [] (done' ∷ log') z z' same all all' r r' = cc
@@ -327,5 +317,4 @@ outcomes_are_unique f g c (done ∷ log) (done' ∷ log') z z' same all all' r r
     let before = outcomes_are_unique f g c log log' r.0 r'.0 earlier one.1 other.1 r.1 r'.1 in
     let step = one_step f g c r'.0 z z' done'.0 done.1 done'.1 one.0 other.0
     (subst (λ x. Does (by_intervals c) f g c r'.0 x done.1 z) now (subst (λ x. Does (by_intervals c) f g c x done.0 done.1 z) before.1 r.2)) r'.2 in
-    let alike = done_of done done' now step.0 in
-    (ap (λ x. x ∷ log) alike ∙ ap (λ l. done' ∷ l) before.0, step.1)
+    ((λ i. (now i, step.0 i) ∷ before.0 i), step.1)

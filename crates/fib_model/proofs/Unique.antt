@@ -79,11 +79,6 @@ count_all xs i place past = ap (λ l. unlinkings_before (reverse l) place) (take
 
 -- There is one first holder, one reclaim, and one way in which unlinkings come out.
 
-busy_of : (a b : Busy) → a.worker ≡ b.worker → a.counter ≡ b.counter → a ≡ b
-busy_of a b w n =
-    let first : a ≡ record { worker = b.worker; counter = a.counter } = ap (λ x. record { worker = x; counter = a.counter }) w in
-    first ∙ ap (λ x. record { worker = b.worker; counter = x }) n
-
 -- the first holder of an unlinking
 pub one_holder : (c : Config) (E : List Event) (place : ℕ) (a b : Busy) → IsFirstHolder c.first_token E place a → IsFirstHolder c.first_token E place b → a ≡ b
 one_holder c E place a b h k = elim (cases_lt a.worker b.worker) [
@@ -93,7 +88,8 @@ one_holder c E place a b h k = elim (cases_lt a.worker b.worker) [
     | inr low ↦
         let is : a.worker ≡ b.worker = omega (arith, high, low) in
         let start = held_start by_reports E place a.worker h.holds in
-        busy_of a b is (h.counter start.0 start.1 ∙ sym (k.counter start.0 (subst (λ w. IsRunningSince by_reports E w start.0) is start.1)))
+        let counter = h.counter start.0 start.1 ∙ sym (k.counter start.0 (subst (λ w. IsRunningSince by_reports E w start.0) is start.1)) in
+        λ i. record { worker = is i; counter = counter i }
   ]
 ]
 
