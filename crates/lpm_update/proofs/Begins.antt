@@ -231,7 +231,7 @@ adds_link f s R p h g u n is long =
 -- ---- deletes
 
 rewrite_is : (c : Rewrite) (n : ℕ) → c.kind ≡ Delete → c.depth ≡ n → c ≡ record { kind = Delete; depth = n; entry = c.entry }
-rewrite_is c n p q = ap (λ x. record { kind = x; depth = c.depth; entry = c.entry }) p ∙ ap (λ x. record { kind = Delete; depth = x; entry = c.entry }) q
+rewrite_is c n p q = λ i. record { kind = p i; depth = q i; entry = c.entry }
 
 deletes_best : (f s : ℕ) (R : RuleMap) (p : Network) (u : RewriteRange) → AllNetworks (f + s) R → IsNetwork (f + s) p → IsRangeOf f s p u → u.rewrite.kind ≡ Delete → u.rewrite.depth ≡ p.len
     → IsCoverEntry (f + s) R p u.rewrite.entry → (E : ℕ → Entry) → AllBest (f + s) R E → AllBest (f + s) (remove R p) (λ a. final_entry u.from u.end u.rewrite a (E a))

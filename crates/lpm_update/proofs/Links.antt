@@ -55,12 +55,12 @@ and_no : (b : Bool) (x y : Entry) → cond (b && false) x y ≡ y
 and_no true x y = refl
 and_no false x y = refl
 
--- the same range
-pub final_same : (a : ℕ) (e : Entry) (from from' end end' : ℕ) (c c' : Rewrite) → from ≡ from' → end ≡ end' → c ≡ c' → final_entry from end c a e ≡ final_entry from' end' c' a e
-final_same a e from from' end end' c c' p q r = ap (λ x. final_entry x end c a e) p ∙ ap (λ x. final_entry from' x c a e) q ∙ ap (λ x. final_entry from' end' x a e) r
-
 pub range_high : (from end a : ℕ) (x y : Entry) → end ≤ a → cond (in_range from end a) x y ≡ y
 range_high from end a x y h = ap (λ b. cond (nat_le from a && b) x y) (le-ltb a end h) ∙ and_no (nat_le from a) x y
+
+-- the entry by a range, of which the parts are the same
+pub final_same : (a : ℕ) (e : Entry) (from from' end end' : ℕ) (c c' : Rewrite) → from ≡ from' → end ≡ end' → c ≡ c' → final_entry from end c a e ≡ final_entry from' end' c' a e
+final_same a e from from' end end' c c' p q r = λ i. final_entry (p i) (q i) (r i) a e
 
 pub stands_link : (s from end : ℕ) (c : Rewrite) (W : Words) (E : ℕ → Entry) (b g w : ℕ) → b < length W.firsts → entry_in w ≡ Group g → IsLast (entry_in (slice_index W.firsts b))
     → b * 2 ^ s ≤ from → from ≤ end → end ≤ b * 2 ^ s + 2 ^ s
