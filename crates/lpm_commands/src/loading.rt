@@ -42,10 +42,7 @@ pub fn load<'a>(
     ensures failure { IfErr result (EndsLoading config path.entry.now routes.now) }
 {
     let count = routes.len().min(MOST_SORTED);
-    let mut table = match open_loaded(alloc, path, &routes[..count], config) {
-        Ok(table) => table,
-        Err(failure) => return Err(failure),
-    };
+    let mut table = open_loaded(alloc, path, &routes[..count], config)?;
     add_from(&mut table, path, routes, count)?;
     Ok(table)
 }
@@ -137,10 +134,21 @@ pub fn open_for_lookups<'a>(
 {
     let groups = groups_for(&routes, config);
     let limits = Config { groups, ..config };
-    if routes.len() <= MOST_SORTED {
-        open_at_once(alloc, path, routes, limits)
-    } else {
-        open_and_add(alloc, path, routes, limits)
+    if routes.len() > MOST_SORTED {
+        return open_and_add(alloc, path, routes, limits);
+    }
+    let Some(rules) = fitting_rules(alloc, &routes, limits) else {
+        return Err(first_refusal(alloc, path, &routes, limits));
+    };
+    drop(routes);
+    match open_sorted(alloc, limits, rules) {
+        Ok(Some((table, writer, bench))) => Ok(Running {
+            table,
+            writer,
+            bench,
+        }),
+        Ok(None) | Err(OpenError::BadConfig) => unreachable!(),
+        Err(OpenError::Memory) => Err(Failure::Memory),
     }
 }
 
@@ -166,10 +174,7 @@ pub fn open_for_changes<'a>(
     ensures few { IfOk result (λ r. r.1 ≤ length routes.now) }
     ensures failure { IfErr result (EndsLoading config path.entry.now routes.now) }
 {
-    let fib = match load(alloc, path, routes, config) {
-        Ok(fib) => fib,
-        Err(failure) => return Err(failure),
-    };
+    let fib = load(alloc, path, routes, config)?;
     let versions = fib.versions();
     let (table, writer, bench) = go_live(alloc, fib)?;
     let running = Running {
@@ -178,38 +183,6 @@ pub fn open_for_changes<'a>(
         bench,
     };
     Ok((running, versions))
-}
-
-// The running table of at most 2^26 routes, which opens with all their rules at once.
-fn open_at_once<'a>(
-    alloc: Global,
-    path: &'a str,
-    routes: Vec<Route>,
-    config: Config,
-) -> Result<Running, Failure<'a>>
-    requires limits { IsConfig config }
-    requires few { length routes.items ≤ 2 ^ 26 }
-    ensures workers { IfOk result (λ r. r.table.initial.workers ≡ config.workers) }
-    ensures own { IfOk result (λ r. r.writer.identity ≡ r.table) }
-    ensures full { IfOk result (λ r. IsFullBench r.table r.bench) }
-    ensures rules { IfOk result (λ r. r.writer.table.rules ≡ rules_of_routes routes.items) }
-    ensures loads { IfOk result (λ _. (table : State Registry)
-        × IsLoaded config routes.items table) }
-    ensures failure { IfErr result (EndsLoading config path.entry.now routes.items) }
-{
-    let Some(rules) = fitting_rules(alloc, &routes, config) else {
-        return Err(first_refusal(alloc, path, &routes, config));
-    };
-    drop(routes);
-    match open_sorted(alloc, config, rules) {
-        Ok(Some((table, writer, bench))) => Ok(Running {
-            table,
-            writer,
-            bench,
-        }),
-        Ok(None) | Err(OpenError::BadConfig) => unreachable!(),
-        Err(OpenError::Memory) => Err(Failure::Memory),
-    }
 }
 
 // The running table of more routes: a table of one thread opens with the rules of the first 2^26, the

@@ -43,29 +43,9 @@ pub fn lookup<'a, R: Threads + Sync, F: Files, G: Gate, W: Write>(
     ensures failure { IfErr result
         (EndsLookup config routes.entry.now addresses.entry.now (F.bytes files.now)) }
 {
-    let text = lookup_text(rt, alloc, files, routes, addresses, config, gate)?;
-    put_text(out, &text)
-}
-
-// The whole text, before anything is written.
-fn lookup_text<'a, R: Threads + Sync, F: Files, G: Gate>(
-    rt: &R,
-    alloc: Global,
-    files: &F,
-    routes: &'a str,
-    addresses: &'a str,
-    config: Config,
-    gate: &G,
-) -> Result<Vec<u8>, Failure<'a>>
-    requires { IsConfig config }
-    ensures text { IfOk result (λ v. IsLookupText config
-        (F.bytes files.now routes.entry.now) (F.bytes files.now addresses.entry.now) v.items) }
-    ensures failure { IfErr result
-        (EndsLookup config routes.entry.now addresses.entry.now (F.bytes files.now)) }
-    ensures unwritten { IfErr result (λ e. e ≢ Failure.CannotWrite) }
-{
     let list = read_routes_on(rt, alloc, files, routes, config.workers)?;
     let addrs = read_addresses_on(rt, alloc, files, addresses, config.workers)?;
     let running = open_for_lookups(alloc, routes, list, config)?;
-    text_of_live_answers(rt, alloc, running, config.workers, &addrs, gate)
+    let text = text_of_live_answers(rt, alloc, running, config.workers, &addrs, gate)?;
+    put_text(out, &text)
 }
