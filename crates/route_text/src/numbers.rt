@@ -90,17 +90,10 @@ pub(crate) fn address(text: &[u8]) -> Option<u32>
     if rest.is_empty() { Some(addr) } else { None }
 }
 
-/// The digit that the byte writes, or a number past 9 where it writes none.
-#[inline(always)]
-fn digit(byte: u8) -> u32
-    ensures { result ≤ 9 → byte ≡ 48 + result }
-{
-    u32::from(byte).wrapping_sub(48)
-}
-
 /// The number of at most `max` at this place that `end` stands after, and the place after that end.
 ///
-/// `None` comes for a number of four digits or more too. `max` is 9 or more.
+/// `None` comes for a number of four digits or more too. `max` is 9 or more. A byte that is no digit
+/// comes to a number past 9.
 #[inline(always)]
 pub(crate) fn number_before(bytes: &[u8], at: usize, max: u32, end: End) -> Option<(u32, usize)>
     requires room { at + NUMBER_ROOM ≤ length bytes.now }
@@ -109,11 +102,11 @@ pub(crate) fn number_before(bytes: &[u8], at: usize, max: u32, end: End) -> Opti
         (λ p. StartsNumberBefore end max (drop at bytes.now) p.0 (drop p.1 bytes.now)) }
     ensures place { IfSome result (λ p. p.1 ≤ at + NUMBER_ROOM) }
 {
-    let first = digit(bytes[at]);
+    let first = u32::from(bytes[at]).wrapping_sub(48);
     if first > 9 {
         return None;
     }
-    let second = digit(bytes[at + 1]);
+    let second = u32::from(bytes[at + 1]).wrapping_sub(48);
     if second > 9 {
         let next = place_after(bytes, at + 1, end)?;
         return Some((first, next));
@@ -122,7 +115,7 @@ pub(crate) fn number_before(bytes: &[u8], at: usize, max: u32, end: End) -> Opti
         return None;
     }
     let two = first * 10 + second;
-    let third = digit(bytes[at + 2]);
+    let third = u32::from(bytes[at + 2]).wrapping_sub(48);
     if third > 9 {
         if two > max {
             return None;

@@ -8,7 +8,7 @@ returns-then-second-gt9-clause-number c =
     record {
       after = drop (c.args.at + 1) text;
       small = omega arith;
-      split = one_at text c.args.at c.digit-first.result (omega arith) (omega arith) (omega arith);
+      split = one_at text c.args.at _ (omega arith) (omega arith) (omega arith);
       ends = c.in_ok-next.ensures.end;
     }
 
@@ -18,8 +18,8 @@ returns-then-third-gt9-clause-number c =
     record {
       after = drop (c.args.at + 2) text;
       small = omega arith;
-      split = two_at text c.args.at c.digit-first.result c.digit-second.result (omega arith)
-          (omega arith) (c.digit-first.ensures (omega arith)) (omega arith) (c.digit-second.ensures (omega arith)) (omega arith);
+      split = two_at text c.args.at _ _ (omega arith)
+          (omega arith) (omega arith) (omega arith) (omega arith) (omega arith);
       ends = c.in_ok-next-2.ensures.end;
     }
 
@@ -29,7 +29,7 @@ returns-clause-number c =
     record {
       after = drop (c.args.at + 3) text;
       small = omega arith;
-      split = three_at text c.args.at c.digit-first.result c.digit-second.result c.digit-third.result (omega arith)
-          (omega arith) (c.digit-first.ensures (omega arith)) (omega arith) (c.digit-second.ensures (omega arith)) (omega arith) (c.digit-third.ensures (omega arith)) (omega arith);
+      split = three_at text c.args.at _ _ _ (omega arith)
+          (omega arith) (omega arith) (omega arith) (omega arith) (omega arith) (omega arith) (omega arith);
       ends = c.in_ok-next-3.ensures.end;
     }
