@@ -18,7 +18,7 @@ use Rattle.lpm_writer.specs.declared.control.ControlState.{ControlState}
 use Rattle.lpm_writer.specs.declared.pool.GroupPool.{GroupPool}
 use Rattle.lpm_writer.specs.Resting.{IsResting}
 use Rattle.lpm_writer.proofs.Opened.{status_at_first, unused_retired, beginning, begins_resting}
-use Rattle.lpm_writer.proofs.Storing.{linked_not_retired}
+use Rattle.lpm_writer.proofs.Reclaims.{linked_not_retired}
 use Rattle.lpm_writer.proofs.Unchanged.{unchanging, unchanged, unchanged_stays, rests_after_unchanged}
 use Rattle.fib.specs.Fib.{IsSound}
 use Rattle.std.proofs.Math.Nat.{mul-le-mul_right}

@@ -20,10 +20,11 @@ use Rattle.lpm_writer.specs.Plain.{PlainDid}
 use Rattle.lpm_writer.specs.declared.control.ControlState.{ControlState}
 use Rattle.lpm_writer.specs.Resting.{IsResting, state_of}
 use Rattle.lpm_writer.specs.Traced.{Traced, by_writer}
+use Rattle.lpm_writer.proofs.Awaiting.{started_all}
 use Rattle.lpm_writer.proofs.StepsAlone.{named_is, named_same}
 use Rattle.lpm_writer.specs.Commands.{Commands}
 use Rattle.fib.specs.Fib.{FibState, IsSound, table_of}
-use Rattle.fib.proofs.Steps.{Shows, does, same_name, carries, passed_within}
+use Rattle.fib.proofs.Steps.{Shows, does, same_name, carries}
 
 -- ---- changes
 
@@ -127,7 +128,7 @@ reported f s old m w counter known past =
 -- the newest token
 pub reported_token : (f s : ℕ) (old : ControlState f s) (m : PlainMemory f s) (w : ℕ) (z : Registry) → IsSound f s old m → z ≡ with_counter m.domain w m.domain.token → IsSound f s old (record m { domain = z })
 reported_token f s old m w z known is =
-    let within = passed_within known.0 known.1 known.2.did.written in
+    let within = (started_all known.0 known.1 known.2.did.written).1 in
     let token = known.2.did.token in
     subst (λ d. IsSound f s old (record m { domain = d })) (sym is) (reported f s old m w m.domain.token known (inr (omega (arith, within, token))))
 

@@ -1,5 +1,5 @@
 -- The writer's steps over the memory of one thread, told by the token and the counters alone.
-use Rattle.std.proofs.Common.{arith, ◌≡◌, ℕ, zero, suc, ◌+◌, ◌<◌, ◌≤◌, inl, inr, refl, ap, sym, ◌∙◌, subst, List, [], ◌∷◌, length, slice_index, Result, Ok, Err, Bool, true, false, cond, ◌&&◌, eqb, leb, max, add-one}
+use Rattle.std.proofs.Common.{arith, ◌≡◌, ℕ, zero, suc, ◌+◌, ◌<◌, ◌≤◌, inl, inr, refl, ap, sym, ◌∙◌, subst, List, ◌∷◌, length, slice_index, Result, Ok, Err, Bool, true, false, cond, ◌&&◌, eqb, leb, max, add-one}
 use Rattle.std.proofs.Math.Nat.{max-le}
 use Rattle.std.proofs.lemmas.Bool.{cases_lt, leb-true}
 use Rattle.std.proofs.lemmas.Bool.Decides.{eqb_tells}
@@ -11,7 +11,6 @@ use Rattle.fib_model.proofs.Carrying.{Carries, IsCarried}
 use Rattle.lpm_trace.specs.declared.step.WriterStep.{WriterStep}
 use Rattle.lpm_trace.specs.declared.step.WriterStep.TheVariants.{StoreFirst, StoreSecond, BeginUpdate, EndUpdate, BumpToken, LoadCounter}
 use Rattle.lpm_trace.specs.States.{InitialState, state_after, lets_pass}
-use Rattle.lpm_trace.specs.Writer.{IsWritten}
 use Rattle.lpm_writer.specs.declared.plain_memory.PlainMemory.{PlainMemory}
 use Rattle.lpm_writer.specs.Plain.{PlainDoes}
 use Rattle.lpm_writer.specs.Traced.{Traced, Goes, Loads, Checks, Stores, UnlinksNone, by_writer}
@@ -205,15 +204,3 @@ module _ (first second : ℕ) (c : InitialState) where
         let p = stored h.0 x h.1 r k h.2 in
         (r, refl, kept x z r r (stays h.1 z r EndUpdate tt p h.3));
   }
-
--- no token has passed that wasn't started
-pub passed_within : (c : InitialState) (steps : List WriterStep) → IsWritten c steps → (state_after c steps).passed ≤ (state_after c steps).token
-passed_within c [] h = omega arith
-passed_within c (BumpToken ∷ steps) h = let le = passed_within c steps h.1 in omega (arith, le)
-passed_within c (LoadCounter token worker counter ∷ steps) h =
-    within (lets_pass token counter && eqb (suc worker) c.workers) (state_after c steps).passed token (state_after c steps).token (passed_within c steps h.1) h.0.0.2
-  where
-    within : (b : Bool) (p t n : ℕ) → p ≤ n → t ≤ n → cond b (max p t) p ≤ n
-    within true p t n le new = max-le le new
-    within false p t n le new = le
-passed_within c (s ∷ steps) h = passed_within c steps h.1

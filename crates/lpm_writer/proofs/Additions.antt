@@ -41,6 +41,7 @@ use Rattle.lpm_writer.specs.Matching.{GroupsMatchSteps, OnlyChecks}
 use Rattle.lpm_writer.specs.Making.{group_to_fill, IsTakenBy}
 use Rattle.lpm_writer.specs.Taking.{Finds, NeedsGroup}
 use Rattle.lpm_writer.specs.Resting.{Changes, IsResting, IsDue, state_of}
+use Rattle.lpm_writer.proofs.NextStores.{none_some}
 use Rattle.lpm_writer.proofs.StepsAlone.{StoresNothing}
 use Rattle.lpm_writer.proofs.Rests.{linked_resting, none_fills, some_fills}
 
@@ -51,9 +52,6 @@ some_none : (x : Option ℕ) (P : ℕ → Type 0) → IsSomeAnd x P → x ≡ No
 some_none None P h e = h
 some_none (Some y) P h e = cc
 
-some_here : (x : Option ℕ) (h : ℕ) → x ≡ Some h → x ≡ None → ⊥
-some_here x h p q = cc
-
 no_some : (x : Option ℕ) → (IsSome x → ⊥) → x ≡ None
 no_some None h = refl
 no_some (Some y) h = absurd (h refl)
@@ -61,7 +59,7 @@ no_some (Some y) h = absurd (h refl)
 -- a new rule that was put in had room
 pub put_room : (R : RuleMap) (p : Network) (h max : ℕ) (put : Put) → (Ok' put ≡ Ok' Unchanged → get R p ≡ Some h) → (Ok' put ≡ Ok' Replaced → IsSomeAnd (get R p) (λ old. old ≢ h))
     → (Ok' put ≡ Ok' Added → (get R p ≡ None) × (len R < max)) → get R p ≡ None → len R < max
-put_room R p h max Unchanged u r a none = absurd (some_here (get R p) h (u refl) none)
+put_room R p h max Unchanged u r a none = absurd (none_some (get R p) h none (u refl))
 put_room R p h max Replaced u r a none = absurd (some_none (get R p) (λ old. old ≢ h) (r refl) none)
 put_room R p h max Added u r a none = (a refl).1
 
@@ -70,7 +68,7 @@ pub taken_back : (old : RuleList) (p : Network) (h : ℕ) (mid new : RuleList) (
     → MatchResult r (λ hop. get mid.rules p ≡ Some hop) (λ _. get mid.rules p ≡ None) → OnOk r (new ≡ without_rule mid p) → new ≡ old
 taken_back old p h mid new (Ok hop) put none m out =
     out ∙ ap (λ (x : RuleList). without_rule x p) put ∙ ap (λ R. record { rules = R; max = old.max }) (remove_insert old.rules p h none)
-taken_back old p h mid new (Err e) put none m out = absurd (some_here (get mid.rules p) h (ap (λ (x : RuleList). get x.rules p) put ∙ insert_here old.rules p h) m)
+taken_back old p h mid new (Err e) put none m out = absurd (none_some (get mid.rules p) h m (ap (λ (x : RuleList). get x.rules p) put ∙ insert_here old.rules p h))
 
 module _ (f s : ℕ) (c : InitialState) (steps : List WriterStep) (config : Config) (rules : RuleList) (pool : GroupPool) (begun : ℕ) (rest : IsResting f s c steps config rules pool begun)
     (p : Network) (low : p.bits / 2 ^ s < 2 ^ f) where

@@ -8,7 +8,7 @@ use Rattle.lpm_limits.specs.declared.busy.Busy.{Busy}
 use Rattle.lpm_limits.specs.declared.config.Config.{Config}
 use Rattle.lpm_rules.specs.RuleMap.{RuleList}
 use Rattle.lpm_trace.specs.declared.step.WriterStep.{WriterStep}
-use Rattle.lpm_trace.specs.declared.step.WriterStep.TheVariants.{StoreFirst, StoreSecond, BeginUpdate, EndUpdate, BumpToken, LoadCounter}
+use Rattle.lpm_trace.specs.declared.step.WriterStep.TheVariants.{BumpToken, LoadCounter}
 use Rattle.lpm_trace.specs.States.{InitialState, TableState, Status, state_after, lets_pass}
 use Rattle.lpm_trace.specs.Progress.{WriterProgress, Check, progress_after_bump, IsAsked, IsBumped as MayBump}
 use Rattle.lpm_trace.specs.Writer.{progress_after, IsWritten, MayStep}
@@ -25,12 +25,8 @@ use Rattle.lpm_writer.proofs.Rests.{even_not, rests_quiet}
 -- ---- the token is started
 
 -- each token that was checked had been started
-started_all : (c : InitialState) (steps : List WriterStep) → IsWritten c steps → ((state_after c steps).scan.token ≤ (state_after c steps).token) × ((state_after c steps).passed ≤ (state_after c steps).token)
+pub started_all : (c : InitialState) (steps : List WriterStep) → IsWritten c steps → ((state_after c steps).scan.token ≤ (state_after c steps).token) × ((state_after c steps).passed ≤ (state_after c steps).token)
 started_all c [] h = (omega arith, omega arith)
-started_all c (StoreFirst i x ∷ steps) h = started_all c steps h.1
-started_all c (StoreSecond j x ∷ steps) h = started_all c steps h.1
-started_all c (BeginUpdate change ∷ steps) h = started_all c steps h.1
-started_all c (EndUpdate ∷ steps) h = started_all c steps h.1
 started_all c (BumpToken ∷ steps) h = let k = started_all c steps h.1 in let a = k.0 in let b = k.1 in (omega (arith, a), omega (arith, b))
 started_all c (LoadCounter token worker counter ∷ steps) h =
     (h.0.0.2, within (lets_pass token counter && eqb (suc worker) c.workers) (state_after c steps).passed token (state_after c steps).token (started_all c steps h.1).1 h.0.0.2)
@@ -38,6 +34,7 @@ started_all c (LoadCounter token worker counter ∷ steps) h =
     within : (b : Bool) (p t u : ℕ) → p ≤ u → t ≤ u → cond b (max p t) p ≤ u
     within true p t u low low' = omega (arith, low, low')
     within false p t u low low' = low
+started_all c (s ∷ steps) h = started_all c steps h.1
 
 differ : (m n : ℕ) → (m ≡ n → ⊥) → eqb m n ≡ false
 differ m n apart = elim (eqb_tells m n) [

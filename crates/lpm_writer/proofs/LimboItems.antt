@@ -9,7 +9,7 @@ use Rattle.lpm_groups.proofs.Marking.{slice_get-set_other, slice_get-set_same, R
 use Rattle.lpm_writer.specs.Waiting.{IsFreed, AreWaiting, IsQueued, IsTaken, tokens_of}
 use Rattle.lpm_writer.specs.Taking.{LinksLeast, MayTake}
 use Rattle.std.proofs.Math.ListN.{length-set}
-use Rattle.std.proofs.lemmas.Option.{slice_get_within}
+use Rattle.std.proofs.lemmas.Option.{same_Some, slice_get_within}
 use Rattle.defer_queue.specs.Retired.{IsAbsent}
 use Rattle.defer_queue.specs.Limbo.{Limbo as Queue}
 use Rattle.std.proofs.lemmas.List.{length-map}
@@ -56,10 +56,10 @@ freed_states zero items xs = xs
 freed_states (suc n) [] xs = xs
 freed_states (suc n) (item ∷ items) xs = freed_states n items (slice_set xs item.0 Free)
 
-limbo_linked : (x : Option GroupState) (b : ℕ) → x ≡ Some Limbo → x ≡ Some (Linked b) → ⊥
+pub limbo_linked : (x : Option GroupState) (b : ℕ) → x ≡ Some Limbo → x ≡ Some (Linked b) → ⊥
 limbo_linked x b p q = cc
 
-free_linked : (x : Option GroupState) (b : ℕ) → x ≡ Some Free → x ≡ Some (Linked b) → ⊥
+pub free_linked : (x : Option GroupState) (b : ℕ) → x ≡ Some Free → x ≡ Some (Linked b) → ⊥
 free_linked x b p q = cc
 
 -- a group in limbo that is freed changes no link
@@ -101,13 +101,10 @@ is_freed (suc n) (item ∷ items) xs few waits =
 
 -- ---- which items a group is not among
 
-same_state : (x : Option GroupState) (s t : GroupState) → x ≡ Some s → x ≡ Some t → s ≡ t
-same_state x s t p q = cc
-
 -- a group that isn't in limbo
 pub absent_other : (xs : List GroupState) (g : ℕ) (s : GroupState) (items : List (ℕ × ℕ)) → slice_get xs g ≡ Some s → s ≢ Limbo → AreWaiting xs items → IsAbsent g items
 absent_other xs g s [] at other waits = tt
-absent_other xs g s (item ∷ items) at other waits = ((λ q. other (same_state (slice_get xs g) s Limbo at (ap (slice_get xs) (sym q) ∙ waits.0))), absent_other xs g s items at other waits.2)
+absent_other xs g s (item ∷ items) at other waits = ((λ q. other (same_Some s Limbo (sym at ∙ ap (slice_get xs) (sym q) ∙ waits.0))), absent_other xs g s items at other waits.2)
 
 pub absent_drop : (g n : ℕ) (items : List (ℕ × ℕ)) → IsAbsent g items → IsAbsent g (drop n items)
 absent_drop g zero items h = h
@@ -126,7 +123,7 @@ waiting_last xs g t (item ∷ items) at apart waits = (waits.0, absent_last item
 pub linked_limbo : (b : ℕ) → Linked b ≡ Limbo → ⊥
 linked_limbo b q = cc
 
-free_limbo : Free ≡ Limbo → ⊥
+pub free_limbo : Free ≡ Limbo → ⊥
 free_limbo q = cc
 
 -- ---- a group that is retired: its state becomes limbo, the first n items are freed, and it goes last

@@ -20,7 +20,6 @@ use Rattle.lpm_trace.specs.declared.step.WriterStep.{WriterStep}
 use Rattle.lpm_trace.specs.declared.step.WriterStep.TheVariants.{StoreFirst, StoreSecond}
 use Rattle.lpm_trace.specs.States.{InitialState, state_after}
 use Rattle.lpm_trace.specs.Writer.{MayStep}
-use Rattle.lpm_writer.specs.Plain.{MayBeNext}
 use Rattle.lpm_writer.specs.declared.pool.GroupPool.{GroupPool}
 use Rattle.lpm_writer.specs.Waiting.{IsQueued, tokens_of}
 use Rattle.lpm_writer.specs.Traced.{Retires}

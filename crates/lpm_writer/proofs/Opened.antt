@@ -1,6 +1,6 @@
 -- A table whose words represent its rules, and of which no group waits, is one that may be opened, and a
 -- control state rests there.
-use Rattle.std.proofs.Common.{◌≡◌, ℕ, ◌+◌, ◌^◌, ◌<◌, ◌≤◌, inl, inr, refl, ap, sym, ◌∙◌, List, [], length, slice_get, slice_index, Some, None, arith, subst, zero, suc, ◌*◌, replicate}
+use Rattle.std.proofs.Common.{◌≡◌, ℕ, ◌+◌, ◌^◌, ◌<◌, ◌≤◌, inl, inr, refl, ap, sym, ◌∙◌, List, [], length, slice_get, slice_index, Some, arith, subst, zero, suc, ◌*◌, replicate}
 use Rattle.std.proofs.lemmas.Option.{none-some}
 use Rattle.std.proofs.lemmas.Bool.{cases_lt}
 use Rattle.std.proofs.lemmas.List.{get_or_past, length-replicate}

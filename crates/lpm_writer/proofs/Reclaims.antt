@@ -10,9 +10,10 @@ use Rattle.lpm_trace.specs.Writer.{progress_after, MayStep}
 use Rattle.lpm_writer.specs.declared.pool.GroupPool.{GroupPool}
 use Rattle.lpm_writer.specs.Waiting.{tokens_of}
 use Rattle.lpm_writer.specs.Matching.{HasUnlinked, HasRetired, OnlyChecks, GroupsMatchSteps, MayReclaim, AreAfter, AreRetired, AreBelow, IsAmong, GroupsMatchState, IsLimbo, MayAsk, Remembers}
+use Rattle.lpm_writer.proofs.LimboItems.{free_linked}
 use Rattle.lpm_writer.proofs.Checks.{quiet_on, HasPassed, HasStopped, quiet_same, check_passes, check_stops}
 use Rattle.std.proofs.lemmas.Bool.{cases_eq}
-use Rattle.std.proofs.lemmas.Option.{slice_get_within}
+use Rattle.std.proofs.lemmas.Option.{same_Some, slice_get_within}
 use Rattle.defer_queue.specs.Retired.{IsAbsent}
 use Rattle.lpm_groups.specs.declared.GroupState.{GroupState}
 use Rattle.lpm_groups.specs.States.{IsLimboAt, IsFreeAt}
@@ -122,9 +123,6 @@ may_ask c steps states g t rest tail passed held k may more some counter =
     first other u (inl e) = subst (λ x. t ≤ x) (sym e.1) (omega arith)
     first other u (inr at) = let lt = after_among t other u (rest ++ tail) k.kept.rising.0 at in omega (arith, lt)
 
-free_is : (b : ℕ) (x : Option GroupState) → x ≡ Some Free → x ≡ Some (LinkedTo b) → ⊥
-free_is b x p q = cc
-
 -- the front has passed its check, and is freed
 pub keeps_freed : (c : InitialState) (steps later : List WriterStep) (states : List GroupState) (g t : ℕ) (items : List (ℕ × ℕ)) (passed passed' : ℕ) (held : Option ℕ)
     → GroupsMatchSteps c steps states ((g, t) ∷ items) passed held → HasPassed c steps t later → Remembers c later passed' → IsLimboAt states g
@@ -140,7 +138,7 @@ keeps_freed c steps later states g t items passed passed' held k pass known limb
           | inr ne ↦ old.free h (sym (slice_get-set_other states g h Free ne) ∙ at)
         ];
         linked = λ h b at other. elim (cases_eq h g) [
-          | inl e ↦ absurd (free_is b (slice_get (slice_set states g Free) g) (slice_get-set_same states g Free inside) (ap (slice_get (slice_set states g Free)) (sym e) ∙ at))
+          | inl e ↦ absurd (free_linked (slice_get (slice_set states g Free) g) b (slice_get-set_same states g Free inside) (ap (slice_get (slice_set states g Free)) (sym e) ∙ at))
           | inr ne ↦ old.linked h b (sym (slice_get-set_other states g h Free ne) ∙ at) other
         ];
         taken = old.taken;
@@ -180,23 +178,23 @@ keeps_taken c steps states items passed g b k free =
     record {
       kept = record {
         free = λ h at. elim (cases_eq h g) [
-          | inl e ↦ absurd (free_is b (slice_get (slice_set states g (LinkedTo b)) g) (ap (slice_get (slice_set states g (LinkedTo b))) (sym e) ∙ at) here)
+          | inl e ↦ absurd (free_linked (slice_get (slice_set states g (LinkedTo b)) g) b (ap (slice_get (slice_set states g (LinkedTo b))) (sym e) ∙ at) here)
           | inr ne ↦ k.kept.free h (sym (slice_get-set_other states g h (LinkedTo b) ne) ∙ at)
         ];
         linked = λ h other at apart. elim (cases_eq h g) [
           | inl e ↦ absurd (apart (ap Some (sym e)))
           | inr ne ↦ k.kept.linked h other (sym (slice_get-set_other states g h (LinkedTo b) ne) ∙ at) (λ q. absurd cc)
         ];
-        taken = λ h q. subst (λ x. IsFree c (state_after c steps).passed ((state_after c steps).groups x)) (same_taken g h q) (k.kept.free g free);
+        taken = λ h q. subst (λ x. IsFree c (state_after c steps).passed ((state_after c steps).groups x)) (same_Some g h q) (k.kept.free g free);
         rising = k.kept.rising;
         retired = k.kept.retired;
         all = k.kept.all;
       };
       remembers = k.remembers;
     }
-  where
-    same_taken : (g h : ℕ) → Some g ≡ Some h → g ≡ h
-    same_taken g h q = cc
+
+pub linked_not_retired : (b t : ℕ) → Linked b ≡ Retired t → ⊥
+linked_not_retired b t e = cc
 
 -- ---- the groups that wait
 
@@ -212,13 +210,10 @@ is_limbo c w states items kept = record {
   all = kept.all;
 }
   where
-    not_both : (b t : ℕ) → Linked b ≡ Retired t → ⊥
-    not_both b t e = cc
-
     -- a group that is linked is none of those that are retired
     absent_linked : (status : ℕ → Status) (token g b : ℕ) (items : List (ℕ × ℕ)) → status g ≡ Linked b → AreRetired status token items → IsAbsent g items
     absent_linked status token g b [] is h = tt
-    absent_linked status token g b (item ∷ items) is h = (λ e. not_both b item.1 (sym is ∙ ap status (sym e) ∙ h.0), absent_linked status token g b items is h.2)
+    absent_linked status token g b (item ∷ items) is h = (λ e. linked_not_retired b item.1 (sym is ∙ ap status (sym e) ∙ h.0), absent_linked status token g b items is h.2)
 
 -- A reclaim, from item to item.
 

@@ -1,5 +1,6 @@
 -- What a writer keeps, before and after its commands.
 use Rattle.std.proofs.Common.{arith, ◌≡◌, ℕ, ◌+◌, ◌-◌, ◌*◌, ◌%◌, ◌^◌, ◌<◌, ◌≤◌, inl, inr, refl, sym, ap, subst, ◌∙◌, List, ◌∷◌, length, Option, Some, None, Bool, false}
+use Rattle.std.proofs.lemmas.Option.{none-some}
 use Rattle.std.specs.Prelude.{IsTrue, ◌↔◌}
 use Rattle.std.proofs.lemmas.Bool.{cases_lt}
 use Rattle.lpm_cells.specs.Words.{Words, entry_at}
@@ -32,33 +33,21 @@ use Rattle.lpm_writer.specs.Resting.{IsBetween, Changes, IsResting, IsDue, state
 use Rattle.lpm_writer.proofs.UpdateRuns.{AsMemory, fit}
 use Rattle.lpm_writer.proofs.Checks.{quiet_same}
 use Rattle.lpm_writer.proofs.StepsAlone.{StoresNothing}
-use Rattle.lpm_writer.proofs.WholeUpdates.{MayChange, may_open, after_open, after_close}
+use Rattle.lpm_writer.proofs.WholeUpdates.{MayChange, truth, may_open, after_open, after_close}
 
 -- a change that fills no group
 pub none_fills : (u : Plan) (block : ℕ) (F : List ℕ) → FillsFor u None block → (group_to_fill u F ≡ None) × IsTakenBy u None
 none_fills (Range u) block F h = (refl, refl)
-none_fills (Link u) block F h = absurd (none_is u.group h.0)
-  where
-    none_is : (g : ℕ) → None ≡ Some g → ⊥
-    none_is g e = cc
+none_fills (Link u) block F h = absurd (none-some u.group h.0)
 none_fills (Unlink u) block F h = (refl, refl)
 none_fills (Flush u) block F h = (refl, refl)
 
 -- a change that fills a group for a block that has none
 pub some_fills : (u : Plan) (g block : ℕ) (F : List ℕ) → FillsFor u (Some g) block → group_at F block ≡ None → (group_to_fill u F ≡ Some g) × IsTakenBy u None
-some_fills (Range u) g block F h none = absurd (some_is g h)
-  where
-    some_is : (g : ℕ) → Some g ≡ None → ⊥
-    some_is g e = cc
+some_fills (Range u) g block F h none = absurd (none-some g (sym h))
 some_fills (Link u) g block F h none = (ap (λ b. unless_linked (group_at F b) u.group) h.1 ∙ ap (λ o. unless_linked o u.group) none ∙ sym h.0, inr (refl, h.2))
-some_fills (Unlink u) g block F h none = absurd (some_is g h)
-  where
-    some_is : (g : ℕ) → Some g ≡ None → ⊥
-    some_is g e = cc
-some_fills (Flush u) g block F h none = absurd (some_is g h)
-  where
-    some_is : (g : ℕ) → Some g ≡ None → ⊥
-    some_is g e = cc
+some_fills (Unlink u) g block F h none = absurd (none-some g (sym h))
+some_fills (Flush u) g block F h none = absurd (none-some g (sym h))
 
 -- as many groups are linked as there are deep blocks
 pub linked_resting : (f s : ℕ) (c : InitialState) (steps : List WriterStep) (config : Config) (rules : RuleList) (pool : GroupPool) (begun : ℕ) → IsResting f s c steps config rules pool begun
@@ -78,9 +67,6 @@ has_tokens t config S b off k = (
     | inr past ↦ absurd (truth b off (k.1 (inr past)))
   ],
 )
-  where
-    truth : (b : Bool) → b ≡ false → IsTrue b → ⊥
-    truth b p q = cc
 
 -- ---- after checks alone
 

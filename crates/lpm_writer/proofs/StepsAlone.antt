@@ -10,7 +10,7 @@ use Rattle.lpm_groups.specs.States.{free_count}
 use Rattle.lpm_limits.specs.declared.busy.Busy.{Busy}
 use Rattle.lpm_limits.specs.declared.config.Config.{Config}
 use Rattle.lpm_update.specs.declared.Did.{Did}
-use Rattle.lpm_update.specs.declared.Did.TheVariants.{First, Second, Unlinked, Done}
+use Rattle.lpm_update.specs.declared.Did.TheVariants.{First, Second, Unlinked}
 use Rattle.lpm_update.specs.declared.update.Plan.{Plan}
 use Rattle.lpm_update.specs.Linked.{IsTable}
 use Rattle.lpm_update.specs.Laws.{IsSameWord}
@@ -46,11 +46,7 @@ IsStoreOf step did = (e : WriterStep) → StoreSameWord step e → IsSameWord (s
 
 same_first : (i x : ℕ) (did : Did) → ((k : ℕ) → k ≡ i → IsSameWord (First k) did) → IsStoreOf (StoreFirst i x) did
 same_first i x did is (StoreFirst k y) h = is k (sym h)
-same_first i x did is (StoreSecond k y) h = absurd h
-same_first i x did is (BeginUpdate change) h = absurd h
-same_first i x did is EndUpdate h = absurd h
-same_first i x did is BumpToken h = absurd h
-same_first i x did is (LoadCounter t w k) h = absurd h
+same_first i x did is e h = absurd h
 
 pub store_first : (i x : ℕ) → IsStoreOf (StoreFirst i x) (First i)
 store_first i x = same_first i x (First i) (λ k e. e)
@@ -59,12 +55,8 @@ pub store_unlink : (i x g : ℕ) → IsStoreOf (StoreFirst i x) (Unlinked i g)
 store_unlink i x g = same_first i x (Unlinked i g) (λ k e. e)
 
 pub store_second : (j x : ℕ) → IsStoreOf (StoreSecond j x) (Second j)
-store_second j x (StoreFirst k y) h = absurd h
 store_second j x (StoreSecond k y) h = sym h
-store_second j x (BeginUpdate change) h = absurd h
-store_second j x EndUpdate h = absurd h
-store_second j x BumpToken h = absurd h
-store_second j x (LoadCounter t w k) h = absurd h
+store_second j x e h = absurd h
 
 module _ (f s : ℕ) (v v' : Plan) (t t' : Words) (did : Did) (table : IsTable f s t) (under : IsUnderWay f s v t) (st : Steps f s v t did v' t')
     (steps : List WriterStep) (passed : HasPassedStores s v t.firsts steps) where
@@ -187,10 +179,7 @@ more_stores x y z s store h is =
 is_store : (w : TableState) (s : WriterStep) → UnlinksNone w s → IsStore s
 is_store w (StoreFirst i x) h = tt
 is_store w (StoreSecond j x) h = tt
-is_store w (BeginUpdate change) h = absurd h
-is_store w EndUpdate h = absurd h
-is_store w BumpToken h = absurd h
-is_store w (LoadCounter token worker counter) h = absurd h
+is_store w s h = absurd h
 
 module _ (M : Type 0) (does : M → WriterStep → M → Type 0) (c : InitialState) where
   same : (x z : Traced M) → z ≡ x → z.1 ≡ x.1

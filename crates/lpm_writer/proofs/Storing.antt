@@ -39,8 +39,8 @@ use Rattle.lpm_writer.specs.Waiting.{AreWaiting}
 use Rattle.lpm_writer.specs.Matching.{AreAfter, AreRising, AreRetired, AreBelow, IsAmong, GroupsMatchState, HasUnlinked, HasNothingDue, SameTables, GroupsMatchSteps}
 use Rattle.lpm_writer.specs.Steps.{since_opened}
 use Rattle.lpm_writer.specs.Making.{group_to_fill, unless_linked, IsTakenBy, HasPassedStore, HasPassedStores, IsMaking, answer_after}
-use Rattle.lpm_writer.proofs.LimboItems.{absent_other, linked_limbo}
-use Rattle.lpm_writer.proofs.Reclaims.{kept_quiet}
+use Rattle.lpm_writer.proofs.LimboItems.{absent_other, free_limbo, free_linked, linked_limbo}
+use Rattle.lpm_writer.proofs.Reclaims.{kept_quiet, linked_not_retired}
 use Rattle.lpm_writer.proofs.NextStores.{none_some, filling_same, second_kind, IsFirstKind, turned_on}
 use Rattle.lpm_writer.proofs.StepsAlone.{IsStoreOf, StoresNothing, passed_on, new_word}
 
@@ -84,9 +84,6 @@ pub taken_unlink : (f s : ℕ) (u v : Plan) (T : Words) (b g w : ℕ) (taken : O
 taken_unlink f s u v T b g w taken = by_kind (λ x y. IsNextUnlink f s x T b g w → IsTakenBy x taken → IsTakenBy y taken)
     (λ x y o n h. absurd n) (λ x y o n h. absurd n) (λ x y o n h. h) (λ x y o n h. h) u v
 
-same_number : (o : Option ℕ) (g h : ℕ) → o ≡ Some g → o ≡ Some h → g ≡ h
-same_number o g h p q = cc
-
 -- a change that has nothing left to store has linked the group that it filled
 pub over_filling : (f s : ℕ) (v : Plan) (T : Words) (L : ℕ → Option ℕ) → IsUnderWay f s v T → IsOver f s v → HasGroups f s v T.firsts L → group_to_fill v T.firsts ≡ None
 over_filling f s (Range u) T L k over groups = refl
@@ -117,7 +114,7 @@ taken_second f s u v T j w old taken = by_kind (λ x y. IsUnderWay f s x T → I
         → ((group_to_fill (Link x) T.firsts ≡ None) × (taken ≡ old)) ⊎ ((g : ℕ) × (group_to_fill (Link x) T.firsts ≡ Some g) × (taken ≡ Some g)) → taken ≡ Some y.group
     filled x y e none (inl h) = absurd (none_some (group_to_fill (Link x) T.firsts) x.group h.0 (ap (λ o. unless_linked o x.group) none))
     filled x y e none (inr h) =
-        let g : h.0 ≡ x.group = same_number (group_to_fill (Link x) T.firsts) h.0 x.group h.1 (ap (λ o. unless_linked o x.group) none) in
+        let g : h.0 ≡ x.group = same_Some h.0 x.group (sym h.1 ∙ ap (λ o. unless_linked o x.group) none) in
         h.2 ∙ ap Some (g ∙ sym e)
 
 taken_free : (c : InitialState) (p g : ℕ) (taken : Option ℕ) (s : Status) → IsFree c p s → taken_with taken g s ≡ Some g
@@ -140,9 +137,6 @@ linked_last (Group g) i G h = absurd h
 retired_apart : (G : ℕ → Status) (g : ℕ) (s : Status) (token : ℕ) (items : List (ℕ × ℕ)) → IsAbsent g items → AreRetired G token items → AreRetired (with_at G g s) token items
 retired_apart G g s token [] apart h = tt
 retired_apart G g s token (item ∷ items) apart h = (with_at-other G g s item.0 apart.0 ∙ h.0, h.1, retired_apart G g s token items apart.1 h.2)
-
-pub linked_not_retired : (b t : ℕ) → Linked b ≡ Retired t → ⊥
-linked_not_retired b t e = cc
 
 pub retired_token : (t u : ℕ) → Retired t ≡ Retired u → u ≡ t
 retired_token t u e = cc
@@ -210,7 +204,7 @@ module _ (c : InitialState) (steps : List WriterStep) (states : List GroupState)
           free = λ h free. subst (IsFree c w.passed) (sym (off h (free_other h free))) (keeps.kept.free h free);
           linked = λ h b link _. elim (cases_eq h g) [
             | inl q ↦ ap z.groups q ∙ at ∙ ap Linked (sym (only b (subst (λ y. IsLinkedTo states y b) q link)))
-            | inr ne ↦ off h ne ∙ keeps.kept.linked h b link (λ q. ne (same_number (group_to_fill v w.words.firsts) h g q fill))
+            | inr ne ↦ off h ne ∙ keeps.kept.linked h b link (λ q. ne (same_Some h g (sym q ∙ fill)))
           ];
           taken = λ h q. absurd cc;
           rising = keeps.kept.rising;
@@ -223,11 +217,8 @@ module _ (c : InitialState) (steps : List WriterStep) (states : List GroupState)
         remembers = keeps.remembers;
       }
     where
-      free_linked : (y : Option GroupState) → y ≡ Some (LinkedTo i) → y ≡ Some Free → ⊥
-      free_linked y p q = cc
-
       free_other : (h : ℕ) → IsFreeAt states h → h ≢ g
-      free_other h free q = free_linked (slice_get states g) here (ap (slice_get states) (sym q) ∙ free)
+      free_other h free q = free_linked (slice_get states g) i (ap (slice_get states) (sym q) ∙ free) here
 
   pub keeps_first : (i x : ℕ) → IsFirstKind v (state_after c steps).words i x → (first : ℕ) → IsTied first states (group_held v (state_after c steps).words.firsts) → i < 2 ^ first → AreWaiting states items
       → GroupsMatchSteps c (StoreFirst i x ∷ steps) states items passed None
@@ -263,11 +254,11 @@ has_unlinked c steps pool v b g x keeps idle link last none here waits =
       awaited = idle.awaited;
       kept = record {
         free = λ h free. elim (cases_eq h g) [
-          | inl q ↦ absurd (limbo_not (slice_get (slice_set states g Limbo) g) Free limbo_free limbo (ap (slice_get (slice_set states g Limbo)) (sym q) ∙ free))
+          | inl q ↦ absurd (limbo_not (slice_get (slice_set states g Limbo) g) Free (λ e. free_limbo (sym e)) limbo (ap (slice_get (slice_set states g Limbo)) (sym q) ∙ free))
           | inr ne ↦ subst (IsFree c w.passed) (sym (off h ne)) (keeps.kept.free h (sym (slice_get-set_other states g h Limbo ne) ∙ free))
         ];
         linked = λ h k to _. elim (cases_eq h g) [
-          | inl q ↦ absurd (limbo_not (slice_get (slice_set states g Limbo) g) (LinkedTo k) (limbo_linked k) limbo (ap (slice_get (slice_set states g Limbo)) (sym q) ∙ to))
+          | inl q ↦ absurd (limbo_not (slice_get (slice_set states g Limbo) g) (LinkedTo k) (λ e. linked_limbo k (sym e)) limbo (ap (slice_get (slice_set states g Limbo)) (sym q) ∙ to))
           | inr ne ↦ off h ne ∙ keeps.kept.linked h k (sym (slice_get-set_other states g h Limbo ne) ∙ to) (none_some (group_to_fill v w.words.firsts) h none)
         ];
         taken = λ h q. absurd cc;
@@ -286,12 +277,6 @@ has_unlinked c steps pool v b g x keeps idle link last none here waits =
       remembers = keeps.remembers;
       started = below_retired w.groups w.token items keeps.kept.retired;
     }
-  where
-    limbo_free : Limbo ≡ Free → ⊥
-    limbo_free e = cc
-
-    limbo_linked : (k : ℕ) → Limbo ≡ LinkedTo k → ⊥
-    limbo_linked k e = cc
 
 -- ---- the update that runs, after a store
 

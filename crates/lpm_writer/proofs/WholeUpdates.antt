@@ -64,7 +64,7 @@ even_same n e = omega (arith, e)
 not_next : (n : ℕ) → n % 2 ≡ 0 → n / 2 ≢ suc ((n + 1) / 2)
 not_next n e h = omega (arith, e, h)
 
-truth : (b : Bool) → b ≡ false → b ≡ true → ⊥
+pub truth : (b : Bool) → b ≡ false → b ≡ true → ⊥
 truth b p q = cc
 
 -- ---- the step that opens the update

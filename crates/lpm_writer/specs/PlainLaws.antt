@@ -3,7 +3,7 @@ use Rattle.std.proofs.Common.{ℕ, ◌≡◌, ◌+◌, List, ◌∷◌, length, 
 use Rattle.lpm_cells.specs.Words.{Words, IsFirstWord, with_first, with_second, IsLastWord}
 use Rattle.qsbr.specs.Counters.{Registry}
 use Rattle.lpm_trace.specs.declared.step.WriterStep.{WriterStep}
-use Rattle.lpm_trace.specs.declared.step.WriterStep.TheVariants.{StoreFirst, StoreSecond, BeginUpdate, EndUpdate, BumpToken, LoadCounter}
+use Rattle.lpm_trace.specs.declared.step.WriterStep.TheVariants.{StoreFirst, StoreSecond, BumpToken}
 use Rattle.lpm_trace.specs.States.{InitialState, state_after}
 use Rattle.lpm_trace.specs.Writer.{MayStep}
 use Rattle.lpm_writer.specs.Plain.{PlainDid, PlainDoes, words_by, reports_by}
@@ -12,27 +12,16 @@ words_written : (c : InitialState) (t : Words) (s : WriterStep) (steps : List Wr
     → t ≡ (state_after c steps).words → words_by t s ≡ (state_after c (s ∷ steps)).words
 words_written c t (StoreFirst i x) steps e = ap (λ y. with_first y i x) e
 words_written c t (StoreSecond j x) steps e = ap (λ y. with_second y j x) e
-words_written c t (BeginUpdate change) steps e = e
-words_written c t EndUpdate steps e = e
-words_written c t BumpToken steps e = e
-words_written c t (LoadCounter token worker counter) steps e = e
+words_written c t s steps e = e
 
 token_written : (c : InitialState) (r : Registry) (s : WriterStep) (steps : List WriterStep)
     → r.token ≡ (state_after c steps).token → (reports_by r s).token ≡ (state_after c (s ∷ steps)).token
-token_written c r (StoreFirst i x) steps e = e
-token_written c r (StoreSecond j x) steps e = e
-token_written c r (BeginUpdate change) steps e = e
-token_written c r EndUpdate steps e = e
 token_written c r BumpToken steps e = rw add-one (ap suc e)
-token_written c r (LoadCounter token worker counter) steps e = e
+token_written c r s steps e = e
 
 counters_stay : (r : Registry) (s : WriterStep) → (reports_by r s).counters ≡ r.counters
-counters_stay r (StoreFirst i x) = refl
-counters_stay r (StoreSecond j x) = refl
-counters_stay r (BeginUpdate change) = refl
-counters_stay r EndUpdate = refl
 counters_stay r BumpToken = refl
-counters_stay r (LoadCounter token worker counter) = refl
+counters_stay r s = refl
 
 pub plain_follows : (first second : ℕ) (t : Words) (r : Registry) (t' : Words) (r' : Registry)
     (c : InitialState) (s : WriterStep) (steps : List WriterStep)

@@ -1,4 +1,4 @@
-use Rattle.std.proofs.Common.{arith, ◌≡◌, ◌+◌, ◌^◌, ◌<◌, inl, lit<, refl, sym, ap, subst, ◌∙◌, List, length, rules}
+use Rattle.std.proofs.Common.{◌+◌, ◌^◌, ◌<◌, inl, lit<, sym, ap, subst, ◌∙◌, List, length, rules}
 use Rattle.std.specs.Prelude.{IsSome, IsTrue, ◌↔◌, ◌/◌, Ok, Err}
 use Rattle.std.proofs.lemmas.Nat.{shr_below}
 use Rattle.lpm_bits.specs.Network.{IsNetwork}
