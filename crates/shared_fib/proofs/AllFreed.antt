@@ -58,9 +58,6 @@ module _ (x z : State Registry) (max : ℕ) (r : Reclaimed) (workers : ℕ) (off
   pub readers_stay : z.readers ≡ x.readers
   readers_stay = ended.0 ∙ same_readers
 
-  pub rules_stay : z.rules ≡ x.rules
-  rules_stay = ap (λ (y : State Registry). y.rules) frees.1
-
   pub none_waits : z.limbo ≡ []
   none_waits = taken.rest ∙ drop_all r.freed x.limbo (freed_all ended.1)
 

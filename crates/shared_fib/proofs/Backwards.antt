@@ -1,5 +1,5 @@
 -- No pass goes back in versions.
-use Rattle.std.proofs.Common.{ℕ, ◌≡◌, ◌≤◌, inl, inr, ap, sym, subst, ◌∙◌, All, List, [], ◌∷◌, ◌++◌, length, slice_get, Some, refl, arith, length-append}
+use Rattle.std.proofs.Common.{ℕ, ◌≡◌, ◌≤◌, inl, inr, ap, sym, subst, ◌∙◌, All, List, [], ◌∷◌, ◌++◌, length, slice_get, Some, arith}
 use Rattle.std.proofs.lemmas.Option.{slice_get_within, get_or_from_slice_get}
 use Rattle.lpm_rules.specs.RuleMap.{RuleMap}
 use Rattle.lpm_trace.specs.declared.step.WriterStep.{WriterStep}
@@ -9,7 +9,7 @@ use Rattle.lpm_trace.specs.States.{InitialState, TableState, IsAnswer, updates_d
 use Rattle.lpm_trace.specs.Writer.{IsWritten}
 use Rattle.lpm_trace.specs.Trace.{Seen}
 use Rattle.lpm_trace.specs.Laws.{IsLegalAtPlace}
-use Rattle.lpm_trace.proofs.Traces.{oldest_all, oldest_old, at_now, history_at}
+use Rattle.lpm_trace.proofs.Traces.{oldest_all, at_now, history_at}
 use Rattle.lpm_trace.proofs.Promises.{versions_never_fall_at_places}
 use Rattle.shared_words.specs.Rule.{IsLater}
 use Rattle.shared_words.specs.Deeds.{firsts_at, loads_at, seconds_at}
@@ -17,18 +17,11 @@ use Rattle.shared_words.proofs.Deeds.{later_longer}
 use Rattle.shared_fib.specs.Running.{Identity, WriterState, IsAtRest, initial_state, steps_of}
 use Rattle.shared_fib.specs.Versions.{updates_begun, updates_done}
 use Rattle.shared_fib.specs.Passes.{PassState, IsHistory}
-use Rattle.shared_fib.proofs.Versions.{counts}
+use Rattle.shared_fib.proofs.Versions.{counts, oldest_before}
 use Rattle.shared_fib.proofs.Lookups.{all_last}
 use Rattle.shared_fib.specs.Laws.{IsOfVersion, AreInOrder, VersionsStay, LookupsNeverGoBack, LookupsCountVersions}
 
 -- ---- steps that were there before others
-
-oldest_before : (new before : List WriterStep) (place : ℕ) → place ≤ length before
-    → oldest place (new ++ before) ≡ oldest place before
-oldest_before [] before place low = refl
-oldest_before (s ∷ new) before place low =
-    oldest_old s (new ++ before) place (omega (arith, low, length-append new before))
-    ∙ oldest_before new before place low
 
 module _ (c : InitialState) (before after : List WriterStep) (later : IsLater before after) where
   at_before : (place : ℕ) → place ≤ length before → state_at c after place ≡ state_at c before place

@@ -15,7 +15,7 @@ use Rattle.shared_words.proofs.Laying.{lays_opening}
 use Rattle.shared_fib.specs.Initial.{ArePacked, initial_data_by, initial_data_of_words, unpacked_words, block_of}
 use Rattle.std.specs.Prelude.{option_map}
 use Rattle.std.specs.FinMap.{empty}
-use Rattle.std.proofs.lemmas.Option.{slice_get-map}
+use Rattle.std.proofs.lemmas.Option.{none-some, slice_get-map}
 use Rattle.atomic_table.specs.Seated.{TableId}
 use Rattle.lpm_groups.specs.declared.GroupState.TheVariants.{Free, Linked as LinkedTo, Limbo}
 use Rattle.lpm_limits.specs.declared.config.Config.{Config}
@@ -35,7 +35,7 @@ use Rattle.shared_words.specs.Seats.{IsOf, WordsAt}
 use Rattle.shared_fib.specs.declared.initial_table.InitialTable.{InitialTable}
 use Rattle.shared_fib.specs.Loading.{IsLoaded}
 use Rattle.shared_fib.specs.Running.{Identity, WriterState, IsReady, initial_data_of, initial_writer}
-use Rattle.shared_fib.proofs.Live.{live_settled, live_rests, none_some}
+use Rattle.shared_fib.proofs.Live.{live_settled, live_rests}
 
 -- a list of n numbers is known by what stands at each place
 listed : (f : ℕ → ℕ) (n : ℕ) (xs : List ℕ) → n ≡ length xs → ((i : ℕ) → i < n → f i ≡ slice_index xs i)
@@ -115,9 +115,6 @@ module _ (f s : ℕ) (control : ControlState f s) (memory : PlainMemory f s) whe
     workers = workers;
   }
 
-  token_within : (o : InitialData) → o ≡ loads → memory.domain.token ≤ 2 ^ 62 → o.token ≤ 2 ^ 62
-  token_within o is high = subst (λ (x : InitialData). x.token ≤ 2 ^ 62) (sym is) high
-
   module _ (sound : IsSound f s control memory) (none : control.pool.queue.items ≡ []) where
     represents : Represents f s control.rules.rules memory.cells
     represents = subst (Represents f s control.rules.rules) (sym sound.2.did.words) sound.2.rests.represents
@@ -160,15 +157,6 @@ module _ (f s : ℕ) (control : ControlState f s) (memory : PlainMemory f s) whe
     packs_loaded l rules groups low packed =
         subst (λ (o : InitialData). ArePacked o l.words.items l.layout) (sym (opens_loaded l rules groups low packed)) packed
 
-    loaded_settled : (o : InitialData) → o ≡ loads → 0 < memory.domain.token → IsSettled (initial_state_of o)
-    loaded_settled o is low = subst (λ (x : InitialData). IsSettled (initial_state_of x)) (sym is) (settled low)
-
-    loaded_rests : (o : InitialData) (z : ControlState f s) → o ≡ loads → z ≡ first_kept
-        → IsResting f s (initial_state_of o) [] z.config z.rules z.pool z.versions
-    loaded_rests o z is same =
-        subst (λ (y : ControlState f s). IsResting f s (initial_state_of o) [] y.config y.rules y.pool y.versions) (sym same)
-        (subst (λ (x : InitialData). IsResting f s (initial_state_of x) [] control.config control.rules first_kept.pool 0) (sym is) rests)
-
     -- a running table may go on from it
     pub loaded_is : (config : Config) (queue : Queue) (l : InitialTable f s) → config ≡ control.config → queue ≡ control.pool.queue
         → l.rules ≡ control.rules → l.groups ≡ control.pool.groups → 0 < memory.domain.token
@@ -178,12 +166,11 @@ module _ (f s : ℕ) (control : ControlState f s) (memory : PlainMemory f s) whe
         record {
           shape = sound.2.rests.shape;
           packed = packs_loaded l rules groups low packed;
-          settled = loaded_settled (initial_data_of f s l) is low;
-          token = token_within (initial_data_of f s l) is high;
+          settled = subst (λ (x : InitialData). IsSettled (initial_state_of x)) (sym is) (settled low);
+          token = subst (λ (x : InitialData). x.token ≤ 2 ^ 62) (sym is) high;
           none = ap (λ (q : Queue). q.items) waits ∙ none;
-          rests = loaded_rests (initial_data_of f s l)
-              (record { config = config; rules = l.rules; pool = record { groups = l.groups; queue = queue; passed = 0 }; versions = 0 })
-              is (kept_by config queue l same waits rules groups);
+          rests = subst (λ (z : InitialData × ControlState f s). IsResting f s (initial_state_of z.0) [] z.1.config z.1.rules z.1.pool z.1.versions)
+              (λ i. (sym is i, sym (kept_by config queue l same waits rules groups) i)) rests;
         }
 
 -- ---- the table, and its writer once all passes are made
@@ -255,4 +242,4 @@ opens_blank f s config control memory did rests same none = λ i. record {
   where
     unused : (g : ℕ) → status_of (slice_get (map block_of control.pool.groups) g) ≡ Unused
     unused g = ap status_of (slice_get-map block_of control.pool.groups g)
-        ∙ no_block (slice_get control.pool.groups g) (λ b at. no_link b (rests.keeps.kept.linked g b at (λ e. none_some g e)))
+        ∙ no_block (slice_get control.pool.groups g) (λ b at. no_link b (rests.keeps.kept.linked g b at (λ e. none-some g e)))

@@ -26,6 +26,7 @@ use Rattle.atomic_table.specs.Seated.{TableId}
 use Rattle.lpm_trace.specs.States.{InitialState}
 use Rattle.lpm_writer.specs.declared.control.ControlState.{ControlState}
 use Rattle.lpm_writer.specs.Resting.{IsResting, state_of}
+use Rattle.lpm_writer.specs.Commands.{Commands}
 use Rattle.lpm_writer.specs.Taking.{LinksLeast}
 use Rattle.lpm_writer.specs.Traced.{Traced, by_writer}
 use Rattle.lpm_writer.proofs.StepsAlone.{adds_alone, deletes_alone, flushes_alone, frees_alone}
@@ -199,18 +200,6 @@ told_to Outcome freed w x y id is own led =
     subst (λ (i : Identity). Leads Outcome freed i.initial x y) own
     (subst (λ (u : WriterState). Leads Outcome freed u.identity.initial u y) is led)
 
--- what a call of the writer's engine tells: whichever steps led to the memory m, after which the control state `old`
--- rests, there are later ones that led to z, after which `new` rests, and this holds of both
-abbrev Tells : (f s : ℕ) → ControlState f s → ControlState f s → Lent → Lent
-    → (InitialState → Traced Lent → Traced Lent → Type 0) → Type 0
-Tells f s old new m z K = (c : InitialState) (steps : List WriterStep) → SharedDid m c steps
-    → IsResting f s c steps old.config old.rules old.pool old.versions
-    → (later : List WriterStep) × SharedDid z c later
-    × IsResting f s c later new.config new.rules new.pool new.versions × K c (m, steps) (z, later)
-
-abbrev traced_by : {f s : ℕ} → ControlState f s → Traced Lent → State (Traced Lent)
-traced_by control x = state_of control.rules.rules x control.pool control.versions
-
 -- The seat, which knew v, was lent to the memory m, after whose steps the control state `old` rested. A command has led from
 -- there to the control state `new` and the memory z.
 module _ (f s : ℕ) (old new : ControlState f s) (v : View) (m z : Lent) (first : SharedDid m (initial_state_of v.initial) v.seen)
@@ -230,6 +219,12 @@ module _ (f s : ℕ) (old new : ControlState f s) (v : View) (m z : Lent) (first
       pub name : z.name ≡ m.name
       pub at_seat : (t' : TableId) (w : View) → z.table ≡ t' → z.view ≡ w
           → IsReady f s new w × Leads K freed v.initial before (writer_by t' new w)
+
+    abbrev before_traced : State (Traced Lent)
+    before_traced = state_of old.rules.rules (m, v.seen) old.pool old.versions
+
+    abbrev after_traced : List WriterStep → State (Traced Lent)
+    after_traced later = state_of new.rules.rules (z, later) new.pool new.versions
 
     abbrev same : Kept
     same = (m.name, (t, unseeing v))
@@ -280,7 +275,7 @@ module _ (f s : ℕ) (old new : ControlState f s) (v : View) (m z : Lent) (first
       }
 
     pub added : (p : Network) (hop : ℕ) (r : Result Put Refusal)
-        → Tells f s old new m z (λ c x z. Adds (by_writer does_in c) f s old.config (traced_by old x) p hop r (traced_by new z))
+        → Commands SharedDid old m new z (λ c x z. Adds (by_writer does_in c) f s old.config x p hop r z)
         → LinksLeast old.pool.groups new.pool.groups
         → (freed : List ℕ) × Came (λ o x y. Adds (by_steps o) f s x.config x.table p hop r y.table × TakesLeast o x.table y.table)
         (λ _. freed)
@@ -288,8 +283,8 @@ module _ (f s : ℕ) (old new : ControlState f s) (v : View) (m z : Lent) (first
     added p hop r told links =
         let h = told c v.seen first rested in
         let z_table = (then h.0 h.1 h.2).table in
-        let alone = adds_alone Lent does_in c Kept kept stays same f s old.config (traced_by old (m, v.seen))
-        (traced_by new (z, h.0)) same_at_first p hop r h.3 in
+        let alone = adds_alone Lent does_in c Kept kept stays same f s old.config before_traced
+        (after_traced h.0) same_at_first p hop r h.3 in
         let left = adds_leave c f s old.config before.table p hop r z_table alone.0 in
         let least = takes_least f s v.initial v.seen h.0 old.config new.config old.rules new.rules old.pool new.pool
         old.versions new.versions rested h.2 links in (
@@ -299,14 +294,14 @@ module _ (f s : ℕ) (old new : ControlState f s) (v : View) (m z : Lent) (first
         )
 
     pub deleted : (p : Network) (r : Result ℕ Refusal)
-        → Tells f s old new m z (λ c x z. Deletes (by_writer does_in c) f s old.config (traced_by old x) p r (traced_by new z))
+        → Commands SharedDid old m new z (λ c x z. Deletes (by_writer does_in c) f s old.config x p r z)
         → (freed : List ℕ) × Came (λ o x y. Deletes (by_steps o) f s x.config x.table p r y.table) (λ _. freed)
     unfolding by_steps
     deleted p r told =
         let h = told c v.seen first rested in
         let z_table = (then h.0 h.1 h.2).table in
-        let alone = deletes_alone Lent does_in c Kept kept stays same f s old.config (traced_by old (m, v.seen))
-        (traced_by new (z, h.0)) same_at_first p r h.3 in
+        let alone = deletes_alone Lent does_in c Kept kept stays same f s old.config before_traced
+        (after_traced h.0) same_at_first p r h.3 in
         let left = deletes_leave c f s old.config before.table p r z_table alone.0 in (
           left.1,
           came h.0 h.1 h.2 _ (λ _. left.1) left.0 alone.0 alone.1
@@ -314,14 +309,14 @@ module _ (f s : ℕ) (old new : ControlState f s) (v : View) (m z : Lent) (first
         )
 
     pub flushed : (r : Result ℕ Refusal)
-        → Tells f s old new m z (λ c x z. Flushes (by_writer does_in c) f s old.config (traced_by old x) r (traced_by new z))
+        → Commands SharedDid old m new z (λ c x z. Flushes (by_writer does_in c) f s old.config x r z)
         → (freed : List ℕ) × Came (λ o x y. Flushes (by_steps o) f s x.config x.table r y.table) (λ _. freed)
     unfolding by_steps
     flushed r told =
         let h = told c v.seen first rested in
         let z_table = (then h.0 h.1 h.2).table in
-        let alone = flushes_alone Lent does_in c Kept kept stays same f s old.config (traced_by old (m, v.seen))
-        (traced_by new (z, h.0)) same_at_first r h.3 in
+        let alone = flushes_alone Lent does_in c Kept kept stays same f s old.config before_traced
+        (after_traced h.0) same_at_first r h.3 in
         let left = flushes_leave c f s old.config before.table r z_table alone.0 in (
           left.1,
           came h.0 h.1 h.2 _ (λ _. left.1) left.0 alone.0 alone.1
@@ -329,14 +324,14 @@ module _ (f s : ℕ) (old new : ControlState f s) (v : View) (m z : Lent) (first
         )
 
     pub freed : (max : ℕ) (r : Reclaimed)
-        → Tells f s old new m z (λ c x z. Frees (by_writer does_in c) (traced_by old x) max r (traced_by new z))
+        → Commands SharedDid old m new z (λ c x z. Frees (by_writer does_in c) x max r z)
         → Came (λ o x y. Frees (by_steps o) x.table max r y.table) (λ x. take r.freed x.table.limbo)
     unfolding by_steps
     freed max r told =
         let h = told c v.seen first rested in
         let z_table = (then h.0 h.1 h.2).table in
-        let alone = frees_alone Lent does_in c Kept kept stays same f s old.config (traced_by old (m, v.seen))
-        (traced_by new (z, h.0)) same_at_first max r h.3 in
+        let alone = frees_alone Lent does_in c Kept kept stays same f s old.config before_traced
+        (after_traced h.0) same_at_first max r h.3 in
         came h.0 h.1 h.2 _ (λ x. take r.freed x.table.limbo) 0 alone.0 alone.1
         (frees_later _ (steps_go_on c.workers c.token) before.table z_table max r alone.0)
         (reclaims_leave c v.seen h.0 max before.table.limbo r.freed r.stopped z_table.limbo alone.0.0)

@@ -14,24 +14,16 @@ use Rattle.lpm_rules.specs.RuleMap.{RuleMap}
 use Rattle.lpm_update.specs.Linked.{group_at}
 use Rattle.lpm_update.specs.Represents.{Represents}
 use Rattle.lpm_update.specs.Tied.{IsTied, HasGroupRoom}
-use Rattle.lpm_trace.specs.States.{Status, Unused, Linked as LinkedTo, Retired, IsSettled}
+use Rattle.lpm_trace.specs.States.{Status, Retired, IsSettled}
 use Rattle.lpm_writer.specs.Resting.{IsResting}
-use Rattle.lpm_writer.proofs.Opened.{status_at_first, begins_settled, begins_resting}
+use Rattle.lpm_writer.proofs.Reclaims.{linked_not_retired}
+use Rattle.lpm_writer.proofs.Opened.{status_at_first, unused_retired, begins_settled, begins_resting}
 use Rattle.shared_words.specs.Layout.{InitialData, status_of, initial_state_of}
 use Rattle.shared_fib.specs.Initial.{block_of, initial_data_by}
 
-pub none_some : (g : ℕ) → None ≡ Some g → ⊥
-none_some g e = cc
-
-linked_retired : (b t : ℕ) → LinkedTo b ≡ Retired t → ⊥
-linked_retired b t e = cc
-
-unused_retired : (t : ℕ) → Unused ≡ Retired t → ⊥
-unused_retired t e = cc
-
 -- no group of a new table was ever retired
 pub never_retired : (x : Option (Option ℕ)) (t : ℕ) → status_of x ≡ Retired t → ⊥
-never_retired (Some (Some block)) t e = linked_retired block t e
+never_retired (Some (Some block)) t e = linked_not_retired block t e
 never_retired (Some None) t e = unused_retired t e
 never_retired None t e = unused_retired t e
 

@@ -1,5 +1,5 @@
 -- The lookups that a pass has finished, told by its steps.
-use Rattle.std.proofs.Common.{ℕ, ◌≡◌, ◌≤◌, All, List, [], ◌∷◌, ◌++◌, length, Option, Some, None, ap, sym, subst, ◌∙◌, append_assoc, arith, ◌+◌, ◌-◌, take, drop, map, refl}
+use Rattle.std.proofs.Common.{ℕ, ◌≡◌, ◌≤◌, All, List, [], ◌∷◌, ◌++◌, length, Option, Some, None, ap, sym, subst, ◌∙◌, append_assoc, arith, ◌+◌, ◌-◌, take, drop, map}
 use Rattle.std.proofs.lemmas.List.Elements.{All-cons, All-head, All-nil, All-tail}
 use Rattle.lpm_cells.specs.declared.entry.Entry.{Entry}
 use Rattle.lpm_cells.specs.declared.entry.Entry.TheVariants.{Miss, Hop, Group}
@@ -11,7 +11,9 @@ use Rattle.lpm_trace.specs.States.{InitialState, TableState, done_at, begun_at, 
 use Rattle.lpm_trace.specs.Trace.{Seen, MayRead, read_first, second_read, with_answers, worker_by}
 use Rattle.lpm_trace.specs.Laws.{ArePlaced}
 use Rattle.lpm_trace.proofs.Traces.{at_now}
-use Rattle.shared_words.specs.Deeds.{Found, IsReadOn, loads_at, seen_of, second_load}
+use Rattle.shared_words.specs.Deeds.{Found, IsReadOn, loads_at, seen_of}
+use Rattle.shared_words.proofs.Together.{both_loads}
+use Rattle.std.proofs.lemmas.Option.{none-some, same_Some}
 use Rattle.shared_fib.specs.Running.{initial_state, hop_or}
 use Rattle.shared_fib.specs.Passes.{PassState, IsHistory, LooksUp, LooksUpAll, Makes, IsAnswered}
 use Rattle.shared_fib.proofs.Versions.{counts, written_then}
@@ -20,15 +22,6 @@ use Rattle.std.specs.Prelude.{min, max}
 use Rattle.shared_fib.specs.Bursts.{LooksUpBurst}
 
 -- ---- what a lookup's loads finish
-
-none_some : {A : Type 0} (x : A) → None ≡ Some x → ⊥
-none_some x e = cc
-
-some_none : {A : Type 0} (x : A) → Some x ≡ None → ⊥
-some_none x e = cc
-
-same_load : (x y : ℕ × ℕ) → Some x ≡ Some y → x ≡ y
-same_load x y e = cc
 
 module _ (lo hi addr word first : ℕ) (hop : Option ℕ) (old : List Seen) where
   abbrev found : Option (ℕ × ℕ) → Found
@@ -41,15 +34,15 @@ module _ (lo hi addr word first : ℕ) (hop : Option ℕ) (old : List Seen) wher
       → with_answers lo hi (read_first first addr e ∷ []) old ≡ seen_of lo hi (found None) ∷ old
   one_load Miss exact = ap (finished None) (sym exact.1)
   one_load (Hop number depth) exact = ap (finished None) (sym exact.1)
-  one_load (Group group) exact = absurd (none_some exact.0 exact.1)
+  one_load (Group group) exact = absurd (none-some exact.0 exact.1)
 
   two_loads : (load : ℕ × ℕ) (e : Entry) → IsReadOn e (Some load) hop
       → with_answers lo hi (second_read load.1 (entry_in load.0) (read_first first addr e ∷ [])) old
       ≡ seen_of lo hi (found (Some load)) ∷ old
-  two_loads load Miss exact = absurd (some_none load exact.0)
-  two_loads load (Hop number depth) exact = absurd (some_none load exact.0)
+  two_loads load Miss exact = absurd (none-some load (sym exact.0))
+  two_loads load (Hop number depth) exact = absurd (none-some load (sym exact.0))
   two_loads load (Group group) exact =
-      let same : load ≡ exact.0 = same_load load exact.0 exact.1 in
+      let same : load ≡ exact.0 = same_Some load exact.0 exact.1 in
       ap (finished (Some load)) (ap (λ (x : ℕ × ℕ). hop_in (entry_in x.0)) same ∙ sym exact.2)
 
 module _ (addr low high word first begins ends : ℕ) (hop : Option ℕ) (steps : List (WorkerStep × ℕ)) where
@@ -100,9 +93,12 @@ all_front P [] ys all = All-nil P
 all_front P (x ∷ xs) ys all =
     All-cons P x xs (All-head P x (xs ++ ys) all) (all_front P xs ys (All-tail P x (xs ++ ys) all))
 
+pub all_back : {X : Type 0} (P : X → Type 0) (xs ys : List X) → All P (xs ++ ys) → All P ys
+all_back P [] ys all = all
+all_back P (x ∷ xs) ys all = all_back P xs ys (All-tail P x (xs ++ ys) all)
+
 pub all_last : {X : Type 0} (P : X → Type 0) (xs : List X) (x : X) → All P (xs ++ x ∷ []) → P x
-all_last P [] x all = All-head P x [] all
-all_last P (y ∷ xs) x all = all_last P xs x (All-tail P y (xs ++ x ∷ []) all)
+all_last P xs x all = All-head P x [] (all_back P xs (x ∷ []) all)
 
 first_load : (P : WorkerStep × ℕ → Type 0) (word first : ℕ) (second : Option (ℕ × ℕ)) → All P (loads_at word first second)
     → P (LoadFirst word, first)
@@ -137,11 +133,6 @@ one_more addrs piece hops found lo hi first last p r q burst this = record {
   steps = (r, burst.steps, this);
 }
 
-loads_same : (word first : ℕ) (second : Option (ℕ × ℕ))
-    → second_load second ++ (LoadFirst word, first) ∷ [] ≡ loads_at word first second
-loads_same word first None = refl
-loads_same word first (Some s) = refl
-
 -- a lookup of one address is one of a list of one address
 pub one_alone : (addr : ℕ) (hop : Option ℕ) (lo hi : ℕ) (p q : PassState)
     → LooksUp addr hop lo hi p q → LooksUpAll (addr ∷ []) (hop ∷ []) lo hi p q
@@ -151,7 +142,7 @@ one_alone addr hop lo hi p q h = record {
   found = h.found ∷ [];
   high = h.high;
   steps = subst (λ (loads : List (WorkerStep × ℕ)). Makes ((EndLookup h.high, length q.seen) ∷ (loads ++ (BeginLookup (addr ∷ []) h.low, h.begins) ∷ [])) p q)
-      (sym (loads_same h.found.word h.found.first h.found.second)) h.steps;
+      (sym (both_loads h.found.word h.found.first h.found.second)) h.steps;
   addrs_are = ap (λ (a : ℕ). a ∷ []) h.result.0;
   hops_are = ap (λ (x : Option ℕ). x ∷ []) h.result.1;
   done_then = h.done_then;

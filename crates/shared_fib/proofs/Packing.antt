@@ -7,7 +7,7 @@ use Rattle.std.proofs.lemmas.List.FromFn.{map-range_with_len_more, length-map-ra
 use Rattle.shared_words.specs.Layout.{pair_at, packed_words, pairs, half, first_at, sequence_at}
 use Rattle.std.proofs.lemmas.Bool.{cases_eq, cases_lt}
 use Rattle.lpm_sweep.specs.Swept.{Fills}
-use Rattle.shared_words.proofs.Laying.{half_even, half_odd, even_or_odd, packed_length}
+use Rattle.shared_words.proofs.Laying.{half_even, half_odd, low_half, high_half, even_or_odd, packed_at, packed_length}
 use Rattle.shared_fib.specs.Pairs.{ArePairs, unpacked_pairs}
 
 -- the first two of what is left from pair a on
@@ -95,18 +95,11 @@ grown n m ws zs w kept new =
           ∙ sym (get_or-append_right old more n i 0 many high ∙ get_or-replicate m (i - n) w 0 (omega (arith, high, inside, len)))
     ])
 
--- the two halves of a sum
-low_is : (k a b x : ℕ) → k % 2 ≡ 0 → a < 2 ^ 32 → x ≡ a + b * 2 ^ 32 → half k x ≡ a
-low_is k a b x even low is = let h = half_even k x even in omega (arith, h, low, is)
-
-high_is : (k a b x : ℕ) → k % 2 ≡ 1 → a < 2 ^ 32 → b < 2 ^ 32 → x ≡ a + b * 2 ^ 32 → half k x ≡ b
-high_is k a b x odd low high is = let h = half_odd k x odd in omega (arith, h, low, high, is)
-
 -- a word twice
 both_are : (k w x : ℕ) → w < 2 ^ 32 → x ≡ w + w * 2 ^ 32 → half k x ≡ w
 both_are k w x small is = elim (even_or_odd k) [
-  | inl even ↦ low_is k w w x even small is
-  | inr odd ↦ high_is k w w x odd small small is
+  | inl even ↦ low_half k w w x even small is
+  | inr odd ↦ high_half k w w x odd small small is
 ]
 
 -- ---- a word in the half that was left over
@@ -150,7 +143,7 @@ module _ (n : ℕ) (ws : List ℕ) (w at x : ℕ) (are : ArePairs n ws) (odd : n
     | inl here ↦
         let even : i % 2 ≡ 0 = omega (arith, here, there, lt, odd) in
         let old = half_even i (slice_index ws at) even in
-        let new : half i x ≡ slice_index ws at = low_is i (slice_index ws at) w x even before is in
+        let new : half i x ≡ slice_index ws at = low_half i (slice_index ws at) w x even before is in
         ap (λ (k : ℕ). half i (slice_index after k)) here ∙ ap (half i) stored ∙ new
         ∙ omega (arith, old, before) ∙ ap (λ (k : ℕ). half i (slice_index ws k)) (sym here)
     | inr other ↦ ap (half i) (away (first_at i) other)
@@ -160,7 +153,7 @@ module _ (n : ℕ) (ws : List ℕ) (w at x : ℕ) (are : ArePairs n ws) (odd : n
   high_put = grown n 1 ws after w kept
       (λ i from to. let here : i ≡ n = omega (arith, from, to) in
       ap (λ (k : ℕ). half k (slice_index after (first_at k))) here ∙ ap (λ (k : ℕ). half n (slice_index after k)) (sym there)
-      ∙ ap (half n) stored ∙ high_is n (slice_index ws at) w x odd before small is)
+      ∙ ap (half n) stored ∙ high_half n (slice_index ws at) w x odd before small is)
       ∙ ap (λ (m : ℕ). unpacked_pairs n ws ++ replicate m w) (sym odd)
 
 -- ---- words behind an even number of them
@@ -230,7 +223,7 @@ module _ (n w : ℕ) (ws : List ℕ) (are : ArePairs n ws) (even : n % 2 ≡ 0) 
   last_put = grown n 1 ws (ws ++ replicate 1 w) w (old_kept n ws (replicate 1 w) are even)
       (λ i from to. let here : i ≡ n = omega (arith, from, to) in
       let even' : i % 2 ≡ 0 = omega (arith, here, even) in
-      low_is i w 0 _ even' small (last_at (first_at i) (omega (arith, here)) ∙ omega arith))
+      low_half i w 0 _ even' small (last_at (first_at i) (omega (arith, here)) ∙ omega arith))
 
 -- ---- what a list was and what it became
 
@@ -319,11 +312,7 @@ module _ (n : ℕ) (ws : List ℕ) (are : ArePairs n ws) where
       let all : length (packed_words listed) ≡ pairs n = packed_length listed ∙ ap pairs (unpaired_length n ws) in
       ext_get_or 0 (drop 2 ws) (packed_words listed) (omega (arith, many, all, are.all))
       (λ k lt. two_halves k (2 + k) (slice_index (drop 2 ws) k) refl (get_or-drop 2 ws k 0) (omega (arith, lt, many, are.all))
-      ∙ sym (packed_is k (omega (arith, lt, many, are.all))))
-    where
-      packed_is : (k : ℕ) → k < pairs n → slice_index (packed_words listed) k ≡ pair_at listed k
-      packed_is k lt = get_or-map-range_with_len (pair_at listed) 0 (pairs (length listed)) k k 0
-          (omega (arith, lt, ap pairs (unpaired_length n ws))) (omega arith)
+      ∙ sym (packed_at listed k (omega (arith, lt, many, are.all, ap pairs (unpaired_length n ws)))))
 
   -- with a token in the second of them
   pub packed_whole : (token : ℕ) → slice_set ws 1 token ≡ 0 ∷ token ∷ packed_words listed

@@ -1,10 +1,8 @@
 -- What the start of a grace period and a check of its token leave.
-use Rattle.std.proofs.Common.{arith, ℕ, suc, ◌≡◌, ◌+◌, ◌<◌, ◌≤◌, ap, sym, ◌∙◌, List, [], ◌∷◌, Result, Ok, Err, ◌%◌, subst}
+use Rattle.std.proofs.Common.{arith, ℕ, ◌≡◌, ◌+◌, ◌<◌, ap, sym, ◌∙◌, List, [], Result, Ok, Err, ◌%◌, subst}
 use Rattle.std.specs.Prelude.{OnOk, OnErr}
-use Rattle.std.proofs.lemmas.List.Elements.{All-nil, All-cons, All-head}
 use Rattle.lpm_limits.specs.declared.busy.Busy.{Busy}
 use Rattle.lpm_trace.specs.declared.step.WriterStep.{WriterStep}
-use Rattle.lpm_trace.specs.declared.step.WriterStep.TheVariants.{BumpToken}
 use Rattle.lpm_trace.specs.States.{InitialState, state_after, begun_at, done_at}
 use Rattle.lpm_trace.specs.Writer.{token_after, IsWritten}
 use Rattle.lpm_trace.proofs.Versions.{token_is}
@@ -15,8 +13,8 @@ use Rattle.shared_words.specs.declared.view.View.{View}
 use Rattle.shared_words.specs.Layout.{InitialData, initial_state_of}
 use Rattle.shared_words.specs.Seats.{AreChecked}
 use Rattle.shared_fib.specs.Lent.{token_by, Lent, SharedDid, SharedDoes}
-use Rattle.shared_fib.specs.Running.{OnlySees, WriterState, steps_of, token_of, Identity, IsAtRest, initial_state}
-use Rattle.shared_fib.proofs.Checked.{each_checked, looked}
+use Rattle.shared_fib.specs.Running.{OnlySees, WriterState, Identity, IsAtRest, initial_state}
+use Rattle.shared_fib.proofs.Checked.{looked, token_checked}
 use Rattle.lpm_cells.specs.Words.{entry_at}
 use Rattle.lpm_limits.specs.declared.config.Config.{Config}
 use Rattle.lpm_rules.specs.RuleMap.{RuleList}
@@ -46,12 +44,6 @@ pub on_err_then : {X Y : Type 0} {A P : Type 0} (r : Result X Y) → OnErr r A �
 on_err_then (Ok x) a f = tt
 on_err_then (Err e) a f = f a
 
--- a token is started
-pub one_more_token : (x z : WriterState)
-    → z ≡ record x { table = record x.table { readers = BumpToken ∷ steps_of x } }
-    → token_of z ≡ token_of x + 1
-one_more_token x z same = ap (λ (y : WriterState). token_of y) same
-
 -- the newest token stays, whatever came of its check
 pub token_stays : (c : InitialState) (x z : List WriterStep) (r : Result (Unit {0}) Busy)
     → Checks c.workers x (token_after c.token x) r z
@@ -66,13 +58,8 @@ pub newest_passed : (o : InitialData) (x z : List WriterStep) (r : Result (Unit 
     → OnOk r (IsChecked o.workers o.token z (token_after o.token x))
 newest_passed o x z (Err busy) past are h = tt
 newest_passed o x z (Ok u) past are h =
-    let c : InitialState = initial_state_of o in
-    let t : ℕ = token_after o.token x in
-    let passed = steps_passed c x t z h in
-    All-head (IsChecked o.workers o.token z) t [] (each_checked o z (t ∷ [])
-    (All-cons (λ u. 0 < u) t [] past (All-nil (λ u. 0 < u)))
-    (λ some. All-cons (λ u. u ≤ (state_after c z).passed) t [] (passed.passed some) (All-nil (λ u. u ≤ (state_after c z).passed)))
-    are)
+    token_checked o z (token_after o.token x) past
+    (steps_passed (initial_state_of o) x (token_after o.token x) z h).passed are
 
 -- the same of a seat that made the check
 module _ (v w : View) (sees : OnlySees v w) (r : Result (Unit {0}) Busy)

@@ -2,10 +2,10 @@
 use Rattle.std.proofs.Common.{ℕ, ◌≡◌, ◌+◌, ◌<◌, inl, inr, refl, ap, sym, subst, ◌∙◌, arith, List, [], ◌∷◌, ◌++◌, length, get_or, slice_get, Option, Some, None, zero, suc, ◌≤◌, Result}
 use Rattle.std.proofs.lemmas.Bool.{cases_lt}
 use Rattle.std.proofs.lemmas.List.{get_or_append_left, get_or_at, length-set}
-use Rattle.std.proofs.lemmas.Option.{slice_get_within, slice_get-get_or, slice_get_read}
+use Rattle.std.proofs.lemmas.Option.{none-some, same_Some, slice_get_within, slice_get-get_or, slice_get_read}
 use Rattle.atomic_table.specs.Seated.{TableId}
 use Rattle.shared_words.specs.declared.view.View.{View}
-use Rattle.std.specs.Prelude.{false, ◌⊎◌, slice_set, unwrap_or, slice_index_or, ◌↔◌, IfOk, IsErrOf, OnErr}
+use Rattle.std.specs.Prelude.{false, ◌⊎◌, slice_set, slice_index_or, ◌↔◌, IfOk, IsErrOf, OnErr}
 use Rattle.shared_fib.specs.Running.{Identity, WriterState, initial_writer}
 use Rattle.shared_fib.specs.Passes.{PassState, IsPassOf, IsFullBench, IsBenchOf, IsPutBack, OwnerState, Registers}
 use Rattle.lpm_limits.specs.declared.refusal.Refusal.{Refusal}
@@ -13,9 +13,6 @@ use Rattle.lpm_limits.specs.declared.refusal.Refusal.TheVariants.{NoSuchWorker, 
 use Rattle.shared_fib.proofs.Seated.{on_err_then}
 use Rattle.lpm_limits.specs.declared.config.Config.{Config}
 use Rattle.lpm_rules.specs.RuleMap.{RuleMap}
-
-same_some : (p q : PassState) → Some (Some p) ≡ Some (Some q) → p ≡ q
-same_some p q e = cc
 
 module _ (words : TableId) (v : View) where
   -- the pass of worker k
@@ -50,7 +47,7 @@ module _ (words : TableId) (v : View) where
     is_of : (k : ℕ) (p : PassState) → slice_get passes k ≡ Some (Some p) → IsPassOf identity k p
     is_of k p found =
         let low = slice_get_within passes k (Some p) found in
-        subst (IsPassOf identity k) (sym (same_some p (pass_of k) (sym found ∙ here k (omega (arith, low, count)))))
+        subst (IsPassOf identity k) (sym (same_Some p (pass_of k) (same_Some (Some p) (Some (pass_of k)) (sym found ∙ here k (omega (arith, low, count))))))
         (record { table = refl; worker = refl; offline = refl })
 
     pub full_bench : IsFullBench identity passes
@@ -58,14 +55,11 @@ module _ (words : TableId) (v : View) where
 
 -- The passes of a bench after one of them was taken or put back.
 
-some_same : {X : Type 0} (x y : X) → Some x ≡ Some y → x ≡ y
-some_same x y e = ap (λ o. unwrap_or o x) e
-
 -- what stands at a place after a store is what was stored, or what stood there
 pub stored_or_old : {X : Type 0} (xs : List X) (i k : ℕ) (y x : X) → slice_get (slice_set xs i y) k ≡ Some x
     → ((k ≡ i) × (y ≡ x)) ⊎ (slice_get xs k ≡ Some x)
 stored_or_old [] i k y x e = inr e
-stored_or_old (z ∷ xs) zero zero y x e = inl (refl, some_same y x e)
+stored_or_old (z ∷ xs) zero zero y x e = inl (refl, same_Some y x e)
 stored_or_old (z ∷ xs) zero (suc k) y x e = inr e
 stored_or_old (z ∷ xs) (suc i) zero y x e = inr e
 stored_or_old (z ∷ xs) (suc i) (suc k) y x e = elim (stored_or_old xs i k y x e) [
@@ -84,13 +78,10 @@ pub taken_off : (id : Identity) (passes : List (Option PassState)) (i : ℕ) →
 taken_off id passes i bench = (
   length-set passes i None ∙ bench.0,
   λ k p here. elim (stored_or_old passes i k None (Some p) here) [
-    | inl now ↦ absurd (none_some p now.1)
+    | inl now ↦ absurd (none-some p now.1)
     | inr old ↦ bench.1 k p old
   ],
 )
-  where
-    none_some : (p : PassState) → None ≡ Some p → ⊥
-    none_some p e = cc
 
 -- a bench to which a pass was put back at its place
 pub put_back : (id : Identity) (passes : List (Option PassState)) (i : ℕ) (q : PassState) → IsBenchOf id passes → IsPassOf id i q
@@ -98,7 +89,7 @@ pub put_back : (id : Identity) (passes : List (Option PassState)) (i : ℕ) (q :
 put_back id passes i q bench pass = (
   length-set passes i (Some q) ∙ bench.0,
   λ k p here. elim (stored_or_old passes i k (Some q) (Some p) here) [
-    | inl now ↦ subst (λ (z : ℕ × PassState). IsPassOf id z.0 z.1) (λ j. (sym now.0 j, some_same q p now.1 j)) pass
+    | inl now ↦ subst (λ (z : ℕ × PassState). IsPassOf id z.0 z.1) (λ j. (sym now.0 j, same_Some q p now.1 j)) pass
     | inr old ↦ bench.1 k p old
   ],
 )

@@ -3,7 +3,6 @@ use Rattle.std.proofs.Common.{◌≡◌, ℕ, ◌+◌, ◌-◌, ◌*◌, ◌^◌
 use Rattle.std.proofs.lemmas.Bool.{cases_lt}
 use Rattle.std.proofs.lemmas.Nat.{mul-le, pow_below}
 use Rattle.std.proofs.lemmas.List.{ext_get_or, get_or_append_left, get_or-append_right, get_or-replicate, get_or_past, length-append, length-replicate, take_all, replicate-append-replicate}
-use Rattle.std.proofs.lemmas.List.FromFn.{get_or-map-range_with_len}
 use Rattle.lpm_bits.specs.Widths.{IsShape}
 use Rattle.lpm_limits.specs.Limits.{IsConfig}
 use Rattle.lpm_limits.specs.declared.config.Config.{Config}
@@ -14,7 +13,7 @@ use Rattle.lpm_writer.specs.declared.control.ControlState.{ControlState}
 use Rattle.fib.specs.Fib.{IsSound}
 use Rattle.fib.proofs.Begun.{fewer_words, sound_swept, control, memory}
 use Rattle.shared_words.specs.Layout.{pairs, pair_at, packed_words}
-use Rattle.shared_words.proofs.Laying.{packed_length}
+use Rattle.shared_words.proofs.Laying.{packed_at, packed_length}
 use Rattle.shared_fib.specs.declared.initial_table.InitialTable.{InitialTable}
 use Rattle.shared_fib.specs.Loading.{IsLoaded, AreSwept}
 use Rattle.shared_fib.proofs.Begins.{loaded_packed, loaded_is}
@@ -56,9 +55,6 @@ module _ (xs : List ℕ) (m : ℕ) where
   abbrev more : ℕ
   more = pairs (length xs + m) - pairs (length xs)
 
-  packed_is : (ys : List ℕ) (k : ℕ) → k < pairs (length ys) → slice_index (packed_words ys) k ≡ pair_at ys k
-  packed_is ys k lt = get_or-map-range_with_len (pair_at ys) 0 (pairs (length ys)) k k 0 lt (omega arith)
-
   none_there : (k : ℕ) → pairs (length xs) ≤ k → pair_at xs k ≡ 0
   none_there k past =
       let low : slice_index xs (2 * k) ≡ 0 = get_or_past xs (2 * k) 0 (omega (arith, past)) in
@@ -72,9 +68,9 @@ module _ (xs : List ℕ) (m : ℕ) where
       let whole = length-append (packed_words xs) (replicate more 0) in
       let back = length-replicate {A = ℕ} more 0 in
       ext_get_or 0 (packed_words grown) (packed_words xs ++ replicate more 0) (omega (arith, old, all, whole, back))
-      (λ k lt. packed_is grown k (omega (arith, lt, packed_length grown)) ∙ same_pair k
+      (λ k lt. packed_at grown k (omega (arith, lt, packed_length grown)) ∙ same_pair k
       ∙ elim (cases_lt k (pairs (length xs))) [
-        | inl low ↦ sym (packed_is xs k low) ∙ sym (get_or_append_left (packed_words xs) (replicate more 0) 0 k (omega (arith, low, old)))
+        | inl low ↦ sym (packed_at xs k low) ∙ sym (get_or_append_left (packed_words xs) (replicate more 0) 0 k (omega (arith, low, old)))
         | inr high ↦ none_there k high
             ∙ sym (get_or-append_right (packed_words xs) (replicate more 0) (pairs (length xs)) k 0 old high
             ∙ get_or-replicate more (k - pairs (length xs)) 0 0 (omega (arith, lt, all, high)))

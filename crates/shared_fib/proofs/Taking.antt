@@ -30,15 +30,12 @@ use Rattle.lpm_writer.specs.Resting.{IsResting, state_of}
 use Rattle.lpm_writer.proofs.LimboItems.{waiting_set, is_freed}
 use Rattle.shared_words.specs.Layout.{InitialData, initial_state_of}
 use Rattle.shared_fib.specs.Freeing.{HasGroup, IsGivenUp, IsOccupied, TakesLeast}
+use Rattle.lpm_writer.proofs.Opened.{no_group}
+use Rattle.lpm_writer.proofs.Reclaims.{linked_not_retired}
+use Rattle.lpm_writer.proofs.Storing.{retired_token}
 use Rattle.shared_fib.proofs.Live.{never_retired}
 
 -- ---- groups that are given up
-
-retired_is : (t u : ℕ) → Retired t ≡ Retired u → t ≡ u
-retired_is t u e = cc
-
-linked_not : (b t : ℕ) → status.Linked b ≡ Retired t → ⊥
-linked_not b t e = cc
 
 module _ (o : InitialData) where
   abbrev c : InitialState
@@ -52,11 +49,8 @@ module _ (o : InitialData) where
         | inl within ↦
             let low : block < length o.firsts = omega (arith, within, firsts_length c steps) in
             (low, ap entry_in (sym (first_word_is c steps block low)) ∙ is)
-        | inr past ↦ absurd (miss_group group (sym (ap entry_in (get_or_past firsts block 0 (omega (arith, past))) ∙ entry_in_zero) ∙ is))
+        | inr past ↦ absurd (no_group group (sym (ap entry_in (get_or_past firsts block 0 (omega (arith, past))) ∙ entry_in_zero) ∙ is))
       ]
-    where
-      miss_group : (g : ℕ) → Miss ≡ Group g → ⊥
-      miss_group g e = cc
 
   more : (s : WriterStep) (steps : List WriterStep) (group token : ℕ) → IsGivenUp o steps group token → IsGivenUp o (s ∷ steps) group token
   more s steps group token h = record {
@@ -76,16 +70,16 @@ module _ (o : InitialData) where
   over_word (Hop hop depth) token groups g t P now was is = was is
   over_word (Group h) token groups g t P now was is =
       with_at_case (λ (s : Status). s ≡ Retired t → P) groups h (Retired (suc token)) g
-      (λ same e. now h refl same (sym (retired_is (suc token) t e))) (λ other e. was e) is
+      (λ same e. now h refl same (retired_token (suc token) t e)) (λ other e. was e) is
 
   of_word : (e : Entry) (block : ℕ) (groups : ℕ → Status) (g t : ℕ) → with_linked e block groups g ≡ Retired t → groups g ≡ Retired t
   of_word Miss block groups g t is = is
   of_word (Hop hop depth) block groups g t is = is
   of_word (Group h) block groups g t is =
       with_at_case (λ (s : Status). s ≡ Retired t → groups g ≡ Retired t) groups h (status.Linked block) g
-      (λ same e. absurd (linked_not block t e)) (λ other e. e) is
+      (λ same e. absurd (linked_not_retired block t e)) (λ other e. e) is
 
-  given_up : (steps : List WriterStep) (g t : ℕ) → (state_after c steps).groups g ≡ Retired t → IsGivenUp o steps g t
+  pub given_up : (steps : List WriterStep) (g t : ℕ) → (state_after c steps).groups g ≡ Retired t → IsGivenUp o steps g t
   given_up [] g t is = absurd (never_retired (slice_get o.blocks g) t is)
   given_up (StoreFirst i x ∷ steps) g t is =
       let w : TableState = state_after c steps in

@@ -100,7 +100,7 @@ kept c (BeginUpdate change ∷ steps) h =
 
 -- ---- a beginning of the steps
 
-oldest_before : (new before : List WriterStep) (place : ℕ) → place ≤ length before
+pub oldest_before : (new before : List WriterStep) (place : ℕ) → place ≤ length before
     → oldest place (new ++ before) ≡ oldest place before
 oldest_before [] before place low = refl
 oldest_before (s ∷ new) before place low =
