@@ -20,7 +20,7 @@ use Rattle.lpm_rules.specs.RuleMap.{RuleMap}
 use Rattle.fib_model.proofs.Carried.{lacks_or_not}
 use Rattle.std.specs.FinMap.{get, remove, empty}
 use Rattle.lpm_trace.specs.declared.step.WriterStep.{WriterStep}
-use Rattle.lpm_trace.specs.declared.step.WriterStep.TheVariants.{StoreFirst, StoreSecond, BeginUpdate, EndUpdate, BumpToken, LoadCounter}
+use Rattle.lpm_trace.specs.declared.step.WriterStep.TheVariants.{StoreFirst, StoreSecond}
 use Rattle.lpm_trace.specs.States.{InitialState, state_after}
 use Rattle.lpm_trace.proofs.Versions.{token_is}
 use Rattle.lpm_writer.specs.Steps.{IsStore, by_steps_from}
@@ -105,10 +105,7 @@ module _ (c : InitialState) where
   plain_keeps : (steps : List WriterStep) (s : WriterStep) → IsStore s → GroupsMatchSteps steps (s ∷ steps)
   plain_keeps steps (StoreFirst i w) h = (refl, refl)
   plain_keeps steps (StoreSecond j w) h = (refl, refl)
-  plain_keeps steps (BeginUpdate change) h = absurd h
-  plain_keeps steps EndUpdate h = absurd h
-  plain_keeps steps BumpToken h = absurd h
-  plain_keeps steps (LoadCounter token worker counter) h = absurd h
+  plain_keeps steps s h = absurd h
 
   none_leaves : (x z : List WriterStep) (limbo : List ℕ) → HasChecked c x z → Leaves c x z limbo 0 [] limbo
   none_leaves x z limbo h = record {

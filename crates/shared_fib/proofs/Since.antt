@@ -21,11 +21,8 @@ use Rattle.shared_fib.proofs.Lookups.{all_back, all_front}
 -- ---- between two deeds no lookup goes on
 
 abbrev IsClear : Phase → List Probe → Type 0
-IsClear Offline probes = probes ≡ []
-IsClear (ComingOnline loaded) probes = probes ≡ []
-IsClear Online probes = probes ≡ []
 IsClear LookingUp probes = Unit {0}
-IsClear (ReportingQuiescent loaded) probes = probes ≡ []
+IsClear phase probes = probes ≡ []
 
 clear_at : (p q : Phase) (probes : List Probe) → p ≡ q → IsClear p probes → IsClear q probes
 clear_at p q probes same clear = subst (λ (x : Phase). IsClear x probes) same clear
@@ -51,10 +48,8 @@ clear_by c w_steps (s ∷ steps) placed =
 
 none_goes_on : (p : Phase) (probes : List Probe) → IsBetweenDeeds p → IsClear p probes → probes ≡ []
 none_goes_on Offline probes rests clear = clear
-none_goes_on (ComingOnline loaded) probes rests clear = absurd rests
 none_goes_on Online probes rests clear = clear
-none_goes_on LookingUp probes rests clear = absurd rests
-none_goes_on (ReportingQuiescent loaded) probes rests clear = absurd rests
+none_goes_on p probes rests clear = absurd rests
 
 placed_then : (c : InitialState) (w_steps : List WriterStep) (newer older : List (WorkerStep × ℕ)) → ArePlaced c w_steps (newer ++ older)
     → ArePlaced c w_steps older
@@ -116,16 +111,11 @@ module _ (K : ℕ → Type 0) where
   IsSince old r = AreRead r.probes × AreSince old r.finished
 
   since_step : (old : List Seen) (now : ℕ) (r : Worker) (s : WorkerStep) → K now → IsSince old r → IsSince old (worker_by_step now r s)
-  since_step old now r (LoadOnline token) here h = h
-  since_step old now r (StoreOnline token) here h = h
-  since_step old now r (LoadQuiescent token) here h = h
-  since_step old now r (StoreQuiescent token) here h = h
-  since_step old now r StoreOffline here h = h
   since_step old now r (BeginLookup addrs sequence) here h = (read_none addrs, h.1)
   since_step old now r (LoadFirst word) here h = (read_firsts now (entry_in word) here r.probes h.0, h.1)
   since_step old now r (LoadSecond word) here h = (read_seconds now (entry_in word) here r.probes h.0, h.1)
   since_step old now r (EndLookup sequence) here h = (tt, since_answers r.lo (begun_at sequence) old r.probes r.finished h.0 h.1)
-  since_step old now r (MeetWriter sequence) here h = h
+  since_step old now r s here h = h
 
   since_steps : (older newer : List (WorkerStep × ℕ)) → (worker_by older).probes ≡ [] → All (λ s. K s.1) newer
       → IsSince (worker_by older).finished (worker_by (newer ++ older))

@@ -18,7 +18,7 @@ use Rattle.defer_queue.specs.Retired.{IsAbsent}
 use Rattle.lpm_limits.specs.declared.config.Config.{Config}
 use Rattle.lpm_rules.specs.RuleMap.{RuleList}
 use Rattle.lpm_trace.specs.declared.step.WriterStep.{WriterStep}
-use Rattle.lpm_trace.specs.declared.step.WriterStep.TheVariants.{StoreFirst, StoreSecond, BeginUpdate, EndUpdate, BumpToken, LoadCounter}
+use Rattle.lpm_trace.specs.declared.step.WriterStep.TheVariants.{StoreFirst}
 use Rattle.lpm_trace.specs.States.{InitialState, TableState, Status, Retired, state_after, with_retired, with_linked, first_entry}
 use Rattle.lpm_trace.specs.States as status
 use Rattle.lpm_trace.proofs.Versions.{with_at_case, token_is, first_word_is, firsts_length}
@@ -95,12 +95,7 @@ module _ (o : InitialData) where
       })
       (λ was. more (StoreFirst i x) steps g t (given_up steps g t was))
       (of_word (entry_in x) i (with_retired (first_entry w.words i) (suc w.token) w.groups) g t is)
-  given_up (StoreSecond j x ∷ steps) g t is = more (StoreSecond j x) steps g t (given_up steps g t is)
-  given_up (BeginUpdate change ∷ steps) g t is = more (BeginUpdate change) steps g t (given_up steps g t is)
-  given_up (EndUpdate ∷ steps) g t is = more EndUpdate steps g t (given_up steps g t is)
-  given_up (BumpToken ∷ steps) g t is = more BumpToken steps g t (given_up steps g t is)
-  given_up (LoadCounter token worker counter ∷ steps) g t is =
-      more (LoadCounter token worker counter) steps g t (given_up steps g t is)
+  given_up (s ∷ steps) g t is = more s steps g t (given_up steps g t is)
 
 -- ---- groups that wait
 

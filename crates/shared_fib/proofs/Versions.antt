@@ -3,7 +3,7 @@ use Rattle.std.proofs.Common.{ℕ, suc, ◌≡◌, ◌≤◌, List, [], ◌∷�
 use Rattle.std.proofs.lemmas.Bool.{cases_lt}
 use Rattle.lpm_rules.specs.RuleMap.{RuleMap}
 use Rattle.lpm_trace.specs.declared.step.WriterStep.{WriterStep}
-use Rattle.lpm_trace.specs.declared.step.WriterStep.TheVariants.{StoreFirst, StoreSecond, BeginUpdate, EndUpdate, BumpToken, LoadCounter}
+use Rattle.lpm_trace.specs.declared.step.WriterStep.TheVariants.{BeginUpdate, EndUpdate}
 use Rattle.lpm_trace.specs.States.{InitialState, TableState, updates_done_in, updates_begun_in, oldest, rules_by, state_after, state_at}
 use Rattle.lpm_trace.specs.Writer.{IsWritten}
 use Rattle.lpm_trace.proofs.Versions.{with_at_case, with_at-same}
@@ -18,8 +18,6 @@ pub record Counts (c : InitialState) (steps : List WriterStep) : Type 0 where
 
 pub counts : (c : InitialState) (steps : List WriterStep) → IsWritten c steps → Counts c steps
 counts c [] h = record { begun_is = refl; done_is = refl }
-counts c (StoreFirst i x ∷ steps) h = let k = counts c steps h.1 in record { begun_is = k.begun_is; done_is = k.done_is }
-counts c (StoreSecond j x ∷ steps) h = let k = counts c steps h.1 in record { begun_is = k.begun_is; done_is = k.done_is }
 counts c (BeginUpdate change ∷ steps) h =
     let k = counts c steps h.1 in
     let even = h.0.0.0 in
@@ -28,8 +26,7 @@ counts c (EndUpdate ∷ steps) h =
     let k = counts c steps h.1 in
     let odd = h.0.0.0 in
     record { begun_is = omega (arith, k.begun_is, odd); done_is = omega (arith, k.done_is, odd) }
-counts c (BumpToken ∷ steps) h = let k = counts c steps h.1 in record { begun_is = k.begun_is; done_is = k.done_is }
-counts c (LoadCounter token worker counter ∷ steps) h = let k = counts c steps h.1 in record { begun_is = k.begun_is; done_is = k.done_is }
+counts c (s ∷ steps) h = let k = counts c steps h.1 in record { begun_is = k.begun_is; done_is = k.done_is }
 
 -- those before a place might come one after another
 pub written_then : (c : InitialState) (steps : List WriterStep) (place : ℕ) → IsWritten c steps → IsWritten c (oldest place steps)
@@ -59,14 +56,6 @@ kept c [] h = record {
   last = refl;
   each = λ k low. record { newer = []; older = []; split = refl; count = omega (arith, low); rules_are = refl };
 }
-kept c (StoreFirst i x ∷ steps) h = let k = kept c steps h.1 in
-    record { last = k.last; each = λ n low. more c.rules (StoreFirst i x) steps n _ (k.each n low) }
-kept c (StoreSecond j x ∷ steps) h = let k = kept c steps h.1 in
-    record { last = k.last; each = λ n low. more c.rules (StoreSecond j x) steps n _ (k.each n low) }
-kept c (BumpToken ∷ steps) h = let k = kept c steps h.1 in
-    record { last = k.last; each = λ n low. more c.rules BumpToken steps n _ (k.each n low) }
-kept c (LoadCounter token worker counter ∷ steps) h = let k = kept c steps h.1 in
-    record { last = k.last; each = λ n low. more c.rules (LoadCounter token worker counter) steps n _ (k.each n low) }
 kept c (EndUpdate ∷ steps) h =
     let k = kept c steps h.1 in
     let w : TableState = state_after c steps in
@@ -97,6 +86,8 @@ kept c (BeginUpdate change ∷ steps) h =
           })
           (λ other. more c.rules (BeginUpdate change) steps n _ (k.each n (omega (arith, low, next, other))));
     }
+kept c (s ∷ steps) h = let k = kept c steps h.1 in
+    record { last = k.last; each = λ n low. more c.rules s steps n _ (k.each n low) }
 
 -- ---- a beginning of the steps
 
