@@ -72,7 +72,8 @@ impl WorkerSeat {
         ensures worker { self.new.worker ≡ self.old.worker }
         ensures step { Gains (LoadOnline result) self.old.view self.new.view }
     {
-        table.board.shared.load::<LoadsOnline>(&mut self.place, Layout::TOKEN)
+        let at = Layout::TOKEN;
+        table.board.shared.load::<LoadsOnline>(&mut self.place, at)
     }
 
     /// In that report, stores the loaded token into the worker's counter.
@@ -85,7 +86,8 @@ impl WorkerSeat {
         ensures step { Gains (StoreOnline token) self.old.view self.new.view }
     {
         let at = table.layout.counter_at(self.number as usize);
-        table.board.shared.store::<StoresOnline>(&mut self.place, at, token);
+        let shared = &table.board.shared;
+        shared.store::<StoresOnline>(&mut self.place, at, token);
     }
 
     /// In a quiescent report, loads the token.
@@ -97,7 +99,8 @@ impl WorkerSeat {
         ensures worker { self.new.worker ≡ self.old.worker }
         ensures step { Gains (LoadQuiescent result) self.old.view self.new.view }
     {
-        table.board.shared.load::<LoadsQuiescent>(&mut self.place, Layout::TOKEN)
+        let shared = &table.board.shared;
+        shared.load::<LoadsQuiescent>(&mut self.place, Layout::TOKEN)
     }
 
     /// In that report, stores the loaded token into the worker's counter.
@@ -110,7 +113,8 @@ impl WorkerSeat {
         ensures step { Gains (StoreQuiescent token) self.old.view self.new.view }
     {
         let at = table.layout.counter_at(self.number as usize);
-        table.board.shared.store::<StoresQuiescent>(&mut self.place, at, token);
+        let shared = &table.board.shared;
+        shared.store::<StoresQuiescent>(&mut self.place, at, token);
     }
 
     /// Stores 0 in the worker's counter: it is offline.
@@ -123,7 +127,8 @@ impl WorkerSeat {
         ensures step { Gains StoreOffline self.old.view self.new.view }
     {
         let at = table.layout.counter_at(self.number as usize);
-        table.board.shared.store::<StoresOffline>(&mut self.place, at, 0);
+        let shared = &table.board.shared;
+        shared.store::<StoresOffline>(&mut self.place, at, 0);
     }
 
     /// Loads the sequence: a lookup of these addresses begins.
@@ -190,7 +195,8 @@ impl WorkerSeat {
         ensures worker { self.new.worker ≡ self.old.worker }
         ensures step { Gains (EndLookup result) self.old.view self.new.view }
     {
-        table.board.shared.load::<EndsLookup>(&mut self.place, Layout::SEQUENCE)
+        let at = Layout::SEQUENCE;
+        table.board.shared.load::<EndsLookup>(&mut self.place, at)
     }
 
     /// Loads the sequence once. Then this worker has seen all that the writer has done. The writer stays as

@@ -98,7 +98,8 @@ impl WriterSeat {
         ensures own { self.new.table ≡ self.old.table }
         ensures step { self.new.view ≡ with_step self.old.view EndUpdate }
     {
-        table.board.shared.store::<ClosesUpdates>(&mut self.place, Layout::SEQUENCE, number);
+        let shared = &table.board.shared;
+        shared.store::<ClosesUpdates>(&mut self.place, Layout::SEQUENCE, number);
     }
 
     /// Stores the next token.
@@ -110,7 +111,8 @@ impl WriterSeat {
         ensures own { self.new.table ≡ self.old.table }
         ensures step { self.new.view ≡ with_step self.old.view BumpToken }
     {
-        table.board.shared.store::<BumpsToken>(&mut self.place, Layout::TOKEN, token);
+        let shared = &table.board.shared;
+        shared.store::<BumpsToken>(&mut self.place, Layout::TOKEN, token);
     }
 
     /// Loads the counter of a worker, in a check of the token.
@@ -139,7 +141,8 @@ impl WriterSeat {
         ensures same { self.new ≡ self.old }
         ensures value { result ≡ slice_index (left_by self.old.view).words.firsts i }
     {
-        half(i, table.board.shared.load::<Looks>(&mut self.place, first_at(i)))
+        let at = first_at(i);
+        half(i, table.board.shared.load::<Looks>(&mut self.place, at))
     }
 
     /// The second word at place `j`, which this writer alone changes. It is no step.
@@ -150,7 +153,8 @@ impl WriterSeat {
         ensures same { self.new ≡ self.old }
         ensures value { result ≡ slice_index (left_by self.old.view).words.seconds j }
     {
-        half(j, table.board.shared.load::<Looks>(&mut self.place, table.layout.second_at(j)))
+        let at = table.layout.second_at(j);
+        half(j, table.board.shared.load::<Looks>(&mut self.place, at))
     }
 
     /// The sequence, which this writer alone changes. It is no step.
@@ -160,7 +164,8 @@ impl WriterSeat {
         ensures same { self.new ≡ self.old }
         ensures value { result ≡ (left_by self.old.view).sequence }
     {
-        table.board.shared.load::<Looks>(&mut self.place, Layout::SEQUENCE)
+        let shared = &table.board.shared;
+        shared.load::<Looks>(&mut self.place, Layout::SEQUENCE)
     }
 
     /// The token, which this writer alone changes. It is no step.
@@ -170,7 +175,8 @@ impl WriterSeat {
         ensures same { self.new ≡ self.old }
         ensures value { result ≡ (left_by self.old.view).token }
     {
-        table.board.shared.load::<Looks>(&mut self.place, Layout::TOKEN)
+        let shared = &table.board.shared;
+        shared.load::<Looks>(&mut self.place, Layout::TOKEN)
     }
 
     /// The seat of the next worker, which is offline and has made no step.

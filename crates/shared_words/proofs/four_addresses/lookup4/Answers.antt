@@ -45,7 +45,7 @@ end_lookup-high-requires g c =
     let x = answers w c.load_last-x.ensures.loads in
     let y = answers x c.load_last-y.ensures.loads in
     let z = answers y c.load_last-z.ensures.loads in
-    record { own = search rules; looking = looking z; answered = all_answered z; }
+    record { own = search rules; looking = looking z; answered = all_answered z }
 
 pub returns-clause-answers : goal.returns-clause-answers
 returns-clause-answers g c =
