@@ -1,5 +1,5 @@
 -- How the counts of the states move as one of them is written.
-use Rattle.std.proofs.Common.{◌≡◌, ℕ, ◌+◌, ◌<◌, Bool, true, cond, List, [], ◌∷◌, ◌++◌, length, get_or, set, map, replicate, zero, suc, refl, ap, ◌∙◌, arith, ◌⊎◌, false, sym, inl, inr, ◌≢◌, ◌-◌, ◌≤◌, take, drop, min, eq-eqb, length-set, length-drop}
+use Rattle.std.proofs.Common.{◌≡◌, ℕ, ◌+◌, ◌<◌, Bool, true, cond, List, [], ◌∷◌, ◌++◌, length, get_or, set, map, replicate, zero, suc, refl, ap, ◌∙◌, arith, false, sym, inl, inr, ◌≢◌, ◌-◌, ◌≤◌, take, drop, min, eq-eqb, length-set, length-drop}
 use Rattle.std.specs.Prelude.{count_by, slice_get, Some, Contains, nat_eq, option_map}
 use Rattle.std.proofs.lemmas.List.Sums.{sum_by-cons, sum_by-set}
 use Rattle.std.proofs.lemmas.Option.{slice_get_within, get_or_from_slice_get, slice_get-map}
@@ -7,9 +7,7 @@ use Rattle.lpm_groups.specs.declared.GroupState.{GroupState}
 use Rattle.lpm_groups.specs.declared.GroupState.TheVariants.{Free, Linked, Limbo}
 use Rattle.lpm_groups.specs.States.{is_free, is_linked, is_limbo, linked_count, limbo_count, free_count, IsFreeAt, IsLinkedTo, IsLimboAt, linked_blocks, IsLinkedOnce, IsLinkedAt, IsLeastFree, mark_of, IsSound}
 use Rattle.std.specs.List.{IsDistinct, AllByRecursion}
-use Rattle.std.specs.Cmp.{nat_eq_equiv, unsigned_Decides}
-use Rattle.std.proofs.lemmas.Bool.Decides.{eqb_tells, same_from_decides, Decides-like}
-use Rattle.std.proofs.lemmas.Map.Made.{is_member-Decides, length-from_same_keys}
+use Rattle.std.proofs.lemmas.Bool.Decides.{eqb_tells}
 use Rattle.std.proofs.lemmas.List.{map-set, take_all, length-map, get_or-drop}
 use Rattle.std.proofs.lemmas.Bool.{eqb-true}
 use Rattle.std.proofs.lemmas.Grind.{common_steps}
@@ -145,22 +143,6 @@ IsDistinct-linked_blocks (Linked c ∷ xs) once = (
   apart c xs (λ g at. let e = once 0 (suc g) c refl at in omega arith),
   IsDistinct-linked_blocks xs (λ g h b x y. let e = once (suc g) (suc h) b x y in omega arith),
 )
-
--- where the linked groups stand for exactly the blocks of a list without repeats, each for its own,
--- there are as many as the list is long
-pub linked_count-from_blocks :
-    (xs : List GroupState) (bs : List ℕ) → IsLinkedOnce xs → IsDistinct nat_eq bs →
-    ((b : ℕ) → Contains bs b → (g : ℕ) × IsLinkedTo xs g b) →
-    ((g b : ℕ) → IsLinkedTo xs g b → Contains bs b) →
-    linked_count xs ≡ length bs
-linked_count-from_blocks xs bs once distinct has_group is_block =
-    sym (length-linked_blocks xs) ∙ length-from_same_keys nat_eq_equiv (linked_blocks xs) bs (IsDistinct-linked_blocks xs once) distinct (λ q.
-    same_from_decides _ _
-    (is_member-Decides unsigned_Decides (linked_blocks xs) q)
-    (Decides-like _
-    (λ c. let m = has_group q c in Contains-linked_blocks xs m.0 q m.1)
-    (λ c. let m = group_of_block xs q c in is_block m.0 q m.1)
-    (is_member-Decides unsigned_Decides bs q)))
 
 -- What stands in a list of states after one of them is written.
 
