@@ -49,33 +49,12 @@ pub fn apply<'a, R: Threads + Sync, F: Files, G: Gate, W: Write>(
     ensures failure { IfErr result (EndsApply config
         routes.entry.now updates.entry.now addresses.entry.now (F.bytes files.now)) }
 {
-    let text = apply_text(rt, alloc, files, routes, updates, addresses, config, gate)?;
-    put_text(out, &text)
-}
-
-// The whole text, before anything is written.
-fn apply_text<'a, R: Threads + Sync, F: Files, G: Gate>(
-    rt: &R,
-    alloc: Global,
-    files: &F,
-    routes: &'a str,
-    updates: &'a str,
-    addresses: &'a str,
-    config: Config,
-    gate: &G,
-) -> Result<Vec<u8>, Failure<'a>>
-    requires { IsConfig config }
-    ensures text { IfOk result (λ v. IsApplyText config (F.bytes files.now routes.entry.now)
-        (F.bytes files.now updates.entry.now) (F.bytes files.now addresses.entry.now) v.items) }
-    ensures failure { IfErr result (EndsApply config
-        routes.entry.now updates.entry.now addresses.entry.now (F.bytes files.now)) }
-    ensures unwritten { IfErr result (λ e. e ≢ Failure.CannotWrite) }
-{
     let list = read_routes_on(rt, alloc, files, routes, config.workers)?;
     let orders = read_list::<Updates, F>(alloc, files, updates)?;
     let addrs = read_addresses_on(rt, alloc, files, addresses, config.workers)?;
     let mut table = load(alloc, routes, &list, config)?;
-    text_after(rt, alloc, &mut table, &orders, &addrs, gate)
+    let text = text_after(rt, alloc, &mut table, &orders, &addrs, gate)?;
+    put_text(out, &text)
 }
 
 // The lines of the updates, and then those of the addresses.

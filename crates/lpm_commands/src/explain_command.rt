@@ -39,30 +39,10 @@ pub fn explain<'a, F: Files, W: Write>(
     ensures untouched { IfErr result (λ e. e ≢ Failure.CannotWrite → out.new ≡ out.old) }
     ensures failure { IfErr result (EndsExplain config routes.entry.now (F.bytes files.now)) }
 {
-    let text = whole_text(alloc, files, routes, addrs, config)?;
-    put_text(out, &text)
-}
-
-// The whole text, before anything is written.
-fn whole_text<'a, F: Files>(
-    alloc: Global,
-    files: &F,
-    routes: &'a str,
-    addrs: &[u32],
-    config: Config,
-) -> Result<Vec<u8>, Failure<'a>>
-    requires { IsConfig config }
-    ensures text { IfOk result (λ v.
-        IsExplainText config (F.bytes files.now routes.entry.now) addrs.now v.items) }
-    ensures failure { IfErr result (EndsExplain config routes.entry.now (F.bytes files.now)) }
-    ensures unwritten { IfErr result (λ e. e ≢ Failure.CannotWrite) }
-{
     let list = read_list::<Routes, F>(alloc, files, routes)?;
     let table = load(alloc, routes, &list, config)?;
-    match text_of_table(alloc, table, addrs) {
-        Ok(text) => Ok(text),
-        Err(_) => Err(Failure::Memory),
-    }
+    let text = text_of_table(alloc, table, addrs)?;
+    put_text(out, &text)
 }
 
 // The text that explains the answers of this table, which is gone then.

@@ -27,21 +27,7 @@ pub fn migrate<'a, F: Files, W: Write>(
     ensures untouched { IfErr result (λ e. e ≢ Failure.CannotWrite → out.new ≡ out.old) }
     ensures failure { IfErr result (EndsMigrate old.entry.now (F.bytes files.now)) }
 {
-    let text = migrate_text(alloc, files, old)?;
-    put_text(out, &text)
-}
-
-// The whole text, before anything is written.
-fn migrate_text<'a, F: Files>(
-    alloc: Global,
-    files: &F,
-    old: &'a str,
-) -> Result<Vec<u8>, Failure<'a>>
-    ensures text { IfOk result (λ v. IsMigrateText (F.bytes files.now old.entry.now) v.items) }
-    ensures failure { IfErr result (EndsMigrate old.entry.now (F.bytes files.now)) }
-    ensures unwritten { IfErr result (λ e. e ≢ Failure.CannotWrite) }
-{
     let orders = read_list::<OldUpdates, F>(alloc, files, old)?;
     let text = updates_text(alloc, &orders)?;
-    Ok(text)
+    put_text(out, &text)
 }

@@ -41,29 +41,11 @@ pub fn report<'a, F: Files, W: Write>(
     ensures failure { IfErr result
         (EndsReport config routes.entry.now updates.entry.now (F.bytes files.now)) }
 {
-    let text = whole_text(alloc, files, routes, updates, config)?;
-    put_text(out, &text)
-}
-
-// The whole text, before anything is written.
-fn whole_text<'a, F: Files>(
-    alloc: Global,
-    files: &F,
-    routes: &'a str,
-    updates: &'a str,
-    config: Config,
-) -> Result<Vec<u8>, Failure<'a>>
-    requires { IsConfig config }
-    ensures text { IfOk result (λ v. IsReportText config
-        (F.bytes files.now routes.entry.now) (F.bytes files.now updates.entry.now) v.items) }
-    ensures failure { IfErr result
-        (EndsReport config routes.entry.now updates.entry.now (F.bytes files.now)) }
-    ensures unwritten { IfErr result (λ e. e ≢ Failure.CannotWrite) }
-{
     let list = read_list::<Routes, F>(alloc, files, routes)?;
     let orders = read_list::<Updates, F>(alloc, files, updates)?;
     let mut table = load(alloc, routes, &list, config)?;
-    text_after(alloc, &mut table, &orders)
+    let text = text_after(alloc, &mut table, &orders)?;
+    put_text(out, &text)
 }
 
 // The text of what the table counts after the updates.
