@@ -25,7 +25,7 @@ use Rattle.qsbr.specs.Counters.{Registry}
 use Rattle.fib_model.specs.State.{State, HasTokens}
 use Rattle.fib_model.specs.Outcomes.{Adds, LacksGroup, HoldsFront, groups_in_use}
 use Rattle.fib_model.specs.Counting.{counter_transitions, initial_by_counters}
-use Rattle.fib.specs.Fib.{FibState, initial_fib_at, initial_fib_with}
+use Rattle.fib.specs.Fib.{FibState, initial_fib_with}
 use Rattle.route_text.specs.declared.routes.Route.{Route}
 use Rattle.lpm_files.specs.declared.failure.Failure.{Failure}
 use Rattle.lpm_files.specs.declared.failure.Failure.TheVariants as failures

@@ -23,7 +23,7 @@ use Rattle.std.specs.Option.{option_to_list}
 use Rattle.std.specs.FinMap.{get}
 use Rattle.std.specs.List.{All, AllPairs, Contains}
 use Rattle.std.proofs.lemmas.Bool.{cases_eq}
-use Rattle.std.proofs.lemmas.List.Elements.{All-nil, All-push, All-head, Contains-push, Contains-append_left}
+use Rattle.std.proofs.lemmas.List.Elements.{All-push, All-head, Contains-push, Contains-append_left}
 use Rattle.std.proofs.lemmas.List.Quantifiers.{all_pairs_push}
 use Rattle.lpm_bits.specs.Network.{Network, Covers, network_bits}
 use Rattle.lpm_rules.proofs.Longest.{network_at, covers_masked}

@@ -4,17 +4,16 @@ use Rattle.std.proofs.lemmas.Bool.{cases_lt, lt-ltb, leb-true, le-leb}
 use Rattle.std.proofs.lemmas.List.Sums.{sum_by-append}
 use Rattle.std.specs.FinMap.{insert, empty, get-empty}
 use Rattle.std.specs.Ordering.{nat_cmp}
-use Rattle.std.specs.Cmp.{nat_cmp_total}
 use Rattle.lpm_bits.specs.Network.{Network, IsNetwork}
 use Rattle.lpm_limits.specs.declared.config.Config.{Config}
 use Rattle.lpm_limits.specs.declared.refusal.Refusal.{Refusal}
 use Rattle.lpm_limits.specs.declared.refusal.Refusal.TheVariants.{TooManyRules, Exhausted, NoGroups, Memory}
 use Rattle.lpm_rules.specs.RuleMap.{RuleMap, network_cmp, AllUpTo, AreInOrder, place, prefix_at, rules_of}
 use Rattle.lpm_rules.specs.Changes.{rules_after}
-use Rattle.lpm_rules.specs.Deep.{block_of, deep_blocks, IsDeepBlock}
+use Rattle.lpm_rules.specs.Deep.{block_of, IsDeepBlock}
 use Rattle.lpm_rules.specs.declared.Put.{Put}
 use Rattle.lpm_rules.specs.declared.Put.TheVariants.{Added, Replaced, Unchanged}
-use Rattle.lpm_rules.proofs.Deep.{put_brings_block, deep_blocks_empty, deep_inserted}
+use Rattle.lpm_rules.proofs.Deep.{deep_blocks_empty, deep_inserted}
 use Rattle.qsbr.specs.Counters.{Registry}
 use Rattle.fib_model.specs.State.{State, HasTokens}
 use Rattle.fib_model.specs.Outcomes.{Adds, LacksGroup, groups_in_use}

@@ -1,4 +1,4 @@
-use Rattle.std.proofs.Common.{◌≡◌, ◌≤◌, ◌∙◌, ap, sym, subst, arith}
+use Rattle.std.proofs.Common.{◌≤◌, ◌∙◌, ap, sym, subst, arith}
 use Rattle.std.specs.FinMap.{len}
 use Rattle.lpm_rules.specs.RuleMap.{RuleList}
 use Rattle.fib_model.specs.Outcomes.{groups_in_use}
