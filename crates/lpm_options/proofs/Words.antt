@@ -1,6 +1,6 @@
 -- What matches ask for, whatever the command.
 use Rattle.std.proofs.Common.{◌≡◌, ap, arith, ℕ, List, Option, Some, None, codes, slice_index, ◌∙◌, sym, subst, refl, suc, ◌+◌, ◌<◌, [], ◌∷◌, ◌++◌, map, length, take, drop, get_or}
-use Rattle.std.specs.Prelude.{IsNone, All}
+use Rattle.std.specs.Prelude.{IfSome, IsNone, All, option_map}
 use Rattle.clap.specs.Words.{Row, Text}
 use Rattle.lpm_limits.specs.declared.config.Config.{Config}
 use Rattle.lpm_limits.specs.Limits.{IsIn}
@@ -98,3 +98,13 @@ first_bad ws i d addrs within read bad =
       good = are_read (texts (take i ws)) addrs read;
       bad = bad;
     }
+
+-- Where something is read, it is the values, and where nothing is read, there are none.
+module _ {X V : Type 0} (f : X → V) where
+  pub are_values : (read : Option (Bor X)) (values : Option V) → values ≡ option_map (λ s. f s.now) read → IfSome read (λ r. values ≡ Some (f r.now))
+  are_values None values e = tt
+  are_values (Some r) values e = e
+
+  pub are_absent : (read : Option (Bor X)) (values : Option V) → values ≡ option_map (λ s. f s.now) read → IsNone read → (v : V) → values ≡ Some v → ⊥
+  are_absent None values e n v is = cc
+  are_absent (Some r) values e n v is = cc
