@@ -1,5 +1,5 @@
 -- How a command ended.
-use Rattle.std.proofs.Common.{◌≡◌, inl, inr, ℕ, List, Option, Some, None, subst, ◌≢◌, ◌∙◌, ap, sym, zero, suc, ◌+◌, ◌<◌, [], ◌∷◌, ◌++◌, Ok, Err, ◌⊎◌, refl, take, drop, length, get_or, slice_index, replicate, map, arith, ◌≤◌, Bool, filter, All}
+use Rattle.std.proofs.Common.{◌≡◌, inl, inr, ℕ, List, Option, Some, None, subst, ◌≢◌, ◌∙◌, ap, sym, suc, ◌+◌, ◌<◌, [], ◌∷◌, ◌++◌, Ok, Err, ◌⊎◌, refl, take, drop, length, get_or, map, arith, ◌≤◌, Bool, filter, All}
 use Rattle.lpm_limits.specs.declared.config.Config.{Config}
 use Rattle.qsbr.specs.Counters.{Registry}
 use Rattle.fib_model.specs.State.{State}
@@ -24,7 +24,7 @@ use Rattle.lpm_rules.specs.declared.Put.TheVariants.{Added, Replaced, Unchanged}
 use Rattle.lpm_rules.proofs.Views.{insert_same}
 use Rattle.lpm_bits.specs.Network.{Network}
 use Rattle.fib_model.specs.Outcomes.{Adds}
-use Rattle.fib_model.specs.Counting.{counter_transitions, by_counters, initial_by_counters}
+use Rattle.fib_model.specs.Counting.{counter_transitions, initial_by_counters}
 use Rattle.std.proofs.lemmas.List.Elements.{All-cons, All-nil}
 use Rattle.storm.specs.declared.plan.Plan.{Plan}
 use Rattle.storm.specs.Changing.{IsForWriter}

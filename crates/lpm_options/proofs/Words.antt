@@ -1,5 +1,5 @@
 -- What matches ask for, whatever the command.
-use Rattle.std.proofs.Common.{◌≡◌, ap, arith, ℕ, List, Option, Some, None, codes, slice_index, ◌∙◌, sym, subst, refl, suc, ◌+◌, ◌<◌, [], ◌∷◌, ◌++◌, map, length, take, drop, get_or}
+use Rattle.std.proofs.Common.{◌≡◌, ap, arith, ℕ, List, Option, Some, None, codes, slice_index, ◌∙◌, sym, subst, suc, ◌+◌, ◌<◌, [], ◌∷◌, ◌++◌, map, length, take, drop, get_or}
 use Rattle.std.specs.Prelude.{IfSome, IsNone, All, option_map}
 use Rattle.clap.specs.Words.{Row, Text}
 use Rattle.lpm_limits.specs.declared.config.Config.{Config}

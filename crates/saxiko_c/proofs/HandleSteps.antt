@@ -34,7 +34,7 @@ use types.Match.{live}
 use contract.Monad.{fact, fact_i}
 use contract.Running.{Running, tables}
 use denote.Exit.{yes, under, hidden}
-use denote.Signature.{Signature, types_at, type_at, plain}
+use denote.Signature.{types_at, plain}
 use denote.Struct.Field.{RawPtr-field, bool-field, rows}
 use denote.Struct.Values.{Values, intos}
 use denote.Triple.Clauses.{Ended, Clauses, closing}
