@@ -1,4 +1,4 @@
--- The last event of a prefix up to a version, by a search through ordered events.
+-- What the index of a history says of a prefix and of an address at a version.
 use Rattle.std.proofs.Common.{arith, ◌≡◌, ◌≢◌, ℕ, ◌-◌, ◌<◌, ◌≤◌, inl, inr, sym, ◌∙◌, subst, List, Some, None, Bool, true, false, length, get_or, eqb, ltb, leb, ◌+◌, refl, ap, [], ◌∷◌, ◌++◌, Option}
 use Rattle.std.specs.Prelude.{◌&&◌, ◌||◌, IsSome}
 use Rattle.std.specs.List.Sorted.{IsPartitionedBy, IsSortedBy, IsPermutation}
@@ -22,6 +22,8 @@ use Rattle.audit.specs.Wrong.{version_of}
 use Rattle.audit.proofs.Spans.{version_more, set_here, spares, kept_until, all_of}
 use Rattle.std.specs.declared.vec.Vec.{Vec}
 use Rattle.lpm_bits.specs.Widths.{IsShape}
+
+-- The last event of a prefix up to a version, by a search through ordered events.
 
 -- a sort by bits and version; the two numbers compare as the bits and the length of a prefix do
 abbrev is_below : Event → Event → Bool
@@ -228,8 +230,6 @@ module _ (f s : ℕ) (history : List (Change f s)) (len : ℕ) (events : List Ev
       sym (quiet_since last.version is.2 (omega (arith, new)) is.3
       ∙ ap (λ b. get (version_of history last.version) (record { bits = b; len = len })) (sym is.1)
       ∙ said)
-
--- What the index of a history says of a prefix and of an address at a version.
 
 some_item : {X : Type 0} (xs : List X) → 0 < length xs → X
 some_item [] lt = absurd (omega (arith, lt))

@@ -1,4 +1,4 @@
--- The count of the answers that are marked.
+-- The versions of a span that give an answer.
 use Rattle.std.proofs.Common.{ℕ, refl, inl, inr, subst, List, [], ◌∷◌, Bool, true, false, length, arith, ◌≡◌, ◌≢◌, ◌+◌, ◌-◌, ◌<◌, ◌≤◌, ap, sym, ◌∙◌, Option, Some, None, get_or, suc, zero, take, ◌↔◌, nat_eq, eqb-true, eq-eqb, drop, min}
 use Rattle.std.specs.Prelude.{filter, not, count_by, IsSome, IsTrue}
 use Rattle.std.proofs.lemmas.List.Sums.{length-filter}
@@ -20,6 +20,8 @@ use Rattle.lpm_rules.proofs.Longest.{network_at, covers_masked, one_longest_hop,
 use Rattle.std.specs.Option.{option_eq}
 use Rattle.std.proofs.Math.Nat.{min-le_left, min-le_right, le-min}
 use Rattle.std.proofs.Math.Seq.{take-add}
+
+-- The count of the answers that are marked.
 
 wrong_kept : (f s : ℕ) (R : RuleMap) (history : List (Change f s)) (answers : List (ℕ × Answer)) (marks : List Bool) → AreMarks R history answers marks
     → AreWrong R history answers (length (filter (λ m. not m) marks))
@@ -160,8 +162,6 @@ module _ (f s : ℕ) (history : List (Change f s)) where
       longest_same (f + s) a (version_of history (i + 1)) (version_of history i) hop
       (λ q cov. ap (λ (R : RuleMap). get R q) step ∙ kept_one f s (version_of history i) q c (spared f s a q c calm cov))
       new
-
--- The versions of a span that give an answer.
 
 pub same_hops : (x y : Option ℕ) → IsTrue (option_eq nat_eq x y) ↔ (x ≡ y)
 same_hops None None = (λ _. refl, λ _. refl)

@@ -105,7 +105,7 @@ IsLastEvent events bits version None =
 IsLastEvent events bits version (Some last) = Contains events last × (last.bits ≡ bits)
     × (last.version ≤ version) × IsLastAt events bits version last
 
--- This layer's own: the last flush up to each version of a history.
+-- The last flush up to each version of a history.
 
 -- version f has no rules, and no change from there to version k is a flush
 pub record IsLastFlush {first second : ℕ} (history : List (Change first second)) (k f : ℕ)
@@ -120,7 +120,7 @@ pub record AreFlushes {first second : ℕ} (history : List (Change first second)
   pub long : length flushed ≡ i + 1
   pub each : (k : ℕ) → k ≤ i → IsLastFlush history k (slice_index_or flushed k 0)
 
--- This layer's own: which answers a history explains.
+-- Which answers a history explains.
 
 -- the change can change what the address goes to: its prefix covers the address, or it is a flush
 abbrev pub Touches : {first second : ℕ} → ℕ → Change first second → Type 0
@@ -136,7 +136,7 @@ abbrev pub AreMarks : {first second : ℕ} → RuleMap → List (Change first se
 AreMarks R history answers marks =
     AllZip (λ x mark. IsTrue mark ↔ IsOfSomeVersion R history x) answers marks
 
--- This layer's own: what the index of a history keeps.
+-- What the index of a history keeps.
 
 -- the index has the last flush of each version, and for each length the events of its prefixes
 pub record IsSound (first second : ℕ) {Z : Type 0} (history : List (Change first second))

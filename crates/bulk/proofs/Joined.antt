@@ -1,4 +1,4 @@
--- The pieces of a list, one after another, are the list.
+-- Pieces that are answered each are answered together.
 use Rattle.std.proofs.Common.{◌≡◌, ℕ, zero, suc, ◌+◌, ◌-◌, ◌*◌, ◌/◌, ◌<◌, ◌≤◌, List, [], ◌∷◌, ◌++◌, length, get_or, take, drop, map, sym, ap, subst, ◌∙◌, zero-add, arith, Option, refl}
 use Rattle.std.specs.Prelude.{All}
 use Rattle.std.specs.List.{flat_map, range_with_len}
@@ -13,6 +13,8 @@ use Rattle.std.proofs.lemmas.Nat.{le-div}
 use Rattle.bulk.specs.Pieces.{piece_start_before, piece_of, first_pieces}
 use Rattle.lpm_rules.specs.RuleMap.{RuleMap}
 use Rattle.lpm_rules.specs.Longest.{AreLongestHops}
+
+-- The pieces of a list, one after another, are the list.
 
 -- the borders rise
 pub rises : (k n w : ℕ) → 0 < w → k * n / w ≤ (k + 1) * n / w
@@ -70,8 +72,6 @@ pieces_within addrs Q pieces xs w e all k d lt =
     ∙ (ap (λ l. get_or l k []) e
     ∙ get_or-map-range_with_len (piece_of xs w) 0 w k k [] (omega arith) (zero-add k)) in
     subst (All Q) (sym here) (All-take Q _ _ (All-drop Q _ xs all))
-
--- Pieces that are answered each are answered together.
 
 -- lists of addresses and their hops, one after another
 pub AreLongestHops-join : (width : ℕ) (R : RuleMap) (xs ys : List ℕ) (hs ks : List (Option ℕ))

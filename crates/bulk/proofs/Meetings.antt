@@ -1,4 +1,4 @@
--- A writer that rests while addresses are looked up: the answers are those of its rules.
+-- Desks before and after a meeting, and their answers between two meetings.
 use Rattle.std.proofs.Common.{◌≡◌, ℕ, ◌+◌, ◌≤◌, List, [], ◌∷◌, ◌++◌, Option, length, sym, ap, subst, ◌∙◌, arith, ◌≢◌, suc, ◌<◌, inl, inr, get_or, set, map, All, refl, ap₂, get_or-set_same, get_or-set_other, zero, zero-add, Some, None, slice_get}
 use Rattle.lpm_rules.specs.RuleMap.{RuleMap}
 use Rattle.lpm_rules.specs.Longest.{IsLongestHop, AreLongestHops}
@@ -24,6 +24,8 @@ use Rattle.bulk.specs.declared.desk.Desk.{Desk}
 use Rattle.bulk.specs.Pieces.{piece_of}
 use Rattle.bulk.proofs.Joined.{pieces_answered}
 use Rattle.std.proofs.lemmas.List.FromFn.{map-range_with_len_more}
+
+-- A writer that rests while addresses are looked up: the answers are those of its rules.
 
 abbrev pub width_of : WriterState → ℕ
 width_of w = w.identity.initial.first + w.identity.initial.second
@@ -82,8 +84,6 @@ pub answers_within : (id : Identity) (addrs : List ℕ) (hops : List (Option ℕ
 answers_within id addrs hops a b c d ab bc cd answers w is rest written before after =
     let same : d ≡ a = after ∙ sym before in
     answers w is rest written (between a b d ab (later_trans b c d bc cd) same ∙ before) (between a c d (later_trans a b c ab bc) cd same ∙ before)
-
--- Desks before and after a meeting, and their answers between two meetings.
 
 -- ---- one desk after another
 

@@ -1,10 +1,12 @@
--- The front of a list, and one more item freed from it.
+-- A reclaim takes the longest front that passes, where a check's answer stays what it is meanwhile.
 use Rattle.std.proofs.Common.{arith, ℕ, zero, suc, ◌≡◌, ◌+◌, ◌≤◌, List, [], ◌∷◌, length, drop, refl, add-one, ◌-◌, ◌⊎◌, inl, inr, take, ap, ◌∙◌, length-drop}
 use Rattle.std.specs.Prelude.{slice_get, MatchOption, Option, Result, Ok, All, Err, Some, None, IsSomeAnd}
 use Rattle.lpm_limits.specs.declared.busy.Busy.{Busy}
 use Rattle.defer_queue.specs.Reclaims.{FreesFront, Reclaims}
 use Rattle.std.proofs.lemmas.List.Elements.{All-nil, All-cons}
 use Rattle.defer_queue.specs.Longest.{TakesLongest}
+
+-- The front of a list, and one more item freed from it.
 
 pub front_rest : (xs : List (ℕ × ℕ)) → MatchOption (slice_get xs 0) (xs ≡ []) (λ item. xs ≡ item ∷ drop 1 xs)
 front_rest [] = refl
@@ -44,8 +46,6 @@ module _ {S I : Type 0} (checks : S → I → Result (Unit {0}) Busy → S → T
 pub Reclaims-within : {S I : Type 0} {checks : S → I → Result (Unit {0}) Busy → S → Type 0} {frees : S → I → S → Type 0}
     {max n : ℕ} {items left : List I} {s z : S} {stopped : Option Busy} → Reclaims checks frees max items s n stopped left z → n ≤ length items
 Reclaims-within {S} {I} {checks} {frees} {max} {n} {items} {left} {s} r = FreesFront-within checks frees n items s left r.last r.front
-
--- A reclaim takes the longest front that passes, where a check's answer stays what it is meanwhile.
 
 module _ {S : Type 0} (checks : S → ℕ → Result (Unit {0}) Busy → S → Type 0) (frees : S → ℕ → S → Type 0)
     (steady : S → Type 0) (answers : ℕ → Result (Unit {0}) Busy → Type 0)

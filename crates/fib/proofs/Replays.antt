@@ -1,4 +1,4 @@
--- Logs that grow.
+-- What a list of commands came to, told by reader intervals and versions.
 use Rattle.std.proofs.Common.{arith, ◌≡◌, ℕ, ◌+◌, ◌<◌, refl, ap, sym, ◌∙◌, subst, List, [], ◌∷◌, ◌++◌, length, take, min, get_or}
 use Rattle.std.specs.Prelude.{slice_set}
 use Rattle.std.proofs.lemmas.List.{take_more, take_more_set, length-take}
@@ -20,6 +20,8 @@ use Rattle.fib_model.proofs.Versions.{rules_are_last_version}
 use Rattle.fib.specs.declared.replay.Replay.{Replay}
 use Rattle.fib.specs.Fib.{FibState, initial_fib}
 use Rattle.fib.specs.Replay.{GoesOn, IsAsked, IsReplay}
+
+-- Logs that grow.
 
 module _ (f s : ℕ) where
   -- one more command and its outcome
@@ -55,8 +57,6 @@ module _ (f s : ℕ) where
       ap (λ xs. log_after [] xs (take (i + 1) (slice_set os i o))) (take_more cs i c low ∙ ap (λ (x : Order f s). take i cs ++ x ∷ []) (sym read))
       ∙ ap (λ ys. log_after [] (take i cs ++ c ∷ []) ys) (take_more_set os i o here)
       ∙ logged_more [] (take i cs) (take i os) c o (length-take i cs ∙ ap (min i) (sym room) ∙ sym (length-take i os))
-
--- What a list of commands came to, told by reader intervals and versions.
 
 pub is_replay : (f s : ℕ) (c : Config) (x : FibState) (z : State Registry) (orders : _) (addrs : List ℕ) (r : Replay) → x ≡ initial_fib c
     → GoesOn f s x.config x.table orders r.outcomes.items z → IsAsked f s x.config z addrs r

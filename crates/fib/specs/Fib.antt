@@ -95,8 +95,8 @@ coded_fib_state =
     code_by (Config × State Registry) (coded× coded_config coded_state)
     (λ f. (f.config, f.table)) (λ p. record { config = p.0; table = p.1 }) (λ _. refl)
 
--- Meaning: lookups of several addresses at once (DPDK Programmer's Guide, "LPM Library": a lookup
--- of four addresses answers a default value where there is no match).
+-- Lookups of several addresses at once (DPDK Programmer's Guide, "LPM Library": a lookup of four
+-- addresses answers a default value where there is no match).
 
 -- the next hop of the longest rule that covers the address; the default where no rule does
 abbrev pub IsHopOrDefault : ℕ → RuleMap → ℕ → ℕ → ℕ → Type 0

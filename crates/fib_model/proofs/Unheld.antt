@@ -1,4 +1,4 @@
--- How far the front of a limbo list goes that no worker holds.
+-- The first worker that holds an unlinking; where there is none, no worker holds it.
 use Rattle.std.proofs.Common.{arith, ◌≡◌, ℕ, ◌<◌, ◌≤◌, inl, inr, min, refl, ap, sym, ◌∙◌, subst, List, [], ◌∷◌, length, drop, get_or, Some, None, zero, suc, ◌+◌}
 use Rattle.std.proofs.lemmas.Bool.{cases_lt}
 use Rattle.std.proofs.lemmas.List.{drop_all}
@@ -14,6 +14,8 @@ use Rattle.fib_model.specs.State.{Reclaims}
 use Rattle.fib_model.proofs.Unique.{IsUnheld, Freed}
 use Rattle.fib_model.specs.Laws.{UnheldByNone}
 use Rattle.fib_model.proofs.Runs.{tidy_run}
+
+-- How far the front of a limbo list goes that no worker holds.
 
 pub none_hold : (c : Config) (E : List Event) (place : ℕ) → IsTidy by_reports c.workers E → ((w : ℕ) → w < c.workers → IsHeldByWorker by_reports E place w → ⊥) → IsUnheld c E place
 none_hold c E place tidy none busy h = elim (cases_lt busy.worker c.workers) [
@@ -53,8 +55,6 @@ front_stopped c E max limbo freed u d busy low is holds none = record {
       (sym (drop-cons limbo freed d (omega (arith, low)) ∙ ap (λ v. v ∷ drop (suc freed) limbo) (sym is)))
       (omega (arith, low), (holds, refl));
 }
-
--- The first worker that holds an unlinking; where there is none, no worker holds it.
 
 -- the one running interval of a worker that holds the unlinking, and no smaller worker holds it
 pub first_holder : (c : Config) (E : List Event) (place worker start : ℕ) (busy : Busy) → IsTidy by_reports c.workers E → busy.worker ≡ worker → IsHeldByWorker by_reports E place worker

@@ -1,4 +1,4 @@
--- Going over the events from the oldest on: what is found in the first of them, and in one more.
+-- There is one first holder, one reclaim, and one way in which unlinkings come out.
 use Rattle.std.proofs.Common.{arith, ◌≡◌, ℕ, ◌+◌, ◌<◌, ◌≤◌, inl, inr, ap, sym, ◌∙◌, subst, List, [], ◌∷◌, length, reverse, take, get_or, Option, Some, None, MatchOption, Bool, IsTrue, IsFalse, ◌&&◌, cond, nat_lt, zero, suc, ◌⊎◌, refl, ◌++◌, slice_get}
 use Rattle.std.proofs.lemmas.Bool.{cases_Bool, true≢false, cases_lt}
 use Rattle.std.proofs.lemmas.List.{length-reverse, length-take-le, reverse-append, take_more, take_all}
@@ -13,6 +13,8 @@ use Rattle.fib_model.specs.declared.event.Event.TheVariants.{Unlinking}
 use Rattle.defer_queue.specs.Reclaims.{Ends, FreesFront}
 use Rattle.fib_model.specs.State.{State, Reclaims, MakesRoom, Unlinks}
 use Rattle.fib_model.specs.Outcomes.{HoldsFront}
+
+-- Going over the events from the oldest on: what is found in the first of them, and in one more.
 
 -- the place where a running interval of w began, or none where none runs
 abbrev pub IsFound : List Event → ℕ → Option ℕ → Type 0
@@ -76,8 +78,6 @@ counted xs i place n m e d counts low is test old new =
 
 pub count_all : (xs : List Event) (i place : ℕ) → length xs ≤ i → unlinkings_before (reverse (take i xs)) place ≡ unlinkings_before (reverse xs) place
 count_all xs i place past = ap (λ l. unlinkings_before (reverse l) place) (take_all i xs past)
-
--- There is one first holder, one reclaim, and one way in which unlinkings come out.
 
 -- the first holder of an unlinking
 pub one_holder : (c : Config) (E : List Event) (place : ℕ) (a b : Busy) → IsFirstHolder c.first_token E place a → IsFirstHolder c.first_token E place b → a ≡ b

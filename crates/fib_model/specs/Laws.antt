@@ -1,6 +1,4 @@
--- Meaning: the versions of the rule list: the list after each accepted change that made a
--- version, the newest first (DPDK Programmer's Guide, "LPM Library", "Addition" and "Deletion";
--- that an unchanged rule makes no version is this project's).
+-- Meaning: laws of runs (this project's).
 use Rattle.std.specs.Prelude.{ℕ, suc, List, [], ◌∷◌, ◌≡◌, ◌≢◌, ◌<◌, ◌↔◌, length, map, slice_index, All, Ok, Err}
 use Rattle.std.specs.FinMap.{insert, remove, empty}
 use Rattle.lpm_rules.specs.RuleMap.{RuleMap}
@@ -22,6 +20,10 @@ use Rattle.fib_model.specs.Counting.{counter_transitions, by_counters, initial_b
 use Rattle.fib_model.specs.declared.orders.Order.TheVariants as order
 use Rattle.fib_model.specs.declared.orders.Outcome.TheVariants as outcome
 
+-- The versions of the rule list: the list after each accepted change that made a version, the
+-- newest first (DPDK Programmer's Guide, "LPM Library", "Addition" and "Deletion"; that an
+-- unchanged rule makes no version is this project's).
+
 -- the last version; before the first change no rules stood
 abbrev pub last_of : List RuleMap → RuleMap
 last_of [] = empty
@@ -41,8 +43,6 @@ versions_after H other outcome = H
 abbrev pub history : {first second : ℕ} → Log first second → List RuleMap
 history [] = []
 history (done ∷ log) = versions_after (history log) done.0 done.1
-
--- Meaning: laws of runs (this project's).
 
 -- the rules are the last version, and the updates begun are as many as the versions
 abbrev pub RulesAreLastVersion : Type 0

@@ -48,10 +48,10 @@ IsExhausted t c s = (2 ^ 62 < t.token s.readers + c.groups) ⊎ (2 ^ 61 ≤ s.be
 abbrev pub HasTokens : {X : Type 0} → Transitions X → Config → State X → Type 0
 HasTokens t c s = (t.token s.readers + c.groups ≤ 2 ^ 62) × (s.begun < 2 ^ 61)
 
--- Meaning: limbo lists (Fraser, UCAM-CL-TR-579, 2004, epoch-based reclamation: what was given up
--- waits in limbo until no reader can hold it; DPDK Programmer's Guide, "RCU Library", the defer
--- queue: the oldest is reclaimed first, up to the first that some reader holds, and a queue over
--- its threshold is reclaimed on the way).
+-- Limbo lists (Fraser, UCAM-CL-TR-579, 2004, epoch-based reclamation: what was given up waits in
+-- limbo until no reader can hold it; DPDK Programmer's Guide, "RCU Library", the defer queue: the
+-- oldest is reclaimed first, up to the first that some reader holds, and a queue over its threshold
+-- is reclaimed on the way).
 
 -- a reclaim of at most `max` from the limbo list is that of a queue (`defer_queue`), whose items are
 -- the names of the unlinkings; to free a group changes nothing of what is kept for the readers' side

@@ -1,6 +1,5 @@
--- Meaning: which whole reports begin and end a reader interval, and how many unlinkings there were
--- (DPDK Programmer's Guide, "RCU Library": a reader comes online, reports quiescent states and goes
--- offline; this project's otherwise).
+-- Meaning: reports kept as what happened: the list of whole reports and unlinkings, the newest
+-- first (DPDK Programmer's Guide, "RCU Library": grace periods and quiescent states).
 use Rattle.std.specs.Prelude.{ℕ, ◌==◌, Bool, true, false, List, length, ◌≡◌, ◌+◌, ◌<◌, [], ◌∷◌}
 use Rattle.qsbr.specs.Intervals.{Reporting, IsRunningSince, IsHeldByWorker, count_before}
 use Rattle.fib_model.specs.declared.event.Event.{Event}
@@ -11,6 +10,10 @@ use Rattle.lpm_limits.specs.declared.config.Config.{Config}
 use Rattle.fib_model.specs.declared.orders.Report.{Report}
 use Rattle.fib_model.specs.State.{State, Transitions, Keeping, looks}
 use Rattle.fib_model.specs.declared.orders.Report.TheVariants as report
+
+-- Which whole reports begin and end a reader interval, and how many unlinkings there were (DPDK
+-- Programmer's Guide, "RCU Library": a reader comes online, reports quiescent states and goes
+-- offline; this project's otherwise).
 
 -- a reader interval of worker w begins with it
 abbrev pub begins : ℕ → Event → Bool
@@ -42,9 +45,6 @@ unlinkings_before events place = count_before is_unlinking events place
 -- how many unlinkings there were
 abbrev pub unlinkings : List Event → ℕ
 unlinkings events = unlinkings_before events (length events)
-
--- Meaning: reports kept as what happened: the list of whole reports and unlinkings, the newest
--- first (DPDK Programmer's Guide, "RCU Library": grace periods and quiescent states).
 
 -- the least worker whose running interval holds the unlinking at this place, with the token number
 -- at that interval's beginning; the first token is `token`

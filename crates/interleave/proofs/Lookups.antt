@@ -1,4 +1,4 @@
--- The addresses of a lookup: which is next, and what a read leaves.
+-- The steps of a lookup: a first word, a second word.
 use Rattle.std.proofs.Common.{arith, ◌≡◌, ℕ, zero, suc, ◌+◌, ◌<◌, List, [], ◌∷◌, ◌++◌, length, take, drop, map, get_or, refl, sym, ap, subst, ◌∙◌, length-take, append_assoc, reverse, Option, ◌*◌, ◌/◌, ◌%◌, ◌^◌, ◌≤◌, All, slice_index, slice_set}
 use Rattle.std.proofs.Math.Seq.{split_at}
 use Rattle.std.proofs.lemmas.List.{take_more, append-nil, map-append, reverse-append, set_at}
@@ -20,6 +20,8 @@ use Rattle.lpm_trace.specs.Trace as T
 use Rattle.lpm_trace.specs.declared.step.WorkerStep.TheVariants as step
 use Rattle.lpm_trace.specs.declared.kind.Kind.TheVariants as kind
 use Rattle.interleave.specs.declared.worker.Phase.TheVariants as phase
+
+-- The addresses of a lookup: which is next, and what a read leaves.
 
 begun_push : (xs : List Probe) (p : Probe) → AreBegun (probes_of xs) → AreBegun (probe_of p ∷ []) → AreBegun (probes_of (xs ++ p ∷ []))
 begun_push [] p h k = k
@@ -130,8 +132,6 @@ noted_none k lo hi xs i d p old before inside is not was =
 pub finished_then : (now : ℕ) (r : Worker) (s : WorkerStep) → (worker_by_step now r s).finished ≡ finished_by r s ++ r.finished
 finished_then now r (step.EndLookup sequence) = answers_after r.lo (begun_at sequence) r.probes r.finished
 finished_then now r s = refl
-
--- The steps of a lookup: a first word, a second word.
 
 -- ---- the next address, by the place where it stands
 

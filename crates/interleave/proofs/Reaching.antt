@@ -1,4 +1,4 @@
--- What a memory's fields show.
+-- The workers take their turns up to the writer's next item, or up to the schedule's end.
 use Rattle.std.proofs.Common.{ℕ, map, ◌≡◌, ◌≢◌, suc, ◌<◌, ◌≤◌, inl, inr, cond, List, [], ◌∷◌, ◌++◌, length, refl, sym, ap, subst, ◌∙◌, arith, Option, Some, None, ◌↔◌, Bool, true, false}
 use Rattle.interleave.specs.declared.world_memory.WorldMemory.TheInside.{Inside}
 use Rattle.interleave.specs.View.{WorldView, script_at, with_recorded_step, with_unrecorded_step}
@@ -18,6 +18,8 @@ use Rattle.interleave.proofs.Turning.{passed_by, trace_stays, turn_passes, none_
 use Rattle.std.specs.Prelude.{MatchBool}
 use Rattle.lpm_writer.specs.Plain.{MayBeNext}
 
+-- What a memory's fields show.
+
 abbrev pub view_in : (first second : ℕ) → Inside first second → WorldView
 view_in first second x = record {
   words = x.shared.cells;
@@ -31,8 +33,6 @@ view_in first second x = record {
   seen = x.seen.items;
   stopped = x.stopped;
 }
-
--- The workers take their turns up to the writer's next item, or up to the schedule's end.
 
 pub shared_more : (v y z : WorldView) → StaysShared v y → StaysShared y z → StaysShared v z
 shared_more v y z p q = record {

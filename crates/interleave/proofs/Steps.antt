@@ -1,4 +1,4 @@
--- What a new memory has done: nothing.
+-- One more step: where a worker stands then.
 use Rattle.std.proofs.Common.{◌≡◌, ℕ, ◌+◌, ◌*◌, ◌^◌, All, List, [], length, replicate, false, refl, sym, ap, ◌∙◌, ◌<◌, Bool, true, ◌∷◌, map, subst, arith, ◌≤◌, ◌⊎◌, inl, inr, ◌++◌, reverse, get_or, vec_len, vec_capacity}
 use Rattle.std.proofs.lemmas.List.Elements.{All-get_or, All-nil, All-cons}
 use Rattle.lpm_cells.specs.Words.{Words, IsWords, word_of}
@@ -23,6 +23,8 @@ use Rattle.lpm_trace.specs.declared.kind.Kind.TheVariants as kind
 use Rattle.lpm_trace.specs.declared.step.WorkerStep.TheVariants as step
 use Rattle.interleave.specs.declared.probe.Probe.TheVariants as probe
 use Rattle.interleave.specs.declared.worker.Phase.TheVariants as phase
+
+-- What a new memory has done: nothing.
 
 -- a memory before its first step
 abbrev pub unused : Words → ℕ → List Machine → List (List Deed) → List Actor → WorldView
@@ -152,8 +154,6 @@ module _ (c : InitialState) (w : TableState) (k now : ℕ) (r : Worker) (left : 
 
     pub lookup4_begun : IsBegun c w k now r left m new shown (deed.Lookup4 addrs)
     lookup4_begun shows between sound = looks_up (deed.Lookup4 addrs) refl shows between sound.0 sound.1 sound.2
-
--- One more step: where a worker stands then.
 
 -- ---- the deed that begins next
 

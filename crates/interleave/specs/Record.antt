@@ -1,5 +1,5 @@
--- Meaning: what a run shows of a worker's steps and of its lookups (this project's: each step is one
--- load or one store of one word, told with its index and its value).
+-- Meaning: what a run shows of a trace: each step, and each finished lookup (this project's: a step is
+-- one load or one store of one word, told with its actor, its kind, its index and its value).
 use Rattle.std.specs.Prelude.{ℕ, ◌+◌, ◌*◌, ◌/◌, ◌%◌, ◌^◌, List, [], ◌∷◌, suc, ◌++◌, eqb, map, reverse}
 use Rattle.lpm_trace.specs.declared.kind.Actor.TheVariants.{Worker as WorkerActor, Writer as WriterActor}
 use Rattle.lpm_trace.specs.declared.kind.Kind.{Kind}
@@ -15,6 +15,9 @@ use Rattle.lpm_trace.specs.declared.step.WriterStep.TheVariants.{StoreFirst, Sto
 use Rattle.lpm_trace.specs.declared.step.TraceStep.{TraceStep}
 use Rattle.lpm_trace.specs.declared.step.TraceStep.TheVariants.{Writer, Worker as ByWorker}
 use Rattle.lpm_trace.specs.declared.kind.Kind.TheVariants as kind
+
+-- What a run shows of a worker's steps and of its lookups (this project's: each step is one load or
+-- one store of one word, told with its index and its value).
 
 -- the index of the first word that is read next
 abbrev pub next_first : InitialState → List Probe → ℕ
@@ -64,9 +67,6 @@ seen_by k f = record {
   lo = f.lo;
   hi = f.hi;
 }
-
--- Meaning: what a run shows of a trace: each step, and each finished lookup (this project's: a step is
--- one load or one store of one word, told with its actor, its kind, its index and its value).
 
 -- a step of the writer
 abbrev pub step_of_writer : Kind → ℕ → ℕ → Step

@@ -1,6 +1,6 @@
--- Meaning: what comes of a change of the writer's script, by the writer's steps alone (DPDK
--- Programmer's Guide, "LPM Library" and "RCU Library": a synchronize waits until each reader has left
--- a token behind).
+-- Meaning: a run of the pure world: a trace of the writer's changes and of the workers' deeds by a
+-- schedule, with its outcomes and its lookups (DPDK Programmer's Guide, "LPM Library" and "RCU
+-- Library", for the groups in limbo; this project's otherwise). What holds of every trace is in `Laws`.
 use Rattle.std.specs.Prelude.{ℕ, ◌≡◌, ◌≢◌, ◌+◌, ◌^◌, ◌≤◌, List, ◌∷◌, Ok, Err, ◌<◌, ◌⊎◌, [], ◌++◌, length, map, reverse}
 use Rattle.lpm_limits.specs.declared.config.Config.{Config}
 use Rattle.lpm_limits.specs.declared.refusal.Refusal.TheVariants.{Exhausted, Memory}
@@ -32,6 +32,10 @@ use Rattle.interleave.specs.Record.{seen_by, all_shown, all_seen, seen_of}
 use Rattle.interleave.specs.World.{HasEnded, IsScheduled, AreScripted, writer_items}
 use Rattle.interleave.specs.declared.trace.Trace.{Trace}
 use Rattle.interleave.specs.Laws.{IsLawful}
+
+-- What comes of a change of the writer's script, by the writer's steps alone (DPDK Programmer's
+-- Guide, "LPM Library" and "RCU Library": a synchronize waits until each reader has left a token
+-- behind).
 
 -- what an outcome depends on, by the writer's steps
 abbrev pub StateBySteps : Type 0
@@ -85,10 +89,6 @@ Answers c f g config s change reply z = ⊥
 abbrev pub CameOut : InitialState → (first second : ℕ) → Config → StateBySteps → Change first second → Reply → StateBySteps
     → Type 0
 CameOut c f g config s change reply z = Answers c f g config s change reply z × IsAtRest f g c z
-
--- Meaning: a run of the pure world: a trace of the writer's changes and of the workers' deeds by a
--- schedule, with its outcomes and its lookups (DPDK Programmer's Guide, "LPM Library" and "RCU
--- Library", for the groups in limbo; this project's otherwise). What holds of every trace is in `Laws`.
 
 -- ---- the writer's script
 

@@ -1,5 +1,6 @@
--- Meaning: a trace that was made by a schedule: each item makes one step of its actor, unless that has
--- ended (this project's).
+-- Meaning: the memory of the pure world, as traces tell it: the schedule's items that are used up have
+-- made this trace, and what the writer has done since the schedule ended comes after it (this
+-- project's: a schedule names who makes the next step).
 use Rattle.std.specs.Prelude.{◌≡◌, ℕ, suc, ◌≤◌, ◌⊎◌, ⊤, List, [], ◌∷◌, ◌≢◌, ◌+◌, ◌*◌, ◌^◌, ◌<◌, Option, Some, None, ◌++◌, length, map, reverse, take, replicate, slice_index_or, true, false}
 use Rattle.lpm_trace.specs.declared.kind.Actor.{Actor}
 use Rattle.lpm_trace.specs.declared.kind.Actor.TheVariants.{Writer as WriterActor, Worker as WorkerActor}
@@ -19,6 +20,9 @@ use Rattle.interleave.specs.declared.worker.Worker.{Worker as Machine}
 use Rattle.interleave.specs.Machine.{IsAt}
 use Rattle.interleave.specs.Record.{all_shown, all_seen}
 use Rattle.interleave.specs.View.{WorldView, script_at}
+
+-- A trace that was made by a schedule: each item makes one step of its actor, unless that has ended
+-- (this project's).
 
 -- the step is one of this actor
 abbrev pub IsBy : Actor → TraceStep → Type 0
@@ -52,10 +56,6 @@ writer_items (WorkerActor k ∷ items) = writer_items items
 -- each worker's steps are those of its script, as far as it came
 abbrev pub AreScripted : (ℕ → List Deed) → List TraceStep → Type 0
 AreScripted scripts steps = (k : ℕ) → IsScripted (scripts k) k steps
-
--- Meaning: the memory of the pure world, as traces tell it: the schedule's items that are used up have
--- made this trace, and what the writer has done since the schedule ended comes after it (this
--- project's: a schedule names who makes the next step).
 
 -- the writer has no step left: at no time, or once its steps are these
 abbrev pub IsDoneAfter : Option (List WriterStep) → List TraceStep → Type 0

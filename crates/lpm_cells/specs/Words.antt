@@ -51,9 +51,9 @@ IsWord width w = IsEntry width (entry_in w) × (word_of (entry_in w) ≡ w)
 abbrev pub IsLastWord : ℕ → ℕ → Type 0
 IsLastWord width w = IsWord width w × IsLast (entry_in w)
 
--- Meaning: the words of a table, and what they answer (Gupta, Lin and McKeown, INFOCOM 1998,
--- section 3: a lookup reads the first table at the address's first bits, and where it finds a
--- group there, the group's entry at the last bits).
+-- The words of a table, and what they answer (Gupta, Lin and McKeown, INFOCOM 1998, section 3: a
+-- lookup reads the first table at the address's first bits, and where it finds a group there, the
+-- group's entry at the last bits).
 
 -- the words of a table: those of the first table, and those of the groups one behind the other
 pub record Words : Type 0 where

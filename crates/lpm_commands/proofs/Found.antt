@@ -1,4 +1,4 @@
--- What explains answers, one address after another.
+-- The rules that cover an address, found length by length, the longest first.
 use Rattle.std.proofs.Common.{◌≡◌, ◌∙◌, ap, sym, subst, refl, ℕ, ◌+◌, ◌<◌, List, [], ◌∷◌, ◌++◌, Option, length, take, get_or, append_assoc, arith, inl, inr, zero, suc, ◌-◌, ◌≤◌, Some, None}
 use Rattle.std.proofs.lemmas.List.{take_more, append-nil}
 use Rattle.lpm_limits.specs.declared.config.Config.{Config}
@@ -27,6 +27,8 @@ use Rattle.std.proofs.lemmas.List.Elements.{All-push, All-head, Contains-push, C
 use Rattle.std.proofs.lemmas.List.Quantifiers.{all_pairs_push}
 use Rattle.lpm_bits.specs.Network.{Network, Covers, network_bits}
 use Rattle.lpm_rules.proofs.Longest.{network_at, covers_masked}
+
+-- What explains answers, one address after another.
 
 -- one address more
 pub one_more : (R : RuleMap) (t : Words) (addrs : List ℕ) (a : ℕ) (text here : List ℕ) → AreExplanations R t addrs text → IsExplanation R t a here → AreExplanations R t (addrs ++ a ∷ []) (text ++ here)
@@ -76,8 +78,6 @@ is_explain_text c routes list addrs table text are_routes loaded explained = rec
   loaded = loaded;
   explained = subst (λ (R : RuleMap). ExplainsBy R addrs text) loaded.rules explained;
 }
-
--- The rules that cover an address, found length by length, the longest first.
 
 -- the rules that cover the address and are longer than `width - host`: all of them, the longest first
 pub record AreFound {first second : ℕ} (width : ℕ) (R : RuleMap) (a host : ℕ) (rs : List (Rule first second)) : Type 0 where

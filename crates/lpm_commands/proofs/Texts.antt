@@ -1,4 +1,4 @@
--- How a command ended.
+-- The texts of the commands, by the files that they read.
 use Rattle.std.proofs.Common.{◌≡◌, inl, inr, ℕ, List, Option, Some, None, subst, ◌≢◌, ◌∙◌, ap, sym, suc, ◌+◌, ◌<◌, [], ◌∷◌, ◌++◌, Ok, Err, ◌⊎◌, refl, take, drop, length, get_or, map, arith, ◌≤◌, Bool, filter, All}
 use Rattle.lpm_limits.specs.declared.config.Config.{Config}
 use Rattle.qsbr.specs.Counters.{Registry}
@@ -36,6 +36,8 @@ use Rattle.lpm_commands.specs.Report.{IsReportedAfter, IsReportText}
 use Rattle.lpm_commands.proofs.Updated.{updated, last_rules, reported}
 use Rattle.lpm_files.specs.declared.failure.Failure.TheVariants as failures
 use Rattle.fib_model.specs.declared.orders.Order.TheVariants as orders
+
+-- How a command ended.
 
 -- a file whose items were read is of its form
 pub is_read : {Item : Type 0} (known : Option (List ℕ)) (Lists : List ℕ → List Item → Type 0) (items : List Item) → Reads Lists known items → (b : List ℕ) × IsKnownAs known b × ((list : List Item) × Lists b list)
@@ -208,8 +210,6 @@ are_loaded plan c list n limits rules table loaded count = (table, subst (λ (k 
 pub ends_after : (plan : Plan 24 8) (file : List ℕ) (list : List Route) (n : ℕ) (e : Failure) → AreLoaded plan list n → (e ≡ failures.Memory) ⊎ EndsRunning plan e → EndsAfter plan file list e
 ends_after plan file list n e loaded (inl memory) = inl (subst (EndsLoading (limits_of plan) file list) (sym memory) tt)
 ends_after plan file list n e loaded (inr ends) = inr ((n, loaded), ends)
-
--- The texts of the commands, by the files that they read.
 
 -- the answers by the rules of the routes, which make a table
 pub is_lookup_text : (c : Config) (routes addresses : Option (List ℕ)) (list : List Route) (addrs : List ℕ) (table : State Registry) (R : RuleMap) (text : List ℕ) → Reads AreRoutes routes list → Reads AreAddresses addresses addrs → IsLoaded c list table → R ≡ rules_of_routes list → IsAnswered c R addrs text → IsLookupText c routes addresses text

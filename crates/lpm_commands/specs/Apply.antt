@@ -1,5 +1,5 @@
--- Meaning: the updates that follow the routes of a table, and what comes of each (DPDK Programmer's
--- Guide, "LPM Library" and "RCU Library"; the words of the update file are this project's).
+-- Meaning: the command `apply` (this project's program: a line for what came of each update, then a
+-- line for each address; a refused update doesn't stop the file).
 use Rattle.std.specs.Prelude.{◌≡◌, ◌≢◌, List, [], length, map, All, ℕ, ◌⊎◌, ◌∷◌, ◌++◌, Option}
 use Rattle.lpm_limits.specs.declared.config.Config.{Config}
 use Rattle.lpm_limits.specs.declared.refusal.Refusal.TheVariants.{Memory}
@@ -25,6 +25,9 @@ use Rattle.lpm_commands.specs.Lookup.{IsAnswered, EndsAnswering}
 use Rattle.fib_model.specs.declared.orders.Order.TheVariants as orders
 use Rattle.fib_model.specs.declared.orders.Outcome.TheVariants as outcomes
 
+-- The updates that follow the routes of a table, and what comes of each (DPDK Programmer's Guide,
+-- "LPM Library" and "RCU Library"; the words of the update file are this project's).
+
 -- the order that a route asks for
 abbrev pub loading_of : Route → Order 24 8
 loading_of route = orders.Add route.prefix route.hop
@@ -49,9 +52,6 @@ pub record IsUpdated (c : Config) (routes : List Route) (list : List (Order 24 8
   pub logs : log ≡ log_after (log_after [] (map loading_of routes) (map outcomes.Put loaded))
       list came
   pub runs : Runs (by_intervals c) 24 8 c initial_by_events log state
-
--- Meaning: the command `apply` (this project's program: a line for what came of each update, then a
--- line for each address; a refused update doesn't stop the file).
 
 -- the text tells what came of each update, after the routes, and then answers the addresses by the
 -- last version of the rules; the files' bytes are known, or not

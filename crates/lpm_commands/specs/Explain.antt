@@ -1,7 +1,5 @@
--- Meaning: the rules that cover an address (Gupta, Lin and McKeown, INFOCOM 1998, section 1: the
--- longest of the prefixes that match answers), and the words of a table that its lookup reads
--- (section 3: the first table at the address's first bits, and where it finds a group there, the
--- group's entry at the last bits).
+-- Meaning: the command `explain` (this project's program: the words of the command line are checked
+-- before the file is read).
 use Rattle.std.specs.Prelude.{ℕ, ◌≡◌, ◌+◌, ◌*◌, ◌/◌, ◌%◌, ◌^◌, ◌<◌, List, [], ◌∷◌, slice_index, Option, Some, None, ◌⊎◌, ◌++◌}
 use Rattle.std.specs.List.{All, AllPairs, Contains}
 use Rattle.std.specs.FinMap.{get}
@@ -25,6 +23,11 @@ use Rattle.lpm_files.specs.declared.failure.Failure.TheVariants.{CannotWrite}
 use Rattle.lpm_files.specs.Inputs.{Input, Reads, AreRead, EndsAtOne, route_file}
 use Rattle.lpm_commands.specs.Loading.{rules_of_routes, IsLoaded, EndsTable}
 use Rattle.lpm_cells.specs.declared.entry.Entry.TheVariants as entries
+
+-- The rules that cover an address (Gupta, Lin and McKeown, INFOCOM 1998, section 1: the longest of
+-- the prefixes that match answers), and the words of a table that its lookup reads (section 3: the
+-- first table at the address's first bits, and where it finds a group there, the group's entry at
+-- the last bits).
 
 -- the rules that cover the address: all of them, nothing else, and the longest first
 pub record AreCovering {first second : ℕ} (width : ℕ) (R : RuleMap) (a : ℕ)
@@ -60,9 +63,6 @@ reading_of second t a =
       word = word;
       second = second_word second t.seconds (a % 2 ^ second) (entry_in word);
     }
-
--- Meaning: the command `explain` (this project's program: the words of the command line are checked
--- before the file is read).
 
 -- the text explains the answer to the address by these rules, in a table of these words
 pub record IsExplanation (R : RuleMap) (t : Words) (a : ℕ) (text : List ℕ) : Type 0 where

@@ -46,9 +46,9 @@ Refuses groups l p (NoGroups oldest) = HasRoomFor l p × BringsGroup l.rules p
 Refuses groups l p Memory = ⊤
 Refuses groups l p refusal = ⊥
 
--- This layer's own: how many groups a table of routes needs (Gupta, Lin and McKeown, INFOCOM 1998,
--- section 3: a group of second words stands behind each first word whose block has a prefix longer
--- than 24 bits, so one for each such route is enough).
+-- How many groups a table of routes needs (Gupta, Lin and McKeown, INFOCOM 1998, section 3: a group
+-- of second words stands behind each first word whose block has a prefix longer than 24 bits, so
+-- one for each such route is enough).
 
 -- the route's prefix is longer than 24 bits
 abbrev pub is_long : Route → Bool

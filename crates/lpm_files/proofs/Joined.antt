@@ -1,4 +1,4 @@
--- The lines of bytes, by the line feeds that end them.
+-- Lines that were cut at a line's end: their items and their first fault.
 use Rattle.std.proofs.Common.{◌≡◌, ◌≢◌, ℕ, suc, ◌+◌, ◌-◌, ◌<◌, ◌==◌, true, false, cond, List, [], ◌∷◌, length, count_by, get_or, drop, refl, sym, ap, ◌∙◌, arith, inl, inr, ◌≤◌, ◌⊎◌, ◌++◌, take, map, subst, append_assoc}
 use Rattle.std.proofs.lemmas.Bool.{cases_Bool, cond-true, cond-false, eq-eqb, ne_eqb}
 use Rattle.std.proofs.lemmas.List.{length-map, append-nil, length-append, take-append-drop, take_all, drop_all, map-append, length-take-le, get_or-take}
@@ -9,6 +9,8 @@ use Rattle.route_text.specs.Files.{lines, fields, StandsFor, AreItems, IsFirstFa
 use Rattle.route_text.specs.declared.fault.Fault.{Fault}
 use Rattle.route_text.specs.declared.fault.FaultKind.{FaultKind}
 use Rattle.route_text.proofs.Items.{nil_lines, add_all}
+
+-- The lines of bytes, by the line feeds that end them.
 
 -- how many line feeds the bytes have
 abbrev feeds : List ℕ → ℕ
@@ -88,8 +90,6 @@ pub not_ended : (bs : List ℕ) → 0 < length bs → get_or bs (length bs - 1) 
 not_ended bs some other =
     let one : unended bs ≡ 1 = unended_last bs some ∙ cond-false _ _ _ (ne_eqb _ 10 other) in
     omega (arith, found bs, one)
-
--- Lines that were cut at a line's end: their items and their first fault.
 
 module _ {Item : Type 0} (Spells : ℕ → List (List ℕ) → Item → Type 0) (later : ℕ → Item → Item)
     (spells_later : (k n : ℕ) (fs : List (List ℕ)) (item : Item) → Spells n fs item → Spells (n + k) fs (later k item)) where

@@ -1,4 +1,4 @@
--- How the counts of the states move as one of them is written.
+-- `IsSound` through each change of the groups.
 use Rattle.std.proofs.Common.{◌≡◌, ℕ, ◌+◌, ◌<◌, Bool, true, cond, List, [], ◌∷◌, ◌++◌, length, get_or, set, map, replicate, zero, suc, refl, ap, ◌∙◌, arith, false, sym, inl, inr, ◌≢◌, ◌-◌, ◌≤◌, take, drop, min, eq-eqb, length-set, length-drop}
 use Rattle.std.specs.Prelude.{count_by, slice_get, Some, Contains, nat_eq, option_map}
 use Rattle.std.proofs.lemmas.List.Sums.{sum_by-cons, sum_by-set}
@@ -12,6 +12,8 @@ use Rattle.std.proofs.lemmas.List.{map-set, take_all, length-map, get_or-drop}
 use Rattle.std.proofs.lemmas.Bool.{eqb-true}
 use Rattle.std.proofs.lemmas.Grind.{common_steps}
 use Rattle.memchr.specs.Find.{Nowhere, NoneBefore, Passes, is_byte}
+
+-- How the counts of the states move as one of them is written.
 
 -- the count of a list by its first element
 pub count_by-cons : (p : GroupState → Bool) (x : GroupState) (xs : List GroupState) → count_by p (x ∷ xs) ≡ cond (p x) 1 0 + count_by p xs
@@ -175,8 +177,6 @@ linked_to (Free ∷ xs) zero linked = cc
 linked_to (Linked b ∷ xs) zero linked = (b, refl)
 linked_to (Limbo ∷ xs) zero linked = cc
 linked_to (x ∷ xs) (suc g) linked = linked_to xs g linked
-
--- `IsSound` through each change of the groups.
 
 -- the mark of a group by its state
 pub mark-at : (xs : List GroupState) (k : ℕ) (s : GroupState) → slice_get xs k ≡ Some s → get_or (map mark_of xs) k 0 ≡ mark_of s

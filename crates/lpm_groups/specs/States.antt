@@ -66,7 +66,7 @@ abbrev pub IsLinkedOnce : List GroupState → Type 0
 IsLinkedOnce states = (g h block : ℕ)
     → IsLinkedTo states g block → IsLinkedTo states h block → g ≡ h
 
--- This layer's own: what `Groups` keeps beside the states (this project's).
+-- What `Groups` keeps beside the states (this project's).
 
 -- the byte by which a free group is searched
 abbrev pub mark_of : GroupState → ℕ

@@ -1,4 +1,4 @@
--- What matches ask for, whatever the command.
+-- The addresses of `explain`, word by word.
 use Rattle.std.proofs.Common.{◌≡◌, ap, arith, ℕ, List, Option, Some, None, codes, slice_index, ◌∙◌, sym, subst, suc, ◌+◌, ◌<◌, [], ◌∷◌, ◌++◌, map, length, take, drop, get_or}
 use Rattle.std.specs.Prelude.{IfSome, IsNone, All, option_map}
 use Rattle.clap.specs.Words.{Row, Text}
@@ -14,6 +14,8 @@ use Rattle.std.proofs.Math.Seq.{drop-cons}
 use Rattle.std.proofs.lemmas.List.{take_more, take-append-drop, map-append, length-map, length-take-le}
 use Rattle.std.proofs.lemmas.List.Elements.{All-nil, All-cons}
 use Rattle.route_text.specs.Fields.{IsAddress}
+
+-- What matches ask for, whatever the command.
 
 -- what is asked for by nothing isn't made
 unasked : (name : Text) (rows : List Row) (made : Option CommandLine) → IsNone made → ((line : CommandLine) → Asks name rows line → ⊥) → IsLine name rows made
@@ -58,8 +60,6 @@ no_rounds rows made is none = unasked (codes "storm") rows made is by_command wh
   by_command (Report routes updates config) asks = let name = asks.0 in absurd cc
   by_command (Storm routes updates addresses config rounds has_stuck_worker) asks = none rounds asks.3 asks.4
   by_command (Migrate old) asks = let name = asks.0 in absurd cc
-
--- The addresses of `explain`, word by word.
 
 -- the texts of words
 abbrev pub texts : List (Bor Text) → List Text

@@ -1,4 +1,4 @@
--- Which addresses a block has.
+-- How many of the rules pass a test.
 use Rattle.std.proofs.Common.{arith, ◌≡◌, ◌≢◌, ℕ, ◌+◌, ◌-◌, ◌*◌, ◌/◌, ◌^◌, ◌<◌, ◌≤◌, ◌↔◌, ◌⊎◌, inl, inr, true, false, refl, ap, sym, ◌∙◌, nat_eq, zero-add, Bool, cond, length, List, [], ◌∷◌, Option, None}
 use Rattle.std.specs.Prelude.{◌&&◌, not, map, filter, count_by, ◌||◌, is_some, T}
 use Rattle.std.specs.declared.cmp.Ordering.{Ordering}
@@ -28,6 +28,8 @@ use Rattle.std.proofs.Math.Bool.{or-true}
 use Rattle.lpm_bits.specs.Network.{Network}
 use Rattle.lpm_rules.specs.RuleMap.{RuleMap, network_cmp}
 use Rattle.std.specs.BTreeMap as tree
+
+-- Which addresses a block has.
 
 le_cases : (a b : ℕ) (r : Ordering) → r ≡ nat_cmp a b → ((is_le r ≡ true) × (a ≤ b)) ⊎ ((is_le r ≡ false) × (b < a))
 le_cases a b Less e = let k : a < b = ranked a b Less e in inl (refl, omega arith)
@@ -76,8 +78,6 @@ block_end first second block shape h =
     let z = mul-le-mul_right (2 ^ second) next in
     let w = pow_mono shape in
     omega (arith, e, z, w)
-
--- How many of the rules pass a test.
 
 abbrev pub same : Network → Network → Bool
 same = eq_by_cmp network_cmp

@@ -58,8 +58,8 @@ LastFlushDecides = (first second : ℕ) (R : RuleMap) (p : Network)
     → (before after : List (Change first second))
     → All (Spares p) after → get (rules_after R (before ++ Flush ∷ after)) p ≡ None
 
--- Meaning: rules that are kept in a map for each length, each collected from the rules of its length
--- (this project's); and this layer's own, the lists that they are collected from.
+-- Rules that are kept in a map for each length, each collected from the rules of its length (this
+-- project's); and this layer's own, the lists that they are collected from.
 
 -- the bits and hops of the rules of this length, in their order
 abbrev pub pairs_of : {first second : ℕ} → ℕ → List (Rule first second) → List (ℕ × ℕ)

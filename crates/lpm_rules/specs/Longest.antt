@@ -51,7 +51,7 @@ abbrev pub HasOneCover : Type 0
 HasOneCover = (width : ℕ) (R : RuleMap) (p : Network) (x y : Option (Network × ℕ))
     → AllNetworks width R → IsCover width R p x → IsCover width R p y → x ≡ y
 
--- Meaning: the rule that answers an address (Gupta, Lin and McKeown, INFOCOM 1998, section 1: that of the
+-- The rule that answers an address (Gupta, Lin and McKeown, INFOCOM 1998, section 1: that of the
 -- longest prefix that matches).
 
 -- the rule of the longest prefix of the address that has a rule; none where no prefix of it has one

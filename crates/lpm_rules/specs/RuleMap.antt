@@ -62,9 +62,8 @@ abbrev pub PutUndoesRemove : Type 0
 PutUndoesRemove = (R : RuleMap) (p : Network) (h : ℕ)
     → get R p ≡ Some h → insert (remove R p) p h ≡ R
 
--- Meaning: a list of rules as a rule list (DPDK Programmer's Guide, "LPM Library": "Addition" gives
--- a prefix its next hop, in place of the one that it may have), and the order of prefixes (this
--- project's).
+-- A list of rules as a rule list (DPDK Programmer's Guide, "LPM Library": "Addition" gives a prefix
+-- its next hop, in place of the one that it may have), and the order of prefixes (this project's).
 
 -- the rules after those of a list were put in, one after another
 abbrev pub with_rules : {first second : ℕ} → RuleMap → List (Rule first second) → RuleMap
@@ -93,8 +92,7 @@ AreInOrder rs = (j k : ℕ) → j ≤ k → k < length rs
 abbrev pub AllUpTo : RuleMap → ℕ → Type 0
 AllUpTo R m = (q : Network) → IsSome (get R q) → place q ≤ m
 
--- Meaning: the next rule of a walk over the rules in the order of their prefixes (this project's:
--- `place`).
+-- The next rule of a walk over the rules in the order of their prefixes (this project's: `place`).
 
 -- p comes after the prefix where a walk stands; before the walk has begun each does
 abbrev pub ComesAfter : Option Network → Network → Type 0

@@ -1,4 +1,4 @@
--- Groups that are linked to the swept blocks, one after another, and free ones behind them.
+-- A new group behind the others, and the link to it.
 use Rattle.std.proofs.Common.{arith, ◌≡◌, ℕ, ◌+◌, ◌-◌, ◌^◌, ◌<◌, ◌≤◌, inl, inr, ap, sym, ◌∙◌, List, ◌++◌, length, map, Option, Some, None, ◌*◌, ◌/◌, ◌%◌, refl, subst, ◌⊎◌, [], ◌∷◌, get_or}
 use Rattle.std.specs.Prelude.{slice_get, option_map, replicate, slice_index, IsSome, max}
 use Rattle.std.proofs.lemmas.Bool.{cases_lt}
@@ -24,6 +24,8 @@ use Rattle.lpm_rules.specs.Deep.{IsDeepBlock}
 use Rattle.std.specs.FinMap.{empty, get-empty}
 use Rattle.lpm_cells.proofs.Reading.{entry_in_zero}
 use Rattle.lpm_rules.proofs.Views.{networks_empty, not_some}
+
+-- Groups that are linked to the swept blocks, one after another, and free ones behind them.
 
 block_is : (o : Option ℕ) (b : ℕ) → option_map Linked o ≡ Some (Linked b) → o ≡ Some b
 block_is None b e = absurd cc
@@ -110,8 +112,6 @@ room_grown f s more R F S represents =
           (represents.best a h);
       groups = represents.groups;
     }
-
--- A new group behind the others, and the link to it.
 
 pub last_length : (F : List ℕ) (x : ℕ) → length (F ++ x ∷ []) ≡ length F + 1
 last_length F x = length-append F (x ∷ [])

@@ -1,5 +1,4 @@
--- This layer's own: a group that is filled upwards, for the rules of one block that are longer than
--- FIRST bits.
+-- This layer's own: the words of the first blocks, for the rules that begin in them or before.
 use Rattle.std.specs.Prelude.{ℕ, ◌≢◌, ◌+◌, ◌*◌, ◌/◌, ◌^◌, ◌<◌, ◌≤◌, List, length, slice_index, ◌≡◌, nat_lt, if◌then◌else◌, [], ◌∷◌, ◌↔◌, IsSome, Some, slice_get}
 use Rattle.lpm_cells.specs.Words.{IsLastWord, entry_in, Words, IsFirstWord, entry_at}
 use Rattle.lpm_cells.specs.declared.entry.Entry.{Entry}
@@ -10,6 +9,8 @@ use Rattle.lpm_sweep.specs.declared.frames.Frame.{Frame}
 use Rattle.lpm_sweep.specs.declared.frames.Frames.{Frames}
 use Rattle.lpm_update.specs.Linked.{IsLinkTo, group_at}
 use Rattle.lpm_sweep.specs.declared.sweeping.Swept.{Swept}
+
+-- A group that is filled upwards, for the rules of one block that are longer than FIRST bits.
 
 -- the group from `base` on is filled up to the end of the list for the rules R, which are those of
 -- R0 and some of block b that are longer than FIRST bits; the places behind have the words w
@@ -28,8 +29,7 @@ pub record IsFilling (first second b base : ℕ) (R0 R : RuleMap) (seconds : Lis
   pub kept : (i : ℕ) → IsDeepBlock first second R0 i → IsDeepBlock first second R i
   pub no_other : (i : ℕ) → i ≢ b → IsDeepBlock first second R i → IsDeepBlock first second R0 i
 
--- This layer's own: the words of the rules that cover a place, and the lists of words that they
--- fill.
+-- The words of the rules that cover a place, and the lists of words that they fill.
 
 -- the word of a place under a frame, where the frames below give it w
 abbrev pub under : Frame → ℕ → ℕ → ℕ
@@ -61,8 +61,6 @@ pub record Fills (old new : List ℕ) (w : ℕ → ℕ) : Type 0 where
 -- how many frames can be taken off, where one that ends at the greatest number never ends
 abbrev pub rank : Frames → ℕ
 rank fs = length fs.below.items + (if nat_lt fs.top.end 18446744073709551615 then 1 else 0)
-
--- This layer's own: the words of the first blocks, for the rules that begin in them or before.
 
 -- the words as two lists
 abbrev pub words_of : Swept → Words

@@ -1,4 +1,4 @@
--- The writer's steps by themselves.
+-- Each token that has passed was checked, and each word stays an entry's.
 use Rattle.std.proofs.Common.{◌≡◌, ℕ, List, [], ◌∷◌, refl, sym, ap, subst, ◌∙◌, suc, ◌<◌, ◌≤◌, ◌⊎◌, inl, inr, Bool, true, false, cond, ◌&&◌, eqb, max, arith, ◌+◌, length, slice_index, slice_set}
 use Rattle.lpm_trace.specs.declared.step.WriterStep.{WriterStep}
 use Rattle.lpm_trace.specs.declared.step.WriterStep.TheVariants.{StoreFirst, StoreSecond, LoadCounter}
@@ -17,6 +17,8 @@ use Rattle.std.proofs.lemmas.List.{length-set}
 use Rattle.lpm_cells.specs.declared.entry.Entry.{Entry}
 use Rattle.lpm_cells.specs.declared.entry.Entry.TheVariants.{Group}
 use Rattle.lpm_cells.specs.Words.{IsLastWord, entry_in, IsFirst, IsFirstWord, IsWords}
+
+-- The writer's steps by themselves.
 
 -- what the workers do leaves the writer's course
 course_of : (c : InitialState) (steps : List TraceStep) → (after c steps).progress ≡ progress_after c (writes steps)
@@ -56,8 +58,6 @@ writer_goes_on c steps s trace may finds = (
   ),
   trace,
 )
-
--- Each token that has passed was checked, and each word stays an entry's.
 
 asked_still : (c : InitialState) (s : WriterStep) (ws : List WriterStep) (token k : ℕ) → IsAskedFor c.token ws token k → IsAskedFor c.token (s ∷ ws) token k
 asked_still c s ws token k asked = record {

@@ -1,5 +1,4 @@
--- Functions changed at one place, words changed at one place, and lists whose members all have a
--- property.
+-- The version that each address shows: the words answer by it, and it never falls.
 use Rattle.std.proofs.Common.{◌≡◌, ℕ, ◌≢◌, ◌<◌, inl, inr, cond, eq-eqb, List, [], ◌∷◌, length, slice_index, slice_set, All, refl, sym, ap, subst, ◌∙◌, get_or-set_same, get_or-set_other, suc, eqb, ◌&&◌, max, arith, ◌+◌, ◌/◌, ◌%◌, ◌≤◌, ◌⊎◌, Bool, true, false, Option, Some, None}
 use Rattle.std.proofs.lemmas.Bool.Decides.{eqb_tells}
 use Rattle.std.proofs.lemmas.List.Elements.{All-nil, All-cons}
@@ -10,6 +9,9 @@ use Rattle.lpm_trace.specs.declared.step.WriterStep.TheVariants.{StoreFirst, Sto
 use Rattle.lpm_trace.specs.Writer.{token_after, passed_after, first_word_after}
 use Rattle.lpm_cells.specs.Words.{Words, with_first, with_second}
 use Rattle.lpm_rules.specs.RuleMap.{RuleMap}
+
+-- Functions changed at one place, words changed at one place, and lists whose members all have a
+-- property.
 
 -- a fact of whether j is i
 pub by_number : (P : Bool → Type 0) (j i : ℕ) → ((eqb j i ≡ true) × (j ≡ i) → P true) → ((eqb j i ≡ false) × (j ≢ i) → P false) → P (eqb j i)
@@ -82,8 +84,6 @@ first_word_is c (StoreFirst i x ∷ steps) block within =
           ∙ sym (ap (λ b. cond b x (first_word_after c.words.firsts steps block)) other.0)
     ]
 first_word_is c (s ∷ steps) block within = first_word_is c steps block within
-
--- The version that each address shows: the words answer by it, and it never falls.
 
 is_same_tells : (x y : Option ℕ) → ((is_same x y ≡ true) × (x ≡ y)) ⊎ ((is_same x y ≡ false) × (x ≢ y))
 is_same_tells None None = inl (refl, refl)

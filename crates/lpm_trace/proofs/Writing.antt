@@ -1,4 +1,4 @@
--- The sequence, the token and the checks keep what holds.
+-- The writer's stores keep what holds.
 use Rattle.std.proofs.Common.{◌≡◌, ℕ, suc, ◌+◌, ◌/◌, ◌<◌, ◌≤◌, ◌≢◌, ◌⊎◌, inl, inr, Bool, true, false, cond, ◌&&◌, eqb, leb, max, sym, ap, subst, ◌∙◌, arith, ◌%◌, ◌^◌, length, slice_index, refl, get_or-set_other}
 use Rattle.std.proofs.lemmas.Bool.Decides.{leb_tells}
 use Rattle.lpm_trace.specs.declared.step.WriterStep.TheVariants.{LoadCounter, StoreFirst, StoreSecond}
@@ -12,6 +12,8 @@ use Rattle.lpm_cells.specs.declared.entry.Entry.{Entry}
 use Rattle.lpm_cells.specs.declared.entry.Entry.TheVariants.{Group}
 use Rattle.lpm_cells.specs.Words.{entry_in, hop_in, with_first, last_entry}
 use Rattle.lpm_trace.proofs.Versions.{by_number, with_at_case, with_at-same, with_at-other, set_case}
+
+-- The sequence, the token and the checks keep what holds.
 
 -- the tables with the words and the groups as they were
 abbrev pub quiet : TableState → ℕ → (ℕ → RuleMap) → (ℕ → Bool) → ℕ → TableState
@@ -104,8 +106,6 @@ keeps_counter c A Hi w workers good token k0 value may now below = record {
   now = now;
   below = below;
 }
-
--- The writer's stores keep what holds.
 
 -- a group that is held is not free
 pub held_not_free : (c : InitialState) (w : TableState) (k counter : ℕ) (p : Phase) → k < c.workers → (s : Status) → HeldAs w k counter p s → IsFree c w.passed s → ⊥

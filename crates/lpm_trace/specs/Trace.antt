@@ -1,8 +1,5 @@
--- Meaning: what a worker's own steps leave: its counter, its report or lookup that goes on, and its
--- finished lookups; and which of its steps may come next (Gupta, Lin and McKeown, INFOCOM 1998,
--- section 3: a lookup reads one word or two; DPDK Programmer's Guide, "RCU Library": a worker stores
--- the token in its counter when it comes online and in each quiescent state, and 0 when it goes
--- offline).
+-- Meaning: traces: lists of steps, the newest first, each of which may come after those before it. A
+-- moment is the state after a number of steps (this project's).
 use Rattle.std.specs.Prelude.{◌≡◌, ℕ, ◌+◌, ◌*◌, ◌/◌, ◌%◌, ◌^◌, ◌<◌, ⊤, List, [], ◌∷◌, All, map, slice_index, Option, Some, None, suc, cond, eqb, length}
 use Rattle.lpm_cells.specs.declared.entry.Entry.{Entry}
 use Rattle.lpm_cells.specs.declared.entry.Entry.TheVariants.{Miss, Hop, Group}
@@ -14,6 +11,11 @@ use Rattle.lpm_trace.specs.declared.step.WriterStep.{WriterStep}
 use Rattle.lpm_trace.specs.declared.step.TraceStep.{TraceStep}
 use Rattle.lpm_trace.specs.declared.step.TraceStep.TheVariants.{Writer, Worker as ByWorker}
 use Rattle.lpm_trace.specs.Progress.{WriterProgress, initial_progress, progress_by_step, Follows}
+
+-- What a worker's own steps leave: its counter, its report or lookup that goes on, and its finished
+-- lookups; and which of its steps may come next (Gupta, Lin and McKeown, INFOCOM 1998, section 3: a
+-- lookup reads one word or two; DPDK Programmer's Guide, "RCU Library": a worker stores the token
+-- in its counter when it comes online and in each quiescent state, and 0 when it goes offline).
 
 -- What a worker is doing. In the two reports it has loaded a token that it hasn't stored yet.
 pub data Phase : Type 0 where
@@ -162,9 +164,6 @@ IsRunning (ComingOnline loaded) = ⊥
 IsRunning Online = ⊤
 IsRunning LookingUp = ⊤
 IsRunning (ReportingQuiescent loaded) = ⊤
-
--- Meaning: traces: lists of steps, the newest first, each of which may come after those before it. A
--- moment is the state after a number of steps (this project's).
 
 pub record World : Type 0 where
   pub state : TableState

@@ -1,6 +1,7 @@
--- Meaning: what is counted over the writer's steps, of which the newest stands first (DPDK Programmer's Guide,
--- "RCU Library": the token is one more for each that was started, and a check passes when the counter of each
--- reader has let it pass).
+-- Meaning: the writer's own list of steps, the newest first: what they leave, and which of its steps
+-- may come next, whatever its workers do in between (DPDK Programmer's Guide, "RCU Library": the
+-- writer alone starts tokens and asks the readers' counters; the order within an update is this
+-- project's).
 use Rattle.std.specs.Prelude.{ℕ, suc, ◌+◌, cond, eqb, ◌&&◌, max, List, [], ◌∷◌, slice_index, ◌≡◌, ⊤}
 use Rattle.lpm_trace.specs.declared.step.WriterStep.{WriterStep}
 use Rattle.lpm_trace.specs.declared.step.WriterStep.TheVariants.{StoreFirst, BumpToken, LoadCounter}
@@ -9,6 +10,10 @@ use Rattle.lpm_trace.specs.declared.step.TraceStep.{TraceStep}
 use Rattle.lpm_trace.specs.declared.step.TraceStep.TheVariants.{Writer}
 use Rattle.lpm_trace.specs.Progress.{WriterProgress, initial_progress, progress_by_step, Follows}
 use Rattle.lpm_trace.specs.Trace.{after, IsTrace, writes}
+
+-- What is counted over the writer's steps, of which the newest stands first (DPDK Programmer's
+-- Guide, "RCU Library": the token is one more for each that was started, and a check passes when
+-- the counter of each reader has let it pass).
 
 -- the token, where it began with `start`
 abbrev pub token_after : ℕ → List WriterStep → ℕ
@@ -30,11 +35,6 @@ first_word_after opening [] block = slice_index opening block
 first_word_after opening (StoreFirst i word ∷ steps) block =
     cond (eqb i block) word (first_word_after opening steps block)
 first_word_after opening (other ∷ steps) block = first_word_after opening steps block
-
--- Meaning: the writer's own list of steps, the newest first: what they leave, and which of its steps
--- may come next, whatever its workers do in between (DPDK Programmer's Guide, "RCU Library": the
--- writer alone starts tokens and asks the readers' counters; the order within an update is this
--- project's).
 
 -- the writer's course after these steps of its own
 abbrev pub progress_after : InitialState → List WriterStep → WriterProgress

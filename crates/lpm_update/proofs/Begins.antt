@@ -1,4 +1,4 @@
--- A change begins on words that answer the rule list.
+-- Each kind of change, as it begins.
 use Rattle.std.proofs.Common.{arith, ◌≡◌, ℕ, suc, ◌+◌, ◌*◌, ◌/◌, ◌^◌, ◌<◌, refl, ap, sym, ◌∙◌, subst, List, ◌≤◌, ◌-◌, ◌⊎◌, inl, inr, Option, Some, None, false}
 use Rattle.std.specs.Prelude.{IsSome, slice_index, ◌==◌, if◌then◌else◌}
 use Rattle.std.proofs.lemmas.Nat.{pow-add, pow_pos, shr_high, shr_below}
@@ -28,6 +28,8 @@ use Rattle.lpm_update.specs.declared.rewrite_range.RewriteRange.{RewriteRange}
 use Rattle.lpm_update.specs.declared.link_group.LinkGroup.{LinkGroup}
 use Rattle.lpm_update.specs.declared.update.Plan.TheVariants.{Range, Link, Unlink}
 use Rattle.lpm_update.proofs.Groups.{unlinked_yet, here_is, there_is}
+
+-- A change begins on words that answer the rule list.
 
 some_group : (e : Entry) → IsSome (group_in e) → (g : ℕ) × (e ≡ Group g)
 some_group Miss h = absurd (not_some refl h)
@@ -166,8 +168,6 @@ unlinked_groups f s R p L none known i low = elim (cases_eq i (p.bits / 2 ^ s)) 
 
 pub flush_deep : (f s : ℕ) → HasDeepGroups f s (empty {R = network_cmp}) (λ i. None)
 flush_deep f s i low = ((λ some. absurd (not_some refl some)), (λ d. absurd (not_some (get-empty network_cmp d.0) d.1)))
-
--- Each kind of change, as it begins.
 
 block_in : (f s : ℕ) (p : Network) → IsNetwork (f + s) p → p.bits / 2 ^ s < 2 ^ f
 block_in f s p n = shr_below p.bits f s n.1

@@ -1,4 +1,4 @@
--- Several steps of a change in one call.
+-- A change that goes on is of one kind, and never turns back.
 use Rattle.std.proofs.Common.{arith, refl, sym, ◌≡◌, ℕ, subst, ◌≤◌, List, [], ◌∷◌, Some, None, ap, ◌∙◌}
 use Rattle.lpm_cells.specs.Words.{Words}
 use Rattle.lpm_update.specs.declared.Did.{Did}
@@ -16,6 +16,8 @@ use Rattle.lpm_update.specs.Laws.{KeepsGroups, Leads, RunsOn}
 use Rattle.lpm_update.proofs.RangeSteps.{further_same, further_on, mid_steps, range_done, skips_join}
 use Rattle.lpm_update.specs.declared.unlink_group.UnlinkGroup.{UnlinkGroup}
 use Rattle.lpm_update.specs.declared.flush.Flush.{Flush as FlushData}
+
+-- Several steps of a change in one call.
 
 -- a step that stored a word and unlinked no group
 pub keeps_groups : (did : Did) → ((b g : ℕ) → did ≡ Unlinked b g → ⊥) → (did ≡ Done → ⊥) → KeepsGroups did
@@ -108,8 +110,6 @@ module _ {A : Type 0} (words : A → Words) (P Q : A → ℕ → ℕ → A → T
   visited_all u c v d k done =
       let within = k.under_way.within in
       (k.advances.dids, Range k.last, k.advances.leads, range_done f s k.last v (words d) k.advances.table k.advances.under_way k.further k.under_way k.skips (omega (arith, done, within)))
-
--- A change that goes on is of one kind, and never turns back.
 
 pub onward_same : (u : Plan) → IsOnward u u
 onward_same (Range u) = further_same u

@@ -1,4 +1,4 @@
--- A look at the next place of a range.
+-- The steps of a range.
 use Rattle.std.proofs.Common.{arith, ◌≡◌, ℕ, ◌+◌, ◌*◌, ◌/◌, ◌%◌, ◌^◌, ◌<◌, ◌≤◌, true, false, length, refl, ap, sym, ◌∙◌, subst, List, inl, inr}
 use Rattle.std.specs.Prelude.{slice_index, slice_set}
 use Rattle.std.proofs.lemmas.Nat.{pow_pos, shl_whole, mod_below, shr_below}
@@ -21,6 +21,8 @@ use Rattle.lpm_update.specs.declared.update.Plan.TheVariants.{Range}
 use Rattle.lpm_update.specs.Step.{AllowsNext, Steps}
 use Rattle.lpm_update.specs.Update.{IsNextFirst, IsNextSecond}
 use Rattle.lpm_update.proofs.Groups.{first_within, keeps_groups, last_none}
+
+-- A look at the next place of a range.
 
 -- ---- words and places of a table
 
@@ -159,8 +161,6 @@ module _ (f s : ℕ) (u : RewriteRange) (W : Words) (g j : ℕ) (more : u.at < u
           ap (λ x. replaces u.rewrite (entry_at s W x)) z ∙ ap (replaces u.rewrite) (in_group s W g u.at e ∙ ap (λ x. entry_in (slice_index W.seconds x)) (sym p)) ∙ kept,
     );
   })
-
--- The steps of a range.
 
 pub further_same : (u : RewriteRange) → IsFurther u u
 further_same u = record { from = refl; end = refl; rewrite = refl; at = omega arith }

@@ -1,4 +1,4 @@
--- An address goes from its old answer to its new one, and not back.
+-- A run of steps, from its beginning to its end.
 use Rattle.std.proofs.Common.{arith, ◌≡◌, ℕ, ◌+◌, ◌^◌, ◌≤◌, ◌⊎◌, inl, inr, true, refl, ap, sym, ◌∙◌, subst, Option, Some, None, ◌*◌, ◌<◌, length, List, [], ◌∷◌}
 use Rattle.std.specs.Prelude.{◌==◌, if◌then◌else◌, IsSome, slice_index_or}
 use Rattle.std.proofs.Math.Nat.{mul-le-mul_right}
@@ -32,6 +32,8 @@ use Rattle.std.proofs.lemmas.List.Kept.{AllPairs-cons}
 use Rattle.lpm_update.specs.declared.Did.{Did}
 use Rattle.lpm_update.specs.Best.{IsBest}
 use Rattle.lpm_update.proofs.Once.{passed_stays, not_twice}
+
+-- An address goes from its old answer to its new one, and not back.
 
 -- ---- where the change has come
 
@@ -222,8 +224,6 @@ next_store f s u W t k = record {
         λ E st. moves f s u h.1.0 W (with_first W b w) E k st a.under_way a.onward (a.stands E st),
       );
 }
-
--- A run of steps, from its beginning to its end.
 
 -- ---- one step after another
 

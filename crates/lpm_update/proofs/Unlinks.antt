@@ -1,4 +1,4 @@
--- A range over one block that leaves all of it with one entry.
+-- The steps of a change that unlinks a group.
 use Rattle.std.proofs.Common.{arith, ◌≡◌, ℕ, ◌+◌, ◌*◌, ◌/◌, ◌%◌, ◌^◌, ◌<◌, inl, inr, ap, sym, ◌∙◌, ◌-◌, ◌≤◌, refl, subst, length, Bool, true, false, Some, None}
 use Rattle.std.specs.Prelude.{slice_index, slice_set, if◌then◌else◌}
 use Rattle.std.proofs.lemmas.Bool.{cases_lt, cases_eq}
@@ -22,6 +22,8 @@ use Rattle.lpm_update.specs.Update.{IsUnderWay, IsNextUnlink, SameGroups, group_
 use Rattle.lpm_update.specs.Step.{HasPassed, HeldAlong, Steps, Stored}
 use Rattle.lpm_update.proofs.Groups.{gives_up, group_set_same, group_set_other, last_none, not_unlinked, here_is, there_is}
 
+-- A range over one block that leaves all of it with one entry.
+
 -- at the end each address has its final entry
 pub stands_final : (s from end : ℕ) (c : Rewrite) (W : Words) (E : ℕ → Entry) → Stands s from end c W E → (a : ℕ) → entry_at s W a ≡ final_entry from end c a (E a)
 stands_final s from end c W E t a = elim (cases_lt a from) [
@@ -42,8 +44,6 @@ uniform_words s from end c W E b g x e t all r h =
     ap (λ y. entry_in (slice_index W.seconds (g * 2 ^ s + y))) (sym place)
     ∙ sym (in_group s W g a (ap (λ k. entry_in (slice_index W.firsts k)) block ∙ e))
     ∙ stands_final s from end c W E t a ∙ all a block
-
--- The steps of a change that unlinks a group.
 
 -- it is seen by no address
 unlink_unseen : (s : ℕ) (W : Words) (b g w a : ℕ) → b < length W.firsts → IsLinkTo W.firsts b g → IsLast (entry_in w)

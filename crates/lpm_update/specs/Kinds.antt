@@ -30,9 +30,9 @@ pub record IsFlushStore (first next : ℕ) (firsts : List ℕ) (i w : ℕ) : Typ
   pub word : w ≡ word_of Miss
   pub skipped : AllMiss firsts next i
 
--- This layer's own: a free group's words are stored before it is linked (DPDK Programmer's Guide,
--- "LPM Library", "Addition": a new group's entries are set to those of the rule that covered the
--- block, then the rule's own, and the first entry is made to point at it last).
+-- A free group's words are stored before it is linked (DPDK Programmer's Guide, "LPM Library",
+-- "Addition": a new group's entries are set to those of the rule that covered the block, then the
+-- rule's own, and the first entry is made to point at it last).
 
 -- the address lies in the range
 abbrev pub in_range : ℕ → ℕ → ℕ → Bool
@@ -76,9 +76,8 @@ IsFillStore second u firsts j w =
 abbrev pub IsLinkStore : ℕ → LinkGroup → ℕ → ℕ → Type 0
 IsLinkStore second u i w = (u.next ≡ 2 ^ second) × (i ≡ u.block) × (w ≡ word_of (Group u.group))
 
--- This layer's own: a range of addresses whose entries are rewritten, upwards (DPDK Programmer's
--- Guide, "LPM Library", "Addition": the entries of the rule's range; the order is this
--- project's).
+-- A range of addresses whose entries are rewritten, upwards (DPDK Programmer's Guide, "LPM
+-- Library", "Addition": the entries of the rule's range; the order is this project's).
 
 -- the bound x cuts no block that has no group
 abbrev pub IsWhole : ℕ → List ℕ → ℕ → Type 0
@@ -154,10 +153,9 @@ pub record Visits (first second : ℕ) (u : RewriteRange) (t : Words) (did : Did
   pub more : u.at < v.at
   pub stored : VisitStored first second did u t v z
 
--- This layer's own: a group is unlinked when its block has no rule longer than FIRST bits any
--- more: its words are then all equal, and the first entry takes their value (DPDK Programmer's
--- Guide, "LPM Library", "Deletion": a group whose entries are all alike is merged back into the
--- first table).
+-- A group is unlinked when its block has no rule longer than FIRST bits any more: its words are
+-- then all equal, and the first entry takes their value (DPDK Programmer's Guide, "LPM Library",
+-- "Deletion": a group whose entries are all alike is merged back into the first table).
 
 -- the change, of entries that were E, leaves all addresses of the block with one entry
 abbrev pub IsUniform : ℕ → RewriteRange → (ℕ → Entry) → ℕ → Type 0

@@ -1,4 +1,5 @@
--- Meaning: a run of steps of one change, each by the contract of `Update::step` (this project's).
+-- Meaning: what an upper layer needs of a change: how it begins, goes on and ends, what its next
+-- store may be, and what the words answer (this project's).
 use Rattle.std.specs.Prelude.{ℕ, ◌≡◌, ⊤, List, [], ◌∷◌, length, Option, Some, None, ◌⊎◌, ◌+◌, ◌^◌, ◌<◌, ◌==◌, if◌then◌else◌, replicate}
 use Rattle.lpm_cells.specs.Words.{Words, entry_at, IsFirstWord, with_first, with_second, IsLastWord, word_of, hop_in}
 use Rattle.lpm_update.specs.declared.Did.{Did}
@@ -21,6 +22,8 @@ use Rattle.lpm_update.specs.Best.{IsBest}
 use Rattle.lpm_update.specs.Represents.{Represents, TurnsInto, IsBegun, IsFreshGroup}
 use Rattle.lpm_update.specs.Tied.{IsTied, HasGroupRoom, SameLinksBut}
 use Rattle.std.specs.FinSet as set
+
+-- A run of steps of one change, each by the contract of `Update::step` (this project's).
 
 -- the steps from u and the words t, the last one first, lead to v and the words z
 abbrev pub Runs : ℕ → ℕ → Plan → Words → List Did → Plan → Words → Type 0
@@ -83,9 +86,6 @@ IsSameWord (Second j) (Second k) = j ≡ k
 IsSameWord (Unlinked i group) (First k) = i ≡ k
 IsSameWord (Unlinked i group) (Unlinked k group') = i ≡ k
 IsSameWord d e = ⊥
-
--- Meaning: what an upper layer needs of a change: how it begins, goes on and ends, what its next
--- store may be, and what the words answer (this project's).
 
 -- ---- how a change begins, goes on and ends
 

@@ -1,4 +1,4 @@
--- Loads of the workers' counters, one after another.
+-- What a check leaves.
 use Rattle.std.proofs.Common.{arith, ◌≡◌, ℕ, suc, ◌+◌, ◌<◌, ◌≤◌, inl, inr, true, false, cond, eqb, eq-eqb, refl, sym, ap, subst, ◌∙◌, List, ◌∷◌, leb, ◌⊎◌, add-one, zero, max}
 use Rattle.std.proofs.lemmas.Bool.Decides.{eqb_tells, leb_tells}
 use Rattle.lpm_trace.specs.declared.step.WriterStep.{WriterStep}
@@ -10,6 +10,8 @@ use Rattle.lpm_writer.specs.Traced.{Loads, Traced, Goes, Asks, Checks}
 use Rattle.lpm_writer.specs.Matching.{MayAsk, SameTables, HasNothingDue}
 use Rattle.std.specs.Prelude.{◌&&◌, Result, Ok, Err, IsOk, Some}
 use Rattle.lpm_limits.specs.declared.busy.Busy.{Busy}
+
+-- Loads of the workers' counters, one after another.
 
 -- the check goes on at the next worker
 pub go_on : (c : InitialState) (x : WriterProgress) (t k v : ℕ) → lets_pass t v ≡ true → suc k < c.workers → progress_after_load c x t k v ≡ record x { next_step = Check t }
@@ -76,8 +78,6 @@ module _ {M : Type 0} (did : M → InitialState → List WriterStep → Type 0) 
         rw add-one ((y, so_far.0), counter, so_far.2, pass, (loads, refl)),
         λ more. rw add-one (next_ask c so_far.0 token k counter may_load pass (omega (arith, more))),
       )
-
--- What a check leaves.
 
 pub quiet_same : (w : TableState) → SameTables w w
 quiet_same w = record { words = refl; sequence = refl; history = refl; answer_changed = refl; groups = refl }

@@ -1,4 +1,4 @@
--- The least free group is taken, by the states of the groups.
+-- Groups that wait in limbo, and are freed.
 use Rattle.std.proofs.Common.{arith, ℕ, ◌<◌, inl, inr, sym, ◌∙◌, subst, List, ◌≡◌, ◌≢◌, zero, suc, ◌+◌, ◌≤◌, refl, ap, [], ◌∷◌, length, length-append, length-drop, drop, ◌++◌, Option, Some, add-one, append-nil, None}
 use Rattle.std.specs.Prelude.{slice_set, slice_get, ◌↔◌, Result, Ok, Err, MatchOption}
 use Rattle.std.proofs.lemmas.Bool.{cases_eq}
@@ -23,6 +23,8 @@ use Rattle.lpm_writer.specs.declared.pool.GroupPool.{GroupPool}
 use Rattle.lpm_writer.specs.Matching.{GroupsMatchSteps, MayReclaim}
 use Rattle.defer_queue.specs.Reclaims as queue
 
+-- The least free group is taken, by the states of the groups.
+
 -- ---- by the states of the groups
 
 pub least_same : (xs : List GroupState) → LinksLeast xs xs
@@ -42,8 +44,6 @@ least_freed xs ys zs items n freed least g b at = elim (least g b at) [
   | inl was ↦ inl ((freed.links g b).0 was)
   | inr none ↦ inr none
 ]
-
--- Groups that wait in limbo, and are freed.
 
 -- what is written to another group's state leaves the items waiting
 pub waiting_set : (xs : List GroupState) (g : ℕ) (s : GroupState) (items : List (ℕ × ℕ)) → IsAbsent g items → AreWaiting xs items → AreWaiting (slice_set xs g s) items

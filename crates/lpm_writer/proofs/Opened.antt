@@ -1,5 +1,4 @@
--- A table whose words represent its rules, and of which no group waits, is one that may be opened, and a
--- control state rests there.
+-- What a table is opened with: its words are all misses, which represent no rules, and all groups are free.
 use Rattle.std.proofs.Common.{◌≡◌, ℕ, ◌+◌, ◌^◌, ◌<◌, ◌≤◌, inl, inr, refl, ap, sym, ◌∙◌, List, [], length, slice_get, slice_index, Some, arith, subst, zero, suc, ◌*◌, replicate}
 use Rattle.std.proofs.lemmas.Option.{none-some}
 use Rattle.std.proofs.lemmas.Bool.{cases_lt}
@@ -24,6 +23,9 @@ use Rattle.std.specs.FinMap.{empty}
 use Rattle.lpm_groups.proofs.Marking.{limbo_count-replicate}
 use Rattle.lpm_update.specs.Laws.{blank_words}
 use Rattle.lpm_writer.specs.declared.pool.GroupPool.{GroupPool}
+
+-- A table whose words represent its rules, and of which no group waits, is one that may be opened, and a
+-- control state rests there.
 
 pub no_group : (g : ℕ) → Miss ≡ Group g → ⊥
 no_group g e = cc
@@ -97,8 +99,6 @@ module _ (f s : ℕ) (t : Words) (R : RuleMap) (xs : List GroupState) (config : 
     versions = refl;
     updates = omega arith;
   }
-
--- What a table is opened with: its words are all misses, which represent no rules, and all groups are free.
 
 pub unused_retired : (t : ℕ) → Unused ≡ Retired t → ⊥
 unused_retired t e = cc

@@ -1,4 +1,4 @@
--- A group that is retired: its token is bumped, and it goes last into limbo.
+-- A reclaim, from item to item.
 use Rattle.std.proofs.Common.{◌≡◌, ℕ, suc, true, refl, sym, ap, subst, ◌∙◌, List, [], ◌∷◌, ◌++◌, Option, arith, ◌%◌, ◌<◌, ◌≤◌, ◌⊎◌, inl, inr, Some, None, ◌+◌}
 use Rattle.std.specs.Prelude.{slice_set, slice_get, Result, Ok, Err}
 use Rattle.lpm_groups.specs.declared.GroupState.TheVariants.{Limbo, Free, Linked as LinkedTo}
@@ -23,6 +23,8 @@ use Rattle.fib_model.specs.State.{Reclaims}
 use Rattle.defer_queue.specs.Reclaims.{FreesFront}
 use Rattle.defer_queue.proofs.Longest.{FreesFront-more}
 use Rattle.lpm_writer.specs.Traced.{Traced, Checks, by_writer}
+
+-- A group that is retired: its token is bumped, and it goes last into limbo.
 
 pub tokens_append : (xs : List (ℕ × ℕ)) (g t : ℕ) → tokens_of (xs ++ (g, t) ∷ []) ≡ tokens_of xs ++ t ∷ []
 tokens_append [] g t = refl
@@ -214,8 +216,6 @@ is_limbo c w states items kept = record {
     absent_linked : (status : ℕ → Status) (token g b : ℕ) (items : List (ℕ × ℕ)) → status g ≡ Linked b → AreRetired status token items → IsAbsent g items
     absent_linked status token g b [] is h = tt
     absent_linked status token g b (item ∷ items) is h = (λ e. linked_not_retired b item.1 (sym is ∙ ap status (sym e) ∙ h.0), absent_linked status token g b items is h.2)
-
--- A reclaim, from item to item.
 
 pub still_same : (c : InitialState) (steps : List WriterStep) (items : List (ℕ × ℕ)) → MayReclaim c steps items → OnlyChecks c steps steps
 still_same c steps items may = record { quiet = quiet_same (state_after c steps); token = refl; taken = refl; idle = may.idle }

@@ -1,4 +1,5 @@
--- No word is stored twice in an update: from store to store, and over steps that store nothing.
+-- The writer's steps by themselves: a change of a memory is one by its steps, whatever the memory. And what no step
+-- changes of a memory, no change does.
 use Rattle.std.proofs.Common.{arith, ◌≡◌, ℕ, zero, suc, inl, inr, sym, subst, List, [], ◌∷◌, length, Option, Some, None, refl, ap, ◌∙◌, ◌++◌}
 use Rattle.std.specs.Prelude.{Result, Ok, Err, slice_index_or}
 use Rattle.std.specs.List.{All}
@@ -37,6 +38,8 @@ use Rattle.fib_model.proofs.Carried.{changes_carry_over}
 use Rattle.lpm_writer.proofs.Checks.{HasPassed, HasStopped, check_passes, check_stops}
 use Rattle.defer_queue.specs.Reclaims as queue
 use Rattle.lpm_writer.specs.Steps as by_steps
+
+-- No word is stored twice in an update: from store to store, and over steps that store nothing.
 
 -- ---- from store to store
 
@@ -153,9 +156,6 @@ module _ {M : Type 0} (does : M → WriterStep → M → Type 0) (c : InitialSta
   after_find f s firsts p x old (Ok None) z new h = stays x z h.1
   after_find f s firsts p x old (Ok (Some g)) z new h = takes x old (Ok g) z new h.2
   after_find f s firsts p x old (Err oldest) z new h = takes x old (Err oldest) z new h.1
-
--- The writer's steps by themselves: a change of a memory is one by its steps, whatever the memory. And what no step
--- changes of a memory, no change does.
 
 pub named_same : (ms : List ℕ) → AreNamed (λ m n. n ≡ m) ms ms
 named_same [] = tt

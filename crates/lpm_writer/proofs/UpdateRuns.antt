@@ -1,4 +1,4 @@
--- A memory, as proofs take it.
+-- An update that runs over a memory, from store to store.
 use Rattle.std.proofs.Common.{◌≡◌, ℕ, List, ◌∷◌, arith, suc, ◌+◌, ◌-◌, ◌^◌, ◌<◌, refl, sym, ap, subst, ◌∙◌, Option, None, add-one}
 use Rattle.lpm_trace.specs.declared.step.WriterStep.{WriterStep}
 use Rattle.lpm_trace.specs.declared.step.WriterStep.TheVariants.{StoreFirst, StoreSecond}
@@ -33,6 +33,8 @@ use Rattle.lpm_writer.proofs.Storing.{none_filling, over_filling, taken_first, t
 use Rattle.lpm_cells.specs.declared.Cells as cells
 use Rattle.lpm_writer.specs.declared.memory.Memory as memory
 
+-- A memory, as proofs take it.
+
 -- what a type says as a memory, and the laws that `Memory` asks of it
 pub record AsMemory (M : Type 0) : Type 1 where
   pub cells : cells.Ghosts M
@@ -45,8 +47,6 @@ pub record AsMemory (M : Type 0) : Type 1 where
   pub may_second : (m : M) (i w : ℕ) → MayBeNext says.did m (StoreSecond i w) → cells.may_set_second m i w
   pub first_stored : (m : M) (i w : ℕ) (z : M) → cells.sets_first m i w z → says.does m (StoreFirst i w) z
   pub second_stored : (m : M) (i w : ℕ) (z : M) → cells.sets_second m i w z → says.does m (StoreSecond i w) z
-
--- An update that runs over a memory, from store to store.
 
 due_last : (e : Entry) → IsLast e → next_after_store e ≡ Nothing
 due_last Miss h = refl

@@ -34,7 +34,7 @@ Commands did old m new z P = (c : InitialState) (steps : List WriterStep) → di
     × P c (state_of old.rules.rules (m, steps) old.pool old.versions)
     (state_of new.rules.rules (z, later) new.pool new.versions)
 
--- This layer's own: a control state whose token was started, before a check of it has passed (DPDK Programmer's
+-- A control state whose token was started, before a check of it has passed (DPDK Programmer's
 -- Guide, "RCU Library", and `rte_rcu_qsbr_synchronize` of its API).
 
 -- a check of the newest token is due, from worker 0 on; where there are no workers nothing is due
@@ -57,7 +57,7 @@ pub record IsWaiting (first second : ℕ) (c : InitialState) (steps : List Write
   pub due : IsAwaited c steps
   pub once : StoresOnce steps
 
--- This layer's own: groups in limbo that are freed, by the writer's steps (this project's).
+-- Groups in limbo that are freed, by the writer's steps (this project's).
 
 -- after some steps that may have led to the memory, as `did` tells them, a check may begin; the groups are what
 -- those say, where others may wait behind the queue, and one may be held

@@ -1,4 +1,4 @@
--- Meaning: which step the writer of a memory may make next (this project's).
+-- Meaning: the memory of one thread, and the steps that may have led to it (this project's).
 use Rattle.std.specs.Prelude.{List, ℕ, ◌≡◌, ◌+◌, ⊤, length, slice_index}
 use Rattle.lpm_trace.specs.declared.step.WriterStep.{WriterStep}
 use Rattle.lpm_trace.specs.States.{InitialState, state_after}
@@ -7,12 +7,12 @@ use Rattle.lpm_cells.specs.Words.{Words, with_first, with_second}
 use Rattle.qsbr.specs.Counters.{Registry}
 use Rattle.lpm_trace.specs.declared.step.WriterStep.TheVariants.{StoreFirst, StoreSecond, BumpToken, LoadCounter}
 
+-- Which step the writer of a memory may make next (this project's).
+
 -- from some opening, after some list of the writer's steps that may have led to the memory, the step
 -- may come next
 abbrev pub MayBeNext : {M : Type 0} → (M → InitialState → List WriterStep → Type 0) → M → WriterStep → Type 0
 MayBeNext did m s = (c : InitialState) × (steps : List WriterStep) × did m c steps × MayStep c steps s
-
--- Meaning: the memory of one thread, and the steps that may have led to it (this project's).
 
 -- the words and the token are those that these steps leave, each of which might come
 pub record PlainDid (first second : ℕ) (t : Words) (r : Registry) (c : InitialState)

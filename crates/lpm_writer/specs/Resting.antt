@@ -1,5 +1,4 @@
--- Meaning: a whole update, from the step that opens it to the one that closes it (this
--- project's).
+-- Meaning: what a writer keeps between its calls (this project's).
 use Rattle.std.specs.Prelude.{ℕ, ◌≡◌, ◌-◌, ◌%◌, ◌<◌, false, List, ◌*◌, ◌^◌, ◌+◌, ◌≤◌, length, None}
 use Rattle.lpm_groups.specs.States.{linked_count}
 use Rattle.lpm_limits.specs.declared.config.Config.{Config}
@@ -23,6 +22,8 @@ use Rattle.lpm_update.specs.Update.{group_held}
 use Rattle.lpm_trace.specs.declared.step.RuleChange.{RuleChange}
 use Rattle.lpm_writer.specs.Making.{HasWidths, IsTakenBy, group_to_fill}
 
+-- A whole update, from the step that opens it to the one that closes it (this project's).
+
 -- no update runs, nothing is due of the writer, no address has turned, and in none of the updates that
 -- are done was a word stored twice
 pub record IsBetween (c : InitialState) (steps : List WriterStep) : Type 0 where
@@ -41,7 +42,7 @@ pub record Changes {X : Type 0} (t : Transitions X) (config : Config) (x : X) (o
       opened (tokens_of old.queue.items) last (tokens_of new.queue.items)
   pub ends : t.ends last z
 
--- Meaning: what a table is opened with (this project's).
+-- What a table is opened with (this project's).
 
 -- no rules, words that are all misses, and groups that were never linked
 abbrev pub blank_state : ℕ → ℕ → Config → InitialState
@@ -54,8 +55,6 @@ blank_state first second config = record {
   rules = empty;
   groups = λ g. Unused;
 }
-
--- Meaning: what a writer keeps between its calls (this project's).
 
 -- what outcomes depend on, by what a writer keeps
 abbrev pub state_of : {X : Type 0} → RuleMap → X → GroupPool → ℕ → State X

@@ -63,7 +63,7 @@ pub record Synchronizes (workers start : ℕ) (x z : List WriterStep) : Type 0 w
   pub stopped : AreStopped workers stops (BumpToken ∷ x) (token_after start (BumpToken ∷ x)) last
   pub passes : Checks workers last (token_after start (BumpToken ∷ x)) (Ok tt) z
 
--- Meaning: in no update is a word stored twice, by the writer's steps (this project's).
+-- In no update is a word stored twice, by the writer's steps (this project's).
 
 -- both steps store the same word of a table
 abbrev pub StoreSameWord : WriterStep → WriterStep → Type 0

@@ -1,7 +1,9 @@
--- Events at their places, and events counted, before and after one more event.
+-- Reader intervals that run, before and after one more event.
 use Rattle.std.proofs.Common.{arith, ◌≡◌, ◌≢◌, ℕ, suc, ◌+◌, ◌<◌, ◌≤◌, ◌&&◌, inl, inr, Bool, true, false, cond, refl, ap, sym, ◌∙◌, subst, List, [], ◌∷◌, ◌++◌, length, Some, None, IsSomeAnd, nat_lt, length-append, ◌⊎◌, IsTrue, Option}
 use Rattle.std.proofs.lemmas.Bool.{cases_eq, cases_lt, cases_Bool, eq-eqb, ne_eqb, lt-ltb, le-ltb}
 use Rattle.qsbr.specs.Intervals.{event_at, count_before, Reporting, IsReaderInterval, IsRunningSince, IsHeldByWorker, IsTidy, Interval, Holds, EndsAt, RunsAfterOneMore, GracePeriodIsOver}
+
+-- Events at their places, and events counted, before and after one more event.
 
 -- ---- events at places
 
@@ -126,8 +128,6 @@ before_next test (f ∷ E) place e at is = elim (cases_eq place (length E)) [
       let one = below_mono (test f) (length E) place (suc place) (omega arith) in
       omega (arith, rest, one)
 ]
-
--- Reader intervals that run, before and after one more event.
 
 pub since_within : {T : Type 0} (b : Reporting T) (E : List T) (w s : ℕ) → IsRunningSince b E w s → s < length E
 since_within b E w s r = some_within (λ e. IsTrue (b.begins w e)) E s r.begins

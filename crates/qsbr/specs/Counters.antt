@@ -1,7 +1,11 @@
--- Meaning: what a contract sees of a domain (DPDK Programmer's Guide, "RCU Library": the QS
--- variable).
+-- Meaning: the readers' counters, and the check of a token over them (DPDK Programmer's Guide,
+-- "RCU Library": a reader's counter is 0 while it is offline, and else the token of its last
+-- quiescent state; the readers have left a token behind when each counter is 0 or at least that
+-- token).
 use Rattle.std.specs.Prelude.{ℕ, List, slice_set, ◌≡◌, ◌≤◌, ◌<◌, ◌⊎◌, length, slice_index, EachIndex, Result, MatchResult}
 use Rattle.lpm_limits.specs.declared.busy.Busy.{Busy}
+
+-- What a contract sees of a domain (DPDK Programmer's Guide, "RCU Library": the QS variable).
 
 -- the newest token, and the counter of each worker
 pub record Registry : Type 0 where
@@ -11,11 +15,6 @@ pub record Registry : Type 0 where
 -- the domain with this counter for the worker
 abbrev pub with_counter : Registry → ℕ → ℕ → Registry
 with_counter d w counter = record d { counters = slice_set d.counters w counter }
-
--- Meaning: the readers' counters, and the check of a token over them (DPDK Programmer's Guide,
--- "RCU Library": a reader's counter is 0 while it is offline, and else the token of its last
--- quiescent state; the readers have left a token behind when each counter is 0 or at least that
--- token).
 
 -- the worker is online
 abbrev pub IsOnline : List ℕ → ℕ → Type 0

@@ -1,6 +1,11 @@
--- Meaning: places in a list of events, of which the newest stands first and the oldest is at
--- place 0 (this project's).
+-- Meaning: reader intervals (DPDK Programmer's Guide, "RCU Library": a grace period lasts until
+-- each reader that may hold a reference has been in a quiescent state; the intervals between a
+-- reader's quiescent states are those in which it may hold one). No token or counter is looked
+-- at.
 use Rattle.std.specs.Prelude.{ℕ, ◌+◌, ◌==◌, ◌&&◌, nat_lt, if◌then◌else◌, Bool, List, [], ◌∷◌, length, Option, Some, None, ◌≡◌, ◌<◌, ◌≤◌, IsTrue, IsSomeAnd, MatchOption, ◌↔◌, ◌⊎◌, ◌++◌}
+
+-- Places in a list of events, of which the newest stands first and the oldest is at place 0 (this
+-- project's).
 
 -- the event at a place
 abbrev pub event_at : {E : Type 0} → List E → ℕ → Option E
@@ -13,11 +18,6 @@ abbrev pub count_before : {E : Type 0} → (E → Bool) → List E → ℕ → �
 count_before test [] place = 0
 count_before test (event ∷ events) place =
     count_before test events place + (if test event && nat_lt (length events) place then 1 else 0)
-
--- Meaning: reader intervals (DPDK Programmer's Guide, "RCU Library": a grace period lasts until
--- each reader that may hold a reference has been in a quiescent state; the intervals between a
--- reader's quiescent states are those in which it may hold one). No token or counter is looked
--- at.
 
 -- which events begin a reader interval of a worker, and which end one; an event can do both
 pub record Reporting (E : Type 0) : Type 0 where
@@ -69,7 +69,7 @@ pub record IsTidy {E : Type 0} (r : Reporting E) (workers : ℕ) (events : List 
   pub one : (w s t : ℕ) → IsRunningSince r events w s → IsRunningSince r events w t → s ≡ t
   pub others : (w s : ℕ) → workers ≤ w → ¬ IsRunningSince r events w s
 
--- Meaning: laws of reader intervals (this project's).
+-- Laws of reader intervals (this project's).
 
 -- an interval that runs after one more event began with it, or ran before it and isn't ended by it
 abbrev pub RunsAfterOneMore : Type 0 → Type 0

@@ -1,4 +1,4 @@
--- The first line of bytes, as `bstr` breaks them.
+-- Items are added line by line.
 use Rattle.std.proofs.Common.{◌≡◌, ◌≢◌, ℕ, zero, suc, ◌+◌, ◌-◌, ◌<◌, ◌==◌, nat_lt, List, [], ◌∷◌, ◌++◌, length, get_or, take, map, refl, sym, ap, ◌∙◌, arith, append_assoc, inl, inr, ◌≤◌, subst, ap₂}
 use Rattle.std.proofs.lemmas.Bool.{cases_lt, cond-true, cond-false, and_from, and_right, eq-eqb, ne_eqb, lt-ltb}
 use Rattle.std.proofs.lemmas.List.{length-append, get_or_append_left, get_or-append-add, take_at, append-nil}
@@ -11,6 +11,8 @@ use Rattle.route_text.specs.declared.fault.FaultKind.{FaultKind}
 use Rattle.bstr.proofs.lemmas.LengthLemmas.{length-lines}
 use Rattle.route_text.specs.declared.lines.End.TheVariants as ends
 use Rattle.route_text.specs.declared.grammar.Said.TheVariants as said
+
+-- The first line of bytes, as `bstr` breaks them.
 
 pub nil_lines : lines [] ≡ []
 nil_lines = ap (map without_terminator) lines-nil
@@ -116,8 +118,6 @@ module _ (bs : List ℕ) (p : IsWritten bs) where
     | inl feed ↦ ap (λ t. lines (bs ++ t)) feed ∙ written_line rest
     | inr return ↦ ap (λ t. lines (bs ++ t)) return ∙ returned_line rest
   ]
-
--- Items are added line by line.
 
 module _ {Item : Type 0} (Spells : ℕ → List (List ℕ) → Item → Type 0) where
   pub add : (n : ℕ) (xs : List (List ℕ)) (x : List ℕ) (a b : List Item) → AreItems Spells n xs a → StandsFor Spells (n + length xs) (fields x) b → AreItems Spells n (xs ++ x ∷ []) (a ++ b)

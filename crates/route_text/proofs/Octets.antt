@@ -1,4 +1,4 @@
--- What a text that begins with a number looks like, and when a text does.
+-- An address that a text begins with is one, and is read octet by octet.
 use Rattle.std.proofs.Common.{◌≡◌, ℕ, zero, suc, ◌+◌, ◌^◌, ◌<◌, ◌≤◌, List, [], ◌∷◌, ◌++◌, length, get_or, take, drop, refl, sym, ap, subst, ◌∙◌, arith, inl, inr, ◌*◌, append_assoc, ◌-◌, add-one}
 use Rattle.std.specs.Fmt.{decimal}
 use Rattle.std.specs.Int.{IsInRange, IsOutOfRange}
@@ -13,6 +13,8 @@ use Rattle.route_text.specs.declared.lines.End.{End}
 use Rattle.std.proofs.lemmas.Str.{digit_value_digit}
 use Rattle.std.proofs.Math.Seq.{drop-cons}
 use Rattle.route_text.specs.declared.lines.End.TheVariants as ends
+
+-- What a text that begins with a number looks like, and when a text does.
 
 -- digits without a leading zero are the decimal of their value
 pub spells : (text : List ℕ) → AllDigits 10 text → 0 < length text → (get_or text 0 0 ≡ 48 → length text ≡ 1) → digits_value 10 text < 2 ^ 64 → text ≡ decimal (digits_value 10 text)
@@ -108,8 +110,6 @@ one_number max m n text small a b = decimal_injective m n (omega (arith, a.small
 
 pub not_digit : (b : ℕ) → IsOutOfRange 48 57 b → IsInRange 48 57 b → ⊥
 not_digit b out is = elim out [ inl low ↦ omega arith | inr high ↦ omega arith ]
-
--- An address that a text begins with is one, and is read octet by octet.
 
 -- a dot, an octet and what stands after it
 abbrev pub after_dot : ℕ → List ℕ → List ℕ

@@ -1,4 +1,4 @@
--- The text of a list, item by item.
+-- What is written is read back: each update is a line of its word and fields.
 use Rattle.std.proofs.Common.{◌≡◌, ℕ, suc, ◌+◌, ◌<◌, ◌≤◌, List, [], ◌∷◌, ◌++◌, length, get_or, drop, sym, ap, ◌∙◌, append_assoc, add-one, ◌^◌, false, ◌==◌, refl, subst, arith, ◌/◌, ◌%◌, Bool, true, ◌&&◌, nat_lt, codes, All}
 use Rattle.std.proofs.Math.Seq.{drop-cons}
 use Rattle.std.proofs.lemmas.List.{append-nil, drop_all, length-append, get_or_append_left}
@@ -23,6 +23,8 @@ use Rattle.route_text.specs.Texts.{address_text, prefix_text, addition_text, upd
 use Rattle.route_text.specs.declared.lines.End.TheVariants as ends
 use Rattle.route_text.specs.declared.grammar.Said.TheVariants as said
 use Rattle.fib_model.specs.declared.orders.Order.TheVariants as orders
+
+-- The text of a list, item by item.
 
 -- `text_of` is the text of a list, which has `piece` for each item
 module _ {A : Type 0} (piece : A → List ℕ) (text_of : List A → List ℕ) (next : (x : A) (xs : List A) → text_of (x ∷ xs) ≡ piece x ++ text_of xs) (none : text_of [] ≡ []) where
@@ -185,8 +187,6 @@ plain_route_line n addr len hop prefix bytes b d rest address length_is hop_is s
   where
     regroup : (t l h r : List ℕ) → t ++ 47 ∷ (l ++ 32 ∷ (h ++ r)) ≡ (t ++ 47 ∷ l ++ 32 ∷ h) ++ r
     regroup t l h r = sym (simp append_assoc)
-
--- What is written is read back: each update is a line of its word and fields.
 
 pub next_update : (o : Order 24 8) (os : List (Order 24 8)) → lines_of_updates (o ∷ os) ≡ update_line o ++ lines_of_updates os
 unfolding lines_of_updates

@@ -1,4 +1,5 @@
--- This layer's own: what one line says (this project's).
+-- This layer's own: what a text begins with, a number, an address or the end of a line
+-- (this project's).
 use Rattle.std.specs.Prelude.{◌≡◌, ℕ, List, ◌∷◌, ◌++◌, length, ◌≤◌, ◌⊎◌, [], decimal, ⊤, ◌<◌}
 use Rattle.route_text.specs.declared.fault.Fault.{Fault}
 use Rattle.route_text.specs.declared.fault.FaultKind.{FaultKind}
@@ -12,6 +13,8 @@ use Rattle.fib_model.specs.declared.orders.Order.{Order}
 use Rattle.route_text.specs.declared.grammar.Said.TheVariants as said
 use Rattle.route_text.specs.declared.lines.End.TheVariants as ends
 use Rattle.fib_model.specs.declared.orders.Order.TheVariants as orders
+
+-- What one line says (this project's).
 
 module _ {Item : Type 0} (Spells : ℕ → List (List ℕ) → Item → Type 0)
     (HasFault : List (List ℕ) → FaultKind → Type 0) where
@@ -44,9 +47,6 @@ module _ {Item : Type 0} (Spells : ℕ → List (List ℕ) → Item → Type 0) 
     pub counted : length done ≡ count
     pub good : AreItems Spells n done more
     pub grown : after ≡ before ++ more
-
--- This layer's own: what a text begins with, a number, an address or the end of a line
--- (this project's).
 
 -- no digit goes on here
 abbrev pub StartsNoDigit : List ℕ → Type 0
@@ -103,7 +103,7 @@ pub record StartsAddressBefore (end : End) (text : List ℕ) (addr : ℕ) (rest 
   pub split : text ≡ front ++ after
   pub ends : StartsEnd end after rest
 
--- This layer's own: the ranges of an update's values (this project's).
+-- The ranges of an update's values (this project's).
 
 -- the values of an update are in the ranges of their types
 abbrev pub IsSound : Order 24 8 → Type 0

@@ -1,4 +1,4 @@
--- The machine values of a `Loose` and of a `OnceBox`. Assumes `Logic`.
+-- A handle, whatever it holds: its type, its machine values, and the walks of its functions. Assumes `Logic`.
 use Rattle.std.proofs.Common.{◌≡◌, ℕ, List, [], ◌∷◌, ◌++◌, refl, subst, sym, ◌∙◌, ap, lit<}
 use mathlib.Core.Bool.{Bool, true, false, ◌&&◌}
 use lib.Dec.{T}
@@ -55,6 +55,8 @@ use Rattle.core.specs.contracts.option.Option as option
 use Rattle.std_heap.specs.contracts.Global as heap
 use Rattle.std_heap.proofs.Global.TheLaws as heap_laws
 
+-- The machine values of a `Loose` and of a `OnceBox`. Assumes `Logic`.
+
 abbrev pub both : Val → Val → Val
 both v w = vstruct (vcons v (vcons w vnil))
 
@@ -88,8 +90,6 @@ module _ (R Z : RattleType) (L : Laws Z) (g : Ghosts Z.Denot) where
     loose_in t b o h a x = step (λ s. let v : Val = both (vptr b o) h in
         nothing t $ move t (2 ∷ 0 ∷ []) $ fjoin t $ feq_i t (List Val) (vptr b o ∷ []) (vptr b o ∷ []) refl $ fjoin t $ feq_i t (List Val) (v ∷ []) (v ∷ []) refl $ fjoin t $
         fpack t (Valss (RawPtr ∷ Z ∷ [])) (within (shape (loose.the_type R Z g)) (block_ptr b o, (a, tt)) (v ∷ [])) (vptr b o ∷ [], (h ∷ [], tt)) $ fjoin t $ s)
-
--- A handle, whatever it holds: its type, its machine values, and the walks of its functions. Assumes `Logic`.
 
 -- a handle's fields, and what it holds
 abbrev pub Inside : RattleType → Type 0

@@ -1,4 +1,4 @@
--- A reader that is handed out and taken back at once.
+-- Lookups of many addresses, one piece after another.
 use Rattle.std.proofs.Common.{ℕ, ◌≡◌, false, List, Option, None, Some, set, get_or, unwrap_or, ap, sym, ◌∙◌, subst, ◌-◌, ◌^◌, ◌≤◌, [], ◌++◌, length, map, take, refl}
 use Rattle.std.specs.Prelude.{slice_get, min, max}
 use Rattle.std.proofs.lemmas.List.{set-set, set-get_or, take_all}
@@ -9,6 +9,8 @@ use Rattle.shared_fib.specs.Bursts.{LooksUpBurst, Piece}
 use Rattle.shared_fib.specs.Running.{hop_or}
 use Rattle.shared_fib.proofs.Lookups.{burst_after}
 use Rattle.saxiko_c.specs.declared.records.SaxikoSpan.{SaxikoSpan}
+
+-- A reader that is handed out and taken back at once.
 
 -- what stood at a place is put back
 pub set_back : {X : Type 0} (xs : List X) (k : ℕ) (x y : X) → slice_get xs k ≡ Some y → set (set xs k x) k y ≡ xs
@@ -32,8 +34,6 @@ as_before o p q k reader given left same worker offline was handed pw ps back le
     let writer = qw ∙ pw in
     let waits = qs ∙ ps in
     λ i. record { writer = writer i; waits = waits i; bench = bench i }
-
--- Lookups of many addresses, one piece after another.
 
 -- no address was looked up
 pub none_found : (default : ℕ) (p : PassState) → (span : SaxikoSpan) × FindsEach default [] [] span p p

@@ -65,7 +65,7 @@ abbrev pub Loads : Config → List SaxikoRoute → ℕ → ℕ → Option FibSta
 Loads c routes before after =
     OpensIt (IsUnloaded c routes before after) (IsLoaded c routes before after) (after ≡ before)
 
--- Meaning: a running table that opens with the routes of a list (this project's).
+-- A running table that opens with the routes of a list (this project's).
 
 -- a table with these rules as version 0, of which no reader is handed out, and no grace period lasts
 pub record IsOpenedWith (c : Config) (R : RuleMap) (o : OwnerState) : Type 0 where

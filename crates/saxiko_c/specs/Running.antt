@@ -1,4 +1,5 @@
--- Meaning: the owner of a running table, as its callers see it (this project's).
+-- Meaning: the calls of a running table, by the status that they answer (DPDK Programmer's Guide, "LPM Library" and
+-- "RCU Library").
 use Rattle.std.specs.Prelude.{Bool, List, Option, refl, ℕ, ℤ, ⊤, ◌≡◌, ◌≢◌, ◌+◌, ◌≤◌, ◌<◌, ◌⊎◌, true, false, pos, [], ◌∷◌, Some, None, Result, length, map, slice_get, slice_set, take}
 use Rattle.std.specs.Coded.{Coded, code_by, coded×, coded_bool, coded_list, coded_option}
 use Rattle.shared_fib.specs.Running.{WriterState, coded_writer, IsAtRest, by_steps, hop_or, initial_writer, initial_state, steps_of, token_of}
@@ -25,6 +26,8 @@ use Rattle.saxiko_c.specs.declared.records.SaxikoHeld.{SaxikoHeld}
 use Rattle.saxiko_c.specs.declared.records.SaxikoSpan.{SaxikoSpan}
 use Rattle.fib_model.specs.Outcomes as outcomes
 
+-- The owner of a running table, as its callers see it (this project's).
+
 -- its writer, whether a grace period lasts, and the passes that no reader has, by their numbers
 pub record OwnerState : Type 0 where
   pub writer : WriterState
@@ -35,9 +38,6 @@ abbrev pub coded_owner : Coded OwnerState
 coded_owner = code_by (WriterState × (Bool × List (Option PassState)))
     (coded× coded_writer (coded× coded_bool (coded_list (coded_option coded_pass))))
     (λ o. (o.writer, (o.waits, o.bench))) (λ p. record { writer = p.0; waits = p.1.0; bench = p.1.1 }) (λ _. refl)
-
--- Meaning: the calls of a running table, by the status that they answer (DPDK Programmer's Guide, "LPM Library" and
--- "RCU Library").
 
 -- ---- the writer
 

@@ -84,7 +84,7 @@ abbrev pub status_of : {T : Type 0} → Result T Refusal → ℤ
 status_of (Ok result) = success
 status_of (Err refusal) = status_of_refusal refusal
 
--- Meaning: what C hands over as limits (DPDK Programmer's Guide, "LPM Library" and "RCU Library").
+-- What C hands over as limits (DPDK Programmer's Guide, "LPM Library" and "RCU Library").
 
 -- the limits of a table with so many readers; its first token is 1
 abbrev pub config_of : SaxikoConfig → ℕ → Config
@@ -97,7 +97,7 @@ config_of c readers = record {
   first_token = 1;
 }
 
--- Meaning: what a call does with a handle, by the status that it answers (this project's).
+-- What a call does with a handle, by the status that it answers (this project's).
 
 -- a call that may change what the handle holds; on a closed handle it is EINVAL, and nothing changes
 abbrev pub Calls : {S : Type 0} → (S → ℤ → S → Type 0) → (unchanged : Type 0)

@@ -110,7 +110,7 @@ pub record IsCounted (f : FibState) (c : SaxikoCounts) : Type 0 where
 abbrev pub Counts : SaxikoCounts → FibState → ℤ → Type 0
 Counts c f status = (status ≡ success) × IsCounted f c
 
--- Meaning: the rule that answers an address, by the status that its calls answer (this project's).
+-- The rule that answers an address, by the status that its calls answer (this project's).
 
 -- the route of a rule
 abbrev pub route_of : Rule 24 8 → SaxikoRoute
@@ -126,7 +126,7 @@ abbrev pub FindsRule : ℕ → SaxikoRoute → SaxikoRoute → RuleMap → ℤ �
 FindsRule addr before after R status =
     (found : Option (Rule 24 8)) × IsMatch 24 8 R addr found × TellsRule found before after status
 
--- Meaning: a walk over the rules of a table in the order of their prefixes, by the status that its calls
+-- A walk over the rules of a table in the order of their prefixes, by the status that its calls
 -- answer (this project's).
 
 -- the rule that comes next after the prefix

@@ -1,4 +1,4 @@
--- The words that were packed for a table are unpacked again.
+-- A running table goes on from the parts of a table of one thread, of which no group waits.
 use Rattle.std.proofs.Common.{◌≡◌, ℕ, ◌+◌, ◌/◌, ◌<◌, ◌≤◌, List, [], length, map, slice_index, ap, ◌∙◌, arith, ◌^◌, refl, sym, subst, slice_get, Option, Some, None}
 use Rattle.std.specs.List.{range_with_len}
 use Rattle.std.proofs.lemmas.List.{ext_get_or}
@@ -36,6 +36,8 @@ use Rattle.shared_fib.specs.declared.initial_table.InitialTable.{InitialTable}
 use Rattle.shared_fib.specs.Loading.{IsLoaded}
 use Rattle.shared_fib.specs.Running.{Identity, WriterState, IsReady, initial_data_of, initial_writer}
 use Rattle.shared_fib.proofs.Live.{live_settled, live_rests}
+
+-- The words that were packed for a table are unpacked again.
 
 -- a list of n numbers is known by what stands at each place
 listed : (f : ℕ → ℕ) (n : ℕ) (xs : List ℕ) → n ≡ length xs → ((i : ℕ) → i < n → f i ≡ slice_index xs i)
@@ -79,8 +81,6 @@ opened_as_packed first second t R states workers token words layout packed settl
     (unpacks (initial_data_by first second t R states workers token) words layout packed settled widths i) R states
     (packed.workers i)
     (token_is (initial_data_by first second t R states workers token) words layout packed settled widths i)
-
--- A running table goes on from the parts of a table of one thread, of which no group waits.
 
 -- ---- what was loaded
 

@@ -1,4 +1,5 @@
--- The steps that a command leaves go on from those before it.
+-- What holds of each command of a writer over the memory of a running table, and what each comes to by the steps that
+-- the writer's seat knows.
 use Rattle.std.proofs.Common.{◌≡◌, ◌-◌, ℕ, zero, suc, inl, inr, refl, ap, List, [], ◌∷◌, length, Option, Some, None, Result, Ok, Err, arith, sym, subst, ◌≤◌, ◌^◌, take}
 use Rattle.std.specs.Prelude.{OnErr, OnOk}
 use Rattle.std.proofs.lemmas.Bool.{cases_lt}
@@ -41,6 +42,8 @@ use Rattle.shared_fib.proofs.Freed.{Leaves, adds_leave, deletes_leave, flushes_l
 use Rattle.shared_fib.proofs.Seated.{Kept, kept, unseeing, does_in, stays, rests_after}
 use Rattle.shared_fib.proofs.Taking.{takes_least}
 use Rattle.defer_queue.specs.Reclaims as queue
+
+-- The steps that a command leaves go on from those before it.
 
 pub later_same : (xs ys : List WriterStep) → ys ≡ xs → IsLater xs ys
 later_same xs ys same = ([], same)
@@ -188,9 +191,6 @@ pub synchronized_later : {E : Type 0} (workers start : ℕ) (v w : View) (r : Re
     → OnOk r (Synchronizes workers start v.seen w.seen) → IsLater v.seen w.seen
 synchronized_later workers start v w (Ok done) same h = synchronizes_later workers start v.seen w.seen h
 synchronized_later workers start v w (Err none) same h = later_same v.seen w.seen (ap (λ (x : View). x.seen) same)
-
--- What holds of each command of a writer over the memory of a running table, and what each comes to by the steps that
--- the writer's seat knows.
 
 -- the same of the writer that callers see, and of the table that they name
 pub told_to : (Outcome : InitialData → WriterState → WriterState → Type 0) (freed : WriterState → List ℕ)

@@ -1,4 +1,4 @@
--- What the start of a grace period and a check of its token leave.
+-- The memory of a running table: of what the seat that it has borrowed knows, its steps change the writer's steps alone.
 use Rattle.std.proofs.Common.{arith, ℕ, ◌≡◌, ◌+◌, ◌<◌, ap, sym, ◌∙◌, List, [], Result, Ok, Err, ◌%◌, subst}
 use Rattle.std.specs.Prelude.{OnOk, OnErr}
 use Rattle.lpm_limits.specs.declared.busy.Busy.{Busy}
@@ -25,6 +25,8 @@ use Rattle.lpm_writer.specs.Resting.{IsResting, state_of}
 use Rattle.lpm_writer.proofs.Reclaims.{is_limbo}
 use Rattle.lpm_writer.proofs.UpdateRuns.{fit}
 use Rattle.atomic_table.specs.Seated.{TableId}
+
+-- What the start of a grace period and a check of its token leave.
 
 -- what follows from either outcome
 pub either : {X Y : Type 0} {A B P : Type 0} (r : Result X Y) → OnOk r A → OnErr r B → (A → P) → (B → P) → P
@@ -99,8 +101,6 @@ at_rest f s id config rules steps pool begun written rests =
       limbo = is_limbo c w pool.groups pool.queue.items rests.keeps.kept;
       once = rests.between.once;
     }
-
--- The memory of a running table: of what the seat that it has borrowed knows, its steps change the writer's steps alone.
 
 -- the step leads from the first memory to the second
 abbrev pub does_in : Lent → WriterStep → Lent → Type 0

@@ -1,4 +1,4 @@
--- The passes of a table's workers, which were made one after another.
+-- The passes of a bench after one of them was taken or put back.
 use Rattle.std.proofs.Common.{ℕ, ◌≡◌, ◌+◌, ◌<◌, inl, inr, refl, ap, sym, subst, ◌∙◌, arith, List, [], ◌∷◌, ◌++◌, length, get_or, slice_get, Option, Some, None, zero, suc, ◌≤◌, Result}
 use Rattle.std.proofs.lemmas.Bool.{cases_lt}
 use Rattle.std.proofs.lemmas.List.{get_or_append_left, get_or_at, length-set}
@@ -13,6 +13,8 @@ use Rattle.lpm_limits.specs.declared.refusal.Refusal.TheVariants.{NoSuchWorker, 
 use Rattle.shared_fib.proofs.Seated.{on_err_then}
 use Rattle.lpm_limits.specs.declared.config.Config.{Config}
 use Rattle.lpm_rules.specs.RuleMap.{RuleMap}
+
+-- The passes of a table's workers, which were made one after another.
 
 module _ (words : TableId) (v : View) where
   -- the pass of worker k
@@ -52,8 +54,6 @@ module _ (words : TableId) (v : View) where
 
     pub full_bench : IsFullBench identity passes
     full_bench = ((count, is_of), λ k low. (pass_of k, here k low, refl))
-
--- The passes of a bench after one of them was taken or put back.
 
 -- what stands at a place after a store is what was stored, or what stood there
 pub stored_or_old : {X : Type 0} (xs : List X) (i k : ℕ) (y x : X) → slice_get (slice_set xs i y) k ≡ Some x

@@ -1,6 +1,6 @@
--- Meaning: an add takes the least free group (DPDK Programmer's Guide, "LPM Library": a tbl8 group that no block
--- has is free, and one that was given up is free once it was reclaimed; that the least is taken is this
--- project's).
+-- Meaning: the groups that leave limbo in a command, and their checks (DPDK Programmer's Guide, "RCU
+-- Library", the defer queue of "LPM Library": the oldest is reclaimed first, and none before a check of
+-- its token has passed).
 use Rattle.std.specs.Prelude.{ℕ, ◌≡◌, ◌+◌, ◌<◌, ◌⊎◌, List, ◌∷◌, ◌++◌, length, Contains, All}
 use Rattle.lpm_cells.specs.declared.entry.Entry.TheVariants.{Group}
 use Rattle.lpm_cells.specs.Words.{entry_in}
@@ -11,6 +11,10 @@ use Rattle.lpm_trace.specs.Writer.{token_after, first_word_after}
 use Rattle.shared_words.specs.Layout.{InitialData}
 use Rattle.std.specs.List.{range_with_len}
 use Rattle.lpm_trace.specs.Laws.{IsChecked}
+
+-- An add takes the least free group (DPDK Programmer's Guide, "LPM Library": a tbl8 group that no
+-- block has is free, and one that was given up is free once it was reclaimed; that the least is
+-- taken is this project's).
 
 -- after these steps the block has this group, by its word
 abbrev pub HasGroup : InitialData → List WriterStep → ℕ → ℕ → Type 0
@@ -39,10 +43,6 @@ pub record TakesLeast (initial : InitialData) (s z : State (List WriterStep)) : 
   pub least : (block group lower : ℕ)
       → HasGroup initial z.readers block group → ¬ HasGroup initial s.readers block group
       → lower < group → IsOccupied initial z lower
-
--- Meaning: the groups that leave limbo in a command, and their checks (DPDK Programmer's Guide, "RCU
--- Library", the defer queue of "LPM Library": the oldest is reclaimed first, and none before a check of
--- its token has passed).
 
 -- In a command that leads from s to z the limbo list is a queue. Each group that is unlinked goes last
 -- into it, by the token that is started for it; those that are freed leave it at the front, and by the

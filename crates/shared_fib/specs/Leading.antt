@@ -30,8 +30,8 @@ pub record Leads (Outcome : InitialData → WriterState → WriterState → Type
   pub own : y.identity ≡ x.identity
   pub config : y.config ≡ x.config
 
--- This layer's own: a writer whose token was started, up to the check that passes (DPDK Programmer's Guide,
--- "RCU Library": a writer starts a token, and checks it until each reader has let it pass).
+-- A writer whose token was started, up to the check that passes (DPDK Programmer's Guide, "RCU
+-- Library": a writer starts a token, and checks it until each reader has let it pass).
 
 -- after the steps of the seat the control state waits for its token
 abbrev pub WaitsBy : (first second : ℕ) → ControlState first second → View → Type 0
@@ -44,8 +44,8 @@ pub record IsInGrace (first second : ℕ) (control : ControlState first second) 
   pub token : (state_after (initial_state_of v.initial) v.seen).token ≤ 2 ^ 62
   pub updates : updates_begun_in (state_after (initial_state_of v.initial) v.seen) ≤ 2 ^ 61
 
--- This layer's own: the checks of a token that was started, up to the first that passes (DPDK Programmer's
--- Guide, "RCU Library", and `rte_rcu_qsbr_synchronize` of its API: the check is made again until each
+-- The checks of a token that was started, up to the first that passes (DPDK Programmer's Guide,
+-- "RCU Library", and `rte_rcu_qsbr_synchronize` of its API: the check is made again until each
 -- reader has let the token pass).
 
 -- after the steps x some checks of the newest token were stopped, and then one passed; z are the steps then

@@ -142,7 +142,7 @@ coded_pass = code_by (Identity × (ℕ × (Bool × (List (WorkerStep × ℕ) × 
     (λ z. record { table = z.0; worker = z.1.0; online = z.1.1.0; steps = z.1.1.1.0; seen = z.1.1.1.1 })
     (λ _. refl)
 
--- Meaning: the owner of a running table, as its callers see it (this project's).
+-- The owner of a running table, as its callers see it (this project's).
 
 -- its writer, and the passes that no reader has, by their numbers
 pub record OwnerState : Type 0 where

@@ -1,4 +1,4 @@
--- Two table words that share a word of the table.
+-- Where each word of the world lies, after a store of the writer and at the start.
 use Rattle.std.proofs.Common.{◌≡◌, ◌≢◌, ℕ, zero, suc, ◌+◌, ◌*◌, ◌/◌, ◌%◌, ◌^◌, ◌<◌, ◌⊎◌, inl, inr, List, length, slice_index, slice_set, refl, ap, ◌∙◌, arith, [], ◌∷◌, ◌++◌, replicate, sym}
 use Rattle.std.proofs.lemmas.List.{get_or-set_same, length-map, get_or-set_other, length-set, get_or_append_left, get_or-append-add, get_or-replicate, length-append, length-replicate}
 use Rattle.std.proofs.lemmas.List.FromFn.{get_or-map-range_with_len, length-range_with_len}
@@ -13,6 +13,8 @@ use Rattle.lpm_trace.specs.States.{InitialState, TableState, state_after}
 use Rattle.lpm_trace.specs.Progress.{WriterProgress}
 use Rattle.lpm_trace.specs.Trace.{World, apply, after}
 pub use Rattle.lpm_trace.proofs.Versions.{firsts_length}
+
+-- Two table words that share a word of the table.
 
 -- ---- the halves of a word
 
@@ -82,8 +84,6 @@ half_stored words ts p n q i x j low inside stored same kept is =
     (λ e. ap (λ (z : ℕ). half j (slice_index (slice_set words p n) z)) (same e)
     ∙ ap (half j) (get_or-set_same words p n 0 low) ∙ ap (λ (k : ℕ). half k n) e ∙ stored)
     (λ ne. half_beside words p n q j (slice_index ts j) low (kept ne) is)
-
--- Where each word of the world lies, after a store of the writer and at the start.
 
 -- no step changes how many second words there are
 pub seconds_length : (c : InitialState) (seen : List WriterStep)

@@ -1,5 +1,6 @@
--- Meaning: what a lookup loads for an address, and which hop that gives (Gupta, Lin and McKeown, INFOCOM 1998,
--- section 3: a lookup reads one word or two; the place of a load is this project's).
+-- Meaning: what a whole deed of a worker gains its view: a report, or a lookup of one address (DPDK
+-- Programmer's Guide, "RCU Library": a worker comes online, is quiescent, goes offline; Gupta, Lin and
+-- McKeown, INFOCOM 1998, section 3: a lookup reads one word or two).
 use Rattle.std.specs.Prelude.{ℕ, ◌≡◌, List, [], ◌∷◌, ◌++◌, Option, Some, None, ◌+◌, ◌≤◌, All, map, reverse, length}
 use Rattle.lpm_cells.specs.declared.entry.Entry.{Entry}
 use Rattle.lpm_cells.specs.declared.entry.Entry.TheVariants.{Miss, Hop, Group}
@@ -13,6 +14,9 @@ use Rattle.shared_words.specs.declared.view.View.{View}
 use Rattle.shared_words.specs.Layout.{initial_state_of}
 use Rattle.shared_words.specs.Rule.{IsLater}
 use Rattle.shared_words.specs.Seats.{Gains}
+
+-- What a lookup loads for an address, and which hop that gives (Gupta, Lin and McKeown, INFOCOM
+-- 1998, section 3: a lookup reads one word or two; the place of a load is this project's).
 
 -- one address of a lookup, with its hop; its first word, and its second word where one is loaded, each with
 -- the place of its load: how many of the writer's steps its worker had seen then
@@ -67,10 +71,6 @@ second_load (Some second) = (LoadSecond second.0, second.1) ∷ []
 abbrev pub seconds_at : List Found → List (WorkerStep × ℕ)
 seconds_at [] = []
 seconds_at (f ∷ found) = seconds_at found ++ second_load f.second
-
--- Meaning: what a whole deed of a worker gains its view: a report, or a lookup of one address (DPDK
--- Programmer's Guide, "RCU Library": a worker comes online, is quiescent, goes offline; Gupta, Lin and
--- McKeown, INFOCOM 1998, section 3: a lookup reads one word or two).
 
 -- the view gains these steps, one after another, of which the newest stands first
 abbrev pub GainsAll : List WorkerStep → View → View → Type 0

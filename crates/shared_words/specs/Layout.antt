@@ -1,4 +1,6 @@
--- Meaning: what a shared table is opened with, as plain data (this project's).
+-- Meaning: where each word of a shared table lies: the sequence, the token, the first words, the second
+-- words, and the counter of each worker. A word of the two tables has 32 bits and a shared word 64, so two
+-- neighbours of one table share a word (this project's).
 use Rattle.std.specs.Prelude.{ℕ, List, [], slice_get, Option, Some, None, refl, ◌≡◌, ◌+◌, ◌*◌, ◌/◌, ◌%◌, ◌^◌, ◌<◌, ◌∷◌, ◌++◌, map, length, replicate, slice_index}
 use Rattle.std.specs.Coded.{Coded, code_by, coded×, coded_ℕ, coded_list, coded_option}
 use Rattle.std.specs.FinMap.{empty}
@@ -8,6 +10,8 @@ use Rattle.lpm_trace.specs.States.{InitialState, Status, Unused, Linked}
 use Rattle.std.specs.List.{range_with_len}
 use Rattle.lpm_trace.specs.Trace.{World}
 use Rattle.std.specs.FinMap as rules
+
+-- What a shared table is opened with, as plain data (this project's).
 
 -- the widths of the two tables, the number of workers, the token, the words with the rules that they
 -- answer by, and the block of each linked group
@@ -74,10 +78,6 @@ no_initial_data = record {
   rules = empty;
   blocks = [];
 }
-
--- Meaning: where each word of a shared table lies: the sequence, the token, the first words, the second
--- words, and the counter of each worker. A word of the two tables has 32 bits and a shared word 64, so two
--- neighbours of one table share a word (this project's).
 
 -- what a shared word has of the table word at this place: its low 32 bits for an even place, its high 32
 -- bits for an odd one

@@ -1,4 +1,4 @@
--- Where each token that waits has passed, a reclaim of all that waits leaves nothing in limbo.
+-- What a writer has made of a list of commands, with one command more.
 use Rattle.std.proofs.Common.{arith, ◌≡◌, ◌+◌, ◌<◌, ◌≤◌, ℕ, zero, suc, inl, inr, refl, ap, ◌∙◌, sym, subst, List, [], ◌∷◌, length, Option, Some, None, Result, Ok, Err, ◌++◌, get_or, length-append, append_assoc}
 use Rattle.std.specs.Prelude.{All}
 use Rattle.std.proofs.lemmas.List.{nil_from_length}
@@ -21,6 +21,8 @@ use Rattle.shared_fib.specs.Running.{Identity, IsAtRest, WriterState, initial_wr
 use Rattle.storm.specs.Changing.{HasMade, HasVersions, IsForWriter, IsOpened, by_own_steps, change_by, changes_by}
 use Rattle.storm.proofs.Versions.{append_nil, versions_next, versions_none}
 use Rattle.defer_queue.specs.Reclaims as queue
+
+-- Where each token that waits has passed, a reclaim of all that waits leaves nothing in limbo.
 
 module _ (c : InitialState) (some : 0 < c.workers) where
   -- these tokens have passed after the steps x
@@ -78,8 +80,6 @@ module _ (c : InitialState) (some : 0 < c.workers) where
       let left : IsLeft s.readers r.freed s.limbo z.limbo k.last = front r.freed s.limbo s.readers z.limbo k.last has k.front in
       none_left (length s.limbo) r.freed z.limbo k.last r.stopped z.readers
       (subst (λ (x : List WriterStep). HavePassed x z.limbo) (sym left.same) left.passed) left.count k.end
-
--- What a writer has made of a list of commands, with one command more.
 
 module _ (f s : ℕ) where
   logged_none : (log : Log f s) (cs : List (Order f s)) → log_after log cs [] ≡ log

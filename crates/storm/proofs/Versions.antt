@@ -1,4 +1,4 @@
--- Wrong answers of two lists, and changes of two lists of commands.
+-- The versions of the writer are those of the accepted changes.
 use Rattle.std.proofs.Common.{arith, ℕ, zero, suc, ◌≡◌, ◌+◌, ◌≤◌, ◌<◌, inl, inr, refl, ap, sym, subst, ◌∙◌, List, [], ◌∷◌, ◌++◌, length, map, take, drop, min, get_or, append_assoc, length-append, Ok, Err}
 use Rattle.std.specs.List.{flat_map}
 use Rattle.std.specs.Prelude.{All}
@@ -36,6 +36,8 @@ use Rattle.storm.specs.Looking.{IsOfAStandingVersion, answer_of}
 use Rattle.storm.specs.Storm.{Settles}
 use Rattle.fib_model.specs.declared.orders.Order.TheVariants as order
 use Rattle.fib_model.specs.declared.orders.Outcome.TheVariants as outcome
+
+-- Wrong answers of two lists, and changes of two lists of commands.
 
 pub append_nil : {X : Type 0} (xs : List X) → xs ++ [] ≡ xs
 append_nil [] = refl
@@ -160,8 +162,6 @@ order_later k on f g c s z (order.Reclaim max) other mine d = absurd d
 order_later k on f g c s z (order.Online w) out mine d = absurd mine
 order_later k on f g c s z (order.Offline w) out mine d = absurd mine
 order_later k on f g c s z (order.Quiescent w) out mine d = absurd mine
-
--- The versions of the writer are those of the accepted changes.
 
 -- ---- one command
 

@@ -1,5 +1,4 @@
--- Meaning: what a storm is asked to do, how far its writer came, and how it comes to nothing (this
--- project's: workers look up in a running table beside the writer, which changes it).
+-- Meaning: what comes of a storm (this project's: every answer is held against the versions of the rules).
 use Rattle.std.specs.Prelude.{ℕ, ◌≡◌, ◌≢◌, ◌+◌, ◌*◌, ◌<◌, ◌≤◌, ◌^◌, ◌⊎◌, ⊤, List, All, length, cond, []}
 use Rattle.lpm_limits.specs.declared.config.Config.{Config}
 use Rattle.lpm_limits.specs.Limits.{IsConfig}
@@ -21,6 +20,9 @@ use Rattle.storm.specs.Looking.{AreOfWorkers, HasLookedUp, answers_of_passes}
 use Rattle.lpm_limits.specs.declared.refusal.Refusal.TheVariants as refusals
 use Rattle.fib_model.specs.declared.orders.Outcome.TheVariants as outcome
 use Rattle.storm.specs.declared.plan.StormError.TheVariants as errors
+
+-- What a storm is asked to do, how far its writer came, and how it comes to nothing (this
+-- project's: workers look up in a running table beside the writer, which changes it).
 
 -- the limits of the table: where a worker is stuck, it is one more than those that look up
 abbrev pub limits_of : {first second : ℕ} → Plan first second → Config
@@ -73,8 +75,6 @@ EndsStorm p errors.Exhausted = LacksTokens p
 EndsStorm p errors.NoThread = ⊤
 EndsStorm p errors.Memory = ⊤
 EndsStorm p other = ⊥
-
--- Meaning: what comes of a storm (this project's: every answer is held against the versions of the rules).
 
 -- the writer of this table has synchronized, and then reclaimed all that waited; it is at rest, and nothing
 -- waits any more
