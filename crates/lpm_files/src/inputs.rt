@@ -130,7 +130,8 @@ pub fn read_list<'a, L: FileKind, F: Files>(
 }
 
 /// The addresses of the file at the path, as `read_list::<Addresses, F>` gives them. The file is read whole,
-/// and then parsed in pieces on at most so many threads.
+/// and then parsed in pieces on at most so many threads. The pieces are cut where lines end, and have 64 KiB or
+/// about that. Where a thread can't be had its piece is parsed by the thread that asks.
 pub fn read_addresses_on<'a, R: Threads + Sync, F: Files>(
     rt: &R,
     alloc: Global,
@@ -150,8 +151,8 @@ pub fn read_addresses_on<'a, R: Threads + Sync, F: Files>(
     }
 }
 
-/// The routes of the file at the path, as `read_list::<Routes, F>` gives them. The file is read whole,
-/// and then parsed in pieces on at most so many threads.
+/// The routes of the file at the path, as `read_list::<Routes, F>` gives them, read and parsed as those of
+/// `read_addresses_on`. Each has the number of its line in the whole file.
 pub fn read_routes_on<'a, R: Threads + Sync, F: Files>(
     rt: &R,
     alloc: Global,

@@ -15,11 +15,9 @@ mod lines;
 mod pieces;
 mod routes;
 
-pub use addresses::parse_addresses_on;
 pub use answers::answers_text_on;
 pub use failure::{Failure, USAGE};
 pub use files::{Files, put_text};
 pub use inputs::{
     Addresses, FileKind, OldUpdates, Routes, Updates, read_addresses_on, read_list, read_routes_on,
 };
-pub use routes::parse_routes_on;

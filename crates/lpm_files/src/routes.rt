@@ -1,14 +1,13 @@
 //! Routes that are read in pieces.
 ghost use Rattle.std.proofs.Common.{ap};
-ghost use Rattle.std.specs.Prelude.{◌≡◌, ℕ, List, [], ◌∷◌, ◌+◌, ◌^◌, ◌<◌, ◌++◌, IfOk, IfErr, length, map};
-ghost use Rattle.route_text.specs.Files.{lines, AreItems, AreRoutes, IsRoutesFault, SpellsRoute, HasRouteFault, IsReadError};
+ghost use Rattle.std.specs.Prelude.{◌≡◌, ℕ, List, [], ◌∷◌, ◌+◌, ◌^◌, ◌<◌, ◌++◌, IfOk, length, map};
+ghost use Rattle.route_text.specs.Files.{lines, AreItems, SpellsRoute, HasRouteFault};
 ghost use Rattle.lpm_files.specs.Later.{later_route};
 
 use crate::lines::count_lines;
-use crate::pieces::{PiecewiseFile, parse_on};
+use crate::pieces::PiecewiseFile;
 use route_text::{ReadError, Route, read_routes};
 use std::alloc::{AllocError, Global};
-use std::thread::Threads;
 
 /// Route files. A route has the number of its line.
 pub(crate) struct RouteFile;
@@ -51,22 +50,4 @@ impl PiecewiseFile for RouteFile {
         }
         Ok(list)
     }
-}
-
-/// The routes of the file, as `route_text::read_routes` gives them, read in pieces on at most so many
-/// threads. The pieces are cut where lines end, and have 64 KiB or about that. Where a thread can't be
-/// had its piece is read by the thread that asks.
-///
-/// The errors: the first fault of the file, by its line in the whole file, or want of memory for the
-/// list or a piece of it.
-pub fn parse_routes_on<R: Threads + Sync>(
-    rt: &R,
-    alloc: Global,
-    bytes: &[u8],
-    threads: usize,
-) -> Result<Vec<Route>, ReadError>
-    ensures routes { IfOk result (λ v. AreRoutes bytes.now v.items) }
-    ensures error { IfErr result (IsReadError (IsRoutesFault bytes.now)) }
-{
-    parse_on::<R, Route, RouteFile>(rt, alloc, bytes, threads)
 }

@@ -19,9 +19,9 @@ use std::process::Abort;
 use std::sync::Wait;
 use std::thread::Threads;
 
-// Bytes that are left to read.
+/// Bytes that are left to read.
 #[derive(Drop)]
-struct Known {
+pub(crate) struct Known {
     bytes: Vec<u8>,
 }
 
@@ -37,10 +37,10 @@ impl Read for Known {
     }
 }
 
-// Files whose bytes are their paths.
+/// Files whose bytes are their paths.
 #[derive(Drop)]
-struct Paths {
-    alloc: Global,
+pub(crate) struct Paths {
+    pub(crate) alloc: Global,
 }
 
 impl Files for Paths {

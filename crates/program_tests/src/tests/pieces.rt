@@ -1,9 +1,10 @@
 //! A file that is read, and a text that is written, in pieces on threads: as one thread does it.
 
 use super::asserting::assert_at;
+use super::known::Paths;
 use lpm_bits::Hop;
-use lpm_files::{answers_text_on, parse_addresses_on, parse_routes_on};
-use route_text::{Fault, FaultKind, ReadError, Route, answers_text, read_addresses, read_routes};
+use lpm_files::{Failure, answers_text_on, read_addresses_on, read_routes_on};
+use route_text::{Fault, FaultKind, Route, answers_text, read_addresses, read_routes};
 use std::alloc::Global;
 use std::process::Abort;
 use std::thread::Threads;
@@ -19,8 +20,8 @@ const BAD: [u32; 3] = [1, 20_000, 39_998];
 
 // A line for each address, with this text after it. Each third ends in CR LF, each seventh is a comment,
 // and the one of this number is bad.
-fn file(rt: &impl Abort, alloc: Global, after: &str, bad: u32) -> Vec<u8> {
-    let mut bytes = Vec::new(alloc);
+fn file(rt: &impl Abort, alloc: Global, after: &str, bad: u32) -> String {
+    let mut text = String::new(alloc);
     for number in 0..LINES {
         let mark = if number == bad {
             "x"
@@ -32,11 +33,9 @@ fn file(rt: &impl Abort, alloc: Global, after: &str, bad: u32) -> Vec<u8> {
         let end = if number % 3 == 0 { "\r\n" } else { "\n" };
         let (third, last) = (number / 256, number % 256);
         let line = format!(in alloc; "{mark}10.0.{third}.{last}{after}{end}").expect(rt, "memory");
-        bytes
-            .extend_from_slice(line.as_bytes())
-            .expect(rt, "memory");
+        text.push_str(&line).expect(rt, "memory");
     }
-    bytes
+    text
 }
 
 // What stands after the address of each route.
@@ -62,47 +61,50 @@ impl Lines {
         self,
         rt: &R,
         alloc: Global,
-        bytes: &[u8],
+        text: &str,
         threads: usize,
     ) -> bool {
+        let files = Paths { alloc };
         match self {
             Lines::Addresses => {
-                let list = read_addresses(alloc, bytes).expect(rt, "a list");
-                let found = parse_addresses_on(rt, alloc, bytes, threads);
+                let list = read_addresses(alloc, text.as_bytes()).expect(rt, "a list");
+                let found = read_addresses_on(rt, alloc, &files, text, threads);
                 found.expect(rt, "a list").as_slice() == list.as_slice()
             }
             Lines::Routes => {
-                let list = read_routes(alloc, bytes).expect(rt, "a list");
-                let found = parse_routes_on(rt, alloc, bytes, threads);
+                let list = read_routes(alloc, text.as_bytes()).expect(rt, "a list");
+                let found = read_routes_on(rt, alloc, &files, text, threads);
                 found.expect(rt, "a list").as_slice() == list.as_slice()
             }
         }
     }
 
-    fn fault<R: Threads + Abort + Sync>(
+    fn failure<'a, R: Threads + Abort + Sync>(
         self,
         rt: &R,
         alloc: Global,
-        bytes: &[u8],
+        text: &'a str,
         threads: usize,
-    ) -> Option<ReadError> {
+    ) -> Option<Failure<'a>> {
+        let files = Paths { alloc };
         match self {
-            Lines::Addresses => parse_addresses_on(rt, alloc, bytes, threads).err(),
-            Lines::Routes => parse_routes_on(rt, alloc, bytes, threads).err(),
+            Lines::Addresses => read_addresses_on(rt, alloc, &files, text, threads).err(),
+            Lines::Routes => read_routes_on(rt, alloc, &files, text, threads).err(),
         }
     }
 }
 
 fn assert_read<R: Threads + Abort + Sync>(rt: &R, alloc: Global, lines: Lines) {
-    let bytes = file(rt, alloc, lines.after(), LINES);
+    let text = file(rt, alloc, lines.after(), LINES);
     for threads in THREADS {
-        assert_at(rt, threads, lines.is_same(rt, alloc, &bytes, threads), true);
+        assert_at(rt, threads, lines.is_same(rt, alloc, &text, threads), true);
     }
 }
 
 #[test]
 fn pieces_of_a_file(rt: HostRuntime) {
-    let list = parse_addresses_on(&rt, rt.alloc(), "10.0.0.1".as_bytes(), 8);
+    let files = Paths { alloc: rt.alloc() };
+    let list = read_addresses_on(&rt, rt.alloc(), &files, "10.0.0.1", 8);
     let is_one = list.expect(&rt, "a list").as_slice() == [0x0a00_0001].as_slice();
     assert_at(&rt, "one address", is_one, true);
     assert_read(&rt, rt.alloc(), Lines::Addresses);
@@ -110,8 +112,9 @@ fn pieces_of_a_file(rt: HostRuntime) {
 
 #[test]
 fn pieces_of_routes(rt: HostRuntime) {
-    let bytes = file(&rt, rt.alloc(), ROUTE, LINES);
-    let list = parse_routes_on(&rt, rt.alloc(), &bytes, 8).expect(&rt, "a list");
+    let files = Paths { alloc: rt.alloc() };
+    let text = file(&rt, rt.alloc(), ROUTE, LINES);
+    let list = read_routes_on(&rt, rt.alloc(), &files, &text, 8).expect(&rt, "a list");
     let last = list.last().map(|route| route.line);
     assert_at(&rt, "last line", last, Some(40_000));
     assert_read(&rt, rt.alloc(), Lines::Routes);
@@ -122,7 +125,7 @@ fn assert_fault<R: Threads + Abort + Sync>(
     rt: &R,
     alloc: Global,
     lines: Lines,
-    bytes: &[u8],
+    text: &str,
     line: usize,
 ) {
     let fault = Fault {
@@ -130,16 +133,16 @@ fn assert_fault<R: Threads + Abort + Sync>(
         kind: FaultKind::Address,
     };
     for threads in THREADS {
-        let found = lines.fault(rt, alloc, bytes, threads);
-        let is_found = found == Some(ReadError::Fault(fault));
+        let found = lines.failure(rt, alloc, text, threads);
+        let is_found = found == Some(Failure::Bad { path: text, fault });
         assert_at(rt, (line, threads), is_found, true);
     }
 }
 
 fn assert_faults<R: Threads + Abort + Sync>(rt: &R, alloc: Global, lines: Lines) {
     for bad in BAD {
-        let bytes = file(rt, alloc, lines.after(), bad);
-        assert_fault(rt, alloc, lines, &bytes, bad as usize + 1);
+        let text = file(rt, alloc, lines.after(), bad);
+        assert_fault(rt, alloc, lines, &text, bad as usize + 1);
     }
 }
 
