@@ -35,14 +35,7 @@ view_in first second x = record {
 }
 
 pub shared_more : (v y z : WorldView) → StaysShared v y → StaysShared y z → StaysShared v z
-shared_more v y z p q = record {
-  words = q.words ∙ p.words;
-  sequence = q.sequence ∙ p.sequence;
-  token = q.token ∙ p.token;
-  scripts = q.scripts ∙ p.scripts;
-  schedule = q.schedule ∙ p.schedule;
-  stopped = q.stopped ∙ p.stopped;
-}
+shared_more v y z p q = q ∙ ap (λ (w : WorldView). record w { machines = z.machines; next = z.next; steps = z.steps; seen = z.seen }) p
 
 -- where an item is left, the writer has done nothing beyond the trace
 pub within : (first second : ℕ) (y : WorldView) (c : InitialState) (whole : Option (List WriterStep)) (trace : List TraceStep) (beyond : List WriterStep)
@@ -167,7 +160,7 @@ plays_end first second v z plays all c steps did =
 
 -- the scripts and the schedule stay where the workers take turns
 pub setting_stays : (v z : WorldView) → StaysShared v z → scripts_and_schedule z ≡ scripts_and_schedule v
-setting_stays v z stays = ap (λ xs. (xs, z.schedule)) stays.scripts ∙ ap (λ xs. (v.scripts, xs)) stays.schedule
+setting_stays v z stays = ap scripts_and_schedule stays
 
 no_both : (b : Bool) → b ≡ true → b ≡ false → ⊥
 no_both b is_true is_false = cc

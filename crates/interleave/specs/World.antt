@@ -118,14 +118,11 @@ WorldDoes first second s v z = (scripts_and_schedule z ≡ scripts_and_schedule 
     × ((c : InitialState) (steps : List WriterStep) → WorldDid first second v c steps → MayStep c steps s
     → WorldDid first second z c (s ∷ steps))
 
--- the words, the sequence and the token stay, and so do the scripts and the schedule
-pub record StaysShared (v z : WorldView) : Type 0 where
-  pub words : z.words ≡ v.words
-  pub sequence : z.sequence ≡ v.sequence
-  pub token : z.token ≡ v.token
-  pub scripts : z.scripts ≡ v.scripts
-  pub schedule : z.schedule ≡ v.schedule
-  pub stopped : z.stopped ≡ v.stopped
+-- the words, the sequence and the token stay, and so do the scripts and the schedule: all but where the
+-- workers stand, how many items are used up, and what was recorded
+abbrev pub StaysShared : WorldView → WorldView → Type 0
+StaysShared v z =
+    z ≡ record v { machines = z.machines; next = z.next; steps = z.steps; seen = z.seen }
 
 -- one more item is used up, and made a step of a worker, or none: the writer's steps stay
 abbrev pub TakesTurn : ℕ → ℕ → WorldView → WorldView → Type 0

@@ -1,4 +1,4 @@
-use Rattle.std.proofs.Common.{rules, ◌≡◌, ◌+◌, ◌<◌, length, get_or, refl, sym, subst, ◌∙◌, Some, arith, add-one}
+use Rattle.std.proofs.Common.{rules, ◌≡◌, ◌+◌, ◌<◌, length, get_or, refl, ap, sym, subst, ◌∙◌, Some, arith, add-one}
 use Rattle.lpm_trace.specs.declared.kind.Actor.TheVariants.{Writer as WriterActor, Worker as WorkerActor}
 use Rattle.interleave.specs.View.{WorldView}
 use Rattle.interleave.specs.World.{IsWritersTurn, StaysShared}
@@ -8,7 +8,7 @@ use Rattle.interleave.proofs.world_memory.WorldMemory.play_out.Goals as goal
 
 pub loop-self-init : goal.loop-self-init
 loop-self-init g c = record {
-  shared = record { words = refl; sequence = refl; token = refl; scripts = refl; schedule = refl; stopped = refl };
+  shared = refl;
   plays = plays_start g.row.FIRST g.row.SECOND c.args.self.now;
 }
 
@@ -46,7 +46,7 @@ loop-self-preserved-in-Writer g c =
     let turn : IsWritersTurn v = record { left = c.loop-self-test.true; item = λ other. item_there v.schedule v.next other WriterActor c.loop-self-test.true ∙ item } in
     let shared : StaysShared c.args.self.now v = subst (StaysShared c.args.self.now) (sym is) known.shared in
     record {
-      shared = record { words = shared.words; sequence = shared.sequence; token = shared.token; scripts = shared.scripts; schedule = shared.schedule; stopped = shared.stopped };
+      shared = ap (λ (w : WorldView). record w { next = v.next + 1 }) shared;
       plays = plays_pass f s c.args.self.now v (v.next + 1) (add-one v.next) (subst (PlaysOn f s c.args.self.now) (sym is) known.plays) turn;
     }
 

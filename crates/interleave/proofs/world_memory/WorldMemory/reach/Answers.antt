@@ -37,7 +37,7 @@ returns-in-Writer-clause-left g c = λ c' steps did.
     let left : y.next < length y.schedule = subst (λ (x : WorldView). x.next < length x.schedule) c.self.view_is c.loop-self-test.true in
     let turn : IsWritersTurn y = record { left = left; item = λ other. item_there y.schedule y.next other WriterActor left ∙ subst (λ (x : WorldView). get_or x.schedule x.next WriterActor ≡ WriterActor) c.self.view_is (search rules) } in
     let some = some_left f s y c' steps (known.reaches c' steps did) turn in
-    (λ _. subst (λ xs. length steps < writer_items xs) known.shared.schedule some, λ _. refl)
+    (λ _. subst (λ xs. length steps < writer_items xs) (ap (λ x. x.schedule) known.shared) some, λ _. refl)
 
 pub returns-clause-left : goal.returns-clause-left
 returns-clause-left g c = λ c' steps did.
@@ -47,4 +47,4 @@ returns-clause-left g c = λ c' steps did.
     let known = c.loop-self.invariant in
     let all : y.next ≡ length y.schedule = subst (λ (x : WorldView). x.next ≡ length x.schedule) c.self.view_is (omega (arith, c.loop-self-test.false, c.self.invariant.within)) in
     let none = none_left f s y c' steps (known.reaches c' steps did) all in
-    (λ never. cc, λ some. absurd (omega (arith, none, some, ap writer_items known.shared.schedule)))
+    (λ never. cc, λ some. absurd (omega (arith, none, some, ap (λ x. writer_items x.schedule) known.shared)))
