@@ -7,7 +7,7 @@ use Rattle.lpm_cells.specs.declared.entry.Entry.{Entry}
 use Rattle.lpm_cells.specs.declared.entry.Entry.TheVariants.{Miss, Hop, Group}
 use Rattle.lpm_cells.specs.Words.{IsEntry, word_of, entry_in, IsLast, IsLastWord, IsWord, Words, IsWords, IsFirst, IsFirstWord, HasRoom, entry_at, last_entry, with_first, with_second}
 use Rattle.lpm_update.specs.Rewrite.{replaces, rewritten_entry, Stands, Skips}
-use Rattle.lpm_update.specs.Kinds.{IsWhole, IsRewriting}
+use Rattle.lpm_update.specs.Kinds.{IsWhole, IsRewriting, IsRangeOf}
 use Rattle.lpm_update.specs.Linked.{IsTable, IsLinkTo}
 use Rattle.std.proofs.Math.ListN.{length-set}
 use Rattle.lpm_cells.proofs.Reading.{entry_in-word_of}
@@ -291,7 +291,7 @@ range_fits width len b h l e =
     let z = step_mul (b / 2 ^ k) (2 ^ len) (2 ^ k) (omega (arith, split, l, e)) in
     omega (arith, z, split, e, suc_mul (b / 2 ^ k) (2 ^ k))
 
-pub short_range : (f s : ℕ) (p : Network) (c : Rewrite) (F : List ℕ) → IsNetwork (f + s) p → p.len ≤ f → IsEntry (f + s) c.entry → IsLast c.entry
+short_range : (f s : ℕ) (p : Network) (c : Rewrite) (F : List ℕ) → IsNetwork (f + s) p → p.len ≤ f → IsEntry (f + s) c.entry → IsLast c.entry
     → IsRewriting f s p.bits p.bits (p.bits + 2 ^ (f + s - p.len)) c F
 short_range f s p c F n h e l =
     let k = f + s - p.len in
@@ -324,7 +324,7 @@ deep_high f s p n h =
     let z = step_mul m (suc b * 2 ^ (s - k)) (2 ^ k) (omega (arith, net, top, suc_mul b (2 ^ s), block_high s p.bits)) in
     omega (arith, z, top, net, suc_mul m (2 ^ k), suc_mul b (2 ^ s))
 
-pub deep_range : (f s : ℕ) (p : Network) (c : Rewrite) (F : List ℕ) (g : ℕ) → IsNetwork (f + s) p → f < p.len → IsEntry (f + s) c.entry → IsLast c.entry
+deep_range : (f s : ℕ) (p : Network) (c : Rewrite) (F : List ℕ) (g : ℕ) → IsNetwork (f + s) p → f < p.len → IsEntry (f + s) c.entry → IsLast c.entry
     → IsLinkTo F (p.bits / 2 ^ s) g
     → IsRewriting f s p.bits p.bits (p.bits + 2 ^ (f + s - p.len)) c F
 deep_range f s p c F g n h e l q =
@@ -340,3 +340,14 @@ deep_range f s p c F g n h e l q =
       whole_at = whole_inside s F b g p.bits q (block_low s p.bits) (omega (arith, high));
       whole_end = whole_inside s F b g (p.bits + 2 ^ k) q (let w = block_low s p.bits in omega (arith, w)) high;
     }
+
+-- the change over the addresses of a prefix
+pub range_of : (f s : ℕ) (p : Network) (c : Rewrite) → IsNetwork (f + s) p → IsEntry (f + s) c.entry → IsLast c.entry
+    → IsRangeOf f s p (record { from = p.bits; at = p.bits; end = p.bits + 2 ^ (f + s - p.len); rewrite = c })
+range_of f s p c n e l = record {
+  from = refl;
+  at = refl;
+  end = refl;
+  short = λ h F. short_range f s p c F n h e l;
+  deep = λ h F g q. deep_range f s p c F g n h e l q;
+}

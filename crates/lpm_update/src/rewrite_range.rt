@@ -18,10 +18,9 @@ pub(crate) struct RewriteRange {
 }
 
 impl RewriteRange {
-    ghost use Rattle.std.specs.Prelude.{◌≡◌, ℕ, ◌+◌, ◌-◌, ◌*◌, ◌/◌, ◌%◌, ◌^◌, ◌<◌, ◌≤◌, None, MatchOption};
+    ghost use Rattle.std.specs.Prelude.{◌≡◌, ◌+◌, ◌<◌, None, MatchOption};
     ghost use Rattle.lpm_bits.specs.Widths.{IsShape};
     ghost use Rattle.lpm_cells.specs.declared.entry.Entry.TheVariants.{Hop as EntryHop};
-    ghost use Rattle.lpm_cells.specs.Words.{IsEntry, IsLast};
     ghost use Rattle.lpm_rules.specs.RuleMap.{RuleMap};
     ghost use Rattle.lpm_rules.specs.Longest.{IsUncovered, IsCoverRule};
     ghost use Rattle.lpm_update.specs.declared.Did.TheVariants.{Done};
@@ -49,17 +48,19 @@ impl RewriteRange {
         } }
     {
         let _number = hop.number();
-        let _bits = prefix.bits();
+        let bits = prefix.bits();
         let depth = prefix.len();
-        let entry = Entry::Hop { hop, depth };
-        RewriteRange::over(
-            prefix,
-            Rewrite {
+        let from = u64::from(bits);
+        RewriteRange {
+            from,
+            at: from,
+            end: from + (1 << (FIRST + SECOND - depth)),
+            rewrite: Rewrite {
                 kind: Kind::Add,
                 depth,
-                entry,
+                entry: Entry::Hop { hop, depth },
             },
-        )
+        }
     }
 
     /// The change that deletes a rule. `cover` is the longest rule that is shorter and covers it.
@@ -75,29 +76,16 @@ impl RewriteRange {
             (λ c. IsCoverRule (FIRST + SECOND) R prefix.now c.prefix c.hop)
             → IsCoverEntry (FIRST + SECOND) R prefix.now result.rewrite.entry }
     {
-        let entry = cover_entry(cover);
-        let _bits = prefix.bits();
-        let depth = prefix.len();
-        RewriteRange::over(
-            prefix,
-            Rewrite {
-                kind: Kind::Delete,
-                depth,
-                entry,
-            },
-        )
-    }
-
-    /// The change over the addresses of a prefix.
-    fn over<const FIRST: u32, const SECOND: u32>(
-        prefix: &Prefix<FIRST, SECOND>,
-        rewrite: Rewrite,
-    ) -> RewriteRange
-        requires fits { IsEntry (FIRST + SECOND) rewrite.entry }
-        requires last { IsLast rewrite.entry }
-        ensures range { IsRangeOf FIRST SECOND prefix.now result }
-        ensures rewrite { result.rewrite ≡ rewrite }
-    {
+        let entry = match cover {
+            Some(rule) => {
+                let _number = rule.hop.number();
+                Entry::Hop {
+                    hop: rule.hop,
+                    depth: rule.prefix.len(),
+                }
+            }
+            None => Entry::Miss,
+        };
         let bits = prefix.bits();
         let len = prefix.len();
         let from = u64::from(bits);
@@ -105,7 +93,11 @@ impl RewriteRange {
             from,
             at: from,
             end: from + (1 << (FIRST + SECOND - len)),
-            rewrite,
+            rewrite: Rewrite {
+                kind: Kind::Delete,
+                depth: len,
+                entry,
+            },
         }
     }
 
@@ -195,35 +187,5 @@ impl RewriteRange {
         while self.at < self.end {
             let _ = self.visit::<FIRST, SECOND, C>(cells, on);
         }
-    }
-}
-
-ghost use Rattle.std.specs.Prelude.{ℕ, ◌+◌, MatchOption};
-ghost use Rattle.lpm_bits.specs.Network.{Network};
-ghost use Rattle.lpm_cells.specs.Words.{IsEntry, IsLast};
-ghost use Rattle.lpm_rules.specs.RuleMap.{RuleMap};
-ghost use Rattle.lpm_rules.specs.Longest.{IsUncovered, IsCoverRule};
-ghost use Rattle.lpm_update.specs.Best.{IsCoverEntry};
-
-/// The entry of the rule that takes a deleted one's place; a miss where there is none.
-fn cover_entry<const FIRST: u32, const SECOND: u32>(cover: Option<Rule<FIRST, SECOND>>) -> Entry
-    ensures fits { IsEntry (FIRST + SECOND) result }
-    ensures last { IsLast result }
-    ensures cover { (R : RuleMap) (p : Network)
-        → MatchOption cover.entry
-        (IsUncovered (FIRST + SECOND) R p)
-        (λ c. IsCoverRule (FIRST + SECOND) R p c.prefix c.hop)
-        → IsCoverEntry (FIRST + SECOND) R p result }
-{
-    match cover {
-        Some(rule) => {
-            let depth = rule.prefix.len();
-            let _number = rule.hop.number();
-            return Entry::Hop {
-                hop: rule.hop,
-                depth,
-            };
-        }
-        None => return Entry::Miss,
     }
 }
