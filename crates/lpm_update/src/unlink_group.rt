@@ -1,11 +1,6 @@
 //! A group that is given up.
 
-ghost use Rattle.std.specs.Prelude.{◌≡◌, ℕ, ◌+◌, ◌*◌, ◌^◌, ◌<◌, slice_index};
-ghost use Rattle.lpm_bits.specs.Widths.{IsShape};
-ghost use Rattle.lpm_cells.specs.declared.entry.Entry.{Entry};
-ghost use Rattle.lpm_cells.specs.Words.{entry_in, with_first};
-ghost use Rattle.lpm_update.specs.Linked.{IsTable, IsLinkTo};
-ghost use Rattle.lpm_update.specs.Kinds.{IsUnlinkStore, IsOneEntry};
+ghost use Rattle.std.specs.Prelude.{◌≡◌};
 
 use super::{Did, RewriteRange};
 use lpm_cells::{Cells, Entry};
@@ -50,35 +45,16 @@ impl UnlinkGroup {
             Did::Done => {}
             did => return did,
         }
+        // All words of the group are one by now, which takes the place of the link.
         let block = self.block;
         self.unlinked = true;
-        let group = unlink::<FIRST, SECOND, C>(cells, block);
-        Did::Unlinked { block, group }
-    }
-}
-
-/// Stores the one word of a block's group over the link to it, and returns the group.
-fn unlink<const FIRST: u32, const SECOND: u32, C: Cells>(cells: &mut C, block: usize) -> u32
-    requires shape { IsShape FIRST SECOND }
-    requires block { block < 2 ^ FIRST }
-    requires table { IsTable FIRST SECOND (C.words cells.old) }
-    requires group { (g : ℕ) × IsLinkTo (C.words cells.old).firsts block g
-        × IsOneEntry SECOND (C.words cells.old) g }
-    requires allows { (g w : ℕ) → IsUnlinkStore SECOND (C.words cells.old) block g w
-        → C.may_set_first cells.old block w }
-    ensures store { let word = slice_index (C.words cells.new).firsts block in
-        IsUnlinkStore SECOND (C.words cells.old) block result word }
-    ensures words { let word = slice_index (C.words cells.new).firsts block in
-        C.words cells.new ≡ with_first (C.words cells.old) block word }
-    ensures sets { let word = slice_index (C.words cells.new).firsts block in
-        C.sets_first cells.old block word cells.new }
-{
-    match Entry::of_word(cells.first(block)) {
-        Entry::Group(group) => {
-            let word = cells.second((group as usize) << SECOND);
-            cells.set_first(block, word);
-            return group;
+        match Entry::of_word(cells.first(block)) {
+            Entry::Group(group) => {
+                let word = cells.second((group as usize) << SECOND);
+                cells.set_first(block, word);
+                return Did::Unlinked { block, group };
+            }
+            _ => unreachable!(),
         }
-        _ => unreachable!(),
     }
 }
