@@ -1,5 +1,4 @@
--- This layer's own: the events of the prefixes of one length, which say from which version on a
--- prefix has which next hop.
+-- This layer's own: the index of a history of changes.
 use Rattle.std.specs.Prelude.{ℕ, ◌≡◌, ◌≢◌, ◌+◌, ◌<◌, ◌≤◌, ◌==◌, ◌||◌, ◌&&◌, Bool, true, false, nat_lt, nat_le, List, All, Option, Some, None, length, slice_index_or, ◌↔◌, ⊤, IsTrue}
 use Rattle.std.specs.List.{Contains, AllZip}
 use Rattle.std.specs.List.Sorted.{IsPartitionPoint}
@@ -13,6 +12,9 @@ use Rattle.audit.specs.Wrong.{version_of, IsOfSomeVersion}
 use Rattle.lpm_rules.specs.RuleMap.{RuleMap}
 use Rattle.lpm_rules.specs.declared.Answer.{Answer}
 use Rattle.std.specs.declared.vec.Vec.{Vec}
+
+-- The events of the prefixes of one length, which say from which version on a prefix has which next
+-- hop.
 
 -- the prefix that a change is of
 abbrev pub prefix_in : {first second : ℕ} → Change first second → Option Network

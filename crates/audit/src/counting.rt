@@ -57,7 +57,8 @@ impl<'a, const FIRST: u32, const SECOND: u32> Past<'a, FIRST, SECOND> {
         false
     }
 
-    // Whether a version from `start` on explains the answer for an address. It counts its versions from there.
+    // Whether a version from `start` on explains the answer for an address. It counts its versions
+    // from there.
     fn explains(&self, start: usize, addr: u32, answer: &Answer) -> bool
         requires start { start ≤ length self.now }
         requires addr { addr < 2 ^ (FIRST + SECOND) }

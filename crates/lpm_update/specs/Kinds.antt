@@ -1,5 +1,6 @@
--- This layer's own: a flush stores a miss in each first word that isn't one, upwards (DPDK
--- Programmer's Guide, "LPM Library": all rules are deleted).
+-- This layer's own: how each kind of change orders its stores: a flush, a group that is filled and
+-- linked, a range of addresses, and a group that is unlinked (DPDK Programmer's Guide, "LPM
+-- Library"; the order is this project's).
 use Rattle.std.specs.Prelude.{ℕ, ◌≡◌, ◌≢◌, ◌≤◌, ◌<◌, ◌^◌, List, slice_index, Bool, ◌+◌, ◌*◌, nat_le, nat_lt, ◌&&◌, if◌then◌else◌, ◌-◌, ◌/◌, ◌%◌, true}
 use Rattle.lpm_cells.specs.Words.{entry_in, word_of, IsEntry, IsLast, Words, HasRoom, with_first, with_second}
 use Rattle.lpm_cells.specs.declared.entry.Entry.TheVariants.{Miss, Group}
@@ -13,6 +14,9 @@ use Rattle.lpm_bits.specs.Network.{Network}
 use Rattle.lpm_update.specs.declared.Did.{Did}
 use Rattle.lpm_update.specs.declared.Did.TheVariants.{First, Second, Unlinked, Done}
 use Rattle.lpm_update.specs.declared.rewrite_range.RewriteRange.{RewriteRange}
+
+-- A flush stores a miss in each first word that isn't one, upwards (DPDK Programmer's Guide, "LPM
+-- Library": all rules are deleted).
 
 -- every entry becomes a miss
 abbrev pub rewrite_to_miss : Rewrite

@@ -142,7 +142,8 @@ fn begin<const FIRST: u32, const SECOND: u32>(
     ensures initial { IfOk result (λ r. r.0.initial ≡ initial_data_by FIRST SECOND memory.entry.cells
         control.entry.rules.rules control.entry.pool.groups control.entry.config.workers
         memory.entry.domain.token) }
-    ensures opened { IfOk result (λ r. r.1 ≡ initial_writer r.0 control.entry.config control.entry.rules.rules) }
+    ensures opened { IfOk result (λ r.
+        r.1 ≡ initial_writer r.0 control.entry.config control.entry.rules.rules) }
     ensures token { IfOk result (λ r. r.0.initial.token ≡ memory.entry.domain.token) }
     ensures workers { IfOk result (λ r. r.0.initial.workers ≡ control.entry.config.workers) }
     ensures bench { IfOk result (λ r. IsFullBench r.0 r.2) }

@@ -250,11 +250,13 @@ impl Owner {
     pub fn synchronize<R: Wait>(&mut self, rt: &R) -> Result<(), Exhausted>
         ensures exhausted { IsErr result
             ↔ (2 ^ 62 < token_of self.old.writer + self.old.writer.config.groups) }
-        ensures synchronizes { OnOk result (Synchronizes self.old.writer.identity.initial.workers self.old.writer.identity.initial.token
+        ensures synchronizes { OnOk result (Synchronizes
+            self.old.writer.identity.initial.workers self.old.writer.identity.initial.token
             (steps_of self.old.writer) (steps_of self.new.writer)) }
         ensures started { OnOk result
             (token_of self.new.writer ≡ token_of self.old.writer + 1) }
-        ensures checked { OnOk result (IsChecked self.old.writer.identity.initial.workers self.old.writer.identity.initial.token
+        ensures checked { OnOk result (IsChecked
+            self.old.writer.identity.initial.workers self.old.writer.identity.initial.token
             (steps_of self.new.writer) (token_of self.new.writer)) }
         ensures queued { OnOk result (0 < self.old.writer.config.workers
             → All (λ token. token ≤ passed_of self.new.writer) self.new.writer.table.limbo) }

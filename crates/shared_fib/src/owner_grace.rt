@@ -127,7 +127,8 @@ impl GracePeriod {
         ensures passes { IfOk result (λ owner. Checks self.writer.identity.initial.workers
             (steps_of self.writer) (token_of self.writer) (Ok tt)
             (steps_of owner.writer)) }
-        ensures checked { IfOk result (λ owner. IsChecked self.writer.identity.initial.workers self.writer.identity.initial.token
+        ensures checked { IfOk result (λ owner. IsChecked
+            self.writer.identity.initial.workers self.writer.identity.initial.token
             (steps_of owner.writer) (token_of self.writer)) }
         ensures queued { IfOk result (λ owner. 0 < self.writer.config.workers
             → All (λ token. token ≤ passed_of owner.writer) owner.writer.table.limbo) }

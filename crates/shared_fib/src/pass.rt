@@ -253,7 +253,8 @@ impl Pass {
         requires own { self.old.table ≡ table.now }
         requires writer { writer.old.identity ≡ table.now }
         ensures own { self.new.table ≡ self.old.table }
-        ensures step { (number : ℕ) × (place : ℕ) × Makes ((MeetWriter number, place) ∷ []) self.old self.new }
+        ensures step { (number : ℕ) × (place : ℕ)
+            × Makes ((MeetWriter number, place) ∷ []) self.old self.new }
         ensures all { self.new.seen ≡ steps_of writer.old }
         ensures same { writer.new ≡ writer.old }
         ensures online { self.old.online ≡ true → self.new.online ≡ true }

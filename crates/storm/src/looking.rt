@@ -43,7 +43,8 @@ fn look_once<G: Gate, const FIRST: u32, const SECOND: u32>(
     requires own { worker.old.pass.table ≡ lookups.now.table.now }
     requires online { worker.old.pass.online ≡ true }
     requires addrs { All (λ a. a < 2 ^ (FIRST + SECOND)) lookups.now.addrs.now }
-    requires room { vec_len worker.old.answers + length lookups.now.addrs.now ≤ vec_capacity worker.old.answers }
+    requires room { vec_len worker.old.answers + length lookups.now.addrs.now
+        ≤ vec_capacity worker.old.answers }
     requires numbers { from + length lookups.now.addrs.now < 2 ^ 64 }
     requires told { HoldsItsAnswers lookups.now.table.now worker.old }
     ensures own { worker.new.pass.table ≡ worker.old.pass.table }
@@ -102,7 +103,8 @@ pub fn work<G: Gate, const FIRST: u32, const SECOND: u32>(
     gate: &G,
     mut worker: Worker,
 ) -> Worker
-    requires ready { IsReadyFor lookups.now.table.now (lookups.now.rounds * length lookups.now.addrs.now) worker }
+    requires ready { IsReadyFor lookups.now.table.now
+        (lookups.now.rounds * length lookups.now.addrs.now) worker }
     requires addrs { All (λ a. a < 2 ^ (FIRST + SECOND)) lookups.now.addrs.now }
     ensures over { IsOver lookups.now.table.now lookups.now.addrs.now lookups.now.rounds result }
     ensures seat { number_of result ≡ number_of worker }
