@@ -8,7 +8,7 @@ use Rattle.lpm_trace.specs.Progress.{WriterProgress, Check, IsAsked, progress_af
 use Rattle.lpm_trace.specs.Writer.{progress_after, MayStep}
 use Rattle.lpm_writer.specs.Traced.{Loads, Traced, Goes, Asks, Checks}
 use Rattle.lpm_writer.specs.Matching.{MayAsk, SameTables, HasNothingDue}
-use Rattle.std.specs.Prelude.{◌&&◌, Result, Ok, Err, IsOk, Some}
+use Rattle.std.specs.Prelude.{◌&&◌, Result, Ok, Err, Some}
 use Rattle.lpm_limits.specs.declared.busy.Busy.{Busy}
 
 -- Loads of the workers' counters, one after another.
@@ -250,11 +250,6 @@ module _ {M : Type 0} (does : M → WriterStep → M → Type 0) (c : InitialSta
           let old : (state_after c h.0.1).passed ≤ t = subst (λ p. p ≤ t) (sym before.passed) below in
           omega (arith, end.0, old)
 
-  -- what the workers answered to a token that is above the greatest that had passed
-  pub asked_ok : (x : Traced M) (t : ℕ) (r : Result (Unit {0}) Busy) (z : Traced M) → (state_after c x.1).passed ≤ t → IsOk r → Asks does c.workers x t r z → 0 < c.workers → t ≡ (state_after c z.1).passed
-  asked_ok x t (Ok u) z below ok h some = asked_all x t z below h some
-  asked_ok x t (Err busy) z below ok h some = absurd cc
-
-  pub asked_err : (x : Traced M) (t : ℕ) (r : Result (Unit {0}) Busy) (z : Traced M) → ¬ IsOk r → Asks does c.workers x t r z → (state_after c z.1).passed ≡ (state_after c x.1).passed
-  asked_err x t (Ok u) z err h = absurd (err refl)
-  asked_err x t (Err busy) z err h = (stopped x t busy z h).passed
+  -- a worker stopped the check: no greater token has passed
+  pub asked_busy : (x : Traced M) (t : ℕ) (busy : Busy) (z : Traced M) → Asks does c.workers x t (Err busy) z → (state_after c z.1).passed ≡ (state_after c x.1).passed
+  asked_busy x t busy z h = (stopped x t busy z h).passed

@@ -1,16 +1,15 @@
 //! A writer's commands, over any memory.
 
-ghost use Rattle.std.specs.Prelude.{◌≡◌, ℕ, ◌+◌, ◌^◌, ◌<◌, ◌≤◌, ◌↔◌, List, IsTrue};
+ghost use Rattle.std.specs.Prelude.{◌≡◌, ◌↔◌, List, IsTrue};
 ghost use Rattle.lpm_update.specs.Represents.{LastFits};
 ghost use Rattle.fib_model.specs.State.{IsExhausted};
 ghost use Rattle.fib_model.specs.Outcomes.{Adds, Deletes, Flushes, Frees};
-ghost use Rattle.lpm_trace.specs.declared.step.RuleChange.TheVariants.{Put as Puts, TakeOut as TakesOut};
 ghost use Rattle.lpm_trace.specs.declared.step.WriterStep.{WriterStep};
 ghost use Rattle.lpm_trace.specs.States.{InitialState};
 ghost use Rattle.lpm_writer.specs.Taking.{LinksLeast};
 ghost use Rattle.lpm_writer.specs.Traced.{by_writer};
 ghost use Rattle.lpm_writer.specs.Resting.{state_of};
-ghost use Rattle.lpm_writer.specs.Commands.{Commands, MayCommand, Rests};
+ghost use Rattle.lpm_writer.specs.Commands.{Commands, MayCommand};
 
 use super::GroupPool;
 use super::changes::change;
@@ -27,7 +26,7 @@ use qsbr::{Config, Refusal};
 /// The most updates that a writer begins.
 const MOST_UPDATES: u64 = 1 << 61;
 /// The greatest token.
-const LAST_TOKEN: u64 = 1 << 62;
+pub(crate) const LAST_TOKEN: u64 = 1 << 62;
 
 /// What a writer keeps beside the memory: the limits, the rules, the groups, and the number of updates
 /// that it has begun.
@@ -37,17 +36,6 @@ pub struct ControlState<const FIRST: u32, const SECOND: u32> {
     pub rules: Rules<FIRST, SECOND>,
     pub pool: GroupPool,
     pub versions: u64,
-}
-
-/// Whether fewer tokens than groups are left.
-pub(crate) fn is_out_of_tokens<const FIRST: u32, const SECOND: u32, M: Memory>(
-    control: &ControlState<FIRST, SECOND>,
-    memory: &M,
-) -> bool
-    requires rests { (c : InitialState) × (steps : List WriterStep) × Rests c steps control.now }
-    ensures { IsTrue result ↔ (2 ^ 62 < M.newest memory.now + control.now.config.groups) }
-{
-    memory.token() + control.pool.groups.len() as u64 > LAST_TOKEN
 }
 
 /// Whether the tokens or the versions would pass their bound by one more change.
@@ -60,7 +48,8 @@ fn is_exhausted<const FIRST: u32, const SECOND: u32, M: Memory>(
         → IsTrue result ↔ IsExhausted (by_writer M.does c) control.now.config
         (state_of control.now.rules.rules (memory.now, steps) control.now.pool control.now.versions) }
 {
-    is_out_of_tokens(control, memory) || control.versions >= MOST_UPDATES
+    let last = memory.token() + control.pool.groups.len() as u64;
+    last > LAST_TOKEN || control.versions >= MOST_UPDATES
 }
 
 /// Whether a rule that the list has no more was longer than `FIRST` bits, and has left no such rule in
@@ -72,27 +61,6 @@ fn is_last<const FIRST: u32, const SECOND: u32>(
     ensures { LastFits FIRST SECOND rules.now.rules prefix.now result }
 {
     prefix.len() > FIRST && !rules.is_deep(Shape::<FIRST, SECOND>::first_index(prefix.bits()))
-}
-
-/// The change of the rules that gives the prefix this next hop.
-fn putting<const FIRST: u32, const SECOND: u32>(
-    prefix: &Prefix<FIRST, SECOND>,
-    hop: Hop,
-) -> RuleChange
-    ensures { result ≡ Puts prefix.now.bits prefix.now.len hop }
-{
-    RuleChange::Put(
-        u64::from(prefix.bits()),
-        u64::from(prefix.len()),
-        u64::from(hop.number()),
-    )
-}
-
-/// The change of the rules that takes out the prefix's rule.
-fn taking_out<const FIRST: u32, const SECOND: u32>(prefix: &Prefix<FIRST, SECOND>) -> RuleChange
-    ensures { result ≡ TakesOut prefix.now.bits prefix.now.len }
-{
-    RuleChange::TakeOut(u64::from(prefix.bits()), u64::from(prefix.len()))
 }
 
 /// Adds a rule, or gives the prefix's rule another next hop. A rule that is there already stays, and is
@@ -113,8 +81,8 @@ pub fn add_rule<const FIRST: u32, const SECOND: u32, M: Memory>(
     ensures least { LinksLeast control.old.pool.groups control.new.pool.groups }
     ensures config { control.new.config ≡ control.old.config }
 {
-    let _bits = prefix.bits();
-    let _number = hop.number();
+    let bits = prefix.bits();
+    let number = hop.number();
     if is_exhausted(control, memory) {
         return match control.rules.get(prefix) {
             Some(old) if old == hop => Ok(Put::Unchanged),
@@ -134,7 +102,8 @@ pub fn add_rule<const FIRST: u32, const SECOND: u32, M: Memory>(
     match group_for::<FIRST, SECOND, M>(prefix, linked, memory, &mut control.pool) {
         Ok(group) => {
             let update = Update::add(prefix, hop, group);
-            let rule = putting(prefix, hop);
+            let len = prefix.len();
+            let rule = RuleChange::Put(u64::from(bits), u64::from(len), u64::from(number));
             change::<FIRST, SECOND, M>(control, memory, update, &rule);
             return Ok(put);
         }
@@ -174,7 +143,7 @@ pub fn delete_rule<const FIRST: u32, const SECOND: u32, M: Memory>(
         (λ c x z. Deletes (by_writer M.does c) FIRST SECOND control.old.config x prefix.now result z) }
     ensures config { control.new.config ≡ control.old.config }
 {
-    let _bits = prefix.bits();
+    let bits = prefix.bits();
     if is_exhausted(control, memory) {
         return match control.rules.get(prefix) {
             Some(_) => Err(Refusal::Exhausted),
@@ -186,7 +155,7 @@ pub fn delete_rule<const FIRST: u32, const SECOND: u32, M: Memory>(
         Ok(hop) => {
             let last = is_last(&control.rules, prefix);
             let update = Update::delete(prefix, cover, last);
-            let rule = taking_out(prefix);
+            let rule = RuleChange::TakeOut(u64::from(bits), u64::from(prefix.len()));
             change::<FIRST, SECOND, M>(control, memory, update, &rule);
             return Ok(hop);
         }

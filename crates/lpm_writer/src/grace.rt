@@ -1,9 +1,9 @@
 //! Checks of a token: whether some worker may still hold what was given up under it.
 
-ghost use Rattle.std.specs.Prelude.{◌≡◌, ◌<◌, ◌≤◌, ◌↔◌, ℕ, List, IsTrue, OnOk, OnErr};
+ghost use Rattle.std.specs.Prelude.{◌≡◌, ◌<◌, ◌≤◌, ◌↔◌, List, IsTrue, OnOk, OnErr};
 ghost use Rattle.lpm_trace.specs.declared.step.WriterStep.{WriterStep};
 ghost use Rattle.lpm_trace.specs.States.{InitialState};
-ghost use Rattle.lpm_writer.specs.Traced.{Asks, Checks};
+ghost use Rattle.lpm_writer.specs.Traced.{Checks};
 ghost use Rattle.lpm_writer.specs.Matching.{MayAsk, Remembers};
 
 use crate::Memory;
@@ -17,26 +17,9 @@ fn holds(counter: u64, token: u64) -> bool
     counter != 0 && counter < token
 }
 
-/// Loads the counter of one worker after another, up to the first that hasn't left the token behind.
-pub(crate) fn load_counters<M: Memory>(memory: &mut M, token: u64) -> Result<(), Busy>
-    requires may { (c : InitialState) × (steps : List WriterStep)
-        × M.did memory.old c steps × MayAsk c steps token }
-    ensures asks { (c : InitialState) (steps : List WriterStep)
-        → M.did memory.old c steps → MayAsk c steps token
-        → (later : List WriterStep) × M.did memory.new c later
-        × Asks M.does c.workers (memory.old, steps) token result (memory.new, later) }
-{
-    for worker in 0..memory.workers() {
-        let counter = memory.load_counter(token, worker);
-        if holds(counter, token) {
-            return Err(Busy { worker, counter });
-        }
-    }
-    Ok(())
-}
-
-/// Whether no worker holds any more what was given up under the token; else the first that does. No
-/// counter is loaded for a token that isn't above the greatest that has passed.
+/// Whether no worker holds any more what was given up under the token; else the first that does. The
+/// counters are loaded one after another, up to that one. None is loaded for a token that isn't above the
+/// greatest that has passed.
 pub(crate) fn check<M: Memory>(memory: &mut M, passed: &mut u64, token: u64) -> Result<(), Busy>
     requires may { (c : InitialState) × (steps : List WriterStep)
         × M.did memory.old c steps × (passed.old < token → MayAsk c steps token) }
@@ -52,9 +35,12 @@ pub(crate) fn check<M: Memory>(memory: &mut M, passed: &mut u64, token: u64) -> 
     if token <= *passed {
         return Ok(());
     }
-    let asked = load_counters(memory, token);
-    if asked.is_ok() {
-        *passed = token;
+    for worker in 0..memory.workers() {
+        let counter = memory.load_counter(token, worker);
+        if holds(counter, token) {
+            return Err(Busy { worker, counter });
+        }
     }
-    asked
+    *passed = token;
+    Ok(())
 }

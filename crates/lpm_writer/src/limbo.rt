@@ -5,10 +5,10 @@ ghost use Rattle.lpm_groups.specs.States.{linked_count, IsLinkedTo};
 ghost use Rattle.lpm_update.specs.Tied.{SameLinksBut};
 ghost use Rattle.lpm_trace.specs.declared.step.WriterStep.{WriterStep};
 ghost use Rattle.lpm_trace.specs.States.{InitialState};
-ghost use Rattle.fib_model.specs.State.{MakesRoom, Reclaims};
+ghost use Rattle.fib_model.specs.State.{Reclaims};
 ghost use Rattle.lpm_writer.specs.Waiting.{AreWaiting, IsFreed, IsQueued, IsTaken, tokens_of};
 ghost use Rattle.lpm_writer.specs.Traced.{by_writer, Retires};
-ghost use Rattle.lpm_writer.specs.Matching.{HasUnlinked, HasRetired, OnlyChecks, GroupsMatchSteps};
+ghost use Rattle.lpm_writer.specs.Matching.{HasUnlinked, HasRetired, GroupsMatchSteps};
 ghost use Rattle.lpm_writer.specs.Commands.{FreesBy, MayFree};
 ghost use Rattle.lpm_writer.specs.Taking.{LinksLeast, MayTakeAt, Takes, TakesAt, taken_by};
 
@@ -65,21 +65,6 @@ fn most_freed(waiting: usize, config: &Config) -> usize
     config.reclaim_max
 }
 
-/// Frees some groups where more than `threshold` of them wait.
-fn make_room<M: Memory>(pool: &mut GroupPool, memory: &mut M, config: &Config)
-    requires waiting { AreWaiting pool.old.groups pool.old.queue.items }
-    requires kept { MayFree M.did memory.old pool.old }
-    ensures room { FreesBy M.did memory.old pool.old memory.new pool.new
-        (λ c x limbo left z. MakesRoom (by_writer M.does c) config.now x limbo left z) }
-    ensures freed { (n : ℕ) × (n ≤ length pool.old.queue.items)
-        × (pool.new.queue ≡ record pool.old.queue { items = drop n pool.old.queue.items })
-        × IsFreed pool.old.groups pool.old.queue.items n pool.new.groups }
-    ensures waiting { AreWaiting pool.new.groups pool.new.queue.items }
-{
-    let max = most_freed(pool.queue.len(), config);
-    free_waiting(pool, memory, max);
-}
-
 /// The group has lost its block: it waits in limbo from now on, under a token of its own. Where more
 /// than `threshold` groups wait already, some are reclaimed first.
 pub(crate) fn retire<M: Memory>(pool: &mut GroupPool, memory: &mut M, group: u32, config: &Config)
@@ -102,7 +87,8 @@ pub(crate) fn retire<M: Memory>(pool: &mut GroupPool, memory: &mut M, group: u32
 {
     let token = memory.start();
     pool.groups.retire(group);
-    make_room(pool, memory, config);
+    let max = most_freed(pool.queue.len(), config);
+    free_waiting(pool, memory, max);
     pool.queue.retire(group, token);
 }
 

@@ -1,10 +1,9 @@
 //! The group by which a rule is added.
 
-ghost use Rattle.std.specs.Prelude.{◌≡◌, ℕ, ◌/◌, ◌^◌, ◌↔◌, IfOk, OnErr, IsTrue, IsSome, length};
-ghost use Rattle.lpm_bits.specs.Widths.{IsShape};
+ghost use Rattle.std.specs.Prelude.{◌≡◌, ◌/◌, ◌^◌, ◌↔◌, OnErr, IsTrue, IsSome};
 ghost use Rattle.lpm_cells.specs.Words.{IsWords};
 ghost use Rattle.lpm_update.specs.Linked.{group_at};
-ghost use Rattle.lpm_writer.specs.Waiting.{IsQueued, IsTaken};
+ghost use Rattle.lpm_writer.specs.Waiting.{IsQueued};
 ghost use Rattle.lpm_writer.specs.Traced.{by_writer};
 ghost use Rattle.lpm_writer.specs.Taking.{LinksLeast, MayTakeAt, TakesAt, Finds, found_by};
 

@@ -2,7 +2,7 @@
 //!
 //! Neither call waits. Whoever calls checks again after a check that a worker has stopped.
 
-ghost use Rattle.std.specs.Prelude.{◌≡◌, ℕ, ◌+◌, ◌^◌, ◌<◌, ◌≤◌, ◌↔◌, List, All, IsErr, OnOk, OnErr};
+ghost use Rattle.std.specs.Prelude.{◌≡◌, ◌+◌, ◌^◌, ◌<◌, ◌≤◌, ◌↔◌, List, All, IsErr, OnOk, OnErr};
 ghost use Rattle.lpm_trace.specs.declared.step.WriterStep.{WriterStep};
 ghost use Rattle.lpm_trace.specs.declared.step.WriterStep.TheVariants.{BumpToken};
 ghost use Rattle.lpm_trace.specs.States.{InitialState};
@@ -10,7 +10,7 @@ ghost use Rattle.lpm_writer.specs.Traced.{Goes, Checks};
 ghost use Rattle.lpm_writer.specs.Commands.{MayCommand, Rests, IsWaiting};
 
 use super::Exhausted;
-use super::control::{ControlState, is_out_of_tokens};
+use super::control::{ControlState, LAST_TOKEN};
 use super::grace::check;
 use crate::Memory;
 use qsbr::Busy;
@@ -33,7 +33,7 @@ pub fn start_synchronize<const FIRST: u32, const SECOND: u32, M: Memory>(
         control.now.versions) }
     ensures unchanged { OnErr result (memory.new ≡ memory.old) }
 {
-    if is_out_of_tokens(control, memory) {
+    if memory.token() + control.pool.groups.len() as u64 > LAST_TOKEN {
         return Err(Exhausted);
     }
     memory.start();

@@ -1,4 +1,4 @@
-use Rattle.std.proofs.Common.{◌+◌, ◌^◌, ◌<◌, inl, lit<, sym, ap, subst, ◌∙◌, List, length, rules}
+use Rattle.std.proofs.Common.{◌≡◌, ◌+◌, ◌^◌, ◌<◌, inl, lit<, sym, ap, subst, ◌∙◌, List, length, rules}
 use Rattle.std.specs.Prelude.{IsSome, IsTrue, ◌↔◌, ◌/◌, Ok, Err}
 use Rattle.std.proofs.lemmas.Nat.{shr_below}
 use Rattle.lpm_bits.specs.Network.{IsNetwork}
@@ -9,6 +9,7 @@ use Rattle.fib_model.specs.Outcomes.{Adds, groups_in_use}
 use Rattle.fib_model.specs.State.{HasTokens}
 use Rattle.lpm_update.specs.Linked.{group_at}
 use Rattle.lpm_update.specs.Tied.{IsTied}
+use Rattle.lpm_trace.specs.declared.step.RuleChange.TheVariants.{Put as Puts}
 use Rattle.lpm_trace.specs.declared.step.WriterStep.{WriterStep}
 use Rattle.lpm_trace.specs.States.{InitialState, state_after}
 use Rattle.lpm_writer.specs.Taking.{Finds, LinksLeast}
@@ -19,7 +20,7 @@ use Rattle.lpm_writer.proofs.StepsAlone.{after_find}
 use Rattle.lpm_writer.proofs.Rests.{linked_resting, between_take, has_tokens, rests_still}
 use Rattle.lpm_writer.proofs.Additions.{absent, found_due, found_linked, found_adds, none_adds, put_room, taken_back}
 use Rattle.lpm_writer.proofs.control.add_rule.Given.{Over}
-use Rattle.lpm_writer.proofs.control.add_rule.Goals.{After-putting-rule}
+use Rattle.lpm_writer.proofs.control.add_rule.Goals.{After-from-in-Ok-group_for-2}
 use Rattle.lpm_writer.proofs.control.add_rule.Goals as goal
 
 pub is_linked-linked-requires : goal.is_linked-linked-requires
@@ -42,9 +43,9 @@ group_for-requires g c =
     )
 
 -- the group was found by checks alone, and the update is due
-ready : (g : Over) (c : After-putting-rule g) (setup : InitialState) (steps : List WriterStep) → g.M.Memory.did c.args.memory.now setup steps → Rests setup steps c.args.control.now
+ready : (g : Over) (c : After-from-in-Ok-group_for-2 g) (setup : InitialState) (steps : List WriterStep) → g.M.Memory.did c.args.memory.now setup steps → Rests setup steps c.args.control.now
     → (later : List WriterStep) × g.M.Memory.did c.group_for.new.memory setup later
-    × IsDue g.row.FIRST g.row.SECOND setup later c.args.control.now.config c.put.new.self c.group_for.new.pool c.args.control.now.versions c.add-update.result c.putting-rule.result
+    × IsDue g.row.FIRST g.row.SECOND setup later c.args.control.now.config c.put.new.self c.group_for.new.pool c.args.control.now.versions c.add-update.result (Puts c.from.result c.from-in-Ok-group_for.result c.from-in-Ok-group_for-2.result)
     × Finds (by_writer g.M.Memory.does setup) g.row.FIRST g.row.SECOND (state_after setup steps).words.firsts c.args.prefix.now (c.is_linked-linked.new.memory, steps) c.args.control.now.pool (Ok c.in-Ok-group_for.group) (c.group_for.new.memory, later) c.group_for.new.pool
     × HasTokens (by_writer g.M.Memory.does setup) c.args.control.now.config (state_of c.args.control.now.rules.rules (c.is_linked-linked.new.memory, steps) c.args.control.now.pool c.args.control.now.versions)
 ready g c setup steps did rest =
@@ -66,11 +67,12 @@ ready g c setup steps did rest =
     let finds = subst (λ (V : Words). Finds t f s V.firsts p x l.pool (Ok group) (y, found.0) mid) (g.met.M.Memory.shows m setup steps began).0 found.4 in
     let nothing = after_find k.does setup f s (state_after setup steps).words.firsts p x l.pool (Ok group) (y, found.0) mid finds in
     let sound : IsNetwork (f + s) p × (c.args.hop < 2 ^ 24) = (c.bits-bits.ensures.network, subst (λ n. n < 2 ^ 24) c.number-number.ensures.value c.number-number.ensures.bound) in
+    let is : Puts c.from.result c.from-in-Ok-group_for.result c.from-in-Ok-group_for-2.result ≡ Puts p.bits p.len c.args.hop = cc (c.from.ensures, c.bits-bits.ensures.value, c.from-in-Ok-group_for.ensures, c.len-len.ensures.value, c.from-in-Ok-group_for-2.ensures, c.number-number.ensures.value) in
     let left = has_tokens t l.config (state_of l.rules.rules x l.pool l.versions) c.is_exhausted.result c.if-is_exhausted.false (c.is_exhausted.ensures setup steps did) in (
       found.0,
       found.1,
-      found_due f s setup steps l.config l.rules l.pool l.versions rest p low t x c.args.hop group (y, found.0) mid found.0 c.put.new.self u.result c.putting-rule.result
-          finds found.2 nothing found.3 c.in-Ok-group_for.ensures.queued u.ensures.begun u.ensures.fills u.ensures.held c.in-Ok.ensures.ok c.putting-rule.ensures sound left,
+      found_due f s setup steps l.config l.rules l.pool l.versions rest p low t x c.args.hop group (y, found.0) mid found.0 c.put.new.self u.result (Puts c.from.result c.from-in-Ok-group_for.result c.from-in-Ok-group_for-2.result)
+          finds found.2 nothing found.3 c.in-Ok-group_for.ensures.queued u.ensures.begun u.ensures.fills u.ensures.held c.in-Ok.ensures.ok is sound left,
       finds,
       left,
     )
@@ -78,7 +80,7 @@ ready g c setup steps did rest =
 pub change-requires : goal.change-requires
 change-requires g c =
     let r = c.requires.rests in
-    let d = ready g (goal.at.change-requires g c).After-putting-rule r.0 r.1 r.2 r.3 in
+    let d = ready g (goal.at.change-requires g c).After-from-in-Ok-group_for-2 r.0 r.1 r.2 r.3 in
     (lit< tt, (r.0, d.0, d.1, d.2))
 
 pub returns-in-Ok-group_for-clause-adds : goal.returns-in-Ok-group_for-clause-adds
@@ -94,7 +96,7 @@ returns-in-Ok-group_for-clause-adds g c = λ setup steps did rest.
     let then = c.change.ensures in
     let put = c.in-Ok.ensures in
     let low = shr_below p.bits f s c.bits-bits.ensures.network.1 in
-    let d = ready g (goal.at.returns-in-Ok-group_for-clause-adds g c).After-putting-rule setup steps did rest in
+    let d = ready g (goal.at.returns-in-Ok-group_for-clause-adds g c).After-from-in-Ok-group_for-2 setup steps did rest in
     let made = then.changed setup d.0 d.1 d.2 in
     let put_in = ap (λ (r : RuleList). r.rules) (then.rules ∙ put.ok) in
     let linked = linked_resting f s setup made.0 new.config new.rules new.pool new.versions made.2 in (
@@ -116,7 +118,7 @@ returns-in-Ok-group_for-clause-least g c =
     let new = c.change.new.control in
     let then = c.change.ensures in
     let low = shr_below p.bits f s c.bits-bits.ensures.network.1 in
-    let d = ready g (goal.at.returns-in-Ok-group_for-clause-least g c).After-putting-rule r.0 r.1 r.2 r.3 in
+    let d = ready g (goal.at.returns-in-Ok-group_for-clause-least g c).After-from-in-Ok-group_for-2 r.0 r.1 r.2 r.3 in
     let made = then.changed r.0 d.0 d.1 d.2 in
     let x : g.row.M.Denot × List WriterStep = (c.is_linked-linked.new.memory, r.1) in
     let was = found_linked f s r.0 r.1 l.config l.rules l.pool l.versions r.3 p low (by_writer g.M.Memory.does r.0) x c.args.hop c.in-Ok-group_for.group (c.group_for.new.memory, d.0) c.group_for.new.pool d.3 in

@@ -1,20 +1,74 @@
-use Rattle.std.proofs.Common.{arith, ◌<◌, inr, sym, ◌∙◌, true≢false}
-use Rattle.lpm_writer.proofs.Checks.{asked_ok, asked_err}
+use Rattle.std.proofs.Common.{arith, ◌≡◌, ◌<◌, ◌≤◌, ◌⊎◌, ◌∷◌, inl, inr, refl, sym, subst, ◌∙◌}
+use Rattle.std.proofs.lemmas.Bool.{cases_lt}
+use Rattle.lpm_trace.specs.declared.step.WriterStep.TheVariants.{LoadCounter}
+use Rattle.std.specs.Prelude.{Err}
+use Rattle.lpm_limits.specs.declared.busy.Busy.{Busy}
+use Rattle.lpm_writer.specs.Traced.{Asks, Loads}
+use Rattle.lpm_writer.proofs.Checks.{asked_none, asked_more, asked_all, asked_busy, passes_by}
 use Rattle.lpm_writer.proofs.grace.check.Goals as goal
 
-pub load_counters-asked-requires : goal.load_counters-asked-requires
-load_counters-asked-requires g c =
+pub loop-worker-init : goal.loop-worker-init
+loop-worker-init g c = record { asked = asked_none g.M.Memory.did g.M.Memory.does g.met.M.Memory.follows c.args.memory.now c.args.token }
+
+pub load_counter-counter-requires-clause-worker : goal.load_counter-counter-requires-clause-worker
+load_counter-counter-requires-clause-worker g c =
     let may = c.requires.may in
-    record { may = (may.0, may.1, may.2, may.3 (omega (arith, c.if-token-passed.false))) }
+    let ask = may.3 (omega (arith, c.if-token-passed.false)) in
+    let so_far = c.loop-worker.invariant.asked may.0 may.1 may.2 ask in
+    let now = (g.met.M.Memory.shows c.loop-worker.memory may.0 so_far.0 so_far.1).2 in
+    let old = (g.met.M.Memory.shows c.args.memory.now may.0 may.1 may.2).2 in
+    omega (arith, c.loop-worker-test.true, c.workers-worker-end.ensures, now, old)
 
-pub returns-then-is_ok-clause-checks : goal.returns-then-is_ok-clause-checks
-returns-then-is_ok-clause-checks g c = λ s steps did known may.
-    let more : c.args.passed.now < c.args.token = omega (arith, c.if-token-passed.false) in
-    let asked = c.load_counters-asked.ensures.asks s steps did (may more) in
-    (asked.0, asked.1, inr ((λ some. let k = known some in omega (arith, k, more)), asked.2), λ some. asked_ok g.M.Memory.does s (c.args.memory.now, steps) c.args.token c.load_counters-asked.result (c.load_counters-asked.new.memory, asked.0) (let k = known some in omega (arith, k, more)) (sym c.is_ok.ensures.value ∙ c.if-is_ok.true) asked.2 some)
+pub load_counter-counter-requires-clause-may : goal.load_counter-counter-requires-clause-may
+load_counter-counter-requires-clause-may g c = λ counter.
+    let may = c.requires.may in
+    let ask = may.3 (omega (arith, c.if-token-passed.false)) in
+    let so_far = c.loop-worker.invariant.asked may.0 may.1 may.2 ask in
+    let old = (g.met.M.Memory.shows c.args.memory.now may.0 may.1 may.2).2 in
+    (may.0, so_far.0, so_far.1, so_far.3 (omega (arith, c.loop-worker-test.true, c.workers-worker-end.ensures, old)) counter)
 
-pub returns-else-is_ok-clause-checks : goal.returns-else-is_ok-clause-checks
-returns-else-is_ok-clause-checks g c = λ s steps did known may.
+pub returns-then-holds-clause-checks : goal.returns-then-holds-clause-checks
+returns-then-holds-clause-checks g c = λ s steps did known may.
     let more : c.args.passed.now < c.args.token = omega (arith, c.if-token-passed.false) in
-    let asked = c.load_counters-asked.ensures.asks s steps did (may more) in
-    (asked.0, asked.1, inr ((λ some. let k = known some in omega (arith, k, more)), asked.2), λ some. known some ∙ sym (asked_err g.M.Memory.does s (c.args.memory.now, steps) c.args.token c.load_counters-asked.result (c.load_counters-asked.new.memory, asked.0) (λ ok. true≢false (sym ok ∙ sym c.is_ok.ensures.value ∙ c.if-is_ok.false)) asked.2))
+    let so_far = c.loop-worker.invariant.asked s steps did (may more) in
+    let old = (g.met.M.Memory.shows c.args.memory.now s steps did).2 in
+    let below : c.loop-worker.worker < s.workers = omega (arith, c.loop-worker-test.true, c.workers-worker-end.ensures, old) in
+    let does = c.load_counter-counter.ensures.does in
+    let held = c.holds.ensures.0 c.if-holds.true in
+    let next = LoadCounter c.args.token c.loop-worker.worker c.load_counter-counter.result in
+    let later = next ∷ so_far.0 in
+    let busy : Busy = record { worker = c.loop-worker.worker; counter = c.load_counter-counter.result } in
+    let asked : Asks g.M.Memory.does s.workers (c.args.memory.now, steps) c.args.token (Err busy) (c.load_counter-counter.new.self, later) = ((c.loop-worker.memory, so_far.0), so_far.2, below, held.0, held.1, (does, refl)) in (
+      later,
+      g.met.M.Memory.follows c.loop-worker.memory next c.load_counter-counter.new.self s so_far.0 does so_far.1 (so_far.3 below c.load_counter-counter.result),
+      inr ((λ some. let k = known some in omega (arith, k, more)), asked),
+      λ some. known some ∙ sym (asked_busy g.M.Memory.does s (c.args.memory.now, steps) c.args.token busy (c.load_counter-counter.new.self, later) asked),
+    )
+
+pub loop-worker-preserved : goal.loop-worker-preserved
+loop-worker-preserved g c =
+    let passes : (c.load_counter-counter.result ≡ 0) ⊎ (c.args.token ≤ c.load_counter-counter.result) = elim (cases_lt 0 c.load_counter-counter.result) [
+      | inl some ↦ elim (cases_lt c.load_counter-counter.result c.args.token) [
+        | inl older ↦ absurd (cc (c.if-holds.false, c.holds.ensures.1 (some, older)))
+        | inr newer ↦ inr newer
+      ]
+      | inr none ↦ inl (omega (arith, none))
+    ] in
+    record {
+      asked = asked_more g.M.Memory.did g.M.Memory.does g.met.M.Memory.follows c.args.memory.now c.args.token c.loop-worker.worker c.loop-worker.memory c.load_counter-counter.result c.load_counter-counter.new.self
+          c.loop-worker.invariant.asked c.load_counter-counter.ensures.does (passes_by c.args.token c.load_counter-counter.result passes)
+          (λ s steps did. let old = (g.met.M.Memory.shows c.args.memory.now s steps did).2 in omega (arith, c.loop-worker-test.true, c.workers-worker-end.ensures, old));
+    }
+
+pub returns-clause-checks : goal.returns-clause-checks
+returns-clause-checks g c = λ s steps did known may.
+    let more : c.args.passed.now < c.args.token = omega (arith, c.if-token-passed.false) in
+    let so_far = c.loop-worker.invariant.asked s steps did (may more) in
+    let old = (g.met.M.Memory.shows c.args.memory.now s steps did).2 in
+    let all : c.loop-worker.worker ≡ s.workers = omega (arith, old) in
+    let loads = subst (λ n. Loads g.M.Memory.does n (c.args.memory.now, steps) c.args.token (c.loop-worker.memory, so_far.0)) all so_far.2 in (
+      so_far.0,
+      so_far.1,
+      inr ((λ some. let k = known some in omega (arith, k, more)), loads),
+      λ some. asked_all g.M.Memory.does s (c.args.memory.now, steps) c.args.token (c.loop-worker.memory, so_far.0) (let k = known some in omega (arith, k, more)) loads some,
+    )
