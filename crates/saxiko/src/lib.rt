@@ -3,16 +3,23 @@
 //! [`Table`] is the table of one thread. [`Owner`] and [`Reader`] are a running table: the owner changes it
 //! while each reader looks up on a thread of its own, with no lock.
 //!
-//! The types are those of the crates below, of which this one names what a program calls.
+//! The other types are those of the crates below, of which this one names what a program calls.
 #![tactic(auto)]
 
+mod grace;
+mod loading;
+mod owner;
+mod reader;
+
 pub use defer_queue::Reclaimed;
+pub use grace::{GracePeriod, Held, NotStarted};
 pub use lpm_bits::{BadHop, BadLength, Hop, ParseError};
 pub use lpm_groups::Counts;
 pub use lpm_rules::{Answer, Put};
+pub use owner::Owner;
 pub use qsbr::{BadConfig, Busy, Config, Range, Refusal};
-pub use shared_fib::owner_grace::{GracePeriod, Held, NotStarted};
-pub use shared_fib::{Burst, Exhausted, FourHops, OpenError, Owner, Reader};
+pub use reader::Reader;
+pub use shared_fib::{Burst, Exhausted, FourHops, OpenError};
 
 /// A prefix: the IPv4 addresses that share its first `len` bits. It prints and parses as `10.0.0.0/8`.
 pub type Prefix = lpm_bits::Prefix<24, 8>;

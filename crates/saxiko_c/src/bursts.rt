@@ -9,7 +9,7 @@ ghost use Rattle.saxiko_c.specs.declared.records.SaxikoSpan.{SaxikoSpan as Span}
 
 use crate::records::SaxikoSpan;
 use crate::running::number_or;
-use shared_fib::Reader;
+use saxiko::Reader;
 
 /// The four addresses at this place.
 #[inline]

@@ -12,8 +12,8 @@ use crate::records::SaxikoHeld;
 use crate::stage::Stage;
 use crate::status::{EALREADY, EOVERFLOW, EPERM};
 use lpm_limits::Busy;
+use saxiko::{Held, NotStarted};
 use shared_fib::Exhausted;
-use shared_fib::owner_grace::{Held, NotStarted};
 use std::mem;
 
 impl Owner {

@@ -10,7 +10,7 @@ use crate::handle::Handle;
 use crate::loose::Loose;
 use crate::owner::Owner;
 use fib::Fib;
-use shared_fib::Reader;
+use saxiko::Reader;
 use std::alloc::Global;
 use std::marker::Model;
 use std::ptr::null_mut;

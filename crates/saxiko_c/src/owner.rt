@@ -7,7 +7,7 @@ ghost use Rattle.shared_fib.specs.Passes.{IsBenchOf, IsPassOf, Makes, PassState}
 
 use crate::stage::Stage;
 use lpm_limits::Refusal;
-use shared_fib::Reader;
+use saxiko::Reader;
 use std::marker::Model;
 
 /// The owner of a running table, which hands its readers out. At rest it changes the table; while a grace period lasts
@@ -36,7 +36,7 @@ impl Model for Owner {
 
 impl Owner {
     // The owner that is at rest.
-    pub(crate) fn new(owner: shared_fib::Owner) -> Self
+    pub(crate) fn new(owner: saxiko::Owner) -> Self
         ensures { result ≡ record { writer = owner.writer; waits = false; bench = owner.bench } }
     {
         Owner {

@@ -19,13 +19,14 @@ use crate::table::store_deleted;
 use lpm_bits::{Hop, Prefix};
 use lpm_limits::{Config, Refusal};
 use lpm_sweep::MOST_SORTED;
-use shared_fib::{OpenError, Reader};
+use saxiko::Reader;
+use shared_fib::OpenError;
 use std::alloc::Global;
 
 pub(crate) fn open(alloc: Global, config: Config) -> Result<Box<Owner>, i32>
     ensures { MatchResult result (λ b. IsOpened config b.value) (IsUnopened config) }
 {
-    match shared_fib::Owner::open(alloc, config) {
+    match saxiko::Owner::open(alloc, config) {
         Ok(owner) => match Box::new(alloc, Owner::new(owner)) {
             Ok(boxed) => Ok(boxed),
             Err(_) => Err(ENOMEM),
@@ -53,7 +54,7 @@ pub(crate) fn load(
         Ok(rules) => rules,
         Err(status) => return Err(status),
     };
-    match shared_fib::Owner::load(alloc, config, &rules) {
+    match saxiko::Owner::load(alloc, config, &rules) {
         Ok(Some(owner)) => match Box::new(alloc, Owner::new(owner)) {
             Ok(boxed) => Ok(boxed),
             Err(_) => Err(ENOMEM),
@@ -150,7 +151,7 @@ pub(crate) fn get(owner: &Owner, addr: u32, depth: u8, hop: &mut u32) -> i32
     }
 }
 
-fn count(running: &mut shared_fib::Owner) -> SaxikoCounts
+fn count(running: &mut saxiko::Owner) -> SaxikoCounts
     ensures counted { IsCountedIn running.old.writer result }
     ensures rests { IsAtRest running.old.writer }
     ensures same { running.new ≡ running.old }

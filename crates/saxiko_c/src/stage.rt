@@ -1,7 +1,6 @@
 //! The owner of a running table, at rest or in a grace period.
 
-use shared_fib::Owner;
-use shared_fib::owner_grace::GracePeriod;
+use saxiko::{GracePeriod, Owner};
 
 /// The owner of a running table, at rest or in a grace period.
 #[derive(Drop)]

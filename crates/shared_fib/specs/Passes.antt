@@ -1,9 +1,9 @@
 -- Meaning: what a pass of a running table shows: the steps that its worker made, what it has seen of the
 -- writer's steps, and its lookups (DPDK Programmer's Guide, "RCU Library": each thread registers, comes
 -- online and reports; Gupta, Lin and McKeown, INFOCOM 1998, section 3: a lookup reads one word or two).
-use Rattle.std.specs.Prelude.{ℕ, ◌≡◌, ◌+◌, ◌≤◌, ◌<◌, Bool, true, false, All, List, [], ◌∷◌, ◌++◌, length, map, slice_get, slice_set, Option, Some, refl, ◌↔◌, None, Result, IfOk, IsErrOf, OnErr}
+use Rattle.std.specs.Prelude.{ℕ, ◌≡◌, ◌+◌, ◌≤◌, ◌<◌, Bool, true, false, All, List, [], ◌∷◌, ◌++◌, length, map, slice_get, slice_set, Option, Some, refl}
 use Rattle.std.specs.List.{AllPairs}
-use Rattle.std.specs.Coded.{Coded, code_by, coded×, coded_ℕ, coded_bool, coded_list, coded_option}
+use Rattle.std.specs.Coded.{Coded, code_by, coded×, coded_ℕ, coded_bool, coded_list}
 use Rattle.lpm_cells.specs.Words.{entry_in}
 use Rattle.lpm_rules.specs.RuleMap.{RuleMap}
 use Rattle.lpm_rules.specs.Longest.{IsLongestHop}
@@ -16,10 +16,8 @@ use Rattle.lpm_trace.specs.Trace.{worker_by}
 use Rattle.lpm_trace.specs.Laws.{ArePlaced, IsLegalAtPlace}
 use Rattle.shared_words.specs.Rule.{IsLater}
 use Rattle.shared_words.specs.Deeds.{Found, IsReadOn, firsts_at, last_at, loads_at, seconds_at}
-use Rattle.shared_fib.specs.Running.{Identity, coded_identity, initial_state, phase_by, WriterState, coded_writer}
+use Rattle.shared_fib.specs.Running.{Identity, coded_identity, initial_state, phase_by}
 use Rattle.shared_fib.specs.Versions.{IsVersion, updates_begun, updates_done}
-use Rattle.lpm_limits.specs.declared.refusal.Refusal.{Refusal}
-use Rattle.lpm_limits.specs.declared.refusal.Refusal.TheVariants.{NoSuchWorker, Taken}
 use Rattle.lpm_trace.specs.contracts.step.WriterStep as writer_row
 use Rattle.lpm_trace.specs.contracts.step.WorkerStep as worker_row
 
@@ -141,26 +139,3 @@ coded_pass = code_by (Identity × (ℕ × (Bool × (List (WorkerStep × ℕ) × 
     (λ p. (p.table, (p.worker, (p.online, (p.steps, p.seen)))))
     (λ z. record { table = z.0; worker = z.1.0; online = z.1.1.0; steps = z.1.1.1.0; seen = z.1.1.1.1 })
     (λ _. refl)
-
--- The owner of a running table, as its callers see it (this project's).
-
--- its writer, and the passes that no reader has, by their numbers
-pub record OwnerState : Type 0 where
-  pub writer : WriterState
-  pub bench : List (Option PassState)
-
-abbrev pub coded_owner : Coded OwnerState
-coded_owner = code_by (WriterState × List (Option PassState))
-    (coded× coded_writer (coded_list (coded_option coded_pass)))
-    (λ o. (o.writer, o.bench)) (λ p. record { writer = p.0; bench = p.1 }) (λ _. refl)
-
--- What the registration of a worker comes to: a reader has the worker's pass, which is offline, and the bench has it no
--- more. Or nothing changes: the table has no such worker, its pass isn't there, or there is no room for the reader.
-pub record Registers (x : OwnerState) (worker : ℕ) (r : Result PassState Refusal) (z : OwnerState) : Type 0 where
-  pub reader : IfOk r (IsPassOf x.writer.identity worker)
-  pub registered : IfOk r (λ p. (slice_get x.bench worker ≡ Some (Some p)) × (z.bench ≡ slice_set x.bench worker None))
-  pub no_such_worker : IsErrOf r NoSuchWorker ↔ (x.writer.identity.initial.workers ≤ worker)
-  pub taken : IsErrOf r Taken ↔ (slice_get x.bench worker ≡ Some None)
-  pub unchanged : OnErr r (z ≡ x)
-  pub own : IsBenchOf z.writer.identity z.bench
-  pub same : z.writer ≡ x.writer

@@ -2,7 +2,8 @@ use Rattle.std.proofs.Common.{◌≡◌, ◌≤◌, ◌∙◌, refl, ap, sym, su
 use Rattle.std.specs.FinMap.{len}
 use Rattle.lpm_rules.specs.RuleMap.{rules_of, RuleMap}
 use Rattle.fib_model.specs.Outcomes.{groups_in_use}
-use Rattle.shared_fib.specs.Passes.{OwnerState, IsFullBench}
+use Rattle.saxiko.specs.Owners.{OwnerState}
+use Rattle.shared_fib.specs.Passes.{IsFullBench}
 use Rattle.shared_fib.specs.Running.{initial_writer}
 use Rattle.saxiko_c.specs.Loads.{IsOpenedWith}
 use Rattle.saxiko_c.proofs.Options.{at_some}

@@ -1,5 +1,0 @@
-use Rattle.std.proofs.Common.{rules}
-use Rattle.shared_fib.proofs.owner.Owner.flush.Goals as goal
-
-pub returns-clause-flushes : goal.returns-clause-flushes
-returns-clause-flushes c = search rules

@@ -1,5 +1,0 @@
-use Rattle.std.proofs.Common.{rules}
-use Rattle.shared_fib.proofs.owner.Owner.synchronize.Goals as goal
-
-pub returns-clause-synchronizes : goal.returns-clause-synchronizes
-returns-clause-synchronizes c = search rules
