@@ -6,15 +6,52 @@ ghost use Rattle.lpm_trace.specs.Laws.{IsChecked};
 ghost use Rattle.lpm_writer.specs.Steps.{Checks};
 ghost use Rattle.shared_fib.specs.Running.{passed_of, steps_of, token_of};
 ghost use Rattle.saxiko_c.specs.Grace.{ChecksOnce, Starts};
+ghost use Rattle.saxiko_c.specs.Stages.{IsSettled, waits_in};
+ghost use Rattle.saxiko_c.specs.declared.stage.Stage.TheVariants.{AtRest, Moving, Waiting};
 
 use crate::owner::Owner;
 use crate::records::SaxikoHeld;
 use crate::stage::Stage;
 use crate::status::{EALREADY, EOVERFLOW, EPERM};
 use lpm_limits::Busy;
-use saxiko::{Held, NotStarted};
+use saxiko::{GracePeriod, Held, NotStarted};
 use shared_fib::Exhausted;
 use std::mem;
+
+/// Takes the owner out of a stage at rest.
+#[inline]
+fn take_owner(stage: &mut Stage) -> saxiko::Owner
+    requires settled { IsSettled stage.old }
+    requires at_rest { waits_in stage.old ≡ false }
+    ensures out { stage.old ≡ AtRest result }
+    ensures moves { stage.new ≡ Moving }
+{
+    match mem::replace(stage, Stage::Moving) {
+        Stage::AtRest(owner) => owner,
+        _ => unreachable!(),
+    }
+}
+
+/// Takes the grace period out of a stage that waits.
+#[inline]
+fn take_period(stage: &mut Stage) -> GracePeriod
+    requires waits { waits_in stage.old ≡ true }
+    ensures out { stage.old ≡ Waiting result }
+    ensures moves { stage.new ≡ Moving }
+{
+    match mem::replace(stage, Stage::Moving) {
+        Stage::Waiting(period) => period,
+        _ => unreachable!(),
+    }
+}
+
+/// Puts a value in the place of another, which is dropped here alone.
+#[inline]
+fn put<T: Drop>(place: &mut T, value: T)
+    ensures { place.new ≡ value }
+{
+    *place = value;
+}
 
 impl Owner {
     /// Whether a grace period lasts.
@@ -44,16 +81,14 @@ impl Owner {
         ensures bench { self.new.bench ≡ self.old.bench }
         ensures unchanged { OnErr result (self.new ≡ self.old) }
     {
-        let Stage::AtRest(owner) = mem::replace(&mut self.stage, Stage::Moving) else {
-            unreachable!()
-        };
+        let owner = take_owner(&mut self.stage);
         match owner.start() {
             Ok(period) => {
-                self.stage = Stage::Waiting(period);
+                put(&mut self.stage, Stage::Waiting(period));
                 Ok(())
             }
             Err(NotStarted { owner }) => {
-                self.stage = Stage::AtRest(owner);
+                put(&mut self.stage, Stage::AtRest(owner));
                 Err(Exhausted)
             }
         }
@@ -79,16 +114,14 @@ impl Owner {
         } }
         ensures bench { self.new.bench ≡ self.old.bench }
     {
-        let Stage::Waiting(period) = mem::replace(&mut self.stage, Stage::Moving) else {
-            unreachable!()
-        };
+        let period = take_period(&mut self.stage);
         match period.check() {
             Ok(owner) => {
-                self.stage = Stage::AtRest(owner);
+                put(&mut self.stage, Stage::AtRest(owner));
                 Ok(())
             }
             Err(Held { period, busy }) => {
-                self.stage = Stage::Waiting(period);
+                put(&mut self.stage, Stage::Waiting(period));
                 Err(busy)
             }
         }
