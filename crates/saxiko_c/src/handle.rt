@@ -1,8 +1,10 @@
 //! What the handles of C have in common.
 
-ghost use Rattle.std.specs.Prelude.{◌≡◌, Option, Some, None, MatchOption};
+ghost use Rattle.std.specs.Prelude.{◌≡◌, Option, Some, None, MatchOption, MatchResult};
+ghost use Rattle.saxiko_c.specs.Status.{no_memory};
 
 use crate::loose::Loose;
+use crate::status::ENOMEM;
 use std::alloc::Global;
 use std::mem;
 
@@ -43,6 +45,17 @@ pub(crate) fn put<H: Handle>(handle: &mut H, held: Box<H::Held>)
 {
     // What was there is a closed handle, which has nothing to free.
     mem::forget(mem::replace(handle, H::of(Loose::of(held))));
+}
+
+/// A box with this value; `ENOMEM` where there is no memory for one.
+#[inline]
+pub(crate) fn boxed<T: Drop>(alloc: Global, value: T) -> Result<Box<T>, i32>
+    ensures { MatchResult result (λ b. b.value ≡ value) (λ status. status ≡ no_memory) }
+{
+    match Box::new(alloc, value) {
+        Ok(boxed) => Ok(boxed),
+        Err(_) => Err(ENOMEM),
+    }
 }
 
 /// What a call comes to on what an open handle holds; on a closed one it is EINVAL.

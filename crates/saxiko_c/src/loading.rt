@@ -4,6 +4,7 @@ ghost use Rattle.std.specs.Prelude.{◌≡◌, ◌+◌, ◌^◌, ◌≤◌, Matc
 ghost use Rattle.lpm_limits.specs.Limits.{IsConfig};
 ghost use Rattle.saxiko_c.specs.Loads.{IsBadRoute, IsLoaded, IsUnloaded, IsUnread, rule_of};
 
+use crate::handle::boxed;
 use crate::records::SaxikoRoute;
 use crate::status::{E2BIG, EDOM, EINVAL, ENOMEM, ENOSPC};
 use fib::{Fib, OpenError};
@@ -71,10 +72,7 @@ pub(crate) fn load(
         Err(status) => return Err(status),
     };
     match Fib::load(alloc, config, &rules) {
-        Ok(Some(fib)) => match Box::new(alloc, fib) {
-            Ok(boxed) => Ok(boxed),
-            Err(_) => Err(ENOMEM),
-        },
+        Ok(Some(fib)) => boxed(alloc, fib),
         Ok(None) => Err(ENOSPC),
         Err(OpenError::BadConfig) => Err(EINVAL),
         Err(OpenError::Memory) => Err(ENOMEM),

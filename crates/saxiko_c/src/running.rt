@@ -8,6 +8,7 @@ ghost use Rattle.saxiko_c.specs.Running.{AddsTo, Counts, DeletesFrom, Finds, Fin
 ghost use Rattle.saxiko_c.specs.Table.{IsUnopened};
 
 use crate::bursts::{find_all, find_all_within};
+use crate::handle::boxed;
 use crate::loading::read;
 use crate::owner::Owner;
 use crate::records::{SaxikoCounts, SaxikoHeld, SaxikoRoute, SaxikoSpan};
@@ -27,10 +28,7 @@ pub(crate) fn open(alloc: Global, config: Config) -> Result<Box<Owner>, i32>
     ensures { MatchResult result (λ b. IsOpened config b.value) (IsUnopened config) }
 {
     match saxiko::Owner::open(alloc, config) {
-        Ok(owner) => match Box::new(alloc, Owner::new(owner)) {
-            Ok(boxed) => Ok(boxed),
-            Err(_) => Err(ENOMEM),
-        },
+        Ok(owner) => boxed(alloc, Owner::new(owner)),
         Err(OpenError::BadConfig) => Err(EINVAL),
         Err(OpenError::Memory) => Err(ENOMEM),
     }
@@ -55,10 +53,7 @@ pub(crate) fn load(
         Err(status) => return Err(status),
     };
     match saxiko::Owner::load(alloc, config, &rules) {
-        Ok(Some(owner)) => match Box::new(alloc, Owner::new(owner)) {
-            Ok(boxed) => Ok(boxed),
-            Err(_) => Err(ENOMEM),
-        },
+        Ok(Some(owner)) => boxed(alloc, Owner::new(owner)),
         Ok(None) => Err(ENOSPC),
         Err(OpenError::BadConfig) => Err(EINVAL),
         Err(OpenError::Memory) => Err(ENOMEM),

@@ -6,6 +6,7 @@ ghost use Rattle.fib.specs.Fib.{initial_fib, IsHopOrDefault};
 ghost use Rattle.saxiko_c.specs.Status.{status_of};
 ghost use Rattle.saxiko_c.specs.Table.{AddsRule, Counts, DeletesRule, Finds, FindsAll, FlushesRules, FreesGroups, Gets, IsCounted, IsUnopened, Stores};
 
+use crate::handle::boxed;
 use crate::records::SaxikoCounts;
 use crate::status::{EINVAL, ENOENT, ENOMEM, of_add, of_refusal};
 use fib::{Fib, OpenError};
@@ -18,10 +19,7 @@ pub(crate) fn open(alloc: Global, config: Config) -> Result<Box<Fib<24, 8>>, i32
         (IsUnopened config) }
 {
     match Fib::open(alloc, config) {
-        Ok(fib) => match Box::new(alloc, fib) {
-            Ok(boxed) => Ok(boxed),
-            Err(_) => Err(ENOMEM),
-        },
+        Ok(fib) => boxed(alloc, fib),
         Err(OpenError::BadConfig) => Err(EINVAL),
         Err(OpenError::Memory) => Err(ENOMEM),
     }

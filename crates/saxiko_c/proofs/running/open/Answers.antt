@@ -1,11 +1,14 @@
 use Rattle.std.proofs.Common.{◌∙◌, refl, sym, subst}
+use Rattle.std.proofs.lemmas.Result.{MatchResult-weaker}
 use Rattle.saxiko_c.specs.Running.{IsOpened}
+use Rattle.saxiko_c.proofs.Options.{unopened}
 use Rattle.saxiko_c.proofs.running.open.Goals as goal
 
-pub returns-in-Ok-new : goal.returns-in-Ok-new
-returns-in-Ok-new c =
+pub returns-in-Ok : goal.returns-in-Ok
+returns-in-Ok c =
     let known = c.in-Ok.ensures in
-    subst (IsOpened c.args.config) (sym (c.in-Ok-new.ensures.ok ∙ c.new.ensures)) (record {
+    MatchResult-weaker c.boxed.result c.boxed.ensures
+    (λ b is. subst (IsOpened c.args.config) (sym (is ∙ c.new.ensures)) (record {
       opened = known.opened;
       setup = known.initial;
       token = known.token;
@@ -13,4 +16,5 @@ returns-in-Ok-new c =
       at_rest = refl;
       bench = known.bench;
       limits = known.limits;
-    })
+    }))
+    (λ status none. unopened c.args.config status known.limits none)
