@@ -12,7 +12,7 @@ use Rattle.std_heap.specs.contracts.GlobalAllocator.TheImpl.{ghosts}
 use Rattle.fib.specs.Fib.{FibState, coded_fib_state}
 use Rattle.fib.specs.contracts.fib.Fib as fib
 use Rattle.shared_fib.specs.Passes.{PassState, coded_pass}
-use Rattle.shared_fib.specs.contracts.reader.Reader as reader
+use Rattle.saxiko.specs.contracts.reader.Reader as reader
 use Rattle.saxiko_c.specs.Running.{OwnerState, coded_owner}
 use Rattle.saxiko_c.specs.contracts.owner.Owner as owner
 
