@@ -11,7 +11,7 @@ use Rattle.lpm_files.specs.declared.failure.Failure.{Failure}
 use Rattle.lpm_files.specs.Inputs.{Reads, IsKnownAs, AreRead}
 use Rattle.lpm_commands.specs.Loading.{IsLoaded, HasTable, EndsLoading, Loads, addition_of, IsFirstRefused, rules_of_routes}
 use Rattle.lpm_commands.specs.Lookup.{lookup_files, EndsAnswering, EndsLookup, IsAnswered, IsAnswerText, IsLookupText}
-use Rattle.lpm_commands.specs.Apply.{apply_files, EndsApply, IsToldAfter, IsApplyText}
+use Rattle.lpm_commands.specs.Apply.{apply_files, EndsApply, EndsTelling, IsToldOver, IsApplyText}
 use Rattle.std.proofs.Math.Seq.{drop-cons}
 use Rattle.std.proofs.lemmas.List.{take_more, take-append-drop}
 use Rattle.std.specs.FinMap.{insert, empty}
@@ -31,8 +31,7 @@ use Rattle.storm.specs.Changing.{IsForWriter}
 use Rattle.storm.specs.Storm.{limits_of}
 use Rattle.lpm_commands.specs.Filled.{rule_of}
 use Rattle.lpm_commands.specs.Storm.{AreLoaded, is_change, changes_of, IsPlanOf, IsTextOver, IsStormText, EndsAfter, EndsOver, EndsRunning, EndsStormRun}
-use Rattle.fib.specs.Fib.{FibState}
-use Rattle.lpm_commands.specs.Report.{IsReportedAfter, IsReportText}
+use Rattle.lpm_commands.specs.Report.{report_files, EndsReport, IsReportedOver, IsReportText}
 use Rattle.lpm_commands.proofs.Updated.{updated, last_rules, reported}
 use Rattle.lpm_files.specs.declared.failure.Failure.TheVariants as failures
 use Rattle.fib_model.specs.declared.orders.Order.TheVariants as orders
@@ -50,12 +49,20 @@ ends_lookup c routes addresses bytes list addrs table e are_routes are_addrs loa
     let table : HasTable c (bytes routes) = (list, (table, are_routes, loaded)) in
     inr (inr (inl (read, table, ends)))
 
--- an apply ends where its addresses are answered
-pub ends_apply : (c d : Config) (routes updates addresses : List ℕ) (bytes : List ℕ → Option (List ℕ)) (list : List Route) (orders : List (Order 24 8)) (addrs : List ℕ) (table : State Registry) (e : Failure) → d ≡ c → Reads AreRoutes (bytes routes) list → Reads AreUpdates (bytes updates) orders → Reads AreAddresses (bytes addresses) addrs → IsLoaded c list table → EndsAnswering d.workers e → EndsApply c routes updates addresses bytes e
-ends_apply c d routes updates addresses bytes list orders addrs table e limits are_routes are_updates are_addrs loaded ends =
+-- an apply of what the files list ends
+pub ends_apply : (c : Config) (routes updates addresses : List ℕ) (bytes : List ℕ → Option (List ℕ)) (list list' : List Route) (orders : List (Order 24 8)) (addrs : List ℕ) (e : Failure) → Reads AreRoutes (bytes routes) list → Reads AreUpdates (bytes updates) orders → Reads AreAddresses (bytes addresses) addrs → list' ≡ list → EndsTelling c routes list' e → EndsApply c routes updates addresses bytes e
+ends_apply c routes updates addresses bytes list list' orders addrs e are_routes are_updates are_addrs same ends =
     let read : AreRead (apply_files routes updates addresses bytes) = (is_read (bytes routes) AreRoutes list are_routes, (is_read (bytes updates) AreUpdates orders are_updates, (is_read (bytes addresses) AreAddresses addrs are_addrs, tt))) in
-    let table : HasTable c (bytes routes) = (list, (table, are_routes, loaded)) in
-    inr (inr (inl (read, table, subst (λ (k : Config). EndsAnswering k.workers e) limits ends)))
+    elim (subst (λ (l : List Route). EndsTelling c routes l e) same ends) [
+      | inl loading ↦ inr (inl (read, (list, are_routes, loading)))
+      | inr answering ↦ inr (inr (inl (read, (list, (answering.0.0, are_routes, answering.0.1)), answering.1)))
+    ]
+
+-- a report of what the files list ends
+pub ends_report : (c : Config) (routes updates : List ℕ) (bytes : List ℕ → Option (List ℕ)) (list list' : List Route) (orders : List (Order 24 8)) (e : Failure) → Reads AreRoutes (bytes routes) list → Reads AreUpdates (bytes updates) orders → list' ≡ list → EndsLoading c routes list' e → EndsReport c routes updates bytes e
+ends_report c routes updates bytes list list' orders e are_routes are_updates same ends =
+    let read : AreRead (report_files routes updates bytes) = (is_read (bytes routes) AreRoutes list are_routes, (is_read (bytes updates) AreUpdates orders are_updates, tt)) in
+    inr (inl (read, (list, are_routes, subst (λ (l : List Route). EndsLoading c routes l e) same ends)))
 
 -- Routes that are added one after another.
 
@@ -224,8 +231,8 @@ is_lookup_text c routes addresses list addrs table R text are_routes are_addrs l
 }
 
 -- what came of the updates, and the answers of the table after them
-pub is_apply_text : (c : Config) (routes updates addresses : Option (List ℕ)) (list : List Route) (orders : List (Order 24 8)) (addrs : List ℕ) (x z : State Registry) (text : List ℕ) → Reads AreRoutes routes list → Reads AreUpdates updates orders → Reads AreAddresses addresses addrs → IsLoaded c list x → IsToldAfter c x orders addrs z text → IsApplyText c routes updates addresses text
-is_apply_text c routes updates addresses list orders addrs x z text are_routes are_updates are_addrs loaded told =
+told_text : (c : Config) (routes updates addresses : Option (List ℕ)) (list : List Route) (orders : List (Order 24 8)) (addrs : List ℕ) (text : List ℕ) → Reads AreRoutes routes list → Reads AreUpdates updates orders → Reads AreAddresses addresses addrs → IsToldOver c list orders addrs text → IsApplyText c routes updates addresses text
+told_text c routes updates addresses list orders addrs text are_routes are_updates are_addrs (x, (z, loaded, told)) =
     let done = updated c list orders told.came x z loaded told.comes in
     record {
       list = list;
@@ -243,9 +250,14 @@ is_apply_text c routes updates addresses list orders addrs x z text are_routes a
       written = told.written;
     }
 
+-- the text of an apply of what the files list
+pub is_apply_text : (c : Config) (routes updates addresses : Option (List ℕ)) (list list' : List Route) (orders orders' : List (Order 24 8)) (addrs addrs' text : List ℕ) → Reads AreRoutes routes list → Reads AreUpdates updates orders → Reads AreAddresses addresses addrs → list' ≡ list → orders' ≡ orders → addrs' ≡ addrs → IsToldOver c list' orders' addrs' text → IsApplyText c routes updates addresses text
+is_apply_text c routes updates addresses list list' orders orders' addrs addrs' text are_routes are_updates are_addrs same_list same_orders same_addrs told =
+    told_text c routes updates addresses list orders addrs text are_routes are_updates are_addrs (subst (λ (l : List ℕ). IsToldOver c list orders l text) same_addrs (subst (λ (l : List (Order 24 8)). IsToldOver c list l addrs' text) same_orders (subst (λ (l : List Route). IsToldOver c l orders' addrs' text) same_list told)))
+
 -- what the table counts after the updates
-pub is_report_text : (c : Config) (routes updates : Option (List ℕ)) (list : List Route) (orders : List (Order 24 8)) (x : State Registry) (fib : FibState) (text : List ℕ) → Reads AreRoutes routes list → Reads AreUpdates updates orders → IsLoaded c list x → IsReportedAfter c x orders fib text → IsReportText c routes updates text
-is_report_text c routes updates list orders x fib text are_routes are_updates loaded after =
+reported_text : (c : Config) (routes updates : Option (List ℕ)) (list : List Route) (orders : List (Order 24 8)) (text : List ℕ) → Reads AreRoutes routes list → Reads AreUpdates updates orders → IsReportedOver c list orders text → IsReportText c routes updates text
+reported_text c routes updates list orders text are_routes are_updates (x, (fib, loaded, after)) =
     let done = updated c list orders after.came x fib.table loaded after.comes in
     record {
       list = list;
@@ -261,14 +273,11 @@ is_report_text c routes updates list orders x fib text are_routes are_updates lo
       written = after.written;
     }
 
--- the same report under other names of the limits and the orders
-pub reported_as : (c d : Config) (x : State Registry) (orders orders' : List (Order 24 8)) (z : FibState) (text : List ℕ) → d ≡ c → orders ≡ orders' → IsReportedAfter d x orders z text → IsReportedAfter c x orders' z text
-reported_as c d x orders orders' z text limits same after = subst (λ (k : Config). IsReportedAfter k x orders' z text) limits (subst (λ (l : List (Order 24 8)). IsReportedAfter d x l z text) same after)
+-- the text of a report of what the files list
+pub is_report_text : (c : Config) (routes updates : Option (List ℕ)) (list list' : List Route) (orders orders' : List (Order 24 8)) (text : List ℕ) → Reads AreRoutes routes list → Reads AreUpdates updates orders → list' ≡ list → orders' ≡ orders → IsReportedOver c list' orders' text → IsReportText c routes updates text
+is_report_text c routes updates list list' orders orders' text are_routes are_updates same_list same_orders after =
+    reported_text c routes updates list orders text are_routes are_updates (subst (λ (l : List (Order 24 8)). IsReportedOver c list l text) same_orders (subst (λ (l : List Route). IsReportedOver c l orders' text) same_list after))
 
 -- the same answers by a table of as many workers, and under another name of the addresses
 pub answered_as : (c d : Config) (R : RuleMap) (addrs list text : List ℕ) → d.workers ≡ c.workers → addrs ≡ list → IsAnswered d R addrs text → IsAnswered c R list text
 answered_as c d R addrs list text many same answered = (omega (arith, many, answered.0), subst (λ (l : List ℕ). IsAnswerText R l text) same answered.1)
-
--- the same text under other names of the limits, the orders and the addresses
-pub told_as : (c d : Config) (x z : State Registry) (orders orders' : List (Order 24 8)) (addrs addrs' : List ℕ) (text : List ℕ) → d ≡ c → orders ≡ orders' → addrs ≡ addrs' → IsToldAfter d x orders addrs z text → IsToldAfter c x orders' addrs' z text
-told_as c d x z orders orders' addrs addrs' text limits same_orders same_addrs told = subst (λ (k : Config). IsToldAfter k x orders' addrs' z text) limits (subst (λ (l : List ℕ). IsToldAfter d x orders' l z text) same_addrs (subst (λ (l : List (Order 24 8)). IsToldAfter d x l addrs z text) same_orders told))

@@ -20,7 +20,7 @@ use Rattle.route_text.specs.Texts.{outcome_lines}
 use Rattle.lpm_files.specs.declared.failure.Failure.{Failure}
 use Rattle.lpm_files.specs.declared.failure.Failure.TheVariants.{CannotWrite}
 use Rattle.lpm_files.specs.Inputs.{Input, Reads, route_file, update_file, address_file, AreRead, EndsAtOne}
-use Rattle.lpm_commands.specs.Loading.{EndsTable, HasTable}
+use Rattle.lpm_commands.specs.Loading.{IsLoaded, EndsLoading, EndsTable, HasTable}
 use Rattle.lpm_commands.specs.Lookup.{IsAnswered, EndsAnswering}
 use Rattle.fib_model.specs.declared.orders.Order.TheVariants as orders
 use Rattle.fib_model.specs.declared.orders.Outcome.TheVariants as outcomes
@@ -80,6 +80,17 @@ pub record IsToldAfter (c : Config) (x : State Registry) (orders : List (Order 2
   pub comes : ComesOut c x orders came z
   pub answered : IsAnswered c z.rules addrs answers
   pub written : text ≡ outcome_lines came ++ answers
+
+-- the routes make a table of these limits, none is refused, and the text tells what came of the
+-- updates after them and then answers the addresses
+abbrev pub IsToldOver : Config → List Route → List (Order 24 8) → List ℕ → List ℕ → Type 0
+IsToldOver c list orders addrs text = (x : State Registry) × ((z : State Registry)
+    × IsLoaded c list x × IsToldAfter c x orders addrs z text)
+
+-- telling that ends so: by loading the routes of the file of this path, else by answering
+abbrev pub EndsTelling : Config → List ℕ → List Route → Failure → Type 0
+EndsTelling c file list failure = EndsLoading c file list failure
+    ⊎ (((table : State Registry) × IsLoaded c list table) × EndsAnswering c.workers failure)
 
 -- the files of an apply, of these paths and bytes
 abbrev pub apply_files : List ℕ → List ℕ → List ℕ → (List ℕ → Option (List ℕ)) → List Input

@@ -21,7 +21,7 @@ use Rattle.lpm_files.specs.declared.failure.Failure.{Failure}
 use Rattle.lpm_files.specs.declared.failure.Failure.TheVariants.{CannotWrite}
 use Rattle.lpm_files.specs.Inputs.{Input, Reads, route_file, update_file}
 use Rattle.lpm_files.specs.Inputs.{AreRead, EndsAtOne}
-use Rattle.lpm_commands.specs.Loading.{EndsTable}
+use Rattle.lpm_commands.specs.Loading.{IsLoaded, EndsTable}
 use Rattle.lpm_commands.specs.Apply.{ComesOut, IsUpdated}
 
 -- the report has what the table counts
@@ -54,6 +54,12 @@ pub record IsReportedAfter (c : Config) (x : State Registry) (orders : List (Ord
   pub comes : ComesOut c x orders came z.table
   pub counts : IsCountOf z report
   pub written : text ≡ report_lines report
+
+-- the routes make a table of these limits, none is refused, and the text is the report after the
+-- updates that follow
+abbrev pub IsReportedOver : Config → List Route → List (Order 24 8) → List ℕ → Type 0
+IsReportedOver c list orders text = (x : State Registry) × ((fib : FibState)
+    × IsLoaded c list x × IsReportedAfter c x orders fib text)
 
 -- the text is the report after the routes and the updates; the files' bytes are known, or not
 pub record IsReportText (c : Config) (routes updates : Option (List ℕ)) (text : List ℕ)

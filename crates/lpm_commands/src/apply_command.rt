@@ -2,7 +2,7 @@
 ghost use Rattle.std.specs.Prelude.{◌≡◌, ◌≢◌, IfOk, IfErr, OnOk, IsErrOf};
 ghost use Rattle.lpm_limits.specs.Limits.{IsConfig};
 ghost use Rattle.lpm_files.specs.Output.{Writes, WritesBeginning};
-ghost use Rattle.lpm_commands.specs.Apply.{IsApplyText, IsToldAfter, EndsApply};
+ghost use Rattle.lpm_commands.specs.Apply.{IsApplyText, IsToldAfter, IsToldOver, EndsApply, EndsTelling};
 ghost use Rattle.lpm_commands.specs.Lookup.{EndsAnswering};
 
 use crate::answers::text_of_answers;
@@ -12,7 +12,7 @@ use bulk::Gate;
 use fib::Fib;
 use lpm_files::{Failure, Files, Updates, put_text, read_addresses_on, read_list, read_routes_on};
 use qsbr::Config;
-use route_text::{Order, outcomes_text};
+use route_text::{Order, Route, outcomes_text};
 use std::alloc::Global;
 use std::io::Write;
 use std::thread::Threads;
@@ -49,12 +49,52 @@ pub fn apply<'a, R: Threads + Sync, F: Files, G: Gate, W: Write>(
     ensures failure { IfErr result (EndsApply config
         routes.entry.now updates.entry.now addresses.entry.now (F.bytes files.now)) }
 {
+    let text = whole_text(rt, alloc, files, routes, updates, addresses, config, gate)?;
+    put_text(out, &text)
+}
+
+// The whole text, before anything is written.
+fn whole_text<'a, R: Threads + Sync, F: Files, G: Gate>(
+    rt: &R,
+    alloc: Global,
+    files: &F,
+    routes: &'a str,
+    updates: &'a str,
+    addresses: &'a str,
+    config: Config,
+    gate: &G,
+) -> Result<Vec<u8>, Failure<'a>>
+    requires { IsConfig config }
+    ensures text { IfOk result (λ v. IsApplyText config (F.bytes files.now routes.entry.now)
+        (F.bytes files.now updates.entry.now) (F.bytes files.now addresses.entry.now) v.items) }
+    ensures failure { IfErr result (EndsApply config
+        routes.entry.now updates.entry.now addresses.entry.now (F.bytes files.now)) }
+    ensures unwritten { IfErr result (λ e. e ≢ Failure.CannotWrite) }
+{
     let list = read_routes_on(rt, alloc, files, routes, config.workers)?;
     let orders = read_list::<Updates, F>(alloc, files, updates)?;
     let addrs = read_addresses_on(rt, alloc, files, addresses, config.workers)?;
-    let mut table = load(alloc, routes, &list, config)?;
-    let text = text_after(rt, alloc, &mut table, &orders, &addrs, gate)?;
-    put_text(out, &text)
+    text_over(rt, alloc, routes, &list, &orders, &addrs, config, gate)
+}
+
+// The lines of the updates, and then those of the addresses, by a table of the routes of the file of
+// this path.
+fn text_over<'a, R: Threads + Sync, G: Gate>(
+    rt: &R,
+    alloc: Global,
+    path: &'a str,
+    routes: &[Route],
+    orders: &[Order],
+    addrs: &[u32],
+    config: Config,
+    gate: &G,
+) -> Result<Vec<u8>, Failure<'a>>
+    requires { IsConfig config }
+    ensures text { IfOk result (λ v. IsToldOver config routes.now orders.now addrs.now v.items) }
+    ensures failure { IfErr result (EndsTelling config path.entry.now routes.now) }
+{
+    let mut table = load(alloc, path, routes, config)?;
+    text_after(rt, alloc, &mut table, orders, addrs, gate)
 }
 
 // The lines of the updates, and then those of the addresses.

@@ -2,7 +2,8 @@
 ghost use Rattle.std.specs.Prelude.{◌≡◌, ◌≢◌, IfOk, IfErr, OnOk, IsErrOf};
 ghost use Rattle.lpm_limits.specs.Limits.{IsConfig};
 ghost use Rattle.lpm_files.specs.Output.{Writes, WritesBeginning};
-ghost use Rattle.lpm_commands.specs.Report.{IsReportText, IsReportedAfter, IsCountOf, EndsReport};
+ghost use Rattle.lpm_commands.specs.Loading.{EndsLoading};
+ghost use Rattle.lpm_commands.specs.Report.{IsReportText, IsReportedAfter, IsReportedOver, IsCountOf, EndsReport};
 
 use crate::loading::load;
 use crate::updating::update;
@@ -10,7 +11,7 @@ use audit::{Report, report_text};
 use fib::Fib;
 use lpm_files::{Failure, Files, Routes, Updates, put_text, read_list};
 use qsbr::Config;
-use route_text::Order;
+use route_text::{Order, Route};
 use std::alloc::Global;
 use std::io::Write;
 
@@ -41,11 +42,44 @@ pub fn report<'a, F: Files, W: Write>(
     ensures failure { IfErr result
         (EndsReport config routes.entry.now updates.entry.now (F.bytes files.now)) }
 {
+    let text = whole_text(alloc, files, routes, updates, config)?;
+    put_text(out, &text)
+}
+
+// The whole text, before anything is written.
+fn whole_text<'a, F: Files>(
+    alloc: Global,
+    files: &F,
+    routes: &'a str,
+    updates: &'a str,
+    config: Config,
+) -> Result<Vec<u8>, Failure<'a>>
+    requires { IsConfig config }
+    ensures text { IfOk result (λ v. IsReportText config
+        (F.bytes files.now routes.entry.now) (F.bytes files.now updates.entry.now) v.items) }
+    ensures failure { IfErr result
+        (EndsReport config routes.entry.now updates.entry.now (F.bytes files.now)) }
+    ensures unwritten { IfErr result (λ e. e ≢ Failure.CannotWrite) }
+{
     let list = read_list::<Routes, F>(alloc, files, routes)?;
     let orders = read_list::<Updates, F>(alloc, files, updates)?;
-    let mut table = load(alloc, routes, &list, config)?;
-    let text = text_after(alloc, &mut table, &orders)?;
-    put_text(out, &text)
+    text_over(alloc, routes, &list, &orders, config)
+}
+
+// The text of what a table of the routes of the file of this path counts after the updates.
+fn text_over<'a>(
+    alloc: Global,
+    path: &'a str,
+    routes: &[Route],
+    orders: &[Order],
+    config: Config,
+) -> Result<Vec<u8>, Failure<'a>>
+    requires { IsConfig config }
+    ensures text { IfOk result (λ v. IsReportedOver config routes.now orders.now v.items) }
+    ensures failure { IfErr result (EndsLoading config path.entry.now routes.now) }
+{
+    let mut table = load(alloc, path, routes, config)?;
+    text_after(alloc, &mut table, orders)
 }
 
 // The text of what the table counts after the updates.
