@@ -9,12 +9,15 @@ use Rattle.route_text.specs.Files.{AreRoutes, AreAddresses}
 use Rattle.route_text.specs.Updates.{AreUpdates}
 use Rattle.lpm_files.specs.declared.failure.Failure.{Failure}
 use Rattle.lpm_files.specs.Inputs.{Reads, IsKnownAs, AreRead}
+use Rattle.lpm_files.specs.Output.{Begins, Writes, WritesBeginning}
 use Rattle.lpm_commands.specs.Loading.{IsLoaded, HasTable, EndsLoading, Loads, addition_of, IsFirstRefused, rules_of_routes}
 use Rattle.lpm_commands.specs.Lookup.{lookup_files, EndsAnswering, EndsLookup, IsAnswered, IsAnswerText, IsLookupText}
 use Rattle.lpm_commands.specs.Apply.{apply_files, EndsApply, EndsTelling, IsToldOver, IsApplyText}
 use Rattle.std.proofs.Math.Seq.{drop-cons}
 use Rattle.std.proofs.lemmas.List.{take_more, take-append-drop}
 use Rattle.std.specs.FinMap.{insert, empty}
+use Rattle.std.specs.Prelude.{Result, OnOk, OnErr}
+use Rattle.std.specs.Io.KnownBytes.{Appends}
 use Rattle.lpm_limits.specs.declared.refusal.Refusal.{Refusal}
 use Rattle.lpm_limits.specs.declared.refusal.Refusal.TheVariants.{TooManyRules, Exhausted, NoGroups, Memory}
 use Rattle.lpm_rules.specs.RuleMap.{RuleMap, rules_of}
@@ -63,6 +66,15 @@ pub ends_report : (c : Config) (routes updates : List ℕ) (bytes : List ℕ →
 ends_report c routes updates bytes list list' orders e are_routes are_updates same ends =
     let read : AreRead (report_files routes updates bytes) = (is_read (bytes routes) AreRoutes list are_routes, (is_read (bytes updates) AreUpdates orders are_updates, tt)) in
     inr (inl (read, (list, are_routes, subst (λ (l : List Route). EndsLoading c routes l e) same ends)))
+
+-- a text that was written whole
+pub is_written : {T E : Type 0} (IsText : List ℕ → Type 0) (r : Result T E) (old new : Option (List ℕ)) (text text' : List ℕ) → text' ≡ text → IsText text → OnOk r (Appends old new text') → OnOk r (Writes IsText old new)
+is_written IsText (Ok x) old new text text' same is appends = (text, is, subst (λ (t : List ℕ). Appends old new t) same appends)
+is_written IsText (Err e) old new text text' same is appends = tt
+
+-- a text of which a beginning was written
+pub is_begun : {T E : Type 0} (IsText : List ℕ → Type 0) (r : Result T E) (e : E) (old new : Option (List ℕ)) (text text' : List ℕ) → text' ≡ text → IsText text → OnErr r (Begins old new text') → r ≡ Err e → WritesBeginning IsText old new
+is_begun {T = T} {E = E} IsText r e old new text text' same is begins failed = (text, is, subst (λ (t : List ℕ). Begins old new t) same (subst (λ (x : Result T E). OnErr x (Begins old new text')) failed begins))
 
 -- Routes that are added one after another.
 

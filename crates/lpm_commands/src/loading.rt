@@ -227,14 +227,9 @@ fn load_in_order(alloc: Global, routes: &[Route], config: Config) -> Option<Fib<
     let Some(mut table) = open_with(alloc, first, config) else {
         return None;
     };
-    let mut rest = later;
-    while !rest.is_empty() {
-        let (piece, after) = rest.split_at(rest.len().min(MOST_SORTED));
-        let Ok(()) = add_piece(alloc, &mut table, piece) else {
-            return None;
-        };
-        rest = after;
-    }
+    let Ok(()) = add_pieces(alloc, &mut table, later) else {
+        return None;
+    };
     Some(table)
 }
 
@@ -278,6 +273,23 @@ fn fitting_rules(alloc: Global, routes: &[Route], config: Config) -> Option<Vec<
         return None;
     }
     Some(rules)
+}
+
+// Adds the rules of routes, as many at a time as can be sorted.
+fn add_pieces(alloc: Global, table: &mut Fib<24, 8>, routes: &[Route]) -> Result<(), Refusal>
+    requires filled { IsFilled table.old.config table.old.table }
+    ensures config { table.new.config ≡ table.old.config }
+    ensures rules { OnOk result (table.new.table.rules
+        ≡ rules_after table.old.table.rules (map addition_of routes.now)) }
+    ensures filled { OnOk result (IsFilled table.old.config table.new.table) }
+{
+    let mut rest = routes;
+    while !rest.is_empty() {
+        let (piece, after) = rest.split_at(rest.len().min(MOST_SORTED));
+        add_piece(alloc, table, piece)?;
+        rest = after;
+    }
+    Ok(())
 }
 
 // Adds the rules of routes, at most as many as can be sorted.

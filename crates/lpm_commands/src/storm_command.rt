@@ -1,12 +1,12 @@
 //! `storm`: how many answers of lookups beside a writer were wrong.
-ghost use Rattle.std.specs.Prelude.{◌≡◌, ◌≢◌, ◌+◌, ◌<◌, ◌^◌, ◌⊎◌, All};
-ghost use Rattle.std.specs.Prelude.{IfOk, IfErr, OnOk, IsErrOf};
+ghost use Rattle.std.specs.Prelude.{◌≡◌, ◌≢◌, ◌+◌, ◌<◌, ◌≤◌, ◌^◌, ◌⊎◌, All};
+ghost use Rattle.std.specs.Prelude.{IfOk, IfErr, OnOk, IsErrOf, length};
 ghost use Rattle.lpm_rules.specs.RuleMap.{rules_of};
 ghost use Rattle.shared_fib.specs.Passes.{IsFullBench};
 ghost use Rattle.shared_fib.specs.Running.{initial_writer};
 ghost use Rattle.lpm_files.specs.Output.{Writes, WritesBeginning};
 ghost use Rattle.storm.specs.Changing.{IsForWriter};
-ghost use Rattle.storm.specs.Storm.{IsInRange, limits_of};
+ghost use Rattle.storm.specs.Storm.{EndsStorm, IsInRange, IsStorm, limits_of};
 ghost use Rattle.lpm_commands.specs.Loading.{rules_of_routes};
 ghost use Rattle.lpm_commands.specs.Storm.{IsStormText, IsTextAfter, IsTextOf, IsTextOver, ending_of, with_versions};
 ghost use Rattle.lpm_commands.specs.Storm.{EndsAfter, EndsBy, EndsOver, EndsRunning, EndsStormRun, changes_of, is_change};
@@ -211,15 +211,39 @@ fn text_on<'a, R: Threads + Wait + Sync, G: Gate>(
     ensures text { IfOk result (λ v. IsTextOf plan.now versions v.items) }
     ensures failure { IfErr result (λ e. (e ≡ Failure.Memory) ⊎ EndsRunning plan.now e) }
 {
+    match report_on(rt, alloc, plan, running, gate) {
+        Ok(report) => Ok(storm_text(alloc, &with_versions(report, versions))?),
+        Err(error) => Err(ending_of(error)),
+    }
+}
+
+// The report of a storm of this plan on its table, which is dropped then.
+fn report_on<R: Threads + Wait + Sync, G: Gate>(
+    rt: &R,
+    alloc: Global,
+    plan: &Plan<'_, 24, 8>,
+    running: Running,
+    gate: &G,
+) -> Result<StormReport, StormError>
+    requires in_range { IsInRange plan.now }
+    requires new { running.writer
+        ≡ initial_writer running.table (limits_of plan.now) (rules_of plan.now.rules.now) }
+    requires token { running.table.initial.token ≡ plan.now.config.first_token }
+    requires workers { running.table.initial.workers ≡ (limits_of plan.now).workers }
+    requires full { IsFullBench running.table running.bench }
+    requires orders { All IsForWriter plan.now.orders.now }
+    requires addrs { All (λ a. a < 2 ^ 32) plan.now.addrs.now }
+    ensures storm { IfOk result (IsStorm plan.now) }
+    ensures wrong { IfOk result (λ r. r.wrong ≡ 0) }
+    ensures versions { IfOk result (λ r. r.table.versions ≤ length plan.now.orders.now) }
+    ensures failure { IfErr result (EndsStorm plan.now) }
+{
     let Running {
         table,
         writer,
         mut bench,
     } = running;
-    match run(rt, alloc, plan, &table, writer, &mut bench, gate) {
-        Ok(report) => Ok(storm_text(alloc, &with_versions(report, versions))?),
-        Err(error) => Err(ending_of(error)),
-    }
+    run(rt, alloc, plan, &table, writer, &mut bench, gate)
 }
 
 // The report, with so many versions more.

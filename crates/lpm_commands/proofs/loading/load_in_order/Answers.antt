@@ -8,18 +8,13 @@ use Rattle.lpm_commands.specs.Loading.{addition_of, rules_of_routes}
 use Rattle.lpm_commands.proofs.Sorted.{rules_after-append}
 use Rattle.lpm_commands.proofs.loading.load_in_order.Goals as goal
 
-pub loop-rest-init : goal.loop-rest-init
-loop-rest-init c =
+pub returns-clause-rules : goal.returns-clause-rules
+returns-clause-rules c =
     let routes = c.args.routes.now in
     let n = c.min.result in
     let first = c.split_at.result.0.now in
     let later = c.split_at.result.1.now in
-    let is = c.in-Some.ensures in
-    record {
-      config = is.config;
-      filled = is.filled;
-      rest = ap (λ (R : RuleMap). rules_after R (map addition_of later)) is.rules
-          ∙ (sym (rules_after-append empty first later)
-          ∙ ap rules_of_routes (ap (λ (l : List Route). l ++ later) c.split_at.ensures.front
-          ∙ (ap (λ (l : List Route). take n routes ++ l) c.split_at.ensures.back ∙ take-append-drop n routes)));
-    }
+    c.in-Ok.ensures.rules ∙ (ap (λ (R : RuleMap). rules_after R (map addition_of later)) c.in-Some.ensures.rules
+    ∙ (sym (rules_after-append empty first later)
+    ∙ ap rules_of_routes (ap (λ (l : List Route). l ++ later) c.split_at.ensures.front
+    ∙ (ap (λ (l : List Route). take n routes ++ l) c.split_at.ensures.back ∙ take-append-drop n routes))))
