@@ -1,16 +1,16 @@
 //! What lookups and changes of a table of one thread take.
 
-use crate::changes::{Change, print_changes, time_changes};
+use crate::changes::{Change, print_changes, time_both};
 use crate::figures::{Hundredths, each_second, hundredths_of_millis, hundredths_of_nanos, ratio};
 use crate::lookups::{ASCENDING, Addresses, Kind, draw_addresses};
 use crate::pieces::print_pieces;
-use crate::routes::{Route, deep_blocks, full_block};
-use crate::turns::{Turns, compare};
+use crate::routes::{Route, deep_blocks, default_route, full_block};
+use crate::turns::{Compared, Turns, compare};
 use crate::words::Words;
 use anyhow::Result;
 use fib::Fib;
-use lpm_bits::{Hop, Prefix};
 use rand_core::Rng;
+use std::io;
 use std::rt::Clock;
 use std::thread::Threads;
 
@@ -19,6 +19,9 @@ const TURNS: Turns = Turns {
     count: 15,
     alternate: false,
 };
+
+/// Routes are added and then deleted.
+const ADDITIONS: [Change; 2] = [Change::Add, Change::Delete];
 
 /// Prints the size of a table of one thread that has these routes, and what its lookups and changes take.
 pub(crate) fn print_alone<R: Clock + Print + AllocGlobal + Threads + Sync, G: Rng>(
@@ -93,35 +96,33 @@ fn print_lookups<R: Clock + Print + AllocGlobal>(
 ) -> Result<()> {
     let (mut one, mut other) = (table, words);
     let compared = compare(rt, &mut one, &mut other, addresses, TURNS)?;
-    let count = addresses.count();
+    Ok(print_compared(rt, kind, compared, addresses.count())?)
+}
+
+/// Prints what so many lookups took in the table and in the plain words.
+fn print_compared<R: Print>(
+    rt: &R,
+    kind: &str,
+    compared: Compared,
+    count: usize,
+) -> io::Result<()> {
     let table = hundredths_of_nanos(compared.first, count);
     let words = hundredths_of_nanos(compared.second, count);
+    let (ratio, sum) = (Hundredths(ratio(table, words)), compared.sum);
+    let (table, words) = (Hundredths(table), Hundredths(words));
     println!(rt;
-        "lookups, {kind}: {} ns each\nplain words, {kind}: {} ns each",
-        Hundredths(table),
-        Hundredths(words)
-    )?;
-    let times = Hundredths(ratio(table, words));
-    println!(rt;
-        "ratio, {kind}: {times}\nchecksum, {kind}: {}",
-        compared.sum
-    )?;
-    Ok(())
+        "lookups, {kind}: {table} ns each\n\
+         plain words, {kind}: {words} ns each\n\
+         ratio, {kind}: {ratio}\n\
+         checksum, {kind}: {sum}"
+    )
 }
 
 /// Adds a default route and deletes it again.
 fn print_default_route<R: Clock + Print>(rt: &R, table: &mut Fib<24, 8>) -> Result<()> {
-    let default = [Route {
-        prefix: Prefix::new(0, 0)?,
-        hop: Hop::new(1)?,
-    }];
-    let adding = Hundredths(hundredths_of_millis(time_changes(rt, table, Change::Add, &default)?));
-    let deleting = Hundredths(hundredths_of_millis(time_changes(
-        rt,
-        table,
-        Change::Delete,
-        &default,
-    )?));
+    let [adding, deleting] = time_both(rt, table, ADDITIONS, &[default_route()?])?;
+    let adding = Hundredths(hundredths_of_millis(adding));
+    let deleting = Hundredths(hundredths_of_millis(deleting));
     println!(rt;
         "addition of a default route: {adding} ms\ndeletion of a default route: {deleting} ms"
     )?;
@@ -140,9 +141,9 @@ fn print_block_changes<R: Clock + Print>(
     table: &mut Fib<24, 8>,
     routes: &[Route],
 ) -> Result<()> {
-    let count = routes.len();
-    let adding = each_second(time_changes(rt, table, Change::Add, routes)?, count);
-    let deleting = each_second(time_changes(rt, table, Change::Delete, routes)?, count);
+    let [adding, deleting] = time_both(rt, table, ADDITIONS, routes)?;
+    let adding = each_second(adding, routes.len());
+    let deleting = each_second(deleting, routes.len());
     println!(rt;
         "additions, full block: {adding} a second\ndeletions, full block: {deleting} a second"
     )?;

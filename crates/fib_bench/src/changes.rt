@@ -49,6 +49,19 @@ pub(crate) fn time_changes<R: Clock, T: Changeable>(
     Ok(start.elapsed(rt)?)
 }
 
+/// How long it takes to make the first change with each of these routes, and how long to make the second one
+/// then.
+pub(crate) fn time_both<R: Clock, T: Changeable>(
+    rt: &R,
+    table: &mut T,
+    [first, second]: [Change; 2],
+    routes: &[Route],
+) -> Result<[Duration; 2]> {
+    let one = time_changes(rt, table, first, routes)?;
+    let other = time_changes(rt, table, second, routes)?;
+    Ok([one, other])
+}
+
 /// Deletes the route and adds it again. It returns how many of the two changes were made.
 pub(crate) fn change_twice<T: Changeable>(table: &mut T, route: &Route) -> u64 {
     let is_gone = table.change(Change::Delete, route).is_ok();
@@ -66,8 +79,8 @@ pub(crate) fn print_changes<R: Clock + Print, T: Changeable>(
 ) -> Result<()> {
     let count = routes.len().min(SAMPLE);
     let sample = &routes[..count];
-    let deleting = each_second(time_changes(rt, table, Change::Delete, sample)?, count);
-    let adding = each_second(time_changes(rt, table, Change::Add, sample)?, count);
+    let [deleting, adding] = time_both(rt, table, [Change::Delete, Change::Add], sample)?;
+    let (deleting, adding) = (each_second(deleting, count), each_second(adding, count));
     println!(rt; "deletions{which}: {deleting} a second\nadditions{which}: {adding} a second")?;
     Ok(())
 }

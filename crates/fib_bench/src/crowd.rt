@@ -2,7 +2,7 @@
 
 use crate::figures::{Hundredths, each_second, hundredths_of_nanos, nanos, ratio};
 use crate::passes::{Changer, Reader, Whose};
-use crate::rounds::{AtOnce, Rounds, of_piece};
+use crate::rounds::{AtOnce, COMPARED, Rounds, of_piece};
 use crate::routes::{Route, by_length};
 use anyhow::Result;
 use std::io;
@@ -67,12 +67,26 @@ fn print_crowds<R: Clock + Print + AllocGlobal + Threads + Sync>(
     all: &[Changes<'_>; 4],
     addrs: &[u32],
 ) -> Result<()> {
-    for &(count, passes) in &CROWDS {
-        let count = readers.len().min(count);
-        let found = measure_in_turns(rt, &mut readers[..count], changer, all, addrs)?;
-        print_crowd(rt, passes, count, all, &found, addrs.len())?;
+    for i in 0..CROWDS.len() {
+        let (count, passes) = CROWDS[i];
+        print_passes(rt, passes, count, readers, changer, all, addrs)?;
     }
     Ok(())
+}
+
+/// Prints what the lookups of so many passes take at once, beside each kind of changes.
+fn print_passes<R: Clock + Print + AllocGlobal + Threads + Sync>(
+    rt: &R,
+    passes: &str,
+    count: usize,
+    readers: &mut [Reader<'_>],
+    changer: &mut Changer<'_>,
+    all: &[Changes<'_>; 4],
+    addrs: &[u32],
+) -> Result<()> {
+    let count = readers.len().min(count);
+    let found = measure_in_turns(rt, &mut readers[..count], changer, all, addrs)?;
+    Ok(print_crowd(rt, passes, count, all, &found, addrs.len())?)
 }
 
 /// Prints what so many lookups by each of these passes took beside each kind of changes.
@@ -83,19 +97,32 @@ fn print_crowd<R: Print>(
     all: &[Changes<'_>; 4],
     found: &[AtOnce; 4],
     addrs: usize,
-) -> Result<()> {
-    let [quiet, _, _, apart] = *found;
-    print_speed(rt, passes, all[0].name, quiet, count, addrs)?;
-    for (changes, beside) in all.iter().zip(found).skip(1) {
-        print_speed(rt, passes, changes.name, *beside, count, addrs)?;
-        print_slowdown(rt, passes, changes.name, *beside, quiet, "")?;
-        if let Whose::Running = changes.whose {
-            let to = " to changes apart";
-            print_slowdown(rt, passes, changes.name, *beside, apart, to)?;
+) -> io::Result<()> {
+    for i in 0..4 {
+        print_speed(rt, passes, all[i].name, &found[i], count, addrs)?;
+        if i > 0 {
+            print_beside(rt, passes, all[i], &found[i], found)?;
         }
-        print_changes(rt, passes, changes.name, *beside)?;
     }
     Ok(())
+}
+
+/// Prints how much slower the lookups are beside these changes than beside none and beside those apart, and
+/// how many changes were made a second. What was found without changes stands first, what was found apart
+/// last.
+fn print_beside<R: Print>(
+    rt: &R,
+    passes: &str,
+    changes: Changes<'_>,
+    beside: &AtOnce,
+    found: &[AtOnce; 4],
+) -> io::Result<()> {
+    print_slowdown(rt, passes, changes.name, beside, &found[0], "")?;
+    if let Whose::Running = changes.whose {
+        let to = " to changes apart";
+        print_slowdown(rt, passes, changes.name, beside, &found[3], to)?;
+    }
+    print_changes(rt, passes, changes.name, beside)
 }
 
 /// Prints the nanoseconds that a lookup takes where so many passes look so many addresses up at once, by the
@@ -105,25 +132,20 @@ fn print_speed<R: Print>(
     rt: &R,
     passes: &str,
     changes: &str,
-    at_once: AtOnce,
+    at_once: &AtOnce,
     count: usize,
     addrs: usize,
-) -> Result<()> {
-    let each = hundredths_of_nanos(at_once.mean, addrs);
-    let median_round = hundredths_of_nanos(at_once.median_round, addrs);
-    let median_piece = of_piece(at_once.median_piece);
+) -> io::Result<()> {
+    let each = Hundredths(hundredths_of_nanos(at_once.mean, addrs));
+    let round = Hundredths(hundredths_of_nanos(at_once.median_round, addrs));
+    let piece = Hundredths(of_piece(at_once.median_piece));
     let speed = each_second(at_once.last, addrs.saturating_mul(count));
-    println!(rt; "{passes}, {changes}: {} ns each", Hundredths(each))?;
     println!(rt;
-        "{passes}, {changes}, median round: {} ns each",
-        Hundredths(median_round)
-    )?;
-    println!(rt;
-        "{passes}, {changes}, median piece: {} ns each",
-        Hundredths(median_piece)
-    )?;
-    println!(rt; "{passes}, {changes}: {speed} lookups a second")?;
-    Ok(())
+        "{passes}, {changes}: {each} ns each\n\
+         {passes}, {changes}, median round: {round} ns each\n\
+         {passes}, {changes}, median piece: {piece} ns each\n\
+         {passes}, {changes}: {speed} lookups a second"
+    )
 }
 
 /// Prints how much slower the lookups are than beside other changes: with the waiting for a core, and by
@@ -132,25 +154,23 @@ fn print_slowdown<R: Print>(
     rt: &R,
     passes: &str,
     changes: &str,
-    beside: AtOnce,
-    other: AtOnce,
+    beside: &AtOnce,
+    other: &AtOnce,
     to: &str,
-) -> Result<()> {
-    for ((what, time), (_, than)) in beside.compared().iter().zip(&other.compared()) {
-        let slower = Hundredths(ratio(nanos(*time), nanos(*than)));
-        println!(rt; "{what}{to}, {passes}, {changes}: {slower}")?;
+) -> io::Result<()> {
+    let (times, others) = (beside.compared(), other.compared());
+    for i in 0..COMPARED.len() {
+        let slower = Hundredths(ratio(nanos(times[i]), nanos(others[i])));
+        println!(rt; "{}{to}, {passes}, {changes}: {slower}", COMPARED[i])?;
     }
     Ok(())
 }
 
 /// Prints how many changes were made a second beside the passes.
-fn print_changes<R: Print>(rt: &R, passes: &str, changes: &str, beside: AtOnce) -> Result<()> {
+fn print_changes<R: Print>(rt: &R, passes: &str, changes: &str, beside: &AtOnce) -> io::Result<()> {
     let made = usize::try_from(beside.made).unwrap_or(usize::MAX);
-    println!(rt;
-        "{changes} beside {passes}: {} a second",
-        each_second(beside.total, made)
-    )?;
-    Ok(())
+    let speed = each_second(beside.total, made);
+    println!(rt; "{changes} beside {passes}: {speed} a second")
 }
 
 /// Lets each reader look all addresses up beside each kind of changes in turns, so that whatever else
@@ -168,9 +188,7 @@ fn measure_in_turns<R: Clock + AllocGlobal + Threads + Sync>(
         Rounds::new(rt.alloc()),
         Rounds::new(rt.alloc()),
     ];
-    for _ in 0..TURNS {
-        measure_each(rt, readers, changer, all, &mut rounds, addrs)?;
-    }
+    measure_rounds(rt, readers, changer, all, &mut rounds, addrs)?;
     Ok([
         rounds[0].at_once(),
         rounds[1].at_once(),
@@ -179,8 +197,8 @@ fn measure_in_turns<R: Clock + AllocGlobal + Threads + Sync>(
     ])
 }
 
-/// Lets each reader look all addresses up once beside each kind of changes.
-fn measure_each<R: Clock + Threads + Sync>(
+/// Lets each reader look all addresses up in each turn, once beside each kind of changes.
+fn measure_rounds<R: Clock + Threads + Sync>(
     rt: &R,
     readers: &mut [Reader<'_>],
     changer: &mut Changer<'_>,
@@ -188,12 +206,25 @@ fn measure_each<R: Clock + Threads + Sync>(
     rounds: &mut [Rounds; 4],
     addrs: &[u32],
 ) -> Result<()> {
-    for (changes, rounds) in all.iter().zip(rounds.iter_mut()) {
-        changer.made = 0;
-        let last = look_up_beside(rt, readers, changer, *changes, addrs)?;
-        rounds.add(readers, addrs.len(), last, changer.made)?;
+    for turn in 0..TURNS * 4 {
+        let kind = turn % 4;
+        measure_round(rt, readers, changer, all[kind], &mut rounds[kind], addrs)?;
     }
     Ok(())
+}
+
+/// Lets each reader look all addresses up once beside these changes.
+fn measure_round<R: Clock + Threads + Sync>(
+    rt: &R,
+    readers: &mut [Reader<'_>],
+    changer: &mut Changer<'_>,
+    changes: Changes<'_>,
+    rounds: &mut Rounds,
+    addrs: &[u32],
+) -> Result<()> {
+    changer.made = 0;
+    let last = look_up_beside(rt, readers, changer, changes, addrs)?;
+    Ok(rounds.add(readers, addrs.len(), last, changer.made)?)
 }
 
 /// How long it takes until each reader has looked all addresses up beside these changes.

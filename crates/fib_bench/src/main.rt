@@ -68,11 +68,17 @@ fn perform<R: Clock + Print + Eprint + AllocGlobal + Threads + Sync>(
     count: Option<usize>,
 ) -> Result<ExitCode> {
     let Some(count) = count else {
-        eprint!(rt; "{USAGE}")?;
-        return Ok(ExitCode::from(REFUSED));
+        return Ok(refuse(rt)?);
     };
     report::run(rt, count)?;
     Ok(ExitCode::SUCCESS)
+}
+
+/// Says how the program is called, on standard error, and returns the status for a command line that isn't
+/// accepted.
+fn refuse<R: Eprint>(rt: &R) -> io::Result<ExitCode> {
+    eprint!(rt; "{USAGE}")?;
+    Ok(ExitCode::from(REFUSED))
 }
 
 /// The number of routes that the words of the command line, after the program's name, ask for.

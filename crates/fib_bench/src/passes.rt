@@ -1,6 +1,6 @@
 //! The workers and the writer of a running table.
 
-ghost use Rattle.std.specs.Prelude.{◌≡◌, true, false};
+ghost use Rattle.std.specs.Prelude.{◌≡◌, length, true, false};
 ghost use Rattle.shared_fib.specs.Passes.{IsBenchOf};
 
 use crate::changes::{Change, Changeable, change_twice};
@@ -194,12 +194,23 @@ fn sum_by_fours(table: &SharedTable<24, 8>, pass: &mut Pass, addrs: &[u32]) -> u
 {
     let mut sum = 0u64;
     for four in addrs.chunks_exact(4) {
-        let four = [four[0], four[1], four[2], four[3]];
-        let [a, b, c, d] = pass.lookup4(table, four, 0).hops;
-        let found = u64::from(a) + u64::from(b) + u64::from(c) + u64::from(d);
-        sum = sum.wrapping_add(found);
+        sum = sum.wrapping_add(sum_of_four(table, pass, four));
     }
     sum
+}
+
+/// The sum of the next hops of these four addresses.
+#[inline]
+fn sum_of_four(table: &SharedTable<24, 8>, pass: &mut Pass, four: &[u32]) -> u64
+    requires own { pass.old.table ≡ table.now }
+    requires online { pass.old.online ≡ true }
+    requires four { length four.now ≡ 4 }
+    ensures own { pass.new.table ≡ table.now }
+    ensures online { pass.new.online ≡ true }
+{
+    let four = [four[0], four[1], four[2], four[3]];
+    let [a, b, c, d] = pass.lookup4(table, four, 0).hops;
+    u64::from(a) + u64::from(b) + u64::from(c) + u64::from(d)
 }
 
 /// Which table is changed while passes look up.

@@ -4,6 +4,7 @@ use crate::figures::{Hundredths, hundredths_of_nanos, nanos, ratio};
 use anyhow::Result;
 use bulk::{Gate, Open, bulk_plain};
 use fib::Fib;
+use std::io;
 use std::rt::Clock;
 use std::sync::atomic::{AtomicU64, Ordering};
 use std::thread::Threads;
@@ -67,13 +68,16 @@ fn print_part<R: Clock + Print + AllocGlobal + Threads + Sync>(
 ) -> Result<()> {
     let one = least(rt, call.by(1))?;
     let more = least(rt, call.by(WORKERS))?;
+    Ok(print_least(rt, what, one, more)?)
+}
+
+/// Prints these times of one worker and of four, in hundredths of nanoseconds for each address.
+fn print_least<R: Print>(rt: &R, what: &str, one: u64, more: u64) -> io::Result<()> {
+    let ratio = Hundredths(ratio(one, more));
+    let (one, more) = (Hundredths(one), Hundredths(more));
     println!(rt;
-        "{what}, 1 worker: {} ns each\n{what}, {WORKERS} workers: {} ns each\nratio, {what}: {}",
-        Hundredths(one),
-        Hundredths(more),
-        Hundredths(ratio(one, more))
-    )?;
-    Ok(())
+        "{what}, 1 worker: {one} ns each\n{what}, {WORKERS} workers: {more} ns each\nratio, {what}: {ratio}"
+    )
 }
 
 /// The nanoseconds for each address, in hundredths, of the least time of these calls.

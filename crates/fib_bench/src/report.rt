@@ -4,12 +4,12 @@ ghost use Rattle.lpm_limits.specs.Limits.{IsConfig};
 
 use crate::alone::print_alone;
 use crate::lookups::{Kind, draw_addresses};
-use crate::routes::fill;
+use crate::routes::{Route, fill};
 use crate::running::{Drawn, WORKERS, add_offline, print_running};
 use anyhow::Result;
 use fib::Fib;
 use qsbr::Config;
-use rand_core::SeedableRng;
+use rand_core::{Rng, SeedableRng};
 use rand_xoshiro::Xoshiro256PlusPlus;
 use std::rt::Clock;
 use std::thread::Threads;
@@ -41,8 +41,8 @@ fn measure_running<R: Clock + Print + AllocGlobal + Threads + Sync>(
     drawn: &Drawn,
 ) -> Result<()> {
     let mut other = Fib::<24, 8>::open(rt.alloc(), limits())?;
-    add_offline(rt, &mut other, drawn.routes.as_slice())?;
-    print_running(rt, other, table, drawn)
+    let start = add_offline(rt, &mut other, drawn.routes.as_slice())?;
+    print_running(rt, start, other, table, drawn)
 }
 
 /// Adds that many random routes to the table, and measures it as one of one thread.
@@ -53,9 +53,19 @@ fn measure_alone<R: Clock + Print + AllocGlobal + Threads + Sync>(
 ) -> Result<Drawn> {
     let mut random = Xoshiro256PlusPlus::seed_from_u64(1);
     let routes = fill(rt.alloc(), table, &mut random, count)?;
-    print_alone(rt, table, routes.as_slice(), &mut random)?;
-    let addrs = draw_addresses(rt.alloc(), &mut random, Kind::Random, &[])?;
+    let addrs = print_and_draw(rt, table, routes.as_slice(), &mut random)?;
     Ok(Drawn { routes, addrs })
+}
+
+/// Measures the table of these routes as one of one thread. Then it draws addresses.
+fn print_and_draw<R: Clock + Print + AllocGlobal + Threads + Sync, G: Rng>(
+    rt: &R,
+    table: &mut Fib<24, 8>,
+    routes: &[Route],
+    random: &mut G,
+) -> Result<Vec<u32>> {
+    print_alone(rt, table, routes, random)?;
+    Ok(draw_addresses(rt.alloc(), random, Kind::Random, &[])?)
 }
 
 /// The limits of the table: as many rules and groups as there can be.

@@ -2,8 +2,7 @@
 
 use crate::figures::{hundredths_of_nanos, nanos};
 use crate::passes::{PIECE, Reader};
-use anyhow::Result;
-use std::alloc::Global;
+use std::alloc::{AllocError, Global};
 use std::time::Duration;
 
 /// What all rounds of passes took that looked all addresses up at once.
@@ -25,15 +24,24 @@ pub(crate) struct AtOnce {
     pub(crate) made: u64,
 }
 
+/// What the ratios are called of the times that are compared with those beside other changes.
+pub(crate) static COMPARED: [&str; 5] = [
+    "ratio",
+    "ratio of the last",
+    "ratio of the median round",
+    "ratio of the median piece",
+    "ratio of nine tenths of the pieces",
+];
+
 impl AtOnce {
-    /// The times that are compared with those beside other changes, and what their ratio is called.
-    pub(crate) fn compared(self) -> [(&'static str, Duration); 5] {
+    /// The times that are compared with those beside other changes, in the order of `COMPARED`.
+    pub(crate) fn compared(&self) -> [Duration; 5] {
         [
-            ("ratio", self.mean),
-            ("ratio of the last", self.last),
-            ("ratio of the median round", self.median_round),
-            ("ratio of the median piece", self.median_piece),
-            ("ratio of nine tenths of the pieces", self.nine_tenths),
+            self.mean,
+            self.last,
+            self.median_round,
+            self.median_piece,
+            self.nine_tenths,
         ]
     }
 }
@@ -75,7 +83,7 @@ impl Rounds {
         addrs: usize,
         last: Duration,
         made: u64,
-    ) -> Result<()> {
+    ) -> Result<(), AllocError> {
         for reader in readers {
             self.pieces
                 .extend_from_slice(reader.times_of_pieces(addrs))?;

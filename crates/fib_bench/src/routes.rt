@@ -45,13 +45,18 @@ fn draw_all<R: Rng>(
         if routes.len() >= count {
             break;
         }
-        let route = draw(random)?;
-        if table.get(&route.prefix).is_none() {
-            table.add(&route.prefix, route.hop)?;
-            routes.push(route)?;
-        }
+        add_new(table, routes, draw(random)?)?;
     }
     ensure!(routes.len() == count, "too many prefixes were drawn twice");
+    Ok(())
+}
+
+/// Adds the route to the table and to the list, where the table has none of its prefix.
+fn add_new(table: &mut Fib<24, 8>, routes: &mut Vec<Route>, route: Route) -> Result<()> {
+    if table.get(&route.prefix).is_none() {
+        table.add(&route.prefix, route.hop)?;
+        routes.push(route)?;
+    }
     Ok(())
 }
 
@@ -98,6 +103,13 @@ pub(crate) fn full_block(alloc: Global) -> Result<Vec<Route>> {
         routes.push(host_route(addr)?)?;
     }
     Ok(routes)
+}
+
+/// A default route.
+pub(crate) fn default_route() -> Result<Route> {
+    let prefix = Prefix::new(0, 0)?;
+    let hop = Hop::new(1)?;
+    Ok(Route { prefix, hop })
 }
 
 /// The route of 32 bits for this address, whose next hop has the same number.

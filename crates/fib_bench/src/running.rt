@@ -13,8 +13,9 @@ use crate::routes::Route;
 use crate::turns::{Compared, Turns, compare};
 use anyhow::{Result, ensure};
 use fib::Fib;
-use shared_fib::{Bench, SharedTable, go_live};
+use shared_fib::{Bench, SharedTable, Writer, go_live};
 use std::alloc::Global;
+use std::io;
 use std::rt::Clock;
 use std::thread::Threads;
 use std::time::{Duration, Instant};
@@ -35,20 +36,27 @@ pub(crate) struct Drawn {
     pub(crate) addrs: Vec<u32>,
 }
 
-/// Adds these routes to the table. It is an error if a worker is online.
-pub(crate) fn add_offline<R: Clock>(rt: &R, table: &mut Fib<24, 8>, routes: &[Route]) -> Result<()>
+/// Adds these routes to the table, and returns the time when they are there. It is an error if a worker is
+/// online.
+pub(crate) fn add_offline<R: Clock>(
+    rt: &R,
+    table: &mut Fib<24, 8>,
+    routes: &[Route],
+) -> Result<Instant>
     ensures { OnOk result ((worker : ℕ) → worker < table.new.config.workers
         → ¬ by_counters.is_online table.new.table.readers worker) }
 {
     time_changes(rt, table, Change::Add, routes)?;
     ensure!(is_offline(table), "a worker is online");
-    Ok(())
+    Ok(Instant::now(rt)?)
 }
 
 /// Goes on with the table, of which no worker is online, as a running one, and prints what that, its lookups
-/// and its changes take, its lookups beside those of the other, which has the same routes.
+/// and its changes take, its lookups beside those of the other, which has the same routes. Going live is
+/// timed from the start, which was noted just now.
 pub(crate) fn print_running<R: Clock + Print + AllocGlobal + Threads + Sync>(
     rt: &R,
+    start: Instant,
     table: Fib<24, 8>,
     other: &mut Fib<24, 8>,
     drawn: &Drawn,
@@ -56,10 +64,26 @@ pub(crate) fn print_running<R: Clock + Print + AllocGlobal + Threads + Sync>(
     requires offline { (worker : ℕ) → worker < table.config.workers
         → ¬ by_counters.is_online table.table.readers worker }
 {
-    let start = Instant::now(rt)?;
     let (table, writer, mut bench) = go_live(rt.alloc(), table)?;
-    let mut changer = Changer::new(&table, writer, other);
-    print_live(rt, start, &table, &mut changer, &mut bench, drawn)
+    print_gone_live(rt, start, &table, writer, &mut bench, other, drawn)
+}
+
+/// Prints what the lookups and changes of a table take that has gone live, and how long that took from the
+/// start.
+fn print_gone_live<R: Clock + Print + AllocGlobal + Threads + Sync>(
+    rt: &R,
+    start: Instant,
+    table: &SharedTable<24, 8>,
+    writer: Writer<24, 8>,
+    bench: &mut Bench,
+    other: &mut Fib<24, 8>,
+    drawn: &Drawn,
+) -> Result<()>
+    requires own { IsBenchOf table.now bench.old }
+    requires writer { writer.identity ≡ table.now }
+{
+    let mut changer = Changer::new(table, writer, other);
+    print_live(rt, start, table, &mut changer, bench, drawn)
 }
 
 /// Prints how long it took from the start until the table runs, and what its lookups, by a pass for each
@@ -74,10 +98,15 @@ fn print_live<R: Clock + Print + AllocGlobal + Threads + Sync>(
 ) -> Result<()>
     requires own { IsBenchOf table.now bench.old }
 {
-    let going_live = Hundredths(hundredths_of_millis(start.elapsed(rt)?));
-    println!(rt; "going live: {going_live} ms")?;
+    print_going_live(rt, start)?;
     let mut readers = readers_of(rt.alloc(), table, bench)?;
     print_readers(rt, readers.as_mut_slice(), changer, drawn)
+}
+
+/// Prints how long it took from the start until now.
+fn print_going_live<R: Clock + Print>(rt: &R, start: Instant) -> io::Result<()> {
+    let going_live = Hundredths(hundredths_of_millis(start.elapsed(rt)?));
+    println!(rt; "going live: {going_live} ms")
 }
 
 /// Prints what lookups by these readers and changes by the writer take, one after the other and at once.
@@ -123,7 +152,7 @@ fn readers_of<'a>(
 {
     let mut readers = Vec::with_capacity(alloc, WORKERS)?;
     for worker in 0..WORKERS {
-        readers.push(Reader::new(table, bench, worker)?)?;
+        readers.push_reserved(Reader::new(table, bench, worker)?);
     }
     Ok(readers)
 }
@@ -141,13 +170,8 @@ fn print_random<R: Clock + Print + AllocGlobal>(
     let single = in_turns(rt, reader, other, addresses, Way::Single)?;
     let fours = in_turns(rt, reader, other, addresses, Way::Fours)?;
     print_beside(rt, "pass, random", count, single.second, single.first)?;
-    print_beside(
-        rt,
-        "pass by fours, random",
-        count,
-        fours.second,
-        single.second,
-    )
+    let by_fours = "pass by fours, random";
+    Ok(print_beside(rt, by_fours, count, fours.second, single.second)?)
 }
 
 /// Prints what the lookups of one pass at ascending addresses take, beside those of the other table.
@@ -170,15 +194,10 @@ fn print_beside<R: Print>(
     count: usize,
     lookups: Duration,
     others: Duration,
-) -> Result<()> {
-    let each = hundredths_of_nanos(lookups, count);
-    let times = ratio(nanos(lookups), nanos(others));
-    println!(rt;
-        "{what}: {} ns each\nratio, {what}: {}",
-        Hundredths(each),
-        Hundredths(times)
-    )?;
-    Ok(())
+) -> io::Result<()> {
+    let each = Hundredths(hundredths_of_nanos(lookups, count));
+    let times = Hundredths(ratio(nanos(lookups), nanos(others)));
+    println!(rt; "{what}: {each} ns each\nratio, {what}: {times}")
 }
 
 /// What the lookups at these addresses take in the other table, and by the pass in this way.

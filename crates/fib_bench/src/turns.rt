@@ -70,16 +70,27 @@ fn take_turn<R: Clock, S: Side, T: Side>(
     let mut left = addresses;
     for least in least.iter_mut() {
         let (piece, rest) = left.split();
-        let found = if is_other_first {
-            let [second, first] = time_both(rt, other, one, piece, &mut sum)?;
-            [first, second]
-        } else {
-            time_both(rt, one, other, piece, &mut sum)?
-        };
+        let found = time_piece(rt, one, other, piece, is_other_first, &mut sum)?;
         *least = [least[0].min(found[0]), least[1].min(found[1])];
         left = rest;
     }
     Ok(sum)
+}
+
+/// How long the lookups of a piece take by either side, of which the other may go first.
+fn time_piece<R: Clock, S: Side, T: Side>(
+    rt: &R,
+    one: &mut S,
+    other: &mut T,
+    piece: Addresses<'_>,
+    is_other_first: bool,
+    sum: &mut u64,
+) -> Result<Times> {
+    if !is_other_first {
+        return time_both(rt, one, other, piece, sum);
+    }
+    let [second, first] = time_both(rt, other, one, piece, sum)?;
+    Ok([first, second])
 }
 
 /// How long the lookups of a piece take by the side that goes first and by the other. The next hops, which
