@@ -1,7 +1,7 @@
 //! The retired groups of a table, which wait until no reader can hold them any more.
 #![tactic(auto)]
 
-ghost use Rattle.std.specs.Prelude.{◌≡◌, ℕ, ◌+◌, ◌<◌, ◌≤◌, ◌==◌, ◌↔◌, List, [], ◌∷◌, ◌++◌, length, drop, slice_get, IsTrue, IfOk, OnOk, MatchOption, Result};
+ghost use Rattle.std.specs.Prelude.{◌≡◌, ℕ, ◌+◌, ◌<◌, ◌≤◌, ◌==◌, ◌↔◌, List, [], ◌∷◌, ◌++◌, length, drop, slice_get, IsTrue, IfOk, OnOk, OnErr, MatchOption, Result};
 ghost use Rattle.lpm_limits.specs.declared.busy.Busy.{Busy};
 ghost use Rattle.defer_queue.specs.Reclaims.{Reclaims};
 
@@ -14,7 +14,8 @@ use std::marker::Model;
 /// again.
 ///
 /// An implementation says by `ready` which items it can check and free, and in which order; by
-/// `may_free` when it takes a group back; and by `checks` and `frees` what its calls did.
+/// `may_free` when it takes a group back; by `held` what it knows where a check has failed; and by
+/// `checks` and `frees` what its calls did.
 pub trait Grace {
     // The ghost names of the references that it holds, which no call changes.
     ghost lent: { Self → List ℕ } = { λ _. [] };
@@ -22,8 +23,11 @@ pub trait Grace {
     // These items, each a group and its token, may be checked and freed in this order.
     ghost ready: { Self → List (ℕ × ℕ) → Type 0 };
 
-    // The group may be freed now.
-    ghost may_free: { Self → ℕ → Type 0 };
+    // The item has passed its check: its group may be freed now, and these items come after it.
+    ghost may_free: { Self → ℕ × ℕ → List (ℕ × ℕ) → Type 0 };
+
+    // These items are left where the check of the first has failed.
+    ghost held: { Self → List (ℕ × ℕ) → Type 0 };
 
     // A check of the token gave this answer and led to the second state.
     ghost checks: { Self → ℕ → Result (Unit {0}) Busy → Self → Type 0 };
@@ -38,19 +42,20 @@ pub trait Grace {
         requires { (group : ℕ) × (rest : List (ℕ × ℕ)) × ready self.old ((group, token) ∷ rest) }
         ensures checks { checks self.old token result self.new }
         ensures lent { lent self.new ≡ lent self.old }
-        ensures kept { (items : List (ℕ × ℕ)) → ready self.old items → ready self.new items }
         ensures passed { OnOk result ((group : ℕ) (rest : List (ℕ × ℕ)) →
-            ready self.old ((group, token) ∷ rest) → may_free self.new group) };
+            ready self.old ((group, token) ∷ rest) → may_free self.new (group, token) rest) }
+        ensures held { OnErr result ((group : ℕ) (rest : List (ℕ × ℕ)) →
+            ready self.old ((group, token) ∷ rest) → held self.new ((group, token) ∷ rest)) };
 
     /// The group is free again.
     ///
     /// It is asked of the group whose item has just passed its check.
     fn free(&mut self, group: u32)
-        requires { may_free self.old group }
+        requires { (token : ℕ) × (rest : List (ℕ × ℕ)) × may_free self.old (group, token) rest }
         ensures frees { frees self.old group self.new }
         ensures lent { lent self.new ≡ lent self.old }
-        ensures kept { (token : ℕ) (rest : List (ℕ × ℕ)) →
-            ready self.old ((group, token) ∷ rest) → ready self.new rest };
+        ensures ready { (token : ℕ) (rest : List (ℕ × ℕ)) →
+            may_free self.old (group, token) rest → ready self.new rest };
 }
 
 /// What a reclaim did.
@@ -152,7 +157,8 @@ impl DeferQueue {
         ensures reclaims { Reclaims (λ s item. G.checks s item.1) (λ s item. G.frees s item.0)
             max self.old.items grace.old result.freed result.stopped self.new.items grace.new }
         ensures left { self.new ≡ record self.old { items = drop result.freed self.old.items } }
-        ensures ready { G.ready grace.new self.new.items }
+        ensures ready { MatchOption result.stopped
+            (G.ready grace.new self.new.items) (λ _. G.held grace.new self.new.items) }
         ensures lent { G.lent grace.new ≡ G.lent grace.old }
     {
         let mut freed = 0;

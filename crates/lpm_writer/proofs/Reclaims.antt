@@ -1,6 +1,6 @@
 -- A reclaim, from item to item.
-use Rattle.std.proofs.Common.{◌≡◌, ℕ, suc, true, refl, sym, ap, subst, ◌∙◌, List, [], ◌∷◌, ◌++◌, Option, arith, ◌%◌, ◌<◌, ◌≤◌, ◌⊎◌, inl, inr, Some, None, ◌+◌}
-use Rattle.std.specs.Prelude.{slice_set, slice_get, Result, Ok, Err}
+use Rattle.std.proofs.Common.{◌≡◌, ℕ, zero, suc, true, refl, sym, ap, subst, ◌∙◌, List, [], ◌∷◌, ◌++◌, Option, arith, ◌%◌, ◌<◌, ◌≤◌, ◌⊎◌, inl, inr, Some, None, ◌+◌}
+use Rattle.std.specs.Prelude.{slice_set, slice_get, Result, Ok, Err, OnOk}
 use Rattle.lpm_groups.specs.declared.GroupState.TheVariants.{Limbo, Free, Linked as LinkedTo}
 use Rattle.lpm_trace.specs.declared.step.WriterStep.{WriterStep}
 use Rattle.lpm_trace.specs.declared.step.WriterStep.TheVariants.{BumpToken}
@@ -8,9 +8,10 @@ use Rattle.lpm_trace.specs.States.{InitialState, state_after, TableState, Status
 use Rattle.lpm_trace.specs.Progress.{WriterProgress, Nothing, progress_after_bump, IsBumped as MayBump, IsOldest, IsAsked}
 use Rattle.lpm_trace.specs.Writer.{progress_after, MayStep}
 use Rattle.lpm_writer.specs.declared.pool.GroupPool.{GroupPool}
-use Rattle.lpm_writer.specs.Waiting.{tokens_of}
+use Rattle.lpm_writer.specs.Waiting.{AreWaiting, tokens_of}
+use Rattle.lpm_writer.specs.Commands.{ChecksBy, MayFree}
 use Rattle.lpm_writer.specs.Matching.{HasUnlinked, HasRetired, OnlyChecks, GroupsMatchSteps, MayReclaim, AreAfter, AreRetired, AreBelow, IsAmong, GroupsMatchState, IsLimbo, MayAsk, Remembers}
-use Rattle.lpm_writer.proofs.LimboItems.{free_linked}
+use Rattle.lpm_writer.proofs.LimboItems.{free_linked, freed_states, waiting_set}
 use Rattle.lpm_writer.proofs.Checks.{quiet_on, HasPassed, HasStopped, quiet_same, check_passes, check_stops}
 use Rattle.std.proofs.lemmas.Bool.{cases_eq}
 use Rattle.std.proofs.lemmas.Option.{same_Some, slice_get_within}
@@ -21,6 +22,7 @@ use Rattle.lpm_groups.proofs.Marking.{slice_get-set_same, slice_get-set_other}
 use Rattle.lpm_limits.specs.declared.busy.Busy.{Busy}
 use Rattle.fib_model.specs.State.{Reclaims}
 use Rattle.defer_queue.specs.Reclaims.{FreesFront}
+use Rattle.defer_queue.specs.Reclaims as queue
 use Rattle.defer_queue.proofs.Longest.{FreesFront-more}
 use Rattle.lpm_writer.specs.Traced.{Traced, Checks, by_writer}
 
@@ -217,6 +219,10 @@ is_limbo c w states items kept = record {
     absent_linked status token g b [] is h = tt
     absent_linked status token g b (item ∷ items) is h = (λ e. linked_not_retired b item.1 (sym is ∙ ap status (sym e) ∙ h.0), absent_linked status token g b items is h.2)
 
+pub on_passed : (result : Result (Unit {0}) Busy) (P : Type 0) → (result ≡ Ok tt → P) → OnOk result P
+on_passed (Ok done) P h = h refl
+on_passed (Err busy) P h = tt
+
 pub still_same : (c : InitialState) (steps : List WriterStep) (items : List (ℕ × ℕ)) → MayReclaim c steps items → OnlyChecks c steps steps
 still_same c steps items may = record { quiet = quiet_same (state_after c steps); token = refl; taken = refl; idle = may.idle }
 
@@ -224,11 +230,6 @@ module _ {M : Type 0} (did : M → InitialState → List WriterStep → Type 0) 
   -- so many of these items passed their checks; to free a group is no step of the writer
   abbrev pub HavePassed : InitialState → ℕ → List (ℕ × ℕ) → Traced M → List (ℕ × ℕ) → Traced M → Type 0
   HavePassed c n items x left z = FreesFront (Checks does c) (λ y token w. w ≡ y) n (tokens_of items) x (tokens_of left) z
-
-  -- what the contract of a check says
-  abbrev pub CheckAnswers : M → ℕ → ℕ → Result (Unit {0}) Busy → M → ℕ → Type 0
-  CheckAnswers m passed t result z passed' = (c : InitialState) (steps : List WriterStep) → did m c steps → Remembers c steps passed → (passed < t → MayAsk c steps t)
-      → (later : List WriterStep) × did z c later × Checks does c (m, steps) t result (z, later) × Remembers c later passed'
 
   module _ (first : M) (states0 : List GroupState) (items0 : List (ℕ × ℕ)) (passed0 : ℕ) where
     -- the first n items were freed
@@ -249,7 +250,7 @@ module _ {M : Type 0} (did : M → InitialState → List WriterStep → Type 0) 
           let now = freed c steps tail held d k may in
           may_ask c now.0 states g t rest tail passed held (subst (λ xs. GroupsMatchSteps c now.0 states (xs ++ tail) passed held) front now.3) (subst (MayReclaim c now.0) front now.4)
 
-      module _ (z : M) (passed' : ℕ) (result : Result (Unit {0}) Busy) (answers : CheckAnswers m passed t result z passed') where
+      module _ (z : M) (passed' : ℕ) (result : Result (Unit {0}) Busy) (answers : ChecksBy did does m passed t result z passed') where
         pub one_freed : result ≡ Ok tt → IsLimboAt states g → HasFreed (n + 1) z (slice_set states g Free) rest passed'
         one_freed ok limbo c steps tail held d k may =
             let now = freed c steps tail held d k may in
@@ -307,3 +308,92 @@ module _ {M : Type 0} (did : M → InitialState → List WriterStep → Type 0) 
         let now = freed c steps tail held d k may in
         let ended : (n ≡ max) ⊎ (tokens_of items ≡ []) = elim end [ inl all ↦ inl all | inr none ↦ inr (ap tokens_of none) ] in
         (now.0, now.1, now.2, now.3, record { at_most = most; last = (m, now.0); front = now.5; end = (ended, refl) })
+
+  -- ---- an item whose check has passed may be freed, and then those behind it may be checked
+
+  pub passes_item : (m : M) (states : List GroupState) (passed g t : ℕ) (rest : List (ℕ × ℕ)) (z : M) (passed' : ℕ) (result : Result (Unit {0}) Busy)
+      → ChecksBy did does m passed t result z passed' → AreWaiting states ((g, t) ∷ rest) → MayFree did m states passed ((g, t) ∷ rest) → result ≡ Ok tt
+      → IsLimboAt states g × AreWaiting (slice_set states g Free) rest × MayFree did z (slice_set states g Free) passed' rest
+  passes_item m states passed g t rest z passed' result answers waits may ok =
+      let items = (g, t) ∷ rest in
+      let one = one_freed m states items passed 0 m states items passed (none_freed m states items passed) g t rest refl z passed' result answers ok waits.0 in
+      let now = one may.0 may.1 may.2 may.3 may.4 may.5 may.6 in
+      (waits.0, waiting_set states g Free rest waits.1 waits.2, (may.0, now.0, may.2, may.3, now.1, now.3, now.4))
+
+  -- ---- a reclaim of the queue, whose state is a memory, groups, and the greatest token that has passed
+
+  module _ {S : Type 0} (memory : S → M) (groups : S → List GroupState) (passed : S → ℕ) where
+    abbrev pub ChecksItem : S → ℕ × ℕ → Result (Unit {0}) Busy → S → Type 0
+    ChecksItem s item r z = ChecksBy did does (memory s) (passed s) item.1 r (memory z) (passed z) × (groups z ≡ groups s)
+
+    abbrev pub FreesItem : S → ℕ × ℕ → S → Type 0
+    FreesItem s item z = (memory z ≡ memory s) × (passed z ≡ passed s) × (groups z ≡ slice_set (groups s) item.0 Free)
+
+    pub front_states : (n : ℕ) (items left : List (ℕ × ℕ)) (s z : S) → FreesFront ChecksItem FreesItem n items s left z → groups z ≡ freed_states n items (groups s)
+    front_states zero items left s z f = ap groups f.1
+    front_states (suc n) [] left s z f = absurd f
+    front_states (suc n) (item ∷ items) left s z f =
+        front_states n items left f.1 z f.4 ∙ ap (freed_states n items) (f.3.2 ∙ ap (λ ys. slice_set ys item.0 Free) f.2.1)
+
+    pub front_waits : (n : ℕ) (items left : List (ℕ × ℕ)) (s z : S) → FreesFront ChecksItem FreesItem n items s left z → AreWaiting (groups s) items → AreWaiting (groups z) left
+    front_waits zero items left s z f waits = subst (AreWaiting (groups z)) (sym f.0) (subst (λ x. AreWaiting (groups x) items) (sym f.1) waits)
+    front_waits (suc n) [] left s z f waits = absurd f
+    front_waits (suc n) (item ∷ items) left s z f waits =
+        let same = f.3.2 ∙ ap (λ ys. slice_set ys item.0 Free) f.2.1 in
+        front_waits n items left f.1 z f.4 (subst (λ ys. AreWaiting ys items) (sym same) (waiting_set (groups s) item.0 Free items waits.1 waits.2))
+
+    module _ (first : M) (states0 : List GroupState) (items0 : List (ℕ × ℕ)) (passed0 : ℕ) where
+      front_freed : (n k : ℕ) (items left : List (ℕ × ℕ)) (s z : S) → FreesFront ChecksItem FreesItem n items s left z → AreWaiting (groups s) items
+          → HasFreed first states0 items0 passed0 k (memory s) (groups s) items (passed s) → HasFreed first states0 items0 passed0 (k + n) (memory z) (groups z) left (passed z)
+      front_freed zero k items left s z f waits h =
+          subst (λ m. HasFreed first states0 items0 passed0 m (memory z) (groups z) left (passed z)) (omega arith)
+          (subst (λ xs. HasFreed first states0 items0 passed0 k (memory z) (groups z) xs (passed z)) (sym f.0)
+          (subst (λ x. HasFreed first states0 items0 passed0 k (memory x) (groups x) items (passed x)) (sym f.1) h))
+      front_freed (suc n) k [] left s z f waits h = absurd f
+      front_freed (suc n) k (item ∷ items) left s z f waits h =
+          let same = f.3.2 ∙ ap (λ ys. slice_set ys item.0 Free) f.2.1 in
+          let one = one_freed first states0 items0 passed0 k (memory s) (groups s) (item ∷ items) (passed s) h item.0 item.1 items refl (memory f.0) (passed f.0) (Ok tt) f.2.0 refl waits.0 in
+          let now = subst (λ p. HasFreed first states0 items0 passed0 (k + 1) (memory f.1) (groups f.1) items p) (sym f.3.1)
+          (subst (λ ys. HasFreed first states0 items0 passed0 (k + 1) (memory f.1) ys items (passed f.0)) (sym same)
+          (subst (λ m. HasFreed first states0 items0 passed0 (k + 1) m (slice_set (groups s) item.0 Free) items (passed f.0)) (sym f.3.0) one)) in
+          subst (λ m. HasFreed first states0 items0 passed0 m (memory z) (groups z) left (passed z)) (omega arith)
+          (front_freed n (k + 1) items left f.1 z f.4 (subst (λ ys. AreWaiting ys items) (sym same) (waiting_set (groups s) item.0 Free items waits.1 waits.2)) now)
+
+    -- what came of a whole reclaim
+    module _ (max n : ℕ) (items : List (ℕ × ℕ)) (s : S) (waits : AreWaiting (groups s) items) where
+      abbrev pub FreedFrom : Option Busy → List (ℕ × ℕ) → M → S → Type 0
+      FreedFrom stopped left m z = (c : InitialState) (steps : List WriterStep) (tail : List (ℕ × ℕ)) (held : Option ℕ) → did (memory s) c steps
+          → GroupsMatchSteps c steps (groups s) (items ++ tail) (passed s) held → MayReclaim c steps items
+          → (later : List WriterStep) × did m c later × OnlyChecks c steps later × GroupsMatchSteps c later (groups z) (left ++ tail) (passed z) held
+          × Reclaims (by_writer does c) (memory s, steps) max (tokens_of items) n stopped (tokens_of left) (m, later)
+
+      freed : (left : List (ℕ × ℕ)) (last : S) → FreesFront ChecksItem FreesItem n items s left last
+          → HasFreed (memory s) (groups s) items (passed s) n (memory last) (groups last) left (passed last)
+      freed left last f =
+          subst (λ m. HasFreed (memory s) (groups s) items (passed s) m (memory last) (groups last) left (passed last)) (omega arith)
+          (front_freed (memory s) (groups s) items (passed s) n 0 items left s last f waits (none_freed (memory s) (groups s) items (passed s)))
+
+      steps_of : (stopped : Option Busy) (left : List (ℕ × ℕ)) (z : S) → queue.Reclaims ChecksItem FreesItem max items s n stopped left z → FreedFrom stopped left (memory z) z
+      steps_of None left z r =
+          subst (λ x. FreedFrom None left (memory x) x) (sym r.end.1)
+          (all_freed (memory s) (groups s) items (passed s) n max (memory r.last) (groups r.last) left (passed r.last) (freed left r.last r.front) r.at_most r.end.0)
+      steps_of (Some busy) [] z r = absurd r.end
+      steps_of (Some busy) (item ∷ left) z r =
+          let held = one_held (memory s) (groups s) items (passed s) n (memory r.last) (groups r.last) (item ∷ left) (passed r.last) (freed (item ∷ left) r.last r.front)
+          item.0 item.1 left refl (memory z) (passed z) (Err busy) r.end.1.0 busy refl max r.end.0 in
+          λ c steps tail held0 d k may.
+          let now = held c steps tail held0 d k may in
+          (now.0, now.1, now.2, subst (λ ys. GroupsMatchSteps c now.0 ys (item ∷ left ++ tail) (passed z) held0) (sym r.end.1.1) now.3, now.4)
+
+      pub reclaimed_steps : (stopped : Option Busy) (left : List (ℕ × ℕ)) (m : M) (z : S) → queue.Reclaims ChecksItem FreesItem max items s n stopped left z → m ≡ memory z → FreedFrom stopped left m z
+      reclaimed_steps stopped left m z r same = subst (λ y. FreedFrom stopped left y z) (sym same) (steps_of stopped left z r)
+
+      pub reclaimed_states : (stopped : Option Busy) (left : List (ℕ × ℕ)) (z : S) → queue.Reclaims ChecksItem FreesItem max items s n stopped left z → groups z ≡ freed_states n items (groups s)
+      reclaimed_states None left z r = ap groups r.end.1 ∙ front_states n items left s r.last r.front
+      reclaimed_states (Some busy) [] z r = absurd r.end
+      reclaimed_states (Some busy) (item ∷ left) z r = r.end.1.1 ∙ front_states n items (item ∷ left) s r.last r.front
+
+      pub reclaimed_waits : (stopped : Option Busy) (left : List (ℕ × ℕ)) (z : S) → queue.Reclaims ChecksItem FreesItem max items s n stopped left z → AreWaiting (groups z) left
+      reclaimed_waits None left z r = subst (λ x. AreWaiting (groups x) left) (sym r.end.1) (front_waits n items left s r.last r.front waits)
+      reclaimed_waits (Some busy) [] z r = absurd r.end
+      reclaimed_waits (Some busy) (item ∷ left) z r = subst (λ ys. AreWaiting ys (item ∷ left)) (sym r.end.1.1) (front_waits n items (item ∷ left) s r.last r.front waits)

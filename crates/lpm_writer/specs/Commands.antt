@@ -1,17 +1,19 @@
 -- This layer's own: what a command of a writer needs, and what it leaves (this project's).
-use Rattle.std.specs.Prelude.{ℕ, List, suc, ◌≡◌, ◌<◌, Some, ◌++◌, Option}
+use Rattle.std.specs.Prelude.{ℕ, List, suc, ◌≡◌, ◌<◌, Some, ◌++◌, Option, Result}
 use Rattle.lpm_trace.specs.declared.step.WriterStep.{WriterStep}
 use Rattle.lpm_trace.specs.States.{InitialState, state_after}
 use Rattle.fib_model.specs.State.{State}
 use Rattle.lpm_writer.specs.declared.control.ControlState.{ControlState}
-use Rattle.lpm_writer.specs.Traced.{Traced}
+use Rattle.lpm_writer.specs.Traced.{Traced, Checks}
 use Rattle.lpm_writer.specs.Resting.{IsResting, state_of}
+use Rattle.lpm_groups.specs.declared.GroupState.{GroupState}
+use Rattle.lpm_limits.specs.declared.busy.Busy.{Busy}
 use Rattle.lpm_limits.specs.declared.config.Config.{Config}
 use Rattle.lpm_rules.specs.RuleMap.{RuleList}
 use Rattle.lpm_trace.specs.Progress.{Check, next_asked}
 use Rattle.lpm_trace.specs.Writer.{progress_after}
 use Rattle.lpm_writer.specs.declared.pool.GroupPool.{GroupPool}
-use Rattle.lpm_writer.specs.Matching.{HasNothingDue, SameTables, GroupsMatchSteps, MayReclaim, OnlyChecks}
+use Rattle.lpm_writer.specs.Matching.{HasNothingDue, SameTables, GroupsMatchSteps, MayAsk, MayReclaim, OnlyChecks, Remembers}
 use Rattle.lpm_writer.specs.Steps.{StoresOnce}
 use Rattle.lpm_writer.specs.Waiting.{tokens_of}
 
@@ -59,12 +61,22 @@ pub record IsWaiting (first second : ℕ) (c : InitialState) (steps : List Write
 
 -- Groups in limbo that are freed, by the writer's steps (this project's).
 
--- after some steps that may have led to the memory, as `did` tells them, a check may begin; the groups are what
--- those say, where others may wait behind the queue, and one may be held
-abbrev pub MayFree : {M : Type 0} → (M → InitialState → List WriterStep → Type 0) → M → GroupPool → Type 0
-MayFree did m pool = (c : InitialState) × (steps : List WriterStep) × (tail : List (ℕ × ℕ)) × (held : Option ℕ)
-    × did m c steps × GroupsMatchSteps c steps pool.groups (pool.queue.items ++ tail) pool.passed held
-    × MayReclaim c steps pool.queue.items
+-- after some steps that may have led to the memory, as `did` tells them, a check of the oldest item may begin; the
+-- groups are what those say, where others may wait behind the items, and one may be held
+abbrev pub MayFree : {M : Type 0} → (M → InitialState → List WriterStep → Type 0) → M → List GroupState → ℕ
+    → List (ℕ × ℕ) → Type 0
+MayFree did m states passed items = (c : InitialState) × (steps : List WriterStep) × (tail : List (ℕ × ℕ))
+    × (held : Option ℕ) × did m c steps × GroupsMatchSteps c steps states (items ++ tail) passed held
+    × MayReclaim c steps items
+
+-- whatever steps may have led to the memory m, a check of the token, where the greatest that had passed was
+-- remembered, made some that may have led to z, and remembers the greatest then
+abbrev pub ChecksBy : {M : Type 0} → (M → InitialState → List WriterStep → Type 0) → (M → WriterStep → M → Type 0)
+    → M → ℕ → ℕ → Result (Unit {0}) Busy → M → ℕ → Type 0
+ChecksBy did does m passed token result z later_passed = (c : InitialState) (steps : List WriterStep) → did m c steps
+    → Remembers c steps passed → (passed < token → MayAsk c steps token)
+    → (later : List WriterStep) × did z c later × Checks does c (m, steps) token result (z, later)
+    × Remembers c later later_passed
 
 -- whatever steps may have led to the memory m, checks alone were made up to z; P is what came of the tokens that
 -- wait

@@ -13,7 +13,7 @@ ghost use Rattle.lpm_writer.specs.Commands.{FreesBy, MayFree};
 ghost use Rattle.lpm_writer.specs.Taking.{LinksLeast, MayTakeAt, Takes, TakesAt, taken_by};
 
 use super::GroupPool;
-use super::grace::check;
+use super::grace::Reclaimer;
 use crate::Memory;
 use defer_queue::Reclaimed;
 use qsbr::{Busy, Config};
@@ -22,7 +22,7 @@ use qsbr::{Busy, Config};
 #[inline]
 pub(crate) fn free_waiting<M: Memory>(pool: &mut GroupPool, memory: &mut M, max: usize) -> Reclaimed
     requires waiting { AreWaiting pool.old.groups pool.old.queue.items }
-    requires kept { MayFree M.did memory.old pool.old }
+    requires kept { MayFree M.did memory.old pool.old.groups pool.old.passed pool.old.queue.items }
     ensures reclaims { FreesBy M.did memory.old pool.old memory.new pool.new
         (λ c x limbo left z. Reclaims (by_writer M.does c) x max limbo result.freed result.stopped
         left z) }
@@ -33,25 +33,17 @@ pub(crate) fn free_waiting<M: Memory>(pool: &mut GroupPool, memory: &mut M, max:
     ensures freed { IsFreed pool.old.groups pool.old.queue.items result.freed pool.new.groups }
     ensures unchanged { result.freed ≡ 0 → pool.new.groups ≡ pool.old.groups }
 {
-    let mut freed = 0;
-    while freed < max {
-        let Some((group, token)) = pool.queue.front() else {
-            break;
-        };
-        if let Err(busy) = check(memory, &mut pool.passed, token) {
-            return Reclaimed {
-                freed,
-                stopped: Some(busy),
-            };
-        }
-        pool.queue.take_front();
-        pool.groups.release(group);
-        freed += 1;
-    }
-    Reclaimed {
-        freed,
-        stopped: None,
-    }
+    let GroupPool {
+        groups,
+        queue,
+        passed,
+    } = pool;
+    let mut grace = Reclaimer {
+        memory,
+        groups,
+        passed,
+    };
+    queue.reclaim(max, &mut grace)
 }
 
 /// How many groups are freed at most before one more waits: none, up to `threshold` of them.

@@ -149,13 +149,27 @@ impl Domain {
     pub fn check(&self, token: u64) -> Result<(), Busy>
         ensures { IsChecked token self.now.counters result }
     {
-        for (worker, &counter) in self.counters.iter().enumerate() {
-            if counter != 0 && counter < token {
-                return Err(Busy { worker, counter });
-            }
+        let first = self
+            .counters
+            .iter()
+            .position(|&counter| holds(counter, token));
+        match first {
+            Some(worker) => Err(Busy {
+                worker,
+                counter: self.counters[worker],
+            }),
+            None => Ok(()),
         }
-        Ok(())
     }
+}
+
+/// Whether a worker of this counter may still hold what was given up under the token: it is online, and
+/// hasn't reported since the token was started.
+#[inline]
+pub fn holds(counter: u64, token: u64) -> bool
+    ensures { IsTrue result ↔ ((0 < counter) × (counter < token)) }
+{
+    counter != 0 && counter < token
 }
 
 /// A token that passes a check lets each older one pass: the law `OlderPasses`.

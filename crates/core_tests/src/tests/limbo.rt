@@ -20,13 +20,17 @@ struct Plain<'a> {
 impl Grace for Plain<'_> {
     ghost use Rattle.std.specs.Prelude.{◌≡◌, ◌<◌, [], ◌∷◌, slice_index, slice_set};
     ghost use Rattle.qsbr.specs.Counters.{IsChecked};
-    ghost use Rattle.defer_queue.specs.Retired.{AreRetired};
+    ghost use Rattle.defer_queue.specs.Retired.{AreRetired, IsAbsent};
 
     ghost lent = { λ s. s.tokens.ghost_name ∷ [] };
 
     ghost ready = { λ s items. AreRetired s.tokens.now.items items };
 
-    ghost may_free = { λ s group. 0 < slice_index s.tokens.now.items group };
+    ghost may_free = { λ s item rest. (0 < slice_index s.tokens.now.items item.0)
+        × IsAbsent item.0 rest × AreRetired s.tokens.now.items rest };
+
+    // No check of a domain changes what another one answers.
+    ghost held = { λ s items. AreRetired s.tokens.now.items items };
 
     ghost checks = { λ s token r z. IsChecked token s.domain.now.counters r
         × (z.domain.now ≡ s.domain.now) × (z.tokens.now.items ≡ s.tokens.now.items) };

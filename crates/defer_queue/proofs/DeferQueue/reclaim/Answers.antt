@@ -8,7 +8,7 @@ loop-freed-preserved g c =
     let items : List (ℕ × ℕ) = c.loop-freed.self.items in
     let later : c.take_front.new.self.items ≡ drop 1 items = search rules in
     let ready = subst (λ xs. g.G.Grace.ready c.loop-freed.grace xs) c.in-Some.ensures.rest c.loop-freed.invariant.ready in
-    let kept = c.free.ensures.kept c.in-Some.token (drop 1 items) (c.check.ensures.kept _ ready) in
+    let kept = c.free.ensures.ready c.in-Some.token (drop 1 items) (c.in_default-check.ensures.passed c.in-Some.group (drop 1 items) ready) in
     record {
       at_most = search rules;
       front = FreesFront-more (λ s item. g.G.Grace.checks s item.1) (λ s item. g.G.Grace.frees s item.0) c.loop-freed.freed c.args.self.now.items items (drop 1 items) c.take_front.new.self.items

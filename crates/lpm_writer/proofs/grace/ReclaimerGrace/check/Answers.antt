@@ -1,0 +1,15 @@
+use Rattle.lpm_writer.proofs.Reclaims.{may_ask, on_passed, passes_item}
+use Rattle.lpm_writer.proofs.grace.ReclaimerGrace.check.Goals as goal
+
+pub check-requires : goal.check-requires
+check-requires g c =
+    let s = c.args.self.now in
+    let front = c.requires in
+    let may = front.2.1 in
+    record { may = (may.0, may.1, may.4, may_ask may.0 may.1 s.groups.now front.0 c.args.token front.1 may.2 s.passed.now may.3 may.5 may.6) }
+
+pub returns-clause-passed : goal.returns-clause-passed
+returns-clause-passed g c =
+    let s = c.args.self.now in
+    on_passed c.check.result _ (λ ok group rest ready.
+    passes_item g.M.Memory.did g.M.Memory.does s.memory.now s.groups.now s.passed.now group c.args.token rest c.check.new.memory c.check.new.passed c.check.result c.check.ensures.checks ready.0 ready.1 ok)
