@@ -53,7 +53,9 @@ pub fn apply<'a, R: Threads + Sync, F: Files, G: Gate, W: Write>(
     put_text(out, &text)
 }
 
-// The whole text, before anything is written.
+// The whole text, before anything is written. It isn't inlined where the commands are told apart, so that
+// the loops of `lookup`, which are, keep their registers.
+#[inline(never)]
 fn whole_text<'a, R: Threads + Sync, F: Files, G: Gate>(
     rt: &R,
     alloc: Global,

@@ -46,7 +46,9 @@ pub fn report<'a, F: Files, W: Write>(
     put_text(out, &text)
 }
 
-// The whole text, before anything is written.
+// The whole text, before anything is written. It isn't inlined where the commands are told apart, so that
+// the loops of `lookup`, which are, keep their registers.
+#[inline(never)]
 fn whole_text<'a, F: Files>(
     alloc: Global,
     files: &F,
