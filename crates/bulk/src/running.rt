@@ -39,7 +39,7 @@ fn make_room(desks: &mut [Desk], addrs: &[u32]) -> Result<(), AllocError>
 }
 
 /// The desk's pass meets the writer.
-fn meet<const FIRST: u32, const SECOND: u32>(
+fn meet_desk<const FIRST: u32, const SECOND: u32>(
     table: &SharedTable<FIRST, SECOND>,
     writer: &mut Writer<FIRST, SECOND>,
     desk: &mut Desk,
@@ -67,7 +67,7 @@ fn meet_all<const FIRST: u32, const SECOND: u32>(
     ensures same { writer.new ≡ writer.old }
 {
     for number in 0..desks.len() {
-        meet(table, writer, &mut desks[number]);
+        meet_desk(table, writer, &mut desks[number]);
     }
 }
 

@@ -6,7 +6,7 @@ ghost use Rattle.lpm_limits.specs.declared.busy.Busy.{Busy};
 ghost use Rattle.defer_queue.specs.Reclaims.{Reclaims};
 
 use circular_buffer::HeapCircularBuffer;
-use qsbr::Busy;
+use lpm_limits::Busy;
 use std::alloc::{AllocError, Global};
 use std::marker::Model;
 
@@ -102,21 +102,7 @@ impl DeferQueue {
         self.items.len()
     }
 
-    /// The most groups that it has room for.
-    pub fn capacity(&self) -> usize
-        ensures { result ≡ self.now.capacity }
-    {
-        self.items.capacity()
-    }
-
-    /// Whether no group is in it.
-    pub fn is_empty(&self) -> bool
-        ensures { IsTrue result ↔ (self.now.items ≡ []) }
-    {
-        self.items.is_empty()
-    }
-
-    /// Whether it has no room left.
+    /// Whether it has no room left, so that no group may be retired.
     pub fn is_full(&self) -> bool
         ensures full { IsTrue result ↔ (length self.now.items ≡ self.now.capacity) }
         ensures within { length self.now.items ≤ self.now.capacity }

@@ -18,11 +18,11 @@ use super::sorted::{parts_at, parts_of, sorted_rules};
 use defer_queue::Reclaimed;
 use lpm_bits::{Hop, Prefix};
 use lpm_groups::Counts;
+use lpm_limits::{Config, Refusal};
 use lpm_rules::{Put, Rule, Rules};
 use lpm_writer::{
     ControlState, PlainMemory, add_rule, delete_rule, flush_rules, open, reclaim_groups,
 };
-use qsbr::{Config, Refusal};
 use std::alloc::Global;
 use std::marker::Model;
 

@@ -11,4 +11,4 @@ mod sorted;
 pub use fib::Fib;
 pub use lpm_writer::OpenError;
 pub use replay::Replay;
-pub use sorted::{opened_ledger, sorted_rules};
+pub use sorted::{control_of_blocks, sorted_rules};

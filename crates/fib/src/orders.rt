@@ -7,7 +7,7 @@ ghost use Rattle.fib.specs.Replay.{GoesOn};
 
 use super::Fib;
 use fib_model::{Order, Outcome, Report};
-use qsbr::Refusal;
+use lpm_limits::Refusal;
 use std::alloc::{AllocError, Global};
 
 impl<const FIRST: u32, const SECOND: u32> Fib<FIRST, SECOND> {

@@ -10,7 +10,7 @@ use super::{Fib, OpenError};
 use fib_model::{Order, Outcome};
 use lpm_bits::Hop;
 use lpm_groups::Counts;
-use qsbr::Config;
+use lpm_limits::Config;
 use std::alloc::{AllocError, Global};
 
 /// What came of a list of commands, and what the table answered and counted after the last.

@@ -17,10 +17,11 @@ ghost use Rattle.fib.specs.Fib.{IsSound, table_of};
 use defer_queue::DeferQueue;
 use lpm_cells::{Entry, PlainCells};
 use lpm_groups::Groups;
+use lpm_limits::Config;
 use lpm_rules::{Rule, Rules, count_rules};
 use lpm_sweep::{MOST_SORTED, Swept, in_order, sweep};
 use lpm_writer::{ControlState, GroupPool, PlainMemory};
-use qsbr::{Config, Domain};
+use qsbr::Domain;
 use std::alloc::{AllocError, Global};
 
 /// The rules of a list in the order of their prefixes. The error is want of memory, or of room for the
@@ -82,7 +83,7 @@ fn memory_of<const FIRST: u32, const SECOND: u32>(
 /// `blocks` says which block has each group, from group 0 on, as a sweep over the rules returns them
 /// (`lpm_sweep`). The other groups up to `config.groups` are free, none waits in limbo, and no check
 /// of a token has passed. `AllocError` where memory is short.
-pub fn opened_ledger<const FIRST: u32, const SECOND: u32>(
+pub fn control_of_blocks<const FIRST: u32, const SECOND: u32>(
     alloc: Global,
     config: Config,
     rules: Rules<FIRST, SECOND>,
@@ -145,7 +146,7 @@ fn parts_with<const FIRST: u32, const SECOND: u32>(
         second_words,
         blocks,
     } = swept;
-    let control = opened_ledger(alloc, config, rules, versions, &blocks)?;
+    let control = control_of_blocks(alloc, config, rules, versions, &blocks)?;
     let memory = memory_of(alloc, config, first_words, second_words)?;
     Ok((control, memory))
 }

@@ -8,7 +8,7 @@ use crate::routes::{Route, fill};
 use crate::running::{Drawn, WORKERS, add_offline, print_running};
 use anyhow::Result;
 use fib::Fib;
-use qsbr::Config;
+use lpm_limits::Config;
 use rand_core::{Rng, SeedableRng};
 use rand_xoshiro::Xoshiro256PlusPlus;
 use std::rt::Clock;

@@ -4,8 +4,8 @@ ghost use Rattle.std.specs.Prelude.{◌≡◌};
 
 use defer_queue::Reclaimed;
 use lpm_bits::{Hop, Prefix};
+use lpm_limits::Refusal;
 use lpm_rules::Put;
-use qsbr::Refusal;
 
 /// What a worker reports.
 #[derive(Clone, Copy, Debug, PartialEq, Eq)]

@@ -7,7 +7,7 @@ ghost use Rattle.fib_model.specs.Expected.{IsAccount};
 
 use crate::Order;
 use crate::plain::{Account, Plain};
-use qsbr::Config;
+use lpm_limits::Config;
 use std::alloc::{AllocError, Global};
 
 /// The outcomes of the commands, one after another on a table that was just opened, and the counts

@@ -8,8 +8,8 @@ ghost use Rattle.lpm_limits.specs.Limits.{IsConfig};
 use crate::waiting::Waiting;
 use crate::{Order, Outcome, Report};
 use lpm_bits::{Hop, Prefix, Shape};
+use lpm_limits::{Config, Refusal};
 use lpm_rules::{Put, Rules};
-use qsbr::{Config, Refusal};
 use std::alloc::{AllocError, Global};
 
 /// What commands came to: the outcome of each, and the counts at the end.

@@ -8,7 +8,7 @@ ghost use Rattle.fib_model.specs.Textbook as book;
 use crate::intervals::{running, token_at};
 use crate::{Event, Outcome, Report};
 use defer_queue::Reclaimed;
-use qsbr::{Busy, Config, Refusal};
+use lpm_limits::{Busy, Config, Refusal};
 use std::alloc::{AllocError, Global};
 
 /// The events, the oldest first, and the places of the unlinkings that wait.

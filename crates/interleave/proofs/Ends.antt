@@ -300,8 +300,8 @@ runs_are_lawful f g config script scripts schedule shown limits run =
 abbrev pub does_in : ℕ → ℕ → WorldView → WriterStep → WorldView → Type 0
 does_in first second m s z = WorldDoes first second s m z
 
-abbrev pub Setting : Type 0
-Setting = List (List Deed) × List Actor
+abbrev pub ScriptsAndSchedule : Type 0
+ScriptsAndSchedule = List (List Deed) × List Actor
 
 pub stays : (first second : ℕ) (m : WorldView) (s : WriterStep) (z : WorldView) → does_in first second m s z → scripts_and_schedule z ≡ scripts_and_schedule m
 stays first second m s z does = does.0

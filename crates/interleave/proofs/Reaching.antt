@@ -159,8 +159,8 @@ plays_end first second v z plays all c steps did =
 -- ---- whether the schedule ended before the writer's last step
 
 -- the scripts and the schedule stay where the workers take turns
-pub setting_stays : (v z : WorldView) → StaysShared v z → scripts_and_schedule z ≡ scripts_and_schedule v
-setting_stays v z stays = ap scripts_and_schedule stays
+pub scripts_stay : (v z : WorldView) → StaysShared v z → scripts_and_schedule z ≡ scripts_and_schedule v
+scripts_stay v z stays = ap scripts_and_schedule stays
 
 no_both : (b : Bool) → b ≡ true → b ≡ false → ⊥
 no_both b is_true is_false = cc
@@ -187,9 +187,9 @@ pub step_does : {first second : ℕ} {v y z : WorldView} (s : WriterStep) (found
     → (y.next < length y.schedule → z ≡ with_recorded_step y s)
     → (y.next ≡ length y.schedule → z ≡ with_unrecorded_step y s) → WorldDoes first second s v z
 step_does {first} {second} {v} {y} {z} s true shared reaches turn finds left ended =
-    recorded_does first second v y z s (setting_stays v y shared) reaches turn finds (left turn.left)
+    recorded_does first second v y z s (scripts_stay v y shared) reaches turn finds (left turn.left)
 step_does {first} {second} {v} {y} {z} s false shared reaches all finds left ended =
-    unrecorded_does first second v y z s (setting_stays v y shared) reaches all finds (ended all)
+    unrecorded_does first second v y z s (scripts_stay v y shared) reaches all finds (ended all)
 
 -- the same where the fields of the memory show y
 pub step_does_in : {first second : ℕ} {v x : WorldView} (y : WorldView) {z : WorldView} (s : WriterStep) (found : Bool)

@@ -12,9 +12,9 @@ ghost use Rattle.interleave.specs.Runs.{HasTokensLeft, Waits, Answers, state_by_
 use super::synchronizing::synchronize;
 use super::{Reply, RunError};
 use crate::WorldMemory;
+use lpm_limits::Refusal;
 use lpm_rules::Change;
 use lpm_writer::{ControlState, add_rule, delete_rule, flush_rules, reclaim_groups};
-use qsbr::Refusal;
 use std::alloc::Global;
 
 /// Makes a change, and returns its reply; none where it is a synchronize of which a worker has stopped
@@ -43,7 +43,7 @@ pub(crate) fn answer<const FIRST: u32, const SECOND: u32>(
         × Answers c FIRST SECOND control.old.config (state_by_steps control.old.rules steps control.old.pool
         control.old.versions) change.now reply (state_by_steps control.new.rules later control.new.pool
         control.new.versions))) }
-    ensures setting { IfOk result (λ _. scripts_and_schedule memory.new ≡ scripts_and_schedule memory.old) }
+    ensures scripts { IfOk result (λ _. scripts_and_schedule memory.new ≡ scripts_and_schedule memory.old) }
     ensures config { control.new.config ≡ control.old.config }
     ensures memory { IfErr result (λ error. error ≡ IsMemory) }
 {
@@ -88,7 +88,7 @@ pub(crate) fn answer_all<const FIRST: u32, const SECOND: u32>(
         × IsPerformed c FIRST SECOND control.old.config (writer_items memory.old.schedule)
         (state_by_steps control.old.rules [] control.old.pool control.old.versions) changes.now replies.items
         steps) }
-    ensures setting { IfOk result (λ _. scripts_and_schedule memory.new ≡ scripts_and_schedule memory.old) }
+    ensures scripts { IfOk result (λ _. scripts_and_schedule memory.new ≡ scripts_and_schedule memory.old) }
     ensures memory { IfErr result (λ error. error ≡ IsMemory) }
 {
     let mut replies = Vec::with_capacity(alloc, changes.len())?;

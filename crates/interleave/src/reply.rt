@@ -2,8 +2,8 @@
 
 use defer_queue::Reclaimed;
 use lpm_bits::Hop;
+use lpm_limits::Refusal;
 use lpm_rules::Put;
-use qsbr::Refusal;
 
 /// What came of a change of the writer's script.
 #[derive(Clone, Copy, Debug, PartialEq, Eq)]

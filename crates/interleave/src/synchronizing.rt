@@ -10,8 +10,8 @@ ghost use Rattle.interleave.specs.Runs.{HasTokensLeft, Waits, Answers, state_by_
 
 use super::Reply;
 use crate::WorldMemory;
+use lpm_limits::Refusal;
 use lpm_writer::{ControlState, Exhausted, check_synchronize, start_synchronize};
-use qsbr::Refusal;
 
 /// Starts a token and checks it, at most so many times, until its check passes. No reply where a worker
 /// stopped each of these checks.
@@ -37,7 +37,7 @@ pub(crate) fn synchronize<const FIRST: u32, const SECOND: u32>(
         × Answers c FIRST SECOND control.old.config (state_by_steps control.old.rules steps control.old.pool
         control.old.versions) Synchronize reply (state_by_steps control.new.rules later control.new.pool
         control.new.versions)) }
-    ensures setting { scripts_and_schedule memory.new ≡ scripts_and_schedule memory.old }
+    ensures scripts { scripts_and_schedule memory.new ≡ scripts_and_schedule memory.old }
     ensures config { control.new.config ≡ control.old.config }
 {
     if let Err(Exhausted) = start_synchronize(control, memory) {

@@ -13,10 +13,10 @@ ghost use Rattle.interleave.specs.Runs.{IsRun};
 use super::answering::answer_all;
 use super::{RunError, Trace};
 use crate::WorldMemory;
+use lpm_limits::Config;
 use lpm_rules::Change;
 use lpm_trace::{Actor, Deed};
 use lpm_writer::ControlState;
-use qsbr::Config;
 use std::alloc::Global;
 
 /// The pure world of a table whose addresses have `FIRST` and `SECOND` bits: no threads, and each step

@@ -9,7 +9,7 @@ use bulk::{BulkError, Gate, bulk, bulk_plain, seat_all};
 use fib::Fib;
 use lpm_bits::Hop;
 use lpm_files::{Failure, answers_text_on};
-use qsbr::Refusal;
+use lpm_limits::Refusal;
 use std::alloc::Global;
 use std::thread::Threads;
 

@@ -11,7 +11,7 @@ use crate::updating::update;
 use bulk::Gate;
 use fib::Fib;
 use lpm_files::{Failure, Files, Updates, put_text, read_addresses_on, read_list, read_routes_on};
-use qsbr::Config;
+use lpm_limits::Config;
 use route_text::{Order, Route, outcomes_text};
 use std::alloc::Global;
 use std::io::Write;

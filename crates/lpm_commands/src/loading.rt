@@ -16,9 +16,9 @@ use crate::refusals::{Made, first_refusal, made_of, refused};
 use fib::{Fib, OpenError};
 use lpm_bits::Prefix;
 use lpm_files::Failure;
+use lpm_limits::{Config, Refusal};
 use lpm_rules::{Rule, count_rules};
 use lpm_sweep::MOST_SORTED;
-use qsbr::{Config, Refusal};
 use route_text::Route;
 use shared_fib::{Bench, SharedTable, Writer, go_live, open_sorted};
 use std::alloc::Global;
@@ -88,7 +88,7 @@ fn add_from<'a>(
     let mut next = from;
     for index in from..routes.len() {
         if index >= next {
-            next = index.saturating_add(prefetch(table, &routes[index..]));
+            next = index.saturating_add(prefetch_next(table, &routes[index..]));
         }
         let route = &routes[index];
         match table.add(&route.prefix, route.hop) {
@@ -318,7 +318,7 @@ fn add_last(table: &mut Fib<24, 8>, rules: &[Rule<24, 8>]) -> Result<(), Refusal
     let mut next = 0usize;
     for (index, rule) in rules.iter().enumerate() {
         if index >= next {
-            next = index.saturating_add(prefetch(table, &rules[index..]));
+            next = index.saturating_add(prefetch_next(table, &rules[index..]));
         }
         if is_replaced(rules, index) {
             continue;
@@ -381,7 +381,7 @@ impl Prefixed for Rule<24, 8> {
 // Prefetches for the next routes, and returns after how many of them to prefetch again. That is
 // sooner where few of them were covered yet, since then more words are stored on the way.
 #[inline(never)]
-fn prefetch<T: Prefixed>(table: &Fib<24, 8>, routes: &[T]) -> usize {
+fn prefetch_next<T: Prefixed>(table: &Fib<24, 8>, routes: &[T]) -> usize {
     let mut covered = 0usize;
     for route in routes.iter().take(AHEAD) {
         covered = covered.wrapping_add(usize::from(table.prefetch(route.prefix())));

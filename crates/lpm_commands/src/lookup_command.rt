@@ -8,7 +8,7 @@ use crate::answers::text_of_live_answers;
 use crate::loading::open_for_lookups;
 use bulk::Gate;
 use lpm_files::{Failure, Files, put_text, read_addresses_on, read_routes_on};
-use qsbr::Config;
+use lpm_limits::Config;
 use std::alloc::Global;
 use std::io::Write;
 use std::thread::Threads;

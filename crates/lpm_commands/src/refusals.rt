@@ -10,8 +10,8 @@ ghost use Rattle.lpm_commands.specs.Loading.{EndsLoading, IsLoaded};
 ghost use Rattle.lpm_commands.specs.Filled.{BringsGroup, Fits, Refuses};
 
 use lpm_files::Failure;
+use lpm_limits::{Config, Refusal};
 use lpm_rules::{Put, RuleFault, Rules};
-use qsbr::{Config, Refusal};
 use route_text::Route;
 use std::alloc::Global;
 
@@ -85,7 +85,7 @@ fn made_with_tokens<'a>(
     let mut versions = 0;
     let mut in_use = 0;
     for (index, route) in routes.iter().enumerate() {
-        match put(&mut rules, in_use, route, config.groups) {
+        match put_route(&mut rules, in_use, route, config.groups) {
             Ok((groups, done)) => {
                 in_use = groups;
                 versions += versions_by(done);
@@ -110,7 +110,7 @@ fn versions_by(put: Put) -> u64
 
 // Puts the rule of a route into the list of a table that has so many groups, and returns how many
 // of them are in use then, and what it did; or why the table refuses it.
-fn put(
+fn put_route(
     rules: &mut Rules<24, 8>,
     in_use: usize,
     route: &Route,

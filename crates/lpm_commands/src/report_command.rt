@@ -10,7 +10,7 @@ use crate::updating::update;
 use audit::{Report, report_text};
 use fib::Fib;
 use lpm_files::{Failure, Files, Routes, Updates, put_text, read_list};
-use qsbr::Config;
+use lpm_limits::Config;
 use route_text::{Order, Route};
 use std::alloc::Global;
 use std::io::Write;

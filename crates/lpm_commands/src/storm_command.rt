@@ -16,7 +16,7 @@ use crate::ordering::rules_of_routes;
 use audit::{Report, StormReport, storm_text};
 use bulk::Gate;
 use lpm_files::{Addresses, Failure, Files, Updates, put_text, read_list, read_routes_on};
-use qsbr::{Config, Refusal};
+use lpm_limits::{Config, Refusal};
 use route_text::{Order, Route};
 use std::alloc::{AllocError, Global};
 use std::io::Write;

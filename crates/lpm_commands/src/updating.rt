@@ -4,7 +4,7 @@ ghost use Rattle.lpm_commands.specs.Apply.{ComesOut};
 ghost use Rattle.lpm_limits.specs.declared.refusal.Refusal.TheVariants.{Memory};
 
 use fib::Fib;
-use qsbr::Refusal;
+use lpm_limits::Refusal;
 use route_text::{Order, Outcome};
 use std::alloc::{AllocError, Global};
 

@@ -3,7 +3,7 @@
 use anyhow::{Result, ensure};
 use fib::Fib;
 use lpm_bits::{Hop, Prefix};
-use qsbr::Config;
+use lpm_limits::Config;
 use std::alloc::Global;
 use std::net::Ipv4Addr;
 

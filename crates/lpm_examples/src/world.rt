@@ -3,7 +3,7 @@
 use anyhow::{Result, ensure};
 use interleave::{Actor, Change, Deed, Trace, World, script_ok};
 use lpm_bits::{Hop, Prefix};
-use qsbr::Config;
+use lpm_limits::Config;
 use std::alloc::{AllocError, Global};
 use std::rt::Clock;
 use std::time::Instant;

@@ -4,7 +4,7 @@
 //! `FIRST` bits. A group that was unlinked waits in limbo until no reader can still be in it.
 #![tactic(auto)]
 
-ghost use Rattle.std.specs.Prelude.{◌≡◌, ℕ, ◌+◌, ◌-◌, ◌<◌, ◌≤◌, ◌↔◌, ◌++◌, length, map, replicate, slice_get, slice_set, IsTrue, IfOk, IfSome, IfNone, IsNone};
+ghost use Rattle.std.specs.Prelude.{◌≡◌, ℕ, ◌+◌, ◌-◌, ◌<◌, ◌≤◌, ◌++◌, length, map, replicate, slice_get, slice_set, IfOk, IfSome, IfNone, IsNone};
 ghost use Rattle.lpm_groups.specs.States.{linked_count, limbo_count, free_count, IsLeastFree, IsLinkedAt, IsLimboAt};
 
 use memchr::memchr;
@@ -120,26 +120,12 @@ impl Groups {
         self.states.len()
     }
 
-    /// Whether there is no group at all.
-    pub fn is_empty(&self) -> bool
-        ensures { IsTrue result ↔ (length self.now ≡ 0) }
-    {
-        self.states.is_empty()
-    }
-
     /// The state of a group, whose number is below `len`.
     pub fn state(&self, group: u32) -> GroupState
         requires { group < length self.now }
         ensures { slice_get self.now group ≡ Some result }
     {
         self.states[group as usize]
-    }
-
-    /// Whether some group is free, so that `take_least` finds one.
-    pub fn is_any_free(&self) -> bool
-        ensures { IsTrue result ↔ (0 < free_count self.now) }
-    {
-        self.counts().free > 0
     }
 
     /// How many groups there are in each state.

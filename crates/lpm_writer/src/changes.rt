@@ -9,7 +9,7 @@ ghost use Rattle.lpm_writer.specs.Commands.{Rests};
 ghost use Rattle.lpm_writer.specs.Traced.{by_writer};
 
 use super::control::ControlState;
-use super::limbo::retire;
+use super::limbo::retire_group;
 use crate::Memory;
 use lpm_trace::RuleChange;
 use lpm_update::Update;
@@ -40,7 +40,7 @@ pub(crate) fn change<const FIRST: u32, const SECOND: u32, M: Memory>(
     memory.open(rule_change);
     let mut update = update;
     while let Some(group) = update.run::<FIRST, SECOND, M>(memory) {
-        retire(&mut control.pool, memory, group, &control.config);
+        retire_group(&mut control.pool, memory, group, &control.config);
     }
     memory.close();
     control.versions += 1;

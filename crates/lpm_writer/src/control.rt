@@ -18,10 +18,10 @@ use super::links::{group_for, is_linked};
 use crate::Memory;
 use defer_queue::Reclaimed;
 use lpm_bits::{Hop, Prefix, Shape};
+use lpm_limits::{Config, Refusal};
 use lpm_rules::{Put, RuleFault, Rules};
 use lpm_trace::RuleChange;
 use lpm_update::Update;
-use qsbr::{Config, Refusal};
 
 /// The most updates that a writer begins.
 const MOST_UPDATES: u64 = 1 << 61;

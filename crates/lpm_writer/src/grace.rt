@@ -10,7 +10,8 @@ ghost use Rattle.lpm_writer.specs.Matching.{MayAsk};
 use crate::Memory;
 use defer_queue::Grace;
 use lpm_groups::Groups;
-use qsbr::{Busy, holds};
+use lpm_limits::Busy;
+use qsbr::holds;
 
 /// What a reclaim checks by and frees: a memory, the groups, and the greatest token that has passed.
 #[derive(Drop)]
@@ -47,7 +48,7 @@ impl<M: Memory> Grace for Reclaimer<'_, M> {
         × (z.groups.now ≡ slice_set s.groups.now group Free) };
 
     fn check(&mut self, token: u64) -> Result<(), Busy> {
-        check(self.memory, self.passed, token)
+        check_token(self.memory, self.passed, token)
     }
 
     fn free(&mut self, group: u32) {
@@ -58,7 +59,11 @@ impl<M: Memory> Grace for Reclaimer<'_, M> {
 /// Whether no worker holds any more what was given up under the token; else the first that does. The
 /// counters are loaded one after another, up to that one. None is loaded for a token that isn't above the
 /// greatest that has passed.
-pub(crate) fn check<M: Memory>(memory: &mut M, passed: &mut u64, token: u64) -> Result<(), Busy>
+pub(crate) fn check_token<M: Memory>(
+    memory: &mut M,
+    passed: &mut u64,
+    token: u64,
+) -> Result<(), Busy>
     requires may { (c : InitialState) × (steps : List WriterStep)
         × M.did memory.old c steps × (passed.old < token → MayAsk c steps token) }
     ensures checks { ChecksBy M.did M.does memory.old passed.old token result memory.new passed.new }

@@ -16,7 +16,7 @@ use super::GroupPool;
 use super::grace::Reclaimer;
 use crate::Memory;
 use defer_queue::Reclaimed;
-use qsbr::{Busy, Config};
+use lpm_limits::{Busy, Config};
 
 /// Frees groups from the oldest in limbo on, at most `max`, up to the first that a worker holds.
 #[inline]
@@ -59,7 +59,12 @@ fn most_freed(waiting: usize, config: &Config) -> usize
 
 /// The group has lost its block: it waits in limbo from now on, under a token of its own. Where more
 /// than `threshold` groups wait already, some are reclaimed first.
-pub(crate) fn retire<M: Memory>(pool: &mut GroupPool, memory: &mut M, group: u32, config: &Config)
+pub(crate) fn retire_group<M: Memory>(
+    pool: &mut GroupPool,
+    memory: &mut M,
+    group: u32,
+    config: &Config,
+)
     requires linked { (block : ℕ) × IsLinkedTo pool.old.groups group block }
     requires queued { IsQueued pool.old.groups pool.old.queue }
     requires token { M.newest memory.old < 2 ^ 62 }

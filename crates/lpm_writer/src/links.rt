@@ -12,7 +12,7 @@ use super::limbo::take;
 use crate::Memory;
 use lpm_bits::{Prefix, Shape};
 use lpm_cells::Entry;
-use qsbr::Busy;
+use lpm_limits::Busy;
 
 /// Whether the block of the prefix's first address has a group.
 #[inline]

@@ -3,7 +3,7 @@
 ghost use Rattle.std.specs.Prelude.{◌≡◌};
 ghost use Rattle.lpm_writer.specs.declared.open_error.OpenError.TheVariants.{BadConfig as IsBadConfig, Memory as IsMemory};
 
-use qsbr::BadConfig;
+use lpm_limits::BadConfig;
 use std::alloc::AllocError;
 use std::error::Error;
 use std::fmt;

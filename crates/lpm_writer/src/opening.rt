@@ -12,8 +12,8 @@ use super::{ControlState, GroupPool, OpenError};
 use crate::PlainMemory;
 use defer_queue::DeferQueue;
 use lpm_groups::Groups;
+use lpm_limits::Config;
 use lpm_rules::Rules;
-use qsbr::Config;
 use std::alloc::Global;
 
 impl<const FIRST: u32, const SECOND: u32> ControlState<FIRST, SECOND> {

@@ -11,9 +11,9 @@ ghost use Rattle.lpm_writer.specs.Commands.{MayCommand, Rests, IsWaiting};
 
 use super::Exhausted;
 use super::control::{ControlState, LAST_TOKEN};
-use super::grace::check;
+use super::grace::check_token;
 use crate::Memory;
-use qsbr::Busy;
+use lpm_limits::Busy;
 
 /// Starts the token of a synchronize. From then on the control state waits, until `check_synchronize` has
 /// returned `Ok`.
@@ -67,5 +67,5 @@ pub fn check_synchronize<const FIRST: u32, const SECOND: u32, M: Memory>(
     } }
 {
     let token = memory.token();
-    check(memory, &mut control.pool.passed, token)
+    check_token(memory, &mut control.pool.passed, token)
 }

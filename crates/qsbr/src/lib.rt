@@ -145,7 +145,7 @@ impl Domain {
     /// Whether every worker has left the token behind: each counter is 0 or at least the token. The
     /// error is the first worker for which that isn't so.
     ///
-    /// The counters are read once, from worker 0 on, up to that worker.
+    /// The counters are looked at in order, from worker 0 on, up to that worker.
     pub fn check(&self, token: u64) -> Result<(), Busy>
         ensures { IsChecked token self.now.counters result }
     {

@@ -10,7 +10,7 @@ use Rattle.route_text.specs.declared.fault.Fault.{Fault}
 use Rattle.route_text.specs.declared.fault.FaultKind.{FaultKind}
 use Rattle.bstr.proofs.lemmas.LengthLemmas.{length-lines}
 use Rattle.route_text.specs.declared.lines.End.TheVariants as ends
-use Rattle.route_text.specs.declared.grammar.Said.TheVariants as said
+use Rattle.route_text.specs.declared.grammar.Line.TheVariants as kinds
 
 -- The first line of bytes, as `bstr` breaks them.
 
@@ -151,7 +151,7 @@ module _ {Item : Type 0} (Spells : ℕ → List (List ℕ) → Item → Type 0) 
 
   -- one more line
   pub takes_one : (HasFault : List (List ℕ) → FaultKind → Type 0) (n : ℕ) (bytes : List ℕ) (before after next : List Item) (count : ℕ) (rest last : List ℕ) (item : Item)
-      → SaysItems Spells n bytes before after count rest → SaysFirst Spells HasFault (n + count) rest (said.Item item) last → next ≡ after ++ item ∷ []
+      → SaysItems Spells n bytes before after count rest → SaysFirst Spells HasFault (n + count) rest (kinds.Item item) last → next ≡ after ++ item ∷ []
       → SaysItems Spells n bytes before next (count + 1) last
   takes_one HasFault n bytes before after next count rest last item is one e = record {
     done = is.done ++ one.line ∷ [];

@@ -21,7 +21,7 @@ use Rattle.fib_model.specs.declared.orders.Outcome.{Outcome}
 use Rattle.route_text.specs.Updates.{IsCountInRange, SpellsUpdate, AreUpdates, header, after_first, StartsHeader}
 use Rattle.route_text.specs.Texts.{address_text, prefix_text, addition_text, update_text, update_line, lines_of_updates, update_lines, outcome_line, outcome_lines}
 use Rattle.route_text.specs.declared.lines.End.TheVariants as ends
-use Rattle.route_text.specs.declared.grammar.Said.TheVariants as said
+use Rattle.route_text.specs.declared.grammar.Line.TheVariants as kinds
 use Rattle.fib_model.specs.declared.orders.Order.TheVariants as orders
 
 -- The text of a list, item by item.
@@ -110,7 +110,7 @@ unskipped text rest addr is e =
 some_address : (text : List ℕ) (addr : ℕ) → IsAddress text addr → 0 < length text
 some_address text addr is = rw is.spelled (simp (length-append) (omega arith))
 
-pub plain_address_line : (n addr : ℕ) (bytes rest : List ℕ) → StartsAddressBefore ends.Line bytes addr rest → SaysFirst SpellsAddress HasAddressFault n bytes (said.Item addr) rest
+pub plain_address_line : (n addr : ℕ) (bytes rest : List ℕ) → StartsAddressBefore ends.Line bytes addr rest → SaysFirst SpellsAddress HasAddressFault n bytes (kinds.Item addr) rest
 plain_address_line n addr bytes rest is =
     let text = is.front in
     let plain = plain_address text addr is.address in
@@ -119,7 +119,7 @@ plain_address_line n addr bytes rest is =
     record {
       line = text;
       split = ap lines is.split ∙ ended_line text (written_plain text plain) is.after rest is.ends;
-      says = subst (λ f. Says SpellsAddress HasAddressFault n f (said.Item addr)) (sym fs) (
+      says = subst (λ f. Says SpellsAddress HasAddressFault n f (kinds.Item addr)) (sym fs) (
         λ skipped. unskipped text [] addr is.address (ap (λ t. get_or t 0 0) (append-nil text) ∙ skipped),
         is.address,
       );
@@ -162,7 +162,7 @@ prefix_of text after addr len prefix is number e = record {
 pub plain_route_line : (n addr len hop : ℕ) (prefix : Network) (bytes b d rest : List ℕ)
     → StartsAddressBefore (ends.Byte 47) bytes addr b → StartsNumberBefore (ends.Byte 32) 32 b len d → StartsNumberBefore ends.Line 16777215 d hop rest
     → prefix ≡ record { bits = network_bits 32 len addr; len = len }
-    → SaysFirst SpellsRoute HasRouteFault n bytes (said.Item (record { line = n; prefix = prefix; hop = hop })) rest
+    → SaysFirst SpellsRoute HasRouteFault n bytes (kinds.Item (record { line = n; prefix = prefix; hop = hop })) rest
 plain_route_line n addr len hop prefix bytes b d rest address length_is hop_is same =
     let text = address.front in
     let first = text ++ 47 ∷ decimal len in
@@ -179,7 +179,7 @@ plain_route_line n addr len hop prefix bytes b d rest address length_is hop_is s
     record {
       line = line;
       split = ap lines split ∙ ended_line line written hop_is.after rest hop_is.ends;
-      says = subst (λ f. Says SpellsRoute HasRouteFault n f (said.Item (record { line = n; prefix = prefix; hop = hop }))) (sym fs) (
+      says = subst (λ f. Says SpellsRoute HasRouteFault n f (kinds.Item (record { line = n; prefix = prefix; hop = hop }))) (sym fs) (
         unskipped text (47 ∷ decimal len) addr address.address,
         (refl, prefix_of text (decimal len) addr len prefix address.address (record { small = length_is.small; spelled = refl }) same, record { small = hop_is.small; spelled = refl }),
       );

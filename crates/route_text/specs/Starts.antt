@@ -3,14 +3,14 @@
 use Rattle.std.specs.Prelude.{◌≡◌, ℕ, List, ◌∷◌, ◌++◌, length, ◌≤◌, ◌⊎◌, [], decimal, ⊤, ◌<◌}
 use Rattle.route_text.specs.declared.fault.Fault.{Fault}
 use Rattle.route_text.specs.declared.fault.FaultKind.{FaultKind}
-use Rattle.route_text.specs.declared.grammar.Said.{Said}
+use Rattle.route_text.specs.declared.grammar.Line.{Line}
 use Rattle.route_text.specs.Files.{lines, fields, IsSkipped, AreItems}
 use Rattle.std.specs.Int.{IsInRange}
 use Rattle.route_text.specs.declared.lines.End.{End}
 use Rattle.route_text.specs.Fields.{IsAddress}
 use Rattle.lpm_bits.specs.Network.{IsNetwork}
 use Rattle.fib_model.specs.declared.orders.Order.{Order}
-use Rattle.route_text.specs.declared.grammar.Said.TheVariants as said
+use Rattle.route_text.specs.declared.grammar.Line.TheVariants as kinds
 use Rattle.route_text.specs.declared.lines.End.TheVariants as ends
 use Rattle.fib_model.specs.declared.orders.Order.TheVariants as orders
 
@@ -19,13 +19,13 @@ use Rattle.fib_model.specs.declared.orders.Order.TheVariants as orders
 module _ {Item : Type 0} (Spells : ℕ → List (List ℕ) → Item → Type 0)
     (HasFault : List (List ℕ) → FaultKind → Type 0) where
   -- the line is skipped, spells an item, or has a fault
-  abbrev pub Says : ℕ → List (List ℕ) → Said Item → Type 0
-  Says n fs said.Nothing = IsSkipped fs
-  Says n fs (said.Item item) = ¬ IsSkipped fs × Spells n fs item
-  Says n fs (said.Fault kind) = ¬ IsSkipped fs × HasFault fs kind
+  abbrev pub Says : ℕ → List (List ℕ) → Line Item → Type 0
+  Says n fs kinds.Nothing = IsSkipped fs
+  Says n fs (kinds.Item item) = ¬ IsSkipped fs × Spells n fs item
+  Says n fs (kinds.Fault kind) = ¬ IsSkipped fs × HasFault fs kind
 
   -- the first line of the bytes says this, and the rest stands after it
-  pub record SaysFirst (n : ℕ) (bytes : List ℕ) (this : Said Item) (rest : List ℕ) : Type 0 where
+  pub record SaysFirst (n : ℕ) (bytes : List ℕ) (this : Line Item) (rest : List ℕ) : Type 0 where
     pub line : List ℕ
     pub split : lines bytes ≡ line ∷ lines rest
     pub says : Says n (fields line) this
@@ -34,7 +34,7 @@ module _ {Item : Type 0} (Spells : ℕ → List (List ℕ) → Item → Type 0)
   pub record SaysFault (n : ℕ) (bytes : List ℕ) (fault : Fault) : Type 0 where
     pub rest : List ℕ
     pub number : fault.line ≡ n
-    pub first : SaysFirst n bytes (said.Fault fault.kind) rest
+    pub first : SaysFirst n bytes (kinds.Fault fault.kind) rest
 
 -- so many lines at the front of the bytes are items, which were added to a list, and the rest stands
 -- after them

@@ -2,7 +2,7 @@
 ghost use Rattle.std.specs.Prelude.{ℕ, ◌+◌, ◌^◌, ◌<◌, ◌≤◌, List, ◌∷◌, IfSome, IfOk, IfErr};
 ghost use Rattle.std.specs.Prelude.{length, drop};
 ghost use Rattle.route_text.specs.declared.fault.FaultKind.{FaultKind};
-ghost use Rattle.route_text.specs.declared.grammar.Said.TheVariants as Said;
+ghost use Rattle.route_text.specs.declared.grammar.Line.TheVariants as Line;
 ghost use Rattle.route_text.specs.Files.{lines, fields, AreItems, IsFirstFault, IsReadError};
 ghost use Rattle.route_text.specs.Starts.{Says, SaysFirst, SaysItems, SaysFault};
 
@@ -15,7 +15,7 @@ const USUAL_LINE: usize = 16;
 
 /// What a line says.
 #[derive(Clone, Copy)]
-pub(crate) enum Said<Item> {
+pub(crate) enum Line<Item> {
     /// The line is blank or a comment.
     Nothing,
     Item(Item),
@@ -44,23 +44,23 @@ pub(crate) trait Grammar {
     fn plain_line(number: usize, bytes: &[u8], at: usize) -> Option<(Self::Item, usize)>
         requires { at ≤ length bytes.now }
         ensures line { IfSome result (λ p. SaysFirst Spells HasFault number (drop at bytes.now)
-            (Said.Item p.0) (drop p.1 bytes.now)) }
+            (Line.Item p.0) (drop p.1 bytes.now)) }
         ensures place { IfSome result (λ p. p.1 ≤ length bytes.now) };
 }
 
 /// What a line says: nothing, an item, or what is wrong with it.
-fn read_line<G: Grammar>(number: usize, line: &[u8]) -> Said<G::Item>
+fn read_line<G: Grammar>(number: usize, line: &[u8]) -> Line<G::Item>
     ensures { Says G.Spells G.HasFault number (fields line.now) result }
 {
     let Some((first, rest)) = next_field(line) else {
-        return Said::Nothing;
+        return Line::Nothing;
     };
     if first[0] == b'#' {
-        return Said::Nothing;
+        return Line::Nothing;
     }
     match G::item(number, first, rest) {
-        Ok(item) => Said::Item(item),
-        Err(kind) => Said::Fault(kind),
+        Ok(item) => Line::Item(item),
+        Err(kind) => Line::Fault(kind),
     }
 }
 
@@ -114,12 +114,12 @@ fn take_line<G: Grammar>(
     let mut items = items;
     let (line, rest) = next_line(bytes);
     match read_line::<G>(number, line) {
-        Said::Nothing => Ok((items, rest)),
-        Said::Item(item) => {
+        Line::Nothing => Ok((items, rest)),
+        Line::Item(item) => {
             items.push(item)?;
             Ok((items, rest))
         }
-        Said::Fault(kind) => Err(ReadError::Fault(Fault { line: number, kind })),
+        Line::Fault(kind) => Err(ReadError::Fault(Fault { line: number, kind })),
     }
 }
 

@@ -11,7 +11,7 @@ ghost use Rattle.saxiko.specs.Owners.{Registers};
 
 use crate::reader::register;
 use crate::{Owner, Reader};
-use qsbr::{Busy, Refusal};
+use lpm_limits::{Busy, Refusal};
 use shared_fib::{Bench, SharedTable};
 use std::marker::Model;
 use std::sync::Arc;

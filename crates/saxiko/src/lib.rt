@@ -15,9 +15,9 @@ pub use defer_queue::Reclaimed;
 pub use grace::{GracePeriod, Held, NotStarted};
 pub use lpm_bits::{BadHop, BadLength, Hop, ParseError};
 pub use lpm_groups::Counts;
+pub use lpm_limits::{BadConfig, Busy, Config, Range, Refusal};
 pub use lpm_rules::{Answer, Put};
 pub use owner::Owner;
-pub use qsbr::{BadConfig, Busy, Config, Range, Refusal};
 pub use reader::Reader;
 pub use shared_fib::{Burst, Exhausted, FourHops, OpenError};
 

@@ -10,8 +10,8 @@ ghost use Rattle.shared_fib.specs.Running.{initial_writer};
 
 use crate::Owner;
 use fib::sorted_rules;
+use lpm_limits::Config;
 use lpm_rules::Rule;
-use qsbr::Config;
 use shared_fib::{OpenError, open_sorted};
 use std::alloc::Global;
 

@@ -7,8 +7,8 @@ ghost use Rattle.shared_fib.specs.Bursts.{LooksUpBurst};
 ghost use Rattle.shared_fib.specs.Passes.{IsBenchOf, IsHistory, IsPassOf, LooksUp, LooksUpAll, Makes};
 ghost use Rattle.shared_fib.specs.Running.{hop_or};
 
+use lpm_limits::Refusal;
 use lpm_rules::Answer;
-use qsbr::Refusal;
 use shared_fib::{Bench, Burst, FourHops, Pass, RegisterError, SharedTable};
 use std::marker::Model;
 use std::sync::Arc;

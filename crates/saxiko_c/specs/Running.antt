@@ -44,7 +44,7 @@ coded_owner = code_by (WriterState × (Bool × List (Option PassState)))
 -- a table without rules, of which no reader is handed out, and no grace period lasts
 pub record IsOpened (c : Config) (o : OwnerState) : Type 0 where
   pub opened : o.writer ≡ initial_writer o.writer.identity c empty
-  pub setup : initial_state o.writer.identity ≡ blank_state 24 8 c
+  pub initial : initial_state o.writer.identity ≡ blank_state 24 8 c
   pub token : o.writer.identity.initial.token ≡ c.first_token
   pub workers : o.writer.identity.initial.workers ≡ c.workers
   pub at_rest : o.waits ≡ false

@@ -11,9 +11,9 @@ use crate::SharedMemory;
 use crate::table::Words;
 use defer_queue::Reclaimed;
 use lpm_bits::{Hop, Prefix};
+use lpm_limits::Refusal;
 use lpm_rules::Put;
 use lpm_writer::{ControlState, add_rule, delete_rule, flush_rules, reclaim_groups};
-use qsbr::Refusal;
 use shared_words::WriterSeat;
 
 /// Adds a rule, or gives the prefix's rule another next hop.

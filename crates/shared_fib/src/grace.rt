@@ -12,8 +12,8 @@ ghost use Rattle.shared_fib.specs.Running.{IsReady, OnlySees, passed_of, state_b
 
 use crate::table::Words;
 use crate::{SharedMemory, SharedTable, Writer};
+use lpm_limits::Busy;
 use lpm_writer::{ControlState, Exhausted, check_synchronize, start_synchronize};
-use qsbr::Busy;
 use shared_words::WriterSeat;
 use std::marker::Model;
 

@@ -21,8 +21,8 @@ use crate::table::Words;
 use crate::{Bench, InitialTable, SharedTable, Writer};
 use defer_queue::DeferQueue;
 use fib::Fib;
+use lpm_limits::Config;
 use lpm_writer::{ControlState, GroupPool, OpenError, PlainMemory};
-use qsbr::Config;
 use shared_words::WriterSeat;
 use std::alloc::{AllocError, Global};
 
@@ -83,7 +83,7 @@ fn load<const FIRST: u32, const SECOND: u32>(
 
 /// What the writer of a running table keeps at first: the rules that were loaded are version 0, and no token
 /// has passed.
-fn first_ledger<const FIRST: u32, const SECOND: u32>(
+fn first_control<const FIRST: u32, const SECOND: u32>(
     config: Config,
     queue: DeferQueue,
     loaded: InitialTable<FIRST, SECOND>,
@@ -127,7 +127,7 @@ pub(crate) fn go_on<const FIRST: u32, const SECOND: u32>(
 {
     let (words, mut seat) = open_words(alloc, &loaded)?;
     let bench = Bench::full(alloc, &words, &mut seat)?;
-    let control = first_ledger(config, queue, loaded);
+    let control = first_control(config, queue, loaded);
     Ok((SharedTable::new(words), Writer::new(control, seat), bench))
 }
 

@@ -14,11 +14,11 @@ ghost use Rattle.shared_fib.specs.Running.{initial_data_of, initial_writer};
 use crate::opening::go_on;
 use crate::{Bench, InitialTable, Pairs, SharedTable, Writer};
 use defer_queue::DeferQueue;
-use fib::opened_ledger;
+use fib::control_of_blocks;
+use lpm_limits::Config;
 use lpm_rules::{Rule, Rules, count_rules};
 use lpm_sweep::{WordList, sweep_into};
 use lpm_writer::{ControlState, GroupPool, OpenError};
-use qsbr::Config;
 use shared_words::{Layout, pairs};
 use std::alloc::{AllocError, Global};
 
@@ -97,7 +97,7 @@ fn load_swept<const FIRST: u32, const SECOND: u32>(
     ensures workers { IfOk result (λ t. t.1.layout.workers ≡ config.workers) }
 {
     let rules = Rules::of_sorted(alloc, config.rules, rules)?;
-    let control = opened_ledger(alloc, config, rules, 0, blocks)?;
+    let control = control_of_blocks(alloc, config, rules, 0, blocks)?;
     let ControlState {
         config: _,
         rules,

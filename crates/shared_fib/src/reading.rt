@@ -11,8 +11,8 @@ ghost use Rattle.shared_fib.specs.Running.{IsAtRest, token_of};
 use crate::{SharedTable, Writer};
 use lpm_bits::{Hop, Prefix};
 use lpm_groups::Counts;
+use lpm_limits::Config;
 use lpm_rules::Rule;
-use qsbr::Config;
 
 impl<const FIRST: u32, const SECOND: u32> Writer<FIRST, SECOND> {
     /// The next hop of the rule of this very prefix; none where it has no rule.

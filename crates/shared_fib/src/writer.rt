@@ -10,9 +10,9 @@ use crate::SharedTable;
 use crate::commands::{add_by, delete_by, flush_by, reclaim_by};
 use defer_queue::Reclaimed;
 use lpm_bits::{Hop, Prefix};
+use lpm_limits::Refusal;
 use lpm_rules::Put;
 use lpm_writer::ControlState;
-use qsbr::Refusal;
 use shared_words::WriterSeat;
 use std::marker::Model;
 

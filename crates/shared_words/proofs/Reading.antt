@@ -13,7 +13,7 @@ use Rattle.shared_words.specs.declared.view.Role.TheVariants.{Worker, Writer as 
 use Rattle.shared_words.specs.declared.view.View.{View}
 use Rattle.shared_words.specs.Layout.{InitialData, initial_state_of, half, first_at, second_at, sequence_at, token_at, counter_at, pairs}
 use Rattle.shared_words.specs.Rule.{Holds}
-use Rattle.shared_words.specs.Seats.{IsFirstAt, IsSecondAt, WorkerGains, WorkerGainsFirst, WorkerGainsSecond, IsOf, WordsAt, WorkerAt, IsWorkerSeat, WriterAt, WriterLooks, MayFollow, left_by}
+use Rattle.shared_words.specs.Seats.{IsFirstAt, IsSecondAt, WorkerGains, WorkerGainsFirst, WorkerGainsSecond, IsOf, WordsAt, WorkerAt, IsWorkerSeat, WriterAt, WriterLooks, MayFollow, state_of_view}
 use Rattle.shared_words.proofs.Workings.{IsQuiet, St, load_allowed, plain, store_allowed}
 use mathlib.Core.Option.{none}
 use Rattle.atomic_table.specs.Seated.{TableId}
@@ -174,7 +174,7 @@ pub at_counter : {X : Type 0} {at number : ℕ} {w : WordsAt} {seat : TableId} {
     → at ≡ 2 + pairs w.layout.firsts + pairs w.layout.seconds + number → (at ≡ counter_at w.initial number → X)
     → (seat ≡ w.table) × (at < w.table.words) × X
 at_counter {X} {at} {number} {w} {seat} {me} is own there then =
-    let below : number < w.initial.workers = subst (λ (z : InitialData). number < z.workers) own.opening_is is.inside in (
+    let below : number < w.initial.workers = subst (λ (z : InitialData). number < z.workers) own.initial_is is.inside in (
       own.same,
       omega (arith, below, there, own.firsts, own.seconds, own.words),
       then (omega (arith, there, own.firsts, own.seconds)),
@@ -187,9 +187,9 @@ pub may_inside : (s : WriterStep) {a b : WriterAt} → a ≡ b → MayFollow b.v
 may_inside s same may = subst (λ (z : WriterAt). MayFollow z.view s) (sym same) may
 
 -- the next number, by its value and by its fields
-pub next_inside : (of : TableState → ℕ) {n : ℕ} {a b : WriterAt} → a ≡ b → n ≡ of (left_by b.view) + 1
-    → n ≡ of (left_by a.view) + 1
-next_inside of {n} same next = subst (λ (z : WriterAt). n ≡ of (left_by z.view) + 1) (sym same) next
+pub next_inside : (of : TableState → ℕ) {n : ℕ} {a b : WriterAt} → a ≡ b → n ≡ of (state_of_view b.view) + 1
+    → n ≡ of (state_of_view a.view) + 1
+next_inside of {n} same next = subst (λ (z : WriterAt). n ≡ of (state_of_view z.view) + 1) (sym same) next
 
 -- a call at a place of the table
 pub in_table : {X : Type 0} {at : ℕ} {w x : WordsAt} {a b : WriterAt} → w ≡ x → a ≡ b → IsOf x b.table b.view
@@ -207,14 +207,14 @@ looks {o} {slots} {id} {at} {me} was words same own low = in_table words same ow
 pub first_inside : {w : WordsAt} {a b : WriterAt} {i word at : ℕ} → IsOf w a.table a.view → a ≡ b
     → MayFollow b.view (StoreFirst i word) → at ≡ first_at i → at < w.table.words
 first_inside {w} {a} {b} {i} {word} own same may there =
-    let len = ap (λ (z : InitialData). length z.firsts) own.opening_is in
+    let len = ap (λ (z : InitialData). length z.firsts) own.initial_is in
     let inside = may_inside (StoreFirst i word) same may in
     omega (arith, len, inside.0.1, firsts_length (initial_state_of a.view.initial) a.view.seen, there, own.words)
 
 pub second_inside : {w : WordsAt} {a b : WriterAt} {j word at : ℕ} → IsOf w a.table a.view → a ≡ b
     → MayFollow b.view (StoreSecond j word) → at ≡ 2 + pairs w.layout.firsts + j / 2 → at < w.table.words
 second_inside {w} {a} {b} {j} {word} own same may there =
-    let len = ap (λ (z : InitialData). length z.seconds) own.opening_is in
+    let len = ap (λ (z : InitialData). length z.seconds) own.initial_is in
     let inside = may_inside (StoreSecond j word) same may in
     omega (
       arith,

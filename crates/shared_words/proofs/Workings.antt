@@ -222,9 +222,9 @@ module _ (o : InitialData) where
   -- ---- the steps
 
   -- the opening of a worker's view is the table's
-  pub opening_is : (s : St) (h : Holds o s) (id k : ℕ) (v : View) → get_elem? s.views id ≡ some v
+  pub initial_is : (s : St) (h : Holds o s) (id k : ℕ) (v : View) → get_elem? s.views id ≡ some v
       → v.role ≡ Worker k → v.initial ≡ o
-  opening_is s h id k v at is = (sits_of s h id k v at is).1
+  initial_is s h id k v at is = (sits_of s h id k v at is).1
 
   -- a load, which may come next and tells what else is known of the word
   pub load_allowed : (of : ℕ → WorkerStep) (also : ℕ → Type 0) (slots id k i : ℕ) (me : Me (Unit {0}) View)
@@ -237,7 +237,7 @@ module _ (o : InitialData) where
   load_allowed of also slots id k i me is quiet reads s h len at range =
       let n : ℕ = slice_index s.words i in
       let r : WorkerStep = of n in
-      let read = reads s h (opening_is s h id k me.0 at is) in
+      let read = reads s h (initial_is s h id k me.0 at is) in
       let w : View = gained me.0 r (writes h.steps) in
       let kept : Holds o record { words = s.words; homes = s.homes; views = slice_set s.views id w } =
       worker_step s h id k me.0 r s.words at is read.0 (loaded h.steps k r s.words (quiet n) h.words) in (

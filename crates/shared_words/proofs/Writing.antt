@@ -23,7 +23,7 @@ use Rattle.shared_words.specs.declared.view.Role.TheVariants.{Writer, Worker, No
 use Rattle.shared_words.specs.declared.view.View.{View}
 use Rattle.shared_words.specs.Layout.{InitialData, initial_state_of, IsLaidOut, half, first_at, second_at, sequence_at, token_at, counter_at, initial_words}
 use Rattle.shared_words.specs.Rule.{IsLater, Seating, Sits, IsViewOf, Holds, writer_view, worker_view, with_one_more}
-use Rattle.shared_words.specs.Seats.{AreLawful, WriterGains, IsFoundAt, KeepsFirst, KeepsSecond, WriterLooks, with_step, left_by, MayFollow}
+use Rattle.shared_words.specs.Seats.{AreLawful, WriterGains, IsFoundAt, KeepsFirst, KeepsSecond, WriterLooks, with_step, state_of_view, MayFollow}
 use Rattle.shared_words.proofs.Laying.{firsts_length, seconds_length, lays_first, lays_second, lays_sequence, lays_token, lays_none, lays_opening}
 
 abbrev St : Type 0
@@ -205,12 +205,12 @@ module _ (o : InitialData) where
         (λ k lt e ne. kept' k lt e ne ∙ ap (λ (z : TableState). slice_index z.words.seconds k) (sym now))))
 
     -- the next number of the sequence is stored
-    next_sequence : (n : ℕ) (step : WriterStep) → at ≡ sequence_at → n ≡ (left_by me.0).sequence + 1
+    next_sequence : (n : ℕ) (step : WriterStep) → at ≡ sequence_at → n ≡ (state_of_view me.0).sequence + 1
         → (words : List ℕ) (w : World) → me.0.initial ≡ o → w.state ≡ tables_by seen
         → IsLaidAfter (slice_set words sequence_at (suc w.state.sequence)) w step
         → IsLaidAfter (slice_set words at n) w step
     next_sequence n step place next words w is now laid =
-        let one : (left_by me.0).sequence ≡ (tables_by seen).sequence =
+        let one : (state_of_view me.0).sequence ≡ (tables_by seen).sequence =
         ap (λ (z : InitialData). (state_after (initial_state_of z) seen).sequence) is in
         let two : w.state.sequence ≡ (tables_by seen).sequence = ap (λ (z : TableState). z.sequence) now in
         let same : n ≡ suc w.state.sequence = omega (arith, next, one, two) in
@@ -218,7 +218,7 @@ module _ (o : InitialData) where
         (λ i. (sym place i, sym same i)) laid
 
     pub opens_allowed : (n : ℕ) (change : RuleChange) → at ≡ sequence_at
-        → n ≡ (left_by me.0).sequence + 1 → MayFollow me.0 (BeginUpdate change)
+        → n ≡ (state_of_view me.0).sequence + 1 → MayFollow me.0 (BeginUpdate change)
         → Allows (Holds o) slots id me at (λ _. n) (λ _. WriterGains (BeginUpdate change) me)
     opens_allowed n change place next may = store_allowed n (BeginUpdate change) may (λ _. tt)
         (λ words w is now laid. next_sequence n (BeginUpdate change) place next words w is now
@@ -226,18 +226,18 @@ module _ (o : InitialData) where
         (progress_by_step (initial_state_of o) w.state w.progress (BeginUpdate change))))
 
     pub closes_allowed : (n : ℕ) → at ≡ sequence_at
-        → n ≡ (left_by me.0).sequence + 1 → MayFollow me.0 EndUpdate
+        → n ≡ (state_of_view me.0).sequence + 1 → MayFollow me.0 EndUpdate
         → Allows (Holds o) slots id me at (λ _. n) (λ _. WriterGains EndUpdate me)
     closes_allowed n place next may = store_allowed n EndUpdate may (λ _. tt)
         (λ words w is now laid. next_sequence n EndUpdate place next words w is now
         (lays_sequence o words w laid (state_by_step (initial_state_of o) w.state EndUpdate)
         (progress_by_step (initial_state_of o) w.state w.progress EndUpdate)))
 
-    pub bump_allowed : (n : ℕ) → at ≡ token_at → n ≡ (left_by me.0).token + 1 → MayFollow me.0 BumpToken
+    pub bump_allowed : (n : ℕ) → at ≡ token_at → n ≡ (state_of_view me.0).token + 1 → MayFollow me.0 BumpToken
         → Allows (Holds o) slots id me at (λ _. n) (λ _. WriterGains BumpToken me)
     bump_allowed n place next may = store_allowed n BumpToken may (λ _. tt)
         (λ words w is now laid.
-        let one : (left_by me.0).token ≡ (tables_by seen).token =
+        let one : (state_of_view me.0).token ≡ (tables_by seen).token =
         ap (λ (z : InitialData). (state_after (initial_state_of z) seen).token) is in
         let two : w.state.token ≡ (tables_by seen).token = ap (λ (z : TableState). z.token) now in
         let same : n ≡ suc w.state.token = omega (arith, next, one, two) in

@@ -38,7 +38,7 @@ coded_words = code_by (TableId × (InitialData × Layout))
 -- and addresses of at most 32 bits
 pub record IsOf (w : WordsAt) (seat : TableId) (v : View) : Type 0 where
   pub same : seat ≡ w.table
-  pub opening_is : v.initial ≡ w.initial
+  pub initial_is : v.initial ≡ w.initial
   pub widths : w.initial.first + w.initial.second ≤ 32
   pub firsts : w.layout.firsts ≡ length w.initial.firsts
   pub seconds : w.layout.seconds ≡ length w.initial.seconds
@@ -49,8 +49,8 @@ pub record IsOf (w : WordsAt) (seat : TableId) (v : View) : Type 0 where
 -- ---- the writer
 
 -- what the steps of the writer's view leave
-abbrev pub left_by : View → TableState
-left_by v = state_after (initial_state_of v.initial) v.seen
+abbrev pub state_of_view : View → TableState
+state_of_view v = state_after (initial_state_of v.initial) v.seen
 
 -- the step may follow those of the writer's view
 abbrev pub MayFollow : View → WriterStep → Type 0

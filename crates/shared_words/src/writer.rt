@@ -3,7 +3,7 @@
 ghost use Rattle.std.specs.Prelude.{◌≡◌, ℕ, ◌+◌, ◌<◌, slice_index};
 ghost use Rattle.lpm_trace.specs.declared.step.WriterStep.TheVariants.{StoreFirst, StoreSecond, BeginUpdate as OpensUpdate, EndUpdate, BumpToken, LoadCounter};
 ghost use Rattle.shared_words.specs.Rule.{with_one_more, worker_view};
-ghost use Rattle.shared_words.specs.Seats.{IsOf, AreLawful, MayFollow, left_by, with_step};
+ghost use Rattle.shared_words.specs.Seats.{IsOf, AreLawful, MayFollow, state_of_view, with_step};
 
 use crate::initial::InitialContent;
 use crate::law::{BumpsToken, ClosesUpdates, Looks, NextWorker, Place, load_as, store_as};
@@ -80,7 +80,7 @@ impl WriterSeat {
         number: u64,
     )
         requires own { IsOf table.now self.old.table self.old.view }
-        requires next { number ≡ (left_by self.old.view).sequence + 1 }
+        requires next { number ≡ (state_of_view self.old.view).sequence + 1 }
         requires may { MayFollow self.old.view (OpensUpdate change.now) }
         ensures own { self.new.table ≡ self.old.table }
         ensures step { self.new.view ≡ with_step self.old.view (OpensUpdate change.now) }
@@ -93,7 +93,7 @@ impl WriterSeat {
     #[inline]
     pub fn close_update<T: InitialContent>(&mut self, table: &SharedWords<T>, number: u64)
         requires own { IsOf table.now self.old.table self.old.view }
-        requires next { number ≡ (left_by self.old.view).sequence + 1 }
+        requires next { number ≡ (state_of_view self.old.view).sequence + 1 }
         requires may { MayFollow self.old.view EndUpdate }
         ensures own { self.new.table ≡ self.old.table }
         ensures step { self.new.view ≡ with_step self.old.view EndUpdate }
@@ -106,7 +106,7 @@ impl WriterSeat {
     #[inline]
     pub fn bump_token<T: InitialContent>(&mut self, table: &SharedWords<T>, token: u64)
         requires own { IsOf table.now self.old.table self.old.view }
-        requires next { token ≡ (left_by self.old.view).token + 1 }
+        requires next { token ≡ (state_of_view self.old.view).token + 1 }
         requires may { MayFollow self.old.view BumpToken }
         ensures own { self.new.table ≡ self.old.table }
         ensures step { self.new.view ≡ with_step self.old.view BumpToken }
@@ -139,7 +139,7 @@ impl WriterSeat {
         requires own { IsOf table.now self.old.table self.old.view }
         requires index { i < table.now.layout.firsts }
         ensures same { self.new ≡ self.old }
-        ensures value { result ≡ slice_index (left_by self.old.view).words.firsts i }
+        ensures value { result ≡ slice_index (state_of_view self.old.view).words.firsts i }
     {
         let at = first_at(i);
         half(i, table.board.shared.load::<Looks>(&mut self.place, at))
@@ -151,7 +151,7 @@ impl WriterSeat {
         requires own { IsOf table.now self.old.table self.old.view }
         requires index { j < table.now.layout.seconds }
         ensures same { self.new ≡ self.old }
-        ensures value { result ≡ slice_index (left_by self.old.view).words.seconds j }
+        ensures value { result ≡ slice_index (state_of_view self.old.view).words.seconds j }
     {
         let at = table.layout.second_at(j);
         half(j, table.board.shared.load::<Looks>(&mut self.place, at))
@@ -162,7 +162,7 @@ impl WriterSeat {
     pub fn sequence<T: InitialContent>(&mut self, table: &SharedWords<T>) -> u64
         requires own { IsOf table.now self.old.table self.old.view }
         ensures same { self.new ≡ self.old }
-        ensures value { result ≡ (left_by self.old.view).sequence }
+        ensures value { result ≡ (state_of_view self.old.view).sequence }
     {
         let shared = &table.board.shared;
         shared.load::<Looks>(&mut self.place, Layout::SEQUENCE)
@@ -173,7 +173,7 @@ impl WriterSeat {
     pub fn token<T: InitialContent>(&mut self, table: &SharedWords<T>) -> u64
         requires own { IsOf table.now self.old.table self.old.view }
         ensures same { self.new ≡ self.old }
-        ensures value { result ≡ (left_by self.old.view).token }
+        ensures value { result ≡ (state_of_view self.old.view).token }
     {
         let shared = &table.board.shared;
         shared.load::<Looks>(&mut self.place, Layout::TOKEN)

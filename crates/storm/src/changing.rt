@@ -7,7 +7,7 @@ ghost use Rattle.storm.specs.Changing.{HasMade, IsForWriter, by_own_steps};
 
 use bulk::Gate;
 use fib_model::{Order, Outcome};
-use qsbr::{Config, Refusal};
+use lpm_limits::{Config, Refusal};
 use shared_fib::{SharedTable, Writer};
 use std::sync::atomic::{AtomicBool, Ordering};
 

@@ -12,11 +12,13 @@ ghost use Rattle.storm.specs.Storm.{EndsStorm, HasMadeAll, IsInRange, answer_cou
 use crate::changing::Recorder;
 use crate::looking::Worker;
 use crate::plan::{Plan, StormError};
-use crate::settling::{count_refused, count_wrong, history_of, meet_all, report_of, settle};
+use crate::settling::{
+    count_refused, count_wrong_answers, history_of, meet_all, report_of, settle,
+};
 use crate::threads::run_threads;
 use audit::StormReport;
 use bulk::Gate;
-use qsbr::Config;
+use lpm_limits::Config;
 use shared_fib::{Bench, Pass, SharedTable, Writer};
 use std::alloc::{AllocError, Global};
 use std::sync::Wait;
@@ -147,7 +149,7 @@ fn finish<R: Threads + Wait + Sync, const FIRST: u32, const SECOND: u32>(
         return Err(StormError::Exhausted);
     };
     let history = history_of(alloc, plan.rules, plan.orders, &recorder.outcomes)?;
-    let wrong = count_wrong(rt, alloc, &history, plan.rules.len(), workers)?;
+    let wrong = count_wrong_answers(rt, alloc, &history, plan.rules.len(), workers)?;
     Ok(StormReport {
         answers: answers as u64,
         refused: count_refused(&recorder.outcomes),

@@ -5,8 +5,8 @@ ghost use Rattle.storm.specs.Storm.{EndsBefore, IsInRange, answer_count, limits_
 ghost use Rattle.storm.specs.declared.plan.StormError.TheVariants.{Memory as IsMemory};
 
 use fib_model::Order;
+use lpm_limits::Config;
 use lpm_rules::Rule;
-use qsbr::Config;
 use std::alloc::AllocError;
 use thiserror::Error;
 

@@ -18,7 +18,7 @@ use std::sync::Wait;
 use std::thread::Threads;
 
 /// The worker's pass meets the writer: it has seen all that the writer has done.
-fn meet<const FIRST: u32, const SECOND: u32>(
+fn meet_worker<const FIRST: u32, const SECOND: u32>(
     table: &SharedTable<FIRST, SECOND>,
     writer: &mut Writer<FIRST, SECOND>,
     worker: &mut Worker,
@@ -56,7 +56,7 @@ pub fn meet_all<const FIRST: u32, const SECOND: u32>(
     ensures answered { All (HasAnswered table.now addrs.now rounds (steps_of writer.old)) workers.new }
 {
     for number in 0..workers.len() {
-        meet(table, writer, &mut workers[number], addrs, rounds);
+        meet_worker(table, writer, &mut workers[number], addrs, rounds);
     }
 }
 
@@ -205,7 +205,7 @@ pub fn count_refused(outcomes: &[Outcome]) -> u64
 }
 
 /// How many of the workers' answers are of no version of these changes, from this version on.
-pub fn count_wrong<R: Threads + Sync, const FIRST: u32, const SECOND: u32>(
+pub fn count_wrong_answers<R: Threads + Sync, const FIRST: u32, const SECOND: u32>(
     rt: &R,
     alloc: Global,
     history: &[Change<FIRST, SECOND>],

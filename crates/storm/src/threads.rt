@@ -14,7 +14,7 @@ use crate::looking::{Lookups, Worker, work};
 use crate::plan::StormError;
 use bulk::Gate;
 use fib_model::{Order, Outcome};
-use qsbr::{Config, Refusal};
+use lpm_limits::{Config, Refusal};
 use shared_fib::SharedTable;
 use std::alloc::{AllocError, Global};
 use std::sync::Wait;

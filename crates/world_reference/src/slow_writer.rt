@@ -9,8 +9,8 @@ use super::{JudgeError, PlainRule, Versions};
 use defer_queue::Reclaimed;
 use interleave::{Change, Kind, Reply, Step};
 use lpm_bits::Hop;
+use lpm_limits::{Busy, Config, Refusal};
 use lpm_rules::Put;
-use qsbr::{Busy, Config, Refusal};
 use std::alloc::{AllocError, AllocFailed, Global};
 use std::collections::VecDeque;
 

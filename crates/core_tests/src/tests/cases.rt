@@ -3,7 +3,7 @@
 //! expected values were worked out by hand.
 
 use super::table::Figures;
-use qsbr::Config;
+use lpm_limits::Config;
 use test_support::USUAL;
 
 /// A worked case of IPv4.

@@ -15,8 +15,7 @@ fn move_on(groups: &mut Groups, group: u32) {
 }
 
 fn assert_counts(rt: &impl Abort, groups: &Groups, counts: Counts) {
-    let found = (groups.counts(), groups.is_any_free());
-    assert_at(rt, "counts", found, (counts, counts.free > 0));
+    assert_at(rt, "counts", groups.counts(), counts);
 }
 
 // A call, and what comes of it.
@@ -45,12 +44,7 @@ fn assert_call(rt: &impl Abort, groups: &mut Groups, call: Call) {
 
 // So many groups, and the calls one after another.
 fn assert_calls(rt: &impl Abort, groups: &mut Groups, len: usize, rows: &[Row]) {
-    assert_at(
-        rt,
-        "groups",
-        (groups.len(), groups.is_empty()),
-        (len, len == 0),
-    );
+    assert_at(rt, "groups", groups.len(), len);
     for (call, in_use, limbo, free) in rows {
         assert_call(rt, groups, *call);
         let counts = Counts {

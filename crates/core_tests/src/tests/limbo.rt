@@ -5,7 +5,8 @@ ghost use Rattle.defer_queue.specs.Longest.{TakesLongest};
 
 use super::asserting::assert_at;
 use defer_queue::{DeferQueue, Grace, Reclaimed};
-use qsbr::{Busy, Domain};
+use lpm_limits::Busy;
+use qsbr::Domain;
 use std::alloc::Global;
 use std::process::Abort;
 
@@ -161,28 +162,32 @@ fn reclaims_by_the_definition(rt: HostRuntime) {
     }
 }
 
-// How many wait, and which is in front.
-fn assert_waiting(rt: &impl Abort, queue: &DeferQueue, len: usize, front: Option<(u32, u64)>) {
-    let ends = (queue.is_empty(), queue.is_full());
-    let wanted = (len, front, (len == 0, len == queue.capacity()));
-    assert_at(rt, "waiting", (queue.len(), queue.front(), ends), wanted);
+// How many wait, which is in front, and whether there is no room for more.
+fn assert_waiting(
+    rt: &impl Abort,
+    queue: &DeferQueue,
+    len: usize,
+    front: Option<(u32, u64)>,
+    is_full: bool,
+) {
+    let found = (queue.len(), queue.front(), queue.is_full());
+    assert_at(rt, "waiting", found, (len, front, is_full));
 }
 
 #[test]
 fn calls_of_a_queue(rt: HostRuntime) {
     let mut queue = DeferQueue::new(rt.alloc(), 2).expect(&rt, "a queue");
-    assert_waiting(&rt, &queue, 0, None);
+    assert_waiting(&rt, &queue, 0, None, false);
     queue.retire(7, 1);
     queue.retire(8, 1 << 62);
-    assert_waiting(&rt, &queue, 2, Some((7, 1)));
+    assert_waiting(&rt, &queue, 2, Some((7, 1)), true);
     queue.take_front();
     queue.retire(9, 3);
-    let found = (queue.capacity(), queue.front());
-    assert_at(&rt, "front", found, (2, Some((8, 1 << 62))));
+    assert_waiting(&rt, &queue, 2, Some((8, 1 << 62)), true);
 }
 
 #[test]
 fn a_queue_of_no_places(rt: HostRuntime) {
     let queue = DeferQueue::new(rt.alloc(), 0).expect(&rt, "a queue");
-    assert_waiting(&rt, &queue, 0, None);
+    assert_waiting(&rt, &queue, 0, None, true);
 }

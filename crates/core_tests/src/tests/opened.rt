@@ -6,9 +6,9 @@ use super::asserting::assert_at;
 use super::table::{assert_numbers, figures, hop, prefix};
 use fib::{Fib, OpenError};
 use lpm_bits::Shape;
+use lpm_limits::{Config, Refusal};
 use lpm_rules::{Put, Rule, Rules};
 use lpm_sweep::{MOST_SORTED, are_in_order, in_order};
-use qsbr::{Config, Refusal};
 use std::alloc::Global;
 use std::process::Abort;
 use test_support::{

@@ -1,5 +1,6 @@
 use super::asserting::assert_at;
-use qsbr::{Busy, Domain};
+use lpm_limits::Busy;
+use qsbr::Domain;
 use std::process::Abort;
 
 // The worker that holds the token, by the definition: of those that are online and behind it, the

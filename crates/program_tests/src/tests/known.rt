@@ -11,7 +11,7 @@ ghost use Rattle.lpm_commands.specs.Migrate.{IsMigrateText};
 use bulk::{Gate, Open};
 use lpm_commands::{apply, explain, lookup, migrate, report, storm};
 use lpm_files::Files;
-use qsbr::Config;
+use lpm_limits::Config;
 use std::alloc::Global;
 use std::io;
 use std::io::Read;

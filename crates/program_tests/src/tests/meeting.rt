@@ -5,7 +5,7 @@ ghost use Rattle.lpm_limits.specs.Limits.{IsConfig};
 use super::asserting::assert_at;
 use super::known::{assert_wrote, known_apply, known_lookup, known_storm};
 use bulk::Gate;
-use qsbr::Config;
+use lpm_limits::Config;
 use test_support::Meeting;
 
 // Two pieces of four addresses, each of which waits before each address for the other one.

@@ -2,7 +2,7 @@
 
 use super::asserting::{assert_at, assert_shown};
 use lpm_files::Failure;
-use qsbr::Refusal;
+use lpm_limits::Refusal;
 use std::alloc::Global;
 use std::process::Abort;
 

@@ -9,8 +9,8 @@ use super::changing::{
 use defer_queue::Reclaimed;
 use fib::Fib;
 use lpm_bits::Shape;
+use lpm_limits::{Busy, Config, Refusal};
 use lpm_rules::Put;
-use qsbr::{Busy, Config, Refusal};
 use shared_fib::{Bench, Exhausted, Pass, RegisterError, go_live, open};
 use std::alloc::Global;
 use std::process::Abort;

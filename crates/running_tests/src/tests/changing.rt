@@ -4,8 +4,8 @@ ghost use Rattle.lpm_bits.specs.Widths.{IsShape};
 
 use super::asserting::assert_at;
 use lpm_groups::Counts;
+use lpm_limits::Config;
 use lpm_rules::{Put, Rule};
-use qsbr::Config;
 use shared_fib::{SharedTable, Writer};
 use std::process::Abort;
 use test_support::{Change, Plain, USUAL, rule_of};

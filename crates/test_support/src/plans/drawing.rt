@@ -10,7 +10,7 @@ use super::changes::draw_changes;
 use super::draw::Draw;
 use super::schedules::{in_bursts, in_turn};
 use super::scripts::draw_scripts;
-use qsbr::Config;
+use lpm_limits::Config;
 use std::alloc::{AllocError, Global};
 
 /// How many changes and items of the schedule a plan has, and how many deeds each worker has at most.

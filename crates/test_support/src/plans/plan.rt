@@ -1,7 +1,7 @@
 //! What a run is made of.
 
 use interleave::{Actor, Change, Deed};
-use qsbr::Config;
+use lpm_limits::Config;
 
 /// What a run is made of.
 #[derive(Drop)]

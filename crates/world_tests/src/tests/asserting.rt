@@ -3,8 +3,8 @@
 use super::plan::hop;
 use defer_queue::Reclaimed;
 use interleave::{Actor, Kind, Reply, Seen, Step, Trace};
+use lpm_limits::Refusal;
 use lpm_rules::Put;
-use qsbr::Refusal;
 use std::fmt::Debug;
 use std::process::Abort;
 

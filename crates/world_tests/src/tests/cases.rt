@@ -7,8 +7,8 @@ use super::asserting::{
 use super::plan::{Edit, ONE_GROUP, played};
 use defer_queue::Reclaimed;
 use interleave::{Actor, Deed, Kind, Trace};
+use lpm_limits::{Busy, Config, Refusal};
 use lpm_rules::Put;
-use qsbr::{Busy, Config, Refusal};
 use std::alloc::Global;
 use std::process::Abort;
 use std::test::Fail;

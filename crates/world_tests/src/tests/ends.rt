@@ -4,8 +4,8 @@ use super::asserting::{Answer, assert_at, assert_replies, assert_reply, assert_t
 use super::plan::{Edit, ONE_GROUP, judged, planned, played, run};
 use defer_queue::Reclaimed;
 use interleave::{Actor, Deed, Kind, Reply, RunError, Trace};
+use lpm_limits::{Busy, Config, Refusal};
 use lpm_rules::Put;
-use qsbr::{Busy, Config, Refusal};
 use std::alloc::{AllocError, Global};
 use std::process::Abort;
 use std::test::Fail;

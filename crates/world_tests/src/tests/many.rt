@@ -4,7 +4,7 @@ ghost use Rattle.lpm_bits.specs.Widths.{IsShape};
 
 use super::asserting::assert_at;
 use super::plan::{ONE_GROUP, judged, run};
-use qsbr::Config;
+use lpm_limits::Config;
 use std::alloc::{AllocError, Global};
 use std::ops::Range;
 use std::process::Abort;

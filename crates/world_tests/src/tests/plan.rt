@@ -7,7 +7,7 @@ ghost use Rattle.interleave.specs.Scripts.{IsSound};
 use super::asserting::assert_at;
 use interleave::{Actor, Change, Deed, RunError, Trace, World, script_ok};
 use lpm_bits::{Hop, Prefix, Shape};
-use qsbr::Config;
+use lpm_limits::Config;
 use std::alloc::{AllocError, Global};
 use std::fmt::Debug;
 use std::process::Abort;

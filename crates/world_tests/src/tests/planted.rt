@@ -2,7 +2,7 @@
 
 use super::plan::{Edit, ONE_GROUP, assert_refused, hop, judged, planned, prefix};
 use interleave::{Actor, Change, Deed, Kind, Step, Trace};
-use qsbr::Config;
+use lpm_limits::Config;
 use std::alloc::Global;
 use std::process::Abort;
 use std::test::Fail;

@@ -5,8 +5,8 @@ use Rattle.bulk.specs.Desks.{IsDeskOf, HasMet}
 use Rattle.bulk.proofs.Meetings.{none_yet, one_more}
 use Rattle.bulk.proofs.running.meet_all.Goals as goal
 
-pub meet-requires : goal.meet-requires
-meet-requires g c =
+pub meet_desk-requires : goal.meet_desk-requires
+meet_desk-requires g c =
     let i = c.loop-number.number in
     let d = c.index-desks-number.result in
     let same = c.loop-number.invariant.met.rest i d (omega arith) in (
@@ -31,9 +31,9 @@ loop-number-preserved g c =
     let old : Desk = get_or desks i c.index-desks-number.result in
     let within : i < length desks = omega arith in
     record {
-      met = one_more (HasMet c.args.writer.now) i c.args.desks.now desks c.index-desks-number.result c.meet.new.desk within known.met
-          (subst (λ (w : WriterState). HasMet w old c.meet.new.desk) known.same c.meet.ensures.met);
-      same = c.meet.ensures.same ∙ known.same;
+      met = one_more (HasMet c.args.writer.now) i c.args.desks.now desks c.index-desks-number.result c.meet_desk.new.desk within known.met
+          (subst (λ (w : WriterState). HasMet w old c.meet_desk.new.desk) known.same c.meet_desk.ensures.met);
+      same = c.meet_desk.ensures.same ∙ known.same;
     }
 
 pub returns-clause-met : goal.returns-clause-met

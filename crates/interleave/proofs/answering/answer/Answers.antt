@@ -10,7 +10,7 @@ use Rattle.interleave.specs.View.{WorldView}
 use Rattle.interleave.specs.World.{WorldDid, scripts_and_schedule}
 use Rattle.interleave.specs.declared.reply.Reply.{Reply}
 use Rattle.interleave.specs.Runs.{Answers, state_by_steps}
-use Rattle.interleave.proofs.Ends.{Setting, does_in, stays}
+use Rattle.interleave.proofs.Ends.{ScriptsAndSchedule, does_in, stays}
 use Rattle.interleave.proofs.answering.answer.Goals as goal
 use Rattle.interleave.proofs.answering.answer.Goals.{in-Add+in-Ok, in-Add+in-Err+in_default, in-Delete+in-Ok-delete_rule, in-Delete+in-Err-delete_rule, in-Flush+in-Ok-flush_rules, in-Flush+in-Err-flush_rules, in-Reclaim}
 
@@ -39,33 +39,33 @@ returns-clause-replies g c = λ setup steps did rests.
     × Answers setup f s config (state_by_steps old.rules steps old.pool old.versions) change r (state_by_steps l.rules later l.pool l.versions) in
     elim c.match-change.branch [
       | in-Add+in-Ok w ↦ carried Came w.in-Add.is w.memory-is w.control-is w.reply-is
-          (came (w.in-Ok.ensures.adds setup steps did rests) (λ later does. (adds_alone WorldView (does_in f s) setup Setting scripts_and_schedule (stays f s) kind f s config before
+          (came (w.in-Ok.ensures.adds setup steps did rests) (λ later does. (adds_alone WorldView (does_in f s) setup ScriptsAndSchedule scripts_and_schedule (stays f s) kind f s config before
           (after w.add_rule.new.memory w.add_rule.new.control later) refl w.in-Add.prefix w.in-Add.hop (Ok w.in-Ok.put) does).0))
       | in-Add+in-Err+in_default w ↦ carried Came w.in-Add.is w.memory-is w.control-is w.reply-is
           (came (w.in-Err.ensures.adds setup steps did rests) (λ later does. (
             w.in_default.not-Memory,
-            (adds_alone WorldView (does_in f s) setup Setting scripts_and_schedule (stays f s) kind f s config before
+            (adds_alone WorldView (does_in f s) setup ScriptsAndSchedule scripts_and_schedule (stays f s) kind f s config before
                 (after w.add_rule.new.memory w.add_rule.new.control later) refl w.in-Add.prefix w.in-Add.hop (Err w.in-Err.refusal) does).0,
           )))
       | in-Delete+in-Ok-delete_rule w ↦ carried Came w.in-Delete.is w.memory-is w.control-is w.reply-is
-          (came (w.in-Ok-delete_rule.ensures.deletes setup steps did rests) (λ later does. (deletes_alone WorldView (does_in f s) setup Setting scripts_and_schedule (stays f s) kind f s config before
+          (came (w.in-Ok-delete_rule.ensures.deletes setup steps did rests) (λ later does. (deletes_alone WorldView (does_in f s) setup ScriptsAndSchedule scripts_and_schedule (stays f s) kind f s config before
           (after w.delete_rule.new.memory w.delete_rule.new.control later) refl w.in-Delete.prefix (Ok w.in-Ok-delete_rule.hop) does).0))
       | in-Delete+in-Err-delete_rule w ↦ carried Came w.in-Delete.is w.memory-is w.control-is w.reply-is
-          (came (w.in-Err-delete_rule.ensures.deletes setup steps did rests) (λ later does. (deletes_alone WorldView (does_in f s) setup Setting scripts_and_schedule (stays f s) kind f s config before
+          (came (w.in-Err-delete_rule.ensures.deletes setup steps did rests) (λ later does. (deletes_alone WorldView (does_in f s) setup ScriptsAndSchedule scripts_and_schedule (stays f s) kind f s config before
           (after w.delete_rule.new.memory w.delete_rule.new.control later) refl w.in-Delete.prefix (Err w.in-Err-delete_rule.refusal) does).0))
       | in-Flush+in-Ok-flush_rules w ↦ carried Came w.in-Flush.is w.memory-is w.control-is w.reply-is
-          (came (w.in-Ok-flush_rules.ensures.flushes setup steps did rests) (λ later does. (flushes_alone WorldView (does_in f s) setup Setting scripts_and_schedule (stays f s) kind f s config before
+          (came (w.in-Ok-flush_rules.ensures.flushes setup steps did rests) (λ later does. (flushes_alone WorldView (does_in f s) setup ScriptsAndSchedule scripts_and_schedule (stays f s) kind f s config before
           (after w.flush_rules.new.memory w.flush_rules.new.control later) refl (Ok w.in-Ok-flush_rules.count) does).0))
       | in-Flush+in-Err-flush_rules w ↦ carried Came w.in-Flush.is w.memory-is w.control-is w.reply-is
-          (came (w.in-Err-flush_rules.ensures.flushes setup steps did rests) (λ later does. (flushes_alone WorldView (does_in f s) setup Setting scripts_and_schedule (stays f s) kind f s config before
+          (came (w.in-Err-flush_rules.ensures.flushes setup steps did rests) (λ later does. (flushes_alone WorldView (does_in f s) setup ScriptsAndSchedule scripts_and_schedule (stays f s) kind f s config before
           (after w.flush_rules.new.memory w.flush_rules.new.control later) refl (Err w.in-Err-flush_rules.refusal) does).0))
       | in-Reclaim w ↦ carried Came w.in-Reclaim.is w.memory-is w.control-is w.reply-is
-          (came (w.reclaim_groups.ensures.frees setup steps did rests) (λ later does. (frees_alone WorldView (does_in f s) setup Setting scripts_and_schedule (stays f s) kind f s config before
+          (came (w.reclaim_groups.ensures.frees setup steps did rests) (λ later does. (frees_alone WorldView (does_in f s) setup ScriptsAndSchedule scripts_and_schedule (stays f s) kind f s config before
           (after w.reclaim_groups.new.memory w.reclaim_groups.new.control later) refl w.in-Reclaim.max w.reclaim_groups.result does).0))
     ]
 
-pub returns-clause-setting : goal.returns-clause-setting
-returns-clause-setting g c =
+pub returns-clause-scripts : goal.returns-clause-scripts
+returns-clause-scripts g c =
     let f = g.row.FIRST in
     let s = g.row.SECOND in
     let old = c.args.control.now in
@@ -78,31 +78,31 @@ returns-clause-setting g c =
     elim c.match-change.branch [
       | in-Add+in-Ok w ↦
           let now = w.in-Ok.ensures.adds rests.0 rests.1 rests.2 rests.3 in
-          ap scripts_and_schedule w.memory-is ∙ (adds_alone WorldView (does_in f s) rests.0 Setting scripts_and_schedule (stays f s) kind f s config before
+          ap scripts_and_schedule w.memory-is ∙ (adds_alone WorldView (does_in f s) rests.0 ScriptsAndSchedule scripts_and_schedule (stays f s) kind f s config before
           (after w.add_rule.new.memory w.add_rule.new.control now.0) refl w.in-Add.prefix w.in-Add.hop (Ok w.in-Ok.put) now.3).1
       | in-Add+in-Err+in_default w ↦
           let now = w.in-Err.ensures.adds rests.0 rests.1 rests.2 rests.3 in
-          ap scripts_and_schedule w.memory-is ∙ (adds_alone WorldView (does_in f s) rests.0 Setting scripts_and_schedule (stays f s) kind f s config before
+          ap scripts_and_schedule w.memory-is ∙ (adds_alone WorldView (does_in f s) rests.0 ScriptsAndSchedule scripts_and_schedule (stays f s) kind f s config before
           (after w.add_rule.new.memory w.add_rule.new.control now.0) refl w.in-Add.prefix w.in-Add.hop (Err w.in-Err.refusal) now.3).1
       | in-Delete+in-Ok-delete_rule w ↦
           let now = w.in-Ok-delete_rule.ensures.deletes rests.0 rests.1 rests.2 rests.3 in
-          ap scripts_and_schedule w.memory-is ∙ (deletes_alone WorldView (does_in f s) rests.0 Setting scripts_and_schedule (stays f s) kind f s config before
+          ap scripts_and_schedule w.memory-is ∙ (deletes_alone WorldView (does_in f s) rests.0 ScriptsAndSchedule scripts_and_schedule (stays f s) kind f s config before
           (after w.delete_rule.new.memory w.delete_rule.new.control now.0) refl w.in-Delete.prefix (Ok w.in-Ok-delete_rule.hop) now.3).1
       | in-Delete+in-Err-delete_rule w ↦
           let now = w.in-Err-delete_rule.ensures.deletes rests.0 rests.1 rests.2 rests.3 in
-          ap scripts_and_schedule w.memory-is ∙ (deletes_alone WorldView (does_in f s) rests.0 Setting scripts_and_schedule (stays f s) kind f s config before
+          ap scripts_and_schedule w.memory-is ∙ (deletes_alone WorldView (does_in f s) rests.0 ScriptsAndSchedule scripts_and_schedule (stays f s) kind f s config before
           (after w.delete_rule.new.memory w.delete_rule.new.control now.0) refl w.in-Delete.prefix (Err w.in-Err-delete_rule.refusal) now.3).1
       | in-Flush+in-Ok-flush_rules w ↦
           let now = w.in-Ok-flush_rules.ensures.flushes rests.0 rests.1 rests.2 rests.3 in
-          ap scripts_and_schedule w.memory-is ∙ (flushes_alone WorldView (does_in f s) rests.0 Setting scripts_and_schedule (stays f s) kind f s config before
+          ap scripts_and_schedule w.memory-is ∙ (flushes_alone WorldView (does_in f s) rests.0 ScriptsAndSchedule scripts_and_schedule (stays f s) kind f s config before
           (after w.flush_rules.new.memory w.flush_rules.new.control now.0) refl (Ok w.in-Ok-flush_rules.count) now.3).1
       | in-Flush+in-Err-flush_rules w ↦
           let now = w.in-Err-flush_rules.ensures.flushes rests.0 rests.1 rests.2 rests.3 in
-          ap scripts_and_schedule w.memory-is ∙ (flushes_alone WorldView (does_in f s) rests.0 Setting scripts_and_schedule (stays f s) kind f s config before
+          ap scripts_and_schedule w.memory-is ∙ (flushes_alone WorldView (does_in f s) rests.0 ScriptsAndSchedule scripts_and_schedule (stays f s) kind f s config before
           (after w.flush_rules.new.memory w.flush_rules.new.control now.0) refl (Err w.in-Err-flush_rules.refusal) now.3).1
       | in-Reclaim w ↦
           let now = w.reclaim_groups.ensures.frees rests.0 rests.1 rests.2 rests.3 in
-          ap scripts_and_schedule w.memory-is ∙ (frees_alone WorldView (does_in f s) rests.0 Setting scripts_and_schedule (stays f s) kind f s config before
+          ap scripts_and_schedule w.memory-is ∙ (frees_alone WorldView (does_in f s) rests.0 ScriptsAndSchedule scripts_and_schedule (stays f s) kind f s config before
           (after w.reclaim_groups.new.memory w.reclaim_groups.new.control now.0) refl w.in-Reclaim.max w.reclaim_groups.result now.3).1
     ]
 

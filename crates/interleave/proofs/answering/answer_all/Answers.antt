@@ -6,7 +6,7 @@ use Rattle.lpm_writer.specs.declared.control.ControlState.{ControlState}
 use Rattle.interleave.specs.View.{WorldView}
 use Rattle.interleave.specs.declared.reply.Reply.{Reply}
 use Rattle.interleave.proofs.Items.{items_few}
-use Rattle.interleave.proofs.Reaching.{setting_stays}
+use Rattle.interleave.proofs.Reaching.{scripts_stay}
 use Rattle.interleave.proofs.Ends.{HasAnswered, HasEnded, HasCome, IsLate, answered_more, ends_all, ends_before, ends_late, ends_waiting}
 use Rattle.interleave.proofs.answering.answer_all.Goals as goal
 
@@ -39,7 +39,7 @@ returns-then-not-reach-clause-performed g c =
     let done = take i all in
     whole all i change c.loop-change-test.true c.change-item.is
     (ends_before f s c.args.memory.now c.args.control.now done c.loop-change.replies.items c.loop-change.memory c.reach.new.self c.loop-change.control
-    c.loop-change.invariant.answered c.loop-change.invariant.setting_is c.if-not-reach.ensures.reaches change (drop (suc i) all) c.if-not-reach.ensures.left)
+    c.loop-change.invariant.answered c.loop-change.invariant.scripts_are c.if-not-reach.ensures.reaches change (drop (suc i) all) c.if-not-reach.ensures.left)
 
 pub answer-requires : goal.answer-requires
 answer-requires g c =
@@ -58,11 +58,11 @@ returns-in_default-clause-performed g c =
     let y = c.reach.new.self in
     let m' = c.answer.new.memory in
     let l' = c.answer.new.control in
-    let still = c.in_ok-reply.ensures.setting ∙ setting_stays c.loop-change.memory y c.if-not-reach.ensures.shared ∙ c.loop-change.invariant.setting_is in
+    let still = c.in_ok-reply.ensures.scripts ∙ scripts_stay c.loop-change.memory y c.if-not-reach.ensures.shared ∙ c.loop-change.invariant.scripts_are in
     let come : HasCome f s y c.loop-change.control change c.args.tries None m' l' = subst (λ came. HasCome f s y c.loop-change.control change c.args.tries came m' l') c.in_default.is c.in_ok-reply.ensures.replies in
     whole all i change c.loop-change-test.true c.change-item.is
     (ends_waiting f s c.args.memory.now c.args.control.now done c.loop-change.replies.items c.loop-change.memory y c.loop-change.control
-    c.loop-change.invariant.answered c.loop-change.invariant.setting_is c.if-not-reach.ensures.reaches change (drop (suc i) all) c.args.tries m' l'
+    c.loop-change.invariant.answered c.loop-change.invariant.scripts_are c.if-not-reach.ensures.reaches change (drop (suc i) all) c.args.tries m' l'
     c.loop-change.invariant.config c.if-not-reach.ensures.left still (omega (arith, items_few c.args.memory.now.schedule, c.requires.tries)) come)
 
 pub returns-then-is_stopped-clause-performed : goal.returns-then-is_stopped-clause-performed
@@ -76,11 +76,11 @@ returns-then-is_stopped-clause-performed g c =
     let y = c.reach.new.self in
     let m' = c.answer.new.memory in
     let l' = c.answer.new.control in
-    let still = c.in_ok-reply.ensures.setting ∙ setting_stays c.loop-change.memory y c.if-not-reach.ensures.shared ∙ c.loop-change.invariant.setting_is in
+    let still = c.in_ok-reply.ensures.scripts ∙ scripts_stay c.loop-change.memory y c.if-not-reach.ensures.shared ∙ c.loop-change.invariant.scripts_are in
     let come : HasCome f s y c.loop-change.control change c.args.tries (Some c.in-Some.reply) m' l' = subst (λ came. HasCome f s y c.loop-change.control change c.args.tries came m' l') c.in-Some.is c.in_ok-reply.ensures.replies in
     whole all i change c.loop-change-test.true c.change-item.is
     (ends_late f s c.args.memory.now c.args.control.now done c.loop-change.replies.items c.loop-change.memory y c.loop-change.control
-    c.loop-change.invariant.answered c.loop-change.invariant.setting_is c.if-not-reach.ensures.reaches change (drop (suc i) all) c.args.tries m' l'
+    c.loop-change.invariant.answered c.loop-change.invariant.scripts_are c.if-not-reach.ensures.reaches change (drop (suc i) all) c.args.tries m' l'
     c.loop-change.invariant.config c.if-not-reach.ensures.left still c.in-Some.reply come (subst (IsLate f s m') c.if-is_stopped.true c.is_stopped.ensures))
 
 pub loop-change-preserved : goal.loop-change-preserved
@@ -94,18 +94,18 @@ loop-change-preserved g c =
     let y = c.reach.new.self in
     let m' = c.answer.new.memory in
     let l' = c.answer.new.control in
-    let still = c.in_ok-reply.ensures.setting ∙ setting_stays c.loop-change.memory y c.if-not-reach.ensures.shared ∙ c.loop-change.invariant.setting_is in
+    let still = c.in_ok-reply.ensures.scripts ∙ scripts_stay c.loop-change.memory y c.if-not-reach.ensures.shared ∙ c.loop-change.invariant.scripts_are in
     let come : HasCome f s y c.loop-change.control change c.args.tries (Some c.in-Some.reply) m' l' = subst (λ came. HasCome f s y c.loop-change.control change c.args.tries came m' l') c.in-Some.is c.in_ok-reply.ensures.replies in
     let more : HasAnswered f s c.args.memory.now c.args.control.now (done ++ change ∷ []) (c.loop-change.replies.items ++ c.in-Some.reply ∷ []) m' l' =
     answered_more f s c.args.memory.now c.args.control.now done c.loop-change.replies.items c.loop-change.memory y c.loop-change.control
-    c.loop-change.invariant.answered c.loop-change.invariant.setting_is c.if-not-reach.ensures.reaches change (drop (suc i) all) c.args.tries m' l'
+    c.loop-change.invariant.answered c.loop-change.invariant.scripts_are c.if-not-reach.ensures.reaches change (drop (suc i) all) c.args.tries m' l'
     c.loop-change.invariant.config c.if-not-reach.ensures.left still c.in-Some.reply come (subst (IsLate f s m') c.if-is_stopped.false c.is_stopped.ensures) in
     let ok : is_ok c.push.result ≡ true = c.is_err.ensures.negation ∙ ap not c.if-is_err.false in
     let pushed : c.push.new.self.items ≡ c.loop-change.replies.items ++ c.in-Some.reply ∷ [] =
     c.push.ensures.items ∙ ap (λ b. if b then (c.loop-change.replies.items ++ c.in-Some.reply ∷ []) else c.loop-change.replies.items) ok in
     record {
       config = c.answer.ensures.config ∙ c.loop-change.invariant.config;
-      setting_is = still;
+      scripts_are = still;
       answered = subst (λ xs. HasAnswered f s c.args.memory.now c.args.control.now xs c.push.new.self.items m' l') (sym (one_more all i change c.loop-change-test.true c.change-item.is))
           (subst (λ xs. HasAnswered f s c.args.memory.now c.args.control.now (done ++ change ∷ []) xs m' l') (sym pushed) more);
     }
@@ -117,5 +117,5 @@ returns-clause-performed g c =
     let all = c.args.changes.now in
     let whole = take_all c.loop-change.change-index all (omega (arith, c.loop-change-test.false)) in
     let ends = ends_all f s c.args.memory.now c.args.control.now (take c.loop-change.change-index all) c.loop-change.replies.items c.loop-change.memory c.loop-change.memory c.loop-change.control
-    c.loop-change.invariant.answered c.loop-change.invariant.setting_is (λ c' steps did. did) in
+    c.loop-change.invariant.answered c.loop-change.invariant.scripts_are (λ c' steps did. did) in
     subst (λ xs. HasEnded f s c.args.memory.now c.args.control.now xs c.loop-change.replies.items c.loop-change.memory) whole ends

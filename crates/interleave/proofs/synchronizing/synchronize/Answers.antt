@@ -9,7 +9,7 @@ use Rattle.interleave.specs.View.{WorldView}
 use Rattle.interleave.specs.World.{WorldDid, scripts_and_schedule}
 use Rattle.interleave.specs.WorldLaws.{world_shows}
 use Rattle.interleave.specs.Runs.{Waits, state_by_steps, next_token}
-use Rattle.interleave.proofs.Ends.{Setting, does_in, stays}
+use Rattle.interleave.proofs.Ends.{ScriptsAndSchedule, does_in, stays}
 use Rattle.interleave.proofs.Waited.{waited_none, waited_more}
 use Rattle.interleave.proofs.synchronizing.synchronize.Goals as goal
 
@@ -24,7 +24,7 @@ loop-check-init g c =
     let rests = c.requires.rests in
     record {
       control = refl;
-      setting_is = (c.in_default.ensures.starts rests.0 rests.1 rests.2 rests.3).2.0.0;
+      scripts_are = (c.in_default.ensures.starts rests.0 rests.1 rests.2 rests.3).2.0.0;
       waited = waited_none (WorldDid f s) f s (does_in f s) c.args.memory.now c.start_synchronize.new.memory l.config l.rules l.pool l.versions c.in_default.ensures.starts;
     }
 
@@ -65,8 +65,8 @@ returns-in-Ok-clause-replies g c = λ setup steps did rests.
       ),
     )
 
-pub returns-in-Ok-clause-setting : goal.returns-in-Ok-clause-setting
-returns-in-Ok-clause-setting g c =
+pub returns-in-Ok-clause-scripts : goal.returns-in-Ok-clause-scripts
+returns-in-Ok-clause-scripts g c =
     let f = g.row.FIRST in
     let s = g.row.SECOND in
     let y = c.loop-check.memory in
@@ -74,7 +74,7 @@ returns-in-Ok-clause-setting g c =
     let so_far = c.loop-check.invariant.waited rests.0 rests.1 rests.2 rests.3 in
     let waits = subst (λ l. IsWaiting f s rests.0 so_far.0 l.config l.rules l.pool l.versions) (sym c.loop-check.invariant.control) so_far.2 in
     let now = c.in-Ok.ensures.checks rests.0 so_far.0 so_far.1 waits in
-    checks_fixed WorldView (does_in f s) rests.0 Setting scripts_and_schedule (stays f s) (y, so_far.0) (c.check_synchronize.new.memory, now.0) y.token (Ok tt) now.2 ∙ c.loop-check.invariant.setting_is
+    checks_fixed WorldView (does_in f s) rests.0 ScriptsAndSchedule scripts_and_schedule (stays f s) (y, so_far.0) (c.check_synchronize.new.memory, now.0) y.token (Ok tt) now.2 ∙ c.loop-check.invariant.scripts_are
 
 pub loop-check-preserved : goal.loop-check-preserved
 loop-check-preserved g c =
@@ -91,7 +91,7 @@ loop-check-preserved g c =
     let then = c.in-Err-check_synchronize.ensures.checks rests.0 so_far.0 so_far.1 waits in
     record {
       control = still;
-      setting_is = checks_fixed WorldView (does_in f s) rests.0 Setting scripts_and_schedule (stays f s) (y, so_far.0) (z, then.0) y.token (Err c.in-Err-check_synchronize.field-0) then.2 ∙ c.loop-check.invariant.setting_is;
+      scripts_are = checks_fixed WorldView (does_in f s) rests.0 ScriptsAndSchedule scripts_and_schedule (stays f s) (y, so_far.0) (z, then.0) y.token (Err c.in-Err-check_synchronize.field-0) then.2 ∙ c.loop-check.invariant.scripts_are;
       waited = rw add-one
           (waited_more (WorldDid f s) f s (does_in f s) c.args.memory.now y z l.config l.rules l.pool l.versions c.loop-check._check y.token c.in-Err-check_synchronize.field-0
           c.loop-check.invariant.waited

@@ -61,11 +61,11 @@ run-requires g c =
       allows = allows_along (memory g) g.row.FIRST g.row.SECOND x.control.config c.open.new.self c.args.control.now.pool c.args.update (begins g (goal.at.run-requires g c).After-open) x.memory x.control.pool x.update at;
     }
 
-pub retire-requires : goal.retire-requires
-retire-requires g c =
+pub retire_group-requires : goal.retire_group-requires
+retire_group-requires g c =
     let x = c.loop-group in
     let d = c.requires.due in
-    let at = (goal.at.retire-requires g c).After-open in
+    let at = (goal.at.retire_group-requires g c).After-open in
     let stopped = run_stopped (memory g) g.row.FIRST g.row.SECOND x.control.config c.open.new.self c.args.control.now.pool c.args.update (begins g at)
     x.memory x.control.pool x.update x.invariant.under_way c.in-Some.group c.run.new.self c.run.new.cells c.in-Some.ensures in
     record { linked = stopped.0; queued = x.invariant.under_way.queued; token = stopped.1 (begun g at d.0 d.1 d.2 d.3).3; unlinked = stopped.2 }
@@ -73,11 +73,11 @@ retire-requires g c =
 pub loop-group-preserved : goal.loop-group-preserved
 loop-group-preserved g c =
     let x = c.loop-group in
-    let gone = c.retire.ensures in
+    let gone = c.retire_group.ensures in
     record {
       under_way = run_retired (memory g) g.row.FIRST g.row.SECOND x.control.config c.open.new.self c.args.control.now.pool c.args.update (begins g (goal.at.loop-group-preserved g c).After-open)
           x.memory x.control.pool x.update x.invariant.under_way c.in-Some.group c.run.new.self c.run.new.cells c.in-Some.ensures
-          c.retire.new.memory c.retire.new.pool gone.retires gone.queued gone.states gone.linked gone.others gone.gone;
+          c.retire_group.new.memory c.retire_group.new.pool gone.retires gone.queued gone.states gone.linked gone.others gone.gone;
       config = x.invariant.config;
       rules = x.invariant.rules;
       versions = x.invariant.versions;

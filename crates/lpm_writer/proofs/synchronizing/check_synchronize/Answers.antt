@@ -5,8 +5,8 @@ use Rattle.lpm_writer.specs.Matching.{MayAsk}
 use Rattle.lpm_writer.proofs.Awaiting.{asks_awaited, remembers_awaited, queued_passed, checked}
 use Rattle.lpm_writer.proofs.synchronizing.check_synchronize.Goals as goal
 
-pub check-requires : goal.check-requires
-check-requires g c =
+pub check_token-requires : goal.check_token-requires
+check_token-requires g c =
     let l = c.args.control.now in
     let r = c.requires.waits in
     let newest = c.token-token.ensures.value ∙ (g.met.M.Memory.shows c.args.memory.now r.0 r.1 r.2).1 in
@@ -19,13 +19,13 @@ returns-clause-checks g c = λ setup steps did wait.
     let does = g.M.Memory.does in
     let l = c.args.control.now in
     let m = c.args.memory.now in
-    let z = c.check.new.memory in
-    let r = c.check.result in
+    let z = c.check_token.new.memory in
+    let r = c.check_token.result in
     let value = c.token-token.ensures.value in
     let newest = value ∙ (g.met.M.Memory.shows m setup steps did).1 in
     let may = subst (MayAsk setup steps) (sym newest) (asks_awaited f s setup l.config l.rules l.pool l.versions steps wait) in
-    let done = c.check.ensures.checks setup steps did (remembers_awaited f s setup l.config l.rules l.pool l.versions steps wait) (λ _. may) in
-    let then = checked f s setup l.config l.rules l.pool l.versions steps wait does m z done.0 r c.check.new.passed (subst (λ t. Checks does setup (m, steps) t r (z, done.0)) newest done.2) done.3 c.check.ensures.stopped in
+    let done = c.check_token.ensures.checks setup steps did (remembers_awaited f s setup l.config l.rules l.pool l.versions steps wait) (λ _. may) in
+    let then = checked f s setup l.config l.rules l.pool l.versions steps wait does m z done.0 r c.check_token.new.passed (subst (λ t. Checks does setup (m, steps) t r (z, done.0)) newest done.2) done.3 c.check_token.ensures.stopped in
     (done.0, done.1, subst (λ t. Checks does setup (m, steps) t r (z, done.0)) value done.2, then.0, then.1)
 
 pub returns-clause-queued : goal.returns-clause-queued
@@ -33,4 +33,4 @@ returns-clause-queued g c =
     let l = c.args.control.now in
     let r = c.requires.waits in
     let newest = c.token-token.ensures.value ∙ (g.met.M.Memory.shows c.args.memory.now r.0 r.1 r.2).1 in
-    on_ok_weaker c.check.result (λ more. queued_passed g.row.FIRST g.row.SECOND r.0 l.config l.rules l.pool l.versions r.1 r.3 c.check.new.passed (subst (λ t. t ≤ c.check.new.passed) newest more)) c.check.ensures.passed
+    on_ok_weaker c.check_token.result (λ more. queued_passed g.row.FIRST g.row.SECOND r.0 l.config l.rules l.pool l.versions r.1 r.3 c.check_token.new.passed (subst (λ t. t ≤ c.check_token.new.passed) newest more)) c.check_token.ensures.passed

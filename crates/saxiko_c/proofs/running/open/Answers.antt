@@ -10,7 +10,7 @@ returns-in-Ok c =
     MatchResult-weaker c.boxed.result c.boxed.ensures
     (λ b is. subst (IsOpened c.args.config) (sym (is ∙ c.new.ensures)) (record {
       opened = known.opened;
-      setup = known.initial;
+      initial = known.initial;
       token = known.token;
       workers = known.workers;
       at_rest = refl;

@@ -38,9 +38,9 @@ new-requires-2 g c =
     let o : InitialData = initial_data_of f s l in
     let words = c.in_ok-words in
     let bench = c.in_ok-bench.ensures in
-    let z = c.first_ledger-control.result in
+    let z = c.first_control-control.result in
     let rests = subst (λ (y : ControlState f s). IsResting f s (initial_state_of o) [] y.config y.rules y.pool y.versions)
-    (sym c.first_ledger-control.ensures) c.requires.rests in (
+    (sym c.first_control-control.ensures) c.requires.rests in (
       lit< tt,
       (
         lit< tt,
@@ -53,7 +53,7 @@ pub returns-clause-bench : goal.returns-clause-bench
 returns-clause-bench g c =
     let words = c.in_ok-words.ensures in
     let same : record { words = c.in_ok-words.seat.table; initial = c.in_ok-words.seat.view.initial } ≡ c.new.result =
-    (λ i. record { words = words.own.same i; initial = words.own.opening_is i }) ∙ sym c.new.ensures in
+    (λ i. record { words = words.own.same i; initial = words.own.initial_is i }) ∙ sym c.new.ensures in
     subst (λ (id : Identity). IsFullBench id c.in_ok-bench.bench) same c.in_ok-bench.ensures.full
 
 pub returns-clause-opened : goal.returns-clause-opened
@@ -63,8 +63,8 @@ returns-clause-opened g c =
     let l = c.args.loaded in
     let words = c.in_ok-words in
     let bench = c.in_ok-bench.ensures in
-    let z = c.first_ledger-control.result in
-    let first = c.first_ledger-control.ensures in
+    let z = c.first_control-control.result in
+    let first = c.first_control-control.ensures in
     let none = ap (λ (y : ControlState f s). y.pool.queue.items) first ∙ c.requires.none in
     let opened = opens f s l words.words words.seat.table words.seat.view c.full.new.seat.view bench.view.0
     words.ensures.initial words.ensures.own words.ensures.view bench.view.1

@@ -11,7 +11,7 @@ load_first-word-requires-clause-index g c =
     let begun = c.begin_lookup-low.ensures.step in
     let count = firsts_are _ _ _ _ begun c.history.ensures c.requires.first in
     let same = ap (λ (x : View). length x.initial.firsts) begun.view in
-    let opening = ap (λ (o : InitialData). length o.firsts) own.opening_is in
+    let opening = ap (λ (o : InitialData). length o.firsts) own.initial_is in
     omega (arith, c.first_index.ensures.bound, count, same, opening, own.firsts)
 
 pub load_last-word-requires-clause-next : goal.load_last-word-requires-clause-next

@@ -28,8 +28,8 @@ returns-in_default-clause-failure g c =
       tokens = subst (λ (k : Config). 2 ^ 62 < token_of writer + k.groups) c.requires.made.made.limits tokens;
     }
 
-pub count_wrong-requires-after_bounds : goal.count_wrong-requires-after_bounds
-count_wrong-requires-after_bounds g c κs within =
+pub count_wrong_answers-requires-after_bounds : goal.count_wrong_answers-requires-after_bounds
+count_wrong_answers-requires-after_bounds g c κs within =
     let plan = c.args.plan.now in
     let workers = c.meet_all.new.workers in
     let inside = λ (a : ℕ). a < 2 ^ (g.row.FIRST + g.row.SECOND) in

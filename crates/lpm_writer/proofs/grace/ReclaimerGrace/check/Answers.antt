@@ -1,8 +1,8 @@
 use Rattle.lpm_writer.proofs.Reclaims.{may_ask, on_passed, passes_item}
 use Rattle.lpm_writer.proofs.grace.ReclaimerGrace.check.Goals as goal
 
-pub check-requires : goal.check-requires
-check-requires g c =
+pub check_token-requires : goal.check_token-requires
+check_token-requires g c =
     let s = c.args.self.now in
     let front = c.requires in
     let may = front.2.1 in
@@ -11,5 +11,5 @@ check-requires g c =
 pub returns-clause-passed : goal.returns-clause-passed
 returns-clause-passed g c =
     let s = c.args.self.now in
-    on_passed c.check.result _ (λ ok group rest ready.
-    passes_item g.M.Memory.did g.M.Memory.does s.memory.now s.groups.now s.passed.now group c.args.token rest c.check.new.memory c.check.new.passed c.check.result c.check.ensures.checks ready.0 ready.1 ok)
+    on_passed c.check_token.result _ (λ ok group rest ready.
+    passes_item g.M.Memory.did g.M.Memory.does s.memory.now s.groups.now s.passed.now group c.args.token rest c.check_token.new.memory c.check_token.new.passed c.check_token.result c.check_token.ensures.checks ready.0 ready.1 ok)

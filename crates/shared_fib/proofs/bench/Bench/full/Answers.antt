@@ -9,7 +9,7 @@ returns-clause-full g c =
     let v = seat.view in
     let own = c.requires.own in
     let known = c.loop-worker.invariant in
-    let same = ap (λ (o : InitialData). o.workers) own.opening_is in
+    let same = ap (λ (o : InitialData). o.workers) own.initial_is in
     let all : c.loop-worker.worker ≡ v.initial.workers =
     omega (arith, c.loop-worker-test.false, c.loop-worker.auto.worker-end, own.workers, same) in
     full_bench seat.table v c.loop-worker.passes.items (sym c.loop-worker.passes.ok.0 ∙ (known.len ∙ all))

@@ -12,7 +12,7 @@ first-requires-clause-index g c =
       arith,
       c.requires,
       firsts_length (initial_state_of v.initial) v.seen,
-      ap (λ (o : InitialData). length o.firsts) own.opening_is,
+      ap (λ (o : InitialData). length o.firsts) own.initial_is,
       ap (λ (m : Lent). length (state_of_lent m).words.firsts) c.self.view_is,
       own.firsts,
     )

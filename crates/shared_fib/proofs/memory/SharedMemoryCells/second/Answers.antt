@@ -12,7 +12,7 @@ second-requires-clause-index g c =
       arith,
       c.requires,
       seconds_length (initial_state_of v.initial) v.seen,
-      ap (λ (o : InitialData). length o.seconds) own.opening_is,
+      ap (λ (o : InitialData). length o.seconds) own.initial_is,
       ap (λ (m : Lent). length (state_of_lent m).words.seconds) c.self.view_is,
       own.seconds,
     )

@@ -5,7 +5,7 @@ use Rattle.std.specs.Prelude.{Err}
 use Rattle.lpm_limits.specs.declared.busy.Busy.{Busy}
 use Rattle.lpm_writer.specs.Traced.{Asks, Loads}
 use Rattle.lpm_writer.proofs.Checks.{asked_none, asked_more, asked_all, asked_busy, passes_by}
-use Rattle.lpm_writer.proofs.grace.check.Goals as goal
+use Rattle.lpm_writer.proofs.grace.check_token.Goals as goal
 
 pub loop-worker-init : goal.loop-worker-init
 loop-worker-init g c = record { asked = asked_none g.M.Memory.did g.M.Memory.does g.met.M.Memory.follows c.args.memory.now c.args.token }

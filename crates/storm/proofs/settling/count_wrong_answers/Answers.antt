@@ -7,7 +7,7 @@ use Rattle.audit.specs.Wrong.{AreWrong, version_of}
 use Rattle.storm.specs.Looking.{answers_of_workers}
 use Rattle.storm.specs.declared.looking.Worker.{Worker}
 use Rattle.storm.proofs.Versions.{flat_more, wrong_append, wrong_within}
-use Rattle.storm.proofs.settling.count_wrong.Goals as goal
+use Rattle.storm.proofs.settling.count_wrong_answers.Goals as goal
 
 abbrev answers_of : Worker → List (ℕ × Answer)
 answers_of w = w.answers.items

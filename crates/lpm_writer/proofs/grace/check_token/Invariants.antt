@@ -1,5 +1,5 @@
 use Rattle.lpm_writer.proofs.Checks.{HasAsked}
-use Rattle.lpm_writer.proofs.grace.check.Given as goal
+use Rattle.lpm_writer.proofs.grace.check_token.Given as goal
 
 abbrev pub invariant-loop-worker : goal.invariant-loop-worker
 invariant-loop-worker g l = record {

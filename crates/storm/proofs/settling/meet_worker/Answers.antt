@@ -1,7 +1,7 @@
 use Rattle.std.proofs.Common.{◌∙◌}
 use Rattle.shared_fib.specs.Running.{steps_of}
 use Rattle.storm.proofs.Told.{looked_up}
-use Rattle.storm.proofs.settling.meet.Goals as goal
+use Rattle.storm.proofs.settling.meet_worker.Goals as goal
 
 pub returns-clause-answered : goal.returns-clause-answered
 returns-clause-answered g c =

@@ -10,9 +10,9 @@ use Rattle.lpm_writer.specs.Traced.{by_writer}
 use Rattle.lpm_writer.specs.Waiting.{AreWaiting, IsQueued, IsFreed, tokens_of}
 use Rattle.lpm_writer.proofs.LimboItems.{waiting_set, absent_other, linked_limbo, freed_within, makes_room, retired_queue, retired_room, retired_others, retired_gone}
 use Rattle.lpm_writer.proofs.Reclaims.{may_bump, keeps_bumped, may_make_room, bumped_on, tokens_append}
-use Rattle.lpm_writer.proofs.limbo.retire.Given.{Over}
-use Rattle.lpm_writer.proofs.limbo.retire.Goals.{After-free_waiting}
-use Rattle.lpm_writer.proofs.limbo.retire.Goals as goal
+use Rattle.lpm_writer.proofs.limbo.retire_group.Given.{Over}
+use Rattle.lpm_writer.proofs.limbo.retire_group.Goals.{After-free_waiting}
+use Rattle.lpm_writer.proofs.limbo.retire_group.Goals as goal
 
 pub start-token-requires-clause-may : goal.start-token-requires-clause-may
 start-token-requires-clause-may g c =

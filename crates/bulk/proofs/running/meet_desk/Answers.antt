@@ -1,6 +1,6 @@
 use Rattle.std.proofs.Common.{refl}
 use Rattle.bulk.proofs.Meetings.{met}
-use Rattle.bulk.proofs.running.meet.Goals as goal
+use Rattle.bulk.proofs.running.meet_desk.Goals as goal
 
 pub returns-clause-met : goal.returns-clause-met
 returns-clause-met g c =

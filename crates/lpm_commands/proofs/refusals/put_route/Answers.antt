@@ -4,7 +4,7 @@ use Rattle.lpm_rules.specs.RuleMap.{RuleList}
 use Rattle.fib_model.specs.Outcomes.{groups_in_use}
 use Rattle.lpm_commands.proofs.Filled.{put_fits, put_groups}
 use Rattle.lpm_commands.proofs.Groups.{as_cond}
-use Rattle.lpm_commands.proofs.refusals.put.Goals as goal
+use Rattle.lpm_commands.proofs.refusals.put_route.Goals as goal
 
 pub returns-clause-most : goal.returns-clause-most
 returns-clause-most c =

@@ -1,5 +1,5 @@
 use Rattle.std.proofs.Common.{rules}
-use Rattle.shared_fib.proofs.opening.first_ledger.Goals as goal
+use Rattle.shared_fib.proofs.opening.first_control.Goals as goal
 
 pub returns : goal.returns
 returns g c = search rules

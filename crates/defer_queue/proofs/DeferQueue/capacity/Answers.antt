@@ -1,5 +1,0 @@
-use Rattle.std.proofs.Common.{rules}
-use Rattle.defer_queue.proofs.DeferQueue.capacity.Goals as goal
-
-pub returns : goal.returns
-returns c = search rules
