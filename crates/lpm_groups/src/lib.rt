@@ -4,7 +4,7 @@
 //! `FIRST` bits. A group that was unlinked waits in limbo until no reader can still be in it.
 #![tactic(auto)]
 
-ghost use Rattle.std.specs.Prelude.{◌≡◌, ℕ, ◌+◌, ◌-◌, ◌<◌, ◌≤◌, ◌++◌, length, map, replicate, slice_get, slice_set, IfOk, IfSome, IfNone, IsNone};
+ghost use Rattle.std.specs.Prelude.{◌≡◌, ℕ, ◌+◌, ◌-◌, ◌<◌, ◌≤◌, ◌↔◌, ◌++◌, length, map, replicate, slice_get, slice_set, IfOk, IfSome, IfNone, IsNone};
 ghost use Rattle.lpm_groups.specs.States.{linked_count, limbo_count, free_count, IsLeastFree, IsLinkedAt, IsLimboAt};
 
 use memchr::memchr;
