@@ -19,7 +19,7 @@ use Rattle.lpm_writer.specs.declared.plain_memory.PlainMemory.{PlainMemory}
 use Rattle.lpm_writer.specs.Plain.{PlainDid}
 use Rattle.lpm_writer.specs.declared.control.ControlState.{ControlState}
 use Rattle.lpm_writer.specs.Resting.{IsResting, state_of}
-use Rattle.lpm_writer.specs.Traced.{Traced, by_writer}
+use Rattle.lpm_writer.specs.Traced.{WithSteps, by_writer}
 use Rattle.lpm_writer.proofs.Awaiting.{started_all}
 use Rattle.lpm_writer.proofs.StepsAlone.{named_is, named_same}
 use Rattle.lpm_writer.specs.Commands.{Commands}
@@ -34,20 +34,20 @@ module _ (f s : ℕ) (old : ControlState f s) (m : PlainMemory f s) (known : IsS
   abbrev c : InitialState
   c = known.0
 
-  abbrev S : State (Traced (PlainMemory f s))
+  abbrev S : State (WithSteps (PlainMemory f s))
   S = state_of old.rules.rules (m, known.1) old.pool old.versions
 
   followed : AreFollowed (by_writer (does f s c) c) counter_transitions (Shows f s c) (same_name f s c) f s old.config S (table_of old m)
   followed =
       let k = known.2 in
-      changes_carry_over (Traced (PlainMemory f s)) Registry (by_writer (does f s c) c) counter_transitions (Shows f s c) (same_name f s c) (carries f s c) f s old.config S m.domain S.limbo
+      changes_carry_over (WithSteps (PlainMemory f s)) Registry (by_writer (does f s c) c) counter_transitions (Shows f s c) (same_name f s c) (carries f s c) f s old.config S m.domain S.limbo
       (record { domain = refl; workers = k.did.workers; token = sym k.did.token; passed = k.passed }) (named_same S.limbo)
 
   -- what a command of the writer leaves is kept, and comes out the same by token and counters
   after : (later : List WriterStep) (D : FibState → State Registry → Type 0) → PlainDid f s z.cells z.domain c later → IsResting f s c later new.config new.rules new.pool new.versions
       → Follows (Shows f s c) (same_name f s c) (state_of new.rules.rules (z, later) new.pool new.versions) (D (record { config = old.config; table = table_of old m })) → IsSound f s new z × D x (table_of new z)
   after later D did rests h =
-      let Z : State (Traced (PlainMemory f s)) = state_of new.rules.rules (z, later) new.pool new.versions in
+      let Z : State (WithSteps (PlainMemory f s)) = state_of new.rules.rules (z, later) new.pool new.versions in
       let shows : Shows f s c (z, later) h.0 = h.3 in
       let limbo : h.1 ≡ Z.limbo = named_is Z.limbo h.1 h.4 in
       let seen : FibState = record { config = old.config; table = table_of old m } in (
@@ -65,7 +65,7 @@ module _ (f s : ℕ) (old : ControlState f s) (m : PlainMemory f s) (known : IsS
       )
 
   -- whichever steps led to the memory m, this came of it
-  abbrev Tells : (InitialState → State (Traced (PlainMemory f s)) → State (Traced (PlainMemory f s)) → Type 0) → Type 0
+  abbrev Tells : (InitialState → State (WithSteps (PlainMemory f s)) → State (WithSteps (PlainMemory f s)) → Type 0) → Type 0
   Tells = Commands (λ (y : PlainMemory f s). PlainDid f s y.cells y.domain) old m new z
 
   pub adds : (p : Network) (h : ℕ) (r : Result Put Refusal) → Tells (λ c y w. Adds (by_writer (does f s c) c) f s old.config y p h r w)

@@ -13,7 +13,7 @@ use Rattle.lpm_trace.specs.declared.step.WriterStep.TheVariants.{StoreFirst, Sto
 use Rattle.lpm_trace.specs.States.{InitialState, state_after, lets_pass}
 use Rattle.lpm_writer.specs.declared.plain_memory.PlainMemory.{PlainMemory}
 use Rattle.lpm_writer.specs.Plain.{PlainDoes}
-use Rattle.lpm_writer.specs.Traced.{Traced, Goes, Loads, Checks, Stores, UnlinksNone, by_writer}
+use Rattle.lpm_writer.specs.Traced.{WithSteps, Goes, Loads, Checks, Stores, UnlinksNone, by_writer}
 
 -- ---- counters and tokens
 
@@ -48,7 +48,7 @@ module _ (first second : ℕ) (c : InitialState) where
   does m s z = PlainDoes s m.cells m.domain z.cells z.domain
 
   -- the memory has this token and these counters, each of which is past the tokens that have passed
-  pub record Shows (x : Traced Memory) (r : Registry) : Type 0 where
+  pub record Shows (x : WithSteps Memory) (r : Registry) : Type 0 where
     pub domain : x.0.domain ≡ r
     pub workers : length r.counters ≡ c.workers
     pub token : (state_after c x.1).token ≡ r.token
@@ -70,7 +70,7 @@ module _ (first second : ℕ) (c : InitialState) where
   leaves_domain m z (LoadCounter token worker counter) h d = absurd h
   leaves_domain m z s h d = d.reports
 
-  stays : (x z : Traced Memory) (r : Registry) (s : WriterStep) → Leaves s → Shows x r → Goes does x s z → Shows z r
+  stays : (x z : WithSteps Memory) (r : Registry) (s : WriterStep) → Leaves s → Shows x r → Goes does x s z → Shows z r
   stays x z r s h k goes =
       let same = leaves_token s x.1 h in
       record {
@@ -80,7 +80,7 @@ module _ (first second : ℕ) (c : InitialState) where
         passed = subst (λ p. Passes p r.counters) (sym (ap (λ steps. (state_after c steps).passed) goes.1 ∙ same.1)) k.passed;
       }
 
-  bumps : (x z : Traced Memory) (r : Registry) → Shows x r → Goes does x BumpToken z → Shows z (record r { token = r.token + 1 })
+  bumps : (x z : WithSteps Memory) (r : Registry) → Shows x r → Goes does x BumpToken z → Shows z (record r { token = r.token + 1 })
   bumps x z r k goes = record {
     domain = goes.0.reports ∙ ap (λ (d : Registry). record d { token = d.token + 1 }) k.domain;
     workers = k.workers;
@@ -90,12 +90,12 @@ module _ (first second : ℕ) (c : InitialState) where
 
   -- ---- stores
 
-  plain_leaves : (x : Traced Memory) (s : WriterStep) → UnlinksNone (state_after c x.1) s → Leaves s
+  plain_leaves : (x : WithSteps Memory) (s : WriterStep) → UnlinksNone (state_after c x.1) s → Leaves s
   plain_leaves x (StoreFirst i w) h = tt
   plain_leaves x (StoreSecond j w) h = tt
   plain_leaves x s h = absurd h
 
-  stored : (n : ℕ) (x z : Traced Memory) (r : Registry) → Shows x r → Stores does c n x z → Shows z r
+  stored : (n : ℕ) (x z : WithSteps Memory) (r : Registry) → Shows x r → Stores does c n x z → Shows z r
   stored zero x z r k h = subst (λ y. Shows y r) (sym h) k
   stored (suc n) x z r k h = stays h.0 z r h.1 (plain_leaves h.0 h.1 h.3) (stored n x h.0 r k h.2) h.4
 
@@ -122,7 +122,7 @@ module _ (first second : ℕ) (c : InitialState) where
   ]
 
   -- the counter of one more worker was loaded
-  loaded : (n token counter : ℕ) (y z : Traced Memory) (r : Registry) → Shows y r → AreThrough n token r.counters → Goes does y (LoadCounter token n counter) z → Shows z r × (counter ≡ slice_index r.counters n)
+  loaded : (n token counter : ℕ) (y z : WithSteps Memory) (r : Registry) → Shows y r → AreThrough n token r.counters → Goes does y (LoadCounter token n counter) z → Shows z r × (counter ≡ slice_index r.counters n)
   loaded n token counter y z r k through goes =
       let found : counter ≡ slice_index r.counters n = goes.0.finds ∙ ap (λ (d : Registry). slice_index d.counters n) k.domain in (
         record {
@@ -135,7 +135,7 @@ module _ (first second : ℕ) (c : InitialState) where
         found,
       )
 
-  asked : (n token : ℕ) (x z : Traced Memory) (r : Registry) → Shows x r → Loads does n x token z → Shows z r × AreThrough n token r.counters
+  asked : (n token : ℕ) (x z : WithSteps Memory) (r : Registry) → Shows x r → Loads does n x token z → Shows z r × AreThrough n token r.counters
   asked zero token x z r k h = (subst (λ y. Shows y r) (sym h) k, λ w low. absurd (omega (arith, low)))
   asked (suc n) token x z r k h =
       let before = asked n token x h.0 r k h.2 in
@@ -148,7 +148,7 @@ module _ (first second : ℕ) (c : InitialState) where
       let it = held.0.holds in
       not_past token (slice_index r.counters busy.worker) it.online it.behind (h busy.worker it.registered)
 
-  checked : (x z : Traced Memory) (r : Registry) (token : ℕ) (result : Result (Unit {0}) Busy) → Shows x r → Checks does c x token result z → looks IsFirstByCounter r token result r × Shows z r
+  checked : (x z : WithSteps Memory) (r : Registry) (token : ℕ) (result : Result (Unit {0}) Busy) → Shows x r → Checks does c x token result z → looks IsFirstByCounter r token result r × Shows z r
   checked x z r token result k (inl h) =
       let old : Passes token r.counters = λ w low. older_past token (state_after c x.1).passed (slice_index r.counters w) h.0 (k.passed w low) in
       (subst (λ a. looks IsFirstByCounter r token a r) (sym h.1) (none_holds token r old, refl), subst (λ y. Shows y r) (sym h.2) k)
@@ -181,10 +181,10 @@ module _ (first second : ℕ) (c : InitialState) where
 
   -- ---- changes
 
-  abbrev pub same_name : Traced Memory → Registry → ℕ → ℕ → Type 0
+  abbrev pub same_name : WithSteps Memory → Registry → ℕ → ℕ → Type 0
   same_name x r m n = n ≡ m
 
-  kept : (x z : Traced Memory) (r w : Registry) → Shows z w → IsCarried Shows same_name x r z w
+  kept : (x z : WithSteps Memory) (r w : Registry) → Shows z w → IsCarried Shows same_name x r z w
   kept x z r w k = (k, λ m n e. e)
 
   pub carries : Carries (by_writer does c) counter_transitions Shows same_name

@@ -15,7 +15,7 @@ use Rattle.lpm_update.specs.Rewrite.{rewritten_entry, Stands}
 use Rattle.lpm_update.specs.Linked.{IsTable, group_at}
 use Rattle.lpm_update.specs.Kinds.{rewrite_to_miss, AllMiss, IsFlushStore}
 use Rattle.lpm_update.specs.Update.{IsNextFirst, IsNextUnlink, group_held}
-use Rattle.lpm_update.specs.Step.{HasPassed, HeldAlong, Steps, Stored}
+use Rattle.lpm_update.specs.Step.{HasPassed, HeldAlong, Steps, StoresNext}
 use Rattle.lpm_update.proofs.Places.{block_low, block_high, block_of, first_same, first_other, first_word, last_word, word_entry, table_first, stored_first}
 use Rattle.lpm_update.proofs.Groups.{gives_up, keeps_groups, flush_groups, flushed_by, misses_groups}
 
@@ -99,7 +99,7 @@ module _ (f s : ℕ) (u : FlushData) (W : Words) (t : IsTable f s W) where
     left = let low = n.low in let high = n.high in omega (arith, low, high)
 
     stores : (did : Did) → HasPassed s did (Flush (come_to (i + 1))) (with_first W i w).firsts → HeldAlong f did (group_held (Flush u) W.firsts) (group_held (Flush (come_to (i + 1))) (with_first W i w).firsts)
-        → Stored f s did (Flush u) W (Flush (come_to (i + 1))) (with_first W i w) → Steps f s (Flush u) W did (Flush (come_to (i + 1))) (with_first W i w)
+        → StoresNext f s did (Flush u) W (Flush (come_to (i + 1))) (with_first W i w) → Steps f s (Flush u) W did (Flush (come_to (i + 1))) (with_first W i w)
     stores did passed held stored = record {
       onward = further;
       passed = passed;

@@ -15,7 +15,7 @@ use Rattle.lpm_update.specs.declared.update.Plan.TheVariants.{Range, Link, Unlin
 use Rattle.lpm_update.specs.Linked.{IsTable, IsLinkTo, group_at}
 use Rattle.lpm_update.specs.Kinds.{IsRewriting, IsSecondStore, IsUnlinking}
 use Rattle.lpm_update.specs.Update.{IsUnderWay, IsOnward, IsNextFirst, IsNextSecond, IsNextUnlink, HasPassedFirst, HasPassedSecond, IsSecondBefore, SameGroups}
-use Rattle.lpm_update.specs.Step.{Steps, Stored, HasPassed, HeldAlong}
+use Rattle.lpm_update.specs.Step.{Steps, StoresNext, HasPassed, HeldAlong}
 use Rattle.lpm_update.specs.Laws.{IsSameWord}
 use Rattle.lpm_update.proofs.Unlinks.{some_group, both_ways}
 use Rattle.lpm_update.proofs.Onward.{by_kind}
@@ -50,7 +50,7 @@ module _ (f s : ℕ) (z z' : Words) (j : ℕ) where
   range_stays : (u v : RewriteRange) (e : Did) → IsOnward (Range u) (Range v) → IsUnderWay f s (Range u) z → HasPassedSecond s (Range u) z.firsts j → Steps f s (Range u) z e (Range v) z'
       → HasPassedSecond s (Range v) z'.firsts j
   range_stays u v e o k p h = second_along f s u.at v.at j u.end z.firsts z'.firsts o.at k.within k.fits
-      (held_same f e (group_at z.firsts) (group_at z'.firsts) (λ b g q. (subst (λ d. Stored f s d (Range u) z (Range v) z') q h.stored).0) h.held) p
+      (held_same f e (group_at z.firsts) (group_at z'.firsts) (λ b g q. (subst (λ d. StoresNext f s d (Range u) z (Range v) z') q h.stored).0) h.held) p
 
   unlink_stays : (u v : UnlinkGroup) (e : Did) → IsOnward (Unlink u) (Unlink v) → IsUnlinking f s u.range u.block z → IsSecondBefore s u.range.at z.firsts j → Steps f s (Unlink u) z e (Unlink v) z'
       → HasPassedSecond s (Unlink v) z'.firsts j
@@ -135,7 +135,7 @@ not_second f s (Unlink u) z j w t k p n = elim p [
 ]
 not_second f s (Flush u) z j w t k p n = n
 
-pub not_twice : (f s : ℕ) (d e : Did) (v v' : Plan) (z z' : Words) → IsTable f s z → IsUnderWay f s v z → HasPassed s d v z.firsts → Stored f s e v z v' z' → IsSameWord d e → ⊥
+pub not_twice : (f s : ℕ) (d e : Did) (v v' : Plan) (z z' : Words) → IsTable f s z → IsUnderWay f s v z → HasPassed s d v z.firsts → StoresNext f s e v z v' z' → IsSameWord d e → ⊥
 not_twice f s (First i) (First k) v v' z z' t u p h q = not_first f s v z k _ (subst (HasPassedFirst s v) q p) h.0
 not_twice f s (First i) (Unlinked k g) v v' z z' t u p h q = not_unlink f s v z k g _ (subst (HasPassedFirst s v) q p) h.0
 not_twice f s (First i) other v v' z z' t u p h q = absurd q

@@ -11,7 +11,7 @@ use Rattle.lpm_update.specs.Linked.{IsTable}
 use Rattle.lpm_update.specs.Rewrite.{Skips}
 use Rattle.lpm_update.specs.Kinds.{IsFurther, Visits}
 use Rattle.lpm_update.specs.Update.{IsUnderWay, IsOnward}
-use Rattle.lpm_update.specs.Step.{Steps, Stored, SetsWord}
+use Rattle.lpm_update.specs.Step.{Steps, StoresNext, SetsWord}
 use Rattle.lpm_update.specs.Laws.{KeepsGroups, Leads, RunsOn}
 use Rattle.lpm_update.proofs.RangeSteps.{further_same, further_on, mid_steps, range_done, skips_join}
 use Rattle.lpm_update.specs.declared.unlink_group.UnlinkGroup.{UnlinkGroup}
@@ -28,7 +28,7 @@ keeps_groups Done n stored = stored refl
 
 -- an addition by a group unlinks none
 pub link_keeps : (f s : ℕ) (u : LinkGroup) (v : Plan) (W W' : Words) (did : Did) → Steps f s (Link u) W did v W' → (b g : ℕ) → did ≡ Unlinked b g → ⊥
-link_keeps f s u v W W' did h b g e = (subst (λ d. Stored f s d (Link u) W v W') e h.stored).0
+link_keeps f s u v W W' did h b g e = (subst (λ d. StoresNext f s d (Link u) W v W') e h.stored).0
 
 module _ {A : Type 0} (words : A → Words) (P Q : A → ℕ → ℕ → A → Type 0) (f s : ℕ) where
   -- steps lead from the change u on the cells c to v and the cells d, and it may go on there

@@ -21,7 +21,7 @@ use Rattle.std.proofs.Math.ListN.{length-set}
 use Rattle.lpm_update.specs.declared.Did.TheVariants.{First, Second, Unlinked, Done}
 use Rattle.lpm_update.specs.declared.rewrite_range.RewriteRange.{RewriteRange}
 use Rattle.lpm_update.specs.Linked.{IsTable, group_at}
-use Rattle.lpm_update.specs.Step.{Steps, Stored, HasPassed}
+use Rattle.lpm_update.specs.Step.{Steps, StoresNext, HasPassed}
 use Rattle.lpm_update.proofs.Groups.{first_within, held_by, there_is}
 use Rattle.lpm_update.proofs.RangeSteps.{come_on, place_within, range_first, range_second, range_done}
 use Rattle.lpm_update.proofs.Unlinks.{unlink_range, unlink_link, stands_final}
@@ -230,7 +230,7 @@ next_store f s u W t k = record {
 pub run_begins : RunBegins
 run_begins f s u W t b = record { onward = onward_same u; table = t; under_way = b.under_way; stands = b.stands; groups = b.groups; sizes = refl }
 
-same_size : (f s : ℕ) (did : Did) (u v : Plan) (W W' : Words) → Stored f s did u W v W' → length W'.seconds ≡ length W.seconds
+same_size : (f s : ℕ) (did : Did) (u v : Plan) (W W' : Words) → StoresNext f s did u W v W' → length W'.seconds ≡ length W.seconds
 same_size f s (First i) u v W W' h = ap (λ (x : Words). length x.seconds) h.1
 same_size f s (Second j) u v W W' h = ap (λ (x : Words). length x.seconds) h.1 ∙ length-set W.seconds j _
 same_size f s (Unlinked b g) u v W W' h = ap (λ (x : Words). length x.seconds) h.1

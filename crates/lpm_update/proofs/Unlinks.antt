@@ -19,7 +19,7 @@ use Rattle.lpm_update.specs.declared.update.Plan.{Plan}
 use Rattle.lpm_update.specs.declared.update.Plan.TheVariants.{Range, Unlink}
 use Rattle.lpm_update.specs.Linked.{IsTable, IsLinkTo, group_at}
 use Rattle.lpm_update.specs.Update.{IsUnderWay, IsNextUnlink, SameGroups, group_held, places_left}
-use Rattle.lpm_update.specs.Step.{HasPassed, HeldAlong, Steps, Stored}
+use Rattle.lpm_update.specs.Step.{HasPassed, HeldAlong, Steps, StoresNext}
 use Rattle.lpm_update.proofs.Groups.{gives_up, group_set_same, group_set_other, last_none, not_unlinked, here_is, there_is}
 
 -- A range over one block that leaves all of it with one entry.
@@ -117,7 +117,7 @@ module _ (f s : ℕ) (u : UnlinkGroup) (W : Words) (there : u.unlinked ≡ false
     v = Unlink (record u { range = r })
 
     of_range : (did : Did) → (did ≡ Done → ⊥) → Steps f s (Range u.range) W did (Range r) W' → SameGroups f (group_held (Unlink u) W.firsts) (group_held v W'.firsts)
-        → HasPassed s did v W'.firsts → HeldAlong f did (group_held (Unlink u) W.firsts) (group_held v W'.firsts) → Stored f s did (Unlink u) W v W' → Steps f s (Unlink u) W did v W'
+        → HasPassed s did v W'.firsts → HeldAlong f did (group_held (Unlink u) W.firsts) (group_held v W'.firsts) → StoresNext f s did (Unlink u) W v W' → Steps f s (Unlink u) W did v W'
     of_range did n h same passed held stored =
         let left = h.left n in
         record {

@@ -18,17 +18,17 @@ pub record AllowsNext (first second : ℕ) (u : Plan) (t : Words)
 
 -- the word that was stored is the next one, and each other word is as it was; where nothing was
 -- stored, nothing is left to store
-abbrev pub Stored : ℕ → ℕ → Did → Plan → Words → Plan → Words → Type 0
-Stored first second (First i) u t v z =
+abbrev pub StoresNext : ℕ → ℕ → Did → Plan → Words → Plan → Words → Type 0
+StoresNext first second (First i) u t v z =
     IsNextFirst first second u t i (slice_index z.firsts i)
     × (z ≡ with_first t i (slice_index z.firsts i))
-Stored first second (Second j) u t v z =
+StoresNext first second (Second j) u t v z =
     IsNextSecond second u t j (slice_index z.seconds j)
     × (z ≡ with_second t j (slice_index z.seconds j))
-Stored first second (Unlinked b g) u t v z =
+StoresNext first second (Unlinked b g) u t v z =
     IsNextUnlink first second u t b g (slice_index z.firsts b)
     × (z ≡ with_first t b (slice_index z.firsts b))
-Stored first second Done u t v z = (z ≡ t) × IsOver first second v
+StoresNext first second Done u t v z = (z ≡ t) × IsOver first second v
 
 -- the change has passed the word that was stored
 abbrev pub HasPassed : ℕ → Did → Plan → List ℕ → Type 0
@@ -59,7 +59,7 @@ pub record Steps (first second : ℕ) (u : Plan) (t : Words) (did : Did) (v : Pl
       → HasGroups first second v z.firsts L
   pub held : HeldAlong first did (group_held u t.firsts) (group_held v z.firsts)
   pub left : did ≢ Done → places_left first second v < places_left first second u
-  pub stored : Stored first second did u t v z
+  pub stored : StoresNext first second did u t v z
 
 -- the cells c and d, whose words `words` tells, are as the cells' own relation of old to new says of
 -- the store that was made, P in the first table and Q in the second

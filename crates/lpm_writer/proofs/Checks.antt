@@ -6,7 +6,7 @@ use Rattle.lpm_trace.specs.declared.step.WriterStep.TheVariants.{LoadCounter}
 use Rattle.lpm_trace.specs.States.{InitialState, TableState, state_after, lets_pass}
 use Rattle.lpm_trace.specs.Progress.{WriterProgress, Check, IsAsked, progress_after_pass, progress_after_stop, progress_after_load, Nothing}
 use Rattle.lpm_trace.specs.Writer.{progress_after, MayStep}
-use Rattle.lpm_writer.specs.Traced.{Loads, Traced, Goes, Asks, Checks}
+use Rattle.lpm_writer.specs.Traced.{Loads, WithSteps, Goes, Asks, Checks}
 use Rattle.lpm_writer.specs.Matching.{MayAsk, SameTables, HasNothingDue}
 use Rattle.std.specs.Prelude.{◌&&◌, Result, Ok, Err, Some}
 use Rattle.lpm_limits.specs.declared.busy.Busy.{Busy}
@@ -105,8 +105,8 @@ record Loaded (c : InitialState) (steps later : List WriterStep) : Type 0 where
   like : IsLike (progress_after c steps) (progress_after c later)
 
 module _ {M : Type 0} (does : M → WriterStep → M → Type 0) (c : InitialState) where
-  loaded : (n : ℕ) (x : Traced M) (t : ℕ) (z : Traced M) → n < c.workers → Loads does n x t z → Loaded c x.1 z.1
-  loaded zero x t z few h = subst (λ (y : Traced M). Loaded c x.1 y.1) (sym h) (record {
+  loaded : (n : ℕ) (x : WithSteps M) (t : ℕ) (z : WithSteps M) → n < c.workers → Loads does n x t z → Loaded c x.1 z.1
+  loaded zero x t z few h = subst (λ (y : WithSteps M). Loaded c x.1 y.1) (sym h) (record {
     quiet = quiet_same (state_after c x.1);
     token = refl;
     passed = refl;
@@ -140,7 +140,7 @@ module _ {M : Type 0} (does : M → WriterStep → M → Type 0) (c : InitialSta
       not_last k v more false p t = refl
 
   -- the last worker's counter was loaded and let the token pass
-  last_passed : (k t v : ℕ) (y z : Traced M) → suc k ≡ c.workers → lets_pass t v ≡ true → Goes does y (LoadCounter t k v) z
+  last_passed : (k t v : ℕ) (y z : WithSteps M) → suc k ≡ c.workers → lets_pass t v ≡ true → Goes does y (LoadCounter t k v) z
       → ((state_after c z.1).passed ≡ max (state_after c y.1).passed t) × (progress_after c z.1 ≡ progress_after_pass (progress_after c y.1))
   last_passed k t v y z all pass goes = subst (λ steps. ((state_after c steps).passed ≡ max (state_after c y.1).passed t) × (progress_after c steps ≡ progress_after_pass (progress_after c y.1))) (sym goes.1) (
     ap (λ b. cond (b && eqb (suc k) c.workers) (max (state_after c y.1).passed t) (state_after c y.1).passed) pass ∙ ap (λ b. cond b (max (state_after c y.1).passed t) (state_after c y.1).passed) (eq-eqb (suc k) c.workers all),
@@ -174,8 +174,8 @@ ok_err : (busy : Busy) (r : Result (Unit {0}) Busy) → r ≡ Err busy → r ≡
 ok_err busy r p q = cc
 
 module _ {M : Type 0} (does : M → WriterStep → M → Type 0) (c : InitialState) where
-  all_passed : (n : ℕ) (x : Traced M) (t : ℕ) (z : Traced M) → n ≡ c.workers → Loads does n x t z → HasPassed c x.1 t z.1
-  all_passed zero x t z none h = subst (λ (y : Traced M). HasPassed c x.1 t y.1) (sym h) (record {
+  all_passed : (n : ℕ) (x : WithSteps M) (t : ℕ) (z : WithSteps M) → n ≡ c.workers → Loads does n x t z → HasPassed c x.1 t z.1
+  all_passed zero x t z none h = subst (λ (y : WithSteps M). HasPassed c x.1 t y.1) (sym h) (record {
     quiet = quiet_same (state_after c x.1);
     token = refl;
     more = omega arith;
@@ -200,8 +200,8 @@ module _ {M : Type 0} (does : M → WriterStep → M → Type 0) (c : InitialSta
         like = record { reclaims = ap (λ (k : WriterProgress). k.reclaims) end.1 ∙ before.like.reclaims; taken = ap (λ (k : WriterProgress). k.taken) end.1 ∙ before.like.taken };
       }
 
-  pub check_passes : (x : Traced M) (t : ℕ) (z : Traced M) → Checks does c x t (Ok tt) z → HasPassed c x.1 t z.1
-  check_passes x t z (inl h) = subst (λ (y : Traced M). HasPassed c x.1 t y.1) (sym h.2) (record {
+  pub check_passes : (x : WithSteps M) (t : ℕ) (z : WithSteps M) → Checks does c x t (Ok tt) z → HasPassed c x.1 t z.1
+  check_passes x t z (inl h) = subst (λ (y : WithSteps M). HasPassed c x.1 t y.1) (sym h.2) (record {
     quiet = quiet_same (state_after c x.1);
     token = refl;
     more = omega arith;
@@ -212,7 +212,7 @@ module _ {M : Type 0} (does : M → WriterStep → M → Type 0) (c : InitialSta
   })
   check_passes x t z (inr h) = all_passed c.workers x t z refl h.1
 
-  stopped : (x : Traced M) (t : ℕ) (busy : Busy) (z : Traced M) → Asks does c.workers x t (Err busy) z → HasStopped c x.1 z.1
+  stopped : (x : WithSteps M) (t : ℕ) (busy : Busy) (z : WithSteps M) → Asks does c.workers x t (Err busy) z → HasStopped c x.1 z.1
   stopped x t busy z h =
       let y = h.0 in
       let before = loaded does c busy.worker x t y h.2 h.1 in
@@ -234,12 +234,12 @@ module _ {M : Type 0} (does : M → WriterStep → M → Type 0) (c : InitialSta
         next = subst (λ steps. (state_after c steps).scan.next ≡ 0) (sym h.5.1) (ap (λ b. cond b (suc busy.worker) 0) stop);
       }
 
-  pub check_stops : (x : Traced M) (t : ℕ) (busy : Busy) (z : Traced M) → Checks does c x t (Err busy) z → HasStopped c x.1 z.1
+  pub check_stops : (x : WithSteps M) (t : ℕ) (busy : Busy) (z : WithSteps M) → Checks does c x t (Err busy) z → HasStopped c x.1 z.1
   check_stops x t busy z (inl h) = absurd (ok_err busy (Err busy) refl h.1)
   check_stops x t busy z (inr h) = stopped x t busy z h.1
 
   -- all workers let a token pass that is above the greatest that had passed: it is the greatest then
-  pub asked_all : (x : Traced M) (t : ℕ) (z : Traced M) → (state_after c x.1).passed ≤ t → Loads does c.workers x t z → 0 < c.workers → t ≡ (state_after c z.1).passed
+  pub asked_all : (x : WithSteps M) (t : ℕ) (z : WithSteps M) → (state_after c x.1).passed ≤ t → Loads does c.workers x t z → 0 < c.workers → t ≡ (state_after c z.1).passed
   asked_all x t z below h some = last c.workers refl h
     where
       last : (n : ℕ) → n ≡ c.workers → Loads does n x t z → t ≡ (state_after c z.1).passed
@@ -251,5 +251,5 @@ module _ {M : Type 0} (does : M → WriterStep → M → Type 0) (c : InitialSta
           omega (arith, end.0, old)
 
   -- a worker stopped the check: no greater token has passed
-  pub asked_busy : (x : Traced M) (t : ℕ) (busy : Busy) (z : Traced M) → Asks does c.workers x t (Err busy) z → (state_after c z.1).passed ≡ (state_after c x.1).passed
+  pub asked_busy : (x : WithSteps M) (t : ℕ) (busy : Busy) (z : WithSteps M) → Asks does c.workers x t (Err busy) z → (state_after c z.1).passed ≡ (state_after c x.1).passed
   asked_busy x t busy z h = (stopped x t busy z h).passed

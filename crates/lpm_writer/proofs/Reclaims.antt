@@ -24,7 +24,7 @@ use Rattle.fib_model.specs.State.{Reclaims}
 use Rattle.defer_queue.specs.Reclaims.{FreesFront}
 use Rattle.defer_queue.specs.Reclaims as queue
 use Rattle.defer_queue.proofs.Longest.{FreesFront-more}
-use Rattle.lpm_writer.specs.Traced.{Traced, Checks, by_writer}
+use Rattle.lpm_writer.specs.Traced.{WithSteps, Checks, by_writer}
 
 -- A group that is retired: its token is bumped, and it goes last into limbo.
 
@@ -228,7 +228,7 @@ still_same c steps items may = record { quiet = quiet_same (state_after c steps)
 
 module _ {M : Type 0} (did : M → InitialState → List WriterStep → Type 0) (does : M → WriterStep → M → Type 0) where
   -- so many of these items passed their checks; to free a group is no step of the writer
-  abbrev pub HavePassed : InitialState → ℕ → List (ℕ × ℕ) → Traced M → List (ℕ × ℕ) → Traced M → Type 0
+  abbrev pub HavePassed : InitialState → ℕ → List (ℕ × ℕ) → WithSteps M → List (ℕ × ℕ) → WithSteps M → Type 0
   HavePassed c n items x left z = FreesFront (Checks does c) (λ y token w. w ≡ y) n (tokens_of items) x (tokens_of left) z
 
   module _ (first : M) (states0 : List GroupState) (items0 : List (ℕ × ℕ)) (passed0 : ℕ) where

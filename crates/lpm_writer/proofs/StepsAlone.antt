@@ -23,7 +23,7 @@ use Rattle.lpm_trace.specs.declared.step.WriterStep.TheVariants.{StoreFirst, Sto
 use Rattle.lpm_trace.specs.States.{InitialState, TableState, state_after}
 use Rattle.fib_model.specs.State.{Reclaims, MakesRoom, State}
 use Rattle.lpm_writer.specs.declared.pool.GroupPool.{GroupPool}
-use Rattle.lpm_writer.specs.Traced.{Traced, Loads, Asks, Checks, Retires, by_writer, Goes, UnlinksNone, Stores, StoresOverLink, StoresAndCloses, state_of_traced}
+use Rattle.lpm_writer.specs.Traced.{WithSteps, Loads, Asks, Checks, Retires, by_writer, Goes, UnlinksNone, Stores, StoresOverLink, StoresAndCloses, state_of_traced}
 use Rattle.lpm_writer.specs.Taking.{Takes, Finds}
 use Rattle.lpm_writer.specs.Steps.{StoreSameWord, since_opened, StoresOnce, IsStore, AreStopped, by_steps_from}
 use Rattle.lpm_writer.specs.Making.{HasPassedStore, HasPassedStores, stored_by}
@@ -101,49 +101,49 @@ nothing_loaded steps t w k = record {
 }
 
 module _ {M : Type 0} (does : M → WriterStep → M → Type 0) (c : InitialState) where
-  stays : (x z : Traced M) → z ≡ x → StoresNothing x.1 z.1
-  stays x z e = subst (λ (y : Traced M). StoresNothing x.1 y.1) (sym e) (nothing_same x.1)
+  stays : (x z : WithSteps M) → z ≡ x → StoresNothing x.1 z.1
+  stays x z e = subst (λ (y : WithSteps M). StoresNothing x.1 y.1) (sym e) (nothing_same x.1)
 
-  loads : (n : ℕ) (x : Traced M) (t : ℕ) (z : Traced M) → Loads does n x t z → StoresNothing x.1 z.1
+  loads : (n : ℕ) (x : WithSteps M) (t : ℕ) (z : WithSteps M) → Loads does n x t z → StoresNothing x.1 z.1
   loads zero x t z h = stays x z h
   loads (suc n) x t z h = nothing_on x.1 h.0.1 z.1 (loads n x t h.0 h.2) (subst (StoresNothing h.0.1) (sym h.4.1) (nothing_loaded h.0.1 t n h.1))
 
-  asks : (workers : ℕ) (x : Traced M) (t : ℕ) (r : Result (Unit {0}) Busy) (z : Traced M) → Asks does workers x t r z → StoresNothing x.1 z.1
+  asks : (workers : ℕ) (x : WithSteps M) (t : ℕ) (r : Result (Unit {0}) Busy) (z : WithSteps M) → Asks does workers x t r z → StoresNothing x.1 z.1
   asks workers x t (Ok u) z h = loads workers x t z h
   asks workers x t (Err busy) z h =
       nothing_on x.1 h.0.1 z.1 (loads busy.worker x t h.0 h.1) (subst (StoresNothing h.0.1) (sym h.5.1) (nothing_loaded h.0.1 t busy.worker busy.counter))
 
-  pub after_check : (x : Traced M) (t : ℕ) (r : Result (Unit {0}) Busy) (z : Traced M) → Checks does c x t r z → StoresNothing x.1 z.1
+  pub after_check : (x : WithSteps M) (t : ℕ) (r : Result (Unit {0}) Busy) (z : WithSteps M) → Checks does c x t r z → StoresNothing x.1 z.1
   after_check x t r z (inl h) = stays x z h.2
   after_check x t r z (inr h) = asks c.workers x t r z h.1
 
-  front : (n : ℕ) (names : List ℕ) (x : Traced M) (left : List ℕ) (z : Traced M) → queue.FreesFront (Checks does c) (λ y name w. w ≡ y) n names x left z → StoresNothing x.1 z.1
+  front : (n : ℕ) (names : List ℕ) (x : WithSteps M) (left : List ℕ) (z : WithSteps M) → queue.FreesFront (Checks does c) (λ y name w. w ≡ y) n names x left z → StoresNothing x.1 z.1
   front zero names x left z h = stays x z h.1
   front (suc n) [] x left z h = absurd h
   front (suc n) (name ∷ names) x left z h =
       nothing_on x.1 h.1.1 z.1 (nothing_on x.1 h.0.1 h.1.1 (after_check x name (Ok tt) h.0 h.2) (stays h.0 h.1 h.3)) (front n names h.1 left z h.4)
 
-  ends : (max n : ℕ) (left : List ℕ) (x : Traced M) (stopped : Option Busy) (z : Traced M) → queue.Ends (Checks does c) (λ y name w. w ≡ y) max n left x stopped z → StoresNothing x.1 z.1
+  ends : (max n : ℕ) (left : List ℕ) (x : WithSteps M) (stopped : Option Busy) (z : WithSteps M) → queue.Ends (Checks does c) (λ y name w. w ≡ y) max n left x stopped z → StoresNothing x.1 z.1
   ends max n left x None z h = stays x z h.1
   ends max n [] x (Some busy) z h = absurd h
   ends max n (name ∷ left) x (Some busy) z h = after_check x name (Err busy) z h.1
 
-  pub after_reclaim : (x : Traced M) (max : ℕ) (limbo : List ℕ) (freed : ℕ) (stopped : Option Busy) (left : List ℕ) (z : Traced M)
+  pub after_reclaim : (x : WithSteps M) (max : ℕ) (limbo : List ℕ) (freed : ℕ) (stopped : Option Busy) (left : List ℕ) (z : WithSteps M)
       → Reclaims (by_writer does c) x max limbo freed stopped left z → StoresNothing x.1 z.1
   after_reclaim x max limbo freed stopped left z h =
       nothing_on x.1 h.last.1 z.1 (front freed limbo x left h.last h.front) (ends max freed left h.last stopped z h.end)
 
-  room : (config : Config) (x : Traced M) (limbo left : List ℕ) (z : Traced M) → MakesRoom (by_writer does c) config x limbo left z → StoresNothing x.1 z.1
+  room : (config : Config) (x : WithSteps M) (limbo left : List ℕ) (z : WithSteps M) → MakesRoom (by_writer does c) config x limbo left z → StoresNothing x.1 z.1
   room config x limbo left z h = elim (cases_lt config.threshold (length limbo)) [
     | inl more ↦ let k = h.0 more in after_reclaim x config.reclaim_max limbo k.0 k.1 left z k.2
     | inr few ↦ stays x z (h.1 few).1
   ]
 
-  pub after_retire : (config : Config) (x : Traced M) (limbo : List ℕ) (z : Traced M) (left : List ℕ) → Retires does c config x limbo z left → StoresNothing x.1 z.1
+  pub after_retire : (config : Config) (x : WithSteps M) (limbo : List ℕ) (z : WithSteps M) (left : List ℕ) → Retires does c config x limbo z left → StoresNothing x.1 z.1
   after_retire config x limbo z left h =
       nothing_on x.1 h.0.1 z.1 (subst (StoresNothing x.1) (sym h.2.1) (nothing_bumped x.1)) (room config h.0 limbo h.1 z h.3)
 
-  takes : (x : Traced M) (old : GroupPool) (r : Result ℕ (Option Busy)) (z : Traced M) (new : GroupPool) → Takes (by_writer does c) x old r z new → StoresNothing x.1 z.1
+  takes : (x : WithSteps M) (old : GroupPool) (r : Result ℕ (Option Busy)) (z : WithSteps M) (new : GroupPool) → Takes (by_writer does c) x old r z new → StoresNothing x.1 z.1
   takes x old (Ok g) z new h = elim (cases_eq (free_count old.groups) 0) [
     | inl none ↦ let k = h.1 none in after_check x k.0 (Ok tt) z k.2
     | inr some ↦ stays x z (h.0 (omega (arith, some))).2
@@ -151,7 +151,7 @@ module _ {M : Type 0} (does : M → WriterStep → M → Type 0) (c : InitialSta
   takes x old (Err None) z new h = stays x z h.1.1
   takes x old (Err (Some busy)) z new h = after_check x h.1.0 (Err busy) z h.1.2
 
-  pub after_find : (f s : ℕ) (firsts : List ℕ) (p : Network) (x : Traced M) (old : GroupPool) (r : Result (Option ℕ) (Option Busy)) (z : Traced M) (new : GroupPool)
+  pub after_find : (f s : ℕ) (firsts : List ℕ) (p : Network) (x : WithSteps M) (old : GroupPool) (r : Result (Option ℕ) (Option Busy)) (z : WithSteps M) (new : GroupPool)
       → Finds (by_writer does c) f s firsts p x old r z new → StoresNothing x.1 z.1
   after_find f s firsts p x old (Ok None) z new h = stays x z h.1
   after_find f s firsts p x old (Ok (Some g)) z new h = takes x old (Ok g) z new h.2
@@ -182,26 +182,26 @@ is_store w (StoreSecond j x) h = tt
 is_store w s h = absurd h
 
 module _ (M : Type 0) (does : M → WriterStep → M → Type 0) (c : InitialState) where
-  same : (x z : Traced M) → z ≡ x → z.1 ≡ x.1
-  same x z e = ap (λ (t : Traced M). t.1) e
+  same : (x z : WithSteps M) → z ≡ x → z.1 ≡ x.1
+  same x z e = ap (λ (t : WithSteps M). t.1) e
 
-  loads_alone : (n : ℕ) (x z : Traced M) (token : ℕ) → Loads does n x token z → by_steps.Loads n x.1 token z.1
+  loads_alone : (n : ℕ) (x z : WithSteps M) (token : ℕ) → Loads does n x token z → by_steps.Loads n x.1 token z.1
   loads_alone zero x z token h = same x z h
   loads_alone (suc n) x z token h = (h.0.1, h.1, loads_alone n x h.0 token h.2, h.3, h.4.1)
 
-  asks_alone : (workers : ℕ) (x z : Traced M) (token : ℕ) (r : Result (Unit {0}) Busy) → Asks does workers x token r z → by_steps.Asks workers x.1 token r z.1
+  asks_alone : (workers : ℕ) (x z : WithSteps M) (token : ℕ) (r : Result (Unit {0}) Busy) → Asks does workers x token r z → by_steps.Asks workers x.1 token r z.1
   asks_alone workers x z token (Ok passed) h = loads_alone workers x z token h
   asks_alone workers x z token (Err busy) h = (h.0.1, loads_alone busy.worker x h.0 token h.1, h.2, h.3, h.4, h.5.1)
 
-  pub checks_alone : (x z : Traced M) (token : ℕ) (r : Result (Unit {0}) Busy) → Checks does c x token r z → by_steps.Checks c.workers x.1 token r z.1
+  pub checks_alone : (x z : WithSteps M) (token : ℕ) (r : Result (Unit {0}) Busy) → Checks does c x token r z → by_steps.Checks c.workers x.1 token r z.1
   checks_alone x z token r (inl h) = inl (omega (arith, h.0, passed_is c x.1), h.1, same x z h.2)
   checks_alone x z token r (inr h) = inr ((λ some. let low = h.0 some in omega (arith, low, passed_is c x.1)), asks_alone c.workers x z token r h.1)
 
-  stores : (n : ℕ) (x z : Traced M) → Stores does c n x z → HasStored x.1 z.1
+  stores : (n : ℕ) (x z : WithSteps M) → Stores does c n x z → HasStored x.1 z.1
   stores zero x z h = ([], All-nil IsStore, same x z h)
   stores (suc n) x z h = more_stores x.1 h.0.1 z.1 h.1 (is_store (state_of_traced c h.0) h.1 h.3) (stores n x h.0 h.2) h.4.1
 
-  over_link : (x z : Traced M) (name : ℕ) → StoresOverLink does c x name z → (by_steps_from c.workers c.token).unlinks x.1 name z.1
+  over_link : (x z : WithSteps M) (name : ℕ) → StoresOverLink does c x name z → (by_steps_from c.workers c.token).unlinks x.1 name z.1
   over_link x z name h =
       let before = stores h.0 x h.1 h.6 in (
         before.0,
@@ -212,47 +212,47 @@ module _ (M : Type 0) (does : M → WriterStep → M → Type 0) (c : InitialSta
         h.10 ∙ token_is c z.1,
       )
 
-  closes : (x z : Traced M) → StoresAndCloses does c x z → (by_steps_from c.workers c.token).ends x.1 z.1
+  closes : (x z : WithSteps M) → StoresAndCloses does c x z → (by_steps_from c.workers c.token).ends x.1 z.1
   closes x z h =
       let before = stores h.0 x h.1 h.2 in
       (before.0, before.1, h.3.1 ∙ ap (λ l. EndUpdate ∷ l) before.2)
 
   -- what no step changes
   module _ (F : Type 0) (fixed : M → F) (stays : (m : M) (s : WriterStep) (z : M) → does m s z → fixed z ≡ fixed m) where
-    goes_fixed : (x z : Traced M) (s : WriterStep) → Goes does x s z → fixed z.0 ≡ fixed x.0
+    goes_fixed : (x z : WithSteps M) (s : WriterStep) → Goes does x s z → fixed z.0 ≡ fixed x.0
     goes_fixed x z s h = stays x.0 s z.0 h.0
 
-    same_fixed : (x z : Traced M) → z ≡ x → fixed z.0 ≡ fixed x.0
-    same_fixed x z e = ap (λ (t : Traced M). fixed t.0) e
+    same_fixed : (x z : WithSteps M) → z ≡ x → fixed z.0 ≡ fixed x.0
+    same_fixed x z e = ap (λ (t : WithSteps M). fixed t.0) e
 
-    loads_fixed : (n : ℕ) (x z : Traced M) (token : ℕ) → Loads does n x token z → fixed z.0 ≡ fixed x.0
+    loads_fixed : (n : ℕ) (x z : WithSteps M) (token : ℕ) → Loads does n x token z → fixed z.0 ≡ fixed x.0
     loads_fixed zero x z token h = same_fixed x z h
     loads_fixed (suc n) x z token h = goes_fixed h.0 z (LoadCounter token n h.1) h.4 ∙ loads_fixed n x h.0 token h.2
 
-    asks_fixed : (workers : ℕ) (x z : Traced M) (token : ℕ) (r : Result (Unit {0}) Busy) → Asks does workers x token r z → fixed z.0 ≡ fixed x.0
+    asks_fixed : (workers : ℕ) (x z : WithSteps M) (token : ℕ) (r : Result (Unit {0}) Busy) → Asks does workers x token r z → fixed z.0 ≡ fixed x.0
     asks_fixed workers x z token (Ok passed) h = loads_fixed workers x z token h
     asks_fixed workers x z token (Err busy) h = goes_fixed h.0 z (LoadCounter token busy.worker busy.counter) h.5 ∙ loads_fixed busy.worker x h.0 token h.1
 
-    pub checks_fixed : (x z : Traced M) (token : ℕ) (r : Result (Unit {0}) Busy) → Checks does c x token r z → fixed z.0 ≡ fixed x.0
+    pub checks_fixed : (x z : WithSteps M) (token : ℕ) (r : Result (Unit {0}) Busy) → Checks does c x token r z → fixed z.0 ≡ fixed x.0
     checks_fixed x z token r (inl h) = same_fixed x z h.2
     checks_fixed x z token r (inr h) = asks_fixed c.workers x z token r h.1
 
-    stores_fixed : (n : ℕ) (x z : Traced M) → Stores does c n x z → fixed z.0 ≡ fixed x.0
+    stores_fixed : (n : ℕ) (x z : WithSteps M) → Stores does c n x z → fixed z.0 ≡ fixed x.0
     stores_fixed zero x z h = same_fixed x z h
     stores_fixed (suc n) x z h = goes_fixed h.0 z h.1 h.4 ∙ stores_fixed n x h.0 h.2
 
-    over_link_fixed : (x z : Traced M) (name : ℕ) → StoresOverLink does c x name z → fixed z.0 ≡ fixed x.0
+    over_link_fixed : (x z : WithSteps M) (name : ℕ) → StoresOverLink does c x name z → fixed z.0 ≡ fixed x.0
     over_link_fixed x z name h = goes_fixed h.2 z BumpToken h.9 ∙ (goes_fixed h.1 h.2 (StoreFirst h.3 h.4) h.8 ∙ stores_fixed h.0 x h.1 h.6)
 
-    closes_fixed : (x z : Traced M) → StoresAndCloses does c x z → fixed z.0 ≡ fixed x.0
+    closes_fixed : (x z : WithSteps M) → StoresAndCloses does c x z → fixed z.0 ≡ fixed x.0
     closes_fixed x z h = goes_fixed h.1 z EndUpdate h.3 ∙ stores_fixed h.0 x h.1 h.2
 
     -- these are the steps of a memory with its steps, and it is of the kind f
     module _ (kind : F) where
-      abbrev pub IsOfSteps : Traced M → List WriterStep → Type 0
+      abbrev pub IsOfSteps : WithSteps M → List WriterStep → Type 0
       IsOfSteps x y = (y ≡ x.1) × (fixed x.0 ≡ kind)
 
-      abbrev pub HasName : Traced M → List WriterStep → ℕ → ℕ → Type 0
+      abbrev pub HasName : WithSteps M → List WriterStep → ℕ → ℕ → Type 0
       HasName x y m n = n ≡ m
 
       steps_carry : Carries (by_writer does c) (by_steps_from c.workers c.token) IsOfSteps HasName
@@ -285,15 +285,15 @@ module _ (M : Type 0) (does : M → WriterStep → M → Type 0) (c : InitialSta
 
       -- ---- whole changes
 
-      abbrev pub state_alone : State (Traced M) → State (List WriterStep)
+      abbrev pub state_alone : State (WithSteps M) → State (List WriterStep)
       state_alone s = record { rules = s.rules; readers = s.readers.1; limbo = s.limbo; begun = s.begun }
 
-      told_alone : (z : State (Traced M)) (D : State (List WriterStep) → Type 0) → Follows IsOfSteps HasName z D → D (state_alone z) × (fixed z.readers.0 ≡ kind)
+      told_alone : (z : State (WithSteps M)) (D : State (List WriterStep) → Type 0) → Follows IsOfSteps HasName z D → D (state_alone z) × (fixed z.readers.0 ≡ kind)
       told_alone z D h = (subst (λ l. D (beside z z.readers.1 l)) (named_is z.limbo h.1 h.4) (subst (λ w. D (beside z w h.1)) h.3.0 h.2), h.3.1)
 
-      module _ (f g : ℕ) (config : Config) (s z : State (Traced M)) (at : fixed s.readers.0 ≡ kind) where
+      module _ (f g : ℕ) (config : Config) (s z : State (WithSteps M)) (at : fixed s.readers.0 ≡ kind) where
         followed : AreFollowed (by_writer does c) (by_steps_from c.workers c.token) IsOfSteps HasName f g config s (beside s s.readers.1 s.limbo)
-        followed = changes_carry_over (Traced M) (List WriterStep) (by_writer does c) (by_steps_from c.workers c.token) IsOfSteps HasName steps_carry f g config s s.readers.1 s.limbo (refl, at) (named_same s.limbo)
+        followed = changes_carry_over (WithSteps M) (List WriterStep) (by_writer does c) (by_steps_from c.workers c.token) IsOfSteps HasName steps_carry f g config s s.readers.1 s.limbo (refl, at) (named_same s.limbo)
 
         pub adds_alone : (p : Network) (h : ℕ) (r : Result Put Refusal) → Adds (by_writer does c) f g config s p h r z → Adds (by_steps_from c.workers c.token) f g config (state_alone s) p h r (state_alone z) × (fixed z.readers.0 ≡ kind)
         adds_alone p h r d = told_alone z (Adds (by_steps_from c.workers c.token) f g config (state_alone s) p h r) (followed.adds z p h r d)

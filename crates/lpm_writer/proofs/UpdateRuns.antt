@@ -24,7 +24,7 @@ use Rattle.lpm_trace.specs.Progress.{Nothing, next_after_store}
 use Rattle.lpm_writer.specs.declared.pool.GroupPool.{GroupPool}
 use Rattle.fib_model.specs.State.{Unlinks}
 use Rattle.lpm_writer.specs.Waiting.{AreWaiting, tokens_of}
-use Rattle.lpm_writer.specs.Traced.{Traced, UnlinksNone, Retires, by_writer}
+use Rattle.lpm_writer.specs.Traced.{WithSteps, UnlinksNone, Retires, by_writer}
 use Rattle.lpm_writer.specs.Matching.{HasUnlinked, HasRetired, HasNothingDue, GroupsMatchSteps}
 use Rattle.lpm_writer.specs.Making.{group_to_fill, HasWidths, IsMaking, MayMake, HasMade, HasUnlinkedSome}
 use Rattle.lpm_writer.proofs.StepsAlone.{store_first, store_unlink, store_second, after_retire}
@@ -94,7 +94,7 @@ module _ {M : Type 0} (mem : AsMemory M) (f s : ℕ) (config : Config) (first : 
     },
   )
     where
-      none_unlinked : (c : InitialState) (x : Traced M) → Unlinks (by_writer mem.says.does c) config (linked_count old.groups - linked_count old.groups) x (tokens_of old.queue.items) x (tokens_of old.queue.items)
+      none_unlinked : (c : InitialState) (x : WithSteps M) → Unlinks (by_writer mem.says.does c) config (linked_count old.groups - linked_count old.groups) x (tokens_of old.queue.items) x (tokens_of old.queue.items)
       none_unlinked c x =
           let e : 0 ≡ linked_count old.groups - linked_count old.groups = omega arith in
           subst (λ n. Unlinks (by_writer mem.says.does c) config n x (tokens_of old.queue.items) x (tokens_of old.queue.items)) e (refl, refl)
@@ -143,7 +143,7 @@ module _ {M : Type 0} (mem : AsMemory M) (f s : ℕ) (config : Config) (first : 
           may_unlink c (runs c steps d may).0 u (state_after c steps).words v r.making new.groups new.queue.items new.passed r.keeps r.idle b g x (next_unlink_on b g x n)
 
     -- one more store, which unlinks no group
-    one_more : (c : InitialState) (x : Traced M) (later : List WriterStep) (step : WriterStep) (k : HasUnlinkedSome mem.says.does c config x old (m, later) new) → UnlinksNone (state_after c later) step → mem.says.does m step z
+    one_more : (c : InitialState) (x : WithSteps M) (later : List WriterStep) (step : WriterStep) (k : HasUnlinkedSome mem.says.does c config x old (m, later) new) → UnlinksNone (state_after c later) step → mem.says.does m step z
         → HasUnlinkedSome mem.says.does c config x old (z, step ∷ later) new
     one_more c x later step k plain goes = record {
       last = k.last;

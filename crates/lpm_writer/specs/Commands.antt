@@ -4,7 +4,7 @@ use Rattle.lpm_trace.specs.declared.step.WriterStep.{WriterStep}
 use Rattle.lpm_trace.specs.States.{InitialState, state_after}
 use Rattle.fib_model.specs.State.{State}
 use Rattle.lpm_writer.specs.declared.control.ControlState.{ControlState}
-use Rattle.lpm_writer.specs.Traced.{Traced, Checks}
+use Rattle.lpm_writer.specs.Traced.{WithSteps, Checks}
 use Rattle.lpm_writer.specs.Resting.{IsResting, state_of}
 use Rattle.lpm_groups.specs.declared.GroupState.{GroupState}
 use Rattle.lpm_limits.specs.declared.busy.Busy.{Busy}
@@ -30,7 +30,7 @@ MayCommand did l m = (c : InitialState) × (steps : List WriterStep) × did m c 
 -- what came of it
 abbrev pub Commands : {first second : ℕ} {M : Type 0} → (M → InitialState → List WriterStep → Type 0)
     → ControlState first second → M → ControlState first second → M
-    → (InitialState → State (Traced M) → State (Traced M) → Type 0) → Type 0
+    → (InitialState → State (WithSteps M) → State (WithSteps M) → Type 0) → Type 0
 Commands did old m new z P = (c : InitialState) (steps : List WriterStep) → did m c steps → Rests c steps old
     → (later : List WriterStep) × did z c later × Rests c later new
     × P c (state_of old.rules.rules (m, steps) old.pool old.versions)
@@ -61,29 +61,30 @@ pub record IsWaiting (first second : ℕ) (c : InitialState) (steps : List Write
 
 -- Groups in limbo that are freed, by the writer's steps (this project's).
 
--- after some steps that may have led to the memory, as `did` tells them, a check of the oldest item may begin; the
--- groups are what those say, where others may wait behind the items, and one may be held
+-- after some steps that may have led to the memory, as `did` tells them, a check of the oldest item may begin;
+-- the groups are what those say, where others may wait behind the items, and one may be held
 abbrev pub MayFree : {M : Type 0} → (M → InitialState → List WriterStep → Type 0) → M → List GroupState → ℕ
     → List (ℕ × ℕ) → Type 0
 MayFree did m states passed items = (c : InitialState) × (steps : List WriterStep) × (tail : List (ℕ × ℕ))
     × (held : Option ℕ) × did m c steps × GroupsMatchSteps c steps states (items ++ tail) passed held
     × MayReclaim c steps items
 
--- whatever steps may have led to the memory m, a check of the token, where the greatest that had passed was
--- remembered, made some that may have led to z, and remembers the greatest then
-abbrev pub ChecksBy : {M : Type 0} → (M → InitialState → List WriterStep → Type 0) → (M → WriterStep → M → Type 0)
-    → M → ℕ → ℕ → Result (Unit {0}) Busy → M → ℕ → Type 0
-ChecksBy did does m passed token result z later_passed = (c : InitialState) (steps : List WriterStep) → did m c steps
-    → Remembers c steps passed → (passed < token → MayAsk c steps token)
+-- A check of a token leads from m, where the greatest that had passed was `passed`, to z, where it is
+-- `later_passed`: whatever steps may have led to m, a check's steps after them may have led to z.
+abbrev pub ChecksBy : {M : Type 0} → (M → InitialState → List WriterStep → Type 0)
+    → (M → WriterStep → M → Type 0) → M → ℕ → ℕ → Result (Unit {0}) Busy → M → ℕ → Type 0
+ChecksBy did does m passed token result z later_passed = (c : InitialState) (steps : List WriterStep)
+    → did m c steps → Remembers c steps passed → (passed < token → MayAsk c steps token)
     → (later : List WriterStep) × did z c later × Checks does c (m, steps) token result (z, later)
     × Remembers c later later_passed
 
--- whatever steps may have led to the memory m, checks alone were made up to z; P is what came of the tokens that
--- wait
-abbrev pub FreesBy : {M : Type 0} → (M → InitialState → List WriterStep → Type 0) → M → GroupPool → M → GroupPool
-    → (InitialState → Traced M → List ℕ → List ℕ → Traced M → Type 0) → Type 0
-FreesBy did m old z new P = (c : InitialState) (steps : List WriterStep) (tail : List (ℕ × ℕ)) (held : Option ℕ)
-    → did m c steps → GroupsMatchSteps c steps old.groups (old.queue.items ++ tail) old.passed held
+-- whatever steps may have led to the memory m, checks alone were made up to z; P is what came of the tokens
+-- that wait
+abbrev pub FreesBy : {M : Type 0} → (M → InitialState → List WriterStep → Type 0) → M → GroupPool
+    → M → GroupPool → (InitialState → WithSteps M → List ℕ → List ℕ → WithSteps M → Type 0) → Type 0
+FreesBy did m old z new P = (c : InitialState) (steps : List WriterStep) (tail : List (ℕ × ℕ))
+    (held : Option ℕ) → did m c steps
+    → GroupsMatchSteps c steps old.groups (old.queue.items ++ tail) old.passed held
     → MayReclaim c steps old.queue.items
     → (later : List WriterStep) × did z c later × OnlyChecks c steps later
     × GroupsMatchSteps c later new.groups (new.queue.items ++ tail) new.passed held

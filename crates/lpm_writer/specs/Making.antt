@@ -19,7 +19,7 @@ use Rattle.lpm_trace.specs.Writer.{progress_after, MayStep}
 use Rattle.lpm_writer.specs.declared.pool.GroupPool.{GroupPool}
 use Rattle.fib_model.specs.State.{Unlinks}
 use Rattle.lpm_writer.specs.Waiting.{tokens_of}
-use Rattle.lpm_writer.specs.Traced.{Traced, Stores, by_writer}
+use Rattle.lpm_writer.specs.Traced.{WithSteps, Stores, by_writer}
 use Rattle.lpm_writer.specs.Matching.{HasNothingDue, GroupsMatchSteps}
 use Rattle.lpm_writer.specs.Steps.{since_opened, StoresOnce}
 
@@ -95,8 +95,8 @@ pub record MayMake (first second : ℕ) (c : InitialState) (steps : List WriterS
 -- the groups that an update gave up went into limbo one after another, with stores before each and
 -- after the last
 pub record HasUnlinkedSome {M : Type 0} (does : M → WriterStep → M → Type 0) (c : InitialState)
-    (config : Config) (x : Traced M) (old : GroupPool) (z : Traced M) (new : GroupPool) : Type 0 where
-  pub last : Traced M
+    (config : Config) (x : WithSteps M) (old : GroupPool) (z : WithSteps M) (new : GroupPool) : Type 0 where
+  pub last : WithSteps M
   pub stores : ℕ
   pub unlinks : Unlinks (by_writer does c) config
       (linked_count old.groups - linked_count new.groups)

@@ -12,7 +12,7 @@ use Rattle.lpm_trace.specs.States.{InitialState, state_after, IsUpdating}
 use Rattle.lpm_writer.specs.declared.pool.GroupPool.{GroupPool}
 use Rattle.lpm_writer.specs.Waiting.{IsTaken, tokens_of}
 use Rattle.lpm_writer.specs.Matching.{HasNothingDue, GroupsMatchSteps, OnlyChecks}
-use Rattle.lpm_writer.specs.Traced.{Traced}
+use Rattle.lpm_writer.specs.Traced.{WithSteps}
 
 -- no update runs, and nothing is due
 pub record MayTake (c : InitialState) (steps : List WriterStep) (pool : GroupPool) : Type 0 where
@@ -26,10 +26,10 @@ MayTakeAt did m pool = (c : InitialState) × (steps : List WriterStep) × did m 
 
 -- whatever steps may have led to the memory m, checks alone were made up to z, and a group is held; P is what
 -- came of it
-abbrev pub TakesAt : {M : Type 0} → (M → InitialState → List WriterStep → Type 0) → M → GroupPool → M → GroupPool
-    → Option ℕ → (InitialState → Traced M → Traced M → Type 0) → Type 0
-TakesAt did m old z new held P = (c : InitialState) (steps : List WriterStep) → did m c steps → MayTake c steps old
-    → (later : List WriterStep) × did z c later × OnlyChecks c steps later
+abbrev pub TakesAt : {M : Type 0} → (M → InitialState → List WriterStep → Type 0) → M → GroupPool
+    → M → GroupPool → Option ℕ → (InitialState → WithSteps M → WithSteps M → Type 0) → Type 0
+TakesAt did m old z new held P = (c : InitialState) (steps : List WriterStep) → did m c steps
+    → MayTake c steps old → (later : List WriterStep) × did z c later × OnlyChecks c steps later
     × GroupsMatchSteps c later new.groups new.queue.items new.passed held × P c (m, steps) (z, later)
 
 -- the group that was taken

@@ -11,38 +11,38 @@ use Rattle.lpm_trace.specs.States.{InitialState, TableState, state_after, lets_p
 use Rattle.fib_model.specs.State.{Transitions, MakesRoom}
 
 -- a memory, and the writer's steps that led to it, the newest first
-abbrev pub Traced : Type 0 → Type 0
-Traced M = M × List WriterStep
+abbrev pub WithSteps : Type 0 → Type 0
+WithSteps M = M × List WriterStep
 
 -- what the writer's steps leave
-abbrev pub state_of_traced : {M : Type 0} → InitialState → Traced M → TableState
+abbrev pub state_of_traced : {M : Type 0} → InitialState → WithSteps M → TableState
 state_of_traced c x = state_after c x.1
 
 -- one more step leads from x to z
-abbrev pub Goes : {M : Type 0} → (M → WriterStep → M → Type 0) → Traced M → WriterStep → Traced M
+abbrev pub Goes : {M : Type 0} → (M → WriterStep → M → Type 0) → WithSteps M → WriterStep → WithSteps M
     → Type 0
 Goes does x s z = does x.0 s z.0 × (z.1 ≡ s ∷ x.1)
 
 -- the counters of the workers below n were loaded, in a check of the token, and each let it pass
-abbrev pub Loads : {M : Type 0} → (M → WriterStep → M → Type 0) → ℕ → Traced M → ℕ → Traced M
+abbrev pub Loads : {M : Type 0} → (M → WriterStep → M → Type 0) → ℕ → WithSteps M → ℕ → WithSteps M
     → Type 0
 Loads does zero x token z = z ≡ x
-Loads {M} does (suc n) x token z = (y : Traced M) × (counter : ℕ) × Loads does n x token y
+Loads {M} does (suc n) x token z = (y : WithSteps M) × (counter : ℕ) × Loads does n x token y
     × (lets_pass token counter ≡ true) × Goes does y (LoadCounter token n counter) z
 
 -- the workers were asked one after another: all let the token pass, or the first that didn't stopped
 -- the check
-abbrev pub Asks : {M : Type 0} → (M → WriterStep → M → Type 0) → ℕ → Traced M → ℕ
-    → Result (Unit {0}) Busy → Traced M → Type 0
+abbrev pub Asks : {M : Type 0} → (M → WriterStep → M → Type 0) → ℕ → WithSteps M → ℕ
+    → Result (Unit {0}) Busy → WithSteps M → Type 0
 Asks does workers x token (Ok passed) z = Loads does workers x token z
-Asks {M} does workers x token (Err busy) z = (y : Traced M) × Loads does busy.worker x token y
+Asks {M} does workers x token (Err busy) z = (y : WithSteps M) × Loads does busy.worker x token y
     × (busy.worker < workers) × (0 < busy.counter) × (busy.counter < token)
     × Goes does y (LoadCounter token busy.worker busy.counter) z
 
 -- a check of a token: one that isn't above the greatest that has passed passes without a load, and for
 -- any other the workers are asked
-abbrev pub Checks : {M : Type 0} → (M → WriterStep → M → Type 0) → InitialState → Traced M → ℕ
-    → Result (Unit {0}) Busy → Traced M → Type 0
+abbrev pub Checks : {M : Type 0} → (M → WriterStep → M → Type 0) → InitialState → WithSteps M → ℕ
+    → Result (Unit {0}) Busy → WithSteps M → Type 0
 Checks does c x token result z =
     ((token ≤ (state_of_traced c x).passed) × (result ≡ Ok tt) × (z ≡ x))
     ⊎ ((0 < c.workers → (state_of_traced c x).passed < token) × Asks does c.workers x token result z)
@@ -54,31 +54,32 @@ UnlinksNone w (StoreSecond j x) = Unit {0}
 UnlinksNone w other = ⊥
 
 -- n stores one after another, none of which unlinks a group
-abbrev pub Stores : {M : Type 0} → (M → WriterStep → M → Type 0) → InitialState → ℕ → Traced M → Traced M
+abbrev pub Stores : {M : Type 0} → (M → WriterStep → M → Type 0) → InitialState → ℕ → WithSteps M
+    → WithSteps M
     → Type 0
 Stores does c zero x z = z ≡ x
-Stores {M} does c (suc n) x z = (y : Traced M) × (s : WriterStep) × Stores does c n x y
+Stores {M} does c (suc n) x z = (y : WithSteps M) × (s : WriterStep) × Stores does c n x y
     × UnlinksNone (state_of_traced c y) s × Goes does y s z
 
 -- after some stores a word that links a group is stored over, and a token is started for the group:
 -- that is the name of the unlinking
-abbrev pub StoresOverLink : {M : Type 0} → (M → WriterStep → M → Type 0) → InitialState → Traced M → ℕ
-    → Traced M → Type 0
+abbrev pub StoresOverLink : {M : Type 0} → (M → WriterStep → M → Type 0) → InitialState → WithSteps M → ℕ
+    → WithSteps M → Type 0
 StoresOverLink {M} does c x name z =
-    (n : ℕ) × (p : Traced M) × (q : Traced M) × (i : ℕ) × (w : ℕ) × (g : ℕ)
+    (n : ℕ) × (p : WithSteps M) × (q : WithSteps M) × (i : ℕ) × (w : ℕ) × (g : ℕ)
     × Stores does c n x p × (group_in (first_entry (state_of_traced c p).words i) ≡ Some g)
     × Goes does p (StoreFirst i w) q × Goes does q BumpToken z
     × (name ≡ (state_of_traced c z).token)
 
 -- after some stores the update is done
-abbrev pub StoresAndCloses : {M : Type 0} → (M → WriterStep → M → Type 0) → InitialState → Traced M
-    → Traced M → Type 0
+abbrev pub StoresAndCloses : {M : Type 0} → (M → WriterStep → M → Type 0) → InitialState → WithSteps M
+    → WithSteps M → Type 0
 StoresAndCloses {M} does c x z =
-    (n : ℕ) × (y : Traced M) × Stores does c n x y × Goes does y EndUpdate z
+    (n : ℕ) × (y : WithSteps M) × Stores does c n x y × Goes does y EndUpdate z
 
 -- the parts of a change, by the writer's steps
 abbrev pub by_writer : {M : Type 0} → (M → WriterStep → M → Type 0) → InitialState
-    → Transitions (Traced M)
+    → Transitions (WithSteps M)
 by_writer does c = record {
   checks = Checks does c;
   begins = λ x z. (change : RuleChange) × Goes does x (BeginUpdate change) z;
@@ -89,8 +90,8 @@ by_writer does c = record {
 
 -- a token was started for a group that was just unlinked, room was made in limbo, and the group went
 -- last into it
-abbrev pub Retires : {M : Type 0} → (M → WriterStep → M → Type 0) → InitialState → Config → Traced M
-    → List ℕ → Traced M → List ℕ → Type 0
-Retires {M} does c config x limbo z limbo' = (y : Traced M) × (left : List ℕ)
+abbrev pub Retires : {M : Type 0} → (M → WriterStep → M → Type 0) → InitialState → Config → WithSteps M
+    → List ℕ → WithSteps M → List ℕ → Type 0
+Retires {M} does c config x limbo z limbo' = (y : WithSteps M) × (left : List ℕ)
     × Goes does x BumpToken y × MakesRoom (by_writer does c) config y limbo left z
     × (limbo' ≡ left ++ (state_of_traced c y).token ∷ [])

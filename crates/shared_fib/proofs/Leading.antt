@@ -29,12 +29,12 @@ use Rattle.lpm_writer.specs.declared.control.ControlState.{ControlState}
 use Rattle.lpm_writer.specs.Resting.{IsResting, state_of}
 use Rattle.lpm_writer.specs.Commands.{Commands}
 use Rattle.lpm_writer.specs.Taking.{LinksLeast}
-use Rattle.lpm_writer.specs.Traced.{Traced, by_writer}
+use Rattle.lpm_writer.specs.Traced.{WithSteps, by_writer}
 use Rattle.lpm_writer.proofs.StepsAlone.{adds_alone, deletes_alone, flushes_alone, frees_alone}
 use Rattle.shared_words.specs.Layout.{InitialData, initial_state_of}
 use Rattle.shared_words.specs.Seats.{AreChecked, AreLawful}
 use Rattle.shared_fib.specs.Leading.{Leads, writer_by}
-use Rattle.shared_fib.specs.Lent.{Lent, SharedDid, state_of_lent}
+use Rattle.shared_fib.specs.Lent.{LentSeat, SharedDid, state_of_lent}
 use Rattle.shared_fib.specs.Running.{Identity, IsReady, IsRestingBy, WriterState, by_steps, steps_of}
 use Rattle.shared_fib.specs.Freeing.{TakesLeast}
 use Rattle.shared_fib.proofs.Checked.{frees_checked}
@@ -202,7 +202,7 @@ told_to Outcome freed w x y id is own led =
 
 -- The seat, which knew v, was lent to the memory m, after whose steps the control state `old` rested. A command has led from
 -- there to the control state `new` and the memory z.
-module _ (f s : ℕ) (old new : ControlState f s) (v : View) (m z : Lent) (first : SharedDid m (initial_state_of v.initial) v.seen)
+module _ (f s : ℕ) (old new : ControlState f s) (v : View) (m z : LentSeat) (first : SharedDid m (initial_state_of v.initial) v.seen)
     (rested : IsRestingBy f s old v) where
   abbrev c : InitialState
   c = initial_state_of v.initial
@@ -220,10 +220,10 @@ module _ (f s : ℕ) (old new : ControlState f s) (v : View) (m z : Lent) (first
       pub at_seat : (t' : TableId) (w : View) → z.table ≡ t' → z.view ≡ w
           → IsReady f s new w × Leads K freed v.initial before (writer_by t' new w)
 
-    abbrev before_traced : State (Traced Lent)
+    abbrev before_traced : State (WithSteps LentSeat)
     before_traced = state_of old.rules.rules (m, v.seen) old.pool old.versions
 
-    abbrev after_traced : List WriterStep → State (Traced Lent)
+    abbrev after_traced : List WriterStep → State (WithSteps LentSeat)
     after_traced later = state_of new.rules.rules (z, later) new.pool new.versions
 
     abbrev same : Kept
@@ -283,7 +283,7 @@ module _ (f s : ℕ) (old new : ControlState f s) (v : View) (m z : Lent) (first
     added p hop r told links =
         let h = told c v.seen first rested in
         let z_table = (then h.0 h.1 h.2).table in
-        let alone = adds_alone Lent does_in c Kept kept stays same f s old.config before_traced
+        let alone = adds_alone LentSeat does_in c Kept kept stays same f s old.config before_traced
         (after_traced h.0) same_at_first p hop r h.3 in
         let left = adds_leave c f s old.config before.table p hop r z_table alone.0 in
         let least = takes_least f s v.initial v.seen h.0 old.config new.config old.rules new.rules old.pool new.pool
@@ -300,7 +300,7 @@ module _ (f s : ℕ) (old new : ControlState f s) (v : View) (m z : Lent) (first
     deleted p r told =
         let h = told c v.seen first rested in
         let z_table = (then h.0 h.1 h.2).table in
-        let alone = deletes_alone Lent does_in c Kept kept stays same f s old.config before_traced
+        let alone = deletes_alone LentSeat does_in c Kept kept stays same f s old.config before_traced
         (after_traced h.0) same_at_first p r h.3 in
         let left = deletes_leave c f s old.config before.table p r z_table alone.0 in (
           left.1,
@@ -315,7 +315,7 @@ module _ (f s : ℕ) (old new : ControlState f s) (v : View) (m z : Lent) (first
     flushed r told =
         let h = told c v.seen first rested in
         let z_table = (then h.0 h.1 h.2).table in
-        let alone = flushes_alone Lent does_in c Kept kept stays same f s old.config before_traced
+        let alone = flushes_alone LentSeat does_in c Kept kept stays same f s old.config before_traced
         (after_traced h.0) same_at_first r h.3 in
         let left = flushes_leave c f s old.config before.table r z_table alone.0 in (
           left.1,
@@ -330,7 +330,7 @@ module _ (f s : ℕ) (old new : ControlState f s) (v : View) (m z : Lent) (first
     freed max r told =
         let h = told c v.seen first rested in
         let z_table = (then h.0 h.1 h.2).table in
-        let alone = frees_alone Lent does_in c Kept kept stays same f s old.config before_traced
+        let alone = frees_alone LentSeat does_in c Kept kept stays same f s old.config before_traced
         (after_traced h.0) same_at_first max r h.3 in
         came h.0 h.1 h.2 _ (λ x. take r.freed x.table.limbo) 0 alone.0 alone.1
         (frees_later _ (steps_go_on c.workers c.token) before.table z_table max r alone.0)

@@ -11,7 +11,7 @@ use Rattle.lpm_trace.specs.States.{InitialState, TableState, done_at, begun_at, 
 use Rattle.lpm_trace.specs.Trace.{Seen, MayRead, read_first, second_read, with_answers, worker_by}
 use Rattle.lpm_trace.specs.Laws.{ArePlaced}
 use Rattle.lpm_trace.proofs.Traces.{at_now}
-use Rattle.shared_words.specs.Deeds.{Found, IsReadOn, loads_at, seen_of}
+use Rattle.shared_words.specs.Deeds.{AddressLookup, IsReadOn, loads_at, seen_of}
 use Rattle.shared_words.proofs.Together.{both_loads}
 use Rattle.std.proofs.lemmas.Option.{none-some, same_Some}
 use Rattle.shared_fib.specs.Running.{initial_state, hop_or}
@@ -24,7 +24,7 @@ use Rattle.shared_fib.specs.Bursts.{LooksUpBurst}
 -- ---- what a lookup's loads finish
 
 module _ (lo hi addr word first : ℕ) (hop : Option ℕ) (old : List Seen) where
-  abbrev found : Option (ℕ × ℕ) → Found
+  abbrev found : Option (ℕ × ℕ) → AddressLookup
   found second = record { addr = addr; hop = hop; word = word; first = first; second = second }
 
   abbrev finished : Option (ℕ × ℕ) → Option ℕ → List Seen
@@ -46,7 +46,7 @@ module _ (lo hi addr word first : ℕ) (hop : Option ℕ) (old : List Seen) wher
       ap (finished (Some load)) (ap (λ (x : ℕ × ℕ). hop_in (entry_in x.0)) same ∙ sym exact.2)
 
 module _ (addr low high word first begins ends : ℕ) (hop : Option ℕ) (steps : List (WorkerStep × ℕ)) where
-  abbrev one : Option (ℕ × ℕ) → Found
+  abbrev one : Option (ℕ × ℕ) → AddressLookup
   one second = record { addr = addr; hop = hop; word = word; first = first; second = second }
 
   replayed : (second : Option (ℕ × ℕ)) → IsReadOn (entry_in word) second hop
@@ -69,7 +69,7 @@ pub finished_more : (addr : ℕ) (hop : Option ℕ) (lo hi : ℕ) (p q : PassSta
     → (worker_by q.steps).finished ≡ seen_of lo hi (record l.found { addr = addr }) ∷ (worker_by p.steps).finished
 finished_more addr hop lo hi p q l history =
     let c : InitialState = initial_state q.table in
-    let f : Found = record l.found { addr = addr } in
+    let f : AddressLookup = record l.found { addr = addr } in
     let begin : WorkerStep × ℕ = (BeginLookup (addr ∷ []) l.low, l.begins) in
     let end : WorkerStep × ℕ = (EndLookup l.high, length q.seen) in
     let placed : ArePlaced c q.seen ((end ∷ (loads_at f.word f.first f.second ++ begin ∷ [])) ++ p.steps) =

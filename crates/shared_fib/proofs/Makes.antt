@@ -16,7 +16,7 @@ use Rattle.shared_words.specs.declared.view.View.{View}
 use Rattle.shared_words.specs.Layout.{InitialData, initial_state_of}
 use Rattle.shared_words.specs.Rule.{IsLater}
 use Rattle.shared_words.specs.Seats.{IsSound, Gains, WorkerAt}
-use Rattle.shared_words.specs.Deeds.{Found, IsReadOn, firsts_at, loads_at, seconds_at, seen_of, GainsAll, GainsAt, GoesOn, LoadsAround, LooksUp as DeedLooksUp, LooksUpAll as DeedLooksUpAll}
+use Rattle.shared_words.specs.Deeds.{AddressLookup, IsReadOn, firsts_at, loads_at, seconds_at, seen_of, GainsAll, GainsAt, GoesOn, LoadsAround, LooksUp as DeedLooksUp, LooksUpAll as DeedLooksUpAll}
 use Rattle.shared_words.proofs.Deeds.{all_at, gains_on, goes_at, goes_on, later_trans, later_longer}
 use Rattle.shared_fib.specs.Versions.{updates_begun, updates_done}
 use Rattle.shared_fib.specs.Passes.{PassState, Makes, IsAnswered, IsOfVersion, LooksUp, LooksUpAll}
@@ -135,7 +135,7 @@ of_version table o w_steps l written h =
 -- ---- a lookup
 
 -- an address with a legal lookup is answered by a version
-is_answered : (table : TableId) (o : InitialData) (w_steps : List WriterStep) (lo hi : ℕ) (f : Found) → IsWritten (initial_state_of o) w_steps
+is_answered : (table : TableId) (o : InitialData) (w_steps : List WriterStep) (lo hi : ℕ) (f : AddressLookup) → IsWritten (initial_state_of o) w_steps
     → IsReadOn (entry_in f.word) f.second f.hop → IsLegalAtPlace (initial_state_of o) w_steps (seen_of lo hi f)
     → IsAnswered (record { words = table; initial = o }) w_steps lo hi f
 is_answered table o w_steps lo hi f written exact h = record {

@@ -18,19 +18,19 @@ use Rattle.shared_words.specs.declared.view.View.{View}
 use Rattle.shared_words.specs.Layout.{InitialData, initial_state_of}
 use Rattle.shared_words.specs.Seats.{AreLawful, with_step}
 use Rattle.shared_fib.specs.Leading.{IsInGrace}
-use Rattle.shared_fib.specs.Lent.{Lent, SharedDid, passed_by, state_of_lent, state_of_view, token_by}
+use Rattle.shared_fib.specs.Lent.{LentSeat, SharedDid, passed_by, state_of_lent, state_of_view, token_by}
 use Rattle.shared_fib.specs.Running.{IsReady, OnlySees}
 use Rattle.shared_fib.proofs.Seated.{either, on_err_then, on_ok_both, on_ok_then, seat_passed, seat_token_stays, Kept, kept, does_in, stays, only_sees, outcome_after, rests_after}
 use Rattle.shared_fib.proofs.Waited.{exhausted_by, queued_passed}
 
-pub kept_by_check : (o : InitialData) (m z : Lent) (steps later : List WriterStep) (token : ℕ) (r : Result (Unit {0}) Busy)
+pub kept_by_check : (o : InitialData) (m z : LentSeat) (steps later : List WriterStep) (token : ℕ) (r : Result (Unit {0}) Busy)
     → traced.Checks does_in (initial_state_of o) (m, steps) token r (z, later) → kept z ≡ kept m
 kept_by_check o m z steps later token r =
-    checks_fixed Lent does_in (initial_state_of o) Kept kept stays (m, steps) (z, later) token r
+    checks_fixed LentSeat does_in (initial_state_of o) Kept kept stays (m, steps) (z, later) token r
 
 -- The seat, which knew v, was lent to the memory m. From the control state `old` and m the call has led to `new` and z, and
 -- the seat knows w then.
-module _ (f s : ℕ) (old new : ControlState f s) (v w : View) (m z : Lent) (knew : m.view ≡ v) (knows : z.view ≡ w)
+module _ (f s : ℕ) (old new : ControlState f s) (v w : View) (m z : LentSeat) (knew : m.view ≡ v) (knows : z.view ≡ w)
     (low : (state_of_lent z).token ≤ 2 ^ 62) (few : updates_begun_in (state_of_lent z) ≤ 2 ^ 61) where
   abbrev c : InitialState
   c = initial_state_of v.initial
@@ -65,8 +65,8 @@ module _ (f s : ℕ) (old new : ControlState f s) (v w : View) (m z : Lent) (kne
         (exhausted_by (initial_state_of m.view.initial) m.view.seen (IsErr r) new.config.groups exhausted);
     started = on_ok_then r came (λ h. sym knows ∙ h.2.0.view ∙ ap (λ (x : View). with_step x BumpToken) knew);
     waits = on_ok_then r came (λ h. in_grace h.0 h.1 h.3);
-    untouched = on_err_then r same (λ is. sym knows ∙ ap (λ (l : Lent). l.view) is ∙ knew);
-    table = either r came same (λ h. h.2.0.table) (ap (λ (l : Lent). l.table));
+    untouched = on_err_then r same (λ is. sym knows ∙ ap (λ (l : LentSeat). l.view) is ∙ knew);
+    table = either r came same (λ h. h.2.0.table) (ap (λ (l : LentSeat). l.table));
   }
 
   -- ---- a check
@@ -94,7 +94,7 @@ module _ (f s : ℕ) (old new : ControlState f s) (v w : View) (m z : Lent) (kne
       subst (λ (t : ℕ). Checks c.workers v.seen t r z.view.seen)
       (ap (λ (x : View). (state_of_view x).token) knew ∙ token_is c v.seen)
       (outcome_after (Checks c.workers v.seen token r) z c came.0 came.1
-      (checks_alone Lent does_in c (m, v.seen) (z, came.0) token r came.2)) in
+      (checks_alone LentSeat does_in c (m, v.seen) (z, came.0) token r came.2)) in
       let rests : OnOk r (Rests (initial_state_of z.view.initial) z.view.seen) =
       on_ok_then r came.3 (rests_after Rests z c came.0 came.1) in
       subst (ChecksOnce r) knows (record {

@@ -20,19 +20,19 @@ use Rattle.lpm_writer.specs.Resting.{IsResting}
 use Rattle.lpm_writer.proofs.StepsAlone.{checks_alone, checks_fixed, stopped_token}
 use Rattle.shared_words.specs.declared.view.View.{View}
 use Rattle.shared_words.specs.Layout.{initial_state_of}
-use Rattle.shared_fib.specs.Lent.{Lent, SharedDid, SharedDoes, state_of_lent}
+use Rattle.shared_fib.specs.Lent.{LentSeat, SharedDid, SharedDoes, state_of_lent}
 use Rattle.shared_fib.specs.LentLaws.{shared_shows}
 use Rattle.shared_fib.specs.Leading.{PassesAtLast}
 use Rattle.shared_fib.proofs.Seated.{Kept, kept, does_in, stays}
 
 -- the newest token was started last in m, and each check of it since was stopped
-pub record HasWaited (m z : Lent) : Type 0 where
+pub record HasWaited (m z : LentSeat) : Type 0 where
   pub stops : ℕ
   pub did : SharedDid z (initial_state_of m.view.initial) z.view.seen
   pub same : kept z ≡ kept m
   pub stopped : AreStopped m.view.initial.workers stops m.view.seen (state_of_lent m).token z.view.seen
 
-module _ (m : Lent) where
+module _ (m : LentSeat) where
   abbrev c : InitialState
   c = initial_state_of m.view.initial
 
@@ -40,7 +40,7 @@ module _ (m : Lent) where
   not_yet did = record { stops = 0; did = did; same = refl; stopped = refl }
 
   -- one more check
-  module _ (y z : Lent) (so_far : HasWaited m y) (later : List WriterStep) (did : SharedDid z c later) where
+  module _ (y z : LentSeat) (so_far : HasWaited m y) (later : List WriterStep) (did : SharedDid z c later) where
     abbrev IsChecked : Result (Unit {0}) Busy → Type 0
     IsChecked r = Checks does_in c (y, y.view.seen) (state_of_lent y).token r (z, later)
 
@@ -53,11 +53,11 @@ module _ (m : Lent) where
     alone r checks =
         subst (λ t. by_steps.Checks c.workers y.view.seen t r z.view.seen) token_same
         (subst (λ l. by_steps.Checks c.workers y.view.seen (state_of_lent y).token r l)
-        did.steps_are (checks_alone Lent does_in c (y, y.view.seen) (z, later) (state_of_lent y).token r checks))
+        did.steps_are (checks_alone LentSeat does_in c (y, y.view.seen) (z, later) (state_of_lent y).token r checks))
 
     pub still : (r : Result (Unit {0}) Busy) → IsChecked r → kept z ≡ kept m
     still r checks =
-        checks_fixed Lent does_in c Kept kept stays (y, y.view.seen) (z, later) (state_of_lent y).token r checks
+        checks_fixed LentSeat does_in c Kept kept stays (y, y.view.seen) (z, later) (state_of_lent y).token r checks
         ∙ so_far.same
 
     pub once_more : (busy : Busy) → IsChecked (Err busy) → HasWaited m z
@@ -82,7 +82,7 @@ passes_at_last c x z h =
       passes = subst (λ t. by_steps.Checks c.workers h.1 t (Ok tt) z) token h.3;
     }
 
-pub synchronized : (m z : Lent) (later : List WriterStep) → SharedDoes BumpToken m z
+pub synchronized : (m z : LentSeat) (later : List WriterStep) → SharedDoes BumpToken m z
     → PassesAtLast (initial_state_of z.view.initial) z.view.seen later
     → Synchronizes m.view.initial.workers m.view.initial.token m.view.seen later
 synchronized m z later does passes =

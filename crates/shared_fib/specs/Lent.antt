@@ -12,12 +12,12 @@ use Rattle.shared_words.specs.Layout.{initial_state_of}
 use Rattle.shared_words.specs.Seats.{with_step}
 
 -- a seat that was lent under a name: its table, and what it knows
-pub record Lent : Type 0 where
+pub record LentSeat : Type 0 where
   pub name : ℕ
   pub table : TableId
   pub view : View
 
-abbrev pub coded_lent : Coded Lent
+abbrev pub coded_lent : Coded LentSeat
 coded_lent =
     code_by (ℕ × (TableId × View)) (coded× coded_ℕ (coded× table_id_coded view_row.the_row.coded))
     (λ l. (l.name, (l.table, l.view)))
@@ -35,7 +35,7 @@ token_by v = token_after v.initial.token v.seen
 abbrev pub passed_by : View → ℕ
 passed_by v = passed_after v.initial.workers v.seen
 
-abbrev pub state_of_lent : Lent → TableState
+abbrev pub state_of_lent : LentSeat → TableState
 state_of_lent m = state_of_view m.view
 
 -- the token is the newest, and neither it nor the updates are past their bound
@@ -45,17 +45,17 @@ pub record IsAt (v : View) (token : ℕ) : Type 0 where
   pub few : updates_begun_in (state_of_view v) ≤ 2 ^ 61
 
 -- the step may come next
-abbrev pub SharedMay : Lent → WriterStep → Type 0
+abbrev pub SharedMay : LentSeat → WriterStep → Type 0
 SharedMay m s = MayStep (initial_state_of m.view.initial) m.view.seen s
 
 -- the steps are those of the seat, each of which might come
-pub record SharedDid (m : Lent) (c : InitialState) (steps : List WriterStep) : Type 0 where
+pub record SharedDid (m : LentSeat) (c : InitialState) (steps : List WriterStep) : Type 0 where
   pub initial : c ≡ initial_state_of m.view.initial
   pub steps_are : steps ≡ m.view.seen
   pub written : IsWritten c steps
 
 -- the seat has made one more step
-pub record SharedDoes (s : WriterStep) (m z : Lent) : Type 0 where
+pub record SharedDoes (s : WriterStep) (m z : LentSeat) : Type 0 where
   pub name : z.name ≡ m.name
   pub table : z.table ≡ m.table
   pub view : z.view ≡ with_step m.view s

@@ -6,9 +6,9 @@ use Rattle.lpm_trace.specs.Writer.{MayStep}
 use Rattle.lpm_writer.specs.Plain.{MayBeNext}
 use Rattle.shared_words.specs.declared.view.View.{View}
 use Rattle.shared_words.specs.Layout.{initial_state_of}
-use Rattle.shared_fib.specs.Lent.{Lent, SharedMay, SharedDid, SharedDoes, state_of_lent}
+use Rattle.shared_fib.specs.Lent.{LentSeat, SharedMay, SharedDid, SharedDoes, state_of_lent}
 
-pub shared_follows : (m : Lent) (s : WriterStep) (z : Lent) (c : InitialState) (steps : List WriterStep)
+pub shared_follows : (m : LentSeat) (s : WriterStep) (z : LentSeat) (c : InitialState) (steps : List WriterStep)
     → SharedDoes s m z → SharedDid m c steps → MayStep c steps s → SharedDid z c (s ∷ steps)
 shared_follows m s z c steps does did may = record {
   initial = did.initial ∙ ap (λ (v : View). initial_state_of v.initial) (sym does.view);
@@ -16,8 +16,9 @@ shared_follows m s z c steps does did may = record {
   written = (may, did.written);
 }
 
-pub shared_shows : (m : Lent) (c : InitialState) (steps : List WriterStep) → SharedDid m c steps
-    → ((state_of_lent m).words ≡ (state_after c steps).words) × ((state_of_lent m).token ≡ (state_after c steps).token)
+pub shared_shows : (m : LentSeat) (c : InitialState) (steps : List WriterStep) → SharedDid m c steps
+    → ((state_of_lent m).words ≡ (state_after c steps).words)
+    × ((state_of_lent m).token ≡ (state_after c steps).token)
     × (m.view.initial.workers ≡ c.workers)
 shared_shows m c steps did = (
   ap (λ (z : InitialState × List WriterStep). (state_after z.0 z.1).words)
@@ -27,7 +28,7 @@ shared_shows m c steps did = (
   ap (λ (z : InitialState). z.workers) (sym did.initial),
 )
 
-pub shared_may : (m : Lent) (s : WriterStep) → MayBeNext SharedDid m s → SharedMay m s
+pub shared_may : (m : LentSeat) (s : WriterStep) → MayBeNext SharedDid m s → SharedMay m s
 shared_may m s may =
     let did = may.2 in
     subst (λ (z : InitialState × List WriterStep). MayStep z.0 z.1 s)

@@ -15,7 +15,7 @@ use Rattle.lpm_trace.specs.Writer.{IsWritten}
 use Rattle.lpm_trace.specs.Trace.{worker_by}
 use Rattle.lpm_trace.specs.Laws.{ArePlaced, IsLegalAtPlace}
 use Rattle.shared_words.specs.Rule.{IsLater}
-use Rattle.shared_words.specs.Deeds.{Found, IsReadOn, firsts_at, last_at, loads_at, seconds_at}
+use Rattle.shared_words.specs.Deeds.{AddressLookup, IsReadOn, firsts_at, last_at, loads_at, seconds_at}
 use Rattle.shared_fib.specs.Running.{Identity, coded_identity, initial_state, phase_by}
 use Rattle.shared_fib.specs.Versions.{IsVersion, updates_begun, updates_done}
 use Rattle.lpm_trace.specs.contracts.step.WriterStep as writer_row
@@ -56,7 +56,7 @@ pub record IsOfVersion (table : Identity) (steps : List WriterStep) (addr : ℕ)
 
 -- an address that was looked up has its hop by its last word, and that is the answer of a version from `lo`
 -- to `hi`, which stood at a place from the load of its first word to that of its last
-pub record IsAnswered (table : Identity) (steps : List WriterStep) (lo hi : ℕ) (f : Found) : Type 0 where
+pub record IsAnswered (table : Identity) (steps : List WriterStep) (lo hi : ℕ) (f : AddressLookup) : Type 0 where
   pub exact : IsReadOn (entry_in f.word) f.second f.hop
   pub place : ℕ
   pub version : ℕ
@@ -70,7 +70,7 @@ pub record IsAnswered (table : Identity) (steps : List WriterStep) (lo hi : ℕ)
 pub record LooksUp (addr : ℕ) (hop : Option ℕ) (lo hi : ℕ) (p q : PassState) : Type 0 where
   pub low : ℕ
   pub begins : ℕ
-  pub found : Found
+  pub found : AddressLookup
   pub high : ℕ
   pub steps : Makes ((EndLookup high, length q.seen)
       ∷ (loads_at found.word found.first found.second ++ (BeginLookup (addr ∷ []) low, begins) ∷ [])) p q
@@ -85,12 +85,12 @@ pub record LooksUp (addr : ℕ) (hop : Option ℕ) (lo hi : ℕ) (p q : PassStat
 pub record LooksUpAll (addrs : List ℕ) (hops : List (Option ℕ)) (lo hi : ℕ) (p q : PassState) : Type 0 where
   pub low : ℕ
   pub begins : ℕ
-  pub found : List Found
+  pub found : List AddressLookup
   pub high : ℕ
   pub steps : Makes ((EndLookup high, length q.seen)
       ∷ ((seconds_at found ++ firsts_at found) ++ (BeginLookup addrs low, begins) ∷ [])) p q
-  pub addrs_are : map (λ (f : Found). f.addr) found ≡ addrs
-  pub hops_are : map (λ (f : Found). f.hop) found ≡ hops
+  pub addrs_are : map (λ (f : AddressLookup). f.addr) found ≡ addrs
+  pub hops_are : map (λ (f : AddressLookup). f.hop) found ≡ hops
   pub done_then : lo ≡ updates_done (oldest begins q.seen)
   pub begun_then : hi ≡ updates_begun q.seen
   pub answers : All (IsAnswered p.table q.seen lo hi) found

@@ -20,10 +20,10 @@ pub struct SharedMemory<'a, const FIRST: u32, const SECOND: u32> {
 }
 
 impl<'a, const FIRST: u32, const SECOND: u32> Model for SharedMemory<'a, FIRST, SECOND> {
-    ghost use Rattle.shared_fib.specs.Lent.{Lent, coded_lent, IsAt};
+    ghost use Rattle.shared_fib.specs.Lent.{LentSeat, coded_lent, IsAt};
     ghost use Rattle.shared_words.specs.Seats.{IsOf};
 
-    ghost Value = { Lent };
+    ghost Value = { LentSeat };
 
     ghost coded = { coded_lent };
 

@@ -13,7 +13,7 @@ use Rattle.lpm_trace.specs.Laws.{IsLegalAtPlace}
 use Rattle.shared_words.specs.declared.view.View.{View}
 use Rattle.shared_words.specs.Layout.{InitialData, initial_state_of}
 use Rattle.shared_words.specs.Seats.{IsSound, Gains, IsSecondAt}
-use Rattle.shared_words.specs.Deeds.{Found, IsReadOn, last_at, seen_of, firsts_at, loads_at, second_load, seconds_at, GainsAt, GoesOn, LoadsFirsts, LoadsLast, IsNextWith, LooksFor, LooksUp, LooksUpAll, first_words, loads_first}
+use Rattle.shared_words.specs.Deeds.{AddressLookup, IsReadOn, last_at, seen_of, firsts_at, loads_at, second_load, seconds_at, GainsAt, GoesOn, LoadsFirsts, LoadsLast, IsNextWith, LooksFor, LooksUp, LooksUpAll, first_words, loads_first}
 use Rattle.shared_words.proofs.Deeds.{alone, gains_on, goes_at, goes_on, gains_state, around, later_longer, answered, word_fits}
 
 -- ---- the probes of a lookup
@@ -171,10 +171,10 @@ module _ (addr word : ℕ) (v : View) where
 -- ---- the whole lookup
 
 -- the answer that was found for an address
-abbrev answer : Found → Probe
+abbrev answer : AddressLookup → Probe
 answer f = Answered f.addr f.hop f.first (last_at f.first f.second)
 
-all_answers : (done : List Found) → AreAnswered (map answer done)
+all_answers : (done : List AddressLookup) → AreAnswered (map answer done)
 all_answers [] = tt
 all_answers (f ∷ done) = all_answers done
 
@@ -186,18 +186,18 @@ all_first (n ∷ places) (a ∷ addrs) (word ∷ words) =
     begun_cons n a (entry_in word) (first_words places addrs words) (all_first places addrs words)
 
 -- one more address has its answer
-answer_more : (done : List Found) (f : Found) (rest : List Probe)
+answer_more : (done : List AddressLookup) (f : AddressLookup) (rest : List Probe)
     → map answer done ++ answer f ∷ rest ≡ map answer (done ++ f ∷ []) ++ rest
 answer_more [] f rest = refl
 answer_more (x ∷ done) f rest = ap (λ (ps : List Probe). answer x ∷ ps) (answer_more done f rest)
 
-firsts_more : (done : List Found) (f : Found)
+firsts_more : (done : List AddressLookup) (f : AddressLookup)
     → (LoadFirst f.word, f.first) ∷ [] ++ firsts_at done ≡ firsts_at (done ++ f ∷ [])
 firsts_more [] f = refl
 firsts_more (x ∷ done) f =
     ap (λ (steps : List (WorkerStep × ℕ)). steps ++ (LoadFirst x.word, x.first) ∷ []) (firsts_more done f)
 
-seconds_more : (done : List Found) (f : Found)
+seconds_more : (done : List AddressLookup) (f : AddressLookup)
     → second_load f.second ++ seconds_at done ≡ seconds_at (done ++ f ∷ [])
 seconds_more [] f = append-nil (second_load f.second)
 seconds_more (x ∷ done) f = sym (append_assoc (second_load f.second) (seconds_at done) (second_load x.second))
@@ -205,7 +205,7 @@ seconds_more (x ∷ done) f = sym (append_assoc (second_load f.second) (seconds_
 
 -- a lookup of these addresses began at view v and had its first words at view f. At view u those that are
 -- done have their answers, and behind them those that are left have their first words.
-pub record Reads (all : List ℕ) (low : ℕ) (v0 v f : View) (done : List Found) (places left words : List ℕ) (u : View)
+pub record Reads (all : List ℕ) (low : ℕ) (v0 v f : View) (done : List AddressLookup) (places left words : List ℕ) (u : View)
     : Type 0 where
   pub begins : Gains (BeginLookup all low) v0 v
   pub count : length places ≡ length left
@@ -252,7 +252,7 @@ reads_alone {a} {addr} {word} {low} {v0} {v} {f} same begun fit g =
     reads (ap (λ n. n ∷ []) same) begun (All-cons is word [] fit (All-nil is)) (first_loaded unread g)
 
 -- an address that was looked up, where its first word was loaded at the first of these places
-abbrev found : ℕ → ℕ → ℕ → List ℕ → Option (ℕ × ℕ) → Found
+abbrev found : ℕ → ℕ → ℕ → List ℕ → Option (ℕ × ℕ) → AddressLookup
 found a word last places second = record {
   addr = a;
   hop = hop_in (entry_in last);
@@ -261,7 +261,7 @@ found a word last places second = record {
   second = second;
 }
 
-module _ {all : List ℕ} {low : ℕ} {v0 v f : View} {done : List Found} where
+module _ {all : List ℕ} {low : ℕ} {v0 v f : View} {done : List AddressLookup} where
   -- the next address
   next_of : {n a word : ℕ} {places left words : List ℕ} {u : View}
       → Reads all low v0 v f done (n ∷ places) (a ∷ left) (word ∷ words) u → IsNextWith a word (worker_by u.own).probes
@@ -299,7 +299,7 @@ module _ {all : List ℕ} {low : ℕ} {v0 v f : View} {done : List Found} where
   unfolding next_of
   answers {places = []} h loads = absurd (omega (arith, h.count))
   answers {a} {word} {last} {places = n ∷ places} {left} {words} {u} {s} h loads =
-      let x : Found = found a word last (n ∷ places) loads.second in
+      let x : AddressLookup = found a word last (n ∷ places) loads.second in
       record {
         begins = h.begins;
         count = omega (arith, h.count);
@@ -327,27 +327,27 @@ module _ {all : List ℕ} {low : ℕ} {v0 v f : View} {done : List Found} where
       (subst AreAnswered (sym (append-nil (map answer done))) (all_answers done))
 
 -- what the end of a lookup finishes
-in_order : (lo hi : ℕ) (done : List Found) (old : List Seen)
+in_order : (lo hi : ℕ) (done : List AddressLookup) (old : List Seen)
     → with_answers lo hi (map answer done) old ≡ reverse_aux (map (seen_of lo hi) done) old
 in_order lo hi [] old = refl
 in_order lo hi (x ∷ done) old = in_order lo hi done (seen_of lo hi x ∷ old)
 
 module _ (P : Seen → Type 0) (lo hi : ℕ) where
-  kept : (done : List Found) (old : List Seen) → All P (reverse_aux (map (seen_of lo hi) done) old) → All P old
+  kept : (done : List AddressLookup) (old : List Seen) → All P (reverse_aux (map (seen_of lo hi) done) old) → All P old
   kept [] old all = all
   kept (x ∷ done) old all = All-tail P (seen_of lo hi x) old (kept done (seen_of lo hi x ∷ old) all)
 
-  each : (done : List Found) (old : List Seen) → All P (reverse_aux (map (seen_of lo hi) done) old)
+  each : (done : List AddressLookup) (old : List Seen) → All P (reverse_aux (map (seen_of lo hi) done) old)
       → All (λ x. P (seen_of lo hi x)) done
   each [] old all = All-nil (λ x. P (seen_of lo hi x))
   each (x ∷ done) old all = All-cons (λ x. P (seen_of lo hi x)) x done
       (All-head P (seen_of lo hi x) old (kept done (seen_of lo hi x ∷ old) all))
       (each done (seen_of lo hi x ∷ old) all)
 
-module _ {all : List ℕ} {low high : ℕ} {v0 v f : View} {done : List Found} {s w : View} where
+module _ {all : List ℕ} {low high : ℕ} {v0 v f : View} {done : List AddressLookup} {s w : View} where
   pub looked_together : {places : List ℕ} {hops : List (Option ℕ)} {lo hi : ℕ} → Reads all low v0 v f done places [] [] s
-      → Gains (EndLookup high) s w → IsSound v → IsSound w → map (λ (x : Found). x.addr) done ≡ all
-      → map (λ (x : Found). x.hop) done ≡ hops → lo ≡ done_at low → hi ≡ begun_at high
+      → Gains (EndLookup high) s w → IsSound v → IsSound w → map (λ (x : AddressLookup). x.addr) done ≡ all
+      → map (λ (x : AddressLookup). x.hop) done ≡ hops → lo ≡ done_at low → hi ≡ begun_at high
       → LooksUpAll all hops lo hi v0 w
   looked_together {places = n ∷ places} h ends known_then known addrs_are hops_are lo_is hi_is = absurd (omega (arith, h.count))
   looked_together {places = []} {hops} {lo} {hi} h ends known_then known addrs_are hops_are lo_is hi_is =
@@ -396,7 +396,7 @@ pub both_loads : (word first : ℕ) (second : Option (ℕ × ℕ))
 both_loads word first None = refl
 both_loads word first (Some second) = refl
 
-module _ {addr low high : ℕ} {v0 v f : View} {x : Found} {s w : View} where
+module _ {addr low high : ℕ} {v0 v f : View} {x : AddressLookup} {s w : View} where
   pub looked : {places : List ℕ} {hop : Option ℕ} {lo hi : ℕ} → Reads (addr ∷ []) low v0 v f (x ∷ []) places [] [] s
       → Gains (EndLookup high) s w → IsSound v → IsSound w → x.addr ≡ addr → x.hop ≡ hop → lo ≡ done_at low
       → hi ≡ begun_at high → LooksUp addr hop lo hi v0 w

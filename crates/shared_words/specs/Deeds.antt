@@ -20,7 +20,7 @@ use Rattle.shared_words.specs.Seats.{Gains}
 
 -- one address of a lookup, with its hop; its first word, and its second word where one is loaded, each with
 -- the place of its load: how many of the writer's steps its worker had seen then
-pub record Found : Type 0 where
+pub record AddressLookup : Type 0 where
   pub addr : ℕ
   pub hop : Option ℕ
   pub word : ℕ
@@ -45,7 +45,7 @@ last_at first None = first
 last_at first (Some second) = second.1
 
 -- the lookup that is finished with these loads
-abbrev pub seen_of : ℕ → ℕ → Found → Seen
+abbrev pub seen_of : ℕ → ℕ → AddressLookup → Seen
 seen_of lo hi f = record {
   addr = f.addr;
   hop = f.hop;
@@ -58,7 +58,7 @@ seen_of lo hi f = record {
 -- ---- several addresses
 
 -- the loads of their first words, in the order of the addresses
-abbrev pub firsts_at : List Found → List (WorkerStep × ℕ)
+abbrev pub firsts_at : List AddressLookup → List (WorkerStep × ℕ)
 firsts_at [] = []
 firsts_at (f ∷ found) = firsts_at found ++ (LoadFirst f.word, f.first) ∷ []
 
@@ -68,7 +68,7 @@ second_load None = []
 second_load (Some second) = (LoadSecond second.0, second.1) ∷ []
 
 -- the loads of their second words, in the order of the addresses
-abbrev pub seconds_at : List Found → List (WorkerStep × ℕ)
+abbrev pub seconds_at : List AddressLookup → List (WorkerStep × ℕ)
 seconds_at [] = []
 seconds_at (f ∷ found) = seconds_at found ++ second_load f.second
 
@@ -107,7 +107,7 @@ pub record LooksUp (addr : ℕ) (hop : Option ℕ) (lo hi : ℕ) (v w : View) : 
   pub started : View
   pub loaded : View
   pub around : LoadsAround (addr ∷ []) lo hi v started loaded w
-  pub found : Found
+  pub found : AddressLookup
   pub steps : GainsAt (loads_at found.word found.first found.second) started loaded
   pub exact : IsReadOn (entry_in found.word) found.second found.hop
   pub answer : (found.addr ≡ addr) × (found.hop ≡ hop)
@@ -149,7 +149,8 @@ pub record IsNextWith (addr word : ℕ) (probes : List Probe) : Type 0 where
   pub begun : AreBegun rest
   pub split : probes ≡ before ++ read_first first addr (entry_in word) ∷ rest
 
--- a lookup goes on, and its next address without its answer is this one, with this first word, which may stand
+-- a lookup goes on, and its next address without its answer is this one, with this first word, which may
+-- stand
 -- in the first table
 pub record LooksFor (first second addr word : ℕ) (v : View) : Type 0 where
   pub fit : IsFirstWord (first + second) second v.initial.seconds word
@@ -176,11 +177,11 @@ pub record LooksUpAll (addrs : List ℕ) (hops : List (Option ℕ)) (lo hi : ℕ
   pub started : View
   pub loaded : View
   pub around : LoadsAround addrs lo hi v started loaded w
-  pub found : List Found
+  pub found : List AddressLookup
   pub steps : GainsAt (seconds_at found ++ firsts_at found) started loaded
   pub exact : All (λ f. IsReadOn (entry_in f.word) f.second f.hop) found
-  pub addrs_are : map (λ (f : Found). f.addr) found ≡ addrs
-  pub hops_are : map (λ (f : Found). f.hop) found ≡ hops
+  pub addrs_are : map (λ (f : AddressLookup). f.addr) found ≡ addrs
+  pub hops_are : map (λ (f : AddressLookup). f.hop) found ≡ hops
   pub rest : GoesOn v w
   pub online : (worker_by w.own).phase ≡ Online
   pub finished : (worker_by w.own).finished

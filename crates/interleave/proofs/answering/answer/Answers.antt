@@ -2,7 +2,7 @@ use Rattle.std.proofs.Common.{◌≡◌, refl, ap, sym, subst, ◌∙◌, List, 
 use Rattle.lpm_rules.specs.declared.Change.{Change}
 use Rattle.fib_model.specs.State.{State}
 use Rattle.lpm_writer.specs.declared.control.ControlState.{ControlState}
-use Rattle.lpm_writer.specs.Traced.{Traced}
+use Rattle.lpm_writer.specs.Traced.{WithSteps}
 use Rattle.lpm_trace.specs.declared.step.WriterStep.{WriterStep}
 use Rattle.lpm_writer.specs.Resting.{IsResting, state_of}
 use Rattle.lpm_writer.proofs.StepsAlone.{adds_alone, deletes_alone, flushes_alone, frees_alone}
@@ -31,9 +31,9 @@ returns-clause-replies g c = λ setup steps did rests.
     let old = c.args.control.now in
     let config = old.config in
     let kind = scripts_and_schedule c.args.memory.now in
-    let before : State (Traced WorldView) = state_of {X = Traced WorldView} old.rules.rules (c.args.memory.now, steps) old.pool old.versions in
-    let after : WorldView → ControlState f s → List WriterStep → State (Traced WorldView) = λ m l later.
-    state_of {X = Traced WorldView} l.rules.rules (m, later) l.pool l.versions in
+    let before : State (WithSteps WorldView) = state_of {X = WithSteps WorldView} old.rules.rules (c.args.memory.now, steps) old.pool old.versions in
+    let after : WorldView → ControlState f s → List WriterStep → State (WithSteps WorldView) = λ m l later.
+    state_of {X = WithSteps WorldView} l.rules.rules (m, later) l.pool l.versions in
     let Came : Change f s → WorldView → ControlState f s → Reply → Type 0 = λ change m l r. (later : List WriterStep) × WorldDid f s m setup later
     × IsResting f s setup later l.config l.rules l.pool l.versions
     × Answers setup f s config (state_by_steps old.rules steps old.pool old.versions) change r (state_by_steps l.rules later l.pool l.versions) in
@@ -72,9 +72,9 @@ returns-clause-scripts g c =
     let config = old.config in
     let kind = scripts_and_schedule c.args.memory.now in
     let rests = c.requires.rests in
-    let before : State (Traced WorldView) = state_of {X = Traced WorldView} old.rules.rules (c.args.memory.now, rests.1) old.pool old.versions in
-    let after : WorldView → ControlState f s → List WriterStep → State (Traced WorldView) = λ m l later.
-    state_of {X = Traced WorldView} l.rules.rules (m, later) l.pool l.versions in
+    let before : State (WithSteps WorldView) = state_of {X = WithSteps WorldView} old.rules.rules (c.args.memory.now, rests.1) old.pool old.versions in
+    let after : WorldView → ControlState f s → List WriterStep → State (WithSteps WorldView) = λ m l later.
+    state_of {X = WithSteps WorldView} l.rules.rules (m, later) l.pool l.versions in
     elim c.match-change.branch [
       | in-Add+in-Ok w ↦
           let now = w.in-Ok.ensures.adds rests.0 rests.1 rests.2 rests.3 in

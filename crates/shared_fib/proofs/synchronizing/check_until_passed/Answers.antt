@@ -5,7 +5,7 @@ use Rattle.lpm_writer.specs.declared.control.ControlState.{ControlState}
 use Rattle.lpm_writer.specs.Resting.{IsResting}
 use Rattle.lpm_writer.specs.Commands.{IsWaiting}
 use Rattle.shared_words.specs.Layout.{initial_state_of}
-use Rattle.shared_fib.specs.Lent.{Lent}
+use Rattle.shared_fib.specs.Lent.{LentSeat}
 use Rattle.shared_fib.proofs.Seated.{Kept, kept, only_sees, rests_after, outcome_after}
 use Rattle.shared_fib.proofs.Waited.{not_yet, still, once_more, at_last, queued_passed}
 use Rattle.shared_fib.proofs.synchronizing.check_until_passed.Goals as goal
@@ -19,15 +19,15 @@ loop-init g c = record {
 
 pub check_synchronize-requires : goal.check_synchronize-requires
 check_synchronize-requires g c =
-    let m : Lent = c.args.memory.now in
-    let y : Lent = c.loop.memory in
+    let m : LentSeat = c.args.memory.now in
+    let y : LentSeat = c.loop.memory in
     let so_far = c.loop.invariant in
     (omega arith, (initial_state_of m.view.initial, y.view.seen, so_far.waited.did, so_far.waits))
 
 pub loop-preserved : goal.loop-preserved
 loop-preserved g c =
     let new = c.check_synchronize.new.control in
-    let m : Lent = c.args.memory.now in
+    let m : LentSeat = c.args.memory.now in
     let so_far = c.loop.invariant in
     let now = c.in-Err.ensures.checks _ _ so_far.waited.did so_far.waits in
     record {
@@ -42,9 +42,9 @@ returns-in-Ok g c =
     let f = g.row.FIRST in
     let s = g.row.SECOND in
     let new = c.check_synchronize.new.control in
-    let m : Lent = c.args.memory.now in
-    let y : Lent = c.loop.memory in
-    let z : Lent = c.check_synchronize.new.memory in
+    let m : LentSeat = c.args.memory.now in
+    let y : LentSeat = c.loop.memory in
+    let z : LentSeat = c.check_synchronize.new.memory in
     let setup : InitialState = initial_state_of m.view.initial in
     let so_far = c.loop.invariant in
     let now = c.in-Ok.ensures.checks setup y.view.seen so_far.waited.did so_far.waits in

@@ -5,21 +5,21 @@ use Rattle.lpm_trace.specs.States.{InitialState}
 use Rattle.lpm_writer.specs.Commands.{IsWaiting}
 use Rattle.shared_words.specs.declared.view.View.{View}
 use Rattle.shared_words.specs.Layout.{initial_state_of}
-use Rattle.shared_fib.specs.Lent.{Lent, SharedDid}
+use Rattle.shared_fib.specs.Lent.{LentSeat, SharedDid}
 use Rattle.shared_fib.proofs.Seated.{rests_after}
 use Rattle.shared_fib.proofs.Waited.{exhausted_by, synchronized}
 use Rattle.shared_fib.proofs.synchronizing.synchronize_over.Goals as goal
 
 pub start_synchronize-requires : goal.start_synchronize-requires
 start_synchronize-requires g c =
-    let m : Lent = c.args.memory.now in
+    let m : LentSeat = c.args.memory.now in
     (omega arith, (initial_state_of m.view.initial, m.view.seen, c.requires.did, c.requires.rests))
 
 pub check_until_passed-requires : goal.check_until_passed-requires
 check_until_passed-requires g c =
     let l = c.args.control.now in
-    let m : Lent = c.args.memory.now in
-    let z : Lent = c.start_synchronize.new.memory in
+    let m : LentSeat = c.args.memory.now in
+    let z : LentSeat = c.start_synchronize.new.memory in
     let setup : InitialState = initial_state_of m.view.initial in
     let started = c.in_ok-start_synchronize.ensures.starts setup m.view.seen c.requires.did c.requires.rests in
     let Waits : InitialState → List WriterStep → Type 0 = λ by later.
@@ -29,7 +29,7 @@ check_until_passed-requires g c =
 
 pub returns-in_err-start_synchronize-clause-exhausted : goal.returns-in_err-start_synchronize-clause-exhausted
 returns-in_err-start_synchronize-clause-exhausted g c =
-    let m : Lent = c.args.memory.now in
+    let m : LentSeat = c.args.memory.now in
     let refused : IsErr c.from_residual.result = search rules in
     let known = exhausted_by (initial_state_of m.view.initial) m.view.seen _ c.args.control.now.config.groups
     c.in_err-start_synchronize.ensures.exhausted in
@@ -37,9 +37,9 @@ returns-in_err-start_synchronize-clause-exhausted g c =
 
 pub returns : goal.returns
 returns g c =
-    let m : Lent = c.args.memory.now in
-    let y : Lent = c.start_synchronize.new.memory in
-    let z : Lent = c.check_until_passed.new.memory in
+    let m : LentSeat = c.args.memory.now in
+    let y : LentSeat = c.start_synchronize.new.memory in
+    let z : LentSeat = c.check_until_passed.new.memory in
     let setup : InitialState = initial_state_of m.view.initial in
     let started = c.in_ok-start_synchronize.ensures.starts setup m.view.seen c.requires.did c.requires.rests in
     let does = started.2.0 in

@@ -1,7 +1,7 @@
 use Rattle.std.proofs.Common.{length, ap, arith, rules}
 use Rattle.shared_words.specs.Layout.{InitialData, initial_state_of}
 use Rattle.shared_words.proofs.Laying.{firsts_length}
-use Rattle.shared_fib.specs.Lent.{Lent, state_of_lent}
+use Rattle.shared_fib.specs.Lent.{LentSeat, state_of_lent}
 use Rattle.shared_fib.proofs.memory.SharedMemoryCells.first.Goals as goal
 
 pub first-requires-clause-index : goal.first-requires-clause-index
@@ -13,7 +13,7 @@ first-requires-clause-index g c =
       c.requires,
       firsts_length (initial_state_of v.initial) v.seen,
       ap (λ (o : InitialData). length o.firsts) own.initial_is,
-      ap (λ (m : Lent). length (state_of_lent m).words.firsts) c.self.view_is,
+      ap (λ (m : LentSeat). length (state_of_lent m).words.firsts) c.self.view_is,
       own.firsts,
     )
 
