@@ -13,12 +13,13 @@ ghost use Rattle.lpm_commands.specs.Filled.{IsEnough, long_routes, Fits, IsFille
 
 use crate::ordering::{count_groups, rules_in_order};
 use crate::refusals::{Made, first_refusal, made_of, refused};
-use fib::{Fib, OpenError};
+use fib::Fib;
 use lpm_bits::Prefix;
 use lpm_files::Failure;
 use lpm_limits::{Config, Refusal};
 use lpm_rules::{Rule, count_rules};
 use lpm_sweep::MOST_SORTED;
+use lpm_writer::OpenError;
 use route_text::Route;
 use shared_fib::{Bench, SharedTable, Writer, go_live, open_sorted};
 use std::alloc::Global;

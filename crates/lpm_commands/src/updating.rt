@@ -4,8 +4,9 @@ ghost use Rattle.lpm_commands.specs.Apply.{ComesOut};
 ghost use Rattle.lpm_limits.specs.declared.refusal.Refusal.TheVariants.{Memory};
 
 use fib::Fib;
+use fib_model::Outcome;
 use lpm_limits::Refusal;
-use route_text::{Order, Outcome};
+use route_text::Order;
 use std::alloc::{AllocError, Global};
 
 /// Does the updates one after another, and returns what came of each. A refused one doesn't stop the

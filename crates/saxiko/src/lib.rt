@@ -17,9 +17,10 @@ pub use lpm_bits::{BadHop, BadLength, Hop, ParseError};
 pub use lpm_groups::Counts;
 pub use lpm_limits::{BadConfig, Busy, Config, Range, Refusal};
 pub use lpm_rules::{Answer, Put};
+pub use lpm_writer::{Exhausted, OpenError};
 pub use owner::Owner;
 pub use reader::Reader;
-pub use shared_fib::{Burst, Exhausted, FourHops, OpenError};
+pub use shared_fib::{Burst, FourHops};
 
 /// A prefix: the IPv4 addresses that share its first `len` bits. It prints and parses as `10.0.0.0/8`.
 pub type Prefix = lpm_bits::Prefix<24, 8>;

@@ -12,7 +12,8 @@ use crate::Owner;
 use fib::sorted_rules;
 use lpm_limits::Config;
 use lpm_rules::Rule;
-use shared_fib::{OpenError, open_sorted};
+use lpm_writer::OpenError;
+use shared_fib::open_sorted;
 use std::alloc::Global;
 
 impl Owner {

@@ -14,8 +14,8 @@ use crate::records::SaxikoHeld;
 use crate::stage::Stage;
 use crate::status::{EALREADY, EOVERFLOW, EPERM};
 use lpm_limits::Busy;
+use lpm_writer::Exhausted;
 use saxiko::{GracePeriod, Held, NotStarted};
-use shared_fib::Exhausted;
 use std::mem;
 
 /// Takes the owner out of a stage at rest.

@@ -7,11 +7,12 @@ ghost use Rattle.saxiko_c.specs.Loads.{IsBadRoute, IsLoaded, IsUnloaded, IsUnrea
 use crate::handle::boxed;
 use crate::records::SaxikoRoute;
 use crate::status::{E2BIG, EDOM, EINVAL, ENOMEM, ENOSPC};
-use fib::{Fib, OpenError};
+use fib::Fib;
 use lpm_bits::{Hop, Prefix};
 use lpm_limits::Config;
 use lpm_rules::Rule;
 use lpm_sweep::MOST_SORTED;
+use lpm_writer::OpenError;
 use std::alloc::Global;
 
 /// The rule of a route; none where it is none.

@@ -20,8 +20,8 @@ use crate::table::store_deleted;
 use lpm_bits::{Hop, Prefix};
 use lpm_limits::{Config, Refusal};
 use lpm_sweep::MOST_SORTED;
+use lpm_writer::OpenError;
 use saxiko::Reader;
-use shared_fib::OpenError;
 use std::alloc::Global;
 
 pub(crate) fn open(alloc: Global, config: Config) -> Result<Box<Owner>, i32>

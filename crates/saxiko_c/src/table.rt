@@ -9,9 +9,10 @@ ghost use Rattle.saxiko_c.specs.Table.{AddsRule, Counts, DeletesRule, Finds, Fin
 use crate::handle::boxed;
 use crate::records::SaxikoCounts;
 use crate::status::{EINVAL, ENOENT, ENOMEM, of_add, of_refusal};
-use fib::{Fib, OpenError};
+use fib::Fib;
 use lpm_bits::{Hop, Prefix};
 use lpm_limits::{Config, Refusal};
+use lpm_writer::OpenError;
 use std::alloc::Global;
 
 pub(crate) fn open(alloc: Global, config: Config) -> Result<Box<Fib<24, 8>>, i32>

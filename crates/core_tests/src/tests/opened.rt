@@ -4,11 +4,12 @@ ghost use Rattle.lpm_bits.specs.Widths.{IsShape};
 
 use super::asserting::assert_at;
 use super::table::{assert_numbers, figures, hop, prefix};
-use fib::{Fib, OpenError};
+use fib::Fib;
 use lpm_bits::Shape;
 use lpm_limits::{Config, Refusal};
 use lpm_rules::{Put, Rule, Rules};
 use lpm_sweep::{MOST_SORTED, are_in_order, in_order};
+use lpm_writer::OpenError;
 use std::alloc::Global;
 use std::process::Abort;
 use test_support::{

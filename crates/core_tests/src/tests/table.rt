@@ -2,12 +2,13 @@ ghost use Rattle.lpm_bits.specs.Widths.{IsShape};
 
 use super::asserting::{assert_at, assert_shown};
 use super::cases::{LOOKUPS, UPDATES, Worked};
-use fib::{Fib, OpenError, Replay};
+use fib::{Fib, Replay};
 use fib_model::{Account, Order, Outcome, expected};
 use lpm_bits::{Hop, Prefix, Shape};
 use lpm_groups::Counts;
 use lpm_limits::{BadConfig, Busy, Config, Refusal};
 use lpm_rules::Put;
+use lpm_writer::OpenError;
 use route_text::{outcomes_text, read_updates_v1};
 use std::alloc::{AllocError, Global};
 use std::net::Ipv4Addr;

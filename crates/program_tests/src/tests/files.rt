@@ -3,12 +3,13 @@
 
 use super::asserting::{assert_at, assert_shown};
 use defer_queue::Reclaimed;
+use fib_model::Outcome;
 use lpm_bits::{BadHop, Hop, Prefix};
 use lpm_limits::{Busy, Refusal};
 use lpm_rules::Put;
 use route_text::{
-    Fault, FaultKind, Order, Outcome, ReadError, Route, answers_text, outcomes_text,
-    read_addresses, read_routes, read_updates, updates_text,
+    Fault, FaultKind, Order, ReadError, Route, answers_text, outcomes_text, read_addresses,
+    read_routes, read_updates, updates_text,
 };
 use std::alloc::Global;
 use std::process::Abort;

@@ -10,7 +10,8 @@ use fib::Fib;
 use lpm_limits::Config;
 use lpm_rules::Rule;
 use lpm_sweep::{MOST_SORTED, are_in_order, in_order};
-use shared_fib::{OpenError, Pass, open_sorted};
+use lpm_writer::OpenError;
+use shared_fib::{Pass, open_sorted};
 use std::alloc::Global;
 use std::process::Abort;
 use test_support::{
