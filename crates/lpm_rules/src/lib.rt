@@ -329,8 +329,10 @@ impl<const FIRST: u32, const SECOND: u32> Rules<FIRST, SECOND> {
         ensures { IsTrue result ↔ IsDeepBlock FIRST SECOND self.now.rules block }
     {
         let _ = &self.lengths;
+        let first = (block << SECOND) as u32;
+        let last = first + ((1 << SECOND) - 1);
         for len in FIRST + 1..=FIRST + SECOND {
-            if self.last_block(block + 1, len) == Some(block) {
+            if self.of_length(len).range(first..=last).next().is_some() {
                 return true;
             }
         }

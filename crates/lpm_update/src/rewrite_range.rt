@@ -63,44 +63,6 @@ impl RewriteRange {
         }
     }
 
-    /// The change that deletes a rule. `cover` is the longest rule that is shorter and covers it.
-    pub(crate) fn of_deletion<const FIRST: u32, const SECOND: u32>(
-        prefix: &Prefix<FIRST, SECOND>,
-        cover: Option<Rule<FIRST, SECOND>>,
-    ) -> RewriteRange
-        ensures range { IsRangeOf FIRST SECOND prefix.now result }
-        ensures rewrite { (result.rewrite.kind ≡ Delete) × (result.rewrite.depth ≡ prefix.now.len) }
-        ensures cover { (R : RuleMap)
-            → MatchOption cover.entry
-            (IsUncovered (FIRST + SECOND) R prefix.now)
-            (λ c. IsCoverRule (FIRST + SECOND) R prefix.now c.prefix c.hop)
-            → IsCoverEntry (FIRST + SECOND) R prefix.now result.rewrite.entry }
-    {
-        let entry = match cover {
-            Some(rule) => {
-                let _number = rule.hop.number();
-                Entry::Hop {
-                    hop: rule.hop,
-                    depth: rule.prefix.len(),
-                }
-            }
-            None => Entry::Miss,
-        };
-        let bits = prefix.bits();
-        let len = prefix.len();
-        let from = u64::from(bits);
-        RewriteRange {
-            from,
-            at: from,
-            end: from + (1 << (FIRST + SECOND - len)),
-            rewrite: Rewrite {
-                kind: Kind::Delete,
-                depth: len,
-                entry,
-            },
-        }
-    }
-
     /// Looks at the next place of the range, and makes the store there if it is to be made. `on`
     /// is what the change does to words.
     #[inline]

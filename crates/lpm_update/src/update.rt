@@ -2,9 +2,9 @@
 
 ghost use Rattle.std.specs.Prelude.{◌≡◌};
 
-use super::{Did, Flush, LinkGroup, RewriteRange, UnlinkGroup};
+use super::{Did, Flush, Kind, LinkGroup, Rewrite, RewriteRange, UnlinkGroup};
 use lpm_bits::{Hop, Prefix, Shape};
-use lpm_cells::Cells;
+use lpm_cells::{Cells, Entry};
 use lpm_rules::Rule;
 use std::marker::Model;
 
@@ -97,9 +97,31 @@ impl Update {
             → IsBegun FIRST SECOND result t
             × TurnsInto FIRST SECOND result R (map.remove R prefix.now) }
     {
-        let range = RewriteRange::of_deletion(prefix, cover);
+        let entry = match cover {
+            Some(rule) => {
+                let _number = rule.hop.number();
+                Entry::Hop {
+                    hop: rule.hop,
+                    depth: rule.prefix.len(),
+                }
+            }
+            None => Entry::Miss,
+        };
+        let bits = prefix.bits();
+        let len = prefix.len();
+        let from = u64::from(bits);
+        let range = RewriteRange {
+            from,
+            at: from,
+            end: from + (1 << (FIRST + SECOND - len)),
+            rewrite: Rewrite {
+                kind: Kind::Delete,
+                depth: len,
+                entry,
+            },
+        };
         if last {
-            let block = Shape::<FIRST, SECOND>::first_index(prefix.bits());
+            let block = Shape::<FIRST, SECOND>::first_index(bits);
             return Update {
                 plan: Plan::Unlink(UnlinkGroup {
                     range,
