@@ -1,9 +1,9 @@
 -- The rules longer than the first table's index, counted length by length, and their blocks.
 use Rattle.std.proofs.Common.{arith, ◌≡◌, ℕ, ◌+◌, ◌-◌, ◌*◌, ◌/◌, ◌%◌, ◌^◌, ◌<◌, ◌≤◌, ◌↔◌, ◌⊎◌, inl, inr, Bool, true, false, cond, refl, ap, sym, ◌∙◌, subst, List, [], ◌∷◌, ◌++◌, Option, Some, None, nat_eq, nat_lt}
-use Rattle.std.specs.Prelude.{map, filter, count_by, ◌&&◌, ◌||◌, IsSome, IfSome, IsTrue, MatchOption, not}
+use Rattle.std.specs.Prelude.{map, filter, count_by, ◌&&◌, ◌||◌, IsSome, IfSome, not}
 use Rattle.std.specs.List.{list_any, slice_get}
 use Rattle.std.specs.Ordering.{nat_cmp, eq_by_cmp, ord_max, is_gt}
-use Rattle.std.specs.Option.{is_some, option_cmp}
+use Rattle.std.specs.Option.{option_cmp}
 use Rattle.std.specs.Cmp.{nat_cmp_total, unsigned_tied, nat_eq_equiv}
 use Rattle.std.specs.FinSet.{FinSet, nat_cmp-IsAntisymmetric}
 use Rattle.std.proofs.lemmas.Bool.{cases_order, cases_eq, cases_lt, lt-ltb, le-ltb, ltb-true, eq-eqb, ne_eqb, eqb-true, and_parts, and_from, or_cases, or_left, or_right, false_from_ne_true, cases_Bool, not-true, not_from_false}
@@ -274,28 +274,33 @@ not_gt : (a b : ℕ) → a ≤ b → is_gt (nat_cmp a b) ≡ false
 not_gt a b h = elim (gt_cases a b (nat_cmp a b) refl) [ inl more ↦ let z = more.1 in absurd (omega (arith, z, h)) | inr less ↦ less.0 ]
 
 module _ (R : RuleMap) (m : BTreeMap ℕ ℕ) (second block len first last : ℕ) (r : List (ℕ × ℕ)) (has : (b : ℕ) → tree.get nat_cmp m b ≡ rules.get R (at_network b len))
-    (starts : first ≡ block * 2 ^ second) (ends : last + 1 ≡ first + 2 ^ second) (range : IsRangeOf nat_cmp (Included first) (Included last) m r) where
-  pub block_none : r ≡ [] → ¬ IsBlockOf second R len block
-  block_none e d =
+    (starts : first ≡ block * 2 ^ second) (ends : last + 1 ≡ first + 2 ^ second) (range : IsRangeOf nat_cmp (Included first) Unbounded m r) where
+  -- the bits of such a rule are a key from the block's first on, and not past its last
+  key_of : (d : IsBlockOf second R len block) → IsSome (tree.get nat_cmp m d.0.bits) × (first ≤ d.0.bits) × (d.0.bits ≤ last)
+  key_of d =
       let here = ap (λ k. k * 2 ^ second) d.3 in
       let low = div-mul-le_self d.0.bits (2 ^ second) in
-      let high = lt-div-mul-add {a = d.0.bits} (pow_pos second) in
-      let above = not_gt first d.0.bits (omega (arith, here, low, starts)) in
-      let below = not_gt d.0.bits last (omega (arith, here, high, starts, ends)) in
-      absurd (not_some (range.5 e d.0.bits (above, below)) (subst IsSome (ap (λ l. rules.get R (at_network d.0.bits l)) d.2 ∙ sym (has d.0.bits)) d.1))
+      let high = lt-div-mul-add {a = d.0.bits} (pow_pos second) in (
+        subst IsSome (ap (λ l. rules.get R (at_network d.0.bits l)) d.2 ∙ sym (has d.0.bits)) d.1,
+        omega (arith, here, low, starts),
+        omega (arith, here, high, starts, ends),
+      )
 
-  pub block_some : (b v : ℕ) (t : List (ℕ × ℕ)) → r ≡ (b, v) ∷ t → IsBlockOf second R len block
-  block_some b v t e =
-      let here = subst (λ es. IfSome (slice_get es 0) (IsEntryInRange nat_cmp (Included first) (Included last) m)) e range.1 in
-      let low = le_from_not_gt first b here.0.0 in
-      let high = le_from_not_gt b last here.0.1 in
-      (at_network b len, subst IsSome (sym here.1 ∙ has b) refl, refl, within_block (2 ^ second) block b (pow_pos second) (omega (arith, low, starts)) (omega (arith, high, starts, ends)))
+  pub block_none : r ≡ [] → ¬ IsBlockOf second R len block
+  block_none e d = let k = key_of d in absurd (not_some (range.5 e d.0.bits (not_gt first d.0.bits k.1, tt)) k.0)
 
-  -- the range has a first entry just where the block has such a rule
-  pub block_found : {X : Type 0} (x : Option X) (entry : X → ℕ × ℕ) (t : List (ℕ × ℕ)) (P : Type 0) → MatchOption x ((r ≡ []) × P) (λ y. r ≡ entry y ∷ t)
-      → IsTrue (is_some x) ↔ IsBlockOf second R len block
-  block_found None entry t P l = ((λ e. cc), (λ has. absurd (block_none l.0 has)))
-  block_found (Some y) entry t P l = ((λ _. block_some (entry y).0 (entry y).1 t l), (λ _. refl))
+  pub block_found : (b v : ℕ) (t : List (ℕ × ℕ)) → r ≡ (b, v) ∷ t → (b ≤ last) ↔ IsBlockOf second R len block
+  block_found b v t e =
+      let here = subst (λ es. IfSome (slice_get es 0) (IsEntryInRange nat_cmp (Included first) Unbounded m)) e range.1 in
+      let low = le_from_not_gt first b here.0.0 in (
+        (λ high. (at_network b len, subst IsSome (sym here.1 ∙ has b) refl, refl, within_block (2 ^ second) block b (pow_pos second) (omega (arith, low, starts)) (omega (arith, high, starts, ends)))),
+        (λ d.
+            let k = key_of d in
+            let least = subst (λ es. IfSome (slice_get es 0) (λ (x : ℕ × ℕ). is_gt (nat_cmp x.0 d.0.bits) ≡ false)) e (range.2 d.0.bits (not_gt first d.0.bits k.1, tt) k.0) in
+            let up = le_from_not_gt b d.0.bits least in
+            let most = k.2 in
+            omega (arith, up, most)),
+      )
 
 -- ---- the last block of one length, by the last key of a range
 

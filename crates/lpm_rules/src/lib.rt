@@ -332,7 +332,11 @@ impl<const FIRST: u32, const SECOND: u32> Rules<FIRST, SECOND> {
         let first = (block << SECOND) as u32;
         let last = first + ((1 << SECOND) - 1);
         for len in FIRST + 1..=FIRST + SECOND {
-            if self.of_length(len).range(first..=last).next().is_some() {
+            let is_found = match self.of_length(len).range(first..).next() {
+                Some((bits, _)) => *bits <= last,
+                None => false,
+            };
+            if is_found {
                 return true;
             }
         }
