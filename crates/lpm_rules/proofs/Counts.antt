@@ -53,7 +53,7 @@ below_block d block b h e = let z = ap (λ x. x * d) e in let q = div-mul-le_sel
 past_block : (d block b : ℕ) → 0 < d → block * d + (d - 1) < b → b / d ≢ block
 past_block d block b p h e = let z = ap (λ x. x * d) e in let q = lt-div-mul-add {a = b} p in absurd (omega (arith, h, z, q))
 
-pub within_block : (d block b : ℕ) → 0 < d → block * d ≤ b → b ≤ block * d + (d - 1) → b / d ≡ block
+within_block : (d block b : ℕ) → 0 < d → block * d ≤ b → b ≤ block * d + (d - 1) → b / d ≡ block
 within_block d block b p low high = div-eq_of_lt-le d low (omega (arith, high, p))
 
 pub range_of_block : (d block b : ℕ) → 0 < d → range_contains nat_cmp (Included (block * d)) (Included (block * d + (d - 1))) b ≡ nat_eq (b / d) block

@@ -1,22 +1,22 @@
 -- The rules longer than the first table's index, counted length by length, and their blocks.
 use Rattle.std.proofs.Common.{arith, ◌≡◌, ℕ, ◌+◌, ◌-◌, ◌*◌, ◌/◌, ◌%◌, ◌^◌, ◌<◌, ◌≤◌, ◌↔◌, ◌⊎◌, inl, inr, Bool, true, false, cond, refl, ap, sym, ◌∙◌, subst, List, [], ◌∷◌, ◌++◌, Option, Some, None, nat_eq, nat_lt}
-use Rattle.std.specs.Prelude.{map, filter, count_by, ◌&&◌, ◌||◌, IsSome, IfSome, not}
-use Rattle.std.specs.List.{list_any, slice_get}
+use Rattle.std.specs.Prelude.{map, filter, count_by, ◌&&◌, ◌||◌, IsSome, IsTrue, not}
+use Rattle.std.specs.List.{list_any}
 use Rattle.std.specs.Ordering.{nat_cmp, eq_by_cmp, ord_max, is_gt}
-use Rattle.std.specs.Option.{option_cmp}
+use Rattle.std.specs.Option.{option_cmp, option_eq}
 use Rattle.std.specs.Cmp.{nat_cmp_total, unsigned_tied, nat_eq_equiv}
 use Rattle.std.specs.FinSet.{FinSet, nat_cmp-IsAntisymmetric}
 use Rattle.std.proofs.lemmas.Bool.{cases_order, cases_eq, cases_lt, lt-ltb, le-ltb, ltb-true, eq-eqb, ne_eqb, eqb-true, and_parts, and_from, or_cases, or_left, or_right, false_from_ne_true, cases_Bool, not-true, not_from_false}
 use Rattle.std.proofs.lemmas.Map.Lookups.{exact_unsigned}
 use Rattle.std.proofs.lemmas.Nat.{pow_pos, pow-add, shr_below}
-use Rattle.std.proofs.Math.Nat.{div-lt_iff_lt-mul, div-mul-le_self, lt-div-mul-add, mul-le-mul_right, zero-add, add-zero}
+use Rattle.std.proofs.Math.Nat.{div-lt_iff_lt-mul, mul-le-mul_right, zero-add, add-zero}
 use Rattle.std.proofs.Math.Bool.{and-true, and-false}
 use Rattle.std.proofs.Math.Pow.{pow_mono, shr_mono}
 use Rattle.std.proofs.lemmas.Map.Keys.{le_from_not_gt, ge_from_not_lt}
 use Rattle.std.specs.BTreeMap.{BTreeMap}
-use Rattle.std.specs.BTreeMap.Range.{IsRangeOf, IsEntryInRange}
+use Rattle.std.specs.BTreeMap.Range.{IsRangeOf}
 use Rattle.std.specs.declared.ops.Bound.TheVariants.{Included, Unbounded}
-use Rattle.lpm_rules.proofs.Counts.{lt_cases, gt_cases, same, same_is, one_if, count_sum, count_none, count_same, count_any, key_of_rule, itself, within_block}
+use Rattle.lpm_rules.proofs.Counts.{lt_cases, gt_cases, same, same_is, one_if, count_sum, count_none, count_same, count_any, key_of_rule, itself}
 use Rattle.lpm_rules.proofs.Views.{not_some, insert_cases, insert_here, remove_cases, at_network}
 use Rattle.lpm_bits.specs.Network.{Network}
 use Rattle.lpm_rules.specs.RuleMap.{RuleMap, AllNetworks, network_cmp}
@@ -259,7 +259,15 @@ last_all first second end len R nets h = last_same (IsDeepBlockBelow first secon
     (λ k d. (d.0, d.1, d.2, d.4))
     (λ k d. let bound = (nets d.0 d.1).0 in (d.0, d.1, d.2, omega (arith, bound, h), d.3))
 
--- ---- whether a block is deep, length by length
+-- ---- whether a block is deep, by the last block up to it
+
+-- the last of the numbers up to `block` of which P holds is `block` exactly where P holds of it
+pub last_is_end : (P : ℕ → Type 0) (block : ℕ) (x : Option ℕ) → IsLastBefore P (block + 1) x → IsTrue (option_eq nat_eq x (Some block)) ↔ P block
+last_is_end P block None l = (λ e. cc, λ p. absurd (l block p (omega arith)))
+last_is_end P block (Some x) l = (
+  (λ e. subst P (eqb-true x block e) l.0),
+  (λ p. let low = l.1 in let most = l.2 block p (omega arith) in eq-eqb x block (omega (arith, low, most))),
+)
 
 pub none_below_more : (first second block len : ℕ) (R : RuleMap) → ¬ IsDeepBlockBelow first second R len block → ¬ IsBlockOf second R len block
     → ¬ IsDeepBlockBelow first second R (len + 1) block
@@ -268,41 +276,10 @@ none_below_more first second block len R before here d = elim (cases_eq d.0.len 
   | inr n ↦ let a = d.3 in before (d.0, d.1, d.2, omega (arith, a, n), d.4)
 ]
 
--- ---- whether a block has a rule of one length, by the first key of its range
+-- ---- the last block of one length, by the last key of a range
 
 not_gt : (a b : ℕ) → a ≤ b → is_gt (nat_cmp a b) ≡ false
 not_gt a b h = elim (gt_cases a b (nat_cmp a b) refl) [ inl more ↦ let z = more.1 in absurd (omega (arith, z, h)) | inr less ↦ less.0 ]
-
-module _ (R : RuleMap) (m : BTreeMap ℕ ℕ) (second block len first last : ℕ) (r : List (ℕ × ℕ)) (has : (b : ℕ) → tree.get nat_cmp m b ≡ rules.get R (at_network b len))
-    (starts : first ≡ block * 2 ^ second) (ends : last + 1 ≡ first + 2 ^ second) (range : IsRangeOf nat_cmp (Included first) Unbounded m r) where
-  -- the bits of such a rule are a key from the block's first on, and not past its last
-  key_of : (d : IsBlockOf second R len block) → IsSome (tree.get nat_cmp m d.0.bits) × (first ≤ d.0.bits) × (d.0.bits ≤ last)
-  key_of d =
-      let here = ap (λ k. k * 2 ^ second) d.3 in
-      let low = div-mul-le_self d.0.bits (2 ^ second) in
-      let high = lt-div-mul-add {a = d.0.bits} (pow_pos second) in (
-        subst IsSome (ap (λ l. rules.get R (at_network d.0.bits l)) d.2 ∙ sym (has d.0.bits)) d.1,
-        omega (arith, here, low, starts),
-        omega (arith, here, high, starts, ends),
-      )
-
-  pub block_none : r ≡ [] → ¬ IsBlockOf second R len block
-  block_none e d = let k = key_of d in absurd (not_some (range.5 e d.0.bits (not_gt first d.0.bits k.1, tt)) k.0)
-
-  pub block_found : (b v : ℕ) (t : List (ℕ × ℕ)) → r ≡ (b, v) ∷ t → (b ≤ last) ↔ IsBlockOf second R len block
-  block_found b v t e =
-      let here = subst (λ es. IfSome (slice_get es 0) (IsEntryInRange nat_cmp (Included first) Unbounded m)) e range.1 in
-      let low = le_from_not_gt first b here.0.0 in (
-        (λ high. (at_network b len, subst IsSome (sym here.1 ∙ has b) refl, refl, within_block (2 ^ second) block b (pow_pos second) (omega (arith, low, starts)) (omega (arith, high, starts, ends)))),
-        (λ d.
-            let k = key_of d in
-            let least = subst (λ es. IfSome (slice_get es 0) (λ (x : ℕ × ℕ). is_gt (nat_cmp x.0 d.0.bits) ≡ false)) e (range.2 d.0.bits (not_gt first d.0.bits k.1, tt) k.0) in
-            let up = le_from_not_gt b d.0.bits least in
-            let most = k.2 in
-            omega (arith, up, most)),
-      )
-
--- ---- the last block of one length, by the last key of a range
 
 module _ (R : RuleMap) (m : BTreeMap ℕ ℕ) (second end len last : ℕ) (r : List (ℕ × ℕ)) (has : (b : ℕ) → tree.get nat_cmp m b ≡ rules.get R (at_network b len)) (ends : last + 1 ≡ end * 2 ^ second)
     (range : IsRangeOf nat_cmp Unbounded (Included last) m r) where

@@ -329,14 +329,8 @@ impl<const FIRST: u32, const SECOND: u32> Rules<FIRST, SECOND> {
         ensures { IsTrue result ↔ IsDeepBlock FIRST SECOND self.now.rules block }
     {
         let _ = &self.lengths;
-        let first = (block << SECOND) as u32;
-        let last = first + ((1 << SECOND) - 1);
         for len in FIRST + 1..=FIRST + SECOND {
-            let is_found = match self.of_length(len).range(first..).next() {
-                Some((bits, _)) => *bits <= last,
-                None => false,
-            };
-            if is_found {
+            if self.last_block(block + 1, len) == Some(block) {
                 return true;
             }
         }
